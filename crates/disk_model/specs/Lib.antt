@@ -1,0 +1,7 @@
+pub mod Images
+pub mod Calls
+pub mod Moments
+pub mod Fuse
+pub mod Medium
+pub mod Crashes
+pub mod Uses
