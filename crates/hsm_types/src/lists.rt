@@ -1,0 +1,116 @@
+//! Lists of bytes, as types of their own. Contracts see each as the list of its bytes.
+ghost use Rattle.std.specs.Prelude.{◌≡◌, ℕ, List};
+ghost use Rattle.std.specs.Str.{bytes_eq};
+ghost use Rattle.std.specs.Cmp.Rules.{comparing};
+ghost use Rattle.std.proofs.Common.{rules};
+
+use std::alloc::AllocError;
+use std::marker::Model;
+
+/// The data of a write or a read.
+#[derive(Debug, Drop)]
+pub struct Bytes {
+    items: Vec<u8>,
+}
+
+impl Model for Bytes {
+    ghost Value = { List ℕ };
+
+    ghost view = { λ b. b.items.items };
+}
+
+impl From<Vec<u8>> for Bytes {
+    ghost from_gives = { λ v b. b ≡ v.items };
+
+    fn from(items: Vec<u8>) -> Bytes {
+        Bytes { items }
+    }
+}
+
+impl Bytes {
+    pub fn as_slice(&self) -> &[u8]
+        ensures { result.now ≡ self.now }
+    {
+        self.items.as_slice()
+    }
+
+    pub fn into_vec(self) -> Vec<u8>
+        ensures { result.items ≡ self }
+    {
+        self.items
+    }
+}
+
+impl Clone for Bytes {
+    ghost is_clone = { λ b c. c ≡ b };
+
+    fn clone(&self) -> Result<Bytes, AllocError> {
+        Ok(Bytes {
+            items: Vec::from_slice(*self.items.allocator(), self.items.as_slice())?,
+        })
+    }
+}
+
+impl PartialEq for Bytes {
+    ghost eq = { bytes_eq };
+
+    ghost laws = { Prim.search (comparing, rules) };
+
+    fn eq(&self, other: &Bytes) -> bool {
+        self.items.as_slice() == other.items.as_slice()
+    }
+}
+
+/// A word of a script, as a file's name. It may be any bytes.
+#[derive(Debug, Drop)]
+pub struct Word {
+    items: Vec<u8>,
+}
+
+impl Model for Word {
+    ghost Value = { List ℕ };
+
+    ghost view = { λ w. w.items.items };
+}
+
+impl From<Vec<u8>> for Word {
+    ghost from_gives = { λ v w. w ≡ v.items };
+
+    fn from(items: Vec<u8>) -> Word {
+        Word { items }
+    }
+}
+
+impl Word {
+    pub fn as_slice(&self) -> &[u8]
+        ensures { result.now ≡ self.now }
+    {
+        self.items.as_slice()
+    }
+
+    pub fn into_vec(self) -> Vec<u8>
+        ensures { result.items ≡ self }
+    {
+        self.items
+    }
+}
+
+impl Clone for Word {
+    ghost is_clone = { λ w v. v ≡ w };
+
+    fn clone(&self) -> Result<Word, AllocError> {
+        Ok(Word {
+            items: Vec::from_slice(*self.items.allocator(), self.items.as_slice())?,
+        })
+    }
+}
+
+impl PartialEq for Word {
+    ghost eq = { bytes_eq };
+
+    ghost laws = { Prim.search (comparing, rules) };
+
+    fn eq(&self, other: &Word) -> bool {
+        self.items.as_slice() == other.items.as_slice()
+    }
+}

@@ -1,0 +1,26 @@
+//! What a store was formatted with.
+
+/// How much a store can hold.
+#[derive(Clone, Copy, Debug, PartialEq, Eq)]
+pub struct Geometry {
+    /// How many files, and so the greatest inode.
+    pub files: u32,
+
+    /// How many blocks of 4,096 bytes all bodies together may have mapped.
+    pub blocks: u32,
+}
+
+/// The geometry that the words call `small`.
+pub const SMALL: Geometry = Geometry {
+    files: 64,
+    blocks: 1024,
+};
+
+/// What formatting fixes of a store for all its life.
+#[derive(Clone, Copy, Debug, PartialEq, Eq)]
+pub struct Superblock {
+    pub geometry: Geometry,
+
+    /// The file system id, by which handles of this store are told from those of others.
+    pub fsid: u64,
+}
