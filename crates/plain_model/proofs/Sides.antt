@@ -1,0 +1,93 @@
+-- The mapped blocks that a store holds are those of the rules.
+use Rattle.std.proofs.Common.{◌≡◌, ℕ, List, [], ◌∷◌, length, Bool, true, false, Option, Some, None, refl, ap}
+use Rattle.std.specs.Prelude.{nat_lt, if◌then◌else◌}
+use Rattle.hsm_types.specs.declared.keys.FileKey.{FileKey}
+use Rattle.hsm_types.specs.declared.stores.Superblock.{Superblock}
+use Rattle.hsm_types.specs.declared.calls.Call.{Call}
+use Rattle.hsm_types.specs.declared.calls.Call.TheVariants.{Create, Read, Write, Truncate, Remove, Stat, Sync}
+use Rattle.hsm_types.specs.declared.calls.CallRefusal.{CallRefusal}
+use Rattle.plain_model.specs.declared.entries.Entry.{Entry}
+use Rattle.plain_model.specs.declared.entries.Actor.{Actor}
+use Rattle.plain_model.specs.declared.entries.Actor.TheVariants.{Caller, Store}
+use Rattle.plain_model.specs.declared.entries.Action.{Action}
+use Rattle.plain_model.specs.declared.entries.Action.TheVariants.{Issue, Commit}
+use Rattle.plain_model.specs.declared.entries.Answer.{Answer}
+use Rattle.plain_model.specs.declared.entries.Answer.TheVariants.{Call as Replied}
+use Rattle.plain_model.specs.Keyed.{same_key, find_key, change_key, put_key, drop_key}
+use Rattle.plain_model.specs.Plain.{File, body_or_none, written, resized}
+use Rattle.plain_model.specs.Step.{World, start, after}
+use Rattle.plain_model.specs.Blocks.{mapped_after}
+use Rattle.plain_model.specs.State.{FileState, Held, judged, key_named, rewritten, done_reply, done_held, reply_where, held_where}
+use Rattle.plain_model.specs.Stands.{Stands, StandsFor}
+use Rattle.plain_model.specs.Exact.{IsAnswer, left_by, Exact, held_by}
+use Rattle.plain_model.specs.Side.{sides_of, side_rewritten, side_given, side_after}
+use Rattle.plain_model.specs.Laws.{ExactIsSided}
+use Rattle.plain_model.proofs.Standing.{names_of-stands}
+use Rattle.plain_model.proofs.Steps.{same_key_named, event_step}
+
+sides-put : (g : FileState) (fs : List FileState) → sides_of (put_key (λ f. f.key) g fs) ≡ put_key (λ x. x.key) (record { key = g.key; mapped = g.mapped }) (sides_of fs)
+sides-put g [] = refl
+sides-put g (f ∷ fs) =
+    elim (nat_lt g.key.ino f.key.ino) as (λ b. sides_of (if b then g ∷ f ∷ fs else f ∷ put_key (λ y. y.key) g fs)
+    ≡ (if b then record { key = g.key; mapped = g.mapped } ∷ record { key = f.key; mapped = f.mapped } ∷ sides_of fs else record { key = f.key; mapped = f.mapped } ∷ put_key (λ x. x.key) (record { key = g.key; mapped = g.mapped }) (sides_of fs))) [
+      | true ↦ refl
+      | false ↦ ap (λ xs. record { key = f.key; mapped = f.mapped } ∷ xs) (sides-put g fs)
+    ]
+
+sides-drop : (k : FileKey) (fs : List FileState) → sides_of (drop_key (λ f. f.key) k fs) ≡ drop_key (λ x. x.key) k (sides_of fs)
+sides-drop k [] = refl
+sides-drop k (f ∷ fs) =
+    elim (same_key f.key k) as (λ b. sides_of (if b then fs else f ∷ drop_key (λ y. y.key) k fs) ≡ (if b then sides_of fs else record { key = f.key; mapped = f.mapped } ∷ drop_key (λ x. x.key) k (sides_of fs))) [
+      | true ↦ refl
+      | false ↦ ap (λ xs. record { key = f.key; mapped = f.mapped } ∷ xs) (sides-drop k fs)
+    ]
+
+-- the first file with the key is rewritten, by its own size
+rewritten-if : (b c : Bool) (k : FileKey) (change : List ℕ → List ℕ) (call : Call) (f : FileState) (g : File) (fs : List FileState) (gs : List File) → b ≡ c → f.body ≡ g.body
+    → sides_of (change_key (λ y. y.key) k (rewritten change call) fs) ≡ side_rewritten gs k call (sides_of fs)
+    → sides_of (if b then rewritten change call f ∷ fs else f ∷ change_key (λ y. y.key) k (rewritten change call) fs)
+    ≡ (if b
+    then record { key = f.key; mapped = mapped_after (length (body_or_none (if c then Some g else find_key (λ y. y.key) k gs))) call f.mapped } ∷ sides_of fs
+    else record { key = f.key; mapped = f.mapped } ∷ change_key (λ x. x.key) k (λ x. record x { mapped = mapped_after (length (body_or_none (if c then Some g else find_key (λ y. y.key) k gs))) call x.mapped }) (sides_of fs))
+rewritten-if true true k change call f g fs gs e same rest = ap (λ body. record { key = f.key; mapped = mapped_after (length body) call f.mapped } ∷ sides_of fs) same
+rewritten-if false false k change call f g fs gs e same rest = ap (λ xs. record { key = f.key; mapped = f.mapped } ∷ xs) rest
+rewritten-if true false k change call f g fs gs e same rest = cc
+rewritten-if false true k change call f g fs gs e same rest = cc
+
+sides-rewritten : (k : FileKey) (change : List ℕ → List ℕ) (call : Call) (fs : List FileState) (gs : List File) → Stands fs gs
+    → sides_of (change_key (λ f. f.key) k (rewritten change call) fs) ≡ side_rewritten gs k call (sides_of fs)
+sides-rewritten k change call [] [] st = refl
+sides-rewritten k change call (f ∷ fs) (g ∷ gs) st =
+    rewritten-if (same_key f.key k) (same_key g.key k) k change call f g fs gs (ap (λ j. same_key j k) st.0.0) st.0.2 (sides-rewritten k change call fs gs st.1)
+sides-rewritten k change call [] (g ∷ gs) st = absurd st
+sides-rewritten k change call (f ∷ fs) [] st = absurd st
+
+done_sided : (h : Held) (W : World) (call : Call) → StandsFor h W → sides_of (done_held h call).files ≡ side_given W (Caller (record { 0 = 0 })) (Issue call) (Replied (done_reply h call)) (sides_of h.files)
+done_sided h W (Create name) st = sides-put _ h.files
+done_sided h W (Read name offset len) st = refl
+done_sided h W (Write name offset bytes) st = rw (← same_key_named h W st name) (sides-rewritten (key_named name h.files) (written offset bytes) (Write name offset bytes) h.files W.files st.files)
+done_sided h W (Truncate name size) st = rw (← same_key_named h W st name) (sides-rewritten (key_named name h.files) (resized size) (Truncate name size) h.files W.files st.files)
+done_sided h W (Remove name) st = rw (← same_key_named h W st name) (sides-drop (key_named name h.files) h.files)
+done_sided h W (Stat name) st = refl
+done_sided h W Sync st = refl
+
+where_sided : (h : Held) (W : World) (call : Call) (why : Option CallRefusal) → StandsFor h W
+    → sides_of (held_where why h call).files ≡ side_given W (Caller (record { 0 = 0 })) (Issue call) (Replied (reply_where why h call)) (sides_of h.files)
+where_sided h W call None st = done_sided h W call st
+where_sided h W call (Some why) st = refl
+
+event_sided : (s : Superblock) (h : Held) (W : World) (who : Actor) (what : Action) (answer : Answer) → StandsFor h W → IsAnswer s h who what answer
+    → sides_of (left_by s h what).files ≡ side_given W who what answer (sides_of h.files)
+event_sided s h W (Caller c) (Issue call) answer st is = rw is (where_sided h W call (judged s h call) st)
+event_sided s h W Store Commit answer st is = refl
+event_sided s h W (Caller c) Commit answer st is = absurd is
+event_sided s h W Store (Issue call) answer st is = absurd is
+
+sided : (s : Superblock) (h : Held) (W : World) (es : List Entry) → StandsFor h W → Exact s h es → sides_of (held_by s h es).files ≡ side_after W (sides_of h.files) es
+sided s h W [] st exact = refl
+sided s h W (e ∷ es) st exact =
+    let now = event_step s h W e.actor e.action e.answer st exact.0 in
+    rw (← event_sided s h W e.actor e.action e.answer st exact.0) (sided s (left_by s h e.action) (after W e) es now.1 exact.1)
+
+pub exact_is_sided : (s : Superblock) (h : Held) (es : List Entry) → ExactIsSided s h es
+exact_is_sided s h es opening exact P stands = sided s h (start P) es (record { files = stands; newer = rw (names_of-stands h.files P stands) at opening }) exact

@@ -1,0 +1,13 @@
+pub mod Keyed
+pub mod Plain
+pub mod Step
+pub mod Legal
+pub mod Blocks
+pub mod PlainFold
+pub mod State
+pub mod Stands
+pub mod Exact
+pub mod Synced
+pub mod Side
+pub mod Laws
+pub mod Render

@@ -1,0 +1,129 @@
+-- A plain map of files, and what a call does to it.
+use Rattle.std.specs.Prelude.{ℕ, ◌+◌, ◌-◌, ◌^◌, max, min, List, [], ◌∷◌, ◌++◌, length, map, take, drop, replicate, ◌==◌, ◌&&◌, nat_lt, nat_le, if◌then◌else◌, Option, Some, None, is_some}
+use Rattle.std.specs.Str.{bytes_eq}
+use Rattle.hsm_types.specs.Names.{is_name}
+use Rattle.hsm_types.specs.declared.keys.FileKey.{FileKey}
+use Rattle.hsm_types.specs.declared.stores.Superblock.{Superblock}
+use Rattle.hsm_types.specs.declared.calls.Call.{Call}
+use Rattle.hsm_types.specs.declared.calls.Call.TheVariants.{Create, Read, Write, Truncate, Remove, Stat, Sync}
+use Rattle.hsm_types.specs.declared.calls.Reply.{Reply}
+use Rattle.hsm_types.specs.declared.calls.Reply.TheVariants.{Done, Made, Data, Size}
+use Rattle.hsm_types.specs.declared.calls.CallRefusal.{CallRefusal}
+use Rattle.hsm_types.specs.declared.calls.CallRefusal.TheVariants.{Missing, Exists, BadName, TooBig, BadLength, NoInodes}
+use Rattle.plain_model.specs.Keyed.{find_key, change_key, put_key, drop_key}
+
+-- a file: its key, its name and its bytes. A plain map is a list of files in the order of their inodes
+pub record File : Type 0 where
+  pub key : FileKey
+  pub name : List ℕ
+  pub body : List ℕ
+
+-- what a call is judged by: the key and the name of each file
+pub record Listed : Type 0 where
+  pub key : FileKey
+  pub name : List ℕ
+
+abbrev pub listing : List File → List Listed
+listing files = map (λ f. record { key = f.key; name = f.name }) files
+
+-- the file of that name, if there is one
+abbrev pub named : List ℕ → List Listed → Option Listed
+named name [] = None
+named name (l ∷ ls) = if bytes_eq l.name name then Some l else named name ls
+
+-- the lowest inode from n on that no file has
+abbrev pub free_inode : ℕ → List Listed → ℕ
+free_inode n [] = n
+free_inode n (l ∷ ls) = if l.key.ino == n then free_inode (n + 1) ls else n
+
+-- the greatest generation of the files, 0 for no file
+abbrev pub greatest : List Listed → ℕ
+greatest [] = 0
+greatest (l ∷ ls) = max l.key.igen (greatest ls)
+
+-- ---- what refuses a call, in the order of judgement
+
+-- the word can't be a name
+abbrev pub bad_name : List ℕ → Option CallRefusal
+bad_name name = if is_name name then None else Some BadName
+
+-- an access has from 1 to 65,536 bytes
+abbrev pub bad_length : ℕ → Option CallRefusal
+bad_length len = if nat_le 1 len && nat_le len 65536 then None else Some (BadLength len)
+
+abbrev pub missing : List ℕ → List Listed → Option CallRefusal
+missing name files = if is_some (named name files) then None else Some Missing
+
+abbrev pub exists : List ℕ → List Listed → Option CallRefusal
+exists name files = if is_some (named name files) then Some Exists else None
+
+-- a file has at most 16,777,216 bytes. The end is told as far as a u64 goes
+abbrev pub too_big : ℕ → Option CallRefusal
+too_big end = if nat_lt 16777216 end then Some (TooBig (min end (2 ^ 64 - 1))) else None
+
+-- each inode is in use
+abbrev pub no_inodes : ℕ → List Listed → Option CallRefusal
+no_inodes count files = if length files == count then Some (NoInodes count) else None
+
+-- the first that refuses
+abbrev pub first_refusal : List (Option CallRefusal) → Option CallRefusal
+first_refusal [] = None
+first_refusal (None ∷ rest) = first_refusal rest
+first_refusal (Some why ∷ rest) = Some why
+
+-- what refuses the call on these files, if anything does
+abbrev pub refusal_of : Superblock → List Listed → Call → Option CallRefusal
+refusal_of s files (Create name) = first_refusal (bad_name name ∷ exists name files ∷ no_inodes s.geometry.files files ∷ [])
+refusal_of s files (Read name offset len) = first_refusal (bad_name name ∷ bad_length len ∷ missing name files ∷ [])
+refusal_of s files (Write name offset bytes) = first_refusal (bad_name name ∷ bad_length (length bytes) ∷ missing name files ∷ too_big (offset + length bytes) ∷ [])
+refusal_of s files (Truncate name size) = first_refusal (bad_name name ∷ missing name files ∷ too_big size ∷ [])
+refusal_of s files (Remove name) = first_refusal (bad_name name ∷ missing name files ∷ [])
+refusal_of s files (Stat name) = first_refusal (bad_name name ∷ missing name files ∷ [])
+refusal_of s files Sync = None
+
+-- ---- what a call means, and does
+
+abbrev pub key_or_none : Option Listed → FileKey
+key_or_none None = record { ino = 0; igen = 0 }
+key_or_none (Some l) = l.key
+
+-- the key of the file that a call means; of a create, the key that was made
+abbrev pub key_meant : List Listed → Call → Reply → FileKey
+key_meant files (Create name) (Made k) = k
+key_meant files (Create name) reply = key_or_none None
+key_meant files (Read name offset len) reply = key_or_none (named name files)
+key_meant files (Write name offset bytes) reply = key_or_none (named name files)
+key_meant files (Truncate name size) reply = key_or_none (named name files)
+key_meant files (Remove name) reply = key_or_none (named name files)
+key_meant files (Stat name) reply = key_or_none (named name files)
+key_meant files Sync reply = key_or_none None
+
+-- at most len bytes of the body from the offset on
+abbrev pub read_at : ℕ → ℕ → List ℕ → List ℕ
+read_at offset len body = take len (drop offset body)
+
+-- the body is lengthened by zeros to the offset, and then the bytes stand there
+abbrev pub written : ℕ → List ℕ → List ℕ → List ℕ
+written offset bytes body = take offset body ++ replicate (offset - length body) 0 ++ bytes ++ drop (offset + length bytes) body
+
+-- the body is cut to that size, or lengthened by zeros
+abbrev pub resized : ℕ → List ℕ → List ℕ
+resized size body = take size body ++ replicate (size - length body) 0
+
+abbrev pub body_or_none : Option File → List ℕ
+body_or_none None = []
+body_or_none (Some f) = f.body
+
+-- the bytes of the file with that key
+abbrev pub body_of : FileKey → List File → List ℕ
+body_of k P = body_or_none (find_key (λ f. f.key) k P)
+
+-- the reply to a call that means the file with that key, and the files after it
+abbrev pub act : List File → FileKey → Call → Reply × List File
+act P k (Create name) = (Made k, put_key (λ f. f.key) (record { key = k; name = name; body = [] }) P)
+act P k (Read name offset len) = (Data (read_at offset len (body_of k P)), P)
+act P k (Write name offset bytes) = (Done, change_key (λ f. f.key) k (λ f. record f { body = written offset bytes f.body }) P)
+act P k (Truncate name size) = (Done, change_key (λ f. f.key) k (λ f. record f { body = resized size f.body }) P)
+act P k (Remove name) = (Done, drop_key (λ f. f.key) k P)
+act P k (Stat name) = (Size (length (body_of k P)), P)
+act P k Sync = (Done, P)
