@@ -1,0 +1,128 @@
+-- Data in hex digits of lower case.
+use Rattle.std.proofs.Common.{◌≡◌, ◌≢◌, ℕ, zero, suc, ◌+◌, ◌*◌, ◌/◌, ◌%◌, ◌<◌, List, [], ◌∷◌, length, slice_index, Bool, true, false, ◌&&◌, ◌==◌, Option, Some, None, unwrap_or, Result, Ok, Err, inl, inr, refl, sym, ap, ◌∙◌, subst, arith}
+use Rattle.std.specs.Prelude.{MatchResult, if◌then◌else◌}
+use Rattle.std.specs.List.{list_all}
+use Rattle.std.specs.Result.{result_unwrap_or}
+use Rattle.std.proofs.lemmas.Bool.{and_parts, cases_lt, eqb-true, false≢true}
+use Rattle.std.proofs.lemmas.Bool.Decides.{nat_tests}
+use Rattle.hex.specs.Hex.{IsBytes, decode_of, decode_pairs, digit_or_error, hex_digit_value, encode_lower, encode_with, lower_digits, pair_value, value_at, ◌>>=◌}
+use Rattle.hex.specs.declared.error.FromHexError.{FromHexError}
+use Rattle.hex.proofs.HexLemmas.{decode_of-encode_lower, decode_of-ok, decode_of-even, length-encode_with}
+use Rattle.script_text.specs.Reading.{Lacks, is_lower_hex}
+
+-- ---- the digits
+
+abbrev keeps_digit : ℕ → Bool
+keeps_digit c = if is_lower_hex c then slice_index lower_digits (unwrap_or (hex_digit_value c) 99) == c else true
+
+abbrev all_keep : ℕ → Bool
+all_keep zero = true
+all_keep (suc n) = keeps_digit n && all_keep n
+
+all_keep-at : (n k : ℕ) → all_keep n ≡ true → k < n → keeps_digit k ≡ true
+all_keep-at zero k h lt = absurd (omega arith)
+all_keep-at (suc n) k h lt =
+    let parts = and_parts (keeps_digit n) (all_keep n) h in
+    elim (cases_lt k n) [
+      | inl below ↦ all_keep-at n k parts.1 below
+      | inr top ↦ let e : k ≡ n = omega arith in rw e parts.0
+    ]
+
+-- a digit in lower case is that of its value
+digit_kept : (c v : ℕ) → is_lower_hex c ≡ true → hex_digit_value c ≡ Some v → slice_index lower_digits v ≡ c
+digit_kept c v lower is =
+    let small : c < 103 = grind (arith, nat_tests) in
+    let kept = all_keep-at 103 c refl small in
+    let kept' : (slice_index lower_digits (unwrap_or (hex_digit_value c) 99) == c) ≡ true = rw lower at kept in
+    eqb-true _ c (rw is at kept')
+
+abbrev all_lower : ℕ → Bool
+all_lower zero = true
+all_lower (suc n) = is_lower_hex (slice_index lower_digits n) && all_lower n
+
+all_lower-at : (n k : ℕ) → all_lower n ≡ true → k < n → is_lower_hex (slice_index lower_digits k) ≡ true
+all_lower-at zero k h lt = absurd (omega arith)
+all_lower-at (suc n) k h lt =
+    let parts = and_parts (is_lower_hex (slice_index lower_digits n)) (all_lower n) h in
+    elim (cases_lt k n) [
+      | inl below ↦ all_lower-at n k parts.1 below
+      | inr top ↦ let e : k ≡ n = omega arith in rw e parts.0
+    ]
+
+digit_lower : (d : ℕ) → d < 16 → is_lower_hex (slice_index lower_digits d) ≡ true
+digit_lower d small = all_lower-at 16 d refl small
+
+-- ---- from digits to bytes and back
+
+bind_ok : {A B : Type 0} (r : Result A FromHexError) (f : A → Result B FromHexError) (y : B) → (r >>= f) ≡ Ok y → (x : A) × (r ≡ Ok x) × (f x ≡ Ok y)
+bind_ok (Ok x) f y h = (x, refl, h)
+bind_ok (Err e) f y h = cc h
+
+digit_read : (c i : ℕ) (o : Option ℕ) (v : ℕ) → digit_or_error c i o ≡ Ok v → o ≡ Some v
+digit_read c i (Some w) v h = ap Some (ap (λ (r : Result ℕ FromHexError). result_unwrap_or r 0) h)
+digit_read c i None v h = cc h
+
+lower_small : (c v : ℕ) → hex_digit_value c ≡ Some v → v < 16
+lower_small c v h = grind (arith)
+
+encode_again : (i : ℕ) (text bytes : List ℕ) → list_all is_lower_hex text ≡ true → decode_pairs i text ≡ Ok bytes → text ≡ encode_lower bytes
+unfolding decode_pairs encode_with
+encode_again i [] bytes lower h =
+    let e : [] ≡ bytes = ap (λ (r : Result (List ℕ) FromHexError). result_unwrap_or r []) h in
+    rw (← e) refl
+encode_again i (a ∷ []) bytes lower h = cc h
+encode_again i (a ∷ b ∷ rest) bytes lower h =
+    let first = and_parts (is_lower_hex a) (list_all is_lower_hex (b ∷ rest)) lower in
+    let second = and_parts (is_lower_hex b) (list_all is_lower_hex rest) first.1 in
+    let p0 = bind_ok (pair_value a b i) _ bytes h in
+    let p1 = bind_ok (value_at a i) _ p0.0 p0.1 in
+    let p2 = bind_ok (value_at b (i + 1)) _ p0.0 p1.2 in
+    let p3 = bind_ok (decode_pairs (i + 2) rest) _ bytes p0.2 in
+    let again = encode_again (i + 2) rest p3.0 second.1 p3.1 in
+    let e : p0.0 ∷ p3.0 ≡ bytes = ap (λ (r : Result (List ℕ) FromHexError). result_unwrap_or r []) p3.2 in
+    let va = digit_read a i (hex_digit_value a) p1.0 p1.1 in
+    let vb = digit_read b (i + 1) (hex_digit_value b) p2.0 p2.1 in
+    let sa = lower_small a p1.0 va in
+    let sb = lower_small b p2.0 vb in
+    let byte : p1.0 * 16 + p2.0 ≡ p0.0 = ap (λ (r : Result ℕ FromHexError). result_unwrap_or r 0) p2.2 in
+    let high : p0.0 / 16 ≡ p1.0 = omega arith in
+    let low : p0.0 % 16 ≡ p2.0 = omega arith in
+    rw (← e, high, low, digit_kept a p1.0 first.0 va, digit_kept b p2.0 second.0 vb) (ap (λ w. a ∷ b ∷ w) again)
+
+pub encode_decoded : (text bytes : List ℕ) → list_all is_lower_hex text ≡ true → decode_of text ≡ Ok bytes → IsBytes bytes × (text ≡ encode_lower bytes)
+encode_decoded text bytes lower h =
+    let is = decode_of-ok text bytes h in
+    (is.3, encode_again 0 text bytes lower (sym (decode_of-even text is.0) ∙ h))
+
+pub encoded_lower : (bytes : List ℕ) → IsBytes bytes → list_all is_lower_hex (encode_lower bytes) ≡ true
+unfolding encode_with
+encoded_lower [] h = refl
+encoded_lower (b ∷ rest) h =
+    let fits : b < 256 = h 0 in
+    let high = digit_lower (b / 16) (omega arith) in
+    let low = digit_lower (b % 16) (omega arith) in
+    rw (high, low) (encoded_lower rest (λ i. h (suc i)))
+
+lower_other : (b c : ℕ) → is_lower_hex b ≡ false → is_lower_hex c ≡ true → c ≢ b
+lower_other b c other lower same = false≢true (sym other ∙ rw (← same) lower)
+
+Lacks-lower : (b : ℕ) (text : List ℕ) → is_lower_hex b ≡ false → list_all is_lower_hex text ≡ true → Lacks b text
+Lacks-lower b [] other h = tt
+Lacks-lower b (c ∷ cs) other h =
+    let parts = and_parts (is_lower_hex c) (list_all is_lower_hex cs) h in
+    (lower_other b c other parts.0, Lacks-lower b cs other parts.1)
+
+pub Lacks-encoded : (b : ℕ) (bytes : List ℕ) → is_lower_hex b ≡ false → IsBytes bytes → Lacks b (encode_lower bytes)
+Lacks-encoded b bytes other h = Lacks-lower b (encode_lower bytes) other (encoded_lower bytes h)
+
+pub decode-encoded : (bytes : List ℕ) → IsBytes bytes → result_unwrap_or (decode_of (encode_lower bytes)) [] ≡ bytes
+decode-encoded bytes h = rw (decode_of-encode_lower bytes h) refl
+
+pub length-encoded : (bytes : List ℕ) → length (encode_lower bytes) ≡ 2 * length bytes
+length-encoded bytes = length-encode_with lower_digits bytes
+
+pub not_refused : (text bytes : List ℕ) (e : FromHexError) → IsBytes bytes → text ≡ encode_lower bytes → decode_of text ≡ Err e → ⊥
+not_refused text bytes e h same refused =
+    let is : decode_of text ≡ Ok bytes = rw same (decode_of-encode_lower bytes h) in
+    let P : Result (List ℕ) FromHexError → Type 0 = λ r. MatchResult r (λ _. Unit {0}) (λ _. ⊥) in
+    subst P (sym is ∙ refused) tt

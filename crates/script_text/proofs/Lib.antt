@@ -1,0 +1,6 @@
+pub mod Cutting
+pub mod Numerals
+pub mod HexText
+pub mod Spelling
+pub mod Going
+pub mod Parts

@@ -1,0 +1,208 @@
+//! The calls of a line.
+ghost use Rattle.std.specs.Prelude.{◌≡◌, ◌++◌, IfOk, codes};
+ghost use Rattle.std.specs.Option.{option_map};
+ghost use Rattle.script_text.specs.Lines.{line_text, IsLine};
+ghost use Rattle.script_text.specs.Reading.{Reads, Target, target_text, IsTarget, call_text, IsRequest, verb_word};
+
+use crate::bodies::{Body, body_of};
+use crate::lines::Line;
+use crate::words::{caller, cut, is_word, number};
+use hsm_types::{Call, Word};
+use plain_model::{Action, Actor};
+use std::alloc::{AllocError, Global};
+
+/// A call, and the seed of its data if they were given by one.
+#[derive(Drop)]
+struct Request {
+    call: Call,
+    seed: Option<u8>,
+}
+
+/// The line that a text is.
+pub fn line(alloc: Global, text: &[u8]) -> Result<Option<Line>, AllocError>
+    ensures { IfOk result (λ read. Reads line_text IsLine text.now read) }
+{
+    if text == b"store commit".as_slice() {
+        return Ok(Some(Line::Event {
+            actor: Actor::Store,
+            action: Action::Commit,
+            seed: None,
+        }));
+    }
+    let Some((who, rest)) = cut(text, b' ') else {
+        return Ok(None);
+    };
+    let Some(actor) = caller(who) else {
+        return Ok(None);
+    };
+    let Some(Request { call, seed }) = request_of(alloc, rest)? else {
+        return Ok(None);
+    };
+    let action = Action::Issue(call);
+    Ok(Some(Line::Event {
+        actor,
+        action,
+        seed,
+    }))
+}
+
+fn request_of(alloc: Global, text: &[u8]) -> Result<Option<Request>, AllocError>
+    ensures { IfOk result (λ read. Reads call_text IsRequest text.now read) }
+{
+    if text == b"sync".as_slice() {
+        return Ok(Some(unseeded(Call::Sync)));
+    }
+    let Some((verb, args)) = cut(text, b' ') else {
+        return Ok(None);
+    };
+    let Some(verb) = verb_of(verb) else {
+        return Ok(None);
+    };
+    match verb {
+        Verb::Create => create(alloc, args),
+        Verb::Read => read(alloc, args),
+        Verb::Write => write(alloc, args),
+        Verb::Truncate => truncate(alloc, args),
+        Verb::Remove => remove(alloc, args),
+        Verb::Stat => stat(alloc, args),
+    }
+}
+
+fn unseeded(call: Call) -> Request
+    ensures { result ≡ record { call = call; seed = None } }
+{
+    Request { call, seed: None }
+}
+
+/// What a call with arguments begins with.
+#[derive(Clone, Copy)]
+enum Verb {
+    Create,
+    Read,
+    Write,
+    Truncate,
+    Remove,
+    Stat,
+}
+
+fn verb_of(word: &[u8]) -> Option<Verb>
+    ensures { Reads verb_word (λ _. Unit {0}) word.now result }
+{
+    if word == b"create".as_slice() {
+        Some(Verb::Create)
+    } else if word == b"read".as_slice() {
+        Some(Verb::Read)
+    } else if word == b"write".as_slice() {
+        Some(Verb::Write)
+    } else if word == b"truncate".as_slice() {
+        Some(Verb::Truncate)
+    } else if word == b"remove".as_slice() {
+        Some(Verb::Remove)
+    } else if word == b"stat".as_slice() {
+        Some(Verb::Stat)
+    } else {
+        None
+    }
+}
+
+fn create(alloc: Global, args: &[u8]) -> Result<Option<Request>, AllocError>
+    ensures { IfOk result (λ read. Reads call_text IsRequest (codes "create " ++ args.now) read) }
+{
+    if !is_word(args) {
+        return Ok(None);
+    }
+    let name = word(alloc, args)?;
+    Ok(Some(unseeded(Call::Create { name })))
+}
+
+fn read(alloc: Global, args: &[u8]) -> Result<Option<Request>, AllocError>
+    ensures { IfOk result (λ read. Reads call_text IsRequest (codes "read " ++ args.now) read) }
+{
+    let Some((name, offset, last)) = target(args) else {
+        return Ok(None);
+    };
+    let Some(len) = number(last) else {
+        return Ok(None);
+    };
+    let name = word(alloc, name)?;
+    Ok(Some(unseeded(Call::Read { name, offset, len })))
+}
+
+fn write(alloc: Global, args: &[u8]) -> Result<Option<Request>, AllocError>
+    ensures { IfOk result (λ read. Reads call_text IsRequest (codes "write " ++ args.now) read) }
+{
+    let Some((name, offset, last)) = target(args) else {
+        return Ok(None);
+    };
+    let Some(Body { bytes, seed }) = body_of(alloc, last)? else {
+        return Ok(None);
+    };
+    let name = word(alloc, name)?;
+    let call = Call::Write {
+        name,
+        offset,
+        body: bytes,
+    };
+    Ok(Some(Request { call, seed }))
+}
+
+fn truncate(alloc: Global, args: &[u8]) -> Result<Option<Request>, AllocError>
+    ensures { IfOk result (λ read. Reads call_text IsRequest (codes "truncate " ++ args.now) read) }
+{
+    let Some((name, size)) = cut(args, b' ') else {
+        return Ok(None);
+    };
+    if !is_word(name) {
+        return Ok(None);
+    }
+    let Some(size) = number(size) else {
+        return Ok(None);
+    };
+    let name = word(alloc, name)?;
+    Ok(Some(unseeded(Call::Truncate { name, size })))
+}
+
+fn remove(alloc: Global, args: &[u8]) -> Result<Option<Request>, AllocError>
+    ensures { IfOk result (λ read. Reads call_text IsRequest (codes "remove " ++ args.now) read) }
+{
+    if !is_word(args) {
+        return Ok(None);
+    }
+    let name = word(alloc, args)?;
+    Ok(Some(unseeded(Call::Remove { name })))
+}
+
+fn stat(alloc: Global, args: &[u8]) -> Result<Option<Request>, AllocError>
+    ensures { IfOk result (λ read. Reads call_text IsRequest (codes "stat " ++ args.now) read) }
+{
+    if !is_word(args) {
+        return Ok(None);
+    }
+    let name = word(alloc, args)?;
+    Ok(Some(unseeded(Call::Stat { name })))
+}
+
+/// The name and the offset of an access, and what stands behind them.
+fn target(args: &[u8]) -> Option<(&[u8], u64, &[u8])>
+    ensures { Reads target_text IsTarget args.now (option_map (λ t. record { name = t.0.now; offset = t.1; last = t.2.now }) result) }
+{
+    let Some((name, rest)) = cut(args, b' ') else {
+        return None;
+    };
+    if !is_word(name) {
+        return None;
+    }
+    let Some((offset, last)) = cut(rest, b' ') else {
+        return None;
+    };
+    let Some(offset) = number(offset) else {
+        return None;
+    };
+    Some((name, offset, last))
+}
+
+fn word(alloc: Global, bytes: &[u8]) -> Result<Word, AllocError>
+    ensures { IfOk result (λ word. word ≡ bytes.now) }
+{
+    Ok(Word::from(Vec::from_slice(alloc, bytes)?))
+}

@@ -1,0 +1,126 @@
+//! The words of a line.
+ghost use Rattle.std.specs.Prelude.{◌≡◌, ◌≢◌, ◌+◌, ◌-◌, ◌*◌, ◌^◌, ◌<◌, ◌≤◌, ℕ, length, slice_index, IsTrue, ◌↔◌};
+ghost use Rattle.std.specs.Option.{option_map, SomeIff};
+ghost use Rattle.std.specs.Char.{digit_value};
+ghost use Rattle.std.specs.Fmt.{decimal};
+ghost use Rattle.std.specs.List.{list_all};
+ghost use Rattle.std.specs.Str.Parse.{AllDigits, digits_value};
+ghost use Rattle.plain_model.specs.Render.{actor_word};
+ghost use Rattle.script_text.specs.Lines.{is_word, is_word_byte};
+ghost use Rattle.script_text.specs.Reading.{Reads, Cuts, IsNumber, IsCaller};
+
+use hsm_types::{CALLERS, CallerId};
+use plain_model::Actor;
+
+/// The place of the first such byte, or the length where there is none.
+fn find(bytes: &[u8], byte: u8) -> usize
+    ensures within { result ≤ length bytes.now }
+    ensures before { (k : ℕ) → k < result → slice_index bytes.now k ≢ byte }
+    ensures found { result < length bytes.now → slice_index bytes.now result ≡ byte }
+{
+    for (i, b) in bytes.iter().enumerate() {
+        if *b == byte {
+            return i;
+        }
+    }
+    bytes.len()
+}
+
+/// What stands before the first such byte, and what behind it.
+pub fn cut(bytes: &[u8], byte: u8) -> Option<(&[u8], &[u8])>
+    ensures { Cuts byte bytes.now (option_map (λ p. (p.0.now, p.1.now)) result) }
+{
+    let at = find(bytes, byte);
+    if at < bytes.len() {
+        Some((&bytes[..at], &bytes[at + 1..]))
+    } else {
+        None
+    }
+}
+
+/// The number that a word is in decimal.
+pub fn number(word: &[u8]) -> Option<u64>
+    ensures { Reads decimal IsNumber word.now result }
+{
+    if !is_plain(word) {
+        return None;
+    }
+    value(word)
+}
+
+/// Whether there is a byte, and no `0` in front of others.
+fn is_plain(word: &[u8]) -> bool
+    ensures { IsTrue result ↔ ((0 < length word.now) × (slice_index word.now 0 ≡ 48 → length word.now ≡ 1)) }
+{
+    !word.is_empty() && (word[0] != b'0' || word.len() == 1)
+}
+
+/// The value of digits.
+fn value(digits: &[u8]) -> Option<u64>
+    ensures { SomeIff result (AllDigits 10 digits.now × (digits_value 10 digits.now < 2 ^ 64)) (digits_value 10 digits.now) }
+{
+    let mut value = 0;
+    for digit in digits {
+        let Some(more) = with_digit(value, *digit) else {
+            return None;
+        };
+        value = more;
+    }
+    Some(value)
+}
+
+/// The value with a digit more.
+fn with_digit(value: u64, digit: u8) -> Option<u64>
+    ensures { SomeIff result ((digit_value digit < 10) × (value * 10 + digit_value digit < 2 ^ 64)) (value * 10 + digit_value digit) }
+{
+    if !digit.is_ascii_digit() {
+        return None;
+    }
+    value.checked_mul(10)?.checked_add(u64::from(digit - b'0'))
+}
+
+/// Whether a number is from 1 to `most`.
+pub fn is_within(n: u64, most: u64) -> bool
+    ensures { IsTrue result ↔ ((1 ≤ n) × (n ≤ most)) }
+{
+    1 <= n && n <= most
+}
+
+/// Whether two numbers are at most `most` together.
+pub fn are_within(a: u64, b: u64, most: u64) -> bool
+    ensures { IsTrue result ↔ (a + b ≤ most) }
+{
+    a <= most && b <= most - a
+}
+
+/// The caller that a word names.
+pub fn caller(word: &[u8]) -> Option<Actor>
+    ensures { Reads actor_word IsCaller word.now result }
+{
+    match word {
+        [b'c', digits @ ..] => {
+            let Some(n) = number(digits) else {
+                return None;
+            };
+            if !is_within(n, u64::from(CALLERS)) {
+                return None;
+            }
+            Some(Actor::Caller(CallerId(n as u8)))
+        }
+        _ => None,
+    }
+}
+
+/// Whether a word is one or more visible ASCII bytes.
+pub fn is_word(word: &[u8]) -> bool
+    ensures { result ≡ is_word word.now }
+{
+    let visible = are_visible(word);
+    !word.is_empty() && visible
+}
+
+fn are_visible(word: &[u8]) -> bool
+    ensures { result ≡ list_all is_word_byte word.now }
+{
+    word.iter().all(|b| 0x21 <= *b && *b <= 0x7e)
+}
