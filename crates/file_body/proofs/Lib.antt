@@ -1,0 +1,4 @@
+pub mod Cuts
+pub mod Grown
+pub mod Counts
+pub mod Sizes

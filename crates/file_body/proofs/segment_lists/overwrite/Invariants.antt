@@ -1,0 +1,14 @@
+use Rattle.std.proofs.Common.{◌≡◌, ◌+◌, ◌-◌, ◌≤◌, ◌++◌, length, take, drop}
+use Rattle.std.specs.List.{concat}
+use Rattle.file_body.specs.Segments.{IsCut}
+use Rattle.file_body.proofs.segment_lists.overwrite.Given as goal
+
+abbrev pub invariant-loop-done : goal.invariant-loop-done
+invariant-loop-done l = record {
+  within : l.done ≤ length l.bytes;
+  written : concat l.segments ≡ take l.offset (concat l.fn.segments) ++ take l.done l.bytes ++ drop (l.offset + l.done) (concat l.fn.segments);
+  cut : IsCut 65536 l.segments;
+}
+
+abbrev pub decreases-loop-done : goal.decreases-loop-done
+decreases-loop-done l = length l.bytes - l.done

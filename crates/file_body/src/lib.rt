@@ -1,0 +1,15 @@
+//! The body of a file in memory: its bytes, and which of its blocks are mapped.
+#![tactic(auto)]
+
+mod blocks;
+mod bodies;
+mod flags;
+mod segment_lists;
+mod segments;
+#[cfg(test)]
+mod tests;
+mod touches;
+
+pub use blocks::MappedBlocks;
+pub use bodies::Body;
+pub use touches::{TouchedBlocks, blocks_in, size_after, touched};
