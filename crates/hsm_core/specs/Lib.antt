@@ -1,0 +1,5 @@
+pub mod Contents
+pub mod Rows
+pub mod Refusals
+pub mod Store
+pub mod Kept

@@ -1,0 +1,131 @@
+//! What refuses a call, in the order of judgement.
+ghost use Rattle.std.specs.Prelude.{◌≡◌, ◌+◌};
+ghost use Rattle.plain_model.specs.Plain.{bad_name, bad_length, missing, exists, too_big, no_inodes, refusal_of};
+ghost use Rattle.plain_model.specs.State.{names_of, no_space};
+ghost use Rattle.hsm_core.specs.Rows.{files_of};
+ghost use Rattle.hsm_core.specs.Refusals.{first_of};
+
+use crate::rows::{Row, find};
+use hsm_types::{ACCESS_BYTES, Call, CallRefusal, FILE_BYTES, Superblock, Word, can_name};
+
+/// What refuses a call by its words and by the names of the files, if anything does.
+#[tactic(auto, using(crate::proofs::Refusing::two, crate::proofs::Refusing::three, crate::proofs::Refusing::four))]
+pub fn refusal(superblock: &Superblock, rows: &[Row], call: &Call) -> Option<CallRefusal>
+    ensures { result ≡ refusal_of superblock.now (names_of (files_of rows.now)) call.now }
+{
+    match call {
+        Call::Create { name } => {
+            let files = superblock.geometry.files;
+            first(
+                of_name(name),
+                first(of_present(rows, name), of_inodes(files, rows)),
+            )
+        }
+        Call::Read { name, len, .. } => first(
+            of_name(name),
+            first(of_length(*len), of_absent(rows, name)),
+        ),
+        Call::Write { name, offset, body } => {
+            let len = body.as_slice().len() as u64;
+            first(
+                first(of_name(name), of_length(len)),
+                first(of_absent(rows, name), of_write(*offset, len)),
+            )
+        }
+        Call::Truncate { name, size } => first(
+            of_name(name),
+            first(of_absent(rows, name), of_end(*size)),
+        ),
+        Call::Remove { name } | Call::Stat { name } => first(of_name(name), of_absent(rows, name)),
+        Call::Sync => None,
+    }
+}
+
+/// The first of two refusals.
+fn first(one: Option<CallRefusal>, other: Option<CallRefusal>) -> Option<CallRefusal>
+    ensures { result ≡ first_of one other }
+{
+    match one {
+        Some(why) => Some(why),
+        None => other,
+    }
+}
+
+fn of_name(name: &Word) -> Option<CallRefusal>
+    ensures { result ≡ bad_name name.now }
+{
+    if can_name(name.as_slice()) {
+        None
+    } else {
+        Some(CallRefusal::BadName)
+    }
+}
+
+fn of_length(len: u64) -> Option<CallRefusal>
+    ensures { result ≡ bad_length len }
+{
+    if 1 <= len && len <= ACCESS_BYTES {
+        None
+    } else {
+        Some(CallRefusal::BadLength { len })
+    }
+}
+
+fn of_absent(rows: &[Row], name: &Word) -> Option<CallRefusal>
+    ensures { result ≡ missing name.now (names_of (files_of rows.now)) }
+{
+    match find(rows, name) {
+        Some(_) => None,
+        None => Some(CallRefusal::Missing),
+    }
+}
+
+fn of_present(rows: &[Row], name: &Word) -> Option<CallRefusal>
+    ensures { result ≡ exists name.now (names_of (files_of rows.now)) }
+{
+    match find(rows, name) {
+        Some(_) => Some(CallRefusal::Exists),
+        None => None,
+    }
+}
+
+fn of_inodes(files: u32, rows: &[Row]) -> Option<CallRefusal>
+    ensures { result ≡ no_inodes files (names_of (files_of rows.now)) }
+{
+    if rows.len() == files as usize {
+        let count = u64::from(files);
+        Some(CallRefusal::NoInodes { count })
+    } else {
+        None
+    }
+}
+
+fn of_write(offset: u64, len: u64) -> Option<CallRefusal>
+    ensures { result ≡ too_big (offset + len) }
+{
+    match offset.checked_add(len) {
+        Some(end) => of_end(end),
+        None => Some(CallRefusal::TooBig { end: u64::MAX }),
+    }
+}
+
+fn of_end(end: u64) -> Option<CallRefusal>
+    ensures { result ≡ too_big end }
+{
+    if FILE_BYTES < end {
+        Some(CallRefusal::TooBig { end })
+    } else {
+        None
+    }
+}
+
+/// Whether more blocks are needed than are free.
+pub fn of_space(need: u64, free: u64) -> Option<CallRefusal>
+    ensures { result ≡ no_space need free }
+{
+    if free < need {
+        Some(CallRefusal::NoSpace { need, free })
+    } else {
+        None
+    }
+}
