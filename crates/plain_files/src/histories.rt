@@ -1,0 +1,104 @@
+//! The files after a history: each call that was done, done again on plain files.
+ghost use Rattle.std.specs.Prelude.{◌≡◌, [], IfOk, OnOk};
+ghost use Rattle.plain_model.specs.Step.{is_completion};
+ghost use Rattle.plain_model.specs.Plain.{listing, key_meant, act};
+ghost use Rattle.plain_model.specs.PlainFold.{plain_after};
+ghost use Rattle.plain_files.specs.Files.{files_of, files_left, files_replied};
+
+use crate::files::{NO_KEY, PlainFile, key_named, put, resize, take_out, write};
+use hsm_types::{Bytes, Call, FileKey, Reply};
+use plain_model::{Action, Actor, Answer, Entry};
+use std::alloc::{AllocError, Global};
+
+/// The files that the completed calls of a history leave, from none on, in the order of their inodes.
+pub fn files_after(alloc: Global, history: &[Entry]) -> Result<Vec<PlainFile>, AllocError>
+    ensures { IfOk result (λ files. files_of files.items ≡ plain_after [] history.now) }
+{
+    let mut files = Vec::new(alloc);
+    for entry in history {
+        follow(alloc, &mut files, entry)?;
+    }
+    Ok(files)
+}
+
+/// Does the call of an entry, where its reply says that it was done.
+fn follow(alloc: Global, files: &mut Vec<PlainFile>, entry: &Entry) -> Result<(), AllocError>
+    ensures { OnOk result (files_of files.new.items ≡ files_left (files_of files.old.items) entry.now.actor entry.now.action entry.now.answer) }
+{
+    let Answer::Call(reply) = &entry.answer;
+    match (&entry.actor, &entry.action) {
+        (Actor::Caller(_), Action::Issue(call)) => follow_call(alloc, files, call, reply),
+        (Actor::Caller(_), Action::Commit) | (Actor::Store, _) => Ok(()),
+    }
+}
+
+/// Does a call, where its reply says that it was done.
+fn follow_call(
+    alloc: Global,
+    files: &mut Vec<PlainFile>,
+    call: &Call,
+    reply: &Reply,
+) -> Result<(), AllocError>
+    ensures { OnOk result (files_of files.new.items ≡ files_replied (files_of files.old.items) call.now reply.now) }
+{
+    if !is_done(reply) {
+        return Ok(());
+    }
+    let key = meant(files.as_slice(), call, reply);
+    perform(alloc, files, key, call)
+}
+
+/// Whether a reply says that the call was done.
+fn is_done(reply: &Reply) -> bool
+    ensures { result ≡ is_completion reply.now }
+{
+    match reply {
+        Reply::Done | Reply::Made(_) | Reply::Data(_) | Reply::Size(_) => true,
+        Reply::Refused(_) => false,
+    }
+}
+
+/// The key of the file that a call means; of a create, the key that was made.
+fn meant(files: &[PlainFile], call: &Call, reply: &Reply) -> FileKey
+    ensures { result ≡ key_meant (listing (files_of files.now)) call.now reply.now }
+{
+    match call {
+        Call::Create { .. } => match reply {
+            Reply::Made(key) => *key,
+            _ => NO_KEY,
+        },
+        Call::Read { name, .. }
+        | Call::Write { name, .. }
+        | Call::Truncate { name, .. }
+        | Call::Remove { name }
+        | Call::Stat { name } => key_named(files, name),
+        Call::Sync => NO_KEY,
+    }
+}
+
+/// Does a call on the file with that key.
+fn perform(
+    alloc: Global,
+    files: &mut Vec<PlainFile>,
+    key: FileKey,
+    call: &Call,
+) -> Result<(), AllocError>
+    ensures { OnOk result (files_of files.new.items ≡ (act (files_of files.old.items) key call.now).1) }
+{
+    match call {
+        Call::Create { name } => {
+            let name = name.clone()?;
+            let body = Bytes::from(Vec::new(alloc));
+            put(files, PlainFile { key, name, body })
+        }
+        Call::Read { .. } | Call::Stat { .. } | Call::Sync => Ok(()),
+        Call::Write { offset, body, .. } => {
+            write(alloc, files.as_mut_slice(), key, *offset, body.as_slice())
+        }
+        Call::Truncate { size, .. } => resize(alloc, files.as_mut_slice(), key, *size),
+        Call::Remove { .. } => {
+            take_out(files, key);
+            Ok(())
+        }
+    }
+}

@@ -1,0 +1,11 @@
+//! The files that a history leaves, worked out in the plainest way: slow, and its contract is the definition.
+#![tactic(auto)]
+
+mod bodies;
+mod files;
+mod histories;
+#[cfg(test)]
+mod tests;
+
+pub use files::PlainFile;
+pub use histories::files_after;
