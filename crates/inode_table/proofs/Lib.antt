@@ -1,0 +1,7 @@
+pub mod Choices
+pub mod Orders
+pub mod Names
+pub mod Listings
+pub mod Standing
+pub mod Indexing
+pub mod Keeping

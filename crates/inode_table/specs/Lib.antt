@@ -1,0 +1,4 @@
+pub mod Listing
+pub mod Table
+pub mod Places
+pub mod Index
