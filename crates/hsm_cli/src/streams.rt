@@ -1,0 +1,78 @@
+//! Whole inputs and outputs over sources and sinks.
+ghost use Rattle.std.specs.Prelude.{◌≡◌, ◌<◌, ◌≤◌, ◌++◌, ◌⊎◌, take, length, ℕ, IfOk, IfSome, OnOk, OnErr, IsErrOf, IfErr};
+ghost use Rattle.std.specs.Io.KnownBytes.{Appends, IsAtEnd};
+ghost use Rattle.script_text.specs.Causes.{Rose};
+ghost use Rattle.hsm_cli.specs.Sources.{script_bytes, ReadsMore};
+
+use crate::causes::Cause;
+use script_text::{Failed, Sink, Source};
+use std::alloc::Global;
+
+/// One byte more than any script has.
+const SCRIPT_BYTES: usize = 409700001;
+
+/// How much is asked of a source at a time.
+const PIECE_BYTES: usize = 16384;
+
+/// Reads a source to its end, or as far as a script may go. It is refused `ReadFault` or `NoMemory`.
+pub fn read_all<I: Source>(alloc: Global, source: &mut I) -> Result<Vec<u8>, Cause>
+    ensures bytes { IfOk result (λ bytes. IfSome (I.left source.old) (λ all. bytes.items ≡ script_bytes all)) }
+    ensures ended { IfOk result (λ bytes. length bytes.items ≤ 409700000 → IsAtEnd (I.left source.new)) }
+    ensures causes { IfErr result (λ why. (why ≡ Cause.ReadFault) ⊎ (why ≡ Cause.NoMemory)) }
+    ensures fault { IsErrOf result Cause.ReadFault → Rose (I.fault_count source.old) (I.fault_count source.new) }
+{
+    let mut bytes = Vec::new(alloc);
+    while bytes.len() < SCRIPT_BYTES {
+        let count = read_some(source, &mut bytes)?;
+        if count == 0 {
+            return Ok(bytes);
+        }
+    }
+    Ok(bytes)
+}
+
+/// Reads one piece more, and says how long it is.
+fn read_some<I: Source>(source: &mut I, bytes: &mut Vec<u8>) -> Result<usize, Cause>
+    requires { length bytes.old.items < 409700001 }
+    ensures more { IfOk result (λ n. ReadsMore (I.left source.old) (I.left source.new) bytes.old.items bytes.new.items n) }
+    ensures causes { IfErr result (λ why. (why ≡ Cause.ReadFault) ⊎ (why ≡ Cause.NoMemory)) }
+    ensures fault { IsErrOf result Cause.ReadFault → Rose (I.fault_count source.old) (I.fault_count source.new) }
+    ensures later { I.fault_count source.old ≤ I.fault_count source.new }
+{
+    let mut piece = [0u8; PIECE_BYTES];
+    let room = PIECE_BYTES.min(SCRIPT_BYTES - bytes.len());
+    match source.read(&mut piece[..room]) {
+        Ok(count) => {
+            push(bytes, &piece[..count])?;
+            Ok(count)
+        }
+        Err(Failed) => Err(Cause::ReadFault),
+    }
+}
+
+fn push(bytes: &mut Vec<u8>, more: &[u8]) -> Result<(), Cause>
+    ensures ok { OnOk result (bytes.new.items ≡ bytes.old.items ++ more.now) }
+    ensures err { IfErr result (λ why. why ≡ Cause.NoMemory) }
+{
+    match bytes.extend_from_slice(more) {
+        Ok(()) => Ok(()),
+        Err(_) => Err(Cause::NoMemory),
+    }
+}
+
+/// Writes all the bytes. At an `Err` the sink took the first ones.
+pub fn write_all<O: Sink>(sink: &mut O, bytes: &[u8]) -> Result<(), Failed>
+    ensures first { (n : ℕ) × Appends (O.taken sink.old) (O.taken sink.new) (take n bytes.now) }
+    ensures all { OnOk result (Appends (O.taken sink.old) (O.taken sink.new) bytes.now) }
+    ensures fault { OnErr result (Rose (O.fault_count sink.old) (O.fault_count sink.new)) }
+{
+    let mut done = 0;
+    while done < bytes.len() {
+        let count = sink.write(&bytes[done..])?;
+        if count == 0 {
+            return Err(Failed);
+        }
+        done += count;
+    }
+    Ok(())
+}
