@@ -73,6 +73,7 @@ impl InodeTable {
         ensures limit { result ≤ self.now.limit }
         ensures table { IsTable self.now.limit self.now.next (listing self.now.files) }
     {
+        // Read for its range, which bounds the number of files.
         let _files = self.files;
         self.entries.len() as u32
     }
