@@ -1,5 +1,5 @@
 -- What a store keeps, of a new store.
-use Rattle.std.proofs.Common.{◌≡◌, List, []}
+use Rattle.std.proofs.Common.{◌≡◌, []}
 use Rattle.plain_model.specs.State.{nothing_held}
 use Rattle.plain_model.specs.Stands.{Stands}
 use Rattle.hsm_core.specs.Store.{Store}
@@ -13,6 +13,7 @@ legality s kept same opening =
       legal = rw (← same) (kept.legal [] stands);
       once = kept.once;
       exact = rw (← same, ← opening) kept.exact;
+      faultless = kept.faultless;
     }
 
 pub plain : (s : Store) → IsKept s → s.opening ≡ nothing_held → PlainClause s.history

@@ -1,5 +1,5 @@
 -- What an exact run keeps, and one event more of it.
-use Rattle.std.proofs.Common.{◌≡◌, ◌≢◌, ◌≤◌, ◌<◌, ◌+◌, ◌^◌, ℕ, List, [], ◌∷◌, ◌++◌, length, Bool, true, false, Option, Some, None, refl, ap, arith}
+use Rattle.std.proofs.Common.{◌≡◌, ◌≢◌, ◌≤◌, ◌<◌, ◌+◌, ◌^◌, ℕ, List, [], ◌∷◌, ◌++◌, length, Bool, true, false, Option, Some, None, inr, refl, ap, arith}
 use Rattle.std.proofs.lemmas.List.{length-map}
 use Rattle.std.proofs.lemmas.Bool.Decides.{nat_tests}
 use Rattle.std.specs.Prelude.{◌==◌, nat_lt, if◌then◌else◌}
@@ -18,6 +18,7 @@ use Rattle.plain_model.specs.Plain.{File, bad_name, exists, first_refusal, refus
 use Rattle.plain_model.specs.State.{FileState, Held, names_of, next_key, key_named, space_refusal, reply_to, done_held, held_where, held_after}
 use Rattle.plain_model.specs.Exact.{held_by}
 use Rattle.plain_model.specs.Laws.{ExactIsLegal, ExactIsOnce, ExactIsSided, IsTransparent}
+use Rattle.plain_model.proofs.Faultless.{faultless_reply, has_fault-push}
 use Rattle.plain_model.proofs.Histories.{held_by-push, Exact-push, next-held_by}
 use Rattle.hsm_core.specs.Store.{Store, entry_of, IsRun}
 use Rattle.hsm_core.specs.Kept.{IsKept}
@@ -27,6 +28,7 @@ pub kept : ((s : Superblock) (h : Held) (es : List Entry) → ExactIsLegal s h e
     → (s : Store) → IsRun s → IsKept s
 kept legal once sided plain s run = record {
   exact = run.exact;
+  faultless = run.faultless;
   held = run.held;
   once = once s.superblock s.opening s.history run.exact;
   legal = λ P stands. (legal s.superblock s.opening s.history run.opening run.exact P stands).0;
@@ -102,8 +104,9 @@ IsRun-issued s t c call run same opening held history =
       opening = rw opening run.opening;
       next = rw opening run.next;
       few = rw (held, same) (few-where s.superblock s.held call (refusal_of s.superblock (names_of s.held.files) call) (space_refusal s.superblock s.held call) refl run.few);
-      exact = rw (same, opening, history) (Exact-push s.superblock s.opening s.history more run.exact (rw (← run.held) refl));
-      held = rw (same, opening, held, history, held_by-push) (ap (λ h. held_after s.superblock h call) run.held);
+      exact = rw (same, opening, history) (Exact-push s.superblock s.opening s.history more run.exact run.faultless (inr (rw (← run.held) refl)));
+      faultless = rw (history, has_fault-push s.history more run.faultless) (faultless_reply s.superblock s.held call);
+      held = rw (same, opening, held, history, held_by-push, faultless_reply s.superblock s.held call) (ap (λ h. held_after s.superblock h call) run.held);
     }
 
 -- or a commit
@@ -112,6 +115,7 @@ IsRun-committed s t run same opening held history = record {
   opening = rw opening run.opening;
   next = rw opening run.next;
   few = rw (held, same) run.few;
-  exact = rw (same, opening, history) (Exact-push s.superblock s.opening s.history (entry_of TheStore Commit Done) run.exact refl);
+  exact = rw (same, opening, history) (Exact-push s.superblock s.opening s.history (entry_of TheStore Commit Done) run.exact run.faultless (inr refl));
+  faultless = rw (history, has_fault-push s.history (entry_of TheStore Commit Done) run.faultless) refl;
   held = rw (same, opening, held, history, held_by-push) run.held;
 }

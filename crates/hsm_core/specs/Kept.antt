@@ -1,6 +1,7 @@
 -- What a store keeps of its history.
-use Rattle.std.specs.Prelude.{ℕ, ◌≡◌, List, take}
+use Rattle.std.specs.Prelude.{ℕ, ◌≡◌, false, List, take}
 use Rattle.plain_model.specs.Plain.{File}
+use Rattle.plain_model.specs.Faults.{has_fault}
 use Rattle.plain_model.specs.Step.{start}
 use Rattle.plain_model.specs.Legal.{Legal, After, NoClash, Once}
 use Rattle.plain_model.specs.PlainFold.{plain_after}
@@ -9,10 +10,11 @@ use Rattle.plain_model.specs.Exact.{Exact, held_by}
 use Rattle.plain_model.specs.Side.{sides_of, side_after}
 use Rattle.hsm_core.specs.Store.{Store}
 
--- The history is exact and uses each token once. From each plain map that the opening stands for it is legal, the store stands for the map
+-- The history is exact without a fault, and uses each token once. From each plain map that the opening stands for it is legal, the store stands for the map
 -- that it leaves, the mapped blocks are those of the rules, and without a clash the files are those that were never moved.
 pub record IsKept (s : Store) : Type 0 where
   pub exact : Exact s.superblock s.opening s.history
+  pub faultless : has_fault s.history ≡ false
   pub held : s.held ≡ held_by s.superblock s.opening s.history
   pub once : Once s.history
   pub legal : (P : List File) → Stands s.opening.files P → Legal s.superblock (start P) s.history

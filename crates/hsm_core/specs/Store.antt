@@ -1,5 +1,5 @@
 -- A store as its callers see it, and its answers.
-use Rattle.std.specs.Prelude.{ℕ, ◌≡◌, ◌≤◌, ◌^◌, length, List, [], ◌∷◌, ◌++◌, Result, MatchResult, ◌⊎◌}
+use Rattle.std.specs.Prelude.{ℕ, ◌≡◌, ◌≤◌, ◌^◌, false, length, List, [], ◌∷◌, ◌++◌, Result, MatchResult, ◌⊎◌}
 use Rattle.std.specs.declared.alloc.AllocError.{AllocError}
 use Rattle.hsm_types.specs.declared.stores.Superblock.{Superblock}
 use Rattle.hsm_types.specs.declared.calls.Call.{Call}
@@ -12,6 +12,7 @@ use Rattle.plain_model.specs.declared.entries.Actor.TheVariants.{Caller, Store a
 use Rattle.plain_model.specs.declared.entries.Action.{Action}
 use Rattle.plain_model.specs.declared.entries.Action.TheVariants.{Issue, Commit}
 use Rattle.plain_model.specs.declared.entries.Answer.TheVariants.{Call as Replied}
+use Rattle.plain_model.specs.Faults.{has_fault}
 use Rattle.plain_model.specs.State.{Held, reply_to, held_after}
 use Rattle.plain_model.specs.Exact.{Exact, held_by}
 use Rattle.plain_model.specs.Laws.{IsOpening}
@@ -49,10 +50,11 @@ IsTried old caller call result new =
 abbrev pub IsCommitted : Store → Reply → Store → Type 0
 IsCommitted old reply new = ((reply ≡ Refused Memory) × (new ≡ old)) ⊎ ((reply ≡ Done) × (new ≡ store_committed old))
 
--- The history is exact from the opening, and what the store holds is what it leaves.
+-- The history is exact from the opening and without a fault, and what the store holds is what it leaves.
 pub record IsRun (s : Store) : Type 0 where
   pub opening : IsOpening s.opening
   pub next : s.opening.next ≤ 2 ^ 62
   pub few : length s.held.files ≤ s.superblock.geometry.files
   pub exact : Exact s.superblock s.opening s.history
+  pub faultless : has_fault s.history ≡ false
   pub held : s.held ≡ held_by s.superblock s.opening s.history

@@ -44,7 +44,7 @@ pub enum Reply {
     Refused(CallRefusal),
 }
 
-/// Why a call was refused. Nothing has changed then but the history, and after `Memory` not even that.
+/// Why a call was refused. Nothing has changed then but the history, and not even that after `Memory`, or after `Disk` from a closed store.
 #[derive(Clone, Copy, Debug, PartialEq, Eq, Error)]
 pub enum CallRefusal {
     #[error("no file has the name")]
@@ -61,6 +61,9 @@ pub enum CallRefusal {
     NoInodes { count: u64 },
     #[error("{need} blocks are needed, and {free} are free")]
     NoSpace { need: u64, free: u64 },
+    /// A call of the disk failed in this event, or the store is closed by such a fault.
+    #[error("the disk failed")]
+    Disk,
     #[error("no memory")]
     Memory,
 }

@@ -2,7 +2,7 @@
 use crate::{PlainFile, files_after};
 use hsm_core::Hsm;
 use hsm_types::{Bytes, Call, CallRefusal, CallerId, Geometry, Reply, Superblock, Word};
-use plain_model::{Action, Answer, Entry};
+use plain_model::{Action, Actor, Answer, Entry};
 use std::alloc::{AllocError, Global};
 use std::process::Abort;
 use std::test::Fail;
@@ -169,5 +169,30 @@ fn truncates_and_removes(rt: HostRuntime) -> Result<(), Fail> {
     assert_eq!(rt; hsm.commit(), Reply::Done);
     assert_eq!(rt; plain_reads(&rt, hsm.history())?, 14 * 36);
     assert_eq!(rt; files_after(alloc, hsm.history())?.len(), 2);
+    Ok(())
+}
+
+/// Puts a call behind a history that a fault of the disk answered.
+fn push_fault(history: &mut Vec<Entry>, call: Call) -> Result<(), AllocError> {
+    history.push(Entry {
+        actor: Actor::Caller(CallerId(1)),
+        action: Action::Issue(call),
+        answer: Answer::Call(Reply::Refused(CallRefusal::Disk)),
+    })?;
+    Ok(())
+}
+
+#[test]
+fn a_fault_of_the_disk_leaves_files(rt: HostRuntime) -> Result<(), Fail> {
+    let alloc = rt.alloc();
+    let mut hsm = Hsm::new(alloc, SUPERBLOCK);
+    let _made = create(alloc, &mut hsm, "a")?;
+    let _written = write(alloc, &mut hsm, "a", 0, "abc")?;
+    let mut history = hsm.close().into_vec();
+    let name = Word::from("a".as_bytes().to_vec(alloc)?);
+    push_fault(&mut history, Call::Truncate { name, size: 1 })?;
+    let files = files_after(alloc, history.as_slice())?;
+    assert_eq!(rt; files.len(), 1);
+    assert_eq!(rt; files[0].body.as_slice(), "abc".as_bytes());
     Ok(())
 }

@@ -1,5 +1,6 @@
 -- One more entry at the end of an exact history.
-use Rattle.std.proofs.Common.{◌≡◌, ◌≤◌, ◌+◌, List, [], ◌∷◌, ◌++◌, length, Option, Some, None, refl, arith}
+use Rattle.std.proofs.Common.{◌≡◌, ◌≤◌, ◌+◌, List, [], ◌∷◌, ◌++◌, length, Bool, true, false, Option, Some, None, refl, arith}
+use Rattle.std.specs.Prelude.{if◌then◌else◌}
 use Rattle.hsm_types.specs.declared.stores.Superblock.{Superblock}
 use Rattle.hsm_types.specs.declared.calls.Call.{Call}
 use Rattle.hsm_types.specs.declared.calls.Call.TheVariants.{Create, Read, Write, Truncate, Remove, Stat, Sync}
@@ -10,17 +11,21 @@ use Rattle.plain_model.specs.declared.entries.Action.TheVariants.{Issue, Commit}
 use Rattle.plain_model.specs.declared.entries.Answer.{Answer}
 use Rattle.plain_model.specs.declared.entries.Answer.TheVariants.{Call as Replied}
 use Rattle.plain_model.specs.Legal.{token_of, Once}
-use Rattle.plain_model.specs.State.{Held, judged, done_held, held_where}
+use Rattle.plain_model.specs.State.{Held, judged, done_held, held_where, held_after}
+use Rattle.plain_model.specs.Faults.{is_fault, has_fault}
 use Rattle.plain_model.specs.Exact.{IsAnswer, left_by, Exact, held_by}
 use Rattle.plain_model.specs.Laws.{ExactIsOnce}
+use Rattle.plain_model.proofs.Faultless.{has_fault-cons, goes_on}
 
-pub held_by-push : (s : Superblock) (h : Held) (es : List Entry) (e : Entry) → held_by s h (es ++ e ∷ []) ≡ left_by s (held_by s h es) e.action
+pub held_by-push : (s : Superblock) (h : Held) (es : List Entry) (e : Entry) → held_by s h (es ++ e ∷ []) ≡ left_by s (held_by s h es) e.action e.answer
 held_by-push s h [] e = refl
-held_by-push s h (x ∷ es) e = held_by-push s (left_by s h x.action) es e
+held_by-push s h (x ∷ es) e = held_by-push s (left_by s h x.action x.answer) es e
 
-pub Exact-push : (s : Superblock) (h : Held) (es : List Entry) (e : Entry) → Exact s h es → IsAnswer s (held_by s h es) e.actor e.action e.answer → Exact s h (es ++ e ∷ [])
-Exact-push s h [] e exact is = (is, tt)
-Exact-push s h (x ∷ es) e exact is = (exact.0, Exact-push s (left_by s h x.action) es e exact.1 is)
+pub Exact-push : (s : Superblock) (h : Held) (es : List Entry) (e : Entry) → Exact s h es → has_fault es ≡ false → IsAnswer s (held_by s h es) e.actor e.action e.answer → Exact s h (es ++ e ∷ [])
+Exact-push s h [] e exact faultless is = (is, λ fault. refl, tt)
+Exact-push s h (x ∷ es) e exact faultless is =
+    let none = has_fault-cons x es faultless in
+    (exact.0, goes_on x (es ++ e ∷ []) none.0, Exact-push s (left_by s h x.action x.answer) es e exact.2 none.1 is)
 
 next-done : (h : Held) (call : Call) → (done_held h call).next ≤ h.next + 1
 next-done h (Create name) = omega arith
@@ -35,14 +40,18 @@ next-where : (why : Option CallRefusal) (h : Held) (call : Call) → (held_where
 next-where None h call = next-done h call
 next-where (Some why) h call = omega arith
 
-next-left : (s : Superblock) (h : Held) (what : Action) → (left_by s h what).next ≤ h.next + 1
-next-left s h (Issue call) = next-where (judged s h call) h call
-next-left s h Commit = omega arith
+next-if : (fault : Bool) (h h' : Held) → h'.next ≤ h.next + 1 → (if fault then h else h').next ≤ h.next + 1
+next-if true h h' within = omega arith
+next-if false h h' within = within
+
+next-left : (s : Superblock) (h : Held) (what : Action) (answer : Answer) → (left_by s h what answer).next ≤ h.next + 1
+next-left s h (Issue call) answer = next-if (is_fault answer) h (held_after s h call) (next-where (judged s h call) h call)
+next-left s h Commit answer = omega arith
 
 -- an event gives one generation at most
 pub next-held_by : (s : Superblock) (h : Held) (es : List Entry) → (held_by s h es).next ≤ h.next + length es
 next-held_by s h [] = omega arith
-next-held_by s h (e ∷ es) = omega (arith, next-left s h e.action, next-held_by s (left_by s h e.action) es)
+next-held_by s h (e ∷ es) = omega (arith, next-left s h e.action e.answer, next-held_by s (left_by s h e.action e.answer) es)
 
 token_of-none : (answer : Answer) → token_of answer ≡ None
 token_of-none (Replied reply) = refl

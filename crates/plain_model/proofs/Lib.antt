@@ -1,3 +1,4 @@
+pub mod Faultless
 pub mod Histories
 pub mod Keys
 pub mod Standing

@@ -1,5 +1,5 @@
 -- The mapped blocks that a store holds are those of the rules.
-use Rattle.std.proofs.Common.{◌≡◌, ℕ, List, [], ◌∷◌, length, Bool, true, false, Option, Some, None, refl, ap}
+use Rattle.std.proofs.Common.{◌≡◌, ℕ, List, [], ◌∷◌, length, Bool, true, false, Option, Some, None, inl, inr, refl, ap}
 use Rattle.std.specs.Prelude.{nat_lt, if◌then◌else◌}
 use Rattle.hsm_types.specs.declared.keys.FileKey.{FileKey}
 use Rattle.hsm_types.specs.declared.stores.Superblock.{Superblock}
@@ -22,6 +22,7 @@ use Rattle.plain_model.specs.Stands.{Stands, StandsFor}
 use Rattle.plain_model.specs.Exact.{IsAnswer, left_by, Exact, held_by}
 use Rattle.plain_model.specs.Side.{sides_of, side_rewritten, side_given, side_after}
 use Rattle.plain_model.specs.Laws.{ExactIsSided}
+use Rattle.plain_model.proofs.Faultless.{faultless_reply}
 use Rattle.plain_model.proofs.Standing.{names_of-stands}
 use Rattle.plain_model.proofs.Steps.{same_key_named, event_step}
 
@@ -77,8 +78,9 @@ where_sided h W call None st = done_sided h W call st
 where_sided h W call (Some why) st = refl
 
 event_sided : (s : Superblock) (h : Held) (W : World) (who : Actor) (what : Action) (answer : Answer) → StandsFor h W → IsAnswer s h who what answer
-    → sides_of (left_by s h what).files ≡ side_given W who what answer (sides_of h.files)
-event_sided s h W (Caller c) (Issue call) answer st is = rw is (where_sided h W call (judged s h call) st)
+    → sides_of (left_by s h what answer).files ≡ side_given W who what answer (sides_of h.files)
+event_sided s h W (Caller c) (Issue call) answer st (inl is) = rw is refl
+event_sided s h W (Caller c) (Issue call) answer st (inr is) = rw (is, faultless_reply s h call) (where_sided h W call (judged s h call) st)
 event_sided s h W Store Commit answer st is = refl
 event_sided s h W (Caller c) Commit answer st is = absurd is
 event_sided s h W Store (Issue call) answer st is = absurd is
@@ -87,7 +89,7 @@ sided : (s : Superblock) (h : Held) (W : World) (es : List Entry) → StandsFor 
 sided s h W [] st exact = refl
 sided s h W (e ∷ es) st exact =
     let now = event_step s h W e.actor e.action e.answer st exact.0 in
-    rw (← event_sided s h W e.actor e.action e.answer st exact.0) (sided s (left_by s h e.action) (after W e) es now.1 exact.1)
+    rw (← event_sided s h W e.actor e.action e.answer st exact.0) (sided s (left_by s h e.action e.answer) (after W e) es now.1 exact.2)
 
 pub exact_is_sided : (s : Superblock) (h : Held) (es : List Entry) → ExactIsSided s h es
 exact_is_sided s h es opening exact P stands = sided s h (start P) es (record { files = stands; newer = rw (names_of-stands h.files P stands) at opening }) exact

@@ -1,6 +1,6 @@
 -- What the store answers is a legal step from each world that it stands for, and it stands for the world after it.
 use Rattle.std.specs.Prelude.{MatchOption, nat_lt, if◌then◌else◌}
-use Rattle.std.proofs.Common.{◌≡◌, ◌<◌, ◌-◌, ℕ, List, [], ◌∷◌, length, Bool, true, false, Option, Some, None, refl, ◌∙◌, ap, subst, arith}
+use Rattle.std.proofs.Common.{◌≡◌, ◌<◌, ◌-◌, ℕ, List, [], ◌∷◌, length, Bool, true, false, Option, Some, None, inl, inr, refl, ◌∙◌, ap, subst, arith}
 use Rattle.std.proofs.lemmas.Bool.Decides.{nat_tests}
 use Rattle.hsm_types.specs.declared.stores.Superblock.{Superblock}
 use Rattle.hsm_types.specs.declared.calls.Call.{Call}
@@ -22,6 +22,7 @@ use Rattle.plain_model.specs.State.{Held, names_of, bytes_of, key_named, used, n
 use Rattle.plain_model.specs.Stands.{StandsFor}
 use Rattle.plain_model.specs.Exact.{IsAnswer, left_by, Exact, held_by}
 use Rattle.plain_model.specs.Laws.{ExactIsLegal}
+use Rattle.plain_model.proofs.Faultless.{faultless_reply}
 use Rattle.plain_model.proofs.Keys.{put_key-stands, change_key-stands, drop_key-stands}
 use Rattle.plain_model.proofs.Standing.{names_of-stands, bytes_of-stands}
 
@@ -119,9 +120,13 @@ reply_step s h W call st =
     )
 
 pub event_step : (s : Superblock) (h : Held) (W : World) (who : Actor) (what : Action) (answer : Answer) → StandsFor h W → IsAnswer s h who what answer
-    → MayGive s W who what answer × StandsFor (left_by s h what) (given W who what answer)
-event_step s h W (Caller c) (Issue call) answer st is = rw is (reply_step s h W call st)
-event_step s h W Store Commit answer st is = rw is (refl, st)
+    → MayGive s W who what answer × StandsFor (left_by s h what answer) (given W who what answer)
+event_step s h W (Caller c) (Issue call) answer st (inl is) = rw is (inl refl, st)
+event_step s h W (Caller c) (Issue call) answer st (inr is) =
+    let at = reply_step s h W call st in
+    rw (is, faultless_reply s h call) (inr at.0, at.1)
+event_step s h W Store Commit answer st (inl is) = rw is (inl refl, st)
+event_step s h W Store Commit answer st (inr is) = rw is (inr refl, st)
 event_step s h W (Caller c) Commit answer st is = absurd is
 event_step s h W Store (Issue call) answer st is = absurd is
 
@@ -129,8 +134,8 @@ steps : (s : Superblock) (h : Held) (W : World) (es : List Entry) → StandsFor 
 steps s h W [] st exact = (tt, st)
 steps s h W (e ∷ es) st exact =
     let now = event_step s h W e.actor e.action e.answer st exact.0 in
-    let rest = steps s (left_by s h e.action) (after W e) es now.1 exact.1 in
-    ((now.0, rest.0), rest.1)
+    let rest = steps s (left_by s h e.action e.answer) (after W e) es now.1 exact.2 in
+    ((now.0, exact.1, rest.0), rest.1)
 
 pub exact_is_legal : (s : Superblock) (h : Held) (es : List Entry) → ExactIsLegal s h es
 exact_is_legal s h es opening exact P stands =

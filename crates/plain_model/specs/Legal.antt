@@ -7,12 +7,13 @@ use Rattle.plain_model.specs.declared.entries.Action.{Action}
 use Rattle.plain_model.specs.declared.entries.Action.TheVariants.{Issue, Commit}
 use Rattle.plain_model.specs.declared.entries.Answer.{Answer}
 use Rattle.plain_model.specs.declared.entries.Answer.TheVariants.{Call as Replied}
+use Rattle.plain_model.specs.Faults.{FaultIsLast}
 use Rattle.plain_model.specs.Step.{World, Allows, after}
 
--- each entry is a step from the world that the entries before it leave
+-- each entry is a step from the world that the entries before it leave, and a fault is the last one
 abbrev pub Legal : Superblock → World → List Entry → Type 0
 Legal s W [] = Unit {0}
-Legal s W (e ∷ es) = Allows s W e × Legal s (after W e) es
+Legal s W (e ∷ es) = Allows s W e × FaultIsLast e es × Legal s (after W e) es
 
 -- the world after all the entries
 abbrev pub After : World → List Entry → World

@@ -1,8 +1,10 @@
 pub mod Keyed
 pub mod Plain
+pub mod Faults
 pub mod Step
 pub mod Legal
 pub mod Blocks
+pub mod Distinct
 pub mod PlainFold
 pub mod State
 pub mod Stands

@@ -7,7 +7,7 @@ use Rattle.sha2.specs.Sha256.{sha256}
 use Rattle.hsm_types.specs.declared.calls.Call.{Call}
 use Rattle.hsm_types.specs.declared.calls.Call.TheVariants.{Create, Read, Write, Truncate, Remove, Stat, Sync}
 use Rattle.hsm_types.specs.declared.calls.CallRefusal.{CallRefusal}
-use Rattle.hsm_types.specs.declared.calls.CallRefusal.TheVariants.{Missing, Exists, BadName, TooBig, BadLength, NoInodes, NoSpace, Memory}
+use Rattle.hsm_types.specs.declared.calls.CallRefusal.TheVariants.{Missing, Exists, BadName, TooBig, BadLength, NoInodes, NoSpace, Disk, Memory}
 use Rattle.hsm_types.specs.declared.calls.Reply.{Reply}
 use Rattle.hsm_types.specs.declared.calls.Reply.TheVariants.{Done, Made, Data, Size, Refused}
 use Rattle.plain_model.specs.declared.entries.Entry.{Entry}
@@ -59,6 +59,7 @@ refusal_words (TooBig end) = codes "TooBig" ∷ decimal end ∷ []
 refusal_words (BadLength len) = codes "BadLength" ∷ decimal len ∷ []
 refusal_words (NoInodes count) = codes "NoInodes" ∷ decimal count ∷ []
 refusal_words (NoSpace need free) = codes "NoSpace" ∷ decimal need ∷ decimal free ∷ []
+refusal_words Disk = codes "Disk" ∷ []
 refusal_words Memory = codes "Memory" ∷ []
 
 abbrev pub reply_words : Reply → List (List ℕ)

@@ -1,10 +1,10 @@
 -- Which event may come in a world, and the world that it leaves.
-use Rattle.std.specs.Prelude.{ℕ, ◌≡◌, ◌<◌, List, Bool, true, false, if◌then◌else◌, MatchOption}
+use Rattle.std.specs.Prelude.{ℕ, ◌≡◌, ◌<◌, ◌⊎◌, List, Bool, true, false, if◌then◌else◌, MatchOption}
 use Rattle.hsm_types.specs.declared.keys.FileKey.{FileKey}
 use Rattle.hsm_types.specs.declared.stores.Superblock.{Superblock}
 use Rattle.hsm_types.specs.declared.calls.Call.{Call}
 use Rattle.hsm_types.specs.declared.calls.Call.TheVariants.{Create, Write, Truncate}
-use Rattle.hsm_types.specs.declared.calls.CallRefusal.TheVariants.{NoSpace}
+use Rattle.hsm_types.specs.declared.calls.CallRefusal.TheVariants.{NoSpace, Disk}
 use Rattle.hsm_types.specs.declared.calls.Reply.{Reply}
 use Rattle.hsm_types.specs.declared.calls.Reply.TheVariants.{Done, Made, Data, Size, Refused}
 use Rattle.plain_model.specs.declared.entries.Entry.{Entry}
@@ -70,10 +70,10 @@ replied W call reply =
     then record { files = (act W.files (key_meant (listing W.files) call reply) call).1; last = last_after W.last reply }
     else W
 
--- from W the actor's action may get this answer
+-- from W the actor's action may get this answer. In each event a call of the disk may fail
 abbrev pub MayGive : Superblock → World → Actor → Action → Answer → Type 0
-MayGive s W (Caller c) (Issue call) (Replied reply) = MayReply s W call reply
-MayGive s W Store Commit (Replied reply) = reply ≡ Done
+MayGive s W (Caller c) (Issue call) (Replied reply) = (reply ≡ Refused Disk) ⊎ MayReply s W call reply
+MayGive s W Store Commit (Replied reply) = (reply ≡ Refused Disk) ⊎ (reply ≡ Done)
 MayGive s W (Caller c) Commit answer = ⊥
 MayGive s W Store (Issue call) answer = ⊥
 

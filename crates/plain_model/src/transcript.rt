@@ -188,6 +188,7 @@ fn push_refusal(alloc: Global, out: &mut Vec<u8>, why: CallRefusal) -> Result<()
             push_field(alloc, out, need)?;
             push_field(alloc, out, free)
         }
+        CallRefusal::Disk => push(out, b"Disk"),
         CallRefusal::Memory => push(out, b"Memory"),
     }
 }

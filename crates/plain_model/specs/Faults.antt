@@ -1,0 +1,21 @@
+-- Answers for a fault of the disk, and where in a history they stand.
+use Rattle.std.specs.Prelude.{◌≡◌, List, [], Bool, true, false}
+use Rattle.std.specs.List.{list_any}
+use Rattle.hsm_types.specs.declared.calls.CallRefusal.TheVariants.{Disk}
+use Rattle.hsm_types.specs.declared.calls.Reply.TheVariants.{Refused}
+use Rattle.plain_model.specs.declared.entries.Entry.{Entry}
+use Rattle.plain_model.specs.declared.entries.Answer.{Answer}
+use Rattle.plain_model.specs.declared.entries.Answer.TheVariants.{Call as Replied}
+
+-- a call of the disk failed in the event
+abbrev pub is_fault : Answer → Bool
+is_fault (Replied (Refused Disk)) = true
+is_fault answer = false
+
+-- an entry that is answered so is the last one
+abbrev pub FaultIsLast : Entry → List Entry → Type 0
+FaultIsLast e rest = is_fault e.answer ≡ true → rest ≡ []
+
+-- an entry of the history is answered so
+abbrev pub has_fault : List Entry → Bool
+has_fault es = list_any (λ e. is_fault e.answer) es
