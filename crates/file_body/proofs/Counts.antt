@@ -1,5 +1,5 @@
 -- How many blocks are touched and mapped.
-use Rattle.std.proofs.Common.{◌≡◌, ℕ, zero, suc, ◌+◌, ◌-◌, ◌*◌, ◌<◌, ◌≤◌, List, [], ◌∷◌, ◌++◌, length, take, drop, set, Bool, true, false, cond, ⊎_elim, refl, ◌∙◌, ap, arith, length-append, length-set, length-take}
+use Rattle.std.proofs.Common.{◌≡◌, ℕ, zero, suc, ◌+◌, ◌-◌, ◌*◌, ◌<◌, ◌≤◌, List, [], ◌∷◌, ◌++◌, length, take, drop, get_or, set, Bool, true, false, cond, ⊎_elim, refl, ◌∙◌, ap, arith, length-append, length-set, length-take}
 use Rattle.std.specs.Prelude.{replicate, Option}
 use Rattle.std.specs.Option.{option_to_list}
 use Rattle.std.proofs.lemmas.Bool.{cases_lt}
@@ -17,6 +17,11 @@ one_of b = cond b 1 0
 pub length-from_on : (a n : ℕ) → length (from_on a n) ≡ n
 length-from_on a zero = refl
 length-from_on a (suc n) = ap suc (length-from_on (a + 1) n)
+
+pub get_or-from_on : (a n i : ℕ) → i < n → get_or (from_on a n) i 0 ≡ a + i
+get_or-from_on a zero i l = absurd (omega arith)
+get_or-from_on a (suc n) zero l = omega arith
+get_or-from_on a (suc n) (suc i) l = let rest = get_or-from_on (a + 1) n i (omega arith) in omega arith
 
 -- the blocks of a run from the k-th on: the k-th, and those behind it
 pub with_mapped-from_on : (flags : List Bool) (first count k : ℕ) → k < count → with_mapped (from_on (first + k) (count - k)) flags ≡ with_mapped (from_on (first + (k + 1)) (count - (k + 1))) (set flags (first + k) true)

@@ -1,2 +1,3 @@
 pub mod Segments
 pub mod Flags
+pub mod BodyBlocks

@@ -1,6 +1,7 @@
 //! The bytes of one file.
 ghost use Rattle.std.specs.Prelude.{◌≡◌, ◌+◌, ◌-◌, ◌≤◌, ◌<◌, ◌++◌, [], length, take, drop, replicate, IfOk, OnOk, OnErr, IsOk};
 ghost use Rattle.plain_model.specs.Plain.{read_at, written, resized};
+ghost use Rattle.file_body.specs.BodyBlocks.{block_of};
 
 use crate::segment_lists;
 use crate::segments::Segment;
@@ -60,6 +61,14 @@ impl Body {
             count as usize,
         )?;
         Ok(Bytes::from(bytes))
+    }
+
+    /// Fills the buffer with a block of the body, and zeros past the body's end. It takes no memory and costs the block.
+    pub fn fill_block(&self, block: u32, buffer: &mut [u8])
+        requires { length buffer.old ≡ 4096 }
+        ensures { buffer.new ≡ block_of self.now block }
+    {
+        segment_lists::fill_block(self.segments.as_slice(), block as usize, buffer);
     }
 
     /// Writes the bytes at the offset, in place. Zeros fill what lies between the old end and the offset.

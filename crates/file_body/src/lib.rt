@@ -12,4 +12,6 @@ mod touches;
 
 pub use blocks::MappedBlocks;
 pub use bodies::Body;
-pub use touches::{TouchedBlocks, blocks_in, size_after, touched};
+pub use touches::{
+    TouchedBlocks, blocks_in, size_after, touched, touched_by_truncate, touched_by_write,
+};

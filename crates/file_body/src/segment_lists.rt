@@ -1,10 +1,15 @@
 //! The bytes of segments, one after the other. All but the last segment are full, and none is empty.
-ghost use Rattle.std.specs.Prelude.{◌≡◌, ℕ, ◌+◌, ◌-◌, ◌^◌, ◌<◌, ◌≤◌, ◌++◌, length, take, drop, replicate, slice_set, slice_index_or, IfOk, OnOk, OnErr, [], vec_len};
+ghost use Rattle.std.specs.Prelude.{◌≡◌, ℕ, ◌+◌, ◌-◌, ◌%◌, ◌^◌, ◌<◌, ◌≤◌, ◌++◌, length, take, drop, replicate, slice_set, slice_index_or, IfOk, OnOk, OnErr, [], vec_len};
 ghost use Rattle.std.specs.List.{concat};
+ghost use Rattle.file_body.specs.BodyBlocks.{block_of};
 ghost use Rattle.file_body.specs.Segments.{IsCut};
 
 use crate::segments::{FULL, Segment};
+use hsm_types::BLOCK_BYTES;
 use std::alloc::{AllocError, Global};
+
+/// The bytes of a block.
+const BLOCK: usize = BLOCK_BYTES as usize;
 
 /// How many bytes there are.
 pub fn len(segments: &[Segment]) -> usize
@@ -48,11 +53,38 @@ fn piece_at(segments: &[Segment], place: usize, count: usize) -> &[u8]
     ensures some { 0 < length result.now }
     ensures within { length result.now ≤ count }
     ensures bytes { result.now ≡ take (length result.now) (drop place (concat segments.now)) }
+    ensures whole { place % FULL + count ≤ FULL → length result.now ≡ count }
 {
     let at = place % FULL;
     let size = count.min(FULL - at);
     let segment = &segments[place / FULL];
     &segment.as_slice()[at..at + size]
+}
+
+/// Fills the buffer with the bytes of a block, and zeros past the last byte. It costs the block.
+pub fn fill_block(segments: &[Segment], block: usize, buffer: &mut [u8])
+    requires cut { IsCut FULL segments.now }
+    requires short { length (concat segments.now) < 2 ^ 63 }
+    requires low { block < 2 ^ 32 }
+    requires block { length buffer.old ≡ 4096 }
+    ensures { buffer.new ≡ block_of (concat segments.now) block }
+{
+    let place = block * BLOCK;
+    let count = len(segments).saturating_sub(place).min(BLOCK);
+    if count == 0 {
+        buffer.fill(0);
+        return;
+    }
+    put_front(buffer, piece_at(segments, place, count));
+}
+
+/// Fills the buffer with the bytes, and zeros behind them.
+fn put_front(buffer: &mut [u8], bytes: &[u8])
+    requires { length bytes.now ≤ length buffer.old }
+    ensures { buffer.new ≡ bytes.now ++ replicate (length buffer.old - length bytes.now) 0 }
+{
+    buffer[bytes.len()..].fill(0);
+    buffer[..bytes.len()].copy_from_slice(bytes);
 }
 
 /// Writes the bytes over those at the offset.

@@ -60,3 +60,14 @@ fn maps_two_blocks_across_a_border(rt: HostRuntime) -> Result<(), Fail> {
     assert_eq!(rt; blocks.used(), 2);
     Ok(())
 }
+
+#[test]
+fn fills_a_block_with_zeros_past_the_end(rt: HostRuntime) -> Result<(), Fail> {
+    let alloc = rt.alloc();
+    let body = written(alloc, 4096, &[1, 2])?;
+    let mut block = [9; 4096];
+    body.fill_block(1, &mut block);
+    assert_eq!(rt; &block[..3], [1, 2, 0].as_slice());
+    assert_eq!(rt; block[4095], 0);
+    Ok(())
+}

@@ -1,7 +1,8 @@
 //! The blocks that calls touch.
-ghost use Rattle.std.specs.Prelude.{◌≡◌, ◌+◌, ◌/◌, ◌≤◌, [], ◌++◌, length, nat_lt, ◌&&◌, if◌then◌else◌};
+ghost use Rattle.std.specs.Prelude.{◌≡◌, ℕ, ◌+◌, ◌*◌, ◌<◌, ◌≤◌, List, length, slice_index_or, IfSome};
 ghost use Rattle.std.specs.Option.{option_to_list};
-ghost use Rattle.plain_model.specs.Blocks.{touched, blocks_in, size_after, old_end, met, with_mapped};
+ghost use Rattle.hsm_types.specs.declared.calls.Call.TheVariants.{Write, Truncate};
+ghost use Rattle.plain_model.specs.Blocks.{touched, blocks_in, size_after, old_end, with_mapped};
 ghost use Rattle.file_body.specs.Flags.{mapped_count};
 
 use crate::flags;
@@ -17,7 +18,7 @@ pub struct TouchedBlocks {
 }
 
 impl Model for TouchedBlocks {
-    ghost use Rattle.std.specs.Prelude.{ℕ, List, ◌+◌, ◌≤◌, ◌++◌};
+    ghost use Rattle.std.specs.Prelude.{ℕ, List, ◌+◌, ◌<◌, ◌≤◌, ◌++◌, IfSome};
     ghost use Rattle.std.specs.Option.{option_to_list};
     ghost use Rattle.plain_model.specs.Blocks.{from_on};
 
@@ -25,7 +26,7 @@ impl Model for TouchedBlocks {
 
     ghost view = { λ t. option_to_list t.old_end ++ from_on t.first t.count };
 
-    ghost invariant = { λ t. t.first + t.count ≤ 4096 };
+    ghost invariant = { λ t. (t.first + t.count ≤ 4096) × IfSome t.old_end (λ b. b < 4096) };
 }
 
 impl TouchedBlocks {
@@ -36,6 +37,19 @@ impl TouchedBlocks {
         match self.old_end {
             Some(_) => self.count + 1,
             None => self.count,
+        }
+    }
+
+    /// The block at that place of the list.
+    pub fn block(&self, place: u64) -> u64
+        requires { place < length self.now }
+        ensures block { result ≡ slice_index_or self.now place 0 }
+        ensures small { result < 4096 }
+    {
+        match self.old_end {
+            Some(block) if place == 0 => block,
+            Some(_) => self.first + (place - 1),
+            None => self.first + place,
         }
     }
 
@@ -59,8 +73,7 @@ pub fn touched(size: u64, call: &Call) -> TouchedBlocks
 {
     match call {
         Call::Write { offset, body, .. } => {
-            let end = *offset + body.as_slice().len() as u64;
-            touched_by_write(size, *offset, end)
+            touched_by_write(size, *offset, body.as_slice().len() as u64)
         }
         Call::Truncate { size: new, .. } => touched_by_truncate(size, *new),
         _ => TouchedBlocks {
@@ -71,12 +84,12 @@ pub fn touched(size: u64, call: &Call) -> TouchedBlocks
     }
 }
 
-/// The blocks that a write touches, of which the data stand from the offset to the end.
-fn touched_by_write(size: u64, offset: u64, end: u64) -> TouchedBlocks
-    requires room { end ≤ FILE_BYTES }
-    requires order { offset ≤ end }
-    ensures { result ≡ (if nat_lt size end && nat_lt (size / 4096) (offset / 4096) then old_end size ++ met offset end else met offset end) }
+/// The blocks that a write of so many bytes at the offset touches of a file of that size.
+pub fn touched_by_write(size: u64, offset: u64, len: u64) -> TouchedBlocks
+    requires { offset + len ≤ FILE_BYTES }
+    ensures { (name bytes : List ℕ) → length bytes ≡ len → result ≡ touched size (Write name offset bytes) }
 {
+    let end = offset + len;
     let first = offset / BLOCK_BYTES;
     let apart = size < end && size / BLOCK_BYTES < first;
     TouchedBlocks {
@@ -86,9 +99,10 @@ fn touched_by_write(size: u64, offset: u64, end: u64) -> TouchedBlocks
     }
 }
 
-/// The blocks that a truncate touches, to the size `new`.
-fn touched_by_truncate(size: u64, new: u64) -> TouchedBlocks
-    ensures { result ≡ (if nat_lt size new then old_end size else []) }
+/// The blocks that a truncate to the size `new` touches of a file of that size.
+pub fn touched_by_truncate(size: u64, new: u64) -> TouchedBlocks
+    requires { new ≤ FILE_BYTES }
+    ensures { (name : List ℕ) → result ≡ touched size (Truncate name new) }
 {
     TouchedBlocks {
         old_end: if size < new { old_end(size) } else { None },
@@ -99,7 +113,8 @@ fn touched_by_truncate(size: u64, new: u64) -> TouchedBlocks
 
 /// The block in which a body of that size ends, where it doesn't fill it.
 fn old_end(size: u64) -> Option<u64>
-    ensures { option_to_list result ≡ old_end size }
+    ensures block { option_to_list result ≡ old_end size }
+    ensures within { IfSome result (λ block. 4096 * block ≤ size) }
 {
     if size % BLOCK_BYTES == 0 {
         None
