@@ -1,0 +1,143 @@
+-- The snapshot of a catalog fits its fields, and its area.
+use Rattle.std.proofs.Common.{◌≡◌, ℕ, ◌+◌, ◌*◌, ◌≤◌, ◌<◌, ◌^◌, List, [], ◌∷◌, ◌++◌, length, map, Option, Some, None, Bool, true, false, cond, eqb, leb, not, ◌&&◌, ◌||◌, ◌⊎◌, refl, sym, length-append, arith, inl, inr}
+use Rattle.std.specs.List.{AllByRecursion, sum_by, list_any, list_all, IsDistinct}
+use Rattle.std.proofs.lemmas.Bool.{or_parts, and_parts, leb-true, eqb-true, ne_eqb, eqb-false}
+use Rattle.std.proofs.lemmas.List.{length-map}
+use Rattle.std.proofs.lemmas.List.Sums.{sum_by-cons}
+use Rattle.std.proofs.lemmas.Map.Steps.{length-le_from_distinct_below}
+use Rattle.hsm_types.specs.Names.{is_name_byte, is_name}
+use Rattle.hsm_types.specs.declared.stores.Geometry.{Geometry}
+use Rattle.plain_model.specs.Distinct.{Distinct}
+use Rattle.inode_table.specs.Listing.{Within}
+use Rattle.inode_table.proofs.Orders.{few}
+use Rattle.commit_slots.specs.Places.{layout_of, small, large}
+use Rattle.meta_store.specs.declared.snapshot.Mapping.{Mapping}
+use Rattle.meta_store.specs.Catalogs.{CatalogFile, Catalog, IsCatalog, IsCatalogFile, geometry_of, present, blocks_of, names_of}
+use Rattle.meta_store.specs.Snapshots.{extents_from, spelling, snapshot_file, snapshot_of, FileFits, Fits}
+use Rattle.meta_store.proofs.ExtentCounts.{present-few, length-extents}
+use Rattle.meta_store.proofs.SnapshotLengths.{file_len, length-spelling}
+
+-- ---- numbers that differ, below a bound
+
+either : (x y : Bool) → (x || y) ≡ true → (x ≡ true) ⊎ (y ≡ true)
+either true y e = inl refl
+either false y e = inr e
+
+others : (n : ℕ) (ms : List ℕ) → list_any (λ m. eqb m n) ms ≡ false → AllByRecursion (λ m. eqb n m ≡ false) ms
+others n [] none = tt
+others n (m ∷ ms) none =
+    let parts = or_parts (eqb m n) (list_any (λ k. eqb k n) ms) none in
+    (ne_eqb n m (λ e. eqb-false m n parts.0 (sym e)), others n ms parts.1)
+
+differ : (ns : List ℕ) → Distinct ns → IsDistinct eqb ns
+unfolding IsDistinct
+differ [] d = tt
+differ (n ∷ ns) d = (others n ns d.0, differ ns d.1)
+
+one_below : (n : ℕ) (ns : List ℕ) → AllByRecursion (λ b. b < n) ns → (q : ℕ) → list_any (eqb q) ns ≡ true → q < n
+one_below n [] below q here = absurd cc
+one_below n (m ∷ ns) below q here =
+    elim (either (eqb q m) (list_any (eqb q) ns) here) [
+      | inl same ↦ let is = eqb-true q m same in let low = below.0 in omega arith
+      | inr later ↦ one_below n ns below.1 q later
+    ]
+
+-- the pigeonhole
+pub distinct-few : (n : ℕ) (ns : List ℕ) → Distinct ns → AllByRecursion (λ b. b < n) ns → length ns ≤ n
+distinct-few n ns d below = length-le_from_distinct_below ns n (differ ns d) (one_below n ns below)
+
+-- ---- what bounds a catalog
+
+by_test : {X : Type 0} (P : X → Type 0) (b : Bool) (x y : X) → P x → P y → P (cond b x y)
+by_test P true x y p q = p
+by_test P false x y p q = q
+
+pub geometry-bounded : (geometry : ℕ) → ((geometry_of geometry).files ≤ 4096) × ((geometry_of geometry).blocks ≤ 65536)
+unfolding geometry_of
+geometry-bounded geometry =
+    by_test (λ (g : Geometry). (g.files ≤ 4096) × (g.blocks ≤ 65536)) (eqb geometry 0) (record { files = 64; blocks = 1024 }) (record { files = 4096; blocks = 65536 }) (omega arith, omega arith) (omega arith, omega arith)
+
+pub name-short : (name : List ℕ) → is_name name ≡ true → length name ≤ 64
+name-short name is =
+    let front = and_parts (not (eqb (length name) 0) && leb (length name) 64) (list_all is_name_byte name) is in
+    let sizes = and_parts (not (eqb (length name) 0)) (leb (length name) 64) front.0 in
+    leb-true (length name) 64 sizes.1
+
+all-both : {X : Type 0} (P : X → Type 0) (xs ys : List X) → AllByRecursion P xs → AllByRecursion P ys → AllByRecursion P (xs ++ ys)
+all-both P [] ys p q = q
+all-both P (x ∷ xs) ys p q = (p.0, all-both P xs ys p.1 q)
+
+pub blocks-within : (blocks : ℕ) (fs : List CatalogFile) → AllByRecursion (IsCatalogFile blocks) fs → AllByRecursion (λ b. b < blocks) (blocks_of fs)
+blocks-within blocks [] each = tt
+blocks-within blocks (f ∷ fs) each = all-both (λ b. b < blocks) (present f.places) (blocks_of fs) each.0.within (blocks-within blocks fs each.1)
+
+pub blocks-few : (c : Catalog) → IsCatalog c → length (blocks_of c.files) ≤ (geometry_of c.geometry).blocks
+blocks-few c is = distinct-few (geometry_of c.geometry).blocks (blocks_of c.files) is.distinct (blocks-within (geometry_of c.geometry).blocks c.files is.each)
+
+pub files-few : (c : Catalog) → IsCatalog c → length c.files ≤ (geometry_of c.geometry).files
+files-few c is =
+    let most = few (geometry_of c.geometry).files c.next 1 (names_of c.files) is.table.ascend is.table.within in
+    let same : length (names_of c.files) ≡ length c.files = length-map c.files _ in
+    omega arith
+
+-- ---- the fields
+
+extents-fit : (blocks n : ℕ) (places : List (Option ℕ)) → blocks ≤ 2 ^ 32 → n + length places ≤ 2 ^ 32 → AllByRecursion (λ b. b < blocks) (present places)
+    → AllByRecursion (λ (e : Mapping). (e.block < 2 ^ 32) × (e.place < 2 ^ 32)) (extents_from n places)
+extents-fit blocks n [] few_blocks fit below = tt
+extents-fit blocks n (None ∷ places) few_blocks fit below = extents-fit blocks (n + 1) places few_blocks (omega arith) below
+extents-fit blocks n (Some at ∷ places) few_blocks fit below = let low = below.0 in ((omega arith, omega arith), extents-fit blocks (n + 1) places few_blocks (omega arith) below.1)
+
+pub file-fits : (blocks limit next : ℕ) (f : CatalogFile) → blocks ≤ 65536 → limit ≤ 4096 → next ≤ 2 ^ 62 → f.key.ino ≤ limit → f.key.igen < next → IsCatalogFile blocks f → FileFits (snapshot_file f)
+file-fits blocks limit next f few_blocks few_files old ino igen is =
+    let places : length f.places ≤ 4096 = let e = is.places in let s = is.size in omega arith in
+    record {
+      ino = omega arith;
+      igen = omega arith;
+      size = let s = is.size in omega arith;
+      name = let short = name-short f.name is.name in omega arith;
+      extents = omega (arith, length-extents 0 f.places, present-few f.places);
+      each = extents-fit blocks 0 f.places (omega arith) (omega arith) is.within;
+    }
+
+files-fit : (blocks limit next : ℕ) (fs : List CatalogFile) → blocks ≤ 65536 → limit ≤ 4096 → next ≤ 2 ^ 62 → Within limit next (names_of fs) → AllByRecursion (IsCatalogFile blocks) fs → AllByRecursion FileFits (map snapshot_file fs)
+files-fit blocks limit next [] few_blocks few_files old w each = tt
+files-fit blocks limit next (f ∷ fs) few_blocks few_files old w each = (file-fits blocks limit next f few_blocks few_files old w.0 w.1 each.0, files-fit blocks limit next fs few_blocks few_files old w.2 each.1)
+
+pub fits_of : (n : ℕ) (c : Catalog) → n ≤ 2 ^ 62 → IsCatalog c → Fits (snapshot_of n c)
+unfolding snapshot_of
+fits_of n c low is =
+    let g = geometry-bounded c.geometry in
+    let few_files = files-few c is in
+    record {
+      number = omega arith;
+      next = let old = is.next in omega arith;
+      count = omega (arith, length-map c.files snapshot_file);
+      each = files-fit (geometry_of c.geometry).blocks (geometry_of c.geometry).files c.next c.files g.1 g.0 is.next is.table.within is.each;
+    }
+
+-- ---- the area
+
+abbrev geometry_by : Bool → Geometry
+geometry_by b = cond b (record { files = 64; blocks = 1024 }) (record { files = 4096; blocks = 65536 })
+
+files-short : (blocks : ℕ) (fs : List CatalogFile) → AllByRecursion (IsCatalogFile blocks) fs → sum_by file_len fs ≤ 102 * length fs + 8 * length (blocks_of fs)
+files-short blocks [] each = omega arith
+files-short blocks (f ∷ fs) each =
+    let sums = sum_by-cons file_len f fs in
+    let parts : length (blocks_of (f ∷ fs)) ≡ length (present f.places) + length (blocks_of fs) = length-append (present f.places) (blocks_of fs) in
+    let short = name-short f.name each.0.name in
+    let more = files-short blocks fs each.1 in
+    omega (arith, sums, parts, short, more)
+
+by_choice : (b : Bool) → 24 + 102 * (geometry_by b).files + 8 * (geometry_by b).blocks ≤ (cond b small large).snapshot_len
+by_choice true = omega arith
+by_choice false = omega arith
+
+area-bounded : (geometry : ℕ) → 24 + 102 * (geometry_of geometry).files + 8 * (geometry_of geometry).blocks ≤ (layout_of geometry).snapshot_len
+unfolding geometry_of layout_of
+area-bounded geometry = by_choice (eqb geometry 0)
+
+pub snapshot-short : (n : ℕ) (c : Catalog) → IsCatalog c → length (spelling (snapshot_of n c)) ≤ (layout_of c.geometry).snapshot_len
+snapshot-short n c is =
+    omega (arith, length-spelling n c, files-short (geometry_of c.geometry).blocks c.files is.each, blocks-few c is, files-few c is, area-bounded c.geometry)

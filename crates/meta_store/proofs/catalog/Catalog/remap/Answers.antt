@@ -1,0 +1,48 @@
+use Rattle.std.proofs.Common.{◌-◌, [], refl, arith}
+use Rattle.std.proofs.lemmas.List.{get_or_read}
+use Rattle.meta_store.proofs.HeldCatalogs.{slot_of, live_held, catalog_held-remap, IsHeld-remap}
+use Rattle.meta_store.proofs.catalog.Catalog.remap.Goals as goal
+
+pub slot-requires : goal.slot-requires
+slot-requires c =
+    let live = live_held c.self.inside.places.items c.args.key c.self.inside.table.files (rw (← c.self.view_is) at c.requires.live) in
+    (slot_of c.self.inside.geometry c.self.inside.table c.self.inside.places.items c.self.invariant c.args.key live.0 live.1).0
+
+pub index_mut-requires : goal.index_mut-requires
+index_mut-requires c =
+    let live = live_held c.self.inside.places.items c.args.key c.self.inside.table.files (rw (← c.self.view_is) at c.requires.live) in
+    let within = slot_of c.self.inside.geometry c.self.inside.table c.self.inside.places.items c.self.invariant c.args.key live.0 live.1 in
+    let low = within.0 in
+    let high = within.1 in
+    omega arith
+
+pub set_size-requires : goal.set_size-requires
+set_size-requires c =
+    let live = live_held c.self.inside.places.items c.args.key c.self.inside.table.files (rw (← c.self.view_is) at c.requires.live) in
+    rw live.1 refl
+
+pub invariant_of-self-2 : goal.invariant_of-self-2
+invariant_of-self-2 c =
+    let g = c.self.inside.geometry in
+    let t = c.self.inside.table in
+    let ps = c.self.inside.places.items in
+    let live = live_held ps c.args.key t.files (rw (← c.self.view_is) at c.requires.live) in
+    let within = slot_of g t ps c.self.invariant c.args.key live.0 live.1 in
+    let low = within.0 in
+    let high = within.1 in
+    let here = get_or_read ps (c.args.key.ino - 1) c.index_mut.result.now (omega arith) (rw c.slot.ensures at c.index_mut.ensures.value) [] in
+    rw (c.set_size.ensures, c.slot.ensures, c.in_ok-remap.ensures.ok, here)
+    (IsHeld-remap g t ps c.args.key c.args.size c.args.mappings.now live.0 c.self.invariant live.1 c.requires.size (rw (← c.self.view_is) at c.requires.places) (rw (← c.self.view_is) at c.requires.unused) c.requires.distinct)
+
+pub returns-clause-ok : goal.returns-clause-ok
+returns-clause-ok c =
+    let g = c.self.inside.geometry in
+    let t = c.self.inside.table in
+    let ps = c.self.inside.places.items in
+    let live = live_held ps c.args.key t.files (rw (← c.self.view_is) at c.requires.live) in
+    let within = slot_of g t ps c.self.invariant c.args.key live.0 live.1 in
+    let low = within.0 in
+    let high = within.1 in
+    let here = get_or_read ps (c.args.key.ino - 1) c.index_mut.result.now (omega arith) (rw c.slot.ensures at c.index_mut.ensures.value) [] in
+    rw (c.set_size.ensures, c.slot.ensures, c.in_ok-remap.ensures.ok, here, ← c.self.view_is)
+    (catalog_held-remap g t ps c.args.key c.args.size c.args.mappings.now live.0 c.self.invariant live.1)

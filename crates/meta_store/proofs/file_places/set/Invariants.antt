@@ -1,0 +1,10 @@
+use Rattle.std.proofs.Common.{◌≡◌, ◌<◌, length, drop}
+use Rattle.std.specs.List.{AllByRecursion}
+use Rattle.meta_store.specs.Changes.{places_set}
+use Rattle.meta_store.proofs.file_places.set.Given as goal
+
+abbrev pub invariant-loop-mapping : goal.invariant-loop-mapping
+invariant-loop-mapping l = record {
+  left : places_set (drop l.mapping-index l.mappings) l.places ≡ places_set l.mappings l.fn.places;
+  within : AllByRecursion (λ m. m.block < length l.fn.places) (drop l.mapping-index l.mappings);
+}

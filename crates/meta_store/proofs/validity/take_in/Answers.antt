@@ -1,0 +1,78 @@
+use Rattle.std.proofs.Common.{map, sym, ◌∙◌}
+use Rattle.std.proofs.lemmas.Bool.{and_left, and_right}
+use Rattle.plain_model.specs.Blocks.{blocks_in}
+use Rattle.meta_store.specs.Snapshots.{raw_file, snapshot_file}
+use Rattle.meta_store.specs.Validity.{can_follow, are_unused, places_in, places_of}
+use Rattle.meta_store.proofs.SpreadPlaces.{extents-tell}
+use Rattle.meta_store.proofs.LastFiles.{absent}
+use Rattle.meta_store.proofs.PassingFiles.{names_in-snapshot}
+use Rattle.meta_store.proofs.TakenFiles as taking
+use Rattle.meta_store.proofs.validity.take_in.Goals as goal
+use Rattle.meta_store.proofs.validity.take_in.Goals.{then-not-can_follow-via-then-not-can_follow, then-not-can_follow-via-else-not-can_follow+then-not-claim}
+
+pub claim-requires : goal.claim-requires
+claim-requires c =
+    let ok = sym c.can_follow.ensures ∙ c.if-not-can_follow.false in
+    rw c.as_slice.ensures.value (taking.within c.args.limits c.args.next c.args.catalog.now c.args.flags.now (raw_file c.args.file.now) c.requires.taken ok)
+
+pub returns-then-not-can_follow-clause-corrupt : goal.returns-then-not-can_follow-clause-corrupt
+returns-then-not-can_follow-clause-corrupt c = λ is.
+    let before = map snapshot_file c.args.catalog.now.files in
+    let file = raw_file c.args.file.now in
+    let follows = can_follow c.args.limits c.args.next before file in
+    let unused = are_unused (places_in before) (places_of file.extents) in
+    elim c.then-not-can_follow.branch [
+      | then-not-can_follow-via-then-not-can_follow w ↦ and_left follows unused (sym c.can_follow.ensures ∙ w.if-not-can_follow.true)
+      | then-not-can_follow-via-else-not-can_follow+then-not-claim w ↦
+          let ok = sym c.can_follow.ensures ∙ w.if-not-can_follow.false in
+          let free = taking.free-unused c.args.limits c.args.next c.args.catalog.now c.args.flags.now file c.requires.taken ok in
+          and_right follows unused (sym free ∙ rw w.as_slice.ensures.value at (sym w.claim.ensures.free ∙ w.if-not-claim.true))
+    ]
+
+pub put-requires-clause-inode : goal.put-requires-clause-inode
+put-requires-clause-inode c =
+    let ok = sym c.can_follow.ensures ∙ c.if-not-can_follow.false in
+    absent 0 c.args.file.now.key.ino _ c.len-count.ensures.valid.table.ascend (taking.is-above c.args.limits c.args.next c.args.catalog.now c.args.flags.now (raw_file c.args.file.now) c.requires.taken ok)
+
+pub put-requires-clause-name : goal.put-requires-clause-name
+put-requires-clause-name c =
+    let ok = sym c.can_follow.ensures ∙ c.if-not-can_follow.false in
+    let f = taking.facts c.args.limits c.args.next c.args.catalog.now c.args.flags.now (raw_file c.args.file.now) c.requires.taken ok in
+    rw (← names_in-snapshot c.args.catalog.now.files) f.fresh
+
+pub remap-requires-clause-live : goal.remap-requires-clause-live
+remap-requires-clause-live c =
+    let ok = sym c.can_follow.ensures ∙ c.if-not-can_follow.false in
+    let above = taking.is-above c.args.limits c.args.next c.args.catalog.now c.args.flags.now (raw_file c.args.file.now) c.requires.taken ok in
+    rw c.in_ok-put.ensures.ok (taking.is-live c.args.catalog.now (raw_file c.args.file.now) c.len-count.ensures.valid.table.ascend above)
+
+pub remap-requires-clause-blocks : goal.remap-requires-clause-blocks
+remap-requires-clause-blocks c =
+    let ok = sym c.can_follow.ensures ∙ c.if-not-can_follow.false in
+    let f = taking.facts c.args.limits c.args.next c.args.catalog.now c.args.flags.now (raw_file c.args.file.now) c.requires.taken ok in
+    rw c.as_slice-2.ensures.value (extents-tell 0 (blocks_in c.args.file.now.size) c.args.limits.blocks c.args.file.now.extents.items f.extents).0
+
+pub remap-requires-clause-places : goal.remap-requires-clause-places
+remap-requires-clause-places c =
+    let ok = sym c.can_follow.ensures ∙ c.if-not-can_follow.false in
+    let f = taking.facts c.args.limits c.args.next c.args.catalog.now c.args.flags.now (raw_file c.args.file.now) c.requires.taken ok in
+    rw (c.as_slice-2.ensures.value, c.in_ok-put.ensures.ok, ← c.requires.limits) (extents-tell 0 (blocks_in c.args.file.now.size) c.args.limits.blocks c.args.file.now.extents.items f.extents).1
+
+pub remap-requires-clause-unused : goal.remap-requires-clause-unused
+remap-requires-clause-unused c =
+    let ok = sym c.can_follow.ensures ∙ c.if-not-can_follow.false in
+    let free = rw c.as_slice.ensures.value at (sym c.claim.ensures.free ∙ c.if-not-claim.false) in
+    rw (c.as_slice-2.ensures.value, c.in_ok-put.ensures.ok)
+    (taking.not-used c.args.limits c.args.next c.args.catalog.now c.args.flags.now (raw_file c.args.file.now) c.requires.taken ok c.len-count.ensures.valid.table.ascend free)
+
+pub remap-requires-clause-distinct : goal.remap-requires-clause-distinct
+remap-requires-clause-distinct c =
+    let ok = sym c.can_follow.ensures ∙ c.if-not-can_follow.false in
+    let free = rw c.as_slice.ensures.value at (sym c.claim.ensures.free ∙ c.if-not-claim.false) in
+    rw c.as_slice-2.ensures.value (taking.once-each c.args.limits c.args.next c.args.catalog.now c.args.flags.now (raw_file c.args.file.now) c.requires.taken ok free)
+
+pub returns-clause-taken : goal.returns-clause-taken
+returns-clause-taken c =
+    let ok = sym c.can_follow.ensures ∙ c.if-not-can_follow.false in
+    rw (c.in_ok-remap.ensures.ok, c.as_slice-2.ensures.value, c.in_ok-put.ensures.ok, c.if-not-claim.ensures.flags, c.as_slice.ensures.value)
+    (taking.taken-more c.args.limits c.args.next c.args.catalog.now c.args.flags.now (raw_file c.args.file.now) c.requires.taken ok c.len-count.ensures.valid.table.ascend)

@@ -1,0 +1,59 @@
+-- What a store keeps of its files beside their bytes.
+use Rattle.std.specs.Prelude.{◌≡◌, ℕ, ◌<◌, ◌≤◌, ◌^◌, ◌==◌, List, [], ◌∷◌, length, map, true, if◌then◌else◌, Option, Some, None}
+use Rattle.std.specs.List.{flat_map, AllByRecursion}
+use Rattle.hsm_types.specs.Names.{is_name}
+use Rattle.hsm_types.specs.declared.keys.FileKey.{FileKey}
+use Rattle.hsm_types.specs.declared.stores.Geometry.{Geometry}
+use Rattle.plain_model.specs.Plain.{Listed}
+use Rattle.plain_model.specs.Blocks.{blocks_in}
+use Rattle.plain_model.specs.Distinct.{Distinct}
+use Rattle.inode_table.specs.Table.{IsTable}
+
+-- a file: its key, its name, its size, and for each of its blocks which block of the disk has it; a hole has none
+pub record CatalogFile : Type 0 where
+  pub key : FileKey
+  pub name : List ℕ
+  pub size : ℕ
+  pub places : List (Option ℕ)
+
+-- the files of a store in the order of their inodes, and the next generation
+pub record Catalog : Type 0 where
+  pub geometry : ℕ
+  pub next : ℕ
+  pub files : List CatalogFile
+
+-- how much a store of geometry 0 can hold, which is small, and one of any other, which is large
+unfoldable pub geometry_of : ℕ → Geometry
+geometry_of geometry = if geometry == 0 then record { files = 64; blocks = 1024 } else record { files = 4096; blocks = 65536 }
+
+-- the key and the name of each file
+abbrev pub names_of : List CatalogFile → List Listed
+names_of files = map (λ f. record { key = f.key; name = f.name }) files
+
+-- the disk's blocks among these places
+abbrev pub present : List (Option ℕ) → List ℕ
+present [] = []
+present (None ∷ places) = present places
+present (Some at ∷ places) = at ∷ present places
+
+-- the disk's blocks that files use
+abbrev pub blocks_of : List CatalogFile → List ℕ
+blocks_of files = flat_map (λ f. present f.places) files
+
+-- what is true of each file in a store of so many blocks
+pub record IsCatalogFile (blocks : ℕ) (f : CatalogFile) : Type 0 where
+  pub generation : 1 ≤ f.key.igen
+  pub name : is_name f.name ≡ true
+  pub size : f.size ≤ 16777216
+  pub places : length f.places ≡ blocks_in f.size
+  pub within : AllByRecursion (λ b. b < blocks) (present f.places)
+
+-- What is true of each catalog: inodes ascend and are within the geometry's, names differ, each generation is below the next one, and no
+-- block of the disk is used twice.
+pub record IsCatalog (c : Catalog) : Type 0 where
+  pub known : c.geometry ≤ 1
+  pub first : 1 ≤ c.next
+  pub next : c.next ≤ 2 ^ 62
+  pub table : IsTable (geometry_of c.geometry).files c.next (names_of c.files)
+  pub each : AllByRecursion (IsCatalogFile (geometry_of c.geometry).blocks) c.files
+  pub distinct : Distinct (blocks_of c.files)

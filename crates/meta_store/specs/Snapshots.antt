@@ -1,0 +1,89 @@
+-- The bytes of a snapshot.
+use Rattle.std.specs.Prelude.{◌≡◌, ℕ, ◌+◌, ◌<◌, ◌≤◌, ◌^◌, List, [], ◌∷◌, ◌++◌, length, map, Option, Some, None}
+use Rattle.std.specs.List.{flat_map, AllByRecursion}
+use Rattle.byteorder.specs.Endian.{big_bytes}
+use Rattle.hsm_types.specs.declared.keys.FileKey.{FileKey}
+use Rattle.meta_store.specs.declared.snapshot.Mapping.{Mapping}
+use Rattle.meta_store.specs.declared.snapshot.RawFile.{RawFile}
+use Rattle.meta_store.specs.declared.snapshot.RawSnapshot.{RawSnapshot}
+use Rattle.meta_store.specs.Catalogs.{CatalogFile, Catalog, IsCatalog}
+
+-- a file as a snapshot spells it
+pub record SnapshotFile : Type 0 where
+  pub key : FileKey
+  pub size : ℕ
+  pub name : List ℕ
+  pub extents : List Mapping
+
+-- a snapshot: the number of history entries before the commit, the next generation, and the files
+pub record Snapshot : Type 0 where
+  pub number : ℕ
+  pub next : ℕ
+  pub files : List SnapshotFile
+
+-- the snapshot that was read
+abbrev pub raw_file : RawFile → SnapshotFile
+raw_file f = record { key = f.key; size = f.size; name = f.name; extents = f.extents.items }
+
+abbrev pub raw_snapshot : RawSnapshot → Snapshot
+raw_snapshot s = record { number = s.number; next = s.next; files = map raw_file s.files.items }
+
+-- ---- its bytes, all numbers big-endian
+
+abbrev pub extent_bytes : Mapping → List ℕ
+extent_bytes e = big_bytes 4 e.block ++ big_bytes 4 e.place
+
+-- The counts of regions, of attributes and of stub entries are 0.
+unfoldable pub file_bytes : SnapshotFile → List ℕ
+file_bytes f =
+    big_bytes 8 f.key.ino ++ big_bytes 8 f.key.igen ++ big_bytes 8 f.size
+    ++ big_bytes 1 (length f.name) ++ f.name
+    ++ big_bytes 1 0
+    ++ big_bytes 4 0
+    ++ big_bytes 4 (length f.extents) ++ flat_map extent_bytes f.extents
+    ++ big_bytes 4 0
+
+-- The format is 1.
+unfoldable pub spelling : Snapshot → List ℕ
+spelling s = big_bytes 8 s.number ++ big_bytes 8 s.next ++ big_bytes 4 1 ++ big_bytes 4 (length s.files) ++ flat_map file_bytes s.files
+
+-- each number is one that its field can hold
+pub record FileFits (f : SnapshotFile) : Type 0 where
+  pub ino : f.key.ino < 2 ^ 64
+  pub igen : f.key.igen < 2 ^ 64
+  pub size : f.size < 2 ^ 64
+  pub name : length f.name < 2 ^ 8
+  pub extents : length f.extents < 2 ^ 32
+  pub each : AllByRecursion (λ e. (e.block < 2 ^ 32) × (e.place < 2 ^ 32)) f.extents
+
+pub record Fits (s : Snapshot) : Type 0 where
+  pub number : s.number < 2 ^ 64
+  pub next : s.next < 2 ^ 64
+  pub count : length s.files < 2 ^ 32
+  pub each : AllByRecursion FileFits s.files
+
+-- The snapshot is spelled at the front of the area. What is behind it isn't read.
+pub record IsSpelled (area : List ℕ) (s : Snapshot) : Type 0 where
+  pub fits : Fits s
+  pub rest : List ℕ
+  pub spelled : area ≡ spelling s ++ rest
+
+-- ---- the snapshot of a catalog
+
+-- the blocks from n on that the disk has
+abbrev pub extents_from : ℕ → List (Option ℕ) → List Mapping
+extents_from n [] = []
+extents_from n (None ∷ places) = extents_from (n + 1) places
+extents_from n (Some at ∷ places) = (record { block = n; place = at }) ∷ extents_from (n + 1) places
+
+abbrev pub snapshot_file : CatalogFile → SnapshotFile
+snapshot_file f = record { key = f.key; size = f.size; name = f.name; extents = extents_from 0 f.places }
+
+unfoldable pub snapshot_of : ℕ → Catalog → Snapshot
+snapshot_of number c = record { number = number; next = c.next; files = map snapshot_file c.files }
+
+-- the area holds a valid snapshot, of that number and that catalog
+pub record IsSnapshot (area : List ℕ) (n : ℕ) (c : Catalog) : Type 0 where
+  pub number : n ≤ 2 ^ 62
+  pub catalog : IsCatalog c
+  pub spelled : IsSpelled area (snapshot_of n c)

@@ -1,0 +1,72 @@
+-- What is judged of the files of a snapshot, one after the other.
+use Rattle.std.specs.Prelude.{◌≡◌, ℕ, ◌+◌, ◌<◌, List, [], ◌∷◌, ◌++◌, length, map, get_or, slice_set, Bool, true, false, not, ◌==◌, ◌&&◌, nat_lt, nat_le, is_some}
+use Rattle.std.specs.List.{flat_map, list_any}
+use Rattle.hsm_types.specs.Names.{is_name}
+use Rattle.hsm_types.specs.declared.stores.Geometry.{Geometry}
+use Rattle.plain_model.specs.Plain.{Listed, named}
+use Rattle.plain_model.specs.Blocks.{blocks_in}
+use Rattle.meta_store.specs.declared.snapshot.Mapping.{Mapping}
+use Rattle.meta_store.specs.Catalogs.{Catalog}
+use Rattle.meta_store.specs.Snapshots.{SnapshotFile, snapshot_file}
+
+abbrev pub listed_in : SnapshotFile → Listed
+listed_in f = record { key = f.key; name = f.name }
+
+-- the key and the name of each file
+abbrev pub names_in : List SnapshotFile → List Listed
+names_in files = map listed_in files
+
+abbrev pub places_of : List Mapping → List ℕ
+places_of extents = map (λ e. e.place) extents
+
+-- the disk's blocks that files use
+abbrev pub places_in : List SnapshotFile → List ℕ
+places_in files = flat_map (λ f. places_of f.extents) files
+
+-- the inode of the last file, and that number where there is no file
+abbrev pub last_inode : ℕ → List Listed → ℕ
+last_inode n [] = n
+last_inode n (l ∷ ls) = last_inode l.key.ino ls
+
+-- the extents ascend from that block on, each block is one of the file's, and each place is one of the disk's blocks
+abbrev pub are_extents : ℕ → ℕ → ℕ → List Mapping → Bool
+are_extents low count blocks [] = true
+are_extents low count blocks (e ∷ es) = nat_le low e.block && nat_lt e.block count && nat_lt e.place blocks && are_extents (e.block + 1) count blocks es
+
+-- what can be judged of a file by itself
+abbrev pub is_file : ℕ → ℕ → SnapshotFile → Bool
+is_file next blocks f = nat_le 1 f.key.igen && nat_lt f.key.igen next && nat_le f.size 16777216 && is_name f.name && are_extents 0 (blocks_in f.size) blocks f.extents
+
+-- none of these places is used yet, and none of them stands twice
+abbrev pub are_unused : List ℕ → List ℕ → Bool
+are_unused used [] = true
+are_unused used (p ∷ ps) = not (list_any (λ q. q == p) used) && are_unused (used ++ p ∷ []) ps
+
+-- the file can stand behind those by its inode and its name, and is one by itself
+abbrev pub can_follow : Geometry → ℕ → List SnapshotFile → SnapshotFile → Bool
+can_follow geometry next before f =
+    not (is_some (named f.name (names_in before))) && nat_lt (last_inode 0 (names_in before)) f.key.ino && nat_le f.key.ino geometry.files && is_file next geometry.blocks f
+
+-- the file can stand behind those
+abbrev pub is_next : Geometry → ℕ → List SnapshotFile → SnapshotFile → Bool
+is_next geometry next before f = can_follow geometry next before f && are_unused (places_in before) (places_of f.extents)
+
+-- ---- flags of the places in use
+
+-- no flag of these places is set, and none of them stands twice
+abbrev pub are_free : List ℕ → List Bool → Bool
+are_free [] flags = true
+are_free (p ∷ ps) flags = not (get_or flags p false) && are_free ps (slice_set flags p true)
+
+-- the flags of exactly these places are set
+abbrev pub Flags : List Bool → List ℕ → Type 0
+Flags flags places = (p : ℕ) → p < length flags → get_or flags p false ≡ list_any (λ q. q == p) places
+
+-- How far the walk over the files has come: the catalog, of that geometry and with that next generation, has these files, and a flag of each
+-- block of the disk says whether they use it.
+pub record HasTaken (kind later blocks : ℕ) (files : List SnapshotFile) (c : Catalog) (flags : List Bool) : Type 0 where
+  pub geometry : c.geometry ≡ kind
+  pub next : c.next ≡ later
+  pub taken : map snapshot_file c.files ≡ files
+  pub count : length flags ≡ blocks
+  pub flagged : Flags flags (places_in files)

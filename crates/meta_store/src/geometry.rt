@@ -1,0 +1,24 @@
+// How much a store can hold.
+
+ghost use Rattle.std.specs.Prelude.{◌≡◌};
+ghost use Rattle.meta_store.specs.Catalogs.{geometry_of};
+
+use hsm_types::Geometry;
+
+/// How much a store of geometry 0 can hold, which is small, or of any other, which is large.
+#[tactic(auto, unfolding(crate::specs::Catalogs::geometry_of))]
+pub fn geometry_of(geometry: u32) -> Geometry
+    ensures { result ≡ geometry_of geometry }
+{
+    if geometry == 0 {
+        Geometry {
+            files: 64,
+            blocks: 1_024,
+        }
+    } else {
+        Geometry {
+            files: 4_096,
+            blocks: 65_536,
+        }
+    }
+}

@@ -1,0 +1,31 @@
+//! What a store keeps of its files beside their bytes, in memory and in the snapshots of its disk.
+#![tactic(auto)]
+
+mod catalog;
+#[cfg(test)]
+mod catalog_tests;
+mod extents;
+mod fields;
+mod file_places;
+mod geometry;
+mod inode_places;
+mod opening;
+mod reading;
+mod refusal;
+mod snapshot;
+#[cfg(test)]
+mod snapshot_tests;
+mod spelling;
+mod store;
+#[cfg(test)]
+mod store_tests;
+mod validity;
+#[cfg(test)]
+mod validity_tests;
+mod writing;
+
+pub use catalog::Catalog;
+pub use geometry::geometry_of;
+pub use refusal::MetaRefusal;
+pub use snapshot::Mapping;
+pub use store::MetaStore;

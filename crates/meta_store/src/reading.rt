@@ -1,0 +1,85 @@
+// Reading a snapshot's bytes.
+ghost use Rattle.std.specs.Prelude.{◌≡◌, List, ℕ, map, IfOk, IsErrOf};
+ghost use Rattle.meta_store.specs.Snapshots.{Snapshot, IsSpelled, raw_file, raw_snapshot};
+ghost use Rattle.meta_store.specs.Reading.{Gives, several, counted, extent_at, file_at, snapshot_at};
+
+use crate::fields::{extent_at, key_at, name_at, nothing_at, only_u32_at, u32_at, u64_at};
+use crate::snapshot::{FORMAT, Mapping, RawFile, RawSnapshot, ReadRefusal};
+use std::alloc::Global;
+
+fn extents_of(alloc: Global, count: u32, bytes: &[u8]) -> Result<(Vec<Mapping>, &[u8]), ReadRefusal>
+    ensures { Gives (λ x. (x.0.items, x.1.now)) result (several extent_at count bytes.now) }
+{
+    let mut extents = Vec::new(alloc);
+    let mut rest = bytes;
+    for _ in 0..count {
+        let (extent, after) = extent_at(rest)?;
+        extents.push(extent)?;
+        rest = after;
+    }
+    Ok((extents, rest))
+}
+
+#[tactic(auto, unfolding(crate::specs::Reading::counted, crate::specs::Reading::both, crate::specs::Reading::made, crate::specs::Reading::file_at))]
+fn file_at(alloc: Global, bytes: &[u8]) -> Result<(RawFile, &[u8]), ReadRefusal>
+    ensures { Gives (λ x. (raw_file x.0, x.1.now)) result (file_at bytes.now) }
+{
+    let (key, rest) = key_at(bytes)?;
+    let (size, rest) = u64_at(rest)?;
+    let (name, rest) = name_at(alloc, rest)?;
+    let rest = nothing_at(rest)?;
+    let (count, rest) = u32_at(rest)?;
+    let (extents, rest) = extents_of(alloc, count, rest)?;
+    let rest = only_u32_at(rest, 0)?;
+    Ok((
+        RawFile {
+            key,
+            size,
+            name,
+            extents,
+        },
+        rest,
+    ))
+}
+
+fn files_of(alloc: Global, count: u32, bytes: &[u8]) -> Result<(Vec<RawFile>, &[u8]), ReadRefusal>
+    ensures { Gives (λ x. (map raw_file x.0.items, x.1.now)) result (several file_at count bytes.now) }
+{
+    let mut files = Vec::new(alloc);
+    let mut rest = bytes;
+    for _ in 0..count {
+        let (file, after) = file_at(alloc, rest)?;
+        files.push(file)?;
+        rest = after;
+    }
+    Ok((files, rest))
+}
+
+#[tactic(auto, unfolding(crate::specs::Reading::counted, crate::specs::Reading::both, crate::specs::Reading::made, crate::specs::Reading::snapshot_at))]
+fn snapshot_at(alloc: Global, area: &[u8]) -> Result<(RawSnapshot, &[u8]), ReadRefusal>
+    ensures { Gives (λ x. (raw_snapshot x.0, x.1.now)) result (snapshot_at area.now) }
+{
+    let (number, rest) = u64_at(area)?;
+    let (next, rest) = u64_at(rest)?;
+    let rest = only_u32_at(rest, FORMAT)?;
+    let (count, rest) = u32_at(rest)?;
+    let (files, rest) = files_of(alloc, count, rest)?;
+    Ok((
+        RawSnapshot {
+            number,
+            next,
+            files,
+        },
+        rest,
+    ))
+}
+
+/// What the front of the area spells. Memory is taken as the bytes come, never by a count that they say.
+pub(crate) fn read(alloc: Global, area: &[u8]) -> Result<RawSnapshot, ReadRefusal>
+    ensures found { IfOk result (λ s. IsSpelled area.now (raw_snapshot s)) }
+    ensures only { IfOk result (λ s. (t : Snapshot) → IsSpelled area.now t → raw_snapshot s ≡ t) }
+    ensures refused { IsErrOf result ReadRefusal.Corrupt → (s : Snapshot) → IsSpelled area.now s → ⊥ }
+{
+    let (snapshot, _) = snapshot_at(alloc, area)?;
+    Ok(snapshot)
+}

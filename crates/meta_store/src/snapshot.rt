@@ -1,0 +1,57 @@
+// A snapshot as its bytes say it, before its validity is judged.
+ghost use Rattle.std.specs.Prelude.{◌≡◌};
+ghost use Rattle.meta_store.specs.declared.snapshot.ReadRefusal.TheVariants.{Memory};
+
+use hsm_types::{FileKey, Word};
+use std::alloc::{AllocError, AllocFailed};
+
+/// The one format that there is.
+pub(crate) const FORMAT: u32 = 1;
+
+/// A block of a file, counted from 0 in the file, and the disk's block that has it, counted from 0 among the data blocks.
+#[derive(Clone, Copy, Debug, PartialEq, Eq)]
+pub struct Mapping {
+    pub block: u32,
+    pub place: u32,
+}
+
+/// A file as a snapshot spells it.
+#[derive(Debug, Drop)]
+pub(crate) struct RawFile {
+    pub(crate) key: FileKey,
+    pub(crate) size: u64,
+    pub(crate) name: Word,
+    pub(crate) extents: Vec<Mapping>,
+}
+
+/// A snapshot as it is spelled. It need not be valid.
+#[derive(Debug, Drop)]
+pub(crate) struct RawSnapshot {
+    pub(crate) number: u64,
+    pub(crate) next: u64,
+    pub(crate) files: Vec<RawFile>,
+}
+
+/// Why a snapshot couldn't be read.
+#[derive(Clone, Copy, Debug, PartialEq, Eq)]
+pub(crate) enum ReadRefusal {
+    /// The bytes are no snapshot.
+    Corrupt,
+    Memory,
+}
+
+impl From<AllocError> for ReadRefusal {
+    ghost from_gives = { λ _ e. e ≡ Memory };
+
+    fn from(_e: AllocError) -> ReadRefusal {
+        ReadRefusal::Memory
+    }
+}
+
+impl<T: Drop> From<AllocFailed<T>> for ReadRefusal {
+    ghost from_gives = { λ _ e. e ≡ Memory };
+
+    fn from(_e: AllocFailed<T>) -> ReadRefusal {
+        ReadRefusal::Memory
+    }
+}

@@ -1,0 +1,27 @@
+// The snapshot of a catalog.
+ghost use Rattle.std.specs.Prelude.{◌≡◌, ◌≤◌, ◌^◌, length, IfOk, OnOk};
+ghost use Rattle.commit_slots.specs.Places.{layout_of};
+ghost use Rattle.meta_store.specs.Catalogs.{IsCatalog};
+ghost use Rattle.meta_store.specs.Snapshots.{spelling, snapshot_of, Fits};
+
+use crate::catalog::Catalog;
+use crate::writing::{put_file, put_header};
+use std::alloc::{AllocError, Global};
+
+/// The bytes of a snapshot of the catalog, under that number.
+pub(crate) fn spell(alloc: Global, number: u64, catalog: &Catalog) -> Result<Vec<u8>, AllocError>
+    requires { number ≤ 2 ^ 62 }
+    ensures spelled { IfOk result (λ v. v.items ≡ spelling (snapshot_of number catalog.now)) }
+    ensures short { IfOk result (λ v. length v.items ≤ (layout_of catalog.now.geometry).snapshot_len) }
+    ensures lawful { OnOk result (IsCatalog catalog.now) }
+    ensures fits { OnOk result (Fits (snapshot_of number catalog.now)) }
+{
+    let count = catalog.len();
+    let mut out = Vec::new(alloc);
+    put_header(&mut out, number, catalog.next(), count)?;
+    for index in 0..count {
+        let (key, name, size, places) = catalog.file(index).unwrap();
+        put_file(&mut out, key, name, size, places)?;
+    }
+    Ok(out)
+}
