@@ -1,0 +1,206 @@
+-- The body of a file whose touched blocks are written to new places.
+use Rattle.std.proofs.Common.{◌≡◌, ◌⊎◌, inl, inr, ⊎_elim, ℕ, zero, suc, ◌+◌, ◌-◌, ◌*◌, ◌/◌, ◌%◌, max, ◌<◌, ◌≤◌, List, [], ◌∷◌, ◌++◌, length, map, get_or, take, drop, Option, Some, None, Bool, true, false, eqb, ltb, ◌&&◌, refl, sym, ◌∙◌, ap, subst, arith, length-append, length-take}
+use Rattle.std.specs.Prelude.{replicate, if◌then◌else◌}
+use Rattle.std.specs.List.{flat_map, AllByRecursion}
+use Rattle.std.proofs.lemmas.Bool.{cases_lt, cases_Bool, and_from, lt-ltb, eqb-true}
+use Rattle.std.proofs.lemmas.List.{get_or-take, get_or-drop, get_or_append_left, get_or-append_right, get_or-replicate, get_or_past, length-replicate}
+use Rattle.disk_model.specs.Images.{part}
+use Rattle.hsm_types.specs.declared.calls.Call.TheVariants.{Write, Truncate}
+use Rattle.plain_model.specs.Plain.{written, resized}
+use Rattle.plain_model.specs.Blocks.{from_on, blocks_in, met, old_end, touched}
+use Rattle.file_body.proofs.Sizes.{length-written, length-resized}
+use Rattle.meta_store.specs.declared.snapshot.Mapping.{Mapping}
+use Rattle.meta_store.specs.Catalogs.{present}
+use Rattle.meta_store.specs.Changes.{places_fitted, places_set}
+use Rattle.meta_store.proofs.MappedPlaces.{length-fitted, length-places_set}
+use Rattle.file_store.specs.Bodies.{block_of, block_at, body_at}
+use Rattle.file_store.proofs.ByBlocks.{same_body, byte-blocks, length-block, byte-block, at_place, after_set, get_or-fitted}
+
+-- an empty file
+pub fresh : (blocks : List ℕ) → body_at blocks 0 [] ≡ []
+unfolding body_at
+fresh blocks = refl
+
+-- ---- blocks that aren't touched
+
+-- none of these blocks is q
+abbrev Others : ℕ → List ℕ → Type 0
+Others q blocks = AllByRecursion (λ b. b ≡ q → ⊥) blocks
+
+others_back : (q : ℕ) (xs ys : List ℕ) → Others q (xs ++ ys) → Others q xs × Others q ys
+others_back q [] ys all = (tt, all)
+others_back q (x ∷ xs) ys all = let rest = others_back q xs ys all.1 in ((all.0, rest.0), rest.1)
+
+others_run : (q a n : ℕ) → Others q (from_on a n) → (q < a) ⊎ (a + n ≤ q)
+others_run q a zero all = ⊎_elim (λ (l : q < a). inl l) (λ (g : a ≤ q). inr (omega arith)) (cases_lt q a)
+others_run q a (suc n) all =
+    let differ : a ≡ q → ⊥ = all.0 in
+    ⊎_elim (λ (l : q < a + 1). inl (omega arith)) (λ (g : a + 1 + n ≤ q). inr (omega arith)) (others_run q (a + 1) n all.1)
+
+others_end : (q size : ℕ) → Others q (old_end size) → (q < size / 4096) ⊎ (blocks_in size ≤ q)
+others_end q size all =
+    ⊎_elim
+    (λ (e : eqb (size % 4096) 0 ≡ true).
+    let none : size % 4096 ≡ 0 = eqb-true (size % 4096) 0 e in
+    ⊎_elim (λ (l : q < size / 4096). inl l) (λ (g : size / 4096 ≤ q). inr (omega arith)) (cases_lt q (size / 4096)))
+    (λ (e : eqb (size % 4096) 0 ≡ false).
+    let differ : size / 4096 ≡ q → ⊥ = (subst (λ (t : Bool). Others q (if t then [] else (size / 4096) ∷ [])) e all).0 in
+    ⊎_elim (λ (l : q < size / 4096). inl l) (λ (g : size / 4096 ≤ q). inr (omega arith)) (cases_lt q (size / 4096)))
+    (cases_Bool (eqb (size % 4096) 0))
+
+-- of either list
+others_if : (q : ℕ) (t : Bool) (xs ys : List ℕ) → Others q (if t then xs ++ ys else ys) → Others q ys
+others_if q true xs ys all = (others_back q xs ys all).1
+others_if q false xs ys all = all
+
+-- ---- the new body from the old blocks and the new ones
+
+module _ (old new : List ℕ) (size to : ℕ) (places : List (Option ℕ)) (body after : List ℕ) (ms : List Mapping)
+    (count : length places ≡ blocks_in size)
+    (was : body_at old size places ≡ body)
+    (long : length body ≡ size)
+    (whole : AllByRecursion (λ p. length (part old (4096 * p) 4096) ≡ 4096) (present places))
+    (long_after : length after ≡ to)
+    (there : AllByRecursion (λ m. part new (4096 * m.place) 4096 ≡ block_of after m.block) ms)
+    (same : AllByRecursion (λ p. part new (4096 * p) 4096 ≡ part old (4096 * p) 4096) (present places)) where
+  full : (q : ℕ) → length (block_at old (get_or places q None)) ≡ 4096
+  full q = at_place (λ p. length (part old (4096 * p) 4096) ≡ 4096) (λ p. length (block_at old p) ≡ 4096) (length-replicate {A = ℕ} 4096 0) (λ p h. h) places q whole
+
+  kept : (q : ℕ) → block_at new (get_or places q None) ≡ block_at old (get_or places q None)
+  kept q = at_place (λ p. part new (4096 * p) 4096 ≡ part old (4096 * p) 4096) (λ p. block_at new p ≡ block_at old p) refl (λ p h. h) places q same
+
+  byte_was : (q r : ℕ) → r < 4096 → 4096 * q + r < size → get_or (block_at old (get_or places q None)) r 0 ≡ get_or body (4096 * q + r) 0
+  unfolding body_at
+  byte_was q r l h =
+      sym (byte-blocks (block_at old) places (λ i g. full i) q r (omega arith) l)
+      ∙ sym (get_or-take size (flat_map (block_at old) places) (4096 * q + r) 0 h)
+      ∙ ap (λ b. get_or b (4096 * q + r) 0) was
+
+  -- a block that lies there is the new body's block q, as far as that goes
+  abbrev Lies : ℕ → Option ℕ → Type 0
+  Lies q p = (length (block_at new p) ≡ 4096) × ((r : ℕ) → r < 4096 → 4096 * q + r < to → get_or (block_at new p) r 0 ≡ get_or after (4096 * q + r) 0)
+
+  written_there : (m : Mapping) → part new (4096 * m.place) 4096 ≡ block_of after m.block → (q : ℕ) → m.block ≡ q → Lies q (Some m.place)
+  unfolding block_of
+  written_there m e q is = (
+    ap length e ∙ length-block 4096 (drop (4096 * m.block) after),
+    λ r l h. ap (λ b. get_or b r 0) e ∙ byte-block 4096 (4096 * m.block) r after l ∙ ap (λ i. get_or after (4096 * i + r) 0) is,
+  )
+
+  each_there : (q : ℕ) (ns : List Mapping) → AllByRecursion (λ m. part new (4096 * m.place) 4096 ≡ block_of after m.block) ns → AllByRecursion (λ m. m.block ≡ q → Lies q (Some m.place)) ns
+  each_there q [] all = tt
+  each_there q (m ∷ ns) all = (written_there m all.0 q, each_there q ns all.1)
+
+  module _ (untouched : (q r : ℕ) → r < 4096 → 4096 * q + r < to → Others q (map (λ m. m.block) ms)
+      → (get_or after (4096 * q + r) 0 ≡ get_or body (4096 * q + r) 0) × ((4096 * q + r < size) ⊎ (blocks_in size ≤ q))) where
+    byte_stays : (q r : ℕ) → r < 4096 → 4096 * q + r < to → Others q (map (λ m. m.block) ms) → get_or (block_at old (get_or places q None)) r 0 ≡ get_or after (4096 * q + r) 0
+    byte_stays q r l h others =
+        let u = untouched q r l h others in
+        ⊎_elim
+        (λ (low : 4096 * q + r < size). byte_was q r l low ∙ sym u.0)
+        (λ (past : blocks_in size ≤ q).
+        let hole : get_or places q None ≡ None = get_or_past places q None (omega arith) in
+        let zeros : get_or body (4096 * q + r) 0 ≡ 0 = get_or_past body (4096 * q + r) 0 (omega arith) in
+        ap (λ p. get_or (block_at old p) r 0) hole ∙ get_or-replicate 4096 r 0 0 l ∙ sym zeros ∙ sym u.0)
+        u.1
+
+    lies : (q : ℕ) → q < blocks_in to → Lies q (get_or (places_set ms (places_fitted to places)) q None)
+    lies q h =
+        let low : q < length (places_fitted to places) = omega (arith, length-fitted to places) in
+        after_set (Lies q) q ms (places_fitted to places) low (each_there q ms there) (λ others.
+        subst (Lies q) (sym (get_or-fitted to q places h)) (ap length (kept q) ∙ full q, λ r l g. ap (λ b. get_or b r 0) (kept q) ∙ byte_stays q r l g others))
+
+    rewritten : body_at new to (places_set ms (places_fitted to places)) ≡ after
+    unfolding body_at
+    rewritten =
+        let count_after : length (places_set ms (places_fitted to places)) ≡ blocks_in to = length-places_set ms (places_fitted to places) ∙ length-fitted to places in
+        same_body (block_at new) (places_set ms (places_fitted to places)) to after count_after long_after (λ q h. (lies q (omega arith)).0) (λ q r h. (lies q (omega arith)).1 r)
+
+-- ---- bytes of the new body
+
+byte-resized : (to k : ℕ) (body : List ℕ) → k < to → get_or (resized to body) k 0 ≡ get_or body k 0
+byte-resized to k body h =
+    let front = length-take to body in
+    ⊎_elim
+    (λ (l : k < length body). get_or_append_left (take to body) (replicate (to - length body) 0) 0 k (omega arith) ∙ get_or-take to body k 0 h)
+    (λ (g : length body ≤ k).
+    get_or-append_right (take to body) (replicate (to - length body) 0) (length body) k 0 (omega arith) g
+    ∙ get_or-replicate (to - length body) (k - length body) 0 0 (omega arith)
+    ∙ sym (get_or_past body k 0 g))
+    (cases_lt k (length body))
+
+byte-written : (offset k : ℕ) (bytes body : List ℕ) → (k < offset) ⊎ (offset + length bytes ≤ k) → get_or (written offset bytes body) k 0 ≡ get_or body k 0
+byte-written offset k bytes body beside =
+    let front : length (resized offset body) ≡ offset = length-resized [] offset body in
+    let before : length (resized offset body ++ bytes) ≡ offset + length bytes = omega (arith, length-append (resized offset body) bytes) in
+    ⊎_elim
+    (λ (l : k < offset).
+    get_or_append_left (resized offset body ++ bytes) (drop (offset + length bytes) body) 0 k (omega arith)
+    ∙ get_or_append_left (resized offset body) bytes 0 k (omega arith)
+    ∙ byte-resized offset k body l)
+    (λ (g : offset + length bytes ≤ k).
+    let on : offset + length bytes + (k - (offset + length bytes)) ≡ k = omega arith in
+    get_or-append_right (resized offset body ++ bytes) (drop (offset + length bytes) body) (offset + length bytes) k 0 before g
+    ∙ get_or-drop (offset + length bytes) body (k - (offset + length bytes)) 0
+    ∙ ap (λ i. get_or body i 0) on)
+    beside
+
+-- ---- the two changes
+
+beside_written : (size offset : ℕ) (name bytes : List ℕ) (q : ℕ) → Others q (touched size (Write name offset bytes)) → (q < offset / 4096) ⊎ (blocks_in (offset + length bytes) ≤ q)
+beside_written size offset name bytes q others =
+    let to : ℕ = offset + length bytes in
+    let run = others_if q (ltb size to && ltb (size / 4096) (offset / 4096)) (old_end size) (met offset to) others in
+    ⊎_elim (λ (l : q < offset / 4096). inl l) (λ (g : offset / 4096 + (blocks_in to - offset / 4096) ≤ q). inr (omega arith)) (others_run q (offset / 4096) (blocks_in to - offset / 4096) run)
+
+behind_end : (size offset : ℕ) (name bytes : List ℕ) (q : ℕ) → size < offset + length bytes → size / 4096 < offset / 4096 → Others q (touched size (Write name offset bytes)) → (q < size / 4096) ⊎ (blocks_in size ≤ q)
+behind_end size offset name bytes q grows far others =
+    let to : ℕ = offset + length bytes in
+    let both : (ltb size to && ltb (size / 4096) (offset / 4096)) ≡ true = and_from (ltb size to) (ltb (size / 4096) (offset / 4096)) (lt-ltb size to grows) (lt-ltb (size / 4096) (offset / 4096) far) in
+    others_end q size (others_back q (old_end size) (met offset to) (subst (λ (t : Bool). Others q (if t then old_end size ++ met offset to else met offset to)) both others)).0
+
+pub written_at : (name : List ℕ) (old new : List ℕ) (size : ℕ) (places : List (Option ℕ)) (body : List ℕ) (offset : ℕ) (bytes : List ℕ) (ms : List Mapping)
+    → length places ≡ blocks_in size
+    → body_at old size places ≡ body
+    → length body ≡ size
+    → AllByRecursion (λ p. length (part old (4096 * p) 4096) ≡ 4096) (present places)
+    → 1 ≤ length bytes
+    → map (λ m. m.block) ms ≡ touched size (Write name offset bytes)
+    → AllByRecursion (λ m. part new (4096 * m.place) 4096 ≡ block_of (written offset bytes body) m.block) ms
+    → AllByRecursion (λ p. part new (4096 * p) 4096 ≡ part old (4096 * p) 4096) (present places)
+    → body_at new (max size (offset + length bytes)) (places_set ms (places_fitted (max size (offset + length bytes)) places)) ≡ written offset bytes body
+written_at name old new size places body offset bytes ms count was long whole some blocks there same =
+    let to : ℕ = max size (offset + length bytes) in
+    let long_after : length (written offset bytes body) ≡ max (length body) (offset + length bytes) = length-written name offset bytes body in
+    rewritten old new size to places body (written offset bytes body) ms count was long whole (omega arith) there same (λ q r l h all.
+    let others = subst (Others q) blocks all in
+    let beside = beside_written size offset name bytes q others in (
+      byte-written offset (4096 * q + r) bytes body (⊎_elim (λ (low : q < offset / 4096). inl (omega arith)) (λ (g : blocks_in (offset + length bytes) ≤ q). inr (omega arith)) beside),
+      ⊎_elim
+          (λ (low : 4096 * q + r < size). inl low)
+          (λ (past : size ≤ 4096 * q + r).
+          let before : q < offset / 4096 = ⊎_elim (λ (low : q < offset / 4096). low) (λ (g : blocks_in (offset + length bytes) ≤ q). absurd (omega arith)) beside in
+          ⊎_elim (λ (low : q < size / 4096). absurd (omega arith)) (λ (g : blocks_in size ≤ q). inr g) (behind_end size offset name bytes q (omega arith) (omega arith) others))
+          (cases_lt (4096 * q + r) size),
+    ))
+
+pub truncated_at : (name : List ℕ) (old new : List ℕ) (size : ℕ) (places : List (Option ℕ)) (body : List ℕ) (to : ℕ) (ms : List Mapping)
+    → length places ≡ blocks_in size
+    → body_at old size places ≡ body
+    → length body ≡ size
+    → AllByRecursion (λ p. length (part old (4096 * p) 4096) ≡ 4096) (present places)
+    → map (λ m. m.block) ms ≡ touched size (Truncate name to)
+    → AllByRecursion (λ m. part new (4096 * m.place) 4096 ≡ block_of (resized to body) m.block) ms
+    → AllByRecursion (λ p. part new (4096 * p) 4096 ≡ part old (4096 * p) 4096) (present places)
+    → body_at new to (places_set ms (places_fitted to places)) ≡ resized to body
+truncated_at name old new size places body to ms count was long whole blocks there same =
+    rewritten old new size to places body (resized to body) ms count was long whole (length-resized name to body) there same (λ q r l h all. (
+      byte-resized to (4096 * q + r) body h,
+      ⊎_elim
+          (λ (low : 4096 * q + r < size). inl low)
+          (λ (past : size ≤ 4096 * q + r).
+          let grows : ltb size to ≡ true = lt-ltb size to (omega arith) in
+          let others = subst (λ (t : Bool). Others q (if t then old_end size else [])) grows (subst (Others q) blocks all) in
+          ⊎_elim (λ (low : q < size / 4096). absurd (omega arith)) (λ (g : blocks_in size ≤ q). inr g) (others_end q size others))
+          (cases_lt (4096 * q + r) size),
+    ))

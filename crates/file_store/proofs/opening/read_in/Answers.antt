@@ -1,0 +1,15 @@
+use Rattle.std.proofs.Common.{ap}
+use Rattle.std.specs.Prelude.{Err}
+use Rattle.disk_model.specs.declared.refusal.OpenRefusal.{OpenRefusal}
+use Rattle.meta_store.proofs.OpenedImages.{err_is}
+use Rattle.file_store.proofs.FewerMore.{backs_same}
+use Rattle.file_store.proofs.opening.read_in.Goals as goal
+
+pub returns-in-Err-clause-not_store : goal.returns-in-Err-clause-not_store
+returns-in-Err-clause-not_store g c = λ is. c.in-Err.ensures.not_store (ap (λ (e : OpenRefusal). Err e) (err_is _ _ is))
+
+pub returns-in-Err-clause-corrupt : goal.returns-in-Err-clause-corrupt
+returns-in-Err-clause-corrupt g c = λ place is. c.in-Err.ensures.corrupt place (ap (λ (e : OpenRefusal). Err e) (err_is _ _ is))
+
+pub returns-clause-backs : goal.returns-clause-backs
+returns-clause-backs g c = rw c.new.ensures.meta (backs_same g.D.Disk _ _ c.in-Ok.meta c.load_bodies.ensures.keeps c.in-Ok.ensures.backs)

@@ -1,0 +1,20 @@
+use Rattle.std.proofs.Common.{◌≡◌, ℕ, ◌+◌, ◌++◌, List, Some, drop, sym, arith, append_assoc}
+use Rattle.std.specs.List.{slice_get}
+use Rattle.std.proofs.lemmas.List.{drop_more}
+use Rattle.std.proofs.lemmas.Option.{slice_get_within, get_or_from_slice_get}
+use Rattle.meta_store.specs.Catalogs.{CatalogFile, present, blocks_of}
+use Rattle.meta_store.proofs.WrittenFiles.{some-at}
+use Rattle.file_store.proofs.spaces.used_blocks.Goals as goal
+
+-- the places of one file more
+one_more : (files : List CatalogFile) (i : ℕ) (f : CatalogFile) (old new whole : List ℕ) → slice_get files i ≡ Some f → new ≡ old ++ present f.places → old ++ blocks_of (drop i files) ≡ whole → new ++ blocks_of (drop (i + 1) files) ≡ whole
+one_more files i f old new whole at added so_far =
+    let next = drop_more files i f (slice_get_within files i f at) in
+    let it = get_or_from_slice_get files i f f at in
+    rw (added, append_assoc) (rw (next, it) at so_far)
+
+pub unwrap-requires : goal.unwrap-requires
+unwrap-requires c = some-at _ _ c.args.catalog.now.files c.loop-index.index c.file.ensures (omega (arith, c.len-index-end.ensures.len))
+
+pub loop-index-preserved : goal.loop-index-preserved
+loop-index-preserved c = one_more c.args.catalog.now.files c.loop-index.index _ _ _ _ (sym (rw c.unwrap.ensures at c.file.ensures)) c.in_ok-put_present.ensures c.loop-index.invariant

@@ -1,0 +1,36 @@
+-- The bytes of files by blocks of 4,096 bytes.
+use Rattle.std.specs.Prelude.{◌≡◌, ℕ, ◌*◌, ◌-◌, List, length, map, get_or, take, replicate, [], Option, Some, None, is_some}
+use Rattle.std.specs.List.{flat_map, AllByRecursion}
+use Rattle.disk_model.specs.Images.{part}
+use Rattle.plain_model.specs.State.{FileState, Held}
+use Rattle.meta_store.specs.Catalogs.{CatalogFile, Catalog}
+unfoldable pub use Rattle.file_body.specs.BodyBlocks.{block_of}
+
+-- a block of a file among the data blocks; a hole is zeros
+abbrev pub block_at : List ℕ → Option ℕ → List ℕ
+block_at blocks None = replicate 4096 0
+block_at blocks (Some place) = part blocks (4096 * place) 4096
+
+-- the body of that size whose blocks lie there
+unfoldable pub body_at : List ℕ → ℕ → List (Option ℕ) → List ℕ
+body_at blocks size places = take size (flat_map (block_at blocks) places)
+
+-- ---- what a catalog's files hold
+
+-- with these data blocks
+abbrev pub file_at : List ℕ → CatalogFile → FileState
+file_at blocks f = record { key = f.key; name = f.name; body = body_at blocks f.size f.places; mapped = map is_some f.places }
+
+unfoldable pub held_at : List ℕ → Catalog → Held
+held_at blocks c = record { files = map (file_at blocks) c.files; next = c.next }
+
+-- with these bodies in memory, that of inode i at i - 1
+abbrev pub file_with : List (List ℕ) → CatalogFile → FileState
+file_with bodies f = record { key = f.key; name = f.name; body = get_or bodies (f.key.ino - 1) []; mapped = map is_some f.places }
+
+unfoldable pub held_with : List (List ℕ) → Catalog → Held
+held_with bodies c = record { files = map (file_with bodies) c.files; next = c.next }
+
+-- each body has its file's size
+abbrev pub AreBodies : List (List ℕ) → List CatalogFile → Type 0
+AreBodies bodies files = AllByRecursion (λ f. length (get_or bodies (f.key.ino - 1) []) ≡ f.size) files

@@ -1,0 +1,4 @@
+pub mod Bodies
+pub mod HeldFiles
+pub mod Steps
+pub mod Stores

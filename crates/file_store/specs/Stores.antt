@@ -1,0 +1,86 @@
+-- A store of files on a disk, and what recovery finds on an image.
+use Rattle.std.specs.Prelude.{◌≡◌, ◌⊎◌, ℕ, ◌<◌, ◌==◌, Bool, true, false, List, map, replicate}
+use Rattle.std.specs.List.{list_any, AllByRecursion}
+use Rattle.disk_model.specs.Moments.{MayBe, LeavesOnly}
+use Rattle.disk_model.specs.declared.device.Disk as disk
+use Rattle.plain_model.specs.State.{Held}
+use Rattle.plain_model.specs.Distinct.{Distinct}
+use Rattle.block_space.specs.Space.{Space, marked}
+use Rattle.meta_store.specs.declared.snapshot.Mapping.{Mapping}
+use Rattle.meta_store.specs.Catalogs.{Catalog, geometry_of, blocks_of}
+use Rattle.meta_store.specs.Images.{IsImage, blocks_in_image}
+use Rattle.meta_store.specs.Meta.{Meta, IsMeta, Backs}
+use Rattle.file_store.specs.Bodies.{held_at}
+use Rattle.file_store.specs.Steps.{places_of}
+
+-- Recovery finds this under that number: the catalog of the image, with the bytes of its data blocks.
+pub record IsRecovered (geometry fsid n : ℕ) (h : Held) (image : List ℕ) : Type 0 where
+  pub catalog : Catalog
+  pub same : catalog.geometry ≡ geometry
+  pub is : IsImage fsid n catalog image
+  pub holds : held_at (blocks_in_image geometry image) catalog ≡ h
+
+pub record Store (D : Type 0) : Type 0 where
+  pub disk : D
+  -- the names, sizes and block places: as they are, and as they were made durable
+  pub meta : Meta
+  -- what it holds, and what was made durable
+  pub held : Held
+  pub durable : Held
+  -- which blocks were free when it was made durable, and whether blocks were taken or freed since
+  pub space : Space
+  pub pending : Bool
+  -- a call of the disk has failed
+  pub failed : Bool
+
+-- recovery finds what was made durable last
+abbrev pub IsDurable : {D : Type 0} → Store D → List ℕ → Type 0
+IsDurable s image = IsRecovered s.meta.durable.geometry s.meta.fsid s.meta.number s.durable image
+
+-- or what is held, under that number
+abbrev pub IsEither : {D : Type 0} → Store D → ℕ → List ℕ → Type 0
+IsEither s n image = IsDurable s image ⊎ IsRecovered s.meta.durable.geometry s.meta.fsid n s.held image
+
+-- What every call does to the disk, after a failure too: at each moment in it, and after it, a crash leaves what was durable before, or what
+-- was held before under that number.
+pub record Proceeds {D : Type 0} (g : disk.Ghosts D) (old : Store D) (n : ℕ) (new : Store D) : Type 0 where
+  pub geometry : new.meta.durable.geometry ≡ old.meta.durable.geometry
+  pub fsid : new.meta.fsid ≡ old.meta.fsid
+  pub moments : LeavesOnly g old.disk new.disk (IsEither old n)
+  pub now : (c : List ℕ) → MayBe g new.disk c → IsEither old n c
+  pub durable : (new.meta.number ≡ old.meta.number) × (new.durable ≡ old.durable) ⊎ (new.meta.number ≡ n) × (new.durable ≡ old.held)
+
+-- ---- what is true of each store
+
+-- the marks of the blocks that a catalog uses
+abbrev pub marks_of : Catalog → List Bool
+marks_of c = marked (blocks_of c.files) (replicate (geometry_of c.geometry).blocks false)
+
+-- The files as they are use the blocks that were made durable, and all others are free.
+pub record IsSettled {D : Type 0} (s : Store D) : Type 0 where
+  pub space : s.space ≡ record { current = marks_of s.meta.current; durable = marks_of s.meta.current }
+  pub durable : blocks_of s.meta.durable.files ≡ blocks_of s.meta.current.files
+
+-- as long as no call has failed
+pub record IsLive {D : Type 0} (g : disk.Ghosts D) (s : Store D) : Type 0 where
+  pub backs : Backs g s.disk s.meta
+  -- what may be on the disk has the bytes that were made durable
+  pub stored : (c : List ℕ) → MayBe g s.disk c → held_at (blocks_in_image s.meta.durable.geometry c) s.meta.durable ≡ s.durable
+  -- what reads give has those that are held
+  pub current : (c : List ℕ) → g.gives s.disk c → held_at (blocks_in_image s.meta.durable.geometry c) s.meta.current ≡ s.held
+  pub settled : s.pending ≡ false → IsSettled s
+
+pub record IsSound {D : Type 0} (g : disk.Ghosts D) (s : Store D) : Type 0 where
+  pub meta : IsMeta s.meta
+  pub live : s.failed ≡ false → IsLive g s
+
+-- ---- blocks for a change
+
+-- Each of these blocks of a file gets a place that neither the files as they are nor those that are durable use.
+pub record IsClaim {D : Type 0} (s : Store D) (touched : List ℕ) (mappings : List Mapping) : Type 0 where
+  pub blocks : map (λ m. m.block) mappings ≡ touched
+  pub distinct : Distinct (places_of mappings)
+  pub within : AllByRecursion (λ m. m.place < (geometry_of s.meta.durable.geometry).blocks) mappings
+  pub unused : AllByRecursion (λ m. list_any (λ p. p == m.place) (blocks_of s.meta.current.files) ≡ false) mappings
+  pub durable : AllByRecursion (λ m. list_any (λ p. p == m.place) (blocks_of s.meta.durable.files) ≡ false) mappings
+  pub pending : s.pending ≡ true

@@ -1,0 +1,220 @@
+//! What a store holds.
+ghost use Rattle.std.specs.Prelude.{◌≡◌, ◌≢◌, ◌≤◌, ◌<◌, ◌+◌, ◌-◌, ◌^◌, ◌==◌, List, ℕ, [], map, max, length, true, false, None, IfOk, OnOk, OnErr, IsErrOf, IsSome};
+ghost use Rattle.std.specs.List.{AllByRecursion, list_any};
+ghost use Rattle.std.specs.Option.{option_map};
+ghost use Rattle.hsm_types.specs.Names.{is_name};
+ghost use Rattle.hsm_types.specs.declared.calls.Call.TheVariants.{Create, Write, Truncate};
+ghost use Rattle.plain_model.specs.Keyed.{find_key, change_key, drop_key};
+ghost use Rattle.plain_model.specs.Plain.{named, written, resized};
+ghost use Rattle.plain_model.specs.Blocks.{touched};
+ghost use Rattle.plain_model.specs.Distinct.{Distinct};
+ghost use Rattle.plain_model.specs.State.{names_of, bytes_of, next_key, used, rewritten, done_held};
+ghost use Rattle.disk_model.specs.Calls.{Rose};
+ghost use Rattle.disk_model.specs.Moments.{MayBe, Turns};
+ghost use Rattle.meta_store.specs.Catalogs.{blocks_of, geometry_of, IsCatalog};
+ghost use Rattle.meta_store.specs.Changes.{with_file, without_file, with_remapped};
+ghost use Rattle.meta_store.specs.Images.{RecoversSame, Recovers};
+ghost use Rattle.meta_store.specs.Meta.{Meta, IsMeta, Backs};
+ghost use Rattle.file_store.specs.Bodies.{held_with, AreBodies};
+
+use crate::remapping::remap;
+use crate::usage::used_blocks;
+use disk_model::Disk;
+use file_body::Body;
+use hsm_types::{FileKey, Word};
+use inode_table::TableRefusal;
+use meta_store::{Mapping, MetaRefusal, MetaStore};
+use std::alloc::{AllocError, Global};
+use std::marker::Model;
+
+/// What a store holds: the names, sizes and block places of its files, and their bodies in memory.
+#[derive(Drop)]
+pub(crate) struct Files {
+    meta: MetaStore,
+    /// Of inode i at i - 1.
+    bodies: Vec<Body>,
+}
+
+impl Model for Files {
+    ghost use Rattle.file_store.specs.HeldFiles.{HeldFiles, IsHeldFiles, files_with};
+
+    ghost Value = { HeldFiles };
+
+    ghost view = { λ f. files_with f.bodies.items f.meta };
+
+    ghost invariant = { λ f. IsHeldFiles f.bodies.items f.meta };
+}
+
+/// Where the body of a file with that key is.
+fn slot(key: FileKey) -> usize
+    requires { 1 ≤ key.ino }
+    ensures { result ≡ key.ino - 1 }
+{
+    (key.ino - 1) as usize
+}
+
+impl Files {
+    /// The bodies are those of the files, that of inode i at i - 1, with one for each inode.
+    pub(crate) fn new(meta: MetaStore, bodies: Vec<Body>) -> Files
+        requires lawful { IsCatalog meta.current }
+        requires sizes { AreBodies bodies.items meta.current.files }
+        requires count { length bodies.items ≡ (geometry_of meta.current.geometry).files }
+        ensures meta { result.meta ≡ meta }
+        ensures held { result.held ≡ held_with bodies.items meta.current }
+    {
+        Files { meta, bodies }
+    }
+
+    /// The names, sizes and block places.
+    pub(crate) fn meta(&self) -> &MetaStore
+        ensures meta { result.now ≡ self.now.meta }
+        ensures lawful { IsMeta self.now.meta }
+        ensures used { length (blocks_of self.now.meta.current.files) ≡ used self.now.held.files }
+        ensures next { self.now.held.next ≡ self.now.meta.current.next }
+    {
+        // Read for what it says of the type.
+        let _geometry = self.meta.geometry();
+        &self.meta
+    }
+
+    /// The bytes of a live file.
+    pub(crate) fn body(&self, key: FileKey) -> &Body
+        requires live { IsSome (find_key (λ f. f.key) key self.now.held.files) }
+        ensures { result.now ≡ bytes_of key self.now.held.files }
+    {
+        &self.bodies[slot(key)]
+    }
+
+    /// The key of the file with that name. It costs one look-up in a map.
+    pub(crate) fn find(&self, name: &Word) -> Option<FileKey>
+        ensures { result ≡ option_map (λ l. l.key) (named name.now (names_of self.now.held.files)) }
+    {
+        self.meta.names().find(name)
+    }
+
+    /// How many blocks are mapped. It walks the places of all files.
+    pub(crate) fn used(&self) -> u64
+        ensures { result ≡ used self.now.held.files }
+    {
+        used_blocks(self.meta.catalog())
+    }
+
+    /// How many files there are.
+    pub(crate) fn count(&self) -> u32
+        ensures { result ≡ length self.now.held.files }
+    {
+        self.meta.catalog().len()
+    }
+
+    /// Makes an empty file with the lowest free inode and the next generation. Only want of memory fails: nothing has changed then.
+    pub(crate) fn make(&mut self, alloc: Global, name: &Word) -> Result<FileKey, AllocError>
+        requires lawful { is_name name.now ≡ true }
+        requires free { named name.now (names_of self.old.held.files) ≡ None }
+        requires left { length self.old.held.files ≢ (geometry_of self.old.meta.current.geometry).files }
+        requires room { self.old.held.next < 2 ^ 62 }
+        ensures key { IfOk result (λ key. key ≡ next_key self.old.held) }
+        ensures held { OnOk result (self.new.held ≡ done_held self.old.held (Create name.now)) }
+        ensures meta { IfOk result (λ key. self.new.meta ≡ record self.old.meta { current = with_file key name.now self.old.meta.current }) }
+        ensures catalog { OnOk result (IsCatalog self.new.meta.current) }
+        ensures err { OnErr result (self.new ≡ self.old) }
+    {
+        match self.meta.make(alloc, name) {
+            Ok(key) => {
+                self.bodies[slot(key)] = Body::new(alloc);
+                Ok(key)
+            }
+            Err(TableRefusal::Memory) => Err(AllocError),
+            Err(TableRefusal::Exists) => unreachable!(),
+            Err(TableRefusal::NoInodes) => unreachable!(),
+        }
+    }
+
+    /// Drops a file, and gives the memory of its bytes back. Where the key isn't live, nothing changes. It takes no memory.
+    pub(crate) fn remove(&mut self, key: FileKey)
+        ensures { self.new ≡ record { meta = record self.old.meta { current = without_file key self.old.meta.current }; held = record self.old.held { files = drop_key (λ f. f.key) key self.old.held.files } } }
+    {
+        if self.meta.catalog().places(key).is_some() {
+            self.meta.drop_file(key);
+            self.bodies[slot(key)] = Body::new(*self.bodies.allocator());
+        }
+    }
+
+    /// Writes bytes into a live file, whose touched blocks get new places. All memory is taken before anything changes, and at an `Err` nothing
+    /// has. It costs the bytes, the mappings, and what the file grows by.
+    pub(crate) fn write(
+        &mut self,
+        alloc: Global,
+        key: FileKey,
+        offset: u64,
+        bytes: &[u8],
+        mappings: &[Mapping],
+    ) -> Result<(), AllocError>
+        requires live { IsSome (find_key (λ f. f.key) key self.old.held.files) }
+        requires end { offset + length bytes.now ≤ 16777216 }
+        requires touched { (name : List ℕ) → map (λ m. m.block) mappings.now ≡ touched (length (bytes_of key self.old.held.files)) (Write name offset bytes.now) }
+        requires places { AllByRecursion (λ m. m.place < (geometry_of self.old.meta.current.geometry).blocks) mappings.now }
+        requires unused { AllByRecursion (λ m. list_any (λ p. p == m.place) (blocks_of self.old.meta.current.files) ≡ false) mappings.now }
+        requires distinct { Distinct (map (λ m. m.place) mappings.now) }
+        ensures ok { OnOk result (self.new ≡ record {
+          meta = record self.old.meta { current = with_remapped key (max (length (bytes_of key self.old.held.files)) (offset + length bytes.now)) mappings.now self.old.meta.current };
+          held = record self.old.held { files = change_key (λ f. f.key) key (rewritten (written offset bytes.now) (Write [] offset bytes.now)) self.old.held.files };
+        }) }
+        ensures err { OnErr result (self.new ≡ self.old) }
+    {
+        let body = &mut self.bodies[slot(key)];
+        let size = body.len().max(offset + bytes.len() as u64);
+        remap(alloc, &mut self.meta, body, key, size, mappings)?;
+        body.write(alloc, offset, bytes)
+    }
+
+    /// Cuts a live file to that size, or lengthens it by zeros. Its touched blocks get new places. At an `Err` nothing has changed. It costs the
+    /// mappings, and what the file grows by.
+    pub(crate) fn truncate(
+        &mut self,
+        alloc: Global,
+        key: FileKey,
+        size: u64,
+        mappings: &[Mapping],
+    ) -> Result<(), AllocError>
+        requires live { IsSome (find_key (λ f. f.key) key self.old.held.files) }
+        requires size { size ≤ 16777216 }
+        requires touched { (name : List ℕ) → map (λ m. m.block) mappings.now ≡ touched (length (bytes_of key self.old.held.files)) (Truncate name size) }
+        requires places { AllByRecursion (λ m. m.place < (geometry_of self.old.meta.current.geometry).blocks) mappings.now }
+        requires unused { AllByRecursion (λ m. list_any (λ p. p == m.place) (blocks_of self.old.meta.current.files) ≡ false) mappings.now }
+        requires distinct { Distinct (map (λ m. m.place) mappings.now) }
+        ensures ok { OnOk result (self.new ≡ record {
+          meta = record self.old.meta { current = with_remapped key size mappings.now self.old.meta.current };
+          held = record self.old.held { files = change_key (λ f. f.key) key (rewritten (resized size) (Truncate [] size)) self.old.held.files };
+        }) }
+        ensures err { OnErr result (self.new ≡ self.old) }
+    {
+        let body = &mut self.bodies[slot(key)];
+        remap(alloc, &mut self.meta, body, key, size, mappings)?;
+        body.resize(alloc, size)
+    }
+
+    /// Makes the names, sizes and block places durable, under that number. The bodies stay as they are.
+    pub(crate) fn commit<D: Disk>(
+        &mut self,
+        alloc: Global,
+        disk: &mut D,
+        number: u64,
+    ) -> Result<(), MetaRefusal>
+        requires backs { Backs D.Disk disk.old self.old.meta }
+        requires number { number ≤ 2 ^ 62 }
+
+        // At each moment since, and after a failure too, recovery finds what was durable, or what is stored now.
+        ensures any_moment { Turns D.Disk disk.old disk.new (RecoversSame self.old.meta.durable.geometry) (Recovers self.old.meta.fsid number self.old.meta.current) }
+        ensures found { OnOk result ((c : List ℕ) → MayBe D.Disk disk.new c → (d : List ℕ) × D.gives disk.old d × Recovers self.old.meta.fsid number self.old.meta.current d c) }
+        ensures backs { OnOk result (Backs D.Disk disk.new self.new.meta) }
+        ensures ok { OnOk result ((self.new.meta.fsid ≡ self.old.meta.fsid) × (self.new.meta.number ≡ number) × (self.new.meta.durable ≡ self.old.meta.current) × (self.new.meta.current ≡ self.old.meta.current)) }
+        ensures held { self.new.held ≡ self.old.held }
+
+        // Why it wasn't done. Without memory nothing was begun.
+        ensures memory { IsErrOf result MetaRefusal.Memory → disk.new ≡ disk.old }
+        ensures err { OnErr result (self.new ≡ self.old) }
+        ensures failed { IsErrOf result MetaRefusal.Disk → Rose (D.fault_count disk.old) (D.fault_count disk.new) }
+    {
+        self.meta.commit(alloc, disk, number)
+    }
+}

@@ -1,0 +1,143 @@
+// Reading the bodies of a store that was just opened.
+ghost use Rattle.std.specs.Prelude.{◌≡◌, ◌+◌, ◌-◌, ◌*◌, ◌<◌, ◌≤◌, List, ℕ, [], length, take, replicate, IfOk, OnOk, IsErrOf};
+ghost use Rattle.std.specs.List.{AllByRecursion};
+ghost use Rattle.plain_model.specs.Plain.{written};
+ghost use Rattle.plain_model.specs.Blocks.{blocks_in};
+ghost use Rattle.disk_model.specs.Calls.{HasCause, Rose};
+ghost use Rattle.disk_model.specs.Images.{part, Alike};
+ghost use Rattle.disk_model.specs.Moments.{Keeps, Same};
+ghost use Rattle.commit_slots.specs.Places.{layout_of};
+ghost use Rattle.meta_store.specs.Catalogs.{geometry_of, present};
+ghost use Rattle.meta_store.specs.Images.{blocks_in_image};
+ghost use Rattle.file_store.specs.Bodies.{body_at, held_at, held_with, AreBodies};
+
+use crate::StoreRefusal;
+use commit_slots::Layout;
+use disk_model::{Disk, Failed, read_at};
+use file_body::Body;
+use hsm_types::{BLOCK_BYTES, FILE_BYTES, SMALL};
+use meta_store::Catalog;
+use std::alloc::{AllocError, Global};
+
+/// The bodies of all files, that of inode i at i - 1, and none where no file has the inode. It costs their mapped blocks.
+pub(crate) fn load_bodies<D: Disk>(
+    alloc: Global,
+    disk: &mut D,
+    catalog: &Catalog,
+) -> Result<Vec<Body>, StoreRefusal>
+    requires length { D.length_of disk.old ≡ (layout_of catalog.now.geometry).whole }
+    ensures keeps { Keeps D.Disk disk.old disk.new Same }
+    ensures given { Alike (D.gives disk.old) (D.gives disk.new) }
+    ensures count { IfOk result (λ bodies. length bodies.items ≡ (geometry_of catalog.now.geometry).files) }
+    // On a disk that doesn't tell, too.
+    ensures sizes { IfOk result (λ bodies. AreBodies bodies.items catalog.now.files) }
+    ensures loaded { IfOk result (λ bodies. (c : List ℕ) → D.gives disk.old c → held_with bodies.items catalog.now ≡ held_at (blocks_in_image catalog.now.geometry c) catalog.now) }
+    ensures failed { IsErrOf result StoreRefusal.Disk → Rose (D.fault_count disk.old) (D.fault_count disk.new) }
+{
+    let geometry = catalog.geometry();
+    let Ok(mut bodies) = empty(alloc, inodes(geometry)) else {
+        return Err(StoreRefusal::Memory);
+    };
+    for index in 0..catalog.len() {
+        let (key, _name, size, places) = catalog.file(index).unwrap();
+        bodies[(key.ino - 1) as usize] = load_body(alloc, disk, geometry, size, places)?;
+    }
+    Ok(bodies)
+}
+
+/// How many inodes a store of that geometry has.
+#[tactic(auto, unfolding(meta_store::specs::Catalogs::geometry_of))]
+fn inodes(geometry: u32) -> u32
+    ensures { result ≡ (geometry_of geometry).files }
+{
+    if geometry == 0 { SMALL.files } else { 4_096 }
+}
+
+/// So many bodies of no bytes.
+fn empty(alloc: Global, count: u32) -> Result<Vec<Body>, AllocError>
+    ensures { IfOk result (λ bodies. bodies.items ≡ replicate count []) }
+{
+    let mut bodies = Vec::with_capacity(alloc, count as usize)?;
+    for _ in 0..count {
+        bodies.push(Body::new(alloc))?;
+    }
+    Ok(bodies)
+}
+
+/// The body of that size whose blocks lie at these places. It costs the blocks that aren't holes.
+fn load_body<D: Disk>(
+    alloc: Global,
+    disk: &mut D,
+    geometry: u32,
+    size: u64,
+    places: &[Option<u32>],
+) -> Result<Body, StoreRefusal>
+    requires whole { D.length_of disk.old ≡ (layout_of geometry).whole }
+    requires size { size ≤ FILE_BYTES }
+    requires count { length places.now ≡ blocks_in size }
+    requires within { AllByRecursion (λ place. place < (geometry_of geometry).blocks) (present places.now) }
+    ensures keeps { Keeps D.Disk disk.old disk.new Same }
+    ensures given { Alike (D.gives disk.old) (D.gives disk.new) }
+    ensures size { IfOk result (λ body. length body ≡ size) }
+    ensures loaded { IfOk result (λ body. (c : List ℕ) → D.gives disk.old c → body ≡ body_at (blocks_in_image geometry c) size places.now) }
+    ensures failed { IsErrOf result StoreRefusal.Disk → Rose (D.fault_count disk.old) (D.fault_count disk.new) }
+{
+    let mut body = Body::new(alloc);
+    let Ok(()) = body.resize(alloc, size) else {
+        return Err(StoreRefusal::Memory);
+    };
+    let mut start = 0;
+    for place in places {
+        if let Some(place) = *place {
+            let Ok(()) = fill(alloc, disk, geometry, place, &mut body, start) else {
+                return Err(StoreRefusal::Disk);
+            };
+        }
+        start += BLOCK_BYTES;
+    }
+    Ok(body)
+}
+
+/// Reads a data block into the body, which may end in it.
+fn fill<D: Disk>(
+    alloc: Global,
+    disk: &mut D,
+    geometry: u32,
+    place: u32,
+    body: &mut Body,
+    start: u64,
+) -> Result<(), Failed>
+    requires whole { D.length_of disk.old ≡ (layout_of geometry).whole }
+    requires place { place < (geometry_of geometry).blocks }
+    requires start { start < length body.old }
+    ensures keeps { Keeps D.Disk disk.old disk.new Same }
+    ensures given { Alike (D.gives disk.old) (D.gives disk.new) }
+    ensures size { length body.new ≡ length body.old }
+    ensures filled { OnOk result ((c : List ℕ) → D.gives disk.old c → body.new ≡ written start (take (length body.old - start) (part (blocks_in_image geometry c) (4096 * place) 4096)) body.old) }
+    ensures cause { HasCause result (D.fault_count disk.old) (D.fault_count disk.new) }
+{
+    let mut block = [0; BLOCK_BYTES as usize];
+    load_block(disk, geometry, place, &mut block)?;
+    let count = BLOCK_BYTES.min(body.len() - start) as usize;
+    body.write(alloc, start, &block[..count]).unwrap();
+    Ok(())
+}
+
+/// Reads the data block at that place.
+fn load_block<D: Disk>(
+    disk: &mut D,
+    geometry: u32,
+    place: u32,
+    block: &mut [u8],
+) -> Result<(), Failed>
+    requires whole { D.length_of disk.old ≡ (layout_of geometry).whole }
+    requires place { place < (geometry_of geometry).blocks }
+    requires len { length block.old ≡ 4096 }
+    ensures keeps { Keeps D.Disk disk.old disk.new Same }
+    ensures given { Alike (D.gives disk.old) (D.gives disk.new) }
+    ensures bytes { OnOk result ((c : List ℕ) → D.gives disk.old c → block.new ≡ part (blocks_in_image geometry c) (4096 * place) 4096) }
+    ensures cause { HasCause result (D.fault_count disk.old) (D.fault_count disk.new) }
+{
+    let layout = Layout::of_geometry(geometry);
+    read_at(disk, layout.blocks + BLOCK_BYTES * place as u64, block)
+}

@@ -1,0 +1,41 @@
+//! The blocks that a catalog's files use of the disk.
+ghost use Rattle.std.specs.Prelude.{◌≡◌, ◌++◌, IfOk, OnOk};
+ghost use Rattle.meta_store.specs.Catalogs.{present, blocks_of};
+ghost use Rattle.file_store.specs.Stores.{marks_of};
+
+use block_space::BlockSpace;
+use meta_store::{Catalog, geometry_of};
+use std::alloc::{AllocError, Global};
+
+/// Puts the data blocks among a file's places behind the others.
+fn put_present(blocks: &mut Vec<u32>, places: &[Option<u32>]) -> Result<(), AllocError>
+    ensures { OnOk result (blocks.new.items ≡ blocks.old.items ++ present places.now) }
+{
+    for place in places {
+        if let Some(block) = *place {
+            blocks.push(block)?;
+        }
+    }
+    Ok(())
+}
+
+/// The data blocks that a catalog's files use. It costs a walk over all places.
+fn used_blocks(alloc: Global, catalog: &Catalog) -> Result<Vec<u32>, AllocError>
+    ensures { IfOk result (λ v. v.items ≡ blocks_of catalog.now.files) }
+{
+    let mut blocks = Vec::new(alloc);
+    for index in 0..catalog.len() {
+        let (_, _, _, places) = catalog.file(index).unwrap();
+        put_present(&mut blocks, places)?;
+    }
+    Ok(blocks)
+}
+
+/// The space in which just these blocks are used, by both maps. It costs a walk over all places and all blocks.
+pub(crate) fn space_of(alloc: Global, catalog: &Catalog) -> Result<BlockSpace, AllocError>
+    ensures { IfOk result (λ s. s ≡ record { current = marks_of catalog.now; durable = marks_of catalog.now }) }
+{
+    let total = geometry_of(catalog.geometry()).blocks;
+    let used = used_blocks(alloc, catalog)?;
+    BlockSpace::new(alloc, total, used.as_slice())
+}

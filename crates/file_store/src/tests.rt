@@ -1,0 +1,189 @@
+ghost use Rattle.std.specs.Prelude.{◌≡◌, true, false, IfOk, IfSome, IsSome};
+ghost use Rattle.hsm_types.specs.Names.{is_name};
+ghost use Rattle.plain_model.specs.Keyed.{find_key};
+
+use crate::{FileStore, StoreRefusal};
+use commit_slots::{CommitSlots, Layout};
+use disk_model::{Disk, FuseDisk, MemDisk, OpenRefusal, SureDisk};
+use file_body::touched_by_write;
+use hsm_types::{FILE_BYTES, FileKey, Word};
+use meta_store::geometry_of;
+use std::alloc::{AllocError, Global};
+use std::test::*;
+
+// Two blocks meet in them.
+const PLACE: u64 = 4_093;
+
+const OLD: &[u8] = b"bygone";
+
+const NEW: &[u8] = b"recent";
+
+// What a disk has of the file.
+#[derive(Clone, Copy, Debug, PartialEq, Eq)]
+enum Contents {
+    NoFile,
+    Old,
+    New,
+    Other,
+}
+
+fn name(alloc: Global) -> Result<Word, AllocError>
+    ensures { IfOk result (λ word. is_name word ≡ true) }
+{
+    Ok(Word::from(Vec::from_slice(alloc, b"a")?))
+}
+
+// A small store without files, whose id is 7.
+fn formatted(alloc: Global) -> Result<Vec<u8>, Fail> {
+    let bytes = vec![in alloc; 0u8; 4_857_856]?;
+    let mut disk = SureDisk::new(bytes);
+    if disk.len() == Layout::of_geometry(0).whole {
+        CommitSlots::format(&mut disk, 0, 7)?;
+    }
+    Ok(disk.into_bytes())
+}
+
+fn find<D: Disk>(alloc: Global, store: &FileStore<D>) -> Result<Option<FileKey>, AllocError>
+    ensures { IfOk result (λ found. IfSome found (λ key. IsSome (find_key (λ f. f.key) key store.now.held.files))) }
+{
+    Ok(store.files.find(&name(alloc)?))
+}
+
+fn make<D: Disk>(alloc: Global, store: &mut FileStore<D>) -> Result<(), Fail>
+    requires { store.old.failed ≡ false }
+    ensures { store.new.failed ≡ false }
+{
+    let name = name(alloc)?;
+    if store.files.find(&name).is_some()
+        || store.files.count() == geometry_of(store.meta().geometry()).files
+    {
+        return Err("there is a file".into());
+    }
+    store.make(alloc, &name, 1)?;
+    Ok(())
+}
+
+fn write<D: Disk>(
+    alloc: Global,
+    store: &mut FileStore<D>,
+    bytes: &[u8],
+) -> Result<Result<(), StoreRefusal>, Fail>
+    requires { store.old.failed ≡ false }
+    ensures { IfOk result (λ done. IfOk done (λ u. store.new.failed ≡ false)) }
+{
+    let len = bytes.len() as u64;
+    let Some(key) = find(alloc, store)? else {
+        return Err("there is no file".into());
+    };
+    if len == 0 || len > FILE_BYTES - PLACE {
+        return Err("the bytes don't fit".into());
+    }
+    let need = touched_by_write(store.body(key).len(), PLACE, len).count();
+    let blocks = u64::from(geometry_of(store.meta().geometry()).blocks);
+    if need > blocks || store.files.used() > blocks - need {
+        return Err("no blocks are free".into());
+    }
+    Ok(store.write(alloc, key, PLACE, bytes, 1))
+}
+
+fn found<D: Disk + Drop>(alloc: Global, disk: D) -> Result<Contents, Fail> {
+    let store = match FileStore::open(alloc, disk) {
+        Ok(store) => store,
+        Err((refusal, _)) => return Err(refusal.into()),
+    };
+    let Some(key) = find(alloc, &store)? else {
+        return Ok(Contents::NoFile);
+    };
+    let bytes = store.body(key).read(alloc, PLACE, FILE_BYTES)?;
+    if bytes.as_slice() == OLD {
+        Ok(Contents::Old)
+    } else if bytes.as_slice() == NEW {
+        Ok(Contents::New)
+    } else {
+        Ok(Contents::Other)
+    }
+}
+
+// Makes the file with the old bytes.
+fn with_file<D: Disk + Drop>(alloc: Global, disk: D, is_synced: bool) -> Result<D, Fail> {
+    let mut store = match FileStore::open(alloc, disk) {
+        Ok(store) => store,
+        Err((refusal, _)) => return Err(refusal.into()),
+    };
+    make(alloc, &mut store)?;
+    write(alloc, &mut store, OLD)??;
+    if is_synced {
+        store.sync(alloc, 2)?;
+    }
+    Ok(store.close())
+}
+
+// Writes the new bytes over the old ones, and hands the disk back after a failure too.
+fn rewrite<D: Disk + Drop>(
+    alloc: Global,
+    disk: D,
+    is_synced: bool,
+) -> Result<(Result<(), StoreRefusal>, D), Fail> {
+    let mut store = match FileStore::open(alloc, disk) {
+        Ok(store) => store,
+        Err((OpenRefusal::Disk, disk)) => return Ok((Err(StoreRefusal::Disk), disk)),
+        Err((refusal, _)) => return Err(refusal.into()),
+    };
+    let mut done = write(alloc, &mut store, NEW)?;
+    if is_synced && done.is_ok() {
+        done = store.sync(alloc, 3);
+    }
+    Ok((done, store.close()))
+}
+
+#[test]
+fn synced_bytes_are_found_again(rt: HostRuntime) -> Result<(), Fail> {
+    let alloc = rt.alloc();
+    let disk = MemDisk::new(alloc, &formatted(alloc)?, &[])?;
+    let disk = with_file(alloc, disk, true)?;
+    assert_eq!(rt; found(alloc, disk)?, Contents::Old);
+    Ok(())
+}
+
+#[test]
+fn a_file_that_is_not_synced_is_lost(rt: HostRuntime) -> Result<(), Fail> {
+    let alloc = rt.alloc();
+    let disk = MemDisk::new(alloc, &formatted(alloc)?, &[])?;
+    let disk = with_file(alloc, disk, false)?;
+    assert_eq!(rt; found(alloc, disk)?, Contents::NoFile);
+    Ok(())
+}
+
+#[test]
+fn a_write_leaves_synced_bytes_where_they_are(rt: HostRuntime) -> Result<(), Fail> {
+    let alloc = rt.alloc();
+    let first = with_file(alloc, SureDisk::new(formatted(alloc)?), true)?;
+    let disk = MemDisk::new(alloc, first.bytes(), &[])?;
+    let (done, disk) = rewrite(alloc, disk, false)?;
+    assert_eq!(rt; done, Ok(()));
+    for image in disk.crash_images()? {
+        assert_eq!(rt; found(alloc, SureDisk::new(image))?, Contents::Old);
+    }
+    Ok(())
+}
+
+#[test]
+fn a_fault_leaves_old_or_new_bytes(rt: HostRuntime) -> Result<(), Fail> {
+    let alloc = rt.alloc();
+    let first = with_file(alloc, SureDisk::new(formatted(alloc)?), true)?;
+    for calls in 0..15u64 {
+        let fuse = FuseDisk::new(MemDisk::new(alloc, first.bytes(), &[])?, calls);
+        let (done, fuse) = rewrite(alloc, fuse, true)?;
+        assert_eq!(rt;
+            done,
+            if calls == 14 {
+                Ok(())
+            } else {
+                Err(StoreRefusal::Disk)
+            }
+        );
+        let is = found(alloc, fuse.into_inner())?;
+        assert!(rt; is == Contents::New || is == Contents::Old && done.is_err());
+    }
+    Ok(())
+}
