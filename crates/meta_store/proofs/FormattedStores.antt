@@ -1,19 +1,17 @@
 -- A store that was just formatted has no files.
-use Rattle.std.proofs.Common.{◌≡◌, ℕ, ◌+◌, ◌-◌, ◌≤◌, false, List, [], ◌++◌, length, refl, sym, ◌∙◌, ap, subst, arith}
+use Rattle.std.proofs.Common.{◌≡◌, ℕ, ◌+◌, ◌-◌, ◌≤◌, false, List, ◌++◌, length, refl, sym, ◌∙◌, ap, subst, arith}
 use Rattle.disk_model.specs.Images.{part}
 use Rattle.disk_model.proofs.Parts.{part_split}
 use Rattle.commit_slots.specs.Places.{layout_of, snapshot_at}
 use Rattle.commit_slots.specs.Images.{empty_snapshot, IsEmptyStore}
 use Rattle.commit_slots.proofs.Laid.{laid}
-use Rattle.meta_store.specs.Catalogs.{Catalog, IsCatalog}
+use Rattle.meta_store.specs.Catalogs.{IsCatalog}
 use Rattle.meta_store.specs.Snapshots.{spelling, snapshot_of}
 use Rattle.meta_store.specs.Images.{area_of, IsClosed, IsImage}
+use Rattle.meta_store.specs.Laws.{no_files}
 use Rattle.meta_store.proofs.SnapshotLengths.{spelling-empty}
 use Rattle.meta_store.proofs.SnapshotFits.{fits_of}
 use Rattle.meta_store.proofs.CommitTurns.{area_is, gate_is}
-
-abbrev pub no_files : ℕ → Catalog
-no_files geometry = record { geometry = geometry; next = 1; files = [] }
 
 IsCatalog-no_files : (geometry : ℕ) → geometry ≤ 1 → IsCatalog (no_files geometry)
 IsCatalog-no_files geometry known = record { known = known; first = omega arith; next = omega arith; table = record { ascend = tt; within = tt; differ = tt }; each = tt; distinct = tt }

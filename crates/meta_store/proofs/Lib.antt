@@ -10,6 +10,7 @@ pub mod CommitTurns
 pub mod ChangedStores
 pub mod FormattedStores
 pub mod OpenedImages
+pub mod FoundImages
 pub mod BlockUses
 pub mod MappedPlaces
 pub mod FileEdits

@@ -6,3 +6,4 @@ pub mod Changes
 pub mod Meta
 pub mod InMemory
 pub mod Validity
+pub mod Laws

@@ -2,6 +2,7 @@
 ghost use Rattle.std.specs.Prelude.{◌≡◌, ◌+◌, ◌-◌, ◌<◌, ◌≤◌, ◌++◌, [], length, take, replicate, None, OnOk, OnErr};
 ghost use Rattle.std.specs.List.{AllByRecursion};
 ghost use Rattle.plain_model.specs.Blocks.{blocks_in};
+ghost use Rattle.meta_store.specs.Catalogs.{present};
 ghost use Rattle.meta_store.specs.Changes.{places_fitted, places_set};
 
 use crate::snapshot::Mapping;
@@ -51,6 +52,20 @@ impl FilePlaces {
         set(self.places.as_mut_slice(), mappings);
         Ok(())
     }
+}
+
+/// How many of a file's places aren't holes.
+pub fn count_present(places: &[Option<u32>]) -> u32
+    requires { length places.now ≤ 4096 }
+    ensures { result ≡ length (present places.now) }
+{
+    let mut count = 0;
+    for place in places {
+        if place.is_some() {
+            count += 1;
+        }
+    }
+    count
 }
 
 /// How many blocks a file of that size has.

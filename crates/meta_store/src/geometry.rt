@@ -3,7 +3,7 @@
 ghost use Rattle.std.specs.Prelude.{◌≡◌};
 ghost use Rattle.meta_store.specs.Catalogs.{geometry_of};
 
-use hsm_types::Geometry;
+use hsm_types::{Geometry, SMALL};
 
 /// How much a store of geometry 0 can hold, which is small, or of any other, which is large.
 #[tactic(auto, unfolding(crate::specs::Catalogs::geometry_of))]
@@ -11,10 +11,7 @@ pub fn geometry_of(geometry: u32) -> Geometry
     ensures { result ≡ geometry_of geometry }
 {
     if geometry == 0 {
-        Geometry {
-            files: 64,
-            blocks: 1_024,
-        }
+        SMALL
     } else {
         Geometry {
             files: 4_096,

@@ -9,6 +9,7 @@ mod fields;
 mod file_places;
 mod geometry;
 mod inode_places;
+mod laws;
 mod opening;
 mod reading;
 mod refusal;
@@ -25,7 +26,9 @@ mod validity_tests;
 mod writing;
 
 pub use catalog::Catalog;
+pub use file_places::count_present;
 pub use geometry::geometry_of;
+pub use laws::{formatted_image, one_image};
 pub use refusal::MetaRefusal;
 pub use snapshot::Mapping;
 pub use store::MetaStore;

@@ -2,9 +2,9 @@
 ghost use Rattle.std.specs.Prelude.{◌≡◌, ◌+◌, ◌≤◌, ◌<◌, ◌^◌, ◌++◌, length, OnOk};
 ghost use Rattle.std.specs.List.{flat_map};
 ghost use Rattle.byteorder.specs.Endian.{big_bytes};
-ghost use Rattle.meta_store.specs.Catalogs.{present};
 ghost use Rattle.meta_store.specs.Snapshots.{extent_bytes, extents_from, file_bytes, snapshot_file};
 
+use crate::file_places::count_present;
 use crate::snapshot::{FORMAT, Mapping};
 use byteorder::{BigEndian, ByteOrder};
 use hsm_types::{FileKey, Word};
@@ -50,20 +50,6 @@ pub(crate) fn put_header(
     put_u32(out, FORMAT)?;
     put_u32(out, count)?;
     Ok(())
-}
-
-// How many of a file's blocks the disk has.
-fn count_present(places: &[Option<u32>]) -> u32
-    requires { length places.now ≤ 4096 }
-    ensures { result ≡ length (present places.now) }
-{
-    let mut count = 0;
-    for place in places {
-        if place.is_some() {
-            count += 1;
-        }
-    }
-    count
 }
 
 fn put_extents(out: &mut Vec<u8>, places: &[Option<u32>]) -> Result<(), AllocError>

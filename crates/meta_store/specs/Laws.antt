@@ -1,0 +1,17 @@
+-- Laws on what recovery finds on an image.
+use Rattle.std.specs.Prelude.{◌≡◌, ℕ, List, []}
+use Rattle.commit_slots.specs.Images.{IsEmptyStore}
+use Rattle.meta_store.specs.Catalogs.{Catalog}
+use Rattle.meta_store.specs.Images.{IsImage}
+
+-- the catalog of a new store of this geometry
+abbrev pub no_files : ℕ → Catalog
+no_files geometry = record { geometry = geometry; next = 1; files = [] }
+
+-- Recovery finds one thing on an image: one id, one number and one catalog.
+abbrev pub FindsOne : List ℕ → Type 0
+FindsOne image = (fsid n : ℕ) (c : Catalog) (fsid' n' : ℕ) (c' : Catalog) → IsImage fsid n c image → IsImage fsid' n' c' image → (fsid' ≡ fsid) × (n' ≡ n) × (c' ≡ c)
+
+-- on an image that was just formatted recovery finds number 0 and no files
+abbrev pub FormattedHasNoFiles : ℕ → ℕ → List ℕ → Type 0
+FormattedHasNoFiles geometry fsid image = IsEmptyStore geometry fsid image → IsImage fsid 0 (no_files geometry) image
