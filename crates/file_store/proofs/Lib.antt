@@ -18,3 +18,5 @@ pub mod Taking
 pub mod Changing
 pub mod FewerMore
 pub mod NamedFiles
+pub mod Lawful
+pub mod Recoveries

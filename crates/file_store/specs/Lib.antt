@@ -2,3 +2,4 @@ pub mod Bodies
 pub mod HeldFiles
 pub mod Steps
 pub mod Stores
+pub mod Laws

@@ -1,11 +1,14 @@
 -- A store of files on a disk, and what recovery finds on an image.
-use Rattle.std.specs.Prelude.{◌≡◌, ◌⊎◌, ℕ, ◌<◌, ◌==◌, Bool, true, false, List, map, replicate}
+use Rattle.std.specs.Prelude.{◌≡◌, ◌⊎◌, ℕ, ◌<◌, ◌≤◌, ◌^◌, ◌==◌, Bool, true, false, List, length, map, replicate}
 use Rattle.std.specs.List.{list_any, AllByRecursion}
 use Rattle.disk_model.specs.Moments.{MayBe, LeavesOnly}
 use Rattle.disk_model.specs.declared.device.Disk as disk
-use Rattle.plain_model.specs.State.{Held}
+use Rattle.hsm_types.specs.declared.stores.Superblock.{Superblock}
+use Rattle.plain_model.specs.State.{Held, names_of}
+use Rattle.plain_model.specs.Laws.{IsOpening}
 use Rattle.plain_model.specs.Distinct.{Distinct}
 use Rattle.block_space.specs.Space.{Space, marked}
+use Rattle.inode_table.specs.Table.{IsTable}
 use Rattle.meta_store.specs.declared.snapshot.Mapping.{Mapping}
 use Rattle.meta_store.specs.Catalogs.{Catalog, geometry_of, blocks_of}
 use Rattle.meta_store.specs.Images.{IsImage, blocks_in_image}
@@ -20,6 +23,14 @@ pub record IsRecovered (geometry fsid n : ℕ) (h : Held) (image : List ℕ) : T
   pub is : IsImage fsid n catalog image
   pub holds : held_at (blocks_in_image geometry image) catalog ≡ h
 
+-- What is true of what each store of so many files holds: inodes ascend and are within that number, names differ, and each generation is
+-- below the next one.
+pub record IsLawful (limit : ℕ) (h : Held) : Type 0 where
+  pub table : IsTable limit h.next (names_of h.files)
+  pub opening : IsOpening h
+  pub next : h.next ≤ 2 ^ 62
+  pub few : length h.files ≤ limit
+
 pub record Store (D : Type 0) : Type 0 where
   pub disk : D
   -- the names, sizes and block places: as they are, and as they were made durable
@@ -32,6 +43,10 @@ pub record Store (D : Type 0) : Type 0 where
   pub pending : Bool
   -- a call of the disk has failed
   pub failed : Bool
+
+-- how it was formatted
+abbrev pub superblock_of : {D : Type 0} → Store D → Superblock
+superblock_of s = record { geometry = geometry_of s.meta.durable.geometry; fsid = s.meta.fsid }
 
 -- recovery finds what was made durable last
 abbrev pub IsDurable : {D : Type 0} → Store D → List ℕ → Type 0

@@ -12,8 +12,7 @@ ghost use Rattle.file_store.specs.Stores.{IsClaim, Proceeds};
 
 use crate::refusal::StoreRefusal;
 use crate::store::FileStore;
-use crate::writing::put_blocks;
-use commit_slots::Layout;
+use crate::writing::put_body;
 use disk_model::{Disk, Failed};
 use file_body::{touched_by_truncate, touched_by_write};
 use hsm_types::{FileKey, Word};
@@ -97,8 +96,7 @@ impl<D: Disk> FileStore<D> {
         let Ok(()) = self.files.write(alloc, key, offset, bytes, mappings) else {
             return Err(StoreRefusal::Memory);
         };
-        let base = Layout::of_geometry(self.files.meta().geometry()).blocks;
-        match put_blocks(&mut self.disk, base, self.files.body(key), mappings) {
+        match put_body(&mut self.disk, &self.files, key, mappings) {
             Ok(()) => Ok(()),
             Err(Failed) => {
                 self.failed = true;
@@ -154,8 +152,7 @@ impl<D: Disk> FileStore<D> {
         let Ok(()) = self.files.truncate(alloc, key, size, mappings) else {
             return Err(StoreRefusal::Memory);
         };
-        let base = Layout::of_geometry(self.files.meta().geometry()).blocks;
-        match put_blocks(&mut self.disk, base, self.files.body(key), mappings) {
+        match put_body(&mut self.disk, &self.files, key, mappings) {
             Ok(()) => Ok(()),
             Err(Failed) => {
                 self.failed = true;

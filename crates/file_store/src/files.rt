@@ -16,6 +16,7 @@ ghost use Rattle.meta_store.specs.Changes.{with_file, without_file, with_remappe
 ghost use Rattle.meta_store.specs.Images.{RecoversSame, Recovers};
 ghost use Rattle.meta_store.specs.Meta.{Meta, IsMeta, Backs};
 ghost use Rattle.file_store.specs.Bodies.{held_with, AreBodies};
+ghost use Rattle.file_store.specs.Stores.{IsLawful};
 
 use crate::remapping::remap;
 use crate::usage::used_blocks;
@@ -61,6 +62,7 @@ impl Files {
         requires count { length bodies.items ≡ (geometry_of meta.current.geometry).files }
         ensures meta { result.meta ≡ meta }
         ensures held { result.held ≡ held_with bodies.items meta.current }
+        ensures valid { IsLawful (geometry_of meta.current.geometry).files result.held }
     {
         Files { meta, bodies }
     }
@@ -92,18 +94,20 @@ impl Files {
         self.meta.names().find(name)
     }
 
-    /// How many blocks are mapped. It walks the places of all files.
-    pub(crate) fn used(&self) -> u64
-        ensures { result ≡ used self.now.held.files }
-    {
-        used_blocks(self.meta.catalog())
-    }
-
     /// How many files there are.
-    pub(crate) fn count(&self) -> u32
-        ensures { result ≡ length self.now.held.files }
+    pub(crate) fn len(&self) -> u32
+        ensures len { result ≡ length self.now.held.files }
+        ensures lawful { IsLawful (geometry_of self.now.meta.current.geometry).files self.now.held }
     {
         self.meta.catalog().len()
+    }
+
+    /// How many blocks are mapped. It walks the places of all files.
+    pub(crate) fn used(&self) -> u64
+        ensures count { result ≡ used self.now.held.files }
+        ensures within { result ≤ (geometry_of self.now.meta.current.geometry).blocks }
+    {
+        used_blocks(self.meta.catalog())
     }
 
     /// Makes an empty file with the lowest free inode and the next generation. Only want of memory fails: nothing has changed then.

@@ -5,8 +5,10 @@ mod blocks;
 mod changes;
 mod claims;
 mod files;
+mod laws;
 mod loading;
 mod opening;
+mod readers;
 mod refusal;
 mod remapping;
 mod spaces;
@@ -16,5 +18,6 @@ mod tests;
 mod usage;
 mod writing;
 
+pub use laws::{formatted_is_empty, one_recovery};
 pub use refusal::StoreRefusal;
 pub use store::FileStore;

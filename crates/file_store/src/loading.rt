@@ -15,8 +15,8 @@ use crate::StoreRefusal;
 use commit_slots::Layout;
 use disk_model::{Disk, Failed, read_at};
 use file_body::Body;
-use hsm_types::{BLOCK_BYTES, FILE_BYTES, SMALL};
-use meta_store::Catalog;
+use hsm_types::{BLOCK_BYTES, FILE_BYTES};
+use meta_store::{Catalog, geometry_of};
 use std::alloc::{AllocError, Global};
 
 /// The bodies of all files, that of inode i at i - 1, and none where no file has the inode. It costs their mapped blocks.
@@ -35,7 +35,7 @@ pub(crate) fn load_bodies<D: Disk>(
     ensures failed { IsErrOf result StoreRefusal.Disk → Rose (D.fault_count disk.old) (D.fault_count disk.new) }
 {
     let geometry = catalog.geometry();
-    let Ok(mut bodies) = empty(alloc, inodes(geometry)) else {
+    let Ok(mut bodies) = empty(alloc, geometry_of(geometry).files) else {
         return Err(StoreRefusal::Memory);
     };
     for index in 0..catalog.len() {
@@ -43,14 +43,6 @@ pub(crate) fn load_bodies<D: Disk>(
         bodies[(key.ino - 1) as usize] = load_body(alloc, disk, geometry, size, places)?;
     }
     Ok(bodies)
-}
-
-/// How many inodes a store of that geometry has.
-#[tactic(auto, unfolding(meta_store::specs::Catalogs::geometry_of))]
-fn inodes(geometry: u32) -> u32
-    ensures { result ≡ (geometry_of geometry).files }
-{
-    if geometry == 0 { SMALL.files } else { 4_096 }
 }
 
 /// So many bodies of no bytes.

@@ -7,7 +7,8 @@ ghost use Rattle.commit_slots.specs.Images.{IsStore};
 ghost use Rattle.meta_store.specs.Images.{blocks_in_image, IsCorruptAt};
 ghost use Rattle.meta_store.specs.Meta.{IsMeta, Backs};
 ghost use Rattle.file_store.specs.Bodies.{held_at};
-ghost use Rattle.file_store.specs.Stores.{marks_of};
+ghost use Rattle.meta_store.specs.Catalogs.{geometry_of};
+ghost use Rattle.file_store.specs.Stores.{IsLawful, marks_of};
 
 use crate::files::Files;
 use crate::loading::load_bodies;
@@ -29,6 +30,7 @@ pub(crate) fn read_in<D: Disk>(
     ensures same { IfOk result (λ r. r.0.meta.current ≡ r.0.meta.durable) }
     ensures backs { IfOk result (λ r. Backs D.Disk disk.new r.0.meta) }
     ensures holds { IfOk result (λ r. (c : List ℕ) → MayBe D.Disk disk.new c → held_at (blocks_in_image r.0.meta.durable.geometry c) r.0.meta.durable ≡ r.0.held) }
+    ensures held { IfOk result (λ r. IsLawful (geometry_of r.0.meta.current.geometry).files r.0.held) }
     ensures space { IfOk result (λ r. r.1 ≡ record { current = marks_of r.0.meta.current; durable = marks_of r.0.meta.current }) }
     ensures not_store { IsErrOf result OpenRefusal.NotStore → (c : List ℕ) → D.gives disk.old c → (geometry fsid : ℕ) → IsStore geometry fsid c → ⊥ }
     ensures corrupt { (place : ℕ) → IsErrOf result (OpenRefusal.Corrupt place) → (c : List ℕ) → D.gives disk.old c → IsCorruptAt place c }

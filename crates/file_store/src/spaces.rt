@@ -20,7 +20,7 @@ fn put_present(blocks: &mut Vec<u32>, places: &[Option<u32>]) -> Result<(), Allo
 }
 
 /// The data blocks that a catalog's files use. It costs a walk over all places.
-fn used_blocks(alloc: Global, catalog: &Catalog) -> Result<Vec<u32>, AllocError>
+fn data_blocks(alloc: Global, catalog: &Catalog) -> Result<Vec<u32>, AllocError>
     ensures { IfOk result (λ v. v.items ≡ blocks_of catalog.now.files) }
 {
     let mut blocks = Vec::new(alloc);
@@ -36,6 +36,6 @@ pub(crate) fn space_of(alloc: Global, catalog: &Catalog) -> Result<BlockSpace, A
     ensures { IfOk result (λ s. s ≡ record { current = marks_of catalog.now; durable = marks_of catalog.now }) }
 {
     let total = geometry_of(catalog.geometry()).blocks;
-    let used = used_blocks(alloc, catalog)?;
+    let used = data_blocks(alloc, catalog)?;
     BlockSpace::new(alloc, total, used.as_slice())
 }

@@ -6,10 +6,10 @@ ghost use Rattle.disk_model.specs.Moments.{MayBe, Keeps, Same};
 ghost use Rattle.commit_slots.specs.Images.{IsStore};
 ghost use Rattle.plain_model.specs.Keyed.{find_key};
 ghost use Rattle.plain_model.specs.State.{bytes_of, used};
-ghost use Rattle.meta_store.specs.Catalogs.{blocks_of};
+ghost use Rattle.meta_store.specs.Catalogs.{geometry_of, blocks_of};
 ghost use Rattle.meta_store.specs.Images.{IsCorruptAt};
 ghost use Rattle.meta_store.specs.Meta.{IsMeta};
-ghost use Rattle.file_store.specs.Stores.{IsDurable, IsSettled, Proceeds};
+ghost use Rattle.file_store.specs.Stores.{IsLawful, IsDurable, IsSettled, Proceeds};
 
 use crate::files::Files;
 use crate::opening::read_in;
@@ -58,6 +58,7 @@ impl<D: Disk> FileStore<D> {
         // Ok: what it holds is what recovery finds from now on.
         ensures found { IfOk result (λ s. (s.held ≡ s.durable) × (s.failed ≡ false)) }
         ensures durable { IfOk result (λ s. (c : List ℕ) → MayBe D.Disk s.disk c → IsDurable s c) }
+        ensures lawful { IfOk result (λ s. IsLawful (geometry_of s.meta.durable.geometry).files s.held) }
 
         // Why it wasn't opened.
         ensures not_store { IfErr result (λ e. e.0 ≡ OpenRefusal.NotStore → (c : List ℕ) → D.gives disk c → (geometry fsid : ℕ) → IsStore geometry fsid c → ⊥) }

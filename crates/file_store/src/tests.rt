@@ -46,7 +46,7 @@ fn formatted(alloc: Global) -> Result<Vec<u8>, Fail> {
 fn find<D: Disk>(alloc: Global, store: &FileStore<D>) -> Result<Option<FileKey>, AllocError>
     ensures { IfOk result (λ found. IfSome found (λ key. IsSome (find_key (λ f. f.key) key store.now.held.files))) }
 {
-    Ok(store.files.find(&name(alloc)?))
+    Ok(store.find(&name(alloc)?))
 }
 
 fn make<D: Disk>(alloc: Global, store: &mut FileStore<D>) -> Result<(), Fail>
@@ -54,9 +54,7 @@ fn make<D: Disk>(alloc: Global, store: &mut FileStore<D>) -> Result<(), Fail>
     ensures { store.new.failed ≡ false }
 {
     let name = name(alloc)?;
-    if store.files.find(&name).is_some()
-        || store.files.count() == geometry_of(store.meta().geometry()).files
-    {
+    if store.find(&name).is_some() || store.len() == geometry_of(store.meta().geometry()).files {
         return Err("there is a file".into());
     }
     store.make(alloc, &name, 1)?;
@@ -80,7 +78,7 @@ fn write<D: Disk>(
     }
     let need = touched_by_write(store.body(key).len(), PLACE, len).count();
     let blocks = u64::from(geometry_of(store.meta().geometry()).blocks);
-    if need > blocks || store.files.used() > blocks - need {
+    if need > blocks || store.used() > blocks - need {
         return Err("no blocks are free".into());
     }
     Ok(store.write(alloc, key, PLACE, bytes, 1))

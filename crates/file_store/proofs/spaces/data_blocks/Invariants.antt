@@ -1,6 +1,6 @@
 use Rattle.std.proofs.Common.{◌≡◌, ◌++◌, drop}
 use Rattle.meta_store.specs.Catalogs.{blocks_of}
-use Rattle.file_store.proofs.spaces.used_blocks.Given as goal
+use Rattle.file_store.proofs.spaces.data_blocks.Given as goal
 
 abbrev pub invariant-loop-index : goal.invariant-loop-index
 invariant-loop-index l = l.blocks.items ++ blocks_of (drop l.index l.catalog.files) ≡ blocks_of l.catalog.files

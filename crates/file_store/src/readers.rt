@@ -1,0 +1,65 @@
+// What is told of the files of a store.
+ghost use Rattle.std.specs.Prelude.{◌≡◌, ◌≤◌, ◌^◌, false, length, ℕ};
+ghost use Rattle.std.specs.Option.{option_map};
+ghost use Rattle.plain_model.specs.Plain.{named};
+ghost use Rattle.plain_model.specs.State.{names_of, used};
+ghost use Rattle.meta_store.specs.Catalogs.{geometry_of};
+ghost use Rattle.file_store.specs.Stores.{IsLawful, superblock_of, Proceeds};
+
+use crate::store::FileStore;
+use disk_model::Disk;
+use hsm_types::{FileKey, Superblock, Word};
+use meta_store::geometry_of;
+
+impl<D: Disk> FileStore<D> {
+    /// The key of the file with that name. It costs one look-up in a map.
+    pub fn find(&self, name: &Word) -> Option<FileKey>
+        ensures { result ≡ option_map (λ l. l.key) (named name.now (names_of self.now.held.files)) }
+    {
+        self.files.find(name)
+    }
+
+    /// How many files there are.
+    pub fn len(&self) -> u32
+        ensures len { result ≡ length self.now.held.files }
+        ensures within { result ≤ (geometry_of self.now.meta.durable.geometry).files }
+        ensures lawful { IsLawful (geometry_of self.now.meta.durable.geometry).files self.now.held }
+    {
+        self.files.len()
+    }
+
+    /// How many blocks are mapped. It walks the places of all files.
+    pub fn used(&self) -> u64
+        ensures count { result ≡ used self.now.held.files }
+        ensures within { result ≤ (geometry_of self.now.meta.durable.geometry).blocks }
+    {
+        self.files.used()
+    }
+
+    /// How the store was formatted. No more blocks are mapped than it has.
+    pub fn superblock(&self) -> Superblock
+        ensures superblock { result ≡ superblock_of self.now }
+        ensures mapped { used self.now.held.files ≤ (superblock_of self.now).geometry.blocks }
+    {
+        Superblock {
+            geometry: geometry_of(self.files.meta().geometry()),
+            fsid: self.files.meta().fsid(),
+        }
+    }
+
+    /// The number under which the files were made durable last.
+    pub fn number(&self) -> u64
+        ensures number { result ≡ self.now.meta.number }
+        ensures within { result ≤ 2 ^ 62 }
+    {
+        self.files.meta().number()
+    }
+
+    /// Whether a call of the disk has failed. As long as none has, nothing becomes of the disk between calls.
+    pub fn has_failed(&self) -> bool
+        ensures failed { result ≡ self.now.failed }
+        ensures idle { self.now.failed ≡ false → (n : ℕ) → Proceeds D.Disk self.now n self.now }
+    {
+        self.failed
+    }
+}
