@@ -1,11 +1,12 @@
-//! `hsm replay` runs a script from standard input, and writes what happened to standard output.
+//! `hsm format PATH small` makes a store in a file. `hsm replay PATH DIR` runs a script from standard input on it, and writes what
+//! happened to standard output; `hsm replay` does so on a new store in memory.
 #![tactic(auto)]
 
 ghost use Rattle.std.specs.Prelude.{◌≡◌};
 ghost use Rattle.std.specs.Process.{exit_status};
 ghost use Rattle.hsm_cli.specs.Statuses.{status_of};
 
-use hsm_cli::{Cause, Reading, Writing, hsm_main};
+use hsm_cli::{Cause, FileHost, Reading, Writing, hsm_main};
 use std::process::ExitCode;
 use std::rt::Env;
 use std::{env, io};
@@ -44,8 +45,15 @@ fn main(rt: HostRuntime) -> ExitCode {
         Ok(words) => words,
         Err(cause) => return ended(&rt, Some(cause)),
     };
+    let mut host = FileHost::new(&rt);
     let mut source = Reading::new(rt.reader());
     let mut sink = Writing::new(io::writer(&rt));
-    let outcome = hsm_main(rt.alloc(), words.as_slice(), &mut source, &mut sink);
+    let outcome = hsm_main(
+        rt.alloc(),
+        words.as_slice(),
+        &mut host,
+        &mut source,
+        &mut sink,
+    );
     ended(&rt, outcome.cause)
 }

@@ -1,5 +1,10 @@
 pub mod Bytes
 pub mod Following
-pub mod Legality
-pub mod Endings
 pub mod Lawful
+pub mod Running
+pub mod Endings
+pub mod Legality
+pub mod Crashes
+pub mod Completeness
+pub mod NamedDisks
+pub mod HandingOut

@@ -1,44 +1,198 @@
--- What is promised of a run: each clause over the words, the outcome, and what the source and the sink tell.
-use Rattle.std.specs.Prelude.{ℕ, ◌≡◌, ◌≢◌, ◌⊎◌, ◌↔◌, List, [], take, Option, None, IfSome, IsTrue, Bool, ◌==◌, ◌||◌}
+-- What is promised of a run: each clause over the words, the outcome, and what the objects tell.
+use Rattle.std.specs.Prelude.{ℕ, ◌≡◌, ◌≢◌, ◌⊎◌, ◌↔◌, List, [], take, Bool, true, false, Option, Some, None, IfSome}
 use Rattle.std.specs.Io.KnownBytes.{Appends, IsAtEnd}
+use Rattle.disk_model.specs.declared.device.Disk as disk
+use Rattle.disk_model.specs.Calls.{Rose}
+use Rattle.disk_model.specs.Moments.{MayBe, LeavesOnly, Keeps, Same}
+use Rattle.commit_slots.specs.Images.{IsStore, IsEmptyStore}
+use Rattle.meta_store.specs.Images.{IsCorruptAt}
+use Rattle.plain_model.specs.declared.entries.Entry.{Entry}
 use Rattle.plain_model.specs.Render.{text_of}
-use Rattle.script_text.specs.Causes.{Rose}
+use Rattle.plain_model.specs.Plain.{File}
+use Rattle.plain_model.specs.Faults.{has_fault}
+use Rattle.plain_model.specs.Step.{start}
+use Rattle.plain_model.specs.Legal.{Legal, After, NoClash, Once}
+use Rattle.plain_model.specs.PlainFold.{plain_after}
+use Rattle.plain_model.specs.State.{Held, nothing_held}
+use Rattle.plain_model.specs.Stands.{Stands, StandsFor}
+use Rattle.plain_model.specs.Exact.{Exact, held_by}
+use Rattle.plain_model.specs.Side.{sides_of, side_after}
+use Rattle.plain_model.specs.Synced.{synced}
+use Rattle.file_store.specs.Stores.{Store, IsRecovered, IsDurable}
+use Rattle.hsm_core.specs.Crashes.{IsPrefix}
 use Rattle.script_text.specs.Scripts.{IsScript, IsFirstBad}
 use Rattle.script_text.specs.declared.lines.Line.{Line}
-use Rattle.hsm_cli.specs.declared.commands.Command.{Command}
-use Rattle.hsm_cli.specs.declared.top.Outcome.{Outcome}
+use Rattle.hsm_cli.specs.declared.causes.Cause.{Cause}
+use Rattle.hsm_cli.specs.declared.causes.Cause.TheVariants.{ScriptRefused, WordsRefused, NotStore, Corrupt, ReadFault, WriteFault, DiskFault, HostFault, NoMemory}
+use Rattle.hsm_cli.specs.declared.outcomes.Outcome.{Outcome}
+use Rattle.hsm_cli.specs.Commands.{Form, Format, Replay, ReplayStore, geometry_number, fsid_of}
 use Rattle.hsm_cli.specs.Statuses.{status_of, place_of}
 use Rattle.hsm_cli.specs.Sources.{script_bytes}
+use Rattle.hsm_cli.specs.Openings.{opened_in, superblock_at, held_at, base_of}
 use Rattle.hsm_cli.specs.Follows.{RunsAll, RunsFirst}
+use Rattle.hsm_cli.specs.Hosts.{IsHanded}
+use Rattle.hsm_cli.specs.Told.{SourceTold, SinkTold, HostTold}
 
--- The script clause. With status 0 and 5 the history is that of the script's lines, with 8 of the first of them, and else there is none.
-pub record ScriptClause (o : Outcome) (given : Option (List ℕ)) : Type 0 where
-  pub all : (o.status ≡ 0) ⊎ (o.status ≡ 5) → IfSome given (λ bytes. RunsAll bytes o.history)
-  pub first : o.status ≡ 8 → (o.history ≡ []) ⊎ IfSome given (λ bytes. RunsFirst bytes o.history)
-  pub none : o.status ≢ 0 → o.status ≢ 5 → o.status ≢ 8 → o.history ≡ []
+-- ---- the script clause
 
--- The output clause. The sink took a beginning of the history's text; all of it, where the sink did not fail and there was memory.
-pub record OutputClause (o : Outcome) (old new : Option (List ℕ)) (before now : ℕ) : Type 0 where
-  pub first : (n : ℕ) × Appends old new (take n (text_of o.history))
-  pub all : ¬ (Rose before now) → o.status ≢ 8 → Appends old new (text_of o.history)
+-- The history that a run of a script has, by what went wrong first. A run that ends well, or fails only in writing, has read the script to its end and
+-- runs all lines; one that lacks memory, or whose disk fails, runs the first ones.
+abbrev pub HasRun : Bool → SourceTold → Option Cause → List Entry → Type 0
+HasRun commits source None history = IfSome source.given (λ bytes. RunsAll commits bytes history) × IsAtEnd source.left
+HasRun commits source (Some WriteFault) history = IfSome source.given (λ bytes. RunsAll commits bytes history) × IsAtEnd source.left
+HasRun commits source (Some DiskFault) history = (history ≡ []) ⊎ IfSome source.given (λ bytes. RunsFirst commits bytes history)
+HasRun commits source (Some NoMemory) history = (history ≡ []) ⊎ IfSome source.given (λ bytes. RunsFirst commits bytes history)
+HasRun commits source (Some why) history = history ≡ []
 
-abbrev pub is_status : ℕ → Bool
-is_status n = (n == 0) || (n == 1) || (n == 2) || (n == 4) || (n == 5) || (n == 8)
+-- Only the forms of `replay` run a script. `replay PATH DIR` ends with a commit.
+abbrev pub ScriptClause : {D : Type 0} → Option Form → SourceTold → Outcome D → Type 0
+ScriptClause None source o = o.history ≡ []
+ScriptClause (Some (Format path size)) source o = o.history ≡ []
+ScriptClause (Some Replay) source o = HasRun false source o.cause o.history
+ScriptClause (Some (ReplayStore path dir)) source o = HasRun true source o.cause o.history
 
--- the bytes are no script, or the status is that of a run that ended well or lacked memory
-abbrev pub EndsWell : ℕ → List ℕ → Type 0
-EndsWell status bytes = (lines : List Line) → IsScript (script_bytes bytes) lines → (status ≡ 0) ⊎ (status ≡ 8)
+-- ---- the legality clause and the plain clause
 
--- The status clause. When each status comes; 8 is free. With a command, a script and no fault there is no other than 0 and 8.
-pub record StatusClause (command : Option Command) (o : Outcome) (given left : Option (List ℕ)) (source_before source_now sink_before sink_now : ℕ) : Type 0 where
-  pub known : IsTrue (is_status o.status)
+-- Over the store that the run began with. From each plain map that it stands for the history is legal; each token is used once; each answer is the
+-- exact one; and what each beginning of the history leaves stands for the map that it leaves, with the mapped blocks of the rules.
+pub record IsLegalFrom {D : Type 0} (opened : Option (Store D)) (history : List Entry) : Type 0 where
+  pub legal : (P : List File) → Stands (held_at opened).files P → Legal (superblock_at opened) (start P) history
+  pub once : Once history
+  pub exact : Exact (superblock_at opened) (held_at opened) history
+  pub stands : (P : List File) → Stands (held_at opened).files P → (i : ℕ) → StandsFor (held_by (superblock_at opened) (held_at opened) (take i history)) (After (start P) (take i history))
+  pub sides : (P : List File) → Stands (held_at opened).files P → (i : ℕ)
+      → sides_of (held_by (superblock_at opened) (held_at opened) (take i history)).files ≡ side_after (start P) (sides_of (held_at opened).files) (take i history)
+
+-- the disk that is given back has failed
+pub record HasFailed {D : Type 0} (g : disk.Ghosts D) (given : Option D) : Type 0 where
+  pub disk : D
+  pub back : given ≡ Some disk
+  pub rose : Rose 0 (g.fault_count disk)
+
+-- An answer for a fault of the disk comes only where the disk has failed, and then the run ends for that fault, or for want of memory.
+pub record LegalityClause {D : Type 0} (g : disk.Ghosts D) (o : Outcome D) : Type 0 where
+  pub from : IsLegalFrom (opened_in o) o.history
+  pub caused : has_fault o.history ≡ true → HasFailed g o.disk
+  pub faultless : o.cause ≢ Some DiskFault → o.cause ≢ Some NoMemory → has_fault o.history ≡ false
+
+-- Where no digest clashes, the files after each beginning of the history are those that were never moved.
+abbrev pub IsPlainFrom : {D : Type 0} → Option (Store D) → List Entry → Type 0
+IsPlainFrom opened history = (P : List File) → Stands (held_at opened).files P → NoClash (start P) history → (i : ℕ) → (After (start P) (take i history)).files ≡ plain_after P (take i history)
+
+abbrev pub PlainClause : {D : Type 0} → Outcome D → Type 0
+PlainClause o = IsPlainFrom (opened_in o) o.history
+
+-- ---- the crash clause
+
+-- A crash at any moment since the host handed the disk out leaves what the opened store and the first entries make, under the number of the entry
+-- after them; and a crash from now on leaves all that was synced.
+pub record IsCrashSafe {D : Type 0} (g : disk.Ghosts D) (held : List ℕ → Type 0) (opened : Store D) (history : List Entry) (disk : D) : Type 0 where
+  pub handed : D
+  pub by_host : IsHanded g held handed
+  pub since : LeavesOnly g handed disk (IsPrefix opened history 0)
+  pub now : (c : List ℕ) → MayBe g disk c → IsPrefix opened history (synced history) c
+
+-- a disk that wasn't opened as a store stays as it was
+pub record IsUntouched {D : Type 0} (g : disk.Ghosts D) (held : List ℕ → Type 0) (disk : D) : Type 0 where
+  pub handed : D
+  pub by_host : IsHanded g held handed
+  pub keeps : Keeps g handed disk Same
+
+abbrev pub LeavesSafe : {D : Type 0} → disk.Ghosts D → (List ℕ → Type 0) → Option (Store D) → List Entry → Option D → Type 0
+LeavesSafe g held (Some opened) history (Some disk) = IsCrashSafe g held opened history disk
+LeavesSafe g held None history (Some disk) = IsUntouched g held disk
+LeavesSafe g held (Some opened) history None = ⊥
+LeavesSafe g held None history None = Unit {0}
+
+-- Only `replay PATH DIR` opens a store of the host.
+abbrev pub CrashClause : {D : Type 0} → disk.Ghosts D → Option Form → (List ℕ → List ℕ → Type 0) → Outcome D → Type 0
+CrashClause g (Some (ReplayStore path dir)) holds o = LeavesSafe g (holds path) (opened_in o) o.history o.disk
+CrashClause g (Some (Format path size)) holds o = opened_in o ≡ None
+CrashClause g (Some Replay) holds o = opened_in o ≡ None
+CrashClause g None holds o = opened_in o ≡ None
+
+-- The disk that `format` gives back is one whose every image, also after a crash, is the empty store of that size and of the path's file system id.
+pub record IsFormatted {D : Type 0} (g : disk.Ghosts D) (geometry fsid : ℕ) (given : Option D) : Type 0 where
+  pub disk : D
+  pub back : given ≡ Some disk
+  pub empty : (c : List ℕ) → MayBe g disk c → IsEmptyStore geometry fsid c
+  pub recovered : (c : List ℕ) → MayBe g disk c → IsRecovered geometry fsid 0 nothing_held c
+
+abbrev pub FormatClause : {D : Type 0} → disk.Ghosts D → Option Form → Outcome D → Type 0
+FormatClause g (Some (Format path size)) o = o.cause ≡ None → IsFormatted g (geometry_number size) (fsid_of path) o.disk
+FormatClause g (Some Replay) o = Unit {0}
+FormatClause g (Some (ReplayStore path dir)) o = Unit {0}
+FormatClause g None o = Unit {0}
+
+-- ---- the output clause
+
+-- The sink took a beginning of the history's text; all of it, where the sink did not fail and there was memory.
+pub record OutputClause {D : Type 0} (o : Outcome D) (sink : SinkTold) : Type 0 where
+  pub first : (n : ℕ) × Appends sink.old sink.new (take n (text_of o.history))
+  pub all : ¬ (Rose sink.before sink.now) → o.cause ≢ Some NoMemory → Appends sink.old sink.new (text_of o.history)
+
+-- ---- the status clause
+
+-- the images that the host held for the store that the words name
+abbrev pub IsNamed : Option Form → (List ℕ → List ℕ → Type 0) → List ℕ → Type 0
+IsNamed (Some (ReplayStore path dir)) holds image = holds path image
+IsNamed (Some (Format path size)) holds image = ⊥
+IsNamed (Some Replay) holds image = ⊥
+IsNamed None holds image = ⊥
+
+-- Why a run ends as it does. Want of memory is free.
+abbrev pub Why : {D : Type 0} → disk.Ghosts D → (List ℕ → Type 0) → SourceTold → SinkTold → HostTold → Option D → Option Cause → Type 0
+Why g named source sink host disk None = Unit {0}
+Why g named source sink host disk (Some (ScriptRefused line)) = IfSome source.given (λ bytes. IsFirstBad (script_bytes bytes) line)
+Why g named source sink host disk (Some WordsRefused) = Unit {0}
+Why g named source sink host disk (Some NotStore) = (image : List ℕ) → named image → (geometry fsid : ℕ) → IsStore geometry fsid image → ⊥
+Why g named source sink host disk (Some (Corrupt place)) = (image : List ℕ) → named image → IsCorruptAt place image
+Why g named source sink host disk (Some ReadFault) = Rose source.before source.now
+Why g named source sink host disk (Some WriteFault) = Rose sink.before sink.now
+Why g named source sink host disk (Some DiskFault) = HasFailed g disk
+Why g named source sink host disk (Some HostFault) = Rose host.before host.now
+Why g named source sink host disk (Some NoMemory) = Unit {0}
+
+-- the words name a disk
+abbrev pub NamesDisk : Option Form → Type 0
+NamesDisk (Some (Format path size)) = Unit {0}
+NamesDisk (Some (ReplayStore path dir)) = Unit {0}
+NamesDisk (Some Replay) = ⊥
+NamesDisk None = ⊥
+
+-- The host holds a store under the name, where the words name one.
+abbrev pub FindsStore : Option Form → (List ℕ → List ℕ → Type 0) → Type 0
+FindsStore (Some (ReplayStore path dir)) holds = (image : List ℕ) × holds path image × (geometry : ℕ) × (fsid : ℕ) × (n : ℕ) × (h : Held) × IsRecovered geometry fsid n h image
+FindsStore (Some (Format path size)) holds = Unit {0}
+FindsStore (Some Replay) holds = Unit {0}
+FindsStore None holds = ⊥
+
+-- the source gives a script
+pub record GivesScript (given : Option (List ℕ)) : Type 0 where
+  pub bytes : List ℕ
+  pub known : given ≡ Some bytes
+  pub lines : List Line
+  pub script : IsScript (script_bytes bytes) lines
+
+abbrev pub FindsScript : Option Form → Option (List ℕ) → Type 0
+FindsScript (Some (Format path size)) given = Unit {0}
+FindsScript (Some Replay) given = GivesScript given
+FindsScript (Some (ReplayStore path dir)) given = GivesScript given
+FindsScript None given = ⊥
+
+pub record NothingFails {D : Type 0} (g : disk.Ghosts D) (source : SourceTold) (sink : SinkTold) (host : HostTold) (disk : Option D) : Type 0 where
+  pub source_works : ¬ (Rose source.before source.now)
+  pub sink_works : ¬ (Rose sink.before sink.now)
+  pub host_works : ¬ (Rose host.before host.now)
+  pub disk_works : ¬ (HasFailed g disk)
+
+-- When each status comes. A disk that the host handed out is given back. A run of a command that finds its store and its script, and in which nothing fails, ends with status 0, or 8.
+pub record StatusClause {D : Type 0} (g : disk.Ghosts D) (form : Option Form) (holds : List ℕ → List ℕ → Type 0) (source : SourceTold) (sink : SinkTold) (host : HostTold) (o : Outcome D) : Type 0 where
   pub status : o.status ≡ status_of o.cause
   pub place : o.at ≡ place_of o.cause
-  pub words : (o.status ≡ 2) ↔ (command ≡ None)
-  pub refused : o.status ≡ 1 → IfSome given (λ bytes. IsFirstBad (script_bytes bytes) o.at)
-  pub accepted : (o.status ≡ 0) ⊎ (o.status ≡ 5) → IfSome given (λ bytes. (lines : List Line) × IsScript (script_bytes bytes) lines)
-  pub ended : (o.status ≡ 0) ⊎ (o.status ≡ 5) → IsAtEnd left
-  pub read_fault : o.status ≡ 4 → Rose source_before source_now
-  pub write_fault : o.status ≡ 5 → Rose sink_before sink_now
-  pub complete : command ≢ None → ¬ (Rose source_before source_now) → ¬ (Rose sink_before sink_now) → IfSome given (EndsWell o.status)
-  pub base : o.base ≡ 0
+  pub base : o.base ≡ base_of (opened_in o)
+  pub words : (o.cause ≡ Some WordsRefused) ↔ (form ≡ None)
+  pub why : Why g (IsNamed form holds) source sink host o.disk o.cause
+  pub back : NamesDisk form → o.disk ≡ None → (o.cause ≡ Some HostFault) ⊎ (o.cause ≡ Some NoMemory)
+  pub opened : IfSome (opened_in o) (λ s. (image : List ℕ) → IsNamed form holds image → IsDurable s image)
+  pub complete : FindsStore form holds → FindsScript form source.given → NothingFails g source sink host o.disk → (o.cause ≡ None) ⊎ (o.cause ≡ Some NoMemory)

@@ -1,8 +1,14 @@
 pub mod Counted
+pub mod Hosts
+pub mod MemHosts
+pub mod HostCode
+pub mod FileDisks
 pub mod Statuses
 pub mod Commands
 pub mod Sources
+pub mod Openings
 pub mod Follows
-pub mod Runs
-pub mod Endings
+pub mod Told
 pub mod Clauses
+pub mod Endings
+pub mod Runs

@@ -1,7 +1,9 @@
 //! Why a run did not end well.
 ghost use Rattle.std.specs.Prelude.{◌≡◌};
-ghost use Rattle.hsm_cli.specs.Statuses.{status_of, place_of};
+ghost use Rattle.hsm_cli.specs.Statuses.{status_of, place_of, cause_of_refusal, cause_of_host};
 
+use crate::hosts::HostRefusal;
+use disk_model::OpenRefusal;
 use thiserror::Error;
 
 /// Why a run did not end well. Its text is what standard error says of it.
@@ -12,10 +14,19 @@ pub enum Cause {
     ScriptRefused { line: u64 },
     #[error("hsm: words refused")]
     WordsRefused,
+    #[error("hsm: not a store")]
+    NotStore,
+    /// The offset on the disk of what isn't valid.
+    #[error("hsm: corrupt at {place}")]
+    Corrupt { place: u64 },
     #[error("hsm: read fault")]
     ReadFault,
     #[error("hsm: write fault")]
     WriteFault,
+    #[error("hsm: disk fault")]
+    DiskFault,
+    #[error("hsm: host fault")]
+    HostFault,
     #[error("hsm: no memory")]
     NoMemory,
 }
@@ -29,19 +40,47 @@ impl Cause {
             None => 0,
             Some(Cause::ScriptRefused { .. }) => 1,
             Some(Cause::WordsRefused) => 2,
+            Some(Cause::NotStore | Cause::Corrupt { .. }) => 3,
             Some(Cause::ReadFault) => 4,
             Some(Cause::WriteFault) => 5,
+            Some(Cause::DiskFault) => 6,
+            Some(Cause::HostFault) => 7,
             Some(Cause::NoMemory) => 8,
         }
     }
 
-    /// The line that is told with it, or 0.
+    /// The line or the place that is told with it, or 0.
     pub fn place(cause: Option<Cause>) -> u64
         ensures { result ≡ place_of cause }
     {
         match cause {
             Some(Cause::ScriptRefused { line }) => line,
+            Some(Cause::Corrupt { place }) => place,
             _ => 0,
+        }
+    }
+}
+
+impl From<OpenRefusal> for Cause {
+    ghost from_gives = { λ refusal cause. cause ≡ cause_of_refusal refusal };
+
+    fn from(refusal: OpenRefusal) -> Cause {
+        match refusal {
+            OpenRefusal::NotStore => Cause::NotStore,
+            OpenRefusal::Corrupt { place } => Cause::Corrupt { place },
+            OpenRefusal::Disk => Cause::DiskFault,
+            OpenRefusal::Memory => Cause::NoMemory,
+        }
+    }
+}
+
+impl From<HostRefusal> for Cause {
+    ghost from_gives = { λ refusal cause. cause ≡ cause_of_host refusal };
+
+    fn from(refusal: HostRefusal) -> Cause {
+        match refusal {
+            HostRefusal::Failed => Cause::HostFault,
+            HostRefusal::Memory => Cause::NoMemory,
         }
     }
 }

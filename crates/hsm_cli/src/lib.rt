@@ -4,7 +4,16 @@
 mod adapters;
 mod causes;
 mod commands;
+mod file_host;
+#[cfg(test)]
+mod host_tests;
+mod hosts;
+mod mem_host;
+mod outcomes;
 mod runs;
+mod serving;
+#[cfg(test)]
+mod store_tests;
 mod streams;
 #[cfg(test)]
 mod tests;
@@ -12,6 +21,9 @@ mod top;
 
 pub use adapters::{Reading, Writing};
 pub use causes::Cause;
-pub use commands::Command;
-pub use runs::REPLAY_STORE;
-pub use top::{Outcome, hsm_main};
+pub use commands::{Command, StoreSize};
+pub use file_host::{FileDisk, FileHost};
+pub use hosts::{Host, HostRefusal};
+pub use mem_host::MemHost;
+pub use outcomes::Outcome;
+pub use top::hsm_main;

@@ -1,66 +1,101 @@
-//! A script, run on a new store.
-ghost use Rattle.std.specs.Prelude.{◌≡◌, [], OnOk, OnErr};
+//! A script, run on an opened store.
+ghost use Rattle.std.specs.Prelude.{◌≡◌, ◌≢◌, ◌⊎◌, false, OnOk, OnErr, IsErrOf};
 ghost use Rattle.std.specs.List.{AllByRecursion};
+ghost use Rattle.disk_model.specs.Calls.{Rose};
 ghost use Rattle.script_text.specs.Lines.{IsLine};
-ghost use Rattle.hsm_cli.specs.Follows.{Follows, FollowsFirst, AddsPart};
-ghost use Rattle.hsm_cli.specs.Runs.{LegalityClause, PlainClause};
+ghost use Rattle.hsm_cli.specs.Follows.{Follows, FollowsFirst, AddsPart, lines_run};
+ghost use Rattle.hsm_cli.specs.Runs.{IsOpenedAnew, GoesOn};
 
+use disk_model::Disk;
 use hsm_core::Hsm;
-use hsm_types::{CallRefusal, Reply, SMALL, Superblock};
-use plain_model::{Action, Actor, History};
+use hsm_types::{CallRefusal, Reply};
+use plain_model::{Action, Actor};
 use script_text::{Line, Script};
-use std::alloc::{AllocError, Global};
+use std::alloc::Global;
 
-/// How `replay` formats its store.
-pub const REPLAY_STORE: Superblock = Superblock {
-    geometry: SMALL,
-    fsid: 1,
-};
-
-/// Runs the lines of a script on a new store, as far as there is memory. Says whether all were run.
-pub fn run(alloc: Global, script: Script) -> (Result<(), AllocError>, History)
-    requires { AllByRecursion IsLine script }
-    ensures legality { LegalityClause result.1 }
-    ensures plain { PlainClause result.1 }
-    ensures all { OnOk result.0 (Follows script result.1) }
-    ensures first { FollowsFirst script result.1 }
-{
-    let mut hsm = Hsm::new(alloc, REPLAY_STORE);
-    let ran = run_lines(alloc, &mut hsm, script);
-    (ran, hsm.close())
+/// Why lines weren't run to their end.
+#[derive(Clone, Copy, Debug, PartialEq, Eq)]
+pub(crate) enum Stop {
+    Memory,
+    Disk,
 }
 
-/// Runs the lines, in order. Want of memory ends it.
-fn run_lines(alloc: Global, hsm: &mut Hsm, script: Script) -> Result<(), AllocError>
+/// Runs the lines of a script on a store, and a commit after them where that is wanted.
+pub(crate) fn run<D: Disk>(
+    alloc: Global,
+    hsm: &mut Hsm<D>,
+    script: Script,
+    commits: bool,
+) -> Result<(), Stop>
     requires lawful { AllByRecursion IsLine script }
-    requires new { hsm.old.history ≡ [] }
-    ensures superblock { hsm.new.superblock ≡ hsm.old.superblock }
-    ensures opening { hsm.new.opening ≡ hsm.old.opening }
-    ensures all { OnOk result (Follows script hsm.new.history) }
-    ensures first { FollowsFirst script hsm.new.history }
+    requires anew { IsOpenedAnew hsm.old }
+    ensures goes_on { GoesOn D.Disk hsm.old hsm.new }
+    ensures all { OnOk result (Follows (lines_run commits script) hsm.new.history) }
+    ensures first { FollowsFirst (lines_run commits script) hsm.new.history }
+    ensures working { OnOk result (hsm.new.files.failed ≡ false) }
+    ensures memory { IsErrOf result Stop.Memory → hsm.new.files.failed ≡ false }
+    ensures disk { IsErrOf result Stop.Disk → Rose (D.fault_count hsm.old.files.disk) (D.fault_count hsm.new.files.disk) }
 {
-    for line in script.into_vec() {
+    let mut lines = script.into_vec();
+    if commits {
+        let commit = Line::Event {
+            actor: Actor::Store,
+            action: Action::Commit,
+            seed: None,
+        };
+        let Ok(()) = lines.push(commit) else {
+            return Err(Stop::Memory);
+        };
+    }
+    run_lines(alloc, hsm, lines)
+}
+
+/// Runs the lines, in order, as far as there is memory and the disk doesn't fail.
+fn run_lines<D: Disk>(alloc: Global, hsm: &mut Hsm<D>, lines: Vec<Line>) -> Result<(), Stop>
+    requires lawful { AllByRecursion IsLine lines.items }
+    requires anew { IsOpenedAnew hsm.old }
+    ensures goes_on { GoesOn D.Disk hsm.old hsm.new }
+    ensures all { OnOk result (Follows lines.items hsm.new.history) }
+    ensures first { FollowsFirst lines.items hsm.new.history }
+    ensures working { OnOk result (hsm.new.files.failed ≡ false) }
+    ensures memory { IsErrOf result Stop.Memory → hsm.new.files.failed ≡ false }
+    ensures disk { IsErrOf result Stop.Disk → Rose (D.fault_count hsm.old.files.disk) (D.fault_count hsm.new.files.disk) }
+{
+    for line in lines {
         run_line(alloc, hsm, line)?;
     }
     Ok(())
 }
 
 /// Makes the events of a line.
-fn run_line(alloc: Global, hsm: &mut Hsm, line: Line) -> Result<(), AllocError>
-    requires { IsLine line }
-    ensures superblock { hsm.new.superblock ≡ hsm.old.superblock }
-    ensures opening { hsm.new.opening ≡ hsm.old.opening }
+fn run_line<D: Disk>(alloc: Global, hsm: &mut Hsm<D>, line: Line) -> Result<(), Stop>
+    requires lawful { IsLine line }
+    requires working { hsm.old.files.failed ≡ false }
+    ensures goes_on { GoesOn D.Disk hsm.old hsm.new }
     ensures ok { OnOk result (AddsPart line hsm.old.history hsm.new.history) }
-    ensures err { OnErr result (hsm.new ≡ hsm.old) }
+    ensures working { OnOk result (hsm.new.files.failed ≡ false) }
+    ensures err { OnErr result ((hsm.new.history ≡ hsm.old.history) ⊎ AddsPart line hsm.old.history hsm.new.history) }
+    ensures memory { IsErrOf result Stop.Memory → hsm.new.files.failed ≡ false }
+    ensures disk { IsErrOf result Stop.Disk → Rose (D.fault_count hsm.old.files.disk) (D.fault_count hsm.new.files.disk) }
 {
     let Line::Event { actor, action, .. } = line;
     let reply = match (actor, action) {
         (Actor::Caller(caller), Action::Issue(call)) => hsm.issue(alloc, caller, call),
-        (Actor::Store, Action::Commit) => hsm.commit(),
+        (Actor::Store, Action::Commit) => hsm.commit(alloc),
         _ => unreachable!(),
     };
+    goes_on(&reply)
+}
+
+/// Whether a run goes on after that reply.
+fn goes_on(reply: &Reply) -> Result<(), Stop>
+    ensures ok { OnOk result ((reply.now ≢ Reply.Refused CallRefusal.Memory) × (reply.now ≢ Reply.Refused CallRefusal.Disk)) }
+    ensures memory { IsErrOf result Stop.Memory → reply.now ≡ Reply.Refused CallRefusal.Memory }
+    ensures disk { IsErrOf result Stop.Disk → reply.now ≡ Reply.Refused CallRefusal.Disk }
+{
     match reply {
-        Reply::Refused(CallRefusal::Memory) => Err(AllocError),
+        Reply::Refused(CallRefusal::Memory) => Err(Stop::Memory),
+        Reply::Refused(CallRefusal::Disk) => Err(Stop::Disk),
         _ => Ok(()),
     }
 }

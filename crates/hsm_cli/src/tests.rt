@@ -1,4 +1,5 @@
-use crate::{Cause, Outcome, hsm_main};
+use crate::{Cause, MemHost, Outcome, hsm_main};
+use disk_model::{FuseDisk, MemDisk};
 use script_text::{MemorySink, MemorySource, Sink, Source};
 use std::alloc::{AllocError, Global};
 use std::process::Abort;
@@ -9,26 +10,26 @@ const SCRIPT: &str = "c1 create a\nc1 write a 0 x:616263\nc1 read a 0 3\n";
 const TRANSCRIPT: &str =
     "c1 create a = made 1.1\nc1 write a 0 616263 = done\nc1 read a 0 3 = 616263\n";
 
-const PIECES: [usize; 3] = [1, 7, 1000];
+const PIECES: [usize; 2] = [16, 1000];
 
 /// How the calls of a stream go: at most so many bytes each, and one of them, numbered from 0, may fail.
 #[derive(Clone, Copy)]
-struct Calls {
+pub(crate) struct Calls {
     piece: usize,
     failing: Option<u64>,
 }
 
 /// All bytes at once, and no fault.
-const WELL: Calls = Calls {
+pub(crate) const WELL: Calls = Calls {
     piece: 1000,
     failing: None,
 };
 
 /// How a run ended, and what its streams tell.
 #[derive(Drop)]
-struct Ran {
-    outcome: Outcome,
-    taken: Vec<u8>,
+pub(crate) struct Ran {
+    pub outcome: Outcome<FuseDisk<MemDisk>>,
+    pub taken: Vec<u8>,
     source_faults: u64,
     sink_faults: u64,
 }
@@ -49,8 +50,9 @@ fn numbers(alloc: Global, number: Option<u64>) -> Result<Vec<u64>, AllocError> {
     Ok(numbers)
 }
 
-fn run(
+pub(crate) fn run_on(
     alloc: Global,
+    host: &mut MemHost,
     words: &[&str],
     script: &str,
     reads: Calls,
@@ -60,13 +62,25 @@ fn run(
     let script = script.as_bytes().to_vec(alloc)?;
     let mut source = MemorySource::new(script, reads.piece.max(1), numbers(alloc, reads.failing)?);
     let mut sink = MemorySink::new(alloc, writes.piece, numbers(alloc, writes.failing)?);
-    let outcome = hsm_main(alloc, words.as_slice(), &mut source, &mut sink);
+    let outcome = hsm_main(alloc, words.as_slice(), host, &mut source, &mut sink);
     Ok(Ran {
         outcome,
         taken: sink.bytes().to_vec(alloc)?,
         source_faults: source.faults(),
         sink_faults: sink.faults(),
     })
+}
+
+/// Runs on a host without disks.
+fn run(
+    alloc: Global,
+    words: &[&str],
+    script: &str,
+    reads: Calls,
+    writes: Calls,
+) -> Result<Ran, AllocError> {
+    let mut host = MemHost::new(alloc, Vec::new(alloc));
+    run_on(alloc, &mut host, words, script, reads, writes)
 }
 
 /// Runs the three lines.

@@ -1,153 +1,171 @@
 //! The top call.
-ghost use Rattle.std.specs.Prelude.{◌≡◌, ℕ, map, take, IfOk, IfErr, IfSome, OnOk, MatchResult};
+ghost use Rattle.std.specs.Prelude.{◌≡◌, ◌≢◌, ◌⊎◌, ℕ, List, [], map, true, false, Some, None, IfOk, IfSome};
 ghost use Rattle.std.specs.String.{string_bytes};
-ghost use Rattle.std.specs.Io.KnownBytes.{Appends, IsAtEnd};
-ghost use Rattle.plain_model.specs.Render.{text_of};
-ghost use Rattle.std.specs.List.{AllByRecursion};
-ghost use Rattle.script_text.specs.Lines.{IsLine};
-ghost use Rattle.script_text.specs.Scripts.{IsScript};
-ghost use Rattle.hsm_cli.specs.Commands.{command_of};
-ghost use Rattle.hsm_cli.specs.Sources.{script_bytes};
-ghost use Rattle.hsm_cli.specs.Runs.{LegalityClause, PlainClause};
-ghost use Rattle.hsm_cli.specs.Clauses.{ScriptClause, OutputClause, StatusClause};
-ghost use Rattle.hsm_cli.specs.Endings.{ReadingEnds, WritingEnds, ReplayEnds, CommandEnds, OutputOf, outcome_of};
+ghost use Rattle.plain_model.specs.Faults.{has_fault};
+ghost use Rattle.plain_model.specs.State.{nothing_held};
+ghost use Rattle.file_store.specs.Stores.{superblock_of, IsDurable};
+ghost use Rattle.hsm_cli.specs.Commands.{form_of, fsid_of, geometry_number};
+ghost use Rattle.hsm_cli.specs.Statuses.{status_of, place_of};
+ghost use Rattle.hsm_cli.specs.Openings.{opened_in, base_of, replay_store};
+ghost use Rattle.hsm_cli.specs.Clauses.{ScriptClause, LegalityClause, PlainClause, CrashClause, FormatClause, OutputClause, StatusClause, HasRun, IsLegalFrom, IsPlainFrom, LeavesSafe, IsFormatted, HasFailed, Why};
+ghost use Rattle.hsm_cli.specs.Endings.{RunEnds, FormatEnds};
+ghost use Rattle.hsm_cli.specs.Told.{source_told, sink_told, host_told};
+ghost use Rattle.hsm_cli.specs.Runs.{IsOpenedAnew};
 
 use crate::causes::Cause;
-use crate::commands::Command;
-use crate::runs::run;
-use crate::streams::{read_all, write_all};
-use plain_model::{History, render};
-use script_text::{Failed, ParseRefusal, Script, Sink, Source, one_script, parse};
+use crate::commands::{Command, StoreSize};
+use crate::hosts::Host;
+use crate::outcomes::Outcome;
+use crate::serving::serve;
+use byteorder::{BigEndian, ByteOrder};
+use commit_slots::Layout;
+use disk_model::{Disk, Failed, SureDisk};
+use file_store::{formatted_is_empty, one_recovery};
+use hsm_core::Hsm;
+use script_text::{Sink, Source, one_script};
+use sha2::{Digest, Sha256};
 use std::alloc::{AllocError, Global};
 
-/// What a run of the program gives.
-#[derive(Drop)]
-pub struct Outcome {
-    /// The status with which the program ends.
-    pub status: u8,
+/// The file system id of the store that plain `replay` makes.
+const REPLAY_FSID: u64 = 1;
 
-    /// The line at which a script was refused, else 0.
-    pub at: u64,
-
-    /// What went wrong first, if anything did. Its text is what standard error says.
-    pub cause: Option<Cause>,
-
-    /// Entry i of the history, from 1, has the number `base + i`.
-    pub base: u64,
-
-    /// The events of the run.
-    pub history: History,
-}
-
-/// Does what the words say. `replay` runs the script from the source on a new small store in memory, and writes the
-/// transcript to the sink.
-pub fn hsm_main<I: Source, O: Sink>(
+/// Does what the words say. `format` makes an empty store on a disk of the host. `replay` runs the script from the source on a new small
+/// store in memory, or on the store of a disk of the host, and writes the transcript to the sink.
+pub fn hsm_main<H: Host, I: Source, O: Sink>(
     alloc: Global,
     words: &[String],
+    host: &mut H,
     source: &mut I,
     sink: &mut O,
-) -> Outcome
-    ensures script { ScriptClause result (I.left source.old) }
-    ensures legality { LegalityClause result.history }
-    ensures plain { PlainClause result.history }
-    ensures output { OutputClause result (O.taken sink.old) (O.taken sink.new) (O.fault_count sink.old) (O.fault_count sink.new) }
-    ensures status { StatusClause (command_of (map string_bytes words.now)) result (I.left source.old) (I.left source.new) (I.fault_count source.old) (I.fault_count source.new) (O.fault_count sink.old) (O.fault_count sink.new) }
+) -> Outcome<H::Disk>
+    ensures script { ScriptClause (form_of (map string_bytes words.now)) (source_told I.left I.fault_count source.old source.new) result }
+    ensures legality { LegalityClause H.Disk.Disk result }
+    ensures plain { PlainClause result }
+    ensures crash { CrashClause H.Disk.Disk (form_of (map string_bytes words.now)) (H.holds host.old) result }
+    ensures format { FormatClause H.Disk.Disk (form_of (map string_bytes words.now)) result }
+    ensures output { OutputClause result (sink_told O.taken O.fault_count sink.old sink.new) }
+    ensures status { StatusClause H.Disk.Disk (form_of (map string_bytes words.now)) (H.holds host.old) (source_told I.left I.fault_count source.old source.new) (sink_told O.taken O.fault_count sink.old sink.new) (host_told H.fault_count host.old host.new) result }
 {
-    let command = Command::of(words);
-    let (cause, history) = obey(alloc, command, source, sink);
     one_script();
-    ending(cause, history)
-}
-
-fn ending(cause: Option<Cause>, history: History) -> Outcome
-    ensures { result ≡ outcome_of cause history }
-{
-    Outcome {
-        status: Cause::status(cause),
-        at: Cause::place(cause),
-        cause,
-        base: 0,
-        history,
-    }
-}
-
-/// Does a command. Says what went wrong first, if anything did.
-fn obey<I: Source, O: Sink>(
-    alloc: Global,
-    command: Option<Command>,
-    source: &mut I,
-    sink: &mut O,
-) -> (Option<Cause>, History)
-    ensures ends { CommandEnds command result.0 result.1 (I.left source.old) (I.left source.new) (I.fault_count source.old) (I.fault_count source.new) (O.fault_count sink.old) (O.fault_count sink.new) }
-    ensures legality { LegalityClause result.1 }
-    ensures plain { PlainClause result.1 }
-    ensures output { OutputOf result.0 result.1 (O.taken sink.old) (O.taken sink.new) }
-{
-    match command {
+    match Command::of(words) {
+        Some(Command::Format { path, size }) => format(alloc, host, path, size),
         Some(Command::Replay) => replay(alloc, source, sink),
-        None => (Some(Cause::WordsRefused), History::new(alloc)),
+        Some(Command::ReplayStore { path, .. }) => replay_store(alloc, host, path, source, sink),
+        None => Outcome::unopened(alloc, Some(Cause::WordsRefused), None),
     }
 }
 
-/// Runs the script from the source, and writes the transcript to the sink. Says what went wrong first, if anything did.
-fn replay<I: Source, O: Sink>(
+/// Makes an empty store on a disk of the host.
+fn format<H: Host>(alloc: Global, host: &mut H, path: &str, size: StoreSize) -> Outcome<H::Disk>
+    ensures unopened { result ≡ record { status = status_of result.cause; at = place_of result.cause; cause = result.cause; base = 0; opening = None; history = []; disk = result.disk } }
+    ensures formatted { result.cause ≡ None → IsFormatted H.Disk.Disk (geometry_number size) (fsid_of path.now) result.disk }
+    ensures back { result.disk ≡ None → (result.cause ≡ Some Cause.HostFault) ⊎ (result.cause ≡ Some Cause.NoMemory) }
+    ensures ends { FormatEnds (HasFailed H.Disk.Disk result.disk) (host_told H.fault_count host.old host.new) result.cause }
+{
+    formatted_is_empty();
+    let geometry = size.geometry();
+    match host.make(path, Layout::of_geometry(geometry).whole) {
+        Ok(mut disk) => {
+            let cause = match Hsm::format(&mut disk, geometry, fsid(path)) {
+                Ok(()) => None,
+                Err(Failed) => Some(Cause::DiskFault),
+            };
+            Outcome::unopened(alloc, cause, Some(disk))
+        }
+        Err(refusal) => Outcome::unopened(alloc, Some(Cause::from(refusal)), None),
+    }
+}
+
+/// The file system id of a store under that path.
+fn fsid(path: &str) -> u64
+    ensures { result ≡ fsid_of path.now }
+{
+    BigEndian::read_u64(&Sha256::digest(path.as_bytes()))
+}
+
+/// Runs the script from the source on a new small store in memory.
+fn replay<D: Disk, I: Source, O: Sink>(alloc: Global, source: &mut I, sink: &mut O) -> Outcome<D>
+    ensures new { (result.opening ≡ None) × (result.disk ≡ None) × (result.base ≡ 0) }
+    ensures told { (result.status ≡ status_of result.cause) × (result.at ≡ place_of result.cause) }
+    ensures script { HasRun false (source_told I.left I.fault_count source.old source.new) result.cause result.history }
+    ensures legality { IsLegalFrom {D = D} None result.history }
+    ensures faultless { has_fault result.history ≡ false }
+    ensures plain { IsPlainFrom {D = D} None result.history }
+    ensures output { OutputClause result (sink_told O.taken O.fault_count sink.old sink.new) }
+    ensures ends { RunEnds ⊥ (source_told I.left I.fault_count source.old source.new) (sink_told O.taken O.fault_count sink.old sink.new) result.cause }
+{
+    match new_store(alloc) {
+        Ok(hsm) => {
+            let served = serve(alloc, hsm, false, source, sink);
+            Outcome {
+                status: Cause::status(served.cause),
+                at: Cause::place(served.cause),
+                cause: served.cause,
+                base: 0,
+                opening: None,
+                history: served.history,
+                disk: None,
+            }
+        }
+        Err(AllocError) => Outcome::unopened(alloc, Some(Cause::NoMemory), None),
+    }
+}
+
+/// A small store in memory, formatted and opened.
+fn new_store(alloc: Global) -> Result<Hsm<SureDisk>, AllocError>
+    ensures anew { IfOk result (λ s. IsOpenedAnew s) }
+    ensures empty { IfOk result (λ s. (superblock_of s.opened ≡ replay_store) × (s.opened.held ≡ nothing_held)) }
+{
+    formatted_is_empty();
+    one_recovery();
+    let whole = Layout::of_geometry(StoreSize::Small.geometry()).whole;
+    let mut disk = SureDisk::new(vec![in alloc; 0; whole as usize]?);
+    let Ok(()) = Hsm::format(&mut disk, StoreSize::Small.geometry(), REPLAY_FSID) else {
+        unreachable!()
+    };
+    match Hsm::open(alloc, disk) {
+        Ok(hsm) => Ok(hsm),
+        // A disk that never fails was just formatted, so this is want of memory.
+        Err(_) => Err(AllocError),
+    }
+}
+
+/// Runs the script from the source on the store of a disk of the host, and then commits.
+fn replay_store<H: Host, I: Source, O: Sink>(
     alloc: Global,
+    host: &mut H,
+    path: &str,
     source: &mut I,
     sink: &mut O,
-) -> (Option<Cause>, History)
-    ensures ends { ReplayEnds result.0 result.1 (I.left source.old) (I.left source.new) (I.fault_count source.old) (I.fault_count source.new) (O.fault_count sink.old) (O.fault_count sink.new) }
-    ensures legality { LegalityClause result.1 }
-    ensures plain { PlainClause result.1 }
-    ensures output { OutputOf result.0 result.1 (O.taken sink.old) (O.taken sink.new) }
+) -> Outcome<H::Disk>
+    ensures told { (result.status ≡ status_of result.cause) × (result.at ≡ place_of result.cause) × (result.base ≡ base_of (opened_in result)) }
+    ensures command { result.cause ≢ Some Cause.WordsRefused }
+    ensures script { HasRun true (source_told I.left I.fault_count source.old source.new) result.cause result.history }
+    ensures legality { LegalityClause H.Disk.Disk result }
+    ensures plain { PlainClause result }
+    ensures crash { LeavesSafe H.Disk.Disk (H.holds host.old path.now) (opened_in result) result.history result.disk }
+    ensures output { OutputClause result (sink_told O.taken O.fault_count sink.old sink.new) }
+    ensures opened { IfSome (opened_in result) (λ s. (image : List ℕ) → H.holds host.old path.now image → IsDurable s image) }
+    ensures back { result.disk ≡ None → (result.cause ≡ Some Cause.HostFault) ⊎ (result.cause ≡ Some Cause.NoMemory) }
+    ensures why { Why H.Disk.Disk (H.holds host.old path.now) (source_told I.left I.fault_count source.old source.new) (sink_told O.taken O.fault_count sink.old sink.new) (host_told H.fault_count host.old host.new) result.disk result.cause }
 {
-    match read_script(alloc, source) {
-        Ok(script) => {
-            let (ran, history) = run(alloc, script);
-            let written = write_transcript(alloc, sink, &history);
-            (first_cause(ran, written), history)
-        }
-        Err(cause) => (Some(cause), History::new(alloc)),
-    }
-}
-
-/// Reads a script to its end.
-#[tactic(auto, using(crate::proofs::Lawful::lawful))]
-fn read_script<I: Source>(alloc: Global, source: &mut I) -> Result<Script, Cause>
-    ensures script { IfOk result (λ lines. IfSome (I.left source.old) (λ bytes. IsScript (script_bytes bytes) lines)) }
-    ensures lawful { IfOk result (λ lines. AllByRecursion IsLine lines) }
-    ensures ended { OnOk result (IsAtEnd (I.left source.new)) }
-    ensures refused { IfErr result (λ why. ReadingEnds why (I.left source.old) (I.fault_count source.old) (I.fault_count source.new)) }
-{
-    let bytes = read_all(alloc, source)?;
-    match parse(alloc, bytes.as_slice()) {
-        Ok(script) => Ok(script),
-        Err(ParseRefusal::BadLine { line }) => Err(Cause::ScriptRefused { line }),
-        Err(ParseRefusal::Memory) => Err(Cause::NoMemory),
-    }
-}
-
-/// Writes the text of a history.
-fn write_transcript<O: Sink>(alloc: Global, sink: &mut O, history: &History) -> Result<(), Cause>
-    ensures first { (n : ℕ) × Appends (O.taken sink.old) (O.taken sink.new) (take n (text_of history.now)) }
-    ensures all { OnOk result (Appends (O.taken sink.old) (O.taken sink.new) (text_of history.now)) }
-    ensures refused { IfErr result (λ why. WritingEnds why (O.fault_count sink.old) (O.fault_count sink.new)) }
-{
-    let Ok(text) = render(alloc, history.as_slice()) else {
-        return Err(Cause::NoMemory);
+    let disk = match host.disk(path) {
+        Ok(disk) => disk,
+        Err(refusal) => return Outcome::unopened(alloc, Some(Cause::from(refusal)), None),
     };
-    match write_all(sink, text.as_slice()) {
-        Ok(()) => Ok(()),
-        Err(Failed) => Err(Cause::WriteFault),
-    }
-}
-
-/// What went wrong first.
-fn first_cause(ran: Result<(), AllocError>, written: Result<(), Cause>) -> Option<Cause>
-    ensures { MatchResult ran (λ _. MatchResult written (λ _. result ≡ None) (λ why. result ≡ Some why)) (λ _. result ≡ Some Cause.NoMemory) }
-{
-    match (ran, written) {
-        (Err(_), _) => Some(Cause::NoMemory),
-        (Ok(()), Err(why)) => Some(why),
-        (Ok(()), Ok(())) => None,
+    match Hsm::open(alloc, disk) {
+        Ok(hsm) => {
+            let served = serve(alloc, hsm, true, source, sink);
+            Outcome {
+                status: Cause::status(served.cause),
+                at: Cause::place(served.cause),
+                cause: served.cause,
+                base: served.base,
+                opening: Some(served.opening),
+                history: served.history,
+                disk: Some(served.disk),
+            }
+        }
+        Err((refusal, disk)) => Outcome::unopened(alloc, Some(Cause::from(refusal)), Some(disk)),
     }
 }

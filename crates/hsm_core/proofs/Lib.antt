@@ -1,3 +1,6 @@
-pub mod Places
 pub mod Refusing
+pub mod NamedFiles
+pub mod Syncs
 pub mod Runs
+pub mod Safety
+pub mod Events

@@ -1,5 +1,6 @@
-pub mod Contents
-pub mod Rows
+pub mod Rewrites
 pub mod Refusals
 pub mod Store
+pub mod Crashes
+pub mod Answers
 pub mod Kept

@@ -1,10 +1,10 @@
-//! The store and its history, over bodies in memory.
+//! The store and its history, over files on a disk.
 #![tactic(auto)]
 
-mod contents;
-mod files;
+mod answering;
+mod judging;
 mod refusals;
-mod rows;
+mod room;
 mod store;
 #[cfg(test)]
 mod tests;

@@ -1,42 +1,46 @@
 //! What refuses a call, in the order of judgement.
 ghost use Rattle.std.specs.Prelude.{◌≡◌, ◌+◌};
 ghost use Rattle.plain_model.specs.Plain.{bad_name, bad_length, missing, exists, too_big, no_inodes, refusal_of};
-ghost use Rattle.plain_model.specs.State.{names_of, no_space};
-ghost use Rattle.hsm_core.specs.Rows.{files_of};
+ghost use Rattle.plain_model.specs.State.{names_of};
 ghost use Rattle.hsm_core.specs.Refusals.{first_of};
 
-use crate::rows::{Row, find};
+use disk_model::Disk;
+use file_store::FileStore;
 use hsm_types::{ACCESS_BYTES, Call, CallRefusal, FILE_BYTES, Superblock, Word, can_name};
 
 /// What refuses a call by its words and by the names of the files, if anything does.
 #[tactic(auto, using(crate::proofs::Refusing::two, crate::proofs::Refusing::three, crate::proofs::Refusing::four))]
-pub fn refusal(superblock: &Superblock, rows: &[Row], call: &Call) -> Option<CallRefusal>
-    ensures { result ≡ refusal_of superblock.now (names_of (files_of rows.now)) call.now }
+pub(crate) fn refusal<D: Disk>(
+    superblock: &Superblock,
+    files: &FileStore<D>,
+    call: &Call,
+) -> Option<CallRefusal>
+    ensures { result ≡ refusal_of superblock.now (names_of files.now.held.files) call.now }
 {
     match call {
         Call::Create { name } => {
-            let files = superblock.geometry.files;
+            let count = superblock.geometry.files;
             first(
                 of_name(name),
-                first(of_present(rows, name), of_inodes(files, rows)),
+                first(of_present(files, name), of_inodes(count, files)),
             )
         }
         Call::Read { name, len, .. } => first(
             of_name(name),
-            first(of_length(*len), of_absent(rows, name)),
+            first(of_length(*len), of_absent(files, name)),
         ),
         Call::Write { name, offset, body } => {
             let len = body.as_slice().len() as u64;
             first(
                 first(of_name(name), of_length(len)),
-                first(of_absent(rows, name), of_write(*offset, len)),
+                first(of_absent(files, name), of_write(*offset, len)),
             )
         }
         Call::Truncate { name, size } => first(
             of_name(name),
-            first(of_absent(rows, name), of_end(*size)),
+            first(of_absent(files, name), of_end(*size)),
         ),
-        Call::Remove { name } | Call::Stat { name } => first(of_name(name), of_absent(rows, name)),
+        Call::Remove { name } | Call::Stat { name } => first(of_name(name), of_absent(files, name)),
         Call::Sync => None,
     }
 }
@@ -71,30 +75,31 @@ fn of_length(len: u64) -> Option<CallRefusal>
     }
 }
 
-fn of_absent(rows: &[Row], name: &Word) -> Option<CallRefusal>
-    ensures { result ≡ missing name.now (names_of (files_of rows.now)) }
+fn of_absent<D: Disk>(files: &FileStore<D>, name: &Word) -> Option<CallRefusal>
+    ensures { result ≡ missing name.now (names_of files.now.held.files) }
 {
-    match find(rows, name) {
+    match files.find(name) {
         Some(_) => None,
         None => Some(CallRefusal::Missing),
     }
 }
 
-fn of_present(rows: &[Row], name: &Word) -> Option<CallRefusal>
-    ensures { result ≡ exists name.now (names_of (files_of rows.now)) }
+fn of_present<D: Disk>(files: &FileStore<D>, name: &Word) -> Option<CallRefusal>
+    ensures { result ≡ exists name.now (names_of files.now.held.files) }
 {
-    match find(rows, name) {
+    match files.find(name) {
         Some(_) => Some(CallRefusal::Exists),
         None => None,
     }
 }
 
-fn of_inodes(files: u32, rows: &[Row]) -> Option<CallRefusal>
-    ensures { result ≡ no_inodes files (names_of (files_of rows.now)) }
+fn of_inodes<D: Disk>(count: u32, files: &FileStore<D>) -> Option<CallRefusal>
+    ensures { result ≡ no_inodes count (names_of files.now.held.files) }
 {
-    if rows.len() == files as usize {
-        let count = u64::from(files);
-        Some(CallRefusal::NoInodes { count })
+    if files.len() == count {
+        Some(CallRefusal::NoInodes {
+            count: u64::from(count),
+        })
     } else {
         None
     }
@@ -114,17 +119,6 @@ fn of_end(end: u64) -> Option<CallRefusal>
 {
     if FILE_BYTES < end {
         Some(CallRefusal::TooBig { end })
-    } else {
-        None
-    }
-}
-
-/// Whether more blocks are needed than are free.
-pub fn of_space(need: u64, free: u64) -> Option<CallRefusal>
-    ensures { result ≡ no_space need free }
-{
-    if free < need {
-        Some(CallRefusal::NoSpace { need, free })
     } else {
         None
     }

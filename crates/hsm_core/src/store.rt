@@ -1,105 +1,186 @@
 //! The store with its history.
-ghost use Rattle.std.specs.Prelude.{◌≡◌, [], OnOk, OnErr};
-ghost use Rattle.plain_model.specs.State.{nothing_held};
-ghost use Rattle.hsm_core.specs.Store.{IsAnswered, IsTried, IsCommitted, store_committed};
+ghost use Rattle.std.specs.Prelude.{◌≡◌, ◌⊎◌, ◌<◌, ◌≤◌, ◌++◌, [], ◌∷◌, true, false, List, ℕ, vec_len, vec_capacity, IfOk, IfErr, OnOk, IsErrOf};
+ghost use Rattle.disk_model.specs.Calls.{Rose, HasCause};
+ghost use Rattle.disk_model.specs.Images.{Alike};
+ghost use Rattle.disk_model.specs.Moments.{MayBe, LeavesOnly, Keeps, Same};
+ghost use Rattle.commit_slots.specs.Images.{IsStore, IsEmptyStore};
+ghost use Rattle.commit_slots.specs.Places.{layout_of};
+ghost use Rattle.meta_store.specs.Catalogs.{geometry_of};
+ghost use Rattle.meta_store.specs.Images.{IsCorruptAt};
+ghost use Rattle.file_store.specs.Stores.{IsLawful, IsDurable, Proceeds};
+ghost use Rattle.hsm_core.specs.Store.{next_number};
+ghost use Rattle.hsm_core.specs.Answers.{entry_of, IsAnswered, IsCommitted};
+ghost use Rattle.plain_model.specs.Synced.{synced};
+ghost use Rattle.hsm_core.specs.Crashes.{IsPrefix};
 ghost use Rattle.hsm_core.specs.Kept.{IsKept};
 
-use crate::files::Files;
-use hsm_types::{Call, CallRefusal, CallerId, Reply, Superblock};
+use crate::answering::{answer, commit};
+use commit_slots::CommitSlots;
+use disk_model::{Disk, Failed, OpenRefusal};
+use file_store::{FileStore, StoreRefusal};
+use hsm_types::{Call, CallRefusal, CallerId, Reply};
 use plain_model::{
     Action, Actor, Answer, Entry, History, exact_is_legal, exact_is_once, exact_is_sided,
     transparent,
 };
-use std::alloc::{AllocError, Global};
+use std::alloc::Global;
 use std::marker::Model;
 use std::snapshot::Snapshot;
 
-/// A store. Its history has just the answers that the store gives, one after the other, from its opening on.
+/// A store on its disk. Its history has just the answers that the store gives, one after the other, from its opening on.
 #[derive(Drop)]
-pub struct Hsm {
-    superblock: Superblock,
-    opening: Snapshot<Files>,
-    files: Files,
+pub struct Hsm<D: Disk> {
+    files: FileStore<D>,
+    opened: Snapshot<FileStore<D>>,
+    /// The number of the snapshot that was opened.
+    base: u64,
     history: Vec<Entry>,
 }
 
-impl Model for Hsm {
+impl<D: Disk> Model for Hsm<D> {
+    ghost use Rattle.std.specs.Prelude.{◌≡◌, ◌≤◌, ◌^◌};
     ghost use Rattle.hsm_core.specs.Store.{Store, IsRun};
+    ghost use Rattle.hsm_core.specs.Crashes.{IsSafe};
 
-    ghost Value = { Store };
+    ghost Value = { Store D };
 
-    ghost view = { λ h. record { superblock = h.superblock; opening = h.opening.value; held = h.files; history = h.history.items } };
+    ghost view = { λ h. record { opened = h.opened.value; files = h.files; history = h.history.items } };
 
-    ghost invariant = { λ h. IsRun (record { superblock = h.superblock; opening = h.opening.value; held = h.files; history = h.history.items }) };
+    ghost invariant = { λ h. IsRun (record { opened = h.opened.value; files = h.files; history = h.history.items }) × IsSafe D.Disk (record { opened = h.opened.value; files = h.files; history = h.history.items }) × (h.base ≡ h.opened.value.meta.number) × (h.base ≤ 2 ^ 62) };
 }
 
-impl Hsm {
-    /// An empty store. It takes no memory.
-    pub fn new(alloc: Global, superblock: Superblock) -> Hsm
-        ensures { result ≡ record { superblock = superblock; opening = nothing_held; held = nothing_held; history = [] } }
+/// Makes room for an entry, unless a call of the disk has failed before.
+fn make_ready<D: Disk>(files: &FileStore<D>, history: &mut Vec<Entry>) -> Result<(), CallRefusal>
+    ensures same { history.new.items ≡ history.old.items }
+    ensures room { OnOk result (vec_len history.new < vec_capacity history.new) }
+    ensures working { OnOk result (files.now.failed ≡ false) }
+    ensures idle { files.now.failed ≡ false → (n : ℕ) → Proceeds D.Disk files.now n files.now }
+    ensures refused { IfErr result (λ why. (why ≡ CallRefusal.Disk) × (files.now.failed ≡ true) ⊎ (why ≡ CallRefusal.Memory) × (files.now.failed ≡ false)) }
+{
+    if files.has_failed() {
+        return Err(CallRefusal::Disk);
+    }
+    match history.reserve(1) {
+        Ok(()) => Ok(()),
+        Err(_) => Err(CallRefusal::Memory),
+    }
+}
+
+/// Keeps an entry, for which there is room.
+fn note(history: &mut Vec<Entry>, actor: Actor, action: Action, reply: Reply)
+    requires { vec_len history.old < vec_capacity history.old }
+    ensures { history.new.items ≡ history.old.items ++ entry_of actor action reply ∷ [] }
+{
+    history
+        .push(Entry {
+            actor,
+            action,
+            answer: Answer::Call(reply),
+        })
+        .unwrap();
+}
+
+/// Keeps an event, for which there is room, and answers it. Nothing is kept of one that lacked memory.
+fn keep(
+    history: &mut Vec<Entry>,
+    actor: Actor,
+    action: Action,
+    done: Result<(Reply, Reply), StoreRefusal>,
+) -> Reply
+    requires { vec_len history.old < vec_capacity history.old }
+    ensures kept { IfOk done (λ r. (result ≡ r.0) × (history.new.items ≡ history.old.items ++ entry_of actor action r.1 ∷ [])) }
+    ensures memory { IsErrOf done StoreRefusal.Memory → (result ≡ Reply.Refused CallRefusal.Memory) × (history.new.items ≡ history.old.items) }
+    ensures failed { IsErrOf done StoreRefusal.Disk → (result ≡ Reply.Refused CallRefusal.Disk) × (history.new.items ≡ history.old.items ++ entry_of actor action (Reply.Refused CallRefusal.Disk) ∷ []) }
+{
+    match done {
+        Ok((reply, again)) => {
+            note(history, actor, action, again);
+            reply
+        }
+        Err(StoreRefusal::Memory) => Reply::Refused(CallRefusal::Memory),
+        Err(StoreRefusal::Disk) => {
+            let fault = Reply::Refused(CallRefusal::Disk);
+            note(history, actor, action, fault);
+            Reply::Refused(CallRefusal::Disk)
+        }
+    }
+}
+
+impl<D: Disk> Hsm<D> {
+    /// Makes an empty store of geometry 0 or 1 of the disk. Until it has answered nothing is said of what a crash leaves.
+    pub fn format(disk: &mut D, geometry: u32, fsid: u64) -> Result<(), Failed>
+        requires known { geometry ≤ 1 }
+        requires length { D.length_of disk.old ≡ (layout_of geometry).whole }
+        ensures formatted { OnOk result ((c : List ℕ) → MayBe D.Disk disk.new c → IsEmptyStore geometry fsid c) }
+        ensures length { D.length_of disk.new ≡ D.length_of disk.old }
+        ensures cause { HasCause result (D.fault_count disk.old) (D.fault_count disk.new) }
     {
-        let files = Files::new(alloc);
-        Hsm {
-            superblock,
-            opening: Snapshot::of(&files),
-            files,
-            history: Vec::new(alloc),
+        CommitSlots::format(disk, geometry, fsid)
+    }
+
+    /// Opens what a crash may have left on the disk, beginning with a sync. All bodies are read. A refusal hands the disk back.
+    pub fn open(alloc: Global, disk: D) -> Result<Hsm<D>, (OpenRefusal, D)>
+        // Nothing changes.
+        ensures opening { IfOk result (λ s. Keeps D.Disk disk s.files.disk Same × Alike (D.gives disk) (D.gives s.files.disk)) }
+        ensures refused { IfErr result (λ e. Keeps D.Disk disk e.1 Same) }
+
+        // Ok: what it holds is what recovery finds from now on.
+        ensures opened { IfOk result (λ s. (s.opened ≡ s.files) × (s.history ≡ [])) }
+        ensures found { IfOk result (λ s. (s.files.held ≡ s.files.durable) × (s.files.failed ≡ false)) }
+        ensures durable { IfOk result (λ s. (c : List ℕ) → MayBe D.Disk s.files.disk c → IsDurable s.files c) }
+        ensures lawful { IfOk result (λ s. IsLawful (geometry_of s.files.meta.durable.geometry).files s.files.held) }
+
+        // Why it wasn't opened.
+        ensures not_store { IfErr result (λ e. e.0 ≡ OpenRefusal.NotStore → (c : List ℕ) → D.gives disk c → (geometry fsid : ℕ) → IsStore geometry fsid c → ⊥) }
+        ensures corrupt { IfErr result (λ e. (place : ℕ) → e.0 ≡ OpenRefusal.Corrupt place → (c : List ℕ) → D.gives disk c → IsCorruptAt place c) }
+        ensures failed { IfErr result (λ e. e.0 ≡ OpenRefusal.Disk → Rose (D.fault_count disk) (D.fault_count e.1)) }
+    {
+        match FileStore::open(alloc, disk) {
+            Ok(files) => Ok(Hsm {
+                opened: Snapshot::of(&files),
+                base: files.number(),
+                files,
+                history: Vec::new(alloc),
+            }),
+            Err(refusal) => Err(refusal),
         }
     }
 
-    /// Answers a call, and keeps it in the history. `Refused(Memory)` keeps nothing.
+    /// Answers a call, and keeps it in the history. `Refused(Memory)` keeps nothing, and nor does `Refused(Disk)` of a store that is closed by a
+    /// fault of its disk.
     pub fn issue(&mut self, alloc: Global, caller: CallerId, call: Call) -> Reply
-        ensures { IsAnswered self.old caller.0 call result self.new }
+        ensures { IsAnswered D.Disk self.old caller.0 call result self.new }
     {
-        match self.try_issue(alloc, caller, call) {
-            Ok(reply) => reply,
-            Err(_) => Reply::Refused(CallRefusal::Memory),
+        if let Err(refusal) = make_ready(&self.files, &mut self.history) {
+            return Reply::Refused(refusal);
         }
+        let number = self.base + self.history.len() as u64;
+        let done = answer(&mut self.files, alloc, &call, number);
+        keep(
+            &mut self.history,
+            Actor::Caller(caller),
+            Action::Issue(call),
+            done,
+        )
     }
 
-    fn try_issue(
-        &mut self,
-        alloc: Global,
-        caller: CallerId,
-        call: Call,
-    ) -> Result<Reply, AllocError>
-        ensures { IsTried self.old caller.0 call result self.new }
+    /// Makes all durable that is held, and keeps that in the history. It is refused as calls are.
+    pub fn commit(&mut self, alloc: Global) -> Reply
+        ensures { IsCommitted D.Disk self.old result self.new }
     {
-        self.history.reserve(1)?;
-        let (reply, again) = self.files.answer(alloc, &self.superblock, &call)?;
-        self.history
-            .push(Entry {
-                actor: Actor::Caller(caller),
-                action: Action::Issue(call),
-                answer: Answer::Call(again),
-            })
-            .unwrap();
-        Ok(reply)
-    }
-
-    /// Answers a commit, and keeps it in the history. A store in memory has nothing to make durable. `Refused(Memory)` keeps nothing.
-    pub fn commit(&mut self) -> Reply
-        ensures { IsCommitted self.old result self.new }
-    {
-        match self.try_commit() {
-            Ok(()) => Reply::Done,
-            Err(_) => Reply::Refused(CallRefusal::Memory),
+        if let Err(refusal) = make_ready(&self.files, &mut self.history) {
+            return Reply::Refused(refusal);
         }
+        let number = self.base + self.history.len() as u64;
+        let done = commit(&mut self.files, alloc, number);
+        keep(&mut self.history, Actor::Store, Action::Commit, done)
     }
 
-    fn try_commit(&mut self) -> Result<(), AllocError>
-        ensures ok { OnOk result (self.new ≡ store_committed self.old) }
-        ensures err { OnErr result (self.new ≡ self.old) }
+    /// The number from which the entries are counted on, which is that of the snapshot that was opened.
+    pub fn base(&self) -> u64
+        ensures { result ≡ self.now.opened.meta.number }
     {
-        self.history.reserve(1)?;
-        self.history
-            .push(Entry {
-                actor: Actor::Store,
-                action: Action::Commit,
-                answer: Answer::Call(Reply::Done),
-            })
-            .unwrap();
-        Ok(())
+        self.base
     }
 
     /// The events so far.
@@ -114,15 +195,22 @@ impl Hsm {
         self.history.as_slice()
     }
 
-    /// Ends with the events.
-    pub fn close(self) -> History
-        ensures entries { result ≡ self.history }
+    /// Ends with the disk, the events, and the store as it was opened. What wasn't made durable is lost.
+    pub fn close(self) -> (D, History, Snapshot<FileStore<D>>)
+        ensures disk { result.0 ≡ self.files.disk }
+        ensures entries { result.1 ≡ self.history }
+        ensures opened { result.2.value ≡ self.opened }
+        ensures durable { self.files.failed ≡ false → (c : List ℕ) → MayBe D.Disk self.files.disk c → IsDurable self.files c }
         ensures kept { IsKept self }
+
+        // What a crash leaves: at any moment since the opening what the first entries have left, and from now on all that was synced.
+        ensures since { LeavesOnly D.Disk self.opened.disk self.files.disk (IsPrefix self.opened self.history 0) }
+        ensures now { (c : List ℕ) → MayBe D.Disk self.files.disk c → IsPrefix self.opened self.history (synced self.history) c }
     {
         exact_is_legal();
         exact_is_once();
         exact_is_sided();
         transparent();
-        History::from(self.history)
+        (self.files.close(), History::from(self.history), self.opened)
     }
 }

@@ -1,9 +1,10 @@
 use crate::Hsm;
-use hsm_types::{
-    Bytes, Call, CallRefusal, CallerId, FileKey, Geometry, Reply, SMALL, Superblock, Word,
-};
+use commit_slots::Layout;
+use disk_model::{Disk, FuseDisk, OpenRefusal, SureDisk};
+use hsm_types::{Bytes, Call, CallRefusal, CallerId, FileKey, Reply, Word};
 use std::alloc::{AllocError, Global};
-use std::test::Fail;
+use std::process::Abort;
+use std::test::*;
 
 fn word(alloc: Global, text: &[u8]) -> Result<Word, AllocError> {
     Ok(Word::from(Vec::from_slice(alloc, text)?))
@@ -13,69 +14,219 @@ fn bytes(alloc: Global, text: &[u8]) -> Result<Bytes, AllocError> {
     Ok(Bytes::from(Vec::from_slice(alloc, text)?))
 }
 
-fn create(alloc: Global, hsm: &mut Hsm, name: &[u8]) -> Result<Reply, AllocError> {
+fn create(alloc: Global, name: &[u8]) -> Result<Call, AllocError> {
     let name = word(alloc, name)?;
-    Ok(hsm.issue(alloc, CallerId(1), Call::Create { name }))
+    Ok(Call::Create { name })
 }
 
-fn read(alloc: Global, hsm: &mut Hsm, offset: u64, len: u64) -> Result<Reply, AllocError> {
-    let name = word(alloc, b"a")?;
-    Ok(hsm.issue(alloc, CallerId(2), Call::Read { name, offset, len }))
+fn read(alloc: Global, name: &[u8], offset: u64, len: u64) -> Result<Call, AllocError> {
+    let name = word(alloc, name)?;
+    Ok(Call::Read { name, offset, len })
 }
 
-fn write(alloc: Global, hsm: &mut Hsm, offset: u64, text: &[u8]) -> Result<Reply, AllocError> {
-    let name = word(alloc, b"a")?;
+fn write(alloc: Global, name: &[u8], offset: u64, text: &[u8]) -> Result<Call, AllocError> {
+    let name = word(alloc, name)?;
     let body = bytes(alloc, text)?;
-    Ok(hsm.issue(alloc, CallerId(1), Call::Write { name, offset, body }))
+    Ok(Call::Write { name, offset, body })
 }
 
-fn truncate(alloc: Global, hsm: &mut Hsm, size: u64) -> Result<Reply, AllocError> {
-    let name = word(alloc, b"a")?;
-    Ok(hsm.issue(alloc, CallerId(1), Call::Truncate { name, size }))
+fn truncate(alloc: Global, name: &[u8], size: u64) -> Result<Call, AllocError> {
+    let name = word(alloc, name)?;
+    Ok(Call::Truncate { name, size })
 }
 
-const SUPERBLOCK: Superblock = Superblock {
-    geometry: SMALL,
-    fsid: 1,
-};
-
-#[test]
-fn reads_what_was_written(rt: HostRuntime) -> Result<(), Fail> {
-    let alloc = rt.alloc();
-    let mut hsm = Hsm::new(alloc, SUPERBLOCK);
-    let made = create(alloc, &mut hsm, b"a")?;
-    assert_eq!(rt; made, Reply::Made(FileKey { ino: 1, igen: 1 }));
-    assert_eq!(rt; write(alloc, &mut hsm, 2, b"abc")?, Reply::Done);
-    assert_eq!(rt; write(alloc, &mut hsm, 1, b"xy")?, Reply::Done);
-    let whole = read(alloc, &mut hsm, 0, 100)?;
-    assert_eq!(rt; whole, Reply::Data(bytes(alloc, b"\0xybc")?));
-    assert_eq!(rt; truncate(alloc, &mut hsm, 3)?, Reply::Done);
-    assert_eq!(rt; truncate(alloc, &mut hsm, 4)?, Reply::Done);
-    let cut = read(alloc, &mut hsm, 0, 100)?;
-    assert_eq!(rt; cut, Reply::Data(bytes(alloc, b"\0xy\0")?));
-    assert_eq!(rt; hsm.commit(), Reply::Done);
-    assert_eq!(rt; hsm.close().as_slice().len(), 8);
-    Ok(())
+fn remove(alloc: Global, name: &[u8]) -> Result<Call, AllocError> {
+    let name = word(alloc, name)?;
+    Ok(Call::Remove { name })
 }
 
-#[test]
-fn refuses(rt: HostRuntime) -> Result<(), Fail> {
-    let alloc = rt.alloc();
-    let geometry = Geometry {
-        files: 1,
-        blocks: 1,
-    };
-    let mut hsm = Hsm::new(alloc, Superblock { geometry, fsid: 1 });
+fn stat(alloc: Global, name: &[u8]) -> Result<Call, AllocError> {
+    let name = word(alloc, name)?;
+    Ok(Call::Stat { name })
+}
+
+// A small store without files, whose id is 7.
+fn formatted(alloc: Global) -> Result<Vec<u8>, Fail> {
+    let mut disk = SureDisk::new(vec![in alloc; 0u8; 4_857_856]?);
+    if disk.len() == Layout::of_geometry(0).whole {
+        Hsm::format(&mut disk, 0, 7)?;
+    }
+    Ok(disk.into_bytes())
+}
+
+fn opened<D: Disk + Drop>(alloc: Global, disk: D) -> Result<Hsm<D>, OpenRefusal> {
+    match Hsm::open(alloc, disk) {
+        Ok(hsm) => Ok(hsm),
+        Err((refusal, _)) => Err(refusal),
+    }
+}
+
+// A small store that has just the file "a", without bytes.
+fn with_file(alloc: Global) -> Result<Hsm<SureDisk>, Fail> {
+    let mut hsm = opened(alloc, SureDisk::new(formatted(alloc)?))?;
+    let _made = hsm.issue(alloc, CallerId(1), create(alloc, b"a")?);
+    Ok(hsm)
+}
+
+// The store as it is found again without what wasn't made durable.
+fn reopened(alloc: Global, hsm: Hsm<SureDisk>) -> Result<Hsm<SureDisk>, OpenRefusal> {
+    let (disk, _, _) = hsm.close();
+    opened(alloc, disk)
+}
+
+fn answers<D: Disk>(rt: &impl Abort, alloc: Global, hsm: &mut Hsm<D>, call: Call, reply: Reply) {
+    let told = hsm.issue(alloc, CallerId(1), call);
+    assert_eq!(rt; told, reply);
+}
+
+fn answers_all<D: Disk>(
+    rt: &impl Abort,
+    alloc: Global,
+    hsm: &mut Hsm<D>,
+    rows: Vec<(Call, Reply)>,
+) {
+    for (call, reply) in rows {
+        answers(rt, alloc, hsm, call, reply);
+    }
+}
+
+// Calls on a store that has just the file "a", all refused.
+fn refused(alloc: Global) -> Result<Vec<(Call, Reply)>, AllocError> {
+    let mut rows = Vec::new(alloc);
+    let bad = Reply::Refused(CallRefusal::BadName);
+    rows.push((read(alloc, b"b/", 0, 0)?, bad))?;
+    let short = Reply::Refused(CallRefusal::BadLength { len: 0 });
+    rows.push((read(alloc, b"b", 0, 0)?, short))?;
+    let long = Reply::Refused(CallRefusal::BadLength { len: 65_537 });
+    rows.push((read(alloc, b"b", 0, 65_537)?, long))?;
     let missing = Reply::Refused(CallRefusal::Missing);
-    assert_eq!(rt; read(alloc, &mut hsm, 0, 1)?, missing);
-    let _made = create(alloc, &mut hsm, b"a")?;
+    rows.push((stat(alloc, b"b")?, missing))?;
     let exists = Reply::Refused(CallRefusal::Exists);
-    assert_eq!(rt; create(alloc, &mut hsm, b"a")?, exists);
-    let full = Reply::Refused(CallRefusal::NoInodes { count: 1 });
-    assert_eq!(rt; create(alloc, &mut hsm, b"b")?, full);
-    assert_eq!(rt; write(alloc, &mut hsm, 4095, b"x")?, Reply::Done);
-    let space = Reply::Refused(CallRefusal::NoSpace { need: 1, free: 0 });
-    assert_eq!(rt; write(alloc, &mut hsm, 0, b"x")?, space);
-    assert_eq!(rt; hsm.history().len(), 6);
+    rows.push((create(alloc, b"a")?, exists))?;
+    let big = Reply::Refused(CallRefusal::TooBig { end: u64::MAX });
+    rows.push((write(alloc, b"a", u64::MAX, b"x")?, big))?;
+    let big = Reply::Refused(CallRefusal::TooBig { end: 16_777_217 });
+    rows.push((truncate(alloc, b"a", 16_777_217)?, big))?;
+    Ok(rows)
+}
+
+// Calls on a store that has just the empty file "a". A sync is the fifth of them.
+fn changes(alloc: Global) -> Result<Vec<(Call, Reply)>, AllocError> {
+    let mut rows = Vec::new(alloc);
+    rows.push((write(alloc, b"a", 2, b"abc")?, Reply::Done))?;
+    rows.push((write(alloc, b"a", 1, b"xy")?, Reply::Done))?;
+    rows.push((truncate(alloc, b"a", 3)?, Reply::Done))?;
+    rows.push((truncate(alloc, b"a", 4)?, Reply::Done))?;
+    rows.push((Call::Sync, Reply::Done))?;
+    rows.push((remove(alloc, b"a")?, Reply::Done))?;
+    Ok(rows)
+}
+
+#[test]
+fn what_was_synced_is_found_again(rt: HostRuntime) -> Result<(), Fail> {
+    let alloc = rt.alloc();
+    let mut hsm = with_file(alloc)?;
+    answers_all(&rt, alloc, &mut hsm, changes(alloc)?);
+    let mut again = reopened(alloc, hsm)?;
+    assert_eq!(rt; again.base(), 5);
+    let found = Reply::Data(bytes(alloc, b"\0xy\0")?);
+    answers(&rt, alloc, &mut again, read(alloc, b"a", 0, 100)?, found);
     Ok(())
+}
+
+fn committed(
+    rt: &impl Abort,
+    alloc: Global,
+    mut hsm: Hsm<SureDisk>,
+) -> Result<Hsm<SureDisk>, OpenRefusal> {
+    assert_eq!(rt; hsm.commit(alloc), Reply::Done);
+    reopened(alloc, hsm)
+}
+
+#[test]
+fn commits_count_on(rt: HostRuntime) -> Result<(), Fail> {
+    let alloc = rt.alloc();
+    let mut hsm = committed(&rt, alloc, with_file(alloc)?)?;
+    answers(&rt, alloc, &mut hsm, stat(alloc, b"a")?, Reply::Size(0));
+    let last = committed(&rt, alloc, hsm)?;
+    assert_eq!(rt; last.base(), 2);
+    Ok(())
+}
+
+#[test]
+fn each_refusal_is_told_and_kept(rt: HostRuntime) -> Result<(), Fail> {
+    let alloc = rt.alloc();
+    let mut hsm = with_file(alloc)?;
+    answers_all(&rt, alloc, &mut hsm, refused(alloc)?);
+    assert_eq!(rt; hsm.history().len(), 8);
+    Ok(())
+}
+
+#[test]
+fn the_table_has_room_for_64_files(rt: HostRuntime) -> Result<(), Fail> {
+    let alloc = rt.alloc();
+    let mut hsm = opened(alloc, SureDisk::new(formatted(alloc)?))?;
+    for i in 0..64u8 {
+        let name = [b'a' + i / 8, b'a' + i % 8];
+        let n = u64::from(i) + 1;
+        let made = Reply::Made(FileKey { ino: n, igen: n });
+        answers(&rt, alloc, &mut hsm, create(alloc, &name)?, made);
+    }
+    let full = Reply::Refused(CallRefusal::NoInodes { count: 64 });
+    answers(&rt, alloc, &mut hsm, create(alloc, b"b")?, full);
+    Ok(())
+}
+
+// Writes to a file that has 1,008 of the 1,024 blocks.
+fn last_writes(alloc: Global, body: &[u8]) -> Result<Vec<(Call, Reply)>, AllocError> {
+    let mut rows = Vec::new(alloc);
+    let full = Reply::Refused(CallRefusal::NoSpace { need: 17, free: 16 });
+    rows.push((write(alloc, b"a", 4_128_769, body)?, full))?;
+    rows.push((write(alloc, b"a", 4_128_768, body)?, Reply::Done))?;
+    let full = Reply::Refused(CallRefusal::NoSpace { need: 1, free: 0 });
+    rows.push((write(alloc, b"a", 0, b"x")?, full))?;
+    Ok(rows)
+}
+
+#[test]
+fn the_disk_has_room_for_1024_blocks(rt: HostRuntime) -> Result<(), Fail> {
+    let alloc = rt.alloc();
+    let mut hsm = with_file(alloc)?;
+    let body = vec![in alloc; 7u8; 65_536]?;
+    for i in 0..63u64 {
+        let call = write(alloc, b"a", 65_536 * i, &body)?;
+        answers(&rt, alloc, &mut hsm, call, Reply::Done);
+    }
+    answers_all(&rt, alloc, &mut hsm, last_writes(alloc, &body)?);
+    Ok(())
+}
+
+// Whether the disk fails in a write to a store without files.
+fn is_fault_met<D: Disk>(alloc: Global, hsm: &mut Hsm<D>) -> Result<bool, AllocError> {
+    let _made = hsm.issue(alloc, CallerId(1), create(alloc, b"a")?);
+    let reply = hsm.issue(alloc, CallerId(1), write(alloc, b"a", 0, b"abc")?);
+    Ok(reply == Reply::Refused(CallRefusal::Disk))
+}
+
+fn is_closed<D: Disk>(rt: &impl Abort, alloc: Global, hsm: &mut Hsm<D>) {
+    let closed = Reply::Refused(CallRefusal::Disk);
+    answers(rt, alloc, hsm, Call::Sync, closed);
+    assert_eq!(rt; hsm.commit(alloc), Reply::Refused(CallRefusal::Disk));
+    assert_eq!(rt; hsm.history().len(), 2);
+}
+
+#[test]
+fn a_fault_of_the_disk_closes_the_store(rt: HostRuntime) -> Result<(), Fail> {
+    let alloc = rt.alloc();
+    let image = formatted(alloc)?;
+    for calls in 0..40u64 {
+        let disk = FuseDisk::new(SureDisk::new(image.clone()?), calls);
+        if let Ok(mut hsm) = opened(alloc, disk)
+            && is_fault_met(alloc, &mut hsm)?
+        {
+            is_closed(&rt, alloc, &mut hsm);
+            return Ok(());
+        }
+    }
+    Err("no write met the fault".into())
 }

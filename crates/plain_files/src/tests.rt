@@ -1,35 +1,41 @@
 //! The store beside plain files: each read gives what stands there in the files of the history before it.
 use crate::{PlainFile, files_after};
+use commit_slots::Layout;
+use disk_model::{Disk, SureDisk};
 use hsm_core::Hsm;
-use hsm_types::{Bytes, Call, CallRefusal, CallerId, Geometry, Reply, Superblock, Word};
+use hsm_types::{Bytes, Call, CallRefusal, CallerId, Reply, Word};
 use plain_model::{Action, Actor, Answer, Entry};
 use std::alloc::{AllocError, Global};
 use std::process::Abort;
 use std::test::Fail;
 
-const SUPERBLOCK: Superblock = Superblock {
-    geometry: Geometry {
-        files: 3,
-        blocks: 64,
-    },
-    fsid: 1,
-};
+/// A small store without files: it has room for 64 files and 1,024 blocks.
+fn new_store(alloc: Global) -> Result<Hsm<SureDisk>, Fail> {
+    let mut disk = SureDisk::new(vec![in alloc; 0u8; 4_857_856]?);
+    if disk.len() == Layout::of_geometry(0).whole {
+        Hsm::format(&mut disk, 0, 1)?;
+    }
+    match Hsm::open(alloc, disk) {
+        Ok(hsm) => Ok(hsm),
+        Err((refusal, _)) => Err(refusal.into()),
+    }
+}
 
-fn issue(alloc: Global, hsm: &mut Hsm, call: Call) -> Result<Reply, AllocError> {
+fn issue(alloc: Global, hsm: &mut Hsm<SureDisk>, call: Call) -> Result<Reply, AllocError> {
     match hsm.issue(alloc, CallerId(1), call) {
         Reply::Refused(CallRefusal::Memory) => Err(AllocError),
         reply => Ok(reply),
     }
 }
 
-fn create(alloc: Global, hsm: &mut Hsm, name: &str) -> Result<Reply, AllocError> {
+fn create(alloc: Global, hsm: &mut Hsm<SureDisk>, name: &str) -> Result<Reply, AllocError> {
     let name = Word::from(name.as_bytes().to_vec(alloc)?);
     issue(alloc, hsm, Call::Create { name })
 }
 
 fn write(
     alloc: Global,
-    hsm: &mut Hsm,
+    hsm: &mut Hsm<SureDisk>,
     name: &str,
     offset: u64,
     text: &str,
@@ -40,7 +46,7 @@ fn write(
 }
 
 /// Reads the file in pieces that begin at each place, also past its end.
-fn read_all_over(alloc: Global, hsm: &mut Hsm, name: &str) -> Result<(), AllocError> {
+fn read_all_over(alloc: Global, hsm: &mut Hsm<SureDisk>, name: &str) -> Result<(), AllocError> {
     for offset in 0..12 {
         for len in [1, 4, 100] {
             let name = Word::from(name.as_bytes().to_vec(alloc)?);
@@ -95,12 +101,14 @@ fn plain_reads(rt: &(impl Abort + AllocGlobal), history: &[Entry]) -> Result<u64
     Ok(count)
 }
 
-#[test]
-fn writes_of_each_kind(rt: HostRuntime) -> Result<(), Fail> {
+/// Writes in the middle of a file, at its ends, over all of it and past its end, and reads it after each.
+fn write_all_over(
+    rt: &(impl Abort + AllocGlobal),
+    hsm: &mut Hsm<SureDisk>,
+) -> Result<(), AllocError> {
     let alloc = rt.alloc();
-    let mut hsm = Hsm::new(alloc, SUPERBLOCK);
-    let _made = create(alloc, &mut hsm, "a")?;
-    read_all_over(alloc, &mut hsm, "a")?;
+    let _made = create(alloc, hsm, "a")?;
+    read_all_over(alloc, hsm, "a")?;
     let cases = [
         (2, "cd"),
         (0, "AB"),
@@ -111,62 +119,100 @@ fn writes_of_each_kind(rt: HostRuntime) -> Result<(), Fail> {
         (0, "-"),
     ];
     for (offset, text) in cases {
-        assert_eq!(rt; write(alloc, &mut hsm, "a", offset, text)?, Reply::Done);
-        read_all_over(alloc, &mut hsm, "a")?;
+        assert_eq!(rt; write(alloc, hsm, "a", offset, text)?, Reply::Done);
+        read_all_over(alloc, hsm, "a")?;
     }
+    Ok(())
+}
+
+#[test]
+fn writes_of_each_kind(rt: HostRuntime) -> Result<(), Fail> {
+    let mut hsm = new_store(rt.alloc())?;
+    write_all_over(&rt, &mut hsm)?;
     assert_eq!(rt; plain_reads(&rt, hsm.history())?, 8 * 36);
+    Ok(())
+}
+
+/// Fills the table but for three places, by files without bytes.
+fn create_others(alloc: Global, hsm: &mut Hsm<SureDisk>) -> Result<(), AllocError> {
+    for i in 0..61u8 {
+        let name = format!(in alloc; "other{i}")?;
+        let _made = create(alloc, hsm, name.as_str())?;
+    }
+    Ok(())
+}
+
+/// Makes files until the table is full, and one again and one too many, and writes each and reads all after it.
+fn create_and_write(alloc: Global, hsm: &mut Hsm<SureDisk>) -> Result<(), AllocError> {
+    for name in ["b", "a", "b", "c", "d"] {
+        let _reply = create(alloc, hsm, name)?;
+        let _written = write(alloc, hsm, name, 1, name)?;
+        for name in ["a", "b", "c", "d"] {
+            read_all_over(alloc, hsm, name)?;
+        }
+    }
     Ok(())
 }
 
 #[test]
 fn refused_calls_leave_files(rt: HostRuntime) -> Result<(), Fail> {
     let alloc = rt.alloc();
-    let mut hsm = Hsm::new(alloc, SUPERBLOCK);
-    for name in ["b", "a", "b", "c", "d"] {
-        let _reply = create(alloc, &mut hsm, name)?;
-        let _written = write(alloc, &mut hsm, name, 1, name)?;
-        for name in ["a", "b", "c", "d"] {
-            read_all_over(alloc, &mut hsm, name)?;
-        }
-    }
+    let mut hsm = new_store(alloc)?;
+    create_others(alloc, &mut hsm)?;
+    create_and_write(alloc, &mut hsm)?;
     assert_eq!(rt; plain_reads(&rt, hsm.history())?, 11 * 36);
     let files = files_after(alloc, hsm.history())?;
-    let mut inodes = 0;
-    for file in &files {
-        inodes = file.key.ino;
-        assert_eq!(rt; file.body.as_slice().len(), 2, "inode {inodes}");
+    assert_eq!(rt; files.len(), 64);
+    for (place, file) in files.iter().enumerate() {
+        let bytes = if place < 61 { 0 } else { 2 };
+        assert_eq!(rt; file.key.ino, place as u64 + 1);
+        assert_eq!(rt; file.body.as_slice().len(), bytes, "inode {}", file.key.ino);
     }
-    assert_eq!(rt; inodes, 3);
     Ok(())
 }
 
-fn truncate(alloc: Global, hsm: &mut Hsm, name: &str, size: u64) -> Result<Reply, AllocError> {
+fn truncate(
+    alloc: Global,
+    hsm: &mut Hsm<SureDisk>,
+    name: &str,
+    size: u64,
+) -> Result<Reply, AllocError> {
     let name = Word::from(name.as_bytes().to_vec(alloc)?);
     issue(alloc, hsm, Call::Truncate { name, size })
 }
 
-fn remove(alloc: Global, hsm: &mut Hsm, name: &str) -> Result<Reply, AllocError> {
+fn remove(alloc: Global, hsm: &mut Hsm<SureDisk>, name: &str) -> Result<Reply, AllocError> {
     let name = Word::from(name.as_bytes().to_vec(alloc)?);
     issue(alloc, hsm, Call::Remove { name })
+}
+
+/// Cuts a file and lengthens it, and reads it after each. It is removed twice on the way.
+fn truncate_all_over(
+    rt: &(impl Abort + AllocGlobal),
+    hsm: &mut Hsm<SureDisk>,
+) -> Result<(), AllocError> {
+    let alloc = rt.alloc();
+    for size in [0, 7, 3, 9, 3, 0, 5] {
+        let _made = create(alloc, hsm, "a")?;
+        let _written = write(alloc, hsm, "a", 2, "cdefgh")?;
+        assert_eq!(rt; truncate(alloc, hsm, "a", size)?, Reply::Done);
+        read_all_over(alloc, hsm, "a")?;
+        assert_eq!(rt; truncate(alloc, hsm, "a", 8)?, Reply::Done);
+        read_all_over(alloc, hsm, "a")?;
+        if size == 3 {
+            assert_eq!(rt; remove(alloc, hsm, "a")?, Reply::Done);
+        }
+    }
+    Ok(())
 }
 
 #[test]
 fn truncates_and_removes(rt: HostRuntime) -> Result<(), Fail> {
     let alloc = rt.alloc();
-    let mut hsm = Hsm::new(alloc, SUPERBLOCK);
+    let mut hsm = new_store(alloc)?;
     let _made = create(alloc, &mut hsm, "b")?;
-    for size in [0, 7, 3, 9, 3, 0, 5] {
-        let _made = create(alloc, &mut hsm, "a")?;
-        let _written = write(alloc, &mut hsm, "a", 2, "cdefgh")?;
-        assert_eq!(rt; truncate(alloc, &mut hsm, "a", size)?, Reply::Done);
-        read_all_over(alloc, &mut hsm, "a")?;
-        assert_eq!(rt; truncate(alloc, &mut hsm, "a", 8)?, Reply::Done);
-        read_all_over(alloc, &mut hsm, "a")?;
-        if size == 3 {
-            assert_eq!(rt; remove(alloc, &mut hsm, "a")?, Reply::Done);
-        }
-    }
-    assert_eq!(rt; hsm.commit(), Reply::Done);
+    truncate_all_over(&rt, &mut hsm)?;
+    assert_eq!(rt; hsm.commit(alloc), Reply::Done);
     assert_eq!(rt; plain_reads(&rt, hsm.history())?, 14 * 36);
     assert_eq!(rt; files_after(alloc, hsm.history())?.len(), 2);
     Ok(())
@@ -185,10 +231,11 @@ fn push_fault(history: &mut Vec<Entry>, call: Call) -> Result<(), AllocError> {
 #[test]
 fn a_fault_of_the_disk_leaves_files(rt: HostRuntime) -> Result<(), Fail> {
     let alloc = rt.alloc();
-    let mut hsm = Hsm::new(alloc, SUPERBLOCK);
+    let mut hsm = new_store(alloc)?;
     let _made = create(alloc, &mut hsm, "a")?;
     let _written = write(alloc, &mut hsm, "a", 0, "abc")?;
-    let mut history = hsm.close().into_vec();
+    let (_, history, _) = hsm.close();
+    let mut history = history.into_vec();
     let name = Word::from("a".as_bytes().to_vec(alloc)?);
     push_fault(&mut history, Call::Truncate { name, size: 1 })?;
     let files = files_after(alloc, history.as_slice())?;

@@ -1,11 +1,28 @@
-use Rattle.hsm_cli.proofs.Endings.{script, output, status}
+use Rattle.std.proofs.Common.{◌≡◌, Some, map, sym, ◌∙◌, ap, subst}
+use Rattle.std.specs.Prelude.{Option}
+use Rattle.std.specs.String.{string_bytes}
+use Rattle.hsm_cli.specs.declared.commands.Command.{Command}
+use Rattle.hsm_cli.specs.Commands.{Form, Replay, ReplayStore, form_in, form_of}
+use Rattle.hsm_cli.specs.Told.{SourceTold, SinkTold, HostTold, source_told, sink_told, host_told}
+use Rattle.hsm_cli.specs.Clauses.{StatusClause}
+use Rattle.hsm_cli.proofs.Completeness.{status_new, status_store}
 use Rattle.hsm_cli.proofs.top.hsm_main.Goals as goal
 
-pub returns-clause-script : goal.returns-clause-script
-returns-clause-script g c = rw c.ending.ensures (script _ _ _ _ _ _ c.of-command.result _ _ c.obey-cause.ensures.ends)
+pub returns-in-Some-Replay-clause-status : goal.returns-in-Some-Replay-clause-status
+returns-in-Some-Replay-clause-status g c =
+    let form : Some Replay ≡ form_of (map string_bytes c.args.words.now) = ap (λ (x : Command). Some (form_in x)) (sym c.in-Some-Replay.field-0-is) ∙ c.in-Some-Replay.ensures in
+    let source : SourceTold = source_told g.I.Source.left g.I.Source.fault_count c.args.source.now c.replay.new.source in
+    let sink : SinkTold = sink_told g.O.Sink.taken g.O.Sink.fault_count c.args.sink.now c.replay.new.sink in
+    let host : HostTold = host_told g.H.Host.fault_count c.args.host.now c.args.host.now in
+    subst (λ (f : Option Form). StatusClause g.H.Disk.Disk f (g.H.Host.holds c.args.host.now) source sink host c.replay.result) form
+    (status_new c.one_script.ensures.script g.H.Disk.Disk (g.H.Host.holds c.args.host.now) source sink host c.replay.result c.replay.ensures.told c.replay.ensures.new c.replay.ensures.ends)
 
-pub returns-clause-output : goal.returns-clause-output
-returns-clause-output g c = rw c.ending.ensures (output _ _ _ _ c.of-command.result _ _ _ _ _ _ c.obey-cause.ensures.ends c.obey-cause.ensures.output)
-
-pub returns-clause-status : goal.returns-clause-status
-returns-clause-status g c = rw (c.ending.ensures, ← c.of-command.ensures) (status c.one_script.ensures.script _ _ _ _ _ _ c.of-command.result _ _ c.obey-cause.ensures.ends)
+pub returns-in-Some-ReplayStore-clause-status : goal.returns-in-Some-ReplayStore-clause-status
+returns-in-Some-ReplayStore-clause-status g c =
+    let form : Some (ReplayStore c.in-Some-ReplayStore.path.now c.in-Some-ReplayStore.field-0-1.now) ≡ form_of (map string_bytes c.args.words.now) = ap (λ (x : Command). Some (form_in x)) (sym c.in-Some-ReplayStore.field-0-is) ∙ c.in-Some-ReplayStore.ensures in
+    let source : SourceTold = source_told g.I.Source.left g.I.Source.fault_count c.args.source.now c.replay_store.new.source in
+    let sink : SinkTold = sink_told g.O.Sink.taken g.O.Sink.fault_count c.args.sink.now c.replay_store.new.sink in
+    let host : HostTold = host_told g.H.Host.fault_count c.args.host.now c.replay_store.new.host in
+    let told = c.replay_store.ensures.told in
+    subst (λ (f : Option Form). StatusClause g.H.Disk.Disk f (g.H.Host.holds c.args.host.now) source sink host c.replay_store.result) form
+    (status_store c.one_script.ensures.script g.H.Disk.Disk (g.H.Host.holds c.args.host.now) source sink host c.replay_store.result (told.0, told.1) _ _ told.2 c.replay_store.ensures.command c.replay_store.ensures.opened c.replay_store.ensures.back c.replay_store.ensures.why)

@@ -1,0 +1,105 @@
+-- A run in which nothing fails ends well, or for want of memory.
+use Rattle.std.proofs.Common.{ℕ, ◌≡◌, ◌≢◌, ◌⊎◌, inl, inr, ⊎_elim, List, Option, Some, None, IfSome, refl, sym, ◌∙◌, subst}
+use Rattle.disk_model.specs.declared.device.Disk as disk
+use Rattle.meta_store.specs.Catalogs.{Catalog}
+use Rattle.meta_store.specs.Snapshots.{IsSnapshot}
+use Rattle.meta_store.specs.Images.{IsImage, IsCorruptAt, IsClosed, area_of, gate_of}
+use Rattle.plain_model.specs.State.{Held}
+use Rattle.file_store.specs.Stores.{IsRecovered, IsDurable}
+use Rattle.script_text.specs.Scripts.{IsScript, IsFirstBad}
+use Rattle.script_text.specs.Laws.{IsOneScript}
+use Rattle.script_text.specs.declared.lines.Line.{Line}
+use Rattle.hsm_cli.specs.declared.causes.Cause.{Cause}
+use Rattle.hsm_cli.specs.declared.causes.Cause.TheVariants.{ScriptRefused, WordsRefused, NotStore, Corrupt, ReadFault, WriteFault, DiskFault, HostFault, NoMemory}
+use Rattle.hsm_cli.specs.declared.outcomes.Outcome.{Outcome}
+use Rattle.hsm_cli.specs.Commands.{Replay, ReplayStore}
+use Rattle.hsm_cli.specs.Statuses.{status_of, place_of}
+use Rattle.hsm_cli.specs.Openings.{opened_in, base_of}
+use Rattle.hsm_cli.specs.Sources.{script_bytes}
+use Rattle.hsm_cli.specs.Told.{SourceTold, SinkTold, HostTold}
+use Rattle.hsm_cli.specs.Endings.{RunEnds}
+use Rattle.hsm_cli.specs.Clauses.{Why, GivesScript, NothingFails, StatusClause}
+
+-- an image on which recovery finds something isn't corrupt
+not_corrupt : (place fsid n : ℕ) (c : Catalog) (image : List ℕ) → IsImage fsid n c image → IsCorruptAt place image → ⊥
+not_corrupt place fsid n c image found corrupt =
+    let same : c.geometry ≡ corrupt.geometry = sym found.found.superblock.says_geometry ∙ corrupt.found.superblock.says_geometry in
+    let snapshot : IsSnapshot (area_of corrupt.geometry image) n c = subst (λ (geometry : ℕ). IsSnapshot (area_of geometry image) n c) same found.snapshot in
+    let gate : IsClosed (gate_of corrupt.geometry image) = subst (λ (geometry : ℕ). IsClosed (gate_of geometry image)) same found.gate in
+    ⊎_elim (λ fault. fault.1 n c same snapshot) (λ fault. fault.1 gate) corrupt.fault
+
+module _ (law : (bytes : List ℕ) (lines : List Line) → IsScript bytes lines → IsOneScript bytes lines) {D : Type 0} (g : disk.Ghosts D) (source : SourceTold) (sink : SinkTold) (host : HostTold) (disk : Option D)
+    (script : GivesScript source.given) (works : NothingFails g source sink host disk) where
+  -- a script isn't refused
+  accepted : (line : ℕ) → IfSome source.given (λ bytes. IsFirstBad (script_bytes bytes) line) → ⊥
+  accepted line bad =
+      let refused : IsFirstBad (script_bytes script.bytes) line = subst (λ (given : Option (List ℕ)). IfSome given (λ bytes. IsFirstBad (script_bytes bytes) line)) script.known bad in
+      (law (script_bytes script.bytes) script.lines script.script).good line refused
+
+  pub complete_new : (cause : Option Cause) → RunEnds ⊥ source sink cause → (cause ≡ None) ⊎ (cause ≡ Some NoMemory)
+  complete_new None ends = inl refl
+  complete_new (Some NoMemory) ends = inr refl
+  complete_new (Some (ScriptRefused line)) ends = absurd (accepted line ends)
+  complete_new (Some ReadFault) ends = absurd (works.source_works ends)
+  complete_new (Some WriteFault) ends = absurd (works.sink_works ends)
+  complete_new (Some DiskFault) ends = absurd ends
+  complete_new (Some WordsRefused) ends = absurd ends
+  complete_new (Some NotStore) ends = absurd ends
+  complete_new (Some (Corrupt place)) ends = absurd ends
+  complete_new (Some HostFault) ends = absurd ends
+
+  pub complete_store : (named : List ℕ → Type 0) (image : List ℕ) (geometry fsid n : ℕ) (h : Held) (cause : Option Cause) → named image → IsRecovered geometry fsid n h image
+      → cause ≢ Some WordsRefused → Why g named source sink host disk cause → (cause ≡ None) ⊎ (cause ≡ Some NoMemory)
+  complete_store named image geometry fsid n h None is found words why = inl refl
+  complete_store named image geometry fsid n h (Some NoMemory) is found words why = inr refl
+  complete_store named image geometry fsid n h (Some (ScriptRefused line)) is found words why = absurd (accepted line why)
+  complete_store named image geometry fsid n h (Some ReadFault) is found words why = absurd (works.source_works why)
+  complete_store named image geometry fsid n h (Some WriteFault) is found words why = absurd (works.sink_works why)
+  complete_store named image geometry fsid n h (Some DiskFault) is found words why = absurd (works.disk_works why)
+  complete_store named image geometry fsid n h (Some HostFault) is found words why = absurd (works.host_works why)
+  complete_store named image geometry fsid n h (Some WordsRefused) is found words why = absurd (words refl)
+  complete_store named image geometry fsid n h (Some NotStore) is found words why = absurd (why image is found.catalog.geometry fsid found.is.found)
+  complete_store named image geometry fsid n h (Some (Corrupt place)) is found words why = absurd (not_corrupt place fsid n found.catalog image found.is (why image is))
+
+module _ {D : Type 0} (g : disk.Ghosts D) (named : List ℕ → Type 0) (source : SourceTold) (sink : SinkTold) (host : HostTold) (disk : Option D) where
+  why_new : (cause : Option Cause) → RunEnds ⊥ source sink cause → Why g named source sink host disk cause
+  why_new None ends = tt
+  why_new (Some NoMemory) ends = tt
+  why_new (Some (ScriptRefused line)) ends = ends
+  why_new (Some ReadFault) ends = ends
+  why_new (Some WriteFault) ends = ends
+  why_new (Some DiskFault) ends = absurd ends
+  why_new (Some WordsRefused) ends = absurd ends
+  why_new (Some NotStore) ends = absurd ends
+  why_new (Some (Corrupt place)) ends = absurd ends
+  why_new (Some HostFault) ends = absurd ends
+
+words_given : (source : SourceTold) (sink : SinkTold) (cause : Option Cause) → RunEnds ⊥ source sink cause → cause ≡ Some WordsRefused → ⊥
+words_given source sink cause ends is = subst (λ (c : Option Cause). RunEnds ⊥ source sink c) is ends
+
+module _ (law : (bytes : List ℕ) (lines : List Line) → IsScript bytes lines → IsOneScript bytes lines) {D : Type 0} (g : disk.Ghosts D) (holds : List ℕ → List ℕ → Type 0) (source : SourceTold) (sink : SinkTold) (host : HostTold) (o : Outcome D)
+    (told : (o.status ≡ status_of o.cause) × (o.at ≡ place_of o.cause)) where
+  pub status_new : (o.opening ≡ None) × (o.disk ≡ None) × (o.base ≡ 0) → RunEnds ⊥ source sink o.cause → StatusClause g (Some Replay) holds source sink host o
+  status_new new ends = record {
+    status = told.0;
+    place = told.1;
+    base = rw new.0 new.2;
+    words = ((λ is. absurd (words_given source sink o.cause ends is)), (λ is. absurd cc));
+    why = why_new g (λ _. ⊥) source sink host o.disk o.cause ends;
+    back = λ names. absurd names;
+    opened = rw new.0 tt;
+    complete = λ store script works. complete_new law g source sink host o.disk script works o.cause ends;
+  }
+
+  pub status_store : (path dir : List ℕ) → o.base ≡ base_of (opened_in o) → o.cause ≢ Some WordsRefused → IfSome (opened_in o) (λ s. (image : List ℕ) → holds path image → IsDurable s image)
+      → (o.disk ≡ None → (o.cause ≡ Some HostFault) ⊎ (o.cause ≡ Some NoMemory)) → Why g (holds path) source sink host o.disk o.cause → StatusClause g (Some (ReplayStore path dir)) holds source sink host o
+  status_store path dir base words opened back why = record {
+    status = told.0;
+    place = told.1;
+    base = base;
+    words = ((λ is. absurd (words is)), (λ is. absurd cc));
+    why = why;
+    back = λ names. back;
+    opened = opened;
+    complete = λ store script works. complete_store law g source sink host o.disk script works (holds path) store.0 store.2 store.3 store.4 store.5 o.cause store.1 store.6 words why;
+  }

@@ -1,0 +1,71 @@
+-- A store on a disk of the host: what a crash leaves, and why it isn't opened.
+use Rattle.std.proofs.Common.{ℕ, ◌≡◌, ◌+◌, inl, inr, List, Some, refl, sym, subst, arith}
+use Rattle.disk_model.specs.declared.device.Disk as disk
+use Rattle.disk_model.specs.declared.refusal.OpenRefusal.{OpenRefusal}
+use Rattle.disk_model.specs.declared.refusal.OpenRefusal.TheVariants as opening
+use Rattle.disk_model.specs.Calls.{Rose}
+use Rattle.disk_model.specs.Images.{Alike}
+use Rattle.disk_model.specs.Moments.{MayBe, LeavesOnly, Keeps, Same}
+use Rattle.disk_model.proofs.Steps.{joined, holds_on}
+use Rattle.commit_slots.specs.Images.{IsStore}
+use Rattle.meta_store.specs.Images.{IsCorruptAt}
+use Rattle.plain_model.specs.declared.entries.Entry.{Entry}
+use Rattle.plain_model.specs.State.{Held}
+use Rattle.plain_model.specs.Synced.{synced}
+use Rattle.file_store.specs.Stores.{Store, IsRecovered, IsDurable}
+use Rattle.hsm_core.specs.Crashes.{IsPrefix}
+use Rattle.hsm_cli.specs.Hosts.{IsHanded}
+use Rattle.hsm_cli.specs.Statuses.{cause_of_refusal}
+use Rattle.hsm_cli.specs.Told.{SourceTold, SinkTold, HostTold}
+use Rattle.hsm_cli.specs.Clauses.{IsCrashSafe, Why}
+use Rattle.hsm_cli.proofs.Running.{rose_later}
+
+plus_nothing : (n : ℕ) → n ≡ n + 0
+plus_nothing n = omega arith
+
+-- what was opened is what no entry has left yet
+opened_prefix : {D : Type 0} (s : Store D) (history : List Entry) (c : List ℕ) → s.held ≡ s.durable → IsDurable s c → IsPrefix s history 0 c
+opened_prefix s history c same durable = record {
+  n = 0;
+  from = omega arith;
+  to = omega arith;
+  found = subst (λ (n : ℕ). IsRecovered s.meta.durable.geometry s.meta.fsid n s.held c) (plus_nothing s.meta.number)
+      (subst (λ (h : Held). IsRecovered s.meta.durable.geometry s.meta.fsid s.meta.number h c) (sym same) durable);
+}
+
+module _ {D : Type 0} (g : disk.Ghosts D) (held : List ℕ → Type 0) (handed : D) (by_host : IsHanded g held handed) where
+  -- each image of the disk that was handed out
+  handed_prefix : (s : Store D) (history : List Entry) → Alike (g.gives handed) (g.gives s.disk) → ((c : List ℕ) → MayBe g s.disk c → IsDurable s c) → s.held ≡ s.durable
+      → (c : List ℕ) → MayBe g handed c → IsPrefix s history 0 c
+  handed_prefix s history alike durable same c (inl left) = opened_prefix s history c same (durable c (inr (alike.1 c (by_host.settled c left))))
+  handed_prefix s history alike durable same c (inr given) = opened_prefix s history c same (durable c (inr (alike.1 c given)))
+
+  safe_from : (s : Store D) (history : List Entry) (disk : D) → Keeps g handed s.disk Same → Alike (g.gives handed) (g.gives s.disk) → ((c : List ℕ) → MayBe g s.disk c → IsDurable s c) → s.held ≡ s.durable
+      → LeavesOnly g s.disk disk (IsPrefix s history 0) → ((c : List ℕ) → MayBe g disk c → IsPrefix s history (synced history) c) → IsCrashSafe g held s history disk
+  safe_from s history disk keeps alike durable same since now =
+      let P : List ℕ → Type 0 = IsPrefix s history 0 in
+      record {
+        handed = handed;
+        by_host = by_host;
+        since = joined g handed s.disk disk P (holds_on g handed s.disk Same P P keeps (handed_prefix s history alike durable same) (λ d c p is. subst P (sym is) p)) since;
+        now = now;
+      }
+
+  -- of the store as it was opened, whose files were these
+  pub crash_safe : (s files : Store D) (history : List Entry) (disk : D) → s ≡ files → Keeps g handed files.disk Same → Alike (g.gives handed) (g.gives files.disk)
+      → ((c : List ℕ) → MayBe g files.disk c → IsDurable files c) → files.held ≡ files.durable
+      → LeavesOnly g s.disk disk (IsPrefix s history 0) → ((c : List ℕ) → MayBe g disk c → IsPrefix s history (synced history) c) → IsCrashSafe g held s history disk
+  crash_safe s files history disk is keeps alike durable same =
+      subst (λ (x : Store D). LeavesOnly g x.disk disk (IsPrefix x history 0) → ((c : List ℕ) → MayBe g disk c → IsPrefix x history (synced history) c) → IsCrashSafe g held x history disk) (sym is)
+      (safe_from files history disk keeps alike durable same)
+
+  -- why the disk isn't opened
+  pub why_unopened : (source : SourceTold) (sink : SinkTold) (host : HostTold) (disk : D) (refusal : OpenRefusal)
+      → (refusal ≡ opening.NotStore → (c : List ℕ) → g.gives handed c → (geometry fsid : ℕ) → IsStore geometry fsid c → ⊥)
+      → ((place : ℕ) → refusal ≡ opening.Corrupt place → (c : List ℕ) → g.gives handed c → IsCorruptAt place c)
+      → (refusal ≡ opening.Disk → Rose (g.fault_count handed) (g.fault_count disk))
+      → Why g held source sink host (Some disk) (Some (cause_of_refusal refusal))
+  why_unopened source sink host disk opening.NotStore not_store corrupt failed = λ c holds. not_store refl c (by_host.given c holds)
+  why_unopened source sink host disk (opening.Corrupt place) not_store corrupt failed = λ c holds. corrupt place refl c (by_host.given c holds)
+  why_unopened source sink host disk opening.Disk not_store corrupt failed = record { disk = disk; back = refl; rose = rose_later 0 (g.fault_count handed) (g.fault_count disk) (omega arith) (failed refl) }
+  why_unopened source sink host disk opening.Memory not_store corrupt failed = tt

@@ -1,0 +1,17 @@
+use Rattle.std.proofs.Common.{◌≡◌, ◌∙◌, ap}
+use Rattle.std.specs.FinMap.{remove}
+use Rattle.hsm_cli.specs.MemHosts.{Hosted, disks_of, blank}
+use Rattle.hsm_cli.proofs.NamedDisks.{disks_of-remove, AllAtRest-remove}
+use Rattle.hsm_cli.proofs.mem_host.MemHost.make_blank.Goals as goal
+use Rattle.hsm_cli.proofs.mem_host.MemHost.make_blank.Goals.{After-remove}
+
+removed : (c : After-remove) → disks_of c.remove.new.self ≡ remove (disks_of c.self.inside.disks) c.args.path.now
+removed c = disks_of-remove c.args.path.now c.self.inside.disks c.remove.new.self c.remove.ensures.updates
+
+pub invariant_of-self : goal.invariant_of-self
+invariant_of-self c = rw (removed (goal.at.invariant_of-self c).After-remove) (AllAtRest-remove _ _ c.self.invariant)
+
+pub returns-clause-makes : goal.returns-clause-makes
+returns-clause-makes c =
+    let was = c.self.view_is ∙ c.in_ok-begin.ensures.ok.1 in
+    (c.in_ok-begin.ensures.ok.0, c.in-Ok.ensures.value ∙ ap (λ h. blank c.args.len h.fuse) was, rw (removed (goal.at.returns-clause-makes c).After-remove) (ap (λ (h : Hosted). record h { disks = remove h.disks c.args.path.now }) was))

@@ -1,0 +1,8 @@
+use Rattle.hsm_cli.proofs.HandingOut.{Gives-gone, Gives-others}
+use Rattle.hsm_cli.proofs.mem_host.MemHostHost.disk.Goals as goal
+
+pub returns-clause-gone : goal.returns-clause-gone
+returns-clause-gone c = Gives-gone c.args.path.now c.args.self.now c.take.new.self c.take.result c.take.ensures.gives
+
+pub returns-clause-others : goal.returns-clause-others
+returns-clause-others c = Gives-others c.args.path.now c.args.self.now c.take.new.self c.take.result c.take.ensures.gives

@@ -1,0 +1,21 @@
+use Rattle.std.proofs.Common.{◌≡◌, ℕ, List, Some, None, sym, ◌∙◌, ap, subst}
+use Rattle.disk_model.specs.Moments.{MayBe}
+use Rattle.commit_slots.specs.Images.{IsEmptyStore}
+use Rattle.hsm_cli.specs.declared.causes.Cause.TheVariants.{DiskFault}
+use Rattle.hsm_cli.specs.Commands.{geometry_number, fsid_of}
+use Rattle.hsm_cli.proofs.top.format.Goals as goal
+use Rattle.hsm_cli.proofs.top.format.Goals.{in-Ok-format, in-Err-format}
+
+pub returns-after-format-clause-formatted : goal.returns-after-format-clause-formatted
+returns-after-format-clause-formatted g c = λ none.
+    let geometry : ℕ = geometry_number c.args.size in
+    let fsid : ℕ = fsid_of c.args.path.now in
+    elim c.match-format.branch [
+      | in-Ok-format w ↦
+          let empty : (i : List ℕ) → MayBe g.H.Disk.Disk c.format.new.disk i → IsEmptyStore geometry fsid i
+          = λ i may. subst (λ (n : ℕ). IsEmptyStore n fsid i) c.geometry-geometry.ensures (subst (λ (f : ℕ). IsEmptyStore c.geometry-geometry.result f i) c.fsid.ensures (w.in-Ok-format.ensures.formatted i may)) in
+          record { disk = c.format.new.disk; back = ap (λ o. o.disk) c.unopened.ensures; empty = empty; recovered = λ i may. c.formatted_is_empty.ensures geometry fsid i (empty i may) }
+      | in-Err-format w ↦
+          let isnt : None ≡ Some DiskFault = sym none ∙ ap (λ o. o.cause) c.unopened.ensures ∙ w.cause-is in
+          absurd cc
+    ]

@@ -1,0 +1,65 @@
+//! Where disks come from: the outside, which hands them out by name.
+ghost use Rattle.std.specs.Prelude.{◌≡◌, ◌≤◌, ℕ, List, replicate, IfOk, OnOk, OnErr};
+ghost use Rattle.disk_model.specs.Images.{Within};
+ghost use Rattle.disk_model.specs.Calls.{raised};
+ghost use Rattle.hsm_cli.specs.Hosts.{HoldsNothing, HoldsOthers, HoldsAll, HasHostCause};
+
+use disk_model::Disk;
+use thiserror::Error;
+
+/// Why a disk wasn't handed out: the host failed and its count of faults rose, or memory ran out.
+#[derive(Clone, Copy, Debug, PartialEq, Eq, Error)]
+pub enum HostRefusal {
+    #[error("host fault")]
+    Failed,
+    #[error("no memory")]
+    Memory,
+}
+
+/// A host of disks, which it has by name and hands out by value. A disk that it hands out has counted no fault, and
+/// nothing of it waits for a sync: a crash leaves what a read gives. A host that doesn't tell what its names hold has no
+/// image in `holds`, and then the clauses on images say nothing.
+pub trait Host {
+    type Disk: Disk + Drop + Send;
+
+    /// Whether the host has a disk of this name, as bytes, with this image.
+    ghost holds: { Self → List ℕ → List ℕ → Type 0 };
+
+    /// How often the host has failed. The count stops at the greatest u64.
+    ghost fault_count: { Self → ℕ };
+
+    /// How often a call has failed.
+    fn faults(&self) -> u64
+        ensures { result ≡ fault_count self.now };
+
+    /// A disk of so many bytes, all of them 0, in place of what the name held.
+    fn make(&mut self, path: &str, len: u64) -> Result<Self::Disk, HostRefusal>
+        ensures length { IfOk result (λ d. Self.Disk.length_of d ≡ len) }
+        ensures zeros { IfOk result (λ d. (c : List ℕ) → Self.Disk.gives d c → c ≡ replicate len 0) }
+        ensures settled { IfOk result (λ d. Within (Self.Disk.gives d) (Self.Disk.may_leave d)) }
+        ensures counted { IfOk result (λ d. Self.Disk.fault_count d ≡ 0) }
+        ensures gone { OnOk result (HoldsNothing (holds self.new path.now)) }
+        ensures others { HoldsOthers path.now (holds self.old) (holds self.new) }
+        ensures refused { OnErr result (HoldsAll (holds self.old) (holds self.new)) }
+        ensures cause { HasHostCause result (fault_count self.old) (fault_count self.new) };
+
+    /// The disk of that name, or `Failed` where there is none. The host has it no more until it is put back.
+    fn disk(&mut self, path: &str) -> Result<Self::Disk, HostRefusal>
+        ensures given { IfOk result (λ d. (c : List ℕ) → holds self.old path.now c → Self.Disk.gives d c) }
+        ensures settled { IfOk result (λ d. Within (Self.Disk.gives d) (Self.Disk.may_leave d)) }
+        ensures counted { IfOk result (λ d. Self.Disk.fault_count d ≡ 0) }
+        ensures gone { OnOk result (HoldsNothing (holds self.new path.now)) }
+        ensures others { HoldsOthers path.now (holds self.old) (holds self.new) }
+        ensures refused { OnErr result (HoldsAll (holds self.old) (holds self.new)) }
+        ensures cause { HasHostCause result (fault_count self.old) (fault_count self.new) };
+}
+
+// Counts a fault of a host.
+pub(crate) fn fault(faults: &mut u64) -> HostRefusal
+    ensures failed { result ≡ HostRefusal.Failed }
+    ensures raised { faults.new ≡ raised faults.old }
+    ensures never_falls { faults.old ≤ faults.new }
+{
+    *faults = faults.saturating_add(1);
+    HostRefusal::Failed
+}

@@ -1,0 +1,52 @@
+//! What a run of the program gives.
+ghost use Rattle.std.specs.Prelude.{◌≡◌, [], None};
+ghost use Rattle.hsm_cli.specs.Statuses.{status_of, place_of};
+
+use crate::causes::Cause;
+use disk_model::Disk;
+use file_store::FileStore;
+use plain_model::History;
+use std::alloc::Global;
+use std::snapshot::Snapshot;
+
+/// What a run of the program gives.
+#[derive(Drop)]
+pub struct Outcome<D: Disk> {
+    /// The status with which the program ends.
+    pub status: u8,
+
+    /// The line at which a script was refused, or the place at which a store is corrupt, else 0.
+    pub at: u64,
+
+    /// What went wrong first, if anything did. Its text is what standard error says.
+    pub cause: Option<Cause>,
+
+    /// Entry i of the history, from 1, has the number `base + i`.
+    pub base: u64,
+
+    /// The store as it was opened, which contracts alone read. None for a new store, and where none was opened.
+    pub opening: Option<Snapshot<FileStore<D>>>,
+
+    /// The events of the run.
+    pub history: History,
+
+    /// The disk, where the host handed one out.
+    pub disk: Option<D>,
+}
+
+impl<D: Disk> Outcome<D> {
+    /// A run in which no store was opened.
+    pub(crate) fn unopened(alloc: Global, cause: Option<Cause>, disk: Option<D>) -> Outcome<D>
+        ensures { result ≡ record { status = status_of cause; at = place_of cause; cause = cause; base = 0; opening = None; history = []; disk = disk } }
+    {
+        Outcome {
+            status: Cause::status(cause),
+            at: Cause::place(cause),
+            cause,
+            base: 0,
+            opening: None,
+            history: History::new(alloc),
+            disk,
+        }
+    }
+}

@@ -1,0 +1,47 @@
+use Rattle.std.proofs.Common.{List, length, refl, ap, subst, arith}
+use Rattle.hsm_types.specs.declared.calls.Reply.TheVariants.{Done, Refused}
+use Rattle.plain_model.specs.declared.entries.Entry.{Entry}
+use Rattle.plain_model.specs.declared.entries.Actor.TheVariants.{Store as TheStore}
+use Rattle.plain_model.specs.declared.entries.Action.TheVariants.{Commit}
+use Rattle.hsm_core.specs.Store.{Store}
+use Rattle.hsm_core.specs.Answers.{IsCommitted}
+use Rattle.hsm_core.proofs.Events.{committed, on_ok, always, not_begun, Keeps, IsNext}
+use Rattle.hsm_core.proofs.store.Hsm.commit.Given.{Over}
+use Rattle.hsm_core.proofs.store.Hsm.commit.Goals.{After-keep}
+use Rattle.hsm_core.proofs.store.Hsm.commit.Goals as goal
+
+-- the store before the commit, and after it
+abbrev before : (g : Over) → After-keep g → Store g.row.D.Denot
+before g c = record { opened = c.self.inside.opened.value; files = c.self.inside.files; history = c.self.inside.history.items }
+
+abbrev after : (g : Over) → After-keep g → Store g.row.D.Denot
+after g c = record { opened = c.self.inside.opened.value; files = c.commit-done.new.files; history = c.keep.new.history.items }
+
+event : (g : Over) (c : After-keep g) → IsNext g.D.Disk (before g c) TheStore Commit Done c.self.inside.files.held c.keep.result (after g c)
+event g c =
+    committed g.D.Disk (before g c) (after g c) c.self.invariant.0 c.self.invariant.1 c.in_default.ensures.working refl _ c.commit-done.result c.keep.result
+    (omega (arith, c.self.invariant.2, c.len.ensures, ap length c.make_ready.ensures.same))
+    (record {
+      replies = c.commit-done.ensures.reply;
+      leaves = always c.commit-done.result c.commit-done.ensures.held;
+      synced = on_ok c.commit-done.result (λ done syncs. done) c.commit-done.ensures.synced;
+      working = c.commit-done.ensures.working;
+      memory = λ is. (c.commit-done.ensures.held, c.commit-done.ensures.memory is);
+      failed = c.commit-done.ensures.failed;
+      proceeds = c.commit-done.ensures.proceeds;
+    })
+    (subst (λ (old : List Entry). Keeps old TheStore Commit c.commit-done.result c.keep.result c.keep.new.history.items) c.make_ready.ensures.same
+    (record { kept = c.keep.ensures.kept; memory = c.keep.ensures.memory; failed = c.keep.ensures.failed }))
+
+pub returns-in-Err : goal.returns-in-Err
+returns-in-Err g c =
+    let s : Store g.row.D.Denot = record { opened = c.self.inside.opened.value; files = c.self.inside.files; history = c.self.inside.history.items } in
+    let t : Store g.row.D.Denot = record { opened = c.self.inside.opened.value; files = c.self.inside.files; history = c.make_ready.new.history.items } in
+    subst (λ (old : Store g.row.D.Denot). IsCommitted g.D.Disk old (Refused c.in-Err.refusal) t) c.self.view_is
+    (not_begun g.D.Disk s c.make_ready.new.history.items TheStore Commit Done s.files.held c.in-Err.refusal c.self.invariant.0 c.self.invariant.1 c.make_ready.ensures.same c.make_ready.ensures.idle c.in-Err.ensures.refused)
+
+pub invariant_of-self-2 : goal.invariant_of-self-2
+invariant_of-self-2 g c = let next = event g (goal.at.invariant_of-self-2 g c).After-keep in (next.0, next.1, c.self.invariant.2, c.self.invariant.3)
+
+pub returns : goal.returns
+returns g c = subst (λ (old : Store g.row.D.Denot). IsCommitted g.D.Disk old c.keep.result (after g (goal.at.returns g c).After-keep)) c.self.view_is (event g (goal.at.returns g c).After-keep).2
