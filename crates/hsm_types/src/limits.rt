@@ -1,4 +1,4 @@
-//! The limits of names, accesses and files.
+//! The limits of names, accesses, files and sessions.
 
 /// The bytes of the longest name.
 pub const NAME_BYTES: usize = 64;
@@ -17,3 +17,9 @@ pub const BLOCK_BYTES: u64 = 4096;
 
 /// The bytes of a segment, 16 blocks, in which bodies are kept and moved.
 pub const SEGMENT_BYTES: u64 = 65536;
+
+/// How many sessions may live.
+pub const LIVE_SESSIONS: usize = 64;
+
+/// The bytes of a session's longest information. The shortest has one.
+pub const INFO_BYTES: usize = 256;

@@ -1,9 +1,12 @@
-//! Lists of bytes, as types of their own. Contracts see each as the list of its bytes.
-ghost use Rattle.std.specs.Prelude.{◌≡◌, ℕ, List};
+//! Lists, as types of their own. Contracts see each as the list of its items.
+ghost use Rattle.std.specs.Prelude.{◌≡◌, ℕ, List, nat_eq};
+ghost use Rattle.std.specs.Ordering.{on};
 ghost use Rattle.std.specs.Str.{bytes_eq};
+ghost use Rattle.std.specs.Cmp.Lexicographic.{pointwise};
 ghost use Rattle.std.specs.Cmp.Rules.{comparing};
 ghost use Rattle.std.proofs.Common.{rules};
 
+use crate::keys::Sid;
 use std::alloc::AllocError;
 use std::marker::Model;
 
@@ -111,6 +114,63 @@ impl PartialEq for Word {
     ghost laws = { Prim.search (comparing, rules) };
 
     fn eq(&self, other: &Word) -> bool {
+        self.items.as_slice() == other.items.as_slice()
+    }
+}
+
+/// Ids of sessions.
+#[derive(Debug, Drop)]
+pub struct Sids {
+    items: Vec<Sid>,
+}
+
+impl Model for Sids {
+    ghost use Rattle.std.specs.Prelude.{List};
+    ghost use Rattle.hsm_types.specs.declared.keys.Sid.{Sid};
+
+    ghost Value = { List Sid };
+
+    ghost view = { λ s. s.items.items };
+}
+
+impl From<Vec<Sid>> for Sids {
+    ghost from_gives = { λ v s. s ≡ v.items };
+
+    fn from(items: Vec<Sid>) -> Sids {
+        Sids { items }
+    }
+}
+
+impl Sids {
+    pub fn as_slice(&self) -> &[Sid]
+        ensures { result.now ≡ self.now }
+    {
+        self.items.as_slice()
+    }
+
+    pub fn into_vec(self) -> Vec<Sid>
+        ensures { result.items ≡ self }
+    {
+        self.items
+    }
+}
+
+impl Clone for Sids {
+    ghost is_clone = { λ s t. t ≡ s };
+
+    fn clone(&self) -> Result<Sids, AllocError> {
+        Ok(Sids {
+            items: Vec::from_slice(*self.items.allocator(), self.items.as_slice())?,
+        })
+    }
+}
+
+impl PartialEq for Sids {
+    ghost eq = { pointwise (on (λ s. s.0) nat_eq) };
+
+    ghost laws = { Prim.search (comparing, rules) };
+
+    fn eq(&self, other: &Sids) -> bool {
         self.items.as_slice() == other.items.as_slice()
     }
 }

@@ -1,0 +1,50 @@
+//! The calls of sessions, and the replies to them.
+
+use crate::keys::{Handle, Sid, Token};
+use crate::lists::{Sids, Word};
+use thiserror::Error;
+
+/// What a session asks of the store. The first three need no session.
+#[derive(Clone, Debug, PartialEq, Drop)]
+pub enum DmCall {
+    /// Makes a session: beside the others where `old` is 0, and else in the place of the session `old`.
+    CreateSession { old: Sid, info: Word },
+    GetAllSessions,
+    QuerySession { target: Sid },
+    GetFileAttr { token: Token, handle: Handle },
+    PathToHandle { name: Word },
+    GetSpace,
+}
+
+/// What the store answers to a session's call.
+#[derive(Clone, Debug, PartialEq, Drop)]
+pub enum DmReply {
+    Session(Sid),
+    /// The live sessions, in the order of their ids.
+    Sids(Sids),
+    Info(Word),
+    /// A file's size in bytes, the number of the last event that completed a read, write or truncate of it, and how many of its blocks are mapped.
+    Attr { size: u64, stamp: u64, blocks: u64 },
+    Handle(Handle),
+    /// How many blocks are mapped, and how many there are.
+    Space { used: u64, total: u64 },
+    Refused(DmRefusal),
+}
+
+/// Why a session's call was refused. Nothing has changed then but the history, and not even that after `Memory`, or after `Disk` from a closed store.
+#[derive(Clone, Copy, Debug, PartialEq, Eq, Error)]
+pub enum DmRefusal {
+    #[error("no session has the id")]
+    NoSession,
+    #[error("the token isn't outstanding")]
+    NoToken,
+    #[error("the handle isn't that of a file here")]
+    NoObject,
+    #[error("the count {count} is out of bounds")]
+    TooMany { count: u64 },
+    /// A call of the disk failed in this event, or the store is closed by such a fault.
+    #[error("the disk failed")]
+    Disk,
+    #[error("no memory")]
+    Memory,
+}
