@@ -6,3 +6,5 @@ pub mod Steps
 pub mod Same
 pub mod Syncing
 pub mod Sides
+pub mod Stamping
+pub mod Listing

@@ -6,11 +6,11 @@ use Rattle.hsm_types.specs.declared.calls.Reply.TheVariants.{Done, Made, Data, S
 use Rattle.hsm_types.specs.declared.stores.Superblock.{Superblock}
 use Rattle.plain_model.specs.declared.entries.Entry.{Entry}
 use Rattle.plain_model.specs.declared.entries.Actor.{Actor}
-use Rattle.plain_model.specs.declared.entries.Actor.TheVariants.{Caller, Store}
+use Rattle.plain_model.specs.declared.entries.Actor.TheVariants.{Caller, Session, Store}
 use Rattle.plain_model.specs.declared.entries.Action.{Action}
-use Rattle.plain_model.specs.declared.entries.Action.TheVariants.{Issue, Commit}
+use Rattle.plain_model.specs.declared.entries.Action.TheVariants.{Issue, Dm, Commit}
 use Rattle.plain_model.specs.declared.entries.Answer.{Answer}
-use Rattle.plain_model.specs.declared.entries.Answer.TheVariants.{Call as Replied}
+use Rattle.plain_model.specs.declared.entries.Answer.TheVariants.{Call as Replied, Dm as Told}
 use Rattle.plain_model.specs.Plain.{File, listing, key_meant, act}
 use Rattle.plain_model.specs.Step.{World, start, replied, given, after}
 use Rattle.plain_model.specs.Legal.{After}
@@ -27,7 +27,10 @@ issue_same W V c call (Refused why) e = e
 
 step_same : (W : World) (V : Walk) (who : Actor) (what : Action) (answer : Answer) → W.files ≡ V.files → (given W who what answer).files ≡ (walk V who what answer).files
 step_same W V (Caller c) (Issue call) (Replied reply) e = issue_same W V c.0 call reply e
+step_same W V (Caller c) (Issue call) (Told reply) e = e
+step_same W V (Caller c) (Dm call) answer e = e
 step_same W V (Caller c) Commit answer e = e
+step_same W V (Session sid) what answer e = e
 step_same W V Store what answer e = e
 
 steps_same : (W : World) (V : Walk) (es : List Entry) (i : ℕ) → W.files ≡ V.files → (After W (take i es)).files ≡ (walked V (take i es)).files

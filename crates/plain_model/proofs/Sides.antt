@@ -8,9 +8,9 @@ use Rattle.hsm_types.specs.declared.calls.Call.TheVariants.{Create, Read, Write,
 use Rattle.hsm_types.specs.declared.calls.CallRefusal.{CallRefusal}
 use Rattle.plain_model.specs.declared.entries.Entry.{Entry}
 use Rattle.plain_model.specs.declared.entries.Actor.{Actor}
-use Rattle.plain_model.specs.declared.entries.Actor.TheVariants.{Caller, Store}
+use Rattle.plain_model.specs.declared.entries.Actor.TheVariants.{Caller, Session, Store}
 use Rattle.plain_model.specs.declared.entries.Action.{Action}
-use Rattle.plain_model.specs.declared.entries.Action.TheVariants.{Issue, Commit}
+use Rattle.plain_model.specs.declared.entries.Action.TheVariants.{Issue, Dm, Commit}
 use Rattle.plain_model.specs.declared.entries.Answer.{Answer}
 use Rattle.plain_model.specs.declared.entries.Answer.TheVariants.{Call as Replied}
 use Rattle.plain_model.specs.Keyed.{same_key, find_key, change_key, put_key, drop_key}
@@ -18,13 +18,14 @@ use Rattle.plain_model.specs.Plain.{File, body_or_none, written, resized}
 use Rattle.plain_model.specs.Step.{World, start, after}
 use Rattle.plain_model.specs.Blocks.{mapped_after}
 use Rattle.plain_model.specs.State.{FileState, Held, judged, key_named, rewritten, done_reply, done_held, reply_where, held_where}
+use Rattle.plain_model.specs.States.{State, just_opened}
 use Rattle.plain_model.specs.Stands.{Stands, StandsFor}
-use Rattle.plain_model.specs.Exact.{IsAnswer, left_by, Exact, held_by}
+use Rattle.plain_model.specs.Exact.{IsAnswer, left_by, Exact, state_by}
 use Rattle.plain_model.specs.Side.{sides_of, side_rewritten, side_given, side_after}
 use Rattle.plain_model.specs.Laws.{ExactIsSided}
-use Rattle.plain_model.proofs.Faultless.{faultless_reply}
-use Rattle.plain_model.proofs.Standing.{names_of-stands}
-use Rattle.plain_model.proofs.Steps.{same_key_named, event_step}
+use Rattle.plain_model.proofs.Faultless.{faultless_reply, faultless_dm_reply}
+use Rattle.plain_model.proofs.Histories.{call_held}
+use Rattle.plain_model.proofs.Steps.{same_key_named, event_step, stands_at_first}
 
 sides-put : (g : FileState) (fs : List FileState) → sides_of (put_key (λ f. f.key) g fs) ≡ put_key (λ x. x.key) (record { key = g.key; mapped = g.mapped }) (sides_of fs)
 sides-put g [] = refl
@@ -77,19 +78,25 @@ where_sided : (h : Held) (W : World) (call : Call) (why : Option CallRefusal) �
 where_sided h W call None st = done_sided h W call st
 where_sided h W call (Some why) st = refl
 
-event_sided : (s : Superblock) (h : Held) (W : World) (who : Actor) (what : Action) (answer : Answer) → StandsFor h W → IsAnswer s h who what answer
-    → sides_of (left_by s h what answer).files ≡ side_given W who what answer (sides_of h.files)
-event_sided s h W (Caller c) (Issue call) answer st (inl is) = rw is refl
-event_sided s h W (Caller c) (Issue call) answer st (inr is) = rw (is, faultless_reply s h call) (where_sided h W call (judged s h call) st)
-event_sided s h W Store Commit answer st is = refl
-event_sided s h W (Caller c) Commit answer st is = absurd is
-event_sided s h W Store (Issue call) answer st is = absurd is
+event_sided : (s : Superblock) (st : State) (W : World) (who : Actor) (what : Action) (answer : Answer) → StandsFor st.held W → IsAnswer s st who what answer
+    → sides_of (left_by s st who what answer).held.files ≡ side_given W who what answer (sides_of st.held.files)
+event_sided s st W (Caller c) (Issue call) answer stands (inl is) = rw is refl
+event_sided s st W (Caller c) (Issue call) answer stands (inr is) = rw (is, faultless_reply s st.held call, call_held s st call) (where_sided st.held W call (judged s st.held call) stands)
+event_sided s st W (Session sid) (Dm call) answer stands (inl is) = rw is refl
+event_sided s st W (Session sid) (Dm call) answer stands (inr is) = rw (is, faultless_dm_reply s st sid call) refl
+event_sided s st W Store Commit answer stands is = refl
+event_sided s st W (Caller c) (Dm call) answer stands is = absurd is
+event_sided s st W (Caller c) Commit answer stands is = absurd is
+event_sided s st W (Session sid) (Issue call) answer stands is = absurd is
+event_sided s st W (Session sid) Commit answer stands is = absurd is
+event_sided s st W Store (Issue call) answer stands is = absurd is
+event_sided s st W Store (Dm call) answer stands is = absurd is
 
-sided : (s : Superblock) (h : Held) (W : World) (es : List Entry) → StandsFor h W → Exact s h es → sides_of (held_by s h es).files ≡ side_after W (sides_of h.files) es
-sided s h W [] st exact = refl
-sided s h W (e ∷ es) st exact =
-    let now = event_step s h W e.actor e.action e.answer st exact.0 in
-    rw (← event_sided s h W e.actor e.action e.answer st exact.0) (sided s (left_by s h e.action e.answer) (after W e) es now.1 exact.2)
+sided : (s : Superblock) (st : State) (W : World) (es : List Entry) → StandsFor st.held W → Exact s st es → sides_of (state_by s st es).held.files ≡ side_after W (sides_of st.held.files) es
+sided s st W [] stands exact = refl
+sided s st W (e ∷ es) stands exact =
+    let now = event_step s st W e.actor e.action e.answer stands exact.0 in
+    rw (← event_sided s st W e.actor e.action e.answer stands exact.0) (sided s (left_by s st e.actor e.action e.answer) (after W e) es now.1 exact.2)
 
-pub exact_is_sided : (s : Superblock) (h : Held) (es : List Entry) → ExactIsSided s h es
-exact_is_sided s h es opening exact P stands = sided s h (start P) es (record { files = stands; newer = rw (names_of-stands h.files P stands) at opening }) exact
+pub exact_is_sided : (s : Superblock) (base : ℕ) (h : Held) (es : List Entry) → ExactIsSided s base h es
+exact_is_sided s base h es opening exact P stands = sided s (just_opened base h) (start P) es (stands_at_first h P opening stands) exact

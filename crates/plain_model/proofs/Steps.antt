@@ -1,8 +1,15 @@
 -- What the store answers is a legal step from each world that it stands for, and it stands for the world after it.
-use Rattle.std.specs.Prelude.{MatchOption, nat_lt, if◌then◌else◌}
-use Rattle.std.proofs.Common.{◌≡◌, ◌<◌, ◌-◌, ℕ, List, [], ◌∷◌, length, Bool, true, false, Option, Some, None, inl, inr, refl, ◌∙◌, ap, subst, arith}
+use Rattle.std.specs.Prelude.{MatchOption, nat_lt, ◌==◌, ◌&&◌, is_some, if◌then◌else◌}
+use Rattle.std.proofs.Common.{◌≡◌, ◌<◌, ◌-◌, ℕ, List, [], ◌∷◌, length, Bool, true, false, Option, Some, None, inl, inr, refl, sym, ◌∙◌, ap, subst, arith}
 use Rattle.std.proofs.lemmas.Bool.Decides.{nat_tests}
+use Rattle.hsm_types.specs.Refusals.{first_refusal}
+use Rattle.hsm_types.specs.declared.keys.FileKey.{FileKey}
+use Rattle.hsm_types.specs.declared.keys.Sid.{Sid}
 use Rattle.hsm_types.specs.declared.stores.Superblock.{Superblock}
+use Rattle.hsm_types.specs.declared.dm.DmCall.{DmCall}
+use Rattle.hsm_types.specs.declared.dm.DmCall.TheVariants.{CreateSession, GetAllSessions, QuerySession, GetFileAttr, PathToHandle, GetSpace}
+use Rattle.hsm_types.specs.declared.dm.DmRefusal.{DmRefusal}
+use Rattle.hsm_types.specs.declared.dm.DmRefusal.TheVariants.{NoObject}
 use Rattle.hsm_types.specs.declared.calls.Call.{Call}
 use Rattle.hsm_types.specs.declared.calls.Call.TheVariants.{Create, Read, Write, Truncate, Remove, Stat, Sync}
 use Rattle.hsm_types.specs.declared.calls.CallRefusal.{CallRefusal}
@@ -10,21 +17,24 @@ use Rattle.hsm_types.specs.declared.calls.CallRefusal.TheVariants.{NoSpace}
 use Rattle.hsm_types.specs.declared.calls.Reply.TheVariants.{Data, Size, Refused}
 use Rattle.plain_model.specs.declared.entries.Entry.{Entry}
 use Rattle.plain_model.specs.declared.entries.Actor.{Actor}
-use Rattle.plain_model.specs.declared.entries.Actor.TheVariants.{Caller, Store}
+use Rattle.plain_model.specs.declared.entries.Actor.TheVariants.{Caller, Session, Store}
 use Rattle.plain_model.specs.declared.entries.Action.{Action}
-use Rattle.plain_model.specs.declared.entries.Action.TheVariants.{Issue, Commit}
+use Rattle.plain_model.specs.declared.entries.Action.TheVariants.{Issue, Dm, Commit}
 use Rattle.plain_model.specs.declared.entries.Answer.{Answer}
-use Rattle.plain_model.specs.Plain.{listing, named, free_inode, greatest, refusal_of, first_refusal, key_or_none, read_at, written, resized}
-use Rattle.plain_model.specs.Step.{World, start, Completes, WantsSpace, IsOutcome, MayReply, replied, MayGive, given, after}
+use Rattle.plain_model.specs.Plain.{File, listing, named, free_inode, greatest, refusal_of, key_or_none, read_at, written, resized}
+use Rattle.plain_model.specs.Step.{World, start, Completes, WantsSpace, IsOutcome, MayReply, replied, MayTell, MayGive, given, after}
 use Rattle.plain_model.specs.Legal.{Legal, After}
 use Rattle.plain_model.specs.Blocks.{touched}
-use Rattle.plain_model.specs.State.{Held, names_of, bytes_of, key_named, used, no_space, name_meant, space_refusal, done_reply, done_held, reply_where, held_where, reply_to, held_after}
-use Rattle.plain_model.specs.Stands.{StandsFor}
-use Rattle.plain_model.specs.Exact.{IsAnswer, left_by, Exact, held_by}
-use Rattle.plain_model.specs.Laws.{ExactIsLegal}
-use Rattle.plain_model.proofs.Faultless.{faultless_reply}
+use Rattle.plain_model.specs.State.{FileState, Held, names_of, bytes_of, key_named, used, no_space, name_meant, space_refusal, done_reply, done_held, reply_where, held_where, reply_to, held_after}
+use Rattle.plain_model.specs.States.{State, just_opened}
+use Rattle.plain_model.specs.Services.{dead_session, bad_token, is_live, bad_handle, own_refusal, dm_judged, dm_done_reply, dm_reply_where}
+use Rattle.plain_model.specs.Stands.{Stands, StandsFor}
+use Rattle.plain_model.specs.Exact.{IsAnswer, left_by, Exact, state_by}
+use Rattle.plain_model.specs.Laws.{IsOpening, ExactIsLegal}
+use Rattle.plain_model.proofs.Faultless.{faultless_reply, faultless_dm_reply}
+use Rattle.plain_model.proofs.Histories.{call_held}
 use Rattle.plain_model.proofs.Keys.{put_key-stands, change_key-stands, drop_key-stands}
-use Rattle.plain_model.proofs.Standing.{names_of-stands, bytes_of-stands}
+use Rattle.plain_model.proofs.Standing.{names_of-stands, bytes_of-stands, found-stands}
 
 -- ---- a call that nothing refuses
 
@@ -119,25 +129,81 @@ reply_step s h W call st =
       at.1,
     )
 
-pub event_step : (s : Superblock) (h : Held) (W : World) (who : Actor) (what : Action) (answer : Answer) → StandsFor h W → IsAnswer s h who what answer
-    → MayGive s W who what answer × StandsFor (left_by s h what answer) (given W who what answer)
-event_step s h W (Caller c) (Issue call) answer st (inl is) = rw is (inl refl, st)
-event_step s h W (Caller c) (Issue call) answer st (inr is) =
-    let at = reply_step s h W call st in
-    rw (is, faultless_reply s h call) (inr at.0, at.1)
-event_step s h W Store Commit answer st (inl is) = rw is (inl refl, st)
-event_step s h W Store Commit answer st (inr is) = rw is (inr refl, st)
-event_step s h W (Caller c) Commit answer st is = absurd is
-event_step s h W Store (Issue call) answer st is = absurd is
+-- ---- a session's call
 
-steps : (s : Superblock) (h : Held) (W : World) (es : List Entry) → StandsFor h W → Exact s h es → Legal s W es × StandsFor (held_by s h es) (After W es)
-steps s h W [] st exact = (tt, st)
-steps s h W (e ∷ es) st exact =
-    let now = event_step s h W e.actor e.action e.answer st exact.0 in
-    let rest = steps s (left_by s h e.action e.answer) (after W e) es now.1 exact.2 in
+none_first : {R : Type 0} (x : Option R) (rest : List (Option R)) → first_refusal (x ∷ rest) ≡ None → (x ≡ None) × (first_refusal rest ≡ None)
+none_first None rest is = (refl, is)
+none_first (Some why) rest is = cc
+
+-- nothing refuses, so the test holds
+passes : {R : Type 0} (b : Bool) (why : R) → (if b then None else Some why) ≡ None → b ≡ true
+passes true why is = refl
+passes false why is = cc
+
+right_of : (a b : Bool) → (a && b) ≡ true → b ≡ true
+right_of true b is = is
+right_of false b is = cc
+
+module _ (s : Superblock) (st : State) (W : World) (sid : Sid) (stands : StandsFor st.held W) where
+  abbrev files : List FileState
+  files = st.held.files
+
+  told_step : (call : DmCall) → dm_judged s files st.sessions sid call ≡ None → MayTell s W call (dm_done_reply s files st.stamps st.sessions call)
+  told_step (CreateSession old info) none = tt
+  told_step GetAllSessions none = tt
+  told_step (QuerySession target) none = tt
+  told_step GetSpace none = tt
+  told_step (GetFileAttr token handle) none =
+      let past_session = none_first (dead_session st.sessions sid (GetFileAttr token handle)) (bad_token (Some token) ∷ bad_handle s files (Some handle) ∷ None ∷ []) none in
+      let past_token = none_first (bad_token (Some token)) (bad_handle s files (Some handle) ∷ None ∷ []) past_session.1 in
+      let past_handle = none_first (bad_handle s files (Some handle)) (None ∷ []) past_token.1 in
+      let live = right_of (handle.fsid == s.fsid) _ (passes (is_live s files handle) NoObject past_handle.0) in (
+        sym (found-stands handle.key files W.files stands.files) ∙ live,
+        ap (λ b. length b) (bytes_of-stands handle.key files W.files stands.files),
+      )
+  told_step (PathToHandle name) none =
+      let own : List (Option DmRefusal) = own_refusal files st.sessions (PathToHandle name) ∷ [] in
+      let past_session = none_first (dead_session st.sessions sid (PathToHandle name)) (None ∷ None ∷ own) none in
+      let past_own = none_first (own_refusal files st.sessions (PathToHandle name)) [] past_session.1 in
+      let found = passes (is_some (named name (names_of files))) NoObject past_own.0 in (
+        ap (λ ls. is_some (named name ls)) (sym (names_of-stands files W.files stands.files)) ∙ found,
+        ap (λ (k : FileKey). record { fsid = s.fsid; key = k }) (same_key_named st.held W stands name),
+      )
+
+  told_where : (call : DmCall) (why : Option DmRefusal) → dm_judged s files st.sessions sid call ≡ why → MayTell s W call (dm_reply_where why s files st.stamps st.sessions call)
+  told_where call None is = told_step call is
+  told_where call (Some why) is = tt
+
+-- ---- any event
+
+pub event_step : (s : Superblock) (st : State) (W : World) (who : Actor) (what : Action) (answer : Answer) → StandsFor st.held W → IsAnswer s st who what answer
+    → MayGive s W who what answer × StandsFor (left_by s st who what answer).held (given W who what answer)
+event_step s st W (Caller c) (Issue call) answer stands (inl is) = rw is (inl (tt, refl), stands)
+event_step s st W (Caller c) (Issue call) answer stands (inr is) =
+    let at = reply_step s st.held W call stands in
+    rw (is, faultless_reply s st.held call, call_held s st call) (inr at.0, at.1)
+event_step s st W (Session sid) (Dm call) answer stands (inl is) = rw is (inl (tt, refl), stands)
+event_step s st W (Session sid) (Dm call) answer stands (inr is) =
+    rw (is, faultless_dm_reply s st sid call) (inr (told_where s st W sid stands call (dm_judged s st.held.files st.sessions sid call) refl), stands)
+event_step s st W Store Commit answer stands (inl is) = rw is (inl (tt, refl), stands)
+event_step s st W Store Commit answer stands (inr is) = rw is (inr refl, stands)
+event_step s st W (Caller c) (Dm call) answer stands is = absurd is
+event_step s st W (Caller c) Commit answer stands is = absurd is
+event_step s st W (Session sid) (Issue call) answer stands is = absurd is
+event_step s st W (Session sid) Commit answer stands is = absurd is
+event_step s st W Store (Issue call) answer stands is = absurd is
+event_step s st W Store (Dm call) answer stands is = absurd is
+
+steps : (s : Superblock) (st : State) (W : World) (es : List Entry) → StandsFor st.held W → Exact s st es → Legal s W es × StandsFor (state_by s st es).held (After W es)
+steps s st W [] stands exact = (tt, stands)
+steps s st W (e ∷ es) stands exact =
+    let now = event_step s st W e.actor e.action e.answer stands exact.0 in
+    let rest = steps s (left_by s st e.actor e.action e.answer) (after W e) es now.1 exact.2 in
     ((now.0, exact.1, rest.0), rest.1)
 
-pub exact_is_legal : (s : Superblock) (h : Held) (es : List Entry) → ExactIsLegal s h es
-exact_is_legal s h es opening exact P stands =
-    let newer : greatest (listing P) < h.next = rw (names_of-stands h.files P stands) at opening in
-    steps s h (start P) es (record { files = stands; newer = newer }) exact
+-- a store that was just opened stands for each plain map that what it holds does
+pub stands_at_first : (h : Held) (P : List File) → IsOpening h → Stands h.files P → StandsFor h (start P)
+stands_at_first h P opening stands = record { files = stands; newer = rw (names_of-stands h.files P stands) at opening }
+
+pub exact_is_legal : (s : Superblock) (base : ℕ) (h : Held) (es : List Entry) → ExactIsLegal s base h es
+exact_is_legal s base h es opening exact P stands = steps s (just_opened base h) (start P) es (stands_at_first h P opening stands) exact

@@ -1,36 +1,42 @@
 -- Histories whose answers are just those that the store gives, up to a fault of its disk.
-use Rattle.std.specs.Prelude.{◌≡◌, ◌⊎◌, List, [], ◌∷◌, if◌then◌else◌}
+use Rattle.std.specs.Prelude.{ℕ, ◌≡◌, ◌⊎◌, List, [], ◌∷◌, if◌then◌else◌}
 use Rattle.hsm_types.specs.declared.stores.Superblock.{Superblock}
-use Rattle.hsm_types.specs.declared.calls.CallRefusal.TheVariants.{Disk}
-use Rattle.hsm_types.specs.declared.calls.Reply.TheVariants.{Done, Refused}
+use Rattle.hsm_types.specs.declared.calls.Reply.TheVariants.{Done}
 use Rattle.plain_model.specs.declared.entries.Entry.{Entry}
 use Rattle.plain_model.specs.declared.entries.Actor.{Actor}
-use Rattle.plain_model.specs.declared.entries.Actor.TheVariants.{Caller, Store}
+use Rattle.plain_model.specs.declared.entries.Actor.TheVariants.{Caller, Session, Store}
 use Rattle.plain_model.specs.declared.entries.Action.{Action}
-use Rattle.plain_model.specs.declared.entries.Action.TheVariants.{Issue, Commit}
+use Rattle.plain_model.specs.declared.entries.Action.TheVariants.{Issue, Dm, Commit}
 use Rattle.plain_model.specs.declared.entries.Answer.{Answer}
-use Rattle.plain_model.specs.declared.entries.Answer.TheVariants.{Call as Replied}
-use Rattle.plain_model.specs.Faults.{is_fault, FaultIsLast}
-use Rattle.plain_model.specs.State.{Held, reply_to, held_after}
+use Rattle.plain_model.specs.declared.entries.Answer.TheVariants.{Call as Replied, Dm as Told}
+use Rattle.plain_model.specs.Faults.{fault_of, is_fault, FaultIsLast}
+use Rattle.plain_model.specs.State.{Held, reply_to}
+use Rattle.plain_model.specs.States.{State, just_opened, noted, state_after}
+use Rattle.plain_model.specs.Services.{dm_reply_to, dm_state_after}
 
 -- the store's answer to an event is this one. In each event a call of the disk may fail
-abbrev pub IsAnswer : Superblock → Held → Actor → Action → Answer → Type 0
-IsAnswer s h (Caller c) (Issue call) answer = (answer ≡ Replied (Refused Disk)) ⊎ (answer ≡ Replied (reply_to s h call))
-IsAnswer s h Store Commit answer = (answer ≡ Replied (Refused Disk)) ⊎ (answer ≡ Replied Done)
-IsAnswer s h (Caller c) Commit answer = ⊥
-IsAnswer s h Store (Issue call) answer = ⊥
+abbrev pub IsAnswer : Superblock → State → Actor → Action → Answer → Type 0
+IsAnswer s st (Caller c) (Issue call) answer = (answer ≡ fault_of (Issue call)) ⊎ (answer ≡ Replied (reply_to s st.held call))
+IsAnswer s st (Session sid) (Dm call) answer = (answer ≡ fault_of (Dm call)) ⊎ (answer ≡ Told (dm_reply_to s st sid call))
+IsAnswer s st Store Commit answer = (answer ≡ fault_of Commit) ⊎ (answer ≡ Replied Done)
+IsAnswer s st actor action answer = ⊥
 
--- what the store holds after the event. A fault changes nothing
-abbrev pub left_by : Superblock → Held → Action → Answer → Held
-left_by s h (Issue call) answer = if is_fault answer then h else held_after s h call
-left_by s h Commit answer = h
+-- the store after the event. A fault changes nothing
+abbrev pub left_by : Superblock → State → Actor → Action → Answer → State
+left_by s st (Caller c) (Issue call) answer = if is_fault answer then noted st else state_after s st call
+left_by s st (Session sid) (Dm call) answer = if is_fault answer then noted st else dm_state_after s st sid call
+left_by s st actor action answer = noted st
 
 -- each answer is the one that the store gives over what the entries before it left, and a fault is the last one
-abbrev pub Exact : Superblock → Held → List Entry → Type 0
-Exact s h [] = Unit {0}
-Exact s h (e ∷ es) = IsAnswer s h e.actor e.action e.answer × FaultIsLast e es × Exact s (left_by s h e.action e.answer) es
+abbrev pub Exact : Superblock → State → List Entry → Type 0
+Exact s st [] = Unit {0}
+Exact s st (e ∷ es) = IsAnswer s st e.actor e.action e.answer × FaultIsLast e es × Exact s (left_by s st e.actor e.action e.answer) es
 
--- what the store holds after all the entries
-abbrev pub held_by : Superblock → Held → List Entry → Held
-held_by s h [] = h
-held_by s h (e ∷ es) = held_by s (left_by s h e.action e.answer) es
+-- the store after all the entries
+abbrev pub state_by : Superblock → State → List Entry → State
+state_by s st [] = st
+state_by s st (e ∷ es) = state_by s (left_by s st e.actor e.action e.answer) es
+
+-- what it holds after them, from what it held when it was opened under that number
+abbrev pub held_by : Superblock → ℕ → Held → List Entry → Held
+held_by s base h es = (state_by s (just_opened base h) es).held

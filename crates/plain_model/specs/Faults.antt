@@ -3,14 +3,25 @@ use Rattle.std.specs.Prelude.{◌≡◌, List, [], Bool, true, false}
 use Rattle.std.specs.List.{list_any}
 use Rattle.hsm_types.specs.declared.calls.CallRefusal.TheVariants.{Disk}
 use Rattle.hsm_types.specs.declared.calls.Reply.TheVariants.{Refused}
+use Rattle.hsm_types.specs.declared.dm.DmRefusal.TheVariants as dm
+use Rattle.hsm_types.specs.declared.dm.DmReply.TheVariants as told
 use Rattle.plain_model.specs.declared.entries.Entry.{Entry}
+use Rattle.plain_model.specs.declared.entries.Action.{Action}
+use Rattle.plain_model.specs.declared.entries.Action.TheVariants.{Issue, Dm, Commit}
 use Rattle.plain_model.specs.declared.entries.Answer.{Answer}
-use Rattle.plain_model.specs.declared.entries.Answer.TheVariants.{Call as Replied}
+use Rattle.plain_model.specs.declared.entries.Answer.TheVariants.{Call as Replied, Dm as Told}
 
 -- a call of the disk failed in the event
 abbrev pub is_fault : Answer → Bool
 is_fault (Replied (Refused Disk)) = true
+is_fault (Told (told.Refused dm.Disk)) = true
 is_fault answer = false
+
+-- the answer that says so
+abbrev pub fault_of : Action → Answer
+fault_of (Issue call) = Replied (Refused Disk)
+fault_of (Dm call) = Told (told.Refused dm.Disk)
+fault_of Commit = Replied (Refused Disk)
 
 -- an entry that is answered so is the last one
 abbrev pub FaultIsLast : Entry → List Entry → Type 0

@@ -4,9 +4,9 @@ use Rattle.std.specs.List.{AllByRecursion}
 use Rattle.hsm_types.specs.declared.stores.Superblock.{Superblock}
 use Rattle.plain_model.specs.declared.entries.Entry.{Entry}
 use Rattle.plain_model.specs.declared.entries.Action.{Action}
-use Rattle.plain_model.specs.declared.entries.Action.TheVariants.{Issue, Commit}
+use Rattle.plain_model.specs.declared.entries.Action.TheVariants.{Issue, Dm, Commit}
 use Rattle.plain_model.specs.declared.entries.Answer.{Answer}
-use Rattle.plain_model.specs.declared.entries.Answer.TheVariants.{Call as Replied}
+use Rattle.plain_model.specs.declared.entries.Answer.TheVariants.{Call as Replied, Dm as Told}
 use Rattle.plain_model.specs.Faults.{FaultIsLast}
 use Rattle.plain_model.specs.Step.{World, Allows, after}
 
@@ -23,6 +23,7 @@ After W (e ∷ es) = After (after W e) es
 -- Bytes that an entry brings back are those that the world has at their place. None of today's actions brings any.
 abbrev pub BringsTrueBytes : World → Action → Answer → Type 0
 BringsTrueBytes W (Issue call) answer = Unit {0}
+BringsTrueBytes W (Dm call) answer = Unit {0}
 BringsTrueBytes W Commit answer = Unit {0}
 
 -- no two byte lists of one digest stood in for each other
@@ -30,9 +31,10 @@ abbrev pub NoClash : World → List Entry → Type 0
 NoClash W [] = Unit {0}
 NoClash W (e ∷ es) = BringsTrueBytes W e.action e.answer × NoClash (after W e) es
 
--- the token on which an answer parks its access, if it does. None of today's answers parks.
+-- the token on which an answer parks its access, or that it gives. None of today's answers has one.
 abbrev pub token_of : Answer → Option ℕ
 token_of (Replied reply) = None
+token_of (Told reply) = None
 
 -- no token is given twice
 abbrev pub Once : List Entry → Type 0

@@ -7,9 +7,12 @@ pub mod Blocks
 pub mod Distinct
 pub mod PlainFold
 pub mod State
+pub mod States
+pub mod Services
 pub mod Stands
 pub mod Exact
 pub mod Synced
 pub mod Side
+pub mod Stamps
 pub mod Laws
 pub mod Render

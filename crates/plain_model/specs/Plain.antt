@@ -2,6 +2,7 @@
 use Rattle.std.specs.Prelude.{ℕ, ◌+◌, ◌-◌, ◌^◌, max, min, List, [], ◌∷◌, ◌++◌, length, map, take, drop, replicate, ◌==◌, ◌&&◌, nat_lt, nat_le, if◌then◌else◌, Option, Some, None, is_some}
 use Rattle.std.specs.Str.{bytes_eq}
 use Rattle.hsm_types.specs.Names.{is_name}
+use Rattle.hsm_types.specs.Refusals.{first_refusal}
 use Rattle.hsm_types.specs.declared.keys.FileKey.{FileKey}
 use Rattle.hsm_types.specs.declared.stores.Superblock.{Superblock}
 use Rattle.hsm_types.specs.declared.calls.Call.{Call}
@@ -64,12 +65,6 @@ too_big end = if nat_lt 16777216 end then Some (TooBig (min end (2 ^ 64 - 1))) e
 -- each inode is in use
 abbrev pub no_inodes : ℕ → List Listed → Option CallRefusal
 no_inodes count files = if length files == count then Some (NoInodes count) else None
-
--- the first that refuses
-abbrev pub first_refusal : List (Option CallRefusal) → Option CallRefusal
-first_refusal [] = None
-first_refusal (None ∷ rest) = first_refusal rest
-first_refusal (Some why ∷ rest) = Some why
 
 -- what refuses the call on these files, if anything does
 abbrev pub refusal_of : Superblock → List Listed → Call → Option CallRefusal

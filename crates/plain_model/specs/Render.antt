@@ -1,5 +1,5 @@
 -- The text of a history: a line for each event, its words with a space between each two.
-use Rattle.std.specs.Prelude.{ℕ, List, [], ◌∷◌, ◌++◌, length, codes, ◌==◌, nat_le, if◌then◌else◌}
+use Rattle.std.specs.Prelude.{ℕ, List, [], ◌∷◌, ◌++◌, length, map, codes, ◌==◌, nat_le, if◌then◌else◌}
 use Rattle.std.specs.List.{flat_map, join_with_byte}
 use Rattle.std.specs.Fmt.{decimal}
 use Rattle.hex.specs.Hex.{encode_lower}
@@ -10,13 +10,21 @@ use Rattle.hsm_types.specs.declared.calls.CallRefusal.{CallRefusal}
 use Rattle.hsm_types.specs.declared.calls.CallRefusal.TheVariants.{Missing, Exists, BadName, TooBig, BadLength, NoInodes, NoSpace, Disk, Memory}
 use Rattle.hsm_types.specs.declared.calls.Reply.{Reply}
 use Rattle.hsm_types.specs.declared.calls.Reply.TheVariants.{Done, Made, Data, Size, Refused}
+use Rattle.hsm_types.specs.declared.dm.DmCall.{DmCall}
+use Rattle.hsm_types.specs.declared.dm.DmCall.TheVariants.{CreateSession, GetAllSessions, QuerySession, GetFileAttr, PathToHandle, GetSpace}
+use Rattle.hsm_types.specs.declared.dm.DmRefusal.{DmRefusal}
+use Rattle.hsm_types.specs.declared.dm.DmRefusal.TheVariants as why
+use Rattle.hsm_types.specs.declared.dm.DmReply.{DmReply}
+use Rattle.hsm_types.specs.declared.dm.DmReply.TheVariants as told
+use Rattle.hsm_types.specs.declared.keys.FileKey.{FileKey}
+use Rattle.hsm_types.specs.declared.keys.Handle.{Handle}
 use Rattle.plain_model.specs.declared.entries.Entry.{Entry}
 use Rattle.plain_model.specs.declared.entries.Actor.{Actor}
-use Rattle.plain_model.specs.declared.entries.Actor.TheVariants.{Caller, Store}
+use Rattle.plain_model.specs.declared.entries.Actor.TheVariants.{Caller, Session, Store}
 use Rattle.plain_model.specs.declared.entries.Action.{Action}
-use Rattle.plain_model.specs.declared.entries.Action.TheVariants.{Issue, Commit}
+use Rattle.plain_model.specs.declared.entries.Action.TheVariants.{Issue, Dm, Commit}
 use Rattle.plain_model.specs.declared.entries.Answer.{Answer}
-use Rattle.plain_model.specs.declared.entries.Answer.TheVariants.{Call as Replied}
+use Rattle.plain_model.specs.declared.entries.Answer.TheVariants.{Call as Replied, Dm as Told}
 
 -- words with a space between each two
 abbrev pub spaced : List (List ℕ) → List ℕ
@@ -33,8 +41,22 @@ data_text bytes =
     else if nat_le (length bytes) 32 then encode_lower bytes
     else digest_text bytes
 
+-- a key: the inode and the generation
+abbrev pub key_word : FileKey → List ℕ
+key_word k = decimal k.ino ++ codes "." ++ decimal k.igen
+
+-- a handle: the file system id, and the key
+abbrev pub handle_word : Handle → List ℕ
+handle_word h = decimal h.fsid ++ codes "." ++ key_word h.key
+
+-- the words of a list, `-` for none
+abbrev pub listed : List (List ℕ) → List (List ℕ)
+listed [] = codes "-" ∷ []
+listed (word ∷ words) = word ∷ words
+
 abbrev pub actor_word : Actor → List ℕ
 actor_word (Caller c) = codes "c" ++ decimal c.0
+actor_word (Session sid) = codes "s" ++ decimal sid.0
 actor_word Store = codes "store"
 
 -- the words of a call, its data as `word` writes data. A script line has the same words
@@ -47,8 +69,18 @@ call_words word (Remove name) = codes "remove" ∷ name ∷ []
 call_words word (Stat name) = codes "stat" ∷ name ∷ []
 call_words word Sync = codes "sync" ∷ []
 
+-- the words of a session's call, also in a script line
+abbrev pub dm_words : DmCall → List (List ℕ)
+dm_words (CreateSession old info) = codes "session" ∷ decimal old.0 ∷ info ∷ []
+dm_words GetAllSessions = codes "sessions" ∷ []
+dm_words (QuerySession target) = codes "query" ∷ decimal target.0 ∷ []
+dm_words (GetFileAttr token handle) = codes "fileattr" ∷ decimal token.0 ∷ handle_word handle ∷ []
+dm_words (PathToHandle name) = codes "handle" ∷ name ∷ []
+dm_words GetSpace = codes "space" ∷ []
+
 abbrev pub action_words : (List ℕ → List ℕ) → Action → List (List ℕ)
 action_words word (Issue call) = call_words word call
+action_words word (Dm call) = dm_words call
 action_words word Commit = codes "commit" ∷ []
 
 abbrev pub refusal_words : CallRefusal → List (List ℕ)
@@ -64,16 +96,38 @@ refusal_words Memory = codes "Memory" ∷ []
 
 abbrev pub reply_words : Reply → List (List ℕ)
 reply_words Done = codes "done" ∷ []
-reply_words (Made k) = codes "made" ∷ (decimal k.ino ++ codes "." ++ decimal k.igen) ∷ []
+reply_words (Made k) = codes "made" ∷ key_word k ∷ []
 reply_words (Data bytes) = data_text bytes ∷ []
 reply_words (Size n) = codes "size" ∷ decimal n ∷ []
 reply_words (Refused why) = codes "refused" ∷ refusal_words why
 
+abbrev pub dm_refusal_words : DmRefusal → List (List ℕ)
+dm_refusal_words why.NoSession = codes "NoSession" ∷ []
+dm_refusal_words why.NoToken = codes "NoToken" ∷ []
+dm_refusal_words why.NoObject = codes "NoObject" ∷ []
+dm_refusal_words (why.TooMany count) = codes "TooMany" ∷ decimal count ∷ []
+dm_refusal_words why.Disk = codes "Disk" ∷ []
+dm_refusal_words why.Memory = codes "Memory" ∷ []
+
+abbrev pub dm_reply_words : DmReply → List (List ℕ)
+dm_reply_words (told.Session sid) = codes "session" ∷ decimal sid.0 ∷ []
+dm_reply_words (told.Sids sids) = codes "sessions" ∷ listed (map (λ sid. decimal sid.0) sids)
+dm_reply_words (told.Info info) = codes "info" ∷ info ∷ []
+dm_reply_words (told.Attr size stamp blocks) = codes "attr" ∷ decimal size ∷ decimal stamp ∷ decimal blocks ∷ []
+dm_reply_words (told.Handle handle) = codes "handle" ∷ handle_word handle ∷ []
+dm_reply_words (told.Space used total) = codes "space" ∷ decimal used ∷ decimal total ∷ []
+dm_reply_words (told.Refused why) = codes "refused" ∷ dm_refusal_words why
+
 abbrev pub answer_words : Answer → List (List ℕ)
 answer_words (Replied reply) = reply_words reply
+answer_words (Told reply) = dm_reply_words reply
+
+-- an event, its data as `word` writes data
+abbrev pub event_text : (List ℕ → List ℕ) → Actor → Action → List ℕ
+event_text word actor action = spaced (actor_word actor ∷ action_words word action)
 
 abbrev pub entry_text : Entry → List ℕ
-entry_text e = spaced (actor_word e.actor ∷ action_words data_text e.action) ++ codes " = " ++ spaced (answer_words e.answer) ++ codes "\n"
+entry_text e = event_text data_text e.actor e.action ++ codes " = " ++ spaced (answer_words e.answer) ++ codes "\n"
 
 -- a line for each entry
 abbrev pub text_of : List Entry → List ℕ

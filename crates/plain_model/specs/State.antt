@@ -1,5 +1,6 @@
 -- What a store holds, as contracts see it, and its exact answers.
 use Rattle.std.specs.Prelude.{ℕ, ◌+◌, ◌-◌, List, [], ◌∷◌, length, map, sum_by, count_by, Bool, nat_lt, if◌then◌else◌, Option, Some, None}
+use Rattle.hsm_types.specs.Refusals.{first_refusal}
 use Rattle.hsm_types.specs.declared.keys.FileKey.{FileKey}
 use Rattle.hsm_types.specs.declared.stores.Superblock.{Superblock}
 use Rattle.hsm_types.specs.declared.calls.Call.{Call}
@@ -9,7 +10,7 @@ use Rattle.hsm_types.specs.declared.calls.CallRefusal.TheVariants.{NoSpace}
 use Rattle.hsm_types.specs.declared.calls.Reply.{Reply}
 use Rattle.hsm_types.specs.declared.calls.Reply.TheVariants.{Done, Made, Data, Size, Refused}
 use Rattle.plain_model.specs.Keyed.{find_key, change_key, put_key, drop_key}
-use Rattle.plain_model.specs.Plain.{Listed, named, free_inode, refusal_of, first_refusal, key_or_none, read_at, written, resized}
+use Rattle.plain_model.specs.Plain.{Listed, named, free_inode, refusal_of, key_or_none, read_at, written, resized}
 use Rattle.plain_model.specs.Blocks.{touched, mapped_after}
 
 -- a file as the store holds it: its bytes, and for each of its blocks whether it is mapped

@@ -1,20 +1,26 @@
 -- Which event may come in a world, and the world that it leaves.
-use Rattle.std.specs.Prelude.{ℕ, ◌≡◌, ◌<◌, ◌⊎◌, List, Bool, true, false, if◌then◌else◌, MatchOption}
+use Rattle.std.specs.Prelude.{ℕ, ◌≡◌, ◌<◌, ◌⊎◌, List, length, Bool, true, false, if◌then◌else◌, is_some, IsTrue, MatchOption}
 use Rattle.hsm_types.specs.declared.keys.FileKey.{FileKey}
 use Rattle.hsm_types.specs.declared.stores.Superblock.{Superblock}
 use Rattle.hsm_types.specs.declared.calls.Call.{Call}
 use Rattle.hsm_types.specs.declared.calls.Call.TheVariants.{Create, Write, Truncate}
-use Rattle.hsm_types.specs.declared.calls.CallRefusal.TheVariants.{NoSpace, Disk}
+use Rattle.hsm_types.specs.declared.calls.CallRefusal.TheVariants.{NoSpace}
 use Rattle.hsm_types.specs.declared.calls.Reply.{Reply}
 use Rattle.hsm_types.specs.declared.calls.Reply.TheVariants.{Done, Made, Data, Size, Refused}
+use Rattle.hsm_types.specs.declared.dm.DmCall.{DmCall}
+use Rattle.hsm_types.specs.declared.dm.DmCall.TheVariants.{CreateSession, GetAllSessions, QuerySession, GetFileAttr, PathToHandle, GetSpace}
+use Rattle.hsm_types.specs.declared.dm.DmReply.{DmReply}
+use Rattle.hsm_types.specs.declared.dm.DmReply.TheVariants as told
 use Rattle.plain_model.specs.declared.entries.Entry.{Entry}
 use Rattle.plain_model.specs.declared.entries.Actor.{Actor}
-use Rattle.plain_model.specs.declared.entries.Actor.TheVariants.{Caller, Store}
+use Rattle.plain_model.specs.declared.entries.Actor.TheVariants.{Caller, Session, Store}
 use Rattle.plain_model.specs.declared.entries.Action.{Action}
-use Rattle.plain_model.specs.declared.entries.Action.TheVariants.{Issue, Commit}
+use Rattle.plain_model.specs.declared.entries.Action.TheVariants.{Issue, Dm, Commit}
 use Rattle.plain_model.specs.declared.entries.Answer.{Answer}
-use Rattle.plain_model.specs.declared.entries.Answer.TheVariants.{Call as Replied}
-use Rattle.plain_model.specs.Plain.{File, listing, free_inode, greatest, refusal_of, key_meant, act}
+use Rattle.plain_model.specs.declared.entries.Answer.TheVariants.{Call as Replied, Dm as Told}
+use Rattle.plain_model.specs.Faults.{fault_of}
+use Rattle.plain_model.specs.Keyed.{find_key}
+use Rattle.plain_model.specs.Plain.{File, listing, named, key_or_none, body_of, free_inode, greatest, refusal_of, key_meant, act}
 
 -- the plain map, and the greatest generation that was ever given
 pub record World : Type 0 where
@@ -70,12 +76,34 @@ replied W call reply =
     then record { files = (act W.files (key_meant (listing W.files) call reply) call).1; last = last_after W.last reply }
     else W
 
+-- a session's call may get this reply: a refusal, or the answer of its kind. The size and the key that it tells are those of the plain map
+abbrev pub MayTell : Superblock → World → DmCall → DmReply → Type 0
+MayTell s W call (told.Refused why) = Unit {0}
+MayTell s W (CreateSession old info) (told.Session sid) = Unit {0}
+MayTell s W GetAllSessions (told.Sids sids) = Unit {0}
+MayTell s W (QuerySession target) (told.Info info) = Unit {0}
+MayTell s W (GetFileAttr token handle) (told.Attr size stamp blocks) = IsTrue (is_some (find_key (λ f. f.key) handle.key W.files)) × (size ≡ length (body_of handle.key W.files))
+MayTell s W (PathToHandle name) (told.Handle handle) = IsTrue (is_some (named name (listing W.files))) × (handle ≡ record { fsid = s.fsid; key = key_or_none (named name (listing W.files)) })
+MayTell s W GetSpace (told.Space used total) = Unit {0}
+MayTell s W call reply = ⊥
+
+-- the answer is of the actor's and the action's kind, and may come
+abbrev pub MayAnswer : Superblock → World → Actor → Action → Answer → Type 0
+MayAnswer s W (Caller c) (Issue call) (Replied reply) = MayReply s W call reply
+MayAnswer s W (Session sid) (Dm call) (Told reply) = MayTell s W call reply
+MayAnswer s W Store Commit (Replied reply) = reply ≡ Done
+MayAnswer s W actor action answer = ⊥
+
+-- callers issue calls, sessions make theirs, and the store commits
+abbrev pub Acts : Actor → Action → Type 0
+Acts (Caller c) (Issue call) = Unit {0}
+Acts (Session sid) (Dm call) = Unit {0}
+Acts Store Commit = Unit {0}
+Acts actor action = ⊥
+
 -- from W the actor's action may get this answer. In each event a call of the disk may fail
 abbrev pub MayGive : Superblock → World → Actor → Action → Answer → Type 0
-MayGive s W (Caller c) (Issue call) (Replied reply) = (reply ≡ Refused Disk) ⊎ MayReply s W call reply
-MayGive s W Store Commit (Replied reply) = (reply ≡ Refused Disk) ⊎ (reply ≡ Done)
-MayGive s W (Caller c) Commit answer = ⊥
-MayGive s W Store (Issue call) answer = ⊥
+MayGive s W actor action answer = Acts actor action × (answer ≡ fault_of action) ⊎ MayAnswer s W actor action answer
 
 -- the world that it leaves
 abbrev pub given : World → Actor → Action → Answer → World

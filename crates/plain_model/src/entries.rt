@@ -1,7 +1,7 @@
 //! Events and their history.
 ghost use Rattle.std.specs.Prelude.{◌≡◌, []};
 
-use hsm_types::{Call, CallerId, Reply};
+use hsm_types::{Call, CallerId, DmCall, DmReply, Reply, Sid};
 use std::alloc::{AllocError, Global};
 use std::marker::Model;
 
@@ -9,6 +9,7 @@ use std::marker::Model;
 #[derive(Clone, Copy, Debug, PartialEq, Eq)]
 pub enum Actor {
     Caller(CallerId),
+    Session(Sid),
     /// The store itself, for a commit.
     Store,
 }
@@ -17,13 +18,17 @@ pub enum Actor {
 #[derive(Debug, PartialEq, Drop)]
 pub enum Action {
     Issue(Call),
+    Dm(DmCall),
     Commit,
 }
 
 /// What the store answered to an event.
 #[derive(Debug, PartialEq, Drop)]
 pub enum Answer {
+    /// To a caller, or to the store itself.
     Call(Reply),
+    /// To a session.
+    Dm(DmReply),
 }
 
 /// An event with its answer.

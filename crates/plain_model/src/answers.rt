@@ -1,0 +1,150 @@
+//! The text of answers.
+ghost use Rattle.std.specs.Prelude.{◌≡◌, ◌++◌, OnOk, ◌∷◌, map};
+ghost use Rattle.std.specs.Fmt.{decimal};
+ghost use Rattle.std.specs.List.{flat_map};
+ghost use Rattle.plain_model.specs.Render.{spaced, listed, refusal_words, reply_words, dm_refusal_words, dm_reply_words, answer_words};
+
+use crate::entries::Answer;
+use crate::pieces::{push, push_field, push_handle, push_key, push_named};
+use crate::transcript::push_data;
+use hsm_types::{CallRefusal, DmRefusal, DmReply, Reply, Sid, Sids};
+use std::alloc::{AllocError, Global};
+
+pub(crate) fn push_answer(
+    alloc: Global,
+    out: &mut Vec<u8>,
+    answer: &Answer,
+) -> Result<(), AllocError>
+    ensures { OnOk result (out.new.items ≡ out.old.items ++ spaced (answer_words answer.now)) }
+{
+    match answer {
+        Answer::Call(reply) => push_reply(alloc, out, reply),
+        Answer::Dm(reply) => push_dm_reply(alloc, out, reply),
+    }
+}
+
+fn push_reply(alloc: Global, out: &mut Vec<u8>, reply: &Reply) -> Result<(), AllocError>
+    ensures { OnOk result (out.new.items ≡ out.old.items ++ spaced (reply_words reply.now)) }
+{
+    match reply {
+        Reply::Done => push(out, b"done"),
+        Reply::Made(key) => {
+            push(out, b"made ")?;
+            push_key(alloc, out, *key)
+        }
+        Reply::Data(bytes) => push_data(alloc, out, bytes.as_slice()),
+        Reply::Size(size) => {
+            push(out, b"size")?;
+            push_field(alloc, out, *size)
+        }
+        Reply::Refused(why) => {
+            push(out, b"refused ")?;
+            push_refusal(alloc, out, *why)
+        }
+    }
+}
+
+fn push_refusal(alloc: Global, out: &mut Vec<u8>, why: CallRefusal) -> Result<(), AllocError>
+    ensures { OnOk result (out.new.items ≡ out.old.items ++ spaced (refusal_words why)) }
+{
+    match why {
+        CallRefusal::Missing => push(out, b"Missing"),
+        CallRefusal::Exists => push(out, b"Exists"),
+        CallRefusal::BadName => push(out, b"BadName"),
+        CallRefusal::TooBig { end } => {
+            push(out, b"TooBig")?;
+            push_field(alloc, out, end)
+        }
+        CallRefusal::BadLength { len } => {
+            push(out, b"BadLength")?;
+            push_field(alloc, out, len)
+        }
+        CallRefusal::NoInodes { count } => {
+            push(out, b"NoInodes")?;
+            push_field(alloc, out, count)
+        }
+        CallRefusal::NoSpace { need, free } => {
+            push(out, b"NoSpace")?;
+            push_field(alloc, out, need)?;
+            push_field(alloc, out, free)
+        }
+        CallRefusal::Disk => push(out, b"Disk"),
+        CallRefusal::Memory => push(out, b"Memory"),
+    }
+}
+
+fn push_dm_reply(alloc: Global, out: &mut Vec<u8>, reply: &DmReply) -> Result<(), AllocError>
+    ensures { OnOk result (out.new.items ≡ out.old.items ++ spaced (dm_reply_words reply.now)) }
+{
+    match reply {
+        DmReply::Session(sid) => {
+            push(out, b"session")?;
+            push_field(alloc, out, sid.0)
+        }
+        DmReply::Sids(sids) => {
+            push(out, b"sessions")?;
+            push_sids(alloc, out, sids)
+        }
+        DmReply::Info(info) => push_named(out, b"info ", info),
+        DmReply::Attr {
+            size,
+            stamp,
+            blocks,
+        } => {
+            push(out, b"attr")?;
+            push_field(alloc, out, *size)?;
+            push_field(alloc, out, *stamp)?;
+            push_field(alloc, out, *blocks)
+        }
+        DmReply::Handle(handle) => {
+            push(out, b"handle ")?;
+            push_handle(alloc, out, *handle)
+        }
+        DmReply::Space { used, total } => {
+            push(out, b"space")?;
+            push_field(alloc, out, *used)?;
+            push_field(alloc, out, *total)
+        }
+        DmReply::Refused(why) => {
+            push(out, b"refused ")?;
+            push_dm_refusal(alloc, out, *why)
+        }
+    }
+}
+
+/// A space and the ids with a space between each two, `-` for none.
+#[tactic(auto, using(crate::proofs::Listing::ids_spaced))]
+fn push_sids(alloc: Global, out: &mut Vec<u8>, sids: &Sids) -> Result<(), AllocError>
+    ensures { OnOk result (out.new.items ≡ out.old.items ++ 32 ∷ spaced (listed (map (λ sid. decimal sid.0) sids.now))) }
+{
+    if sids.as_slice().is_empty() {
+        return push(out, b" -");
+    }
+    push_ids(alloc, out, sids.as_slice())
+}
+
+/// Each id with a space in front.
+fn push_ids(alloc: Global, out: &mut Vec<u8>, sids: &[Sid]) -> Result<(), AllocError>
+    ensures { OnOk result (out.new.items ≡ out.old.items ++ flat_map (λ sid. 32 ∷ decimal sid.0) sids.now) }
+{
+    for sid in sids {
+        push_field(alloc, out, sid.0)?;
+    }
+    Ok(())
+}
+
+fn push_dm_refusal(alloc: Global, out: &mut Vec<u8>, why: DmRefusal) -> Result<(), AllocError>
+    ensures { OnOk result (out.new.items ≡ out.old.items ++ spaced (dm_refusal_words why)) }
+{
+    match why {
+        DmRefusal::NoSession => push(out, b"NoSession"),
+        DmRefusal::NoToken => push(out, b"NoToken"),
+        DmRefusal::NoObject => push(out, b"NoObject"),
+        DmRefusal::TooMany { count } => {
+            push(out, b"TooMany")?;
+            push_field(alloc, out, count)
+        }
+        DmRefusal::Disk => push(out, b"Disk"),
+        DmRefusal::Memory => push(out, b"Memory"),
+    }
+}

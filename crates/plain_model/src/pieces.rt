@@ -1,0 +1,67 @@
+//! The pieces of a line's text.
+ghost use Rattle.std.specs.Prelude.{◌≡◌, ◌∷◌, ◌++◌, OnOk};
+ghost use Rattle.std.specs.Fmt.{decimal};
+ghost use Rattle.hex.specs.Hex.{encode_lower};
+ghost use Rattle.plain_model.specs.Render.{key_word, handle_word};
+
+use hsm_types::{FileKey, Handle, Word};
+use std::alloc::{AllocError, Global};
+
+pub(crate) fn push(out: &mut Vec<u8>, bytes: &[u8]) -> Result<(), AllocError>
+    ensures { OnOk result (out.new.items ≡ out.old.items ++ bytes.now) }
+{
+    out.extend_from_slice(bytes)?;
+    Ok(())
+}
+
+pub(crate) fn push_number(alloc: Global, out: &mut Vec<u8>, n: u64) -> Result<(), AllocError>
+    ensures { OnOk result (out.new.items ≡ out.old.items ++ decimal n) }
+{
+    let text = n.to_string(alloc)?;
+    push(out, text.as_bytes())
+}
+
+pub(crate) fn push_hex(alloc: Global, out: &mut Vec<u8>, bytes: &[u8]) -> Result<(), AllocError>
+    ensures { OnOk result (out.new.items ≡ out.old.items ++ encode_lower bytes.now) }
+{
+    let text = hex::encode(alloc, bytes)?;
+    push(out, text.as_bytes())
+}
+
+/// A verb, with the space behind it, and a name.
+pub(crate) fn push_named(out: &mut Vec<u8>, verb: &[u8], name: &Word) -> Result<(), AllocError>
+    ensures { OnOk result (out.new.items ≡ out.old.items ++ verb.now ++ name.now) }
+{
+    push(out, verb)?;
+    push(out, name.as_slice())
+}
+
+/// A space and a number.
+pub(crate) fn push_field(alloc: Global, out: &mut Vec<u8>, n: u64) -> Result<(), AllocError>
+    ensures { OnOk result (out.new.items ≡ out.old.items ++ 32 ∷ decimal n) }
+{
+    push(out, b" ")?;
+    push_number(alloc, out, n)
+}
+
+/// The inode and the generation.
+pub(crate) fn push_key(alloc: Global, out: &mut Vec<u8>, key: FileKey) -> Result<(), AllocError>
+    ensures { OnOk result (out.new.items ≡ out.old.items ++ key_word key) }
+{
+    push_number(alloc, out, key.ino)?;
+    push(out, b".")?;
+    push_number(alloc, out, key.igen)
+}
+
+/// The file system id and the key.
+pub(crate) fn push_handle(
+    alloc: Global,
+    out: &mut Vec<u8>,
+    handle: Handle,
+) -> Result<(), AllocError>
+    ensures { OnOk result (out.new.items ≡ out.old.items ++ handle_word handle) }
+{
+    push_number(alloc, out, handle.fsid)?;
+    push(out, b".")?;
+    push_key(alloc, out, handle.key)
+}
