@@ -75,8 +75,11 @@ pub Lacks-digits : (b : ℕ) (ds : List ℕ) → 10 ≤ digit_value b → AllDig
 Lacks-digits b [] other h = tt
 Lacks-digits b (d ∷ ds) other h = ((λ same. let wrong : digit_value b < 10 = rw same at h.0 in absurd (omega arith)), Lacks-digits b ds other h.1)
 
+pub decimal_digits : (n : ℕ) → n < 2 ^ 64 → AllDigits 10 (decimal n)
+decimal_digits n small = (decimal_is_IsNumeral n small).0.1
+
 pub Lacks-decimal : (b n : ℕ) → 10 ≤ digit_value b → n < 2 ^ 64 → Lacks b (decimal n)
-Lacks-decimal b n other small = Lacks-digits b (decimal n) other (decimal_is_IsNumeral n small).0.1
+Lacks-decimal b n other small = Lacks-digits b (decimal n) other (decimal_digits n small)
 
 pub digits_value-decimal : (n : ℕ) → n < 2 ^ 64 → digits_value 10 (decimal n) ≡ n
 digits_value-decimal n small = (decimal_is_IsNumeral n small).1

@@ -9,11 +9,14 @@ use Rattle.std.proofs.lemmas.List.FromFn.{length-map-range_with_len}
 use Rattle.std.proofs.lemmas.Fmt.{decimal_injective}
 use Rattle.std.proofs.lemmas.Slice.Eq.{bytes_eq-Decides}
 use Rattle.hex.specs.Hex.{encode_lower, IsBytes}
+use Rattle.hsm_types.specs.declared.dm.DmCall.{DmCall}
+use Rattle.hsm_types.specs.declared.dm.DmCall.TheVariants.{CreateSession, GetAllSessions, QuerySession, GetFileAttr, PathToHandle, GetSpace}
+use Rattle.hsm_types.specs.declared.keys.Sid.{Sid}
 use Rattle.hsm_types.specs.declared.calls.Call.{Call}
 use Rattle.hsm_types.specs.declared.calls.Call.TheVariants.{Create, Read, Write, Truncate, Remove, Stat, Sync}
 use Rattle.plain_model.specs.declared.entries.Actor.{Actor}
-use Rattle.plain_model.specs.declared.entries.Actor.TheVariants.{Caller, Store}
-use Rattle.plain_model.specs.declared.entries.Action.TheVariants.{Issue, Commit}
+use Rattle.plain_model.specs.declared.entries.Actor.TheVariants.{Caller, Session, Store}
+use Rattle.plain_model.specs.declared.entries.Action.TheVariants.{Issue, Dm, Commit}
 use Rattle.plain_model.specs.Render.{spaced, actor_word, call_words}
 use Rattle.script_text.specs.declared.bodies.Body.{Body}
 use Rattle.script_text.specs.declared.bodies.Pattern.{Pattern}
@@ -24,9 +27,9 @@ use Rattle.script_text.specs.declared.lines.Line.{Line}
 use Rattle.script_text.specs.declared.lines.Line.TheVariants.{Event}
 use Rattle.script_text.specs.Lines.{coloned, data_word, line_text, access_length, is_word, IsData, IsCall, IsLine, pattern, pattern_byte}
 use Rattle.script_text.specs.Scripts.{GoesOn}
-use Rattle.script_text.specs.Reading.{Lacks, IsNumber, IsCaller, pattern_text, IsPattern, body_text, IsBody, Target, target_text, IsTarget, call_text, IsRequest, verb_word}
+use Rattle.script_text.specs.Reading.{Lacks, IsNumber, IsCaller, sid_word, IsSid, dm_text, text_by, pattern_text, IsPattern, body_text, IsBody, Target, target_text, IsTarget, call_text, IsRequest, verb_word}
 use Rattle.script_text.proofs.Cutting.{Lacks-not, cut_same}
-use Rattle.script_text.proofs.Spelling.{Lacks-computed, Lacks-word, Lacks-space, Lacks-colon, Lacks-caller, line_text-injective}
+use Rattle.script_text.proofs.Spelling.{Lacks-computed, Lacks-word, Lacks-space, Lacks-colon, IsNumbered, Lacks-actor, line_text-injective}
 
 -- bytes that don't compare as the same
 pub differ : (xs ys zs : List ℕ) (r : Bool) → r ≡ bytes_eq xs ys → ys ≡ zs → r ≡ false → xs ≢ zs
@@ -56,6 +59,7 @@ caller_number word n (Caller c) is small h same =
     let digits : take (length word - 1) (drop 1 word) ≡ decimal c.0 = rw same (take_all _ (decimal c.0) (omega arith)) in
     let number : c.0 ≡ n = decimal_injective c.0 n (omega (arith, h.1)) small (sym digits ∙ is) in
     (omega (arith, h.0), omega (arith, h.1))
+caller_number word n (Session sid) is small h same = absurd h
 caller_number word n Store is small h same = absurd h
 
 -- ---- data
@@ -221,40 +225,89 @@ verb_cut text verb args v cut h = (cut_same 32 verb args (verb_word v.verb) v.ar
 
 -- ---- lines
 
--- what a line is if it isn't the commit: its caller and its request
-pub record IsIssued (text : List ℕ) : Type 0 where
+-- what a line is if it isn't the commit: who makes it, and what stands behind
+pub record IsActed (text : List ℕ) : Type 0 where
   pub actor : Actor
-  pub request : Request
-  pub caller : IsCaller actor
-  pub lawful : IsRequest request
-  pub spelled : text ≡ actor_word actor ++ 32 ∷ call_text request
+  pub rest : List ℕ
+  pub numbered : IsNumbered actor
+  pub spelled : text ≡ text_by actor rest
 
-event_text : (actor : Actor) (call : Call) (seed : Option ℕ) → line_text (Event actor (Issue call) seed) ≡ actor_word actor ++ 32 ∷ spaced (call_words (data_word seed) call)
-event_text actor (Create name) seed = refl
-event_text actor (Read name offset len) seed = refl
-event_text actor (Write name offset bytes) seed = refl
-event_text actor (Truncate name size) seed = refl
-event_text actor (Remove name) seed = refl
-event_text actor (Stat name) seed = refl
-event_text actor Sync seed = refl
+pub call_event : (actor : Actor) (call : Call) (seed : Option ℕ) → line_text (Event actor (Issue call) seed) ≡ text_by actor (spaced (call_words (data_word seed) call))
+call_event actor (Create name) seed = refl
+call_event actor (Read name offset len) seed = refl
+call_event actor (Write name offset bytes) seed = refl
+call_event actor (Truncate name size) seed = refl
+call_event actor (Remove name) seed = refl
+call_event actor (Stat name) seed = refl
+call_event actor Sync seed = refl
 
-pub issued : (text : List ℕ) (line : Line) → text ≢ codes "store commit" → IsLine line → text ≡ line_text line → IsIssued text
-issued text (Event (Caller c) (Issue call) seed) other h same = record {
+pub dm_event : (actor : Actor) (call : DmCall) (seed : Option ℕ) → line_text (Event actor (Dm call) seed) ≡ text_by actor (dm_text call)
+dm_event actor (CreateSession old info) seed = refl
+dm_event actor GetAllSessions seed = refl
+dm_event actor (QuerySession target) seed = refl
+dm_event actor (GetFileAttr token handle) seed = refl
+dm_event actor (PathToHandle name) seed = refl
+dm_event actor GetSpace seed = refl
+
+pub acted : (text : List ℕ) (line : Line) → text ≢ codes "store commit" → IsLine line → text ≡ line_text line → IsActed text
+acted text (Event (Caller c) (Issue call) seed) other h same = record {
   actor = Caller c;
-  request = record { call = call; seed = seed };
-  caller = (h.0, h.1);
-  lawful = h.2;
-  spelled = same ∙ event_text (Caller c) call seed;
+  rest = spaced (call_words (data_word seed) call);
+  numbered = (h.0, h.1);
+  spelled = same ∙ call_event (Caller c) call seed;
 }
-issued text (Event (Caller c) Commit seed) other h same = absurd h
-issued text (Event Store (Issue call) seed) other h same = absurd h
-issued text (Event Store Commit seed) other h same = absurd (other same)
+acted text (Event (Caller c) (Dm call) seed) other h same = absurd h
+acted text (Event (Caller c) Commit seed) other h same = absurd h
+acted text (Event (Session sid) (Issue call) seed) other h same = absurd h
+acted text (Event (Session sid) (Dm call) seed) other h same = record {
+  actor = Session sid;
+  rest = dm_text call;
+  numbered = h.0;
+  spelled = same ∙ dm_event (Session sid) call seed;
+}
+acted text (Event (Session sid) Commit seed) other h same = absurd h
+acted text (Event Store (Issue call) seed) other h same = absurd h
+acted text (Event Store (Dm call) seed) other h same = absurd h
+acted text (Event Store Commit seed) other h same = absurd (other same)
 
-pub line_uncut : (text : List ℕ) → IsIssued text → Lacks 32 text → ⊥
-line_uncut text e h = Lacks-not 32 (actor_word e.actor) (call_text e.request) (rw e.spelled at h)
+pub line_uncut : (text : List ℕ) → IsActed text → Lacks 32 text → ⊥
+line_uncut text a h = Lacks-not 32 (actor_word a.actor) a.rest (rw a.spelled at h)
 
-pub line_cut : (text who rest : List ℕ) (e : IsIssued text) → text ≡ who ++ 32 ∷ rest → Lacks 32 who → (who ≡ actor_word e.actor) × (rest ≡ call_text e.request)
-line_cut text who rest e cut h = cut_same 32 who rest (actor_word e.actor) (call_text e.request) h (Lacks-caller e.actor e.caller) (sym cut ∙ e.spelled)
+-- no caller and no session is named
+unnamed : (who : List ℕ) (actor : Actor) → IsNumbered actor → who ≡ actor_word actor → ((x : Actor) → IsCaller x → who ≢ actor_word x) → ((x : Sid) → IsSid x → who ≢ sid_word x) → ⊥
+unnamed who (Caller c) h same no_caller no_session = no_caller (Caller c) h same
+unnamed who (Session sid) h same no_caller no_session = no_session sid h same
+unnamed who Store h same no_caller no_session = absurd h
+
+pub line_unnamed : (text who rest : List ℕ) → IsActed text → text ≡ who ++ 32 ∷ rest → Lacks 32 who
+    → ((x : Actor) → IsCaller x → who ≢ actor_word x) → ((x : Sid) → IsSid x → who ≢ sid_word x) → ⊥
+line_unnamed text who rest a cut h =
+    unnamed who a.actor a.numbered (cut_same 32 who rest (actor_word a.actor) a.rest h (Lacks-actor a.actor a.numbered) (sym cut ∙ a.spelled)).0
+
+-- the line of a caller is one of its calls
+pub record IsCallOf (text : List ℕ) : Type 0 where
+  pub request : Request
+  pub lawful : IsRequest request
+  pub spelled : text ≡ call_text request
+
+pub call_line : (actor : Actor) (text : List ℕ) (line : Line) → IsCaller actor → IsLine line → text_by actor text ≡ line_text line → IsCallOf text
+call_line (Caller c) text (Event (Caller d) (Issue call) seed) k h same =
+    let behind = cut_same 32 (actor_word (Caller c)) text (actor_word (Caller d)) (spaced (call_words (data_word seed) call))
+    (Lacks-actor (Caller c) k) (Lacks-actor (Caller d) (h.0, h.1)) (same ∙ call_event (Caller d) call seed) in
+    record { request = record { call = call; seed = seed }; lawful = h.2; spelled = behind.1 }
+call_line (Caller c) text (Event (Caller d) (Dm call) seed) k h same = absurd h
+call_line (Caller c) text (Event (Caller d) Commit seed) k h same = absurd h
+call_line (Caller c) text (Event (Session sid) (Issue call) seed) k h same = absurd h
+call_line (Caller c) text (Event (Session sid) (Dm call) seed) k h same =
+    let whole = same ∙ dm_event (Session sid) call seed in
+    let wrong : ◌≡◌ {A = ℕ} 99 115 = cc whole in absurd (omega (arith, wrong))
+call_line (Caller c) text (Event (Session sid) Commit seed) k h same = absurd h
+call_line (Caller c) text (Event Store (Issue call) seed) k h same = absurd h
+call_line (Caller c) text (Event Store (Dm call) seed) k h same = absurd h
+call_line (Caller c) text (Event Store Commit seed) k h same =
+    let wrong : ◌≡◌ {A = ℕ} 99 115 = cc same in absurd (omega (arith, wrong))
+call_line (Session sid) text line k h same = absurd k
+call_line Store text line k h same = absurd k
 
 -- a line that goes on is the one that was read
 pub same_access : (before : List Line) (text : List ℕ) (read line : Line) → IsLine read → text ≡ line_text read → GoesOn before text line → access_length line ≡ access_length read

@@ -1,41 +1,85 @@
 -- Lines and their spelling.
-use Rattle.std.proofs.Common.{◌≡◌, ◌≢◌, ℕ, ◌^◌, ◌<◌, List, [], ◌∷◌, length, drop, Bool, true, ◌&&◌, ◌==◌, Option, Some, None, refl, sym, ap, ◌∙◌, arith}
+use Rattle.std.proofs.Common.{◌≡◌, ◌≢◌, ℕ, ◌^◌, ◌<◌, ◌≤◌, List, [], ◌∷◌, ◌++◌, length, drop, Bool, true, false, ◌&&◌, ◌==◌, Option, Some, None, refl, sym, ap, ◌∙◌, arith, append_assoc}
 use Rattle.std.specs.Prelude.{codes, not, if◌then◌else◌}
-use Rattle.std.specs.List.{list_all, AllByRecursion, slice_split}
+use Rattle.std.specs.Char.{digit_value}
+use Rattle.std.specs.List.{list_all, AllByRecursion, slice_split, join_with_byte}
 use Rattle.std.specs.Fmt.{decimal}
 use Rattle.std.specs.Result.{result_unwrap_or}
 use Rattle.std.specs.Str.{bytes_eq}
-use Rattle.std.specs.Str.Parse.{digits_value}
-use Rattle.std.proofs.lemmas.Bool.{and_parts}
+use Rattle.std.specs.Str.Parse.{AllDigits, digits_value}
+use Rattle.std.proofs.lemmas.Bool.{and_parts, false≢true}
 use Rattle.std.proofs.lemmas.Bool.Decides.{nat_tests}
+use Rattle.std.proofs.lemmas.List.Folds.{list_all-append}
 use Rattle.hex.specs.Hex.{decode_of, encode_lower}
+use Rattle.hsm_types.specs.Handles.{IsHandle}
+use Rattle.hsm_types.specs.declared.keys.FileKey.{FileKey}
+use Rattle.hsm_types.specs.declared.keys.Handle.{Handle}
+use Rattle.hsm_types.specs.declared.dm.DmCall.{DmCall}
+use Rattle.hsm_types.specs.declared.dm.DmCall.TheVariants.{CreateSession, GetAllSessions, QuerySession, GetFileAttr, PathToHandle, GetSpace}
 use Rattle.hsm_types.specs.declared.calls.Call.{Call}
 use Rattle.hsm_types.specs.declared.calls.Call.TheVariants.{Create, Read, Write, Truncate, Remove, Stat, Sync}
 use Rattle.plain_model.specs.declared.entries.Actor.{Actor}
-use Rattle.plain_model.specs.declared.entries.Actor.TheVariants.{Caller, Store}
-use Rattle.plain_model.specs.declared.entries.Action.TheVariants.{Issue, Commit}
-use Rattle.plain_model.specs.Render.{actor_word, call_words, action_words}
+use Rattle.plain_model.specs.declared.entries.Actor.TheVariants.{Caller, Session, Store}
+use Rattle.plain_model.specs.declared.entries.Action.TheVariants.{Issue, Dm, Commit}
+use Rattle.plain_model.specs.Render.{actor_word, key_word, handle_word, call_words, dm_words, action_words}
 use Rattle.script_text.specs.declared.lines.Line.{Line}
 use Rattle.script_text.specs.declared.lines.Line.TheVariants.{Event}
-use Rattle.script_text.specs.Lines.{pattern, coloned, data_word, line_words, line_text, is_word, is_word_byte, IsData, IsCall, IsLine}
-use Rattle.script_text.specs.Reading.{Lacks, IsCaller}
+use Rattle.script_text.specs.Lines.{pattern, coloned, data_word, line_words, line_text, is_word, is_word_byte, IsData, IsCall, IsDmCall, IsLine}
+use Rattle.script_text.specs.Reading.{Lacks, IsSid, is_lower_hex}
 use Rattle.script_text.proofs.Cutting.{slice_split-join, Lacks-join}
-use Rattle.script_text.proofs.Numerals.{Lacks-decimal, digits_value-decimal}
-use Rattle.script_text.proofs.HexText.{Lacks-encoded, decode-encoded}
+use Rattle.script_text.proofs.Numerals.{decimal_digits, Lacks-decimal, digits_value-decimal}
+use Rattle.script_text.proofs.HexText.{encoded_lower, Lacks-encoded, decode-encoded}
 
--- ---- no word of a line has a space, and no part of data a colon
+-- ---- words are visible, so that no word of a line has a space or a newline
 
-word_other : (b : ℕ) → is_word_byte b ≡ true → b ≢ 32
-word_other b h same = grind (arith, nat_tests)
+abbrev IsVisible : List ℕ → Type 0
+IsVisible word = list_all is_word_byte word ≡ true
 
-Lacks-visible : (word : List ℕ) → list_all is_word_byte word ≡ true → Lacks 32 word
-Lacks-visible [] h = tt
-Lacks-visible (b ∷ bs) h =
+visible_other : (b c : ℕ) → is_word_byte c ≡ false → is_word_byte b ≡ true → b ≢ c
+visible_other b c other h same = false≢true (sym other ∙ rw (← same) h)
+
+Lacks-visible : (c : ℕ) (word : List ℕ) → is_word_byte c ≡ false → IsVisible word → Lacks c word
+Lacks-visible c [] other h = tt
+Lacks-visible c (b ∷ bs) other h =
     let parts = and_parts (is_word_byte b) (list_all is_word_byte bs) h in
-    (word_other b parts.0, Lacks-visible bs parts.1)
+    (visible_other b c other parts.0, Lacks-visible c bs other parts.1)
+
+Lacks-words : (c : ℕ) (words : List (List ℕ)) → is_word_byte c ≡ false → AllByRecursion IsVisible words → AllByRecursion (Lacks c) words
+Lacks-words c [] other h = tt
+Lacks-words c (word ∷ words) other h = (Lacks-visible c word other h.0, Lacks-words c words other h.1)
+
+visible_word : (word : List ℕ) → is_word word ≡ true → IsVisible word
+visible_word word h = (and_parts (not (length word == 0)) (list_all is_word_byte word) h).1
 
 pub Lacks-word : (word : List ℕ) → is_word word ≡ true → Lacks 32 word
-Lacks-word word h = Lacks-visible word (and_parts (not (length word == 0)) (list_all is_word_byte word) h).1
+Lacks-word word h = Lacks-visible 32 word refl (visible_word word h)
+
+visible_digit : (d : ℕ) → digit_value d < 10 → is_word_byte d ≡ true
+visible_digit d h = grind (arith, nat_tests)
+
+visible_digits : (ds : List ℕ) → AllDigits 10 ds → IsVisible ds
+visible_digits [] h = refl
+visible_digits (d ∷ ds) h = rw (visible_digit d h.0) (visible_digits ds h.1)
+
+visible_decimal : (n : ℕ) → n < 2 ^ 64 → IsVisible (decimal n)
+visible_decimal n small = visible_digits (decimal n) (decimal_digits n small)
+
+visible_hex : (b : ℕ) → is_lower_hex b ≡ true → is_word_byte b ≡ true
+visible_hex b h = grind (arith, nat_tests)
+
+visible_lower : (text : List ℕ) → list_all is_lower_hex text ≡ true → IsVisible text
+visible_lower [] h = refl
+visible_lower (b ∷ bs) h =
+    let parts = and_parts (is_lower_hex b) (list_all is_lower_hex bs) h in
+    rw (visible_hex b parts.0) (visible_lower bs parts.1)
+
+visible_joined : (by : ℕ) (words : List (List ℕ)) → is_word_byte by ≡ true → AllByRecursion IsVisible words → IsVisible (join_with_byte by words)
+visible_joined by [] other h = refl
+visible_joined by (word ∷ []) other h = h.0
+visible_joined by (word ∷ next ∷ words) other h =
+    rw (list_all-append is_word_byte word (by ∷ join_with_byte by (next ∷ words)), h.0, other) (visible_joined by (next ∷ words) other h.1)
+
+-- ---- no part of data has a colon, and no number a dot
 
 -- whether the byte is not in a list, which computes
 abbrev pub is_without : ℕ → List ℕ → Bool
@@ -48,16 +92,15 @@ Lacks-computed b (x ∷ xs) h =
     let parts = and_parts (not (x == b)) (is_without b xs) h in
     ((λ same. let is = parts.0 in grind (arith, nat_tests)), Lacks-computed b xs parts.1)
 
--- no decimal has a space or a colon
+-- no decimal has a space, a colon or a dot
 pub Lacks-space : (n : ℕ) → n < 2 ^ 64 → Lacks 32 (decimal n)
 Lacks-space n small = Lacks-decimal 32 n (omega arith) small
 
 pub Lacks-colon : (n : ℕ) → n < 2 ^ 64 → Lacks 58 (decimal n)
 Lacks-colon n small = Lacks-decimal 58 n (omega arith) small
 
-pub Lacks-caller : (actor : Actor) → IsCaller actor → Lacks 32 (actor_word actor)
-Lacks-caller (Caller c) h = ((λ same. absurd (omega arith)), Lacks-space c.0 (omega (arith, h.1)))
-Lacks-caller Store h = absurd h
+pub Lacks-dot : (n : ℕ) → n < 2 ^ 64 → Lacks 46 (decimal n)
+Lacks-dot n small = Lacks-decimal 46 n (omega arith) small
 
 -- the parts of data
 abbrev pub data_parts : Option ℕ → List ℕ → List (List ℕ)
@@ -73,31 +116,79 @@ parts_colon None bytes h = (Lacks-computed 58 (codes "x") refl, (Lacks-encoded 5
 parts_colon (Some seed) bytes h =
     (Lacks-computed 58 (codes "p") refl, (Lacks-colon (length bytes) (omega (arith, h.0)), (Lacks-colon seed (omega (arith, h.1)), tt)))
 
-parts_space : (seed : Option ℕ) (bytes : List ℕ) → IsData seed bytes → AllByRecursion (Lacks 32) (data_parts seed bytes)
-parts_space None bytes h = (Lacks-computed 32 (codes "x") refl, (Lacks-encoded 32 bytes refl h, tt))
-parts_space (Some seed) bytes h =
-    (Lacks-computed 32 (codes "p") refl, (Lacks-space (length bytes) (omega (arith, h.0)), (Lacks-space seed (omega (arith, h.1)), tt)))
+-- ---- the words of a line
 
-Lacks-data : (seed : Option ℕ) (bytes : List ℕ) → IsData seed bytes → Lacks 32 (data_word seed bytes)
-Lacks-data seed bytes h =
-    rw (data_word-parts seed bytes) (Lacks-join 32 58 (data_parts seed bytes) (λ same. absurd (omega arith)) (parts_space seed bytes h))
+visible_parts : (seed : Option ℕ) (bytes : List ℕ) → IsData seed bytes → AllByRecursion IsVisible (data_parts seed bytes)
+visible_parts None bytes h = (refl, (visible_lower (encode_lower bytes) (encoded_lower bytes h), tt))
+visible_parts (Some seed) bytes h =
+    (refl, (visible_decimal (length bytes) (omega (arith, h.0)), (visible_decimal seed (omega (arith, h.1)), tt)))
 
-Lacks-call : (seed : Option ℕ) (call : Call) → IsCall seed call → AllByRecursion (Lacks 32) (call_words (data_word seed) call)
-Lacks-call seed (Create name) h = (Lacks-computed 32 (codes "create") refl, (Lacks-word name h.0, tt))
-Lacks-call seed (Read name offset len) h =
-    (Lacks-computed 32 (codes "read") refl, (Lacks-word name h.0, (Lacks-space offset h.1, (Lacks-space len h.2, tt))))
-Lacks-call seed (Write name offset bytes) h =
-    (Lacks-computed 32 (codes "write") refl, (Lacks-word name h.0, (Lacks-space offset h.1, (Lacks-data seed bytes h.2, tt))))
-Lacks-call seed (Truncate name size) h = (Lacks-computed 32 (codes "truncate") refl, (Lacks-word name h.0, (Lacks-space size h.1, tt)))
-Lacks-call seed (Remove name) h = (Lacks-computed 32 (codes "remove") refl, (Lacks-word name h.0, tt))
-Lacks-call seed (Stat name) h = (Lacks-computed 32 (codes "stat") refl, (Lacks-word name h.0, tt))
-Lacks-call seed Sync h = (Lacks-computed 32 (codes "sync") refl, tt)
+visible_data : (seed : Option ℕ) (bytes : List ℕ) → IsData seed bytes → IsVisible (data_word seed bytes)
+visible_data seed bytes h = rw (data_word-parts seed bytes) (visible_joined 58 (data_parts seed bytes) refl (visible_parts seed bytes h))
 
-Lacks-line : (line : Line) → IsLine line → AllByRecursion (Lacks 32) (line_words line)
-Lacks-line (Event (Caller c) (Issue call) seed) h = (Lacks-caller (Caller c) (h.0, h.1), Lacks-call seed call h.2)
-Lacks-line (Event (Caller c) Commit seed) h = absurd h
-Lacks-line (Event Store (Issue call) seed) h = absurd h
-Lacks-line (Event Store Commit seed) h = (Lacks-computed 32 (codes "store") refl, (Lacks-computed 32 (codes "commit") refl, tt))
+-- the parts of a handle
+abbrev handle_parts : Handle → List (List ℕ)
+handle_parts h = decimal h.fsid ∷ decimal h.key.ino ∷ decimal h.key.igen ∷ []
+
+pub key_word-is : (k : FileKey) → key_word k ≡ decimal k.ino ++ 46 ∷ decimal k.igen
+key_word-is k = append_assoc (decimal k.ino) (46 ∷ []) (decimal k.igen)
+
+pub handle_word-is : (handle : Handle) → handle_word handle ≡ decimal handle.fsid ++ 46 ∷ key_word handle.key
+handle_word-is handle = append_assoc (decimal handle.fsid) (46 ∷ []) (key_word handle.key)
+
+handle_word-parts : (handle : Handle) → handle_word handle ≡ join_with_byte 46 (handle_parts handle)
+handle_word-parts handle = handle_word-is handle ∙ ap (λ t. decimal handle.fsid ++ 46 ∷ t) (key_word-is handle.key)
+
+visible_handle : (handle : Handle) → IsHandle handle → IsVisible (handle_word handle)
+visible_handle handle h =
+    rw (handle_word-parts handle)
+    (visible_joined 46 (handle_parts handle) refl (visible_decimal handle.fsid h.fsid, (visible_decimal handle.key.ino h.ino, (visible_decimal handle.key.igen h.igen, tt))))
+
+visible_call : (seed : Option ℕ) (call : Call) → IsCall seed call → AllByRecursion IsVisible (call_words (data_word seed) call)
+visible_call seed (Create name) h = (refl, (visible_word name h.0, tt))
+visible_call seed (Read name offset len) h = (refl, (visible_word name h.0, (visible_decimal offset h.1, (visible_decimal len h.2, tt))))
+visible_call seed (Write name offset bytes) h = (refl, (visible_word name h.0, (visible_decimal offset h.1, (visible_data seed bytes h.2, tt))))
+visible_call seed (Truncate name size) h = (refl, (visible_word name h.0, (visible_decimal size h.1, tt)))
+visible_call seed (Remove name) h = (refl, (visible_word name h.0, tt))
+visible_call seed (Stat name) h = (refl, (visible_word name h.0, tt))
+visible_call seed Sync h = (refl, tt)
+
+visible_dm : (call : DmCall) → IsDmCall call → AllByRecursion IsVisible (dm_words call)
+visible_dm (CreateSession old info) h = (refl, (visible_decimal old.0 (omega (arith, h.0)), (visible_word info h.1, tt)))
+visible_dm GetAllSessions h = (refl, tt)
+visible_dm (QuerySession target) h = (refl, (visible_decimal target.0 h, tt))
+visible_dm (GetFileAttr token handle) h = (refl, (visible_decimal token.0 h.0, (visible_handle handle h.1, tt)))
+visible_dm (PathToHandle name) h = (refl, (visible_word name h, tt))
+visible_dm GetSpace h = (refl, tt)
+
+-- the actors that a word names with a number
+abbrev pub IsNumbered : Actor → Type 0
+IsNumbered (Caller c) = (1 ≤ c.0) × (c.0 ≤ 64)
+IsNumbered (Session sid) = IsSid sid
+IsNumbered Store = ⊥
+
+visible_actor : (actor : Actor) → IsNumbered actor → IsVisible (actor_word actor)
+visible_actor (Caller c) h = visible_decimal c.0 (omega (arith, h.1))
+visible_actor (Session sid) h = visible_decimal sid.0 h
+visible_actor Store h = absurd h
+
+pub Lacks-actor : (actor : Actor) → IsNumbered actor → Lacks 32 (actor_word actor)
+Lacks-actor actor h = Lacks-visible 32 (actor_word actor) refl (visible_actor actor h)
+
+visible_line : (line : Line) → IsLine line → AllByRecursion IsVisible (line_words line)
+visible_line (Event (Caller c) (Issue call) seed) h = (visible_actor (Caller c) (h.0, h.1), visible_call seed call h.2)
+visible_line (Event (Caller c) (Dm call) seed) h = absurd h
+visible_line (Event (Caller c) Commit seed) h = absurd h
+visible_line (Event (Session sid) (Issue call) seed) h = absurd h
+visible_line (Event (Session sid) (Dm call) seed) h = (visible_actor (Session sid) h.0, visible_dm call h.2)
+visible_line (Event (Session sid) Commit seed) h = absurd h
+visible_line (Event Store (Issue call) seed) h = absurd h
+visible_line (Event Store (Dm call) seed) h = absurd h
+visible_line (Event Store Commit seed) h = (refl, (refl, tt))
+
+-- a line's text has no newline
+pub Lacks-newline : (line : Line) → IsLine line → Lacks 10 (line_text line)
+Lacks-newline line h = Lacks-join 10 32 (line_words line) (λ same. absurd (omega arith)) (Lacks-words 10 (line_words line) refl (visible_line line h))
 
 -- ---- data are spelled as no other ones
 
@@ -148,11 +239,40 @@ call_of n (verb ∷ name ∷ offset ∷ last ∷ rest) =
     if bytes_eq verb (codes "read") then event_of n None (Read name (digits_value 10 offset) (digits_value 10 last))
     else event_of n (data_at last).seed (Write name (digits_value 10 offset) (data_at last).bytes)
 
+-- the handle of these parts, if they are those of a handle
+abbrev handle_of : List (List ℕ) → Handle
+handle_of (fsid ∷ ino ∷ igen ∷ rest) = record { fsid = digits_value 10 fsid; key = record { ino = digits_value 10 ino; igen = digits_value 10 igen } }
+handle_of parts = record { fsid = 0; key = record { ino = 0; igen = 0 } }
+
+abbrev handle_at : List ℕ → Handle
+handle_at word = handle_of (slice_split (λ b. b == 46) word)
+
+abbrev asked : ℕ → DmCall → Option Line
+asked n call = Some (Event (Session (record { 0 = n })) (Dm call) None)
+
+-- the line of a session with these words, or of the store
+abbrev session_of : ℕ → List (List ℕ) → Option Line
+session_of n [] = None
+session_of n (verb ∷ []) =
+    if bytes_eq verb (codes "commit") then Some (Event Store Commit None)
+    else if bytes_eq verb (codes "space") then asked n GetSpace
+    else asked n GetAllSessions
+session_of n (verb ∷ arg ∷ []) =
+    if bytes_eq verb (codes "query") then asked n (QuerySession (record { 0 = digits_value 10 arg }))
+    else asked n (PathToHandle arg)
+session_of n (verb ∷ first ∷ last ∷ rest) =
+    if bytes_eq verb (codes "session") then asked n (CreateSession (record { 0 = digits_value 10 first }) last)
+    else asked n (GetFileAttr (record { 0 = digits_value 10 first }) (handle_at last))
+
+abbrev is_callers : List ℕ → Bool
+is_callers [] = false
+is_callers (b ∷ bs) = b == 99
+
 abbrev line_of : List (List ℕ) → Option Line
 line_of [] = None
 line_of (who ∷ words) =
-    if bytes_eq who (codes "store") then Some (Event Store Commit None)
-    else call_of (digits_value 10 (drop 1 who)) words
+    if is_callers who then call_of (digits_value 10 (drop 1 who)) words
+    else session_of (digits_value 10 (drop 1 who)) words
 
 call_of-words : (n : ℕ) (seed : Option ℕ) (call : Call) → IsCall seed call → call_of n (call_words (data_word seed) call) ≡ event_of n seed call
 call_of-words n seed (Create name) h = rw h.1 refl
@@ -163,16 +283,39 @@ call_of-words n seed (Remove name) h = rw h.1 refl
 call_of-words n seed (Stat name) h = rw h.1 refl
 call_of-words n seed Sync h = rw h refl
 
+dots_handle : (handle : Handle) → IsHandle handle → AllByRecursion (Lacks 46) (handle_parts handle)
+dots_handle handle h = (Lacks-dot handle.fsid h.fsid, (Lacks-dot handle.key.ino h.ino, (Lacks-dot handle.key.igen h.igen, tt)))
+
+handle_at-word : (handle : Handle) → IsHandle handle → handle_at (handle_word handle) ≡ handle
+handle_at-word handle h =
+    ap handle_at (handle_word-parts handle)
+    ∙ ap handle_of (slice_split-join 46 (decimal handle.fsid) (decimal handle.key.ino ∷ decimal handle.key.igen ∷ []) (dots_handle handle h))
+    ∙ rw (digits_value-decimal handle.fsid h.fsid, digits_value-decimal handle.key.ino h.ino, digits_value-decimal handle.key.igen h.igen) refl
+
+session_of-words : (n : ℕ) (call : DmCall) → IsDmCall call → session_of n (dm_words call) ≡ asked n call
+session_of-words n (CreateSession old info) h = rw (digits_value-decimal old.0 (omega (arith, h.0))) refl
+session_of-words n GetAllSessions h = refl
+session_of-words n (QuerySession target) h = rw (digits_value-decimal target.0 h) refl
+session_of-words n (GetFileAttr token handle) h = rw (digits_value-decimal token.0 h.0, handle_at-word handle h.1) refl
+session_of-words n (PathToHandle name) h = refl
+session_of-words n GetSpace h = refl
+
 line_of-words : (line : Line) → IsLine line → line_of (line_words line) ≡ Some line
 line_of-words (Event (Caller c) (Issue call) seed) h =
     rw (digits_value-decimal c.0 (omega (arith, h.1))) (call_of-words c.0 seed call h.2)
+line_of-words (Event (Caller c) (Dm call) seed) h = absurd h
 line_of-words (Event (Caller c) Commit seed) h = absurd h
+line_of-words (Event (Session sid) (Issue call) seed) h = absurd h
+line_of-words (Event (Session sid) (Dm call) seed) h =
+    rw (digits_value-decimal sid.0 h.0, h.3) (session_of-words sid.0 call h.2)
+line_of-words (Event (Session sid) Commit seed) h = absurd h
 line_of-words (Event Store (Issue call) seed) h = absurd h
+line_of-words (Event Store (Dm call) seed) h = absurd h
 line_of-words (Event Store Commit seed) h = rw h refl
 
 words_of-text : (line : Line) → IsLine line → slice_split (λ b. b == 32) (line_text line) ≡ line_words line
 words_of-text (Event actor action seed) h =
-    slice_split-join 32 (actor_word actor) (action_words (data_word seed) action) (Lacks-line (Event actor action seed) h)
+    slice_split-join 32 (actor_word actor) (action_words (data_word seed) action) (Lacks-words 32 (line_words (Event actor action seed)) refl (visible_line (Event actor action seed) h))
 
 some_same : {A : Type 0} (x y : A) → Some x ≡ Some y → x ≡ y
 some_same x y e = cc e

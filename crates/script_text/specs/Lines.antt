@@ -5,10 +5,14 @@ use Rattle.std.specs.Fmt.{decimal}
 use Rattle.hex.specs.Hex.{encode_lower, IsBytes}
 use Rattle.hsm_types.specs.declared.calls.Call.{Call}
 use Rattle.hsm_types.specs.declared.calls.Call.TheVariants.{Create, Read, Write, Truncate, Remove, Stat, Sync}
+use Rattle.hsm_types.specs.declared.dm.DmCall.{DmCall}
+use Rattle.hsm_types.specs.declared.dm.DmCall.TheVariants.{CreateSession, GetAllSessions, QuerySession, GetFileAttr, PathToHandle, GetSpace}
+use Rattle.hsm_types.specs.declared.keys.Sid.{Sid}
+use Rattle.hsm_types.specs.Handles.{IsHandle}
 use Rattle.plain_model.specs.declared.entries.Actor.{Actor}
-use Rattle.plain_model.specs.declared.entries.Actor.TheVariants.{Caller, Store}
+use Rattle.plain_model.specs.declared.entries.Actor.TheVariants.{Caller, Session, Store}
 use Rattle.plain_model.specs.declared.entries.Action.{Action}
-use Rattle.plain_model.specs.declared.entries.Action.TheVariants.{Issue, Commit}
+use Rattle.plain_model.specs.declared.entries.Action.TheVariants.{Issue, Dm, Commit}
 use Rattle.plain_model.specs.Render.{spaced, actor_word, action_words}
 use Rattle.script_text.specs.declared.lines.Line.{Line}
 use Rattle.script_text.specs.declared.lines.Line.TheVariants.{Event}
@@ -62,11 +66,34 @@ IsCall seed (Remove name) = IsTrue (is_word name) × (seed ≡ None)
 IsCall seed (Stat name) = IsTrue (is_word name) × (seed ≡ None)
 IsCall seed Sync = seed ≡ None
 
--- callers issue calls, and the store commits
+-- which calls of sessions are lines. Taking over a session isn't a line yet, so the old one is 0, which stands for none
+abbrev pub IsDmCall : DmCall → Type 0
+IsDmCall (CreateSession old info) = (old.0 ≡ 0) × IsTrue (is_word info)
+IsDmCall GetAllSessions = Unit {0}
+IsDmCall (QuerySession target) = target.0 < 2 ^ 64
+IsDmCall (GetFileAttr token handle) = (token.0 < 2 ^ 64) × IsHandle handle
+IsDmCall (PathToHandle name) = IsTrue (is_word name)
+IsDmCall GetSpace = Unit {0}
+
+-- whose calls these are: what needs no session is asked by session 0, and the other calls by any
+abbrev pub MayAsk : Sid → DmCall → Type 0
+MayAsk sid (CreateSession old info) = sid.0 ≡ 0
+MayAsk sid GetAllSessions = sid.0 ≡ 0
+MayAsk sid (QuerySession target) = sid.0 ≡ 0
+MayAsk sid (GetFileAttr token handle) = Unit {0}
+MayAsk sid (PathToHandle name) = Unit {0}
+MayAsk sid GetSpace = Unit {0}
+
+-- callers issue calls, sessions ask, and the store commits
 abbrev pub IsEvent : Actor → Action → Option ℕ → Type 0
 IsEvent (Caller c) (Issue call) seed = (1 ≤ c.0) × (c.0 ≤ 64) × IsCall seed call
+IsEvent (Caller c) (Dm call) seed = ⊥
 IsEvent (Caller c) Commit seed = ⊥
+IsEvent (Session sid) (Issue call) seed = ⊥
+IsEvent (Session sid) (Dm call) seed = (sid.0 < 2 ^ 64) × MayAsk sid call × IsDmCall call × (seed ≡ None)
+IsEvent (Session sid) Commit seed = ⊥
 IsEvent Store (Issue call) seed = ⊥
+IsEvent Store (Dm call) seed = ⊥
 IsEvent Store Commit seed = seed ≡ None
 
 abbrev pub IsLine : Line → Type 0
@@ -86,6 +113,7 @@ call_access Sync = 0
 
 abbrev pub action_access : Action → ℕ
 action_access (Issue call) = call_access call
+action_access (Dm call) = 0
 action_access Commit = 0
 
 abbrev pub access_length : Line → ℕ

@@ -2,14 +2,19 @@
 use Rattle.std.specs.Prelude.{ℕ, ◌≡◌, ◌≢◌, ◌^◌, ◌<◌, ◌≤◌, List, [], ◌∷◌, ◌++◌, codes, Option, Some, None, Bool, IsTrue, nat_le, ◌&&◌, ◌||◌}
 use Rattle.std.specs.List.{AllByRecursion}
 use Rattle.std.specs.Fmt.{decimal}
+use Rattle.hsm_types.specs.declared.dm.DmCall.{DmCall}
+use Rattle.hsm_types.specs.declared.keys.FileKey.{FileKey}
+use Rattle.hsm_types.specs.declared.keys.Sid.{Sid}
 use Rattle.plain_model.specs.declared.entries.Actor.{Actor}
-use Rattle.plain_model.specs.declared.entries.Actor.TheVariants.{Caller, Store}
-use Rattle.plain_model.specs.Render.{spaced, call_words}
+use Rattle.plain_model.specs.declared.entries.Actor.TheVariants.{Caller, Session, Store}
+use Rattle.plain_model.specs.Render.{spaced, actor_word, call_words, dm_words}
 use Rattle.script_text.specs.declared.bodies.Body.{Body}
 use Rattle.script_text.specs.declared.bodies.Pattern.{Pattern}
 use Rattle.script_text.specs.declared.calls.Request.{Request}
 use Rattle.script_text.specs.declared.calls.Verb.{Verb}
 use Rattle.script_text.specs.declared.calls.Verb.TheVariants as verbs
+use Rattle.script_text.specs.declared.session_calls.DmVerb.{DmVerb}
+use Rattle.script_text.specs.declared.session_calls.DmVerb.TheVariants as dm_verbs
 use Rattle.script_text.specs.declared.lines.Line.{Line}
 use Rattle.script_text.specs.Lines.{coloned, data_word, is_word, IsData, IsCall}
 use Rattle.script_text.specs.Scripts.{GoesOn}
@@ -32,7 +37,17 @@ IsNumber n = n < 2 ^ 64
 
 abbrev pub IsCaller : Actor → Type 0
 IsCaller (Caller c) = (1 ≤ c.0) × (c.0 ≤ 64)
+IsCaller (Session sid) = ⊥
 IsCaller Store = ⊥
+
+abbrev pub sid_word : Sid → List ℕ
+sid_word sid = actor_word (Session sid)
+
+abbrev pub IsSid : Sid → Type 0
+IsSid sid = IsNumber sid.0
+
+abbrev pub IsKey : FileKey → Type 0
+IsKey k = IsNumber k.ino × IsNumber k.igen
 
 -- a hex digit in lower case
 abbrev pub is_lower_hex : ℕ → Bool
@@ -75,6 +90,19 @@ verb_word verbs.Write = codes "write"
 verb_word verbs.Truncate = codes "truncate"
 verb_word verbs.Remove = codes "remove"
 verb_word verbs.Stat = codes "stat"
+
+abbrev pub dm_text : DmCall → List ℕ
+dm_text call = spaced (dm_words call)
+
+abbrev pub dm_verb_word : DmVerb → List ℕ
+dm_verb_word dm_verbs.Session = codes "session"
+dm_verb_word dm_verbs.Query = codes "query"
+dm_verb_word dm_verbs.FileAttr = codes "fileattr"
+dm_verb_word dm_verbs.Handle = codes "handle"
+
+-- what an actor and a text behind it are together
+abbrev pub text_by : Actor → List ℕ → List ℕ
+text_by actor text = spaced (actor_word actor ∷ text ∷ [])
 
 -- the line of the text that goes on after the lines before it, or none where none does
 abbrev pub GoesOnAs : List Line → List ℕ → Option Line → Type 0

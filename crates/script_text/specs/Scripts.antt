@@ -1,6 +1,6 @@
 -- Scripts: bytes that are lines, each ended by a newline byte. The last newline may be missing.
 use Rattle.std.specs.Prelude.{ℕ, ◌≡◌, ◌+◌, ◌<◌, ◌≤◌, ◌==◌, List, [], ◌∷◌, ◌++◌, length, sum_by, if◌then◌else◌}
-use Rattle.std.specs.List.{slice_split}
+use Rattle.std.specs.List.{slice_split, flat_map, AllByRecursion}
 use Rattle.script_text.specs.declared.lines.Line.{Line}
 use Rattle.script_text.specs.declared.parser.ParseRefusal.{ParseRefusal}
 use Rattle.script_text.specs.declared.parser.ParseRefusal.TheVariants.{BadLine, Memory}
@@ -33,6 +33,17 @@ AreLines before (text ∷ texts) [] = ⊥
 
 abbrev pub IsScript : List ℕ → List Line → Type 0
 IsScript bytes lines = AreLines [] (texts_of bytes) lines
+
+-- lines that a script may have: lawful ones, none too long, not too many, and not too much access in all
+pub record AreLawful (lines : List Line) : Type 0 where
+  pub lawful : AllByRecursion IsLine lines
+  pub short : AllByRecursion (λ line. length (line_text line) ≤ 4096) lines
+  pub few : length lines ≤ 100000
+  pub light : sum_by access_length lines ≤ 536870912
+
+-- the text of lines, each ended by a newline byte
+abbrev pub script_text : List Line → List ℕ
+script_text lines = flat_map (λ line. line_text line ++ 10 ∷ []) lines
 
 -- the first texts are those of lines, and with the next one, the n-th, no line goes on
 pub record IsFirstBad (bytes : List ℕ) (n : ℕ) : Type 0 where

@@ -1,13 +1,14 @@
-//! The calls of a line.
+//! Lines, and the calls of callers.
 ghost use Rattle.std.specs.Prelude.{◌≡◌, ◌++◌, IfOk, codes};
 ghost use Rattle.std.specs.Option.{option_map};
 ghost use Rattle.script_text.specs.Lines.{line_text, IsLine};
-ghost use Rattle.script_text.specs.Reading.{Reads, Target, target_text, IsTarget, call_text, IsRequest, verb_word};
+ghost use Rattle.script_text.specs.Reading.{Reads, Target, target_text, IsTarget, call_text, IsRequest, verb_word, IsCaller, text_by};
 
 use crate::bodies::{Body, body_of};
 use crate::lines::Line;
-use crate::words::{caller, cut, is_word, number};
-use hsm_types::{Call, Word};
+use crate::session_calls::session_line;
+use crate::words::{caller, cut, is_word, number, session, word};
+use hsm_types::Call;
 use plain_model::{Action, Actor};
 use std::alloc::{AllocError, Global};
 
@@ -32,10 +33,21 @@ pub fn line(alloc: Global, text: &[u8]) -> Result<Option<Line>, AllocError>
     let Some((who, rest)) = cut(text, b' ') else {
         return Ok(None);
     };
-    let Some(actor) = caller(who) else {
-        return Ok(None);
-    };
-    let Some(Request { call, seed }) = request_of(alloc, rest)? else {
+    if let Some(actor) = caller(who) {
+        return caller_line(alloc, actor, rest);
+    }
+    match session(who) {
+        Some(sid) => session_line(alloc, sid, rest),
+        None => Ok(None),
+    }
+}
+
+/// The line of a caller's call.
+fn caller_line(alloc: Global, actor: Actor, text: &[u8]) -> Result<Option<Line>, AllocError>
+    requires { IsCaller actor }
+    ensures { IfOk result (λ read. Reads line_text IsLine (text_by actor text.now) read) }
+{
+    let Some(Request { call, seed }) = request_of(alloc, text)? else {
         return Ok(None);
     };
     let action = Action::Issue(call);
@@ -199,10 +211,4 @@ fn target(args: &[u8]) -> Option<(&[u8], u64, &[u8])>
         return None;
     };
     Some((name, offset, last))
-}
-
-fn word(alloc: Global, bytes: &[u8]) -> Result<Word, AllocError>
-    ensures { IfOk result (λ word. word ≡ bytes.now) }
-{
-    Ok(Word::from(Vec::from_slice(alloc, bytes)?))
 }

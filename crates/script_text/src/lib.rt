@@ -7,13 +7,16 @@ mod laws;
 mod lines;
 mod memory;
 mod parser;
+mod printing;
+mod session_calls;
 mod streams;
 mod words;
 
-pub use laws::one_script;
+pub use laws::{one_script, printed_is_read};
 pub use lines::{Line, Script};
 pub use memory::{MemorySink, MemorySource};
 pub use parser::{ParseRefusal, parse};
+pub use printing::print;
 pub use streams::{Failed, Sink, Source};
 
 #[cfg(test)]

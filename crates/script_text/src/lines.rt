@@ -1,5 +1,6 @@
 //! The lines of scripts.
 ghost use Rattle.std.specs.Prelude.{◌≡◌};
+ghost use Rattle.script_text.specs.Scripts.{AreLawful};
 
 use plain_model::{Action, Actor};
 use std::marker::Model;
@@ -16,7 +17,7 @@ pub enum Line {
     },
 }
 
-/// The lines of a script, in order. Contracts see them as a list.
+/// The lines of a script, in order, each lawful after those before it. Contracts see them as a list.
 #[derive(Debug, Drop)]
 pub struct Script {
     items: Vec<Line>,
@@ -25,29 +26,33 @@ pub struct Script {
 impl Model for Script {
     ghost use Rattle.std.specs.Prelude.{List};
     ghost use Rattle.script_text.specs.declared.lines.Line.{Line};
+    ghost use Rattle.script_text.specs.Scripts.{AreLawful};
 
     ghost Value = { List Line };
 
     ghost view = { λ s. s.items.items };
-}
 
-impl From<Vec<Line>> for Script {
-    ghost from_gives = { λ v s. s ≡ v.items };
-
-    fn from(items: Vec<Line>) -> Script {
-        Script { items }
-    }
+    ghost invariant = { λ s. AreLawful s.items.items };
 }
 
 impl Script {
+    pub fn new(items: Vec<Line>) -> Script
+        requires { AreLawful items.items }
+        ensures { result ≡ items.items }
+    {
+        Script { items }
+    }
+
     pub fn as_slice(&self) -> &[Line]
-        ensures { result.now ≡ self.now }
+        ensures items { result.now ≡ self.now }
+        ensures lawful { AreLawful self.now }
     {
         self.items.as_slice()
     }
 
     pub fn into_vec(self) -> Vec<Line>
-        ensures { result.items ≡ self }
+        ensures items { result.items ≡ self }
+        ensures lawful { AreLawful self }
     {
         self.items
     }

@@ -39,7 +39,7 @@ pub fn parse(alloc: Global, bytes: &[u8]) -> Result<Script, ParseRefusal>
     ensures short { OnOk result (length bytes.now ≤ 409700000) }
 {
     match lines(alloc, bytes) {
-        Ok(Ok(lines)) => Ok(Script::from(lines)),
+        Ok(Ok(lines)) => Ok(Script::new(lines)),
         Ok(Err(line)) => Err(ParseRefusal::BadLine { line }),
         Err(_) => Err(ParseRefusal::Memory),
     }
@@ -107,7 +107,7 @@ fn access_bytes(line: &Line) -> u64
     let Line::Event { action, .. } = line;
     match action {
         Action::Issue(call) => call_bytes(call),
-        Action::Commit => 0,
+        Action::Dm(_) | Action::Commit => 0,
     }
 }
 

@@ -1,5 +1,5 @@
-use crate::{Failed, Line, MemorySink, MemorySource, ParseRefusal, Sink, Source, parse};
-use hsm_types::{Bytes, Call, CallerId};
+use crate::{Failed, Line, MemorySink, MemorySource, ParseRefusal, Sink, Source, parse, print};
+use hsm_types::{Bytes, Call, CallerId, DmCall, FileKey, Handle, Sid, Token};
 use plain_model::{Action, Actor};
 use std::alloc::Global;
 use std::test::Fail;
@@ -71,6 +71,111 @@ fn takes_words(rt: HostRuntime) {
     for text in good {
         assert_eq!(rt; told(rt.alloc(), text.as_bytes()), 0, "{text}");
     }
+}
+
+#[test]
+fn refuses_words_of_sessions(rt: HostRuntime) {
+    let bad = [
+        "s1 session 0 x",
+        "s1 sessions",
+        "s1 query 1",
+        "s01 space",
+        "s space",
+        "S1 space",
+        "s18446744073709551616 space",
+        "s1 space ",
+        "s1 space x",
+        "s1 spaces",
+        "s0 session 1 x",
+        "s0 session 00 x",
+        "s0 session 0",
+        "s0 session 0 ",
+        "s0 session 0 x y",
+        "s0 sessions 0",
+        "s0 query",
+        "s0 query 01",
+        "s1 handle",
+        "s1 handle a b",
+        "s1 fileattr 0",
+        "s1 fileattr 1.1.1",
+        "s1 fileattr 0 1.1",
+        "s1 fileattr 0 1.1.1.1",
+        "s1 fileattr 0 1.01.1",
+        "s1 fileattr 0 1..1",
+        "s1 fileattr 0 1.1.18446744073709551616",
+        "s1 fileattr 00 1.1.1",
+        "s1 create a",
+        "s1 commit",
+        "c1 space",
+        "store space",
+    ];
+    for text in bad {
+        assert_eq!(rt; told(rt.alloc(), text.as_bytes()), 1, "{text}");
+    }
+}
+
+/// The text that is printed of a script.
+fn printed(alloc: Global, text: &[u8]) -> Result<Bytes, Fail> {
+    let script = parse(alloc, text)?;
+    Ok(print(alloc, &script)?)
+}
+
+#[test]
+fn prints_what_it_reads(rt: HostRuntime) -> Result<(), Fail> {
+    let texts = [
+        "",
+        "s0 session 0 a/b\n",
+        "s0 sessions\n",
+        "s0 query 0\n",
+        "s0 query 18446744073709551615\n",
+        "s1 handle a\n",
+        "s0 handle a/b\n",
+        "s1 fileattr 0 1.2.3\n",
+        "s18446744073709551615 fileattr 18446744073709551615 0.18446744073709551615.0\n",
+        "s0 space\n",
+        "s7 space\n",
+        "c1 create a\nc1 write a 0 x:00ff\nc2 write a 2 p:3:255\nc2 write a 5 x:\nc2 write a 5 p:0:0\n",
+        "c64 read a 1 2\nc1 truncate a 3\nc1 stat a\nc1 sync\nc1 remove a\nstore commit\n",
+    ];
+    for text in texts {
+        let again = printed(rt.alloc(), text.as_bytes())?;
+        assert_eq!(rt; again.as_slice(), text.as_bytes(), "{text}");
+    }
+    let ended = printed(rt.alloc(), b"s0 space\ns0 space")?;
+    assert_eq!(rt; ended.as_slice(), b"s0 space\ns0 space\n".as_slice());
+    Ok(())
+}
+
+/// The session's call that the only line is, and the session.
+fn asked(alloc: Global, text: &[u8]) -> Result<(Sid, DmCall), Fail> {
+    let mut lines = parse(alloc, text)?.into_vec();
+    let Some(Line::Event { actor, action, .. }) = lines.pop() else {
+        return Err(Fail::from("no line"));
+    };
+    let Actor::Session(sid) = actor else {
+        return Err(Fail::from("another actor"));
+    };
+    let Action::Dm(call) = action else {
+        return Err(Fail::from("another action"));
+    };
+    Ok((sid, call))
+}
+
+#[test]
+fn reads_calls_of_sessions(rt: HostRuntime) -> Result<(), Fail> {
+    let (sid, call) = asked(rt.alloc(), b"s9 fileattr 4 1.2.3")?;
+    assert_eq!(rt; sid, Sid(9));
+    let key = FileKey { ino: 2, igen: 3 };
+    let handle = Handle { fsid: 1, key };
+    let want = DmCall::GetFileAttr {
+        token: Token(4),
+        handle,
+    };
+    assert_eq!(rt; call, want);
+    let (sid, call) = asked(rt.alloc(), b"s0 query 5")?;
+    assert_eq!(rt; sid, Sid(0));
+    assert_eq!(rt; call, DmCall::QuerySession { target: Sid(5) });
+    Ok(())
 }
 
 #[test]

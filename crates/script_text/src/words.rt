@@ -1,5 +1,5 @@
 //! The words of a line.
-ghost use Rattle.std.specs.Prelude.{◌≡◌, ◌≢◌, ◌+◌, ◌-◌, ◌*◌, ◌^◌, ◌<◌, ◌≤◌, ℕ, length, slice_index, IsTrue, ◌↔◌};
+ghost use Rattle.std.specs.Prelude.{◌≡◌, ◌≢◌, ◌+◌, ◌-◌, ◌*◌, ◌^◌, ◌<◌, ◌≤◌, ℕ, length, slice_index, IsTrue, IfOk, ◌↔◌};
 ghost use Rattle.std.specs.Option.{option_map, SomeIff};
 ghost use Rattle.std.specs.Char.{digit_value};
 ghost use Rattle.std.specs.Fmt.{decimal};
@@ -7,10 +7,11 @@ ghost use Rattle.std.specs.List.{list_all};
 ghost use Rattle.std.specs.Str.Parse.{AllDigits, digits_value};
 ghost use Rattle.plain_model.specs.Render.{actor_word};
 ghost use Rattle.script_text.specs.Lines.{is_word, is_word_byte};
-ghost use Rattle.script_text.specs.Reading.{Reads, Cuts, IsNumber, IsCaller};
+ghost use Rattle.script_text.specs.Reading.{Reads, Cuts, IsNumber, IsCaller, sid_word, IsSid};
 
-use hsm_types::{CALLERS, CallerId};
+use hsm_types::{CALLERS, CallerId, Sid, Word};
 use plain_model::Actor;
+use std::alloc::{AllocError, Global};
 
 /// The place of the first such byte, or the length where there is none.
 fn find(bytes: &[u8], byte: u8) -> usize
@@ -111,6 +112,21 @@ pub fn caller(word: &[u8]) -> Option<Actor>
     }
 }
 
+/// The session that a word names.
+pub fn session(word: &[u8]) -> Option<Sid>
+    ensures { Reads sid_word IsSid word.now result }
+{
+    match word {
+        [b's', digits @ ..] => {
+            let Some(n) = number(digits) else {
+                return None;
+            };
+            Some(Sid(n))
+        }
+        _ => None,
+    }
+}
+
 /// Whether a word is one or more visible ASCII bytes.
 pub fn is_word(word: &[u8]) -> bool
     ensures { result ≡ is_word word.now }
@@ -123,4 +139,11 @@ fn are_visible(word: &[u8]) -> bool
     ensures { result ≡ list_all is_word_byte word.now }
 {
     word.iter().all(|b| 0x21 <= *b && *b <= 0x7e)
+}
+
+/// A word of its own.
+pub fn word(alloc: Global, bytes: &[u8]) -> Result<Word, AllocError>
+    ensures { IfOk result (λ word. word ≡ bytes.now) }
+{
+    Ok(Word::from(Vec::from_slice(alloc, bytes)?))
 }
