@@ -17,7 +17,7 @@ blocks-left (suc i) f (x ∷ fs) there = blocks-left i f fs there
 pub blocks-next : (i : ℕ) (f : CatalogFile) (fs : List CatalogFile) → slice_get fs i ≡ Some f → length (blocks_of (drop i fs)) ≡ length (present f.places) + length (blocks_of (drop (i + 1) fs))
 blocks-next i f fs there = rw (add-one i) (blocks-left i f fs there)
 
-present-flags : (n : ℕ) (ps : List (Option ℕ)) → fold (λ a x. a + cond x 1 0) n (map is_some ps) ≡ n + length (present ps)
+pub present-flags : (n : ℕ) (ps : List (Option ℕ)) → fold (λ a x. a + cond x 1 0) n (map is_some ps) ≡ n + length (present ps)
 present-flags n [] = omega arith
 present-flags n (None ∷ ps) = let more = present-flags (n + 0) ps in omega arith
 present-flags n (Some at ∷ ps) = let more = present-flags (n + 1) ps in omega arith

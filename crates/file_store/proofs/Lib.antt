@@ -4,6 +4,7 @@ pub mod SizedBodies
 pub mod MappedFlags
 pub mod GrownBodies
 pub mod Counting
+pub mod FileBlocks
 pub mod ByBlocks
 pub mod Rewriting
 pub mod Putting

@@ -1,5 +1,5 @@
 //! What a store holds.
-ghost use Rattle.std.specs.Prelude.{◌≡◌, ◌≢◌, ◌≤◌, ◌<◌, ◌+◌, ◌-◌, ◌^◌, ◌==◌, List, ℕ, [], map, max, length, true, false, None, IfOk, OnOk, OnErr, IsErrOf, IsSome};
+ghost use Rattle.std.specs.Prelude.{◌≡◌, ◌≢◌, ◌≤◌, ◌<◌, ◌+◌, ◌-◌, ◌^◌, ◌==◌, List, ℕ, [], map, max, length, true, false, None, is_some, IfOk, OnOk, OnErr, IsErrOf, IsSome};
 ghost use Rattle.std.specs.List.{AllByRecursion, list_any};
 ghost use Rattle.std.specs.Option.{option_map};
 ghost use Rattle.hsm_types.specs.Names.{is_name};
@@ -8,7 +8,7 @@ ghost use Rattle.plain_model.specs.Keyed.{find_key, change_key, drop_key};
 ghost use Rattle.plain_model.specs.Plain.{named, written, resized};
 ghost use Rattle.plain_model.specs.Blocks.{touched};
 ghost use Rattle.plain_model.specs.Distinct.{Distinct};
-ghost use Rattle.plain_model.specs.State.{names_of, bytes_of, next_key, used, rewritten, done_held};
+ghost use Rattle.plain_model.specs.State.{names_of, bytes_of, next_key, used_by, used, rewritten, done_held};
 ghost use Rattle.disk_model.specs.Calls.{Rose};
 ghost use Rattle.disk_model.specs.Moments.{MayBe, Turns};
 ghost use Rattle.meta_store.specs.Catalogs.{blocks_of, geometry_of, IsCatalog};
@@ -19,7 +19,7 @@ ghost use Rattle.file_store.specs.Bodies.{held_with, AreBodies};
 ghost use Rattle.file_store.specs.Stores.{IsLawful};
 
 use crate::remapping::remap;
-use crate::usage::used_blocks;
+use crate::usage::{file_blocks, used_blocks};
 use disk_model::Disk;
 use file_body::Body;
 use hsm_types::{FileKey, Word};
@@ -108,6 +108,20 @@ impl Files {
         ensures within { result ≤ (geometry_of self.now.meta.current.geometry).blocks }
     {
         used_blocks(self.meta.catalog())
+    }
+
+    /// How many blocks of the file with that key are mapped, where it lives.
+    pub(crate) fn mapped(&self, key: FileKey) -> Option<u64>
+        ensures { result ≡ option_map used_by (find_key (λ f. f.key) key self.now.held.files) }
+    {
+        file_blocks(self.meta.catalog(), key)
+    }
+
+    /// Whether the file with that key lives.
+    pub(crate) fn is_live(&self, key: FileKey) -> bool
+        ensures { result ≡ is_some (find_key (λ f. f.key) key self.now.held.files) }
+    {
+        self.meta.names().size(key).is_some()
     }
 
     /// Makes an empty file with the lowest free inode and the next generation. Only want of memory fails: nothing has changed then.

@@ -1,8 +1,9 @@
 // What is told of the files of a store.
-ghost use Rattle.std.specs.Prelude.{◌≡◌, ◌≤◌, ◌^◌, false, length, ℕ};
+ghost use Rattle.std.specs.Prelude.{◌≡◌, ◌≤◌, ◌^◌, false, length, is_some, ℕ};
 ghost use Rattle.std.specs.Option.{option_map};
 ghost use Rattle.plain_model.specs.Plain.{named};
-ghost use Rattle.plain_model.specs.State.{names_of, used};
+ghost use Rattle.plain_model.specs.Keyed.{find_key};
+ghost use Rattle.plain_model.specs.State.{names_of, used_by, used};
 ghost use Rattle.meta_store.specs.Catalogs.{geometry_of};
 ghost use Rattle.file_store.specs.Stores.{IsLawful, superblock_of, Proceeds};
 
@@ -34,6 +35,20 @@ impl<D: Disk> FileStore<D> {
         ensures within { result ≤ (geometry_of self.now.meta.durable.geometry).blocks }
     {
         self.files.used()
+    }
+
+    /// How many blocks of the file with that key are mapped, where it lives. It walks the file's blocks.
+    pub fn mapped(&self, key: FileKey) -> Option<u64>
+        ensures { result ≡ option_map used_by (find_key (λ f. f.key) key self.now.held.files) }
+    {
+        self.files.mapped(key)
+    }
+
+    /// Whether the file with that key lives. It costs a search by inode.
+    pub fn is_live(&self, key: FileKey) -> bool
+        ensures { result ≡ is_some (find_key (λ f. f.key) key self.now.held.files) }
+    {
+        self.files.is_live(key)
     }
 
     /// How the store was formatted. No more blocks are mapped than it has.
