@@ -1,18 +1,30 @@
 -- A chain of refusals is the first of them.
 use Rattle.std.proofs.Common.{◌≡◌, [], ◌∷◌, Option, Some, None, refl}
-use Rattle.hsm_types.specs.declared.calls.CallRefusal.{CallRefusal}
-use Rattle.plain_model.specs.Plain.{first_refusal}
+use Rattle.hsm_types.specs.Refusals.{first_refusal}
 use Rattle.hsm_core.specs.Refusals.{first_of}
 
-pub two : (a b : Option CallRefusal) → first_of a b ≡ first_refusal (a ∷ b ∷ [])
-two (Some x) b = refl
-two None (Some y) = refl
-two None None = refl
+module _ {R : Type 0} where
+  pub two : (a b : Option R) → first_of a b ≡ first_refusal (a ∷ b ∷ [])
+  two (Some x) b = refl
+  two None (Some y) = refl
+  two None None = refl
 
-pub three : (a b c : Option CallRefusal) → first_of a (first_of b c) ≡ first_refusal (a ∷ b ∷ c ∷ [])
-three (Some x) b c = refl
-three None b c = two b c
+  pub three : (a b c : Option R) → first_of a (first_of b c) ≡ first_refusal (a ∷ b ∷ c ∷ [])
+  three (Some x) b c = refl
+  three None b c = two b c
 
-pub four : (a b c d : Option CallRefusal) → first_of (first_of a b) (first_of c d) ≡ first_refusal (a ∷ b ∷ c ∷ d ∷ [])
-four (Some x) b c d = refl
-four None b c d = three b c d
+  pub four : (a b c d : Option R) → first_of (first_of a b) (first_of c d) ≡ first_refusal (a ∷ b ∷ c ∷ d ∷ [])
+  four (Some x) b c d = refl
+  four None b c d = three b c d
+
+  pub four_in_turn : (a b c d : Option R) → first_of a (first_of b (first_of c d)) ≡ first_refusal (a ∷ b ∷ c ∷ d ∷ [])
+  four_in_turn (Some x) b c d = refl
+  four_in_turn None b c d = three b c d
+
+  -- where nothing refuses, the last two don't
+  pub last_two : (a b c d : Option R) → first_refusal (a ∷ b ∷ c ∷ d ∷ []) ≡ None → (c ≡ None) × (d ≡ None)
+  last_two (Some x) b c d none = cc
+  last_two None (Some x) c d none = cc
+  last_two None None (Some x) d none = cc
+  last_two None None None (Some x) none = cc
+  last_two None None None None none = (refl, refl)

@@ -7,11 +7,12 @@ use Rattle.disk_model.specs.Moments.{MayBe, LeavesOnly}
 use Rattle.disk_model.proofs.Steps.{started, joined, weakened}
 use Rattle.plain_model.specs.declared.entries.Entry.{Entry}
 use Rattle.plain_model.specs.State.{Held}
+use Rattle.plain_model.specs.States.{State}
 use Rattle.plain_model.specs.Exact.{held_by}
 use Rattle.plain_model.specs.Synced.{is_sync, synced}
 use Rattle.plain_model.proofs.Syncing.{synced_laws}
 use Rattle.file_store.specs.Stores.{Store as FileStore, superblock_of, IsRecovered, IsDurable, IsEither, Proceeds}
-use Rattle.hsm_core.specs.Store.{Store, next_number, IsRun}
+use Rattle.hsm_core.specs.Store.{Store, last_number, IsRun}
 use Rattle.hsm_core.specs.Crashes.{IsPrefix, IsUpTo, IsSafe}
 
 -- ---- prefixes
@@ -23,7 +24,7 @@ module _ {D : Type 0} (opened : FileStore D) where
     n = p.n;
     from = p.from;
     to = omega (arith, p.to, length-append history more);
-    found = subst (λ (es : List Entry). IsRecovered opened.meta.durable.geometry opened.meta.fsid (opened.meta.number + p.n) (held_by (superblock_of opened) opened.held es) c) (sym (take-append-le p.n history more p.to)) p.found;
+    found = subst (λ (es : List Entry). IsRecovered opened.meta.durable.geometry opened.meta.fsid (opened.meta.number + p.n) (held_by (superblock_of opened) opened.meta.number opened.held es) c) (sym (take-append-le p.n history more p.to)) p.found;
   }
 
   prefix_lower : (low less : ℕ) (history : List Entry) (c : List ℕ) → less ≤ low → IsPrefix opened history low c → IsPrefix opened history less c
@@ -33,6 +34,10 @@ all_taken : (es : List Entry) → take (length es) es ≡ es
 all_taken es = take_all (length es) es (omega arith)
 
 -- ---- of a store that works
+
+-- it holds what its history leaves
+held_now : {D : Type 0} (s : Store D) → IsRun s → s.files.failed ≡ false → s.files.held ≡ held_by (superblock_of s.opened) s.opened.meta.number s.opened.held s.history
+held_now s run working = ap (λ (st : State). st.held) (run.state working)
 
 module _ {D : Type 0} (g : disk.Ghosts D) (s : Store D) (run : IsRun s) where
   formatted : (c : List ℕ) (n : ℕ) (h : Held) → IsRecovered s.files.meta.durable.geometry s.files.meta.fsid n h c → IsRecovered s.opened.meta.durable.geometry s.opened.meta.fsid n h c
@@ -49,21 +54,21 @@ module _ {D : Type 0} (g : disk.Ghosts D) (s : Store D) (run : IsRun s) where
   }
 
   -- what is held
-  from_held : s.files.failed ≡ false → (c : List ℕ) → IsRecovered s.files.meta.durable.geometry s.files.meta.fsid (next_number s) s.files.held c → IsPrefix s.opened s.history (synced s.history) c
+  from_held : s.files.failed ≡ false → (c : List ℕ) → IsRecovered s.files.meta.durable.geometry s.files.meta.fsid (last_number s) s.files.held c → IsPrefix s.opened s.history (synced s.history) c
   from_held working c is = record {
     n = length s.history;
     from = (synced_laws s.history).within;
     to = omega arith;
-    found = subst (λ (es : List Entry). IsRecovered s.opened.meta.durable.geometry s.opened.meta.fsid (s.opened.meta.number + length s.history) (held_by (superblock_of s.opened) s.opened.held es) c) (sym (all_taken s.history))
-        (subst (λ (h : Held). IsRecovered s.opened.meta.durable.geometry s.opened.meta.fsid (s.opened.meta.number + length s.history) h c) (run.held working) (formatted c (next_number s) s.files.held is));
+    found = subst (λ (es : List Entry). IsRecovered s.opened.meta.durable.geometry s.opened.meta.fsid (s.opened.meta.number + length s.history) (held_by (superblock_of s.opened) s.opened.meta.number s.opened.held es) c) (sym (all_taken s.history))
+        (subst (λ (h : Held). IsRecovered s.opened.meta.durable.geometry s.opened.meta.fsid (s.opened.meta.number + length s.history) h c) (held_now s run working) (formatted c (last_number s) s.files.held is));
   }
 
-  either : IsSafe g s → s.files.failed ≡ false → (c : List ℕ) → IsEither s.files (next_number s) c → IsPrefix s.opened s.history (synced s.history) c
+  either : IsSafe g s → s.files.failed ≡ false → (c : List ℕ) → IsEither s.files (last_number s) c → IsPrefix s.opened s.history (synced s.history) c
   either safe working c is = ⊎_elim (from_durable (safe.durable working) c) (from_held working c) is
 
   -- a crash in the next event
-  pub safe_within : (t : Store D) → IsSafe g s → s.files.failed ≡ false → Proceeds g s.files (next_number s) t.files → LeavesOnly g s.files.disk t.files.disk (IsPrefix s.opened s.history (synced s.history))
-  safe_within t safe working proceeds = weakened g s.files.disk t.files.disk (IsEither s.files (next_number s)) (IsPrefix s.opened s.history (synced s.history)) (either safe working) proceeds.moments
+  pub safe_within : (t : Store D) → IsSafe g s → s.files.failed ≡ false → Proceeds g s.files (last_number s) t.files → LeavesOnly g s.files.disk t.files.disk (IsPrefix s.opened s.history (synced s.history))
+  safe_within t safe working proceeds = weakened g s.files.disk t.files.disk (IsEither s.files (last_number s)) (IsPrefix s.opened s.history (synced s.history)) (either safe working) proceeds.moments
 
   -- a crash from now on
   pub safe_now : IsSafe g s → (s.files.failed ≡ false → (c : List ℕ) → MayBe g s.files.disk c → IsDurable s.files c) → (c : List ℕ) → MayBe g s.files.disk c → IsPrefix s.opened s.history (synced s.history) c
@@ -77,7 +82,7 @@ module _ {D : Type 0} (g : disk.Ghosts D) (s : Store D) (run : IsRun s) where
 
 -- what was made durable, where nothing was kept of the event
 up_unkept : {D : Type 0} (s t : Store D) → IsRun s → IsUpTo s → s.files.failed ≡ false → t.opened ≡ s.opened → t.history ≡ s.history
-    → (t.files.meta.number ≡ s.files.meta.number) × (t.files.durable ≡ s.files.durable) ⊎ (t.files.meta.number ≡ next_number s) × (t.files.durable ≡ s.files.held) → IsUpTo t
+    → (t.files.meta.number ≡ s.files.meta.number) × (t.files.durable ≡ s.files.durable) ⊎ (t.files.meta.number ≡ last_number s) × (t.files.durable ≡ s.files.held) → IsUpTo t
 up_unkept s t run up working opened history (inl same) = record {
   n = up.n;
   from = rw history up.from;
@@ -90,13 +95,13 @@ up_unkept s t run up working opened history (inr new) = record {
   from = rw history (synced_laws s.history).within;
   to = rw history (omega arith);
   number = new.0 ∙ rw opened refl;
-  holds = new.1 ∙ run.held working ∙ rw (opened, history, all_taken s.history) refl;
+  holds = new.1 ∙ held_now s run working ∙ rw (opened, history, all_taken s.history) refl;
 }
 
 -- where an entry was, and a sync or a commit has made all durable
 up_kept : {D : Type 0} (s t : Store D) (e : Entry) → IsRun s → IsUpTo s → s.files.failed ≡ false → t.opened ≡ s.opened → t.history ≡ s.history ++ e ∷ []
-    → (is_sync e ≡ true → (t.files.durable ≡ s.files.held) × (t.files.meta.number ≡ next_number s))
-    → (t.files.meta.number ≡ s.files.meta.number) × (t.files.durable ≡ s.files.durable) ⊎ (t.files.meta.number ≡ next_number s) × (t.files.durable ≡ s.files.held) → IsUpTo t
+    → (is_sync e ≡ true → (t.files.durable ≡ s.files.held) × (t.files.meta.number ≡ last_number s))
+    → (t.files.meta.number ≡ s.files.meta.number) × (t.files.durable ≡ s.files.durable) ⊎ (t.files.meta.number ≡ last_number s) × (t.files.durable ≡ s.files.held) → IsUpTo t
 up_kept s t e run up working opened history syncs made = at (is_sync e) refl made
   where
     longer : length t.history ≡ length s.history + 1
@@ -105,16 +110,16 @@ up_kept s t e run up working opened history syncs made = at (is_sync e) refl mad
     counted : (b : Bool) → is_sync e ≡ b → synced t.history ≡ (if b then length s.history else synced s.history)
     counted b is = ap synced history ∙ (synced_laws s.history).more e ∙ ap (λ b. if b then length s.history else synced s.history) is
 
-    whole : synced t.history ≤ length s.history → (t.files.meta.number ≡ next_number s) → (t.files.durable ≡ s.files.held) → IsUpTo t
+    whole : synced t.history ≤ length s.history → (t.files.meta.number ≡ last_number s) → (t.files.durable ≡ s.files.held) → IsUpTo t
     whole few number durable = record {
       n = length s.history;
       from = few;
       to = omega (arith, longer);
       number = number ∙ rw opened refl;
-      holds = durable ∙ run.held working ∙ rw (opened, history, take-append-le (length s.history) s.history (e ∷ []) (omega arith), all_taken s.history) refl;
+      holds = durable ∙ held_now s run working ∙ rw (opened, history, take-append-le (length s.history) s.history (e ∷ []) (omega arith), all_taken s.history) refl;
     }
 
-    at : (b : Bool) → is_sync e ≡ b → (t.files.meta.number ≡ s.files.meta.number) × (t.files.durable ≡ s.files.durable) ⊎ (t.files.meta.number ≡ next_number s) × (t.files.durable ≡ s.files.held) → IsUpTo t
+    at : (b : Bool) → is_sync e ≡ b → (t.files.meta.number ≡ s.files.meta.number) × (t.files.durable ≡ s.files.durable) ⊎ (t.files.meta.number ≡ last_number s) × (t.files.durable ≡ s.files.held) → IsUpTo t
     at true is made = whole (omega (arith, counted true is)) (syncs is).1 (syncs is).0
     at false is (inr new) = whole (omega (arith, counted false is, (synced_laws s.history).within)) new.0 new.1
     at false is (inl same) = record {
@@ -125,7 +130,7 @@ up_kept s t e run up working opened history syncs made = at (is_sync e) refl mad
       holds = same.1 ∙ rw (opened, history, take-append-le up.n s.history (e ∷ []) up.to) up.holds;
     }
 
-module _ {D : Type 0} (g : disk.Ghosts D) (s t : Store D) (run : IsRun s) (safe : IsSafe g s) (working : s.files.failed ≡ false) (opened : t.opened ≡ s.opened) (proceeds : Proceeds g s.files (next_number s) t.files) where
+module _ {D : Type 0} (g : disk.Ghosts D) (s t : Store D) (run : IsRun s) (safe : IsSafe g s) (working : s.files.failed ≡ false) (opened : t.opened ≡ s.opened) (proceeds : Proceeds g s.files (last_number s) t.files) where
   moments : LeavesOnly g s.opened.disk t.files.disk (IsPrefix s.opened s.history 0)
   moments = joined g s.opened.disk s.files.disk t.files.disk _ safe.since
       (weakened g s.files.disk t.files.disk _ _ (λ c is. prefix_lower s.opened (synced s.history) 0 s.history c (omega arith) (either g s run safe working c is)) proceeds.moments)
@@ -137,7 +142,7 @@ module _ {D : Type 0} (g : disk.Ghosts D) (s t : Store D) (run : IsRun s) (safe 
     failed = λ closed. absurd cc;
   }
 
-  pub safe_kept : (e : Entry) → t.history ≡ s.history ++ e ∷ [] → t.files.failed ≡ false → (is_sync e ≡ true → (t.files.durable ≡ s.files.held) × (t.files.meta.number ≡ next_number s)) → IsSafe g t
+  pub safe_kept : (e : Entry) → t.history ≡ s.history ++ e ∷ [] → t.files.failed ≡ false → (is_sync e ≡ true → (t.files.durable ≡ s.files.held) × (t.files.meta.number ≡ last_number s)) → IsSafe g t
   safe_kept e history still syncs = record {
     since = rw (opened, history) (weakened g s.opened.disk t.files.disk _ _ (λ c p. prefix_longer s.opened 0 s.history (e ∷ []) c p) moments);
     durable = λ works. up_kept s t e run (safe.durable working) working opened history syncs proceeds.durable;

@@ -8,12 +8,12 @@ use Rattle.plain_model.specs.Synced.{synced}
 use Rattle.file_store.specs.Stores.{Store as FileStore, superblock_of, IsRecovered}
 use Rattle.hsm_core.specs.Store.{Store}
 
--- Recovery finds what the first entries of the history have left, at least so many of them, under the number of the entry after them.
+-- Recovery finds what the first entries of the history have left, at least so many of them, under the number of the last of them.
 pub record IsPrefix {D : Type 0} (opened : FileStore D) (history : List Entry) (low : ℕ) (image : List ℕ) : Type 0 where
   pub n : ℕ
   pub from : low ≤ n
   pub to : n ≤ length history
-  pub found : IsRecovered opened.meta.durable.geometry opened.meta.fsid (opened.meta.number + n) (held_by (superblock_of opened) opened.held (take n history)) image
+  pub found : IsRecovered opened.meta.durable.geometry opened.meta.fsid (opened.meta.number + n) (held_by (superblock_of opened) opened.meta.number opened.held (take n history)) image
 
 -- What was made durable last is what the first entries have left, all those that were synced among them.
 pub record IsUpTo {D : Type 0} (s : Store D) : Type 0 where
@@ -21,7 +21,7 @@ pub record IsUpTo {D : Type 0} (s : Store D) : Type 0 where
   pub from : synced s.history ≤ n
   pub to : n ≤ length s.history
   pub number : s.files.meta.number ≡ s.opened.meta.number + n
-  pub holds : s.files.durable ≡ held_by (superblock_of s.opened) s.opened.held (take n s.history)
+  pub holds : s.files.durable ≡ held_by (superblock_of s.opened) s.opened.meta.number s.opened.held (take n s.history)
 
 -- true of each store
 pub record IsSafe {D : Type 0} (g : disk.Ghosts D) (s : Store D) : Type 0 where

@@ -1,29 +1,39 @@
 //! Answers of calls: judged, and done where nothing refuses them.
-ghost use Rattle.std.specs.Prelude.{◌≡◌, ◌≤◌, true, false, ℕ, None, IsSome, IfOk, OnOk, IsErrOf};
+ghost use Rattle.std.specs.Prelude.{◌≡◌, ◌≤◌, ◌<◌, ◌+◌, ◌^◌, true, false, ℕ, None, IsSome, IfOk, OnOk, OnErr, IsErrOf};
 ghost use Rattle.disk_model.specs.Calls.{Rose};
 ghost use Rattle.hsm_types.specs.declared.calls.Call.TheVariants.{Create, Read as ReadCall, Write, Truncate, Remove, Sync};
 ghost use Rattle.hsm_types.specs.declared.calls.Reply.TheVariants.{Made, Data};
 ghost use Rattle.plain_model.specs.Plain.{named};
 ghost use Rattle.plain_model.specs.State.{names_of, used, judged, done_reply, done_held, reply_to, held_after};
+ghost use Rattle.indexmap.specs.IndexMap.{spare};
 ghost use Rattle.file_store.specs.Stores.{superblock_of, Proceeds};
+ghost use Rattle.hsm_core.specs.Stamps.{stamp_in, stamps_where};
 
 use crate::judging::{judge, key_of, size};
+use crate::stamps::{accessed, renew};
 use disk_model::Disk;
 use file_store::{FileStore, StoreRefusal};
 use hsm_types::{Bytes, Call, FileKey, Reply, Word};
+use indexmap::IndexMap;
 use std::alloc::{AllocError, Global};
 
-/// Answers a call under that number. The reply comes twice, for the caller and for the history.
+/// Answers a call, and renews the stamp of the file that it accesses. The number is that of the last entry before. The reply comes twice, for the
+/// caller and for the history.
 pub(crate) fn answer<D: Disk>(
     files: &mut FileStore<D>,
+    stamps: &mut IndexMap<FileKey, u64>,
     alloc: Global,
     call: &Call,
     number: u64,
 ) -> Result<(Reply, Reply), StoreRefusal>
     requires working { files.old.failed ≡ false }
+    requires room { 0 < spare stamps.old }
+    requires number { number < 2 ^ 63 }
     requires idle { (n : ℕ) → Proceeds D.Disk files.old n files.old }
     ensures reply { IfOk result (λ r. (r.0 ≡ reply_to (superblock_of files.old) files.old.held call.now) × (r.1 ≡ reply_to (superblock_of files.old) files.old.held call.now)) }
     ensures held { OnOk result (files.new.held ≡ held_after (superblock_of files.old) files.old.held call.now) }
+    ensures stamps { OnOk result (stamp_in stamps.new.entries ≡ stamps_where (judged (superblock_of files.old) files.old.held call.now) (number + 1) files.old.held.files call.now (stamp_in stamps.old.entries)) }
+    ensures unstamped { OnErr result (stamps.new.entries ≡ stamps.old.entries) }
     ensures synced { OnOk result (call.now ≡ Sync → (files.new.durable ≡ files.old.held) × (files.new.meta.number ≡ number)) }
     ensures working { OnOk result (files.new.failed ≡ false) }
     ensures memory { IsErrOf result StoreRefusal.Memory → (files.new.held ≡ files.old.held) × (files.new.failed ≡ false) }
@@ -32,7 +42,14 @@ pub(crate) fn answer<D: Disk>(
 {
     match judge(files, call) {
         Some(why) => Ok((Reply::Refused(why), Reply::Refused(why))),
-        None => perform(files, alloc, call, number),
+        None => {
+            let accessed = accessed(files, call);
+            let replies = perform(files, alloc, call, number)?;
+            if let Some(key) = accessed {
+                renew(stamps, key, number + 1);
+            }
+            Ok(replies)
+        }
     }
 }
 

@@ -1,10 +1,12 @@
-//! The store and its history, over files on a disk.
+//! The store, its sessions and its history, over files on a disk.
 #![tactic(auto)]
 
 mod answering;
 mod judging;
 mod refusals;
 mod room;
+mod services;
+mod stamps;
 mod store;
 #[cfg(test)]
 mod tests;

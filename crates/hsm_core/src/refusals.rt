@@ -46,7 +46,7 @@ pub(crate) fn refusal<D: Disk>(
 }
 
 /// The first of two refusals.
-fn first(one: Option<CallRefusal>, other: Option<CallRefusal>) -> Option<CallRefusal>
+pub(crate) fn first<R: Drop>(one: Option<R>, other: Option<R>) -> Option<R>
     ensures { result ≡ first_of one other }
 {
     match one {

@@ -1,5 +1,5 @@
 //! The store with its history.
-ghost use Rattle.std.specs.Prelude.{◌≡◌, ◌⊎◌, ◌<◌, ◌≤◌, ◌++◌, [], ◌∷◌, true, false, List, ℕ, vec_len, vec_capacity, IfOk, IfErr, OnOk, IsErrOf};
+ghost use Rattle.std.specs.Prelude.{◌≡◌, ◌⊎◌, ◌<◌, ◌≤◌, ◌++◌, [], ◌∷◌, true, false, List, ℕ, vec_len, vec_capacity, IfOk, IfErr, OnOk, OnErr, IsErrOf};
 ghost use Rattle.disk_model.specs.Calls.{Rose, HasCause};
 ghost use Rattle.disk_model.specs.Images.{Alike};
 ghost use Rattle.disk_model.specs.Moments.{MayBe, LeavesOnly, Keeps, Same};
@@ -8,22 +8,27 @@ ghost use Rattle.commit_slots.specs.Places.{layout_of};
 ghost use Rattle.meta_store.specs.Catalogs.{geometry_of};
 ghost use Rattle.meta_store.specs.Images.{IsCorruptAt};
 ghost use Rattle.file_store.specs.Stores.{IsLawful, IsDurable, Proceeds};
-ghost use Rattle.hsm_core.specs.Store.{next_number};
-ghost use Rattle.hsm_core.specs.Answers.{entry_of, IsAnswered, IsCommitted};
+ghost use Rattle.indexmap.specs.IndexMap.{spare};
+ghost use Rattle.hsm_types.specs.Sessions.{no_sessions};
+ghost use Rattle.hsm_core.specs.Answers.{entry_of, IsAnswered, IsTold, IsCommitted};
 ghost use Rattle.plain_model.specs.Synced.{synced};
 ghost use Rattle.hsm_core.specs.Crashes.{IsPrefix};
 ghost use Rattle.hsm_core.specs.Kept.{IsKept};
 
 use crate::answering::{answer, commit};
+use crate::services::serve;
+use crate::stamps::make_room;
 use commit_slots::CommitSlots;
 use disk_model::{Disk, Failed, OpenRefusal};
+use dm_sessions::Sessions;
 use file_store::{FileStore, StoreRefusal};
-use hsm_types::{Call, CallRefusal, CallerId, Reply};
+use hsm_types::{Call, CallRefusal, CallerId, DmCall, DmRefusal, DmReply, FileKey, Reply, Sid};
+use indexmap::IndexMap;
 use plain_model::{
     Action, Actor, Answer, Entry, History, exact_is_legal, exact_is_once, exact_is_sided,
-    transparent,
+    exact_is_stamped, transparent,
 };
-use std::alloc::Global;
+use std::alloc::{AllocError, Global};
 use std::marker::Model;
 use std::snapshot::Snapshot;
 
@@ -34,6 +39,8 @@ pub struct Hsm<D: Disk> {
     opened: Snapshot<FileStore<D>>,
     /// The number of the snapshot that was opened.
     base: u64,
+    stamps: IndexMap<FileKey, u64>,
+    sessions: Sessions,
     history: Vec<Entry>,
 }
 
@@ -44,38 +51,67 @@ impl<D: Disk> Model for Hsm<D> {
 
     ghost Value = { Store D };
 
-    ghost view = { λ h. record { opened = h.opened.value; files = h.files; history = h.history.items } };
+    ghost view = { λ h. record { opened = h.opened.value; files = h.files; stamps = h.stamps.entries; sessions = h.sessions; history = h.history.items } };
 
-    ghost invariant = { λ h. IsRun (record { opened = h.opened.value; files = h.files; history = h.history.items }) × IsSafe D.Disk (record { opened = h.opened.value; files = h.files; history = h.history.items }) × (h.base ≡ h.opened.value.meta.number) × (h.base ≤ 2 ^ 62) };
+    ghost invariant = { λ h. IsRun (record { opened = h.opened.value; files = h.files; stamps = h.stamps.entries; sessions = h.sessions; history = h.history.items })
+        × IsSafe D.Disk (record { opened = h.opened.value; files = h.files; stamps = h.stamps.entries; sessions = h.sessions; history = h.history.items })
+        × (h.base ≡ h.opened.value.meta.number) × (h.base ≤ 2 ^ 62) };
 }
 
-/// Makes room for an entry, unless a call of the disk has failed before.
-fn make_ready<D: Disk>(files: &FileStore<D>, history: &mut Vec<Entry>) -> Result<(), CallRefusal>
+/// Makes room for an entry and a stamp, unless a call of the disk has failed before.
+fn make_ready<D: Disk>(
+    files: &FileStore<D>,
+    history: &mut Vec<Entry>,
+    stamps: &mut IndexMap<FileKey, u64>,
+) -> Result<(), StoreRefusal>
     ensures same { history.new.items ≡ history.old.items }
-    ensures room { OnOk result (vec_len history.new < vec_capacity history.new) }
+    ensures stamps { stamps.new.entries ≡ stamps.old.entries }
+    ensures room { OnOk result ((vec_len history.new < vec_capacity history.new) × (0 < spare stamps.new)) }
     ensures working { OnOk result (files.now.failed ≡ false) }
     ensures idle { files.now.failed ≡ false → (n : ℕ) → Proceeds D.Disk files.now n files.now }
-    ensures refused { IfErr result (λ why. (why ≡ CallRefusal.Disk) × (files.now.failed ≡ true) ⊎ (why ≡ CallRefusal.Memory) × (files.now.failed ≡ false)) }
+    ensures refused { IfErr result (λ why. (why ≡ StoreRefusal.Disk) × (files.now.failed ≡ true) ⊎ (why ≡ StoreRefusal.Memory) × (files.now.failed ≡ false)) }
 {
     if files.has_failed() {
-        return Err(CallRefusal::Disk);
+        return Err(StoreRefusal::Disk);
     }
-    match history.reserve(1) {
-        Ok(()) => Ok(()),
-        Err(_) => Err(CallRefusal::Memory),
+    match (history.reserve(1), make_room(stamps)) {
+        (Ok(()), Ok(())) => Ok(()),
+        _ => Err(StoreRefusal::Memory),
+    }
+}
+
+/// The reply to a call that wasn't done.
+fn undone(why: StoreRefusal) -> Reply
+    ensures memory { why ≡ StoreRefusal.Memory → result ≡ Reply.Refused CallRefusal.Memory }
+    ensures failed { why ≡ StoreRefusal.Disk → result ≡ Reply.Refused CallRefusal.Disk }
+{
+    match why {
+        StoreRefusal::Memory => Reply::Refused(CallRefusal::Memory),
+        StoreRefusal::Disk => Reply::Refused(CallRefusal::Disk),
+    }
+}
+
+/// The reply to a session's call that wasn't done.
+fn unserved(why: StoreRefusal) -> DmReply
+    ensures memory { why ≡ StoreRefusal.Memory → result ≡ DmReply.Refused DmRefusal.Memory }
+    ensures failed { why ≡ StoreRefusal.Disk → result ≡ DmReply.Refused DmRefusal.Disk }
+{
+    match why {
+        StoreRefusal::Memory => DmReply::Refused(DmRefusal::Memory),
+        StoreRefusal::Disk => DmReply::Refused(DmRefusal::Disk),
     }
 }
 
 /// Keeps an entry, for which there is room.
-fn note(history: &mut Vec<Entry>, actor: Actor, action: Action, reply: Reply)
+fn note(history: &mut Vec<Entry>, actor: Actor, action: Action, answer: Answer)
     requires { vec_len history.old < vec_capacity history.old }
-    ensures { history.new.items ≡ history.old.items ++ entry_of actor action reply ∷ [] }
+    ensures { history.new.items ≡ history.old.items ++ entry_of actor action answer ∷ [] }
 {
     history
         .push(Entry {
             actor,
             action,
-            answer: Answer::Call(reply),
+            answer,
         })
         .unwrap();
 }
@@ -88,21 +124,46 @@ fn keep(
     done: Result<(Reply, Reply), StoreRefusal>,
 ) -> Reply
     requires { vec_len history.old < vec_capacity history.old }
-    ensures kept { IfOk done (λ r. (result ≡ r.0) × (history.new.items ≡ history.old.items ++ entry_of actor action r.1 ∷ [])) }
+    ensures kept { IfOk done (λ r. (result ≡ r.0) × (history.new.items ≡ history.old.items ++ entry_of actor action (Answer.Call r.1) ∷ [])) }
     ensures memory { IsErrOf done StoreRefusal.Memory → (result ≡ Reply.Refused CallRefusal.Memory) × (history.new.items ≡ history.old.items) }
-    ensures failed { IsErrOf done StoreRefusal.Disk → (result ≡ Reply.Refused CallRefusal.Disk) × (history.new.items ≡ history.old.items ++ entry_of actor action (Reply.Refused CallRefusal.Disk) ∷ []) }
+    ensures failed { IsErrOf done StoreRefusal.Disk → (result ≡ Reply.Refused CallRefusal.Disk) × (history.new.items ≡ history.old.items ++ entry_of actor action (Answer.Call (Reply.Refused CallRefusal.Disk)) ∷ []) }
 {
     match done {
         Ok((reply, again)) => {
-            note(history, actor, action, again);
+            note(history, actor, action, Answer::Call(again));
             reply
         }
         Err(StoreRefusal::Memory) => Reply::Refused(CallRefusal::Memory),
         Err(StoreRefusal::Disk) => {
-            let fault = Reply::Refused(CallRefusal::Disk);
+            let fault = Answer::Call(Reply::Refused(CallRefusal::Disk));
             note(history, actor, action, fault);
             Reply::Refused(CallRefusal::Disk)
         }
+    }
+}
+
+/// Keeps a session's call, for which there is room, and answers it. Nothing is kept of one that lacked memory.
+fn keep_dm(
+    history: &mut Vec<Entry>,
+    sid: Sid,
+    call: DmCall,
+    done: Result<(DmReply, DmReply), AllocError>,
+) -> DmReply
+    requires { vec_len history.old < vec_capacity history.old }
+    ensures kept { IfOk done (λ r. (result ≡ r.0) × (history.new.items ≡ history.old.items ++ entry_of (Actor.Session sid) (Action.Dm call) (Answer.Dm r.1) ∷ [])) }
+    ensures memory { OnErr done ((result ≡ DmReply.Refused DmRefusal.Memory) × (history.new.items ≡ history.old.items)) }
+{
+    match done {
+        Ok((reply, again)) => {
+            note(
+                history,
+                Actor::Session(sid),
+                Action::Dm(call),
+                Answer::Dm(again),
+            );
+            reply
+        }
+        Err(AllocError) => DmReply::Refused(DmRefusal::Memory),
     }
 }
 
@@ -126,6 +187,7 @@ impl<D: Disk> Hsm<D> {
 
         // Ok: what it holds is what recovery finds from now on.
         ensures opened { IfOk result (λ s. (s.opened ≡ s.files) × (s.history ≡ [])) }
+        ensures anew { IfOk result (λ s. (s.sessions ≡ no_sessions) × (s.stamps ≡ [])) }
         ensures found { IfOk result (λ s. (s.files.held ≡ s.files.durable) × (s.files.failed ≡ false)) }
         ensures durable { IfOk result (λ s. (c : List ℕ) → MayBe D.Disk s.files.disk c → IsDurable s.files c) }
         ensures lawful { IfOk result (λ s. IsLawful (geometry_of s.files.meta.durable.geometry).files s.files.held) }
@@ -135,11 +197,16 @@ impl<D: Disk> Hsm<D> {
         ensures corrupt { IfErr result (λ e. (place : ℕ) → e.0 ≡ OpenRefusal.Corrupt place → (c : List ℕ) → D.gives disk c → IsCorruptAt place c) }
         ensures failed { IfErr result (λ e. e.0 ≡ OpenRefusal.Disk → Rose (D.fault_count disk) (D.fault_count e.1)) }
     {
+        let Ok(sessions) = Sessions::new(alloc) else {
+            return Err((OpenRefusal::Memory, disk));
+        };
         match FileStore::open(alloc, disk) {
             Ok(files) => Ok(Hsm {
                 opened: Snapshot::of(&files),
                 base: files.number(),
                 files,
+                stamps: IndexMap::new(alloc),
+                sessions,
                 history: Vec::new(alloc),
             }),
             Err(refusal) => Err(refusal),
@@ -151,11 +218,11 @@ impl<D: Disk> Hsm<D> {
     pub fn issue(&mut self, alloc: Global, caller: CallerId, call: Call) -> Reply
         ensures { IsAnswered D.Disk self.old caller.0 call result self.new }
     {
-        if let Err(refusal) = make_ready(&self.files, &mut self.history) {
-            return Reply::Refused(refusal);
+        if let Err(why) = make_ready(&self.files, &mut self.history, &mut self.stamps) {
+            return undone(why);
         }
         let number = self.base + self.history.len() as u64;
-        let done = answer(&mut self.files, alloc, &call, number);
+        let done = answer(&mut self.files, &mut self.stamps, alloc, &call, number);
         keep(
             &mut self.history,
             Actor::Caller(caller),
@@ -164,12 +231,30 @@ impl<D: Disk> Hsm<D> {
         )
     }
 
+    /// Answers a session's call, and keeps it in the history. It is refused for want of memory, and by a closed store, as calls are.
+    pub fn dm(&mut self, alloc: Global, sid: Sid, call: DmCall) -> DmReply
+        ensures { IsTold D.Disk self.old sid call result self.new }
+    {
+        if let Err(why) = make_ready(&self.files, &mut self.history, &mut self.stamps) {
+            return unserved(why);
+        }
+        let done = serve(
+            &self.files,
+            &self.stamps,
+            &mut self.sessions,
+            alloc,
+            sid,
+            &call,
+        );
+        keep_dm(&mut self.history, sid, call, done)
+    }
+
     /// Makes all durable that is held, and keeps that in the history. It is refused as calls are.
     pub fn commit(&mut self, alloc: Global) -> Reply
         ensures { IsCommitted D.Disk self.old result self.new }
     {
-        if let Err(refusal) = make_ready(&self.files, &mut self.history) {
-            return Reply::Refused(refusal);
+        if let Err(why) = make_ready(&self.files, &mut self.history, &mut self.stamps) {
+            return undone(why);
         }
         let number = self.base + self.history.len() as u64;
         let done = commit(&mut self.files, alloc, number);
@@ -191,6 +276,7 @@ impl<D: Disk> Hsm<D> {
         exact_is_legal();
         exact_is_once();
         exact_is_sided();
+        exact_is_stamped();
         transparent();
         self.history.as_slice()
     }
@@ -210,6 +296,7 @@ impl<D: Disk> Hsm<D> {
         exact_is_legal();
         exact_is_once();
         exact_is_sided();
+        exact_is_stamped();
         transparent();
         (self.files.close(), History::from(self.history), self.opened)
     }

@@ -1,7 +1,10 @@
 use crate::Hsm;
 use commit_slots::Layout;
 use disk_model::{Disk, FuseDisk, OpenRefusal, SureDisk};
-use hsm_types::{Bytes, Call, CallRefusal, CallerId, FileKey, Reply, Word};
+use hsm_types::{
+    Bytes, Call, CallRefusal, CallerId, DmCall, DmRefusal, DmReply, FileKey, Handle, Reply, Sid,
+    Token, Word,
+};
 use std::alloc::{AllocError, Global};
 use std::process::Abort;
 use std::test::*;
@@ -215,6 +218,12 @@ fn is_closed<D: Disk>(rt: &impl Abort, alloc: Global, hsm: &mut Hsm<D>) {
     assert_eq!(rt; hsm.history().len(), 2);
 }
 
+fn is_silent<D: Disk>(rt: &impl Abort, alloc: Global, hsm: &mut Hsm<D>) {
+    let closed = DmReply::Refused(DmRefusal::Disk);
+    tells(rt, alloc, hsm, 0, DmCall::GetAllSessions, closed);
+    assert_eq!(rt; hsm.history().len(), 2);
+}
+
 #[test]
 fn a_fault_of_the_disk_closes_the_store(rt: HostRuntime) -> Result<(), Fail> {
     let alloc = rt.alloc();
@@ -225,8 +234,181 @@ fn a_fault_of_the_disk_closes_the_store(rt: HostRuntime) -> Result<(), Fail> {
             && is_fault_met(alloc, &mut hsm)?
         {
             is_closed(&rt, alloc, &mut hsm);
+            is_silent(&rt, alloc, &mut hsm);
             return Ok(());
         }
     }
     Err("no write met the fault".into())
+}
+
+fn session(alloc: Global, old: u64, info: &[u8]) -> Result<DmCall, AllocError> {
+    let info = word(alloc, info)?;
+    let old = Sid(old);
+    Ok(DmCall::CreateSession { old, info })
+}
+
+fn handle(alloc: Global, name: &[u8]) -> Result<DmCall, AllocError> {
+    let name = word(alloc, name)?;
+    Ok(DmCall::PathToHandle { name })
+}
+
+// The attributes of the file 1.1 in the store with that id.
+fn attributes(token: u64, fsid: u64) -> DmCall {
+    let token = Token(token);
+    let key = FileKey { ino: 1, igen: 1 };
+    let handle = Handle { fsid, key };
+    DmCall::GetFileAttr { token, handle }
+}
+
+fn tells<D: Disk>(
+    rt: &impl Abort,
+    alloc: Global,
+    hsm: &mut Hsm<D>,
+    sid: u64,
+    call: DmCall,
+    reply: DmReply,
+) {
+    let told = hsm.dm(alloc, Sid(sid), call);
+    assert_eq!(rt; told, reply);
+}
+
+fn tells_all<D: Disk>(
+    rt: &impl Abort,
+    alloc: Global,
+    hsm: &mut Hsm<D>,
+    rows: Vec<(u64, DmCall, DmReply)>,
+) {
+    for (sid, call, reply) in rows {
+        tells(rt, alloc, hsm, sid, call, reply);
+    }
+}
+
+// Calls on a store of id 7 that has just the file "a" and no session, each but the second refused.
+fn ordered(alloc: Global) -> Result<Vec<(u64, DmCall, DmReply)>, AllocError> {
+    let mut rows = Vec::new(alloc);
+    let no_session = DmReply::Refused(DmRefusal::NoSession);
+    rows.push((1, attributes(9, 8), no_session))?;
+    let first = DmReply::Session(Sid(1));
+    rows.push((0, session(alloc, 0, b"one")?, first))?;
+    let no_token = DmReply::Refused(DmRefusal::NoToken);
+    rows.push((1, attributes(9, 8), no_token))?;
+    let no_object = DmReply::Refused(DmRefusal::NoObject);
+    rows.push((1, attributes(0, 8), no_object))?;
+    let no_object = DmReply::Refused(DmRefusal::NoObject);
+    rows.push((1, handle(alloc, b"b")?, no_object))?;
+    let no_session = DmReply::Refused(DmRefusal::NoSession);
+    rows.push((1, session(alloc, 2, b"")?, no_session))?;
+    let too_many = DmReply::Refused(DmRefusal::TooMany { count: 0 });
+    rows.push((1, session(alloc, 1, b"")?, too_many))?;
+    Ok(rows)
+}
+
+// Calls on that store with a session, all answered.
+fn served(alloc: Global) -> Result<Vec<(u64, DmCall, DmReply)>, AllocError> {
+    let mut rows = Vec::new(alloc);
+    let ids = vec![in alloc; Sid(1)]?;
+    rows.push((0, DmCall::GetAllSessions, DmReply::Sids(ids.into())))?;
+    let target = Sid(1);
+    let info = DmReply::Info(word(alloc, b"one")?);
+    rows.push((0, DmCall::QuerySession { target }, info))?;
+    let fsid = 7;
+    let key = FileKey { ino: 1, igen: 1 };
+    let found = DmReply::Handle(Handle { fsid, key });
+    rows.push((1, handle(alloc, b"a")?, found))?;
+    let space = DmReply::Space {
+        used: 0,
+        total: 1024,
+    };
+    rows.push((1, DmCall::GetSpace, space))?;
+    Ok(rows)
+}
+
+#[test]
+fn sessions_are_refused_in_order(rt: HostRuntime) -> Result<(), Fail> {
+    let alloc = rt.alloc();
+    let mut hsm = with_file(alloc)?;
+    tells_all(&rt, alloc, &mut hsm, ordered(alloc)?);
+    Ok(())
+}
+
+#[test]
+fn sessions_are_served(rt: HostRuntime) -> Result<(), Fail> {
+    let alloc = rt.alloc();
+    let mut hsm = with_session(alloc)?;
+    tells_all(&rt, alloc, &mut hsm, served(alloc)?);
+    assert_eq!(rt; hsm.history().len(), 6);
+    Ok(())
+}
+
+// What a session is told of the file "a", after a call on it.
+fn stamp_is<D: Disk>(rt: &impl Abort, alloc: Global, hsm: &mut Hsm<D>, call: Call, told: DmReply) {
+    let _reply = hsm.issue(alloc, CallerId(1), call);
+    tells(rt, alloc, hsm, 1, attributes(0, 7), told);
+}
+
+fn stamps_are<D: Disk>(
+    rt: &impl Abort,
+    alloc: Global,
+    hsm: &mut Hsm<D>,
+    rows: Vec<(Call, DmReply)>,
+) {
+    for (call, told) in rows {
+        stamp_is(rt, alloc, hsm, call, told);
+    }
+}
+
+fn told(size: u64, stamp: u64, blocks: u64) -> DmReply {
+    DmReply::Attr {
+        size,
+        stamp,
+        blocks,
+    }
+}
+
+// Calls on a store that has just the empty file "a" and a session, as its entries from the third on, each before a session's.
+fn accesses(alloc: Global) -> Result<Vec<(Call, DmReply)>, AllocError> {
+    let mut rows = Vec::new(alloc);
+    rows.push((stat(alloc, b"a")?, told(0, 0, 0)))?;
+    rows.push((write(alloc, b"a", 0, b"xyz")?, told(3, 5, 1)))?;
+    rows.push((read(alloc, b"a", 0, 0)?, told(3, 5, 1)))?;
+    rows.push((read(alloc, b"a", 0, 1)?, told(3, 9, 1)))?;
+    rows.push((truncate(alloc, b"a", 3)?, told(3, 11, 1)))?;
+    rows.push((create(alloc, b"b")?, told(3, 11, 1)))?;
+    Ok(rows)
+}
+
+// A small store that has just the empty file "a", and a session.
+fn with_session(alloc: Global) -> Result<Hsm<SureDisk>, Fail> {
+    let mut hsm = with_file(alloc)?;
+    let _session = hsm.dm(alloc, Sid(0), session(alloc, 0, b"one")?);
+    Ok(hsm)
+}
+
+#[test]
+fn accesses_renew_stamps(rt: HostRuntime) -> Result<(), Fail> {
+    let alloc = rt.alloc();
+    let mut hsm = with_session(alloc)?;
+    stamps_are(&rt, alloc, &mut hsm, accesses(alloc)?);
+    Ok(())
+}
+
+// Calls on a store that was opened anew, with the empty file "a".
+fn afresh(alloc: Global) -> Result<Vec<(u64, DmCall, DmReply)>, AllocError> {
+    let mut rows = Vec::new(alloc);
+    let no_session = DmReply::Refused(DmRefusal::NoSession);
+    rows.push((1, attributes(0, 7), no_session))?;
+    let first = DmReply::Session(Sid(1));
+    rows.push((0, session(alloc, 0, b"two")?, first))?;
+    rows.push((1, attributes(0, 7), told(0, 0, 0)))?;
+    Ok(rows)
+}
+
+#[test]
+fn sessions_and_stamps_end_with_the_opening(rt: HostRuntime) -> Result<(), Fail> {
+    let alloc = rt.alloc();
+    let mut hsm = with_session(alloc)?;
+    let _read = hsm.issue(alloc, CallerId(1), read(alloc, b"a", 0, 1)?);
+    let mut again = committed(&rt, alloc, hsm)?;
+    tells_all(&rt, alloc, &mut again, afresh(alloc)?);
+    Ok(())
 }

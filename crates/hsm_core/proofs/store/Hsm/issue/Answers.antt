@@ -1,11 +1,16 @@
-use Rattle.std.proofs.Common.{List, length, refl, ap, subst, arith}
-use Rattle.hsm_types.specs.declared.calls.Reply.TheVariants.{Refused}
+use Rattle.std.proofs.Common.{List, ℕ, length, refl, ap, subst, arith}
+use Rattle.std.specs.Prelude.{OnOk, OnErr, ◌+◌, ◌≡◌}
+use Rattle.hsm_types.specs.declared.keys.FileKey.{FileKey}
+use Rattle.hsm_types.specs.declared.calls.Reply.{Reply}
 use Rattle.plain_model.specs.declared.entries.Entry.{Entry}
 use Rattle.plain_model.specs.declared.entries.Actor.TheVariants.{Caller}
 use Rattle.plain_model.specs.declared.entries.Action.TheVariants.{Issue}
-use Rattle.plain_model.specs.State.{reply_to, held_after}
+use Rattle.plain_model.specs.declared.entries.Answer.TheVariants.{Call as Replied}
+use Rattle.plain_model.specs.State.{judged, reply_to}
+use Rattle.plain_model.specs.States.{state_after}
 use Rattle.file_store.specs.Stores.{superblock_of}
-use Rattle.hsm_core.specs.Store.{Store}
+use Rattle.hsm_core.specs.Stamps.{stamp_in, stamps_where}
+use Rattle.hsm_core.specs.Store.{Store, state_of}
 use Rattle.hsm_core.specs.Answers.{IsAnswered}
 use Rattle.hsm_core.proofs.Events.{called, not_begun, Keeps, IsNext}
 use Rattle.hsm_core.proofs.store.Hsm.issue.Given.{Over}
@@ -14,19 +19,23 @@ use Rattle.hsm_core.proofs.store.Hsm.issue.Goals as goal
 
 -- the store before the event, and after it
 abbrev before : (g : Over) → After-keep g → Store g.row.D.Denot
-before g c = record { opened = c.self.inside.opened.value; files = c.self.inside.files; history = c.self.inside.history.items }
+before g c = record { opened = c.self.inside.opened.value; files = c.self.inside.files; stamps = c.self.inside.stamps.entries; sessions = c.self.inside.sessions; history = c.self.inside.history.items }
 
 abbrev after : (g : Over) → After-keep g → Store g.row.D.Denot
-after g c = record { opened = c.self.inside.opened.value; files = c.answer-done.new.files; history = c.keep.new.history.items }
+after g c = record { opened = c.self.inside.opened.value; files = c.answer-done.new.files; stamps = c.answer-done.new.stamps.entries; sessions = c.self.inside.sessions; history = c.keep.new.history.items }
 
-event : (g : Over) (c : After-keep g) → IsNext g.D.Disk (before g c) (Caller (record { 0 = c.args.caller.0 })) (Issue c.args.call) (reply_to (superblock_of c.self.inside.opened.value) c.self.inside.files.held c.args.call)
-    (held_after (superblock_of c.self.inside.opened.value) c.self.inside.files.held c.args.call) c.keep.result (after g c)
+event : (g : Over) (c : After-keep g) → IsNext g.D.Disk (before g c) (Caller (record { 0 = c.args.caller.0 })) (Issue c.args.call) (Replied (reply_to (superblock_of c.self.inside.opened.value) c.self.inside.files.held c.args.call))
+    (state_after (superblock_of c.self.inside.opened.value) (state_of (before g c)) c.args.call) (Replied c.keep.result) (after g c)
 event g c =
     called g.D.Disk (before g c) (after g c) c.self.invariant.0 c.self.invariant.1 c.in_default.ensures.working refl _ c.args.caller.0 c.args.call c.answer-done.result c.keep.result
     (omega (arith, c.self.invariant.2, c.len.ensures, ap length c.make_ready.ensures.same))
     (record {
       replies = c.answer-done.ensures.reply;
       leaves = c.answer-done.ensures.held;
+      stamped = subst (λ (entries : List (FileKey × ℕ)). OnOk c.answer-done.result (stamp_in c.answer-done.new.stamps.entries ≡ stamps_where (judged (superblock_of c.self.inside.files) c.self.inside.files.held c.args.call) (c.self.inside.base + c.len.result + 1) c.self.inside.files.held.files c.args.call (stamp_in entries)))
+          c.make_ready.ensures.stamps c.answer-done.ensures.stamps;
+      unstamped = subst (λ (entries : List (FileKey × ℕ)). OnErr c.answer-done.result (c.answer-done.new.stamps.entries ≡ entries)) c.make_ready.ensures.stamps c.answer-done.ensures.unstamped;
+      sessions = refl;
       synced = c.answer-done.ensures.synced;
       working = c.answer-done.ensures.working;
       memory = c.answer-done.ensures.memory;
@@ -38,10 +47,12 @@ event g c =
 
 pub returns-in-Err : goal.returns-in-Err
 returns-in-Err g c =
-    let s : Store g.row.D.Denot = record { opened = c.self.inside.opened.value; files = c.self.inside.files; history = c.self.inside.history.items } in
-    let t : Store g.row.D.Denot = record { opened = c.self.inside.opened.value; files = c.self.inside.files; history = c.make_ready.new.history.items } in
-    subst (λ (old : Store g.row.D.Denot). IsAnswered g.D.Disk old c.args.caller.0 c.args.call (Refused c.in-Err.refusal) t) c.self.view_is
-    (not_begun g.D.Disk s c.make_ready.new.history.items (Caller (record { 0 = c.args.caller.0 })) (Issue c.args.call) (reply_to (superblock_of s.opened) s.files.held c.args.call) (held_after (superblock_of s.opened) s.files.held c.args.call) c.in-Err.refusal c.self.invariant.0 c.self.invariant.1 c.make_ready.ensures.same c.make_ready.ensures.idle c.in-Err.ensures.refused)
+    let s : Store g.row.D.Denot = record { opened = c.self.inside.opened.value; files = c.self.inside.files; stamps = c.self.inside.stamps.entries; sessions = c.self.inside.sessions; history = c.self.inside.history.items } in
+    let t : Store g.row.D.Denot = record { opened = c.self.inside.opened.value; files = c.self.inside.files; stamps = c.make_ready.new.stamps.entries; sessions = c.self.inside.sessions; history = c.make_ready.new.history.items } in
+    subst (λ (old : Store g.row.D.Denot). IsAnswered g.D.Disk old c.args.caller.0 c.args.call c.undone.result t) c.self.view_is
+    (not_begun g.D.Disk s t (Caller (record { 0 = c.args.caller.0 })) (Issue c.args.call) (Replied (reply_to (superblock_of s.opened) s.files.held c.args.call)) (state_after (superblock_of s.opened) (state_of s) c.args.call) (Replied c.undone.result)
+    c.in-Err.why c.self.invariant.0 c.self.invariant.1 (λ i. record { opened = c.self.inside.opened.value; files = c.self.inside.files; stamps = c.make_ready.ensures.stamps i; sessions = c.self.inside.sessions; history = c.make_ready.ensures.same i }) c.make_ready.ensures.idle
+    (record { memory = λ is. ap (λ (r : Reply). Replied r) (c.undone.ensures.memory is); failed = λ is. ap (λ (r : Reply). Replied r) (c.undone.ensures.failed is) }) c.in-Err.ensures.refused)
 
 pub answer-done-requires-clause-idle : goal.answer-done-requires-clause-idle
 answer-done-requires-clause-idle g c = c.make_ready.ensures.idle c.in_default.ensures.working

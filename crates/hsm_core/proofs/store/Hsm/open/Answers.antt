@@ -6,9 +6,9 @@ use Rattle.hsm_core.proofs.store.Hsm.open.Goals as goal
 
 pub invariant_of-result : goal.invariant_of-result
 invariant_of-result g c =
-    let s : Store g.row.D.Denot = record { opened = c.of.result.value; files = c.in-Ok.files; history = c.new.result.items } in (
-      IsRun-opened s c.of.ensures c.new.ensures.items c.in-Ok.ensures.lawful.opening,
-      safe_opened g.D.Disk s c.of.ensures c.new.ensures.items c.in-Ok.ensures.found.1 c.in-Ok.ensures.found.0 c.in-Ok.ensures.durable (g.met.D.Disk.only_now c.in-Ok.files.disk),
+    let s : Store g.row.D.Denot = record { opened = c.of.result.value; files = c.in-Ok-open.files; stamps = c.new-in-Ok-open.result.entries; sessions = c.in-Ok.sessions; history = c.new-in-Ok-open-2.result.items } in (
+      IsRun-opened s c.of.ensures c.new-in-Ok-open-2.ensures.items c.new-in-Ok-open.ensures.empty c.in-Ok.ensures c.in-Ok-open.ensures.lawful.opening,
+      safe_opened g.D.Disk s c.of.ensures c.new-in-Ok-open-2.ensures.items c.in-Ok-open.ensures.found.1 c.in-Ok-open.ensures.found.0 c.in-Ok-open.ensures.durable (g.met.D.Disk.only_now c.in-Ok-open.files.disk),
       c.number.ensures.number ∙ sym (ap (λ f. f.meta.number) c.of.ensures),
       c.number.ensures.within,
     )
