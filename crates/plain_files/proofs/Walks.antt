@@ -3,11 +3,11 @@ use Rattle.std.proofs.Common.{◌≡◌, List, [], ◌∷◌, None, refl, sym, �
 use Rattle.hsm_types.specs.declared.calls.Reply.TheVariants.{Done, Made, Data, Size, Refused}
 use Rattle.plain_model.specs.declared.entries.Entry.{Entry}
 use Rattle.plain_model.specs.declared.entries.Actor.{Actor}
-use Rattle.plain_model.specs.declared.entries.Actor.TheVariants.{Caller, Store}
+use Rattle.plain_model.specs.declared.entries.Actor.TheVariants.{Caller, Session, Store}
 use Rattle.plain_model.specs.declared.entries.Action.{Action}
-use Rattle.plain_model.specs.declared.entries.Action.TheVariants.{Issue, Commit}
+use Rattle.plain_model.specs.declared.entries.Action.TheVariants.{Issue, Dm, Commit}
 use Rattle.plain_model.specs.declared.entries.Answer.{Answer}
-use Rattle.plain_model.specs.declared.entries.Answer.TheVariants.{Call as Replied}
+use Rattle.plain_model.specs.declared.entries.Answer.TheVariants.{Call as Replied, Dm as Told}
 use Rattle.plain_model.specs.Plain.{File}
 use Rattle.plain_model.specs.PlainFold.{Walk, walk, walked, plain_after}
 use Rattle.plain_files.specs.Files.{files_left}
@@ -18,7 +18,10 @@ walk-files V files (Caller c) (Issue call) (Replied (Made k)) same = rw same ref
 walk-files V files (Caller c) (Issue call) (Replied (Data bytes)) same = rw same refl
 walk-files V files (Caller c) (Issue call) (Replied (Size n)) same = rw same refl
 walk-files V files (Caller c) (Issue call) (Replied (Refused why)) same = same
+walk-files V files (Caller c) (Issue call) (Told reply) same = same
+walk-files V files (Caller c) (Dm call) answer same = same
 walk-files V files (Caller c) Commit answer same = same
+walk-files V files (Session sid) action answer same = same
 walk-files V files Store action answer same = same
 
 walked-files : (V U : Walk) (es : List Entry) → V.files ≡ U.files → (walked V es).files ≡ (walked U es).files

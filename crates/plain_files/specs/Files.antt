@@ -22,7 +22,7 @@ files_of files = map file_of files
 abbrev pub files_replied : List File → Call → Reply → List File
 files_replied files call reply = if is_completion reply then (act files (key_meant (listing files) call reply) call).1 else files
 
--- the plain map after one event more. None of today's events asks for what was issued before it
+-- the plain map after one event more: none but a caller's call changes it. None of today's events asks for what was issued before it
 abbrev pub files_left : List File → Actor → Action → Answer → List File
 files_left files (Caller c) (Issue call) (Replied reply) = files_replied files call reply
 files_left files actor action answer = files

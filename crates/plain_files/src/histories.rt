@@ -21,14 +21,15 @@ pub fn files_after(alloc: Global, history: &[Entry]) -> Result<Vec<PlainFile>, A
     Ok(files)
 }
 
-/// Does the call of an entry, where its reply says that it was done.
+/// Does a caller's call, where its reply says that it was done. All other entries leave the files as they are.
 fn follow(alloc: Global, files: &mut Vec<PlainFile>, entry: &Entry) -> Result<(), AllocError>
     ensures { OnOk result (files_of files.new.items ≡ files_left (files_of files.old.items) entry.now.actor entry.now.action entry.now.answer) }
 {
-    let Answer::Call(reply) = &entry.answer;
-    match (&entry.actor, &entry.action) {
-        (Actor::Caller(_), Action::Issue(call)) => follow_call(alloc, files, call, reply),
-        (Actor::Caller(_), Action::Commit) | (Actor::Store, _) => Ok(()),
+    match (&entry.actor, &entry.action, &entry.answer) {
+        (Actor::Caller(_), Action::Issue(call), Answer::Call(reply)) => {
+            follow_call(alloc, files, call, reply)
+        }
+        _ => Ok(()),
     }
 }
 

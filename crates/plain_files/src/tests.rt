@@ -3,7 +3,7 @@ use crate::{PlainFile, files_after};
 use commit_slots::Layout;
 use disk_model::{Disk, SureDisk};
 use hsm_core::Hsm;
-use hsm_types::{Bytes, Call, CallRefusal, CallerId, Reply, Word};
+use hsm_types::{Bytes, Call, CallRefusal, CallerId, DmCall, DmReply, Reply, Sid, Word};
 use plain_model::{Action, Actor, Answer, Entry};
 use std::alloc::{AllocError, Global};
 use std::process::Abort;
@@ -77,7 +77,9 @@ fn is_plain_read(
     let Action::Issue(call) = &entry.action else {
         return Ok(false);
     };
-    let Answer::Call(reply) = &entry.answer;
+    let Answer::Call(reply) = &entry.answer else {
+        return Ok(false);
+    };
     let Call::Read { name, offset, len } = call else {
         return Ok(false);
     };
@@ -218,28 +220,60 @@ fn truncates_and_removes(rt: HostRuntime) -> Result<(), Fail> {
     Ok(())
 }
 
-/// Puts a call behind a history that a fault of the disk answered.
-fn push_fault(history: &mut Vec<Entry>, call: Call) -> Result<(), AllocError> {
-    history.push(Entry {
-        actor: Actor::Caller(CallerId(1)),
-        action: Action::Issue(call),
-        answer: Answer::Call(Reply::Refused(CallRefusal::Disk)),
-    })?;
+/// A history that leaves one file, a, which holds abc.
+fn history_of_abc(alloc: Global) -> Result<Vec<Entry>, Fail> {
+    let mut hsm = new_store(alloc)?;
+    let _made = create(alloc, &mut hsm, "a")?;
+    let _written = write(alloc, &mut hsm, "a", 0, "abc")?;
+    let (_, history, _) = hsm.close();
+    Ok(history.into_vec())
+}
+
+fn cut_a(alloc: Global) -> Result<Call, AllocError> {
+    let name = Word::from("a".as_bytes().to_vec(alloc)?);
+    Ok(Call::Truncate { name, size: 1 })
+}
+
+/// Looks whether a history leaves one file, which holds abc.
+fn expect_abc(rt: &(impl Abort + AllocGlobal), history: &[Entry]) -> Result<(), AllocError> {
+    let files = files_after(rt.alloc(), history)?;
+    assert_eq!(rt; files.len(), 1);
+    assert_eq!(rt; files[0].body.as_slice(), "abc".as_bytes());
     Ok(())
 }
 
 #[test]
 fn a_fault_of_the_disk_leaves_files(rt: HostRuntime) -> Result<(), Fail> {
     let alloc = rt.alloc();
-    let mut hsm = new_store(alloc)?;
-    let _made = create(alloc, &mut hsm, "a")?;
-    let _written = write(alloc, &mut hsm, "a", 0, "abc")?;
-    let (_, history, _) = hsm.close();
-    let mut history = history.into_vec();
-    let name = Word::from("a".as_bytes().to_vec(alloc)?);
-    push_fault(&mut history, Call::Truncate { name, size: 1 })?;
-    let files = files_after(alloc, history.as_slice())?;
-    assert_eq!(rt; files.len(), 1);
-    assert_eq!(rt; files[0].body.as_slice(), "abc".as_bytes());
+    let mut history = history_of_abc(alloc)?;
+    history.push(Entry {
+        actor: Actor::Caller(CallerId(1)),
+        action: Action::Issue(cut_a(alloc)?),
+        answer: Answer::Call(Reply::Refused(CallRefusal::Disk)),
+    })?;
+    expect_abc(&rt, history.as_slice())?;
+    Ok(())
+}
+
+/// The last entry is one that no store makes.
+#[test]
+fn a_session_leaves_files(rt: HostRuntime) -> Result<(), Fail> {
+    let alloc = rt.alloc();
+    let mut history = history_of_abc(alloc)?;
+    history.push(Entry {
+        actor: Actor::Session(Sid(1)),
+        action: Action::Dm(DmCall::GetSpace),
+        answer: Answer::Dm(DmReply::Space {
+            used: 1,
+            total: 1024,
+        }),
+    })?;
+    expect_abc(&rt, history.as_slice())?;
+    history.push(Entry {
+        actor: Actor::Session(Sid(1)),
+        action: Action::Issue(cut_a(alloc)?),
+        answer: Answer::Call(Reply::Done),
+    })?;
+    expect_abc(&rt, history.as_slice())?;
     Ok(())
 }
