@@ -1,6 +1,5 @@
 pub mod Bytes
 pub mod Following
-pub mod Lawful
 pub mod Running
 pub mod Endings
 pub mod Legality

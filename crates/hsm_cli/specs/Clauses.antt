@@ -6,6 +6,7 @@ use Rattle.disk_model.specs.Calls.{Rose}
 use Rattle.disk_model.specs.Moments.{MayBe, LeavesOnly, Keeps, Same}
 use Rattle.commit_slots.specs.Images.{IsStore, IsEmptyStore}
 use Rattle.meta_store.specs.Images.{IsCorruptAt}
+use Rattle.hsm_types.specs.declared.keys.FileKey.{FileKey}
 use Rattle.plain_model.specs.declared.entries.Entry.{Entry}
 use Rattle.plain_model.specs.Render.{text_of}
 use Rattle.plain_model.specs.Plain.{File}
@@ -15,8 +16,9 @@ use Rattle.plain_model.specs.Legal.{Legal, After, NoClash, Once}
 use Rattle.plain_model.specs.PlainFold.{plain_after}
 use Rattle.plain_model.specs.State.{Held, nothing_held}
 use Rattle.plain_model.specs.Stands.{Stands, StandsFor}
-use Rattle.plain_model.specs.Exact.{Exact, held_by}
+use Rattle.plain_model.specs.Exact.{Exact, state_by}
 use Rattle.plain_model.specs.Side.{sides_of, side_after}
+use Rattle.plain_model.specs.Stamps.{stamp}
 use Rattle.plain_model.specs.Synced.{synced}
 use Rattle.file_store.specs.Stores.{Store, IsRecovered, IsDurable}
 use Rattle.hsm_core.specs.Crashes.{IsPrefix}
@@ -28,7 +30,7 @@ use Rattle.hsm_cli.specs.declared.outcomes.Outcome.{Outcome}
 use Rattle.hsm_cli.specs.Commands.{Form, Format, Replay, ReplayStore, geometry_number, fsid_of}
 use Rattle.hsm_cli.specs.Statuses.{status_of, place_of}
 use Rattle.hsm_cli.specs.Sources.{script_bytes}
-use Rattle.hsm_cli.specs.Openings.{opened_in, superblock_at, held_at, base_of}
+use Rattle.hsm_cli.specs.Openings.{opened_in, superblock_at, held_at, base_of, opening_at}
 use Rattle.hsm_cli.specs.Follows.{RunsAll, RunsFirst}
 use Rattle.hsm_cli.specs.Hosts.{IsHanded}
 use Rattle.hsm_cli.specs.Told.{SourceTold, SinkTold, HostTold}
@@ -54,14 +56,17 @@ ScriptClause (Some (ReplayStore path dir)) source o = HasRun true source o.cause
 -- ---- the legality clause and the plain clause
 
 -- Over the store that the run began with. From each plain map that it stands for the history is legal; each token is used once; each answer is the
--- exact one; and what each beginning of the history leaves stands for the map that it leaves, with the mapped blocks of the rules.
+-- exact one; and what each beginning of the history leaves stands for the map that it leaves, with the mapped blocks of the rules and the stamps of
+-- the accesses.
 pub record IsLegalFrom {D : Type 0} (opened : Option (Store D)) (history : List Entry) : Type 0 where
   pub legal : (P : List File) → Stands (held_at opened).files P → Legal (superblock_at opened) (start P) history
   pub once : Once history
-  pub exact : Exact (superblock_at opened) (held_at opened) history
-  pub stands : (P : List File) → Stands (held_at opened).files P → (i : ℕ) → StandsFor (held_by (superblock_at opened) (held_at opened) (take i history)) (After (start P) (take i history))
+  pub exact : Exact (superblock_at opened) (opening_at opened) history
+  pub stands : (P : List File) → Stands (held_at opened).files P → (i : ℕ) → StandsFor (state_by (superblock_at opened) (opening_at opened) (take i history)).held (After (start P) (take i history))
   pub sides : (P : List File) → Stands (held_at opened).files P → (i : ℕ)
-      → sides_of (held_by (superblock_at opened) (held_at opened) (take i history)).files ≡ side_after (start P) (sides_of (held_at opened).files) (take i history)
+      → sides_of (state_by (superblock_at opened) (opening_at opened) (take i history)).held.files ≡ side_after (start P) (sides_of (held_at opened).files) (take i history)
+  pub stamps : (P : List File) → Stands (held_at opened).files P → (i : ℕ) → (k : FileKey)
+      → (state_by (superblock_at opened) (opening_at opened) (take i history)).stamps k ≡ stamp (start P) (base_of opened) k (take i history)
 
 -- the disk that is given back has failed
 pub record HasFailed {D : Type 0} (g : disk.Ghosts D) (given : Option D) : Type 0 where
@@ -84,8 +89,8 @@ PlainClause o = IsPlainFrom (opened_in o) o.history
 
 -- ---- the crash clause
 
--- A crash at any moment since the host handed the disk out leaves what the opened store and the first entries make, under the number of the entry
--- after them; and a crash from now on leaves all that was synced.
+-- A crash at any moment since the host handed the disk out leaves what the opened store and the first entries make, under the number of the last of
+-- them; and a crash from now on leaves all that was synced.
 pub record IsCrashSafe {D : Type 0} (g : disk.Ghosts D) (held : List ℕ → Type 0) (opened : Store D) (history : List Entry) (disk : D) : Type 0 where
   pub handed : D
   pub by_host : IsHanded g held handed

@@ -8,7 +8,7 @@ ghost use Rattle.hsm_cli.specs.Runs.{IsOpenedAnew, GoesOn};
 
 use disk_model::Disk;
 use hsm_core::Hsm;
-use hsm_types::{CallRefusal, Reply};
+use hsm_types::{CallRefusal, DmRefusal, DmReply, Reply};
 use plain_model::{Action, Actor};
 use script_text::{Line, Script};
 use std::alloc::Global;
@@ -27,7 +27,6 @@ pub(crate) fn run<D: Disk>(
     script: Script,
     commits: bool,
 ) -> Result<(), Stop>
-    requires lawful { AllByRecursion IsLine script }
     requires anew { IsOpenedAnew hsm.old }
     ensures goes_on { GoesOn D.Disk hsm.old hsm.new }
     ensures all { OnOk result (Follows (lines_run commits script) hsm.new.history) }
@@ -79,12 +78,12 @@ fn run_line<D: Disk>(alloc: Global, hsm: &mut Hsm<D>, line: Line) -> Result<(), 
     ensures disk { IsErrOf result Stop.Disk → Rose (D.fault_count hsm.old.files.disk) (D.fault_count hsm.new.files.disk) }
 {
     let Line::Event { actor, action, .. } = line;
-    let reply = match (actor, action) {
-        (Actor::Caller(caller), Action::Issue(call)) => hsm.issue(alloc, caller, call),
-        (Actor::Store, Action::Commit) => hsm.commit(alloc),
+    match (actor, action) {
+        (Actor::Caller(caller), Action::Issue(call)) => goes_on(&hsm.issue(alloc, caller, call)),
+        (Actor::Session(sid), Action::Dm(call)) => is_served(&hsm.dm(alloc, sid, call)),
+        (Actor::Store, Action::Commit) => goes_on(&hsm.commit(alloc)),
         _ => unreachable!(),
-    };
-    goes_on(&reply)
+    }
 }
 
 /// Whether a run goes on after that reply.
@@ -96,6 +95,19 @@ fn goes_on(reply: &Reply) -> Result<(), Stop>
     match reply {
         Reply::Refused(CallRefusal::Memory) => Err(Stop::Memory),
         Reply::Refused(CallRefusal::Disk) => Err(Stop::Disk),
+        _ => Ok(()),
+    }
+}
+
+/// Whether a run goes on after that reply to a session.
+fn is_served(reply: &DmReply) -> Result<(), Stop>
+    ensures ok { OnOk result ((reply.now ≢ DmReply.Refused DmRefusal.Memory) × (reply.now ≢ DmReply.Refused DmRefusal.Disk)) }
+    ensures memory { IsErrOf result Stop.Memory → reply.now ≡ DmReply.Refused DmRefusal.Memory }
+    ensures disk { IsErrOf result Stop.Disk → reply.now ≡ DmReply.Refused DmRefusal.Disk }
+{
+    match reply {
+        DmReply::Refused(DmRefusal::Memory) => Err(Stop::Memory),
+        DmReply::Refused(DmRefusal::Disk) => Err(Stop::Disk),
         _ => Ok(()),
     }
 }

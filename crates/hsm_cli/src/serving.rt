@@ -1,14 +1,12 @@
 //! A run of a script on an opened store, from the source to the sink.
 ghost use Rattle.std.specs.Prelude.{◌≡◌, ◌≢◌, ℕ, List, true, false, take, Some, IfOk, IfErr, IfSome, OnOk, IsErrOf, MatchResult};
 ghost use Rattle.std.specs.Io.KnownBytes.{Appends, IsAtEnd};
-ghost use Rattle.std.specs.List.{AllByRecursion};
 ghost use Rattle.disk_model.specs.Calls.{Rose};
 ghost use Rattle.disk_model.specs.Moments.{MayBe, LeavesOnly};
 ghost use Rattle.plain_model.specs.Faults.{has_fault};
 ghost use Rattle.plain_model.specs.Render.{text_of};
 ghost use Rattle.plain_model.specs.Synced.{synced};
 ghost use Rattle.hsm_core.specs.Crashes.{IsPrefix};
-ghost use Rattle.script_text.specs.Lines.{IsLine};
 ghost use Rattle.script_text.specs.Scripts.{IsScript};
 ghost use Rattle.hsm_cli.specs.Sources.{script_bytes};
 ghost use Rattle.hsm_cli.specs.Clauses.{HasRun, IsLegalFrom, IsPlainFrom};
@@ -101,10 +99,8 @@ fn run_script<D: Disk, I: Source>(
 }
 
 /// Reads a script to its end.
-#[tactic(auto, using(crate::proofs::Lawful::lawful))]
 fn read_script<I: Source>(alloc: Global, source: &mut I) -> Result<Script, Cause>
     ensures script { IfOk result (λ lines. IfSome (I.left source.old) (λ bytes. IsScript (script_bytes bytes) lines)) }
-    ensures lawful { IfOk result (λ lines. AllByRecursion IsLine lines) }
     ensures ended { OnOk result (IsAtEnd (I.left source.new)) }
     ensures refused { IfErr result (λ why. ScriptEnds ⊥ (source_told I.left I.fault_count source.old source.new) why) }
 {

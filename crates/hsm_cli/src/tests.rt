@@ -198,3 +198,17 @@ fn to_take_nothing_is_a_write_fault(rt: HostRuntime) -> Result<(), Fail> {
     assert_write_failed(&rt, &ran, 0, 0);
     Ok(())
 }
+
+const SESSIONS: &str =
+    "c1 create a\ns0 session 0 hsm\nc1 read a 0 3\ns1 fileattr 0 1.1.1\ns1 handle a\ns1 space\ns0 sessions\ns2 space\n";
+
+const SERVED: &str =
+    "c1 create a = made 1.1\ns0 session 0 hsm = session 1\nc1 read a 0 3 = -\ns1 fileattr 0 1.1.1 = attr 0 3 0\ns1 handle a = handle 1.1.1\ns1 space = space 0 1024\ns0 sessions = sessions 1\ns2 space = refused NoSession\n";
+
+#[test]
+fn sessions_are_served(rt: HostRuntime) -> Result<(), Fail> {
+    let ran = run(rt.alloc(), &["replay"], SESSIONS, WELL, WELL)?;
+    assert_eq!(rt; ran.outcome.status, 0);
+    assert_eq!(rt; ran.taken.as_slice(), SERVED.as_bytes());
+    Ok(())
+}

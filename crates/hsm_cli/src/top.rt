@@ -114,7 +114,7 @@ fn replay<D: Disk, I: Source, O: Sink>(alloc: Global, source: &mut I, sink: &mut
 /// A small store in memory, formatted and opened.
 fn new_store(alloc: Global) -> Result<Hsm<SureDisk>, AllocError>
     ensures anew { IfOk result (λ s. IsOpenedAnew s) }
-    ensures empty { IfOk result (λ s. (superblock_of s.opened ≡ replay_store) × (s.opened.held ≡ nothing_held)) }
+    ensures empty { IfOk result (λ s. (superblock_of s.opened ≡ replay_store) × (s.opened.held ≡ nothing_held) × (s.opened.meta.number ≡ 0)) }
 {
     formatted_is_empty();
     one_recovery();

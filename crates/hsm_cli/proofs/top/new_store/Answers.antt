@@ -13,4 +13,4 @@ returns-in-Ok-open-clause-empty c =
     let found : IsRecovered c.in-Ok-open.hsm.files.meta.durable.geometry c.in-Ok-open.hsm.files.meta.fsid c.in-Ok-open.hsm.files.meta.number c.in-Ok-open.hsm.files.durable image
     = c.in-Ok-open.ensures.durable image (inr (c.in-Ok-open.ensures.opening.1.1 image refl)) in
     let same = c.one_recovery.ensures image 0 1 0 nothing_held _ _ _ _ empty found in
-    rw (c.in-Ok-open.ensures.opened.0, same.0, same.1, c.in-Ok-open.ensures.found.0, same.3) (refl, refl)
+    rw (c.in-Ok-open.ensures.opened.0, same.0, same.1, c.in-Ok-open.ensures.found.0, same.3) (refl, refl, same.2)
