@@ -1,14 +1,17 @@
 //! The words that callers, sessions and the store exchange: names, bytes, keys, handles, calls and replies.
 #![tactic(auto)]
 
+mod attributes;
 mod calls;
 mod dm;
 mod keys;
 mod limits;
 mod lists;
 mod names;
+mod regions;
 mod stores;
 
+pub use attributes::{ATTRIBUTE_BYTES, ATTRIBUTE_COST, AttrName};
 pub use calls::{Call, CallRefusal, Reply};
 pub use dm::{DmCall, DmRefusal, DmReply};
 pub use keys::{CallerId, FileKey, HANDLE_BYTES, Handle, Sid, Token};
@@ -16,6 +19,7 @@ pub use limits::{
     ACCESS_BYTES, BLOCK_BYTES, CALLERS, FILE_BYTES, INFO_BYTES, LIVE_SESSIONS, NAME_BYTES,
     SEGMENT_BYTES,
 };
-pub use lists::{Bytes, Sids, Word};
+pub use lists::{Bytes, Names, Regions, Sids, Word};
 pub use names::can_name;
+pub use regions::{Kind, REGION_READ, REGION_TRUNCATE, REGION_WRITE, REGIONS, Range, Region};
 pub use stores::{Geometry, SMALL, Superblock};

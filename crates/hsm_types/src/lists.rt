@@ -5,8 +5,12 @@ ghost use Rattle.std.specs.Str.{bytes_eq};
 ghost use Rattle.std.specs.Cmp.Lexicographic.{pointwise};
 ghost use Rattle.std.specs.Cmp.Rules.{comparing};
 ghost use Rattle.std.proofs.Common.{rules};
+ghost use Rattle.hsm_types.specs.Regions.{same_region};
+ghost use Rattle.hsm_types.specs.Attributes.{same_name};
 
+use crate::attributes::AttrName;
 use crate::keys::Sid;
+use crate::regions::Region;
 use std::alloc::AllocError;
 use std::marker::Model;
 
@@ -171,6 +175,120 @@ impl PartialEq for Sids {
     ghost laws = { Prim.search (comparing, rules) };
 
     fn eq(&self, other: &Sids) -> bool {
+        self.items.as_slice() == other.items.as_slice()
+    }
+}
+
+/// Managed regions of a file.
+#[derive(Debug, Drop)]
+pub struct Regions {
+    items: Vec<Region>,
+}
+
+impl Model for Regions {
+    ghost use Rattle.std.specs.Prelude.{List};
+    ghost use Rattle.hsm_types.specs.declared.regions.Region.{Region};
+
+    ghost Value = { List Region };
+
+    ghost view = { λ s. s.items.items };
+}
+
+impl From<Vec<Region>> for Regions {
+    ghost from_gives = { λ v s. s ≡ v.items };
+
+    fn from(items: Vec<Region>) -> Regions {
+        Regions { items }
+    }
+}
+
+impl Regions {
+    pub fn as_slice(&self) -> &[Region]
+        ensures { result.now ≡ self.now }
+    {
+        self.items.as_slice()
+    }
+
+    pub fn into_vec(self) -> Vec<Region>
+        ensures { result.items ≡ self }
+    {
+        self.items
+    }
+}
+
+impl Clone for Regions {
+    ghost is_clone = { λ s t. t ≡ s };
+
+    fn clone(&self) -> Result<Regions, AllocError> {
+        Ok(Regions {
+            items: Vec::from_slice(*self.items.allocator(), self.items.as_slice())?,
+        })
+    }
+}
+
+impl PartialEq for Regions {
+    ghost eq = { pointwise same_region };
+
+    ghost laws = { Prim.search comparing depth 9 };
+
+    fn eq(&self, other: &Regions) -> bool {
+        self.items.as_slice() == other.items.as_slice()
+    }
+}
+
+/// Names of attributes.
+#[derive(Debug, Drop)]
+pub struct Names {
+    items: Vec<AttrName>,
+}
+
+impl Model for Names {
+    ghost use Rattle.std.specs.Prelude.{List};
+    ghost use Rattle.hsm_types.specs.declared.attributes.AttrName.{AttrName};
+
+    ghost Value = { List AttrName };
+
+    ghost view = { λ s. s.items.items };
+}
+
+impl From<Vec<AttrName>> for Names {
+    ghost from_gives = { λ v s. s ≡ v.items };
+
+    fn from(items: Vec<AttrName>) -> Names {
+        Names { items }
+    }
+}
+
+impl Names {
+    pub fn as_slice(&self) -> &[AttrName]
+        ensures { result.now ≡ self.now }
+    {
+        self.items.as_slice()
+    }
+
+    pub fn into_vec(self) -> Vec<AttrName>
+        ensures { result.items ≡ self }
+    {
+        self.items
+    }
+}
+
+impl Clone for Names {
+    ghost is_clone = { λ s t. t ≡ s };
+
+    fn clone(&self) -> Result<Names, AllocError> {
+        Ok(Names {
+            items: Vec::from_slice(*self.items.allocator(), self.items.as_slice())?,
+        })
+    }
+}
+
+impl PartialEq for Names {
+    ghost eq = { pointwise same_name };
+
+    ghost laws = { Prim.search (comparing, rules) };
+
+    fn eq(&self, other: &Names) -> bool {
         self.items.as_slice() == other.items.as_slice()
     }
 }

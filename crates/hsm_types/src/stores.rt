@@ -8,12 +8,16 @@ pub struct Geometry {
 
     /// How many blocks of 4,096 bytes all bodies together may have mapped.
     pub blocks: u32,
+
+    /// How many bytes the attributes of all files together may count.
+    pub attributes: u32,
 }
 
 /// The geometry that the words call `small`.
 pub const SMALL: Geometry = Geometry {
     files: 64,
     blocks: 1024,
+    attributes: 32_768,
 };
 
 /// What formatting fixes of a store for all its life.

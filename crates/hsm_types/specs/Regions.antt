@@ -1,0 +1,68 @@
+-- Managed regions of a file.
+use Rattle.std.specs.Prelude.{ℕ, ◌+◌, ◌*◌, ◌/◌, ◌%◌, List, [], ◌∷◌, length, Bool, true, false, not, ◌==◌, ◌&&◌, ◌||◌, nat_eq, nat_lt, nat_le, if◌then◌else◌, Option, Some, None}
+use Rattle.std.specs.List.{list_any}
+use Rattle.std.specs.Ordering.{on, eq_of_both}
+use Rattle.hsm_types.specs.Refusals.{first_refusal}
+use Rattle.hsm_types.specs.declared.regions.Region.{Region}
+use Rattle.hsm_types.specs.declared.regions.Range.{Range}
+use Rattle.hsm_types.specs.declared.regions.Kind.{Kind}
+use Rattle.hsm_types.specs.declared.regions.Kind.TheVariants.{Read, Write, Truncate, NoSpace, User}
+use Rattle.hsm_types.specs.declared.dm.DmRefusal.{DmRefusal}
+use Rattle.hsm_types.specs.declared.dm.DmRefusal.TheVariants.{TooMany, BadRegion}
+
+-- all three numbers are the same
+abbrev pub same_region : Region → Region → Bool
+same_region = eq_of_both (on (λ r. r.offset) nat_eq) (eq_of_both (on (λ r. r.size) nat_eq) (on (λ r. r.flags) nat_eq))
+
+-- ---- which lists a file may have
+
+-- the region starts where the one before it has ended. One of size 0 never ends
+abbrev pub is_behind : Option Region → Region → Bool
+is_behind None r = true
+is_behind (Some before) r = not (before.size == 0) && nat_le (before.offset + before.size) r.offset
+
+-- flags are from 0 to 7, the region ends within the limit of a file, and it is behind the one before it
+abbrev pub is_region : Option Region → Region → Bool
+is_region before r = nat_le r.flags 7 && nat_le (r.offset + r.size) 16777216 && is_behind before r
+
+-- the index of the first that is bad behind the one before it, counted on from `index`
+abbrev pub first_bad : ℕ → Option Region → List Region → Option ℕ
+first_bad index before [] = None
+first_bad index before (r ∷ rs) = if is_region before r then first_bad (index + 1) (Some r) rs else Some index
+
+abbrev pub too_many_regions : List Region → Option DmRefusal
+too_many_regions rs = if nat_le (length rs) 4 then None else Some (TooMany (length rs))
+
+abbrev pub bad_region : Option ℕ → Option DmRefusal
+bad_region None = None
+bad_region (Some index) = Some (BadRegion index)
+
+-- what refuses a list, in the order of judgement
+abbrev pub regions_refusal : List Region → Option DmRefusal
+regions_refusal rs = first_refusal (too_many_regions rs ∷ bad_region (first_bad 0 None rs) ∷ [])
+
+-- ---- what touches a region
+
+-- the bytes from the offset on, so many of them, meet the region
+abbrev pub meets : ℕ → ℕ → Region → Bool
+meets offset len r = nat_lt 0 len && nat_lt r.offset (offset + len) && (r.size == 0 || nat_lt offset (r.offset + r.size))
+
+-- the region has the flag of such accesses
+abbrev pub is_flagged : Kind → Region → Bool
+is_flagged Read r = r.flags % 2 == 1
+is_flagged Write r = r.flags / 2 % 2 == 1
+is_flagged Truncate r = r.flags / 4 % 2 == 1
+is_flagged NoSpace r = false
+is_flagged User r = false
+
+-- an access with that reach touches a region with its flag
+abbrev pub touches : List Region → Range → Kind → Bool
+touches rs reach kind = list_any (λ r. is_flagged kind r && meets reach.offset reach.len r) rs
+
+-- the region has all three flags, and contains the whole range of the segment, also past the file's end
+abbrev pub contains : ℕ → Region → Bool
+contains segment r = (r.flags == 7) && nat_le r.offset (65536 * segment) && (r.size == 0 || nat_le (65536 * segment + 65536) (r.offset + r.size))
+
+-- one region covers the segment
+abbrev pub covers : List Region → ℕ → Bool
+covers rs segment = list_any (contains segment) rs
