@@ -5,12 +5,16 @@ use Rattle.std.specs.Prelude.{ℕ, length, ◌+◌, ◌-◌, ◌==◌, ◌&&◌,
 use Rattle.hsm_types.specs.Names.{is_name}
 use Rattle.hsm_types.specs.Refusals.{first_refusal}
 use Rattle.hsm_types.specs.Sessions.{SessionTable, info_of, no_session, bad_info, too_many_sessions, creation_refusal}
+use Rattle.hsm_types.specs.Attributes.{Attributes, is_reserved, reserved, too_big_value, too_many_bytes, bytes_of_attributes, with_value, value_of, setting_refusal, no_attribute}
+use Rattle.hsm_types.specs.Regions.{first_bad, too_many_regions, bad_region, regions_refusal}
+use Rattle.hsm_types.specs.declared.attributes.AttrName.{AttrName}
 use Rattle.hsm_types.specs.declared.keys.FileKey.{FileKey}
+use Rattle.hsm_types.specs.declared.regions.Region.{Region}
 use Rattle.hsm_types.specs.declared.keys.Handle.{Handle}
 use Rattle.hsm_types.specs.declared.keys.Sid.{Sid}
 use Rattle.hsm_types.specs.declared.keys.Token.{Token}
 use Rattle.hsm_types.specs.declared.dm.DmCall.{DmCall}
-use Rattle.hsm_types.specs.declared.dm.DmCall.TheVariants.{CreateSession, GetAllSessions, QuerySession, GetFileAttr, PathToHandle, GetSpace}
+use Rattle.hsm_types.specs.declared.dm.DmCall.TheVariants.{CreateSession, GetAllSessions, QuerySession, GetFileAttr, SetRegion, GetRegion, SetDmAttr, GetDmAttr, RemoveDmAttr, GetAllDmAttr, PathToHandle, GetSpace}
 use Rattle.hsm_types.specs.declared.dm.DmRefusal.{DmRefusal}
 use Rattle.hsm_types.specs.declared.dm.DmReply.TheVariants as told
 use Rattle.hsm_types.specs.declared.stores.Superblock.{Superblock}
@@ -27,7 +31,7 @@ use Rattle.plain_model.specs.Faults.{is_fault, FaultIsLast, has_fault}
 use Rattle.plain_model.specs.Blocks.{touched}
 use Rattle.plain_model.specs.State.{FileState, Held, names_of, bytes_of, key_named, used, name_meant, space_refusal, judged, done_reply, reply_where, reply_to}
 use Rattle.plain_model.specs.States.{State}
-use Rattle.plain_model.specs.Services.{needs_session, token_in, handle_in, dead_session, bad_token, is_live, bad_handle, own_refusal, dm_judged, dm_done_reply, dm_reply_where, dm_reply_to}
+use Rattle.plain_model.specs.Services.{needs_session, token_in, handle_in, dead_session, bad_token, is_live, bad_handle, attributes_of, other_attributes, own_refusal, dm_judged, dm_done_reply, dm_reply_where, dm_reply_to}
 
 -- what refuses a call of its kind, if anything, is no fault
 module _ {R : Type 0} (refused : R → Answer) where
@@ -137,19 +141,48 @@ usual_handle : (s : Superblock) (files : List FileState) (handle : Option Handle
 usual_handle s files None = tt
 usual_handle s files (Some h) = ordinary_if of_dm (is_live s files h) _ _ tt refl
 
-usual_own : (files : List FileState) (t : SessionTable) (call : DmCall) → Usual (own_refusal files t call)
-usual_own files t (CreateSession old info) = usual_creation old info t
-usual_own files t GetAllSessions = tt
-usual_own files t (QuerySession target) = ordinary_if of_dm (is_some (info_of target t)) _ _ tt refl
-usual_own files t (GetFileAttr token handle) = tt
-usual_own files t (PathToHandle name) = ordinary_if of_dm (is_some (named name (names_of files))) _ _ tt refl
-usual_own files t GetSpace = tt
+usual_regions : (rs : List Region) → Usual (regions_refusal rs)
+usual_regions rs =
+    ordinary_first of_dm (too_many_regions rs) _ (ordinary_if of_dm (nat_le (length rs) 4) _ _ tt refl)
+    (ordinary_first of_dm (bad_region (first_bad 0 None rs)) _ (at (first_bad 0 None rs)) tt)
+  where
+    at : (index : Option ℕ) → Usual (bad_region index)
+    at None = tt
+    at (Some index) = refl
+
+usual_reserved : (name : AttrName) → Usual (reserved name)
+usual_reserved name = ordinary_if of_dm (is_reserved name) _ _ refl tt
+
+usual_setting : (name : AttrName) (value : List ℕ) (others limit : ℕ) (attrs : Attributes) → Usual (setting_refusal name value others limit attrs)
+usual_setting name value others limit attrs =
+    let sum : ℕ = others + bytes_of_attributes (with_value name value attrs) in
+    ordinary_first of_dm (reserved name) _ (usual_reserved name)
+    (ordinary_first of_dm (too_big_value value) _ (ordinary_if of_dm (nat_le (length value) 4096) _ _ tt refl)
+    (ordinary_first of_dm (too_many_bytes limit sum) _ (ordinary_if of_dm (nat_le sum limit) _ _ tt refl) tt))
+
+usual_absent : (name : AttrName) (attrs : Attributes) → Usual (no_attribute name attrs)
+usual_absent name attrs = ordinary_if of_dm (is_some (value_of name attrs)) _ _ tt refl
+
+usual_own : (s : Superblock) (files : List FileState) (t : SessionTable) (call : DmCall) → Usual (own_refusal s files t call)
+usual_own s files t (CreateSession old info) = usual_creation old info t
+usual_own s files t GetAllSessions = tt
+usual_own s files t (QuerySession target) = ordinary_if of_dm (is_some (info_of target t)) _ _ tt refl
+usual_own s files t (GetFileAttr token handle) = tt
+usual_own s files t (SetRegion token handle regions) = usual_regions regions
+usual_own s files t (GetRegion token handle) = tt
+usual_own s files t (SetDmAttr token handle name value) = usual_setting name value (other_attributes handle.key files) s.geometry.attributes (attributes_of handle.key files)
+usual_own s files t (GetDmAttr token handle name) = usual_absent name (attributes_of handle.key files)
+usual_own s files t (RemoveDmAttr token handle name) =
+    ordinary_first of_dm (reserved name) _ (usual_reserved name) (ordinary_first of_dm (no_attribute name (attributes_of handle.key files)) _ (usual_absent name (attributes_of handle.key files)) tt)
+usual_own s files t (GetAllDmAttr token handle) = tt
+usual_own s files t (PathToHandle name) = ordinary_if of_dm (is_some (named name (names_of files))) _ _ tt refl
+usual_own s files t GetSpace = tt
 
 usual_judged : (s : Superblock) (files : List FileState) (t : SessionTable) (sid : Sid) (call : DmCall) → Usual (dm_judged s files t sid call)
 usual_judged s files t sid call =
     ordinary_first of_dm (dead_session t sid call) _ (ordinary_if of_dm (needs_session call && not (is_some (info_of sid t))) _ _ refl tt)
     (ordinary_first of_dm (bad_token (token_in call)) _ (usual_token (token_in call))
-    (ordinary_first of_dm (bad_handle s files (handle_in call)) _ (usual_handle s files (handle_in call)) (ordinary_first of_dm (own_refusal files t call) _ (usual_own files t call) tt)))
+    (ordinary_first of_dm (bad_handle s files (handle_in call)) _ (usual_handle s files (handle_in call)) (ordinary_first of_dm (own_refusal s files t call) _ (usual_own s files t call) tt)))
 
 module _ (s : Superblock) (files : List FileState) (stamps : FileKey → ℕ) (t : SessionTable) where
   faultless_told : (call : DmCall) → is_fault (Told (dm_done_reply s files stamps t call)) ≡ false
@@ -157,6 +190,12 @@ module _ (s : Superblock) (files : List FileState) (stamps : FileKey → ℕ) (t
   faultless_told GetAllSessions = refl
   faultless_told (QuerySession target) = refl
   faultless_told (GetFileAttr token handle) = refl
+  faultless_told (SetRegion token handle regions) = refl
+  faultless_told (GetRegion token handle) = refl
+  faultless_told (SetDmAttr token handle name value) = refl
+  faultless_told (GetDmAttr token handle name) = refl
+  faultless_told (RemoveDmAttr token handle name) = refl
+  faultless_told (GetAllDmAttr token handle) = refl
   faultless_told (PathToHandle name) = refl
   faultless_told GetSpace = refl
 

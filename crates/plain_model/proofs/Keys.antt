@@ -1,5 +1,5 @@
 -- Two lists of files that stand for each other item by item, as files are found, changed and put.
-use Rattle.std.proofs.Common.{◌≡◌, List, [], ◌∷◌, Bool, true, false, refl, ap}
+use Rattle.std.proofs.Common.{◌≡◌, List, [], ◌∷◌, Bool, true, false, refl, ◌∙◌, ap}
 use Rattle.std.specs.Prelude.{nat_lt, if◌then◌else◌}
 use Rattle.hsm_types.specs.declared.keys.FileKey.{FileKey}
 use Rattle.plain_model.specs.Keyed.{same_key, change_key, put_key, drop_key}
@@ -33,3 +33,16 @@ drop_key-stands k [] [] h = tt
 drop_key-stands k (x ∷ fs) (y ∷ gs) h = stands_if (same_key x.key k) (same_key y.key k) _ _ _ _ (ap (λ j. same_key j k) h.0.0) h.1 (h.0, drop_key-stands k fs gs h.1)
 drop_key-stands k [] (y ∷ gs) h = absurd h
 drop_key-stands k (x ∷ fs) [] h = absurd h
+
+left_if : (b : Bool) (fs fs' : List FileState) (gs : List File) → Stands fs gs → Stands fs' gs → Stands (if b then fs else fs') gs
+left_if true fs fs' gs here there = here
+left_if false fs fs' gs here there = there
+
+-- a change of what a plain map doesn't know
+pub beside_stands : (k : FileKey) (to : FileState → FileState) (fs : List FileState) (gs : List File) → ((f : FileState) → ((to f).key ≡ f.key) × ((to f).name ≡ f.name) × ((to f).body ≡ f.body))
+    → Stands fs gs → Stands (change_key (λ x. x.key) k to fs) gs
+beside_stands k to [] [] same h = tt
+beside_stands k to (x ∷ fs) (y ∷ gs) same h =
+    left_if (same_key x.key k) _ _ (y ∷ gs) (((same x).0 ∙ h.0.0, (same x).1 ∙ h.0.1, (same x).2 ∙ h.0.2), h.1) (h.0, beside_stands k to fs gs same h.1)
+beside_stands k to [] (y ∷ gs) same h = absurd h
+beside_stands k to (x ∷ fs) [] same h = absurd h

@@ -1,9 +1,12 @@
 -- Words of a list, each with a space in front.
-use Rattle.std.proofs.Common.{◌≡◌, ℕ, ◌<◌, List, [], ◌∷◌, ◌++◌, length, map, refl, ap, arith, rules}
+use Rattle.std.proofs.Common.{◌≡◌, ℕ, ◌<◌, List, [], ◌∷◌, ◌++◌, length, map, refl, sym, ◌∙◌, ap, append_assoc, arith, rules}
 use Rattle.std.specs.List.{flat_map}
+use Rattle.std.specs.Prelude.{Result, Ok, Err, OnOk}
 use Rattle.std.specs.Fmt.{decimal}
+use Rattle.hsm_types.specs.declared.attributes.AttrName.{AttrName}
 use Rattle.hsm_types.specs.declared.keys.Sid.{Sid}
-use Rattle.plain_model.specs.Render.{spaced, listed}
+use Rattle.hsm_types.specs.declared.regions.Region.{Region}
+use Rattle.plain_model.specs.Render.{spaced, listed, name_word, region_word, regions_word}
 
 each_spaced : (sid : Sid) (sids : List Sid) → flat_map (λ (s : Sid). 32 ∷ decimal s.0) (sid ∷ sids) ≡ 32 ∷ spaced (map (λ (s : Sid). decimal s.0) (sid ∷ sids))
 each_spaced sid [] = search rules
@@ -12,3 +15,29 @@ each_spaced sid (next ∷ sids) = ap (λ l. 32 ∷ decimal sid.0 ++ l) (each_spa
 pub ids_spaced : (sids : List Sid) → 0 < length sids → flat_map (λ (s : Sid). 32 ∷ decimal s.0) sids ≡ 32 ∷ spaced (listed (map (λ (s : Sid). decimal s.0) sids))
 ids_spaced [] some = absurd (omega arith)
 ids_spaced (sid ∷ sids) some = each_spaced sid sids
+
+each_name_spaced : (name : AttrName) (names : List AttrName) → flat_map (λ (n : AttrName). 32 ∷ name_word n) (name ∷ names) ≡ 32 ∷ spaced (map name_word (name ∷ names))
+each_name_spaced name [] = search rules
+each_name_spaced name (next ∷ names) = ap (λ l. 32 ∷ name_word name ++ l) (each_name_spaced next names)
+
+pub names_spaced : (names : List AttrName) → 0 < length names → flat_map (λ (n : AttrName). 32 ∷ name_word n) names ≡ 32 ∷ spaced (listed (map name_word names))
+names_spaced [] some = absurd (omega arith)
+names_spaced (name ∷ names) some = each_name_spaced name names
+
+-- one word more
+word_more : (w : List ℕ) (ws : List (List ℕ)) (e : List ℕ) → spaced (w ∷ ws ++ e ∷ []) ≡ spaced (w ∷ ws) ++ 32 ∷ e
+word_more w [] e = refl
+word_more w (x ∷ ws) e = ap (λ l. w ++ 32 ∷ l) (word_more x ws e) ∙ sym (append_assoc w (32 ∷ spaced (x ∷ ws)) (32 ∷ e))
+
+pub one_more : (a b c d e : List ℕ) → spaced (a ∷ b ∷ c ∷ d ∷ e ∷ []) ≡ spaced (a ∷ b ∷ c ∷ d ∷ []) ++ 32 ∷ e
+one_more a b c d e = word_more a (b ∷ c ∷ d ∷ []) e
+
+-- regions with a comma between each two are the first one, and then each other with a comma in front
+pub regions_joined : (r : Region) (rs : List Region) → region_word r ++ flat_map (λ (x : Region). 44 ∷ region_word x) rs ≡ regions_word (r ∷ rs)
+regions_joined r [] = search rules
+regions_joined r (next ∷ rs) = ap (λ l. region_word r ++ 44 ∷ l) (regions_joined next rs)
+
+-- what follows on success
+pub on_ok : {T E P Q : Type 0} (r : Result T E) → (P → Q) → OnOk r P → OnOk r Q
+on_ok (Ok x) f p = f p
+on_ok (Err e) f p = tt

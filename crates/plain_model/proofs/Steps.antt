@@ -7,7 +7,7 @@ use Rattle.hsm_types.specs.declared.keys.FileKey.{FileKey}
 use Rattle.hsm_types.specs.declared.keys.Sid.{Sid}
 use Rattle.hsm_types.specs.declared.stores.Superblock.{Superblock}
 use Rattle.hsm_types.specs.declared.dm.DmCall.{DmCall}
-use Rattle.hsm_types.specs.declared.dm.DmCall.TheVariants.{CreateSession, GetAllSessions, QuerySession, GetFileAttr, PathToHandle, GetSpace}
+use Rattle.hsm_types.specs.declared.dm.DmCall.TheVariants.{CreateSession, GetAllSessions, QuerySession, GetFileAttr, SetRegion, GetRegion, SetDmAttr, GetDmAttr, RemoveDmAttr, GetAllDmAttr, PathToHandle, GetSpace}
 use Rattle.hsm_types.specs.declared.dm.DmRefusal.{DmRefusal}
 use Rattle.hsm_types.specs.declared.dm.DmRefusal.TheVariants.{NoObject}
 use Rattle.hsm_types.specs.declared.calls.Call.{Call}
@@ -21,19 +21,19 @@ use Rattle.plain_model.specs.declared.entries.Actor.TheVariants.{Caller, Session
 use Rattle.plain_model.specs.declared.entries.Action.{Action}
 use Rattle.plain_model.specs.declared.entries.Action.TheVariants.{Issue, Dm, Commit}
 use Rattle.plain_model.specs.declared.entries.Answer.{Answer}
-use Rattle.plain_model.specs.Plain.{File, listing, named, free_inode, greatest, refusal_of, key_or_none, read_at, written, resized}
+use Rattle.plain_model.specs.Plain.{File, listing, named, free_inode, refusal_of, key_or_none, read_at, written, resized}
 use Rattle.plain_model.specs.Step.{World, start, Completes, WantsSpace, IsOutcome, MayReply, replied, MayTell, MayGive, given, after}
 use Rattle.plain_model.specs.Legal.{Legal, After}
 use Rattle.plain_model.specs.Blocks.{touched}
 use Rattle.plain_model.specs.State.{FileState, Held, names_of, bytes_of, key_named, used, no_space, name_meant, space_refusal, done_reply, done_held, reply_where, held_where, reply_to, held_after}
 use Rattle.plain_model.specs.States.{State, just_opened}
-use Rattle.plain_model.specs.Services.{dead_session, bad_token, is_live, bad_handle, own_refusal, dm_judged, dm_done_reply, dm_reply_where}
+use Rattle.plain_model.specs.Services.{dead_session, bad_token, is_live, bad_handle, own_refusal, dm_judged, dm_done_reply, dm_reply_where, files_served, files_where}
 use Rattle.plain_model.specs.Stands.{Stands, StandsFor}
 use Rattle.plain_model.specs.Exact.{IsAnswer, left_by, Exact, state_by}
 use Rattle.plain_model.specs.Laws.{IsOpening, ExactIsLegal}
 use Rattle.plain_model.proofs.Faultless.{faultless_reply, faultless_dm_reply}
 use Rattle.plain_model.proofs.Histories.{call_held}
-use Rattle.plain_model.proofs.Keys.{put_key-stands, change_key-stands, drop_key-stands}
+use Rattle.plain_model.proofs.Keys.{put_key-stands, change_key-stands, drop_key-stands, beside_stands}
 use Rattle.plain_model.proofs.Standing.{names_of-stands, bytes_of-stands, found-stands}
 
 -- ---- a call that nothing refuses
@@ -153,6 +153,12 @@ module _ (s : Superblock) (st : State) (W : World) (sid : Sid) (stands : StandsF
   told_step GetAllSessions none = tt
   told_step (QuerySession target) none = tt
   told_step GetSpace none = tt
+  told_step (SetRegion token handle regions) none = tt
+  told_step (GetRegion token handle) none = tt
+  told_step (SetDmAttr token handle name value) none = tt
+  told_step (GetDmAttr token handle name) none = tt
+  told_step (RemoveDmAttr token handle name) none = tt
+  told_step (GetAllDmAttr token handle) none = tt
   told_step (GetFileAttr token handle) none =
       let past_session = none_first (dead_session st.sessions sid (GetFileAttr token handle)) (bad_token (Some token) ∷ bad_handle s files (Some handle) ∷ None ∷ []) none in
       let past_token = none_first (bad_token (Some token)) (bad_handle s files (Some handle) ∷ None ∷ []) past_session.1 in
@@ -162,9 +168,9 @@ module _ (s : Superblock) (st : State) (W : World) (sid : Sid) (stands : StandsF
         ap (λ b. length b) (bytes_of-stands handle.key files W.files stands.files),
       )
   told_step (PathToHandle name) none =
-      let own : List (Option DmRefusal) = own_refusal files st.sessions (PathToHandle name) ∷ [] in
+      let own : List (Option DmRefusal) = own_refusal s files st.sessions (PathToHandle name) ∷ [] in
       let past_session = none_first (dead_session st.sessions sid (PathToHandle name)) (None ∷ None ∷ own) none in
-      let past_own = none_first (own_refusal files st.sessions (PathToHandle name)) [] past_session.1 in
+      let past_own = none_first (own_refusal s files st.sessions (PathToHandle name)) [] past_session.1 in
       let found = passes (is_some (named name (names_of files))) NoObject past_own.0 in (
         ap (λ ls. is_some (named name ls)) (sym (names_of-stands files W.files stands.files)) ∙ found,
         ap (λ (k : FileKey). record { fsid = s.fsid; key = k }) (same_key_named st.held W stands name),
@@ -173,6 +179,25 @@ module _ (s : Superblock) (st : State) (W : World) (sid : Sid) (stands : StandsF
   told_where : (call : DmCall) (why : Option DmRefusal) → dm_judged s files st.sessions sid call ≡ why → MayTell s W call (dm_reply_where why s files st.stamps st.sessions call)
   told_where call None is = told_step call is
   told_where call (Some why) is = tt
+
+-- what a session's call changes of files isn't known to a plain map
+served_stands : (fs : List FileState) (gs : List File) (call : DmCall) → Stands fs gs → Stands (files_served fs call) gs
+served_stands fs gs (SetRegion token handle regions) st = beside_stands handle.key _ fs gs (λ f. (refl, refl, refl)) st
+served_stands fs gs (SetDmAttr token handle name value) st = beside_stands handle.key _ fs gs (λ f. (refl, refl, refl)) st
+served_stands fs gs (RemoveDmAttr token handle name) st = beside_stands handle.key _ fs gs (λ f. (refl, refl, refl)) st
+served_stands fs gs (CreateSession old info) st = st
+served_stands fs gs GetAllSessions st = st
+served_stands fs gs (QuerySession target) st = st
+served_stands fs gs (GetFileAttr token handle) st = st
+served_stands fs gs (GetRegion token handle) st = st
+served_stands fs gs (GetDmAttr token handle name) st = st
+served_stands fs gs (GetAllDmAttr token handle) st = st
+served_stands fs gs (PathToHandle name) st = st
+served_stands fs gs GetSpace st = st
+
+where_stands : (fs : List FileState) (gs : List File) (call : DmCall) (why : Option DmRefusal) → Stands fs gs → Stands (files_where why fs call) gs
+where_stands fs gs call None st = served_stands fs gs call st
+where_stands fs gs call (Some why) st = st
 
 -- ---- any event
 
@@ -184,7 +209,10 @@ event_step s st W (Caller c) (Issue call) answer stands (inr is) =
     rw (is, faultless_reply s st.held call, call_held s st call) (inr at.0, at.1)
 event_step s st W (Session sid) (Dm call) answer stands (inl is) = rw is (inl (tt, refl), stands)
 event_step s st W (Session sid) (Dm call) answer stands (inr is) =
-    rw (is, faultless_dm_reply s st sid call) (inr (told_where s st W sid stands call (dm_judged s st.held.files st.sessions sid call) refl), stands)
+    rw (is, faultless_dm_reply s st sid call) (
+      inr (told_where s st W sid stands call (dm_judged s st.held.files st.sessions sid call) refl),
+      record { files = where_stands st.held.files W.files call (dm_judged s st.held.files st.sessions sid call) stands.files; newer = stands.newer },
+    )
 event_step s st W Store Commit answer stands (inl is) = rw is (inl (tt, refl), stands)
 event_step s st W Store Commit answer stands (inr is) = rw is (inr refl, stands)
 event_step s st W (Caller c) (Dm call) answer stands is = absurd is

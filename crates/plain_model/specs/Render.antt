@@ -11,12 +11,14 @@ use Rattle.hsm_types.specs.declared.calls.CallRefusal.TheVariants.{Missing, Exis
 use Rattle.hsm_types.specs.declared.calls.Reply.{Reply}
 use Rattle.hsm_types.specs.declared.calls.Reply.TheVariants.{Done, Made, Data, Size, Refused}
 use Rattle.hsm_types.specs.declared.dm.DmCall.{DmCall}
-use Rattle.hsm_types.specs.declared.dm.DmCall.TheVariants.{CreateSession, GetAllSessions, QuerySession, GetFileAttr, PathToHandle, GetSpace}
+use Rattle.hsm_types.specs.declared.dm.DmCall.TheVariants.{CreateSession, GetAllSessions, QuerySession, GetFileAttr, SetRegion, GetRegion, SetDmAttr, GetDmAttr, RemoveDmAttr, GetAllDmAttr, PathToHandle, GetSpace}
 use Rattle.hsm_types.specs.declared.dm.DmRefusal.{DmRefusal}
 use Rattle.hsm_types.specs.declared.dm.DmRefusal.TheVariants as why
 use Rattle.hsm_types.specs.declared.dm.DmReply.{DmReply}
 use Rattle.hsm_types.specs.declared.dm.DmReply.TheVariants as told
+use Rattle.hsm_types.specs.declared.attributes.AttrName.{AttrName}
 use Rattle.hsm_types.specs.declared.keys.FileKey.{FileKey}
+use Rattle.hsm_types.specs.declared.regions.Region.{Region}
 use Rattle.hsm_types.specs.declared.keys.Handle.{Handle}
 use Rattle.plain_model.specs.declared.entries.Entry.{Entry}
 use Rattle.plain_model.specs.declared.entries.Actor.{Actor}
@@ -69,18 +71,36 @@ call_words word (Remove name) = codes "remove" ∷ name ∷ []
 call_words word (Stat name) = codes "stat" ∷ name ∷ []
 call_words word Sync = codes "sync" ∷ []
 
--- the words of a session's call, also in a script line
-abbrev pub dm_words : DmCall → List (List ℕ)
-dm_words (CreateSession old info) = codes "session" ∷ decimal old.0 ∷ info ∷ []
-dm_words GetAllSessions = codes "sessions" ∷ []
-dm_words (QuerySession target) = codes "query" ∷ decimal target.0 ∷ []
-dm_words (GetFileAttr token handle) = codes "fileattr" ∷ decimal token.0 ∷ handle_word handle ∷ []
-dm_words (PathToHandle name) = codes "handle" ∷ name ∷ []
-dm_words GetSpace = codes "space" ∷ []
+-- a region: its offset, its size and its flags
+abbrev pub region_word : Region → List ℕ
+region_word r = join_with_byte 58 (decimal r.offset ∷ decimal r.size ∷ decimal r.flags ∷ [])
+
+-- regions with a comma between each two, `-` for none
+abbrev pub regions_word : List Region → List ℕ
+regions_word [] = codes "-"
+regions_word (r ∷ rs) = join_with_byte 44 (map region_word (r ∷ rs))
+
+abbrev pub name_word : AttrName → List ℕ
+name_word name = encode_lower name.0
+
+-- the words of a session's call, its data as `word` writes data. A script line has the same words
+abbrev pub dm_words : (List ℕ → List ℕ) → DmCall → List (List ℕ)
+dm_words word (CreateSession old info) = codes "session" ∷ decimal old.0 ∷ info ∷ []
+dm_words word GetAllSessions = codes "sessions" ∷ []
+dm_words word (QuerySession target) = codes "query" ∷ decimal target.0 ∷ []
+dm_words word (GetFileAttr token handle) = codes "fileattr" ∷ decimal token.0 ∷ handle_word handle ∷ []
+dm_words word (SetRegion token handle regions) = codes "setregion" ∷ decimal token.0 ∷ handle_word handle ∷ regions_word regions ∷ []
+dm_words word (GetRegion token handle) = codes "getregion" ∷ decimal token.0 ∷ handle_word handle ∷ []
+dm_words word (SetDmAttr token handle name value) = codes "setattr" ∷ decimal token.0 ∷ handle_word handle ∷ name_word name ∷ word value ∷ []
+dm_words word (GetDmAttr token handle name) = codes "getattr" ∷ decimal token.0 ∷ handle_word handle ∷ name_word name ∷ []
+dm_words word (RemoveDmAttr token handle name) = codes "rmattr" ∷ decimal token.0 ∷ handle_word handle ∷ name_word name ∷ []
+dm_words word (GetAllDmAttr token handle) = codes "attrs" ∷ decimal token.0 ∷ handle_word handle ∷ []
+dm_words word (PathToHandle name) = codes "handle" ∷ name ∷ []
+dm_words word GetSpace = codes "space" ∷ []
 
 abbrev pub action_words : (List ℕ → List ℕ) → Action → List (List ℕ)
 action_words word (Issue call) = call_words word call
-action_words word (Dm call) = dm_words call
+action_words word (Dm call) = dm_words word call
 action_words word Commit = codes "commit" ∷ []
 
 abbrev pub refusal_words : CallRefusal → List (List ℕ)
@@ -105,15 +125,23 @@ abbrev pub dm_refusal_words : DmRefusal → List (List ℕ)
 dm_refusal_words why.NoSession = codes "NoSession" ∷ []
 dm_refusal_words why.NoToken = codes "NoToken" ∷ []
 dm_refusal_words why.NoObject = codes "NoObject" ∷ []
+dm_refusal_words (why.BadRegion index) = codes "BadRegion" ∷ decimal index ∷ []
+dm_refusal_words why.NoAttr = codes "NoAttr" ∷ []
+dm_refusal_words why.Reserved = codes "Reserved" ∷ []
+dm_refusal_words (why.AttrTooBig len) = codes "AttrTooBig" ∷ decimal len ∷ []
 dm_refusal_words (why.TooMany count) = codes "TooMany" ∷ decimal count ∷ []
 dm_refusal_words why.Disk = codes "Disk" ∷ []
 dm_refusal_words why.Memory = codes "Memory" ∷ []
 
 abbrev pub dm_reply_words : DmReply → List (List ℕ)
+dm_reply_words told.Done = codes "done" ∷ []
 dm_reply_words (told.Session sid) = codes "session" ∷ decimal sid.0 ∷ []
 dm_reply_words (told.Sids sids) = codes "sessions" ∷ listed (map (λ sid. decimal sid.0) sids)
 dm_reply_words (told.Info info) = codes "info" ∷ info ∷ []
 dm_reply_words (told.Attr size stamp blocks) = codes "attr" ∷ decimal size ∷ decimal stamp ∷ decimal blocks ∷ []
+dm_reply_words (told.Data bytes) = data_text bytes ∷ []
+dm_reply_words (told.Regions regions) = codes "regions" ∷ regions_word regions ∷ []
+dm_reply_words (told.Names names) = codes "attrs" ∷ listed (map name_word names)
 dm_reply_words (told.Handle handle) = codes "handle" ∷ handle_word handle ∷ []
 dm_reply_words (told.Space used total) = codes "space" ∷ decimal used ∷ decimal total ∷ []
 dm_reply_words (told.Refused why) = codes "refused" ∷ dm_refusal_words why

@@ -1,7 +1,9 @@
 -- What a store holds, as contracts see it, and its exact answers.
 use Rattle.std.specs.Prelude.{ℕ, ◌+◌, ◌-◌, List, [], ◌∷◌, length, map, sum_by, count_by, Bool, nat_lt, if◌then◌else◌, Option, Some, None}
 use Rattle.hsm_types.specs.Refusals.{first_refusal}
+use Rattle.hsm_types.specs.Attributes.{Attributes}
 use Rattle.hsm_types.specs.declared.keys.FileKey.{FileKey}
+use Rattle.hsm_types.specs.declared.regions.Region.{Region}
 use Rattle.hsm_types.specs.declared.stores.Superblock.{Superblock}
 use Rattle.hsm_types.specs.declared.calls.Call.{Call}
 use Rattle.hsm_types.specs.declared.calls.Call.TheVariants.{Create, Read, Write, Truncate, Remove, Stat, Sync}
@@ -13,12 +15,14 @@ use Rattle.plain_model.specs.Keyed.{find_key, change_key, put_key, drop_key}
 use Rattle.plain_model.specs.Plain.{Listed, named, free_inode, refusal_of, key_or_none, read_at, written, resized}
 use Rattle.plain_model.specs.Blocks.{touched, mapped_after}
 
--- a file as the store holds it: its bytes, and for each of its blocks whether it is mapped
+-- a file as the store holds it: its bytes, for each of its blocks whether it is mapped, and what sessions keep with it
 pub record FileState : Type 0 where
   pub key : FileKey
   pub name : List ℕ
   pub body : List ℕ
   pub mapped : List Bool
+  pub regions : List Region
+  pub attributes : Attributes
 
 -- what a store holds: its files in the order of their inodes, and the generation that the next create gives
 pub record Held : Type 0 where
@@ -97,7 +101,7 @@ done_reply h Sync = Done
 
 -- what is held after such a call
 abbrev pub done_held : Held → Call → Held
-done_held h (Create name) = record { files = put_key (λ f. f.key) (record { key = next_key h; name = name; body = []; mapped = [] }) h.files; next = h.next + 1 }
+done_held h (Create name) = record { files = put_key (λ f. f.key) (record { key = next_key h; name = name; body = []; mapped = []; regions = []; attributes = [] }) h.files; next = h.next + 1 }
 done_held h (Read name offset len) = h
 done_held h (Write name offset bytes) = record h { files = change_key (λ f. f.key) (key_named name h.files) (rewritten (written offset bytes) (Write name offset bytes)) h.files }
 done_held h (Truncate name size) = record h { files = change_key (λ f. f.key) (key_named name h.files) (rewritten (resized size) (Truncate name size)) h.files }

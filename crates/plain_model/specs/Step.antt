@@ -8,7 +8,7 @@ use Rattle.hsm_types.specs.declared.calls.CallRefusal.TheVariants.{NoSpace}
 use Rattle.hsm_types.specs.declared.calls.Reply.{Reply}
 use Rattle.hsm_types.specs.declared.calls.Reply.TheVariants.{Done, Made, Data, Size, Refused}
 use Rattle.hsm_types.specs.declared.dm.DmCall.{DmCall}
-use Rattle.hsm_types.specs.declared.dm.DmCall.TheVariants.{CreateSession, GetAllSessions, QuerySession, GetFileAttr, PathToHandle, GetSpace}
+use Rattle.hsm_types.specs.declared.dm.DmCall.TheVariants.{CreateSession, GetAllSessions, QuerySession, GetFileAttr, SetRegion, GetRegion, SetDmAttr, GetDmAttr, RemoveDmAttr, GetAllDmAttr, PathToHandle, GetSpace}
 use Rattle.hsm_types.specs.declared.dm.DmReply.{DmReply}
 use Rattle.hsm_types.specs.declared.dm.DmReply.TheVariants as told
 use Rattle.plain_model.specs.declared.entries.Entry.{Entry}
@@ -85,6 +85,12 @@ MayTell s W (QuerySession target) (told.Info info) = Unit {0}
 MayTell s W (GetFileAttr token handle) (told.Attr size stamp blocks) = IsTrue (is_some (find_key (λ f. f.key) handle.key W.files)) × (size ≡ length (body_of handle.key W.files))
 MayTell s W (PathToHandle name) (told.Handle handle) = IsTrue (is_some (named name (listing W.files))) × (handle ≡ record { fsid = s.fsid; key = key_or_none (named name (listing W.files)) })
 MayTell s W GetSpace (told.Space used total) = Unit {0}
+MayTell s W (SetRegion token handle regions) told.Done = Unit {0}
+MayTell s W (GetRegion token handle) (told.Regions regions) = Unit {0}
+MayTell s W (SetDmAttr token handle name value) told.Done = Unit {0}
+MayTell s W (GetDmAttr token handle name) (told.Data value) = Unit {0}
+MayTell s W (RemoveDmAttr token handle name) told.Done = Unit {0}
+MayTell s W (GetAllDmAttr token handle) (told.Names names) = Unit {0}
 MayTell s W call reply = ⊥
 
 -- the answer is of the actor's and the action's kind, and may come

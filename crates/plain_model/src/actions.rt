@@ -1,10 +1,13 @@
 //! The text of what events ask.
-ghost use Rattle.std.specs.Prelude.{◌≡◌, ◌++◌, OnOk, List, ℕ};
-ghost use Rattle.plain_model.specs.Render.{spaced, actor_word, call_words, dm_words, action_words, event_text};
+ghost use Rattle.std.specs.Prelude.{◌≡◌, ◌∷◌, ◌++◌, [], OnOk, List, ℕ, codes};
+ghost use Rattle.std.specs.Fmt.{decimal};
+ghost use Rattle.plain_model.specs.Render.{spaced, handle_word, name_word, actor_word, call_words, dm_words, action_words, event_text};
 
 use crate::entries::{Action, Actor};
-use crate::pieces::{push, push_field, push_handle, push_named, push_number};
-use hsm_types::{Call, DmCall};
+use crate::pieces::{
+    push, push_field, push_handle, push_name, push_named, push_number, push_regions,
+};
+use hsm_types::{AttrName, Bytes, Call, DmCall, Handle, Token};
 use std::alloc::{AllocError, Global};
 
 /// How the data of an event are written.
@@ -58,7 +61,7 @@ fn push_action<S: Spelling>(
 {
     match action {
         Action::Issue(call) => push_call(alloc, out, call, spelling),
-        Action::Dm(call) => push_dm(alloc, out, call),
+        Action::Dm(call) => push_dm(alloc, out, call, spelling),
         Action::Commit => push(out, b"commit"),
     }
 }
@@ -94,8 +97,13 @@ fn push_call<S: Spelling>(
     }
 }
 
-fn push_dm(alloc: Global, out: &mut Vec<u8>, call: &DmCall) -> Result<(), AllocError>
-    ensures { OnOk result (out.new.items ≡ out.old.items ++ spaced (dm_words call.now)) }
+fn push_dm<S: Spelling>(
+    alloc: Global,
+    out: &mut Vec<u8>,
+    call: &DmCall,
+    spelling: &S,
+) -> Result<(), AllocError>
+    ensures { OnOk result (out.new.items ≡ out.old.items ++ spaced (dm_words (S.word spelling.now) call.now)) }
 {
     match call {
         DmCall::CreateSession { old, info } => {
@@ -109,12 +117,90 @@ fn push_dm(alloc: Global, out: &mut Vec<u8>, call: &DmCall) -> Result<(), AllocE
             push_field(alloc, out, target.0)
         }
         DmCall::GetFileAttr { token, handle } => {
-            push(out, b"fileattr")?;
-            push_field(alloc, out, token.0)?;
+            push_on_file(alloc, out, b"fileattr", *token, *handle)
+        }
+        DmCall::SetRegion {
+            token,
+            handle,
+            regions,
+        } => {
+            push_on_file(alloc, out, b"setregion", *token, *handle)?;
             push(out, b" ")?;
-            push_handle(alloc, out, *handle)
+            push_regions(alloc, out, regions)
+        }
+        DmCall::GetRegion { token, handle } => {
+            push_on_file(alloc, out, b"getregion", *token, *handle)
+        }
+        DmCall::SetDmAttr {
+            token,
+            handle,
+            name,
+            value,
+        } => push_setting(alloc, out, *token, *handle, *name, value, spelling),
+        DmCall::GetDmAttr {
+            token,
+            handle,
+            name,
+        } => push_on_attribute(alloc, out, b"getattr", *token, *handle, *name),
+        DmCall::RemoveDmAttr {
+            token,
+            handle,
+            name,
+        } => push_on_attribute(alloc, out, b"rmattr", *token, *handle, *name),
+        DmCall::GetAllDmAttr { token, handle } => {
+            push_on_file(alloc, out, b"attrs", *token, *handle)
         }
         DmCall::PathToHandle { name } => push_named(out, b"handle ", name),
         DmCall::GetSpace => push(out, b"space"),
     }
+}
+
+/// A verb, a token and a handle.
+fn push_on_file(
+    alloc: Global,
+    out: &mut Vec<u8>,
+    verb: &[u8],
+    token: Token,
+    handle: Handle,
+) -> Result<(), AllocError>
+    ensures { OnOk result (out.new.items ≡ out.old.items ++ spaced (verb.now ∷ decimal token.0 ∷ handle_word handle ∷ [])) }
+{
+    push(out, verb)?;
+    push_field(alloc, out, token.0)?;
+    push(out, b" ")?;
+    push_handle(alloc, out, handle)
+}
+
+/// A verb, a token, a handle and a name.
+fn push_on_attribute(
+    alloc: Global,
+    out: &mut Vec<u8>,
+    verb: &[u8],
+    token: Token,
+    handle: Handle,
+    name: AttrName,
+) -> Result<(), AllocError>
+    ensures { OnOk result (out.new.items ≡ out.old.items ++ spaced (verb.now ∷ decimal token.0 ∷ handle_word handle ∷ name_word name ∷ [])) }
+{
+    push_on_file(alloc, out, verb, token, handle)?;
+    push(out, b" ")?;
+    push_name(alloc, out, name)
+}
+
+/// The setting of an attribute.
+#[tactic(auto, using(crate::proofs::Listing::one_more))]
+fn push_setting<S: Spelling>(
+    alloc: Global,
+    out: &mut Vec<u8>,
+    token: Token,
+    handle: Handle,
+    name: AttrName,
+    value: &Bytes,
+    spelling: &S,
+) -> Result<(), AllocError>
+    ensures { OnOk result (out.new.items ≡ out.old.items ++ spaced (codes "setattr" ∷ decimal token.0 ∷ handle_word handle ∷ name_word name ∷ S.word spelling.now value.now ∷ [])) }
+{
+    push_on_attribute(alloc, out, b"setattr", token, handle, name)?;
+    push(out, b" ")?;
+    spelling.push_data(alloc, out, value.as_slice())
 }

@@ -2,12 +2,12 @@
 ghost use Rattle.std.specs.Prelude.{◌≡◌, ◌++◌, OnOk, ◌∷◌, map};
 ghost use Rattle.std.specs.Fmt.{decimal};
 ghost use Rattle.std.specs.List.{flat_map};
-ghost use Rattle.plain_model.specs.Render.{spaced, listed, refusal_words, reply_words, dm_refusal_words, dm_reply_words, answer_words};
+ghost use Rattle.plain_model.specs.Render.{spaced, listed, name_word, refusal_words, reply_words, dm_refusal_words, dm_reply_words, answer_words};
 
 use crate::entries::Answer;
-use crate::pieces::{push, push_field, push_handle, push_key, push_named};
+use crate::pieces::{push, push_field, push_handle, push_key, push_name, push_named, push_regions};
 use crate::transcript::push_data;
-use hsm_types::{CallRefusal, DmRefusal, DmReply, Reply, Sid, Sids};
+use hsm_types::{AttrName, CallRefusal, DmRefusal, DmReply, Names, Reply, Sid, Sids};
 use std::alloc::{AllocError, Global};
 
 pub(crate) fn push_answer(
@@ -77,6 +77,7 @@ fn push_dm_reply(alloc: Global, out: &mut Vec<u8>, reply: &DmReply) -> Result<()
     ensures { OnOk result (out.new.items ≡ out.old.items ++ spaced (dm_reply_words reply.now)) }
 {
     match reply {
+        DmReply::Done => push(out, b"done"),
         DmReply::Session(sid) => {
             push(out, b"session")?;
             push_field(alloc, out, sid.0)
@@ -95,6 +96,15 @@ fn push_dm_reply(alloc: Global, out: &mut Vec<u8>, reply: &DmReply) -> Result<()
             push_field(alloc, out, *size)?;
             push_field(alloc, out, *stamp)?;
             push_field(alloc, out, *blocks)
+        }
+        DmReply::Data(bytes) => push_data(alloc, out, bytes.as_slice()),
+        DmReply::Regions(regions) => {
+            push(out, b"regions ")?;
+            push_regions(alloc, out, regions)
+        }
+        DmReply::Names(names) => {
+            push(out, b"attrs")?;
+            push_names(alloc, out, names)
         }
         DmReply::Handle(handle) => {
             push(out, b"handle ")?;
@@ -133,6 +143,28 @@ fn push_ids(alloc: Global, out: &mut Vec<u8>, sids: &[Sid]) -> Result<(), AllocE
     Ok(())
 }
 
+/// A space and the names with a space between each two, `-` for none.
+#[tactic(auto, using(crate::proofs::Listing::names_spaced))]
+fn push_names(alloc: Global, out: &mut Vec<u8>, names: &Names) -> Result<(), AllocError>
+    ensures { OnOk result (out.new.items ≡ out.old.items ++ 32 ∷ spaced (listed (map name_word names.now))) }
+{
+    if names.as_slice().is_empty() {
+        return push(out, b" -");
+    }
+    push_each_name(alloc, out, names.as_slice())
+}
+
+/// Each name with a space in front.
+fn push_each_name(alloc: Global, out: &mut Vec<u8>, names: &[AttrName]) -> Result<(), AllocError>
+    ensures { OnOk result (out.new.items ≡ out.old.items ++ flat_map (λ name. 32 ∷ name_word name) names.now) }
+{
+    for name in names {
+        push(out, b" ")?;
+        push_name(alloc, out, *name)?;
+    }
+    Ok(())
+}
+
 fn push_dm_refusal(alloc: Global, out: &mut Vec<u8>, why: DmRefusal) -> Result<(), AllocError>
     ensures { OnOk result (out.new.items ≡ out.old.items ++ spaced (dm_refusal_words why)) }
 {
@@ -140,6 +172,16 @@ fn push_dm_refusal(alloc: Global, out: &mut Vec<u8>, why: DmRefusal) -> Result<(
         DmRefusal::NoSession => push(out, b"NoSession"),
         DmRefusal::NoToken => push(out, b"NoToken"),
         DmRefusal::NoObject => push(out, b"NoObject"),
+        DmRefusal::BadRegion { index } => {
+            push(out, b"BadRegion")?;
+            push_field(alloc, out, u64::from(index))
+        }
+        DmRefusal::NoAttr => push(out, b"NoAttr"),
+        DmRefusal::Reserved => push(out, b"Reserved"),
+        DmRefusal::AttrTooBig { len } => {
+            push(out, b"AttrTooBig")?;
+            push_field(alloc, out, len)
+        }
         DmRefusal::TooMany { count } => {
             push(out, b"TooMany")?;
             push_field(alloc, out, count)

@@ -2,9 +2,10 @@
 ghost use Rattle.std.specs.Prelude.{◌≡◌, ◌∷◌, ◌++◌, OnOk};
 ghost use Rattle.std.specs.Fmt.{decimal};
 ghost use Rattle.hex.specs.Hex.{encode_lower};
-ghost use Rattle.plain_model.specs.Render.{key_word, handle_word};
+ghost use Rattle.plain_model.specs.Render.{key_word, handle_word, name_word, region_word, regions_word};
+ghost use Rattle.std.specs.List.{flat_map};
 
-use hsm_types::{FileKey, Handle, Word};
+use hsm_types::{AttrName, FileKey, Handle, Region, Regions, Word};
 use std::alloc::{AllocError, Global};
 
 pub(crate) fn push(out: &mut Vec<u8>, bytes: &[u8]) -> Result<(), AllocError>
@@ -64,4 +65,50 @@ pub(crate) fn push_handle(
     push_number(alloc, out, handle.fsid)?;
     push(out, b".")?;
     push_key(alloc, out, handle.key)
+}
+
+/// A name of an attribute, as hex digits.
+pub(crate) fn push_name(alloc: Global, out: &mut Vec<u8>, name: AttrName) -> Result<(), AllocError>
+    ensures { OnOk result (out.new.items ≡ out.old.items ++ name_word name) }
+{
+    push_hex(alloc, out, &name.0)
+}
+
+/// Regions with a comma between each two, `-` for none.
+#[tactic(auto, using(crate::proofs::Listing::regions_joined))]
+pub(crate) fn push_regions(
+    alloc: Global,
+    out: &mut Vec<u8>,
+    regions: &Regions,
+) -> Result<(), AllocError>
+    ensures { OnOk result (out.new.items ≡ out.old.items ++ regions_word regions.now) }
+{
+    match regions.as_slice().split_first() {
+        None => push(out, b"-"),
+        Some((first, more)) => {
+            push_region(alloc, out, *first)?;
+            push_more_regions(alloc, out, more)
+        }
+    }
+}
+
+/// Each region with a comma in front.
+fn push_more_regions(alloc: Global, out: &mut Vec<u8>, regions: &[Region]) -> Result<(), AllocError>
+    ensures { OnOk result (out.new.items ≡ out.old.items ++ flat_map (λ r. 44 ∷ region_word r) regions.now) }
+{
+    for region in regions {
+        push(out, b",")?;
+        push_region(alloc, out, *region)?;
+    }
+    Ok(())
+}
+
+fn push_region(alloc: Global, out: &mut Vec<u8>, region: Region) -> Result<(), AllocError>
+    ensures { OnOk result (out.new.items ≡ out.old.items ++ region_word region) }
+{
+    push_number(alloc, out, region.offset)?;
+    push(out, b":")?;
+    push_number(alloc, out, region.size)?;
+    push(out, b":")?;
+    push_number(alloc, out, u64::from(region.flags))
 }
