@@ -1,0 +1,13 @@
+//! The managed regions of a file.
+#![tactic(auto)]
+
+mod lawful;
+mod laws;
+mod meeting;
+mod regions;
+#[cfg(test)]
+mod tests;
+
+pub use lawful::judge;
+pub use laws::lawful_stand_apart;
+pub use regions::ManagedRegions;

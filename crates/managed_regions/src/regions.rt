@@ -1,0 +1,72 @@
+//! The list of a file's regions.
+ghost use Rattle.std.specs.Prelude.{◌≡◌, [], None, Some, OnOk, OnErr, MatchResult};
+ghost use Rattle.hsm_types.specs.Regions.{regions_refusal, touches, covers};
+
+use crate::lawful::judge;
+use crate::meeting::{contains, is_flagged, meets};
+use hsm_types::{DmRefusal, Kind, Range, Regions};
+use std::alloc::Global;
+use std::marker::Model;
+
+/// The managed regions of one file, in order. Nothing refuses them.
+#[derive(Drop)]
+pub struct ManagedRegions {
+    regions: Regions,
+}
+
+impl Model for ManagedRegions {
+    ghost use Rattle.std.specs.Prelude.{◌≡◌, List, None};
+    ghost use Rattle.hsm_types.specs.declared.regions.Region.{Region};
+    ghost use Rattle.hsm_types.specs.Regions.{regions_refusal};
+
+    ghost Value = { List Region };
+
+    ghost view = { λ m. m.regions };
+
+    ghost invariant = { λ m. regions_refusal m.regions ≡ None };
+}
+
+impl ManagedRegions {
+    /// No region. It takes no memory.
+    pub fn new(alloc: Global) -> ManagedRegions
+        ensures { result ≡ [] }
+    {
+        ManagedRegions {
+            regions: Regions::from(Vec::new(alloc)),
+        }
+    }
+
+    /// Replaces the whole list. It takes no memory.
+    pub fn set(&mut self, regions: Regions) -> Result<(), DmRefusal>
+        ensures judged { MatchResult result (λ _. regions_refusal regions ≡ None) (λ why. regions_refusal regions ≡ Some why) }
+        ensures ok { OnOk result (self.new ≡ regions) }
+        ensures err { OnErr result (self.new ≡ self.old) }
+    {
+        judge(regions.as_slice())?;
+        self.regions = regions;
+        Ok(())
+    }
+
+    /// The regions in their order.
+    pub fn list(&self) -> &Regions
+        ensures { result.now ≡ self.now }
+    {
+        &self.regions
+    }
+
+    /// Whether an access of that kind and reach touches a region with its flag.
+    pub fn touches(&self, reach: Range, kind: Kind) -> bool
+        ensures { result ≡ touches self.now reach kind }
+    {
+        let regions = self.regions.as_slice();
+        regions.iter().any(|region| is_flagged(kind, *region) && meets(reach, *region))
+    }
+
+    /// Whether one region manages all accesses to the whole segment, also past the file's end.
+    pub fn covers(&self, segment: u32) -> bool
+        ensures { result ≡ covers self.now segment }
+    {
+        let regions = self.regions.as_slice();
+        regions.iter().any(|region| contains(segment, *region))
+    }
+}
