@@ -1,11 +1,14 @@
--- Lists of files after one more, one less and one changed: their names, their blocks, and what is true of each.
-use Rattle.std.proofs.Common.{◌≡◌, ℕ, ◌+◌, ◌≤◌, List, [], ◌∷◌, Bool, true, false, cond, ltb, refl, ap, arith}
+-- Lists of files after one more, one less and one changed: their names, their blocks, what their attributes count, and what is true of each.
+use Rattle.std.proofs.Common.{◌≡◌, ℕ, ◌+◌, ◌≤◌, List, [], ◌∷◌, ◌++◌, Option, Some, Bool, true, false, cond, ltb, refl, ap, arith}
 use Rattle.std.specs.List.{AllByRecursion}
+use Rattle.std.specs.Option.{IsSome}
 use Rattle.std.proofs.lemmas.Bool.{cond_both}
+use Rattle.std.proofs.lemmas.List.Sums.{sum_by-cons}
+use Rattle.hsm_types.specs.Attributes.{bytes_of_attributes}
 use Rattle.hsm_types.specs.declared.keys.FileKey.{FileKey}
-use Rattle.plain_model.specs.Keyed.{same_key, change_key, put_key, drop_key}
+use Rattle.plain_model.specs.Keyed.{same_key, find_key, change_key, put_key, drop_key}
 use Rattle.plain_model.specs.Plain.{Listed}
-use Rattle.meta_store.specs.Catalogs.{CatalogFile, names_of, present, blocks_of}
+use Rattle.meta_store.specs.Catalogs.{CatalogFile, names_of, present, blocks_of, attribute_total}
 use Rattle.meta_store.proofs.BlockUses.{uses, uses-append}
 
 -- the key and the name of a file
@@ -62,6 +65,91 @@ uses-change n more k to (f ∷ fs) most =
     cond_both (same_key f.key k) (to f ∷ fs) (f ∷ change_key (λ x. x.key) k to fs) P
     (λ same. let changed = most f in let there = uses-append n (present (to f).places) (blocks_of fs) in omega arith)
     (λ other. let rest = uses-change n more k to fs most in let there = uses-append n (present f.places) (blocks_of (change_key (λ x. x.key) k to fs)) in omega arith)
+
+-- where the file keeps its places
+pub blocks-change : (k : FileKey) (to : CatalogFile → CatalogFile) (fs : List CatalogFile) → ((f : CatalogFile) → (to f).places ≡ f.places) → blocks_of (change_key (λ f. f.key) k to fs) ≡ blocks_of fs
+blocks-change k to [] same = refl
+blocks-change k to (f ∷ fs) same =
+    let P : List CatalogFile → Type 0 = λ r. blocks_of r ≡ present f.places ++ blocks_of fs in
+    cond_both (same_key f.key k) (to f ∷ fs) (f ∷ change_key (λ x. x.key) k to fs) P
+    (λ is. ap (λ (ps : List (Option ℕ)). present ps ++ blocks_of fs) (same f)) (λ other. ap (λ bs. present f.places ++ bs) (blocks-change k to fs same))
+
+-- ---- what their attributes count
+
+abbrev pub count_of : CatalogFile → ℕ
+count_of f = bytes_of_attributes f.attributes
+
+pub total-cons : (f : CatalogFile) (fs : List CatalogFile) → attribute_total (f ∷ fs) ≡ count_of f + attribute_total fs
+total-cons f fs = sum_by-cons count_of f fs
+
+pub total-put : (g : CatalogFile) (fs : List CatalogFile) → attribute_total (put_key (λ f. f.key) g fs) ≡ count_of g + attribute_total fs
+total-put g [] = total-cons g []
+total-put g (f ∷ fs) =
+    let here = total-cons f fs in
+    let P : List CatalogFile → Type 0 = λ r. attribute_total r ≡ count_of g + attribute_total (f ∷ fs) in
+    cond_both (ltb g.key.ino f.key.ino) (g ∷ f ∷ fs) (f ∷ put_key (λ x. x.key) g fs) P
+    (λ before. total-cons g (f ∷ fs))
+    (λ after. let rest = total-put g fs in let there = total-cons f (put_key (λ x. x.key) g fs) in omega arith)
+
+pub total-drop : (k : FileKey) (g : CatalogFile) (fs : List CatalogFile) → find_key (λ f. f.key) k fs ≡ Some g → attribute_total (drop_key (λ f. f.key) k fs) + count_of g ≡ attribute_total fs
+total-drop k g [] found = cc
+total-drop k g (f ∷ fs) found =
+    let here = total-cons f fs in
+    elim (same_key f.key k) as (λ b. cond b (Some f) (find_key (λ x. x.key) k fs) ≡ Some g → attribute_total (cond b fs (f ∷ drop_key (λ x. x.key) k fs)) + count_of g ≡ attribute_total (f ∷ fs)) [
+      | true ↦ λ is. let it : f ≡ g = cc in let same = ap count_of it in omega arith
+      | false ↦ λ is. let rest = total-drop k g fs is in let there = total-cons f (drop_key (λ x. x.key) k fs) in omega arith
+    ] found
+
+pub total-fewer : (k : FileKey) (fs : List CatalogFile) → attribute_total (drop_key (λ f. f.key) k fs) ≤ attribute_total fs
+total-fewer k [] = omega arith
+total-fewer k (f ∷ fs) =
+    let here = total-cons f fs in
+    let P : List CatalogFile → Type 0 = λ r. attribute_total r ≤ attribute_total (f ∷ fs) in
+    cond_both (same_key f.key k) fs (f ∷ drop_key (λ x. x.key) k fs) P
+    (λ same. omega arith)
+    (λ other. let rest = total-fewer k fs in let there = total-cons f (drop_key (λ x. x.key) k fs) in omega arith)
+
+pub total-change : (k : FileKey) (to : CatalogFile → CatalogFile) (g : CatalogFile) (fs : List CatalogFile) → find_key (λ f. f.key) k fs ≡ Some g → attribute_total (change_key (λ f. f.key) k to fs) + count_of g ≡ attribute_total fs + count_of (to g)
+total-change k to g [] found = cc
+total-change k to g (f ∷ fs) found =
+    let here = total-cons f fs in
+    elim (same_key f.key k) as (λ b. cond b (Some f) (find_key (λ x. x.key) k fs) ≡ Some g → attribute_total (cond b (to f ∷ fs) (f ∷ change_key (λ x. x.key) k to fs)) + count_of g ≡ attribute_total (f ∷ fs) + count_of (to g)) [
+      | true ↦ λ is.
+          let it : f ≡ g = cc in
+          let same = ap count_of it in
+          let changed = ap (λ (x : CatalogFile). count_of (to x)) it in
+          let there = total-cons (to f) fs in
+          omega arith
+      | false ↦ λ is. let rest = total-change k to g fs is in let there = total-cons f (change_key (λ x. x.key) k to fs) in omega arith
+    ] found
+
+-- where the file keeps its attributes
+pub total-same : (k : FileKey) (to : CatalogFile → CatalogFile) (fs : List CatalogFile) → ((f : CatalogFile) → (to f).attributes ≡ f.attributes) → attribute_total (change_key (λ f. f.key) k to fs) ≡ attribute_total fs
+total-same k to [] same = refl
+total-same k to (f ∷ fs) same =
+    let here = total-cons f fs in
+    let P : List CatalogFile → Type 0 = λ r. attribute_total r ≡ attribute_total (f ∷ fs) in
+    cond_both (same_key f.key k) (to f ∷ fs) (f ∷ change_key (λ x. x.key) k to fs) P
+    (λ is. let there = total-cons (to f) fs in let one = ap bytes_of_attributes (same f) in omega arith)
+    (λ other. let rest = total-same k to fs same in let there = total-cons f (change_key (λ x. x.key) k to fs) in omega arith)
+
+-- ---- a changed file keeps its key
+
+pub live-change : (k : FileKey) (to : CatalogFile → CatalogFile) (fs : List CatalogFile) → ((f : CatalogFile) → (to f).key ≡ f.key) → IsSome (find_key (λ f. f.key) k fs) → IsSome (find_key (λ f. f.key) k (change_key (λ f. f.key) k to fs))
+live-change k to [] keeps live = live
+live-change k to (f ∷ fs) keeps live =
+    elim (same_key f.key k) as (λ b. same_key f.key k ≡ b → IsSome (cond b (Some f) (find_key (λ x. x.key) k fs)) → IsSome (find_key (λ x. x.key) k (cond b (to f ∷ fs) (f ∷ change_key (λ x. x.key) k to fs)))) [
+      | true ↦ λ same is. rw (keeps f, same) refl
+      | false ↦ λ other is. rw other (live-change k to fs keeps is)
+    ] refl live
+
+pub drop-change : (k : FileKey) (to : CatalogFile → CatalogFile) (fs : List CatalogFile) → ((f : CatalogFile) → (to f).key ≡ f.key) → drop_key (λ f. f.key) k (change_key (λ f. f.key) k to fs) ≡ drop_key (λ f. f.key) k fs
+drop-change k to [] keeps = refl
+drop-change k to (f ∷ fs) keeps =
+    elim (same_key f.key k) as (λ b. same_key f.key k ≡ b → drop_key (λ x. x.key) k (cond b (to f ∷ fs) (f ∷ change_key (λ x. x.key) k to fs)) ≡ cond b fs (f ∷ drop_key (λ x. x.key) k fs)) [
+      | true ↦ λ same. rw (keeps f, same) refl
+      | false ↦ λ other. rw other (ap (λ (gs : List CatalogFile). f ∷ gs) (drop-change k to fs keeps))
+    ] refl
 
 -- ---- what is true of each
 

@@ -14,7 +14,7 @@ use Rattle.meta_store.proofs.SnapshotFits.{fits_of}
 use Rattle.meta_store.proofs.CommitTurns.{area_is, gate_is}
 
 IsCatalog-no_files : (geometry : ℕ) → geometry ≤ 1 → IsCatalog (no_files geometry)
-IsCatalog-no_files geometry known = record { known = known; first = omega arith; next = omega arith; table = record { ascend = tt; within = tt; differ = tt }; each = tt; distinct = tt }
+IsCatalog-no_files geometry known = record { known = known; first = omega arith; next = omega arith; table = record { ascend = tt; within = tt; differ = tt }; each = tt; distinct = tt; few = omega arith }
 
 -- Recovery finds number 0 and no files.
 pub formatted-image : (geometry fsid : ℕ) (image : List ℕ) → IsEmptyStore geometry fsid image → IsImage fsid 0 (no_files geometry) image

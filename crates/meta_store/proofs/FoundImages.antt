@@ -7,7 +7,7 @@ use Rattle.meta_store.specs.Catalogs.{CatalogFile, Catalog, IsCatalogFile, IsCat
 use Rattle.meta_store.specs.Snapshots.{SnapshotFile, Snapshot, extents_from, snapshot_file, snapshot_of, IsSpelled}
 use Rattle.meta_store.specs.Images.{area_of}
 use Rattle.meta_store.specs.Laws.{FindsOne}
-use Rattle.meta_store.specs.InMemory.{file_of}
+use Rattle.meta_store.specs.InMemory.{file_of, parts_of}
 use Rattle.meta_store.proofs.ReadSnapshots.{one}
 
 cons-head : {A : Type 0} (x y : A) (xs ys : List A) → x ∷ xs ≡ y ∷ ys → x ≡ y
@@ -49,7 +49,9 @@ same-file b b' f f' h h' is =
     let name : f.name ≡ f'.name = ap (λ (s : SnapshotFile). s.name) is in
     let size : f.size ≡ f'.size = ap (λ (s : SnapshotFile). s.size) is in
     let places : f.places ≡ f'.places = same-places 0 f.places f'.places (h.places ∙ ap blocks_in size ∙ sym h'.places) (ap (λ (s : SnapshotFile). s.extents) is) in
-    let whole : file_of f.key f.name f.size f.places ≡ file_of f'.key f'.name f'.size f'.places = rw (key, name, size, places) refl in
+    let regions : f.regions ≡ f'.regions = ap (λ (s : SnapshotFile). s.regions) is in
+    let attributes : f.attributes ≡ f'.attributes = ap (λ (s : SnapshotFile). s.attributes) is in
+    let whole : file_of f.key f.name f.size (parts_of f) ≡ file_of f'.key f'.name f'.size (parts_of f') = rw (key, name, size, places, regions, attributes) refl in
     whole
 
 same-files : (b b' : ℕ) (fs gs : List CatalogFile) → AllByRecursion (IsCatalogFile b) fs → AllByRecursion (IsCatalogFile b') gs → map snapshot_file fs ≡ map snapshot_file gs → fs ≡ gs

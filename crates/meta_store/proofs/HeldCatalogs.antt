@@ -1,7 +1,10 @@
 -- A catalog in memory, after one file more, one less and one changed.
-use Rattle.std.proofs.Common.{◌≡◌, ℕ, zero, suc, ◌+◌, ◌-◌, ◌<◌, ◌≤◌, ◌^◌, List, [], ◌∷◌, length, map, get_or, set, false, true, eqb, Option, Some, None, refl, sym, ◌∙◌, ap, subst, arith, length-set}
+use Rattle.std.proofs.Common.{◌≡◌, ℕ, zero, suc, ◌+◌, ◌-◌, ◌<◌, ◌≤◌, ◌^◌, List, [], ◌∷◌, length, map, get_or, set, Bool, false, true, eqb, Option, Some, None, refl, sym, ◌∙◌, ap, subst, arith, length-set}
 use Rattle.std.specs.List.{slice_get, list_any, AllByRecursion}
-use Rattle.std.specs.Option.{IsSome, option_map}
+use Rattle.std.specs.Option.{IsSome, is_some, option_map}
+use Rattle.std.specs.Map.{values_of}
+use Rattle.std.proofs.lemmas.Bool.{cond_both}
+use Rattle.std.proofs.lemmas.List.Sums.{sum_by-cons}
 use Rattle.hsm_types.specs.Names.{is_name}
 use Rattle.hsm_types.specs.declared.keys.FileKey.{FileKey}
 use Rattle.plain_model.specs.Keyed.{find_key, change_key, drop_key}
@@ -14,19 +17,26 @@ use Rattle.inode_table.specs.Table.{with_file as with_entry}
 use Rattle.inode_table.proofs.Orders.{free-ge, free-le, free-absent}
 use Rattle.inode_table.proofs.Listings.{length-listing}
 use Rattle.inode_table.proofs.Keeping.{table-few}
-use Rattle.meta_store.specs.Catalogs.{CatalogFile, geometry_of, blocks_of}
-use Rattle.meta_store.specs.Changes.{places_fitted, places_set, with_file, without_file, with_remapped}
-use Rattle.meta_store.specs.InMemory.{catalog_held, file_held, files_held, IsHeld}
+use Rattle.hsm_types.specs.declared.regions.Region.{Region}
+use Rattle.hsm_types.specs.Regions.{regions_refusal}
+use Rattle.hsm_types.specs.declared.attributes.AttrName.{AttrName}
+use Rattle.hsm_types.specs.Attributes.{Attributes, AreAttributes, same_name, with_value, without_value, cost_of_value, bytes_of_attributes, setting_refusal}
+use Rattle.meta_store.specs.declared.file_parts.FileParts.{FileParts}
+use Rattle.meta_store.specs.Catalogs.{CatalogFile, Catalog, IsCatalogFile, geometry_of, blocks_of, attribute_total}
+use Rattle.meta_store.specs.Changes.{places_fitted, places_set, remapped, with_file, without_file, with_remapped, with_regions, with_attributes, with_attribute, without_attribute, attributes_at, others_total, attribute_refusal}
+use Rattle.meta_store.specs.InMemory.{no_parts, parts_of, file_of, catalog_held, file_held, files_held, IsHeld}
 use Rattle.meta_store.specs.declared.snapshot.Mapping.{Mapping}
-use Rattle.meta_store.proofs.HeldFiles.{names_of-held, entries-held, find-held, held-drop, held-put_at, held-change, found-above, found-within}
-use Rattle.meta_store.proofs.KeptCatalogs.{IsCatalog-with_file, IsCatalog-without_file, IsCatalog-with_remapped}
+use Rattle.meta_store.proofs.FileEdits.{total-put, total-drop, total-change, total-same}
+use Rattle.meta_store.proofs.FoundFiles.{each-found}
+use Rattle.meta_store.proofs.HeldFiles.{names_of-held, entries-held, find-held, held-drop, held-put_at, held-change, held-parts, found-key, found-above, found-within}
+use Rattle.meta_store.proofs.KeptCatalogs.{empty_file, IsCatalog-with_file, IsCatalog-without_file, IsCatalog-with_remapped, IsCatalog-with_regions, IsCatalog-with_attributes}
 
-pub held_table : (geometry : ℕ) (t : Table) (ps : List (List (Option ℕ))) → IsHeld geometry t ps → IsTable (geometry_of geometry).files t.next (listing t.files)
-held_table geometry t ps h = rw (names_of-held ps t.files) at h.catalog.table
+pub held_table : (geometry : ℕ) (t : Table) (ps : List FileParts) (total : ℕ) → IsHeld geometry t ps total → IsTable (geometry_of geometry).files t.next (listing t.files)
+held_table geometry t ps total h = rw (names_of-held ps t.files) at h.catalog.table
 
 -- the table alone
-pub table_held : (geometry : ℕ) (t : Table) (ps : List (List (Option ℕ))) → IsHeld geometry t ps → t ≡ record { limit = (geometry_of geometry).files; next = t.next; files = map (λ f. entry_of f.key f.name f.size) (files_held ps t.files) }
-table_held geometry t ps h = rw (entries-held ps t.files, ← h.limit) refl
+pub table_held : (geometry : ℕ) (t : Table) (ps : List FileParts) (total : ℕ) → IsHeld geometry t ps total → t ≡ record { limit = (geometry_of geometry).files; next = t.next; files = map (λ f. entry_of f.key f.name f.size) (files_held ps t.files) }
+table_held geometry t ps total h = rw (entries-held ps t.files, ← h.limit) refl
 
 -- ---- where the places of a file are
 
@@ -35,22 +45,22 @@ within_get n limit next i e [] a w there = cc
 within_get n limit next zero e (f ∷ es) a w there = let P : FileEntry → Type 0 = λ g. (n ≤ g.key.ino) × (g.key.ino ≤ limit) in let is : f ≡ e = cc in subst P is (a.0, w.0)
 within_get n limit next (suc i) e (f ∷ es) a w there = let low = a.0 in let more = within_get (f.key.ino + 1) limit next i e es a.1 w.2 there in let above = more.0 in (omega arith, more.1)
 
-pub slot_at : (geometry : ℕ) (t : Table) (ps : List (List (Option ℕ))) → IsHeld geometry t ps → (i : ℕ) (e : FileEntry) → slice_get t.files i ≡ Some e → (1 ≤ e.key.ino) × (e.key.ino ≤ length ps)
-slot_at geometry t ps h i e there =
-    let table = held_table geometry t ps h in
+pub slot_at : (geometry : ℕ) (t : Table) (ps : List FileParts) (total : ℕ) → IsHeld geometry t ps total → (i : ℕ) (e : FileEntry) → slice_get t.files i ≡ Some e → (1 ≤ e.key.ino) × (e.key.ino ≤ length ps)
+slot_at geometry t ps total h i e there =
+    let table = held_table geometry t ps total h in
     let within = within_get 1 (geometry_of geometry).files t.next i e t.files table.ascend table.within there in
     rw h.count within
 
-pub slot_of : (geometry : ℕ) (t : Table) (ps : List (List (Option ℕ))) → IsHeld geometry t ps → (k : FileKey) (f : FileEntry) → find_key (λ x. x.key) k t.files ≡ Some f → (1 ≤ k.ino) × (k.ino ≤ length ps)
-slot_of geometry t ps h k f found =
-    let table = held_table geometry t ps h in
+pub slot_of : (geometry : ℕ) (t : Table) (ps : List FileParts) (total : ℕ) → IsHeld geometry t ps total → (k : FileKey) (f : FileEntry) → find_key (λ x. x.key) k t.files ≡ Some f → (1 ≤ k.ino) × (k.ino ≤ length ps)
+slot_of geometry t ps total h k f found =
+    let table = held_table geometry t ps total h in
     rw h.count (found-above 1 k f t.files table.ascend found, found-within (geometry_of geometry).files t.next k f t.files table.within found)
 
 -- the lowest free inode, where one is free
-pub slot_free : (geometry : ℕ) (t : Table) (ps : List (List (Option ℕ))) → IsHeld geometry t ps → (length t.files ≡ t.limit → ⊥)
+pub slot_free : (geometry : ℕ) (t : Table) (ps : List FileParts) (total : ℕ) → IsHeld geometry t ps total → (length t.files ≡ t.limit → ⊥)
     → (1 ≤ (next_key t).ino) × ((next_key t).ino ≤ (geometry_of geometry).files) × ((next_key t).ino ≤ length ps) × (has_inode (next_key t).ino (listing t.files) ≡ false)
-slot_free geometry t ps h room =
-    let table = held_table geometry t ps h in
+slot_free geometry t ps total h room =
+    let table = held_table geometry t ps total h in
     let few = table-few (geometry_of geometry).files t.next t.files table in
     let len = length-listing t.files in
     let most = free-le 1 (listing t.files) in
@@ -62,62 +72,182 @@ slot_free geometry t ps h room =
 
 -- ---- one file more
 
-pub catalog_held-put : (geometry : ℕ) (t : Table) (ps : List (List (Option ℕ))) (key : FileKey) (name : List ℕ) → 1 ≤ key.ino → key.ino ≤ length ps → Ascend 1 (listing t.files) → has_inode key.ino (listing t.files) ≡ false
-    → catalog_held geometry (with_entry (entry_of key name 0) t) (set ps (key.ino - 1) []) ≡ with_file key name (catalog_held geometry t ps)
-catalog_held-put geometry t ps key name low high a free = rw (held-put_at ps (entry_of key name 0) [] t.files low high a free) refl
+pub catalog_held-put : (geometry : ℕ) (t : Table) (ps : List FileParts) (key : FileKey) (name : List ℕ) → 1 ≤ key.ino → key.ino ≤ length ps → Ascend 1 (listing t.files) → has_inode key.ino (listing t.files) ≡ false
+    → catalog_held geometry (with_entry (entry_of key name 0) t) (set ps (key.ino - 1) no_parts) ≡ with_file key name (catalog_held geometry t ps)
+catalog_held-put geometry t ps key name low high a free = rw (held-put_at ps (entry_of key name 0) no_parts t.files low high a free) refl
 
-pub IsHeld-put : (geometry : ℕ) (t : Table) (ps : List (List (Option ℕ))) (key : FileKey) (name : List ℕ) → IsHeld geometry t ps → 1 ≤ key.ino → key.ino ≤ (geometry_of geometry).files → has_inode key.ino (listing t.files) ≡ false
-    → named name (listing t.files) ≡ None → 1 ≤ key.igen → key.igen < 2 ^ 62 → is_name name ≡ true → IsHeld geometry (with_entry (entry_of key name 0) t) (set ps (key.ino - 1) [])
-IsHeld-put geometry t ps key name h low high free new made early good =
+pub IsHeld-put : (geometry : ℕ) (t : Table) (ps : List FileParts) (total : ℕ) (key : FileKey) (name : List ℕ) → IsHeld geometry t ps total → 1 ≤ key.ino → key.ino ≤ (geometry_of geometry).files → has_inode key.ino (listing t.files) ≡ false
+    → named name (listing t.files) ≡ None → 1 ≤ key.igen → key.igen < 2 ^ 62 → is_name name ≡ true → IsHeld geometry (with_entry (entry_of key name 0) t) (set ps (key.ino - 1) no_parts) total
+IsHeld-put geometry t ps total key name h low high free new made early good =
     let count = h.count in
     let names = names_of-held ps t.files in
+    let held = catalog_held-put geometry t ps key name low (omega arith) (held_table geometry t ps total h).ascend free in
     record {
       limit = h.limit;
-      count = length-set ps (key.ino - 1) [] ∙ h.count;
-      catalog = rw (catalog_held-put geometry t ps key name low (omega arith) (held_table geometry t ps h).ascend free)
-          (IsCatalog-with_file key name (catalog_held geometry t ps) h.catalog low high (rw names free) (rw names new) made early good);
+      count = length-set ps (key.ino - 1) no_parts ∙ h.count;
+      counted = let old = h.counted in let new = ap (λ (c : Catalog). attribute_total c.files) held in let sum = total-put (empty_file key name) (files_held ps t.files) in omega arith;
+      catalog = rw held (IsCatalog-with_file key name (catalog_held geometry t ps) h.catalog low high (rw names free) (rw names new) made early good);
     }
 
 -- ---- one less
 
-pub catalog_held-drop : (geometry : ℕ) (t : Table) (ps : List (List (Option ℕ))) (key : FileKey) → catalog_held geometry (record t { files = drop_key (λ f. f.key) key t.files }) ps ≡ without_file key (catalog_held geometry t ps)
+pub catalog_held-drop : (geometry : ℕ) (t : Table) (ps : List FileParts) (key : FileKey) → catalog_held geometry (record t { files = drop_key (λ f. f.key) key t.files }) ps ≡ without_file key (catalog_held geometry t ps)
 catalog_held-drop geometry t ps key = rw (held-drop ps key t.files) refl
 
-pub IsHeld-drop : (geometry : ℕ) (t : Table) (ps : List (List (Option ℕ))) (key : FileKey) → IsHeld geometry t ps → IsHeld geometry (record t { files = drop_key (λ f. f.key) key t.files }) ps
-IsHeld-drop geometry t ps key h = record { limit = h.limit; count = h.count; catalog = rw (catalog_held-drop geometry t ps key) (IsCatalog-without_file key (catalog_held geometry t ps) h.catalog) }
+-- the file that a live key has
+pub held-found : (ps : List FileParts) (k : FileKey) (f : FileEntry) (es : List FileEntry) → find_key (λ x. x.key) k es ≡ Some f → find_key (λ x. x.key) k (files_held ps es) ≡ Some (file_of f.key f.name f.size (get_or ps (k.ino - 1) no_parts))
+held-found ps k f es found = rw (find-held ps k es, found, found-key k f es found) refl
+
+pub IsHeld-drop : (geometry : ℕ) (t : Table) (ps : List FileParts) (total count : ℕ) (key : FileKey) (f : FileEntry) → IsHeld geometry t ps total → find_key (λ x. x.key) key t.files ≡ Some f → count ≡ bytes_of_attributes (get_or ps (key.ino - 1) no_parts).attributes
+    → (count ≤ total) × IsHeld geometry (record t { files = drop_key (λ f. f.key) key t.files }) ps (total - count)
+IsHeld-drop geometry t ps total count key f h found is =
+    let fewer = total-drop key (file_of f.key f.name f.size (get_or ps (key.ino - 1) no_parts)) (files_held ps t.files) (held-found ps key f t.files found) in
+    let left : attribute_total (files_held ps (drop_key (λ x. x.key) key t.files)) ≡ attribute_total (drop_key (λ x. x.key) key (files_held ps t.files)) = ap attribute_total (held-drop ps key t.files) in
+    let counted = h.counted in (
+      omega arith,
+      record {
+        limit = h.limit;
+        count = h.count;
+        counted = omega arith;
+        catalog = rw (catalog_held-drop geometry t ps key) (IsCatalog-without_file key (catalog_held geometry t ps) h.catalog);
+      },
+    )
 
 -- ---- one changed
 
--- the table and the places then
+-- the table and the parts then
 abbrev pub table_sized : FileKey → ℕ → Table → Table
 table_sized key size t = record t { files = change_key (λ f. f.key) key (λ f. record f { size = size }) t.files }
 
-abbrev pub places_mapped : FileKey → ℕ → List Mapping → List (List (Option ℕ)) → List (List (Option ℕ))
-places_mapped key size ms ps = set ps (key.ino - 1) (places_set ms (places_fitted size (get_or ps (key.ino - 1) [])))
+abbrev pub mapped : ℕ → List Mapping → FileParts → FileParts
+mapped size ms p = record p { places = places_set ms (places_fitted size p.places) }
 
-pub catalog_held-remap : (geometry : ℕ) (t : Table) (ps : List (List (Option ℕ))) (key : FileKey) (size : ℕ) (ms : List Mapping) (f : FileEntry) → IsHeld geometry t ps → find_key (λ x. x.key) key t.files ≡ Some f
-    → catalog_held geometry (table_sized key size t) (places_mapped key size ms ps) ≡ with_remapped key size ms (catalog_held geometry t ps)
-catalog_held-remap geometry t ps key size ms f h found =
-    let slot = slot_of geometry t ps h key f found in
-    let a = (held_table geometry t ps h).ascend in
-    ap (λ (fs : List CatalogFile). record { geometry = geometry; next = t.next; files = fs }) (held-change ps 1 key size (λ p. places_set ms (places_fitted size p)) f t.files (omega arith) slot.1 a found)
+abbrev pub parts_mapped : FileKey → ℕ → List Mapping → List FileParts → List FileParts
+parts_mapped key size ms ps = set ps (key.ino - 1) (mapped size ms (get_or ps (key.ino - 1) no_parts))
 
-pub IsHeld-remap : (geometry : ℕ) (t : Table) (ps : List (List (Option ℕ))) (key : FileKey) (size : ℕ) (ms : List Mapping) (f : FileEntry) → IsHeld geometry t ps → find_key (λ x. x.key) key t.files ≡ Some f → size ≤ 16777216
+pub catalog_held-remap : (geometry : ℕ) (t : Table) (ps : List FileParts) (total : ℕ) (key : FileKey) (size : ℕ) (ms : List Mapping) (f : FileEntry) → IsHeld geometry t ps total → find_key (λ x. x.key) key t.files ≡ Some f
+    → catalog_held geometry (table_sized key size t) (parts_mapped key size ms ps) ≡ with_remapped key size ms (catalog_held geometry t ps)
+catalog_held-remap geometry t ps total key size ms f h found =
+    let slot = slot_of geometry t ps total h key f found in
+    let a = (held_table geometry t ps total h).ascend in
+    ap (λ (fs : List CatalogFile). record { geometry = geometry; next = t.next; files = fs }) (held-change ps 1 key (λ _. size) (mapped size ms) f t.files (omega arith) slot.1 a found)
+
+pub IsHeld-remap : (geometry : ℕ) (t : Table) (ps : List FileParts) (total : ℕ) (key : FileKey) (size : ℕ) (ms : List Mapping) (f : FileEntry) → IsHeld geometry t ps total → find_key (λ x. x.key) key t.files ≡ Some f → size ≤ 16777216
     → AllByRecursion (λ m. m.place < (geometry_of geometry).blocks) ms → AllByRecursion (λ m. list_any (λ p. eqb p m.place) (blocks_of (files_held ps t.files)) ≡ false) ms → Distinct (map (λ m. m.place) ms)
-    → IsHeld geometry (table_sized key size t) (places_mapped key size ms ps)
-IsHeld-remap geometry t ps key size ms f h found most within unused apart = record {
-  limit = h.limit;
-  count = length-set ps (key.ino - 1) (places_set ms (places_fitted size (get_or ps (key.ino - 1) []))) ∙ h.count;
-  catalog = rw (catalog_held-remap geometry t ps key size ms f h found) (IsCatalog-with_remapped key size ms (catalog_held geometry t ps) h.catalog most within unused apart);
-}
+    → IsHeld geometry (table_sized key size t) (parts_mapped key size ms ps) total
+IsHeld-remap geometry t ps total key size ms f h found most within unused apart =
+    let held = catalog_held-remap geometry t ps total key size ms f h found in
+    record {
+      limit = h.limit;
+      count = length-set ps (key.ino - 1) (mapped size ms (get_or ps (key.ino - 1) no_parts)) ∙ h.count;
+      counted = h.counted ∙ sym (ap (λ (c : Catalog). attribute_total c.files) held ∙ total-same key (remapped size ms) (files_held ps t.files) (λ f. refl));
+      catalog = rw held (IsCatalog-with_remapped key size ms (catalog_held geometry t ps) h.catalog most within unused apart);
+    }
+
+-- ---- what sessions keep with one
+
+abbrev pub parts_set : FileKey → FileParts → List FileParts → List FileParts
+parts_set key parts ps = set ps (key.ino - 1) parts
+
+-- the parts of one key, as they are
+abbrev pub parts_at : FileKey → List FileParts → FileParts
+parts_at key ps = get_or ps (key.ino - 1) no_parts
+
+pub catalog_held-regions : (geometry : ℕ) (t : Table) (ps : List FileParts) (total : ℕ) (key : FileKey) (rs : List Region) (f : FileEntry) → IsHeld geometry t ps total → find_key (λ x. x.key) key t.files ≡ Some f
+    → catalog_held geometry t (parts_set key (record (parts_at key ps) { regions = rs }) ps) ≡ with_regions key rs (catalog_held geometry t ps)
+catalog_held-regions geometry t ps total key rs f h found =
+    let slot = slot_of geometry t ps total h key f found in
+    ap (λ (fs : List CatalogFile). record { geometry = geometry; next = t.next; files = fs }) (held-parts ps key (λ p. record p { regions = rs }) f t.files slot.1 (held_table geometry t ps total h).ascend found)
+
+pub IsHeld-regions : (geometry : ℕ) (t : Table) (ps : List FileParts) (total : ℕ) (key : FileKey) (rs : List Region) (f : FileEntry) → IsHeld geometry t ps total → find_key (λ x. x.key) key t.files ≡ Some f → regions_refusal rs ≡ None
+    → IsHeld geometry t (parts_set key (record (parts_at key ps) { regions = rs }) ps) total
+IsHeld-regions geometry t ps total key rs f h found lawful =
+    let held = catalog_held-regions geometry t ps total key rs f h found in
+    record {
+      limit = h.limit;
+      count = length-set ps (key.ino - 1) (record (parts_at key ps) { regions = rs }) ∙ h.count;
+      counted = h.counted ∙ sym (ap (λ (c : Catalog). attribute_total c.files) held ∙ total-same key (λ f. record f { regions = rs }) (files_held ps t.files) (λ f. refl));
+      catalog = rw held (IsCatalog-with_regions key rs (catalog_held geometry t ps) h.catalog lawful);
+    }
+
+pub catalog_held-attributes : (geometry : ℕ) (t : Table) (ps : List FileParts) (total : ℕ) (key : FileKey) (attrs : Attributes) (f : FileEntry) → IsHeld geometry t ps total → find_key (λ x. x.key) key t.files ≡ Some f
+    → catalog_held geometry t (parts_set key (record (parts_at key ps) { attributes = attrs }) ps) ≡ with_attributes key attrs (catalog_held geometry t ps)
+catalog_held-attributes geometry t ps total key attrs f h found =
+    let slot = slot_of geometry t ps total h key f found in
+    ap (λ (fs : List CatalogFile). record { geometry = geometry; next = t.next; files = fs }) (held-parts ps key (λ p. record p { attributes = attrs }) f t.files slot.1 (held_table geometry t ps total h).ascend found)
+
+-- what the attributes of the other files count
+pub others-held : (geometry : ℕ) (t : Table) (ps : List FileParts) (total : ℕ) (key : FileKey) (f : FileEntry) → IsHeld geometry t ps total → find_key (λ x. x.key) key t.files ≡ Some f
+    → others_total key (catalog_held geometry t ps) + bytes_of_attributes (parts_at key ps).attributes ≡ total
+others-held geometry t ps total key f h found = total-drop key (file_of f.key f.name f.size (parts_at key ps)) (files_held ps t.files) (held-found ps key f t.files found) ∙ sym h.counted
+
+pub attributes_at-held : (geometry : ℕ) (t : Table) (ps : List FileParts) (key : FileKey) (f : FileEntry) → find_key (λ x. x.key) key t.files ≡ Some f → attributes_at key (catalog_held geometry t ps) ≡ (parts_at key ps).attributes
+attributes_at-held geometry t ps key f found = rw (held-found ps key f t.files found) refl
+
+-- their count within the geometry's
+pub total-within : (geometry : ℕ) (t : Table) (ps : List FileParts) (total : ℕ) → IsHeld geometry t ps total → total ≤ (geometry_of geometry).attributes
+total-within geometry t ps total h = let few = h.catalog.few in let counted = h.counted in omega arith
+
+pub IsHeld-attributes : (geometry : ℕ) (t : Table) (ps : List FileParts) (total new : ℕ) (key : FileKey) (attrs : Attributes) (f : FileEntry) → IsHeld geometry t ps total → find_key (λ x. x.key) key t.files ≡ Some f
+    → AreAttributes attrs → AllByRecursion (λ a. length a.0.0 ≡ 8) attrs → new ≡ others_total key (catalog_held geometry t ps) + bytes_of_attributes attrs → new ≤ (geometry_of geometry).attributes
+    → IsHeld geometry t (parts_set key (record (parts_at key ps) { attributes = attrs }) ps) new
+IsHeld-attributes geometry t ps total new key attrs f h found are eight is within =
+    let held = catalog_held-attributes geometry t ps total key attrs f h found in
+    let one = held-found ps key f t.files found in
+    let fewer = total-drop key (file_of f.key f.name f.size (parts_at key ps)) (files_held ps t.files) one in
+    let changed = total-change key (λ g. record g { attributes = attrs }) (file_of f.key f.name f.size (parts_at key ps)) (files_held ps t.files) one in
+    let sum : new ≡ attribute_total (with_attributes key attrs (catalog_held geometry t ps)).files = omega arith in
+    record {
+      limit = h.limit;
+      count = length-set ps (key.ino - 1) (record (parts_at key ps) { attributes = attrs }) ∙ h.count;
+      counted = sum ∙ sym (ap (λ (c : Catalog). attribute_total c.files) held);
+      catalog = rw held (IsCatalog-with_attributes key attrs (catalog_held geometry t ps) h.catalog are eight (omega (arith, sum)));
+    }
+
+-- the attributes of one key have names of eight bytes
+pub eight-held : (geometry : ℕ) (t : Table) (ps : List FileParts) (total : ℕ) (key : FileKey) (f : FileEntry) → IsHeld geometry t ps total → find_key (λ x. x.key) key t.files ≡ Some f → AllByRecursion (λ a. length a.0.0 ≡ 8) (parts_at key ps).attributes
+eight-held geometry t ps total key f h found =
+    (each-found (IsCatalogFile (geometry_of geometry).blocks) key (file_of f.key f.name f.size (parts_at key ps)) (files_held ps t.files) h.catalog.each (held-found ps key f t.files found)).eight
+
+-- what refuses an attribute, as the parts of its key see it
+pub refusal-held : (geometry : ℕ) (t : Table) (ps : List FileParts) (total : ℕ) (key : FileKey) (name : AttrName) (value : List ℕ) (f : FileEntry) (others limit : ℕ) → IsHeld geometry t ps total → find_key (λ x. x.key) key t.files ≡ Some f
+    → others + bytes_of_attributes (parts_at key ps).attributes ≡ total → limit ≡ (geometry_of geometry).attributes
+    → attribute_refusal key name value (catalog_held geometry t ps) ≡ setting_refusal name value others limit (parts_at key ps).attributes
+refusal-held geometry t ps total key name value f others limit h found sum bound =
+    let left = others-held geometry t ps total key f h found in
+    let same : others_total key (catalog_held geometry t ps) ≡ others = omega arith in
+    rw (attributes_at-held geometry t ps key f found, same, bound) (refl {a = setting_refusal name value others (geometry_of geometry).attributes (parts_at key ps).attributes})
+
+-- a catalog with one attribute more, or one less
+pub catalog_held-with : (geometry : ℕ) (t : Table) (ps : List FileParts) (total : ℕ) (key : FileKey) (name : AttrName) (value : List ℕ) (f : FileEntry) → IsHeld geometry t ps total → find_key (λ x. x.key) key t.files ≡ Some f
+    → catalog_held geometry t (parts_set key (record (parts_at key ps) { attributes = with_value name value (parts_at key ps).attributes }) ps) ≡ with_attribute key name value (catalog_held geometry t ps)
+catalog_held-with geometry t ps total key name value f h found =
+    catalog_held-attributes geometry t ps total key (with_value name value (parts_at key ps).attributes) f h found
+    ∙ ap (λ (attrs : Attributes). with_attributes key (with_value name value attrs) (catalog_held geometry t ps)) (sym (attributes_at-held geometry t ps key f found))
+
+pub catalog_held-without : (geometry : ℕ) (t : Table) (ps : List FileParts) (total : ℕ) (key : FileKey) (name : AttrName) (f : FileEntry) → IsHeld geometry t ps total → find_key (λ x. x.key) key t.files ≡ Some f
+    → catalog_held geometry t (parts_set key (record (parts_at key ps) { attributes = without_value name (parts_at key ps).attributes }) ps) ≡ without_attribute key name (catalog_held geometry t ps)
+catalog_held-without geometry t ps total key name f h found =
+    catalog_held-attributes geometry t ps total key (without_value name (parts_at key ps).attributes) f h found
+    ∙ ap (λ (attrs : Attributes). with_attributes key (without_value name attrs) (catalog_held geometry t ps)) (sym (attributes_at-held geometry t ps key f found))
+
+-- what is left counts no more
+pub fewer-without : (name : AttrName) (attrs : Attributes) → bytes_of_attributes (without_value name attrs) ≤ bytes_of_attributes attrs
+fewer-without name [] = omega arith
+fewer-without name (a ∷ attrs) =
+    let here = sum_by-cons cost_of_value a.1 (values_of attrs) in
+    let P : Attributes → Type 0 = λ r. bytes_of_attributes r ≤ bytes_of_attributes (a ∷ attrs) in
+    cond_both (same_name name a.0) attrs (a ∷ without_value name attrs) P
+    (λ same. omega arith)
+    (λ other. let rest = fewer-without name attrs in let there = sum_by-cons cost_of_value a.1 (values_of (without_value name attrs)) in omega arith)
 
 -- ---- a live key
 
-some_held : (ps : List (List (Option ℕ))) (o : Option FileEntry) → IsSome (option_map (file_held ps) o) → (f : FileEntry) × (o ≡ Some f)
+some_held : (ps : List FileParts) (o : Option FileEntry) → IsSome (option_map (file_held ps) o) → (f : FileEntry) × (o ≡ Some f)
 some_held ps None live = cc
 some_held ps (Some f) live = (f, refl)
 
-pub live_held : (ps : List (List (Option ℕ))) (k : FileKey) (es : List FileEntry) → IsSome (find_key (λ f. f.key) k (files_held ps es)) → (f : FileEntry) × (find_key (λ x. x.key) k es ≡ Some f)
+pub live_held : (ps : List FileParts) (k : FileKey) (es : List FileEntry) → IsSome (find_key (λ f. f.key) k (files_held ps es)) → (f : FileEntry) × (find_key (λ x. x.key) k es ≡ Some f)
 live_held ps k es live = some_held ps (find_key (λ f. f.key) k es) (rw (find-held ps k es) at live)
 
 pub sized : (o : Option FileEntry) (size : ℕ) → Some size ≡ option_map (λ f. f.size) o → (f : FileEntry) × (o ≡ Some f)
@@ -127,6 +257,20 @@ sized (Some f) size is = (f, refl)
 pub unsized : (o : Option FileEntry) → None ≡ option_map (λ f. f.size) o → o ≡ None
 unsized None is = refl
 unsized (Some f) is = cc
+
+-- a part of the file that a key has, if it has one
+pub part_none : {X : Type 0} (g : CatalogFile → X) (o : Option CatalogFile) → None ≡ option_map parts_of o → None ≡ option_map g o
+part_none g None is = refl
+part_none g (Some f) is = cc
+
+pub part_some : {X : Type 0} (g : FileParts → X) (o : Option CatalogFile) (p : FileParts) → Some p ≡ option_map parts_of o → Some (g p) ≡ option_map (λ f. g (parts_of f)) o
+part_some g None p is = cc
+part_some g (Some f) p is = let same : p ≡ parts_of f = cc in rw same refl
+
+-- what was dropped was there
+pub dropped : (o : Option FileEntry) (r : Option (List ℕ)) (b : Bool) → r ≡ option_map (λ f. f.name) o → b ≡ is_some r → b ≡ true → (f : FileEntry) × (o ≡ Some f)
+dropped None r b is same there = cc
+dropped (Some f) r b is same there = (f, refl)
 
 pub unfound : {X : Type 0} (o : Option X) → (IsSome o → ⊥) → o ≡ None
 unfound None none = refl

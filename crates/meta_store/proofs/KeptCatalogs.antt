@@ -1,6 +1,7 @@
 -- What is true of each catalog stays true.
-use Rattle.std.proofs.Common.{◌≡◌, ℕ, ◌+◌, ◌<◌, ◌≤◌, ◌^◌, max, List, [], map, None, false, true, eqb, ⊎_elim, refl, ◌∙◌, arith}
+use Rattle.std.proofs.Common.{◌≡◌, ℕ, ◌+◌, ◌<◌, ◌≤◌, ◌^◌, max, List, [], length, map, None, false, true, eqb, ⊎_elim, refl, subst, sym, ◌∙◌, arith}
 use Rattle.std.specs.List.{list_any, AllByRecursion}
+use Rattle.std.specs.List.Sorted.{IsStrictlySortedBy}
 use Rattle.hsm_types.specs.Names.{is_name}
 use Rattle.hsm_types.specs.declared.keys.FileKey.{FileKey}
 use Rattle.plain_model.specs.Keyed.{put_key, drop_key, change_key}
@@ -10,16 +11,24 @@ use Rattle.inode_table.specs.Listing.{has_inode}
 use Rattle.inode_table.specs.Table.{IsTable}
 use Rattle.inode_table.proofs.Orders.{ascend-put, ascend-drop, within-put, within-more, within-drop}
 use Rattle.inode_table.proofs.Names.{differ-put, differ-drop}
-use Rattle.meta_store.specs.Catalogs.{CatalogFile, Catalog, IsCatalogFile, IsCatalog, geometry_of, names_of, blocks_of}
-use Rattle.meta_store.specs.Changes.{places_fitted, remapped, with_file, without_file, with_remapped}
+use Rattle.hsm_types.specs.declared.regions.Region.{Region}
+use Rattle.hsm_types.specs.Regions.{regions_refusal}
+use Rattle.hsm_types.specs.Attributes.{Attributes, AreAttributes}
+use Rattle.meta_store.specs.Catalogs.{CatalogFile, Catalog, IsCatalogFile, IsCatalog, geometry_of, names_of, blocks_of, attribute_total}
+use Rattle.meta_store.specs.Changes.{places_fitted, remapped, with_file, without_file, with_remapped, with_regions, with_attributes}
 use Rattle.meta_store.specs.declared.snapshot.Mapping.{Mapping}
 use Rattle.meta_store.proofs.BlockUses.{uses, distinct-uses, uses-distinct}
 use Rattle.meta_store.proofs.MappedPlaces.{length-fitted, uses-fitted, within-fitted, length-places_set, uses-places_set, within-places_set, new_or_used}
-use Rattle.meta_store.proofs.FileEdits.{name_of, names_of-put, names_of-drop, names_of-change, uses-put, uses-drop, uses-change, each-put, each-drop, each-change}
+use Rattle.meta_store.proofs.FileEdits.{name_of, names_of-put, names_of-drop, names_of-change, uses-put, uses-drop, uses-change, blocks-change, total-put, total-fewer, total-same, each-put, each-drop, each-change}
 
 -- an empty file
 abbrev pub empty_file : FileKey → List ℕ → CatalogFile
-empty_file key name = record { key = key; name = name; size = 0; places = [] }
+empty_file key name = record { key = key; name = name; size = 0; places = []; regions = []; attributes = [] }
+
+-- no attributes are lawful ones
+no_attributes : AreAttributes []
+unfolding IsStrictlySortedBy
+no_attributes = record { ascend = tt; unreserved = λ k d within. absurd (omega arith); short = λ k d within. absurd (omega arith) }
 
 -- ---- one file more
 
@@ -41,8 +50,9 @@ IsCatalog-with_file key name c is low high free new made early good =
       first = omega arith;
       next = omega arith;
       table = table-put (geometry_of c.geometry).files c.next g c.files is.table low high free new;
-      each = each-put (IsCatalogFile (geometry_of c.geometry).blocks) g c.files (record { generation = made; name = good; size = omega arith; places = omega arith; within = tt }) is.each;
+      each = each-put (IsCatalogFile (geometry_of c.geometry).blocks) g c.files (record { generation = made; name = good; size = omega arith; places = omega arith; within = tt; regions = refl; attributes = no_attributes; eight = tt }) is.each;
       distinct = uses-distinct (blocks_of (put_key (λ f. f.key) g c.files)) (λ n. let same = uses-put n g c.files in let once = distinct-uses (blocks_of c.files) is.distinct n in omega arith);
+      few = let few = is.few in omega (arith, total-put g c.files);
     }
 
 -- ---- one less
@@ -59,6 +69,7 @@ IsCatalog-without_file key c is = record {
   });
   each = each-drop (IsCatalogFile (geometry_of c.geometry).blocks) key c.files is.each;
   distinct = uses-distinct (blocks_of (drop_key (λ f. f.key) key c.files)) (λ n. let fewer = uses-drop n key c.files in let once = distinct-uses (blocks_of c.files) is.distinct n in omega arith);
+  few = let few = is.few in omega (arith, total-fewer key c.files);
 }
 
 -- ---- one changed
@@ -70,6 +81,9 @@ IsCatalogFile-remapped blocks size ms most within f is = record {
   size = most;
   places = length-places_set ms (places_fitted size f.places) ∙ length-fitted size f.places;
   within = within-places_set blocks ms (places_fitted size f.places) within (within-fitted blocks size f.places is.within);
+  regions = is.regions;
+  attributes = is.attributes;
+  eight = is.eight;
 }
 
 once_remapped : (n size : ℕ) (key : FileKey) (ms : List Mapping) (fs : List CatalogFile) → Distinct (blocks_of fs) → AllByRecursion (λ m. list_any (λ p. eqb p m.place) (blocks_of fs) ≡ false) ms → Distinct (map (λ m. m.place) ms)
@@ -89,4 +103,35 @@ IsCatalog-with_remapped key size ms c is most within unused apart = record {
   table = rw (names_of-change key (remapped size ms) c.files (λ f. refl)) is.table;
   each = each-change (IsCatalogFile (geometry_of c.geometry).blocks) key (remapped size ms) c.files (λ f h. IsCatalogFile-remapped (geometry_of c.geometry).blocks size ms most within f h) is.each;
   distinct = uses-distinct (blocks_of (change_key (λ f. f.key) key (remapped size ms) c.files)) (λ n. once_remapped n size key ms c.files is.distinct unused apart);
+  few = let few = is.few in omega (arith, total-same key (remapped size ms) c.files (λ f. refl));
 }
+
+-- ---- what sessions keep with one
+
+-- a file changes that keeps its name and its places
+IsCatalog-kept : (key : FileKey) (to : CatalogFile → CatalogFile) (c : Catalog) → IsCatalog c → ((f : CatalogFile) → name_of (to f) ≡ name_of f) → ((f : CatalogFile) → (to f).places ≡ f.places)
+    → ((f : CatalogFile) → IsCatalogFile (geometry_of c.geometry).blocks f → IsCatalogFile (geometry_of c.geometry).blocks (to f))
+    → attribute_total (change_key (λ f. f.key) key to c.files) ≤ (geometry_of c.geometry).attributes → IsCatalog (record c { files = change_key (λ f. f.key) key to c.files })
+IsCatalog-kept key to c is named placed keeps few = record {
+  known = is.known;
+  first = is.first;
+  next = is.next;
+  table = rw (names_of-change key to c.files named) is.table;
+  each = each-change (IsCatalogFile (geometry_of c.geometry).blocks) key to c.files keeps is.each;
+  distinct = subst (λ bs. Distinct bs) (sym (blocks-change key to c.files placed)) is.distinct;
+  few = few;
+}
+
+pub IsCatalog-with_regions : (key : FileKey) (rs : List Region) (c : Catalog) → IsCatalog c → regions_refusal rs ≡ None → IsCatalog (with_regions key rs c)
+IsCatalog-with_regions key rs c is lawful =
+    let few = is.few in
+    IsCatalog-kept key (λ f. record f { regions = rs }) c is (λ f. refl) (λ f. refl)
+    (λ f h. record { generation = h.generation; name = h.name; size = h.size; places = h.places; within = h.within; regions = lawful; attributes = h.attributes; eight = h.eight })
+    (omega (arith, total-same key (λ f. record f { regions = rs }) c.files (λ f. refl)))
+
+pub IsCatalog-with_attributes : (key : FileKey) (attrs : Attributes) (c : Catalog) → IsCatalog c → AreAttributes attrs → AllByRecursion (λ a. length a.0.0 ≡ 8) attrs
+    → attribute_total (with_attributes key attrs c).files ≤ (geometry_of c.geometry).attributes → IsCatalog (with_attributes key attrs c)
+IsCatalog-with_attributes key attrs c is are eight few =
+    IsCatalog-kept key (λ f. record f { attributes = attrs }) c is (λ f. refl) (λ f. refl)
+    (λ f h. record { generation = h.generation; name = h.name; size = h.size; places = h.places; within = h.within; regions = h.regions; attributes = are; eight = eight })
+    few

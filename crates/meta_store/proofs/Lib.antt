@@ -2,6 +2,8 @@ pub mod ReadValues
 pub mod Readers
 pub mod ReadSnapshots
 pub mod ExtentCounts
+pub mod KeptBounds
+pub mod KeptAttributes
 pub mod WrittenParts
 pub mod SnapshotLengths
 pub mod SnapshotFits
@@ -14,9 +16,11 @@ pub mod FoundImages
 pub mod BlockUses
 pub mod MappedPlaces
 pub mod FileEdits
+pub mod UsedBlocks
 pub mod KeptCatalogs
 pub mod HeldFiles
 pub mod HeldCatalogs
+pub mod HeldBlocks
 pub mod FoundFiles
 pub mod SpreadPlaces
 pub mod LastFiles

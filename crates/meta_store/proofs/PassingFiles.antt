@@ -1,5 +1,6 @@
 -- Which files pass the judgement.
-use Rattle.std.proofs.Common.{◌≡◌, ℕ, ◌<◌, ◌≤◌, List, [], ◌∷◌, ◌++◌, map, true, false, not, ◌&&◌, Some, None, Option, is_some, ltb, leb, refl, ap, sym, ◌∙◌, subst, arith}
+use Rattle.std.proofs.lemmas.List.Sums.{sum_by-cons, sum_by-append}
+use Rattle.std.proofs.Common.{◌≡◌, ℕ, ◌+◌, ◌<◌, ◌≤◌, List, [], ◌∷◌, ◌++◌, map, true, false, not, ◌&&◌, Some, None, Option, is_some, ltb, leb, refl, ap, sym, ◌∙◌, subst, arith}
 use Rattle.std.specs.List.{AllByRecursion}
 use Rattle.std.proofs.lemmas.Bool.{and_parts, and_left, and_right, ltb-true, leb-true, lt-ltb, le-ltb, le-leb, lt-leb}
 use Rattle.std.proofs.lemmas.List.{map-append}
@@ -10,9 +11,11 @@ use Rattle.plain_model.specs.Plain.{Listed, named}
 use Rattle.plain_model.specs.Blocks.{blocks_in}
 use Rattle.plain_model.specs.Distinct.{Distinct}
 use Rattle.inode_table.specs.Table.{IsTable}
-use Rattle.meta_store.specs.Catalogs.{CatalogFile, Catalog, IsCatalogFile, IsCatalog, geometry_of, names_of, blocks_of}
+use Rattle.hsm_types.specs.Attributes.{bytes_of_attributes}
+use Rattle.meta_store.specs.Catalogs.{CatalogFile, Catalog, IsCatalogFile, IsCatalog, geometry_of, names_of, blocks_of, attribute_total}
 use Rattle.meta_store.specs.Snapshots.{SnapshotFile, snapshot_file, extents_from}
-use Rattle.meta_store.specs.Validity.{listed_in, names_in, places_of, places_in, last_inode, are_extents, is_file, are_unused, can_follow, is_next}
+use Rattle.meta_store.specs.Validity.{listed_in, names_in, places_of, places_in, last_inode, are_regions, are_attributes, are_extents, is_file, are_unused, can_follow, attribute_total_in, is_next}
+use Rattle.meta_store.proofs.KeptAttributes.{attributes-pass}
 use Rattle.meta_store.proofs.SpreadPlaces.{places_of-extents, are_extents-from}
 use Rattle.meta_store.proofs.LastFiles.{above-last, within-at}
 use Rattle.meta_store.proofs.StandOnce.{nameless, unused-from}
@@ -27,12 +30,20 @@ pub places_in-snapshot : (fs : List CatalogFile) → places_in (map snapshot_fil
 places_in-snapshot [] = refl
 places_in-snapshot (f ∷ fs) = rw (places_of-extents 0 f.places, places_in-snapshot fs) refl
 
+pub total_in-snapshot : (fs : List CatalogFile) → attribute_total_in (map snapshot_file fs) ≡ attribute_total fs
+total_in-snapshot [] = refl
+total_in-snapshot (f ∷ fs) =
+    let one = sum_by-cons (λ (s : SnapshotFile). bytes_of_attributes s.attributes) (snapshot_file f) (map snapshot_file fs) in
+    let two = sum_by-cons (λ (g : CatalogFile). bytes_of_attributes g.attributes) f fs in
+    let more = total_in-snapshot fs in
+    omega arith
+
 -- ---- a file of a valid catalog passes
 
 file-passes : (next blocks : ℕ) (f : CatalogFile) → IsCatalogFile blocks f → f.key.igen < next → is_file next blocks (snapshot_file f) ≡ true
 file-passes next blocks f is old =
     let extents : are_extents 0 (blocks_in f.size) blocks (extents_from 0 f.places) ≡ true = are_extents-from 0 0 (blocks_in f.size) blocks f.places (omega arith) (let len = is.places in omega arith) is.within in
-    rw (le-leb 1 f.key.igen is.generation, lt-ltb f.key.igen next old, le-leb f.size 16777216 is.size, is.name, extents) refl
+    rw (le-leb 1 f.key.igen is.generation, lt-ltb f.key.igen next old, le-leb f.size 16777216 is.size, is.name, is.regions, attributes-pass f.attributes is.attributes, extents) refl
 
 -- the file of the catalog that a place of its snapshot tells
 record Tells (blocks : ℕ) (f : SnapshotFile) : Type 0 where
@@ -61,7 +72,13 @@ passes c before f rest is e =
     let fresh : named f.name (names_in before) ≡ None = nameless (names_in before) (listed_in f) (names_in rest) table.differ in
     let above : last_inode 0 (names_in before) < f.key.ino = above-last 0 (names_in before) (listed_in f) (names_in rest) table.ascend in
     let unused : are_unused (places_in before) (places_of f.extents) ≡ true = unused-from (places_in before) (places_of f.extents) (places_in rest) (subst D places is.distinct) in
-    rw (fresh, lt-ltb (last_inode 0 (names_in before)) f.key.ino above, le-leb f.key.ino g.files limits.0, lawful, unused) refl
+    let total = total_in-snapshot c.files in
+    let split : attribute_total_in (before ++ f ∷ rest) ≡ attribute_total_in before + attribute_total_in (f ∷ rest) = sum_by-append (λ (s : SnapshotFile). bytes_of_attributes s.attributes) before (f ∷ rest) in
+    let one : attribute_total_in (f ∷ rest) ≡ bytes_of_attributes f.attributes + attribute_total_in rest = sum_by-cons (λ (s : SnapshotFile). bytes_of_attributes s.attributes) f rest in
+    let same = ap attribute_total_in e in
+    let all = is.few in
+    let few : leb (attribute_total_in before + bytes_of_attributes f.attributes) g.attributes ≡ true = le-leb (attribute_total_in before + bytes_of_attributes f.attributes) g.attributes (omega arith) in
+    rw (fresh, lt-ltb (last_inode 0 (names_in before)) f.key.ino above, le-leb f.key.ino g.files limits.0, lawful, few, unused) refl
 
 -- ---- what the judgement tells
 
@@ -73,6 +90,8 @@ pub record Follows (geometry : Geometry) (next : ℕ) (before : List SnapshotFil
   pub old : f.key.igen < next
   pub size : f.size ≤ 16777216
   pub name : is_name f.name ≡ true
+  pub regions : are_regions f.regions ≡ true
+  pub attributes : are_attributes None f.attributes ≡ true
   pub extents : are_extents 0 (blocks_in f.size) geometry.blocks f.extents ≡ true
 
 nothing : {X : Type 0} (o : Option X) → not (is_some o) ≡ true → o ≡ None
@@ -91,8 +110,12 @@ follows geometry next before f e =
     let old = ltb f.key.igen next in
     let size = leb f.size 16777216 in
     let name = is_name f.name in
-    let lawful = and_parts (first && old && size && name) (are_extents 0 (blocks_in f.size) geometry.blocks f.extents) whole.1 in
-    let named' = and_parts (first && old && size) name lawful.0 in
+    let regions = are_regions f.regions in
+    let attributes = are_attributes None f.attributes in
+    let lawful = and_parts (first && old && size && name && regions && attributes) (are_extents 0 (blocks_in f.size) geometry.blocks f.extents) whole.1 in
+    let kept = and_parts (first && old && size && name && regions) attributes lawful.0 in
+    let managed = and_parts (first && old && size && name) regions kept.0 in
+    let named' = and_parts (first && old && size) name managed.0 in
     let sized = and_parts (first && old) size named'.0 in
     let keyed = and_parts first old sized.0 in
     record {
@@ -103,6 +126,8 @@ follows geometry next before f e =
       old = ltb-true f.key.igen next keyed.1;
       size = leb-true f.size 16777216 sized.1;
       name = named'.1;
+      regions = managed.1;
+      attributes = kept.1;
       extents = lawful.1;
     }
 

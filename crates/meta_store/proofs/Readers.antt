@@ -3,10 +3,10 @@ use Rattle.std.proofs.Common.{◌≡◌, ℕ, zero, suc, ◌+◌, ◌^◌, ◌<�
 use Rattle.std.specs.List.{flat_map, AllByRecursion}
 use Rattle.std.proofs.lemmas.Bool.{cases_lt, eqb-true, ltb-false, le-ltb}
 use Rattle.std.proofs.lemmas.List.{take_at, drop_at, take-append-drop, length-append, length-take, get_or-drop, get_or-take, get_or_past}
-use Rattle.std.proofs.lemmas.Nat.{be_bytes_4, be_bytes_8}
+use Rattle.std.proofs.lemmas.Nat.{be_bytes_2, be_bytes_4, be_bytes_8}
 use Rattle.byteorder.specs.Endian.{big_bytes, big_number}
 use Rattle.byteorder.specs.Numbers.{big_number-reads_back, big_from-lt, big_from-take, length-bytes_high_first}
-use Rattle.meta_store.specs.Reading.{◌>>=◌, number_at, only_at, bytes_at, both, made, several, counted}
+use Rattle.meta_store.specs.Reading.{◌>>=◌, number_at, only_at, bytes_at, both, made, several, counted, sized}
 
 abbrev pub IsBytes : List ℕ → Type 0
 IsBytes bytes = (i : ℕ) → get_or bytes i 0 < 256
@@ -79,6 +79,9 @@ pub wide1 : IsWide 1
 wide1 (a ∷ []) len fits = ap (λ (x : ℕ). x ∷ []) (omega (arith, fits 0))
 wide1 (a ∷ b ∷ bytes) len fits = absurd (omega arith)
 wide1 [] len fits = absurd (omega arith)
+
+pub wide2 : IsWide 2
+wide2 bytes len fits = be_bytes_2 bytes _ len fits (omega arith)
 
 pub wide4 : IsWide 4
 wide4 bytes len fits = be_bytes_4 bytes _ len fits (omega arith)
@@ -174,16 +177,35 @@ several_again reader text Fit p [] rest fits = refl
 several_again reader text Fit p (x ∷ xs) rest fits =
     ap (several reader (suc (length xs))) (append_assoc (text x) (flat_map text xs) rest) ∙ rw (p.again x (flat_map text xs ++ rest) fits.0, several_again reader text Fit p xs rest fits.1) refl
 
-pub counted_reads : {X : Type 0} (reader : List ℕ → Option (X × List ℕ)) (text : X → List ℕ) (Fit : X → Type 0) → IsReader reader text Fit
-    → IsReader (counted reader) (λ xs. big_bytes 4 (length xs) ++ flat_map text xs) (λ xs. (length xs < 2 ^ 32) × AllByRecursion Fit xs)
+pub counted_reads : {X : Type 0} (n : ℕ) (reader : List ℕ → Option (X × List ℕ)) (text : X → List ℕ) (Fit : X → Type 0) → IsWide n → IsReader reader text Fit
+    → IsReader (counted n reader) (λ xs. big_bytes n (length xs) ++ flat_map text xs) (λ xs. (length xs < 256 ^ n) × AllByRecursion Fit xs)
 unfolding counted
-counted_reads {X} reader text Fit p = record {
+counted_reads {X} n reader text Fit wide p = record {
   takes = λ bytes x fits e.
-      let a = bind_some (number_at 4 bytes) (λ count. several reader count.0 count.1) x e in
-      let t = (number_reads 4 wide4).takes bytes a.0 fits a.1 in
+      let a = bind_some (number_at n bytes) (λ count. several reader count.0 count.1) x e in
+      let t = (number_reads n wide).takes bytes a.0 fits a.1 in
       let s = several_take reader text Fit p a.0.0 a.0.1 x t.0.rest_fits a.2 in
-      (subst (λ (n : ℕ). Takes bytes (big_bytes 4 n ++ flat_map text x.0) x.1) (sym s.count) (Takes-then bytes (big_bytes 4 a.0.0) a.0.1 (flat_map text x.0) x.1 t.0 s.taken), (omega (arith, s.count, t.1), s.fit));
+      (subst (λ (k : ℕ). Takes bytes (big_bytes n k ++ flat_map text x.0) x.1) (sym s.count) (Takes-then bytes (big_bytes n a.0.0) a.0.1 (flat_map text x.0) x.1 t.0 s.taken), (subst (λ (k : ℕ). k < 256 ^ n) (sym s.count) t.1, s.fit));
   again = λ xs rest fit.
-      ap (counted reader) (append_assoc (big_bytes 4 (length xs)) (flat_map text xs) rest)
-      ∙ rw ((number_reads 4 wide4).again (length xs) (flat_map text xs ++ rest) fit.0, several_again reader text Fit p xs rest fit.1) refl;
+      ap (counted n reader) (append_assoc (big_bytes n (length xs)) (flat_map text xs) rest)
+      ∙ rw ((number_reads n wide).again (length xs) (flat_map text xs ++ rest) fit.0, several_again reader text Fit p xs rest fit.1) refl;
+}
+
+-- so many bytes
+pub bytes_read : (n : ℕ) → IsReader (bytes_at n) (λ bytes. bytes) (λ bytes. length bytes ≡ n)
+bytes_read n = record { takes = λ bytes x fits e. bytes_take n bytes x fits e; again = λ x rest fit. bytes_again n x rest fit }
+
+-- a number of bytes, and the bytes
+pub sized_reads : (n : ℕ) → IsWide n → IsReader (sized n) (λ bytes. big_bytes n (length bytes) ++ bytes) (λ bytes. length bytes < 256 ^ n)
+unfolding sized
+sized_reads n wide = record {
+  takes = λ bytes x fits e.
+      let a = bind_some (number_at n bytes) (λ len. bytes_at len.0 len.1) x e in
+      let t = (number_reads n wide).takes bytes a.0 fits a.1 in
+      let u = bytes_take a.0.0 a.0.1 x t.0.rest_fits a.2 in
+      subst (λ (k : ℕ). Takes bytes (big_bytes n k ++ x.0) x.1 × (k < 256 ^ n)) (sym u.1)
+      (record { parts = t.0.parts ∙ ap (λ (l : List ℕ). big_bytes n a.0.0 ++ l) u.0.parts ∙ sym (append_assoc (big_bytes n a.0.0) x.0 x.1); rest_fits = u.0.rest_fits }, t.1);
+  again = λ x rest fit.
+      ap (sized n) (append_assoc (big_bytes n (length x)) x rest)
+      ∙ rw ((number_reads n wide).again (length x) (x ++ rest) fit, bytes_again (length x) x rest refl) refl;
 }

@@ -12,9 +12,11 @@ use Rattle.inode_table.specs.Listing.{Within}
 use Rattle.inode_table.proofs.Orders.{few}
 use Rattle.commit_slots.specs.Places.{layout_of, small, large}
 use Rattle.meta_store.specs.declared.snapshot.Mapping.{Mapping}
-use Rattle.meta_store.specs.Catalogs.{CatalogFile, Catalog, IsCatalog, IsCatalogFile, geometry_of, present, blocks_of, names_of}
+use Rattle.hsm_types.specs.Attributes.{bytes_of_attributes}
+use Rattle.meta_store.specs.Catalogs.{CatalogFile, Catalog, IsCatalog, IsCatalogFile, geometry_of, present, blocks_of, names_of, attribute_total}
 use Rattle.meta_store.specs.Snapshots.{extents_from, spelling, snapshot_file, snapshot_of, FileFits, Fits}
 use Rattle.meta_store.proofs.ExtentCounts.{present-few, length-extents}
+use Rattle.meta_store.proofs.KeptBounds.{regions-few, regions-fit, attributes-few, attributes-fit, attributes-short}
 use Rattle.meta_store.proofs.SnapshotLengths.{file_len, length-spelling}
 
 -- ---- numbers that differ, below a bound
@@ -52,10 +54,10 @@ by_test : {X : Type 0} (P : X → Type 0) (b : Bool) (x y : X) → P x → P y �
 by_test P true x y p q = p
 by_test P false x y p q = q
 
-pub geometry-bounded : (geometry : ℕ) → ((geometry_of geometry).files ≤ 4096) × ((geometry_of geometry).blocks ≤ 65536)
+pub geometry-bounded : (geometry : ℕ) → ((geometry_of geometry).files ≤ 4096) × ((geometry_of geometry).blocks ≤ 65536) × ((geometry_of geometry).attributes ≤ 1048576)
 unfolding geometry_of
 geometry-bounded geometry =
-    by_test (λ (g : Geometry). (g.files ≤ 4096) × (g.blocks ≤ 65536)) (eqb geometry 0) (record { files = 64; blocks = 1024 }) (record { files = 4096; blocks = 65536 }) (omega arith, omega arith) (omega arith, omega arith)
+    by_test (λ (g : Geometry). (g.files ≤ 4096) × (g.blocks ≤ 65536) × (g.attributes ≤ 1048576)) (eqb geometry 0) (record { files = 64; blocks = 1024; attributes = 32768 }) (record { files = 4096; blocks = 65536; attributes = 1048576 }) (omega arith, omega arith, omega arith) (omega arith, omega arith, omega arith)
 
 pub name-short : (name : List ℕ) → is_name name ≡ true → length name ≤ 64
 name-short name is =
@@ -88,21 +90,27 @@ extents-fit blocks n [] few_blocks fit below = tt
 extents-fit blocks n (None ∷ places) few_blocks fit below = extents-fit blocks (n + 1) places few_blocks (omega arith) below
 extents-fit blocks n (Some at ∷ places) few_blocks fit below = let low = below.0 in ((omega arith, omega arith), extents-fit blocks (n + 1) places few_blocks (omega arith) below.1)
 
-pub file-fits : (blocks limit next : ℕ) (f : CatalogFile) → blocks ≤ 65536 → limit ≤ 4096 → next ≤ 2 ^ 62 → f.key.ino ≤ limit → f.key.igen < next → IsCatalogFile blocks f → FileFits (snapshot_file f)
-file-fits blocks limit next f few_blocks few_files old ino igen is =
+pub file-fits : (blocks limit next : ℕ) (f : CatalogFile) → blocks ≤ 65536 → limit ≤ 4096 → next ≤ 2 ^ 62 → f.key.ino ≤ limit → f.key.igen < next → bytes_of_attributes f.attributes ≤ 1048576 → IsCatalogFile blocks f → FileFits (snapshot_file f)
+file-fits blocks limit next f few_blocks few_files old ino igen few is =
     let places : length f.places ≤ 4096 = let e = is.places in let s = is.size in omega arith in
     record {
       ino = omega arith;
       igen = omega arith;
       size = let s = is.size in omega arith;
       name = let short = name-short f.name is.name in omega arith;
+      regions = omega (arith, regions-few f.regions is.regions);
+      each_region = regions-fit f.regions is.regions;
+      attributes = omega (arith, attributes-few f.attributes);
+      each_attribute = attributes-fit f.attributes is.eight is.attributes;
       extents = omega (arith, length-extents 0 f.places, present-few f.places);
-      each = extents-fit blocks 0 f.places (omega arith) (omega arith) is.within;
+      each_extent = extents-fit blocks 0 f.places (omega arith) (omega arith) is.within;
     }
 
-files-fit : (blocks limit next : ℕ) (fs : List CatalogFile) → blocks ≤ 65536 → limit ≤ 4096 → next ≤ 2 ^ 62 → Within limit next (names_of fs) → AllByRecursion (IsCatalogFile blocks) fs → AllByRecursion FileFits (map snapshot_file fs)
-files-fit blocks limit next [] few_blocks few_files old w each = tt
-files-fit blocks limit next (f ∷ fs) few_blocks few_files old w each = (file-fits blocks limit next f few_blocks few_files old w.0 w.1 each.0, files-fit blocks limit next fs few_blocks few_files old w.2 each.1)
+files-fit : (blocks limit next : ℕ) (fs : List CatalogFile) → blocks ≤ 65536 → limit ≤ 4096 → next ≤ 2 ^ 62 → Within limit next (names_of fs) → attribute_total fs ≤ 1048576 → AllByRecursion (IsCatalogFile blocks) fs → AllByRecursion FileFits (map snapshot_file fs)
+files-fit blocks limit next [] few_blocks few_files old w few each = tt
+files-fit blocks limit next (f ∷ fs) few_blocks few_files old w few each =
+    let sum = sum_by-cons (λ (g : CatalogFile). bytes_of_attributes g.attributes) f fs in
+    (file-fits blocks limit next f few_blocks few_files old w.0 w.1 (omega arith) each.0, files-fit blocks limit next fs few_blocks few_files old w.2 (omega arith) each.1)
 
 pub fits_of : (n : ℕ) (c : Catalog) → n ≤ 2 ^ 62 → IsCatalog c → Fits (snapshot_of n c)
 unfolding snapshot_of
@@ -113,31 +121,34 @@ fits_of n c low is =
       number = omega arith;
       next = let old = is.next in omega arith;
       count = omega (arith, length-map c.files snapshot_file);
-      each = files-fit (geometry_of c.geometry).blocks (geometry_of c.geometry).files c.next c.files g.1 g.0 is.next is.table.within is.each;
+      each = files-fit (geometry_of c.geometry).blocks (geometry_of c.geometry).files c.next c.files g.1 g.0 is.next is.table.within (let few = is.few in omega arith) is.each;
     }
 
 -- ---- the area
 
 abbrev geometry_by : Bool → Geometry
-geometry_by b = cond b (record { files = 64; blocks = 1024 }) (record { files = 4096; blocks = 65536 })
+geometry_by b = cond b (record { files = 64; blocks = 1024; attributes = 32768 }) (record { files = 4096; blocks = 65536; attributes = 1048576 })
 
-files-short : (blocks : ℕ) (fs : List CatalogFile) → AllByRecursion (IsCatalogFile blocks) fs → sum_by file_len fs ≤ 102 * length fs + 8 * length (blocks_of fs)
+files-short : (blocks : ℕ) (fs : List CatalogFile) → AllByRecursion (IsCatalogFile blocks) fs → sum_by file_len fs ≤ 170 * length fs + 8 * length (blocks_of fs) + attribute_total fs
 files-short blocks [] each = omega arith
 files-short blocks (f ∷ fs) each =
     let sums = sum_by-cons file_len f fs in
     let parts : length (blocks_of (f ∷ fs)) ≡ length (present f.places) + length (blocks_of fs) = length-append (present f.places) (blocks_of fs) in
     let short = name-short f.name each.0.name in
     let more = files-short blocks fs each.1 in
-    omega (arith, sums, parts, short, more)
+    let total = sum_by-cons (λ (g : CatalogFile). bytes_of_attributes g.attributes) f fs in
+    let regions = regions-few f.regions each.0.regions in
+    let attributes = attributes-short f.attributes each.0.eight in
+    omega (arith, sums, parts, short, more, total, regions, attributes)
 
-by_choice : (b : Bool) → 24 + 102 * (geometry_by b).files + 8 * (geometry_by b).blocks ≤ (cond b small large).snapshot_len
+by_choice : (b : Bool) → 24 + 170 * (geometry_by b).files + 8 * (geometry_by b).blocks + (geometry_by b).attributes ≤ (cond b small large).snapshot_len
 by_choice true = omega arith
 by_choice false = omega arith
 
-area-bounded : (geometry : ℕ) → 24 + 102 * (geometry_of geometry).files + 8 * (geometry_of geometry).blocks ≤ (layout_of geometry).snapshot_len
+area-bounded : (geometry : ℕ) → 24 + 170 * (geometry_of geometry).files + 8 * (geometry_of geometry).blocks + (geometry_of geometry).attributes ≤ (layout_of geometry).snapshot_len
 unfolding geometry_of layout_of
 area-bounded geometry = by_choice (eqb geometry 0)
 
 pub snapshot-short : (n : ℕ) (c : Catalog) → IsCatalog c → length (spelling (snapshot_of n c)) ≤ (layout_of c.geometry).snapshot_len
 snapshot-short n c is =
-    omega (arith, length-spelling n c, files-short (geometry_of c.geometry).blocks c.files is.each, blocks-few c is, files-few c is, area-bounded c.geometry)
+    omega (arith, length-spelling n c, files-short (geometry_of c.geometry).blocks c.files is.each, blocks-few c is, files-few c is, is.few, area-bounded c.geometry)

@@ -1,7 +1,9 @@
 -- A file more in the catalog.
-use Rattle.std.proofs.Common.{◌≡◌, ℕ, ◌-◌, ◌<◌, List, [], ◌∷◌, ◌++◌, length, map, replicate, Bool, true, false, eqb, Some, None, Option, refl, ap, sym, ◌∙◌, subst, arith, append-nil}
+use Rattle.std.proofs.Common.{◌≡◌, ℕ, ◌+◌, ◌-◌, ◌<◌, ◌≤◌, leb, leb-true, le-leb, List, [], ◌∷◌, ◌++◌, length, map, replicate, Bool, true, false, eqb, Some, None, Option, refl, ap, sym, ◌∙◌, subst, arith, append-nil}
 use Rattle.std.specs.List.{AllByRecursion, list_any}
 use Rattle.std.specs.Option.{IsSome, is_some, option_map}
+use Rattle.std.specs.Cmp.{both_ways}
+use Rattle.hsm_types.specs.Attributes.{bytes_of_attributes}
 use Rattle.std.proofs.lemmas.List.{map-append}
 use Rattle.std.proofs.Math.Seq.{take-nil}
 use Rattle.std.proofs.lemmas.List.Concat.{flat_map-append}
@@ -13,14 +15,15 @@ use Rattle.plain_model.specs.Distinct.{Distinct}
 use Rattle.inode_table.specs.Listing.{listing, key_named, Ascend}
 use Rattle.inode_table.specs.Table.{entry_of}
 use Rattle.meta_store.specs.declared.snapshot.Mapping.{Mapping}
-use Rattle.meta_store.specs.Catalogs.{CatalogFile, Catalog, names_of, blocks_of, present}
-use Rattle.meta_store.specs.Changes.{places_fitted, places_set, remapped, with_file, with_remapped}
+use Rattle.meta_store.specs.Catalogs.{CatalogFile, Catalog, names_of, blocks_of, present, attribute_total}
+use Rattle.meta_store.specs.Changes.{places_fitted, places_set, remapped, with_file, with_remapped, with_regions, with_attributes, others_total}
 use Rattle.meta_store.specs.Snapshots.{SnapshotFile, snapshot_file, extents_from}
-use Rattle.meta_store.specs.Validity.{names_in, places_of, places_in, last_inode, are_extents, are_unused, are_free, can_follow, Flags, HasTaken}
+use Rattle.meta_store.specs.Validity.{names_in, places_of, places_in, last_inode, are_extents, are_unused, are_free, can_follow, attribute_total_in, are_few, Flags, HasTaken}
+use Rattle.meta_store.proofs.FileEdits.{total-put, total-fewer, total-same}
 use Rattle.meta_store.proofs.SpreadPlaces.{spread-holes, extents-tell, all-places, all-extents}
 use Rattle.meta_store.proofs.LastFiles.{put-behind, find-behind, change-behind}
 use Rattle.meta_store.proofs.StandOnce.{unused-tells, free-is, flags-mapped, length-mapped}
-use Rattle.meta_store.proofs.PassingFiles.{names_in-snapshot, places_in-snapshot, Follows, follows}
+use Rattle.meta_store.proofs.PassingFiles.{names_in-snapshot, places_in-snapshot, total_in-snapshot, Follows, follows}
 
 listing-names : (fs : List CatalogFile) → listing (map (λ f. entry_of f.key f.name f.size) fs) ≡ names_in (map snapshot_file fs)
 listing-names [] = refl
@@ -36,16 +39,23 @@ table-has fs name = same_variant (λ (l : Listed). l.key) (named name (listing (
 
 -- the file as it is made, without its blocks
 abbrev pub made : SnapshotFile → CatalogFile
-made f = record { key = f.key; name = f.name; size = 0; places = [] }
+made f = record { key = f.key; name = f.name; size = 0; places = []; regions = []; attributes = [] }
 
 fitted-nothing : (size : ℕ) → places_fitted size [] ≡ replicate (blocks_in size) None
 fitted-nothing size = let all : blocks_in size - 0 ≡ blocks_in size = omega arith in rw (take-nil, all) refl
 
-snapshot-remapped : (blocks : ℕ) (f : SnapshotFile) → are_extents 0 (blocks_in f.size) blocks f.extents ≡ true → snapshot_file (remapped f.size f.extents (made f)) ≡ f
+-- the file with its blocks, and then with its regions and attributes
+abbrev placed : SnapshotFile → CatalogFile
+placed f = remapped f.size f.extents (made f)
+
+abbrev managed : SnapshotFile → CatalogFile
+managed f = record (placed f) { regions = f.regions }
+
+snapshot-remapped : (blocks : ℕ) (f : SnapshotFile) → are_extents 0 (blocks_in f.size) blocks f.extents ≡ true → snapshot_file (record (managed f) { attributes = f.attributes }) ≡ f
 snapshot-remapped blocks f ok =
     let n = blocks_in f.size in
     let same : extents_from 0 (places_set f.extents (places_fitted f.size [])) ≡ f.extents = rw (fitted-nothing f.size) (spread-holes f.extents n blocks ok) in
-    ap (λ (es : List Mapping). record { key = f.key; size = f.size; name = f.name; extents = es }) same
+    ap (λ (es : List Mapping). record { key = f.key; size = f.size; name = f.name; regions = f.regions; attributes = f.attributes; extents = es }) same
 
 put-files : (c : Catalog) (f : SnapshotFile) → Ascend 1 (names_of c.files) → last_inode 0 (names_of c.files) < f.key.ino → (with_file f.key f.name c).files ≡ c.files ++ made f ∷ []
 put-files c f a above = put-behind 0 (made f) c.files a above
@@ -56,10 +66,31 @@ is-live c f a above = rw (put-files c f a above, find-behind 0 (made f) c.files 
 blocks-made : (c : Catalog) (f : SnapshotFile) → Ascend 1 (names_of c.files) → last_inode 0 (names_of c.files) < f.key.ino → blocks_of (with_file f.key f.name c).files ≡ blocks_of c.files
 blocks-made c f a above = ap blocks_of (put-files c f a above) ∙ flat_map-append (λ (g : CatalogFile). present g.places) c.files (made f ∷ []) ∙ append-nil (blocks_of c.files)
 
+-- the catalog with the file, and all that is kept with it
+abbrev pub with_all : SnapshotFile → Catalog → Catalog
+with_all f c = with_attributes f.key f.attributes (with_regions f.key f.regions (with_remapped f.key f.size f.extents (with_file f.key f.name c)))
+
 snapshot-more : (blocks : ℕ) (c : Catalog) (f : SnapshotFile) → Ascend 1 (names_of c.files) → last_inode 0 (names_of c.files) < f.key.ino → are_extents 0 (blocks_in f.size) blocks f.extents ≡ true
-    → map snapshot_file (with_remapped f.key f.size f.extents (with_file f.key f.name c)).files ≡ map snapshot_file c.files ++ f ∷ []
+    → map snapshot_file (with_all f c).files ≡ map snapshot_file c.files ++ f ∷ []
 snapshot-more blocks c f a above ok =
-    rw (put-files c f a above, change-behind 0 (made f) c.files (remapped f.size f.extents) a above, map-append, snapshot-remapped blocks f ok) refl
+    rw (
+      put-files c f a above,
+      change-behind 0 (made f) c.files (remapped f.size f.extents) a above,
+      change-behind 0 (placed f) c.files (λ g. record g { regions = f.regions }) a above,
+      change-behind 0 (managed f) c.files (λ g. record g { attributes = f.attributes }) a above,
+      map-append,
+      snapshot-remapped blocks f ok,
+    ) refl
+
+-- ---- room for attributes
+
+same_test : (x y u v : ℕ) → (x ≤ y → u ≤ v) → (u ≤ v → x ≤ y) → leb x y ≡ leb u v
+same_test x y u v there back = both_ways (leb x y) (leb u v) (λ h. le-leb u v (there (leb-true x y h))) (λ h. le-leb x y (back (leb-true u v h)))
+
+pub room-few : (g : Geometry) (c : Catalog) (f : SnapshotFile) (total : ℕ) → total ≡ attribute_total c.files → attribute_total c.files ≤ g.attributes → leb (bytes_of_attributes f.attributes) (g.attributes - total) ≡ are_few g (map snapshot_file c.files) f
+room-few g c f total is few =
+    let same = total_in-snapshot c.files in
+    same_test (bytes_of_attributes f.attributes) (g.attributes - total) (attribute_total_in (map snapshot_file c.files) + bytes_of_attributes f.attributes) g.attributes (λ h. omega arith) (λ h. omega arith)
 
 -- ---- a file that can follow, behind those of a catalog
 
@@ -83,10 +114,21 @@ module _ (g : Geometry) (next : ℕ) (c : Catalog) (flags : List Bool) (f : Snap
   not-used a free =
       rw (blocks-made c f a is-above) (all-extents (λ b. list_any (λ p. eqb p b) (blocks_of c.files) ≡ false) f.extents (unused-tells (blocks_of c.files) (places_of f.extents) (unused free)).0)
 
+  -- it is there with its blocks, and what the others count is what all have counted
+  pub is-placed : Ascend 1 (names_of c.files) → IsSome (find_key (λ g. g.key) f.key (with_remapped f.key f.size f.extents (with_file f.key f.name c)).files)
+  is-placed a = rw (put-files c f a is-above, change-behind 0 (made f) c.files (remapped f.size f.extents) a is-above, find-behind 0 (placed f) c.files a is-above) refl
+
+  pub others-count : others_total f.key (with_remapped f.key f.size f.extents (with_file f.key f.name c)) ≤ attribute_total c.files
+  others-count =
+      let fewer = total-fewer f.key (with_remapped f.key f.size f.extents (with_file f.key f.name c)).files in
+      let same = total-same f.key (remapped f.size f.extents) (with_file f.key f.name c).files (λ g. refl) in
+      let put = total-put (made f) c.files in
+      omega arith
+
   pub once-each : are_free (places_of f.extents) flags ≡ true → Distinct (places_of f.extents)
   once-each free = (unused-tells (blocks_of c.files) (places_of f.extents) (unused free)).1
 
-  pub taken-more : Ascend 1 (names_of c.files) → HasTaken c.geometry next g.blocks (map snapshot_file c.files ++ f ∷ []) (with_remapped f.key f.size f.extents (with_file f.key f.name c)) (with_mapped (places_of f.extents) flags)
+  pub taken-more : Ascend 1 (names_of c.files) → HasTaken c.geometry next g.blocks (map snapshot_file c.files ++ f ∷ []) (with_all f c) (with_mapped (places_of f.extents) flags)
   taken-more a =
       let files : List SnapshotFile = map snapshot_file c.files in
       let later = t.next in

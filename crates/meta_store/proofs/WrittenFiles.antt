@@ -6,6 +6,7 @@ use Rattle.std.proofs.lemmas.List.{length-map}
 use Rattle.byteorder.specs.Endian.{big_bytes}
 use Rattle.meta_store.specs.Catalogs.{CatalogFile, Catalog, IsCatalog, IsCatalogFile, geometry_of}
 use Rattle.meta_store.specs.Snapshots.{file_bytes, snapshot_file, snapshot_of, spelling}
+use Rattle.meta_store.proofs.KeptBounds.{regions-few}
 use Rattle.meta_store.proofs.SnapshotFits.{name-short}
 
 -- ---- the file at a place of the catalog
@@ -23,6 +24,9 @@ name-at c i f is at = name-short f.name (lawful-at c i f is at).name
 
 pub places-at : (c : Catalog) (i : ℕ) (f : CatalogFile) → IsCatalog c → slice_get c.files i ≡ Some f → length f.places ≤ 4096
 places-at c i f is at = let one = lawful-at c i f is at in let size = one.size in let places = one.places in omega arith
+
+pub regions-at : (c : Catalog) (i : ℕ) (f : CatalogFile) → IsCatalog c → slice_get c.files i ≡ Some f → length f.regions ≤ 4
+regions-at c i f is at = regions-few f.regions (lawful-at c i f is at).regions
 
 -- ---- what is written, and what is still to come
 

@@ -1,20 +1,25 @@
 -- What a store keeps of its files beside their bytes.
-use Rattle.std.specs.Prelude.{◌≡◌, ℕ, ◌<◌, ◌≤◌, ◌^◌, ◌==◌, List, [], ◌∷◌, length, map, true, if◌then◌else◌, Option, Some, None}
+use Rattle.std.specs.Prelude.{◌≡◌, ℕ, ◌<◌, ◌≤◌, ◌^◌, ◌==◌, List, [], ◌∷◌, length, map, sum_by, true, if◌then◌else◌, Option, Some, None}
 use Rattle.std.specs.List.{flat_map, AllByRecursion}
 use Rattle.hsm_types.specs.Names.{is_name}
 use Rattle.hsm_types.specs.declared.keys.FileKey.{FileKey}
 use Rattle.hsm_types.specs.declared.stores.Geometry.{Geometry}
+use Rattle.hsm_types.specs.declared.regions.Region.{Region}
+use Rattle.hsm_types.specs.Regions.{regions_refusal}
+use Rattle.hsm_types.specs.Attributes.{Attributes, AreAttributes, bytes_of_attributes}
 use Rattle.plain_model.specs.Plain.{Listed}
 use Rattle.plain_model.specs.Blocks.{blocks_in}
 use Rattle.plain_model.specs.Distinct.{Distinct}
 use Rattle.inode_table.specs.Table.{IsTable}
 
--- a file: its key, its name, its size, and for each of its blocks which block of the disk has it; a hole has none
+-- a file: its key, its name, its size, for each of its blocks which block of the disk has it, where a hole has none, and what sessions keep with it
 pub record CatalogFile : Type 0 where
   pub key : FileKey
   pub name : List ℕ
   pub size : ℕ
   pub places : List (Option ℕ)
+  pub regions : List Region
+  pub attributes : Attributes
 
 -- the files of a store in the order of their inodes, and the next generation
 pub record Catalog : Type 0 where
@@ -24,7 +29,7 @@ pub record Catalog : Type 0 where
 
 -- how much a store of geometry 0 can hold, which is small, and one of any other, which is large
 unfoldable pub geometry_of : ℕ → Geometry
-geometry_of geometry = if geometry == 0 then record { files = 64; blocks = 1024 } else record { files = 4096; blocks = 65536 }
+geometry_of geometry = if geometry == 0 then record { files = 64; blocks = 1024; attributes = 32768 } else record { files = 4096; blocks = 65536; attributes = 1048576 }
 
 -- the key and the name of each file
 abbrev pub names_of : List CatalogFile → List Listed
@@ -40,6 +45,10 @@ present (Some at ∷ places) = at ∷ present places
 abbrev pub blocks_of : List CatalogFile → List ℕ
 blocks_of files = flat_map (λ f. present f.places) files
 
+-- what the attributes of all files count
+abbrev pub attribute_total : List CatalogFile → ℕ
+attribute_total files = sum_by (λ f. bytes_of_attributes f.attributes) files
+
 -- what is true of each file in a store of so many blocks
 pub record IsCatalogFile (blocks : ℕ) (f : CatalogFile) : Type 0 where
   pub generation : 1 ≤ f.key.igen
@@ -47,9 +56,13 @@ pub record IsCatalogFile (blocks : ℕ) (f : CatalogFile) : Type 0 where
   pub size : f.size ≤ 16777216
   pub places : length f.places ≡ blocks_in f.size
   pub within : AllByRecursion (λ b. b < blocks) (present f.places)
+  pub regions : regions_refusal f.regions ≡ None
+  pub attributes : AreAttributes f.attributes
+  -- a name of an attribute has eight bytes
+  pub eight : AllByRecursion (λ a. length a.0.0 ≡ 8) f.attributes
 
--- What is true of each catalog: inodes ascend and are within the geometry's, names differ, each generation is below the next one, and no
--- block of the disk is used twice.
+-- What is true of each catalog: inodes ascend and are within the geometry's, names differ, each generation is below the next one, no block
+-- of the disk is used twice, and all attributes together count at most what the geometry allows.
 pub record IsCatalog (c : Catalog) : Type 0 where
   pub known : c.geometry ≤ 1
   pub first : 1 ≤ c.next
@@ -57,3 +70,4 @@ pub record IsCatalog (c : Catalog) : Type 0 where
   pub table : IsTable (geometry_of c.geometry).files c.next (names_of c.files)
   pub each : AllByRecursion (IsCatalogFile (geometry_of c.geometry).blocks) c.files
   pub distinct : Distinct (blocks_of c.files)
+  pub few : attribute_total c.files ≤ (geometry_of c.geometry).attributes

@@ -1,9 +1,14 @@
 -- What events change of a catalog.
 use Rattle.std.specs.Prelude.{ℕ, ◌+◌, ◌-◌, max, List, [], ◌∷◌, ◌++◌, length, take, replicate, slice_set, Option, Some, None}
+use Rattle.std.specs.Option.{option_map, unwrap_or}
 use Rattle.hsm_types.specs.declared.keys.FileKey.{FileKey}
-use Rattle.plain_model.specs.Keyed.{change_key, put_key, drop_key}
+use Rattle.hsm_types.specs.declared.regions.Region.{Region}
+use Rattle.hsm_types.specs.declared.attributes.AttrName.{AttrName}
+use Rattle.hsm_types.specs.declared.dm.DmRefusal.{DmRefusal}
+use Rattle.hsm_types.specs.Attributes.{Attributes, with_value, without_value, setting_refusal}
+use Rattle.plain_model.specs.Keyed.{find_key, change_key, put_key, drop_key}
 use Rattle.plain_model.specs.Blocks.{blocks_in}
-use Rattle.meta_store.specs.Catalogs.{CatalogFile, Catalog}
+use Rattle.meta_store.specs.Catalogs.{CatalogFile, Catalog, geometry_of, attribute_total}
 use Rattle.meta_store.specs.declared.snapshot.Mapping.{Mapping}
 
 -- as many places as a body of that size has blocks: more of them are holes
@@ -19,12 +24,42 @@ places_set (m ∷ ms) places = places_set ms (slice_set places m.block (Some m.p
 abbrev pub remapped : ℕ → List Mapping → CatalogFile → CatalogFile
 remapped size mappings f = record f { size = size; places = places_set mappings (places_fitted size f.places) }
 
--- a file more, empty; its generation isn't given again
+-- a file more, empty, with no regions and no attributes; its generation isn't given again
 abbrev pub with_file : FileKey → List ℕ → Catalog → Catalog
-with_file key name c = record c { next = max c.next (key.igen + 1); files = put_key (λ f. f.key) (record { key = key; name = name; size = 0; places = [] }) c.files }
+with_file key name c = record c { next = max c.next (key.igen + 1); files = put_key (λ f. f.key) (record { key = key; name = name; size = 0; places = []; regions = []; attributes = [] }) c.files }
 
 abbrev pub without_file : FileKey → Catalog → Catalog
 without_file key c = record c { files = drop_key (λ f. f.key) key c.files }
 
 abbrev pub with_remapped : FileKey → ℕ → List Mapping → Catalog → Catalog
 with_remapped key size mappings c = record c { files = change_key (λ f. f.key) key (remapped size mappings) c.files }
+
+-- ---- what sessions keep with a file
+
+-- the file has these regions, and no others
+abbrev pub with_regions : FileKey → List Region → Catalog → Catalog
+with_regions key regions c = record c { files = change_key (λ f. f.key) key (λ f. record f { regions = regions }) c.files }
+
+-- the file has these attributes, and no others
+abbrev pub with_attributes : FileKey → Attributes → Catalog → Catalog
+with_attributes key attributes c = record c { files = change_key (λ f. f.key) key (λ f. record f { attributes = attributes }) c.files }
+
+-- the attributes of the file
+abbrev pub attributes_at : FileKey → Catalog → Attributes
+attributes_at key c = unwrap_or (option_map (λ f. f.attributes) (find_key (λ f. f.key) key c.files)) []
+
+-- the file's attribute of that name has this value
+abbrev pub with_attribute : FileKey → AttrName → List ℕ → Catalog → Catalog
+with_attribute key name value c = with_attributes key (with_value name value (attributes_at key c)) c
+
+-- the file has no attribute of that name
+abbrev pub without_attribute : FileKey → AttrName → Catalog → Catalog
+without_attribute key name c = with_attributes key (without_value name (attributes_at key c)) c
+
+-- what the attributes of all other files count
+abbrev pub others_total : FileKey → Catalog → ℕ
+others_total key c = attribute_total (without_file key c).files
+
+-- what refuses to give the file's attribute of that name this value
+abbrev pub attribute_refusal : FileKey → AttrName → List ℕ → Catalog → Option DmRefusal
+attribute_refusal key name value c = setting_refusal name value (others_total key c) (geometry_of c.geometry).attributes (attributes_at key c)

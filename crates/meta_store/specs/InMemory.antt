@@ -1,25 +1,35 @@
--- A catalog in memory: a table of its files, and for each inode, from 1, the places of the blocks of the file that has it.
-use Rattle.std.specs.Prelude.{◌≡◌, ℕ, ◌-◌, List, [], length, map, Option, slice_index_or}
+-- A catalog in memory: a table of its files, for each inode, from 1, what is kept of the file that has it beside them, and what all attributes count.
+use Rattle.std.specs.Prelude.{◌≡◌, ℕ, ◌-◌, List, [], length, map, slice_index_or}
 use Rattle.hsm_types.specs.declared.keys.FileKey.{FileKey}
 use Rattle.inode_table.specs.declared.entries.FileEntry.{FileEntry}
 use Rattle.inode_table.specs.Table.{Table}
-use Rattle.meta_store.specs.Catalogs.{CatalogFile, Catalog, IsCatalog, geometry_of}
+use Rattle.meta_store.specs.declared.file_parts.FileParts.{FileParts}
+use Rattle.meta_store.specs.Catalogs.{CatalogFile, Catalog, IsCatalog, geometry_of, attribute_total}
 
-abbrev pub file_of : FileKey → List ℕ → ℕ → List (Option ℕ) → CatalogFile
-file_of key name size places = record { key = key; name = name; size = size; places = places }
+-- of a new file
+abbrev pub no_parts : FileParts
+no_parts = record { places = []; regions = []; attributes = [] }
 
-abbrev pub file_held : List (List (Option ℕ)) → FileEntry → CatalogFile
-file_held places e = file_of e.key e.name e.size (slice_index_or places (e.key.ino - 1) [])
+abbrev pub file_of : FileKey → List ℕ → ℕ → FileParts → CatalogFile
+file_of key name size parts = record { key = key; name = name; size = size; places = parts.places; regions = parts.regions; attributes = parts.attributes }
 
--- the files of the table with their places
-abbrev pub files_held : List (List (Option ℕ)) → List FileEntry → List CatalogFile
-files_held places entries = map (file_held places) entries
+-- what is kept of a file beside its key, its name and its size
+abbrev pub parts_of : CatalogFile → FileParts
+parts_of f = record { places = f.places; regions = f.regions; attributes = f.attributes }
 
-abbrev pub catalog_held : ℕ → Table → List (List (Option ℕ)) → Catalog
-catalog_held geometry table places = record { geometry = geometry; next = table.next; files = files_held places table.files }
+abbrev pub file_held : List FileParts → FileEntry → CatalogFile
+file_held parts e = file_of e.key e.name e.size (slice_index_or parts (e.key.ino - 1) no_parts)
 
--- what is true of each catalog in memory: the table and the places are of the geometry's size
-pub record IsHeld (geometry : ℕ) (table : Table) (places : List (List (Option ℕ))) : Type 0 where
+-- the files of the table with their parts
+abbrev pub files_held : List FileParts → List FileEntry → List CatalogFile
+files_held parts entries = map (file_held parts) entries
+
+abbrev pub catalog_held : ℕ → Table → List FileParts → Catalog
+catalog_held geometry table parts = record { geometry = geometry; next = table.next; files = files_held parts table.files }
+
+-- what is true of each catalog in memory: the table and the parts are of the geometry's size, and the count of attributes' bytes is right
+pub record IsHeld (geometry : ℕ) (table : Table) (parts : List FileParts) (total : ℕ) : Type 0 where
   pub limit : table.limit ≡ (geometry_of geometry).files
-  pub count : length places ≡ (geometry_of geometry).files
-  pub catalog : IsCatalog (catalog_held geometry table places)
+  pub count : length parts ≡ (geometry_of geometry).files
+  pub counted : total ≡ attribute_total (files_held parts table.files)
+  pub catalog : IsCatalog (catalog_held geometry table parts)

@@ -2,6 +2,8 @@
 use Rattle.std.specs.Prelude.{◌≡◌, ℕ, zero, suc, List, [], ◌∷◌, length, take, drop, Option, Some, None, Result, Ok, Err, ◌==◌, nat_lt, if◌then◌else◌}
 use Rattle.byteorder.specs.Endian.{big_number}
 use Rattle.hsm_types.specs.declared.keys.FileKey.{FileKey}
+use Rattle.hsm_types.specs.declared.regions.Region.{Region}
+use Rattle.hsm_types.specs.declared.attributes.AttrName.{AttrName}
 use Rattle.meta_store.specs.declared.snapshot.Mapping.{Mapping}
 use Rattle.meta_store.specs.declared.snapshot.ReadRefusal.{ReadRefusal}
 use Rattle.meta_store.specs.declared.snapshot.ReadRefusal.TheVariants.{Memory, Corrupt}
@@ -61,34 +63,41 @@ several reader (suc n) bytes = do
   others ← several reader n first.1
   Some (first.0 ∷ others.0, others.1)
 
--- a number of 4 bytes, and as many values
-unfoldable pub counted : {A : Type 0} → (List ℕ → Option (A × List ℕ)) → List ℕ → Option (List A × List ℕ)
-counted reader bytes = do
-  count ← number_at 4 bytes
+-- a number of n bytes, and as many values
+unfoldable pub counted : {A : Type 0} → ℕ → (List ℕ → Option (A × List ℕ)) → List ℕ → Option (List A × List ℕ)
+counted n reader bytes = do
+  count ← number_at n bytes
   several reader count.0 count.1
+
+-- a number of n bytes, and as many bytes
+unfoldable pub sized : ℕ → List ℕ → Option (List ℕ × List ℕ)
+sized n bytes = do
+  len ← number_at n bytes
+  bytes_at len.0 len.1
 
 -- ---- the parts of a snapshot
 
 unfoldable pub key_at : List ℕ → Option (FileKey × List ℕ)
 key_at = made (λ n. record { ino = n.0; igen = n.1 }) (both (number_at 8) (number_at 8))
 
-unfoldable pub name_at : List ℕ → Option (List ℕ × List ℕ)
-name_at bytes = do
-  len ← number_at 1 bytes
-  bytes_at len.0 len.1
+unfoldable pub region_at : List ℕ → Option (Region × List ℕ)
+region_at = made (λ n. record { offset = n.0.0; size = n.0.1; flags = n.1 }) (both (both (number_at 8) (number_at 8)) (number_at 1))
 
--- the counts of regions and attributes
-unfoldable pub nothing_at : List ℕ → Option ((Unit {0} × Unit {0}) × List ℕ)
-nothing_at = both (only_at 1 0) (only_at 4 0)
+unfoldable pub attr_name_at : List ℕ → Option (AttrName × List ℕ)
+attr_name_at = made (λ bytes. record { 0 = bytes }) (bytes_at 8)
+
+-- the name of an attribute, and its value
+unfoldable pub attribute_at : List ℕ → Option ((AttrName × List ℕ) × List ℕ)
+attribute_at = both attr_name_at (sized 2)
 
 unfoldable pub extent_at : List ℕ → Option (Mapping × List ℕ)
 extent_at = made (λ n. record { block = n.0; place = n.1 }) (both (number_at 4) (number_at 4))
 
 -- the count of stub entries is last
 unfoldable pub file_at : List ℕ → Option (SnapshotFile × List ℕ)
-file_at = made (λ p. record { key = p.0.0.0.0.0; size = p.0.0.0.0.1; name = p.0.0.0.1; extents = p.0.1 })
-    (both (both (both (both (both key_at (number_at 8)) name_at) nothing_at) (counted extent_at)) (only_at 4 0))
+file_at = made (λ p. record { key = p.0.0.0.0.0.0; size = p.0.0.0.0.0.1; name = p.0.0.0.0.1; regions = p.0.0.0.1; attributes = p.0.0.1; extents = p.0.1 })
+    (both (both (both (both (both (both key_at (number_at 8)) (sized 1)) (counted 1 region_at)) (counted 4 attribute_at)) (counted 4 extent_at)) (only_at 4 0))
 
 unfoldable pub snapshot_at : List ℕ → Option (Snapshot × List ℕ)
 snapshot_at = made (λ p. record { number = p.0.0.0; next = p.0.0.1; files = p.1 })
-    (both (both (both (number_at 8) (number_at 8)) (only_at 4 1)) (counted file_at))
+    (both (both (both (number_at 8) (number_at 8)) (only_at 4 1)) (counted 4 file_at))

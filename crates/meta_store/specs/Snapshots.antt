@@ -3,6 +3,9 @@ use Rattle.std.specs.Prelude.{◌≡◌, ℕ, ◌+◌, ◌<◌, ◌≤◌, ◌^�
 use Rattle.std.specs.List.{flat_map, AllByRecursion}
 use Rattle.byteorder.specs.Endian.{big_bytes}
 use Rattle.hsm_types.specs.declared.keys.FileKey.{FileKey}
+use Rattle.hsm_types.specs.declared.regions.Region.{Region}
+use Rattle.hsm_types.specs.declared.attributes.AttrName.{AttrName}
+use Rattle.hsm_types.specs.Attributes.{Attributes}
 use Rattle.meta_store.specs.declared.snapshot.Mapping.{Mapping}
 use Rattle.meta_store.specs.declared.snapshot.RawFile.{RawFile}
 use Rattle.meta_store.specs.declared.snapshot.RawSnapshot.{RawSnapshot}
@@ -13,6 +16,8 @@ pub record SnapshotFile : Type 0 where
   pub key : FileKey
   pub size : ℕ
   pub name : List ℕ
+  pub regions : List Region
+  pub attributes : Attributes
   pub extents : List Mapping
 
 -- a snapshot: the number of history entries before the commit, the next generation, and the files
@@ -23,7 +28,7 @@ pub record Snapshot : Type 0 where
 
 -- the snapshot that was read
 abbrev pub raw_file : RawFile → SnapshotFile
-raw_file f = record { key = f.key; size = f.size; name = f.name; extents = f.extents.items }
+raw_file f = record { key = f.key; size = f.size; name = f.name; regions = f.regions.items; attributes = f.attributes.items; extents = f.extents.items }
 
 abbrev pub raw_snapshot : RawSnapshot → Snapshot
 raw_snapshot s = record { number = s.number; next = s.next; files = map raw_file s.files.items }
@@ -33,13 +38,20 @@ raw_snapshot s = record { number = s.number; next = s.next; files = map raw_file
 abbrev pub extent_bytes : Mapping → List ℕ
 extent_bytes e = big_bytes 4 e.block ++ big_bytes 4 e.place
 
--- The counts of regions, of attributes and of stub entries are 0.
+abbrev pub region_bytes : Region → List ℕ
+region_bytes r = big_bytes 8 r.offset ++ big_bytes 8 r.size ++ big_bytes 1 r.flags
+
+-- the name of an attribute has eight bytes, and its value its length in front
+abbrev pub attribute_bytes : AttrName × List ℕ → List ℕ
+attribute_bytes a = a.0.0 ++ (big_bytes 2 (length a.1) ++ a.1)
+
+-- The count of stub entries is 0.
 unfoldable pub file_bytes : SnapshotFile → List ℕ
 file_bytes f =
     big_bytes 8 f.key.ino ++ big_bytes 8 f.key.igen ++ big_bytes 8 f.size
     ++ big_bytes 1 (length f.name) ++ f.name
-    ++ big_bytes 1 0
-    ++ big_bytes 4 0
+    ++ big_bytes 1 (length f.regions) ++ flat_map region_bytes f.regions
+    ++ big_bytes 4 (length f.attributes) ++ flat_map attribute_bytes f.attributes
     ++ big_bytes 4 (length f.extents) ++ flat_map extent_bytes f.extents
     ++ big_bytes 4 0
 
@@ -47,14 +59,27 @@ file_bytes f =
 unfoldable pub spelling : Snapshot → List ℕ
 spelling s = big_bytes 8 s.number ++ big_bytes 8 s.next ++ big_bytes 4 1 ++ big_bytes 4 (length s.files) ++ flat_map file_bytes s.files
 
+abbrev pub RegionFits : Region → Type 0
+RegionFits r = (r.offset < 2 ^ 64) × (r.size < 2 ^ 64) × (r.flags < 2 ^ 8)
+
+abbrev pub AttributeFits : AttrName × List ℕ → Type 0
+AttributeFits a = (length a.0.0 ≡ 8) × (length a.1 < 2 ^ 16)
+
+abbrev pub ExtentFits : Mapping → Type 0
+ExtentFits e = (e.block < 2 ^ 32) × (e.place < 2 ^ 32)
+
 -- each number is one that its field can hold
 pub record FileFits (f : SnapshotFile) : Type 0 where
   pub ino : f.key.ino < 2 ^ 64
   pub igen : f.key.igen < 2 ^ 64
   pub size : f.size < 2 ^ 64
   pub name : length f.name < 2 ^ 8
+  pub regions : length f.regions < 2 ^ 8
+  pub each_region : AllByRecursion RegionFits f.regions
+  pub attributes : length f.attributes < 2 ^ 32
+  pub each_attribute : AllByRecursion AttributeFits f.attributes
   pub extents : length f.extents < 2 ^ 32
-  pub each : AllByRecursion (λ e. (e.block < 2 ^ 32) × (e.place < 2 ^ 32)) f.extents
+  pub each_extent : AllByRecursion ExtentFits f.extents
 
 pub record Fits (s : Snapshot) : Type 0 where
   pub number : s.number < 2 ^ 64
@@ -77,7 +102,7 @@ extents_from n (None ∷ places) = extents_from (n + 1) places
 extents_from n (Some at ∷ places) = (record { block = n; place = at }) ∷ extents_from (n + 1) places
 
 abbrev pub snapshot_file : CatalogFile → SnapshotFile
-snapshot_file f = record { key = f.key; size = f.size; name = f.name; extents = extents_from 0 f.places }
+snapshot_file f = record { key = f.key; size = f.size; name = f.name; regions = f.regions; attributes = f.attributes; extents = extents_from 0 f.places }
 
 unfoldable pub snapshot_of : ℕ → Catalog → Snapshot
 snapshot_of number c = record { number = number; next = c.next; files = map snapshot_file c.files }

@@ -1,8 +1,13 @@
 -- What is judged of the files of a snapshot, one after the other.
-use Rattle.std.specs.Prelude.{◌≡◌, ℕ, ◌+◌, ◌<◌, List, [], ◌∷◌, ◌++◌, length, map, get_or, slice_set, Bool, true, false, not, ◌==◌, ◌&&◌, nat_lt, nat_le, is_some}
+use Rattle.std.specs.Prelude.{◌≡◌, ℕ, ◌+◌, ◌<◌, List, [], ◌∷◌, ◌++◌, length, map, sum_by, get_or, slice_set, Bool, true, false, not, ◌==◌, ◌&&◌, nat_lt, nat_le, Option, Some, None, is_some}
 use Rattle.std.specs.List.{flat_map, list_any}
+use Rattle.std.specs.Ordering.{is_lt}
 use Rattle.hsm_types.specs.Names.{is_name}
 use Rattle.hsm_types.specs.declared.stores.Geometry.{Geometry}
+use Rattle.hsm_types.specs.declared.attributes.AttrName.{AttrName}
+use Rattle.hsm_types.specs.declared.regions.Region.{Region}
+use Rattle.hsm_types.specs.Regions.{regions_refusal}
+use Rattle.hsm_types.specs.Attributes.{Attributes, name_cmp, is_reserved, bytes_of_attributes}
 use Rattle.plain_model.specs.Plain.{Listed, named}
 use Rattle.plain_model.specs.Blocks.{blocks_in}
 use Rattle.meta_store.specs.declared.snapshot.Mapping.{Mapping}
@@ -33,9 +38,27 @@ abbrev pub are_extents : ℕ → ℕ → ℕ → List Mapping → Bool
 are_extents low count blocks [] = true
 are_extents low count blocks (e ∷ es) = nat_le low e.block && nat_lt e.block count && nat_lt e.place blocks && are_extents (e.block + 1) count blocks es
 
+-- nothing refuses these regions
+abbrev pub are_regions : List Region → Bool
+are_regions regions = not (is_some (regions_refusal regions))
+
+-- the first name stands before the second, if there is one before it
+abbrev pub stands_behind : Option AttrName → AttrName → Bool
+stands_behind None name = true
+stands_behind (Some before) name = is_lt (name_cmp before name)
+
+-- the attribute can stand behind one of that name: its own isn't reserved, and its value has at most 4,096 bytes
+abbrev pub is_attribute : Option AttrName → AttrName × List ℕ → Bool
+is_attribute before a = stands_behind before a.0 && not (is_reserved a.0) && nat_le (length a.1) 4096
+
+-- each attribute can stand behind the one before it
+abbrev pub are_attributes : Option AttrName → Attributes → Bool
+are_attributes before [] = true
+are_attributes before (a ∷ attrs) = is_attribute before a && are_attributes (Some a.0) attrs
+
 -- what can be judged of a file by itself
 abbrev pub is_file : ℕ → ℕ → SnapshotFile → Bool
-is_file next blocks f = nat_le 1 f.key.igen && nat_lt f.key.igen next && nat_le f.size 16777216 && is_name f.name && are_extents 0 (blocks_in f.size) blocks f.extents
+is_file next blocks f = nat_le 1 f.key.igen && nat_lt f.key.igen next && nat_le f.size 16777216 && is_name f.name && are_regions f.regions && are_attributes None f.attributes && are_extents 0 (blocks_in f.size) blocks f.extents
 
 -- none of these places is used yet, and none of them stands twice
 abbrev pub are_unused : List ℕ → List ℕ → Bool
@@ -47,9 +70,17 @@ abbrev pub can_follow : Geometry → ℕ → List SnapshotFile → SnapshotFile 
 can_follow geometry next before f =
     not (is_some (named f.name (names_in before))) && nat_lt (last_inode 0 (names_in before)) f.key.ino && nat_le f.key.ino geometry.files && is_file next geometry.blocks f
 
+-- what the attributes of these files count
+abbrev pub attribute_total_in : List SnapshotFile → ℕ
+attribute_total_in files = sum_by (λ f. bytes_of_attributes f.attributes) files
+
+-- the attributes of the file and those before it count at most what the geometry allows
+abbrev pub are_few : Geometry → List SnapshotFile → SnapshotFile → Bool
+are_few geometry before f = nat_le (attribute_total_in before + bytes_of_attributes f.attributes) geometry.attributes
+
 -- the file can stand behind those
 abbrev pub is_next : Geometry → ℕ → List SnapshotFile → SnapshotFile → Bool
-is_next geometry next before f = can_follow geometry next before f && are_unused (places_in before) (places_of f.extents)
+is_next geometry next before f = can_follow geometry next before f && are_few geometry before f && are_unused (places_in before) (places_of f.extents)
 
 -- ---- flags of the places in use
 

@@ -26,8 +26,10 @@ fn keeps_places_and_holes(rt: HostRuntime) -> Result<(), Fail> {
     ];
     catalog.remap(alloc, key, 9_000, &mappings)?;
     let places = [Some(9), None, Some(3)];
-    assert_eq!(rt; catalog.file(0), Some((key, &a, 9_000, &places[..])));
+    assert!(rt; catalog.file(0).is_some());
     assert_eq!(rt; catalog.places(key), Some(&places[..]));
+    assert_eq!(rt; catalog.mapped(key), Some(2));
+    assert_eq!(rt; catalog.used(), 2);
     Ok(())
 }
 
@@ -46,6 +48,8 @@ fn forgets_blocks_past_the_size(rt: HostRuntime) -> Result<(), Fail> {
     catalog.remap(alloc, key, 8_192, &first)?;
     catalog.remap(alloc, key, 4_096, &[])?;
     assert_eq!(rt; catalog.places(key), Some(&[Some(4)][..]));
+    assert_eq!(rt; catalog.mapped(key), Some(1));
+    assert_eq!(rt; catalog.used(), 1);
     Ok(())
 }
 
@@ -64,6 +68,8 @@ fn a_new_file_has_no_places_of_a_dropped_one(rt: HostRuntime) -> Result<(), Fail
     catalog.remap(alloc, key, 1, &mappings)?;
     catalog.drop_file(key);
     assert_eq!(rt; catalog.places(key), None);
+    assert_eq!(rt; catalog.mapped(key), None);
+    assert_eq!(rt; catalog.used(), 0);
     let again = FileKey { ino: 1, igen: 8 };
     assert_eq!(rt; catalog.make(alloc, &a), Ok(again));
     assert_eq!(rt; catalog.places(again), Some(&[][..]));

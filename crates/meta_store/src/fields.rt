@@ -1,18 +1,27 @@
 // The fields of a snapshot: each function reads one from the front of some bytes, and gives it with the bytes after it.
-ghost use Rattle.meta_store.specs.Reading.{Gives, number_at, only_at, bytes_at, key_at, name_at, nothing_at, extent_at};
+ghost use Rattle.meta_store.specs.Reading.{Gives, number_at, only_at, bytes_at, sized, key_at, region_at, attr_name_at, attribute_at, extent_at};
 
 use crate::snapshot::{Mapping, ReadRefusal};
 use byteorder::{BigEndian, ByteOrder};
-use hsm_types::{FileKey, Word};
+use hsm_types::{AttrName, Bytes, FileKey, Region, Word};
 use std::alloc::Global;
 
-fn u8_at(bytes: &[u8]) -> Result<(u8, &[u8]), ReadRefusal>
+pub(crate) fn u8_at(bytes: &[u8]) -> Result<(u8, &[u8]), ReadRefusal>
     ensures { Gives (λ x. (x.0, x.1.now)) result (number_at 1 bytes.now) }
 {
     if bytes.is_empty() {
         return Err(ReadRefusal::Corrupt);
     }
     Ok((bytes[0], &bytes[1..]))
+}
+
+fn u16_at(bytes: &[u8]) -> Result<(u16, &[u8]), ReadRefusal>
+    ensures { Gives (λ x. (x.0, x.1.now)) result (number_at 2 bytes.now) }
+{
+    if bytes.len() < 2 {
+        return Err(ReadRefusal::Corrupt);
+    }
+    Ok((BigEndian::read_u16(bytes), &bytes[2..]))
 }
 
 pub(crate) fn u32_at(bytes: &[u8]) -> Result<(u32, &[u8]), ReadRefusal>
@@ -44,18 +53,6 @@ pub(crate) fn only_u32_at(bytes: &[u8], wanted: u32) -> Result<&[u8], ReadRefusa
     Ok(rest)
 }
 
-#[tactic(auto, unfolding(crate::specs::Reading::only_at, crate::specs::Reading::both, crate::specs::Reading::nothing_at))]
-pub(crate) fn nothing_at(bytes: &[u8]) -> Result<&[u8], ReadRefusal>
-    ensures { Gives (λ rest. ((tt, tt), rest.now)) result (nothing_at bytes.now) }
-{
-    let (regions, rest) = u8_at(bytes)?;
-    if regions != 0 {
-        return Err(ReadRefusal::Corrupt);
-    }
-    let rest = only_u32_at(rest, 0)?;
-    Ok(rest)
-}
-
 #[tactic(auto, unfolding(crate::specs::Reading::made, crate::specs::Reading::both, crate::specs::Reading::key_at))]
 pub(crate) fn key_at(bytes: &[u8]) -> Result<(FileKey, &[u8]), ReadRefusal>
     ensures { Gives (λ x. (x.0, x.1.now)) result (key_at bytes.now) }
@@ -74,15 +71,70 @@ pub(crate) fn extent_at(bytes: &[u8]) -> Result<(Mapping, &[u8]), ReadRefusal>
     Ok((Mapping { block, place }, rest))
 }
 
-#[tactic(auto, unfolding(crate::specs::Reading::name_at))]
-pub(crate) fn name_at(alloc: Global, bytes: &[u8]) -> Result<(Word, &[u8]), ReadRefusal>
-    ensures { Gives (λ x. (x.0, x.1.now)) result (name_at bytes.now) }
+/// A copy of so many bytes.
+fn bytes_at(alloc: Global, len: usize, bytes: &[u8]) -> Result<(Vec<u8>, &[u8]), ReadRefusal>
+    ensures { Gives (λ x. (x.0.items, x.1.now)) result (bytes_at len bytes.now) }
 {
-    let (len, rest) = u8_at(bytes)?;
-    let len = usize::from(len);
-    if rest.len() < len {
+    if bytes.len() < len {
         return Err(ReadRefusal::Corrupt);
     }
-    let (name, rest) = rest.split_at(len);
-    Ok((Word::from(Vec::from_slice(alloc, name)?), rest))
+    let (front, rest) = bytes.split_at(len);
+    Ok((Vec::from_slice(alloc, front)?, rest))
+}
+
+#[tactic(auto, unfolding(crate::specs::Reading::sized))]
+pub(crate) fn name_at(alloc: Global, bytes: &[u8]) -> Result<(Word, &[u8]), ReadRefusal>
+    ensures { Gives (λ x. (x.0, x.1.now)) result (sized 1 bytes.now) }
+{
+    let (len, rest) = u8_at(bytes)?;
+    let (name, rest) = bytes_at(alloc, usize::from(len), rest)?;
+    Ok((Word::from(name), rest))
+}
+
+#[tactic(auto, unfolding(crate::specs::Reading::made, crate::specs::Reading::both, crate::specs::Reading::region_at))]
+pub(crate) fn region_at(bytes: &[u8]) -> Result<(Region, &[u8]), ReadRefusal>
+    ensures { Gives (λ x. (x.0, x.1.now)) result (region_at bytes.now) }
+{
+    let (offset, rest) = u64_at(bytes)?;
+    let (size, rest) = u64_at(rest)?;
+    let (flags, rest) = u8_at(rest)?;
+    let region = Region {
+        offset,
+        size,
+        flags,
+    };
+    Ok((region, rest))
+}
+
+#[tactic(auto, unfolding(crate::specs::Reading::made, crate::specs::Reading::attr_name_at))]
+fn attr_name_at(bytes: &[u8]) -> Result<(AttrName, &[u8]), ReadRefusal>
+    ensures { Gives (λ x. (x.0, x.1.now)) result (attr_name_at bytes.now) }
+{
+    if bytes.len() < 8 {
+        return Err(ReadRefusal::Corrupt);
+    }
+    let mut name = [0; 8];
+    name.copy_from_slice(&bytes[..8]);
+    Ok((AttrName(name), &bytes[8..]))
+}
+
+#[tactic(auto, unfolding(crate::specs::Reading::sized))]
+fn value_at(alloc: Global, bytes: &[u8]) -> Result<(Bytes, &[u8]), ReadRefusal>
+    ensures { Gives (λ x. (x.0, x.1.now)) result (sized 2 bytes.now) }
+{
+    let (len, rest) = u16_at(bytes)?;
+    let (value, rest) = bytes_at(alloc, usize::from(len), rest)?;
+    Ok((Bytes::from(value), rest))
+}
+
+#[tactic(auto, unfolding(crate::specs::Reading::both, crate::specs::Reading::attribute_at))]
+pub(crate) fn attribute_at(
+    alloc: Global,
+    bytes: &[u8],
+) -> Result<((AttrName, Bytes), &[u8]), ReadRefusal>
+    ensures { Gives (λ x. (x.0, x.1.now)) result (attribute_at bytes.now) }
+{
+    let (name, rest) = attr_name_at(bytes)?;
+    let (value, rest) = value_at(alloc, rest)?;
+    Ok(((name, value), rest))
 }

@@ -1,5 +1,5 @@
 // Where the blocks of one file lie.
-ghost use Rattle.std.specs.Prelude.{◌≡◌, ◌+◌, ◌-◌, ◌<◌, ◌≤◌, ◌++◌, [], length, take, replicate, None, OnOk, OnErr};
+ghost use Rattle.std.specs.Prelude.{◌≡◌, ◌+◌, ◌-◌, ◌<◌, ◌≤◌, ◌++◌, [], ◌∷◌, length, take, drop, replicate, None, OnOk, OnErr};
 ghost use Rattle.std.specs.List.{AllByRecursion};
 ghost use Rattle.plain_model.specs.Blocks.{blocks_in};
 ghost use Rattle.meta_store.specs.Catalogs.{present};
@@ -14,14 +14,19 @@ use std::marker::Model;
 #[derive(Drop)]
 pub struct FilePlaces {
     places: Vec<Option<u32>>,
+    /// How many of them aren't holes.
+    mapped: u32,
 }
 
 impl Model for FilePlaces {
-    ghost use Rattle.std.specs.Prelude.{ℕ, List, Option};
+    ghost use Rattle.std.specs.Prelude.{◌≡◌, ◌≤◌, ℕ, List, Option, length};
+    ghost use Rattle.meta_store.specs.Catalogs.{present};
 
     ghost Value = { List (Option ℕ) };
 
     ghost view = { λ p. p.places.items };
+
+    ghost invariant = { λ p. (length p.places.items ≤ 4096) × (p.mapped ≡ length (present p.places.items)) };
 }
 
 impl FilePlaces {
@@ -31,6 +36,7 @@ impl FilePlaces {
     {
         FilePlaces {
             places: Vec::new(alloc),
+            mapped: 0,
         }
     }
 
@@ -40,16 +46,26 @@ impl FilePlaces {
         self.places.as_slice()
     }
 
+    /// How many blocks aren't holes.
+    pub fn mapped(&self) -> u32
+        ensures { result ≡ length (present self.now) }
+    {
+        self.mapped
+    }
+
     /// Follows a file to its new size, and gives blocks new places. At an `Err` nothing has changed. It costs the mappings, and the blocks
-    /// that a new size adds.
+    /// that a new size adds or takes away.
     pub fn remap(&mut self, size: u64, mappings: &[Mapping]) -> Result<(), AllocError>
         requires size { size ≤ FILE_BYTES }
         requires blocks { AllByRecursion (λ m. m.block < blocks_in size) mappings.now }
         ensures ok { OnOk result (self.new ≡ places_set mappings.now (places_fitted size self.old)) }
         ensures err { OnErr result (self.new ≡ self.old) }
     {
-        fit(&mut self.places, blocks_in(size))?;
-        set(self.places.as_mut_slice(), mappings);
+        let count = blocks_in(size);
+        let cut = count_from(self.places.as_slice(), count);
+        fit(&mut self.places, count)?;
+        let added = set(self.places.as_mut_slice(), mappings);
+        self.mapped = self.mapped - cut + added;
         Ok(())
     }
 }
@@ -68,6 +84,18 @@ pub fn count_present(places: &[Option<u32>]) -> u32
     count
 }
 
+/// How many of a file's places from that block on aren't holes.
+fn count_from(places: &[Option<u32>], block: usize) -> u32
+    requires { length places.now ≤ 4096 }
+    ensures { result ≡ length (present (drop block places.now)) }
+{
+    if block < places.len() {
+        count_present(&places[block..])
+    } else {
+        0
+    }
+}
+
 /// How many blocks a file of that size has.
 fn blocks_in(size: u64) -> usize
     requires { size ≤ FILE_BYTES }
@@ -84,12 +112,28 @@ fn fit(places: &mut Vec<Option<u32>>, count: usize) -> Result<(), AllocError>
     places.resize(count, None)
 }
 
-/// Gives blocks new places, one after the other.
-fn set(places: &mut [Option<u32>], mappings: &[Mapping])
-    requires { AllByRecursion (λ m. m.block < length places.old) mappings.now }
-    ensures { places.new ≡ places_set mappings.now places.old }
+/// Gives blocks new places, one after the other, and tells how many of them were holes.
+fn set(places: &mut [Option<u32>], mappings: &[Mapping]) -> u32
+    requires blocks { AllByRecursion (λ m. m.block < length places.old) mappings.now }
+    requires few { length places.old ≤ 4096 }
+    ensures places { places.new ≡ places_set mappings.now places.old }
+    ensures added { result + length (present places.old) ≡ length (present places.new) }
 {
+    let mut added = 0;
     for mapping in mappings {
-        places[mapping.block as usize] = Some(mapping.place);
+        let block = mapping.block as usize;
+        added += hole(places[block]);
+        places[block] = Some(mapping.place);
+    }
+    added
+}
+
+/// 1 of a hole, and 0 of a place.
+fn hole(place: Option<u32>) -> u32
+    ensures { result + length (present (place ∷ [])) ≡ 1 }
+{
+    match place {
+        Some(_) => 0,
+        None => 1,
     }
 }

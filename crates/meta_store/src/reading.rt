@@ -1,11 +1,44 @@
 // Reading a snapshot's bytes.
 ghost use Rattle.std.specs.Prelude.{◌≡◌, List, ℕ, map, IfOk, IsErrOf};
 ghost use Rattle.meta_store.specs.Snapshots.{Snapshot, IsSpelled, raw_file, raw_snapshot};
-ghost use Rattle.meta_store.specs.Reading.{Gives, several, counted, extent_at, file_at, snapshot_at};
+ghost use Rattle.meta_store.specs.Reading.{Gives, several, counted, region_at, attribute_at, extent_at, file_at, snapshot_at};
 
-use crate::fields::{extent_at, key_at, name_at, nothing_at, only_u32_at, u32_at, u64_at};
+use crate::fields::{
+    attribute_at, extent_at, key_at, name_at, only_u32_at, region_at, u8_at, u32_at, u64_at,
+};
 use crate::snapshot::{FORMAT, Mapping, RawFile, RawSnapshot, ReadRefusal};
+use hsm_types::{AttrName, Bytes, Region};
 use std::alloc::Global;
+
+fn regions_of(alloc: Global, count: u8, bytes: &[u8]) -> Result<(Vec<Region>, &[u8]), ReadRefusal>
+    ensures { Gives (λ x. (x.0.items, x.1.now)) result (several region_at count bytes.now) }
+{
+    let mut regions = Vec::new(alloc);
+    let mut rest = bytes;
+    for _ in 0..count {
+        let (region, after) = region_at(rest)?;
+        regions.push(region)?;
+        rest = after;
+    }
+    Ok((regions, rest))
+}
+
+fn attributes_of(
+    alloc: Global,
+    count: u32,
+    bytes: &[u8],
+) -> Result<(Vec<(AttrName, Bytes)>, &[u8]), ReadRefusal>
+    ensures { Gives (λ x. (x.0.items, x.1.now)) result (several attribute_at count bytes.now) }
+{
+    let mut attributes = Vec::new(alloc);
+    let mut rest = bytes;
+    for _ in 0..count {
+        let (attribute, after) = attribute_at(alloc, rest)?;
+        attributes.push(attribute)?;
+        rest = after;
+    }
+    Ok((attributes, rest))
+}
 
 fn extents_of(alloc: Global, count: u32, bytes: &[u8]) -> Result<(Vec<Mapping>, &[u8]), ReadRefusal>
     ensures { Gives (λ x. (x.0.items, x.1.now)) result (several extent_at count bytes.now) }
@@ -27,7 +60,10 @@ fn file_at(alloc: Global, bytes: &[u8]) -> Result<(RawFile, &[u8]), ReadRefusal>
     let (key, rest) = key_at(bytes)?;
     let (size, rest) = u64_at(rest)?;
     let (name, rest) = name_at(alloc, rest)?;
-    let rest = nothing_at(rest)?;
+    let (count, rest) = u8_at(rest)?;
+    let (regions, rest) = regions_of(alloc, count, rest)?;
+    let (count, rest) = u32_at(rest)?;
+    let (attributes, rest) = attributes_of(alloc, count, rest)?;
     let (count, rest) = u32_at(rest)?;
     let (extents, rest) = extents_of(alloc, count, rest)?;
     let rest = only_u32_at(rest, 0)?;
@@ -36,6 +72,8 @@ fn file_at(alloc: Global, bytes: &[u8]) -> Result<(RawFile, &[u8]), ReadRefusal>
             key,
             size,
             name,
+            regions,
+            attributes,
             extents,
         },
         rest,

@@ -2,7 +2,7 @@
 ghost use Rattle.std.specs.Prelude.{◌≡◌};
 ghost use Rattle.meta_store.specs.declared.snapshot.ReadRefusal.TheVariants.{Memory};
 
-use hsm_types::{FileKey, Word};
+use hsm_types::{AttrName, Bytes, FileKey, Region, Word};
 use std::alloc::{AllocError, AllocFailed};
 
 /// The one format that there is.
@@ -21,6 +21,8 @@ pub(crate) struct RawFile {
     pub(crate) key: FileKey,
     pub(crate) size: u64,
     pub(crate) name: Word,
+    pub(crate) regions: Vec<Region>,
+    pub(crate) attributes: Vec<(AttrName, Bytes)>,
     pub(crate) extents: Vec<Mapping>,
 }
 

@@ -20,8 +20,8 @@ pub(crate) fn spell(alloc: Global, number: u64, catalog: &Catalog) -> Result<Vec
     let mut out = Vec::new(alloc);
     put_header(&mut out, number, catalog.next(), count)?;
     for index in 0..count {
-        let (key, name, size, places) = catalog.file(index).unwrap();
-        put_file(&mut out, key, name, size, places)?;
+        let (key, name, size, parts) = catalog.file(index).unwrap();
+        put_file(&mut out, key, name, size, parts)?;
     }
     Ok(out)
 }

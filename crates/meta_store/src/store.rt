@@ -1,8 +1,11 @@
 // A store's files in memory, over the snapshots of its disk.
-ghost use Rattle.std.specs.Prelude.{◌≡◌, ◌≤◌, ◌<◌, ◌^◌, ◌==◌, List, ℕ, map, length, true, false, None, Err, ◌↔◌, OnOk, OnErr, IfOk, IsErrOf, IsSome};
+ghost use Rattle.std.specs.Prelude.{◌≡◌, ◌≤◌, ◌<◌, ◌^◌, ◌==◌, List, ℕ, map, length, true, false, None, Some, Err, ◌↔◌, OnOk, OnErr, IfOk, IfErr, IsErrOf, IsSome, MatchOption, MatchResult};
 ghost use Rattle.std.specs.List.{AllByRecursion, list_any};
 ghost use Rattle.std.specs.Option.{option_map};
 ghost use Rattle.hsm_types.specs.Names.{is_name};
+ghost use Rattle.hsm_types.specs.Regions.{regions_refusal};
+ghost use Rattle.hsm_types.specs.Attributes.{removal_refusal};
+ghost use Rattle.hsm_types.specs.declared.dm.DmRefusal.TheVariants.{Memory};
 ghost use Rattle.plain_model.specs.Keyed.{find_key};
 ghost use Rattle.plain_model.specs.Plain.{free_inode, named};
 ghost use Rattle.plain_model.specs.Blocks.{blocks_in};
@@ -14,8 +17,8 @@ ghost use Rattle.commit_slots.specs.Places.{layout_of};
 ghost use Rattle.commit_slots.specs.Images.{slot_of, IsStore};
 ghost use Rattle.inode_table.specs.declared.table.TableRefusal.TheVariants.{Exists, NoInodes};
 ghost use Rattle.inode_table.specs.Table.{entry_of};
-ghost use Rattle.meta_store.specs.Catalogs.{names_of, blocks_of, geometry_of};
-ghost use Rattle.meta_store.specs.Changes.{with_file, without_file, with_remapped};
+ghost use Rattle.meta_store.specs.Catalogs.{names_of, blocks_of, attribute_total, geometry_of};
+ghost use Rattle.meta_store.specs.Changes.{with_file, without_file, with_remapped, with_regions, with_attribute, without_attribute, attributes_at, attribute_refusal};
 ghost use Rattle.meta_store.specs.Images.{IsImage, IsCorruptAt, RecoversSame, Recovers};
 ghost use Rattle.meta_store.specs.Meta.{Meta, IsMeta, Backs};
 
@@ -26,13 +29,15 @@ use crate::snapshot::{Mapping, ReadRefusal};
 use crate::spelling::spell;
 use commit_slots::{CommitSlots, Layout};
 use disk_model::{Disk, Failed, OpenRefusal, sync_all};
-use hsm_types::{FileKey, Word};
+use dm_attrs::DmAttrs;
+use hsm_types::{AttrName, Bytes, DmRefusal, FileKey, Regions, Word};
 use inode_table::{InodeTable, TableRefusal};
+use managed_regions::ManagedRegions;
 use std::alloc::{AllocError, Global};
 use std::marker::Model;
 use std::snapshot::Snapshot;
 
-/// The names, sizes and block places of a store's files: as they are, and as the last commit stored them.
+/// The names, sizes and block places of a store's files, and what sessions keep with them: as they are, and as the last commit stored them.
 #[derive(Drop)]
 pub struct MetaStore {
     slots: CommitSlots,
@@ -155,6 +160,27 @@ impl MetaStore {
         self.catalog.names()
     }
 
+    /// The regions of a live file.
+    pub fn regions(&self, key: FileKey) -> Option<&ManagedRegions>
+        ensures { option_map (λ r. r.now) result ≡ option_map (λ f. f.regions) (find_key (λ f. f.key) key self.now.current.files) }
+    {
+        self.catalog.regions(key)
+    }
+
+    /// The attributes of a live file.
+    pub fn attributes(&self, key: FileKey) -> Option<&DmAttrs>
+        ensures { option_map (λ r. r.now) result ≡ option_map (λ f. f.attributes) (find_key (λ f. f.key) key self.now.current.files) }
+    {
+        self.catalog.attributes(key)
+    }
+
+    /// What the attributes of all files count.
+    pub fn attribute_total(&self) -> u64
+        ensures { result ≡ attribute_total self.now.current.files }
+    {
+        self.catalog.attribute_total()
+    }
+
     /// Makes an empty file with the lowest free inode and the next generation.
     pub fn make(&mut self, alloc: Global, name: &Word) -> Result<FileKey, TableRefusal>
         requires lawful { is_name name.now ≡ true }
@@ -193,6 +219,42 @@ impl MetaStore {
         ensures err { OnErr result (self.new ≡ self.old) }
     {
         self.catalog.remap(alloc, key, size, mappings)
+    }
+
+    /// Gives a live file these regions, in the place of those that it has.
+    pub fn set_regions(&mut self, key: FileKey, regions: Regions) -> Result<(), DmRefusal>
+        requires live { IsSome (find_key (λ f. f.key) key self.old.current.files) }
+        ensures judged { MatchResult result (λ _. regions_refusal regions ≡ None) (λ why. regions_refusal regions ≡ Some why) }
+        ensures ok { OnOk result (self.new ≡ record self.old { current = with_regions key regions self.old.current }) }
+        ensures err { OnErr result (self.new ≡ self.old) }
+    {
+        self.catalog.set_regions(key, regions)
+    }
+
+    /// Gives an attribute of a live file a value, in the place of an older one.
+    pub fn set_attribute(
+        &mut self,
+        key: FileKey,
+        name: AttrName,
+        value: &Bytes,
+    ) -> Result<(), DmRefusal>
+        requires live { IsSome (find_key (λ f. f.key) key self.old.current.files) }
+        ensures judged { OnOk result (attribute_refusal key name value.now self.old.current ≡ None) }
+        ensures refused { IfErr result (λ why. MatchOption (attribute_refusal key name value.now self.old.current) (why ≡ Memory) (λ cause. why ≡ cause)) }
+        ensures ok { OnOk result (self.new ≡ record self.old { current = with_attribute key name value.now self.old.current }) }
+        ensures err { OnErr result (self.new ≡ self.old) }
+    {
+        self.catalog.set_attribute(key, name, value)
+    }
+
+    /// Takes an attribute of a live file away.
+    pub fn remove_attribute(&mut self, key: FileKey, name: AttrName) -> Result<(), DmRefusal>
+        requires live { IsSome (find_key (λ f. f.key) key self.old.current.files) }
+        ensures judged { MatchResult result (λ _. removal_refusal name (attributes_at key self.old.current) ≡ None) (λ why. removal_refusal name (attributes_at key self.old.current) ≡ Some why) }
+        ensures ok { OnOk result (self.new ≡ record self.old { current = without_attribute key name self.old.current }) }
+        ensures err { OnErr result (self.new ≡ self.old) }
+    {
+        self.catalog.remove_attribute(key, name)
     }
 
     /// Makes the files as they are durable, under that number. It writes the snapshot of all files.

@@ -1,16 +1,20 @@
 // The judgement of a snapshot that was read: the catalog that it says, if it is a valid one.
 
-ghost use Rattle.std.specs.Prelude.{◌≡◌, ℕ, ◌^◌, ◌≤◌, ◌++◌, [], ◌∷◌, map, false, IfOk, OnOk};
+ghost use Rattle.std.specs.Prelude.{◌≡◌, ℕ, ◌+◌, ◌^◌, ◌≤◌, ◌++◌, [], ◌∷◌, map, true, false, None, IsSome, IfOk, OnOk};
 ghost use Rattle.std.specs.Result.{IsErrOf};
+ghost use Rattle.hsm_types.specs.Attributes.{bytes_of_attributes};
+ghost use Rattle.plain_model.specs.Keyed.{find_key};
 ghost use Rattle.meta_store.specs.Catalogs.{Catalog, geometry_of, IsCatalog};
+ghost use Rattle.meta_store.specs.Changes.{with_regions, with_attributes, others_total};
 ghost use Rattle.meta_store.specs.Snapshots.{raw_file, raw_snapshot, snapshot_file, snapshot_of};
-ghost use Rattle.meta_store.specs.Validity.{last_inode, is_file, can_follow, is_next, names_in, HasTaken};
+ghost use Rattle.meta_store.specs.Validity.{last_inode, are_regions, are_attributes, is_file, can_follow, is_next, names_in, HasTaken};
 
 use crate::catalog::Catalog;
 use crate::extents::{are_extents, claim};
 use crate::geometry::geometry_of;
+use crate::kept::{are_attributes, are_regions, are_within, attributes_of};
 use crate::snapshot::{RawFile, RawSnapshot, ReadRefusal};
-use hsm_types::{BLOCK_BYTES, FILE_BYTES, Geometry, can_name};
+use hsm_types::{BLOCK_BYTES, FILE_BYTES, Geometry, Regions, can_name};
 use std::alloc::Global;
 
 /// The catalog that a snapshot says, if it is a valid one of that geometry. The files are walked once, with a flag for each block of the disk.
@@ -67,12 +71,38 @@ fn take_in(
 {
     // Read for what is true of each catalog.
     let _count = catalog.len();
-    if !can_follow(catalog, limits, next, last, file) || !claim(flags, file.extents.as_slice()) {
+    let room = limits.attributes as u64 - catalog.attribute_total();
+    if !can_follow(catalog, limits, next, last, file)
+        || !are_within(file.attributes.as_slice(), room)
+        || !claim(flags, file.extents.as_slice())
+    {
         return Err(ReadRefusal::Corrupt);
     }
     catalog.put(alloc, file.key, &file.name)?;
     catalog.remap(alloc, file.key, file.size, file.extents.as_slice())?;
+    keep(alloc, catalog, file, room)?;
     Ok(())
+}
+
+/// Gives a file of the catalog its regions and its attributes, which are lawful and for which there is room.
+fn keep(alloc: Global, catalog: &mut Catalog, file: &RawFile, room: u64) -> Result<(), ReadRefusal>
+    requires live { IsSome (find_key (λ f. f.key) file.now.key catalog.old.files) }
+    requires regions { are_regions file.now.regions.items ≡ true }
+    requires attributes { are_attributes None file.now.attributes.items ≡ true }
+    requires within { bytes_of_attributes file.now.attributes.items ≤ room }
+    requires room { others_total file.now.key catalog.old + room ≤ (geometry_of catalog.old.geometry).attributes }
+    ensures ok { OnOk result (catalog.new ≡ with_attributes file.now.key file.now.attributes.items (with_regions file.now.key file.now.regions.items catalog.old)) }
+    ensures memory { IsErrOf result ReadRefusal.Corrupt → ⊥ }
+{
+    let attributes = attributes_of(alloc, file.attributes.as_slice(), room)?;
+    let regions = Regions::from(Vec::from_slice(alloc, file.regions.as_slice())?);
+    match catalog.set_regions(file.key, regions) {
+        Ok(()) => {
+            catalog.set_attributes(file.key, attributes);
+            Ok(())
+        }
+        Err(_) => Err(ReadRefusal::Corrupt),
+    }
 }
 
 /// Whether a file can stand behind those of the catalog, what they use of the disk aside.
@@ -95,5 +125,8 @@ fn is_file(file: &RawFile, next: u64, blocks: u32) -> bool
         return false;
     }
     let count = ((file.size + BLOCK_BYTES - 1) / BLOCK_BYTES) as u32;
-    can_name(file.name.as_slice()) && are_extents(file.extents.as_slice(), count, blocks)
+    can_name(file.name.as_slice())
+        && are_regions(file.regions.as_slice())
+        && are_attributes(file.attributes.as_slice())
+        && are_extents(file.extents.as_slice(), count, blocks)
 }

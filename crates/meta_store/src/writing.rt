@@ -2,13 +2,25 @@
 ghost use Rattle.std.specs.Prelude.{◌≡◌, ◌+◌, ◌≤◌, ◌<◌, ◌^◌, ◌++◌, length, OnOk};
 ghost use Rattle.std.specs.List.{flat_map};
 ghost use Rattle.byteorder.specs.Endian.{big_bytes};
-ghost use Rattle.meta_store.specs.Snapshots.{extent_bytes, extents_from, file_bytes, snapshot_file};
+ghost use Rattle.meta_store.specs.Snapshots.{region_bytes, attribute_bytes, extent_bytes, extents_from, file_bytes, snapshot_file};
+ghost use Rattle.meta_store.specs.InMemory.{file_of};
 
+use crate::file_parts::FileParts;
 use crate::file_places::count_present;
 use crate::snapshot::{FORMAT, Mapping};
 use byteorder::{BigEndian, ByteOrder};
-use hsm_types::{FileKey, Word};
+use dm_attrs::DmAttrs;
+use hsm_types::{AttrName, Bytes, FileKey, Region, Word};
 use std::alloc::AllocError;
+
+fn put_u16(out: &mut Vec<u8>, number: u16) -> Result<(), AllocError>
+    ensures { OnOk result (out.new.items ≡ out.old.items ++ big_bytes 2 number) }
+{
+    let mut field = [0; 2];
+    BigEndian::write_u16(&mut field, number);
+    out.extend_from_slice(&field)?;
+    Ok(())
+}
 
 fn put_u32(out: &mut Vec<u8>, number: u32) -> Result<(), AllocError>
     ensures { OnOk result (out.new.items ≡ out.old.items ++ big_bytes 4 number) }
@@ -84,11 +96,54 @@ fn put_name(out: &mut Vec<u8>, name: &Word) -> Result<(), AllocError>
     Ok(())
 }
 
-// The counts of regions and attributes, of which there are none.
-fn put_nothing(out: &mut Vec<u8>) -> Result<(), AllocError>
-    ensures { OnOk result (out.new.items ≡ out.old.items ++ (big_bytes 1 0 ++ big_bytes 4 0)) }
+fn put_region(out: &mut Vec<u8>, region: Region) -> Result<(), AllocError>
+    ensures { OnOk result (out.new.items ≡ out.old.items ++ region_bytes region) }
 {
-    out.extend_from_slice(&[0; 5])?;
+    put_u64(out, region.offset)?;
+    put_u64(out, region.size)?;
+    out.push(region.flags)?;
+    Ok(())
+}
+
+fn put_regions(out: &mut Vec<u8>, regions: &[Region]) -> Result<(), AllocError>
+    ensures { OnOk result (out.new.items ≡ out.old.items ++ flat_map region_bytes regions.now) }
+{
+    for region in regions {
+        put_region(out, *region)?;
+    }
+    Ok(())
+}
+
+fn put_attribute(out: &mut Vec<u8>, name: AttrName, value: &Bytes) -> Result<(), AllocError>
+    requires { length value.now ≤ 4096 }
+    ensures { OnOk result (out.new.items ≡ out.old.items ++ attribute_bytes (name, value.now)) }
+{
+    let value = value.as_slice();
+    out.extend_from_slice(&name.0)?;
+    put_u16(out, value.len() as u16)?;
+    out.extend_from_slice(value)?;
+    Ok(())
+}
+
+fn put_attributes(out: &mut Vec<u8>, attributes: &DmAttrs) -> Result<(), AllocError>
+    ensures { OnOk result (out.new.items ≡ out.old.items ++ flat_map attribute_bytes attributes.now) }
+{
+    for (name, value) in attributes.iter() {
+        put_attribute(out, *name, value)?;
+    }
+    Ok(())
+}
+
+/// What sessions keep with a file: its regions and its attributes.
+fn put_kept(out: &mut Vec<u8>, parts: &FileParts) -> Result<(), AllocError>
+    requires { length parts.now.regions ≤ 4 }
+    ensures { OnOk result (out.new.items ≡ out.old.items ++ (big_bytes 1 (length parts.now.regions) ++ flat_map region_bytes parts.now.regions ++ big_bytes 4 (length parts.now.attributes) ++ flat_map attribute_bytes parts.now.attributes)) }
+{
+    let regions = parts.regions.list().as_slice();
+    out.push(regions.len() as u8)?;
+    put_regions(out, regions)?;
+    put_u32(out, parts.attributes.len())?;
+    put_attributes(out, &parts.attributes)?;
     Ok(())
 }
 
@@ -98,16 +153,18 @@ pub(crate) fn put_file(
     key: FileKey,
     name: &Word,
     size: u64,
-    places: &[Option<u32>],
+    parts: &FileParts,
 ) -> Result<(), AllocError>
     requires name { length name.now ≤ 64 }
-    requires places { length places.now ≤ 4096 }
-    ensures { OnOk result (out.new.items ≡ out.old.items ++ file_bytes (snapshot_file (record { key = key; name = name.now; size = size; places = places.now }))) }
+    requires places { length parts.now.places ≤ 4096 }
+    requires regions { length parts.now.regions ≤ 4 }
+    ensures { OnOk result (out.new.items ≡ out.old.items ++ file_bytes (snapshot_file (file_of key name.now size parts.now))) }
 {
+    let places = parts.places.as_slice();
     put_key(out, key)?;
     put_u64(out, size)?;
     put_name(out, name)?;
-    put_nothing(out)?;
+    put_kept(out, parts)?;
     put_u32(out, count_present(places))?;
     put_extents(out, places)?;
     put_u32(out, 0)?;

@@ -1,5 +1,6 @@
-use Rattle.std.proofs.Common.{◌≡◌, ◌<◌, length, drop}
+use Rattle.std.proofs.Common.{◌≡◌, ◌+◌, ◌<◌, length, drop}
 use Rattle.std.specs.List.{AllByRecursion}
+use Rattle.meta_store.specs.Catalogs.{present}
 use Rattle.meta_store.specs.Changes.{places_set}
 use Rattle.meta_store.proofs.file_places.set.Given as goal
 
@@ -7,4 +8,6 @@ abbrev pub invariant-loop-mapping : goal.invariant-loop-mapping
 invariant-loop-mapping l = record {
   left : places_set (drop l.mapping-index l.mappings) l.places ≡ places_set l.mappings l.fn.places;
   within : AllByRecursion (λ m. m.block < length l.fn.places) (drop l.mapping-index l.mappings);
+  size : length l.places ≡ length l.fn.places;
+  added : l.added + length (present l.fn.places) ≡ length (present l.places);
 }

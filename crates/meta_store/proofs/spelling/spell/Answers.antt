@@ -1,7 +1,7 @@
 use Rattle.std.proofs.Common.{◌≤◌, ℕ, List, length, sym, subst, arith}
 use Rattle.commit_slots.specs.Places.{layout_of}
 use Rattle.meta_store.proofs.SnapshotFits.{fits_of, snapshot-short}
-use Rattle.meta_store.proofs.WrittenFiles.{some-at, name-at, places-at, header-first, file-more, files-all}
+use Rattle.meta_store.proofs.WrittenFiles.{some-at, name-at, places-at, regions-at, header-first, file-more, files-all}
 use Rattle.meta_store.proofs.spelling.spell.Goals as goal
 
 pub loop-index-init : goal.loop-index-init
@@ -15,6 +15,9 @@ put_file-requires-clause-name c = name-at _ _ _ c.len-count.ensures.valid (sym (
 
 pub put_file-requires-clause-places : goal.put_file-requires-clause-places
 put_file-requires-clause-places c = places-at _ _ _ c.len-count.ensures.valid (sym (rw c.unwrap-size.ensures at c.file.ensures))
+
+pub put_file-requires-clause-regions : goal.put_file-requires-clause-regions
+put_file-requires-clause-regions c = regions-at _ _ _ c.len-count.ensures.valid (sym (rw c.unwrap-size.ensures at c.file.ensures))
 
 pub loop-index-preserved : goal.loop-index-preserved
 loop-index-preserved c = file-more c.args.catalog.now.files c.loop-index.index _ _ _ _ (sym (rw c.unwrap-size.ensures at c.file.ensures)) c.in_ok-put_file.ensures c.loop-index.invariant

@@ -9,7 +9,7 @@ use Rattle.meta_store.proofs.store_tests.commit_more.Goals as goal
 pub remap-requires-clause-live : goal.remap-requires-clause-live
 remap-requires-clause-live g c =
     subst (λ (m : Meta). IsSome (find_key (λ f. f.key) c.in_ok-key.key m.current.files)) (sym c.in_ok-key.ensures.made)
-    (made_live (λ (f : CatalogFile). f.key) (record { key = c.in_ok-key.key; name = c.args.name.now; size = 0; places = [] }) c.in_ok-store.store.current.files)
+    (made_live (λ (f : CatalogFile). f.key) (record { key = c.in_ok-key.key; name = c.args.name.now; size = 0; places = []; regions = []; attributes = [] }) c.in_ok-store.store.current.files)
 
 pub commit-requires-clause-backs : goal.commit-requires-clause-backs
 commit-requires-clause-backs g c =

@@ -1,34 +1,9 @@
-use Rattle.std.proofs.Common.{◌-◌, [], refl, arith}
-use Rattle.std.proofs.lemmas.List.{get_or_read}
 use Rattle.plain_model.specs.Keyed.{find_key}
-use Rattle.meta_store.proofs.HeldFiles.{find-held, found-key}
-use Rattle.meta_store.proofs.HeldCatalogs.{slot_of, sized, unsized}
+use Rattle.meta_store.proofs.HeldCatalogs.{part_none, part_some}
 use Rattle.meta_store.proofs.catalog.Catalog.places.Goals as goal
 
-pub returns-in_err-_size : goal.returns-in_err-_size
-returns-in_err-_size c =
-    let none = unsized (find_key (λ f. f.key) c.args.key c.self.inside.table.files) c.in_err-_size.ensures in
-    rw (c.from_residual.ensures, ← c.self.view_is, find-held c.self.inside.places.items c.args.key c.self.inside.table.files, none) refl
-
-pub slot-requires : goal.slot-requires
-slot-requires c =
-    let live = sized (find_key (λ f. f.key) c.args.key c.self.inside.table.files) c.in_ok-_size._size c.in_ok-_size.ensures in
-    (slot_of c.self.inside.geometry c.self.inside.table c.self.inside.places.items c.self.invariant c.args.key live.0 live.1).0
-
-pub index-requires : goal.index-requires
-index-requires c =
-    let live = sized (find_key (λ f. f.key) c.args.key c.self.inside.table.files) c.in_ok-_size._size c.in_ok-_size.ensures in
-    let within = slot_of c.self.inside.geometry c.self.inside.table c.self.inside.places.items c.self.invariant c.args.key live.0 live.1 in
-    let low = within.0 in
-    let high = within.1 in
-    omega arith
+pub returns-in_err-parts : goal.returns-in_err-parts
+returns-in_err-parts c = rw c.from_residual.ensures (part_none (λ f. f.places) (find_key (λ f. f.key) c.args.key c.args.self.now.files) c.in_err-parts.ensures)
 
 pub returns : goal.returns
-returns c =
-    let ps = c.self.inside.places.items in
-    let live = sized (find_key (λ f. f.key) c.args.key c.self.inside.table.files) c.in_ok-_size._size c.in_ok-_size.ensures in
-    let within = slot_of c.self.inside.geometry c.self.inside.table ps c.self.invariant c.args.key live.0 live.1 in
-    let low = within.0 in
-    let high = within.1 in
-    let here = get_or_read ps (c.args.key.ino - 1) c.index.result.now (omega arith) (rw c.slot.ensures at c.index.ensures) [] in
-    rw (← c.self.view_is, find-held ps c.args.key c.self.inside.table.files, live.1, found-key c.args.key live.0 c.self.inside.table.files live.1, c.as_slice.ensures, ← here) refl
+returns c = rw c.places.ensures (part_some (λ p. p.places) (find_key (λ f. f.key) c.args.key c.args.self.now.files) c.in_ok-parts.field-0.now c.in_ok-parts.ensures)

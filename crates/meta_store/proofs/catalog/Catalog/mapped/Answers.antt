@@ -1,0 +1,11 @@
+use Rattle.std.proofs.Common.{length}
+use Rattle.plain_model.specs.Keyed.{find_key}
+use Rattle.meta_store.specs.Catalogs.{present}
+use Rattle.meta_store.proofs.HeldCatalogs.{part_none, part_some}
+use Rattle.meta_store.proofs.catalog.Catalog.mapped.Goals as goal
+
+pub returns-in_err-parts : goal.returns-in_err-parts
+returns-in_err-parts c = rw c.from_residual.ensures (part_none (λ f. length (present f.places)) (find_key (λ f. f.key) c.args.key c.args.self.now.files) c.in_err-parts.ensures)
+
+pub returns : goal.returns
+returns c = rw (c.from.ensures, c.mapped.ensures) (part_some (λ p. length (present p.places)) (find_key (λ f. f.key) c.args.key c.args.self.now.files) c.in_ok-parts.field-0.now c.in_ok-parts.ensures)

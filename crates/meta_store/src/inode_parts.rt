@@ -1,0 +1,26 @@
+// What is kept of a store's files beside the table, by inode.
+ghost use Rattle.std.specs.Prelude.{◌≡◌, ◌-◌, ◌≤◌, replicate, IfOk};
+ghost use Rattle.meta_store.specs.InMemory.{no_parts};
+
+use crate::file_parts::FileParts;
+use hsm_types::FileKey;
+use std::alloc::{AllocError, Global};
+
+/// Where the parts of a file with that key are.
+pub fn slot(key: FileKey) -> usize
+    requires { 1 ≤ key.ino }
+    ensures { result ≡ key.ino - 1 }
+{
+    (key.ino - 1) as usize
+}
+
+/// The parts of so many new files.
+pub fn empty(alloc: Global, files: u32) -> Result<Vec<FileParts>, AllocError>
+    ensures { IfOk result (λ slots. slots.items ≡ replicate files no_parts) }
+{
+    let mut slots = Vec::with_capacity(alloc, files as usize)?;
+    for _ in 0..files {
+        slots.push(FileParts::new(alloc))?;
+    }
+    Ok(slots)
+}
