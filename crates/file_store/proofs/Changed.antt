@@ -37,7 +37,7 @@ file_changes : (old new : List ℕ) (to : ℕ) (ms : List Mapping) (change : Lis
     → body_at new to (places_set ms (places_fitted to f.places)) ≡ change body → map is_some (places_set ms (places_fitted to f.places)) ≡ mapped_after (length body) call (map is_some f.places)
     → file_at new (remapped to ms f) ≡ rewritten change call (file_at old f)
 file_changes old new to ms change call f body was becomes mapped =
-    let after : List ℕ → List Bool → FileState = λ b m. record { key = f.key; name = f.name; body = b; mapped = m } in
+    let after : List ℕ → List Bool → FileState = λ b m. record { key = f.key; name = f.name; body = b; mapped = m; regions = f.regions; attributes = f.attributes } in
     ap (λ (b : List ℕ). after b (map is_some (places_set ms (places_fitted to f.places)))) becomes
     ∙ ap (λ (m : List Bool). after (change body) m) mapped
     ∙ ap (λ (b : List ℕ). after (change b) (mapped_after (length b) call (map is_some f.places))) (sym was)
@@ -119,10 +119,10 @@ held_truncated old new x h key to ms lawful holds live whole stays blocks there 
 
 -- with that body, and nothing mapped
 abbrev unmapped : FileKey → List ℕ → List ℕ → FileState
-unmapped key name body = record { key = key; name = name; body = body; mapped = [] }
+unmapped key name body = record { key = key; name = name; body = body; mapped = []; regions = []; attributes = [] }
 
 pub held_made : (blocks : List ℕ) (x : Catalog) (key : FileKey) (name : List ℕ)
-    → held_at blocks (with_file key name x) ≡ record { files = put_key (λ f. f.key) (record { key = key; name = name; body = []; mapped = [] }) (held_at blocks x).files; next = max x.next (key.igen + 1) }
+    → held_at blocks (with_file key name x) ≡ record { files = put_key (λ f. f.key) (record { key = key; name = name; body = []; mapped = []; regions = []; attributes = [] }) (held_at blocks x).files; next = max x.next (key.igen + 1) }
 unfolding held_at
 held_made blocks x key name =
     same_held _ _ _ _

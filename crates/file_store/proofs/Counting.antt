@@ -34,7 +34,7 @@ by_test P false x y p q = q
 
 blocks-bounded : (geometry : ℕ) → (geometry_of geometry).blocks ≤ 65536
 unfolding geometry_of
-blocks-bounded geometry = by_test (λ (g : Geometry). g.blocks ≤ 65536) (eqb geometry 0) (record { files = 64; blocks = 1024 }) (record { files = 4096; blocks = 65536 }) (omega arith) (omega arith)
+blocks-bounded geometry = by_test (λ (g : Geometry). g.blocks ≤ 65536) (eqb geometry 0) (record { files = 64; blocks = 1024; attributes = 32768 }) (record { files = 4096; blocks = 65536; attributes = 1048576 }) (omega arith) (omega arith)
 
 pub used-bounded : (c : Catalog) → IsCatalog c → length (blocks_of c.files) ≤ 65536
 used-bounded c is = omega (arith, blocks-few c is, blocks-bounded c.geometry)

@@ -25,7 +25,7 @@ meta_as m x lawful catalog same = record {
   current = catalog;
 }
 
-settled_as : {D : Type 0} (s : Store D) (x : Catalog) (h : Held) → x.geometry ≡ s.meta.current.geometry → blocks_of x.files ≡ blocks_of s.meta.current.files → IsSettled s → IsSettled (record s { meta = record s.meta { current = x }; held = h })
+pub settled_as : {D : Type 0} (s : Store D) (x : Catalog) (h : Held) → x.geometry ≡ s.meta.current.geometry → blocks_of x.files ≡ blocks_of s.meta.current.files → IsSettled s → IsSettled (record s { meta = record s.meta { current = x }; held = h })
 settled_as s x h geometry blocks was = record { space = rw (blocks, geometry) was.space; durable = was.durable ∙ sym blocks }
 
 made_sound : {D : Type 0} (g : disk.Ghosts D) (s : Store D) (key : FileKey) (name : List ℕ) → IsSound g s → IsCatalog (with_file key name s.meta.current) → key ≡ next_key s.held

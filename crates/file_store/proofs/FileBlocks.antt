@@ -1,27 +1,15 @@
 -- The mapped blocks of one file, and whether it lives.
-use Rattle.std.proofs.Common.{◌≡◌, ℕ, ◌≤◌, List, [], ◌∷◌, length, map, Bool, true, false, cond, Option, Some, None, refl, ◌∙◌, ap, sym, arith}
+use Rattle.std.proofs.Common.{◌≡◌, ℕ, List, [], ◌∷◌, length, map, Bool, true, false, cond, Option, Some, None, refl, ◌∙◌, ap, sym, arith}
 use Rattle.std.specs.Prelude.{is_some}
 use Rattle.std.specs.Option.{option_map}
 use Rattle.hsm_types.specs.declared.keys.FileKey.{FileKey}
 use Rattle.plain_model.specs.Keyed.{same_key, find_key}
 use Rattle.plain_model.specs.State.{used_by}
 use Rattle.inode_table.specs.Table.{entry_of}
-use Rattle.meta_store.specs.Catalogs.{CatalogFile, Catalog, IsCatalog, present}
-use Rattle.meta_store.proofs.FoundFiles.{each-found}
+use Rattle.meta_store.specs.Catalogs.{CatalogFile, Catalog, present}
 use Rattle.file_store.specs.Bodies.{file_with, held_with}
 use Rattle.file_store.proofs.WithBodies.{find-with}
 use Rattle.file_store.proofs.Counting.{present-flags}
-
--- the file's places are no more than a file has blocks
-found_few : (c : Catalog) (k : FileKey) (f : CatalogFile) → IsCatalog c → find_key (λ x. x.key) k c.files ≡ Some f → length f.places ≤ 4096
-found_few c k f is found = let one = each-found _ k f c.files is.each found in let size = one.size in let places = one.places in omega arith
-
-few_of : (c : Catalog) (k : FileKey) (o : Option CatalogFile) (places : List (Option ℕ)) → IsCatalog c → find_key (λ x. x.key) k c.files ≡ o → Some places ≡ option_map (λ f. f.places) o → length places ≤ 4096
-few_of c k None places is found at = cc
-few_of c k (Some f) places is found at = let it : places ≡ f.places = cc in rw it (found_few c k f is found)
-
-pub places_few : (c : Catalog) (k : FileKey) (places : List (Option ℕ)) → IsCatalog c → Some places ≡ option_map (λ f. f.places) (find_key (λ x. x.key) k c.files) → length places ≤ 4096
-places_few c k places is at = few_of c k (find_key (λ x. x.key) k c.files) places is refl at
 
 counted : (bs : List (List ℕ)) (o : Option CatalogFile) → option_map (λ f. length (present f.places)) o ≡ option_map used_by (option_map (file_with bs) o)
 counted bs None = refl

@@ -21,3 +21,5 @@ pub mod FewerMore
 pub mod NamedFiles
 pub mod Lawful
 pub mod Recoveries
+pub mod ManagedFiles
+pub mod ManagedStores

@@ -24,10 +24,10 @@ pub record IsRoom (l : Layout) (blocks : ℕ) : Type 0 where
   pub short : l.whole ≤ 287318016
 
 abbrev small_room : Geometry
-small_room = record { files = 64; blocks = 1024 }
+small_room = record { files = 64; blocks = 1024; attributes = 32768 }
 
 abbrev large_room : Geometry
-large_room = record { files = 4096; blocks = 65536 }
+large_room = record { files = 4096; blocks = 65536; attributes = 1048576 }
 
 room_by : (b : Bool) → IsRoom (if b then small else large) (if b then small_room else large_room).blocks
 room_by true = record { len = omega arith; fits = omega arith; short = omega arith }

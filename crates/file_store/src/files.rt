@@ -1,30 +1,35 @@
 //! What a store holds.
-ghost use Rattle.std.specs.Prelude.{◌≡◌, ◌≢◌, ◌≤◌, ◌<◌, ◌+◌, ◌-◌, ◌^◌, ◌==◌, List, ℕ, [], map, max, length, true, false, None, is_some, IfOk, OnOk, OnErr, IsErrOf, IsSome};
+ghost use Rattle.std.specs.Prelude.{◌≡◌, ◌≢◌, ◌≤◌, ◌<◌, ◌+◌, ◌-◌, ◌^◌, ◌==◌, List, ℕ, [], map, max, length, true, false, None, is_some, IfOk, IfErr, OnOk, OnErr, IsErrOf, IsSome, Some, MatchOption, MatchResult};
 ghost use Rattle.std.specs.List.{AllByRecursion, list_any};
 ghost use Rattle.std.specs.Option.{option_map};
 ghost use Rattle.hsm_types.specs.Names.{is_name};
+ghost use Rattle.hsm_types.specs.Regions.{regions_refusal};
+ghost use Rattle.hsm_types.specs.Attributes.{with_value, without_value, setting_refusal, removal_refusal};
+ghost use Rattle.hsm_types.specs.declared.dm.DmRefusal.TheVariants.{Memory};
 ghost use Rattle.hsm_types.specs.declared.calls.Call.TheVariants.{Create, Write, Truncate};
 ghost use Rattle.plain_model.specs.Keyed.{find_key, change_key, drop_key};
 ghost use Rattle.plain_model.specs.Plain.{named, written, resized};
 ghost use Rattle.plain_model.specs.Blocks.{touched};
 ghost use Rattle.plain_model.specs.Distinct.{Distinct};
 ghost use Rattle.plain_model.specs.State.{names_of, bytes_of, next_key, used_by, used, rewritten, done_held};
+ghost use Rattle.plain_model.specs.Services.{regions_of, attributes_of, other_attributes};
 ghost use Rattle.disk_model.specs.Calls.{Rose};
 ghost use Rattle.disk_model.specs.Moments.{MayBe, Turns};
 ghost use Rattle.meta_store.specs.Catalogs.{blocks_of, geometry_of, IsCatalog};
-ghost use Rattle.meta_store.specs.Changes.{with_file, without_file, with_remapped};
+ghost use Rattle.meta_store.specs.Changes.{with_file, without_file, with_remapped, with_regions, with_attribute, without_attribute};
 ghost use Rattle.meta_store.specs.Images.{RecoversSame, Recovers};
 ghost use Rattle.meta_store.specs.Meta.{Meta, IsMeta, Backs};
 ghost use Rattle.file_store.specs.Bodies.{held_with, AreBodies};
 ghost use Rattle.file_store.specs.Stores.{IsLawful};
 
 use crate::remapping::remap;
-use crate::usage::{file_blocks, used_blocks};
 use disk_model::Disk;
+use dm_attrs::DmAttrs;
 use file_body::Body;
-use hsm_types::{FileKey, Word};
+use hsm_types::{AttrName, Bytes, DmRefusal, FileKey, Regions, Word};
 use inode_table::TableRefusal;
-use meta_store::{Mapping, MetaRefusal, MetaStore};
+use managed_regions::ManagedRegions;
+use meta_store::{Mapping, MetaRefusal, MetaStore, geometry_of};
 use std::alloc::{AllocError, Global};
 use std::marker::Model;
 
@@ -102,19 +107,19 @@ impl Files {
         self.meta.catalog().len()
     }
 
-    /// How many blocks are mapped. It walks the places of all files.
+    /// How many blocks are mapped.
     pub(crate) fn used(&self) -> u64
         ensures count { result ≡ used self.now.held.files }
         ensures within { result ≤ (geometry_of self.now.meta.current.geometry).blocks }
     {
-        used_blocks(self.meta.catalog())
+        self.meta.catalog().used()
     }
 
     /// How many blocks of the file with that key are mapped, where it lives.
     pub(crate) fn mapped(&self, key: FileKey) -> Option<u64>
         ensures { result ≡ option_map used_by (find_key (λ f. f.key) key self.now.held.files) }
     {
-        file_blocks(self.meta.catalog(), key)
+        self.meta.catalog().mapped(key)
     }
 
     /// Whether the file with that key lives.
@@ -209,6 +214,96 @@ impl Files {
         let body = &mut self.bodies[slot(key)];
         remap(alloc, &mut self.meta, body, key, size, mappings)?;
         body.resize(alloc, size)
+    }
+
+    /// The regions of a live file.
+    pub(crate) fn regions(&self, key: FileKey) -> &ManagedRegions
+        requires { IsSome (find_key (λ f. f.key) key self.now.held.files) }
+        ensures { result.now ≡ regions_of key self.now.held.files }
+    {
+        self.meta.regions(key).unwrap()
+    }
+
+    /// The attributes of a live file.
+    pub(crate) fn attributes(&self, key: FileKey) -> &DmAttrs
+        requires { IsSome (find_key (λ f. f.key) key self.now.held.files) }
+        ensures { result.now ≡ attributes_of key self.now.held.files }
+    {
+        self.meta.attributes(key).unwrap()
+    }
+
+    /// What refuses to give an attribute of a live file that value, if anything does.
+    pub(crate) fn judge_attribute(
+        &self,
+        key: FileKey,
+        name: AttrName,
+        value: &Bytes,
+    ) -> Result<(), DmRefusal>
+        requires { IsSome (find_key (λ f. f.key) key self.now.held.files) }
+        ensures { MatchResult result (λ _. setting_refusal name value.now (other_attributes key self.now.held.files) (geometry_of self.now.meta.current.geometry).attributes (attributes_of key self.now.held.files) ≡ None) (λ why. setting_refusal name value.now (other_attributes key self.now.held.files) (geometry_of self.now.meta.current.geometry).attributes (attributes_of key self.now.held.files) ≡ Some why) }
+    {
+        let attributes = self.attributes(key);
+        let others = self.meta.attribute_total() - attributes.bytes();
+        let limit = u64::from(geometry_of(self.meta.geometry()).attributes);
+        let _after = attributes.judge(name, value, others, limit)?;
+        Ok(())
+    }
+
+    /// Gives a live file these regions, in the place of those that it has.
+    pub(crate) fn set_regions(&mut self, key: FileKey, regions: Regions) -> Result<(), DmRefusal>
+        requires live { IsSome (find_key (λ f. f.key) key self.old.held.files) }
+        ensures judged { MatchResult result (λ _. regions_refusal regions ≡ None) (λ why. regions_refusal regions ≡ Some why) }
+        ensures ok { OnOk result (self.new ≡ record {
+          meta = record self.old.meta { current = with_regions key regions self.old.meta.current };
+          held = record self.old.held { files = change_key (λ f. f.key) key (λ f. record f { regions = regions }) self.old.held.files };
+        }) }
+        ensures lawful { IsMeta self.new.meta }
+        ensures err { OnErr result (self.new ≡ self.old) }
+    {
+        let done = self.meta.set_regions(key, regions);
+        // Read for what it says of the type.
+        let _geometry = self.meta.geometry();
+        done
+    }
+
+    /// Gives an attribute of a live file a value, in the place of an older one.
+    pub(crate) fn set_attribute(
+        &mut self,
+        key: FileKey,
+        name: AttrName,
+        value: &Bytes,
+    ) -> Result<(), DmRefusal>
+        requires live { IsSome (find_key (λ f. f.key) key self.old.held.files) }
+        ensures judged { OnOk result (setting_refusal name value.now (other_attributes key self.old.held.files) (geometry_of self.old.meta.current.geometry).attributes (attributes_of key self.old.held.files) ≡ None) }
+        ensures refused { IfErr result (λ why. MatchOption (setting_refusal name value.now (other_attributes key self.old.held.files) (geometry_of self.old.meta.current.geometry).attributes (attributes_of key self.old.held.files)) (why ≡ Memory) (λ cause. why ≡ cause)) }
+        ensures ok { OnOk result (self.new ≡ record {
+          meta = record self.old.meta { current = with_attribute key name value.now self.old.meta.current };
+          held = record self.old.held { files = change_key (λ f. f.key) key (λ f. record f { attributes = with_value name value.now f.attributes }) self.old.held.files };
+        }) }
+        ensures lawful { IsMeta self.new.meta }
+        ensures err { OnErr result (self.new ≡ self.old) }
+    {
+        let done = self.meta.set_attribute(key, name, value);
+        // Read for what it says of the type.
+        let _geometry = self.meta.geometry();
+        done
+    }
+
+    /// Takes an attribute of a live file away.
+    pub(crate) fn remove_attribute(&mut self, key: FileKey, name: AttrName) -> Result<(), DmRefusal>
+        requires live { IsSome (find_key (λ f. f.key) key self.old.held.files) }
+        ensures judged { MatchResult result (λ _. removal_refusal name (attributes_of key self.old.held.files) ≡ None) (λ why. removal_refusal name (attributes_of key self.old.held.files) ≡ Some why) }
+        ensures ok { OnOk result (self.new ≡ record {
+          meta = record self.old.meta { current = without_attribute key name self.old.meta.current };
+          held = record self.old.held { files = change_key (λ f. f.key) key (λ f. record f { attributes = without_value name f.attributes }) self.old.held.files };
+        }) }
+        ensures lawful { IsMeta self.new.meta }
+        ensures err { OnErr result (self.new ≡ self.old) }
+    {
+        let done = self.meta.remove_attribute(key, name);
+        // Read for what it says of the type.
+        let _geometry = self.meta.geometry();
+        done
     }
 
     /// Makes the names, sizes and block places durable, under that number. The bodies stay as they are.

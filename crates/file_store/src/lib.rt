@@ -7,6 +7,9 @@ mod claims;
 mod files;
 mod laws;
 mod loading;
+mod managed;
+#[cfg(test)]
+mod managed_tests;
 mod opening;
 mod readers;
 mod refusal;
@@ -15,7 +18,6 @@ mod spaces;
 mod store;
 #[cfg(test)]
 mod tests;
-mod usage;
 mod writing;
 
 pub use laws::{formatted_is_empty, one_recovery};

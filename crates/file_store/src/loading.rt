@@ -39,7 +39,8 @@ pub(crate) fn load_bodies<D: Disk>(
         return Err(StoreRefusal::Memory);
     };
     for index in 0..catalog.len() {
-        let (key, _name, size, places) = catalog.file(index).unwrap();
+        let (key, _name, size, parts) = catalog.file(index).unwrap();
+        let places = parts.places();
         bodies[(key.ino - 1) as usize] = load_body(alloc, disk, geometry, size, places)?;
     }
     Ok(bodies)

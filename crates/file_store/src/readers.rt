@@ -29,7 +29,7 @@ impl<D: Disk> FileStore<D> {
         self.files.len()
     }
 
-    /// How many blocks are mapped. It walks the places of all files.
+    /// How many blocks are mapped.
     pub fn used(&self) -> u64
         ensures count { result ≡ used self.now.held.files }
         ensures within { result ≤ (geometry_of self.now.meta.durable.geometry).blocks }
@@ -37,7 +37,7 @@ impl<D: Disk> FileStore<D> {
         self.files.used()
     }
 
-    /// How many blocks of the file with that key are mapped, where it lives. It walks the file's blocks.
+    /// How many blocks of the file with that key are mapped, where it lives. It costs a search by inode.
     pub fn mapped(&self, key: FileKey) -> Option<u64>
         ensures { result ≡ option_map used_by (find_key (λ f. f.key) key self.now.held.files) }
     {

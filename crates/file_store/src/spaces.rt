@@ -25,7 +25,8 @@ fn data_blocks(alloc: Global, catalog: &Catalog) -> Result<Vec<u32>, AllocError>
 {
     let mut blocks = Vec::new(alloc);
     for index in 0..catalog.len() {
-        let (_, _, _, places) = catalog.file(index).unwrap();
+        let (_, _, _, parts) = catalog.file(index).unwrap();
+        let places = parts.places();
         put_present(&mut blocks, places)?;
     }
     Ok(blocks)

@@ -1,18 +1,19 @@
-ghost use Rattle.std.specs.Prelude.{◌≡◌, true, false, IfOk, IfSome, IsSome};
-ghost use Rattle.hsm_types.specs.Names.{is_name};
+ghost use Rattle.std.specs.Prelude.{◌≡◌, false, IfOk, OnOk, IfSome, IsSome};
 ghost use Rattle.plain_model.specs.Keyed.{find_key};
 
 use crate::{FileStore, StoreRefusal};
 use commit_slots::{CommitSlots, Layout};
 use disk_model::{Disk, FuseDisk, MemDisk, OpenRefusal, SureDisk};
 use file_body::touched_by_write;
-use hsm_types::{FILE_BYTES, FileKey, Word};
+use hsm_types::{FILE_BYTES, FileKey, Word, can_name};
 use meta_store::geometry_of;
 use std::alloc::{AllocError, Global};
 use std::test::*;
 
 // Two blocks meet in them.
 const PLACE: u64 = 4_093;
+
+const NAME: &[u8] = b"a";
 
 const OLD: &[u8] = b"bygone";
 
@@ -27,14 +28,14 @@ enum Contents {
     Other,
 }
 
-fn name(alloc: Global) -> Result<Word, AllocError>
-    ensures { IfOk result (λ word. is_name word ≡ true) }
+fn word(alloc: Global, text: &[u8]) -> Result<Word, AllocError>
+    ensures { IfOk result (λ word. word ≡ text.now) }
 {
-    Ok(Word::from(Vec::from_slice(alloc, b"a")?))
+    Ok(Word::from(Vec::from_slice(alloc, text)?))
 }
 
 // A small store without files, whose id is 7.
-fn formatted(alloc: Global) -> Result<Vec<u8>, Fail> {
+pub(crate) fn formatted(alloc: Global) -> Result<Vec<u8>, Fail> {
     let bytes = vec![in alloc; 0u8; 4_857_856]?;
     let mut disk = SureDisk::new(bytes);
     if disk.len() == Layout::of_geometry(0).whole {
@@ -43,34 +44,58 @@ fn formatted(alloc: Global) -> Result<Vec<u8>, Fail> {
     Ok(disk.into_bytes())
 }
 
-fn find<D: Disk>(alloc: Global, store: &FileStore<D>) -> Result<Option<FileKey>, AllocError>
+pub(crate) fn find<D: Disk>(
+    alloc: Global,
+    store: &FileStore<D>,
+    name: &[u8],
+) -> Result<Option<FileKey>, AllocError>
     ensures { IfOk result (λ found. IfSome found (λ key. IsSome (find_key (λ f. f.key) key store.now.held.files))) }
 {
-    Ok(store.find(&name(alloc)?))
+    Ok(store.find(&word(alloc, name)?))
 }
 
-fn make<D: Disk>(alloc: Global, store: &mut FileStore<D>) -> Result<(), Fail>
-    requires { store.old.failed ≡ false }
-    ensures { store.new.failed ≡ false }
+pub(crate) fn check_working<D: Disk>(store: &FileStore<D>) -> Result<(), Fail>
+    ensures { OnOk result (store.now.failed ≡ false) }
 {
-    let name = name(alloc)?;
+    if store.has_failed() {
+        return Err("a call of the disk has failed".into());
+    }
+    Ok(())
+}
+
+pub(crate) fn make<D: Disk>(
+    alloc: Global,
+    store: &mut FileStore<D>,
+    name: &[u8],
+) -> Result<FileKey, Fail> {
+    check_working(store)?;
+    if !can_name(name) {
+        return Err("that is no name".into());
+    }
+    let name = word(alloc, name)?;
     if store.find(&name).is_some() || store.len() == geometry_of(store.meta().geometry()).files {
         return Err("there is a file".into());
     }
-    store.make(alloc, &name, 1)?;
-    Ok(())
+    Ok(store.make(alloc, &name, 1)?)
+}
+
+pub(crate) fn sync<D: Disk>(
+    alloc: Global,
+    store: &mut FileStore<D>,
+    number: u64,
+) -> Result<Result<(), StoreRefusal>, Fail> {
+    check_working(store)?;
+    Ok(store.sync(alloc, number))
 }
 
 fn write<D: Disk>(
     alloc: Global,
     store: &mut FileStore<D>,
     bytes: &[u8],
-) -> Result<Result<(), StoreRefusal>, Fail>
-    requires { store.old.failed ≡ false }
-    ensures { IfOk result (λ done. IfOk done (λ u. store.new.failed ≡ false)) }
-{
+) -> Result<Result<(), StoreRefusal>, Fail> {
+    check_working(store)?;
     let len = bytes.len() as u64;
-    let Some(key) = find(alloc, store)? else {
+    let Some(key) = find(alloc, store, NAME)? else {
         return Err("there is no file".into());
     };
     if len == 0 || len > FILE_BYTES - PLACE {
@@ -89,7 +114,7 @@ fn found<D: Disk + Drop>(alloc: Global, disk: D) -> Result<Contents, Fail> {
         Ok(store) => store,
         Err((refusal, _)) => return Err(refusal.into()),
     };
-    let Some(key) = find(alloc, &store)? else {
+    let Some(key) = find(alloc, &store, NAME)? else {
         return Ok(Contents::NoFile);
     };
     let bytes = store.body(key).read(alloc, PLACE, FILE_BYTES)?;
@@ -108,10 +133,10 @@ fn with_file<D: Disk + Drop>(alloc: Global, disk: D, is_synced: bool) -> Result<
         Ok(store) => store,
         Err((refusal, _)) => return Err(refusal.into()),
     };
-    make(alloc, &mut store)?;
+    make(alloc, &mut store, NAME)?;
     write(alloc, &mut store, OLD)??;
     if is_synced {
-        store.sync(alloc, 2)?;
+        sync(alloc, &mut store, 2)??;
     }
     Ok(store.close())
 }
@@ -129,7 +154,7 @@ fn rewrite<D: Disk + Drop>(
     };
     let mut done = write(alloc, &mut store, NEW)?;
     if is_synced && done.is_ok() {
-        done = store.sync(alloc, 3);
+        done = sync(alloc, &mut store, 3)?;
     }
     Ok((done, store.close()))
 }

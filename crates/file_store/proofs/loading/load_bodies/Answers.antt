@@ -29,7 +29,7 @@ loop-index-preserved g c =
       count = length-set bodies (c.unwrap-size.result.0.ino - 1) body ∙ so_far.count;
       sizes = sizes-more catalog c.loop-index.index _ bodies body is so_far.count c.in_ok-bodies.ensures.size so_far.sizes;
       loaded = λ d gives. files-more (blocks_in_image catalog.geometry d) catalog c.loop-index.index _ bodies body is so_far.count
-          (subst (λ (n : ℕ). body ≡ body_at (blocks_in_image n d) c.unwrap-size.result.2 c.unwrap-size.result.3.now) c.geometry-geometry.ensures.geometry (c.in_ok-bodies.ensures.loaded d (so_far.given.1 d gives)))
+          (subst (λ (n : ℕ). body ≡ body_at (blocks_in_image n d) c.unwrap-size.result.2 c.unwrap-size.result.3.now.places) c.geometry-geometry.ensures.geometry (rw c.places-places.ensures at (c.in_ok-bodies.ensures.loaded d (so_far.given.1 d gives))))
           (so_far.loaded d gives);
     }
 
