@@ -5,9 +5,9 @@ use Rattle.std.specs.List.{list_all}
 use Rattle.std.specs.Result.{result_unwrap_or}
 use Rattle.std.proofs.lemmas.Bool.{and_parts, cases_lt, eqb-true, false≢true}
 use Rattle.std.proofs.lemmas.Bool.Decides.{nat_tests}
-use Rattle.hex.specs.Hex.{IsBytes, decode_of, decode_pairs, digit_or_error, hex_digit_value, encode_lower, encode_with, lower_digits, pair_value, value_at, ◌>>=◌}
+use Rattle.hex.specs.Hex.{IsBytes, decode_of, decode_pairs, decode_sized, digit_or_error, hex_digit_value, encode_lower, encode_with, lower_digits, pair_value, value_at, ◌>>=◌}
 use Rattle.hex.specs.declared.error.FromHexError.{FromHexError}
-use Rattle.hex.proofs.HexLemmas.{decode_of-encode_lower, decode_of-ok, decode_of-even, length-encode_with}
+use Rattle.hex.proofs.HexLemmas.{decode_of-encode_lower, decode_of-ok, decode_of-even, decode_sized-encode_lower, decode_sized-ok, decode_sized-twice, length-encode_with}
 use Rattle.script_text.specs.Reading.{Lacks, is_lower_hex}
 
 -- ---- the digits
@@ -124,5 +124,20 @@ length-encoded bytes = length-encode_with lower_digits bytes
 pub not_refused : (text bytes : List ℕ) (e : FromHexError) → IsBytes bytes → text ≡ encode_lower bytes → decode_of text ≡ Err e → ⊥
 not_refused text bytes e h same refused =
     let is : decode_of text ≡ Ok bytes = rw same (decode_of-encode_lower bytes h) in
+    let P : Result (List ℕ) FromHexError → Type 0 = λ r. MatchResult r (λ _. Unit {0}) (λ _. ⊥) in
+    subst P (sym is ∙ refused) tt
+
+-- the same of digits for so many bytes
+pub sized_decoded : (text bytes : List ℕ) (n : ℕ) → list_all is_lower_hex text ≡ true → decode_sized text n ≡ Ok bytes → IsBytes bytes × (length bytes ≡ n) × (text ≡ encode_lower bytes)
+sized_decoded text bytes n lower h =
+    let long = decode_sized-ok text n bytes h in
+    let whole = sym (decode_sized-twice text n long) ∙ h in
+    let is = encode_decoded text bytes lower whole in
+    let twice = (decode_of-ok text bytes whole).2 in
+    (is.0, omega (arith, long, twice), is.1)
+
+pub sized_not_refused : (text bytes : List ℕ) (n : ℕ) (e : FromHexError) → IsBytes bytes → length bytes ≡ n → text ≡ encode_lower bytes → decode_sized text n ≡ Err e → ⊥
+sized_not_refused text bytes n e h long same refused =
+    let is : decode_sized text n ≡ Ok bytes = rw same (decode_sized-encode_lower bytes n long h) in
     let P : Result (List ℕ) FromHexError → Type 0 = λ r. MatchResult r (λ _. Unit {0}) (λ _. ⊥) in
     subst P (sym is ∙ refused) tt

@@ -6,3 +6,4 @@ pub mod Going
 pub mod Printed
 pub mod Parts
 pub mod SessionParts
+pub mod RegionParts

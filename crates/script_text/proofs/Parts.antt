@@ -10,7 +10,7 @@ use Rattle.std.proofs.lemmas.Fmt.{decimal_injective}
 use Rattle.std.proofs.lemmas.Slice.Eq.{bytes_eq-Decides}
 use Rattle.hex.specs.Hex.{encode_lower, IsBytes}
 use Rattle.hsm_types.specs.declared.dm.DmCall.{DmCall}
-use Rattle.hsm_types.specs.declared.dm.DmCall.TheVariants.{CreateSession, GetAllSessions, QuerySession, GetFileAttr, PathToHandle, GetSpace}
+use Rattle.hsm_types.specs.declared.dm.DmCall.TheVariants.{CreateSession, GetAllSessions, QuerySession, GetFileAttr, SetRegion, GetRegion, SetDmAttr, GetDmAttr, RemoveDmAttr, GetAllDmAttr, PathToHandle, GetSpace}
 use Rattle.hsm_types.specs.declared.keys.Sid.{Sid}
 use Rattle.hsm_types.specs.declared.calls.Call.{Call}
 use Rattle.hsm_types.specs.declared.calls.Call.TheVariants.{Create, Read, Write, Truncate, Remove, Stat, Sync}
@@ -20,7 +20,7 @@ use Rattle.plain_model.specs.declared.entries.Action.TheVariants.{Issue, Dm, Com
 use Rattle.plain_model.specs.Render.{spaced, actor_word, call_words}
 use Rattle.script_text.specs.declared.bodies.Body.{Body}
 use Rattle.script_text.specs.declared.bodies.Pattern.{Pattern}
-use Rattle.script_text.specs.declared.calls.Request.{Request}
+use Rattle.script_text.specs.declared.requests.Request.{Request}
 use Rattle.script_text.specs.declared.calls.Verb.{Verb}
 use Rattle.script_text.specs.declared.calls.Verb.TheVariants as verbs
 use Rattle.script_text.specs.declared.lines.Line.{Line}
@@ -241,11 +241,17 @@ call_event actor (Remove name) seed = refl
 call_event actor (Stat name) seed = refl
 call_event actor Sync seed = refl
 
-pub dm_event : (actor : Actor) (call : DmCall) (seed : Option ℕ) → line_text (Event actor (Dm call) seed) ≡ text_by actor (dm_text call)
+pub dm_event : (actor : Actor) (call : DmCall) (seed : Option ℕ) → line_text (Event actor (Dm call) seed) ≡ text_by actor (dm_text (record { call = call; seed = seed }))
 dm_event actor (CreateSession old info) seed = refl
 dm_event actor GetAllSessions seed = refl
 dm_event actor (QuerySession target) seed = refl
 dm_event actor (GetFileAttr token handle) seed = refl
+dm_event actor (SetRegion token handle regions) seed = refl
+dm_event actor (GetRegion token handle) seed = refl
+dm_event actor (SetDmAttr token handle name value) seed = refl
+dm_event actor (GetDmAttr token handle name) seed = refl
+dm_event actor (RemoveDmAttr token handle name) seed = refl
+dm_event actor (GetAllDmAttr token handle) seed = refl
 dm_event actor (PathToHandle name) seed = refl
 dm_event actor GetSpace seed = refl
 
@@ -261,7 +267,7 @@ acted text (Event (Caller c) Commit seed) other h same = absurd h
 acted text (Event (Session sid) (Issue call) seed) other h same = absurd h
 acted text (Event (Session sid) (Dm call) seed) other h same = record {
   actor = Session sid;
-  rest = dm_text call;
+  rest = dm_text (record { call = call; seed = seed });
   numbered = h.0;
   spelled = same ∙ dm_event (Session sid) call seed;
 }

@@ -1,5 +1,5 @@
 -- Lines and their spelling.
-use Rattle.std.proofs.Common.{◌≡◌, ◌≢◌, ℕ, ◌^◌, ◌<◌, ◌≤◌, List, [], ◌∷◌, ◌++◌, length, drop, Bool, true, false, ◌&&◌, ◌==◌, Option, Some, None, refl, sym, ap, ◌∙◌, arith, append_assoc}
+use Rattle.std.proofs.Common.{◌≡◌, ◌≢◌, ℕ, ◌^◌, ◌<◌, ◌≤◌, List, [], ◌∷◌, ◌++◌, length, drop, Bool, true, false, ◌&&◌, ◌==◌, map, Option, Some, None, refl, sym, ap, ◌∙◌, arith, append_assoc}
 use Rattle.std.specs.Prelude.{codes, not, if◌then◌else◌}
 use Rattle.std.specs.Char.{digit_value}
 use Rattle.std.specs.List.{list_all, AllByRecursion, slice_split, join_with_byte}
@@ -12,19 +12,21 @@ use Rattle.std.proofs.lemmas.Bool.Decides.{nat_tests}
 use Rattle.std.proofs.lemmas.List.Folds.{list_all-append}
 use Rattle.hex.specs.Hex.{decode_of, encode_lower}
 use Rattle.hsm_types.specs.Handles.{IsHandle}
+use Rattle.hsm_types.specs.declared.attributes.AttrName.{AttrName}
 use Rattle.hsm_types.specs.declared.keys.FileKey.{FileKey}
 use Rattle.hsm_types.specs.declared.keys.Handle.{Handle}
+use Rattle.hsm_types.specs.declared.regions.Region.{Region}
 use Rattle.hsm_types.specs.declared.dm.DmCall.{DmCall}
-use Rattle.hsm_types.specs.declared.dm.DmCall.TheVariants.{CreateSession, GetAllSessions, QuerySession, GetFileAttr, PathToHandle, GetSpace}
+use Rattle.hsm_types.specs.declared.dm.DmCall.TheVariants.{CreateSession, GetAllSessions, QuerySession, GetFileAttr, SetRegion, GetRegion, SetDmAttr, GetDmAttr, RemoveDmAttr, GetAllDmAttr, PathToHandle, GetSpace}
 use Rattle.hsm_types.specs.declared.calls.Call.{Call}
 use Rattle.hsm_types.specs.declared.calls.Call.TheVariants.{Create, Read, Write, Truncate, Remove, Stat, Sync}
 use Rattle.plain_model.specs.declared.entries.Actor.{Actor}
 use Rattle.plain_model.specs.declared.entries.Actor.TheVariants.{Caller, Session, Store}
 use Rattle.plain_model.specs.declared.entries.Action.TheVariants.{Issue, Dm, Commit}
-use Rattle.plain_model.specs.Render.{actor_word, key_word, handle_word, call_words, dm_words, action_words}
+use Rattle.plain_model.specs.Render.{actor_word, key_word, handle_word, region_word, regions_word, name_word, call_words, dm_words, action_words}
 use Rattle.script_text.specs.declared.lines.Line.{Line}
 use Rattle.script_text.specs.declared.lines.Line.TheVariants.{Event}
-use Rattle.script_text.specs.Lines.{pattern, coloned, data_word, line_words, line_text, is_word, is_word_byte, IsData, IsCall, IsDmCall, IsLine}
+use Rattle.script_text.specs.Lines.{pattern, coloned, data_word, line_words, line_text, is_word, is_word_byte, IsData, IsCall, IsRegion, IsRegions, IsAttrName, IsDmCall, IsLine}
 use Rattle.script_text.specs.Reading.{Lacks, IsSid, is_lower_hex}
 use Rattle.script_text.proofs.Cutting.{slice_split-join, Lacks-join}
 use Rattle.script_text.proofs.Numerals.{decimal_digits, Lacks-decimal, digits_value-decimal}
@@ -153,13 +155,45 @@ visible_call seed (Remove name) h = (refl, (visible_word name h.0, tt))
 visible_call seed (Stat name) h = (refl, (visible_word name h.0, tt))
 visible_call seed Sync h = (refl, tt)
 
-visible_dm : (call : DmCall) → IsDmCall call → AllByRecursion IsVisible (dm_words call)
-visible_dm (CreateSession old info) h = (refl, (visible_decimal old.0 (omega (arith, h.0)), (visible_word info h.1, tt)))
-visible_dm GetAllSessions h = (refl, tt)
-visible_dm (QuerySession target) h = (refl, (visible_decimal target.0 h, tt))
-visible_dm (GetFileAttr token handle) h = (refl, (visible_decimal token.0 h.0, (visible_handle handle h.1, tt)))
-visible_dm (PathToHandle name) h = (refl, (visible_word name h, tt))
-visible_dm GetSpace h = (refl, tt)
+-- the parts of a region
+abbrev region_parts : Region → List (List ℕ)
+region_parts r = decimal r.offset ∷ decimal r.size ∷ decimal r.flags ∷ []
+
+visible_region : (r : Region) → IsRegion r → IsVisible (region_word r)
+visible_region r h =
+    visible_joined 58 (region_parts r) refl (visible_decimal r.offset h.0, (visible_decimal r.size h.1, (visible_decimal r.flags (omega (arith, h.2)), tt)))
+
+visible_each_region : (rs : List Region) → AllByRecursion IsRegion rs → AllByRecursion IsVisible (map region_word rs)
+visible_each_region [] h = tt
+visible_each_region (r ∷ rs) h = (visible_region r h.0, visible_each_region rs h.1)
+
+visible_regions : (rs : List Region) → IsRegions rs → IsVisible (regions_word rs)
+visible_regions [] h = refl
+visible_regions (r ∷ rs) h = visible_joined 44 (map region_word (r ∷ rs)) refl (visible_each_region (r ∷ rs) h.1)
+
+visible_name : (name : AttrName) → IsAttrName name → IsVisible (name_word name)
+visible_name name h = visible_lower (encode_lower name.0) (encoded_lower name.0 h.0)
+
+visible_dm : (seed : Option ℕ) (call : DmCall) → IsDmCall seed call → AllByRecursion IsVisible (dm_words (data_word seed) call)
+visible_dm seed (CreateSession old info) h = (refl, (visible_decimal old.0 (omega (arith, h.0)), (visible_word info h.1, tt)))
+visible_dm seed GetAllSessions h = (refl, tt)
+visible_dm seed (QuerySession target) h = (refl, (visible_decimal target.0 h.0, tt))
+visible_dm seed (GetFileAttr token handle) h = (refl, (visible_decimal token.0 h.0.0, (visible_handle handle h.0.1, tt)))
+visible_dm seed (SetRegion token handle regions) h = (refl, (visible_decimal token.0 h.0.0, (visible_handle handle h.0.1, (visible_regions regions h.1, tt))))
+visible_dm seed (GetRegion token handle) h = (refl, (visible_decimal token.0 h.0.0, (visible_handle handle h.0.1, tt)))
+visible_dm seed (SetDmAttr token handle name value) h =
+    (refl, (visible_decimal token.0 h.0.0, (visible_handle handle h.0.1, (visible_name name h.1, (visible_data seed value h.2, tt)))))
+visible_dm seed (GetDmAttr token handle name) h = (refl, (visible_decimal token.0 h.0.0, (visible_handle handle h.0.1, (visible_name name h.1, tt))))
+visible_dm seed (RemoveDmAttr token handle name) h = (refl, (visible_decimal token.0 h.0.0, (visible_handle handle h.0.1, (visible_name name h.1, tt))))
+visible_dm seed (GetAllDmAttr token handle) h = (refl, (visible_decimal token.0 h.0.0, (visible_handle handle h.0.1, tt)))
+visible_dm seed (PathToHandle name) h = (refl, (visible_word name h.0, tt))
+visible_dm seed GetSpace h = (refl, tt)
+
+pub Lacks-handle : (handle : Handle) → IsHandle handle → Lacks 32 (handle_word handle)
+Lacks-handle handle h = Lacks-visible 32 (handle_word handle) refl (visible_handle handle h)
+
+pub Lacks-name : (name : AttrName) → IsAttrName name → Lacks 32 (name_word name)
+Lacks-name name h = Lacks-visible 32 (name_word name) refl (visible_name name h)
 
 -- the actors that a word names with a number
 abbrev pub IsNumbered : Actor → Type 0
@@ -180,7 +214,7 @@ visible_line (Event (Caller c) (Issue call) seed) h = (visible_actor (Caller c) 
 visible_line (Event (Caller c) (Dm call) seed) h = absurd h
 visible_line (Event (Caller c) Commit seed) h = absurd h
 visible_line (Event (Session sid) (Issue call) seed) h = absurd h
-visible_line (Event (Session sid) (Dm call) seed) h = (visible_actor (Session sid) h.0, visible_dm call h.2)
+visible_line (Event (Session sid) (Dm call) seed) h = (visible_actor (Session sid) h.0, visible_dm seed call h.2)
 visible_line (Event (Session sid) Commit seed) h = absurd h
 visible_line (Event Store (Issue call) seed) h = absurd h
 visible_line (Event Store (Dm call) seed) h = absurd h
@@ -247,22 +281,49 @@ handle_of parts = record { fsid = 0; key = record { ino = 0; igen = 0 } }
 abbrev handle_at : List ℕ → Handle
 handle_at word = handle_of (slice_split (λ b. b == 46) word)
 
-abbrev asked : ℕ → DmCall → Option Line
-asked n call = Some (Event (Session (record { 0 = n })) (Dm call) None)
+-- the region of these parts, if they are those of a region
+abbrev region_of : List (List ℕ) → Region
+region_of (offset ∷ size ∷ flags ∷ rest) = record { offset = digits_value 10 offset; size = digits_value 10 size; flags = digits_value 10 flags }
+region_of parts = record { offset = 0; size = 0; flags = 0 }
+
+abbrev region_at : List ℕ → Region
+region_at word = region_of (slice_split (λ b. b == 58) word)
+
+-- whether a word stands for no regions, if it is one of regions
+abbrev is_dashed : List ℕ → Bool
+is_dashed [] = false
+is_dashed (b ∷ bs) = b == 45
+
+abbrev regions_at : List ℕ → List Region
+regions_at word = if is_dashed word then [] else map region_at (slice_split (λ b. b == 44) word)
+
+abbrev name_at : List ℕ → AttrName
+name_at word = record { 0 = result_unwrap_or (decode_of word) [] }
+
+abbrev asked : ℕ → Option ℕ → DmCall → Option Line
+asked n seed call = Some (Event (Session (record { 0 = n })) (Dm call) seed)
 
 -- the line of a session with these words, or of the store
 abbrev session_of : ℕ → List (List ℕ) → Option Line
 session_of n [] = None
 session_of n (verb ∷ []) =
     if bytes_eq verb (codes "commit") then Some (Event Store Commit None)
-    else if bytes_eq verb (codes "space") then asked n GetSpace
-    else asked n GetAllSessions
+    else if bytes_eq verb (codes "space") then asked n None GetSpace
+    else asked n None GetAllSessions
 session_of n (verb ∷ arg ∷ []) =
-    if bytes_eq verb (codes "query") then asked n (QuerySession (record { 0 = digits_value 10 arg }))
-    else asked n (PathToHandle arg)
-session_of n (verb ∷ first ∷ last ∷ rest) =
-    if bytes_eq verb (codes "session") then asked n (CreateSession (record { 0 = digits_value 10 first }) last)
-    else asked n (GetFileAttr (record { 0 = digits_value 10 first }) (handle_at last))
+    if bytes_eq verb (codes "query") then asked n None (QuerySession (record { 0 = digits_value 10 arg }))
+    else asked n None (PathToHandle arg)
+session_of n (verb ∷ first ∷ last ∷ []) =
+    if bytes_eq verb (codes "session") then asked n None (CreateSession (record { 0 = digits_value 10 first }) last)
+    else if bytes_eq verb (codes "fileattr") then asked n None (GetFileAttr (record { 0 = digits_value 10 first }) (handle_at last))
+    else if bytes_eq verb (codes "getregion") then asked n None (GetRegion (record { 0 = digits_value 10 first }) (handle_at last))
+    else asked n None (GetAllDmAttr (record { 0 = digits_value 10 first }) (handle_at last))
+session_of n (verb ∷ token ∷ handle ∷ last ∷ []) =
+    if bytes_eq verb (codes "setregion") then asked n None (SetRegion (record { 0 = digits_value 10 token }) (handle_at handle) (regions_at last))
+    else if bytes_eq verb (codes "getattr") then asked n None (GetDmAttr (record { 0 = digits_value 10 token }) (handle_at handle) (name_at last))
+    else asked n None (RemoveDmAttr (record { 0 = digits_value 10 token }) (handle_at handle) (name_at last))
+session_of n (verb ∷ token ∷ handle ∷ name ∷ last ∷ rest) =
+    asked n (data_at last).seed (SetDmAttr (record { 0 = digits_value 10 token }) (handle_at handle) (name_at name) (data_at last).bytes)
 
 abbrev is_callers : List ℕ → Bool
 is_callers [] = false
@@ -292,13 +353,63 @@ handle_at-word handle h =
     ∙ ap handle_of (slice_split-join 46 (decimal handle.fsid) (decimal handle.key.ino ∷ decimal handle.key.igen ∷ []) (dots_handle handle h))
     ∙ rw (digits_value-decimal handle.fsid h.fsid, digits_value-decimal handle.key.ino h.ino, digits_value-decimal handle.key.igen h.igen) refl
 
-session_of-words : (n : ℕ) (call : DmCall) → IsDmCall call → session_of n (dm_words call) ≡ asked n call
-session_of-words n (CreateSession old info) h = rw (digits_value-decimal old.0 (omega (arith, h.0))) refl
-session_of-words n GetAllSessions h = refl
-session_of-words n (QuerySession target) h = rw (digits_value-decimal target.0 h) refl
-session_of-words n (GetFileAttr token handle) h = rw (digits_value-decimal token.0 h.0, handle_at-word handle h.1) refl
-session_of-words n (PathToHandle name) h = refl
-session_of-words n GetSpace h = refl
+-- a region has no other byte than digits and colons
+Lacks-region : (b : ℕ) (r : Region) → 10 ≤ digit_value b → 58 ≢ b → IsRegion r → Lacks b (region_word r)
+Lacks-region b r other another h =
+    Lacks-join b 58 (region_parts r) another (Lacks-decimal b r.offset other h.0, (Lacks-decimal b r.size other h.1, (Lacks-decimal b r.flags other (omega (arith, h.2)), tt)))
+
+pub Lacks-each_region : (b : ℕ) (rs : List Region) → 10 ≤ digit_value b → 58 ≢ b → AllByRecursion IsRegion rs → AllByRecursion (Lacks b) (map region_word rs)
+Lacks-each_region b [] other another h = tt
+Lacks-each_region b (r ∷ rs) other another h = (Lacks-region b r other another h.0, Lacks-each_region b rs other another h.1)
+
+colon_parts : (r : Region) → IsRegion r → AllByRecursion (Lacks 58) (region_parts r)
+colon_parts r h = (Lacks-colon r.offset h.0, (Lacks-colon r.size h.1, (Lacks-colon r.flags (omega (arith, h.2)), tt)))
+
+region_at-word : (r : Region) → IsRegion r → region_at (region_word r) ≡ r
+region_at-word r h =
+    ap region_of (slice_split-join 58 (decimal r.offset) (decimal r.size ∷ decimal r.flags ∷ []) (colon_parts r h))
+    ∙ rw (digits_value-decimal r.offset h.0, digits_value-decimal r.size h.1, digits_value-decimal r.flags (omega (arith, h.2))) refl
+
+each_region_at : (rs : List Region) → AllByRecursion IsRegion rs → map region_at (map region_word rs) ≡ rs
+each_region_at [] h = refl
+each_region_at (r ∷ rs) h = let first = region_at-word r h.0 in let rest = each_region_at rs h.1 in cc (first, rest)
+
+not_dashed : (word : List ℕ) → Lacks 45 word → is_dashed word ≡ false
+not_dashed [] h = refl
+not_dashed (b ∷ bs) h = let other : b ≢ 45 = h.0 in grind (arith, nat_tests)
+
+-- what stands between the commas of regions
+pub regions_parts : (r : Region) (rs : List Region) → AllByRecursion IsRegion (r ∷ rs) → slice_split (λ b. b == 44) (regions_word (r ∷ rs)) ≡ map region_word (r ∷ rs)
+regions_parts r rs h =
+    slice_split-join 44 (region_word r) (map region_word rs) (Lacks-each_region 44 (r ∷ rs) (omega arith) (λ same. absurd (omega arith)) h)
+
+regions_at-word : (rs : List Region) → IsRegions rs → regions_at (regions_word rs) ≡ rs
+regions_at-word [] h = refl
+regions_at-word (r ∷ rs) h =
+    let lacks = Lacks-each_region 45 (r ∷ rs) (omega arith) (λ same. absurd (omega arith)) h.1 in
+    let dash = not_dashed (regions_word (r ∷ rs)) (Lacks-join 45 44 (map region_word (r ∷ rs)) (λ same. absurd (omega arith)) lacks) in
+    rw dash (ap (map region_at) (regions_parts r rs h.1) ∙ each_region_at (r ∷ rs) h.1)
+
+name_at-word : (name : AttrName) → IsAttrName name → name_at (name_word name) ≡ name
+name_at-word name h = rw (decode-encoded name.0 h.0) refl
+
+session_of-words : (n : ℕ) (seed : Option ℕ) (call : DmCall) → IsDmCall seed call → session_of n (dm_words (data_word seed) call) ≡ asked n seed call
+session_of-words n seed (CreateSession old info) h = rw (digits_value-decimal old.0 (omega (arith, h.0)), h.2) refl
+session_of-words n seed GetAllSessions h = rw h refl
+session_of-words n seed (QuerySession target) h = rw (digits_value-decimal target.0 h.0, h.1) refl
+session_of-words n seed (GetFileAttr token handle) h = rw (digits_value-decimal token.0 h.0.0, handle_at-word handle h.0.1, h.1) refl
+session_of-words n seed (SetRegion token handle regions) h =
+    rw (digits_value-decimal token.0 h.0.0, handle_at-word handle h.0.1, regions_at-word regions h.1, h.2) refl
+session_of-words n seed (GetRegion token handle) h = rw (digits_value-decimal token.0 h.0.0, handle_at-word handle h.0.1, h.1) refl
+session_of-words n seed (SetDmAttr token handle name value) h =
+    rw (digits_value-decimal token.0 h.0.0, handle_at-word handle h.0.1, name_at-word name h.1, data_at-word seed value h.2) refl
+session_of-words n seed (GetDmAttr token handle name) h =
+    rw (digits_value-decimal token.0 h.0.0, handle_at-word handle h.0.1, name_at-word name h.1, h.2) refl
+session_of-words n seed (RemoveDmAttr token handle name) h =
+    rw (digits_value-decimal token.0 h.0.0, handle_at-word handle h.0.1, name_at-word name h.1, h.2) refl
+session_of-words n seed (GetAllDmAttr token handle) h = rw (digits_value-decimal token.0 h.0.0, handle_at-word handle h.0.1, h.1) refl
+session_of-words n seed (PathToHandle name) h = rw h.1 refl
+session_of-words n seed GetSpace h = rw h refl
 
 line_of-words : (line : Line) → IsLine line → line_of (line_words line) ≡ Some line
 line_of-words (Event (Caller c) (Issue call) seed) h =
@@ -307,7 +418,7 @@ line_of-words (Event (Caller c) (Dm call) seed) h = absurd h
 line_of-words (Event (Caller c) Commit seed) h = absurd h
 line_of-words (Event (Session sid) (Issue call) seed) h = absurd h
 line_of-words (Event (Session sid) (Dm call) seed) h =
-    rw (digits_value-decimal sid.0 h.0, h.3) (session_of-words sid.0 call h.2)
+    rw (digits_value-decimal sid.0 h.0) (session_of-words sid.0 seed call h.2)
 line_of-words (Event (Session sid) Commit seed) h = absurd h
 line_of-words (Event Store (Issue call) seed) h = absurd h
 line_of-words (Event Store (Dm call) seed) h = absurd h

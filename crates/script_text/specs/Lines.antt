@@ -1,13 +1,17 @@
 -- The lines of scripts: how each is spelled, and which there are.
 use Rattle.std.specs.Prelude.{ℕ, ◌≡◌, ◌+◌, ◌*◌, ◌/◌, ◌%◌, ◌^◌, ◌<◌, ◌≤◌, ◌==◌, ◌&&◌, not, nat_le, min, map, Bool, Option, Some, None, List, [], ◌∷◌, length, codes, IsTrue}
-use Rattle.std.specs.List.{join_with_byte, list_all, range_with_len}
+use Rattle.std.specs.List.{join_with_byte, list_all, range_with_len, AllByRecursion}
 use Rattle.std.specs.Fmt.{decimal}
 use Rattle.hex.specs.Hex.{encode_lower, IsBytes}
+use Rattle.hsm_types.specs.declared.attributes.AttrName.{AttrName}
 use Rattle.hsm_types.specs.declared.calls.Call.{Call}
 use Rattle.hsm_types.specs.declared.calls.Call.TheVariants.{Create, Read, Write, Truncate, Remove, Stat, Sync}
 use Rattle.hsm_types.specs.declared.dm.DmCall.{DmCall}
-use Rattle.hsm_types.specs.declared.dm.DmCall.TheVariants.{CreateSession, GetAllSessions, QuerySession, GetFileAttr, PathToHandle, GetSpace}
+use Rattle.hsm_types.specs.declared.dm.DmCall.TheVariants.{CreateSession, GetAllSessions, QuerySession, GetFileAttr, SetRegion, GetRegion, SetDmAttr, GetDmAttr, RemoveDmAttr, GetAllDmAttr, PathToHandle, GetSpace}
+use Rattle.hsm_types.specs.declared.keys.Handle.{Handle}
 use Rattle.hsm_types.specs.declared.keys.Sid.{Sid}
+use Rattle.hsm_types.specs.declared.keys.Token.{Token}
+use Rattle.hsm_types.specs.declared.regions.Region.{Region}
 use Rattle.hsm_types.specs.Handles.{IsHandle}
 use Rattle.plain_model.specs.declared.entries.Actor.{Actor}
 use Rattle.plain_model.specs.declared.entries.Actor.TheVariants.{Caller, Session, Store}
@@ -66,14 +70,35 @@ IsCall seed (Remove name) = IsTrue (is_word name) × (seed ≡ None)
 IsCall seed (Stat name) = IsTrue (is_word name) × (seed ≡ None)
 IsCall seed Sync = seed ≡ None
 
--- which calls of sessions are lines. Taking over a session isn't a line yet, so the old one is 0, which stands for none
-abbrev pub IsDmCall : DmCall → Type 0
-IsDmCall (CreateSession old info) = (old.0 ≡ 0) × IsTrue (is_word info)
-IsDmCall GetAllSessions = Unit {0}
-IsDmCall (QuerySession target) = target.0 < 2 ^ 64
-IsDmCall (GetFileAttr token handle) = (token.0 < 2 ^ 64) × IsHandle handle
-IsDmCall (PathToHandle name) = IsTrue (is_word name)
-IsDmCall GetSpace = Unit {0}
+-- a token, and the handle of a file
+abbrev pub IsOnFile : Token → Handle → Type 0
+IsOnFile token handle = (token.0 < 2 ^ 64) × IsHandle handle
+
+abbrev pub IsRegion : Region → Type 0
+IsRegion r = (r.offset < 2 ^ 64) × (r.size < 2 ^ 64) × (r.flags < 256)
+
+-- A line has at most 64 regions.
+abbrev pub IsRegions : List Region → Type 0
+IsRegions regions = (length regions ≤ 64) × AllByRecursion IsRegion regions
+
+-- eight bytes
+abbrev pub IsAttrName : AttrName → Type 0
+IsAttrName name = IsBytes name.0 × (length name.0 ≡ 8)
+
+-- Only the data of a setattr have a seed. Taking over a session isn't a line yet, so the old one is 0, which stands for none
+abbrev pub IsDmCall : Option ℕ → DmCall → Type 0
+IsDmCall seed (CreateSession old info) = (old.0 ≡ 0) × IsTrue (is_word info) × (seed ≡ None)
+IsDmCall seed GetAllSessions = seed ≡ None
+IsDmCall seed (QuerySession target) = (target.0 < 2 ^ 64) × (seed ≡ None)
+IsDmCall seed (GetFileAttr token handle) = IsOnFile token handle × (seed ≡ None)
+IsDmCall seed (SetRegion token handle regions) = IsOnFile token handle × IsRegions regions × (seed ≡ None)
+IsDmCall seed (GetRegion token handle) = IsOnFile token handle × (seed ≡ None)
+IsDmCall seed (SetDmAttr token handle name value) = IsOnFile token handle × IsAttrName name × IsData seed value
+IsDmCall seed (GetDmAttr token handle name) = IsOnFile token handle × IsAttrName name × (seed ≡ None)
+IsDmCall seed (RemoveDmAttr token handle name) = IsOnFile token handle × IsAttrName name × (seed ≡ None)
+IsDmCall seed (GetAllDmAttr token handle) = IsOnFile token handle × (seed ≡ None)
+IsDmCall seed (PathToHandle name) = IsTrue (is_word name) × (seed ≡ None)
+IsDmCall seed GetSpace = seed ≡ None
 
 -- whose calls these are: what needs no session is asked by session 0, and the other calls by any
 abbrev pub MayAsk : Sid → DmCall → Type 0
@@ -81,6 +106,12 @@ MayAsk sid (CreateSession old info) = sid.0 ≡ 0
 MayAsk sid GetAllSessions = sid.0 ≡ 0
 MayAsk sid (QuerySession target) = sid.0 ≡ 0
 MayAsk sid (GetFileAttr token handle) = Unit {0}
+MayAsk sid (SetRegion token handle regions) = Unit {0}
+MayAsk sid (GetRegion token handle) = Unit {0}
+MayAsk sid (SetDmAttr token handle name value) = Unit {0}
+MayAsk sid (GetDmAttr token handle name) = Unit {0}
+MayAsk sid (RemoveDmAttr token handle name) = Unit {0}
+MayAsk sid (GetAllDmAttr token handle) = Unit {0}
 MayAsk sid (PathToHandle name) = Unit {0}
 MayAsk sid GetSpace = Unit {0}
 
@@ -90,7 +121,7 @@ IsEvent (Caller c) (Issue call) seed = (1 ≤ c.0) × (c.0 ≤ 64) × IsCall see
 IsEvent (Caller c) (Dm call) seed = ⊥
 IsEvent (Caller c) Commit seed = ⊥
 IsEvent (Session sid) (Issue call) seed = ⊥
-IsEvent (Session sid) (Dm call) seed = (sid.0 < 2 ^ 64) × MayAsk sid call × IsDmCall call × (seed ≡ None)
+IsEvent (Session sid) (Dm call) seed = (sid.0 < 2 ^ 64) × MayAsk sid call × IsDmCall seed call
 IsEvent (Session sid) Commit seed = ⊥
 IsEvent Store (Issue call) seed = ⊥
 IsEvent Store (Dm call) seed = ⊥
@@ -111,9 +142,24 @@ call_access (Remove name) = 0
 call_access (Stat name) = 0
 call_access Sync = 0
 
+-- the bytes that a session's call brings
+abbrev pub dm_access : DmCall → ℕ
+dm_access (CreateSession old info) = 0
+dm_access GetAllSessions = 0
+dm_access (QuerySession target) = 0
+dm_access (GetFileAttr token handle) = 0
+dm_access (SetRegion token handle regions) = 0
+dm_access (GetRegion token handle) = 0
+dm_access (SetDmAttr token handle name value) = length value
+dm_access (GetDmAttr token handle name) = 0
+dm_access (RemoveDmAttr token handle name) = 0
+dm_access (GetAllDmAttr token handle) = 0
+dm_access (PathToHandle name) = 0
+dm_access GetSpace = 0
+
 abbrev pub action_access : Action → ℕ
 action_access (Issue call) = call_access call
-action_access (Dm call) = 0
+action_access (Dm call) = dm_access call
 action_access Commit = 0
 
 abbrev pub access_length : Line → ℕ

@@ -1,4 +1,4 @@
-//! The data of a write.
+//! The data of a write, and the value of an attribute.
 ghost use Rattle.std.specs.Prelude.{◌≡◌, ◌≤◌, ◌++◌, IfOk, codes};
 ghost use Rattle.std.specs.List.{list_all};
 ghost use Rattle.hex.specs.Hex.{encode_lower, IsBytes};
@@ -16,7 +16,7 @@ const PATTERN_BYTES: u64 = 131072;
 /// The greatest seed.
 const GREATEST_SEED: u64 = 255;
 
-/// The data of a write, and the seed if they were given by one.
+/// Data, and the seed if they were given by one.
 #[derive(Drop)]
 pub struct Body {
     pub bytes: Bytes,
@@ -69,7 +69,8 @@ fn hex_bytes(alloc: Global, digits: &[u8]) -> Result<Option<Bytes>, AllocError>
     }
 }
 
-fn are_lower_hex(digits: &[u8]) -> bool
+/// Whether all bytes are hex digits, none of them in upper case.
+pub fn are_lower_hex(digits: &[u8]) -> bool
     ensures { result ≡ list_all is_lower_hex digits.now }
 {
     digits.iter().all(|b| { b'0' <= *b && *b <= b'9' || b'a' <= *b && *b <= b'f' })

@@ -6,18 +6,12 @@ ghost use Rattle.script_text.specs.Reading.{Reads, Target, target_text, IsTarget
 
 use crate::bodies::{Body, body_of};
 use crate::lines::Line;
+use crate::requests::Request;
 use crate::session_calls::session_line;
 use crate::words::{caller, cut, is_word, number, session, word};
 use hsm_types::Call;
 use plain_model::{Action, Actor};
 use std::alloc::{AllocError, Global};
-
-/// A call, and the seed of its data if they were given by one.
-#[derive(Drop)]
-struct Request {
-    call: Call,
-    seed: Option<u8>,
-}
 
 /// The line that a text is.
 pub fn line(alloc: Global, text: &[u8]) -> Result<Option<Line>, AllocError>
@@ -62,7 +56,7 @@ fn request_of(alloc: Global, text: &[u8]) -> Result<Option<Request>, AllocError>
     ensures { IfOk result (λ read. Reads call_text IsRequest text.now read) }
 {
     if text == b"sync".as_slice() {
-        return Ok(Some(unseeded(Call::Sync)));
+        return Ok(Some(Request::unseeded(Call::Sync)));
     }
     let Some((verb, args)) = cut(text, b' ') else {
         return Ok(None);
@@ -78,12 +72,6 @@ fn request_of(alloc: Global, text: &[u8]) -> Result<Option<Request>, AllocError>
         Verb::Remove => remove(alloc, args),
         Verb::Stat => stat(alloc, args),
     }
-}
-
-fn unseeded(call: Call) -> Request
-    ensures { result ≡ record { call = call; seed = None } }
-{
-    Request { call, seed: None }
 }
 
 /// What a call with arguments begins with.
@@ -124,7 +112,7 @@ fn create(alloc: Global, args: &[u8]) -> Result<Option<Request>, AllocError>
         return Ok(None);
     }
     let name = word(alloc, args)?;
-    Ok(Some(unseeded(Call::Create { name })))
+    Ok(Some(Request::unseeded(Call::Create { name })))
 }
 
 fn read(alloc: Global, args: &[u8]) -> Result<Option<Request>, AllocError>
@@ -137,7 +125,7 @@ fn read(alloc: Global, args: &[u8]) -> Result<Option<Request>, AllocError>
         return Ok(None);
     };
     let name = word(alloc, name)?;
-    Ok(Some(unseeded(Call::Read { name, offset, len })))
+    Ok(Some(Request::unseeded(Call::Read { name, offset, len })))
 }
 
 fn write(alloc: Global, args: &[u8]) -> Result<Option<Request>, AllocError>
@@ -171,7 +159,7 @@ fn truncate(alloc: Global, args: &[u8]) -> Result<Option<Request>, AllocError>
         return Ok(None);
     };
     let name = word(alloc, name)?;
-    Ok(Some(unseeded(Call::Truncate { name, size })))
+    Ok(Some(Request::unseeded(Call::Truncate { name, size })))
 }
 
 fn remove(alloc: Global, args: &[u8]) -> Result<Option<Request>, AllocError>
@@ -181,7 +169,7 @@ fn remove(alloc: Global, args: &[u8]) -> Result<Option<Request>, AllocError>
         return Ok(None);
     }
     let name = word(alloc, args)?;
-    Ok(Some(unseeded(Call::Remove { name })))
+    Ok(Some(Request::unseeded(Call::Remove { name })))
 }
 
 fn stat(alloc: Global, args: &[u8]) -> Result<Option<Request>, AllocError>
@@ -191,7 +179,7 @@ fn stat(alloc: Global, args: &[u8]) -> Result<Option<Request>, AllocError>
         return Ok(None);
     }
     let name = word(alloc, args)?;
-    Ok(Some(unseeded(Call::Stat { name })))
+    Ok(Some(Request::unseeded(Call::Stat { name })))
 }
 
 /// The name and the offset of an access, and what stands behind them.

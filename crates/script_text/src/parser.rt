@@ -1,13 +1,13 @@
 //! From bytes to lines.
 ghost use Rattle.std.specs.Prelude.{◌≡◌, ◌≤◌, ◌+◌, ◌*◌, ◌<◌, ◌∷◌, length, sum_by, MatchResult, IfOk, OnOk};
-ghost use Rattle.script_text.specs.Lines.{access_length, call_access, IsLine};
+ghost use Rattle.script_text.specs.Lines.{access_length, call_access, dm_access, IsLine};
 ghost use Rattle.script_text.specs.Scripts.{texts_of, IsScript, IsFirstBad, Tells};
 ghost use Rattle.script_text.specs.Reading.{GoesOnAs};
 
 use crate::calls::line;
 use crate::lines::{Line, Script};
 use crate::words::{are_within, cut};
-use hsm_types::{ACCESS_BYTES, Call};
+use hsm_types::{ACCESS_BYTES, Call, DmCall};
 use plain_model::Action;
 use std::alloc::{AllocError, Global};
 use thiserror::Error;
@@ -18,7 +18,7 @@ const LINE_BYTES: usize = 4096;
 /// The lines of the longest script.
 const LINES: usize = 100000;
 
-/// The most bytes that the reads and the writes of a script may have together.
+/// The most bytes that the reads, the writes and the values of attributes of a script may have together.
 const ALL_ACCESS_BYTES: u64 = 536870912;
 
 /// Why bytes are no script.
@@ -107,7 +107,8 @@ fn access_bytes(line: &Line) -> u64
     let Line::Event { action, .. } = line;
     match action {
         Action::Issue(call) => call_bytes(call),
-        Action::Dm(_) | Action::Commit => 0,
+        Action::Dm(call) => dm_bytes(call),
+        Action::Commit => 0,
     }
 }
 
@@ -122,5 +123,24 @@ fn call_bytes(call: &Call) -> u64
         | Call::Remove { .. }
         | Call::Stat { .. }
         | Call::Sync => 0,
+    }
+}
+
+fn dm_bytes(call: &DmCall) -> u64
+    ensures { result ≡ dm_access call.now }
+{
+    match call {
+        DmCall::SetDmAttr { value, .. } => value.as_slice().len() as u64,
+        DmCall::CreateSession { .. }
+        | DmCall::GetAllSessions
+        | DmCall::QuerySession { .. }
+        | DmCall::GetFileAttr { .. }
+        | DmCall::SetRegion { .. }
+        | DmCall::GetRegion { .. }
+        | DmCall::GetDmAttr { .. }
+        | DmCall::RemoveDmAttr { .. }
+        | DmCall::GetAllDmAttr { .. }
+        | DmCall::PathToHandle { .. }
+        | DmCall::GetSpace => 0,
     }
 }

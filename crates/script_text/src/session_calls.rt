@@ -1,15 +1,17 @@
 //! The calls of sessions.
 ghost use Rattle.std.specs.Prelude.{◌≡◌, ◌++◌, ◌↔◌, IfOk, IsTrue, codes};
 ghost use Rattle.std.specs.Fmt.{decimal};
-ghost use Rattle.hsm_types.specs.Handles.{IsHandle};
 ghost use Rattle.plain_model.specs.declared.entries.Actor.{Actor};
-ghost use Rattle.plain_model.specs.Render.{key_word, handle_word};
-ghost use Rattle.script_text.specs.Lines.{line_text, IsLine, IsDmCall, MayAsk};
-ghost use Rattle.script_text.specs.Reading.{Reads, IsSid, IsKey, dm_text, dm_verb_word, text_by};
+ghost use Rattle.script_text.specs.Lines.{line_text, IsLine, MayAsk};
+ghost use Rattle.script_text.specs.Reading.{Reads, IsSid, dm_text, IsDmRequest, dm_verb_word, text_by};
 
+use crate::file_calls::{
+    all_attrs, file_attr, get_attr, get_region, remove_attr, set_attr, set_region,
+};
 use crate::lines::Line;
+use crate::requests::DmRequest;
 use crate::words::{cut, is_word, number, word};
-use hsm_types::{DmCall, FileKey, Handle, Sid, Token};
+use hsm_types::{DmCall, Sid};
 use plain_model::{Action, Actor};
 use std::alloc::{AllocError, Global};
 
@@ -18,7 +20,7 @@ pub fn session_line(alloc: Global, sid: Sid, text: &[u8]) -> Result<Option<Line>
     requires { IsSid sid }
     ensures { IfOk result (λ read. Reads line_text IsLine (text_by (Actor.Session sid) text.now) read) }
 {
-    let Some(call) = dm_call_of(alloc, text)? else {
+    let Some(DmRequest { call, seed }) = dm_request_of(alloc, text)? else {
         return Ok(None);
     };
     if !may_ask(sid, &call) {
@@ -27,7 +29,7 @@ pub fn session_line(alloc: Global, sid: Sid, text: &[u8]) -> Result<Option<Line>
     Ok(Some(Line::Event {
         actor: Actor::Session(sid),
         action: Action::Dm(call),
-        seed: None,
+        seed,
     }))
 }
 
@@ -39,18 +41,26 @@ fn may_ask(sid: Sid, call: &DmCall) -> bool
         DmCall::CreateSession { .. } | DmCall::GetAllSessions | DmCall::QuerySession { .. } => {
             sid.0 == 0
         }
-        DmCall::GetFileAttr { .. } | DmCall::PathToHandle { .. } | DmCall::GetSpace => true,
+        DmCall::GetFileAttr { .. }
+        | DmCall::SetRegion { .. }
+        | DmCall::GetRegion { .. }
+        | DmCall::SetDmAttr { .. }
+        | DmCall::GetDmAttr { .. }
+        | DmCall::RemoveDmAttr { .. }
+        | DmCall::GetAllDmAttr { .. }
+        | DmCall::PathToHandle { .. }
+        | DmCall::GetSpace => true,
     }
 }
 
-fn dm_call_of(alloc: Global, text: &[u8]) -> Result<Option<DmCall>, AllocError>
-    ensures { IfOk result (λ read. Reads dm_text IsDmCall text.now read) }
+fn dm_request_of(alloc: Global, text: &[u8]) -> Result<Option<DmRequest>, AllocError>
+    ensures { IfOk result (λ read. Reads dm_text IsDmRequest text.now read) }
 {
     if text == b"sessions".as_slice() {
-        return Ok(Some(DmCall::GetAllSessions));
+        return Ok(Some(DmRequest::unseeded(DmCall::GetAllSessions)));
     }
     if text == b"space".as_slice() {
-        return Ok(Some(DmCall::GetSpace));
+        return Ok(Some(DmRequest::unseeded(DmCall::GetSpace)));
     }
     let Some((verb, args)) = cut(text, b' ') else {
         return Ok(None);
@@ -62,6 +72,12 @@ fn dm_call_of(alloc: Global, text: &[u8]) -> Result<Option<DmCall>, AllocError>
         DmVerb::Session => create_session(alloc, args),
         DmVerb::Query => Ok(query_session(args)),
         DmVerb::FileAttr => Ok(file_attr(args)),
+        DmVerb::SetRegion => set_region(alloc, args),
+        DmVerb::GetRegion => Ok(get_region(args)),
+        DmVerb::SetAttr => set_attr(alloc, args),
+        DmVerb::GetAttr => Ok(get_attr(args)),
+        DmVerb::RemoveAttr => Ok(remove_attr(args)),
+        DmVerb::AllAttrs => Ok(all_attrs(args)),
         DmVerb::Handle => path_to_handle(alloc, args),
     }
 }
@@ -72,6 +88,12 @@ enum DmVerb {
     Session,
     Query,
     FileAttr,
+    SetRegion,
+    GetRegion,
+    SetAttr,
+    GetAttr,
+    RemoveAttr,
+    AllAttrs,
     Handle,
 }
 
@@ -84,6 +106,18 @@ fn dm_verb_of(word: &[u8]) -> Option<DmVerb>
         Some(DmVerb::Query)
     } else if word == b"fileattr".as_slice() {
         Some(DmVerb::FileAttr)
+    } else if word == b"setregion".as_slice() {
+        Some(DmVerb::SetRegion)
+    } else if word == b"getregion".as_slice() {
+        Some(DmVerb::GetRegion)
+    } else if word == b"setattr".as_slice() {
+        Some(DmVerb::SetAttr)
+    } else if word == b"getattr".as_slice() {
+        Some(DmVerb::GetAttr)
+    } else if word == b"rmattr".as_slice() {
+        Some(DmVerb::RemoveAttr)
+    } else if word == b"attrs".as_slice() {
+        Some(DmVerb::AllAttrs)
     } else if word == b"handle".as_slice() {
         Some(DmVerb::Handle)
     } else {
@@ -91,8 +125,8 @@ fn dm_verb_of(word: &[u8]) -> Option<DmVerb>
     }
 }
 
-fn create_session(alloc: Global, args: &[u8]) -> Result<Option<DmCall>, AllocError>
-    ensures { IfOk result (λ read. Reads dm_text IsDmCall (codes "session " ++ args.now) read) }
+fn create_session(alloc: Global, args: &[u8]) -> Result<Option<DmRequest>, AllocError>
+    ensures { IfOk result (λ read. Reads dm_text IsDmRequest (codes "session " ++ args.now) read) }
 {
     let Some((old, info)) = cut(args, b' ') else {
         return Ok(None);
@@ -104,7 +138,7 @@ fn create_session(alloc: Global, args: &[u8]) -> Result<Option<DmCall>, AllocErr
         return Ok(None);
     }
     let info = word(alloc, info)?;
-    Ok(Some(DmCall::CreateSession { old, info }))
+    Ok(Some(DmRequest::unseeded(DmCall::CreateSession { old, info })))
 }
 
 /// The session in whose place another one is made. A line can only say that there is none.
@@ -117,70 +151,22 @@ fn old_session(word: &[u8]) -> Option<Sid>
     }
 }
 
-fn query_session(args: &[u8]) -> Option<DmCall>
-    ensures { Reads dm_text IsDmCall (codes "query " ++ args.now) result }
+fn query_session(args: &[u8]) -> Option<DmRequest>
+    ensures { Reads dm_text IsDmRequest (codes "query " ++ args.now) result }
 {
     let Some(target) = number(args) else {
         return None;
     };
     let target = Sid(target);
-    Some(DmCall::QuerySession { target })
+    Some(DmRequest::unseeded(DmCall::QuerySession { target }))
 }
 
-fn file_attr(args: &[u8]) -> Option<DmCall>
-    ensures { Reads dm_text IsDmCall (codes "fileattr " ++ args.now) result }
-{
-    let Some((token, handle)) = cut(args, b' ') else {
-        return None;
-    };
-    let Some(token) = number(token) else {
-        return None;
-    };
-    let Some(handle) = handle_of(handle) else {
-        return None;
-    };
-    let token = Token(token);
-    Some(DmCall::GetFileAttr { token, handle })
-}
-
-fn path_to_handle(alloc: Global, args: &[u8]) -> Result<Option<DmCall>, AllocError>
-    ensures { IfOk result (λ read. Reads dm_text IsDmCall (codes "handle " ++ args.now) read) }
+fn path_to_handle(alloc: Global, args: &[u8]) -> Result<Option<DmRequest>, AllocError>
+    ensures { IfOk result (λ read. Reads dm_text IsDmRequest (codes "handle " ++ args.now) read) }
 {
     if !is_word(args) {
         return Ok(None);
     }
     let name = word(alloc, args)?;
-    Ok(Some(DmCall::PathToHandle { name }))
-}
-
-/// The handle that a word is.
-fn handle_of(word: &[u8]) -> Option<Handle>
-    ensures { Reads handle_word IsHandle word.now result }
-{
-    let Some((fsid, key)) = cut(word, b'.') else {
-        return None;
-    };
-    let Some(fsid) = number(fsid) else {
-        return None;
-    };
-    let Some(key) = key_of(key) else {
-        return None;
-    };
-    Some(Handle { fsid, key })
-}
-
-/// The key that a word is.
-fn key_of(word: &[u8]) -> Option<FileKey>
-    ensures { Reads key_word IsKey word.now result }
-{
-    let Some((ino, igen)) = cut(word, b'.') else {
-        return None;
-    };
-    let Some(ino) = number(ino) else {
-        return None;
-    };
-    let Some(igen) = number(igen) else {
-        return None;
-    };
-    Some(FileKey { ino, igen })
+    Ok(Some(DmRequest::unseeded(DmCall::PathToHandle { name })))
 }

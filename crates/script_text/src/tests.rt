@@ -1,5 +1,5 @@
 use crate::{Failed, Line, MemorySink, MemorySource, ParseRefusal, Sink, Source, parse, print};
-use hsm_types::{Bytes, Call, CallerId, DmCall, FileKey, Handle, Sid, Token};
+use hsm_types::{AttrName, Bytes, Call, CallerId, DmCall, FileKey, Handle, Region, Sid, Token};
 use plain_model::{Action, Actor};
 use std::alloc::Global;
 use std::test::Fail;
@@ -104,6 +104,19 @@ fn refuses_words_of_sessions(rt: HostRuntime) {
         "s1 fileattr 0 1..1",
         "s1 fileattr 0 1.1.18446744073709551616",
         "s1 fileattr 00 1.1.1",
+        "s1 fileattr 0 1.1.1 x",
+        "s1 getregion 0",
+        "s1 getregion 0 1.1.1 -",
+        "s1 getattr 0 1.1.1",
+        "s1 getattr 0 1.1.1 0000000000000000 x",
+        "s1 rmattr 0 0000000000000000",
+        "s1 rmattr 0 1.1.1 0000000000000000 x",
+        "s1 attrs 1.1.1",
+        "s1 attrs 0 1.1.1 x",
+        "s1 setattr 0 1.1.1 0000000000000000",
+        "s1 setattr 0 1.1.1 x:00",
+        "s1 setattr 0 1.1.1 0000000000000000 x:00 x",
+        "c1 getregion 0 1.1.1",
         "s1 create a",
         "s1 commit",
         "c1 space",
@@ -134,6 +147,13 @@ fn prints_what_it_reads(rt: HostRuntime) -> Result<(), Fail> {
         "s18446744073709551615 fileattr 18446744073709551615 0.18446744073709551615.0\n",
         "s0 space\n",
         "s7 space\n",
+        "s0 setregion 0 1.1.1 -\ns1 setregion 1 1.1.1 0:0:0\n",
+        "s1 setregion 1 1.2.3 18446744073709551615:18446744073709551615:255,0:1:7\n",
+        "s0 getregion 0 1.1.1\ns1 getregion 1 1.2.3\n",
+        "s0 setattr 0 1.1.1 0123456789abcdef x:00ff\ns1 setattr 1 1.2.3 48534d0000000000 x:\n",
+        "s1 setattr 1 1.2.3 0000000000000000 p:3:255\ns1 setattr 1 1.2.3 ffffffffffffffff p:0:0\n",
+        "s0 getattr 0 1.1.1 0123456789abcdef\ns1 rmattr 1 1.2.3 0123456789abcdef\n",
+        "s0 attrs 0 1.1.1\ns1 attrs 1 1.2.3\n",
         "c1 create a\nc1 write a 0 x:00ff\nc2 write a 2 p:3:255\nc2 write a 5 x:\nc2 write a 5 p:0:0\n",
         "c64 read a 1 2\nc1 truncate a 3\nc1 stat a\nc1 sync\nc1 remove a\nstore commit\n",
     ];
@@ -176,6 +196,98 @@ fn reads_calls_of_sessions(rt: HostRuntime) -> Result<(), Fail> {
     assert_eq!(rt; sid, Sid(0));
     assert_eq!(rt; call, DmCall::QuerySession { target: Sid(5) });
     Ok(())
+}
+
+#[test]
+fn reads_calls_on_files(rt: HostRuntime) -> Result<(), Fail> {
+    let (sid, call) = asked(rt.alloc(), b"s9 setregion 4 1.2.3 5:6:7")?;
+    assert_eq!(rt; sid, Sid(9));
+    let DmCall::SetRegion { regions, .. } = call else {
+        return Err(Fail::from("another call"));
+    };
+    let region = Region {
+        offset: 5,
+        size: 6,
+        flags: 7,
+    };
+    assert_eq!(rt; regions.as_slice(), [region].as_slice());
+    let (_, call) = asked(rt.alloc(), b"s9 setattr 4 1.2.3 0001020304050607 p:2:1")?;
+    let DmCall::SetDmAttr { name, value, .. } = call else {
+        return Err(Fail::from("another call"));
+    };
+    assert_eq!(rt; name, AttrName([0, 1, 2, 3, 4, 5, 6, 7]));
+    assert_eq!(rt; value.as_slice(), [1, 8].as_slice());
+    Ok(())
+}
+
+#[test]
+fn judges_regions(rt: HostRuntime) {
+    let cases = [
+        ("s1 setregion 0 1.1.1", 1),
+        ("s1 setregion 0 1.1.1 ", 1),
+        ("s1 setregion 0 1.1.1 - -", 1),
+        ("s1 setregion 0 1.1 -", 1),
+        ("s1 setregion 01 1.1.1 -", 1),
+        ("s1 setregion 0 1.1.1 --", 1),
+        ("s1 setregion 0 1.1.1 -,0:0:1", 1),
+        ("s1 setregion 0 1.1.1 0:0:1", 0),
+        ("s1 setregion 0 1.1.1 0:0:1,", 1),
+        ("s1 setregion 0 1.1.1 ,0:0:1", 1),
+        ("s1 setregion 0 1.1.1 0:0:1,,0:0:1", 1),
+        ("s1 setregion 0 1.1.1 0:0:1 0:0:1", 1),
+        ("s1 setregion 0 1.1.1 0:0", 1),
+        ("s1 setregion 0 1.1.1 0:0:0:0", 1),
+        ("s1 setregion 0 1.1.1 0::1", 1),
+        ("s1 setregion 0 1.1.1 +0:0:1", 1),
+        ("s1 setregion 0 1.1.1 00:0:1", 1),
+        ("s1 setregion 0 1.1.1 0:01:1", 1),
+        ("s1 setregion 0 1.1.1 0:0:01", 1),
+        ("s1 setregion 0 1.1.1 18446744073709551615:0:1", 0),
+        ("s1 setregion 0 1.1.1 18446744073709551616:0:1", 1),
+        ("s1 setregion 0 1.1.1 0:18446744073709551616:1", 1),
+        ("s1 setregion 0 1.1.1 0:0:255", 0),
+        ("s1 setregion 0 1.1.1 0:0:256", 1),
+    ];
+    for (text, want) in cases {
+        assert_eq!(rt; told(rt.alloc(), text.as_bytes()), want, "{text}");
+    }
+}
+
+#[test]
+fn limits_regions(rt: HostRuntime) -> Result<(), Fail> {
+    let mut most = b"s1 setregion 0 1.1.1 0:0:0".to_vec(rt.alloc())?;
+    for _ in 1..64 {
+        most.extend_from_slice(b",0:0:0")?;
+    }
+    assert_eq!(rt; told(rt.alloc(), most.as_slice()), 0);
+    most.extend_from_slice(b",0:0:0")?;
+    assert_eq!(rt; told(rt.alloc(), most.as_slice()), 1);
+    Ok(())
+}
+
+#[test]
+fn judges_names_of_attributes(rt: HostRuntime) {
+    let cases = [
+        ("s1 getattr 0 1.1.1 0123456789abcdef", 0),
+        ("s1 getattr 0 1.1.1 0123456789abcde", 1),
+        ("s1 getattr 0 1.1.1 0123456789abcd", 1),
+        ("s1 getattr 0 1.1.1 0123456789abcdef0", 1),
+        ("s1 getattr 0 1.1.1 0123456789abcdef01", 1),
+        ("s1 getattr 0 1.1.1 0123456789ABCDEF", 1),
+        ("s1 getattr 0 1.1.1 0123456789abcdeg", 1),
+        ("s1 rmattr 0 1.1.1 0123456789abcde", 1),
+        ("s1 rmattr 0 1.1.1 0123456789abcdeF", 1),
+        ("s1 setattr 0 1.1.1 0123456789abcde x:00", 1),
+        ("s1 setattr 0 1.1.1 0123456789Abcdef x:00", 1),
+        ("s1 setattr 0 1.1.1 0123456789abcdef 00", 1),
+        ("s1 setattr 0 1.1.1 0123456789abcdef x:0", 1),
+        ("s1 setattr 0 1.1.1 0123456789abcdef p:131072:255", 0),
+        ("s1 setattr 0 1.1.1 0123456789abcdef p:131073:0", 1),
+        ("s1 setattr 0 1.1.1 0123456789abcdef p:1:256", 1),
+    ];
+    for (text, want) in cases {
+        assert_eq!(rt; told(rt.alloc(), text.as_bytes()), want, "{text}");
+    }
 }
 
 #[test]
@@ -261,6 +373,20 @@ fn limits_scripts(rt: HostRuntime) -> Result<(), Fail> {
         b"c1 write a 0 p:1:0",
     )?;
     assert_eq!(rt; heavier, 8193);
+    let setting = told_many(
+        rt.alloc(),
+        b"c1 read a 0 99999\n",
+        8192,
+        b"s1 setattr 0 1.1.1 0000000000000000 x:",
+    )?;
+    assert_eq!(rt; setting, 0);
+    let heavier_setting = told_many(
+        rt.alloc(),
+        b"c1 read a 0 99999\n",
+        8192,
+        b"s1 setattr 0 1.1.1 0000000000000000 x:00",
+    )?;
+    assert_eq!(rt; heavier_setting, 8193);
     Ok(())
 }
 

@@ -1,5 +1,5 @@
 use Rattle.script_text.proofs.SessionParts.{key_cut}
-use Rattle.script_text.proofs.session_calls.key_of.Goals as goal
+use Rattle.script_text.proofs.addresses.key_of.Goals as goal
 
 pub returns-in_default-number : goal.returns-in_default-number
 returns-in_default-number c x h same =
