@@ -28,7 +28,7 @@ use Rattle.plain_model.specs.declared.entries.Answer.TheVariants.{Call as Replie
 use Rattle.plain_model.specs.Faults.{fault_of, is_fault}
 use Rattle.plain_model.specs.State.{Held, judged, reply_to, held_where, held_after}
 use Rattle.plain_model.specs.States.{State, noted, state_where, state_after}
-use Rattle.plain_model.specs.Services.{dm_judged, dm_reply_to, sessions_where, dm_state_after}
+use Rattle.plain_model.specs.Services.{dm_judged, dm_reply_to, files_where, sessions_where, dm_state_after}
 use Rattle.plain_model.specs.Exact.{IsAnswer as IsExact, left_by}
 use Rattle.plain_model.specs.Synced.{is_sync}
 use Rattle.plain_model.proofs.Faultless.{faultless_reply, faultless_dm_reply}
@@ -213,10 +213,6 @@ module _ {D : Type 0} (g : disk.Ghosts D) (s t : Store D) (run : IsRun s) (safe 
     proceeds = b.proceeds;
   }
 
-  -- files that stay
-  proceeded : t.files ≡ s.files → ((n : ℕ) → Proceeds g s.files n s.files) → Proceeds g s.files (last_number s) t.files
-  proceeded files idle = subst (λ (f : FileStore D). Proceeds g s.files (last_number s) f) (sym files) (idle (last_number s))
-
   -- a commit more
   pub committed : (n : ℕ) (d : Result (Reply × Reply) StoreRefusal) (reply : Reply) → n ≡ last_number s → Becomes g s t n (Unit {0}) Done s.files.held (stamp_in s.stamps) d
       → Keeps s.history TheStore Commit d reply t.history → IsNext g s TheStore Commit (Replied Done) (noted (state_of s)) (Replied reply) t
@@ -249,21 +245,24 @@ module _ {D : Type 0} (g : disk.Ghosts D) (s t : Store D) (run : IsRun s) (safe 
       (subst (λ (st : State). IsEvent super (state_of s) (Caller (record { 0 = c })) (Issue call) (Replied exact) st) whole (call_event super (state_of s) c call)) d
       (syncing (last_number s) (call ≡ Sync) _ exact left stamps d (sync_only call exact) counted_on) keeps)
 
-  -- a session's call more. It leaves the files and the stamps
-  pub told_one : (sid : Sid) (call : DmCall) (d : Result (DmReply × DmReply) AllocError) (reply : DmReply) → t.files ≡ s.files → t.stamps ≡ s.stamps → ((n : ℕ) → Proceeds g s.files n s.files)
-      → IfOk d (λ r. (r.0 ≡ dm_reply_to (superblock_of s.files) (state_of s) sid call) × (r.1 ≡ r.0)) → OnOk d (t.sessions ≡ sessions_where (dm_judged (superblock_of s.files) s.files.held.files s.sessions sid call) s.sessions call)
-      → OnErr d (t.sessions ≡ s.sessions) → IfOk d (λ r. (reply ≡ r.0) × (t.history ≡ s.history ++ entry_of (Session sid) (Dm call) (Told r.1) ∷ []))
+  -- a session's call more. It leaves the stamps
+  pub told_one : (sid : Sid) (call : DmCall) (d : Result (DmReply × DmReply) AllocError) (reply : DmReply) → t.stamps ≡ s.stamps → t.files.failed ≡ false → Proceeds g s.files (last_number s) t.files
+      → IfOk d (λ r. (r.0 ≡ dm_reply_to (superblock_of s.files) (state_of s) sid call) × (r.1 ≡ r.0))
+      → OnOk d (t.files.held ≡ record s.files.held { files = files_where (dm_judged (superblock_of s.files) s.files.held.files s.sessions sid call) s.files.held.files call })
+      → OnOk d (t.sessions ≡ sessions_where (dm_judged (superblock_of s.files) s.files.held.files s.sessions sid call) s.sessions call)
+      → OnErr d ((t.sessions ≡ s.sessions) × (t.files.held ≡ s.files.held)) → IfOk d (λ r. (reply ≡ r.0) × (t.history ≡ s.history ++ entry_of (Session sid) (Dm call) (Told r.1) ∷ []))
       → OnErr d ((reply ≡ told.Refused dm.Memory) × (t.history ≡ s.history))
       → IsNext g s (Session sid) (Dm call) (Told (dm_reply_to (superblock_of s.opened) (state_of s) sid call)) (dm_state_after (superblock_of s.opened) (state_of s) sid call) (Told reply) t
-  told_one sid call (Ok r) reply files stamps idle replies sessions unchanged kept lacks =
+  told_one sid call (Ok r) reply stamps still proceeds replies held sessions unchanged kept lacks =
       let super : Superblock = superblock_of s.opened in
       let exact : DmReply = dm_reply_to super (state_of s) sid call in
       let first : r.0 ≡ exact = replies.0 ∙ ap (λ (x : Superblock). dm_reply_to x (state_of s) sid call) (formatted_as s run) in
       let history : t.history ≡ s.history ++ entry_of (Session sid) (Dm call) (Told exact) ∷ [] = kept.1 ∙ ap (λ (q : DmReply). s.history ++ entry_of (Session sid) (Dm call) (Told q) ∷ []) (replies.1 ∙ first) in
-      done g s t run safe working opened (proceeded files idle) (Session sid) (Dm call) (Told exact) _ (Told reply) (dm_event super (state_of s) sid call) (ap (λ (q : DmReply). Told q) (kept.0 ∙ first)) history
-      (parts (state_of t) s.files.held (stamp_in s.stamps) _ (last_number s + 1) (ap (λ (f : FileStore D). f.held) files) (ap stamp_in stamps)
+      done g s t run safe working opened proceeds (Session sid) (Dm call) (Told exact) _ (Told reply) (dm_event super (state_of s) sid call) (ap (λ (q : DmReply). Told q) (kept.0 ∙ first)) history
+      (parts (state_of t) _ (stamp_in s.stamps) _ (last_number s + 1)
+      (held ∙ ap (λ (x : Superblock). record s.files.held { files = files_where (dm_judged x s.files.held.files s.sessions sid call) s.files.held.files call }) (formatted_as s run)) (ap stamp_in stamps)
       (sessions ∙ ap (λ (x : Superblock). sessions_where (dm_judged x s.files.held.files s.sessions sid call) s.sessions call) (formatted_as s run))
-      (counted s t (entry_of (Session sid) (Dm call) (Told exact)) opened history)) (ap (λ (f : FileStore D). f.failed) files ∙ working) (λ syncs. absurd cc)
-  told_one sid call (Err e) reply files stamps idle replies sessions unchanged kept lacks =
-      lacking g s t run safe working opened (proceeded files idle) (Session sid) (Dm call) _ _ (Told reply) (ap (λ (q : DmReply). Told q) lacks.0) lacks.1
-      (parts (state_of t) s.files.held (stamp_in s.stamps) s.sessions (last_number s) (ap (λ (f : FileStore D). f.held) files) (ap stamp_in stamps) unchanged (uncounted s t opened lacks.1)) (ap (λ (f : FileStore D). f.failed) files ∙ working)
+      (counted s t (entry_of (Session sid) (Dm call) (Told exact)) opened history)) still (λ syncs. absurd cc)
+  told_one sid call (Err e) reply stamps still proceeds replies held sessions unchanged kept lacks =
+      lacking g s t run safe working opened proceeds (Session sid) (Dm call) _ _ (Told reply) (ap (λ (q : DmReply). Told q) lacks.0) lacks.1
+      (parts (state_of t) s.files.held (stamp_in s.stamps) s.sessions (last_number s) unchanged.1 (ap stamp_in stamps) unchanged.0 (uncounted s t opened lacks.1)) still

@@ -2,7 +2,10 @@
 #![tactic(auto)]
 
 mod answering;
+mod dm_refusals;
 mod judging;
+#[cfg(test)]
+mod managed_tests;
 mod refusals;
 mod room;
 mod services;

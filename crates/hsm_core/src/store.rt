@@ -239,7 +239,7 @@ impl<D: Disk> Hsm<D> {
             return unserved(why);
         }
         let done = serve(
-            &self.files,
+            &mut self.files,
             &self.stamps,
             &mut self.sessions,
             alloc,

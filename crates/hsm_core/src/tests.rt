@@ -137,7 +137,7 @@ fn what_was_synced_is_found_again(rt: HostRuntime) -> Result<(), Fail> {
     Ok(())
 }
 
-fn committed(
+pub(crate) fn committed(
     rt: &impl Abort,
     alloc: Global,
     mut hsm: Hsm<SureDisk>,
@@ -241,7 +241,7 @@ fn a_fault_of_the_disk_closes_the_store(rt: HostRuntime) -> Result<(), Fail> {
     Err("no write met the fault".into())
 }
 
-fn session(alloc: Global, old: u64, info: &[u8]) -> Result<DmCall, AllocError> {
+pub(crate) fn session(alloc: Global, old: u64, info: &[u8]) -> Result<DmCall, AllocError> {
     let info = word(alloc, info)?;
     let old = Sid(old);
     Ok(DmCall::CreateSession { old, info })
@@ -272,7 +272,7 @@ fn tells<D: Disk>(
     assert_eq!(rt; told, reply);
 }
 
-fn tells_all<D: Disk>(
+pub(crate) fn tells_all<D: Disk>(
     rt: &impl Abort,
     alloc: Global,
     hsm: &mut Hsm<D>,
@@ -378,7 +378,7 @@ fn accesses(alloc: Global) -> Result<Vec<(Call, DmReply)>, AllocError> {
 }
 
 // A small store that has just the empty file "a", and a session.
-fn with_session(alloc: Global) -> Result<Hsm<SureDisk>, Fail> {
+pub(crate) fn with_session(alloc: Global) -> Result<Hsm<SureDisk>, Fail> {
     let mut hsm = with_file(alloc)?;
     let _session = hsm.dm(alloc, Sid(0), session(alloc, 0, b"one")?);
     Ok(hsm)

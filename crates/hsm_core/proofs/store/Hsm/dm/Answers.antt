@@ -11,7 +11,7 @@ use Rattle.plain_model.specs.declared.entries.Answer.TheVariants.{Dm as Told}
 use Rattle.plain_model.specs.Services.{dm_judged, dm_reply_where, dm_reply_to, dm_state_after}
 use Rattle.file_store.specs.Stores.{superblock_of}
 use Rattle.hsm_core.specs.Stamps.{stamp_in}
-use Rattle.hsm_core.specs.Store.{Store, state_of}
+use Rattle.hsm_core.specs.Store.{Store, last_number, state_of}
 use Rattle.hsm_core.specs.Answers.{entry_of, IsTold}
 use Rattle.hsm_core.proofs.Events.{told_one, not_begun, IsNext}
 use Rattle.hsm_core.proofs.store.Hsm.dm.Given.{Over}
@@ -23,18 +23,18 @@ abbrev before : (g : Over) → After-keep_dm g → Store g.row.D.Denot
 before g c = record { opened = c.self.inside.opened.value; files = c.self.inside.files; stamps = c.self.inside.stamps.entries; sessions = c.self.inside.sessions; history = c.self.inside.history.items }
 
 abbrev after : (g : Over) → After-keep_dm g → Store g.row.D.Denot
-after g c = record { opened = c.self.inside.opened.value; files = c.self.inside.files; stamps = c.make_ready.new.stamps.entries; sessions = c.serve-done.new.sessions; history = c.keep_dm.new.history.items }
+after g c = record { opened = c.self.inside.opened.value; files = c.serve-done.new.files; stamps = c.make_ready.new.stamps.entries; sessions = c.serve-done.new.sessions; history = c.keep_dm.new.history.items }
 
 event : (g : Over) (c : After-keep_dm g) → IsNext g.D.Disk (before g c) (Session c.args.sid) (Dm c.args.call) (Told (dm_reply_to (superblock_of c.self.inside.opened.value) (state_of (before g c)) c.args.sid c.args.call))
     (dm_state_after (superblock_of c.self.inside.opened.value) (state_of (before g c)) c.args.sid c.args.call) (Told c.keep_dm.result) (after g c)
 event g c =
     let super = superblock_of c.self.inside.files in
     let judged = dm_judged super c.self.inside.files.held.files c.self.inside.sessions c.args.sid c.args.call in
-    told_one g.D.Disk (before g c) (after g c) c.self.invariant.0 c.self.invariant.1 c.in_default.ensures.working refl c.args.sid c.args.call c.serve-done.result c.keep_dm.result refl c.make_ready.ensures.stamps
-    (c.make_ready.ensures.idle c.in_default.ensures.working)
+    told_one g.D.Disk (before g c) (after g c) c.self.invariant.0 c.self.invariant.1 c.in_default.ensures.working refl c.args.sid c.args.call c.serve-done.result c.keep_dm.result c.make_ready.ensures.stamps
+    c.serve-done.ensures.working (c.serve-done.ensures.proceeds (last_number (before g c)))
     (subst (λ (entries : List (FileKey × ℕ)). IfOk c.serve-done.result (λ r. (r.0 ≡ dm_reply_where judged super c.self.inside.files.held.files (stamp_in entries) c.self.inside.sessions c.args.call) × (r.1 ≡ r.0)))
     c.make_ready.ensures.stamps c.serve-done.ensures.replies)
-    c.serve-done.ensures.sessions c.serve-done.ensures.err
+    c.serve-done.ensures.held c.serve-done.ensures.sessions c.serve-done.ensures.err
     (subst (λ (old : List Entry). IfOk c.serve-done.result (λ r. (c.keep_dm.result ≡ r.0) × (c.keep_dm.new.history.items ≡ old ++ entry_of (Session c.args.sid) (Dm c.args.call) (Told r.1) ∷ []))) c.make_ready.ensures.same c.keep_dm.ensures.kept)
     (subst (λ (old : List Entry). OnErr c.serve-done.result ((c.keep_dm.result ≡ told.Refused dm.Memory) × (c.keep_dm.new.history.items ≡ old))) c.make_ready.ensures.same c.keep_dm.ensures.memory)
 
@@ -52,3 +52,6 @@ invariant_of-self-2 g c = let next = event g (goal.at.invariant_of-self-2 g c).A
 
 pub returns : goal.returns
 returns g c = subst (λ (old : Store g.row.D.Denot). IsTold g.D.Disk old c.args.sid c.args.call c.keep_dm.result (after g (goal.at.returns g c).After-keep_dm)) c.self.view_is (event g (goal.at.returns g c).After-keep_dm).2
+
+pub serve-done-requires-clause-idle : goal.serve-done-requires-clause-idle
+serve-done-requires-clause-idle g c = c.make_ready.ensures.idle c.in_default.ensures.working
