@@ -9,7 +9,6 @@ pub mod SnapshotLengths
 pub mod SnapshotFits
 pub mod WrittenFiles
 pub mod CommitTurns
-pub mod ChangedStores
 pub mod FormattedStores
 pub mod OpenedImages
 pub mod FoundImages

@@ -2,8 +2,6 @@
 #![tactic(auto)]
 
 mod catalog;
-#[cfg(test)]
-mod catalog_tests;
 mod extents;
 mod fields;
 mod file_parts;
@@ -16,15 +14,9 @@ mod opening;
 mod reading;
 mod refusal;
 mod snapshot;
-#[cfg(test)]
-mod snapshot_tests;
 mod spelling;
 mod store;
-#[cfg(test)]
-mod store_tests;
 mod validity;
-#[cfg(test)]
-mod validity_tests;
 mod writing;
 
 pub use catalog::Catalog;
