@@ -1,0 +1,18 @@
+//! Tests of the whole, through the top call of the program. They stand apart from the crates that they try, since a crate
+//! with tests is proved twice.
+#![tactic(auto)]
+
+#[cfg(test)]
+mod comparing;
+#[cfg(test)]
+mod crashes;
+#[cfg(test)]
+mod disk_faults;
+#[cfg(test)]
+mod hosts;
+#[cfg(test)]
+mod running;
+#[cfg(test)]
+mod scripts;
+#[cfg(test)]
+mod streams;
