@@ -8,16 +8,12 @@ mod files;
 mod laws;
 mod loading;
 mod managed;
-#[cfg(test)]
-mod managed_tests;
 mod opening;
 mod readers;
 mod refusal;
 mod remapping;
 mod spaces;
 mod store;
-#[cfg(test)]
-mod tests;
 mod writing;
 
 pub use laws::{formatted_is_empty, one_recovery};

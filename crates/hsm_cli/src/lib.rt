@@ -5,18 +5,12 @@ mod adapters;
 mod causes;
 mod commands;
 mod file_host;
-#[cfg(test)]
-mod host_tests;
 mod hosts;
 mod mem_host;
 mod outcomes;
 mod runs;
 mod serving;
-#[cfg(test)]
-mod store_tests;
 mod streams;
-#[cfg(test)]
-mod tests;
 mod top;
 
 pub use adapters::{Reading, Writing};

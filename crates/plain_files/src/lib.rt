@@ -4,8 +4,6 @@
 mod bodies;
 mod files;
 mod histories;
-#[cfg(test)]
-mod tests;
 
 pub use files::PlainFile;
 pub use histories::files_after;
