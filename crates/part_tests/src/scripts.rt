@@ -1,0 +1,194 @@
+//! Scripts: what is printed is what was read, patterns by hand, and texts and limits of which no example tells.
+use hsm_types::Call;
+use plain_model::Action;
+use script_text::{Line, ParseRefusal, parse, print};
+use std::alloc::Global;
+
+static PRINTED: [&str; 12] = [
+    "",
+    "s0 session 0 a/b\ns0 sessions\ns0 query 0\ns0 query 18446744073709551615\n",
+    "s1 handle a\ns0 handle a/b\ns0 space\ns7 space\n",
+    "s1 fileattr 0 1.2.3\ns18446744073709551615 fileattr 18446744073709551615 0.18446744073709551615.0\n",
+    "s0 setregion 0 1.1.1 -\ns1 setregion 1 1.1.1 0:0:0\ns0 getregion 0 1.1.1\ns1 getregion 1 1.2.3\n",
+    "s1 setregion 1 1.2.3 18446744073709551615:18446744073709551615:255,0:1:7\n",
+    "s0 setattr 0 1.1.1 0123456789abcdef x:00ff\ns1 setattr 1 1.2.3 48534d0000000000 x:\n",
+    "s1 setattr 1 1.2.3 0000000000000000 p:3:255\ns1 setattr 1 1.2.3 ffffffffffffffff p:0:0\n",
+    "s0 getattr 0 1.1.1 0123456789abcdef\ns1 rmattr 1 1.2.3 0123456789abcdef\n",
+    "s0 attrs 0 1.1.1\ns1 attrs 1 1.2.3\n",
+    "c1 create a\nc1 write a 0 x:00ff\nc2 write a 2 p:3:255\nc2 write a 5 x:\nc2 write a 5 p:0:0\n",
+    "c64 read a 1 2\nc1 truncate a 3\nc1 stat a\nc1 sync\nc1 remove a\nstore commit\n",
+];
+
+/// Whether what is read of a text is printed as that text, `None` for want of memory.
+fn is_printed_again(alloc: Global, text: &str) -> Option<bool> {
+    let script = parse(alloc, text.as_bytes()).ok()?;
+    let again = print(alloc, &script).ok()?;
+    Some(again.as_slice() == text.as_bytes())
+}
+
+#[test]
+fn are_printed_as_they_were_read(rt: HostRuntime) {
+    for text in &PRINTED {
+        assert!(rt; is_printed_again(rt.alloc(), text) == Some(true), "{text}");
+    }
+}
+
+/// A write, a place in its data, and the bytes from there on.
+static PATTERNS: [(&str, usize, &[u8]); 6] = [
+    ("c1 write a 0 p:0:9", 0, &[]),
+    ("c1 write a 0 p:4:1", 0, &[1, 8, 15, 22]),
+    ("c1 write a 0 p:3:250", 0, &[250, 1, 8]),
+    ("c1 write a 0 p:257:3", 254, &[245, 252, 4]),
+    ("c1 write a 0 p:65539:255", 65535, &[247, 255, 6, 13]),
+    ("c1 write a 0 p:131072:255", 131069, &[233, 240, 247]),
+];
+
+/// Whether a line is a write whose data end in these bytes, from that place on.
+fn ends(line: &Line, from: usize, want: &[u8]) -> bool {
+    let Line::Event { action, .. } = line;
+    match action {
+        Action::Issue(Call::Write { body, .. }) => body.as_slice().get(from..) == Some(want),
+        _ => false,
+    }
+}
+
+/// Whether the text is one such write.
+fn is_pattern(alloc: Global, text: &str, from: usize, want: &[u8]) -> bool {
+    let Ok(script) = parse(alloc, text.as_bytes()) else {
+        return false;
+    };
+    match script.as_slice() {
+        [line] => ends(line, from, want),
+        _ => false,
+    }
+}
+
+#[test]
+fn have_patterns(rt: HostRuntime) {
+    for (text, from, want) in &PATTERNS {
+        assert!(rt; is_pattern(rt.alloc(), text, *from, want), "{text}");
+    }
+}
+
+/// The first bad line, 0 for a script.
+fn bad_line(alloc: Global, text: &[u8]) -> u64 {
+    match parse(alloc, text) {
+        Ok(_) => 0,
+        Err(ParseRefusal::BadLine { line }) => line,
+        Err(ParseRefusal::Memory) => u64::MAX,
+    }
+}
+
+static BAD: [&str; 63] = [
+    "\n",
+    "c1",
+    " c1 sync",
+    "d1 sync",
+    "c01 sync",
+    "c1 stat",
+    "c1 stat a b",
+    "c1 truncate a",
+    "c1 truncate a 01",
+    "c1 truncate a 1 2",
+    "c1 read a +1 1",
+    "c1 read a 0 18446744073709551616",
+    "c1 write a 0 y:ab",
+    "c1 write a 0 p:1:",
+    "c1 write a 0 p:01:0",
+    "c1 write a 0 p:1:0:0",
+    "store",
+    "store sync",
+    "store  commit",
+    "store commit x",
+    "store space",
+    "S1 space",
+    "s1 space ",
+    "s1 spaces",
+    "s0 session 00 x",
+    "s0 session 0",
+    "s0 session 0 ",
+    "s0 session 0 x y",
+    "s0 sessions 0",
+    "s0 query",
+    "s0 query 01",
+    "s1 fileattr 00 1.1.1",
+    "s1 fileattr 0 1.1.1 x",
+    "s1 fileattr 0 1.1.18446744073709551616",
+    "s1 setregion 0 1.1.1 ",
+    "s1 setregion 0 1.1.1 - -",
+    "s1 setregion 0 1.1.1 --",
+    "s1 setregion 0 1.1.1 ,0:0:1",
+    "s1 setregion 0 1.1.1 0:0:1,,0:0:1",
+    "s1 setregion 0 1.1.1 0:0:1 0:0:1",
+    "s1 setregion 0 1.1.1 0:0:0:0",
+    "s1 setregion 0 1.1.1 0::1",
+    "s1 setregion 0 1.1.1 +0:0:1",
+    "s1 getattr 0 1.1.1",
+    "s1 getattr 0 1.1.1 0123456789abcd",
+    "s1 getattr 0 1.1.1 0123456789abcdeg",
+    "s1 rmattr 0 0123456789abcdef",
+    "s1 attrs 0 1.1.1 x",
+    "s1 setattr 0 1.1.1 x:00",
+    "s1 setattr 0 1.1.1 0123456789abcdef x:0",
+    "s1 setattr 0 1.1.1 0123456789abcdef p:1:256",
+    "s1 commit",
+    "s1 fileattr 0",
+    "s1 attrs 1.1.1",
+    "s1 setregion 0 1.1 -",
+    "s1 setregion 01 1.1.1 -",
+    "s1 setregion 0 1.1.1 0:01:1",
+    "s1 setregion 0 1.1.1 0:0:01",
+    "s1 setregion 0 1.1.1 18446744073709551616:0:1",
+    "s1 getattr 0 1.1.1 0123456789abcdef01",
+    "s1 rmattr 0 1.1.1 0123456789abcdef x",
+    "s1 setattr 0 1.1.1 0123456789abcde x:00",
+    "s1 setattr 0 1.1.1 0123456789abcdef x:00 x",
+];
+
+#[test]
+fn are_refused(rt: HostRuntime) {
+    for text in &BAD {
+        assert!(rt; bad_line(rt.alloc(), text.as_bytes()) == 1, "{text}");
+    }
+}
+
+/// A line, how often it stands, the last line behind these, and the first bad one: at most 100,000 lines, and 536,870,912 bytes that are read,
+/// written and set.
+static LONG: [(&str, u32, &str, u64); 6] = [
+    ("c1 sync\n", 99999, "c1 sync", 0),
+    ("c1 sync\n", 100000, "c1 sync", 100001),
+    ("c1 read a 0 99999\n", 8192, "c1 write a 0 p:0:0", 0),
+    ("c1 read a 0 99999\n", 8192, "c1 write a 0 p:1:0", 8193),
+    (
+        "c1 read a 0 99999\n",
+        8192,
+        "s1 setattr 0 1.1.1 0000000000000000 x:",
+        0,
+    ),
+    (
+        "c1 read a 0 99999\n",
+        8192,
+        "s1 setattr 0 1.1.1 0000000000000000 x:00",
+        8193,
+    ),
+];
+
+/// The first bad line of so many that are alike, and a last one.
+fn bad_line_of_many(alloc: Global, line: &str, count: u32, last: &str) -> Option<u64> {
+    let mut text = Vec::new(alloc);
+    for _ in 0..count {
+        text.extend_from_slice(line.as_bytes()).ok()?;
+    }
+    text.extend_from_slice(last.as_bytes()).ok()?;
+    Some(bad_line(alloc, text.as_slice()))
+}
+
+#[test]
+fn have_limits(rt: HostRuntime) {
+    for (place, (line, count, last, want)) in LONG.iter().enumerate() {
+        assert!(rt;
+            bad_line_of_many(rt.alloc(), line, *count, last) == Some(*want),
+            "row {place}"
+        );
+    }
+}
