@@ -5,8 +5,6 @@ mod blocks;
 mod flags;
 mod laws;
 mod space;
-#[cfg(test)]
-mod tests;
 
 pub use blocks::Blocks;
 pub use laws::{

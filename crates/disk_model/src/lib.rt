@@ -25,6 +25,3 @@ pub use memory::MemDisk;
 pub use record::{Action, Call, WrittenBytes};
 pub use refusal::OpenRefusal;
 pub use sure::SureDisk;
-
-#[cfg(test)]
-mod tests;

@@ -2,7 +2,5 @@
 #![tactic(auto)]
 
 mod attrs;
-#[cfg(test)]
-mod tests;
 
 pub use attrs::DmAttrs;

@@ -3,8 +3,6 @@
 
 mod handles;
 mod laws;
-#[cfg(test)]
-mod tests;
 
 pub use handles::{BadHandle, cmp, fsid, hash, igen, ino, is_valid, make};
 pub use laws::{one_handle, orders_as_numbers, reads_back};

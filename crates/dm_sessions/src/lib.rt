@@ -2,7 +2,5 @@
 #![tactic(auto)]
 
 mod sessions;
-#[cfg(test)]
-mod tests;
 
 pub use sessions::Sessions;

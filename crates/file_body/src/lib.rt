@@ -6,8 +6,6 @@ mod bodies;
 mod flags;
 mod segment_lists;
 mod segments;
-#[cfg(test)]
-mod tests;
 mod touches;
 
 pub use blocks::MappedBlocks;

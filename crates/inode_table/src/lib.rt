@@ -4,7 +4,5 @@
 mod edits;
 mod entries;
 mod table;
-#[cfg(test)]
-mod tests;
 
 pub use table::{InodeTable, TableRefusal};

@@ -5,8 +5,6 @@ mod lawful;
 mod laws;
 mod meeting;
 mod regions;
-#[cfg(test)]
-mod tests;
 
 pub use lawful::judge;
 pub use laws::lawful_stand_apart;

@@ -23,6 +23,3 @@ pub use memory::{MemorySink, MemorySource};
 pub use parser::{ParseRefusal, parse};
 pub use printing::print;
 pub use streams::{Failed, Sink, Source};
-
-#[cfg(test)]
-mod tests;
