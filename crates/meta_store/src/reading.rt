@@ -1,13 +1,13 @@
 // Reading a snapshot's bytes.
 ghost use Rattle.std.specs.Prelude.{◌≡◌, List, ℕ, map, IfOk, IsErrOf};
 ghost use Rattle.meta_store.specs.Snapshots.{Snapshot, IsSpelled, raw_file, raw_snapshot};
-ghost use Rattle.meta_store.specs.Reading.{Gives, several, counted, region_at, attribute_at, extent_at, file_at, snapshot_at};
+ghost use Rattle.meta_store.specs.Reading.{Gives, both, number_at, sized, several, counted, key_at, region_at, attribute_at, extent_at, file_at, snapshot_at};
 
 use crate::fields::{
     attribute_at, extent_at, key_at, name_at, only_u32_at, region_at, u8_at, u32_at, u64_at,
 };
 use crate::snapshot::{FORMAT, Mapping, RawFile, RawSnapshot, ReadRefusal};
-use hsm_types::{AttrName, Bytes, Region};
+use hsm_types::{AttrName, Bytes, FileKey, Region, Word};
 use std::alloc::Global;
 
 fn regions_of(alloc: Global, count: u8, bytes: &[u8]) -> Result<(Vec<Region>, &[u8]), ReadRefusal>
@@ -53,19 +53,55 @@ fn extents_of(alloc: Global, count: u32, bytes: &[u8]) -> Result<(Vec<Mapping>, 
     Ok((extents, rest))
 }
 
-#[tactic(auto, unfolding(crate::specs::Reading::counted, crate::specs::Reading::both, crate::specs::Reading::made, crate::specs::Reading::file_at))]
-fn file_at(alloc: Global, bytes: &[u8]) -> Result<(RawFile, &[u8]), ReadRefusal>
-    ensures { Gives (λ x. (raw_file x.0, x.1.now)) result (file_at bytes.now) }
+/// The count of a file's regions, and the regions.
+#[tactic(auto, unfolding(crate::specs::Reading::counted))]
+fn regions_at(alloc: Global, bytes: &[u8]) -> Result<(Vec<Region>, &[u8]), ReadRefusal>
+    ensures { Gives (λ x. (x.0.items, x.1.now)) result (counted 1 region_at bytes.now) }
+{
+    let (count, rest) = u8_at(bytes)?;
+    regions_of(alloc, count, rest)
+}
+
+/// The count of a file's attributes, and the attributes.
+#[tactic(auto, unfolding(crate::specs::Reading::counted))]
+fn attributes_at(
+    alloc: Global,
+    bytes: &[u8],
+) -> Result<(Vec<(AttrName, Bytes)>, &[u8]), ReadRefusal>
+    ensures { Gives (λ x. (x.0.items, x.1.now)) result (counted 4 attribute_at bytes.now) }
+{
+    let (count, rest) = u32_at(bytes)?;
+    attributes_of(alloc, count, rest)
+}
+
+/// The count of a file's extents, and the extents.
+#[tactic(auto, unfolding(crate::specs::Reading::counted))]
+fn extents_at(alloc: Global, bytes: &[u8]) -> Result<(Vec<Mapping>, &[u8]), ReadRefusal>
+    ensures { Gives (λ x. (x.0.items, x.1.now)) result (counted 4 extent_at bytes.now) }
+{
+    let (count, rest) = u32_at(bytes)?;
+    extents_of(alloc, count, rest)
+}
+
+/// A file's key, its size and its name.
+#[tactic(auto, unfolding(crate::specs::Reading::both))]
+fn heading_at(alloc: Global, bytes: &[u8]) -> Result<((FileKey, u64, Word), &[u8]), ReadRefusal>
+    ensures { Gives (λ x. (((x.0.0, x.0.1), x.0.2), x.1.now)) result (both (both key_at (number_at 8)) (sized 1) bytes.now) }
 {
     let (key, rest) = key_at(bytes)?;
     let (size, rest) = u64_at(rest)?;
     let (name, rest) = name_at(alloc, rest)?;
-    let (count, rest) = u8_at(rest)?;
-    let (regions, rest) = regions_of(alloc, count, rest)?;
-    let (count, rest) = u32_at(rest)?;
-    let (attributes, rest) = attributes_of(alloc, count, rest)?;
-    let (count, rest) = u32_at(rest)?;
-    let (extents, rest) = extents_of(alloc, count, rest)?;
+    Ok(((key, size, name), rest))
+}
+
+#[tactic(auto, unfolding(crate::specs::Reading::both, crate::specs::Reading::made, crate::specs::Reading::file_at))]
+fn file_at(alloc: Global, bytes: &[u8]) -> Result<(RawFile, &[u8]), ReadRefusal>
+    ensures { Gives (λ x. (raw_file x.0, x.1.now)) result (file_at bytes.now) }
+{
+    let ((key, size, name), rest) = heading_at(alloc, bytes)?;
+    let (regions, rest) = regions_at(alloc, rest)?;
+    let (attributes, rest) = attributes_at(alloc, rest)?;
+    let (extents, rest) = extents_at(alloc, rest)?;
     let rest = only_u32_at(rest, 0)?;
     Ok((
         RawFile {
