@@ -85,23 +85,36 @@ enum Verb {
     Stat,
 }
 
+const VERBS: [Verb; 6] = [
+    Verb::Create,
+    Verb::Read,
+    Verb::Write,
+    Verb::Truncate,
+    Verb::Remove,
+    Verb::Stat,
+];
+
 fn verb_of(word: &[u8]) -> Option<Verb>
     ensures { Reads verb_word (λ _. Unit {0}) word.now result }
 {
-    if word == b"create".as_slice() {
-        Some(Verb::Create)
-    } else if word == b"read".as_slice() {
-        Some(Verb::Read)
-    } else if word == b"write".as_slice() {
-        Some(Verb::Write)
-    } else if word == b"truncate".as_slice() {
-        Some(Verb::Truncate)
-    } else if word == b"remove".as_slice() {
-        Some(Verb::Remove)
-    } else if word == b"stat".as_slice() {
-        Some(Verb::Stat)
-    } else {
-        None
+    for verb in VERBS {
+        if word == verb_word(verb) {
+            return Some(verb);
+        }
+    }
+    None
+}
+
+fn verb_word(verb: Verb) -> &'static [u8]
+    ensures { result.now ≡ verb_word verb }
+{
+    match verb {
+        Verb::Create => b"create",
+        Verb::Read => b"read",
+        Verb::Write => b"write",
+        Verb::Truncate => b"truncate",
+        Verb::Remove => b"remove",
+        Verb::Stat => b"stat",
     }
 }
 

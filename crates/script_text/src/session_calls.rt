@@ -97,31 +97,44 @@ enum DmVerb {
     Handle,
 }
 
+const DM_VERBS: [DmVerb; 10] = [
+    DmVerb::Session,
+    DmVerb::Query,
+    DmVerb::FileAttr,
+    DmVerb::SetRegion,
+    DmVerb::GetRegion,
+    DmVerb::SetAttr,
+    DmVerb::GetAttr,
+    DmVerb::RemoveAttr,
+    DmVerb::AllAttrs,
+    DmVerb::Handle,
+];
+
 fn dm_verb_of(word: &[u8]) -> Option<DmVerb>
     ensures { Reads dm_verb_word (λ _. Unit {0}) word.now result }
 {
-    if word == b"session".as_slice() {
-        Some(DmVerb::Session)
-    } else if word == b"query".as_slice() {
-        Some(DmVerb::Query)
-    } else if word == b"fileattr".as_slice() {
-        Some(DmVerb::FileAttr)
-    } else if word == b"setregion".as_slice() {
-        Some(DmVerb::SetRegion)
-    } else if word == b"getregion".as_slice() {
-        Some(DmVerb::GetRegion)
-    } else if word == b"setattr".as_slice() {
-        Some(DmVerb::SetAttr)
-    } else if word == b"getattr".as_slice() {
-        Some(DmVerb::GetAttr)
-    } else if word == b"rmattr".as_slice() {
-        Some(DmVerb::RemoveAttr)
-    } else if word == b"attrs".as_slice() {
-        Some(DmVerb::AllAttrs)
-    } else if word == b"handle".as_slice() {
-        Some(DmVerb::Handle)
-    } else {
-        None
+    for verb in DM_VERBS {
+        if word == dm_verb_word(verb) {
+            return Some(verb);
+        }
+    }
+    None
+}
+
+fn dm_verb_word(verb: DmVerb) -> &'static [u8]
+    ensures { result.now ≡ dm_verb_word verb }
+{
+    match verb {
+        DmVerb::Session => b"session",
+        DmVerb::Query => b"query",
+        DmVerb::FileAttr => b"fileattr",
+        DmVerb::SetRegion => b"setregion",
+        DmVerb::GetRegion => b"getregion",
+        DmVerb::SetAttr => b"setattr",
+        DmVerb::GetAttr => b"getattr",
+        DmVerb::RemoveAttr => b"rmattr",
+        DmVerb::AllAttrs => b"attrs",
+        DmVerb::Handle => b"handle",
     }
 }
 
