@@ -1,6 +1,7 @@
 use Rattle.std.proofs.Common.{ℕ, sym, ◌∙◌, ap, subst, arith}
 use Rattle.std.specs.Prelude.{Err}
 use Rattle.disk_model.specs.declared.refusal.OpenRefusal.{OpenRefusal}
+use Rattle.disk_model.proofs.Steps.{sames_on}
 use Rattle.meta_store.specs.declared.snapshot.ReadRefusal.{ReadRefusal}
 use Rattle.meta_store.specs.Catalogs.{Catalog}
 use Rattle.meta_store.specs.Images.{IsImage, IsCorruptAt}
@@ -38,3 +39,21 @@ returns-clause-found g c = λ image given. (
       c.of_geometry-layout.ensures c.in-Ok.ensures.slot c.journal-place.ensures c.in-Ok-judge.ensures.geometry c.in-Ok-judge.ensures.found
       ((c.in-Ok-true.ensures.closed image (c.load.ensures.given.1 image given)).0 c.in-Ok-true.field-0-test)),
 )
+
+pub returns-in-Ok-false-clause-keeps : goal.returns-in-Ok-false-clause-keeps
+returns-in-Ok-false-clause-keeps g c = sames_on g.D.Disk _ _ _ c.load.ensures.keeps c.is_closed.ensures.keeps
+
+pub returns-in-Ok-false-clause-given : goal.returns-in-Ok-false-clause-given
+returns-in-Ok-false-clause-given g c = (λ d gives. c.load.ensures.given.0 d (c.is_closed.ensures.given.0 d gives), λ d gives. c.is_closed.ensures.given.1 d (c.load.ensures.given.1 d gives))
+
+pub returns-in-Err-is_closed-clause-keeps : goal.returns-in-Err-is_closed-clause-keeps
+returns-in-Err-is_closed-clause-keeps g c = sames_on g.D.Disk _ _ _ c.load.ensures.keeps c.is_closed.ensures.keeps
+
+pub returns-in-Err-is_closed-clause-given : goal.returns-in-Err-is_closed-clause-given
+returns-in-Err-is_closed-clause-given g c = (λ d gives. c.load.ensures.given.0 d (c.is_closed.ensures.given.0 d gives), λ d gives. c.is_closed.ensures.given.1 d (c.load.ensures.given.1 d gives))
+
+pub returns-clause-keeps : goal.returns-clause-keeps
+returns-clause-keeps g c = sames_on g.D.Disk _ _ _ c.load.ensures.keeps c.is_closed.ensures.keeps
+
+pub returns-clause-given : goal.returns-clause-given
+returns-clause-given g c = (λ d gives. c.load.ensures.given.0 d (c.is_closed.ensures.given.0 d gives), λ d gives. c.is_closed.ensures.given.1 d (c.load.ensures.given.1 d gives))
