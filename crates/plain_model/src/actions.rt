@@ -1,13 +1,13 @@
 //! The text of what events ask.
 ghost use Rattle.std.specs.Prelude.{◌≡◌, ◌∷◌, ◌++◌, [], OnOk, List, ℕ, codes};
 ghost use Rattle.std.specs.Fmt.{decimal};
-ghost use Rattle.plain_model.specs.Render.{spaced, handle_word, name_word, actor_word, call_words, dm_words, action_words, event_text};
+ghost use Rattle.plain_model.specs.Render.{spaced, handle_word, name_word, regions_word, actor_word, call_words, dm_words, action_words, event_text};
 
 use crate::entries::{Action, Actor};
 use crate::pieces::{
-    push, push_field, push_handle, push_name, push_named, push_number, push_regions,
+    push, push_field, push_handle, push_name, push_named, push_number, push_numbered, push_regions,
 };
-use hsm_types::{AttrName, Bytes, Call, DmCall, Handle, Token};
+use hsm_types::{AttrName, Bytes, Call, DmCall, Handle, Regions, Token, Word};
 use std::alloc::{AllocError, Global};
 
 /// How the data of an event are written.
@@ -77,24 +77,33 @@ fn push_call<S: Spelling>(
     match call {
         Call::Create { name } => push_named(out, b"create ", name),
         Call::Read { name, offset, len } => {
-            push_named(out, b"read ", name)?;
-            push_field(alloc, out, *offset)?;
+            push_at(alloc, out, b"read ", name, *offset)?;
             push_field(alloc, out, *len)
         }
         Call::Write { name, offset, body } => {
-            push_named(out, b"write ", name)?;
-            push_field(alloc, out, *offset)?;
+            push_at(alloc, out, b"write ", name, *offset)?;
             push(out, b" ")?;
             spelling.push_data(alloc, out, body.as_slice())
         }
-        Call::Truncate { name, size } => {
-            push_named(out, b"truncate ", name)?;
-            push_field(alloc, out, *size)
-        }
+        Call::Truncate { name, size } => push_at(alloc, out, b"truncate ", name, *size),
         Call::Remove { name } => push_named(out, b"remove ", name),
         Call::Stat { name } => push_named(out, b"stat ", name),
         Call::Sync => push(out, b"sync"),
     }
+}
+
+/// A verb, with the space behind it, a name and a place in the file.
+fn push_at(
+    alloc: Global,
+    out: &mut Vec<u8>,
+    verb: &[u8],
+    name: &Word,
+    place: u64,
+) -> Result<(), AllocError>
+    ensures { OnOk result (out.new.items ≡ out.old.items ++ verb.now ++ name.now ++ 32 ∷ decimal place) }
+{
+    push_named(out, verb, name)?;
+    push_field(alloc, out, place)
 }
 
 fn push_dm<S: Spelling>(
@@ -107,15 +116,11 @@ fn push_dm<S: Spelling>(
 {
     match call {
         DmCall::CreateSession { old, info } => {
-            push(out, b"session")?;
-            push_field(alloc, out, old.0)?;
+            push_numbered(alloc, out, b"session", old.0)?;
             push_named(out, b" ", info)
         }
         DmCall::GetAllSessions => push(out, b"sessions"),
-        DmCall::QuerySession { target } => {
-            push(out, b"query")?;
-            push_field(alloc, out, target.0)
-        }
+        DmCall::QuerySession { target } => push_numbered(alloc, out, b"query", target.0),
         DmCall::GetFileAttr { token, handle } => {
             push_on_file(alloc, out, b"fileattr", *token, *handle)
         }
@@ -123,11 +128,7 @@ fn push_dm<S: Spelling>(
             token,
             handle,
             regions,
-        } => {
-            push_on_file(alloc, out, b"setregion", *token, *handle)?;
-            push(out, b" ")?;
-            push_regions(alloc, out, regions)
-        }
+        } => push_region_setting(alloc, out, *token, *handle, regions),
         DmCall::GetRegion { token, handle } => {
             push_on_file(alloc, out, b"getregion", *token, *handle)
         }
@@ -185,6 +186,21 @@ fn push_on_attribute(
     push_on_file(alloc, out, verb, token, handle)?;
     push(out, b" ")?;
     push_name(alloc, out, name)
+}
+
+/// The setting of regions.
+fn push_region_setting(
+    alloc: Global,
+    out: &mut Vec<u8>,
+    token: Token,
+    handle: Handle,
+    regions: &Regions,
+) -> Result<(), AllocError>
+    ensures { OnOk result (out.new.items ≡ out.old.items ++ spaced (codes "setregion" ∷ decimal token.0 ∷ handle_word handle ∷ regions_word regions.now ∷ [])) }
+{
+    push_on_file(alloc, out, b"setregion", token, handle)?;
+    push(out, b" ")?;
+    push_regions(alloc, out, regions)
 }
 
 /// The setting of an attribute.

@@ -1,11 +1,13 @@
 //! The text of answers.
-ghost use Rattle.std.specs.Prelude.{◌≡◌, ◌++◌, OnOk, ◌∷◌, map};
+ghost use Rattle.std.specs.Prelude.{◌≡◌, ◌++◌, OnOk, ◌∷◌, [], codes, map};
 ghost use Rattle.std.specs.Fmt.{decimal};
 ghost use Rattle.std.specs.List.{flat_map};
 ghost use Rattle.plain_model.specs.Render.{spaced, listed, name_word, refusal_words, reply_words, dm_refusal_words, dm_reply_words, answer_words};
 
 use crate::entries::Answer;
-use crate::pieces::{push, push_field, push_handle, push_key, push_name, push_named, push_regions};
+use crate::pieces::{
+    push, push_field, push_handle, push_key, push_name, push_named, push_numbered, push_regions,
+};
 use crate::transcript::push_data;
 use hsm_types::{AttrName, CallRefusal, DmRefusal, DmReply, Names, Reply, Sid, Sids};
 use std::alloc::{AllocError, Global};
@@ -33,10 +35,7 @@ fn push_reply(alloc: Global, out: &mut Vec<u8>, reply: &Reply) -> Result<(), All
             push_key(alloc, out, *key)
         }
         Reply::Data(bytes) => push_data(alloc, out, bytes.as_slice()),
-        Reply::Size(size) => {
-            push(out, b"size")?;
-            push_field(alloc, out, *size)
-        }
+        Reply::Size(size) => push_numbered(alloc, out, b"size", *size),
         Reply::Refused(why) => {
             push(out, b"refused ")?;
             push_refusal(alloc, out, *why)
@@ -51,21 +50,11 @@ fn push_refusal(alloc: Global, out: &mut Vec<u8>, why: CallRefusal) -> Result<()
         CallRefusal::Missing => push(out, b"Missing"),
         CallRefusal::Exists => push(out, b"Exists"),
         CallRefusal::BadName => push(out, b"BadName"),
-        CallRefusal::TooBig { end } => {
-            push(out, b"TooBig")?;
-            push_field(alloc, out, end)
-        }
-        CallRefusal::BadLength { len } => {
-            push(out, b"BadLength")?;
-            push_field(alloc, out, len)
-        }
-        CallRefusal::NoInodes { count } => {
-            push(out, b"NoInodes")?;
-            push_field(alloc, out, count)
-        }
+        CallRefusal::TooBig { end } => push_numbered(alloc, out, b"TooBig", end),
+        CallRefusal::BadLength { len } => push_numbered(alloc, out, b"BadLength", len),
+        CallRefusal::NoInodes { count } => push_numbered(alloc, out, b"NoInodes", count),
         CallRefusal::NoSpace { need, free } => {
-            push(out, b"NoSpace")?;
-            push_field(alloc, out, need)?;
+            push_numbered(alloc, out, b"NoSpace", need)?;
             push_field(alloc, out, free)
         }
         CallRefusal::Disk => push(out, b"Disk"),
@@ -78,10 +67,7 @@ fn push_dm_reply(alloc: Global, out: &mut Vec<u8>, reply: &DmReply) -> Result<()
 {
     match reply {
         DmReply::Done => push(out, b"done"),
-        DmReply::Session(sid) => {
-            push(out, b"session")?;
-            push_field(alloc, out, sid.0)
-        }
+        DmReply::Session(sid) => push_numbered(alloc, out, b"session", sid.0),
         DmReply::Sids(sids) => {
             push(out, b"sessions")?;
             push_sids(alloc, out, sids)
@@ -91,12 +77,7 @@ fn push_dm_reply(alloc: Global, out: &mut Vec<u8>, reply: &DmReply) -> Result<()
             size,
             stamp,
             blocks,
-        } => {
-            push(out, b"attr")?;
-            push_field(alloc, out, *size)?;
-            push_field(alloc, out, *stamp)?;
-            push_field(alloc, out, *blocks)
-        }
+        } => push_attr(alloc, out, *size, *stamp, *blocks),
         DmReply::Data(bytes) => push_data(alloc, out, bytes.as_slice()),
         DmReply::Regions(regions) => {
             push(out, b"regions ")?;
@@ -110,16 +91,35 @@ fn push_dm_reply(alloc: Global, out: &mut Vec<u8>, reply: &DmReply) -> Result<()
             push(out, b"handle ")?;
             push_handle(alloc, out, *handle)
         }
-        DmReply::Space { used, total } => {
-            push(out, b"space")?;
-            push_field(alloc, out, *used)?;
-            push_field(alloc, out, *total)
-        }
+        DmReply::Space { used, total } => push_space(alloc, out, *used, *total),
         DmReply::Refused(why) => {
             push(out, b"refused ")?;
             push_dm_refusal(alloc, out, *why)
         }
     }
+}
+
+/// The attributes of a file that the store itself keeps.
+fn push_attr(
+    alloc: Global,
+    out: &mut Vec<u8>,
+    size: u64,
+    stamp: u64,
+    blocks: u64,
+) -> Result<(), AllocError>
+    ensures { OnOk result (out.new.items ≡ out.old.items ++ spaced (codes "attr" ∷ decimal size ∷ decimal stamp ∷ decimal blocks ∷ [])) }
+{
+    push_numbered(alloc, out, b"attr", size)?;
+    push_field(alloc, out, stamp)?;
+    push_field(alloc, out, blocks)
+}
+
+/// How many blocks are mapped, and how many there are.
+fn push_space(alloc: Global, out: &mut Vec<u8>, used: u64, total: u64) -> Result<(), AllocError>
+    ensures { OnOk result (out.new.items ≡ out.old.items ++ spaced (codes "space" ∷ decimal used ∷ decimal total ∷ [])) }
+{
+    push_numbered(alloc, out, b"space", used)?;
+    push_field(alloc, out, total)
 }
 
 /// A space and the ids with a space between each two, `-` for none.
@@ -173,19 +173,12 @@ fn push_dm_refusal(alloc: Global, out: &mut Vec<u8>, why: DmRefusal) -> Result<(
         DmRefusal::NoToken => push(out, b"NoToken"),
         DmRefusal::NoObject => push(out, b"NoObject"),
         DmRefusal::BadRegion { index } => {
-            push(out, b"BadRegion")?;
-            push_field(alloc, out, u64::from(index))
+            push_numbered(alloc, out, b"BadRegion", u64::from(index))
         }
         DmRefusal::NoAttr => push(out, b"NoAttr"),
         DmRefusal::Reserved => push(out, b"Reserved"),
-        DmRefusal::AttrTooBig { len } => {
-            push(out, b"AttrTooBig")?;
-            push_field(alloc, out, len)
-        }
-        DmRefusal::TooMany { count } => {
-            push(out, b"TooMany")?;
-            push_field(alloc, out, count)
-        }
+        DmRefusal::AttrTooBig { len } => push_numbered(alloc, out, b"AttrTooBig", len),
+        DmRefusal::TooMany { count } => push_numbered(alloc, out, b"TooMany", count),
         DmRefusal::Disk => push(out, b"Disk"),
         DmRefusal::Memory => push(out, b"Memory"),
     }

@@ -1,8 +1,8 @@
 //! The pieces of a line's text.
-ghost use Rattle.std.specs.Prelude.{◌≡◌, ◌∷◌, ◌++◌, OnOk};
+ghost use Rattle.std.specs.Prelude.{◌≡◌, ◌∷◌, ◌++◌, [], OnOk};
 ghost use Rattle.std.specs.Fmt.{decimal};
 ghost use Rattle.hex.specs.Hex.{encode_lower};
-ghost use Rattle.plain_model.specs.Render.{key_word, handle_word, name_word, region_word, regions_word};
+ghost use Rattle.plain_model.specs.Render.{spaced, key_word, handle_word, name_word, region_word, regions_word};
 ghost use Rattle.std.specs.List.{flat_map};
 
 use hsm_types::{AttrName, FileKey, Handle, Region, Regions, Word};
@@ -35,6 +35,19 @@ pub(crate) fn push_named(out: &mut Vec<u8>, verb: &[u8], name: &Word) -> Result<
 {
     push(out, verb)?;
     push(out, name.as_slice())
+}
+
+/// A word and a number.
+pub(crate) fn push_numbered(
+    alloc: Global,
+    out: &mut Vec<u8>,
+    word: &[u8],
+    n: u64,
+) -> Result<(), AllocError>
+    ensures { OnOk result (out.new.items ≡ out.old.items ++ spaced (word.now ∷ decimal n ∷ [])) }
+{
+    push(out, word)?;
+    push_field(alloc, out, n)
 }
 
 /// A space and a number.
