@@ -1,11 +1,14 @@
 //! Answers to sessions: judged in one order, and given where nothing refuses them.
 ghost use Rattle.std.specs.Prelude.{◌≡◌, ℕ, false, None, IsSome, length, IfOk, OnOk, OnErr};
-ghost use Rattle.hsm_types.specs.Attributes.{with_value, without_value, setting_refusal, removal_refusal};
+ghost use Rattle.std.specs.Map.{keys_of};
+ghost use Rattle.hsm_types.specs.Attributes.{value_of, with_value, without_value, no_attribute, setting_refusal, removal_refusal};
 ghost use Rattle.hsm_types.specs.Regions.{regions_refusal};
+ghost use Rattle.hsm_types.specs.Sessions.{info_of, creation_refusal, next_sid, with_session};
 ghost use Rattle.hsm_types.specs.declared.dm.DmReply.TheVariants.{Attr, Done, Space};
 ghost use Rattle.plain_model.specs.Keyed.{find_key, change_key};
-ghost use Rattle.plain_model.specs.Services.{handle_in, bad_handle, own_refusal, dm_judged, attributes_of, other_attributes, mapped_of, dm_done_reply, dm_reply_where, files_served, files_where, sessions_done, sessions_where};
-ghost use Rattle.plain_model.specs.State.{bytes_of, used};
+ghost use Rattle.plain_model.specs.Plain.{named};
+ghost use Rattle.plain_model.specs.Services.{handle_in, bad_handle, own_refusal, dm_judged, regions_of, attributes_of, other_attributes, info_or_none, mapped_of, dm_done_reply, dm_reply_where, files_served, files_where, sessions_done, sessions_where};
+ghost use Rattle.plain_model.specs.State.{names_of, key_named, bytes_of, used};
 ghost use Rattle.file_store.specs.Stores.{superblock_of, Proceeds};
 ghost use Rattle.hsm_core.specs.Stamps.{stamp_in};
 
@@ -14,7 +17,7 @@ use crate::stamps::stamp;
 use disk_model::Disk;
 use dm_sessions::Sessions;
 use file_store::FileStore;
-use hsm_types::{AttrName, Bytes, DmCall, DmReply, FileKey, Regions, Sid};
+use hsm_types::{AttrName, Bytes, DmCall, DmReply, FileKey, Regions, Sid, Word};
 use indexmap::IndexMap;
 use std::alloc::{AllocError, Global};
 
@@ -63,47 +66,81 @@ fn perform_dm<D: Disk>(
     ensures proceeds { (n : ℕ) → Proceeds D.Disk files.old n files.new }
 {
     match call {
-        DmCall::CreateSession { old, info } => match sessions.create(*old, info.clone()?) {
-            Ok(sid) => Ok((DmReply::Session(sid), DmReply::Session(sid))),
-            // Nothing else refuses it.
-            Err(_) => Err(AllocError),
-        },
-        DmCall::GetAllSessions => twice(DmReply::Sids(sessions.list(alloc)?)),
-        DmCall::QuerySession { target } => {
-            let info = sessions.info(*target).unwrap();
-            twice(DmReply::Info(info.clone()?))
-        }
-        DmCall::GetFileAttr { handle, .. } => twice(attr(files, stamps, handle.key)),
+        DmCall::CreateSession { old, info } => create_session(sessions, *old, info),
         DmCall::SetRegion {
             handle,
             regions,
             ..
         } => set_regions(files, handle.key, regions),
-        DmCall::GetRegion { handle, .. } => {
-            let regions = files.regions(handle.key).list();
-            twice(DmReply::Regions(regions.clone()?))
-        }
         DmCall::SetDmAttr {
             handle,
             name,
             value,
             ..
         } => set_attribute(files, handle.key, *name, value),
-        DmCall::GetDmAttr { handle, name, .. } => {
-            let value = files.attributes(handle.key).get(*name).unwrap();
-            twice(DmReply::Data(value.clone()?))
-        }
         DmCall::RemoveDmAttr { handle, name, .. } => remove_attribute(files, handle.key, *name),
-        DmCall::GetAllDmAttr { handle, .. } => {
-            twice(DmReply::Names(files.attributes(handle.key).list(alloc)?))
-        }
-        DmCall::PathToHandle { name } => {
-            let key = files.find(name).unwrap();
-            let handle = dm_handles::make(files.superblock().fsid, key);
-            twice(DmReply::Handle(handle))
-        }
-        DmCall::GetSpace => twice(space(files)),
+        DmCall::GetAllSessions
+        | DmCall::QuerySession { .. }
+        | DmCall::GetFileAttr { .. }
+        | DmCall::GetRegion { .. }
+        | DmCall::GetDmAttr { .. }
+        | DmCall::GetAllDmAttr { .. }
+        | DmCall::PathToHandle { .. }
+        | DmCall::GetSpace => twice(tell(files, stamps, sessions, alloc, call)?),
     }
+}
+
+fn twice(reply: DmReply) -> Result<(DmReply, DmReply), AllocError>
+    ensures { IfOk result (λ r. (r.0 ≡ reply) × (r.1 ≡ reply)) }
+{
+    let again = reply.clone()?;
+    Ok((reply, again))
+}
+
+// ---- what sessions are told
+
+/// The reply to a call that changes no session.
+fn tell<D: Disk>(
+    files: &FileStore<D>,
+    stamps: &IndexMap<FileKey, u64>,
+    sessions: &Sessions,
+    alloc: Global,
+    call: &DmCall,
+) -> Result<DmReply, AllocError>
+    requires handle { bad_handle (superblock_of files.now) files.now.held.files (handle_in call.now) ≡ None }
+    requires own { own_refusal (superblock_of files.now) files.now.held.files sessions.now call.now ≡ None }
+    ensures { IfOk result (λ reply. sessions_done sessions.now call.now ≡ sessions.now → reply ≡ dm_done_reply (superblock_of files.now) files.now.held.files (stamp_in stamps.now.entries) sessions.now call.now) }
+{
+    match call {
+        DmCall::GetAllSessions => ids(sessions, alloc),
+        DmCall::QuerySession { target } => info(sessions, *target),
+        DmCall::GetFileAttr { handle, .. } => Ok(attr(files, stamps, handle.key)),
+        DmCall::GetRegion { handle, .. } => regions(files, handle.key),
+        DmCall::GetDmAttr { handle, name, .. } => value(files, handle.key, *name),
+        DmCall::GetAllDmAttr { handle, .. } => names(files, alloc, handle.key),
+        DmCall::PathToHandle { name } => Ok(handle(files, name)),
+        DmCall::GetSpace => Ok(space(files)),
+        DmCall::CreateSession { .. }
+        | DmCall::SetRegion { .. }
+        | DmCall::SetDmAttr { .. }
+        | DmCall::RemoveDmAttr { .. } => Ok(DmReply::Done),
+    }
+}
+
+/// The live sessions.
+fn ids(sessions: &Sessions, alloc: Global) -> Result<DmReply, AllocError>
+    ensures { IfOk result (λ reply. reply ≡ DmReply.Sids (keys_of sessions.now.live)) }
+{
+    Ok(DmReply::Sids(sessions.list(alloc)?))
+}
+
+/// The information of a live session.
+fn info(sessions: &Sessions, sid: Sid) -> Result<DmReply, AllocError>
+    requires { IsSome (info_of sid sessions.now) }
+    ensures { IfOk result (λ reply. reply ≡ DmReply.Info (info_or_none (info_of sid sessions.now))) }
+{
+    let info = sessions.info(sid).unwrap();
+    Ok(DmReply::Info(info.clone()?))
 }
 
 /// The attributes of a live file that the store itself keeps.
@@ -118,6 +155,43 @@ fn attr<D: Disk>(files: &FileStore<D>, stamps: &IndexMap<FileKey, u64>, key: Fil
     }
 }
 
+/// The regions of a live file.
+fn regions<D: Disk>(files: &FileStore<D>, key: FileKey) -> Result<DmReply, AllocError>
+    requires { IsSome (find_key (λ f. f.key) key files.now.held.files) }
+    ensures { IfOk result (λ reply. reply ≡ DmReply.Regions (regions_of key files.now.held.files)) }
+{
+    let regions = files.regions(key).list();
+    Ok(DmReply::Regions(regions.clone()?))
+}
+
+/// The value of an attribute that a live file has.
+fn value<D: Disk>(files: &FileStore<D>, key: FileKey, name: AttrName) -> Result<DmReply, AllocError>
+    requires live { IsSome (find_key (λ f. f.key) key files.now.held.files) }
+    requires there { no_attribute name (attributes_of key files.now.held.files) ≡ None }
+    ensures { IfOk result (λ reply. reply ≡ DmReply.Data (info_or_none (value_of name (attributes_of key files.now.held.files)))) }
+{
+    let value = files.attributes(key).get(name).unwrap();
+    Ok(DmReply::Data(value.clone()?))
+}
+
+/// The names of a live file's attributes.
+fn names<D: Disk>(files: &FileStore<D>, alloc: Global, key: FileKey) -> Result<DmReply, AllocError>
+    requires { IsSome (find_key (λ f. f.key) key files.now.held.files) }
+    ensures { IfOk result (λ reply. reply ≡ DmReply.Names (keys_of (attributes_of key files.now.held.files))) }
+{
+    Ok(DmReply::Names(files.attributes(key).list(alloc)?))
+}
+
+/// The handle of the file that has the name.
+fn handle<D: Disk>(files: &FileStore<D>, name: &Word) -> DmReply
+    requires { IsSome (named name.now (names_of files.now.held.files)) }
+    ensures { result ≡ DmReply.Handle (record { fsid = (superblock_of files.now).fsid; key = key_named name.now files.now.held.files }) }
+{
+    let key = files.find(name).unwrap();
+    DmReply::Handle(dm_handles::make(files.superblock().fsid, key))
+}
+
+/// How many blocks are mapped, and how many there are.
 fn space<D: Disk>(files: &FileStore<D>) -> DmReply
     ensures { result ≡ Space (used files.now.held.files) (superblock_of files.now).geometry.blocks }
 {
@@ -127,14 +201,25 @@ fn space<D: Disk>(files: &FileStore<D>) -> DmReply
     }
 }
 
-fn twice(reply: DmReply) -> Result<(DmReply, DmReply), AllocError>
-    ensures { IfOk result (λ r. (r.0 ≡ reply) × (r.1 ≡ reply)) }
-{
-    let again = reply.clone()?;
-    Ok((reply, again))
-}
+// ---- what sessions change
 
-// ---- what sessions change of a file
+/// Makes a session that nothing refuses.
+fn create_session(
+    sessions: &mut Sessions,
+    old: Sid,
+    info: &Word,
+) -> Result<(DmReply, DmReply), AllocError>
+    requires { creation_refusal old info.now sessions.old ≡ None }
+    ensures reply { IfOk result (λ r. (r.0 ≡ DmReply.Session (next_sid sessions.old)) × (r.1 ≡ r.0)) }
+    ensures sessions { OnOk result (sessions.new ≡ with_session old info.now sessions.old) }
+    ensures err { OnErr result (sessions.new ≡ sessions.old) }
+{
+    match sessions.create(old, info.clone()?) {
+        Ok(sid) => Ok((DmReply::Session(sid), DmReply::Session(sid))),
+        // Nothing else refuses it.
+        Err(_) => Err(AllocError),
+    }
+}
 
 /// Gives a live file these regions.
 fn set_regions<D: Disk>(
