@@ -1,12 +1,13 @@
 // Opening what a crash may have left.
-ghost use Rattle.std.specs.Prelude.{◌≡◌, List, ℕ, OnOk, IfOk, IsErrOf};
+ghost use Rattle.std.specs.Prelude.{◌≡◌, List, ℕ, length, OnOk, IfOk, IsErrOf};
 ghost use Rattle.disk_model.specs.Calls.{Rose};
 ghost use Rattle.disk_model.specs.Images.{Alike};
 ghost use Rattle.disk_model.specs.Moments.{MayBe, Keeps, Same};
+ghost use Rattle.commit_slots.specs.Places.{layout_of};
 ghost use Rattle.commit_slots.specs.Images.{IsStore};
 ghost use Rattle.meta_store.specs.Images.{blocks_in_image, IsCorruptAt};
 ghost use Rattle.meta_store.specs.Meta.{IsMeta, Backs};
-ghost use Rattle.file_store.specs.Bodies.{held_at};
+ghost use Rattle.file_store.specs.Bodies.{held_at, held_with, AreBodies};
 ghost use Rattle.meta_store.specs.Catalogs.{geometry_of};
 ghost use Rattle.file_store.specs.Stores.{IsLawful, marks_of};
 
@@ -16,7 +17,8 @@ use crate::refusal::StoreRefusal;
 use crate::spaces::space_of;
 use block_space::BlockSpace;
 use disk_model::{Disk, OpenRefusal};
-use meta_store::MetaStore;
+use file_body::Body;
+use meta_store::{Catalog, MetaStore};
 use std::alloc::Global;
 
 /// Reads the files of a store, and which blocks they leave free.
@@ -40,13 +42,37 @@ pub(crate) fn read_in<D: Disk>(
         Ok(meta) => meta,
         Err(refusal) => return Err(refusal),
     };
-    let bodies = match load_bodies(alloc, disk, meta.catalog()) {
+    let (bodies, space) = match read_files(alloc, disk, meta.catalog()) {
+        Ok(read) => read,
+        Err(refusal) => return Err(refusal),
+    };
+    Ok((Files::new(meta, bodies), space))
+}
+
+/// The bodies of a catalog's files, and which blocks they leave free.
+fn read_files<D: Disk>(
+    alloc: Global,
+    disk: &mut D,
+    catalog: &Catalog,
+) -> Result<(Vec<Body>, BlockSpace), OpenRefusal>
+    requires length { D.length_of disk.old ≡ (layout_of catalog.now.geometry).whole }
+    ensures keeps { Keeps D.Disk disk.old disk.new Same }
+    ensures given { Alike (D.gives disk.old) (D.gives disk.new) }
+    ensures count { IfOk result (λ r. length r.0.items ≡ (geometry_of catalog.now.geometry).files) }
+    ensures sizes { IfOk result (λ r. AreBodies r.0.items catalog.now.files) }
+    ensures loaded { IfOk result (λ r. (c : List ℕ) → D.gives disk.old c → held_with r.0.items catalog.now ≡ held_at (blocks_in_image catalog.now.geometry c) catalog.now) }
+    ensures space { IfOk result (λ r. r.1 ≡ record { current = marks_of catalog.now; durable = marks_of catalog.now }) }
+    ensures not_store { IsErrOf result OpenRefusal.NotStore → ⊥ }
+    ensures not_corrupt { (place : ℕ) → IsErrOf result (OpenRefusal.Corrupt place) → ⊥ }
+    ensures failed { IsErrOf result OpenRefusal.Disk → Rose (D.fault_count disk.old) (D.fault_count disk.new) }
+{
+    let bodies = match load_bodies(alloc, disk, catalog) {
         Ok(bodies) => bodies,
         Err(StoreRefusal::Memory) => return Err(OpenRefusal::Memory),
         Err(StoreRefusal::Disk) => return Err(OpenRefusal::Disk),
     };
-    let Ok(space) = space_of(alloc, meta.catalog()) else {
-        return Err(OpenRefusal::Memory);
-    };
-    Ok((Files::new(meta, bodies), space))
+    match space_of(alloc, catalog) {
+        Ok(space) => Ok((bodies, space)),
+        Err(_) => Err(OpenRefusal::Memory),
+    }
 }
