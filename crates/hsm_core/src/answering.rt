@@ -81,18 +81,9 @@ fn perform<D: Disk>(
             Ok((bytes, again)) => Ok((Reply::Data(bytes), Reply::Data(again))),
             Err(_) => Err(StoreRefusal::Memory),
         },
-        Call::Write { name, offset, body } => {
-            write(files, alloc, name, *offset, body, number)?;
-            Ok((Reply::Done, Reply::Done))
-        }
-        Call::Truncate { name, size } => {
-            truncate(files, alloc, name, *size, number)?;
-            Ok((Reply::Done, Reply::Done))
-        }
-        Call::Remove { name } => {
-            remove(files, alloc, name, number)?;
-            Ok((Reply::Done, Reply::Done))
-        }
+        Call::Write { name, offset, body } => write(files, alloc, name, *offset, body, number),
+        Call::Truncate { name, size } => truncate(files, alloc, name, *size, number),
+        Call::Remove { name } => remove(files, alloc, name, number),
         Call::Stat { name } => {
             let size = size(files, name);
             Ok((Reply::Size(size), Reply::Size(size)))
@@ -142,10 +133,11 @@ fn write<D: Disk>(
     offset: u64,
     body: &Bytes,
     number: u64,
-) -> Result<(), StoreRefusal>
+) -> Result<(Reply, Reply), StoreRefusal>
     requires working { files.old.failed ≡ false }
     requires lawful { judged (superblock_of files.old) files.old.held (Write name.now offset body.now) ≡ None }
     requires mapped { used files.old.held.files ≤ (superblock_of files.old).geometry.blocks }
+    ensures reply { IfOk result (λ r. (r.0 ≡ Reply.Done) × (r.1 ≡ Reply.Done)) }
     ensures held { OnOk result (files.new.held ≡ done_held files.old.held (Write name.now offset body.now)) }
     ensures working { OnOk result (files.new.failed ≡ false) }
     ensures memory { IsErrOf result StoreRefusal.Memory → (files.new.held ≡ files.old.held) × (files.new.failed ≡ false) }
@@ -153,7 +145,8 @@ fn write<D: Disk>(
     ensures proceeds { Proceeds D.Disk files.old number files.new }
 {
     let key = key_of(files, name);
-    files.write(alloc, key, offset, body.as_slice(), number)
+    files.write(alloc, key, offset, body.as_slice(), number)?;
+    Ok((Reply::Done, Reply::Done))
 }
 
 fn truncate<D: Disk>(
@@ -162,10 +155,11 @@ fn truncate<D: Disk>(
     name: &Word,
     size: u64,
     number: u64,
-) -> Result<(), StoreRefusal>
+) -> Result<(Reply, Reply), StoreRefusal>
     requires working { files.old.failed ≡ false }
     requires lawful { judged (superblock_of files.old) files.old.held (Truncate name.now size) ≡ None }
     requires mapped { used files.old.held.files ≤ (superblock_of files.old).geometry.blocks }
+    ensures reply { IfOk result (λ r. (r.0 ≡ Reply.Done) × (r.1 ≡ Reply.Done)) }
     ensures held { OnOk result (files.new.held ≡ done_held files.old.held (Truncate name.now size)) }
     ensures working { OnOk result (files.new.failed ≡ false) }
     ensures memory { IsErrOf result StoreRefusal.Memory → (files.new.held ≡ files.old.held) × (files.new.failed ≡ false) }
@@ -173,7 +167,8 @@ fn truncate<D: Disk>(
     ensures proceeds { Proceeds D.Disk files.old number files.new }
 {
     let key = key_of(files, name);
-    files.truncate(alloc, key, size, number)
+    files.truncate(alloc, key, size, number)?;
+    Ok((Reply::Done, Reply::Done))
 }
 
 fn remove<D: Disk>(
@@ -181,9 +176,10 @@ fn remove<D: Disk>(
     alloc: Global,
     name: &Word,
     number: u64,
-) -> Result<(), StoreRefusal>
+) -> Result<(Reply, Reply), StoreRefusal>
     requires working { files.old.failed ≡ false }
     requires lawful { IsSome (named name.now (names_of files.old.held.files)) }
+    ensures reply { IfOk result (λ r. (r.0 ≡ Reply.Done) × (r.1 ≡ Reply.Done)) }
     ensures held { OnOk result (files.new.held ≡ done_held files.old.held (Remove name.now)) }
     ensures working { OnOk result (files.new.failed ≡ false) }
     ensures memory { IsErrOf result StoreRefusal.Memory → files.new ≡ files.old }
@@ -191,7 +187,8 @@ fn remove<D: Disk>(
     ensures proceeds { Proceeds D.Disk files.old number files.new }
 {
     let key = key_of(files, name);
-    files.remove(alloc, key, number)
+    files.remove(alloc, key, number)?;
+    Ok((Reply::Done, Reply::Done))
 }
 
 /// Makes all durable that is held. The reply comes twice, as those of calls do.
