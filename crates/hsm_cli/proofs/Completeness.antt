@@ -1,11 +1,12 @@
 -- A run in which nothing fails ends well, or for want of memory.
-use Rattle.std.proofs.Common.{ℕ, ◌≡◌, ◌≢◌, ◌⊎◌, inl, inr, ⊎_elim, List, Option, Some, None, IfSome, refl, sym, ◌∙◌, subst}
+use Rattle.std.proofs.Common.{ℕ, ◌≡◌, ◌≢◌, ◌⊎◌, inl, inr, ⊎_elim, List, Option, Some, None, IfSome, IsSome, refl, sym, ◌∙◌, subst}
 use Rattle.disk_model.specs.declared.device.Disk as disk
+use Rattle.disk_model.specs.Calls.{Rose}
 use Rattle.meta_store.specs.Catalogs.{Catalog}
 use Rattle.meta_store.specs.Snapshots.{IsSnapshot}
 use Rattle.meta_store.specs.Images.{IsImage, IsCorruptAt, IsClosed, area_of, gate_of}
 use Rattle.plain_model.specs.State.{Held}
-use Rattle.file_store.specs.Stores.{IsRecovered, IsDurable}
+use Rattle.file_store.specs.Stores.{Store, IsRecovered, IsDurable}
 use Rattle.script_text.specs.Scripts.{IsScript, IsFirstBad}
 use Rattle.script_text.specs.Laws.{IsOneScript}
 use Rattle.script_text.specs.declared.lines.Line.{Line}
@@ -18,7 +19,7 @@ use Rattle.hsm_cli.specs.Openings.{opened_in, base_of}
 use Rattle.hsm_cli.specs.Sources.{script_bytes}
 use Rattle.hsm_cli.specs.Told.{SourceTold, SinkTold, HostTold}
 use Rattle.hsm_cli.specs.Endings.{RunEnds}
-use Rattle.hsm_cli.specs.Clauses.{Why, GivesScript, NothingFails, StatusClause}
+use Rattle.hsm_cli.specs.Clauses.{Why, GivesScript, NothingFails, HasFailed, HasBegun, CanEnd, FindsNothing, TellsStore, StatusClause}
 
 -- an image on which recovery finds something isn't corrupt
 not_corrupt : (place fsid n : ℕ) (c : Catalog) (image : List ℕ) → IsImage fsid n c image → IsCorruptAt place image → ⊥
@@ -74,6 +75,51 @@ module _ {D : Type 0} (g : disk.Ghosts D) (named : List ℕ → Type 0) (source 
   why_new (Some (Corrupt place)) ends = absurd ends
   why_new (Some HostFault) ends = absurd ends
 
+-- a run on a store in memory reads a script
+can_end_new : (source : SourceTold) (sink : SinkTold) (cause : Option Cause) → RunEnds ⊥ source sink cause → CanEnd (Some Replay) cause
+can_end_new source sink None ends = tt
+can_end_new source sink (Some NoMemory) ends = tt
+can_end_new source sink (Some (ScriptRefused line)) ends = tt
+can_end_new source sink (Some ReadFault) ends = tt
+can_end_new source sink (Some WriteFault) ends = tt
+can_end_new source sink (Some DiskFault) ends = absurd ends
+can_end_new source sink (Some WordsRefused) ends = absurd ends
+can_end_new source sink (Some NotStore) ends = absurd ends
+can_end_new source sink (Some (Corrupt place)) ends = absurd ends
+can_end_new source sink (Some HostFault) ends = absurd ends
+
+-- one on a store of the host can end for each cause
+can_end_store : (path dir : List ℕ) (cause : Option Cause) → CanEnd (Some (ReplayStore path dir)) cause
+can_end_store path dir None = tt
+can_end_store path dir (Some NoMemory) = tt
+can_end_store path dir (Some (ScriptRefused line)) = tt
+can_end_store path dir (Some ReadFault) = tt
+can_end_store path dir (Some WriteFault) = tt
+can_end_store path dir (Some DiskFault) = tt
+can_end_store path dir (Some WordsRefused) = tt
+can_end_store path dir (Some NotStore) = tt
+can_end_store path dir (Some (Corrupt place)) = tt
+can_end_store path dir (Some HostFault) = tt
+
+module _ {D : Type 0} (g : disk.Ghosts D) (named : List ℕ → Type 0) (image : List ℕ) (is : named image) (nothing : FindsNothing image) where
+  -- a store on whose image recovery finds nothing wasn't opened
+  not_opened : (opened : Option (Store D)) → IfSome opened (λ s. (s.held ≡ s.durable) × ((i : List ℕ) → named i → IsDurable s i)) → IsSome opened → ⊥
+  not_opened None durable some = absurd cc
+  not_opened (Some s) durable some = nothing s.meta.durable.geometry s.meta.fsid s.meta.number s.durable (durable.1 image is)
+
+  refused_store : (host : HostTold) (disk : Option D) (opened : Option (Store D)) (cause : Option Cause) → HasBegun opened cause → IfSome opened (λ s. (s.held ≡ s.durable) × ((i : List ℕ) → named i → IsDurable s i))
+      → (source : SourceTold) (sink : SinkTold) → Why g named source sink host disk cause → cause ≢ Some WordsRefused → ¬ (Rose host.before host.now) → ¬ (HasFailed g disk) → TellsStore cause ⊎ (cause ≡ Some NoMemory)
+  refused_store host disk opened None begun durable source sink why words host_works disk_works = absurd (not_opened opened durable begun)
+  refused_store host disk opened (Some (ScriptRefused line)) begun durable source sink why words host_works disk_works = absurd (not_opened opened durable begun)
+  refused_store host disk opened (Some ReadFault) begun durable source sink why words host_works disk_works = absurd (not_opened opened durable begun)
+  refused_store host disk opened (Some WriteFault) begun durable source sink why words host_works disk_works = absurd (not_opened opened durable begun)
+  refused_store host disk opened (Some DiskFault) begun durable source sink why words host_works disk_works = absurd (disk_works why)
+  refused_store host disk opened (Some HostFault) begun durable source sink why words host_works disk_works = absurd (host_works why)
+  refused_store host disk opened (Some WordsRefused) begun durable source sink why words host_works disk_works = absurd (words refl)
+  refused_store host disk opened (Some NotStore) begun durable source sink why words host_works disk_works = inl tt
+  refused_store host disk opened (Some (Corrupt place)) begun durable source sink why words host_works disk_works = inl tt
+  refused_store host disk opened (Some NoMemory) begun durable source sink why words host_works disk_works = inr refl
+
 words_given : (source : SourceTold) (sink : SinkTold) (cause : Option Cause) → RunEnds ⊥ source sink cause → cause ≡ Some WordsRefused → ⊥
 words_given source sink cause ends is = subst (λ (c : Option Cause). RunEnds ⊥ source sink c) is ends
 
@@ -86,20 +132,26 @@ module _ (law : (bytes : List ℕ) (lines : List Line) → IsScript bytes lines 
     base = rw new.0 new.2;
     words = ((λ is. absurd (words_given source sink o.cause ends is)), (λ is. absurd cc));
     why = why_new g (λ _. ⊥) source sink host o.disk o.cause ends;
+    forms = can_end_new source sink o.cause ends;
+    begun = λ opens. absurd opens;
     back = λ names. absurd names;
     opened = rw new.0 tt;
+    refused = λ image is. absurd is;
     complete = λ store script works. complete_new law g source sink host o.disk script works o.cause ends;
   }
 
-  pub status_store : (path dir : List ℕ) → o.base ≡ base_of (opened_in o) → o.cause ≢ Some WordsRefused → IfSome (opened_in o) (λ s. (image : List ℕ) → holds path image → IsDurable s image)
+  pub status_store : (path dir : List ℕ) → o.base ≡ base_of (opened_in o) → o.cause ≢ Some WordsRefused → HasBegun (opened_in o) o.cause → IfSome (opened_in o) (λ s. (s.held ≡ s.durable) × ((image : List ℕ) → holds path image → IsDurable s image))
       → (o.disk ≡ None → (o.cause ≡ Some HostFault) ⊎ (o.cause ≡ Some NoMemory)) → Why g (holds path) source sink host o.disk o.cause → StatusClause g (Some (ReplayStore path dir)) holds source sink host o
-  status_store path dir base words opened back why = record {
+  status_store path dir base words begun opened back why = record {
     status = told.0;
     place = told.1;
     base = base;
     words = ((λ is. absurd (words is)), (λ is. absurd cc));
     why = why;
+    forms = can_end_store path dir o.cause;
+    begun = λ opens. begun;
     back = λ names. back;
     opened = opened;
+    refused = λ image is nothing. refused_store g (holds path) image is nothing host o.disk (opened_in o) o.cause begun opened source sink why words;
     complete = λ store script works. complete_store law g source sink host o.disk script works (holds path) store.0 store.2 store.3 store.4 store.5 o.cause store.1 store.6 words why;
   }

@@ -1,5 +1,5 @@
 -- What is promised of a run: each clause over the words, the outcome, and what the objects tell.
-use Rattle.std.specs.Prelude.{ℕ, ◌≡◌, ◌≢◌, ◌⊎◌, ◌↔◌, List, [], take, Bool, true, false, Option, Some, None, IfSome}
+use Rattle.std.specs.Prelude.{ℕ, ◌≡◌, ◌≢◌, ◌⊎◌, ◌↔◌, List, [], take, Bool, true, false, Option, Some, None, IfSome, IsSome}
 use Rattle.std.specs.Io.KnownBytes.{Appends, IsAtEnd}
 use Rattle.disk_model.specs.declared.device.Disk as disk
 use Rattle.disk_model.specs.Calls.{Rose}
@@ -29,10 +29,10 @@ use Rattle.hsm_cli.specs.declared.causes.Cause.TheVariants.{ScriptRefused, Words
 use Rattle.hsm_cli.specs.declared.outcomes.Outcome.{Outcome}
 use Rattle.hsm_cli.specs.Commands.{Form, Format, Replay, ReplayStore, geometry_number, fsid_of}
 use Rattle.hsm_cli.specs.Statuses.{status_of, place_of}
-use Rattle.hsm_cli.specs.Sources.{script_bytes}
+use Rattle.hsm_cli.specs.Sources.{script_bytes, GivesFirst, GivesWhole}
 use Rattle.hsm_cli.specs.Openings.{opened_in, superblock_at, held_at, base_of, opening_at}
 use Rattle.hsm_cli.specs.Follows.{RunsAll, RunsFirst}
-use Rattle.hsm_cli.specs.Hosts.{IsHanded}
+use Rattle.hsm_cli.specs.Hosts.{IsHanded, HoldsNothing, HoldsOthers, HoldsAll}
 use Rattle.hsm_cli.specs.Told.{SourceTold, SinkTold, HostTold}
 
 -- ---- the script clause
@@ -52,6 +52,30 @@ ScriptClause None source o = o.history ≡ []
 ScriptClause (Some (Format path size)) source o = o.history ≡ []
 ScriptClause (Some Replay) source o = HasRun false source o.cause o.history
 ScriptClause (Some (ReplayStore path dir)) source o = HasRun true source o.cause o.history
+
+-- ---- the reading clause
+
+-- nothing was asked of the source
+pub record IsUnread (source : SourceTold) : Type 0 where
+  pub left : source.left ≡ source.given
+  pub faults : source.now ≡ source.before
+
+-- How much of the source a run on a store reads: a part of it where reading failed or memory was wanting, else the whole.
+abbrev pub HasRead : SourceTold → Option Cause → Type 0
+HasRead source (Some ReadFault) = GivesFirst source.given source.left
+HasRead source (Some NoMemory) = GivesFirst source.given source.left
+HasRead source other = GivesWhole source.given source.left
+
+-- a run without a store reads nothing
+abbrev pub HasReadOn : {S : Type 0} → Option S → SourceTold → Option Cause → Type 0
+HasReadOn None source cause = IsUnread source
+HasReadOn (Some s) source cause = HasRead source cause
+
+abbrev pub ReadingClause : {D : Type 0} → Option Form → SourceTold → Outcome D → Type 0
+ReadingClause None source o = IsUnread source
+ReadingClause (Some (Format path size)) source o = IsUnread source
+ReadingClause (Some Replay) source o = HasRead source o.cause
+ReadingClause (Some (ReplayStore path dir)) source o = HasReadOn (opened_in o) source o.cause
 
 -- ---- the legality clause and the plain clause
 
@@ -105,9 +129,9 @@ pub record IsUntouched {D : Type 0} (g : disk.Ghosts D) (held : List ℕ → Typ
 
 abbrev pub LeavesSafe : {D : Type 0} → disk.Ghosts D → (List ℕ → Type 0) → Option (Store D) → List Entry → Option D → Type 0
 LeavesSafe g held (Some opened) history (Some disk) = IsCrashSafe g held opened history disk
-LeavesSafe g held None history (Some disk) = IsUntouched g held disk
+LeavesSafe g held None history (Some disk) = IsUntouched g held disk × (history ≡ [])
 LeavesSafe g held (Some opened) history None = ⊥
-LeavesSafe g held None history None = Unit {0}
+LeavesSafe g held None history None = history ≡ []
 
 -- Only `replay PATH DIR` opens a store of the host.
 abbrev pub CrashClause : {D : Type 0} → disk.Ghosts D → Option Form → (List ℕ → List ℕ → Type 0) → Outcome D → Type 0
@@ -128,6 +152,20 @@ FormatClause g (Some (Format path size)) o = o.cause ≡ None → IsFormatted g 
 FormatClause g (Some Replay) o = Unit {0}
 FormatClause g (Some (ReplayStore path dir)) o = Unit {0}
 FormatClause g None o = Unit {0}
+
+-- ---- the host clause
+
+-- The host handed out the disk of that name, and holds all others as before; or it handed out none, and holds all as before.
+abbrev pub HandsOut : {D : Type 0} → List ℕ → (List ℕ → List ℕ → Type 0) → (List ℕ → List ℕ → Type 0) → Option D → Type 0
+HandsOut path old new (Some disk) = HoldsNothing (new path) × HoldsOthers path old new
+HandsOut path old new None = HoldsAll old new
+
+-- What the host handed out is given back, and nothing else of it changes. Words that name no disk leave the host alone.
+abbrev pub HostClause : {H D : Type 0} → (H → List ℕ → List ℕ → Type 0) → Option Form → H → H → Outcome D → Type 0
+HostClause holds None old new o = (new ≡ old) × (o.disk ≡ None)
+HostClause holds (Some Replay) old new o = (new ≡ old) × (o.disk ≡ None)
+HostClause holds (Some (Format path size)) old new o = HandsOut path (holds old) (holds new) o.disk
+HostClause holds (Some (ReplayStore path dir)) old new o = HandsOut path (holds old) (holds new) o.disk
 
 -- ---- the output clause
 
@@ -158,12 +196,58 @@ Why g named source sink host disk (Some DiskFault) = HasFailed g disk
 Why g named source sink host disk (Some HostFault) = Rose host.before host.now
 Why g named source sink host disk (Some NoMemory) = Unit {0}
 
+-- the words ask for a script to be read
+abbrev pub ReadsScript : Option Form → Type 0
+ReadsScript (Some Replay) = Unit {0}
+ReadsScript (Some (ReplayStore path dir)) = Unit {0}
+ReadsScript (Some (Format path size)) = ⊥
+ReadsScript None = ⊥
+
+-- the words ask for a store of the host to be opened
+abbrev pub OpensStore : Option Form → Type 0
+OpensStore (Some (ReplayStore path dir)) = Unit {0}
+OpensStore (Some (Format path size)) = ⊥
+OpensStore (Some Replay) = ⊥
+OpensStore None = ⊥
+
 -- the words name a disk
 abbrev pub NamesDisk : Option Form → Type 0
 NamesDisk (Some (Format path size)) = Unit {0}
 NamesDisk (Some (ReplayStore path dir)) = Unit {0}
 NamesDisk (Some Replay) = ⊥
 NamesDisk None = ⊥
+
+-- the forms that can end for a cause
+abbrev pub CanEnd : Option Form → Option Cause → Type 0
+CanEnd form (Some (ScriptRefused line)) = ReadsScript form
+CanEnd form (Some ReadFault) = ReadsScript form
+CanEnd form (Some WriteFault) = ReadsScript form
+CanEnd form (Some NotStore) = OpensStore form
+CanEnd form (Some (Corrupt place)) = OpensStore form
+CanEnd form (Some DiskFault) = NamesDisk form
+CanEnd form (Some HostFault) = NamesDisk form
+CanEnd form other = Unit {0}
+
+-- Whether the store of the host was opened, by what went wrong first. So what is wrong with the store is told before what is wrong with the script, and
+-- a run that ends well has its store. Faults of the disk and want of memory come before the opening and after it.
+abbrev pub HasBegun : {S : Type 0} → Option S → Option Cause → Type 0
+HasBegun opened (Some WordsRefused) = opened ≡ None
+HasBegun opened (Some HostFault) = opened ≡ None
+HasBegun opened (Some NotStore) = opened ≡ None
+HasBegun opened (Some (Corrupt place)) = opened ≡ None
+HasBegun opened (Some DiskFault) = Unit {0}
+HasBegun opened (Some NoMemory) = Unit {0}
+HasBegun opened other = IsSome opened
+
+-- the store that the host holds can't be opened
+abbrev pub FindsNothing : List ℕ → Type 0
+FindsNothing image = (geometry fsid n : ℕ) → (h : Held) → IsRecovered geometry fsid n h image → ⊥
+
+-- and the cause says why: it is no store, or corrupt at a place
+abbrev pub TellsStore : Option Cause → Type 0
+TellsStore (Some NotStore) = Unit {0}
+TellsStore (Some (Corrupt place)) = Unit {0}
+TellsStore other = ⊥
 
 -- The host holds a store under the name, where the words name one.
 abbrev pub FindsStore : Option Form → (List ℕ → List ℕ → Type 0) → Type 0
@@ -198,6 +282,9 @@ pub record StatusClause {D : Type 0} (g : disk.Ghosts D) (form : Option Form) (h
   pub base : o.base ≡ base_of (opened_in o)
   pub words : (o.cause ≡ Some WordsRefused) ↔ (form ≡ None)
   pub why : Why g (IsNamed form holds) source sink host o.disk o.cause
+  pub forms : CanEnd form o.cause
+  pub begun : OpensStore form → HasBegun (opened_in o) o.cause
   pub back : NamesDisk form → o.disk ≡ None → (o.cause ≡ Some HostFault) ⊎ (o.cause ≡ Some NoMemory)
-  pub opened : IfSome (opened_in o) (λ s. (image : List ℕ) → IsNamed form holds image → IsDurable s image)
+  pub opened : IfSome (opened_in o) (λ s. (s.held ≡ s.durable) × ((image : List ℕ) → IsNamed form holds image → IsDurable s image))
+  pub refused : (image : List ℕ) → IsNamed form holds image → FindsNothing image → ¬ (Rose host.before host.now) → ¬ (HasFailed g o.disk) → TellsStore o.cause ⊎ (o.cause ≡ Some NoMemory)
   pub complete : FindsStore form holds → FindsScript form source.given → NothingFails g source sink host o.disk → (o.cause ≡ None) ⊎ (o.cause ≡ Some NoMemory)

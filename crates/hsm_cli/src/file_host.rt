@@ -4,10 +4,11 @@ ghost use Rattle.disk_model.specs.Calls.{HasCause, Rose};
 
 use crate::hosts::{Host, HostRefusal, fault};
 use disk_model::{Disk, Failed};
-use std::fs::{OpenFile, OpenOptions};
+use std::fs::{File, OpenFile, OpenOptions};
 use std::io;
 use std::io::{Read, Seek, SeekFrom, Write};
 use std::marker::Model;
+use std::path::Path;
 use std::rt::Files;
 
 /// A file as a disk, as long as the file was when it was opened. Each error of the system is a fault. It doesn't tell what
@@ -109,8 +110,21 @@ fn counted(done: io::Result<()>, faults: &mut u64) -> Result<(), Failed>
     }
 }
 
-/// Files by their paths, as disks. A folder, a path where nothing is, and a file that may not be read and written are
-/// faults. It doesn't tell what the files hold.
+/// A file that one run can have for itself.
+pub trait LockFile {
+    /// Takes the lock that one open of the file alone can hold, until it is closed. It fails where another holds it.
+    fn lock_alone(&self) -> io::Result<()>;
+}
+
+impl LockFile for File {
+    fn lock_alone(&self) -> io::Result<()> {
+        self.try_lock()?;
+        Ok(())
+    }
+}
+
+/// Files by their paths, as disks. A folder, a path where nothing is, a file that may not be read and written, and one that
+/// another run has are faults, and stay as they were. It doesn't tell what the files hold.
 #[derive(Drop)]
 pub struct FileHost<R> {
     files: R,
@@ -136,7 +150,7 @@ impl<R: Files> FileHost<R> {
 
 impl<R: Files> Host for FileHost<R>
 where
-    R::File: Send,
+    R::File: LockFile + Send,
 {
     type Disk = FileDisk<R::File>;
 
@@ -163,21 +177,39 @@ where
     }
 }
 
-// A file of zeros that take no room, in place of what was there.
-fn create_file<R: Files>(files: &R, path: &str, len: u64) -> io::Result<R::File> {
+// A file of zeros that take no room, in place of what was there. Its name is on the disk before it is used.
+fn create_file<R: Files>(files: &R, path: &str, len: u64) -> io::Result<R::File>
+where
+    R::File: LockFile,
+{
+    let folder = OpenOptions::new().read(true).open(files, folder_of(path))?;
     let file = OpenOptions::new()
         .read(true)
         .write(true)
         .create(true)
-        .truncate(true)
         .open(files, path)?;
+    file.lock_alone()?;
+    file.set_len(0)?;
     file.set_len(len)?;
+    folder.sync_all()?;
     Ok(file)
 }
 
+// The folder that a path leads into.
+fn folder_of(path: &str) -> &str {
+    match Path::new(path).parent() {
+        Some(folder) if !folder.as_str().is_empty() => folder.as_str(),
+        _ => ".",
+    }
+}
+
 // The file that is there, and its length.
-fn open_file<R: Files>(files: &R, path: &str) -> io::Result<(R::File, u64)> {
+fn open_file<R: Files>(files: &R, path: &str) -> io::Result<(R::File, u64)>
+where
+    R::File: LockFile,
+{
     let file = OpenOptions::new().read(true).write(true).open(files, path)?;
+    file.lock_alone()?;
     let len = file.metadata()?.len();
     Ok((file, len))
 }

@@ -16,7 +16,7 @@ mod top;
 pub use adapters::{Reading, Writing};
 pub use causes::Cause;
 pub use commands::{Command, StoreSize};
-pub use file_host::{FileDisk, FileHost};
+pub use file_host::{FileDisk, FileHost, LockFile};
 pub use hosts::{Host, HostRefusal};
 pub use mem_host::MemHost;
 pub use outcomes::Outcome;

@@ -8,8 +8,8 @@ ghost use Rattle.plain_model.specs.Render.{text_of};
 ghost use Rattle.plain_model.specs.Synced.{synced};
 ghost use Rattle.hsm_core.specs.Crashes.{IsPrefix};
 ghost use Rattle.script_text.specs.Scripts.{IsScript};
-ghost use Rattle.hsm_cli.specs.Sources.{script_bytes};
-ghost use Rattle.hsm_cli.specs.Clauses.{HasRun, IsLegalFrom, IsPlainFrom};
+ghost use Rattle.hsm_cli.specs.Sources.{script_bytes, GivesFirst};
+ghost use Rattle.hsm_cli.specs.Clauses.{HasRun, HasRead, IsLegalFrom, IsPlainFrom};
 ghost use Rattle.hsm_cli.specs.Endings.{cause_in, ScriptEnds, WritingEnds, RunEnds, first_of};
 ghost use Rattle.hsm_cli.specs.Told.{source_told, sink_told};
 ghost use Rattle.hsm_cli.specs.Runs.{IsOpenedAnew, GoesOn};
@@ -54,6 +54,7 @@ pub(crate) fn serve<D: Disk, I: Source, O: Sink>(
     ensures opening { result.opening.value ≡ hsm.opened }
     ensures base { result.base ≡ hsm.opened.meta.number }
     ensures script { HasRun commits (source_told I.left I.fault_count source.old source.new) result.cause result.history }
+    ensures reading { HasRead (source_told I.left I.fault_count source.old source.new) result.cause }
     ensures legality { IsLegalFrom (Some hsm.opened) result.history }
     ensures caused { has_fault result.history ≡ true → Rose (D.fault_count hsm.opened.disk) (D.fault_count result.disk) }
     ensures faultless { result.cause ≢ Some Cause.DiskFault → result.cause ≢ Some Cause.NoMemory → has_fault result.history ≡ false }
@@ -87,6 +88,8 @@ fn run_script<D: Disk, I: Source>(
     requires { IsOpenedAnew hsm.old }
     ensures goes_on { GoesOn D.Disk hsm.old hsm.new }
     ensures ran { HasRun commits (source_told I.left I.fault_count source.old source.new) (cause_in result) hsm.new.history }
+    ensures reading { HasRead (source_told I.left I.fault_count source.old source.new) (cause_in result) }
+    ensures part { GivesFirst (I.left source.old) (I.left source.new) }
     ensures ends { IfErr result (λ why. ScriptEnds (Rose (D.fault_count hsm.old.files.disk) (D.fault_count hsm.new.files.disk)) (source_told I.left I.fault_count source.old source.new) why) }
     ensures failed { hsm.new.files.failed ≡ true → IsErrOf result Cause.DiskFault }
 {
@@ -102,6 +105,8 @@ fn run_script<D: Disk, I: Source>(
 fn read_script<I: Source>(alloc: Global, source: &mut I) -> Result<Script, Cause>
     ensures script { IfOk result (λ lines. IfSome (I.left source.old) (λ bytes. IsScript (script_bytes bytes) lines)) }
     ensures ended { OnOk result (IsAtEnd (I.left source.new)) }
+    ensures reading { HasRead (source_told I.left I.fault_count source.old source.new) (cause_in result) }
+    ensures part { GivesFirst (I.left source.old) (I.left source.new) }
     ensures refused { IfErr result (λ why. ScriptEnds ⊥ (source_told I.left I.fault_count source.old source.new) why) }
 {
     let bytes = read_all(alloc, source)?;

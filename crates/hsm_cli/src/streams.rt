@@ -1,8 +1,8 @@
 //! Whole inputs and outputs over sources and sinks.
 ghost use Rattle.std.specs.Prelude.{◌≡◌, ◌<◌, ◌≤◌, ◌++◌, ◌⊎◌, take, length, ℕ, IfOk, IfSome, OnOk, OnErr, IsErrOf, IfErr};
-ghost use Rattle.std.specs.Io.KnownBytes.{Appends, IsAtEnd};
+ghost use Rattle.std.specs.Io.KnownBytes.{Consumes, Appends, IsAtEnd};
 ghost use Rattle.script_text.specs.Causes.{Rose};
-ghost use Rattle.hsm_cli.specs.Sources.{script_bytes, ReadsMore};
+ghost use Rattle.hsm_cli.specs.Sources.{script_bytes, ReadsMore, GivesMore, GivesFirst};
 
 use crate::causes::Cause;
 use script_text::{Failed, Sink, Source};
@@ -18,6 +18,8 @@ const PIECE_BYTES: usize = 16384;
 pub fn read_all<I: Source>(alloc: Global, source: &mut I) -> Result<Vec<u8>, Cause>
     ensures bytes { IfOk result (λ bytes. IfSome (I.left source.old) (λ all. bytes.items ≡ script_bytes all)) }
     ensures ended { IfOk result (λ bytes. length bytes.items ≤ 409700000 → IsAtEnd (I.left source.new)) }
+    ensures taken { IfOk result (λ bytes. Consumes (I.left source.old) (I.left source.new) bytes.items) }
+    ensures part { GivesFirst (I.left source.old) (I.left source.new) }
     ensures causes { IfErr result (λ why. (why ≡ Cause.ReadFault) ⊎ (why ≡ Cause.NoMemory)) }
     ensures fault { IsErrOf result Cause.ReadFault → Rose (I.fault_count source.old) (I.fault_count source.new) }
 {
@@ -35,6 +37,7 @@ pub fn read_all<I: Source>(alloc: Global, source: &mut I) -> Result<Vec<u8>, Cau
 fn read_some<I: Source>(source: &mut I, bytes: &mut Vec<u8>) -> Result<usize, Cause>
     requires { length bytes.old.items < 409700001 }
     ensures more { IfOk result (λ n. ReadsMore (I.left source.old) (I.left source.new) bytes.old.items bytes.new.items n) }
+    ensures taken { OnErr result (GivesMore (I.left source.old) (I.left source.new) bytes.old.items) }
     ensures causes { IfErr result (λ why. (why ≡ Cause.ReadFault) ⊎ (why ≡ Cause.NoMemory)) }
     ensures fault { IsErrOf result Cause.ReadFault → Rose (I.fault_count source.old) (I.fault_count source.new) }
     ensures later { I.fault_count source.old ≤ I.fault_count source.new }

@@ -7,7 +7,7 @@ ghost use Rattle.file_store.specs.Stores.{superblock_of, IsDurable};
 ghost use Rattle.hsm_cli.specs.Commands.{form_of, fsid_of, geometry_number};
 ghost use Rattle.hsm_cli.specs.Statuses.{status_of, place_of};
 ghost use Rattle.hsm_cli.specs.Openings.{opened_in, base_of, replay_store};
-ghost use Rattle.hsm_cli.specs.Clauses.{ScriptClause, LegalityClause, PlainClause, CrashClause, FormatClause, OutputClause, StatusClause, HasRun, IsLegalFrom, IsPlainFrom, LeavesSafe, IsFormatted, HasFailed, Why};
+ghost use Rattle.hsm_cli.specs.Clauses.{ScriptClause, ReadingClause, LegalityClause, PlainClause, CrashClause, FormatClause, HostClause, OutputClause, StatusClause, HasRun, HasRead, HasReadOn, IsLegalFrom, IsPlainFrom, LeavesSafe, IsFormatted, HandsOut, HasFailed, HasBegun, Why};
 ghost use Rattle.hsm_cli.specs.Endings.{RunEnds, FormatEnds};
 ghost use Rattle.hsm_cli.specs.Told.{source_told, sink_told, host_told};
 ghost use Rattle.hsm_cli.specs.Runs.{IsOpenedAnew};
@@ -39,10 +39,12 @@ pub fn hsm_main<H: Host, I: Source, O: Sink>(
     sink: &mut O,
 ) -> Outcome<H::Disk>
     ensures script { ScriptClause (form_of (map string_bytes words.now)) (source_told I.left I.fault_count source.old source.new) result }
+    ensures reading { ReadingClause (form_of (map string_bytes words.now)) (source_told I.left I.fault_count source.old source.new) result }
     ensures legality { LegalityClause H.Disk.Disk result }
     ensures plain { PlainClause result }
     ensures crash { CrashClause H.Disk.Disk (form_of (map string_bytes words.now)) (H.holds host.old) result }
     ensures format { FormatClause H.Disk.Disk (form_of (map string_bytes words.now)) result }
+    ensures host { HostClause H.holds (form_of (map string_bytes words.now)) host.old host.new result }
     ensures output { OutputClause result (sink_told O.taken O.fault_count sink.old sink.new) }
     ensures status { StatusClause H.Disk.Disk (form_of (map string_bytes words.now)) (H.holds host.old) (source_told I.left I.fault_count source.old source.new) (sink_told O.taken O.fault_count sink.old sink.new) (host_told H.fault_count host.old host.new) result }
 {
@@ -59,6 +61,7 @@ pub fn hsm_main<H: Host, I: Source, O: Sink>(
 fn format<H: Host>(alloc: Global, host: &mut H, path: &str, size: StoreSize) -> Outcome<H::Disk>
     ensures unopened { result ≡ record { status = status_of result.cause; at = place_of result.cause; cause = result.cause; base = 0; opening = None; history = []; disk = result.disk } }
     ensures formatted { result.cause ≡ None → IsFormatted H.Disk.Disk (geometry_number size) (fsid_of path.now) result.disk }
+    ensures host { HandsOut path.now (H.holds host.old) (H.holds host.new) result.disk }
     ensures back { result.disk ≡ None → (result.cause ≡ Some Cause.HostFault) ⊎ (result.cause ≡ Some Cause.NoMemory) }
     ensures ends { FormatEnds (HasFailed H.Disk.Disk result.disk) (host_told H.fault_count host.old host.new) result.cause }
 {
@@ -88,6 +91,7 @@ fn replay<D: Disk, I: Source, O: Sink>(alloc: Global, source: &mut I, sink: &mut
     ensures new { (result.opening ≡ None) × (result.disk ≡ None) × (result.base ≡ 0) }
     ensures told { (result.status ≡ status_of result.cause) × (result.at ≡ place_of result.cause) }
     ensures script { HasRun false (source_told I.left I.fault_count source.old source.new) result.cause result.history }
+    ensures reading { HasRead (source_told I.left I.fault_count source.old source.new) result.cause }
     ensures legality { IsLegalFrom {D = D} None result.history }
     ensures faultless { has_fault result.history ≡ false }
     ensures plain { IsPlainFrom {D = D} None result.history }
@@ -141,11 +145,14 @@ fn replay_store<H: Host, I: Source, O: Sink>(
     ensures told { (result.status ≡ status_of result.cause) × (result.at ≡ place_of result.cause) × (result.base ≡ base_of (opened_in result)) }
     ensures command { result.cause ≢ Some Cause.WordsRefused }
     ensures script { HasRun true (source_told I.left I.fault_count source.old source.new) result.cause result.history }
+    ensures reading { HasReadOn (opened_in result) (source_told I.left I.fault_count source.old source.new) result.cause }
     ensures legality { LegalityClause H.Disk.Disk result }
     ensures plain { PlainClause result }
     ensures crash { LeavesSafe H.Disk.Disk (H.holds host.old path.now) (opened_in result) result.history result.disk }
     ensures output { OutputClause result (sink_told O.taken O.fault_count sink.old sink.new) }
-    ensures opened { IfSome (opened_in result) (λ s. (image : List ℕ) → H.holds host.old path.now image → IsDurable s image) }
+    ensures host { HandsOut path.now (H.holds host.old) (H.holds host.new) result.disk }
+    ensures begun { HasBegun (opened_in result) result.cause }
+    ensures opened { IfSome (opened_in result) (λ s. (s.held ≡ s.durable) × ((image : List ℕ) → H.holds host.old path.now image → IsDurable s image)) }
     ensures back { result.disk ≡ None → (result.cause ≡ Some Cause.HostFault) ⊎ (result.cause ≡ Some Cause.NoMemory) }
     ensures why { Why H.Disk.Disk (H.holds host.old path.now) (source_told I.left I.fault_count source.old source.new) (sink_told O.taken O.fault_count sink.old sink.new) (host_told H.fault_count host.old host.new) result.disk result.cause }
 {
