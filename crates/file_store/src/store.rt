@@ -84,6 +84,7 @@ impl<D: Disk> FileStore<D> {
         ensures held { self.new.held ≡ self.old.held }
         ensures current { self.new.meta.current ≡ self.old.meta.current }
         ensures done { OnOk result ((self.new.durable ≡ self.old.held) × (self.new.meta.number ≡ number)) }
+        ensures durable { OnOk result ((c : List ℕ) → MayBe D.Disk self.new.disk c → IsDurable self.new c) }
         ensures proceeds { Proceeds D.Disk self.old number self.new }
         ensures working { OnOk result (self.new.failed ≡ false) }
         ensures settled { OnOk result (IsSettled self.new) }

@@ -37,7 +37,7 @@ use Rattle.file_store.specs.declared.refusal.StoreRefusal.TheVariants.{Memory as
 use Rattle.file_store.specs.Stores.{Store as FileStore, superblock_of, Proceeds}
 use Rattle.hsm_core.specs.Stamps.{stamp_in, stamps_where}
 use Rattle.hsm_core.specs.Store.{Store, last_number, state_of, IsRun}
-use Rattle.hsm_core.specs.Crashes.{IsSafe}
+use Rattle.hsm_core.specs.Crashes.{IsSafe, IsSynced}
 use Rattle.hsm_core.specs.Answers.{entry_of, memory_of, IsAnswer}
 use Rattle.hsm_core.proofs.Syncs.{sync_only, faults_no_sync}
 use Rattle.hsm_core.proofs.Runs.{formatted_as, true_false, IsRun-unkept, IsRun-kept}
@@ -95,7 +95,7 @@ IsNext g s actor action exact left answer t = IsRun t × IsSafe g t × IsAnswer 
 module _ {D : Type 0} (g : disk.Ghosts D) (s t : Store D) (run : IsRun s) (safe : IsSafe g s) (working : s.files.failed ≡ false) (opened : t.opened ≡ s.opened) (proceeds : Proceeds g s.files (last_number s) t.files)
     (actor : Actor) (action : Action) (exact : Answer) (left : State) (answer : Answer) where
   done : IsEvent (superblock_of s.opened) (state_of s) actor action exact left → answer ≡ exact → t.history ≡ s.history ++ entry_of actor action exact ∷ [] → state_of t ≡ left → t.files.failed ≡ false
-      → (is_sync (entry_of actor action exact) ≡ true → (t.files.durable ≡ s.files.held) × (t.files.meta.number ≡ last_number s)) → IsNext g s actor action exact left answer t
+      → (is_sync (entry_of actor action exact) ≡ true → IsSynced g (last_number s) s.files t.files) → IsNext g s actor action exact left answer t
   done is answered history leaves still synced = (
     IsRun-kept g s t run (last_number s) opened proceeds (entry_of actor action exact) working history is.exactly (λ still. (is.faultless, leaves ∙ sym is.leaves)),
     safe_kept g s t run safe working opened proceeds (entry_of actor action exact) history still synced,
@@ -158,7 +158,7 @@ pub record Becomes {D : Type 0} (g : disk.Ghosts D) (s t : Store D) (number : �
   pub stamped : OnOk done (stamp_in t.stamps ≡ stamps)
   pub unstamped : OnErr done (t.stamps ≡ s.stamps)
   pub sessions : t.sessions ≡ s.sessions
-  pub synced : OnOk done (syncs → (t.files.durable ≡ s.files.held) × (t.files.meta.number ≡ number))
+  pub synced : OnOk done (syncs → IsSynced g number s.files t.files)
   pub working : OnOk done (t.files.failed ≡ false)
   pub memory : IsErrOf done NoMemory → (t.files.held ≡ s.files.held) × (t.files.failed ≡ false)
   pub failed : IsErrOf done Failed → (t.files.failed ≡ true) × Rose (g.fault_count s.files.disk) (g.fault_count t.files.disk)

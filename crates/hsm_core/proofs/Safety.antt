@@ -13,7 +13,7 @@ use Rattle.plain_model.specs.Synced.{is_sync, synced}
 use Rattle.plain_model.proofs.Syncing.{synced_laws}
 use Rattle.file_store.specs.Stores.{Store as FileStore, superblock_of, IsRecovered, IsDurable, IsEither, Proceeds}
 use Rattle.hsm_core.specs.Store.{Store, last_number, IsRun}
-use Rattle.hsm_core.specs.Crashes.{IsPrefix, IsUpTo, IsSafe}
+use Rattle.hsm_core.specs.Crashes.{IsPrefix, IsSynced, IsUpTo, IsSafe}
 
 -- ---- prefixes
 
@@ -53,30 +53,22 @@ module _ {D : Type 0} (g : disk.Ghosts D) (s : Store D) (run : IsRun s) where
         (subst (λ (n : ℕ). IsRecovered s.opened.meta.durable.geometry s.opened.meta.fsid n s.files.durable c) up.number (formatted c s.files.meta.number s.files.durable is));
   }
 
-  -- what is held
-  from_held : s.files.failed ≡ false → (c : List ℕ) → IsRecovered s.files.meta.durable.geometry s.files.meta.fsid (last_number s) s.files.held c → IsPrefix s.opened s.history (synced s.history) c
+  -- what is held is what all entries have left
+  from_held : s.files.failed ≡ false → (c : List ℕ) → IsRecovered s.files.meta.durable.geometry s.files.meta.fsid (last_number s) s.files.held c → IsPrefix s.opened s.history (length s.history) c
   from_held working c is = record {
     n = length s.history;
-    from = (synced_laws s.history).within;
+    from = omega arith;
     to = omega arith;
     found = subst (λ (es : List Entry). IsRecovered s.opened.meta.durable.geometry s.opened.meta.fsid (s.opened.meta.number + length s.history) (held_by (superblock_of s.opened) s.opened.meta.number s.opened.held es) c) (sym (all_taken s.history))
         (subst (λ (h : Held). IsRecovered s.opened.meta.durable.geometry s.opened.meta.fsid (s.opened.meta.number + length s.history) h c) (held_now s run working) (formatted c (last_number s) s.files.held is));
   }
 
   either : IsSafe g s → s.files.failed ≡ false → (c : List ℕ) → IsEither s.files (last_number s) c → IsPrefix s.opened s.history (synced s.history) c
-  either safe working c is = ⊎_elim (from_durable (safe.durable working) c) (from_held working c) is
+  either safe working c is = ⊎_elim (from_durable (safe.durable working) c) (λ held. prefix_lower s.opened (length s.history) (synced s.history) s.history c (synced_laws s.history).within (from_held working c held)) is
 
   -- a crash in the next event
   pub safe_within : (t : Store D) → IsSafe g s → s.files.failed ≡ false → Proceeds g s.files (last_number s) t.files → LeavesOnly g s.files.disk t.files.disk (IsPrefix s.opened s.history (synced s.history))
   safe_within t safe working proceeds = weakened g s.files.disk t.files.disk (IsEither s.files (last_number s)) (IsPrefix s.opened s.history (synced s.history)) (either safe working) proceeds.moments
-
-  -- a crash from now on
-  pub safe_now : IsSafe g s → (s.files.failed ≡ false → (c : List ℕ) → MayBe g s.files.disk c → IsDurable s.files c) → (c : List ℕ) → MayBe g s.files.disk c → IsPrefix s.opened s.history (synced s.history) c
-  safe_now safe found c may = at s.files.failed refl
-    where
-      at : (b : Bool) → s.files.failed ≡ b → IsPrefix s.opened s.history (synced s.history) c
-      at true is = safe.failed is c may
-      at false is = from_durable (safe.durable is) c (found is c may)
 
 -- ---- an event more
 
@@ -99,10 +91,10 @@ up_unkept s t run up working opened history (inr new) = record {
 }
 
 -- where an entry was, and a sync or a commit has made all durable
-up_kept : {D : Type 0} (s t : Store D) (e : Entry) → IsRun s → IsUpTo s → s.files.failed ≡ false → t.opened ≡ s.opened → t.history ≡ s.history ++ e ∷ []
-    → (is_sync e ≡ true → (t.files.durable ≡ s.files.held) × (t.files.meta.number ≡ last_number s))
+up_kept : {D : Type 0} (g : disk.Ghosts D) (s t : Store D) (e : Entry) → IsRun s → IsUpTo s → s.files.failed ≡ false → t.opened ≡ s.opened → t.history ≡ s.history ++ e ∷ []
+    → (is_sync e ≡ true → IsSynced g (last_number s) s.files t.files)
     → (t.files.meta.number ≡ s.files.meta.number) × (t.files.durable ≡ s.files.durable) ⊎ (t.files.meta.number ≡ last_number s) × (t.files.durable ≡ s.files.held) → IsUpTo t
-up_kept s t e run up working opened history syncs made = at (is_sync e) refl made
+up_kept g s t e run up working opened history syncs made = at (is_sync e) refl made
   where
     longer : length t.history ≡ length s.history + 1
     longer = omega (arith, ap length history, length-append s.history (e ∷ []))
@@ -120,7 +112,7 @@ up_kept s t e run up working opened history syncs made = at (is_sync e) refl mad
     }
 
     at : (b : Bool) → is_sync e ≡ b → (t.files.meta.number ≡ s.files.meta.number) × (t.files.durable ≡ s.files.durable) ⊎ (t.files.meta.number ≡ last_number s) × (t.files.durable ≡ s.files.held) → IsUpTo t
-    at true is made = whole (omega (arith, counted true is)) (syncs is).1 (syncs is).0
+    at true is made = whole (omega (arith, counted true is)) (syncs is).number (syncs is).durable
     at false is (inr new) = whole (omega (arith, counted false is, (synced_laws s.history).within)) new.0 new.1
     at false is (inl same) = record {
       n = up.n;
@@ -135,27 +127,46 @@ module _ {D : Type 0} (g : disk.Ghosts D) (s t : Store D) (run : IsRun s) (safe 
   moments = joined g s.opened.disk s.files.disk t.files.disk _ safe.since
       (weakened g s.files.disk t.files.disk _ _ (λ c is. prefix_lower s.opened (synced s.history) 0 s.history c (omega arith) (either g s run safe working c is)) proceeds.moments)
 
+  -- from now on, at least what was synced before
+  now_before : (c : List ℕ) → MayBe g t.files.disk c → IsPrefix s.opened s.history (synced s.history) c
+  now_before c may = either g s run safe working c (proceeds.now c may)
+
+  -- and after a sync all that was held
+  now_synced : IsSynced g (last_number s) s.files t.files → (c : List ℕ) → MayBe g t.files.disk c → IsPrefix s.opened s.history (length s.history) c
+  now_synced syncs c may = from_held g s run working c
+      (subst (λ (z : ℕ). IsRecovered z s.files.meta.fsid (last_number s) s.files.held c) proceeds.geometry
+      (subst (λ (z : ℕ). IsRecovered t.files.meta.durable.geometry z (last_number s) s.files.held c) proceeds.fsid
+      (subst (λ (z : ℕ). IsRecovered t.files.meta.durable.geometry t.files.meta.fsid z s.files.held c) syncs.number
+      (subst (λ (h : Held). IsRecovered t.files.meta.durable.geometry t.files.meta.fsid t.files.meta.number h c) syncs.durable (syncs.found c may)))))
+
   pub safe_unkept : t.history ≡ s.history → t.files.failed ≡ false → IsSafe g t
   safe_unkept history still = record {
     since = rw (opened, history) moments;
     durable = λ works. up_unkept s t run (safe.durable working) working opened history proceeds.durable;
-    failed = λ closed. absurd cc;
+    now = rw (opened, history) now_before;
   }
 
-  pub safe_kept : (e : Entry) → t.history ≡ s.history ++ e ∷ [] → t.files.failed ≡ false → (is_sync e ≡ true → (t.files.durable ≡ s.files.held) × (t.files.meta.number ≡ last_number s)) → IsSafe g t
+  -- an entry more, which syncs or not
+  now_kept : (e : Entry) (b : Bool) → is_sync e ≡ b → (is_sync e ≡ true → IsSynced g (last_number s) s.files t.files) → (c : List ℕ) → MayBe g t.files.disk c → IsPrefix s.opened (s.history ++ e ∷ []) (synced (s.history ++ e ∷ [])) c
+  now_kept e true is syncs c may =
+      let count : synced (s.history ++ e ∷ []) ≡ length s.history = (synced_laws s.history).more e ∙ ap (λ b. if b then length s.history else synced s.history) is in
+      rw count (prefix_longer s.opened (length s.history) s.history (e ∷ []) c (now_synced (syncs is) c may))
+  now_kept e false is syncs c may =
+      let count : synced (s.history ++ e ∷ []) ≡ synced s.history = (synced_laws s.history).more e ∙ ap (λ b. if b then length s.history else synced s.history) is in
+      rw count (prefix_longer s.opened (synced s.history) s.history (e ∷ []) c (now_before c may))
+
+  pub safe_kept : (e : Entry) → t.history ≡ s.history ++ e ∷ [] → t.files.failed ≡ false → (is_sync e ≡ true → IsSynced g (last_number s) s.files t.files) → IsSafe g t
   safe_kept e history still syncs = record {
     since = rw (opened, history) (weakened g s.opened.disk t.files.disk _ _ (λ c p. prefix_longer s.opened 0 s.history (e ∷ []) c p) moments);
-    durable = λ works. up_kept s t e run (safe.durable working) working opened history syncs proceeds.durable;
-    failed = λ closed. absurd cc;
+    durable = λ works. up_kept g s t e run (safe.durable working) working opened history syncs proceeds.durable;
+    now = rw (opened, history) (now_kept e (is_sync e) refl syncs);
   }
 
   pub safe_faulted : (e : Entry) → t.history ≡ s.history ++ e ∷ [] → is_sync e ≡ false → t.files.failed ≡ true → IsSafe g t
   safe_faulted e history plain closed = record {
     since = rw (opened, history) (weakened g s.opened.disk t.files.disk _ _ (λ c p. prefix_longer s.opened 0 s.history (e ∷ []) c p) moments);
     durable = λ works. absurd cc;
-    failed = λ closed c may.
-        let count : synced (s.history ++ e ∷ []) ≡ synced s.history = (synced_laws s.history).more e ∙ ap (λ b. if b then length s.history else synced s.history) plain in
-        rw (opened, history, count) (prefix_longer s.opened (synced s.history) s.history (e ∷ []) c (either g s run safe working c (proceeds.now c may)));
+    now = rw (opened, history) (now_kept e (is_sync e) refl (λ syncs. absurd cc));
   }
 
 -- a store that was just opened
@@ -169,7 +180,7 @@ safe_opened g s opened none working held found only_now = record {
     found = rw held (subst (λ (n : ℕ). IsRecovered s.files.meta.durable.geometry s.files.meta.fsid n s.files.durable c) same (found c (inl (only_now c left))));
   }));
   durable = λ works. record { n = 0; from = rw none (omega arith); to = omega arith; number = rw opened same; holds = sym held ∙ rw opened refl };
-  failed = λ closed. absurd cc;
+  now = λ c may. rw (opened, none) (record { n = 0; from = omega arith; to = omega arith; found = rw held (subst (λ (n : ℕ). IsRecovered s.files.meta.durable.geometry s.files.meta.fsid n s.files.durable c) same (found c may)) });
 }
   where
     same : s.files.meta.number ≡ s.files.meta.number + 0

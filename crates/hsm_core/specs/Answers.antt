@@ -26,7 +26,7 @@ use Rattle.plain_model.specs.States.{State, noted, state_after}
 use Rattle.plain_model.specs.Services.{dm_reply_to, dm_state_after}
 use Rattle.file_store.specs.Stores.{superblock_of, Proceeds}
 use Rattle.hsm_core.specs.Store.{Store, last_number, state_of}
-use Rattle.hsm_core.specs.Crashes.{IsPrefix}
+use Rattle.hsm_core.specs.Crashes.{IsPrefix, IsSynced}
 
 abbrev pub entry_of : Actor → Action → Answer → Entry
 entry_of actor action answer = record { actor = actor; action = action; answer = answer }
@@ -75,7 +75,7 @@ pub record IsDone {D : Type 0} (g : disk.Ghosts D) (old : Store D) (actor : Acto
   pub leaves : state_of new ≡ left
   pub still : new.files.failed ≡ false
   -- a sync or a commit has made all durable, under the number of the last entry before it
-  pub synced : is_sync (entry_of actor action exact) ≡ true → (new.files.durable ≡ old.files.held) × (new.files.meta.number ≡ last_number old)
+  pub synced : is_sync (entry_of actor action exact) ≡ true → IsSynced g (last_number old) old.files new.files
 
 -- one of the four
 abbrev pub IsAnswer : {D : Type 0} → disk.Ghosts D → Store D → Actor → Action → Answer → State → Answer → Store D → Type 0

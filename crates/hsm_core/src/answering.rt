@@ -8,6 +8,7 @@ ghost use Rattle.plain_model.specs.State.{names_of, used, judged, done_reply, do
 ghost use Rattle.indexmap.specs.IndexMap.{spare};
 ghost use Rattle.file_store.specs.Stores.{superblock_of, Proceeds};
 ghost use Rattle.hsm_core.specs.Stamps.{stamp_in, stamps_where};
+ghost use Rattle.hsm_core.specs.Crashes.{IsSynced};
 
 use crate::judging::{judge, key_of, size};
 use crate::stamps::{accessed, renew};
@@ -34,7 +35,7 @@ pub(crate) fn answer<D: Disk>(
     ensures held { OnOk result (files.new.held ≡ held_after (superblock_of files.old) files.old.held call.now) }
     ensures stamps { OnOk result (stamp_in stamps.new.entries ≡ stamps_where (judged (superblock_of files.old) files.old.held call.now) (number + 1) files.old.held.files call.now (stamp_in stamps.old.entries)) }
     ensures unstamped { OnErr result (stamps.new.entries ≡ stamps.old.entries) }
-    ensures synced { OnOk result (call.now ≡ Sync → (files.new.durable ≡ files.old.held) × (files.new.meta.number ≡ number)) }
+    ensures synced { OnOk result (call.now ≡ Sync → IsSynced D.Disk number files.old files.new) }
     ensures working { OnOk result (files.new.failed ≡ false) }
     ensures memory { IsErrOf result StoreRefusal.Memory → (files.new.held ≡ files.old.held) × (files.new.failed ≡ false) }
     ensures failed { IsErrOf result StoreRefusal.Disk → (files.new.failed ≡ true) × Rose (D.fault_count files.old.disk) (D.fault_count files.new.disk) }
@@ -66,7 +67,7 @@ fn perform<D: Disk>(
     requires mapped { used files.old.held.files ≤ (superblock_of files.old).geometry.blocks }
     ensures reply { IfOk result (λ r. (r.0 ≡ done_reply files.old.held call.now) × (r.1 ≡ done_reply files.old.held call.now)) }
     ensures held { OnOk result (files.new.held ≡ done_held files.old.held call.now) }
-    ensures synced { OnOk result (call.now ≡ Sync → (files.new.durable ≡ files.old.held) × (files.new.meta.number ≡ number)) }
+    ensures synced { OnOk result (call.now ≡ Sync → IsSynced D.Disk number files.old files.new) }
     ensures working { OnOk result (files.new.failed ≡ false) }
     ensures memory { IsErrOf result StoreRefusal.Memory → (files.new.held ≡ files.old.held) × (files.new.failed ≡ false) }
     ensures failed { IsErrOf result StoreRefusal.Disk → (files.new.failed ≡ true) × Rose (D.fault_count files.old.disk) (D.fault_count files.new.disk) }
@@ -200,7 +201,7 @@ pub(crate) fn commit<D: Disk>(
     requires working { files.old.failed ≡ false }
     ensures reply { IfOk result (λ r. (r.0 ≡ Reply.Done) × (r.1 ≡ Reply.Done)) }
     ensures held { files.new.held ≡ files.old.held }
-    ensures synced { OnOk result ((files.new.durable ≡ files.old.held) × (files.new.meta.number ≡ number)) }
+    ensures synced { OnOk result (IsSynced D.Disk number files.old files.new) }
     ensures working { OnOk result (files.new.failed ≡ false) }
     ensures memory { IsErrOf result StoreRefusal.Memory → files.new.failed ≡ false }
     ensures failed { IsErrOf result StoreRefusal.Disk → (files.new.failed ≡ true) × Rose (D.fault_count files.old.disk) (D.fault_count files.new.disk) }

@@ -11,8 +11,7 @@ ghost use Rattle.file_store.specs.Stores.{IsLawful, IsDurable, Proceeds};
 ghost use Rattle.indexmap.specs.IndexMap.{spare};
 ghost use Rattle.hsm_types.specs.Sessions.{no_sessions};
 ghost use Rattle.hsm_core.specs.Answers.{entry_of, IsAnswered, IsTold, IsCommitted};
-ghost use Rattle.plain_model.specs.Synced.{synced};
-ghost use Rattle.hsm_core.specs.Crashes.{IsPrefix};
+ghost use Rattle.hsm_core.specs.Crashes.{IsPrefix, IsSafeNow};
 ghost use Rattle.hsm_core.specs.Kept.{IsKept};
 
 use crate::answering::{answer, commit};
@@ -216,7 +215,8 @@ impl<D: Disk> Hsm<D> {
     /// Answers a call, and keeps it in the history. `Refused(Memory)` keeps nothing, and nor does `Refused(Disk)` of a store that is closed by a
     /// fault of its disk.
     pub fn issue(&mut self, alloc: Global, caller: CallerId, call: Call) -> Reply
-        ensures { IsAnswered D.Disk self.old caller.0 call result self.new }
+        ensures answered { IsAnswered D.Disk self.old caller.0 call result self.new }
+        ensures safe { IsSafeNow D.Disk self.new }
     {
         if let Err(why) = make_ready(&self.files, &mut self.history, &mut self.stamps) {
             return undone(why);
@@ -233,7 +233,8 @@ impl<D: Disk> Hsm<D> {
 
     /// Answers a session's call, and keeps it in the history. It is refused for want of memory, and by a closed store, as calls are.
     pub fn dm(&mut self, alloc: Global, sid: Sid, call: DmCall) -> DmReply
-        ensures { IsTold D.Disk self.old sid call result self.new }
+        ensures told { IsTold D.Disk self.old sid call result self.new }
+        ensures safe { IsSafeNow D.Disk self.new }
     {
         if let Err(why) = make_ready(&self.files, &mut self.history, &mut self.stamps) {
             return unserved(why);
@@ -251,7 +252,8 @@ impl<D: Disk> Hsm<D> {
 
     /// Makes all durable that is held, and keeps that in the history. It is refused as calls are.
     pub fn commit(&mut self, alloc: Global) -> Reply
-        ensures { IsCommitted D.Disk self.old result self.new }
+        ensures committed { IsCommitted D.Disk self.old result self.new }
+        ensures safe { IsSafeNow D.Disk self.new }
     {
         if let Err(why) = make_ready(&self.files, &mut self.history, &mut self.stamps) {
             return undone(why);
@@ -291,7 +293,7 @@ impl<D: Disk> Hsm<D> {
 
         // What a crash leaves: at any moment since the opening what the first entries have left, and from now on all that was synced.
         ensures since { LeavesOnly D.Disk self.opened.disk self.files.disk (IsPrefix self.opened self.history 0) }
-        ensures now { (c : List ℕ) → MayBe D.Disk self.files.disk c → IsPrefix self.opened self.history (synced self.history) c }
+        ensures now { IsSafeNow D.Disk self }
     {
         exact_is_legal();
         exact_is_once();

@@ -3,9 +3,7 @@ use Rattle.disk_model.specs.Moments.{MayBe, LeavesOnly}
 use Rattle.file_store.specs.Stores.{IsDurable}
 use Rattle.hsm_core.specs.Store.{Store}
 use Rattle.hsm_core.proofs.Runs.{kept}
-use Rattle.hsm_core.specs.Crashes.{IsPrefix}
-use Rattle.hsm_core.proofs.Safety.{safe_now}
-use Rattle.plain_model.specs.Synced.{synced}
+use Rattle.hsm_core.specs.Crashes.{IsPrefix, IsSafeNow}
 use Rattle.hsm_core.proofs.store.Hsm.close.Goals as goal
 
 pub returns-clause-durable : goal.returns-clause-durable
@@ -18,6 +16,4 @@ pub returns-clause-since : goal.returns-clause-since
 returns-clause-since g c = subst (λ (s : Store g.row.D.Denot). LeavesOnly g.D.Disk s.opened.disk s.files.disk (IsPrefix s.opened s.history 0)) c.self.view_is c.self.invariant.1.since
 
 pub returns-clause-now : goal.returns-clause-now
-returns-clause-now g c =
-    subst (λ (s : Store g.row.D.Denot). (i : List ℕ) → MayBe g.D.Disk s.files.disk i → IsPrefix s.opened s.history (synced s.history) i) c.self.view_is
-    (safe_now g.D.Disk _ c.self.invariant.0 c.self.invariant.1 c.close.ensures.durable)
+returns-clause-now g c = subst (λ (s : Store g.row.D.Denot). IsSafeNow g.D.Disk s) c.self.view_is c.self.invariant.1.now

@@ -40,8 +40,8 @@ event g c =
     (subst (λ (old : List Entry). Keeps old TheStore Commit c.commit-done.result c.keep.result c.keep.new.history.items) c.make_ready.ensures.same
     (record { kept = c.keep.ensures.kept; memory = c.keep.ensures.memory; failed = c.keep.ensures.failed }))
 
-pub returns-in-Err : goal.returns-in-Err
-returns-in-Err g c =
+pub returns-in-Err-clause-committed : goal.returns-in-Err-clause-committed
+returns-in-Err-clause-committed g c =
     let s : Store g.row.D.Denot = record { opened = c.self.inside.opened.value; files = c.self.inside.files; stamps = c.self.inside.stamps.entries; sessions = c.self.inside.sessions; history = c.self.inside.history.items } in
     let t : Store g.row.D.Denot = record { opened = c.self.inside.opened.value; files = c.self.inside.files; stamps = c.make_ready.new.stamps.entries; sessions = c.self.inside.sessions; history = c.make_ready.new.history.items } in
     subst (λ (old : Store g.row.D.Denot). IsCommitted g.D.Disk old c.undone.result t) c.self.view_is
@@ -51,5 +51,11 @@ returns-in-Err g c =
 pub invariant_of-self-2 : goal.invariant_of-self-2
 invariant_of-self-2 g c = let next = event g (goal.at.invariant_of-self-2 g c).After-keep in (next.0, next.1, c.self.invariant.2, c.self.invariant.3)
 
-pub returns : goal.returns
-returns g c = subst (λ (old : Store g.row.D.Denot). IsCommitted g.D.Disk old c.keep.result (after g (goal.at.returns g c).After-keep)) c.self.view_is (event g (goal.at.returns g c).After-keep).2
+pub returns-clause-committed : goal.returns-clause-committed
+returns-clause-committed g c = subst (λ (old : Store g.row.D.Denot). IsCommitted g.D.Disk old c.keep.result (after g (goal.at.returns-clause-committed g c).After-keep)) c.self.view_is (event g (goal.at.returns-clause-committed g c).After-keep).2
+
+pub returns-clause-safe : goal.returns-clause-safe
+returns-clause-safe g c = (event g (goal.at.returns-clause-safe g c).After-keep).1.now
+
+pub returns-in-Err-clause-safe : goal.returns-in-Err-clause-safe
+returns-in-Err-clause-safe g c = rw (c.make_ready.ensures.same) c.self.invariant.1.now

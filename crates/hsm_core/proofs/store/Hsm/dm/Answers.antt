@@ -38,8 +38,8 @@ event g c =
     (subst (λ (old : List Entry). IfOk c.serve-done.result (λ r. (c.keep_dm.result ≡ r.0) × (c.keep_dm.new.history.items ≡ old ++ entry_of (Session c.args.sid) (Dm c.args.call) (Told r.1) ∷ []))) c.make_ready.ensures.same c.keep_dm.ensures.kept)
     (subst (λ (old : List Entry). OnErr c.serve-done.result ((c.keep_dm.result ≡ told.Refused dm.Memory) × (c.keep_dm.new.history.items ≡ old))) c.make_ready.ensures.same c.keep_dm.ensures.memory)
 
-pub returns-in-Err : goal.returns-in-Err
-returns-in-Err g c =
+pub returns-in-Err-clause-told : goal.returns-in-Err-clause-told
+returns-in-Err-clause-told g c =
     let s : Store g.row.D.Denot = record { opened = c.self.inside.opened.value; files = c.self.inside.files; stamps = c.self.inside.stamps.entries; sessions = c.self.inside.sessions; history = c.self.inside.history.items } in
     let t : Store g.row.D.Denot = record { opened = c.self.inside.opened.value; files = c.self.inside.files; stamps = c.make_ready.new.stamps.entries; sessions = c.self.inside.sessions; history = c.make_ready.new.history.items } in
     subst (λ (old : Store g.row.D.Denot). IsTold g.D.Disk old c.args.sid c.args.call c.unserved.result t) c.self.view_is
@@ -50,8 +50,14 @@ returns-in-Err g c =
 pub invariant_of-self-2 : goal.invariant_of-self-2
 invariant_of-self-2 g c = let next = event g (goal.at.invariant_of-self-2 g c).After-keep_dm in (next.0, next.1, c.self.invariant.2, c.self.invariant.3)
 
-pub returns : goal.returns
-returns g c = subst (λ (old : Store g.row.D.Denot). IsTold g.D.Disk old c.args.sid c.args.call c.keep_dm.result (after g (goal.at.returns g c).After-keep_dm)) c.self.view_is (event g (goal.at.returns g c).After-keep_dm).2
+pub returns-clause-told : goal.returns-clause-told
+returns-clause-told g c = subst (λ (old : Store g.row.D.Denot). IsTold g.D.Disk old c.args.sid c.args.call c.keep_dm.result (after g (goal.at.returns-clause-told g c).After-keep_dm)) c.self.view_is (event g (goal.at.returns-clause-told g c).After-keep_dm).2
 
 pub serve-done-requires-clause-idle : goal.serve-done-requires-clause-idle
 serve-done-requires-clause-idle g c = c.make_ready.ensures.idle c.in_default.ensures.working
+
+pub returns-clause-safe : goal.returns-clause-safe
+returns-clause-safe g c = (event g (goal.at.returns-clause-safe g c).After-keep_dm).1.now
+
+pub returns-in-Err-clause-safe : goal.returns-in-Err-clause-safe
+returns-in-Err-clause-safe g c = rw (c.make_ready.ensures.same) c.self.invariant.1.now

@@ -45,8 +45,8 @@ event g c =
     (subst (λ (old : List Entry). Keeps old (Caller (record { 0 = c.args.caller.0 })) (Issue c.args.call) c.answer-done.result c.keep.result c.keep.new.history.items) c.make_ready.ensures.same
     (record { kept = c.keep.ensures.kept; memory = c.keep.ensures.memory; failed = c.keep.ensures.failed }))
 
-pub returns-in-Err : goal.returns-in-Err
-returns-in-Err g c =
+pub returns-in-Err-clause-answered : goal.returns-in-Err-clause-answered
+returns-in-Err-clause-answered g c =
     let s : Store g.row.D.Denot = record { opened = c.self.inside.opened.value; files = c.self.inside.files; stamps = c.self.inside.stamps.entries; sessions = c.self.inside.sessions; history = c.self.inside.history.items } in
     let t : Store g.row.D.Denot = record { opened = c.self.inside.opened.value; files = c.self.inside.files; stamps = c.make_ready.new.stamps.entries; sessions = c.self.inside.sessions; history = c.make_ready.new.history.items } in
     subst (λ (old : Store g.row.D.Denot). IsAnswered g.D.Disk old c.args.caller.0 c.args.call c.undone.result t) c.self.view_is
@@ -60,5 +60,11 @@ answer-done-requires-clause-idle g c = c.make_ready.ensures.idle c.in_default.en
 pub invariant_of-self-2 : goal.invariant_of-self-2
 invariant_of-self-2 g c = let next = event g (goal.at.invariant_of-self-2 g c).After-keep in (next.0, next.1, c.self.invariant.2, c.self.invariant.3)
 
-pub returns : goal.returns
-returns g c = subst (λ (old : Store g.row.D.Denot). IsAnswered g.D.Disk old c.args.caller.0 c.args.call c.keep.result (after g (goal.at.returns g c).After-keep)) c.self.view_is (event g (goal.at.returns g c).After-keep).2
+pub returns-clause-answered : goal.returns-clause-answered
+returns-clause-answered g c = subst (λ (old : Store g.row.D.Denot). IsAnswered g.D.Disk old c.args.caller.0 c.args.call c.keep.result (after g (goal.at.returns-clause-answered g c).After-keep)) c.self.view_is (event g (goal.at.returns-clause-answered g c).After-keep).2
+
+pub returns-clause-safe : goal.returns-clause-safe
+returns-clause-safe g c = (event g (goal.at.returns-clause-safe g c).After-keep).1.now
+
+pub returns-in-Err-clause-safe : goal.returns-in-Err-clause-safe
+returns-in-Err-clause-safe g c = rw (c.make_ready.ensures.same) c.self.invariant.1.now
