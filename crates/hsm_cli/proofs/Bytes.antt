@@ -3,7 +3,7 @@ use Rattle.std.proofs.Common.{◌≡◌, ℕ, length-drop, length-append, ◌+�
 use Rattle.std.proofs.lemmas.List.{take-append-le, take_all}
 use Rattle.std.proofs.Math.Seq.{take-add, take-length}
 use Rattle.std.specs.Io.KnownBytes.{Consumes, Appends, IsAtEnd}
-use Rattle.hsm_cli.specs.Sources.{script_bytes, ReadsMore, GivesMore, GivesFirst, GivesWhole}
+use Rattle.hsm_cli.specs.Sources.{script_bytes, ReadsMore, GivesMore, GivesFirst}
 
 -- what was read so far, and then more
 pub read_on : (old mid new : Option (List ℕ)) (bytes more : List ℕ) → Consumes old mid bytes → Consumes mid new more → Consumes old new (bytes ++ more)
@@ -33,21 +33,13 @@ read_enough (Some all) (Some rest) bytes h is =
     let within : length bytes ≤ 409700001 = omega arith in
     rw (h, take-append-le) (sym (take_all 409700001 bytes within))
 
--- what was read so far is all that the source gave
-pub gives_first : (old new : Option (List ℕ)) (bytes : List ℕ) → Consumes old new bytes → length bytes ≤ 409700001 → GivesFirst old new
-gives_first old new bytes h within = record { bytes = bytes; consumed = h; within = within }
-
--- or a part of it, as more was read that wasn't kept
+-- what was read so far, and then more that wasn't kept
 pub gives_part : (old mid new : Option (List ℕ)) (bytes : List ℕ) → Consumes old mid bytes → GivesMore mid new bytes → GivesFirst old new
 gives_part old mid new bytes h more = record {
   bytes = bytes ++ more.more;
   consumed = read_on old mid new bytes more.more h more.consumed;
   within = rw (length-append bytes more.more) more.within;
 }
-
-pub gives_whole : (old new : Option (List ℕ)) (bytes : List ℕ) → Consumes old new bytes → IfSome old (λ all. bytes ≡ script_bytes all) → GivesWhole old new
-gives_whole None new bytes h is = tt
-gives_whole (Some all) new bytes h is = subst (λ (b : List ℕ). Consumes (Some all) new b) is h
 
 -- what was written so far, and then more
 pub written_on : (old mid new : Option (List ℕ)) (bytes more : List ℕ) → Appends old mid bytes → Appends mid new more → Appends old new (bytes ++ more)

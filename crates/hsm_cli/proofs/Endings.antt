@@ -5,8 +5,7 @@ use Rattle.hsm_cli.specs.declared.causes.Cause.{Cause}
 use Rattle.hsm_cli.specs.declared.causes.Cause.TheVariants.{ScriptRefused, WordsRefused, NotStore, Corrupt, ReadFault, WriteFault, DiskFault, HostFault, NoMemory}
 use Rattle.hsm_cli.specs.Follows.{RunsAll, RunsFirst, lines_run}
 use Rattle.hsm_cli.specs.Told.{SourceTold, SinkTold}
-use Rattle.hsm_cli.specs.Sources.{GivesFirst}
-use Rattle.hsm_cli.specs.Clauses.{HasRun, HasRead}
+use Rattle.hsm_cli.specs.Clauses.{HasRun}
 use Rattle.hsm_cli.specs.Endings.{cause_in, WritingEnds, first_of}
 
 module _ (commits : Bool) (source : SourceTold) (history : List Entry) where
@@ -44,18 +43,3 @@ module _ (commits : Bool) (source : SourceTold) (history : List Entry) where
   has_run sink ran (Err ReadFault) writes runs = absurd writes
   has_run sink ran (Err DiskFault) writes runs = absurd writes
   has_run sink ran (Err HostFault) writes runs = absurd writes
-
-pub has_read : (source : SourceTold) (sink : SinkTold) (ran written : Result (Unit {0}) Cause) → IfErr written (WritingEnds sink) → GivesFirst source.given source.left → HasRead source (cause_in ran)
-    → HasRead source (first_of (cause_in ran) (cause_in written))
-has_read source sink (Ok x) (Ok y) writes part reads = reads
-has_read source sink (Err why) (Ok y) writes part reads = reads
-has_read source sink ran (Err NoMemory) writes part reads = part
-has_read source sink (Ok x) (Err WriteFault) writes part reads = reads
-has_read source sink (Err why) (Err WriteFault) writes part reads = reads
-has_read source sink ran (Err (ScriptRefused line)) writes part reads = absurd writes
-has_read source sink ran (Err WordsRefused) writes part reads = absurd writes
-has_read source sink ran (Err NotStore) writes part reads = absurd writes
-has_read source sink ran (Err (Corrupt place)) writes part reads = absurd writes
-has_read source sink ran (Err ReadFault) writes part reads = absurd writes
-has_read source sink ran (Err DiskFault) writes part reads = absurd writes
-has_read source sink ran (Err HostFault) writes part reads = absurd writes
