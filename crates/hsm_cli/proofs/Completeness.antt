@@ -134,6 +134,7 @@ module _ (law : (bytes : List ℕ) (lines : List Line) → IsScript bytes lines 
     why = why_new g (λ _. ⊥) source sink host o.disk o.cause ends;
     forms = can_end_new source sink o.cause ends;
     begun = λ opens. absurd opens;
+    lent = λ is. new.1;
     back = λ names. absurd names;
     opened = rw new.0 tt;
     refused = λ image is. absurd is;
@@ -141,8 +142,8 @@ module _ (law : (bytes : List ℕ) (lines : List Line) → IsScript bytes lines 
   }
 
   pub status_store : (path dir : List ℕ) → o.base ≡ base_of (opened_in o) → o.cause ≢ Some WordsRefused → HasBegun (opened_in o) o.cause → IfSome (opened_in o) (λ s. (s.held ≡ s.durable) × ((image : List ℕ) → holds path image → IsDurable s image))
-      → (o.disk ≡ None → (o.cause ≡ Some HostFault) ⊎ (o.cause ≡ Some NoMemory)) → Why g (holds path) source sink host o.disk o.cause → StatusClause g (Some (ReplayStore path dir)) holds source sink host o
-  status_store path dir base words begun opened back why = record {
+      → (o.cause ≡ Some HostFault → o.disk ≡ None) → (o.disk ≡ None → (o.cause ≡ Some HostFault) ⊎ (o.cause ≡ Some NoMemory)) → Why g (holds path) source sink host o.disk o.cause → StatusClause g (Some (ReplayStore path dir)) holds source sink host o
+  status_store path dir base words begun opened lent back why = record {
     status = told.0;
     place = told.1;
     base = base;
@@ -150,6 +151,7 @@ module _ (law : (bytes : List ℕ) (lines : List Line) → IsScript bytes lines 
     why = why;
     forms = can_end_store path dir o.cause;
     begun = λ opens. begun;
+    lent = lent;
     back = λ names. back;
     opened = opened;
     refused = λ image is nothing. refused_store g (holds path) image is nothing host o.disk (opened_in o) o.cause begun opened source sink why words;

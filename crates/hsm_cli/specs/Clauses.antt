@@ -169,9 +169,10 @@ HostClause holds (Some (ReplayStore path dir)) old new o = HandsOut path (holds 
 
 -- ---- the output clause
 
--- The sink took a beginning of the history's text; all of it, where the sink did not fail and there was memory.
+-- The sink took a beginning of the history's text; all of it, where the run ended well, and where the sink did not fail and there was memory.
 pub record OutputClause {D : Type 0} (o : Outcome D) (sink : SinkTold) : Type 0 where
   pub first : (n : ℕ) × Appends sink.old sink.new (take n (text_of o.history))
+  pub done : o.cause ≡ None → Appends sink.old sink.new (text_of o.history)
   pub all : ¬ (Rose sink.before sink.now) → o.cause ≢ Some NoMemory → Appends sink.old sink.new (text_of o.history)
 
 -- ---- the status clause
@@ -275,7 +276,7 @@ pub record NothingFails {D : Type 0} (g : disk.Ghosts D) (source : SourceTold) (
   pub host_works : ¬ (Rose host.before host.now)
   pub disk_works : ¬ (HasFailed g disk)
 
--- When each status comes. A disk that the host handed out is given back. A run of a command that finds its store and its script, and in which nothing fails, ends with status 0, or 8.
+-- When each status comes. A disk that the host handed out is given back, and the host has failed only where it handed none out. A run of a command that finds its store and its script, and in which nothing fails, ends with status 0, or 8.
 pub record StatusClause {D : Type 0} (g : disk.Ghosts D) (form : Option Form) (holds : List ℕ → List ℕ → Type 0) (source : SourceTold) (sink : SinkTold) (host : HostTold) (o : Outcome D) : Type 0 where
   pub status : o.status ≡ status_of o.cause
   pub place : o.at ≡ place_of o.cause
@@ -284,6 +285,7 @@ pub record StatusClause {D : Type 0} (g : disk.Ghosts D) (form : Option Form) (h
   pub why : Why g (IsNamed form holds) source sink host o.disk o.cause
   pub forms : CanEnd form o.cause
   pub begun : OpensStore form → HasBegun (opened_in o) o.cause
+  pub lent : o.cause ≡ Some HostFault → o.disk ≡ None
   pub back : NamesDisk form → o.disk ≡ None → (o.cause ≡ Some HostFault) ⊎ (o.cause ≡ Some NoMemory)
   pub opened : IfSome (opened_in o) (λ s. (s.held ≡ s.durable) × ((image : List ℕ) → IsNamed form holds image → IsDurable s image))
   pub refused : (image : List ℕ) → IsNamed form holds image → FindsNothing image → ¬ (Rose host.before host.now) → ¬ (HasFailed g o.disk) → TellsStore o.cause ⊎ (o.cause ≡ Some NoMemory)

@@ -1,5 +1,5 @@
 //! A run of a script on an opened store, from the source to the sink.
-ghost use Rattle.std.specs.Prelude.{◌≡◌, ◌≢◌, ℕ, List, true, false, take, Some, IfOk, IfErr, IfSome, OnOk, IsErrOf, MatchResult};
+ghost use Rattle.std.specs.Prelude.{◌≡◌, ◌≢◌, ℕ, List, true, false, take, None, Some, IfOk, IfErr, IfSome, OnOk, IsErrOf, MatchResult};
 ghost use Rattle.std.specs.Io.KnownBytes.{Appends, IsAtEnd};
 ghost use Rattle.disk_model.specs.Calls.{Rose};
 ghost use Rattle.disk_model.specs.Moments.{MayBe, LeavesOnly};
@@ -62,6 +62,7 @@ pub(crate) fn serve<D: Disk, I: Source, O: Sink>(
     ensures since { LeavesOnly D.Disk hsm.opened.disk result.disk (IsPrefix hsm.opened result.history 0) }
     ensures now { (c : List ℕ) → MayBe D.Disk result.disk c → IsPrefix hsm.opened result.history (synced result.history) c }
     ensures first { (n : ℕ) × Appends (O.taken sink.old) (O.taken sink.new) (take n (text_of result.history)) }
+    ensures done { result.cause ≡ None → Appends (O.taken sink.old) (O.taken sink.new) (text_of result.history) }
     ensures all { result.cause ≢ Some Cause.NoMemory → (Rose (O.fault_count sink.old) (O.fault_count sink.new) → ⊥) → Appends (O.taken sink.old) (O.taken sink.new) (text_of result.history) }
     ensures ends { RunEnds (Rose (D.fault_count hsm.opened.disk) (D.fault_count result.disk)) (source_told I.left I.fault_count source.old source.new) (sink_told O.taken O.fault_count sink.old sink.new) result.cause }
 {

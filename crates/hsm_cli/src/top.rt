@@ -62,6 +62,7 @@ fn format<H: Host>(alloc: Global, host: &mut H, path: &str, size: StoreSize) -> 
     ensures unopened { result ≡ record { status = status_of result.cause; at = place_of result.cause; cause = result.cause; base = 0; opening = None; history = []; disk = result.disk } }
     ensures formatted { result.cause ≡ None → IsFormatted H.Disk.Disk (geometry_number size) (fsid_of path.now) result.disk }
     ensures host { HandsOut path.now (H.holds host.old) (H.holds host.new) result.disk }
+    ensures lent { result.cause ≡ Some Cause.HostFault → result.disk ≡ None }
     ensures back { result.disk ≡ None → (result.cause ≡ Some Cause.HostFault) ⊎ (result.cause ≡ Some Cause.NoMemory) }
     ensures ends { FormatEnds (HasFailed H.Disk.Disk result.disk) (host_told H.fault_count host.old host.new) result.cause }
 {
@@ -151,6 +152,7 @@ fn replay_store<H: Host, I: Source, O: Sink>(
     ensures crash { LeavesSafe H.Disk.Disk (H.holds host.old path.now) (opened_in result) result.history result.disk }
     ensures output { OutputClause result (sink_told O.taken O.fault_count sink.old sink.new) }
     ensures host { HandsOut path.now (H.holds host.old) (H.holds host.new) result.disk }
+    ensures lent { result.cause ≡ Some Cause.HostFault → result.disk ≡ None }
     ensures begun { HasBegun (opened_in result) result.cause }
     ensures opened { IfSome (opened_in result) (λ s. (s.held ≡ s.durable) × ((image : List ℕ) → H.holds host.old path.now image → IsDurable s image)) }
     ensures back { result.disk ≡ None → (result.cause ≡ Some Cause.HostFault) ⊎ (result.cause ≡ Some Cause.NoMemory) }

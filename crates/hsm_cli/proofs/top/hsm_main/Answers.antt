@@ -25,4 +25,4 @@ returns-in-Some-ReplayStore-clause-status g c =
     let host : HostTold = host_told g.H.Host.fault_count c.args.host.now c.replay_store.new.host in
     let told = c.replay_store.ensures.told in
     subst (λ (f : Option Form). StatusClause g.H.Disk.Disk f (g.H.Host.holds c.args.host.now) source sink host c.replay_store.result) form
-    (status_store c.one_script.ensures.script g.H.Disk.Disk (g.H.Host.holds c.args.host.now) source sink host c.replay_store.result (told.0, told.1) _ _ told.2 c.replay_store.ensures.command c.replay_store.ensures.begun c.replay_store.ensures.opened c.replay_store.ensures.back c.replay_store.ensures.why)
+    (status_store c.one_script.ensures.script g.H.Disk.Disk (g.H.Host.holds c.args.host.now) source sink host c.replay_store.result (told.0, told.1) _ _ told.2 c.replay_store.ensures.command c.replay_store.ensures.begun c.replay_store.ensures.opened c.replay_store.ensures.lent c.replay_store.ensures.back c.replay_store.ensures.why)
