@@ -98,10 +98,12 @@ pub record HasFailed {D : Type 0} (g : disk.Ghosts D) (given : Option D) : Type 
   pub back : given ≡ Some disk
   pub rose : Rose 0 (g.fault_count disk)
 
--- An answer for a fault of the disk comes only where the disk has failed, and then the run ends for that fault, or for want of memory.
+-- An answer for a fault of the disk comes only where the disk has failed, and then the run ends for that fault, or for want of memory. A run on a store that was opened ends
+-- for a fault of the disk only where an entry says so.
 pub record LegalityClause {D : Type 0} (g : disk.Ghosts D) (o : Outcome D) : Type 0 where
   pub from : IsLegalFrom (opened_in o) o.history
   pub caused : has_fault o.history ≡ true → HasFailed g o.disk
+  pub told : o.cause ≡ Some DiskFault → IsSome (opened_in o) → has_fault o.history ≡ true
   pub faultless : o.cause ≢ Some DiskFault → o.cause ≢ Some NoMemory → has_fault o.history ≡ false
 
 -- Where no digest clashes, the files after each beginning of the history are those that were never moved.

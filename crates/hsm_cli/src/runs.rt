@@ -1,7 +1,8 @@
 //! A script, run on an opened store.
-ghost use Rattle.std.specs.Prelude.{◌≡◌, ◌≢◌, ◌⊎◌, false, OnOk, OnErr, IsErrOf};
+ghost use Rattle.std.specs.Prelude.{◌≡◌, ◌≢◌, ◌⊎◌, true, false, OnOk, OnErr, IsErrOf};
 ghost use Rattle.std.specs.List.{AllByRecursion};
 ghost use Rattle.disk_model.specs.Calls.{Rose};
+ghost use Rattle.plain_model.specs.Faults.{has_fault};
 ghost use Rattle.script_text.specs.Lines.{IsLine};
 ghost use Rattle.hsm_cli.specs.Follows.{Follows, FollowsFirst, AddsPart, lines_run};
 ghost use Rattle.hsm_cli.specs.Runs.{IsOpenedAnew, GoesOn};
@@ -34,6 +35,7 @@ pub(crate) fn run<D: Disk>(
     ensures working { OnOk result (hsm.new.files.failed ≡ false) }
     ensures memory { IsErrOf result Stop.Memory → hsm.new.files.failed ≡ false }
     ensures disk { IsErrOf result Stop.Disk → Rose (D.fault_count hsm.old.files.disk) (D.fault_count hsm.new.files.disk) }
+    ensures fault { IsErrOf result Stop.Disk → has_fault hsm.new.history ≡ true }
 {
     let mut lines = script.into_vec();
     if commits {
@@ -59,6 +61,7 @@ fn run_lines<D: Disk>(alloc: Global, hsm: &mut Hsm<D>, lines: Vec<Line>) -> Resu
     ensures working { OnOk result (hsm.new.files.failed ≡ false) }
     ensures memory { IsErrOf result Stop.Memory → hsm.new.files.failed ≡ false }
     ensures disk { IsErrOf result Stop.Disk → Rose (D.fault_count hsm.old.files.disk) (D.fault_count hsm.new.files.disk) }
+    ensures fault { IsErrOf result Stop.Disk → has_fault hsm.new.history ≡ true }
 {
     for line in lines {
         run_line(alloc, hsm, line)?;
@@ -67,6 +70,7 @@ fn run_lines<D: Disk>(alloc: Global, hsm: &mut Hsm<D>, lines: Vec<Line>) -> Resu
 }
 
 /// Makes the events of a line.
+#[tactic(auto, using(crate::proofs::Running::fault_kept))]
 fn run_line<D: Disk>(alloc: Global, hsm: &mut Hsm<D>, line: Line) -> Result<(), Stop>
     requires lawful { IsLine line }
     requires working { hsm.old.files.failed ≡ false }
@@ -76,6 +80,7 @@ fn run_line<D: Disk>(alloc: Global, hsm: &mut Hsm<D>, line: Line) -> Result<(), 
     ensures err { OnErr result ((hsm.new.history ≡ hsm.old.history) ⊎ AddsPart line hsm.old.history hsm.new.history) }
     ensures memory { IsErrOf result Stop.Memory → hsm.new.files.failed ≡ false }
     ensures disk { IsErrOf result Stop.Disk → Rose (D.fault_count hsm.old.files.disk) (D.fault_count hsm.new.files.disk) }
+    ensures fault { IsErrOf result Stop.Disk → has_fault hsm.new.history ≡ true }
 {
     let Line::Event { actor, action, .. } = line;
     match (actor, action) {

@@ -57,6 +57,7 @@ pub(crate) fn serve<D: Disk, I: Source, O: Sink>(
     ensures reading { HasRead (source_told I.left I.fault_count source.old source.new) result.cause }
     ensures legality { IsLegalFrom (Some hsm.opened) result.history }
     ensures caused { has_fault result.history ≡ true → Rose (D.fault_count hsm.opened.disk) (D.fault_count result.disk) }
+    ensures told { result.cause ≡ Some Cause.DiskFault → has_fault result.history ≡ true }
     ensures faultless { result.cause ≢ Some Cause.DiskFault → result.cause ≢ Some Cause.NoMemory → has_fault result.history ≡ false }
     ensures plain { IsPlainFrom (Some hsm.opened) result.history }
     ensures since { LeavesOnly D.Disk hsm.opened.disk result.disk (IsPrefix hsm.opened result.history 0) }
@@ -93,6 +94,7 @@ fn run_script<D: Disk, I: Source>(
     ensures part { GivesFirst (I.left source.old) (I.left source.new) }
     ensures ends { IfErr result (λ why. ScriptEnds (Rose (D.fault_count hsm.old.files.disk) (D.fault_count hsm.new.files.disk)) (source_told I.left I.fault_count source.old source.new) why) }
     ensures failed { hsm.new.files.failed ≡ true → IsErrOf result Cause.DiskFault }
+    ensures fault { IsErrOf result Cause.DiskFault → has_fault hsm.new.history ≡ true }
 {
     let script = read_script(alloc, source)?;
     match run(alloc, hsm, script, commits) {
