@@ -1,6 +1,6 @@
 -- A file that is found by name is found by key.
-use Rattle.std.proofs.Common.{◌≡◌, ℕ, List, [], ◌∷◌, true, false, cond, eqb, Option, Some, None, IfSome, refl, ap}
-use Rattle.std.specs.Option.{IsSome, option_map}
+use Rattle.std.proofs.Common.{◌≡◌, ℕ, List, [], ◌∷◌, true, false, cond, eqb, Option, Some, None, refl, ap}
+use Rattle.std.specs.Option.{IsSome}
 use Rattle.std.specs.Str.{bytes_eq}
 use Rattle.std.proofs.lemmas.Bool.{cond_both, eq-eqb, and_from}
 use Rattle.hsm_types.specs.declared.keys.FileKey.{FileKey}
@@ -23,8 +23,3 @@ named_held name l (f ∷ fs) found =
           rw same refl
       | false ↦ λ is. cond_both (same_key f.key l.key) (Some f) (find_key (λ x. x.key) l.key fs) P (λ same. refl) (λ other. named_held name l fs is)
     ] found
-
--- the key that a look-up by name gives is live
-pub found_live : (o : Option Listed) (r : Option FileKey) (name : List ℕ) (fs : List FileState) → named name (names_of fs) ≡ o → r ≡ option_map (λ l. l.key) o → IfSome r (λ key. IsSome (find_key (λ f. f.key) key fs))
-found_live None r name fs is found = rw found tt
-found_live (Some l) r name fs is found = rw found (named_held name l fs is)
