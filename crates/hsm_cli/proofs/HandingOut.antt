@@ -2,6 +2,7 @@
 use Rattle.std.proofs.Common.{◌≡◌, ◌∙◌, ℕ, List, None, Result, Ok, Err, OnOk, option_map, ap, sym}
 use Rattle.std.specs.FinMap.{remove}
 use Rattle.disk_model.specs.Images.{Alike}
+use Rattle.disk_model.specs.Calls.{raised}
 use Rattle.disk_model.specs.Fuse.{Fused}
 use Rattle.disk_model.specs.Medium.{Recorded, medium_of}
 use Rattle.hsm_cli.specs.declared.hosts.HostRefusal.{HostRefusal}
@@ -44,3 +45,13 @@ module _ (name : List ℕ) (old new : Hosted) where
   Gives-others (Ok d) gives = others name old new (ap (λ h. h.disks) gives.2)
   Gives-others (Err Failed) gives = all name old new (ap (λ h. h.disks) gives.1)
   Gives-others (Err Memory) gives = absurd gives
+
+  pub Makes-called : (len : ℕ) (result : Result (Fused Recorded) HostRefusal) → Makes name len old new result → new.calls ≡ raised old.calls
+  Makes-called len (Ok d) makes = ap (λ h. h.calls) makes.2
+  Makes-called len (Err Failed) makes = ap (λ h. h.calls) makes.1
+  Makes-called len (Err Memory) makes = ap (λ h. h.calls) makes.1
+
+  pub Gives-called : (result : Result (Fused Recorded) HostRefusal) → Gives name old new result → new.calls ≡ raised old.calls
+  Gives-called (Ok d) gives = ap (λ h. h.calls) gives.2
+  Gives-called (Err Failed) gives = ap (λ h. h.calls) gives.1
+  Gives-called (Err Memory) gives = absurd gives

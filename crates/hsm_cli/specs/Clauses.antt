@@ -2,7 +2,7 @@
 use Rattle.std.specs.Prelude.{ℕ, ◌≡◌, ◌≢◌, ◌⊎◌, ◌↔◌, List, [], take, Bool, true, false, Option, Some, None, IfSome, IsSome}
 use Rattle.std.specs.Io.KnownBytes.{Appends, IsAtEnd}
 use Rattle.disk_model.specs.declared.device.Disk as disk
-use Rattle.disk_model.specs.Calls.{Rose}
+use Rattle.disk_model.specs.Calls.{Rose, raised}
 use Rattle.disk_model.specs.Moments.{MayBe, LeavesOnly, Keeps, Same}
 use Rattle.commit_slots.specs.Images.{IsStore, IsEmptyStore}
 use Rattle.meta_store.specs.Images.{IsCorruptAt}
@@ -157,17 +157,17 @@ FormatClause g None o = Unit {0}
 
 -- ---- the host clause
 
--- The host handed out the disk of that name, and holds all others as before; or it handed out none, and holds all as before.
+-- A disk came, and the host has none under that name any more and holds all others as before; or none came, and it holds all as before.
 abbrev pub HandsOut : {D : Type 0} → List ℕ → (List ℕ → List ℕ → Type 0) → (List ℕ → List ℕ → Type 0) → Option D → Type 0
 HandsOut path old new (Some disk) = HoldsNothing (new path) × HoldsOthers path old new
 HandsOut path old new None = HoldsAll old new
 
--- What the host handed out is given back, and nothing else of it changes. Words that name no disk leave the host alone.
-abbrev pub HostClause : {H D : Type 0} → (H → List ℕ → List ℕ → Type 0) → Option Form → H → H → Outcome D → Type 0
-HostClause holds None old new o = (new ≡ old) × (o.disk ≡ None)
-HostClause holds (Some Replay) old new o = (new ≡ old) × (o.disk ≡ None)
-HostClause holds (Some (Format path size)) old new o = HandsOut path (holds old) (holds new) o.disk
-HostClause holds (Some (ReplayStore path dir)) old new o = HandsOut path (holds old) (holds new) o.disk
+-- Words that name a disk ask the host once, and change nothing else of what it holds; what came of it is given back. Words that name none leave the host alone.
+abbrev pub HostClause : {H D : Type 0} → (H → List ℕ → List ℕ → Type 0) → (H → ℕ) → Option Form → H → H → Outcome D → Type 0
+HostClause holds calls None old new o = (new ≡ old) × (o.disk ≡ None)
+HostClause holds calls (Some Replay) old new o = (new ≡ old) × (o.disk ≡ None)
+HostClause holds calls (Some (Format path size)) old new o = HandsOut path (holds old) (holds new) o.disk × (calls new ≡ raised (calls old))
+HostClause holds calls (Some (ReplayStore path dir)) old new o = HandsOut path (holds old) (holds new) o.disk × (calls new ≡ raised (calls old))
 
 -- ---- the output clause
 

@@ -128,23 +128,28 @@ impl LockFile for File {
 #[derive(Drop)]
 pub struct FileHost<R> {
     files: R,
+    calls: u64,
     faults: u64,
 }
 
 impl<R> Model for FileHost<R> {
-    ghost use Rattle.std.specs.Prelude.{ℕ};
+    ghost use Rattle.hsm_cli.specs.FileDisks.{HostSeen};
 
-    ghost Value = { ℕ };
+    ghost Value = { HostSeen };
 
-    ghost view = { λ h. h.faults };
+    ghost view = { λ h. record { calls = h.calls; faults = h.faults } };
 }
 
 impl<R: Files> FileHost<R> {
-    /// No fault so far.
+    /// No call and no fault so far.
     pub fn new(files: R) -> FileHost<R>
-        ensures { result ≡ 0 }
+        ensures { result ≡ record { calls = 0; faults = 0 } }
     {
-        FileHost { files, faults: 0 }
+        FileHost {
+            files,
+            calls: 0,
+            faults: 0,
+        }
     }
 }
 
@@ -156,13 +161,16 @@ where
 
     ghost holds = { λ h name c. ⊥ };
 
-    ghost fault_count = { λ h. h };
+    ghost fault_count = { λ h. h.faults };
+
+    ghost call_count = { λ h. h.calls };
 
     fn faults(&self) -> u64 {
         self.faults
     }
 
     fn make(&mut self, path: &str, len: u64) -> Result<FileDisk<R::File>, HostRefusal> {
+        self.calls = self.calls.saturating_add(1);
         match create_file(&self.files, path, len) {
             Ok(file) => Ok(FileDisk::new(file, len)),
             Err(why) => Err(refusal(&why, &mut self.faults)),
@@ -170,6 +178,7 @@ where
     }
 
     fn disk(&mut self, path: &str) -> Result<FileDisk<R::File>, HostRefusal> {
+        self.calls = self.calls.saturating_add(1);
         match open_file(&self.files, path) {
             Ok((file, len)) => Ok(FileDisk::new(file, len)),
             Err(why) => Err(refusal(&why, &mut self.faults)),

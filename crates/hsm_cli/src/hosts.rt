@@ -28,6 +28,9 @@ pub trait Host {
     /// How often the host has failed. The count stops at the greatest u64.
     ghost fault_count: { Self → ℕ };
 
+    /// How often it was asked for a disk, as far as a u64 counts.
+    ghost call_count: { Self → ℕ };
+
     /// How often a call has failed.
     fn faults(&self) -> u64
         ensures { result ≡ fault_count self.now };
@@ -41,6 +44,7 @@ pub trait Host {
         ensures gone { OnOk result (HoldsNothing (holds self.new path.now)) }
         ensures others { HoldsOthers path.now (holds self.old) (holds self.new) }
         ensures refused { OnErr result (HoldsAll (holds self.old) (holds self.new)) }
+        ensures called { call_count self.new ≡ raised (call_count self.old) }
         ensures cause { HasHostCause result (fault_count self.old) (fault_count self.new) };
 
     /// The disk of that name, or `Failed` where there is none. The host has it no more until it is put back.
@@ -51,6 +55,7 @@ pub trait Host {
         ensures gone { OnOk result (HoldsNothing (holds self.new path.now)) }
         ensures others { HoldsOthers path.now (holds self.old) (holds self.new) }
         ensures refused { OnErr result (HoldsAll (holds self.old) (holds self.new)) }
+        ensures called { call_count self.new ≡ raised (call_count self.old) }
         ensures cause { HasHostCause result (fault_count self.old) (fault_count self.new) };
 }
 

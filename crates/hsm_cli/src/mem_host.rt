@@ -130,7 +130,7 @@ impl MemHost {
 impl Host for MemHost {
     ghost use Rattle.std.specs.Prelude.{◌≡◌, ℕ, List, IfOk, OnOk, OnErr, length, replicate};
     ghost use Rattle.disk_model.specs.Images.{Within};
-    ghost use Rattle.disk_model.specs.Calls.{both_faults};
+    ghost use Rattle.disk_model.specs.Calls.{both_faults, raised};
     ghost use Rattle.disk_model.specs.Medium.{medium_of, IsGiven, MayLeave};
     ghost use Rattle.hsm_cli.specs.Hosts.{HoldsNothing, HoldsOthers, HoldsAll, HasHostCause};
     ghost use Rattle.hsm_cli.specs.MemHosts.{HasImage, Makes, Gives};
@@ -140,6 +140,8 @@ impl Host for MemHost {
     ghost holds = { HasImage };
 
     ghost fault_count = { λ h. h.faults };
+
+    ghost call_count = { λ h. h.calls };
 
     fn faults(&self) -> u64 {
         self.faults
@@ -153,6 +155,7 @@ impl Host for MemHost {
         ensures gone { OnOk result (HoldsNothing (HasImage self.new path.now)) }
         ensures others { HoldsOthers path.now (HasImage self.old) (HasImage self.new) }
         ensures refused { OnErr result (HoldsAll (HasImage self.old) (HasImage self.new)) }
+        ensures called { self.new.calls ≡ raised self.old.calls }
         ensures cause { HasHostCause result self.old.faults self.new.faults }
         ensures makes { Makes path.now len self.old self.new result }
     {
@@ -166,6 +169,7 @@ impl Host for MemHost {
         ensures gone { OnOk result (HoldsNothing (HasImage self.new path.now)) }
         ensures others { HoldsOthers path.now (HasImage self.old) (HasImage self.new) }
         ensures refused { OnErr result (HoldsAll (HasImage self.old) (HasImage self.new)) }
+        ensures called { self.new.calls ≡ raised self.old.calls }
         ensures cause { HasHostCause result self.old.faults self.new.faults }
         ensures gives { Gives path.now self.old self.new result }
     {

@@ -1,6 +1,7 @@
 //! The top call.
 ghost use Rattle.std.specs.Prelude.{◌≡◌, ◌≢◌, ◌⊎◌, ℕ, List, [], map, true, false, Some, None, IfOk, IfSome};
 ghost use Rattle.std.specs.String.{string_bytes};
+ghost use Rattle.disk_model.specs.Calls.{raised};
 ghost use Rattle.plain_model.specs.Faults.{has_fault};
 ghost use Rattle.plain_model.specs.State.{nothing_held};
 ghost use Rattle.file_store.specs.Stores.{superblock_of, IsDurable};
@@ -44,7 +45,7 @@ pub fn hsm_main<H: Host, I: Source, O: Sink>(
     ensures plain { PlainClause result }
     ensures crash { CrashClause H.Disk.Disk (form_of (map string_bytes words.now)) (H.holds host.old) result }
     ensures format { FormatClause H.Disk.Disk (form_of (map string_bytes words.now)) result }
-    ensures host { HostClause H.holds (form_of (map string_bytes words.now)) host.old host.new result }
+    ensures host { HostClause H.holds H.call_count (form_of (map string_bytes words.now)) host.old host.new result }
     ensures output { OutputClause result (sink_told O.taken O.fault_count sink.old sink.new) }
     ensures status { StatusClause H.Disk.Disk (form_of (map string_bytes words.now)) (H.holds host.old) (source_told I.left I.fault_count source.old source.new) (sink_told O.taken O.fault_count sink.old sink.new) (host_told H.fault_count host.old host.new) result }
 {
@@ -62,6 +63,7 @@ fn format<H: Host>(alloc: Global, host: &mut H, path: &str, size: StoreSize) -> 
     ensures unopened { result ≡ record { status = status_of result.cause; at = place_of result.cause; cause = result.cause; base = 0; opening = None; history = []; disk = result.disk } }
     ensures formatted { result.cause ≡ None → IsFormatted H.Disk.Disk (geometry_number size) (fsid_of path.now) result.disk }
     ensures host { HandsOut path.now (H.holds host.old) (H.holds host.new) result.disk }
+    ensures asked { H.call_count host.new ≡ raised (H.call_count host.old) }
     ensures lent { result.cause ≡ Some Cause.HostFault → result.disk ≡ None }
     ensures back { result.disk ≡ None → (result.cause ≡ Some Cause.HostFault) ⊎ (result.cause ≡ Some Cause.NoMemory) }
     ensures ends { FormatEnds (HasFailed H.Disk.Disk result.disk) (host_told H.fault_count host.old host.new) result.cause }
@@ -152,6 +154,7 @@ fn replay_store<H: Host, I: Source, O: Sink>(
     ensures crash { LeavesSafe H.Disk.Disk (H.holds host.old path.now) (opened_in result) result.history result.disk }
     ensures output { OutputClause result (sink_told O.taken O.fault_count sink.old sink.new) }
     ensures host { HandsOut path.now (H.holds host.old) (H.holds host.new) result.disk }
+    ensures asked { H.call_count host.new ≡ raised (H.call_count host.old) }
     ensures lent { result.cause ≡ Some Cause.HostFault → result.disk ≡ None }
     ensures begun { HasBegun (opened_in result) result.cause }
     ensures opened { IfSome (opened_in result) (λ s. (s.held ≡ s.durable) × ((image : List ℕ) → H.holds host.old path.now image → IsDurable s image)) }

@@ -133,28 +133,36 @@ fn is_too_short<D: Disk>(disk: &mut D) -> bool {
     six_bytes(disk).is_none() && disk.faults() == 1
 }
 
-/// Whether a disk of ten bytes is made of the path, which gives a fault once the file is shorter.
+/// Whether a disk of ten bytes is made of the path, which nobody else gets as long as it is there.
 fn is_made<H: Host>(host: &mut H, path: &str) -> bool {
     let Ok(mut disk) = host.make(path, 10) else {
         return false;
     };
-    let is_cut = is_disk(&mut disk) && length_made(host, path, 5) == Some(5);
-    is_cut && is_too_short(&mut disk)
+    let is_ours = length_made(host, path, 5).is_none() && length_of(host, path).is_none();
+    is_ours && is_disk(&mut disk)
 }
 
-/// Whether a path where nothing is yet is a fault, and a disk once one was made.
+/// Whether a path where nothing is yet is a fault, and a disk once one was made. There are three faults then.
 fn opens<H: Host>(host: &mut H, path: &str) -> bool {
     length_of(host, path).is_none()
         && is_made(host, path)
-        && length_of(host, path) == Some(5)
-        && host.faults() == 1
+        && length_of(host, path) == Some(10)
+        && host.faults() == 3
 }
 
 /// Whether a folder is no disk, and none is made of it. These are two faults more.
 fn refuses<H: Host>(host: &mut H, folder: &str) -> bool {
     length_of(host, folder).is_none()
         && length_made(host, folder, 1).is_none()
-        && host.faults() == 3
+        && host.faults() == 5
+}
+
+/// Whether a file that becomes shorter than its disk is a fault.
+fn is_cut(rt: &HostRuntime, path: &str) -> bool {
+    match FileHost::new(rt).disk(path) {
+        Ok(mut disk) => fs::write(rt, path, "short").is_ok() && is_too_short(&mut disk),
+        Err(_) => false,
+    }
 }
 
 fn assert_serves<H: Host>(rt: &impl Abort, host: &mut H, path: &str, folder: &str) {
@@ -167,6 +175,7 @@ fn a_file_is_a_disk(rt: HostRuntime) -> Result<(), Fail> {
     let path = path_of(&rt, "disk")?;
     let folder = env::temp_dir(&rt)?;
     assert_serves(&rt, &mut FileHost::new(&rt), path.as_str(), folder.as_str());
+    assert!(rt; is_cut(&rt, path.as_str()));
     fs::remove_file(&rt, path.as_str())?;
     Ok(())
 }
