@@ -7,12 +7,12 @@ use Rattle.std.specs.Map.{keys_of, lookup, remove_entry}
 use Rattle.indexmap.specs.IndexMap.{insert_entry}
 use Rattle.hsm_types.specs.declared.keys.Sid.{Sid}
 use Rattle.hsm_types.specs.Refusals.{first_refusal}
-use Rattle.hsm_types.specs.Sessions.{SessionTable, same_sid, creation_refusal, no_session, bad_info, too_many_sessions, with_session}
+use Rattle.hsm_types.specs.Sessions.{LiveSession, SessionTable, same_sid, creation_refusal, no_session, bad_info, too_many_sessions, with_session}
 use Rattle.hsm_types.specs.declared.dm.DmRefusal.TheVariants.{NoSession, TooMany}
 use Rattle.dm_sessions.specs.Tables.{Ascend, IsTable}
 
 abbrev Live : Type 0
-Live = List (Sid × List ℕ)
+Live = List (Sid × LiveSession)
 
 -- ---- one session less
 
@@ -42,7 +42,7 @@ table-without test given live is = record {
 
 -- ---- one session more
 
-Ascend-push : (low high next : ℕ) (info : List ℕ) (live : Live) → Ascend low high live → low < next → high < next → Ascend low next (live ++ (record { 0 = next }, info) ∷ [])
+Ascend-push : (low high next : ℕ) (info : LiveSession) (live : Live) → Ascend low high live → low < next → high < next → Ascend low next (live ++ (record { 0 = next }, info) ∷ [])
 Ascend-push low high next info [] h above new = (above, omega arith, tt)
 Ascend-push low high next info (s ∷ rest) h above new = let within = h.1 in (h.0, omega arith, Ascend-push s.0.0 high next info rest h.2 (omega arith) new)
 
@@ -54,7 +54,7 @@ lookup-absent sid low high (s ∷ rest) h above =
     let other : eqb sid.0 s.0.0 ≡ false = grind (arith, nat_tests) in
     rw other (lookup-absent sid s.0.0 high rest h.2 above)
 
-insert_entry-last : (sid : Sid) (info : List ℕ) (low high : ℕ) (live : Live) → Ascend low high live → high < sid.0 → insert_entry same_sid live sid info ≡ live ++ (sid, info) ∷ []
+insert_entry-last : (sid : Sid) (info : LiveSession) (low high : ℕ) (live : Live) → Ascend low high live → high < sid.0 → insert_entry same_sid live sid info ≡ live ++ (sid, info) ∷ []
 insert_entry-last sid info low high [] h above = refl
 insert_entry-last sid info low high (s ∷ rest) h above =
     let within = h.1 in
@@ -63,7 +63,7 @@ insert_entry-last sid info low high (s ∷ rest) h above =
 
 -- ---- one session in the place of another
 
-remove_entry-push : (old sid : Sid) (info : List ℕ) (live : Live) → eqb old.0 sid.0 ≡ false → remove_entry (same_sid old) (live ++ (sid, info) ∷ []) ≡ remove_entry (same_sid old) live ++ (sid, info) ∷ []
+remove_entry-push : (old sid : Sid) (info : LiveSession) (live : Live) → eqb old.0 sid.0 ≡ false → remove_entry (same_sid old) (live ++ (sid, info) ∷ []) ≡ remove_entry (same_sid old) live ++ (sid, info) ∷ []
 remove_entry-push old sid info [] other = rw other refl
 remove_entry-push old sid info (s ∷ rest) other =
     elim (same_sid old s.0) as (λ (b : Bool). cond b (rest ++ (sid, info) ∷ []) (s ∷ remove_entry (same_sid old) (rest ++ (sid, info) ∷ [])) ≡ cond b rest (s ∷ remove_entry (same_sid old) rest) ++ (sid, info) ∷ []) [
@@ -136,24 +136,24 @@ room old info given live is none = go (eqb old.0 0) refl
         omega arith
 
 module _ (old : Sid) (info : List ℕ) (given next : ℕ) (live after : Live) (is : IsTable given live) (none : creation_refusal old info (table given live) ≡ None)
-    (follows : next ≡ given + 1) (made : after ≡ remove_entry (same_sid old) (insert_entry same_sid live (record { 0 = next }) info)) where
-  live-with : after ≡ remove_entry (same_sid old) live ++ (record { 0 = next }, info) ∷ []
+    (follows : next ≡ given + 1) (made : after ≡ remove_entry (same_sid old) (insert_entry same_sid live (record { 0 = next }) (record { info = info }))) where
+  live-with : after ≡ remove_entry (same_sid old) live ++ (record { 0 = next }, record { info = info }) ∷ []
   live-with =
       made
-      ∙ ap (remove_entry (same_sid old)) (insert_entry-last (record { 0 = next }) info 0 given live is.ascend (omega arith))
-      ∙ remove_entry-push old (record { 0 = next }) info live (rw follows (new-differs old info given live is none))
+      ∙ ap (remove_entry (same_sid old)) (insert_entry-last (record { 0 = next }) (record { info = info }) 0 given live is.ascend (omega arith))
+      ∙ remove_entry-push old (record { 0 = next }) (record { info = info }) live (rw follows (new-differs old info given live is none))
 
   pub is-with_session : table next after ≡ with_session old info (table given live)
   is-with_session =
-      let last = ap (λ (n : ℕ). remove_entry (same_sid old) live ++ (record { 0 = n }, info) ∷ []) follows in
+      let last = ap (λ (n : ℕ). remove_entry (same_sid old) live ++ (record { 0 = n }, record { info = info }) ∷ []) follows in
       λ i. record { given = follows i; live = (live-with ∙ last) i }
 
   pub table-with : IsTable next after
   table-with =
       let kept = Ascend-remove (same_sid old) 0 given live is.ascend in
       rw live-with (record {
-        ascend = Ascend-push 0 given next info (remove_entry (same_sid old) live) kept (omega arith) (omega arith);
-        few = let fits = room old info given live is none in omega (arith, length-append (remove_entry (same_sid old) live) ((record { 0 = next }, info) ∷ []));
+        ascend = Ascend-push 0 given next (record { info = info }) (remove_entry (same_sid old) live) kept (omega arith) (omega arith);
+        few = let fits = room old info given live is none in omega (arith, length-append (remove_entry (same_sid old) live) ((record { 0 = next }, record { info = info }) ∷ []));
       })
 
 -- ---- the ids in their order

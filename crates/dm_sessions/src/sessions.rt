@@ -3,7 +3,7 @@ ghost use Rattle.std.specs.Prelude.{◌≡◌, [], None, IsSome, IfOk, IfErr, On
 ghost use Rattle.std.specs.Option.{option_copied};
 ghost use Rattle.std.specs.List.Sorted.{IsStrictlyIncreasing};
 ghost use Rattle.std.specs.Map.{keys_of};
-ghost use Rattle.hsm_types.specs.Sessions.{info_of, creation_refusal, no_sessions, next_sid, with_session, without_session};
+ghost use Rattle.hsm_types.specs.Sessions.{lives, info_of, creation_refusal, no_sessions, next_sid, with_session, without_session};
 ghost use Rattle.hsm_types.specs.declared.dm.DmRefusal.TheVariants.{NoSession, Memory};
 
 use hsm_types::{DmRefusal, INFO_BYTES, LIVE_SESSIONS, Sid, Sids, Word};
@@ -11,11 +11,25 @@ use indexmap::IndexMap;
 use std::alloc::{AllocError, Global};
 use std::marker::Model;
 
+/// A live session.
+#[derive(Drop)]
+struct LiveSession {
+    info: Word,
+}
+
+impl Model for LiveSession {
+    ghost use Rattle.hsm_types.specs.Sessions.{LiveSession};
+
+    ghost Value = { LiveSession };
+
+    ghost view = { λ s. record { info = s.info } };
+}
+
 /// The live sessions by id, in the order of their ids. An id is given once.
 #[derive(Drop)]
 pub struct Sessions {
     given: u64,
-    live: IndexMap<Sid, Word>,
+    live: IndexMap<Sid, LiveSession>,
 }
 
 impl Model for Sessions {
@@ -49,7 +63,9 @@ impl Sessions {
         self.judge(old, &info)?;
         let next = self.given.checked_add(1).ok_or(DmRefusal::Memory)?;
         let sid = Sid(next);
-        self.live.insert(sid, info).map_err(|_| DmRefusal::Memory)?;
+        self.live
+            .insert(sid, LiveSession { info })
+            .map_err(|_| DmRefusal::Memory)?;
         let _old = self.live.shift_remove(&old);
         self.given = next;
         Ok(sid)
@@ -96,10 +112,20 @@ impl Sessions {
         Ok(Sids::from(ids))
     }
 
+    /// Whether a session with that id lives.
+    pub fn is_live(&self, sid: Sid) -> bool
+        ensures { result ≡ lives sid self.now }
+    {
+        self.live.contains_key(&sid)
+    }
+
     /// The information of a live session.
     pub fn info(&self, sid: Sid) -> Option<&Word>
         ensures { option_copied result ≡ info_of sid self.now }
     {
-        self.live.get(&sid)
+        match self.live.get(&sid) {
+            Some(session) => Some(&session.info),
+            None => None,
+        }
     }
 }

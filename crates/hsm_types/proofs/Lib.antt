@@ -1,1 +1,3 @@
 pub mod HandleBytes
+mod Finding
+pub mod Forming

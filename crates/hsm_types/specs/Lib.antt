@@ -1,6 +1,12 @@
+pub mod Answers
 pub mod Attributes
+pub mod Callers
+pub mod Calls
+pub mod Forms
 pub mod Handles
+pub mod Kept
 pub mod Names
+pub mod Parts
 pub mod Refusals
 pub mod Regions
 pub mod Sessions

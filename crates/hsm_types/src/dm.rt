@@ -1,11 +1,13 @@
 //! The calls of sessions, and the replies to them.
+ghost use Rattle.std.specs.Prelude.{◌≡◌};
+ghost use Rattle.hsm_types.specs.Calls.{scope_of};
 
 use crate::attributes::AttrName;
 use crate::keys::{Handle, Sid, Token};
 use crate::lists::{Bytes, Names, Regions, Sids, Word};
 use thiserror::Error;
 
-/// What a session asks of the store. The first three need no session.
+/// What a session asks of the store.
 #[derive(Clone, Debug, PartialEq, Drop)]
 pub enum DmCall {
     /// Makes a session: beside the others where `old` is 0, and else in the place of the session `old`.
@@ -55,6 +57,41 @@ pub enum DmCall {
         name: Word,
     },
     GetSpace,
+}
+
+/// Who may make a call, and what it must name.
+#[derive(Clone, Copy, Debug, PartialEq, Eq)]
+pub enum Scope {
+    /// No session is needed.
+    Anyone,
+    /// A live session.
+    InSession,
+    /// A live session and a file, with a token that is outstanding to the session, or with token 0.
+    OnFile { token: Token, handle: Handle },
+}
+
+impl DmCall {
+    /// Who may make the call, and what it names.
+    pub fn scope(&self) -> Scope
+        ensures { result ≡ scope_of self.now }
+    {
+        match self {
+            DmCall::CreateSession { .. } | DmCall::GetAllSessions | DmCall::QuerySession { .. } => {
+                Scope::Anyone
+            }
+            DmCall::PathToHandle { .. } | DmCall::GetSpace => Scope::InSession,
+            DmCall::GetFileAttr { token, handle }
+            | DmCall::SetRegion { token, handle, .. }
+            | DmCall::GetRegion { token, handle }
+            | DmCall::SetDmAttr { token, handle, .. }
+            | DmCall::GetDmAttr { token, handle, .. }
+            | DmCall::RemoveDmAttr { token, handle, .. }
+            | DmCall::GetAllDmAttr { token, handle } => Scope::OnFile {
+                token: *token,
+                handle: *handle,
+            },
+        }
+    }
 }
 
 /// What the store answers to a session's call.

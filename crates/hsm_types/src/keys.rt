@@ -1,10 +1,50 @@
 //! What callers, files, events and sessions are known by.
 
+use crate::limits::CALLERS;
 use byteorder::{BigEndian, ByteOrder};
+use std::marker::Model;
 
-/// Who makes a call, from 1 to [`CALLERS`](crate::CALLERS).
+/// Who makes a call, from 1 to [`CALLERS`](crate::CALLERS). Contracts see the number.
 #[derive(Clone, Copy, Debug, PartialEq, Eq)]
-pub struct CallerId(pub u8);
+pub struct CallerId(u8);
+
+impl Model for CallerId {
+    ghost use Rattle.std.specs.Prelude.{ℕ};
+    ghost use Rattle.hsm_types.specs.Callers.{IsCallerNumber};
+
+    ghost Value = { ℕ };
+
+    ghost view = { λ c. c.0 };
+
+    ghost invariant = { λ c. IsCallerNumber c.0 };
+
+    ghost inverse = { λ n. record { 0 = n } };
+}
+
+impl CallerId {
+    ghost use Rattle.std.specs.Prelude.{◌≡◌};
+    ghost use Rattle.std.specs.Option.{SomeIff};
+    ghost use Rattle.hsm_types.specs.Callers.{IsCallerNumber};
+
+    /// The caller of that number, where there may be one.
+    pub fn new(number: u64) -> Option<CallerId>
+        ensures { SomeIff result (IsCallerNumber number) number }
+    {
+        if 1 <= number && number <= u64::from(CALLERS) {
+            Some(CallerId(number as u8))
+        } else {
+            None
+        }
+    }
+
+    /// Its number.
+    pub fn number(self) -> u8
+        ensures number { result ≡ self }
+        ensures within { IsCallerNumber result }
+    {
+        self.0
+    }
+}
 
 /// Which file: its inode, from 1, and its generation, from 1. No two files ever have one generation.
 #[derive(Clone, Copy, Debug, PartialEq, Eq, Hash)]

@@ -4,16 +4,19 @@
 mod attributes;
 mod calls;
 mod dm;
+mod forms;
 mod keys;
 mod limits;
 mod lists;
 mod names;
+mod parts;
 mod regions;
 mod stores;
 
 pub use attributes::{ATTRIBUTE_BYTES, ATTRIBUTE_COST, AttrName};
 pub use calls::{Call, CallRefusal, Reply};
-pub use dm::{DmCall, DmRefusal, DmReply};
+pub use dm::{DmCall, DmRefusal, DmReply, Scope};
+pub use forms::{CALL_PARTS, CallVerb, DmVerb};
 pub use keys::{CallerId, FileKey, HANDLE_BYTES, Handle, Sid, Token};
 pub use limits::{
     ACCESS_BYTES, BLOCK_BYTES, CALLERS, FILE_BYTES, INFO_BYTES, LIVE_SESSIONS, NAME_BYTES,
@@ -21,5 +24,6 @@ pub use limits::{
 };
 pub use lists::{Bytes, Names, Regions, Sids, Word};
 pub use names::can_name;
+pub use parts::{Part, PartKind, PartRef, Parts};
 pub use regions::{Kind, REGION_READ, REGION_TRUNCATE, REGION_WRITE, REGIONS, Range, Region};
 pub use stores::{Geometry, SMALL, Superblock};

@@ -24,14 +24,12 @@ pub struct Region {
     pub flags: u8,
 }
 
-/// The kinds of events that sessions hear of.
+/// The kinds of accesses that regions manage.
 #[derive(Clone, Copy, Debug, PartialEq, Eq)]
 pub enum Kind {
     Read,
     Write,
     Truncate,
-    NoSpace,
-    User,
 }
 
 /// Bytes of a file, from an offset on.

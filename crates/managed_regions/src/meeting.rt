@@ -31,7 +31,6 @@ pub fn is_flagged(kind: Kind, region: Region) -> bool
         Kind::Read => region.flags & REGION_READ != 0,
         Kind::Write => region.flags & REGION_WRITE != 0,
         Kind::Truncate => region.flags & REGION_TRUNCATE != 0,
-        Kind::NoSpace | Kind::User => false,
     }
 }
 

@@ -11,9 +11,9 @@ follows c = search rules
 none : (c : goal.Joined-old) → creation_refusal c.args.old c.args.info (record { given = c.self.inside.given; live = c.self.inside.live.entries }) ≡ None
 none c = search rules
 
-made : (c : goal.Joined-old) → c.shift_remove-old.new.self.entries ≡ remove_entry (same_sid c.args.old) (insert_entry same_sid c.self.inside.live.entries (record { 0 = c.in_ok-next.next }) c.args.info)
+made : (c : goal.Joined-old) → c.shift_remove-old.new.self.entries ≡ remove_entry (same_sid c.args.old) (insert_entry same_sid c.self.inside.live.entries (record { 0 = c.in_ok-next.next }) (record { info = c.args.info }))
 made c =
-    let inserted : c.insert.new.self.entries ≡ insert_entry same_sid c.self.inside.live.entries (record { 0 = c.in_ok-next.next }) c.args.info = search rules in
+    let inserted : c.insert.new.self.entries ≡ insert_entry same_sid c.self.inside.live.entries (record { 0 = c.in_ok-next.next }) (record { info = c.args.info }) = search rules in
     c.shift_remove-old.ensures.entries ∙ ap (remove_entry (same_sid c.args.old)) inserted
 
 pub invariant_of-self-2 : goal.invariant_of-self-2

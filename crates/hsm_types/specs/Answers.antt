@@ -1,0 +1,29 @@
+-- The kinds of answers that sessions are told.
+use Rattle.hsm_types.specs.declared.dm.DmReply.{DmReply}
+use Rattle.hsm_types.specs.declared.dm.DmReply.TheVariants as told
+
+pub data ReplyKind : Type 0 where
+  OfDone : ReplyKind
+  OfSession : ReplyKind
+  OfSids : ReplyKind
+  OfInfo : ReplyKind
+  OfAttr : ReplyKind
+  OfData : ReplyKind
+  OfRegions : ReplyKind
+  OfNames : ReplyKind
+  OfHandle : ReplyKind
+  OfSpace : ReplyKind
+  OfRefusal : ReplyKind
+
+abbrev pub reply_kind : DmReply → ReplyKind
+reply_kind told.Done = OfDone
+reply_kind (told.Session sid) = OfSession
+reply_kind (told.Sids sids) = OfSids
+reply_kind (told.Info info) = OfInfo
+reply_kind (told.Attr size stamp blocks) = OfAttr
+reply_kind (told.Data bytes) = OfData
+reply_kind (told.Regions regions) = OfRegions
+reply_kind (told.Names names) = OfNames
+reply_kind (told.Handle handle) = OfHandle
+reply_kind (told.Space used total) = OfSpace
+reply_kind (told.Refused why) = OfRefusal

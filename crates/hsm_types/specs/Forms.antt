@@ -1,0 +1,108 @@
+-- The forms of calls: the verb, and the parts behind it in order.
+use Rattle.std.specs.Prelude.{ℕ, List, [], ◌∷◌, codes, drop}
+use Rattle.hsm_types.specs.declared.calls.Call.{Call}
+use Rattle.hsm_types.specs.declared.calls.Call.TheVariants.{Create, Read, Write, Truncate, Remove, Stat, Sync}
+use Rattle.hsm_types.specs.declared.dm.DmCall.{DmCall}
+use Rattle.hsm_types.specs.declared.dm.DmCall.TheVariants.{CreateSession, GetAllSessions, QuerySession, GetFileAttr, SetRegion, GetRegion, SetDmAttr, GetDmAttr, RemoveDmAttr, GetAllDmAttr, PathToHandle, GetSpace}
+use Rattle.hsm_types.specs.declared.forms.CallVerb.{CallVerb}
+use Rattle.hsm_types.specs.declared.forms.CallVerb.TheVariants as verbs
+use Rattle.hsm_types.specs.declared.forms.DmVerb.{DmVerb}
+use Rattle.hsm_types.specs.declared.forms.DmVerb.TheVariants as dm_verbs
+use Rattle.hsm_types.specs.declared.parts.Part.{Part}
+use Rattle.hsm_types.specs.declared.parts.Part.TheVariants as part
+use Rattle.hsm_types.specs.declared.parts.PartKind.{PartKind}
+use Rattle.hsm_types.specs.declared.parts.PartKind.TheVariants as kinds
+use Rattle.hsm_types.specs.Answers.{ReplyKind, OfDone, OfSession, OfSids, OfInfo, OfAttr, OfData, OfRegions, OfNames, OfHandle, OfSpace}
+use Rattle.hsm_types.specs.Parts.{number_in, old_in, fetch_in, word_in, handle_in, regions_in, name_in, data_in}
+
+-- ---- callers
+
+-- a verb's text, and the kinds of what stands behind it
+abbrev pub verb_row : CallVerb → List ℕ × List PartKind
+verb_row verbs.Create = (codes "create", kinds.Word ∷ [])
+verb_row verbs.Read = (codes "read", kinds.Word ∷ kinds.Number ∷ kinds.Fetch ∷ [])
+verb_row verbs.Write = (codes "write", kinds.Word ∷ kinds.Number ∷ kinds.Data ∷ [])
+verb_row verbs.Truncate = (codes "truncate", kinds.Word ∷ kinds.Number ∷ [])
+verb_row verbs.Remove = (codes "remove", kinds.Word ∷ [])
+verb_row verbs.Stat = (codes "stat", kinds.Word ∷ [])
+verb_row verbs.Sync = (codes "sync", [])
+
+abbrev pub verb_text : CallVerb → List ℕ
+verb_text verb = (verb_row verb).0
+
+abbrev pub verb_kinds : CallVerb → List PartKind
+verb_kinds verb = (verb_row verb).1
+
+abbrev pub call_form : Call → CallVerb × List Part
+call_form (Create name) = (verbs.Create, part.Word name ∷ [])
+call_form (Read name offset len) = (verbs.Read, part.Word name ∷ part.Number offset ∷ part.Fetch len ∷ [])
+call_form (Write name offset bytes) = (verbs.Write, part.Word name ∷ part.Number offset ∷ part.Data bytes ∷ [])
+call_form (Truncate name size) = (verbs.Truncate, part.Word name ∷ part.Number size ∷ [])
+call_form (Remove name) = (verbs.Remove, part.Word name ∷ [])
+call_form (Stat name) = (verbs.Stat, part.Word name ∷ [])
+call_form Sync = (verbs.Sync, [])
+
+-- the call of a verb and parts of the kinds that it has
+abbrev pub call_of : CallVerb → List Part → Call
+call_of verbs.Create ps = Create (word_in ps)
+call_of verbs.Read ps = Read (word_in ps) (number_in (drop 1 ps)) (fetch_in (drop 1 (drop 1 ps)))
+call_of verbs.Write ps = Write (word_in ps) (number_in (drop 1 ps)) (data_in (drop 1 (drop 1 ps)))
+call_of verbs.Truncate ps = Truncate (word_in ps) (number_in (drop 1 ps))
+call_of verbs.Remove ps = Remove (word_in ps)
+call_of verbs.Stat ps = Stat (word_in ps)
+call_of verbs.Sync ps = Sync
+
+-- ---- sessions
+
+-- a verb's text, the kinds of what stands behind it, and the kind of the answer to a call that is done
+abbrev pub dm_verb_row : DmVerb → List ℕ × List PartKind × ReplyKind
+dm_verb_row dm_verbs.CreateSession = (codes "session", kinds.Old ∷ kinds.Word ∷ [], OfSession)
+dm_verb_row dm_verbs.GetAllSessions = (codes "sessions", [], OfSids)
+dm_verb_row dm_verbs.QuerySession = (codes "query", kinds.Number ∷ [], OfInfo)
+dm_verb_row dm_verbs.GetFileAttr = (codes "fileattr", kinds.Number ∷ kinds.Handle ∷ [], OfAttr)
+dm_verb_row dm_verbs.SetRegion = (codes "setregion", kinds.Number ∷ kinds.Handle ∷ kinds.Regions ∷ [], OfDone)
+dm_verb_row dm_verbs.GetRegion = (codes "getregion", kinds.Number ∷ kinds.Handle ∷ [], OfRegions)
+dm_verb_row dm_verbs.SetDmAttr = (codes "setattr", kinds.Number ∷ kinds.Handle ∷ kinds.Name ∷ kinds.Data ∷ [], OfDone)
+dm_verb_row dm_verbs.GetDmAttr = (codes "getattr", kinds.Number ∷ kinds.Handle ∷ kinds.Name ∷ [], OfData)
+dm_verb_row dm_verbs.RemoveDmAttr = (codes "rmattr", kinds.Number ∷ kinds.Handle ∷ kinds.Name ∷ [], OfDone)
+dm_verb_row dm_verbs.GetAllDmAttr = (codes "attrs", kinds.Number ∷ kinds.Handle ∷ [], OfNames)
+dm_verb_row dm_verbs.PathToHandle = (codes "handle", kinds.Word ∷ [], OfHandle)
+dm_verb_row dm_verbs.GetSpace = (codes "space", [], OfSpace)
+
+abbrev pub dm_verb_text : DmVerb → List ℕ
+dm_verb_text verb = (dm_verb_row verb).0
+
+abbrev pub dm_verb_kinds : DmVerb → List PartKind
+dm_verb_kinds verb = (dm_verb_row verb).1
+
+abbrev pub dm_form : DmCall → DmVerb × List Part
+dm_form (CreateSession old info) = (dm_verbs.CreateSession, part.Old old.0 ∷ part.Word info ∷ [])
+dm_form GetAllSessions = (dm_verbs.GetAllSessions, [])
+dm_form (QuerySession target) = (dm_verbs.QuerySession, part.Number target.0 ∷ [])
+dm_form (GetFileAttr token handle) = (dm_verbs.GetFileAttr, part.Number token.0 ∷ part.Handle handle ∷ [])
+dm_form (SetRegion token handle regions) = (dm_verbs.SetRegion, part.Number token.0 ∷ part.Handle handle ∷ part.Regions regions ∷ [])
+dm_form (GetRegion token handle) = (dm_verbs.GetRegion, part.Number token.0 ∷ part.Handle handle ∷ [])
+dm_form (SetDmAttr token handle name value) = (dm_verbs.SetDmAttr, part.Number token.0 ∷ part.Handle handle ∷ part.Name name ∷ part.Data value ∷ [])
+dm_form (GetDmAttr token handle name) = (dm_verbs.GetDmAttr, part.Number token.0 ∷ part.Handle handle ∷ part.Name name ∷ [])
+dm_form (RemoveDmAttr token handle name) = (dm_verbs.RemoveDmAttr, part.Number token.0 ∷ part.Handle handle ∷ part.Name name ∷ [])
+dm_form (GetAllDmAttr token handle) = (dm_verbs.GetAllDmAttr, part.Number token.0 ∷ part.Handle handle ∷ [])
+dm_form (PathToHandle name) = (dm_verbs.PathToHandle, part.Word name ∷ [])
+dm_form GetSpace = (dm_verbs.GetSpace, [])
+
+abbrev pub dm_call_of : DmVerb → List Part → DmCall
+dm_call_of dm_verbs.CreateSession ps = CreateSession (record { 0 = old_in ps }) (word_in (drop 1 ps))
+dm_call_of dm_verbs.GetAllSessions ps = GetAllSessions
+dm_call_of dm_verbs.QuerySession ps = QuerySession (record { 0 = number_in ps })
+dm_call_of dm_verbs.GetFileAttr ps = GetFileAttr (record { 0 = number_in ps }) (handle_in (drop 1 ps))
+dm_call_of dm_verbs.SetRegion ps = SetRegion (record { 0 = number_in ps }) (handle_in (drop 1 ps)) (regions_in (drop 1 (drop 1 ps)))
+dm_call_of dm_verbs.GetRegion ps = GetRegion (record { 0 = number_in ps }) (handle_in (drop 1 ps))
+dm_call_of dm_verbs.SetDmAttr ps = SetDmAttr (record { 0 = number_in ps }) (handle_in (drop 1 ps)) (name_in (drop 1 (drop 1 ps))) (data_in (drop 1 (drop 1 (drop 1 ps))))
+dm_call_of dm_verbs.GetDmAttr ps = GetDmAttr (record { 0 = number_in ps }) (handle_in (drop 1 ps)) (name_in (drop 1 (drop 1 ps)))
+dm_call_of dm_verbs.RemoveDmAttr ps = RemoveDmAttr (record { 0 = number_in ps }) (handle_in (drop 1 ps)) (name_in (drop 1 (drop 1 ps)))
+dm_call_of dm_verbs.GetAllDmAttr ps = GetAllDmAttr (record { 0 = number_in ps }) (handle_in (drop 1 ps))
+dm_call_of dm_verbs.PathToHandle ps = PathToHandle (word_in ps)
+dm_call_of dm_verbs.GetSpace ps = GetSpace
+
+-- the kind of the answer to a call that is done
+abbrev pub answer_kind : DmCall → ReplyKind
+answer_kind call = (dm_verb_row (dm_form call).0).2

@@ -1,0 +1,294 @@
+//! The forms of calls: the verb, and the parts behind it.
+ghost use Rattle.std.specs.Prelude.{◌≡◌, ◌≢◌, MatchOption};
+ghost use Rattle.hsm_types.specs.Parts.{parts_in, access_of};
+ghost use Rattle.hsm_types.specs.Forms.{verb_text, verb_kinds, call_form, call_of, dm_verb_text, dm_verb_kinds, dm_form, dm_call_of};
+
+use crate::calls::Call;
+use crate::dm::DmCall;
+use crate::keys::{Sid, Token};
+use crate::limits::ACCESS_BYTES;
+use crate::parts::{PartKind, PartRef, Parts};
+
+/// The most parts of a call.
+pub const CALL_PARTS: usize = 4;
+
+/// The forms of callers' calls, each a row: the call, whose name its verb has too, the verb's text, and the fields with the part that each is.
+macro_rules! call_forms {
+    ($arms:ident $args:tt) => {
+        $arms! { $args Call CallVerb
+            Create b"create" { name: Word }
+            Read b"read" { name: Word, offset: Number, len: Fetch }
+            Write b"write" { name: Word, offset: Number, body: Data }
+            Truncate b"truncate" { name: Word, size: Number }
+            Remove b"remove" { name: Word }
+            Stat b"stat" { name: Word }
+            Sync b"sync" {}
+        }
+    };
+}
+
+/// The forms of sessions' calls, likewise.
+macro_rules! dm_forms {
+    ($arms:ident $args:tt) => {
+        $arms! { $args DmCall DmVerb
+            CreateSession b"session" { old: Old, info: Word }
+            GetAllSessions b"sessions" {}
+            QuerySession b"query" { target: Sid }
+            GetFileAttr b"fileattr" { token: Token, handle: Handle }
+            SetRegion b"setregion" { token: Token, handle: Handle, regions: Regions }
+            GetRegion b"getregion" { token: Token, handle: Handle }
+            SetDmAttr b"setattr" { token: Token, handle: Handle, name: Name, value: Data }
+            GetDmAttr b"getattr" { token: Token, handle: Handle, name: Name }
+            RemoveDmAttr b"rmattr" { token: Token, handle: Handle, name: Name }
+            GetAllDmAttr b"attrs" { token: Token, handle: Handle }
+            PathToHandle b"handle" { name: Word }
+            GetSpace b"space" {}
+        }
+    };
+}
+
+/// What a caller's call begins with.
+#[derive(Clone, Copy, Debug, PartialEq, Eq)]
+pub enum CallVerb {
+    Create,
+    Read,
+    Write,
+    Truncate,
+    Remove,
+    Stat,
+    Sync,
+}
+
+/// What a session's call begins with.
+#[derive(Clone, Copy, Debug, PartialEq, Eq)]
+pub enum DmVerb {
+    CreateSession,
+    GetAllSessions,
+    QuerySession,
+    GetFileAttr,
+    SetRegion,
+    GetRegion,
+    SetDmAttr,
+    GetDmAttr,
+    RemoveDmAttr,
+    GetAllDmAttr,
+    PathToHandle,
+    GetSpace,
+}
+
+macro_rules! all_verbs {
+    (() $calls:ident $verbs:ident $($call:ident $text:literal { $($field:ident: $part:ident),* })*) => {
+        [$($verbs::$call),*]
+    };
+}
+
+macro_rules! text_of {
+    (($of:expr) $calls:ident $verbs:ident $($call:ident $text:literal { $($field:ident: $part:ident),* })*) => {
+        match $of { $($verbs::$call => $text,)* }
+    };
+}
+
+/// The kind of a field's part: ids and tokens are spelled as numbers.
+macro_rules! kind_of {
+    (Sid) => { PartKind::Number };
+    (Token) => { PartKind::Number };
+    ($part:ident) => { PartKind::$part };
+}
+
+macro_rules! kinds_of {
+    (($of:expr) $calls:ident $verbs:ident $($call:ident $text:literal { $($field:ident: $part:ident),* })*) => {
+        match $of { $($verbs::$call => &[$(kind_of!($part)),*],)* }
+    };
+}
+
+macro_rules! verb_of {
+    (($of:expr) $calls:ident $verbs:ident $($call:ident $text:literal { $($field:ident: $part:ident),* })*) => {
+        match $of { $($calls::$call { .. } => $verbs::$call,)* }
+    };
+}
+
+/// How a field is bound: what can't be copied is lent.
+macro_rules! bound {
+    (Word $field:ident) => { ref $field };
+    (Regions $field:ident) => { ref $field };
+    (Data $field:ident) => { ref $field };
+    ($part:ident $field:ident) => { $field };
+}
+
+/// A bound field as a part.
+macro_rules! lent {
+    (Sid $field:ident) => { PartRef::Number($field.0) };
+    (Token $field:ident) => { PartRef::Number($field.0) };
+    (Old $field:ident) => { PartRef::Old($field.0) };
+    ($part:ident $field:ident) => { PartRef::$part($field) };
+}
+
+/// As many parts as there may be, with none in the places that are left.
+macro_rules! padded {
+    () => { [None, None, None, None] };
+    ($a:expr) => { [Some($a), None, None, None] };
+    ($a:expr, $b:expr) => { [Some($a), Some($b), None, None] };
+    ($a:expr, $b:expr, $c:expr) => { [Some($a), Some($b), Some($c), None] };
+    ($a:expr, $b:expr, $c:expr, $d:expr) => { [Some($a), Some($b), Some($c), Some($d)] };
+}
+
+macro_rules! parts_of {
+    (($of:expr) $calls:ident $verbs:ident $($call:ident $text:literal { $($field:ident: $part:ident),* })*) => {
+        match *$of {
+            $($calls::$call { $($field: bound!($part $field)),* } => padded!($(lent!($part $field)),*),)*
+        }
+    };
+}
+
+/// A field, taken from the parts.
+macro_rules! taken {
+    (Sid $parts:ident) => { Sid($parts.number()) };
+    (Token $parts:ident) => { Token($parts.number()) };
+    (Old $parts:ident) => { Sid($parts.old()) };
+    (Number $parts:ident) => { $parts.number() };
+    (Fetch $parts:ident) => { $parts.fetch() };
+    (Word $parts:ident) => { $parts.word() };
+    (Handle $parts:ident) => { $parts.handle() };
+    (Regions $parts:ident) => { $parts.regions() };
+    (Name $parts:ident) => { $parts.name() };
+    (Data $parts:ident) => { $parts.data() };
+}
+
+macro_rules! call_of {
+    (($of:expr, $parts:ident) $calls:ident $verbs:ident $($call:ident $text:literal { $($field:ident: $part:ident),* })*) => {
+        match $of {
+            $($verbs::$call => $calls::$call { $($field: taken!($part $parts)),* },)*
+        }
+    };
+}
+
+/// The bytes that a field brings or may fetch.
+macro_rules! access {
+    (Fetch $field:ident) => { (*$field).min(ACCESS_BYTES) };
+    (Data $field:ident) => { $field.as_slice().len() as u64 };
+    ($part:ident $field:ident) => { 0 };
+}
+
+macro_rules! access_of {
+    (($of:expr) $calls:ident $verbs:ident $($call:ident $text:literal { $($field:ident: $part:ident),* })*) => {
+        match $of { $($calls::$call { $($field),* } => 0 $(+ access!($part $field))*,)* }
+    };
+}
+
+/// All of them: `find` finds each.
+const CALL_VERBS: [CallVerb; 7] = call_forms!(all_verbs());
+
+/// All of them, likewise.
+const DM_VERBS: [DmVerb; 12] = dm_forms!(all_verbs());
+
+impl CallVerb {
+    pub fn text(self) -> &'static [u8]
+        ensures { result.now ≡ verb_text self }
+    {
+        call_forms!(text_of(self))
+    }
+
+    /// The kinds of what stands behind the verb.
+    pub fn kinds(self) -> &'static [PartKind]
+        ensures { result.now ≡ verb_kinds self }
+    {
+        call_forms!(kinds_of(self))
+    }
+
+    /// The verb that a word is.
+    pub fn find(word: &[u8]) -> Option<CallVerb>
+        ensures { MatchOption result ((verb : CallVerb) → word.now ≢ verb_text verb) (λ verb. word.now ≡ verb_text verb) }
+    {
+        for verb in CALL_VERBS {
+            if word == verb.text() {
+                return Some(verb);
+            }
+        }
+        None
+    }
+}
+
+impl DmVerb {
+    pub fn text(self) -> &'static [u8]
+        ensures { result.now ≡ dm_verb_text self }
+    {
+        dm_forms!(text_of(self))
+    }
+
+    /// The kinds of what stands behind the verb.
+    pub fn kinds(self) -> &'static [PartKind]
+        ensures { result.now ≡ dm_verb_kinds self }
+    {
+        dm_forms!(kinds_of(self))
+    }
+
+    /// The verb that a word is.
+    pub fn find(word: &[u8]) -> Option<DmVerb>
+        ensures { MatchOption result ((verb : DmVerb) → word.now ≢ dm_verb_text verb) (λ verb. word.now ≡ dm_verb_text verb) }
+    {
+        for verb in DM_VERBS {
+            if word == verb.text() {
+                return Some(verb);
+            }
+        }
+        None
+    }
+}
+
+impl Call {
+    pub fn verb(&self) -> CallVerb
+        ensures { result ≡ (call_form self.now).0 }
+    {
+        call_forms!(verb_of(self))
+    }
+
+    /// The parts behind the verb.
+    pub fn parts(&self) -> [Option<PartRef<'_>>; CALL_PARTS]
+        ensures { parts_in result ≡ (call_form self.now).1 }
+    {
+        call_forms!(parts_of(self))
+    }
+
+    /// The call of a verb and parts of the kinds that it has.
+    pub fn of(verb: CallVerb, mut parts: Parts) -> Call
+        ensures { result ≡ call_of verb parts }
+    {
+        call_forms!(call_of(verb, parts))
+    }
+
+    /// The bytes that the call brings or may fetch. The store fetches at most [`ACCESS_BYTES`].
+    pub fn access_bytes(&self) -> u64
+        ensures { result ≡ access_of (call_form self.now).1 }
+    {
+        call_forms!(access_of(self))
+    }
+}
+
+impl DmCall {
+    pub fn verb(&self) -> DmVerb
+        ensures { result ≡ (dm_form self.now).0 }
+    {
+        dm_forms!(verb_of(self))
+    }
+
+    /// The parts behind the verb.
+    pub fn parts(&self) -> [Option<PartRef<'_>>; CALL_PARTS]
+        ensures { parts_in result ≡ (dm_form self.now).1 }
+    {
+        dm_forms!(parts_of(self))
+    }
+
+    /// The call of a verb and parts of the kinds that it has.
+    pub fn of(verb: DmVerb, mut parts: Parts) -> DmCall
+        ensures { result ≡ dm_call_of verb parts }
+    {
+        dm_forms!(call_of(verb, parts))
+    }
+
+    /// The bytes that the call brings or may fetch.
+    pub fn access_bytes(&self) -> u64
+        ensures { result ≡ access_of (dm_form self.now).1 }
+    {
+        dm_forms!(access_of(self))
+    }
+}

@@ -1,0 +1,168 @@
+//! The parts of which calls are made.
+ghost use Rattle.std.specs.Prelude.{◌≡◌, drop, OnOk, [], ◌∷◌};
+ghost use Rattle.hsm_types.specs.Parts.{number_in, old_in, fetch_in, word_in, handle_in, regions_in, name_in, data_in};
+
+use crate::attributes::AttrName;
+use crate::keys::{FileKey, Handle};
+use crate::lists::{Bytes, Regions, Word};
+use std::alloc::{AllocError, Global};
+use std::collections::VecDeque;
+use std::marker::Model;
+
+/// What stands in one place of a call.
+#[derive(Drop)]
+pub enum Part {
+    Number(u64),
+    /// The session in whose place another one is made.
+    Old(u64),
+    /// How many bytes are to be read.
+    Fetch(u64),
+    Word(Word),
+    Handle(Handle),
+    Regions(Regions),
+    Name(AttrName),
+    Data(Bytes),
+}
+
+/// The same, lent by a call.
+#[derive(Clone, Copy)]
+pub enum PartRef<'a> {
+    Number(u64),
+    Old(u64),
+    Fetch(u64),
+    Word(&'a Word),
+    Handle(Handle),
+    Regions(&'a Regions),
+    Name(AttrName),
+    Data(&'a Bytes),
+}
+
+/// What may stand in one place.
+#[derive(Clone, Copy, Debug, PartialEq, Eq)]
+pub enum PartKind {
+    Number,
+    Old,
+    Fetch,
+    Word,
+    Handle,
+    Regions,
+    Name,
+    Data,
+}
+
+/// The parts of a call, to be taken one by one from the front. What isn't there, or is of another kind, is taken as 0, or as empty. Contracts see
+/// them as a list.
+#[derive(Drop)]
+pub struct Parts {
+    items: VecDeque<Part>,
+}
+
+impl Model for Parts {
+    ghost use Rattle.std.specs.Prelude.{List};
+    ghost use Rattle.hsm_types.specs.declared.parts.Part.{Part};
+
+    ghost Value = { List Part };
+
+    ghost view = { λ p. p.items.items };
+}
+
+impl Parts {
+    pub fn new(alloc: Global) -> Parts
+        ensures { result ≡ [] }
+    {
+        Parts {
+            items: VecDeque::new(alloc),
+        }
+    }
+
+    /// Puts a part in front.
+    pub fn push_front(&mut self, part: Part) -> Result<(), AllocError>
+        ensures { OnOk result (self.new ≡ part ∷ self.old) }
+    {
+        self.items.push_front(part)?;
+        Ok(())
+    }
+
+    pub fn number(&mut self) -> u64
+        ensures value { result ≡ number_in self.old }
+        ensures rest { self.new ≡ drop 1 self.old }
+    {
+        match self.items.pop_front() {
+            Some(Part::Number(n)) => n,
+            _ => 0,
+        }
+    }
+
+    pub fn old(&mut self) -> u64
+        ensures value { result ≡ old_in self.old }
+        ensures rest { self.new ≡ drop 1 self.old }
+    {
+        match self.items.pop_front() {
+            Some(Part::Old(sid)) => sid,
+            _ => 0,
+        }
+    }
+
+    pub fn fetch(&mut self) -> u64
+        ensures value { result ≡ fetch_in self.old }
+        ensures rest { self.new ≡ drop 1 self.old }
+    {
+        match self.items.pop_front() {
+            Some(Part::Fetch(len)) => len,
+            _ => 0,
+        }
+    }
+
+    pub fn word(&mut self) -> Word
+        ensures value { result ≡ word_in self.old }
+        ensures rest { self.new ≡ drop 1 self.old }
+    {
+        match self.items.pop_front() {
+            Some(Part::Word(word)) => word,
+            _ => Word::from(Vec::new(*self.items.allocator())),
+        }
+    }
+
+    pub fn handle(&mut self) -> Handle
+        ensures value { result ≡ handle_in self.old }
+        ensures rest { self.new ≡ drop 1 self.old }
+    {
+        match self.items.pop_front() {
+            Some(Part::Handle(handle)) => handle,
+            _ => Handle {
+                fsid: 0,
+                key: FileKey { ino: 0, igen: 0 },
+            },
+        }
+    }
+
+    pub fn regions(&mut self) -> Regions
+        ensures value { result ≡ regions_in self.old }
+        ensures rest { self.new ≡ drop 1 self.old }
+    {
+        match self.items.pop_front() {
+            Some(Part::Regions(regions)) => regions,
+            _ => Regions::from(Vec::new(*self.items.allocator())),
+        }
+    }
+
+    pub fn name(&mut self) -> AttrName
+        ensures value { result ≡ name_in self.old }
+        ensures rest { self.new ≡ drop 1 self.old }
+    {
+        match self.items.pop_front() {
+            Some(Part::Name(name)) => name,
+            _ => AttrName([0; 8]),
+        }
+    }
+
+    pub fn data(&mut self) -> Bytes
+        ensures value { result ≡ data_in self.old }
+        ensures rest { self.new ≡ drop 1 self.old }
+    {
+        match self.items.pop_front() {
+            Some(Part::Data(bytes)) => bytes,
+            _ => Bytes::from(Vec::new(*self.items.allocator())),
+        }
+    }
+}
