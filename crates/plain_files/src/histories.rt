@@ -1,9 +1,10 @@
 //! The files after a history: each call that was done, done again on plain files.
 ghost use Rattle.std.specs.Prelude.{◌≡◌, [], IfOk, OnOk};
-ghost use Rattle.plain_model.specs.Step.{is_completion};
-ghost use Rattle.plain_model.specs.Plain.{listing, key_meant, act};
+ghost use Rattle.plain_model.specs.Ledger.{meant, is_completion};
+ghost use Rattle.plain_model.specs.Step.{files_replied};
+ghost use Rattle.plain_model.specs.Plain.{listing, key_meant, key_by, act};
 ghost use Rattle.plain_model.specs.PlainFold.{plain_after};
-ghost use Rattle.plain_files.specs.Files.{files_of, files_left, files_replied};
+ghost use Rattle.plain_files.specs.Files.{files_of, files_left};
 
 use crate::files::{NO_KEY, PlainFile, key_named, put, resize, take_out, write};
 use hsm_types::{Bytes, Call, FileKey, Reply};
@@ -40,12 +41,12 @@ fn follow_call(
     call: &Call,
     reply: &Reply,
 ) -> Result<(), AllocError>
-    ensures { OnOk result (files_of files.new.items ≡ files_replied (files_of files.old.items) call.now reply.now) }
+    ensures { OnOk result (files_of files.new.items ≡ files_replied (files_of files.old.items) (meant (listing (files_of files.old.items)) call.now) reply.now) }
 {
     if !is_done(reply) {
         return Ok(());
     }
-    let key = meant(files.as_slice(), call, reply);
+    let key = done_on(meant(files.as_slice(), call), reply);
     perform(alloc, files, key, call)
 }
 
@@ -59,21 +60,27 @@ fn is_done(reply: &Reply) -> bool
     }
 }
 
-/// The key of the file that a call means; of a create, the key that was made.
-fn meant(files: &[PlainFile], call: &Call, reply: &Reply) -> FileKey
-    ensures { result ≡ key_meant (listing (files_of files.now)) call.now reply.now }
+/// The key of the file that a call means. A create has none yet.
+fn meant(files: &[PlainFile], call: &Call) -> FileKey
+    ensures { result ≡ key_meant (listing (files_of files.now)) call.now }
 {
     match call {
-        Call::Create { .. } => match reply {
-            Reply::Made(key) => *key,
-            _ => NO_KEY,
-        },
+        Call::Create { .. } | Call::Sync => NO_KEY,
         Call::Read { name, .. }
         | Call::Write { name, .. }
         | Call::Truncate { name, .. }
         | Call::Remove { name }
         | Call::Stat { name } => key_named(files, name),
-        Call::Sync => NO_KEY,
+    }
+}
+
+/// The key of the file on which a call was done: of a create, the one that its reply tells.
+fn done_on(key: FileKey, reply: &Reply) -> FileKey
+    ensures { result ≡ key_by key reply.now }
+{
+    match reply {
+        Reply::Made(made) => *made,
+        Reply::Done | Reply::Data(_) | Reply::Size(_) | Reply::Refused(_) => key,
     }
 }
 

@@ -1,37 +1,42 @@
 -- The answers that a store gives by itself are for no fault, and a history without one goes on.
-use Rattle.std.proofs.Common.{◌≡◌, List, [], ◌∷◌, ◌++◌, Bool, true, false, Option, Some, None, refl}
+use Rattle.std.proofs.Common.{◌≡◌, List, [], ◌∷◌, ◌++◌, Bool, true, false, Option, Some, None, refl, ◌∙◌, ap}
 use Rattle.std.proofs.lemmas.List.Folds.{list_any-append}
-use Rattle.std.specs.Prelude.{ℕ, length, ◌+◌, ◌-◌, ◌==◌, ◌&&◌, ◌||◌, not, nat_lt, nat_le, is_some, if◌then◌else◌}
+use Rattle.std.specs.Prelude.{ℕ, length, ◌+◌, ◌==◌, ◌&&◌, ◌||◌, nat_lt, nat_le, is_some, if◌then◌else◌}
 use Rattle.hsm_types.specs.Names.{is_name}
 use Rattle.hsm_types.specs.Refusals.{first_refusal}
-use Rattle.hsm_types.specs.Sessions.{SessionTable, info_of, no_session, bad_info, too_many_sessions, creation_refusal}
+use Rattle.hsm_types.specs.Calls.{scope_of}
+use Rattle.hsm_types.specs.Sessions.{SessionTable, lives, no_session, bad_info, too_many_sessions, creation_refusal}
 use Rattle.hsm_types.specs.Attributes.{Attributes, is_reserved, reserved, too_big_value, too_many_bytes, bytes_of_attributes, with_value, value_of, setting_refusal, no_attribute}
 use Rattle.hsm_types.specs.Regions.{first_bad, too_many_regions, bad_region, regions_refusal}
 use Rattle.hsm_types.specs.declared.attributes.AttrName.{AttrName}
 use Rattle.hsm_types.specs.declared.keys.FileKey.{FileKey}
 use Rattle.hsm_types.specs.declared.regions.Region.{Region}
-use Rattle.hsm_types.specs.declared.keys.Handle.{Handle}
 use Rattle.hsm_types.specs.declared.keys.Sid.{Sid}
-use Rattle.hsm_types.specs.declared.keys.Token.{Token}
 use Rattle.hsm_types.specs.declared.dm.DmCall.{DmCall}
-use Rattle.hsm_types.specs.declared.dm.DmCall.TheVariants.{CreateSession, GetAllSessions, QuerySession, GetFileAttr, SetRegion, GetRegion, SetDmAttr, GetDmAttr, RemoveDmAttr, GetAllDmAttr, PathToHandle, GetSpace}
+use Rattle.hsm_types.specs.declared.dm.DmCall.TheVariants.{CreateSession, QuerySession, SetRegion, SetDmAttr, GetDmAttr, RemoveDmAttr, PathToHandle}
 use Rattle.hsm_types.specs.declared.dm.DmRefusal.{DmRefusal}
 use Rattle.hsm_types.specs.declared.dm.DmReply.TheVariants as told
+use Rattle.hsm_types.specs.declared.dm.Scope.{Scope}
+use Rattle.hsm_types.specs.declared.dm.Scope.TheVariants.{Anyone, InSession, OnFile}
 use Rattle.hsm_types.specs.declared.stores.Superblock.{Superblock}
 use Rattle.hsm_types.specs.declared.calls.Call.{Call}
 use Rattle.hsm_types.specs.declared.calls.Call.TheVariants.{Create, Read, Write, Truncate, Remove, Stat, Sync}
 use Rattle.hsm_types.specs.declared.calls.CallRefusal.{CallRefusal}
-use Rattle.hsm_types.specs.declared.calls.CallRefusal.TheVariants.{NoSpace}
 use Rattle.hsm_types.specs.declared.calls.Reply.TheVariants.{Refused}
 use Rattle.plain_model.specs.declared.entries.Entry.{Entry}
+use Rattle.plain_model.specs.declared.entries.Actor.{Actor}
+use Rattle.plain_model.specs.declared.entries.Actor.TheVariants.{Caller, Session, Store}
+use Rattle.plain_model.specs.declared.entries.Action.{Action}
+use Rattle.plain_model.specs.declared.entries.Action.TheVariants.{Issue, Dm, Commit}
 use Rattle.plain_model.specs.declared.entries.Answer.{Answer}
 use Rattle.plain_model.specs.declared.entries.Answer.TheVariants.{Call as Replied, Dm as Told}
-use Rattle.plain_model.specs.Plain.{Listed, named, bad_name, bad_length, missing, exists, too_big, no_inodes, refusal_of}
-use Rattle.plain_model.specs.Faults.{is_fault, FaultIsLast, has_fault}
-use Rattle.plain_model.specs.Blocks.{touched}
-use Rattle.plain_model.specs.State.{FileState, Held, names_of, bytes_of, key_named, used, name_meant, space_refusal, judged, done_reply, reply_where, reply_to}
-use Rattle.plain_model.specs.States.{State}
-use Rattle.plain_model.specs.Services.{needs_session, token_in, handle_in, dead_session, bad_token, is_live, bad_handle, attributes_of, other_attributes, own_refusal, dm_judged, dm_done_reply, dm_reply_where, dm_reply_to}
+use Rattle.plain_model.specs.Plain.{Listed, named, bad_name, bad_length, missing, exists, too_big, no_inodes, refusal_of, reply_on}
+use Rattle.plain_model.specs.Ledger.{Meant}
+use Rattle.plain_model.specs.Faults.{is_fault, fault_of, FaultIsLast, has_fault}
+use Rattle.plain_model.specs.State.{State, names_of}
+use Rattle.plain_model.specs.Verdict.{Lacks, Verdict, verdict, reply_by, reply_where, objection_in, meant_in, reply_to}
+use Rattle.plain_model.specs.Services.{dead_session, bad_token, is_live, bad_handle, scope_refusals, kept_of, other_attributes, service, dm_judged, dm_reply_where, dm_reply_to}
+use Rattle.plain_model.specs.Exact.{IsOwn}
 
 -- what refuses a call of its kind, if anything, is no fault
 module _ {R : Type 0} (refused : R → Answer) where
@@ -92,32 +97,23 @@ module _ (files : List Listed) where
   ordinary_refusal s (Stat name) = named_one name
   ordinary_refusal s Sync = tt
 
-ordinary_space : (s : Superblock) (h : Held) (call : Call) → Ordinary (space_refusal s h call)
-ordinary_space s h call =
-    let need : ℕ = length (touched (length (bytes_of (key_named (name_meant call) h.files) h.files)) call) in
-    let free : ℕ = s.geometry.blocks - used h.files in
-    ordinary_if of_call (nat_lt free need) (Some (NoSpace need free)) None refl tt
+faultless_on : (k : FileKey) (body : List ℕ) (call : Call) → is_fault (Replied (reply_on k body call)) ≡ false
+faultless_on k body (Create name) = refl
+faultless_on k body (Read name offset len) = refl
+faultless_on k body (Stat name) = refl
+faultless_on k body call = refl
 
-ordinary_judged : (s : Superblock) (h : Held) (call : Call) → Ordinary (judged s h call)
-ordinary_judged s h call =
-    ordinary_first of_call (refusal_of s (names_of h.files) call) _ (ordinary_refusal (names_of h.files) s call) (ordinary_first of_call (space_refusal s h call) _ (ordinary_space s h call) tt)
+faultless_by : (st : State) (k : FileKey) (call : Call) (v : Verdict) → is_fault (Replied (reply_by st k call v)) ≡ false
+faultless_by st k call None = faultless_on _ _ call
+faultless_by st k call (Some (Lacks need free)) = refl
 
-faultless_done : (h : Held) (call : Call) → is_fault (Replied (done_reply h call)) ≡ false
-faultless_done h (Create name) = refl
-faultless_done h (Read name offset len) = refl
-faultless_done h (Write name offset bytes) = refl
-faultless_done h (Truncate name size) = refl
-faultless_done h (Remove name) = refl
-faultless_done h (Stat name) = refl
-faultless_done h Sync = refl
-
-faultless_where : (why : Option CallRefusal) (h : Held) (call : Call) → Ordinary why → is_fault (Replied (reply_where why h call)) ≡ false
-faultless_where None h call is = faultless_done h call
-faultless_where (Some why) h call is = is
+faultless_where : (why : Option CallRefusal) (s : Superblock) (st : State) (a : Meant) → Ordinary why → is_fault (Replied (reply_where why s st a)) ≡ false
+faultless_where None s st a is = faultless_by st a.key a.call (verdict s st a.key a.call)
+faultless_where (Some why) s st a is = is
 
 -- the store's reply to a call is for no fault
-pub faultless_reply : (s : Superblock) (h : Held) (call : Call) → is_fault (Replied (reply_to s h call)) ≡ false
-faultless_reply s h call = faultless_where (judged s h call) h call (ordinary_judged s h call)
+pub faultless_reply : (s : Superblock) (st : State) (call : Call) → is_fault (Replied (reply_to s st call)) ≡ false
+faultless_reply s st call = faultless_where (objection_in s st call) s st (meant_in st call) (ordinary_refusal (names_of st.held.files) s call)
 
 -- ---- a session's call
 
@@ -129,17 +125,9 @@ Usual x = OrdinaryOf of_dm x
 
 usual_creation : (old : Sid) (info : List ℕ) (t : SessionTable) → Usual (creation_refusal old info t)
 usual_creation old info t =
-    ordinary_first of_dm (no_session old t) _ (ordinary_if of_dm (old.0 == 0 || is_some (info_of old t)) _ _ tt refl)
+    ordinary_first of_dm (no_session old t) _ (ordinary_if of_dm (old.0 == 0 || lives old t) _ _ tt refl)
     (ordinary_first of_dm (bad_info info) _ (ordinary_if of_dm (nat_le 1 (length info) && nat_le (length info) 256) _ _ tt refl)
     (ordinary_first of_dm (too_many_sessions old t) _ (ordinary_if of_dm (old.0 == 0 && nat_le 64 (length t.live)) _ _ refl tt) tt))
-
-usual_token : (token : Option Token) → Usual (bad_token token)
-usual_token None = tt
-usual_token (Some token) = ordinary_if of_dm (token.0 == 0) _ _ tt refl
-
-usual_handle : (s : Superblock) (files : List FileState) (handle : Option Handle) → Usual (bad_handle s files handle)
-usual_handle s files None = tt
-usual_handle s files (Some h) = ordinary_if of_dm (is_live s files h) _ _ tt refl
 
 usual_regions : (rs : List Region) → Usual (regions_refusal rs)
 usual_regions rs =
@@ -163,50 +151,58 @@ usual_setting name value others limit attrs =
 usual_absent : (name : AttrName) (attrs : Attributes) → Usual (no_attribute name attrs)
 usual_absent name attrs = ordinary_if of_dm (is_some (value_of name attrs)) _ _ tt refl
 
-usual_own : (s : Superblock) (files : List FileState) (t : SessionTable) (call : DmCall) → Usual (own_refusal s files t call)
-usual_own s files t (CreateSession old info) = usual_creation old info t
-usual_own s files t GetAllSessions = tt
-usual_own s files t (QuerySession target) = ordinary_if of_dm (is_some (info_of target t)) _ _ tt refl
-usual_own s files t (GetFileAttr token handle) = tt
-usual_own s files t (SetRegion token handle regions) = usual_regions regions
-usual_own s files t (GetRegion token handle) = tt
-usual_own s files t (SetDmAttr token handle name value) = usual_setting name value (other_attributes handle.key files) s.geometry.attributes (attributes_of handle.key files)
-usual_own s files t (GetDmAttr token handle name) = usual_absent name (attributes_of handle.key files)
-usual_own s files t (RemoveDmAttr token handle name) =
-    ordinary_first of_dm (reserved name) _ (usual_reserved name) (ordinary_first of_dm (no_attribute name (attributes_of handle.key files)) _ (usual_absent name (attributes_of handle.key files)) tt)
-usual_own s files t (GetAllDmAttr token handle) = tt
-usual_own s files t (PathToHandle name) = ordinary_if of_dm (is_some (named name (names_of files))) _ _ tt refl
-usual_own s files t GetSpace = tt
+usual_service : (s : Superblock) (st : State) (sid : Sid) (call : DmCall) → Usual (service s st sid call).refusal
+usual_service s st sid (CreateSession old info) = usual_creation old info st.sessions
+usual_service s st sid (QuerySession target) = ordinary_if of_dm (lives target st.sessions) _ _ tt refl
+usual_service s st sid (SetRegion token handle regions) = usual_regions regions
+usual_service s st sid (SetDmAttr token handle name value) = usual_setting name value (other_attributes handle.key st.held.files) s.geometry.attributes (kept_of handle.key st.held.files).attributes
+usual_service s st sid (GetDmAttr token handle name) = usual_absent name (kept_of handle.key st.held.files).attributes
+usual_service s st sid (RemoveDmAttr token handle name) =
+    let attributes : Attributes = (kept_of handle.key st.held.files).attributes in
+    ordinary_first of_dm (reserved name) _ (usual_reserved name) (ordinary_first of_dm (no_attribute name attributes) _ (usual_absent name attributes) tt)
+usual_service s st sid (PathToHandle name) = ordinary_if of_dm (is_some (named name (names_of st.held.files))) _ _ tt refl
+usual_service s st sid call = tt
 
-usual_judged : (s : Superblock) (files : List FileState) (t : SessionTable) (sid : Sid) (call : DmCall) → Usual (dm_judged s files t sid call)
-usual_judged s files t sid call =
-    ordinary_first of_dm (dead_session t sid call) _ (ordinary_if of_dm (needs_session call && not (is_some (info_of sid t))) _ _ refl tt)
-    (ordinary_first of_dm (bad_token (token_in call)) _ (usual_token (token_in call))
-    (ordinary_first of_dm (bad_handle s files (handle_in call)) _ (usual_handle s files (handle_in call)) (ordinary_first of_dm (own_refusal s files t call) _ (usual_own s files t call) tt)))
+module _ (s : Superblock) (st : State) (sid : Sid) (own : Option DmRefusal) (is : Usual own) where
+  usual_last : Usual (first_refusal (own ∷ []))
+  usual_last = ordinary_first of_dm own [] is tt
 
-module _ (s : Superblock) (files : List FileState) (stamps : FileKey → ℕ) (t : SessionTable) where
-  faultless_told : (call : DmCall) → is_fault (Told (dm_done_reply s files stamps t call)) ≡ false
-  faultless_told (CreateSession old info) = refl
-  faultless_told GetAllSessions = refl
-  faultless_told (QuerySession target) = refl
-  faultless_told (GetFileAttr token handle) = refl
-  faultless_told (SetRegion token handle regions) = refl
-  faultless_told (GetRegion token handle) = refl
-  faultless_told (SetDmAttr token handle name value) = refl
-  faultless_told (GetDmAttr token handle name) = refl
-  faultless_told (RemoveDmAttr token handle name) = refl
-  faultless_told (GetAllDmAttr token handle) = refl
-  faultless_told (PathToHandle name) = refl
-  faultless_told GetSpace = refl
+  usual_session : (rest : List (Option DmRefusal)) → Usual (first_refusal rest) → Usual (first_refusal (dead_session st.sessions sid ∷ rest))
+  usual_session rest later = ordinary_first of_dm (dead_session st.sessions sid) rest (ordinary_if of_dm (lives sid st.sessions) _ _ tt refl) later
 
-  faultless_told_where : (why : Option DmRefusal) (call : DmCall) → Usual why → is_fault (Told (dm_reply_where why s files stamps t call)) ≡ false
-  faultless_told_where None call is = faultless_told call
-  faultless_told_where (Some why) call is = is
+  usual_scope : (scope : Scope) → Usual (first_refusal (scope_refusals s st sid scope ++ own ∷ []))
+  usual_scope Anyone = usual_last
+  usual_scope InSession = usual_session (own ∷ []) usual_last
+  usual_scope (OnFile token handle) =
+      usual_session (bad_token token ∷ bad_handle s st.held.files handle ∷ own ∷ [])
+      (ordinary_first of_dm (bad_token token) _ (ordinary_if of_dm (token.0 == 0) _ _ tt refl)
+      (ordinary_first of_dm (bad_handle s st.held.files handle) _ (ordinary_if of_dm (is_live s st.held.files handle) _ _ tt refl) usual_last))
+
+faultless_told : (s : Superblock) (st : State) (sid : Sid) (call : DmCall) → is_fault (Told (service s st sid call).reply) ≡ false
+faultless_told s st sid (CreateSession old info) = refl
+faultless_told s st sid call = refl
+
+faultless_told_where : (why : Option DmRefusal) (s : Superblock) (st : State) (sid : Sid) (call : DmCall) → Usual why → is_fault (Told (dm_reply_where why s st sid call)) ≡ false
+faultless_told_where None s st sid call is = faultless_told s st sid call
+faultless_told_where (Some why) s st sid call is = is
 
 -- the store's reply to a session's call is for no fault
 pub faultless_dm_reply : (s : Superblock) (st : State) (sid : Sid) (call : DmCall) → is_fault (Told (dm_reply_to s st sid call)) ≡ false
 faultless_dm_reply s st sid call =
-    faultless_told_where s st.held.files st.stamps st.sessions (dm_judged s st.held.files st.sessions sid call) call (usual_judged s st.held.files st.sessions sid call)
+    faultless_told_where (dm_judged s st sid call) s st sid call (usual_scope s st sid (service s st sid call).refusal (usual_service s st sid call) (scope_of call))
+
+-- ---- any event
+
+-- the store's own answer is for no fault
+pub own_faultless : (s : Superblock) (st : State) (who : Actor) (what : Action) (answer : Answer) → IsOwn s st who what answer → is_fault answer ≡ false
+own_faultless s st (Caller c) (Issue call) answer is = ap is_fault is.1 ∙ faultless_reply s st call
+own_faultless s st (Session sid) (Dm call) answer is = ap is_fault is.1 ∙ faultless_dm_reply s st sid call
+own_faultless s st Store Commit answer is = ap is_fault is.1
+own_faultless s st who what answer is = absurd is.0
+
+pub fault_is : (what : Action) → is_fault (fault_of what) ≡ true
+fault_is (Dm call) = refl
+fault_is what = refl
 
 -- ---- histories
 

@@ -1,10 +1,11 @@
 pub mod Faultless
 pub mod Histories
-pub mod Keys
+pub mod Bodies
 pub mod Standing
 pub mod Steps
 pub mod Same
 pub mod Syncing
 pub mod Sides
 pub mod Stamping
+pub mod Goods
 pub mod Listing

@@ -1,12 +1,13 @@
 -- Words of a list, each with a space in front.
-use Rattle.std.proofs.Common.{◌≡◌, ℕ, ◌<◌, List, [], ◌∷◌, ◌++◌, length, map, refl, sym, ◌∙◌, ap, append_assoc, arith, rules}
+use Rattle.std.proofs.Common.{◌≡◌, ℕ, ◌<◌, List, [], ◌∷◌, ◌++◌, length, map, ap, arith, rules}
 use Rattle.std.specs.List.{flat_map}
 use Rattle.std.specs.Prelude.{Result, Ok, Err, OnOk}
 use Rattle.std.specs.Fmt.{decimal}
 use Rattle.hsm_types.specs.declared.attributes.AttrName.{AttrName}
 use Rattle.hsm_types.specs.declared.keys.Sid.{Sid}
 use Rattle.hsm_types.specs.declared.regions.Region.{Region}
-use Rattle.plain_model.specs.Render.{spaced, listed, name_word, region_word, regions_word}
+use Rattle.hsm_types.specs.declared.parts.Part.{Part}
+use Rattle.plain_model.specs.Render.{spaced, listed, name_word, region_word, regions_word, part_word, form_words}
 
 each_spaced : (sid : Sid) (sids : List Sid) → flat_map (λ (s : Sid). 32 ∷ decimal s.0) (sid ∷ sids) ≡ 32 ∷ spaced (map (λ (s : Sid). decimal s.0) (sid ∷ sids))
 each_spaced sid [] = search rules
@@ -24,13 +25,10 @@ pub names_spaced : (names : List AttrName) → 0 < length names → flat_map (λ
 names_spaced [] some = absurd (omega arith)
 names_spaced (name ∷ names) some = each_name_spaced name names
 
--- one word more
-word_more : (w : List ℕ) (ws : List (List ℕ)) (e : List ℕ) → spaced (w ∷ ws ++ e ∷ []) ≡ spaced (w ∷ ws) ++ 32 ∷ e
-word_more w [] e = refl
-word_more w (x ∷ ws) e = ap (λ l. w ++ 32 ∷ l) (word_more x ws e) ∙ sym (append_assoc w (32 ∷ spaced (x ∷ ws)) (32 ∷ e))
-
-pub one_more : (a b c d e : List ℕ) → spaced (a ∷ b ∷ c ∷ d ∷ e ∷ []) ≡ spaced (a ∷ b ∷ c ∷ d ∷ []) ++ 32 ∷ e
-one_more a b c d e = word_more a (b ∷ c ∷ d ∷ []) e
+-- parts, each with a space in front, behind a verb
+pub parts_joined : (word : List ℕ → List ℕ) (verb : List ℕ) (ps : List Part) → verb ++ flat_map (λ (p : Part). 32 ∷ part_word word p) ps ≡ spaced (form_words word verb ps)
+parts_joined word verb [] = search rules
+parts_joined word verb (p ∷ ps) = ap (λ l. verb ++ 32 ∷ l) (parts_joined word (part_word word p) ps)
 
 -- regions with a comma between each two are the first one, and then each other with a comma in front
 pub regions_joined : (r : Region) (rs : List Region) → region_word r ++ flat_map (λ (x : Region). 44 ∷ region_word x) rs ≡ regions_word (r ∷ rs)

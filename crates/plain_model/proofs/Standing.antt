@@ -1,41 +1,111 @@
--- What a store that stands for a plain map shares with it.
-use Rattle.std.proofs.Common.{◌≡◌, List, [], ◌∷◌, Bool, true, false, Some, refl, ap}
-use Rattle.std.specs.Prelude.{is_some, if◌then◌else◌}
+-- A store that stands for a plain map still does after an effect.
+use Rattle.std.proofs.Common.{◌≡◌, ◌+◌, ℕ, max, List, [], ◌∷◌, length, Bool, true, false, Option, Some, refl, sym, ◌∙◌, ap}
+use Rattle.std.specs.Prelude.{nat_lt, if◌then◌else◌, is_some}
 use Rattle.hsm_types.specs.declared.keys.FileKey.{FileKey}
-use Rattle.plain_model.specs.Keyed.{same_key, find_key}
-use Rattle.plain_model.specs.Plain.{File, listing, body_or_none, body_of}
-use Rattle.plain_model.specs.State.{FileState, names_of, bytes_or_none, bytes_of}
-use Rattle.plain_model.specs.Stands.{Stands}
+use Rattle.plain_model.specs.Keyed.{same_key, find_key, change_key, put_key, drop_key}
+use Rattle.plain_model.specs.Effects.{Effect, Leaves, Makes, Drops, Writes, Resizes, Manages, Attaches, Detaches}
+use Rattle.plain_model.specs.Plain.{File, listing, rebody, body_or_none, body_of, affected}
+use Rattle.plain_model.specs.State.{FileState, new_file, names_of, file_or_new, file_at, remade, affected_held}
+use Rattle.plain_model.specs.Stands.{HasBody, IsFile, Stands}
+use Rattle.plain_model.proofs.Bodies.{length-resized, length-written, written_agree, resized_agree}
 
-pub names_of-stands : (fs : List FileState) (gs : List File) → Stands fs gs → names_of fs ≡ listing gs
-names_of-stands [] [] h = refl
-names_of-stands (f ∷ fs) (g ∷ gs) h = cc (names_of-stands fs gs h.1, h.0.0, h.0.1)
-names_of-stands [] (g ∷ gs) h = absurd h
-names_of-stands (f ∷ fs) [] h = absurd h
+-- ---- one file
 
-bytes_if : (b c : Bool) (f : FileState) (g : File) (fs : List FileState) (gs : List File) (k : FileKey) → b ≡ c → f.body ≡ g.body → bytes_of k fs ≡ body_of k gs
-    → bytes_or_none (if b then Some f else find_key (λ x. x.key) k fs) ≡ body_or_none (if c then Some g else find_key (λ x. x.key) k gs)
-bytes_if true true f g fs gs k e here there = here
-bytes_if false false f g fs gs k e here there = there
-bytes_if true false f g fs gs k e here there = cc
-bytes_if false true f g fs gs k e here there = cc
+remade_body : (e : Effect) (f : FileState) (body : List ℕ) → HasBody f body → HasBody (remade e f) (rebody e body)
+remade_body (Writes o bytes) f body h = record {
+  size = length-written o bytes f.body ∙ ap (λ n. max n (o + length bytes)) h.size ∙ sym (length-written o bytes body);
+  bytes = λ i. written_agree o bytes f.body body i (h.bytes i);
+}
+remade_body (Resizes n) f body h = record { size = length-resized n f.body ∙ sym (length-resized n body); bytes = λ i. resized_agree n f.body body i (λ low. h.bytes i) }
+remade_body e f body h = record { size = h.size; bytes = h.bytes }
 
-pub bytes_of-stands : (k : FileKey) (fs : List FileState) (gs : List File) → Stands fs gs → bytes_of k fs ≡ body_of k gs
-bytes_of-stands k [] [] h = refl
-bytes_of-stands k (f ∷ fs) (g ∷ gs) h = bytes_if (same_key f.key k) (same_key g.key k) f g fs gs k (ap (λ j. same_key j k) h.0.0) h.0.2 (bytes_of-stands k fs gs h.1)
-bytes_of-stands k [] (g ∷ gs) h = absurd h
-bytes_of-stands k (f ∷ fs) [] h = absurd h
+remade_is : (e : Effect) (f : FileState) (g : File) → IsFile f g → IsFile (remade e f) (record g { body = rebody e g.body })
+remade_is e f g is = record { key = is.key; name = is.name; body = remade_body e f g.body is.body }
 
-found_if : (b c : Bool) (f : FileState) (g : File) (fs : List FileState) (gs : List File) (k : FileKey) → b ≡ c → is_some (find_key (λ x. x.key) k fs) ≡ is_some (find_key (λ x. x.key) k gs)
-    → is_some (if b then Some f else find_key (λ x. x.key) k fs) ≡ is_some (if c then Some g else find_key (λ x. x.key) k gs)
-found_if true true f g fs gs k e there = refl
-found_if false false f g fs gs k e there = there
-found_if true false f g fs gs k e there = cc
-found_if false true f g fs gs k e there = cc
+-- ---- lists
 
--- the same keys live
-pub found-stands : (k : FileKey) (fs : List FileState) (gs : List File) → Stands fs gs → is_some (find_key (λ x. x.key) k fs) ≡ is_some (find_key (λ x. x.key) k gs)
-found-stands k [] [] h = refl
-found-stands k (f ∷ fs) (g ∷ gs) h = found_if (same_key f.key k) (same_key g.key k) f g fs gs k (ap (λ j. same_key j k) h.0.0) (found-stands k fs gs h.1)
-found-stands k [] (g ∷ gs) h = absurd h
-found-stands k (f ∷ fs) [] h = absurd h
+stands_if : (b c : Bool) (fs fs' : List FileState) (gs gs' : List File) → b ≡ c → Stands fs gs → Stands fs' gs' → Stands (if b then fs else fs') (if c then gs else gs')
+stands_if true true fs fs' gs gs' e here there = here
+stands_if false false fs fs' gs gs' e here there = there
+stands_if true false fs fs' gs gs' e here there = cc
+stands_if false true fs fs' gs gs' e here there = cc
+
+put_stands : (f : FileState) (g : File) (fs : List FileState) (gs : List File) → IsFile f g → Stands fs gs → Stands (put_key (λ x. x.key) f fs) (put_key (λ x. x.key) g gs)
+put_stands f g [] [] is h = (is, tt)
+put_stands f g (x ∷ fs) (y ∷ gs) is h = stands_if (nat_lt f.key.ino x.key.ino) (nat_lt g.key.ino y.key.ino) _ _ _ _ (rw (is.key, h.0.key) refl) (is, h) (h.0, put_stands f g fs gs is h.1)
+put_stands f g [] (y ∷ gs) is h = absurd h
+put_stands f g (x ∷ fs) [] is h = absurd h
+
+drop_stands : (k : FileKey) (fs : List FileState) (gs : List File) → Stands fs gs → Stands (drop_key (λ x. x.key) k fs) (drop_key (λ x. x.key) k gs)
+drop_stands k [] [] h = tt
+drop_stands k (x ∷ fs) (y ∷ gs) h = stands_if (same_key x.key k) (same_key y.key k) _ _ _ _ (ap (λ j. same_key j k) h.0.key) h.1 (h.0, drop_stands k fs gs h.1)
+drop_stands k [] (y ∷ gs) h = absurd h
+drop_stands k (x ∷ fs) [] h = absurd h
+
+change_stands : (e : Effect) (k : FileKey) (fs : List FileState) (gs : List File) → Stands fs gs
+    → Stands (change_key (λ f. f.key) k (remade e) fs) (change_key (λ g. g.key) k (λ g. record g { body = rebody e g.body }) gs)
+change_stands e k [] [] h = tt
+change_stands e k (x ∷ fs) (y ∷ gs) h =
+    stands_if (same_key x.key k) (same_key y.key k) _ _ _ _ (ap (λ j. same_key j k) h.0.key) (remade_is e x y h.0, h.1) (h.0, change_stands e k fs gs h.1)
+change_stands e k [] (y ∷ gs) h = absurd h
+change_stands e k (x ∷ fs) [] h = absurd h
+
+left_if : (b : Bool) (fs fs' : List FileState) (gs : List File) → Stands fs gs → Stands fs' gs → Stands (if b then fs else fs') gs
+left_if true fs fs' gs here there = here
+left_if false fs fs' gs here there = there
+
+-- an effect that a plain map doesn't know
+beside_stands : (e : Effect) (k : FileKey) (fs : List FileState) (gs : List File) → ((f : FileState) (g : File) → IsFile f g → IsFile (remade e f) g) → Stands fs gs
+    → Stands (change_key (λ f. f.key) k (remade e) fs) gs
+beside_stands e k [] [] same h = tt
+beside_stands e k (x ∷ fs) (y ∷ gs) same h = left_if (same_key x.key k) _ _ (y ∷ gs) (same x y h.0, h.1) (h.0, beside_stands e k fs gs same h.1)
+beside_stands e k [] (y ∷ gs) same h = absurd h
+beside_stands e k (x ∷ fs) [] same h = absurd h
+
+pub affected_stands : (e : Effect) (k : FileKey) (fs : List FileState) (gs : List File) → Stands fs gs → Stands (affected_held e k fs) (affected e k gs)
+affected_stands Leaves k fs gs h = h
+affected_stands (Makes name) k fs gs h =
+    put_stands (new_file k name) (record { key = k; name = name; body = [] }) fs gs (record { key = refl; name = refl; body = record { size = refl; bytes = λ i. refl } }) h
+affected_stands Drops k fs gs h = drop_stands k fs gs h
+affected_stands (Writes o bytes) k fs gs h = change_stands (Writes o bytes) k fs gs h
+affected_stands (Resizes n) k fs gs h = change_stands (Resizes n) k fs gs h
+affected_stands (Manages regions) k fs gs h = beside_stands (Manages regions) k fs gs (λ f g is. remade_is (Manages regions) f g is) h
+affected_stands (Attaches name value) k fs gs h = beside_stands (Attaches name value) k fs gs (λ f g is. remade_is (Attaches name value) f g is) h
+affected_stands (Detaches name) k fs gs h = beside_stands (Detaches name) k fs gs (λ f g is. remade_is (Detaches name) f g is) h
+
+-- ---- what the store shares with the map
+
+pub names_stand : (fs : List FileState) (gs : List File) → Stands fs gs → names_of fs ≡ listing gs
+names_stand [] [] h = refl
+names_stand (f ∷ fs) (g ∷ gs) h = let rest = names_stand fs gs h.1 in let key : f.key ≡ g.key = h.0.key in let name : f.name ≡ g.name = h.0.name in cc
+names_stand [] (g ∷ gs) h = absurd h
+names_stand (f ∷ fs) [] h = absurd h
+
+body_if : (k : FileKey) (b c : Bool) (f : FileState) (g : File) (o : Option FileState) (p : Option File) → b ≡ c → HasBody f g.body → HasBody (file_or_new k o) (body_or_none p)
+    → HasBody (file_or_new k (if b then Some f else o)) (body_or_none (if c then Some g else p))
+body_if k true true f g o p same here there = here
+body_if k false false f g o p same here there = there
+body_if k true false f g o p same here there = cc
+body_if k false true f g o p same here there = cc
+
+-- the file with that key has the body of the map's; both have no bytes where there is none
+pub file_stands : (k : FileKey) (fs : List FileState) (gs : List File) → Stands fs gs → HasBody (file_at k fs) (body_of k gs)
+file_stands k [] [] h = record { size = refl; bytes = λ i. refl }
+file_stands k (f ∷ fs) (g ∷ gs) h =
+    body_if k (same_key f.key k) (same_key g.key k) f g (find_key (λ x. x.key) k fs) (find_key (λ x. x.key) k gs) (ap (λ j. same_key j k) h.0.key) h.0.body (file_stands k fs gs h.1)
+file_stands k [] (g ∷ gs) h = absurd h
+file_stands k (f ∷ fs) [] h = absurd h
+
+found_if : (b c : Bool) (f : FileState) (g : File) (o : Option FileState) (p : Option File) → b ≡ c → is_some o ≡ is_some p → is_some (if b then Some f else o) ≡ is_some (if c then Some g else p)
+found_if true true f g o p same rest = refl
+found_if false false f g o p same rest = rest
+found_if true false f g o p same rest = cc
+found_if false true f g o p same rest = cc
+
+-- the store has a file with that key where the map has one
+pub found_stands : (k : FileKey) (fs : List FileState) (gs : List File) → Stands fs gs → is_some (find_key (λ f. f.key) k fs) ≡ is_some (find_key (λ g. g.key) k gs)
+found_stands k [] [] h = refl
+found_stands k (f ∷ fs) (g ∷ gs) h =
+    found_if (same_key f.key k) (same_key g.key k) f g (find_key (λ x. x.key) k fs) (find_key (λ x. x.key) k gs) (ap (λ j. same_key j k) h.0.key) (found_stands k fs gs h.1)
+found_stands k [] (g ∷ gs) h = absurd h
+found_stands k (f ∷ fs) [] h = absurd h

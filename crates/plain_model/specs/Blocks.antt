@@ -1,7 +1,6 @@
--- Blocks of 4,096 bytes: which of them a call touches, and which are mapped after it.
+-- Blocks of 4,096 bytes: which of them an effect touches, and which are mapped after it.
 use Rattle.std.specs.Prelude.{ℕ, zero, suc, ◌+◌, ◌-◌, ◌/◌, ◌%◌, max, List, [], ◌∷◌, ◌++◌, length, take, replicate, slice_set, Bool, true, false, ◌==◌, ◌&&◌, nat_lt, if◌then◌else◌}
-use Rattle.hsm_types.specs.declared.calls.Call.{Call}
-use Rattle.hsm_types.specs.declared.calls.Call.TheVariants.{Write, Truncate}
+use Rattle.plain_model.specs.Effects.{Effect, Writes, Resizes}
 
 -- n numbers from a on
 abbrev pub from_on : ℕ → ℕ → List ℕ
@@ -20,20 +19,20 @@ met offset end = from_on (offset / 4096) (blocks_in end - offset / 4096)
 abbrev pub old_end : ℕ → List ℕ
 old_end size = if size % 4096 == 0 then [] else (size / 4096) ∷ []
 
--- the blocks that a call touches of a file of that size: those that its data meets, and that of the old end where the file grows
-abbrev pub touched : ℕ → Call → List ℕ
-touched size (Write name offset bytes) =
+-- the blocks that an effect touches of a file of that size: those that its bytes meet, and that of the old end where the file grows
+abbrev pub touched : Effect → ℕ → List ℕ
+touched (Writes offset bytes) size =
     if nat_lt size (offset + length bytes) && nat_lt (size / 4096) (offset / 4096)
     then old_end size ++ met offset (offset + length bytes)
     else met offset (offset + length bytes)
-touched size (Truncate name to) = if nat_lt size to then old_end size else []
-touched size call = []
+touched (Resizes to) size = if nat_lt size to then old_end size else []
+touched effect size = []
 
--- the size after the call
-abbrev pub size_after : ℕ → Call → ℕ
-size_after size (Write name offset bytes) = max size (offset + length bytes)
-size_after size (Truncate name to) = to
-size_after size call = size
+-- the size after the effect
+abbrev pub size_after : Effect → ℕ → ℕ
+size_after (Writes offset bytes) size = max size (offset + length bytes)
+size_after (Resizes to) size = to
+size_after effect size = size
 
 -- these blocks become mapped
 abbrev pub with_mapped : List ℕ → List Bool → List Bool
@@ -44,6 +43,12 @@ with_mapped (b ∷ bs) mapped = with_mapped bs (slice_set mapped b true)
 abbrev pub fitted : ℕ → List Bool → List Bool
 fitted size mapped = take (blocks_in size) mapped ++ replicate (blocks_in size - length mapped) false
 
--- for each block whether it is mapped, after a call on a file of that size
-abbrev pub mapped_after : ℕ → Call → List Bool → List Bool
-mapped_after size call mapped = with_mapped (touched size call) (fitted (size_after size call) mapped)
+-- for each block whether it is mapped, after the bytes of a file of that size have changed
+abbrev pub mapped_after : Effect → ℕ → List Bool → List Bool
+mapped_after effect size mapped = with_mapped (touched effect size) (fitted (size_after effect size) mapped)
+
+-- and after any effect
+abbrev pub remapped : Effect → ℕ → List Bool → List Bool
+remapped (Writes offset bytes) size mapped = mapped_after (Writes offset bytes) size mapped
+remapped (Resizes to) size mapped = mapped_after (Resizes to) size mapped
+remapped effect size mapped = mapped

@@ -4,28 +4,37 @@ use Rattle.hsm_types.specs.declared.stores.Superblock.{Superblock}
 use Rattle.hsm_types.specs.declared.calls.Reply.TheVariants.{Done}
 use Rattle.plain_model.specs.declared.entries.Entry.{Entry}
 use Rattle.plain_model.specs.declared.entries.Actor.{Actor}
-use Rattle.plain_model.specs.declared.entries.Actor.TheVariants.{Caller, Session, Store}
+use Rattle.plain_model.specs.declared.entries.Actor.TheVariants.{Caller, Session}
 use Rattle.plain_model.specs.declared.entries.Action.{Action}
-use Rattle.plain_model.specs.declared.entries.Action.TheVariants.{Issue, Dm, Commit}
+use Rattle.plain_model.specs.declared.entries.Action.TheVariants.{Issue, Dm}
 use Rattle.plain_model.specs.declared.entries.Answer.{Answer}
 use Rattle.plain_model.specs.declared.entries.Answer.TheVariants.{Call as Replied, Dm as Told}
-use Rattle.plain_model.specs.Faults.{fault_of, is_fault, FaultIsLast}
-use Rattle.plain_model.specs.State.{Held, reply_to}
-use Rattle.plain_model.specs.States.{State, just_opened, noted, state_after}
+use Rattle.plain_model.specs.Faults.{is_fault, Acts, IsFault, FaultIsLast}
+use Rattle.plain_model.specs.State.{Held, State, just_opened, noted}
+use Rattle.plain_model.specs.Verdict.{reply_to, state_after}
 use Rattle.plain_model.specs.Services.{dm_reply_to, dm_state_after}
 
--- the store's answer to an event is this one. In each event a call of the disk may fail
+-- the store's own answer to an event, and what it leaves of the store. To a commit it is done
+abbrev pub answer_to : Superblock → State → Actor → Action → Answer
+answer_to s st (Caller c) (Issue call) = Replied (reply_to s st call)
+answer_to s st (Session sid) (Dm call) = Told (dm_reply_to s st sid call)
+answer_to s st actor action = Replied Done
+
+abbrev pub left_own : Superblock → State → Actor → Action → State
+left_own s st (Caller c) (Issue call) = state_after s st c call
+left_own s st (Session sid) (Dm call) = dm_state_after s st sid call
+left_own s st actor action = noted st
+
+abbrev pub IsOwn : Superblock → State → Actor → Action → Answer → Type 0
+IsOwn s st actor action answer = Acts actor action × (answer ≡ answer_to s st actor action)
+
+-- the answer to an event is for a fault, or the store's own
 abbrev pub IsAnswer : Superblock → State → Actor → Action → Answer → Type 0
-IsAnswer s st (Caller c) (Issue call) answer = (answer ≡ fault_of (Issue call)) ⊎ (answer ≡ Replied (reply_to s st.held call))
-IsAnswer s st (Session sid) (Dm call) answer = (answer ≡ fault_of (Dm call)) ⊎ (answer ≡ Told (dm_reply_to s st sid call))
-IsAnswer s st Store Commit answer = (answer ≡ fault_of Commit) ⊎ (answer ≡ Replied Done)
-IsAnswer s st actor action answer = ⊥
+IsAnswer s st actor action answer = IsFault actor action answer ⊎ IsOwn s st actor action answer
 
 -- the store after the event. A fault changes nothing
 abbrev pub left_by : Superblock → State → Actor → Action → Answer → State
-left_by s st (Caller c) (Issue call) answer = if is_fault answer then noted st else state_after s st call
-left_by s st (Session sid) (Dm call) answer = if is_fault answer then noted st else dm_state_after s st sid call
-left_by s st actor action answer = noted st
+left_by s st actor action answer = if is_fault answer then noted st else left_own s st actor action
 
 -- each answer is the one that the store gives over what the entries before it left, and a fault is the last one
 abbrev pub Exact : Superblock → State → List Entry → Type 0

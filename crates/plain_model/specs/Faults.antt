@@ -6,6 +6,8 @@ use Rattle.hsm_types.specs.declared.calls.Reply.TheVariants.{Refused}
 use Rattle.hsm_types.specs.declared.dm.DmRefusal.TheVariants as dm
 use Rattle.hsm_types.specs.declared.dm.DmReply.TheVariants as told
 use Rattle.plain_model.specs.declared.entries.Entry.{Entry}
+use Rattle.plain_model.specs.declared.entries.Actor.{Actor}
+use Rattle.plain_model.specs.declared.entries.Actor.TheVariants.{Caller, Session, Store}
 use Rattle.plain_model.specs.declared.entries.Action.{Action}
 use Rattle.plain_model.specs.declared.entries.Action.TheVariants.{Issue, Dm, Commit}
 use Rattle.plain_model.specs.declared.entries.Answer.{Answer}
@@ -19,9 +21,19 @@ is_fault answer = false
 
 -- the answer that says so
 abbrev pub fault_of : Action → Answer
-fault_of (Issue call) = Replied (Refused Disk)
 fault_of (Dm call) = Told (told.Refused dm.Disk)
-fault_of Commit = Replied (Refused Disk)
+fault_of action = Replied (Refused Disk)
+
+-- callers issue calls, sessions make theirs, and the store commits
+abbrev pub Acts : Actor → Action → Type 0
+Acts (Caller c) (Issue call) = Unit {0}
+Acts (Session sid) (Dm call) = Unit {0}
+Acts Store Commit = Unit {0}
+Acts actor action = ⊥
+
+-- The answer of the event is for a fault. In each event a call of the disk may fail
+abbrev pub IsFault : Actor → Action → Answer → Type 0
+IsFault actor action answer = Acts actor action × (answer ≡ fault_of action)
 
 -- an entry that is answered so is the last one
 abbrev pub FaultIsLast : Entry → List Entry → Type 0

@@ -1,5 +1,5 @@
--- Lists of files in the order of their inodes, whatever is kept of each file.
-use Rattle.std.specs.Prelude.{List, [], ◌∷◌, Bool, ◌==◌, ◌&&◌, nat_lt, if◌then◌else◌, Option, Some, None}
+-- Lists of files in the order of their inodes, whatever is kept of each file, and values by number.
+use Rattle.std.specs.Prelude.{ℕ, List, [], ◌∷◌, Bool, ◌==◌, ◌&&◌, nat_lt, if◌then◌else◌, Option, Some, None}
 use Rattle.hsm_types.specs.declared.keys.FileKey.{FileKey}
 
 abbrev pub same_key : FileKey → FileKey → Bool
@@ -24,3 +24,7 @@ put_key key g (f ∷ fs) = if nat_lt (key g).ino (key f).ino then g ∷ f ∷ fs
 abbrev pub drop_key : {F : Type 0} → (F → FileKey) → FileKey → List F → List F
 drop_key key k [] = []
 drop_key key k (f ∷ fs) = if same_key (key f) k then fs else f ∷ drop_key key k fs
+
+-- f with this value at this place
+abbrev pub set_at : {V : Type 0} → ℕ → V → (ℕ → V) → ℕ → V
+set_at place value f n = if n == place then value else f n

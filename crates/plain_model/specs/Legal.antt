@@ -1,12 +1,10 @@
 -- Which histories are legal from a plain map.
-use Rattle.std.specs.Prelude.{ℕ, ◌≢◌, List, [], ◌∷◌, Option, Some, None, MatchOption}
-use Rattle.std.specs.List.{AllByRecursion}
+use Rattle.std.specs.Prelude.{List, [], ◌∷◌}
 use Rattle.hsm_types.specs.declared.stores.Superblock.{Superblock}
 use Rattle.plain_model.specs.declared.entries.Entry.{Entry}
 use Rattle.plain_model.specs.declared.entries.Action.{Action}
 use Rattle.plain_model.specs.declared.entries.Action.TheVariants.{Issue, Dm, Commit}
 use Rattle.plain_model.specs.declared.entries.Answer.{Answer}
-use Rattle.plain_model.specs.declared.entries.Answer.TheVariants.{Call as Replied, Dm as Told}
 use Rattle.plain_model.specs.Faults.{FaultIsLast}
 use Rattle.plain_model.specs.Step.{World, Allows, after}
 
@@ -30,13 +28,3 @@ BringsTrueBytes W Commit answer = Unit {0}
 abbrev pub NoClash : World → List Entry → Type 0
 NoClash W [] = Unit {0}
 NoClash W (e ∷ es) = BringsTrueBytes W e.action e.answer × NoClash (after W e) es
-
--- the token on which an answer parks its access, or that it gives. None of today's answers has one.
-abbrev pub token_of : Answer → Option ℕ
-token_of (Replied reply) = None
-token_of (Told reply) = None
-
--- no token is given twice
-abbrev pub Once : List Entry → Type 0
-Once [] = Unit {0}
-Once (e ∷ es) = MatchOption (token_of e.answer) (Unit {0}) (λ t. AllByRecursion (λ x. token_of x.answer ≢ Some t) es) × Once es

@@ -1,13 +1,16 @@
 pub mod Keyed
+pub mod Effects
+pub mod Ledger
 pub mod Plain
 pub mod Faults
 pub mod Step
 pub mod Legal
+pub mod Once
 pub mod Blocks
 pub mod Distinct
 pub mod PlainFold
 pub mod State
-pub mod States
+pub mod Verdict
 pub mod Services
 pub mod Stands
 pub mod Exact

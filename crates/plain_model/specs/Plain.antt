@@ -1,4 +1,4 @@
--- A plain map of files, and what a call does to it.
+-- A plain map of files, what refuses a call on it, and what calls and effects do to it.
 use Rattle.std.specs.Prelude.{ℕ, ◌+◌, ◌-◌, ◌^◌, max, min, List, [], ◌∷◌, ◌++◌, length, map, take, drop, replicate, ◌==◌, ◌&&◌, nat_lt, nat_le, if◌then◌else◌, Option, Some, None, is_some}
 use Rattle.std.specs.Str.{bytes_eq}
 use Rattle.hsm_types.specs.Names.{is_name}
@@ -12,6 +12,7 @@ use Rattle.hsm_types.specs.declared.calls.Reply.TheVariants.{Done, Made, Data, S
 use Rattle.hsm_types.specs.declared.calls.CallRefusal.{CallRefusal}
 use Rattle.hsm_types.specs.declared.calls.CallRefusal.TheVariants.{Missing, Exists, BadName, TooBig, BadLength, NoInodes}
 use Rattle.plain_model.specs.Keyed.{find_key, change_key, put_key, drop_key}
+use Rattle.plain_model.specs.Effects.{Effect, Makes, Drops, Writes, Resizes, effect_of}
 
 -- a file: its key, its name and its bytes. A plain map is a list of files in the order of their inodes
 pub record File : Type 0 where
@@ -76,22 +77,28 @@ refusal_of s files (Remove name) = first_refusal (bad_name name ∷ missing name
 refusal_of s files (Stat name) = first_refusal (bad_name name ∷ missing name files ∷ [])
 refusal_of s files Sync = None
 
--- ---- what a call means, and does
+-- ---- which file a call means: settled once, at its issue
 
 abbrev pub key_or_none : Option Listed → FileKey
 key_or_none None = record { ino = 0; igen = 0 }
 key_or_none (Some l) = l.key
 
--- the key of the file that a call means; of a create, the key that was made
-abbrev pub key_meant : List Listed → Call → Reply → FileKey
-key_meant files (Create name) (Made k) = k
-key_meant files (Create name) reply = key_or_none None
-key_meant files (Read name offset len) reply = key_or_none (named name files)
-key_meant files (Write name offset bytes) reply = key_or_none (named name files)
-key_meant files (Truncate name size) reply = key_or_none (named name files)
-key_meant files (Remove name) reply = key_or_none (named name files)
-key_meant files (Stat name) reply = key_or_none (named name files)
-key_meant files Sync reply = key_or_none None
+-- the key of the file with the call's name. A create has none yet
+abbrev pub key_meant : List Listed → Call → FileKey
+key_meant files (Create name) = key_or_none None
+key_meant files (Read name offset len) = key_or_none (named name files)
+key_meant files (Write name offset bytes) = key_or_none (named name files)
+key_meant files (Truncate name size) = key_or_none (named name files)
+key_meant files (Remove name) = key_or_none (named name files)
+key_meant files (Stat name) = key_or_none (named name files)
+key_meant files Sync = key_or_none None
+
+-- the key of the file on which a call was done: of a create, the one that its reply tells
+abbrev pub key_by : FileKey → Reply → FileKey
+key_by k (Made j) = j
+key_by k reply = k
+
+-- ---- what a call does
 
 -- at most len bytes of the body from the offset on
 abbrev pub read_at : ℕ → ℕ → List ℕ → List ℕ
@@ -105,6 +112,12 @@ written offset bytes body = take offset body ++ replicate (offset - length body)
 abbrev pub resized : ℕ → List ℕ → List ℕ
 resized size body = take size body ++ replicate (size - length body) 0
 
+-- the bytes after an effect
+abbrev pub rebody : Effect → List ℕ → List ℕ
+rebody (Writes offset bytes) body = written offset bytes body
+rebody (Resizes size) body = resized size body
+rebody effect body = body
+
 abbrev pub body_or_none : Option File → List ℕ
 body_or_none None = []
 body_or_none (Some f) = f.body
@@ -113,12 +126,21 @@ body_or_none (Some f) = f.body
 abbrev pub body_of : FileKey → List File → List ℕ
 body_of k P = body_or_none (find_key (λ f. f.key) k P)
 
--- the reply to a call that means the file with that key, and the files after it
+-- the plain map after an effect on the file with that key. It doesn't know what sessions keep with files
+abbrev pub affected : Effect → FileKey → List File → List File
+affected (Makes name) k P = put_key (λ f. f.key) (record { key = k; name = name; body = [] }) P
+affected Drops k P = drop_key (λ f. f.key) k P
+affected (Writes offset bytes) k P = change_key (λ f. f.key) k (λ f. record f { body = rebody (Writes offset bytes) f.body }) P
+affected (Resizes size) k P = change_key (λ f. f.key) k (λ f. record f { body = rebody (Resizes size) f.body }) P
+affected effect k P = P
+
+-- the reply to a call on the file with that key and these bytes
+abbrev pub reply_on : FileKey → List ℕ → Call → Reply
+reply_on k body (Create name) = Made k
+reply_on k body (Read name offset len) = Data (read_at offset len body)
+reply_on k body (Stat name) = Size (length body)
+reply_on k body call = Done
+
+-- the plain meaning of a call on the file with that key: its reply, and the files after it
 abbrev pub act : List File → FileKey → Call → Reply × List File
-act P k (Create name) = (Made k, put_key (λ f. f.key) (record { key = k; name = name; body = [] }) P)
-act P k (Read name offset len) = (Data (read_at offset len (body_of k P)), P)
-act P k (Write name offset bytes) = (Done, change_key (λ f. f.key) k (λ f. record f { body = written offset bytes f.body }) P)
-act P k (Truncate name size) = (Done, change_key (λ f. f.key) k (λ f. record f { body = resized size f.body }) P)
-act P k (Remove name) = (Done, drop_key (λ f. f.key) k P)
-act P k (Stat name) = (Size (length (body_of k P)), P)
-act P k Sync = (Done, P)
+act P k call = (reply_on k (body_of k P) call, affected (effect_of call) k P)

@@ -1,6 +1,5 @@
 -- The plain map of files that were never moved: no tokens, no restores, only the calls that were done.
-use Rattle.std.specs.Prelude.{ℕ, List, [], ◌∷◌, ◌==◌, if◌then◌else◌, Option, Some, None}
-use Rattle.hsm_types.specs.declared.keys.FileKey.{FileKey}
+use Rattle.std.specs.Prelude.{ℕ, List, [], ◌∷◌, if◌then◌else◌, Option, Some, None}
 use Rattle.hsm_types.specs.declared.calls.Call.{Call}
 use Rattle.hsm_types.specs.declared.calls.Reply.{Reply}
 use Rattle.plain_model.specs.declared.entries.Entry.{Entry}
@@ -10,30 +9,28 @@ use Rattle.plain_model.specs.declared.entries.Action.{Action}
 use Rattle.plain_model.specs.declared.entries.Action.TheVariants.{Issue}
 use Rattle.plain_model.specs.declared.entries.Answer.{Answer}
 use Rattle.plain_model.specs.declared.entries.Answer.TheVariants.{Call as Replied}
-use Rattle.plain_model.specs.Plain.{File, listing, key_meant, act}
-use Rattle.plain_model.specs.Step.{is_completion}
+use Rattle.plain_model.specs.Keyed.{set_at}
+use Rattle.plain_model.specs.Plain.{File, listing, key_by, act}
+use Rattle.plain_model.specs.Ledger.{Meant, meant, is_completion}
 
--- the files, and for each caller the file and the call of its last issue
+-- the files, and for each caller the access of its last issue
 pub record Walk : Type 0 where
   pub files : List File
-  pub issued : ℕ → Option (FileKey × Call)
+  pub issued : ℕ → Option Meant
 
--- f with this value at this place
-abbrev pub set_at : {V : Type 0} → ℕ → V → (ℕ → V) → ℕ → V
-set_at place value f q = if q == place then value else f q
+abbrev pub done_on : List File → Option Meant → Reply → List File
+done_on P None reply = P
+done_on P (Some a) reply = (act P (key_by a.key reply) a.call).1
 
--- the call is done, where the reply says so
-abbrev pub done : Walk → Option (FileKey × Call) → Reply → Walk
-done V None reply = V
-done V (Some i) reply = if is_completion reply then record V { files = (act V.files i.0 i.1).1 } else V
+-- the call of the caller's last issue is done, where the reply says so
+abbrev pub done : Walk → ℕ → Reply → Walk
+done V c reply = if is_completion reply then record V { files = done_on V.files (V.issued c) reply } else V
 
-abbrev pub issued : Walk → ℕ → Call → Reply → Walk
-issued V c call reply =
-    let i : FileKey × Call = (key_meant (listing V.files) call reply, call) in
-    done (record V { issued = set_at c (Some i) V.issued }) (Some i) reply
+abbrev pub begun : Walk → ℕ → Call → Walk
+begun V c call = record V { issued = set_at c (Some (meant (listing V.files) call)) V.issued }
 
 abbrev pub walk : Walk → Actor → Action → Answer → Walk
-walk V (Caller c) (Issue call) (Replied reply) = issued V c.0 call reply
+walk V (Caller c) (Issue call) (Replied reply) = done (begun V c call) c reply
 walk V actor action answer = V
 
 abbrev pub walked : Walk → List Entry → Walk

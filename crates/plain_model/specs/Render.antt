@@ -5,13 +5,11 @@ use Rattle.std.specs.Fmt.{decimal}
 use Rattle.hex.specs.Hex.{encode_lower}
 use Rattle.sha2.specs.Sha256.{sha256}
 use Rattle.hsm_types.specs.declared.calls.Call.{Call}
-use Rattle.hsm_types.specs.declared.calls.Call.TheVariants.{Create, Read, Write, Truncate, Remove, Stat, Sync}
 use Rattle.hsm_types.specs.declared.calls.CallRefusal.{CallRefusal}
 use Rattle.hsm_types.specs.declared.calls.CallRefusal.TheVariants.{Missing, Exists, BadName, TooBig, BadLength, NoInodes, NoSpace, Disk, Memory}
 use Rattle.hsm_types.specs.declared.calls.Reply.{Reply}
 use Rattle.hsm_types.specs.declared.calls.Reply.TheVariants.{Done, Made, Data, Size, Refused}
 use Rattle.hsm_types.specs.declared.dm.DmCall.{DmCall}
-use Rattle.hsm_types.specs.declared.dm.DmCall.TheVariants.{CreateSession, GetAllSessions, QuerySession, GetFileAttr, SetRegion, GetRegion, SetDmAttr, GetDmAttr, RemoveDmAttr, GetAllDmAttr, PathToHandle, GetSpace}
 use Rattle.hsm_types.specs.declared.dm.DmRefusal.{DmRefusal}
 use Rattle.hsm_types.specs.declared.dm.DmRefusal.TheVariants as why
 use Rattle.hsm_types.specs.declared.dm.DmReply.{DmReply}
@@ -20,6 +18,9 @@ use Rattle.hsm_types.specs.declared.attributes.AttrName.{AttrName}
 use Rattle.hsm_types.specs.declared.keys.FileKey.{FileKey}
 use Rattle.hsm_types.specs.declared.regions.Region.{Region}
 use Rattle.hsm_types.specs.declared.keys.Handle.{Handle}
+use Rattle.hsm_types.specs.declared.parts.Part.{Part}
+use Rattle.hsm_types.specs.declared.parts.Part.TheVariants as part
+use Rattle.hsm_types.specs.Forms.{verb_text, call_form, dm_verb_text, dm_form}
 use Rattle.plain_model.specs.declared.entries.Entry.{Entry}
 use Rattle.plain_model.specs.declared.entries.Actor.{Actor}
 use Rattle.plain_model.specs.declared.entries.Actor.TheVariants.{Caller, Session, Store}
@@ -57,19 +58,9 @@ listed [] = codes "-" ∷ []
 listed (word ∷ words) = word ∷ words
 
 abbrev pub actor_word : Actor → List ℕ
-actor_word (Caller c) = codes "c" ++ decimal c.0
+actor_word (Caller c) = codes "c" ++ decimal c
 actor_word (Session sid) = codes "s" ++ decimal sid.0
 actor_word Store = codes "store"
-
--- the words of a call, its data as `word` writes data. A script line has the same words
-abbrev pub call_words : (List ℕ → List ℕ) → Call → List (List ℕ)
-call_words word (Create name) = codes "create" ∷ name ∷ []
-call_words word (Read name offset len) = codes "read" ∷ name ∷ decimal offset ∷ decimal len ∷ []
-call_words word (Write name offset bytes) = codes "write" ∷ name ∷ decimal offset ∷ word bytes ∷ []
-call_words word (Truncate name size) = codes "truncate" ∷ name ∷ decimal size ∷ []
-call_words word (Remove name) = codes "remove" ∷ name ∷ []
-call_words word (Stat name) = codes "stat" ∷ name ∷ []
-call_words word Sync = codes "sync" ∷ []
 
 -- a region: its offset, its size and its flags
 abbrev pub region_word : Region → List ℕ
@@ -83,20 +74,26 @@ regions_word (r ∷ rs) = join_with_byte 44 (map region_word (r ∷ rs))
 abbrev pub name_word : AttrName → List ℕ
 name_word name = encode_lower name.0
 
--- the words of a session's call, its data as `word` writes data. A script line has the same words
+-- a part of a call, its data as `word` writes data. A script line has the same words
+abbrev pub part_word : (List ℕ → List ℕ) → Part → List ℕ
+part_word word (part.Number n) = decimal n
+part_word word (part.Old sid) = decimal sid
+part_word word (part.Fetch len) = decimal len
+part_word word (part.Word name) = name
+part_word word (part.Handle handle) = handle_word handle
+part_word word (part.Regions regions) = regions_word regions
+part_word word (part.Name name) = name_word name
+part_word word (part.Data bytes) = word bytes
+
+-- a verb, and the parts behind it
+abbrev pub form_words : (List ℕ → List ℕ) → List ℕ → List Part → List (List ℕ)
+form_words word verb parts = verb ∷ map (part_word word) parts
+
+abbrev pub call_words : (List ℕ → List ℕ) → Call → List (List ℕ)
+call_words word call = form_words word (verb_text (call_form call).0) (call_form call).1
+
 abbrev pub dm_words : (List ℕ → List ℕ) → DmCall → List (List ℕ)
-dm_words word (CreateSession old info) = codes "session" ∷ decimal old.0 ∷ info ∷ []
-dm_words word GetAllSessions = codes "sessions" ∷ []
-dm_words word (QuerySession target) = codes "query" ∷ decimal target.0 ∷ []
-dm_words word (GetFileAttr token handle) = codes "fileattr" ∷ decimal token.0 ∷ handle_word handle ∷ []
-dm_words word (SetRegion token handle regions) = codes "setregion" ∷ decimal token.0 ∷ handle_word handle ∷ regions_word regions ∷ []
-dm_words word (GetRegion token handle) = codes "getregion" ∷ decimal token.0 ∷ handle_word handle ∷ []
-dm_words word (SetDmAttr token handle name value) = codes "setattr" ∷ decimal token.0 ∷ handle_word handle ∷ name_word name ∷ word value ∷ []
-dm_words word (GetDmAttr token handle name) = codes "getattr" ∷ decimal token.0 ∷ handle_word handle ∷ name_word name ∷ []
-dm_words word (RemoveDmAttr token handle name) = codes "rmattr" ∷ decimal token.0 ∷ handle_word handle ∷ name_word name ∷ []
-dm_words word (GetAllDmAttr token handle) = codes "attrs" ∷ decimal token.0 ∷ handle_word handle ∷ []
-dm_words word (PathToHandle name) = codes "handle" ∷ name ∷ []
-dm_words word GetSpace = codes "space" ∷ []
+dm_words word call = form_words word (dm_verb_text (dm_form call).0) (dm_form call).1
 
 abbrev pub action_words : (List ℕ → List ℕ) → Action → List (List ℕ)
 action_words word (Issue call) = call_words word call

@@ -1,13 +1,12 @@
--- What stands beside the plain map after a history: which blocks are mapped, by the rules of touched blocks over the calls that were done, and what
--- sessions keep with files.
-use Rattle.std.specs.Prelude.{List, [], ◌∷◌, length, map, Bool, if◌then◌else◌}
+-- What stands beside the plain map after a history: which blocks are mapped and what sessions keep with files, by the rules over the effects that were
+-- done.
+use Rattle.std.specs.Prelude.{ℕ, List, [], ◌∷◌, length, map, Bool, if◌then◌else◌}
+use Rattle.hsm_types.specs.Kept.{Kept, nothing_kept}
 use Rattle.hsm_types.specs.declared.keys.FileKey.{FileKey}
-use Rattle.hsm_types.specs.declared.calls.Call.{Call}
-use Rattle.hsm_types.specs.declared.calls.Call.TheVariants.{Create, Write, Truncate, Remove}
-use Rattle.hsm_types.specs.Attributes.{Attributes, with_value, without_value}
-use Rattle.hsm_types.specs.declared.regions.Region.{Region}
+use Rattle.hsm_types.specs.declared.keys.Sid.{Sid}
+use Rattle.hsm_types.specs.declared.calls.Reply.{Reply}
 use Rattle.hsm_types.specs.declared.dm.DmCall.{DmCall}
-use Rattle.hsm_types.specs.declared.dm.DmCall.TheVariants.{SetRegion, SetDmAttr, RemoveDmAttr}
+use Rattle.hsm_types.specs.declared.dm.DmReply.{DmReply}
 use Rattle.hsm_types.specs.declared.dm.DmReply.TheVariants as told
 use Rattle.plain_model.specs.declared.entries.Entry.{Entry}
 use Rattle.plain_model.specs.declared.entries.Actor.{Actor}
@@ -17,49 +16,55 @@ use Rattle.plain_model.specs.declared.entries.Action.TheVariants.{Issue, Dm}
 use Rattle.plain_model.specs.declared.entries.Answer.{Answer}
 use Rattle.plain_model.specs.declared.entries.Answer.TheVariants.{Call as Replied, Dm as Told}
 use Rattle.plain_model.specs.Keyed.{change_key, put_key, drop_key}
-use Rattle.plain_model.specs.Plain.{File, listing, key_meant, body_of}
-use Rattle.plain_model.specs.Step.{World, is_completion, after}
-use Rattle.plain_model.specs.Blocks.{mapped_after}
-use Rattle.plain_model.specs.State.{FileState}
+use Rattle.plain_model.specs.Effects.{Effect, Leaves, Makes, Drops, effect_of, Change, Nothing, OfFile, OfSessions, change_of}
+use Rattle.plain_model.specs.Plain.{File, key_by, body_of}
+use Rattle.plain_model.specs.Ledger.{Meant, is_completion}
+use Rattle.plain_model.specs.Blocks.{remapped}
+use Rattle.plain_model.specs.State.{FileState, rekept}
+use Rattle.plain_model.specs.Faults.{is_fault}
+use Rattle.plain_model.specs.Step.{World, meant_for, after}
 
--- beside a file of the plain map: for each of its blocks whether it is mapped, its managed regions, and its attributes
+-- beside a file of the plain map: for each of its blocks whether it is mapped, and what sessions keep with it
 pub record Side : Type 0 where
   pub key : FileKey
   pub mapped : List Bool
-  pub regions : List Region
-  pub attributes : Attributes
+  pub kept : Kept
 
 abbrev pub side_of : FileState → Side
-side_of f = record { key = f.key; mapped = f.mapped; regions = f.regions; attributes = f.attributes }
+side_of f = record { key = f.key; mapped = f.mapped; kept = f.kept }
 
 abbrev pub sides_of : List FileState → List Side
 sides_of files = map side_of files
 
--- the file with that key is rewritten by the call
-abbrev pub side_rewritten : List File → FileKey → Call → List Side → List Side
-side_rewritten P k call X = change_key (λ x. x.key) k (λ x. record x { mapped = mapped_after (length (body_of k P)) call x.mapped }) X
+-- after an effect on a file of that size
+abbrev pub remade_side : Effect → ℕ → Side → Side
+remade_side effect size x = record x { mapped = remapped effect size x.mapped; kept = rekept effect size x.kept }
 
--- a call that means the file with that key was done on P
-abbrev pub side_done : List File → FileKey → Call → List Side → List Side
-side_done P k (Create name) X = put_key (λ x. x.key) (record { key = k; mapped = []; regions = []; attributes = [] }) X
-side_done P k (Write name offset bytes) X = side_rewritten P k (Write name offset bytes) X
-side_done P k (Truncate name size) X = side_rewritten P k (Truncate name size) X
-side_done P k (Remove name) X = drop_key (λ x. x.key) k X
-side_done P k call X = X
+-- the sides after an effect on the file of P with that key
+abbrev pub affected_side : Effect → FileKey → List File → List Side → List Side
+affected_side Leaves k P X = X
+affected_side (Makes name) k P X = put_key (λ x. x.key) (record { key = k; mapped = []; kept = nothing_kept }) X
+affected_side Drops k P X = drop_key (λ x. x.key) k X
+affected_side effect k P X = change_key (λ x. x.key) k (remade_side effect (length (body_of k P))) X
 
--- a session's call was done
-abbrev pub side_served : DmCall → List Side → List Side
-side_served (SetRegion token handle regions) X = change_key (λ x. x.key) handle.key (λ x. record x { regions = regions }) X
-side_served (SetDmAttr token handle name value) X = change_key (λ x. x.key) handle.key (λ x. record x { attributes = with_value name value x.attributes }) X
-side_served (RemoveDmAttr token handle name) X = change_key (λ x. x.key) handle.key (λ x. record x { attributes = without_value name x.attributes }) X
-side_served call X = X
+abbrev pub side_replied : List File → Meant → Reply → List Side → List Side
+side_replied P a reply X = if is_completion reply then affected_side (effect_of a.call) (key_by a.key reply) P X else X
+
+abbrev pub side_changed : Change → List File → List Side → List Side
+side_changed Nothing P X = X
+side_changed (OfFile k effect) P X = affected_side effect k P X
+side_changed (OfSessions to) P X = X
+
+abbrev pub side_told : List File → Sid → DmCall → DmReply → List Side → List Side
+side_told P sid call (told.Refused why) X = X
+side_told P sid call reply X = side_changed (change_of sid call) P X
 
 abbrev pub side_given : World → Actor → Action → Answer → List Side → List Side
-side_given W (Caller c) (Issue call) (Replied reply) X = if is_completion reply then side_done W.files (key_meant (listing W.files) call reply) call X else X
-side_given W (Session sid) (Dm call) (Told told.Done) X = side_served call X
+side_given W (Caller c) (Issue call) (Replied reply) X = side_replied W.files (meant_for W call) reply X
+side_given W (Session sid) (Dm call) (Told reply) X = side_told W.files sid call reply X
 side_given W actor action answer X = X
 
--- the sides after these entries
+-- the sides after these entries. A fault changes nothing
 abbrev pub side_after : World → List Side → List Entry → List Side
 side_after W X [] = X
-side_after W X (e ∷ es) = side_after (after W e) (side_given W e.actor e.action e.answer X) es
+side_after W X (e ∷ es) = side_after (after W e) (if is_fault e.answer then X else side_given W e.actor e.action e.answer X) es

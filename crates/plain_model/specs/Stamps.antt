@@ -1,8 +1,7 @@
--- Access stamps, from a history alone.
-use Rattle.std.specs.Prelude.{ℕ, ◌+◌, List, [], ◌∷◌, Bool, true, false, ◌&&◌, if◌then◌else◌}
+-- Meant stamps, from a history alone.
+use Rattle.std.specs.Prelude.{ℕ, ◌+◌, List, [], ◌∷◌, Bool, false, ◌&&◌, if◌then◌else◌}
 use Rattle.hsm_types.specs.declared.keys.FileKey.{FileKey}
-use Rattle.hsm_types.specs.declared.calls.Call.{Call}
-use Rattle.hsm_types.specs.declared.calls.Call.TheVariants.{Read, Write, Truncate}
+use Rattle.hsm_types.specs.declared.calls.Reply.{Reply}
 use Rattle.plain_model.specs.declared.entries.Entry.{Entry}
 use Rattle.plain_model.specs.declared.entries.Actor.{Actor}
 use Rattle.plain_model.specs.declared.entries.Actor.TheVariants.{Caller}
@@ -11,18 +10,17 @@ use Rattle.plain_model.specs.declared.entries.Action.TheVariants.{Issue}
 use Rattle.plain_model.specs.declared.entries.Answer.{Answer}
 use Rattle.plain_model.specs.declared.entries.Answer.TheVariants.{Call as Replied}
 use Rattle.plain_model.specs.Keyed.{same_key}
-use Rattle.plain_model.specs.Plain.{listing, key_meant}
-use Rattle.plain_model.specs.Step.{World, is_completion, after}
+use Rattle.plain_model.specs.Ledger.{Meant, is_completion}
+use Rattle.plain_model.specs.Verdict.{is_access}
+use Rattle.plain_model.specs.Step.{World, meant_for, after}
 
-abbrev pub is_access : Call → Bool
-is_access (Read name offset len) = true
-is_access (Write name offset bytes) = true
-is_access (Truncate name size) = true
-is_access call = false
+-- it is a reply that the call was done, and the call is a read, a write or a truncate of the file with that key
+abbrev pub reaches_key : Meant → Reply → FileKey → Bool
+reaches_key a reply k = is_completion reply && is_access a.call && same_key k a.key
 
--- in W, a read, a write or a truncate of the file with that key was done
+-- in W, such an access of the file with that key was done
 abbrev pub accesses : World → FileKey → Actor → Action → Answer → Bool
-accesses W k (Caller c) (Issue call) (Replied reply) = is_completion reply && is_access call && same_key k (key_meant (listing W.files) call reply)
+accesses W k (Caller c) (Issue call) (Replied reply) = reaches_key (meant_for W call) reply k
 accesses W k actor action answer = false
 
 -- the numbers of the entries that did so. Entries are counted on from that number

@@ -1,12 +1,19 @@
 -- When what a store holds stands for a plain map.
-use Rattle.std.specs.Prelude.{◌≡◌, ◌<◌, List, [], ◌∷◌}
+use Rattle.std.specs.Prelude.{ℕ, ◌≡◌, ◌<◌, List, [], ◌∷◌, length, get_or}
 use Rattle.plain_model.specs.Plain.{File}
 use Rattle.plain_model.specs.Step.{World}
-use Rattle.plain_model.specs.State.{FileState, Held}
+use Rattle.plain_model.specs.State.{FileState, State}
+
+-- what is held of a file's bytes stands for these bytes: as many, and each at its place
+pub record HasBody (f : FileState) (body : List ℕ) : Type 0 where
+  pub size : length f.body ≡ length body
+  pub bytes : (i : ℕ) → get_or f.body i 0 ≡ get_or body i 0
 
 -- the held file is that of the map
-abbrev pub IsFile : FileState → File → Type 0
-IsFile f g = (f.key ≡ g.key) × (f.name ≡ g.name) × (f.body ≡ g.body)
+pub record IsFile (f : FileState) (g : File) : Type 0 where
+  pub key : f.key ≡ g.key
+  pub name : f.name ≡ g.name
+  pub body : HasBody f g.body
 
 -- each held file is that of the map at its place, and the map has no other
 abbrev pub Stands : List FileState → List File → Type 0
@@ -15,7 +22,8 @@ Stands (f ∷ fs) (g ∷ gs) = IsFile f g × Stands fs gs
 Stands [] (g ∷ gs) = ⊥
 Stands (f ∷ fs) [] = ⊥
 
--- the store stands for the world's map, and its next generation is new there
-pub record StandsFor (h : Held) (W : World) : Type 0 where
-  pub files : Stands h.files W.files
-  pub newer : W.last < h.next
+-- the store stands for the world: for its map, with a next generation that is new there, and with the same ledger
+pub record StandsFor (st : State) (W : World) : Type 0 where
+  pub files : Stands st.held.files W.files
+  pub newer : W.last < st.held.next
+  pub ledger : st.ledger ≡ W.ledger

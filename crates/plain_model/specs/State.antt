@@ -1,19 +1,14 @@
--- What a store holds, as contracts see it, and its exact answers.
-use Rattle.std.specs.Prelude.{ℕ, ◌+◌, ◌-◌, List, [], ◌∷◌, length, map, sum_by, count_by, Bool, nat_lt, if◌then◌else◌, Option, Some, None}
-use Rattle.hsm_types.specs.Refusals.{first_refusal}
-use Rattle.hsm_types.specs.Attributes.{Attributes}
+-- What a store holds, and a store at a moment.
+use Rattle.std.specs.Prelude.{ℕ, ◌+◌, List, [], length, map, sum_by, count_by, Bool, Option, Some, None}
+use Rattle.hsm_types.specs.Attributes.{with_value, without_value}
+use Rattle.hsm_types.specs.Kept.{Kept, nothing_kept}
+use Rattle.hsm_types.specs.Sessions.{SessionTable, no_sessions}
 use Rattle.hsm_types.specs.declared.keys.FileKey.{FileKey}
-use Rattle.hsm_types.specs.declared.regions.Region.{Region}
-use Rattle.hsm_types.specs.declared.stores.Superblock.{Superblock}
-use Rattle.hsm_types.specs.declared.calls.Call.{Call}
-use Rattle.hsm_types.specs.declared.calls.Call.TheVariants.{Create, Read, Write, Truncate, Remove, Stat, Sync}
-use Rattle.hsm_types.specs.declared.calls.CallRefusal.{CallRefusal}
-use Rattle.hsm_types.specs.declared.calls.CallRefusal.TheVariants.{NoSpace}
-use Rattle.hsm_types.specs.declared.calls.Reply.{Reply}
-use Rattle.hsm_types.specs.declared.calls.Reply.TheVariants.{Done, Made, Data, Size, Refused}
 use Rattle.plain_model.specs.Keyed.{find_key, change_key, put_key, drop_key}
-use Rattle.plain_model.specs.Plain.{Listed, named, free_inode, refusal_of, key_or_none, read_at, written, resized}
-use Rattle.plain_model.specs.Blocks.{touched, mapped_after}
+use Rattle.plain_model.specs.Effects.{Effect, Leaves, Makes, Drops, Manages, Attaches, Detaches, Change, Nothing, OfFile, OfSessions}
+use Rattle.plain_model.specs.Plain.{Listed, free_inode, rebody}
+use Rattle.plain_model.specs.Ledger.{Ledger, no_ledger}
+use Rattle.plain_model.specs.Blocks.{remapped}
 
 -- a file as the store holds it: its bytes, for each of its blocks whether it is mapped, and what sessions keep with it
 pub record FileState : Type 0 where
@@ -21,8 +16,7 @@ pub record FileState : Type 0 where
   pub name : List ℕ
   pub body : List ℕ
   pub mapped : List Bool
-  pub regions : List Region
-  pub attributes : Attributes
+  pub kept : Kept
 
 -- what a store holds: its files in the order of their inodes, and the generation that the next create gives
 pub record Held : Type 0 where
@@ -33,6 +27,10 @@ pub record Held : Type 0 where
 abbrev pub nothing_held : Held
 nothing_held = record { files = []; next = 1 }
 
+-- a new file
+abbrev pub new_file : FileKey → List ℕ → FileState
+new_file k name = record { key = k; name = name; body = []; mapped = []; kept = nothing_kept }
+
 -- the key and the name of each file
 abbrev pub names_of : List FileState → List Listed
 names_of files = map (λ f. record { key = f.key; name = f.name }) files
@@ -41,17 +39,17 @@ names_of files = map (λ f. record { key = f.key; name = f.name }) files
 abbrev pub next_key : Held → FileKey
 next_key h = record { ino = free_inode 1 (names_of h.files); igen = h.next }
 
--- the key of the file with that name
-abbrev pub key_named : List ℕ → List FileState → FileKey
-key_named name files = key_or_none (named name (names_of files))
+abbrev pub file_or_new : FileKey → Option FileState → FileState
+file_or_new k None = new_file k []
+file_or_new k (Some f) = f
 
-abbrev pub bytes_or_none : Option FileState → List ℕ
-bytes_or_none None = []
-bytes_or_none (Some f) = f.body
+-- the file with that key; where there is none, one with nothing in it
+abbrev pub file_at : FileKey → List FileState → FileState
+file_at k files = file_or_new k (find_key (λ f. f.key) k files)
 
 -- the bytes that are held of the file with that key
 abbrev pub bytes_of : FileKey → List FileState → List ℕ
-bytes_of k files = bytes_or_none (find_key (λ f. f.key) k files)
+bytes_of k files = (file_at k files).body
 
 -- how many blocks are mapped
 abbrev pub used_by : FileState → ℕ
@@ -60,67 +58,47 @@ used_by f = count_by (λ b. b) f.mapped
 abbrev pub used : List FileState → ℕ
 used files = sum_by used_by files
 
--- the file is changed as by a write or a truncate
-abbrev pub rewritten : (List ℕ → List ℕ) → Call → FileState → FileState
-rewritten change call f = record f { body = change f.body; mapped = mapped_after (length f.body) call f.mapped }
+-- ---- effects
 
--- ---- what refuses a lawful call: it touches more blocks than are free
+-- what is kept with a file after an effect on it, which had that size
+abbrev pub rekept : Effect → ℕ → Kept → Kept
+rekept (Manages regions) size kept = record kept { regions = regions }
+rekept (Attaches name value) size kept = record kept { attributes = with_value name value kept.attributes }
+rekept (Detaches name) size kept = record kept { attributes = without_value name kept.attributes }
+rekept effect size kept = kept
 
-abbrev pub no_space : ℕ → ℕ → Option CallRefusal
-no_space need free = if nat_lt free need then Some (NoSpace need free) else None
+-- the file after an effect on it
+abbrev pub remade : Effect → FileState → FileState
+remade effect f = record f { body = rebody effect f.body; mapped = remapped effect (length f.body) f.mapped; kept = rekept effect (length f.body) f.kept }
 
-abbrev pub name_meant : Call → List ℕ
-name_meant (Create name) = name
-name_meant (Read name offset len) = name
-name_meant (Write name offset bytes) = name
-name_meant (Truncate name size) = name
-name_meant (Remove name) = name
-name_meant (Stat name) = name
-name_meant Sync = []
+-- the files after an effect on the one with that key
+abbrev pub affected_held : Effect → FileKey → List FileState → List FileState
+affected_held Leaves k files = files
+affected_held (Makes name) k files = put_key (λ f. f.key) (new_file k name) files
+affected_held Drops k files = drop_key (λ f. f.key) k files
+affected_held effect k files = change_key (λ f. f.key) k (remade effect) files
 
-abbrev pub space_refusal : Superblock → Held → Call → Option CallRefusal
-space_refusal s h call =
-    let size = length (bytes_of (key_named (name_meant call) h.files) h.files) in
-    no_space (length (touched size call)) (s.geometry.blocks - used h.files)
+-- ---- the store at a moment
 
--- what refuses the call, in the order of judgement
-abbrev pub judged : Superblock → Held → Call → Option CallRefusal
-judged s h call = first_refusal (refusal_of s (names_of h.files) call ∷ space_refusal s h call ∷ [])
+pub record State : Type 0 where
+  pub held : Held
+  -- of each file, the number of the last entry that completed a read, a write or a truncate of it since the opening, 0 for none
+  pub stamps : FileKey → ℕ
+  -- the number of the last entry
+  pub number : ℕ
+  pub sessions : SessionTable
+  pub ledger : Ledger
 
--- ---- the answers
+-- a store that holds this and was just opened. Its entries are counted on from the number that was found
+abbrev pub just_opened : ℕ → Held → State
+just_opened base h = record { held = h; stamps = λ k. 0; number = base; sessions = no_sessions; ledger = no_ledger }
 
--- the reply to a call that nothing refuses
-abbrev pub done_reply : Held → Call → Reply
-done_reply h (Create name) = Made (next_key h)
-done_reply h (Read name offset len) = Data (read_at offset len (bytes_of (key_named name h.files) h.files))
-done_reply h (Write name offset bytes) = Done
-done_reply h (Truncate name size) = Done
-done_reply h (Remove name) = Done
-done_reply h (Stat name) = Size (length (bytes_of (key_named name h.files) h.files))
-done_reply h Sync = Done
+-- an entry more, which changes nothing else
+abbrev pub noted : State → State
+noted st = record st { number = st.number + 1 }
 
--- what is held after such a call
-abbrev pub done_held : Held → Call → Held
-done_held h (Create name) = record { files = put_key (λ f. f.key) (record { key = next_key h; name = name; body = []; mapped = []; regions = []; attributes = [] }) h.files; next = h.next + 1 }
-done_held h (Read name offset len) = h
-done_held h (Write name offset bytes) = record h { files = change_key (λ f. f.key) (key_named name h.files) (rewritten (written offset bytes) (Write name offset bytes)) h.files }
-done_held h (Truncate name size) = record h { files = change_key (λ f. f.key) (key_named name h.files) (rewritten (resized size) (Truncate name size)) h.files }
-done_held h (Remove name) = record h { files = drop_key (λ f. f.key) (key_named name h.files) h.files }
-done_held h (Stat name) = h
-done_held h Sync = h
-
-abbrev pub reply_where : Option CallRefusal → Held → Call → Reply
-reply_where (Some why) h call = Refused why
-reply_where None h call = done_reply h call
-
-abbrev pub held_where : Option CallRefusal → Held → Call → Held
-held_where (Some why) h call = h
-held_where None h call = done_held h call
-
--- the store's reply to a call
-abbrev pub reply_to : Superblock → Held → Call → Reply
-reply_to s h call = reply_where (judged s h call) h call
-
--- what the store holds after the call
-abbrev pub held_after : Superblock → Held → Call → Held
-held_after s h call = held_where (judged s h call) h call
+-- the store after a change
+abbrev pub changed : Change → State → State
+changed Nothing st = st
+changed (OfFile k effect) st = record st { held = record st.held { files = affected_held effect k st.held.files } }
+changed (OfSessions to) st = record st { sessions = to st.sessions }

@@ -1,14 +1,18 @@
 -- Which event may come in a world, and the world that it leaves.
-use Rattle.std.specs.Prelude.{ℕ, ◌≡◌, ◌<◌, ◌⊎◌, List, length, Bool, true, false, if◌then◌else◌, is_some, IsTrue, MatchOption}
+use Rattle.std.specs.Prelude.{ℕ, ◌≡◌, ◌<◌, ◌⊎◌, List, length, Bool, true, false, if◌then◌else◌, Option, is_some, IsTrue, MatchOption}
+use Rattle.hsm_types.specs.Answers.{reply_kind}
+use Rattle.hsm_types.specs.Forms.{answer_kind}
 use Rattle.hsm_types.specs.declared.keys.FileKey.{FileKey}
+use Rattle.hsm_types.specs.declared.keys.Sid.{Sid}
 use Rattle.hsm_types.specs.declared.stores.Superblock.{Superblock}
 use Rattle.hsm_types.specs.declared.calls.Call.{Call}
 use Rattle.hsm_types.specs.declared.calls.Call.TheVariants.{Create, Write, Truncate}
+use Rattle.hsm_types.specs.declared.calls.CallRefusal.{CallRefusal}
 use Rattle.hsm_types.specs.declared.calls.CallRefusal.TheVariants.{NoSpace}
 use Rattle.hsm_types.specs.declared.calls.Reply.{Reply}
-use Rattle.hsm_types.specs.declared.calls.Reply.TheVariants.{Done, Made, Data, Size, Refused}
+use Rattle.hsm_types.specs.declared.calls.Reply.TheVariants.{Done, Made, Refused}
 use Rattle.hsm_types.specs.declared.dm.DmCall.{DmCall}
-use Rattle.hsm_types.specs.declared.dm.DmCall.TheVariants.{CreateSession, GetAllSessions, QuerySession, GetFileAttr, SetRegion, GetRegion, SetDmAttr, GetDmAttr, RemoveDmAttr, GetAllDmAttr, PathToHandle, GetSpace}
+use Rattle.hsm_types.specs.declared.dm.DmCall.TheVariants.{GetFileAttr, PathToHandle}
 use Rattle.hsm_types.specs.declared.dm.DmReply.{DmReply}
 use Rattle.hsm_types.specs.declared.dm.DmReply.TheVariants as told
 use Rattle.plain_model.specs.declared.entries.Entry.{Entry}
@@ -18,109 +22,114 @@ use Rattle.plain_model.specs.declared.entries.Action.{Action}
 use Rattle.plain_model.specs.declared.entries.Action.TheVariants.{Issue, Dm, Commit}
 use Rattle.plain_model.specs.declared.entries.Answer.{Answer}
 use Rattle.plain_model.specs.declared.entries.Answer.TheVariants.{Call as Replied, Dm as Told}
-use Rattle.plain_model.specs.Faults.{fault_of}
 use Rattle.plain_model.specs.Keyed.{find_key}
-use Rattle.plain_model.specs.Plain.{File, listing, named, key_or_none, body_of, free_inode, greatest, refusal_of, key_meant, act}
+use Rattle.plain_model.specs.Effects.{Change, Nothing, OfFile, OfSessions, change_of}
+use Rattle.plain_model.specs.Plain.{File, listing, named, key_or_none, body_of, free_inode, greatest, key_by, affected, act}
+use Rattle.plain_model.specs.Ledger.{Meant, Ledger, no_ledger, meant, objection, is_completion, ledger_replied}
+use Rattle.plain_model.specs.Faults.{is_fault, IsFault}
 
--- the plain map, and the greatest generation that was ever given
+-- the plain map, the greatest generation that was ever given, and what users see of waiting
 pub record World : Type 0 where
   pub files : List File
   pub last : ℕ
+  pub ledger : Ledger
 
 -- the world before the first event
 abbrev pub start : List File → World
-start P = record { files = P; last = greatest (listing P) }
+start P = record { files = P; last = greatest (listing P); ledger = no_ledger }
 
--- the reply says that the call was done
-abbrev pub is_completion : Reply → Bool
-is_completion Done = true
-is_completion (Made k) = true
-is_completion (Data bytes) = true
-is_completion (Size n) = true
-is_completion (Refused why) = false
+-- ---- callers
 
 -- a create gives the lowest free inode, and a generation above each one before
 abbrev pub IsNewKey : World → Call → FileKey → Type 0
 IsNewKey W (Create name) k = (k.ino ≡ free_inode 1 (listing W.files)) × (W.last < k.igen)
 IsNewKey W call k = Unit {0}
 
--- the call is done as on a plain map
-abbrev pub Completes : World → Call → Reply → Type 0
-Completes W call reply =
-    let k = key_meant (listing W.files) call reply in
-    IsNewKey W call k × (reply ≡ (act W.files k call).0)
+-- the call on the file with that key is done as on a plain map
+abbrev pub Completes : World → FileKey → Call → Reply → Type 0
+Completes W k call reply = IsNewKey W call (key_by k reply) × (reply ≡ (act W.files (key_by k reply) call).0)
 
 -- only these calls want space
-abbrev pub WantsSpace : Call → Type 0
-WantsSpace (Write name offset bytes) = Unit {0}
-WantsSpace (Truncate name size) = Unit {0}
-WantsSpace call = ⊥
+abbrev pub wants_space : Call → Bool
+wants_space (Write name offset bytes) = true
+wants_space (Truncate name size) = true
+wants_space call = false
 
--- the outcome of a call that is lawful: it is done, or too few blocks are free
-abbrev pub IsOutcome : World → Call → Reply → Type 0
-IsOutcome W call (Refused (NoSpace need free)) = WantsSpace call × (free < need)
-IsOutcome W call reply = Completes W call reply
+-- what may come of a call that nothing objects to: it is done, or too few blocks are free
+abbrev pub IsOutcome : World → FileKey → Call → Reply → Type 0
+IsOutcome W k call (Refused (NoSpace need free)) = IsTrue (wants_space call) × (free < need)
+IsOutcome W k call reply = Completes W k call reply
 
--- a caller's call may get this reply: its refusal where it has one, else an outcome
-abbrev pub MayReply : Superblock → World → Call → Reply → Type 0
-MayReply s W call reply = MatchOption (refusal_of s (listing W.files) call) (IsOutcome W call reply) (λ why. reply ≡ Refused why)
+-- an access may get this reply: the refusal where there is an objection, else an outcome
+abbrev pub MayReply : World → Option CallRefusal → Meant → Reply → Type 0
+MayReply W why a reply = MatchOption why (IsOutcome W a.key a.call reply) (λ y. reply ≡ Refused y)
 
-abbrev pub last_after : ℕ → Reply → ℕ
-last_after last (Made k) = k.igen
-last_after last reply = last
+-- what a caller's call means, and what ends it before a store is asked
+abbrev pub meant_for : World → Call → Meant
+meant_for W call = meant (listing W.files) call
 
--- the world after a call got this reply
-abbrev pub replied : World → Call → Reply → World
-replied W call reply =
-    if is_completion reply
-    then record { files = (act W.files (key_meant (listing W.files) call reply) call).1; last = last_after W.last reply }
-    else W
+abbrev pub objection_for : Superblock → World → Call → Option CallRefusal
+objection_for s W call = objection s (listing W.files) call
 
--- a session's call may get this reply: a refusal, or the answer of its kind. The size and the key that it tells are those of the plain map
+abbrev pub files_replied : List File → Meant → Reply → List File
+files_replied P a reply = if is_completion reply then (act P (key_by a.key reply) a.call).1 else P
+
+abbrev pub last_by : ℕ → Reply → ℕ
+last_by last (Made k) = k.igen
+last_by last reply = last
+
+-- the world after the reply
+abbrev pub replied : World → ℕ → Meant → Reply → World
+replied W c a reply = record { files = files_replied W.files a reply; last = last_by W.last reply; ledger = ledger_replied W.ledger c a reply }
+
+-- ---- sessions
+
+-- A session's call may get this reply: a refusal, or the answer of its kind. The size and the key that it tells are those of the plain map
 abbrev pub MayTell : Superblock → World → DmCall → DmReply → Type 0
 MayTell s W call (told.Refused why) = Unit {0}
-MayTell s W (CreateSession old info) (told.Session sid) = Unit {0}
-MayTell s W GetAllSessions (told.Sids sids) = Unit {0}
-MayTell s W (QuerySession target) (told.Info info) = Unit {0}
 MayTell s W (GetFileAttr token handle) (told.Attr size stamp blocks) = IsTrue (is_some (find_key (λ f. f.key) handle.key W.files)) × (size ≡ length (body_of handle.key W.files))
 MayTell s W (PathToHandle name) (told.Handle handle) = IsTrue (is_some (named name (listing W.files))) × (handle ≡ record { fsid = s.fsid; key = key_or_none (named name (listing W.files)) })
-MayTell s W GetSpace (told.Space used total) = Unit {0}
-MayTell s W (SetRegion token handle regions) told.Done = Unit {0}
-MayTell s W (GetRegion token handle) (told.Regions regions) = Unit {0}
-MayTell s W (SetDmAttr token handle name value) told.Done = Unit {0}
-MayTell s W (GetDmAttr token handle name) (told.Data value) = Unit {0}
-MayTell s W (RemoveDmAttr token handle name) told.Done = Unit {0}
-MayTell s W (GetAllDmAttr token handle) (told.Names names) = Unit {0}
-MayTell s W call reply = ⊥
+MayTell s W call reply = reply_kind reply ≡ answer_kind call
+
+-- what the plain map knows of a change
+abbrev pub changed_plain : Change → List File → List File
+changed_plain Nothing P = P
+changed_plain (OfFile k effect) P = affected effect k P
+changed_plain (OfSessions to) P = P
+
+abbrev pub files_told : List File → Sid → DmCall → DmReply → List File
+files_told P sid call (told.Refused why) = P
+files_told P sid call reply = changed_plain (change_of sid call) P
+
+-- the world after a session was told this
+abbrev pub world_told : World → Sid → DmCall → DmReply → World
+world_told W sid call reply = record W { files = files_told W.files sid call reply }
+
+-- ---- any event
 
 -- the answer is of the actor's and the action's kind, and may come
 abbrev pub MayAnswer : Superblock → World → Actor → Action → Answer → Type 0
-MayAnswer s W (Caller c) (Issue call) (Replied reply) = MayReply s W call reply
+MayAnswer s W (Caller c) (Issue call) (Replied reply) = MayReply W (objection_for s W call) (meant_for W call) reply
 MayAnswer s W (Session sid) (Dm call) (Told reply) = MayTell s W call reply
 MayAnswer s W Store Commit (Replied reply) = reply ≡ Done
 MayAnswer s W actor action answer = ⊥
 
--- callers issue calls, sessions make theirs, and the store commits
-abbrev pub Acts : Actor → Action → Type 0
-Acts (Caller c) (Issue call) = Unit {0}
-Acts (Session sid) (Dm call) = Unit {0}
-Acts Store Commit = Unit {0}
-Acts actor action = ⊥
-
--- from W the actor's action may get this answer. In each event a call of the disk may fail
+-- from W the actor's action may get this answer
 abbrev pub MayGive : Superblock → World → Actor → Action → Answer → Type 0
-MayGive s W actor action answer = Acts actor action × (answer ≡ fault_of action) ⊎ MayAnswer s W actor action answer
+MayGive s W actor action answer = IsFault actor action answer ⊎ MayAnswer s W actor action answer
 
--- the world that it leaves
+-- the world that it leaves, where it is for no fault
 abbrev pub given : World → Actor → Action → Answer → World
-given W (Caller c) (Issue call) (Replied reply) = replied W call reply
+given W (Caller c) (Issue call) (Replied reply) = replied W c (meant_for W call) reply
+given W (Session sid) (Dm call) (Told reply) = world_told W sid call reply
 given W actor action answer = W
 
 abbrev pub Allows : Superblock → World → Entry → Type 0
 Allows s W e = MayGive s W e.actor e.action e.answer
 
+-- the world after the entry. A fault changes nothing
 abbrev pub after : World → Entry → World
-after W e = given W e.actor e.action e.answer
+after W e = if is_fault e.answer then W else given W e.actor e.action e.answer
 
 -- the step: from W the entry may come, and it leaves V
 abbrev pub Step : Superblock → World → Entry → World → Type 0

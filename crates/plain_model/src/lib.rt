@@ -10,7 +10,5 @@ mod transcript;
 
 pub use actions::{Spelling, push_event};
 pub use entries::{Action, Actor, Answer, Entry, History};
-pub use laws::{
-    exact_is_legal, exact_is_once, exact_is_sided, exact_is_stamped, synced_grows, transparent,
-};
+pub use laws::{run_is_good, synced_grows, transparent};
 pub use transcript::render;

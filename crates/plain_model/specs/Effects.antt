@@ -1,0 +1,59 @@
+-- What an event does to one file, of callers and sessions alike. What becomes of files, and of what stands beside them, goes by the effect of a
+-- completed event, and not by its call.
+use Rattle.std.specs.Prelude.{ℕ, List}
+use Rattle.hsm_types.specs.Sessions.{SessionTable, with_session}
+use Rattle.hsm_types.specs.declared.attributes.AttrName.{AttrName}
+use Rattle.hsm_types.specs.declared.regions.Region.{Region}
+use Rattle.hsm_types.specs.declared.keys.FileKey.{FileKey}
+use Rattle.hsm_types.specs.declared.keys.Sid.{Sid}
+use Rattle.hsm_types.specs.declared.calls.Call.{Call}
+use Rattle.hsm_types.specs.declared.calls.Call.TheVariants.{Create, Read, Write, Truncate, Remove, Stat, Sync}
+use Rattle.hsm_types.specs.declared.dm.DmCall.{DmCall}
+use Rattle.hsm_types.specs.declared.dm.DmCall.TheVariants.{CreateSession, GetAllSessions, QuerySession, GetFileAttr, SetRegion, GetRegion, SetDmAttr, GetDmAttr, RemoveDmAttr, GetAllDmAttr, PathToHandle, GetSpace}
+
+pub data Effect : Type 0 where
+  Leaves : Effect
+  -- a new file of that name, with no bytes
+  Makes : List ℕ → Effect
+  Drops : Effect
+  -- the bytes stand at the offset
+  Writes : ℕ → List ℕ → Effect
+  -- the file has that size
+  Resizes : ℕ → Effect
+  -- its regions are these
+  Manages : List Region → Effect
+  -- its attribute of that name has this value
+  Attaches : AttrName → List ℕ → Effect
+  -- it has no attribute of that name
+  Detaches : AttrName → Effect
+
+-- of a caller's call that is done
+abbrev pub effect_of : Call → Effect
+effect_of (Create name) = Makes name
+effect_of (Read name offset len) = Leaves
+effect_of (Write name offset bytes) = Writes offset bytes
+effect_of (Truncate name size) = Resizes size
+effect_of (Remove name) = Drops
+effect_of (Stat name) = Leaves
+effect_of Sync = Leaves
+
+-- what a call changes that is done: nothing, one file, or the sessions
+pub data Change : Type 0 where
+  Nothing : Change
+  OfFile : FileKey → Effect → Change
+  OfSessions : (SessionTable → SessionTable) → Change
+
+-- of a call of that session
+abbrev pub change_of : Sid → DmCall → Change
+change_of sid (CreateSession old info) = OfSessions (with_session old info)
+change_of sid GetAllSessions = Nothing
+change_of sid (QuerySession target) = Nothing
+change_of sid (GetFileAttr token handle) = Nothing
+change_of sid (SetRegion token handle regions) = OfFile handle.key (Manages regions)
+change_of sid (GetRegion token handle) = Nothing
+change_of sid (SetDmAttr token handle name value) = OfFile handle.key (Attaches name value)
+change_of sid (GetDmAttr token handle name) = Nothing
+change_of sid (RemoveDmAttr token handle name) = OfFile handle.key (Detaches name)
+change_of sid (GetAllDmAttr token handle) = Nothing
+change_of sid (PathToHandle name) = Nothing
+change_of sid GetSpace = Nothing
