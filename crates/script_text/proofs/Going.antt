@@ -4,7 +4,7 @@ use Rattle.script_text.specs.declared.lines.Line.{Line}
 use Rattle.script_text.specs.Scripts.{texts_of, GoesOn, AreLines, IsScript, IsFirstBad}
 use Rattle.script_text.specs.Laws.{IsOneScript, FirstBadIsOne}
 use Rattle.script_text.proofs.Cutting.{texts_of-none}
-use Rattle.script_text.proofs.Spelling.{line_text-injective}
+use Rattle.script_text.proofs.Speaking.{line_text-injective}
 
 abbrev GoesOnNone : List Line → List ℕ → Type 0
 GoesOnNone before text = (line : Line) → ¬ (GoesOn before text line)

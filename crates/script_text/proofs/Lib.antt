@@ -1,9 +1,12 @@
-pub mod Cutting
-pub mod Numerals
-pub mod HexText
-pub mod Spelling
-pub mod Going
-pub mod Printed
-pub mod Parts
-pub mod SessionParts
-pub mod RegionParts
+mod Calling
+mod Cutting
+mod DataParts
+mod Going
+mod Handling
+mod HexText
+mod Numerals
+mod Parting
+mod Printed
+mod RegionParts
+mod Speaking
+mod Spelling

@@ -8,7 +8,7 @@ use Rattle.script_text.specs.Lines.{line_text, IsLine, access_length}
 use Rattle.script_text.specs.Scripts.{texts_of, AreLines, IsScript, AreLawful, script_text}
 use Rattle.script_text.specs.Laws.{IsReadAgain}
 use Rattle.script_text.proofs.Cutting.{texts_of-line}
-use Rattle.script_text.proofs.Spelling.{Lacks-newline}
+use Rattle.script_text.proofs.Speaking.{Lacks-newline}
 use Rattle.script_text.proofs.Going.{one_script}
 
 abbrev AreShort : List Line → Type 0

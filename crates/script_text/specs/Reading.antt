@@ -1,25 +1,26 @@
 -- What the parts of a line are read as.
-use Rattle.std.specs.Prelude.{ℕ, ◌≡◌, ◌≢◌, ◌^◌, ◌<◌, ◌≤◌, List, [], ◌∷◌, ◌++◌, length, codes, Option, Some, None, Bool, IsTrue, nat_le, ◌==◌, ◌&&◌, ◌||◌}
+use Rattle.std.specs.Prelude.{ℕ, ◌≡◌, ◌≢◌, ◌^◌, ◌<◌, ◌≤◌, List, [], ◌∷◌, ◌++◌, length, map, Option, Some, None, Bool, true, false, nat_le, ◌==◌, ◌&&◌, ◌||◌}
 use Rattle.std.specs.List.{AllByRecursion, slice_split}
 use Rattle.std.specs.Fmt.{decimal}
-use Rattle.hsm_types.specs.declared.attributes.AttrName.{AttrName}
 use Rattle.hsm_types.specs.declared.keys.FileKey.{FileKey}
 use Rattle.hsm_types.specs.declared.keys.Sid.{Sid}
+use Rattle.hsm_types.specs.declared.parts.Part.{Part}
+use Rattle.hsm_types.specs.declared.parts.PartKind.{PartKind}
+use Rattle.hsm_types.specs.declared.parts.PartKind.TheVariants as kinds
 use Rattle.hsm_types.specs.declared.regions.Region.{Region}
+use Rattle.hsm_types.specs.Forms.{verb_text, call_form, dm_verb_text, dm_form}
+use Rattle.hsm_types.specs.Parts.{kind_of}
 use Rattle.plain_model.specs.declared.entries.Actor.{Actor}
-use Rattle.plain_model.specs.declared.entries.Actor.TheVariants.{Caller, Session, Store}
-use Rattle.plain_model.specs.Render.{spaced, actor_word, handle_word, name_word, call_words, dm_words}
+use Rattle.plain_model.specs.declared.entries.Actor.TheVariants.{Caller, Session}
+use Rattle.plain_model.specs.Render.{spaced, actor_word, part_word, form_words}
 use Rattle.script_text.specs.declared.bodies.Body.{Body}
 use Rattle.script_text.specs.declared.bodies.Pattern.{Pattern}
-use Rattle.script_text.specs.declared.addresses.Address.{Address}
+use Rattle.script_text.specs.declared.lines.Line.{Line}
+use Rattle.script_text.specs.declared.parts.ReadPart.{ReadPart}
+use Rattle.script_text.specs.declared.parts.ReadParts.{ReadParts}
 use Rattle.script_text.specs.declared.requests.DmRequest.{DmRequest}
 use Rattle.script_text.specs.declared.requests.Request.{Request}
-use Rattle.script_text.specs.declared.calls.Verb.{Verb}
-use Rattle.script_text.specs.declared.calls.Verb.TheVariants as verbs
-use Rattle.script_text.specs.declared.session_calls.DmVerb.{DmVerb}
-use Rattle.script_text.specs.declared.session_calls.DmVerb.TheVariants as dm_verbs
-use Rattle.script_text.specs.declared.lines.Line.{Line}
-use Rattle.script_text.specs.Lines.{coloned, data_word, is_word, IsData, IsCall, IsOnFile, IsRegions, IsAttrName, IsDmCall}
+use Rattle.script_text.specs.Lines.{coloned, data_word, IsData, IsRegions, IsPart, AreParts}
 use Rattle.script_text.specs.Scripts.{GoesOn}
 
 -- the lawful value that the text spells, or none where it spells none
@@ -38,10 +39,8 @@ Cuts b bytes (Some p) = (bytes ≡ p.0 ++ b ∷ p.1) × Lacks b p.0
 abbrev pub IsNumber : ℕ → Type 0
 IsNumber n = n < 2 ^ 64
 
-abbrev pub IsCaller : Actor → Type 0
-IsCaller (Caller c) = (1 ≤ c.0) × (c.0 ≤ 64)
-IsCaller (Session sid) = ⊥
-IsCaller Store = ⊥
+abbrev pub caller_word : ℕ → List ℕ
+caller_word c = actor_word (Caller c)
 
 abbrev pub sid_word : Sid → List ℕ
 sid_word sid = actor_word (Session sid)
@@ -68,70 +67,6 @@ body_text b = data_word b.seed b.bytes
 abbrev pub IsBody : Body → Type 0
 IsBody b = IsData b.seed b.bytes
 
--- a name and a number, and what stands behind them
-pub record Target : Type 0 where
-  pub name : List ℕ
-  pub offset : ℕ
-  pub last : List ℕ
-
-abbrev pub target_text : Target → List ℕ
-target_text t = spaced (t.name ∷ decimal t.offset ∷ t.last ∷ [])
-
-abbrev pub IsTarget : Target → Type 0
-IsTarget t = IsTrue (is_word t.name) × IsNumber t.offset
-
-abbrev pub call_text : Request → List ℕ
-call_text r = spaced (call_words (data_word r.seed) r.call)
-
-abbrev pub IsRequest : Request → Type 0
-IsRequest r = IsCall r.seed r.call
-
-abbrev pub verb_word : Verb → List ℕ
-verb_word verbs.Create = codes "create"
-verb_word verbs.Read = codes "read"
-verb_word verbs.Write = codes "write"
-verb_word verbs.Truncate = codes "truncate"
-verb_word verbs.Remove = codes "remove"
-verb_word verbs.Stat = codes "stat"
-
-abbrev pub dm_text : DmRequest → List ℕ
-dm_text r = spaced (dm_words (data_word r.seed) r.call)
-
-abbrev pub IsDmRequest : DmRequest → Type 0
-IsDmRequest r = IsDmCall r.seed r.call
-
-abbrev pub dm_verb_word : DmVerb → List ℕ
-dm_verb_word dm_verbs.Session = codes "session"
-dm_verb_word dm_verbs.Query = codes "query"
-dm_verb_word dm_verbs.FileAttr = codes "fileattr"
-dm_verb_word dm_verbs.SetRegion = codes "setregion"
-dm_verb_word dm_verbs.GetRegion = codes "getregion"
-dm_verb_word dm_verbs.SetAttr = codes "setattr"
-dm_verb_word dm_verbs.GetAttr = codes "getattr"
-dm_verb_word dm_verbs.RemoveAttr = codes "rmattr"
-dm_verb_word dm_verbs.AllAttrs = codes "attrs"
-dm_verb_word dm_verbs.Handle = codes "handle"
-
-abbrev pub address_text : Address → List ℕ
-address_text a = spaced (decimal a.token.0 ∷ handle_word a.handle ∷ [])
-
-abbrev pub IsAddress : Address → Type 0
-IsAddress a = IsOnFile a.token a.handle
-
--- an address, and what stands behind it
-abbrev pub addressed_text : Address × List ℕ → List ℕ
-addressed_text p = spaced (decimal p.0.token.0 ∷ handle_word p.0.handle ∷ p.1 ∷ [])
-
-abbrev pub IsAddressed : Address × List ℕ → Type 0
-IsAddressed p = IsAddress p.0
-
--- an address, and the name of an attribute
-abbrev pub attribute_text : Address × AttrName → List ℕ
-attribute_text p = addressed_text (p.0, name_word p.1)
-
-abbrev pub IsAttribute : Address × AttrName → Type 0
-IsAttribute p = IsAddress p.0 × IsAttrName p.1
-
 -- what stands between the commas
 abbrev pub parts : List ℕ → List (List ℕ)
 parts word = slice_split (λ b. b == 44) word
@@ -143,6 +78,68 @@ parts_behind (Some word) = parts word
 -- regions that are not none
 abbrev pub AreSomeRegions : List Region → Type 0
 AreSomeRegions regions = IsRegions regions × (0 < length regions)
+
+-- ---- parts of calls
+
+-- a part of that kind
+abbrev pub read_text : ReadPart → List ℕ
+read_text r = part_word (data_word r.seed) r.part
+
+abbrev pub IsOfKind : PartKind → ReadPart → Type 0
+IsOfKind kind r = (kind_of r.part ≡ kind) × IsPart r.seed r.part
+
+-- the words of parts that stand behind a verb
+abbrev pub parts_text : ReadParts → List ℕ
+parts_text r = spaced (map (part_word (data_word r.seed)) r.parts)
+
+-- the same, or none for no parts
+abbrev pub behind_verb : Option ℕ → List Part → Option (List ℕ)
+behind_verb seed [] = None
+behind_verb seed (p ∷ ps) = Some (spaced (map (part_word (data_word seed)) (p ∷ ps)))
+
+-- parts of those kinds
+abbrev pub AreOfKinds : List PartKind → ReadParts → Type 0
+AreOfKinds ks r = (map kind_of r.parts ≡ ks) × AreParts r.seed r.parts
+
+-- the parts that the text behind a verb spells
+abbrev pub ReadsParts : List PartKind → Option (List ℕ) → Option ReadParts → Type 0
+ReadsParts ks text None = (r : ReadParts) → AreOfKinds ks r → text ≢ behind_verb r.seed r.parts
+ReadsParts ks text (Some r) = AreOfKinds ks r × (text ≡ behind_verb r.seed r.parts)
+
+-- only the last part may have a seed
+abbrev pub is_plain : PartKind → Bool
+is_plain kinds.Data = false
+is_plain other = true
+
+abbrev pub is_signature : List PartKind → Bool
+is_signature [] = true
+is_signature (k ∷ []) = true
+is_signature (k ∷ l ∷ ks) = is_plain k && is_signature (l ∷ ks)
+
+-- the first word of a text, and what stands behind it, if anything
+abbrev pub with_rest : List ℕ → Option (List ℕ) → List ℕ
+with_rest word None = word
+with_rest word (Some rest) = word ++ 32 ∷ rest
+
+-- ---- calls
+
+-- a verb and the parts behind it
+abbrev pub form_text : Option ℕ → List ℕ → List Part → List ℕ
+form_text seed verb parts = spaced (form_words (data_word seed) verb parts)
+
+abbrev pub request_text : Request → List ℕ
+request_text r = form_text r.seed (verb_text (call_form r.call).0) (call_form r.call).1
+
+abbrev pub IsRequest : Request → Type 0
+IsRequest r = AreParts r.seed (call_form r.call).1
+
+abbrev pub dm_request_text : DmRequest → List ℕ
+dm_request_text r = form_text r.seed (dm_verb_text (dm_form r.call).0) (dm_form r.call).1
+
+abbrev pub IsDmRequest : DmRequest → Type 0
+IsDmRequest r = AreParts r.seed (dm_form r.call).1
+
+-- ---- lines
 
 -- what an actor and a text behind it are together
 abbrev pub text_by : Actor → List ℕ → List ℕ

@@ -1,19 +1,18 @@
 //! Scripts as bytes and as lines, and where scripts come from and transcripts go to.
 #![tactic(auto)]
 
-mod addresses;
 mod attributes;
 mod bodies;
-mod calls;
-mod file_calls;
+mod events;
+mod handles;
 mod laws;
 mod lines;
 mod memory;
 mod parser;
+mod parts;
 mod printing;
 mod regions;
 mod requests;
-mod session_calls;
 mod streams;
 mod words;
 

@@ -1,13 +1,12 @@
 //! From bytes to lines.
 ghost use Rattle.std.specs.Prelude.{◌≡◌, ◌≤◌, ◌+◌, ◌*◌, ◌<◌, ◌∷◌, length, sum_by, MatchResult, IfOk, OnOk};
-ghost use Rattle.script_text.specs.Lines.{access_length, call_access, dm_access, IsLine};
+ghost use Rattle.script_text.specs.Lines.{access_length};
 ghost use Rattle.script_text.specs.Scripts.{texts_of, IsScript, IsFirstBad, Tells};
 ghost use Rattle.script_text.specs.Reading.{GoesOnAs};
 
-use crate::calls::line;
+use crate::events::line;
 use crate::lines::{Line, Script};
 use crate::words::{are_within, cut};
-use hsm_types::{ACCESS_BYTES, Call, DmCall};
 use plain_model::Action;
 use std::alloc::{AllocError, Global};
 use thiserror::Error;
@@ -100,47 +99,14 @@ fn next_line(
     Ok(Some(line))
 }
 
-/// The bytes that a line may bring or fetch. The store fetches at most [`ACCESS_BYTES`].
+/// The bytes that a line brings or may fetch.
 fn access_bytes(line: &Line) -> u64
     ensures { result ≡ access_length line.now }
 {
     let Line::Event { action, .. } = line;
     match action {
-        Action::Issue(call) => call_bytes(call),
-        Action::Dm(call) => dm_bytes(call),
+        Action::Issue(call) => call.access_bytes(),
+        Action::Dm(call) => call.access_bytes(),
         Action::Commit => 0,
-    }
-}
-
-fn call_bytes(call: &Call) -> u64
-    ensures { result ≡ call_access call.now }
-{
-    match call {
-        Call::Read { len, .. } => (*len).min(ACCESS_BYTES),
-        Call::Write { body, .. } => body.as_slice().len() as u64,
-        Call::Create { .. }
-        | Call::Truncate { .. }
-        | Call::Remove { .. }
-        | Call::Stat { .. }
-        | Call::Sync => 0,
-    }
-}
-
-fn dm_bytes(call: &DmCall) -> u64
-    ensures { result ≡ dm_access call.now }
-{
-    match call {
-        DmCall::SetDmAttr { value, .. } => value.as_slice().len() as u64,
-        DmCall::CreateSession { .. }
-        | DmCall::GetAllSessions
-        | DmCall::QuerySession { .. }
-        | DmCall::GetFileAttr { .. }
-        | DmCall::SetRegion { .. }
-        | DmCall::GetRegion { .. }
-        | DmCall::GetDmAttr { .. }
-        | DmCall::RemoveDmAttr { .. }
-        | DmCall::GetAllDmAttr { .. }
-        | DmCall::PathToHandle { .. }
-        | DmCall::GetSpace => 0,
     }
 }

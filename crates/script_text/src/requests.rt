@@ -1,21 +1,18 @@
 //! Calls, each with the seed of its data.
-ghost use Rattle.std.specs.Prelude.{◌≡◌};
+ghost use Rattle.std.specs.Prelude.{◌≡◌, IfOk};
+ghost use Rattle.std.specs.Option.{option_map};
+ghost use Rattle.script_text.specs.Reading.{Reads, Lacks, with_rest, request_text, IsRequest, dm_request_text, IsDmRequest};
 
-use hsm_types::{Call, DmCall};
+use crate::parts::{ReadParts, parts_of};
+use crate::words::cut;
+use hsm_types::{Call, CallVerb, DmCall, DmVerb};
+use std::alloc::{AllocError, Global};
 
 /// A caller's call, and the seed of its data if they were given by one.
 #[derive(Drop)]
 pub struct Request {
     pub call: Call,
     pub seed: Option<u8>,
-}
-
-impl Request {
-    pub fn unseeded(call: Call) -> Request
-        ensures { result ≡ record { call = call; seed = None } }
-    {
-        Request { call, seed: None }
-    }
 }
 
 /// A session's call, and the seed of its data if they were given by one.
@@ -25,10 +22,43 @@ pub struct DmRequest {
     pub seed: Option<u8>,
 }
 
-impl DmRequest {
-    pub fn unseeded(call: DmCall) -> DmRequest
-        ensures { result ≡ record { call = call; seed = None } }
-    {
-        DmRequest { call, seed: None }
+/// The caller's call that a text is.
+pub fn request_of(alloc: Global, text: &[u8]) -> Result<Option<Request>, AllocError>
+    ensures { IfOk result (λ read. Reads request_text IsRequest text.now read) }
+{
+    let (word, rest) = first_word(text);
+    let Some(verb) = CallVerb::find(word) else {
+        return Ok(None);
+    };
+    let Some(ReadParts { parts, seed }) = parts_of(alloc, verb.kinds(), rest)? else {
+        return Ok(None);
+    };
+    let call = Call::of(verb, parts);
+    Ok(Some(Request { call, seed }))
+}
+
+/// The session's call that a text is.
+pub fn dm_request_of(alloc: Global, text: &[u8]) -> Result<Option<DmRequest>, AllocError>
+    ensures { IfOk result (λ read. Reads dm_request_text IsDmRequest text.now read) }
+{
+    let (word, rest) = first_word(text);
+    let Some(verb) = DmVerb::find(word) else {
+        return Ok(None);
+    };
+    let Some(ReadParts { parts, seed }) = parts_of(alloc, verb.kinds(), rest)? else {
+        return Ok(None);
+    };
+    let call = DmCall::of(verb, parts);
+    Ok(Some(DmRequest { call, seed }))
+}
+
+/// What stands before the first space, and what behind it, if there is one.
+fn first_word(text: &[u8]) -> (&[u8], Option<&[u8]>)
+    ensures whole { text.now ≡ with_rest result.0.now (option_map (λ rest. rest.now) result.1) }
+    ensures first { Lacks 32 result.0.now }
+{
+    match cut(text, b' ') {
+        Some((word, rest)) => (word, Some(rest)),
+        None => (text, None),
     }
 }

@@ -5,12 +5,11 @@ ghost use Rattle.std.specs.Char.{digit_value};
 ghost use Rattle.std.specs.Fmt.{decimal};
 ghost use Rattle.std.specs.List.{list_all};
 ghost use Rattle.std.specs.Str.Parse.{AllDigits, digits_value};
-ghost use Rattle.plain_model.specs.Render.{actor_word};
+ghost use Rattle.hsm_types.specs.Callers.{IsCallerNumber};
 ghost use Rattle.script_text.specs.Lines.{is_word, is_word_byte};
-ghost use Rattle.script_text.specs.Reading.{Reads, Cuts, IsNumber, IsCaller, sid_word, IsSid};
+ghost use Rattle.script_text.specs.Reading.{Reads, Cuts, IsNumber, caller_word, sid_word, IsSid};
 
-use hsm_types::{CALLERS, CallerId, Sid, Word};
-use plain_model::Actor;
+use hsm_types::{CallerId, Sid, Word};
 use std::alloc::{AllocError, Global};
 
 /// The place of the first such byte, or the length where there is none.
@@ -80,13 +79,6 @@ fn with_digit(value: u64, digit: u8) -> Option<u64>
     value.checked_mul(10)?.checked_add(u64::from(digit - b'0'))
 }
 
-/// Whether a number is from 1 to `most`.
-pub fn is_within(n: u64, most: u64) -> bool
-    ensures { IsTrue result ↔ ((1 ≤ n) × (n ≤ most)) }
-{
-    1 <= n && n <= most
-}
-
 /// Whether two numbers are at most `most` together.
 pub fn are_within(a: u64, b: u64, most: u64) -> bool
     ensures { IsTrue result ↔ (a + b ≤ most) }
@@ -95,18 +87,18 @@ pub fn are_within(a: u64, b: u64, most: u64) -> bool
 }
 
 /// The caller that a word names.
-pub fn caller(word: &[u8]) -> Option<Actor>
-    ensures { Reads actor_word IsCaller word.now result }
+pub fn caller(word: &[u8]) -> Option<CallerId>
+    ensures { Reads caller_word IsCallerNumber word.now result }
 {
     match word {
         [b'c', digits @ ..] => {
             let Some(n) = number(digits) else {
                 return None;
             };
-            if !is_within(n, u64::from(CALLERS)) {
+            let Some(caller) = CallerId::new(n) else {
                 return None;
-            }
-            Some(Actor::Caller(CallerId(n as u8)))
+            };
+            Some(caller)
         }
         _ => None,
     }

@@ -1,6 +1,6 @@
 use Rattle.std.proofs.Common.{inl, inr}
 use Rattle.std.specs.Prelude.{codes}
-use Rattle.script_text.proofs.Parts.{differ, data_kind}
+use Rattle.script_text.proofs.DataParts.{differ, data_kind}
 use Rattle.script_text.proofs.bodies.body_of.Goals as goal
 
 pub returns : goal.returns

@@ -1,4 +1,4 @@
-use Rattle.script_text.proofs.Parts.{pattern_data, pattern_body}
+use Rattle.script_text.proofs.DataParts.{pattern_data, pattern_body}
 use Rattle.script_text.proofs.bodies.pattern_body.Goals as goal
 
 pub returns-in_default : goal.returns-in_default

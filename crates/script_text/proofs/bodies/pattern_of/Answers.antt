@@ -1,5 +1,5 @@
 use Rattle.std.proofs.Common.{arith}
-use Rattle.script_text.proofs.Parts.{pattern_uncut, pattern_cut, pattern_numbers}
+use Rattle.script_text.proofs.DataParts.{pattern_uncut, pattern_cut, pattern_numbers}
 use Rattle.script_text.proofs.bodies.pattern_of.Goals as goal
 
 pub returns-in_default : goal.returns-in_default

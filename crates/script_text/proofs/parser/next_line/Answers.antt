@@ -1,7 +1,7 @@
 use Rattle.std.proofs.Common.{sym, ◌∙◌, ◌+◌, ◌≤◌, arith}
 use Rattle.script_text.specs.Lines.{access_length}
 use Rattle.std.proofs.lemmas.Bool.{false≢true}
-use Rattle.script_text.proofs.Parts.{same_access}
+use Rattle.script_text.proofs.Speaking.{same_access}
 use Rattle.script_text.proofs.parser.next_line.Goals as goal
 
 pub returns-then-not-are_within : goal.returns-then-not-are_within

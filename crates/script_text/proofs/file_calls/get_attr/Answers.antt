@@ -1,7 +1,0 @@
-use Rattle.script_text.proofs.SessionParts.{get_attr_call}
-use Rattle.script_text.proofs.file_calls.get_attr.Goals as goal
-
-pub returns-in_default : goal.returns-in_default
-returns-in_default c x h same =
-    let a = get_attr_call c.args.args.now x.seed x.call h same in
-    c.in_default.ensures a.attribute a.lawful a.spelled
