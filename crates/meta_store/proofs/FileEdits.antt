@@ -1,10 +1,10 @@
 -- Lists of files after one more, one less and one changed: their names, their blocks, what their attributes count, and what is true of each.
-use Rattle.std.proofs.Common.{◌≡◌, ℕ, ◌+◌, ◌≤◌, List, [], ◌∷◌, ◌++◌, Option, Some, Bool, true, false, cond, ltb, refl, ap, arith}
+use Rattle.std.proofs.Common.{◌≡◌, ℕ, ◌+◌, ◌≤◌, List, [], ◌∷◌, ◌++◌, Option, Some, Bool, true, false, cond, ltb, refl, ap, subst, arith}
 use Rattle.std.specs.List.{AllByRecursion}
-use Rattle.std.specs.Option.{IsSome}
 use Rattle.std.proofs.lemmas.Bool.{cond_both}
 use Rattle.std.proofs.lemmas.List.Sums.{sum_by-cons}
 use Rattle.hsm_types.specs.Attributes.{bytes_of_attributes}
+use Rattle.hsm_types.specs.Kept.{Kept}
 use Rattle.hsm_types.specs.declared.keys.FileKey.{FileKey}
 use Rattle.plain_model.specs.Keyed.{same_key, find_key, change_key, put_key, drop_key}
 use Rattle.plain_model.specs.Plain.{Listed}
@@ -77,7 +77,7 @@ blocks-change k to (f ∷ fs) same =
 -- ---- what their attributes count
 
 abbrev pub count_of : CatalogFile → ℕ
-count_of f = bytes_of_attributes f.attributes
+count_of f = bytes_of_attributes f.kept.attributes
 
 pub total-cons : (f : CatalogFile) (fs : List CatalogFile) → attribute_total (f ∷ fs) ≡ count_of f + attribute_total fs
 total-cons f fs = sum_by-cons count_of f fs
@@ -123,33 +123,15 @@ total-change k to g (f ∷ fs) found =
       | false ↦ λ is. let rest = total-change k to g fs is in let there = total-cons f (change_key (λ x. x.key) k to fs) in omega arith
     ] found
 
--- where the file keeps its attributes
-pub total-same : (k : FileKey) (to : CatalogFile → CatalogFile) (fs : List CatalogFile) → ((f : CatalogFile) → (to f).attributes ≡ f.attributes) → attribute_total (change_key (λ f. f.key) k to fs) ≡ attribute_total fs
+-- where what is kept with the file stays
+pub total-same : (k : FileKey) (to : CatalogFile → CatalogFile) (fs : List CatalogFile) → ((f : CatalogFile) → (to f).kept ≡ f.kept) → attribute_total (change_key (λ f. f.key) k to fs) ≡ attribute_total fs
 total-same k to [] same = refl
 total-same k to (f ∷ fs) same =
     let here = total-cons f fs in
     let P : List CatalogFile → Type 0 = λ r. attribute_total r ≡ attribute_total (f ∷ fs) in
     cond_both (same_key f.key k) (to f ∷ fs) (f ∷ change_key (λ x. x.key) k to fs) P
-    (λ is. let there = total-cons (to f) fs in let one = ap bytes_of_attributes (same f) in omega arith)
+    (λ is. let there = total-cons (to f) fs in let one = ap (λ (k : Kept). bytes_of_attributes k.attributes) (same f) in omega arith)
     (λ other. let rest = total-same k to fs same in let there = total-cons f (change_key (λ x. x.key) k to fs) in omega arith)
-
--- ---- a changed file keeps its key
-
-pub live-change : (k : FileKey) (to : CatalogFile → CatalogFile) (fs : List CatalogFile) → ((f : CatalogFile) → (to f).key ≡ f.key) → IsSome (find_key (λ f. f.key) k fs) → IsSome (find_key (λ f. f.key) k (change_key (λ f. f.key) k to fs))
-live-change k to [] keeps live = live
-live-change k to (f ∷ fs) keeps live =
-    elim (same_key f.key k) as (λ b. same_key f.key k ≡ b → IsSome (cond b (Some f) (find_key (λ x. x.key) k fs)) → IsSome (find_key (λ x. x.key) k (cond b (to f ∷ fs) (f ∷ change_key (λ x. x.key) k to fs)))) [
-      | true ↦ λ same is. rw (keeps f, same) refl
-      | false ↦ λ other is. rw other (live-change k to fs keeps is)
-    ] refl live
-
-pub drop-change : (k : FileKey) (to : CatalogFile → CatalogFile) (fs : List CatalogFile) → ((f : CatalogFile) → (to f).key ≡ f.key) → drop_key (λ f. f.key) k (change_key (λ f. f.key) k to fs) ≡ drop_key (λ f. f.key) k fs
-drop-change k to [] keeps = refl
-drop-change k to (f ∷ fs) keeps =
-    elim (same_key f.key k) as (λ b. same_key f.key k ≡ b → drop_key (λ x. x.key) k (cond b (to f ∷ fs) (f ∷ change_key (λ x. x.key) k to fs)) ≡ cond b fs (f ∷ drop_key (λ x. x.key) k fs)) [
-      | true ↦ λ same. rw (keeps f, same) refl
-      | false ↦ λ other. rw other (ap (λ (gs : List CatalogFile). f ∷ gs) (drop-change k to fs keeps))
-    ] refl
 
 -- ---- what is true of each
 
@@ -170,3 +152,12 @@ each-change P k to [] keeps h = tt
 each-change P k to (f ∷ fs) keeps h =
     let Q : List CatalogFile → Type 0 = λ r. AllByRecursion P r in
     cond_both (same_key f.key k) (to f ∷ fs) (f ∷ change_key (λ x. x.key) k to fs) Q (λ same. (keeps f h.0, h.1)) (λ other. (h.0, each-change P k to fs keeps h.1))
+
+-- where it is true of the file that is found
+pub each-change_one : (P : CatalogFile → Type 0) (k : FileKey) (to : CatalogFile → CatalogFile) (g : CatalogFile) (fs : List CatalogFile) → find_key (λ f. f.key) k fs ≡ Some g → P (to g) → AllByRecursion P fs → AllByRecursion P (change_key (λ f. f.key) k to fs)
+each-change_one P k to g [] found p h = tt
+each-change_one P k to g (f ∷ fs) found p h =
+    elim (same_key f.key k) as (λ b. cond b (Some f) (find_key (λ x. x.key) k fs) ≡ Some g → AllByRecursion P (cond b (to f ∷ fs) (f ∷ change_key (λ x. x.key) k to fs))) [
+      | true ↦ λ is. let it : g ≡ f = cc in let Q : CatalogFile → Type 0 = λ x. P (to x) in (subst Q it p, h.1)
+      | false ↦ λ is. (h.0, each-change_one P k to g fs is p h.1)
+    ] found

@@ -49,9 +49,8 @@ same-file b b' f f' h h' is =
     let name : f.name ≡ f'.name = ap (λ (s : SnapshotFile). s.name) is in
     let size : f.size ≡ f'.size = ap (λ (s : SnapshotFile). s.size) is in
     let places : f.places ≡ f'.places = same-places 0 f.places f'.places (h.places ∙ ap blocks_in size ∙ sym h'.places) (ap (λ (s : SnapshotFile). s.extents) is) in
-    let regions : f.regions ≡ f'.regions = ap (λ (s : SnapshotFile). s.regions) is in
-    let attributes : f.attributes ≡ f'.attributes = ap (λ (s : SnapshotFile). s.attributes) is in
-    let whole : file_of f.key f.name f.size (parts_of f) ≡ file_of f'.key f'.name f'.size (parts_of f') = rw (key, name, size, places, regions, attributes) refl in
+    let kept : f.kept ≡ f'.kept = ap (λ (s : SnapshotFile). s.kept) is in
+    let whole : file_of f.key f.name f.size (parts_of f) ≡ file_of f'.key f'.name f'.size (parts_of f') = rw (key, name, size, places, kept) refl in
     whole
 
 same-files : (b b' : ℕ) (fs gs : List CatalogFile) → AllByRecursion (IsCatalogFile b) fs → AllByRecursion (IsCatalogFile b') gs → map snapshot_file fs ≡ map snapshot_file gs → fs ≡ gs

@@ -1,8 +1,7 @@
 -- The count of the blocks that files use, in a catalog in memory, after one file more, one less and one changed.
 use Rattle.std.proofs.Common.{◌≡◌, ℕ, ◌+◌, ◌-◌, ◌≤◌, List, length, set, Some, false, refl, ◌∙◌, ap, arith}
 use Rattle.hsm_types.specs.declared.keys.FileKey.{FileKey}
-use Rattle.hsm_types.specs.declared.regions.Region.{Region}
-use Rattle.hsm_types.specs.Attributes.{Attributes}
+use Rattle.hsm_types.specs.Kept.{Kept}
 use Rattle.plain_model.specs.Keyed.{find_key, drop_key}
 use Rattle.inode_table.specs.declared.entries.FileEntry.{FileEntry}
 use Rattle.inode_table.specs.Listing.{listing, has_inode}
@@ -12,13 +11,13 @@ use Rattle.meta_store.specs.declared.file_parts.FileParts.{FileParts}
 use Rattle.meta_store.specs.declared.snapshot.Mapping.{Mapping}
 use Rattle.meta_store.specs.Catalogs.{CatalogFile, Catalog, geometry_of, present, blocks_of}
 use Rattle.meta_store.specs.Changes.{remapped}
-use Rattle.meta_store.specs.InMemory.{no_parts, file_of, catalog_held, files_held, IsHeld}
+use Rattle.meta_store.specs.InMemory.{no_parts, kept_in, file_of, catalog_held, files_held, IsHeld}
 use Rattle.meta_store.proofs.KeptCatalogs.{empty_file}
 use Rattle.meta_store.proofs.SnapshotFits.{blocks-few, geometry-bounded}
 use Rattle.meta_store.proofs.FileEdits.{blocks-change}
 use Rattle.meta_store.proofs.UsedBlocks.{used-put, used-drop, used-change}
 use Rattle.meta_store.proofs.HeldFiles.{held-drop}
-use Rattle.meta_store.proofs.HeldCatalogs.{held_table, held-found, table_sized, parts_mapped, parts_set, parts_at, mapped, catalog_held-put, catalog_held-remap, catalog_held-regions, catalog_held-attributes}
+use Rattle.meta_store.proofs.HeldCatalogs.{held_table, held-found, table_sized, parts_mapped, parts_at, parts_with, mapped, catalog_held-put, catalog_held-remap, catalog_held-kept}
 
 -- how many blocks the files of a catalog use
 abbrev pub used_in : Catalog → ℕ
@@ -56,12 +55,7 @@ used_held-remap geometry t ps total key size ms f h found =
     let changed = used-change key (remapped size ms) (file_of f.key f.name f.size (parts_at key ps)) (files_held ps t.files) (held-found ps key f t.files found) in
     omega arith
 
-pub used_held-regions : (geometry : ℕ) (t : Table) (ps : List FileParts) (total : ℕ) (key : FileKey) (rs : List Region) (f : FileEntry) → IsHeld geometry t ps total → find_key (λ x. x.key) key t.files ≡ Some f
-    → length (blocks_of (files_held (parts_set key (record (parts_at key ps) { regions = rs }) ps) t.files)) ≡ length (blocks_of (files_held ps t.files))
-used_held-regions geometry t ps total key rs f h found =
-    ap used_in (catalog_held-regions geometry t ps total key rs f h found) ∙ ap (λ (bs : List ℕ). length bs) (blocks-change key (λ g. record g { regions = rs }) (files_held ps t.files) (λ g. refl))
-
-pub used_held-attributes : (geometry : ℕ) (t : Table) (ps : List FileParts) (total : ℕ) (key : FileKey) (attrs : Attributes) (f : FileEntry) → IsHeld geometry t ps total → find_key (λ x. x.key) key t.files ≡ Some f
-    → length (blocks_of (files_held (parts_set key (record (parts_at key ps) { attributes = attrs }) ps) t.files)) ≡ length (blocks_of (files_held ps t.files))
-used_held-attributes geometry t ps total key attrs f h found =
-    ap used_in (catalog_held-attributes geometry t ps total key attrs f h found) ∙ ap (λ (bs : List ℕ). length bs) (blocks-change key (λ g. record g { attributes = attrs }) (files_held ps t.files) (λ g. refl))
+pub used_held-kept : (geometry : ℕ) (t : Table) (ps : List FileParts) (total : ℕ) (key : FileKey) (f : FileEntry) → IsHeld geometry t ps total → find_key (λ x. x.key) key t.files ≡ Some f → (change : Kept → Kept)
+    → length (blocks_of (files_held (set ps (key.ino - 1) (parts_with (change (kept_in (parts_at key ps))) (parts_at key ps))) t.files)) ≡ length (blocks_of (files_held ps t.files))
+used_held-kept geometry t ps total key f h found change =
+    ap used_in (catalog_held-kept geometry t ps total key f h found change) ∙ ap (λ (bs : List ℕ). length bs) (blocks-change key (λ g. record g { kept = change g.kept }) (files_held ps t.files) (λ g. refl))

@@ -2,9 +2,6 @@
 use Rattle.std.proofs.Common.{◌≡◌, ℕ, zero, suc, ◌+◌, ◌-◌, ◌<◌, ◌≤◌, ◌^◌, List, [], ◌∷◌, length, map, get_or, set, Bool, false, true, eqb, Option, Some, None, refl, sym, ◌∙◌, ap, subst, arith, length-set}
 use Rattle.std.specs.List.{slice_get, list_any, AllByRecursion}
 use Rattle.std.specs.Option.{IsSome, is_some, option_map}
-use Rattle.std.specs.Map.{values_of}
-use Rattle.std.proofs.lemmas.Bool.{cond_both}
-use Rattle.std.proofs.lemmas.List.Sums.{sum_by-cons}
 use Rattle.hsm_types.specs.Names.{is_name}
 use Rattle.hsm_types.specs.declared.keys.FileKey.{FileKey}
 use Rattle.plain_model.specs.Keyed.{find_key, change_key, drop_key}
@@ -17,19 +14,17 @@ use Rattle.inode_table.specs.Table.{with_file as with_entry}
 use Rattle.inode_table.proofs.Orders.{free-ge, free-le, free-absent}
 use Rattle.inode_table.proofs.Listings.{length-listing}
 use Rattle.inode_table.proofs.Keeping.{table-few}
-use Rattle.hsm_types.specs.declared.regions.Region.{Region}
-use Rattle.hsm_types.specs.Regions.{regions_refusal}
-use Rattle.hsm_types.specs.declared.attributes.AttrName.{AttrName}
-use Rattle.hsm_types.specs.Attributes.{Attributes, AreAttributes, same_name, with_value, without_value, cost_of_value, bytes_of_attributes, setting_refusal}
+use Rattle.hsm_types.specs.Attributes.{bytes_of_attributes}
+use Rattle.hsm_types.specs.Kept.{Kept}
 use Rattle.meta_store.specs.declared.file_parts.FileParts.{FileParts}
-use Rattle.meta_store.specs.Catalogs.{CatalogFile, Catalog, IsCatalogFile, geometry_of, blocks_of, attribute_total}
-use Rattle.meta_store.specs.Changes.{places_fitted, places_set, remapped, with_file, without_file, with_remapped, with_regions, with_attributes, with_attribute, without_attribute, attributes_at, others_total, attribute_refusal}
-use Rattle.meta_store.specs.InMemory.{no_parts, parts_of, file_of, catalog_held, file_held, files_held, IsHeld}
+use Rattle.meta_store.specs.Catalogs.{CatalogFile, Catalog, IsLawfulKept, IsCatalogFile, geometry_of, blocks_of, attribute_total}
+use Rattle.meta_store.specs.Changes.{places_fitted, places_set, remapped, with_file, without_file, with_remapped, with_kept, kept_at, others_total}
+use Rattle.meta_store.specs.InMemory.{no_parts, kept_in, parts_of, file_of, catalog_held, file_held, files_held, IsHeld}
 use Rattle.meta_store.specs.declared.snapshot.Mapping.{Mapping}
 use Rattle.meta_store.proofs.FileEdits.{total-put, total-drop, total-change, total-same}
 use Rattle.meta_store.proofs.FoundFiles.{each-found}
 use Rattle.meta_store.proofs.HeldFiles.{names_of-held, entries-held, find-held, held-drop, held-put_at, held-change, held-parts, found-key, found-above, found-within}
-use Rattle.meta_store.proofs.KeptCatalogs.{empty_file, IsCatalog-with_file, IsCatalog-without_file, IsCatalog-with_remapped, IsCatalog-with_regions, IsCatalog-with_attributes}
+use Rattle.meta_store.proofs.KeptCatalogs.{empty_file, IsCatalog-with_file, IsCatalog-without_file, IsCatalog-with_remapped, IsCatalog-with_kept}
 
 pub held_table : (geometry : ℕ) (t : Table) (ps : List FileParts) (total : ℕ) → IsHeld geometry t ps total → IsTable (geometry_of geometry).files t.next (listing t.files)
 held_table geometry t ps total h = rw (names_of-held ps t.files) at h.catalog.table
@@ -146,100 +141,55 @@ IsHeld-remap geometry t ps total key size ms f h found most within unused apart 
 
 -- ---- what sessions keep with one
 
-abbrev pub parts_set : FileKey → FileParts → List FileParts → List FileParts
-parts_set key parts ps = set ps (key.ino - 1) parts
-
 -- the parts of one key, as they are
 abbrev pub parts_at : FileKey → List FileParts → FileParts
 parts_at key ps = get_or ps (key.ino - 1) no_parts
 
-pub catalog_held-regions : (geometry : ℕ) (t : Table) (ps : List FileParts) (total : ℕ) (key : FileKey) (rs : List Region) (f : FileEntry) → IsHeld geometry t ps total → find_key (λ x. x.key) key t.files ≡ Some f
-    → catalog_held geometry t (parts_set key (record (parts_at key ps) { regions = rs }) ps) ≡ with_regions key rs (catalog_held geometry t ps)
-catalog_held-regions geometry t ps total key rs f h found =
-    let slot = slot_of geometry t ps total h key f found in
-    ap (λ (fs : List CatalogFile). record { geometry = geometry; next = t.next; files = fs }) (held-parts ps key (λ p. record p { regions = rs }) f t.files slot.1 (held_table geometry t ps total h).ascend found)
-
-pub IsHeld-regions : (geometry : ℕ) (t : Table) (ps : List FileParts) (total : ℕ) (key : FileKey) (rs : List Region) (f : FileEntry) → IsHeld geometry t ps total → find_key (λ x. x.key) key t.files ≡ Some f → regions_refusal rs ≡ None
-    → IsHeld geometry t (parts_set key (record (parts_at key ps) { regions = rs }) ps) total
-IsHeld-regions geometry t ps total key rs f h found lawful =
-    let held = catalog_held-regions geometry t ps total key rs f h found in
-    record {
-      limit = h.limit;
-      count = length-set ps (key.ino - 1) (record (parts_at key ps) { regions = rs }) ∙ h.count;
-      counted = h.counted ∙ sym (ap (λ (c : Catalog). attribute_total c.files) held ∙ total-same key (λ f. record f { regions = rs }) (files_held ps t.files) (λ f. refl));
-      catalog = rw held (IsCatalog-with_regions key rs (catalog_held geometry t ps) h.catalog lawful);
-    }
-
-pub catalog_held-attributes : (geometry : ℕ) (t : Table) (ps : List FileParts) (total : ℕ) (key : FileKey) (attrs : Attributes) (f : FileEntry) → IsHeld geometry t ps total → find_key (λ x. x.key) key t.files ≡ Some f
-    → catalog_held geometry t (parts_set key (record (parts_at key ps) { attributes = attrs }) ps) ≡ with_attributes key attrs (catalog_held geometry t ps)
-catalog_held-attributes geometry t ps total key attrs f h found =
-    let slot = slot_of geometry t ps total h key f found in
-    ap (λ (fs : List CatalogFile). record { geometry = geometry; next = t.next; files = fs }) (held-parts ps key (λ p. record p { attributes = attrs }) f t.files slot.1 (held_table geometry t ps total h).ascend found)
-
--- what the attributes of the other files count
-pub others-held : (geometry : ℕ) (t : Table) (ps : List FileParts) (total : ℕ) (key : FileKey) (f : FileEntry) → IsHeld geometry t ps total → find_key (λ x. x.key) key t.files ≡ Some f
-    → others_total key (catalog_held geometry t ps) + bytes_of_attributes (parts_at key ps).attributes ≡ total
-others-held geometry t ps total key f h found = total-drop key (file_of f.key f.name f.size (parts_at key ps)) (files_held ps t.files) (held-found ps key f t.files found) ∙ sym h.counted
-
-pub attributes_at-held : (geometry : ℕ) (t : Table) (ps : List FileParts) (key : FileKey) (f : FileEntry) → find_key (λ x. x.key) key t.files ≡ Some f → attributes_at key (catalog_held geometry t ps) ≡ (parts_at key ps).attributes
-attributes_at-held geometry t ps key f found = rw (held-found ps key f t.files found) refl
+-- parts of which this is kept
+abbrev pub parts_with : Kept → FileParts → FileParts
+parts_with k p = record p { regions = k.regions; attributes = k.attributes }
 
 -- their count within the geometry's
 pub total-within : (geometry : ℕ) (t : Table) (ps : List FileParts) (total : ℕ) → IsHeld geometry t ps total → total ≤ (geometry_of geometry).attributes
 total-within geometry t ps total h = let few = h.catalog.few in let counted = h.counted in omega arith
 
-pub IsHeld-attributes : (geometry : ℕ) (t : Table) (ps : List FileParts) (total new : ℕ) (key : FileKey) (attrs : Attributes) (f : FileEntry) → IsHeld geometry t ps total → find_key (λ x. x.key) key t.files ≡ Some f
-    → AreAttributes attrs → AllByRecursion (λ a. length a.0.0 ≡ 8) attrs → new ≡ others_total key (catalog_held geometry t ps) + bytes_of_attributes attrs → new ≤ (geometry_of geometry).attributes
-    → IsHeld geometry t (parts_set key (record (parts_at key ps) { attributes = attrs }) ps) new
-IsHeld-attributes geometry t ps total new key attrs f h found are eight is within =
-    let held = catalog_held-attributes geometry t ps total key attrs f h found in
-    let one = held-found ps key f t.files found in
-    let fewer = total-drop key (file_of f.key f.name f.size (parts_at key ps)) (files_held ps t.files) one in
-    let changed = total-change key (λ g. record g { attributes = attrs }) (file_of f.key f.name f.size (parts_at key ps)) (files_held ps t.files) one in
-    let sum : new ≡ attribute_total (with_attributes key attrs (catalog_held geometry t ps)).files = omega arith in
-    record {
-      limit = h.limit;
-      count = length-set ps (key.ino - 1) (record (parts_at key ps) { attributes = attrs }) ∙ h.count;
-      counted = sum ∙ sym (ap (λ (c : Catalog). attribute_total c.files) held);
-      catalog = rw held (IsCatalog-with_attributes key attrs (catalog_held geometry t ps) h.catalog are eight (omega (arith, sum)));
-    }
+module _ (geometry : ℕ) (t : Table) (ps : List FileParts) (total : ℕ) (key : FileKey) (f : FileEntry) (h : IsHeld geometry t ps total) (found : find_key (λ x. x.key) key t.files ≡ Some f) where
+  abbrev file : CatalogFile
+  file = file_of f.key f.name f.size (parts_at key ps)
 
--- the attributes of one key have names of eight bytes
-pub eight-held : (geometry : ℕ) (t : Table) (ps : List FileParts) (total : ℕ) (key : FileKey) (f : FileEntry) → IsHeld geometry t ps total → find_key (λ x. x.key) key t.files ≡ Some f → AllByRecursion (λ a. length a.0.0 ≡ 8) (parts_at key ps).attributes
-eight-held geometry t ps total key f h found =
-    (each-found (IsCatalogFile (geometry_of geometry).blocks) key (file_of f.key f.name f.size (parts_at key ps)) (files_held ps t.files) h.catalog.each (held-found ps key f t.files found)).eight
+  -- what the attributes of the other files count
+  pub others-held : others_total key (catalog_held geometry t ps) + bytes_of_attributes (parts_at key ps).attributes ≡ total
+  others-held = total-drop key file (files_held ps t.files) (held-found ps key f t.files found) ∙ sym h.counted
 
--- what refuses an attribute, as the parts of its key see it
-pub refusal-held : (geometry : ℕ) (t : Table) (ps : List FileParts) (total : ℕ) (key : FileKey) (name : AttrName) (value : List ℕ) (f : FileEntry) (others limit : ℕ) → IsHeld geometry t ps total → find_key (λ x. x.key) key t.files ≡ Some f
-    → others + bytes_of_attributes (parts_at key ps).attributes ≡ total → limit ≡ (geometry_of geometry).attributes
-    → attribute_refusal key name value (catalog_held geometry t ps) ≡ setting_refusal name value others limit (parts_at key ps).attributes
-refusal-held geometry t ps total key name value f others limit h found sum bound =
-    let left = others-held geometry t ps total key f h found in
-    let same : others_total key (catalog_held geometry t ps) ≡ others = omega arith in
-    rw (attributes_at-held geometry t ps key f found, same, bound) (refl {a = setting_refusal name value others (geometry_of geometry).attributes (parts_at key ps).attributes})
+  pub kept_at-held : kept_at key (catalog_held geometry t ps) ≡ kept_in (parts_at key ps)
+  kept_at-held = rw (held-found ps key f t.files found) refl
 
--- a catalog with one attribute more, or one less
-pub catalog_held-with : (geometry : ℕ) (t : Table) (ps : List FileParts) (total : ℕ) (key : FileKey) (name : AttrName) (value : List ℕ) (f : FileEntry) → IsHeld geometry t ps total → find_key (λ x. x.key) key t.files ≡ Some f
-    → catalog_held geometry t (parts_set key (record (parts_at key ps) { attributes = with_value name value (parts_at key ps).attributes }) ps) ≡ with_attribute key name value (catalog_held geometry t ps)
-catalog_held-with geometry t ps total key name value f h found =
-    catalog_held-attributes geometry t ps total key (with_value name value (parts_at key ps).attributes) f h found
-    ∙ ap (λ (attrs : Attributes). with_attributes key (with_value name value attrs) (catalog_held geometry t ps)) (sym (attributes_at-held geometry t ps key f found))
+  pub lawful-held : IsLawfulKept (kept_in (parts_at key ps))
+  lawful-held = (each-found (IsCatalogFile (geometry_of geometry).blocks) key file (files_held ps t.files) h.catalog.each (held-found ps key f t.files found)).kept
 
-pub catalog_held-without : (geometry : ℕ) (t : Table) (ps : List FileParts) (total : ℕ) (key : FileKey) (name : AttrName) (f : FileEntry) → IsHeld geometry t ps total → find_key (λ x. x.key) key t.files ≡ Some f
-    → catalog_held geometry t (parts_set key (record (parts_at key ps) { attributes = without_value name (parts_at key ps).attributes }) ps) ≡ without_attribute key name (catalog_held geometry t ps)
-catalog_held-without geometry t ps total key name f h found =
-    catalog_held-attributes geometry t ps total key (without_value name (parts_at key ps).attributes) f h found
-    ∙ ap (λ (attrs : Attributes). with_attributes key (without_value name attrs) (catalog_held geometry t ps)) (sym (attributes_at-held geometry t ps key f found))
+  -- after a change
+  module _ (change : Kept → Kept) where
+    abbrev parts : List FileParts
+    parts = set ps (key.ino - 1) (parts_with (change (kept_in (parts_at key ps))) (parts_at key ps))
 
--- what is left counts no more
-pub fewer-without : (name : AttrName) (attrs : Attributes) → bytes_of_attributes (without_value name attrs) ≤ bytes_of_attributes attrs
-fewer-without name [] = omega arith
-fewer-without name (a ∷ attrs) =
-    let here = sum_by-cons cost_of_value a.1 (values_of attrs) in
-    let P : Attributes → Type 0 = λ r. bytes_of_attributes r ≤ bytes_of_attributes (a ∷ attrs) in
-    cond_both (same_name name a.0) attrs (a ∷ without_value name attrs) P
-    (λ same. omega arith)
-    (λ other. let rest = fewer-without name attrs in let there = sum_by-cons cost_of_value a.1 (values_of (without_value name attrs)) in omega arith)
+    pub catalog_held-kept : catalog_held geometry t parts ≡ with_kept key change (catalog_held geometry t ps)
+    catalog_held-kept =
+        let slot = slot_of geometry t ps total h key f found in
+        ap (λ (fs : List CatalogFile). record { geometry = geometry; next = t.next; files = fs }) (held-parts ps key (λ p. parts_with (change (kept_in p)) p) f t.files slot.1 (held_table geometry t ps total h).ascend found)
+
+    pub IsHeld-kept : (new : ℕ) → IsLawfulKept (change (kept_in (parts_at key ps))) → new + bytes_of_attributes (parts_at key ps).attributes ≡ total + bytes_of_attributes (change (kept_in (parts_at key ps))).attributes → new ≤ (geometry_of geometry).attributes
+        → IsHeld geometry t parts new
+    IsHeld-kept new lawful sum within =
+        let one = held-found ps key f t.files found in
+        let changed = total-change key (λ g. record g { kept = change g.kept }) file (files_held ps t.files) one in
+        let old = h.counted in
+        let counted : new ≡ attribute_total (with_kept key change (catalog_held geometry t ps)).files = omega arith in
+        record {
+          limit = h.limit;
+          count = length-set ps (key.ino - 1) (parts_with (change (kept_in (parts_at key ps))) (parts_at key ps)) ∙ h.count;
+          counted = counted ∙ sym (ap (λ (c : Catalog). attribute_total c.files) catalog_held-kept);
+          catalog = rw catalog_held-kept (IsCatalog-with_kept key change file (catalog_held geometry t ps) h.catalog one lawful (omega (arith, counted)));
+        }
 
 -- ---- a live key
 

@@ -80,6 +80,16 @@ eight-without name (a ∷ attrs) old =
     let P : Attributes → Type 0 = λ r. AllByRecursion (λ x. length x.0.0 ≡ 8) r in
     cond_both (same_name name a.0) attrs (a ∷ without_value name attrs) P (λ same. old.1) (λ other. (old.0, eight-without name attrs old.1))
 
+-- what is left counts no more
+pub fewer-without : (name : AttrName) (attrs : Attributes) → bytes_of_attributes (without_value name attrs) ≤ bytes_of_attributes attrs
+fewer-without name [] = omega arith
+fewer-without name (a ∷ attrs) =
+    let here = sum_by-cons cost_of_value a.1 (values_of attrs) in
+    let P : Attributes → Type 0 = λ r. bytes_of_attributes r ≤ bytes_of_attributes (a ∷ attrs) in
+    cond_both (same_name name a.0) attrs (a ∷ without_value name attrs) P
+    (λ same. omega arith)
+    (λ other. let rest = fewer-without name attrs in let there = sum_by-cons cost_of_value a.1 (values_of (without_value name attrs)) in omega arith)
+
 -- nothing refuses what counts too much
 passes : (kept short fits : Bool) (len sum : ℕ) → first_refusal (cond kept (Some Reserved) None ∷ cond short None (Some (AttrTooBig len)) ∷ cond fits None (Some (TooMany sum)) ∷ []) ≡ None → fits ≡ true
 passes true short fits len sum h = absurd cc

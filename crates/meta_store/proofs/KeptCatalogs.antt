@@ -1,34 +1,33 @@
 -- What is true of each catalog stays true.
-use Rattle.std.proofs.Common.{◌≡◌, ℕ, ◌+◌, ◌<◌, ◌≤◌, ◌^◌, max, List, [], length, map, None, false, true, eqb, ⊎_elim, refl, subst, sym, ◌∙◌, arith}
+use Rattle.std.proofs.Common.{◌≡◌, ℕ, ◌+◌, ◌<◌, ◌≤◌, ◌^◌, max, List, [], map, Some, None, false, true, eqb, ⊎_elim, refl, subst, sym, ◌∙◌, arith}
 use Rattle.std.specs.List.{list_any, AllByRecursion}
 use Rattle.std.specs.List.Sorted.{IsStrictlySortedBy}
 use Rattle.hsm_types.specs.Names.{is_name}
 use Rattle.hsm_types.specs.declared.keys.FileKey.{FileKey}
-use Rattle.plain_model.specs.Keyed.{put_key, drop_key, change_key}
+use Rattle.plain_model.specs.Keyed.{find_key, put_key, drop_key, change_key}
 use Rattle.plain_model.specs.Plain.{named}
 use Rattle.plain_model.specs.Distinct.{Distinct}
 use Rattle.inode_table.specs.Listing.{has_inode}
 use Rattle.inode_table.specs.Table.{IsTable}
 use Rattle.inode_table.proofs.Orders.{ascend-put, ascend-drop, within-put, within-more, within-drop}
 use Rattle.inode_table.proofs.Names.{differ-put, differ-drop}
-use Rattle.hsm_types.specs.declared.regions.Region.{Region}
-use Rattle.hsm_types.specs.Regions.{regions_refusal}
-use Rattle.hsm_types.specs.Attributes.{Attributes, AreAttributes}
-use Rattle.meta_store.specs.Catalogs.{CatalogFile, Catalog, IsCatalogFile, IsCatalog, geometry_of, names_of, blocks_of, attribute_total}
-use Rattle.meta_store.specs.Changes.{places_fitted, remapped, with_file, without_file, with_remapped, with_regions, with_attributes}
+use Rattle.hsm_types.specs.Kept.{Kept, nothing_kept}
+use Rattle.meta_store.specs.Catalogs.{CatalogFile, Catalog, IsLawfulKept, IsCatalogFile, IsCatalog, geometry_of, names_of, blocks_of, attribute_total}
+use Rattle.meta_store.specs.Changes.{places_fitted, remapped, with_file, without_file, with_remapped, with_kept}
 use Rattle.meta_store.specs.declared.snapshot.Mapping.{Mapping}
 use Rattle.meta_store.proofs.BlockUses.{uses, distinct-uses, uses-distinct}
 use Rattle.meta_store.proofs.MappedPlaces.{length-fitted, uses-fitted, within-fitted, length-places_set, uses-places_set, within-places_set, new_or_used}
-use Rattle.meta_store.proofs.FileEdits.{name_of, names_of-put, names_of-drop, names_of-change, uses-put, uses-drop, uses-change, blocks-change, total-put, total-fewer, total-same, each-put, each-drop, each-change}
+use Rattle.meta_store.proofs.FileEdits.{name_of, names_of-put, names_of-drop, names_of-change, uses-put, uses-drop, uses-change, blocks-change, total-put, total-fewer, total-same, each-put, each-drop, each-change, each-change_one}
+use Rattle.meta_store.proofs.FoundFiles.{each-found}
 
 -- an empty file
 abbrev pub empty_file : FileKey → List ℕ → CatalogFile
-empty_file key name = record { key = key; name = name; size = 0; places = []; regions = []; attributes = [] }
+empty_file key name = record { key = key; name = name; size = 0; places = []; kept = nothing_kept }
 
--- no attributes are lawful ones
-no_attributes : AreAttributes []
+-- nothing is lawful
+nothing_lawful : IsLawfulKept nothing_kept
 unfolding IsStrictlySortedBy
-no_attributes = record { ascend = tt; unreserved = λ k d within. absurd (omega arith); short = λ k d within. absurd (omega arith) }
+nothing_lawful = record { regions = refl; attributes = record { ascend = tt; unreserved = λ k d within. absurd (omega arith); short = λ k d within. absurd (omega arith) }; eight = tt }
 
 -- ---- one file more
 
@@ -50,7 +49,7 @@ IsCatalog-with_file key name c is low high free new made early good =
       first = omega arith;
       next = omega arith;
       table = table-put (geometry_of c.geometry).files c.next g c.files is.table low high free new;
-      each = each-put (IsCatalogFile (geometry_of c.geometry).blocks) g c.files (record { generation = made; name = good; size = omega arith; places = omega arith; within = tt; regions = refl; attributes = no_attributes; eight = tt }) is.each;
+      each = each-put (IsCatalogFile (geometry_of c.geometry).blocks) g c.files (record { generation = made; name = good; size = omega arith; places = omega arith; within = tt; kept = nothing_lawful }) is.each;
       distinct = uses-distinct (blocks_of (put_key (λ f. f.key) g c.files)) (λ n. let same = uses-put n g c.files in let once = distinct-uses (blocks_of c.files) is.distinct n in omega arith);
       few = let few = is.few in omega (arith, total-put g c.files);
     }
@@ -81,9 +80,7 @@ IsCatalogFile-remapped blocks size ms most within f is = record {
   size = most;
   places = length-places_set ms (places_fitted size f.places) ∙ length-fitted size f.places;
   within = within-places_set blocks ms (places_fitted size f.places) within (within-fitted blocks size f.places is.within);
-  regions = is.regions;
-  attributes = is.attributes;
-  eight = is.eight;
+  kept = is.kept;
 }
 
 once_remapped : (n size : ℕ) (key : FileKey) (ms : List Mapping) (fs : List CatalogFile) → Distinct (blocks_of fs) → AllByRecursion (λ m. list_any (λ p. eqb p m.place) (blocks_of fs) ≡ false) ms → Distinct (map (λ m. m.place) ms)
@@ -108,30 +105,17 @@ IsCatalog-with_remapped key size ms c is most within unused apart = record {
 
 -- ---- what sessions keep with one
 
--- a file changes that keeps its name and its places
-IsCatalog-kept : (key : FileKey) (to : CatalogFile → CatalogFile) (c : Catalog) → IsCatalog c → ((f : CatalogFile) → name_of (to f) ≡ name_of f) → ((f : CatalogFile) → (to f).places ≡ f.places)
-    → ((f : CatalogFile) → IsCatalogFile (geometry_of c.geometry).blocks f → IsCatalogFile (geometry_of c.geometry).blocks (to f))
-    → attribute_total (change_key (λ f. f.key) key to c.files) ≤ (geometry_of c.geometry).attributes → IsCatalog (record c { files = change_key (λ f. f.key) key to c.files })
-IsCatalog-kept key to c is named placed keeps few = record {
-  known = is.known;
-  first = is.first;
-  next = is.next;
-  table = rw (names_of-change key to c.files named) is.table;
-  each = each-change (IsCatalogFile (geometry_of c.geometry).blocks) key to c.files keeps is.each;
-  distinct = subst (λ bs. Distinct bs) (sym (blocks-change key to c.files placed)) is.distinct;
-  few = few;
-}
-
-pub IsCatalog-with_regions : (key : FileKey) (rs : List Region) (c : Catalog) → IsCatalog c → regions_refusal rs ≡ None → IsCatalog (with_regions key rs c)
-IsCatalog-with_regions key rs c is lawful =
-    let few = is.few in
-    IsCatalog-kept key (λ f. record f { regions = rs }) c is (λ f. refl) (λ f. refl)
-    (λ f h. record { generation = h.generation; name = h.name; size = h.size; places = h.places; within = h.within; regions = lawful; attributes = h.attributes; eight = h.eight })
-    (omega (arith, total-same key (λ f. record f { regions = rs }) c.files (λ f. refl)))
-
-pub IsCatalog-with_attributes : (key : FileKey) (attrs : Attributes) (c : Catalog) → IsCatalog c → AreAttributes attrs → AllByRecursion (λ a. length a.0.0 ≡ 8) attrs
-    → attribute_total (with_attributes key attrs c).files ≤ (geometry_of c.geometry).attributes → IsCatalog (with_attributes key attrs c)
-IsCatalog-with_attributes key attrs c is are eight few =
-    IsCatalog-kept key (λ f. record f { attributes = attrs }) c is (λ f. refl) (λ f. refl)
-    (λ f h. record { generation = h.generation; name = h.name; size = h.size; places = h.places; within = h.within; regions = h.regions; attributes = are; eight = eight })
-    few
+pub IsCatalog-with_kept : (key : FileKey) (change : Kept → Kept) (f : CatalogFile) (c : Catalog) → IsCatalog c → find_key (λ g. g.key) key c.files ≡ Some f → IsLawfulKept (change f.kept)
+    → attribute_total (with_kept key change c).files ≤ (geometry_of c.geometry).attributes → IsCatalog (with_kept key change c)
+IsCatalog-with_kept key change f c is found lawful few =
+    let to : CatalogFile → CatalogFile = λ g. record g { kept = change g.kept } in
+    let P : CatalogFile → Type 0 = IsCatalogFile (geometry_of c.geometry).blocks in
+    let one = each-found P key f c.files is.each found in record {
+      known = is.known;
+      first = is.first;
+      next = is.next;
+      table = rw (names_of-change key to c.files (λ g. refl)) is.table;
+      each = each-change_one P key to f c.files found (record { generation = one.generation; name = one.name; size = one.size; places = one.places; within = one.within; kept = lawful }) is.each;
+      distinct = subst (λ bs. Distinct bs) (sym (blocks-change key to c.files (λ g. refl))) is.distinct;
+      few = few;
+    }

@@ -20,6 +20,7 @@ pub mod KeptCatalogs
 pub mod HeldFiles
 pub mod HeldCatalogs
 pub mod HeldBlocks
+pub mod LiveParts
 pub mod FoundFiles
 pub mod SpreadPlaces
 pub mod LastFiles

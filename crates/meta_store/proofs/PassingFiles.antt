@@ -33,8 +33,8 @@ places_in-snapshot (f ∷ fs) = rw (places_of-extents 0 f.places, places_in-snap
 pub total_in-snapshot : (fs : List CatalogFile) → attribute_total_in (map snapshot_file fs) ≡ attribute_total fs
 total_in-snapshot [] = refl
 total_in-snapshot (f ∷ fs) =
-    let one = sum_by-cons (λ (s : SnapshotFile). bytes_of_attributes s.attributes) (snapshot_file f) (map snapshot_file fs) in
-    let two = sum_by-cons (λ (g : CatalogFile). bytes_of_attributes g.attributes) f fs in
+    let one = sum_by-cons (λ (s : SnapshotFile). bytes_of_attributes s.kept.attributes) (snapshot_file f) (map snapshot_file fs) in
+    let two = sum_by-cons (λ (g : CatalogFile). bytes_of_attributes g.kept.attributes) f fs in
     let more = total_in-snapshot fs in
     omega arith
 
@@ -43,7 +43,7 @@ total_in-snapshot (f ∷ fs) =
 file-passes : (next blocks : ℕ) (f : CatalogFile) → IsCatalogFile blocks f → f.key.igen < next → is_file next blocks (snapshot_file f) ≡ true
 file-passes next blocks f is old =
     let extents : are_extents 0 (blocks_in f.size) blocks (extents_from 0 f.places) ≡ true = are_extents-from 0 0 (blocks_in f.size) blocks f.places (omega arith) (let len = is.places in omega arith) is.within in
-    rw (le-leb 1 f.key.igen is.generation, lt-ltb f.key.igen next old, le-leb f.size 16777216 is.size, is.name, is.regions, attributes-pass f.attributes is.attributes, extents) refl
+    rw (le-leb 1 f.key.igen is.generation, lt-ltb f.key.igen next old, le-leb f.size 16777216 is.size, is.name, is.kept.regions, attributes-pass f.kept.attributes is.kept.attributes, extents) refl
 
 -- the file of the catalog that a place of its snapshot tells
 record Tells (blocks : ℕ) (f : SnapshotFile) : Type 0 where
@@ -73,11 +73,11 @@ passes c before f rest is e =
     let above : last_inode 0 (names_in before) < f.key.ino = above-last 0 (names_in before) (listed_in f) (names_in rest) table.ascend in
     let unused : are_unused (places_in before) (places_of f.extents) ≡ true = unused-from (places_in before) (places_of f.extents) (places_in rest) (subst D places is.distinct) in
     let total = total_in-snapshot c.files in
-    let split : attribute_total_in (before ++ f ∷ rest) ≡ attribute_total_in before + attribute_total_in (f ∷ rest) = sum_by-append (λ (s : SnapshotFile). bytes_of_attributes s.attributes) before (f ∷ rest) in
-    let one : attribute_total_in (f ∷ rest) ≡ bytes_of_attributes f.attributes + attribute_total_in rest = sum_by-cons (λ (s : SnapshotFile). bytes_of_attributes s.attributes) f rest in
+    let split : attribute_total_in (before ++ f ∷ rest) ≡ attribute_total_in before + attribute_total_in (f ∷ rest) = sum_by-append (λ (s : SnapshotFile). bytes_of_attributes s.kept.attributes) before (f ∷ rest) in
+    let one : attribute_total_in (f ∷ rest) ≡ bytes_of_attributes f.kept.attributes + attribute_total_in rest = sum_by-cons (λ (s : SnapshotFile). bytes_of_attributes s.kept.attributes) f rest in
     let same = ap attribute_total_in e in
     let all = is.few in
-    let few : leb (attribute_total_in before + bytes_of_attributes f.attributes) g.attributes ≡ true = le-leb (attribute_total_in before + bytes_of_attributes f.attributes) g.attributes (omega arith) in
+    let few : leb (attribute_total_in before + bytes_of_attributes f.kept.attributes) g.attributes ≡ true = le-leb (attribute_total_in before + bytes_of_attributes f.kept.attributes) g.attributes (omega arith) in
     rw (fresh, lt-ltb (last_inode 0 (names_in before)) f.key.ino above, le-leb f.key.ino g.files limits.0, lawful, few, unused) refl
 
 -- ---- what the judgement tells
@@ -90,8 +90,8 @@ pub record Follows (geometry : Geometry) (next : ℕ) (before : List SnapshotFil
   pub old : f.key.igen < next
   pub size : f.size ≤ 16777216
   pub name : is_name f.name ≡ true
-  pub regions : are_regions f.regions ≡ true
-  pub attributes : are_attributes None f.attributes ≡ true
+  pub regions : are_regions f.kept.regions ≡ true
+  pub attributes : are_attributes None f.kept.attributes ≡ true
   pub extents : are_extents 0 (blocks_in f.size) geometry.blocks f.extents ≡ true
 
 nothing : {X : Type 0} (o : Option X) → not (is_some o) ≡ true → o ≡ None
@@ -110,8 +110,8 @@ follows geometry next before f e =
     let old = ltb f.key.igen next in
     let size = leb f.size 16777216 in
     let name = is_name f.name in
-    let regions = are_regions f.regions in
-    let attributes = are_attributes None f.attributes in
+    let regions = are_regions f.kept.regions in
+    let attributes = are_attributes None f.kept.attributes in
     let lawful = and_parts (first && old && size && name && regions && attributes) (are_extents 0 (blocks_in f.size) geometry.blocks f.extents) whole.1 in
     let kept = and_parts (first && old && size && name && regions) attributes lawful.0 in
     let managed = and_parts (first && old && size && name) regions kept.0 in

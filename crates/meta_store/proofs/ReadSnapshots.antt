@@ -90,10 +90,10 @@ abbrev Parts : Type 0
 Parts = (((((FileKey × ℕ) × List ℕ) × List Region) × Attributes) × List Mapping) × Unit {0}
 
 abbrev file_of : Parts → SnapshotFile
-file_of p = record { key = p.0.0.0.0.0.0; size = p.0.0.0.0.0.1; name = p.0.0.0.0.1; regions = p.0.0.0.1; attributes = p.0.0.1; extents = p.0.1 }
+file_of p = record { key = p.0.0.0.0.0.0; size = p.0.0.0.0.0.1; name = p.0.0.0.0.1; kept = record { regions = p.0.0.0.1; attributes = p.0.0.1 }; extents = p.0.1 }
 
 abbrev parts_of : SnapshotFile → Parts
-parts_of f = ((((((f.key, f.size), f.name), f.regions), f.attributes), f.extents), tt)
+parts_of f = ((((((f.key, f.size), f.name), f.kept.regions), f.kept.attributes), f.extents), tt)
 
 abbrev parts_bytes : Parts → List ℕ
 parts_bytes p = (((((key_bytes p.0.0.0.0.0.0 ++ big_bytes 8 p.0.0.0.0.0.1) ++ name_bytes p.0.0.0.0.1) ++ regions_bytes p.0.0.0.1) ++ attributes_bytes p.0.0.1) ++ extents_bytes p.0.1) ++ big_bytes 4 0
@@ -105,7 +105,7 @@ file_spelled : (p : Parts) → file_bytes (file_of p) ≡ parts_bytes p
 unfolding file_bytes
 file_spelled p =
     let f : SnapshotFile = file_of p in
-    regroup (big_bytes 8 f.key.ino) (big_bytes 8 f.key.igen) (big_bytes 8 f.size) (big_bytes 1 (length f.name)) f.name (big_bytes 1 (length f.regions)) (flat_map region_bytes f.regions) (big_bytes 4 (length f.attributes)) (flat_map attribute_bytes f.attributes) (big_bytes 4 (length f.extents)) (flat_map extent_bytes f.extents) (big_bytes 4 0)
+    regroup (big_bytes 8 f.key.ino) (big_bytes 8 f.key.igen) (big_bytes 8 f.size) (big_bytes 1 (length f.name)) f.name (big_bytes 1 (length f.kept.regions)) (flat_map region_bytes f.kept.regions) (big_bytes 4 (length f.kept.attributes)) (flat_map attribute_bytes f.kept.attributes) (big_bytes 4 (length f.extents)) (flat_map extent_bytes f.extents) (big_bytes 4 0)
 
 file_fits : (p : Parts) → PartsFit p → FileFits (file_of p)
 file_fits p fit = record {

@@ -90,7 +90,7 @@ extents-fit blocks n [] few_blocks fit below = tt
 extents-fit blocks n (None ∷ places) few_blocks fit below = extents-fit blocks (n + 1) places few_blocks (omega arith) below
 extents-fit blocks n (Some at ∷ places) few_blocks fit below = let low = below.0 in ((omega arith, omega arith), extents-fit blocks (n + 1) places few_blocks (omega arith) below.1)
 
-pub file-fits : (blocks limit next : ℕ) (f : CatalogFile) → blocks ≤ 65536 → limit ≤ 4096 → next ≤ 2 ^ 62 → f.key.ino ≤ limit → f.key.igen < next → bytes_of_attributes f.attributes ≤ 1048576 → IsCatalogFile blocks f → FileFits (snapshot_file f)
+pub file-fits : (blocks limit next : ℕ) (f : CatalogFile) → blocks ≤ 65536 → limit ≤ 4096 → next ≤ 2 ^ 62 → f.key.ino ≤ limit → f.key.igen < next → bytes_of_attributes f.kept.attributes ≤ 1048576 → IsCatalogFile blocks f → FileFits (snapshot_file f)
 file-fits blocks limit next f few_blocks few_files old ino igen few is =
     let places : length f.places ≤ 4096 = let e = is.places in let s = is.size in omega arith in
     record {
@@ -98,10 +98,10 @@ file-fits blocks limit next f few_blocks few_files old ino igen few is =
       igen = omega arith;
       size = let s = is.size in omega arith;
       name = let short = name-short f.name is.name in omega arith;
-      regions = omega (arith, regions-few f.regions is.regions);
-      each_region = regions-fit f.regions is.regions;
-      attributes = omega (arith, attributes-few f.attributes);
-      each_attribute = attributes-fit f.attributes is.eight is.attributes;
+      regions = omega (arith, regions-few f.kept.regions is.kept.regions);
+      each_region = regions-fit f.kept.regions is.kept.regions;
+      attributes = omega (arith, attributes-few f.kept.attributes);
+      each_attribute = attributes-fit f.kept.attributes is.kept.eight is.kept.attributes;
       extents = omega (arith, length-extents 0 f.places, present-few f.places);
       each_extent = extents-fit blocks 0 f.places (omega arith) (omega arith) is.within;
     }
@@ -109,7 +109,7 @@ file-fits blocks limit next f few_blocks few_files old ino igen few is =
 files-fit : (blocks limit next : ℕ) (fs : List CatalogFile) → blocks ≤ 65536 → limit ≤ 4096 → next ≤ 2 ^ 62 → Within limit next (names_of fs) → attribute_total fs ≤ 1048576 → AllByRecursion (IsCatalogFile blocks) fs → AllByRecursion FileFits (map snapshot_file fs)
 files-fit blocks limit next [] few_blocks few_files old w few each = tt
 files-fit blocks limit next (f ∷ fs) few_blocks few_files old w few each =
-    let sum = sum_by-cons (λ (g : CatalogFile). bytes_of_attributes g.attributes) f fs in
+    let sum = sum_by-cons (λ (g : CatalogFile). bytes_of_attributes g.kept.attributes) f fs in
     (file-fits blocks limit next f few_blocks few_files old w.0 w.1 (omega arith) each.0, files-fit blocks limit next fs few_blocks few_files old w.2 (omega arith) each.1)
 
 pub fits_of : (n : ℕ) (c : Catalog) → n ≤ 2 ^ 62 → IsCatalog c → Fits (snapshot_of n c)
@@ -136,9 +136,9 @@ files-short blocks (f ∷ fs) each =
     let parts : length (blocks_of (f ∷ fs)) ≡ length (present f.places) + length (blocks_of fs) = length-append (present f.places) (blocks_of fs) in
     let short = name-short f.name each.0.name in
     let more = files-short blocks fs each.1 in
-    let total = sum_by-cons (λ (g : CatalogFile). bytes_of_attributes g.attributes) f fs in
-    let regions = regions-few f.regions each.0.regions in
-    let attributes = attributes-short f.attributes each.0.eight in
+    let total = sum_by-cons (λ (g : CatalogFile). bytes_of_attributes g.kept.attributes) f fs in
+    let regions = regions-few f.kept.regions each.0.kept.regions in
+    let attributes = attributes-short f.kept.attributes each.0.kept.eight in
     omega (arith, sums, parts, short, more, total, regions, attributes)
 
 by_choice : (b : Bool) → 24 + 170 * (geometry_by b).files + 8 * (geometry_by b).blocks + (geometry_by b).attributes ≤ (cond b small large).snapshot_len

@@ -22,15 +22,15 @@ twelve : (a b c d e f g h i j k l : List ℕ) → length (((((((((((a ++ b) ++ c
     ≡ length a + length b + length c + length d + length e + length f + length g + length h + length i + length j + length k + length l
 twelve a b c d e f g h i j k l = simp length-append refl
 
-pub length-file_bytes : (f : SnapshotFile) → length (file_bytes f) ≡ 38 + length f.name + 17 * length f.regions + length (flat_map attribute_bytes f.attributes) + 8 * length f.extents
+pub length-file_bytes : (f : SnapshotFile) → length (file_bytes f) ≡ 38 + length f.name + 17 * length f.kept.regions + length (flat_map attribute_bytes f.kept.attributes) + 8 * length f.extents
 unfolding file_bytes
 length-file_bytes f =
-    let all = twelve (big_bytes 8 f.key.ino) (big_bytes 8 f.key.igen) (big_bytes 8 f.size) (big_bytes 1 (length f.name)) f.name (big_bytes 1 (length f.regions)) (flat_map region_bytes f.regions) (big_bytes 4 (length f.attributes)) (flat_map attribute_bytes f.attributes) (big_bytes 4 (length f.extents)) (flat_map extent_bytes f.extents) (big_bytes 4 0) in
-    omega (arith, all, length-region_bytes f.regions, length-extent_bytes f.extents)
+    let all = twelve (big_bytes 8 f.key.ino) (big_bytes 8 f.key.igen) (big_bytes 8 f.size) (big_bytes 1 (length f.name)) f.name (big_bytes 1 (length f.kept.regions)) (flat_map region_bytes f.kept.regions) (big_bytes 4 (length f.kept.attributes)) (flat_map attribute_bytes f.kept.attributes) (big_bytes 4 (length f.extents)) (flat_map extent_bytes f.extents) (big_bytes 4 0) in
+    omega (arith, all, length-region_bytes f.kept.regions, length-extent_bytes f.extents)
 
 -- how long what is spelled of a file is
 abbrev pub file_len : CatalogFile → ℕ
-file_len f = 38 + length f.name + 17 * length f.regions + length (flat_map attribute_bytes f.attributes) + 8 * length (present f.places)
+file_len f = 38 + length f.name + 17 * length f.kept.regions + length (flat_map attribute_bytes f.kept.attributes) + 8 * length (present f.places)
 
 pub length-file : (f : CatalogFile) → length (file_bytes (snapshot_file f)) ≡ file_len f
 length-file f = omega (arith, length-file_bytes (snapshot_file f), length-extents 0 f.places)

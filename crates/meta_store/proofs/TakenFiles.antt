@@ -4,6 +4,7 @@ use Rattle.std.specs.List.{AllByRecursion, list_any}
 use Rattle.std.specs.Option.{IsSome, is_some, option_map}
 use Rattle.std.specs.Cmp.{both_ways}
 use Rattle.hsm_types.specs.Attributes.{bytes_of_attributes}
+use Rattle.hsm_types.specs.Kept.{nothing_kept}
 use Rattle.std.proofs.lemmas.List.{map-append}
 use Rattle.std.proofs.Math.Seq.{take-nil}
 use Rattle.std.proofs.lemmas.List.Concat.{flat_map-append}
@@ -16,7 +17,7 @@ use Rattle.inode_table.specs.Listing.{listing, key_named, Ascend}
 use Rattle.inode_table.specs.Table.{entry_of}
 use Rattle.meta_store.specs.declared.snapshot.Mapping.{Mapping}
 use Rattle.meta_store.specs.Catalogs.{CatalogFile, Catalog, names_of, blocks_of, present, attribute_total}
-use Rattle.meta_store.specs.Changes.{places_fitted, places_set, remapped, with_file, with_remapped, with_regions, with_attributes, others_total}
+use Rattle.meta_store.specs.Changes.{places_fitted, places_set, remapped, with_file, with_remapped, with_kept, others_total}
 use Rattle.meta_store.specs.Snapshots.{SnapshotFile, snapshot_file, extents_from}
 use Rattle.meta_store.specs.Validity.{names_in, places_of, places_in, last_inode, are_extents, are_unused, are_free, can_follow, attribute_total_in, are_few, Flags, HasTaken}
 use Rattle.meta_store.proofs.FileEdits.{total-put, total-fewer, total-same}
@@ -39,23 +40,20 @@ table-has fs name = same_variant (λ (l : Listed). l.key) (named name (listing (
 
 -- the file as it is made, without its blocks
 abbrev pub made : SnapshotFile → CatalogFile
-made f = record { key = f.key; name = f.name; size = 0; places = []; regions = []; attributes = [] }
+made f = record { key = f.key; name = f.name; size = 0; places = []; kept = nothing_kept }
 
 fitted-nothing : (size : ℕ) → places_fitted size [] ≡ replicate (blocks_in size) None
 fitted-nothing size = let all : blocks_in size - 0 ≡ blocks_in size = omega arith in rw (take-nil, all) refl
 
--- the file with its blocks, and then with its regions and attributes
+-- the file with its blocks
 abbrev placed : SnapshotFile → CatalogFile
 placed f = remapped f.size f.extents (made f)
 
-abbrev managed : SnapshotFile → CatalogFile
-managed f = record (placed f) { regions = f.regions }
-
-snapshot-remapped : (blocks : ℕ) (f : SnapshotFile) → are_extents 0 (blocks_in f.size) blocks f.extents ≡ true → snapshot_file (record (managed f) { attributes = f.attributes }) ≡ f
+snapshot-remapped : (blocks : ℕ) (f : SnapshotFile) → are_extents 0 (blocks_in f.size) blocks f.extents ≡ true → snapshot_file (record (placed f) { kept = f.kept }) ≡ f
 snapshot-remapped blocks f ok =
     let n = blocks_in f.size in
     let same : extents_from 0 (places_set f.extents (places_fitted f.size [])) ≡ f.extents = rw (fitted-nothing f.size) (spread-holes f.extents n blocks ok) in
-    ap (λ (es : List Mapping). record { key = f.key; size = f.size; name = f.name; regions = f.regions; attributes = f.attributes; extents = es }) same
+    ap (λ (es : List Mapping). record { key = f.key; size = f.size; name = f.name; kept = f.kept; extents = es }) same
 
 put-files : (c : Catalog) (f : SnapshotFile) → Ascend 1 (names_of c.files) → last_inode 0 (names_of c.files) < f.key.ino → (with_file f.key f.name c).files ≡ c.files ++ made f ∷ []
 put-files c f a above = put-behind 0 (made f) c.files a above
@@ -68,7 +66,7 @@ blocks-made c f a above = ap blocks_of (put-files c f a above) ∙ flat_map-appe
 
 -- the catalog with the file, and all that is kept with it
 abbrev pub with_all : SnapshotFile → Catalog → Catalog
-with_all f c = with_attributes f.key f.attributes (with_regions f.key f.regions (with_remapped f.key f.size f.extents (with_file f.key f.name c)))
+with_all f c = with_kept f.key (λ _. f.kept) (with_remapped f.key f.size f.extents (with_file f.key f.name c))
 
 snapshot-more : (blocks : ℕ) (c : Catalog) (f : SnapshotFile) → Ascend 1 (names_of c.files) → last_inode 0 (names_of c.files) < f.key.ino → are_extents 0 (blocks_in f.size) blocks f.extents ≡ true
     → map snapshot_file (with_all f c).files ≡ map snapshot_file c.files ++ f ∷ []
@@ -76,8 +74,7 @@ snapshot-more blocks c f a above ok =
     rw (
       put-files c f a above,
       change-behind 0 (made f) c.files (remapped f.size f.extents) a above,
-      change-behind 0 (placed f) c.files (λ g. record g { regions = f.regions }) a above,
-      change-behind 0 (managed f) c.files (λ g. record g { attributes = f.attributes }) a above,
+      change-behind 0 (placed f) c.files (λ g. record g { kept = f.kept }) a above,
       map-append,
       snapshot-remapped blocks f ok,
     ) refl
@@ -87,10 +84,10 @@ snapshot-more blocks c f a above ok =
 same_test : (x y u v : ℕ) → (x ≤ y → u ≤ v) → (u ≤ v → x ≤ y) → leb x y ≡ leb u v
 same_test x y u v there back = both_ways (leb x y) (leb u v) (λ h. le-leb u v (there (leb-true x y h))) (λ h. le-leb x y (back (leb-true u v h)))
 
-pub room-few : (g : Geometry) (c : Catalog) (f : SnapshotFile) (total : ℕ) → total ≡ attribute_total c.files → attribute_total c.files ≤ g.attributes → leb (bytes_of_attributes f.attributes) (g.attributes - total) ≡ are_few g (map snapshot_file c.files) f
+pub room-few : (g : Geometry) (c : Catalog) (f : SnapshotFile) (total : ℕ) → total ≡ attribute_total c.files → attribute_total c.files ≤ g.attributes → leb (bytes_of_attributes f.kept.attributes) (g.attributes - total) ≡ are_few g (map snapshot_file c.files) f
 room-few g c f total is few =
     let same = total_in-snapshot c.files in
-    same_test (bytes_of_attributes f.attributes) (g.attributes - total) (attribute_total_in (map snapshot_file c.files) + bytes_of_attributes f.attributes) g.attributes (λ h. omega arith) (λ h. omega arith)
+    same_test (bytes_of_attributes f.kept.attributes) (g.attributes - total) (attribute_total_in (map snapshot_file c.files) + bytes_of_attributes f.kept.attributes) g.attributes (λ h. omega arith) (λ h. omega arith)
 
 -- ---- a file that can follow, behind those of a catalog
 

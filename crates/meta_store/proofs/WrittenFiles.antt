@@ -25,8 +25,8 @@ name-at c i f is at = name-short f.name (lawful-at c i f is at).name
 pub places-at : (c : Catalog) (i : ℕ) (f : CatalogFile) → IsCatalog c → slice_get c.files i ≡ Some f → length f.places ≤ 4096
 places-at c i f is at = let one = lawful-at c i f is at in let size = one.size in let places = one.places in omega arith
 
-pub regions-at : (c : Catalog) (i : ℕ) (f : CatalogFile) → IsCatalog c → slice_get c.files i ≡ Some f → length f.regions ≤ 4
-regions-at c i f is at = regions-few f.regions (lawful-at c i f is at).regions
+pub regions-at : (c : Catalog) (i : ℕ) (f : CatalogFile) → IsCatalog c → slice_get c.files i ≡ Some f → length f.kept.regions ≤ 4
+regions-at c i f is at = regions-few f.kept.regions (lawful-at c i f is at).kept.regions
 
 -- ---- what is written, and what is still to come
 

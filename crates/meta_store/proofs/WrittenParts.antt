@@ -29,7 +29,7 @@ pub file_written : (file : CatalogFile) (count : ℕ) (o o1 o2 o3 o4 o5 o6 o7 : 
     → o1 ≡ o ++ (big_bytes 8 file.key.ino ++ big_bytes 8 file.key.igen)
     → o2 ≡ o1 ++ big_bytes 8 file.size
     → o3 ≡ o2 ++ (big_bytes 1 (length file.name) ++ file.name)
-    → o4 ≡ o3 ++ (((big_bytes 1 (length file.regions) ++ flat_map region_bytes file.regions) ++ big_bytes 4 (length file.attributes)) ++ flat_map attribute_bytes file.attributes)
+    → o4 ≡ o3 ++ (((big_bytes 1 (length file.kept.regions) ++ flat_map region_bytes file.kept.regions) ++ big_bytes 4 (length file.kept.attributes)) ++ flat_map attribute_bytes file.kept.attributes)
     → o5 ≡ o4 ++ big_bytes 4 count
     → o6 ≡ o5 ++ flat_map extent_bytes (extents_from 0 file.places)
     → o7 ≡ o6 ++ big_bytes 4 0
@@ -38,6 +38,6 @@ unfolding file_bytes
 file_written file count o o1 o2 o3 o4 o5 o6 o7 is e1 e2 e3 e4 e5 e6 e7 =
     let counted : o5 ≡ o4 ++ big_bytes 4 (length (extents_from 0 file.places)) = e5 ∙ ap (λ (n : ℕ). o4 ++ big_bytes 4 n) (is ∙ sym (length-extents 0 file.places)) in
     parts o (big_bytes 8 file.key.ino) (big_bytes 8 file.key.igen) (big_bytes 8 file.size) (big_bytes 1 (length file.name)) file.name
-    (big_bytes 1 (length file.regions)) (flat_map region_bytes file.regions) (big_bytes 4 (length file.attributes)) (flat_map attribute_bytes file.attributes)
+    (big_bytes 1 (length file.kept.regions)) (flat_map region_bytes file.kept.regions) (big_bytes 4 (length file.kept.attributes)) (flat_map attribute_bytes file.kept.attributes)
     (big_bytes 4 (length (extents_from 0 file.places))) (flat_map extent_bytes (extents_from 0 file.places)) (big_bytes 4 0)
     o1 o2 o3 o4 o5 o6 o7 e1 e2 e3 e4 counted e6 e7

@@ -4,9 +4,9 @@ use Rattle.std.specs.List.{flat_map, AllByRecursion}
 use Rattle.hsm_types.specs.Names.{is_name}
 use Rattle.hsm_types.specs.declared.keys.FileKey.{FileKey}
 use Rattle.hsm_types.specs.declared.stores.Geometry.{Geometry}
-use Rattle.hsm_types.specs.declared.regions.Region.{Region}
 use Rattle.hsm_types.specs.Regions.{regions_refusal}
-use Rattle.hsm_types.specs.Attributes.{Attributes, AreAttributes, bytes_of_attributes}
+use Rattle.hsm_types.specs.Attributes.{AreAttributes, bytes_of_attributes}
+use Rattle.hsm_types.specs.Kept.{Kept}
 use Rattle.plain_model.specs.Plain.{Listed}
 use Rattle.plain_model.specs.Blocks.{blocks_in}
 use Rattle.plain_model.specs.Distinct.{Distinct}
@@ -18,8 +18,7 @@ pub record CatalogFile : Type 0 where
   pub name : List ℕ
   pub size : ℕ
   pub places : List (Option ℕ)
-  pub regions : List Region
-  pub attributes : Attributes
+  pub kept : Kept
 
 -- the files of a store in the order of their inodes, and the next generation
 pub record Catalog : Type 0 where
@@ -47,7 +46,14 @@ blocks_of files = flat_map (λ f. present f.places) files
 
 -- what the attributes of all files count
 abbrev pub attribute_total : List CatalogFile → ℕ
-attribute_total files = sum_by (λ f. bytes_of_attributes f.attributes) files
+attribute_total files = sum_by (λ f. bytes_of_attributes f.kept.attributes) files
+
+-- what is true of what sessions keep with each file
+pub record IsLawfulKept (k : Kept) : Type 0 where
+  pub regions : regions_refusal k.regions ≡ None
+  pub attributes : AreAttributes k.attributes
+  -- a name of an attribute has eight bytes
+  pub eight : AllByRecursion (λ a. length a.0.0 ≡ 8) k.attributes
 
 -- what is true of each file in a store of so many blocks
 pub record IsCatalogFile (blocks : ℕ) (f : CatalogFile) : Type 0 where
@@ -56,10 +62,7 @@ pub record IsCatalogFile (blocks : ℕ) (f : CatalogFile) : Type 0 where
   pub size : f.size ≤ 16777216
   pub places : length f.places ≡ blocks_in f.size
   pub within : AllByRecursion (λ b. b < blocks) (present f.places)
-  pub regions : regions_refusal f.regions ≡ None
-  pub attributes : AreAttributes f.attributes
-  -- a name of an attribute has eight bytes
-  pub eight : AllByRecursion (λ a. length a.0.0 ≡ 8) f.attributes
+  pub kept : IsLawfulKept f.kept
 
 -- What is true of each catalog: inodes ascend and are within the geometry's, names differ, each generation is below the next one, no block
 -- of the disk is used twice, and all attributes together count at most what the geometry allows.

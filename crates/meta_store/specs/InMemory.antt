@@ -1,6 +1,7 @@
 -- A catalog in memory: a table of its files, for each inode, from 1, what is kept of the file that has it beside them, and what all attributes count.
 use Rattle.std.specs.Prelude.{◌≡◌, ℕ, ◌-◌, List, [], length, map, slice_index_or}
 use Rattle.hsm_types.specs.declared.keys.FileKey.{FileKey}
+use Rattle.hsm_types.specs.Kept.{Kept}
 use Rattle.inode_table.specs.declared.entries.FileEntry.{FileEntry}
 use Rattle.inode_table.specs.Table.{Table}
 use Rattle.meta_store.specs.declared.file_parts.FileParts.{FileParts}
@@ -10,12 +11,16 @@ use Rattle.meta_store.specs.Catalogs.{CatalogFile, Catalog, IsCatalog, geometry_
 abbrev pub no_parts : FileParts
 no_parts = record { places = []; regions = []; attributes = [] }
 
+-- what sessions keep with the file
+abbrev pub kept_in : FileParts → Kept
+kept_in parts = record { regions = parts.regions; attributes = parts.attributes }
+
 abbrev pub file_of : FileKey → List ℕ → ℕ → FileParts → CatalogFile
-file_of key name size parts = record { key = key; name = name; size = size; places = parts.places; regions = parts.regions; attributes = parts.attributes }
+file_of key name size parts = record { key = key; name = name; size = size; places = parts.places; kept = kept_in parts }
 
 -- what is kept of a file beside its key, its name and its size
 abbrev pub parts_of : CatalogFile → FileParts
-parts_of f = record { places = f.places; regions = f.regions; attributes = f.attributes }
+parts_of f = record { places = f.places; regions = f.kept.regions; attributes = f.kept.attributes }
 
 abbrev pub file_held : List FileParts → FileEntry → CatalogFile
 file_held parts e = file_of e.key e.name e.size (slice_index_or parts (e.key.ino - 1) no_parts)

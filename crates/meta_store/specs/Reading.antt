@@ -95,7 +95,7 @@ extent_at = made (λ n. record { block = n.0; place = n.1 }) (both (number_at 4)
 
 -- the count of stub entries is last
 unfoldable pub file_at : List ℕ → Option (SnapshotFile × List ℕ)
-file_at = made (λ p. record { key = p.0.0.0.0.0.0; size = p.0.0.0.0.0.1; name = p.0.0.0.0.1; regions = p.0.0.0.1; attributes = p.0.0.1; extents = p.0.1 })
+file_at = made (λ p. record { key = p.0.0.0.0.0.0; size = p.0.0.0.0.0.1; name = p.0.0.0.0.1; kept = record { regions = p.0.0.0.1; attributes = p.0.0.1 }; extents = p.0.1 })
     (both (both (both (both (both (both key_at (number_at 8)) (sized 1)) (counted 1 region_at)) (counted 4 attribute_at)) (counted 4 extent_at)) (only_at 4 0))
 
 unfoldable pub snapshot_at : List ℕ → Option (Snapshot × List ℕ)

@@ -5,7 +5,7 @@ use Rattle.byteorder.specs.Endian.{big_bytes}
 use Rattle.hsm_types.specs.declared.keys.FileKey.{FileKey}
 use Rattle.hsm_types.specs.declared.regions.Region.{Region}
 use Rattle.hsm_types.specs.declared.attributes.AttrName.{AttrName}
-use Rattle.hsm_types.specs.Attributes.{Attributes}
+use Rattle.hsm_types.specs.Kept.{Kept}
 use Rattle.meta_store.specs.declared.snapshot.Mapping.{Mapping}
 use Rattle.meta_store.specs.declared.snapshot.RawFile.{RawFile}
 use Rattle.meta_store.specs.declared.snapshot.RawSnapshot.{RawSnapshot}
@@ -16,8 +16,7 @@ pub record SnapshotFile : Type 0 where
   pub key : FileKey
   pub size : ℕ
   pub name : List ℕ
-  pub regions : List Region
-  pub attributes : Attributes
+  pub kept : Kept
   pub extents : List Mapping
 
 -- a snapshot: the number of history entries before the commit, the next generation, and the files
@@ -28,7 +27,7 @@ pub record Snapshot : Type 0 where
 
 -- the snapshot that was read
 abbrev pub raw_file : RawFile → SnapshotFile
-raw_file f = record { key = f.key; size = f.size; name = f.name; regions = f.regions.items; attributes = f.attributes.items; extents = f.extents.items }
+raw_file f = record { key = f.key; size = f.size; name = f.name; kept = record { regions = f.regions.items; attributes = f.attributes.items }; extents = f.extents.items }
 
 abbrev pub raw_snapshot : RawSnapshot → Snapshot
 raw_snapshot s = record { number = s.number; next = s.next; files = map raw_file s.files.items }
@@ -50,8 +49,8 @@ unfoldable pub file_bytes : SnapshotFile → List ℕ
 file_bytes f =
     big_bytes 8 f.key.ino ++ big_bytes 8 f.key.igen ++ big_bytes 8 f.size
     ++ big_bytes 1 (length f.name) ++ f.name
-    ++ big_bytes 1 (length f.regions) ++ flat_map region_bytes f.regions
-    ++ big_bytes 4 (length f.attributes) ++ flat_map attribute_bytes f.attributes
+    ++ big_bytes 1 (length f.kept.regions) ++ flat_map region_bytes f.kept.regions
+    ++ big_bytes 4 (length f.kept.attributes) ++ flat_map attribute_bytes f.kept.attributes
     ++ big_bytes 4 (length f.extents) ++ flat_map extent_bytes f.extents
     ++ big_bytes 4 0
 
@@ -74,10 +73,10 @@ pub record FileFits (f : SnapshotFile) : Type 0 where
   pub igen : f.key.igen < 2 ^ 64
   pub size : f.size < 2 ^ 64
   pub name : length f.name < 2 ^ 8
-  pub regions : length f.regions < 2 ^ 8
-  pub each_region : AllByRecursion RegionFits f.regions
-  pub attributes : length f.attributes < 2 ^ 32
-  pub each_attribute : AllByRecursion AttributeFits f.attributes
+  pub regions : length f.kept.regions < 2 ^ 8
+  pub each_region : AllByRecursion RegionFits f.kept.regions
+  pub attributes : length f.kept.attributes < 2 ^ 32
+  pub each_attribute : AllByRecursion AttributeFits f.kept.attributes
   pub extents : length f.extents < 2 ^ 32
   pub each_extent : AllByRecursion ExtentFits f.extents
 
@@ -102,7 +101,7 @@ extents_from n (None ∷ places) = extents_from (n + 1) places
 extents_from n (Some at ∷ places) = (record { block = n; place = at }) ∷ extents_from (n + 1) places
 
 abbrev pub snapshot_file : CatalogFile → SnapshotFile
-snapshot_file f = record { key = f.key; size = f.size; name = f.name; regions = f.regions; attributes = f.attributes; extents = extents_from 0 f.places }
+snapshot_file f = record { key = f.key; size = f.size; name = f.name; kept = f.kept; extents = extents_from 0 f.places }
 
 unfoldable pub snapshot_of : ℕ → Catalog → Snapshot
 snapshot_of number c = record { number = number; next = c.next; files = map snapshot_file c.files }

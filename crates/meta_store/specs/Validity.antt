@@ -58,7 +58,7 @@ are_attributes before (a ∷ attrs) = is_attribute before a && are_attributes (S
 
 -- what can be judged of a file by itself
 abbrev pub is_file : ℕ → ℕ → SnapshotFile → Bool
-is_file next blocks f = nat_le 1 f.key.igen && nat_lt f.key.igen next && nat_le f.size 16777216 && is_name f.name && are_regions f.regions && are_attributes None f.attributes && are_extents 0 (blocks_in f.size) blocks f.extents
+is_file next blocks f = nat_le 1 f.key.igen && nat_lt f.key.igen next && nat_le f.size 16777216 && is_name f.name && are_regions f.kept.regions && are_attributes None f.kept.attributes && are_extents 0 (blocks_in f.size) blocks f.extents
 
 -- none of these places is used yet, and none of them stands twice
 abbrev pub are_unused : List ℕ → List ℕ → Bool
@@ -72,11 +72,11 @@ can_follow geometry next before f =
 
 -- what the attributes of these files count
 abbrev pub attribute_total_in : List SnapshotFile → ℕ
-attribute_total_in files = sum_by (λ f. bytes_of_attributes f.attributes) files
+attribute_total_in files = sum_by (λ f. bytes_of_attributes f.kept.attributes) files
 
 -- the attributes of the file and those before it count at most what the geometry allows
 abbrev pub are_few : Geometry → List SnapshotFile → SnapshotFile → Bool
-are_few geometry before f = nat_le (attribute_total_in before + bytes_of_attributes f.attributes) geometry.attributes
+are_few geometry before f = nat_le (attribute_total_in before + bytes_of_attributes f.kept.attributes) geometry.attributes
 
 -- the file can stand behind those
 abbrev pub is_next : Geometry → ℕ → List SnapshotFile → SnapshotFile → Bool

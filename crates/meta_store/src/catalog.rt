@@ -14,7 +14,7 @@ ghost use Rattle.inode_table.specs.declared.table.TableRefusal.TheVariants.{Exis
 ghost use Rattle.inode_table.specs.Listing.{has_inode};
 ghost use Rattle.inode_table.specs.Table.{entry_of};
 ghost use Rattle.meta_store.specs.Catalogs.{geometry_of, names_of, present, blocks_of, attribute_total, IsCatalog};
-ghost use Rattle.meta_store.specs.Changes.{with_file, without_file, with_remapped, with_regions, with_attributes, with_attribute, without_attribute, attributes_at, others_total, attribute_refusal};
+ghost use Rattle.meta_store.specs.Changes.{with_file, without_file, with_remapped, with_kept, with_regions, with_attribute, without_attribute, kept_at, others_total, attribute_refusal};
 ghost use Rattle.meta_store.specs.InMemory.{file_of, parts_of};
 
 use crate::file_parts::FileParts;
@@ -141,14 +141,14 @@ impl Catalog {
 
     /// The regions of a live file.
     pub fn regions(&self, key: FileKey) -> Option<&ManagedRegions>
-        ensures { option_map (λ r. r.now) result ≡ option_map (λ f. f.regions) (find_key (λ f. f.key) key self.now.files) }
+        ensures { option_map (λ r. r.now) result ≡ option_map (λ f. f.kept.regions) (find_key (λ f. f.key) key self.now.files) }
     {
         Some(self.parts(key)?.regions())
     }
 
     /// The attributes of a live file.
     pub fn attributes(&self, key: FileKey) -> Option<&DmAttrs>
-        ensures { option_map (λ r. r.now) result ≡ option_map (λ f. f.attributes) (find_key (λ f. f.key) key self.now.files) }
+        ensures { option_map (λ r. r.now) result ≡ option_map (λ f. f.kept.attributes) (find_key (λ f. f.key) key self.now.files) }
     {
         Some(self.parts(key)?.attributes())
     }
@@ -267,7 +267,7 @@ impl Catalog {
     /// Takes an attribute of a live file away. At an `Err` nothing has changed. It takes no memory.
     pub fn remove_attribute(&mut self, key: FileKey, name: AttrName) -> Result<(), DmRefusal>
         requires live { IsSome (find_key (λ f. f.key) key self.old.files) }
-        ensures judged { MatchResult result (λ _. removal_refusal name (attributes_at key self.old) ≡ None) (λ why. removal_refusal name (attributes_at key self.old) ≡ Some why) }
+        ensures judged { MatchResult result (λ _. removal_refusal name (kept_at key self.old).attributes ≡ None) (λ why. removal_refusal name (kept_at key self.old).attributes ≡ Some why) }
         ensures ok { OnOk result (self.new ≡ without_attribute key name self.old) }
         ensures err { OnErr result (self.new ≡ self.old) }
     {
@@ -278,16 +278,18 @@ impl Catalog {
         Ok(())
     }
 
-    /// Gives a live file these attributes, in the place of those that it has.
-    pub(crate) fn set_attributes(&mut self, key: FileKey, attributes: DmAttrs)
+    /// Gives a live file these regions and attributes, in the place of those that it has.
+    pub(crate) fn set_kept(&mut self, key: FileKey, regions: ManagedRegions, attributes: DmAttrs)
         requires live { IsSome (find_key (λ f. f.key) key self.old.files) }
+        requires lawful { regions_refusal regions ≡ None }
         requires room { others_total key self.old + bytes_of_attributes attributes ≤ (geometry_of self.old.geometry).attributes }
         requires eight { AllByRecursion (λ a. length a.0.0 ≡ 8) attributes }
-        ensures { self.new ≡ with_attributes key attributes self.old }
+        ensures { self.new ≡ with_kept key (λ _. record { regions = regions; attributes = attributes }) self.old }
     {
-        let place = &mut self.parts[slot(key)].attributes;
-        let others = self.attribute_total - place.bytes();
+        let parts = &mut self.parts[slot(key)];
+        let others = self.attribute_total - parts.attributes.bytes();
         self.attribute_total = others + attributes.bytes();
-        *place = attributes;
+        parts.regions = regions;
+        parts.attributes = attributes;
     }
 }

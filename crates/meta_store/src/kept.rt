@@ -7,8 +7,8 @@ ghost use Rattle.meta_store.specs.Validity.{are_regions, stands_behind, is_attri
 
 use crate::snapshot::ReadRefusal;
 use dm_attrs::DmAttrs;
-use hsm_types::{ATTRIBUTE_BYTES, ATTRIBUTE_COST, AttrName, Bytes, DmRefusal, Region};
-use managed_regions::judge;
+use hsm_types::{ATTRIBUTE_BYTES, ATTRIBUTE_COST, AttrName, Bytes, DmRefusal, Region, Regions};
+use managed_regions::{ManagedRegions, judge};
 use std::alloc::Global;
 use std::cmp::Ordering;
 
@@ -79,6 +79,19 @@ fn refusal_of(why: DmRefusal) -> ReadRefusal
     match why {
         DmRefusal::Memory => ReadRefusal::Memory,
         _ => ReadRefusal::Corrupt,
+    }
+}
+
+/// The regions, which are lawful.
+pub(crate) fn regions_of(alloc: Global, regions: &[Region]) -> Result<ManagedRegions, ReadRefusal>
+    requires { are_regions regions.now ≡ true }
+    ensures ok { IfOk result (λ kept. kept ≡ regions.now) }
+    ensures memory { IsErrOf result ReadRefusal.Corrupt → ⊥ }
+{
+    let mut kept = ManagedRegions::new(alloc);
+    match kept.set(Regions::from(Vec::from_slice(alloc, regions)?)) {
+        Ok(()) => Ok(kept),
+        Err(_) => Err(ReadRefusal::Corrupt),
     }
 }
 

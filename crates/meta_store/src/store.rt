@@ -18,7 +18,7 @@ ghost use Rattle.commit_slots.specs.Images.{slot_of, IsStore};
 ghost use Rattle.inode_table.specs.declared.table.TableRefusal.TheVariants.{Exists, NoInodes};
 ghost use Rattle.inode_table.specs.Table.{entry_of};
 ghost use Rattle.meta_store.specs.Catalogs.{names_of, blocks_of, attribute_total, geometry_of};
-ghost use Rattle.meta_store.specs.Changes.{with_file, without_file, with_remapped, with_regions, with_attribute, without_attribute, attributes_at, attribute_refusal};
+ghost use Rattle.meta_store.specs.Changes.{with_file, without_file, with_remapped, with_regions, with_attribute, without_attribute, kept_at, attribute_refusal};
 ghost use Rattle.meta_store.specs.Images.{IsImage, IsCorruptAt, RecoversSame, Recovers};
 ghost use Rattle.meta_store.specs.Meta.{Meta, IsMeta, Backs};
 
@@ -162,14 +162,14 @@ impl MetaStore {
 
     /// The regions of a live file.
     pub fn regions(&self, key: FileKey) -> Option<&ManagedRegions>
-        ensures { option_map (λ r. r.now) result ≡ option_map (λ f. f.regions) (find_key (λ f. f.key) key self.now.current.files) }
+        ensures { option_map (λ r. r.now) result ≡ option_map (λ f. f.kept.regions) (find_key (λ f. f.key) key self.now.current.files) }
     {
         self.catalog.regions(key)
     }
 
     /// The attributes of a live file.
     pub fn attributes(&self, key: FileKey) -> Option<&DmAttrs>
-        ensures { option_map (λ r. r.now) result ≡ option_map (λ f. f.attributes) (find_key (λ f. f.key) key self.now.current.files) }
+        ensures { option_map (λ r. r.now) result ≡ option_map (λ f. f.kept.attributes) (find_key (λ f. f.key) key self.now.current.files) }
     {
         self.catalog.attributes(key)
     }
@@ -250,7 +250,7 @@ impl MetaStore {
     /// Takes an attribute of a live file away.
     pub fn remove_attribute(&mut self, key: FileKey, name: AttrName) -> Result<(), DmRefusal>
         requires live { IsSome (find_key (λ f. f.key) key self.old.current.files) }
-        ensures judged { MatchResult result (λ _. removal_refusal name (attributes_at key self.old.current) ≡ None) (λ why. removal_refusal name (attributes_at key self.old.current) ≡ Some why) }
+        ensures judged { MatchResult result (λ _. removal_refusal name (kept_at key self.old.current).attributes ≡ None) (λ why. removal_refusal name (kept_at key self.old.current).attributes ≡ Some why) }
         ensures ok { OnOk result (self.new ≡ record self.old { current = without_attribute key name self.old.current }) }
         ensures err { OnErr result (self.new ≡ self.old) }
     {

@@ -5,16 +5,16 @@ ghost use Rattle.std.specs.Result.{IsErrOf};
 ghost use Rattle.hsm_types.specs.Attributes.{bytes_of_attributes};
 ghost use Rattle.plain_model.specs.Keyed.{find_key};
 ghost use Rattle.meta_store.specs.Catalogs.{Catalog, geometry_of, IsCatalog};
-ghost use Rattle.meta_store.specs.Changes.{with_regions, with_attributes, others_total};
+ghost use Rattle.meta_store.specs.Changes.{with_kept, others_total};
 ghost use Rattle.meta_store.specs.Snapshots.{raw_file, raw_snapshot, snapshot_file, snapshot_of};
 ghost use Rattle.meta_store.specs.Validity.{last_inode, are_regions, are_attributes, is_file, can_follow, is_next, names_in, HasTaken};
 
 use crate::catalog::Catalog;
 use crate::extents::{are_extents, claim};
 use crate::geometry::geometry_of;
-use crate::kept::{are_attributes, are_regions, are_within, attributes_of};
+use crate::kept::{are_attributes, are_regions, are_within, attributes_of, regions_of};
 use crate::snapshot::{RawFile, RawSnapshot, ReadRefusal};
-use hsm_types::{BLOCK_BYTES, FILE_BYTES, Geometry, Regions, can_name};
+use hsm_types::{BLOCK_BYTES, FILE_BYTES, Geometry, can_name};
 use std::alloc::Global;
 
 /// The catalog that a snapshot says, if it is a valid one of that geometry. The files are walked once, with a flag for each block of the disk.
@@ -91,18 +91,13 @@ fn keep(alloc: Global, catalog: &mut Catalog, file: &RawFile, room: u64) -> Resu
     requires attributes { are_attributes None file.now.attributes.items ≡ true }
     requires within { bytes_of_attributes file.now.attributes.items ≤ room }
     requires room { others_total file.now.key catalog.old + room ≤ (geometry_of catalog.old.geometry).attributes }
-    ensures ok { OnOk result (catalog.new ≡ with_attributes file.now.key file.now.attributes.items (with_regions file.now.key file.now.regions.items catalog.old)) }
+    ensures ok { OnOk result (catalog.new ≡ with_kept file.now.key (λ _. (raw_file file.now).kept) catalog.old) }
     ensures memory { IsErrOf result ReadRefusal.Corrupt → ⊥ }
 {
+    let regions = regions_of(alloc, file.regions.as_slice())?;
     let attributes = attributes_of(alloc, file.attributes.as_slice(), room)?;
-    let regions = Regions::from(Vec::from_slice(alloc, file.regions.as_slice())?);
-    match catalog.set_regions(file.key, regions) {
-        Ok(()) => {
-            catalog.set_attributes(file.key, attributes);
-            Ok(())
-        }
-        Err(_) => Err(ReadRefusal::Corrupt),
-    }
+    catalog.set_kept(file.key, regions, attributes);
+    Ok(())
 }
 
 /// Whether a file can stand behind those of the catalog, what they use of the disk aside.

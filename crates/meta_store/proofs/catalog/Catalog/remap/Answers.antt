@@ -1,22 +1,14 @@
-use Rattle.std.proofs.Common.{◌-◌, refl, arith}
-use Rattle.std.proofs.lemmas.List.{get_or_read}
-use Rattle.meta_store.specs.InMemory.{no_parts}
-use Rattle.meta_store.proofs.HeldCatalogs.{slot_of, live_held, catalog_held-remap, IsHeld-remap}
+use Rattle.std.proofs.Common.{refl, arith}
+use Rattle.meta_store.proofs.HeldCatalogs.{live_held, catalog_held-remap, IsHeld-remap}
 use Rattle.meta_store.proofs.HeldBlocks.{used-few, used_held-drop, used_held-remap}
+use Rattle.meta_store.proofs.LiveParts as on
 use Rattle.meta_store.proofs.catalog.Catalog.remap.Goals as goal
 
 pub slot-requires : goal.slot-requires
-slot-requires c =
-    let live = live_held c.self.inside.parts.items c.args.key c.self.inside.table.files (rw (← c.self.view_is) at c.requires.live) in
-    (slot_of c.self.inside.geometry c.self.inside.table c.self.inside.parts.items c.self.inside.attribute_total c.self.invariant.0 c.args.key live.0 live.1).0
+slot-requires c = on.low c.self.inside _ c.self.view_is c.self.invariant c.args.key c.requires.live
 
 pub index_mut-requires : goal.index_mut-requires
-index_mut-requires c =
-    let live = live_held c.self.inside.parts.items c.args.key c.self.inside.table.files (rw (← c.self.view_is) at c.requires.live) in
-    let within = slot_of c.self.inside.geometry c.self.inside.table c.self.inside.parts.items c.self.inside.attribute_total c.self.invariant.0 c.args.key live.0 live.1 in
-    let low = within.0 in
-    let high = within.1 in
-    omega arith
+index_mut-requires c = omega (arith, on.within c.self.inside _ c.self.view_is c.self.invariant c.args.key c.requires.live)
 
 pub set_size-requires : goal.set_size-requires
 set_size-requires c =
@@ -27,10 +19,7 @@ pub overflow_sub-others : goal.overflow_sub-others
 overflow_sub-others c =
     let ps = c.self.inside.parts.items in
     let live = live_held ps c.args.key c.self.inside.table.files (rw (← c.self.view_is) at c.requires.live) in
-    let within = slot_of c.self.inside.geometry c.self.inside.table ps c.self.inside.attribute_total c.self.invariant.0 c.args.key live.0 live.1 in
-    let low = within.0 in
-    let high = within.1 in
-    let here = get_or_read ps (c.args.key.ino - 1) c.index_mut.result.now (omega arith) (rw c.slot.ensures at c.index_mut.ensures.value) no_parts in
+    let here = on.here c.self.inside _ c.self.view_is c.self.invariant c.args.key c.requires.live c.slot.result c.index_mut.result.now c.slot.ensures c.index_mut.ensures.value in
     let left = used_held-drop c.self.inside.table ps c.args.key live.0 live.1 in
     let old = rw here at c.mapped.ensures in
     let used = c.self.invariant.1 in
@@ -48,10 +37,7 @@ invariant_of-self-2 c =
     let t = c.self.inside.table in
     let ps = c.self.inside.parts.items in
     let live = live_held ps c.args.key t.files (rw (← c.self.view_is) at c.requires.live) in
-    let within = slot_of g t ps c.self.inside.attribute_total c.self.invariant.0 c.args.key live.0 live.1 in
-    let low = within.0 in
-    let high = within.1 in
-    let here = get_or_read ps (c.args.key.ino - 1) c.index_mut.result.now (omega arith) (rw c.slot.ensures at c.index_mut.ensures.value) no_parts in
+    let here = on.here c.self.inside _ c.self.view_is c.self.invariant c.args.key c.requires.live c.slot.result c.index_mut.result.now c.slot.ensures c.index_mut.ensures.value in
     let left = used_held-drop t ps c.args.key live.0 live.1 in
     let changed = used_held-remap g t ps c.self.inside.attribute_total c.args.key c.args.size c.args.mappings.now live.0 c.self.invariant.0 live.1 in
     let old = rw here at c.mapped.ensures in
@@ -68,9 +54,6 @@ returns-clause-ok c =
     let t = c.self.inside.table in
     let ps = c.self.inside.parts.items in
     let live = live_held ps c.args.key t.files (rw (← c.self.view_is) at c.requires.live) in
-    let within = slot_of g t ps c.self.inside.attribute_total c.self.invariant.0 c.args.key live.0 live.1 in
-    let low = within.0 in
-    let high = within.1 in
-    let here = get_or_read ps (c.args.key.ino - 1) c.index_mut.result.now (omega arith) (rw c.slot.ensures at c.index_mut.ensures.value) no_parts in
+    let here = on.here c.self.inside _ c.self.view_is c.self.invariant c.args.key c.requires.live c.slot.result c.index_mut.result.now c.slot.ensures c.index_mut.ensures.value in
     rw (c.set_size.ensures, c.slot.ensures, c.in_ok-remap.ensures.ok, here, ← c.self.view_is)
     (catalog_held-remap g t ps c.self.inside.attribute_total c.args.key c.args.size c.args.mappings.now live.0 c.self.invariant.0 live.1)
