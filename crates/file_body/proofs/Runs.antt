@@ -1,9 +1,15 @@
 -- The blocks of a run behind that of an old end.
-use Rattle.std.proofs.Common.{◌≡◌, ℕ, zero, suc, ◌+◌, ◌-◌, ◌<◌, List, ◌++◌, length, get_or, refl, sym, ◌∙◌, ap, arith}
+use Rattle.std.proofs.Common.{◌≡◌, ℕ, zero, suc, ◌+◌, ◌-◌, ◌<◌, List, ◌++◌, length, get_or, refl, sym, ◌∙◌, ap, arith, length-append}
 use Rattle.std.specs.Prelude.{Option, Some, None}
 use Rattle.std.specs.Option.{option_to_list}
 use Rattle.plain_model.specs.Blocks.{from_on}
-use Rattle.file_body.proofs.Counts.{length_blocks}
+
+length-from_on : (a n : ℕ) → length (from_on a n) ≡ n
+length-from_on a zero = refl
+length-from_on a (suc n) = ap suc (length-from_on (a + 1) n)
+
+pub length_blocks : (old_end : Option ℕ) (first count : ℕ) → length (option_to_list old_end ++ from_on first count) ≡ length (option_to_list old_end) + count
+length_blocks old_end first count = length-append (option_to_list old_end) (from_on first count) ∙ ap (λ n. length (option_to_list old_end) + n) (length-from_on first count)
 
 run_at : (a n k : ℕ) → k < n → get_or (from_on a n) k 0 ≡ a + k
 run_at a zero k h = absurd (omega arith)

@@ -1,3 +1,2 @@
 pub mod Segments
-pub mod Flags
 pub mod BodyBlocks

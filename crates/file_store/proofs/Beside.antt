@@ -129,7 +129,7 @@ module _ (n : ℕ) (places old new : List ℕ) (same : (p : ℕ) → p < n → l
 
   file_same : (f : CatalogFile) → flat_map (block_at new) f.places ≡ flat_map (block_at old) f.places → file_at new f ≡ file_at old f
   unfolding body_at
-  file_same f is = ap (λ (l : List ℕ). record { key = f.key; name = f.name; body = take f.size l; mapped = map is_some f.places; regions = f.regions; attributes = f.attributes }) is
+  file_same f is = ap (λ (l : List ℕ). record { key = f.key; name = f.name; body = take f.size l; mapped = map is_some f.places; kept = f.kept }) is
 
   files_same : (fs : List CatalogFile) → AllByRecursion (IsCatalogFile n) fs → NoneOf places (blocks_of fs) → map (file_at new) fs ≡ map (file_at old) fs
   files_same [] each none = refl

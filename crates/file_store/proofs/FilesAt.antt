@@ -83,7 +83,7 @@ same_blocks f g (Some p ∷ ps) none some = ap (λ b. b ++ flat_map f ps) some.0
 file_stays : (old new : List ℕ) (f : CatalogFile) → AllByRecursion (Stays old new) (present f.places) → file_at new f ≡ file_at old f
 unfolding body_at
 file_stays old new f stays =
-    let with_body : List ℕ → FileState = λ body. record { key = f.key; name = f.name; body = body; mapped = map is_some f.places; regions = f.regions; attributes = f.attributes } in
+    let with_body : List ℕ → FileState = λ body. record { key = f.key; name = f.name; body = body; mapped = map is_some f.places; kept = f.kept } in
     ap (λ (bs : List ℕ). with_body (take f.size bs)) (same_blocks (block_at new) (block_at old) f.places refl stays)
 
 files_stay : (old new : List ℕ) (fs : List CatalogFile) → AllByRecursion (λ f. AllByRecursion (Stays old new) (present f.places)) fs → map (file_at new) fs ≡ map (file_at old) fs

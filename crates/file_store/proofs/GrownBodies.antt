@@ -1,9 +1,14 @@
 -- A body that was lengthened by zeros before it is written or cut.
-use Rattle.std.proofs.Common.{rules, ◌≡◌, ℕ, ◌+◌, ◌-◌, ◌≤◌, max, List, ◌++◌, length, sym, ◌∙◌, ap, arith, length-append}
-use Rattle.std.specs.Prelude.{replicate, Result, Ok, Err, IsOk, OnOk}
+use Rattle.std.proofs.Common.{rules, ◌≡◌, ℕ, ◌+◌, ◌-◌, ◌≤◌, max, List, ◌++◌, length, refl, sym, ◌∙◌, ap, arith, length-append}
+use Rattle.std.specs.Prelude.{replicate, Result, Ok, Err, IsOk, OnOk, OnErr}
 use Rattle.std.proofs.lemmas.List.{append-nil, length-replicate, same_lists, places}
-use Rattle.plain_model.specs.Plain.{written, resized}
+use Rattle.plain_model.specs.Plain.{written, resized, rebody}
+use Rattle.plain_model.specs.Blocks.{size_after}
 use Rattle.file_body.proofs.Grown.{written-grown as written_over}
+use Rattle.file_body.proofs.Sizes.{length-written, length-resized}
+use Rattle.file_store.specs.declared.rewrites.Rewrite.{Rewrite}
+use Rattle.file_store.specs.declared.rewrites.Rewrite.TheVariants.{Write, Resize}
+use Rattle.file_store.specs.Rewrites.{effect_of}
 
 -- zeros behind the body
 abbrev pub grown : ℕ → List ℕ → List ℕ
@@ -24,23 +29,25 @@ written-grown size offset bytes body is =
 pub resized-grown : (size : ℕ) (body : List ℕ) → resized size (grown size body) ≡ resized size body
 resized-grown size body = same_lists _ _ (search (rules, places)) (λ i d h. grind (arith, places))
 
--- ---- what is left after a write and after a new size
+-- ---- what is left after a change
 
-length-written : (offset : ℕ) (bytes body : List ℕ) → length (written offset bytes body) ≡ max (length body) (offset + length bytes)
-length-written offset bytes body = search (rules, places)
+pub length-changed : (change : Rewrite) (body : List ℕ) → length (rebody (effect_of change) body) ≡ size_after (effect_of change) (length body)
+length-changed (Write offset bytes) body = length-written offset bytes.now body
+length-changed (Resize size) body = length-resized size body
 
-pub write-done : (size offset : ℕ) (bytes body mid new : List ℕ) → size ≡ max (length body) (offset + length bytes) → mid ≡ grown size body → new ≡ written offset bytes mid → (new ≡ written offset bytes body) × (length new ≡ size)
-write-done size offset bytes body mid new is was done =
-    let it : new ≡ written offset bytes body = done ∙ ap (written offset bytes) was ∙ written-grown size offset bytes body is in
-    (it, ap length it ∙ length-written offset bytes body ∙ sym is)
+changed-grown : (change : Rewrite) (body : List ℕ) → rebody (effect_of change) (grown (size_after (effect_of change) (length body)) body) ≡ rebody (effect_of change) body
+changed-grown (Write offset bytes) body = written-grown (max (length body) (offset + length bytes.now)) offset bytes.now body refl
+changed-grown (Resize size) body = resized-grown size body
 
-length-resized : (size : ℕ) (body : List ℕ) → length (resized size body) ≡ size
-length-resized size body = search (rules, places)
+pub change-done : (change : Rewrite) (size : ℕ) (body mid new : List ℕ) → size ≡ size_after (effect_of change) (length body) → mid ≡ grown size body → new ≡ rebody (effect_of change) mid → (new ≡ rebody (effect_of change) body) × (length new ≡ size)
+change-done change size body mid new is was done =
+    let it : new ≡ rebody (effect_of change) body = done ∙ ap (rebody (effect_of change)) (was ∙ ap (λ n. grown n body) is) ∙ changed-grown change body in
+    (it, ap length it ∙ length-changed change body ∙ sym is)
 
-pub resize-done : (size : ℕ) (body mid new : List ℕ) → mid ≡ grown size body → new ≡ resized size mid → (new ≡ resized size body) × (length new ≡ size)
-resize-done size body mid new was done =
-    let it : new ≡ resized size body = done ∙ ap (resized size) was ∙ resized-grown size body in
-    (it, ap length it ∙ length-resized size body)
+-- the body is long enough for it
+pub grown-enough : (change : Rewrite) (body : List ℕ) → size_after (effect_of change) (length (grown (size_after (effect_of change) (length body)) body)) ≤ length (grown (size_after (effect_of change) (length body)) body)
+grown-enough (Write offset bytes) body = omega (arith, length-grown (max (length body) (offset + length bytes.now)) body)
+grown-enough (Resize size) body = omega (arith, length-grown size body)
 
 -- ---- results
 
@@ -51,3 +58,7 @@ when_ok (Err e) P ok p = cc
 pub on_ok : {T E : Type 0} (r : Result T E) (P : Type 0) → P → OnOk r P
 on_ok (Ok x) P p = p
 on_ok (Err e) P p = tt
+
+pub no_err : {T E : Type 0} (r : Result T E) (P : Type 0) → IsOk r → OnErr r P
+no_err (Ok x) P ok = tt
+no_err (Err e) P ok = cc

@@ -1,18 +1,17 @@
 -- The files of a store in memory, after one more, one less and one changed.
-use Rattle.std.proofs.Common.{◌≡◌, ℕ, ◌+◌, ◌-◌, ◌≤◌, ◌<◌, ◌^◌, max, List, [], ◌∷◌, length, map, get_or, set, true, false, cond, Option, Some, None, eqb, refl, ◌∙◌, ap, subst, arith, length-set, get_or-set_same}
+use Rattle.std.proofs.Common.{◌≡◌, ℕ, ◌+◌, ◌-◌, ◌≤◌, ◌<◌, ◌^◌, max, List, [], ◌∷◌, length, map, get_or, set, true, false, cond, Option, Some, None, eqb, refl, sym, ◌∙◌, ap, subst, arith, length-set, get_or-set_same}
 use Rattle.std.specs.Prelude.{is_some}
 use Rattle.std.specs.List.{list_any, AllByRecursion}
 use Rattle.std.specs.Option.{IsSome, option_map}
 use Rattle.std.proofs.lemmas.List.{length-map}
 use Rattle.hsm_types.specs.Names.{is_name}
 use Rattle.hsm_types.specs.declared.keys.FileKey.{FileKey}
-use Rattle.hsm_types.specs.declared.calls.Call.{Call}
-use Rattle.hsm_types.specs.declared.calls.Call.TheVariants.{Create}
-use Rattle.plain_model.specs.Keyed.{same_key, find_key, change_key, drop_key}
-use Rattle.plain_model.specs.Plain.{named, free_inode}
+use Rattle.plain_model.specs.Keyed.{same_key, find_key, drop_key}
+use Rattle.plain_model.specs.Effects.{Makes, Drops}
+use Rattle.plain_model.specs.Plain.{named, free_inode, rebody}
 use Rattle.plain_model.specs.Blocks.{touched, size_after, mapped_after}
 use Rattle.plain_model.specs.Distinct.{Distinct}
-use Rattle.plain_model.specs.State.{FileState, names_of, bytes_of, used, bytes_or_none, rewritten, done_held}
+use Rattle.plain_model.specs.State.{FileState, names_of, file_or_new, bytes_of, next_key, used, affected_held}
 use Rattle.inode_table.specs.Listing.{has_inode, listing}
 use Rattle.inode_table.specs.Table.{entry_of}
 use Rattle.inode_table.proofs.Orders.{free-ge, free-le, free-absent}
@@ -26,12 +25,15 @@ use Rattle.meta_store.proofs.SnapshotFits.{files-few}
 use Rattle.meta_store.proofs.FileEdits.{each-drop, names_of-drop}
 use Rattle.meta_store.proofs.KeptCatalogs.{empty_file, IsCatalog-with_file, IsCatalog-without_file, IsCatalog-with_remapped}
 use Rattle.inode_table.proofs.Orders.{ascend-drop}
+use Rattle.file_store.specs.declared.rewrites.Rewrite.{Rewrite}
 use Rattle.file_store.specs.Bodies.{file_with, held_with}
+use Rattle.file_store.specs.Rewrites.{effect_of}
 use Rattle.file_store.specs.HeldFiles.{IsHeldFiles}
 use Rattle.file_store.proofs.WithBodies.{names_of-with, find-with, live_with, found-above, found-within, with-other, with-put_at, with-drop, dropped-inode, with-change}
 use Rattle.file_store.proofs.SizedBodies.{sized-other, sized-put, sized-change}
 use Rattle.file_store.proofs.Counting.{used-with}
 use Rattle.file_store.proofs.MappedFlags.{flags-mapped}
+use Rattle.file_store.proofs.RewrittenFiles.{rewritten, affected-rewritten}
 
 -- ---- what is held
 
@@ -79,7 +81,7 @@ pub bytes-held : (bs : List (List ℕ)) (c : Catalog) (k : FileKey) → IsLive b
 unfolding held_with
 bytes-held bs c k live =
     let found : find_key (λ f. f.key) k (map (file_with bs) c.files) ≡ Some (file_with bs live.file) = find-with bs k c.files ∙ ap (option_map (file_with bs)) live.found in
-    ap bytes_or_none found ∙ ap (λ (j : FileKey). get_or bs (j.ino - 1) []) (key-found k live.file c.files live.found)
+    ap (λ (o : Option FileState). (file_or_new k o).body) found ∙ ap (λ (j : FileKey). get_or bs (j.ino - 1) []) (key-found k live.file c.files live.found)
 
 -- ---- one file more
 
@@ -109,7 +111,8 @@ IsHeldFiles-make bs m name is room new early good =
     }
 
 pub held-make : (bs : List (List ℕ)) (m : Meta) (name : List ℕ) → IsHeldFiles bs m → (length m.current.files ≡ (geometry_of m.current.geometry).files → ⊥)
-    → held_with (set bs ((key_next m.current).ino - 1) []) (with_file (key_next m.current) name m.current) ≡ done_held (held_with bs m.current) (Create name)
+    → held_with (set bs ((key_next m.current).ino - 1) []) (with_file (key_next m.current) name m.current)
+    ≡ record { files = affected_held (Makes name) (next_key (held_with bs m.current)) (held_with bs m.current).files; next = (held_with bs m.current).next + 1 }
 unfolding held_with
 held-make bs m name is room =
     let slot = free-slot bs m is room in
@@ -129,7 +132,7 @@ IsHeldFiles-remove bs m k is live =
       count = length-set bs (k.ino - 1) [] ∙ is.count;
     }
 
-pub held-remove : (bs : List (List ℕ)) (m : Meta) (k : FileKey) → IsHeldFiles bs m → IsLive bs m.current k → held_with (set bs (k.ino - 1) []) (without_file k m.current) ≡ record (held_with bs m.current) { files = drop_key (λ f. f.key) k (held_with bs m.current).files }
+pub held-remove : (bs : List (List ℕ)) (m : Meta) (k : FileKey) → IsHeldFiles bs m → IsLive bs m.current k → held_with (set bs (k.ino - 1) []) (without_file k m.current) ≡ record (held_with bs m.current) { files = affected_held Drops k (held_with bs m.current).files }
 unfolding held_with
 held-remove bs m k is live =
     let ascend = is.catalog.table.ascend in
@@ -149,7 +152,7 @@ undropped k (f ∷ fs) none =
 pub stays-without : (k : FileKey) (c : Catalog) → find_key (λ f. f.key) k c.files ≡ None → without_file k c ≡ c
 stays-without k c none = rw (undropped k c.files none) refl
 
-pub stays-held : (bs : List (List ℕ)) (k : FileKey) (c : Catalog) → find_key (λ f. f.key) k c.files ≡ None → record (held_with bs c) { files = drop_key (λ f. f.key) k (held_with bs c).files } ≡ held_with bs c
+pub stays-held : (bs : List (List ℕ)) (k : FileKey) (c : Catalog) → find_key (λ f. f.key) k c.files ≡ None → record (held_with bs c) { files = affected_held Drops k (held_with bs c).files } ≡ held_with bs c
 unfolding held_with
 stays-held bs k c none = rw (← with-drop bs k c.files, undropped k c.files none) refl
 
@@ -164,22 +167,22 @@ IsHeldFiles-remap bs m k x size ms is live len most within unused apart = record
   count = length-set bs (k.ino - 1) x ∙ is.count;
 }
 
-pub held-remap : (bs : List (List ℕ)) (m : Meta) (k : FileKey) (x : List ℕ) (size : ℕ) (ms : List Mapping) (change : List ℕ → List ℕ) (call : Call) → IsHeldFiles bs m → IsLive bs m.current k → x ≡ change (get_or bs (k.ino - 1) [])
-    → size ≡ size_after (length (get_or bs (k.ino - 1) [])) call → map (λ m. m.block) ms ≡ touched (length (get_or bs (k.ino - 1) [])) call
-    → held_with (set bs (k.ino - 1) x) (with_remapped k size ms m.current) ≡ record (held_with bs m.current) { files = change_key (λ f. f.key) k (rewritten change call) (held_with bs m.current).files }
+pub held-remap : (bs : List (List ℕ)) (m : Meta) (k : FileKey) (x : List ℕ) (size : ℕ) (ms : List Mapping) (change : Rewrite) → IsHeldFiles bs m → IsLive bs m.current k → x ≡ rebody (effect_of change) (get_or bs (k.ino - 1) [])
+    → size ≡ size_after (effect_of change) (length (get_or bs (k.ino - 1) [])) → map (λ m. m.block) ms ≡ touched (effect_of change) (length (get_or bs (k.ino - 1) []))
+    → held_with (set bs (k.ino - 1) x) (with_remapped k size ms m.current) ≡ record (held_with bs m.current) { files = affected_held (effect_of change) k (held_with bs m.current).files }
 unfolding held_with
-held-remap bs m k x size ms change call is live body after blocks =
+held-remap bs m k x size ms change is live body after blocks =
     let f = live.file in
     let ino : f.key.ino ≡ k.ino = ap (λ (j : FileKey). j.ino) (key-found k f m.current.files live.found) in
     let at : k.ino - 1 ≡ f.key.ino - 1 = omega arith in
     let low = live.low in
     let high = live.high in
-    let bytes : get_or (set bs (k.ino - 1) x) (f.key.ino - 1) [] ≡ change (get_or bs (f.key.ino - 1) []) =
-    subst (λ i. get_or (set bs (k.ino - 1) x) i [] ≡ change (get_or bs i [])) at (get_or-set_same bs (k.ino - 1) x [] (omega arith) ∙ body) in
-    let flags : map is_some (places_set ms (places_fitted size f.places)) ≡ mapped_after (length (get_or bs (f.key.ino - 1) [])) call (map is_some f.places) =
-    subst (λ i. map is_some (places_set ms (places_fitted size f.places)) ≡ mapped_after (length (get_or bs i [])) call (map is_some f.places)) at (flags-mapped (length (get_or bs (k.ino - 1) [])) size call ms f.places blocks after) in
-    let here : file_with (set bs (k.ino - 1) x) (remapped size ms f) ≡ rewritten change call (file_with bs f) = rw (bytes, flags) refl in
-    ap (λ (ss : List FileState). record { files = ss; next = m.current.next }) (with-change bs 1 k x (remapped size ms) (rewritten change call) f m.current.files (omega arith) is.catalog.table.ascend live.found here)
+    let bytes : get_or (set bs (k.ino - 1) x) (f.key.ino - 1) [] ≡ rebody (effect_of change) (get_or bs (f.key.ino - 1) []) =
+    subst (λ i. get_or (set bs (k.ino - 1) x) i [] ≡ rebody (effect_of change) (get_or bs i [])) at (get_or-set_same bs (k.ino - 1) x [] (omega arith) ∙ body) in
+    let flags : map is_some (places_set ms (places_fitted size f.places)) ≡ mapped_after (effect_of change) (length (get_or bs (f.key.ino - 1) [])) (map is_some f.places) =
+    subst (λ i. map is_some (places_set ms (places_fitted size f.places)) ≡ mapped_after (effect_of change) (length (get_or bs i [])) (map is_some f.places)) at (flags-mapped (effect_of change) (length (get_or bs (k.ino - 1) [])) size ms f.places blocks after) in
+    let here : file_with (set bs (k.ino - 1) x) (remapped size ms f) ≡ rewritten change (file_with bs f) = rw (bytes, flags) refl in
+    ap (λ (ss : List FileState). record { files = ss; next = m.current.next }) (with-change bs 1 k x (remapped size ms) (rewritten change) f m.current.files (omega arith) is.catalog.table.ascend live.found here ∙ sym (affected-rewritten change k (map (file_with bs) m.current.files)))
 
 -- ---- whether a key is live
 

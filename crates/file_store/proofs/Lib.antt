@@ -7,6 +7,7 @@ pub mod Counting
 pub mod FileBlocks
 pub mod ByBlocks
 pub mod Rewriting
+pub mod RewrittenFiles
 pub mod Putting
 pub mod Beside
 pub mod Loaded

@@ -1,13 +1,13 @@
--- A store whose file gets other regions or attributes, which calls no disk.
+-- A store where what sessions keep with a file changes, which calls no disk.
 use Rattle.std.proofs.Common.{◌≡◌, ℕ, List, refl, ◌∙◌, ap, subst}
 use Rattle.std.specs.Prelude.{Result, Ok, Err, OnOk, OnErr}
 use Rattle.disk_model.specs.declared.device.Disk as disk
 use Rattle.hsm_types.specs.declared.keys.FileKey.{FileKey}
-use Rattle.hsm_types.specs.declared.regions.Region.{Region}
-use Rattle.hsm_types.specs.Attributes.{Attributes}
+use Rattle.hsm_types.specs.Kept.{Kept}
 use Rattle.plain_model.specs.Keyed.{change_key}
 use Rattle.plain_model.specs.State.{Held}
-use Rattle.meta_store.specs.Catalogs.{Catalog, blocks_of}
+use Rattle.meta_store.specs.Catalogs.{blocks_of}
+use Rattle.meta_store.specs.Changes.{with_kept}
 use Rattle.meta_store.specs.Images.{blocks_in_image}
 use Rattle.meta_store.specs.Meta.{IsMeta}
 use Rattle.meta_store.proofs.FileEdits.{blocks-change}
@@ -16,19 +16,18 @@ use Rattle.file_store.specs.HeldFiles.{HeldFiles}
 use Rattle.file_store.specs.Stores.{Store, Proceeds, IsSound}
 use Rattle.file_store.proofs.Changing.{backs_as, still_proceeds}
 use Rattle.file_store.proofs.FewerMore.{settled_as}
-use Rattle.file_store.proofs.ManagedFiles.{managed, managed_state, with_managed, held_at-managed}
+use Rattle.file_store.proofs.ManagedFiles.{managed, managed_state, held_at-managed}
 
-module _ {D : Type 0} (g : disk.Ghosts D) (s : Store D) (rs : List Region → List Region) (attrs : Attributes → Attributes) (k : FileKey) (x : Catalog) (changed : x ≡ with_managed rs attrs k s.meta.current) where
+module _ {D : Type 0} (g : disk.Ghosts D) (s : Store D) (change : Kept → Kept) (k : FileKey) where
   -- the files after the change
   abbrev after : HeldFiles
-  after = record { meta = record s.meta { current = x }; held = record s.held { files = change_key (λ f. f.key) k (managed_state rs attrs) s.held.files } }
+  after = record { meta = record s.meta { current = with_kept k change s.meta.current }; held = record s.held { files = change_key (λ f. f.key) k (managed_state change) s.held.files } }
 
-  blocks_stay : blocks_of x.files ≡ blocks_of s.meta.current.files
-  blocks_stay = ap (λ (c : Catalog). blocks_of c.files) changed ∙ blocks-change k (managed rs attrs) s.meta.current.files (λ f. refl)
+  blocks_stay : blocks_of (with_kept k change s.meta.current).files ≡ blocks_of s.meta.current.files
+  blocks_stay = blocks-change k (managed change) s.meta.current.files (λ f. refl)
 
-  held_so : (blocks : List ℕ) → held_at blocks s.meta.current ≡ s.held → held_at blocks x ≡ after.held
-  held_so blocks was =
-      ap (held_at blocks) changed ∙ held_at-managed rs attrs blocks k s.meta.current ∙ ap (λ (h : Held). record h { files = change_key (λ f. f.key) k (managed_state rs attrs) h.files }) was
+  held_so : (blocks : List ℕ) → held_at blocks s.meta.current ≡ s.held → held_at blocks (with_kept k change s.meta.current) ≡ after.held
+  held_so blocks was = held_at-managed change blocks k s.meta.current ∙ ap (λ (h : Held). record h { files = change_key (λ f. f.key) k (managed_state change) h.files }) was
 
   managed_sound : IsSound g s → IsMeta after.meta → IsSound g (record s { meta = after.meta; held = after.held })
   managed_sound sound lawful = record {
@@ -36,10 +35,10 @@ module _ {D : Type 0} (g : disk.Ghosts D) (s : Store D) (rs : List Region → Li
     live = λ working.
         let live = sound.live working in
         record {
-          backs = backs_as g s.disk s.meta x live.backs;
+          backs = backs_as g s.disk s.meta (with_kept k change s.meta.current) live.backs;
           stored = live.stored;
           current = λ c gives. held_so (blocks_in_image s.meta.durable.geometry c) (live.current c gives);
-          settled = λ now. settled_as s x after.held (ap (λ (c : Catalog). c.geometry) changed) blocks_stay (live.settled now);
+          settled = λ now. settled_as s (with_kept k change s.meta.current) after.held refl blocks_stay (live.settled now);
         };
   }
 

@@ -1,19 +1,23 @@
 -- The body of a file whose touched blocks are written to new places.
-use Rattle.std.proofs.Common.{◌≡◌, ◌⊎◌, inl, inr, ⊎_elim, ℕ, zero, suc, ◌+◌, ◌-◌, ◌*◌, ◌/◌, ◌%◌, max, ◌<◌, ◌≤◌, List, [], ◌∷◌, ◌++◌, length, map, get_or, take, drop, Option, Some, None, Bool, true, false, eqb, ltb, ◌&&◌, refl, sym, ◌∙◌, ap, subst, arith, length-append, length-take}
+use Rattle.std.proofs.Common.{◌≡◌, ◌⊎◌, inl, inr, ⊎_elim, ℕ, zero, suc, ◌+◌, ◌-◌, ◌*◌, ◌/◌, ◌%◌, ◌<◌, ◌≤◌, List, [], ◌∷◌, ◌++◌, length, map, get_or, take, drop, Option, Some, None, Bool, true, false, eqb, ltb, ◌&&◌, refl, sym, ◌∙◌, ap, subst, arith, length-append, length-take}
 use Rattle.std.specs.Prelude.{replicate, if◌then◌else◌}
 use Rattle.std.specs.List.{flat_map, AllByRecursion}
 use Rattle.std.proofs.lemmas.Bool.{cases_lt, cases_Bool, and_from, lt-ltb, eqb-true}
 use Rattle.std.proofs.lemmas.List.{get_or-take, get_or-drop, get_or_append_left, get_or-append_right, get_or-replicate, get_or_past, length-replicate}
 use Rattle.disk_model.specs.Images.{part}
-use Rattle.hsm_types.specs.declared.calls.Call.TheVariants.{Write, Truncate}
-use Rattle.plain_model.specs.Plain.{written, resized}
-use Rattle.plain_model.specs.Blocks.{from_on, blocks_in, met, old_end, touched}
-use Rattle.file_body.proofs.Sizes.{length-written, length-resized}
+use Rattle.plain_model.specs.Effects.{Writes}
+use Rattle.plain_model.specs.Plain.{written, resized, rebody}
+use Rattle.plain_model.specs.Blocks.{from_on, blocks_in, met, old_end, touched, size_after}
+use Rattle.file_body.proofs.Sizes.{length-resized}
 use Rattle.meta_store.specs.declared.snapshot.Mapping.{Mapping}
 use Rattle.meta_store.specs.Catalogs.{present}
 use Rattle.meta_store.specs.Changes.{places_fitted, places_set}
 use Rattle.meta_store.proofs.MappedPlaces.{length-fitted, length-places_set}
+use Rattle.file_store.specs.declared.rewrites.Rewrite.{Rewrite}
+use Rattle.file_store.specs.declared.rewrites.Rewrite.TheVariants.{Write, Resize}
 use Rattle.file_store.specs.Bodies.{block_of, block_at, body_at}
+use Rattle.file_store.specs.Rewrites.{effect_of, IsRewrite}
+use Rattle.file_store.proofs.GrownBodies.{length-changed}
 use Rattle.file_store.proofs.ByBlocks.{same_body, byte-blocks, length-block, byte-block, at_place, after_set, get_or-fitted}
 
 -- an empty file
@@ -131,7 +135,7 @@ byte-resized to k body h =
 
 byte-written : (offset k : ℕ) (bytes body : List ℕ) → (k < offset) ⊎ (offset + length bytes ≤ k) → get_or (written offset bytes body) k 0 ≡ get_or body k 0
 byte-written offset k bytes body beside =
-    let front : length (resized offset body) ≡ offset = length-resized [] offset body in
+    let front : length (resized offset body) ≡ offset = length-resized offset body in
     let before : length (resized offset body ++ bytes) ≡ offset + length bytes = omega (arith, length-append (resized offset body) bytes) in
     ⊎_elim
     (λ (l : k < offset).
@@ -147,60 +151,54 @@ byte-written offset k bytes body beside =
 
 -- ---- the two changes
 
-beside_written : (size offset : ℕ) (name bytes : List ℕ) (q : ℕ) → Others q (touched size (Write name offset bytes)) → (q < offset / 4096) ⊎ (blocks_in (offset + length bytes) ≤ q)
-beside_written size offset name bytes q others =
+beside_written : (size offset : ℕ) (bytes : List ℕ) (q : ℕ) → Others q (touched (Writes offset bytes) size) → (q < offset / 4096) ⊎ (blocks_in (offset + length bytes) ≤ q)
+beside_written size offset bytes q others =
     let to : ℕ = offset + length bytes in
     let run = others_if q (ltb size to && ltb (size / 4096) (offset / 4096)) (old_end size) (met offset to) others in
     ⊎_elim (λ (l : q < offset / 4096). inl l) (λ (g : offset / 4096 + (blocks_in to - offset / 4096) ≤ q). inr (omega arith)) (others_run q (offset / 4096) (blocks_in to - offset / 4096) run)
 
-behind_end : (size offset : ℕ) (name bytes : List ℕ) (q : ℕ) → size < offset + length bytes → size / 4096 < offset / 4096 → Others q (touched size (Write name offset bytes)) → (q < size / 4096) ⊎ (blocks_in size ≤ q)
-behind_end size offset name bytes q grows far others =
+behind_end : (size offset : ℕ) (bytes : List ℕ) (q : ℕ) → size < offset + length bytes → size / 4096 < offset / 4096 → Others q (touched (Writes offset bytes) size) → (q < size / 4096) ⊎ (blocks_in size ≤ q)
+behind_end size offset bytes q grows far others =
     let to : ℕ = offset + length bytes in
     let both : (ltb size to && ltb (size / 4096) (offset / 4096)) ≡ true = and_from (ltb size to) (ltb (size / 4096) (offset / 4096)) (lt-ltb size to grows) (lt-ltb (size / 4096) (offset / 4096) far) in
     others_end q size (others_back q (old_end size) (met offset to) (subst (λ (t : Bool). Others q (if t then old_end size ++ met offset to else met offset to)) both others)).0
 
-pub written_at : (name : List ℕ) (old new : List ℕ) (size : ℕ) (places : List (Option ℕ)) (body : List ℕ) (offset : ℕ) (bytes : List ℕ) (ms : List Mapping)
-    → length places ≡ blocks_in size
-    → body_at old size places ≡ body
-    → length body ≡ size
-    → AllByRecursion (λ p. length (part old (4096 * p) 4096) ≡ 4096) (present places)
-    → 1 ≤ length bytes
-    → map (λ m. m.block) ms ≡ touched size (Write name offset bytes)
-    → AllByRecursion (λ m. part new (4096 * m.place) 4096 ≡ block_of (written offset bytes body) m.block) ms
-    → AllByRecursion (λ p. part new (4096 * p) 4096 ≡ part old (4096 * p) 4096) (present places)
-    → body_at new (max size (offset + length bytes)) (places_set ms (places_fitted (max size (offset + length bytes)) places)) ≡ written offset bytes body
-written_at name old new size places body offset bytes ms count was long whole some blocks there same =
-    let to : ℕ = max size (offset + length bytes) in
-    let long_after : length (written offset bytes body) ≡ max (length body) (offset + length bytes) = length-written name offset bytes body in
-    rewritten old new size to places body (written offset bytes body) ms count was long whole (omega arith) there same (λ q r l h all.
-    let others = subst (Others q) blocks all in
-    let beside = beside_written size offset name bytes q others in (
-      byte-written offset (4096 * q + r) bytes body (⊎_elim (λ (low : q < offset / 4096). inl (omega arith)) (λ (g : blocks_in (offset + length bytes) ≤ q). inr (omega arith)) beside),
+-- of a byte that lies in no touched block: it is as it was, and in an old block or a new one
+beside_touched : (change : Rewrite) (body : List ℕ) (q r : ℕ) → IsRewrite change → r < 4096 → 4096 * q + r < size_after (effect_of change) (length body) → Others q (touched (effect_of change) (length body))
+    → (get_or (rebody (effect_of change) body) (4096 * q + r) 0 ≡ get_or body (4096 * q + r) 0) × ((4096 * q + r < length body) ⊎ (blocks_in (length body) ≤ q))
+beside_touched (Write offset bytes) body q r lawful l h others =
+    let size : ℕ = length body in
+    let some = lawful.0 in
+    let beside = beside_written size offset bytes.now q others in (
+      byte-written offset (4096 * q + r) bytes.now body (⊎_elim (λ (low : q < offset / 4096). inl (omega arith)) (λ (g : blocks_in (offset + length bytes.now) ≤ q). inr (omega arith)) beside),
       ⊎_elim
           (λ (low : 4096 * q + r < size). inl low)
           (λ (past : size ≤ 4096 * q + r).
-          let before : q < offset / 4096 = ⊎_elim (λ (low : q < offset / 4096). low) (λ (g : blocks_in (offset + length bytes) ≤ q). absurd (omega arith)) beside in
-          ⊎_elim (λ (low : q < size / 4096). absurd (omega arith)) (λ (g : blocks_in size ≤ q). inr g) (behind_end size offset name bytes q (omega arith) (omega arith) others))
+          let before : q < offset / 4096 = ⊎_elim (λ (low : q < offset / 4096). low) (λ (g : blocks_in (offset + length bytes.now) ≤ q). absurd (omega arith)) beside in
+          ⊎_elim (λ (low : q < size / 4096). absurd (omega arith)) (λ (g : blocks_in size ≤ q). inr g) (behind_end size offset bytes.now q (omega arith) (omega arith) others))
           (cases_lt (4096 * q + r) size),
-    ))
-
-pub truncated_at : (name : List ℕ) (old new : List ℕ) (size : ℕ) (places : List (Option ℕ)) (body : List ℕ) (to : ℕ) (ms : List Mapping)
-    → length places ≡ blocks_in size
-    → body_at old size places ≡ body
-    → length body ≡ size
-    → AllByRecursion (λ p. length (part old (4096 * p) 4096) ≡ 4096) (present places)
-    → map (λ m. m.block) ms ≡ touched size (Truncate name to)
-    → AllByRecursion (λ m. part new (4096 * m.place) 4096 ≡ block_of (resized to body) m.block) ms
-    → AllByRecursion (λ p. part new (4096 * p) 4096 ≡ part old (4096 * p) 4096) (present places)
-    → body_at new to (places_set ms (places_fitted to places)) ≡ resized to body
-truncated_at name old new size places body to ms count was long whole blocks there same =
-    rewritten old new size to places body (resized to body) ms count was long whole (length-resized name to body) there same (λ q r l h all. (
+    )
+beside_touched (Resize to) body q r lawful l h others =
+    let size : ℕ = length body in (
       byte-resized to (4096 * q + r) body h,
       ⊎_elim
           (λ (low : 4096 * q + r < size). inl low)
           (λ (past : size ≤ 4096 * q + r).
           let grows : ltb size to ≡ true = lt-ltb size to (omega arith) in
-          let others = subst (λ (t : Bool). Others q (if t then old_end size else [])) grows (subst (Others q) blocks all) in
-          ⊎_elim (λ (low : q < size / 4096). absurd (omega arith)) (λ (g : blocks_in size ≤ q). inr g) (others_end q size others))
+          let behind = subst (λ (t : Bool). Others q (if t then old_end size else [])) grows others in
+          ⊎_elim (λ (low : q < size / 4096). absurd (omega arith)) (λ (g : blocks_in size ≤ q). inr g) (others_end q size behind))
           (cases_lt (4096 * q + r) size),
-    ))
+    )
+
+pub changed_at : (change : Rewrite) (old new : List ℕ) (places : List (Option ℕ)) (body : List ℕ) (ms : List Mapping)
+    → IsRewrite change
+    → length places ≡ blocks_in (length body)
+    → body_at old (length body) places ≡ body
+    → AllByRecursion (λ p. length (part old (4096 * p) 4096) ≡ 4096) (present places)
+    → map (λ m. m.block) ms ≡ touched (effect_of change) (length body)
+    → AllByRecursion (λ m. part new (4096 * m.place) 4096 ≡ block_of (rebody (effect_of change) body) m.block) ms
+    → AllByRecursion (λ p. part new (4096 * p) 4096 ≡ part old (4096 * p) 4096) (present places)
+    → body_at new (size_after (effect_of change) (length body)) (places_set ms (places_fitted (size_after (effect_of change) (length body)) places)) ≡ rebody (effect_of change) body
+changed_at change old new places body ms lawful count was whole blocks there same =
+    rewritten old new (length body) (size_after (effect_of change) (length body)) places body (rebody (effect_of change) body) ms count was refl whole (length-changed change body) there same
+    (λ q r l h all. beside_touched change body q r lawful l h (subst (Others q) blocks all))

@@ -19,14 +19,14 @@ body_at blocks size places = take size (flat_map (block_at blocks) places)
 
 -- with these data blocks
 abbrev pub file_at : List ℕ → CatalogFile → FileState
-file_at blocks f = record { key = f.key; name = f.name; body = body_at blocks f.size f.places; mapped = map is_some f.places; regions = f.regions; attributes = f.attributes }
+file_at blocks f = record { key = f.key; name = f.name; body = body_at blocks f.size f.places; mapped = map is_some f.places; kept = f.kept }
 
 unfoldable pub held_at : List ℕ → Catalog → Held
 held_at blocks c = record { files = map (file_at blocks) c.files; next = c.next }
 
 -- with these bodies in memory, that of inode i at i - 1
 abbrev pub file_with : List (List ℕ) → CatalogFile → FileState
-file_with bodies f = record { key = f.key; name = f.name; body = get_or bodies (f.key.ino - 1) []; mapped = map is_some f.places; regions = f.regions; attributes = f.attributes }
+file_with bodies f = record { key = f.key; name = f.name; body = get_or bodies (f.key.ino - 1) []; mapped = map is_some f.places; kept = f.kept }
 
 unfoldable pub held_with : List (List ℕ) → Catalog → Held
 held_with bodies c = record { files = map (file_with bodies) c.files; next = c.next }

@@ -1,5 +1,6 @@
 pub mod Bodies
 pub mod HeldFiles
 pub mod Steps
+pub mod Rewrites
 pub mod Stores
 pub mod Laws

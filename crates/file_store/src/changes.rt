@@ -1,20 +1,21 @@
 // What changes the files of a store.
-ghost use Rattle.std.specs.Prelude.{◌≡◌, ◌≢◌, ◌+◌, ◌≤◌, true, false, None, [], length, map, OnOk, IfOk, IsErrOf, IsSome, ℕ};
+ghost use Rattle.std.specs.Prelude.{◌≡◌, ◌≢◌, ◌+◌, ◌≤◌, true, false, None, length, OnOk, IfOk, IsErrOf, IsSome, ℕ};
 ghost use Rattle.disk_model.specs.Calls.{Rose};
 ghost use Rattle.hsm_types.specs.Names.{is_name};
-ghost use Rattle.hsm_types.specs.declared.calls.Call.TheVariants.{Create, Write, Truncate};
-ghost use Rattle.plain_model.specs.Keyed.{find_key, change_key, drop_key};
-ghost use Rattle.plain_model.specs.Plain.{named, written, resized};
+ghost use Rattle.plain_model.specs.Keyed.{find_key};
+ghost use Rattle.plain_model.specs.Effects.{Makes, Drops, Writes, Resizes};
+ghost use Rattle.plain_model.specs.Plain.{named};
 ghost use Rattle.plain_model.specs.Blocks.{touched};
-ghost use Rattle.plain_model.specs.State.{names_of, bytes_of, next_key, done_held, rewritten, used};
+ghost use Rattle.plain_model.specs.State.{names_of, bytes_of, next_key, affected_held, used};
 ghost use Rattle.meta_store.specs.Catalogs.{geometry_of};
+ghost use Rattle.file_store.specs.Rewrites.{effect_of, IsRewrite};
 ghost use Rattle.file_store.specs.Stores.{IsClaim, Proceeds};
 
 use crate::refusal::StoreRefusal;
+use crate::rewrites::Rewrite;
 use crate::store::FileStore;
 use crate::writing::put_body;
 use disk_model::{Disk, Failed};
-use file_body::{touched_by_truncate, touched_by_write};
 use hsm_types::{FileKey, Word};
 use meta_store::Mapping;
 use std::alloc::Global;
@@ -30,7 +31,7 @@ impl<D: Disk> FileStore<D> {
         requires free { named name.now (names_of self.old.held.files) ≡ None }
         requires left { length self.old.held.files ≢ (geometry_of self.old.meta.durable.geometry).files }
         ensures key { IfOk result (λ key. key ≡ next_key self.old.held) }
-        ensures held { OnOk result (self.new.held ≡ done_held self.old.held (Create name.now)) }
+        ensures held { OnOk result (self.new.held ≡ record { files = affected_held (Makes name.now) (next_key self.old.held) self.old.held.files; next = self.old.held.next + 1 }) }
         ensures working { self.new.failed ≡ false }
         ensures memory { IsErrOf result StoreRefusal.Memory → self.new ≡ self.old }
         ensures never { IsErrOf result StoreRefusal.Disk → ⊥ }
@@ -58,51 +59,14 @@ impl<D: Disk> FileStore<D> {
         requires live { IsSome (find_key (λ f. f.key) key self.old.held.files) }
         requires some { 1 ≤ length bytes.now }
         requires end { offset + length bytes.now ≤ 16777216 }
-        requires room { length (touched (length (bytes_of key self.old.held.files)) (Write [] offset bytes.now)) + used self.old.held.files ≤ (geometry_of self.old.meta.durable.geometry).blocks }
-        ensures held { OnOk result (self.new.held ≡ record self.old.held { files = change_key (λ f. f.key) key (rewritten (written offset bytes.now) (Write [] offset bytes.now)) self.old.held.files }) }
+        requires room { length (touched (Writes offset bytes.now) (length (bytes_of key self.old.held.files))) + used self.old.held.files ≤ (geometry_of self.old.meta.durable.geometry).blocks }
+        ensures held { OnOk result (self.new.held ≡ record self.old.held { files = affected_held (Writes offset bytes.now) key self.old.held.files }) }
         ensures working { OnOk result (self.new.failed ≡ false) }
         ensures memory { IsErrOf result StoreRefusal.Memory → (self.new.held ≡ self.old.held) × (self.new.failed ≡ false) }
         ensures failed { IsErrOf result StoreRefusal.Disk → (self.new.failed ≡ true) × Rose (D.fault_count self.old.disk) (D.fault_count self.new.disk) }
         ensures proceeds { Proceeds D.Disk self.old number self.new }
     {
-        let size = self.files.body(key).len();
-        let touched = touched_by_write(size, offset, bytes.len() as u64);
-        match self.claim(alloc, &touched, number) {
-            Ok(mappings) => self.write_to(alloc, key, offset, bytes, &mappings),
-            Err(refusal) => Err(refusal),
-        }
-    }
-
-    /// Writes the bytes, and the blocks that they touch to new places.
-    fn write_to(
-        &mut self,
-        alloc: Global,
-        key: FileKey,
-        offset: u64,
-        bytes: &[u8],
-        mappings: &[Mapping],
-    ) -> Result<(), StoreRefusal>
-        requires working { self.old.failed ≡ false }
-        requires live { IsSome (find_key (λ f. f.key) key self.old.held.files) }
-        requires some { 1 ≤ length bytes.now }
-        requires end { offset + length bytes.now ≤ 16777216 }
-        requires claimed { IsClaim self.old (touched (length (bytes_of key self.old.held.files)) (Write [] offset bytes.now)) mappings.now }
-        ensures held { OnOk result (self.new.held ≡ record self.old.held { files = change_key (λ f. f.key) key (rewritten (written offset bytes.now) (Write [] offset bytes.now)) self.old.held.files }) }
-        ensures working { OnOk result (self.new.failed ≡ false) }
-        ensures memory { IsErrOf result StoreRefusal.Memory → self.new ≡ self.old }
-        ensures failed { IsErrOf result StoreRefusal.Disk → (self.new.failed ≡ true) × Rose (D.fault_count self.old.disk) (D.fault_count self.new.disk) }
-        ensures proceeds { (n : ℕ) → Proceeds D.Disk self.old n self.new }
-    {
-        let Ok(()) = self.files.write(alloc, key, offset, bytes, mappings) else {
-            return Err(StoreRefusal::Memory);
-        };
-        match put_body(&mut self.disk, &self.files, key, mappings) {
-            Ok(()) => Ok(()),
-            Err(Failed) => {
-                self.failed = true;
-                Err(StoreRefusal::Disk)
-            }
-        }
+        self.rewrite(alloc, key, Rewrite::Write { offset, bytes }, number)
     }
 
     /// Cuts the body to that size, or lengthens it by zeros.
@@ -116,40 +80,60 @@ impl<D: Disk> FileStore<D> {
         requires working { self.old.failed ≡ false }
         requires live { IsSome (find_key (λ f. f.key) key self.old.held.files) }
         requires end { size ≤ 16777216 }
-        requires room { length (touched (length (bytes_of key self.old.held.files)) (Truncate [] size)) + used self.old.held.files ≤ (geometry_of self.old.meta.durable.geometry).blocks }
-        ensures held { OnOk result (self.new.held ≡ record self.old.held { files = change_key (λ f. f.key) key (rewritten (resized size) (Truncate [] size)) self.old.held.files }) }
+        requires room { length (touched (Resizes size) (length (bytes_of key self.old.held.files))) + used self.old.held.files ≤ (geometry_of self.old.meta.durable.geometry).blocks }
+        ensures held { OnOk result (self.new.held ≡ record self.old.held { files = affected_held (Resizes size) key self.old.held.files }) }
         ensures working { OnOk result (self.new.failed ≡ false) }
         ensures memory { IsErrOf result StoreRefusal.Memory → (self.new.held ≡ self.old.held) × (self.new.failed ≡ false) }
         ensures failed { IsErrOf result StoreRefusal.Disk → (self.new.failed ≡ true) × Rose (D.fault_count self.old.disk) (D.fault_count self.new.disk) }
         ensures proceeds { Proceeds D.Disk self.old number self.new }
     {
-        let old = self.files.body(key).len();
-        let touched = touched_by_truncate(old, size);
+        self.rewrite(alloc, key, Rewrite::Resize { size }, number)
+    }
+
+    /// Changes the bytes of a file.
+    fn rewrite(
+        &mut self,
+        alloc: Global,
+        key: FileKey,
+        change: Rewrite<'_>,
+        number: u64,
+    ) -> Result<(), StoreRefusal>
+        requires working { self.old.failed ≡ false }
+        requires live { IsSome (find_key (λ f. f.key) key self.old.held.files) }
+        requires lawful { IsRewrite change }
+        requires room { length (touched (effect_of change) (length (bytes_of key self.old.held.files))) + used self.old.held.files ≤ (geometry_of self.old.meta.durable.geometry).blocks }
+        ensures held { OnOk result (self.new.held ≡ record self.old.held { files = affected_held (effect_of change.entry) key self.old.held.files }) }
+        ensures working { OnOk result (self.new.failed ≡ false) }
+        ensures memory { IsErrOf result StoreRefusal.Memory → (self.new.held ≡ self.old.held) × (self.new.failed ≡ false) }
+        ensures failed { IsErrOf result StoreRefusal.Disk → (self.new.failed ≡ true) × Rose (D.fault_count self.old.disk) (D.fault_count self.new.disk) }
+        ensures proceeds { Proceeds D.Disk self.old number self.new }
+    {
+        let touched = change.touched(self.files.body(key).len());
         match self.claim(alloc, &touched, number) {
-            Ok(mappings) => self.truncate_to(alloc, key, size, &mappings),
+            Ok(mappings) => self.rewrite_to(alloc, key, change, &mappings),
             Err(refusal) => Err(refusal),
         }
     }
 
-    /// Sets the size, and writes the blocks that this touches to new places.
-    fn truncate_to(
+    /// Changes the bytes, and writes the blocks that this touches to new places.
+    fn rewrite_to(
         &mut self,
         alloc: Global,
         key: FileKey,
-        size: u64,
+        change: Rewrite<'_>,
         mappings: &[Mapping],
     ) -> Result<(), StoreRefusal>
         requires working { self.old.failed ≡ false }
         requires live { IsSome (find_key (λ f. f.key) key self.old.held.files) }
-        requires end { size ≤ 16777216 }
-        requires claimed { IsClaim self.old (touched (length (bytes_of key self.old.held.files)) (Truncate [] size)) mappings.now }
-        ensures held { OnOk result (self.new.held ≡ record self.old.held { files = change_key (λ f. f.key) key (rewritten (resized size) (Truncate [] size)) self.old.held.files }) }
+        requires lawful { IsRewrite change }
+        requires claimed { IsClaim self.old (touched (effect_of change) (length (bytes_of key self.old.held.files))) mappings.now }
+        ensures held { OnOk result (self.new.held ≡ record self.old.held { files = affected_held (effect_of change.entry) key self.old.held.files }) }
         ensures working { OnOk result (self.new.failed ≡ false) }
         ensures memory { IsErrOf result StoreRefusal.Memory → self.new ≡ self.old }
         ensures failed { IsErrOf result StoreRefusal.Disk → (self.new.failed ≡ true) × Rose (D.fault_count self.old.disk) (D.fault_count self.new.disk) }
         ensures proceeds { (n : ℕ) → Proceeds D.Disk self.old n self.new }
     {
-        let Ok(()) = self.files.truncate(alloc, key, size, mappings) else {
+        let Ok(()) = self.files.rewrite(alloc, key, change, mappings) else {
             return Err(StoreRefusal::Memory);
         };
         match put_body(&mut self.disk, &self.files, key, mappings) {
@@ -164,7 +148,7 @@ impl<D: Disk> FileStore<D> {
     /// Removes a file. Where the key isn't live, no file goes. It takes memory only to make durable what was changed before.
     pub fn remove(&mut self, alloc: Global, key: FileKey, number: u64) -> Result<(), StoreRefusal>
         requires working { self.old.failed ≡ false }
-        ensures held { OnOk result (self.new.held ≡ record self.old.held { files = drop_key (λ f. f.key) key self.old.held.files }) }
+        ensures held { OnOk result (self.new.held ≡ record self.old.held { files = affected_held Drops key self.old.held.files }) }
         ensures working { OnOk result (self.new.failed ≡ false) }
         ensures memory { IsErrOf result StoreRefusal.Memory → self.new ≡ self.old }
         ensures failed { IsErrOf result StoreRefusal.Disk → (self.new.failed ≡ true) × Rose (D.fault_count self.old.disk) (D.fault_count self.new.disk) }

@@ -1,18 +1,18 @@
 //! What a store holds.
-ghost use Rattle.std.specs.Prelude.{◌≡◌, ◌≢◌, ◌≤◌, ◌<◌, ◌+◌, ◌-◌, ◌^◌, ◌==◌, List, ℕ, [], map, max, length, true, false, None, is_some, IfOk, IfErr, OnOk, OnErr, IsErrOf, IsSome, Some, MatchOption, MatchResult};
+ghost use Rattle.std.specs.Prelude.{◌≡◌, ◌≢◌, ◌≤◌, ◌<◌, ◌+◌, ◌-◌, ◌^◌, ◌==◌, List, ℕ, map, length, true, false, None, is_some, IfOk, IfErr, OnOk, OnErr, IsErrOf, IsSome, Some, MatchOption, MatchResult};
 ghost use Rattle.std.specs.List.{AllByRecursion, list_any};
 ghost use Rattle.std.specs.Option.{option_map};
 ghost use Rattle.hsm_types.specs.Names.{is_name};
 ghost use Rattle.hsm_types.specs.Regions.{regions_refusal};
-ghost use Rattle.hsm_types.specs.Attributes.{with_value, without_value, setting_refusal, removal_refusal};
+ghost use Rattle.hsm_types.specs.Attributes.{setting_refusal, removal_refusal};
 ghost use Rattle.hsm_types.specs.declared.dm.DmRefusal.TheVariants.{Memory};
-ghost use Rattle.hsm_types.specs.declared.calls.Call.TheVariants.{Create, Write, Truncate};
-ghost use Rattle.plain_model.specs.Keyed.{find_key, change_key, drop_key};
-ghost use Rattle.plain_model.specs.Plain.{named, written, resized};
-ghost use Rattle.plain_model.specs.Blocks.{touched};
+ghost use Rattle.plain_model.specs.Keyed.{find_key};
+ghost use Rattle.plain_model.specs.Effects.{Makes, Drops, Manages, Attaches, Detaches};
+ghost use Rattle.plain_model.specs.Plain.{named};
+ghost use Rattle.plain_model.specs.Blocks.{touched, size_after};
 ghost use Rattle.plain_model.specs.Distinct.{Distinct};
-ghost use Rattle.plain_model.specs.State.{names_of, bytes_of, next_key, used_by, used, rewritten, done_held};
-ghost use Rattle.plain_model.specs.Services.{regions_of, attributes_of, other_attributes};
+ghost use Rattle.plain_model.specs.State.{names_of, bytes_of, next_key, used_by, used, affected_held};
+ghost use Rattle.plain_model.specs.Services.{kept_of, other_attributes};
 ghost use Rattle.disk_model.specs.Calls.{Rose};
 ghost use Rattle.disk_model.specs.Moments.{MayBe, Turns};
 ghost use Rattle.meta_store.specs.Catalogs.{blocks_of, geometry_of, IsCatalog};
@@ -20,9 +20,11 @@ ghost use Rattle.meta_store.specs.Changes.{with_file, without_file, with_remappe
 ghost use Rattle.meta_store.specs.Images.{RecoversSame, Recovers};
 ghost use Rattle.meta_store.specs.Meta.{Meta, IsMeta, Backs};
 ghost use Rattle.file_store.specs.Bodies.{held_with, AreBodies};
+ghost use Rattle.file_store.specs.Rewrites.{effect_of, IsRewrite};
 ghost use Rattle.file_store.specs.Stores.{IsLawful};
 
 use crate::remapping::remap;
+use crate::rewrites::Rewrite;
 use disk_model::Disk;
 use dm_attrs::DmAttrs;
 use file_body::Body;
@@ -136,7 +138,7 @@ impl Files {
         requires left { length self.old.held.files ≢ (geometry_of self.old.meta.current.geometry).files }
         requires room { self.old.held.next < 2 ^ 62 }
         ensures key { IfOk result (λ key. key ≡ next_key self.old.held) }
-        ensures held { OnOk result (self.new.held ≡ done_held self.old.held (Create name.now)) }
+        ensures held { OnOk result (self.new.held ≡ record { files = affected_held (Makes name.now) (next_key self.old.held) self.old.held.files; next = self.old.held.next + 1 }) }
         ensures meta { IfOk result (λ key. self.new.meta ≡ record self.old.meta { current = with_file key name.now self.old.meta.current }) }
         ensures catalog { OnOk result (IsCatalog self.new.meta.current) }
         ensures err { OnErr result (self.new ≡ self.old) }
@@ -154,7 +156,7 @@ impl Files {
 
     /// Drops a file, and gives the memory of its bytes back. Where the key isn't live, nothing changes. It takes no memory.
     pub(crate) fn remove(&mut self, key: FileKey)
-        ensures { self.new ≡ record { meta = record self.old.meta { current = without_file key self.old.meta.current }; held = record self.old.held { files = drop_key (λ f. f.key) key self.old.held.files } } }
+        ensures { self.new ≡ record { meta = record self.old.meta { current = without_file key self.old.meta.current }; held = record self.old.held { files = affected_held Drops key self.old.held.files } } }
     {
         if self.meta.catalog().places(key).is_some() {
             self.meta.drop_file(key);
@@ -162,64 +164,37 @@ impl Files {
         }
     }
 
-    /// Writes bytes into a live file, whose touched blocks get new places. All memory is taken before anything changes, and at an `Err` nothing
+    /// Changes the bytes of a live file, whose touched blocks get new places. All memory is taken before anything changes, and at an `Err` nothing
     /// has. It costs the bytes, the mappings, and what the file grows by.
-    pub(crate) fn write(
+    pub(crate) fn rewrite(
         &mut self,
         alloc: Global,
         key: FileKey,
-        offset: u64,
-        bytes: &[u8],
+        change: Rewrite<'_>,
         mappings: &[Mapping],
     ) -> Result<(), AllocError>
         requires live { IsSome (find_key (λ f. f.key) key self.old.held.files) }
-        requires end { offset + length bytes.now ≤ 16777216 }
-        requires touched { (name : List ℕ) → map (λ m. m.block) mappings.now ≡ touched (length (bytes_of key self.old.held.files)) (Write name offset bytes.now) }
+        requires lawful { IsRewrite change }
+        requires touched { map (λ m. m.block) mappings.now ≡ touched (effect_of change) (length (bytes_of key self.old.held.files)) }
         requires places { AllByRecursion (λ m. m.place < (geometry_of self.old.meta.current.geometry).blocks) mappings.now }
         requires unused { AllByRecursion (λ m. list_any (λ p. p == m.place) (blocks_of self.old.meta.current.files) ≡ false) mappings.now }
         requires distinct { Distinct (map (λ m. m.place) mappings.now) }
         ensures ok { OnOk result (self.new ≡ record {
-          meta = record self.old.meta { current = with_remapped key (max (length (bytes_of key self.old.held.files)) (offset + length bytes.now)) mappings.now self.old.meta.current };
-          held = record self.old.held { files = change_key (λ f. f.key) key (rewritten (written offset bytes.now) (Write [] offset bytes.now)) self.old.held.files };
+          meta = record self.old.meta { current = with_remapped key (size_after (effect_of change.entry) (length (bytes_of key self.old.held.files))) mappings.now self.old.meta.current };
+          held = record self.old.held { files = affected_held (effect_of change.entry) key self.old.held.files };
         }) }
         ensures err { OnErr result (self.new ≡ self.old) }
     {
         let body = &mut self.bodies[slot(key)];
-        let size = body.len().max(offset + bytes.len() as u64);
+        let size = change.size_after(body.len());
         remap(alloc, &mut self.meta, body, key, size, mappings)?;
-        body.write(alloc, offset, bytes)
-    }
-
-    /// Cuts a live file to that size, or lengthens it by zeros. Its touched blocks get new places. At an `Err` nothing has changed. It costs the
-    /// mappings, and what the file grows by.
-    pub(crate) fn truncate(
-        &mut self,
-        alloc: Global,
-        key: FileKey,
-        size: u64,
-        mappings: &[Mapping],
-    ) -> Result<(), AllocError>
-        requires live { IsSome (find_key (λ f. f.key) key self.old.held.files) }
-        requires size { size ≤ 16777216 }
-        requires touched { (name : List ℕ) → map (λ m. m.block) mappings.now ≡ touched (length (bytes_of key self.old.held.files)) (Truncate name size) }
-        requires places { AllByRecursion (λ m. m.place < (geometry_of self.old.meta.current.geometry).blocks) mappings.now }
-        requires unused { AllByRecursion (λ m. list_any (λ p. p == m.place) (blocks_of self.old.meta.current.files) ≡ false) mappings.now }
-        requires distinct { Distinct (map (λ m. m.place) mappings.now) }
-        ensures ok { OnOk result (self.new ≡ record {
-          meta = record self.old.meta { current = with_remapped key size mappings.now self.old.meta.current };
-          held = record self.old.held { files = change_key (λ f. f.key) key (rewritten (resized size) (Truncate [] size)) self.old.held.files };
-        }) }
-        ensures err { OnErr result (self.new ≡ self.old) }
-    {
-        let body = &mut self.bodies[slot(key)];
-        remap(alloc, &mut self.meta, body, key, size, mappings)?;
-        body.resize(alloc, size)
+        change.apply(alloc, body)
     }
 
     /// The regions of a live file.
     pub(crate) fn regions(&self, key: FileKey) -> &ManagedRegions
         requires { IsSome (find_key (λ f. f.key) key self.now.held.files) }
-        ensures { result.now ≡ regions_of key self.now.held.files }
+        ensures { result.now ≡ (kept_of key self.now.held.files).regions }
     {
         self.meta.regions(key).unwrap()
     }
@@ -227,7 +202,7 @@ impl Files {
     /// The attributes of a live file.
     pub(crate) fn attributes(&self, key: FileKey) -> &DmAttrs
         requires { IsSome (find_key (λ f. f.key) key self.now.held.files) }
-        ensures { result.now ≡ attributes_of key self.now.held.files }
+        ensures { result.now ≡ (kept_of key self.now.held.files).attributes }
     {
         self.meta.attributes(key).unwrap()
     }
@@ -240,7 +215,7 @@ impl Files {
         value: &Bytes,
     ) -> Result<(), DmRefusal>
         requires { IsSome (find_key (λ f. f.key) key self.now.held.files) }
-        ensures { MatchResult result (λ _. setting_refusal name value.now (other_attributes key self.now.held.files) (geometry_of self.now.meta.current.geometry).attributes (attributes_of key self.now.held.files) ≡ None) (λ why. setting_refusal name value.now (other_attributes key self.now.held.files) (geometry_of self.now.meta.current.geometry).attributes (attributes_of key self.now.held.files) ≡ Some why) }
+        ensures { MatchResult result (λ _. setting_refusal name value.now (other_attributes key self.now.held.files) (geometry_of self.now.meta.current.geometry).attributes (kept_of key self.now.held.files).attributes ≡ None) (λ why. setting_refusal name value.now (other_attributes key self.now.held.files) (geometry_of self.now.meta.current.geometry).attributes (kept_of key self.now.held.files).attributes ≡ Some why) }
     {
         let attributes = self.attributes(key);
         let others = self.meta.attribute_total() - attributes.bytes();
@@ -255,7 +230,7 @@ impl Files {
         ensures judged { MatchResult result (λ _. regions_refusal regions ≡ None) (λ why. regions_refusal regions ≡ Some why) }
         ensures ok { OnOk result (self.new ≡ record {
           meta = record self.old.meta { current = with_regions key regions self.old.meta.current };
-          held = record self.old.held { files = change_key (λ f. f.key) key (λ f. record f { regions = regions }) self.old.held.files };
+          held = record self.old.held { files = affected_held (Manages regions) key self.old.held.files };
         }) }
         ensures lawful { IsMeta self.new.meta }
         ensures err { OnErr result (self.new ≡ self.old) }
@@ -274,11 +249,11 @@ impl Files {
         value: &Bytes,
     ) -> Result<(), DmRefusal>
         requires live { IsSome (find_key (λ f. f.key) key self.old.held.files) }
-        ensures judged { OnOk result (setting_refusal name value.now (other_attributes key self.old.held.files) (geometry_of self.old.meta.current.geometry).attributes (attributes_of key self.old.held.files) ≡ None) }
-        ensures refused { IfErr result (λ why. MatchOption (setting_refusal name value.now (other_attributes key self.old.held.files) (geometry_of self.old.meta.current.geometry).attributes (attributes_of key self.old.held.files)) (why ≡ Memory) (λ cause. why ≡ cause)) }
+        ensures judged { OnOk result (setting_refusal name value.now (other_attributes key self.old.held.files) (geometry_of self.old.meta.current.geometry).attributes (kept_of key self.old.held.files).attributes ≡ None) }
+        ensures refused { IfErr result (λ why. MatchOption (setting_refusal name value.now (other_attributes key self.old.held.files) (geometry_of self.old.meta.current.geometry).attributes (kept_of key self.old.held.files).attributes) (why ≡ Memory) (λ cause. why ≡ cause)) }
         ensures ok { OnOk result (self.new ≡ record {
           meta = record self.old.meta { current = with_attribute key name value.now self.old.meta.current };
-          held = record self.old.held { files = change_key (λ f. f.key) key (λ f. record f { attributes = with_value name value.now f.attributes }) self.old.held.files };
+          held = record self.old.held { files = affected_held (Attaches name value.now) key self.old.held.files };
         }) }
         ensures lawful { IsMeta self.new.meta }
         ensures err { OnErr result (self.new ≡ self.old) }
@@ -292,10 +267,10 @@ impl Files {
     /// Takes an attribute of a live file away.
     pub(crate) fn remove_attribute(&mut self, key: FileKey, name: AttrName) -> Result<(), DmRefusal>
         requires live { IsSome (find_key (λ f. f.key) key self.old.held.files) }
-        ensures judged { MatchResult result (λ _. removal_refusal name (attributes_of key self.old.held.files) ≡ None) (λ why. removal_refusal name (attributes_of key self.old.held.files) ≡ Some why) }
+        ensures judged { MatchResult result (λ _. removal_refusal name (kept_of key self.old.held.files).attributes ≡ None) (λ why. removal_refusal name (kept_of key self.old.held.files).attributes ≡ Some why) }
         ensures ok { OnOk result (self.new ≡ record {
           meta = record self.old.meta { current = without_attribute key name self.old.meta.current };
-          held = record self.old.held { files = change_key (λ f. f.key) key (λ f. record f { attributes = without_value name f.attributes }) self.old.held.files };
+          held = record self.old.held { files = affected_held (Detaches name) key self.old.held.files };
         }) }
         ensures lawful { IsMeta self.new.meta }
         ensures err { OnErr result (self.new ≡ self.old) }

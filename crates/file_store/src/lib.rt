@@ -12,6 +12,7 @@ mod opening;
 mod readers;
 mod refusal;
 mod remapping;
+mod rewrites;
 mod spaces;
 mod store;
 mod writing;

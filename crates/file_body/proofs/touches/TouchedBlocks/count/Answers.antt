@@ -1,6 +1,6 @@
 use Rattle.std.proofs.Common.{ap, length, arith}
 use Rattle.std.specs.Option.{option_to_list}
-use Rattle.file_body.proofs.Counts.{length_blocks}
+use Rattle.file_body.proofs.Runs.{length_blocks}
 use Rattle.file_body.proofs.touches.TouchedBlocks.count.Goals as goal
 
 pub returns-in-Some : goal.returns-in-Some

@@ -1,6 +1,7 @@
-use Rattle.std.proofs.Common.{sym, ◌∙◌}
+use Rattle.std.proofs.Common.{sym, ◌∙◌, ap}
+use Rattle.hsm_types.specs.Kept.{Kept}
 use Rattle.file_store.proofs.KeptFiles.{live-held}
-use Rattle.file_store.proofs.ManagedFiles.{told, told_as, attributes-live}
+use Rattle.file_store.proofs.ManagedFiles.{told, told_as, kept-live}
 use Rattle.file_store.proofs.files.Files.attributes.Goals as goal
 
 pub unwrap-requires : goal.unwrap-requires
@@ -11,4 +12,4 @@ unwrap-requires c =
 pub returns : goal.returns
 returns c =
     let live = live-held c.self.inside.bodies.items c.self.inside.meta c.args.key c.self.invariant (rw (← c.self.view_is) at c.requires) in
-    rw (← c.self.view_is) (told_as _ _ c.attributes.result c.unwrap.result _ live.file c.attributes.ensures live.found c.unwrap.ensures ∙ sym (attributes-live c.self.inside.bodies.items c.self.inside.meta.current c.args.key live))
+    rw (← c.self.view_is) (told_as _ _ c.attributes.result c.unwrap.result _ live.file c.attributes.ensures live.found c.unwrap.ensures ∙ sym (ap (λ (kept : Kept). kept.attributes) (kept-live c.self.inside.bodies.items c.self.inside.meta.current c.args.key live)))

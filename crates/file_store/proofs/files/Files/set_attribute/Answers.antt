@@ -1,8 +1,8 @@
 use Rattle.std.proofs.Common.{refl}
-use Rattle.hsm_types.specs.Attributes.{with_value}
-use Rattle.meta_store.specs.Changes.{with_attribute}
+use Rattle.plain_model.specs.Effects.{Attaches}
+use Rattle.plain_model.specs.State.{rekept}
 use Rattle.file_store.proofs.KeptFiles.{live-held}
-use Rattle.file_store.proofs.ManagedFiles.{IsHeldFiles-managed, files-managed, attribute-managed, refusal-held}
+use Rattle.file_store.proofs.ManagedFiles.{IsHeldFiles-managed, files-managed, refusal-held}
 use Rattle.file_store.proofs.files.Files.set_attribute.Goals as goal
 
 pub set_attribute-done-requires : goal.set_attribute-done-requires
@@ -11,12 +11,12 @@ set_attribute-done-requires c = record { live = rw (live-held c.self.inside.bodi
 pub invariant_of-self : goal.invariant_of-self
 invariant_of-self c =
     let m = c.self.inside.meta in
-    IsHeldFiles-managed (λ rs. rs) (with_value c.args.name c.args.value.now) c.self.inside.bodies.items m c.args.key (with_attribute c.args.key c.args.name c.args.value.now m.current) (attribute-managed c.args.key c.args.name c.args.value.now c.self.inside.meta.current) c.set_attribute-done.result c.set_attribute-done.new.self c.set_attribute-done.ensures.ok c.self.invariant c.geometry-geometry.ensures.lawful c.set_attribute-done.ensures.err
+    IsHeldFiles-managed (rekept (Attaches c.args.name c.args.value.now) 0) c.self.inside.bodies.items m c.args.key c.set_attribute-done.new.self c.set_attribute-done.result c.set_attribute-done.ensures.ok c.self.invariant c.geometry-geometry.ensures.lawful c.set_attribute-done.ensures.err
 
 pub returns-clause-ok : goal.returns-clause-ok
 returns-clause-ok c =
     let m = c.self.inside.meta in
-    rw (← c.self.view_is) (files-managed (λ rs. rs) (with_value c.args.name c.args.value.now) c.self.inside.bodies.items m c.args.key (with_attribute c.args.key c.args.name c.args.value.now m.current) (attribute-managed c.args.key c.args.name c.args.value.now c.self.inside.meta.current) c.set_attribute-done.result c.set_attribute-done.new.self c.set_attribute-done.ensures.ok)
+    rw (← c.self.view_is) (files-managed (rekept (Attaches c.args.name c.args.value.now) 0) c.self.inside.bodies.items m c.args.key c.set_attribute-done.new.self c.set_attribute-done.result c.set_attribute-done.ensures.ok)
 
 pub returns-clause-judged : goal.returns-clause-judged
 returns-clause-judged c =

@@ -1,0 +1,54 @@
+//! Changes of the bytes of a file.
+ghost use Rattle.std.specs.Prelude.{◌≡◌, ◌≤◌, length, OnOk, IsOk};
+ghost use Rattle.plain_model.specs.Plain.{rebody};
+ghost use Rattle.plain_model.specs.Blocks.{touched, size_after};
+ghost use Rattle.file_store.specs.Rewrites.{effect_of, IsRewrite};
+
+use file_body::{Body, TouchedBlocks, touched_by_truncate, touched_by_write};
+use std::alloc::{AllocError, Global};
+
+/// What becomes of the bytes of a file.
+#[derive(Clone, Copy)]
+pub(crate) enum Rewrite<'a> {
+    /// These bytes stand at the offset.
+    Write { offset: u64, bytes: &'a [u8] },
+    /// There are so many of them.
+    Resize { size: u64 },
+}
+
+impl Rewrite<'_> {
+    /// The blocks that it touches of a file of that size.
+    pub(crate) fn touched(self, size: u64) -> TouchedBlocks
+        requires { IsRewrite self }
+        ensures { result ≡ touched (effect_of self.entry) size }
+    {
+        match self {
+            Rewrite::Write { offset, bytes } => touched_by_write(size, offset, bytes.len() as u64),
+            Rewrite::Resize { size: new } => touched_by_truncate(size, new),
+        }
+    }
+
+    /// The size of a file of that size after it.
+    pub(crate) fn size_after(self, size: u64) -> u64
+        requires { IsRewrite self }
+        ensures size { result ≡ size_after (effect_of self.entry) size }
+        ensures limit { size ≤ 16777216 → result ≤ 16777216 }
+    {
+        match self {
+            Rewrite::Write { offset, bytes } => size.max(offset + bytes.len() as u64),
+            Rewrite::Resize { size: new } => new,
+        }
+    }
+
+    /// Makes it of a body. It can't fail where the body doesn't become longer.
+    pub(crate) fn apply(self, alloc: Global, body: &mut Body) -> Result<(), AllocError>
+        requires { IsRewrite self }
+        ensures ok { OnOk result (body.new ≡ rebody (effect_of self.entry) body.old) }
+        ensures in_place { size_after (effect_of self.entry) (length body.old) ≤ length body.old → IsOk result }
+    {
+        match self {
+            Rewrite::Write { offset, bytes } => body.write(alloc, offset, bytes),
+            Rewrite::Resize { size } => body.resize(alloc, size),
+        }
+    }
+}
