@@ -6,7 +6,7 @@ use Rattle.disk_model.specs.Moments.{LeavesOnly}
 use Rattle.hsm_types.specs.declared.calls.Call.{Call}
 use Rattle.hsm_types.specs.declared.calls.CallRefusal.TheVariants.{Memory}
 use Rattle.hsm_types.specs.declared.calls.Reply.{Reply}
-use Rattle.hsm_types.specs.declared.calls.Reply.TheVariants.{Done, Refused}
+use Rattle.hsm_types.specs.declared.calls.Reply.TheVariants.{Refused}
 use Rattle.hsm_types.specs.declared.dm.DmCall.{DmCall}
 use Rattle.hsm_types.specs.declared.dm.DmRefusal.TheVariants as dm
 use Rattle.hsm_types.specs.declared.dm.DmReply.{DmReply}
@@ -20,10 +20,9 @@ use Rattle.plain_model.specs.declared.entries.Action.TheVariants.{Issue, Dm, Com
 use Rattle.plain_model.specs.declared.entries.Answer.{Answer}
 use Rattle.plain_model.specs.declared.entries.Answer.TheVariants.{Call as Replied, Dm as Told}
 use Rattle.plain_model.specs.Faults.{fault_of}
+use Rattle.plain_model.specs.Exact.{answer_to, left_own}
+use Rattle.plain_model.specs.State.{State}
 use Rattle.plain_model.specs.Synced.{is_sync, synced}
-use Rattle.plain_model.specs.State.{reply_to}
-use Rattle.plain_model.specs.States.{State, noted, state_after}
-use Rattle.plain_model.specs.Services.{dm_reply_to, dm_state_after}
 use Rattle.file_store.specs.Stores.{superblock_of, Proceeds}
 use Rattle.hsm_core.specs.Store.{Store, last_number, state_of}
 use Rattle.hsm_core.specs.Crashes.{IsPrefix, IsSynced}
@@ -33,9 +32,15 @@ entry_of actor action answer = record { actor = actor; action = action; answer =
 
 -- the answer for want of memory
 abbrev pub memory_of : Action → Answer
-memory_of (Issue call) = Replied (Refused Memory)
 memory_of (Dm call) = Told (told.Refused dm.Memory)
-memory_of Commit = Replied (Refused Memory)
+memory_of action = Replied (Refused Memory)
+
+-- the store's own answer to the event, and the state that it leaves
+abbrev pub own_answer : {D : Type 0} → Store D → Actor → Action → Answer
+own_answer s actor action = answer_to (superblock_of s.opened) (state_of s) actor action
+
+abbrev pub own_state : {D : Type 0} → Store D → Actor → Action → State
+own_state s actor action = left_own (superblock_of s.opened) (state_of s) actor action
 
 -- The store was working. A crash in the event leaves what was durable before, or what was held before under the number of the last entry before it:
 -- so what the first entries from before the event have left, all those that were synced among them.
@@ -60,39 +65,35 @@ pub record LacksMemory {D : Type 0} (g : disk.Ghosts D) (old : Store D) (action 
   pub still : new.files.failed ≡ false
 
 -- a call of the disk failed in the event
-pub record IsFault {D : Type 0} (g : disk.Ghosts D) (old : Store D) (actor : Actor) (action : Action) (given : Answer) (new : Store D) : Type 0 where
+pub record HasFailed {D : Type 0} (g : disk.Ghosts D) (old : Store D) (actor : Actor) (action : Action) (given : Answer) (new : Store D) : Type 0 where
   pub goes : Goes g old new
   pub answer : given ≡ fault_of action
   pub history : new.history ≡ old.history ++ entry_of actor action (fault_of action) ∷ []
   pub failed : new.files.failed ≡ true
   pub rose : Rose (g.fault_count old.files.disk) (g.fault_count new.files.disk)
 
--- the event was answered so, and this is the state then
-pub record IsDone {D : Type 0} (g : disk.Ghosts D) (old : Store D) (actor : Actor) (action : Action) (exact : Answer) (left : State) (given : Answer) (new : Store D) : Type 0 where
+-- the event was answered by the store itself
+pub record IsDone {D : Type 0} (g : disk.Ghosts D) (old : Store D) (actor : Actor) (action : Action) (given : Answer) (new : Store D) : Type 0 where
   pub goes : Goes g old new
-  pub answer : given ≡ exact
-  pub history : new.history ≡ old.history ++ entry_of actor action exact ∷ []
-  pub leaves : state_of new ≡ left
+  pub answer : given ≡ own_answer old actor action
+  pub history : new.history ≡ old.history ++ entry_of actor action (own_answer old actor action) ∷ []
+  pub leaves : state_of new ≡ own_state old actor action
   pub still : new.files.failed ≡ false
   -- a sync or a commit has made all durable, under the number of the last entry before it
-  pub synced : is_sync (entry_of actor action exact) ≡ true → IsSynced g (last_number old) old.files new.files
+  pub synced : is_sync (entry_of actor action (own_answer old actor action)) ≡ true → IsSynced g (last_number old) old.files new.files
 
 -- one of the four
-abbrev pub IsAnswer : {D : Type 0} → disk.Ghosts D → Store D → Actor → Action → Answer → State → Answer → Store D → Type 0
-IsAnswer g old actor action exact left given new = IsClosed old action given new ⊎ LacksMemory g old action given new ⊎ IsFault g old actor action given new ⊎ IsDone g old actor action exact left given new
+abbrev pub IsAnswer : {D : Type 0} → disk.Ghosts D → Store D → Actor → Action → Answer → Store D → Type 0
+IsAnswer g old actor action given new = IsClosed old action given new ⊎ LacksMemory g old action given new ⊎ HasFailed g old actor action given new ⊎ IsDone g old actor action given new
 
--- the call of that caller was answered exactly, unless there was no memory or the disk failed
+-- the call of that caller was answered
 abbrev pub IsAnswered : {D : Type 0} → disk.Ghosts D → Store D → ℕ → Call → Reply → Store D → Type 0
-IsAnswered g old caller call reply new =
-    let s = superblock_of old.opened in
-    IsAnswer g old (Caller (record { 0 = caller })) (Issue call) (Replied (reply_to s old.files.held call)) (state_after s (state_of old) call) (Replied reply) new
+IsAnswered g old caller call reply new = IsAnswer g old (Caller caller) (Issue call) (Replied reply) new
 
 -- so was the call of that session
 abbrev pub IsTold : {D : Type 0} → disk.Ghosts D → Store D → Sid → DmCall → DmReply → Store D → Type 0
-IsTold g old sid call reply new =
-    let s = superblock_of old.opened in
-    IsAnswer g old (Session sid) (Dm call) (Told (dm_reply_to s (state_of old) sid call)) (dm_state_after s (state_of old) sid call) (Told reply) new
+IsTold g old sid call reply new = IsAnswer g old (Session sid) (Dm call) (Told reply) new
 
 -- and a commit
 abbrev pub IsCommitted : {D : Type 0} → disk.Ghosts D → Store D → Reply → Store D → Type 0
-IsCommitted g old reply new = IsAnswer g old TheStore Commit (Replied Done) (noted (state_of old)) (Replied reply) new
+IsCommitted g old reply new = IsAnswer g old TheStore Commit (Replied reply) new

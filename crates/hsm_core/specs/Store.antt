@@ -4,9 +4,10 @@ use Rattle.hsm_types.specs.Sessions.{SessionTable}
 use Rattle.hsm_types.specs.declared.keys.FileKey.{FileKey}
 use Rattle.plain_model.specs.declared.entries.Entry.{Entry}
 use Rattle.plain_model.specs.Faults.{has_fault}
-use Rattle.plain_model.specs.States.{State, just_opened}
-use Rattle.plain_model.specs.Exact.{Exact, state_by}
-use Rattle.plain_model.specs.Laws.{IsOpening}
+use Rattle.plain_model.specs.Ledger.{no_ledger}
+use Rattle.plain_model.specs.State.{Held, State, just_opened}
+use Rattle.plain_model.specs.Exact.{state_by}
+use Rattle.plain_model.specs.Laws.{IsRun}
 use Rattle.file_store.specs.Stores.{Store as FileStore, superblock_of}
 use Rattle.hsm_core.specs.Stamps.{stamp_in}
 
@@ -25,20 +26,19 @@ pub record Store (D : Type 0) : Type 0 where
 abbrev pub last_number : {D : Type 0} → Store D → ℕ
 last_number s = s.opened.meta.number + length s.history
 
+-- the state by its parts. Nothing waits
+abbrev pub state_with : Held → List (FileKey × ℕ) → SessionTable → ℕ → State
+state_with held stamps sessions number = record { held = held; stamps = stamp_in stamps; number = number; sessions = sessions; ledger = no_ledger }
+
 -- what it holds, and what ends with its opening
 abbrev pub state_of : {D : Type 0} → Store D → State
-state_of s = record { held = s.files.held; stamps = stamp_in s.stamps; sessions = s.sessions; number = last_number s }
+state_of s = state_with s.files.held s.stamps s.sessions (last_number s)
 
--- the state in which it was opened
-abbrev pub opening_of : {D : Type 0} → Store D → State
-opening_of s = just_opened s.opened.meta.number s.opened.held
-
--- The store is formatted as it was when it was opened. The history is exact from there, and as long as no call of the disk has failed it has
+-- The store is formatted as it was when it was opened, and its history is a run from there. As long as no call of the disk has failed it has
 -- no fault, and the store's state is what the history leaves.
-pub record IsRun {D : Type 0} (s : Store D) : Type 0 where
-  pub opening : IsOpening s.opened.held
+pub record HasRun {D : Type 0} (s : Store D) : Type 0 where
   pub geometry : s.files.meta.durable.geometry ≡ s.opened.meta.durable.geometry
   pub fsid : s.files.meta.fsid ≡ s.opened.meta.fsid
-  pub exact : Exact (superblock_of s.opened) (opening_of s) s.history
+  pub run : IsRun (superblock_of s.opened) s.opened.meta.number s.opened.held s.history
   pub faultless : s.files.failed ≡ false → has_fault s.history ≡ false
-  pub state : s.files.failed ≡ false → state_of s ≡ state_by (superblock_of s.opened) (opening_of s) s.history
+  pub state : s.files.failed ≡ false → state_of s ≡ state_by (superblock_of s.opened) (just_opened s.opened.meta.number s.opened.held) s.history

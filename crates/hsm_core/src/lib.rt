@@ -2,10 +2,9 @@
 #![tactic(auto)]
 
 mod answering;
-mod dm_refusals;
 mod judging;
+mod performing;
 mod refusals;
-mod room;
 mod services;
 mod stamps;
 mod store;

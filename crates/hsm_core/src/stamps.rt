@@ -1,15 +1,12 @@
 //! Access stamps: of each file, the number of the last event that completed a read, a write or a truncate of it. A file that is gone keeps its
 //! stamp, since no key comes a second time.
-ghost use Rattle.std.specs.Prelude.{◌≡◌, ◌<◌, None, OnOk};
+ghost use Rattle.std.specs.Prelude.{◌≡◌, ◌<◌, true, None, IsSome, OnOk};
 ghost use Rattle.indexmap.specs.IndexMap.{spare};
-ghost use Rattle.plain_model.specs.State.{judged};
-ghost use Rattle.plain_model.specs.States.{stamped};
-ghost use Rattle.file_store.specs.Stores.{superblock_of};
-ghost use Rattle.hsm_core.specs.Stamps.{stamp_in, accessed_by};
+ghost use Rattle.plain_model.specs.Verdict.{is_access, stamped, stamps_by};
+ghost use Rattle.hsm_core.specs.Stamps.{stamp_in};
+ghost use Rattle.hsm_core.specs.Targets.{key_in};
 
-use crate::judging::key_of;
-use disk_model::Disk;
-use file_store::FileStore;
+use crate::judging::Target;
 use hsm_types::{Call, FileKey};
 use indexmap::IndexMap;
 use std::alloc::AllocError;
@@ -32,23 +29,36 @@ pub(crate) fn stamp(stamps: &IndexMap<FileKey, u64>, key: FileKey) -> u64
     }
 }
 
+/// Renews the stamp of the file on which the call was done, if the call is one that does so.
+pub(crate) fn note_access(
+    stamps: &mut IndexMap<FileKey, u64>,
+    target: Option<Target>,
+    call: &Call,
+    number: u64,
+)
+    requires room { 0 < spare stamps.old }
+    requires file { is_access call.now ≡ true → IsSome target }
+    ensures { stamp_in stamps.new.entries ≡ stamps_by number (key_in target) call.now None (stamp_in stamps.old.entries) }
+{
+    if is_access(call) {
+        renew(stamps, target.unwrap().key, number);
+    }
+}
+
 /// Gives the file with that key this stamp.
-pub(crate) fn renew(stamps: &mut IndexMap<FileKey, u64>, key: FileKey, number: u64)
+fn renew(stamps: &mut IndexMap<FileKey, u64>, key: FileKey, number: u64)
     requires { 0 < spare stamps.old }
     ensures { stamp_in stamps.new.entries ≡ stamped key number (stamp_in stamps.old.entries) }
 {
     let _before = stamps.insert(key, number).unwrap();
 }
 
-/// The file whose stamp a call renews that nothing refuses.
-pub(crate) fn accessed<D: Disk>(files: &FileStore<D>, call: &Call) -> Option<FileKey>
-    requires lawful { judged (superblock_of files.now) files.now.held call.now ≡ None }
-    ensures { result ≡ accessed_by files.now.held.files call.now }
+/// Whether a call renews the stamp of its file.
+fn is_access(call: &Call) -> bool
+    ensures { result ≡ is_access call.now }
 {
-    match call {
-        Call::Read { name, .. } | Call::Write { name, .. } | Call::Truncate { name, .. } => {
-            Some(key_of(files, name))
-        }
-        Call::Create { .. } | Call::Remove { .. } | Call::Stat { .. } | Call::Sync => None,
-    }
+    matches!(
+        call,
+        Call::Read { .. } | Call::Write { .. } | Call::Truncate { .. }
+    )
 }

@@ -14,7 +14,8 @@ ghost use Rattle.hsm_core.specs.Answers.{entry_of, IsAnswered, IsTold, IsCommitt
 ghost use Rattle.hsm_core.specs.Crashes.{IsPrefix, IsSafeNow};
 ghost use Rattle.hsm_core.specs.Kept.{IsKept};
 
-use crate::answering::{answer, commit};
+use crate::answering::answer;
+use crate::performing::commit;
 use crate::services::serve;
 use crate::stamps::make_room;
 use commit_slots::CommitSlots;
@@ -23,10 +24,7 @@ use dm_sessions::Sessions;
 use file_store::{FileStore, StoreRefusal};
 use hsm_types::{Call, CallRefusal, CallerId, DmCall, DmRefusal, DmReply, FileKey, Reply, Sid};
 use indexmap::IndexMap;
-use plain_model::{
-    Action, Actor, Answer, Entry, History, exact_is_legal, exact_is_once, exact_is_sided,
-    exact_is_stamped, transparent,
-};
+use plain_model::{Action, Actor, Answer, Entry, History, run_is_good};
 use std::alloc::{AllocError, Global};
 use std::marker::Model;
 use std::snapshot::Snapshot;
@@ -45,14 +43,14 @@ pub struct Hsm<D: Disk> {
 
 impl<D: Disk> Model for Hsm<D> {
     ghost use Rattle.std.specs.Prelude.{◌≡◌, ◌≤◌, ◌^◌};
-    ghost use Rattle.hsm_core.specs.Store.{Store, IsRun};
+    ghost use Rattle.hsm_core.specs.Store.{Store, HasRun};
     ghost use Rattle.hsm_core.specs.Crashes.{IsSafe};
 
     ghost Value = { Store D };
 
     ghost view = { λ h. record { opened = h.opened.value; files = h.files; stamps = h.stamps.entries; sessions = h.sessions; history = h.history.items } };
 
-    ghost invariant = { λ h. IsRun (record { opened = h.opened.value; files = h.files; stamps = h.stamps.entries; sessions = h.sessions; history = h.history.items })
+    ghost invariant = { λ h. HasRun (record { opened = h.opened.value; files = h.files; stamps = h.stamps.entries; sessions = h.sessions; history = h.history.items })
         × IsSafe D.Disk (record { opened = h.opened.value; files = h.files; stamps = h.stamps.entries; sessions = h.sessions; history = h.history.items })
         × (h.base ≡ h.opened.value.meta.number) × (h.base ≤ 2 ^ 62) };
 }
@@ -215,7 +213,7 @@ impl<D: Disk> Hsm<D> {
     /// Answers a call, and keeps it in the history. `Refused(Memory)` keeps nothing, and nor does `Refused(Disk)` of a store that is closed by a
     /// fault of its disk.
     pub fn issue(&mut self, alloc: Global, caller: CallerId, call: Call) -> Reply
-        ensures answered { IsAnswered D.Disk self.old caller.0 call result self.new }
+        ensures answered { IsAnswered D.Disk self.old caller call result self.new }
         ensures safe { IsSafeNow D.Disk self.new }
     {
         if let Err(why) = make_ready(&self.files, &mut self.history, &mut self.stamps) {
@@ -275,11 +273,7 @@ impl<D: Disk> Hsm<D> {
         ensures entries { result.now ≡ self.now.history }
         ensures kept { IsKept self.now }
     {
-        exact_is_legal();
-        exact_is_once();
-        exact_is_sided();
-        exact_is_stamped();
-        transparent();
+        run_is_good();
         self.history.as_slice()
     }
 
@@ -295,11 +289,7 @@ impl<D: Disk> Hsm<D> {
         ensures since { LeavesOnly D.Disk self.opened.disk self.files.disk (IsPrefix self.opened self.history 0) }
         ensures now { IsSafeNow D.Disk self }
     {
-        exact_is_legal();
-        exact_is_once();
-        exact_is_sided();
-        exact_is_stamped();
-        transparent();
+        run_is_good();
         (self.files.close(), History::from(self.history), self.opened)
     }
 }

@@ -1,0 +1,45 @@
+//! Calls on handles, and on what the store itself keeps of a file.
+ghost use Rattle.std.specs.Prelude.{IsSome, IfOk};
+ghost use Rattle.hsm_types.specs.Sessions.{no_sessions};
+ghost use Rattle.hsm_types.specs.declared.dm.DmCall.TheVariants.{PathToHandle, GetFileAttr};
+ghost use Rattle.plain_model.specs.Keyed.{find_key};
+ghost use Rattle.file_store.specs.Stores.{superblock_of};
+ghost use Rattle.hsm_core.specs.Store.{state_with};
+ghost use Rattle.hsm_core.specs.Services.{null, asked, AreOf, service_on};
+
+use crate::services::replies::{refused, twice};
+use crate::stamps::stamp;
+use disk_model::Disk;
+use file_store::FileStore;
+use hsm_types::{DmRefusal, DmReply, FileKey, Handle, Word};
+use indexmap::IndexMap;
+use std::alloc::AllocError;
+
+/// The handle of the file with that name.
+pub(crate) fn find<D: Disk>(
+    files: &FileStore<D>,
+    name: &Word,
+) -> Result<(DmReply, DmReply), AllocError>
+    ensures { IfOk result (λ r. AreOf (service_on files.now (PathToHandle name.now)) r) }
+{
+    match files.find(name) {
+        Some(key) => twice(DmReply::Handle(dm_handles::make(files.superblock().fsid, key))),
+        None => refused(DmRefusal::NoObject),
+    }
+}
+
+/// The size of a live file, its stamp, and how many of its blocks are mapped.
+pub(crate) fn attributes<D: Disk>(
+    files: &FileStore<D>,
+    stamps: &IndexMap<FileKey, u64>,
+    handle: Handle,
+) -> Result<(DmReply, DmReply), AllocError>
+    requires { IsSome (find_key (λ f. f.key) handle.key files.now.held.files) }
+    ensures { IfOk result (λ r. AreOf (asked (superblock_of files.now) (state_with files.now.held stamps.now.entries no_sessions 0) (GetFileAttr null handle)) r) }
+{
+    twice(DmReply::Attr {
+        size: files.body(handle.key).len(),
+        stamp: stamp(stamps, handle.key),
+        blocks: files.mapped(handle.key).unwrap(),
+    })
+}
