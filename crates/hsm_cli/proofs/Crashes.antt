@@ -1,5 +1,5 @@
 -- A store on a disk of the host: what a crash leaves, and why it isn't opened.
-use Rattle.std.proofs.Common.{ℕ, ◌≡◌, ◌+◌, inl, inr, List, Some, refl, sym, subst, arith}
+use Rattle.std.proofs.Common.{ℕ, ◌≡◌, ◌+◌, inl, inr, List, Option, Some, refl, sym, subst, arith}
 use Rattle.disk_model.specs.declared.device.Disk as disk
 use Rattle.disk_model.specs.declared.refusal.OpenRefusal.{OpenRefusal}
 use Rattle.disk_model.specs.declared.refusal.OpenRefusal.TheVariants as opening
@@ -17,7 +17,8 @@ use Rattle.hsm_core.specs.Crashes.{IsPrefix}
 use Rattle.hsm_cli.specs.Hosts.{IsHanded}
 use Rattle.hsm_cli.specs.Statuses.{cause_of_refusal}
 use Rattle.hsm_cli.specs.Told.{SourceTold, SinkTold, HostTold}
-use Rattle.hsm_cli.specs.Clauses.{IsCrashSafe, Why}
+use Rattle.hsm_cli.specs.declared.causes.Cause.{Cause}
+use Rattle.hsm_cli.specs.Clauses.{IsCrashSafe, IsWhole, IsBeforeRun, RanToItsEnd, Why}
 use Rattle.hsm_cli.proofs.Running.{rose_later}
 
 plus_nothing : (n : ℕ) → n ≡ n + 0
@@ -40,24 +41,29 @@ module _ {D : Type 0} (g : disk.Ghosts D) (held : List ℕ → Type 0) (handed :
   handed_prefix s history alike durable same c (inl left) = opened_prefix s history c same (durable c (inr (alike.1 c (by_host.settled c left))))
   handed_prefix s history alike durable same c (inr given) = opened_prefix s history c same (durable c (inr (alike.1 c given)))
 
-  safe_from : (s : Store D) (history : List Entry) (disk : D) → Keeps g handed s.disk Same → Alike (g.gives handed) (g.gives s.disk) → ((c : List ℕ) → MayBe g s.disk c → IsDurable s c) → s.held ≡ s.durable
-      → LeavesOnly g s.disk disk (IsPrefix s history 0) → ((c : List ℕ) → MayBe g disk c → IsPrefix s history (synced history) c) → IsCrashSafe g held s history disk
-  safe_from s history disk keeps alike durable same since now =
+  safe_from : (s : Store D) (history : List Entry) (cause : Option Cause) (disk : D) → Keeps g handed s.disk Same → Alike (g.gives handed) (g.gives s.disk) → ((c : List ℕ) → MayBe g s.disk c → IsDurable s c) → s.held ≡ s.durable
+      → LeavesOnly g s.disk disk (IsPrefix s history 0) → ((c : List ℕ) → MayBe g disk c → IsPrefix s history (synced history) c)
+      → (RanToItsEnd cause → (c : List ℕ) → MayBe g disk c → IsWhole s history c) → (IsBeforeRun cause → disk ≡ s.disk) → IsCrashSafe g held s history cause disk
+  safe_from s history cause disk keeps alike durable same since now whole untouched =
       let P : List ℕ → Type 0 = IsPrefix s history 0 in
       record {
         handed = handed;
         by_host = by_host;
         since = joined g handed s.disk disk P (holds_on g handed s.disk Same P P keeps (handed_prefix s history alike durable same) (λ d c p is. subst P (sym is) p)) since;
         now = now;
+        whole = whole;
+        untouched = λ before. subst (λ (d : D). Keeps g handed d Same) (sym (untouched before)) keeps;
       }
 
   -- of the store as it was opened, whose files were these
-  pub crash_safe : (s files : Store D) (history : List Entry) (disk : D) → s ≡ files → Keeps g handed files.disk Same → Alike (g.gives handed) (g.gives files.disk)
+  pub crash_safe : (s files : Store D) (history : List Entry) (cause : Option Cause) (disk : D) → s ≡ files → Keeps g handed files.disk Same → Alike (g.gives handed) (g.gives files.disk)
       → ((c : List ℕ) → MayBe g files.disk c → IsDurable files c) → files.held ≡ files.durable
-      → LeavesOnly g s.disk disk (IsPrefix s history 0) → ((c : List ℕ) → MayBe g disk c → IsPrefix s history (synced history) c) → IsCrashSafe g held s history disk
-  crash_safe s files history disk is keeps alike durable same =
-      subst (λ (x : Store D). LeavesOnly g x.disk disk (IsPrefix x history 0) → ((c : List ℕ) → MayBe g disk c → IsPrefix x history (synced history) c) → IsCrashSafe g held x history disk) (sym is)
-      (safe_from files history disk keeps alike durable same)
+      → LeavesOnly g s.disk disk (IsPrefix s history 0) → ((c : List ℕ) → MayBe g disk c → IsPrefix s history (synced history) c)
+      → (RanToItsEnd cause → (c : List ℕ) → MayBe g disk c → IsWhole s history c) → (IsBeforeRun cause → disk ≡ files.disk) → IsCrashSafe g held s history cause disk
+  crash_safe s files history cause disk is keeps alike durable same since now whole untouched =
+      subst (λ (x : Store D). LeavesOnly g x.disk disk (IsPrefix x history 0) → ((c : List ℕ) → MayBe g disk c → IsPrefix x history (synced history) c)
+      → (RanToItsEnd cause → (c : List ℕ) → MayBe g disk c → IsWhole x history c) → IsCrashSafe g held x history cause disk) (sym is)
+      (λ since now whole. safe_from files history cause disk keeps alike durable same since now whole untouched) since now whole
 
   -- why the disk isn't opened
   pub why_unopened : (source : SourceTold) (sink : SinkTold) (host : HostTold) (disk : D) (refusal : OpenRefusal)

@@ -5,7 +5,7 @@ use Rattle.hsm_cli.specs.declared.causes.Cause.{Cause}
 use Rattle.hsm_cli.specs.declared.causes.Cause.TheVariants.{ScriptRefused, WordsRefused, NotStore, Corrupt, ReadFault, WriteFault, DiskFault, HostFault, NoMemory}
 use Rattle.hsm_cli.specs.Follows.{RunsAll, RunsFirst, lines_run}
 use Rattle.hsm_cli.specs.Told.{SourceTold, SinkTold}
-use Rattle.hsm_cli.specs.Clauses.{HasRun}
+use Rattle.hsm_cli.specs.Clauses.{HasRun, IsBeforeRun}
 use Rattle.hsm_cli.specs.Endings.{cause_in, WritingEnds, first_of}
 
 module _ (commits : Bool) (source : SourceTold) (history : List Entry) where
@@ -43,3 +43,18 @@ module _ (commits : Bool) (source : SourceTold) (history : List Entry) where
   has_run sink ran (Err ReadFault) writes runs = absurd writes
   has_run sink ran (Err DiskFault) writes runs = absurd writes
   has_run sink ran (Err HostFault) writes runs = absurd writes
+
+-- No transcript ends a run before it began.
+pub before_run : (sink : SinkTold) (ran : Option Cause) (written : Result (Unit {0}) Cause) → IfErr written (WritingEnds sink) → IsBeforeRun (first_of ran (cause_in written)) → IsBeforeRun ran
+before_run sink None (Ok y) writes before = before
+before_run sink (Some why) (Ok y) writes before = before
+before_run sink ran (Err NoMemory) writes before = absurd before
+before_run sink None (Err WriteFault) writes before = absurd before
+before_run sink (Some why) (Err WriteFault) writes before = before
+before_run sink ran (Err (ScriptRefused line)) writes before = absurd writes
+before_run sink ran (Err WordsRefused) writes before = absurd writes
+before_run sink ran (Err NotStore) writes before = absurd writes
+before_run sink ran (Err (Corrupt place)) writes before = absurd writes
+before_run sink ran (Err ReadFault) writes before = absurd writes
+before_run sink ran (Err DiskFault) writes before = absurd writes
+before_run sink ran (Err HostFault) writes before = absurd writes

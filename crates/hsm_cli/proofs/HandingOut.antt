@@ -46,12 +46,12 @@ module _ (name : List ℕ) (old new : Hosted) where
   Gives-others (Err Failed) gives = all name old new (ap (λ h. h.disks) gives.1)
   Gives-others (Err Memory) gives = absurd gives
 
-  pub Makes-called : (len : ℕ) (result : Result (Fused Recorded) HostRefusal) → Makes name len old new result → new.calls ≡ raised old.calls
-  Makes-called len (Ok d) makes = ap (λ h. h.calls) makes.2
-  Makes-called len (Err Failed) makes = ap (λ h. h.calls) makes.1
-  Makes-called len (Err Memory) makes = ap (λ h. h.calls) makes.1
+  pub Makes-made : (len : ℕ) (result : Result (Fused Recorded) HostRefusal) → Makes name len old new result → (new.makes ≡ raised old.makes) × (new.openings ≡ old.openings)
+  Makes-made len (Ok d) makes = (ap (λ h. h.makes) makes.2, ap (λ h. h.openings) makes.2)
+  Makes-made len (Err Failed) makes = (ap (λ h. h.makes) makes.1, ap (λ h. h.openings) makes.1)
+  Makes-made len (Err Memory) makes = (ap (λ h. h.makes) makes.1, ap (λ h. h.openings) makes.1)
 
-  pub Gives-called : (result : Result (Fused Recorded) HostRefusal) → Gives name old new result → new.calls ≡ raised old.calls
-  Gives-called (Ok d) gives = ap (λ h. h.calls) gives.2
-  Gives-called (Err Failed) gives = ap (λ h. h.calls) gives.1
-  Gives-called (Err Memory) gives = absurd gives
+  pub Gives-opened : (result : Result (Fused Recorded) HostRefusal) → Gives name old new result → (new.openings ≡ raised old.openings) × (new.makes ≡ old.makes)
+  Gives-opened (Ok d) gives = (ap (λ h. h.openings) gives.2, ap (λ h. h.makes) gives.2)
+  Gives-opened (Err Failed) gives = (ap (λ h. h.openings) gives.1, ap (λ h. h.makes) gives.1)
+  Gives-opened (Err Memory) gives = absurd gives

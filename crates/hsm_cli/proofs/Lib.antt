@@ -7,3 +7,6 @@ pub mod Crashes
 pub mod Completeness
 pub mod NamedDisks
 pub mod HandingOut
+pub mod Files
+pub mod Noted
+pub mod Committing

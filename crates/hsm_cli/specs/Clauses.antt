@@ -1,26 +1,21 @@
 -- What is promised of a run: each clause over the words, the outcome, and what the objects tell.
-use Rattle.std.specs.Prelude.{ℕ, ◌≡◌, ◌≢◌, ◌⊎◌, ◌↔◌, List, [], take, Bool, true, false, Option, Some, None, IfSome, IsSome}
+use Rattle.std.specs.Prelude.{ℕ, ◌≡◌, ◌≢◌, ◌+◌, ◌⊎◌, ◌↔◌, List, [], take, Bool, true, false, Option, Some, None, IfSome, IsSome}
 use Rattle.std.specs.Io.KnownBytes.{Appends, IsAtEnd}
 use Rattle.disk_model.specs.declared.device.Disk as disk
 use Rattle.disk_model.specs.Calls.{Rose, raised}
 use Rattle.disk_model.specs.Moments.{MayBe, LeavesOnly, Keeps, Same}
 use Rattle.commit_slots.specs.Images.{IsStore, IsEmptyStore}
 use Rattle.meta_store.specs.Images.{IsCorruptAt}
-use Rattle.hsm_types.specs.declared.keys.FileKey.{FileKey}
 use Rattle.plain_model.specs.declared.entries.Entry.{Entry}
 use Rattle.plain_model.specs.Render.{text_of}
 use Rattle.plain_model.specs.Plain.{File}
 use Rattle.plain_model.specs.Faults.{has_fault}
-use Rattle.plain_model.specs.Step.{start}
-use Rattle.plain_model.specs.Legal.{Legal, After, NoClash, Once}
-use Rattle.plain_model.specs.PlainFold.{plain_after}
 use Rattle.plain_model.specs.State.{Held, nothing_held}
-use Rattle.plain_model.specs.Stands.{Stands, StandsFor}
-use Rattle.plain_model.specs.Exact.{Exact, state_by}
-use Rattle.plain_model.specs.Side.{sides_of, side_after}
-use Rattle.plain_model.specs.Stamps.{stamp}
+use Rattle.plain_model.specs.Stands.{Stands}
+use Rattle.plain_model.specs.Laws.{IsPlain, IsGoodRun}
+use Rattle.plain_model.specs.Exact.{held_by}
 use Rattle.plain_model.specs.Synced.{synced}
-use Rattle.file_store.specs.Stores.{Store, IsRecovered, IsDurable}
+use Rattle.file_store.specs.Stores.{Store, superblock_of, IsRecovered, IsDurable}
 use Rattle.hsm_core.specs.Crashes.{IsPrefix}
 use Rattle.script_text.specs.Scripts.{IsScript, IsFirstBad}
 use Rattle.script_text.specs.declared.lines.Line.{Line}
@@ -30,7 +25,7 @@ use Rattle.hsm_cli.specs.declared.outcomes.Outcome.{Outcome}
 use Rattle.hsm_cli.specs.Commands.{Form, Format, Replay, ReplayStore, geometry_number, fsid_of}
 use Rattle.hsm_cli.specs.Statuses.{status_of, place_of}
 use Rattle.hsm_cli.specs.Sources.{script_bytes, GivesFirst, GivesWhole}
-use Rattle.hsm_cli.specs.Openings.{opened_in, superblock_at, held_at, base_of, opening_at}
+use Rattle.hsm_cli.specs.Openings.{opened_in, superblock_at, held_at, base_of}
 use Rattle.hsm_cli.specs.Follows.{RunsAll, RunsFirst}
 use Rattle.hsm_cli.specs.Hosts.{IsHanded, HoldsNothing, HoldsOthers, HoldsAll}
 use Rattle.hsm_cli.specs.Told.{SourceTold, SinkTold, HostTold}
@@ -79,18 +74,11 @@ ReadingClause (Some (ReplayStore path dir)) source o = HasReadOn (opened_in o) s
 
 -- ---- the legality clause and the plain clause
 
--- Over the store that the run began with. From each plain map that it stands for the history is legal; each token is used once; each answer is the
--- exact one; and what each beginning of the history leaves stands for the map that it leaves, with the mapped blocks of the rules and the stamps of
--- the accesses.
-pub record IsLegalFrom {D : Type 0} (opened : Option (Store D)) (history : List Entry) : Type 0 where
-  pub legal : (P : List File) → Stands (held_at opened).files P → Legal (superblock_at opened) (start P) history
-  pub once : Once history
-  pub exact : Exact (superblock_at opened) (opening_at opened) history
-  pub stands : (P : List File) → Stands (held_at opened).files P → (i : ℕ) → StandsFor (state_by (superblock_at opened) (opening_at opened) (take i history)).held (After (start P) (take i history))
-  pub sides : (P : List File) → Stands (held_at opened).files P → (i : ℕ)
-      → sides_of (state_by (superblock_at opened) (opening_at opened) (take i history)).held.files ≡ side_after (start P) (sides_of (held_at opened).files) (take i history)
-  pub stamps : (P : List File) → Stands (held_at opened).files P → (i : ℕ) → (k : FileKey)
-      → (state_by (superblock_at opened) (opening_at opened) (take i history)).stamps k ≡ stamp (start P) (base_of opened) k (take i history)
+-- Over the store that the run began with the history is a good run: each answer is the exact one, each token is given once, and from each plain map
+-- that the store stands for it is legal; what each beginning of it leaves stands for the map that it leaves, with the mapped blocks and all that
+-- sessions keep by the rules, and with the stamps of the accesses. That the files are plain, which is a part of it too, is the next clause.
+abbrev pub IsGoodOver : {D : Type 0} → Option (Store D) → List Entry → Type 0
+IsGoodOver opened history = IsGoodRun (superblock_at opened) (base_of opened) (held_at opened) history
 
 -- the disk that is given back has failed
 pub record HasFailed {D : Type 0} (g : disk.Ghosts D) (given : Option D) : Type 0 where
@@ -101,27 +89,46 @@ pub record HasFailed {D : Type 0} (g : disk.Ghosts D) (given : Option D) : Type 
 -- An answer for a fault of the disk comes only where the disk has failed, and then the run ends for that fault, or for want of memory. A run on a store that was opened ends
 -- for a fault of the disk only where an entry says so.
 pub record LegalityClause {D : Type 0} (g : disk.Ghosts D) (o : Outcome D) : Type 0 where
-  pub from : IsLegalFrom (opened_in o) o.history
+  pub from : IsGoodOver (opened_in o) o.history
   pub caused : has_fault o.history ≡ true → HasFailed g o.disk
   pub told : o.cause ≡ Some DiskFault → IsSome (opened_in o) → has_fault o.history ≡ true
   pub faultless : o.cause ≢ Some DiskFault → o.cause ≢ Some NoMemory → has_fault o.history ≡ false
 
--- Where no digest clashes, the files after each beginning of the history are those that were never moved.
-abbrev pub IsPlainFrom : {D : Type 0} → Option (Store D) → List Entry → Type 0
-IsPlainFrom opened history = (P : List File) → Stands (held_at opened).files P → NoClash (start P) history → (i : ℕ) → (After (start P) (take i history)).files ≡ plain_after P (take i history)
+-- From each plain map that the store stands for: where no digest clashes, the files after each beginning of the history are those that were never moved.
+abbrev pub IsPlainOver : {D : Type 0} → Option (Store D) → List Entry → Type 0
+IsPlainOver opened history = (P : List File) → Stands (held_at opened).files P → IsPlain P history
 
 abbrev pub PlainClause : {D : Type 0} → Outcome D → Type 0
-PlainClause o = IsPlainFrom (opened_in o) o.history
+PlainClause o = IsPlainOver (opened_in o) o.history
 
 -- ---- the crash clause
 
+-- Recovery finds what all entries of the history have left, under the number of the last one before the last sync.
+abbrev pub IsWhole : {D : Type 0} → Store D → List Entry → List ℕ → Type 0
+IsWhole opened history image = IsRecovered opened.meta.durable.geometry opened.meta.fsid (opened.meta.number + synced history) (held_by (superblock_of opened) opened.meta.number opened.held history) image
+
+-- the script could not be read, or was refused, so no line was run
+abbrev pub IsBeforeRun : Option Cause → Type 0
+IsBeforeRun (Some (ScriptRefused line)) = Unit {0}
+IsBeforeRun (Some ReadFault) = Unit {0}
+IsBeforeRun other = ⊥
+
+-- the script was run to its end, though the transcript may not have been written
+abbrev pub RanToItsEnd : Option Cause → Type 0
+RanToItsEnd None = Unit {0}
+RanToItsEnd (Some WriteFault) = Unit {0}
+RanToItsEnd (Some other) = ⊥
+
 -- A crash at any moment since the host handed the disk out leaves what the opened store and the first entries make, under the number of the last of
--- them; and a crash from now on leaves all that was synced.
-pub record IsCrashSafe {D : Type 0} (g : disk.Ghosts D) (held : List ℕ → Type 0) (opened : Store D) (history : List Entry) (disk : D) : Type 0 where
+-- them; and a crash from now on leaves all that was synced. Where the script was run to its end it leaves what all entries make, under the number of
+-- the last one before the commit. Where no line was run, as the script could not be read or was refused, the disk stays as it was.
+pub record IsCrashSafe {D : Type 0} (g : disk.Ghosts D) (held : List ℕ → Type 0) (opened : Store D) (history : List Entry) (cause : Option Cause) (disk : D) : Type 0 where
   pub handed : D
   pub by_host : IsHanded g held handed
   pub since : LeavesOnly g handed disk (IsPrefix opened history 0)
   pub now : (c : List ℕ) → MayBe g disk c → IsPrefix opened history (synced history) c
+  pub whole : RanToItsEnd cause → (c : List ℕ) → MayBe g disk c → IsWhole opened history c
+  pub untouched : IsBeforeRun cause → Keeps g handed disk Same
 
 -- a disk that wasn't opened as a store stays as it was
 pub record IsUntouched {D : Type 0} (g : disk.Ghosts D) (held : List ℕ → Type 0) (disk : D) : Type 0 where
@@ -129,15 +136,15 @@ pub record IsUntouched {D : Type 0} (g : disk.Ghosts D) (held : List ℕ → Typ
   pub by_host : IsHanded g held handed
   pub keeps : Keeps g handed disk Same
 
-abbrev pub LeavesSafe : {D : Type 0} → disk.Ghosts D → (List ℕ → Type 0) → Option (Store D) → List Entry → Option D → Type 0
-LeavesSafe g held (Some opened) history (Some disk) = IsCrashSafe g held opened history disk
-LeavesSafe g held None history (Some disk) = IsUntouched g held disk × (history ≡ [])
-LeavesSafe g held (Some opened) history None = ⊥
-LeavesSafe g held None history None = history ≡ []
+abbrev pub LeavesSafe : {D : Type 0} → disk.Ghosts D → (List ℕ → Type 0) → Option (Store D) → List Entry → Option Cause → Option D → Type 0
+LeavesSafe g held (Some opened) history cause (Some disk) = IsCrashSafe g held opened history cause disk
+LeavesSafe g held None history cause (Some disk) = IsUntouched g held disk × (history ≡ [])
+LeavesSafe g held (Some opened) history cause None = ⊥
+LeavesSafe g held None history cause None = history ≡ []
 
 -- Only `replay PATH DIR` opens a store of the host.
 abbrev pub CrashClause : {D : Type 0} → disk.Ghosts D → Option Form → (List ℕ → List ℕ → Type 0) → Outcome D → Type 0
-CrashClause g (Some (ReplayStore path dir)) holds o = LeavesSafe g (holds path) (opened_in o) o.history o.disk
+CrashClause g (Some (ReplayStore path dir)) holds o = LeavesSafe g (holds path) (opened_in o) o.history o.cause o.disk
 CrashClause g (Some (Format path size)) holds o = opened_in o ≡ None
 CrashClause g (Some Replay) holds o = opened_in o ≡ None
 CrashClause g None holds o = opened_in o ≡ None
@@ -162,12 +169,13 @@ abbrev pub HandsOut : {D : Type 0} → List ℕ → (List ℕ → List ℕ → T
 HandsOut path old new (Some disk) = HoldsNothing (new path) × HoldsOthers path old new
 HandsOut path old new None = HoldsAll old new
 
--- Words that name a disk ask the host once, and change nothing else of what it holds; what came of it is given back. Words that name none leave the host alone.
-abbrev pub HostClause : {H D : Type 0} → (H → List ℕ → List ℕ → Type 0) → (H → ℕ) → Option Form → H → H → Outcome D → Type 0
-HostClause holds calls None old new o = (new ≡ old) × (o.disk ≡ None)
-HostClause holds calls (Some Replay) old new o = (new ≡ old) × (o.disk ≡ None)
-HostClause holds calls (Some (Format path size)) old new o = HandsOut path (holds old) (holds new) o.disk × (calls new ≡ raised (calls old))
-HostClause holds calls (Some (ReplayStore path dir)) old new o = HandsOut path (holds old) (holds new) o.disk × (calls new ≡ raised (calls old))
+-- `format` asks the host once to make a disk, and `replay PATH DIR` once for one that is there. They change nothing else of what it holds; what came of
+-- it is given back. Words that name no disk leave the host alone.
+abbrev pub HostClause : {H D : Type 0} → (H → List ℕ → List ℕ → Type 0) → (H → ℕ) → (H → ℕ) → Option Form → H → H → Outcome D → Type 0
+HostClause holds makes openings None old new o = (new ≡ old) × (o.disk ≡ None)
+HostClause holds makes openings (Some Replay) old new o = (new ≡ old) × (o.disk ≡ None)
+HostClause holds makes openings (Some (Format path size)) old new o = HandsOut path (holds old) (holds new) o.disk × (makes new ≡ raised (makes old)) × (openings new ≡ openings old)
+HostClause holds makes openings (Some (ReplayStore path dir)) old new o = HandsOut path (holds old) (holds new) o.disk × (openings new ≡ raised (openings old)) × (makes new ≡ makes old)
 
 -- ---- the output clause
 

@@ -8,16 +8,16 @@ use Rattle.script_text.specs.declared.lines.Line.TheVariants.{Event}
 use Rattle.script_text.specs.Scripts.{IsScript}
 use Rattle.hsm_cli.specs.Sources.{script_bytes}
 
--- the entry is that of the event line
-abbrev pub IsEntryOf : Line → Entry → Type 0
-IsEntryOf (Event actor action seed) e = (e.actor ≡ actor) × (e.action ≡ action)
+-- the entries are those of the line: of an event line one, with its actor and its action
+abbrev pub IsPartOf : Line → List Entry → Type 0
+IsPartOf line [] = ⊥
+IsPartOf (Event actor action seed) (e ∷ []) = (e.actor ≡ actor) × (e.action ≡ action)
+IsPartOf line (e ∷ more) = ⊥
 
--- The history falls into parts, one for each line in order. An event line's part is one entry with its actor and its action.
+-- The history falls into parts, one for each line, in order.
 abbrev pub Follows : List Line → List Entry → Type 0
-Follows [] [] = Unit {0}
-Follows (line ∷ lines) (e ∷ es) = IsEntryOf line e × Follows lines es
-Follows [] (e ∷ es) = ⊥
-Follows (line ∷ lines) [] = ⊥
+Follows [] es = es ≡ []
+Follows (line ∷ lines) es = (part : List Entry) × ((rest : List Entry) × ((es ≡ part ++ rest) × IsPartOf line part × Follows lines rest))
 
 -- the history is that of the first lines
 pub record FollowsFirst (lines : List Line) (history : List Entry) : Type 0 where
@@ -28,9 +28,9 @@ pub record FollowsFirst (lines : List Line) (history : List Entry) : Type 0 wher
 
 -- the history got the line's part
 pub record AddsPart (line : Line) (old new : List Entry) : Type 0 where
-  pub entry : Entry
-  pub is_of : IsEntryOf line entry
-  pub added : new ≡ old ++ entry ∷ []
+  pub part : List Entry
+  pub is_of : IsPartOf line part
+  pub added : new ≡ old ++ part
 
 abbrev pub commit_line : Line
 commit_line = Event Store Commit None

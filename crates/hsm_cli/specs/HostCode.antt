@@ -16,8 +16,8 @@ fused_code disk =
 -- from the code of a disk in memory
 abbrev pub hosted_code : Coded Recorded → Coded Hosted
 hosted_code disk =
-    code_by (Disks × (List ℕ × (ℕ × (ℕ × Option ℕ))))
-    (coded× (code (coded_list coded_ℕ) (fused_code disk)) (coded× (coded_list coded_ℕ) (coded× coded_ℕ (coded× coded_ℕ (coded_option coded_ℕ)))))
-    (λ h. (h.disks, (h.failing, (h.calls, (h.faults, h.fuse)))))
-    (λ p. record { disks = p.0; failing = p.1.0; calls = p.1.1.0; faults = p.1.1.1.0; fuse = p.1.1.1.1 })
+    code_by (Disks × (List ℕ × (ℕ × (ℕ × (ℕ × Option ℕ)))))
+    (coded× (code (coded_list coded_ℕ) (fused_code disk)) (coded× (coded_list coded_ℕ) (coded× coded_ℕ (coded× coded_ℕ (coded× coded_ℕ (coded_option coded_ℕ))))))
+    (λ h. (h.disks, (h.failing, (h.makes, (h.openings, (h.faults, h.fuse))))))
+    (λ p. record { disks = p.0; failing = p.1.0; makes = p.1.1.0; openings = p.1.1.1.0; faults = p.1.1.1.1.0; fuse = p.1.1.1.1.1 })
     (λ _. refl)

@@ -2,7 +2,8 @@ pub mod Counted
 pub mod Hosts
 pub mod MemHosts
 pub mod HostCode
-pub mod FileDisks
+pub mod Files
+pub mod FileCalls
 pub mod Statuses
 pub mod Commands
 pub mod Sources

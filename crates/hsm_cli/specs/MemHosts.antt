@@ -6,7 +6,7 @@ use Rattle.std.specs.Cmp.Lexicographic.{slice_cmp}
 use Rattle.std.specs.FinMap.{FinMap, get, remove, from_entries}
 use Rattle.std.specs.BTreeMap.{BTreeMap}
 use Rattle.disk_model.specs.Images.{Within}
-use Rattle.disk_model.specs.Calls.{raised}
+use Rattle.disk_model.specs.Calls.{raised, both_faults}
 use Rattle.disk_model.specs.Fuse.{Fused}
 use Rattle.disk_model.specs.Medium.{Recorded, medium_of, IsGiven, MayLeave}
 use Rattle.hsm_cli.specs.declared.hosts.HostRefusal.{HostRefusal}
@@ -20,8 +20,9 @@ pub record Hosted : Type 0 where
   pub disks : Disks
   -- the numbers of the calls that fail, from 0
   pub failing : List ℕ
-  -- how many calls were made
-  pub calls : ℕ
+  -- how many calls of `make` and of `disk` there were
+  pub makes : ℕ
+  pub openings : ℕ
   pub faults : ℕ
   -- the fuse of a disk that is made
   pub fuse : Option ℕ
@@ -65,28 +66,32 @@ blank len fuse = record {
 
 -- the next call is to fail
 abbrev pub IsToFail : Hosted → Type 0
-IsToFail h = Contains h.failing h.calls
+IsToFail h = Contains h.failing (both_faults h.makes h.openings)
 
--- the host after a call
-abbrev pub called : Hosted → Hosted
-called h = record h { calls = raised h.calls }
+-- the host after a call of `make`
+abbrev pub asked_to_make : Hosted → Hosted
+asked_to_make h = record h { makes = raised h.makes }
 
--- after a call that failed
+-- after a call of `disk`
+abbrev pub asked_for : Hosted → Hosted
+asked_for h = record h { openings = raised h.openings }
+
+-- with a fault more
 abbrev pub faulted : Hosted → Hosted
-faulted h = record h { calls = raised h.calls; faults = raised h.faults }
+faulted h = record h { faults = raised h.faults }
 
--- after a call that handed out what stands under this name
+-- without what stands under this name
 abbrev pub handed_out : List ℕ → Hosted → Hosted
-handed_out name h = record h { calls = raised h.calls; disks = remove h.disks name }
+handed_out name h = record h { disks = remove h.disks name }
 
 -- what `make` answers, and what it leaves
 abbrev pub Makes : List ℕ → ℕ → Hosted → Hosted → Result (Fused Recorded) HostRefusal → Type 0
-Makes name len old new (Ok d) = ¬ (IsToFail old) × (d ≡ blank len old.fuse) × (new ≡ handed_out name old)
-Makes name len old new (Err Failed) = IsToFail old × (new ≡ faulted old)
-Makes name len old new (Err Memory) = ¬ (IsToFail old) × (new ≡ called old)
+Makes name len old new (Ok d) = ¬ (IsToFail old) × (d ≡ blank len old.fuse) × (new ≡ handed_out name (asked_to_make old))
+Makes name len old new (Err Failed) = IsToFail old × (new ≡ faulted (asked_to_make old))
+Makes name len old new (Err Memory) = ¬ (IsToFail old) × (new ≡ asked_to_make old)
 
 -- what `disk` answers, and what it leaves
 abbrev pub Gives : List ℕ → Hosted → Hosted → Result (Fused Recorded) HostRefusal → Type 0
-Gives name old new (Ok d) = ¬ (IsToFail old) × (get old.disks name ≡ Some d) × (new ≡ handed_out name old)
-Gives name old new (Err Failed) = (IsToFail old ⊎ (get old.disks name ≡ None)) × (new ≡ faulted old)
+Gives name old new (Ok d) = ¬ (IsToFail old) × (get old.disks name ≡ Some d) × (new ≡ handed_out name (asked_for old))
+Gives name old new (Err Failed) = (IsToFail old ⊎ (get old.disks name ≡ None)) × (new ≡ faulted (asked_for old))
 Gives name old new (Err Memory) = ⊥

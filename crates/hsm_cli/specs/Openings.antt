@@ -3,7 +3,6 @@ use Rattle.std.specs.Prelude.{ℕ, Option, Some, None}
 use Rattle.std.specs.Option.{option_map}
 use Rattle.hsm_types.specs.declared.stores.Superblock.{Superblock}
 use Rattle.plain_model.specs.State.{Held, nothing_held}
-use Rattle.plain_model.specs.States.{State, just_opened}
 use Rattle.file_store.specs.Stores.{Store, superblock_of}
 use Rattle.hsm_cli.specs.declared.outcomes.Outcome.{Outcome}
 
@@ -29,7 +28,3 @@ held_at (Some s) = s.held
 abbrev pub base_of : {D : Type 0} → Option (Store D) → ℕ
 base_of None = 0
 base_of (Some s) = s.meta.number
-
--- the state in which the run began
-abbrev pub opening_at : {D : Type 0} → Option (Store D) → State
-opening_at opened = just_opened (base_of opened) (held_at opened)

@@ -28,8 +28,11 @@ pub trait Host {
     /// How often the host has failed. The count stops at the greatest u64.
     ghost fault_count: { Self → ℕ };
 
-    /// How often it was asked for a disk, as far as a u64 counts.
-    ghost call_count: { Self → ℕ };
+    /// How often it was asked to make a disk, as far as a u64 counts.
+    ghost make_count: { Self → ℕ };
+
+    /// How often it was asked for a disk that is there.
+    ghost open_count: { Self → ℕ };
 
     /// How often a call has failed.
     fn faults(&self) -> u64
@@ -44,7 +47,8 @@ pub trait Host {
         ensures gone { OnOk result (HoldsNothing (holds self.new path.now)) }
         ensures others { HoldsOthers path.now (holds self.old) (holds self.new) }
         ensures refused { OnErr result (HoldsAll (holds self.old) (holds self.new)) }
-        ensures called { call_count self.new ≡ raised (call_count self.old) }
+        ensures made { make_count self.new ≡ raised (make_count self.old) }
+        ensures unopened { open_count self.new ≡ open_count self.old }
         ensures cause { HasHostCause result (fault_count self.old) (fault_count self.new) };
 
     /// The disk of that name, or `Failed` where there is none. The host has it no more until it is put back.
@@ -55,7 +59,8 @@ pub trait Host {
         ensures gone { OnOk result (HoldsNothing (holds self.new path.now)) }
         ensures others { HoldsOthers path.now (holds self.old) (holds self.new) }
         ensures refused { OnErr result (HoldsAll (holds self.old) (holds self.new)) }
-        ensures called { call_count self.new ≡ raised (call_count self.old) }
+        ensures opened { open_count self.new ≡ raised (open_count self.old) }
+        ensures unmade { make_count self.new ≡ make_count self.old }
         ensures cause { HasHostCause result (fault_count self.old) (fault_count self.new) };
 }
 

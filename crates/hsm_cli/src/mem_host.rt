@@ -1,10 +1,10 @@
 //! A host of disks in memory, with calls that fail.
-ghost use Rattle.std.specs.Prelude.{◌≡◌, None, Some, IfOk, OnOk, IfErr, option_map};
+ghost use Rattle.std.specs.Prelude.{◌≡◌, ◌↔◌, None, Some, IfOk, OnOk, IfErr, IsTrue, option_map};
 ghost use Rattle.std.specs.BTreeMap.{IsUnchanged, Updates};
 ghost use Rattle.std.specs.String.{string_cmp};
 ghost use Rattle.std.specs.FinMap as map;
 ghost use Rattle.hsm_cli.specs.Hosts.{HasHostCause};
-ghost use Rattle.hsm_cli.specs.MemHosts.{IsAtRest, at_rest, image_at, blank, IsToFail, called, faulted, Makes, Gives};
+ghost use Rattle.hsm_cli.specs.MemHosts.{IsAtRest, at_rest, image_at, blank, IsToFail, asked_to_make, asked_for, faulted, Makes, Gives};
 
 use crate::hosts::{Host, HostRefusal, fault};
 use disk_model::{FuseDisk, MemDisk};
@@ -19,7 +19,8 @@ pub struct MemHost {
     alloc: Global,
     disks: BTreeMap<String, FuseDisk<MemDisk>>,
     failing: Vec<u64>,
-    calls: u64,
+    makes: u64,
+    openings: u64,
     faults: u64,
     fuse: Option<u64>,
 }
@@ -33,7 +34,7 @@ impl Model for MemHost {
 
     ghost coded = { hosted_code disk.the_row.coded };
 
-    ghost view = { λ h. record { disks = disks_of h.disks; failing = h.failing.items; calls = h.calls; faults = h.faults; fuse = h.fuse } };
+    ghost view = { λ h. record { disks = disks_of h.disks; failing = h.failing.items; makes = h.makes; openings = h.openings; faults = h.faults; fuse = h.fuse } };
 
     ghost invariant = { λ h. AllAtRest (disks_of h.disks) };
 }
@@ -41,13 +42,14 @@ impl Model for MemHost {
 impl MemHost {
     /// A host without disks. The calls with these numbers will fail.
     pub fn new(alloc: Global, failing: Vec<u64>) -> MemHost
-        ensures { result ≡ record { disks = map.empty; failing = failing.items; calls = 0; faults = 0; fuse = None } }
+        ensures { result ≡ record { disks = map.empty; failing = failing.items; makes = 0; openings = 0; faults = 0; fuse = None } }
     {
         MemHost {
             alloc,
             disks: BTreeMap::new(alloc),
             failing,
-            calls: 0,
+            makes: 0,
+            openings: 0,
             faults: 0,
             fuse: None,
         }
@@ -85,14 +87,36 @@ impl MemHost {
         put(&mut self.disks, name, disk)
     }
 
-    // Counts a call, which fails if its number is listed.
-    fn begin(&mut self) -> Result<(), HostRefusal>
-        ensures ok { OnOk result (¬ (IsToFail self.old) × (self.new ≡ called self.old)) }
-        ensures err { IfErr result (λ e. (e ≡ HostRefusal.Failed) × IsToFail self.old × (self.new ≡ faulted self.old)) }
+    // Whether the next call is to fail.
+    fn is_to_fail(&self) -> bool
+        ensures { IsTrue result ↔ IsToFail self.now }
+    {
+        self.failing
+            .contains(&self.makes.saturating_add(self.openings))
+    }
+
+    // Counts a call of `make`, which fails if its number is listed.
+    fn begin_making(&mut self) -> Result<(), HostRefusal>
+        ensures ok { OnOk result (¬ (IsToFail self.old) × (self.new ≡ asked_to_make self.old)) }
+        ensures err { IfErr result (λ e. (e ≡ HostRefusal.Failed) × IsToFail self.old × (self.new ≡ faulted (asked_to_make self.old))) }
         ensures cause { HasHostCause result self.old.faults self.new.faults }
     {
-        let fails = self.failing.contains(&self.calls);
-        self.calls = self.calls.saturating_add(1);
+        let fails = self.is_to_fail();
+        self.makes = self.makes.saturating_add(1);
+        if fails {
+            return Err(fault(&mut self.faults));
+        }
+        Ok(())
+    }
+
+    // Counts a call of `disk`, which fails if its number is listed.
+    fn begin_opening(&mut self) -> Result<(), HostRefusal>
+        ensures ok { OnOk result (¬ (IsToFail self.old) × (self.new ≡ asked_for self.old)) }
+        ensures err { IfErr result (λ e. (e ≡ HostRefusal.Failed) × IsToFail self.old × (self.new ≡ faulted (asked_for self.old))) }
+        ensures cause { HasHostCause result self.old.faults self.new.faults }
+    {
+        let fails = self.is_to_fail();
+        self.openings = self.openings.saturating_add(1);
         if fails {
             return Err(fault(&mut self.faults));
         }
@@ -105,7 +129,7 @@ impl MemHost {
         ensures at_rest { IfOk result IsAtRest }
         ensures cause { HasHostCause result self.old.faults self.new.faults }
     {
-        self.begin()?;
+        self.begin_making()?;
         let Ok(disk) = zeros(self.alloc, len, self.fuse) else {
             return Err(HostRefusal::Memory);
         };
@@ -119,7 +143,7 @@ impl MemHost {
         ensures at_rest { IfOk result IsAtRest }
         ensures cause { HasHostCause result self.old.faults self.new.faults }
     {
-        self.begin()?;
+        self.begin_opening()?;
         match self.disks.remove(path) {
             Some(disk) => Ok(disk),
             None => Err(fault(&mut self.faults)),
@@ -141,7 +165,9 @@ impl Host for MemHost {
 
     ghost fault_count = { λ h. h.faults };
 
-    ghost call_count = { λ h. h.calls };
+    ghost make_count = { λ h. h.makes };
+
+    ghost open_count = { λ h. h.openings };
 
     fn faults(&self) -> u64 {
         self.faults
@@ -155,7 +181,8 @@ impl Host for MemHost {
         ensures gone { OnOk result (HoldsNothing (HasImage self.new path.now)) }
         ensures others { HoldsOthers path.now (HasImage self.old) (HasImage self.new) }
         ensures refused { OnErr result (HoldsAll (HasImage self.old) (HasImage self.new)) }
-        ensures called { self.new.calls ≡ raised self.old.calls }
+        ensures made { self.new.makes ≡ raised self.old.makes }
+        ensures unopened { self.new.openings ≡ self.old.openings }
         ensures cause { HasHostCause result self.old.faults self.new.faults }
         ensures makes { Makes path.now len self.old self.new result }
     {
@@ -169,7 +196,8 @@ impl Host for MemHost {
         ensures gone { OnOk result (HoldsNothing (HasImage self.new path.now)) }
         ensures others { HoldsOthers path.now (HasImage self.old) (HasImage self.new) }
         ensures refused { OnErr result (HoldsAll (HasImage self.old) (HasImage self.new)) }
-        ensures called { self.new.calls ≡ raised self.old.calls }
+        ensures opened { self.new.openings ≡ raised self.old.openings }
+        ensures unmade { self.new.makes ≡ self.old.makes }
         ensures cause { HasHostCause result self.old.faults self.new.faults }
         ensures gives { Gives path.now self.old self.new result }
     {

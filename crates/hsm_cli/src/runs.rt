@@ -4,13 +4,13 @@ ghost use Rattle.std.specs.List.{AllByRecursion};
 ghost use Rattle.disk_model.specs.Calls.{Rose};
 ghost use Rattle.plain_model.specs.Faults.{has_fault};
 ghost use Rattle.script_text.specs.Lines.{IsLine};
-ghost use Rattle.hsm_cli.specs.Follows.{Follows, FollowsFirst, AddsPart, lines_run};
-ghost use Rattle.hsm_cli.specs.Runs.{IsOpenedAnew, GoesOn};
+ghost use Rattle.hsm_cli.specs.Follows.{Follows, FollowsFirst, AddsPart, lines_run, commit_line};
+ghost use Rattle.hsm_cli.specs.Runs.{IsOpenedAnew, GoesOn, IsAllDurable};
 
 use disk_model::Disk;
 use hsm_core::Hsm;
 use hsm_types::{CallRefusal, DmRefusal, DmReply, Reply};
-use plain_model::{Action, Actor};
+use plain_model::{Action, Actor, synced_grows};
 use script_text::{Line, Script};
 use std::alloc::Global;
 
@@ -36,19 +36,13 @@ pub(crate) fn run<D: Disk>(
     ensures memory { IsErrOf result Stop.Memory → hsm.new.files.failed ≡ false }
     ensures disk { IsErrOf result Stop.Disk → Rose (D.fault_count hsm.old.files.disk) (D.fault_count hsm.new.files.disk) }
     ensures fault { IsErrOf result Stop.Disk → has_fault hsm.new.history ≡ true }
+    ensures durable { commits ≡ true → OnOk result (IsAllDurable hsm.new) }
 {
-    let mut lines = script.into_vec();
+    run_lines(alloc, hsm, script.into_vec())?;
     if commits {
-        let commit = Line::Event {
-            actor: Actor::Store,
-            action: Action::Commit,
-            seed: None,
-        };
-        let Ok(()) = lines.push(commit) else {
-            return Err(Stop::Memory);
-        };
+        return commit(alloc, hsm);
     }
-    run_lines(alloc, hsm, lines)
+    Ok(())
 }
 
 /// Runs the lines, in order, as far as there is memory and the disk doesn't fail.
@@ -83,12 +77,29 @@ fn run_line<D: Disk>(alloc: Global, hsm: &mut Hsm<D>, line: Line) -> Result<(), 
     ensures fault { IsErrOf result Stop.Disk → has_fault hsm.new.history ≡ true }
 {
     let Line::Event { actor, action, .. } = line;
-    match (actor, action) {
-        (Actor::Caller(caller), Action::Issue(call)) => goes_on(&hsm.issue(alloc, caller, call)),
-        (Actor::Session(sid), Action::Dm(call)) => is_served(&hsm.dm(alloc, sid, call)),
-        (Actor::Store, Action::Commit) => goes_on(&hsm.commit(alloc)),
+    match (&actor, action) {
+        (Actor::Caller(caller), Action::Issue(call)) => goes_on(&hsm.issue(alloc, *caller, call)),
+        (Actor::Session(sid), Action::Dm(call)) => is_served(&hsm.dm(alloc, *sid, call)),
+        (Actor::Store, Action::Commit) => commit(alloc, hsm),
         _ => unreachable!(),
     }
+}
+
+/// Makes all durable.
+#[tactic(auto, using(crate::proofs::Running::fault_kept))]
+fn commit<D: Disk>(alloc: Global, hsm: &mut Hsm<D>) -> Result<(), Stop>
+    requires { hsm.old.files.failed ≡ false }
+    ensures goes_on { GoesOn D.Disk hsm.old hsm.new }
+    ensures ok { OnOk result (AddsPart commit_line hsm.old.history hsm.new.history) }
+    ensures working { OnOk result (hsm.new.files.failed ≡ false) }
+    ensures err { OnErr result ((hsm.new.history ≡ hsm.old.history) ⊎ AddsPart commit_line hsm.old.history hsm.new.history) }
+    ensures memory { IsErrOf result Stop.Memory → hsm.new.files.failed ≡ false }
+    ensures disk { IsErrOf result Stop.Disk → Rose (D.fault_count hsm.old.files.disk) (D.fault_count hsm.new.files.disk) }
+    ensures fault { IsErrOf result Stop.Disk → has_fault hsm.new.history ≡ true }
+    ensures durable { OnOk result (IsAllDurable hsm.new) }
+{
+    synced_grows();
+    goes_on(&hsm.commit(alloc))
 }
 
 /// Whether a run goes on after that reply.

@@ -9,16 +9,16 @@ ghost use Rattle.plain_model.specs.Synced.{synced};
 ghost use Rattle.hsm_core.specs.Crashes.{IsPrefix};
 ghost use Rattle.script_text.specs.Scripts.{IsScript};
 ghost use Rattle.hsm_cli.specs.Sources.{script_bytes, GivesFirst};
-ghost use Rattle.hsm_cli.specs.Clauses.{HasRun, HasRead, IsLegalFrom, IsPlainFrom};
+ghost use Rattle.hsm_cli.specs.Clauses.{HasRun, HasRead, IsGoodOver, IsPlainOver, IsWhole, IsBeforeRun, RanToItsEnd};
 ghost use Rattle.hsm_cli.specs.Endings.{cause_in, ScriptEnds, WritingEnds, RunEnds, first_of};
 ghost use Rattle.hsm_cli.specs.Told.{source_told, sink_told};
-ghost use Rattle.hsm_cli.specs.Runs.{IsOpenedAnew, GoesOn};
+ghost use Rattle.hsm_cli.specs.Runs.{IsOpenedAnew, GoesOn, IsAllDurable};
 
 use crate::causes::Cause;
 use crate::runs::{Stop, run};
 use crate::streams::{read_all, write_all};
 use disk_model::Disk;
-use file_store::FileStore;
+use file_store::{FileStore, one_recovery};
 use hsm_core::Hsm;
 use plain_model::{History, render};
 use script_text::{Failed, ParseRefusal, Script, Sink, Source, parse};
@@ -55,18 +55,21 @@ pub(crate) fn serve<D: Disk, I: Source, O: Sink>(
     ensures base { result.base ≡ hsm.opened.meta.number }
     ensures script { HasRun commits (source_told I.left I.fault_count source.old source.new) result.cause result.history }
     ensures reading { HasRead (source_told I.left I.fault_count source.old source.new) result.cause }
-    ensures legality { IsLegalFrom (Some hsm.opened) result.history }
+    ensures legality { IsGoodOver (Some hsm.opened) result.history }
     ensures caused { has_fault result.history ≡ true → Rose (D.fault_count hsm.opened.disk) (D.fault_count result.disk) }
     ensures told { result.cause ≡ Some Cause.DiskFault → has_fault result.history ≡ true }
     ensures faultless { result.cause ≢ Some Cause.DiskFault → result.cause ≢ Some Cause.NoMemory → has_fault result.history ≡ false }
-    ensures plain { IsPlainFrom (Some hsm.opened) result.history }
+    ensures plain { IsPlainOver (Some hsm.opened) result.history }
     ensures since { LeavesOnly D.Disk hsm.opened.disk result.disk (IsPrefix hsm.opened result.history 0) }
     ensures now { (c : List ℕ) → MayBe D.Disk result.disk c → IsPrefix hsm.opened result.history (synced result.history) c }
+    ensures whole { commits ≡ true → RanToItsEnd result.cause → (c : List ℕ) → MayBe D.Disk result.disk c → IsWhole hsm.opened result.history c }
+    ensures untouched { IsBeforeRun result.cause → result.disk ≡ hsm.files.disk }
     ensures first { (n : ℕ) × Appends (O.taken sink.old) (O.taken sink.new) (take n (text_of result.history)) }
     ensures done { result.cause ≡ None → Appends (O.taken sink.old) (O.taken sink.new) (text_of result.history) }
     ensures all { result.cause ≢ Some Cause.NoMemory → (Rose (O.fault_count sink.old) (O.fault_count sink.new) → ⊥) → Appends (O.taken sink.old) (O.taken sink.new) (text_of result.history) }
     ensures ends { RunEnds (Rose (D.fault_count hsm.opened.disk) (D.fault_count result.disk)) (source_told I.left I.fault_count source.old source.new) (sink_told O.taken O.fault_count sink.old sink.new) result.cause }
 {
+    one_recovery();
     let base = hsm.base();
     let ran = run_script(alloc, &mut hsm, commits, source);
     let (disk, history, opening) = hsm.close();
@@ -95,6 +98,9 @@ fn run_script<D: Disk, I: Source>(
     ensures ends { IfErr result (λ why. ScriptEnds (Rose (D.fault_count hsm.old.files.disk) (D.fault_count hsm.new.files.disk)) (source_told I.left I.fault_count source.old source.new) why) }
     ensures failed { hsm.new.files.failed ≡ true → IsErrOf result Cause.DiskFault }
     ensures fault { IsErrOf result Cause.DiskFault → has_fault hsm.new.history ≡ true }
+    ensures working { OnOk result (hsm.new.files.failed ≡ false) }
+    ensures durable { commits ≡ true → OnOk result (IsAllDurable hsm.new) }
+    ensures untouched { IsBeforeRun (cause_in result) → hsm.new ≡ hsm.old }
 {
     let script = read_script(alloc, source)?;
     match run(alloc, hsm, script, commits) {

@@ -8,7 +8,7 @@ ghost use Rattle.file_store.specs.Stores.{superblock_of, IsDurable};
 ghost use Rattle.hsm_cli.specs.Commands.{form_of, fsid_of, geometry_number};
 ghost use Rattle.hsm_cli.specs.Statuses.{status_of, place_of};
 ghost use Rattle.hsm_cli.specs.Openings.{opened_in, base_of, replay_store};
-ghost use Rattle.hsm_cli.specs.Clauses.{ScriptClause, ReadingClause, LegalityClause, PlainClause, CrashClause, FormatClause, HostClause, OutputClause, StatusClause, HasRun, HasRead, HasReadOn, IsLegalFrom, IsPlainFrom, LeavesSafe, IsFormatted, HandsOut, HasFailed, HasBegun, Why};
+ghost use Rattle.hsm_cli.specs.Clauses.{ScriptClause, ReadingClause, LegalityClause, PlainClause, CrashClause, FormatClause, HostClause, OutputClause, StatusClause, HasRun, HasRead, HasReadOn, IsGoodOver, IsPlainOver, LeavesSafe, IsFormatted, HandsOut, HasFailed, HasBegun, Why};
 ghost use Rattle.hsm_cli.specs.Endings.{RunEnds, FormatEnds};
 ghost use Rattle.hsm_cli.specs.Told.{source_told, sink_told, host_told};
 ghost use Rattle.hsm_cli.specs.Runs.{IsOpenedAnew};
@@ -45,7 +45,7 @@ pub fn hsm_main<H: Host, I: Source, O: Sink>(
     ensures plain { PlainClause result }
     ensures crash { CrashClause H.Disk.Disk (form_of (map string_bytes words.now)) (H.holds host.old) result }
     ensures format { FormatClause H.Disk.Disk (form_of (map string_bytes words.now)) result }
-    ensures host { HostClause H.holds H.call_count (form_of (map string_bytes words.now)) host.old host.new result }
+    ensures host { HostClause H.holds H.make_count H.open_count (form_of (map string_bytes words.now)) host.old host.new result }
     ensures output { OutputClause result (sink_told O.taken O.fault_count sink.old sink.new) }
     ensures status { StatusClause H.Disk.Disk (form_of (map string_bytes words.now)) (H.holds host.old) (source_told I.left I.fault_count source.old source.new) (sink_told O.taken O.fault_count sink.old sink.new) (host_told H.fault_count host.old host.new) result }
 {
@@ -63,7 +63,8 @@ fn format<H: Host>(alloc: Global, host: &mut H, path: &str, size: StoreSize) -> 
     ensures unopened { result ≡ record { status = status_of result.cause; at = place_of result.cause; cause = result.cause; base = 0; opening = None; history = []; disk = result.disk } }
     ensures formatted { result.cause ≡ None → IsFormatted H.Disk.Disk (geometry_number size) (fsid_of path.now) result.disk }
     ensures host { HandsOut path.now (H.holds host.old) (H.holds host.new) result.disk }
-    ensures asked { H.call_count host.new ≡ raised (H.call_count host.old) }
+    ensures made { H.make_count host.new ≡ raised (H.make_count host.old) }
+    ensures unasked { H.open_count host.new ≡ H.open_count host.old }
     ensures lent { result.cause ≡ Some Cause.HostFault → result.disk ≡ None }
     ensures back { result.disk ≡ None → (result.cause ≡ Some Cause.HostFault) ⊎ (result.cause ≡ Some Cause.NoMemory) }
     ensures ends { FormatEnds (HasFailed H.Disk.Disk result.disk) (host_told H.fault_count host.old host.new) result.cause }
@@ -95,9 +96,9 @@ fn replay<D: Disk, I: Source, O: Sink>(alloc: Global, source: &mut I, sink: &mut
     ensures told { (result.status ≡ status_of result.cause) × (result.at ≡ place_of result.cause) }
     ensures script { HasRun false (source_told I.left I.fault_count source.old source.new) result.cause result.history }
     ensures reading { HasRead (source_told I.left I.fault_count source.old source.new) result.cause }
-    ensures legality { IsLegalFrom {D = D} None result.history }
+    ensures legality { IsGoodOver {D = D} None result.history }
     ensures faultless { has_fault result.history ≡ false }
-    ensures plain { IsPlainFrom {D = D} None result.history }
+    ensures plain { IsPlainOver {D = D} None result.history }
     ensures output { OutputClause result (sink_told O.taken O.fault_count sink.old sink.new) }
     ensures ends { RunEnds ⊥ (source_told I.left I.fault_count source.old source.new) (sink_told O.taken O.fault_count sink.old sink.new) result.cause }
 {
@@ -151,10 +152,11 @@ fn replay_store<H: Host, I: Source, O: Sink>(
     ensures reading { HasReadOn (opened_in result) (source_told I.left I.fault_count source.old source.new) result.cause }
     ensures legality { LegalityClause H.Disk.Disk result }
     ensures plain { PlainClause result }
-    ensures crash { LeavesSafe H.Disk.Disk (H.holds host.old path.now) (opened_in result) result.history result.disk }
+    ensures crash { LeavesSafe H.Disk.Disk (H.holds host.old path.now) (opened_in result) result.history result.cause result.disk }
     ensures output { OutputClause result (sink_told O.taken O.fault_count sink.old sink.new) }
     ensures host { HandsOut path.now (H.holds host.old) (H.holds host.new) result.disk }
-    ensures asked { H.call_count host.new ≡ raised (H.call_count host.old) }
+    ensures asked { H.open_count host.new ≡ raised (H.open_count host.old) }
+    ensures unmade { H.make_count host.new ≡ H.make_count host.old }
     ensures lent { result.cause ≡ Some Cause.HostFault → result.disk ≡ None }
     ensures begun { HasBegun (opened_in result) result.cause }
     ensures opened { IfSome (opened_in result) (λ s. (s.held ≡ s.durable) × ((image : List ℕ) → H.holds host.old path.now image → IsDurable s image)) }

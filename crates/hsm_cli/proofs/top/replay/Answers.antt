@@ -1,5 +1,5 @@
-use Rattle.hsm_cli.proofs.Legality.{legal_new}
+use Rattle.hsm_cli.proofs.Legality.{good_new}
 use Rattle.hsm_cli.proofs.top.replay.Goals as goal
 
 pub returns-in-Ok-clause-legality : goal.returns-in-Ok-clause-legality
-returns-in-Ok-clause-legality g c = legal_new c.in-Ok.hsm.opened c.serve-served.result.history c.in-Ok.ensures.empty.0 c.in-Ok.ensures.empty.1 c.in-Ok.ensures.empty.2 c.serve-served.ensures.legality
+returns-in-Ok-clause-legality g c = good_new c.in-Ok.hsm.opened c.serve-served.result.history c.in-Ok.ensures.empty.0 c.in-Ok.ensures.empty.1 c.in-Ok.ensures.empty.2 c.serve-served.ensures.legality

@@ -1,3 +1,4 @@
+use Rattle.std.proofs.Common.{refl}
 use Rattle.hsm_cli.specs.Told.{source_told, sink_told, host_told}
 use Rattle.hsm_cli.proofs.Crashes.{crash_safe, why_unopened}
 use Rattle.hsm_cli.proofs.top.replay_store.Goals as goal
@@ -6,8 +7,8 @@ pub returns-in-Ok-open-clause-crash : goal.returns-in-Ok-open-clause-crash
 returns-in-Ok-open-clause-crash g c =
     rw c.serve-served.ensures.opening
     (crash_safe g.H.Disk.Disk (g.H.Host.holds c.args.host.now c.args.path.now) c.in-Ok.disk record { given = c.in-Ok.ensures.given; settled = c.in-Ok.ensures.settled; counted = c.in-Ok.ensures.counted }
-    c.in-Ok-open.hsm.opened c.in-Ok-open.hsm.files c.serve-served.result.history c.serve-served.result.disk c.in-Ok-open.ensures.opened.0
-    c.in-Ok-open.ensures.opening.0 c.in-Ok-open.ensures.opening.1 c.in-Ok-open.ensures.durable c.in-Ok-open.ensures.found.0 c.serve-served.ensures.since c.serve-served.ensures.now)
+    c.in-Ok-open.hsm.opened c.in-Ok-open.hsm.files c.serve-served.result.history c.serve-served.result.cause c.serve-served.result.disk c.in-Ok-open.ensures.opened.0
+    c.in-Ok-open.ensures.opening.0 c.in-Ok-open.ensures.opening.1 c.in-Ok-open.ensures.durable c.in-Ok-open.ensures.found.0 c.serve-served.ensures.since c.serve-served.ensures.now (c.serve-served.ensures.whole refl) c.serve-served.ensures.untouched)
 
 pub returns-in-Err-open-clause-why : goal.returns-in-Err-open-clause-why
 returns-in-Err-open-clause-why g c =

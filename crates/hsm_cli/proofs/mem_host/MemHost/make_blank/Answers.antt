@@ -13,5 +13,5 @@ invariant_of-self c = rw (removed (goal.at.invariant_of-self c).After-remove) (A
 
 pub returns-clause-makes : goal.returns-clause-makes
 returns-clause-makes c =
-    let was = c.self.view_is ∙ c.in_ok-begin.ensures.ok.1 in
-    (c.in_ok-begin.ensures.ok.0, c.in-Ok.ensures.value ∙ ap (λ h. blank c.args.len h.fuse) was, rw (removed (goal.at.returns-clause-makes c).After-remove) (ap (λ (h : Hosted). record h { disks = remove h.disks c.args.path.now }) was))
+    let was = c.self.view_is ∙ c.in_ok-begin_making.ensures.ok.1 in
+    (c.in_ok-begin_making.ensures.ok.0, c.in-Ok.ensures.value ∙ ap (λ h. blank c.args.len h.fuse) was, rw (removed (goal.at.returns-clause-makes c).After-remove) (ap (λ (h : Hosted). record h { disks = remove h.disks c.args.path.now }) was))

@@ -24,14 +24,14 @@ returns-in-Some-clause-at_rest c =
 pub returns-in-Some-clause-gives : goal.returns-in-Some-clause-gives
 returns-in-Some-clause-gives c =
     let at_remove = (goal.at.returns-in-Some-clause-gives c).After-remove in
-    let was = c.self.view_is ∙ c.in_ok-begin.ensures.ok.1 in
+    let was = c.self.view_is ∙ c.in_ok-begin_opening.ensures.ok.1 in
     let is = found at_remove ∙ c.in-Some.is in
-    (c.in_ok-begin.ensures.ok.0, ap (λ h. get h.disks c.args.path.now) (sym was) ∙ is, rw (removed at_remove) (ap (λ (h : Hosted). record h { disks = remove h.disks c.args.path.now }) was))
+    (c.in_ok-begin_opening.ensures.ok.0, ap (λ h. get h.disks c.args.path.now) (sym was) ∙ is, rw (removed at_remove) (ap (λ (h : Hosted). record h { disks = remove h.disks c.args.path.now }) was))
 
 pub returns-in-None-clause-gives : goal.returns-in-None-clause-gives
 returns-in-None-clause-gives c =
     let at_remove = (goal.at.returns-in-None-clause-gives c).After-remove in
-    let was = c.self.view_is ∙ c.in_ok-begin.ensures.ok.1 in
+    let was = c.self.view_is ∙ c.in_ok-begin_opening.ensures.ok.1 in
     let is = found at_remove ∙ c.in-None.is in
     let same = disks_of-same c.self.inside.disks c.remove.new.self c.in-None.ensures.unchanged in
     rw c.fault.ensures.failed (inr (ap (λ h. get h.disks c.args.path.now) (sym was) ∙ is), rw (same, c.fault.ensures.raised) (ap (λ (h : Hosted). record h { faults = raised h.faults }) was))

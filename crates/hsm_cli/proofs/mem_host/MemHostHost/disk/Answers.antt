@@ -1,4 +1,4 @@
-use Rattle.hsm_cli.proofs.HandingOut.{Gives-gone, Gives-others, Gives-called}
+use Rattle.hsm_cli.proofs.HandingOut.{Gives-gone, Gives-others, Gives-opened}
 use Rattle.hsm_cli.proofs.mem_host.MemHostHost.disk.Goals as goal
 
 pub returns-clause-gone : goal.returns-clause-gone
@@ -7,5 +7,8 @@ returns-clause-gone c = Gives-gone c.args.path.now c.args.self.now c.take.new.se
 pub returns-clause-others : goal.returns-clause-others
 returns-clause-others c = Gives-others c.args.path.now c.args.self.now c.take.new.self c.take.result c.take.ensures.gives
 
-pub returns-clause-called : goal.returns-clause-called
-returns-clause-called c = Gives-called c.args.path.now c.args.self.now c.take.new.self c.take.result c.take.ensures.gives
+pub returns-clause-opened : goal.returns-clause-opened
+returns-clause-opened c = (Gives-opened c.args.path.now c.args.self.now c.take.new.self c.take.result c.take.ensures.gives).0
+
+pub returns-clause-unmade : goal.returns-clause-unmade
+returns-clause-unmade c = (Gives-opened c.args.path.now c.args.self.now c.take.new.self c.take.result c.take.ensures.gives).1
