@@ -6,8 +6,6 @@ mod disks;
 #[cfg(test)]
 mod handles;
 #[cfg(test)]
-mod mapped_blocks;
-#[cfg(test)]
 mod regions;
 #[cfg(test)]
 mod scripts;

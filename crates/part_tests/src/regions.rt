@@ -13,7 +13,7 @@ const FIVE: [Numbers; 1] = [(10, 5, 1)];
 
 const EACH: [Numbers; 3] = [(0, 10, 1), (10, 10, 2), (20, 0, 4)];
 
-static ACCESSES: [Access; 15] = [
+static ACCESSES: [Access; 13] = [
     (&FIVE, 0, 10, Kind::Read, false),
     (&FIVE, 0, 11, Kind::Read, true),
     (&FIVE, 12, 0, Kind::Read, false),
@@ -27,8 +27,6 @@ static ACCESSES: [Access; 15] = [
     (&EACH, 0, 10, Kind::Write, false),
     (&EACH, u64::MAX, 1, Kind::Truncate, true),
     (&EACH, 0, 20, Kind::Truncate, false),
-    (&EACH, 0, 100, Kind::NoSpace, false),
-    (&EACH, 0, 100, Kind::User, false),
 ];
 
 /// Two that make a segment together, one that is a segment, and one that lacks a byte of it.

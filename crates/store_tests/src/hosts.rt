@@ -1,7 +1,8 @@
 //! The host in memory, and files as disks.
 
 use disk_model::{Disk, FuseDisk, MemDisk, read_at, sync_all, write_at};
-use hsm_cli::{FileHost, Host, MemHost};
+use hsm_cli::{FileDisk, FileHost, Host, MemFile, MemHost};
+use std::alloc::{AllocError, Global};
 use std::process::Abort;
 use std::test::Fail;
 use std::{env, fs, process};
@@ -177,5 +178,29 @@ fn a_file_is_a_disk(rt: HostRuntime) -> Result<(), Fail> {
     assert_serves(&rt, &mut FileHost::new(&rt), path.as_str(), folder.as_str());
     assert!(rt; is_cut(&rt, path.as_str()));
     fs::remove_file(&rt, path.as_str())?;
+    Ok(())
+}
+
+/// A file in memory of ten zeros, whose calls move at most so many bytes.
+fn file_of(alloc: Global, most: usize, is_free: bool) -> Result<MemFile, AllocError> {
+    let disk = MemDisk::new(alloc, &[0; 10], &[])?;
+    Ok(MemFile::new(disk, most, is_free))
+}
+
+/// Whether the file is opened as a disk, and gives what was written.
+fn is_disk_of(file: MemFile) -> bool {
+    match FileDisk::open(file) {
+        Ok(mut disk) => is_disk(&mut disk),
+        Err(_) => false,
+    }
+}
+
+#[test]
+fn a_file_in_memory_is_a_disk(rt: HostRuntime) -> Result<(), Fail> {
+    for most in [1, 2, 10] {
+        assert!(rt; is_disk_of(file_of(rt.alloc(), most, true)?));
+    }
+    assert!(rt; !is_disk_of(file_of(rt.alloc(), 0, true)?));
+    assert!(rt; !is_disk_of(file_of(rt.alloc(), 10, false)?));
     Ok(())
 }
