@@ -45,7 +45,7 @@ impl<D: Disk> Outcome<D> {
             cause,
             base: 0,
             opening: None,
-            history: History::new(alloc),
+            history: History::from(Vec::new(alloc)),
             disk,
         }
     }

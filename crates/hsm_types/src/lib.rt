@@ -22,7 +22,7 @@ pub use limits::{
     ACCESS_BYTES, BLOCK_BYTES, CALLERS, FILE_BYTES, INFO_BYTES, LIVE_SESSIONS, NAME_BYTES,
     SEGMENT_BYTES,
 };
-pub use lists::{Bytes, Names, Regions, Sids, Word};
+pub use lists::{Bytes, ListOf, Names, Regions, Sids, Word};
 pub use names::can_name;
 pub use parts::{Part, PartKind, PartRef, Parts};
 pub use regions::{Kind, REGION_READ, REGION_TRUNCATE, REGION_WRITE, REGIONS, Range, Region};
