@@ -1,5 +1,5 @@
 #!/usr/bin/env python3
-"""The replay as a plain Python program: the baseline of bench/run, and what the transcripts are compared with.
+"""The replay as a plain Python program: the baseline of bench/run, and what its transcripts and those of examples/plain are compared with.
 
 It reads the whole script and checks it, then runs the lines over a dict of files, and then writes the transcript.
 """

@@ -1,9 +1,8 @@
 //! Disks in memory: what fails, what is counted, and what a crash may leave, against lists by hand.
-ghost use Rattle.std.specs.Prelude.{◌≡◌, length, IfOk};
+ghost use Rattle.std.specs.Prelude.{◌≡◌, ◌≤◌, length, IfOk};
 ghost use Rattle.disk_model.specs.Medium.{medium_of};
 
-use disk_model::uses::{write_both, write_marked};
-use disk_model::{Disk, FuseDisk, MemDisk, SureDisk, read_at, sync_all};
+use disk_model::{Disk, Failed, FuseDisk, MemDisk, SureDisk, read_at, sync_all, write_at};
 use std::alloc::{AllocError, Global};
 use std::test::Fail;
 
@@ -199,11 +198,20 @@ fn sent<D: Disk + Send>(disk: D) -> D
     disk
 }
 
+/// Writes two pieces to a disk of at least four bytes, and makes both durable.
+fn write_two<D: Disk>(disk: &mut D) -> Result<(), Failed>
+    requires { 4 ≤ D.length_of disk.old }
+{
+    write_at(disk, 0, &[1])?;
+    write_at(disk, 2, &[3, 4])?;
+    sync_all(disk)
+}
+
 /// Whether three calls are done behind a fuse, how many faults it counts, and how many calls came through. `None` for want of memory.
 fn three_calls(alloc: Global, fuse: Option<u64>) -> Option<(bool, u64, usize)> {
     let mut disk = sent(FuseDisk::unset(four_zeros(alloc).ok()?));
     disk.set_fuse(fuse);
-    let done = write_both(&mut disk, 0, &[1], 2, &[3, 4]).is_ok();
+    let done = write_two(&mut disk).is_ok();
     Some(told(disk, done))
 }
 
@@ -227,10 +235,11 @@ fn a_fuse_stops_at_each_call(rt: HostRuntime) {
     }
 }
 
-/// Whether a body and its mark are written to a disk of six bytes, and three bytes read of it.
+/// Whether two pieces are written to a disk of six bytes, and three bytes read of it.
 fn is_used(disk: &mut SureDisk, read: &mut [u8; 3]) -> bool {
     disk.len() == 6
-        && write_marked(disk, 1, &[1, 2], 4, &[9]).is_ok()
+        && write_at(disk, 1, &[1, 2]).is_ok()
+        && write_at(disk, 4, &[9]).is_ok()
         && sync_all(disk).is_ok()
         && read_at(disk, 2, read).is_ok()
 }

@@ -3,8 +3,6 @@
 #![tactic(auto)]
 
 #[cfg(test)]
-mod comparing;
-#[cfg(test)]
 mod crashes;
 #[cfg(test)]
 mod disk_faults;
@@ -12,7 +10,5 @@ mod disk_faults;
 mod hosts;
 #[cfg(test)]
 mod running;
-#[cfg(test)]
-mod scripts;
 #[cfg(test)]
 mod streams;
