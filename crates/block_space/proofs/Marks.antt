@@ -1,11 +1,10 @@
 -- Marks of blocks.
-use Rattle.std.proofs.Common.{◌≡◌, ℕ, ◌<◌, ◌≤◌, List, [], ◌∷◌, ◌++◌, length, get_or, set, Bool, true, false, cond, ◌||◌, eqb, ⊎_elim, refl, sym, ap, ◌∙◌, arith, length-set, get_or-set_same, get_or-set_other}
+use Rattle.std.proofs.Common.{◌≡◌, ℕ, ◌<◌, ◌≤◌, List, [], ◌∷◌, ◌++◌, length, get_or, set, Bool, true, false, cond, ◌||◌, ◌&&◌, not, eqb, ⊎_elim, refl, sym, ap, ◌∙◌, arith, length-set, get_or-set_same, get_or-set_other}
 use Rattle.std.specs.List.{All}
 use Rattle.std.proofs.lemmas.Bool.{cases_eq, cases_Bool, eq-eqb, ne_eqb, cases_lt, or_left, or_right}
 use Rattle.std.proofs.lemmas.List.{ext_get_or, get_or_past, get_or_default}
 use Rattle.std.proofs.lemmas.List.Folds.{list_any-append}
-use Rattle.block_space.specs.Space.{marked, IsSpace}
-use Rattle.block_space.specs.Laws.{unmarked}
+use Rattle.block_space.specs.Space.{marked, unmarked, IsSpace}
 use Rattle.block_space.proofs.Members.{has, All-has}
 
 pub length-marked : (bs : List ℕ) (fs : List Bool) → length (marked bs fs) ≡ length fs
@@ -84,6 +83,27 @@ get_or-unmarked (x ∷ bs) fs b l =
     either true = refl
     either false = refl
 
+pub unmarked-append : (xs ys : List ℕ) (flags : List Bool) → unmarked (xs ++ ys) flags ≡ unmarked ys (unmarked xs flags)
+unmarked-append [] ys flags = refl
+unmarked-append (x ∷ xs) ys flags = unmarked-append xs ys (set flags x false)
+
+-- the marks of some blocks are taken away
+pub unmarked_others : (xs bs ys : List ℕ) (fs : List Bool) → ((b : ℕ) → b < length fs → get_or fs b false ≡ false) → ((b : ℕ) → has b ys ≡ (has b xs && not (has b bs))) → unmarked bs (marked xs fs) ≡ marked ys fs
+unmarked_others xs bs ys fs none others =
+    ext_get_or false (unmarked bs (marked xs fs)) (marked ys fs) (length-unmarked bs (marked xs fs) ∙ length-marked xs fs ∙ sym (length-marked ys fs)) (λ b l.
+    let m : b < length fs = omega (arith, length-unmarked bs (marked xs fs), length-marked xs fs) in
+    let k : b < length (marked xs fs) = omega (arith, length-marked xs fs) in
+    get_or-unmarked bs (marked xs fs) b k
+    ∙ ap (λ u. cond (has b bs) false u) (get_or-marked xs fs b m ∙ ap (λ u. u || has b xs) (none b m))
+    ∙ taken (has b bs) (has b xs)
+    ∙ sym (get_or-marked ys fs b m ∙ ap (λ u. u || has b ys) (none b m) ∙ others b))
+  where
+    taken : (u v : Bool) → cond u false v ≡ (v && not u)
+    taken true true = refl
+    taken true false = refl
+    taken false true = refl
+    taken false false = refl
+
 -- unused blocks are marked, and are released again
 pub unmarked-marked : (bs : List ℕ) (fs : List Bool) → All (λ b. get_or fs b true ≡ false) bs → unmarked bs (marked bs fs) ≡ fs
 unmarked-marked bs fs unused =
@@ -103,8 +123,8 @@ used_still : (u v w : Bool) → (u || w) ≡ true → (u ≡ true → v ≡ true
 used_still true v w or keeps = or_left v w (keeps refl)
 used_still false v w or keeps = or_right v w or
 
-pub space-marked : (low : ℕ) (bs : List ℕ) (cs ds : List Bool) → IsSpace low cs ds → IsSpace low (marked bs cs) ds
-space-marked low bs cs ds s =
+pub space-marked : (low released : ℕ) (bs : List ℕ) (cs ds : List Bool) → IsSpace low released cs ds → IsSpace low released (marked bs cs) ds
+space-marked low released bs cs ds s =
     let same = length-marked bs cs in
     let lengths = s.lengths in
     let few = s.few in
@@ -114,4 +134,5 @@ space-marked low bs cs ds s =
       few = omega arith;
       within = omega arith;
       used = λ b l. used_still (get_or cs b false) (get_or (marked bs cs) b false) (get_or ds b false) (s.used b l) (marked_keeps bs cs b);
+      kept = λ b l is. marked_keeps bs cs b (s.kept b l is);
     }

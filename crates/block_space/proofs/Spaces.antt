@@ -7,9 +7,9 @@ use Rattle.std.proofs.lemmas.Bool.{false≢true, false_from_ne_true}
 use Rattle.std.proofs.lemmas.List.{get_or-replicate, get_or_default, length-replicate}
 use Rattle.std.proofs.lemmas.List.Elements.{All-take, All-weaker}
 use Rattle.block_space.specs.Space.{Space, marked, free}
-use Rattle.block_space.specs.Laws.{IsFree, OthersAreFree, TakenAreFree, ListedAreFree, MarksAreMembers, MarksForgetOrder, MarksJoin, TakeAddsOthers, ReleaseLeavesOthers, ReleaseUndoesTake}
+use Rattle.block_space.specs.Laws.{IsFree, OthersAreFree, TakenAreFree, ListedAreFree, MarksAreMembers, MarksForgetOrder, MarksJoin, TakeAddsOthers, ReleaseLeavesOthers, ReleaseLeaves, ReleaseUndoesTake}
 use Rattle.block_space.proofs.Members.{has, All-has, All-from_has, Distinct-apart, Distinct-without, Distinct-append, Ascend-take, Distinct-from_Ascend, Increasing-from_Ascend}
-use Rattle.block_space.proofs.Marks.{length-marked, get_or-marked, marked-append, marked_same, release_marked, unmarked-marked}
+use Rattle.block_space.proofs.Marks.{length-marked, get_or-marked, marked-append, marked_same, release_marked, unmarked_others, unmarked-marked}
 use Rattle.block_space.proofs.Frees.{Ascend-free_in, unused, listed, count-marked, count-unused}
 
 pub others_are_free : (total : ℕ) (blocks : List ℕ) → OthersAreFree total blocks
@@ -64,6 +64,9 @@ take_adds_others total blocks durable n distinct =
 
 pub release_leaves_others : (total : ℕ) (xs : List ℕ) (b : ℕ) (ys : List ℕ) → ReleaseLeavesOthers total xs b ys
 release_leaves_others total xs b ys distinct l = (release_marked xs b ys (replicate total false) (get_or-replicate total b false false l) (Distinct-apart xs b ys distinct), Distinct-without xs b ys distinct)
+
+pub releases-leave : (total : ℕ) (xs bs ys : List ℕ) → ReleaseLeaves total xs bs ys
+releases-leave total xs bs ys others = unmarked_others xs bs ys (replicate total false) (λ b l. get_or-replicate total b false false (omega (arith, length-replicate total false))) others
 
 pub release_undoes_take : (flags : List Bool) (blocks : List ℕ) → ReleaseUndoesTake flags blocks
 release_undoes_take flags blocks unused = unmarked-marked blocks flags unused

@@ -1,13 +1,8 @@
 -- Laws on the blocks that are used and free.
-use Rattle.std.specs.Prelude.{ℕ, ◌≡◌, ◌+◌, ◌<◌, List, [], ◌∷◌, ◌++◌, length, take, replicate, Bool, true, false, ◌==◌, slice_index_or, slice_set}
+use Rattle.std.specs.Prelude.{ℕ, ◌≡◌, ◌+◌, ◌<◌, List, ◌∷◌, ◌++◌, length, take, replicate, Bool, true, false, ◌==◌, ◌&&◌, not, slice_index_or, slice_set}
 use Rattle.std.specs.List.{All, list_any}
 use Rattle.plain_model.specs.Distinct.{Distinct}
-use Rattle.block_space.specs.Space.{Space, marked, free_in, free}
-
--- these blocks become unused
-abbrev pub unmarked : List ℕ → List Bool → List Bool
-unmarked [] flags = flags
-unmarked (b ∷ bs) flags = unmarked bs (slice_set flags b false)
+use Rattle.block_space.specs.Space.{Space, marked, unmarked, free_in, free}
 
 -- a block is on the disk, and neither map uses it
 pub record IsFree (s : Space) (block : ℕ) : Type 0 where
@@ -51,6 +46,11 @@ TakeAddsOthers total blocks durable n = Distinct blocks → Distinct (blocks ++ 
 abbrev pub ReleaseLeavesOthers : ℕ → List ℕ → ℕ → List ℕ → Type 0
 ReleaseLeavesOthers total xs b ys =
     Distinct (xs ++ b ∷ ys) → b < total → (slice_set (marked (xs ++ b ∷ ys) (replicate total false)) b false ≡ marked (xs ++ ys) (replicate total false)) × Distinct (xs ++ ys)
+
+-- without the marks of some blocks there are the marks of the others
+abbrev pub ReleaseLeaves : ℕ → List ℕ → List ℕ → List ℕ → Type 0
+ReleaseLeaves total xs bs ys =
+    ((b : ℕ) → list_any (λ m. m == b) ys ≡ (list_any (λ m. m == b) xs && not (list_any (λ m. m == b) bs))) → unmarked bs (marked xs (replicate total false)) ≡ marked ys (replicate total false)
 
 -- releasing what was just taken gives the old flags
 abbrev pub ReleaseUndoesTake : List Bool → List ℕ → Type 0

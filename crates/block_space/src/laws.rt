@@ -1,7 +1,7 @@
 //! Laws on the blocks that are used and free, each the contract of a function that does nothing. A caller gets the law by a call.
 ghost use Rattle.std.specs.Prelude.{ℕ, List, Bool};
 ghost use Rattle.block_space.specs.Space.{Space};
-ghost use Rattle.block_space.specs.Laws.{OthersAreFree, ListedAreFree, TakenAreFree, MarksAreMembers, MarksForgetOrder, MarksJoin, TakeAddsOthers, ReleaseLeavesOthers, ReleaseUndoesTake};
+ghost use Rattle.block_space.specs.Laws.{OthersAreFree, ListedAreFree, TakenAreFree, MarksAreMembers, MarksForgetOrder, MarksJoin, TakeAddsOthers, ReleaseLeavesOthers, ReleaseLeaves, ReleaseUndoesTake};
 
 /// Where both maps use just these blocks, as many are free as are left of the total.
 pub fn others_are_free()
@@ -26,8 +26,9 @@ pub fn marks_are_members()
     ensures join { (total : ℕ) (xs : List ℕ) (ys : List ℕ) → MarksJoin total xs ys }
 {}
 
-/// A release leaves the marks of the other blocks, and undoes a take.
+/// A release of a block, or of many, leaves the marks of the other blocks, and undoes a take.
 pub fn release_leaves_others()
     ensures others { (total : ℕ) (xs : List ℕ) (b : ℕ) (ys : List ℕ) → ReleaseLeavesOthers total xs b ys }
+    ensures many { (total : ℕ) (xs : List ℕ) (bs : List ℕ) (ys : List ℕ) → ReleaseLeaves total xs bs ys }
     ensures undo { (flags : List Bool) (blocks : List ℕ) → ReleaseUndoesTake flags blocks }
 {}

@@ -1,7 +1,7 @@
 //! The blocks of a disk.
 ghost use Rattle.std.specs.Prelude.{◌≡◌, ℕ, ◌<◌, ◌≤◌, length, take, replicate, false, IfOk, IsOk, IsErrOf, OnOk, OnErr, slice_set};
 ghost use Rattle.std.specs.List.{All};
-ghost use Rattle.block_space.specs.Space.{marked, free};
+ghost use Rattle.block_space.specs.Space.{marked, unmarked, free};
 
 use crate::blocks::Blocks;
 use crate::flags;
@@ -24,6 +24,7 @@ pub struct BlockSpace {
     current: Vec<bool>,
     durable: Vec<bool>,
     low: usize,
+    released: usize,
 }
 
 impl Model for BlockSpace {
@@ -34,7 +35,7 @@ impl Model for BlockSpace {
 
     ghost view = { λ s. record { current = s.current.items; durable = s.durable.items } };
 
-    ghost invariant = { λ s. IsSpace s.low s.current.items s.durable.items };
+    ghost invariant = { λ s. IsSpace s.low s.released s.current.items s.durable.items };
 }
 
 impl BlockSpace {
@@ -50,6 +51,7 @@ impl BlockSpace {
             current,
             durable,
             low: 0,
+            released: total as usize,
         })
     }
 
@@ -63,7 +65,8 @@ impl BlockSpace {
 
     /// Takes the `n` lowest blocks that neither map uses: the current map uses them from then on.
     ///
-    /// It costs a walk from the lowest block that may be free up to the last that is taken, and after a `committed` from the first block on.
+    /// It costs a walk from the lowest block that may be free up to the last that is taken. A `committed` turns back no further than to the
+    /// lowest block that was released since the one before.
     pub fn take(&mut self, alloc: Global, n: u32) -> Result<Blocks, TakeRefusal>
         ensures taken { IfOk result (λ b. b ≡ take n (free self.old)) }
         ensures enough { IsOk result → n ≤ length (free self.old) }
@@ -95,6 +98,17 @@ impl BlockSpace {
     {
         self.current[block as usize] = false;
         self.low = self.low.min(block as usize);
+        self.released = self.released.min(block as usize);
+    }
+
+    /// The current map uses these blocks no more, as `release` of each.
+    pub fn release_all(&mut self, blocks: &[u32])
+        requires { All (λ b. b < length self.old.current) blocks.now }
+        ensures { self.new ≡ record self.old { current = unmarked blocks.now self.old.current } }
+    {
+        for block in blocks {
+            self.release(*block);
+        }
     }
 
     /// The durable map becomes the current one. It costs a walk over all blocks, and takes no memory.
@@ -102,6 +116,7 @@ impl BlockSpace {
         ensures { self.new ≡ record self.old { durable = self.old.current } }
     {
         self.durable.copy_from_slice(self.current.as_slice());
-        self.low = 0;
+        self.low = self.low.min(self.released);
+        self.released = self.current.len();
     }
 }

@@ -1,5 +1,5 @@
 -- How many attributes there can be.
-use Rattle.std.proofs.Common.{ℕ, ◌+◌, ◌*◌, ◌≤◌, List, ◌∷◌, [], length, arith}
+use Rattle.std.proofs.Common.{◌*◌, ◌≤◌, ◌∷◌, [], length, arith}
 use Rattle.std.proofs.lemmas.List.Sums.{sum_by-cons}
 use Rattle.std.specs.Map.{values_of}
 use Rattle.hsm_types.specs.Attributes.{Attributes, cost_of_value, bytes_of_attributes}

@@ -46,19 +46,18 @@ impl DmAttrs {
     pub fn set(
         &mut self,
         name: AttrName,
-        value: &Bytes,
+        value: Bytes,
         others: u64,
         limit: u64,
     ) -> Result<(), DmRefusal>
         requires others { others ≤ limit }
         requires limit { limit ≤ 2 ^ 32 }
-        ensures ok { OnOk result (setting_refusal name value.now others limit self.old ≡ None) }
-        ensures after { OnOk result (self.new ≡ with_value name value.now self.old) }
-        ensures refused { IfErr result (λ why. MatchOption (setting_refusal name value.now others limit self.old) (why ≡ Memory) (λ cause. why ≡ cause)) }
+        ensures ok { OnOk result (setting_refusal name value others limit self.old ≡ None) }
+        ensures after { OnOk result (self.new ≡ with_value name value self.old) }
+        ensures refused { IfErr result (λ why. MatchOption (setting_refusal name value others limit self.old) (why ≡ Memory) (λ cause. why ≡ cause)) }
         ensures err { OnErr result (self.new ≡ self.old) }
     {
-        let after = self.judge(name, value, others, limit)?;
-        let value = value.clone().map_err(|_| DmRefusal::Memory)?;
+        let after = self.judge(name, &value, others, limit)?;
         let _old = self
             .by_name
             .insert(name, value)
@@ -68,7 +67,7 @@ impl DmAttrs {
     }
 
     /// What the attributes count once that one is set, or what refuses to set it. It takes no memory.
-    pub fn judge(
+    fn judge(
         &self,
         name: AttrName,
         value: &Bytes,
@@ -133,18 +132,6 @@ impl DmAttrs {
         };
         self.bytes -= cost_of(&old);
         Ok(())
-    }
-
-    /// What refuses to take the attribute with that name away, if anything does.
-    pub fn judge_removal(&self, name: AttrName) -> Result<(), DmRefusal>
-        ensures { MatchResult result (λ _. removal_refusal name self.now ≡ None) (λ why. removal_refusal name self.now ≡ Some why) }
-    {
-        check_unreserved(name)?;
-        if self.get(name).is_none() {
-            Err(DmRefusal::NoAttr)
-        } else {
-            Ok(())
-        }
     }
 
     /// The names of all attributes.

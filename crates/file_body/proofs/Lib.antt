@@ -3,3 +3,4 @@ pub mod Grown
 pub mod Sizes
 pub mod Pieces
 pub mod Runs
+pub mod ChangedBlocks

@@ -1,11 +1,11 @@
 //! The bytes of one file.
-ghost use Rattle.std.specs.Prelude.{◌≡◌, ◌+◌, ◌-◌, ◌≤◌, ◌<◌, ◌++◌, [], length, take, drop, replicate, IfOk, OnOk, OnErr, IsOk};
+ghost use Rattle.std.specs.Prelude.{◌≡◌, ◌+◌, ◌-◌, ◌^◌, ◌≤◌, ◌<◌, ◌++◌, [], length, take, drop, replicate, IfOk, OnOk, OnErr, IsOk};
 ghost use Rattle.plain_model.specs.Plain.{read_at, written, resized};
 ghost use Rattle.file_body.specs.BodyBlocks.{block_of};
 
 use crate::segment_lists;
 use crate::segments::Segment;
-use hsm_types::{Bytes, FILE_BYTES};
+use hsm_types::{BLOCK_BYTES, Bytes, FILE_BYTES};
 use std::alloc::{AllocError, Global};
 use std::marker::Model;
 
@@ -71,6 +71,17 @@ impl Body {
         segment_lists::fill_block(self.segments.as_slice(), block as usize, buffer);
     }
 
+    /// Fills the buffer with a block of the body as it will be once the bytes are written at the offset, and zeros past its end then. It takes no
+    /// memory and costs the block.
+    pub fn fill_written_block(&self, block: u32, offset: u64, bytes: &[u8], buffer: &mut [u8])
+        requires len { length buffer.old ≡ 4096 }
+        requires end { offset + length bytes.now ≤ FILE_BYTES }
+        ensures { buffer.new ≡ block_of (written offset bytes.now self.now) block }
+    {
+        self.fill_block(block, buffer);
+        overlay(buffer, u64::from(block) * BLOCK_BYTES, offset, bytes);
+    }
+
     /// Writes the bytes at the offset, in place. Zeros fill what lies between the old end and the offset.
     pub fn write(&mut self, alloc: Global, offset: u64, bytes: &[u8]) -> Result<(), AllocError>
         requires { offset + length bytes.now ≤ FILE_BYTES }
@@ -109,5 +120,19 @@ impl Body {
             segment_lists::lengthen(alloc, &mut self.segments, size - old)?;
         }
         Ok(())
+    }
+}
+
+/// Puts the bytes, which begin at the offset, over those of the buffer, which begin at `start`, as far as they meet.
+fn overlay(buffer: &mut [u8], start: u64, offset: u64, bytes: &[u8])
+    requires low { start + length buffer.old < 2 ^ 63 }
+    requires end { offset + length bytes.now < 2 ^ 63 }
+    ensures { buffer.new ≡ take (offset - start) buffer.old ++ take (length buffer.old - (offset - start)) (drop (start - offset) bytes.now) ++ drop (offset + length bytes.now - start) buffer.old }
+{
+    let from = offset.max(start);
+    let to = (offset + bytes.len() as u64).min(start + buffer.len() as u64);
+    if from < to {
+        let met = &bytes[(from - offset) as usize..(to - offset) as usize];
+        buffer[(from - start) as usize..(to - start) as usize].copy_from_slice(met);
     }
 }

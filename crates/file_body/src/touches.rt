@@ -1,8 +1,8 @@
 //! The blocks that changes of a file's bytes touch.
-ghost use Rattle.std.specs.Prelude.{◌≡◌, ℕ, ◌+◌, ◌*◌, ◌<◌, ◌≤◌, List, length, slice_index_or, IfSome};
+ghost use Rattle.std.specs.Prelude.{◌≡◌, ℕ, ◌+◌, ◌*◌, ◌<◌, ◌≤◌, ◌++◌, List, length, slice_index_or, IfSome};
 ghost use Rattle.std.specs.Option.{option_to_list};
 ghost use Rattle.plain_model.specs.Effects.{Writes, Resizes};
-ghost use Rattle.plain_model.specs.Blocks.{touched, blocks_in, old_end};
+ghost use Rattle.plain_model.specs.Blocks.{from_on, touched, blocks_in, old_end};
 
 use hsm_types::{BLOCK_BYTES, FILE_BYTES};
 use std::marker::Model;
@@ -27,7 +27,34 @@ impl Model for TouchedBlocks {
     ghost invariant = { λ t. (t.first + t.count ≤ 4096) × IfSome t.old_end (λ b. b < 4096) };
 }
 
+/// Blocks of a body, one after the other.
+#[derive(Clone, Copy, Debug)]
+pub struct BlockRun {
+    pub first: u32,
+    pub count: u32,
+}
+
 impl TouchedBlocks {
+    /// The block of the old end and the others, each a run, which may be empty.
+    pub fn runs(&self) -> (BlockRun, BlockRun)
+        ensures runs { from_on result.0.first result.0.count ++ from_on result.1.first result.1.count ≡ self.now }
+        ensures end { result.0.first + result.0.count ≤ 4096 }
+        ensures others { result.1.first + result.1.count ≤ 4096 }
+    {
+        let others = BlockRun {
+            first: self.first as u32,
+            count: self.count as u32,
+        };
+        let end = match self.old_end {
+            Some(block) => BlockRun {
+                first: block as u32,
+                count: 1,
+            },
+            None => BlockRun { first: 0, count: 0 },
+        };
+        (end, others)
+    }
+
     /// How many blocks there are.
     pub fn count(&self) -> u64
         ensures { result ≡ length self.now }

@@ -3,5 +3,6 @@ pub mod Orders
 pub mod Names
 pub mod Listings
 pub mod Standing
+pub mod KeysAt
 pub mod Indexing
 pub mod Keeping

@@ -1,5 +1,5 @@
 -- The keys and names of a table's files, in the order of their inodes, and what is true of them.
-use Rattle.std.specs.Prelude.{◌≡◌, ℕ, ◌+◌, ◌<◌, ◌≤◌, List, [], ◌∷◌, map, Bool, true, false, ◌==◌, if◌then◌else◌, Option, None}
+use Rattle.std.specs.Prelude.{◌≡◌, ℕ, ◌+◌, ◌<◌, ◌≤◌, List, [], ◌∷◌, map, Bool, true, false, ◌==◌, if◌then◌else◌, Option, Some, None}
 use Rattle.std.specs.Option.{option_map}
 use Rattle.hsm_types.specs.declared.keys.FileKey.{FileKey}
 use Rattle.plain_model.specs.Plain.{Listed, named}
@@ -15,6 +15,11 @@ listing files = map listed files
 -- the key of the file with that name, if there is one
 abbrev pub key_named : List ℕ → List Listed → Option FileKey
 key_named name files = option_map (λ l. l.key) (named name files)
+
+-- the key of the first file with that inode, if there is one
+abbrev pub key_at : ℕ → List Listed → Option FileKey
+key_at ino [] = None
+key_at ino (l ∷ ls) = if l.key.ino == ino then Some l.key else key_at ino ls
 
 -- whether a file has that inode
 abbrev pub has_inode : ℕ → List Listed → Bool

@@ -3,7 +3,7 @@ ghost use Rattle.std.specs.Prelude.{◌≡◌, ◌+◌, ◌^◌, ◌<◌, ◌≤
 ghost use Rattle.std.specs.Option.{option_map};
 ghost use Rattle.plain_model.specs.Keyed.{find_key, change_key, put_key, drop_key};
 ghost use Rattle.plain_model.specs.Plain.{free_inode};
-ghost use Rattle.inode_table.specs.Listing.{listing, has_inode, Ascend};
+ghost use Rattle.inode_table.specs.Listing.{listing, key_at, has_inode, Ascend};
 ghost use Rattle.inode_table.specs.Places.{Cuts, StandsAt};
 
 use hsm_types::{FileKey, Word};
@@ -34,6 +34,19 @@ pub fn place_of(entries: &[FileEntry], key: FileKey) -> Option<usize>
     let place = place_for(entries, key.ino);
     if place < entries.len() && entries[place].key == key {
         Some(place)
+    } else {
+        None
+    }
+}
+
+/// The key of the file with that inode, if there is one. It costs a binary search.
+pub fn key_at(entries: &[FileEntry], ino: u64) -> Option<FileKey>
+    requires { Ascend 1 (listing entries.now) }
+    ensures { result ≡ key_at ino (listing entries.now) }
+{
+    let place = place_for(entries, ino);
+    if place < entries.len() && entries[place].key.ino == ino {
+        Some(entries[place].key)
     } else {
         None
     }

@@ -4,7 +4,7 @@ ghost use Rattle.std.specs.Option.{option_map};
 ghost use Rattle.plain_model.specs.Keyed.{find_key, change_key, drop_key};
 ghost use Rattle.plain_model.specs.Plain.{named};
 ghost use Rattle.inode_table.specs.declared.table.TableRefusal.TheVariants.{Exists, NoInodes};
-ghost use Rattle.inode_table.specs.Listing.{listing, key_named, has_inode};
+ghost use Rattle.inode_table.specs.Listing.{listing, key_named, key_at, has_inode};
 ghost use Rattle.inode_table.specs.Table.{entry_of, next_key, with_file, IsTable};
 
 use crate::edits;
@@ -95,6 +95,25 @@ impl InodeTable {
         edits::find(&self.keys, name)
     }
 
+    /// The key of the file with that inode. It costs a binary search.
+    pub fn key_at(&self, ino: u64) -> Option<FileKey>
+        ensures { result ≡ key_at ino (listing self.now.files) }
+    {
+        entries::key_at(self.entries.as_slice(), ino)
+    }
+
+    /// The key that the next file made gets: the lowest free inode, and the next generation. Where no inode is free, its inode is past the last.
+    pub fn next_key(&self) -> FileKey
+        ensures { result ≡ next_key self.now }
+    {
+        // Read for its range, which bounds the number of files.
+        let _files = self.files;
+        FileKey {
+            ino: entries::lowest_free(self.entries.as_slice()),
+            igen: self.next,
+        }
+    }
+
     /// Makes an empty file, with the lowest free inode and the next generation.
     pub fn make(&mut self, alloc: Global, name: &Word) -> Result<FileKey, TableRefusal>
         requires { self.old.next + 1 < 2 ^ 64 }
@@ -110,10 +129,7 @@ impl InodeTable {
         if self.len() == self.files {
             return Err(TableRefusal::NoInodes);
         }
-        let key = FileKey {
-            ino: entries::lowest_free(self.entries.as_slice()),
-            igen: self.next,
-        };
+        let key = self.next_key();
         match self.add(alloc, key, name, 0) {
             Ok(()) => Ok(key),
             Err(_) => Err(TableRefusal::Memory),

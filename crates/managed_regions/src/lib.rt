@@ -6,6 +6,5 @@ mod laws;
 mod meeting;
 mod regions;
 
-pub use lawful::judge;
 pub use laws::lawful_stand_apart;
 pub use regions::ManagedRegions;

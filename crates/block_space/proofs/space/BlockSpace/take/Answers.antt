@@ -23,10 +23,11 @@ invariant_of-self c =
     let inv = c.self.invariant in
     let now : (with_items inside.current c.mark.new.flags).items ≡ marked c.as_slice.result.now inside.current.items =
     with_items_is inside.current c.mark.new.flags (omega arith) ∙ c.mark.ensures ∙ ap (marked c.as_slice.result.now) c.as_mut_slice.ensures.value in
-    let low : IsSpace c.skip_used-low.result inside.current.items inside.durable.items = record {
+    let low : IsSpace c.skip_used-low.result inside.released inside.current.items inside.durable.items = record {
       lengths = inv.lengths;
       few = inv.few;
       within = rw (← c.as_slice-current.ensures.value) c.skip_used-low.ensures.within;
       used = rw (← c.as_slice-current.ensures.value, ← c.as_slice-durable.ensures.value) c.skip_used-low.ensures.used;
+      kept = inv.kept;
     } in
-    rw now (space-marked c.skip_used-low.result c.as_slice.result.now inside.current.items inside.durable.items low)
+    rw now (space-marked c.skip_used-low.result inside.released c.as_slice.result.now inside.current.items inside.durable.items low)
