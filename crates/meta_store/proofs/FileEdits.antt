@@ -1,10 +1,9 @@
--- Lists of files after one more, one less and one changed: their names, their blocks, what their attributes count, and what is true of each.
-use Rattle.std.proofs.Common.{◌≡◌, ℕ, ◌+◌, ◌≤◌, List, [], ◌∷◌, ◌++◌, Option, Some, Bool, true, false, cond, ltb, refl, ap, subst, arith}
-use Rattle.std.specs.List.{AllByRecursion}
+-- Lists of files after one more, one less and one changed: their names, sums over them, and what is true of each.
+use Rattle.std.proofs.Common.{◌≡◌, ℕ, ◌+◌, ◌≤◌, List, [], ◌∷◌, ◌++◌, length, Option, Some, Bool, true, false, cond, ltb, refl, ap, subst, arith, length-append}
+use Rattle.std.specs.List.{AllByRecursion, sum_by}
 use Rattle.std.proofs.lemmas.Bool.{cond_both}
 use Rattle.std.proofs.lemmas.List.Sums.{sum_by-cons}
 use Rattle.hsm_types.specs.Attributes.{bytes_of_attributes}
-use Rattle.hsm_types.specs.Kept.{Kept}
 use Rattle.hsm_types.specs.declared.keys.FileKey.{FileKey}
 use Rattle.plain_model.specs.Keyed.{same_key, find_key, change_key, put_key, drop_key}
 use Rattle.plain_model.specs.Plain.{Listed}
@@ -35,36 +34,71 @@ names_of-change k to (f ∷ fs) same =
     let P : List CatalogFile → Type 0 = λ r. names_of r ≡ name_of f ∷ names_of fs in
     cond_both (same_key f.key k) (to f ∷ fs) (f ∷ change_key (λ x. x.key) k to fs) P (λ is. ap (λ l. l ∷ names_of fs) (same f)) (λ other. ap (λ ls. name_of f ∷ ls) (names_of-change k to fs same))
 
--- ---- how often a block of the disk is used
+-- ---- a sum over them
 
-pub uses-put : (n : ℕ) (g : CatalogFile) (fs : List CatalogFile) → uses n (blocks_of (put_key (λ f. f.key) g fs)) ≡ uses n (present g.places) + uses n (blocks_of fs)
-uses-put n g [] = uses-append n (present g.places) []
-uses-put n g (f ∷ fs) =
-    let here = uses-append n (present f.places) (blocks_of fs) in
-    let P : List CatalogFile → Type 0 = λ r. uses n (blocks_of r) ≡ uses n (present g.places) + uses n (blocks_of (f ∷ fs)) in
+pub sum-put : (m : CatalogFile → ℕ) (g : CatalogFile) (fs : List CatalogFile) → sum_by m (put_key (λ f. f.key) g fs) ≡ m g + sum_by m fs
+sum-put m g [] = sum_by-cons m g []
+sum-put m g (f ∷ fs) =
+    let here = sum_by-cons m f fs in
+    let P : List CatalogFile → Type 0 = λ r. sum_by m r ≡ m g + sum_by m (f ∷ fs) in
     cond_both (ltb g.key.ino f.key.ino) (g ∷ f ∷ fs) (f ∷ put_key (λ x. x.key) g fs) P
-    (λ before. uses-append n (present g.places) (blocks_of (f ∷ fs)))
-    (λ after. let rest = uses-put n g fs in let there = uses-append n (present f.places) (blocks_of (put_key (λ x. x.key) g fs)) in omega arith)
+    (λ before. sum_by-cons m g (f ∷ fs))
+    (λ after. let rest = sum-put m g fs in let there = sum_by-cons m f (put_key (λ x. x.key) g fs) in omega arith)
 
-pub uses-drop : (n : ℕ) (k : FileKey) (fs : List CatalogFile) → uses n (blocks_of (drop_key (λ f. f.key) k fs)) ≤ uses n (blocks_of fs)
-uses-drop n k [] = omega arith
-uses-drop n k (f ∷ fs) =
-    let here = uses-append n (present f.places) (blocks_of fs) in
-    let P : List CatalogFile → Type 0 = λ r. uses n (blocks_of r) ≤ uses n (blocks_of (f ∷ fs)) in
+pub sum-drop : (m : CatalogFile → ℕ) (k : FileKey) (g : CatalogFile) (fs : List CatalogFile) → find_key (λ f. f.key) k fs ≡ Some g → sum_by m (drop_key (λ f. f.key) k fs) + m g ≡ sum_by m fs
+sum-drop m k g [] found = cc
+sum-drop m k g (f ∷ fs) found =
+    let here = sum_by-cons m f fs in
+    elim (same_key f.key k) as (λ b. cond b (Some f) (find_key (λ x. x.key) k fs) ≡ Some g → sum_by m (cond b fs (f ∷ drop_key (λ x. x.key) k fs)) + m g ≡ sum_by m (f ∷ fs)) [
+      | true ↦ λ is. let it : f ≡ g = cc in let same = ap m it in omega arith
+      | false ↦ λ is. let rest = sum-drop m k g fs is in let there = sum_by-cons m f (drop_key (λ x. x.key) k fs) in omega arith
+    ] found
+
+-- whether there is such a file or not
+pub sum-fewer : (m : CatalogFile → ℕ) (k : FileKey) (fs : List CatalogFile) → sum_by m (drop_key (λ f. f.key) k fs) ≤ sum_by m fs
+sum-fewer m k [] = omega arith
+sum-fewer m k (f ∷ fs) =
+    let here = sum_by-cons m f fs in
+    let P : List CatalogFile → Type 0 = λ r. sum_by m r ≤ sum_by m (f ∷ fs) in
     cond_both (same_key f.key k) fs (f ∷ drop_key (λ x. x.key) k fs) P
     (λ same. omega arith)
-    (λ other. let rest = uses-drop n k fs in let there = uses-append n (present f.places) (blocks_of (drop_key (λ x. x.key) k fs)) in omega arith)
+    (λ other. let rest = sum-fewer m k fs in let there = sum_by-cons m f (drop_key (λ x. x.key) k fs) in omega arith)
 
--- where the change of the file uses the block so often more
-pub uses-change : (n more : ℕ) (k : FileKey) (to : CatalogFile → CatalogFile) (fs : List CatalogFile) → ((f : CatalogFile) → uses n (present (to f).places) ≤ more + uses n (present f.places))
-    → uses n (blocks_of (change_key (λ f. f.key) k to fs)) ≤ more + uses n (blocks_of fs)
-uses-change n more k to [] most = omega arith
-uses-change n more k to (f ∷ fs) most =
-    let here = uses-append n (present f.places) (blocks_of fs) in
-    let P : List CatalogFile → Type 0 = λ r. uses n (blocks_of r) ≤ more + uses n (blocks_of (f ∷ fs)) in
-    cond_both (same_key f.key k) (to f ∷ fs) (f ∷ change_key (λ x. x.key) k to fs) P
-    (λ same. let changed = most f in let there = uses-append n (present (to f).places) (blocks_of fs) in omega arith)
-    (λ other. let rest = uses-change n more k to fs most in let there = uses-append n (present f.places) (blocks_of (change_key (λ x. x.key) k to fs)) in omega arith)
+pub sum-change : (m : CatalogFile → ℕ) (k : FileKey) (to : CatalogFile → CatalogFile) (g : CatalogFile) (fs : List CatalogFile) → find_key (λ f. f.key) k fs ≡ Some g → sum_by m (change_key (λ f. f.key) k to fs) + m g ≡ sum_by m fs + m (to g)
+sum-change m k to g [] found = cc
+sum-change m k to g (f ∷ fs) found =
+    let here = sum_by-cons m f fs in
+    elim (same_key f.key k) as (λ b. cond b (Some f) (find_key (λ x. x.key) k fs) ≡ Some g → sum_by m (cond b (to f ∷ fs) (f ∷ change_key (λ x. x.key) k to fs)) + m g ≡ sum_by m (f ∷ fs) + m (to g)) [
+      | true ↦ λ is.
+          let it : f ≡ g = cc in
+          let same = ap m it in
+          let changed = ap (λ (x : CatalogFile). m (to x)) it in
+          let there = sum_by-cons m (to f) fs in
+          omega arith
+      | false ↦ λ is. let rest = sum-change m k to g fs is in let there = sum_by-cons m f (change_key (λ x. x.key) k to fs) in omega arith
+    ] found
+
+-- ---- what is summed: bytes of attributes, blocks, and how often a block of the disk is used
+
+abbrev pub count_of : CatalogFile → ℕ
+count_of f = bytes_of_attributes f.kept.attributes
+
+abbrev pub mapped_of : CatalogFile → ℕ
+mapped_of f = length (present f.places)
+
+abbrev pub uses_of : ℕ → CatalogFile → ℕ
+uses_of n f = uses n (present f.places)
+
+pub used-sum : (fs : List CatalogFile) → length (blocks_of fs) ≡ sum_by mapped_of fs
+used-sum [] = refl
+used-sum (f ∷ fs) = omega (arith, length-append (present f.places) (blocks_of fs), used-sum fs, sum_by-cons mapped_of f fs)
+
+pub uses-sum : (n : ℕ) (fs : List CatalogFile) → uses n (blocks_of fs) ≡ sum_by (uses_of n) fs
+uses-sum n [] = refl
+uses-sum n (f ∷ fs) = omega (arith, uses-append n (present f.places) (blocks_of fs), uses-sum n fs, sum_by-cons (uses_of n) f fs)
+
+pub total-drop : (k : FileKey) (g : CatalogFile) (fs : List CatalogFile) → find_key (λ f. f.key) k fs ≡ Some g → attribute_total (drop_key (λ f. f.key) k fs) + count_of g ≡ attribute_total fs
+total-drop k g fs found = sum-drop count_of k g fs found
 
 -- where the file keeps its places
 pub blocks-change : (k : FileKey) (to : CatalogFile → CatalogFile) (fs : List CatalogFile) → ((f : CatalogFile) → (to f).places ≡ f.places) → blocks_of (change_key (λ f. f.key) k to fs) ≡ blocks_of fs
@@ -73,65 +107,6 @@ blocks-change k to (f ∷ fs) same =
     let P : List CatalogFile → Type 0 = λ r. blocks_of r ≡ present f.places ++ blocks_of fs in
     cond_both (same_key f.key k) (to f ∷ fs) (f ∷ change_key (λ x. x.key) k to fs) P
     (λ is. ap (λ (ps : List (Option ℕ)). present ps ++ blocks_of fs) (same f)) (λ other. ap (λ bs. present f.places ++ bs) (blocks-change k to fs same))
-
--- ---- what their attributes count
-
-abbrev pub count_of : CatalogFile → ℕ
-count_of f = bytes_of_attributes f.kept.attributes
-
-pub total-cons : (f : CatalogFile) (fs : List CatalogFile) → attribute_total (f ∷ fs) ≡ count_of f + attribute_total fs
-total-cons f fs = sum_by-cons count_of f fs
-
-pub total-put : (g : CatalogFile) (fs : List CatalogFile) → attribute_total (put_key (λ f. f.key) g fs) ≡ count_of g + attribute_total fs
-total-put g [] = total-cons g []
-total-put g (f ∷ fs) =
-    let here = total-cons f fs in
-    let P : List CatalogFile → Type 0 = λ r. attribute_total r ≡ count_of g + attribute_total (f ∷ fs) in
-    cond_both (ltb g.key.ino f.key.ino) (g ∷ f ∷ fs) (f ∷ put_key (λ x. x.key) g fs) P
-    (λ before. total-cons g (f ∷ fs))
-    (λ after. let rest = total-put g fs in let there = total-cons f (put_key (λ x. x.key) g fs) in omega arith)
-
-pub total-drop : (k : FileKey) (g : CatalogFile) (fs : List CatalogFile) → find_key (λ f. f.key) k fs ≡ Some g → attribute_total (drop_key (λ f. f.key) k fs) + count_of g ≡ attribute_total fs
-total-drop k g [] found = cc
-total-drop k g (f ∷ fs) found =
-    let here = total-cons f fs in
-    elim (same_key f.key k) as (λ b. cond b (Some f) (find_key (λ x. x.key) k fs) ≡ Some g → attribute_total (cond b fs (f ∷ drop_key (λ x. x.key) k fs)) + count_of g ≡ attribute_total (f ∷ fs)) [
-      | true ↦ λ is. let it : f ≡ g = cc in let same = ap count_of it in omega arith
-      | false ↦ λ is. let rest = total-drop k g fs is in let there = total-cons f (drop_key (λ x. x.key) k fs) in omega arith
-    ] found
-
-pub total-fewer : (k : FileKey) (fs : List CatalogFile) → attribute_total (drop_key (λ f. f.key) k fs) ≤ attribute_total fs
-total-fewer k [] = omega arith
-total-fewer k (f ∷ fs) =
-    let here = total-cons f fs in
-    let P : List CatalogFile → Type 0 = λ r. attribute_total r ≤ attribute_total (f ∷ fs) in
-    cond_both (same_key f.key k) fs (f ∷ drop_key (λ x. x.key) k fs) P
-    (λ same. omega arith)
-    (λ other. let rest = total-fewer k fs in let there = total-cons f (drop_key (λ x. x.key) k fs) in omega arith)
-
-pub total-change : (k : FileKey) (to : CatalogFile → CatalogFile) (g : CatalogFile) (fs : List CatalogFile) → find_key (λ f. f.key) k fs ≡ Some g → attribute_total (change_key (λ f. f.key) k to fs) + count_of g ≡ attribute_total fs + count_of (to g)
-total-change k to g [] found = cc
-total-change k to g (f ∷ fs) found =
-    let here = total-cons f fs in
-    elim (same_key f.key k) as (λ b. cond b (Some f) (find_key (λ x. x.key) k fs) ≡ Some g → attribute_total (cond b (to f ∷ fs) (f ∷ change_key (λ x. x.key) k to fs)) + count_of g ≡ attribute_total (f ∷ fs) + count_of (to g)) [
-      | true ↦ λ is.
-          let it : f ≡ g = cc in
-          let same = ap count_of it in
-          let changed = ap (λ (x : CatalogFile). count_of (to x)) it in
-          let there = total-cons (to f) fs in
-          omega arith
-      | false ↦ λ is. let rest = total-change k to g fs is in let there = total-cons f (change_key (λ x. x.key) k to fs) in omega arith
-    ] found
-
--- where what is kept with the file stays
-pub total-same : (k : FileKey) (to : CatalogFile → CatalogFile) (fs : List CatalogFile) → ((f : CatalogFile) → (to f).kept ≡ f.kept) → attribute_total (change_key (λ f. f.key) k to fs) ≡ attribute_total fs
-total-same k to [] same = refl
-total-same k to (f ∷ fs) same =
-    let here = total-cons f fs in
-    let P : List CatalogFile → Type 0 = λ r. attribute_total r ≡ attribute_total (f ∷ fs) in
-    cond_both (same_key f.key k) (to f ∷ fs) (f ∷ change_key (λ x. x.key) k to fs) P
-    (λ is. let there = total-cons (to f) fs in let one = ap (λ (k : Kept). bytes_of_attributes k.attributes) (same f) in omega arith)
-    (λ other. let rest = total-same k to fs same in let there = total-cons f (change_key (λ x. x.key) k to fs) in omega arith)
 
 -- ---- what is true of each
 

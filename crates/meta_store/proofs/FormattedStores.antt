@@ -11,7 +11,7 @@ use Rattle.meta_store.specs.Images.{area_of, IsClosed, IsImage}
 use Rattle.meta_store.specs.Laws.{no_files}
 use Rattle.meta_store.proofs.SnapshotLengths.{spelling-empty}
 use Rattle.meta_store.proofs.SnapshotFits.{fits_of}
-use Rattle.meta_store.proofs.CommitTurns.{area_is, gate_is}
+use Rattle.meta_store.proofs.BesideBlocks.{area_is, gate_is}
 
 IsCatalog-no_files : (geometry : ℕ) → geometry ≤ 1 → IsCatalog (no_files geometry)
 IsCatalog-no_files geometry known = record { known = known; first = omega arith; next = omega arith; table = record { ascend = tt; within = tt; differ = tt }; each = tt; distinct = tt; few = omega arith }

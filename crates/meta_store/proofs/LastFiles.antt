@@ -1,10 +1,9 @@
 -- A file behind all others.
-use Rattle.std.proofs.Common.{◌≡◌, ℕ, ◌+◌, ◌<◌, ◌≤◌, List, [], ◌∷◌, ◌++◌, true, false, Some, eqb, ltb, refl, ap, arith}
-use Rattle.std.proofs.lemmas.Bool.{ne_eqb, eq-eqb, le-ltb, and_left, and_from}
-use Rattle.hsm_types.specs.declared.keys.FileKey.{FileKey}
-use Rattle.plain_model.specs.Keyed.{same_key, find_key, change_key, put_key}
+use Rattle.std.proofs.Common.{◌≡◌, ℕ, ◌+◌, ◌<◌, ◌≤◌, List, [], ◌∷◌, ◌++◌, false, eqb, ltb, refl, ap, arith}
+use Rattle.std.proofs.lemmas.Bool.{ne_eqb, le-ltb}
+use Rattle.plain_model.specs.Keyed.{put_key}
 use Rattle.plain_model.specs.Plain.{Listed}
-use Rattle.inode_table.specs.Listing.{has_inode, Ascend, Within}
+use Rattle.inode_table.specs.Listing.{has_inode, Ascend}
 use Rattle.meta_store.specs.Catalogs.{CatalogFile, names_of}
 use Rattle.meta_store.specs.Validity.{last_inode}
 
@@ -31,32 +30,8 @@ put-behind n f (g ∷ fs) a above =
     let after : ltb f.key.ino g.key.ino ≡ false = le-ltb f.key.ino g.key.ino (omega arith) in
     rw after (ap (λ (gs : List CatalogFile). g ∷ gs) (put-behind g.key.ino f fs a.1 above))
 
-other_inode : (j k : FileKey) → (j.ino ≡ k.ino → ⊥) → same_key j k ≡ false
-other_inode j k ne = and_left (eqb j.ino k.ino) (eqb j.igen k.igen) (ne_eqb j.ino k.ino ne)
-
-pub same_itself : (k : FileKey) → same_key k k ≡ true
-same_itself k = and_from (eqb k.ino k.ino) (eqb k.igen k.igen) (eq-eqb k.ino k.ino refl) (eq-eqb k.igen k.igen refl)
-
-pub find-behind : (n : ℕ) (f : CatalogFile) (fs : List CatalogFile) → Ascend (n + 1) (names_of fs) → last_inode n (names_of fs) < f.key.ino → find_key (λ g. g.key) f.key (fs ++ f ∷ []) ≡ Some f
-find-behind n f [] a above = rw (same_itself f.key) refl
-find-behind n f (g ∷ fs) a above =
-    let last = last_inode-ge g.key.ino (names_of fs) a.1 in
-    let other = other_inode g.key f.key (λ e. absurd (omega arith)) in
-    rw other (find-behind g.key.ino f fs a.1 above)
-
-pub change-behind : (n : ℕ) (f : CatalogFile) (fs : List CatalogFile) (to : CatalogFile → CatalogFile) → Ascend (n + 1) (names_of fs) → last_inode n (names_of fs) < f.key.ino → change_key (λ g. g.key) f.key to (fs ++ f ∷ []) ≡ fs ++ to f ∷ []
-change-behind n f [] to a above = rw (same_itself f.key) refl
-change-behind n f (g ∷ fs) to a above =
-    let last = last_inode-ge g.key.ino (names_of fs) a.1 in
-    let other = other_inode g.key f.key (λ e. absurd (omega arith)) in
-    rw other (ap (λ (gs : List CatalogFile). g ∷ gs) (change-behind g.key.ino f fs to a.1 above))
-
 -- ---- what is true of the files of a table is true of a file behind a front of them
 
 pub above-last : (n : ℕ) (ls : List Listed) (l : Listed) (rest : List Listed) → Ascend (n + 1) (ls ++ l ∷ rest) → last_inode n ls < l.key.ino
 above-last n [] l rest a = let low = a.0 in omega arith
 above-last n (k ∷ ls) l rest a = above-last k.key.ino ls l rest a.1
-
-pub within-at : (limit next : ℕ) (ls : List Listed) (l : Listed) (rest : List Listed) → Within limit next (ls ++ l ∷ rest) → (l.key.ino ≤ limit) × (l.key.igen < next)
-within-at limit next [] l rest w = (w.0, w.1)
-within-at limit next (k ∷ ls) l rest w = within-at limit next ls l rest w.2

@@ -1,41 +1,47 @@
 -- The places of one file's blocks, after a new size and after mappings.
-use Rattle.std.proofs.Common.{◌≡◌, ℕ, zero, suc, ◌+◌, ◌-◌, ◌<◌, ◌≤◌, List, [], ◌∷◌, ◌++◌, length, map, take, set, Option, Some, None, false, eqb, inl, inr, ◌⊎◌, ⊎_elim, refl, ◌∙◌, subst, arith, length-append, length-set, length-take}
+use Rattle.std.proofs.Common.{◌≡◌, ℕ, zero, suc, ◌+◌, ◌-◌, ◌<◌, ◌≤◌, List, [], ◌∷◌, ◌++◌, length, take, drop, set, get_or, Option, Some, None, false, eqb, inl, inr, ◌⊎◌, ⊎_elim, refl, sym, ◌∙◌, ap, subst, arith, length-append, length-set, length-take}
 use Rattle.std.specs.Prelude.{replicate}
 use Rattle.std.specs.List.{list_any, AllByRecursion}
 use Rattle.std.proofs.lemmas.Bool.{cases_Bool, cond-false, eqb-true}
 use Rattle.std.proofs.lemmas.List.{length-replicate}
 use Rattle.plain_model.specs.Blocks.{blocks_in}
 use Rattle.meta_store.specs.Catalogs.{present}
-use Rattle.meta_store.specs.Changes.{places_fitted, places_set}
+use Rattle.meta_store.specs.Records.{places_fitted, places_set, mappings_from}
 use Rattle.meta_store.specs.declared.snapshot.Mapping.{Mapping}
-use Rattle.meta_store.proofs.BlockUses.{is_one, uses, uses-absent}
+use Rattle.meta_store.proofs.BlockUses.{is_one, uses, uses-append, uses-absent}
 
 -- ---- a new size
 
-present-holes : (n : ℕ) → present (replicate n None) ≡ []
+pub present-holes : (n : ℕ) → present (replicate n None) ≡ []
 present-holes zero = refl
 present-holes (suc n) = present-holes n
 
 pub length-fitted : (size : ℕ) (ps : List (Option ℕ)) → length (places_fitted size ps) ≡ blocks_in size
 length-fitted size ps = omega (arith, length-append {A = Option ℕ}, length-take {A = Option ℕ}, length-replicate {A = Option ℕ})
 
-uses-kept : (n k holes : ℕ) (ps : List (Option ℕ)) → uses n (present (take k ps ++ replicate holes None)) ≤ uses n (present ps)
-uses-kept n zero holes ps = rw (present-holes holes) (omega arith)
-uses-kept n (suc k) holes [] = rw (present-holes holes) (omega arith)
-uses-kept n (suc k) holes (None ∷ ps) = uses-kept n k holes ps
-uses-kept n (suc k) holes (Some at ∷ ps) = let more = uses-kept n k holes ps in omega arith
+present-kept : (k holes : ℕ) (ps : List (Option ℕ)) → present (take k ps ++ replicate holes None) ++ present (drop k ps) ≡ present ps
+present-kept zero holes ps = rw (present-holes holes) refl
+present-kept (suc k) holes [] = rw (present-holes holes) refl
+present-kept (suc k) holes (None ∷ ps) = present-kept k holes ps
+present-kept (suc k) holes (Some at ∷ ps) = ap (λ (bs : List ℕ). at ∷ bs) (present-kept k holes ps)
+
+-- the blocks that stay, and those that a new size cuts
+pub present-fitted : (size : ℕ) (ps : List (Option ℕ)) → present (places_fitted size ps) ++ present (drop (blocks_in size) ps) ≡ present ps
+present-fitted size ps = present-kept (blocks_in size) (blocks_in size - length ps) ps
+
+pub count-fitted : (size : ℕ) (ps : List (Option ℕ)) → length (present (places_fitted size ps)) + length (present (drop (blocks_in size) ps)) ≡ length (present ps)
+count-fitted size ps = sym (length-append (present (places_fitted size ps)) (present (drop (blocks_in size) ps))) ∙ ap (λ (bs : List ℕ). length bs) (present-fitted size ps)
 
 pub uses-fitted : (n size : ℕ) (ps : List (Option ℕ)) → uses n (present (places_fitted size ps)) ≤ uses n (present ps)
-uses-fitted n size ps = uses-kept n (blocks_in size) (blocks_in size - length ps) ps
+uses-fitted n size ps = omega (arith, ap (λ (bs : List ℕ). uses n bs) (present-fitted size ps), uses-append n (present (places_fitted size ps)) (present (drop (blocks_in size) ps)))
 
-within-kept : (blocks k holes : ℕ) (ps : List (Option ℕ)) → AllByRecursion (λ b. b < blocks) (present ps) → AllByRecursion (λ b. b < blocks) (present (take k ps ++ replicate holes None))
-within-kept blocks zero holes ps w = rw (present-holes holes) tt
-within-kept blocks (suc k) holes [] w = rw (present-holes holes) tt
-within-kept blocks (suc k) holes (None ∷ ps) w = within-kept blocks k holes ps w
-within-kept blocks (suc k) holes (Some at ∷ ps) w = (w.0, within-kept blocks k holes ps w.1)
+all-front : (P : ℕ → Type 0) (xs ys : List ℕ) → AllByRecursion P (xs ++ ys) → AllByRecursion P xs
+all-front P [] ys all = tt
+all-front P (x ∷ xs) ys all = (all.0, all-front P xs ys all.1)
 
 pub within-fitted : (blocks size : ℕ) (ps : List (Option ℕ)) → AllByRecursion (λ b. b < blocks) (present ps) → AllByRecursion (λ b. b < blocks) (present (places_fitted size ps))
-within-fitted blocks size ps w = within-kept blocks (blocks_in size) (blocks_in size - length ps) ps w
+within-fitted blocks size ps w =
+    all-front (λ b. b < blocks) (present (places_fitted size ps)) (present (drop (blocks_in size) ps)) (subst (λ (bs : List ℕ). AllByRecursion (λ b. b < blocks) bs) (sym (present-fitted size ps)) w)
 
 -- ---- mappings
 
@@ -50,12 +56,17 @@ uses-set n zero at (Some old ∷ ps) = omega arith
 uses-set n (suc i) at (None ∷ ps) = uses-set n i at ps
 uses-set n (suc i) at (Some old ∷ ps) = let more = uses-set n i at ps in omega arith
 
-pub uses-places_set : (n : ℕ) (ms : List Mapping) (ps : List (Option ℕ)) → uses n (present (places_set ms ps)) ≤ uses n (map (λ m. m.place) ms) + uses n (present ps)
-uses-places_set n [] ps = omega arith
-uses-places_set n (m ∷ ms) ps =
-    let first = uses-set n m.block m.place ps in
-    let rest = uses-places_set n ms (set ps m.block (Some m.place)) in
-    omega arith
+-- what a new place adds
+pub present-set : (i at : ℕ) (d : Option ℕ) (ps : List (Option ℕ)) → i < length ps → length (present (set ps i (Some at))) + length (present (get_or ps i d ∷ [])) ≡ 1 + length (present ps)
+present-set i at d [] within = absurd (omega arith)
+present-set zero at d (None ∷ ps) within = omega arith
+present-set zero at d (Some old ∷ ps) within = omega arith
+present-set (suc i) at d (None ∷ ps) within = present-set i at d ps (omega arith)
+present-set (suc i) at d (Some old ∷ ps) within = let more = present-set i at d ps (omega arith) in omega arith
+
+pub uses-mapped : (n block : ℕ) (new : List ℕ) (ps : List (Option ℕ)) → uses n (present (places_set (mappings_from block new) ps)) ≤ uses n new + uses n (present ps)
+uses-mapped n block [] ps = omega arith
+uses-mapped n block (p ∷ new) ps = omega (arith, uses-set n block p ps, uses-mapped n (block + 1) new (set ps block (Some p)))
 
 within-set : (blocks i at : ℕ) (ps : List (Option ℕ)) → at < blocks → AllByRecursion (λ b. b < blocks) (present ps) → AllByRecursion (λ b. b < blocks) (present (set ps i (Some at)))
 within-set blocks i at [] lt w = tt
@@ -68,14 +79,18 @@ pub within-places_set : (blocks : ℕ) (ms : List Mapping) (ps : List (Option �
 within-places_set blocks [] ps lt w = w
 within-places_set blocks (m ∷ ms) ps lt w = within-places_set blocks ms (set ps m.block (Some m.place)) lt.1 (within-set blocks m.block m.place ps lt.0 w)
 
+pub places-within : (blocks block : ℕ) (new : List ℕ) → AllByRecursion (λ p. p < blocks) new → AllByRecursion (λ m. m.place < blocks) (mappings_from block new)
+places-within blocks block [] w = tt
+places-within blocks block (p ∷ new) w = (w.0, places-within blocks (block + 1) new w.1)
+
 -- a number that is a new place wasn't in use
-pub new_or_used : (n : ℕ) (ms : List Mapping) (used : List ℕ) → AllByRecursion (λ m. list_any (λ p. eqb p m.place) used ≡ false) ms → (uses n (map (λ m. m.place) ms) ≡ 0) ⊎ (uses n used ≡ 0)
+pub new_or_used : (n : ℕ) (new used : List ℕ) → AllByRecursion (λ p. list_any (λ b. eqb b p) used ≡ false) new → (uses n new ≡ 0) ⊎ (uses n used ≡ 0)
 new_or_used n [] used unused = inl refl
-new_or_used n (m ∷ ms) used unused =
+new_or_used n (p ∷ new) used unused =
     let P : ℕ → Type 0 = λ k. uses k used ≡ 0 in
     ⊎_elim
-    (λ same. inr (subst P (eqb-true m.place n same) (uses-absent m.place used unused.0)))
+    (λ same. inr (subst P (eqb-true p n same) (uses-absent p used unused.0)))
     (λ other.
-    let none : is_one m.place n ≡ 0 = cond-false (eqb m.place n) 1 0 other in
-    ⊎_elim (λ new. inl (omega arith)) (λ (unused : uses n used ≡ 0). inr unused) (new_or_used n ms used unused.1))
-    (cases_Bool (eqb m.place n))
+    let none : is_one p n ≡ 0 = cond-false (eqb p n) 1 0 other in
+    ⊎_elim (λ absent. inl (omega arith)) (λ (free : uses n used ≡ 0). inr free) (new_or_used n new used unused.1))
+    (cases_Bool (eqb p n))

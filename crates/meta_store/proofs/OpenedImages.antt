@@ -14,7 +14,7 @@ use Rattle.meta_store.specs.Catalogs.{Catalog}
 use Rattle.meta_store.specs.Snapshots.{IsSnapshot}
 use Rattle.meta_store.specs.Images.{area_of, gate_of, IsClosed, IsImage, IsCorruptAt}
 use Rattle.meta_store.specs.Meta.{Meta, Backs}
-use Rattle.meta_store.proofs.CommitTurns.{area_is, gate_is}
+use Rattle.meta_store.proofs.BesideBlocks.{area_is, gate_is}
 
 -- which error it was
 pub err_is : {T E : Type 0} (e v : E) → IsErrOf {T = T} {E = E} (Err e) v → e ≡ v

@@ -1,6 +1,6 @@
 -- What a snapshot that was read says.
-use Rattle.std.proofs.Common.{◌≡◌, ℕ, ◌+◌, ◌<◌, List, [], ◌∷◌, ◌++◌, Bool, length, map, take, drop, get_or, true, refl, sym, ◌∙◌, ap, add-one, arith, append-nil, take_all, take-append-drop, drop-cons}
-use Rattle.std.proofs.lemmas.List.{map-append, drop_all}
+use Rattle.std.proofs.Common.{◌≡◌, ℕ, List, [], ◌∷◌, ◌++◌, map, true, sym, ◌∙◌, ap}
+use Rattle.std.proofs.lemmas.List.{map-append}
 use Rattle.plain_model.specs.Plain.{Listed}
 use Rattle.meta_store.specs.declared.snapshot.RawFile.{RawFile}
 use Rattle.meta_store.specs.declared.snapshot.RawSnapshot.{RawSnapshot}
@@ -24,25 +24,12 @@ unfolding snapshot_of
 saying s c next files =
     ap (λ (n : ℕ). record { number = s.number; next = n; files = map raw_file s.files.items }) (sym next) ∙ ap (λ (fs : List SnapshotFile). record { number = s.number; next = c.next; files = fs }) (sym files)
 
--- the files in three parts: those before the one at i, that one, and those behind
-cut_at : (files : List RawFile) (i : ℕ) (d : RawFile) → i < length files → map raw_file files ≡ map raw_file (take i files) ++ raw_file (get_or files i d) ∷ map raw_file (drop (i + 1) files)
-cut_at files i d within =
-    let next : drop i files ≡ get_or files i d ∷ drop (i + 1) files = rw (add-one, drop-cons files i d within) refl in
-    ap (λ (fs : List RawFile). map raw_file fs) (sym (take-append-drop i files) ∙ ap (λ (fs : List RawFile). take i files ++ fs) next) ∙ map-append raw_file (take i files) (get_or files i d ∷ drop (i + 1) files)
-
 -- a valid catalog's snapshot has no file that can't stand behind those before it
-pub each-passes : (s : RawSnapshot) (n : ℕ) (c : Catalog) (i : ℕ) (d : RawFile) → IsCatalog c → raw_snapshot s ≡ snapshot_of n c → i < length s.files.items
-    → is_next (geometry_of c.geometry) s.next (map raw_file (take i s.files.items)) (raw_file (get_or s.files.items i d)) ≡ true
-each-passes s n c i d valid e within =
+pub each-passes : (s : RawSnapshot) (n : ℕ) (c : Catalog) (before : List RawFile) (f : RawFile) (rest : List RawFile) → IsCatalog c → raw_snapshot s ≡ snapshot_of n c → before ++ f ∷ rest ≡ s.files.items
+    → is_next (geometry_of c.geometry) s.next (map raw_file before) (raw_file f) ≡ true
+each-passes s n c before f rest valid e cut =
     let says = said s n c e in
-    let files = s.files.items in
-    rw says.next (passes c (map raw_file (take i files)) (raw_file (get_or files i d)) (map raw_file (drop (i + 1) files)) valid (sym says.files ∙ cut_at files i d within))
-
--- all flags, after a write to each of them
-pub written : (n : ℕ) (new old : List Bool) → length new ≡ length old → n ≡ length old → take n (new ++ drop (length new) old) ≡ new
-written n new old same whole =
-    let none : drop (length new) old ≡ [] = drop_all (length new) old (omega arith) in
-    rw (none, append-nil) (take_all n new (omega arith))
+    rw says.next (passes c (map raw_file before) (raw_file f) (map raw_file rest) valid (sym says.files ∙ sym (ap (λ (fs : List RawFile). map raw_file fs) cut) ∙ map-append raw_file before (f ∷ rest)))
 
 pub last-taken : (before : List SnapshotFile) (f : SnapshotFile) → f.key.ino ≡ last_inode 0 (names_in (before ++ f ∷ []))
 last-taken before f = sym (ap (λ (ls : List Listed). last_inode 0 ls) (map-append listed_in before (f ∷ [])) ∙ last_inode-push 0 (names_in before) (listed_in f))

@@ -2,7 +2,7 @@
 use Rattle.std.proofs.Common.{◌≡◌, ℕ, zero, suc, ◌+◌, ◌<◌, ◌≤◌, List, [], ◌∷◌, ◌++◌, length, map, drop, Option, Some, None, refl, sym, ◌∙◌, ap, subst, arith, append_assoc, append-nil, add-one}
 use Rattle.std.specs.List.{flat_map, slice_get, AllByRecursion}
 use Rattle.std.specs.Option.{option_map, IsSome}
-use Rattle.std.proofs.lemmas.List.{length-map}
+use Rattle.std.proofs.lemmas.List.{length-map, drop_all}
 use Rattle.byteorder.specs.Endian.{big_bytes}
 use Rattle.meta_store.specs.Catalogs.{CatalogFile, Catalog, IsCatalog, IsCatalogFile, geometry_of}
 use Rattle.meta_store.specs.Snapshots.{file_bytes, snapshot_file, snapshot_of, spelling}
@@ -64,11 +64,5 @@ file-more files i f out new whole at written so_far =
     ∙ sym (ap (λ (fs : List CatalogFile). out ++ files_bytes fs) (drop-at files i f at))
     ∙ so_far
 
-drop-all : {X : Type 0} (xs : List X) (i : ℕ) → length xs ≤ i → drop i xs ≡ []
-drop-all [] zero all = refl
-drop-all [] (suc i) all = refl
-drop-all (x ∷ xs) zero all = absurd (omega arith)
-drop-all (x ∷ xs) (suc i) all = drop-all xs i (omega arith)
-
 pub files-all : (c : Catalog) (i : ℕ) (out whole : List ℕ) → length c.files ≤ i → out ++ files_bytes (drop i c.files) ≡ whole → out ≡ whole
-files-all c i out whole all so_far = sym (append-nil out) ∙ sym (ap (λ (fs : List CatalogFile). out ++ files_bytes fs) (drop-all c.files i all)) ∙ so_far
+files-all c i out whole all so_far = sym (append-nil out) ∙ sym (ap (λ (fs : List CatalogFile). out ++ files_bytes fs) (drop_all i c.files all)) ∙ so_far

@@ -28,11 +28,6 @@ pub record IsImage (fsid n : ℕ) (c : Catalog) (image : List ℕ) : Type 0 wher
 unfoldable pub blocks_in_image : ℕ → List ℕ → List ℕ
 blocks_in_image geometry image = part image (layout_of geometry).blocks (layout_of geometry).blocks_len
 
--- recovery finds the same, and the data blocks are the same
-pub record RecoversSame (geometry : ℕ) (old new : List ℕ) : Type 0 where
-  pub same : (fsid n : ℕ) (c : Catalog) → c.geometry ≡ geometry → IsImage fsid n c old → IsImage fsid n c new
-  pub data_blocks : blocks_in_image geometry new ≡ blocks_in_image geometry old
-
 -- recovery finds this, and the data blocks are the same
 pub record Recovers (fsid n : ℕ) (c : Catalog) (old new : List ℕ) : Type 0 where
   pub found : IsImage fsid n c new

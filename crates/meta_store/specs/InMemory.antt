@@ -1,11 +1,14 @@
 -- A catalog in memory: a table of its files, for each inode, from 1, what is kept of the file that has it beside them, and what all attributes count.
-use Rattle.std.specs.Prelude.{◌≡◌, ℕ, ◌-◌, List, [], length, map, slice_index_or}
+use Rattle.std.specs.Prelude.{◌≡◌, ℕ, ◌+◌, ◌-◌, ◌≤◌, List, [], length, map, slice_index_or}
 use Rattle.hsm_types.specs.declared.keys.FileKey.{FileKey}
 use Rattle.hsm_types.specs.Kept.{Kept}
 use Rattle.inode_table.specs.declared.entries.FileEntry.{FileEntry}
 use Rattle.inode_table.specs.Table.{Table}
 use Rattle.meta_store.specs.declared.file_parts.FileParts.{FileParts}
+use Rattle.meta_store.specs.declared.records.Record.{Record}
+use Rattle.meta_store.specs.declared.records.Record.TheVariants.{Size, Map}
 use Rattle.meta_store.specs.Catalogs.{CatalogFile, Catalog, IsCatalog, geometry_of, attribute_total}
+use Rattle.meta_store.specs.Records.{file_after}
 
 -- of a new file
 abbrev pub no_parts : FileParts
@@ -21,6 +24,16 @@ file_of key name size parts = record { key = key; name = name; size = size; plac
 -- what is kept of a file beside its key, its name and its size
 abbrev pub parts_of : CatalogFile → FileParts
 parts_of f = record { places = f.places; regions = f.kept.regions; attributes = f.kept.attributes }
+
+-- the parts after a record about their file
+abbrev pub parts_after : Record → FileParts → FileParts
+parts_after r parts = parts_of (file_after r (file_of (record { ino = 0; igen = 0 }) [] 0 parts))
+
+-- the record is within what a file may have
+abbrev pub FitsParts : Record → FileParts → Type 0
+FitsParts (Size ino size) parts = size ≤ 16777216
+FitsParts (Map ino block places) parts = block + length places.items ≤ length parts.places
+FitsParts r parts = Unit {0}
 
 abbrev pub file_held : List FileParts → FileEntry → CatalogFile
 file_held parts e = file_of e.key e.name e.size (slice_index_or parts (e.key.ino - 1) no_parts)

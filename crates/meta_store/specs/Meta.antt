@@ -1,11 +1,13 @@
 -- What a store keeps beside bodies, in memory and on its disk.
-use Rattle.std.specs.Prelude.{◌≡◌, ℕ, ◌≤◌, ◌^◌, Bool, List}
-use Rattle.disk_model.specs.Moments.{MayBe}
+use Rattle.std.specs.Prelude.{◌≡◌, ℕ, ◌≤◌, ◌^◌, Bool, List, None}
+use Rattle.disk_model.specs.Moments.{MayBe, Turns}
 use Rattle.disk_model.specs.declared.device.Disk as disk
 use Rattle.commit_slots.specs.Places.{layout_of}
 use Rattle.commit_slots.specs.Steps.{Selects}
 use Rattle.meta_store.specs.Catalogs.{Catalog, IsCatalog}
-use Rattle.meta_store.specs.Images.{IsImage}
+use Rattle.meta_store.specs.Images.{IsImage, Recovers}
+use Rattle.meta_store.specs.declared.records.Record.{Record}
+use Rattle.meta_store.specs.Records.{after_all, refusal_of_all}
 
 pub record Meta : Type 0 where
   -- whether slot 1 is selected
@@ -33,3 +35,24 @@ pub record Backs {D : Type 0} (g : disk.Ghosts D) (d : D) (m : Meta) : Type 0 wh
   pub length : g.length_of d ≡ (layout_of m.durable.geometry).whole
   pub slot : Selects g d m.second
   pub image : (c : List ℕ) → MayBe g d c → IsImage m.fsid m.number m.durable c
+
+-- ---- what a call stores
+
+-- At each moment recovery finds what the last commit stored, or the files as they were before the call, under that number.
+abbrev pub StoresOrKeeps : {D : Type 0} → disk.Ghosts D → D → D → Meta → ℕ → Type 0
+StoresOrKeeps g old new m n = Turns g old new (Recovers m.fsid m.number m.durable) (Recovers m.fsid n m.current)
+
+-- from now on it finds the files as they were before the call
+abbrev pub HasStored : {D : Type 0} → disk.Ghosts D → D → D → Meta → ℕ → Type 0
+HasStored g old new m n = (c : List ℕ) → MayBe g new c → (d : List ℕ) × g.gives old d × Recovers m.fsid n m.current d c
+
+-- what is known of it then
+pub record IsStoredNow (old : Meta) (n : ℕ) (new : Meta) : Type 0 where
+  pub fsid : new.fsid ≡ old.fsid
+  pub number : new.number ≡ n
+  pub durable : new.durable ≡ old.current
+
+-- the records are taken, whatever is stored
+pub record IsTaken (records : List Record) (old new : Meta) : Type 0 where
+  pub judged : refusal_of_all records old.current ≡ None
+  pub current : new.current ≡ after_all records old.current

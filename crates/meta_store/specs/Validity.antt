@@ -7,6 +7,7 @@ use Rattle.hsm_types.specs.declared.stores.Geometry.{Geometry}
 use Rattle.hsm_types.specs.declared.attributes.AttrName.{AttrName}
 use Rattle.hsm_types.specs.declared.regions.Region.{Region}
 use Rattle.hsm_types.specs.Regions.{regions_refusal}
+use Rattle.hsm_types.specs.Kept.{Kept}
 use Rattle.hsm_types.specs.Attributes.{Attributes, name_cmp, is_reserved, bytes_of_attributes}
 use Rattle.plain_model.specs.Plain.{Listed, named}
 use Rattle.plain_model.specs.Blocks.{blocks_in}
@@ -56,9 +57,9 @@ abbrev pub are_attributes : Option AttrName → Attributes → Bool
 are_attributes before [] = true
 are_attributes before (a ∷ attrs) = is_attribute before a && are_attributes (Some a.0) attrs
 
--- what can be judged of a file by itself
+-- what can be judged of a file by itself, what sessions keep with it aside
 abbrev pub is_file : ℕ → ℕ → SnapshotFile → Bool
-is_file next blocks f = nat_le 1 f.key.igen && nat_lt f.key.igen next && nat_le f.size 16777216 && is_name f.name && are_regions f.kept.regions && are_attributes None f.kept.attributes && are_extents 0 (blocks_in f.size) blocks f.extents
+is_file next blocks f = nat_le 1 f.key.igen && nat_lt f.key.igen next && nat_le f.size 16777216 && is_name f.name && are_extents 0 (blocks_in f.size) blocks f.extents
 
 -- none of these places is used yet, and none of them stands twice
 abbrev pub are_unused : List ℕ → List ℕ → Bool
@@ -78,9 +79,13 @@ attribute_total_in files = sum_by (λ f. bytes_of_attributes f.kept.attributes) 
 abbrev pub are_few : Geometry → List SnapshotFile → SnapshotFile → Bool
 are_few geometry before f = nat_le (attribute_total_in before + bytes_of_attributes f.kept.attributes) geometry.attributes
 
+-- what sessions keep with the file is lawful
+abbrev pub is_kept : Kept → Bool
+is_kept k = are_regions k.regions && are_attributes None k.attributes
+
 -- the file can stand behind those
 abbrev pub is_next : Geometry → ℕ → List SnapshotFile → SnapshotFile → Bool
-is_next geometry next before f = can_follow geometry next before f && are_few geometry before f && are_unused (places_in before) (places_of f.extents)
+is_next geometry next before f = can_follow geometry next before f && is_kept f.kept && are_few geometry before f && are_unused (places_in before) (places_of f.extents)
 
 -- ---- flags of the places in use
 

@@ -1,30 +1,25 @@
 // The catalog of a store's files in memory.
-ghost use Rattle.std.specs.Prelude.{◌≡◌, ◌↔◌, ◌==◌, ◌+◌, ◌^◌, ◌<◌, ◌≤◌, [], length, map, true, false, None, Some, Err, IsSome, IfOk, IfErr, OnOk, OnErr, MatchOption, MatchResult, slice_get};
-ghost use Rattle.std.specs.List.{list_any, AllByRecursion};
+ghost use Rattle.std.specs.Prelude.{◌≡◌, ◌↔◌, ◌++◌, ◌+◌, ◌^◌, ◌<◌, ◌≤◌, [], length, map, false, None, Some, Err, IsSome, IsOk, IfOk, IsErrOf, OnOk, OnErr, slice_get};
 ghost use Rattle.std.specs.Option.{option_map};
-ghost use Rattle.hsm_types.specs.Names.{is_name};
-ghost use Rattle.hsm_types.specs.Regions.{regions_refusal};
-ghost use Rattle.hsm_types.specs.Attributes.{bytes_of_attributes, removal_refusal};
-ghost use Rattle.hsm_types.specs.declared.dm.DmRefusal.TheVariants.{Memory};
+ghost use Rattle.hsm_types.specs.Attributes.{bytes_of_attributes};
+ghost use Rattle.hsm_types.specs.declared.dm.DmRefusal.{DmRefusal};
 ghost use Rattle.plain_model.specs.Keyed.{find_key};
-ghost use Rattle.plain_model.specs.Plain.{named, free_inode};
-ghost use Rattle.plain_model.specs.Blocks.{blocks_in};
+ghost use Rattle.plain_model.specs.Plain.{named};
 ghost use Rattle.plain_model.specs.Distinct.{Distinct};
-ghost use Rattle.inode_table.specs.declared.table.TableRefusal.TheVariants.{Exists, NoInodes};
 ghost use Rattle.inode_table.specs.Listing.{has_inode};
 ghost use Rattle.inode_table.specs.Table.{entry_of};
-ghost use Rattle.meta_store.specs.Catalogs.{geometry_of, names_of, present, blocks_of, attribute_total, IsCatalog};
-ghost use Rattle.meta_store.specs.Changes.{with_file, without_file, with_remapped, with_kept, with_regions, with_attribute, without_attribute, kept_at, others_total, attribute_refusal};
+ghost use Rattle.meta_store.specs.Catalogs.{geometry_of, names_of, present, blocks_of, attribute_total, IsCatalog, IsCatalogFile};
+ghost use Rattle.meta_store.specs.Records.{with_put, without_file, with_changed, key_on, inode_of, file_after, after, others_total, refusal_of, IsAboutOne, IsMap, CanStand};
 ghost use Rattle.meta_store.specs.InMemory.{file_of, parts_of};
 
 use crate::file_parts::FileParts;
 use crate::geometry::geometry_of;
 use crate::inode_parts::{self, slot};
-use crate::kept::name_len;
-use crate::snapshot::Mapping;
+use crate::records::Record;
+use crate::refusal::MetaRefusal;
 use dm_attrs::DmAttrs;
-use hsm_types::{AttrName, Bytes, DmRefusal, FileKey, Regions, Word};
-use inode_table::{InodeTable, TableRefusal};
+use hsm_types::{FileKey, Word};
+use inode_table::InodeTable;
 use managed_regions::ManagedRegions;
 use std::alloc::{AllocError, Global};
 use std::marker::Model;
@@ -81,21 +76,6 @@ impl Catalog {
         self.geometry
     }
 
-    /// The next generation.
-    pub fn next(&self) -> u64
-        ensures { result ≡ self.now.next }
-    {
-        self.table.next()
-    }
-
-    /// How many files there are.
-    pub fn len(&self) -> u32
-        ensures len { result ≡ length self.now.files }
-        ensures valid { IsCatalog self.now }
-    {
-        self.table.len()
-    }
-
     /// The keys, names and sizes of the files.
     pub fn names(&self) -> &InodeTable
         ensures { result.now ≡ record { limit = (geometry_of self.now.geometry).files; next = self.now.next; files = map (λ f. entry_of f.key f.name f.size) self.now.files } }
@@ -122,10 +102,11 @@ impl Catalog {
         ensures { option_map (λ r. file_of r.0 r.1.now r.2 r.3.now) result ≡ slice_get self.now.files index }
     {
         let (key, name, size) = self.table.file(index)?;
-        Some((key, name, size, &self.parts[slot(key)]))
+        Some((key, name, size, &self.parts[slot(key.ino)]))
     }
 
     /// The places of a live file's blocks.
+    #[tactic(auto, using(crate::proofs::HeldCatalogs::part_none, crate::proofs::HeldCatalogs::part_some))]
     pub fn places(&self, key: FileKey) -> Option<&[Option<u32>]>
         ensures { option_map (λ r. r.now) result ≡ option_map (λ f. f.places) (find_key (λ f. f.key) key self.now.files) }
     {
@@ -133,6 +114,7 @@ impl Catalog {
     }
 
     /// How many blocks of the disk a live file uses.
+    #[tactic(auto, using(crate::proofs::HeldCatalogs::part_none, crate::proofs::HeldCatalogs::part_some))]
     pub fn mapped(&self, key: FileKey) -> Option<u64>
         ensures { result ≡ option_map (λ f. length (present f.places)) (find_key (λ f. f.key) key self.now.files) }
     {
@@ -140,6 +122,7 @@ impl Catalog {
     }
 
     /// The regions of a live file.
+    #[tactic(auto, using(crate::proofs::HeldCatalogs::part_none, crate::proofs::HeldCatalogs::part_some))]
     pub fn regions(&self, key: FileKey) -> Option<&ManagedRegions>
         ensures { option_map (λ r. r.now) result ≡ option_map (λ f. f.kept.regions) (find_key (λ f. f.key) key self.now.files) }
     {
@@ -147,6 +130,7 @@ impl Catalog {
     }
 
     /// The attributes of a live file.
+    #[tactic(auto, using(crate::proofs::HeldCatalogs::part_none, crate::proofs::HeldCatalogs::part_some))]
     pub fn attributes(&self, key: FileKey) -> Option<&DmAttrs>
         ensures { option_map (λ r. r.now) result ≡ option_map (λ f. f.kept.attributes) (find_key (λ f. f.key) key self.now.files) }
     {
@@ -158,138 +142,106 @@ impl Catalog {
         ensures { option_map (λ r. r.now) result ≡ option_map parts_of (find_key (λ f. f.key) key self.now.files) }
     {
         let _size = self.table.size(key)?;
-        Some(&self.parts[slot(key)])
+        Some(&self.parts[slot(key.ino)])
     }
 
-    /// Makes an empty file, with the lowest free inode and the next generation.
-    pub fn make(&mut self, alloc: Global, name: &Word) -> Result<FileKey, TableRefusal>
-        requires lawful { is_name name.now ≡ true }
-        requires room { self.old.next < 2 ^ 62 }
-        ensures key { IfOk result (λ key. (key.ino ≡ free_inode 1 (names_of self.old.files)) × (key.igen ≡ self.old.next)) }
-        ensures made { IfOk result (λ key. self.new ≡ with_file key name.now self.old) }
-        ensures exists { (result ≡ Err Exists) ↔ IsSome (named name.now (names_of self.old.files)) }
-        ensures no_inodes { (result ≡ Err NoInodes) ↔ ((named name.now (names_of self.old.files) ≡ None) × (length self.old.files ≡ (geometry_of self.old.geometry).files)) }
-        ensures err { OnErr result (self.new ≡ self.old) }
-    {
-        let key = self.table.make(alloc, name)?;
-        self.parts[slot(key)] = FileParts::new(alloc);
-        Ok(key)
-    }
-
-    /// Puts an empty file as a snapshot has it. At an `Err` nothing has changed.
-    pub fn put(&mut self, alloc: Global, key: FileKey, name: &Word) -> Result<(), AllocError>
+    /// Adds a file as a snapshot or a record has it. At an `Err` nothing has changed.
+    pub(crate) fn put(
+        &mut self,
+        alloc: Global,
+        key: FileKey,
+        name: &Word,
+        size: u64,
+        parts: FileParts,
+    ) -> Result<(), AllocError>
         requires low { 1 ≤ key.ino }
         requires high { key.ino ≤ (geometry_of self.old.geometry).files }
+        requires early { key.igen < 2 ^ 62 }
         requires inode { has_inode key.ino (names_of self.old.files) ≡ false }
         requires name { named name.now (names_of self.old.files) ≡ None }
-        requires generation { 1 ≤ key.igen }
-        requires early { key.igen < 2 ^ 62 }
-        requires lawful { is_name name.now ≡ true }
-        ensures ok { OnOk result (self.new ≡ with_file key name.now self.old) }
+        requires lawful { IsCatalogFile (geometry_of self.old.geometry).blocks (file_of key name.now size parts) }
+        requires distinct { Distinct (present parts.places ++ blocks_of self.old.files) }
+        requires room { attribute_total self.old.files + bytes_of_attributes parts.attributes ≤ (geometry_of self.old.geometry).attributes }
+        ensures ok { OnOk result (self.new ≡ with_put (file_of key name.now size parts) self.old) }
         ensures err { OnErr result (self.new ≡ self.old) }
     {
-        self.table.put(alloc, key, name, 0)?;
-        self.parts[slot(key)] = FileParts::new(alloc);
+        self.table.put(alloc, key, name, size)?;
+        self.attribute_total += parts.attributes.bytes();
+        self.used += u64::from(parts.places.mapped());
+        self.parts[slot(key.ino)] = parts;
         Ok(())
     }
 
-    /// Drops a file. Where the key isn't live, nothing changes. It takes no memory.
-    pub fn drop_file(&mut self, key: FileKey)
-        ensures { self.new ≡ without_file key self.old }
+    /// Changes the files as a record says. At an `Err` nothing has changed. It costs the record, and the blocks that a size adds or takes away.
+    pub(crate) fn apply(&mut self, alloc: Global, change: Record) -> Result<(), MetaRefusal>
+        requires { CanStand change self.old }
+        ensures judged { OnOk result (refusal_of change self.old ≡ None) }
+        ensures taken { OnOk result (self.new ≡ after change self.old) }
+        ensures refused { (why : DmRefusal) → (result ≡ Err (MetaRefusal.Part why)) ↔ (refusal_of change self.old ≡ Some why) }
+        ensures no_disk { IsErrOf result MetaRefusal.Disk → ⊥ }
+        // The place of a block takes no memory.
+        ensures mapped { IsMap change → IsOk result }
+        ensures err { OnErr result (self.new ≡ self.old) }
     {
-        if self.table.drop_file(key).is_some() {
-            let parts = &self.parts[slot(key)];
-            self.attribute_total -= parts.attributes.bytes();
-            self.used -= u64::from(parts.places.mapped());
+        match change {
+            Record::Make { key, name } => {
+                // Read for what is true of each catalog.
+                let _geometry = self.geometry;
+                self.put(alloc, key, &name, 0, FileParts::new(alloc))?;
+                Ok(())
+            }
+            Record::Drop { ino } => {
+                self.drop_file(ino);
+                Ok(())
+            }
+            change => self.change_file(change),
         }
     }
 
-    /// Gives a live file a size, and new places to some of its blocks. Blocks past the size go. At an `Err` nothing has changed. It costs the
-    /// mappings, and the blocks that the size adds or takes away.
-    pub fn remap(
-        &mut self,
-        _alloc: Global,
-        key: FileKey,
-        size: u64,
-        mappings: &[Mapping],
-    ) -> Result<(), AllocError>
-        requires live { IsSome (find_key (λ f. f.key) key self.old.files) }
-        requires size { size ≤ 16777216 }
-        requires blocks { AllByRecursion (λ m. m.block < blocks_in size) mappings.now }
-        requires places { AllByRecursion (λ m. m.place < (geometry_of self.old.geometry).blocks) mappings.now }
-        requires unused { AllByRecursion (λ m. list_any (λ p. p == m.place) (blocks_of self.old.files) ≡ false) mappings.now }
-        requires distinct { Distinct (map (λ m. m.place) mappings.now) }
-        ensures ok { OnOk result (self.new ≡ with_remapped key size mappings.now self.old) }
+    /// Drops the file with that inode. It takes no memory.
+    fn drop_file(&mut self, ino: u64)
+        requires { IsSome (find_key (λ f. f.key) (key_on ino self.old) self.old.files) }
+        ensures { self.new ≡ without_file (key_on ino self.old) self.old }
+    {
+        let (key, attributes, blocks) = self.others(ino);
+        self.attribute_total = attributes;
+        self.used = blocks;
+        self.table.drop_file(key);
+    }
+
+    /// The key of the file with that inode, what the attributes of all other files count, and how many blocks of the disk those use.
+    fn others(&self, ino: u64) -> (FileKey, u64, u64)
+        requires { IsSome (find_key (λ f. f.key) (key_on ino self.now) self.now.files) }
+        ensures key { result.0 ≡ key_on ino self.now }
+        ensures attributes { result.1 ≡ others_total (key_on ino self.now) self.now }
+        ensures used { result.2 ≡ length (blocks_of (without_file (key_on ino self.now) self.now).files) }
+    {
+        let key = self.table.key_at(ino).unwrap();
+        let parts = self.parts(key).unwrap();
+        let attributes = self.attribute_total - parts.attributes.bytes();
+        let blocks = self.used - u64::from(parts.places.mapped());
+        (key, attributes, blocks)
+    }
+
+    /// Changes the file that a record is about.
+    fn change_file(&mut self, change: Record) -> Result<(), MetaRefusal>
+        requires about { IsAboutOne change }
+        requires stands { CanStand change self.old }
+        ensures judged { OnOk result (refusal_of change self.old ≡ None) }
+        ensures taken { OnOk result (self.new ≡ with_changed (key_on (inode_of change) self.old) (file_after change) self.old) }
+        ensures refused { (why : DmRefusal) → (result ≡ Err (MetaRefusal.Part why)) ↔ (refusal_of change self.old ≡ Some why) }
+        ensures no_disk { IsErrOf result MetaRefusal.Disk → ⊥ }
+        ensures mapped { IsMap change → IsOk result }
         ensures err { OnErr result (self.new ≡ self.old) }
     {
-        let places = &mut self.parts[slot(key)].places;
-        let others = self.used - u64::from(places.mapped());
-        places.remap(size, mappings)?;
-        self.used = others + u64::from(places.mapped());
+        let limit = u64::from(geometry_of(self.geometry).attributes);
+        let (key, attributes, blocks) = self.others(change.ino());
+        let size = change.size_after(self.table.size(key).unwrap());
+        let parts = &mut self.parts[slot(key.ino)];
+        parts.apply(change, attributes, limit)?;
+        self.attribute_total = attributes + parts.attributes.bytes();
+        self.used = blocks + u64::from(parts.places.mapped());
         self.table.set_size(key, size);
         Ok(())
-    }
-
-    /// Gives a live file these regions, in the place of those that it has. At an `Err` nothing has changed. It takes no memory.
-    pub fn set_regions(&mut self, key: FileKey, regions: Regions) -> Result<(), DmRefusal>
-        requires live { IsSome (find_key (λ f. f.key) key self.old.files) }
-        ensures judged { MatchResult result (λ _. regions_refusal regions ≡ None) (λ why. regions_refusal regions ≡ Some why) }
-        ensures ok { OnOk result (self.new ≡ with_regions key regions self.old) }
-        ensures err { OnErr result (self.new ≡ self.old) }
-    {
-        self.parts[slot(key)].regions.set(regions)?;
-        Ok(())
-    }
-
-    /// Gives an attribute of a live file a value, in the place of an older one. At an `Err` nothing has changed.
-    pub fn set_attribute(
-        &mut self,
-        key: FileKey,
-        name: AttrName,
-        value: &Bytes,
-    ) -> Result<(), DmRefusal>
-        requires live { IsSome (find_key (λ f. f.key) key self.old.files) }
-        ensures judged { OnOk result (attribute_refusal key name value.now self.old ≡ None) }
-        ensures refused { IfErr result (λ why. MatchOption (attribute_refusal key name value.now self.old) (why ≡ Memory) (λ cause. why ≡ cause)) }
-        ensures ok { OnOk result (self.new ≡ with_attribute key name value.now self.old) }
-        ensures err { OnErr result (self.new ≡ self.old) }
-    {
-        // Read for the eight bytes of each name.
-        let _len = name_len(name);
-        let limit = geometry_of(self.geometry).attributes as u64;
-        let attributes = &mut self.parts[slot(key)].attributes;
-        let others = self.attribute_total - attributes.bytes();
-        attributes.set(name, value, others, limit)?;
-        self.attribute_total = others + attributes.bytes();
-        Ok(())
-    }
-
-    /// Takes an attribute of a live file away. At an `Err` nothing has changed. It takes no memory.
-    pub fn remove_attribute(&mut self, key: FileKey, name: AttrName) -> Result<(), DmRefusal>
-        requires live { IsSome (find_key (λ f. f.key) key self.old.files) }
-        ensures judged { MatchResult result (λ _. removal_refusal name (kept_at key self.old).attributes ≡ None) (λ why. removal_refusal name (kept_at key self.old).attributes ≡ Some why) }
-        ensures ok { OnOk result (self.new ≡ without_attribute key name self.old) }
-        ensures err { OnErr result (self.new ≡ self.old) }
-    {
-        let attributes = &mut self.parts[slot(key)].attributes;
-        let others = self.attribute_total - attributes.bytes();
-        attributes.remove(name)?;
-        self.attribute_total = others + attributes.bytes();
-        Ok(())
-    }
-
-    /// Gives a live file these regions and attributes, in the place of those that it has.
-    pub(crate) fn set_kept(&mut self, key: FileKey, regions: ManagedRegions, attributes: DmAttrs)
-        requires live { IsSome (find_key (λ f. f.key) key self.old.files) }
-        requires lawful { regions_refusal regions ≡ None }
-        requires room { others_total key self.old + bytes_of_attributes attributes ≤ (geometry_of self.old.geometry).attributes }
-        requires eight { AllByRecursion (λ a. length a.0.0 ≡ 8) attributes }
-        ensures { self.new ≡ with_kept key (λ _. record { regions = regions; attributes = attributes }) self.old }
-    {
-        let parts = &mut self.parts[slot(key)];
-        let others = self.attribute_total - parts.attributes.bytes();
-        self.attribute_total = others + attributes.bytes();
-        parts.regions = regions;
-        parts.attributes = attributes;
     }
 }

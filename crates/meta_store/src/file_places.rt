@@ -1,9 +1,9 @@
 // Where the blocks of one file lie.
-ghost use Rattle.std.specs.Prelude.{◌≡◌, ◌+◌, ◌-◌, ◌<◌, ◌≤◌, ◌++◌, [], ◌∷◌, length, take, drop, replicate, None, OnOk, OnErr};
+ghost use Rattle.std.specs.Prelude.{◌≡◌, ◌+◌, ◌-◌, ◌<◌, ◌≤◌, ◌++◌, [], ◌∷◌, length, take, drop, replicate, None, IfOk, OnOk, OnErr};
 ghost use Rattle.std.specs.List.{AllByRecursion};
 ghost use Rattle.plain_model.specs.Blocks.{blocks_in};
 ghost use Rattle.meta_store.specs.Catalogs.{present};
-ghost use Rattle.meta_store.specs.Changes.{places_fitted, places_set};
+ghost use Rattle.meta_store.specs.Records.{places_fitted, places_set, mappings_from};
 
 use crate::snapshot::Mapping;
 use hsm_types::{BLOCK_BYTES, FILE_BYTES};
@@ -53,20 +53,44 @@ impl FilePlaces {
         self.mapped
     }
 
-    /// Follows a file to its new size, and gives blocks new places. At an `Err` nothing has changed. It costs the mappings, and the blocks
-    /// that a new size adds or takes away.
-    pub fn remap(&mut self, size: u64, mappings: &[Mapping]) -> Result<(), AllocError>
+    /// Of a file of that size, whose blocks lie there, as a snapshot has it. It costs the blocks.
+    pub(crate) fn of(
+        alloc: Global,
+        size: u64,
+        extents: &[Mapping],
+    ) -> Result<FilePlaces, AllocError>
         requires size { size ≤ FILE_BYTES }
-        requires blocks { AllByRecursion (λ m. m.block < blocks_in size) mappings.now }
-        ensures ok { OnOk result (self.new ≡ places_set mappings.now (places_fitted size self.old)) }
+        requires blocks { AllByRecursion (λ m. m.block < blocks_in size) extents.now }
+        ensures { IfOk result (λ p. p ≡ places_set extents.now (replicate (blocks_in size) None)) }
+    {
+        let mut places = vec![in alloc; None; blocks_in(size)]?;
+        let mapped = set(places.as_mut_slice(), extents);
+        Ok(FilePlaces { places, mapped })
+    }
+
+    /// Follows a file to its new size. At an `Err` nothing has changed. It costs the blocks that the size adds or takes away.
+    pub(crate) fn fit(&mut self, size: u64) -> Result<(), AllocError>
+        requires { size ≤ FILE_BYTES }
+        ensures ok { OnOk result (self.new ≡ places_fitted size self.old) }
         ensures err { OnErr result (self.new ≡ self.old) }
     {
         let count = blocks_in(size);
         let cut = count_from(self.places.as_slice(), count);
-        fit(&mut self.places, count)?;
-        let added = set(self.places.as_mut_slice(), mappings);
-        self.mapped = self.mapped - cut + added;
+        self.places.resize(count, None)?;
+        self.mapped -= cut;
         Ok(())
+    }
+
+    /// Gives the blocks from that one on these places. It costs the places.
+    pub(crate) fn map(&mut self, block: u32, places: &[u32])
+        requires { block + length places.now ≤ length self.old }
+        ensures { self.new ≡ places_set (mappings_from block places.now) self.old }
+    {
+        let first = block as usize;
+        for (i, place) in places.iter().enumerate() {
+            self.mapped += hole(self.places[first + i]);
+            self.places[first + i] = Some(*place);
+        }
     }
 }
 
@@ -102,14 +126,6 @@ fn blocks_in(size: u64) -> usize
     ensures { result ≡ blocks_in size }
 {
     ((size + (BLOCK_BYTES - 1)) / BLOCK_BYTES) as usize
-}
-
-/// Keeps the places of so many blocks, or adds those of holes. At an `Err` nothing has changed.
-fn fit(places: &mut Vec<Option<u32>>, count: usize) -> Result<(), AllocError>
-    ensures ok { OnOk result (places.new.items ≡ take count places.old.items ++ replicate (count - length places.old.items) None) }
-    ensures err { OnErr result (places.new.items ≡ places.old.items) }
-{
-    places.resize(count, None)
 }
 
 /// Gives blocks new places, one after the other, and tells how many of them were holes.

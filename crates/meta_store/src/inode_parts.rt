@@ -3,15 +3,14 @@ ghost use Rattle.std.specs.Prelude.{◌≡◌, ◌-◌, ◌≤◌, replicate, If
 ghost use Rattle.meta_store.specs.InMemory.{no_parts};
 
 use crate::file_parts::FileParts;
-use hsm_types::FileKey;
 use std::alloc::{AllocError, Global};
 
-/// Where the parts of a file with that key are.
-pub fn slot(key: FileKey) -> usize
-    requires { 1 ≤ key.ino }
-    ensures { result ≡ key.ino - 1 }
+/// Where the parts of the file with that inode are.
+pub fn slot(ino: u64) -> usize
+    requires { 1 ≤ ino }
+    ensures { result ≡ ino - 1 }
 {
-    (key.ino - 1) as usize
+    (ino - 1) as usize
 }
 
 /// The parts of so many new files.

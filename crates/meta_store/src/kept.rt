@@ -1,14 +1,15 @@
 // What sessions keep with a file, as a snapshot has it.
-ghost use Rattle.std.specs.Prelude.{◌≡◌, ◌≤◌, ◌^◌, None, IfOk, IsErrOf, true, length, nat_le};
+ghost use Rattle.std.specs.Prelude.{◌≡◌, ◌↔◌, ◌≤◌, ◌^◌, None, IfOk, OnOk, true, false, length};
+ghost use Rattle.std.specs.Result.{IsErrOf};
 ghost use Rattle.std.specs.List.{AllByRecursion};
-ghost use Rattle.hsm_types.specs.Attributes.{bytes_of_attributes};
+ghost use Rattle.hsm_types.specs.Attributes.{AreAttributes, bytes_of_attributes};
 ghost use Rattle.hsm_types.specs.declared.dm.DmRefusal.TheVariants.{Memory};
-ghost use Rattle.meta_store.specs.Validity.{are_regions, stands_behind, is_attribute, are_attributes};
+ghost use Rattle.meta_store.specs.Validity.{are_regions, stands_behind, are_attributes};
 
 use crate::snapshot::ReadRefusal;
 use dm_attrs::DmAttrs;
-use hsm_types::{ATTRIBUTE_BYTES, ATTRIBUTE_COST, AttrName, Bytes, DmRefusal, Region, Regions};
-use managed_regions::{ManagedRegions, judge};
+use hsm_types::{AttrName, Bytes, DmRefusal, Region, Regions};
+use managed_regions::ManagedRegions;
 use std::alloc::Global;
 use std::cmp::Ordering;
 
@@ -20,61 +21,9 @@ pub(crate) fn name_len(name: AttrName) -> usize
     name.0.len()
 }
 
-/// Whether nothing refuses these regions.
-pub(crate) fn are_regions(regions: &[Region]) -> bool
-    ensures { result ≡ are_regions regions.now }
-{
-    judge(regions).is_ok()
-}
-
-/// Whether names of attributes ascend, none is reserved, and no value is too long.
-pub(crate) fn are_attributes(attributes: &[(AttrName, Bytes)]) -> bool
-    ensures { result ≡ are_attributes None attributes.now }
-{
-    let mut before = None;
-    for (name, value) in attributes {
-        if !is_attribute(before, *name, value) {
-            return false;
-        }
-        before = Some(*name);
-    }
-    true
-}
-
-/// Whether an attribute can stand behind one of that name, if one stands before it.
-fn is_attribute(before: Option<AttrName>, name: AttrName, value: &Bytes) -> bool
-    ensures { result ≡ is_attribute before (name, value.now) }
-{
-    stands_behind(before, name) && !name.is_reserved() && value.as_slice().len() <= ATTRIBUTE_BYTES
-}
-
-fn stands_behind(before: Option<AttrName>, name: AttrName) -> bool
-    ensures { result ≡ stands_behind before name }
-{
-    match before {
-        Some(before) => before.cmp(&name) == Ordering::Less,
-        None => true,
-    }
-}
-
-/// Whether attributes count at most so many bytes.
-pub(crate) fn are_within(attributes: &[(AttrName, Bytes)], room: u64) -> bool
-    ensures { result ≡ nat_le (bytes_of_attributes attributes.now) room }
-{
-    let mut left = room;
-    for (_, value) in attributes {
-        let bytes = ATTRIBUTE_COST + value.as_slice().len() as u64;
-        if left < bytes {
-            return false;
-        }
-        left -= bytes;
-    }
-    true
-}
-
-/// What a refused attribute says of the snapshot.
+/// What a refusal by a part says of the snapshot.
 fn refusal_of(why: DmRefusal) -> ReadRefusal
-    ensures { why ≡ Memory → result ≡ ReadRefusal.Memory }
+    ensures { result ≡ ReadRefusal.Memory ↔ why ≡ Memory }
 {
     match why {
         DmRefusal::Memory => ReadRefusal::Memory,
@@ -82,40 +31,57 @@ fn refusal_of(why: DmRefusal) -> ReadRefusal
     }
 }
 
-/// The regions, which are lawful.
-pub(crate) fn regions_of(alloc: Global, regions: &[Region]) -> Result<ManagedRegions, ReadRefusal>
-    requires { are_regions regions.now ≡ true }
-    ensures ok { IfOk result (λ kept. kept ≡ regions.now) }
-    ensures memory { IsErrOf result ReadRefusal.Corrupt → ⊥ }
+/// The regions of a file, if they are lawful.
+pub(crate) fn regions_of(alloc: Global, regions: Vec<Region>) -> Result<ManagedRegions, ReadRefusal>
+    ensures lawful { OnOk result (are_regions regions.items ≡ true) }
+    ensures ok { IfOk result (λ kept. kept ≡ regions.items) }
+    ensures corrupt { IsErrOf result ReadRefusal.Corrupt → are_regions regions.items ≡ false }
 {
     let mut kept = ManagedRegions::new(alloc);
-    match kept.set(Regions::from(Vec::from_slice(alloc, regions)?)) {
+    match kept.set(Regions::from(regions)) {
         Ok(()) => Ok(kept),
-        Err(_) => Err(ReadRefusal::Corrupt),
+        Err(why) => Err(refusal_of(why)),
     }
 }
 
-/// The attributes, which are lawful and count at most so many bytes.
+/// The attributes of a file, if they are lawful and count at most so many bytes.
 pub(crate) fn attributes_of(
     alloc: Global,
-    attributes: &[(AttrName, Bytes)],
+    attributes: Vec<(AttrName, Bytes)>,
     limit: u64,
 ) -> Result<DmAttrs, ReadRefusal>
-    requires lawful { are_attributes None attributes.now ≡ true }
-    requires within { bytes_of_attributes attributes.now ≤ limit }
-    requires limit { limit ≤ 2 ^ 32 }
-    ensures ok { IfOk result (λ kept. kept ≡ attributes.now) }
+    requires { limit ≤ 2 ^ 32 }
+    ensures lawful { OnOk result (are_attributes None attributes.items ≡ true) }
+    ensures within { OnOk result (bytes_of_attributes attributes.items ≤ limit) }
+    ensures ok { IfOk result (λ kept. kept ≡ attributes.items) }
+    ensures attributes { IfOk result AreAttributes }
     ensures eight { IfOk result (λ kept. AllByRecursion (λ a. length a.0.0 ≡ 8) kept) }
-    ensures memory { IsErrOf result ReadRefusal.Corrupt → ⊥ }
+    ensures corrupt { IsErrOf result ReadRefusal.Corrupt → are_attributes None attributes.items ≡ true → bytes_of_attributes attributes.items ≤ limit → ⊥ }
 {
     let mut kept = DmAttrs::new(alloc);
+    let mut before = None;
     for (name, value) in attributes {
         // Read for the eight bytes of each name.
-        let _len = name_len(*name);
-        match kept.set(*name, value, 0, limit) {
-            Ok(()) => {}
+        let _len = name_len(name);
+        if !stands_behind(before, name) {
+            return Err(ReadRefusal::Corrupt);
+        }
+        match kept.set(name, value, 0, limit) {
+            Ok(()) => before = Some(name),
             Err(why) => return Err(refusal_of(why)),
         }
     }
+    // Read for what is true of the attributes of every file.
+    let _bytes = kept.bytes();
     Ok(kept)
+}
+
+/// Whether the first name stands before the second, if there is one before it.
+fn stands_behind(before: Option<AttrName>, name: AttrName) -> bool
+    ensures { result ≡ stands_behind before name }
+{
+    match before {
+        Some(before) => before.cmp(&name) == Ordering::Less,
+        None => true,
+    }
 }

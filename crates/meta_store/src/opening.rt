@@ -30,8 +30,9 @@ pub(crate) fn judge(
         Ok(snapshot) => snapshot,
         Err(refusal) => return Err(refusal),
     };
-    match catalog_of(alloc, geometry, &snapshot) {
-        Ok(catalog) => Ok((snapshot.number, catalog)),
+    let number = snapshot.number;
+    match catalog_of(alloc, geometry, snapshot) {
+        Ok(catalog) => Ok((number, catalog)),
         Err(refusal) => Err(refusal),
     }
 }

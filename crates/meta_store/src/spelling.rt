@@ -8,6 +8,9 @@ use crate::catalog::Catalog;
 use crate::writing::{put_file, put_header};
 use std::alloc::{AllocError, Global};
 
+/// The room for each file from the start. A file with many extents or a long name takes more.
+const FILE_ROOM: usize = 64;
+
 /// The bytes of a snapshot of the catalog, under that number.
 pub(crate) fn spell(alloc: Global, number: u64, catalog: &Catalog) -> Result<Vec<u8>, AllocError>
     requires { number ≤ 2 ^ 62 }
@@ -16,9 +19,12 @@ pub(crate) fn spell(alloc: Global, number: u64, catalog: &Catalog) -> Result<Vec
     ensures lawful { OnOk result (IsCatalog catalog.now) }
     ensures fits { OnOk result (Fits (snapshot_of number catalog.now)) }
 {
-    let count = catalog.len();
-    let mut out = Vec::new(alloc);
-    put_header(&mut out, number, catalog.next(), count)?;
+    // Read for what is true of each catalog.
+    let _geometry = catalog.geometry();
+    let table = catalog.names();
+    let count = table.len();
+    let mut out = Vec::with_capacity(alloc, (count as usize + 1) * FILE_ROOM)?;
+    put_header(&mut out, number, table.next(), count)?;
     for index in 0..count {
         let (key, name, size, parts) = catalog.file(index).unwrap();
         put_file(&mut out, key, name, size, parts)?;

@@ -2,11 +2,11 @@
 ghost use Rattle.std.specs.Prelude.{◌≡◌, ◌+◌, ◌≤◌, ◌<◌, ◌^◌, ◌++◌, length, OnOk};
 ghost use Rattle.std.specs.List.{flat_map};
 ghost use Rattle.byteorder.specs.Endian.{big_bytes};
+ghost use Rattle.meta_store.specs.Catalogs.{present};
 ghost use Rattle.meta_store.specs.Snapshots.{region_bytes, attribute_bytes, extent_bytes, extents_from, file_bytes, snapshot_file};
 ghost use Rattle.meta_store.specs.InMemory.{file_of};
 
 use crate::file_parts::FileParts;
-use crate::file_places::count_present;
 use crate::snapshot::{FORMAT, Mapping};
 use byteorder::{BigEndian, ByteOrder};
 use dm_attrs::DmAttrs;
@@ -31,21 +31,55 @@ fn put_u32(out: &mut Vec<u8>, number: u32) -> Result<(), AllocError>
     Ok(())
 }
 
-fn put_u64(out: &mut Vec<u8>, number: u64) -> Result<(), AllocError>
-    ensures { OnOk result (out.new.items ≡ out.old.items ++ big_bytes 8 number) }
+fn spell_extent(extent: Mapping) -> [u8; 8]
+    ensures { result ≡ extent_bytes extent }
 {
-    let mut field = [0; 8];
-    BigEndian::write_u64(&mut field, number);
-    out.extend_from_slice(&field)?;
-    Ok(())
+    let mut bytes = [0; 8];
+    BigEndian::write_u32(&mut bytes, extent.block);
+    BigEndian::write_u32(&mut bytes[4..], extent.place);
+    bytes
 }
 
-fn put_extent(out: &mut Vec<u8>, extent: Mapping) -> Result<(), AllocError>
-    ensures { OnOk result (out.new.items ≡ out.old.items ++ extent_bytes extent) }
+fn spell_region(region: Region) -> [u8; 17]
+    ensures { result ≡ region_bytes region }
 {
-    put_u32(out, extent.block)?;
-    put_u32(out, extent.place)?;
-    Ok(())
+    let mut bytes = [0; 17];
+    BigEndian::write_u64(&mut bytes, region.offset);
+    BigEndian::write_u64(&mut bytes[8..], region.size);
+    bytes[16] = region.flags;
+    bytes
+}
+
+fn spell_header(number: u64, next: u64, count: u32) -> [u8; 24]
+    ensures { result ≡ big_bytes 8 number ++ big_bytes 8 next ++ big_bytes 4 1 ++ big_bytes 4 count }
+{
+    let mut bytes = [0; 24];
+    BigEndian::write_u64(&mut bytes, number);
+    BigEndian::write_u64(&mut bytes[8..], next);
+    BigEndian::write_u32(&mut bytes[16..], FORMAT);
+    BigEndian::write_u32(&mut bytes[20..], count);
+    bytes
+}
+
+/// A file's key, its size and the length of its name.
+fn spell_head(key: FileKey, size: u64, len: u8) -> [u8; 25]
+    ensures { result ≡ big_bytes 8 key.ino ++ big_bytes 8 key.igen ++ big_bytes 8 size ++ big_bytes 1 len }
+{
+    let mut bytes = [0; 25];
+    BigEndian::write_u64(&mut bytes, key.ino);
+    BigEndian::write_u64(&mut bytes[8..], key.igen);
+    BigEndian::write_u64(&mut bytes[16..], size);
+    bytes[24] = len;
+    bytes
+}
+
+/// That sessions keep nothing with a file, and how many extents it has.
+fn spell_nothing_kept(extents: u32) -> [u8; 9]
+    ensures { result ≡ big_bytes 1 0 ++ big_bytes 4 0 ++ big_bytes 4 extents }
+{
+    let mut bytes = [0; 9];
+    BigEndian::write_u32(&mut bytes[5..], extents);
+    bytes
 }
 
 /// The front of a snapshot: the number of history entries before it, the next generation, and how many files follow.
@@ -57,10 +91,7 @@ pub(crate) fn put_header(
 ) -> Result<(), AllocError>
     ensures { OnOk result (out.new.items ≡ out.old.items ++ (big_bytes 8 number ++ big_bytes 8 next ++ big_bytes 4 1 ++ big_bytes 4 count)) }
 {
-    put_u64(out, number)?;
-    put_u64(out, next)?;
-    put_u32(out, FORMAT)?;
-    put_u32(out, count)?;
+    out.extend_from_slice(&spell_header(number, next, count))?;
     Ok(())
 }
 
@@ -71,37 +102,21 @@ fn put_extents(out: &mut Vec<u8>, places: &[Option<u32>]) -> Result<(), AllocErr
     let mut block = 0;
     for place in places {
         if let Some(place) = *place {
-            put_extent(out, Mapping { block, place })?;
+            out.extend_from_slice(&spell_extent(Mapping { block, place }))?;
         }
         block += 1;
     }
     Ok(())
 }
 
-fn put_key(out: &mut Vec<u8>, key: FileKey) -> Result<(), AllocError>
-    ensures { OnOk result (out.new.items ≡ out.old.items ++ (big_bytes 8 key.ino ++ big_bytes 8 key.igen)) }
-{
-    put_u64(out, key.ino)?;
-    put_u64(out, key.igen)?;
-    Ok(())
-}
-
-fn put_name(out: &mut Vec<u8>, name: &Word) -> Result<(), AllocError>
+/// A file's key, its size and its name.
+fn put_head(out: &mut Vec<u8>, key: FileKey, size: u64, name: &Word) -> Result<(), AllocError>
     requires { length name.now ≤ 64 }
-    ensures { OnOk result (out.new.items ≡ out.old.items ++ (big_bytes 1 (length name.now) ++ name.now)) }
+    ensures { OnOk result (out.new.items ≡ out.old.items ++ (big_bytes 8 key.ino ++ big_bytes 8 key.igen ++ big_bytes 8 size ++ big_bytes 1 (length name.now) ++ name.now)) }
 {
     let name = name.as_slice();
-    out.push(name.len() as u8)?;
+    out.extend_from_slice(&spell_head(key, size, name.len() as u8))?;
     out.extend_from_slice(name)?;
-    Ok(())
-}
-
-fn put_region(out: &mut Vec<u8>, region: Region) -> Result<(), AllocError>
-    ensures { OnOk result (out.new.items ≡ out.old.items ++ region_bytes region) }
-{
-    put_u64(out, region.offset)?;
-    put_u64(out, region.size)?;
-    out.push(region.flags)?;
     Ok(())
 }
 
@@ -109,7 +124,7 @@ fn put_regions(out: &mut Vec<u8>, regions: &[Region]) -> Result<(), AllocError>
     ensures { OnOk result (out.new.items ≡ out.old.items ++ flat_map region_bytes regions.now) }
 {
     for region in regions {
-        put_region(out, *region)?;
+        out.extend_from_slice(&spell_region(*region))?;
     }
     Ok(())
 }
@@ -134,16 +149,21 @@ fn put_attributes(out: &mut Vec<u8>, attributes: &DmAttrs) -> Result<(), AllocEr
     Ok(())
 }
 
-/// What sessions keep with a file: its regions and its attributes.
+/// What sessions keep with a file, which mostly is nothing, and how many extents it has.
 fn put_kept(out: &mut Vec<u8>, parts: &FileParts) -> Result<(), AllocError>
     requires { length parts.now.regions ≤ 4 }
-    ensures { OnOk result (out.new.items ≡ out.old.items ++ (big_bytes 1 (length parts.now.regions) ++ flat_map region_bytes parts.now.regions ++ big_bytes 4 (length parts.now.attributes) ++ flat_map attribute_bytes parts.now.attributes)) }
+    ensures { OnOk result (out.new.items ≡ out.old.items ++ (big_bytes 1 (length parts.now.regions) ++ flat_map region_bytes parts.now.regions ++ big_bytes 4 (length parts.now.attributes) ++ flat_map attribute_bytes parts.now.attributes ++ big_bytes 4 (length (present parts.now.places)))) }
 {
     let regions = parts.regions.list().as_slice();
+    if regions.is_empty() && parts.attributes.len() == 0 {
+        out.extend_from_slice(&spell_nothing_kept(parts.places.mapped()))?;
+        return Ok(());
+    }
     out.push(regions.len() as u8)?;
     put_regions(out, regions)?;
     put_u32(out, parts.attributes.len())?;
     put_attributes(out, &parts.attributes)?;
+    put_u32(out, parts.places.mapped())?;
     Ok(())
 }
 
@@ -160,13 +180,9 @@ pub(crate) fn put_file(
     requires regions { length parts.now.regions ≤ 4 }
     ensures { OnOk result (out.new.items ≡ out.old.items ++ file_bytes (snapshot_file (file_of key name.now size parts.now))) }
 {
-    let places = parts.places.as_slice();
-    put_key(out, key)?;
-    put_u64(out, size)?;
-    put_name(out, name)?;
+    put_head(out, key, size, name)?;
     put_kept(out, parts)?;
-    put_u32(out, count_present(places))?;
-    put_extents(out, places)?;
+    put_extents(out, parts.places.as_slice())?;
     put_u32(out, 0)?;
     Ok(())
 }

@@ -1,7 +1,7 @@
 use Rattle.std.proofs.Common.{◌≡◌, ◌+◌, ◌<◌, length, drop}
 use Rattle.std.specs.List.{AllByRecursion}
 use Rattle.meta_store.specs.Catalogs.{present}
-use Rattle.meta_store.specs.Changes.{places_set}
+use Rattle.meta_store.specs.Records.{places_set}
 use Rattle.meta_store.proofs.file_places.set.Given as goal
 
 abbrev pub invariant-loop-mapping : goal.invariant-loop-mapping

@@ -1,20 +1,38 @@
-use Rattle.std.proofs.Common.{◌≡◌, ◌+◌, drop, sym, ◌∙◌}
+use Rattle.std.proofs.Common.{◌≡◌, ◌++◌, [], ◌∷◌, length, sym, ap, ◌∙◌, append_assoc, arith}
+use Rattle.std.specs.Vec.Iter.{into_iter_items}
+use Rattle.hsm_types.specs.Attributes.{Attributes}
 use Rattle.meta_store.specs.declared.snapshot.ReadRefusal.TheVariants.{Memory}
-use Rattle.meta_store.proofs.KeptBounds.{eight-with}
-use Rattle.meta_store.proofs.KeptAttributes.{accepted, one-more, left-item}
+use Rattle.meta_store.specs.Validity.{are_attributes}
+use Rattle.meta_store.proofs.KeptBounds.{eight-with, setting-fits}
+use Rattle.meta_store.proofs.KeptAttributes.{at-end, ends-more, accepted, judged}
 use Rattle.meta_store.proofs.kept.attributes_of.Goals as goal
 
-pub returns-in-Err : goal.returns-in-Err
-returns-in-Err c =
-    let none = accepted c.args.attributes.now c.loop-name.kept c.loop-name-item.result (drop (c.loop-name.name-index + 1) c.args.attributes.now) c.args.limit
-    (left-item c.args.attributes.now c.loop-name.kept c.loop-name.name-index c.loop-name-item.result c.loop-name-item.is c.loop-name-test.true c.loop-name.invariant.set) c.requires.lawful c.requires.within in
-    let memory : c.refusal_of.result ≡ Memory = c.refusal_of.ensures (rw none at c.in-Err.ensures.refused) in
-    record { ok = tt; eight = tt; memory = λ is. let corrupt = rw memory at is in cc }
-
 pub loop-name-preserved : goal.loop-name-preserved
-loop-name-preserved c = record {
-  set = one-more c.args.attributes.now c.loop-name.kept c.loop-name-item.result (drop (c.loop-name.name-index + 1) c.args.attributes.now) c.args.limit
-      (left-item c.args.attributes.now c.loop-name.kept c.loop-name.name-index c.loop-name-item.result c.loop-name-item.is c.loop-name-test.true c.loop-name.invariant.set) c.requires.lawful c.requires.within
-      c.set.new.self c.in-Ok.ensures.after;
-  eight = rw c.in-Ok.ensures.after (eight-with _ _ c.loop-name.kept c.loop-name.invariant.eight (sym c.name_len-len.ensures.bytes ∙ c.name_len-len.ensures.eight));
-}
+loop-name-preserved c =
+    let so_far = c.loop-name.invariant in
+    let before = c.loop-name.before in
+    let kept = c.loop-name.kept in
+    let name = c.in-Some.name in
+    let value = c.in-Some.value in
+    let rest = into_iter_items c.next.new.self in
+    let next = c.in-Some.ensures.steps in
+    let behind = sym c.stands_behind.ensures ∙ c.if-not-stands_behind.false in
+    let after = c.in-Ok.ensures.after in
+    record {
+      set = ap (λ (r : Attributes). r ++ rest) (after ∙ at-end before kept name value so_far.ends behind) ∙ append_assoc kept ((name, value) ∷ []) rest ∙ sym (ap (λ (r : Attributes). kept ++ r) next.0) ∙ so_far.set;
+      left = omega (arith, so_far.left, next.1, ap length next.0);
+      judged = so_far.judged ∙ ap (λ (r : Attributes). are_attributes before r) next.0 ∙ judged before name value 0 c.args.limit kept rest behind c.in-Ok.ensures.ok;
+      ends = rw after (ends-more before kept name value so_far.ends behind);
+      within = rw after (omega (arith, setting-fits name value 0 c.args.limit kept c.in-Ok.ensures.ok));
+      eight = rw after (eight-with name value kept so_far.eight (sym c.name_len-len.ensures.bytes ∙ c.name_len-len.ensures.eight));
+    }
+
+pub returns-in-Err-clause-corrupt : goal.returns-in-Err-clause-corrupt
+returns-in-Err-clause-corrupt c = λ is lawful few.
+    let so_far = c.loop-name.invariant in
+    let next = c.in-Some.ensures.steps in
+    let passes = sym (ap (λ (r : Attributes). are_attributes c.loop-name.before r) next.0) ∙ sym so_far.judged ∙ lawful in
+    let none = accepted c.loop-name.before c.loop-name.kept c.in-Some.name c.in-Some.value so_far.ends (into_iter_items c.next.new.self) c.args.limit passes (rw (← next.0, so_far.set) few) in
+    let memory : c.refusal_of.result ≡ Memory = c.refusal_of.ensures.1 (rw none at c.in-Err.ensures.refused) in
+    let corrupt = rw memory at is in
+    cc

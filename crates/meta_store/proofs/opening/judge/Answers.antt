@@ -8,6 +8,6 @@ use Rattle.meta_store.proofs.opening.judge.Goals as goal
 pub returns-in-Err-clause-corrupt : goal.returns-in-Err-clause-corrupt
 returns-in-Err-clause-corrupt c = λ is n x same spelled. c.in-Err.ensures.refused (ap (λ (e : ReadRefusal). Err e) (err_is _ _ is)) (snapshot_of n x) spelled.spelled
 
-pub returns-clause-corrupt : goal.returns-clause-corrupt
-returns-clause-corrupt c = λ is n x same spelled.
+pub returns-in-Err-catalog_of-clause-corrupt : goal.returns-in-Err-catalog_of-clause-corrupt
+returns-in-Err-catalog_of-clause-corrupt c = λ is n x same spelled.
     c.in-Err-catalog_of.ensures.corrupt (ap (λ (e : ReadRefusal). Err e) (err_is _ _ is)) n x same spelled.number spelled.catalog (c.in-Ok.ensures.only (snapshot_of n x) spelled.spelled)

@@ -4,6 +4,6 @@ use Rattle.meta_store.proofs.writing.put_file.Goals as goal
 
 pub returns : goal.returns
 returns c =
-    file_written (file_of c.args.key c.args.name.now c.args.size c.args.parts.now) c.count_present.result c.args.out.now.items
-    c.put_key.new.out.items c.put_u64.new.out.items c.put_name.new.out.items c.put_kept.new.out.items c.put_u32.new.out.items c.put_extents.new.out.items c.put_u32-2.new.out.items
-    (rw c.as_slice-places.ensures at c.count_present.ensures) c.in_ok-put_key.ensures c.in_ok-put_u64.ensures c.in_ok-put_name.ensures c.in_ok-put_kept.ensures c.in_ok-put_u32.ensures (rw c.as_slice-places.ensures at c.in_ok-put_extents.ensures) c.in_ok-put_u32-2.ensures
+    file_written (file_of c.args.key c.args.name.now c.args.size c.args.parts.now) c.args.out.now.items
+    c.put_head.new.out.items c.put_kept.new.out.items c.put_extents.new.out.items c.put_u32.new.out.items
+    c.in_ok-put_head.ensures c.in_ok-put_kept.ensures (rw c.as_slice.ensures at c.in_ok-put_extents.ensures) c.in_ok-put_u32.ensures

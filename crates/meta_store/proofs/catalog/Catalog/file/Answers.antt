@@ -2,15 +2,15 @@ use Rattle.std.proofs.Common.{◌-◌, refl, sym, arith}
 use Rattle.std.proofs.lemmas.Option.{slice_get-map}
 use Rattle.std.proofs.lemmas.List.{get_or_read}
 use Rattle.meta_store.specs.InMemory.{no_parts, file_held}
-use Rattle.meta_store.proofs.HeldCatalogs.{slot_at}
+use Rattle.meta_store.proofs.HeldCatalogs.{slot-within}
 use Rattle.meta_store.proofs.catalog.Catalog.file.Goals as goal
 
 pub slot-requires : goal.slot-requires
-slot-requires c = (slot_at c.self.inside.geometry c.self.inside.table c.self.inside.parts.items c.self.inside.attribute_total c.self.invariant.0 c.args.index _ (sym c.in_ok-key.ensures)).0
+slot-requires c = (slot-within c.self.inside _ c.self.view_is c.self.invariant c.args.index _ (sym c.in_ok-key.ensures)).0
 
 pub index-requires : goal.index-requires
 index-requires c =
-    let within = slot_at c.self.inside.geometry c.self.inside.table c.self.inside.parts.items c.self.inside.attribute_total c.self.invariant.0 c.args.index _ (sym c.in_ok-key.ensures) in
+    let within = slot-within c.self.inside _ c.self.view_is c.self.invariant c.args.index _ (sym c.in_ok-key.ensures) in
     let low = within.0 in
     let high = within.1 in
     omega arith
@@ -18,7 +18,7 @@ index-requires c =
 pub returns : goal.returns
 returns c =
     let ps = c.self.inside.parts.items in
-    let within = slot_at c.self.inside.geometry c.self.inside.table ps c.self.inside.attribute_total c.self.invariant.0 c.args.index _ (sym c.in_ok-key.ensures) in
+    let within = slot-within c.self.inside _ c.self.view_is c.self.invariant c.args.index _ (sym c.in_ok-key.ensures) in
     let low = within.0 in
     let high = within.1 in
     let here = get_or_read ps (c.in_ok-key.key.ino - 1) c.index.result.now (omega arith) (rw c.slot.ensures at c.index.ensures) no_parts in

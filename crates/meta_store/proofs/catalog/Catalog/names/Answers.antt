@@ -1,5 +1,5 @@
-use Rattle.meta_store.proofs.HeldCatalogs.{table_held}
+use Rattle.meta_store.proofs.HeldCatalogs.{table-held}
 use Rattle.meta_store.proofs.catalog.Catalog.names.Goals as goal
 
 pub returns : goal.returns
-returns c = rw (← c.self.view_is) (table_held c.self.inside.geometry c.self.inside.table c.self.inside.parts.items c.self.inside.attribute_total c.self.invariant.0)
+returns c = table-held c.self.inside _ c.self.view_is c.self.invariant

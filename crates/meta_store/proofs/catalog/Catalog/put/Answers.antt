@@ -1,31 +1,31 @@
-use Rattle.std.proofs.Common.{sym, ◌∙◌, arith}
-use Rattle.meta_store.proofs.HeldFiles.{names_of-held}
-use Rattle.meta_store.proofs.HeldCatalogs.{held_table, catalog_held-put, IsHeld-put}
-use Rattle.meta_store.proofs.HeldBlocks.{used_held-put}
+use Rattle.std.proofs.Common.{◌+◌, arith}
+use Rattle.meta_store.proofs.HeldCatalogs.{names, counted, bounded, put-held, put-counted}
 use Rattle.meta_store.proofs.catalog.Catalog.put.Goals as goal
 
 pub put-requires-clause-inode : goal.put-requires-clause-inode
-put-requires-clause-inode c = rw (← c.self.view_is, names_of-held c.self.inside.parts.items c.self.inside.table.files) at c.requires.inode
+put-requires-clause-inode c = rw (names c.self.inside _ c.self.view_is c.self.invariant) at c.requires.inode
 
 pub put-requires-clause-name : goal.put-requires-clause-name
-put-requires-clause-name c = rw (← c.self.view_is, names_of-held c.self.inside.parts.items c.self.inside.table.files) at c.requires.name
+put-requires-clause-name c = rw (names c.self.inside _ c.self.view_is c.self.invariant) at c.requires.name
+
+pub overflow_add-self : goal.overflow_add-self
+overflow_add-self c =
+    let most = bounded c.self.inside _ c.self.view_is c.self.invariant in
+    let limit = most.1 in
+    omega (arith, counted c.self.inside _ c.self.view_is c.self.invariant, c.requires.room, c.bytes.ensures.count)
+
+pub overflow_add-self-2 : goal.overflow_add-self-2
+overflow_add-self-2 c =
+    let most = bounded c.self.inside _ c.self.view_is c.self.invariant in
+    let used = most.2 in
+    omega (arith, c.from.ensures)
 
 pub invariant_of-self-2 : goal.invariant_of-self-2
 invariant_of-self-2 c =
-    let names = names_of-held c.self.inside.parts.items c.self.inside.table.files in
-    rw (c.in_ok-put.ensures.ok, c.slot.ensures, c.new.ensures) (
-      IsHeld-put c.self.inside.geometry c.self.inside.table c.self.inside.parts.items c.self.inside.attribute_total c.args.key c.args.name.now c.self.invariant.0 c.requires.low (rw (← c.self.view_is) at c.requires.high)
-          (rw (← c.self.view_is, names) at c.requires.inode) (rw (← c.self.view_is, names) at c.requires.name) c.requires.generation c.requires.early c.requires.lawful,
-      c.self.invariant.1
-          ∙ sym (used_held-put c.self.inside.geometry c.self.inside.table c.self.inside.parts.items c.self.inside.attribute_total c.args.key c.args.name.now c.self.invariant.0 c.requires.low (rw (← c.self.view_is) at c.requires.high) (rw (← c.self.view_is, names) at c.requires.inode)),
-    )
+    rw (c.in_ok-put.ensures.ok, c.slot.ensures)
+    (put-counted c.self.inside _ c.self.view_is c.self.invariant c.args.key c.args.name.now c.args.size c.args.parts c.requires.low c.requires.high c.requires.inode (c.self.inside.attribute_total + c.bytes.result) (c.self.inside.used + c.from.result)
+    c.requires.name c.requires.early c.requires.lawful c.requires.distinct c.requires.room (omega (arith, c.bytes.ensures.count)) (omega (arith, c.from.ensures, c.mapped.ensures)))
 
 pub returns-clause-ok : goal.returns-clause-ok
 returns-clause-ok c =
-    let names = names_of-held c.self.inside.parts.items c.self.inside.table.files in
-    let h = c.self.invariant.0 in
-    let count = h.count in
-    let high = rw (← c.self.view_is) at c.requires.high in
-    rw (c.in_ok-put.ensures.ok, c.slot.ensures, c.new.ensures, ← c.self.view_is)
-    (catalog_held-put c.self.inside.geometry c.self.inside.table c.self.inside.parts.items c.args.key c.args.name.now c.requires.low (omega arith)
-    (held_table c.self.inside.geometry c.self.inside.table c.self.inside.parts.items c.self.inside.attribute_total h).ascend (rw (← c.self.view_is, names) at c.requires.inode))
+    rw (c.in_ok-put.ensures.ok, c.slot.ensures) (put-held c.self.inside _ c.self.view_is c.self.invariant c.args.key c.args.name.now c.args.size c.args.parts c.requires.low c.requires.high c.requires.inode)
