@@ -1,17 +1,17 @@
 -- A body by its blocks: where each byte stands, and which body the blocks at other places give.
-use Rattle.std.proofs.Common.{◌≡◌, ⊎_elim, ℕ, zero, suc, ◌+◌, ◌-◌, ◌*◌, ◌/◌, ◌%◌, ◌<◌, ◌≤◌, List, [], ◌∷◌, ◌++◌, length, map, get_or, take, drop, set, Option, Some, None, refl, sym, ◌∙◌, ap, subst, arith, length-append, length-take, length-set, get_or-set_same, get_or-set_other}
+use Rattle.std.proofs.Common.{rules, ◌≡◌, ⊎_elim, ℕ, zero, suc, ◌+◌, ◌-◌, ◌*◌, ◌/◌, ◌%◌, ◌<◌, List, [], ◌∷◌, ◌++◌, length, map, get_or, take, drop, set, Option, Some, None, refl, sym, ◌∙◌, ap, subst, arith, length-append, length-take, length-set, get_or-set_same, get_or-set_other}
 use Rattle.std.specs.Prelude.{replicate}
 use Rattle.std.specs.List.{flat_map, AllByRecursion}
-use Rattle.std.proofs.lemmas.Bool.{cases_lt, cases_eq}
-use Rattle.std.proofs.lemmas.List.{ext_get_or, get_or-take, get_or-drop, get_or_append_left, get_or-append_right, get_or-replicate, get_or_past, length-drop, length-replicate}
+use Rattle.std.proofs.lemmas.Bool.{cases_eq}
+use Rattle.std.proofs.lemmas.List.{ext_get_or, get_or-take, get_or_append_left, get_or-append_right, places}
 use Rattle.plain_model.specs.Blocks.{blocks_in}
 use Rattle.meta_store.specs.declared.snapshot.Mapping.{Mapping}
 use Rattle.meta_store.specs.Catalogs.{present}
-use Rattle.meta_store.specs.Changes.{places_fitted, places_set}
+use Rattle.meta_store.specs.Records.{places_fitted, places_set}
 
 -- ---- blocks one after the other
 
-length-blocks : (f : Option ℕ → List ℕ) (places : List (Option ℕ)) → ((i : ℕ) → i < length places → length (f (get_or places i None)) ≡ 4096) → length (flat_map f places) ≡ 4096 * length places
+pub length-blocks : (f : Option ℕ → List ℕ) (places : List (Option ℕ)) → ((i : ℕ) → i < length places → length (f (get_or places i None)) ≡ 4096) → length (flat_map f places) ≡ 4096 * length places
 length-blocks f [] full = refl
 length-blocks f (p ∷ ps) full =
     let first : length (f p) ≡ 4096 = full zero (omega arith) in
@@ -55,19 +55,10 @@ same_body f places size body count long full each =
 -- ---- one block of a body
 
 pub length-block : (w : ℕ) (xs : List ℕ) → length (take w (xs ++ replicate w 0)) ≡ w
-length-block w xs = omega (arith, length-take w (xs ++ replicate w 0), length-append xs (replicate w 0), length-replicate {A = ℕ} w 0)
+length-block w xs = search (rules, places)
 
 pub byte-block : (w a r : ℕ) (xs : List ℕ) → r < w → get_or (take w (drop a xs ++ replicate w 0)) r 0 ≡ get_or xs (a + r) 0
-byte-block w a r xs h =
-    let long = length-drop a xs in
-    get_or-take w (drop a xs ++ replicate w 0) r 0 h
-    ∙ ⊎_elim
-    (λ (l : r < length (drop a xs)). get_or_append_left (drop a xs) (replicate w 0) 0 r l ∙ get_or-drop a xs r 0)
-    (λ (g : length (drop a xs) ≤ r).
-    get_or-append_right (drop a xs) (replicate w 0) (length (drop a xs)) r 0 refl g
-    ∙ get_or-replicate w (r - length (drop a xs)) 0 0 (omega arith)
-    ∙ sym (get_or_past xs (a + r) 0 (omega arith)))
-    (cases_lt r (length (drop a xs)))
+byte-block w a r xs h = grind (arith, places)
 
 -- ---- places
 
@@ -98,13 +89,5 @@ after_set Q q (m ∷ ms) places h there before =
     (cases_eq m.block q))
 
 -- a new size leaves the places of the blocks that stay
-pub get_or-fitted : (size q : ℕ) (places : List (Option ℕ)) → q < blocks_in size → get_or (places_fitted size places) q None ≡ get_or places q None
-get_or-fitted size q places h =
-    let long = length-take (blocks_in size) places in
-    ⊎_elim
-    (λ (l : q < length places). get_or_append_left (take (blocks_in size) places) _ None q (omega arith) ∙ get_or-take (blocks_in size) places q None h)
-    (λ (g : length places ≤ q).
-    get_or-append_right (take (blocks_in size) places) _ (length places) q None (omega arith) g
-    ∙ get_or-replicate (blocks_in size - length places) (q - length places) None None (omega arith)
-    ∙ sym (get_or_past places q None g))
-    (cases_lt q (length places))
+pub get_or-fitted : (size q : ℕ) (ps : List (Option ℕ)) → q < blocks_in size → get_or (places_fitted size ps) q None ≡ get_or ps q None
+get_or-fitted size q ps h = grind (arith, places)

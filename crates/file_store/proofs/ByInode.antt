@@ -1,10 +1,9 @@
 -- Bodies by inode, put one after the other in the order of the files.
-use Rattle.std.proofs.Common.{◌≡◌, ℕ, zero, suc, ◌+◌, ◌-◌, ◌<◌, ◌≤◌, List, [], ◌∷◌, ◌++◌, length, map, get_or, set, take, Some, refl, sym, ◌∙◌, ap, subst, arith, add-one, get_or-set_same, get_or-set_other}
+use Rattle.std.proofs.Common.{◌≡◌, ℕ, zero, suc, ◌+◌, ◌-◌, ◌<◌, ◌≤◌, List, [], ◌∷◌, ◌++◌, length, get_or, set, take, Some, sym, ap, subst, arith, add-one, get_or-set_same, get_or-set_other}
 use Rattle.std.specs.List.{AllByRecursion, slice_get}
-use Rattle.std.proofs.lemmas.List.{map-append}
 use Rattle.inode_table.specs.Listing.{Ascend, Within}
 use Rattle.meta_store.specs.Catalogs.{CatalogFile, Catalog, IsCatalog, IsCatalogFile, geometry_of, names_of}
-use Rattle.file_store.specs.Bodies.{body_at, file_at, file_with, held_at, held_with, AreBodies}
+use Rattle.file_store.specs.Bodies.{bytes_with}
 
 -- ---- the file at a place
 
@@ -65,38 +64,18 @@ all-push P (y ∷ xs) x all here = (all.0, all-push P xs x all.1 here)
 stays : (bodies : List (List ℕ)) (ino k : ℕ) (body : List ℕ) → 1 ≤ k → k < ino → get_or (set bodies (ino - 1) body) (k - 1) [] ≡ get_or bodies (k - 1) []
 stays bodies ino k body low below = get_or-set_other bodies (ino - 1) (k - 1) body [] (λ same. absurd (omega arith))
 
-sizes-stay : (bodies : List (List ℕ)) (ino : ℕ) (body : List ℕ) (fs : List CatalogFile) → AreBelow ino fs → AreBodies bodies fs → AreBodies (set bodies (ino - 1) body) fs
-sizes-stay bodies ino body [] below are = tt
-sizes-stay bodies ino body (f ∷ fs) below are = (ap length (stays bodies ino f.key.ino body below.0.0 below.0.1) ∙ are.0, sizes-stay bodies ino body fs below.1 are.1)
+-- what is true of each file and its body stays so
+each-stays : (P : CatalogFile → List ℕ → Type 0) (bodies : List (List ℕ)) (ino : ℕ) (body : List ℕ) (fs : List CatalogFile) → AreBelow ino fs → AllByRecursion (λ g. P g (bytes_with bodies g)) fs → AllByRecursion (λ g. P g (bytes_with (set bodies (ino - 1) body) g)) fs
+each-stays P bodies ino body [] below are = tt
+each-stays P bodies ino body (f ∷ fs) below are =
+    (subst (λ (b : List ℕ). P f b) (sym (stays bodies ino f.key.ino body below.0.0 below.0.1)) are.0, each-stays P bodies ino body fs below.1 are.1)
 
-files-stay : (bodies : List (List ℕ)) (ino : ℕ) (body : List ℕ) (fs : List CatalogFile) → AreBelow ino fs → map (file_with (set bodies (ino - 1) body)) fs ≡ map (file_with bodies) fs
-files-stay bodies ino body [] below = refl
-files-stay bodies ino body (f ∷ fs) below = rw (stays bodies ino f.key.ino body below.0.0 below.0.1, files-stay bodies ino body fs below.1) refl
-
-pub sizes-more : (c : Catalog) (i : ℕ) (f : CatalogFile) (bodies : List (List ℕ)) (body : List ℕ) → IsNext c i f → length bodies ≡ (geometry_of c.geometry).files → length body ≡ f.size → AreBodies bodies (take i c.files) → AreBodies (set bodies (f.key.ino - 1) body) (take (i + 1) c.files)
-sizes-more c i f bodies body is count size are =
-    let low = is.low in
-    let high = is.high in
-    let there : get_or (set bodies (f.key.ino - 1) body) (f.key.ino - 1) [] ≡ body = get_or-set_same bodies (f.key.ino - 1) body [] (omega arith) in
-    subst (λ (fs : List CatalogFile). AreBodies (set bodies (f.key.ino - 1) body) fs) (sym is.more)
-    (all-push (λ (g : CatalogFile). length (get_or (set bodies (f.key.ino - 1) body) (g.key.ino - 1) []) ≡ g.size) (take i c.files) f
-    (sizes-stay bodies f.key.ino body (take i c.files) is.before are) (ap length there ∙ size))
-
-pub files-more : (blocks : List ℕ) (c : Catalog) (i : ℕ) (f : CatalogFile) (bodies : List (List ℕ)) (body : List ℕ) → IsNext c i f → length bodies ≡ (geometry_of c.geometry).files → body ≡ body_at blocks f.size f.places → map (file_with bodies) (take i c.files) ≡ map (file_at blocks) (take i c.files)
-    → map (file_with (set bodies (f.key.ino - 1) body)) (take (i + 1) c.files) ≡ map (file_at blocks) (take (i + 1) c.files)
-files-more blocks c i f bodies body is count holds are =
+pub each-more : (P : CatalogFile → List ℕ → Type 0) (c : Catalog) (i : ℕ) (f : CatalogFile) (bodies : List (List ℕ)) (body : List ℕ) → IsNext c i f → length bodies ≡ (geometry_of c.geometry).files → P f body → AllByRecursion (λ g. P g (bytes_with bodies g)) (take i c.files)
+    → AllByRecursion (λ g. P g (bytes_with (set bodies (f.key.ino - 1) body) g)) (take (i + 1) c.files)
+each-more P c i f bodies body is count here are =
     let low = is.low in
     let high = is.high in
     let new = set bodies (f.key.ino - 1) body in
     let there : get_or new (f.key.ino - 1) [] ≡ body = get_or-set_same bodies (f.key.ino - 1) body [] (omega arith) in
-    let here : file_with new f ≡ file_at blocks f = rw (there, holds) refl in
-    subst (λ (fs : List CatalogFile). map (file_with new) fs ≡ map (file_at blocks) fs) (sym is.more)
-    (map-append (file_with new) (take i c.files) (f ∷ [])
-    ∙ rw (files-stay bodies f.key.ino body (take i c.files) is.before, are, here) refl
-    ∙ sym (map-append (file_at blocks) (take i c.files) (f ∷ [])))
-
--- ---- all bodies
-
-pub all-held : (blocks : List ℕ) (c : Catalog) (bodies : List (List ℕ)) → map (file_with bodies) c.files ≡ map (file_at blocks) c.files → held_with bodies c ≡ held_at blocks c
-unfolding held_with held_at
-all-held blocks c bodies are = rw are refl
+    subst (λ (fs : List CatalogFile). AllByRecursion (λ g. P g (bytes_with new g)) fs) (sym is.more)
+    (all-push (λ (g : CatalogFile). P g (bytes_with new g)) (take i c.files) f (each-stays P bodies f.key.ino body (take i c.files) is.before are) (subst (λ (b : List ℕ). P f b) (sym there) here))

@@ -1,15 +1,17 @@
 -- What a commit makes durable.
-use Rattle.std.proofs.Common.{◌≡◌, ◌⊎◌, inl, inr, ℕ, ◌≤◌, ◌^◌, true, List, refl, sym, ◌∙◌, ap, subst}
+use Rattle.std.proofs.Common.{◌≡◌, ◌⊎◌, inl, inr, ⊎_elim, ℕ, ◌≤◌, ◌^◌, true, false, List, refl, sym, ◌∙◌, ap, subst}
 use Rattle.disk_model.specs.declared.device.Disk as disk
-use Rattle.disk_model.specs.Moments.{MayBe, LeavesOnly, Turns}
-use Rattle.disk_model.proofs.Steps.{started, turns_leave, turns_now}
+use Rattle.disk_model.specs.Moments.{MayBe, Keeps, Same}
+use Rattle.disk_model.proofs.Steps.{started, turns_leave, turns_now, joined, weakened}
+use Rattle.commit_slots.specs.Images.{slot_of}
+use Rattle.block_space.specs.Space.{Space}
 use Rattle.plain_model.specs.State.{Held}
-use Rattle.meta_store.specs.Catalogs.{Catalog, blocks_of}
-use Rattle.meta_store.specs.Images.{blocks_in_image, RecoversSame, Recovers}
-use Rattle.meta_store.specs.Meta.{Meta, IsMeta, Backs}
+use Rattle.meta_store.specs.Catalogs.{Catalog}
+use Rattle.meta_store.specs.Images.{IsImage, blocks_in_image, Recovers}
+use Rattle.meta_store.specs.Meta.{Meta, IsMeta, Backs, StoresOrKeeps, HasStored, IsStoredNow}
 use Rattle.file_store.specs.Bodies.{held_at}
-use Rattle.file_store.proofs.Beside.{recovered_same}
 use Rattle.file_store.specs.Stores.{Store, IsRecovered, IsDurable, IsEither, Proceeds, IsLive, IsSound, marks_of}
+use Rattle.file_store.proofs.Marked.{marks_there}
 
 -- what recovery finds of a live store
 pub durable_found : {D : Type 0} (g : disk.Ghosts D) (s : Store D) → IsLive g s → (c : List ℕ) → MayBe g s.disk c → IsDurable s c
@@ -19,7 +21,7 @@ durable_found g s live c may = record { catalog = s.meta.durable; same = refl; i
 holds_new : (geometry fsid n : ℕ) (x : Catalog) (h : Held) (d c : List ℕ) → x.geometry ≡ geometry → held_at (blocks_in_image geometry d) x ≡ h → Recovers fsid n x d c → held_at (blocks_in_image geometry c) x ≡ h
 holds_new geometry fsid n x h d c same was step = ap (λ (blocks : List ℕ). held_at blocks x) (subst (λ (z : ℕ). blocks_in_image z c ≡ blocks_in_image z d) same step.data_blocks) ∙ was
 
-pub recovered_new : (geometry fsid n : ℕ) (x : Catalog) (h : Held) (d c : List ℕ) → x.geometry ≡ geometry → held_at (blocks_in_image geometry d) x ≡ h → Recovers fsid n x d c → IsRecovered geometry fsid n h c
+recovered_new : (geometry fsid n : ℕ) (x : Catalog) (h : Held) (d c : List ℕ) → x.geometry ≡ geometry → held_at (blocks_in_image geometry d) x ≡ h → Recovers fsid n x d c → IsRecovered geometry fsid n h c
 recovered_new geometry fsid n x h d c same was step = record {
   catalog = x;
   same = same;
@@ -27,72 +29,120 @@ recovered_new geometry fsid n x h d c same was step = record {
   holds = holds_new geometry fsid n x h d c same was step;
 }
 
--- no call of the disk
-pub idle_proceeds : {D : Type 0} (g : disk.Ghosts D) (s : Store D) (n : ℕ) → IsLive g s → ((c : List ℕ) → g.left_since s.disk (g.moment s.disk) c → g.may_leave s.disk c) → Proceeds g s n s
-idle_proceeds g s n live only_now = record {
-  geometry = refl;
-  fsid = refl;
-  moments = started g s.disk (IsEither s n) (λ c left. inl (durable_found g s live c (inl (only_now c left))));
-  now = λ c may. inl (durable_found g s live c may);
-  durable = inl (refl, refl);
-}
+-- where no call of the disk is made
+pub sound_idle : {D : Type 0} (g : disk.Ghosts D) (s : Store D) (n : ℕ) → IsSound g s → ((c : List ℕ) → g.left_since s.disk (g.moment s.disk) c → g.may_leave s.disk c) → s.failed ≡ false → Proceeds g s n s
+sound_idle g s n sound only_now working =
+    let live = sound.live working in
+    record {
+      geometry = refl;
+      fsid = refl;
+      moments = started g s.disk (IsEither s n) (λ c left. inl (durable_found g s live c (inl (only_now c left))));
+      now = λ c may. inl (durable_found g s live c may);
+      durable = inl (refl, refl);
+    }
 
-module _ {D : Type 0} (g : disk.Ghosts D) (s : Store D) (lawful : IsMeta s.meta) (live : IsLive g s) (n : ℕ) (new : D) where
+-- ---- one call after another
+
+pub proceeds_on : {D : Type 0} (g : disk.Ghosts D) (a b c : Store D) (n : ℕ) → Proceeds g a n b → b.held ≡ a.held → Proceeds g b n c → Proceeds g a n c
+proceeds_on {D} g a b c n first held second = record {
+  geometry = second.geometry ∙ first.geometry;
+  fsid = second.fsid ∙ first.fsid;
+  moments = joined g a.disk b.disk c.disk (IsEither a n) first.moments (weakened g b.disk c.disk _ _ either second.moments);
+  now = λ image may. either image (second.now image may);
+  durable = ⊎_elim (λ same. carried same.0 same.1 first.durable) (λ made. inr (made.0, made.1 ∙ held)) second.durable;
+}
+  where
+    carried : c.meta.number ≡ b.meta.number → c.durable ≡ b.durable → (b.meta.number ≡ a.meta.number) × (b.durable ≡ a.durable) ⊎ (b.meta.number ≡ n) × (b.durable ≡ a.held)
+        → (c.meta.number ≡ a.meta.number) × (c.durable ≡ a.durable) ⊎ (c.meta.number ≡ n) × (c.durable ≡ a.held)
+    carried number durable (inl was) = inl (number ∙ was.0, durable ∙ was.1)
+    carried number durable (inr made) = inr (number ∙ made.0, durable ∙ made.1)
+
+    was_durable : (image : List ℕ) → (b.meta.number ≡ a.meta.number) × (b.durable ≡ a.durable) ⊎ (b.meta.number ≡ n) × (b.durable ≡ a.held) → IsDurable b image → IsEither a n image
+    was_durable image (inl was) found = inl (rw (← first.geometry, ← first.fsid, ← was.0, ← was.1) found)
+    was_durable image (inr made) found = inr (rw (← first.geometry, ← first.fsid, ← made.0, ← made.1) found)
+
+    either : (image : List ℕ) → IsEither b n image → IsEither a n image
+    either image (inl found) = was_durable image first.durable found
+    either image (inr found) = inr (rw (← first.geometry, ← first.fsid, ← held) found)
+
+-- ---- a commit
+
+module _ {D : Type 0} (g : disk.Ghosts D) (s : Store D) (lawful : IsMeta s.meta) (live : IsLive g s) (n : ℕ) where
   same : s.meta.current.geometry ≡ s.meta.durable.geometry
   same = lawful.stored.geometry
 
-  abbrev Turned : Type 0
-  Turned = Turns g s.disk new (RecoversSame s.meta.durable.geometry) (Recovers s.meta.fsid n s.meta.current)
-
-  kept : (d c : List ℕ) → IsDurable s d → RecoversSame s.meta.durable.geometry d c → IsEither s n c
-  kept d c was step = inl (recovered_same s.meta.durable.geometry s.meta.fsid s.meta.number s.durable d c step was)
+  kept : (d c : List ℕ) → held_at (blocks_in_image s.meta.durable.geometry d) s.meta.durable ≡ s.durable → Recovers s.meta.fsid s.meta.number s.meta.durable d c → IsEither s n c
+  kept d c was step = inl (recovered_new s.meta.durable.geometry s.meta.fsid s.meta.number s.meta.durable s.durable d c refl was step)
 
   stored : (d c : List ℕ) → held_at (blocks_in_image s.meta.durable.geometry d) s.meta.current ≡ s.held → Recovers s.meta.fsid n s.meta.current d c → IsEither s n c
   stored d c was step = inr (recovered_new s.meta.durable.geometry s.meta.fsid n s.meta.current s.held d c same was step)
 
-  -- a commit, whether it succeeds or fails
-  pub commit_moments : Turned → LeavesOnly g s.disk new (IsEither s n)
-  commit_moments t = turns_leave g s.disk new _ _ _ _ _ t (durable_found g s live) live.current kept stored
+  -- whether it succeeds or fails
+  pub commit_proceeds : (t : Store D) → StoresOrKeeps g s.disk t.disk s.meta n → t.meta.durable.geometry ≡ s.meta.durable.geometry → t.meta.fsid ≡ s.meta.fsid
+      → (t.meta.number ≡ s.meta.number) × (t.durable ≡ s.durable) ⊎ (t.meta.number ≡ n) × (t.durable ≡ s.held) → Proceeds g s n t
+  commit_proceeds t turns geometry fsid durable = record {
+    geometry = geometry;
+    fsid = fsid;
+    moments = turns_leave g s.disk t.disk _ _ _ _ _ turns live.stored live.current kept stored;
+    now = turns_now g s.disk t.disk _ _ _ _ _ turns live.stored live.current kept stored;
+    durable = durable;
+  }
 
-  pub commit_now : Turned → (c : List ℕ) → MayBe g new c → IsEither s n c
-  commit_now t = turns_now g s.disk new _ _ _ _ _ t (durable_found g s live) live.current kept stored
-
-  -- a commit that succeeded
-  module _ (found : (c : List ℕ) → MayBe g new c → (d : List ℕ) × g.gives s.disk d × Recovers s.meta.fsid n s.meta.current d c) (t : Store D) (disk_is : t.disk ≡ new) (backs : Backs g new t.meta)
-      (durable_is : t.meta.durable ≡ s.meta.current) (current_is : t.meta.current ≡ s.meta.current) (held_is : t.held ≡ s.held) (made : t.durable ≡ s.held) where
+  -- where it succeeded
+  module _ (t : Store D) (found : HasStored g s.disk t.disk s.meta n) (now : IsStoredNow s.meta n t.meta) (current_is : t.meta.current ≡ s.meta.current) (held_is : t.held ≡ s.held) (made : t.durable ≡ s.held) where
     geometry_is : t.meta.durable.geometry ≡ s.meta.durable.geometry
-    geometry_is = ap (λ (x : Catalog). x.geometry) durable_is ∙ same
+    geometry_is = ap (λ (x : Catalog). x.geometry) now.durable ∙ same
 
-    holds_on_it : (c : List ℕ) → MayBe g new c → held_at (blocks_in_image t.meta.durable.geometry c) s.meta.current ≡ s.held
+    holds_on_it : (c : List ℕ) → MayBe g t.disk c → held_at (blocks_in_image t.meta.durable.geometry c) s.meta.current ≡ s.held
     holds_on_it c may =
         let d = found c may in
         subst (λ (z : ℕ). held_at (blocks_in_image z c) s.meta.current ≡ s.held) (sym geometry_is)
         (holds_new s.meta.durable.geometry s.meta.fsid n s.meta.current s.held d.0 c same (live.current d.0 d.1) d.2)
 
-    pub committed_live : (t.space ≡ record { current = marks_of s.meta.current; durable = marks_of s.meta.current }) → IsLive g t
-    committed_live space = record {
-      backs = rw disk_is backs;
-      stored = λ c may. ap (λ (x : Catalog). held_at (blocks_in_image t.meta.durable.geometry c) x) durable_is ∙ holds_on_it c (subst (λ (e : D). MayBe g e c) disk_is may) ∙ sym made;
-      current = λ c gives. ap (λ (x : Catalog). held_at (blocks_in_image t.meta.durable.geometry c) x) current_is ∙ holds_on_it c (subst (λ (e : D). MayBe g e c) disk_is (inr gives)) ∙ sym held_is;
-      settled = λ now. record { space = rw current_is space; durable = ap (λ (x : Catalog). blocks_of x.files) (durable_is ∙ sym current_is) };
+    -- all that is held is durable, and no block that the durable files don't use is marked
+    pub committed_sound : n ≤ 2 ^ 62 → Backs g t.disk t.meta → t.space ≡ record s.space { durable = s.space.current } → IsSound g t
+    committed_sound bound backs space = record {
+      meta = record {
+        stored = record { number = rw now.number bound; catalog = rw now.durable lawful.current; geometry = rw (now.durable, current_is) refl };
+        current = rw current_is lawful.current;
+      };
+      live = λ working. record {
+        backs = backs;
+        stored = λ c may. ap (λ (x : Catalog). held_at (blocks_in_image t.meta.durable.geometry c) x) now.durable ∙ holds_on_it c may ∙ sym made;
+        current = λ c gives. ap (λ (x : Catalog). held_at (blocks_in_image t.meta.durable.geometry c) x) current_is ∙ holds_on_it c (inr gives) ∙ sym held_is;
+        marks = rw (space, current_is) live.marks;
+        marked = rw (space, live.marks, now.durable) (marks_there s.meta.current lawful.current);
+        settled = λ idle. rw space refl;
+      };
     }
 
-pub commit_proceeds : {D : Type 0} (g : disk.Ghosts D) (s : Store D) (n : ℕ) (t : Store D) → IsMeta s.meta → IsLive g s → Turns g s.disk t.disk (RecoversSame s.meta.durable.geometry) (Recovers s.meta.fsid n s.meta.current)
-    → t.meta.durable.geometry ≡ s.meta.durable.geometry → t.meta.fsid ≡ s.meta.fsid → (t.meta.number ≡ s.meta.number) × (t.durable ≡ s.durable) ⊎ (t.meta.number ≡ n) × (t.durable ≡ s.held) → Proceeds g s n t
-commit_proceeds g s n t lawful live turns geometry fsid durable = record {
-  geometry = geometry;
-  fsid = fsid;
-  moments = commit_moments g s lawful live n t.disk turns;
-  now = commit_now g s lawful live n t.disk turns;
-  durable = durable;
-}
+    pub committed_proceeds : StoresOrKeeps g s.disk t.disk s.meta n → Proceeds g s n t
+    committed_proceeds turns = commit_proceeds t turns geometry_is now.fsid (inr (now.number, made))
 
-pub committed_meta : (m t : Meta) (n : ℕ) → IsMeta m → n ≤ 2 ^ 62 → t.number ≡ n → t.durable ≡ m.current → t.current ≡ m.current → IsMeta t
-committed_meta m t n lawful bound number durable current = record {
-  stored = record { number = rw number bound; catalog = rw durable lawful.current; geometry = rw (durable, current) refl };
-  current = rw current lawful.current;
+-- ---- an opening, and a failure
+
+pub opened_sound : {D : Type 0} (g : disk.Ghosts D) (s : Store D) → IsMeta s.meta → Backs g s.disk s.meta → s.meta.current ≡ s.meta.durable → s.held ≡ s.durable
+    → ((c : List ℕ) → MayBe g s.disk c → held_at (blocks_in_image s.meta.durable.geometry c) s.meta.durable ≡ s.held) → s.space ≡ record { current = marks_of s.meta.current; durable = marks_of s.meta.current } → IsSound g s
+opened_sound g s lawful backs same held holds space = record {
+  meta = lawful;
+  live = λ working. record {
+    backs = backs;
+    stored = λ c may. holds c may ∙ held;
+    current = λ c gives. ap (λ (x : Catalog). held_at (blocks_in_image s.meta.durable.geometry c) x) same ∙ holds c (inr gives);
+    marks = ap (λ (x : Space). x.current) space;
+    marked = rw (space, ← same) (marks_there s.meta.current lawful.current);
+    settled = λ idle. rw space refl;
+  };
 }
 
 -- a call of the disk has failed
 pub failed_sound : {D : Type 0} (g : disk.Ghosts D) (s : Store D) → IsMeta s.meta → s.failed ≡ true → IsSound g s
 failed_sound g s lawful failed = record { meta = lawful; live = λ working. absurd cc }
+
+-- a read changes no image
+pub backs_same : {D : Type 0} (g : disk.Ghosts D) (mid new : D) (m : Meta) → Keeps g mid new Same → Backs g mid m → Backs g new m
+backs_same g mid new m keeps b = record {
+  length = keeps.moments.length ∙ b.length;
+  slot = λ c may. let d = keeps.now c may in ap slot_of d.2 ∙ b.slot d.0 d.1;
+  image = λ c may. let d = keeps.now c may in subst (λ (i : List ℕ). IsImage m.fsid m.number m.durable i) (sym d.2) (b.image d.0 d.1);
+}

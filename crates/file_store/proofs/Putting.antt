@@ -1,7 +1,7 @@
 -- Blocks written to their places, one after the other.
-use Rattle.std.proofs.Common.{◌≡◌, inl, inr, ⊎_elim, ℕ, zero, suc, ◌+◌, ◌*◌, ◌<◌, ◌≤◌, List, [], ◌∷◌, ◌++◌, length, get_or, take, false, eqb, refl, sym, ◌∙◌, subst, arith}
+use Rattle.std.proofs.Common.{◌≡◌, ⊎_elim, ℕ, zero, suc, ◌+◌, ◌*◌, ◌<◌, List, [], ◌∷◌, length, map, get_or, take, false, eqb, refl, sym, ◌∙◌, ap, subst, arith}
 use Rattle.std.specs.List.{AllByRecursion, list_any}
-use Rattle.std.proofs.lemmas.Bool.{cases_lt, or_parts, eq-eqb}
+use Rattle.std.proofs.lemmas.Bool.{or_parts, eq-eqb}
 use Rattle.std.proofs.lemmas.List.{take_more, take_all}
 use Rattle.disk_model.specs.Images.{part, IsFreed, IsWritten}
 use Rattle.commit_slots.specs.Places.{IsApart}
@@ -9,6 +9,9 @@ use Rattle.plain_model.specs.Distinct.{Distinct}
 use Rattle.meta_store.specs.declared.snapshot.Mapping.{Mapping}
 use Rattle.file_store.specs.Bodies.{block_of}
 use Rattle.file_store.specs.Steps.{places_of, IsBesideBlocks, HasBlocks}
+use Rattle.file_store.specs.Rewrites.{mappings_of}
+use Rattle.file_store.proofs.Beside.{blocks_apart}
+use Rattle.file_store.proofs.EachOf.{each-both, each-join}
 
 -- ---- lists of mappings
 
@@ -22,18 +25,40 @@ all_places_at P [] k d h all = absurd (omega arith)
 all_places_at P (m ∷ ms) zero d h all = all.0
 all_places_at P (m ∷ ms) (suc k) d h all = all_places_at P ms k d (omega arith) all.1
 
-all_both : (P Q R : Mapping → Type 0) → ((m : Mapping) → P m → Q m → R m) → (ms : List Mapping) → AllByRecursion P ms → AllByRecursion Q ms → AllByRecursion R ms
-all_both P Q R both [] p q = tt
-all_both P Q R both (m ∷ ms) p q = (both m p.0 q.0, all_both P Q R both ms p.1 q.1)
-
-all_more : (P : Mapping → Type 0) (ms : List Mapping) (m : Mapping) → AllByRecursion P ms → P m → AllByRecursion P (ms ++ m ∷ [])
-all_more P [] m all p = (p, tt)
-all_more P (x ∷ ms) m all p = (all.0, all_more P ms m all.1 p)
-
 absent_at : (n : ℕ) (ms : List Mapping) (k : ℕ) (d : Mapping) → list_any (λ p. eqb p n) (places_of ms) ≡ false → k < length ms → n ≡ (get_or ms k d).place → ⊥
 absent_at n [] k d none h same = absurd (omega arith)
 absent_at n (m ∷ ms) zero d none h same = let other = (or_parts (eqb m.place n) _ none).0 in let is = eq-eqb m.place n (sym same) in absurd cc
 absent_at n (m ∷ ms) (suc k) d none h same = absent_at n ms k d (or_parts (eqb m.place n) _ none).1 (omega arith) same
+
+-- the block and the place that stand there
+pub mapping_at : (bs ps : List ℕ) (k : ℕ) (d : Mapping) → length ps ≡ length bs → k < length bs → (get_or (mappings_of bs ps) k d).block ≡ get_or bs k 0
+mapping_at [] ps k d long h = absurd (omega arith)
+mapping_at (b ∷ bs) [] k d long h = absurd (omega arith)
+mapping_at (b ∷ bs) (p ∷ ps) zero d long h = refl
+mapping_at (b ∷ bs) (p ∷ ps) (suc k) d long h = mapping_at bs ps k d (omega arith) (omega arith)
+
+pub place_at : (bs ps : List ℕ) (k : ℕ) (d : Mapping) → length ps ≡ length bs → k < length bs → (get_or (mappings_of bs ps) k d).place ≡ get_or ps k 0
+place_at [] ps k d long h = absurd (omega arith)
+place_at (b ∷ bs) [] k d long h = absurd (omega arith)
+place_at (b ∷ bs) (p ∷ ps) zero d long h = refl
+place_at (b ∷ bs) (p ∷ ps) (suc k) d long h = place_at bs ps k d (omega arith) (omega arith)
+
+pub length-mapped : (bs ps : List ℕ) → length ps ≡ length bs → length (mappings_of bs ps) ≡ length bs
+length-mapped [] ps long = refl
+length-mapped (b ∷ bs) [] long = absurd (omega arith)
+length-mapped (b ∷ bs) (p ∷ ps) long = ap suc (length-mapped bs ps (omega arith))
+
+pub places-mapped : (bs ps : List ℕ) → length ps ≡ length bs → places_of (mappings_of bs ps) ≡ ps
+places-mapped [] [] long = refl
+places-mapped [] (p ∷ ps) long = absurd (omega arith)
+places-mapped (b ∷ bs) [] long = absurd (omega arith)
+places-mapped (b ∷ bs) (p ∷ ps) long = ap (λ (qs : List ℕ). p ∷ qs) (places-mapped bs ps (omega arith))
+
+pub blocks-mapped : (bs ps : List ℕ) → length ps ≡ length bs → map (λ m. m.block) (mappings_of bs ps) ≡ bs
+blocks-mapped [] [] long = refl
+blocks-mapped [] (p ∷ ps) long = absurd (omega arith)
+blocks-mapped (b ∷ bs) [] long = absurd (omega arith)
+blocks-mapped (b ∷ bs) (p ∷ ps) long = ap (λ (qs : List ℕ). b ∷ qs) (blocks-mapped bs ps (omega arith))
 
 -- where places are distinct, those before the k-th aren't that one
 before : (ms : List Mapping) (k : ℕ) (d : Mapping) → Distinct (places_of ms) → k < length ms → AllByRecursion (λ m. m.place ≡ (get_or ms k d).place → ⊥) (take k ms)
@@ -42,10 +67,6 @@ before (m ∷ ms) zero d apart h = tt
 before (m ∷ ms) (suc k) d apart h = (absent_at m.place ms k d apart.0 (omega arith), before ms k d apart.1 (omega arith))
 
 -- ---- images
-
--- different blocks are apart
-pub blocks_apart : (base p q : ℕ) → (p ≡ q → ⊥) → IsApart (base + 4096 * p) 4096 (base + 4096 * q) 4096
-blocks_apart base p q other = ⊎_elim (λ (l : p < q). inl (omega arith)) (λ (g : q ≤ p). inr (omega (arith, other))) (cases_lt p q)
 
 pub beside_none : (base : ℕ) (places : List ℕ) (c : List ℕ) → IsBesideBlocks base places c c
 beside_none base places c = record { size = refl; same = λ a k all. refl }
@@ -80,11 +101,11 @@ has_more base body ms k d apart h long old mid new has w =
     let kept : (m : Mapping) → (m.place ≡ this.place → ⊥) → IsThere base body mid m → IsThere base body new m =
     λ m other there. ⊎_elim (freed.below (base + 4096 * m.place) 4096) (freed.above (base + 4096 * m.place) 4096) (blocks_apart base m.place this.place other) ∙ there in
     let all : AllByRecursion (IsThere base body new) (take k ms) =
-    all_both (λ m. m.place ≡ this.place → ⊥) (IsThere base body mid) (IsThere base body new) kept (take k ms) (before ms k d apart h) has.there in
+    each-both (λ m. m.place ≡ this.place → ⊥) (IsThere base body mid) (IsThere base body new) kept (take k ms) (before ms k d apart h) has.there in
     let here : IsThere base body new this = subst (λ (n : ℕ). part new (base + 4096 * this.place) n ≡ block_of body this.block) long w.there in
     record {
       beside = beside_on base (places_of ms) old mid new has.beside (beside_freed base ms k d h mid new freed);
-      there = subst (AllByRecursion (IsThere base body new)) (sym (take_more ms k d h)) (all_more (IsThere base body new) (take k ms) this all here);
+      there = subst (AllByRecursion (IsThere base body new)) (sym (take_more ms k d h)) (each-join (IsThere base body new) (take k ms) (this ∷ []) all (here, tt));
     }
 
 pub has_all : (base : ℕ) (body : List ℕ) (ms : List Mapping) (old new : List ℕ) → HasFirst base body ms (length ms) old new → HasBlocks base body ms old new

@@ -6,7 +6,7 @@ use Rattle.meta_store.specs.Images.{blocks_in_image}
 use Rattle.meta_store.specs.Laws.{no_files}
 use Rattle.meta_store.proofs.FoundImages.{found-one}
 use Rattle.meta_store.proofs.FormattedStores.{formatted-image}
-use Rattle.file_store.specs.Bodies.{held_at}
+use Rattle.file_store.specs.Bodies.{held_at, held_by}
 use Rattle.file_store.specs.Laws.{RecoversOne, FormattedIsEmpty}
 
 pub one_recovery : (image : List ℕ) → RecoversOne image
@@ -17,7 +17,7 @@ one_recovery image geometry fsid n h geometry' fsid' n' h' found found' =
     (same, one.0, one.1, sym found'.holds ∙ held ∙ found.holds)
 
 holds-nothing : (blocks : List ℕ) (geometry : ℕ) → held_at blocks (no_files geometry) ≡ nothing_held
-unfolding held_at
+unfolding held_by
 holds-nothing blocks geometry = refl
 
 pub formatted_is_empty : (geometry fsid : ℕ) (image : List ℕ) → FormattedIsEmpty geometry fsid image

@@ -1,22 +1,21 @@
 -- The body of a file whose touched blocks are written to new places.
-use Rattle.std.proofs.Common.{◌≡◌, ◌⊎◌, inl, inr, ⊎_elim, ℕ, zero, suc, ◌+◌, ◌-◌, ◌*◌, ◌/◌, ◌%◌, ◌<◌, ◌≤◌, List, [], ◌∷◌, ◌++◌, length, map, get_or, take, drop, Option, Some, None, Bool, true, false, eqb, ltb, ◌&&◌, refl, sym, ◌∙◌, ap, subst, arith, length-append, length-take}
-use Rattle.std.specs.Prelude.{replicate, if◌then◌else◌}
+use Rattle.std.proofs.Common.{◌≡◌, ◌⊎◌, inl, inr, ⊎_elim, ℕ, zero, suc, ◌+◌, ◌-◌, ◌*◌, ◌/◌, ◌%◌, ◌<◌, ◌≤◌, List, [], ◌∷◌, ◌++◌, length, map, get_or, drop, Option, Some, None, Bool, true, false, eqb, ltb, ◌&&◌, refl, sym, ◌∙◌, ap, subst, arith}
+use Rattle.std.specs.Prelude.{if◌then◌else◌}
 use Rattle.std.specs.List.{flat_map, AllByRecursion}
 use Rattle.std.proofs.lemmas.Bool.{cases_lt, cases_Bool, and_from, lt-ltb, eqb-true}
-use Rattle.std.proofs.lemmas.List.{get_or-take, get_or-drop, get_or_append_left, get_or-append_right, get_or-replicate, get_or_past, length-replicate}
+use Rattle.std.proofs.lemmas.List.{get_or-take, get_or-replicate, get_or_past, length-replicate, places}
 use Rattle.disk_model.specs.Images.{part}
 use Rattle.plain_model.specs.Effects.{Writes}
 use Rattle.plain_model.specs.Plain.{written, resized, rebody}
 use Rattle.plain_model.specs.Blocks.{from_on, blocks_in, met, old_end, touched, size_after}
-use Rattle.file_body.proofs.Sizes.{length-resized}
 use Rattle.meta_store.specs.declared.snapshot.Mapping.{Mapping}
 use Rattle.meta_store.specs.Catalogs.{present}
-use Rattle.meta_store.specs.Changes.{places_fitted, places_set}
-use Rattle.meta_store.proofs.MappedPlaces.{length-fitted, length-places_set}
+use Rattle.meta_store.specs.Records.{places_fitted, places_set}
 use Rattle.file_store.specs.declared.rewrites.Rewrite.{Rewrite}
 use Rattle.file_store.specs.declared.rewrites.Rewrite.TheVariants.{Write, Resize}
 use Rattle.file_store.specs.Bodies.{block_of, block_at, body_at}
 use Rattle.file_store.specs.Rewrites.{effect_of, IsRewrite}
+use Rattle.meta_store.proofs.MappedPlaces.{length-fitted, length-places_set}
 use Rattle.file_store.proofs.GrownBodies.{length-changed}
 use Rattle.file_store.proofs.ByBlocks.{same_body, byte-blocks, length-block, byte-block, at_place, after_set, get_or-fitted}
 
@@ -123,31 +122,11 @@ module _ (old new : List ℕ) (size to : ℕ) (places : List (Option ℕ)) (body
 -- ---- bytes of the new body
 
 byte-resized : (to k : ℕ) (body : List ℕ) → k < to → get_or (resized to body) k 0 ≡ get_or body k 0
-byte-resized to k body h =
-    let front = length-take to body in
-    ⊎_elim
-    (λ (l : k < length body). get_or_append_left (take to body) (replicate (to - length body) 0) 0 k (omega arith) ∙ get_or-take to body k 0 h)
-    (λ (g : length body ≤ k).
-    get_or-append_right (take to body) (replicate (to - length body) 0) (length body) k 0 (omega arith) g
-    ∙ get_or-replicate (to - length body) (k - length body) 0 0 (omega arith)
-    ∙ sym (get_or_past body k 0 g))
-    (cases_lt k (length body))
+byte-resized to k body h = grind (arith, places)
 
 byte-written : (offset k : ℕ) (bytes body : List ℕ) → (k < offset) ⊎ (offset + length bytes ≤ k) → get_or (written offset bytes body) k 0 ≡ get_or body k 0
-byte-written offset k bytes body beside =
-    let front : length (resized offset body) ≡ offset = length-resized offset body in
-    let before : length (resized offset body ++ bytes) ≡ offset + length bytes = omega (arith, length-append (resized offset body) bytes) in
-    ⊎_elim
-    (λ (l : k < offset).
-    get_or_append_left (resized offset body ++ bytes) (drop (offset + length bytes) body) 0 k (omega arith)
-    ∙ get_or_append_left (resized offset body) bytes 0 k (omega arith)
-    ∙ byte-resized offset k body l)
-    (λ (g : offset + length bytes ≤ k).
-    let on : offset + length bytes + (k - (offset + length bytes)) ≡ k = omega arith in
-    get_or-append_right (resized offset body ++ bytes) (drop (offset + length bytes) body) (offset + length bytes) k 0 before g
-    ∙ get_or-drop (offset + length bytes) body (k - (offset + length bytes)) 0
-    ∙ ap (λ i. get_or body i 0) on)
-    beside
+byte-written offset k bytes body (inl before) = grind (arith, places)
+byte-written offset k bytes body (inr behind) = grind (arith, places)
 
 -- ---- the two changes
 

@@ -17,20 +17,33 @@ body_at blocks size places = take size (flat_map (block_at blocks) places)
 
 -- ---- what a catalog's files hold
 
--- with these data blocks
-abbrev pub file_at : List ℕ → CatalogFile → FileState
-file_at blocks f = record { key = f.key; name = f.name; body = body_at blocks f.size f.places; mapped = map is_some f.places; kept = f.kept }
+-- by what the bytes of each are
+abbrev pub file_by : (CatalogFile → List ℕ) → CatalogFile → FileState
+file_by bytes f = record { key = f.key; name = f.name; body = bytes f; mapped = map is_some f.places; kept = f.kept }
 
-unfoldable pub held_at : List ℕ → Catalog → Held
-held_at blocks c = record { files = map (file_at blocks) c.files; next = c.next }
+unfoldable pub held_by : (CatalogFile → List ℕ) → Catalog → Held
+held_by bytes c = record { files = map (file_by bytes) c.files; next = c.next }
+
+-- with these data blocks
+abbrev pub bytes_at : List ℕ → CatalogFile → List ℕ
+bytes_at blocks f = body_at blocks f.size f.places
+
+abbrev pub file_at : List ℕ → CatalogFile → FileState
+file_at blocks = file_by (bytes_at blocks)
+
+abbrev pub held_at : List ℕ → Catalog → Held
+held_at blocks = held_by (bytes_at blocks)
 
 -- with these bodies in memory, that of inode i at i - 1
-abbrev pub file_with : List (List ℕ) → CatalogFile → FileState
-file_with bodies f = record { key = f.key; name = f.name; body = get_or bodies (f.key.ino - 1) []; mapped = map is_some f.places; kept = f.kept }
+abbrev pub bytes_with : List (List ℕ) → CatalogFile → List ℕ
+bytes_with bodies f = get_or bodies (f.key.ino - 1) []
 
-unfoldable pub held_with : List (List ℕ) → Catalog → Held
-held_with bodies c = record { files = map (file_with bodies) c.files; next = c.next }
+abbrev pub file_with : List (List ℕ) → CatalogFile → FileState
+file_with bodies = file_by (bytes_with bodies)
+
+abbrev pub held_with : List (List ℕ) → Catalog → Held
+held_with bodies = held_by (bytes_with bodies)
 
 -- each body has its file's size
 abbrev pub AreBodies : List (List ℕ) → List CatalogFile → Type 0
-AreBodies bodies files = AllByRecursion (λ f. length (get_or bodies (f.key.ino - 1) []) ≡ f.size) files
+AreBodies bodies files = AllByRecursion (λ f. length (bytes_with bodies f) ≡ f.size) files

@@ -1,20 +1,22 @@
 -- A store of files on a disk, and what recovery finds on an image.
-use Rattle.std.specs.Prelude.{◌≡◌, ◌⊎◌, ℕ, ◌<◌, ◌≤◌, ◌^◌, ◌==◌, Bool, true, false, List, length, map, replicate}
-use Rattle.std.specs.List.{list_any, AllByRecursion}
+use Rattle.std.specs.Prelude.{◌≡◌, ◌⊎◌, ℕ, ◌≤◌, ◌^◌, Bool, true, false, List, length, replicate, slice_index_or}
+use Rattle.std.specs.Option.{option_map}
+use Rattle.std.specs.List.{AllByRecursion}
 use Rattle.disk_model.specs.Moments.{MayBe, LeavesOnly}
 use Rattle.disk_model.specs.declared.device.Disk as disk
 use Rattle.hsm_types.specs.declared.stores.Superblock.{Superblock}
-use Rattle.plain_model.specs.State.{Held, names_of}
+use Rattle.hsm_types.specs.declared.keys.FileKey.{FileKey}
+use Rattle.hsm_types.specs.Kept.{Kept}
+use Rattle.plain_model.specs.Keyed.{find_key}
+use Rattle.plain_model.specs.State.{FileState, Held, names_of, used_by, used}
 use Rattle.plain_model.specs.Laws.{IsOpening}
-use Rattle.plain_model.specs.Distinct.{Distinct}
 use Rattle.block_space.specs.Space.{Space, marked}
 use Rattle.inode_table.specs.Table.{IsTable}
-use Rattle.meta_store.specs.declared.snapshot.Mapping.{Mapping}
-use Rattle.meta_store.specs.Catalogs.{Catalog, geometry_of, blocks_of}
+use Rattle.meta_store.specs.Catalogs.{CatalogFile, Catalog, geometry_of, present, blocks_of}
+use Rattle.meta_store.specs.Catalogs.{names_of as names_in}
 use Rattle.meta_store.specs.Images.{IsImage, blocks_in_image}
 use Rattle.meta_store.specs.Meta.{Meta, IsMeta, Backs}
 use Rattle.file_store.specs.Bodies.{held_at}
-use Rattle.file_store.specs.Steps.{places_of}
 
 -- Recovery finds this under that number: the catalog of the image, with the bytes of its data blocks.
 pub record IsRecovered (geometry fsid n : ℕ) (h : Held) (image : List ℕ) : Type 0 where
@@ -71,11 +73,6 @@ pub record Proceeds {D : Type 0} (g : disk.Ghosts D) (old : Store D) (n : ℕ) (
 abbrev pub marks_of : Catalog → List Bool
 marks_of c = marked (blocks_of c.files) (replicate (geometry_of c.geometry).blocks false)
 
--- The files as they are use the blocks that were made durable, and all others are free.
-pub record IsSettled {D : Type 0} (s : Store D) : Type 0 where
-  pub space : s.space ≡ record { current = marks_of s.meta.current; durable = marks_of s.meta.current }
-  pub durable : blocks_of s.meta.durable.files ≡ blocks_of s.meta.current.files
-
 -- as long as no call has failed
 pub record IsLive {D : Type 0} (g : disk.Ghosts D) (s : Store D) : Type 0 where
   pub backs : Backs g s.disk s.meta
@@ -83,19 +80,33 @@ pub record IsLive {D : Type 0} (g : disk.Ghosts D) (s : Store D) : Type 0 where
   pub stored : (c : List ℕ) → MayBe g s.disk c → held_at (blocks_in_image s.meta.durable.geometry c) s.meta.durable ≡ s.durable
   -- what reads give has those that are held
   pub current : (c : List ℕ) → g.gives s.disk c → held_at (blocks_in_image s.meta.durable.geometry c) s.meta.current ≡ s.held
-  pub settled : s.pending ≡ false → IsSettled s
+  -- of the files as they are the marks are exact; what was made durable has all of its marks, and just those of the files as they are where no block was taken or freed since
+  pub marks : s.space.current ≡ marks_of s.meta.current
+  pub marked : AllByRecursion (λ b. slice_index_or s.space.durable b false ≡ true) (blocks_of s.meta.durable.files)
+  pub settled : s.pending ≡ false → s.space.durable ≡ s.space.current
 
 pub record IsSound {D : Type 0} (g : disk.Ghosts D) (s : Store D) : Type 0 where
   pub meta : IsMeta s.meta
   pub live : s.failed ≡ false → IsLive g s
 
--- ---- blocks for a change
+-- ---- what readers of the catalog tell
 
--- Each of these blocks of a file gets a place that neither the files as they are nor those that are durable use.
-pub record IsClaim {D : Type 0} (s : Store D) (touched : List ℕ) (mappings : List Mapping) : Type 0 where
-  pub blocks : map (λ m. m.block) mappings ≡ touched
-  pub distinct : Distinct (places_of mappings)
-  pub within : AllByRecursion (λ m. m.place < (geometry_of s.meta.durable.geometry).blocks) mappings
-  pub unused : AllByRecursion (λ m. list_any (λ p. p == m.place) (blocks_of s.meta.current.files) ≡ false) mappings
-  pub durable : AllByRecursion (λ m. list_any (λ p. p == m.place) (blocks_of s.meta.durable.files) ≡ false) mappings
-  pub pending : s.pending ≡ true
+-- of a file, beside its key and its name
+pub record Told : Type 0 where
+  pub size : ℕ
+  -- how many of its blocks are mapped
+  pub mapped : ℕ
+  pub kept : Kept
+
+abbrev pub told_of : CatalogFile → Told
+told_of f = record { size = f.size; mapped = length (present f.places); kept = f.kept }
+
+abbrev pub told_held : FileState → Told
+told_held f = record { size = length f.body; mapped = used_by f; kept = f.kept }
+
+-- The catalog tells of what is held all but its bytes.
+pub record Shows (c : Catalog) (h : Held) : Type 0 where
+  pub next : c.next ≡ h.next
+  pub names : names_in c.files ≡ names_of h.files
+  pub found : (key : FileKey) → option_map told_of (find_key (λ f. f.key) key c.files) ≡ option_map told_held (find_key (λ f. f.key) key h.files)
+  pub used : length (blocks_of c.files) ≡ used h.files

@@ -1,23 +1,25 @@
-// What changes the files of a store.
-ghost use Rattle.std.specs.Prelude.{◌≡◌, ◌≢◌, ◌+◌, ◌≤◌, true, false, None, length, OnOk, IfOk, IsErrOf, IsSome, ℕ};
+// What changes the files of a store: each event is records, blocks that they take and free, and bytes.
+ghost use Rattle.std.specs.Prelude.{◌≡◌, ◌≢◌, ◌+◌, ◌≤◌, true, false, None, Some, Err, length, OnOk, IfOk, IsErrOf, IsSome};
 ghost use Rattle.disk_model.specs.Calls.{Rose};
 ghost use Rattle.hsm_types.specs.Names.{is_name};
+ghost use Rattle.hsm_types.specs.Regions.{regions_refusal};
+ghost use Rattle.hsm_types.specs.Attributes.{setting_refusal, removal_refusal};
+ghost use Rattle.hsm_types.specs.declared.dm.DmRefusal.{DmRefusal};
 ghost use Rattle.plain_model.specs.Keyed.{find_key};
-ghost use Rattle.plain_model.specs.Effects.{Makes, Drops, Writes, Resizes};
+ghost use Rattle.plain_model.specs.Effects.{Makes, Drops, Writes, Resizes, Manages, Attaches, Detaches};
 ghost use Rattle.plain_model.specs.Plain.{named};
 ghost use Rattle.plain_model.specs.Blocks.{touched};
 ghost use Rattle.plain_model.specs.State.{names_of, bytes_of, next_key, affected_held, used};
+ghost use Rattle.plain_model.specs.Services.{kept_of, other_attributes};
 ghost use Rattle.meta_store.specs.Catalogs.{geometry_of};
-ghost use Rattle.file_store.specs.Rewrites.{effect_of, IsRewrite};
-ghost use Rattle.file_store.specs.Stores.{IsClaim, Proceeds};
+ghost use Rattle.file_store.specs.Stores.{superblock_of, Proceeds};
 
 use crate::refusal::StoreRefusal;
 use crate::rewrites::Rewrite;
 use crate::store::FileStore;
-use crate::writing::put_body;
-use disk_model::{Disk, Failed};
-use hsm_types::{FileKey, Word};
-use meta_store::Mapping;
+use disk_model::Disk;
+use hsm_types::{AttrName, Bytes, FileKey, Regions, Word};
+use meta_store::Record;
 use std::alloc::Global;
 
 /// The first generation that a snapshot can't hold as one that was given.
@@ -32,18 +34,35 @@ impl<D: Disk> FileStore<D> {
         requires left { length self.old.held.files ≢ (geometry_of self.old.meta.durable.geometry).files }
         ensures key { IfOk result (λ key. key ≡ next_key self.old.held) }
         ensures held { OnOk result (self.new.held ≡ record { files = affected_held (Makes name.now) (next_key self.old.held) self.old.held.files; next = self.old.held.next + 1 }) }
-        ensures working { self.new.failed ≡ false }
+        ensures working { OnOk result (self.new.failed ≡ false) }
         ensures memory { IsErrOf result StoreRefusal.Memory → self.new ≡ self.old }
-        ensures never { IsErrOf result StoreRefusal.Disk → ⊥ }
+        ensures failed { IsErrOf result StoreRefusal.Disk → (self.new.failed ≡ true) × Rose (D.fault_count self.old.disk) (D.fault_count self.new.disk) }
+        ensures no_part { (why : DmRefusal) → IsErrOf result (StoreRefusal.Part why) → ⊥ }
         ensures proceeds { Proceeds D.Disk self.old number self.new }
     {
-        if self.files.meta().catalog().next() >= LAST_GENERATION {
+        let key = self.meta.catalog().names().next_key();
+        if key.igen >= LAST_GENERATION {
             return Err(StoreRefusal::Memory);
         }
-        match self.files.make(alloc, name) {
-            Ok(key) => Ok(key),
-            Err(_) => Err(StoreRefusal::Memory),
-        }
+        let name = name.clone()?;
+        self.record(alloc, key, Record::Make { key, name }, number)?;
+        Ok(key)
+    }
+
+    /// Removes a live file.
+    pub fn remove(&mut self, alloc: Global, key: FileKey, number: u64) -> Result<(), StoreRefusal>
+        requires working { self.old.failed ≡ false }
+        requires live { IsSome (find_key (λ f. f.key) key self.old.held.files) }
+        ensures held { OnOk result (self.new.held ≡ record self.old.held { files = affected_held Drops key self.old.held.files }) }
+        ensures working { OnOk result (self.new.failed ≡ false) }
+        ensures memory { IsErrOf result StoreRefusal.Memory → (self.new.held ≡ self.old.held) × (self.new.failed ≡ false) }
+        ensures failed { IsErrOf result StoreRefusal.Disk → (self.new.failed ≡ true) × Rose (D.fault_count self.old.disk) (D.fault_count self.new.disk) }
+        ensures no_part { (why : DmRefusal) → IsErrOf result (StoreRefusal.Part why) → ⊥ }
+        ensures proceeds { Proceeds D.Disk self.old number self.new }
+    {
+        self.settle(alloc, number)?;
+        let ino = self.inode(key);
+        self.record(alloc, key, Record::Drop { ino }, number)
     }
 
     /// Writes the bytes at the offset. Zeros fill what lies between the old end and the offset.
@@ -64,8 +83,10 @@ impl<D: Disk> FileStore<D> {
         ensures working { OnOk result (self.new.failed ≡ false) }
         ensures memory { IsErrOf result StoreRefusal.Memory → (self.new.held ≡ self.old.held) × (self.new.failed ≡ false) }
         ensures failed { IsErrOf result StoreRefusal.Disk → (self.new.failed ≡ true) × Rose (D.fault_count self.old.disk) (D.fault_count self.new.disk) }
+        ensures no_part { (why : DmRefusal) → IsErrOf result (StoreRefusal.Part why) → ⊥ }
         ensures proceeds { Proceeds D.Disk self.old number self.new }
     {
+        self.settle(alloc, number)?;
         self.rewrite(alloc, key, Rewrite::Write { offset, bytes }, number)
     }
 
@@ -85,80 +106,80 @@ impl<D: Disk> FileStore<D> {
         ensures working { OnOk result (self.new.failed ≡ false) }
         ensures memory { IsErrOf result StoreRefusal.Memory → (self.new.held ≡ self.old.held) × (self.new.failed ≡ false) }
         ensures failed { IsErrOf result StoreRefusal.Disk → (self.new.failed ≡ true) × Rose (D.fault_count self.old.disk) (D.fault_count self.new.disk) }
+        ensures no_part { (why : DmRefusal) → IsErrOf result (StoreRefusal.Part why) → ⊥ }
         ensures proceeds { Proceeds D.Disk self.old number self.new }
     {
+        self.settle(alloc, number)?;
         self.rewrite(alloc, key, Rewrite::Resize { size }, number)
     }
 
-    /// Changes the bytes of a file.
-    fn rewrite(
+    /// Gives a live file these regions, in the place of those that it has.
+    pub fn set_regions(
         &mut self,
         alloc: Global,
         key: FileKey,
-        change: Rewrite<'_>,
+        regions: Regions,
         number: u64,
     ) -> Result<(), StoreRefusal>
         requires working { self.old.failed ≡ false }
         requires live { IsSome (find_key (λ f. f.key) key self.old.held.files) }
-        requires lawful { IsRewrite change }
-        requires room { length (touched (effect_of change) (length (bytes_of key self.old.held.files))) + used self.old.held.files ≤ (geometry_of self.old.meta.durable.geometry).blocks }
-        ensures held { OnOk result (self.new.held ≡ record self.old.held { files = affected_held (effect_of change.entry) key self.old.held.files }) }
+        ensures judged { OnOk result (regions_refusal regions ≡ None) }
+        ensures refused { (why : DmRefusal) → (result ≡ Err (StoreRefusal.Part why)) → (regions_refusal regions ≡ Some why) }
+        ensures held { OnOk result (self.new.held ≡ record self.old.held { files = affected_held (Manages regions) key self.old.held.files }) }
         ensures working { OnOk result (self.new.failed ≡ false) }
-        ensures memory { IsErrOf result StoreRefusal.Memory → (self.new.held ≡ self.old.held) × (self.new.failed ≡ false) }
+        ensures unchanged { (why : DmRefusal) → IsErrOf result (StoreRefusal.Part why) → self.new ≡ self.old }
+        ensures memory { IsErrOf result StoreRefusal.Memory → self.new ≡ self.old }
         ensures failed { IsErrOf result StoreRefusal.Disk → (self.new.failed ≡ true) × Rose (D.fault_count self.old.disk) (D.fault_count self.new.disk) }
         ensures proceeds { Proceeds D.Disk self.old number self.new }
     {
-        let touched = change.touched(self.files.body(key).len());
-        match self.claim(alloc, &touched, number) {
-            Ok(mappings) => self.rewrite_to(alloc, key, change, &mappings),
-            Err(refusal) => Err(refusal),
-        }
+        let ino = self.inode(key);
+        self.record(alloc, key, Record::Regions { ino, regions }, number)
     }
 
-    /// Changes the bytes, and writes the blocks that this touches to new places.
-    fn rewrite_to(
+    /// Gives an attribute of a live file a value, in the place of an older one.
+    pub fn set_attr(
         &mut self,
         alloc: Global,
         key: FileKey,
-        change: Rewrite<'_>,
-        mappings: &[Mapping],
+        name: AttrName,
+        value: Bytes,
+        number: u64,
     ) -> Result<(), StoreRefusal>
         requires working { self.old.failed ≡ false }
         requires live { IsSome (find_key (λ f. f.key) key self.old.held.files) }
-        requires lawful { IsRewrite change }
-        requires claimed { IsClaim self.old (touched (effect_of change) (length (bytes_of key self.old.held.files))) mappings.now }
-        ensures held { OnOk result (self.new.held ≡ record self.old.held { files = affected_held (effect_of change.entry) key self.old.held.files }) }
+        ensures judged { OnOk result (setting_refusal name value (other_attributes key self.old.held.files) (superblock_of self.old).geometry.attributes (kept_of key self.old.held.files).attributes ≡ None) }
+        ensures refused { (why : DmRefusal) → (result ≡ Err (StoreRefusal.Part why)) → (setting_refusal name value (other_attributes key self.old.held.files) (superblock_of self.old).geometry.attributes (kept_of key self.old.held.files).attributes ≡ Some why) }
+        ensures held { OnOk result (self.new.held ≡ record self.old.held { files = affected_held (Attaches name value) key self.old.held.files }) }
         ensures working { OnOk result (self.new.failed ≡ false) }
-        ensures memory { IsErrOf result StoreRefusal.Memory → self.new ≡ self.old }
-        ensures failed { IsErrOf result StoreRefusal.Disk → (self.new.failed ≡ true) × Rose (D.fault_count self.old.disk) (D.fault_count self.new.disk) }
-        ensures proceeds { (n : ℕ) → Proceeds D.Disk self.old n self.new }
-    {
-        let Ok(()) = self.files.rewrite(alloc, key, change, mappings) else {
-            return Err(StoreRefusal::Memory);
-        };
-        match put_body(&mut self.disk, &self.files, key, mappings) {
-            Ok(()) => Ok(()),
-            Err(Failed) => {
-                self.failed = true;
-                Err(StoreRefusal::Disk)
-            }
-        }
-    }
-
-    /// Removes a file. Where the key isn't live, no file goes. It takes memory only to make durable what was changed before.
-    pub fn remove(&mut self, alloc: Global, key: FileKey, number: u64) -> Result<(), StoreRefusal>
-        requires working { self.old.failed ≡ false }
-        ensures held { OnOk result (self.new.held ≡ record self.old.held { files = affected_held Drops key self.old.held.files }) }
-        ensures working { OnOk result (self.new.failed ≡ false) }
+        ensures unchanged { (why : DmRefusal) → IsErrOf result (StoreRefusal.Part why) → self.new ≡ self.old }
         ensures memory { IsErrOf result StoreRefusal.Memory → self.new ≡ self.old }
         ensures failed { IsErrOf result StoreRefusal.Disk → (self.new.failed ≡ true) × Rose (D.fault_count self.old.disk) (D.fault_count self.new.disk) }
         ensures proceeds { Proceeds D.Disk self.old number self.new }
     {
-        if let Err(refusal) = self.settle(alloc, number) {
-            return Err(refusal);
-        }
-        self.files.remove(key);
-        self.pending = true;
-        Ok(())
+        let ino = self.inode(key);
+        self.record(alloc, key, Record::SetAttr { ino, name, value }, number)
+    }
+
+    /// Takes an attribute of a live file away.
+    pub fn drop_attr(
+        &mut self,
+        alloc: Global,
+        key: FileKey,
+        name: AttrName,
+        number: u64,
+    ) -> Result<(), StoreRefusal>
+        requires working { self.old.failed ≡ false }
+        requires live { IsSome (find_key (λ f. f.key) key self.old.held.files) }
+        ensures judged { OnOk result (removal_refusal name (kept_of key self.old.held.files).attributes ≡ None) }
+        ensures refused { (why : DmRefusal) → (result ≡ Err (StoreRefusal.Part why)) → (removal_refusal name (kept_of key self.old.held.files).attributes ≡ Some why) }
+        ensures held { OnOk result (self.new.held ≡ record self.old.held { files = affected_held (Detaches name) key self.old.held.files }) }
+        ensures working { OnOk result (self.new.failed ≡ false) }
+        ensures unchanged { (why : DmRefusal) → IsErrOf result (StoreRefusal.Part why) → self.new ≡ self.old }
+        ensures memory { IsErrOf result StoreRefusal.Memory → self.new ≡ self.old }
+        ensures failed { IsErrOf result StoreRefusal.Disk → (self.new.failed ≡ true) × Rose (D.fault_count self.old.disk) (D.fault_count self.new.disk) }
+        ensures proceeds { Proceeds D.Disk self.old number self.new }
+    {
+        let ino = self.inode(key);
+        self.record(alloc, key, Record::DropAttr { ino, name }, number)
     }
 }

@@ -1,17 +1,13 @@
 //! The files of a store on its disk: their bodies in memory and in data blocks.
 #![tactic(auto)]
 
-mod blocks;
 mod changes;
-mod claims;
-mod files;
+mod events;
 mod laws;
 mod loading;
-mod managed;
 mod opening;
-mod readers;
+mod plans;
 mod refusal;
-mod remapping;
 mod rewrites;
 mod spaces;
 mod store;

@@ -19,6 +19,14 @@ use hsm_types::{BLOCK_BYTES, FILE_BYTES};
 use meta_store::{Catalog, geometry_of};
 use std::alloc::{AllocError, Global};
 
+/// Where the body of the file with that inode is.
+pub(crate) fn slot(ino: u64) -> usize
+    requires { 1 ≤ ino }
+    ensures { result ≡ ino - 1 }
+{
+    (ino - 1) as usize
+}
+
 /// The bodies of all files, that of inode i at i - 1, and none where no file has the inode. It costs their mapped blocks.
 pub(crate) fn load_bodies<D: Disk>(
     alloc: Global,
@@ -38,10 +46,10 @@ pub(crate) fn load_bodies<D: Disk>(
     let Ok(mut bodies) = empty(alloc, geometry_of(geometry).files) else {
         return Err(StoreRefusal::Memory);
     };
-    for index in 0..catalog.len() {
+    for index in 0..catalog.names().len() {
         let (key, _name, size, parts) = catalog.file(index).unwrap();
         let places = parts.places();
-        bodies[(key.ino - 1) as usize] = load_body(alloc, disk, geometry, size, places)?;
+        bodies[slot(key.ino)] = load_body(alloc, disk, geometry, size, places)?;
     }
     Ok(bodies)
 }

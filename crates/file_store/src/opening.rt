@@ -9,9 +9,9 @@ ghost use Rattle.meta_store.specs.Images.{blocks_in_image, IsCorruptAt};
 ghost use Rattle.meta_store.specs.Meta.{IsMeta, Backs};
 ghost use Rattle.file_store.specs.Bodies.{held_at, held_with, AreBodies};
 ghost use Rattle.meta_store.specs.Catalogs.{geometry_of};
-ghost use Rattle.file_store.specs.Stores.{IsLawful, marks_of};
+ghost use Rattle.file_store.specs.HeldFiles.{IsHeldFiles};
+ghost use Rattle.file_store.specs.Stores.{marks_of};
 
-use crate::files::Files;
 use crate::loading::load_bodies;
 use crate::refusal::StoreRefusal;
 use crate::spaces::space_of;
@@ -21,19 +21,19 @@ use file_body::Body;
 use meta_store::{Catalog, MetaStore};
 use std::alloc::Global;
 
-/// Reads the files of a store, and which blocks they leave free.
+/// Reads the files of a store, their bodies, that of inode i at i - 1, and which blocks they leave free.
 pub(crate) fn read_in<D: Disk>(
     alloc: Global,
     disk: &mut D,
-) -> Result<(Files, BlockSpace), OpenRefusal>
+) -> Result<(MetaStore, Vec<Body>, BlockSpace), OpenRefusal>
     ensures keeps { Keeps D.Disk disk.old disk.new Same }
     ensures given { Alike (D.gives disk.old) (D.gives disk.new) }
-    ensures lawful { IfOk result (λ r. IsMeta r.0.meta) }
-    ensures same { IfOk result (λ r. r.0.meta.current ≡ r.0.meta.durable) }
-    ensures backs { IfOk result (λ r. Backs D.Disk disk.new r.0.meta) }
-    ensures holds { IfOk result (λ r. (c : List ℕ) → MayBe D.Disk disk.new c → held_at (blocks_in_image r.0.meta.durable.geometry c) r.0.meta.durable ≡ r.0.held) }
-    ensures held { IfOk result (λ r. IsLawful (geometry_of r.0.meta.current.geometry).files r.0.held) }
-    ensures space { IfOk result (λ r. r.1 ≡ record { current = marks_of r.0.meta.current; durable = marks_of r.0.meta.current }) }
+    ensures lawful { IfOk result (λ r. IsMeta r.0) }
+    ensures same { IfOk result (λ r. r.0.current ≡ r.0.durable) }
+    ensures backs { IfOk result (λ r. Backs D.Disk disk.new r.0) }
+    ensures bodies { IfOk result (λ r. IsHeldFiles r.1.items r.0) }
+    ensures holds { IfOk result (λ r. (c : List ℕ) → MayBe D.Disk disk.new c → held_at (blocks_in_image r.0.durable.geometry c) r.0.durable ≡ held_with r.1.items r.0.current) }
+    ensures space { IfOk result (λ r. r.2 ≡ record { current = marks_of r.0.current; durable = marks_of r.0.current }) }
     ensures not_store { IsErrOf result OpenRefusal.NotStore → (c : List ℕ) → D.gives disk.old c → (geometry fsid : ℕ) → IsStore geometry fsid c → ⊥ }
     ensures corrupt { (place : ℕ) → IsErrOf result (OpenRefusal.Corrupt place) → (c : List ℕ) → D.gives disk.old c → IsCorruptAt place c }
     ensures failed { IsErrOf result OpenRefusal.Disk → Rose (D.fault_count disk.old) (D.fault_count disk.new) }
@@ -46,7 +46,7 @@ pub(crate) fn read_in<D: Disk>(
         Ok(read) => read,
         Err(refusal) => return Err(refusal),
     };
-    Ok((Files::new(meta, bodies), space))
+    Ok((meta, bodies, space))
 }
 
 /// The bodies of a catalog's files, and which blocks they leave free.
@@ -68,8 +68,8 @@ fn read_files<D: Disk>(
 {
     let bodies = match load_bodies(alloc, disk, catalog) {
         Ok(bodies) => bodies,
-        Err(StoreRefusal::Memory) => return Err(OpenRefusal::Memory),
         Err(StoreRefusal::Disk) => return Err(OpenRefusal::Disk),
+        Err(_) => return Err(OpenRefusal::Memory),
     };
     match space_of(alloc, catalog) {
         Ok(space) => Ok((bodies, space)),

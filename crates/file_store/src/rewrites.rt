@@ -2,6 +2,7 @@
 ghost use Rattle.std.specs.Prelude.{◌≡◌, ◌≤◌, length, OnOk, IsOk};
 ghost use Rattle.plain_model.specs.Plain.{rebody};
 ghost use Rattle.plain_model.specs.Blocks.{touched, size_after};
+ghost use Rattle.file_store.specs.Bodies.{block_of};
 ghost use Rattle.file_store.specs.Rewrites.{effect_of, IsRewrite};
 
 use file_body::{Body, TouchedBlocks, touched_by_truncate, touched_by_write};
@@ -37,6 +38,21 @@ impl Rewrite<'_> {
         match self {
             Rewrite::Write { offset, bytes } => size.max(offset + bytes.len() as u64),
             Rewrite::Resize { size: new } => new,
+        }
+    }
+
+    /// Fills a block as the change will leave it.
+    pub(crate) fn fill_block(self, body: &Body, block: u32, buffer: &mut [u8])
+        requires lawful { IsRewrite self }
+        requires grows { length body.now ≤ size_after (effect_of self) (length body.now) }
+        requires len { length buffer.old ≡ 4096 }
+        ensures { buffer.new ≡ block_of (rebody (effect_of self.entry) body.now) block }
+    {
+        match self {
+            Rewrite::Write { offset, bytes } => body.fill_written_block(
+                block, offset, bytes, buffer,
+            ),
+            Rewrite::Resize { .. } => body.fill_block(block, buffer),
         }
     }
 

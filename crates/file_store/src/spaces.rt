@@ -8,7 +8,7 @@ use meta_store::{Catalog, geometry_of};
 use std::alloc::{AllocError, Global};
 
 /// Puts the data blocks among a file's places behind the others.
-fn put_present(blocks: &mut Vec<u32>, places: &[Option<u32>]) -> Result<(), AllocError>
+pub(crate) fn put_present(blocks: &mut Vec<u32>, places: &[Option<u32>]) -> Result<(), AllocError>
     ensures { OnOk result (blocks.new.items ≡ blocks.old.items ++ present places.now) }
 {
     for place in places {
@@ -24,7 +24,7 @@ fn data_blocks(alloc: Global, catalog: &Catalog) -> Result<Vec<u32>, AllocError>
     ensures { IfOk result (λ v. v.items ≡ blocks_of catalog.now.files) }
 {
     let mut blocks = Vec::new(alloc);
-    for index in 0..catalog.len() {
+    for index in 0..catalog.names().len() {
         let (_, _, _, parts) = catalog.file(index).unwrap();
         let places = parts.places();
         put_present(&mut blocks, places)?;

@@ -1,51 +1,59 @@
 // A store of files on its disk.
-ghost use Rattle.std.specs.Prelude.{◌≡◌, true, false, List, ℕ, length, IfOk, IfErr, OnOk, IsErrOf, IsSome};
+ghost use Rattle.std.specs.Prelude.{◌≡◌, true, false, List, ℕ, ◌≤◌, IfOk, IfErr, OnOk, IsErrOf, IsSome};
 ghost use Rattle.disk_model.specs.Calls.{Rose};
 ghost use Rattle.disk_model.specs.Images.{Alike};
 ghost use Rattle.disk_model.specs.Moments.{MayBe, Keeps, Same};
 ghost use Rattle.commit_slots.specs.Images.{IsStore};
+ghost use Rattle.hsm_types.specs.declared.dm.DmRefusal.{DmRefusal};
 ghost use Rattle.plain_model.specs.Keyed.{find_key};
 ghost use Rattle.plain_model.specs.State.{bytes_of, used};
-ghost use Rattle.meta_store.specs.Catalogs.{geometry_of, blocks_of};
+ghost use Rattle.plain_model.specs.Services.{kept_of, other_attributes};
+ghost use Rattle.meta_store.specs.Catalogs.{geometry_of};
 ghost use Rattle.meta_store.specs.Images.{IsCorruptAt};
 ghost use Rattle.meta_store.specs.Meta.{IsMeta};
-ghost use Rattle.file_store.specs.Stores.{IsLawful, IsDurable, IsSettled, Proceeds};
+ghost use Rattle.meta_store.specs.Records.{key_on, kept_at, others_total};
+ghost use Rattle.file_store.specs.Stores.{superblock_of, IsLawful, IsDurable, Proceeds, Shows};
 
-use crate::files::Files;
+use crate::loading::slot;
 use crate::opening::read_in;
 use crate::refusal::StoreRefusal;
-use crate::spaces::space_of;
 use block_space::BlockSpace;
 use disk_model::{Disk, OpenRefusal};
 use file_body::Body;
-use hsm_types::FileKey;
-use meta_store::{MetaRefusal, MetaStore};
+use hsm_types::{FileKey, Superblock};
+use meta_store::{MetaRefusal, MetaStore, geometry_of};
 use std::alloc::Global;
 use std::marker::Model;
 use std::snapshot::Snapshot;
 
 /// The greatest number that a snapshot can hold.
-const LAST_NUMBER: u64 = 1 << 62;
+pub(crate) const LAST_NUMBER: u64 = 1 << 62;
 
-/// The files of a store, and the disk that they are kept on.
+/// The files of a store, and the disk that they are kept on: what is kept of them beside their bytes, and their bodies in memory.
 #[derive(Drop)]
 pub struct FileStore<D: Disk> {
     pub(crate) disk: D,
-    pub(crate) files: Files,
-    pub(crate) durable: Snapshot<Files>,
+    pub(crate) meta: MetaStore,
+    /// Of inode i at i - 1.
+    pub(crate) bodies: Vec<Body>,
+    /// As they were made durable.
+    pub(crate) durable: Snapshot<Vec<Body>>,
     pub(crate) space: BlockSpace,
+    /// Whether blocks were taken or freed since.
     pub(crate) pending: bool,
     pub(crate) failed: bool,
 }
 
 impl<D: Disk> Model for FileStore<D> {
+    ghost use Rattle.file_store.specs.Bodies.{held_with};
+    ghost use Rattle.file_store.specs.HeldFiles.{IsHeldFiles};
     ghost use Rattle.file_store.specs.Stores.{Store, IsSound};
 
     ghost Value = { Store D };
 
-    ghost view = { λ s. record { disk = s.disk; meta = s.files.meta; held = s.files.held; durable = s.durable.value.held; space = s.space; pending = s.pending; failed = s.failed } };
+    ghost view = { λ s. record { disk = s.disk; meta = s.meta; held = held_with s.bodies.items s.meta.current; durable = held_with s.durable.value.items s.meta.durable; space = s.space; pending = s.pending; failed = s.failed } };
 
-    ghost invariant = { λ s. IsSound D.Disk (record { disk = s.disk; meta = s.files.meta; held = s.files.held; durable = s.durable.value.held; space = s.space; pending = s.pending; failed = s.failed }) };
+    ghost invariant = { λ s. IsHeldFiles s.bodies.items s.meta × IsSound D.Disk (record { disk = s.disk; meta = s.meta; held = held_with s.bodies.items s.meta.current; durable = held_with s.durable.value.items s.meta.durable; space = s.space; pending = s.pending; failed = s.failed }) };
 }
 
 impl<D: Disk> FileStore<D> {
@@ -66,10 +74,11 @@ impl<D: Disk> FileStore<D> {
         ensures failed { IfErr result (λ e. e.0 ≡ OpenRefusal.Disk → Rose (D.fault_count disk) (D.fault_count e.1)) }
     {
         match read_in(alloc, &mut disk) {
-            Ok((files, space)) => Ok(FileStore {
+            Ok((meta, bodies, space)) => Ok(FileStore {
                 disk,
-                durable: Snapshot::of(&files),
-                files,
+                meta,
+                durable: Snapshot::of(&bodies),
+                bodies,
                 space,
                 pending: false,
                 failed: false,
@@ -87,39 +96,38 @@ impl<D: Disk> FileStore<D> {
         ensures durable { OnOk result ((c : List ℕ) → MayBe D.Disk self.new.disk c → IsDurable self.new c) }
         ensures proceeds { Proceeds D.Disk self.old number self.new }
         ensures working { OnOk result (self.new.failed ≡ false) }
-        ensures settled { OnOk result (IsSettled self.new) }
+        ensures settled { OnOk result (self.new.pending ≡ false) }
         ensures memory { IsErrOf result StoreRefusal.Memory → self.new ≡ self.old }
         ensures failed { IsErrOf result StoreRefusal.Disk → (self.new.failed ≡ true) × Rose (D.fault_count self.old.disk) (D.fault_count self.new.disk) }
+        ensures no_part { (why : DmRefusal) → IsErrOf result (StoreRefusal.Part why) → ⊥ }
     {
-        let catalog = self.files.meta().catalog();
+        // Read for what is true of it.
+        let _disk = &self.disk;
         if number > LAST_NUMBER {
             return Err(StoreRefusal::Memory);
         }
-        let Ok(space) = space_of(alloc, catalog) else {
-            return Err(StoreRefusal::Memory);
-        };
-        match self.files.commit(alloc, &mut self.disk, number) {
+        match self.meta.commit(alloc, &mut self.disk, number) {
             Ok(()) => {
-                self.durable = Snapshot::of(&self.files);
-                self.space = space;
+                self.durable = Snapshot::of(&self.bodies);
+                self.space.committed();
                 self.pending = false;
                 Ok(())
             }
-            Err(MetaRefusal::Memory) => Err(StoreRefusal::Memory),
-            Err(MetaRefusal::Disk) => {
-                self.failed = true;
-                Err(StoreRefusal::Disk)
+            Err(refusal) => {
+                self.failed = refusal == MetaRefusal::Disk;
+                Err(StoreRefusal::from(refusal))
             }
         }
     }
 
-    /// The names, sizes and block places of the files.
+    /// What is kept of the files beside their bytes.
     pub fn meta(&self) -> &MetaStore
         ensures meta { result.now ≡ self.now.meta }
         ensures lawful { IsMeta self.now.meta }
-        ensures used { length (blocks_of self.now.meta.current.files) ≡ used self.now.held.files }
+        ensures shows { Shows self.now.meta.current self.now.held }
+        ensures files { IsLawful (geometry_of self.now.meta.current.geometry).files self.now.held }
     {
-        self.files.meta()
+        &self.meta
     }
 
     /// The body of a live file.
@@ -127,7 +135,41 @@ impl<D: Disk> FileStore<D> {
         requires { IsSome (find_key (λ f. f.key) key self.now.held.files) }
         ensures { result.now ≡ bytes_of key self.now.held.files }
     {
-        self.files.body(key)
+        &self.bodies[slot(key.ino)]
+    }
+
+    /// The inode of a live file. The catalog finds the file by it.
+    pub(crate) fn inode(&self, key: FileKey) -> u64
+        requires { IsSome (find_key (λ f. f.key) key self.now.held.files) }
+        ensures inode { result ≡ key.ino }
+        ensures key { key_on key.ino self.now.meta.current ≡ key }
+        ensures live { IsSome (find_key (λ f. f.key) key self.now.meta.current.files) }
+        ensures kept { kept_of key self.now.held.files ≡ kept_at key self.now.meta.current }
+        ensures others { other_attributes key self.now.held.files ≡ others_total key self.now.meta.current }
+        ensures lawful { IsMeta self.now.meta }
+    {
+        // Read for what is true of it.
+        let _meta = &self.meta;
+        key.ino
+    }
+
+    /// How the store was formatted. No more blocks are mapped than it has.
+    pub fn superblock(&self) -> Superblock
+        ensures superblock { result ≡ superblock_of self.now }
+        ensures mapped { used self.now.held.files ≤ (superblock_of self.now).geometry.blocks }
+    {
+        Superblock {
+            geometry: geometry_of(self.meta.catalog().geometry()),
+            fsid: self.meta.fsid(),
+        }
+    }
+
+    /// Whether a call of the disk has failed. As long as none has, nothing becomes of the disk between calls.
+    pub fn has_failed(&self) -> bool
+        ensures failed { result ≡ self.now.failed }
+        ensures idle { self.now.failed ≡ false → (n : ℕ) → Proceeds D.Disk self.now n self.now }
+    {
+        self.failed
     }
 
     /// Ends with the disk. What wasn't made durable is lost.

@@ -1,20 +1,23 @@
-use Rattle.std.proofs.Common.{◌≡◌, ◌-◌, ℕ, List, map, sym, ◌∙◌, subst, arith, length-set, take_all}
+use Rattle.std.proofs.Common.{◌≡◌, ◌-◌, ℕ, List, length, sym, ◌∙◌, subst, arith, length-set, take_all}
+use Rattle.std.specs.List.{AllByRecursion}
 use Rattle.disk_model.proofs.Steps.{sames_on}
 use Rattle.meta_store.specs.Catalogs.{CatalogFile}
 use Rattle.meta_store.specs.Images.{blocks_in_image}
-use Rattle.file_store.specs.Bodies.{body_at, file_at, file_with}
-use Rattle.file_store.proofs.ByInode.{next-file, sizes-more, files-more, all-held}
+use Rattle.file_store.specs.Bodies.{body_at, bytes_at, bytes_with}
+use Rattle.file_store.proofs.ByInode.{next-file, each-more}
+use Rattle.file_store.proofs.FilesBy.{held-same}
+use Rattle.file_store.proofs.Readings.{listed-count}
 use Rattle.file_store.proofs.loading.load_bodies.Goals as goal
 
-pub overflow_sub-key : goal.overflow_sub-key
-overflow_sub-key g c = (next-file c.args.catalog.now c.loop-index.index _ c.len-index-end.ensures.valid (sym (rw c.unwrap-size.ensures at c.file.ensures))).low
+pub slot-requires : goal.slot-requires
+slot-requires g c = (next-file c.args.catalog.now c.loop-index.index _ c.geometry-geometry.ensures.valid (sym (rw c.unwrap-size.ensures at c.file.ensures))).low
 
 pub index_mut-requires : goal.index_mut-requires
 index_mut-requires g c =
-    let is = next-file c.args.catalog.now c.loop-index.index _ c.len-index-end.ensures.valid (sym (rw c.unwrap-size.ensures at c.file.ensures)) in
+    let is = next-file c.args.catalog.now c.loop-index.index _ c.geometry-geometry.ensures.valid (sym (rw c.unwrap-size.ensures at c.file.ensures)) in
     let low = is.low in
     let high = is.high in
-    omega (arith, c.loop-index.invariant.count)
+    omega (arith, c.loop-index.invariant.count, c.slot.ensures)
 
 pub loop-index-preserved : goal.loop-index-preserved
 loop-index-preserved g c =
@@ -22,13 +25,13 @@ loop-index-preserved g c =
     let so_far = c.loop-index.invariant in
     let bodies = c.loop-index.bodies.items in
     let body = c.in_ok-bodies.field-0 in
-    let is = next-file catalog c.loop-index.index _ c.len-index-end.ensures.valid (sym (rw c.unwrap-size.ensures at c.file.ensures)) in
-    record {
+    let is = next-file catalog c.loop-index.index _ c.geometry-geometry.ensures.valid (sym (rw c.unwrap-size.ensures at c.file.ensures)) in
+    rw c.slot.ensures record {
       keeps = sames_on g.D.Disk _ _ _ so_far.keeps c.in_ok-bodies.ensures.keeps;
       given = (λ d gives. so_far.given.0 d (c.in_ok-bodies.ensures.given.0 d gives), λ d gives. c.in_ok-bodies.ensures.given.1 d (so_far.given.1 d gives));
       count = length-set bodies (c.unwrap-size.result.0.ino - 1) body ∙ so_far.count;
-      sizes = sizes-more catalog c.loop-index.index _ bodies body is so_far.count c.in_ok-bodies.ensures.size so_far.sizes;
-      loaded = λ d gives. files-more (blocks_in_image catalog.geometry d) catalog c.loop-index.index _ bodies body is so_far.count
+      sizes = each-more (λ f b. length b ≡ f.size) catalog c.loop-index.index _ bodies body is so_far.count c.in_ok-bodies.ensures.size so_far.sizes;
+      loaded = λ d gives. each-more (λ f b. b ≡ bytes_at (blocks_in_image catalog.geometry d) f) catalog c.loop-index.index _ bodies body is so_far.count
           (subst (λ (n : ℕ). body ≡ body_at (blocks_in_image n d) c.unwrap-size.result.2 c.unwrap-size.result.3.now.places) c.geometry-geometry.ensures.geometry (rw c.places-places.ensures at (c.in_ok-bodies.ensures.loaded d (so_far.given.1 d gives))))
           (so_far.loaded d gives);
     }
@@ -38,5 +41,5 @@ returns-clause-loaded g c = λ d gives.
     let catalog = c.args.catalog.now in
     let blocks = blocks_in_image catalog.geometry d in
     let bodies = c.loop-index.bodies.items in
-    let all = take_all c.loop-index.index catalog.files (omega (arith, c.len-index-end.ensures.len)) in
-    all-held blocks catalog bodies (subst (λ (fs : List CatalogFile). map (file_with bodies) fs ≡ map (file_at blocks) fs) all (c.loop-index.invariant.loaded d gives))
+    let all = take_all c.loop-index.index catalog.files (omega (arith, listed-count _ _ catalog _ c.names.ensures c.len-index-end.ensures.len)) in
+    held-same (bytes_at blocks) (bytes_with bodies) catalog (subst (λ (fs : List CatalogFile). AllByRecursion (λ f. bytes_with bodies f ≡ bytes_at blocks f) fs) all (c.loop-index.invariant.loaded d gives))

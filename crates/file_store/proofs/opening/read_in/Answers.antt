@@ -3,7 +3,7 @@ use Rattle.std.specs.Prelude.{Err}
 use Rattle.disk_model.specs.declared.refusal.OpenRefusal.{OpenRefusal}
 use Rattle.disk_model.proofs.Steps.{sames_on}
 use Rattle.meta_store.proofs.OpenedImages.{err_is}
-use Rattle.file_store.proofs.FewerMore.{backs_same}
+use Rattle.file_store.proofs.Durable.{backs_same}
 use Rattle.file_store.proofs.opening.read_in.Goals as goal
 
 pub returns-in-Err-clause-not_store : goal.returns-in-Err-clause-not_store
@@ -25,4 +25,4 @@ pub returns-clause-given : goal.returns-clause-given
 returns-clause-given g c = (λ d gives. c.open.ensures.given.0 d (c.read_files.ensures.given.0 d gives), λ d gives. c.read_files.ensures.given.1 d (c.open.ensures.given.1 d gives))
 
 pub returns-clause-backs : goal.returns-clause-backs
-returns-clause-backs g c = rw c.new.ensures.meta (backs_same g.D.Disk _ _ c.in-Ok.meta c.read_files.ensures.keeps c.in-Ok.ensures.backs)
+returns-clause-backs g c = backs_same g.D.Disk _ _ c.in-Ok.meta c.read_files.ensures.keeps c.in-Ok.ensures.backs

@@ -4,6 +4,7 @@ use Rattle.std.proofs.lemmas.List.{drop_more}
 use Rattle.std.proofs.lemmas.Option.{slice_get_within, get_or_from_slice_get}
 use Rattle.meta_store.specs.Catalogs.{CatalogFile, present, blocks_of}
 use Rattle.meta_store.proofs.WrittenFiles.{some-at}
+use Rattle.file_store.proofs.Readings.{listed-count}
 use Rattle.file_store.proofs.spaces.data_blocks.Goals as goal
 
 -- the places of one file more
@@ -14,7 +15,7 @@ one_more files i f old new whole at added so_far =
     rw (added, append_assoc) (rw (next, it) at so_far)
 
 pub unwrap-requires : goal.unwrap-requires
-unwrap-requires c = some-at _ _ c.args.catalog.now.files c.loop-index.index c.file.ensures (omega (arith, c.len-index-end.ensures.len))
+unwrap-requires c = some-at _ _ c.args.catalog.now.files c.loop-index.index c.file.ensures (omega (arith, listed-count _ _ c.args.catalog.now _ c.names.ensures c.len-index-end.ensures.len))
 
 pub loop-index-preserved : goal.loop-index-preserved
 loop-index-preserved c = one_more c.args.catalog.now.files c.loop-index.index _ _ _ _ (sym (rw c.unwrap.ensures at c.file.ensures)) (rw c.places-places.ensures at c.in_ok-put_present.ensures) c.loop-index.invariant

@@ -1,14 +1,34 @@
-use Rattle.std.proofs.Common.{◌≡◌, sym, ◌∙◌, ap, arith}
+use Rattle.std.proofs.Common.{◌≡◌, ◌<◌, ◌^◌, refl, ◌∙◌, ap, subst, arith}
+use Rattle.meta_store.specs.Catalogs.{geometry_of}
+use Rattle.hsm_types.specs.declared.keys.FileKey.{FileKey}
+use Rattle.inode_table.specs.Table.{next_key}
+use Rattle.plain_model.specs.State.{next_key as next_held}
 use Rattle.file_store.specs.Stores.{Store}
-use Rattle.file_store.proofs.FewerMore.{make_sound}
+use Rattle.file_store.specs.Bodies.{bytes_with}
+use Rattle.file_store.proofs.LiveKeys.{key_next, next-listed, next-key_held, new-file, held-made}
+use Rattle.file_store.proofs.store.FileStore.make.Given.{Over}
+use Rattle.file_store.proofs.store.FileStore.make.Goals.{After-next_key-key}
 use Rattle.file_store.proofs.store.FileStore.make.Goals as goal
 
-pub make-requires-clause-room : goal.make-requires-clause-room
-make-requires-clause-room g c =
-    let same : c.next.result ≡ c.self.inside.files.held.next = c.next.ensures ∙ ap (λ x. x.next) c.catalog.ensures ∙ ap (λ m. m.current.next) c.meta.ensures.meta ∙ sym c.meta.ensures.next in
-    omega (arith, same, c.if-next-ge-LAST_GENERATION.false)
+key_is : (g : Over) (c : After-next_key-key g) → c.next_key-key.result ≡ key_next c.self.inside.meta.current
+key_is g c = next-listed (geometry_of c.catalog.result.now.geometry).files c.catalog.result.now c.next_key-key.result (c.next_key-key.ensures ∙ ap next_key c.names.ensures) ∙ ap key_next c.catalog.ensures.catalog
 
-pub invariant_of-self : goal.invariant_of-self
-invariant_of-self g c =
-    let s : Store g.row.D.Denot = record { disk = c.self.inside.disk; meta = c.self.inside.files.meta; held = c.self.inside.files.held; durable = c.self.inside.durable.value.held; space = c.self.inside.space; pending = c.self.inside.pending; failed = c.self.inside.failed } in
-    make_sound g.D.Disk s c.args.name.now c.make.result c.make.new.self c.self.invariant c.make.ensures.key c.make.ensures.held c.make.ensures.meta c.make.ensures.catalog c.make.ensures.err
+pub record-requires-clause-stands : goal.record-requires-clause-stands
+record-requires-clause-stands g c =
+    let at = goal.at.record-requires-clause-stands g c in
+    let m = c.self.inside.meta in
+    let key = key_is g at.After-next_key-key in
+    let early : m.current.next < 2 ^ 62 = omega (arith, ap (λ (k : FileKey). k.igen) key, c.if-key-ge-LAST_GENERATION.false) in
+    rw (← c.self.view_is, key, c.in_ok-name.ensures.cases)
+    (new-file (bytes_with c.self.inside.bodies.items) m.current c.args.name.now c.self.invariant.0.catalog c.requires.lawful (rw (← c.self.view_is) at c.requires.free) (rw (← c.self.view_is, ← c.self.invariant.1.meta.stored.geometry) at c.requires.left) early)
+
+pub returns-clause-key : goal.returns-clause-key
+returns-clause-key g c =
+    let at = goal.at.returns-clause-key g c in
+    rw (← c.self.view_is) (key_is g at.After-next_key-key ∙ next-key_held (bytes_with c.self.inside.bodies.items) c.self.inside.meta.current)
+
+pub returns-clause-held : goal.returns-clause-held
+returns-clause-held g c =
+    let at = goal.at.returns-clause-held g c in
+    let key = subst (λ (s : Store g.row.D.Denot). c.next_key-key.result ≡ next_held s.held) c.self.view_is (key_is g at.After-next_key-key ∙ next-key_held (bytes_with c.self.inside.bodies.items) c.self.inside.meta.current) in
+    c.in_ok-record.ensures.held ∙ held-made c.args.self.now.held c.next_key-key.result c.in_ok-name.name key ∙ rw c.in_ok-name.ensures.cases refl

@@ -1,15 +1,31 @@
-use Rattle.std.proofs.Common.{refl, sym, ◌∙◌, ap}
+use Rattle.std.proofs.Common.{ℕ, refl, ◌∙◌, ap, subst}
 use Rattle.std.specs.Prelude.{Err}
 use Rattle.disk_model.specs.declared.refusal.OpenRefusal.{OpenRefusal}
+use Rattle.meta_store.specs.Catalogs.{geometry_of}
+use Rattle.file_store.specs.Bodies.{bytes_with, held_with}
+use Rattle.file_store.specs.Stores.{IsLawful}
+use Rattle.file_store.proofs.Durable.{opened_sound}
+use Rattle.file_store.proofs.Lawful.{held_lawful}
 use Rattle.file_store.proofs.store.FileStore.open.Goals as goal
+
+pub invariant_of-result : goal.invariant_of-result
+invariant_of-result g c =
+    let is = c.in-Ok.ensures in
+    (is.bodies, opened_sound g.D.Disk _ is.lawful is.backs is.same (rw (c.of.ensures, is.same) refl) (λ image may. is.holds image may) is.space)
 
 pub returns-in-Ok-clause-durable : goal.returns-in-Ok-clause-durable
 returns-in-Ok-clause-durable g c = λ image may. record {
-  catalog = c.in-Ok.files.meta.durable;
+  catalog = c.in-Ok.meta.durable;
   same = refl;
   is = c.in-Ok.ensures.backs.image image may;
-  holds = c.in-Ok.ensures.holds image may ∙ sym (ap (λ f. f.held) c.of.ensures);
+  holds = c.in-Ok.ensures.holds image may ∙ rw (c.of.ensures, c.in-Ok.ensures.same) refl;
 }
+
+pub returns-in-Ok-clause-lawful : goal.returns-in-Ok-clause-lawful
+returns-in-Ok-clause-lawful g c =
+    let bodies = c.in-Ok.bodies.items in
+    let m = c.in-Ok.meta in
+    subst (λ (z : ℕ). IsLawful (geometry_of z).files (held_with bodies m.current)) c.in-Ok.ensures.lawful.stored.geometry (held_lawful (bytes_with bodies) m.current c.in-Ok.ensures.lawful.current)
 
 pub returns-in-Err-clause-not_store : goal.returns-in-Err-clause-not_store
 returns-in-Err-clause-not_store g c = λ is. c.in-Err.ensures.not_store (ap (λ (e : OpenRefusal). Err e) is)

@@ -1,8 +1,9 @@
-use Rattle.file_store.specs.Stores.{Store}
-use Rattle.file_store.proofs.FewerMore.{remove_sound}
+use Rattle.file_store.proofs.Durable.{proceeds_on}
+use Rattle.file_store.proofs.LiveKeys.{stands}
 use Rattle.file_store.proofs.store.FileStore.remove.Goals as goal
 
-pub invariant_of-self : goal.invariant_of-self
-invariant_of-self g c =
-    let s : Store g.row.D.Denot = record { disk = c.self.inside.disk; meta = c.self.inside.files.meta; held = c.self.inside.files.held; durable = c.self.inside.durable.value.held; space = c.self.inside.space; pending = c.self.inside.pending; failed = c.self.inside.failed } in
-    rw c.remove.ensures (remove_sound g.D.Disk s c.args.key c.self.invariant)
+pub record-requires-clause-stands : goal.record-requires-clause-stands
+record-requires-clause-stands g c = rw c.inode-ino.ensures.inode (stands c.settle.new.self.meta.current c.args.key.ino c.args.key c.inode-ino.ensures.key c.inode-ino.ensures.live)
+
+pub returns-clause-proceeds : goal.returns-clause-proceeds
+returns-clause-proceeds g c = proceeds_on g.D.Disk c.args.self.now c.settle.new.self c.record.new.self c.args.number c.settle.ensures.proceeds c.settle.ensures.held c.record.ensures.proceeds

@@ -1,30 +1,359 @@
-use Rattle.std.proofs.Common.{◌≡◌, ℕ, ◌+◌, ◌≤◌, List, length, sym, ◌∙◌, ap, subst}
-use Rattle.plain_model.specs.Blocks.{touched}
-use Rattle.plain_model.specs.State.{Held, bytes_of, used}
+use Rattle.std.proofs.Common.{rules, ◌≡◌, ◌+◌, ◌-◌, ◌*◌, ◌<◌, ◌≤◌, ℕ, List, [], length, set, map, take, Bool, if◌then◌else◌, refl, sym, ◌∙◌, ap, subst, arith}
+use Rattle.std.specs.Prelude.{Result, Ok, Err, IsOk, OnOk}
+use Rattle.std.specs.List.{All, AllByRecursion}
+use Rattle.std.proofs.lemmas.List.{get_or_read, set-get_or}
+use Rattle.disk_model.specs.Images.{Follows}
+use Rattle.disk_model.specs.Moments.{Keeps}
+use Rattle.plain_model.specs.Plain.{rebody, resized}
+use Rattle.plain_model.specs.Blocks.{touched, size_after}
+use Rattle.plain_model.specs.State.{affected_held}
+use Rattle.std.specs.Global.{Vec}
+use Rattle.block_space.specs.Space.{Space, free, marked, unmarked}
+use Rattle.commit_slots.specs.declared.places.Layout.{Layout}
+use Rattle.commit_slots.specs.Places.{layout_of}
 use Rattle.meta_store.specs.declared.snapshot.Mapping.{Mapping}
-use Rattle.meta_store.specs.Catalogs.{geometry_of}
-use Rattle.file_store.specs.Rewrites.{effect_of}
-use Rattle.file_store.specs.Stores.{Store, IsClaim}
-use Rattle.file_store.proofs.Changing.{proceeds_on}
+use Rattle.meta_store.specs.Catalogs.{Catalog, geometry_of, blocks_of}
+use Rattle.meta_store.specs.Meta.{Meta}
+use Rattle.meta_store.specs.Records.{with_changed}
+use Rattle.meta_store.specs.declared.refusal.MetaRefusal.{MetaRefusal}
+use Rattle.meta_store.proofs.SnapshotFits.{geometry-bounded}
+use Rattle.file_store.specs.Bodies.{held_with, bytes_with}
+use Rattle.file_store.specs.Rewrites.{effect_of, remapped, IsRewriting, mappings_of, freed_by}
+use Rattle.file_store.specs.Steps.{places_of, IsBesideBlocks, HasBlocks}
+use Rattle.file_store.specs.Refusals.{refused_as}
+use Rattle.file_store.specs.declared.refusal.StoreRefusal.{StoreRefusal}
+use Rattle.file_store.specs.Stores.{Store, Proceeds, IsLive}
+use Rattle.file_store.proofs.Beside.{blocks_low, blocks_fit}
+use Rattle.file_store.proofs.Counting.{used-held}
+use Rattle.file_store.proofs.Durable.{sound_idle}
+use Rattle.file_store.proofs.GrownBodies.{grown, length-grown, changed-grown, grown-enough, grown-no_more, grown-back}
+use Rattle.file_store.proofs.LiveKeys.{IsFound, live-held, body-held}
+use Rattle.file_store.proofs.RewriteRecords.{is_event, not_refused}
+use Rattle.file_store.proofs.RewrittenStores.{Given, body_of, size_of, long, apart, within, stand, become, places_within, freed_within, undone, written_proceeds, written_live, kept_proceeds, done_proceeds, done_live, size-few, from_same}
+use Rattle.file_store.proofs.Applied.{Tells, durable_held}
+use Rattle.file_store.proofs.Recorded.{is_disk, refused_sound, refused_part}
+use Rattle.file_store.proofs.Putting.{blocks-mapped}
+use Rattle.file_store.proofs.SizedBodies.{held_with-rewritten, IsHeldFiles-rewritten}
+use Rattle.file_store.proofs.Taking.{enough}
 use Rattle.file_store.proofs.store.FileStore.rewrite.Given.{Over}
-use Rattle.file_store.proofs.store.FileStore.rewrite.Goals.{After-touched-touched}
+use Rattle.file_store.proofs.store.FileStore.rewrite.Goals.{After-of-before, After-count, After-as_slice-places, After-of_geometry-base, After-put_blocks, In-Ok-put_blocks, In-Ok-apply, After-apply-in-Ok-apply, After-make_durable, After-release_all-in-Ok-apply, After-resize-in-Err, After-release_all-in-Err, After-eq-self-inside}
 use Rattle.file_store.proofs.store.FileStore.rewrite.Goals as goal
 
-touched_is : (g : Over) (c : After-touched-touched g) → c.touched-touched.result ≡ touched (effect_of c.args.change) (length (bytes_of c.args.key c.args.self.now.held.files))
-touched_is g c =
-    c.touched-touched.ensures
-    ∙ ap (λ (n : ℕ). touched (effect_of c.args.change) n) (c.len.ensures.len ∙ ap (λ (b : List ℕ). length b) c.body.ensures ∙ ap (λ (s : Store g.row.D.Denot). length (bytes_of c.args.key s.held.files)) c.self.view_is)
+-- ---- what is known before the first write
 
-pub claim-requires-clause-room : goal.claim-requires-clause-room
-claim-requires-clause-room g c =
-    subst (λ (l : List ℕ). length l + used c.args.self.now.held.files ≤ (geometry_of c.args.self.now.meta.durable.geometry).blocks)
-    (sym (touched_is g (goal.at.claim-requires-clause-room g c).After-touched-touched)) c.requires.room
+abbrev bodies : (g : Over) → After-of-before g → List (List ℕ)
+bodies g c = c.self.inside.bodies.items
 
-pub rewrite_to-requires-clause-claimed : goal.rewrite_to-requires-clause-claimed
-rewrite_to-requires-clause-claimed g c =
-    subst (λ (l : List ℕ). IsClaim c.claim.new.self l c.deref.result.now)
-    (touched_is g (goal.at.rewrite_to-requires-clause-claimed g c).After-touched-touched ∙ ap (λ (h : Held). touched (effect_of c.args.change) (length (bytes_of c.args.key h.files))) (sym c.claim.ensures.held))
-    (subst (λ (ms : List Mapping). IsClaim c.claim.new.self c.touched-touched.result ms) (sym c.deref.ensures.value) c.in-Ok.ensures.claimed)
+abbrev store : (g : Over) → After-of-before g → Store g.row.D.Denot
+store g c = record { disk = c.self.inside.disk; meta = c.self.inside.meta; held = held_with (bodies g c) c.self.inside.meta.current; durable = held_with c.self.inside.durable.value.items c.self.inside.meta.durable; space = c.self.inside.space; pending = c.self.inside.pending; failed = c.self.inside.failed }
 
-pub returns-in-Ok-clause-proceeds : goal.returns-in-Ok-clause-proceeds
-returns-in-Ok-clause-proceeds g c = proceeds_on g.D.Disk _ _ _ c.args.number c.claim.ensures.proceeds c.claim.ensures.held (c.rewrite_to.ensures.proceeds c.args.number)
+found : (g : Over) (c : After-of-before g) → IsFound (length (bodies g c)) c.self.inside.meta.current c.args.key
+found g c = live-held (bodies g c) c.self.inside.meta c.args.key c.self.invariant.0 (rw (← c.self.view_is) at c.requires.live)
+
+live : (g : Over) (c : After-of-before g) → IsLive g.D.Disk (store g c)
+live g c = c.self.invariant.1.live (ap (λ s. s.failed) c.self.view_is ∙ c.requires.working)
+
+body_is : (g : Over) (c : After-count g) → c.index_mut-body.result.now ≡ body_of c.self.inside.bodies.items c.args.key
+body_is g c =
+    let at = found g (goal.at.After-count g c).After-of-before in
+    let low = at.low in
+    let high = at.high in
+    get_or_read c.self.inside.bodies.items (c.args.key.ino - 1) c.index_mut-body.result.now (omega arith) (rw c.slot.ensures at c.index_mut-body.ensures.value) []
+
+touched_is : (g : Over) (c : After-count g) → c.touched-touched.result ≡ touched (effect_of c.args.change) (length (body_of c.self.inside.bodies.items c.args.key))
+touched_is g c = c.touched-touched.ensures ∙ ap (touched (effect_of c.args.change)) (c.len-old.ensures.len ∙ ap length (body_is g c))
+
+room : (g : Over) (c : After-count g) → c.count.result + length (blocks_of c.self.inside.meta.current.files) ≤ (geometry_of c.self.inside.meta.current.geometry).blocks
+room g c =
+    let before = (goal.at.After-count g c).After-of-before in
+    let at = found g before in
+    let all = rw (← c.self.view_is, body-held c.self.inside.bodies.items c.self.inside.meta.current c.args.key at.file at.found, ← c.self.invariant.1.meta.stored.geometry) at c.requires.room in
+    omega (arith, all, c.count.ensures, ap length (touched_is g c), used-held (bytes_with c.self.inside.bodies.items) c.self.inside.meta.current)
+
+enough_free : (g : Over) (c : After-count g) → c.count.result ≤ length (free c.self.inside.space)
+enough_free g c =
+    let before = (goal.at.After-count g c).After-of-before in
+    let l = live g before in
+    enough c.self.inside.meta.current c.self.inside.space c.count.result c.self.invariant.1.meta.current l.marks (l.settled (ap (λ s. s.pending) c.self.view_is ∙ c.requires.settled)) (room g c)
+
+given : (g : Over) (c : After-as_slice-places g) → Given g.D.Disk (store g (goal.at.After-as_slice-places g c).After-of-before) c.self.inside.bodies.items c.args.key c.args.change c.touched-touched.result c.as_slice-places.result.now
+given g c =
+    let at = goal.at.After-as_slice-places g c in
+    record {
+      files = c.self.invariant.0;
+      held = refl;
+      lawful = c.self.invariant.1.meta;
+      live = live g at.After-of-before;
+      at = found g at.After-of-before;
+      may = c.requires.lawful;
+      few = size-few c.args.change _ c.requires.lawful (let limit = c.len-old.ensures.limit in omega (arith, c.len-old.ensures.len, ap length (body_is g at.After-count)));
+      touched = touched_is g at.After-count;
+      taken = c.as_slice-places.ensures.value ∙ c.in_ok-blocks.ensures.taken ∙ ap (λ n. take n (free c.self.inside.space)) c.count.ensures;
+      enough = let all = enough_free g at.After-count in omega (arith, all, c.count.ensures);
+    }
+
+-- ---- what is planned
+
+rewriting : (g : Over) (c : After-of_geometry-base g) → IsRewriting c.args.key.ino (size_of c.args.change (body_of c.self.inside.bodies.items c.args.key)) (mappings_of c.touched-touched.result c.as_slice-places.result.now) c.in-Ok.plan.records
+rewriting g c =
+    subst (λ (n : ℕ). IsRewriting c.args.key.ino (size_after (effect_of c.args.change) n) (mappings_of c.touched-touched.result c.as_slice-places.result.now) c.in-Ok.plan.records) (ap length (body_is g (goal.at.After-of_geometry-base g c).After-count)) c.in-Ok.ensures.records
+
+grown_is : (g : Over) (c : After-of_geometry-base g) → c.prepare.new.body ≡ grown (size_of c.args.change (body_of c.self.inside.bodies.items c.args.key)) (body_of c.self.inside.bodies.items c.args.key)
+grown_is g c = subst (λ (b : List ℕ). c.prepare.new.body ≡ grown (size_after (effect_of c.args.change) (length b)) b) (body_is g (goal.at.After-of_geometry-base g c).After-count) c.in-Ok.ensures.grown
+
+freed_is : (g : Over) (c : After-of_geometry-base g) → c.in-Ok.plan.freed.items ≡ freed_by (size_of c.args.change (body_of c.self.inside.bodies.items c.args.key)) c.touched-touched.result (found g (goal.at.After-of_geometry-base g c).After-of-before).file.places
+freed_is g c =
+    let at = goal.at.After-of_geometry-base g c in
+    let file = found g at.After-of-before in
+    subst (λ (n : ℕ). c.in-Ok.plan.freed.items ≡ freed_by (size_after (effect_of c.args.change) n) c.touched-touched.result file.file.places) (ap length (body_is g at.After-count)) (c.in-Ok.ensures.freed file.file (rw c.catalog-catalog.ensures.catalog file.found))
+
+base_is : (g : Over) (c : After-of_geometry-base g) → c.of_geometry-base.result.blocks ≡ (layout_of c.self.inside.meta.durable.geometry).blocks
+base_is g c =
+    ap (λ (l : Layout). l.blocks) c.of_geometry-base.ensures
+    ∙ ap (λ (z : ℕ). (layout_of z).blocks) (c.geometry.ensures.geometry ∙ ap (λ (x : Catalog). x.geometry) c.catalog-catalog.ensures.catalog ∙ c.self.invariant.1.meta.stored.geometry)
+
+keeps : (g : Over) (c : After-put_blocks g) → Keeps g.D.Disk c.self.inside.disk c.put_blocks.new.disk (IsBesideBlocks (layout_of c.self.inside.meta.durable.geometry).blocks (places_of (mappings_of c.touched-touched.result c.as_slice-places.result.now)))
+keeps g c = subst (λ (base : ℕ). Keeps g.D.Disk c.self.inside.disk c.put_blocks.new.disk (IsBesideBlocks base (places_of (mappings_of c.touched-touched.result c.as_slice-places.result.now)))) (base_is g (goal.at.After-put_blocks g c).After-of_geometry-base) c.put_blocks.ensures.any_moment
+
+written : (g : Over) (c : In-Ok-put_blocks g) → Follows (HasBlocks (layout_of c.self.inside.meta.durable.geometry).blocks (rebody (effect_of c.args.change) (grown (size_of c.args.change (body_of c.self.inside.bodies.items c.args.key)) (body_of c.self.inside.bodies.items c.args.key)))
+    (mappings_of c.touched-touched.result c.as_slice-places.result.now)) (g.D.Disk.gives c.self.inside.disk) (g.D.Disk.gives c.put_blocks.new.disk)
+written g c =
+    let at = (goal.at.In-Ok-put_blocks g c).After-of_geometry-base in
+    let ts = c.touched-touched.result in
+    let change = effect_of c.args.change in
+    let after : List ℕ = rebody change (grown (size_of c.args.change (body_of c.self.inside.bodies.items c.args.key)) (body_of c.self.inside.bodies.items c.args.key)) in
+    subst (λ (base : ℕ). Follows (HasBlocks base after (mappings_of ts c.as_slice-places.result.now)) (g.D.Disk.gives c.self.inside.disk) (g.D.Disk.gives c.put_blocks.new.disk)) (base_is g at)
+    (subst (λ (b : List ℕ). Follows (HasBlocks c.of_geometry-base.result.blocks (rebody change b) (mappings_of ts c.as_slice-places.result.now)) (g.D.Disk.gives c.self.inside.disk) (g.D.Disk.gives c.put_blocks.new.disk)) (grown_is g at) c.in-Ok-put_blocks.ensures.written)
+
+refused_memory : (refusal : MetaRefusal) → refused_as refusal ≡ StoreRefusal.Memory → refusal ≡ MetaRefusal.Memory
+refused_memory (MetaRefusal.Part why) is = cc
+refused_memory MetaRefusal.Disk is = cc
+refused_memory MetaRefusal.Memory is = refl
+
+-- ---- what becomes of the body
+
+when_ok : {T E : Type 0} (r : Result T E) (P : Type 0) → IsOk r → OnOk r P → P
+when_ok (Ok x) P ok p = p
+when_ok (Err e) P ok p = cc
+
+new_body : (g : Over) (c : After-apply-in-Ok-apply g) → c.apply-in-Ok-apply.new.body ≡ rebody (effect_of c.args.change) (body_of c.self.inside.bodies.items c.args.key)
+new_body g c =
+    let body : List ℕ = body_of c.self.inside.bodies.items c.args.key in
+    let is = grown_is g (goal.at.After-apply-in-Ok-apply g c).After-of_geometry-base in
+    when_ok c.apply-in-Ok-apply.result _ (c.apply-in-Ok-apply.ensures.in_place (subst (λ (b : List ℕ). size_after (effect_of c.args.change) (length b) ≤ length b) (sym is) (grown-enough c.args.change body))) c.apply-in-Ok-apply.ensures.ok
+    ∙ ap (rebody (effect_of c.args.change)) is ∙ changed-grown c.args.change body
+
+old_body : (g : Over) (c : After-resize-in-Err g) → c.resize-in-Err.new.self ≡ body_of c.self.inside.bodies.items c.args.key
+old_body g c =
+    let body : List ℕ = body_of c.self.inside.bodies.items c.args.key in
+    let size : ℕ = size_after (effect_of c.args.change) (length body) in
+    let at = goal.at.After-resize-in-Err g c in
+    let is = grown_is g at.After-of_geometry-base in
+    let old : c.len-old.result ≡ length body = c.len-old.ensures.len ∙ ap length (body_is g at.After-count) in
+    when_ok c.resize-in-Err.result _ (c.resize-in-Err.ensures.cut (subst (λ (b : List ℕ). c.len-old.result ≤ length b) (sym is) (omega (arith, old, length-grown size body)))) c.resize-in-Err.ensures.ok
+    ∙ ap (resized c.len-old.result) is ∙ ap (λ (n : ℕ). resized n (grown size body)) old ∙ grown-back size body
+
+-- ---- calls
+
+pub returns-then-number-gt-LAST_NUMBER-clause-proceeds : goal.returns-then-number-gt-LAST_NUMBER-clause-proceeds
+returns-then-number-gt-LAST_NUMBER-clause-proceeds g c =
+    from_same g.D.Disk _ _ c.args.number _ c.self.view_is (subst (λ (s : Store g.row.D.Denot). Proceeds g.D.Disk (store g (goal.at.returns-then-number-gt-LAST_NUMBER-clause-proceeds g c).After-of-before) c.args.number s) c.self.view_is
+    (sound_idle g.D.Disk _ c.args.number c.self.invariant.1 (g.met.D.Disk.only_now c.self.inside.disk) (ap (λ s. s.failed) c.self.view_is ∙ c.requires.working)))
+
+pub slot-requires : goal.slot-requires
+slot-requires g c = (found g (goal.at.slot-requires g c).After-of-before).low
+
+pub index_mut-body-requires : goal.index_mut-body-requires
+index_mut-body-requires g c =
+    let at = found g (goal.at.index_mut-body-requires g c).After-of-before in
+    let low = at.low in
+    let high = at.high in
+    omega arith
+
+pub take-requires-clause-few : goal.take-requires-clause-few
+take-requires-clause-few g c = omega (arith, room g (goal.at.take-requires-clause-few g c).After-count, (geometry-bounded c.self.inside.meta.current.geometry).1)
+
+pub take-requires-clause-enough : goal.take-requires-clause-enough
+take-requires-clause-enough g c = enough_free g (goal.at.take-requires-clause-enough g c).After-count
+
+pub prepare-requires-clause-live : goal.prepare-requires-clause-live
+prepare-requires-clause-live g c = rw (c.catalog-catalog.ensures.catalog, (found g (goal.at.prepare-requires-clause-live g c).After-of-before).found) refl
+
+pub prepare-requires-clause-count : goal.prepare-requires-clause-count
+prepare-requires-clause-count g c = long g.D.Disk _ _ _ _ _ _ (given g (goal.at.prepare-requires-clause-count g c).After-as_slice-places)
+
+-- the space once they are taken
+space_is : (g : Over) (c : After-as_slice-places g) → c.take.new.space ≡ record c.self.inside.space { current = marked c.as_slice-places.result.now c.self.inside.space.current }
+space_is g c = c.in_ok-blocks.ensures.marked ∙ ap (λ (ps : List ℕ). record c.self.inside.space { current = marked ps c.self.inside.space.current }) (sym (c.as_slice-places.ensures.value ∙ c.in_ok-blocks.ensures.taken))
+
+-- and once they are given back
+space_back : (g : Over) (c : After-as_slice-places g) (new : Space) → new ≡ record c.take.new.space { current = unmarked c.as_slice-places.result.now c.take.new.space.current } → new ≡ c.self.inside.space
+space_back g c new is =
+    is
+    ∙ ap (λ (x : Space). record x { current = unmarked c.as_slice-places.result.now x.current }) (space_is g c)
+    ∙ ap (λ (flags : List Bool). record c.self.inside.space { current = flags }) (undone g.D.Disk _ _ _ _ _ _ (given g c))
+
+all_within : (g : Over) (c : After-as_slice-places g) → All (λ b. b < length c.take.new.space.current) c.as_slice-places.result.now
+all_within g c = subst (λ (x : Space). All (λ b. b < length x.current) c.as_slice-places.result.now) (sym (space_is g c)) (places_within g.D.Disk _ _ _ _ _ _ (given g c))
+
+pub release_all-requires : goal.release_all-requires
+release_all-requires g c = all_within g (goal.at.release_all-requires g c).After-as_slice-places
+
+pub invariant_of-self-in_default : goal.invariant_of-self-in_default
+invariant_of-self-in_default g c =
+    let at = goal.at.invariant_of-self-in_default g c in
+    rw (c.slot.ensures, c.in_default.ensures.err, body_is g at.After-count, set-get_or c.self.inside.bodies.items (c.args.key.ino - 1) [], space_back g at.After-as_slice-places _ c.release_all.ensures) c.self.invariant
+
+pub put_blocks-requires-clause-grows : goal.put_blocks-requires-clause-grows
+put_blocks-requires-clause-grows g c =
+    let at = goal.at.put_blocks-requires-clause-grows g c in
+    λ some. rw (grown_is g at.After-of_geometry-base) (grown-no_more c.args.change (body_of c.self.inside.bodies.items c.args.key) (omega (arith, ap length (touched_is g at.After-count))))
+
+pub put_blocks-requires-clause-count : goal.put_blocks-requires-clause-count
+put_blocks-requires-clause-count g c =
+    let at = goal.at.put_blocks-requires-clause-count g c in
+    long g.D.Disk _ _ _ _ _ _ (given g at.After-as_slice-places)
+
+pub put_blocks-requires-clause-low : goal.put_blocks-requires-clause-low
+put_blocks-requires-clause-low g c = omega (arith, base_is g (goal.at.put_blocks-requires-clause-low g c).After-of_geometry-base, blocks_low c.self.inside.meta.durable.geometry)
+
+pub put_blocks-requires-clause-fits : goal.put_blocks-requires-clause-fits
+put_blocks-requires-clause-fits g c =
+    let at = goal.at.put_blocks-requires-clause-fits g c in
+    subst (λ (base : ℕ). AllByRecursion (λ (m : Mapping). base + 4096 * m.place + 4096 ≤ g.D.Disk.length_of c.self.inside.disk) (mappings_of c.touched-touched.result c.as_slice-places.result.now)) (sym (base_is g at.After-of_geometry-base))
+    (blocks_fit c.self.inside.meta.durable.geometry _ (live g at.After-of-before).backs.length _ (within g.D.Disk _ _ _ _ _ _ (given g at.After-as_slice-places)))
+
+pub put_blocks-requires-clause-apart : goal.put_blocks-requires-clause-apart
+put_blocks-requires-clause-apart g c =
+    let at = goal.at.put_blocks-requires-clause-apart g c in
+    apart g.D.Disk _ _ _ _ _ _ (given g at.After-as_slice-places)
+
+pub returns-in_default-put_blocks-clause-proceeds : goal.returns-in_default-put_blocks-clause-proceeds
+returns-in_default-put_blocks-clause-proceeds g c =
+    let at = goal.at.returns-in_default-put_blocks-clause-proceeds g c in
+    from_same g.D.Disk _ _ c.args.number _ c.self.view_is (written_proceeds g.D.Disk _ _ _ _ _ _ (given g at.After-as_slice-places) _ (keeps g at.After-put_blocks) c.args.number _ refl refl refl)
+
+pub apply-requires-clause-backs : goal.apply-requires-clause-backs
+apply-requires-clause-backs g c =
+    let at = goal.at.apply-requires-clause-backs g c in
+    (written_live g.D.Disk _ _ _ _ _ _ (given g at.After-as_slice-places) _ (keeps g at.After-put_blocks) (written g at.In-Ok-put_blocks)).backs
+
+pub apply-requires-clause-event : goal.apply-requires-clause-event
+apply-requires-clause-event g c = is_event _ _ _ _ (rewriting g (goal.at.apply-requires-clause-event g c).After-of_geometry-base)
+
+pub apply-requires-clause-stand : goal.apply-requires-clause-stand
+apply-requires-clause-stand g c =
+    let at = goal.at.apply-requires-clause-stand g c in
+    stand g.D.Disk _ _ _ _ _ _ (given g at.After-as_slice-places) _ (rewriting g at.After-of_geometry-base)
+
+-- ---- once the records are taken
+
+next_is : (g : Over) (c : In-Ok-apply g) → c.apply.new.self.current ≡ with_changed c.args.key (remapped (size_of c.args.change (body_of c.self.inside.bodies.items c.args.key)) (mappings_of c.touched-touched.result c.as_slice-places.result.now)) c.self.inside.meta.current
+next_is g c = let at = goal.at.In-Ok-apply g c in c.in-Ok-apply.ensures.taken.current ∙ become g.D.Disk _ _ _ _ _ _ (given g at.After-as_slice-places) _ (rewriting g at.After-of_geometry-base)
+
+blocks_are : (g : Over) (c : After-as_slice-places g) → map (λ (m : Mapping). m.block) (mappings_of c.touched-touched.result c.as_slice-places.result.now) ≡ touched (effect_of c.args.change) (length (body_of c.self.inside.bodies.items c.args.key))
+blocks_are g c = blocks-mapped c.touched-touched.result c.as_slice-places.result.now (long g.D.Disk _ _ _ _ _ _ (given g c)) ∙ touched_is g (goal.at.After-as_slice-places g c).After-count
+
+held_is : (g : Over) (c : After-apply-in-Ok-apply g) → held_with (set c.self.inside.bodies.items c.slot.result c.apply-in-Ok-apply.new.body) c.apply.new.self.current ≡ record (held_with c.self.inside.bodies.items c.self.inside.meta.current) { files = affected_held (effect_of c.args.change) c.args.key (held_with c.self.inside.bodies.items c.self.inside.meta.current).files }
+held_is g c =
+    let at = goal.at.After-apply-in-Ok-apply g c in
+    rw (c.slot.ensures, new_body g c, next_is g at.In-Ok-apply)
+    (held_with-rewritten c.self.inside.bodies.items c.self.inside.meta c.self.invariant.0 c.args.key (found g at.After-of-before) c.args.change _ _ refl (blocks_are g at.After-as_slice-places))
+
+tells : (g : Over) (c : In-Ok-apply g) → Tells g.D.Disk c.put_blocks.new.disk c.self.inside.meta c.args.number c.in-Ok-apply.wrote c.apply.new.disk c.apply.new.self
+tells g c = (λ e. c.in-Ok-apply.ensures.wrote e, λ e. c.in-Ok-apply.ensures.staged e)
+
+durable_is : (g : Over) (c : After-make_durable g) → held_with c.make_durable.new.durable.value.items c.apply.new.self.durable
+    ≡ (if c.in-Ok-apply.wrote then held_with c.self.inside.bodies.items c.self.inside.meta.current else held_with c.self.inside.durable.value.items c.self.inside.meta.durable)
+durable_is g c =
+    durable_held g.D.Disk _ _ c.self.inside.meta c.apply.new.self c.args.number c.in-Ok-apply.wrote _ _ _ (c.make_durable.ensures.bodies ∙ ap (λ (v : Vec (List ℕ)). if c.in-Ok-apply.wrote then v.items else c.self.inside.durable.value.items) c.of-before.ensures) (tells g (goal.at.After-make_durable g c).In-Ok-apply)
+
+space_kept : (g : Over) (c : After-make_durable g) → c.make_durable.new.space ≡ record { current = marked c.as_slice-places.result.now c.self.inside.space.current; durable = if c.in-Ok-apply.wrote then marked c.as_slice-places.result.now c.self.inside.space.current else c.self.inside.space.durable }
+space_kept g c = c.make_durable.ensures.blocks ∙ ap (λ (x : Space). record x { durable = if c.in-Ok-apply.wrote then x.current else x.durable }) (space_is g (goal.at.After-make_durable g c).After-as_slice-places)
+
+pub release_all-requires-in-Ok-apply : goal.release_all-requires-in-Ok-apply
+unfolding given found
+release_all-requires-in-Ok-apply g c =
+    let at = goal.at.release_all-requires-in-Ok-apply g c in
+    subst (λ (xs : List ℕ). All (λ b. b < length c.make_durable.new.space.current) xs) (sym c.deref.ensures.value)
+    (subst (λ (x : Space). All (λ b. b < length x.current) c.in-Ok.plan.freed.items) (sym (space_kept g at.After-make_durable)) (freed_within g.D.Disk _ _ _ _ _ _ (given g at.After-as_slice-places) _ (freed_is g at.After-of_geometry-base)))
+
+space_next : (g : Over) (c : After-release_all-in-Ok-apply g) → c.release_all-in-Ok-apply.new.self
+    ≡ record { current = unmarked c.in-Ok.plan.freed.items (marked c.as_slice-places.result.now c.self.inside.space.current); durable = if c.in-Ok-apply.wrote then marked c.as_slice-places.result.now c.self.inside.space.current else c.self.inside.space.durable }
+space_next g c =
+    c.release_all-in-Ok-apply.ensures
+    ∙ ap (λ (x : Space). record x { current = unmarked c.deref.result.now x.current }) (space_kept g (goal.at.After-release_all-in-Ok-apply g c).After-make_durable)
+    ∙ ap (λ (xs : List ℕ). record { current = unmarked xs (marked c.as_slice-places.result.now c.self.inside.space.current); durable = if c.in-Ok-apply.wrote then marked c.as_slice-places.result.now c.self.inside.space.current else c.self.inside.space.durable }) c.deref.ensures.value
+
+pub invariant_of-self-in-Ok-apply : goal.invariant_of-self-in-Ok-apply
+unfolding given found
+invariant_of-self-in-Ok-apply g c =
+    let at = goal.at.invariant_of-self-in-Ok-apply g c in
+    let next = next_is g at.In-Ok-apply in
+    let space = space_next g at.After-release_all-in-Ok-apply in (
+      rw (c.slot.ensures, new_body g at.After-apply-in-Ok-apply)
+          (IsHeldFiles-rewritten c.self.inside.bodies.items c.self.inside.meta c.self.invariant.0 c.args.key (found g at.After-of-before) c.args.change _ _ refl (blocks_are g at.After-as_slice-places) c.apply.new.self next c.in-Ok-apply.ensures.lawful.current),
+      record {
+        meta = c.in-Ok-apply.ensures.lawful;
+        live = λ working. done_live g.D.Disk _ _ _ _ _ _ (given g at.After-as_slice-places) _ (keeps g at.After-put_blocks) (written g at.In-Ok-put_blocks) c.args.number _ c.in-Ok-apply.wrote _ (freed_is g at.After-of_geometry-base) c.in-Ok-apply.ensures.backs next
+            (held_is g at.After-apply-in-Ok-apply) (ap (λ (x : Space). x.current) space) (ap (λ (x : Space). x.durable) space) refl (tells g at.In-Ok-apply) (durable_is g at.After-make_durable);
+      },
+    )
+
+pub returns-in-Ok-apply-clause-held : goal.returns-in-Ok-apply-clause-held
+returns-in-Ok-apply-clause-held g c =
+    held_is g (goal.at.returns-in-Ok-apply-clause-held g c).After-apply-in-Ok-apply
+    ∙ ap (λ (s : Store g.row.D.Denot). record s.held { files = affected_held (effect_of c.args.change) c.args.key s.held.files }) c.self.view_is
+
+pub returns-in-Ok-apply-clause-proceeds : goal.returns-in-Ok-apply-clause-proceeds
+returns-in-Ok-apply-clause-proceeds g c =
+    let at = goal.at.returns-in-Ok-apply-clause-proceeds g c in
+    from_same g.D.Disk _ _ c.args.number _ c.self.view_is
+    (done_proceeds g.D.Disk _ _ _ _ _ _ (given g at.After-as_slice-places) _ (keeps g at.After-put_blocks) (written g at.In-Ok-put_blocks) c.args.number _ c.in-Ok-apply.wrote c.apply.ensures.any_moment (tells g at.In-Ok-apply) (durable_is g at.After-make_durable))
+
+-- ---- where they aren't taken
+
+pub release_all-requires-in-Err : goal.release_all-requires-in-Err
+release_all-requires-in-Err g c = all_within g (goal.at.release_all-requires-in-Err g c).After-as_slice-places
+
+bodies_back : (g : Over) (c : After-resize-in-Err g) → set c.self.inside.bodies.items c.slot.result c.resize-in-Err.new.self ≡ c.self.inside.bodies.items
+bodies_back g c = rw (c.slot.ensures, old_body g c) (set-get_or c.self.inside.bodies.items (c.args.key.ino - 1) [])
+
+space_same : (g : Over) (c : After-release_all-in-Err g) → c.release_all-in-Err.new.self ≡ c.self.inside.space
+space_same g c = space_back g (goal.at.After-release_all-in-Err g c).After-as_slice-places _ c.release_all-in-Err.ensures
+
+failed_is : (g : Over) (c : After-eq-self-inside g) → c.eq-self-inside.result ≡ is_disk c.in-Err.refusal
+failed_is g c = search rules
+
+pub invariant_of-self-in-Err-apply : goal.invariant_of-self-in-Err-apply
+invariant_of-self-in-Err-apply g c =
+    let at = goal.at.invariant_of-self-in-Err-apply g c in
+    let sound = c.self.invariant.1 in
+    let working = ap (λ s. s.failed) c.self.view_is ∙ c.requires.working in
+    rw (bodies_back g at.After-resize-in-Err, space_same g at.After-release_all-in-Err, c.in-Err.ensures.err, failed_is g at.After-eq-self-inside) (
+      c.self.invariant.0,
+      refused_sound g.D.Disk _ c.apply.new.disk c.in-Err.refusal
+          (record { meta = sound.meta; live = λ still. written_live g.D.Disk _ _ _ _ _ _ (given g at.After-as_slice-places) _ (keeps g at.After-put_blocks) (written g at.In-Ok-put_blocks) })
+          working (λ why is. c.in-Err.ensures.unwritten why (ap (λ e. Err e) is)) (λ is. c.in-Err.ensures.memory (ap (λ e. Err e) is)),
+    )
+
+pub returns-in-Err-clause-memory : goal.returns-in-Err-clause-memory
+returns-in-Err-clause-memory g c = λ is.
+    let at = goal.at.returns-in-Err-clause-memory g c in
+    let memory = refused_memory c.in-Err.refusal (sym c.from.ensures ∙ cc) in (
+      rw (bodies_back g at.After-resize-in-Err, c.in-Err.ensures.err) (ap (λ s. s.held) c.self.view_is),
+      failed_is g at.After-eq-self-inside ∙ ap is_disk memory,
+    )
+
+pub returns-in-Err-clause-no_part : goal.returns-in-Err-clause-no_part
+returns-in-Err-clause-no_part g c = λ why is.
+    let part = refused_part c.in-Err.refusal why (sym c.from.ensures ∙ cc) in
+    let some = (c.in-Err.ensures.refused why).0 (ap (λ e. Err e) part) in
+    let none = not_refused _ _ _ _ c.self.inside.meta.current (rewriting g (goal.at.returns-in-Err-clause-no_part g c).After-of_geometry-base) in
+    cc
+
+pub returns-in-Err-clause-proceeds : goal.returns-in-Err-clause-proceeds
+returns-in-Err-clause-proceeds g c =
+    let at = goal.at.returns-in-Err-clause-proceeds g c in
+    from_same g.D.Disk _ _ c.args.number _ c.self.view_is
+    (kept_proceeds g.D.Disk _ _ _ _ _ _ (given g at.After-as_slice-places) _ (keeps g at.After-put_blocks) (written g at.In-Ok-put_blocks) c.args.number _ c.apply.ensures.any_moment c.in-Err.ensures.err (ap (λ (m : Meta). held_with c.self.inside.durable.value.items m.durable) c.in-Err.ensures.err))

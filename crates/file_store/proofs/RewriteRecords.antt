@@ -1,0 +1,158 @@
+-- The records of a change of a file's bytes: the catalog after them, and that they can come.
+use Rattle.std.proofs.Common.{◌≡◌, ℕ, ◌+◌, ◌<◌, ◌≤◌, List, [], ◌∷◌, ◌++◌, length, set, Option, Some, None, true, false, cond, eqb, refl, sym, ◌∙◌, ap, subst, arith}
+use Rattle.std.specs.List.{flat_map, list_any, AllByRecursion}
+use Rattle.std.proofs.lemmas.Bool.{and_from, eq-eqb, cond-true}
+use Rattle.std.proofs.lemmas.List.{map-append}
+use Rattle.hsm_types.specs.declared.keys.FileKey.{FileKey}
+use Rattle.plain_model.specs.Keyed.{same_key, find_key, change_key}
+use Rattle.plain_model.specs.Blocks.{blocks_in}
+use Rattle.meta_store.specs.declared.snapshot.Mapping.{Mapping}
+use Rattle.meta_store.specs.declared.records.Record.{Record}
+use Rattle.meta_store.specs.declared.records.Record.TheVariants.{Size, Map}
+use Rattle.meta_store.specs.Catalogs.{CatalogFile, Catalog, geometry_of, blocks_of}
+use Rattle.meta_store.specs.Records.{places_set, mappings_from, file_after, with_changed, key_on, after, after_all, refusal_of_all, IsMappable, CanStandAll, IsMap, IsEvent}
+use Rattle.meta_store.proofs.BlockUses.{is_one, uses, uses-append, absent-unused, uses-distinct}
+use Rattle.meta_store.proofs.FileEdits.{names_of-change}
+use Rattle.file_store.specs.Steps.{places_of}
+use Rattle.file_store.specs.Rewrites.{mappings_in, IsMapOn, IsRewriting, remapped}
+use Rattle.meta_store.proofs.MappedPlaces.{length-fitted, length-places_set, uses-fitted, uses-mapped}
+use Rattle.file_store.proofs.MovedBlocks.{uses-changed}
+use Rattle.file_store.proofs.EachOf.{each-parts}
+
+-- ---- a file that changes twice
+
+same_itself : (k : FileKey) → same_key k k ≡ true
+same_itself k = and_from (eqb k.ino k.ino) (eqb k.igen k.igen) (eq-eqb k.ino k.ino refl) (eq-eqb k.igen k.igen refl)
+
+change-twice : (k : FileKey) (f g h : CatalogFile → CatalogFile) (fs : List CatalogFile) → ((x : CatalogFile) → (f x).key ≡ x.key) → ((x : CatalogFile) → g (f x) ≡ h x)
+    → change_key (λ x. x.key) k g (change_key (λ x. x.key) k f fs) ≡ change_key (λ x. x.key) k h fs
+change-twice k f g h [] key is = refl
+change-twice k f g h (x ∷ fs) key is =
+    elim (same_key x.key k) as (λ b. same_key x.key k ≡ b → change_key (λ y. y.key) k g (cond b (f x ∷ fs) (x ∷ change_key (λ y. y.key) k f fs)) ≡ cond b (h x ∷ fs) (x ∷ change_key (λ y. y.key) k h fs)) [
+      | true ↦ λ same. let here : same_key (f x).key k ≡ true = ap (λ j. same_key j k) (key x) ∙ same in rw here (ap (λ (y : CatalogFile). y ∷ fs) (is x))
+      | false ↦ λ other. rw (other, change-twice k f g h fs key is) refl
+    ] refl
+
+find-changed : (k : FileKey) (to : CatalogFile → CatalogFile) (f : CatalogFile) (fs : List CatalogFile) → ((x : CatalogFile) → (to x).key ≡ x.key) → find_key (λ x. x.key) k fs ≡ Some f → find_key (λ x. x.key) k (change_key (λ x. x.key) k to fs) ≡ Some (to f)
+find-changed k to f [] key found = cc
+find-changed k to f (x ∷ fs) key found =
+    elim (same_key x.key k) as (λ b. same_key x.key k ≡ b → cond b (Some x) (find_key (λ y. y.key) k fs) ≡ Some f → find_key (λ y. y.key) k (cond b (to x ∷ fs) (x ∷ change_key (λ y. y.key) k to fs)) ≡ Some (to f)) [
+      | true ↦ λ same it. let one : x ≡ f = cc in let here : same_key (to x).key k ≡ true = ap (λ j. same_key j k) (key x) ∙ same in rw here (ap (λ (y : CatalogFile). Some (to y)) one)
+      | false ↦ λ other it. rw other (find-changed k to f fs key it)
+    ] refl found
+
+key_on-changed : (ino : ℕ) (k : FileKey) (to : CatalogFile → CatalogFile) (c : Catalog) → ((x : CatalogFile) → ((to x).key ≡ x.key) × ((to x).name ≡ x.name)) → key_on ino (with_changed k to c) ≡ key_on ino c
+key_on-changed ino k to c same = rw (names_of-change k to c.files (λ x. rw ((same x).0, (same x).1) refl)) refl
+
+places_set-append : (ms ns : List Mapping) (ps : List (Option ℕ)) → places_set ns (places_set ms ps) ≡ places_set (ms ++ ns) ps
+places_set-append [] ns ps = refl
+places_set-append (m ∷ ms) ns ps = places_set-append ms ns (set ps m.block (Some m.place))
+
+-- ---- the catalog after them
+
+abbrev mapped_by : List Mapping → CatalogFile → CatalogFile
+mapped_by ms f = record f { places = places_set ms f.places }
+
+after-maps : (ino : ℕ) (k : FileKey) (maps : List Record) (c : Catalog) (to : CatalogFile → CatalogFile) → ((x : CatalogFile) → ((to x).key ≡ x.key) × ((to x).name ≡ x.name)) → key_on ino c ≡ k → AllByRecursion (IsMapOn ino) maps
+    → after_all maps (with_changed k to c) ≡ with_changed k (λ x. mapped_by (flat_map mappings_in maps) (to x)) c
+after-maps ino k [] c to same on each = refl
+after-maps ino k (Map i block places ∷ maps) c to same on each =
+    let ms : List Mapping = mappings_from block places.items in
+    let rest : List Mapping = flat_map mappings_in maps in
+    let key : key_on i (with_changed k to c) ≡ k = ap (λ j. key_on j (with_changed k to c)) each.0.0 ∙ key_on-changed ino k to c same ∙ on in
+    ap (λ (j : FileKey). after_all maps (with_changed j (mapped_by ms) (with_changed k to c))) key
+    ∙ ap (λ (fs : List CatalogFile). after_all maps (record c { files = fs })) (change-twice k to (mapped_by ms) (λ x. mapped_by ms (to x)) c.files (λ x. (same x).0) (λ x. refl))
+    ∙ after-maps ino k maps c (λ x. mapped_by ms (to x)) same on each.1
+    ∙ ap (λ (fs : List CatalogFile). record c { files = fs }) (sym (change-twice k to (mapped_by (ms ++ rest)) (λ x. mapped_by rest (mapped_by ms (to x))) c.files (λ x. (same x).0) (λ x. ap (λ (ps : List (Option ℕ)). record (to x) { places = ps }) (sym (places_set-append ms rest (to x).places)))) ∙ change-twice k to (mapped_by (ms ++ rest)) (λ x. mapped_by (ms ++ rest) (to x)) c.files (λ x. (same x).0) (λ x. refl))
+after-maps ino k (r ∷ maps) c to same on each = absurd each.0
+
+pub after_rewriting : (ino size : ℕ) (ms : List Mapping) (rs : List Record) (c : Catalog) → IsRewriting ino size ms rs → after_all rs c ≡ with_changed (key_on ino c) (remapped size ms) c
+after_rewriting ino size ms rs c is =
+    ap (λ (xs : List Record). after_all xs c) is.first
+    ∙ after-maps ino (key_on ino c) is.maps c (file_after (Size ino size)) (λ x. (refl, refl)) refl is.each
+    ∙ ap (λ (ns : List Mapping). with_changed (key_on ino c) (remapped size ns) c) is.all
+
+-- ---- they are an event, which nothing refuses
+
+each-map : (ino : ℕ) (maps : List Record) → AllByRecursion (IsMapOn ino) maps → AllByRecursion IsMap maps
+each-map ino [] each = tt
+each-map ino (Map i block places ∷ maps) each = (tt, each-map ino maps each.1)
+each-map ino (r ∷ maps) each = absurd each.0
+
+pub is_event : (ino size : ℕ) (ms : List Mapping) (rs : List Record) → IsRewriting ino size ms rs → IsEvent rs
+is_event ino size ms rs is = rw is.first (each-map ino is.maps is.each)
+
+maps-pass : (maps : List Record) (c : Catalog) → AllByRecursion IsMap maps → refusal_of_all maps c ≡ None
+maps-pass [] c each = refl
+maps-pass (Map i block places ∷ maps) c each = rw (maps-pass maps (after (Map i block places) c) each.1) refl
+maps-pass (r ∷ maps) c each = absurd each.0
+
+pub not_refused : (ino size : ℕ) (ms : List Mapping) (rs : List Record) (c : Catalog) → IsRewriting ino size ms rs → refusal_of_all rs c ≡ None
+not_refused ino size ms rs c is = rw (is.first, maps-pass is.maps (after (Size ino size) c) (each-map ino is.maps is.each)) refl
+
+-- ---- they can stand
+
+abbrev Fit : ℕ → ℕ → List Mapping → Type 0
+Fit n total ms = AllByRecursion (λ m. (m.block < n) × (m.place < total)) ms
+
+run-fits : (n total block : ℕ) (p : ℕ) (ps : List ℕ) → Fit n total (mappings_from block (p ∷ ps)) → (block + length (p ∷ ps) ≤ n) × AllByRecursion (λ q. q < total) (p ∷ ps)
+run-fits n total block p [] fit = let low = fit.0.0 in (omega arith, (fit.0.1, tt))
+run-fits n total block p (q ∷ ps) fit = let more = run-fits n total (block + 1) q ps fit.1 in let most = more.0 in (omega arith, (fit.0.1, more.1))
+
+places-run : (block : ℕ) (ps : List ℕ) → places_of (mappings_from block ps) ≡ ps
+places-run block [] = refl
+places-run block (p ∷ ps) = ap (λ (qs : List ℕ). p ∷ qs) (places-run (block + 1) ps)
+
+-- each number stands at most once among the places and the blocks together
+abbrev Once : List ℕ → List ℕ → Type 0
+Once places blocks = (n : ℕ) → uses n places + uses n blocks ≤ 1
+
+each-unused : (ps bs : List ℕ) → Once ps bs → AllByRecursion (λ p. list_any (λ b. eqb b p) bs ≡ false) ps
+each-unused [] bs once = tt
+each-unused (p ∷ ps) bs once =
+    let here : is_one p p ≡ 1 = cond-true (eqb p p) 1 0 (eq-eqb p p refl) in
+    let most = once p in
+    (absent-unused p bs (omega arith), each-unused ps bs (λ n. let all = once n in omega arith))
+
+mappable : (n total block : ℕ) (ps : List ℕ) (f : CatalogFile) (c : Catalog) → length f.places ≡ n → (geometry_of c.geometry).blocks ≡ total → 1 ≤ length ps → Fit n total (mappings_from block ps) → Once ps (blocks_of c.files) → IsMappable block ps f c
+mappable n total block [] f c long blocks some fit once = absurd (omega arith)
+mappable n total block (p ∷ ps) f c long blocks some fit once =
+    let fits = run-fits n total block p ps fit in
+    record {
+      blocks = rw long fits.0;
+      within = subst (λ (t : ℕ). AllByRecursion (λ q. q < t) (p ∷ ps)) (sym blocks) fits.1;
+      unused = each-unused (p ∷ ps) (blocks_of c.files) once;
+      distinct = uses-distinct (p ∷ ps) (λ m. let all = once m in omega arith);
+    }
+
+maps-stand : (ino n total : ℕ) (k : FileKey) (maps : List Record) (c : Catalog) (f : CatalogFile) → find_key (λ x. x.key) k c.files ≡ Some f → key_on ino c ≡ k → length f.places ≡ n → (geometry_of c.geometry).blocks ≡ total → AllByRecursion (IsMapOn ino) maps
+    → Fit n total (flat_map mappings_in maps) → Once (places_of (flat_map mappings_in maps)) (blocks_of c.files) → CanStandAll maps c
+maps-stand ino n total k [] c f found on long blocks each fit once = tt
+maps-stand ino n total k (Map i block places ∷ maps) c f found on long blocks each fit once =
+    let ms : List Mapping = mappings_from block places.items in
+    let rest : List Mapping = flat_map mappings_in maps in
+    let sides = each-parts (λ (m : Mapping). (m.block < n) × (m.place < total)) ms rest fit in
+    let here : key_on i c ≡ k = ap (λ j. key_on j c) each.0.0 ∙ on in
+    let all : (m : ℕ) → uses m places.items + uses m (places_of rest) + uses m (blocks_of c.files) ≤ 1 =
+    λ m. let split = ap (uses m) (map-append (λ (x : Mapping). x.place) ms rest) in let both = uses-append m (places_of ms) (places_of rest) in let run = ap (uses m) (places-run block places.items) in let most = once m in omega arith in
+    let next : Catalog = with_changed k (mapped_by ms) c in
+    let first : IsMappable block places.items f c = mappable n total block places.items f c long blocks each.0.1 sides.0 (λ m. let most = all m in omega arith) in
+    let last : CanStandAll maps next =
+    maps-stand ino n total k maps next (mapped_by ms f) (find-changed k (mapped_by ms) f c.files (λ x. refl) found) (key_on-changed ino k (mapped_by ms) c (λ x. (refl, refl)) ∙ on) (length-places_set ms f.places ∙ long) blocks each.1 sides.1 (λ m.
+    let moved = uses-changed m k (mapped_by ms) f c.files found in
+    let set_in = uses-mapped m block places.items f.places in
+    let most = all m in
+    omega arith) in
+    ((f, rw here found, first), rw here last)
+maps-stand ino n total k (r ∷ maps) c f found on long blocks each fit once = absurd each.0
+
+pub can_stand : (ino size : ℕ) (ms : List Mapping) (rs : List Record) (c : Catalog) (f : CatalogFile) → IsRewriting ino size ms rs → size ≤ 16777216 → find_key (λ x. x.key) (key_on ino c) c.files ≡ Some f
+    → Fit (blocks_in size) (geometry_of c.geometry).blocks ms → Once (places_of ms) (blocks_of c.files) → CanStandAll rs c
+can_stand ino size ms rs c f is few found fit once =
+    let k : FileKey = key_on ino c in
+    let to : CatalogFile → CatalogFile = file_after (Size ino size) in
+    let rest : CanStandAll is.maps (with_changed k to c) =
+    maps-stand ino (blocks_in size) (geometry_of c.geometry).blocks k is.maps (with_changed k to c) (to f) (find-changed k to f c.files (λ x. refl) found) (key_on-changed ino k to c (λ x. (refl, refl))) (length-fitted size f.places) refl is.each
+    (rw is.all fit)
+    (rw is.all (λ n. let cut = uses-changed n k to f c.files found in let less = uses-fitted n size f.places in let most = once n in omega arith)) in
+    subst (λ (xs : List Record). CanStandAll xs c) (sym is.first) ((f, found, few), rest)

@@ -1,0 +1,13 @@
+-- Refusals of the layer below, as the store tells them.
+use Rattle.meta_store.specs.declared.refusal.MetaRefusal.{MetaRefusal}
+use Rattle.meta_store.specs.declared.refusal.MetaRefusal.TheVariants.{Part, Disk, Memory}
+use Rattle.file_store.specs.declared.refusal.StoreRefusal.{StoreRefusal}
+use Rattle.file_store.specs.declared.refusal.StoreRefusal.TheVariants as store
+
+abbrev pub refused_as : MetaRefusal → StoreRefusal
+refused_as (Part why) = store.Part why
+refused_as Disk = store.Disk
+refused_as Memory = store.Memory
+
+abbrev pub no_memory : StoreRefusal
+no_memory = store.Memory

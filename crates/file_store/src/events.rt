@@ -1,0 +1,214 @@
+//! The two ways of an event: records that concern no bytes, and bytes with their records. Each takes the records by one call.
+ghost use Rattle.std.specs.Prelude.{◌≡◌, ◌+◌, ◌≤◌, ◌<◌, ◌^◌, true, false, if◌then◌else◌, None, Some, Err, length, take, IfOk, OnOk, OnErr, IsErrOf, IsSome};
+ghost use Rattle.disk_model.specs.Calls.{Rose};
+ghost use Rattle.hsm_types.specs.declared.dm.DmRefusal.{DmRefusal};
+ghost use Rattle.plain_model.specs.Keyed.{find_key};
+ghost use Rattle.plain_model.specs.Blocks.{touched};
+ghost use Rattle.plain_model.specs.State.{bytes_of, affected_held, used};
+ghost use Rattle.block_space.specs.Space.{marked, free};
+ghost use Rattle.meta_store.specs.Catalogs.{geometry_of};
+ghost use Rattle.meta_store.specs.Records.{CanStand, refusal_of};
+ghost use Rattle.file_store.specs.Rewrites.{effect_of, IsRewrite};
+ghost use Rattle.file_store.specs.Stores.{Proceeds};
+ghost use Rattle.file_store.specs.Effects.{IsBodiless, IsFreed, held_after, drops, empties};
+
+use crate::loading::slot;
+use crate::plans::{self, Plan};
+use crate::refusal::StoreRefusal;
+use crate::rewrites::Rewrite;
+use crate::store::{FileStore, LAST_NUMBER};
+use crate::writing::put_blocks;
+use block_space::{BlockSpace, Blocks, TakeRefusal};
+use commit_slots::Layout;
+use disk_model::Disk;
+use file_body::Body;
+use hsm_types::FileKey;
+use meta_store::{Catalog, MetaRefusal, Record};
+use std::alloc::{AllocError, Global};
+use std::snapshot::Snapshot;
+
+/// Whether the file is gone after it.
+fn drops(change: &Record) -> bool
+    ensures { result ≡ drops change.now }
+{
+    matches!(change, Record::Drop { .. })
+}
+
+/// Whether the inode has no bytes after it, its file being new or gone.
+fn empties(change: &Record) -> bool
+    ensures { result ≡ empties change.now }
+{
+    matches!(change, Record::Make { .. } | Record::Drop { .. })
+}
+
+/// The blocks that the file had which is gone after it.
+fn blocks_gone(
+    alloc: Global,
+    catalog: &Catalog,
+    key: FileKey,
+    change: &Record,
+) -> Result<Vec<u32>, AllocError>
+    requires bodiless { IsBodiless key change.now catalog.now }
+    requires stands { CanStand change.now catalog.now }
+    ensures { IfOk result (λ v. IsFreed key change.now catalog.now v.items) }
+{
+    match change {
+        Record::Drop { .. } => plans::blocks_of(alloc, catalog, key),
+        _ => Ok(Vec::new(alloc)),
+    }
+}
+
+impl<D: Disk> FileStore<D> {
+    /// Makes all durable that is held, where blocks were taken or freed since that was done last.
+    pub(crate) fn settle(&mut self, alloc: Global, number: u64) -> Result<(), StoreRefusal>
+        requires working { self.old.failed ≡ false }
+        ensures held { self.new.held ≡ self.old.held }
+        ensures current { self.new.meta.current ≡ self.old.meta.current }
+        ensures proceeds { Proceeds D.Disk self.old number self.new }
+        ensures settled { OnOk result (self.new.pending ≡ false) }
+        ensures working { OnOk result (self.new.failed ≡ false) }
+        ensures memory { IsErrOf result StoreRefusal.Memory → self.new ≡ self.old }
+        ensures failed { IsErrOf result StoreRefusal.Disk → (self.new.failed ≡ true) × Rose (D.fault_count self.old.disk) (D.fault_count self.new.disk) }
+        ensures no_part { (why : DmRefusal) → IsErrOf result (StoreRefusal.Part why) → ⊥ }
+    {
+        if self.pending {
+            self.sync(alloc, number)
+        } else {
+            Ok(())
+        }
+    }
+
+    /// Takes the record of an event that concerns no bytes of a file that stays. At an `Err` but `Disk` nothing has changed.
+    pub(crate) fn record(
+        &mut self,
+        alloc: Global,
+        key: FileKey,
+        change: Record,
+        number: u64,
+    ) -> Result<(), StoreRefusal>
+        requires working { self.old.failed ≡ false }
+        requires bodiless { IsBodiless key change self.old.meta.current }
+        requires stands { CanStand change self.old.meta.current }
+        ensures judged { OnOk result (refusal_of change self.old.meta.current ≡ None) }
+        ensures refused { (why : DmRefusal) → (result ≡ Err (StoreRefusal.Part why)) → (refusal_of change self.old.meta.current ≡ Some why) }
+        ensures held { OnOk result (self.new.held ≡ held_after key change self.old.held) }
+        ensures working { OnOk result (self.new.failed ≡ false) }
+        ensures unchanged { (why : DmRefusal) → IsErrOf result (StoreRefusal.Part why) → self.new ≡ self.old }
+        ensures memory { IsErrOf result StoreRefusal.Memory → self.new ≡ self.old }
+        ensures failed { IsErrOf result StoreRefusal.Disk → (self.new.failed ≡ true) × Rose (D.fault_count self.old.disk) (D.fault_count self.new.disk) }
+        ensures proceeds { Proceeds D.Disk self.old number self.new }
+    {
+        let (empty, gone) = (empties(&change), drops(&change));
+        let freed = blocks_gone(alloc, self.meta.catalog(), key, &change)?;
+        if number > LAST_NUMBER {
+            return Err(StoreRefusal::Memory);
+        }
+        let records = plans::one(alloc, change)?;
+        let before = Snapshot::of(&self.bodies);
+        match self.meta.apply(alloc, &mut self.disk, records, number) {
+            Ok(wrote) => {
+                if empty {
+                    self.bodies[slot(key.ino)] = Body::new(alloc);
+                }
+                make_durable(wrote, before, &mut self.durable, &mut self.space);
+                self.space.release_all(&freed);
+                self.pending |= gone;
+                Ok(())
+            }
+            Err(refusal) => {
+                self.failed = refusal == MetaRefusal::Disk;
+                Err(StoreRefusal::from(refusal))
+            }
+        }
+    }
+
+    /// Changes the bytes of a live file. The blocks that this touches are written to places that nothing uses, then the records are taken, and
+    /// then the old places are free. It costs the bytes, the blocks, and what the file grows by.
+    pub(crate) fn rewrite(
+        &mut self,
+        alloc: Global,
+        key: FileKey,
+        change: Rewrite<'_>,
+        number: u64,
+    ) -> Result<(), StoreRefusal>
+        requires working { self.old.failed ≡ false }
+        requires settled { self.old.pending ≡ false }
+        requires live { IsSome (find_key (λ f. f.key) key self.old.held.files) }
+        requires lawful { IsRewrite change }
+        requires room { length (touched (effect_of change) (length (bytes_of key self.old.held.files))) + used self.old.held.files ≤ (geometry_of self.old.meta.durable.geometry).blocks }
+        ensures held { OnOk result (self.new.held ≡ record self.old.held { files = affected_held (effect_of change.entry) key self.old.held.files }) }
+        ensures working { OnOk result (self.new.failed ≡ false) }
+        ensures memory { IsErrOf result StoreRefusal.Memory → (self.new.held ≡ self.old.held) × (self.new.failed ≡ false) }
+        ensures failed { IsErrOf result StoreRefusal.Disk → (self.new.failed ≡ true) × Rose (D.fault_count self.old.disk) (D.fault_count self.new.disk) }
+        ensures no_part { (why : DmRefusal) → IsErrOf result (StoreRefusal.Part why) → ⊥ }
+        ensures proceeds { Proceeds D.Disk self.old number self.new }
+    {
+        let before = Snapshot::of(&self.bodies);
+        if number > LAST_NUMBER {
+            return Err(StoreRefusal::Memory);
+        }
+        let body = &mut self.bodies[slot(key.ino)];
+        let old = body.len();
+        let touched = change.touched(old);
+        let blocks = take(alloc, &mut self.space, touched.count())?;
+        let places = blocks.as_slice();
+        let catalog = self.meta.catalog();
+        let Ok(plan) = plans::prepare(alloc, catalog, body, key, change, &touched, places) else {
+            self.space.release_all(places);
+            return Err(StoreRefusal::Memory);
+        };
+        let Plan { records, freed } = plan;
+        let base = Layout::of_geometry(catalog.geometry()).blocks;
+        let Ok(()) = put_blocks(&mut self.disk, base, body, change, &touched, places) else {
+            body.resize(alloc, old).unwrap();
+            self.failed = true;
+            return Err(StoreRefusal::Disk);
+        };
+        match self.meta.apply(alloc, &mut self.disk, records, number) {
+            Ok(wrote) => {
+                change.apply(alloc, body).unwrap();
+                make_durable(wrote, before, &mut self.durable, &mut self.space);
+                self.space.release_all(&freed);
+                self.pending = true;
+                Ok(())
+            }
+            Err(refusal) => {
+                body.resize(alloc, old).unwrap();
+                self.space.release_all(places);
+                self.failed = refusal == MetaRefusal::Disk;
+                Err(StoreRefusal::from(refusal))
+            }
+        }
+    }
+}
+
+/// Takes the lowest blocks that are free.
+fn take(alloc: Global, space: &mut BlockSpace, count: u64) -> Result<Blocks, AllocError>
+    requires few { count < 2 ^ 32 }
+    requires enough { count ≤ length (free space.old) }
+    ensures taken { IfOk result (λ blocks. blocks ≡ take count (free space.old)) }
+    ensures marked { OnOk result (space.new ≡ record space.old { current = marked (take count (free space.old)) space.old.current }) }
+    ensures err { OnErr result (space.new ≡ space.old) }
+{
+    match space.take(alloc, count as u32) {
+        Ok(blocks) => Ok(blocks),
+        Err(TakeRefusal::Memory) => Err(AllocError),
+        Err(TakeRefusal::Short { .. }) => unreachable!(),
+    }
+}
+
+/// Where a snapshot was written of what was held before, that is durable, with the blocks that it uses.
+fn make_durable(
+    wrote: bool,
+    before: Snapshot<Vec<Body>>,
+    durable: &mut Snapshot<Vec<Body>>,
+    space: &mut BlockSpace,
+)
+    ensures bodies { durable.new.value.items ≡ (if wrote then before.value.items else durable.old.value.items) }
+    ensures blocks { space.new ≡ record space.old { durable = if wrote then space.old.current else space.old.durable } }
+{
+    if wrote {
+        *durable = before;
+        space.committed();
+    }
+}

@@ -1,0 +1,138 @@
+//! What an event needs before it changes anything: its records, the blocks that it frees, and memory.
+ghost use Rattle.std.specs.Prelude.{◌≡◌, ℕ, ◌∷◌, [], ◌-◌, ◌≤◌, ◌++◌, List, length, replicate, take, drop, IfOk, OnOk, OnErr, IsSome};
+ghost use Rattle.plain_model.specs.Keyed.{find_key};
+ghost use Rattle.plain_model.specs.Blocks.{touched, size_after};
+ghost use Rattle.meta_store.specs.declared.snapshot.Mapping.{Mapping};
+ghost use Rattle.meta_store.specs.Catalogs.{CatalogFile, present};
+ghost use Rattle.meta_store.specs.Records.{IsEvent, mappings_from};
+ghost use Rattle.file_store.specs.Rewrites.{effect_of, IsRewrite, IsRewriting, mappings_of, freed_by};
+
+use crate::rewrites::Rewrite;
+use crate::spaces::put_present;
+use file_body::{BlockRun, Body, TouchedBlocks, blocks_in};
+use hsm_types::FileKey;
+use meta_store::{Catalog, Record, Records};
+use std::alloc::{AllocError, Global};
+
+/// The records of a change of a file's bytes, and the blocks that it frees.
+#[derive(Drop)]
+pub(crate) struct Plan {
+    pub(crate) records: Records,
+    pub(crate) freed: Vec<u32>,
+}
+
+/// Plans a change of a live file's bytes, whose touched blocks get these places, and lengthens the body by zeros to the new size. At an `Err`
+/// the body is as before.
+pub(crate) fn prepare(
+    alloc: Global,
+    catalog: &Catalog,
+    body: &mut Body,
+    key: FileKey,
+    change: Rewrite<'_>,
+    touched: &TouchedBlocks,
+    places: &[u32],
+) -> Result<Plan, AllocError>
+    requires live { IsSome (find_key (λ f. f.key) key catalog.now.files) }
+    requires lawful { IsRewrite change }
+    requires count { length places.now ≡ length touched.now }
+    ensures records { IfOk result (λ p. IsRewriting key.ino (size_after (effect_of change.entry) (length body.old)) (mappings_of touched.now places.now) p.records) }
+    ensures freed { IfOk result (λ p. (f : CatalogFile) → find_key (λ f. f.key) key catalog.now.files ≡ Some f → p.freed.items ≡ freed_by (size_after (effect_of change.entry) (length body.old)) touched.now f.places) }
+    ensures grown { OnOk result (body.new ≡ body.old ++ replicate (size_after (effect_of change.entry) (length body.old) - length body.old) 0) }
+    ensures err { OnErr result (body.new ≡ body.old) }
+{
+    let old = body.len();
+    let size = change.size_after(old);
+    let records = records_of(alloc, key.ino, size, touched, places)?;
+    let freed = freed_by(alloc, catalog.places(key).unwrap(), size, touched)?;
+    body.resize(alloc, old.max(size))?;
+    Ok(Plan { records, freed })
+}
+
+/// The records of an event that is one.
+pub(crate) fn one(alloc: Global, change: Record) -> Result<Records, AllocError>
+    ensures { IfOk result (λ rs. rs ≡ change ∷ []) }
+{
+    let mut records = Vec::new(alloc);
+    records.push(change)?;
+    Ok(Records::from(records))
+}
+
+/// The blocks that a live file uses.
+pub(crate) fn blocks_of(
+    alloc: Global,
+    catalog: &Catalog,
+    key: FileKey,
+) -> Result<Vec<u32>, AllocError>
+    requires { IsSome (find_key (λ f. f.key) key catalog.now.files) }
+    ensures { IfOk result (λ v. (f : CatalogFile) → find_key (λ f. f.key) key catalog.now.files ≡ Some f → v.items ≡ present f.places) }
+{
+    let mut blocks = Vec::new(alloc);
+    put_present(&mut blocks, catalog.places(key).unwrap())?;
+    Ok(blocks)
+}
+
+/// The size of the file on that inode, and then the places of the blocks that are touched.
+fn records_of(
+    alloc: Global,
+    ino: u64,
+    size: u64,
+    touched: &TouchedBlocks,
+    places: &[u32],
+) -> Result<Records, AllocError>
+    requires { length places.now ≡ length touched.now }
+    ensures { IfOk result (IsRewriting ino size (mappings_of touched.now places.now)) }
+{
+    let (end, others) = touched.runs();
+    let (first, rest) = places.split_at(end.count as usize);
+    let mut records = Vec::with_capacity(alloc, 3)?;
+    records.push(Record::Size { ino, size })?;
+    push_map(alloc, &mut records, ino, end.first, first)?;
+    push_map(alloc, &mut records, ino, others.first, rest)?;
+    Ok(Records::from(records))
+}
+
+/// Puts the record behind the others that the blocks from that one on lie at these places, if there are any.
+fn push_map(
+    alloc: Global,
+    records: &mut Vec<Record>,
+    ino: u64,
+    block: u32,
+    places: &[u32],
+) -> Result<(), AllocError>
+    ensures { OnOk result ((size : ℕ) (before : List Mapping) → IsRewriting ino size before records.old.items → IsRewriting ino size (before ++ mappings_from block places.now) records.new.items) }
+{
+    if places.is_empty() {
+        return Ok(());
+    }
+    let places = Vec::from_slice(alloc, places)?;
+    records.push(Record::Map { ino, block, places })?;
+    Ok(())
+}
+
+/// The blocks that a file with these places frees as it gets that size, and new places for the blocks that are touched.
+fn freed_by(
+    alloc: Global,
+    places: &[Option<u32>],
+    size: u64,
+    touched: &TouchedBlocks,
+) -> Result<Vec<u32>, AllocError>
+    requires { size ≤ 16777216 }
+    ensures { IfOk result (λ v. v.items ≡ freed_by size touched.now places.now) }
+{
+    let (end, others) = touched.runs();
+    let kept = places.len().min(blocks_in(size) as usize);
+    let mut freed = Vec::new(alloc);
+    put_present(&mut freed, &places[kept..])?;
+    put_present(&mut freed, places_under(end, places))?;
+    put_present(&mut freed, places_under(others, places))?;
+    Ok(freed)
+}
+
+/// The places of the blocks of a run, as far as there are any.
+fn places_under(run: BlockRun, places: &[Option<u32>]) -> &[Option<u32>]
+    ensures { result.now ≡ take run.count (drop run.first places.now) }
+{
+    let start = places.len().min(run.first as usize);
+    let count = (places.len() - start).min(run.count as usize);
+    &places[start..start + count]
+}
