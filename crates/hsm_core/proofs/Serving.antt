@@ -1,7 +1,6 @@
 -- A session's call by its scope and its service.
 use Rattle.std.proofs.Common.{◌≡◌, ℕ, ◌+◌, List, [], ◌∷◌, Option, Some, None, refl, sym, ◌∙◌, ap}
-use Rattle.std.specs.Prelude.{Result, Ok, Err, IfOk, OnOk}
-use Rattle.std.specs.declared.alloc.AllocError.{AllocError}
+use Rattle.std.specs.Prelude.{Result, Ok, Err, OnOk}
 use Rattle.hsm_types.specs.Refusals.{first_refusal}
 use Rattle.hsm_types.specs.Calls.{scope_of}
 use Rattle.hsm_types.specs.Sessions.{SessionTable}
@@ -12,12 +11,13 @@ use Rattle.hsm_types.specs.declared.dm.DmCall.{DmCall}
 use Rattle.hsm_types.specs.declared.dm.DmCall.TheVariants.{GetSpace}
 use Rattle.hsm_types.specs.declared.dm.DmRefusal.{DmRefusal}
 use Rattle.hsm_types.specs.declared.dm.DmReply.{DmReply}
-use Rattle.hsm_types.specs.declared.dm.DmReply.TheVariants.{Refused}
+use Rattle.hsm_types.specs.declared.dm.DmReply.TheVariants as reply
 use Rattle.plain_model.specs.Effects.{Change, Nothing, OfFile, OfSessions, change_of}
 use Rattle.plain_model.specs.State.{Held, State, noted, changed}
 use Rattle.plain_model.specs.Services.{Service, service, scope_refusals, dm_judged, dm_reply_where, dm_reply_to, dm_state_where, dm_state_after}
+use Rattle.file_store.specs.declared.refusal.StoreRefusal.{StoreRefusal}
 use Rattle.hsm_core.specs.Store.{state_with}
-use Rattle.hsm_core.specs.Services.{nobody, asked, told_where, AreOf, held_where, sessions_where}
+use Rattle.hsm_core.specs.Services.{nobody, asked, told_where, held_where, sessions_where}
 use Rattle.hsm_core.proofs.Refusing.{all_pass, one_stops, alone}
 
 -- a service and a change are the same whoever asks, and a service whatever the number of the entry
@@ -55,51 +55,42 @@ left_state None st sid call = refl
 
 -- ---- where the scope refuses
 
-module _ (s : Superblock) (h : Held) (stamps : List (FileKey × ℕ)) (t : SessionTable) (sid : Sid) (call : DmCall) (why : DmRefusal)
-    (refuses : (number : ℕ) → first_refusal (scope_refusals s (state_with h stamps t number) sid (scope_of call)) ≡ Some why) where
-  judged_by_scope : (number : ℕ) → dm_judged s (state_with h stamps t number) sid call ≡ Some why
-  judged_by_scope number = one_stops (scope_refusals s (state_with h stamps t number) sid (scope_of call)) ((service s (state_with h stamps t number) sid call).refusal ∷ []) why (refuses number)
+module _ (s : Superblock) (st : State) (sid : Sid) (call : DmCall) (why : DmRefusal) (refuses : first_refusal (scope_refusals s st sid (scope_of call)) ≡ Some why) where
+  judged_by_scope : dm_judged s st sid call ≡ Some why
+  judged_by_scope = one_stops (scope_refusals s st sid (scope_of call)) ((service s st sid call).refusal ∷ []) why refuses
 
-  pub refused_replies : (result : Result (DmReply × DmReply) AllocError) → IfOk result (λ r. (r.0 ≡ Refused why) × (r.1 ≡ Refused why))
-      → IfOk result (λ r. (number : ℕ) → (r.0 ≡ dm_reply_to s (state_with h stamps t number) sid call) × (r.1 ≡ r.0))
-  refused_replies (Ok r) are = λ number. (are.0 ∙ ap (λ (why : Option DmRefusal). dm_reply_where why s (state_with h stamps t number) sid call) (sym (judged_by_scope number)), are.1 ∙ sym are.0)
-  refused_replies (Err e) are = tt
+  pub refused_reply : reply.Refused why ≡ dm_reply_to s st sid call
+  refused_reply = ap (λ (why : Option DmRefusal). dm_reply_where why s st sid call) (sym judged_by_scope)
 
-  pub refused_left : (result : Result (DmReply × DmReply) AllocError) → OnOk result ((number : ℕ) → state_with h stamps t (number + 1) ≡ dm_state_after s (state_with h stamps t number) sid call)
-  refused_left (Ok r) = λ number. ap (λ (why : Option DmRefusal). dm_state_where why (state_with h stamps t number) sid call) (sym (judged_by_scope number))
-  refused_left (Err e) = tt
+  pub refused_left : noted st ≡ dm_state_after s st sid call
+  refused_left = ap (λ (why : Option DmRefusal). dm_state_where why st sid call) (sym judged_by_scope)
 
 -- ---- where it doesn't, the service decides
 
 judged_alone : (s : Superblock) (st : State) (sid : Sid) (call : DmCall) → first_refusal (scope_refusals s st sid (scope_of call)) ≡ None → dm_judged s st sid call ≡ (service s st sid call).refusal
 judged_alone s st sid call none = all_pass (scope_refusals s st sid (scope_of call)) ((service s st sid call).refusal ∷ []) none ∙ alone (service s st sid call).refusal
 
-module _ (s : Superblock) (h : Held) (stamps : List (FileKey × ℕ)) (t : SessionTable) (sid : Sid) (call : DmCall)
-    (none : (number : ℕ) → first_refusal (scope_refusals s (state_with h stamps t number) sid (scope_of call)) ≡ None) where
+module _ (s : Superblock) (h : Held) (stamps : List (FileKey × ℕ)) (t : SessionTable) (number : ℕ) (sid : Sid) (call : DmCall)
+    (none : first_refusal (scope_refusals s (state_with h stamps t number) sid (scope_of call)) ≡ None) where
   -- the service as it is asked, whatever the number
-  judged_asked : (number : ℕ) → dm_judged s (state_with h stamps t number) sid call ≡ (asked s (state_with h stamps t 0) call).refusal
-  judged_asked number = judged_alone s (state_with h stamps t number) sid call (none number) ∙ ap (λ (v : Service). v.refusal) (service_asked s h stamps t number sid call)
+  judged_asked : dm_judged s (state_with h stamps t number) sid call ≡ (asked s (state_with h stamps t 0) call).refusal
+  judged_asked = judged_alone s (state_with h stamps t number) sid call none ∙ ap (λ (v : Service). v.refusal) (service_asked s h stamps t number sid call)
 
-  reply_asked : (number : ℕ) → told_where (asked s (state_with h stamps t 0) call).refusal (asked s (state_with h stamps t 0) call).reply ≡ dm_reply_to s (state_with h stamps t number) sid call
-  reply_asked number =
-      (λ i. told_where (sym (judged_asked number) i) (sym (service_asked s h stamps t number sid call) i).reply)
+  pub served_reply : told_where (asked s (state_with h stamps t 0) call).refusal (asked s (state_with h stamps t 0) call).reply ≡ dm_reply_to s (state_with h stamps t number) sid call
+  served_reply =
+      (λ i. told_where (sym judged_asked i) (sym (service_asked s h stamps t number sid call) i).reply)
       ∙ sym (reply_told (dm_judged s (state_with h stamps t number) sid call) s (state_with h stamps t number) sid call)
 
-  left_asked : (number : ℕ) → state_with (held_where (change_of nobody call) (asked s (state_with h stamps t 0) call).refusal h) stamps (sessions_where (change_of nobody call) (asked s (state_with h stamps t 0) call).refusal t) (number + 1)
+  left_asked : state_with (held_where (change_of nobody call) (asked s (state_with h stamps t 0) call).refusal h) stamps (sessions_where (change_of nobody call) (asked s (state_with h stamps t 0) call).refusal t) (number + 1)
       ≡ dm_state_after s (state_with h stamps t number) sid call
-  left_asked number =
+  left_asked =
       left_parts (asked s (state_with h stamps t 0) call).refusal (change_of nobody call) h stamps t number
       ∙ ap (λ (change : Change). left_where (asked s (state_with h stamps t 0) call).refusal change (state_with h stamps t number)) (change_asked sid call)
       ∙ left_state (asked s (state_with h stamps t 0) call).refusal (state_with h stamps t number) sid call
-      ∙ ap (λ (why : Option DmRefusal). dm_state_where why (state_with h stamps t number) sid call) (sym (judged_asked number))
+      ∙ ap (λ (why : Option DmRefusal). dm_state_where why (state_with h stamps t number) sid call) (sym judged_asked)
 
-  pub served_replies : (result : Result (DmReply × DmReply) AllocError) → IfOk result (λ r. AreOf (asked s (state_with h stamps t 0) call) r)
-      → IfOk result (λ r. (number : ℕ) → (r.0 ≡ dm_reply_to s (state_with h stamps t number) sid call) × (r.1 ≡ r.0))
-  served_replies (Ok r) are = λ number. (are.0 ∙ reply_asked number, are.1 ∙ sym are.0)
-  served_replies (Err e) are = tt
-
-  pub served_left : (result : Result (DmReply × DmReply) AllocError) (h' : Held) (t' : SessionTable)
+  pub served_left : (result : Result (DmReply × DmReply) StoreRefusal) (h' : Held) (t' : SessionTable)
       → OnOk result (h' ≡ held_where (change_of nobody call) (asked s (state_with h stamps t 0) call).refusal h) → OnOk result (t' ≡ sessions_where (change_of nobody call) (asked s (state_with h stamps t 0) call).refusal t)
-      → OnOk result ((number : ℕ) → state_with h' stamps t' (number + 1) ≡ dm_state_after s (state_with h stamps t number) sid call)
-  served_left (Ok r) h' t' held sessions = λ number. (λ i. state_with (held i) stamps (sessions i) (number + 1)) ∙ left_asked number
+      → OnOk result (state_with h' stamps t' (number + 1) ≡ dm_state_after s (state_with h stamps t number) sid call)
+  served_left (Ok r) h' t' held sessions = (λ i. state_with (held i) stamps (sessions i) (number + 1)) ∙ left_asked
   served_left (Err e) h' t' held sessions = tt

@@ -3,6 +3,7 @@ pub mod Targets
 pub mod Stamps
 pub mod Store
 pub mod Crashes
+pub mod Ends
 pub mod Services
 pub mod Answers
 pub mod Kept

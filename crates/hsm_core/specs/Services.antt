@@ -1,6 +1,5 @@
 -- How a session's call is served that its scope doesn't refuse: by its service, and by its change.
-use Rattle.std.specs.Prelude.{◌≡◌, ℕ, false, List, [], Option, Some, None, IsSome, Result, IfOk, OnOk, OnErr}
-use Rattle.std.specs.declared.alloc.AllocError.{AllocError}
+use Rattle.std.specs.Prelude.{◌≡◌, ℕ, List, [], Option, Some, None, IsSome, Result, Ok, Err, IfOk, OnOk, OnErr}
 use Rattle.disk_model.specs.declared.device.Disk as disk
 use Rattle.hsm_types.specs.Sessions.{SessionTable, no_sessions}
 use Rattle.hsm_types.specs.declared.keys.FileKey.{FileKey}
@@ -17,7 +16,10 @@ use Rattle.plain_model.specs.Keyed.{find_key}
 use Rattle.plain_model.specs.Effects.{Change, OfFile, OfSessions, change_of}
 use Rattle.plain_model.specs.State.{FileState, Held, State, nothing_held, affected_held}
 use Rattle.plain_model.specs.Services.{Service, service}
-use Rattle.file_store.specs.Stores.{Store as FileStore, superblock_of, Proceeds}
+use Rattle.file_store.specs.declared.refusal.StoreRefusal.{StoreRefusal}
+use Rattle.file_store.specs.declared.refusal.StoreRefusal.TheVariants.{Part}
+use Rattle.file_store.specs.Stores.{Store as FileStore, superblock_of}
+use Rattle.hsm_core.specs.Ends.{Ends, AreBoth}
 use Rattle.hsm_core.specs.Store.{state_with}
 
 -- the file that the scope names lives
@@ -32,7 +34,7 @@ told_where None r = r
 
 -- both replies, for the session and for the history, are those of the service
 abbrev pub AreOf : Service → DmReply × DmReply → Type 0
-AreOf v r = (r.0 ≡ told_where v.refusal v.reply) × (r.1 ≡ told_where v.refusal v.reply)
+AreOf v r = AreBoth (told_where v.refusal v.reply) r
 
 -- what is held, and the sessions, after a change that may have been refused
 abbrev pub held_where : Change → Option DmRefusal → Held → Held
@@ -62,20 +64,23 @@ service_on f call = asked (superblock_of f) (state_with f.held [] no_sessions 0)
 abbrev pub service_in : SessionTable → DmCall → Service
 service_in t call = asked (record { geometry = record { files = 0; blocks = 0; attributes = 0 }; fsid = 0 }) (state_with nothing_held [] t 0) call
 
--- A call that its scope doesn't refuse was served: it was answered by its service, and its change was made where that doesn't refuse. Without memory
--- nothing changes. Nothing becomes of the disk.
-pub record IsPerformed {D : Type 0} (g : disk.Ghosts D) (old : FileStore D) (stamps : List (FileKey × ℕ)) (t : SessionTable) (call : DmCall) (result : Result (DmReply × DmReply) AllocError) (new : FileStore D) (u : SessionTable) : Type 0 where
+-- A call that its scope doesn't refuse was served: it was answered by its service, and its change was made where that doesn't refuse. What isn't done
+-- leaves the sessions as they were.
+pub record IsPerformed {D : Type 0} (g : disk.Ghosts D) (old : FileStore D) (n : ℕ) (stamps : List (FileKey × ℕ)) (t : SessionTable) (call : DmCall) (result : Result (DmReply × DmReply) StoreRefusal) (new : FileStore D) (u : SessionTable) : Type 0 where
   pub replies : IfOk result (λ r. AreOf (asked (superblock_of old) (state_with old.held stamps t 0) call) r)
   pub held : OnOk result (new.held ≡ held_where (change_of nobody call) (asked (superblock_of old) (state_with old.held stamps t 0) call).refusal old.held)
   pub sessions : OnOk result (u ≡ sessions_where (change_of nobody call) (asked (superblock_of old) (state_with old.held stamps t 0) call).refusal t)
-  pub err : OnErr result ((u ≡ t) × (new.held ≡ old.held))
-  pub working : new.failed ≡ false
-  pub proceeds : (n : ℕ) → Proceeds g old n new
+  pub err : OnErr result (u ≡ t)
+  pub ends : Ends g old n result new
 
 -- The same of a call that changes what is kept with a file, by the files alone.
-pub record IsServed {D : Type 0} (g : disk.Ghosts D) (old : FileStore D) (call : DmCall) (result : Result (DmReply × DmReply) AllocError) (new : FileStore D) : Type 0 where
+pub record IsServed {D : Type 0} (g : disk.Ghosts D) (old : FileStore D) (n : ℕ) (call : DmCall) (result : Result (DmReply × DmReply) StoreRefusal) (new : FileStore D) : Type 0 where
   pub replies : IfOk result (λ r. AreOf (service_on old call) r)
   pub held : OnOk result (new.held ≡ held_where (change_of nobody call) (service_on old call).refusal old.held)
-  pub err : OnErr result (new.held ≡ old.held)
-  pub working : new.failed ≡ false
-  pub proceeds : (n : ℕ) → Proceeds g old n new
+  pub ends : Ends g old n result new
+
+-- The replies to a change of what is kept with a file: that it is done, or why its part refuses it. Else it ends as the change has.
+abbrev pub replies_to : {T : Type 0} → Result T StoreRefusal → Result (DmReply × DmReply) StoreRefusal
+replies_to (Ok x) = Ok (reply.Done, reply.Done)
+replies_to (Err (Part why)) = Ok (reply.Refused why, reply.Refused why)
+replies_to (Err e) = Err e

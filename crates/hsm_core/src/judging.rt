@@ -8,6 +8,7 @@ ghost use Rattle.file_store.specs.Stores.{superblock_of};
 ghost use Rattle.hsm_core.specs.Refusals.{ruled, Judges};
 ghost use Rattle.hsm_core.specs.Targets.{IsTarget, IsMeant, key_in};
 
+use crate::lookups;
 use crate::refusals::{
     judge_absence, judge_end, judge_inodes, judge_length, judge_name, judge_write,
 };
@@ -71,7 +72,7 @@ fn find<D: Disk>(files: &FileStore<D>, name: &Word) -> Result<Target, CallRefusa
     ensures judged { Judges result (missing name.now (names_of files.now.held.files)) }
     ensures target { IfOk result (λ t. IsTarget files.now.held.files (key_or_none (named name.now (names_of files.now.held.files))) t) }
 {
-    match files.find(name) {
+    match lookups::find(files, name) {
         Some(key) => Ok(Target {
             key,
             size: files.body(key).len(),
@@ -99,7 +100,7 @@ pub(crate) fn judge_room<D: Disk>(
         _ => 0,
     };
     let blocks = u64::from(files.superblock().geometry.blocks);
-    let free = blocks.saturating_sub(files.used());
+    let free = blocks.saturating_sub(files.meta().catalog().used());
     if free < need {
         Err(CallRefusal::NoSpace { need, free })
     } else {

@@ -3,6 +3,7 @@
 
 mod answering;
 mod judging;
+mod lookups;
 mod performing;
 mod refusals;
 mod services;

@@ -1,6 +1,5 @@
 //! Calls that nothing refuses, done by the key of their file. Each reply comes twice, for the caller and for the history.
-ghost use Rattle.std.specs.Prelude.{◌≡◌, ◌≤◌, ◌+◌, false, true, ℕ, None, IsSome, IfOk, OnOk, IsErrOf, length};
-ghost use Rattle.disk_model.specs.Calls.{Rose};
+ghost use Rattle.std.specs.Prelude.{◌≡◌, ◌≤◌, ◌+◌, false, ℕ, None, IsSome, IfOk, OnOk, length};
 ghost use Rattle.hsm_types.specs.declared.calls.Call.TheVariants.{Create, Sync};
 ghost use Rattle.hsm_types.specs.declared.calls.Reply.TheVariants.{Made, Data};
 ghost use Rattle.plain_model.specs.Keyed.{find_key};
@@ -11,6 +10,7 @@ ghost use Rattle.plain_model.specs.Blocks.{touched};
 ghost use Rattle.plain_model.specs.State.{names_of, next_key, bytes_of, used, affected_held, just_opened};
 ghost use Rattle.plain_model.specs.Verdict.{verdict, done_reply, done_held};
 ghost use Rattle.file_store.specs.Stores.{superblock_of, Proceeds};
+ghost use Rattle.hsm_core.specs.Ends.{Ends, AreBoth};
 ghost use Rattle.hsm_core.specs.Targets.{IsMeant, key_in};
 ghost use Rattle.hsm_core.specs.Crashes.{IsSynced};
 
@@ -18,7 +18,7 @@ use crate::judging::Target;
 use disk_model::Disk;
 use file_store::{FileStore, StoreRefusal};
 use hsm_types::{Bytes, Call, FileKey, Reply, Word};
-use std::alloc::Global;
+use std::alloc::{AllocError, Global};
 
 pub(crate) fn perform<D: Disk>(
     files: &mut FileStore<D>,
@@ -28,22 +28,21 @@ pub(crate) fn perform<D: Disk>(
     number: u64,
 ) -> Result<(Reply, Reply), StoreRefusal>
     requires working { files.old.failed ≡ false }
-    requires idle { (n : ℕ) → Proceeds D.Disk files.old n files.old }
+    requires idle { Proceeds D.Disk files.old number files.old }
     requires lawful { objection (superblock_of files.old) (names_of files.old.held.files) call.now ≡ None }
     requires meant { IsMeant files.old.held.files call.now target }
     requires passed { verdict (superblock_of files.old) (just_opened 0 files.old.held) (key_in target) call.now ≡ None }
     requires mapped { used files.old.held.files ≤ (superblock_of files.old).geometry.blocks }
-    ensures reply { IfOk result (λ r. (r.0 ≡ done_reply files.old.held (key_in target) call.now) × (r.1 ≡ done_reply files.old.held (key_in target) call.now)) }
+    ensures reply { IfOk result (λ r. AreBoth (done_reply files.old.held (key_in target) call.now) r) }
     ensures held { OnOk result (files.new.held ≡ done_held files.old.held (key_in target) call.now) }
-    ensures synced { OnOk result (call.now ≡ Sync → IsSynced D.Disk number files.old files.new) }
-    ensures working { OnOk result (files.new.failed ≡ false) }
-    ensures memory { IsErrOf result StoreRefusal.Memory → (files.new.held ≡ files.old.held) × (files.new.failed ≡ false) }
-    ensures failed { IsErrOf result StoreRefusal.Disk → (files.new.failed ≡ true) × Rose (D.fault_count files.old.disk) (D.fault_count files.new.disk) }
-    ensures proceeds { Proceeds D.Disk files.old number files.new }
+    ensures synced { call.now ≡ Sync → OnOk result (IsSynced D.Disk number files.old files.new) }
+    ensures ends { Ends D.Disk files.old number result files.new }
 {
     match call {
         Call::Create { name } => create(files, alloc, name, number),
-        Call::Read { offset, len, .. } => { read(files, alloc, target.unwrap().key, *offset, *len) }
+        Call::Read { offset, len, .. } => {
+            Ok(read(files, alloc, target.unwrap().key, *offset, *len)?)
+        }
         Call::Write { offset, body, .. } => {
             write(files, alloc, target.unwrap().key, *offset, body, number)
         }
@@ -67,12 +66,9 @@ fn create<D: Disk>(
 ) -> Result<(Reply, Reply), StoreRefusal>
     requires working { files.old.failed ≡ false }
     requires lawful { objection (superblock_of files.old) (names_of files.old.held.files) (Create name.now) ≡ None }
-    ensures reply { IfOk result (λ r. (r.0 ≡ Made (next_key files.old.held)) × (r.1 ≡ Made (next_key files.old.held))) }
+    ensures reply { IfOk result (λ r. AreBoth (Made (next_key files.old.held)) r) }
     ensures held { OnOk result (files.new.held ≡ record { files = affected_held (Makes name.now) (next_key files.old.held) files.old.held.files; next = files.old.held.next + 1 }) }
-    ensures working { files.new.failed ≡ false }
-    ensures memory { IsErrOf result StoreRefusal.Memory → files.new ≡ files.old }
-    ensures never { IsErrOf result StoreRefusal.Disk → ⊥ }
-    ensures proceeds { Proceeds D.Disk files.old number files.new }
+    ensures ends { Ends D.Disk files.old number result files.new }
 {
     let key = files.make(alloc, name, number)?;
     Ok((Reply::Made(key), Reply::Made(key)))
@@ -85,18 +81,13 @@ fn read<D: Disk>(
     key: FileKey,
     offset: u64,
     len: u64,
-) -> Result<(Reply, Reply), StoreRefusal>
+) -> Result<(Reply, Reply), AllocError>
     requires { IsSome (find_key (λ f. f.key) key files.now.held.files) }
-    ensures reply { IfOk result (λ r. (r.0 ≡ Data (read_at offset len (bytes_of key files.now.held.files))) × (r.1 ≡ r.0)) }
-    ensures never { IsErrOf result StoreRefusal.Disk → ⊥ }
+    ensures reply { IfOk result (λ r. AreBoth (Data (read_at offset len (bytes_of key files.now.held.files))) r) }
 {
-    let Ok(bytes) = files.body(key).read(alloc, offset, len) else {
-        return Err(StoreRefusal::Memory);
-    };
-    match bytes.clone() {
-        Ok(again) => Ok((Reply::Data(bytes), Reply::Data(again))),
-        Err(_) => Err(StoreRefusal::Memory),
-    }
+    let bytes = files.body(key).read(alloc, offset, len)?;
+    let again = bytes.clone()?;
+    Ok((Reply::Data(bytes), Reply::Data(again)))
 }
 
 fn write<D: Disk>(
@@ -112,12 +103,9 @@ fn write<D: Disk>(
     requires some { 1 ≤ length body.now }
     requires end { offset + length body.now ≤ 16777216 }
     requires room { length (touched (Writes offset body.now) (length (bytes_of key files.old.held.files))) + used files.old.held.files ≤ (superblock_of files.old).geometry.blocks }
-    ensures reply { IfOk result (λ r. (r.0 ≡ Reply.Done) × (r.1 ≡ Reply.Done)) }
+    ensures reply { IfOk result (λ r. AreBoth Reply.Done r) }
     ensures held { OnOk result (files.new.held ≡ record files.old.held { files = affected_held (Writes offset body.now) key files.old.held.files }) }
-    ensures working { OnOk result (files.new.failed ≡ false) }
-    ensures memory { IsErrOf result StoreRefusal.Memory → (files.new.held ≡ files.old.held) × (files.new.failed ≡ false) }
-    ensures failed { IsErrOf result StoreRefusal.Disk → (files.new.failed ≡ true) × Rose (D.fault_count files.old.disk) (D.fault_count files.new.disk) }
-    ensures proceeds { Proceeds D.Disk files.old number files.new }
+    ensures ends { Ends D.Disk files.old number result files.new }
 {
     files.write(alloc, key, offset, body.as_slice(), number)?;
     Ok((Reply::Done, Reply::Done))
@@ -134,12 +122,9 @@ fn truncate<D: Disk>(
     requires live { IsSome (find_key (λ f. f.key) key files.old.held.files) }
     requires end { size ≤ 16777216 }
     requires room { length (touched (Resizes size) (length (bytes_of key files.old.held.files))) + used files.old.held.files ≤ (superblock_of files.old).geometry.blocks }
-    ensures reply { IfOk result (λ r. (r.0 ≡ Reply.Done) × (r.1 ≡ Reply.Done)) }
+    ensures reply { IfOk result (λ r. AreBoth Reply.Done r) }
     ensures held { OnOk result (files.new.held ≡ record files.old.held { files = affected_held (Resizes size) key files.old.held.files }) }
-    ensures working { OnOk result (files.new.failed ≡ false) }
-    ensures memory { IsErrOf result StoreRefusal.Memory → (files.new.held ≡ files.old.held) × (files.new.failed ≡ false) }
-    ensures failed { IsErrOf result StoreRefusal.Disk → (files.new.failed ≡ true) × Rose (D.fault_count files.old.disk) (D.fault_count files.new.disk) }
-    ensures proceeds { Proceeds D.Disk files.old number files.new }
+    ensures ends { Ends D.Disk files.old number result files.new }
 {
     files.truncate(alloc, key, size, number)?;
     Ok((Reply::Done, Reply::Done))
@@ -152,12 +137,10 @@ fn remove<D: Disk>(
     number: u64,
 ) -> Result<(Reply, Reply), StoreRefusal>
     requires working { files.old.failed ≡ false }
-    ensures reply { IfOk result (λ r. (r.0 ≡ Reply.Done) × (r.1 ≡ Reply.Done)) }
+    requires live { IsSome (find_key (λ f. f.key) key files.old.held.files) }
+    ensures reply { IfOk result (λ r. AreBoth Reply.Done r) }
     ensures held { OnOk result (files.new.held ≡ record files.old.held { files = affected_held Drops key files.old.held.files }) }
-    ensures working { OnOk result (files.new.failed ≡ false) }
-    ensures memory { IsErrOf result StoreRefusal.Memory → files.new ≡ files.old }
-    ensures failed { IsErrOf result StoreRefusal.Disk → (files.new.failed ≡ true) × Rose (D.fault_count files.old.disk) (D.fault_count files.new.disk) }
-    ensures proceeds { Proceeds D.Disk files.old number files.new }
+    ensures ends { Ends D.Disk files.old number result files.new }
 {
     files.remove(alloc, key, number)?;
     Ok((Reply::Done, Reply::Done))
@@ -170,13 +153,10 @@ pub(crate) fn commit<D: Disk>(
     number: u64,
 ) -> Result<(Reply, Reply), StoreRefusal>
     requires working { files.old.failed ≡ false }
-    ensures reply { IfOk result (λ r. (r.0 ≡ Reply.Done) × (r.1 ≡ Reply.Done)) }
+    ensures reply { IfOk result (λ r. AreBoth Reply.Done r) }
     ensures held { files.new.held ≡ files.old.held }
     ensures synced { OnOk result (IsSynced D.Disk number files.old files.new) }
-    ensures working { OnOk result (files.new.failed ≡ false) }
-    ensures memory { IsErrOf result StoreRefusal.Memory → files.new.failed ≡ false }
-    ensures failed { IsErrOf result StoreRefusal.Disk → (files.new.failed ≡ true) × Rose (D.fault_count files.old.disk) (D.fault_count files.new.disk) }
-    ensures proceeds { Proceeds D.Disk files.old number files.new }
+    ensures ends { Ends D.Disk files.old number result files.new }
 {
     files.sync(alloc, number)?;
     Ok((Reply::Done, Reply::Done))

@@ -5,6 +5,7 @@ ghost use Rattle.plain_model.specs.State.{names_of};
 ghost use Rattle.file_store.specs.Stores.{superblock_of};
 ghost use Rattle.hsm_core.specs.Refusals.{Judges};
 
+use crate::lookups::find;
 use disk_model::Disk;
 use file_store::FileStore;
 use hsm_types::{ACCESS_BYTES, CallRefusal, FILE_BYTES, Word, can_name};
@@ -32,7 +33,7 @@ pub(crate) fn judge_length(len: u64) -> Result<(), CallRefusal>
 pub(crate) fn judge_absence<D: Disk>(files: &FileStore<D>, name: &Word) -> Result<(), CallRefusal>
     ensures { Judges result (exists name.now (names_of files.now.held.files)) }
 {
-    match files.find(name) {
+    match find(files, name) {
         Some(_) => Err(CallRefusal::Exists),
         None => Ok(()),
     }
@@ -42,7 +43,7 @@ pub(crate) fn judge_inodes<D: Disk>(files: &FileStore<D>) -> Result<(), CallRefu
     ensures { Judges result (no_inodes (superblock_of files.now).geometry.files (names_of files.now.held.files)) }
 {
     let count = files.superblock().geometry.files;
-    if files.len() == count {
+    if files.meta().catalog().names().len() == count {
         Err(CallRefusal::NoInodes {
             count: u64::from(count),
         })

@@ -25,7 +25,7 @@ use file_store::{FileStore, StoreRefusal};
 use hsm_types::{Call, CallRefusal, CallerId, DmCall, DmRefusal, DmReply, FileKey, Reply, Sid};
 use indexmap::IndexMap;
 use plain_model::{Action, Actor, Answer, Entry, History, run_is_good};
-use std::alloc::{AllocError, Global};
+use std::alloc::Global;
 use std::marker::Model;
 use std::snapshot::Snapshot;
 
@@ -83,8 +83,8 @@ fn undone(why: StoreRefusal) -> Reply
     ensures failed { why ≡ StoreRefusal.Disk → result ≡ Reply.Refused CallRefusal.Disk }
 {
     match why {
-        StoreRefusal::Memory => Reply::Refused(CallRefusal::Memory),
         StoreRefusal::Disk => Reply::Refused(CallRefusal::Disk),
+        _ => Reply::Refused(CallRefusal::Memory),
     }
 }
 
@@ -94,8 +94,8 @@ fn unserved(why: StoreRefusal) -> DmReply
     ensures failed { why ≡ StoreRefusal.Disk → result ≡ DmReply.Refused DmRefusal.Disk }
 {
     match why {
-        StoreRefusal::Memory => DmReply::Refused(DmRefusal::Memory),
         StoreRefusal::Disk => DmReply::Refused(DmRefusal::Disk),
+        _ => DmReply::Refused(DmRefusal::Memory),
     }
 }
 
@@ -125,18 +125,16 @@ fn keep(
     ensures memory { IsErrOf done StoreRefusal.Memory → (result ≡ Reply.Refused CallRefusal.Memory) × (history.new.items ≡ history.old.items) }
     ensures failed { IsErrOf done StoreRefusal.Disk → (result ≡ Reply.Refused CallRefusal.Disk) × (history.new.items ≡ history.old.items ++ entry_of actor action (Answer.Call (Reply.Refused CallRefusal.Disk)) ∷ []) }
 {
-    match done {
-        Ok((reply, again)) => {
-            note(history, actor, action, Answer::Call(again));
-            reply
-        }
-        Err(StoreRefusal::Memory) => Reply::Refused(CallRefusal::Memory),
-        Err(StoreRefusal::Disk) => {
-            let fault = Answer::Call(Reply::Refused(CallRefusal::Disk));
-            note(history, actor, action, fault);
-            Reply::Refused(CallRefusal::Disk)
-        }
-    }
+    let (reply, again) = match done {
+        Ok(replies) => replies,
+        Err(StoreRefusal::Disk) => (
+            Reply::Refused(CallRefusal::Disk),
+            Reply::Refused(CallRefusal::Disk),
+        ),
+        Err(_) => return Reply::Refused(CallRefusal::Memory),
+    };
+    note(history, actor, action, Answer::Call(again));
+    reply
 }
 
 /// Keeps a session's call, for which there is room, and answers it. Nothing is kept of one that lacked memory.
@@ -144,24 +142,28 @@ fn keep_dm(
     history: &mut Vec<Entry>,
     sid: Sid,
     call: DmCall,
-    done: Result<(DmReply, DmReply), AllocError>,
+    done: Result<(DmReply, DmReply), StoreRefusal>,
 ) -> DmReply
     requires { vec_len history.old < vec_capacity history.old }
     ensures kept { IfOk done (λ r. (result ≡ r.0) × (history.new.items ≡ history.old.items ++ entry_of (Actor.Session sid) (Action.Dm call) (Answer.Dm r.1) ∷ [])) }
-    ensures memory { OnErr done ((result ≡ DmReply.Refused DmRefusal.Memory) × (history.new.items ≡ history.old.items)) }
+    ensures memory { IsErrOf done StoreRefusal.Memory → (result ≡ DmReply.Refused DmRefusal.Memory) × (history.new.items ≡ history.old.items) }
+    ensures failed { IsErrOf done StoreRefusal.Disk → (result ≡ DmReply.Refused DmRefusal.Disk) × (history.new.items ≡ history.old.items ++ entry_of (Actor.Session sid) (Action.Dm call) (Answer.Dm (DmReply.Refused DmRefusal.Disk)) ∷ []) }
 {
-    match done {
-        Ok((reply, again)) => {
-            note(
-                history,
-                Actor::Session(sid),
-                Action::Dm(call),
-                Answer::Dm(again),
-            );
-            reply
-        }
-        Err(AllocError) => DmReply::Refused(DmRefusal::Memory),
-    }
+    let (reply, again) = match done {
+        Ok(replies) => replies,
+        Err(StoreRefusal::Disk) => (
+            DmReply::Refused(DmRefusal::Disk),
+            DmReply::Refused(DmRefusal::Disk),
+        ),
+        Err(_) => return DmReply::Refused(DmRefusal::Memory),
+    };
+    note(
+        history,
+        Actor::Session(sid),
+        Action::Dm(call),
+        Answer::Dm(again),
+    );
+    reply
 }
 
 impl<D: Disk> Hsm<D> {
@@ -200,7 +202,7 @@ impl<D: Disk> Hsm<D> {
         match FileStore::open(alloc, disk) {
             Ok(files) => Ok(Hsm {
                 opened: Snapshot::of(&files),
-                base: files.number(),
+                base: files.meta().number(),
                 files,
                 stamps: IndexMap::new(alloc),
                 sessions,
@@ -237,6 +239,7 @@ impl<D: Disk> Hsm<D> {
         if let Err(why) = make_ready(&self.files, &mut self.history, &mut self.stamps) {
             return unserved(why);
         }
+        let number = self.base + self.history.len() as u64;
         let done = serve(
             &mut self.files,
             &self.stamps,
@@ -244,6 +247,7 @@ impl<D: Disk> Hsm<D> {
             alloc,
             sid,
             &call,
+            number,
         );
         keep_dm(&mut self.history, sid, call, done)
     }

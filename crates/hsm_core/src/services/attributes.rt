@@ -5,32 +5,28 @@ ghost use Rattle.plain_model.specs.Keyed.{find_key};
 ghost use Rattle.file_store.specs.Stores.{Proceeds};
 ghost use Rattle.hsm_core.specs.Services.{null, AreOf, service_on, IsServed};
 
-use crate::services::replies::{done, refused, twice};
+use crate::services::replies::{changed, refused, twice};
 use disk_model::Disk;
-use file_store::FileStore;
+use file_store::{FileStore, StoreRefusal};
 use hsm_types::{AttrName, Bytes, DmRefusal, DmReply, Handle};
 use std::alloc::{AllocError, Global};
 
 /// Gives one of them a value.
 pub(crate) fn set<D: Disk>(
     files: &mut FileStore<D>,
+    alloc: Global,
     handle: Handle,
     name: AttrName,
     value: &Bytes,
-) -> Result<(DmReply, DmReply), AllocError>
+    number: u64,
+) -> Result<(DmReply, DmReply), StoreRefusal>
     requires working { files.old.failed ≡ false }
     requires live { IsSome (find_key (λ f. f.key) handle.key files.old.held.files) }
-    requires idle { (n : ℕ) → Proceeds D.Disk files.old n files.old }
-    ensures { IsServed D.Disk files.old (SetDmAttr null handle name value.now) result files.new }
+    requires idle { Proceeds D.Disk files.old number files.old }
+    ensures { IsServed D.Disk files.old number (SetDmAttr null handle name value.now) result files.new }
 {
-    if let Err(why) = files.judge_attribute(handle.key, name, value) {
-        return refused(why);
-    }
-    match files.set_attribute(handle.key, name, value) {
-        Ok(()) => done(),
-        // Nothing else refuses it.
-        Err(_) => Err(AllocError),
-    }
+    let value = value.clone()?;
+    changed(files.set_attr(alloc, handle.key, name, value, number))
 }
 
 /// The value of one of them.
@@ -42,27 +38,27 @@ pub(crate) fn value<D: Disk>(
     requires { IsSome (find_key (λ f. f.key) handle.key files.now.held.files) }
     ensures { IfOk result (λ r. AreOf (service_on files.now (GetDmAttr null handle name)) r) }
 {
-    match files.attributes(handle.key).get(name) {
+    let attributes = files.meta().catalog().attributes(handle.key).unwrap();
+    match attributes.get(name) {
         Some(value) => twice(DmReply::Data(value.clone()?)),
-        None => refused(DmRefusal::NoAttr),
+        None => Ok(refused(DmRefusal::NoAttr)),
     }
 }
 
 /// Takes one of them away.
 pub(crate) fn remove<D: Disk>(
     files: &mut FileStore<D>,
+    alloc: Global,
     handle: Handle,
     name: AttrName,
-) -> Result<(DmReply, DmReply), AllocError>
+    number: u64,
+) -> Result<(DmReply, DmReply), StoreRefusal>
     requires working { files.old.failed ≡ false }
     requires live { IsSome (find_key (λ f. f.key) handle.key files.old.held.files) }
-    requires idle { (n : ℕ) → Proceeds D.Disk files.old n files.old }
-    ensures { IsServed D.Disk files.old (RemoveDmAttr null handle name) result files.new }
+    requires idle { Proceeds D.Disk files.old number files.old }
+    ensures { IsServed D.Disk files.old number (RemoveDmAttr null handle name) result files.new }
 {
-    match files.remove_attribute(handle.key, name) {
-        Ok(()) => done(),
-        Err(why) => refused(why),
-    }
+    changed(files.drop_attr(alloc, handle.key, name, number))
 }
 
 /// Their names.
@@ -74,5 +70,6 @@ pub(crate) fn list<D: Disk>(
     requires { IsSome (find_key (λ f. f.key) handle.key files.now.held.files) }
     ensures { IfOk result (λ r. AreOf (service_on files.now (GetAllDmAttr null handle)) r) }
 {
-    twice(DmReply::Names(files.attributes(handle.key).list(alloc)?))
+    let attributes = files.meta().catalog().attributes(handle.key).unwrap();
+    twice(DmReply::Names(attributes.list(alloc)?))
 }

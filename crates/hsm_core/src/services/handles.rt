@@ -7,6 +7,7 @@ ghost use Rattle.file_store.specs.Stores.{superblock_of};
 ghost use Rattle.hsm_core.specs.Store.{state_with};
 ghost use Rattle.hsm_core.specs.Services.{null, asked, AreOf, service_on};
 
+use crate::lookups;
 use crate::services::replies::{refused, twice};
 use crate::stamps::stamp;
 use disk_model::Disk;
@@ -22,9 +23,9 @@ pub(crate) fn find<D: Disk>(
 ) -> Result<(DmReply, DmReply), AllocError>
     ensures { IfOk result (λ r. AreOf (service_on files.now (PathToHandle name.now)) r) }
 {
-    match files.find(name) {
+    match lookups::find(files, name) {
         Some(key) => twice(DmReply::Handle(dm_handles::make(files.superblock().fsid, key))),
-        None => refused(DmRefusal::NoObject),
+        None => Ok(refused(DmRefusal::NoObject)),
     }
 }
 
@@ -40,6 +41,6 @@ pub(crate) fn attributes<D: Disk>(
     twice(DmReply::Attr {
         size: files.body(handle.key).len(),
         stamp: stamp(stamps, handle.key),
-        blocks: files.mapped(handle.key).unwrap(),
+        blocks: files.meta().catalog().mapped(handle.key).unwrap(),
     })
 }

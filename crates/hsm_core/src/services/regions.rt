@@ -5,32 +5,27 @@ ghost use Rattle.plain_model.specs.Keyed.{find_key};
 ghost use Rattle.file_store.specs.Stores.{Proceeds};
 ghost use Rattle.hsm_core.specs.Services.{null, AreOf, service_on, IsServed};
 
-use crate::services::replies::{done, refused, twice};
+use crate::services::replies::{changed, twice};
 use disk_model::Disk;
-use file_store::FileStore;
+use file_store::{FileStore, StoreRefusal};
 use hsm_types::{DmReply, Handle, Regions};
-use managed_regions::judge;
-use std::alloc::AllocError;
+use std::alloc::{AllocError, Global};
 
 /// Replaces them.
 pub(crate) fn set<D: Disk>(
     files: &mut FileStore<D>,
+    alloc: Global,
     handle: Handle,
     regions: &Regions,
-) -> Result<(DmReply, DmReply), AllocError>
+    number: u64,
+) -> Result<(DmReply, DmReply), StoreRefusal>
     requires working { files.old.failed ≡ false }
     requires live { IsSome (find_key (λ f. f.key) handle.key files.old.held.files) }
-    requires idle { (n : ℕ) → Proceeds D.Disk files.old n files.old }
-    ensures { IsServed D.Disk files.old (SetRegion null handle regions.now) result files.new }
+    requires idle { Proceeds D.Disk files.old number files.old }
+    ensures { IsServed D.Disk files.old number (SetRegion null handle regions.now) result files.new }
 {
-    if let Err(why) = judge(regions.as_slice()) {
-        return refused(why);
-    }
-    match files.set_regions(handle.key, regions.clone()?) {
-        Ok(()) => done(),
-        // Nothing else refuses it.
-        Err(_) => Err(AllocError),
-    }
+    let regions = regions.clone()?;
+    changed(files.set_regions(alloc, handle.key, regions, number))
 }
 
 /// Tells them.
@@ -41,6 +36,6 @@ pub(crate) fn list<D: Disk>(
     requires { IsSome (find_key (λ f. f.key) handle.key files.now.held.files) }
     ensures { IfOk result (λ r. AreOf (service_on files.now (GetRegion null handle)) r) }
 {
-    let regions = files.regions(handle.key).list();
+    let regions = files.meta().catalog().regions(handle.key).unwrap().list();
     twice(DmReply::Regions(regions.clone()?))
 }

@@ -1,28 +1,32 @@
 //! Replies as they are given: twice.
-ghost use Rattle.std.specs.Prelude.{◌≡◌, IfOk, IsOk};
+ghost use Rattle.std.specs.Prelude.{◌≡◌, IfOk};
+ghost use Rattle.hsm_core.specs.Ends.{AreBoth};
+ghost use Rattle.hsm_core.specs.Services.{replies_to};
 
+use file_store::StoreRefusal;
 use hsm_types::{DmRefusal, DmReply};
 use std::alloc::AllocError;
 
 pub(crate) fn twice(reply: DmReply) -> Result<(DmReply, DmReply), AllocError>
-    ensures { IfOk result (λ r. (r.0 ≡ reply) × (r.1 ≡ reply)) }
+    ensures { IfOk result (λ r. AreBoth reply r) }
 {
     let again = reply.clone()?;
     Ok((reply, again))
 }
 
-/// It takes no memory.
-pub(crate) fn refused(why: DmRefusal) -> Result<(DmReply, DmReply), AllocError>
-    ensures replies { IfOk result (λ r. (r.0 ≡ DmReply.Refused why) × (r.1 ≡ DmReply.Refused why)) }
-    ensures ok { IsOk result }
+pub(crate) fn refused(why: DmRefusal) -> (DmReply, DmReply)
+    ensures { AreBoth (DmReply.Refused why) result }
 {
-    Ok((DmReply::Refused(why), DmReply::Refused(why)))
+    (DmReply::Refused(why), DmReply::Refused(why))
 }
 
-/// It takes no memory.
-pub(crate) fn done() -> Result<(DmReply, DmReply), AllocError>
-    ensures replies { IfOk result (λ r. (r.0 ≡ DmReply.Done) × (r.1 ≡ DmReply.Done)) }
-    ensures ok { IsOk result }
+/// The replies to a change of what is kept with a file.
+pub(crate) fn changed(done: Result<(), StoreRefusal>) -> Result<(DmReply, DmReply), StoreRefusal>
+    ensures { result ≡ replies_to done }
 {
-    Ok((DmReply::Done, DmReply::Done))
+    match done {
+        Ok(()) => Ok((DmReply::Done, DmReply::Done)),
+        Err(StoreRefusal::Part(why)) => Ok(refused(why)),
+        Err(why) => Err(why),
+    }
 }

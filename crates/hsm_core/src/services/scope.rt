@@ -9,6 +9,7 @@ ghost use Rattle.hsm_core.specs.Refusals.{Judges};
 ghost use Rattle.hsm_core.specs.Store.{state_with};
 ghost use Rattle.hsm_core.specs.Services.{NamesLive};
 
+use crate::lookups::is_live;
 use disk_model::Disk;
 use dm_sessions::Sessions;
 use file_store::FileStore;
@@ -61,7 +62,7 @@ fn judge_handle<D: Disk>(files: &FileStore<D>, handle: Handle) -> Result<(), DmR
     ensures judged { Judges result (bad_handle (superblock_of files.now) files.now.held.files handle) }
     ensures live { OnOk result (IsSome (find_key (λ f. f.key) handle.key files.now.held.files)) }
 {
-    if dm_handles::fsid(&handle) == files.superblock().fsid && files.is_live(handle.key) {
+    if dm_handles::fsid(&handle) == files.superblock().fsid && is_live(files, handle.key) {
         Ok(())
     } else {
         Err(DmRefusal::NoObject)

@@ -20,7 +20,7 @@ pub(crate) fn create(
     ensures err { OnErr result (sessions.new ≡ sessions.old) }
 {
     if let Err(why) = sessions.judge(old, info) {
-        return refused(why);
+        return Ok(refused(why));
     }
     match sessions.create(old, info.clone()?) {
         Ok(sid) => Ok((DmReply::Session(sid), DmReply::Session(sid))),
@@ -42,6 +42,6 @@ pub(crate) fn query(sessions: &Sessions, target: Sid) -> Result<(DmReply, DmRepl
 {
     match sessions.info(target) {
         Some(info) => twice(DmReply::Info(info.clone()?)),
-        None => refused(DmRefusal::NoSession),
+        None => Ok(refused(DmRefusal::NoSession)),
     }
 }

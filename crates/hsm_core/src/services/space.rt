@@ -14,7 +14,7 @@ pub(crate) fn space<D: Disk>(files: &FileStore<D>) -> Result<(DmReply, DmReply),
     ensures { IfOk result (λ r. AreOf (service_on files.now GetSpace) r) }
 {
     twice(DmReply::Space {
-        used: files.used(),
+        used: files.meta().catalog().used(),
         total: u64::from(files.superblock().geometry.blocks),
     })
 }

@@ -1,18 +1,21 @@
-use Rattle.std.proofs.Common.{ℕ, ◌+◌}
-use Rattle.hsm_types.specs.Sessions.{SessionTable}
+use Rattle.std.proofs.Common.{◌≡◌, ◌+◌, subst}
+use Rattle.std.specs.Prelude.{IfOk, OnOk}
+use Rattle.hsm_types.specs.declared.calls.Reply.{Reply}
+use Rattle.plain_model.specs.State.{State}
 use Rattle.file_store.specs.Stores.{superblock_of}
+use Rattle.hsm_core.specs.Ends.{AreBoth}
 use Rattle.hsm_core.specs.Store.{state_with}
-use Rattle.hsm_core.proofs.Calls.{meant_replies, meant_leaves}
+use Rattle.hsm_core.proofs.Calls.{reply_meant, left_meant}
 use Rattle.hsm_core.proofs.answering.answer.Goals as goal
 
 pub returns-in-Ok-clause-replies : goal.returns-in-Ok-clause-replies
-returns-in-Ok-clause-replies g c =
-    meant_replies (superblock_of c.args.files.now) c.args.files.now.held c.args.stamps.now.entries c.args.call.now c.in-Ok.target c.args.number c.in-Ok.ensures.judged c.in-Ok.ensures.meant c.decide.result c.decide.ensures.replies
+returns-in-Ok-clause-replies g c sessions =
+    subst (λ (reply : Reply). IfOk c.decide.result (λ r. AreBoth reply r))
+    (reply_meant (superblock_of c.args.files.now) (state_with c.args.files.now.held c.args.stamps.now.entries sessions c.args.number) c.args.call.now c.in-Ok.target c.in-Ok.ensures.judged c.in-Ok.ensures.meant)
+    (c.decide.ensures.replies sessions)
 
 pub returns-in-Ok-clause-left : goal.returns-in-Ok-clause-left
-returns-in-Ok-clause-left g c =
-    meant_leaves (superblock_of c.args.files.now) c.args.files.now.held c.args.stamps.now.entries c.args.call.now c.in-Ok.target c.args.number c.in-Ok.ensures.judged c.in-Ok.ensures.meant c.decide.result
-    (λ (sessions : SessionTable). state_with c.decide.new.files.held c.decide.new.stamps.entries sessions (c.args.number + 1)) c.decide.ensures.left
-
-pub returns-in-Err-clause-proceeds : goal.returns-in-Err-clause-proceeds
-returns-in-Err-clause-proceeds g c = c.requires.idle c.args.number
+returns-in-Ok-clause-left g c sessions caller =
+    subst (λ (st : State). OnOk c.decide.result (state_with c.decide.new.files.held c.decide.new.stamps.entries sessions (c.args.number + 1) ≡ st))
+    (left_meant (superblock_of c.args.files.now) (state_with c.args.files.now.held c.args.stamps.now.entries sessions c.args.number) c.args.call.now c.in-Ok.target c.in-Ok.ensures.judged c.in-Ok.ensures.meant caller)
+    (c.decide.ensures.left sessions caller)

@@ -1,12 +1,11 @@
-use Rattle.std.proofs.Common.{List, length, refl, ap, subst, arith}
+use Rattle.std.proofs.Common.{◌+◌, refl, ap, subst, arith}
 use Rattle.hsm_types.specs.declared.calls.Reply.{Reply}
-use Rattle.plain_model.specs.declared.entries.Entry.{Entry}
 use Rattle.plain_model.specs.declared.entries.Actor.TheVariants.{Store as TheStore}
 use Rattle.plain_model.specs.declared.entries.Action.TheVariants.{Commit}
 use Rattle.plain_model.specs.declared.entries.Answer.TheVariants.{Call as Replied}
-use Rattle.hsm_core.specs.Store.{Store}
+use Rattle.hsm_core.specs.Store.{Store, state_with}
 use Rattle.hsm_core.specs.Answers.{IsCommitted}
-use Rattle.hsm_core.proofs.Events.{committed, not_begun, Keeps, IsNext}
+use Rattle.hsm_core.proofs.Events.{event, always, not_begun, IsNext}
 use Rattle.hsm_core.proofs.store.Hsm.commit.Given.{Over}
 use Rattle.hsm_core.proofs.store.Hsm.commit.Goals.{After-keep}
 use Rattle.hsm_core.proofs.store.Hsm.commit.Goals as goal
@@ -18,39 +17,41 @@ before g c = record { opened = c.self.inside.opened.value; files = c.self.inside
 abbrev after : (g : Over) → After-keep g → Store g.row.D.Denot
 after g c = record { opened = c.self.inside.opened.value; files = c.commit-done.new.files; stamps = c.make_ready.new.stamps.entries; sessions = c.self.inside.sessions; history = c.keep.new.history.items }
 
-event : (g : Over) (c : After-keep g) → IsNext g.D.Disk (before g c) TheStore Commit (Replied c.keep.result) (after g c)
-event g c =
-    committed g.D.Disk (before g c) (after g c) c.self.invariant.0 c.self.invariant.1 c.in_default.ensures.working refl _ c.commit-done.result c.keep.result
-    (omega (arith, c.self.invariant.2, c.len.ensures, ap length c.make_ready.ensures.same)) c.make_ready.ensures.stamps refl
+next : (g : Over) (c : After-keep g) → IsNext g.D.Disk (before g c) TheStore Commit (Replied c.keep.result) (after g c)
+next g c =
+    event g.D.Disk (before g c) c.self.invariant.0 c.self.invariant.1 c.make_ready.new.stamps.entries c.make_ready.new.history.items c.make_ready.ensures.stamps c.make_ready.ensures.same (after g c) c.in_default.ensures.working refl
+    TheStore Commit tt (λ (r : Reply). Replied r) _ c.keep.result _ (omega (arith, c.self.invariant.2, c.len.ensures)) c.commit-done.result
     (record {
+      exact = refl;
       replies = c.commit-done.ensures.reply;
-      held = c.commit-done.ensures.held;
-      synced = c.commit-done.ensures.synced;
-      working = c.commit-done.ensures.working;
-      memory = c.commit-done.ensures.memory;
-      failed = c.commit-done.ensures.failed;
-      proceeds = c.commit-done.ensures.proceeds;
+      leaves = (always c.commit-done.result (λ i. state_with (c.commit-done.ensures.held i) c.make_ready.new.stamps.entries c.self.inside.sessions (c.self.inside.base + c.len.result + 1))).0;
+      stamps = (always c.commit-done.result refl).1;
+      sessions = (always c.commit-done.result refl).1;
+      synced = λ syncs. c.commit-done.ensures.synced;
+      ends = c.commit-done.ensures.ends;
     })
-    (subst (λ (old : List Entry). Keeps old TheStore Commit c.commit-done.result c.keep.result c.keep.new.history.items) c.make_ready.ensures.same
-    (record { kept = c.keep.ensures.kept; memory = c.keep.ensures.memory; failed = c.keep.ensures.failed }))
+    (record {
+      kept = c.keep.ensures.kept;
+      memory = λ lacks. (ap (λ (r : Reply). Replied r) (c.keep.ensures.memory lacks).0, (c.keep.ensures.memory lacks).1);
+      failed = λ fails. (ap (λ (r : Reply). Replied r) (c.keep.ensures.failed fails).0, (c.keep.ensures.failed fails).1);
+    })
 
 pub returns-in-Err-clause-committed : goal.returns-in-Err-clause-committed
 returns-in-Err-clause-committed g c =
     let s : Store g.row.D.Denot = record { opened = c.self.inside.opened.value; files = c.self.inside.files; stamps = c.self.inside.stamps.entries; sessions = c.self.inside.sessions; history = c.self.inside.history.items } in
-    let t : Store g.row.D.Denot = record { opened = c.self.inside.opened.value; files = c.self.inside.files; stamps = c.make_ready.new.stamps.entries; sessions = c.self.inside.sessions; history = c.make_ready.new.history.items } in
+    let t : Store g.row.D.Denot = record s { stamps = c.make_ready.new.stamps.entries; history = c.make_ready.new.history.items } in
     subst (λ (old : Store g.row.D.Denot). IsCommitted g.D.Disk old c.undone.result t) c.self.view_is
-    (not_begun g.D.Disk s t TheStore Commit tt (Replied c.undone.result) c.in-Err.why c.self.invariant.0 c.self.invariant.1
-    (λ i. record { opened = c.self.inside.opened.value; files = c.self.inside.files; stamps = c.make_ready.ensures.stamps i; sessions = c.self.inside.sessions; history = c.make_ready.ensures.same i }) c.make_ready.ensures.idle
+    (not_begun g.D.Disk s c.self.invariant.0 c.self.invariant.1 c.make_ready.new.stamps.entries c.make_ready.new.history.items c.make_ready.ensures.stamps c.make_ready.ensures.same TheStore Commit tt (Replied c.undone.result) c.in-Err.why c.make_ready.ensures.idle
     (record { memory = λ is. ap (λ (r : Reply). Replied r) (c.undone.ensures.memory is); failed = λ is. ap (λ (r : Reply). Replied r) (c.undone.ensures.failed is) }) c.in-Err.ensures.refused)
 
 pub invariant_of-self-2 : goal.invariant_of-self-2
-invariant_of-self-2 g c = let next = event g (goal.at.invariant_of-self-2 g c).After-keep in (next.0, next.1, c.self.invariant.2, c.self.invariant.3)
+invariant_of-self-2 g c = let is = next g (goal.at.invariant_of-self-2 g c).After-keep in (is.0, is.1, c.self.invariant.2, c.self.invariant.3)
 
 pub returns-clause-committed : goal.returns-clause-committed
-returns-clause-committed g c = subst (λ (old : Store g.row.D.Denot). IsCommitted g.D.Disk old c.keep.result (after g (goal.at.returns-clause-committed g c).After-keep)) c.self.view_is (event g (goal.at.returns-clause-committed g c).After-keep).2
+returns-clause-committed g c = subst (λ (old : Store g.row.D.Denot). IsCommitted g.D.Disk old c.keep.result (after g (goal.at.returns-clause-committed g c).After-keep)) c.self.view_is (next g (goal.at.returns-clause-committed g c).After-keep).2
 
 pub returns-clause-safe : goal.returns-clause-safe
-returns-clause-safe g c = (event g (goal.at.returns-clause-safe g c).After-keep).1.now
+returns-clause-safe g c = (next g (goal.at.returns-clause-safe g c).After-keep).1.now
 
 pub returns-in-Err-clause-safe : goal.returns-in-Err-clause-safe
 returns-in-Err-clause-safe g c = rw (c.make_ready.ensures.same) c.self.invariant.1.now

@@ -1,4 +1,5 @@
 use Rattle.std.proofs.Common.{sym, ◌∙◌, ap}
+use Rattle.meta_store.specs.Meta.{Meta}
 use Rattle.hsm_core.specs.Store.{Store}
 use Rattle.hsm_core.proofs.Runs.{HasRun-opened}
 use Rattle.hsm_core.proofs.Safety.{safe_opened}
@@ -9,6 +10,6 @@ invariant_of-result g c =
     let s : Store g.row.D.Denot = record { opened = c.of.result.value; files = c.in-Ok-open.files; stamps = c.new-in-Ok-open.result.entries; sessions = c.in-Ok.sessions; history = c.new-in-Ok-open-2.result.items } in (
       HasRun-opened s c.of.ensures c.new-in-Ok-open-2.ensures.items c.new-in-Ok-open.ensures.empty c.in-Ok.ensures c.in-Ok-open.ensures.lawful.opening,
       safe_opened g.D.Disk s c.of.ensures c.new-in-Ok-open-2.ensures.items c.in-Ok-open.ensures.found.1 c.in-Ok-open.ensures.found.0 c.in-Ok-open.ensures.durable (g.met.D.Disk.only_now c.in-Ok-open.files.disk),
-      c.number.ensures.number ∙ sym (ap (λ f. f.meta.number) c.of.ensures),
+      c.number.ensures.number ∙ ap (λ (m : Meta). m.number) c.meta.ensures.meta ∙ sym (ap (λ f. f.meta.number) c.of.ensures),
       c.number.ensures.within,
     )
