@@ -7,6 +7,10 @@ pub data ReplyKind : Type 0 where
   OfSession : ReplyKind
   OfSids : ReplyKind
   OfInfo : ReplyKind
+  OfKinds : ReplyKind
+  OfPacked : ReplyKind
+  OfTokens : ReplyKind
+  OfToken : ReplyKind
   OfAttr : ReplyKind
   OfData : ReplyKind
   OfRegions : ReplyKind
@@ -20,6 +24,10 @@ reply_kind told.Done = OfDone
 reply_kind (told.Session sid) = OfSession
 reply_kind (told.Sids sids) = OfSids
 reply_kind (told.Info info) = OfInfo
+reply_kind (told.Kinds kinds) = OfKinds
+reply_kind (told.Packed bytes tokens) = OfPacked
+reply_kind (told.Tokens tokens) = OfTokens
+reply_kind (told.Token token) = OfToken
 reply_kind (told.Attr size stamp blocks) = OfAttr
 reply_kind (told.Data bytes) = OfData
 reply_kind (told.Regions regions) = OfRegions

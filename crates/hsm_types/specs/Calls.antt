@@ -1,19 +1,29 @@
 -- Who may make a session's call, and what it names.
 use Rattle.hsm_types.specs.declared.dm.DmCall.{DmCall}
-use Rattle.hsm_types.specs.declared.dm.DmCall.TheVariants.{CreateSession, GetAllSessions, QuerySession, GetFileAttr, SetRegion, GetRegion, SetDmAttr, GetDmAttr, RemoveDmAttr, GetAllDmAttr, PathToHandle, GetSpace}
+use Rattle.hsm_types.specs.declared.dm.DmCall.TheVariants.{CreateSession, DestroySession, GetAllSessions, QuerySession, SetDisp, GetDisp, GetEvents, GetAllTokens, FindEventMsg, Respond, CreateUserEvent, SendMsg, GetFileAttr, SetRegion, GetRegion, SetDmAttr, GetDmAttr, RemoveDmAttr, GetAllDmAttr, PathToHandle, GetSpace}
+use Rattle.hsm_types.specs.declared.dm.Right.TheVariants.{Shared, Excl}
 use Rattle.hsm_types.specs.declared.dm.Scope.{Scope}
-use Rattle.hsm_types.specs.declared.dm.Scope.TheVariants.{Anyone, InSession, OnFile}
+use Rattle.hsm_types.specs.declared.dm.Scope.TheVariants.{Anyone, InSession, OnToken, OnFile}
 
 abbrev pub scope_of : DmCall → Scope
 scope_of (CreateSession old info) = Anyone
+scope_of DestroySession = InSession
 scope_of GetAllSessions = Anyone
 scope_of (QuerySession target) = Anyone
-scope_of (GetFileAttr token handle) = OnFile token handle
-scope_of (SetRegion token handle regions) = OnFile token handle
-scope_of (GetRegion token handle) = OnFile token handle
-scope_of (SetDmAttr token handle name value) = OnFile token handle
-scope_of (GetDmAttr token handle name) = OnFile token handle
-scope_of (RemoveDmAttr token handle name) = OnFile token handle
-scope_of (GetAllDmAttr token handle) = OnFile token handle
+scope_of (SetDisp kinds) = InSession
+scope_of GetDisp = InSession
+scope_of (GetEvents max room) = InSession
+scope_of GetAllTokens = InSession
+scope_of (FindEventMsg token room) = OnToken token
+scope_of (Respond token response) = OnToken token
+scope_of (CreateUserEvent body) = InSession
+scope_of (SendMsg target body) = InSession
+scope_of (GetFileAttr token handle) = OnFile token handle Shared
+scope_of (SetRegion token handle regions) = OnFile token handle Excl
+scope_of (GetRegion token handle) = OnFile token handle Shared
+scope_of (SetDmAttr token handle name value) = OnFile token handle Excl
+scope_of (GetDmAttr token handle name) = OnFile token handle Shared
+scope_of (RemoveDmAttr token handle name) = OnFile token handle Excl
+scope_of (GetAllDmAttr token handle) = OnFile token handle Shared
 scope_of (PathToHandle name) = InSession
 scope_of GetSpace = InSession

@@ -3,7 +3,7 @@ use Rattle.std.specs.Prelude.{ℕ, List, [], ◌∷◌, codes, drop}
 use Rattle.hsm_types.specs.declared.calls.Call.{Call}
 use Rattle.hsm_types.specs.declared.calls.Call.TheVariants.{Create, Read, Write, Truncate, Remove, Stat, Sync}
 use Rattle.hsm_types.specs.declared.dm.DmCall.{DmCall}
-use Rattle.hsm_types.specs.declared.dm.DmCall.TheVariants.{CreateSession, GetAllSessions, QuerySession, GetFileAttr, SetRegion, GetRegion, SetDmAttr, GetDmAttr, RemoveDmAttr, GetAllDmAttr, PathToHandle, GetSpace}
+use Rattle.hsm_types.specs.declared.dm.DmCall.TheVariants.{CreateSession, DestroySession, GetAllSessions, QuerySession, SetDisp, GetDisp, GetEvents, GetAllTokens, FindEventMsg, Respond, CreateUserEvent, SendMsg, GetFileAttr, SetRegion, GetRegion, SetDmAttr, GetDmAttr, RemoveDmAttr, GetAllDmAttr, PathToHandle, GetSpace}
 use Rattle.hsm_types.specs.declared.forms.CallVerb.{CallVerb}
 use Rattle.hsm_types.specs.declared.forms.CallVerb.TheVariants as verbs
 use Rattle.hsm_types.specs.declared.forms.DmVerb.{DmVerb}
@@ -12,8 +12,8 @@ use Rattle.hsm_types.specs.declared.parts.Part.{Part}
 use Rattle.hsm_types.specs.declared.parts.Part.TheVariants as part
 use Rattle.hsm_types.specs.declared.parts.PartKind.{PartKind}
 use Rattle.hsm_types.specs.declared.parts.PartKind.TheVariants as kinds
-use Rattle.hsm_types.specs.Answers.{ReplyKind, OfDone, OfSession, OfSids, OfInfo, OfAttr, OfData, OfRegions, OfNames, OfHandle, OfSpace}
-use Rattle.hsm_types.specs.Parts.{number_in, old_in, fetch_in, word_in, handle_in, regions_in, name_in, data_in}
+use Rattle.hsm_types.specs.Answers.{ReplyKind, OfDone, OfSession, OfSids, OfInfo, OfKinds, OfPacked, OfTokens, OfToken, OfAttr, OfData, OfRegions, OfNames, OfHandle, OfSpace}
+use Rattle.hsm_types.specs.Parts.{number_in, count_in, fetch_in, word_in, handle_in, regions_in, name_in, kinds_in, response_in, data_in}
 
 -- ---- callers
 
@@ -56,9 +56,18 @@ call_of verbs.Sync ps = Sync
 
 -- a verb's text, the kinds of what stands behind it, and the kind of the answer to a call that is done
 abbrev pub dm_verb_row : DmVerb → List ℕ × List PartKind × ReplyKind
-dm_verb_row dm_verbs.CreateSession = (codes "session", kinds.Old ∷ kinds.Word ∷ [], OfSession)
+dm_verb_row dm_verbs.CreateSession = (codes "session", kinds.Number ∷ kinds.Word ∷ [], OfSession)
+dm_verb_row dm_verbs.DestroySession = (codes "destroy", [], OfDone)
 dm_verb_row dm_verbs.GetAllSessions = (codes "sessions", [], OfSids)
 dm_verb_row dm_verbs.QuerySession = (codes "query", kinds.Number ∷ [], OfInfo)
+dm_verb_row dm_verbs.SetDisp = (codes "setdisp", kinds.Kinds ∷ [], OfDone)
+dm_verb_row dm_verbs.GetDisp = (codes "disp", [], OfKinds)
+dm_verb_row dm_verbs.GetEvents = (codes "getevents", kinds.Count ∷ kinds.Count ∷ [], OfPacked)
+dm_verb_row dm_verbs.GetAllTokens = (codes "tokens", [], OfTokens)
+dm_verb_row dm_verbs.FindEventMsg = (codes "findmsg", kinds.Number ∷ kinds.Count ∷ [], OfPacked)
+dm_verb_row dm_verbs.Respond = (codes "respond", kinds.Number ∷ kinds.Response ∷ [], OfDone)
+dm_verb_row dm_verbs.CreateUserEvent = (codes "userevent", kinds.Data ∷ [], OfToken)
+dm_verb_row dm_verbs.SendMsg = (codes "send", kinds.Number ∷ kinds.Data ∷ [], OfDone)
 dm_verb_row dm_verbs.GetFileAttr = (codes "fileattr", kinds.Number ∷ kinds.Handle ∷ [], OfAttr)
 dm_verb_row dm_verbs.SetRegion = (codes "setregion", kinds.Number ∷ kinds.Handle ∷ kinds.Regions ∷ [], OfDone)
 dm_verb_row dm_verbs.GetRegion = (codes "getregion", kinds.Number ∷ kinds.Handle ∷ [], OfRegions)
@@ -76,9 +85,18 @@ abbrev pub dm_verb_kinds : DmVerb → List PartKind
 dm_verb_kinds verb = (dm_verb_row verb).1
 
 abbrev pub dm_form : DmCall → DmVerb × List Part
-dm_form (CreateSession old info) = (dm_verbs.CreateSession, part.Old old.0 ∷ part.Word info ∷ [])
+dm_form (CreateSession old info) = (dm_verbs.CreateSession, part.Number old.0 ∷ part.Word info ∷ [])
+dm_form DestroySession = (dm_verbs.DestroySession, [])
 dm_form GetAllSessions = (dm_verbs.GetAllSessions, [])
 dm_form (QuerySession target) = (dm_verbs.QuerySession, part.Number target.0 ∷ [])
+dm_form (SetDisp taken) = (dm_verbs.SetDisp, part.Kinds taken ∷ [])
+dm_form GetDisp = (dm_verbs.GetDisp, [])
+dm_form (GetEvents max room) = (dm_verbs.GetEvents, part.Count max ∷ part.Count room ∷ [])
+dm_form GetAllTokens = (dm_verbs.GetAllTokens, [])
+dm_form (FindEventMsg token room) = (dm_verbs.FindEventMsg, part.Number token.0 ∷ part.Count room ∷ [])
+dm_form (Respond token response) = (dm_verbs.Respond, part.Number token.0 ∷ part.Response response ∷ [])
+dm_form (CreateUserEvent body) = (dm_verbs.CreateUserEvent, part.Data body ∷ [])
+dm_form (SendMsg target body) = (dm_verbs.SendMsg, part.Number target.0 ∷ part.Data body ∷ [])
 dm_form (GetFileAttr token handle) = (dm_verbs.GetFileAttr, part.Number token.0 ∷ part.Handle handle ∷ [])
 dm_form (SetRegion token handle regions) = (dm_verbs.SetRegion, part.Number token.0 ∷ part.Handle handle ∷ part.Regions regions ∷ [])
 dm_form (GetRegion token handle) = (dm_verbs.GetRegion, part.Number token.0 ∷ part.Handle handle ∷ [])
@@ -90,9 +108,18 @@ dm_form (PathToHandle name) = (dm_verbs.PathToHandle, part.Word name ∷ [])
 dm_form GetSpace = (dm_verbs.GetSpace, [])
 
 abbrev pub dm_call_of : DmVerb → List Part → DmCall
-dm_call_of dm_verbs.CreateSession ps = CreateSession (record { 0 = old_in ps }) (word_in (drop 1 ps))
+dm_call_of dm_verbs.CreateSession ps = CreateSession (record { 0 = number_in ps }) (word_in (drop 1 ps))
+dm_call_of dm_verbs.DestroySession ps = DestroySession
 dm_call_of dm_verbs.GetAllSessions ps = GetAllSessions
 dm_call_of dm_verbs.QuerySession ps = QuerySession (record { 0 = number_in ps })
+dm_call_of dm_verbs.SetDisp ps = SetDisp (kinds_in ps)
+dm_call_of dm_verbs.GetDisp ps = GetDisp
+dm_call_of dm_verbs.GetEvents ps = GetEvents (count_in ps) (count_in (drop 1 ps))
+dm_call_of dm_verbs.GetAllTokens ps = GetAllTokens
+dm_call_of dm_verbs.FindEventMsg ps = FindEventMsg (record { 0 = number_in ps }) (count_in (drop 1 ps))
+dm_call_of dm_verbs.Respond ps = Respond (record { 0 = number_in ps }) (response_in (drop 1 ps))
+dm_call_of dm_verbs.CreateUserEvent ps = CreateUserEvent (data_in ps)
+dm_call_of dm_verbs.SendMsg ps = SendMsg (record { 0 = number_in ps }) (data_in (drop 1 ps))
 dm_call_of dm_verbs.GetFileAttr ps = GetFileAttr (record { 0 = number_in ps }) (handle_in (drop 1 ps))
 dm_call_of dm_verbs.SetRegion ps = SetRegion (record { 0 = number_in ps }) (handle_in (drop 1 ps)) (regions_in (drop 1 (drop 1 ps)))
 dm_call_of dm_verbs.GetRegion ps = GetRegion (record { 0 = number_in ps }) (handle_in (drop 1 ps))

@@ -1,6 +1,10 @@
 -- The parts of which calls are made.
 use Rattle.std.specs.Prelude.{ℕ, List, [], ◌∷◌, length, min, sum_by, replicate, Option, Some, None}
 use Rattle.hsm_types.specs.declared.attributes.AttrName.{AttrName}
+use Rattle.hsm_types.specs.Messages.{no_kinds}
+use Rattle.hsm_types.specs.declared.dm.Kinds.{Kinds}
+use Rattle.hsm_types.specs.declared.dm.Response.{Response}
+use Rattle.hsm_types.specs.declared.dm.Response.TheVariants.{Continue}
 use Rattle.hsm_types.specs.declared.keys.Handle.{Handle}
 use Rattle.hsm_types.specs.declared.regions.Region.{Region}
 use Rattle.hsm_types.specs.declared.parts.PartKind.{PartKind}
@@ -12,23 +16,27 @@ use Rattle.hsm_types.specs.declared.parts.PartRef.TheVariants as lent
 
 abbrev pub kind_of : Part → PartKind
 kind_of (part.Number n) = kinds.Number
-kind_of (part.Old sid) = kinds.Old
+kind_of (part.Count n) = kinds.Count
 kind_of (part.Fetch len) = kinds.Fetch
 kind_of (part.Word word) = kinds.Word
 kind_of (part.Handle handle) = kinds.Handle
 kind_of (part.Regions regions) = kinds.Regions
 kind_of (part.Name name) = kinds.Name
+kind_of (part.Kinds taken) = kinds.Kinds
+kind_of (part.Response response) = kinds.Response
 kind_of (part.Data bytes) = kinds.Data
 
 -- a part that is lent
 abbrev pub part_of : PartRef → Part
 part_of (lent.Number n) = part.Number n
-part_of (lent.Old sid) = part.Old sid
+part_of (lent.Count n) = part.Count n
 part_of (lent.Fetch len) = part.Fetch len
 part_of (lent.Word word) = part.Word word.now
 part_of (lent.Handle handle) = part.Handle handle
 part_of (lent.Regions regions) = part.Regions regions.now
 part_of (lent.Name name) = part.Name name
+part_of (lent.Kinds taken) = part.Kinds taken
+part_of (lent.Response response) = part.Response response
 part_of (lent.Data bytes) = part.Data bytes.now
 
 -- the parts that are lent in as many places or more
@@ -53,9 +61,9 @@ abbrev pub number_in : List Part → ℕ
 number_in (part.Number n ∷ parts) = n
 number_in parts = 0
 
-abbrev pub old_in : List Part → ℕ
-old_in (part.Old sid ∷ parts) = sid
-old_in parts = 0
+abbrev pub count_in : List Part → ℕ
+count_in (part.Count n ∷ parts) = n
+count_in parts = 0
 
 abbrev pub fetch_in : List Part → ℕ
 fetch_in (part.Fetch len ∷ parts) = len
@@ -76,6 +84,14 @@ regions_in parts = []
 abbrev pub name_in : List Part → AttrName
 name_in (part.Name name ∷ parts) = name
 name_in parts = record { 0 = replicate 8 0 }
+
+abbrev pub kinds_in : List Part → Kinds
+kinds_in (part.Kinds taken ∷ parts) = taken
+kinds_in parts = no_kinds
+
+abbrev pub response_in : List Part → Response
+response_in (part.Response response ∷ parts) = response
+response_in parts = Continue
 
 abbrev pub data_in : List Part → List ℕ
 data_in (part.Data bytes ∷ parts) = bytes

@@ -1,12 +1,12 @@
 -- Managed regions of a file.
-use Rattle.std.specs.Prelude.{ℕ, ◌+◌, ◌*◌, ◌/◌, ◌%◌, List, [], ◌∷◌, length, Bool, true, not, ◌==◌, ◌&&◌, ◌||◌, nat_eq, nat_lt, nat_le, if◌then◌else◌, Option, Some, None}
+use Rattle.std.specs.Prelude.{ℕ, ◌+◌, ◌*◌, ◌/◌, ◌%◌, List, [], ◌∷◌, length, Bool, true, false, not, ◌==◌, ◌&&◌, ◌||◌, nat_eq, nat_lt, nat_le, if◌then◌else◌, Option, Some, None}
 use Rattle.std.specs.List.{list_any}
 use Rattle.std.specs.Ordering.{on, eq_of_both}
 use Rattle.hsm_types.specs.Refusals.{first_refusal}
 use Rattle.hsm_types.specs.declared.regions.Region.{Region}
 use Rattle.hsm_types.specs.declared.regions.Range.{Range}
-use Rattle.hsm_types.specs.declared.regions.Kind.{Kind}
-use Rattle.hsm_types.specs.declared.regions.Kind.TheVariants.{Read, Write, Truncate}
+use Rattle.hsm_types.specs.declared.dm.Kind.{Kind}
+use Rattle.hsm_types.specs.declared.dm.Kind.TheVariants.{Read, Write, Truncate}
 use Rattle.hsm_types.specs.declared.dm.DmRefusal.{DmRefusal}
 use Rattle.hsm_types.specs.declared.dm.DmRefusal.TheVariants.{TooMany, BadRegion}
 
@@ -47,11 +47,12 @@ regions_refusal rs = first_refusal (too_many_regions rs ∷ bad_region (first_ba
 abbrev pub meets : ℕ → ℕ → Region → Bool
 meets offset len r = nat_lt 0 len && nat_lt r.offset (offset + len) && (r.size == 0 || nat_lt offset (r.offset + r.size))
 
--- the region has the flag of such accesses
+-- the region has the flag of such accesses. Other kinds have none
 abbrev pub is_flagged : Kind → Region → Bool
 is_flagged Read r = r.flags % 2 == 1
 is_flagged Write r = r.flags / 2 % 2 == 1
 is_flagged Truncate r = r.flags / 4 % 2 == 1
+is_flagged kind r = false
 
 -- an access with that reach touches a region with its flag
 abbrev pub touches : List Region → Range → Kind → Bool

@@ -1,10 +1,11 @@
 //! The calls of sessions, and the replies to them.
 ghost use Rattle.std.specs.Prelude.{◌≡◌};
 ghost use Rattle.hsm_types.specs.Calls.{scope_of};
+ghost use Rattle.hsm_types.specs.Messages.{no_kinds, takes, without_kinds, is_lawful};
 
 use crate::attributes::AttrName;
 use crate::keys::{Handle, Sid, Token};
-use crate::lists::{Bytes, Names, Regions, Sids, Word};
+use crate::lists::{Bytes, Names, Regions, Sids, Tokens, Word};
 use thiserror::Error;
 
 /// What a session asks of the store.
@@ -15,9 +16,40 @@ pub enum DmCall {
         old: Sid,
         info: Word,
     },
+    /// Ends the session, once nothing is undelivered or outstanding to it.
+    DestroySession,
     GetAllSessions,
     QuerySession {
         target: Sid,
+    },
+    /// Takes these kinds of events, also from other sessions, and no others.
+    SetDisp {
+        kinds: Kinds,
+    },
+    GetDisp,
+    /// The longest prefix of the session's messages that fits into so many bytes, at most `max` of them, or without a bound where that is 0.
+    GetEvents {
+        max: u32,
+        room: u32,
+    },
+    GetAllTokens,
+    /// The message of an outstanding token again, if it fits into so many bytes.
+    FindEventMsg {
+        token: Token,
+        room: u32,
+    },
+    Respond {
+        token: Token,
+        response: Response,
+    },
+    /// A token of the session's own, outstanding at once, with a message of these bytes.
+    CreateUserEvent {
+        body: Bytes,
+    },
+    /// A message that wants no response.
+    SendMsg {
+        target: Sid,
+        body: Bytes,
     },
     GetFileAttr {
         token: Token,
@@ -59,6 +91,95 @@ pub enum DmCall {
     GetSpace,
 }
 
+/// The kinds of events, each of which is told by a message.
+#[derive(Clone, Copy, Debug, PartialEq, Eq)]
+pub enum Kind {
+    Read,
+    Write,
+    Truncate,
+    /// An access is short of space.
+    NoSpace,
+    /// A session's own.
+    User,
+}
+
+/// Which kinds of events a session takes. Those of sessions themselves are taken by none.
+#[derive(Clone, Copy, Debug, PartialEq, Eq)]
+pub struct Kinds {
+    pub read: bool,
+    pub write: bool,
+    pub truncate: bool,
+    pub no_space: bool,
+}
+
+impl Kinds {
+    /// None of them.
+    pub fn none() -> Kinds
+        ensures { result ≡ no_kinds }
+    {
+        Kinds {
+            read: false,
+            write: false,
+            truncate: false,
+            no_space: false,
+        }
+    }
+
+    /// Whether events of that kind are taken.
+    pub fn takes(self, kind: Kind) -> bool
+        ensures { result ≡ takes self kind }
+    {
+        match kind {
+            Kind::Read => self.read,
+            Kind::Write => self.write,
+            Kind::Truncate => self.truncate,
+            Kind::NoSpace => self.no_space,
+            Kind::User => false,
+        }
+    }
+
+    /// These, but for those of `others`.
+    pub fn without(self, others: Kinds) -> Kinds
+        ensures { result ≡ without_kinds others self }
+    {
+        Kinds {
+            read: self.read && !others.read,
+            write: self.write && !others.write,
+            truncate: self.truncate && !others.truncate,
+            no_space: self.no_space && !others.no_space,
+        }
+    }
+}
+
+/// What becomes of the access whose event is responded to.
+#[derive(Clone, Copy, Debug, PartialEq, Eq)]
+pub enum Response {
+    /// It goes on.
+    Continue,
+    /// It ends with that error, from 1 to 255.
+    Abort(u32),
+}
+
+impl Response {
+    /// Whether it is one that may be given: an abort's error is from 1 to 255.
+    pub fn is_lawful(self) -> bool
+        ensures { result ≡ is_lawful self }
+    {
+        match self {
+            Response::Continue => true,
+            Response::Abort(error) => 1 <= error && error <= 255,
+        }
+    }
+}
+
+/// What a token holds on a file, the higher later.
+#[derive(Clone, Copy, Debug, PartialEq, Eq)]
+pub enum Right {
+    Null,
+    Shared,
+    Excl,
+}
+
 /// Who may make a call, and what it must name.
 #[derive(Clone, Copy, Debug, PartialEq, Eq)]
 pub enum Scope {
@@ -66,8 +187,16 @@ pub enum Scope {
     Anyone,
     /// A live session.
     InSession,
-    /// A live session and a file, with a token that is outstanding to the session, or with token 0.
-    OnFile { token: Token, handle: Handle },
+    /// A live session, and a token that is outstanding to it.
+    OnToken {
+        token: Token,
+    },
+    /// A live session and a file, with a token that is outstanding to the session and has that right on the file, or with token 0.
+    OnFile {
+        token: Token,
+        handle: Handle,
+        right: Right,
+    },
 }
 
 impl DmCall {
@@ -79,17 +208,33 @@ impl DmCall {
             DmCall::CreateSession { .. } | DmCall::GetAllSessions | DmCall::QuerySession { .. } => {
                 Scope::Anyone
             }
-            DmCall::PathToHandle { .. } | DmCall::GetSpace => Scope::InSession,
+            DmCall::FindEventMsg { token, .. } | DmCall::Respond { token, .. } => {
+                Scope::OnToken { token: *token }
+            }
             DmCall::GetFileAttr { token, handle }
-            | DmCall::SetRegion { token, handle, .. }
             | DmCall::GetRegion { token, handle }
-            | DmCall::SetDmAttr { token, handle, .. }
             | DmCall::GetDmAttr { token, handle, .. }
-            | DmCall::RemoveDmAttr { token, handle, .. }
             | DmCall::GetAllDmAttr { token, handle } => Scope::OnFile {
                 token: *token,
                 handle: *handle,
+                right: Right::Shared,
             },
+            DmCall::SetRegion { token, handle, .. }
+            | DmCall::SetDmAttr { token, handle, .. }
+            | DmCall::RemoveDmAttr { token, handle, .. } => Scope::OnFile {
+                token: *token,
+                handle: *handle,
+                right: Right::Excl,
+            },
+            DmCall::DestroySession
+            | DmCall::SetDisp { .. }
+            | DmCall::GetDisp
+            | DmCall::GetEvents { .. }
+            | DmCall::GetAllTokens
+            | DmCall::CreateUserEvent { .. }
+            | DmCall::SendMsg { .. }
+            | DmCall::PathToHandle { .. }
+            | DmCall::GetSpace => Scope::InSession,
         }
     }
 }
@@ -102,6 +247,13 @@ pub enum DmReply {
     /// The live sessions, in the order of their ids.
     Sids(Sids),
     Info(Word),
+    /// The kinds that the session takes.
+    Kinds(Kinds),
+    /// A buffer of messages, and their tokens in order.
+    Packed { bytes: Bytes, tokens: Tokens },
+    /// The tokens that are outstanding to the session, in their order.
+    Tokens(Tokens),
+    Token(Token),
     /// A file's size in bytes, the number of the last event that completed a read, write or truncate of it, and how many of its blocks are mapped.
     Attr { size: u64, stamp: u64, blocks: u64 },
     /// The value of an attribute.
@@ -122,8 +274,20 @@ pub enum DmRefusal {
     NoSession,
     #[error("the token isn't outstanding")]
     NoToken,
+    #[error("the token is outstanding to the session {}", owner.0)]
+    NotYours { owner: Sid },
     #[error("the handle isn't that of a file here")]
     NoObject,
+    /// What the token has on the file.
+    #[error("the token's right on the file is too small")]
+    NeedRight { have: Right },
+    #[error("{count} messages are undelivered or outstanding")]
+    EventsLeft { count: u64 },
+    #[error("nothing is undelivered")]
+    Again,
+    /// The bytes of the first message.
+    #[error("the first message takes {need} bytes")]
+    TooSmall { need: u64 },
     /// The first bad region, from 0.
     #[error("the region {index} is bad")]
     BadRegion { index: u32 },
@@ -133,6 +297,8 @@ pub enum DmRefusal {
     Reserved,
     #[error("the value's length {len} is out of bounds")]
     AttrTooBig { len: u64 },
+    #[error("an abort's error is from 1 to 255")]
+    BadResponse,
     #[error("the count {count} is out of bounds")]
     TooMany { count: u64 },
     /// A call of the disk failed in this event, or the store is closed by such a fault.

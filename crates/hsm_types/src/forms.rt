@@ -31,9 +31,18 @@ macro_rules! call_forms {
 macro_rules! dm_forms {
     ($arms:ident $args:tt) => {
         $arms! { $args DmCall DmVerb
-            CreateSession b"session" { old: Old, info: Word }
+            CreateSession b"session" { old: Sid, info: Word }
+            DestroySession b"destroy" {}
             GetAllSessions b"sessions" {}
             QuerySession b"query" { target: Sid }
+            SetDisp b"setdisp" { kinds: Kinds }
+            GetDisp b"disp" {}
+            GetEvents b"getevents" { max: Count, room: Count }
+            GetAllTokens b"tokens" {}
+            FindEventMsg b"findmsg" { token: Token, room: Count }
+            Respond b"respond" { token: Token, response: Response }
+            CreateUserEvent b"userevent" { body: Data }
+            SendMsg b"send" { target: Sid, body: Data }
             GetFileAttr b"fileattr" { token: Token, handle: Handle }
             SetRegion b"setregion" { token: Token, handle: Handle, regions: Regions }
             GetRegion b"getregion" { token: Token, handle: Handle }
@@ -63,8 +72,17 @@ pub enum CallVerb {
 #[derive(Clone, Copy, Debug, PartialEq, Eq)]
 pub enum DmVerb {
     CreateSession,
+    DestroySession,
     GetAllSessions,
     QuerySession,
+    SetDisp,
+    GetDisp,
+    GetEvents,
+    GetAllTokens,
+    FindEventMsg,
+    Respond,
+    CreateUserEvent,
+    SendMsg,
     GetFileAttr,
     SetRegion,
     GetRegion,
@@ -119,7 +137,6 @@ macro_rules! bound {
 macro_rules! lent {
     (Sid $field:ident) => { PartRef::Number($field.0) };
     (Token $field:ident) => { PartRef::Number($field.0) };
-    (Old $field:ident) => { PartRef::Old($field.0) };
     ($part:ident $field:ident) => { PartRef::$part($field) };
 }
 
@@ -144,13 +161,15 @@ macro_rules! parts_of {
 macro_rules! taken {
     (Sid $parts:ident) => { Sid($parts.number()) };
     (Token $parts:ident) => { Token($parts.number()) };
-    (Old $parts:ident) => { Sid($parts.old()) };
     (Number $parts:ident) => { $parts.number() };
+    (Count $parts:ident) => { $parts.count() };
     (Fetch $parts:ident) => { $parts.fetch() };
     (Word $parts:ident) => { $parts.word() };
     (Handle $parts:ident) => { $parts.handle() };
     (Regions $parts:ident) => { $parts.regions() };
     (Name $parts:ident) => { $parts.name() };
+    (Kinds $parts:ident) => { $parts.kinds() };
+    (Response $parts:ident) => { $parts.response() };
     (Data $parts:ident) => { $parts.data() };
 }
 
@@ -179,7 +198,7 @@ macro_rules! access_of {
 const CALL_VERBS: [CallVerb; 7] = call_forms!(all_verbs());
 
 /// All of them, likewise.
-const DM_VERBS: [DmVerb; 12] = dm_forms!(all_verbs());
+const DM_VERBS: [DmVerb; 21] = dm_forms!(all_verbs());
 
 impl CallVerb {
     pub fn text(self) -> &'static [u8]

@@ -54,7 +54,7 @@ pub struct FileKey {
 }
 
 /// Which event a session is to respond to, from 1. 0 stands for none.
-#[derive(Clone, Copy, Debug, PartialEq, Eq)]
+#[derive(Clone, Copy, Debug, PartialEq, Eq, Hash)]
 pub struct Token(pub u64);
 
 /// Which session, from 1. 0 stands for none.

@@ -8,6 +8,7 @@ mod forms;
 mod keys;
 mod limits;
 mod lists;
+mod messages;
 mod names;
 mod parts;
 mod regions;
@@ -15,15 +16,16 @@ mod stores;
 
 pub use attributes::{ATTRIBUTE_BYTES, ATTRIBUTE_COST, AttrName};
 pub use calls::{Call, CallRefusal, Reply};
-pub use dm::{DmCall, DmRefusal, DmReply, Scope};
+pub use dm::{DmCall, DmRefusal, DmReply, Kind, Kinds, Response, Right, Scope};
 pub use forms::{CALL_PARTS, CallVerb, DmVerb};
 pub use keys::{CallerId, FileKey, HANDLE_BYTES, Handle, Sid, Token};
 pub use limits::{
-    ACCESS_BYTES, BLOCK_BYTES, CALLERS, FILE_BYTES, INFO_BYTES, LIVE_SESSIONS, NAME_BYTES,
-    SEGMENT_BYTES,
+    ACCESS_BYTES, BLOCK_BYTES, CALLERS, FILE_BYTES, INFO_BYTES, LIVE_SESSIONS, MESSAGE_BYTES,
+    NAME_BYTES, SEGMENT_BYTES, USER_TOKENS, WAITING_MESSAGES,
 };
-pub use lists::{Bytes, ListOf, Names, Regions, Sids, Word};
+pub use lists::{Bytes, ListOf, Names, Regions, Sids, Tokens, Word};
+pub use messages::{Message, Packed};
 pub use names::can_name;
 pub use parts::{Part, PartKind, PartRef, Parts};
-pub use regions::{Kind, REGION_READ, REGION_TRUNCATE, REGION_WRITE, REGIONS, Range, Region};
+pub use regions::{REGION_READ, REGION_TRUNCATE, REGION_WRITE, REGIONS, Range, Region};
 pub use stores::{Geometry, SMALL, Superblock};

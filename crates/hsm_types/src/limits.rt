@@ -23,3 +23,12 @@ pub const LIVE_SESSIONS: usize = 64;
 
 /// The bytes of a session's longest information. The shortest has one.
 pub const INFO_BYTES: usize = 256;
+
+/// How many tokens of user events may be outstanding, to all sessions together.
+pub const USER_TOKENS: u64 = 960;
+
+/// The bytes of a message's longest data.
+pub const MESSAGE_BYTES: usize = 4096;
+
+/// How many messages without a token may wait for one session.
+pub const WAITING_MESSAGES: u64 = 1024;

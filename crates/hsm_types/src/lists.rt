@@ -3,7 +3,7 @@ ghost use Rattle.std.specs.Prelude.{◌≡◌};
 ghost use Rattle.std.specs.Cmp.Lexicographic.{pointwise, lists_per};
 
 use crate::attributes::AttrName;
-use crate::keys::Sid;
+use crate::keys::{Sid, Token};
 use crate::regions::Region;
 use std::alloc::AllocError;
 use std::marker::{Model, PhantomData};
@@ -27,6 +27,9 @@ pub struct Spelled;
 
 /// Ids of sessions.
 pub type Sids = ListOf<Sid>;
+
+/// Tokens of events.
+pub type Tokens = ListOf<Token>;
 
 /// Managed regions of a file.
 pub type Regions = ListOf<Region>;

@@ -1,8 +1,9 @@
 //! The parts of which calls are made.
 ghost use Rattle.std.specs.Prelude.{◌≡◌, drop, OnOk, [], ◌∷◌};
-ghost use Rattle.hsm_types.specs.Parts.{number_in, old_in, fetch_in, word_in, handle_in, regions_in, name_in, data_in};
+ghost use Rattle.hsm_types.specs.Parts.{number_in, count_in, fetch_in, word_in, handle_in, regions_in, name_in, kinds_in, response_in, data_in};
 
 use crate::attributes::AttrName;
+use crate::dm::{Kinds, Response};
 use crate::keys::{FileKey, Handle};
 use crate::lists::{Bytes, Regions, Word};
 use std::alloc::{AllocError, Global};
@@ -13,14 +14,16 @@ use std::marker::Model;
 #[derive(Drop)]
 pub enum Part {
     Number(u64),
-    /// The session in whose place another one is made.
-    Old(u64),
+    /// A number of 32 bits.
+    Count(u32),
     /// How many bytes are to be read.
     Fetch(u64),
     Word(Word),
     Handle(Handle),
     Regions(Regions),
     Name(AttrName),
+    Kinds(Kinds),
+    Response(Response),
     Data(Bytes),
 }
 
@@ -28,12 +31,14 @@ pub enum Part {
 #[derive(Clone, Copy)]
 pub enum PartRef<'a> {
     Number(u64),
-    Old(u64),
+    Count(u32),
     Fetch(u64),
     Word(&'a Word),
     Handle(Handle),
     Regions(&'a Regions),
     Name(AttrName),
+    Kinds(Kinds),
+    Response(Response),
     Data(&'a Bytes),
 }
 
@@ -41,12 +46,14 @@ pub enum PartRef<'a> {
 #[derive(Clone, Copy, Debug, PartialEq, Eq)]
 pub enum PartKind {
     Number,
-    Old,
+    Count,
     Fetch,
     Word,
     Handle,
     Regions,
     Name,
+    Kinds,
+    Response,
     Data,
 }
 
@@ -93,12 +100,12 @@ impl Parts {
         }
     }
 
-    pub fn old(&mut self) -> u64
-        ensures value { result ≡ old_in self.old }
+    pub fn count(&mut self) -> u32
+        ensures value { result ≡ count_in self.old }
         ensures rest { self.new ≡ drop 1 self.old }
     {
         match self.items.pop_front() {
-            Some(Part::Old(sid)) => sid,
+            Some(Part::Count(n)) => n,
             _ => 0,
         }
     }
@@ -153,6 +160,26 @@ impl Parts {
         match self.items.pop_front() {
             Some(Part::Name(name)) => name,
             _ => AttrName([0; 8]),
+        }
+    }
+
+    pub fn kinds(&mut self) -> Kinds
+        ensures value { result ≡ kinds_in self.old }
+        ensures rest { self.new ≡ drop 1 self.old }
+    {
+        match self.items.pop_front() {
+            Some(Part::Kinds(kinds)) => kinds,
+            _ => Kinds::none(),
+        }
+    }
+
+    pub fn response(&mut self) -> Response
+        ensures value { result ≡ response_in self.old }
+        ensures rest { self.new ≡ drop 1 self.old }
+    {
+        match self.items.pop_front() {
+            Some(Part::Response(response)) => response,
+            _ => Response::Continue,
         }
     }
 

@@ -24,14 +24,6 @@ pub struct Region {
     pub flags: u8,
 }
 
-/// The kinds of accesses that regions manage.
-#[derive(Clone, Copy, Debug, PartialEq, Eq)]
-pub enum Kind {
-    Read,
-    Write,
-    Truncate,
-}
-
 /// Bytes of a file, from an offset on.
 #[derive(Clone, Copy, Debug, PartialEq, Eq)]
 pub struct Range {
