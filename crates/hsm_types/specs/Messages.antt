@@ -82,23 +82,33 @@ payload_of kind m = handle_or_none m.handle ++ big_bytes 8 m.offset ++ big_bytes
 abbrev pub payload : Message → List ℕ
 payload m = payload_of m.kind m
 
+-- the bytes of a payload: of an access 40
+abbrev pub size_of : Kind → Message → ℕ
+size_of User m = length m.body
+size_of kind m = 40
+
+abbrev pub payload_size : Message → ℕ
+payload_size m = size_of m.kind m
+
 -- the next multiple of 8
 abbrev pub rounded_up : ℕ → ℕ
 rounded_up n = (n + 7) / 8 * 8
-
--- the bytes of a payload: of an access 40
-abbrev pub payload_size : Message → ℕ
-payload_size m = length (payload m)
 
 -- the bytes that a message takes: a header of 24 bytes and the payload, rounded up
 abbrev pub message_bytes : Message → ℕ
 message_bytes m = 24 + rounded_up (payload_size m)
 
--- a message, `next` bytes before the one behind it: that number, the kind, the token, the payload's size, four zeros, and the payload, padded with zeros
-abbrev pub message_text : ℕ → Message → List ℕ
-message_text next m =
-    big_bytes 4 next ++ big_bytes 4 (kind_number m.kind) ++ big_bytes 8 m.token.0 ++ big_bytes 4 (payload_size m) ++ replicate 4 0
-    ++ payload m ++ replicate (rounded_up (payload_size m) - payload_size m) 0
+-- `next`, the kind, the token, the payload's size, and four zeros
+unfoldable pub header : ℕ → Message → List ℕ
+header next m = big_bytes 4 next ++ big_bytes 4 (kind_number m.kind) ++ big_bytes 8 m.token.0 ++ big_bytes 4 (payload_size m) ++ replicate 4 0
+
+-- zeros up to the next multiple of 8
+abbrev pub padding : Message → List ℕ
+padding m = replicate (rounded_up (payload_size m) - payload_size m) 0
+
+-- a message. `next` is the bytes from its start to that of the one behind it
+unfoldable pub message_text : ℕ → Message → List ℕ
+message_text next m = header next m ++ payload m ++ padding m
 
 -- messages without gaps. Behind the last there is none
 abbrev pub packed : List Message → List ℕ

@@ -1,5 +1,5 @@
 -- Sessions with their kinds, queues and outstanding tokens, and what calls do to them.
-use Rattle.std.specs.Prelude.{ℕ, ◌+◌, ◌<◌, List, [], ◌∷◌, ◌++◌, length, map, filter, take, drop, fold, count_by, sum_by, Bool, true, false, not, ◌==◌, ◌&&◌, ◌||◌, nat_lt, nat_le, if◌then◌else◌, Option, Some, None, is_some}
+use Rattle.std.specs.Prelude.{ℕ, ◌+◌, ◌<◌, ◌≤◌, List, [], ◌∷◌, ◌++◌, length, map, filter, take, drop, fold, count_by, sum_by, Bool, true, false, not, ◌==◌, ◌&&◌, ◌||◌, nat_lt, nat_le, if◌then◌else◌, Option, Some, None, is_some}
 use Rattle.std.specs.List.{All, list_any, find}
 use Rattle.std.specs.Map.{keys_of, values_of, lookup, remove_entry}
 use Rattle.std.specs.Option.{option_map}
@@ -267,3 +267,10 @@ places token t = count_by (has_token token) t.unrouted + sum_by (λ s. places_in
 -- it is above each token that stands anywhere
 abbrev pub IsNewToken : Token → SessionTable → Type 0
 IsNewToken token t = (0 < token.0) × ((u : Token) → 0 < places u t → u.0 < token.0)
+
+-- ---- the order of ids
+
+-- the ids ascend, above the first number and up to the second
+abbrev pub Ascend : ℕ → ℕ → List (Sid × LiveSession) → Type 0
+Ascend low high [] = Unit {0}
+Ascend low high (s ∷ rest) = (low < s.0.0) × (s.0.0 ≤ high) × Ascend s.0.0 high rest

@@ -1,11 +1,12 @@
 -- The answers that a store gives by itself are for no fault, and a history without one goes on.
 use Rattle.std.proofs.Common.{◌≡◌, List, [], ◌∷◌, ◌++◌, Bool, true, false, Option, Some, None, refl, ◌∙◌, ap}
 use Rattle.std.proofs.lemmas.List.Folds.{list_any-append}
-use Rattle.std.specs.Prelude.{ℕ, length, ◌+◌, ◌==◌, ◌&&◌, ◌||◌, nat_lt, nat_le, is_some, if◌then◌else◌}
+use Rattle.std.specs.Prelude.{ℕ, length, count_by, ◌+◌, ◌==◌, ◌&&◌, ◌||◌, nat_lt, nat_le, is_some, if◌then◌else◌}
 use Rattle.hsm_types.specs.Names.{is_name}
 use Rattle.hsm_types.specs.Refusals.{first_refusal}
 use Rattle.hsm_types.specs.Calls.{scope_of}
-use Rattle.hsm_types.specs.Sessions.{SessionTable, lives, no_session, bad_info, too_many_sessions, creation_refusal}
+use Rattle.hsm_types.specs.Messages.{no_token, has_token, message_bytes, is_lawful}
+use Rattle.hsm_types.specs.Sessions.{SessionTable, lives, queue_of, outstanding_of, owner, user_tokens, outstanding_message, same_sid, no_session, bad_info, too_many_sessions, creation_refusal, dead_session, not_yours, bad_token, events_left, destruction_refusal, none_fits, bad_response, too_long, too_many_events, event_refusal, too_many_waiting, sending_refusal}
 use Rattle.hsm_types.specs.Attributes.{Attributes, is_reserved, reserved, too_big_value, too_many_bytes, bytes_of_attributes, with_value, value_of, setting_refusal, no_attribute}
 use Rattle.hsm_types.specs.Regions.{first_bad, too_many_regions, bad_region, regions_refusal}
 use Rattle.hsm_types.specs.declared.attributes.AttrName.{AttrName}
@@ -13,11 +14,16 @@ use Rattle.hsm_types.specs.declared.keys.FileKey.{FileKey}
 use Rattle.hsm_types.specs.declared.regions.Region.{Region}
 use Rattle.hsm_types.specs.declared.keys.Sid.{Sid}
 use Rattle.hsm_types.specs.declared.dm.DmCall.{DmCall}
-use Rattle.hsm_types.specs.declared.dm.DmCall.TheVariants.{CreateSession, QuerySession, SetRegion, SetDmAttr, GetDmAttr, RemoveDmAttr, PathToHandle}
+use Rattle.hsm_types.specs.declared.dm.DmCall.TheVariants.{CreateSession, DestroySession, QuerySession, GetEvents, FindEventMsg, Respond, CreateUserEvent, SendMsg, SetRegion, SetDmAttr, GetDmAttr, RemoveDmAttr, PathToHandle}
 use Rattle.hsm_types.specs.declared.dm.DmRefusal.{DmRefusal}
 use Rattle.hsm_types.specs.declared.dm.DmReply.TheVariants as told
+use Rattle.hsm_types.specs.declared.dm.Response.{Response}
+use Rattle.hsm_types.specs.declared.dm.Right.{Right}
+use Rattle.hsm_types.specs.declared.dm.Right.TheVariants.{Null}
+use Rattle.hsm_types.specs.declared.keys.Token.{Token}
+use Rattle.hsm_types.specs.declared.messages.Message.{Message}
 use Rattle.hsm_types.specs.declared.dm.Scope.{Scope}
-use Rattle.hsm_types.specs.declared.dm.Scope.TheVariants.{Anyone, InSession, OnFile}
+use Rattle.hsm_types.specs.declared.dm.Scope.TheVariants.{Anyone, InSession, OnToken, OnFile}
 use Rattle.hsm_types.specs.declared.stores.Superblock.{Superblock}
 use Rattle.hsm_types.specs.declared.calls.Call.{Call}
 use Rattle.hsm_types.specs.declared.calls.Call.TheVariants.{Create, Read, Write, Truncate, Remove, Stat, Sync}
@@ -35,7 +41,7 @@ use Rattle.plain_model.specs.Ledger.{Meant}
 use Rattle.plain_model.specs.Faults.{is_fault, fault_of, FaultIsLast, has_fault}
 use Rattle.plain_model.specs.State.{State, names_of}
 use Rattle.plain_model.specs.Verdict.{Lacks, Verdict, verdict, reply_by, reply_where, objection_in, meant_in, reply_to}
-use Rattle.plain_model.specs.Services.{dead_session, bad_token, is_live, bad_handle, scope_refusals, kept_of, other_attributes, service, dm_judged, dm_reply_where, dm_reply_to}
+use Rattle.plain_model.specs.Services.{bad_own_token, bad_given_token, no_right, is_live, bad_handle, scope_refusals, kept_of, other_attributes, message_or_none, service, dm_judged, dm_reply_where, dm_reply_to}
 use Rattle.plain_model.specs.Exact.{IsOwn}
 
 -- what refuses a call of its kind, if anything, is no fault
@@ -151,9 +157,35 @@ usual_setting name value others limit attrs =
 usual_absent : (name : AttrName) (attrs : Attributes) → Usual (no_attribute name attrs)
 usual_absent name attrs = ordinary_if of_dm (is_some (value_of name attrs)) _ _ tt refl
 
+usual_dead : (sid : Sid) (t : SessionTable) → Usual (dead_session sid t)
+usual_dead sid t = ordinary_if of_dm (lives sid t) _ _ tt refl
+
+usual_fit : (room : ℕ) (messages : List Message) → Usual (none_fits room messages)
+usual_fit room [] = refl
+usual_fit room (m ∷ more) = ordinary_if of_dm (nat_le (message_bytes m) room) _ _ tt refl
+
+usual_length : (body : List ℕ) → Usual (too_long body)
+usual_length body = ordinary_if of_dm (nat_le (length body) 4096) _ _ tt refl
+
+usual_event : (body : List ℕ) (t : SessionTable) → Usual (event_refusal body t)
+usual_event body t =
+    ordinary_first of_dm (too_long body) _ (usual_length body) (ordinary_first of_dm (too_many_events t) _ (ordinary_if of_dm (nat_le 960 (user_tokens t)) _ _ refl tt) tt)
+
+usual_sending : (target : Sid) (body : List ℕ) (t : SessionTable) → Usual (sending_refusal target body t)
+usual_sending target body t =
+    ordinary_first of_dm (dead_session target t) _ (usual_dead target t)
+    (ordinary_first of_dm (too_long body) _ (usual_length body)
+    (ordinary_first of_dm (too_many_waiting (queue_of target t)) _ (ordinary_if of_dm (nat_le 1024 (count_by (has_token no_token) (queue_of target t))) _ _ refl tt) tt))
+
 usual_service : (s : Superblock) (st : State) (sid : Sid) (call : DmCall) → Usual (service s st sid call).refusal
 usual_service s st sid (CreateSession old info) = usual_creation old info st.sessions
-usual_service s st sid (QuerySession target) = ordinary_if of_dm (lives target st.sessions) _ _ tt refl
+usual_service s st sid DestroySession = ordinary_if of_dm (length (queue_of sid st.sessions) + length (outstanding_of sid st.sessions) == 0) _ _ tt refl
+usual_service s st sid (QuerySession target) = usual_dead target st.sessions
+usual_service s st sid (GetEvents max room) = usual_fit room (queue_of sid st.sessions)
+usual_service s st sid (FindEventMsg token room) = usual_fit room (message_or_none (outstanding_message token st.sessions))
+usual_service s st sid (Respond token response) = ordinary_if of_dm (is_lawful response) _ _ tt refl
+usual_service s st sid (CreateUserEvent body) = usual_event body st.sessions
+usual_service s st sid (SendMsg target body) = usual_sending target body st.sessions
 usual_service s st sid (SetRegion token handle regions) = usual_regions regions
 usual_service s st sid (SetDmAttr token handle name value) = usual_setting name value (other_attributes handle.key st.held.files) s.geometry.attributes (kept_of handle.key st.held.files).attributes
 usual_service s st sid (GetDmAttr token handle name) = usual_absent name (kept_of handle.key st.held.files).attributes
@@ -167,16 +199,28 @@ module _ (s : Superblock) (st : State) (sid : Sid) (own : Option DmRefusal) (is 
   usual_last : Usual (first_refusal (own ∷ []))
   usual_last = ordinary_first of_dm own [] is tt
 
-  usual_session : (rest : List (Option DmRefusal)) → Usual (first_refusal rest) → Usual (first_refusal (dead_session st.sessions sid ∷ rest))
-  usual_session rest later = ordinary_first of_dm (dead_session st.sessions sid) rest (ordinary_if of_dm (lives sid st.sessions) _ _ tt refl) later
+  usual_session : (rest : List (Option DmRefusal)) → Usual (first_refusal rest) → Usual (first_refusal (dead_session sid st.sessions ∷ rest))
+  usual_session rest later = ordinary_first of_dm (dead_session sid st.sessions) rest (usual_dead sid st.sessions) later
+
+  usual_owner : (found : Option Sid) → Usual (not_yours sid found)
+  usual_owner None = refl
+  usual_owner (Some other) = ordinary_if of_dm (same_sid other sid) _ _ tt refl
+
+  usual_right : (token : Token) (right : Right) → Usual (no_right token right)
+  usual_right token Null = tt
+  usual_right token right = ordinary_if of_dm (token.0 == 0) _ _ tt refl
 
   usual_scope : (scope : Scope) → Usual (first_refusal (scope_refusals s st sid scope ++ own ∷ []))
   usual_scope Anyone = usual_last
   usual_scope InSession = usual_session (own ∷ []) usual_last
-  usual_scope (OnFile token handle) =
-      usual_session (bad_token token ∷ bad_handle s st.held.files handle ∷ own ∷ [])
-      (ordinary_first of_dm (bad_token token) _ (ordinary_if of_dm (token.0 == 0) _ _ tt refl)
-      (ordinary_first of_dm (bad_handle s st.held.files handle) _ (ordinary_if of_dm (is_live s st.held.files handle) _ _ tt refl) usual_last))
+  usual_scope (OnToken token) =
+      usual_session (bad_own_token sid token st.sessions ∷ own ∷ [])
+      (ordinary_first of_dm (bad_own_token sid token st.sessions) _ (ordinary_if of_dm (token.0 == 0) _ _ refl (usual_owner (owner token st.sessions))) usual_last)
+  usual_scope (OnFile token handle right) =
+      usual_session (bad_given_token sid token st.sessions ∷ bad_handle s st.held.files handle ∷ no_right token right ∷ own ∷ [])
+      (ordinary_first of_dm (bad_given_token sid token st.sessions) _ (ordinary_if of_dm (token.0 == 0) _ _ tt (usual_owner (owner token st.sessions)))
+      (ordinary_first of_dm (bad_handle s st.held.files handle) _ (ordinary_if of_dm (is_live s st.held.files handle) _ _ tt refl)
+      (ordinary_first of_dm (no_right token right) _ (usual_right token right) usual_last)))
 
 faultless_told : (s : Superblock) (st : State) (sid : Sid) (call : DmCall) → is_fault (Told (service s st sid call).reply) ≡ false
 faultless_told s st sid (CreateSession old info) = refl

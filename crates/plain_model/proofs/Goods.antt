@@ -9,7 +9,9 @@ use Rattle.plain_model.specs.State.{Held, just_opened}
 use Rattle.plain_model.specs.Stands.{Stands}
 use Rattle.plain_model.specs.Exact.{Exact}
 use Rattle.plain_model.specs.Laws.{IsRun, IsGoodFrom, RunIsGood}
-use Rattle.plain_model.proofs.Histories.{Exact-take, used_once}
+use Rattle.plain_model.proofs.Histories.{Exact-take}
+use Rattle.plain_model.proofs.Onces.{exact_is_once}
+use Rattle.plain_model.proofs.Orders.{ordered_at_first, state_ordered}
 use Rattle.plain_model.proofs.Same.{transparent}
 use Rattle.plain_model.proofs.Sides.{exact_is_sided}
 use Rattle.plain_model.proofs.Stamping.{exact_is_stamped}
@@ -31,4 +33,4 @@ good_from s base h es run P stands = record {
     legal = (exact_is_legal s base h es P run.opening run.exact stands).0
 
 pub run_is_good : (s : Superblock) (base : ℕ) (h : Held) (es : List Entry) → RunIsGood s base h es
-run_is_good s base h es run = record { run = run; once = used_once es; good = good_from s base h es run }
+run_is_good s base h es run = record { run = run; once = exact_is_once s (just_opened base h) es (ordered_at_first base h) run.exact; ordered = λ i. state_ordered s (just_opened base h) (take i es) (ordered_at_first base h); good = good_from s base h es run }

@@ -13,7 +13,6 @@ use Rattle.plain_model.specs.declared.entries.Action.{Action}
 use Rattle.plain_model.specs.declared.entries.Action.TheVariants.{Issue, Dm}
 use Rattle.plain_model.specs.declared.entries.Answer.{Answer}
 use Rattle.plain_model.specs.declared.entries.Answer.TheVariants.{Call as Replied, Dm as Told}
-use Rattle.plain_model.specs.Once.{UsedOnce, Once}
 use Rattle.plain_model.specs.Effects.{Change, Nothing, OfFile, OfSessions, change_of}
 use Rattle.plain_model.specs.Ledger.{Meant}
 use Rattle.plain_model.specs.State.{State, noted, changed}
@@ -57,13 +56,13 @@ changed-number Nothing st = refl
 changed-number (OfFile k effect) st = refl
 changed-number (OfSessions to) st = refl
 
-counted_dm : (why : Option DmRefusal) (st : State) (sid : Sid) (call : DmCall) → (dm_state_where why st sid call).number ≡ st.number + 1
-counted_dm None st sid call = rw (changed-number (change_of sid call) st) refl
-counted_dm (Some why) st sid call = refl
+counted_dm : (why : Option DmRefusal) (s : Superblock) (st : State) (sid : Sid) (call : DmCall) → (dm_state_where why s st sid call).number ≡ st.number + 1
+counted_dm None s st sid call = rw (changed-number (change_of sid call) st) refl
+counted_dm (Some why) s st sid call = refl
 
 own_number : (s : Superblock) (st : State) (who : Actor) (what : Action) → (left_own s st who what).number ≡ st.number + 1
 own_number s st (Caller c) (Issue call) = counted_call (objection_in s st call) s st c (meant_in st call)
-own_number s st (Session sid) (Dm call) = counted_dm (dm_judged s st sid call) st sid call
+own_number s st (Session sid) (Dm call) = counted_dm (dm_judged s st sid call) s st sid call
 own_number s st who what = refl
 
 if_counted : (fault : Bool) (st own : State) → own.number ≡ st.number + 1 → (if fault then noted st else own).number ≡ st.number + 1
@@ -73,13 +72,3 @@ if_counted false st own is = is
 -- an event is an entry more
 pub left_by-number : (s : Superblock) (st : State) (who : Actor) (what : Action) (answer : Answer) → (left_by s st who what answer).number ≡ st.number + 1
 left_by-number s st who what answer = if_counted (is_fault answer) st (left_own s st who what) (own_number s st who what)
-
--- ---- tokens
-
-gives_none : (who : Actor) (what : Action) (answer : Answer) (es : List Entry) → UsedOnce who what answer es
-gives_none who what (Replied reply) es = tt
-gives_none who what (Told reply) es = tt
-
-pub used_once : (es : List Entry) → Once es
-used_once [] = tt
-used_once (e ∷ es) = (gives_none e.actor e.action e.answer es, used_once es)

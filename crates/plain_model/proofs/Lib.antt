@@ -9,3 +9,6 @@ pub mod Sides
 pub mod Stamping
 pub mod Goods
 pub mod Listing
+pub mod Judged
+pub mod Orders
+pub mod Onces

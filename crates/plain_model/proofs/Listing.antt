@@ -5,6 +5,7 @@ use Rattle.std.specs.Prelude.{Result, Ok, Err, OnOk}
 use Rattle.std.specs.Fmt.{decimal}
 use Rattle.hsm_types.specs.declared.attributes.AttrName.{AttrName}
 use Rattle.hsm_types.specs.declared.keys.Sid.{Sid}
+use Rattle.hsm_types.specs.declared.keys.Token.{Token}
 use Rattle.hsm_types.specs.declared.regions.Region.{Region}
 use Rattle.hsm_types.specs.declared.parts.Part.{Part}
 use Rattle.plain_model.specs.Render.{spaced, listed, name_word, region_word, regions_word, part_word, form_words}
@@ -16,6 +17,14 @@ each_spaced sid (next ∷ sids) = ap (λ l. 32 ∷ decimal sid.0 ++ l) (each_spa
 pub ids_spaced : (sids : List Sid) → 0 < length sids → flat_map (λ (s : Sid). 32 ∷ decimal s.0) sids ≡ 32 ∷ spaced (listed (map (λ (s : Sid). decimal s.0) sids))
 ids_spaced [] some = absurd (omega arith)
 ids_spaced (sid ∷ sids) some = each_spaced sid sids
+
+each_token_spaced : (token : Token) (tokens : List Token) → flat_map (λ (t : Token). 32 ∷ decimal t.0) (token ∷ tokens) ≡ 32 ∷ spaced (map (λ (t : Token). decimal t.0) (token ∷ tokens))
+each_token_spaced token [] = search rules
+each_token_spaced token (next ∷ tokens) = ap (λ l. 32 ∷ decimal token.0 ++ l) (each_token_spaced next tokens)
+
+pub tokens_spaced : (tokens : List Token) → 0 < length tokens → flat_map (λ (t : Token). 32 ∷ decimal t.0) tokens ≡ 32 ∷ spaced (listed (map (λ (t : Token). decimal t.0) tokens))
+tokens_spaced [] some = absurd (omega arith)
+tokens_spaced (token ∷ tokens) some = each_token_spaced token tokens
 
 each_name_spaced : (name : AttrName) (names : List AttrName) → flat_map (λ (n : AttrName). 32 ∷ name_word n) (name ∷ names) ≡ 32 ∷ spaced (map name_word (name ∷ names))
 each_name_spaced name [] = search rules

@@ -30,7 +30,7 @@ use Rattle.plain_model.specs.Exact.{IsOwn, IsAnswer, left_own, left_by, Exact, s
 use Rattle.plain_model.specs.Side.{Side, side_of, sides_of, remade_side, affected_side, side_replied, side_changed, side_told, side_given, side_after}
 use Rattle.plain_model.specs.Laws.{IsOpening}
 use Rattle.plain_model.proofs.Faultless.{fault_is}
-use Rattle.plain_model.proofs.Steps.{event_step, same_meant, stands_at_first}
+use Rattle.plain_model.proofs.Steps.{event_stands, same_meant, stands_at_first}
 
 -- ---- effects
 
@@ -118,7 +118,7 @@ sides_done s st sid (CreateSession old info) gs X = refl
 sides_done s st sid call gs X = refl
 
 dm_sided : (s : Superblock) (st : State) (sid : Sid) (call : DmCall) (why : Option DmRefusal) (gs : List File) → Stands st.held.files gs
-    → sides_of (dm_state_where why st sid call).held.files ≡ side_told gs sid call (dm_reply_where why s st sid call) (sides_of st.held.files)
+    → sides_of (dm_state_where why s st sid call).held.files ≡ side_told gs sid call (dm_reply_where why s st sid call) (sides_of st.held.files)
 dm_sided s st sid call None gs stands = changed_sided (change_of sid call) st gs stands ∙ sides_done s st sid call gs (sides_of st.held.files)
 dm_sided s st sid call (Some why) gs stands = refl
 
@@ -147,8 +147,7 @@ event_sided s st W e stands (inr is) = if_sided (is_fault e.answer) st (left_own
 sided : (s : Superblock) (st : State) (W : World) (es : List Entry) → StandsFor st W → Exact s st es → sides_of (state_by s st es).held.files ≡ side_after W (sides_of st.held.files) es
 sided s st W [] stands exact = refl
 sided s st W (e ∷ es) stands exact =
-    let now = event_step s st W e stands exact.0 in
-    sided s (left_by s st e.actor e.action e.answer) (after W e) es now.1 exact.2 ∙ ap (λ (X : List Side). side_after (after W e) X es) (event_sided s st W e stands exact.0)
+    sided s (left_by s st e.actor e.action e.answer) (after W e) es (event_stands s st W e stands exact.0) exact.2 ∙ ap (λ (X : List Side). side_after (after W e) X es) (event_sided s st W e stands exact.0)
 
 pub exact_is_sided : (s : Superblock) (base : ℕ) (h : Held) (es : List Entry) (P : List File) → IsOpening h → Exact s (just_opened base h) es → Stands h.files P
     → sides_of (state_by s (just_opened base h) es).held.files ≡ side_after (start P) (sides_of h.files) es

@@ -29,7 +29,7 @@ use Rattle.plain_model.specs.Stamps.{reaches_key, accesses, access_numbers, last
 use Rattle.plain_model.specs.Laws.{IsOpening}
 use Rattle.plain_model.proofs.Faultless.{own_faultless, fault_is}
 use Rattle.plain_model.proofs.Histories.{left_by-number}
-use Rattle.plain_model.proofs.Steps.{same_meant, event_step, stands_at_first}
+use Rattle.plain_model.proofs.Steps.{same_meant, event_stands, stands_at_first}
 
 module _ (number : ℕ) (st : State) (stamps : FileKey → ℕ) (j : FileKey) where
   verdict_stamped : (k : FileKey) (call : Call) (v : Verdict) → stamps_by number k call v stamps j ≡ (if reaches_key (record { key = k; call = call }) (reply_by st k call v) j then number else stamps j)
@@ -52,7 +52,7 @@ module _ (s : Superblock) (st : State) (k : FileKey) where
   changed_stamped (OfFile j effect) = refl
   changed_stamped (OfSessions to) = refl
 
-  dm_stamped : (why : Option DmRefusal) (sid : Sid) (call : DmCall) → (dm_state_where why st sid call).stamps k ≡ st.stamps k
+  dm_stamped : (why : Option DmRefusal) (sid : Sid) (call : DmCall) → (dm_state_where why s st sid call).stamps k ≡ st.stamps k
   dm_stamped None sid call = changed_stamped (change_of sid call)
   dm_stamped (Some why) sid call = refl
 
@@ -97,10 +97,9 @@ stamped : (s : Superblock) (st : State) (W : World) (es : List Entry) → Stands
     → (state_by s st es).stamps k ≡ last_or (st.stamps k) (access_numbers W st.number k es)
 stamped s st W [] stands exact k = refl
 stamped s st W (e ∷ es) stands exact k =
-    let now = event_step s st W e stands exact.0 in
     let left : State = left_by s st e.actor e.action e.answer in
     let used : Bool = accesses W k e.actor e.action e.answer in
-    let later = stamped s left (after W e) es now.1 exact.2 k in
+    let later = stamped s left (after W e) es (event_stands s st W e stands exact.0) exact.2 k in
     later
     ∙ (λ i. last_or (event_stamped s st W e stands exact.0 k i) (access_numbers (after W e) (left_by-number s st e.actor e.action e.answer i) k es))
     ∙ last_if used (st.stamps k) (st.number + 1) (access_numbers (after W e) (st.number + 1) k es)

@@ -11,9 +11,13 @@ use Rattle.hsm_types.specs.declared.calls.Call.TheVariants.{Create, Read, Write,
 use Rattle.hsm_types.specs.declared.calls.CallRefusal.{CallRefusal}
 use Rattle.hsm_types.specs.declared.calls.Reply.TheVariants.{Data, Size}
 use Rattle.hsm_types.specs.declared.dm.DmCall.{DmCall}
-use Rattle.hsm_types.specs.declared.dm.DmCall.TheVariants.{CreateSession, GetFileAttr, PathToHandle}
+use Rattle.hsm_types.specs.declared.dm.DmCall.TheVariants.{CreateSession, Respond, CreateUserEvent, GetFileAttr, PathToHandle, GetSpace}
 use Rattle.hsm_types.specs.declared.dm.DmRefusal.{DmRefusal}
-use Rattle.hsm_types.specs.declared.dm.DmRefusal.TheVariants.{NoObject}
+use Rattle.hsm_types.specs.declared.dm.DmRefusal.TheVariants.{NoObject, BadResponse}
+use Rattle.hsm_types.specs.declared.dm.DmReply.TheVariants as told
+use Rattle.hsm_types.specs.declared.dm.Right.TheVariants.{Shared}
+use Rattle.hsm_types.specs.Messages.{is_lawful}
+use Rattle.hsm_types.specs.Sessions.{dead_session, bad_response}
 use Rattle.plain_model.specs.declared.entries.Entry.{Entry}
 use Rattle.plain_model.specs.declared.entries.Actor.{Actor}
 use Rattle.plain_model.specs.declared.entries.Actor.TheVariants.{Caller, Session, Store}
@@ -22,20 +26,22 @@ use Rattle.plain_model.specs.declared.entries.Action.TheVariants.{Issue, Dm, Com
 use Rattle.plain_model.specs.declared.entries.Answer.{Answer}
 use Rattle.plain_model.specs.Effects.{Makes, Drops, Writes, Resizes, effect_of, Change, Nothing, OfFile, OfSessions, change_of}
 use Rattle.plain_model.specs.Plain.{File, Listed, listing, named, key_or_none, free_inode, read_at, body_of}
-use Rattle.plain_model.specs.Ledger.{Meant, meant, objection}
+use Rattle.plain_model.specs.Ledger.{Ledger, Meant, next_token, meant, objection, ledger_told}
 use Rattle.plain_model.specs.Blocks.{touched}
 use Rattle.plain_model.specs.State.{FileState, Held, State, just_opened, noted, changed, names_of, next_key, file_at, bytes_of, used}
 use Rattle.plain_model.specs.Verdict.{Lacks, Verdict, verdict, done_reply, reply_by, objection_in, meant_in, reply_where, reply_to, left_by_verdict, state_where, state_after}
-use Rattle.plain_model.specs.Services.{dead_session, bad_token, is_live, bad_handle, no_such_name, service, dm_judged, dm_reply_where, dm_state_where}
+use Rattle.plain_model.specs.Services.{bad_own_token, bad_given_token, no_right, is_live, bad_handle, no_such_name, service, dm_judged, dm_reply_where, dm_state_where}
 use Rattle.plain_model.specs.Faults.{is_fault}
 use Rattle.plain_model.specs.Step.{World, start, wants_space, IsOutcome, MayReply, meant_for, objection_for, replied, MayTell, changed_plain, files_told, world_told, MayAnswer, MayGive, given, after}
 use Rattle.plain_model.specs.Legal.{Legal, After}
-use Rattle.plain_model.specs.Stands.{HasBody, Stands, StandsFor}
+use Rattle.plain_model.specs.Stands.{HasBody, Stands, StandsFor, InOrder}
 use Rattle.plain_model.specs.Exact.{IsOwn, IsAnswer, left_own, left_by, Exact, state_by}
 use Rattle.plain_model.specs.Laws.{IsOpening}
 use Rattle.plain_model.proofs.Bodies.{read_same}
 use Rattle.plain_model.proofs.Standing.{affected_stands, names_stand, file_stands, found_stands}
 use Rattle.plain_model.proofs.Faultless.{fault_is}
+use Rattle.plain_model.proofs.Judged.{none_first, passes, right_of}
+use Rattle.plain_model.proofs.Orders.{owned_open, event_ordered, ordered_at_first}
 
 -- ---- a call to which nothing objects
 
@@ -111,67 +117,81 @@ module _ (s : Superblock) (st : State) (W : World) (stands : StandsFor st W) whe
 
 -- ---- a session's call
 
-none_first : {R : Type 0} (x : Option R) (rest : List (Option R)) → first_refusal (x ∷ rest) ≡ None → (x ≡ None) × (first_refusal rest ≡ None)
-none_first None rest is = (refl, is)
-none_first (Some why) rest is = cc
-
--- nothing refuses, so the test holds
-passes : {R : Type 0} (b : Bool) (why : R) → (if b then None else Some why) ≡ None → b ≡ true
-passes true why is = refl
-passes false why is = cc
-
-right_of : (a b : Bool) → (a && b) ≡ true → b ≡ true
-right_of true b is = is
-right_of false b is = cc
+-- a refusal leaves the ledger
+refused_ledger : (call : DmCall) (why : DmRefusal) (L : Ledger) → ledger_told L call (told.Refused why) ≡ L
+refused_ledger GetSpace why L = refl
+refused_ledger call why L = refl
 
 module _ (s : Superblock) (st : State) (W : World) (stands : StandsFor st W) (sid : Sid) where
   files : List FileState
   files = st.held.files
 
-  told_step : (call : DmCall) → dm_judged s st sid call ≡ None → MayTell s W call (service s st sid call).reply
-  told_step (GetFileAttr token handle) none =
-      let past_session = none_first (dead_session st.sessions sid) (bad_token token ∷ bad_handle s st.held.files handle ∷ None ∷ []) none in
-      let past_token = none_first (bad_token token) (bad_handle s st.held.files handle ∷ None ∷ []) past_session.1 in
-      let past_handle = none_first (bad_handle s st.held.files handle) (None ∷ []) past_token.1 in
+  told_step : (call : DmCall) → InOrder st → dm_judged s st sid call ≡ None → MayTell s W call (service s st sid call).reply
+  told_step (Respond token response) ordered none =
+      let past_session = none_first (dead_session sid st.sessions) (bad_own_token sid token st.sessions ∷ bad_response response ∷ []) none in
+      let past_token = none_first (bad_own_token sid token st.sessions) (bad_response response ∷ []) past_session.1 in
+      let past_own = none_first (bad_response response) [] past_token.1 in (
+        ap (λ (L : Ledger). L.open token.0) (sym stands.ledger) ∙ (owned_open st sid token ordered past_token.0).0,
+        passes (is_lawful response) BadResponse past_own.0,
+      )
+  told_step (CreateUserEvent body) ordered none = ap next_token stands.ledger
+  told_step (GetFileAttr token handle) ordered none =
+      let past_session = none_first (dead_session sid st.sessions) (bad_given_token sid token st.sessions ∷ bad_handle s st.held.files handle ∷ no_right token Shared ∷ None ∷ []) none in
+      let past_token = none_first (bad_given_token sid token st.sessions) (bad_handle s st.held.files handle ∷ no_right token Shared ∷ None ∷ []) past_session.1 in
+      let past_handle = none_first (bad_handle s st.held.files handle) (no_right token Shared ∷ None ∷ []) past_token.1 in
       let live = right_of (handle.fsid == s.fsid) _ (passes (is_live s st.held.files handle) NoObject past_handle.0) in
       (sym (found_stands handle.key st.held.files W.files stands.files) ∙ live, (file_stands handle.key st.held.files W.files stands.files).size)
-  told_step (PathToHandle name) none =
+  told_step (PathToHandle name) ordered none =
       let own : Option DmRefusal = no_such_name (named name (names_of st.held.files)) in
-      let past_session = none_first (dead_session st.sessions sid) (own ∷ []) none in
+      let past_session = none_first (dead_session sid st.sessions) (own ∷ []) none in
       let past_own = none_first own [] past_session.1 in
       let found = passes (is_some (named name (names_of st.held.files))) NoObject past_own.0 in
       let same : names_of st.held.files ≡ listing W.files = names_stand st.held.files W.files stands.files in (
         ap (λ ls. is_some (named name ls)) (sym same) ∙ found,
         ap (λ (ls : List Listed). record { fsid = s.fsid; key = key_or_none (named name ls) }) same,
       )
-  told_step call none = refl
+  told_step call ordered none = refl
 
-  changed_stands : (change : Change) → StandsFor (noted (changed change st)) (record W { files = changed_plain change W.files })
-  changed_stands Nothing = record { files = stands.files; newer = stands.newer; ledger = stands.ledger }
-  changed_stands (OfFile k effect) = record { files = affected_stands effect k st.held.files W.files stands.files; newer = stands.newer; ledger = stands.ledger }
-  changed_stands (OfSessions to) = record { files = stands.files; newer = stands.newer; ledger = stands.ledger }
+  changed_files : (change : Change) → Stands (changed change st).held.files (changed_plain change W.files)
+  changed_files Nothing = stands.files
+  changed_files (OfFile k effect) = affected_stands effect k st.held.files W.files stands.files
+  changed_files (OfSessions to) = stands.files
+
+  changed_next : (change : Change) → (changed change st).held.next ≡ st.held.next
+  changed_next Nothing = refl
+  changed_next (OfFile k effect) = refl
+  changed_next (OfSessions to) = refl
 
   -- it isn't told a refusal
   files_done : (call : DmCall) → changed_plain (change_of sid call) W.files ≡ files_told W.files sid call (service s st sid call).reply
   files_done (CreateSession old info) = refl
   files_done call = refl
 
-  told_where : (call : DmCall) (why : Option DmRefusal) → dm_judged s st sid call ≡ why
-      → MayTell s W call (dm_reply_where why s st sid call) × StandsFor (dm_state_where why st sid call) (world_told W sid call (dm_reply_where why s st sid call))
-  told_where call None is = (
-    told_step call is,
-    subst (λ (P : List File). StandsFor (noted (changed (change_of sid call) st)) (record W { files = P })) (files_done call) (changed_stands (change_of sid call)),
-  )
-  told_where call (Some why) is = (tt, record { files = stands.files; newer = stands.newer; ledger = stands.ledger })
+  may_tell : (call : DmCall) (why : Option DmRefusal) → InOrder st → dm_judged s st sid call ≡ why → MayTell s W call (dm_reply_where why s st sid call)
+  may_tell call None ordered is = told_step call ordered is
+  may_tell call (Some why) ordered is = tt
+
+  told_stands : (call : DmCall) (why : Option DmRefusal) → StandsFor (dm_state_where why s st sid call) (world_told W sid call (dm_reply_where why s st sid call))
+  told_stands call None = record {
+    files = rw (sym (files_done call)) (changed_files (change_of sid call));
+    newer = rw (changed_next (change_of sid call)) stands.newer;
+    ledger = ap (λ (L : Ledger). ledger_told L call (service s st sid call).reply) stands.ledger;
+  }
+  told_stands call (Some why) = record { files = stands.files; newer = stands.newer; ledger = stands.ledger ∙ sym (refused_ledger call why W.ledger) }
 
 -- ---- any event
 
-own_step : (s : Superblock) (st : State) (W : World) (who : Actor) (what : Action) (answer : Answer) → StandsFor st W → IsOwn s st who what answer
-    → MayAnswer s W who what answer × StandsFor (left_own s st who what) (given W who what answer)
-own_step s st W (Caller c) (Issue call) answer stands is = rw is.1 (call_step s st W stands c call)
-own_step s st W (Session sid) (Dm call) answer stands is = rw is.1 (told_where s st W stands sid call (dm_judged s st sid call) refl)
-own_step s st W Store Commit answer stands is = rw is.1 (refl, record { files = stands.files; newer = stands.newer; ledger = stands.ledger })
-own_step s st W who what answer stands is = absurd is.0
+own_may : (s : Superblock) (st : State) (W : World) (who : Actor) (what : Action) (answer : Answer) → StandsFor st W → InOrder st → IsOwn s st who what answer → MayAnswer s W who what answer
+own_may s st W (Caller c) (Issue call) answer stands ordered is = rw is.1 (call_step s st W stands c call).0
+own_may s st W (Session sid) (Dm call) answer stands ordered is = rw is.1 (may_tell s st W stands sid call (dm_judged s st sid call) ordered refl)
+own_may s st W Store Commit answer stands ordered is = rw is.1 refl
+own_may s st W who what answer stands ordered is = absurd is.0
+
+own_stands : (s : Superblock) (st : State) (W : World) (who : Actor) (what : Action) (answer : Answer) → StandsFor st W → IsOwn s st who what answer → StandsFor (left_own s st who what) (given W who what answer)
+own_stands s st W (Caller c) (Issue call) answer stands is = rw is.1 (call_step s st W stands c call).1
+own_stands s st W (Session sid) (Dm call) answer stands is = rw is.1 (told_stands s st W stands sid call (dm_judged s st sid call))
+own_stands s st W Store Commit answer stands is = (record { files = stands.files; newer = stands.newer; ledger = stands.ledger })
+own_stands s st W who what answer stands is = absurd is.0
 
 if_stands : (fault : Bool) (st own : State) (W V : World) → StandsFor (noted st) W → (fault ≡ false → StandsFor own V) → StandsFor (if fault then noted st else own) (if fault then W else V)
 if_stands true st own W V still done = still
@@ -181,26 +201,24 @@ faulty_stands : (fault : Bool) (st own : State) (W V : World) → fault ≡ true
 faulty_stands true st own W V is still = still
 faulty_stands false st own W V is still = cc
 
-pub event_step : (s : Superblock) (st : State) (W : World) (e : Entry) → StandsFor st W → IsAnswer s st e.actor e.action e.answer
-    → MayGive s W e.actor e.action e.answer × StandsFor (left_by s st e.actor e.action e.answer) (after W e)
-event_step s st W e stands (inl is) = (
-  inl is,
-  faulty_stands (is_fault e.answer) st (left_own s st e.actor e.action) W (given W e.actor e.action e.answer) (ap is_fault is.1 ∙ fault_is e.action)
-      (record { files = stands.files; newer = stands.newer; ledger = stands.ledger }),
-)
-event_step s st W e stands (inr is) =
-    let own = own_step s st W e.actor e.action e.answer stands is in (
-      inr own.0,
-      if_stands (is_fault e.answer) st (left_own s st e.actor e.action) W (given W e.actor e.action e.answer)
-          (record { files = stands.files; newer = stands.newer; ledger = stands.ledger }) (λ none. own.1),
-    )
+-- the store after an event stands for the world after it
+pub event_stands : (s : Superblock) (st : State) (W : World) (e : Entry) → StandsFor st W → IsAnswer s st e.actor e.action e.answer → StandsFor (left_by s st e.actor e.action e.answer) (after W e)
+event_stands s st W e stands (inl is) =
+    faulty_stands (is_fault e.answer) st (left_own s st e.actor e.action) W (given W e.actor e.action e.answer) (ap is_fault is.1 ∙ fault_is e.action)
+    (record { files = stands.files; newer = stands.newer; ledger = stands.ledger })
+event_stands s st W e stands (inr is) =
+    if_stands (is_fault e.answer) st (left_own s st e.actor e.action) W (given W e.actor e.action e.answer) (record { files = stands.files; newer = stands.newer; ledger = stands.ledger })
+    (λ none. own_stands s st W e.actor e.action e.answer stands is)
 
-steps : (s : Superblock) (st : State) (W : World) (es : List Entry) → StandsFor st W → Exact s st es → Legal s W es × StandsFor (state_by s st es) (After W es)
-steps s st W [] stands exact = (tt, stands)
-steps s st W (e ∷ es) stands exact =
-    let now = event_step s st W e stands exact.0 in
-    let rest = steps s (left_by s st e.actor e.action e.answer) (after W e) es now.1 exact.2 in
-    ((now.0, exact.1, rest.0), rest.1)
+event_may : (s : Superblock) (st : State) (W : World) (e : Entry) → StandsFor st W → InOrder st → IsAnswer s st e.actor e.action e.answer → MayGive s W e.actor e.action e.answer
+event_may s st W e stands ordered (inl is) = inl is
+event_may s st W e stands ordered (inr is) = inr (own_may s st W e.actor e.action e.answer stands ordered is)
+
+steps : (s : Superblock) (st : State) (W : World) (es : List Entry) → StandsFor st W → InOrder st → Exact s st es → Legal s W es × StandsFor (state_by s st es) (After W es)
+steps s st W [] stands ordered exact = (tt, stands)
+steps s st W (e ∷ es) stands ordered exact =
+    let rest = steps s (left_by s st e.actor e.action e.answer) (after W e) es (event_stands s st W e stands exact.0) (event_ordered s st e ordered) exact.2 in
+    ((event_may s st W e stands ordered exact.0, exact.1, rest.0), rest.1)
 
 -- a store that was just opened stands for each plain map that what it holds does
 pub stands_at_first : (base : ℕ) (h : Held) (P : List File) → IsOpening h → Stands h.files P → StandsFor (just_opened base h) (start P)
@@ -209,4 +227,4 @@ stands_at_first base h P opening stands = record { files = stands; newer = rw (n
 -- from each plain map that the opening stands for an exact history is legal, and the store stands for the map that it leaves
 pub exact_is_legal : (s : Superblock) (base : ℕ) (h : Held) (es : List Entry) (P : List File) → IsOpening h → Exact s (just_opened base h) es → Stands h.files P
     → Legal s (start P) es × StandsFor (state_by s (just_opened base h) es) (After (start P) es)
-exact_is_legal s base h es P opening exact stands = steps s (just_opened base h) (start P) es (stands_at_first base h P opening stands) exact
+exact_is_legal s base h es P opening exact stands = steps s (just_opened base h) (start P) es (stands_at_first base h P opening stands) (ordered_at_first base h) exact

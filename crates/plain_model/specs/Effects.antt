@@ -1,15 +1,16 @@
 -- What an event does to one file, of callers and sessions alike. What becomes of files, and of what stands beside them, goes by the effect of a
 -- completed event, and not by its call.
 use Rattle.std.specs.Prelude.{ℕ, List}
-use Rattle.hsm_types.specs.Sessions.{SessionTable, with_session}
+use Rattle.hsm_types.specs.Sessions.{SessionTable, with_session, without_session, with_kinds, delivered_within, responded, user_event, sent}
 use Rattle.hsm_types.specs.declared.attributes.AttrName.{AttrName}
 use Rattle.hsm_types.specs.declared.regions.Region.{Region}
 use Rattle.hsm_types.specs.declared.keys.FileKey.{FileKey}
 use Rattle.hsm_types.specs.declared.keys.Sid.{Sid}
+use Rattle.hsm_types.specs.declared.keys.Token.{Token}
 use Rattle.hsm_types.specs.declared.calls.Call.{Call}
 use Rattle.hsm_types.specs.declared.calls.Call.TheVariants.{Create, Read, Write, Truncate, Remove, Stat, Sync}
 use Rattle.hsm_types.specs.declared.dm.DmCall.{DmCall}
-use Rattle.hsm_types.specs.declared.dm.DmCall.TheVariants.{CreateSession, GetAllSessions, QuerySession, GetFileAttr, SetRegion, GetRegion, SetDmAttr, GetDmAttr, RemoveDmAttr, GetAllDmAttr, PathToHandle, GetSpace}
+use Rattle.hsm_types.specs.declared.dm.DmCall.TheVariants.{CreateSession, DestroySession, GetAllSessions, QuerySession, SetDisp, GetDisp, GetEvents, GetAllTokens, FindEventMsg, Respond, CreateUserEvent, SendMsg, GetFileAttr, SetRegion, GetRegion, SetDmAttr, GetDmAttr, RemoveDmAttr, GetAllDmAttr, PathToHandle, GetSpace}
 
 pub data Effect : Type 0 where
   Leaves : Effect
@@ -37,17 +38,26 @@ effect_of (Remove name) = Drops
 effect_of (Stat name) = Leaves
 effect_of Sync = Leaves
 
--- what a call changes that is done: nothing, one file, or the sessions
+-- what a call changes that is done: nothing, one file, or the sessions, for which there is a token that was never given
 pub data Change : Type 0 where
   Nothing : Change
   OfFile : FileKey → Effect → Change
-  OfSessions : (SessionTable → SessionTable) → Change
+  OfSessions : (Token → SessionTable → SessionTable) → Change
 
 -- of a call of that session
 abbrev pub change_of : Sid → DmCall → Change
-change_of sid (CreateSession old info) = OfSessions (with_session old info)
+change_of sid (CreateSession old info) = OfSessions (λ new. with_session old info)
+change_of sid DestroySession = OfSessions (λ new. without_session sid)
 change_of sid GetAllSessions = Nothing
 change_of sid (QuerySession target) = Nothing
+change_of sid (SetDisp kinds) = OfSessions (λ new. with_kinds sid kinds)
+change_of sid GetDisp = Nothing
+change_of sid (GetEvents max room) = OfSessions (λ new. delivered_within sid max room)
+change_of sid GetAllTokens = Nothing
+change_of sid (FindEventMsg token room) = Nothing
+change_of sid (Respond token response) = OfSessions (λ new. responded sid token)
+change_of sid (CreateUserEvent body) = OfSessions (λ new. user_event sid new body)
+change_of sid (SendMsg target body) = OfSessions (λ new. sent target body)
 change_of sid (GetFileAttr token handle) = Nothing
 change_of sid (SetRegion token handle regions) = OfFile handle.key (Manages regions)
 change_of sid (GetRegion token handle) = Nothing

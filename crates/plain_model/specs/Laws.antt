@@ -9,7 +9,7 @@ use Rattle.plain_model.specs.Legal.{Legal, After, NoClash}
 use Rattle.plain_model.specs.Once.{Once}
 use Rattle.plain_model.specs.PlainFold.{plain_after}
 use Rattle.plain_model.specs.State.{Held, State, names_of, just_opened}
-use Rattle.plain_model.specs.Stands.{Stands, StandsFor}
+use Rattle.plain_model.specs.Stands.{Stands, StandsFor, InOrder}
 use Rattle.plain_model.specs.Exact.{Exact, state_by}
 use Rattle.plain_model.specs.Side.{sides_of, side_after}
 use Rattle.plain_model.specs.Stamps.{stamp}
@@ -44,10 +44,11 @@ pub record IsGoodFrom (s : Superblock) (base : ℕ) (h : Held) (es : List Entry)
   pub stamps : (i : ℕ) (k : FileKey) → (state_at s base h es i).stamps k ≡ stamp (start P) base k (take i es)
   pub plain : IsPlain P es
 
--- a run that gives each token once, and is good from each such map
+-- a run that uses each token once, keeps its tables in order, and is good from each such map
 pub record IsGoodRun (s : Superblock) (base : ℕ) (h : Held) (es : List Entry) : Type 0 where
   pub run : IsRun s base h es
   pub once : Once es
+  pub ordered : (i : ℕ) → InOrder (state_at s base h es i)
   pub good : (P : List File) → Stands h.files P → IsGoodFrom s base h es P
 
 -- each run is such

@@ -1,5 +1,5 @@
 -- The text of a history: a line for each event, its words with a space between each two.
-use Rattle.std.specs.Prelude.{ℕ, List, [], ◌∷◌, ◌++◌, length, map, codes, ◌==◌, nat_le, if◌then◌else◌}
+use Rattle.std.specs.Prelude.{ℕ, List, [], ◌∷◌, ◌++◌, length, map, codes, Bool, true, false, ◌==◌, nat_le, if◌then◌else◌}
 use Rattle.std.specs.List.{flat_map, join_with_byte}
 use Rattle.std.specs.Fmt.{decimal}
 use Rattle.hex.specs.Hex.{encode_lower}
@@ -10,6 +10,11 @@ use Rattle.hsm_types.specs.declared.calls.CallRefusal.TheVariants.{Missing, Exis
 use Rattle.hsm_types.specs.declared.calls.Reply.{Reply}
 use Rattle.hsm_types.specs.declared.calls.Reply.TheVariants.{Done, Made, Data, Size, Refused}
 use Rattle.hsm_types.specs.declared.dm.DmCall.{DmCall}
+use Rattle.hsm_types.specs.declared.dm.Kinds.{Kinds}
+use Rattle.hsm_types.specs.declared.dm.Response.{Response}
+use Rattle.hsm_types.specs.declared.dm.Response.TheVariants.{Continue, Abort}
+use Rattle.hsm_types.specs.declared.dm.Right.{Right}
+use Rattle.hsm_types.specs.declared.dm.Right.TheVariants.{Null, Shared, Excl}
 use Rattle.hsm_types.specs.declared.dm.DmRefusal.{DmRefusal}
 use Rattle.hsm_types.specs.declared.dm.DmRefusal.TheVariants as why
 use Rattle.hsm_types.specs.declared.dm.DmReply.{DmReply}
@@ -74,15 +79,37 @@ regions_word (r ∷ rs) = join_with_byte 44 (map region_word (r ∷ rs))
 abbrev pub name_word : AttrName → List ℕ
 name_word name = encode_lower name.0
 
+abbrev pub if_taken : Bool → List ℕ → List (List ℕ)
+if_taken true word = word ∷ []
+if_taken false word = []
+
+-- the kinds in their order with a comma between each two, `-` for none
+abbrev pub kinds_word : Kinds → List ℕ
+kinds_word kinds =
+    let words = if_taken kinds.read (codes "read") ++ if_taken kinds.write (codes "write") ++ if_taken kinds.truncate (codes "truncate") ++ if_taken kinds.no_space (codes "nospace") in
+    join_with_byte 44 (listed words)
+
+-- `continue`, or `abort` and the error
+abbrev pub response_word : Response → List ℕ
+response_word Continue = codes "continue"
+response_word (Abort error) = codes "abort " ++ decimal error
+
+abbrev pub right_word : Right → List ℕ
+right_word Null = codes "null"
+right_word Shared = codes "shared"
+right_word Excl = codes "excl"
+
 -- a part of a call, its data as `word` writes data. A script line has the same words
 abbrev pub part_word : (List ℕ → List ℕ) → Part → List ℕ
 part_word word (part.Number n) = decimal n
-part_word word (part.Old sid) = decimal sid
+part_word word (part.Count n) = decimal n
 part_word word (part.Fetch len) = decimal len
 part_word word (part.Word name) = name
 part_word word (part.Handle handle) = handle_word handle
 part_word word (part.Regions regions) = regions_word regions
 part_word word (part.Name name) = name_word name
+part_word word (part.Kinds kinds) = kinds_word kinds
+part_word word (part.Response response) = response_word response
 part_word word (part.Data bytes) = word bytes
 
 -- a verb, and the parts behind it
@@ -121,11 +148,17 @@ reply_words (Refused why) = codes "refused" ∷ refusal_words why
 abbrev pub dm_refusal_words : DmRefusal → List (List ℕ)
 dm_refusal_words why.NoSession = codes "NoSession" ∷ []
 dm_refusal_words why.NoToken = codes "NoToken" ∷ []
+dm_refusal_words (why.NotYours owner) = codes "NotYours" ∷ decimal owner.0 ∷ []
 dm_refusal_words why.NoObject = codes "NoObject" ∷ []
+dm_refusal_words (why.NeedRight have) = codes "NeedRight" ∷ right_word have ∷ []
+dm_refusal_words (why.EventsLeft count) = codes "EventsLeft" ∷ decimal count ∷ []
+dm_refusal_words why.Again = codes "Again" ∷ []
+dm_refusal_words (why.TooSmall need) = codes "TooSmall" ∷ decimal need ∷ []
 dm_refusal_words (why.BadRegion index) = codes "BadRegion" ∷ decimal index ∷ []
 dm_refusal_words why.NoAttr = codes "NoAttr" ∷ []
 dm_refusal_words why.Reserved = codes "Reserved" ∷ []
 dm_refusal_words (why.AttrTooBig len) = codes "AttrTooBig" ∷ decimal len ∷ []
+dm_refusal_words why.BadResponse = codes "BadResponse" ∷ []
 dm_refusal_words (why.TooMany count) = codes "TooMany" ∷ decimal count ∷ []
 dm_refusal_words why.Disk = codes "Disk" ∷ []
 dm_refusal_words why.Memory = codes "Memory" ∷ []
@@ -135,6 +168,10 @@ dm_reply_words told.Done = codes "done" ∷ []
 dm_reply_words (told.Session sid) = codes "session" ∷ decimal sid.0 ∷ []
 dm_reply_words (told.Sids sids) = codes "sessions" ∷ listed (map (λ sid. decimal sid.0) sids)
 dm_reply_words (told.Info info) = codes "info" ∷ info ∷ []
+dm_reply_words (told.Kinds kinds) = codes "disp" ∷ kinds_word kinds ∷ []
+dm_reply_words (told.Packed bytes tokens) = codes "packed" ∷ decimal (length bytes) ∷ listed (map (λ token. decimal token.0) tokens)
+dm_reply_words (told.Tokens tokens) = codes "tokens" ∷ listed (map (λ token. decimal token.0) tokens)
+dm_reply_words (told.Token token) = codes "token" ∷ decimal token.0 ∷ []
 dm_reply_words (told.Attr size stamp blocks) = codes "attr" ∷ decimal size ∷ decimal stamp ∷ decimal blocks ∷ []
 dm_reply_words (told.Data bytes) = data_text bytes ∷ []
 dm_reply_words (told.Regions regions) = codes "regions" ∷ regions_word regions ∷ []

@@ -3,7 +3,8 @@ use Rattle.std.specs.Prelude.{ℕ, ◌-◌, List, [], ◌∷◌, ◌++◌, lengt
 use Rattle.std.specs.Map.{keys_of}
 use Rattle.hsm_types.specs.Refusals.{first_refusal}
 use Rattle.hsm_types.specs.Calls.{scope_of}
-use Rattle.hsm_types.specs.Sessions.{SessionTable, lives, info_of, creation_refusal, next_sid}
+use Rattle.hsm_types.specs.Messages.{packed, handed_out}
+use Rattle.hsm_types.specs.Sessions.{SessionTable, info_of, kinds_of, queue_of, outstanding_of, tokens_of, outstanding_message, creation_refusal, dead_session, bad_token, destruction_refusal, none_fits, bad_response, event_refusal, sending_refusal, next_sid}
 use Rattle.hsm_types.specs.Attributes.{value_of, bytes_of_attributes, setting_refusal, no_attribute, removal_refusal}
 use Rattle.hsm_types.specs.Regions.{regions_refusal}
 use Rattle.hsm_types.specs.Kept.{Kept}
@@ -12,27 +13,32 @@ use Rattle.hsm_types.specs.declared.keys.Handle.{Handle}
 use Rattle.hsm_types.specs.declared.keys.Sid.{Sid}
 use Rattle.hsm_types.specs.declared.keys.Token.{Token}
 use Rattle.hsm_types.specs.declared.stores.Superblock.{Superblock}
+use Rattle.hsm_types.specs.declared.dm.Right.{Right}
+use Rattle.hsm_types.specs.declared.dm.Right.TheVariants.{Null}
 use Rattle.hsm_types.specs.declared.dm.Scope.{Scope}
-use Rattle.hsm_types.specs.declared.dm.Scope.TheVariants.{Anyone, InSession, OnFile}
+use Rattle.hsm_types.specs.declared.dm.Scope.TheVariants.{Anyone, InSession, OnToken, OnFile}
 use Rattle.hsm_types.specs.declared.dm.DmCall.{DmCall}
-use Rattle.hsm_types.specs.declared.dm.DmCall.TheVariants.{CreateSession, GetAllSessions, QuerySession, GetFileAttr, SetRegion, GetRegion, SetDmAttr, GetDmAttr, RemoveDmAttr, GetAllDmAttr, PathToHandle, GetSpace}
+use Rattle.hsm_types.specs.declared.dm.DmCall.TheVariants.{CreateSession, DestroySession, GetAllSessions, QuerySession, SetDisp, GetDisp, GetEvents, GetAllTokens, FindEventMsg, Respond, CreateUserEvent, SendMsg, GetFileAttr, SetRegion, GetRegion, SetDmAttr, GetDmAttr, RemoveDmAttr, GetAllDmAttr, PathToHandle, GetSpace}
 use Rattle.hsm_types.specs.declared.dm.DmReply.{DmReply}
 use Rattle.hsm_types.specs.declared.dm.DmReply.TheVariants as reply
 use Rattle.hsm_types.specs.declared.dm.DmRefusal.{DmRefusal}
-use Rattle.hsm_types.specs.declared.dm.DmRefusal.TheVariants.{NoSession, NoToken, NoObject}
+use Rattle.hsm_types.specs.declared.dm.DmRefusal.TheVariants.{NoToken, NoObject, NeedRight}
+use Rattle.hsm_types.specs.declared.messages.Message.{Message}
 use Rattle.plain_model.specs.Keyed.{find_key}
+use Rattle.plain_model.specs.Ledger.{next_token, ledger_told}
 use Rattle.plain_model.specs.Effects.{change_of}
 use Rattle.plain_model.specs.Plain.{Listed, named, key_or_none}
 use Rattle.plain_model.specs.State.{FileState, names_of, file_at, used_by, used, State, noted, changed}
 
 -- ---- what refuses by the scope of a call
 
-abbrev pub dead_session : SessionTable → Sid → Option DmRefusal
-dead_session t sid = if lives sid t then None else Some NoSession
+-- 0 stands for no token, which is outstanding to nobody
+abbrev pub bad_own_token : Sid → Token → SessionTable → Option DmRefusal
+bad_own_token sid token t = if token.0 == 0 then Some NoToken else bad_token sid token t
 
--- No token is ever outstanding. 0 stands for none.
-abbrev pub bad_token : Token → Option DmRefusal
-bad_token token = if token.0 == 0 then None else Some NoToken
+-- where a call may go without one
+abbrev pub bad_given_token : Sid → Token → SessionTable → Option DmRefusal
+bad_given_token sid token t = if token.0 == 0 then None else bad_token sid token t
 
 -- the handle is that of a file of this store
 abbrev pub is_live : Superblock → List FileState → Handle → Bool
@@ -41,11 +47,17 @@ is_live s files h = (h.fsid == s.fsid) && is_some (find_key (λ f. f.key) h.key 
 abbrev pub bad_handle : Superblock → List FileState → Handle → Option DmRefusal
 bad_handle s files h = if is_live s files h then None else Some NoObject
 
+-- No token of today has a right on any file. 0 takes the right that it needs
+abbrev pub no_right : Token → Right → Option DmRefusal
+no_right token Null = None
+no_right token right = if token.0 == 0 then None else Some (NeedRight Null)
+
 -- in the order of judgement
 abbrev pub scope_refusals : Superblock → State → Sid → Scope → List (Option DmRefusal)
 scope_refusals s st sid Anyone = []
-scope_refusals s st sid InSession = dead_session st.sessions sid ∷ []
-scope_refusals s st sid (OnFile token handle) = dead_session st.sessions sid ∷ bad_token token ∷ bad_handle s st.held.files handle ∷ []
+scope_refusals s st sid InSession = dead_session sid st.sessions ∷ []
+scope_refusals s st sid (OnToken token) = dead_session sid st.sessions ∷ bad_own_token sid token st.sessions ∷ []
+scope_refusals s st sid (OnFile token handle right) = dead_session sid st.sessions ∷ bad_given_token sid token st.sessions ∷ bad_handle s st.held.files handle ∷ no_right token right ∷ []
 
 -- ---- what a call asks for by itself
 
@@ -67,6 +79,14 @@ abbrev pub bytes_or_none : Option (List ℕ) → List ℕ
 bytes_or_none None = []
 bytes_or_none (Some bytes) = bytes
 
+-- messages that are handed out: their buffer, and their tokens
+abbrev pub handed : List Message → DmReply
+handed messages = reply.Packed (packed messages) (tokens_of messages)
+
+abbrev pub message_or_none : Option Message → List Message
+message_or_none None = []
+message_or_none (Some m) = m ∷ []
+
 pub record Service : Type 0 where
   -- what refuses the call, where its scope doesn't
   pub refusal : Option DmRefusal
@@ -76,8 +96,17 @@ pub record Service : Type 0 where
 -- of each call of that session. What it changes is said by change_of
 abbrev pub service : Superblock → State → Sid → DmCall → Service
 service s st sid (CreateSession old info) = record { refusal = creation_refusal old info st.sessions; reply = reply.Session (next_sid st.sessions) }
+service s st sid DestroySession = record { refusal = destruction_refusal sid st.sessions; reply = reply.Done }
 service s st sid GetAllSessions = record { refusal = None; reply = reply.Sids (keys_of st.sessions.live) }
-service s st sid (QuerySession target) = record { refusal = dead_session st.sessions target; reply = reply.Info (bytes_or_none (info_of target st.sessions)) }
+service s st sid (QuerySession target) = record { refusal = dead_session target st.sessions; reply = reply.Info (bytes_or_none (info_of target st.sessions)) }
+service s st sid (SetDisp kinds) = record { refusal = None; reply = reply.Done }
+service s st sid GetDisp = record { refusal = None; reply = reply.Kinds (kinds_of sid st.sessions) }
+service s st sid (GetEvents max room) = let queue = queue_of sid st.sessions in record { refusal = none_fits room queue; reply = handed (handed_out max room queue) }
+service s st sid GetAllTokens = record { refusal = None; reply = reply.Tokens (tokens_of (outstanding_of sid st.sessions)) }
+service s st sid (FindEventMsg token room) = let found = message_or_none (outstanding_message token st.sessions) in record { refusal = none_fits room found; reply = handed found }
+service s st sid (Respond token response) = record { refusal = bad_response response; reply = reply.Done }
+service s st sid (CreateUserEvent body) = record { refusal = event_refusal body st.sessions; reply = reply.Token (next_token st.ledger) }
+service s st sid (SendMsg target body) = record { refusal = sending_refusal target body st.sessions; reply = reply.Done }
 service s st sid (GetFileAttr token handle) = let f = file_at handle.key st.held.files in record { refusal = None; reply = reply.Attr (length f.body) (st.stamps handle.key) (used_by f) }
 service s st sid (SetRegion token handle regions) = record { refusal = regions_refusal regions; reply = reply.Done }
 service s st sid (GetRegion token handle) = record { refusal = None; reply = reply.Regions (kept_of handle.key st.held.files).regions }
@@ -101,9 +130,9 @@ abbrev pub dm_reply_where : Option DmRefusal → Superblock → State → Sid �
 dm_reply_where (Some why) s st sid call = reply.Refused why
 dm_reply_where None s st sid call = (service s st sid call).reply
 
-abbrev pub dm_state_where : Option DmRefusal → State → Sid → DmCall → State
-dm_state_where (Some why) st sid call = noted st
-dm_state_where None st sid call = noted (changed (change_of sid call) st)
+abbrev pub dm_state_where : Option DmRefusal → Superblock → State → Sid → DmCall → State
+dm_state_where (Some why) s st sid call = noted st
+dm_state_where None s st sid call = record (noted (changed (change_of sid call) st)) { ledger = ledger_told st.ledger call (service s st sid call).reply }
 
 -- the store's reply to a session's call
 abbrev pub dm_reply_to : Superblock → State → Sid → DmCall → DmReply
@@ -111,4 +140,4 @@ dm_reply_to s st sid call = dm_reply_where (dm_judged s st sid call) s st sid ca
 
 -- the store after the call
 abbrev pub dm_state_after : Superblock → State → Sid → DmCall → State
-dm_state_after s st sid call = dm_state_where (dm_judged s st sid call) st sid call
+dm_state_after s st sid call = dm_state_where (dm_judged s st sid call) s st sid call

@@ -1,5 +1,7 @@
--- When what a store holds stands for a plain map.
-use Rattle.std.specs.Prelude.{ℕ, ◌≡◌, ◌<◌, List, [], ◌∷◌, length, get_or}
+-- When what a store holds stands for a plain map, and when its tables agree.
+use Rattle.std.specs.Prelude.{ℕ, ◌≡◌, ◌<◌, List, [], ◌∷◌, length, get_or, false, if◌then◌else◌}
+use Rattle.hsm_types.specs.Sessions.{Ascend, places}
+use Rattle.hsm_types.specs.declared.keys.Token.{Token}
 use Rattle.plain_model.specs.Plain.{File}
 use Rattle.plain_model.specs.Step.{World}
 use Rattle.plain_model.specs.State.{FileState, State}
@@ -27,3 +29,10 @@ pub record StandsFor (st : State) (W : World) : Type 0 where
   pub files : Stands st.held.files W.files
   pub newer : W.last < st.held.next
   pub ledger : st.ledger ≡ W.ledger
+
+-- The tables agree with the ledger: ids of sessions ascend; each open token stands at just one place, unrouted, in a queue or outstanding, and no other
+-- stands anywhere; and no token is open that was never given.
+pub record InOrder (st : State) : Type 0 where
+  pub ascend : Ascend 0 st.sessions.given st.sessions.live
+  pub once : (t : Token) → 0 < t.0 → places t st.sessions ≡ (if st.ledger.open t.0 then 1 else 0)
+  pub given : (t : ℕ) → st.ledger.top < t → st.ledger.open t ≡ false

@@ -7,7 +7,7 @@ use Rattle.hsm_types.specs.declared.keys.FileKey.{FileKey}
 use Rattle.plain_model.specs.Keyed.{find_key, change_key, put_key, drop_key}
 use Rattle.plain_model.specs.Effects.{Effect, Leaves, Makes, Drops, Manages, Attaches, Detaches, Change, Nothing, OfFile, OfSessions}
 use Rattle.plain_model.specs.Plain.{Listed, free_inode, rebody}
-use Rattle.plain_model.specs.Ledger.{Ledger, no_ledger}
+use Rattle.plain_model.specs.Ledger.{Ledger, no_ledger, next_token}
 use Rattle.plain_model.specs.Blocks.{remapped}
 
 -- a file as the store holds it: its bytes, for each of its blocks whether it is mapped, and what sessions keep with it
@@ -101,4 +101,4 @@ noted st = record st { number = st.number + 1 }
 abbrev pub changed : Change → State → State
 changed Nothing st = st
 changed (OfFile k effect) st = record st { held = record st.held { files = affected_held effect k st.held.files } }
-changed (OfSessions to) st = record st { sessions = to st.sessions }
+changed (OfSessions to) st = record st { sessions = to (next_token st.ledger) st.sessions }

@@ -2,6 +2,7 @@
 use Rattle.std.specs.Prelude.{ℕ, ◌≡◌, ◌<◌, ◌⊎◌, List, length, Bool, true, false, if◌then◌else◌, Option, is_some, IsTrue, MatchOption}
 use Rattle.hsm_types.specs.Answers.{reply_kind}
 use Rattle.hsm_types.specs.Forms.{answer_kind}
+use Rattle.hsm_types.specs.Messages.{is_lawful}
 use Rattle.hsm_types.specs.declared.keys.FileKey.{FileKey}
 use Rattle.hsm_types.specs.declared.keys.Sid.{Sid}
 use Rattle.hsm_types.specs.declared.stores.Superblock.{Superblock}
@@ -12,7 +13,7 @@ use Rattle.hsm_types.specs.declared.calls.CallRefusal.TheVariants.{NoSpace}
 use Rattle.hsm_types.specs.declared.calls.Reply.{Reply}
 use Rattle.hsm_types.specs.declared.calls.Reply.TheVariants.{Done, Made, Refused}
 use Rattle.hsm_types.specs.declared.dm.DmCall.{DmCall}
-use Rattle.hsm_types.specs.declared.dm.DmCall.TheVariants.{GetFileAttr, PathToHandle}
+use Rattle.hsm_types.specs.declared.dm.DmCall.TheVariants.{Respond, CreateUserEvent, GetFileAttr, PathToHandle}
 use Rattle.hsm_types.specs.declared.dm.DmReply.{DmReply}
 use Rattle.hsm_types.specs.declared.dm.DmReply.TheVariants as told
 use Rattle.plain_model.specs.declared.entries.Entry.{Entry}
@@ -25,7 +26,7 @@ use Rattle.plain_model.specs.declared.entries.Answer.TheVariants.{Call as Replie
 use Rattle.plain_model.specs.Keyed.{find_key}
 use Rattle.plain_model.specs.Effects.{Change, Nothing, OfFile, OfSessions, change_of}
 use Rattle.plain_model.specs.Plain.{File, listing, named, key_or_none, body_of, free_inode, greatest, key_by, affected, act}
-use Rattle.plain_model.specs.Ledger.{Meant, Ledger, no_ledger, meant, objection, is_completion, ledger_replied}
+use Rattle.plain_model.specs.Ledger.{Meant, Ledger, no_ledger, next_token, meant, objection, is_completion, ledger_replied, ledger_told}
 use Rattle.plain_model.specs.Faults.{is_fault, IsFault}
 
 -- the plain map, the greatest generation that was ever given, and what users see of waiting
@@ -84,9 +85,12 @@ replied W c a reply = record { files = files_replied W.files a reply; last = las
 
 -- ---- sessions
 
--- A session's call may get this reply: a refusal, or the answer of its kind. The size and the key that it tells are those of the plain map
+-- A session's call may get this reply: a refusal, or the answer of its kind. A response is lawful and its token is open, and a user's event has the
+-- next token; the size and the key that are told are those of the plain map
 abbrev pub MayTell : Superblock → World → DmCall → DmReply → Type 0
 MayTell s W call (told.Refused why) = Unit {0}
+MayTell s W (Respond t response) told.Done = IsTrue (W.ledger.open t.0) × IsTrue (is_lawful response)
+MayTell s W (CreateUserEvent body) (told.Token t) = t ≡ next_token W.ledger
 MayTell s W (GetFileAttr token handle) (told.Attr size stamp blocks) = IsTrue (is_some (find_key (λ f. f.key) handle.key W.files)) × (size ≡ length (body_of handle.key W.files))
 MayTell s W (PathToHandle name) (told.Handle handle) = IsTrue (is_some (named name (listing W.files))) × (handle ≡ record { fsid = s.fsid; key = key_or_none (named name (listing W.files)) })
 MayTell s W call reply = reply_kind reply ≡ answer_kind call
@@ -103,7 +107,7 @@ files_told P sid call reply = changed_plain (change_of sid call) P
 
 -- the world after a session was told this
 abbrev pub world_told : World → Sid → DmCall → DmReply → World
-world_told W sid call reply = record W { files = files_told W.files sid call reply }
+world_told W sid call reply = record W { files = files_told W.files sid call reply; ledger = ledger_told W.ledger call reply }
 
 -- ---- any event
 

@@ -5,7 +5,9 @@ ghost use Rattle.hsm_types.specs.Parts.{part_of, parts_in};
 ghost use Rattle.plain_model.specs.Render.{spaced, part_word, form_words, actor_word, action_words, event_text};
 
 use crate::entries::{Action, Actor};
-use crate::pieces::{push, push_handle, push_name, push_number, push_regions};
+use crate::pieces::{
+    push, push_handle, push_kinds, push_name, push_number, push_regions, push_response,
+};
 use hsm_types::PartRef;
 use std::alloc::{AllocError, Global};
 
@@ -106,11 +108,14 @@ fn push_part<S: Spelling>(
     ensures { OnOk result (out.new.items ≡ out.old.items ++ part_word (S.word spelling.now) (part_of part.entry)) }
 {
     match part {
-        PartRef::Number(n) | PartRef::Old(n) | PartRef::Fetch(n) => push_number(alloc, out, n),
+        PartRef::Number(n) | PartRef::Fetch(n) => push_number(alloc, out, n),
+        PartRef::Count(n) => push_number(alloc, out, u64::from(n)),
         PartRef::Word(word) => push(out, word.as_slice()),
         PartRef::Handle(handle) => push_handle(alloc, out, handle),
         PartRef::Regions(regions) => push_regions(alloc, out, regions),
         PartRef::Name(name) => push_name(alloc, out, name),
+        PartRef::Kinds(kinds) => push_kinds(out, kinds),
+        PartRef::Response(response) => push_response(alloc, out, response),
         PartRef::Data(bytes) => spelling.push_data(alloc, out, bytes.as_slice()),
     }
 }

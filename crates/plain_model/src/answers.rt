@@ -1,15 +1,18 @@
 //! The text of answers.
-ghost use Rattle.std.specs.Prelude.{◌≡◌, ◌++◌, OnOk, ◌∷◌, [], codes, map};
+ghost use Rattle.std.specs.Prelude.{◌≡◌, ◌++◌, OnOk, ◌∷◌, [], codes, map, length};
 ghost use Rattle.std.specs.Fmt.{decimal};
 ghost use Rattle.std.specs.List.{flat_map};
 ghost use Rattle.plain_model.specs.Render.{spaced, listed, name_word, refusal_words, reply_words, dm_refusal_words, dm_reply_words, answer_words};
 
 use crate::entries::Answer;
 use crate::pieces::{
-    push, push_field, push_handle, push_key, push_name, push_named, push_numbered, push_regions,
+    push, push_field, push_handle, push_key, push_kinds, push_name, push_named, push_numbered,
+    push_regions, right_text,
 };
 use crate::transcript::push_data;
-use hsm_types::{AttrName, CallRefusal, DmRefusal, DmReply, Names, Reply, Sid, Sids};
+use hsm_types::{
+    AttrName, Bytes, CallRefusal, DmRefusal, DmReply, Names, Reply, Sid, Sids, Token, Tokens,
+};
 use std::alloc::{AllocError, Global};
 
 pub(crate) fn push_answer(
@@ -73,6 +76,16 @@ fn push_dm_reply(alloc: Global, out: &mut Vec<u8>, reply: &DmReply) -> Result<()
             push_sids(alloc, out, sids)
         }
         DmReply::Info(info) => push_named(out, b"info ", info),
+        DmReply::Kinds(kinds) => {
+            push(out, b"disp ")?;
+            push_kinds(out, *kinds)
+        }
+        DmReply::Packed { bytes, tokens } => push_packed(alloc, out, bytes, tokens),
+        DmReply::Tokens(tokens) => {
+            push(out, b"tokens")?;
+            push_tokens(alloc, out, tokens)
+        }
+        DmReply::Token(token) => push_numbered(alloc, out, b"token", token.0),
         DmReply::Attr {
             size,
             stamp,
@@ -143,6 +156,40 @@ fn push_ids(alloc: Global, out: &mut Vec<u8>, sids: &[Sid]) -> Result<(), AllocE
     Ok(())
 }
 
+/// The bytes of a buffer, and the tokens of its messages.
+fn push_packed(
+    alloc: Global,
+    out: &mut Vec<u8>,
+    bytes: &Bytes,
+    tokens: &Tokens,
+) -> Result<(), AllocError>
+    ensures { OnOk result (out.new.items ≡ out.old.items ++ spaced (codes "packed" ∷ decimal (length bytes.now) ∷ listed (map (λ token. decimal token.0) tokens.now))) }
+{
+    push_numbered(alloc, out, b"packed", bytes.as_slice().len() as u64)?;
+    push_tokens(alloc, out, tokens)
+}
+
+/// A space and the tokens with a space between each two, `-` for none.
+#[tactic(auto, using(crate::proofs::Listing::tokens_spaced))]
+fn push_tokens(alloc: Global, out: &mut Vec<u8>, tokens: &Tokens) -> Result<(), AllocError>
+    ensures { OnOk result (out.new.items ≡ out.old.items ++ 32 ∷ spaced (listed (map (λ token. decimal token.0) tokens.now))) }
+{
+    if tokens.as_slice().is_empty() {
+        return push(out, b" -");
+    }
+    push_each_token(alloc, out, tokens.as_slice())
+}
+
+/// Each token with a space in front.
+fn push_each_token(alloc: Global, out: &mut Vec<u8>, tokens: &[Token]) -> Result<(), AllocError>
+    ensures { OnOk result (out.new.items ≡ out.old.items ++ flat_map (λ token. 32 ∷ decimal token.0) tokens.now) }
+{
+    for token in tokens {
+        push_field(alloc, out, token.0)?;
+    }
+    Ok(())
+}
+
 /// A space and the names with a space between each two, `-` for none.
 #[tactic(auto, using(crate::proofs::Listing::names_spaced))]
 fn push_names(alloc: Global, out: &mut Vec<u8>, names: &Names) -> Result<(), AllocError>
@@ -171,13 +218,22 @@ fn push_dm_refusal(alloc: Global, out: &mut Vec<u8>, why: DmRefusal) -> Result<(
     match why {
         DmRefusal::NoSession => push(out, b"NoSession"),
         DmRefusal::NoToken => push(out, b"NoToken"),
+        DmRefusal::NotYours { owner } => push_numbered(alloc, out, b"NotYours", owner.0),
         DmRefusal::NoObject => push(out, b"NoObject"),
+        DmRefusal::NeedRight { have } => {
+            push(out, b"NeedRight ")?;
+            push(out, right_text(have))
+        }
+        DmRefusal::EventsLeft { count } => push_numbered(alloc, out, b"EventsLeft", count),
+        DmRefusal::Again => push(out, b"Again"),
+        DmRefusal::TooSmall { need } => push_numbered(alloc, out, b"TooSmall", need),
         DmRefusal::BadRegion { index } => {
             push_numbered(alloc, out, b"BadRegion", u64::from(index))
         }
         DmRefusal::NoAttr => push(out, b"NoAttr"),
         DmRefusal::Reserved => push(out, b"Reserved"),
         DmRefusal::AttrTooBig { len } => push_numbered(alloc, out, b"AttrTooBig", len),
+        DmRefusal::BadResponse => push(out, b"BadResponse"),
         DmRefusal::TooMany { count } => push_numbered(alloc, out, b"TooMany", count),
         DmRefusal::Disk => push(out, b"Disk"),
         DmRefusal::Memory => push(out, b"Memory"),

@@ -2,10 +2,10 @@
 ghost use Rattle.std.specs.Prelude.{◌≡◌, ◌∷◌, ◌++◌, [], OnOk};
 ghost use Rattle.std.specs.Fmt.{decimal};
 ghost use Rattle.hex.specs.Hex.{encode_lower};
-ghost use Rattle.plain_model.specs.Render.{spaced, key_word, handle_word, name_word, region_word, regions_word};
+ghost use Rattle.plain_model.specs.Render.{spaced, key_word, handle_word, name_word, region_word, regions_word, kinds_word, response_word, right_word};
 ghost use Rattle.std.specs.List.{flat_map};
 
-use hsm_types::{AttrName, FileKey, Handle, Region, Regions, Word};
+use hsm_types::{AttrName, FileKey, Handle, Kinds, Region, Regions, Response, Right, Word};
 use std::alloc::{AllocError, Global};
 
 pub(crate) fn push(out: &mut Vec<u8>, bytes: &[u8]) -> Result<(), AllocError>
@@ -124,4 +124,61 @@ fn push_region(alloc: Global, out: &mut Vec<u8>, region: Region) -> Result<(), A
     push_number(alloc, out, region.size)?;
     push(out, b":")?;
     push_number(alloc, out, u64::from(region.flags))
+}
+
+/// The kinds with a comma between each two, `-` for none.
+pub(crate) fn push_kinds(out: &mut Vec<u8>, kinds: Kinds) -> Result<(), AllocError>
+    ensures { OnOk result (out.new.items ≡ out.old.items ++ kinds_word kinds) }
+{
+    push(out, kinds_text(kinds))
+}
+
+fn kinds_text(kinds: Kinds) -> &'static [u8]
+    ensures { result.now ≡ kinds_word kinds }
+{
+    match (kinds.read, kinds.write, kinds.truncate, kinds.no_space) {
+        (false, false, false, false) => b"-",
+        (false, false, false, true) => b"nospace",
+        (false, false, true, false) => b"truncate",
+        (false, false, true, true) => b"truncate,nospace",
+        (false, true, false, false) => b"write",
+        (false, true, false, true) => b"write,nospace",
+        (false, true, true, false) => b"write,truncate",
+        (false, true, true, true) => b"write,truncate,nospace",
+        (true, false, false, false) => b"read",
+        (true, false, false, true) => b"read,nospace",
+        (true, false, true, false) => b"read,truncate",
+        (true, false, true, true) => b"read,truncate,nospace",
+        (true, true, false, false) => b"read,write",
+        (true, true, false, true) => b"read,write,nospace",
+        (true, true, true, false) => b"read,write,truncate",
+        (true, true, true, true) => b"read,write,truncate,nospace",
+    }
+}
+
+/// `continue`, or `abort` and the error.
+pub(crate) fn push_response(
+    alloc: Global,
+    out: &mut Vec<u8>,
+    response: Response,
+) -> Result<(), AllocError>
+    ensures { OnOk result (out.new.items ≡ out.old.items ++ response_word response) }
+{
+    match response {
+        Response::Continue => push(out, b"continue"),
+        Response::Abort(error) => {
+            push(out, b"abort ")?;
+            push_number(alloc, out, u64::from(error))
+        }
+    }
+}
+
+pub(crate) fn right_text(right: Right) -> &'static [u8]
+    ensures { result.now ≡ right_word right }
+{
+    match right {
+        Right::Null => b"null",
+        Right::Shared => b"shared",
+        Right::Excl => b"excl",
+    }
 }
