@@ -26,7 +26,7 @@ use Rattle.plain_model.specs.Ledger.{Ledger, Meant, next_token, ledger_told}
 use Rattle.plain_model.specs.Keyed.{set_at}
 use Rattle.plain_model.specs.State.{Held, State, just_opened, noted}
 use Rattle.plain_model.specs.Verdict.{objection_in, meant_in, state_where}
-use Rattle.plain_model.specs.Services.{bad_own_token, dm_judged, dm_state_where}
+use Rattle.plain_model.specs.Services.{bad_own_token, dm_judged, dm_state_where, dm_state_after}
 use Rattle.plain_model.specs.Faults.{is_fault}
 use Rattle.plain_model.specs.Stands.{InOrder}
 use Rattle.plain_model.specs.Exact.{left_own, left_by, state_by}
@@ -66,7 +66,7 @@ owned_open st sid token ordered none =
 -- the number of places stays, and so does the ledger
 same_order : (st : State) (t : SessionTable) (n : ℕ) (held : Held) (stamps : FileKey → ℕ) → InOrder st → Ascend 0 t.given t.live → ((u : Token) → 0 < u.0 → places u t ≡ places u st.sessions)
     → InOrder (record { held = held; stamps = stamps; number = n; sessions = t; ledger = st.ledger })
-same_order st t n held stamps ordered ascend same = record { ascend = ascend; once = λ u some. same u some ∙ ordered.once u some; given = ordered.given }
+same_order st t n held stamps ordered ascend same = record { ascend = ascend; once = λ u some. same u some ∙ ordered.once u some; given = ordered.given; none = ordered.none }
 
 closed_once : (given : ℕ → Bool) (u : Token) (token : Token) (t : SessionTable) (sid : Sid) → Ascend 0 t.given t.live → places u t ≡ (if given u.0 then 1 else 0) → places token t ≡ 1 → owner token t ≡ Some sid
     → places u (responded sid token t) ≡ (if set_at token.0 false given u.0 then 1 else 0)
@@ -86,11 +86,17 @@ opened_once given top u new body t sid next beyond is live =
       | false ↦ λ apart. grind (arith, nat_tests, is)
     ] refl
 
+closed_none : (given : ℕ → Bool) (t n : ℕ) → given n ≡ false → set_at t false given n ≡ false
+closed_none given t n none = elim (n == t) as (λ b. (if b then false else given n) ≡ false) [ true ↦ refl | false ↦ none ]
+
+opened_none : (given : ℕ → Bool) (new : ℕ) → 0 < new → given 0 ≡ false → set_at new true given 0 ≡ false
+opened_none given new some none = let apart : (0 == new) ≡ false = grind (arith, nat_tests) in rw (apart, none) refl
+
 opened_given : (given : ℕ → Bool) (top new : ℕ) → new ≡ top + 1 → ((n : ℕ) → top < n → given n ≡ false) → (n : ℕ) → new < n → set_at new true given n ≡ false
 opened_given given top new next beyond n past = let none = beyond n (omega arith) in let apart : (n == new) ≡ false = grind (arith, nat_tests) in rw (apart, none) refl
 
 closed_given : (given : ℕ → Bool) (top t : ℕ) → ((n : ℕ) → top < n → given n ≡ false) → (n : ℕ) → top < n → set_at t false given n ≡ false
-closed_given given top t beyond n past = let none = beyond n past in elim (n == t) as (λ b. (if b then false else given n) ≡ false) [ true ↦ refl | false ↦ none ]
+closed_given given top t beyond n past = closed_none given t n (beyond n past)
 
 module _ (s : Superblock) (st : State) (sid : Sid) (ordered : InOrder st) where
   abbrev t : SessionTable
@@ -120,6 +126,7 @@ module _ (s : Superblock) (st : State) (sid : Sid) (ordered : InOrder st) where
         ascend = ascend-changed sid _ 0 t.given t.live ordered.ascend;
         once = λ u some. closed_once st.ledger.open u token t sid ordered.ascend (ordered.once u some) one own.2;
         given = closed_given st.ledger.open st.ledger.top token.0 ordered.given;
+        none = closed_none st.ledger.open token.0 0 ordered.none;
       }
   told_ordered (CreateUserEvent body) none =
       let live = (alive (event_refusal body t ∷ []) none).0 in
@@ -127,29 +134,34 @@ module _ (s : Superblock) (st : State) (sid : Sid) (ordered : InOrder st) where
         ascend = ascend-changed sid _ 0 t.given t.live ordered.ascend;
         once = λ u some. opened_once st.ledger.open st.ledger.top u (next_token st.ledger) body t sid refl ordered.given (ordered.once u some) live;
         given = opened_given st.ledger.open st.ledger.top (st.ledger.top + 1) refl ordered.given;
+        none = opened_none st.ledger.open (st.ledger.top + 1) (omega arith) ordered.none;
       }
   told_ordered (SendMsg target body) none =
       same_order st (sent target body t) _ _ _ ordered (ascend-changed target _ 0 t.given t.live ordered.ascend) (λ u some. places-sent u target body t some)
-  told_ordered GetSpace none = record { ascend = ordered.ascend; once = ordered.once; given = ordered.given }
-  told_ordered call none = record { ascend = ordered.ascend; once = ordered.once; given = ordered.given }
+  told_ordered GetSpace none = record { ascend = ordered.ascend; once = ordered.once; given = ordered.given; none = ordered.none }
+  told_ordered call none = record { ascend = ordered.ascend; once = ordered.once; given = ordered.given; none = ordered.none }
 
   told_where : (call : DmCall) (why : Option DmRefusal) → dm_judged s st sid call ≡ why → InOrder (dm_state_where why s st sid call)
   told_where call None is = told_ordered call is
-  told_where call (Some why) is = record { ascend = ordered.ascend; once = ordered.once; given = ordered.given }
+  told_where call (Some why) is = record { ascend = ordered.ascend; once = ordered.once; given = ordered.given; none = ordered.none }
+
+-- after the call of a session
+pub dm_ordered : (s : Superblock) (st : State) (sid : Sid) (call : DmCall) → InOrder st → InOrder (dm_state_after s st sid call)
+dm_ordered s st sid call ordered = told_where s st sid ordered call (dm_judged s st sid call) refl
 
 -- ---- any event
 
 call_ordered : (why : Option CallRefusal) (s : Superblock) (st : State) (c : ℕ) (m : Meant) → InOrder st → InOrder (state_where why s st c m)
-call_ordered None s st c m ordered = record { ascend = ordered.ascend; once = ordered.once; given = ordered.given }
-call_ordered (Some why) s st c m ordered = record { ascend = ordered.ascend; once = ordered.once; given = ordered.given }
+call_ordered None s st c m ordered = record { ascend = ordered.ascend; once = ordered.once; given = ordered.given; none = ordered.none }
+call_ordered (Some why) s st c m ordered = record { ascend = ordered.ascend; once = ordered.once; given = ordered.given; none = ordered.none }
 
 own_ordered : (s : Superblock) (st : State) (who : Actor) (what : Action) → InOrder st → InOrder (left_own s st who what)
 own_ordered s st (Caller c) (Issue call) ordered = call_ordered (objection_in s st call) s st c (meant_in st call) ordered
-own_ordered s st (Session sid) (Dm call) ordered = told_where s st sid ordered call (dm_judged s st sid call) refl
-own_ordered s st who what ordered = record { ascend = ordered.ascend; once = ordered.once; given = ordered.given }
+own_ordered s st (Session sid) (Dm call) ordered = dm_ordered s st sid call ordered
+own_ordered s st who what ordered = record { ascend = ordered.ascend; once = ordered.once; given = ordered.given; none = ordered.none }
 
 if_ordered : (fault : Bool) (st own : State) → InOrder st → InOrder own → InOrder (if fault then noted st else own)
-if_ordered true st own still done = record { ascend = still.ascend; once = still.once; given = still.given }
+if_ordered true st own still done = record { ascend = still.ascend; once = still.once; given = still.given; none = still.none }
 if_ordered false st own still done = done
 
 pub event_ordered : (s : Superblock) (st : State) (e : Entry) → InOrder st → InOrder (left_by s st e.actor e.action e.answer)
@@ -157,7 +169,7 @@ event_ordered s st e ordered = if_ordered (is_fault e.answer) st (left_own s st 
 
 -- a store that was just opened has no sessions and no tokens
 pub ordered_at_first : (base : ℕ) (h : Held) → InOrder (just_opened base h)
-ordered_at_first base h = record { ascend = tt; once = λ u some. refl; given = λ n past. refl }
+ordered_at_first base h = record { ascend = tt; once = λ u some. refl; given = λ n past. refl; none = refl }
 
 -- each exact run leaves them so
 pub state_ordered : (s : Superblock) (st : State) (es : List Entry) → InOrder st → InOrder (state_by s st es)

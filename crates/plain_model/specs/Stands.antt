@@ -31,8 +31,9 @@ pub record StandsFor (st : State) (W : World) : Type 0 where
   pub ledger : st.ledger ≡ W.ledger
 
 -- The tables agree with the ledger: ids of sessions ascend; each open token stands at just one place, unrouted, in a queue or outstanding, and no other
--- stands anywhere; and no token is open that was never given.
+-- stands anywhere; and no token is open that was never given, nor is 0.
 pub record InOrder (st : State) : Type 0 where
   pub ascend : Ascend 0 st.sessions.given st.sessions.live
   pub once : (t : Token) → 0 < t.0 → places t st.sessions ≡ (if st.ledger.open t.0 then 1 else 0)
   pub given : (t : ℕ) → st.ledger.top < t → st.ledger.open t ≡ false
+  pub none : st.ledger.open 0 ≡ false
