@@ -1,8 +1,8 @@
 -- The ids of live sessions ascend after each call.
-use Rattle.std.proofs.Common.{◌≡◌, ℕ, ◌+◌, ◌<◌, ◌≤◌, Bool, true, false, cond, List, [], ◌∷◌, ◌++◌, map, arith}
+use Rattle.std.proofs.Common.{ℕ, ◌<◌, ◌≤◌, Bool, true, false, cond, List, [], ◌∷◌, ◌++◌, map, arith}
 use Rattle.std.specs.Map.{remove_entry}
 use Rattle.hsm_types.specs.declared.keys.Sid.{Sid}
-use Rattle.hsm_types.specs.Sessions.{LiveSession, SessionTable, Ascend, same_sid, with_session, without_session, change_live}
+use Rattle.hsm_types.specs.Sessions.{LiveSession, Ascend, same_sid, change_live}
 
 abbrev Live : Type 0
 Live = List (Sid × LiveSession)

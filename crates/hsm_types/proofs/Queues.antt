@@ -1,6 +1,6 @@
 -- At how many places tokens stand after each call, and who holds them.
-use Rattle.std.proofs.Common.{◌≡◌, ℕ, zero, suc, ◌+◌, ◌<◌, ◌≤◌, Bool, true, false, cond, not, ◌||◌, List, [], ◌∷◌, ◌++◌, length, map, take, drop, filter, Option, None, Some, is_some, refl, sym, ap, subst, ◌∙◌, eqb, leb, arith}
-use Rattle.std.proofs.lemmas.Bool.{true≢false, false≢true, eqb-true, eqb-false, ne_eqb, eq-eqb, cases_Bool}
+use Rattle.std.proofs.Common.{◌≡◌, ℕ, ◌+◌, ◌<◌, ◌≤◌, Bool, true, false, cond, not, List, [], ◌∷◌, ◌++◌, length, map, take, drop, filter, Option, None, Some, is_some, refl, sym, ap, ◌∙◌, eqb, arith}
+use Rattle.std.proofs.lemmas.Bool.{true≢false, false≢true, eqb-true, ne_eqb, eq-eqb}
 use Rattle.std.proofs.lemmas.List.Sums.{sum_by-cons, sum_by-append, sum_by-take-drop, count_by-le-length}
 use Rattle.std.proofs.lemmas.List.Filters.{sum_by-filter_both}
 use Rattle.std.specs.Prelude.{count_by, sum_by, nat_lt}
@@ -8,12 +8,10 @@ use Rattle.std.specs.List.{find, list_any}
 use Rattle.std.specs.Option.{option_map}
 use Rattle.std.specs.Map.{lookup, remove_entry}
 use Rattle.hsm_types.specs.Messages.{has_token, takes, no_token, user_message}
-use Rattle.hsm_types.specs.Sessions.{LiveSession, SessionTable, Ascend, same_sid, session_of, lives, queue_of, outstanding_of, outstanding_or_none, queue_or_none, taker, holds, owner, destruction_refusal, events_left, next_sid, heir, with_session, without_session, change_live, change_session, loses, queued, with_kinds, posted_to, posted, put_message, put_messages, with_tokens, hands_out, delivered, without_token, responded, user_event, sent, places_in, places}
+use Rattle.hsm_types.specs.Sessions.{LiveSession, SessionTable, Ascend, same_sid, session_of, lives, outstanding_of, outstanding_or_none, taker, holds, owner, destruction_refusal, events_left, next_sid, heir, with_session, without_session, change_live, change_session, loses, queued, with_kinds, posted_to, posted, put_message, put_messages, with_tokens, hands_out, delivered, without_token, responded, user_event, sent, places_in, places}
 use Rattle.hsm_types.specs.declared.keys.Sid.{Sid}
 use Rattle.hsm_types.specs.declared.keys.Token.{Token}
-use Rattle.hsm_types.specs.declared.dm.Kind.{Kind}
 use Rattle.hsm_types.specs.declared.dm.Kinds.{Kinds}
-use Rattle.hsm_types.specs.declared.dm.DmRefusal.{DmRefusal}
 use Rattle.hsm_types.specs.declared.dm.DmRefusal.TheVariants.{EventsLeft}
 use Rattle.hsm_types.specs.declared.messages.Message.{Message}
 
@@ -104,7 +102,7 @@ module _ (g : LiveSession → ℕ) where
   sum-change_live sid change [] s is = absurd cc
   sum-change_live sid change (e ∷ rest) s is =
       elim (same_sid sid e.0) as (λ (b : Bool). cond b (Some e.1) (lookup (same_sid sid) rest) ≡ Some s
-          → sum_by (λ x. g x.1) (cond b ((e.0, change e.1) ∷ rest) (e ∷ change_live sid change rest)) + g s ≡ sum_by (λ x. g x.1) (e ∷ rest) + g (change s)) [
+      → sum_by (λ x. g x.1) (cond b ((e.0, change e.1) ∷ rest) (e ∷ change_live sid change rest)) + g s ≡ sum_by (λ x. g x.1) (e ∷ rest) + g (change s)) [
         | true ↦ λ here.
             let same : e.1 ≡ s = cc in
             let one : g e.1 ≡ g s = ap g same in
@@ -118,7 +116,7 @@ module _ (g : LiveSession → ℕ) where
   sum-remove sid [] s is = absurd cc
   sum-remove sid (e ∷ rest) s is =
       elim (same_sid sid e.0) as (λ (b : Bool). cond b (Some e.1) (lookup (same_sid sid) rest) ≡ Some s
-          → sum_by (λ x. g x.1) (cond b rest (e ∷ remove_entry (same_sid sid) rest)) + g s ≡ sum_by (λ x. g x.1) (e ∷ rest)) [
+      → sum_by (λ x. g x.1) (cond b rest (e ∷ remove_entry (same_sid sid) rest)) + g s ≡ sum_by (λ x. g x.1) (e ∷ rest)) [
         | true ↦ λ here.
             let same : e.1 ≡ s = cc in
             let one : g e.1 ≡ g s = ap g same in
@@ -200,6 +198,7 @@ places-created u old info t = by (session_of old t) refl
   where
     at : (s : LiveSession) → sum_by (λ e. places_in u e.1) (remove_entry (same_sid old) t.live ++ (next_sid t, s) ∷ []) ≡ sum_by (λ e. places_in u e.1) (remove_entry (same_sid old) t.live) + places_in u s
     at s = omega (arith, sum_by-append (λ (e : Sid × LiveSession). places_in u e.1) (remove_entry (same_sid old) t.live) ((next_sid t, s) ∷ []))
+
     by : (o : Option LiveSession) → session_of old t ≡ o → places u (record t { given = t.given + 1; live = remove_entry (same_sid old) t.live ++ (next_sid t, heir info o) ∷ [] }) ≡ places u t
     by None none = let whole = at (heir info None) in let same : sum_by (λ e. places_in u e.1) (remove_entry (same_sid old) t.live) ≡ sum_by (λ e. places_in u e.1) t.live = ap (sum_by (λ (e : Sid × LiveSession). places_in u e.1)) (remove-absent old t.live none) in omega arith
     by (Some s) there = omega (arith, at (heir info (Some s)), sum-remove (places_in u) old t.live s there)
@@ -277,6 +276,7 @@ owned token sid s (e ∷ rest) once there is = by (same_sid sid e.0) (holds toke
   where
     all : sum_by (λ x. places_in token x.1) (e ∷ rest) ≡ places_in token e.1 + sum_by (λ x. places_in token x.1) rest
     all = sum_by-cons (λ (x : Sid × LiveSession). places_in token x.1) e rest
+
     by : (b c : Bool) → same_sid sid e.0 ≡ b → holds token e.1 ≡ c
         → (sum_by (λ x. places_in token x.1) rest ≤ 1 → lookup (same_sid sid) rest ≡ Some s → option_map (λ x. x.0) (find (λ x. holds token x.1) rest) ≡ Some sid)
         → option_map (λ x. x.0) (cond c (Some e) (find (λ x. holds token x.1) rest)) ≡ Some sid

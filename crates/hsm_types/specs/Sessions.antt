@@ -1,7 +1,7 @@
 -- Sessions with their kinds, queues and outstanding tokens, and what calls do to them.
 use Rattle.std.specs.Prelude.{ℕ, ◌+◌, ◌<◌, ◌≤◌, List, [], ◌∷◌, ◌++◌, length, map, filter, take, drop, fold, count_by, sum_by, Bool, true, false, not, ◌==◌, ◌&&◌, ◌||◌, nat_lt, nat_le, if◌then◌else◌, Option, Some, None, is_some}
-use Rattle.std.specs.List.{All, list_any, find}
-use Rattle.std.specs.Map.{keys_of, values_of, lookup, remove_entry}
+use Rattle.std.specs.List.{list_any, find}
+use Rattle.std.specs.Map.{lookup, remove_entry}
 use Rattle.std.specs.Option.{option_map}
 use Rattle.hsm_types.specs.Refusals.{first_refusal}
 use Rattle.hsm_types.specs.Messages.{no_kinds, takes, without_kinds, is_lawful, has_token, no_token, user_message, message_bytes, handed_out}

@@ -6,7 +6,7 @@ use Rattle.hsm_types.specs.Names.{is_name}
 use Rattle.hsm_types.specs.Refusals.{first_refusal}
 use Rattle.hsm_types.specs.Calls.{scope_of}
 use Rattle.hsm_types.specs.Messages.{no_token, has_token, message_bytes, is_lawful}
-use Rattle.hsm_types.specs.Sessions.{SessionTable, lives, queue_of, outstanding_of, owner, user_tokens, outstanding_message, same_sid, no_session, bad_info, too_many_sessions, creation_refusal, dead_session, not_yours, bad_token, events_left, destruction_refusal, none_fits, bad_response, too_long, too_many_events, event_refusal, too_many_waiting, sending_refusal}
+use Rattle.hsm_types.specs.Sessions.{SessionTable, lives, queue_of, outstanding_of, owner, user_tokens, outstanding_message, same_sid, no_session, bad_info, too_many_sessions, creation_refusal, dead_session, not_yours, none_fits, too_long, too_many_events, event_refusal, too_many_waiting, sending_refusal}
 use Rattle.hsm_types.specs.Attributes.{Attributes, is_reserved, reserved, too_big_value, too_many_bytes, bytes_of_attributes, with_value, value_of, setting_refusal, no_attribute}
 use Rattle.hsm_types.specs.Regions.{first_bad, too_many_regions, bad_region, regions_refusal}
 use Rattle.hsm_types.specs.declared.attributes.AttrName.{AttrName}
@@ -17,7 +17,6 @@ use Rattle.hsm_types.specs.declared.dm.DmCall.{DmCall}
 use Rattle.hsm_types.specs.declared.dm.DmCall.TheVariants.{CreateSession, DestroySession, QuerySession, GetEvents, FindEventMsg, Respond, CreateUserEvent, SendMsg, SetRegion, SetDmAttr, GetDmAttr, RemoveDmAttr, PathToHandle}
 use Rattle.hsm_types.specs.declared.dm.DmRefusal.{DmRefusal}
 use Rattle.hsm_types.specs.declared.dm.DmReply.TheVariants as told
-use Rattle.hsm_types.specs.declared.dm.Response.{Response}
 use Rattle.hsm_types.specs.declared.dm.Right.{Right}
 use Rattle.hsm_types.specs.declared.dm.Right.TheVariants.{Null}
 use Rattle.hsm_types.specs.declared.keys.Token.{Token}

@@ -12,7 +12,6 @@ use Rattle.plain_model.specs.declared.entries.Actor.TheVariants.{Caller, Session
 use Rattle.plain_model.specs.declared.entries.Action.{Action}
 use Rattle.plain_model.specs.declared.entries.Action.TheVariants.{Issue, Dm}
 use Rattle.plain_model.specs.declared.entries.Answer.{Answer}
-use Rattle.plain_model.specs.declared.entries.Answer.TheVariants.{Call as Replied, Dm as Told}
 use Rattle.plain_model.specs.Effects.{Change, Nothing, OfFile, OfSessions, change_of}
 use Rattle.plain_model.specs.Ledger.{Meant}
 use Rattle.plain_model.specs.State.{State, noted, changed}

@@ -1,9 +1,9 @@
 -- The tables of a store agree with its ledger after each event.
-use Rattle.std.proofs.Common.{◌≡◌, ◌<◌, ◌≤◌, ◌+◌, ℕ, List, [], ◌∷◌, length, Bool, true, false, cond, Option, Some, None, inl, inr, refl, sym, ◌∙◌, ap, subst, arith, eqb}
+use Rattle.std.proofs.Common.{◌≡◌, ◌<◌, ◌+◌, ℕ, List, [], ◌∷◌, length, Bool, true, false, Option, Some, None, refl, sym, ◌∙◌, subst, arith}
 use Rattle.std.proofs.lemmas.Bool.{eqb-true, eqb-false}
 use Rattle.std.proofs.lemmas.Bool.Decides.{nat_tests}
 use Rattle.std.specs.Prelude.{◌==◌, if◌then◌else◌}
-use Rattle.hsm_types.specs.Sessions.{SessionTable, Ascend, places, lives, owner, dead_session, not_yours, same_sid, destruction_refusal, bad_response, event_refusal, sending_refusal, responded, user_event, with_session, without_session, with_kinds, loses, delivered_within, queue_of, sent}
+use Rattle.hsm_types.specs.Sessions.{SessionTable, Ascend, places, lives, owner, dead_session, not_yours, same_sid, destruction_refusal, bad_response, event_refusal, responded, user_event, with_session, without_session, with_kinds, loses, delivered_within, queue_of, sent}
 use Rattle.hsm_types.specs.Messages.{handed_out}
 use Rattle.hsm_types.specs.Refusals.{first_refusal}
 use Rattle.hsm_types.specs.declared.calls.CallRefusal.{CallRefusal}
@@ -19,10 +19,10 @@ use Rattle.hsm_types.proofs.AscendingIds.{ascend-removed, ascend-pushed, ascend-
 use Rattle.hsm_types.proofs.Queues.{count-any, places-held, owner-holds, places-created, places-destroyed, places-disposed, places-delivered, places-responded-other, places-answered, places-user_event, places-sent}
 use Rattle.plain_model.specs.declared.entries.Entry.{Entry}
 use Rattle.plain_model.specs.declared.entries.Actor.{Actor}
-use Rattle.plain_model.specs.declared.entries.Actor.TheVariants.{Caller, Session, Store}
+use Rattle.plain_model.specs.declared.entries.Actor.TheVariants.{Caller, Session}
 use Rattle.plain_model.specs.declared.entries.Action.{Action}
-use Rattle.plain_model.specs.declared.entries.Action.TheVariants.{Issue, Dm, Commit}
-use Rattle.plain_model.specs.Ledger.{Ledger, Meant, next_token, ledger_told}
+use Rattle.plain_model.specs.declared.entries.Action.TheVariants.{Issue, Dm}
+use Rattle.plain_model.specs.Ledger.{Meant, next_token}
 use Rattle.plain_model.specs.Keyed.{set_at}
 use Rattle.plain_model.specs.State.{Held, State, just_opened, noted}
 use Rattle.plain_model.specs.Verdict.{objection_in, meant_in, state_where}
