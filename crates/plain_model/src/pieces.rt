@@ -1,5 +1,5 @@
 //! The pieces of a line's text.
-ghost use Rattle.std.specs.Prelude.{◌≡◌, ◌∷◌, ◌++◌, [], OnOk};
+ghost use Rattle.std.specs.Prelude.{◌≡◌, ◌≤◌, ◌∷◌, ◌++◌, [], length, OnOk};
 ghost use Rattle.std.specs.Fmt.{decimal};
 ghost use Rattle.hex.specs.Hex.{encode_lower};
 ghost use Rattle.plain_model.specs.Render.{spaced, key_word, handle_word, name_word, region_word, regions_word, kinds_word, response_word, right_word};
@@ -8,6 +8,9 @@ ghost use Rattle.std.specs.List.{flat_map};
 use hsm_types::{AttrName, FileKey, Handle, Kinds, Region, Regions, Response, Right, Word};
 use std::alloc::{AllocError, Global};
 
+/// The most bytes of data that are written as hex.
+pub(crate) const HEX_BYTES: usize = 32;
+
 pub(crate) fn push(out: &mut Vec<u8>, bytes: &[u8]) -> Result<(), AllocError>
     ensures { OnOk result (out.new.items ≡ out.old.items ++ bytes.now) }
 {
@@ -15,18 +18,21 @@ pub(crate) fn push(out: &mut Vec<u8>, bytes: &[u8]) -> Result<(), AllocError>
     Ok(())
 }
 
-pub(crate) fn push_number(alloc: Global, out: &mut Vec<u8>, n: u64) -> Result<(), AllocError>
+pub(crate) fn push_number(_alloc: Global, out: &mut Vec<u8>, n: u64) -> Result<(), AllocError>
     ensures { OnOk result (out.new.items ≡ out.old.items ++ decimal n) }
 {
-    let text = n.to_string(alloc)?;
-    push(out, text.as_bytes())
+    push(out, itoa::Buffer::new().format(n).as_bytes())
 }
 
-pub(crate) fn push_hex(alloc: Global, out: &mut Vec<u8>, bytes: &[u8]) -> Result<(), AllocError>
+/// At most [`HEX_BYTES`] as hex digits.
+pub(crate) fn push_hex(_alloc: Global, out: &mut Vec<u8>, bytes: &[u8]) -> Result<(), AllocError>
+    requires { length bytes.now ≤ 32 }
     ensures { OnOk result (out.new.items ≡ out.old.items ++ encode_lower bytes.now) }
 {
-    let text = hex::encode(alloc, bytes)?;
-    push(out, text.as_bytes())
+    let mut buffer = [0; 2 * HEX_BYTES];
+    let digits = &mut buffer[..2 * bytes.len()];
+    hex::encode_to_slice(bytes, digits).unwrap();
+    push(out, digits)
 }
 
 /// A verb, with the space behind it, and a name.

@@ -5,13 +5,10 @@ ghost use Rattle.plain_model.specs.Render.{spaced, data_text, digest_text, answe
 use crate::actions::{Spelling, push_event};
 use crate::answers::push_answer;
 use crate::entries::Entry;
-use crate::pieces::{push, push_hex, push_number};
+use crate::pieces::{HEX_BYTES, push, push_hex, push_number};
 use hsm_types::Bytes;
 use sha2::{Digest, Sha256};
 use std::alloc::{AllocError, Global};
-
-/// The most bytes of data that are written as hex.
-const HEX_BYTES: usize = 32;
 
 /// The transcript text of a history: a line for each event.
 pub fn render(alloc: Global, history: &[Entry]) -> Result<Bytes, AllocError>
