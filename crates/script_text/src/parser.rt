@@ -6,7 +6,7 @@ ghost use Rattle.script_text.specs.Reading.{GoesOnAs};
 
 use crate::events::line;
 use crate::lines::{Line, Script};
-use crate::words::{are_within, cut};
+use crate::words::{are_within, cut_line};
 use plain_model::Action;
 use std::alloc::{AllocError, Global};
 use thiserror::Error;
@@ -71,7 +71,7 @@ fn first_text(bytes: &[u8]) -> (&[u8], &[u8])
     ensures less { length result.1.now < length bytes.now }
     ensures whole { length bytes.now ≤ length result.0.now + 1 + length result.1.now }
 {
-    match cut(bytes, b'\n') {
+    match cut_line(bytes) {
         Some((text, more)) => (text, more),
         None => (bytes, &bytes[bytes.len()..]),
     }

@@ -10,6 +10,7 @@ ghost use Rattle.script_text.specs.Lines.{is_word, is_word_byte};
 ghost use Rattle.script_text.specs.Reading.{Reads, Cuts, IsNumber, caller_word, sid_word, IsSid};
 
 use hsm_types::{CallerId, Sid, Word};
+use memchr::memchr;
 use std::alloc::{AllocError, Global};
 
 /// The place of the first such byte, or the length where there is none.
@@ -35,6 +36,30 @@ pub fn cut(bytes: &[u8], byte: u8) -> Option<(&[u8], &[u8])>
         Some((&bytes[..at], &bytes[at + 1..]))
     } else {
         None
+    }
+}
+
+/// What stands before the first newline, and what behind it.
+pub fn cut_line(bytes: &[u8]) -> Option<(&[u8], &[u8])>
+    ensures { Cuts 10 bytes.now (option_map (λ p. (p.0.now, p.1.now)) result) }
+{
+    let at = find_newline(bytes);
+    if at < bytes.len() {
+        Some((&bytes[..at], &bytes[at + 1..]))
+    } else {
+        None
+    }
+}
+
+/// The place of the first newline, or the length where there is none. It looks at many bytes at once, which doesn't pay for words.
+fn find_newline(bytes: &[u8]) -> usize
+    ensures within { result ≤ length bytes.now }
+    ensures before { (k : ℕ) → k < result → slice_index bytes.now k ≢ 10 }
+    ensures found { result < length bytes.now → slice_index bytes.now result ≡ 10 }
+{
+    match memchr(b'\n', bytes) {
+        Some(at) => at,
+        None => bytes.len(),
     }
 }
 
