@@ -17,24 +17,22 @@ module _ {X : Type 0} (text : X → List ℕ) where
 
 -- ---- the parts of a file
 
-joined : (o a b c d e f g h i j k l : List ℕ) → (((o ++ ((((a ++ b) ++ c) ++ d) ++ e)) ++ ((((f ++ g) ++ h) ++ i) ++ j)) ++ k) ++ l ≡ o ++ (((((((((((a ++ b) ++ c) ++ d) ++ e) ++ f) ++ g) ++ h) ++ i) ++ j) ++ k) ++ l)
+joined : (o a b c d e f g h i j k l : List ℕ) → (o ++ ((((a ++ b) ++ c) ++ d) ++ e)) ++ ((((((f ++ g) ++ h) ++ i) ++ j) ++ k) ++ l) ≡ o ++ (((((((((((a ++ b) ++ c) ++ d) ++ e) ++ f) ++ g) ++ h) ++ i) ++ j) ++ k) ++ l)
 joined o a b c d e f g h i j k l = simp append_assoc
 
-parts : (o a b c d e f g h i j k l o1 o2 o3 o4 : List ℕ)
-    → o1 ≡ o ++ ((((a ++ b) ++ c) ++ d) ++ e) → o2 ≡ o1 ++ ((((f ++ g) ++ h) ++ i) ++ j) → o3 ≡ o2 ++ k → o4 ≡ o3 ++ l
-    → o4 ≡ o ++ (((((((((((a ++ b) ++ c) ++ d) ++ e) ++ f) ++ g) ++ h) ++ i) ++ j) ++ k) ++ l)
-parts o a b c d e f g h i j k l o1 o2 o3 o4 e1 e2 e3 e4 = let e = joined o a b c d e f g h i j k l in cc
+parts : (o a b c d e f g h i j k l o1 o2 : List ℕ)
+    → o1 ≡ o ++ ((((a ++ b) ++ c) ++ d) ++ e) → o2 ≡ o1 ++ ((((((f ++ g) ++ h) ++ i) ++ j) ++ k) ++ l)
+    → o2 ≡ o ++ (((((((((((a ++ b) ++ c) ++ d) ++ e) ++ f) ++ g) ++ h) ++ i) ++ j) ++ k) ++ l)
+parts o a b c d e f g h i j k l o1 o2 e1 e2 = let it = joined o a b c d e f g h i j k l in cc
 
-pub file_written : (file : CatalogFile) (o o1 o2 o3 o4 : List ℕ)
+pub file_written : (file : CatalogFile) (o o1 o2 : List ℕ)
     → o1 ≡ o ++ ((((big_bytes 8 file.key.ino ++ big_bytes 8 file.key.igen) ++ big_bytes 8 file.size) ++ big_bytes 1 (length file.name)) ++ file.name)
-    → o2 ≡ o1 ++ ((((big_bytes 1 (length file.kept.regions) ++ flat_map region_bytes file.kept.regions) ++ big_bytes 4 (length file.kept.attributes)) ++ flat_map attribute_bytes file.kept.attributes) ++ big_bytes 4 (length (present file.places)))
-    → o3 ≡ o2 ++ flat_map extent_bytes (extents_from 0 file.places)
-    → o4 ≡ o3 ++ big_bytes 4 0
-    → o4 ≡ o ++ file_bytes (snapshot_file file)
+    → o2 ≡ o1 ++ ((((((big_bytes 1 (length file.kept.regions) ++ flat_map region_bytes file.kept.regions) ++ big_bytes 4 (length file.kept.attributes)) ++ flat_map attribute_bytes file.kept.attributes) ++ big_bytes 4 (length (present file.places))) ++ flat_map extent_bytes (extents_from 0 file.places)) ++ big_bytes 4 0)
+    → o2 ≡ o ++ file_bytes (snapshot_file file)
 unfolding file_bytes
-file_written file o o1 o2 o3 o4 e1 e2 e3 e4 =
+file_written file o o1 o2 e1 e2 =
     rw (length-extents 0 file.places)
     (parts o (big_bytes 8 file.key.ino) (big_bytes 8 file.key.igen) (big_bytes 8 file.size) (big_bytes 1 (length file.name)) file.name
     (big_bytes 1 (length file.kept.regions)) (flat_map region_bytes file.kept.regions) (big_bytes 4 (length file.kept.attributes)) (flat_map attribute_bytes file.kept.attributes)
     (big_bytes 4 (length (present file.places))) (flat_map extent_bytes (extents_from 0 file.places)) (big_bytes 4 0)
-    o1 o2 o3 o4 e1 e2 e3 e4)
+    o1 o2 e1 e2)

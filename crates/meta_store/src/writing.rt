@@ -1,5 +1,5 @@
 // Writing a snapshot's bytes.
-ghost use Rattle.std.specs.Prelude.{◌≡◌, ◌+◌, ◌≤◌, ◌<◌, ◌^◌, ◌++◌, length, OnOk};
+ghost use Rattle.std.specs.Prelude.{◌≡◌, ◌+◌, ◌≤◌, ◌<◌, ◌^◌, ◌++◌, [], length, IsTrue, OnOk};
 ghost use Rattle.std.specs.List.{flat_map};
 ghost use Rattle.byteorder.specs.Endian.{big_bytes};
 ghost use Rattle.meta_store.specs.Catalogs.{present};
@@ -79,6 +79,28 @@ fn spell_nothing_kept(extents: u32) -> [u8; 9]
 {
     let mut bytes = [0; 9];
     BigEndian::write_u32(&mut bytes[5..], extents);
+    bytes
+}
+
+/// What stands behind the name of a file of one block with which sessions keep nothing.
+fn spell_one_block(place: u32) -> [u8; 21]
+    ensures { result ≡ big_bytes 1 0 ++ big_bytes 4 0 ++ big_bytes 4 1 ++ extent_bytes (record { block = 0; place = place }) ++ big_bytes 4 0 }
+{
+    let mut bytes = [0; 21];
+    BigEndian::write_u32(&mut bytes[5..], 1);
+    BigEndian::write_u32(&mut bytes[13..], place);
+    bytes
+}
+
+/// What stands behind the name of a file of two blocks with which sessions keep nothing.
+fn spell_two_blocks(first: u32, second: u32) -> [u8; 29]
+    ensures { result ≡ big_bytes 1 0 ++ big_bytes 4 0 ++ big_bytes 4 2 ++ extent_bytes (record { block = 0; place = first }) ++ extent_bytes (record { block = 1; place = second }) ++ big_bytes 4 0 }
+{
+    let mut bytes = [0; 29];
+    BigEndian::write_u32(&mut bytes[5..], 2);
+    BigEndian::write_u32(&mut bytes[13..], first);
+    BigEndian::write_u32(&mut bytes[17..], 1);
+    BigEndian::write_u32(&mut bytes[21..], second);
     bytes
 }
 
@@ -167,6 +189,33 @@ fn put_kept(out: &mut Vec<u8>, parts: &FileParts) -> Result<(), AllocError>
     Ok(())
 }
 
+/// Whether sessions keep nothing with a file.
+fn is_plain(parts: &FileParts) -> bool
+    ensures { IsTrue result → (parts.now.regions ≡ []) × (parts.now.attributes ≡ []) }
+{
+    parts.regions.list().as_slice().is_empty() && parts.attributes.len() == 0
+}
+
+/// What stands behind a file's name, at once where that is short.
+fn put_rest(out: &mut Vec<u8>, parts: &FileParts) -> Result<(), AllocError>
+    requires places { length parts.now.places ≤ 4096 }
+    requires regions { length parts.now.regions ≤ 4 }
+    ensures { OnOk result (out.new.items ≡ out.old.items ++ (big_bytes 1 (length parts.now.regions) ++ flat_map region_bytes parts.now.regions ++ big_bytes 4 (length parts.now.attributes) ++ flat_map attribute_bytes parts.now.attributes ++ big_bytes 4 (length (present parts.now.places)) ++ flat_map extent_bytes (extents_from 0 parts.now.places) ++ big_bytes 4 0)) }
+{
+    let places = parts.places.as_slice();
+    match places {
+        [Some(place)] if is_plain(parts) => out.extend_from_slice(&spell_one_block(*place)),
+        [Some(first), Some(second)] if is_plain(parts) => {
+            out.extend_from_slice(&spell_two_blocks(*first, *second))
+        }
+        _ => {
+            put_kept(out, parts)?;
+            put_extents(out, places)?;
+            put_u32(out, 0)
+        }
+    }
+}
+
 /// A file, with an extent for each block of its body that the disk has.
 pub(crate) fn put_file(
     out: &mut Vec<u8>,
@@ -181,8 +230,6 @@ pub(crate) fn put_file(
     ensures { OnOk result (out.new.items ≡ out.old.items ++ file_bytes (snapshot_file (file_of key name.now size parts.now))) }
 {
     put_head(out, key, size, name)?;
-    put_kept(out, parts)?;
-    put_extents(out, parts.places.as_slice())?;
-    put_u32(out, 0)?;
+    put_rest(out, parts)?;
     Ok(())
 }

@@ -5,5 +5,4 @@ use Rattle.meta_store.proofs.writing.put_file.Goals as goal
 pub returns : goal.returns
 returns c =
     file_written (file_of c.args.key c.args.name.now c.args.size c.args.parts.now) c.args.out.now.items
-    c.put_head.new.out.items c.put_kept.new.out.items c.put_extents.new.out.items c.put_u32.new.out.items
-    c.in_ok-put_head.ensures c.in_ok-put_kept.ensures (rw c.as_slice.ensures at c.in_ok-put_extents.ensures) c.in_ok-put_u32.ensures
+    c.put_head.new.out.items c.put_rest.new.out.items c.in_ok-put_head.ensures c.in_ok-put_rest.ensures
