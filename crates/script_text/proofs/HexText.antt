@@ -1,8 +1,9 @@
 -- Data in hex digits of lower case.
-use Rattle.std.proofs.Common.{◌≡◌, ◌≢◌, ℕ, zero, suc, ◌+◌, ◌*◌, ◌/◌, ◌%◌, ◌<◌, List, [], ◌∷◌, length, slice_index, Bool, true, false, ◌&&◌, ◌==◌, Option, Some, None, unwrap_or, Result, Ok, Err, inl, inr, refl, sym, ap, ◌∙◌, subst, arith}
-use Rattle.std.specs.Prelude.{MatchResult, if◌then◌else◌}
+use Rattle.std.proofs.Common.{◌≡◌, ◌≢◌, ℕ, zero, suc, ◌+◌, ◌*◌, ◌/◌, ◌%◌, ◌<◌, ◌≤◌, List, [], ◌∷◌, ◌++◌, length, drop, slice_index, Bool, true, false, ◌&&◌, ◌==◌, Option, Some, None, unwrap_or, Result, Ok, Err, inl, inr, refl, sym, ap, ◌∙◌, subst, arith, append_assoc, append-nil}
+use Rattle.std.specs.Prelude.{MatchResult, if◌then◌else◌, nat_le}
 use Rattle.std.specs.List.{list_all}
 use Rattle.std.specs.Result.{result_unwrap_or}
+use Rattle.std.proofs.lemmas.List.{drop_more, drop_all}
 use Rattle.std.proofs.lemmas.Bool.{and_parts, cases_lt, eqb-true, false≢true}
 use Rattle.std.proofs.lemmas.Bool.Decides.{nat_tests}
 use Rattle.hex.specs.Hex.{IsBytes, decode_of, decode_pairs, decode_sized, digit_or_error, hex_digit_value, encode_lower, encode_with, lower_digits, pair_value, value_at, ◌>>=◌}
@@ -121,13 +122,7 @@ decode-encoded bytes h = rw (decode_of-encode_lower bytes h) refl
 pub length-encoded : (bytes : List ℕ) → length (encode_lower bytes) ≡ 2 * length bytes
 length-encoded bytes = length-encode_with lower_digits bytes
 
-pub not_refused : (text bytes : List ℕ) (e : FromHexError) → IsBytes bytes → text ≡ encode_lower bytes → decode_of text ≡ Err e → ⊥
-not_refused text bytes e h same refused =
-    let is : decode_of text ≡ Ok bytes = rw same (decode_of-encode_lower bytes h) in
-    let P : Result (List ℕ) FromHexError → Type 0 = λ r. MatchResult r (λ _. Unit {0}) (λ _. ⊥) in
-    subst P (sym is ∙ refused) tt
-
--- the same of digits for so many bytes
+-- digits for so many bytes
 pub sized_decoded : (text bytes : List ℕ) (n : ℕ) → list_all is_lower_hex text ≡ true → decode_sized text n ≡ Ok bytes → IsBytes bytes × (length bytes ≡ n) × (text ≡ encode_lower bytes)
 sized_decoded text bytes n lower h =
     let long = decode_sized-ok text n bytes h in
@@ -141,3 +136,65 @@ sized_not_refused text bytes n e h long same refused =
     let is : decode_sized text n ≡ Ok bytes = rw same (decode_sized-encode_lower bytes n long h) in
     let P : Result (List ℕ) FromHexError → Type 0 = λ r. MatchResult r (λ _. Unit {0}) (λ _. ⊥) in
     subst P (sym is ∙ refused) tt
+
+-- ---- the bytes of digits, two by two
+
+abbrev value_kept : ℕ → Bool
+value_kept c = if is_lower_hex c then (nat_le (c % 16 + 9 * (c / 64)) 15 && slice_index lower_digits (c % 16 + 9 * (c / 64)) == c) else true
+
+abbrev all_values : ℕ → Bool
+all_values zero = true
+all_values (suc n) = value_kept n && all_values n
+
+all_values-at : (n k : ℕ) → all_values n ≡ true → k < n → value_kept k ≡ true
+all_values-at zero k h lt = absurd (omega arith)
+all_values-at (suc n) k h lt =
+    let parts = and_parts (value_kept n) (all_values n) h in
+    elim (cases_lt k n) [
+      | inl below ↦ all_values-at n k parts.1 below
+      | inr top ↦ let e : k ≡ n = omega arith in rw e parts.0
+    ]
+
+value_parts : (c : ℕ) → is_lower_hex c ≡ true → (nat_le (c % 16 + 9 * (c / 64)) 15 ≡ true) × ((slice_index lower_digits (c % 16 + 9 * (c / 64)) == c) ≡ true)
+value_parts c lower =
+    let small : c < 103 = grind (arith, nat_tests) in
+    let kept = all_values-at 103 c refl small in
+    and_parts _ _ (rw lower at kept)
+
+pub value_small : (c : ℕ) → is_lower_hex c ≡ true → c % 16 + 9 * (c / 64) < 16
+value_small c lower = let it = (value_parts c lower).0 in grind (arith, nat_tests)
+
+pub value_digit : (c : ℕ) → is_lower_hex c ≡ true → slice_index lower_digits (c % 16 + 9 * (c / 64)) ≡ c
+value_digit c lower = eqb-true _ c (value_parts c lower).1
+
+encode_more : (bytes : List ℕ) (b : ℕ) → encode_lower (bytes ++ b ∷ []) ≡ encode_lower bytes ++ slice_index lower_digits (b / 16) ∷ slice_index lower_digits (b % 16) ∷ []
+unfolding encode_with
+encode_more [] b = refl
+encode_more (x ∷ xs) b = rw (encode_more xs b) refl
+
+pub pair_more : (text bytes : List ℕ) (i high low : ℕ) → 2 * i + 1 < length text → high < 16 → low < 16 → slice_index lower_digits high ≡ slice_index text (2 * i) → slice_index lower_digits low ≡ slice_index text (2 * i + 1)
+    → encode_lower bytes ++ drop (2 * i) text ≡ text → encode_lower (bytes ++ (16 * high + low) ∷ []) ++ drop (2 * (i + 1)) text ≡ text
+pair_more text bytes i high low within h l is_high is_low so_far =
+    let first = drop_more text (2 * i) 0 (omega (arith, within)) in
+    let second = drop_more text (2 * i + 1) 0 within in
+    let up : (16 * high + low) / 16 ≡ high = omega (arith, h, l) in
+    let down : (16 * high + low) % 16 ≡ low = omega (arith, h, l) in
+    let next : 2 * i + 1 + 1 ≡ 2 * (i + 1) = omega arith in
+    rw (encode_more, up, down, is_high, is_low, append_assoc) (rw (first, second, next) at so_far)
+
+pub pairs_all : (text encoded : List ℕ) (n : ℕ) → length text ≤ n → encoded ++ drop n text ≡ text → text ≡ encoded
+pairs_all text encoded n all so_far = sym so_far ∙ ap (λ (xs : List ℕ). encoded ++ xs) (drop_all n text all) ∙ append-nil encoded
+
+pub no_pairs : (text : List ℕ) → encode_lower [] ++ text ≡ text
+unfolding encode_with
+no_pairs text = refl
+
+pub IsBytes-more : (xs : List ℕ) (b : ℕ) → IsBytes xs → b < 256 → IsBytes (xs ++ b ∷ [])
+IsBytes-more [] b all small zero = small
+IsBytes-more [] b all small (suc i) = omega arith
+IsBytes-more (x ∷ xs) b all small zero = all 0
+IsBytes-more (x ∷ xs) b all small (suc i) = IsBytes-more xs b (λ k. all (suc k)) small i
+
+-- digits for whole bytes
+pub encoded_even : (bytes text : List ℕ) → text ≡ encode_lower bytes → length text % 2 ≡ 0
+encoded_even bytes text same = rw (same, length-encoded bytes) (omega arith)

@@ -1,12 +1,11 @@
 //! The data of a write, and the value of an attribute.
-ghost use Rattle.std.specs.Prelude.{◌≡◌, ◌≤◌, ◌++◌, IfOk, codes};
+ghost use Rattle.std.specs.Prelude.{◌≡◌, ◌≤◌, ◌<◌, ◌%◌, ◌++◌, length, slice_index, true, IfOk, codes};
 ghost use Rattle.std.specs.List.{list_all};
-ghost use Rattle.hex.specs.Hex.{encode_lower, IsBytes};
+ghost use Rattle.hex.specs.Hex.{encode_lower, lower_digits, IsBytes};
 ghost use Rattle.script_text.specs.Lines.{pattern};
 ghost use Rattle.script_text.specs.Reading.{Reads, body_text, IsBody, pattern_text, IsPattern, is_lower_hex};
 
 use crate::words::{cut, number};
-use hex::FromHexError;
 use hsm_types::Bytes;
 use std::alloc::{AllocError, Global};
 
@@ -59,14 +58,39 @@ fn hex_body(alloc: Global, digits: &[u8]) -> Result<Option<Body>, AllocError>
 fn hex_bytes(alloc: Global, digits: &[u8]) -> Result<Option<Bytes>, AllocError>
     ensures { IfOk result (λ read. Reads encode_lower IsBytes digits.now read) }
 {
+    if digits.len() % 2 != 0 {
+        return Ok(None);
+    }
     if !are_lower_hex(digits) {
         return Ok(None);
     }
-    match hex::decode(alloc, digits) {
-        Ok(bytes) => Ok(Some(Bytes::from(bytes))),
-        Err(FromHexError::OutOfMemory) => Err(AllocError),
-        Err(_) => Ok(None),
+    let bytes = bytes_of(alloc, digits)?;
+    Ok(Some(Bytes::from(bytes)))
+}
+
+/// The bytes of pairs of hex digits.
+fn bytes_of(alloc: Global, digits: &[u8]) -> Result<Vec<u8>, AllocError>
+    requires even { length digits.now % 2 ≡ 0 }
+    requires lower { list_all is_lower_hex digits.now ≡ true }
+    ensures bytes { IfOk result (λ bytes. IsBytes bytes.items) }
+    ensures digits { IfOk result (λ bytes. digits.now ≡ encode_lower bytes.items) }
+{
+    let count = digits.len() / 2;
+    let mut bytes = Vec::with_capacity(alloc, count)?;
+    for i in 0..count {
+        bytes.push(16 * digit_value(digits[2 * i]) + digit_value(digits[2 * i + 1]))?;
     }
+    Ok(bytes)
+}
+
+/// The value of a hex digit, without a branch, as that would mostly be foretold wrong.
+#[tactic(auto, using(crate::proofs::HexText::value_small, crate::proofs::HexText::value_digit))]
+fn digit_value(digit: u8) -> u8
+    requires { is_lower_hex digit ≡ true }
+    ensures small { result < 16 }
+    ensures digit { slice_index lower_digits result ≡ digit }
+{
+    digit % 16 + 9 * (digit / 64)
 }
 
 /// Whether all bytes are hex digits, none of them in upper case.
