@@ -20,7 +20,7 @@ use Rattle.script_text.specs.Lines.{data_word, AreParts}
 use Rattle.script_text.specs.Reading.{Reads, Lacks, parts_text, behind_verb, AreOfKinds, ReadsParts, is_signature, with_rest, form_text, request_text, IsRequest, dm_request_text, IsDmRequest}
 use Rattle.script_text.proofs.Cutting.{Lacks-not, cut_same}
 use Rattle.script_text.proofs.Spelling.{IsVisible, Lacks-visible}
-use Rattle.script_text.proofs.Parting.{same_parts, visible_parts}
+use Rattle.script_text.proofs.Parting.{same_parts, Lacks-parts}
 
 -- ---- verbs
 
@@ -136,10 +136,10 @@ one_form text wanted are s t f g fits fits' h k e =
     let same = same_parts s t f.1 g.1 kinds_are (ap is_signature fits ∙ are.signed f.0) h k (same_words s t f.1 g.1 cut.1) in
     record { forms = ap (λ v. (v, f.1)) verb ∙ ap (λ ps. (g.0, ps)) same.parts; seeds = same.seeds }
 
--- its words are visible
-visible_form : {V : Type 0} (text : V → List ℕ) (wanted : V → List PartKind) → AreVerbs text wanted → (seed : Option ℕ) (f : V × List Part) → map kind_of f.1 ≡ wanted f.0 → AreParts seed f.1
-    → AllByRecursion IsVisible (form_words (data_word seed) (text f.0) f.1)
-visible_form text wanted are seed f fits h = (are.visible f.0, visible_parts seed f.1 (ap is_signature fits ∙ are.signed f.0) h)
+-- it has no newline
+Lacks-form : {V : Type 0} (text : V → List ℕ) (wanted : V → List PartKind) → AreVerbs text wanted → (seed : Option ℕ) (f : V × List Part) → map kind_of f.1 ≡ wanted f.0 → AreParts seed f.1
+    → AllByRecursion (Lacks 10) (form_words (data_word seed) (text f.0) f.1)
+Lacks-form text wanted are seed f fits h = (Lacks-visible 10 (text f.0) refl (are.visible f.0), Lacks-parts seed f.1 (ap is_signature fits ∙ are.signed f.0) h)
 
 -- ---- requests
 
@@ -148,13 +148,13 @@ one_request x y h k e =
     let one = one_form verb_text verb_kinds call_verbs x.seed y.seed (call_form x.call) (call_form y.call) (call_kinds x.call) (call_kinds y.call) h k e in
     (sym (call_of-form x.call) ∙ ap (λ (f : CallVerb × List Part). call_of f.0 f.1) one.forms ∙ call_of-form y.call, one.seeds)
 
-pub visible_request : (seed : Option ℕ) (call : Call) → AreParts seed (call_form call).1 → AllByRecursion IsVisible (form_words (data_word seed) (verb_text (call_form call).0) (call_form call).1)
-visible_request seed call h = visible_form verb_text verb_kinds call_verbs seed (call_form call) (call_kinds call) h
+pub Lacks-request : (seed : Option ℕ) (call : Call) → AreParts seed (call_form call).1 → AllByRecursion (Lacks 10) (form_words (data_word seed) (verb_text (call_form call).0) (call_form call).1)
+Lacks-request seed call h = Lacks-form verb_text verb_kinds call_verbs seed (call_form call) (call_kinds call) h
 
 pub one_dm_request : (x y : DmRequest) → IsDmRequest x → IsDmRequest y → dm_request_text x ≡ dm_request_text y → (x.call ≡ y.call) × (x.seed ≡ y.seed)
 one_dm_request x y h k e =
     let one = one_form dm_verb_text dm_verb_kinds session_verbs x.seed y.seed (dm_form x.call) (dm_form y.call) (dm_kinds x.call) (dm_kinds y.call) h k e in
     (sym (dm_call_of-form x.call) ∙ ap (λ (f : DmVerb × List Part). dm_call_of f.0 f.1) one.forms ∙ dm_call_of-form y.call, one.seeds)
 
-pub visible_dm_request : (seed : Option ℕ) (call : DmCall) → AreParts seed (dm_form call).1 → AllByRecursion IsVisible (form_words (data_word seed) (dm_verb_text (dm_form call).0) (dm_form call).1)
-visible_dm_request seed call h = visible_form dm_verb_text dm_verb_kinds session_verbs seed (dm_form call) (dm_kinds call) h
+pub Lacks-dm_request : (seed : Option ℕ) (call : DmCall) → AreParts seed (dm_form call).1 → AllByRecursion (Lacks 10) (form_words (data_word seed) (dm_verb_text (dm_form call).0) (dm_form call).1)
+Lacks-dm_request seed call h = Lacks-form dm_verb_text dm_verb_kinds session_verbs seed (dm_form call) (dm_kinds call) h

@@ -4,9 +4,11 @@ mod DataParts
 mod Going
 mod Handling
 mod HexText
+mod KindParts
 mod Numerals
 mod Parting
 mod Printed
 mod RegionParts
+mod ResponseParts
 mod Speaking
 mod Spelling

@@ -17,7 +17,9 @@ use Rattle.script_text.specs.declared.parts.ReadParts.{ReadParts}
 use Rattle.script_text.specs.Lines.{data_word, IsPart, AreParts}
 use Rattle.script_text.specs.Reading.{Lacks, read_text, IsOfKind, parts_text, AreOfKinds, is_plain, is_signature}
 use Rattle.script_text.proofs.Cutting.{cut_same}
+use Rattle.script_text.proofs.KindParts.{kinds_at, spelled_kinds}
 use Rattle.script_text.proofs.Numerals.{digits_value-decimal}
+use Rattle.script_text.proofs.ResponseParts.{response_at, response_at-word, Lacks-response}
 use Rattle.script_text.proofs.Spelling.{IsVisible, Lacks-visible, visible_word, visible_decimal, visible_handle, visible_regions, visible_name, visible_data, data_at, data_at-word, handle_at, handle_at-word, regions_at, regions_at-word, name_at, name_at-word}
 
 -- ---- parts of a kind
@@ -40,35 +42,47 @@ plain p = record { part = p; seed = None }
 
 abbrev part_at : PartKind → List ℕ → ReadPart
 part_at kinds.Number text = plain (part.Number (digits_value 10 text))
-part_at kinds.Old text = plain (part.Old (digits_value 10 text))
+part_at kinds.Count text = plain (part.Count (digits_value 10 text))
 part_at kinds.Fetch text = plain (part.Fetch (digits_value 10 text))
 part_at kinds.Word text = plain (part.Word text)
 part_at kinds.Handle text = plain (part.Handle (handle_at text))
 part_at kinds.Regions text = plain (part.Regions (regions_at text))
 part_at kinds.Name text = plain (part.Name (name_at text))
+part_at kinds.Kinds text = plain (part.Kinds (kinds_at text))
+part_at kinds.Response text = plain (part.Response (response_at text))
 part_at kinds.Data text = record { part = part.Data (data_at text).bytes; seed = (data_at text).seed }
 
 part_at-text : (seed : Option ℕ) (p : Part) → IsPart seed p → part_at (kind_of p) (part_word (data_word seed) p) ≡ record { part = p; seed = seed }
 part_at-text seed (part.Number n) h = rw (digits_value-decimal n h.0, h.1) refl
-part_at-text seed (part.Old sid) h = rw (digits_value-decimal sid (omega (arith, h.0)), h.1) refl
+part_at-text seed (part.Count n) h = rw (digits_value-decimal n (omega (arith, h.0)), h.1) refl
 part_at-text seed (part.Fetch len) h = rw (digits_value-decimal len h.0, h.1) refl
 part_at-text seed (part.Word word) h = rw h.1 refl
 part_at-text seed (part.Handle handle) h = rw (handle_at-word handle h.0, h.1) refl
 part_at-text seed (part.Regions regions) h = rw (regions_at-word regions h.0, h.1) refl
 part_at-text seed (part.Name name) h = rw (name_at-word name h.0, h.1) refl
+part_at-text seed (part.Kinds taken) h = rw ((spelled_kinds taken).back, h) refl
+part_at-text seed (part.Response response) h = rw (response_at-word response h.0, h.1) refl
 part_at-text seed (part.Data bytes) h = rw (data_at-word seed bytes h) refl
 
 -- ---- its bytes are visible
 
-visible_part : (seed : Option ℕ) (p : Part) → IsPart seed p → IsVisible (part_word (data_word seed) p)
-visible_part seed (part.Number n) h = visible_decimal n h.0
-visible_part seed (part.Old sid) h = visible_decimal sid (omega (arith, h.0))
-visible_part seed (part.Fetch len) h = visible_decimal len h.0
-visible_part seed (part.Word word) h = visible_word word h.0
-visible_part seed (part.Handle handle) h = visible_handle handle h.0
-visible_part seed (part.Regions regions) h = visible_regions regions h.0
-visible_part seed (part.Name name) h = visible_name name h.0
-visible_part seed (part.Data bytes) h = visible_data seed bytes h
+-- of a response a byte may be a space
+visible_part : (seed : Option ℕ) (p : Part) → kind_of p ≢ kinds.Response → IsPart seed p → IsVisible (part_word (data_word seed) p)
+visible_part seed (part.Number n) other h = visible_decimal n h.0
+visible_part seed (part.Count n) other h = visible_decimal n (omega (arith, h.0))
+visible_part seed (part.Fetch len) other h = visible_decimal len h.0
+visible_part seed (part.Word word) other h = visible_word word h.0
+visible_part seed (part.Handle handle) other h = visible_handle handle h.0
+visible_part seed (part.Regions regions) other h = visible_regions regions h.0
+visible_part seed (part.Name name) other h = visible_name name h.0
+visible_part seed (part.Kinds taken) other h = (spelled_kinds taken).visible
+visible_part seed (part.Response response) other h = absurd (other refl)
+visible_part seed (part.Data bytes) other h = visible_data seed bytes h
+
+-- none is a newline
+Lacks-part : (seed : Option ℕ) (p : Part) → IsPart seed p → Lacks 10 (part_word (data_word seed) p)
+Lacks-part seed (part.Response response) h = Lacks-response response h.0
+Lacks-part seed other h = Lacks-visible 10 (part_word (data_word seed) other) refl (visible_part seed other (λ same. cc same) h)
 
 -- ---- what may stand before other parts
 
@@ -76,29 +90,32 @@ visible_part seed (part.Data bytes) h = visible_data seed bytes h
 pub record IsPlain (seed other : Option ℕ) (p : Part) : Type 0 where
   pub lawful : IsPart None p
   pub alike : part_word (data_word seed) p ≡ part_word (data_word other) p
-  pub visible : IsVisible (part_word (data_word other) p)
   pub lacks : Lacks 32 (part_word (data_word other) p)
 
 lawful_alone : (seed : Option ℕ) (p : Part) → is_plain (kind_of p) ≡ true → IsPart seed p → IsPart None p
 lawful_alone seed (part.Data bytes) e h = absurd (false≢true e)
+lawful_alone seed (part.Kinds taken) e h = refl
 lawful_alone seed other e h = (h.0, refl)
 
 alike_plain : (seed other : Option ℕ) (p : Part) → is_plain (kind_of p) ≡ true → part_word (data_word seed) p ≡ part_word (data_word other) p
 alike_plain seed other (part.Data bytes) e = absurd (false≢true e)
 alike_plain seed other another e = refl
 
+plain_no_response : (k : PartKind) → is_plain k ≡ true → k ≢ kinds.Response
+plain_no_response k e same = false≢true (ap is_plain (sym same) ∙ e)
+
 pub plain_part : (seed other : Option ℕ) (p : Part) → is_plain (kind_of p) ≡ true → IsPart seed p → IsPlain seed other p
 plain_part seed other p e h =
     let lawful = lawful_alone seed p e h in
-    let visible = subst IsVisible (alike_plain None other p e) (visible_part None p lawful) in
-    record { lawful = lawful; alike = alike_plain seed other p e; visible = visible; lacks = Lacks-visible 32 (part_word (data_word other) p) refl visible }
+    let visible = subst IsVisible (alike_plain None other p e) (visible_part None p (plain_no_response (kind_of p) e) lawful) in
+    record { lawful = lawful; alike = alike_plain seed other p e; lacks = Lacks-visible 32 (part_word (data_word other) p) refl visible }
 
-pub visible_parts : (seed : Option ℕ) (ps : List Part) → is_signature (map kind_of ps) ≡ true → AreParts seed ps → AllByRecursion IsVisible (map (part_word (data_word seed)) ps)
-visible_parts seed [] e h = tt
-visible_parts seed (p ∷ []) e h = (visible_part seed p h, tt)
-visible_parts seed (p ∷ q ∷ ps) e h =
+pub Lacks-parts : (seed : Option ℕ) (ps : List Part) → is_signature (map kind_of ps) ≡ true → AreParts seed ps → AllByRecursion (Lacks 10) (map (part_word (data_word seed)) ps)
+Lacks-parts seed [] e h = tt
+Lacks-parts seed (p ∷ []) e h = (Lacks-part seed p h, tt)
+Lacks-parts seed (p ∷ q ∷ ps) e h =
     let both = and_parts (is_plain (kind_of p)) (is_signature (map kind_of (q ∷ ps))) e in
-    ((plain_part None seed p both.0 h.0).visible, visible_parts seed (q ∷ ps) both.1 h.1)
+    (subst (Lacks 10) (alike_plain None seed p both.0) (Lacks-part None p h.0), Lacks-parts seed (q ∷ ps) both.1 h.1)
 
 -- ---- one part
 

@@ -1,5 +1,5 @@
 -- Lines: an actor, and what it says.
-use Rattle.std.proofs.Common.{◌≡◌, ◌≢◌, ℕ, ◌-◌, ◌^◌, ◌<◌, List, [], ◌∷◌, ◌++◌, length, take, drop, refl, sym, ap, ◌∙◌, subst, Option, arith}
+use Rattle.std.proofs.Common.{◌≡◌, ◌≢◌, ℕ, ◌-◌, ◌^◌, ◌<◌, List, ◌∷◌, ◌++◌, length, take, drop, refl, sym, ap, ◌∙◌, subst, Option, arith}
 use Rattle.std.specs.Prelude.{codes}
 use Rattle.std.specs.List.{AllByRecursion}
 use Rattle.std.specs.Fmt.{decimal}
@@ -23,7 +23,7 @@ use Rattle.script_text.specs.Reading.{Lacks, caller_word, sid_word, IsSid, reque
 use Rattle.script_text.proofs.Cutting.{Lacks-not, Lacks-join, cut_same}
 use Rattle.script_text.proofs.Numerals.{Lacks-decimal}
 use Rattle.script_text.proofs.Spelling.{IsVisible, Lacks-visible, visible_decimal}
-use Rattle.script_text.proofs.Calling.{one_request, visible_request, one_dm_request, visible_dm_request}
+use Rattle.script_text.proofs.Calling.{one_request, Lacks-request, one_dm_request, Lacks-dm_request}
 
 -- ---- actors
 
@@ -174,20 +174,16 @@ same_access before text read line h same g = ap access_length (line_text-injecti
 
 -- ---- a line's text has no newline
 
-visible_action : (actor : Actor) (action : Action) (seed : Option ℕ) → IsEvent actor action seed → AllByRecursion IsVisible (action_words (data_word seed) action)
-visible_action (Caller c) (Issue call) seed h = visible_request seed call h.1
-visible_action (Caller c) other seed h = absurd h
-visible_action (Session sid) (Dm call) seed h = visible_dm_request seed call h.2
-visible_action (Session sid) other seed h = absurd h
-visible_action Store Commit seed h = (refl, tt)
-visible_action Store other seed h = absurd h
+Lacks-action : (actor : Actor) (action : Action) (seed : Option ℕ) → IsEvent actor action seed → AllByRecursion (Lacks 10) (action_words (data_word seed) action)
+Lacks-action (Caller c) (Issue call) seed h = Lacks-request seed call h.1
+Lacks-action (Caller c) other seed h = absurd h
+Lacks-action (Session sid) (Dm call) seed h = Lacks-dm_request seed call h.2
+Lacks-action (Session sid) other seed h = absurd h
+Lacks-action Store Commit seed h = (Lacks-visible 10 (codes "commit") refl refl, tt)
+Lacks-action Store other seed h = absurd h
 
-visible_line : (line : Line) → IsLine line → AllByRecursion IsVisible (line_words line)
-visible_line (Event actor action seed) h = (visible_actor actor (event_actor actor action seed h), visible_action actor action seed h)
-
-Lacks-words : (b : ℕ) (words : List (List ℕ)) → ((word : List ℕ) → IsVisible word → Lacks b word) → AllByRecursion IsVisible words → AllByRecursion (Lacks b) words
-Lacks-words b [] lacks h = tt
-Lacks-words b (word ∷ words) lacks h = (lacks word h.0, Lacks-words b words lacks h.1)
+Lacks-line : (line : Line) → IsLine line → AllByRecursion (Lacks 10) (line_words line)
+Lacks-line (Event actor action seed) h = (Lacks-visible 10 (actor_word actor) refl (visible_actor actor (event_actor actor action seed h)), Lacks-action actor action seed h)
 
 pub Lacks-newline : (line : Line) → IsLine line → Lacks 10 (line_text line)
-Lacks-newline line h = Lacks-join 10 32 (line_words line) (λ same. absurd (omega arith)) (Lacks-words 10 (line_words line) (λ word. Lacks-visible 10 word refl) (visible_line line h))
+Lacks-newline line h = Lacks-join 10 32 (line_words line) (λ same. absurd (omega arith)) (Lacks-line line h)

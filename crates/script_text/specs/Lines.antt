@@ -4,8 +4,10 @@ use Rattle.std.specs.List.{join_with_byte, list_all, range_with_len, AllByRecurs
 use Rattle.std.specs.Fmt.{decimal}
 use Rattle.hex.specs.Hex.{encode_lower, IsBytes}
 use Rattle.hsm_types.specs.declared.attributes.AttrName.{AttrName}
+use Rattle.hsm_types.specs.declared.dm.Response.{Response}
+use Rattle.hsm_types.specs.declared.dm.Response.TheVariants.{Continue, Abort}
 use Rattle.hsm_types.specs.declared.dm.Scope.{Scope}
-use Rattle.hsm_types.specs.declared.dm.Scope.TheVariants.{Anyone, InSession, OnFile}
+use Rattle.hsm_types.specs.declared.dm.Scope.TheVariants.{Anyone, InSession, OnToken, OnFile}
 use Rattle.hsm_types.specs.declared.keys.Sid.{Sid}
 use Rattle.hsm_types.specs.declared.parts.Part.{Part}
 use Rattle.hsm_types.specs.declared.parts.Part.TheVariants as part
@@ -73,15 +75,22 @@ IsRegions regions = (length regions ≤ 64) × AllByRecursion IsRegion regions
 abbrev pub IsAttrName : AttrName → Type 0
 IsAttrName name = IsBytes name.0 × (length name.0 ≡ 8)
 
--- A lawful part. Only data have a seed. Taking over a session isn't a line yet, so the old one is 0, which stands for none
+-- An abort's error has 32 bits. The store judges which it takes.
+abbrev pub IsResponse : Response → Type 0
+IsResponse Continue = Unit {0}
+IsResponse (Abort error) = error < 2 ^ 32
+
+-- A lawful part. Only data have a seed.
 abbrev pub IsPart : Option ℕ → Part → Type 0
 IsPart seed (part.Number n) = (n < 2 ^ 64) × (seed ≡ None)
-IsPart seed (part.Old sid) = (sid ≡ 0) × (seed ≡ None)
+IsPart seed (part.Count n) = (n < 2 ^ 32) × (seed ≡ None)
 IsPart seed (part.Fetch len) = (len < 2 ^ 64) × (seed ≡ None)
 IsPart seed (part.Word word) = IsTrue (is_word word) × (seed ≡ None)
 IsPart seed (part.Handle handle) = IsHandle handle × (seed ≡ None)
 IsPart seed (part.Regions regions) = IsRegions regions × (seed ≡ None)
 IsPart seed (part.Name name) = IsAttrName name × (seed ≡ None)
+IsPart seed (part.Kinds taken) = seed ≡ None
+IsPart seed (part.Response response) = IsResponse response × (seed ≡ None)
 IsPart seed (part.Data bytes) = IsData seed bytes
 
 -- lawful parts. Only the last one may have the seed
@@ -94,7 +103,8 @@ AreParts seed (p ∷ q ∷ parts) = IsPart None p × AreParts seed (q ∷ parts)
 abbrev pub IsAskedBy : Sid → Scope → Type 0
 IsAskedBy sid Anyone = sid.0 ≡ 0
 IsAskedBy sid InSession = Unit {0}
-IsAskedBy sid (OnFile token handle) = Unit {0}
+IsAskedBy sid (OnToken token) = Unit {0}
+IsAskedBy sid (OnFile token handle right) = Unit {0}
 
 -- callers issue calls, sessions ask, and the store commits
 abbrev pub IsEvent : Actor → Action → Option ℕ → Type 0

@@ -1,7 +1,9 @@
 -- What the parts of a line are read as.
-use Rattle.std.specs.Prelude.{ℕ, ◌≡◌, ◌≢◌, ◌^◌, ◌<◌, ◌≤◌, List, [], ◌∷◌, ◌++◌, length, map, Option, Some, None, Bool, true, false, nat_le, ◌==◌, ◌&&◌, ◌||◌}
+use Rattle.std.specs.Prelude.{ℕ, ◌≡◌, ◌≢◌, ◌^◌, ◌<◌, ◌≤◌, List, [], ◌∷◌, ◌++◌, length, map, Option, Some, None, Bool, true, false, nat_le, ◌==◌, ◌&&◌, ◌||◌, if◌then◌else◌}
 use Rattle.std.specs.List.{AllByRecursion, slice_split}
 use Rattle.std.specs.Fmt.{decimal}
+use Rattle.std.specs.Str.{bytes_eq}
+use Rattle.hsm_types.specs.declared.dm.Kinds.{Kinds}
 use Rattle.hsm_types.specs.declared.keys.FileKey.{FileKey}
 use Rattle.hsm_types.specs.declared.keys.Sid.{Sid}
 use Rattle.hsm_types.specs.declared.parts.Part.{Part}
@@ -39,6 +41,9 @@ Cuts b bytes (Some p) = (bytes ≡ p.0 ++ b ∷ p.1) × Lacks b p.0
 abbrev pub IsNumber : ℕ → Type 0
 IsNumber n = n < 2 ^ 64
 
+abbrev pub IsCount : ℕ → Type 0
+IsCount n = n < 2 ^ 32
+
 abbrev pub caller_word : ℕ → List ℕ
 caller_word c = actor_word (Caller c)
 
@@ -75,6 +80,15 @@ abbrev pub parts_behind : Option (List ℕ) → List (List ℕ)
 parts_behind None = []
 parts_behind (Some word) = parts word
 
+-- whether that word is the first, and the words behind it
+abbrev pub taken : List ℕ → List (List ℕ) → Bool × List (List ℕ)
+taken word [] = (false, [])
+taken word (first ∷ more) = if bytes_eq first word then (true, more) else (false, first ∷ more)
+
+-- any kinds
+abbrev pub AreKinds : Kinds → Type 0
+AreKinds taken = Unit {0}
+
 -- regions that are not none
 abbrev pub AreSomeRegions : List Region → Type 0
 AreSomeRegions regions = IsRegions regions × (0 < length regions)
@@ -106,9 +120,10 @@ abbrev pub ReadsParts : List PartKind → Option (List ℕ) → Option ReadParts
 ReadsParts ks text None = (r : ReadParts) → AreOfKinds ks r → text ≢ behind_verb r.seed r.parts
 ReadsParts ks text (Some r) = AreOfKinds ks r × (text ≡ behind_verb r.seed r.parts)
 
--- only the last part may have a seed
+-- only the last part may have a seed, or a space
 abbrev pub is_plain : PartKind → Bool
 is_plain kinds.Data = false
+is_plain kinds.Response = false
 is_plain other = true
 
 abbrev pub is_signature : List PartKind → Bool

@@ -75,6 +75,6 @@ fn may_ask(sid: Sid, call: &DmCall) -> bool
 {
     match call.scope() {
         Scope::Anyone => sid.0 == 0,
-        Scope::InSession | Scope::OnFile { .. } => true,
+        Scope::InSession | Scope::OnToken { .. } | Scope::OnFile { .. } => true,
     }
 }

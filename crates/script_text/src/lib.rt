@@ -5,6 +5,7 @@ mod attributes;
 mod bodies;
 mod events;
 mod handles;
+mod kinds;
 mod laws;
 mod lines;
 mod memory;
@@ -13,6 +14,7 @@ mod parts;
 mod printing;
 mod regions;
 mod requests;
+mod responses;
 mod streams;
 mod words;
 

@@ -1,14 +1,15 @@
 //! The parts of a call, read by the kinds that its verb has.
 ghost use Rattle.std.specs.Prelude.{◌≡◌, ◌<◌, ◌∷◌, [], length, true, IfOk};
-ghost use Rattle.std.specs.Fmt.{decimal};
 ghost use Rattle.std.specs.Option.{option_map};
 ghost use Rattle.script_text.specs.Reading.{Reads, read_text, IsOfKind, parts_text, AreOfKinds, ReadsParts, is_signature};
 
 use crate::attributes::attr_name;
 use crate::bodies::body_of;
 use crate::handles::handle_of;
+use crate::kinds::kinds_of;
 use crate::regions::regions_of;
-use crate::words::{cut, is_word, number, word};
+use crate::responses::response_of;
+use crate::words::{count, cut, is_word, number, word};
 use hsm_types::{Part, PartKind, Parts};
 use std::alloc::{AllocError, Global};
 
@@ -41,8 +42,8 @@ fn part_of(alloc: Global, kind: PartKind, text: &[u8]) -> Result<Option<ReadPart
             Some(n) => Ok(Some(unseeded(Part::Number(n)))),
             None => Ok(None),
         },
-        PartKind::Old => match old_session(text) {
-            Some(sid) => Ok(Some(unseeded(Part::Old(sid)))),
+        PartKind::Count => match count(text) {
+            Some(n) => Ok(Some(unseeded(Part::Count(n)))),
             None => Ok(None),
         },
         PartKind::Fetch => match number(text) {
@@ -68,6 +69,14 @@ fn part_of(alloc: Global, kind: PartKind, text: &[u8]) -> Result<Option<ReadPart
             Some(name) => Ok(Some(unseeded(Part::Name(name)))),
             None => Ok(None),
         },
+        PartKind::Kinds => match kinds_of(text) {
+            Some(kinds) => Ok(Some(unseeded(Part::Kinds(kinds)))),
+            None => Ok(None),
+        },
+        PartKind::Response => match response_of(text) {
+            Some(response) => Ok(Some(unseeded(Part::Response(response)))),
+            None => Ok(None),
+        },
         PartKind::Data => match body_of(alloc, text)? {
             Some(body) => Ok(Some(ReadPart {
                 part: Part::Data(body.bytes),
@@ -75,16 +84,6 @@ fn part_of(alloc: Global, kind: PartKind, text: &[u8]) -> Result<Option<ReadPart
             })),
             None => Ok(None),
         },
-    }
-}
-
-/// The session in whose place another one is made. A line can only say that there is none.
-fn old_session(word: &[u8]) -> Option<u64>
-    ensures { Reads decimal (λ old. old ≡ 0) word.now result }
-{
-    match number(word) {
-        Some(0) => Some(0),
-        _ => None,
     }
 }
 

@@ -1,11 +1,10 @@
 //! Regions, as a word of a line.
-ghost use Rattle.std.specs.Prelude.{◌≡◌, ◌∷◌, IfOk};
-ghost use Rattle.std.specs.Option.{option_map};
+ghost use Rattle.std.specs.Prelude.{IfOk};
 ghost use Rattle.plain_model.specs.Render.{region_word, regions_word};
 ghost use Rattle.script_text.specs.Lines.{IsRegion, IsRegions};
-ghost use Rattle.script_text.specs.Reading.{Reads, AreSomeRegions, parts, parts_behind};
+ghost use Rattle.script_text.specs.Reading.{Reads, AreSomeRegions};
 
-use crate::words::{cut, number};
+use crate::words::{cut, first_part, number};
 use hsm_types::{Region, Regions};
 use std::alloc::{AllocError, Global};
 
@@ -43,16 +42,6 @@ fn some_regions(alloc: Global, word: &[u8]) -> Result<Option<Regions>, AllocErro
         }
     }
     Ok(None)
-}
-
-/// What stands before the first comma, and what behind it, if there is one.
-fn first_part(word: &[u8]) -> (&[u8], Option<&[u8]>)
-    ensures { parts word.now ≡ result.0.now ∷ parts_behind (option_map (λ more. more.now) result.1) }
-{
-    match cut(word, b',') {
-        Some((first, more)) => (first, Some(more)),
-        None => (word, None),
-    }
 }
 
 /// The region that a word is.

@@ -1,5 +1,5 @@
 //! The words of a line.
-ghost use Rattle.std.specs.Prelude.{◌≡◌, ◌≢◌, ◌+◌, ◌-◌, ◌*◌, ◌^◌, ◌<◌, ◌≤◌, ℕ, length, slice_index, IsTrue, IfOk, ◌↔◌};
+ghost use Rattle.std.specs.Prelude.{◌≡◌, ◌≢◌, ◌+◌, ◌-◌, ◌*◌, ◌^◌, ◌<◌, ◌≤◌, ◌∷◌, ℕ, length, slice_index, IsTrue, IfOk, ◌↔◌};
 ghost use Rattle.std.specs.Option.{option_map, SomeIff};
 ghost use Rattle.std.specs.Char.{digit_value};
 ghost use Rattle.std.specs.Fmt.{decimal};
@@ -7,11 +7,14 @@ ghost use Rattle.std.specs.List.{list_all};
 ghost use Rattle.std.specs.Str.Parse.{AllDigits, digits_value};
 ghost use Rattle.hsm_types.specs.Callers.{IsCallerNumber};
 ghost use Rattle.script_text.specs.Lines.{is_word, is_word_byte};
-ghost use Rattle.script_text.specs.Reading.{Reads, Cuts, IsNumber, caller_word, sid_word, IsSid};
+ghost use Rattle.script_text.specs.Reading.{Reads, Cuts, parts, parts_behind, IsNumber, IsCount, caller_word, sid_word, IsSid};
 
 use hsm_types::{CallerId, Sid, Word};
 use memchr::memchr;
 use std::alloc::{AllocError, Global};
+
+/// The greatest number of 32 bits.
+const GREATEST_COUNT: u64 = 4294967295;
 
 /// The place of the first such byte, or the length where there is none.
 fn find(bytes: &[u8], byte: u8) -> usize
@@ -63,6 +66,16 @@ fn find_newline(bytes: &[u8]) -> usize
     }
 }
 
+/// What stands before the first comma, and what behind it, if there is one.
+pub fn first_part(word: &[u8]) -> (&[u8], Option<&[u8]>)
+    ensures { parts word.now ≡ result.0.now ∷ parts_behind (option_map (λ more. more.now) result.1) }
+{
+    match cut(word, b',') {
+        Some((first, more)) => (first, Some(more)),
+        None => (word, None),
+    }
+}
+
 /// The number that a word is in decimal.
 pub fn number(word: &[u8]) -> Option<u64>
     ensures { Reads decimal IsNumber word.now result }
@@ -71,6 +84,19 @@ pub fn number(word: &[u8]) -> Option<u64>
         return None;
     }
     value(word)
+}
+
+/// The number of 32 bits that a word is in decimal.
+pub fn count(word: &[u8]) -> Option<u32>
+    ensures { Reads decimal IsCount word.now result }
+{
+    let Some(n) = number(word) else {
+        return None;
+    };
+    if n > GREATEST_COUNT {
+        return None;
+    }
+    Some(n as u32)
 }
 
 /// Whether there is a byte, and no `0` in front of others.
