@@ -4,7 +4,7 @@ use plain_model::Action;
 use script_text::{Line, ParseRefusal, parse, print};
 use std::alloc::Global;
 
-static PRINTED: [&str; 12] = [
+static PRINTED: [&str; 17] = [
     "",
     "s0 session 0 a/b\ns0 sessions\ns0 query 0\ns0 query 18446744073709551615\n",
     "s1 handle a\ns0 handle a/b\ns0 space\ns7 space\n",
@@ -15,6 +15,11 @@ static PRINTED: [&str; 12] = [
     "s1 setattr 1 1.2.3 0000000000000000 p:3:255\ns1 setattr 1 1.2.3 ffffffffffffffff p:0:0\n",
     "s0 getattr 0 1.1.1 0123456789abcdef\ns1 rmattr 1 1.2.3 0123456789abcdef\n",
     "s0 attrs 0 1.1.1\ns1 attrs 1 1.2.3\n",
+    "s0 session 1 heir\ns0 session 18446744073709551615 a\ns3 destroy\ns0 destroy\n",
+    "s1 setdisp -\ns1 setdisp read\ns1 setdisp write,nospace\ns1 setdisp read,write,truncate,nospace\ns1 disp\n",
+    "s1 getevents 0 4294967295\ns1 getevents 4294967295 0\ns1 tokens\ns1 findmsg 18446744073709551615 64\n",
+    "s1 respond 0 continue\ns1 respond 1 abort 0\ns1 respond 18446744073709551615 abort 4294967295\n",
+    "s1 userevent x:\ns1 userevent p:3:7\ns1 send 0 x:00ff\ns1 send 18446744073709551615 p:4096:0\n",
     "c1 create a\nc1 write a 0 x:00ff\nc2 write a 2 p:3:255\nc2 write a 5 x:\nc2 write a 5 p:0:0\n",
     "c64 read a 1 2\nc1 truncate a 3\nc1 stat a\nc1 sync\nc1 remove a\nstore commit\n",
 ];
@@ -79,7 +84,7 @@ fn bad_line(alloc: Global, text: &[u8]) -> u64 {
     }
 }
 
-static BAD: [&str; 63] = [
+static BAD: [&str; 96] = [
     "\n",
     "c1",
     " c1 sync",
@@ -143,6 +148,39 @@ static BAD: [&str; 63] = [
     "s1 rmattr 0 1.1.1 0123456789abcdef x",
     "s1 setattr 0 1.1.1 0123456789abcde x:00",
     "s1 setattr 0 1.1.1 0123456789abcdef x:00 x",
+    "s1 session 0 x",
+    "s1 query 0",
+    "s1 destroy 1",
+    "s1 setdisp",
+    "s1 setdisp read,read",
+    "s1 setdisp write,read",
+    "s1 setdisp read,",
+    "s1 setdisp ,read",
+    "s1 setdisp -,read",
+    "s1 setdisp read write",
+    "s1 setdisp user",
+    "s1 disp -",
+    "s1 getevents 0",
+    "s1 getevents 4294967296 0",
+    "s1 getevents 0 4294967296",
+    "s1 getevents 0 01",
+    "s1 tokens 1",
+    "s1 findmsg 1",
+    "s1 findmsg 18446744073709551616 0",
+    "s1 findmsg 1 4294967296",
+    "s1 respond 1",
+    "s1 respond 1 continue 0",
+    "s1 respond 1 abort",
+    "s1 respond 1 abort ",
+    "s1 respond 1 abort  1",
+    "s1 respond 1 abort 01",
+    "s1 respond 1 abort 4294967296",
+    "s1 respond 1 abort 1 1",
+    "s1 respond 1 media 1",
+    "s1 userevent",
+    "s1 userevent x:0",
+    "s1 send 1",
+    "s1 send x:00",
 ];
 
 #[test]
@@ -154,7 +192,7 @@ fn are_refused(rt: HostRuntime) {
 
 /// A line, how often it stands, the last line behind these, and the first bad one: at most 100,000 lines, and 536,870,912 bytes that are read,
 /// written and set.
-static LONG: [(&str, u32, &str, u64); 6] = [
+static LONG: [(&str, u32, &str, u64); 8] = [
     ("c1 sync\n", 99999, "c1 sync", 0),
     ("c1 sync\n", 100000, "c1 sync", 100001),
     ("c1 read a 0 99999\n", 8192, "c1 write a 0 p:0:0", 0),
@@ -171,6 +209,13 @@ static LONG: [(&str, u32, &str, u64); 6] = [
         "s1 setattr 0 1.1.1 0000000000000000 x:00",
         8193,
     ),
+    (
+        "c1 read a 0 99999\n",
+        8192,
+        "s1 getevents 4294967295 4294967295",
+        0,
+    ),
+    ("c1 read a 0 99999\n", 8192, "s1 send 1 x:00", 8193),
 ];
 
 /// The first bad line of so many that are alike, and a last one.
