@@ -3,8 +3,13 @@ use Rattle.std.specs.Prelude.{codes}
 use Rattle.std.proofs.lemmas.Bool.{false≢true}
 use Rattle.std.proofs.lemmas.Slice.Eq.{bytes_eq-Decides}
 use Rattle.script_text.proofs.DataParts.{differ}
-use Rattle.script_text.proofs.ResponseParts.{response_cut}
+use Rattle.script_text.proofs.ResponseParts.{response_uncut, response_cut}
 use Rattle.script_text.proofs.responses.response_of.Goals as goal
+
+pub returns-in_default : goal.returns-in_default
+returns-in_default c x h same =
+    let other = differ c.args.text.now c.as_slice.result.now (codes "continue") c.eq.result c.eq.ensures c.as_slice.ensures c.if-eq.false in
+    response_uncut c.args.text.now x c.in_default.ensures other same
 
 pub returns-then-ne : goal.returns-then-ne
 returns-then-ne c x h same =
