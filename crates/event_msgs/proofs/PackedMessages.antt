@@ -1,0 +1,90 @@
+-- Messages that are packed one after the other.
+use Rattle.std.proofs.Common.{◌≡◌, ◌≢◌, ℕ, zero, suc, ◌+◌, ◌-◌, ◌<◌, ◌≤◌, List, [], ◌∷◌, ◌++◌, length, get_or, take, drop, refl, sym, ap, ◌∙◌, append_assoc, append-nil, arith, inl, inr}
+use Rattle.std.proofs.lemmas.Bool.{cases_lt}
+use Rattle.std.proofs.lemmas.Bool.Decides.{nat_tests}
+use Rattle.std.proofs.lemmas.List.{drop_more, take_more, take_all, drop_all}
+use Rattle.hsm_types.specs.Messages.{message_bytes, header, payload, padding, message_text, packed, fitting, first_or_all}
+use Rattle.hsm_types.specs.declared.messages.Message.{Message}
+use Rattle.event_msgs.specs.Packing.{first_bytes}
+
+-- ---- which fit
+
+first_fits : (room : ℕ) (m : Message) (more : List Message) → message_bytes m ≤ room → fitting room (m ∷ more) ≡ m ∷ fitting (room - message_bytes m) more
+first_fits room m more fits = grind (arith, nat_tests)
+
+first_fails : (room : ℕ) (m : Message) (more : List Message) → room < message_bytes m → fitting room (m ∷ more) ≡ []
+first_fails room m more short = grind (arith, nat_tests)
+
+-- those before the place fit, and of the others those that fit into what is left
+abbrev pub FitBefore : ℕ → List Message → ℕ → ℕ → Type 0
+FitBefore room messages i left = take i messages ++ fitting left (drop i messages) ≡ fitting room messages
+
+pub one_more : (room : ℕ) (messages : List Message) (i left : ℕ) (m : Message) → i < length messages → m ≡ get_or messages i m → message_bytes m ≤ left
+    → FitBefore room messages i left → FitBefore room messages (i + 1) (left - message_bytes m)
+one_more room messages i left m within is fits before =
+    let others = drop (i + 1) messages in
+    let opened : drop i messages ≡ m ∷ others = drop_more messages i m within ∙ ap (λ (n : Message). n ∷ others) (sym is) in
+    let front : take (i + 1) messages ≡ take i messages ++ m ∷ [] = take_more messages i m within ∙ ap (λ (n : Message). take i messages ++ n ∷ []) (sym is) in
+    ap (λ (l : List Message). l ++ fitting (left - message_bytes m) others) front
+    ∙ append_assoc (take i messages) (m ∷ []) (fitting (left - message_bytes m) others)
+    ∙ ap (λ (l : List Message). take i messages ++ l) (sym (ap (fitting left) opened ∙ first_fits left m others fits))
+    ∙ before
+
+pub no_more : (room : ℕ) (messages : List Message) (i left : ℕ) (m : Message) → i < length messages → m ≡ get_or messages i m → left < message_bytes m
+    → FitBefore room messages i left → take i messages ≡ fitting room messages
+no_more room messages i left m within is short before =
+    let others = drop (i + 1) messages in
+    let opened : drop i messages ≡ m ∷ others = drop_more messages i m within ∙ ap (λ (n : Message). n ∷ others) (sym is) in
+    sym (append-nil (take i messages)) ∙ ap (λ (l : List Message). take i messages ++ l) (sym (ap (fitting left) opened ∙ first_fails left m others short)) ∙ before
+
+pub all_fit : (room : ℕ) (messages : List Message) (i left : ℕ) → length messages ≤ i → FitBefore room messages i left → messages ≡ fitting room messages
+all_fit room messages i left past before =
+    sym (append-nil messages) ∙ (λ k. sym (take_all i messages past) k ++ sym (ap (fitting left) (drop_all i messages past)) k) ∙ before
+
+first_some : (most : ℕ) (m : Message) (more : List Message) → first_or_all (suc most) (m ∷ more) ≡ m ∷ take most more
+first_some most m more = grind (arith, nat_tests)
+
+-- what fits isn't nothing, so the first message does
+pub some_fit : (room most : ℕ) (messages : List Message) → fitting room (first_or_all most messages) ≢ [] → first_bytes messages ≤ room
+some_fit room most [] some = omega arith
+some_fit room zero (m ∷ more) some = elim (cases_lt room (message_bytes m)) [ inl short ↦ absurd (some (first_fails room m more short)) | inr fits ↦ fits ]
+some_fit room (suc most) (m ∷ more) some =
+    elim (cases_lt room (message_bytes m)) [
+      | inl short ↦ absurd (some (ap (fitting room) (first_some most m more) ∙ first_fails room m (take most more) short))
+      | inr fits ↦ fits
+    ]
+
+-- ---- how they are written
+
+pub put : (out o1 o2 o3 : List ℕ) (next : ℕ) (m : Message) → o1 ≡ out ++ header next m → o2 ≡ o1 ++ payload m → o3 ≡ o2 ++ padding m → o3 ≡ out ++ message_text next m
+unfolding message_text
+put out o1 o2 o3 next m first second third =
+    third
+    ∙ ap (λ (l : List ℕ). l ++ padding m) (second ∙ ap (λ (l : List ℕ). l ++ payload m) first ∙ append_assoc out (header next m) (payload m))
+    ∙ append_assoc out (header next m ++ payload m) (padding m)
+
+packed_first : (m : Message) (more : List Message) (last : Message) → packed (m ∷ (more ++ last ∷ [])) ≡ message_text (message_bytes m) m ++ packed (more ++ last ∷ [])
+packed_first m [] last = refl
+packed_first m (n ∷ more) last = refl
+
+-- the messages before the place are written, those from there on and the last one are left
+abbrev pub WrittenBefore : List ℕ → List Message → List Message → Message → ℕ → Type 0
+WrittenBefore out messages before last i = out ++ packed (drop i before ++ last ∷ []) ≡ packed messages
+
+pub written_none : (messages before : List Message) (last : Message) → messages ≡ before ++ last ∷ [] → WrittenBefore [] messages before last 0
+written_none messages before last parts = ap packed (sym parts)
+
+pub written_more : (out new : List ℕ) (messages before : List Message) (last : Message) (i : ℕ) (m : Message) → i < length before → m ≡ get_or before i m
+    → new ≡ out ++ message_text (message_bytes m) m → WrittenBefore out messages before last i → WrittenBefore new messages before last (i + 1)
+written_more out new messages before last i m within is written so_far =
+    let others = drop (i + 1) before in
+    let opened : drop i before ≡ m ∷ others = drop_more before i m within ∙ ap (λ (n : Message). n ∷ others) (sym is) in
+    ap (λ (l : List ℕ). l ++ packed (others ++ last ∷ [])) written
+    ∙ append_assoc out (message_text (message_bytes m) m) (packed (others ++ last ∷ []))
+    ∙ ap (λ (l : List ℕ). out ++ l) (sym (ap (λ (l : List Message). packed (l ++ last ∷ [])) opened ∙ packed_first m others last))
+    ∙ so_far
+
+pub written_all : (out new : List ℕ) (messages before : List Message) (last : Message) (i : ℕ) → length before ≤ i → new ≡ out ++ message_text 0 last → WrittenBefore out messages before last i
+    → new ≡ packed messages
+written_all out new messages before last i past written so_far =
+    written ∙ sym (ap (λ (l : List Message). out ++ packed (l ++ last ∷ [])) (drop_all i before past)) ∙ so_far

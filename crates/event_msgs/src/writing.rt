@@ -1,0 +1,114 @@
+// Writing the bytes of messages.
+ghost use Rattle.std.specs.Prelude.{◌≡◌, ◌≢◌, ◌≤◌, ◌<◌, ◌^◌, [], ◌∷◌, ◌++◌, All, IfOk, OnOk};
+ghost use Rattle.byteorder.specs.Endian.{big_bytes};
+ghost use Rattle.hsm_types.specs.Handles.{handle_bytes};
+ghost use Rattle.hsm_types.specs.Messages.{IsMessage, kind_number, payload, payload_size, message_bytes, header, message_text, packed};
+
+use byteorder::{BigEndian, ByteOrder};
+use hsm_types::{Handle, Kind, Message};
+use std::alloc::{AllocError, Global};
+
+/// The bytes of a message before its payload.
+pub(crate) const HEADER_BYTES: usize = 24;
+
+/// The bytes of the payload of an access: the handle and two numbers.
+pub(crate) const ACCESS_PAYLOAD: usize = 40;
+
+/// What the bytes of a message are a multiple of.
+pub(crate) const ALIGNMENT: usize = 8;
+
+fn kind_number(kind: Kind) -> u32
+    ensures { result ≡ kind_number kind }
+{
+    match kind {
+        Kind::Read => 1,
+        Kind::Write => 2,
+        Kind::Truncate => 3,
+        Kind::NoSpace => 4,
+        Kind::User => 5,
+    }
+}
+
+fn payload_size(message: &Message) -> usize
+    requires { IsMessage message.now }
+    ensures size { result ≡ payload_size message.now }
+    ensures short { result ≤ 4096 }
+{
+    match message.kind {
+        Kind::User => message.body.as_slice().len(),
+        _ => ACCESS_PAYLOAD,
+    }
+}
+
+/// The bytes that a message takes.
+pub(crate) fn message_bytes(message: &Message) -> usize
+    requires { IsMessage message.now }
+    ensures bytes { result ≡ message_bytes message.now }
+    ensures short { result ≤ 4120 }
+{
+    HEADER_BYTES + payload_size(message).next_multiple_of(ALIGNMENT)
+}
+
+#[tactic(auto, unfolding(hsm_types::specs::Messages::header))]
+fn header(message: &Message, next: u32) -> [u8; HEADER_BYTES]
+    requires { IsMessage message.now }
+    ensures { result ≡ header next message.now }
+{
+    let mut bytes = [0; HEADER_BYTES];
+    BigEndian::write_u32(&mut bytes, next);
+    BigEndian::write_u32(&mut bytes[4..], kind_number(message.kind));
+    BigEndian::write_u64(&mut bytes[8..], message.token.0);
+    BigEndian::write_u32(&mut bytes[16..], payload_size(message) as u32);
+    bytes
+}
+
+fn put_access(out: &mut Vec<u8>, handle: Handle, offset: u64, length: u64) -> Result<(), AllocError>
+    ensures { OnOk result (out.new.items ≡ out.old.items ++ (handle_bytes handle ++ big_bytes 8 offset ++ big_bytes 8 length)) }
+{
+    let mut numbers = [0; 16];
+    BigEndian::write_u64(&mut numbers, offset);
+    BigEndian::write_u64(&mut numbers[8..], length);
+    out.extend_from_slice(&handle.to_bytes())?;
+    out.extend_from_slice(&numbers)?;
+    Ok(())
+}
+
+fn put_payload(out: &mut Vec<u8>, message: &Message) -> Result<(), AllocError>
+    requires { IsMessage message.now }
+    ensures { OnOk result (out.new.items ≡ out.old.items ++ payload message.now) }
+{
+    match message.handle {
+        Some(handle) => put_access(out, handle, message.offset, message.length),
+        None => out.extend_from_slice(message.body.as_slice()),
+    }
+}
+
+/// A message, `next` bytes before the one behind it.
+
+fn put_message(out: &mut Vec<u8>, next: u32, message: &Message) -> Result<(), AllocError>
+    requires { IsMessage message.now }
+    ensures { OnOk result (out.new.items ≡ out.old.items ++ message_text next message.now) }
+{
+    let size = payload_size(message);
+    let padding = size.next_multiple_of(ALIGNMENT) - size;
+    out.extend_from_slice(&header(message, next))?;
+    put_payload(out, message)?;
+    out.extend_from_slice(&[0; ALIGNMENT][..padding])?;
+    Ok(())
+}
+
+/// A buffer of the messages. It takes `len` bytes of memory at first.
+pub(crate) fn spell(alloc: Global, messages: &[Message], len: usize) -> Result<Vec<u8>, AllocError>
+    requires { All IsMessage messages.now }
+    ensures { IfOk result (λ v. v.items ≡ packed messages.now) }
+{
+    let mut out = Vec::with_capacity(alloc, len)?;
+    let Some((last, before)) = messages.split_last() else {
+        return Ok(out);
+    };
+    for message in before {
+        put_message(&mut out, message_bytes(message) as u32, message)?;
+    }
+    put_message(&mut out, 0, last)?;
+    Ok(out)
+}
