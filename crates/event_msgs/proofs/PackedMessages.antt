@@ -63,7 +63,7 @@ put out o1 o2 o3 next m first second third =
     ∙ ap (λ (l : List ℕ). l ++ padding m) (second ∙ ap (λ (l : List ℕ). l ++ payload m) first ∙ append_assoc out (header next m) (payload m))
     ∙ append_assoc out (header next m ++ payload m) (padding m)
 
-packed_first : (m : Message) (more : List Message) (last : Message) → packed (m ∷ (more ++ last ∷ [])) ≡ message_text (message_bytes m) m ++ packed (more ++ last ∷ [])
+pub packed_first : (m : Message) (more : List Message) (last : Message) → packed (m ∷ (more ++ last ∷ [])) ≡ message_text (message_bytes m) m ++ packed (more ++ last ∷ [])
 packed_first m [] last = refl
 packed_first m (n ∷ more) last = refl
 

@@ -2,7 +2,7 @@
 ghost use Rattle.std.specs.Prelude.{◌≡◌, ◌≢◌, ◌≤◌, ◌<◌, ◌^◌, [], ◌∷◌, ◌++◌, All, IfOk, OnOk};
 ghost use Rattle.byteorder.specs.Endian.{big_bytes};
 ghost use Rattle.hsm_types.specs.Handles.{handle_bytes};
-ghost use Rattle.hsm_types.specs.Messages.{IsMessage, kind_number, payload, payload_size, message_bytes, header, message_text, packed};
+ghost use Rattle.hsm_types.specs.Messages.{IsMessage, kind_number, payload, payload_size, rounded_up, message_bytes, header, message_text, packed};
 
 use byteorder::{BigEndian, ByteOrder};
 use hsm_types::{Handle, Kind, Message};
@@ -40,13 +40,21 @@ fn payload_size(message: &Message) -> usize
     }
 }
 
+/// The next multiple of 8.
+pub(crate) fn rounded_up(size: usize) -> usize
+    requires { size < 2 ^ 32 }
+    ensures { result ≡ rounded_up size }
+{
+    size.next_multiple_of(ALIGNMENT)
+}
+
 /// The bytes that a message takes.
 pub(crate) fn message_bytes(message: &Message) -> usize
     requires { IsMessage message.now }
     ensures bytes { result ≡ message_bytes message.now }
     ensures short { result ≤ 4120 }
 {
-    HEADER_BYTES + payload_size(message).next_multiple_of(ALIGNMENT)
+    HEADER_BYTES + rounded_up(payload_size(message))
 }
 
 #[tactic(auto, unfolding(hsm_types::specs::Messages::header))]
@@ -90,7 +98,7 @@ fn put_message(out: &mut Vec<u8>, next: u32, message: &Message) -> Result<(), Al
     ensures { OnOk result (out.new.items ≡ out.old.items ++ message_text next message.now) }
 {
     let size = payload_size(message);
-    let padding = size.next_multiple_of(ALIGNMENT) - size;
+    let padding = rounded_up(size) - size;
     out.extend_from_slice(&header(message, next))?;
     put_payload(out, message)?;
     out.extend_from_slice(&[0; ALIGNMENT][..padding])?;

@@ -1,0 +1,5 @@
+use Rattle.event_msgs.proofs.OneReading as law
+use Rattle.event_msgs.proofs.laws.one_place.Goals as goal
+
+pub returns : goal.returns
+returns c = law.one_place
