@@ -6,6 +6,8 @@ mod disks;
 #[cfg(test)]
 mod handles;
 #[cfg(test)]
+mod messages;
+#[cfg(test)]
 mod regions;
 #[cfg(test)]
 mod scripts;
