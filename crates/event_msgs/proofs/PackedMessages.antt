@@ -1,9 +1,11 @@
 -- Messages that are packed one after the other.
-use Rattle.std.proofs.Common.{◌≡◌, ◌≢◌, ℕ, zero, suc, ◌+◌, ◌-◌, ◌<◌, ◌≤◌, List, [], ◌∷◌, ◌++◌, length, get_or, take, drop, refl, sym, ap, ◌∙◌, append_assoc, append-nil, arith, inl, inr}
+use Rattle.std.proofs.Common.{◌≡◌, ◌≢◌, ℕ, zero, suc, ◌+◌, ◌-◌, ◌<◌, ◌≤◌, List, [], ◌∷◌, ◌++◌, length, get_or, take, drop, refl, sym, ap, subst, ◌∙◌, append_assoc, append-nil, arith, inl, inr}
 use Rattle.std.proofs.lemmas.Bool.{cases_lt}
 use Rattle.std.proofs.lemmas.Bool.Decides.{nat_tests}
-use Rattle.std.proofs.lemmas.List.{drop_more, take_more, take_all, drop_all}
-use Rattle.hsm_types.specs.Messages.{message_bytes, header, payload, padding, message_text, packed, fitting, first_or_all}
+use Rattle.std.proofs.lemmas.List.{drop_more, take_more, take_all, drop_all, length-append, get_or_append_left}
+use Rattle.std.proofs.Math.Seq.{get_or-append_seam}
+use Rattle.std.specs.List.{All}
+use Rattle.hsm_types.specs.Messages.{IsMessage, message_bytes, header, payload, padding, message_text, packed, fitting, first_or_all}
 use Rattle.hsm_types.specs.declared.messages.Message.{Message}
 use Rattle.event_msgs.specs.Packing.{first_bytes}
 
@@ -56,12 +58,14 @@ some_fit room (suc most) (m ∷ more) some =
 
 -- ---- how they are written
 
-pub put : (out o1 o2 o3 : List ℕ) (next : ℕ) (m : Message) → o1 ≡ out ++ header next m → o2 ≡ o1 ++ payload m → o3 ≡ o2 ++ padding m → o3 ≡ out ++ message_text next m
+pub put : (out o1 o2 o3 front zeros : List ℕ) (next : ℕ) (m : Message) → front ≡ header next m → zeros ≡ padding m
+    → o1 ≡ out ++ front → o2 ≡ o1 ++ payload m → o3 ≡ o2 ++ zeros → o3 ≡ out ++ message_text next m
 unfolding message_text
-put out o1 o2 o3 next m first second third =
+put out o1 o2 o3 front zeros next m is_header is_padding first second third =
     third
-    ∙ ap (λ (l : List ℕ). l ++ padding m) (second ∙ ap (λ (l : List ℕ). l ++ payload m) first ∙ append_assoc out (header next m) (payload m))
-    ∙ append_assoc out (header next m ++ payload m) (padding m)
+    ∙ ap (λ (l : List ℕ). l ++ zeros) (second ∙ ap (λ (l : List ℕ). l ++ payload m) first ∙ append_assoc out front (payload m))
+    ∙ append_assoc out (front ++ payload m) zeros
+    ∙ (λ i. out ++ ((is_header i ++ payload m) ++ is_padding i))
 
 pub packed_first : (m : Message) (more : List Message) (last : Message) → packed (m ∷ (more ++ last ∷ [])) ≡ message_text (message_bytes m) m ++ packed (more ++ last ∷ [])
 packed_first m [] last = refl
@@ -88,3 +92,15 @@ pub written_all : (out new : List ℕ) (messages before : List Message) (last : 
     → new ≡ packed messages
 written_all out new messages before last i past written so_far =
     written ∙ sym (ap (λ (l : List Message). out ++ packed (l ++ last ∷ [])) (drop_all i before past)) ∙ so_far
+
+-- ---- each is a message
+
+pub one_is : (messages before : List Message) (last : Message) (i : ℕ) (m : Message) → All IsMessage messages → messages ≡ before ++ last ∷ [] → i < length before → m ≡ get_or before i m → IsMessage m
+one_is messages before last i m each parts within is =
+    let same : get_or messages i m ≡ m = ap (λ (l : List Message). get_or l i m) parts ∙ get_or_append_left before (last ∷ []) m i within ∙ sym is in
+    subst IsMessage same (each i m (omega (arith, ap (λ (l : List Message). length l) parts, length-append before (last ∷ []))))
+
+pub last_is : (messages before : List Message) (last : Message) → All IsMessage messages → messages ≡ before ++ last ∷ [] → IsMessage last
+last_is messages before last each parts =
+    let same : get_or messages (length before) last ≡ last = ap (λ (l : List Message). get_or l (length before) last) parts ∙ get_or-append_seam before last [] last in
+    subst IsMessage same (each (length before) last (omega (arith, ap (λ (l : List Message). length l) parts, length-append before (last ∷ []))))
