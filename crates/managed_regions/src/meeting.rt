@@ -23,7 +23,7 @@ pub fn meets(range: Range, region: Region) -> bool
         && (region.size == 0 || u128::from(range.offset) < end(region.offset, region.size))
 }
 
-/// Whether the region manages accesses of that kind.
+/// Whether the region manages accesses of that kind. Other events are of none.
 pub fn is_flagged(kind: Kind, region: Region) -> bool
     ensures { result ≡ is_flagged kind region }
 {
@@ -31,6 +31,7 @@ pub fn is_flagged(kind: Kind, region: Region) -> bool
         Kind::Read => region.flags & REGION_READ != 0,
         Kind::Write => region.flags & REGION_WRITE != 0,
         Kind::Truncate => region.flags & REGION_TRUNCATE != 0,
+        Kind::NoSpace | Kind::User => false,
     }
 }
 
