@@ -1,26 +1,24 @@
 -- Tables whose ids ascend, after a session comes or goes.
-use Rattle.std.proofs.Common.{◌≡◌, ℕ, zero, suc, ◌+◌, ◌<◌, ◌≤◌, Bool, true, false, cond, ◌||◌, ◌&&◌, List, [], ◌∷◌, ◌++◌, length, map, get_or, Option, None, Some, is_some, refl, sym, ap, ◌∙◌, eqb, leb, true≢false, length-append, arith}
-use Rattle.std.proofs.lemmas.Bool.{eqb-true}
+use Rattle.std.proofs.Common.{◌≡◌, ℕ, zero, suc, ◌+◌, ◌<◌, ◌≤◌, Bool, true, false, cond, ◌||◌, ◌&&◌, List, [], ◌∷◌, ◌++◌, length, map, get_or, Option, None, Some, is_some, refl, sym, ap, ◌∙◌, eqb, leb, length-append, arith}
 use Rattle.std.proofs.lemmas.Bool.Decides.{nat_tests}
 use Rattle.std.specs.List.Sorted.{IsStrictlyIncreasing}
 use Rattle.std.specs.Map.{keys_of, lookup, remove_entry}
 use Rattle.indexmap.specs.IndexMap.{insert_entry}
 use Rattle.hsm_types.specs.declared.keys.Sid.{Sid}
 use Rattle.hsm_types.specs.Refusals.{first_refusal}
-use Rattle.hsm_types.specs.Sessions.{LiveSession, SessionTable, same_sid, creation_refusal, no_session, bad_info, too_many_sessions, with_session}
+use Rattle.hsm_types.specs.Sessions.{LiveSession, SessionTable, Ascend, same_sid, change_live, creation_refusal, no_session, bad_info, too_many_sessions}
 use Rattle.hsm_types.specs.declared.dm.DmRefusal.TheVariants.{NoSession, TooMany}
-use Rattle.dm_sessions.specs.Tables.{Ascend, IsTable}
 
 abbrev Live : Type 0
 Live = List (Sid × LiveSession)
 
 -- ---- one session less
 
-Ascend-lower : (low least high : ℕ) (live : Live) → Ascend low high live → least ≤ low → Ascend least high live
+pub Ascend-lower : (low least high : ℕ) (live : Live) → Ascend low high live → least ≤ low → Ascend least high live
 Ascend-lower low least high [] h below = tt
 Ascend-lower low least high (s ∷ rest) h below = (omega arith, h.1, h.2)
 
-Ascend-remove : (test : Sid → Bool) (low high : ℕ) (live : Live) → Ascend low high live → Ascend low high (remove_entry test live)
+pub Ascend-remove : (test : Sid → Bool) (low high : ℕ) (live : Live) → Ascend low high live → Ascend low high (remove_entry test live)
 Ascend-remove test low high [] h = tt
 Ascend-remove test low high (s ∷ rest) h =
     elim (test s.0) as (λ (b : Bool). Ascend low high (cond b rest (s ∷ remove_entry test rest))) [
@@ -28,33 +26,27 @@ Ascend-remove test low high (s ∷ rest) h =
       | false ↦ (h.0, h.1, Ascend-remove test s.0.0 high rest h.2)
     ]
 
-length-remove_entry : (test : Sid → Bool) (live : Live) → length (remove_entry test live) ≤ length live
+pub length-remove_entry : (test : Sid → Bool) (live : Live) → length (remove_entry test live) ≤ length live
 length-remove_entry test [] = omega arith
 length-remove_entry test (s ∷ rest) =
     let shorter = length-remove_entry test rest in
     elim (test s.0) as (λ (b : Bool). length (cond b rest (s ∷ remove_entry test rest)) ≤ suc (length rest)) [ true ↦ omega arith | false ↦ omega arith ]
 
-pub table-without : (test : Sid → Bool) (given : ℕ) (live : Live) → IsTable given live → IsTable given (remove_entry test live)
-table-without test given live is = record {
-  ascend = Ascend-remove test 0 given live is.ascend;
-  few = let shorter = length-remove_entry test live in let few = is.few in omega arith;
-}
-
 -- ---- one session more
 
-Ascend-push : (low high next : ℕ) (info : LiveSession) (live : Live) → Ascend low high live → low < next → high < next → Ascend low next (live ++ (record { 0 = next }, info) ∷ [])
+pub Ascend-push : (low high next : ℕ) (info : LiveSession) (live : Live) → Ascend low high live → low < next → high < next → Ascend low next (live ++ (record { 0 = next }, info) ∷ [])
 Ascend-push low high next info [] h above new = (above, omega arith, tt)
 Ascend-push low high next info (s ∷ rest) h above new = let within = h.1 in (h.0, omega arith, Ascend-push s.0.0 high next info rest h.2 (omega arith) new)
 
 -- a session that isn't there
-lookup-absent : (sid : Sid) (low high : ℕ) (live : Live) → Ascend low high live → high < sid.0 → lookup (same_sid sid) live ≡ None
+pub lookup-absent : (sid : Sid) (low high : ℕ) (live : Live) → Ascend low high live → high < sid.0 → lookup (same_sid sid) live ≡ None
 lookup-absent sid low high [] h above = refl
 lookup-absent sid low high (s ∷ rest) h above =
     let within = h.1 in
     let other : eqb sid.0 s.0.0 ≡ false = grind (arith, nat_tests) in
     rw other (lookup-absent sid s.0.0 high rest h.2 above)
 
-insert_entry-last : (sid : Sid) (info : LiveSession) (low high : ℕ) (live : Live) → Ascend low high live → high < sid.0 → insert_entry same_sid live sid info ≡ live ++ (sid, info) ∷ []
+pub insert_entry-last : (sid : Sid) (info : LiveSession) (low high : ℕ) (live : Live) → Ascend low high live → high < sid.0 → insert_entry same_sid live sid info ≡ live ++ (sid, info) ∷ []
 insert_entry-last sid info low high [] h above = refl
 insert_entry-last sid info low high (s ∷ rest) h above =
     let within = h.1 in
@@ -62,14 +54,6 @@ insert_entry-last sid info low high (s ∷ rest) h above =
     rw other (ap (λ (l : Live). s ∷ l) (insert_entry-last sid info s.0.0 high rest h.2 above))
 
 -- ---- one session in the place of another
-
-remove_entry-push : (old sid : Sid) (info : LiveSession) (live : Live) → eqb old.0 sid.0 ≡ false → remove_entry (same_sid old) (live ++ (sid, info) ∷ []) ≡ remove_entry (same_sid old) live ++ (sid, info) ∷ []
-remove_entry-push old sid info [] other = rw other refl
-remove_entry-push old sid info (s ∷ rest) other =
-    elim (same_sid old s.0) as (λ (b : Bool). cond b (rest ++ (sid, info) ∷ []) (s ∷ remove_entry (same_sid old) (rest ++ (sid, info) ∷ [])) ≡ cond b rest (s ∷ remove_entry (same_sid old) rest) ++ (sid, info) ∷ []) [
-      | true ↦ refl
-      | false ↦ ap (λ (l : Live). s ∷ l) (remove_entry-push old sid info rest other)
-    ]
 
 length-remove_entry-live : (test : Sid → Bool) (live : Live) → is_some (lookup test live) ≡ true → length (remove_entry test live) + 1 ≡ length live
 length-remove_entry-live test [] h = absurd cc
@@ -93,68 +77,49 @@ not_met : {X : Type 0} (b : Bool) (x : X) → cond b (Some x) None ≡ None → 
 not_met true x h = absurd cc
 not_met false x h = refl
 
-abbrev table : ℕ → Live → SessionTable
-table given live = record { given = given; live = live }
-
 -- where nothing refuses, the old session lives or there is none, and there is room beside the others
-module _ (old : Sid) (info : List ℕ) (given : ℕ) (live : Live) (none : creation_refusal old info (table given live) ≡ None) where
-  known : (no_session old (table given live) ≡ None) × (first_refusal (bad_info info ∷ too_many_sessions old (table given live) ∷ []) ≡ None)
-  known = none-first (no_session old (table given live)) (bad_info info ∷ too_many_sessions old (table given live) ∷ []) none
+module _ (old : Sid) (info : List ℕ) (t : SessionTable) (none : creation_refusal old info t ≡ None) where
+  known : (no_session old t ≡ None) × (first_refusal (bad_info info ∷ too_many_sessions old t ∷ []) ≡ None)
+  known = none-first (no_session old t) (bad_info info ∷ too_many_sessions old t ∷ []) none
 
-  old-known : (eqb old.0 0 || is_some (lookup (same_sid old) live)) ≡ true
-  old-known = passed (eqb old.0 0 || is_some (lookup (same_sid old) live)) NoSession known.0
+  old-known : (eqb old.0 0 || is_some (lookup (same_sid old) t.live)) ≡ true
+  old-known = passed (eqb old.0 0 || is_some (lookup (same_sid old) t.live)) NoSession known.0
 
-  few-beside : (eqb old.0 0 && leb 64 (length live)) ≡ false
+  few-beside : (eqb old.0 0 && leb 64 (length t.live)) ≡ false
   few-beside =
-      let fits = none-first (bad_info info) (too_many_sessions old (table given live) ∷ []) known.1 in
-      not_met (eqb old.0 0 && leb 64 (length live)) (TooMany 64) (none-first (too_many_sessions old (table given live)) [] fits.1).0
-
--- the old session isn't the one that is made
-new-differs : (old : Sid) (info : List ℕ) (given : ℕ) (live : Live) → IsTable given live → creation_refusal old info (table given live) ≡ None → eqb old.0 (given + 1) ≡ false
-new-differs old info given live is none = go (eqb old.0 (given + 1)) refl
-  where
-    go : (b : Bool) → eqb old.0 (given + 1) ≡ b → b ≡ false
-    go false e = refl
-    go true e =
-        let same : old.0 ≡ given + 1 = eqb-true old.0 (given + 1) e in
-        let not_zero : eqb old.0 0 ≡ false = grind (arith, nat_tests) in
-        let gone = lookup-absent old 0 given live is.ascend (omega arith) in
-        absurd (true≢false (sym (old-known old info given live none) ∙ (λ i. not_zero i || is_some (gone i))))
+      let fits = none-first (bad_info info) (too_many_sessions old t ∷ []) known.1 in
+      not_met (eqb old.0 0 && leb 64 (length t.live)) (TooMany 64) (none-first (too_many_sessions old t) [] fits.1).0
 
 -- the new session makes no 65th
-room : (old : Sid) (info : List ℕ) (given : ℕ) (live : Live) → IsTable given live → creation_refusal old info (table given live) ≡ None → length (remove_entry (same_sid old) live) + 1 ≤ 64
-room old info given live is none = go (eqb old.0 0) refl
+pub room : (old : Sid) (info : List ℕ) (t : SessionTable) → length t.live ≤ 64 → creation_refusal old info t ≡ None → length (remove_entry (same_sid old) t.live) + 1 ≤ 64
+room old info t few none = go (eqb old.0 0) refl
   where
-    go : (b : Bool) → eqb old.0 0 ≡ b → length (remove_entry (same_sid old) live) + 1 ≤ 64
+    go : (b : Bool) → eqb old.0 0 ≡ b → length (remove_entry (same_sid old) t.live) + 1 ≤ 64
     go true e =
-        let below : leb 64 (length live) ≡ false = rw e at (few-beside old info given live none) in
-        let shorter = length-remove_entry (same_sid old) live in
+        let below : leb 64 (length t.live) ≡ false = rw e at (few-beside old info t none) in
+        let shorter = length-remove_entry (same_sid old) t.live in
         grind (arith, nat_tests)
     go false e =
-        let all = is.few in
-        let one = length-remove_entry-live (same_sid old) live (rw e at (old-known old info given live none)) in
+        let one = length-remove_entry-live (same_sid old) t.live (rw e at (old-known old info t none)) in
         omega arith
 
-module _ (old : Sid) (info : List ℕ) (given next : ℕ) (live after : Live) (is : IsTable given live) (none : creation_refusal old info (table given live) ≡ None)
-    (follows : next ≡ given + 1) (made : after ≡ remove_entry (same_sid old) (insert_entry same_sid live (record { 0 = next }) (record { info = info }))) where
-  live-with : after ≡ remove_entry (same_sid old) live ++ (record { 0 = next }, record { info = info }) ∷ []
-  live-with =
-      made
-      ∙ ap (remove_entry (same_sid old)) (insert_entry-last (record { 0 = next }) (record { info = info }) 0 given live is.ascend (omega arith))
-      ∙ remove_entry-push old (record { 0 = next }) (record { info = info }) live (rw follows (new-differs old info given live is none))
+-- ---- one session changed
 
-  pub is-with_session : table next after ≡ with_session old info (table given live)
-  is-with_session =
-      let last = ap (λ (n : ℕ). remove_entry (same_sid old) live ++ (record { 0 = n }, record { info = info }) ∷ []) follows in
-      λ i. record { given = follows i; live = (live-with ∙ last) i }
+pub Ascend-change : (sid : Sid) (change : LiveSession → LiveSession) (low high : ℕ) (live : Live) → Ascend low high live → Ascend low high (change_live sid change live)
+Ascend-change sid change low high [] h = tt
+Ascend-change sid change low high (s ∷ rest) h =
+    let later = Ascend-change sid change s.0.0 high rest h.2 in
+    elim (same_sid sid s.0) as (λ (b : Bool). Ascend low high (cond b ((s.0, change s.1) ∷ rest) (s ∷ change_live sid change rest))) [ true ↦ (h.0, h.1, h.2) | false ↦ (h.0, h.1, later) ]
 
-  pub table-with : IsTable next after
-  table-with =
-      let kept = Ascend-remove (same_sid old) 0 given live is.ascend in
-      rw live-with (record {
-        ascend = Ascend-push 0 given next (record { info = info }) (remove_entry (same_sid old) live) kept (omega arith) (omega arith);
-        few = let fits = room old info given live is none in omega (arith, length-append (remove_entry (same_sid old) live) ((record { 0 = next }, record { info = info }) ∷ []));
-      })
+pub length-change : (sid : Sid) (change : LiveSession → LiveSession) (live : Live) → length (change_live sid change live) ≡ length live
+length-change sid change [] = refl
+length-change sid change (s ∷ rest) =
+    let later = length-change sid change rest in
+    elim (same_sid sid s.0) as (λ (b : Bool). length (cond b ((s.0, change s.1) ∷ rest) (s ∷ change_live sid change rest)) ≡ suc (length rest)) [ true ↦ refl | false ↦ ap suc later ]
+
+pub Ascend-map : (h : LiveSession → LiveSession) (low high : ℕ) (live : Live) → Ascend low high live → Ascend low high (map (λ (s : Sid × LiveSession). (s.0, h s.1)) live)
+Ascend-map h low high [] is = tt
+Ascend-map h low high (s ∷ rest) is = (is.0, is.1, Ascend-map h s.0.0 high rest is.2)
 
 -- ---- the ids in their order
 

@@ -1,1 +1,7 @@
-pub mod Ascending
+mod Ascending
+mod Changes
+mod Climbing
+mod InOrder
+mod Moves
+mod OneSession
+mod TokenOrder

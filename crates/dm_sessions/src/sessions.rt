@@ -1,35 +1,27 @@
 //! The table of the sessions.
-ghost use Rattle.std.specs.Prelude.{◌≡◌, [], None, IsSome, IfOk, IfErr, OnOk, OnErr, MatchOption, MatchResult, map};
-ghost use Rattle.std.specs.Option.{option_copied};
+ghost use Rattle.std.specs.Prelude.{◌≡◌, [], ◌∷◌, None, IfOk, IfErr, OnOk, OnErr, MatchOption, MatchResult, map};
+ghost use Rattle.std.specs.Option.{option_copied, option_map};
 ghost use Rattle.std.specs.List.Sorted.{IsStrictlyIncreasing};
 ghost use Rattle.std.specs.Map.{keys_of};
-ghost use Rattle.hsm_types.specs.Sessions.{lives, info_of, creation_refusal, no_sessions, next_sid, with_session, without_session};
-ghost use Rattle.hsm_types.specs.declared.dm.DmRefusal.TheVariants.{NoSession, Memory};
+ghost use Rattle.hsm_types.specs.Refusals.{first_refusal};
+ghost use Rattle.hsm_types.specs.Sessions.{lives, info_of, session_of, creation_refusal, dead_session, destruction_refusal, no_sessions, next_sid, with_session, without_session};
+ghost use Rattle.hsm_types.specs.declared.dm.DmRefusal.TheVariants.{NoSession, EventsLeft, Memory};
 
-use hsm_types::{DmRefusal, INFO_BYTES, LIVE_SESSIONS, Sid, Sids, Word};
+use crate::live_session::LiveSession;
+use hsm_types::{DmRefusal, INFO_BYTES, Kinds, LIVE_SESSIONS, Message, Sid, Sids, Word};
 use indexmap::IndexMap;
 use std::alloc::{AllocError, Global};
+use std::collections::VecDeque;
 use std::marker::Model;
 
-/// A live session.
-#[derive(Drop)]
-struct LiveSession {
-    info: Word,
-}
-
-impl Model for LiveSession {
-    ghost use Rattle.hsm_types.specs.Sessions.{LiveSession};
-
-    ghost Value = { LiveSession };
-
-    ghost view = { λ s. record { info = s.info } };
-}
-
-/// The live sessions by id, in the order of their ids. An id is given once.
+/// The live sessions by id, in the order of their ids, and the messages of kinds that no session takes. An id is given once.
 #[derive(Drop)]
 pub struct Sessions {
     given: u64,
-    live: IndexMap<Sid, LiveSession>,
+    pub(crate) live: IndexMap<Sid, LiveSession>,
+    pub(crate) unrouted: VecDeque<Message>,
+    /// How many tokens of user events are outstanding.
+    pub(crate) user_tokens: u64,
 }
 
 impl Model for Sessions {
@@ -38,9 +30,9 @@ impl Model for Sessions {
 
     ghost Value = { SessionTable };
 
-    ghost view = { λ s. record { given = s.given; live = s.live.entries } };
+    ghost view = { λ s. record { given = s.given; live = s.live.entries; unrouted = s.unrouted.items } };
 
-    ghost invariant = { λ s. IsTable s.given s.live.entries };
+    ghost invariant = { λ s. IsTable (record { given = s.given; live = s.live.entries; unrouted = s.unrouted.items }) s.user_tokens };
 }
 
 impl Sessions {
@@ -48,9 +40,14 @@ impl Sessions {
     pub fn new(alloc: Global) -> Result<Sessions, AllocError>
         ensures { IfOk result (λ s. s ≡ no_sessions) }
     {
-        // One more, since an old session goes only once the new one is there.
+        // One more, since room is made before an old session goes.
         let live = IndexMap::with_capacity(alloc, LIVE_SESSIONS + 1)?;
-        Ok(Sessions { given: 0, live })
+        Ok(Sessions {
+            given: 0,
+            live,
+            unrouted: VecDeque::new(alloc),
+            user_tokens: 0,
+        })
     }
 
     /// Makes a session with the next id and that information: beside the others where `old` is 0, and else in the place of the session `old`, whose id ends.
@@ -62,13 +59,15 @@ impl Sessions {
     {
         self.judge(old, &info)?;
         let next = self.given.checked_add(1).ok_or(DmRefusal::Memory)?;
-        let sid = Sid(next);
-        self.live
-            .insert(sid, LiveSession { info })
-            .map_err(|_| DmRefusal::Memory)?;
-        let _old = self.live.shift_remove(&old);
+        self.live.reserve(1).map_err(|_| DmRefusal::Memory)?;
+        let alloc = *self.live.allocator();
+        let session = match self.live.shift_remove(&old) {
+            Some(session) => session.renamed(info),
+            None => LiveSession::new(alloc, info),
+        };
+        let _none = self.live.insert(Sid(next), session).unwrap();
         self.given = next;
-        Ok(sid)
+        Ok(Sid(next))
     }
 
     /// What refuses the creation of a session, if anything does. It takes no memory.
@@ -90,17 +89,22 @@ impl Sessions {
         Ok(())
     }
 
-    /// Ends a live session.
+    /// Ends a live session to which nothing is undelivered or outstanding. Its kinds are taken by none then. It takes no memory.
     pub fn destroy(&mut self, sid: Sid) -> Result<(), DmRefusal>
-        ensures ok { OnOk result (IsSome (info_of sid self.old)) }
+        ensures judged { MatchResult result (λ _. first_refusal (dead_session sid self.old ∷ destruction_refusal sid self.old ∷ []) ≡ None)
+            (λ why. first_refusal (dead_session sid self.old ∷ destruction_refusal sid self.old ∷ []) ≡ Some why) }
         ensures after { OnOk result (self.new ≡ without_session sid self.old) }
-        ensures refused { IfErr result (λ why. (why ≡ NoSession) × (info_of sid self.old ≡ None)) }
         ensures err { OnErr result (self.new ≡ self.old) }
     {
-        match self.live.shift_remove(&sid) {
-            Some(_) => Ok(()),
-            None => Err(DmRefusal::NoSession),
+        let count = match self.live.get(&sid) {
+            Some(session) => session.message_count(),
+            None => return Err(DmRefusal::NoSession),
+        };
+        if count > 0 {
+            return Err(DmRefusal::EventsLeft { count });
         }
+        let _ended = self.live.shift_remove(&sid);
+        Ok(())
     }
 
     /// The ids of the live sessions.
@@ -124,7 +128,17 @@ impl Sessions {
         ensures { option_copied result ≡ info_of sid self.now }
     {
         match self.live.get(&sid) {
-            Some(session) => Some(&session.info),
+            Some(session) => Some(session.info()),
+            None => None,
+        }
+    }
+
+    /// The kinds that a live session takes.
+    pub fn kinds(&self, sid: Sid) -> Option<Kinds>
+        ensures { result ≡ option_map (λ s. s.kinds) (session_of sid self.now) }
+    {
+        match self.live.get(&sid) {
+            Some(session) => Some(session.kinds()),
             None => None,
         }
     }

@@ -1,0 +1,190 @@
+//! Events: what sessions take, what is posted and sent, and what is delivered.
+ghost use Rattle.std.specs.Prelude.{◌≡◌, ◌≢◌, ◌≤◌, [], ◌∷◌, ◌++◌, None, IfOk, OnOk, OnErr, Some, true, is_some, IfErr, MatchOption, MatchResult, length, map};
+ghost use Rattle.std.specs.List.{All};
+ghost use Rattle.std.specs.Map.{lookup};
+ghost use Rattle.hsm_types.specs.Refusals.{first_refusal};
+ghost use Rattle.hsm_types.specs.Messages.{IsMessage, user_message};
+ghost use Rattle.hsm_types.specs.Sessions.{IsNewToken, same_sid, taker, queue_of, loses, queued, change_live, too_long, dead_session, sending_refusal, event_refusal, with_kinds, posted, delivered, user_event, sent};
+ghost use Rattle.hsm_types.specs.declared.dm.DmRefusal.TheVariants.{Memory};
+ghost use Rattle.dm_sessions.specs.Tables.{IsQueued, none_waits};
+ghost use Rattle.hsm_types.specs.declared.dm.Kind.TheVariants.{User};
+
+use crate::live_session::LiveSession;
+use crate::sessions::Sessions;
+use hsm_types::{Bytes, DmRefusal, Kind, Kinds, MESSAGE_BYTES, Message, Sid, Token, USER_TOKENS, WAITING_MESSAGES};
+use indexmap::IndexMap;
+use std::alloc::AllocError;
+
+impl Sessions {
+    /// The session that takes events of that kind.
+    pub fn taker(&self, kind: Kind) -> Option<Sid>
+        ensures { result ≡ taker kind self.now }
+    {
+        for (sid, session) in self.live.iter() {
+            if session.kinds().takes(kind) {
+                return Some(*sid);
+            }
+        }
+        None
+    }
+
+    /// Gives a live session these kinds and no others, and takes them from all others. The messages of these kinds that no session took join its queue.
+    pub fn set_kinds(&mut self, sid: Sid, kinds: Kinds) -> Result<(), DmRefusal>
+        ensures ok { OnOk result (dead_session sid self.old ≡ None) }
+        ensures after { OnOk result (self.new ≡ with_kinds sid kinds self.old) }
+        ensures refused { IfErr result (λ why. MatchOption (dead_session sid self.old) (why ≡ Memory) (λ cause. why ≡ cause)) }
+        ensures err { OnErr result (self.new ≡ self.old) }
+    {
+        match self.live.get_mut(&sid) {
+            Some(session) => session
+                .join(&mut self.unrouted, kinds)
+                .map_err(|_| DmRefusal::Memory)?,
+            None => return Err(DmRefusal::NoSession),
+        }
+        lose_kinds(&mut self.live, kinds);
+        if let Some(session) = self.live.get_mut(&sid) {
+            session.set_kinds(kinds);
+        }
+        Ok(())
+    }
+
+    /// Posts the message of an access, under a token above all that were given: to the session that takes its kind, or to none yet.
+    pub fn post(&mut self, message: Message) -> Result<(), AllocError>
+        requires message { IsMessage message }
+        requires access { message.kind ≢ User }
+        requires token { IsNewToken message.token self.old }
+        ensures after { OnOk result (self.new ≡ posted message self.old) }
+        ensures err { OnErr result (self.new ≡ self.old) }
+    {
+        match self.taker(message.kind) {
+            Some(sid) => push_to(&mut self.live, sid, message),
+            None => Ok(self.unrouted.push_back(message)?),
+        }
+    }
+
+    /// Makes an event of a live session's own, which is outstanding to it at once, under a token above all that were given.
+    pub fn user(&mut self, sid: Sid, token: Token, body: Bytes) -> Result<(), DmRefusal>
+        requires { IsNewToken token self.old }
+        ensures ok { OnOk result (first_refusal (dead_session sid self.old ∷ event_refusal body self.old ∷ []) ≡ None) }
+        ensures after { OnOk result (self.new ≡ user_event sid token body self.old) }
+        ensures refused { IfErr result (λ why. MatchOption (first_refusal (dead_session sid self.old ∷ event_refusal body self.old ∷ [])) (why ≡ Memory) (λ cause. why ≡ cause)) }
+        ensures err { OnErr result (self.new ≡ self.old) }
+    {
+        let Some(session) = self.live.get_mut(&sid) else {
+            return Err(DmRefusal::NoSession);
+        };
+        check_length(&body)?;
+        if self.user_tokens >= USER_TOKENS {
+            return Err(DmRefusal::TooMany { count: USER_TOKENS });
+        }
+        session
+            .put(user_message(token, body))
+            .map_err(|_| DmRefusal::Memory)?;
+        self.user_tokens += 1;
+        Ok(())
+    }
+
+    /// Sends a message that wants no response from a live session to another one, or to itself.
+    pub fn send(&mut self, sid: Sid, target: Sid, body: Bytes) -> Result<(), DmRefusal>
+        ensures ok { OnOk result (first_refusal (dead_session sid self.old ∷ sending_refusal target body self.old ∷ []) ≡ None) }
+        ensures after { OnOk result (self.new ≡ sent target body self.old) }
+        ensures refused { IfErr result (λ why. MatchOption (first_refusal (dead_session sid self.old ∷ sending_refusal target body self.old ∷ [])) (why ≡ Memory) (λ cause. why ≡ cause)) }
+        ensures err { OnErr result (self.new ≡ self.old) }
+    {
+        if !self.is_live(sid) {
+            return Err(DmRefusal::NoSession);
+        }
+        let Some(session) = self.live.get_mut(&target) else {
+            return Err(DmRefusal::NoSession);
+        };
+        check_length(&body)?;
+        if session.waiting() >= WAITING_MESSAGES {
+            return Err(DmRefusal::TooMany {
+                count: WAITING_MESSAGES,
+            });
+        }
+        session
+            .push(user_message(Token(0), body))
+            .map_err(|_| DmRefusal::Memory)
+    }
+
+    /// The undelivered messages of a live session, in order. It takes no memory.
+    pub fn queue(&self, sid: Sid) -> Result<&[Message], DmRefusal>
+        ensures queue { IfOk result (λ messages. messages.now ≡ queue_of sid self.now) }
+        ensures some { IfOk result (λ messages. messages.now ≢ []) }
+        ensures each { IfOk result (λ messages. All IsMessage messages.now) }
+        ensures judged { MatchResult result (λ _. dead_session sid self.now ≡ None) (λ why. first_refusal (dead_session sid self.now ∷ none_waits (queue_of sid self.now) ∷ []) ≡ Some why) }
+    {
+        let Some(session) = self.live.get(&sid) else {
+            return Err(DmRefusal::NoSession);
+        };
+        if session.queue().is_empty() {
+            return Err(DmRefusal::Again);
+        }
+        Ok(session.queue())
+    }
+
+    /// Delivers the first `count` messages of a live session's queue. Those that want a response are outstanding then.
+    pub fn deliver(&mut self, sid: Sid, count: usize) -> Result<(), DmRefusal>
+        requires { count ≤ length (queue_of sid self.old) }
+        ensures ok { OnOk result (dead_session sid self.old ≡ None) }
+        ensures after { OnOk result (self.new ≡ delivered sid count self.old) }
+        ensures refused { IfErr result (λ why. MatchOption (dead_session sid self.old) (why ≡ Memory) (λ cause. why ≡ cause)) }
+        ensures err { OnErr result (self.new ≡ self.old) }
+    {
+        match self.live.get_mut(&sid) {
+            Some(session) => session.deliver(count).map_err(|_| DmRefusal::Memory),
+            None => Err(DmRefusal::NoSession),
+        }
+    }
+}
+
+/// Refuses a message that is too long.
+fn check_length(body: &Bytes) -> Result<(), DmRefusal>
+    ensures { MatchResult result (λ _. too_long body.now ≡ None) (λ why. too_long body.now ≡ Some why) }
+{
+    let len = body.as_slice().len();
+    if len > MESSAGE_BYTES {
+        return Err(DmRefusal::TooMany { count: len as u64 });
+    }
+    Ok(())
+}
+
+/// A session's own message.
+fn user_message(token: Token, body: Bytes) -> Message
+    ensures { result ≡ user_message token body }
+{
+    Message {
+        kind: Kind::User,
+        token,
+        handle: None,
+        offset: 0,
+        length: 0,
+        body,
+    }
+}
+
+/// Takes these kinds from all sessions.
+fn lose_kinds(live: &mut IndexMap<Sid, LiveSession>, kinds: Kinds)
+    ensures { live.new.entries ≡ map (λ s. (s.0, loses kinds s.1)) live.old.entries }
+{
+    for i in 0..live.len() {
+        if let Some(session) = live.get_index_mut(i) {
+            session.set_kinds(session.kinds().without(kinds));
+        }
+    }
+}
+
+/// A message more in the queue of a live session.
+fn push_to(
+    live: &mut IndexMap<Sid, LiveSession>,
+    sid: Sid,
+    message: Message,
+) -> Result<(), AllocError>
+    requires message { IsQueued message }
+    requires lives { is_some (lookup (same_sid sid) live.old.entries) ≡ true }
+    ensures after { OnOk result (live.new.entries ≡ change_live sid (queued (message ∷ [])) live.old.entries) }
+    ensures err { OnErr result (live.new.entries ≡ live.old.entries) }
+{
+    live.get_mut(&sid).unwrap().push(message)
+}
