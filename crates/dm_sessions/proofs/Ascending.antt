@@ -65,15 +65,15 @@ length-remove_entry-live test (s ∷ rest) h =
 
 -- ---- what isn't refused
 
-none-first : {R : Type 0} (first : Option R) (rest : List (Option R)) → first_refusal (first ∷ rest) ≡ None → (first ≡ None) × (first_refusal rest ≡ None)
+pub none-first : {R : Type 0} (first : Option R) (rest : List (Option R)) → first_refusal (first ∷ rest) ≡ None → (first ≡ None) × (first_refusal rest ≡ None)
 none-first None rest h = (refl, h)
 none-first (Some why) rest h = absurd cc
 
-passed : {X : Type 0} (b : Bool) (x : X) → cond b None (Some x) ≡ None → b ≡ true
+pub passed : {X : Type 0} (b : Bool) (x : X) → cond b None (Some x) ≡ None → b ≡ true
 passed true x h = refl
 passed false x h = absurd cc
 
-not_met : {X : Type 0} (b : Bool) (x : X) → cond b (Some x) None ≡ None → b ≡ false
+pub not_met : {X : Type 0} (b : Bool) (x : X) → cond b (Some x) None ≡ None → b ≡ false
 not_met true x h = absurd cc
 not_met false x h = refl
 

@@ -1,7 +1,7 @@
 mod Ascending
-mod Changes
 mod Climbing
 mod InOrder
+mod Lookups
 mod Moves
 mod OneSession
 mod TokenOrder

@@ -9,10 +9,9 @@ ghost use Rattle.hsm_types.specs.declared.dm.DmRefusal.TheVariants.{Memory};
 ghost use Rattle.dm_sessions.specs.Tables.{IsQueued, none_waits};
 ghost use Rattle.hsm_types.specs.declared.dm.Kind.TheVariants.{User};
 
-use crate::live_session::LiveSession;
+use crate::changes;
 use crate::sessions::Sessions;
 use hsm_types::{Bytes, DmRefusal, Kind, Kinds, MESSAGE_BYTES, Message, Sid, Token, USER_TOKENS, WAITING_MESSAGES};
-use indexmap::IndexMap;
 use std::alloc::AllocError;
 
 impl Sessions {
@@ -35,16 +34,13 @@ impl Sessions {
         ensures refused { IfErr result (λ why. MatchOption (dead_session sid self.old) (why ≡ Memory) (λ cause. why ≡ cause)) }
         ensures err { OnErr result (self.new ≡ self.old) }
     {
-        match self.live.get_mut(&sid) {
-            Some(session) => session
-                .join(&mut self.unrouted, kinds)
-                .map_err(|_| DmRefusal::Memory)?,
-            None => return Err(DmRefusal::NoSession),
+        if !self.is_live(sid) {
+            return Err(DmRefusal::NoSession);
         }
-        lose_kinds(&mut self.live, kinds);
-        if let Some(session) = self.live.get_mut(&sid) {
-            session.set_kinds(kinds);
-        }
+        changes::join(&mut self.live, sid, &mut self.unrouted, kinds)
+            .map_err(|_| DmRefusal::Memory)?;
+        changes::lose_kinds(&mut self.live, kinds);
+        changes::set_kinds(&mut self.live, sid, kinds);
         Ok(())
     }
 
@@ -57,9 +53,10 @@ impl Sessions {
         ensures err { OnErr result (self.new ≡ self.old) }
     {
         match self.taker(message.kind) {
-            Some(sid) => push_to(&mut self.live, sid, message),
-            None => Ok(self.unrouted.push_back(message)?),
+            Some(sid) => changes::push(&mut self.live, sid, message)?,
+            None => self.unrouted.push_back(message)?,
         }
+        Ok(())
     }
 
     /// Makes an event of a live session's own, which is outstanding to it at once, under a token above all that were given.
@@ -70,17 +67,25 @@ impl Sessions {
         ensures refused { IfErr result (λ why. MatchOption (first_refusal (dead_session sid self.old ∷ event_refusal body self.old ∷ [])) (why ≡ Memory) (λ cause. why ≡ cause)) }
         ensures err { OnErr result (self.new ≡ self.old) }
     {
-        let Some(session) = self.live.get_mut(&sid) else {
+        self.judge_event(sid, &body)?;
+        changes::put(&mut self.live, sid, user_message(token, body))
+            .map_err(|_| DmRefusal::Memory)?;
+        self.user_tokens += 1;
+        Ok(())
+    }
+
+    /// What refuses an event of a session's own, if anything does.
+    fn judge_event(&self, sid: Sid, body: &Bytes) -> Result<(), DmRefusal>
+        ensures { MatchResult result (λ _. first_refusal (dead_session sid self.now ∷ event_refusal body.now self.now ∷ []) ≡ None)
+            (λ why. first_refusal (dead_session sid self.now ∷ event_refusal body.now self.now ∷ []) ≡ Some why) }
+    {
+        if !self.is_live(sid) {
             return Err(DmRefusal::NoSession);
-        };
-        check_length(&body)?;
+        }
+        check_length(body)?;
         if self.user_tokens >= USER_TOKENS {
             return Err(DmRefusal::TooMany { count: USER_TOKENS });
         }
-        session
-            .put(user_message(token, body))
-            .map_err(|_| DmRefusal::Memory)?;
-        self.user_tokens += 1;
         Ok(())
     }
 
@@ -91,21 +96,30 @@ impl Sessions {
         ensures refused { IfErr result (λ why. MatchOption (first_refusal (dead_session sid self.old ∷ sending_refusal target body self.old ∷ [])) (why ≡ Memory) (λ cause. why ≡ cause)) }
         ensures err { OnErr result (self.new ≡ self.old) }
     {
+        self.judge_sending(sid, target, &body)?;
+        changes::push(&mut self.live, target, user_message(Token(0), body))
+            .map_err(|_| DmRefusal::Memory)?;
+        Ok(())
+    }
+
+    /// What refuses to send a message, if anything does.
+    fn judge_sending(&self, sid: Sid, target: Sid, body: &Bytes) -> Result<(), DmRefusal>
+        ensures { MatchResult result (λ _. first_refusal (dead_session sid self.now ∷ sending_refusal target body.now self.now ∷ []) ≡ None)
+            (λ why. first_refusal (dead_session sid self.now ∷ sending_refusal target body.now self.now ∷ []) ≡ Some why) }
+    {
         if !self.is_live(sid) {
             return Err(DmRefusal::NoSession);
         }
-        let Some(session) = self.live.get_mut(&target) else {
+        let Some(session) = self.live.get(&target) else {
             return Err(DmRefusal::NoSession);
         };
-        check_length(&body)?;
+        check_length(body)?;
         if session.waiting() >= WAITING_MESSAGES {
             return Err(DmRefusal::TooMany {
                 count: WAITING_MESSAGES,
             });
         }
-        session
-            .push(user_message(Token(0), body))
-            .map_err(|_| DmRefusal::Memory)
+        Ok(())
     }
 
     /// The undelivered messages of a live session, in order. It takes no memory.
@@ -132,10 +146,11 @@ impl Sessions {
         ensures refused { IfErr result (λ why. MatchOption (dead_session sid self.old) (why ≡ Memory) (λ cause. why ≡ cause)) }
         ensures err { OnErr result (self.new ≡ self.old) }
     {
-        match self.live.get_mut(&sid) {
-            Some(session) => session.deliver(count).map_err(|_| DmRefusal::Memory),
-            None => Err(DmRefusal::NoSession),
+        if !self.is_live(sid) {
+            return Err(DmRefusal::NoSession);
         }
+        changes::deliver(&mut self.live, sid, count).map_err(|_| DmRefusal::Memory)?;
+        Ok(())
     }
 }
 
@@ -162,29 +177,4 @@ fn user_message(token: Token, body: Bytes) -> Message
         length: 0,
         body,
     }
-}
-
-/// Takes these kinds from all sessions.
-fn lose_kinds(live: &mut IndexMap<Sid, LiveSession>, kinds: Kinds)
-    ensures { live.new.entries ≡ map (λ s. (s.0, loses kinds s.1)) live.old.entries }
-{
-    for i in 0..live.len() {
-        if let Some(session) = live.get_index_mut(i) {
-            session.set_kinds(session.kinds().without(kinds));
-        }
-    }
-}
-
-/// A message more in the queue of a live session.
-fn push_to(
-    live: &mut IndexMap<Sid, LiveSession>,
-    sid: Sid,
-    message: Message,
-) -> Result<(), AllocError>
-    requires message { IsQueued message }
-    requires lives { is_some (lookup (same_sid sid) live.old.entries) ≡ true }
-    ensures after { OnOk result (live.new.entries ≡ change_live sid (queued (message ∷ [])) live.old.entries) }
-    ensures err { OnErr result (live.new.entries ≡ live.old.entries) }
-{
-    live.get_mut(&sid).unwrap().push(message)
 }

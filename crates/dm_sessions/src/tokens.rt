@@ -7,6 +7,7 @@ ghost use Rattle.hsm_types.specs.Messages.{IsMessage};
 ghost use Rattle.hsm_types.specs.Sessions.{is_of_user, user_tokens, owner, outstanding_of, outstanding_message, tokens_of, dead_session, bad_token, responded};
 ghost use Rattle.hsm_types.specs.declared.dm.DmRefusal.TheVariants.{Memory};
 
+use crate::changes;
 use crate::sessions::Sessions;
 use hsm_types::{DmRefusal, Kind, Message, Sid, Token, Tokens};
 use std::alloc::Global;
@@ -36,7 +37,7 @@ impl Sessions {
         ensures found { option_copied result ≡ outstanding_message token self.now }
         ensures message { IfSome result (λ m. IsMessage m.now) }
     {
-        for session in self.live.values() {
+        for (_, session) in self.live.iter() {
             if let Some(message) = session.message(token) {
                 return Some(message);
             }
@@ -68,10 +69,11 @@ impl Sessions {
         ensures ascending { IfOk result (λ tokens. IsStrictlyIncreasing (map (λ token. token.0) tokens)) }
         ensures refused { IfErr result (λ why. MatchOption (dead_session sid self.now) (why ≡ Memory) (λ cause. why ≡ cause)) }
     {
-        match self.live.get(&sid) {
-            Some(session) => session.tokens(alloc).map_err(|_| DmRefusal::Memory),
-            None => Err(DmRefusal::NoSession),
-        }
+        let Some(session) = self.live.get(&sid) else {
+            return Err(DmRefusal::NoSession);
+        };
+        let tokens = session.tokens(alloc).map_err(|_| DmRefusal::Memory)?;
+        Ok(tokens)
     }
 
     /// Takes a token that is outstanding to a live session out of the outstanding ones. It takes no memory.
@@ -82,10 +84,8 @@ impl Sessions {
         ensures err { OnErr result (self.new ≡ self.old) }
     {
         self.admit(sid, token)?;
-        if let Some(session) = self.live.get_mut(&sid) {
-            let message = session.take_out(token);
-            self.user_tokens -= u64::from(is_user_event(&message));
-        }
+        let message = changes::take_out(&mut self.live, sid, token);
+        self.user_tokens -= u64::from(is_user_event(&message));
         Ok(())
     }
 }

@@ -1,6 +1,6 @@
-//! Sessions that take the place of others, and sessions that end. No script can ask for either yet.
+//! Sessions that take the place of others, sessions that end, and what waits for them. No script can ask for it yet.
 use dm_sessions::Sessions;
-use hsm_types::{DmRefusal, Sid, Word};
+use hsm_types::{Bytes, DmRefusal, Sid, Word};
 use std::alloc::Global;
 
 /// What is done with a table of sessions.
@@ -11,9 +11,15 @@ enum Step {
     /// As many as may live.
     Fill,
     Destroy(u64),
+    /// A message to itself.
+    Send(u64),
+    /// So many of what waits for it.
+    Deliver(u64, usize),
+    /// How many messages wait for it.
+    Count(u64),
 }
 
-/// The id that was made or ended, or what refused it.
+/// The id that was made, ended or named, or a count, or what refused it.
 type Answer = Result<u64, DmRefusal>;
 
 const NEW: Step = Step::Create(0, b"new");
@@ -24,10 +30,14 @@ const GONE: Answer = Err(DmRefusal::NoSession);
 
 const NO_INFORMATION: Answer = Err(DmRefusal::TooMany { count: 0 });
 
+const NOTHING: Answer = Err(DmRefusal::Again);
+
+const ONE_LEFT: Answer = Err(DmRefusal::EventsLeft { count: 1 });
+
 const FULL: Answer = Err(DmRefusal::TooMany { count: 64 });
 
 /// Steps on a new table, and what the last one is answered.
-static ROWS: [(&[Step], Answer); 16] = [
+static ROWS: [(&[Step], Answer); 21] = [
     (&[NEW, NEW, Step::Destroy(2)], Ok(2)),
     (&[NEW, NEW, Step::Destroy(2), Step::Destroy(1)], Ok(1)),
     (&[NEW, Step::Destroy(1), Step::Destroy(1)], GONE),
@@ -44,6 +54,14 @@ static ROWS: [(&[Step], Answer); 16] = [
     (&[Step::Fill, NEW], FULL),
     (&[Step::Fill, HEIR], Ok(65)),
     (&[Step::Fill, Step::Destroy(64), NEW], Ok(65)),
+    (&[NEW, Step::Count(1)], NOTHING),
+    (&[NEW, Step::Send(1), Step::Send(1), HEIR, Step::Count(2)], Ok(2)),
+    (&[NEW, Step::Send(1), HEIR, Step::Count(1)], GONE),
+    (
+        &[NEW, Step::Send(1), Step::Send(1), HEIR, Step::Deliver(2, 1), Step::Destroy(2)],
+        ONE_LEFT,
+    ),
+    (&[NEW, Step::Send(1), HEIR, Step::Deliver(2, 1), Step::Destroy(2)], Ok(2)),
 ];
 
 /// `None` for want of memory.
@@ -68,11 +86,34 @@ fn destroy(sessions: &mut Sessions, sid: u64) -> Answer {
     Ok(sid)
 }
 
+/// `None` for want of memory.
+fn send(sessions: &mut Sessions, alloc: Global, sid: u64) -> Option<Answer> {
+    let body = Bytes::from(b"note".to_vec(alloc).ok()?);
+    match sessions.send(Sid(sid), Sid(sid), body) {
+        Ok(()) => Some(Ok(sid)),
+        Err(why) => Some(Err(why)),
+    }
+}
+
+fn count(sessions: &Sessions, sid: u64) -> Answer {
+    Ok(sessions.queue(Sid(sid))?.len() as u64)
+}
+
+/// At most so many.
+fn deliver(sessions: &mut Sessions, sid: u64, most: usize) -> Answer {
+    let count = sessions.queue(Sid(sid))?.len().min(most);
+    sessions.deliver(Sid(sid), count)?;
+    Ok(sid)
+}
+
 fn take(sessions: &mut Sessions, alloc: Global, step: Step) -> Option<Answer> {
     match step {
         Step::Create(old, info) => create(sessions, alloc, old, info),
         Step::Fill => fill(sessions, alloc),
         Step::Destroy(sid) => Some(destroy(sessions, sid)),
+        Step::Send(sid) => send(sessions, alloc, sid),
+        Step::Deliver(sid, most) => Some(deliver(sessions, sid, most)),
+        Step::Count(sid) => Some(count(sessions, sid)),
     }
 }
 

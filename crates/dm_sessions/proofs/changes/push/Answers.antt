@@ -1,0 +1,18 @@
+use Rattle.std.proofs.Common.{◌≡◌, ◌++◌, ◌∷◌, [], Some, filter, sym, ap, ◌∙◌}
+use Rattle.std.proofs.lemmas.Result.{on_ok_weaker, on_err_weaker}
+use Rattle.std.specs.Option.{option_copied_mut}
+use Rattle.std.specs.Map.{lookup, set_value}
+use Rattle.hsm_types.specs.Messages.{takes}
+use Rattle.hsm_types.specs.Sessions.{LiveSession, same_sid, queued, hands_out, put_message, without_token, change_live}
+use Rattle.hsm_types.specs.declared.messages.Message.{Message}
+use Rattle.dm_sessions.proofs.Lookups.{set-is-change, set-same}
+use Rattle.dm_sessions.proofs.changes.push.Goals as goal
+
+there : (c : goal.After-live-1) → lookup (same_sid c.args.sid) c.args.live.now.entries ≡ Some c.unwrap.result.now
+there c = sym c.get_mut.ensures.value ∙ ap option_copied_mut c.unwrap.ensures
+
+pub returns-clause-after : goal.returns-clause-after
+returns-clause-after c = on_ok_weaker c.push.result (λ e. (c.get_mut.follows.holds c.push.new.self).0 ∙ ap (set_value (same_sid c.args.sid) c.args.live.now.entries) e ∙ set-is-change c.args.sid (queued (c.args.message ∷ [])) c.args.live.now.entries c.unwrap.result.now (there c)) c.push.ensures.after
+
+pub returns-clause-err : goal.returns-clause-err
+returns-clause-err c = on_err_weaker c.push.result (λ e. (c.get_mut.follows.holds c.push.new.self).0 ∙ ap (set_value (same_sid c.args.sid) c.args.live.now.entries) e ∙ set-same c.args.sid c.args.live.now.entries c.unwrap.result.now (there c)) c.push.ensures.err
