@@ -1,6 +1,6 @@
 -- Lists whose keys ascend: what is found under each number fixes them.
-use Rattle.std.proofs.Common.{◌≡◌, ℕ, zero, suc, ◌+◌, ◌<◌, ◌≤◌, ◌⊎◌, inl, inr, ⊎_elim, Bool, true, false, cond, List, [], ◌∷◌, length, filter, get_or, map, Option, None, Some, refl, sym, ap, ◌∙◌, eqb, arith}
-use Rattle.std.proofs.lemmas.Bool.{ne_eqb, eq-eqb, eqb-true, cases_order, cases_lt, true≢false}
+use Rattle.std.proofs.Common.{◌≡◌, ℕ, zero, suc, ◌+◌, ◌<◌, ◌≤◌, ◌⊎◌, inl, inr, ⊎_elim, Bool, true, false, cond, List, [], ◌∷◌, length, filter, get_or, map, None, Some, refl, sym, ap, ◌∙◌, eqb, arith}
+use Rattle.std.proofs.lemmas.Bool.{ne_eqb, eq-eqb, cases_order, cases_lt}
 use Rattle.std.proofs.lemmas.List.Sums.{sum_by-cons}
 use Rattle.std.specs.Prelude.{count_by}
 use Rattle.std.specs.List.{find}
@@ -80,13 +80,14 @@ module _ {X : Type 0} (key : X → ℕ) where
   pub climbs-sorted : (low : ℕ) (xs : List X) → IsNonDecreasingBy key xs → ((n : ℕ) → count_by (at n) xs ≤ 1) → ((d : X) → 0 < length xs → low < key (get_or xs 0 d)) → Climbs low xs
   climbs-sorted low [] up few above = tt
   climbs-sorted low (x ∷ []) up few above = (above x (omega arith), tt)
-  climbs-sorted low (x ∷ y ∷ xs) up few above =
-      (above x (omega arith),
-       climbs-sorted (key x) (y ∷ xs) (λ i j d le lt. up (suc i) (suc j) d (omega arith) (omega arith)) (fewer x (y ∷ xs) few)
-       (λ d _. let le : key x ≤ key y = up zero (suc zero) x (omega arith) (omega arith) in
-       ⊎_elim (λ (lt : key x < key y). lt) (λ (ge : key y ≤ key x).
-       let all = few (key x) in
-       absurd (omega (arith, counted (key x) x (y ∷ xs) refl, counted (key x) y xs (omega arith)))) (cases_lt (key x) (key y))))
+  climbs-sorted low (x ∷ y ∷ xs) up few above = (
+    above x (omega arith),
+    climbs-sorted (key x) (y ∷ xs) (λ i j d le lt. up (suc i) (suc j) d (omega arith) (omega arith)) (fewer x (y ∷ xs) few)
+        (λ d _. let le : key x ≤ key y = up zero (suc zero) x (omega arith) (omega arith) in
+        ⊎_elim (λ (lt : key x < key y). lt) (λ (ge : key y ≤ key x).
+        let all = few (key x) in
+        absurd (omega (arith, counted (key x) x (y ∷ xs) refl, counted (key x) y xs (omega arith)))) (cases_lt (key x) (key y))),
+  )
 
   step : (low : ℕ) (xs : List X) → Climbs low xs → (k n : ℕ) → n ≡ suc k → n < length (map key xs) → get_or (map key xs) k 0 < get_or (map key xs) n 0
   step low [] h k n is within = absurd (omega arith)

@@ -1,17 +1,16 @@
 -- The messages of a table in the order of their tokens.
-use Rattle.std.proofs.Common.{Bor, ◌≡◌, ℕ, zero, suc, ◌+◌, ◌-◌, get_or, set, ◌<◌, ◌≤◌, Bool, true, false, cond, not, ◌||◌, List, [], ◌∷◌, ◌++◌, length, map, filter, Option, None, Some, is_some, refl, sym, ap, subst, ◌∙◌, eqb, arith}
+use Rattle.std.proofs.Common.{Bor, ◌≡◌, ℕ, zero, suc, ◌+◌, ◌-◌, get_or, set, ◌<◌, ◌≤◌, Bool, true, false, cond, not, ◌||◌, List, [], ◌∷◌, ◌++◌, length, Option, None, Some, is_some, refl, sym, ap, subst, ◌∙◌, eqb, arith}
 use Rattle.std.proofs.lemmas.Bool.{true≢false, false≢true, ne_eqb, eq-eqb, eqb-true, ltb-true, ltb-false}
-use Rattle.std.proofs.lemmas.List.{map-append, length-set}
 use Rattle.std.proofs.lemmas.List.Elements.{All-head, All-tail, All-take, All-set, All-get_or}
-use Rattle.std.proofs.lemmas.List.Sums.{sum_by-cons, sum_by-append, fold-append, fold_push, sum_by-swap_remove}
+use Rattle.std.proofs.lemmas.List.Sums.{sum_by-cons, fold-append, fold_push, sum_by-swap_remove}
 use Rattle.std.proofs.lemmas.List.Quantifiers.{position-Some}
 use Rattle.std.proofs.lemmas.Map.Entries.{length-keys_of}
-use Rattle.std.specs.Prelude.{count_by, sum_by, nat_lt, fold, position, swap_remove}
+use Rattle.std.specs.Prelude.{count_by, sum_by, nat_lt, position, swap_remove}
 use Rattle.std.specs.Option.{option_map_or, option_copied, IfSome}
 use Rattle.indexmap.specs.IndexMap.{swap_remove_entry}
 use Rattle.std.specs.List.{All, find, list_any}
 use Rattle.std.specs.Map.{values_of, keys_of, lookup}
-use Rattle.hsm_types.specs.Messages.{has_token, no_token, IsMessage}
+use Rattle.hsm_types.specs.Messages.{has_token, IsMessage}
 use Rattle.hsm_types.specs.Sessions.{put_message, put_messages, message_in, without_token}
 use Rattle.hsm_types.specs.declared.keys.Token.{Token}
 use Rattle.hsm_types.specs.declared.messages.Message.{Message}
@@ -19,7 +18,7 @@ use Rattle.hsm_types.proofs.Queues.{count-put_message, count-put_messages, token
 use Rattle.dm_sessions.specs.Moves.{keyed, same_token}
 use Rattle.dm_sessions.specs.Tables.{in_order, IsKept}
 use Rattle.dm_sessions.proofs.Moves.{values-keyed, values-append}
-use Rattle.dm_sessions.proofs.Climbing.{Climbs, at, climbs-lower, climbs-same, climbs-filter}
+use Rattle.dm_sessions.proofs.Climbing.{Climbs, climbs-same, climbs-filter}
 
 abbrev Entries : Type 0
 Entries = List (Token × Message)
@@ -70,6 +69,7 @@ find-none t (m ∷ more) none = by (has_token t m) refl (find-none t more)
   where
     all : count_by (has_token t) (m ∷ more) ≡ one_if (has_token t m) + count_by (has_token t) more
     all = sum_by-cons (λ x. one_if (has_token t x)) m more
+
     by : (b : Bool) → has_token t m ≡ b → (count_by (has_token t) more ≡ 0 → find (has_token t) more ≡ None) → find (has_token t) (m ∷ more) ≡ None
     by true here later = let one : one_if (has_token t m) ≡ 1 = ap one_if here in absurd (omega (arith, all))
     by false other later = rw other (later (omega (arith, all)))
@@ -99,6 +99,7 @@ find-puts-some t l (m ∷ more) x there none = by (has_token t m) refl (find-put
   where
     all : count_by (has_token t) (m ∷ more) ≡ one_if (has_token t m) + count_by (has_token t) more
     all = sum_by-cons (λ y. one_if (has_token t y)) m more
+
     by : (b : Bool) → has_token t m ≡ b → (find (has_token t) (put_message l m) ≡ Some x → count_by (has_token t) more ≡ 0 → find (has_token t) (put_messages (put_message l m) more) ≡ Some x)
         → find (has_token t) (put_messages (put_message l m) more) ≡ Some x
     by true here later = let one : one_if (has_token t m) ≡ 1 = ap one_if here in absurd (omega (arith, all))
@@ -110,6 +111,7 @@ find-puts t l (m ∷ more) none few = by (has_token t m) refl (find-puts t (put_
   where
     all : count_by (has_token t) (m ∷ more) ≡ one_if (has_token t m) + count_by (has_token t) more
     all = sum_by-cons (λ y. one_if (has_token t y)) m more
+
     by : (b : Bool) → has_token t m ≡ b → (find (has_token t) (put_message l m) ≡ None → count_by (has_token t) more ≤ 1 → find (has_token t) (put_messages (put_message l m) more) ≡ find (has_token t) more)
         → find (has_token t) (put_messages (put_message l m) more) ≡ cond (has_token t m) (Some m) (find (has_token t) more)
     by true here later =
@@ -123,6 +125,7 @@ find-values t (e ∷ rest) kept = by (has_token t e.1) refl (find-values t rest 
   where
     own : e.0 ≡ e.1.token
     own = (All-head IsKept e rest kept).0
+
     by : (b : Bool) → has_token t e.1 ≡ b → find (has_token t) (values_of rest) ≡ lookup (same_token t) rest → find (has_token t) (values_of (e ∷ rest)) ≡ lookup (same_token t) (e ∷ rest)
     by true here later =
         let key : same_token t e.0 ≡ true = eq-eqb t.0 e.0.0 (sym (eqb-true e.1.token.0 t.0 here) ∙ ap (λ (x : Token). x.0) (sym own)) in
@@ -176,8 +179,10 @@ climbs-put low (n ∷ more) m h above none = by (nat_lt m.token.0 n.token.0) ref
   where
     all : count_by (has_token m.token) (n ∷ more) ≡ one_if (has_token m.token n) + count_by (has_token m.token) more
     all = sum_by-cons (λ y. one_if (has_token m.token y)) n more
+
     other : n.token.0 ≡ m.token.0 → ⊥
     other same = let one : one_if (has_token m.token n) ≡ 1 = ap one_if (eq-eqb n.token.0 m.token.0 same) in omega (arith, all)
+
     by : (b : Bool) → nat_lt m.token.0 n.token.0 ≡ b → (n.token.0 < m.token.0 → count_by (has_token m.token) more ≡ 0 → Climbs number n.token.0 (put_message more m)) → Climbs number low (cond b (m ∷ n ∷ more) (n ∷ put_message more m))
     by true lt later = (above, (ltb-true m.token.0 n.token.0 lt, h.1))
     by false ge later = let le = ltb-false m.token.0 n.token.0 ge in (h.0, later (grind (arith, other)) (omega (arith, all)))

@@ -1,17 +1,17 @@
 -- What is true of a table of sessions, after each call.
-use Rattle.std.proofs.Common.{◌≡◌, ℕ, zero, suc, ◌+◌, ◌-◌, ◌<◌, ◌≤◌, Bool, true, false, cond, not, ◌||◌, List, [], ◌∷◌, ◌++◌, length, map, take, drop, filter, Option, None, Some, is_some, refl, sym, ap, subst, ◌∙◌, eqb, leb, length-append, arith}
-use Rattle.std.proofs.lemmas.Bool.{true≢false, false≢true, ne_eqb, eq-eqb, eqb-true, leb-true, leb-false}
+use Rattle.std.proofs.Common.{◌≡◌, ℕ, zero, suc, ◌+◌, ◌-◌, ◌<◌, ◌≤◌, Bool, true, false, cond, not, List, [], ◌∷◌, ◌++◌, length, map, take, drop, filter, Option, None, Some, is_some, refl, sym, ap, subst, ◌∙◌, eqb, leb, length-append, arith}
+use Rattle.std.proofs.lemmas.Bool.{true≢false, ne_eqb, eq-eqb, eqb-true, leb-true, leb-false}
 use Rattle.std.proofs.lemmas.List.{length-map}
-use Rattle.std.proofs.lemmas.List.Elements.{All-append, All-push, All-filter}
+use Rattle.std.proofs.lemmas.List.Elements.{All-push, All-filter}
 use Rattle.std.proofs.lemmas.List.Sums.{sum_by-cons, sum_by-append, count_by-le-length}
 use Rattle.std.specs.Prelude.{count_by, sum_by, MatchOption}
-use Rattle.std.specs.List.{All, find, list_any, slice_get}
+use Rattle.std.specs.List.{find, slice_get}
 use Rattle.std.specs.Option.{option_map, IfSome}
 use Rattle.std.specs.Map.{lookup, remove_entry, set_value, values_of}
 use Rattle.indexmap.specs.IndexMap.{set_value_at}
 use Rattle.hsm_types.specs.Refusals.{first_refusal}
 use Rattle.hsm_types.specs.Messages.{has_token, no_token, takes, user_message, IsMessage}
-use Rattle.hsm_types.specs.Sessions.{LiveSession, SessionTable, Ascend, IsNewToken, same_sid, session_of, lives, heir, next_sid, with_session, without_session, change_live, change_session, queued, loses, with_kinds, posted, posted_to, taker, delivered, hands_out, user_event, put_message, responded, without_token, sent, is_of_user, user_tokens, places, places_in, holds, owner, message_in, outstanding_or_none, creation_refusal, dead_session, destruction_refusal, events_left, too_long, too_many_events, event_refusal, bad_token}
+use Rattle.hsm_types.specs.Sessions.{LiveSession, SessionTable, IsNewToken, same_sid, session_of, lives, heir, next_sid, with_session, without_session, change_live, change_session, queued, loses, with_kinds, posted, posted_to, taker, delivered, hands_out, user_event, put_message, responded, without_token, sent, is_of_user, user_tokens, places, places_in, holds, owner, message_in, outstanding_or_none, creation_refusal, dead_session, destruction_refusal, events_left, too_long, too_many_events, too_many_waiting, event_refusal, sending_refusal, queue_of, bad_token}
 use Rattle.hsm_types.specs.declared.dm.DmRefusal.{DmRefusal}
 use Rattle.hsm_types.specs.declared.dm.DmRefusal.TheVariants.{NoSession, NoToken, NotYours, EventsLeft, TooMany}
 use Rattle.hsm_types.specs.declared.dm.Kind.TheVariants.{Read, Write, Truncate, NoSpace, User}
@@ -23,7 +23,7 @@ use Rattle.hsm_types.specs.declared.messages.Message.{Message}
 use Rattle.hsm_types.proofs.Queues.{sum-change_live, sum-remove, sum-mapped, remove-absent, lookup-mapped, session-lives, found-lives, count-put_message, places-held, places-created, places-destroyed, places-disposed, places-posted, places-delivered, places-responded, places-responded-other, places-user_event, places-sent, owner-own, owner-holds}
 use Rattle.dm_sessions.specs.Tables.{IsEvent, IsQueued, IsTable, users_of}
 use Rattle.dm_sessions.proofs.InOrder.{any-found}
-use Rattle.dm_sessions.proofs.Ascending.{Ascend-lower, Ascend-remove, length-remove_entry, Ascend-push, Ascend-change, length-change, Ascend-map, room, none-first, passed, not_met}
+use Rattle.dm_sessions.proofs.Ascending.{Ascend-remove, length-remove_entry, Ascend-push, Ascend-change, length-change, Ascend-map, room, none-first, passed, not_met}
 
 abbrev pub Live : Type 0
 Live = List (Sid × LiveSession)
@@ -72,6 +72,7 @@ users-created old info t = by (session_of old t) refl
   where
     at : (s : LiveSession) → sum_by (λ e. users_of e.1) (remove_entry (same_sid old) t.live ++ (next_sid t, s) ∷ []) ≡ sum_by (λ e. users_of e.1) (remove_entry (same_sid old) t.live) + users_of s
     at s = omega (arith, sum_by-append (λ (e : Sid × LiveSession). users_of e.1) (remove_entry (same_sid old) t.live) ((next_sid t, s) ∷ []))
+
     by : (o : Option LiveSession) → session_of old t ≡ o → sum_by (λ e. users_of e.1) (remove_entry (same_sid old) t.live ++ (next_sid t, heir info o) ∷ []) ≡ user_tokens t
     by None none = let whole = at (heir info None) in let same : sum_by (λ e. users_of e.1) (remove_entry (same_sid old) t.live) ≡ sum_by (λ e. users_of e.1) t.live = ap (sum_by (λ (e : Sid × LiveSession). users_of e.1)) (remove-absent old t.live none) in omega arith
     by (Some s) there = omega (arith, at (heir info (Some s)), sum-remove users_of old t.live s there)
@@ -92,19 +93,23 @@ users-without p token (m ∷ more) few = by (has_token token m) refl (users-with
   where
     all : count_by (has_token token) (m ∷ more) ≡ one_if (has_token token m) + count_by (has_token token) more
     all = sum_by-cons (λ x. one_if (has_token token x)) m more
+
     kept : (l : List Message) → count_by (has_token token) l ≡ 0 → without_token token l ≡ l
     kept [] none = refl
     kept (x ∷ xs) none = at (has_token token x) refl (kept xs)
       where
         every : count_by (has_token token) (x ∷ xs) ≡ one_if (has_token token x) + count_by (has_token token) xs
         every = sum_by-cons (λ y. one_if (has_token token y)) x xs
+
         at : (b : Bool) → has_token token x ≡ b → (count_by (has_token token) xs ≡ 0 → without_token token xs ≡ xs) → cond (not b) (x ∷ without_token token xs) (without_token token xs) ≡ x ∷ xs
         at true here rest = let one : one_if (has_token token x) ≡ 1 = ap one_if here in absurd (omega (arith, every))
         at false other rest = ap (λ (z : List Message). x ∷ z) (rest (omega (arith, every)))
+
     after : (o : Option Message) → MatchOption o (count_by p (without_token token more) ≡ count_by p more) (λ y. count_by p (without_token token more) + one_if (p y) ≡ count_by p more)
         → MatchOption o (count_by p (m ∷ without_token token more) ≡ count_by p (m ∷ more)) (λ y. count_by p (m ∷ without_token token more) + one_if (p y) ≡ count_by p (m ∷ more))
     after None is = omega (arith, is, sum_by-cons (λ y. one_if (p y)) m (without_token token more), sum_by-cons (λ y. one_if (p y)) m more)
     after (Some y) is = omega (arith, is, sum_by-cons (λ z. one_if (p z)) m (without_token token more), sum_by-cons (λ z. one_if (p z)) m more)
+
     by : (b : Bool) → has_token token m ≡ b
         → (count_by (has_token token) more ≤ 1 → MatchOption (find (has_token token) more) (count_by p (without_token token more) ≡ count_by p more) (λ y. count_by p (without_token token more) + one_if (p y) ≡ count_by p more))
         → MatchOption (cond b (Some m) (find (has_token token) more)) (count_by p (cond (not b) (m ∷ without_token token more) (without_token token more)) ≡ count_by p (m ∷ more)) (λ y. count_by p (cond (not b) (m ∷ without_token token more) (without_token token more)) + one_if (p y) ≡ count_by p (m ∷ more))
@@ -297,6 +302,7 @@ table-posted m t users is event fresh = by (taker m.kind t) refl
   where
     once : (u : Token) → 0 < u.0 → places u (posted m t) ≤ 1
     once u real = new-once m.token t users (places u (posted m t)) u is fresh real (places-posted u m t)
+
     by : (o : Option Sid) → taker m.kind t ≡ o → IsTable (posted_to o m t) users
     by None none = table-unrouted m t users is event (subst (λ o. (u : Token) → 0 < u.0 → places u (posted_to o m t) ≤ 1) none once)
     by (Some sid) there = table-queued sid m t users is (found-lives (λ s. takes s.1.kinds m.kind) sid t.live there) (subst (λ o. (u : Token) → 0 < u.0 → places u (posted_to o m t) ≤ 1) there once)
@@ -377,3 +383,21 @@ module _ (p : Sid × LiveSession → Bool) (all s t : Live) (kept : find p all �
 -- a session holds the token whose message is found in it
 pub found-held : (token : Token) (s : LiveSession) (o : Option Message) → o ≡ message_in token s.outstanding → holds token s ≡ is_some o
 found-held token s o is = any-found token s.outstanding ∙ ap is_some (sym is)
+
+-- ---- what refuses a message
+
+pub sending-is : (sid target : Sid) (body : List ℕ) (t : SessionTable) (s : LiveSession) → lives sid t ≡ true → session_of target t ≡ Some s
+    → first_refusal (dead_session sid t ∷ sending_refusal target body t ∷ []) ≡ first_refusal (too_long body ∷ too_many_waiting s.queue ∷ [])
+sending-is sid target body t s alive there = rw (alive, there) (alone (first_refusal (too_long body ∷ too_many_waiting s.queue ∷ [])))
+  where
+    alone : (o : Option DmRefusal) → first_refusal (o ∷ []) ≡ o
+    alone None = refl
+    alone (Some why) = refl
+
+pub sending-dead : (sid target : Sid) (body : List ℕ) (t : SessionTable) → lives sid t ≡ true → session_of target t ≡ None → first_refusal (dead_session sid t ∷ sending_refusal target body t ∷ []) ≡ Some NoSession
+sending-dead sid target body t alive none = rw (alive, none) refl
+
+pub sending-alive : (sid target : Sid) (body : List ℕ) (t : SessionTable) → first_refusal (dead_session sid t ∷ sending_refusal target body t ∷ []) ≡ None → lives target t ≡ true
+sending-alive sid target body t none =
+    let later = (none-first (dead_session sid t) (sending_refusal target body t ∷ []) none).1 in
+    living target t (too_long body ∷ too_many_waiting (queue_of target t) ∷ []) (none-first (sending_refusal target body t) [] later).0

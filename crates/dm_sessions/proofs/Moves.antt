@@ -1,17 +1,17 @@
 -- Messages that move from one list to another, one at a time.
-use Rattle.std.proofs.Common.{◌≡◌, ℕ, ◌+◌, ◌-◌, ◌<◌, ◌≤◌, Bool, true, false, cond, not, List, [], ◌∷◌, ◌++◌, length, map, take, drop, filter, get_or, Option, None, Some, refl, sym, ap, ◌∙◌, eqb, arith, length-append}
-use Rattle.std.proofs.lemmas.Bool.{true≢false, eqb-true, eqb-false, ne_eqb, eq-eqb, cases_Bool}
-use Rattle.std.proofs.lemmas.List.{drop_more, drop_all, take_all, take_more, append-nil, append_assoc, length-take-le, length-drop, take-take, get_or-take, map-append}
+use Rattle.std.proofs.Common.{◌≡◌, ℕ, ◌+◌, ◌<◌, ◌≤◌, Bool, true, false, cond, not, List, [], ◌∷◌, ◌++◌, length, take, drop, filter, get_or, None, refl, sym, ap, ◌∙◌, eqb, arith, length-append}
+use Rattle.std.proofs.lemmas.Bool.{eqb-true, eq-eqb}
+use Rattle.std.proofs.lemmas.List.{drop_more, drop_all, take_all, append-nil, append_assoc, length-take-le, length-drop, take-take, get_or-take, map-append}
 use Rattle.std.proofs.lemmas.List.Elements.{filter_more, All-head, All-tail, All-nil, All-cons, All-append, All-same}
-use Rattle.std.proofs.lemmas.List.Sums.{sum_by-cons, sum_by-append, sum_by_more_le, sum_by-take-le, length-filter}
-use Rattle.std.specs.Prelude.{count_by, sum_by}
+use Rattle.std.proofs.lemmas.List.Sums.{sum_by-cons, sum_by-append, sum_by_more_le, length-filter}
+use Rattle.std.specs.Prelude.{count_by}
 use Rattle.std.specs.List.{All}
 use Rattle.std.specs.Map.{values_of, lookup}
-use Rattle.hsm_types.specs.Messages.{has_token, no_token, IsMessage}
+use Rattle.hsm_types.specs.Messages.{has_token, no_token}
 use Rattle.hsm_types.specs.Sessions.{with_tokens}
 use Rattle.hsm_types.specs.declared.keys.Token.{Token}
 use Rattle.hsm_types.specs.declared.messages.Message.{Message}
-use Rattle.hsm_types.proofs.Queues.{count-filter_kept, others-stay}
+use Rattle.hsm_types.proofs.Queues.{others-stay}
 use Rattle.dm_sessions.specs.Moves.{keyed, same_token, AreApart}
 
 -- one or none
@@ -39,7 +39,7 @@ parted-yes p whole target from to rest i m lt h is passes =
     let first = popped whole (filter (λ x. not (p x)) (take i whole)) from rest i m lt h.left is in
     let mine : filter p (take (i + 1) whole) ≡ filter p (take i whole) ++ m ∷ [] = filter_next p whole i m lt first.0 ∙ ap (λ (b : Bool). filter p (take i whole) ++ cond b (m ∷ []) []) passes in
     let others : filter (λ x. not (p x)) (take (i + 1) whole) ≡ filter (λ x. not (p x)) (take i whole) =
-        filter_next (λ x. not (p x)) whole i m lt first.0 ∙ ap (λ (b : Bool). filter (λ x. not (p x)) (take i whole) ++ cond (not b) (m ∷ []) []) passes ∙ append-nil (filter (λ x. not (p x)) (take i whole)) in
+    filter_next (λ x. not (p x)) whole i m lt first.0 ∙ ap (λ (b : Bool). filter (λ x. not (p x)) (take i whole) ++ cond (not b) (m ∷ []) []) passes ∙ append-nil (filter (λ x. not (p x)) (take i whole)) in
     record {
       left = first.1 ∙ ap (λ (l : List Message). drop (i + 1) whole ++ l) (sym others);
       moved = ap (λ (l : List Message). l ++ m ∷ []) h.moved ∙ append_assoc target (filter p (take i whole)) (m ∷ []) ∙ ap (λ (l : List Message). target ++ l) (sym mine);
@@ -49,9 +49,9 @@ pub parted-no : (p : Message → Bool) (whole target from to rest : List Message
 parted-no p whole target from to rest i m lt h is fails =
     let first = popped whole (filter (λ x. not (p x)) (take i whole)) from rest i m lt h.left is in
     let mine : filter p (take (i + 1) whole) ≡ filter p (take i whole) =
-        filter_next p whole i m lt first.0 ∙ ap (λ (b : Bool). filter p (take i whole) ++ cond b (m ∷ []) []) fails ∙ append-nil (filter p (take i whole)) in
+    filter_next p whole i m lt first.0 ∙ ap (λ (b : Bool). filter p (take i whole) ++ cond b (m ∷ []) []) fails ∙ append-nil (filter p (take i whole)) in
     let others : filter (λ x. not (p x)) (take (i + 1) whole) ≡ filter (λ x. not (p x)) (take i whole) ++ m ∷ [] =
-        filter_next (λ x. not (p x)) whole i m lt first.0 ∙ ap (λ (b : Bool). filter (λ x. not (p x)) (take i whole) ++ cond (not b) (m ∷ []) []) fails in
+    filter_next (λ x. not (p x)) whole i m lt first.0 ∙ ap (λ (b : Bool). filter (λ x. not (p x)) (take i whole) ++ cond (not b) (m ∷ []) []) fails in
     record {
       left = ap (λ (l : List Message). l ++ m ∷ []) first.1 ∙ append_assoc (drop (i + 1) whole) (filter (λ x. not (p x)) (take i whole)) (m ∷ []) ∙ ap (λ (l : List Message). drop (i + 1) whole ++ l) (sym others);
       moved = h.moved ∙ ap (λ (l : List Message). target ++ l) (sym mine);
@@ -97,8 +97,10 @@ absent t (e ∷ rest) own none = by (eqb t.0 e.0.0) refl (absent t rest (All-tai
   where
     all : count_by (has_token t) (values_of (e ∷ rest)) ≡ one_if (has_token t e.1) + count_by (has_token t) (values_of rest)
     all = sum_by-cons (λ m. one_if (has_token t m)) e.1 (values_of rest)
+
     key : e.0 ≡ e.1.token
     key = All-head (λ (e : Token × Message). e.0 ≡ e.1.token) e rest own
+
     by : (b : Bool) → eqb t.0 e.0.0 ≡ b → (count_by (has_token t) (values_of rest) ≡ 0 → lookup (same_token t) rest ≡ None) → lookup (same_token t) (e ∷ rest) ≡ None
     by true here later =
         let mine : has_token t e.1 ≡ true = eq-eqb e.1.token.0 t.0 (ap (λ (x : Token). x.0) (sym key) ∙ sym (eqb-true t.0 e.0.0 here)) in
@@ -139,7 +141,7 @@ handed-absent whole held queue entries i m rest lt h is apart real =
     let mine : has_token m.token (get_or whole i m) ≡ true = ap (has_token m.token) (sym first.0) ∙ eq-eqb m.token.0 m.token.0 refl in
     let one : one_if (has_token m.token (get_or whole i m)) ≡ 1 = ap one_if mine in
     let both : count_by (has_token m.token) (values_of entries) ≡ count_by (has_token m.token) (values_of held) + count_by (has_token m.token) (with_tokens (take i whole)) =
-        ap (count_by (has_token m.token)) (handed-values whole held entries i h.held_is) ∙ sum_by-append (λ x. one_if (has_token m.token x)) (values_of held) (with_tokens (take i whole)) in
+    ap (count_by (has_token m.token)) (handed-values whole held entries i h.held_is) ∙ sum_by-append (λ x. one_if (has_token m.token x)) (values_of held) (with_tokens (take i whole)) in
     let kept : count_by (has_token m.token) (with_tokens (take i whole)) ≡ count_by (has_token m.token) (take i whole) = others-stay no_token m.token (λ zero. omega arith) (take i whole) in
     let few = apart m.token real in
     omega (arith, sum_by_more_le (λ x. one_if (has_token m.token x)) whole i m lt)

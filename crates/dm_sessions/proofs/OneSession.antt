@@ -1,14 +1,14 @@
 -- What is true of a session, after each call of it.
-use Rattle.std.proofs.Common.{◌≡◌, ℕ, zero, suc, ◌+◌, ◌-◌, ◌<◌, ◌≤◌, ◌⊎◌, ⊎_elim, Bool, true, false, cond, not, List, [], ◌∷◌, ◌++◌, length, map, take, drop, filter, refl, sym, ap, subst, ◌∙◌, eqb, arith, min}
-use Rattle.std.proofs.lemmas.Bool.{true≢false, false≢true, ne_eqb, eq-eqb, eqb-true, cases_eq, cases_Bool}
+use Rattle.std.proofs.Common.{◌≡◌, ℕ, ◌+◌, ◌-◌, ◌<◌, ◌≤◌, ⊎_elim, Bool, true, false, cond, not, List, [], ◌∷◌, ◌++◌, length, take, drop, filter, refl, sym, ap, ◌∙◌, eqb, arith}
+use Rattle.std.proofs.lemmas.Bool.{true≢false, false≢true, ne_eqb, eq-eqb, eqb-true, cases_eq}
 use Rattle.std.proofs.lemmas.List.{length-take-le}
 use Rattle.std.proofs.lemmas.List.Elements.{All-head, All-tail, All-nil, All-cons, All-append, All-push, All-take, All-drop, All-filter, All-weaker}
-use Rattle.std.proofs.lemmas.List.Sums.{sum_by-cons, sum_by-append, sum_by-take-drop, length-filter, count_by-le-length}
+use Rattle.std.proofs.lemmas.List.Sums.{sum_by-cons, sum_by-append, sum_by-take-drop, length-filter}
 use Rattle.std.proofs.lemmas.List.Filters.{length-filter_both}
-use Rattle.std.specs.Prelude.{count_by, sum_by}
+use Rattle.std.specs.Prelude.{count_by}
 use Rattle.std.specs.List.{All}
 use Rattle.std.specs.Map.{values_of}
-use Rattle.hsm_types.specs.Messages.{has_token, no_token, takes, IsMessage, IsOf}
+use Rattle.hsm_types.specs.Messages.{has_token, no_token, IsMessage, IsOf}
 use Rattle.hsm_types.specs.Sessions.{is_of_user, put_messages, with_tokens}
 use Rattle.hsm_types.specs.declared.keys.Token.{Token}
 use Rattle.hsm_types.specs.declared.dm.Kind.{Kind}
@@ -81,6 +81,7 @@ session-put queue waiting entries m is message real absent = record {
   where
     all : (u : Token) → count_by (has_token u) (values_of (entries ++ (m.token, m) ∷ [])) ≡ count_by (has_token u) (values_of entries) + one_if (has_token u m)
     all u = ap (count_by (has_token u)) (values-append entries ((m.token, m) ∷ [])) ∙ omega (arith, sum_by-append (λ x. one_if (has_token u x)) (values_of entries) (m ∷ []))
+
     by : (u : Token) (b : Bool) → has_token u m ≡ b → count_by (has_token u) (values_of (entries ++ (m.token, m) ∷ [])) ≤ 1
     by u true own =
         let one : one_if (has_token u m) ≡ 1 = ap one_if own in
@@ -124,11 +125,13 @@ session-handed queue waiting over entries count is over_is once = record {
     all : (u : Token) → count_by (has_token u) (values_of (entries ++ keyed (with_tokens (take count queue)))) ≡ count_by (has_token u) (values_of entries) + count_by (has_token u) (with_tokens (take count queue))
     all u = ap (count_by (has_token u)) (values-append entries (keyed (with_tokens (take count queue))) ∙ ap (λ (l : List Message). values_of entries ++ l) (values-keyed (with_tokens (take count queue))))
         ∙ sum_by-append (λ x. one_if (has_token u x)) (values_of entries) (with_tokens (take count queue))
+
     at_zero : (u : Token) → u.0 ≡ 0 → count_by (has_token u) (values_of (entries ++ keyed (with_tokens (take count queue)))) ≤ 1
     at_zero u is_zero =
         let few = is.apart u in
         let none = count-filter_gone (has_token u) (λ m. not (has_token no_token m)) (λ m own. ap not (eq-eqb m.token.0 0 (eqb-true m.token.0 u.0 own ∙ is_zero))) (take count queue) in
         omega (arith, all u)
+
     at_other : (u : Token) → (u.0 ≡ 0 → ⊥) → count_by (has_token u) (values_of (entries ++ keyed (with_tokens (take count queue)))) ≤ 1
     at_other u not_zero =
         let few = once u (omega arith) in

@@ -1,6 +1,6 @@
 -- The tokens of a table, sorted, are those of its messages in their order.
-use Rattle.std.proofs.Common.{◌≡◌, ℕ, zero, suc, ◌+◌, ◌<◌, ◌≤◌, Bool, true, false, cond, ◌||◌, List, [], ◌∷◌, length, map, get_or, Option, None, Some, is_some, refl, sym, ap, ◌∙◌, eqb, arith}
-use Rattle.std.proofs.lemmas.Bool.{true≢false, false≢true, ne_eqb, eq-eqb, eqb-true}
+use Rattle.std.proofs.Common.{◌≡◌, ℕ, zero, suc, ◌<◌, ◌≤◌, Bool, true, false, cond, ◌||◌, List, [], ◌∷◌, None, Some, is_some, refl, sym, ap, ◌∙◌, eqb, arith}
+use Rattle.std.proofs.lemmas.Bool.{false≢true, ne_eqb, eq-eqb, eqb-true}
 use Rattle.std.proofs.lemmas.List.Elements.{All-head, All-tail}
 use Rattle.std.proofs.lemmas.List.Sums.{sum_by-cons}
 use Rattle.std.proofs.lemmas.List.Sorted.{All-permutation, sum_by-IsPermutation, list_any-IsPermutation}
@@ -74,7 +74,7 @@ module _ (entries : Entries) (ts : List Token) (kept : All IsKept entries) (apar
   found : (n : ℕ) → find (at value n) ts ≡ find (at value n) (tokens_of (in_order entries))
   found n =
       let listed : list_any (at value n) ts ≡ list_any (at value n) (tokens_of (in_order entries)) =
-          sym (list_any-IsPermutation (at value n) (keys_of entries) ts same) ∙ any-keys n entries ∙ ap is_some (sym (message_in-in_order (record { 0 = n }) entries kept apart)) ∙ sym (any-found (record { 0 = n }) (in_order entries)) ∙ sym (any-tokens n (in_order entries)) in
+      sym (list_any-IsPermutation (at value n) (keys_of entries) ts same) ∙ any-keys n entries ∙ ap is_some (sym (message_in-in_order (record { 0 = n }) entries kept apart)) ∙ sym (any-found (record { 0 = n }) (in_order entries)) ∙ sym (any-tokens n (in_order entries)) in
       find-token n ts ∙ ap (λ (b : Bool). cond b (Some (record { 0 = n })) None) listed ∙ sym (find-token n (tokens_of (in_order entries)))
 
   pub tokens-ordered : ts ≡ tokens_of (in_order entries)

@@ -1,5 +1,5 @@
 -- Messages that move into a table by token.
-use Rattle.std.specs.Prelude.{ℕ, ◌+◌, ◌<◌, ◌≤◌, Bool, ◌==◌, List, map, count_by}
+use Rattle.std.specs.Prelude.{◌+◌, ◌<◌, ◌≤◌, Bool, ◌==◌, List, map, count_by}
 use Rattle.std.specs.Map.{values_of}
 use Rattle.hsm_types.specs.Messages.{has_token}
 use Rattle.hsm_types.specs.declared.keys.Token.{Token}

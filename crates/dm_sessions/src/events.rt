@@ -4,14 +4,18 @@ ghost use Rattle.std.specs.List.{All};
 ghost use Rattle.std.specs.Map.{lookup};
 ghost use Rattle.hsm_types.specs.Refusals.{first_refusal};
 ghost use Rattle.hsm_types.specs.Messages.{IsMessage, user_message};
-ghost use Rattle.hsm_types.specs.Sessions.{IsNewToken, same_sid, taker, queue_of, loses, queued, change_live, too_long, dead_session, sending_refusal, event_refusal, with_kinds, posted, delivered, user_event, sent};
+ghost use Rattle.hsm_types.specs.Sessions.{IsNewToken, same_sid, taker, queue_of, loses, queued, change_live, too_long, too_many_waiting, dead_session, sending_refusal, event_refusal, with_kinds, posted, delivered, user_event, sent};
 ghost use Rattle.hsm_types.specs.declared.dm.DmRefusal.TheVariants.{Memory};
 ghost use Rattle.dm_sessions.specs.Tables.{IsQueued, none_waits};
 ghost use Rattle.hsm_types.specs.declared.dm.Kind.TheVariants.{User};
 
 use crate::changes;
+use crate::live_session::LiveSession;
 use crate::sessions::Sessions;
-use hsm_types::{Bytes, DmRefusal, Kind, Kinds, MESSAGE_BYTES, Message, Sid, Token, USER_TOKENS, WAITING_MESSAGES};
+use hsm_types::{
+    Bytes, DmRefusal, Kind, Kinds, MESSAGE_BYTES, Message, Sid, Token, USER_TOKENS,
+    WAITING_MESSAGES,
+};
 use std::alloc::AllocError;
 
 impl Sessions {
@@ -37,8 +41,9 @@ impl Sessions {
         if !self.is_live(sid) {
             return Err(DmRefusal::NoSession);
         }
-        changes::join(&mut self.live, sid, &mut self.unrouted, kinds)
-            .map_err(|_| DmRefusal::Memory)?;
+        changes::join(&mut self.live, sid, &mut self.unrouted, kinds).map_err(
+            |_| DmRefusal::Memory,
+        )?;
         changes::lose_kinds(&mut self.live, kinds);
         changes::set_kinds(&mut self.live, sid, kinds);
         Ok(())
@@ -68,8 +73,9 @@ impl Sessions {
         ensures err { OnErr result (self.new ≡ self.old) }
     {
         self.judge_event(sid, &body)?;
-        changes::put(&mut self.live, sid, user_message(token, body))
-            .map_err(|_| DmRefusal::Memory)?;
+        changes::put(&mut self.live, sid, user_message(token, body)).map_err(
+            |_| DmRefusal::Memory,
+        )?;
         self.user_tokens += 1;
         Ok(())
     }
@@ -97,8 +103,9 @@ impl Sessions {
         ensures err { OnErr result (self.new ≡ self.old) }
     {
         self.judge_sending(sid, target, &body)?;
-        changes::push(&mut self.live, target, user_message(Token(0), body))
-            .map_err(|_| DmRefusal::Memory)?;
+        changes::push(&mut self.live, target, user_message(Token(0), body)).map_err(
+            |_| DmRefusal::Memory,
+        )?;
         Ok(())
     }
 
@@ -110,16 +117,10 @@ impl Sessions {
         if !self.is_live(sid) {
             return Err(DmRefusal::NoSession);
         }
-        let Some(session) = self.live.get(&target) else {
-            return Err(DmRefusal::NoSession);
-        };
-        check_length(body)?;
-        if session.waiting() >= WAITING_MESSAGES {
-            return Err(DmRefusal::TooMany {
-                count: WAITING_MESSAGES,
-            });
+        match self.live.get(&target) {
+            Some(session) => judge_message(session, body),
+            None => Err(DmRefusal::NoSession),
         }
-        Ok(())
     }
 
     /// The undelivered messages of a live session, in order. It takes no memory.
@@ -161,6 +162,20 @@ fn check_length(body: &Bytes) -> Result<(), DmRefusal>
     let len = body.as_slice().len();
     if len > MESSAGE_BYTES {
         return Err(DmRefusal::TooMany { count: len as u64 });
+    }
+    Ok(())
+}
+
+/// What refuses a message more without a token in the session's queue, if anything does.
+fn judge_message(session: &LiveSession, body: &Bytes) -> Result<(), DmRefusal>
+    ensures { MatchResult result (λ _. first_refusal (too_long body.now ∷ too_many_waiting session.now.queue ∷ []) ≡ None)
+        (λ why. first_refusal (too_long body.now ∷ too_many_waiting session.now.queue ∷ []) ≡ Some why) }
+{
+    check_length(body)?;
+    if session.waiting() >= WAITING_MESSAGES {
+        return Err(DmRefusal::TooMany {
+            count: WAITING_MESSAGES,
+        });
     }
     Ok(())
 }

@@ -72,8 +72,10 @@ impl Sessions {
         let Some(session) = self.live.get(&sid) else {
             return Err(DmRefusal::NoSession);
         };
-        let tokens = session.tokens(alloc).map_err(|_| DmRefusal::Memory)?;
-        Ok(tokens)
+        match session.tokens(alloc) {
+            Ok(tokens) => Ok(tokens),
+            Err(_) => Err(DmRefusal::Memory),
+        }
     }
 
     /// Takes a token that is outstanding to a live session out of the outstanding ones. It takes no memory.

@@ -1,10 +1,10 @@
 use Rattle.std.proofs.Common.{◌≡◌, ◌<◌, Some, length, refl, sym, ap, subst, ◌∙◌, arith, add-one}
-use Rattle.std.specs.Option.{IsSome, option_copied_mut}
+use Rattle.std.specs.Option.{option_copied_mut}
 use Rattle.std.specs.List.{slice_get}
 use Rattle.std.specs.Map.{values_of}
 use Rattle.indexmap.specs.IndexMap.{set_value_at}
 use Rattle.hsm_types.specs.Messages.{without_kinds}
-use Rattle.hsm_types.specs.Sessions.{LiveSession, loses}
+use Rattle.hsm_types.specs.Sessions.{loses}
 use Rattle.dm_sessions.proofs.Lookups.{Live, lost, lost-more, lost-length, lost-all}
 use Rattle.dm_sessions.proofs.changes.lose_kinds.Goals as goal
 use Rattle.dm_sessions.proofs.changes.lose_kinds.Goals.{in-Some, in_default}

@@ -1,10 +1,8 @@
-use Rattle.std.proofs.Common.{◌≡◌, ◌++◌, ◌∷◌, [], Some, filter, sym, ap, ◌∙◌}
+use Rattle.std.proofs.Common.{◌≡◌, Some, sym, ap, ◌∙◌}
 use Rattle.std.proofs.lemmas.Result.{on_ok_weaker, on_err_weaker}
 use Rattle.std.specs.Option.{option_copied_mut}
 use Rattle.std.specs.Map.{lookup, set_value}
-use Rattle.hsm_types.specs.Messages.{takes}
-use Rattle.hsm_types.specs.Sessions.{LiveSession, same_sid, queued, hands_out, put_message, without_token, change_live}
-use Rattle.hsm_types.specs.declared.messages.Message.{Message}
+use Rattle.hsm_types.specs.Sessions.{same_sid, put_message}
 use Rattle.dm_sessions.proofs.Lookups.{set-is-change, set-same}
 use Rattle.dm_sessions.proofs.changes.put.Goals as goal
 

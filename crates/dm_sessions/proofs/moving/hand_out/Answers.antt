@@ -1,8 +1,7 @@
-use Rattle.std.proofs.Common.{◌≡◌, ◌≤◌, ◌<◌, ◌+◌, ◌++◌, ◌∷◌, [], length, take, Some, refl, sym, ap, ◌∙◌, arith, append-nil}
+use Rattle.std.proofs.Common.{◌≡◌, ◌++◌, ◌∷◌, [], length, refl, sym, ap, ◌∙◌, arith, append-nil}
 use Rattle.std.proofs.lemmas.List.{length-drop}
 use Rattle.std.specs.Option.{option_to_list}
-use Rattle.hsm_types.specs.Sessions.{with_tokens}
-use Rattle.dm_sessions.proofs.Moves.{absent, popped, handed-front, handed-more, handed-absent, handed-own, handed-room, next-length}
+use Rattle.dm_sessions.proofs.Moves.{absent, handed-front, handed-more, handed-absent, handed-own, handed-room, next-length}
 use Rattle.dm_sessions.proofs.moving.hand_out.Goals as goal
 
 pub loop-init : goal.loop-init

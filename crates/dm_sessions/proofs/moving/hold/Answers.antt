@@ -1,10 +1,9 @@
-use Rattle.std.proofs.Common.{◌≡◌, ◌++◌, ◌∷◌, [], false, refl, ◌∙◌, eqb, rules, arith}
+use Rattle.std.proofs.Common.{◌≡◌, false, refl, ◌∙◌, rules, arith}
 use Rattle.std.proofs.lemmas.Bool.Decides.{nat_tests}
 use Rattle.indexmap.specs.IndexMap.{insert_entry}
 use Rattle.indexmap.proofs.CallerLemmas.{insert_entry-new}
-use Rattle.hsm_types.specs.declared.messages.Message.{Message}
 use Rattle.hsm_types.specs.Messages.{has_token, no_token}
-use Rattle.dm_sessions.specs.Moves.{keyed, same_token}
+use Rattle.dm_sessions.specs.Moves.{same_token}
 use Rattle.dm_sessions.proofs.moving.hold.Goals as goal
 
 pub returns-then-message-ne0-clause-held : goal.returns-then-message-ne0-clause-held

@@ -1,6 +1,6 @@
-use Rattle.std.proofs.Common.{◌≡◌, ◌+◌, ◌++◌, ◌∷◌, [], length, Some, refl, sym, ap, ◌∙◌, true, false, arith, rules, append-nil}
+use Rattle.std.proofs.Common.{◌≡◌, ◌++◌, ◌∷◌, [], refl, sym, ap, ◌∙◌, arith, append-nil}
 use Rattle.std.specs.Option.{option_to_list}
-use Rattle.std.specs.Prelude.{count_by, vec_capacity}
+use Rattle.std.specs.Prelude.{vec_capacity}
 use Rattle.hsm_types.specs.Messages.{takes}
 use Rattle.hsm_types.specs.declared.messages.Message.{Message}
 use Rattle.dm_sessions.proofs.Moves.{parted-yes, parted-no, parted-all, parted-room, parted-some}
@@ -24,13 +24,13 @@ loop-preserved c =
     let front : c.loop.from.items ≡ (c.unwrap-message.result ∷ []) ++ c.pop_front.new.self.items = c.pop_front.ensures.items ∙ ap (λ o. option_to_list o ++ c.pop_front.new.self.items) c.unwrap-message.ensures in
     elim c.if-takes.branch [
       | then-takes w ↦ rw (w.from-is, w.to-is, w.push_reserved.ensures.items) (record {
-          parted = parted-yes (λ (m : Message). takes c.args.kinds m.kind) c.args.from.now.items c.args.to.now.items c.loop.from.items c.loop.to.items c.pop_front.new.self.items c.loop.counter c.unwrap-message.result (omega arith) c.loop.invariant.parted front (sym c.takes.ensures ∙ w.if-takes.true);
-          room = w.push_reserved.ensures.capacity ∙ c.loop.invariant.room;
-        })
+        parted = parted-yes (λ (m : Message). takes c.args.kinds m.kind) c.args.from.now.items c.args.to.now.items c.loop.from.items c.loop.to.items c.pop_front.new.self.items c.loop.counter c.unwrap-message.result (omega arith) c.loop.invariant.parted front (sym c.takes.ensures ∙ w.if-takes.true);
+        room = w.push_reserved.ensures.capacity ∙ c.loop.invariant.room;
+      })
       | else-takes w ↦ rw (w.from-is, w.to-is, w.push_back_reserved.ensures.items) (record {
-          parted = parted-no (λ (m : Message). takes c.args.kinds m.kind) c.args.from.now.items c.args.to.now.items c.loop.from.items c.loop.to.items c.pop_front.new.self.items c.loop.counter c.unwrap-message.result (omega arith) c.loop.invariant.parted front (sym c.takes.ensures ∙ w.if-takes.false);
-          room = c.loop.invariant.room;
-        })
+        parted = parted-no (λ (m : Message). takes c.args.kinds m.kind) c.args.from.now.items c.args.to.now.items c.loop.from.items c.loop.to.items c.pop_front.new.self.items c.loop.counter c.unwrap-message.result (omega arith) c.loop.invariant.parted front (sym c.takes.ensures ∙ w.if-takes.false);
+        room = c.loop.invariant.room;
+      })
     ]
 
 pub returns-clause-moved : goal.returns-clause-moved

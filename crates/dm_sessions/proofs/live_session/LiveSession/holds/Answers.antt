@@ -1,5 +1,4 @@
 use Rattle.std.proofs.Common.{sym, ap, ◌∙◌, is_some}
-use Rattle.hsm_types.specs.Messages.{has_token}
 use Rattle.dm_sessions.specs.Tables.{in_order}
 use Rattle.dm_sessions.proofs.InOrder.{message_in-in_order, any-found, holds-real}
 use Rattle.dm_sessions.proofs.live_session.LiveSession.holds.Goals as goal

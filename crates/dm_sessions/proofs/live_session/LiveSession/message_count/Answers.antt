@@ -1,4 +1,4 @@
-use Rattle.std.proofs.Common.{arith, ap, length}
+use Rattle.std.proofs.Common.{arith}
 use Rattle.dm_sessions.proofs.InOrder.{length-in_order}
 use Rattle.dm_sessions.proofs.live_session.LiveSession.message_count.Goals as goal
 

@@ -23,10 +23,10 @@ pub returns-clause-after : goal.returns-clause-after
 returns-clause-after c =
     let entries = c.self.inside.outstanding.entries in
     let left : in_order c.swap_remove.new.self.entries ≡ without_token c.args.token (in_order entries) =
-        ap in_order c.swap_remove.ensures.entries
-        ∙ in_order-without c.args.token entries (swap_remove_entry (same_token c.args.token) entries) c.self.invariant.kept c.self.invariant.apart (kept-swapped c.args.token entries c.self.invariant.kept)
-        (λ u. apart-swapped c.args.token entries u (c.self.invariant.apart u))
-        (λ u. ap (lookup (same_token u)) (sym c.swap_remove.ensures.entries) ∙ c.swap_remove.ensures.updates.0 u) in
+    ap in_order c.swap_remove.ensures.entries
+    ∙ in_order-without c.args.token entries (swap_remove_entry (same_token c.args.token) entries) c.self.invariant.kept c.self.invariant.apart (kept-swapped c.args.token entries c.self.invariant.kept)
+    (λ u. apart-swapped c.args.token entries u (c.self.invariant.apart u))
+    (λ u. ap (lookup (same_token u)) (sym c.swap_remove.ensures.entries) ∙ c.swap_remove.ensures.updates.0 u) in
     rw (← c.self.view_is) (λ i. record { info = c.self.inside.info; kinds = c.self.inside.kinds; queue = c.self.inside.queue.items; outstanding = left i })
 
 pub returns-clause-apart : goal.returns-clause-apart

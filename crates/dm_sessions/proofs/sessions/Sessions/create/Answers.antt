@@ -1,8 +1,8 @@
-use Rattle.std.proofs.Common.{◌≡◌, ◌+◌, ◌++◌, ◌∷◌, [], Some, None, refl, sym, ap, subst, ◌∙◌, arith, rules}
+use Rattle.std.proofs.Common.{◌≡◌, ◌+◌, ◌++◌, ◌∷◌, [], None, sym, ap, subst, ◌∙◌, arith, rules}
 use Rattle.std.specs.Map.{lookup, remove_entry}
 use Rattle.indexmap.specs.IndexMap.{insert_entry}
 use Rattle.hsm_types.specs.declared.keys.Sid.{Sid}
-use Rattle.hsm_types.specs.Sessions.{LiveSession, SessionTable, same_sid, session_of, heir, next_sid, with_session, creation_refusal}
+use Rattle.hsm_types.specs.Sessions.{SessionTable, same_sid, session_of, heir, next_sid, with_session, creation_refusal}
 use Rattle.dm_sessions.specs.Tables.{IsTable}
 use Rattle.dm_sessions.proofs.Ascending.{Ascend-remove, insert_entry-last}
 use Rattle.dm_sessions.proofs.Lookups.{Live, table-created}

@@ -1,7 +1,6 @@
-use Rattle.std.proofs.Common.{◌≡◌, ◌+◌, Some, None, length, refl, sym, ap, ◌∙◌, arith}
+use Rattle.std.proofs.Common.{◌≡◌, Some, None, sym, ap, ◌∙◌, arith}
 use Rattle.std.specs.Option.{option_copied}
-use Rattle.hsm_types.specs.Sessions.{SessionTable, session_of, dead_session, destruction_refusal}
-use Rattle.hsm_types.specs.Refusals.{first_refusal}
+use Rattle.hsm_types.specs.Sessions.{SessionTable, session_of, destruction_refusal}
 use Rattle.dm_sessions.proofs.Lookups.{table-ended, ended-none, ended-judged}
 use Rattle.dm_sessions.proofs.sessions.Sessions.destroy.Goals as goal
 

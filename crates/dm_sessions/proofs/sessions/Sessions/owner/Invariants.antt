@@ -1,6 +1,5 @@
 use Rattle.std.proofs.Common.{◌≡◌}
 use Rattle.std.specs.List.{find}
-use Rattle.hsm_types.specs.Messages.{takes}
 use Rattle.hsm_types.specs.Sessions.{LiveSession, holds}
 use Rattle.hsm_types.specs.declared.keys.Sid.{Sid}
 use Rattle.dm_sessions.proofs.sessions.Sessions.owner.Given as goal

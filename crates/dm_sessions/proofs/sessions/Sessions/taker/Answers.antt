@@ -1,12 +1,12 @@
-use Rattle.std.proofs.Common.{◌≡◌, ◌∷◌, [], Some, None, refl, sym, ap, ◌∙◌, true, false, rules}
+use Rattle.std.proofs.Common.{sym, ap, ◌∙◌, rules}
 use Rattle.std.specs.Map.Iter.{deref_pair}
 use Rattle.std.proofs.lemmas.Map.Iter.{rest_more, rest_all}
 use Rattle.std.specs.List.{find}
 use Rattle.std.specs.Option.{option_map}
 use Rattle.hsm_types.specs.Messages.{takes}
-use Rattle.hsm_types.specs.Sessions.{LiveSession, SessionTable, holds}
+use Rattle.hsm_types.specs.Sessions.{LiveSession}
 use Rattle.hsm_types.specs.declared.keys.Sid.{Sid}
-use Rattle.dm_sessions.proofs.Lookups.{find-hit, find-miss, find-end, found-held}
+use Rattle.dm_sessions.proofs.Lookups.{find-hit, find-miss, find-end}
 use Rattle.dm_sessions.proofs.sessions.Sessions.taker.Goals as goal
 
 pub loop-sid-init : goal.loop-sid-init

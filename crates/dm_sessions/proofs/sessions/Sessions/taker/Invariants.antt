@@ -1,7 +1,7 @@
 use Rattle.std.proofs.Common.{◌≡◌}
 use Rattle.std.specs.List.{find}
 use Rattle.hsm_types.specs.Messages.{takes}
-use Rattle.hsm_types.specs.Sessions.{LiveSession, holds}
+use Rattle.hsm_types.specs.Sessions.{LiveSession}
 use Rattle.hsm_types.specs.declared.keys.Sid.{Sid}
 use Rattle.dm_sessions.proofs.sessions.Sessions.taker.Given as goal
 
