@@ -1,8 +1,9 @@
 -- An event more: what becomes of a store by what became of its parts.
-use Rattle.std.proofs.Common.{◌≡◌, ◌⊎◌, ℕ, ◌+◌, List, [], ◌∷◌, ◌++◌, true, false, inl, inr, refl, sym, ◌∙◌, ap, subst, arith, length-append}
+use Rattle.std.proofs.Common.{◌≡◌, ◌⊎◌, ℕ, ◌+◌, ◌≤◌, List, [], ◌∷◌, ◌++◌, length, true, false, inl, inr, refl, sym, ◌∙◌, ap, subst, arith, length-append}
 use Rattle.std.specs.Prelude.{Result, Ok, Err, IfOk, OnOk, OnErr, IsErrOf}
 use Rattle.disk_model.specs.declared.device.Disk as disk
 use Rattle.disk_model.specs.Calls.{Rose}
+use Rattle.hsm_types.specs.declared.dm.DmRefusal.{DmRefusal}
 use Rattle.hsm_types.specs.declared.keys.FileKey.{FileKey}
 use Rattle.hsm_types.specs.declared.stores.Superblock.{Superblock}
 use Rattle.plain_model.specs.declared.entries.Entry.{Entry}
@@ -92,12 +93,12 @@ module _ {D : Type 0} (g : disk.Ghosts D) (s t : Store D) (has : HasRun s) (safe
 -- What became of the parts in an event, over that superblock and that number, by its two replies, or by why it wasn't done. The store's own reply is
 -- `own`, and `say` makes an answer of a reply.
 pub record Becomes {D R : Type 0} (g : disk.Ghosts D) (super : Superblock) (n : ℕ) (s t : Store D) (actor : Actor) (action : Action) (say : R → Answer) (own : R) (done : Result (R × R) StoreRefusal) : Type 0 where
-  pub exact : say own ≡ answer_to super (state_with s.files.held s.stamps s.sessions n) actor action
+  pub exact : say own ≡ answer_to super (state_with s.files.held s.stamps s.tables n) actor action
   pub replies : IfOk done (λ r. AreBoth own r)
-  pub leaves : OnOk done (state_with t.files.held t.stamps t.sessions (n + 1) ≡ left_own super (state_with s.files.held s.stamps s.sessions n) actor action)
+  pub leaves : OnOk done (state_with t.files.held t.stamps t.tables (n + 1) ≡ left_own super (state_with s.files.held s.stamps s.tables n) actor action)
   pub stamps : OnErr done (t.stamps ≡ s.stamps)
-  pub sessions : OnErr done (t.sessions ≡ s.sessions)
-  pub synced : is_sync (entry_of actor action (answer_to super (state_with s.files.held s.stamps s.sessions n) actor action)) ≡ true → OnOk done (IsSynced g n s.files t.files)
+  pub tables : OnErr done (t.tables ≡ s.tables)
+  pub synced : is_sync (entry_of actor action (answer_to super (state_with s.files.held s.stamps s.tables n) actor action)) ≡ true → OnOk done (IsSynced g n s.files t.files)
   pub ends : Ends g s.files n done t.files
 
 -- What is kept of it, and told.
@@ -105,6 +106,13 @@ pub record Keeps {R : Type 0} (old : List Entry) (actor : Actor) (action : Actio
   pub kept : IfOk done (λ r. (reply ≡ r.0) × (new ≡ old ++ entry_of actor action (say r.1) ∷ []))
   pub memory : IsErrOf done NoMemory → (say reply ≡ memory_of action) × (new ≡ old)
   pub failed : IsErrOf done Failed → (say reply ≡ fault_of action) × (new ≡ old ++ entry_of actor action (fault_of action) ∷ [])
+
+-- so there is at most one entry more
+pub one_more : {R : Type 0} (old new : List Entry) (actor : Actor) (action : Action) (say : R → Answer) (d : Result (R × R) StoreRefusal) (reply : R) → ((why : DmRefusal) → IsErrOf d (Part why) → ⊥) → Keeps old actor action say d reply new → length new ≤ length old + 1
+one_more old new actor action say (Ok r) reply whole keeps = rw keeps.kept.1 (omega (arith, length-append old (entry_of actor action (say r.1) ∷ [])))
+one_more old new actor action say (Err NoMemory) reply whole keeps = rw (keeps.memory refl).1 (omega arith)
+one_more old new actor action say (Err Failed) reply whole keeps = rw (keeps.failed refl).1 (omega (arith, length-append old (entry_of actor action (fault_of action) ∷ [])))
+one_more old new actor action say (Err (Part why)) reply whole keeps = absurd (whole why refl)
 
 -- what is so in any case
 pub always : {T E P : Type 0} (r : Result T E) → P → OnOk r P × OnErr r P
@@ -118,10 +126,10 @@ module _ {D R : Type 0} (g : disk.Ghosts D) (s t : Store D) (has : HasRun s) (sa
       let noted : say r.1 ≡ own_answer s actor action = ap say became.replies.1 ∙ became.exact in
       let history : t.history ≡ s.history ++ entry_of actor action (own_answer s actor action) ∷ [] = keeps.kept.1 ∙ ap (λ (a : Answer). s.history ++ entry_of actor action a ∷ []) noted in
       done g s t has safe working opened became.ends.proceeds actor action acts (say reply) told history
-      (ap (state_with t.files.held t.stamps t.sessions) (counted s t (entry_of actor action (own_answer s actor action)) opened history) ∙ became.leaves) became.ends.working became.synced
+      (ap (state_with t.files.held t.stamps t.tables) (counted s t (entry_of actor action (own_answer s actor action)) opened history) ∙ became.leaves) became.ends.working became.synced
   ended (Err NoMemory) became keeps =
       lacking g s t has safe working opened became.ends.proceeds actor action acts (say reply) (keeps.memory refl).0 (keeps.memory refl).1
-      (λ i. state_with ((became.ends.memory refl).0 i) (became.stamps i) (became.sessions i) (uncounted s t opened (keeps.memory refl).1 i)) (became.ends.memory refl).1
+      (λ i. state_with ((became.ends.memory refl).0 i) (became.stamps i) (became.tables i) (uncounted s t opened (keeps.memory refl).1 i)) (became.ends.memory refl).1
   ended (Err Failed) became keeps = faulted g s t has safe working opened became.ends.proceeds actor action acts (say reply) (keeps.failed refl).0 (keeps.failed refl).1 (became.ends.failed refl).0 (became.ends.failed refl).1
   ended (Err (Part why)) became keeps = absurd (became.ends.no_part why refl)
 

@@ -2,6 +2,9 @@ pub mod Refusing
 pub mod ListedFiles
 pub mod NamedFiles
 pub mod Calls
+pub mod Ledgers
+pub mod Awaiting
+pub mod HandedOut
 pub mod Serving
 pub mod Syncs
 pub mod Runs

@@ -12,7 +12,7 @@ use Rattle.plain_model.specs.Laws.{IsOpening, RunIsGood}
 use Rattle.plain_model.proofs.Faultless.{has_fault-push}
 use Rattle.plain_model.proofs.Histories.{state_by-push, Exact-push}
 use Rattle.file_store.specs.Stores.{superblock_of, Proceeds}
-use Rattle.hsm_core.specs.Store.{Store, state_of, HasRun}
+use Rattle.hsm_core.specs.Store.{Store, no_tables, state_of, HasRun}
 use Rattle.hsm_core.specs.Kept.{IsKept}
 
 -- the store is formatted as it was
@@ -34,13 +34,13 @@ pub true_false : {A : Type 0} (b : Bool) → b ≡ true → b ≡ false → A
 true_false b is isnt = absurd cc
 
 -- a store that was just opened
-pub HasRun-opened : {D : Type 0} (s : Store D) → s.opened ≡ s.files → s.history ≡ [] → s.stamps ≡ [] → s.sessions ≡ no_sessions → IsOpening s.files.held → HasRun s
-HasRun-opened s opened none stamps sessions opening = record {
+pub HasRun-opened : {D : Type 0} (s : Store D) → s.opened ≡ s.files → s.history ≡ [] → s.stamps ≡ [] → s.tables ≡ no_tables → IsOpening s.files.held → HasRun s
+HasRun-opened s opened none stamps tables opening = record {
   geometry = rw opened refl;
   fsid = rw opened refl;
   run = record { opening = rw opened opening; exact = rw none tt };
   faultless = λ working. rw none refl;
-  state = λ working. rw (none, opened, stamps, sessions) (ap (λ (n : ℕ). record { held = s.files.held; stamps = λ k. 0; number = n; sessions = no_sessions; ledger = no_ledger }) (plus_nothing s.files.meta.number));
+  state = λ working. rw (none, opened, stamps, tables) (ap (λ (n : ℕ). record { held = s.files.held; stamps = λ k. 0; number = n; sessions = no_sessions; ledger = no_ledger }) (plus_nothing s.files.meta.number));
 }
 
 module _ {D : Type 0} (g : disk.Ghosts D) (s t : Store D) (has : HasRun s) (n : ℕ) (opened : t.opened ≡ s.opened) (proceeds : Proceeds g s.files n t.files) where

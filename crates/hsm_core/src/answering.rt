@@ -1,6 +1,5 @@
 //! Answers to callers: judged, and done where nothing refuses them.
 ghost use Rattle.std.specs.Prelude.{◌≡◌, ◌<◌, ◌+◌, ◌^◌, false, ℕ, None, IfOk, OnOk, OnErr};
-ghost use Rattle.hsm_types.specs.Sessions.{SessionTable};
 ghost use Rattle.hsm_types.specs.declared.calls.Call.TheVariants.{Sync};
 ghost use Rattle.plain_model.specs.Ledger.{objection};
 ghost use Rattle.plain_model.specs.State.{names_of};
@@ -8,7 +7,7 @@ ghost use Rattle.plain_model.specs.Verdict.{verdict, reply_by, reply_to, left_by
 ghost use Rattle.indexmap.specs.IndexMap.{spare};
 ghost use Rattle.file_store.specs.Stores.{superblock_of, Proceeds};
 ghost use Rattle.hsm_core.specs.Ends.{Ends, AreBoth};
-ghost use Rattle.hsm_core.specs.Store.{state_with};
+ghost use Rattle.hsm_core.specs.Store.{Tables, state_with};
 ghost use Rattle.hsm_core.specs.Targets.{IsMeant, key_in};
 ghost use Rattle.hsm_core.specs.Crashes.{IsSynced};
 
@@ -34,8 +33,8 @@ pub(crate) fn answer<D: Disk>(
     requires room { 0 < spare stamps.old }
     requires number { number < 2 ^ 63 }
     requires idle { Proceeds D.Disk files.old number files.old }
-    ensures replies { (sessions : SessionTable) → IfOk result (λ r. AreBoth (reply_to (superblock_of files.old) (state_with files.old.held stamps.old.entries sessions number) call.now) r) }
-    ensures left { (sessions : SessionTable) (c : ℕ) → OnOk result (state_with files.new.held stamps.new.entries sessions (number + 1) ≡ state_after (superblock_of files.old) (state_with files.old.held stamps.old.entries sessions number) c call.now) }
+    ensures replies { (tables : Tables) → IfOk result (λ r. AreBoth (reply_to (superblock_of files.old) (state_with files.old.held stamps.old.entries tables number) call.now) r) }
+    ensures left { (tables : Tables) (c : ℕ) → OnOk result (state_with files.new.held stamps.new.entries tables (number + 1) ≡ state_after (superblock_of files.old) (state_with files.old.held stamps.old.entries tables number) c call.now) }
     ensures unstamped { OnErr result (stamps.new.entries ≡ stamps.old.entries) }
     ensures synced { call.now ≡ Sync → OnOk result (IsSynced D.Disk number files.old files.new) }
     ensures ends { Ends D.Disk files.old number result files.new }
@@ -61,8 +60,8 @@ fn decide<D: Disk>(
     requires idle { Proceeds D.Disk files.old number files.old }
     requires lawful { objection (superblock_of files.old) (names_of files.old.held.files) call.now ≡ None }
     requires meant { IsMeant files.old.held.files call.now target }
-    ensures replies { (sessions : SessionTable) → IfOk result (λ r. let st = state_with files.old.held stamps.old.entries sessions number in AreBoth (reply_by st (key_in target) call.now (verdict (superblock_of files.old) st (key_in target) call.now)) r) }
-    ensures left { (sessions : SessionTable) (c : ℕ) → OnOk result (let st = state_with files.old.held stamps.old.entries sessions number in state_with files.new.held stamps.new.entries sessions (number + 1) ≡ left_by_verdict st c (key_in target) call.now (verdict (superblock_of files.old) st (key_in target) call.now)) }
+    ensures replies { (tables : Tables) → IfOk result (λ r. let st = state_with files.old.held stamps.old.entries tables number in AreBoth (reply_by st (key_in target) call.now (verdict (superblock_of files.old) st (key_in target) call.now)) r) }
+    ensures left { (tables : Tables) (c : ℕ) → OnOk result (let st = state_with files.old.held stamps.old.entries tables number in state_with files.new.held stamps.new.entries tables (number + 1) ≡ left_by_verdict st c (key_in target) call.now (verdict (superblock_of files.old) st (key_in target) call.now)) }
     ensures unstamped { OnErr result (stamps.new.entries ≡ stamps.old.entries) }
     ensures synced { call.now ≡ Sync → OnOk result (IsSynced D.Disk number files.old files.new) }
     ensures ends { Ends D.Disk files.old number result files.new }

@@ -9,5 +9,6 @@ mod refusals;
 mod services;
 mod stamps;
 mod store;
+mod tables;
 
 pub use store::Hsm;

@@ -1,5 +1,5 @@
 //! The store with its history.
-ghost use Rattle.std.specs.Prelude.{◌≡◌, ◌⊎◌, ◌<◌, ◌≤◌, ◌++◌, [], ◌∷◌, true, false, List, ℕ, vec_len, vec_capacity, IfOk, IfErr, OnOk, OnErr, IsErrOf};
+ghost use Rattle.std.specs.Prelude.{◌≡◌, ◌⊎◌, ◌<◌, ◌≤◌, ◌+◌, ◌^◌, ◌++◌, [], ◌∷◌, true, false, List, ℕ, vec_len, vec_capacity, IfOk, IfErr, OnOk, OnErr, IsOk, IsErrOf};
 ghost use Rattle.disk_model.specs.Calls.{Rose, HasCause};
 ghost use Rattle.disk_model.specs.Images.{Alike};
 ghost use Rattle.disk_model.specs.Moments.{MayBe, LeavesOnly, Keeps, Same};
@@ -9,20 +9,25 @@ ghost use Rattle.meta_store.specs.Catalogs.{geometry_of};
 ghost use Rattle.meta_store.specs.Images.{IsCorruptAt};
 ghost use Rattle.file_store.specs.Stores.{IsLawful, IsDurable, Proceeds};
 ghost use Rattle.indexmap.specs.IndexMap.{spare};
-ghost use Rattle.hsm_types.specs.Sessions.{no_sessions};
 ghost use Rattle.hsm_core.specs.Answers.{entry_of, IsAnswered, IsTold, IsCommitted};
 ghost use Rattle.hsm_core.specs.Crashes.{IsPrefix, IsSafeNow};
 ghost use Rattle.hsm_core.specs.Kept.{IsKept};
+ghost use Rattle.hsm_types.specs.declared.dm.DmCall.TheVariants.{Respond, CreateUserEvent};
+ghost use Rattle.hsm_core.specs.Services.{is_due, entries_for, awaited_after};
+ghost use Rattle.hsm_core.specs.Store.{no_tables};
 
 use crate::answering::answer;
 use crate::performing::commit;
 use crate::services::serve;
 use crate::stamps::make_room;
+use crate::tables::Tables;
 use commit_slots::CommitSlots;
 use disk_model::{Disk, Failed, OpenRefusal};
 use dm_sessions::Sessions;
 use file_store::{FileStore, StoreRefusal};
-use hsm_types::{Call, CallRefusal, CallerId, DmCall, DmRefusal, DmReply, FileKey, Reply, Sid};
+use hsm_types::{
+    Call, CallRefusal, CallerId, DmCall, DmRefusal, DmReply, FileKey, Reply, Response, Sid, Token,
+};
 use indexmap::IndexMap;
 use plain_model::{Action, Actor, Answer, Entry, History, run_is_good};
 use std::alloc::Global;
@@ -37,33 +42,38 @@ pub struct Hsm<D: Disk> {
     /// The number of the snapshot that was opened.
     base: u64,
     stamps: IndexMap<FileKey, u64>,
-    sessions: Sessions,
+    tables: Tables,
     history: Vec<Entry>,
+    /// How many responses may come. For each there is room in the history.
+    awaited: usize,
 }
 
 impl<D: Disk> Model for Hsm<D> {
-    ghost use Rattle.std.specs.Prelude.{◌≡◌, ◌≤◌, ◌^◌};
-    ghost use Rattle.hsm_core.specs.Store.{Store, HasRun};
+    ghost use Rattle.std.specs.Prelude.{◌≡◌, ◌≤◌, ◌+◌, ◌^◌, vec_len, vec_capacity};
+    ghost use Rattle.hsm_core.specs.Store.{Store, HasRun, awaited_in};
     ghost use Rattle.hsm_core.specs.Crashes.{IsSafe};
 
     ghost Value = { Store D };
 
-    ghost view = { λ h. record { opened = h.opened.value; files = h.files; stamps = h.stamps.entries; sessions = h.sessions; history = h.history.items } };
+    ghost view = { λ h. record { opened = h.opened.value; files = h.files; stamps = h.stamps.entries; tables = h.tables; history = h.history.items } };
 
-    ghost invariant = { λ h. HasRun (record { opened = h.opened.value; files = h.files; stamps = h.stamps.entries; sessions = h.sessions; history = h.history.items })
-        × IsSafe D.Disk (record { opened = h.opened.value; files = h.files; stamps = h.stamps.entries; sessions = h.sessions; history = h.history.items })
-        × (h.base ≡ h.opened.value.meta.number) × (h.base ≤ 2 ^ 62) };
+    ghost invariant = { λ h. HasRun (record { opened = h.opened.value; files = h.files; stamps = h.stamps.entries; tables = h.tables; history = h.history.items })
+        × IsSafe D.Disk (record { opened = h.opened.value; files = h.files; stamps = h.stamps.entries; tables = h.tables; history = h.history.items })
+        × (h.base ≡ h.opened.value.meta.number) × (h.base ≤ 2 ^ 62)
+        × (h.awaited ≡ awaited_in h.tables) × (vec_len h.history + h.awaited ≤ vec_capacity h.history) };
 }
 
-/// Makes room for an entry and a stamp, unless a call of the disk has failed before.
+/// Makes room for so many entries beside those that are set apart, unless a call of the disk has failed before.
 fn make_ready<D: Disk>(
     files: &FileStore<D>,
     history: &mut Vec<Entry>,
-    stamps: &mut IndexMap<FileKey, u64>,
+    awaited: usize,
+    more: usize,
 ) -> Result<(), StoreRefusal>
     ensures same { history.new.items ≡ history.old.items }
-    ensures stamps { stamps.new.entries ≡ stamps.old.entries }
-    ensures room { OnOk result ((vec_len history.new < vec_capacity history.new) × (0 < spare stamps.new)) }
+    ensures room { OnOk result ((vec_len history.new + awaited + more ≤ vec_capacity history.new) × (awaited + more < 2 ^ 64)) }
+    ensures keeps { vec_capacity history.old ≤ vec_capacity history.new }
+    ensures there { files.now.failed ≡ false → more ≡ 0 → vec_len history.old + awaited ≤ vec_capacity history.old → IsOk result }
     ensures working { OnOk result (files.now.failed ≡ false) }
     ensures idle { files.now.failed ≡ false → (n : ℕ) → Proceeds D.Disk files.now n files.now }
     ensures refused { IfErr result (λ why. (why ≡ StoreRefusal.Disk) × (files.now.failed ≡ true) ⊎ (why ≡ StoreRefusal.Memory) × (files.now.failed ≡ false)) }
@@ -71,9 +81,63 @@ fn make_ready<D: Disk>(
     if files.has_failed() {
         return Err(StoreRefusal::Disk);
     }
-    match (history.reserve(1), make_room(stamps)) {
-        (Ok(()), Ok(())) => Ok(()),
-        _ => Err(StoreRefusal::Memory),
+    let entries = awaited.checked_add(more).ok_or(StoreRefusal::Memory)?;
+    history.reserve(entries)?;
+    Ok(())
+}
+
+/// Makes room for an entry and a stamp, likewise.
+fn make_ready_for_access<D: Disk>(
+    files: &FileStore<D>,
+    history: &mut Vec<Entry>,
+    awaited: usize,
+    stamps: &mut IndexMap<FileKey, u64>,
+) -> Result<(), StoreRefusal>
+    ensures same { history.new.items ≡ history.old.items }
+    ensures stamps { stamps.new.entries ≡ stamps.old.entries }
+    ensures room { OnOk result ((vec_len history.new + awaited + 1 ≤ vec_capacity history.new) × (0 < spare stamps.new)) }
+    ensures keeps { vec_capacity history.old ≤ vec_capacity history.new }
+    ensures working { OnOk result (files.now.failed ≡ false) }
+    ensures idle { files.now.failed ≡ false → (n : ℕ) → Proceeds D.Disk files.now n files.now }
+    ensures refused { IfErr result (λ why. (why ≡ StoreRefusal.Disk) × (files.now.failed ≡ true) ⊎ (why ≡ StoreRefusal.Memory) × (files.now.failed ≡ false)) }
+{
+    make_ready(files, history, awaited, 1)?;
+    make_room(stamps)?;
+    Ok(())
+}
+
+/// How many entries must have room for a session's call, beside those that are set apart.
+fn entries_for(tables: &Tables, sid: Sid, call: &DmCall) -> usize
+    ensures { result ≡ entries_for tables.now.sessions sid call.now }
+{
+    match call {
+        DmCall::CreateUserEvent { .. } => 2,
+        DmCall::Respond { token, response } if is_due(&tables.sessions, sid, *token, *response) =>
+            0,
+        _ => 1,
+    }
+}
+
+/// Whether it is a lawful response to a token that is outstanding to the session.
+fn is_due(sessions: &Sessions, sid: Sid, token: Token, response: Response) -> bool
+    ensures { result ≡ is_due sessions.now sid (Respond token response) }
+{
+    token.0 != 0 && response.is_lawful() && sessions.admit(sid, token).is_ok()
+}
+
+/// How many responses may come after a call that ended so.
+fn awaited_after(
+    awaited: usize,
+    call: &DmCall,
+    done: &Result<(DmReply, DmReply), StoreRefusal>,
+) -> usize
+    requires { (body : List ℕ) → call.now ≡ CreateUserEvent body → awaited + 1 < 2 ^ 64 }
+    ensures { result ≡ awaited_after call.now done.now awaited }
+{
+    match (call, done) {
+        (DmCall::CreateUserEvent { .. }, Ok((DmReply::Token(_), _))) => awaited + 1,
+        (DmCall::Respond { .. }, Ok((DmReply::Done, _))) => awaited.saturating_sub(1),
+        _ => awaited,
     }
 }
 
@@ -102,7 +166,8 @@ fn unserved(why: StoreRefusal) -> DmReply
 /// Keeps an entry, for which there is room.
 fn note(history: &mut Vec<Entry>, actor: Actor, action: Action, answer: Answer)
     requires { vec_len history.old < vec_capacity history.old }
-    ensures { history.new.items ≡ history.old.items ++ entry_of actor action answer ∷ [] }
+    ensures noted { history.new.items ≡ history.old.items ++ entry_of actor action answer ∷ [] }
+    ensures room { vec_capacity history.old ≤ vec_capacity history.new }
 {
     history
         .push(Entry {
@@ -122,6 +187,7 @@ fn keep(
 ) -> Reply
     requires { vec_len history.old < vec_capacity history.old }
     ensures kept { IfOk done (λ r. (result ≡ r.0) × (history.new.items ≡ history.old.items ++ entry_of actor action (Answer.Call r.1) ∷ [])) }
+    ensures room { vec_capacity history.old ≤ vec_capacity history.new }
     ensures memory { IsErrOf done StoreRefusal.Memory → (result ≡ Reply.Refused CallRefusal.Memory) × (history.new.items ≡ history.old.items) }
     ensures failed { IsErrOf done StoreRefusal.Disk → (result ≡ Reply.Refused CallRefusal.Disk) × (history.new.items ≡ history.old.items ++ entry_of actor action (Answer.Call (Reply.Refused CallRefusal.Disk)) ∷ []) }
 {
@@ -146,6 +212,7 @@ fn keep_dm(
 ) -> DmReply
     requires { vec_len history.old < vec_capacity history.old }
     ensures kept { IfOk done (λ r. (result ≡ r.0) × (history.new.items ≡ history.old.items ++ entry_of (Actor.Session sid) (Action.Dm call) (Answer.Dm r.1) ∷ [])) }
+    ensures room { vec_capacity history.old ≤ vec_capacity history.new }
     ensures memory { IsErrOf done StoreRefusal.Memory → (result ≡ DmReply.Refused DmRefusal.Memory) × (history.new.items ≡ history.old.items) }
     ensures failed { IsErrOf done StoreRefusal.Disk → (result ≡ DmReply.Refused DmRefusal.Disk) × (history.new.items ≡ history.old.items ++ entry_of (Actor.Session sid) (Action.Dm call) (Answer.Dm (DmReply.Refused DmRefusal.Disk)) ∷ []) }
 {
@@ -186,7 +253,7 @@ impl<D: Disk> Hsm<D> {
 
         // Ok: what it holds is what recovery finds from now on.
         ensures opened { IfOk result (λ s. (s.opened ≡ s.files) × (s.history ≡ [])) }
-        ensures anew { IfOk result (λ s. (s.sessions ≡ no_sessions) × (s.stamps ≡ [])) }
+        ensures anew { IfOk result (λ s. (s.tables ≡ no_tables) × (s.stamps ≡ [])) }
         ensures found { IfOk result (λ s. (s.files.held ≡ s.files.durable) × (s.files.failed ≡ false)) }
         ensures durable { IfOk result (λ s. (c : List ℕ) → MayBe D.Disk s.files.disk c → IsDurable s.files c) }
         ensures lawful { IfOk result (λ s. IsLawful (geometry_of s.files.meta.durable.geometry).files s.files.held) }
@@ -205,8 +272,12 @@ impl<D: Disk> Hsm<D> {
                 base: files.meta().number(),
                 files,
                 stamps: IndexMap::new(alloc),
-                sessions,
+                tables: Tables {
+                    sessions,
+                    tokens: 0,
+                },
                 history: Vec::new(alloc),
+                awaited: 0,
             }),
             Err(refusal) => Err(refusal),
         }
@@ -218,7 +289,13 @@ impl<D: Disk> Hsm<D> {
         ensures answered { IsAnswered D.Disk self.old caller call result self.new }
         ensures safe { IsSafeNow D.Disk self.new }
     {
-        if let Err(why) = make_ready(&self.files, &mut self.history, &mut self.stamps) {
+        let awaited = self.awaited;
+        if let Err(why) = make_ready_for_access(
+            &self.files,
+            &mut self.history,
+            awaited,
+            &mut self.stamps,
+        ) {
             return undone(why);
         }
         let number = self.base + self.history.len() as u64;
@@ -231,24 +308,29 @@ impl<D: Disk> Hsm<D> {
         )
     }
 
-    /// Answers a session's call, and keeps it in the history. It is refused for want of memory, and by a closed store, as calls are.
+    /// Answers a session's call, and keeps it in the history. It is refused for want of memory, and by a closed store, as calls are; but there is
+    /// always memory for a lawful response to a token that is outstanding to the session.
     pub fn dm(&mut self, alloc: Global, sid: Sid, call: DmCall) -> DmReply
         ensures told { IsTold D.Disk self.old sid call result self.new }
+        ensures responds { is_due self.old.tables.sessions sid call ≡ true → self.old.files.failed ≡ false → result ≡ DmReply.Done }
         ensures safe { IsSafeNow D.Disk self.new }
     {
-        if let Err(why) = make_ready(&self.files, &mut self.history, &mut self.stamps) {
+        let awaited = self.awaited;
+        let more = entries_for(&self.tables, sid, &call);
+        if let Err(why) = make_ready(&self.files, &mut self.history, awaited, more) {
             return unserved(why);
         }
         let number = self.base + self.history.len() as u64;
         let done = serve(
             &mut self.files,
             &self.stamps,
-            &mut self.sessions,
+            &mut self.tables,
             alloc,
             sid,
             &call,
             number,
         );
+        self.awaited = awaited_after(awaited, &call, &done);
         keep_dm(&mut self.history, sid, call, done)
     }
 
@@ -257,7 +339,8 @@ impl<D: Disk> Hsm<D> {
         ensures committed { IsCommitted D.Disk self.old result self.new }
         ensures safe { IsSafeNow D.Disk self.new }
     {
-        if let Err(why) = make_ready(&self.files, &mut self.history, &mut self.stamps) {
+        let awaited = self.awaited;
+        if let Err(why) = make_ready(&self.files, &mut self.history, awaited, 1) {
             return undone(why);
         }
         let number = self.base + self.history.len() as u64;

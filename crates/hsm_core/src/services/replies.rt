@@ -20,12 +20,19 @@ pub(crate) fn refused(why: DmRefusal) -> (DmReply, DmReply)
     (DmReply::Refused(why), DmReply::Refused(why))
 }
 
-/// The replies to a change of what is kept with a file.
-pub(crate) fn changed(done: Result<(), StoreRefusal>) -> Result<(DmReply, DmReply), StoreRefusal>
-    ensures { result ≡ replies_to done }
+/// The replies to a call that is done.
+pub(crate) fn done() -> (DmReply, DmReply)
+    ensures { AreBoth DmReply.Done result }
 {
-    match done {
-        Ok(()) => Ok((DmReply::Done, DmReply::Done)),
+    (DmReply::Done, DmReply::Done)
+}
+
+/// The replies to a change of what is kept with a file.
+pub(crate) fn changed(ended: Result<(), StoreRefusal>) -> Result<(DmReply, DmReply), StoreRefusal>
+    ensures { result ≡ replies_to ended }
+{
+    match ended {
+        Ok(()) => Ok(done()),
         Err(StoreRefusal::Part(why)) => Ok(refused(why)),
         Err(why) => Err(why),
     }

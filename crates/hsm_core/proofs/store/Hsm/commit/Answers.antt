@@ -5,47 +5,54 @@ use Rattle.plain_model.specs.declared.entries.Action.TheVariants.{Commit}
 use Rattle.plain_model.specs.declared.entries.Answer.TheVariants.{Call as Replied}
 use Rattle.hsm_core.specs.Store.{Store, state_with}
 use Rattle.hsm_core.specs.Answers.{IsCommitted}
-use Rattle.hsm_core.proofs.Events.{event, always, not_begun, IsNext}
+use Rattle.hsm_core.proofs.Events.{event, always, not_begun, one_more, IsNext, Keeps}
 use Rattle.hsm_core.proofs.store.Hsm.commit.Given.{Over}
 use Rattle.hsm_core.proofs.store.Hsm.commit.Goals.{After-keep}
 use Rattle.hsm_core.proofs.store.Hsm.commit.Goals as goal
 
 -- the store before the commit, and after it
 abbrev before : (g : Over) → After-keep g → Store g.row.D.Denot
-before g c = record { opened = c.self.inside.opened.value; files = c.self.inside.files; stamps = c.self.inside.stamps.entries; sessions = c.self.inside.sessions; history = c.self.inside.history.items }
+before g c = record { opened = c.self.inside.opened.value; files = c.self.inside.files; stamps = c.self.inside.stamps.entries; tables = c.self.inside.tables; history = c.self.inside.history.items }
 
 abbrev after : (g : Over) → After-keep g → Store g.row.D.Denot
-after g c = record { opened = c.self.inside.opened.value; files = c.commit-done.new.files; stamps = c.make_ready.new.stamps.entries; sessions = c.self.inside.sessions; history = c.keep.new.history.items }
+after g c = record { opened = c.self.inside.opened.value; files = c.commit-done.new.files; stamps = c.self.inside.stamps.entries; tables = c.self.inside.tables; history = c.keep.new.history.items }
+
+keeps : (g : Over) (c : After-keep g) → Keeps c.make_ready.new.history.items TheStore Commit (λ (r : Reply). Replied r) c.commit-done.result c.keep.result c.keep.new.history.items
+keeps g c = record {
+  kept = c.keep.ensures.kept;
+  memory = λ lacks. (ap (λ (r : Reply). Replied r) (c.keep.ensures.memory lacks).0, (c.keep.ensures.memory lacks).1);
+  failed = λ fails. (ap (λ (r : Reply). Replied r) (c.keep.ensures.failed fails).0, (c.keep.ensures.failed fails).1);
+}
 
 next : (g : Over) (c : After-keep g) → IsNext g.D.Disk (before g c) TheStore Commit (Replied c.keep.result) (after g c)
 next g c =
-    event g.D.Disk (before g c) c.self.invariant.0 c.self.invariant.1 c.make_ready.new.stamps.entries c.make_ready.new.history.items c.make_ready.ensures.stamps c.make_ready.ensures.same (after g c) c.in_default.ensures.working refl
+    event g.D.Disk (before g c) c.self.invariant.0 c.self.invariant.1 c.self.inside.stamps.entries c.make_ready.new.history.items refl c.make_ready.ensures.same (after g c) c.in_default.ensures.working refl
     TheStore Commit tt (λ (r : Reply). Replied r) _ c.keep.result _ (omega (arith, c.self.invariant.2, c.len.ensures)) c.commit-done.result
     (record {
       exact = refl;
       replies = c.commit-done.ensures.reply;
-      leaves = (always c.commit-done.result (λ i. state_with (c.commit-done.ensures.held i) c.make_ready.new.stamps.entries c.self.inside.sessions (c.self.inside.base + c.len.result + 1))).0;
+      leaves = (always c.commit-done.result (λ i. state_with (c.commit-done.ensures.held i) c.self.inside.stamps.entries c.self.inside.tables (c.self.inside.base + c.len.result + 1))).0;
       stamps = (always c.commit-done.result refl).1;
-      sessions = (always c.commit-done.result refl).1;
+      tables = (always c.commit-done.result refl).1;
       synced = λ syncs. c.commit-done.ensures.synced;
       ends = c.commit-done.ensures.ends;
     })
-    (record {
-      kept = c.keep.ensures.kept;
-      memory = λ lacks. (ap (λ (r : Reply). Replied r) (c.keep.ensures.memory lacks).0, (c.keep.ensures.memory lacks).1);
-      failed = λ fails. (ap (λ (r : Reply). Replied r) (c.keep.ensures.failed fails).0, (c.keep.ensures.failed fails).1);
-    })
+    (keeps g c)
 
 pub returns-in-Err-clause-committed : goal.returns-in-Err-clause-committed
 returns-in-Err-clause-committed g c =
-    let s : Store g.row.D.Denot = record { opened = c.self.inside.opened.value; files = c.self.inside.files; stamps = c.self.inside.stamps.entries; sessions = c.self.inside.sessions; history = c.self.inside.history.items } in
-    let t : Store g.row.D.Denot = record s { stamps = c.make_ready.new.stamps.entries; history = c.make_ready.new.history.items } in
+    let s : Store g.row.D.Denot = record { opened = c.self.inside.opened.value; files = c.self.inside.files; stamps = c.self.inside.stamps.entries; tables = c.self.inside.tables; history = c.self.inside.history.items } in
+    let t : Store g.row.D.Denot = record s { stamps = c.self.inside.stamps.entries; history = c.make_ready.new.history.items } in
     subst (λ (old : Store g.row.D.Denot). IsCommitted g.D.Disk old c.undone.result t) c.self.view_is
-    (not_begun g.D.Disk s c.self.invariant.0 c.self.invariant.1 c.make_ready.new.stamps.entries c.make_ready.new.history.items c.make_ready.ensures.stamps c.make_ready.ensures.same TheStore Commit tt (Replied c.undone.result) c.in-Err.why c.make_ready.ensures.idle
+    (not_begun g.D.Disk s c.self.invariant.0 c.self.invariant.1 c.self.inside.stamps.entries c.make_ready.new.history.items refl c.make_ready.ensures.same TheStore Commit tt (Replied c.undone.result) c.in-Err.why c.make_ready.ensures.idle
     (record { memory = λ is. ap (λ (r : Reply). Replied r) (c.undone.ensures.memory is); failed = λ is. ap (λ (r : Reply). Replied r) (c.undone.ensures.failed is) }) c.in-Err.ensures.refused)
 
 pub invariant_of-self-2 : goal.invariant_of-self-2
-invariant_of-self-2 g c = let is = next g (goal.at.invariant_of-self-2 g c).After-keep in (is.0, is.1, c.self.invariant.2, c.self.invariant.3)
+invariant_of-self-2 g c =
+    let at = (goal.at.invariant_of-self-2 g c).After-keep in
+    let is = next g at in
+    let more = one_more c.make_ready.new.history.items c.keep.new.history.items TheStore Commit (λ (r : Reply). Replied r) c.commit-done.result c.keep.result c.commit-done.ensures.ends.no_part (keeps g at) in
+    (is.0, is.1, c.self.invariant.2, c.self.invariant.3, c.self.invariant.4, omega (arith, more, c.in_default.ensures.room.0, c.keep.ensures.room))
 
 pub returns-clause-committed : goal.returns-clause-committed
 returns-clause-committed g c = subst (λ (old : Store g.row.D.Denot). IsCommitted g.D.Disk old c.keep.result (after g (goal.at.returns-clause-committed g c).After-keep)) c.self.view_is (next g (goal.at.returns-clause-committed g c).After-keep).2

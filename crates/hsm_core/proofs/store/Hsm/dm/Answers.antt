@@ -1,54 +1,94 @@
-use Rattle.std.proofs.Common.{refl, ap, subst, arith}
+use Rattle.std.proofs.Common.{◌≡◌, ◌+◌, ◌≤◌, true, false, refl, sym, ◌∙◌, ap, subst, arith}
 use Rattle.hsm_types.specs.declared.dm.DmReply.{DmReply}
+use Rattle.hsm_types.specs.declared.dm.DmReply.TheVariants.{Done as DmDone}
 use Rattle.plain_model.specs.declared.entries.Actor.TheVariants.{Session}
 use Rattle.plain_model.specs.declared.entries.Action.TheVariants.{Dm}
 use Rattle.plain_model.specs.declared.entries.Answer.TheVariants.{Dm as Told}
-use Rattle.hsm_core.specs.Store.{Store}
+use Rattle.hsm_core.specs.Services.{is_due, entries_for, awaited_after}
+use Rattle.hsm_core.specs.Store.{Store, state_with, awaited_in}
+use Rattle.hsm_core.proofs.Awaiting.{in_order, told_awaits, has_room, due_done, told_done}
+use Rattle.file_store.specs.Stores.{superblock_of}
 use Rattle.hsm_core.specs.Answers.{IsTold}
-use Rattle.hsm_core.proofs.Events.{event, always, not_begun, IsNext}
+use Rattle.hsm_core.proofs.Events.{event, always, not_begun, one_more, IsNext, Keeps}
 use Rattle.hsm_core.proofs.store.Hsm.dm.Given.{Over}
-use Rattle.hsm_core.proofs.store.Hsm.dm.Goals.{After-keep_dm}
+use Rattle.hsm_core.proofs.store.Hsm.dm.Goals.{After-serve-done, After-keep_dm}
 use Rattle.hsm_core.proofs.store.Hsm.dm.Goals as goal
 
 -- the store before the call, and after it
 abbrev before : (g : Over) → After-keep_dm g → Store g.row.D.Denot
-before g c = record { opened = c.self.inside.opened.value; files = c.self.inside.files; stamps = c.self.inside.stamps.entries; sessions = c.self.inside.sessions; history = c.self.inside.history.items }
+before g c = record { opened = c.self.inside.opened.value; files = c.self.inside.files; stamps = c.self.inside.stamps.entries; tables = c.self.inside.tables; history = c.self.inside.history.items }
 
 abbrev after : (g : Over) → After-keep_dm g → Store g.row.D.Denot
-after g c = record { opened = c.self.inside.opened.value; files = c.serve-done.new.files; stamps = c.make_ready.new.stamps.entries; sessions = c.serve-done.new.sessions; history = c.keep_dm.new.history.items }
+after g c = record { opened = c.self.inside.opened.value; files = c.serve-done.new.files; stamps = c.self.inside.stamps.entries; tables = c.serve-done.new.tables; history = c.keep_dm.new.history.items }
+
+keeps : (g : Over) (c : After-keep_dm g) → Keeps c.make_ready.new.history.items (Session c.args.sid) (Dm c.args.call) (λ (r : DmReply). Told r) c.serve-done.result c.keep_dm.result c.keep_dm.new.history.items
+keeps g c = record {
+  kept = c.keep_dm.ensures.kept;
+  memory = λ lacks. (ap (λ (r : DmReply). Told r) (c.keep_dm.ensures.memory lacks).0, (c.keep_dm.ensures.memory lacks).1);
+  failed = λ fails. (ap (λ (r : DmReply). Told r) (c.keep_dm.ensures.failed fails).0, (c.keep_dm.ensures.failed fails).1);
+}
 
 next : (g : Over) (c : After-keep_dm g) → IsNext g.D.Disk (before g c) (Session c.args.sid) (Dm c.args.call) (Told c.keep_dm.result) (after g c)
 next g c =
-    event g.D.Disk (before g c) c.self.invariant.0 c.self.invariant.1 c.make_ready.new.stamps.entries c.make_ready.new.history.items c.make_ready.ensures.stamps c.make_ready.ensures.same (after g c) c.in_default.ensures.working refl
+    event g.D.Disk (before g c) c.self.invariant.0 c.self.invariant.1 c.self.inside.stamps.entries c.make_ready.new.history.items refl c.make_ready.ensures.same (after g c) c.in_default.ensures.working refl
     (Session c.args.sid) (Dm c.args.call) tt (λ (r : DmReply). Told r) _ c.keep_dm.result _ (omega (arith, c.self.invariant.2, c.len.ensures)) c.serve-done.result
     (record {
       exact = refl;
       replies = c.serve-done.ensures.replies;
       leaves = c.serve-done.ensures.left;
       stamps = (always c.serve-done.result refl).1;
-      sessions = c.serve-done.ensures.err;
+      tables = c.serve-done.ensures.err;
       synced = λ syncs. absurd cc;
       ends = c.serve-done.ensures.ends;
     })
-    (record {
-      kept = c.keep_dm.ensures.kept;
-      memory = λ lacks. (ap (λ (r : DmReply). Told r) (c.keep_dm.ensures.memory lacks).0, (c.keep_dm.ensures.memory lacks).1);
-      failed = λ fails. (ap (λ (r : DmReply). Told r) (c.keep_dm.ensures.failed fails).0, (c.keep_dm.ensures.failed fails).1);
-    })
+    (keeps g c)
 
 pub returns-in-Err-clause-told : goal.returns-in-Err-clause-told
 returns-in-Err-clause-told g c =
-    let s : Store g.row.D.Denot = record { opened = c.self.inside.opened.value; files = c.self.inside.files; stamps = c.self.inside.stamps.entries; sessions = c.self.inside.sessions; history = c.self.inside.history.items } in
-    let t : Store g.row.D.Denot = record s { stamps = c.make_ready.new.stamps.entries; history = c.make_ready.new.history.items } in
+    let s : Store g.row.D.Denot = record { opened = c.self.inside.opened.value; files = c.self.inside.files; stamps = c.self.inside.stamps.entries; tables = c.self.inside.tables; history = c.self.inside.history.items } in
+    let t : Store g.row.D.Denot = record s { stamps = c.self.inside.stamps.entries; history = c.make_ready.new.history.items } in
     subst (λ (old : Store g.row.D.Denot). IsTold g.D.Disk old c.args.sid c.args.call c.unserved.result t) c.self.view_is
-    (not_begun g.D.Disk s c.self.invariant.0 c.self.invariant.1 c.make_ready.new.stamps.entries c.make_ready.new.history.items c.make_ready.ensures.stamps c.make_ready.ensures.same (Session c.args.sid) (Dm c.args.call) tt (Told c.unserved.result) c.in-Err.why c.make_ready.ensures.idle
+    (not_begun g.D.Disk s c.self.invariant.0 c.self.invariant.1 c.self.inside.stamps.entries c.make_ready.new.history.items refl c.make_ready.ensures.same (Session c.args.sid) (Dm c.args.call) tt (Told c.unserved.result) c.in-Err.why c.make_ready.ensures.idle
     (record { memory = λ is. ap (λ (r : DmReply). Told r) (c.unserved.ensures.memory is); failed = λ is. ap (λ (r : DmReply). Told r) (c.unserved.ensures.failed is) }) c.in-Err.ensures.refused)
 
 pub serve-done-requires-clause-idle : goal.serve-done-requires-clause-idle
 serve-done-requires-clause-idle g c = c.make_ready.ensures.idle c.in_default.ensures.working _
 
+pub serve-done-requires-clause-ordered : goal.serve-done-requires-clause-ordered
+serve-done-requires-clause-ordered g c =
+    in_order (record { opened = c.self.inside.opened.value; files = c.self.inside.files; stamps = c.self.inside.stamps.entries; tables = c.self.inside.tables; history = c.self.inside.history.items })
+    c.self.invariant.0 c.in_default.ensures.working c.self.inside.files.held c.self.inside.stamps.entries _
+
+-- how many responses may come after it, and that there is room for each
+counted : (g : Over) (c : After-serve-done g) → (awaited_in c.serve-done.new.tables ≡ awaited_after c.args.call c.serve-done.result (awaited_in c.self.inside.tables))
+    × (awaited_after c.args.call c.serve-done.result (awaited_in c.self.inside.tables) + 1 ≤ awaited_in c.self.inside.tables + entries_for c.self.inside.tables.sessions c.args.sid c.args.call)
+counted g c =
+    let s : Store g.row.D.Denot = record { opened = c.self.inside.opened.value; files = c.self.inside.files; stamps = c.self.inside.stamps.entries; tables = c.self.inside.tables; history = c.self.inside.history.items } in
+    let is = told_awaits (superblock_of c.self.inside.files) c.self.inside.files.held c.serve-done.new.files.held c.self.inside.stamps.entries c.self.inside.tables c.serve-done.new.tables _ c.args.sid c.args.call
+    (in_order s c.self.invariant.0 c.in_default.ensures.working c.self.inside.files.held c.self.inside.stamps.entries _)
+    c.serve-done.result c.serve-done.ensures.replies c.serve-done.ensures.left c.serve-done.ensures.err in
+    (is.0, has_room c.self.inside.tables.sessions c.args.sid c.args.call c.serve-done.result (awaited_in c.self.inside.tables) c.serve-done.ensures.responds is.1)
+
+pub keep_dm-requires : goal.keep_dm-requires
+keep_dm-requires g c =
+    let count = counted g (goal.at.keep_dm-requires g c).After-serve-done in
+    omega (arith, count.1, c.in_default.ensures.room.0, c.self.invariant.4, c.entries_for-more.ensures)
+
 pub invariant_of-self-2 : goal.invariant_of-self-2
-invariant_of-self-2 g c = let is = next g (goal.at.invariant_of-self-2 g c).After-keep_dm in (is.0, is.1, c.self.invariant.2, c.self.invariant.3)
+invariant_of-self-2 g c =
+    let at = (goal.at.invariant_of-self-2 g c).After-keep_dm in
+    let is = next g at in
+    let count = counted g (goal.at.invariant_of-self-2 g c).After-serve-done in
+    let after : c.awaited_after-self-inside.result ≡ awaited_after c.args.call c.serve-done.result (awaited_in c.self.inside.tables) =
+    c.awaited_after-self-inside.ensures ∙ ap (λ n. awaited_after c.args.call c.serve-done.result n) c.self.invariant.4 in
+    let more = one_more c.make_ready.new.history.items c.keep_dm.new.history.items (Session c.args.sid) (Dm c.args.call) (λ (r : DmReply). Told r) c.serve-done.result c.keep_dm.result c.serve-done.ensures.ends.no_part (keeps g at) in (
+      is.0,
+      is.1,
+      c.self.invariant.2,
+      c.self.invariant.3,
+      after ∙ sym count.0,
+      omega (arith, more, after, count.1, c.in_default.ensures.room.0, c.keep_dm.ensures.room, c.self.invariant.4, c.entries_for-more.ensures),
+    )
 
 pub returns-clause-told : goal.returns-clause-told
 returns-clause-told g c = subst (λ (old : Store g.row.D.Denot). IsTold g.D.Disk old c.args.sid c.args.call c.keep_dm.result (after g (goal.at.returns-clause-told g c).After-keep_dm)) c.self.view_is (next g (goal.at.returns-clause-told g c).After-keep_dm).2
@@ -58,3 +98,10 @@ returns-clause-safe g c = (next g (goal.at.returns-clause-safe g c).After-keep_d
 
 pub returns-in-Err-clause-safe : goal.returns-in-Err-clause-safe
 returns-in-Err-clause-safe g c = rw (c.make_ready.ensures.same) c.self.invariant.1.now
+
+pub returns-clause-responds : goal.returns-clause-responds
+returns-clause-responds g c =
+    subst (λ (old : Store g.row.D.Denot). is_due old.tables.sessions c.args.sid c.args.call ≡ true → old.files.failed ≡ false → c.keep_dm.result ≡ DmDone) c.self.view_is
+    (λ due working.
+    told_done _ c.serve-done.result _ c.keep_dm.result (c.serve-done.ensures.responds due) c.serve-done.ensures.replies c.keep_dm.ensures.kept
+    (due_done (superblock_of c.self.inside.files) (state_with c.self.inside.files.held c.self.inside.stamps.entries c.self.inside.tables (c.self.inside.base + c.len.result)) c.args.sid c.args.call due))

@@ -6,50 +6,57 @@ use Rattle.plain_model.specs.declared.entries.Answer.TheVariants.{Call as Replie
 use Rattle.hsm_core.specs.Store.{Store}
 use Rattle.hsm_core.specs.Answers.{IsAnswered}
 use Rattle.hsm_core.proofs.Syncs.{sync_only}
-use Rattle.hsm_core.proofs.Events.{event, always, not_begun, IsNext}
+use Rattle.hsm_core.proofs.Events.{event, always, not_begun, one_more, IsNext, Keeps}
 use Rattle.hsm_core.proofs.store.Hsm.issue.Given.{Over}
 use Rattle.hsm_core.proofs.store.Hsm.issue.Goals.{After-keep}
 use Rattle.hsm_core.proofs.store.Hsm.issue.Goals as goal
 
 -- the store before the event, and after it
 abbrev before : (g : Over) → After-keep g → Store g.row.D.Denot
-before g c = record { opened = c.self.inside.opened.value; files = c.self.inside.files; stamps = c.self.inside.stamps.entries; sessions = c.self.inside.sessions; history = c.self.inside.history.items }
+before g c = record { opened = c.self.inside.opened.value; files = c.self.inside.files; stamps = c.self.inside.stamps.entries; tables = c.self.inside.tables; history = c.self.inside.history.items }
 
 abbrev after : (g : Over) → After-keep g → Store g.row.D.Denot
-after g c = record { opened = c.self.inside.opened.value; files = c.answer-done.new.files; stamps = c.answer-done.new.stamps.entries; sessions = c.self.inside.sessions; history = c.keep.new.history.items }
+after g c = record { opened = c.self.inside.opened.value; files = c.answer-done.new.files; stamps = c.answer-done.new.stamps.entries; tables = c.self.inside.tables; history = c.keep.new.history.items }
+
+keeps : (g : Over) (c : After-keep g) → Keeps c.make_ready_for_access.new.history.items (Caller c.args.caller) (Issue c.args.call) (λ (r : Reply). Replied r) c.answer-done.result c.keep.result c.keep.new.history.items
+keeps g c = record {
+  kept = c.keep.ensures.kept;
+  memory = λ lacks. (ap (λ (r : Reply). Replied r) (c.keep.ensures.memory lacks).0, (c.keep.ensures.memory lacks).1);
+  failed = λ fails. (ap (λ (r : Reply). Replied r) (c.keep.ensures.failed fails).0, (c.keep.ensures.failed fails).1);
+}
 
 next : (g : Over) (c : After-keep g) → IsNext g.D.Disk (before g c) (Caller c.args.caller) (Issue c.args.call) (Replied c.keep.result) (after g c)
 next g c =
-    event g.D.Disk (before g c) c.self.invariant.0 c.self.invariant.1 c.make_ready.new.stamps.entries c.make_ready.new.history.items c.make_ready.ensures.stamps c.make_ready.ensures.same (after g c) c.in_default.ensures.working refl
+    event g.D.Disk (before g c) c.self.invariant.0 c.self.invariant.1 c.make_ready_for_access.new.stamps.entries c.make_ready_for_access.new.history.items c.make_ready_for_access.ensures.stamps c.make_ready_for_access.ensures.same (after g c) c.in_default.ensures.working refl
     (Caller c.args.caller) (Issue c.args.call) tt (λ (r : Reply). Replied r) _ c.keep.result _ (omega (arith, c.self.invariant.2, c.len.ensures)) c.answer-done.result
     (record {
       exact = refl;
-      replies = c.answer-done.ensures.replies c.self.inside.sessions;
-      leaves = c.answer-done.ensures.left c.self.inside.sessions c.args.caller;
+      replies = c.answer-done.ensures.replies c.self.inside.tables;
+      leaves = c.answer-done.ensures.left c.self.inside.tables c.args.caller;
       stamps = c.answer-done.ensures.unstamped;
-      sessions = (always c.answer-done.result refl).1;
+      tables = (always c.answer-done.result refl).1;
       synced = λ syncs. c.answer-done.ensures.synced (sync_only c.args.call _ syncs);
       ends = c.answer-done.ensures.ends;
     })
-    (record {
-      kept = c.keep.ensures.kept;
-      memory = λ lacks. (ap (λ (r : Reply). Replied r) (c.keep.ensures.memory lacks).0, (c.keep.ensures.memory lacks).1);
-      failed = λ fails. (ap (λ (r : Reply). Replied r) (c.keep.ensures.failed fails).0, (c.keep.ensures.failed fails).1);
-    })
+    (keeps g c)
 
 pub returns-in-Err-clause-answered : goal.returns-in-Err-clause-answered
 returns-in-Err-clause-answered g c =
-    let s : Store g.row.D.Denot = record { opened = c.self.inside.opened.value; files = c.self.inside.files; stamps = c.self.inside.stamps.entries; sessions = c.self.inside.sessions; history = c.self.inside.history.items } in
-    let t : Store g.row.D.Denot = record s { stamps = c.make_ready.new.stamps.entries; history = c.make_ready.new.history.items } in
+    let s : Store g.row.D.Denot = record { opened = c.self.inside.opened.value; files = c.self.inside.files; stamps = c.self.inside.stamps.entries; tables = c.self.inside.tables; history = c.self.inside.history.items } in
+    let t : Store g.row.D.Denot = record s { stamps = c.make_ready_for_access.new.stamps.entries; history = c.make_ready_for_access.new.history.items } in
     subst (λ (old : Store g.row.D.Denot). IsAnswered g.D.Disk old c.args.caller c.args.call c.undone.result t) c.self.view_is
-    (not_begun g.D.Disk s c.self.invariant.0 c.self.invariant.1 c.make_ready.new.stamps.entries c.make_ready.new.history.items c.make_ready.ensures.stamps c.make_ready.ensures.same (Caller c.args.caller) (Issue c.args.call) tt (Replied c.undone.result) c.in-Err.why c.make_ready.ensures.idle
+    (not_begun g.D.Disk s c.self.invariant.0 c.self.invariant.1 c.make_ready_for_access.new.stamps.entries c.make_ready_for_access.new.history.items c.make_ready_for_access.ensures.stamps c.make_ready_for_access.ensures.same (Caller c.args.caller) (Issue c.args.call) tt (Replied c.undone.result) c.in-Err.why c.make_ready_for_access.ensures.idle
     (record { memory = λ is. ap (λ (r : Reply). Replied r) (c.undone.ensures.memory is); failed = λ is. ap (λ (r : Reply). Replied r) (c.undone.ensures.failed is) }) c.in-Err.ensures.refused)
 
 pub answer-done-requires-clause-idle : goal.answer-done-requires-clause-idle
-answer-done-requires-clause-idle g c = c.make_ready.ensures.idle c.in_default.ensures.working _
+answer-done-requires-clause-idle g c = c.make_ready_for_access.ensures.idle c.in_default.ensures.working _
 
 pub invariant_of-self-2 : goal.invariant_of-self-2
-invariant_of-self-2 g c = let is = next g (goal.at.invariant_of-self-2 g c).After-keep in (is.0, is.1, c.self.invariant.2, c.self.invariant.3)
+invariant_of-self-2 g c =
+    let at = (goal.at.invariant_of-self-2 g c).After-keep in
+    let is = next g at in
+    let more = one_more c.make_ready_for_access.new.history.items c.keep.new.history.items (Caller c.args.caller) (Issue c.args.call) (λ (r : Reply). Replied r) c.answer-done.result c.keep.result c.answer-done.ensures.ends.no_part (keeps g at) in
+    (is.0, is.1, c.self.invariant.2, c.self.invariant.3, c.self.invariant.4, omega (arith, more, c.in_default.ensures.room.0, c.keep.ensures.room))
 
 pub returns-clause-answered : goal.returns-clause-answered
 returns-clause-answered g c = subst (λ (old : Store g.row.D.Denot). IsAnswered g.D.Disk old c.args.caller c.args.call c.keep.result (after g (goal.at.returns-clause-answered g c).After-keep)) c.self.view_is (next g (goal.at.returns-clause-answered g c).After-keep).2
@@ -58,4 +65,4 @@ pub returns-clause-safe : goal.returns-clause-safe
 returns-clause-safe g c = (next g (goal.at.returns-clause-safe g c).After-keep).1.now
 
 pub returns-in-Err-clause-safe : goal.returns-in-Err-clause-safe
-returns-in-Err-clause-safe g c = rw (c.make_ready.ensures.same) c.self.invariant.1.now
+returns-in-Err-clause-safe g c = rw (c.make_ready_for_access.ensures.same) c.self.invariant.1.now
