@@ -1,39 +1,32 @@
 -- Reading values one after the other, as a loop does.
-use Rattle.std.proofs.Common.{◌≡◌, ℕ, suc, ◌-◌, ◌+◌, ◌≤◌, ◌<◌, List, [], ◌∷◌, ◌++◌, Option, Some, None, refl, sym, ap, ◌∙◌, append_assoc, arith}
-use Rattle.std.proofs.lemmas.List.{append-nil}
-use Rattle.meta_store.specs.declared.snapshot.ReadRefusal.{ReadRefusal}
-use Rattle.meta_store.specs.declared.snapshot.ReadRefusal.TheVariants.{Memory, Corrupt}
-use Rattle.meta_store.specs.Reading.{◌>>=◌, Fails, several}
+use Rattle.std.proofs.Common.{◌≡◌, ℕ, suc, ◌-◌, ◌+◌, ◌≤◌, ◌<◌, List, [], ◌∷◌, ◌++◌, Option, Some, None, refl, ap, append_assoc, append-nil, arith}
+use Rattle.std.proofs.lemmas.List.{map-append}
+use Rattle.meta_store.specs.Reading.{◌>>=◌, several}
 
 -- what was read before, and what is still read
 abbrev pub with_front : {A : Type 0} → List A → Option (List A × List ℕ) → Option (List A × List ℕ)
 with_front front read = read >>= λ x. Some (front ++ x.0, x.1)
 
-regroup : {A : Type 0} (front : List A) (n : A) (read : Option (List A × List ℕ)) → with_front front (read >>= λ x. Some (n ∷ x.0, x.1)) ≡ with_front (front ++ n ∷ []) read
-regroup {A} front n (Some x) = ap (λ (ns : List A). Some (ns, x.1)) (simp append_assoc)
-regroup front n None = refl
+behind : {A : Type 0} (front : List A) (n : A) (read : Option (List A × List ℕ)) → with_front front (read >>= λ x. Some (n ∷ x.0, x.1)) ≡ with_front (front ++ n ∷ []) read
+behind {A} front n (Some x) = ap (λ (ns : List A). Some (ns, x.1)) (simp append_assoc)
+behind front n None = refl
 
-module _ {A : Type 0} (reader : List ℕ → Option (A × List ℕ)) where
-  pub goes_on : (front : List A) (count i : ℕ) (bytes : List ℕ) (n : A) (after : List ℕ) (total : Option (List A × List ℕ)) → i < count → reader bytes ≡ Some (n, after)
-      → with_front front (several reader (count - i) bytes) ≡ total → with_front (front ++ n ∷ []) (several reader (count - (i + 1)) after) ≡ total
-  unfolding several
-  goes_on front count i bytes n after total lt h so_far =
-      let k : count - i ≡ suc (count - (i + 1)) = omega arith in
-      let one : with_front front (several reader (count - i) bytes) ≡ with_front (front ++ n ∷ []) (several reader (count - (i + 1)) after) = rw (k, h) (regroup front n (several reader (count - (i + 1)) after)) in
-      sym one ∙ so_far
+first : {A : Type 0} (front : List A) (read : Option (A × List ℕ)) (others : List ℕ → Option (List A × List ℕ))
+    → with_front front (read >>= λ x. others x.1 >>= λ y. Some (x.0 ∷ y.0, y.1)) ≡ (read >>= λ x. with_front (front ++ x.0 ∷ []) (others x.1))
+first front (Some x) others = behind front x.0 (others x.1)
+first front None others = refl
 
-  pub ends : (e : ReadRefusal) (front : List A) (count i : ℕ) (bytes : List ℕ) (total : Option (List A × List ℕ)) → i < count → Fails e (reader bytes)
-      → with_front front (several reader (count - i) bytes) ≡ total → Fails e total
-  unfolding several
-  ends Memory front count i bytes total lt h so_far = tt
-  ends Corrupt front count i bytes total lt h so_far =
-      let k : count - i ≡ suc (count - (i + 1)) = omega arith in
-      let one : with_front front (several reader (count - i) bytes) ≡ None = rw (k, h) refl in
-      sym so_far ∙ one
+pub several_more : {A : Type 0} (front : List A) (reader : List ℕ → Option (A × List ℕ)) (count i : ℕ) (bytes : List ℕ) → i < count
+    → with_front front (several reader (count - i) bytes) ≡ (reader bytes >>= λ x. with_front (front ++ x.0 ∷ []) (several reader (count - (i + 1)) x.1))
+unfolding several
+several_more front reader count i bytes lt =
+    let k : count - i ≡ suc (count - (i + 1)) = omega arith in
+    rw k (first front (reader bytes) (several reader (count - (i + 1))))
 
-  pub is_done : (front : List A) (count i : ℕ) (bytes : List ℕ) (total : Option (List A × List ℕ)) → count ≤ i → with_front front (several reader (count - i) bytes) ≡ total → total ≡ Some (front, bytes)
-  unfolding several
-  is_done front count i bytes total le so_far =
-      let k : count - i ≡ 0 = omega arith in
-      let one : with_front front (several reader (count - i) bytes) ≡ Some (front, bytes) = rw k (ap (λ (ns : List A). Some (ns, bytes)) (append-nil front)) in
-      sym so_far ∙ one
+pub several_done : {A : Type 0} (front : List A) (reader : List ℕ → Option (A × List ℕ)) (count i : ℕ) (bytes : List ℕ) → count ≤ i → with_front front (several reader (count - i) bytes) ≡ Some (front, bytes)
+unfolding several
+several_done front reader count i bytes le =
+    let k : count - i ≡ 0 = omega arith in
+    rw (k, append-nil front) refl
+
+pub ruleset read_steps = (several_more, several_done, map-append)

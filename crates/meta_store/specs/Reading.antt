@@ -63,17 +63,11 @@ several reader (suc n) bytes = do
   others ← several reader n first.1
   Some (first.0 ∷ others.0, others.1)
 
--- a number of n bytes, and as many values
-unfoldable pub counted : {A : Type 0} → ℕ → (List ℕ → Option (A × List ℕ)) → List ℕ → Option (List A × List ℕ)
+-- a number of n bytes, and as much as it says
+unfoldable pub counted : {A : Type 0} → ℕ → (ℕ → List ℕ → Option (A × List ℕ)) → List ℕ → Option (A × List ℕ)
 counted n reader bytes = do
   count ← number_at n bytes
-  several reader count.0 count.1
-
--- a number of n bytes, and as many bytes
-unfoldable pub sized : ℕ → List ℕ → Option (List ℕ × List ℕ)
-sized n bytes = do
-  len ← number_at n bytes
-  bytes_at len.0 len.1
+  reader count.0 count.1
 
 -- ---- the parts of a snapshot
 
@@ -88,7 +82,7 @@ attr_name_at = made (λ bytes. record { 0 = bytes }) (bytes_at 8)
 
 -- the name of an attribute, and its value
 unfoldable pub attribute_at : List ℕ → Option ((AttrName × List ℕ) × List ℕ)
-attribute_at = both attr_name_at (sized 2)
+attribute_at = both attr_name_at (counted 2 bytes_at)
 
 unfoldable pub extent_at : List ℕ → Option (Mapping × List ℕ)
 extent_at = made (λ n. record { block = n.0; place = n.1 }) (both (number_at 4) (number_at 4))
@@ -96,8 +90,8 @@ extent_at = made (λ n. record { block = n.0; place = n.1 }) (both (number_at 4)
 -- the count of stub entries is last
 unfoldable pub file_at : List ℕ → Option (SnapshotFile × List ℕ)
 file_at = made (λ p. record { key = p.0.0.0.0.0.0; size = p.0.0.0.0.0.1; name = p.0.0.0.0.1; kept = record { regions = p.0.0.0.1; attributes = p.0.0.1 }; extents = p.0.1 })
-    (both (both (both (both (both (both key_at (number_at 8)) (sized 1)) (counted 1 region_at)) (counted 4 attribute_at)) (counted 4 extent_at)) (only_at 4 0))
+    (both (both (both (both (both (both key_at (number_at 8)) (counted 1 bytes_at)) (counted 1 (several region_at))) (counted 4 (several attribute_at))) (counted 4 (several extent_at))) (only_at 4 0))
 
 unfoldable pub snapshot_at : List ℕ → Option (Snapshot × List ℕ)
 snapshot_at = made (λ p. record { number = p.0.0.0; next = p.0.0.1; files = p.1 })
-    (both (both (both (number_at 8) (number_at 8)) (only_at 4 1)) (counted 4 file_at))
+    (both (both (both (number_at 8) (number_at 8)) (only_at 4 1)) (counted 4 (several file_at)))

@@ -34,6 +34,9 @@ raw_snapshot s = record { number = s.number; next = s.next; files = map raw_file
 
 -- ---- its bytes, all numbers big-endian
 
+abbrev pub key_bytes : FileKey → List ℕ
+key_bytes k = big_bytes 8 k.ino ++ big_bytes 8 k.igen
+
 abbrev pub extent_bytes : Mapping → List ℕ
 extent_bytes e = big_bytes 4 e.block ++ big_bytes 4 e.place
 
@@ -44,19 +47,23 @@ region_bytes r = big_bytes 8 r.offset ++ big_bytes 8 r.size ++ big_bytes 1 r.fla
 abbrev pub attribute_bytes : AttrName × List ℕ → List ℕ
 attribute_bytes a = a.0.0 ++ (big_bytes 2 (length a.1) ++ a.1)
 
+-- a number of n bytes that says how many there are, and each
+abbrev pub counted_bytes : {X : Type 0} → ℕ → (X → List ℕ) → List X → List ℕ
+counted_bytes n text xs = big_bytes n (length xs) ++ flat_map text xs
+
 -- The count of stub entries is 0.
 unfoldable pub file_bytes : SnapshotFile → List ℕ
 file_bytes f =
-    big_bytes 8 f.key.ino ++ big_bytes 8 f.key.igen ++ big_bytes 8 f.size
-    ++ big_bytes 1 (length f.name) ++ f.name
-    ++ big_bytes 1 (length f.kept.regions) ++ flat_map region_bytes f.kept.regions
-    ++ big_bytes 4 (length f.kept.attributes) ++ flat_map attribute_bytes f.kept.attributes
-    ++ big_bytes 4 (length f.extents) ++ flat_map extent_bytes f.extents
+    key_bytes f.key ++ big_bytes 8 f.size
+    ++ (big_bytes 1 (length f.name) ++ f.name)
+    ++ counted_bytes 1 region_bytes f.kept.regions
+    ++ counted_bytes 4 attribute_bytes f.kept.attributes
+    ++ counted_bytes 4 extent_bytes f.extents
     ++ big_bytes 4 0
 
 -- The format is 1.
 unfoldable pub spelling : Snapshot → List ℕ
-spelling s = big_bytes 8 s.number ++ big_bytes 8 s.next ++ big_bytes 4 1 ++ big_bytes 4 (length s.files) ++ flat_map file_bytes s.files
+spelling s = big_bytes 8 s.number ++ big_bytes 8 s.next ++ big_bytes 4 1 ++ counted_bytes 4 file_bytes s.files
 
 abbrev pub RegionFits : Region → Type 0
 RegionFits r = (r.offset < 2 ^ 64) × (r.size < 2 ^ 64) × (r.flags < 2 ^ 8)

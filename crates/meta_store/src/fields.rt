@@ -1,5 +1,5 @@
 // The fields of a snapshot: each function reads one from the front of some bytes, and gives it with the bytes after it.
-ghost use Rattle.meta_store.specs.Reading.{Gives, number_at, only_at, bytes_at, sized, key_at, region_at, attr_name_at, attribute_at, extent_at};
+ghost use Rattle.meta_store.specs.Reading.{Gives, number_at, only_at, bytes_at, counted, key_at, region_at, attr_name_at, attribute_at, extent_at};
 
 use crate::snapshot::{Mapping, ReadRefusal};
 use byteorder::{BigEndian, ByteOrder};
@@ -82,9 +82,9 @@ fn bytes_at(alloc: Global, len: usize, bytes: &[u8]) -> Result<(Vec<u8>, &[u8]),
     Ok((Vec::from_slice(alloc, front)?, rest))
 }
 
-#[tactic(auto, unfolding(crate::specs::Reading::sized))]
+#[tactic(auto, unfolding(crate::specs::Reading::counted))]
 pub(crate) fn name_at(alloc: Global, bytes: &[u8]) -> Result<(Word, &[u8]), ReadRefusal>
-    ensures { Gives (λ x. (x.0, x.1.now)) result (sized 1 bytes.now) }
+    ensures { Gives (λ x. (x.0, x.1.now)) result (counted 1 bytes_at bytes.now) }
 {
     let (len, rest) = u8_at(bytes)?;
     let (name, rest) = bytes_at(alloc, usize::from(len), rest)?;
@@ -118,9 +118,9 @@ fn attr_name_at(bytes: &[u8]) -> Result<(AttrName, &[u8]), ReadRefusal>
     Ok((AttrName(name), &bytes[8..]))
 }
 
-#[tactic(auto, unfolding(crate::specs::Reading::sized))]
+#[tactic(auto, unfolding(crate::specs::Reading::counted))]
 fn value_at(alloc: Global, bytes: &[u8]) -> Result<(Bytes, &[u8]), ReadRefusal>
-    ensures { Gives (λ x. (x.0, x.1.now)) result (sized 2 bytes.now) }
+    ensures { Gives (λ x. (x.0, x.1.now)) result (counted 2 bytes_at bytes.now) }
 {
     let (len, rest) = u16_at(bytes)?;
     let (value, rest) = bytes_at(alloc, usize::from(len), rest)?;

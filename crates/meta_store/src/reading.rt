@@ -1,7 +1,7 @@
 // Reading a snapshot's bytes.
 ghost use Rattle.std.specs.Prelude.{◌≡◌, List, ℕ, map, IfOk, IsErrOf};
 ghost use Rattle.meta_store.specs.Snapshots.{Snapshot, IsSpelled, raw_file, raw_snapshot};
-ghost use Rattle.meta_store.specs.Reading.{Gives, both, number_at, sized, several, counted, key_at, region_at, attribute_at, extent_at, file_at, snapshot_at};
+ghost use Rattle.meta_store.specs.Reading.{Gives, both, number_at, bytes_at, several, counted, key_at, region_at, attribute_at, extent_at, file_at, snapshot_at};
 
 use crate::fields::{
     attribute_at, extent_at, key_at, name_at, only_u32_at, region_at, u8_at, u32_at, u64_at,
@@ -10,6 +10,7 @@ use crate::snapshot::{FORMAT, Mapping, RawFile, RawSnapshot, ReadRefusal};
 use hsm_types::{AttrName, Bytes, FileKey, Region, Word};
 use std::alloc::Global;
 
+#[tactic(auto, using(crate::proofs::ReadValues::read_steps))]
 fn regions_of(alloc: Global, count: u8, bytes: &[u8]) -> Result<(Vec<Region>, &[u8]), ReadRefusal>
     ensures { Gives (λ x. (x.0.items, x.1.now)) result (several region_at count bytes.now) }
 {
@@ -23,6 +24,7 @@ fn regions_of(alloc: Global, count: u8, bytes: &[u8]) -> Result<(Vec<Region>, &[
     Ok((regions, rest))
 }
 
+#[tactic(auto, using(crate::proofs::ReadValues::read_steps))]
 fn attributes_of(
     alloc: Global,
     count: u32,
@@ -40,6 +42,7 @@ fn attributes_of(
     Ok((attributes, rest))
 }
 
+#[tactic(auto, using(crate::proofs::ReadValues::read_steps))]
 fn extents_of(alloc: Global, count: u32, bytes: &[u8]) -> Result<(Vec<Mapping>, &[u8]), ReadRefusal>
     ensures { Gives (λ x. (x.0.items, x.1.now)) result (several extent_at count bytes.now) }
 {
@@ -56,7 +59,7 @@ fn extents_of(alloc: Global, count: u32, bytes: &[u8]) -> Result<(Vec<Mapping>, 
 /// The count of a file's regions, and the regions.
 #[tactic(auto, unfolding(crate::specs::Reading::counted))]
 fn regions_at(alloc: Global, bytes: &[u8]) -> Result<(Vec<Region>, &[u8]), ReadRefusal>
-    ensures { Gives (λ x. (x.0.items, x.1.now)) result (counted 1 region_at bytes.now) }
+    ensures { Gives (λ x. (x.0.items, x.1.now)) result (counted 1 (several region_at) bytes.now) }
 {
     let (count, rest) = u8_at(bytes)?;
     regions_of(alloc, count, rest)
@@ -68,7 +71,7 @@ fn attributes_at(
     alloc: Global,
     bytes: &[u8],
 ) -> Result<(Vec<(AttrName, Bytes)>, &[u8]), ReadRefusal>
-    ensures { Gives (λ x. (x.0.items, x.1.now)) result (counted 4 attribute_at bytes.now) }
+    ensures { Gives (λ x. (x.0.items, x.1.now)) result (counted 4 (several attribute_at) bytes.now) }
 {
     let (count, rest) = u32_at(bytes)?;
     attributes_of(alloc, count, rest)
@@ -77,7 +80,7 @@ fn attributes_at(
 /// The count of a file's extents, and the extents.
 #[tactic(auto, unfolding(crate::specs::Reading::counted))]
 fn extents_at(alloc: Global, bytes: &[u8]) -> Result<(Vec<Mapping>, &[u8]), ReadRefusal>
-    ensures { Gives (λ x. (x.0.items, x.1.now)) result (counted 4 extent_at bytes.now) }
+    ensures { Gives (λ x. (x.0.items, x.1.now)) result (counted 4 (several extent_at) bytes.now) }
 {
     let (count, rest) = u32_at(bytes)?;
     extents_of(alloc, count, rest)
@@ -86,7 +89,7 @@ fn extents_at(alloc: Global, bytes: &[u8]) -> Result<(Vec<Mapping>, &[u8]), Read
 /// A file's key, its size and its name.
 #[tactic(auto, unfolding(crate::specs::Reading::both))]
 fn heading_at(alloc: Global, bytes: &[u8]) -> Result<((FileKey, u64, Word), &[u8]), ReadRefusal>
-    ensures { Gives (λ x. (((x.0.0, x.0.1), x.0.2), x.1.now)) result (both (both key_at (number_at 8)) (sized 1) bytes.now) }
+    ensures { Gives (λ x. (((x.0.0, x.0.1), x.0.2), x.1.now)) result (both (both key_at (number_at 8)) (counted 1 bytes_at) bytes.now) }
 {
     let (key, rest) = key_at(bytes)?;
     let (size, rest) = u64_at(rest)?;
@@ -116,6 +119,7 @@ fn file_at(alloc: Global, bytes: &[u8]) -> Result<(RawFile, &[u8]), ReadRefusal>
     ))
 }
 
+#[tactic(auto, using(crate::proofs::ReadValues::read_steps))]
 fn files_of(alloc: Global, count: u32, bytes: &[u8]) -> Result<(Vec<RawFile>, &[u8]), ReadRefusal>
     ensures { Gives (λ x. (map raw_file x.0.items, x.1.now)) result (several file_at count bytes.now) }
 {
