@@ -9,7 +9,7 @@ use Rattle.meta_store.specs.Catalogs.{IsCatalog}
 use Rattle.meta_store.specs.Snapshots.{spelling, snapshot_of}
 use Rattle.meta_store.specs.Images.{area_of, IsClosed, IsImage}
 use Rattle.meta_store.specs.Laws.{no_files}
-use Rattle.meta_store.proofs.SnapshotLengths.{spelling-empty}
+use Rattle.meta_store.proofs.SnapshotFits.{spelling-empty}
 use Rattle.meta_store.proofs.SnapshotFits.{fits_of}
 use Rattle.meta_store.proofs.BesideBlocks.{area_is, gate_is}
 

@@ -4,8 +4,6 @@ pub mod ReadSnapshots
 pub mod ExtentCounts
 pub mod KeptBounds
 pub mod KeptAttributes
-pub mod WrittenParts
-pub mod SnapshotLengths
 pub mod SnapshotFits
 pub mod WrittenFiles
 pub mod BesideBlocks

@@ -1,29 +1,25 @@
 -- The snapshot of a catalog fits its fields, and its area.
-use Rattle.std.proofs.Common.{◌≡◌, ℕ, ◌+◌, ◌*◌, ◌≤◌, ◌<◌, ◌^◌, List, [], ◌∷◌, ◌++◌, length, map, Option, Some, None, Bool, true, false, cond, eqb, leb, not, ◌&&◌, ◌||◌, ◌⊎◌, refl, sym, length-append, arith, inl, inr}
-use Rattle.std.specs.List.{AllByRecursion, sum_by, list_any, list_all, IsDistinct}
-use Rattle.std.proofs.lemmas.Bool.{or_parts, and_parts, leb-true, eqb-true, ne_eqb, eqb-false}
+use Rattle.std.proofs.Common.{◌≡◌, ℕ, ◌+◌, ◌*◌, ◌≤◌, ◌<◌, ◌^◌, List, [], ◌∷◌, ◌++◌, length, map, Option, Some, None, true, false, eqb, refl, sym, length-append, arith}
+use Rattle.std.specs.List.{AllByRecursion, flat_map, sum_by, list_any, IsDistinct}
+use Rattle.std.proofs.lemmas.Bool.{or_parts, ne_eqb, eqb-false}
 use Rattle.std.proofs.lemmas.List.{length-map}
 use Rattle.std.proofs.lemmas.List.Sums.{sum_by-cons}
 use Rattle.std.proofs.lemmas.Map.Steps.{length-le_from_distinct_below}
-use Rattle.hsm_types.specs.Names.{is_name_byte, is_name}
-use Rattle.hsm_types.specs.declared.stores.Geometry.{Geometry}
+use Rattle.hsm_types.specs.Names.{is_name}
+use Rattle.hsm_types.specs.declared.regions.Region.{Region}
+use Rattle.hsm_types.specs.Attributes.{bytes_of_attributes}
 use Rattle.plain_model.specs.Distinct.{Distinct}
 use Rattle.inode_table.specs.Listing.{Within}
 use Rattle.inode_table.proofs.Orders.{few}
-use Rattle.commit_slots.specs.Places.{layout_of, small, large}
+use Rattle.commit_slots.specs.Places.{layout_of}
+use Rattle.commit_slots.specs.Images.{empty_snapshot}
 use Rattle.meta_store.specs.declared.snapshot.Mapping.{Mapping}
-use Rattle.hsm_types.specs.Attributes.{bytes_of_attributes}
 use Rattle.meta_store.specs.Catalogs.{CatalogFile, Catalog, IsCatalog, IsCatalogFile, geometry_of, present, blocks_of, names_of, attribute_total}
-use Rattle.meta_store.specs.Snapshots.{extents_from, spelling, snapshot_file, snapshot_of, FileFits, Fits}
+use Rattle.meta_store.specs.Snapshots.{region_bytes, extent_bytes, file_bytes, extents_from, spelling, snapshot_file, snapshot_of, ExtentFits, FileFits, Fits}
 use Rattle.meta_store.proofs.ExtentCounts.{present-few, length-extents}
 use Rattle.meta_store.proofs.KeptBounds.{regions-few, regions-fit, attributes-few, attributes-fit, attributes-short}
-use Rattle.meta_store.proofs.SnapshotLengths.{file_len, length-spelling}
 
 -- ---- numbers that differ, below a bound
-
-either : (x y : Bool) → (x || y) ≡ true → (x ≡ true) ⊎ (y ≡ true)
-either true y e = inl refl
-either false y e = inr e
 
 others : (n : ℕ) (ms : List ℕ) → list_any (λ m. eqb m n) ms ≡ false → AllByRecursion (λ m. eqb n m ≡ false) ms
 others n [] none = tt
@@ -38,11 +34,7 @@ differ (n ∷ ns) d = (others n ns d.0, differ ns d.1)
 
 one_below : (n : ℕ) (ns : List ℕ) → AllByRecursion (λ b. b < n) ns → (q : ℕ) → list_any (eqb q) ns ≡ true → q < n
 one_below n [] below q here = absurd cc
-one_below n (m ∷ ns) below q here =
-    elim (either (eqb q m) (list_any (eqb q) ns) here) [
-      | inl same ↦ let is = eqb-true q m same in let low = below.0 in omega arith
-      | inr later ↦ one_below n ns below.1 q later
-    ]
+one_below n (m ∷ ns) below q here = grind (arith, one_below n ns below.1 q)
 
 -- the pigeonhole
 pub distinct-few : (n : ℕ) (ns : List ℕ) → Distinct ns → AllByRecursion (λ b. b < n) ns → length ns ≤ n
@@ -50,20 +42,12 @@ distinct-few n ns d below = length-le_from_distinct_below ns n (differ ns d) (on
 
 -- ---- what bounds a catalog
 
-by_test : {X : Type 0} (P : X → Type 0) (b : Bool) (x y : X) → P x → P y → P (cond b x y)
-by_test P true x y p q = p
-by_test P false x y p q = q
-
 pub geometry-bounded : (geometry : ℕ) → ((geometry_of geometry).files ≤ 4096) × ((geometry_of geometry).blocks ≤ 65536) × ((geometry_of geometry).attributes ≤ 1048576)
 unfolding geometry_of
-geometry-bounded geometry =
-    by_test (λ (g : Geometry). (g.files ≤ 4096) × (g.blocks ≤ 65536) × (g.attributes ≤ 1048576)) (eqb geometry 0) (record { files = 64; blocks = 1024; attributes = 32768 }) (record { files = 4096; blocks = 65536; attributes = 1048576 }) (omega arith, omega arith, omega arith) (omega arith, omega arith, omega arith)
+geometry-bounded geometry = grind arith
 
 pub name-short : (name : List ℕ) → is_name name ≡ true → length name ≤ 64
-name-short name is =
-    let front = and_parts (not (eqb (length name) 0) && leb (length name) 64) (list_all is_name_byte name) is in
-    let sizes = and_parts (not (eqb (length name) 0)) (leb (length name) 64) front.0 in
-    leb-true (length name) 64 sizes.1
+name-short name is = grind arith
 
 all-both : {X : Type 0} (P : X → Type 0) (xs ys : List X) → AllByRecursion P xs → AllByRecursion P ys → AllByRecursion P (xs ++ ys)
 all-both P [] ys p q = q
@@ -84,27 +68,24 @@ files-few c is =
 
 -- ---- the fields
 
-extents-fit : (blocks n : ℕ) (places : List (Option ℕ)) → blocks ≤ 2 ^ 32 → n + length places ≤ 2 ^ 32 → AllByRecursion (λ b. b < blocks) (present places)
-    → AllByRecursion (λ (e : Mapping). (e.block < 2 ^ 32) × (e.place < 2 ^ 32)) (extents_from n places)
+extents-fit : (blocks n : ℕ) (places : List (Option ℕ)) → blocks ≤ 2 ^ 32 → n + length places ≤ 2 ^ 32 → AllByRecursion (λ b. b < blocks) (present places) → AllByRecursion ExtentFits (extents_from n places)
 extents-fit blocks n [] few_blocks fit below = tt
 extents-fit blocks n (None ∷ places) few_blocks fit below = extents-fit blocks (n + 1) places few_blocks (omega arith) below
 extents-fit blocks n (Some at ∷ places) few_blocks fit below = let low = below.0 in ((omega arith, omega arith), extents-fit blocks (n + 1) places few_blocks (omega arith) below.1)
 
-pub file-fits : (blocks limit next : ℕ) (f : CatalogFile) → blocks ≤ 65536 → limit ≤ 4096 → next ≤ 2 ^ 62 → f.key.ino ≤ limit → f.key.igen < next → bytes_of_attributes f.kept.attributes ≤ 1048576 → IsCatalogFile blocks f → FileFits (snapshot_file f)
-file-fits blocks limit next f few_blocks few_files old ino igen few is =
-    let places : length f.places ≤ 4096 = let e = is.places in let s = is.size in omega arith in
-    record {
-      ino = omega arith;
-      igen = omega arith;
-      size = let s = is.size in omega arith;
-      name = let short = name-short f.name is.name in omega arith;
-      regions = omega (arith, regions-few f.kept.regions is.kept.regions);
-      each_region = regions-fit f.kept.regions is.kept.regions;
-      attributes = omega (arith, attributes-few f.kept.attributes);
-      each_attribute = attributes-fit f.kept.attributes is.kept.eight is.kept.attributes;
-      extents = omega (arith, length-extents 0 f.places, present-few f.places);
-      each_extent = extents-fit blocks 0 f.places (omega arith) (omega arith) is.within;
-    }
+file-fits : (blocks limit next : ℕ) (f : CatalogFile) → blocks ≤ 65536 → limit ≤ 4096 → next ≤ 2 ^ 62 → f.key.ino ≤ limit → f.key.igen < next → bytes_of_attributes f.kept.attributes ≤ 1048576 → IsCatalogFile blocks f → FileFits (snapshot_file f)
+file-fits blocks limit next f few_blocks few_files old ino igen few is = record {
+  ino = omega arith;
+  igen = omega arith;
+  size = omega arith;
+  name = omega (arith, name-short f.name is.name);
+  regions = omega (arith, regions-few f.kept.regions is.kept.regions);
+  each_region = regions-fit f.kept.regions is.kept.regions;
+  attributes = omega (arith, attributes-few f.kept.attributes);
+  each_attribute = attributes-fit f.kept.attributes is.kept.eight is.kept.attributes;
+  extents = omega (arith, length-extents 0 f.places, present-few f.places);
+  each_extent = extents-fit blocks 0 f.places (omega arith) (omega arith) is.within;
+}
 
 files-fit : (blocks limit next : ℕ) (fs : List CatalogFile) → blocks ≤ 65536 → limit ≤ 4096 → next ≤ 2 ^ 62 → Within limit next (names_of fs) → attribute_total fs ≤ 1048576 → AllByRecursion (IsCatalogFile blocks) fs → AllByRecursion FileFits (map snapshot_file fs)
 files-fit blocks limit next [] few_blocks few_files old w few each = tt
@@ -116,39 +97,44 @@ pub fits_of : (n : ℕ) (c : Catalog) → n ≤ 2 ^ 62 → IsCatalog c → Fits 
 unfolding snapshot_of
 fits_of n c low is =
     let g = geometry-bounded c.geometry in
-    let few_files = files-few c is in
     record {
       number = omega arith;
-      next = let old = is.next in omega arith;
-      count = omega (arith, length-map c.files snapshot_file);
-      each = files-fit (geometry_of c.geometry).blocks (geometry_of c.geometry).files c.next c.files g.1 g.0 is.next is.table.within (let few = is.few in omega arith) is.each;
+      next = omega (arith, is.next);
+      count = omega (arith, length-map c.files snapshot_file, files-few c is);
+      each = files-fit (geometry_of c.geometry).blocks (geometry_of c.geometry).files c.next c.files g.1 g.0 is.next is.table.within (omega (arith, is.few)) is.each;
     }
 
 -- ---- the area
 
-abbrev geometry_by : Bool → Geometry
-geometry_by b = cond b (record { files = 64; blocks = 1024; attributes = 32768 }) (record { files = 4096; blocks = 65536; attributes = 1048576 })
+length-regions : (rs : List Region) → length (flat_map region_bytes rs) ≡ 17 * length rs
+length-regions [] = refl
+length-regions (r ∷ rs) = omega (arith, length-append (region_bytes r) (flat_map region_bytes rs), length-regions rs)
 
-files-short : (blocks : ℕ) (fs : List CatalogFile) → AllByRecursion (IsCatalogFile blocks) fs → sum_by file_len fs ≤ 170 * length fs + 8 * length (blocks_of fs) + attribute_total fs
+length-mappings : (es : List Mapping) → length (flat_map extent_bytes es) ≡ 8 * length es
+length-mappings [] = refl
+length-mappings (e ∷ es) = omega (arith, length-append (extent_bytes e) (flat_map extent_bytes es), length-mappings es)
+
+file-short : (blocks : ℕ) (f : CatalogFile) → IsCatalogFile blocks f → length (file_bytes (snapshot_file f)) ≤ 170 + 8 * length (present f.places) + bytes_of_attributes f.kept.attributes
+unfolding file_bytes
+file-short blocks f is =
+    let k = is.kept in
+    simp length-append (omega (arith, length-regions f.kept.regions, length-mappings (extents_from 0 f.places), length-extents 0 f.places, name-short f.name is.name, regions-few f.kept.regions k.regions, attributes-short f.kept.attributes k.eight))
+
+files-short : (blocks : ℕ) (fs : List CatalogFile) → AllByRecursion (IsCatalogFile blocks) fs → length (flat_map file_bytes (map snapshot_file fs)) ≤ 170 * length fs + 8 * length (blocks_of fs) + attribute_total fs
 files-short blocks [] each = omega arith
 files-short blocks (f ∷ fs) each =
-    let sums = sum_by-cons file_len f fs in
-    let parts : length (blocks_of (f ∷ fs)) ≡ length (present f.places) + length (blocks_of fs) = length-append (present f.places) (blocks_of fs) in
-    let short = name-short f.name each.0.name in
-    let more = files-short blocks fs each.1 in
-    let total = sum_by-cons (λ (g : CatalogFile). bytes_of_attributes g.kept.attributes) f fs in
-    let regions = regions-few f.kept.regions each.0.kept.regions in
-    let attributes = attributes-short f.kept.attributes each.0.kept.eight in
-    omega (arith, sums, parts, short, more, total, regions, attributes)
-
-by_choice : (b : Bool) → 24 + 170 * (geometry_by b).files + 8 * (geometry_by b).blocks + (geometry_by b).attributes ≤ (cond b small large).snapshot_len
-by_choice true = omega arith
-by_choice false = omega arith
+    omega (arith, length-append (file_bytes (snapshot_file f)) (flat_map file_bytes (map snapshot_file fs)), length-append (present f.places) (blocks_of fs), sum_by-cons (λ (g : CatalogFile). bytes_of_attributes g.kept.attributes) f fs,
+    file-short blocks f each.0, files-short blocks fs each.1)
 
 area-bounded : (geometry : ℕ) → 24 + 170 * (geometry_of geometry).files + 8 * (geometry_of geometry).blocks + (geometry_of geometry).attributes ≤ (layout_of geometry).snapshot_len
 unfolding geometry_of layout_of
-area-bounded geometry = by_choice (eqb geometry 0)
+area-bounded geometry = grind arith
 
 pub snapshot-short : (n : ℕ) (c : Catalog) → IsCatalog c → length (spelling (snapshot_of n c)) ≤ (layout_of c.geometry).snapshot_len
-snapshot-short n c is =
-    omega (arith, length-spelling n c, files-short (geometry_of c.geometry).blocks c.files is.each, blocks-few c is, files-few c is, is.few, area-bounded c.geometry)
+unfolding spelling snapshot_of
+snapshot-short n c is = omega (arith, files-short (geometry_of c.geometry).blocks c.files is.each, blocks-few c is, files-few c is, is.few, area-bounded c.geometry)
+
+-- `format` writes the snapshot of no file
+pub spelling-empty : (geometry : ℕ) → spelling (snapshot_of 0 (record { geometry = geometry; next = 1; files = [] })) ≡ empty_snapshot
+unfolding spelling snapshot_of
+spelling-empty geometry = refl

@@ -217,6 +217,7 @@ fn put_rest(out: &mut Vec<u8>, parts: &FileParts) -> Result<(), AllocError>
 }
 
 /// A file, with an extent for each block of its body that the disk has.
+#[tactic(auto, using(crate::proofs::WrittenFiles::written), unfolding(crate::specs::Snapshots::file_bytes))]
 pub(crate) fn put_file(
     out: &mut Vec<u8>,
     key: FileKey,
