@@ -1,9 +1,8 @@
 -- Attributes of a snapshot, one after the other.
-use Rattle.std.proofs.Common.{◌≡◌, ℕ, suc, ◌≤◌, List, [], ◌∷◌, ◌++◌, length, Option, Some, None, true, false, refl, ap, ◌∙◌, le-leb, arith}
-use Rattle.std.specs.List.{All, AllByRecursion}
+use Rattle.std.proofs.Common.{◌≡◌, ℕ, ◌≤◌, List, [], ◌∷◌, ◌++◌, length, Option, Some, None, true, false, refl, ap, ◌∙◌, le-leb, arith}
+use Rattle.std.specs.List.{AllByRecursion}
 use Rattle.std.specs.List.Sorted.{IsStrictlySortedBy}
 use Rattle.std.specs.Map.{keys_of, values_of}
-use Rattle.std.specs.declared.cmp.Ordering.{Ordering}
 use Rattle.std.specs.declared.cmp.Ordering.TheVariants.{Less, Equal, Greater}
 use Rattle.std.specs.Ordering.{is_lt, ordering_reverse}
 use Rattle.std.specs.Cmp.{IsTotalOrder}
@@ -12,15 +11,10 @@ use Rattle.std.proofs.lemmas.List.Sums.{sum_by-cons}
 use Rattle.hsm_types.specs.declared.attributes.AttrName.{AttrName}
 use Rattle.hsm_types.specs.Attributes.{Attributes, AreAttributes, name_cmp, is_reserved, with_value, cost_of_value, bytes_of_attributes, setting_refusal}
 use Rattle.meta_store.specs.Validity.{stands_behind, are_attributes}
-use Rattle.meta_store.proofs.KeptBounds.{values-short}
+use Rattle.meta_store.proofs.KeptBounds.{each_of, values-short}
 
 name_cmp-total : IsTotalOrder name_cmp
 name_cmp-total = on_total (λ (name : AttrName). name.0) nat_list_cmp_total
-
-less_from : (o : Ordering) → is_lt o ≡ true → o ≡ Less
-less_from Less h = refl
-less_from Equal h = cc
-less_from Greater h = cc
 
 -- ---- a name above all others goes last
 
@@ -52,7 +46,7 @@ module _ (before : Option AttrName) (attrs : Attributes) (name : AttrName) (valu
   at-end behind = goes-last name value attrs (ends name behind)
 
   pub ends-more : stands_behind before name ≡ true → EndWith (Some name) (with_value name value attrs)
-  ends-more behind = λ later h. rw (at-end behind) (all-below name later value attrs (less_from (name_cmp name later) h) (ends name behind))
+  ends-more behind = λ later h. rw (at-end behind) (all-below name later value attrs (grind arith) (ends name behind))
 
   pub accepted : (rest : Attributes) (limit : ℕ) → are_attributes before ((name, value) ∷ rest) ≡ true → bytes_of_attributes (attrs ++ (name, value) ∷ rest) ≤ limit → setting_refusal name value 0 limit attrs ≡ None
   accepted rest limit are few =
@@ -67,19 +61,16 @@ judged before name value others limit attrs rest behind none = grind arith
 
 -- ---- lawful attributes pass
 
-all_keys : (P : AttrName → Type 0) (attrs : Attributes) → All P (keys_of attrs) → AllByRecursion (λ a. P a.0) attrs
-all_keys P [] all = tt
-all_keys P (a ∷ attrs) all = (all 0 a.0 (omega arith), all_keys P attrs (λ k d within. all (suc k) d (omega arith)))
-
-pass-behind : (b : AttrName) (attrs : Attributes) → AllByRecursion (λ k. name_cmp b k ≡ Less) (keys_of attrs) → IsStrictlySortedBy name_cmp (keys_of attrs) → AllByRecursion (λ a. is_reserved a.0 ≡ false) attrs → AllByRecursion (λ a. length a.1 ≤ 4096) attrs → are_attributes (Some b) attrs ≡ true
+pass-behind : (b : AttrName) (attrs : Attributes) → AllByRecursion (λ k. name_cmp b k ≡ Less) (keys_of attrs) → IsStrictlySortedBy name_cmp (keys_of attrs) → AllByRecursion (λ a. is_reserved a.0 ≡ false) attrs → AllByRecursion (λ a. length a.1 ≤ 4096) attrs
+    → are_attributes (Some b) attrs ≡ true
 unfolding IsStrictlySortedBy
 pass-behind b [] behind ascend named short = refl
 pass-behind b (a ∷ attrs) behind ascend named short = rw (behind.0, named.0, le-leb (length a.1) 4096 short.0, pass-behind a.0 attrs ascend.0 ascend.1 named.1 short.1) refl
 
-pass-first : (attrs : Attributes) → IsStrictlySortedBy name_cmp (keys_of attrs) → AllByRecursion (λ a. is_reserved a.0 ≡ false) attrs → AllByRecursion (λ a. length a.1 ≤ 4096) attrs → are_attributes None attrs ≡ true
-unfolding IsStrictlySortedBy
-pass-first [] ascend named short = refl
-pass-first (a ∷ attrs) ascend named short = rw (named.0, le-leb (length a.1) 4096 short.0, pass-behind a.0 attrs ascend.0 ascend.1 named.1 short.1) refl
-
 pub attributes-pass : (attrs : Attributes) → AreAttributes attrs → are_attributes None attrs ≡ true
-attributes-pass attrs are = pass-first attrs are.ascend (all_keys (λ name. is_reserved name ≡ false) attrs are.unreserved) (values-short attrs are)
+unfolding IsStrictlySortedBy
+attributes-pass [] are = refl
+attributes-pass (a ∷ attrs) are =
+    let named = each_of (λ name. is_reserved name ≡ false) (λ b. b.0) (a ∷ attrs) are.unreserved in
+    let short = values-short (a ∷ attrs) are in
+    rw (named.0, le-leb (length a.1) 4096 short.0, pass-behind a.0 attrs are.ascend.0 are.ascend.1 named.1 short.1) refl
