@@ -1,8 +1,8 @@
 -- Names and places that stand once.
-use Rattle.std.proofs.Common.{◌≡◌, ℕ, ◌<◌, List, [], ◌∷◌, ◌++◌, length, set, Bool, true, false, not, None, eqb, refl, sym, ◌∙◌, append_assoc, append-nil, length-set, arith}
+use Rattle.std.proofs.Common.{◌≡◌, ℕ, ◌<◌, List, [], ◌∷◌, ◌++◌, length, set, Bool, true, false, None, eqb, refl, sym, ◌∙◌, append_assoc, append-nil, length-set, arith}
 use Rattle.std.specs.List.{AllByRecursion, list_any}
 use Rattle.std.specs.Str.{bytes_eq}
-use Rattle.std.proofs.lemmas.Bool.{cond-true, eq-eqb, and_parts, not-true, false_from_ne_true}
+use Rattle.std.proofs.lemmas.Bool.{false_from_ne_true}
 use Rattle.std.proofs.lemmas.Slice.Eq.{bytes_eq-Decides}
 use Rattle.std.proofs.lemmas.List.Folds.{list_any-append}
 use Rattle.std.proofs.lemmas.Grind.{common_steps}
@@ -11,7 +11,7 @@ use Rattle.plain_model.specs.Blocks.{with_mapped}
 use Rattle.plain_model.specs.Distinct.{Distinct}
 use Rattle.inode_table.specs.Listing.{Differ}
 use Rattle.meta_store.specs.Validity.{are_unused, are_free, Flags}
-use Rattle.meta_store.proofs.BlockUses.{is_one, uses, uses-append, absent-unused, distinct-uses, uses-distinct}
+use Rattle.meta_store.proofs.BlockUses.{uses, uses-append, absent-unused, distinct-uses, uses-distinct}
 
 -- ---- names
 
@@ -29,16 +29,11 @@ nameless (k ∷ ls) l rest d = rw (turned l.name k.name (unlike k.name ls l rest
 -- ---- places
 
 once : (used : List ℕ) (p : ℕ) (rest : List ℕ) → Distinct (used ++ p ∷ rest) → list_any (λ q. eqb q p) used ≡ false
-once used p rest d =
-    let here : is_one p p ≡ 1 = cond-true (eqb p p) 1 0 (eq-eqb p p refl) in
-    absent-unused p used (omega (arith, here, uses-append p used (p ∷ rest), distinct-uses (used ++ p ∷ rest) d p))
+once used p rest d = absent-unused p used (grind (arith, uses-append p used (p ∷ rest), distinct-uses (used ++ p ∷ rest) d p))
 
 pub unused-from : (used ps rest : List ℕ) → Distinct (used ++ (ps ++ rest)) → are_unused used ps ≡ true
 unused-from used [] rest d = refl
-unused-from used (p ∷ ps) rest d =
-    let none = once used p (ps ++ rest) d in
-    let more = unused-from (used ++ p ∷ []) ps rest (rw append_assoc d) in
-    grind arith
+unused-from used (p ∷ ps) rest d = grind (arith, once used p (ps ++ rest) d, unused-from (used ++ p ∷ []) ps rest (rw append_assoc d))
 
 distinct-as : (a b : List ℕ) → ((n : ℕ) → uses n b ≡ uses n a) → Distinct a → Distinct b
 distinct-as a b same d = uses-distinct b (λ n. omega (arith, same n, distinct-uses a d n))
@@ -47,25 +42,20 @@ distinct-as a b same d = uses-distinct b (λ n. omega (arith, same n, distinct-u
 pub unused-joins : (used ps : List ℕ) → are_unused used ps ≡ true → Distinct used → Distinct (ps ++ used)
 unused-joins used [] e d = d
 unused-joins used (p ∷ ps) e d =
-    let parts = and_parts (not (list_any (λ q. eqb q p) used)) (are_unused (used ++ p ∷ []) ps) e in
-    let more = distinct-as (p ∷ used) (used ++ p ∷ []) (λ n. omega (arith, uses-append n used (p ∷ []))) (not-true (list_any (λ q. eqb q p) used) parts.0, d) in
-    distinct-as (ps ++ (used ++ p ∷ [])) (p ∷ (ps ++ used)) (λ n. omega (arith, uses-append n ps (used ++ p ∷ []), uses-append n used (p ∷ []), uses-append n ps used)) (unused-joins (used ++ p ∷ []) ps parts.1 more)
+    let more = distinct-as (p ∷ used) (used ++ p ∷ []) (λ n. omega (arith, uses-append n used (p ∷ []))) (grind arith, d) in
+    distinct-as (ps ++ (used ++ p ∷ [])) (p ∷ (ps ++ used)) (λ n. omega (arith, uses-append n ps (used ++ p ∷ []), uses-append n used (p ∷ []), uses-append n ps used)) (unused-joins (used ++ p ∷ []) ps (grind arith) more)
 
 -- ---- flags
 
 flags-more : (flags : List Bool) (used : List ℕ) (p : ℕ) → p < length flags → Flags flags used → Flags (set flags p true) (used ++ p ∷ [])
-flags-more flags used p within f = λ b below.
-    let now = f b (rw length-set at below) in
-    let both = list_any-append (λ q. eqb q b) used (p ∷ []) in
-    grind (arith, common_steps)
+flags-more flags used p within f = λ b below. grind (arith, common_steps, f b, list_any-append (λ q. eqb q b) used (p ∷ []))
 
-pub free-is : (ps : List ℕ) (flags : List Bool) (used : List ℕ) → AllByRecursion (λ p. p < length flags) ps → Flags flags used → are_free ps flags ≡ are_unused used ps
-free-is [] flags used within f = refl
-free-is (p ∷ ps) flags used within f = rw (f p within.0, free-is ps (set flags p true) (used ++ p ∷ []) (rw length-set within.1) (flags-more flags used p within.0 f)) refl
-
-pub flags-mapped : (ps : List ℕ) (flags : List Bool) (used : List ℕ) → AllByRecursion (λ p. p < length flags) ps → Flags flags used → Flags (with_mapped ps flags) (used ++ ps)
-flags-mapped [] flags used within f = rw append-nil f
-flags-mapped (p ∷ ps) flags used within f = rw append_assoc at (flags-mapped ps (set flags p true) (used ++ p ∷ []) (rw length-set within.1) (flags-more flags used p within.0 f))
+-- the flags tell which places are unused, and then they are set
+pub free-is : (ps : List ℕ) (flags : List Bool) (used : List ℕ) → AllByRecursion (λ p. p < length flags) ps → Flags flags used → (are_free ps flags ≡ are_unused used ps) × Flags (with_mapped ps flags) (used ++ ps)
+free-is [] flags used within f = (refl, rw append-nil f)
+free-is (p ∷ ps) flags used within f =
+    let more = free-is ps (set flags p true) (used ++ p ∷ []) (rw length-set within.1) (flags-more flags used p within.0 f) in
+    (rw (f p within.0, more.0) refl, rw append_assoc at more.1)
 
 pub length-mapped : (ps : List ℕ) (flags : List Bool) → length (with_mapped ps flags) ≡ length flags
 length-mapped [] flags = refl

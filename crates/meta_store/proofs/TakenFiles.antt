@@ -17,7 +17,7 @@ use Rattle.meta_store.specs.Validity.{names_in, places_of, places_in, last_inode
 use Rattle.meta_store.proofs.MappedPlaces.{length-places_set}
 use Rattle.meta_store.proofs.SpreadPlaces.{filled, snapshot-filled, present-spread, extents-tell, all-places}
 use Rattle.meta_store.proofs.LastFiles.{put-behind}
-use Rattle.meta_store.proofs.StandOnce.{unused-joins, free-is, flags-mapped, length-mapped}
+use Rattle.meta_store.proofs.StandOnce.{unused-joins, free-is, length-mapped}
 use Rattle.meta_store.proofs.PassingFiles.{names_in-snapshot, places_in-snapshot, Follows, follows}
 
 same_variant : {X Y : Type 0} (to : X → Y) (o : Option X) → is_some (option_map to o) ≡ is_some o
@@ -44,8 +44,11 @@ module _ (g : Geometry) (next : ℕ) (c : Catalog) (flags : List Bool) (f : Snap
   pub within : AllByRecursion (λ e. e.place < length flags) f.extents
   within = rw t.count (extents-tell 0 (blocks_in f.size) g.blocks f.extents facts.extents).1
 
+  abbrev flags-tell : (are_free (places_of f.extents) flags ≡ are_unused (places_in (map snapshot_file c.files)) (places_of f.extents)) × Flags (with_mapped (places_of f.extents) flags) (places_in (map snapshot_file c.files) ++ places_of f.extents)
+  flags-tell = free-is (places_of f.extents) flags (places_in (map snapshot_file c.files)) (all-places (λ p. p < length flags) f.extents within) t.flagged
+
   pub free-unused : are_free (places_of f.extents) flags ≡ are_unused (places_in (map snapshot_file c.files)) (places_of f.extents)
-  free-unused = free-is (places_of f.extents) flags (places_in (map snapshot_file c.files)) (all-places (λ p. p < length flags) f.extents within) t.flagged
+  free-unused = flags-tell.0
 
   pub is-lawful : IsLawfulKept f.kept → IsCatalogFile g.blocks (filled f)
   is-lawful kept = record {
@@ -74,5 +77,5 @@ module _ (g : Geometry) (next : ℕ) (c : Catalog) (flags : List Bool) (f : Snap
         next = omega arith;
         taken = ap (λ (fs : List CatalogFile). map snapshot_file fs) (put-behind 0 (filled f) c.files a is-above) ∙ map-append snapshot_file c.files (filled f ∷ []) ∙ ap (λ (s : SnapshotFile). files ++ s ∷ []) (snapshot-filled g.blocks f facts.extents);
         count = length-mapped (places_of f.extents) flags ∙ t.count;
-        flagged = subst P (sym places) (flags-mapped (places_of f.extents) flags (places_in files) (all-places (λ p. p < length flags) f.extents within) t.flagged);
+        flagged = subst P (sym places) flags-tell.1;
       }
