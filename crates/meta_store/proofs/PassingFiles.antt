@@ -26,7 +26,7 @@ use Rattle.meta_store.proofs.StandOnce.{nameless, unused-from}
 
 pub names_in-snapshot : (fs : List CatalogFile) → names_in (map snapshot_file fs) ≡ names_of fs
 names_in-snapshot [] = refl
-names_in-snapshot (f ∷ fs) = ap (λ (ls : List Listed). (record { key = f.key; name = f.name }) ∷ ls) (names_in-snapshot fs)
+names_in-snapshot (f ∷ fs) = rw (names_in-snapshot fs) refl
 
 pub places_in-snapshot : (fs : List CatalogFile) → places_in (map snapshot_file fs) ≡ blocks_of fs
 places_in-snapshot [] = refl
@@ -44,11 +44,9 @@ Passes limit next blocks f = (leb f.key.ino limit ≡ true) × (is_file next blo
 each-alone : (limit next blocks : ℕ) (fs : List CatalogFile) → Within limit next (names_of fs) → AllByRecursion (IsCatalogFile blocks) fs → AllByRecursion (Passes limit next blocks) (map snapshot_file fs)
 each-alone limit next blocks [] within each = tt
 each-alone limit next blocks (f ∷ fs) within each =
-    let is = each.0 in
-    let extents : are_extents 0 (blocks_in f.size) blocks (extents_from 0 f.places) ≡ true = are_extents-from 0 0 (blocks_in f.size) blocks f.places (omega arith) (let len = is.places in omega arith) is.within in
-    let file : is_file next blocks (snapshot_file f) ≡ true = let old = within.1 in let first = is.generation in let size = is.size in let name = is.name in grind arith in
-    let kept : is_kept f.kept ≡ true = rw (is.kept.regions, attributes-pass f.kept.attributes is.kept.attributes) refl in
-    ((le-leb f.key.ino limit within.0, file, kept), each-alone limit next blocks fs within.2 each.1)
+    let extents = are_extents-from 0 0 (blocks_in f.size) blocks f.places (omega arith) (omega (arith, each.0.places)) each.0.within in
+    let kept : is_kept f.kept ≡ true = rw (each.0.kept.regions, attributes-pass f.kept.attributes each.0.kept.attributes) refl in
+    ((grind arith, grind (arith, each.0), kept), each-alone limit next blocks fs within.2 each.1)
 
 at-place : {X : Type 0} (P : X → Type 0) (before : List X) (x : X) (rest : List X) → AllByRecursion P (before ++ x ∷ rest) → P x
 at-place P [] x rest all = all.0
@@ -57,22 +55,15 @@ at-place P (b ∷ before) x rest all = at-place P before x rest all.1
 pub passes : (c : Catalog) (before : List SnapshotFile) (f : SnapshotFile) (rest : List SnapshotFile) → IsCatalog c → map snapshot_file c.files ≡ before ++ f ∷ rest → is_next (geometry_of c.geometry) c.next before f ≡ true
 passes c before f rest is e =
     let g : Geometry = geometry_of c.geometry in
-    let P : List SnapshotFile → Type 0 = λ fs. AllByRecursion (Passes g.files c.next g.blocks) fs in
-    let alone = at-place (Passes g.files c.next g.blocks) before f rest (subst P e (each-alone g.files c.next g.blocks c.files is.table.within is.each)) in
     let names : names_of c.files ≡ names_in before ++ listed_in f ∷ names_in rest = sym (names_in-snapshot c.files) ∙ ap names_in e ∙ map-append listed_in before (f ∷ rest) in
     let places : blocks_of c.files ≡ places_in before ++ (places_of f.extents ++ places_in rest) = sym (places_in-snapshot c.files) ∙ ap places_in e ∙ flat_map-append (λ (s : SnapshotFile). places_of s.extents) before (f ∷ rest) in
-    let T : List Listed → Type 0 = λ ls. IsTable g.files c.next ls in
-    let table = subst T names is.table in
-    let D : List ℕ → Type 0 = λ ps. Distinct ps in
-    let fresh : named f.name (names_in before) ≡ None = nameless (names_in before) (listed_in f) (names_in rest) table.differ in
-    let above : last_inode 0 (names_in before) < f.key.ino = above-last 0 (names_in before) (listed_in f) (names_in rest) table.ascend in
-    let unused : are_unused (places_in before) (places_of f.extents) ≡ true = unused-from (places_in before) (places_of f.extents) (places_in rest) (subst D places is.distinct) in
+    let alone = at-place (Passes g.files c.next g.blocks) before f rest (rw e at (each-alone g.files c.next g.blocks c.files is.table.within is.each)) in
     let count = λ (s : SnapshotFile). bytes_of_attributes s.kept.attributes in
-    let few : leb (attribute_total_in before + bytes_of_attributes f.kept.attributes) g.attributes ≡ true = le-leb (attribute_total_in before + bytes_of_attributes f.kept.attributes) g.attributes (omega (arith, sum_by-append count before (f ∷ rest), sum_by-cons count f rest, ap attribute_total_in e, total_in-snapshot c.files, is.few)) in
-    let high = alone.0 in
-    let file = alone.1 in
-    let kept = alone.2 in
-    grind arith
+    let few : attribute_total_in before + count f ≤ g.attributes = omega (arith, sum_by-append count before (f ∷ rest), sum_by-cons count f rest, ap attribute_total_in e, total_in-snapshot c.files, is.few) in
+    let fresh = nameless (names_in before) (listed_in f) (names_in rest) (rw names at is.table.differ) in
+    let above = above-last 0 (names_in before) (listed_in f) (names_in rest) (rw names at is.table.ascend) in
+    let unused = unused-from (places_in before) (places_of f.extents) (places_in rest) (rw places at is.distinct) in
+    grind (arith, alone)
 
 -- ---- what the judgement tells
 

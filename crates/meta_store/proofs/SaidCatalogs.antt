@@ -1,5 +1,5 @@
 -- What a snapshot that was read says.
-use Rattle.std.proofs.Common.{◌≡◌, ℕ, List, [], ◌∷◌, ◌++◌, map, true, sym, ◌∙◌, ap}
+use Rattle.std.proofs.Common.{◌≡◌, ℕ, List, [], ◌∷◌, ◌++◌, map, true, refl, sym, ◌∙◌, ap}
 use Rattle.std.proofs.lemmas.List.{map-append}
 use Rattle.plain_model.specs.Plain.{Listed}
 use Rattle.meta_store.specs.declared.snapshot.RawFile.{RawFile}
@@ -10,26 +10,20 @@ use Rattle.meta_store.specs.Validity.{listed_in, names_in, last_inode, is_next}
 use Rattle.meta_store.proofs.LastFiles.{last_inode-push}
 use Rattle.meta_store.proofs.PassingFiles.{passes}
 
-pub record Said (s : RawSnapshot) (n : ℕ) (c : Catalog) : Type 0 where
-  pub number : s.number ≡ n
-  pub next : s.next ≡ c.next
-  pub files : map raw_file s.files.items ≡ map snapshot_file c.files
-
-pub said : (s : RawSnapshot) (n : ℕ) (c : Catalog) → raw_snapshot s ≡ snapshot_of n c → Said s n c
+pub said : (s : RawSnapshot) (n : ℕ) (c : Catalog) → raw_snapshot s ≡ snapshot_of n c → (s.number ≡ n) × (s.next ≡ c.next) × (map raw_file s.files.items ≡ map snapshot_file c.files)
 unfolding snapshot_of
-said s n c e = record { number = ap (λ (x : Snapshot). x.number) e; next = ap (λ (x : Snapshot). x.next) e; files = ap (λ (x : Snapshot). x.files) e }
+said s n c e = (ap (λ (x : Snapshot). x.number) e, ap (λ (x : Snapshot). x.next) e, ap (λ (x : Snapshot). x.files) e)
 
 pub saying : (s : RawSnapshot) (c : Catalog) → c.next ≡ s.next → map snapshot_file c.files ≡ map raw_file s.files.items → raw_snapshot s ≡ snapshot_of s.number c
 unfolding snapshot_of
-saying s c next files =
-    ap (λ (n : ℕ). record { number = s.number; next = n; files = map raw_file s.files.items }) (sym next) ∙ ap (λ (fs : List SnapshotFile). record { number = s.number; next = c.next; files = fs }) (sym files)
+saying s c next files = rw (next, files) refl
 
 -- a valid catalog's snapshot has no file that can't stand behind those before it
 pub each-passes : (s : RawSnapshot) (n : ℕ) (c : Catalog) (before : List RawFile) (f : RawFile) (rest : List RawFile) → IsCatalog c → raw_snapshot s ≡ snapshot_of n c → before ++ f ∷ rest ≡ s.files.items
     → is_next (geometry_of c.geometry) s.next (map raw_file before) (raw_file f) ≡ true
 each-passes s n c before f rest valid e cut =
     let says = said s n c e in
-    rw says.next (passes c (map raw_file before) (raw_file f) (map raw_file rest) valid (sym says.files ∙ sym (ap (λ (fs : List RawFile). map raw_file fs) cut) ∙ map-append raw_file before (f ∷ rest)))
+    rw says.1 (passes c (map raw_file before) (raw_file f) (map raw_file rest) valid (sym says.2 ∙ sym (ap (λ (fs : List RawFile). map raw_file fs) cut) ∙ map-append raw_file before (f ∷ rest)))
 
 pub last-taken : (before : List SnapshotFile) (f : SnapshotFile) → f.key.ino ≡ last_inode 0 (names_in (before ++ f ∷ []))
-last-taken before f = sym (ap (λ (ls : List Listed). last_inode 0 ls) (map-append listed_in before (f ∷ [])) ∙ last_inode-push 0 (names_in before) (listed_in f))
+last-taken before f = rw (map-append listed_in before (f ∷ []), last_inode-push 0 (names_in before) (listed_in f)) refl

@@ -1,7 +1,7 @@
 -- Places of blocks, and the extents that say them.
-use Rattle.std.proofs.Common.{◌≡◌, ℕ, zero, suc, ◌+◌, ◌-◌, ◌<◌, ◌≤◌, List, [], ◌∷◌, ◌++◌, length, map, replicate, true, false, ltb, Option, Some, None, ⊎_elim, refl, sym, ◌∙◌, ap, arith, append_assoc}
+use Rattle.std.proofs.Common.{◌≡◌, ℕ, zero, suc, ◌+◌, ◌-◌, ◌<◌, ◌≤◌, List, [], ◌∷◌, ◌++◌, length, map, set, replicate, true, Option, Some, None, inl, inr, refl, sym, ◌∙◌, ap, arith, append_assoc}
 use Rattle.std.specs.List.{AllByRecursion}
-use Rattle.std.proofs.lemmas.Bool.{cases_Bool, lt-ltb, le-leb}
+use Rattle.std.proofs.lemmas.Bool.{cases_lt}
 use Rattle.std.proofs.lemmas.List.{length_push, set-append_right}
 use Rattle.meta_store.specs.declared.snapshot.Mapping.{Mapping}
 use Rattle.plain_model.specs.Blocks.{blocks_in}
@@ -12,53 +12,37 @@ use Rattle.meta_store.specs.Validity.{are_extents, places_of}
 
 -- ---- the places, from their extents
 
--- one place more, or a hole
-first : (front : List (Option ℕ)) (x : Option ℕ) (ps holes : List (Option ℕ)) → places_set (extents_from (length front) (x ∷ ps)) (front ++ None ∷ holes) ≡ places_set (extents_from (length front + 1) ps) (front ++ x ∷ holes)
-first front None ps holes = refl
-first front (Some at) ps holes =
-    let none : length front - length front ≡ 0 = omega arith in
-    ap (λ (qs : List (Option ℕ)). places_set (extents_from (length front + 1) ps) qs) (set-append_right front (None ∷ holes) (length front) (length front) (Some at) refl (omega arith) ∙ rw none refl)
-
 -- behind a front
 again : (ps front : List (Option ℕ)) → places_set (extents_from (length front) ps) (front ++ replicate (length ps) None) ≡ front ++ ps
 again [] front = refl
-again (x ∷ ps) front =
-    let rest = again ps (front ++ x ∷ []) in
-    first front x ps (replicate (length ps) None) ∙ rw (length_push, append_assoc front (x ∷ []) (replicate (length ps) None), append_assoc front (x ∷ []) ps) at rest
+again (None ∷ ps) front = simp (length_push, append_assoc) at (again ps (front ++ None ∷ []))
+again (Some at ∷ ps) front =
+    let holes : List (Option ℕ) = replicate (length ps) None in
+    let none : length front - length front ≡ 0 = omega arith in
+    let here : set (front ++ None ∷ holes) (length front) (Some at) ≡ front ++ Some at ∷ holes = set-append_right front (None ∷ holes) (length front) (length front) (Some at) refl (omega arith) ∙ rw none refl in
+    ap (places_set (extents_from (length front + 1) ps)) here ∙ simp (length_push, append_assoc) at (again ps (front ++ Some at ∷ []))
 
 -- ---- the extents, from their places
 
 -- the places of so many blocks that these extents say
-record Laid (low count : ℕ) (ms : List Mapping) : Type 0 where
-  places : List (Option ℕ)
-  counted : length places ≡ count
-  said : extents_from low places ≡ ms
-
--- a hole in front, or a place
-hole : (low count : ℕ) (ms : List Mapping) → Laid (low + 1) count ms → Laid low (suc count) ms
-hole low count ms l = let counted = l.counted in record { places = None ∷ l.places; counted = omega arith; said = l.said }
-
-block : (low count : ℕ) (x : Mapping) (ms : List Mapping) → low ≡ x.block → Laid (low + 1) count ms → Laid low (suc count) (x ∷ ms)
-block low count x ms at l =
-    let counted = l.counted in
-    record { places = Some x.place ∷ l.places; counted = omega arith; said = ap (λ (es : List Mapping). (record { block = low; place = x.place }) ∷ es) l.said ∙ ap (λ (b : ℕ). (record { block = b; place = x.place }) ∷ ms) at }
-
-laid : (count low n blocks : ℕ) (ms : List Mapping) → low + count ≡ n → are_extents low n blocks ms ≡ true → Laid low count ms
-laid zero low n blocks [] all h = record { places = []; counted = refl; said = refl }
+laid : (count low n blocks : ℕ) (ms : List Mapping) → low + count ≡ n → are_extents low n blocks ms ≡ true → (places : List (Option ℕ)) × (length places ≡ count) × (extents_from low places ≡ ms)
+laid zero low n blocks [] all h = ([], refl, refl)
 laid zero low n blocks (x ∷ ms) all h = absurd (grind arith)
-laid (suc count) low n blocks [] all h = hole low count [] (laid count (low + 1) n blocks [] (omega arith) refl)
+laid (suc count) low n blocks [] all h = let l = laid count (low + 1) n blocks [] (omega arith) refl in (None ∷ l.0, omega (arith, l.1), l.2)
 laid (suc count) low n blocks (x ∷ ms) all h =
-    ⊎_elim
-    (λ (later : ltb low x.block ≡ true). hole low count (x ∷ ms) (laid count (low + 1) n blocks (x ∷ ms) (omega arith) (grind arith)))
-    (λ (now : ltb low x.block ≡ false). block low count x ms (grind arith) (laid count (low + 1) n blocks ms (omega arith) (grind arith)))
-    (cases_Bool (ltb low x.block))
+    elim (cases_lt low x.block) [
+      | inl later ↦ let l = laid count (low + 1) n blocks (x ∷ ms) (omega arith) (grind arith) in (None ∷ l.0, omega (arith, l.1), l.2)
+      | inr past ↦
+          let l = laid count (low + 1) n blocks ms (omega arith) (grind arith) in
+          let at : low ≡ x.block = grind arith in
+          (Some x.place ∷ l.0, omega (arith, l.1), ap (λ (es : List Mapping). (record { block = low; place = x.place }) ∷ es) l.2 ∙ ap (λ (b : ℕ). (record { block = b; place = x.place }) ∷ ms) at)
+    ]
 
 -- the blocks of these extents say them again
 spread-holes : (ms : List Mapping) (n blocks : ℕ) → are_extents 0 n blocks ms ≡ true → extents_from 0 (places_set ms (replicate n None)) ≡ ms
 spread-holes ms n blocks h =
     let l = laid n 0 n blocks ms (omega arith) h in
-    let there : places_set ms (replicate n None) ≡ l.places = rw (l.said, l.counted) at (again l.places []) in
-    ap (λ (ps : List (Option ℕ)). extents_from 0 ps) there ∙ l.said
+    rw (rw (l.2, l.1) at (again l.0 [])) l.2
 
 -- ---- a file from its snapshot
 
@@ -67,14 +51,13 @@ abbrev pub filled : SnapshotFile → CatalogFile
 filled f = record { key = f.key; name = f.name; size = f.size; places = places_set f.extents (replicate (blocks_in f.size) None); kept = f.kept }
 
 pub snapshot-filled : (blocks : ℕ) (f : SnapshotFile) → are_extents 0 (blocks_in f.size) blocks f.extents ≡ true → snapshot_file (filled f) ≡ f
-snapshot-filled blocks f ok = ap (λ (es : List Mapping). record { key = f.key; size = f.size; name = f.name; kept = f.kept; extents = es }) (spread-holes f.extents (blocks_in f.size) blocks ok)
+snapshot-filled blocks f ok = rw (spread-holes f.extents (blocks_in f.size) blocks ok) refl
 
 pub filled-again : (blocks : ℕ) (fs : List CatalogFile) → AllByRecursion (IsCatalogFile blocks) fs → map filled (map snapshot_file fs) ≡ fs
 filled-again blocks [] each = refl
 filled-again blocks (f ∷ fs) each =
     let places : places_set (extents_from 0 f.places) (replicate (blocks_in f.size) None) ≡ f.places = rw each.0.places at (again f.places []) in
-    let one : filled (snapshot_file f) ≡ f = ap (λ (ps : List (Option ℕ)). record { key = f.key; name = f.name; size = f.size; places = ps; kept = f.kept }) places in
-    rw (one, filled-again blocks fs each.1) refl
+    rw (places, filled-again blocks fs each.1) refl
 
 -- ---- what extents tell
 
@@ -90,10 +73,7 @@ present-spread ms n blocks h = sym (places_of-extents 0 (places_set ms (replicat
 pub are_extents-from : (k low n blocks : ℕ) (places : List (Option ℕ)) → low ≤ k → k + length places ≡ n → AllByRecursion (λ b. b < blocks) (present places) → are_extents low n blocks (extents_from k places) ≡ true
 are_extents-from k low n blocks [] le e all = refl
 are_extents-from k low n blocks (None ∷ places) le e all = are_extents-from (k + 1) low n blocks places (omega arith) (omega arith) all
-are_extents-from k low n blocks (Some at ∷ places) le e all =
-    let rest = are_extents-from (k + 1) (k + 1) n blocks places (omega arith) (omega arith) all.1 in
-    let high : k < n = omega arith in
-    rw (le-leb low k le, lt-ltb k n high, lt-ltb at blocks all.0) rest
+are_extents-from k low n blocks (Some at ∷ places) le e all = grind (arith, all.0, are_extents-from (k + 1) (k + 1) n blocks places (omega arith) (omega arith) all.1)
 
 -- what are_extents tells
 pub extents-tell : (low n blocks : ℕ) (ms : List Mapping) → are_extents low n blocks ms ≡ true → AllByRecursion (λ m. m.block < n) ms × AllByRecursion (λ m. m.place < blocks) ms

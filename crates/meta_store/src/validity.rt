@@ -1,6 +1,7 @@
 // The judgement of a snapshot that was read: the catalog that it says, if it is a valid one.
 
-ghost use Rattle.std.specs.Prelude.{◌≡◌, ℕ, ◌^◌, ◌≤◌, ◌++◌, [], ◌∷◌, map, false, IfOk, OnOk};
+ghost use Rattle.std.specs.Prelude.{◌≡◌, ℕ, ◌^◌, ◌≤◌, ◌++◌, [], ◌∷◌, map, false, is_some, IfOk, OnOk};
+ghost use Rattle.plain_model.specs.Plain.{named};
 ghost use Rattle.std.specs.Result.{IsErrOf};
 ghost use Rattle.meta_store.specs.Catalogs.{Catalog, geometry_of, IsCatalog};
 ghost use Rattle.meta_store.specs.Snapshots.{raw_file, raw_snapshot, snapshot_file, snapshot_of};
@@ -13,7 +14,7 @@ use crate::file_places::FilePlaces;
 use crate::geometry::geometry_of;
 use crate::kept::{attributes_of, regions_of};
 use crate::snapshot::{RawFile, RawSnapshot, ReadRefusal};
-use hsm_types::{BLOCK_BYTES, FILE_BYTES, Geometry, can_name};
+use hsm_types::{BLOCK_BYTES, FILE_BYTES, Geometry, Word, can_name};
 use std::alloc::Global;
 
 /// The catalog that a snapshot says, if it is a valid one of that geometry. The files are walked once, with a flag for each block of the disk, and
@@ -84,11 +85,17 @@ fn can_follow(catalog: &Catalog, limits: Geometry, next: u64, last: u64, file: &
     requires { last ≡ last_inode 0 (names_in (map snapshot_file catalog.now.files)) }
     ensures { result ≡ can_follow limits next (map snapshot_file catalog.now.files) (raw_file file.now) }
 {
-    let named = catalog.names().find(&file.name).is_some();
-    if named || file.key.ino <= last || u64::from(limits.files) < file.key.ino {
-        return false;
-    }
-    is_file(file, next, limits.blocks)
+    !has_name(catalog, &file.name)
+        && last < file.key.ino
+        && file.key.ino <= u64::from(limits.files)
+        && is_file(file, next, limits.blocks)
+}
+
+/// Whether a file of the catalog has that name.
+fn has_name(catalog: &Catalog, name: &Word) -> bool
+    ensures { result ≡ is_some (named name.now (names_in (map snapshot_file catalog.now.files))) }
+{
+    catalog.names().find(name).is_some()
 }
 
 /// Whether what a file says of itself is lawful on a disk of so many blocks.

@@ -11,13 +11,7 @@ use Rattle.meta_store.proofs.validity.catalog_of.Goals as goal
 
 pub returns-then-snapshot-most-clause-corrupt : goal.returns-then-snapshot-most-clause-corrupt
 returns-then-snapshot-most-clause-corrupt c = λ is n d kind small valid same.
-    let says = said c.args.snapshot n d same in
-    let number = says.number in
-    let next = says.next in
-    let first = valid.first in
-    let most = valid.next in
-    let either = c.then-snapshot-most.either in
-    grind arith
+    grind (arith, said c.args.snapshot n d same, valid.first, valid.next, c.then-snapshot-most.either)
 
 same_err : {T E : Type 0} (r : Result T E) (e why from : E) → r ≡ Err e → r ≡ Err why → e ≡ from → from ≡ why
 same_err r e why from a b is = cc
