@@ -2,7 +2,7 @@
 ghost use Rattle.std.specs.Prelude.{◌≡◌, ◌≤◌, ◌^◌, length, IfOk, OnOk};
 ghost use Rattle.commit_slots.specs.Places.{layout_of};
 ghost use Rattle.meta_store.specs.Catalogs.{IsCatalog};
-ghost use Rattle.meta_store.specs.Snapshots.{spelling, snapshot_of, Fits};
+ghost use Rattle.meta_store.specs.Snapshots.{spelling, snapshot_of};
 
 use crate::catalog::Catalog;
 use crate::writing::{put_file, put_header};
@@ -17,7 +17,6 @@ pub(crate) fn spell(alloc: Global, number: u64, catalog: &Catalog) -> Result<Vec
     ensures spelled { IfOk result (λ v. v.items ≡ spelling (snapshot_of number catalog.now)) }
     ensures short { IfOk result (λ v. length v.items ≤ (layout_of catalog.now.geometry).snapshot_len) }
     ensures lawful { OnOk result (IsCatalog catalog.now) }
-    ensures fits { OnOk result (Fits (snapshot_of number catalog.now)) }
 {
     // Read for what is true of each catalog.
     let _geometry = catalog.geometry();

@@ -1,11 +1,11 @@
 // A store's files in memory, over the snapshots of its disk.
-ghost use Rattle.std.specs.Prelude.{◌≡◌, ◌≤◌, ◌^◌, ◌↔◌, List, ℕ, true, false, Some, Err, OnOk, OnErr, IfOk};
+ghost use Rattle.std.specs.Prelude.{◌≡◌, ◌≤◌, ◌^◌, ◌↔◌, List, ℕ, true, false, Some, Err, OnOk, OnErr, IfOk, if◌then◌else◌};
 ghost use Rattle.std.specs.Result.{IsErrOf};
 ghost use Rattle.hsm_types.specs.declared.dm.DmRefusal.{DmRefusal};
 ghost use Rattle.disk_model.specs.Calls.{Rose};
 ghost use Rattle.disk_model.specs.Images.{Alike};
 ghost use Rattle.disk_model.specs.Moments.{MayBe, Keeps, Same};
-ghost use Rattle.commit_slots.specs.Places.{layout_of};
+ghost use Rattle.commit_slots.specs.Places.{layout_of, snapshot_at, journal_at};
 ghost use Rattle.commit_slots.specs.Images.{slot_of, IsStore};
 ghost use Rattle.meta_store.specs.Images.{IsImage, IsCorruptAt};
 ghost use Rattle.meta_store.specs.Records.{refusal_of_all, CanStandAll, IsEvent};
@@ -17,7 +17,7 @@ use crate::records::Records;
 use crate::refusal::MetaRefusal;
 use crate::snapshot::ReadRefusal;
 use crate::spelling::spell;
-use commit_slots::{CommitSlots, Layout};
+use commit_slots::{CommitSlots, Layout, Loaded};
 use disk_model::{Disk, Failed, OpenRefusal, sync_all};
 use std::alloc::Global;
 use std::marker::Model;
@@ -85,20 +85,15 @@ impl MetaStore {
             Ok(loaded) => loaded,
             Err(refusal) => return Err(refusal),
         };
-        let layout = Layout::of_geometry(loaded.geometry);
-        let second = loaded.slot == 1;
+        let (snapshot, journal) = selected(&loaded);
         let (number, catalog) = match judge(alloc, loaded.geometry, &loaded.image) {
             Ok(found) => found,
             Err(ReadRefusal::Memory) => return Err(OpenRefusal::Memory),
-            Err(ReadRefusal::Corrupt) => {
-                let place = layout.snapshot(second);
-                return Err(OpenRefusal::Corrupt { place });
-            }
+            Err(ReadRefusal::Corrupt) => return Err(OpenRefusal::Corrupt { place: snapshot }),
         };
-        let place = layout.journal(second);
-        match is_closed(disk, place) {
+        match is_closed(disk, journal) {
             Ok(true) => {}
-            Ok(false) => return Err(OpenRefusal::Corrupt { place }),
+            Ok(false) => return Err(OpenRefusal::Corrupt { place: journal }),
             Err(Failed) => return Err(OpenRefusal::Disk),
         }
         Ok(MetaStore {
@@ -206,4 +201,15 @@ impl MetaStore {
             Err(Failed) => Err(MetaRefusal::Disk),
         }
     }
+}
+
+/// Where the selected slot's snapshot and its journal lie.
+fn selected(loaded: &Loaded) -> (u64, u64)
+    requires { loaded.now.slot ≡ (if loaded.now.slots.second then 1 else 0) }
+    ensures snapshot { result.0 ≡ snapshot_at (layout_of loaded.now.geometry) loaded.now.slots.second }
+    ensures journal { result.1 ≡ journal_at (layout_of loaded.now.geometry) loaded.now.slots.second }
+{
+    let layout = Layout::of_geometry(loaded.geometry);
+    let second = loaded.slot == 1;
+    (layout.snapshot(second), layout.journal(second))
 }

@@ -2,7 +2,7 @@ use Rattle.std.proofs.Common.{◌≡◌, ◌≤◌, List, ℕ, length, sym, ◌�
 use Rattle.std.proofs.lemmas.List.{length-map}
 use Rattle.commit_slots.specs.Places.{layout_of}
 use Rattle.inode_table.specs.Table.{Table, entry_of}
-use Rattle.meta_store.proofs.SnapshotFits.{fits_of, snapshot-short}
+use Rattle.meta_store.proofs.SnapshotFits.{snapshot-short}
 use Rattle.meta_store.proofs.WrittenFiles.{some-at, bounds-at, header-first, file-more, files-all}
 use Rattle.meta_store.proofs.spelling.spell.Goals.{After-len-count}
 use Rattle.meta_store.proofs.spelling.spell.Goals as goal
@@ -33,5 +33,4 @@ returns c =
       spelled = sym all ∙ c.loop-index.invariant;
       short = rw (← all, c.loop-index.invariant) (snapshot-short c.args.number c.args.catalog.now valid);
       lawful = valid;
-      fits = fits_of c.args.number c.args.catalog.now c.requires valid;
     }

@@ -1,43 +1,31 @@
-use Rattle.std.proofs.Common.{ℕ, sym, ◌∙◌, ap, subst, arith}
+use Rattle.std.proofs.Common.{◌∙◌, ap, arith}
 use Rattle.std.specs.Prelude.{Err}
-use Rattle.disk_model.specs.declared.refusal.OpenRefusal.{OpenRefusal}
 use Rattle.disk_model.proofs.Steps.{sames_on}
 use Rattle.meta_store.specs.declared.snapshot.ReadRefusal.{ReadRefusal}
-use Rattle.meta_store.specs.Catalogs.{Catalog}
-use Rattle.meta_store.specs.Images.{IsImage, IsCorruptAt}
-use Rattle.meta_store.proofs.OpenedImages.{err_is, place_is, snapshot_corrupt, gate_fits, gate_corrupt, image_found}
+use Rattle.meta_store.proofs.OpenedImages.{err_on, place_is, gate_fits, snapshot_corrupt, gate_corrupt, image_found}
 use Rattle.meta_store.proofs.store.MetaStore.read_in.Goals as goal
 
 pub returns-in-Err-clause-not_store : goal.returns-in-Err-clause-not_store
-returns-in-Err-clause-not_store g c = λ is. c.in-Err.ensures.not_store (ap (λ (e : OpenRefusal). Err e) (err_is _ _ is))
+returns-in-Err-clause-not_store g c = λ is. c.in-Err.ensures.not_store (err_on is)
 
 pub returns-in-Err-Corrupt-clause-corrupt : goal.returns-in-Err-Corrupt-clause-corrupt
 returns-in-Err-Corrupt-clause-corrupt g c = λ place is image given.
-    subst (λ (p : ℕ). IsCorruptAt p image) (place_is _ _ (err_is _ _ is))
-    (snapshot_corrupt c.in-Ok.loaded.geometry c.in-Ok.loaded.fsid c.in-Ok.loaded.slot c.snapshot-place.result c.in-Ok.loaded.slots.second c.of_geometry-layout.result c.deref.result.now image
-    (record { store = c.in-Ok.ensures.found image given; select = c.in-Ok.ensures.selected image given; holds = c.deref.ensures.value ∙ c.in-Ok.ensures.image image given })
-    c.of_geometry-layout.ensures c.in-Ok.ensures.slot c.snapshot-place.ensures
-    (c.in-Err-Corrupt.ensures.corrupt (ap (λ (e : ReadRefusal). Err e) c.in-Err-Corrupt.field-0-is)))
+    snapshot_corrupt (record { store = c.in-Ok.ensures.found image given; select = c.in-Ok.ensures.selected image given; holds = c.deref.ensures.value ∙ c.in-Ok.ensures.image image given }) place
+    (rw (← place_is _ _ is) c.selected-snapshot.ensures.snapshot) (c.in-Err-Corrupt.ensures.corrupt (ap (λ (e : ReadRefusal). Err e) c.in-Err-Corrupt.field-0-is))
 
 pub is_closed-requires : goal.is_closed-requires
-is_closed-requires g c = omega (arith, gate_fits c.in-Ok.loaded.geometry c.in-Ok.loaded.slot c.journal-place.result c.in-Ok.loaded.slots.second c.of_geometry-layout.result c.of_geometry-layout.ensures c.in-Ok.ensures.slot c.journal-place.ensures, c.load.ensures.keeps.moments.length, c.in-Ok.ensures.length)
+is_closed-requires g c = omega (arith, gate_fits c.in-Ok.loaded.geometry c.in-Ok.loaded.slots.second, c.selected-snapshot.ensures.journal, c.load.ensures.keeps.moments.length, c.in-Ok.ensures.length)
 
 pub returns-in-Ok-false-clause-corrupt : goal.returns-in-Ok-false-clause-corrupt
 returns-in-Ok-false-clause-corrupt g c = λ place is image given.
-    subst (λ (p : ℕ). IsCorruptAt p image) (place_is _ _ (err_is _ _ is))
-    (gate_corrupt c.in-Ok.loaded.geometry c.in-Ok.loaded.fsid c.in-Ok.loaded.slot c.journal-place.result c.in-Ok-judge.found.0 c.in-Ok.loaded.slots.second c.of_geometry-layout.result c.deref.result.now image c.in-Ok-judge.found.1
-    (record { store = c.in-Ok.ensures.found image given; select = c.in-Ok.ensures.selected image given; holds = c.deref.ensures.value ∙ c.in-Ok.ensures.image image given })
-    c.of_geometry-layout.ensures c.in-Ok.ensures.slot c.journal-place.ensures c.in-Ok-judge.ensures.geometry c.in-Ok-judge.ensures.found
-    ((c.in-Ok-false.ensures.closed image (c.load.ensures.given.1 image given)).1 c.in-Ok-false.field-0-test))
+    rw (← place_is _ _ is) (gate_corrupt (record { store = c.in-Ok.ensures.found image given; select = c.in-Ok.ensures.selected image given; holds = c.deref.ensures.value ∙ c.in-Ok.ensures.image image given })
+    _ c.selected-snapshot.ensures.journal _ _ c.in-Ok-judge.ensures.geometry c.in-Ok-judge.ensures.found ((c.in-Ok-false.ensures.closed image (c.load.ensures.given.1 image given)).1 c.in-Ok-false.field-0-test))
 
 pub returns-clause-found : goal.returns-clause-found
 returns-clause-found g c = λ image given. (
   c.in-Ok.ensures.selected image given,
-  subst (λ (x : Catalog). IsImage c.in-Ok.loaded.fsid c.in-Ok-judge.found.0 x image) (sym c.of.ensures)
-      (image_found c.in-Ok.loaded.geometry c.in-Ok.loaded.fsid c.in-Ok.loaded.slot c.journal-place.result c.in-Ok-judge.found.0 c.in-Ok.loaded.slots.second c.of_geometry-layout.result c.deref.result.now image c.in-Ok-judge.found.1
-      (record { store = c.in-Ok.ensures.found image given; select = c.in-Ok.ensures.selected image given; holds = c.deref.ensures.value ∙ c.in-Ok.ensures.image image given })
-      c.of_geometry-layout.ensures c.in-Ok.ensures.slot c.journal-place.ensures c.in-Ok-judge.ensures.geometry c.in-Ok-judge.ensures.found
-      ((c.in-Ok-true.ensures.closed image (c.load.ensures.given.1 image given)).0 c.in-Ok-true.field-0-test)),
+  rw c.of.ensures (image_found (record { store = c.in-Ok.ensures.found image given; select = c.in-Ok.ensures.selected image given; holds = c.deref.ensures.value ∙ c.in-Ok.ensures.image image given })
+      _ c.selected-snapshot.ensures.journal _ _ c.in-Ok-judge.ensures.geometry c.in-Ok-judge.ensures.found ((c.in-Ok-true.ensures.closed image (c.load.ensures.given.1 image given)).0 c.in-Ok-true.field-0-test)),
 )
 
 pub returns-in-Ok-false-clause-keeps : goal.returns-in-Ok-false-clause-keeps
