@@ -20,8 +20,8 @@ use Rattle.meta_store.specs.Catalogs.{CatalogFile, Catalog, IsCatalogFile, IsCat
 use Rattle.meta_store.specs.Records.{with_put, without_file, others_total, key_on}
 use Rattle.meta_store.specs.InMemory.{no_parts, parts_of, file_of, catalog_held, file_held, files_held, IsHeld}
 use Rattle.meta_store.proofs.SnapshotFits.{blocks-few, geometry-bounded}
-use Rattle.meta_store.proofs.FileEdits.{count_of, mapped_of, used-sum, sum-put, sum-drop}
-use Rattle.meta_store.proofs.HeldFiles.{names_of-held, entries-held, find-held, held-drop, held-put_at, found-within}
+use Rattle.meta_store.proofs.FileEdits.{count_of, mapped_of, used-sum, sum-put, sum-drop, map-find, map-drop}
+use Rattle.meta_store.proofs.HeldFiles.{names_of-held, entries-held, held-put_at, found-within}
 use Rattle.meta_store.proofs.KeptCatalogs.{IsCatalog-with_put, IsCatalog-without_file}
 
 -- what is true of each catalog in memory
@@ -100,7 +100,7 @@ module _ (s : Inside) (v : Catalog) (is : catalog_held s.geometry s.table s.part
   slot-within at e there = rw i.0.count (within_get 1 (geometry_of s.geometry).files s.table.next at e s.table.files table.ascend table.within there)
 
   pub found-held : (k : FileKey) → find_key (λ g. g.key) k v.files ≡ option_map (file_held s.parts.items) (find_key (λ e. e.key) k s.table.files)
-  found-held k = sym (ap (λ (c : Catalog). find_key (λ g. g.key) k c.files) is) ∙ find-held s.parts.items k s.table.files
+  found-held k = sym (ap (λ (c : Catalog). find_key (λ g. g.key) k c.files) is) ∙ map-find (λ (f : CatalogFile). f.key) (file_held s.parts.items) k s.table.files
 
   pub live : (k : FileKey) (f : CatalogFile) → find_key (λ g. g.key) k v.files ≡ Some f → IsLive s.table s.parts.items k f
   live k f found =
@@ -176,7 +176,7 @@ module _ (s : Inside) (v : Catalog) (is : catalog_held s.geometry s.table s.part
         (omega (arith, sum-put count_of f v.files, counted)) (omega (arith, sum-put mapped_of f v.files, used-sum v.files, used-sum (with_put f v).files, blocks-counted))
 
   pub drop-held : (key : FileKey) → catalog_held s.geometry (record s.table { files = drop_key (λ e. e.key) key s.table.files }) s.parts.items ≡ without_file key v
-  drop-held key = rw (← is, held-drop s.parts.items key s.table.files) refl
+  drop-held key = rw (← is, map-drop (λ (f : CatalogFile). f.key) (file_held s.parts.items) key s.table.files) refl
 
   pub drop-counted : (key : FileKey) (total' used' : ℕ) → total' ≡ others_total key v → used' ≡ length (blocks_of (without_file key v).files) → IsCounted s.geometry (record s.table { files = drop_key (λ e. e.key) key s.table.files }) s.parts.items total' used'
   drop-counted key total' used' bytes blocks = after (record s.table { files = drop_key (λ e. e.key) key s.table.files }) s.parts.items (without_file key v) total' used' (drop-held key) refl refl (IsCatalog-without_file key v lawful) bytes blocks

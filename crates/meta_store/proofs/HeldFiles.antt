@@ -1,42 +1,27 @@
 -- Edits of the table and of the array of parts are edits of the catalog.
 use Rattle.std.proofs.Common.{◌≡◌, ℕ, ◌+◌, ◌-◌, ◌≤◌, List, [], ◌∷◌, length, map, get_or, set, Bool, true, false, cond, Some, eqb, ltb, refl, ◌∙◌, ap, subst, arith, get_or-set_same, get_or-set_other}
 use Rattle.std.specs.Option.{option_map}
-use Rattle.std.proofs.lemmas.Bool.{eqb-false}
 use Rattle.hsm_types.specs.declared.keys.FileKey.{FileKey}
 use Rattle.plain_model.specs.Keyed.{same_key, find_key, change_key, put_key, drop_key}
 use Rattle.inode_table.specs.declared.entries.FileEntry.{FileEntry}
 use Rattle.inode_table.specs.Listing.{listing, has_inode, Ascend, Within}
 use Rattle.inode_table.specs.Table.{entry_of}
-use Rattle.inode_table.proofs.Choices.{neither}
 use Rattle.inode_table.proofs.Orders.{absent-low}
 use Rattle.meta_store.specs.Catalogs.{CatalogFile, names_of}
 use Rattle.meta_store.specs.declared.file_parts.FileParts.{FileParts}
 use Rattle.meta_store.specs.InMemory.{no_parts, file_of, file_held, files_held}
+use Rattle.meta_store.proofs.FileEdits.{map-put}
 use Rattle.meta_store.proofs.FoundFiles.{same_keys}
 
 -- ---- names, and back to the table
 
 pub names_of-held : (ps : List FileParts) (es : List FileEntry) → names_of (files_held ps es) ≡ listing es
 names_of-held ps [] = refl
-names_of-held ps (e ∷ es) = ap (λ ls. record { key = e.key; name = e.name } ∷ ls) (names_of-held ps es)
+names_of-held ps (e ∷ es) = rw (names_of-held ps es) refl
 
 pub entries-held : (ps : List FileParts) (es : List FileEntry) → map (λ f. entry_of f.key f.name f.size) (files_held ps es) ≡ es
 entries-held ps [] = refl
-entries-held ps (e ∷ es) = ap (λ fs. e ∷ fs) (entries-held ps es)
-
--- ---- edits of the table alone
-
-if_held : (ps : List FileParts) (b : Bool) (x y : List FileEntry) (u v : List CatalogFile) → files_held ps x ≡ u → files_held ps y ≡ v → files_held ps (cond b x y) ≡ cond b u v
-if_held ps true x y u v p q = p
-if_held ps false x y u v p q = q
-
-held-put : (ps : List FileParts) (e : FileEntry) (es : List FileEntry) → files_held ps (put_key (λ f. f.key) e es) ≡ put_key (λ f. f.key) (file_held ps e) (files_held ps es)
-held-put ps e [] = refl
-held-put ps e (f ∷ es) = if_held ps (ltb e.key.ino f.key.ino) (e ∷ f ∷ es) (f ∷ put_key (λ x. x.key) e es) _ _ refl (ap (λ fs. file_held ps f ∷ fs) (held-put ps e es))
-
-pub held-drop : (ps : List FileParts) (k : FileKey) (es : List FileEntry) → files_held ps (drop_key (λ f. f.key) k es) ≡ drop_key (λ f. f.key) k (files_held ps es)
-held-drop ps k [] = refl
-held-drop ps k (f ∷ es) = if_held ps (same_key f.key k) es (f ∷ drop_key (λ x. x.key) k es) _ _ refl (ap (λ fs. file_held ps f ∷ fs) (held-drop ps k es))
+entries-held ps (e ∷ es) = rw (entries-held ps es) refl
 
 -- ---- edits of the parts of one inode
 
@@ -44,43 +29,22 @@ held-drop ps k (f ∷ es) = if_held ps (same_key f.key k) es (f ∷ drop_key (λ
 held-other : (ps : List FileParts) (n ino : ℕ) (x : FileParts) (es : List FileEntry) → 1 ≤ ino → 1 ≤ n → Ascend n (listing es) → has_inode ino (listing es) ≡ false → files_held (set ps (ino - 1) x) es ≡ files_held ps es
 held-other ps n ino x [] low from a free = refl
 held-other ps n ino x (e ∷ es) low from a free =
-    let parts = neither (eqb e.key.ino ino) (has_inode ino (listing es)) free in
-    let other = eqb-false e.key.ino ino parts.0 in
-    let above = a.0 in
-    let here : get_or (set ps (ino - 1) x) (e.key.ino - 1) no_parts ≡ get_or ps (e.key.ino - 1) no_parts = get_or-set_other ps (ino - 1) (e.key.ino - 1) x no_parts (λ same. other (omega arith)) in
-    rw (here, held-other ps (e.key.ino + 1) ino x es low (omega arith) a.1 parts.1) refl
+    let here : get_or (set ps (ino - 1) x) (e.key.ino - 1) no_parts ≡ get_or ps (e.key.ino - 1) no_parts = get_or-set_other ps (ino - 1) (e.key.ino - 1) x no_parts (λ same. grind (arith, a.0)) in
+    rw (here, held-other ps (e.key.ino + 1) ino x es low (omega arith) a.1 (grind arith)) refl
 
 -- The file that is put has the parts that are set for its inode.
 pub held-put_at : (ps : List FileParts) (e : FileEntry) (x : FileParts) (es : List FileEntry) → 1 ≤ e.key.ino → e.key.ino ≤ length ps → Ascend 1 (listing es) → has_inode e.key.ino (listing es) ≡ false
     → files_held (set ps (e.key.ino - 1) x) (put_key (λ f. f.key) e es) ≡ put_key (λ f. f.key) (file_of e.key e.name e.size x) (files_held ps es)
 held-put_at ps e x es low high a free =
     let here : get_or (set ps (e.key.ino - 1) x) (e.key.ino - 1) no_parts ≡ x = get_or-set_same ps (e.key.ino - 1) x no_parts (omega arith) in
-    held-put (set ps (e.key.ino - 1) x) e es ∙ rw (here, held-other ps 1 e.key.ino x es low (omega arith) a free) refl
+    map-put (λ (f : CatalogFile). f.key) (file_held (set ps (e.key.ino - 1) x)) e es ∙ rw (here, held-other ps 1 e.key.ino x es low (omega arith) a free) refl
 
 -- ---- a file that is found
-
-pub find-held : (ps : List FileParts) (k : FileKey) (es : List FileEntry) → find_key (λ f. f.key) k (files_held ps es) ≡ option_map (file_held ps) (find_key (λ f. f.key) k es)
-find-held ps k [] = refl
-find-held ps k (e ∷ es) =
-    elim (same_key e.key k) as (λ b. cond b (Some (file_held ps e)) (find_key (λ f. f.key) k (files_held ps es)) ≡ option_map (file_held ps) (cond b (Some e) (find_key (λ f. f.key) k es))) [
-      | true ↦ refl
-      | false ↦ find-held ps k es
-    ]
 
 -- its key, and the bounds of its inode
 pub found-within : (n limit next : ℕ) (k : FileKey) (e : FileEntry) (es : List FileEntry) → Ascend n (listing es) → Within limit next (listing es) → find_key (λ x. x.key) k es ≡ Some e → (e.key ≡ k) × (n ≤ k.ino) × (k.ino ≤ limit)
 found-within n limit next k e [] a w found = cc
-found-within n limit next k e (f ∷ es) a w found =
-    let low = a.0 in
-    let high = w.0 in
-    elim (same_key f.key k) as (λ b. same_key f.key k ≡ b → cond b (Some f) (find_key (λ x. x.key) k es) ≡ Some e → (e.key ≡ k) × (n ≤ k.ino) × (k.ino ≤ limit)) [
-      | true ↦ λ same there.
-          let it : e ≡ f = cc in
-          let key = same_keys f.key k same in
-          let ino = ap (λ (j : FileKey). j.ino) key in
-          (ap (λ (g : FileEntry). g.key) it ∙ key, omega arith, omega arith)
-      | false ↦ λ other there. let more = found-within (f.key.ino + 1) limit next k e es a.1 w.2 there in let above = more.1 in (more.0, omega arith, more.2)
-    ] refl found
+found-within n limit next k e (f ∷ es) a w found = grind (arith, same_keys f.key k, found-within (f.key.ino + 1) limit next k e es a.1 w.2)
 
 -- Its size and its parts are set to those of the changed file.
 pub held-change : (ps : List FileParts) (n limit next : ℕ) (k : FileKey) (to : CatalogFile → CatalogFile) (e : FileEntry) (x : FileParts) (size : ℕ) (es : List FileEntry) → 1 ≤ n → limit ≤ length ps → Ascend n (listing es) → Within limit next (listing es)

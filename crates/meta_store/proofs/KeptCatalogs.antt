@@ -14,8 +14,7 @@ use Rattle.meta_store.specs.Catalogs.{CatalogFile, Catalog, IsLawfulKept, IsCata
 use Rattle.meta_store.specs.Records.{file_after, with_put, without_file, with_changed, CanStandOn}
 use Rattle.meta_store.proofs.BlockUses.{uses, uses-append, distinct-uses, uses-distinct}
 use Rattle.meta_store.proofs.FilesAfter.{named-after, IsCatalogFile-after, uses-after}
-use Rattle.meta_store.proofs.FileEdits.{name_of, count_of, uses_of, uses-sum, names_of-put, names_of-drop, names_of-change, sum-put, sum-fewer, sum-change, each-put, each-drop, each-change_one}
-use Rattle.meta_store.proofs.FoundFiles.{each-found}
+use Rattle.meta_store.proofs.FileEdits.{name_of, count_of, uses_of, uses-sum, names_of-put, names_of-drop, names_of-change, sum-put, sum-fewer, sum-change, each-put, each-drop, each-changed}
 
 -- an empty file
 abbrev pub empty_file : FileKey → List ℕ → CatalogFile
@@ -79,7 +78,7 @@ IsCatalog-after r key f c is found stands kept few =
       first = is.first;
       next = is.next;
       table = rw (names_of-change key (file_after r) c.files (named-after r)) is.table;
-      each = each-change_one (IsCatalogFile blocks) key (file_after r) f c.files found (IsCatalogFile-after blocks r f c (each-found (IsCatalogFile blocks) key f c.files is.each found) refl stands kept) is.each;
+      each = each-changed (IsCatalogFile blocks) key (file_after r) c.files (λ g there old. let it : g ≡ f = cc in rw it (IsCatalogFile-after blocks r f c (rw it at old) refl stands kept)) is.each;
       distinct = uses-distinct (blocks_of (with_changed key (file_after r) c).files) once;
       few = few;
     }
