@@ -15,7 +15,7 @@ use Rattle.meta_store.specs.Records.{file_after, without_file, with_changed, key
 use Rattle.meta_store.specs.InMemory.{kept_in, parts_of, parts_after, file_of, catalog_held, FitsParts}
 use Rattle.meta_store.proofs.FileEdits.{count_of, mapped_of, used-sum, sum-drop, sum-fewer, sum-change}
 use Rattle.meta_store.proofs.FoundFiles.{each-found}
-use Rattle.meta_store.proofs.FilesAfter.{stood, fits, refusal-is, file-after, kept-after, few-after}
+use Rattle.meta_store.proofs.FilesAfter.{stood, fits, file-after, kept-after, few-after}
 use Rattle.meta_store.proofs.HeldFiles.{held-change}
 use Rattle.meta_store.proofs.KeptCatalogs.{IsCatalog-after}
 use Rattle.meta_store.proofs.HeldCatalogs.{IsCounted, IsLive, lawful, table, live, read-live, held-live, others, after}
@@ -52,7 +52,7 @@ module _ (s : Inside) (v : Catalog) (is : catalog_held s.geometry s.table s.part
 
     module _ (rest limit : ℕ) (sum : rest ≡ others_total (key_on (inode_of r) v) v) (bound : limit ≡ (geometry_of s.geometry).attributes) where
       pub refusal : refusal_of r v ≡ part_refusal r rest limit (kept_in x)
-      refusal = rw (bound, ap (λ (c : Catalog). (geometry_of c.geometry).attributes) is, sum, same) (refusal-is r file v one.1)
+      refusal = rw (bound, ap (λ (c : Catalog). (geometry_of c.geometry).attributes) is, sum, same, one.1) refl
 
       -- the parts and the size after it
       module _ (new : FileParts) (size : ℕ) (judged : part_refusal r rest limit (kept_in x) ≡ None) (taken : new ≡ parts_after r x) (sized : size ≡ (file_after r file).size) where

@@ -1,5 +1,5 @@
 -- The file that a record is about, after it.
-use Rattle.std.proofs.Common.{◌≡◌, ℕ, ◌+◌, ◌≤◌, length, Some, None, ⊎_elim, refl, sym, ◌∙◌, ap, arith}
+use Rattle.std.proofs.Common.{◌≡◌, ℕ, ◌+◌, ◌≤◌, length, Some, None, refl, ◌∙◌, arith}
 use Rattle.std.specs.List.{AllByRecursion}
 use Rattle.hsm_types.specs.Attributes.{AreAttributes}
 use Rattle.plain_model.specs.Keyed.{find_key}
@@ -27,33 +27,21 @@ fits (Size ino size) f c stands = stands
 fits (Map ino block places) f c stands = stands.blocks
 fits r f c stands = tt
 
--- what refuses it, by the file as it is
-pub refusal-is : (r : Record) (f : CatalogFile) (c : Catalog) → find_key (λ g. g.key) (key_on (inode_of r) c) c.files ≡ Some f → refusal_of r c ≡ part_refusal r (others_total (key_on (inode_of r) c) c) (geometry_of c.geometry).attributes f.kept
-refusal-is r f c found = rw found refl
-
 -- ---- its name and its parts
 
 pub named-after : (r : Record) (g : CatalogFile) → name_of (file_after r g) ≡ name_of g
 named-after (Size ino size) g = refl
 named-after r g = refl
 
-parts-after : (r : Record) (f : CatalogFile) → parts_after r (parts_of f) ≡ parts_of (file_after r f)
-parts-after (Size ino size) f = refl
-parts-after r f = refl
-
 pub file-after : (r : Record) (f : CatalogFile) (x : FileParts) (size : ℕ) → x ≡ parts_after r (parts_of f) → size ≡ (file_after r f).size → file_after r f ≡ file_of f.key f.name size x
-file-after r f x size is sized =
-    ap (λ (l : Listed). file_of l.key l.name (file_after r f).size (parts_of (file_after r f))) (named-after r f)
-    ∙ ap (λ (p : FileParts). file_of f.key f.name (file_after r f).size p) (sym (is ∙ parts-after r f))
-    ∙ ap (λ (n : ℕ). file_of f.key f.name n x) (sym sized)
+file-after (Size ino n) f x size is sized = rw (is, sized) refl
+file-after r f x size is sized = rw (is, sized) refl
 
 -- ---- what stays true
 
 pub kept-after : (r : Record) (f : CatalogFile) (others limit : ℕ) → IsLawfulKept f.kept → part_refusal r others limit f.kept ≡ None → AreAttributes (file_after r f).kept.attributes → AllByRecursion (λ a. length a.0.0 ≡ 8) (file_after r f).kept.attributes → IsLawfulKept (file_after r f).kept
 kept-after (Regions ino regions) f others limit old judged are eight = record { regions = judged; attributes = are; eight = eight }
-kept-after (SetAttr ino name value) f others limit old judged are eight = record { regions = old.regions; attributes = are; eight = eight }
-kept-after (DropAttr ino name) f others limit old judged are eight = record { regions = old.regions; attributes = are; eight = eight }
-kept-after r f others limit old judged are eight = old
+kept-after r f others limit old judged are eight = record { regions = old.regions; attributes = are; eight = eight }
 
 pub few-after : (r : Record) (f : CatalogFile) (others limit : ℕ) → part_refusal r others limit f.kept ≡ None → others + count_of f ≤ limit → others + count_of (file_after r f) ≤ limit
 few-after (SetAttr ino name value) f others limit judged most = setting-fits name value others limit f.kept.attributes judged
@@ -65,15 +53,13 @@ IsCatalogFile-after blocks (Size ino size) f c is same stands kept =
     record { generation = is.generation; name = is.name; size = stands; places = length-fitted size f.places; within = within-fitted blocks size f.places is.within; kept = kept }
 IsCatalogFile-after blocks (Map ino block places) f c is same stands kept =
     let new = mappings_from block places.items in
-    let within = places-within blocks block places.items (rw same stands.within) in
-    record { generation = is.generation; name = is.name; size = is.size; places = length-places_set new f.places ∙ is.places; within = within-places_set blocks new f.places within is.within; kept = kept }
+    let within = within-places_set blocks new f.places (places-within blocks block places.items (rw same stands.within)) is.within in
+    record { generation = is.generation; name = is.name; size = is.size; places = length-places_set new f.places ∙ is.places; within = within; kept = kept }
 IsCatalogFile-after blocks r f c is same stands kept = record { generation = is.generation; name = is.name; size = is.size; places = is.places; within = is.within; kept = kept }
 
 -- the file's blocks are some of those before, and new ones that no file used
 pub uses-after : (n : ℕ) (r : Record) (f : CatalogFile) (c : Catalog) → IsCatalog c → CanStandOn r f c → (new : ℕ) × (uses_of n (file_after r f) ≤ new + uses_of n f) × (new + uses n (blocks_of c.files) ≤ 1)
 uses-after n (Map ino block places) f c is stands =
-    let old = distinct-uses (blocks_of c.files) is.distinct n in
-    let new = distinct-uses places.items stands.distinct n in
-    (uses n places.items, uses-mapped n block places.items f.places, ⊎_elim (λ none. omega arith) (λ none. omega arith) (new_or_used n places.items (blocks_of c.files) stands.unused))
+    (uses n places.items, uses-mapped n block places.items f.places, grind (arith, new_or_used n places.items (blocks_of c.files) stands.unused, distinct-uses (blocks_of c.files) is.distinct n, distinct-uses places.items stands.distinct n))
 uses-after n (Size ino size) f c is stands = (0, omega (arith, uses-fitted n size f.places), omega (arith, distinct-uses (blocks_of c.files) is.distinct n))
 uses-after n r f c is stands = (0, omega arith, omega (arith, distinct-uses (blocks_of c.files) is.distinct n))

@@ -1,8 +1,7 @@
 -- The places of one file's blocks, after a new size and after mappings.
-use Rattle.std.proofs.Common.{◌≡◌, ℕ, zero, suc, ◌+◌, ◌-◌, ◌<◌, ◌≤◌, List, [], ◌∷◌, ◌++◌, length, take, drop, set, get_or, Option, Some, None, false, eqb, inl, inr, ◌⊎◌, ⊎_elim, refl, sym, ◌∙◌, ap, subst, arith, length-append, length-set, length-take}
+use Rattle.std.proofs.Common.{◌≡◌, ℕ, zero, suc, ◌+◌, ◌-◌, ◌<◌, ◌≤◌, List, [], ◌∷◌, ◌++◌, length, take, drop, set, get_or, Option, Some, None, false, eqb, inl, ◌⊎◌, refl, ◌∙◌, ap, arith, length-append, length-set, length-take}
 use Rattle.std.specs.Prelude.{replicate}
 use Rattle.std.specs.List.{list_any, AllByRecursion}
-use Rattle.std.proofs.lemmas.Bool.{cases_Bool, cond-false, eqb-true}
 use Rattle.std.proofs.lemmas.List.{length-replicate}
 use Rattle.plain_model.specs.Blocks.{blocks_in}
 use Rattle.meta_store.specs.Catalogs.{present}
@@ -30,18 +29,17 @@ pub present-fitted : (size : ℕ) (ps : List (Option ℕ)) → present (places_f
 present-fitted size ps = present-kept (blocks_in size) (blocks_in size - length ps) ps
 
 pub count-fitted : (size : ℕ) (ps : List (Option ℕ)) → length (present (places_fitted size ps)) + length (present (drop (blocks_in size) ps)) ≡ length (present ps)
-count-fitted size ps = sym (length-append (present (places_fitted size ps)) (present (drop (blocks_in size) ps))) ∙ ap (λ (bs : List ℕ). length bs) (present-fitted size ps)
+count-fitted size ps = simp length-append at (ap (λ (bs : List ℕ). length bs) (present-fitted size ps))
 
 pub uses-fitted : (n size : ℕ) (ps : List (Option ℕ)) → uses n (present (places_fitted size ps)) ≤ uses n (present ps)
-uses-fitted n size ps = omega (arith, ap (λ (bs : List ℕ). uses n bs) (present-fitted size ps), uses-append n (present (places_fitted size ps)) (present (drop (blocks_in size) ps)))
+uses-fitted n size ps = omega (arith, simp uses-append at (ap (uses n) (present-fitted size ps)))
 
 all-front : (P : ℕ → Type 0) (xs ys : List ℕ) → AllByRecursion P (xs ++ ys) → AllByRecursion P xs
 all-front P [] ys all = tt
 all-front P (x ∷ xs) ys all = (all.0, all-front P xs ys all.1)
 
 pub within-fitted : (blocks size : ℕ) (ps : List (Option ℕ)) → AllByRecursion (λ b. b < blocks) (present ps) → AllByRecursion (λ b. b < blocks) (present (places_fitted size ps))
-within-fitted blocks size ps w =
-    all-front (λ b. b < blocks) (present (places_fitted size ps)) (present (drop (blocks_in size) ps)) (subst (λ (bs : List ℕ). AllByRecursion (λ b. b < blocks) bs) (sym (present-fitted size ps)) w)
+within-fitted blocks size ps w = all-front (λ b. b < blocks) (present (places_fitted size ps)) (present (drop (blocks_in size) ps)) (rw present-fitted w)
 
 -- ---- mappings
 
@@ -51,18 +49,14 @@ length-places_set (m ∷ ms) ps = length-places_set ms (set ps m.block (Some m.p
 
 uses-set : (n i at : ℕ) (ps : List (Option ℕ)) → uses n (present (set ps i (Some at))) ≤ is_one at n + uses n (present ps)
 uses-set n i at [] = omega arith
-uses-set n zero at (None ∷ ps) = omega arith
-uses-set n zero at (Some old ∷ ps) = omega arith
-uses-set n (suc i) at (None ∷ ps) = uses-set n i at ps
-uses-set n (suc i) at (Some old ∷ ps) = let more = uses-set n i at ps in omega arith
+uses-set n zero at (p ∷ ps) = grind arith
+uses-set n (suc i) at (p ∷ ps) = grind (arith, uses-set n i at ps)
 
 -- what a new place adds
 pub present-set : (i at : ℕ) (d : Option ℕ) (ps : List (Option ℕ)) → i < length ps → length (present (set ps i (Some at))) + length (present (get_or ps i d ∷ [])) ≡ 1 + length (present ps)
 present-set i at d [] within = absurd (omega arith)
-present-set zero at d (None ∷ ps) within = omega arith
-present-set zero at d (Some old ∷ ps) within = omega arith
-present-set (suc i) at d (None ∷ ps) within = present-set i at d ps (omega arith)
-present-set (suc i) at d (Some old ∷ ps) within = let more = present-set i at d ps (omega arith) in omega arith
+present-set zero at d (p ∷ ps) within = grind arith
+present-set (suc i) at d (p ∷ ps) within = grind (arith, present-set i at d ps)
 
 pub uses-mapped : (n block : ℕ) (new : List ℕ) (ps : List (Option ℕ)) → uses n (present (places_set (mappings_from block new) ps)) ≤ uses n new + uses n (present ps)
 uses-mapped n block [] ps = omega arith
@@ -86,11 +80,4 @@ places-within blocks block (p ∷ new) w = (w.0, places-within blocks (block + 1
 -- a number that is a new place wasn't in use
 pub new_or_used : (n : ℕ) (new used : List ℕ) → AllByRecursion (λ p. list_any (λ b. eqb b p) used ≡ false) new → (uses n new ≡ 0) ⊎ (uses n used ≡ 0)
 new_or_used n [] used unused = inl refl
-new_or_used n (p ∷ new) used unused =
-    let P : ℕ → Type 0 = λ k. uses k used ≡ 0 in
-    ⊎_elim
-    (λ same. inr (subst P (eqb-true p n same) (uses-absent p used unused.0)))
-    (λ other.
-    let none : is_one p n ≡ 0 = cond-false (eqb p n) 1 0 other in
-    ⊎_elim (λ absent. inl (omega arith)) (λ (free : uses n used ≡ 0). inr free) (new_or_used n new used unused.1))
-    (cases_Bool (eqb p n))
+new_or_used n (p ∷ new) used unused = grind (arith, uses-absent p used unused.0, new_or_used n new used unused.1)
