@@ -6,9 +6,8 @@ use Rattle.std.specs.List.{AllByRecursion}
 use Rattle.std.proofs.lemmas.Bool.{le-leb}
 use Rattle.std.proofs.lemmas.List.{map-append}
 use Rattle.std.proofs.lemmas.List.Concat.{flat_map-append}
-use Rattle.hsm_types.specs.Names.{is_name}
 use Rattle.hsm_types.specs.declared.stores.Geometry.{Geometry}
-use Rattle.plain_model.specs.Plain.{Listed, named}
+use Rattle.plain_model.specs.Plain.{Listed}
 use Rattle.plain_model.specs.Blocks.{blocks_in}
 use Rattle.plain_model.specs.Distinct.{Distinct}
 use Rattle.inode_table.specs.Listing.{Within}
@@ -16,7 +15,7 @@ use Rattle.inode_table.specs.Table.{IsTable}
 use Rattle.hsm_types.specs.Attributes.{bytes_of_attributes}
 use Rattle.meta_store.specs.Catalogs.{CatalogFile, Catalog, IsCatalogFile, IsCatalog, geometry_of, names_of, blocks_of, attribute_total}
 use Rattle.meta_store.specs.Snapshots.{SnapshotFile, snapshot_file, extents_from}
-use Rattle.meta_store.specs.Validity.{listed_in, names_in, places_of, places_in, last_inode, are_extents, is_file, is_kept, are_unused, can_follow, attribute_total_in, is_next}
+use Rattle.meta_store.specs.Validity.{listed_in, names_in, places_of, places_in, last_inode, are_extents, is_file, is_kept, are_unused, can_follow, attribute_total_in, is_next, Follows}
 use Rattle.meta_store.proofs.KeptAttributes.{attributes-pass}
 use Rattle.meta_store.proofs.SpreadPlaces.{places_of-extents, are_extents-from}
 use Rattle.meta_store.proofs.LastFiles.{above-last}
@@ -65,17 +64,6 @@ passes c before f rest is e =
     let unused = unused-from (places_in before) (places_of f.extents) (places_in rest) (rw places at is.distinct) in
     grind (arith, alone)
 
--- ---- what the judgement tells
-
-pub record Follows (geometry : Geometry) (next : ℕ) (before : List SnapshotFile) (f : SnapshotFile) : Type 0 where
-  pub fresh : named f.name (names_in before) ≡ None
-  pub above : last_inode 0 (names_in before) < f.key.ino
-  pub high : f.key.ino ≤ geometry.files
-  pub first : 1 ≤ f.key.igen
-  pub old : f.key.igen < next
-  pub size : f.size ≤ 16777216
-  pub name : is_name f.name ≡ true
-  pub extents : are_extents 0 (blocks_in f.size) geometry.blocks f.extents ≡ true
-
+-- what the judgement tells
 pub follows : (geometry : Geometry) (next : ℕ) (before : List SnapshotFile) (f : SnapshotFile) → can_follow geometry next before f ≡ true → Follows geometry next before f
 follows geometry next before f e = grind arith

@@ -1,5 +1,5 @@
 -- A file more in the catalog.
-use Rattle.std.proofs.Common.{◌≡◌, ℕ, ◌<◌, List, [], ◌∷◌, ◌++◌, length, map, replicate, Bool, true, Some, None, Option, refl, ap, sym, ◌∙◌, subst, arith, append-nil}
+use Rattle.std.proofs.Common.{◌≡◌, ℕ, ◌<◌, List, [], ◌∷◌, ◌++◌, length, map, replicate, Bool, true, Some, None, Option, refl, ap, ◌∙◌, arith, append-nil}
 use Rattle.std.specs.List.{AllByRecursion}
 use Rattle.std.specs.Option.{is_some, option_map}
 use Rattle.std.proofs.lemmas.List.{map-append, length-replicate}
@@ -13,12 +13,12 @@ use Rattle.inode_table.specs.Table.{Table, entry_of}
 use Rattle.meta_store.specs.Catalogs.{CatalogFile, Catalog, IsLawfulKept, IsCatalogFile, names_of, blocks_of, present}
 use Rattle.meta_store.specs.Records.{with_put}
 use Rattle.meta_store.specs.Snapshots.{SnapshotFile, snapshot_file}
-use Rattle.meta_store.specs.Validity.{names_in, places_of, places_in, last_inode, are_unused, are_free, can_follow, Flags, HasTaken}
+use Rattle.meta_store.specs.Validity.{names_in, places_of, places_in, last_inode, are_unused, are_free, Follows, Flags, HasTaken}
 use Rattle.meta_store.proofs.MappedPlaces.{length-places_set}
 use Rattle.meta_store.proofs.SpreadPlaces.{filled, snapshot-filled, present-spread, extents-tell, all-places}
 use Rattle.meta_store.proofs.LastFiles.{put-behind}
 use Rattle.meta_store.proofs.StandOnce.{unused-joins, free-is, length-mapped}
-use Rattle.meta_store.proofs.PassingFiles.{names_in-snapshot, places_in-snapshot, Follows, follows}
+use Rattle.meta_store.proofs.PassingFiles.{names_in-snapshot, places_in-snapshot}
 
 same_variant : {X Y : Type 0} (to : X → Y) (o : Option X) → is_some (option_map to o) ≡ is_some o
 same_variant to None = refl
@@ -34,48 +34,35 @@ table-has fs name t is = same_variant (λ (l : Listed). l.key) (named name (list
 
 -- ---- a file that can follow, behind those of a catalog
 
-module _ (g : Geometry) (next : ℕ) (c : Catalog) (flags : List Bool) (f : SnapshotFile) (t : HasTaken c.geometry next g.blocks (map snapshot_file c.files) c flags) (ok : can_follow g next (map snapshot_file c.files) f ≡ true) where
-  abbrev pub facts : Follows g next (map snapshot_file c.files) f
-  facts = follows g next (map snapshot_file c.files) f ok
-
+module _ {g : Geometry} {next : ℕ} {c : Catalog} {flags : List Bool} {f : SnapshotFile} (t : HasTaken c.geometry next g.blocks (map snapshot_file c.files) c flags) (follows : Follows g next (map snapshot_file c.files) f) where
   pub is-above : last_inode 0 (names_of c.files) < f.key.ino
-  is-above = rw (← names_in-snapshot c.files) facts.above
+  is-above = rw (← names_in-snapshot c.files) follows.above
 
   pub within : AllByRecursion (λ e. e.place < length flags) f.extents
-  within = rw t.count (extents-tell 0 (blocks_in f.size) g.blocks f.extents facts.extents).1
+  within = rw t.count (extents-tell 0 (blocks_in f.size) g.blocks f.extents follows.extents).1
 
-  abbrev flags-tell : (are_free (places_of f.extents) flags ≡ are_unused (places_in (map snapshot_file c.files)) (places_of f.extents)) × Flags (with_mapped (places_of f.extents) flags) (places_in (map snapshot_file c.files) ++ places_of f.extents)
+  pub flags-tell : (are_free (places_of f.extents) flags ≡ are_unused (places_in (map snapshot_file c.files)) (places_of f.extents)) × Flags (with_mapped (places_of f.extents) flags) (places_in (map snapshot_file c.files) ++ places_of f.extents)
   flags-tell = free-is (places_of f.extents) flags (places_in (map snapshot_file c.files)) (all-places (λ p. p < length flags) f.extents within) t.flagged
-
-  pub free-unused : are_free (places_of f.extents) flags ≡ are_unused (places_in (map snapshot_file c.files)) (places_of f.extents)
-  free-unused = flags-tell.0
 
   pub is-lawful : IsLawfulKept f.kept → IsCatalogFile g.blocks (filled f)
   is-lawful kept = record {
-    generation = facts.first;
-    name = facts.name;
-    size = facts.size;
+    generation = follows.first;
+    name = follows.name;
+    size = follows.size;
     places = length-places_set f.extents (replicate (blocks_in f.size) None) ∙ length-replicate (blocks_in f.size) None;
-    within = rw (present-spread f.extents (blocks_in f.size) g.blocks facts.extents) (all-places (λ b. b < g.blocks) f.extents (extents-tell 0 (blocks_in f.size) g.blocks f.extents facts.extents).1);
+    within = rw (present-spread f.extents (blocks_in f.size) g.blocks follows.extents) (all-places (λ b. b < g.blocks) f.extents (extents-tell 0 (blocks_in f.size) g.blocks f.extents follows.extents).1);
     kept = kept;
   }
 
   pub once-each : are_free (places_of f.extents) flags ≡ true → Distinct (blocks_of c.files) → Distinct (present (filled f).places ++ blocks_of c.files)
   once-each free d =
-      rw (present-spread f.extents (blocks_in f.size) g.blocks facts.extents)
-      (unused-joins (blocks_of c.files) (places_of f.extents) (ap (λ (used : List ℕ). are_unused used (places_of f.extents)) (sym (places_in-snapshot c.files)) ∙ sym free-unused ∙ free) d)
+      rw (present-spread f.extents (blocks_in f.size) g.blocks follows.extents) (unused-joins (blocks_of c.files) (places_of f.extents) (rw (← places_in-snapshot c.files, ← flags-tell.0) free) d)
 
   pub taken-more : Ascend 1 (names_of c.files) → HasTaken c.geometry next g.blocks (map snapshot_file c.files ++ f ∷ []) (with_put (filled f) c) (with_mapped (places_of f.extents) flags)
-  taken-more a =
-      let files : List SnapshotFile = map snapshot_file c.files in
-      let later = t.next in
-      let old = facts.old in
-      let places : places_in (files ++ f ∷ []) ≡ places_in files ++ places_of f.extents = flat_map-append (λ (s : SnapshotFile). places_of s.extents) files (f ∷ []) ∙ ap (λ (ps : List ℕ). places_in files ++ ps) (append-nil (places_of f.extents)) in
-      let P : List ℕ → Type 0 = λ ps. Flags (with_mapped (places_of f.extents) flags) ps in
-      record {
-        geometry = refl;
-        next = omega arith;
-        taken = ap (λ (fs : List CatalogFile). map snapshot_file fs) (put-behind 0 (filled f) c.files a is-above) ∙ map-append snapshot_file c.files (filled f ∷ []) ∙ ap (λ (s : SnapshotFile). files ++ s ∷ []) (snapshot-filled g.blocks f facts.extents);
-        count = length-mapped (places_of f.extents) flags ∙ t.count;
-        flagged = subst P (sym places) flags-tell.1;
-      }
+  taken-more a = record {
+    geometry = refl;
+    next = omega (arith, t.next, follows.old);
+    taken = rw (put-behind 0 (filled f) c.files a is-above, map-append snapshot_file c.files (filled f ∷ []), snapshot-filled g.blocks f follows.extents) refl;
+    count = length-mapped (places_of f.extents) flags ∙ t.count;
+    flagged = rw (flat_map-append (λ (s : SnapshotFile). places_of s.extents) (map snapshot_file c.files) (f ∷ []), append-nil (places_of f.extents)) flags-tell.1;
+  }

@@ -1,5 +1,5 @@
 -- What is judged of the files of a snapshot, one after the other.
-use Rattle.std.specs.Prelude.{◌≡◌, ℕ, ◌+◌, ◌<◌, List, [], ◌∷◌, ◌++◌, length, map, sum_by, get_or, slice_set, Bool, true, false, not, ◌==◌, ◌&&◌, nat_lt, nat_le, Option, Some, None, is_some}
+use Rattle.std.specs.Prelude.{◌≡◌, ℕ, ◌+◌, ◌<◌, ◌≤◌, List, [], ◌∷◌, ◌++◌, length, map, sum_by, get_or, slice_set, Bool, true, false, not, ◌==◌, ◌&&◌, nat_lt, nat_le, Option, Some, None, is_some}
 use Rattle.std.specs.List.{flat_map, list_any}
 use Rattle.std.specs.Ordering.{is_lt}
 use Rattle.hsm_types.specs.Names.{is_name}
@@ -70,6 +70,17 @@ are_unused used (p ∷ ps) = not (list_any (λ q. q == p) used) && are_unused (u
 abbrev pub can_follow : Geometry → ℕ → List SnapshotFile → SnapshotFile → Bool
 can_follow geometry next before f =
     not (is_some (named f.name (names_in before))) && nat_lt (last_inode 0 (names_in before)) f.key.ino && nat_le f.key.ino geometry.files && is_file next geometry.blocks f
+
+-- what that says
+pub record Follows (geometry : Geometry) (next : ℕ) (before : List SnapshotFile) (f : SnapshotFile) : Type 0 where
+  pub fresh : named f.name (names_in before) ≡ None
+  pub above : last_inode 0 (names_in before) < f.key.ino
+  pub high : f.key.ino ≤ geometry.files
+  pub first : 1 ≤ f.key.igen
+  pub old : f.key.igen < next
+  pub size : f.size ≤ 16777216
+  pub name : is_name f.name ≡ true
+  pub extents : are_extents 0 (blocks_in f.size) geometry.blocks f.extents ≡ true
 
 -- what the attributes of these files count
 abbrev pub attribute_total_in : List SnapshotFile → ℕ

@@ -2,10 +2,11 @@
 
 ghost use Rattle.std.specs.Prelude.{◌≡◌, ℕ, ◌^◌, ◌≤◌, ◌++◌, [], ◌∷◌, map, false, is_some, IfOk, OnOk};
 ghost use Rattle.plain_model.specs.Plain.{named};
+ghost use Rattle.std.specs.Bool.{OnTrue};
 ghost use Rattle.std.specs.Result.{IsErrOf};
 ghost use Rattle.meta_store.specs.Catalogs.{Catalog, geometry_of, IsCatalog};
 ghost use Rattle.meta_store.specs.Snapshots.{raw_file, raw_snapshot, snapshot_file, snapshot_of};
-ghost use Rattle.meta_store.specs.Validity.{last_inode, is_file, can_follow, is_next, names_in, HasTaken};
+ghost use Rattle.meta_store.specs.Validity.{last_inode, is_file, can_follow, Follows, is_next, names_in, HasTaken};
 
 use crate::catalog::Catalog;
 use crate::extents::{are_extents, claim};
@@ -81,9 +82,11 @@ fn take_in(
 }
 
 /// Whether a file can stand behind those of the catalog, what they use of the disk and what sessions keep with them aside.
+#[tactic(auto, using(crate::proofs::PassingFiles::follows))]
 fn can_follow(catalog: &Catalog, limits: Geometry, next: u64, last: u64, file: &RawFile) -> bool
     requires { last ≡ last_inode 0 (names_in (map snapshot_file catalog.now.files)) }
-    ensures { result ≡ can_follow limits next (map snapshot_file catalog.now.files) (raw_file file.now) }
+    ensures judged { result ≡ can_follow limits next (map snapshot_file catalog.now.files) (raw_file file.now) }
+    ensures follows { OnTrue result (Follows limits next (map snapshot_file catalog.now.files) (raw_file file.now)) }
 {
     !has_name(catalog, &file.name)
         && last < file.key.ino

@@ -4,64 +4,46 @@ use Rattle.meta_store.specs.Snapshots.{raw_file, snapshot_file}
 use Rattle.meta_store.proofs.SpreadPlaces.{extents-tell}
 use Rattle.meta_store.proofs.LastFiles.{absent}
 use Rattle.meta_store.proofs.PassingFiles.{names_in-snapshot}
-use Rattle.meta_store.proofs.TakenFiles as taking
+use Rattle.meta_store.proofs.TakenFiles.{is-above, within, flags-tell, is-lawful, once-each, taken-more}
 use Rattle.meta_store.proofs.validity.take_in.Goals as goal
 use Rattle.meta_store.proofs.validity.take_in.Goals.{then-not-can_follow-via-then-not-can_follow, then-not-can_follow-via-else-not-can_follow+then-not-claim}
 
 pub claim-requires : goal.claim-requires
-claim-requires c =
-    let ok = sym c.can_follow.ensures ∙ c.if-not-can_follow.false in
-    rw c.as_slice.ensures.value (taking.within c.args.limits c.args.next c.args.catalog.now c.args.flags.now (raw_file c.args.file) c.requires.taken ok)
+claim-requires c = rw c.as_slice.ensures.value (within c.requires.taken c.if-not-can_follow.ensures.follows)
 
 pub returns-then-not-can_follow-clause-corrupt : goal.returns-then-not-can_follow-clause-corrupt
 returns-then-not-can_follow-clause-corrupt c = λ is.
     let before = map snapshot_file c.args.catalog.now.files in
     let file = raw_file c.args.file in
     elim c.then-not-can_follow.branch [
-      | then-not-can_follow-via-then-not-can_follow w ↦ let no = sym c.can_follow.ensures ∙ w.if-not-can_follow.true in grind arith
+      | then-not-can_follow-via-then-not-can_follow w ↦ let no = sym c.can_follow.ensures.judged ∙ w.if-not-can_follow.true in grind arith
       | then-not-can_follow-via-else-not-can_follow+then-not-claim w ↦
-          let free = taking.free-unused c.args.limits c.args.next c.args.catalog.now c.args.flags.now file c.requires.taken (sym c.can_follow.ensures ∙ w.if-not-can_follow.false) in
-          let no = sym free ∙ rw w.as_slice.ensures.value at (sym w.claim.ensures.free ∙ w.if-not-claim.true) in
+          let free = flags-tell c.requires.taken w.if-not-can_follow.ensures.follows in
+          let no = sym free.0 ∙ rw w.as_slice.ensures.value at (sym w.claim.ensures.free ∙ w.if-not-claim.true) in
           grind arith
     ]
 
 pub of-requires-clause-blocks : goal.of-requires-clause-blocks
-of-requires-clause-blocks c =
-    let ok = sym c.can_follow.ensures ∙ c.if-not-can_follow.false in
-    let f = taking.facts c.args.limits c.args.next c.args.catalog.now c.args.flags.now (raw_file c.args.file) c.requires.taken ok in
-    rw c.as_slice-2.ensures.value (extents-tell 0 (blocks_in c.args.file.size) _ c.args.file.extents.items f.extents).0
+of-requires-clause-blocks c = rw c.as_slice-2.ensures.value (extents-tell 0 (blocks_in c.args.file.size) _ c.args.file.extents.items c.if-not-can_follow.ensures.follows.extents).0
 
 pub put-requires-clause-inode : goal.put-requires-clause-inode
-put-requires-clause-inode c =
-    let ok = sym c.can_follow.ensures ∙ c.if-not-can_follow.false in
-    absent 0 c.args.file.key.ino _ c.geometry-geometry.ensures.valid.table.ascend (taking.is-above c.args.limits c.args.next c.args.catalog.now c.args.flags.now (raw_file c.args.file) c.requires.taken ok)
+put-requires-clause-inode c = absent 0 c.args.file.key.ino _ c.geometry-geometry.ensures.valid.table.ascend (is-above c.requires.taken c.if-not-can_follow.ensures.follows)
 
 pub put-requires-clause-name : goal.put-requires-clause-name
-put-requires-clause-name c =
-    let ok = sym c.can_follow.ensures ∙ c.if-not-can_follow.false in
-    let f = taking.facts c.args.limits c.args.next c.args.catalog.now c.args.flags.now (raw_file c.args.file) c.requires.taken ok in
-    rw (← names_in-snapshot c.args.catalog.now.files) f.fresh
+put-requires-clause-name c = rw (← names_in-snapshot c.args.catalog.now.files) c.if-not-can_follow.ensures.follows.fresh
 
 pub put-requires-clause-lawful : goal.put-requires-clause-lawful
 put-requires-clause-lawful c =
-    let ok = sym c.can_follow.ensures ∙ c.if-not-can_follow.false in
     let kept = c.in_ok-attributes_of.ensures in
     rw (← c.requires.limits, c.in_ok-of.ensures, c.as_slice-2.ensures.value, c.in_ok-regions_of.ensures.ok, kept.ok)
-    (taking.is-lawful c.args.limits c.args.next c.args.catalog.now c.args.flags.now (raw_file c.args.file) c.requires.taken ok (record {
-      regions = let lawful = c.in_ok-regions_of.ensures.lawful in grind arith;
-      attributes = rw kept.ok at kept.attributes;
-      eight = rw kept.ok at kept.eight;
-    }))
+    (is-lawful c.requires.taken c.if-not-can_follow.ensures.follows (record { regions = let lawful = c.in_ok-regions_of.ensures.lawful in grind arith; attributes = rw kept.ok at kept.attributes; eight = rw kept.ok at kept.eight }))
 
 pub put-requires-clause-distinct : goal.put-requires-clause-distinct
 put-requires-clause-distinct c =
-    let ok = sym c.can_follow.ensures ∙ c.if-not-can_follow.false in
     let free = rw c.as_slice.ensures.value at (sym c.claim.ensures.free ∙ c.if-not-claim.false) in
-    rw (c.in_ok-of.ensures, c.as_slice-2.ensures.value)
-    (taking.once-each c.args.limits c.args.next c.args.catalog.now c.args.flags.now (raw_file c.args.file) c.requires.taken ok free c.geometry-geometry.ensures.valid.distinct)
+    rw (c.in_ok-of.ensures, c.as_slice-2.ensures.value) (once-each c.requires.taken c.if-not-can_follow.ensures.follows free c.geometry-geometry.ensures.valid.distinct)
 
 pub returns-clause-taken : goal.returns-clause-taken
 returns-clause-taken c =
-    let ok = sym c.can_follow.ensures ∙ c.if-not-can_follow.false in
     rw (c.in_ok-put.ensures.ok, c.in_ok-of.ensures, c.as_slice-2.ensures.value, c.in_ok-regions_of.ensures.ok, c.in_ok-attributes_of.ensures.ok, c.if-not-claim.ensures.flags, c.as_slice.ensures.value)
-    (taking.taken-more c.args.limits c.args.next c.args.catalog.now c.args.flags.now (raw_file c.args.file) c.requires.taken ok c.geometry-geometry.ensures.valid.table.ascend)
+    (taken-more c.requires.taken c.if-not-can_follow.ensures.follows c.geometry-geometry.ensures.valid.table.ascend)
