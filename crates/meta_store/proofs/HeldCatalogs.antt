@@ -190,3 +190,5 @@ part_none g (Some f) is = cc
 pub part_some : {X : Type 0} (g : FileParts → X) (o : Option CatalogFile) (p : FileParts) → Some p ≡ option_map parts_of o → Some (g p) ≡ option_map (λ f. g (parts_of f)) o
 part_some g None p is = cc
 part_some g (Some f) p is = let same : p ≡ parts_of f = cc in rw same refl
+
+pub ruleset table_held = (table-held)

@@ -81,3 +81,5 @@ attributes-few (a ∷ attrs) = omega (arith, sum_by-cons cost_of_value a.1 (valu
 pub attributes-short : (attrs : Attributes) → AllByRecursion (λ a. length a.0.0 ≡ 8) attrs → length (flat_map attribute_bytes attrs) ≤ bytes_of_attributes attrs
 attributes-short [] eight = omega arith
 attributes-short (a ∷ attrs) eight = simp length-append (omega (arith, eight.0, attributes-short attrs eight.1, sum_by-cons cost_of_value a.1 (values_of attrs)))
+
+pub ruleset eight_steps = (eight-with, eight-without)

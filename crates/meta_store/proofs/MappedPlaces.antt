@@ -2,11 +2,12 @@
 use Rattle.std.proofs.Common.{◌≡◌, ℕ, zero, suc, ◌+◌, ◌-◌, ◌<◌, ◌≤◌, List, [], ◌∷◌, ◌++◌, length, take, drop, set, get_or, Option, Some, None, false, eqb, inl, ◌⊎◌, refl, ◌∙◌, ap, arith, length-append, length-set, length-take}
 use Rattle.std.specs.Prelude.{replicate}
 use Rattle.std.specs.List.{list_any, AllByRecursion}
-use Rattle.std.proofs.lemmas.List.{length-replicate}
+use Rattle.std.proofs.lemmas.List.{length-replicate, drop_more}
 use Rattle.plain_model.specs.Blocks.{blocks_in}
 use Rattle.meta_store.specs.Catalogs.{present}
 use Rattle.meta_store.specs.Records.{places_fitted, places_set, mappings_from}
 use Rattle.meta_store.specs.declared.snapshot.Mapping.{Mapping}
+use Rattle.meta_store.proofs.ExtentCounts.{present-few}
 use Rattle.meta_store.proofs.BlockUses.{is_one, uses, uses-append, uses-absent}
 
 -- ---- a new size
@@ -81,3 +82,16 @@ places-within blocks block (p ∷ new) w = (w.0, places-within blocks (block + 1
 pub new_or_used : (n : ℕ) (new used : List ℕ) → AllByRecursion (λ p. list_any (λ b. eqb b p) used ≡ false) new → (uses n new ≡ 0) ⊎ (uses n used ≡ 0)
 new_or_used n [] used unused = inl refl
 new_or_used n (p ∷ new) used unused = grind (arith, uses-absent p used unused.0, new_or_used n new used unused.1)
+
+-- ---- one place after the other
+
+-- the places of the blocks that follow
+pub run-more : (first i : ℕ) (new : List ℕ) (d : ℕ) (ps : List (Option ℕ)) → i < length new
+    → places_set (mappings_from (first + i) (drop i new)) ps ≡ places_set (mappings_from (first + (i + 1)) (drop (i + 1) new)) (set ps (first + i) (Some (get_or new i d)))
+run-more first i new d ps within = rw (drop_more new i d within) (ap (λ (b : ℕ). places_set (mappings_from b (drop (i + 1) new)) (set ps (first + i) (Some (get_or new i d)))) (omega arith))
+
+pub ruleset mapped_steps = (present-set, present-few, run-more, drop_more, length-set, length-places_set)
+
+pub ruleset new_steps = (present-holes, length-replicate, length-places_set)
+
+pub ruleset fit_steps = (length-fitted, count-fitted)

@@ -77,6 +77,7 @@ impl Catalog {
     }
 
     /// The keys, names and sizes of the files.
+    #[tactic(auto, using(crate::proofs::HeldCatalogs::table_held))]
     pub fn names(&self) -> &InodeTable
         ensures { result.now ≡ record { limit = (geometry_of self.now.geometry).files; next = self.now.next; files = map (λ f. entry_of f.key f.name f.size) self.now.files } }
     {

@@ -34,6 +34,7 @@ impl FileParts {
     }
 
     /// Changes them as a record about their file says. The attributes of all other files count `others`, and those of all `limit` at most.
+    #[tactic(auto, using(crate::proofs::KeptBounds::eight_steps))]
     pub(crate) fn apply(
         &mut self,
         change: Record,

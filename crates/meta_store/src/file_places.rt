@@ -1,5 +1,5 @@
 // Where the blocks of one file lie.
-ghost use Rattle.std.specs.Prelude.{◌≡◌, ◌+◌, ◌-◌, ◌<◌, ◌≤◌, ◌++◌, [], ◌∷◌, length, take, drop, replicate, None, IfOk, OnOk, OnErr};
+ghost use Rattle.std.specs.Prelude.{◌≡◌, ◌+◌, ◌-◌, ◌<◌, ◌≤◌, ◌++◌, [], ◌∷◌, length, take, drop, replicate, slice_set, None, Some, IfOk, OnOk, OnErr};
 ghost use Rattle.std.specs.List.{AllByRecursion};
 ghost use Rattle.plain_model.specs.Blocks.{blocks_in};
 ghost use Rattle.meta_store.specs.Catalogs.{present};
@@ -54,6 +54,7 @@ impl FilePlaces {
     }
 
     /// Of a file of that size, whose blocks lie there, as a snapshot has it. It costs the blocks.
+    #[tactic(auto, using(crate::proofs::MappedPlaces::new_steps))]
     pub(crate) fn of(
         alloc: Global,
         size: u64,
@@ -64,11 +65,12 @@ impl FilePlaces {
         ensures { IfOk result (λ p. p ≡ places_set extents.now (replicate (blocks_in size) None)) }
     {
         let mut places = vec![in alloc; None; blocks_in(size)]?;
-        let mapped = set(places.as_mut_slice(), extents);
+        let mapped = set(&mut places, extents);
         Ok(FilePlaces { places, mapped })
     }
 
     /// Follows a file to its new size. At an `Err` nothing has changed. It costs the blocks that the size adds or takes away.
+    #[tactic(auto, using(crate::proofs::MappedPlaces::fit_steps))]
     pub(crate) fn fit(&mut self, size: u64) -> Result<(), AllocError>
         requires { size ≤ FILE_BYTES }
         ensures ok { OnOk result (self.new ≡ places_fitted size self.old) }
@@ -82,19 +84,17 @@ impl FilePlaces {
     }
 
     /// Gives the blocks from that one on these places. It costs the places.
+    #[tactic(auto, using(crate::proofs::MappedPlaces::mapped_steps))]
     pub(crate) fn map(&mut self, block: u32, places: &[u32])
         requires { block + length places.now ≤ length self.old }
         ensures { self.new ≡ places_set (mappings_from block places.now) self.old }
     {
-        let first = block as usize;
-        for (i, place) in places.iter().enumerate() {
-            self.mapped += hole(self.places[first + i]);
-            self.places[first + i] = Some(*place);
-        }
+        self.mapped += set_from(&mut self.places, block as usize, places);
     }
 }
 
 /// How many of a file's places aren't holes.
+#[tactic(auto, using(crate::proofs::MappedPlaces::mapped_steps))]
 pub fn count_present(places: &[Option<u32>]) -> u32
     requires { length places.now ≤ 4096 }
     ensures { result ≡ length (present places.now) }
@@ -129,18 +129,44 @@ fn blocks_in(size: u64) -> usize
 }
 
 /// Gives blocks new places, one after the other, and tells how many of them were holes.
-fn set(places: &mut [Option<u32>], mappings: &[Mapping]) -> u32
-    requires blocks { AllByRecursion (λ m. m.block < length places.old) mappings.now }
-    requires few { length places.old ≤ 4096 }
-    ensures places { places.new ≡ places_set mappings.now places.old }
-    ensures added { result + length (present places.old) ≡ length (present places.new) }
+#[tactic(auto, using(crate::proofs::MappedPlaces::mapped_steps))]
+fn set(places: &mut Vec<Option<u32>>, mappings: &[Mapping]) -> u32
+    requires blocks { AllByRecursion (λ m. m.block < length places.old.items) mappings.now }
+    requires few { length places.old.items ≤ 4096 }
+    ensures places { places.new.items ≡ places_set mappings.now places.old.items }
+    ensures added { result + length (present places.old.items) ≡ length (present places.new.items) }
 {
     let mut added = 0;
     for mapping in mappings {
-        let block = mapping.block as usize;
-        added += hole(places[block]);
-        places[block] = Some(mapping.place);
+        added += put(places, mapping.block as usize, mapping.place);
     }
+    added
+}
+
+/// Gives the blocks from that one on these places, and tells how many of them were holes.
+#[tactic(auto, using(crate::proofs::MappedPlaces::mapped_steps))]
+fn set_from(places: &mut Vec<Option<u32>>, first: usize, new: &[u32]) -> u32
+    requires blocks { first + length new.now ≤ length places.old.items }
+    requires few { length places.old.items ≤ 4096 }
+    ensures places { places.new.items ≡ places_set (mappings_from first new.now) places.old.items }
+    ensures added { result + length (present places.old.items) ≡ length (present places.new.items) }
+{
+    let mut added = 0;
+    for (i, place) in new.iter().enumerate() {
+        added += put(places, first + i, *place);
+    }
+    added
+}
+
+/// Gives a block a new place, and tells how many holes there are less.
+#[tactic(auto, using(crate::proofs::MappedPlaces::mapped_steps))]
+fn put(places: &mut Vec<Option<u32>>, block: usize, place: u32) -> u32
+    requires { block < length places.old.items }
+    ensures places { places.new.items ≡ slice_set places.old.items block (Some place) }
+    ensures added { result + length (present places.old.items) ≡ length (present places.new.items) }
+{
+    let added = hole(places[block]);
+    places[block] = Some(place);
     added
 }
 

@@ -6,8 +6,8 @@ use Rattle.meta_store.proofs.file_places.set.Given as goal
 
 abbrev pub invariant-loop-mapping : goal.invariant-loop-mapping
 invariant-loop-mapping l = record {
-  left : places_set (drop l.mapping-index l.mappings) l.places ≡ places_set l.mappings l.fn.places;
-  within : AllByRecursion (λ m. m.block < length l.fn.places) (drop l.mapping-index l.mappings);
-  size : length l.places ≡ length l.fn.places;
-  added : l.added + length (present l.fn.places) ≡ length (present l.places);
+  left : places_set (drop l.mapping-index l.mappings) l.places.items ≡ places_set l.mappings l.fn.places.items;
+  within : AllByRecursion (λ m. m.block < length l.fn.places.items) (drop l.mapping-index l.mappings);
+  size : length l.places.items ≡ length l.fn.places.items;
+  added : l.added + length (present l.fn.places.items) ≡ length (present l.places.items);
 }
