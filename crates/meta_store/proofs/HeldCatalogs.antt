@@ -32,16 +32,12 @@ IsCounted geometry t ps total used = IsHeld geometry t ps total × (used ≡ len
 
 within_get : (n limit next i : ℕ) (e : FileEntry) (es : List FileEntry) → Ascend n (listing es) → Within limit next (listing es) → slice_get es i ≡ Some e → (n ≤ e.key.ino) × (e.key.ino ≤ limit)
 within_get n limit next i e [] a w there = cc
-within_get n limit next zero e (f ∷ es) a w there = let P : FileEntry → Type 0 = λ g. (n ≤ g.key.ino) × (g.key.ino ≤ limit) in let is : f ≡ e = cc in subst P is (a.0, w.0)
-within_get n limit next (suc i) e (f ∷ es) a w there = let low = a.0 in let more = within_get (f.key.ino + 1) limit next i e es a.1 w.2 there in let above = more.0 in (omega arith, more.1)
+within_get n limit next zero e (f ∷ es) a w there = grind (arith, a.0, w.0)
+within_get n limit next (suc i) e (f ∷ es) a w there = grind (arith, a.0, within_get (f.key.ino + 1) limit next i e es a.1 w.2 there)
 
 some_mapped : {X Y : Type 0} (to : X → Y) (o : Option X) (y : Y) → option_map to o ≡ Some y → (x : X) × (o ≡ Some x) × (to x ≡ y)
 some_mapped to None y is = cc
 some_mapped to (Some x) y is = (x, refl, cc)
-
-pub none_mapped : {X Y : Type 0} (to : X → Y) (o : Option X) → None ≡ option_map to o → o ≡ None
-none_mapped to None is = refl
-none_mapped to (Some x) is = cc
 
 there : {X : Type 0} (o : Option X) → IsSome o → (x : X) × (o ≡ Some x)
 there None some = cc
@@ -62,19 +58,17 @@ pub record IsLive (t : Table) (ps : List FileParts) (k : FileKey) (f : CatalogFi
 -- what is read of the parts at its inode
 pub read-live : (t : Table) (ps : List FileParts) (k : FileKey) (f : CatalogFile) → IsLive t ps k f → (at : ℕ) (x : FileParts) → at ≡ k.ino - 1 → x ≡ get_or ps at x → x ≡ parts_of f
 read-live t ps k f one at x here read =
-    let low = one.low in
-    let high = one.high in
-    get_or_read ps (k.ino - 1) x (omega arith) (rw here at read) no_parts ∙ one.parts
+    get_or_read ps (k.ino - 1) x (omega (arith, one.low, one.high)) (rw here at read) no_parts ∙ one.parts
 
 pub held-live : (t : Table) (ps : List FileParts) (k : FileKey) (f : CatalogFile) → IsLive t ps k f → file_held ps (entry_of f.key f.name f.size) ≡ f
 held-live t ps k f one = rw (one.key, one.parts) refl
 
 module _ (s : Inside) (v : Catalog) (is : catalog_held s.geometry s.table s.parts.items ≡ v) (i : IsCounted s.geometry s.table s.parts.items s.attribute_total s.used) where
   pub lawful : IsCatalog v
-  lawful = subst IsCatalog is i.0.catalog
+  lawful = rw (← is) i.0.catalog
 
   pub names : names_of v.files ≡ listing s.table.files
-  names = ap (λ (c : Catalog). names_of c.files) (sym is) ∙ names_of-held s.parts.items s.table.files
+  names = rw (← is) (names_of-held s.parts.items s.table.files)
 
   pub table : IsTable (geometry_of s.geometry).files s.table.next (listing s.table.files)
   table = rw (names_of-held s.parts.items s.table.files) at i.0.catalog.table
@@ -84,23 +78,21 @@ module _ (s : Inside) (v : Catalog) (is : catalog_held s.geometry s.table s.part
   table-held = rw (← is, entries-held s.parts.items s.table.files, ← i.0.limit) refl
 
   pub counted : s.attribute_total ≡ attribute_total v.files
-  counted = i.0.counted ∙ ap (λ (c : Catalog). attribute_total c.files) is
+  counted = rw (← is) i.0.counted
 
   blocks-counted : s.used ≡ length (blocks_of v.files)
-  blocks-counted = i.1 ∙ ap (λ (c : Catalog). length (blocks_of c.files)) is
+  blocks-counted = rw (← is) i.1
 
   pub bounded : (s.attribute_total ≤ (geometry_of v.geometry).attributes) × ((geometry_of v.geometry).attributes ≤ 1048576) × (s.used ≤ 65536)
   bounded =
       let most = geometry-bounded v.geometry in
-      let blocks = most.1 in
-      let few = lawful.few in
-      (omega (arith, counted), most.2, omega (arith, blocks-counted, blocks-few v lawful))
+      (omega (arith, counted, lawful.few), most.2, omega (arith, most.1, blocks-counted, blocks-few v lawful))
 
   pub slot-within : (at : ℕ) (e : FileEntry) → slice_get s.table.files at ≡ Some e → (1 ≤ e.key.ino) × (e.key.ino ≤ length s.parts.items)
   slot-within at e there = rw i.0.count (within_get 1 (geometry_of s.geometry).files s.table.next at e s.table.files table.ascend table.within there)
 
   pub found-held : (k : FileKey) → find_key (λ g. g.key) k v.files ≡ option_map (file_held s.parts.items) (find_key (λ e. e.key) k s.table.files)
-  found-held k = sym (ap (λ (c : Catalog). find_key (λ g. g.key) k c.files) is) ∙ map-find (λ (f : CatalogFile). f.key) (file_held s.parts.items) k s.table.files
+  found-held k = rw (← is) (map-find (λ (f : CatalogFile). f.key) (file_held s.parts.items) k s.table.files)
 
   pub live : (k : FileKey) (f : CatalogFile) → find_key (λ g. g.key) k v.files ≡ Some f → IsLive s.table s.parts.items k f
   live k f found =
@@ -109,10 +101,11 @@ module _ (s : Inside) (v : Catalog) (is : catalog_held s.geometry s.table s.part
       subst (IsLive s.table s.parts.items k) one.2
       (record { key = within.0; entry = one.1; low = within.1; high = rw i.0.count within.2; parts = ap (λ (j : FileKey). get_or s.parts.items (j.ino - 1) no_parts) (sym within.0) })
 
-  pub sized-live : (k : FileKey) (size : ℕ) → Some size ≡ option_map (λ e. e.size) (find_key (λ e. e.key) k s.table.files) → (f : CatalogFile) × (find_key (λ g. g.key) k v.files ≡ Some f)
+  pub sized-live : (k : FileKey) (size : ℕ) → Some size ≡ option_map (λ e. e.size) (find_key (λ e. e.key) k s.table.files) → (f : CatalogFile) × (find_key (λ g. g.key) k v.files ≡ Some f) × IsLive s.table s.parts.items k f
   sized-live k size sized =
       let one = some_mapped (λ (e : FileEntry). e.size) (find_key (λ e. e.key) k s.table.files) size (sym sized) in
-      (file_held s.parts.items one.0, found-held k ∙ ap (option_map (file_held s.parts.items)) one.1)
+      let found = found-held k ∙ ap (option_map (file_held s.parts.items)) one.1 in
+      (file_held s.parts.items one.0, found, live k (file_held s.parts.items one.0) found)
 
   -- what is counted of one file and of the others
   pub others : (k : FileKey) (f : CatalogFile) → find_key (λ g. g.key) k v.files ≡ Some f → (others_total k v + count_of f ≡ s.attribute_total) × (length (blocks_of (without_file k v).files) + mapped_of f ≡ s.used)
@@ -189,6 +182,6 @@ part_none g (Some f) is = cc
 
 pub part_some : {X : Type 0} (g : FileParts → X) (o : Option CatalogFile) (p : FileParts) → Some p ≡ option_map parts_of o → Some (g p) ≡ option_map (λ f. g (parts_of f)) o
 part_some g None p is = cc
-part_some g (Some f) p is = let same : p ≡ parts_of f = cc in rw same refl
+part_some g (Some f) p is = grind arith
 
 pub ruleset table_held = (table-held)

@@ -1,16 +1,15 @@
 // What is kept of a store's files beside the table, by inode.
-ghost use Rattle.std.specs.Prelude.{◌≡◌, ◌-◌, ◌≤◌, replicate, IfOk};
+ghost use Rattle.std.specs.Prelude.{◌≡◌, ◌-◌, replicate, IfOk};
 ghost use Rattle.meta_store.specs.InMemory.{no_parts};
 
 use crate::file_parts::FileParts;
 use std::alloc::{AllocError, Global};
 
-/// Where the parts of the file with that inode are.
+/// Where the parts of the file with that inode are. No file has the inode 0.
 pub fn slot(ino: u64) -> usize
-    requires { 1 ≤ ino }
     ensures { result ≡ ino - 1 }
 {
-    (ino - 1) as usize
+    ino.saturating_sub(1) as usize
 }
 
 /// The parts of so many new files.

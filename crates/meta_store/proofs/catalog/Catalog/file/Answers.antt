@@ -5,21 +5,12 @@ use Rattle.meta_store.specs.InMemory.{no_parts, file_held}
 use Rattle.meta_store.proofs.HeldCatalogs.{slot-within}
 use Rattle.meta_store.proofs.catalog.Catalog.file.Goals as goal
 
-pub slot-requires : goal.slot-requires
-slot-requires c = (slot-within c.self.inside _ c.self.view_is c.self.invariant c.args.index _ (sym c.in_ok-key.ensures)).0
-
 pub index-requires : goal.index-requires
-index-requires c =
-    let within = slot-within c.self.inside _ c.self.view_is c.self.invariant c.args.index _ (sym c.in_ok-key.ensures) in
-    let low = within.0 in
-    let high = within.1 in
-    omega arith
+index-requires c = let within = slot-within c.self.inside _ c.self.view_is c.self.invariant c.args.index _ (sym c.in_ok-key.ensures) in omega (arith, within.0, within.1, c.slot.ensures)
 
 pub returns : goal.returns
 returns c =
     let ps = c.self.inside.parts.items in
     let within = slot-within c.self.inside _ c.self.view_is c.self.invariant c.args.index _ (sym c.in_ok-key.ensures) in
-    let low = within.0 in
-    let high = within.1 in
-    let here = get_or_read ps (c.in_ok-key.key.ino - 1) c.index.result.now (omega arith) (rw c.slot.ensures at c.index.ensures) no_parts in
+    let here = get_or_read ps (c.in_ok-key.key.ino - 1) c.index.result.now (omega (arith, within.0, within.1)) (rw c.slot.ensures at c.index.ensures) no_parts in
     rw (← c.self.view_is, slice_get-map (file_held ps) c.self.inside.table.files c.args.index, ← c.in_ok-key.ensures, ← here) refl

@@ -14,11 +14,11 @@ overflow_sub-attributes c = let sum = (left c.self.inside _ c.self.view_is c.sel
 pub overflow_sub-blocks : goal.overflow_sub-blocks
 overflow_sub-blocks c = let sum = (left c.self.inside _ c.self.view_is c.self.invariant c.args.ino c.requires c.key_at.result c.unwrap-key.result c.key_at.ensures c.unwrap-key.ensures c.unwrap-parts.result.now (rw c.unwrap-parts.ensures at c.parts.ensures)).1 in omega (arith, c.from.ensures, c.mapped.ensures)
 
-pub returns-clause-key : goal.returns-clause-key
-returns-clause-key c = key-at c.self.inside _ c.self.view_is c.self.invariant c.args.ino c.requires c.key_at.result c.unwrap-key.result c.key_at.ensures c.unwrap-key.ensures
-
-pub returns-clause-attributes : goal.returns-clause-attributes
-returns-clause-attributes c = let sum = (left c.self.inside _ c.self.view_is c.self.invariant c.args.ino c.requires c.key_at.result c.unwrap-key.result c.key_at.ensures c.unwrap-key.ensures c.unwrap-parts.result.now (rw c.unwrap-parts.ensures at c.parts.ensures)).0 in omega (arith, c.bytes.ensures.count)
-
-pub returns-clause-used : goal.returns-clause-used
-returns-clause-used c = let sum = (left c.self.inside _ c.self.view_is c.self.invariant c.args.ino c.requires c.key_at.result c.unwrap-key.result c.key_at.ensures c.unwrap-key.ensures c.unwrap-parts.result.now (rw c.unwrap-parts.ensures at c.parts.ensures)).1 in omega (arith, c.from.ensures, c.mapped.ensures)
+pub returns : goal.returns
+returns c =
+    let sum = left c.self.inside _ c.self.view_is c.self.invariant c.args.ino c.requires c.key_at.result c.unwrap-key.result c.key_at.ensures c.unwrap-key.ensures c.unwrap-parts.result.now (rw c.unwrap-parts.ensures at c.parts.ensures) in
+    record {
+      key = key-at c.self.inside _ c.self.view_is c.self.invariant c.args.ino c.requires c.key_at.result c.unwrap-key.result c.key_at.ensures c.unwrap-key.ensures;
+      attributes = omega (arith, sum.0, c.bytes.ensures.count);
+      used = omega (arith, sum.1, c.from.ensures, c.mapped.ensures);
+    }

@@ -9,16 +9,10 @@ pub put-requires-clause-name : goal.put-requires-clause-name
 put-requires-clause-name c = rw (names c.self.inside _ c.self.view_is c.self.invariant) at c.requires.name
 
 pub overflow_add-self : goal.overflow_add-self
-overflow_add-self c =
-    let most = bounded c.self.inside _ c.self.view_is c.self.invariant in
-    let limit = most.1 in
-    omega (arith, counted c.self.inside _ c.self.view_is c.self.invariant, c.requires.room, c.bytes.ensures.count)
+overflow_add-self c = omega (arith, (bounded c.self.inside _ c.self.view_is c.self.invariant).1, counted c.self.inside _ c.self.view_is c.self.invariant, c.requires.room, c.bytes.ensures.count)
 
 pub overflow_add-self-2 : goal.overflow_add-self-2
-overflow_add-self-2 c =
-    let most = bounded c.self.inside _ c.self.view_is c.self.invariant in
-    let used = most.2 in
-    omega (arith, c.from.ensures)
+overflow_add-self-2 c = omega (arith, (bounded c.self.inside _ c.self.view_is c.self.invariant).2, c.from.ensures)
 
 pub invariant_of-self-2 : goal.invariant_of-self-2
 invariant_of-self-2 c =
