@@ -11,13 +11,12 @@ use Rattle.meta_store.specs.Records.{after, after_all, refusal_of, refusal_of_al
 same_geometry : (r : Record) (c : Catalog) → (after r c).geometry ≡ c.geometry
 same_geometry r c = search rules
 
--- the refusal of the others, behind a record that isn't refused
-behind : (first more : Option DmRefusal) → first ≡ None → first_refusal (first ∷ more ∷ []) ≡ more
-behind first more is = search rules
+-- the refusal of the others, behind a record that isn't refused, and that of a record before others that aren't
+passed : (first more : Option DmRefusal) → first ≡ None → first_refusal (first ∷ more ∷ []) ≡ more
+passed first more is = search rules
 
--- the refusal of a record before others that aren't refused
-before : (first more : Option DmRefusal) → more ≡ None → first_refusal (first ∷ more ∷ []) ≡ first
-before first more is = search rules
+alone : (first more : Option DmRefusal) → more ≡ None → first_refusal (first ∷ more ∷ []) ≡ first
+alone first more is = search rules
 
 -- no part judges where blocks lie
 map_stands : (r : Record) (c : Catalog) → IsMap r → refusal_of r c ≡ None
@@ -25,7 +24,7 @@ map_stands r c is = search rules
 
 maps_stand : (rs : List Record) (c : Catalog) → AllByRecursion IsMap rs → refusal_of_all rs c ≡ None
 maps_stand [] c maps = refl
-maps_stand (r ∷ rs) c maps = behind (refusal_of r c) (refusal_of_all rs (after r c)) (map_stands r c maps.0) ∙ maps_stand rs (after r c) maps.1
+maps_stand (r ∷ rs) c maps = rw (map_stands r c maps.0, maps_stand rs (after r c) maps.1) refl
 
 -- Some of an event's records are taken, and these are left: all of them, or only maps.
 pub record IsTaking (records : List Record) (old : Catalog) (left : List Record) (now : Catalog) : Type 0 where
@@ -45,7 +44,7 @@ module _ (records : List Record) (old : Catalog) (r : Record) (left : List Recor
     stand = rw is taking.stand.1;
     geometry = ap (λ (c : Catalog). c.geometry) is ∙ same_geometry r now ∙ taking.geometry;
     ends = rw is taking.ends;
-    judged = rw is (sym (behind (refusal_of r now) (refusal_of_all left (after r now)) judged) ∙ taking.judged);
+    judged = rw (is, ← passed (refusal_of r now) (refusal_of_all left (after r now)) judged) taking.judged;
     begun = inr maps_left;
   }
 
@@ -54,7 +53,7 @@ module _ (records : List Record) (old : Catalog) (r : Record) (left : List Recor
   taking-stops other = ⊎_elim (λ h. h.0) (λ maps. absurd (other maps.0)) taking.begun
 
   pub taking-judged : refusal_of r now ≡ refusal_of_all records old
-  taking-judged = sym (before (refusal_of r now) (refusal_of_all left (after r now)) (maps_stand left (after r now) maps_left)) ∙ taking.judged
+  taking-judged = sym (alone (refusal_of r now) (refusal_of_all left (after r now)) (maps_stand left (after r now) maps_left)) ∙ taking.judged
 
 -- the same error, of another function
 pub told_on : {T U E : Type 0} (e v : E) (P : Type 0) → ◌≡◌ {A = Result T E} (Err e) (Err v) ↔ P → ◌≡◌ {A = Result U E} (Err e) (Err v) ↔ P

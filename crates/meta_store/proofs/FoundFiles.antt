@@ -8,11 +8,7 @@ use Rattle.meta_store.specs.Catalogs.{CatalogFile}
 -- what is true of each file is true of the one that is found
 pub each-found : (P : CatalogFile → Type 0) (k : FileKey) (f : CatalogFile) (fs : List CatalogFile) → AllByRecursion P fs → find_key (λ x. x.key) k fs ≡ Some f → P f
 each-found P k f [] each found = cc
-each-found P k f (x ∷ fs) each found =
-    elim (same_key x.key k) as (λ b. cond b (Some x) (find_key (λ y. y.key) k fs) ≡ Some f → P f) [
-      | true ↦ λ is. let it : x ≡ f = cc in subst P it each.0
-      | false ↦ λ is. each-found P k f fs each.1 is
-    ] found
+each-found P k f (x ∷ fs) each found = grind (arith, each.0, each-found P k f fs each.1)
 
 pub same_keys : (j k : FileKey) → same_key j k ≡ true → j ≡ k
 same_keys j k same =

@@ -1,6 +1,7 @@
 -- Edits of the table and of the array of parts are edits of the catalog.
-use Rattle.std.proofs.Common.{◌≡◌, ℕ, ◌+◌, ◌-◌, ◌≤◌, List, [], ◌∷◌, length, map, get_or, set, Bool, true, false, cond, Some, eqb, ltb, refl, ◌∙◌, ap, subst, arith, get_or-set_same, get_or-set_other}
-use Rattle.std.specs.Option.{option_map}
+use Rattle.std.proofs.Common.{◌≡◌, ℕ, ◌+◌, ◌-◌, ◌≤◌, List, [], ◌∷◌, length, map, get_or, set, false, Some, inl, inr, refl, sym, ◌∙◌, ap, arith, get_or-set_same, get_or-set_other}
+use Rattle.std.proofs.lemmas.Bool.{cases_Bool}
+use Rattle.std.proofs.lemmas.Option.{same_Some}
 use Rattle.hsm_types.specs.declared.keys.FileKey.{FileKey}
 use Rattle.plain_model.specs.Keyed.{same_key, find_key, change_key, put_key, drop_key}
 use Rattle.inode_table.specs.declared.entries.FileEntry.{FileEntry}
@@ -52,21 +53,17 @@ pub held-change : (ps : List FileParts) (n limit next : ℕ) (k : FileKey) (to :
     → files_held (set ps (k.ino - 1) x) (change_key (λ f. f.key) k (λ f. record f { size = size }) es) ≡ change_key (λ f. f.key) k to (files_held ps es)
 held-change ps n limit next k to e x size [] from high a w found is = cc
 held-change ps n limit next k to e x size (f ∷ es) from high a w found is =
-    let low = a.0 in
-    let within = w.0 in
     let new : List FileParts = set ps (k.ino - 1) x in
-    elim (same_key f.key k) as (λ b. same_key f.key k ≡ b → cond b (Some f) (find_key (λ g. g.key) k es) ≡ Some e
-    → files_held new (cond b (record f { size = size } ∷ es) (f ∷ change_key (λ g. g.key) k (λ g. record g { size = size }) es))
-    ≡ cond b (to (file_held ps f) ∷ files_held ps es) (file_held ps f ∷ change_key (λ g. g.key) k to (files_held ps es))) [
-      | true ↦ λ same there.
-          let it : e ≡ f = cc in
-          let P : FileEntry → Type 0 = λ g. to (file_held ps g) ≡ file_of g.key g.name size x in
+    elim (cases_Bool (same_key f.key k)) [
+      | inl same ↦
+          let it : e ≡ f = same_Some e f (sym (rw same at found)) in
           let ino = ap (λ (j : FileKey). j.ino) (same_keys f.key k same) in
-          let slot : f.key.ino - 1 ≡ k.ino - 1 = omega arith in
-          let here : get_or new (f.key.ino - 1) no_parts ≡ x = ap (λ (i : ℕ). get_or new i no_parts) slot ∙ get_or-set_same ps (k.ino - 1) x no_parts (omega arith) in
-          rw (here, subst P it is, held-other ps (f.key.ino + 1) k.ino x es (omega arith) (omega arith) a.1 (absent-low k.ino (f.key.ino + 1) (listing es) a.1 (omega arith))) refl
-      | false ↦ λ other there.
+          let here : get_or new (f.key.ino - 1) no_parts ≡ x = rw ino (get_or-set_same ps (k.ino - 1) x no_parts (omega (arith, a.0, w.0))) in
+          let others = held-other ps (f.key.ino + 1) k.ino x es (omega (arith, a.0)) (omega arith) a.1 (absent-low k.ino (f.key.ino + 1) (listing es) a.1 (omega arith)) in
+          rw (same, here, rw it at is, others) refl
+      | inr other ↦
+          let there = rw other at found in
           let above = (found-within (f.key.ino + 1) limit next k e es a.1 w.2 there).1 in
-          let here : get_or new (f.key.ino - 1) no_parts ≡ get_or ps (f.key.ino - 1) no_parts = get_or-set_other ps (k.ino - 1) (f.key.ino - 1) x no_parts (λ same. absurd (omega arith)) in
-          rw (here, held-change ps (f.key.ino + 1) limit next k to e x size es (omega arith) high a.1 w.2 there is) refl
-    ] refl found
+          let here : get_or new (f.key.ino - 1) no_parts ≡ get_or ps (f.key.ino - 1) no_parts = get_or-set_other ps (k.ino - 1) (f.key.ino - 1) x no_parts (λ same. absurd (omega (arith, a.0, above))) in
+          rw (other, here, held-change ps (f.key.ino + 1) limit next k to e x size es (omega arith) high a.1 w.2 there is) refl
+    ]

@@ -32,18 +32,16 @@ table-put limit next g fs t low high free new = rw (names_of-put g fs) (record {
 
 pub IsCatalog-with_put : (g : CatalogFile) (c : Catalog) → IsCatalog c → 1 ≤ g.key.ino → g.key.ino ≤ (geometry_of c.geometry).files → has_inode g.key.ino (names_of c.files) ≡ false → named g.name (names_of c.files) ≡ None → g.key.igen < 2 ^ 62
     → IsCatalogFile (geometry_of c.geometry).blocks g → Distinct (present g.places ++ blocks_of c.files) → attribute_total c.files + count_of g ≤ (geometry_of c.geometry).attributes → IsCatalog (with_put g c)
-IsCatalog-with_put g c is low high free new early lawful apart room =
-    let first = is.first in
-    let next = is.next in record {
-      known = is.known;
-      first = omega arith;
-      next = omega arith;
-      table = table-put (geometry_of c.geometry).files c.next g c.files is.table low high free new;
-      each = each-put (IsCatalogFile (geometry_of c.geometry).blocks) g c.files lawful is.each;
-      distinct = uses-distinct (blocks_of (put_key (λ f. f.key) g c.files)) (λ n.
-          omega (arith, sum-put (uses_of n) g c.files, uses-sum n (put_key (λ f. f.key) g c.files), uses-sum n c.files, uses-append n (present g.places) (blocks_of c.files), distinct-uses (present g.places ++ blocks_of c.files) apart n));
-      few = omega (arith, sum-put count_of g c.files);
-    }
+IsCatalog-with_put g c is low high free new early lawful apart room = record {
+  known = is.known;
+  first = omega (arith, is.first);
+  next = omega (arith, is.next);
+  table = table-put (geometry_of c.geometry).files c.next g c.files is.table low high free new;
+  each = each-put (IsCatalogFile (geometry_of c.geometry).blocks) g c.files lawful is.each;
+  distinct = uses-distinct (blocks_of (put_key (λ f. f.key) g c.files)) (λ n.
+      omega (arith, sum-put (uses_of n) g c.files, uses-sum n (put_key (λ f. f.key) g c.files), uses-sum n c.files, uses-append n (present g.places) (blocks_of c.files), distinct-uses (present g.places ++ blocks_of c.files) apart n));
+  few = omega (arith, sum-put count_of g c.files);
+}
 
 -- ---- one less
 
@@ -59,7 +57,7 @@ IsCatalog-without_file key c is = record {
   });
   each = each-drop (IsCatalogFile (geometry_of c.geometry).blocks) key c.files is.each;
   distinct = uses-distinct (blocks_of (drop_key (λ f. f.key) key c.files)) (λ n. omega (arith, sum-fewer (uses_of n) key c.files, uses-sum n (drop_key (λ f. f.key) key c.files), uses-sum n c.files, distinct-uses (blocks_of c.files) is.distinct n));
-  few = let few = is.few in omega (arith, sum-fewer count_of key c.files);
+  few = omega (arith, is.few, sum-fewer count_of key c.files);
 }
 
 -- ---- one changed
@@ -70,9 +68,7 @@ IsCatalog-after r key f c is found stands kept few =
     let blocks = (geometry_of c.geometry).blocks in
     let once : (n : ℕ) → uses n (blocks_of (with_changed key (file_after r) c).files) ≤ 1 = λ n.
     let more = uses-after n r f c is stands in
-    let fewer = more.1 in
-    let most = more.2 in
-    omega (arith, sum-change (uses_of n) key (file_after r) f c.files found, uses-sum n (with_changed key (file_after r) c).files, uses-sum n c.files) in
+    omega (arith, more.1, more.2, sum-change (uses_of n) key (file_after r) f c.files found, uses-sum n (with_changed key (file_after r) c).files, uses-sum n c.files) in
     record {
       known = is.known;
       first = is.first;

@@ -1,7 +1,6 @@
 pub mod ReadValues
 pub mod Readers
 pub mod ReadSnapshots
-pub mod ExtentCounts
 pub mod KeptBounds
 pub mod KeptAttributes
 pub mod SnapshotFits

@@ -7,7 +7,7 @@ use Rattle.plain_model.specs.Blocks.{blocks_in}
 use Rattle.meta_store.specs.Catalogs.{present}
 use Rattle.meta_store.specs.Records.{places_fitted, places_set, mappings_from}
 use Rattle.meta_store.specs.declared.snapshot.Mapping.{Mapping}
-use Rattle.meta_store.proofs.ExtentCounts.{present-few}
+use Rattle.meta_store.proofs.SpreadPlaces.{present-few}
 use Rattle.meta_store.proofs.BlockUses.{is_one, uses, uses-append, uses-absent}
 
 -- ---- a new size

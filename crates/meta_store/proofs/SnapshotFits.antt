@@ -1,7 +1,6 @@
 -- The snapshot of a catalog fits its fields, and its area.
 use Rattle.std.proofs.Common.{◌≡◌, ℕ, ◌+◌, ◌*◌, ◌≤◌, ◌<◌, ◌^◌, List, [], ◌∷◌, ◌++◌, length, map, Option, Some, None, true, false, eqb, refl, sym, length-append, arith}
 use Rattle.std.specs.List.{AllByRecursion, flat_map, sum_by, list_any, IsDistinct}
-use Rattle.std.proofs.lemmas.Bool.{or_parts, ne_eqb, eqb-false}
 use Rattle.std.proofs.lemmas.List.{length-map}
 use Rattle.std.proofs.lemmas.List.Sums.{sum_by-cons}
 use Rattle.std.proofs.lemmas.Map.Steps.{length-le_from_distinct_below}
@@ -16,16 +15,14 @@ use Rattle.commit_slots.specs.Images.{empty_snapshot}
 use Rattle.meta_store.specs.declared.snapshot.Mapping.{Mapping}
 use Rattle.meta_store.specs.Catalogs.{CatalogFile, Catalog, IsCatalog, IsCatalogFile, geometry_of, present, blocks_of, names_of, attribute_total}
 use Rattle.meta_store.specs.Snapshots.{region_bytes, extent_bytes, file_bytes, extents_from, spelling, snapshot_file, snapshot_of, ExtentFits, FileFits, Fits}
-use Rattle.meta_store.proofs.ExtentCounts.{present-few, length-extents}
+use Rattle.meta_store.proofs.SpreadPlaces.{present-few, length-extents}
 use Rattle.meta_store.proofs.KeptBounds.{regions-few, regions-fit, attributes-few, attributes-fit, attributes-short}
 
 -- ---- numbers that differ, below a bound
 
 others : (n : ℕ) (ms : List ℕ) → list_any (λ m. eqb m n) ms ≡ false → AllByRecursion (λ m. eqb n m ≡ false) ms
 others n [] none = tt
-others n (m ∷ ms) none =
-    let parts = or_parts (eqb m n) (list_any (λ k. eqb k n) ms) none in
-    (ne_eqb n m (λ e. eqb-false m n parts.0 (sym e)), others n ms parts.1)
+others n (m ∷ ms) none = (grind arith, others n ms (grind arith))
 
 differ : (ns : List ℕ) → Distinct ns → IsDistinct eqb ns
 unfolding IsDistinct

@@ -61,6 +61,15 @@ filled-again blocks (f ∷ fs) each =
 
 -- ---- what extents tell
 
+pub present-few : (places : List (Option ℕ)) → length (present places) ≤ length places
+present-few [] = omega arith
+present-few (p ∷ places) = grind (arith, present-few places)
+
+pub length-extents : (n : ℕ) (places : List (Option ℕ)) → length (extents_from n places) ≡ length (present places)
+length-extents n [] = refl
+length-extents n (None ∷ places) = length-extents (n + 1) places
+length-extents n (Some at ∷ places) = ap suc (length-extents (n + 1) places)
+
 pub places_of-extents : (k : ℕ) (places : List (Option ℕ)) → places_of (extents_from k places) ≡ present places
 places_of-extents k [] = refl
 places_of-extents k (None ∷ places) = places_of-extents (k + 1) places

@@ -7,7 +7,7 @@ use Rattle.std.proofs.lemmas.Option.{slice_get_within, get_or_from_slice_get}
 use Rattle.byteorder.specs.Endian.{big_bytes}
 use Rattle.meta_store.specs.Catalogs.{CatalogFile, Catalog, IsCatalog, IsCatalogFile, geometry_of}
 use Rattle.meta_store.specs.Snapshots.{file_bytes, snapshot_file, snapshot_of, spelling}
-use Rattle.meta_store.proofs.ExtentCounts.{length-extents}
+use Rattle.meta_store.proofs.SpreadPlaces.{length-extents}
 use Rattle.meta_store.proofs.KeptBounds.{regions-few}
 use Rattle.meta_store.proofs.SnapshotFits.{name-short}
 
