@@ -38,9 +38,8 @@ module _ (s : Inside) (v : Catalog) (is : catalog_held s.geometry s.table s.part
 
   pub rest-few : (others_total (key_on (inode_of r) v) v ≤ (geometry_of s.geometry).attributes) × (length (blocks_of (without_file (key_on (inode_of r) v) v).files) ≤ s.used)
   rest-few =
-      let few = (lawful s v is i).few in
       let limit = ap (λ (c : Catalog). (geometry_of c.geometry).attributes) is in
-      (omega (arith, sum-fewer count_of (key_on (inode_of r) v) v.files), omega (arith, (others s v is i (key_on (inode_of r) v) file one.1).1))
+      (omega (arith, (lawful s v is i).few, sum-fewer count_of (key_on (inode_of r) v) v.files), omega (arith, (others s v is i (key_on (inode_of r) v) file one.1).1))
 
   -- the parts that are read at its inode
   module _ (place : ℕ) (x : FileParts) (here : place ≡ k.ino - 1) (read : x ≡ get_or s.parts.items place x) where
@@ -64,9 +63,8 @@ module _ (s : Inside) (v : Catalog) (is : catalog_held s.geometry s.table s.part
 
         pub few : rest + bytes_of_attributes new.attributes ≤ limit
         few =
-            let most = (lawful s v is i).few in
             let room = ap (λ (c : Catalog). (geometry_of c.geometry).attributes) is in
-            omega (arith, few-after r file rest limit judged-file (omega (arith, sum-drop count_of (key_on (inode_of r) v) file v.files one.1)), ap count_of changed)
+            omega (arith, few-after r file rest limit judged-file (omega (arith, (lawful s v is i).few, sum-drop count_of (key_on (inode_of r) v) file v.files one.1)), ap count_of changed)
 
         abbrev resized : Table
         resized = record s.table { files = change_key (λ e. e.key) k (λ e. record e { size = size }) s.table.files }
@@ -87,9 +85,8 @@ module _ (s : Inside) (v : Catalog) (is : catalog_held s.geometry s.table s.part
             let old : IsLawfulKept file.kept = (each-found (IsCatalogFile (geometry_of v.geometry).blocks) key file v.files (lawful s v is i).each one.1).kept in
             let attributes : new.attributes ≡ (file_after r file).kept.attributes = sym (ap (λ (g : CatalogFile). g.kept.attributes) changed) in
             let kept = kept-after r file rest limit old judged-file (subst AreAttributes attributes are) (subst P attributes (eight (rw same old.eight))) in
-            let most = few in
             let room = ap (λ (c : Catalog). (geometry_of c.geometry).attributes) is in
             let all-bytes : total' ≡ attribute_total w.files = omega (arith, sum-change count_of key (file_after r) file v.files one.1, sum-drop count_of (key_on (inode_of r) v) file v.files one.1, ap count_of changed) in
             let all-blocks : used' ≡ length (blocks_of w.files) =
             omega (arith, sum-change mapped_of key (file_after r) file v.files one.1, sum-drop mapped_of (key_on (inode_of r) v) file v.files one.1, used-sum (without_file (key_on (inode_of r) v) v).files, used-sum w.files, ap mapped_of changed) in
-            after s v is i resized (set s.parts.items place new) w total' used' new-held refl (length-set s.parts.items place new) (IsCatalog-after r key file v (lawful s v is i) one.1 one.2 kept (omega (arith, all-bytes))) all-bytes all-blocks
+            after s v is i resized (set s.parts.items place new) w total' used' new-held refl (length-set s.parts.items place new) (IsCatalog-after r key file v (lawful s v is i) one.1 one.2 kept (omega (arith, few, all-bytes))) all-bytes all-blocks

@@ -1,8 +1,9 @@
 -- Lists of files after one more, one less and one changed: their names, sums over them, and what is true of each.
-use Rattle.std.proofs.Common.{◌≡◌, ℕ, ◌+◌, ◌≤◌, List, [], ◌∷◌, ◌++◌, length, map, Option, Some, None, cond, ltb, refl, arith, length-append}
+use Rattle.std.proofs.Common.{◌≡◌, ℕ, ◌+◌, ◌≤◌, List, [], ◌∷◌, ◌++◌, length, map, Option, Some, None, cond, ltb, refl, arith}
 use Rattle.std.specs.List.{AllByRecursion, sum_by}
 use Rattle.std.specs.Option.{option_map}
 use Rattle.std.proofs.lemmas.Bool.{cond_both}
+use Rattle.std.proofs.lemmas.List.Concat.{length-flat_map}
 use Rattle.std.proofs.lemmas.List.Sums.{sum_by-cons}
 use Rattle.hsm_types.specs.Attributes.{bytes_of_attributes}
 use Rattle.hsm_types.specs.declared.keys.FileKey.{FileKey}
@@ -75,8 +76,7 @@ abbrev pub uses_of : ℕ → CatalogFile → ℕ
 uses_of n f = uses n (present f.places)
 
 pub used-sum : (fs : List CatalogFile) → length (blocks_of fs) ≡ sum_by mapped_of fs
-used-sum [] = refl
-used-sum (f ∷ fs) = omega (arith, length-append (present f.places) (blocks_of fs), used-sum fs, sum_by-cons mapped_of f fs)
+used-sum fs = length-flat_map (λ (f : CatalogFile). present f.places) fs
 
 pub uses-sum : (n : ℕ) (fs : List CatalogFile) → uses n (blocks_of fs) ≡ sum_by (uses_of n) fs
 uses-sum n [] = refl

@@ -10,11 +10,9 @@ use Rattle.meta_store.proofs.SpreadPlaces.{filled, filled-again}
 same-catalog : (n n' : ℕ) (c c' : Catalog) → c.geometry ≡ c'.geometry → IsCatalog c → IsCatalog c' → snapshot_of n c ≡ snapshot_of n' c' → (n ≡ n') × (c ≡ c')
 unfolding snapshot_of
 same-catalog n n' c c' geometry h h' is =
-    let next : c.next ≡ c'.next = ap (λ (s : Snapshot). s.next) is in
-    let files : c.files ≡ c'.files = sym (filled-again (geometry_of c.geometry).blocks c.files h.each) ∙ ap (λ (s : Snapshot). map filled s.files) is ∙ filled-again (geometry_of c'.geometry).blocks c'.files h'.each in
-    let C : ℕ → ℕ → List CatalogFile → Catalog = λ geometry next files. record { geometry = geometry; next = next; files = files } in
-    let whole : C c.geometry c.next c.files ≡ C c'.geometry c'.next c'.files = rw (geometry, next, files) refl in
-    (ap (λ (s : Snapshot). s.number) is, whole)
+    let next = ap (λ (s : Snapshot). s.next) is in
+    let files = sym (filled-again (geometry_of c.geometry).blocks c.files h.each) ∙ ap (λ (s : Snapshot). map filled s.files) is ∙ filled-again (geometry_of c'.geometry).blocks c'.files h'.each in
+    (ap (λ (s : Snapshot). s.number) is, λ i. record { geometry = geometry i; next = next i; files = files i })
 
 -- ---- what recovery finds
 

@@ -27,9 +27,7 @@ EndWith before attrs = (name : AttrName) → stands_behind before name ≡ true 
 
 goes-last : (name : AttrName) (value : List ℕ) (attrs : Attributes) → AreBelow name attrs → with_value name value attrs ≡ attrs ++ (name, value) ∷ []
 goes-last name value [] below = refl
-goes-last name value (a ∷ attrs) below =
-    let later : name_cmp name a.0 ≡ Greater = name_cmp-total.antisymm name a.0 ∙ ap ordering_reverse below.0 in
-    rw later (ap (λ (r : Attributes). a ∷ r) (goes-last name value attrs below.1))
+goes-last name value (a ∷ attrs) below = grind (arith, name_cmp-total.antisymm name a.0, below.0, goes-last name value attrs below.1)
 
 all-below : (name later : AttrName) (value : List ℕ) (attrs : Attributes) → name_cmp name later ≡ Less → AreBelow name attrs → AreBelow later (attrs ++ (name, value) ∷ [])
 all-below name later value [] less below = (less, tt)

@@ -2,10 +2,6 @@
 use Rattle.std.proofs.Common.{◌≡◌, ℕ, suc, ◌+◌, ◌*◌, ◌≤◌, List, [], ◌∷◌, ◌++◌, length, map, Option, None, Some, length-append, arith}
 use Rattle.std.specs.List.{flat_map, All, AllByRecursion}
 use Rattle.std.specs.Map.{values_of}
-use Rattle.std.proofs.lemmas.Bool.{cond_both}
-use Rattle.std.specs.declared.cmp.Ordering.{Ordering}
-use Rattle.std.specs.declared.cmp.Ordering.TheVariants.{Less, Equal, Greater}
-use Rattle.std.specs.Ordering.{match_ordering}
 use Rattle.std.proofs.lemmas.List.Sums.{sum_by-cons}
 use Rattle.hsm_types.specs.declared.regions.Region.{Region}
 use Rattle.hsm_types.specs.declared.attributes.AttrName.{AttrName}
@@ -23,11 +19,8 @@ each_fits : (index : ℕ) (before : Option Region) (rs : List Region) → first_
 each_fits index before [] h = tt
 each_fits index before (r ∷ rs) h = (grind arith, each_fits (index + 1) (Some r) rs (grind arith))
 
-none_bad : (rs : List Region) → regions_refusal rs ≡ None → first_bad 0 None rs ≡ None
-none_bad rs none = grind arith
-
 pub regions-fit : (rs : List Region) → regions_refusal rs ≡ None → AllByRecursion RegionFits rs
-regions-fit rs none = each_fits 0 None rs (none_bad rs none)
+regions-fit rs none = each_fits 0 None rs (grind arith)
 
 -- ---- attributes
 
@@ -39,28 +32,18 @@ each_of P f (x ∷ xs) all = (all 0 (f x) (omega arith), each_of P f xs (λ k d 
 pub values-short : (attrs : Attributes) → AreAttributes attrs → AllByRecursion (λ a. length a.1 ≤ 4096) attrs
 values-short attrs are = each_of (λ value. length value ≤ 4096) (λ a. a.1) attrs are.short
 
-fit_both : (attrs : Attributes) → AllByRecursion (λ a. length a.0.0 ≡ 8) attrs → AllByRecursion (λ a. length a.1 ≤ 4096) attrs → AllByRecursion AttributeFits attrs
-fit_both [] eight short = tt
-fit_both (a ∷ attrs) eight short = ((eight.0, grind arith), fit_both attrs eight.1 short.1)
-
-pub attributes-fit : (attrs : Attributes) → AllByRecursion (λ a. length a.0.0 ≡ 8) attrs → AreAttributes attrs → AllByRecursion AttributeFits attrs
-attributes-fit attrs eight are = fit_both attrs eight (values-short attrs are)
+pub attributes-fit : (attrs : Attributes) → AllByRecursion (λ a. length a.0.0 ≡ 8) attrs → AllByRecursion (λ a. length a.1 ≤ 4096) attrs → AllByRecursion AttributeFits attrs
+attributes-fit [] eight short = tt
+attributes-fit (a ∷ attrs) eight short = ((eight.0, grind arith), attributes-fit attrs eight.1 short.1)
 
 -- one more name of eight bytes
 pub eight-with : (name : AttrName) (value : List ℕ) (attrs : Attributes) → AllByRecursion (λ a. length a.0.0 ≡ 8) attrs → length name.0 ≡ 8 → AllByRecursion (λ a. length a.0.0 ≡ 8) (with_value name value attrs)
 eight-with name value [] old new = (new, tt)
-eight-with name value (a ∷ attrs) old new =
-    let more = eight-with name value attrs old.1 new in
-    elim (name_cmp name a.0) as (λ o. AllByRecursion (λ x. length x.0.0 ≡ 8) (match_ordering o ((name, value) ∷ a ∷ attrs) ((a.0, value) ∷ attrs) (a ∷ with_value name value attrs))) [
-      | Less ↦ (new, old)
-      | Equal ↦ old
-      | Greater ↦ (old.0, more)
-    ]
+eight-with name value (a ∷ attrs) old new = grind (arith, old.0, old.1, new, eight-with name value attrs old.1 new)
 
 pub eight-without : (name : AttrName) (attrs : Attributes) → AllByRecursion (λ a. length a.0.0 ≡ 8) attrs → AllByRecursion (λ a. length a.0.0 ≡ 8) (without_value name attrs)
 eight-without name [] old = tt
-eight-without name (a ∷ attrs) old =
-    cond_both (same_name name a.0) attrs (a ∷ without_value name attrs) (λ r. AllByRecursion (λ x. length x.0.0 ≡ 8) r) (λ same. old.1) (λ other. (old.0, eight-without name attrs old.1))
+eight-without name (a ∷ attrs) old = grind (arith, old.0, old.1, eight-without name attrs old.1)
 
 -- what is left counts no more
 pub fewer-without : (name : AttrName) (attrs : Attributes) → bytes_of_attributes (without_value name attrs) ≤ bytes_of_attributes attrs

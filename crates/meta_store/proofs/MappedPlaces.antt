@@ -35,12 +35,13 @@ count-fitted size ps = simp length-append at (ap (λ (bs : List ℕ). length bs)
 pub uses-fitted : (n size : ℕ) (ps : List (Option ℕ)) → uses n (present (places_fitted size ps)) ≤ uses n (present ps)
 uses-fitted n size ps = omega (arith, simp uses-append at (ap (uses n) (present-fitted size ps)))
 
-all-front : (P : ℕ → Type 0) (xs ys : List ℕ) → AllByRecursion P (xs ++ ys) → AllByRecursion P xs
-all-front P [] ys all = tt
-all-front P (x ∷ xs) ys all = (all.0, all-front P xs ys all.1)
+-- what is true of each of a list is true of each of its front, and of its end
+pub all-parts : {X : Type 0} (P : X → Type 0) (xs ys : List X) → AllByRecursion P (xs ++ ys) → AllByRecursion P xs × AllByRecursion P ys
+all-parts P [] ys all = (tt, all)
+all-parts P (x ∷ xs) ys all = let more = all-parts P xs ys all.1 in ((all.0, more.0), more.1)
 
 pub within-fitted : (blocks size : ℕ) (ps : List (Option ℕ)) → AllByRecursion (λ b. b < blocks) (present ps) → AllByRecursion (λ b. b < blocks) (present (places_fitted size ps))
-within-fitted blocks size ps w = all-front (λ b. b < blocks) (present (places_fitted size ps)) (present (drop (blocks_in size) ps)) (rw present-fitted w)
+within-fitted blocks size ps w = (all-parts (λ b. b < blocks) (present (places_fitted size ps)) (present (drop (blocks_in size) ps)) (rw present-fitted w)).0
 
 -- ---- mappings
 

@@ -17,6 +17,7 @@ use Rattle.meta_store.specs.Catalogs.{CatalogFile, Catalog, IsCatalogFile, IsCat
 use Rattle.meta_store.specs.Snapshots.{SnapshotFile, snapshot_file, extents_from}
 use Rattle.meta_store.specs.Validity.{listed_in, names_in, places_of, places_in, last_inode, are_extents, is_file, is_kept, are_unused, can_follow, attribute_total_in, is_next, Follows}
 use Rattle.meta_store.proofs.KeptAttributes.{attributes-pass}
+use Rattle.meta_store.proofs.MappedPlaces.{all-parts}
 use Rattle.meta_store.proofs.SpreadPlaces.{places_of-extents, are_extents-from}
 use Rattle.meta_store.proofs.LastFiles.{above-last}
 use Rattle.meta_store.proofs.StandOnce.{nameless, unused-from}
@@ -47,16 +48,12 @@ each-alone limit next blocks (f ∷ fs) within each =
     let kept : is_kept f.kept ≡ true = rw (each.0.kept.regions, attributes-pass f.kept.attributes each.0.kept.attributes) refl in
     ((grind arith, grind (arith, each.0), kept), each-alone limit next blocks fs within.2 each.1)
 
-at-place : {X : Type 0} (P : X → Type 0) (before : List X) (x : X) (rest : List X) → AllByRecursion P (before ++ x ∷ rest) → P x
-at-place P [] x rest all = all.0
-at-place P (b ∷ before) x rest all = at-place P before x rest all.1
-
 pub passes : (c : Catalog) (before : List SnapshotFile) (f : SnapshotFile) (rest : List SnapshotFile) → IsCatalog c → map snapshot_file c.files ≡ before ++ f ∷ rest → is_next (geometry_of c.geometry) c.next before f ≡ true
 passes c before f rest is e =
     let g : Geometry = geometry_of c.geometry in
     let names : names_of c.files ≡ names_in before ++ listed_in f ∷ names_in rest = sym (names_in-snapshot c.files) ∙ ap names_in e ∙ map-append listed_in before (f ∷ rest) in
     let places : blocks_of c.files ≡ places_in before ++ (places_of f.extents ++ places_in rest) = sym (places_in-snapshot c.files) ∙ ap places_in e ∙ flat_map-append (λ (s : SnapshotFile). places_of s.extents) before (f ∷ rest) in
-    let alone = at-place (Passes g.files c.next g.blocks) before f rest (rw e at (each-alone g.files c.next g.blocks c.files is.table.within is.each)) in
+    let alone = (all-parts (Passes g.files c.next g.blocks) before (f ∷ rest) (rw e at (each-alone g.files c.next g.blocks c.files is.table.within is.each))).1.0 in
     let count = λ (s : SnapshotFile). bytes_of_attributes s.kept.attributes in
     let few : attribute_total_in before + count f ≤ g.attributes = omega (arith, sum_by-append count before (f ∷ rest), sum_by-cons count f rest, ap attribute_total_in e, total_in-snapshot c.files, is.few) in
     let fresh = nameless (names_in before) (listed_in f) (names_in rest) (rw names at is.table.differ) in

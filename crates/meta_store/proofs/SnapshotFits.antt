@@ -16,7 +16,7 @@ use Rattle.meta_store.specs.declared.snapshot.Mapping.{Mapping}
 use Rattle.meta_store.specs.Catalogs.{CatalogFile, Catalog, IsCatalog, IsCatalogFile, geometry_of, present, blocks_of, names_of, attribute_total}
 use Rattle.meta_store.specs.Snapshots.{region_bytes, extent_bytes, file_bytes, extents_from, spelling, snapshot_file, snapshot_of, ExtentFits, FileFits, Fits}
 use Rattle.meta_store.proofs.SpreadPlaces.{present-few, length-extents}
-use Rattle.meta_store.proofs.KeptBounds.{regions-few, regions-fit, attributes-few, attributes-fit, attributes-short}
+use Rattle.meta_store.proofs.KeptBounds.{regions-few, regions-fit, attributes-few, attributes-fit, attributes-short, values-short}
 
 -- ---- numbers that differ, below a bound
 
@@ -79,7 +79,7 @@ file-fits blocks limit next f few_blocks few_files old ino igen few is = record 
   regions = omega (arith, regions-few f.kept.regions is.kept.regions);
   each_region = regions-fit f.kept.regions is.kept.regions;
   attributes = omega (arith, attributes-few f.kept.attributes);
-  each_attribute = attributes-fit f.kept.attributes is.kept.eight is.kept.attributes;
+  each_attribute = attributes-fit f.kept.attributes is.kept.eight (values-short f.kept.attributes is.kept.attributes);
   extents = omega (arith, length-extents 0 f.places, present-few f.places);
   each_extent = extents-fit blocks 0 f.places (omega arith) (omega arith) is.within;
 }
