@@ -1,5 +1,5 @@
 -- The records of an event are taken one after another.
-use Rattle.std.proofs.Common.{◌≡◌, ◌↔◌, ◌⊎◌, inr, ⊎_elim, Err, List, [], ◌∷◌, rules, refl, sym, ◌∙◌, ap}
+use Rattle.std.proofs.Common.{◌≡◌, ◌↔◌, ◌⊎◌, inr, ⊎_elim, Err, List, [], ◌∷◌, rules, refl, ◌∙◌, ap, arith}
 use Rattle.std.specs.Prelude.{Option, None, Result}
 use Rattle.std.specs.List.{AllByRecursion}
 use Rattle.hsm_types.specs.declared.dm.DmRefusal.{DmRefusal}
@@ -10,13 +10,6 @@ use Rattle.meta_store.specs.Records.{after, after_all, refusal_of, refusal_of_al
 
 same_geometry : (r : Record) (c : Catalog) → (after r c).geometry ≡ c.geometry
 same_geometry r c = search rules
-
--- the refusal of the others, behind a record that isn't refused, and that of a record before others that aren't
-passed : (first more : Option DmRefusal) → first ≡ None → first_refusal (first ∷ more ∷ []) ≡ more
-passed first more is = search rules
-
-alone : (first more : Option DmRefusal) → more ≡ None → first_refusal (first ∷ more ∷ []) ≡ first
-alone first more is = search rules
 
 -- no part judges where blocks lie
 map_stands : (r : Record) (c : Catalog) → IsMap r → refusal_of r c ≡ None
@@ -44,7 +37,7 @@ module _ (records : List Record) (old : Catalog) (r : Record) (left : List Recor
     stand = rw is taking.stand.1;
     geometry = ap (λ (c : Catalog). c.geometry) is ∙ same_geometry r now ∙ taking.geometry;
     ends = rw is taking.ends;
-    judged = rw (is, ← passed (refusal_of r now) (refusal_of_all left (after r now)) judged) taking.judged;
+    judged = rw is (grind (arith, judged, taking.judged));
     begun = inr maps_left;
   }
 
@@ -53,7 +46,7 @@ module _ (records : List Record) (old : Catalog) (r : Record) (left : List Recor
   taking-stops other = ⊎_elim (λ h. h.0) (λ maps. absurd (other maps.0)) taking.begun
 
   pub taking-judged : refusal_of r now ≡ refusal_of_all records old
-  taking-judged = sym (alone (refusal_of r now) (refusal_of_all left (after r now)) (maps_stand left (after r now) maps_left)) ∙ taking.judged
+  taking-judged = grind (arith, maps_stand left (after r now) maps_left, taking.judged)
 
 -- the same error, of another function
 pub told_on : {T U E : Type 0} (e v : E) (P : Type 0) → ◌≡◌ {A = Result T E} (Err e) (Err v) ↔ P → ◌≡◌ {A = Result U E} (Err e) (Err v) ↔ P

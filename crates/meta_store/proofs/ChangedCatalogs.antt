@@ -13,12 +13,12 @@ use Rattle.meta_store.specs.declared.catalog.Catalog.TheInside.{Inside}
 use Rattle.meta_store.specs.Catalogs.{CatalogFile, Catalog, IsLawfulKept, IsCatalogFile, geometry_of, present, blocks_of, attribute_total}
 use Rattle.meta_store.specs.Records.{file_after, without_file, with_changed, key_on, inode_of, others_total, part_refusal, refusal_of, CanStandOn, CanStand, IsAboutOne}
 use Rattle.meta_store.specs.InMemory.{kept_in, parts_of, parts_after, file_of, catalog_held, FitsParts}
-use Rattle.meta_store.proofs.FileEdits.{count_of, mapped_of, used-sum, sum-drop, sum-fewer, sum-change}
+use Rattle.meta_store.proofs.FileEdits.{count_of, mapped_of, used-sum, sum-drop, sum-change}
 use Rattle.meta_store.proofs.FoundFiles.{each-found}
 use Rattle.meta_store.proofs.FilesAfter.{stood, fits, file-after, kept-after, few-after}
 use Rattle.meta_store.proofs.HeldFiles.{held-change}
 use Rattle.meta_store.proofs.KeptCatalogs.{IsCatalog-after}
-use Rattle.meta_store.proofs.HeldCatalogs.{IsCounted, IsLive, lawful, table, live, read-live, held-live, others, after}
+use Rattle.meta_store.proofs.HeldCatalogs.{IsCounted, IsLive, lawful, counted, table, live, read-live, held-live, others, after}
 
 module _ (s : Inside) (v : Catalog) (is : catalog_held s.geometry s.table s.parts.items ≡ v) (i : IsCounted s.geometry s.table s.parts.items s.attribute_total s.used) (r : Record) (about : IsAboutOne r) (stands : CanStand r v) (k : FileKey) (is-key : k ≡ key_on (inode_of r) v) where
   abbrev one : (f : CatalogFile) × (find_key (λ g. g.key) (key_on (inode_of r) v) v.files ≡ Some f) × CanStandOn r f v
@@ -39,7 +39,7 @@ module _ (s : Inside) (v : Catalog) (is : catalog_held s.geometry s.table s.part
   pub rest-few : (others_total (key_on (inode_of r) v) v ≤ (geometry_of s.geometry).attributes) × (length (blocks_of (without_file (key_on (inode_of r) v) v).files) ≤ s.used)
   rest-few =
       let limit = ap (λ (c : Catalog). (geometry_of c.geometry).attributes) is in
-      (omega (arith, (lawful s v is i).few, sum-fewer count_of (key_on (inode_of r) v) v.files), omega (arith, (others s v is i (key_on (inode_of r) v) file one.1).1))
+      (let sums = others s v is i (key_on (inode_of r) v) file one.1 in (omega (arith, (lawful s v is i).few, counted s v is i, sums.0), omega (arith, sums.1)))
 
   -- the parts that are read at its inode
   module _ (place : ℕ) (x : FileParts) (here : place ≡ k.ino - 1) (read : x ≡ get_or s.parts.items place x) where

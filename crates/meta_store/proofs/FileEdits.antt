@@ -35,9 +35,6 @@ module _ {F G : Type 0} (key : G → FileKey) (v : F → G) where
 abbrev pub name_of : CatalogFile → Listed
 name_of f = record { key = f.key; name = f.name }
 
-pub names_of-put : (g : CatalogFile) (fs : List CatalogFile) → names_of (put_key (λ f. f.key) g fs) ≡ put_key (λ l. l.key) (name_of g) (names_of fs)
-names_of-put g fs = map-put (λ (l : Listed). l.key) name_of g fs
-
 pub names_of-drop : (k : FileKey) (fs : List CatalogFile) → names_of (drop_key (λ f. f.key) k fs) ≡ drop_key (λ l. l.key) k (names_of fs)
 names_of-drop k fs = map-drop (λ (l : Listed). l.key) name_of k fs
 
@@ -54,11 +51,6 @@ module _ (m : CatalogFile → ℕ) where
   pub sum-drop : (k : FileKey) (g : CatalogFile) (fs : List CatalogFile) → find_key (λ f. f.key) k fs ≡ Some g → sum_by m (drop_key (λ f. f.key) k fs) + m g ≡ sum_by m fs
   sum-drop k g [] found = cc
   sum-drop k g (f ∷ fs) found = grind (arith, sum_by-cons m f fs, sum_by-cons m f (drop_key (λ x. x.key) k fs), sum-drop k g fs)
-
-  -- whether there is such a file or not
-  pub sum-fewer : (k : FileKey) (fs : List CatalogFile) → sum_by m (drop_key (λ f. f.key) k fs) ≤ sum_by m fs
-  sum-fewer k [] = omega arith
-  sum-fewer k (f ∷ fs) = grind (arith, sum_by-cons m f fs, sum_by-cons m f (drop_key (λ x. x.key) k fs), sum-fewer k fs)
 
   pub sum-change : (k : FileKey) (to : CatalogFile → CatalogFile) (g : CatalogFile) (fs : List CatalogFile) → find_key (λ f. f.key) k fs ≡ Some g → sum_by m (change_key (λ f. f.key) k to fs) + m g ≡ sum_by m fs + m (to g)
   sum-change k to g [] found = cc

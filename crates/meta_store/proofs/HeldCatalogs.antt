@@ -171,8 +171,11 @@ module _ (s : Inside) (v : Catalog) (is : catalog_held s.geometry s.table s.part
   pub drop-held : (key : FileKey) → catalog_held s.geometry (record s.table { files = drop_key (λ e. e.key) key s.table.files }) s.parts.items ≡ without_file key v
   drop-held key = rw (← is, map-drop (λ (f : CatalogFile). f.key) (file_held s.parts.items) key s.table.files) refl
 
-  pub drop-counted : (key : FileKey) (total' used' : ℕ) → total' ≡ others_total key v → used' ≡ length (blocks_of (without_file key v).files) → IsCounted s.geometry (record s.table { files = drop_key (λ e. e.key) key s.table.files }) s.parts.items total' used'
-  drop-counted key total' used' bytes blocks = after (record s.table { files = drop_key (λ e. e.key) key s.table.files }) s.parts.items (without_file key v) total' used' (drop-held key) refl refl (IsCatalog-without_file key v lawful) bytes blocks
+  pub drop-counted : (ino : ℕ) → IsSome (find_key (λ g. g.key) (key_on ino v) v.files) → (total' used' : ℕ) → total' ≡ others_total (key_on ino v) v → used' ≡ length (blocks_of (without_file (key_on ino v) v).files)
+      → IsCounted s.geometry (record s.table { files = drop_key (λ e. e.key) (key_on ino v) s.table.files }) s.parts.items total' used'
+  drop-counted ino some total' used' bytes blocks =
+      let f = there (find_key (λ g. g.key) (key_on ino v) v.files) some in
+      after (record s.table { files = drop_key (λ e. e.key) (key_on ino v) s.table.files }) s.parts.items (without_file (key_on ino v) v) total' used' (drop-held (key_on ino v)) refl refl (IsCatalog-without_file (key_on ino v) f.0 v lawful f.1) bytes blocks
 
 -- ---- a part of the file that a key has, if it has one
 

@@ -3,7 +3,7 @@ use Rattle.std.proofs.Common.{◌≡◌, ℕ, ◌+◌, ◌<◌, ◌≤◌, ◌^�
 use Rattle.hsm_types.specs.declared.keys.FileKey.{FileKey}
 use Rattle.hsm_types.specs.Kept.{nothing_kept}
 use Rattle.plain_model.specs.Keyed.{find_key, put_key, drop_key}
-use Rattle.plain_model.specs.Plain.{named}
+use Rattle.plain_model.specs.Plain.{Listed, named}
 use Rattle.plain_model.specs.Distinct.{Distinct}
 use Rattle.inode_table.specs.Listing.{has_inode}
 use Rattle.inode_table.specs.Table.{IsTable}
@@ -14,7 +14,7 @@ use Rattle.meta_store.specs.Catalogs.{CatalogFile, Catalog, IsLawfulKept, IsCata
 use Rattle.meta_store.specs.Records.{file_after, with_put, without_file, with_changed, CanStandOn}
 use Rattle.meta_store.proofs.BlockUses.{uses, uses-append, distinct-uses, uses-distinct}
 use Rattle.meta_store.proofs.FilesAfter.{named-after, IsCatalogFile-after, uses-after}
-use Rattle.meta_store.proofs.FileEdits.{name_of, count_of, uses_of, uses-sum, names_of-put, names_of-drop, names_of-change, sum-put, sum-fewer, sum-change, each-put, each-drop, each-changed}
+use Rattle.meta_store.proofs.FileEdits.{name_of, count_of, uses_of, uses-sum, map-put, names_of-drop, names_of-change, sum-put, sum-drop, sum-change, each-put, each-drop, each-changed}
 
 -- an empty file
 abbrev pub empty_file : FileKey → List ℕ → CatalogFile
@@ -24,7 +24,7 @@ empty_file key name = record { key = key; name = name; size = 0; places = []; ke
 
 table-put : (limit next : ℕ) (g : CatalogFile) (fs : List CatalogFile) → IsTable limit next (names_of fs) → 1 ≤ g.key.ino → g.key.ino ≤ limit → has_inode g.key.ino (names_of fs) ≡ false → named g.name (names_of fs) ≡ None
     → IsTable limit (max next (g.key.igen + 1)) (names_of (put_key (λ f. f.key) g fs))
-table-put limit next g fs t low high free new = rw (names_of-put g fs) (record {
+table-put limit next g fs t low high free new = rw (map-put (λ (l : Listed). l.key) name_of g fs) (record {
   ascend = ascend-put 1 (name_of g) (names_of fs) t.ascend low free;
   within = within-put limit (max next (g.key.igen + 1)) (name_of g) (names_of fs) (within-more limit next (max next (g.key.igen + 1)) (names_of fs) (omega arith) t.within) high (omega arith);
   differ = differ-put (name_of g) (names_of fs) t.differ new;
@@ -45,8 +45,8 @@ IsCatalog-with_put g c is low high free new early lawful apart room = record {
 
 -- ---- one less
 
-pub IsCatalog-without_file : (key : FileKey) (c : Catalog) → IsCatalog c → IsCatalog (without_file key c)
-IsCatalog-without_file key c is = record {
+pub IsCatalog-without_file : (key : FileKey) (f : CatalogFile) (c : Catalog) → IsCatalog c → find_key (λ g. g.key) key c.files ≡ Some f → IsCatalog (without_file key c)
+IsCatalog-without_file key f c is found = record {
   known = is.known;
   first = is.first;
   next = is.next;
@@ -56,8 +56,8 @@ IsCatalog-without_file key c is = record {
     differ = differ-drop key (names_of c.files) is.table.differ;
   });
   each = each-drop (IsCatalogFile (geometry_of c.geometry).blocks) key c.files is.each;
-  distinct = uses-distinct (blocks_of (drop_key (λ f. f.key) key c.files)) (λ n. omega (arith, sum-fewer (uses_of n) key c.files, uses-sum n (drop_key (λ f. f.key) key c.files), uses-sum n c.files, distinct-uses (blocks_of c.files) is.distinct n));
-  few = omega (arith, is.few, sum-fewer count_of key c.files);
+  distinct = uses-distinct (blocks_of (drop_key (λ f. f.key) key c.files)) (λ n. omega (arith, sum-drop (uses_of n) key f c.files found, uses-sum n (drop_key (λ f. f.key) key c.files), uses-sum n c.files, distinct-uses (blocks_of c.files) is.distinct n));
+  few = omega (arith, is.few, sum-drop count_of key f c.files found);
 }
 
 -- ---- one changed

@@ -22,8 +22,7 @@ length-fitted size ps = omega (arith, length-append {A = Option ℕ}, length-tak
 present-kept : (k holes : ℕ) (ps : List (Option ℕ)) → present (take k ps ++ replicate holes None) ++ present (drop k ps) ≡ present ps
 present-kept zero holes ps = rw (present-holes holes) refl
 present-kept (suc k) holes [] = rw (present-holes holes) refl
-present-kept (suc k) holes (None ∷ ps) = present-kept k holes ps
-present-kept (suc k) holes (Some at ∷ ps) = ap (λ (bs : List ℕ). at ∷ bs) (present-kept k holes ps)
+present-kept (suc k) holes (p ∷ ps) = grind (arith, present-kept k holes ps)
 
 -- the blocks that stay, and those that a new size cuts
 pub present-fitted : (size : ℕ) (ps : List (Option ℕ)) → present (places_fitted size ps) ++ present (drop (blocks_in size) ps) ≡ present ps
@@ -66,10 +65,8 @@ uses-mapped n block (p ∷ new) ps = omega (arith, uses-set n block p ps, uses-m
 
 within-set : (blocks i at : ℕ) (ps : List (Option ℕ)) → at < blocks → AllByRecursion (λ b. b < blocks) (present ps) → AllByRecursion (λ b. b < blocks) (present (set ps i (Some at)))
 within-set blocks i at [] lt w = tt
-within-set blocks zero at (None ∷ ps) lt w = (lt, w)
-within-set blocks zero at (Some old ∷ ps) lt w = (lt, w.1)
-within-set blocks (suc i) at (None ∷ ps) lt w = within-set blocks i at ps lt w
-within-set blocks (suc i) at (Some old ∷ ps) lt w = (w.0, within-set blocks i at ps lt w.1)
+within-set blocks zero at (p ∷ ps) lt w = grind (arith, lt, w)
+within-set blocks (suc i) at (p ∷ ps) lt w = grind (arith, w, within-set blocks i at ps lt)
 
 pub within-places_set : (blocks : ℕ) (ms : List Mapping) (ps : List (Option ℕ)) → AllByRecursion (λ m. m.place < blocks) ms → AllByRecursion (λ b. b < blocks) (present ps) → AllByRecursion (λ b. b < blocks) (present (places_set ms ps))
 within-places_set blocks [] ps lt w = w

@@ -67,13 +67,11 @@ present-few (p ∷ places) = grind (arith, present-few places)
 
 pub length-extents : (n : ℕ) (places : List (Option ℕ)) → length (extents_from n places) ≡ length (present places)
 length-extents n [] = refl
-length-extents n (None ∷ places) = length-extents (n + 1) places
-length-extents n (Some at ∷ places) = ap suc (length-extents (n + 1) places)
+length-extents n (p ∷ places) = grind (arith, length-extents (n + 1) places)
 
 pub places_of-extents : (k : ℕ) (places : List (Option ℕ)) → places_of (extents_from k places) ≡ present places
 places_of-extents k [] = refl
-places_of-extents k (None ∷ places) = places_of-extents (k + 1) places
-places_of-extents k (Some at ∷ places) = ap (λ (ps : List ℕ). at ∷ ps) (places_of-extents (k + 1) places)
+places_of-extents k (p ∷ places) = grind (arith, places_of-extents (k + 1) places)
 
 -- the blocks of these extents lie at their places
 pub present-spread : (ms : List Mapping) (n blocks : ℕ) → are_extents 0 n blocks ms ≡ true → present (places_set ms (replicate n None)) ≡ places_of ms
