@@ -19,10 +19,7 @@ pub mod FilesAfter
 pub mod KeptCatalogs
 pub mod HeldFiles
 pub mod HeldCatalogs
-pub mod ChangedCatalogs
 pub mod SpreadPlaces
-pub mod LastFiles
 pub mod StandOnce
 pub mod PassingFiles
 pub mod TakenFiles
-pub mod SaidCatalogs

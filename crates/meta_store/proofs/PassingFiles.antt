@@ -19,8 +19,7 @@ use Rattle.meta_store.specs.Validity.{listed_in, names_in, places_of, places_in,
 use Rattle.meta_store.proofs.KeptAttributes.{attributes-pass}
 use Rattle.meta_store.proofs.MappedPlaces.{all-parts}
 use Rattle.meta_store.proofs.SpreadPlaces.{places_of-extents, are_extents-from}
-use Rattle.meta_store.proofs.LastFiles.{above-last}
-use Rattle.meta_store.proofs.StandOnce.{nameless, unused-from}
+use Rattle.meta_store.proofs.StandOnce.{above-last, nameless, unused-from}
 
 -- ---- the names and places of a snapshot are those of its catalog
 

@@ -1,5 +1,5 @@
--- Names and places that stand once.
-use Rattle.std.proofs.Common.{◌≡◌, ℕ, ◌<◌, List, [], ◌∷◌, ◌++◌, length, set, Bool, true, false, None, eqb, refl, sym, ◌∙◌, append_assoc, append-nil, length-set, arith}
+-- Names, inodes and places behind those before.
+use Rattle.std.proofs.Common.{◌≡◌, ℕ, ◌<◌, List, [], ◌∷◌, ◌++◌, length, set, Bool, true, false, None, eqb, refl, sym, ◌∙◌, append_assoc, append-nil, length-set, arith, ◌+◌, ◌≤◌}
 use Rattle.std.specs.List.{AllByRecursion, list_any}
 use Rattle.std.specs.Str.{bytes_eq}
 use Rattle.std.proofs.lemmas.Bool.{false_from_ne_true}
@@ -9,9 +9,11 @@ use Rattle.std.proofs.lemmas.Grind.{common_steps}
 use Rattle.plain_model.specs.Plain.{Listed, named}
 use Rattle.plain_model.specs.Blocks.{with_mapped}
 use Rattle.plain_model.specs.Distinct.{Distinct}
-use Rattle.inode_table.specs.Listing.{Differ}
-use Rattle.meta_store.specs.Validity.{are_unused, are_free, Flags}
+use Rattle.inode_table.specs.Listing.{Differ, has_inode, Ascend}
+use Rattle.meta_store.specs.Validity.{are_unused, are_free, Flags, last_inode}
 use Rattle.meta_store.proofs.BlockUses.{uses, uses-append, absent-unused, distinct-uses, uses-distinct}
+use Rattle.plain_model.specs.Keyed.{put_key}
+use Rattle.meta_store.specs.Catalogs.{CatalogFile, names_of}
 
 -- ---- names
 
@@ -60,3 +62,27 @@ free-is (p ∷ ps) flags used within f =
 pub length-mapped : (ps : List ℕ) (flags : List Bool) → length (with_mapped ps flags) ≡ length flags
 length-mapped [] flags = refl
 length-mapped (p ∷ ps) flags = length-mapped ps (set flags p true) ∙ length-set flags p true
+
+-- ---- inodes
+
+last_inode-ge : (n : ℕ) (ls : List Listed) → Ascend (n + 1) ls → n ≤ last_inode n ls
+last_inode-ge n [] a = omega arith
+last_inode-ge n (l ∷ ls) a = omega (arith, a.0, last_inode-ge l.key.ino ls a.1)
+
+pub last_inode-push : (n : ℕ) (ls : List Listed) (l : Listed) → last_inode n (ls ++ l ∷ []) ≡ l.key.ino
+last_inode-push n [] l = refl
+last_inode-push n (k ∷ ls) l = last_inode-push k.key.ino ls l
+
+-- an inode above the last one is above that of each file
+pub absent : (n ino : ℕ) (ls : List Listed) → Ascend (n + 1) ls → last_inode n ls < ino → has_inode ino ls ≡ false
+absent n ino [] a above = refl
+absent n ino (l ∷ ls) a above = grind (arith, last_inode-ge l.key.ino ls a.1, absent l.key.ino ino ls a.1 above)
+
+pub put-behind : (n : ℕ) (f : CatalogFile) (fs : List CatalogFile) → Ascend (n + 1) (names_of fs) → last_inode n (names_of fs) < f.key.ino → put_key (λ g. g.key) f fs ≡ fs ++ f ∷ []
+put-behind n f [] a above = refl
+put-behind n f (g ∷ fs) a above = grind (arith, last_inode-ge g.key.ino (names_of fs) a.1, put-behind g.key.ino f fs a.1 above)
+
+-- so is that of a file behind a front of others
+pub above-last : (n : ℕ) (ls : List Listed) (l : Listed) (rest : List Listed) → Ascend (n + 1) (ls ++ l ∷ rest) → last_inode n ls < l.key.ino
+above-last n [] l rest a = omega (arith, a.0)
+above-last n (k ∷ ls) l rest a = above-last k.key.ino ls l rest a.1

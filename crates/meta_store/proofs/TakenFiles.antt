@@ -16,8 +16,7 @@ use Rattle.meta_store.specs.Snapshots.{SnapshotFile, snapshot_file}
 use Rattle.meta_store.specs.Validity.{names_in, places_of, places_in, last_inode, are_unused, are_free, Follows, Flags, HasTaken}
 use Rattle.meta_store.proofs.MappedPlaces.{length-places_set}
 use Rattle.meta_store.proofs.SpreadPlaces.{filled, snapshot-filled, present-spread, extents-tell, all-places}
-use Rattle.meta_store.proofs.LastFiles.{put-behind}
-use Rattle.meta_store.proofs.StandOnce.{unused-joins, free-is, length-mapped}
+use Rattle.meta_store.proofs.StandOnce.{put-behind, unused-joins, free-is, length-mapped}
 use Rattle.meta_store.proofs.PassingFiles.{names_in-snapshot, places_in-snapshot}
 
 same_variant : {X Y : Type 0} (to : X → Y) (o : Option X) → is_some (option_map to o) ≡ is_some o

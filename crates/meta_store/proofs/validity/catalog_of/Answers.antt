@@ -1,13 +1,40 @@
-use Rattle.std.proofs.Common.{◌≡◌, List, [], ◌∷◌, ◌++◌, length, map, Result, Err, sym, ◌∙◌, ap, arith, append_assoc, append-nil}
+use Rattle.std.proofs.Common.{◌≡◌, List, [], ◌∷◌, ◌++◌, length, map, Result, Err, sym, ◌∙◌, ap, arith, append_assoc, append-nil, ℕ, true, refl}
 use Rattle.std.specs.Vec.Iter.{into_iter_items}
 use Rattle.std.proofs.lemmas.List.{map-append, nil_from_length}
 use Rattle.std.proofs.lemmas.Result.{err_from_is_err_and}
 use Rattle.meta_store.specs.declared.snapshot.ReadRefusal.{ReadRefusal}
 use Rattle.meta_store.specs.declared.snapshot.ReadRefusal.TheVariants.{Corrupt}
 use Rattle.meta_store.specs.declared.snapshot.RawFile.{RawFile}
-use Rattle.meta_store.specs.Snapshots.{raw_file}
-use Rattle.meta_store.proofs.SaidCatalogs.{said, saying, each-passes, last-taken}
+use Rattle.meta_store.specs.Snapshots.{raw_file, Snapshot, SnapshotFile, raw_snapshot, snapshot_file, snapshot_of}
+use Rattle.plain_model.specs.Plain.{Listed}
+use Rattle.meta_store.specs.declared.snapshot.RawSnapshot.{RawSnapshot}
+use Rattle.meta_store.specs.Catalogs.{Catalog, IsCatalog, geometry_of}
+use Rattle.meta_store.specs.Validity.{listed_in, names_in, last_inode, is_next}
+use Rattle.meta_store.proofs.StandOnce.{last_inode-push}
+use Rattle.meta_store.proofs.PassingFiles.{passes}
 use Rattle.meta_store.proofs.validity.catalog_of.Goals as goal
+
+-- ---- what a snapshot that was read says
+
+said : (s : RawSnapshot) (n : ℕ) (c : Catalog) → raw_snapshot s ≡ snapshot_of n c → (s.number ≡ n) × (s.next ≡ c.next) × (map raw_file s.files.items ≡ map snapshot_file c.files)
+unfolding snapshot_of
+said s n c e = (ap (λ (x : Snapshot). x.number) e, ap (λ (x : Snapshot). x.next) e, ap (λ (x : Snapshot). x.files) e)
+
+saying : (s : RawSnapshot) (c : Catalog) → c.next ≡ s.next → map snapshot_file c.files ≡ map raw_file s.files.items → raw_snapshot s ≡ snapshot_of s.number c
+unfolding snapshot_of
+saying s c next files = rw (next, files) refl
+
+-- a valid catalog's snapshot has no file that can't stand behind those before it
+each-passes : (s : RawSnapshot) (n : ℕ) (c : Catalog) (before : List RawFile) (f : RawFile) (rest : List RawFile) → IsCatalog c → raw_snapshot s ≡ snapshot_of n c → before ++ f ∷ rest ≡ s.files.items
+    → is_next (geometry_of c.geometry) s.next (map raw_file before) (raw_file f) ≡ true
+each-passes s n c before f rest valid e cut =
+    let says = said s n c e in
+    rw says.1 (passes c (map raw_file before) (raw_file f) (map raw_file rest) valid (sym says.2 ∙ sym (ap (λ (fs : List RawFile). map raw_file fs) cut) ∙ map-append raw_file before (f ∷ rest)))
+
+last-taken : (before : List SnapshotFile) (f : SnapshotFile) → f.key.ino ≡ last_inode 0 (names_in (before ++ f ∷ []))
+last-taken before f = rw (map-append listed_in before (f ∷ []), last_inode-push 0 (names_in before) (listed_in f)) refl
+
+-- ---- the goals
 
 pub returns-then-snapshot-most-clause-corrupt : goal.returns-then-snapshot-most-clause-corrupt
 returns-then-snapshot-most-clause-corrupt c = λ is n d kind small valid same.

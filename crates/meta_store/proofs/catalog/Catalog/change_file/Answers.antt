@@ -1,53 +1,143 @@
-use Rattle.std.proofs.Common.{◌≡◌, ◌+◌, None, refl, ◌∙◌, ap, arith}
+use Rattle.std.proofs.Common.{◌≡◌, ◌+◌, None, refl, ◌∙◌, ap, arith, ℕ, ◌-◌, ◌≤◌, List, length, get_or, set, Option, Some, sym, subst, length-set}
 use Rattle.std.proofs.lemmas.Result.{err_from_is_err_and}
 use Rattle.hsm_types.specs.declared.stores.Geometry.{Geometry}
-use Rattle.meta_store.specs.Records.{refusal_of}
-use Rattle.meta_store.specs.Catalogs.{Catalog, geometry_of}
-use Rattle.meta_store.proofs.HeldCatalogs.{bounded}
-use Rattle.meta_store.proofs.ChangedCatalogs as on
+use Rattle.meta_store.specs.Records.{refusal_of, file_after, without_file, with_changed, key_on, inode_of, others_total, part_refusal, CanStandOn, CanStand, IsAboutOne}
+use Rattle.meta_store.specs.Catalogs.{Catalog, geometry_of, CatalogFile, IsLawfulKept, IsCatalogFile, present, blocks_of, attribute_total}
+use Rattle.meta_store.proofs.HeldCatalogs.{bounded, IsCounted, IsLive, lawful, counted, table, live, read-live, held-live, others, after}
+use Rattle.std.specs.List.{AllByRecursion}
+use Rattle.std.specs.Option.{option_map}
+use Rattle.hsm_types.specs.declared.keys.FileKey.{FileKey}
+use Rattle.hsm_types.specs.Attributes.{Attributes, AreAttributes, bytes_of_attributes}
+use Rattle.plain_model.specs.Keyed.{find_key, change_key}
+use Rattle.inode_table.specs.declared.entries.FileEntry.{FileEntry}
+use Rattle.inode_table.specs.Table.{Table, entry_of}
+use Rattle.meta_store.specs.declared.file_parts.FileParts.{FileParts}
+use Rattle.meta_store.specs.declared.records.Record.{Record}
+use Rattle.meta_store.specs.declared.catalog.Catalog.TheInside.{Inside}
+use Rattle.meta_store.specs.InMemory.{kept_in, parts_of, parts_after, file_of, catalog_held, FitsParts}
+use Rattle.meta_store.proofs.FileEdits.{count_of, mapped_of, used-sum, sum-drop, sum-change}
+use Rattle.meta_store.proofs.FoundFiles.{each-found}
+use Rattle.meta_store.proofs.FilesAfter.{stood, fits, file-after, kept-after, few-after}
+use Rattle.meta_store.proofs.HeldFiles.{held-change}
+use Rattle.meta_store.proofs.KeptCatalogs.{IsCatalog-after}
 use Rattle.meta_store.proofs.catalog.Catalog.change_file.Goals as goal
 
+-- ---- a catalog in memory, after a record about one of its files
+
+module _ (s : Inside) (v : Catalog) (is : catalog_held s.geometry s.table s.parts.items ≡ v) (i : IsCounted s.geometry s.table s.parts.items s.attribute_total s.used) (r : Record) (about : IsAboutOne r) (stands : CanStand r v) (k : FileKey) (is-key : k ≡ key_on (inode_of r) v) where
+  abbrev one : (f : CatalogFile) × (find_key (λ g. g.key) (key_on (inode_of r) v) v.files ≡ Some f) × CanStandOn r f v
+  one = stood r v about stands
+
+  abbrev file : CatalogFile
+  file = one.0
+
+  found : find_key (λ g. g.key) k v.files ≡ Some file
+  found = rw is-key one.1
+
+  there : IsLive s.table s.parts.items k file
+  there = live s v is i k file found
+
+  size-is : (o : Option ℕ) (n : ℕ) → o ≡ option_map (λ e. e.size) (find_key (λ e. e.key) k s.table.files) → o ≡ Some n → file.size ≡ n
+  size-is o n sized taken = let here : o ≡ Some file.size = rw there.entry at sized in cc
+
+  rest-few : (others_total (key_on (inode_of r) v) v ≤ (geometry_of s.geometry).attributes) × (length (blocks_of (without_file (key_on (inode_of r) v) v).files) ≤ s.used)
+  rest-few =
+      let limit = ap (λ (c : Catalog). (geometry_of c.geometry).attributes) is in
+      (let sums = others s v is i (key_on (inode_of r) v) file one.1 in (omega (arith, (lawful s v is i).few, counted s v is i, sums.0), omega (arith, sums.1)))
+
+  -- the parts that are read at its inode
+  module _ (place : ℕ) (x : FileParts) (here : place ≡ k.ino - 1) (read : x ≡ get_or s.parts.items place x) where
+    same : x ≡ parts_of file
+    same = read-live s.table s.parts.items k file there place x here read
+
+    fits-parts : FitsParts r x
+    fits-parts = subst (FitsParts r) (sym same) (fits r file v one.2)
+
+    module _ (rest limit : ℕ) (sum : rest ≡ others_total (key_on (inode_of r) v) v) (bound : limit ≡ (geometry_of s.geometry).attributes) where
+      refusal : refusal_of r v ≡ part_refusal r rest limit (kept_in x)
+      refusal = rw (bound, ap (λ (c : Catalog). (geometry_of c.geometry).attributes) is, sum, same, one.1) refl
+
+      -- the parts and the size after it
+      module _ (new : FileParts) (size : ℕ) (judged : part_refusal r rest limit (kept_in x) ≡ None) (taken : new ≡ parts_after r x) (sized : size ≡ (file_after r file).size) where
+        changed : file_after r file ≡ file_of file.key file.name size new
+        changed = file-after r file new size (taken ∙ ap (parts_after r) same) sized
+
+        judged-file : part_refusal r rest limit file.kept ≡ None
+        judged-file = rw same at judged
+
+        few : rest + bytes_of_attributes new.attributes ≤ limit
+        few =
+            let room = ap (λ (c : Catalog). (geometry_of c.geometry).attributes) is in
+            omega (arith, few-after r file rest limit judged-file (omega (arith, (lawful s v is i).few, sum-drop count_of (key_on (inode_of r) v) file v.files one.1)), ap count_of changed)
+
+        abbrev resized : Table
+        resized = record s.table { files = change_key (λ e. e.key) k (λ e. record e { size = size }) s.table.files }
+
+        new-held : catalog_held s.geometry resized (set s.parts.items place new) ≡ with_changed (key_on (inode_of r) v) (file_after r) v
+        new-held =
+            let e : FileEntry = entry_of file.key file.name file.size in
+            let count = i.0.count in
+            let files = held-change s.parts.items 1 (geometry_of s.geometry).files s.table.next k (file_after r) e new size s.table.files (omega arith) (omega arith) (table s v is i).ascend (table s v is i).within there.entry (ap (file_after r) (held-live s.table s.parts.items k file there) ∙ changed) in
+            rw here (ap (λ (fs : List CatalogFile). record { geometry = s.geometry; next = s.table.next; files = fs }) files ∙ ap (λ (c : Catalog). with_changed k (file_after r) c) is ∙ ap (λ (j : FileKey). with_changed j (file_after r) v) is-key)
+
+        new-counted : (total' used' : ℕ) → AreAttributes new.attributes → (AllByRecursion (λ a. length a.0.0 ≡ 8) x.attributes → AllByRecursion (λ a. length a.0.0 ≡ 8) new.attributes)
+            → total' ≡ rest + bytes_of_attributes new.attributes → used' ≡ length (blocks_of (without_file (key_on (inode_of r) v) v).files) + length (present new.places) → IsCounted s.geometry resized (set s.parts.items place new) total' used'
+        new-counted total' used' are eight bytes blocks =
+            let key = key_on (inode_of r) v in
+            let w : Catalog = with_changed key (file_after r) v in
+            let P : Attributes → Type 0 = λ attrs. AllByRecursion (λ a. length a.0.0 ≡ 8) attrs in
+            let old : IsLawfulKept file.kept = (each-found (IsCatalogFile (geometry_of v.geometry).blocks) key file v.files (lawful s v is i).each one.1).kept in
+            let attributes : new.attributes ≡ (file_after r file).kept.attributes = sym (ap (λ (g : CatalogFile). g.kept.attributes) changed) in
+            let kept = kept-after r file rest limit old judged-file (subst AreAttributes attributes are) (subst P attributes (eight (rw same old.eight))) in
+            let room = ap (λ (c : Catalog). (geometry_of c.geometry).attributes) is in
+            let all-bytes : total' ≡ attribute_total w.files = omega (arith, sum-change count_of key (file_after r) file v.files one.1, sum-drop count_of (key_on (inode_of r) v) file v.files one.1, ap count_of changed) in
+            let all-blocks : used' ≡ length (blocks_of w.files) =
+            omega (arith, sum-change mapped_of key (file_after r) file v.files one.1, sum-drop mapped_of (key_on (inode_of r) v) file v.files one.1, used-sum (without_file (key_on (inode_of r) v) v).files, used-sum w.files, ap mapped_of changed) in
+            after s v is i resized (set s.parts.items place new) w total' used' new-held refl (length-set s.parts.items place new) (IsCatalog-after r key file v (lawful s v is i) one.1 one.2 kept (omega (arith, few, all-bytes))) all-bytes all-blocks
+
+-- ---- the goals
+
 pub unwrap-requires : goal.unwrap-requires
-unwrap-requires c = rw (c.size.ensures, (on.there c.self.inside _ c.self.view_is c.self.invariant c.args.change c.requires.about c.requires.stands c.others-attributes.result.0 (rw c.ino.ensures at c.others-attributes.ensures.key)).entry) refl
+unwrap-requires c = rw (c.size.ensures, (there c.self.inside _ c.self.view_is c.self.invariant c.args.change c.requires.about c.requires.stands c.others-attributes.result.0 (rw c.ino.ensures at c.others-attributes.ensures.key)).entry) refl
 
 pub index_mut-parts-requires : goal.index_mut-parts-requires
 index_mut-parts-requires c =
-    let one = on.there c.self.inside _ c.self.view_is c.self.invariant c.args.change c.requires.about c.requires.stands c.others-attributes.result.0 (rw c.ino.ensures at c.others-attributes.ensures.key) in
+    let one = there c.self.inside _ c.self.view_is c.self.invariant c.args.change c.requires.about c.requires.stands c.others-attributes.result.0 (rw c.ino.ensures at c.others-attributes.ensures.key) in
     omega (arith, one.low, one.high, c.slot.ensures)
 
 pub apply-requires-clause-fits : goal.apply-requires-clause-fits
-apply-requires-clause-fits c = on.fits-parts c.self.inside _ c.self.view_is c.self.invariant c.args.change c.requires.about c.requires.stands c.others-attributes.result.0 (rw c.ino.ensures at c.others-attributes.ensures.key) c.slot.result c.index_mut-parts.result.now c.slot.ensures c.index_mut-parts.ensures.value
+apply-requires-clause-fits c = fits-parts c.self.inside _ c.self.view_is c.self.invariant c.args.change c.requires.about c.requires.stands c.others-attributes.result.0 (rw c.ino.ensures at c.others-attributes.ensures.key) c.slot.result c.index_mut-parts.result.now c.slot.ensures c.index_mut-parts.ensures.value
 
 pub apply-requires-clause-others : goal.apply-requires-clause-others
-apply-requires-clause-others c = omega (arith, rw c.ino.ensures at c.others-attributes.ensures.attributes, (on.rest-few c.self.inside _ c.self.view_is c.self.invariant c.args.change c.requires.about c.requires.stands c.others-attributes.result.0 (rw c.ino.ensures at c.others-attributes.ensures.key)).0, c.from-limit.ensures, ap (λ (g : Geometry). g.attributes) c.geometry_of.ensures)
+apply-requires-clause-others c = omega (arith, rw c.ino.ensures at c.others-attributes.ensures.attributes, (rest-few c.self.inside _ c.self.view_is c.self.invariant c.args.change c.requires.about c.requires.stands c.others-attributes.result.0 (rw c.ino.ensures at c.others-attributes.ensures.key)).0, c.from-limit.ensures, ap (λ (g : Geometry). g.attributes) c.geometry_of.ensures)
 
 pub returns-in_err-apply-clause-refused : goal.returns-in_err-apply-clause-refused
 returns-in_err-apply-clause-refused c =
     let p = err_from_is_err_and c.from_residual.result c.from_residual.ensures.1 in
-    rw (p.1, p.2, on.refusal c.self.inside _ c.self.view_is c.self.invariant c.args.change c.requires.about c.requires.stands c.others-attributes.result.0 (rw c.ino.ensures at c.others-attributes.ensures.key) c.slot.result c.index_mut-parts.result.now c.slot.ensures c.index_mut-parts.ensures.value c.others-attributes.result.1 c.from-limit.result (rw c.ino.ensures at c.others-attributes.ensures.attributes) (c.from-limit.ensures ∙ ap (λ (g : Geometry). g.attributes) c.geometry_of.ensures)) c.in_err-apply.ensures.refused
+    rw (p.1, p.2, refusal c.self.inside _ c.self.view_is c.self.invariant c.args.change c.requires.about c.requires.stands c.others-attributes.result.0 (rw c.ino.ensures at c.others-attributes.ensures.key) c.slot.result c.index_mut-parts.result.now c.slot.ensures c.index_mut-parts.ensures.value c.others-attributes.result.1 c.from-limit.result (rw c.ino.ensures at c.others-attributes.ensures.attributes) (c.from-limit.ensures ∙ ap (λ (g : Geometry). g.attributes) c.geometry_of.ensures)) c.in_err-apply.ensures.refused
 
 pub overflow_add-self : goal.overflow_add-self
 overflow_add-self c =
-    let few = on.few c.self.inside _ c.self.view_is c.self.invariant c.args.change c.requires.about c.requires.stands c.others-attributes.result.0 (rw c.ino.ensures at c.others-attributes.ensures.key) c.slot.result c.index_mut-parts.result.now c.slot.ensures c.index_mut-parts.ensures.value c.others-attributes.result.1 c.from-limit.result (rw c.ino.ensures at c.others-attributes.ensures.attributes) (c.from-limit.ensures ∙ ap (λ (g : Geometry). g.attributes) c.geometry_of.ensures) c.apply.new.self c.size_after-size.result c.in_ok-apply.ensures.judged c.in_ok-apply.ensures.taken (c.size_after-size.ensures _ (on.size-is c.self.inside _ c.self.view_is c.self.invariant c.args.change c.requires.about c.requires.stands c.others-attributes.result.0 (rw c.ino.ensures at c.others-attributes.ensures.key) c.size.result c.unwrap.result c.size.ensures c.unwrap.ensures)) in
+    let few = few c.self.inside _ c.self.view_is c.self.invariant c.args.change c.requires.about c.requires.stands c.others-attributes.result.0 (rw c.ino.ensures at c.others-attributes.ensures.key) c.slot.result c.index_mut-parts.result.now c.slot.ensures c.index_mut-parts.ensures.value c.others-attributes.result.1 c.from-limit.result (rw c.ino.ensures at c.others-attributes.ensures.attributes) (c.from-limit.ensures ∙ ap (λ (g : Geometry). g.attributes) c.geometry_of.ensures) c.apply.new.self c.size_after-size.result c.in_ok-apply.ensures.judged c.in_ok-apply.ensures.taken (c.size_after-size.ensures _ (size-is c.self.inside _ c.self.view_is c.self.invariant c.args.change c.requires.about c.requires.stands c.others-attributes.result.0 (rw c.ino.ensures at c.others-attributes.ensures.key) c.size.result c.unwrap.result c.size.ensures c.unwrap.ensures)) in
     omega (arith, (bounded c.self.inside _ c.self.view_is c.self.invariant).1, few, c.bytes.ensures.count, c.from-limit.ensures, ap (λ (g : Geometry). g.attributes) c.geometry_of.ensures, ap (λ (x : Catalog). (geometry_of x.geometry).attributes) c.self.view_is)
 
 pub overflow_add-self-2 : goal.overflow_add-self-2
 overflow_add-self-2 c =
-    omega (arith, (bounded c.self.inside _ c.self.view_is c.self.invariant).2, c.from.ensures, rw c.ino.ensures at c.others-attributes.ensures.used, (on.rest-few c.self.inside _ c.self.view_is c.self.invariant c.args.change c.requires.about c.requires.stands c.others-attributes.result.0 (rw c.ino.ensures at c.others-attributes.ensures.key)).1)
+    omega (arith, (bounded c.self.inside _ c.self.view_is c.self.invariant).2, c.from.ensures, rw c.ino.ensures at c.others-attributes.ensures.used, (rest-few c.self.inside _ c.self.view_is c.self.invariant c.args.change c.requires.about c.requires.stands c.others-attributes.result.0 (rw c.ino.ensures at c.others-attributes.ensures.key)).1)
 
 pub invariant_of-self-2 : goal.invariant_of-self-2
 invariant_of-self-2 c =
     let used = rw c.ino.ensures at c.others-attributes.ensures.used in
     rw c.set_size.ensures
-    (on.new-counted c.self.inside _ c.self.view_is c.self.invariant c.args.change c.requires.about c.requires.stands c.others-attributes.result.0 (rw c.ino.ensures at c.others-attributes.ensures.key) c.slot.result c.index_mut-parts.result.now c.slot.ensures c.index_mut-parts.ensures.value c.others-attributes.result.1 c.from-limit.result (rw c.ino.ensures at c.others-attributes.ensures.attributes) (c.from-limit.ensures ∙ ap (λ (g : Geometry). g.attributes) c.geometry_of.ensures) c.apply.new.self c.size_after-size.result c.in_ok-apply.ensures.judged c.in_ok-apply.ensures.taken (c.size_after-size.ensures _ (on.size-is c.self.inside _ c.self.view_is c.self.invariant c.args.change c.requires.about c.requires.stands c.others-attributes.result.0 (rw c.ino.ensures at c.others-attributes.ensures.key) c.size.result c.unwrap.result c.size.ensures c.unwrap.ensures)) (c.others-attributes.result.1 + c.bytes.result) (c.others-attributes.result.2 + c.from.result)
+    (new-counted c.self.inside _ c.self.view_is c.self.invariant c.args.change c.requires.about c.requires.stands c.others-attributes.result.0 (rw c.ino.ensures at c.others-attributes.ensures.key) c.slot.result c.index_mut-parts.result.now c.slot.ensures c.index_mut-parts.ensures.value c.others-attributes.result.1 c.from-limit.result (rw c.ino.ensures at c.others-attributes.ensures.attributes) (c.from-limit.ensures ∙ ap (λ (g : Geometry). g.attributes) c.geometry_of.ensures) c.apply.new.self c.size_after-size.result c.in_ok-apply.ensures.judged c.in_ok-apply.ensures.taken (c.size_after-size.ensures _ (size-is c.self.inside _ c.self.view_is c.self.invariant c.args.change c.requires.about c.requires.stands c.others-attributes.result.0 (rw c.ino.ensures at c.others-attributes.ensures.key) c.size.result c.unwrap.result c.size.ensures c.unwrap.ensures)) (c.others-attributes.result.1 + c.bytes.result) (c.others-attributes.result.2 + c.from.result)
     c.bytes.ensures.attributes c.in_ok-apply.ensures.eight (omega (arith, c.bytes.ensures.count)) (omega (arith, c.from.ensures, c.mapped.ensures)))
 
 pub returns : goal.returns
 returns c =
-    let none : refusal_of c.args.change c.args.self.now ≡ None = on.refusal c.self.inside _ c.self.view_is c.self.invariant c.args.change c.requires.about c.requires.stands c.others-attributes.result.0 (rw c.ino.ensures at c.others-attributes.ensures.key) c.slot.result c.index_mut-parts.result.now c.slot.ensures c.index_mut-parts.ensures.value c.others-attributes.result.1 c.from-limit.result (rw c.ino.ensures at c.others-attributes.ensures.attributes) (c.from-limit.ensures ∙ ap (λ (g : Geometry). g.attributes) c.geometry_of.ensures) ∙ c.in_ok-apply.ensures.judged in
+    let none : refusal_of c.args.change c.args.self.now ≡ None = refusal c.self.inside _ c.self.view_is c.self.invariant c.args.change c.requires.about c.requires.stands c.others-attributes.result.0 (rw c.ino.ensures at c.others-attributes.ensures.key) c.slot.result c.index_mut-parts.result.now c.slot.ensures c.index_mut-parts.ensures.value c.others-attributes.result.1 c.from-limit.result (rw c.ino.ensures at c.others-attributes.ensures.attributes) (c.from-limit.ensures ∙ ap (λ (g : Geometry). g.attributes) c.geometry_of.ensures) ∙ c.in_ok-apply.ensures.judged in
     record {
       judged = none;
-      taken = rw c.set_size.ensures (on.new-held c.self.inside _ c.self.view_is c.self.invariant c.args.change c.requires.about c.requires.stands c.others-attributes.result.0 (rw c.ino.ensures at c.others-attributes.ensures.key) c.slot.result c.index_mut-parts.result.now c.slot.ensures c.index_mut-parts.ensures.value c.others-attributes.result.1 c.from-limit.result (rw c.ino.ensures at c.others-attributes.ensures.attributes) (c.from-limit.ensures ∙ ap (λ (g : Geometry). g.attributes) c.geometry_of.ensures) c.apply.new.self c.size_after-size.result c.in_ok-apply.ensures.judged c.in_ok-apply.ensures.taken (c.size_after-size.ensures _ (on.size-is c.self.inside _ c.self.view_is c.self.invariant c.args.change c.requires.about c.requires.stands c.others-attributes.result.0 (rw c.ino.ensures at c.others-attributes.ensures.key) c.size.result c.unwrap.result c.size.ensures c.unwrap.ensures)));
+      taken = rw c.set_size.ensures (new-held c.self.inside _ c.self.view_is c.self.invariant c.args.change c.requires.about c.requires.stands c.others-attributes.result.0 (rw c.ino.ensures at c.others-attributes.ensures.key) c.slot.result c.index_mut-parts.result.now c.slot.ensures c.index_mut-parts.ensures.value c.others-attributes.result.1 c.from-limit.result (rw c.ino.ensures at c.others-attributes.ensures.attributes) (c.from-limit.ensures ∙ ap (λ (g : Geometry). g.attributes) c.geometry_of.ensures) c.apply.new.self c.size_after-size.result c.in_ok-apply.ensures.judged c.in_ok-apply.ensures.taken (c.size_after-size.ensures _ (size-is c.self.inside _ c.self.view_is c.self.invariant c.args.change c.requires.about c.requires.stands c.others-attributes.result.0 (rw c.ino.ensures at c.others-attributes.ensures.key) c.size.result c.unwrap.result c.size.ensures c.unwrap.ensures)));
       refused = λ why. (λ done. cc, λ some. cc);
       no_disk = λ is. cc;
       mapped = λ is. refl;
