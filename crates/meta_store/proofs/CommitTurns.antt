@@ -81,15 +81,12 @@ module _ {D : Type 0} (g : disk.Ghosts D) (old new : D) (m : Meta) (lawful : IsM
   durable_as : m.durable.geometry ≡ z
   durable_as = sym (geometry ∙ lawful.stored.geometry)
 
-  same_as : (d c : List ℕ) → Was d → KeepsSlot (layout_of z) m.second (length image) d c → Recovers m.fsid m.number m.durable d c
-  same_as d c known k = same_image z (length image) m.fsid m.number m.durable d c durable_as fits known.holds (rw known.slot k)
-
   found_as : (d c : List ℕ) → Was d → IsSwitched (layout_of z) (not m.second) image d c → Recovers m.fsid number m.current d c
   found_as d c known s = new_image z m.fsid number m.current image d c (sym geometry) fits is lawful.current bound (rw durable_as at known.holds.found) (rw known.slot s)
 
   pub commits : (Selects g old m.second → Turns g old new (KeepsSlot (layout_of z) m.second (length image)) (IsSwitched (layout_of z) (not m.second) image)) → Commits g old new m number (HasSwitched g old new z m.second image)
   commits turned = record {
-    turns = turned_where g old new Was _ _ _ _ was same_as found_as (turned backs.slot);
+    turns = turned_where g old new Was _ _ _ _ was (λ d c known k. same_image z (length image) m.fsid m.number m.durable d c durable_as fits known.holds (rw known.slot k)) found_as (turned backs.slot);
     stores = stored;
     backs = λ done after second fsid named durable. record {
       length = (turned backs.slot).moments.length ∙ backs.length ∙ ap (λ (y : ℕ). (layout_of y).whole) (sym (ap (λ (c : Catalog). c.geometry) durable ∙ lawful.stored.geometry));

@@ -1,19 +1,15 @@
 -- A store that was just formatted has no files.
-use Rattle.std.proofs.Common.{◌≡◌, ℕ, ◌≤◌, List, sym, arith}
+use Rattle.std.proofs.Common.{ℕ, List, sym, arith}
 use Rattle.commit_slots.specs.Places.{layout_of}
 use Rattle.commit_slots.specs.Images.{empty_snapshot, IsEmptyStore}
 use Rattle.commit_slots.proofs.Laid.{laid}
-use Rattle.meta_store.specs.Catalogs.{IsCatalog}
 use Rattle.meta_store.specs.Images.{IsImage}
 use Rattle.meta_store.specs.Laws.{no_files}
 use Rattle.meta_store.proofs.SnapshotFits.{spelling-empty}
 use Rattle.meta_store.proofs.BesideBlocks.{image_from}
 
-IsCatalog-no_files : (geometry : ℕ) → geometry ≤ 1 → IsCatalog (no_files geometry)
-IsCatalog-no_files geometry known = record { known = known; first = omega arith; next = omega arith; table = record { ascend = tt; within = tt; differ = tt }; each = tt; distinct = tt; few = omega arith }
-
 -- Recovery finds number 0 and no files.
 pub formatted-image : (geometry fsid : ℕ) (image : List ℕ) → IsEmptyStore geometry fsid image → IsImage fsid 0 (no_files geometry) image
 formatted-image geometry fsid image e =
     image_from fsid 0 (no_files geometry) empty_snapshot image e.found (sym (spelling-empty geometry)) (laid geometry).snapshot_len (rw e.select e.emptied.snapshot) (rw e.select e.emptied.gate_0)
-    (IsCatalog-no_files geometry e.found.superblock.known) (omega arith)
+    (record { known = e.found.superblock.known; first = omega arith; next = omega arith; table = record { ascend = tt; within = tt; differ = tt }; each = tt; distinct = tt; few = omega arith }) (omega arith)

@@ -22,21 +22,17 @@ empty_file key name = record { key = key; name = name; size = 0; places = []; ke
 
 -- ---- one file more
 
-table-put : (limit next : ℕ) (g : CatalogFile) (fs : List CatalogFile) → IsTable limit next (names_of fs) → 1 ≤ g.key.ino → g.key.ino ≤ limit → has_inode g.key.ino (names_of fs) ≡ false → named g.name (names_of fs) ≡ None
-    → IsTable limit (max next (g.key.igen + 1)) (names_of (put_key (λ f. f.key) g fs))
-table-put limit next g fs t low high free new = rw (map-put (λ (l : Listed). l.key) name_of g fs) (record {
-  ascend = ascend-put 1 (name_of g) (names_of fs) t.ascend low free;
-  within = within-put limit (max next (g.key.igen + 1)) (name_of g) (names_of fs) (within-more limit next (max next (g.key.igen + 1)) (names_of fs) (omega arith) t.within) high (omega arith);
-  differ = differ-put (name_of g) (names_of fs) t.differ new;
-})
-
 pub IsCatalog-with_put : (g : CatalogFile) (c : Catalog) → IsCatalog c → 1 ≤ g.key.ino → g.key.ino ≤ (geometry_of c.geometry).files → has_inode g.key.ino (names_of c.files) ≡ false → named g.name (names_of c.files) ≡ None → g.key.igen < 2 ^ 62
     → IsCatalogFile (geometry_of c.geometry).blocks g → Distinct (present g.places ++ blocks_of c.files) → attribute_total c.files + count_of g ≤ (geometry_of c.geometry).attributes → IsCatalog (with_put g c)
 IsCatalog-with_put g c is low high free new early lawful apart room = record {
   known = is.known;
   first = omega (arith, is.first);
   next = omega (arith, is.next);
-  table = table-put (geometry_of c.geometry).files c.next g c.files is.table low high free new;
+  table = rw (map-put (λ (l : Listed). l.key) name_of g c.files) (record {
+    ascend = ascend-put 1 (name_of g) (names_of c.files) is.table.ascend low free;
+    within = within-put _ _ (name_of g) (names_of c.files) (within-more (geometry_of c.geometry).files c.next _ (names_of c.files) (omega arith) is.table.within) high (omega arith);
+    differ = differ-put (name_of g) (names_of c.files) is.table.differ new;
+  });
   each = each-put (IsCatalogFile (geometry_of c.geometry).blocks) g c.files lawful is.each;
   distinct = uses-distinct (blocks_of (put_key (λ f. f.key) g c.files)) (λ n.
       omega (arith, sum-put (uses_of n) g c.files, uses-sum n (put_key (λ f. f.key) g c.files), uses-sum n c.files, uses-append n (present g.places) (blocks_of c.files), distinct-uses (present g.places ++ blocks_of c.files) apart n));

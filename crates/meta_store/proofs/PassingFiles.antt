@@ -31,9 +31,6 @@ pub places_in-snapshot : (fs : List CatalogFile) → places_in (map snapshot_fil
 places_in-snapshot [] = refl
 places_in-snapshot (f ∷ fs) = rw (places_of-extents 0 f.places, places_in-snapshot fs) refl
 
-total_in-snapshot : (fs : List CatalogFile) → attribute_total_in (map snapshot_file fs) ≡ attribute_total fs
-total_in-snapshot fs = fold-map (λ (sum : ℕ) (s : SnapshotFile). sum + bytes_of_attributes s.kept.attributes) snapshot_file 0 fs
-
 -- ---- a file of a valid catalog passes
 
 -- what is judged of a file alone
@@ -54,7 +51,7 @@ passes c before f rest is e =
     let places : blocks_of c.files ≡ places_in before ++ (places_of f.extents ++ places_in rest) = sym (places_in-snapshot c.files) ∙ ap places_in e ∙ flat_map-append (λ (s : SnapshotFile). places_of s.extents) before (f ∷ rest) in
     let alone = (all-parts (Passes g.files c.next g.blocks) before (f ∷ rest) (rw e at (each-alone g.files c.next g.blocks c.files is.table.within is.each))).1.0 in
     let count = λ (s : SnapshotFile). bytes_of_attributes s.kept.attributes in
-    let few : attribute_total_in before + count f ≤ g.attributes = omega (arith, sum_by-append count before (f ∷ rest), sum_by-cons count f rest, ap attribute_total_in e, total_in-snapshot c.files, is.few) in
+    let few : attribute_total_in before + count f ≤ g.attributes = omega (arith, sum_by-append count before (f ∷ rest), sum_by-cons count f rest, ap attribute_total_in e, fold-map (λ (sum : ℕ) (s : SnapshotFile). sum + count s) snapshot_file 0 c.files, is.few) in
     let fresh = nameless (names_in before) (listed_in f) (names_in rest) (rw names at is.table.differ) in
     let above = above-last 0 (names_in before) (listed_in f) (names_in rest) (rw names at is.table.ascend) in
     let unused = unused-from (places_in before) (places_of f.extents) (places_in rest) (rw places at is.distinct) in

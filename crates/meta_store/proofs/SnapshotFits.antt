@@ -33,10 +33,6 @@ one_below : (n : ℕ) (ns : List ℕ) → AllByRecursion (λ b. b < n) ns → (q
 one_below n [] below q here = absurd cc
 one_below n (m ∷ ns) below q here = grind (arith, one_below n ns below.1 q)
 
--- the pigeonhole
-pub distinct-few : (n : ℕ) (ns : List ℕ) → Distinct ns → AllByRecursion (λ b. b < n) ns → length ns ≤ n
-distinct-few n ns d below = length-le_from_distinct_below ns n (differ ns d) (one_below n ns below)
-
 -- ---- what bounds a catalog
 
 pub geometry-bounded : (geometry : ℕ) → ((geometry_of geometry).files ≤ 4096) × ((geometry_of geometry).blocks ≤ 65536) × ((geometry_of geometry).attributes ≤ 1048576)
@@ -54,8 +50,11 @@ pub blocks-within : (blocks : ℕ) (fs : List CatalogFile) → AllByRecursion (I
 blocks-within blocks [] each = tt
 blocks-within blocks (f ∷ fs) each = all-both (λ b. b < blocks) (present f.places) (blocks_of fs) each.0.within (blocks-within blocks fs each.1)
 
+-- the pigeonhole
 pub blocks-few : (c : Catalog) → IsCatalog c → length (blocks_of c.files) ≤ (geometry_of c.geometry).blocks
-blocks-few c is = distinct-few (geometry_of c.geometry).blocks (blocks_of c.files) is.distinct (blocks-within (geometry_of c.geometry).blocks c.files is.each)
+blocks-few c is =
+    let blocks = (geometry_of c.geometry).blocks in
+    length-le_from_distinct_below (blocks_of c.files) blocks (differ (blocks_of c.files) is.distinct) (one_below blocks (blocks_of c.files) (blocks-within blocks c.files is.each))
 
 pub files-few : (c : Catalog) → IsCatalog c → length c.files ≤ (geometry_of c.geometry).files
 files-few c is =

@@ -39,7 +39,7 @@ laid (suc count) low n blocks (x ∷ ms) all h =
     ]
 
 -- the blocks of these extents say them again
-spread-holes : (ms : List Mapping) (n blocks : ℕ) → are_extents 0 n blocks ms ≡ true → extents_from 0 (places_set ms (replicate n None)) ≡ ms
+pub spread-holes : (ms : List Mapping) (n blocks : ℕ) → are_extents 0 n blocks ms ≡ true → extents_from 0 (places_set ms (replicate n None)) ≡ ms
 spread-holes ms n blocks h =
     let l = laid n 0 n blocks ms (omega arith) h in
     rw (rw (l.2, l.1) at (again l.0 [])) l.2
@@ -49,9 +49,6 @@ spread-holes ms n blocks h =
 -- the file of a catalog that a snapshot says
 abbrev pub filled : SnapshotFile → CatalogFile
 filled f = record { key = f.key; name = f.name; size = f.size; places = places_set f.extents (replicate (blocks_in f.size) None); kept = f.kept }
-
-pub snapshot-filled : (blocks : ℕ) (f : SnapshotFile) → are_extents 0 (blocks_in f.size) blocks f.extents ≡ true → snapshot_file (filled f) ≡ f
-snapshot-filled blocks f ok = rw (spread-holes f.extents (blocks_in f.size) blocks ok) refl
 
 pub filled-again : (blocks : ℕ) (fs : List CatalogFile) → AllByRecursion (IsCatalogFile blocks) fs → map filled (map snapshot_file fs) ≡ fs
 filled-again blocks [] each = refl

@@ -15,7 +15,7 @@ use Rattle.meta_store.specs.Records.{with_put}
 use Rattle.meta_store.specs.Snapshots.{SnapshotFile, snapshot_file}
 use Rattle.meta_store.specs.Validity.{names_in, places_of, places_in, last_inode, are_unused, are_free, Follows, Flags, HasTaken}
 use Rattle.meta_store.proofs.MappedPlaces.{length-places_set}
-use Rattle.meta_store.proofs.SpreadPlaces.{filled, snapshot-filled, present-spread, extents-tell, all-places}
+use Rattle.meta_store.proofs.SpreadPlaces.{filled, spread-holes, present-spread, extents-tell, all-places}
 use Rattle.meta_store.proofs.StandOnce.{put-behind, unused-joins, free-is, length-mapped}
 use Rattle.meta_store.proofs.PassingFiles.{names_in-snapshot, places_in-snapshot}
 
@@ -61,7 +61,7 @@ module _ {g : Geometry} {next : ℕ} {c : Catalog} {flags : List Bool} {f : Snap
   taken-more a = record {
     geometry = refl;
     next = omega (arith, t.next, follows.old);
-    taken = rw (put-behind 0 (filled f) c.files a is-above, map-append snapshot_file c.files (filled f ∷ []), snapshot-filled g.blocks f follows.extents) refl;
+    taken = rw (put-behind 0 (filled f) c.files a is-above, map-append snapshot_file c.files (filled f ∷ []), spread-holes f.extents (blocks_in f.size) g.blocks follows.extents) refl;
     count = length-mapped (places_of f.extents) flags ∙ t.count;
     flagged = rw (flat_map-append (λ (s : SnapshotFile). places_of s.extents) (map snapshot_file c.files) (f ∷ []), append-nil (places_of f.extents)) flags-tell.1;
   }
