@@ -39,15 +39,6 @@ file-after r f x size is sized = rw (is, sized) refl
 
 -- ---- what stays true
 
-pub kept-after : (r : Record) (f : CatalogFile) (others limit : ℕ) → IsLawfulKept f.kept → part_refusal r others limit f.kept ≡ None → AreAttributes (file_after r f).kept.attributes → AllByRecursion (λ a. length a.0.0 ≡ 8) (file_after r f).kept.attributes → IsLawfulKept (file_after r f).kept
-kept-after (Regions ino regions) f others limit old judged are eight = record { regions = judged; attributes = are; eight = eight }
-kept-after r f others limit old judged are eight = record { regions = old.regions; attributes = are; eight = eight }
-
-pub few-after : (r : Record) (f : CatalogFile) (others limit : ℕ) → part_refusal r others limit f.kept ≡ None → others + count_of f ≤ limit → others + count_of (file_after r f) ≤ limit
-few-after (SetAttr ino name value) f others limit judged most = setting-fits name value others limit f.kept.attributes judged
-few-after (DropAttr ino name) f others limit judged most = omega (arith, fewer-without name f.kept.attributes)
-few-after r f others limit judged most = most
-
 pub IsCatalogFile-after : (blocks : ℕ) (r : Record) (f : CatalogFile) (c : Catalog) → IsCatalogFile blocks f → blocks ≡ (geometry_of c.geometry).blocks → CanStandOn r f c → IsLawfulKept (file_after r f).kept → IsCatalogFile blocks (file_after r f)
 IsCatalogFile-after blocks (Size ino size) f c is same stands kept =
     record { generation = is.generation; name = is.name; size = stands; places = length-fitted size f.places; within = within-fitted blocks size f.places is.within; kept = kept }

@@ -65,4 +65,4 @@ pub attributes-short : (attrs : Attributes) → AllByRecursion (λ a. length a.0
 attributes-short [] eight = omega arith
 attributes-short (a ∷ attrs) eight = simp length-append (omega (arith, eight.0, attributes-short attrs eight.1, sum_by-cons cost_of_value a.1 (values_of attrs)))
 
-pub ruleset eight_steps = (eight-with, eight-without)
+pub ruleset kept_steps = (eight-with, eight-without, setting-fits, fewer-without)

@@ -62,15 +62,14 @@ pub IsCatalog-after : (r : Record) (key : FileKey) (f : CatalogFile) (c : Catalo
     → attribute_total (with_changed key (file_after r) c).files ≤ (geometry_of c.geometry).attributes → IsCatalog (with_changed key (file_after r) c)
 IsCatalog-after r key f c is found stands kept few =
     let blocks = (geometry_of c.geometry).blocks in
-    let once : (n : ℕ) → uses n (blocks_of (with_changed key (file_after r) c).files) ≤ 1 = λ n.
-    let more = uses-after n r f c is stands in
-    omega (arith, more.1, more.2, sum-change (uses_of n) key (file_after r) f c.files found, uses-sum n (with_changed key (file_after r) c).files, uses-sum n c.files) in
     record {
       known = is.known;
       first = is.first;
       next = is.next;
       table = rw (names_of-change key (file_after r) c.files (named-after r)) is.table;
       each = each-changed (IsCatalogFile blocks) key (file_after r) c.files (λ g there old. let it : g ≡ f = cc in rw it (IsCatalogFile-after blocks r f c (rw it at old) refl stands kept)) is.each;
-      distinct = uses-distinct (blocks_of (with_changed key (file_after r) c).files) once;
+      distinct = uses-distinct (blocks_of (with_changed key (file_after r) c).files) (λ n.
+          let more = uses-after n r f c is stands in
+          omega (arith, more.1, more.2, sum-change (uses_of n) key (file_after r) f c.files found, uses-sum n (with_changed key (file_after r) c).files, uses-sum n c.files));
       few = few;
     }

@@ -3,7 +3,7 @@ use Rattle.std.proofs.Common.{◌≡◌, ℕ, zero, suc, ◌+◌, ◌<◌, ◌�
 use Rattle.std.specs.List.{flat_map, slice_get, AllByRecursion}
 use Rattle.std.specs.Option.{option_map, IsSome}
 use Rattle.std.proofs.lemmas.List.{length-map, drop_all, drop_more}
-use Rattle.std.proofs.lemmas.Option.{slice_get_within, get_or_from_slice_get}
+use Rattle.std.proofs.lemmas.Option.{slice_get_within, slice_get_cases, get_or_from_slice_get}
 use Rattle.byteorder.specs.Endian.{big_bytes}
 use Rattle.meta_store.specs.Catalogs.{CatalogFile, Catalog, IsCatalog, IsCatalogFile, geometry_of}
 use Rattle.meta_store.specs.Snapshots.{file_bytes, snapshot_file, snapshot_of, spelling}
@@ -33,9 +33,7 @@ bounds-at c i f is at =
 -- Below the end there is a file.
 pub some-at : {X Y : Type 0} (v : X → Y) (o : Option X) (ys : List Y) (i : ℕ) → option_map v o ≡ slice_get ys i → i < length ys → IsSome o
 some-at v (Some x) ys i at within = refl
-some-at v None [] i at within = absurd (omega arith)
-some-at v None (y ∷ ys) zero at within = cc
-some-at v None (y ∷ ys) (suc i) at within = some-at v None ys i at (omega arith)
+some-at v None ys i at within = absurd (grind (arith, slice_get_cases ys i))
 
 -- ---- what is written, and what is still to come
 

@@ -1,6 +1,8 @@
 // What is kept of one file beside its key, its name and its size.
-ghost use Rattle.std.specs.Prelude.{◌≡◌, ◌↔◌, ◌≤◌, ◌^◌, length, Err, None, Some, IsOk, IsErrOf, OnOk, OnErr};
+ghost use Rattle.std.specs.Prelude.{◌≡◌, ◌↔◌, ◌+◌, ◌≤◌, ◌^◌, length, Err, None, Some, IsOk, IsErrOf, OnOk, OnErr};
 ghost use Rattle.std.specs.List.{AllByRecursion};
+ghost use Rattle.hsm_types.specs.Attributes.{bytes_of_attributes};
+ghost use Rattle.hsm_types.specs.Regions.{regions_refusal};
 ghost use Rattle.hsm_types.specs.declared.dm.DmRefusal.{DmRefusal};
 ghost use Rattle.meta_store.specs.InMemory.{no_parts, kept_in, parts_after, FitsParts};
 ghost use Rattle.meta_store.specs.Records.{part_refusal, IsMap};
@@ -34,7 +36,7 @@ impl FileParts {
     }
 
     /// Changes them as a record about their file says. The attributes of all other files count `others`, and those of all `limit` at most.
-    #[tactic(auto, using(crate::proofs::KeptBounds::eight_steps))]
+    #[tactic(auto, using(crate::proofs::KeptBounds::kept_steps))]
     pub(crate) fn apply(
         &mut self,
         change: Record,
@@ -49,6 +51,9 @@ impl FileParts {
         ensures refused { (why : DmRefusal) → (result ≡ Err (MetaRefusal.Part why)) ↔ (part_refusal change others limit (kept_in self.old) ≡ Some why) }
         ensures no_disk { IsErrOf result MetaRefusal.Disk → ⊥ }
         ensures mapped { IsMap change → IsOk result }
+        // They count no more than what all may.
+        ensures within { OnOk result (others + bytes_of_attributes self.old.attributes ≤ limit → others + bytes_of_attributes self.new.attributes ≤ limit) }
+        ensures regions { OnOk result (regions_refusal self.old.regions ≡ None → regions_refusal self.new.regions ≡ None) }
         // Names of attributes have eight bytes.
         ensures eight { AllByRecursion (λ a. length a.0.0 ≡ 8) self.old.attributes → AllByRecursion (λ a. length a.0.0 ≡ 8) self.new.attributes }
         ensures err { OnErr result (self.new ≡ self.old) }

@@ -17,7 +17,7 @@ use Rattle.meta_store.specs.declared.catalog.Catalog.TheInside.{Inside}
 use Rattle.meta_store.specs.InMemory.{kept_in, parts_of, parts_after, file_of, catalog_held, FitsParts}
 use Rattle.meta_store.proofs.FileEdits.{count_of, mapped_of, used-sum, sum-drop, sum-change}
 use Rattle.meta_store.proofs.FoundFiles.{each-found}
-use Rattle.meta_store.proofs.FilesAfter.{stood, fits, file-after, kept-after, few-after}
+use Rattle.meta_store.proofs.FilesAfter.{stood, fits, file-after}
 use Rattle.meta_store.proofs.HeldFiles.{held-change}
 use Rattle.meta_store.proofs.KeptCatalogs.{IsCatalog-after}
 use Rattle.meta_store.proofs.catalog.Catalog.change_file.Goals as goal
@@ -53,22 +53,22 @@ module _ (s : Inside) (v : Catalog) (is : catalog_held s.geometry s.table s.part
     fits-parts : FitsParts r x
     fits-parts = subst (FitsParts r) (sym same) (fits r file v one.2)
 
+    old-kept : IsLawfulKept (kept_in x)
+    old-kept = rw same (each-found (IsCatalogFile (geometry_of v.geometry).blocks) (key_on (inode_of r) v) file v.files (lawful s v is i).each one.1).kept
+
     module _ (rest limit : ℕ) (sum : rest ≡ others_total (key_on (inode_of r) v) v) (bound : limit ≡ (geometry_of s.geometry).attributes) where
       refusal : refusal_of r v ≡ part_refusal r rest limit (kept_in x)
       refusal = rw (bound, ap (λ (c : Catalog). (geometry_of c.geometry).attributes) is, sum, same, one.1) refl
 
+      room : rest + bytes_of_attributes x.attributes ≤ limit
+      room =
+          let all = ap (λ (c : Catalog). (geometry_of c.geometry).attributes) is in
+          omega (arith, (lawful s v is i).few, sum-drop count_of (key_on (inode_of r) v) file v.files one.1, ap (λ (p : FileParts). bytes_of_attributes p.attributes) same)
+
       -- the parts and the size after it
-      module _ (new : FileParts) (size : ℕ) (judged : part_refusal r rest limit (kept_in x) ≡ None) (taken : new ≡ parts_after r x) (sized : size ≡ (file_after r file).size) where
+      module _ (new : FileParts) (size : ℕ) (taken : new ≡ parts_after r x) (sized : size ≡ (file_after r file).size) where
         changed : file_after r file ≡ file_of file.key file.name size new
         changed = file-after r file new size (taken ∙ ap (parts_after r) same) sized
-
-        judged-file : part_refusal r rest limit file.kept ≡ None
-        judged-file = rw same at judged
-
-        few : rest + bytes_of_attributes new.attributes ≤ limit
-        few =
-            let room = ap (λ (c : Catalog). (geometry_of c.geometry).attributes) is in
-            omega (arith, few-after r file rest limit judged-file (omega (arith, (lawful s v is i).few, sum-drop count_of (key_on (inode_of r) v) file v.files one.1)), ap count_of changed)
 
         abbrev resized : Table
         resized = record s.table { files = change_key (λ e. e.key) k (λ e. record e { size = size }) s.table.files }
@@ -80,20 +80,16 @@ module _ (s : Inside) (v : Catalog) (is : catalog_held s.geometry s.table s.part
             let files = held-change s.parts.items 1 (geometry_of s.geometry).files s.table.next k (file_after r) e new size s.table.files (omega arith) (omega arith) (table s v is i).ascend (table s v is i).within there.entry (ap (file_after r) (held-live s.table s.parts.items k file there) ∙ changed) in
             rw here (ap (λ (fs : List CatalogFile). record { geometry = s.geometry; next = s.table.next; files = fs }) files ∙ ap (λ (c : Catalog). with_changed k (file_after r) c) is ∙ ap (λ (j : FileKey). with_changed j (file_after r) v) is-key)
 
-        new-counted : (total' used' : ℕ) → AreAttributes new.attributes → (AllByRecursion (λ a. length a.0.0 ≡ 8) x.attributes → AllByRecursion (λ a. length a.0.0 ≡ 8) new.attributes)
-            → total' ≡ rest + bytes_of_attributes new.attributes → used' ≡ length (blocks_of (without_file (key_on (inode_of r) v) v).files) + length (present new.places) → IsCounted s.geometry resized (set s.parts.items place new) total' used'
-        new-counted total' used' are eight bytes blocks =
+        new-counted : (total' used' : ℕ) → rest + bytes_of_attributes new.attributes ≤ limit → IsLawfulKept (kept_in new) → total' ≡ rest + bytes_of_attributes new.attributes
+            → used' ≡ length (blocks_of (without_file (key_on (inode_of r) v) v).files) + length (present new.places) → IsCounted s.geometry resized (set s.parts.items place new) total' used'
+        new-counted total' used' few kept bytes blocks =
             let key = key_on (inode_of r) v in
             let w : Catalog = with_changed key (file_after r) v in
-            let P : Attributes → Type 0 = λ attrs. AllByRecursion (λ a. length a.0.0 ≡ 8) attrs in
-            let old : IsLawfulKept file.kept = (each-found (IsCatalogFile (geometry_of v.geometry).blocks) key file v.files (lawful s v is i).each one.1).kept in
-            let attributes : new.attributes ≡ (file_after r file).kept.attributes = sym (ap (λ (g : CatalogFile). g.kept.attributes) changed) in
-            let kept = kept-after r file rest limit old judged-file (subst AreAttributes attributes are) (subst P attributes (eight (rw same old.eight))) in
-            let room = ap (λ (c : Catalog). (geometry_of c.geometry).attributes) is in
-            let all-bytes : total' ≡ attribute_total w.files = omega (arith, sum-change count_of key (file_after r) file v.files one.1, sum-drop count_of (key_on (inode_of r) v) file v.files one.1, ap count_of changed) in
+            let all = ap (λ (c : Catalog). (geometry_of c.geometry).attributes) is in
+            let all-bytes : total' ≡ attribute_total w.files = omega (arith, sum-change count_of key (file_after r) file v.files one.1, sum-drop count_of key file v.files one.1, ap count_of changed) in
             let all-blocks : used' ≡ length (blocks_of w.files) =
-            omega (arith, sum-change mapped_of key (file_after r) file v.files one.1, sum-drop mapped_of (key_on (inode_of r) v) file v.files one.1, used-sum (without_file (key_on (inode_of r) v) v).files, used-sum w.files, ap mapped_of changed) in
-            after s v is i resized (set s.parts.items place new) w total' used' new-held refl (length-set s.parts.items place new) (IsCatalog-after r key file v (lawful s v is i) one.1 one.2 kept (omega (arith, few, all-bytes))) all-bytes all-blocks
+            omega (arith, sum-change mapped_of key (file_after r) file v.files one.1, sum-drop mapped_of key file v.files one.1, used-sum (without_file key v).files, used-sum w.files, ap mapped_of changed) in
+            after s v is i resized (set s.parts.items place new) w total' used' new-held refl (length-set s.parts.items place new) (IsCatalog-after r key file v (lawful s v is i) one.1 one.2 (rw changed kept) (omega (arith, few, all-bytes))) all-bytes all-blocks
 
 -- ---- the goals
 
@@ -118,7 +114,7 @@ returns-in_err-apply-clause-refused c =
 
 pub overflow_add-self : goal.overflow_add-self
 overflow_add-self c =
-    let few = few c.self.inside _ c.self.view_is c.self.invariant c.args.change c.requires.about c.requires.stands c.others-attributes.result.0 (rw c.ino.ensures at c.others-attributes.ensures.key) c.slot.result c.index_mut-parts.result.now c.slot.ensures c.index_mut-parts.ensures.value c.others-attributes.result.1 c.from-limit.result (rw c.ino.ensures at c.others-attributes.ensures.attributes) (c.from-limit.ensures ∙ ap (λ (g : Geometry). g.attributes) c.geometry_of.ensures) c.apply.new.self c.size_after-size.result c.in_ok-apply.ensures.judged c.in_ok-apply.ensures.taken (c.size_after-size.ensures _ (size-is c.self.inside _ c.self.view_is c.self.invariant c.args.change c.requires.about c.requires.stands c.others-attributes.result.0 (rw c.ino.ensures at c.others-attributes.ensures.key) c.size.result c.unwrap.result c.size.ensures c.unwrap.ensures)) in
+    let few = c.in_ok-apply.ensures.within (room c.self.inside _ c.self.view_is c.self.invariant c.args.change c.requires.about c.requires.stands c.others-attributes.result.0 (rw c.ino.ensures at c.others-attributes.ensures.key) c.slot.result c.index_mut-parts.result.now c.slot.ensures c.index_mut-parts.ensures.value c.others-attributes.result.1 c.from-limit.result (rw c.ino.ensures at c.others-attributes.ensures.attributes) (c.from-limit.ensures ∙ ap (λ (g : Geometry). g.attributes) c.geometry_of.ensures)) in
     omega (arith, (bounded c.self.inside _ c.self.view_is c.self.invariant).1, few, c.bytes.ensures.count, c.from-limit.ensures, ap (λ (g : Geometry). g.attributes) c.geometry_of.ensures, ap (λ (x : Catalog). (geometry_of x.geometry).attributes) c.self.view_is)
 
 pub overflow_add-self-2 : goal.overflow_add-self-2
@@ -129,15 +125,17 @@ pub invariant_of-self-2 : goal.invariant_of-self-2
 invariant_of-self-2 c =
     let used = rw c.ino.ensures at c.others-attributes.ensures.used in
     rw c.set_size.ensures
-    (new-counted c.self.inside _ c.self.view_is c.self.invariant c.args.change c.requires.about c.requires.stands c.others-attributes.result.0 (rw c.ino.ensures at c.others-attributes.ensures.key) c.slot.result c.index_mut-parts.result.now c.slot.ensures c.index_mut-parts.ensures.value c.others-attributes.result.1 c.from-limit.result (rw c.ino.ensures at c.others-attributes.ensures.attributes) (c.from-limit.ensures ∙ ap (λ (g : Geometry). g.attributes) c.geometry_of.ensures) c.apply.new.self c.size_after-size.result c.in_ok-apply.ensures.judged c.in_ok-apply.ensures.taken (c.size_after-size.ensures _ (size-is c.self.inside _ c.self.view_is c.self.invariant c.args.change c.requires.about c.requires.stands c.others-attributes.result.0 (rw c.ino.ensures at c.others-attributes.ensures.key) c.size.result c.unwrap.result c.size.ensures c.unwrap.ensures)) (c.others-attributes.result.1 + c.bytes.result) (c.others-attributes.result.2 + c.from.result)
-    c.bytes.ensures.attributes c.in_ok-apply.ensures.eight (omega (arith, c.bytes.ensures.count)) (omega (arith, c.from.ensures, c.mapped.ensures)))
+    (new-counted c.self.inside _ c.self.view_is c.self.invariant c.args.change c.requires.about c.requires.stands c.others-attributes.result.0 (rw c.ino.ensures at c.others-attributes.ensures.key) c.slot.result c.index_mut-parts.result.now c.slot.ensures c.index_mut-parts.ensures.value c.others-attributes.result.1 c.from-limit.result (rw c.ino.ensures at c.others-attributes.ensures.attributes) (c.from-limit.ensures ∙ ap (λ (g : Geometry). g.attributes) c.geometry_of.ensures) c.apply.new.self c.size_after-size.result c.in_ok-apply.ensures.taken (c.size_after-size.ensures _ (size-is c.self.inside _ c.self.view_is c.self.invariant c.args.change c.requires.about c.requires.stands c.others-attributes.result.0 (rw c.ino.ensures at c.others-attributes.ensures.key) c.size.result c.unwrap.result c.size.ensures c.unwrap.ensures)) (c.others-attributes.result.1 + c.bytes.result) (c.others-attributes.result.2 + c.from.result)
+    (c.in_ok-apply.ensures.within (room c.self.inside _ c.self.view_is c.self.invariant c.args.change c.requires.about c.requires.stands c.others-attributes.result.0 (rw c.ino.ensures at c.others-attributes.ensures.key) c.slot.result c.index_mut-parts.result.now c.slot.ensures c.index_mut-parts.ensures.value c.others-attributes.result.1 c.from-limit.result (rw c.ino.ensures at c.others-attributes.ensures.attributes) (c.from-limit.ensures ∙ ap (λ (g : Geometry). g.attributes) c.geometry_of.ensures)))
+    (let old = old-kept c.self.inside _ c.self.view_is c.self.invariant c.args.change c.requires.about c.requires.stands c.others-attributes.result.0 (rw c.ino.ensures at c.others-attributes.ensures.key) c.slot.result c.index_mut-parts.result.now c.slot.ensures c.index_mut-parts.ensures.value in record { regions = c.in_ok-apply.ensures.regions old.regions; attributes = c.bytes.ensures.attributes; eight = c.in_ok-apply.ensures.eight old.eight })
+    (omega (arith, c.bytes.ensures.count)) (omega (arith, c.from.ensures, c.mapped.ensures)))
 
 pub returns : goal.returns
 returns c =
     let none : refusal_of c.args.change c.args.self.now ≡ None = refusal c.self.inside _ c.self.view_is c.self.invariant c.args.change c.requires.about c.requires.stands c.others-attributes.result.0 (rw c.ino.ensures at c.others-attributes.ensures.key) c.slot.result c.index_mut-parts.result.now c.slot.ensures c.index_mut-parts.ensures.value c.others-attributes.result.1 c.from-limit.result (rw c.ino.ensures at c.others-attributes.ensures.attributes) (c.from-limit.ensures ∙ ap (λ (g : Geometry). g.attributes) c.geometry_of.ensures) ∙ c.in_ok-apply.ensures.judged in
     record {
       judged = none;
-      taken = rw c.set_size.ensures (new-held c.self.inside _ c.self.view_is c.self.invariant c.args.change c.requires.about c.requires.stands c.others-attributes.result.0 (rw c.ino.ensures at c.others-attributes.ensures.key) c.slot.result c.index_mut-parts.result.now c.slot.ensures c.index_mut-parts.ensures.value c.others-attributes.result.1 c.from-limit.result (rw c.ino.ensures at c.others-attributes.ensures.attributes) (c.from-limit.ensures ∙ ap (λ (g : Geometry). g.attributes) c.geometry_of.ensures) c.apply.new.self c.size_after-size.result c.in_ok-apply.ensures.judged c.in_ok-apply.ensures.taken (c.size_after-size.ensures _ (size-is c.self.inside _ c.self.view_is c.self.invariant c.args.change c.requires.about c.requires.stands c.others-attributes.result.0 (rw c.ino.ensures at c.others-attributes.ensures.key) c.size.result c.unwrap.result c.size.ensures c.unwrap.ensures)));
+      taken = rw c.set_size.ensures (new-held c.self.inside _ c.self.view_is c.self.invariant c.args.change c.requires.about c.requires.stands c.others-attributes.result.0 (rw c.ino.ensures at c.others-attributes.ensures.key) c.slot.result c.index_mut-parts.result.now c.slot.ensures c.index_mut-parts.ensures.value c.others-attributes.result.1 c.from-limit.result (rw c.ino.ensures at c.others-attributes.ensures.attributes) (c.from-limit.ensures ∙ ap (λ (g : Geometry). g.attributes) c.geometry_of.ensures) c.apply.new.self c.size_after-size.result c.in_ok-apply.ensures.taken (c.size_after-size.ensures _ (size-is c.self.inside _ c.self.view_is c.self.invariant c.args.change c.requires.about c.requires.stands c.others-attributes.result.0 (rw c.ino.ensures at c.others-attributes.ensures.key) c.size.result c.unwrap.result c.size.ensures c.unwrap.ensures)));
       refused = λ why. (λ done. cc, λ some. cc);
       no_disk = λ is. cc;
       mapped = λ is. refl;
