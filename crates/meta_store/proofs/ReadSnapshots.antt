@@ -47,26 +47,14 @@ file_reads =
     let kept = both_read (both_read named (listed_read wide1 region_reads)) (listed_read wide4 attribute_reads) in
     made_reads (both_read (both_read kept (listed_read wide4 extent_reads)) (only_reads wide4 (omega arith)))
     (λ f. ((((((f.key, f.size), f.name), f.kept.regions), f.kept.attributes), f.extents), tt)) (λ f. refl) (λ p. refl) (λ f. refl)
-    (λ p fit. record {
-      ino = fit.0.0.0.0.0.0.0;
-      igen = fit.0.0.0.0.0.0.1;
-      size = fit.0.0.0.0.0.1;
-      name = fit.0.0.0.0.1.0;
-      regions = fit.0.0.0.1.0;
-      each_region = fit.0.0.0.1.1;
-      attributes = fit.0.0.1.0;
-      each_attribute = fit.0.0.1.1;
-      extents = fit.0.1.0;
-      each_extent = fit.0.1.1;
-    })
-    (λ f fit. (((((((fit.ino, fit.igen), fit.size), (fit.name, tt)), (fit.regions, fit.each_region)), (fit.attributes, fit.each_attribute)), (fit.extents, fit.each_extent)), tt))
+    (λ p fit. search) (λ f fit. search)
 
 snapshot_reads : IsReader snapshot_at spelling Fits
 unfolding snapshot_at spelling
 snapshot_reads =
     made_reads (both_read (both_read (both_read long_reads long_reads) (only_reads wide4 (omega arith))) (listed_read wide4 file_reads))
     (λ s. (((s.number, s.next), tt), s.files)) (λ s. refl) (λ p. refl) (λ s. refl)
-    (λ p fit. record { number = fit.0.0.0; next = fit.0.0.1; count = fit.1.0; each = fit.1.1 }) (λ s fit. (((fit.number, fit.next), tt), (fit.count, fit.each)))
+    (λ p fit. search) (λ s fit. search)
 
 -- ---- what is read of an area
 
