@@ -1,9 +1,7 @@
 -- The records of an event are taken one after another.
 use Rattle.std.proofs.Common.{◌≡◌, ◌↔◌, ◌⊎◌, inr, ⊎_elim, Err, List, [], ◌∷◌, rules, refl, ◌∙◌, ap, arith}
-use Rattle.std.specs.Prelude.{Option, None, Result}
+use Rattle.std.specs.Prelude.{None, Result}
 use Rattle.std.specs.List.{AllByRecursion}
-use Rattle.hsm_types.specs.declared.dm.DmRefusal.{DmRefusal}
-use Rattle.hsm_types.specs.Refusals.{first_refusal}
 use Rattle.meta_store.specs.declared.records.Record.{Record}
 use Rattle.meta_store.specs.Catalogs.{Catalog}
 use Rattle.meta_store.specs.Records.{after, after_all, refusal_of, refusal_of_all, CanStandAll, IsMap, IsEvent}

@@ -1,5 +1,5 @@
 -- A switch of slots, in the words of what recovery finds.
-use Rattle.std.proofs.Common.{◌≡◌, inl, inr, ℕ, ◌+◌, ◌≤◌, ◌^◌, Bool, not, List, length, refl, sym, ◌∙◌, ap, arith}
+use Rattle.std.proofs.Common.{◌≡◌, inl, inr, ℕ, ◌≤◌, ◌^◌, Bool, not, List, length, refl, sym, ◌∙◌, ap, arith}
 use Rattle.disk_model.specs.declared.device.Disk as disk
 use Rattle.disk_model.specs.Images.{part}
 use Rattle.disk_model.specs.Moments.{MayBe, Turns}

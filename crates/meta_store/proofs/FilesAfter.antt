@@ -1,19 +1,15 @@
 -- The file that a record is about, after it.
-use Rattle.std.proofs.Common.{◌≡◌, ℕ, ◌+◌, ◌≤◌, length, Some, None, refl, ◌∙◌, arith}
-use Rattle.std.specs.List.{AllByRecursion}
-use Rattle.hsm_types.specs.Attributes.{AreAttributes}
+use Rattle.std.proofs.Common.{◌≡◌, ℕ, ◌+◌, ◌≤◌, Some, refl, ◌∙◌, arith}
 use Rattle.plain_model.specs.Keyed.{find_key}
-use Rattle.plain_model.specs.Plain.{Listed}
 use Rattle.meta_store.specs.declared.file_parts.FileParts.{FileParts}
 use Rattle.meta_store.specs.declared.records.Record.{Record}
-use Rattle.meta_store.specs.declared.records.Record.TheVariants.{Make, Drop, Size, Map, Regions, SetAttr, DropAttr}
+use Rattle.meta_store.specs.declared.records.Record.TheVariants.{Make, Drop, Size, Map}
 use Rattle.meta_store.specs.Catalogs.{CatalogFile, Catalog, IsLawfulKept, IsCatalogFile, IsCatalog, geometry_of, blocks_of}
-use Rattle.meta_store.specs.Records.{mappings_from, file_after, inode_of, key_on, others_total, part_refusal, refusal_of, CanStandOn, CanStand, IsAboutOne}
+use Rattle.meta_store.specs.Records.{mappings_from, file_after, inode_of, key_on, CanStandOn, CanStand, IsAboutOne}
 use Rattle.meta_store.specs.InMemory.{parts_of, file_of, parts_after, FitsParts}
 use Rattle.meta_store.proofs.BlockUses.{uses, distinct-uses}
-use Rattle.meta_store.proofs.KeptBounds.{setting-fits, fewer-without}
 use Rattle.meta_store.proofs.MappedPlaces.{length-fitted, uses-fitted, within-fitted, length-places_set, uses-mapped, within-places_set, places-within, new_or_used}
-use Rattle.meta_store.proofs.FileEdits.{name_of, count_of, uses_of}
+use Rattle.meta_store.proofs.FileEdits.{name_of, uses_of}
 
 -- ---- what is known of a record that can stand
 

@@ -1,6 +1,5 @@
 -- A store that was just formatted has no files.
 use Rattle.std.proofs.Common.{ℕ, List, sym, arith}
-use Rattle.commit_slots.specs.Places.{layout_of}
 use Rattle.commit_slots.specs.Images.{empty_snapshot, IsEmptyStore}
 use Rattle.commit_slots.proofs.Laid.{laid}
 use Rattle.meta_store.specs.Images.{IsImage}

@@ -1,6 +1,6 @@
 -- Recovery finds one thing on an image.
-use Rattle.std.proofs.Common.{◌≡◌, ℕ, List, map, refl, sym, ◌∙◌, ap, subst}
-use Rattle.meta_store.specs.Catalogs.{CatalogFile, Catalog, IsCatalog, geometry_of}
+use Rattle.std.proofs.Common.{◌≡◌, ℕ, List, map, sym, ◌∙◌, ap, subst}
+use Rattle.meta_store.specs.Catalogs.{Catalog, IsCatalog, geometry_of}
 use Rattle.meta_store.specs.Snapshots.{Snapshot, snapshot_of, IsSpelled}
 use Rattle.meta_store.specs.Images.{area_of}
 use Rattle.meta_store.specs.Laws.{FindsOne}

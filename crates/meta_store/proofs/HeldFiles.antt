@@ -3,7 +3,7 @@ use Rattle.std.proofs.Common.{◌≡◌, ℕ, ◌+◌, ◌-◌, ◌≤◌, List,
 use Rattle.std.proofs.lemmas.Bool.{cases_Bool}
 use Rattle.std.proofs.lemmas.Option.{same_Some}
 use Rattle.hsm_types.specs.declared.keys.FileKey.{FileKey}
-use Rattle.plain_model.specs.Keyed.{same_key, find_key, change_key, put_key, drop_key}
+use Rattle.plain_model.specs.Keyed.{same_key, find_key, change_key, put_key}
 use Rattle.inode_table.specs.declared.entries.FileEntry.{FileEntry}
 use Rattle.inode_table.specs.Listing.{listing, has_inode, Ascend, Within}
 use Rattle.inode_table.specs.Table.{entry_of}

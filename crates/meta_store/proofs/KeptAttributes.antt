@@ -1,10 +1,9 @@
 -- Attributes of a snapshot, one after the other.
-use Rattle.std.proofs.Common.{◌≡◌, ℕ, ◌≤◌, List, [], ◌∷◌, ◌++◌, length, Option, Some, None, true, false, refl, ap, ◌∙◌, le-leb, arith}
+use Rattle.std.proofs.Common.{◌≡◌, ℕ, ◌≤◌, List, [], ◌∷◌, ◌++◌, length, Option, Some, None, true, false, refl, le-leb, arith}
 use Rattle.std.specs.List.{AllByRecursion}
 use Rattle.std.specs.List.Sorted.{IsStrictlySortedBy}
 use Rattle.std.specs.Map.{keys_of, values_of}
-use Rattle.std.specs.declared.cmp.Ordering.TheVariants.{Less, Equal, Greater}
-use Rattle.std.specs.Ordering.{is_lt, ordering_reverse}
+use Rattle.std.specs.declared.cmp.Ordering.TheVariants.{Less}
 use Rattle.std.specs.Cmp.{IsTotalOrder}
 use Rattle.std.proofs.lemmas.Cmp.{nat_list_cmp_total, on_total}
 use Rattle.std.proofs.lemmas.List.Sums.{sum_by-cons}
@@ -47,11 +46,7 @@ module _ (before : Option AttrName) (attrs : Attributes) (name : AttrName) (valu
   ends-more behind = λ later h. rw (at-end behind) (all-below name later value attrs (grind arith) (ends name behind))
 
   pub accepted : (rest : Attributes) (limit : ℕ) → are_attributes before ((name, value) ∷ rest) ≡ true → bytes_of_attributes (attrs ++ (name, value) ∷ rest) ≤ limit → setting_refusal name value 0 limit attrs ≡ None
-  accepted rest limit are few =
-      let behind : stands_behind before name ≡ true = grind arith in
-      let same = ap bytes_of_attributes (at-end behind) in
-      let front = bytes-front attrs (name, value) rest in
-      grind arith
+  accepted rest limit are few = grind (arith, at-end, bytes-front attrs (name, value) rest)
 
 -- one that was set is lawful
 pub judged : (before : Option AttrName) (name : AttrName) (value : List ℕ) (others limit : ℕ) (attrs rest : Attributes) → stands_behind before name ≡ true → setting_refusal name value others limit attrs ≡ None → are_attributes before ((name, value) ∷ rest) ≡ are_attributes (Some name) rest

@@ -1,13 +1,12 @@
 -- What bounds the regions and the attributes of a lawful file.
-use Rattle.std.proofs.Common.{◌≡◌, ℕ, suc, ◌+◌, ◌*◌, ◌≤◌, List, [], ◌∷◌, ◌++◌, length, map, Option, None, Some, length-append, arith}
+use Rattle.std.proofs.Common.{◌≡◌, ℕ, suc, ◌+◌, ◌*◌, ◌≤◌, List, [], ◌∷◌, length, map, Option, None, Some, length-append, arith}
 use Rattle.std.specs.List.{flat_map, All, AllByRecursion}
 use Rattle.std.specs.Map.{values_of}
 use Rattle.std.proofs.lemmas.List.Sums.{sum_by-cons}
 use Rattle.hsm_types.specs.declared.regions.Region.{Region}
 use Rattle.hsm_types.specs.declared.attributes.AttrName.{AttrName}
 use Rattle.hsm_types.specs.Regions.{first_bad, regions_refusal}
-use Rattle.hsm_types.specs.Attributes.{Attributes, AreAttributes, name_cmp, same_name, setting_refusal, with_value, without_value, cost_of_value, bytes_of_attributes}
-use Rattle.byteorder.specs.Endian.{big_bytes}
+use Rattle.hsm_types.specs.Attributes.{Attributes, AreAttributes, setting_refusal, with_value, without_value, cost_of_value, bytes_of_attributes}
 use Rattle.meta_store.specs.Snapshots.{attribute_bytes, RegionFits, AttributeFits}
 
 -- ---- regions

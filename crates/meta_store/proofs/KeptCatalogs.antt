@@ -1,18 +1,17 @@
 -- What is true of each catalog stays true.
-use Rattle.std.proofs.Common.{◌≡◌, ℕ, ◌+◌, ◌<◌, ◌≤◌, ◌^◌, max, List, [], ◌++◌, Some, None, false, refl, arith}
+use Rattle.std.proofs.Common.{◌≡◌, ℕ, ◌+◌, ◌<◌, ◌≤◌, ◌^◌, List, [], ◌++◌, Some, None, false, refl, arith}
 use Rattle.hsm_types.specs.declared.keys.FileKey.{FileKey}
 use Rattle.hsm_types.specs.Kept.{nothing_kept}
 use Rattle.plain_model.specs.Keyed.{find_key, put_key, drop_key}
 use Rattle.plain_model.specs.Plain.{Listed, named}
 use Rattle.plain_model.specs.Distinct.{Distinct}
 use Rattle.inode_table.specs.Listing.{has_inode}
-use Rattle.inode_table.specs.Table.{IsTable}
 use Rattle.inode_table.proofs.Orders.{ascend-put, ascend-drop, within-put, within-more, within-drop}
 use Rattle.inode_table.proofs.Names.{differ-put, differ-drop}
 use Rattle.meta_store.specs.declared.records.Record.{Record}
 use Rattle.meta_store.specs.Catalogs.{CatalogFile, Catalog, IsLawfulKept, IsCatalogFile, IsCatalog, geometry_of, names_of, present, blocks_of, attribute_total}
 use Rattle.meta_store.specs.Records.{file_after, with_put, without_file, with_changed, CanStandOn}
-use Rattle.meta_store.proofs.BlockUses.{uses, uses-append, distinct-uses, uses-distinct}
+use Rattle.meta_store.proofs.BlockUses.{uses-append, distinct-uses, uses-distinct}
 use Rattle.meta_store.proofs.FilesAfter.{named-after, IsCatalogFile-after, uses-after}
 use Rattle.meta_store.proofs.FileEdits.{name_of, count_of, uses_of, uses-sum, map-put, names_of-drop, names_of-change, sum-put, sum-drop, sum-change, each-put, each-drop, each-changed}
 

@@ -1,21 +1,17 @@
 -- Which files pass the judgement.
 use Rattle.std.proofs.lemmas.List.Sums.{sum_by-cons, sum_by-append}
 use Rattle.std.proofs.lemmas.List.Folds.{fold-map}
-use Rattle.std.proofs.Common.{◌≡◌, ℕ, ◌+◌, ◌<◌, ◌≤◌, List, [], ◌∷◌, ◌++◌, map, true, None, leb, refl, ap, sym, ◌∙◌, subst, arith}
+use Rattle.std.proofs.Common.{◌≡◌, ℕ, ◌+◌, ◌≤◌, List, [], ◌∷◌, ◌++◌, map, true, leb, refl, ap, sym, ◌∙◌, arith}
 use Rattle.std.specs.List.{AllByRecursion}
-use Rattle.std.proofs.lemmas.Bool.{le-leb}
 use Rattle.std.proofs.lemmas.List.{map-append}
 use Rattle.std.proofs.lemmas.List.Concat.{flat_map-append}
 use Rattle.hsm_types.specs.declared.stores.Geometry.{Geometry}
-use Rattle.plain_model.specs.Plain.{Listed}
 use Rattle.plain_model.specs.Blocks.{blocks_in}
-use Rattle.plain_model.specs.Distinct.{Distinct}
 use Rattle.inode_table.specs.Listing.{Within}
-use Rattle.inode_table.specs.Table.{IsTable}
 use Rattle.hsm_types.specs.Attributes.{bytes_of_attributes}
-use Rattle.meta_store.specs.Catalogs.{CatalogFile, Catalog, IsCatalogFile, IsCatalog, geometry_of, names_of, blocks_of, attribute_total}
-use Rattle.meta_store.specs.Snapshots.{SnapshotFile, snapshot_file, extents_from}
-use Rattle.meta_store.specs.Validity.{listed_in, names_in, places_of, places_in, last_inode, are_extents, is_file, is_kept, are_unused, can_follow, attribute_total_in, is_next, Follows}
+use Rattle.meta_store.specs.Catalogs.{CatalogFile, Catalog, IsCatalogFile, IsCatalog, geometry_of, names_of, blocks_of}
+use Rattle.meta_store.specs.Snapshots.{SnapshotFile, snapshot_file}
+use Rattle.meta_store.specs.Validity.{listed_in, names_in, places_of, places_in, is_file, is_kept, can_follow, attribute_total_in, is_next, Follows}
 use Rattle.meta_store.proofs.KeptAttributes.{attributes-pass}
 use Rattle.meta_store.proofs.MappedPlaces.{all-parts}
 use Rattle.meta_store.proofs.SpreadPlaces.{places_of-extents, are_extents-from}

@@ -1,6 +1,5 @@
-use Rattle.std.proofs.Common.{◌≡◌, ◌≤◌, List, ℕ, length, sym, ◌∙◌, ap, subst, arith}
+use Rattle.std.proofs.Common.{◌≡◌, length, sym, ◌∙◌, ap, arith}
 use Rattle.std.proofs.lemmas.List.{length-map}
-use Rattle.commit_slots.specs.Places.{layout_of}
 use Rattle.inode_table.specs.Table.{Table, entry_of}
 use Rattle.meta_store.proofs.SnapshotFits.{snapshot-short}
 use Rattle.meta_store.proofs.WrittenFiles.{some-at, bounds-at, header-first, file-more, files-all}

@@ -6,7 +6,6 @@ use Rattle.meta_store.specs.declared.snapshot.ReadRefusal.{ReadRefusal}
 use Rattle.meta_store.specs.declared.snapshot.ReadRefusal.TheVariants.{Corrupt}
 use Rattle.meta_store.specs.declared.snapshot.RawFile.{RawFile}
 use Rattle.meta_store.specs.Snapshots.{raw_file, Snapshot, SnapshotFile, raw_snapshot, snapshot_file, snapshot_of}
-use Rattle.plain_model.specs.Plain.{Listed}
 use Rattle.meta_store.specs.declared.snapshot.RawSnapshot.{RawSnapshot}
 use Rattle.meta_store.specs.Catalogs.{Catalog, IsCatalog, geometry_of}
 use Rattle.meta_store.specs.Validity.{listed_in, names_in, last_inode, is_next}

@@ -4,10 +4,9 @@ use Rattle.hsm_types.specs.declared.stores.Geometry.{Geometry}
 use Rattle.meta_store.specs.Records.{refusal_of, file_after, without_file, with_changed, key_on, inode_of, others_total, part_refusal, CanStandOn, CanStand, IsAboutOne}
 use Rattle.meta_store.specs.Catalogs.{Catalog, geometry_of, CatalogFile, IsLawfulKept, IsCatalogFile, present, blocks_of, attribute_total}
 use Rattle.meta_store.proofs.HeldCatalogs.{bounded, IsCounted, IsLive, lawful, counted, table, live, read-live, held-live, others, after}
-use Rattle.std.specs.List.{AllByRecursion}
 use Rattle.std.specs.Option.{option_map}
 use Rattle.hsm_types.specs.declared.keys.FileKey.{FileKey}
-use Rattle.hsm_types.specs.Attributes.{Attributes, AreAttributes, bytes_of_attributes}
+use Rattle.hsm_types.specs.Attributes.{bytes_of_attributes}
 use Rattle.plain_model.specs.Keyed.{find_key, change_key}
 use Rattle.inode_table.specs.declared.entries.FileEntry.{FileEntry}
 use Rattle.inode_table.specs.Table.{Table, entry_of}

@@ -1,5 +1,4 @@
 use Rattle.std.proofs.Common.{refl, not, sym, ◌∙◌, ap, subst}
-use Rattle.meta_store.specs.Catalogs.{Catalog}
 use Rattle.meta_store.specs.Meta.{Meta, Backs}
 use Rattle.meta_store.proofs.CommitTurns.{meta_of, stores_nothing, HasSwitched, Commits, commits}
 use Rattle.meta_store.proofs.store.MetaStore.commit.Given.{Over}
