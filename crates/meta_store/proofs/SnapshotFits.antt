@@ -119,14 +119,7 @@ file-short blocks f is =
 files-short : (blocks : ℕ) (fs : List CatalogFile) → AllByRecursion (IsCatalogFile blocks) fs → length (flat_map file_bytes (map snapshot_file fs)) ≤ 170 * length fs + 8 * length (blocks_of fs) + attribute_total fs
 files-short blocks [] each = omega arith
 files-short blocks (f ∷ fs) each =
-    omega (
-      arith,
-      length-append (file_bytes (snapshot_file f)) (flat_map file_bytes (map snapshot_file fs)),
-      length-append (present f.places) (blocks_of fs),
-      sum_by-cons (λ (g : CatalogFile). bytes_of_attributes g.kept.attributes) f fs,
-      file-short blocks f each.0,
-      files-short blocks fs each.1,
-    )
+    simp length-append (omega (arith, sum_by-cons (λ (g : CatalogFile). bytes_of_attributes g.kept.attributes) f fs, file-short blocks f each.0, files-short blocks fs each.1))
 
 area-bounded : (geometry : ℕ) → 24 + 170 * (geometry_of geometry).files + 8 * (geometry_of geometry).blocks + (geometry_of geometry).attributes ≤ (layout_of geometry).snapshot_len
 unfolding geometry_of layout_of
