@@ -156,9 +156,8 @@ module _ (s : Inside) (v : Catalog) (is : catalog_held s.geometry s.table s.part
   module _ (key : FileKey) (name : List ℕ) (size : ℕ) (x : FileParts) (low : 1 ≤ key.ino) (high : key.ino ≤ (geometry_of v.geometry).files) (free : has_inode key.ino (names_of v.files) ≡ false) where
     pub put-held : catalog_held s.geometry (with_entry (entry_of key name size) s.table) (set s.parts.items (key.ino - 1) x) ≡ with_put (file_of key name size x) v
     put-held =
-        let count = i.0.count in
         let kind = ap (λ (c : Catalog). (geometry_of c.geometry).files) is in
-        rw (← is, held-put_at s.parts.items (entry_of key name size) x s.table.files low (omega arith) table.ascend (rw names at free)) refl
+        rw (← is, held-put_at s.parts.items (entry_of key name size) x s.table.files low (omega (arith, i.0.count)) table.ascend (rw names at free)) refl
 
     pub put-counted : (total' used' : ℕ) → named name (names_of v.files) ≡ None → key.igen < 2 ^ 62 → IsCatalogFile (geometry_of v.geometry).blocks (file_of key name size x) → Distinct (present x.places ++ blocks_of v.files)
         → attribute_total v.files + bytes_of_attributes x.attributes ≤ (geometry_of v.geometry).attributes → total' ≡ s.attribute_total + bytes_of_attributes x.attributes → used' ≡ s.used + length (present x.places)

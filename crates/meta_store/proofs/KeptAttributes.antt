@@ -48,10 +48,6 @@ module _ (before : Option AttrName) (attrs : Attributes) (name : AttrName) (valu
   pub accepted : (rest : Attributes) (limit : ℕ) → are_attributes before ((name, value) ∷ rest) ≡ true → bytes_of_attributes (attrs ++ (name, value) ∷ rest) ≤ limit → setting_refusal name value 0 limit attrs ≡ None
   accepted rest limit are few = grind (arith, at-end, bytes-front attrs (name, value) rest)
 
--- one that was set is lawful
-pub judged : (before : Option AttrName) (name : AttrName) (value : List ℕ) (others limit : ℕ) (attrs rest : Attributes) → stands_behind before name ≡ true → setting_refusal name value others limit attrs ≡ None → are_attributes before ((name, value) ∷ rest) ≡ are_attributes (Some name) rest
-judged before name value others limit attrs rest behind none = grind arith
-
 -- ---- lawful attributes pass
 
 pass-behind : (b : AttrName) (attrs : Attributes) → AllByRecursion (λ k. name_cmp b k ≡ Less) (keys_of attrs) → IsStrictlySortedBy name_cmp (keys_of attrs) → AllByRecursion (λ a. is_reserved a.0 ≡ false) attrs → AllByRecursion (λ a. length a.1 ≤ 4096) attrs

@@ -4,7 +4,7 @@ use Rattle.hsm_types.specs.Attributes.{Attributes}
 use Rattle.meta_store.specs.declared.snapshot.ReadRefusal.TheVariants.{Memory}
 use Rattle.meta_store.specs.Validity.{are_attributes}
 use Rattle.meta_store.proofs.KeptBounds.{eight-with, setting-fits}
-use Rattle.meta_store.proofs.KeptAttributes.{at-end, ends-more, accepted, judged}
+use Rattle.meta_store.proofs.KeptAttributes.{at-end, ends-more, accepted}
 use Rattle.meta_store.proofs.kept.attributes_of.Goals as goal
 
 pub loop-name-preserved : goal.loop-name-preserved
@@ -21,7 +21,7 @@ loop-name-preserved c =
     record {
       set = ap (λ (r : Attributes). r ++ rest) (after ∙ at-end before kept name value so_far.ends behind) ∙ append_assoc kept ((name, value) ∷ []) rest ∙ sym (ap (λ (r : Attributes). kept ++ r) next.0) ∙ so_far.set;
       left = omega (arith, so_far.left, next.1, ap length next.0);
-      judged = so_far.judged ∙ ap (λ (r : Attributes). are_attributes before r) next.0 ∙ judged before name value 0 c.args.limit kept rest behind c.in-Ok.ensures.ok;
+      judged = grind (arith, so_far.judged, next.0, behind, c.in-Ok.ensures.ok);
       ends = rw after (ends-more before kept name value so_far.ends behind);
       within = rw after (omega (arith, setting-fits name value 0 c.args.limit kept c.in-Ok.ensures.ok));
       eight = rw after (eight-with name value kept so_far.eight (sym c.name_len-len.ensures.bytes ∙ c.name_len-len.ensures.eight));

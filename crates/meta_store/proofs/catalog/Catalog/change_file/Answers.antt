@@ -75,8 +75,7 @@ module _ (s : Inside) (v : Catalog) (is : catalog_held s.geometry s.table s.part
         new-held : catalog_held s.geometry resized (set s.parts.items place new) ≡ with_changed (key_on (inode_of r) v) (file_after r) v
         new-held =
             let e : FileEntry = entry_of file.key file.name file.size in
-            let count = i.0.count in
-            let files = held-change s.parts.items 1 (geometry_of s.geometry).files s.table.next k (file_after r) e new size s.table.files (omega arith) (omega arith) (table s v is i).ascend (table s v is i).within there.entry (ap (file_after r) (held-live s.table s.parts.items k file there) ∙ changed) in
+            let files = held-change s.parts.items 1 (geometry_of s.geometry).files s.table.next k (file_after r) e new size s.table.files (omega arith) (omega (arith, i.0.count)) (table s v is i).ascend (table s v is i).within there.entry (ap (file_after r) (held-live s.table s.parts.items k file there) ∙ changed) in
             rw here (ap (λ (fs : List CatalogFile). record { geometry = s.geometry; next = s.table.next; files = fs }) files ∙ ap (λ (c : Catalog). with_changed k (file_after r) c) is ∙ ap (λ (j : FileKey). with_changed j (file_after r) v) is-key)
 
         new-counted : (total' used' : ℕ) → rest + bytes_of_attributes new.attributes ≤ limit → IsLawfulKept (kept_in new) → total' ≡ rest + bytes_of_attributes new.attributes
