@@ -1,9 +1,10 @@
 -- A body by its blocks: where each byte stands, and which body the blocks at other places give.
-use Rattle.std.proofs.Common.{rules, ◌≡◌, ⊎_elim, ℕ, zero, suc, ◌+◌, ◌-◌, ◌*◌, ◌/◌, ◌%◌, ◌<◌, List, [], ◌∷◌, ◌++◌, length, map, get_or, take, drop, set, Option, Some, None, refl, sym, ◌∙◌, ap, subst, arith, length-append, length-take, length-set, get_or-set_same, get_or-set_other}
+use Rattle.std.proofs.Common.{rules, ◌≡◌, ◌⊎◌, inl, inr, ⊎_elim, ℕ, zero, suc, ◌+◌, ◌-◌, ◌*◌, ◌/◌, ◌%◌, ◌<◌, ◌≤◌, List, [], ◌∷◌, ◌++◌, length, map, get_or, take, drop, set, Option, Some, None, refl, sym, ◌∙◌, ap, subst, arith, length-append, length-take, length-set, get_or-set_same, get_or-set_other}
 use Rattle.std.specs.Prelude.{replicate}
 use Rattle.std.specs.List.{flat_map, AllByRecursion}
 use Rattle.std.proofs.lemmas.Bool.{cases_eq}
 use Rattle.std.proofs.lemmas.List.{ext_get_or, get_or-take, get_or_append_left, get_or-append_right, places}
+use Rattle.plain_model.specs.Plain.{written}
 use Rattle.plain_model.specs.Blocks.{blocks_in}
 use Rattle.meta_store.specs.declared.snapshot.Mapping.{Mapping}
 use Rattle.meta_store.specs.Catalogs.{present}
@@ -59,6 +60,15 @@ length-block w xs = search (rules, places)
 
 pub byte-block : (w a r : ℕ) (xs : List ℕ) → r < w → get_or (take w (drop a xs ++ replicate w 0)) r 0 ≡ get_or xs (a + r) 0
 byte-block w a r xs h = grind (arith, places)
+
+-- ---- bytes of a body that is written
+
+pub written-beside : (offset k : ℕ) (bytes body : List ℕ) → (k < offset) ⊎ (offset + length bytes ≤ k) → get_or (written offset bytes body) k 0 ≡ get_or body k 0
+written-beside offset k bytes body (inl before) = grind (arith, places)
+written-beside offset k bytes body (inr behind) = grind (arith, places)
+
+pub written-in : (offset k r : ℕ) (bytes body : List ℕ) → k ≡ offset + r → r < length bytes → get_or (written offset bytes body) k 0 ≡ get_or bytes r 0
+written-in offset k r bytes body is within = grind (arith, places)
 
 -- ---- places
 

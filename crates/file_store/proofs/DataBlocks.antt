@@ -20,7 +20,7 @@ use Rattle.file_store.specs.Rewrites.{effect_of, IsRewrite, remapped}
 use Rattle.file_store.proofs.FilesBy.{SameBytes, held-same}
 use Rattle.file_store.proofs.ByBlocks.{length-blocks, at_place}
 use Rattle.file_store.proofs.Rewriting.{changed_at}
-use Rattle.file_store.proofs.RewrittenFiles.{held-rewritten}
+use Rattle.file_store.proofs.HeldRecords.{held-rewritten}
 use Rattle.file_store.proofs.EachOf.{each-weaker, each-parts}
 
 -- ---- the places of each file are among those of all

@@ -1,26 +1,28 @@
--- A catalog's files as they are held, however their bytes are found: all of them, one that is found, one more, one less and one changed.
-use Rattle.std.proofs.Common.{◌≡◌, ℕ, List, [], ◌∷◌, length, map, Bool, true, false, cond, Option, Some, None, ltb, refl, ◌∙◌, ap, subst}
-use Rattle.std.specs.List.{AllByRecursion}
-use Rattle.std.specs.Option.{IsSome, option_map}
+-- A catalog's files as they are held, however their bytes are found: what the catalog tells of them, one that is found, one more, one less and one changed.
+use Rattle.std.proofs.Common.{◌≡◌, ℕ, ◌<◌, ◌≤◌, ◌+◌, List, [], ◌∷◌, length, map, Bool, true, false, cond, Option, Some, None, ltb, refl, sym, ◌∙◌, ap, subst, arith}
+use Rattle.std.specs.Prelude.{is_some}
+use Rattle.std.specs.List.{AllByRecursion, fold, sum, sum_by}
+use Rattle.std.specs.Option.{IsSome, option_map, unwrap_or}
 use Rattle.std.proofs.lemmas.List.{length-map}
+use Rattle.std.proofs.lemmas.List.Sums.{sum-map}
+use Rattle.std.proofs.lemmas.Simd.{map-map}
+use Rattle.hsm_types.specs.Attributes.{bytes_of_attributes}
+use Rattle.hsm_types.specs.Kept.{Kept, nothing_kept}
 use Rattle.hsm_types.specs.declared.keys.FileKey.{FileKey}
 use Rattle.plain_model.specs.Keyed.{same_key, find_key, change_key, put_key, drop_key}
-use Rattle.plain_model.specs.State.{FileState, Held, names_of}
-use Rattle.meta_store.specs.Catalogs.{CatalogFile, Catalog}
+use Rattle.plain_model.specs.Plain.{Listed, greatest}
+use Rattle.plain_model.specs.Services.{kept_of, other_attributes}
+use Rattle.plain_model.specs.Services.{attribute_total as held_total}
+use Rattle.plain_model.specs.State.{FileState, Held, names_of, file_or_new, used, used_by}
+use Rattle.inode_table.specs.Listing.{Within}
+use Rattle.meta_store.specs.Catalogs.{CatalogFile, Catalog, IsCatalog, geometry_of, present, blocks_of, attribute_total}
 use Rattle.meta_store.specs.Catalogs.{names_of as names_in}
+use Rattle.meta_store.specs.Records.{kept_at, others_total}
+use Rattle.meta_store.proofs.FileEdits.{total-drop, used-sum}
+use Rattle.meta_store.proofs.FoundFiles.{each-found}
+use Rattle.meta_store.proofs.SnapshotFits.{files-few, blocks-few}
 use Rattle.file_store.specs.Bodies.{file_by, held_by}
-
--- ---- what is true of each file
-
-pub each-all : (P : CatalogFile → Type 0) → ((f : CatalogFile) → P f) → (fs : List CatalogFile) → AllByRecursion P fs
-each-all P all [] = tt
-each-all P all (f ∷ fs) = (all f, each-all P all fs)
-
-pub each-both : (P Q R : CatalogFile → Type 0) → ((f : CatalogFile) → P f → Q f → R f) → (fs : List CatalogFile) → AllByRecursion P fs → AllByRecursion Q fs → AllByRecursion R fs
-each-both P Q R both [] p q = tt
-each-both P Q R both (f ∷ fs) p q = (both f p.0 q.0, each-both P Q R both fs p.1 q.1)
-
--- ---- what is held of them
+use Rattle.file_store.specs.Stores.{told_of, told_held, Shows, IsLawful}
 
 abbrev held_of : List FileState → ℕ → Held
 held_of files next = record { files = files; next = next }
@@ -28,14 +30,28 @@ held_of files next = record { files = files; next = next }
 pub same_held : (a b : List FileState) (m n : ℕ) → a ≡ b → m ≡ n → held_of a m ≡ held_of b n
 same_held a b m n files next = rw (files, next) refl
 
-module _ (B : CatalogFile → List ℕ) where
-  names_of-by : (fs : List CatalogFile) → names_of (map (file_by B) fs) ≡ names_in fs
-  names_of-by [] = refl
-  names_of-by (f ∷ fs) = ap (λ ls. record { key = f.key; name = f.name } ∷ ls) (names_of-by fs)
+-- a list of what is known of each file has the key where the files have it
+pub find-map : {Y : Type 0} (key : Y → FileKey) (h : CatalogFile → Y) (same : (f : CatalogFile) → key (h f) ≡ f.key) (k : FileKey) (fs : List CatalogFile) → find_key key k (map h fs) ≡ option_map h (find_key (λ f. f.key) k fs)
+find-map key h same k [] = refl
+find-map key h same k (f ∷ fs) =
+    rw (same f, find-map key h same k fs) (elim (same_key f.key k) as (λ b. cond b (Some (h f)) (option_map h (find_key (λ x. x.key) k fs)) ≡ option_map h (cond b (Some f) (find_key (λ x. x.key) k fs))) [
+      | true ↦ refl
+      | false ↦ refl
+    ])
 
+present-flags : (n : ℕ) (ps : List (Option ℕ)) → fold (λ a x. a + cond x 1 0) n (map is_some ps) ≡ n + length (present ps)
+present-flags n [] = omega arith
+present-flags n (None ∷ ps) = let more = present-flags (n + 0) ps in omega arith
+present-flags n (Some at ∷ ps) = let more = present-flags (n + 1) ps in omega arith
+
+greatest-below : (limit next : ℕ) (ls : List Listed) → 1 ≤ next → Within limit next ls → greatest ls < next
+greatest-below limit next [] some within = omega arith
+greatest-below limit next (l ∷ ls) some within = omega (arith, within.1, greatest-below limit next ls some within.2)
+
+module _ (B : CatalogFile → List ℕ) where
   pub names-held : (c : Catalog) → names_of (held_by B c).files ≡ names_in c.files
   unfolding held_by
-  names-held c = names_of-by c.files
+  names-held c = map-map _ (file_by B) c.files
 
   pub next-held : (c : Catalog) → (held_by B c).next ≡ c.next
   unfolding held_by
@@ -45,19 +61,22 @@ module _ (B : CatalogFile → List ℕ) where
   unfolding held_by
   length-held c = length-map c.files (file_by B)
 
-  -- ---- a file that is found
+  sum-held : (m : FileState → ℕ) (c : Catalog) → sum_by m (held_by B c).files ≡ sum_by (λ f. m (file_by B f)) c.files
+  unfolding held_by
+  sum-held m c = sym (sum-map m (map (file_by B) c.files)) ∙ ap sum (map-map m (file_by B) c.files) ∙ sum-map (λ f. m (file_by B f)) c.files
 
-  pub find-by : (k : FileKey) (fs : List CatalogFile) → find_key (λ f. f.key) k (map (file_by B) fs) ≡ option_map (file_by B) (find_key (λ f. f.key) k fs)
-  find-by k [] = refl
-  find-by k (f ∷ fs) =
-      elim (same_key f.key k) as (λ b. cond b (Some (file_by B f)) (find_key (λ x. x.key) k (map (file_by B) fs)) ≡ option_map (file_by B) (cond b (Some f) (find_key (λ x. x.key) k fs))) [
-        | true ↦ refl
-        | false ↦ find-by k fs
-      ]
+  -- how many blocks one uses, and all of them
+  mapped-by : (f : CatalogFile) → used_by (file_by B f) ≡ length (present f.places)
+  mapped-by f = omega (arith, present-flags 0 f.places)
+
+  pub used-held : (c : Catalog) → used (held_by B c).files ≡ length (blocks_of c.files)
+  used-held c = sum-held used_by c ∙ ap (λ (m : CatalogFile → ℕ). sum_by m c.files) (λ i f. mapped-by f i) ∙ sym (used-sum c.files)
+
+  -- ---- a file that is found
 
   pub find-held : (k : FileKey) (c : Catalog) → find_key (λ f. f.key) k (held_by B c).files ≡ option_map (file_by B) (find_key (λ f. f.key) k c.files)
   unfolding held_by
-  find-held k c = find-by k c.files
+  find-held k c = find-map (λ s. s.key) (file_by B) (λ f. refl) k c.files
 
   some_by : (o : Option CatalogFile) → IsSome (option_map (file_by B) o) → (f : CatalogFile) × (o ≡ Some f)
   some_by None live = cc
@@ -65,6 +84,50 @@ module _ (B : CatalogFile → List ℕ) where
 
   pub live-by : (k : FileKey) (c : Catalog) → IsSome (find_key (λ f. f.key) k (held_by B c).files) → (f : CatalogFile) × (find_key (λ x. x.key) k c.files ≡ Some f)
   live-by k c live = some_by (find_key (λ f. f.key) k c.files) (subst (λ (o : Option FileState). IsSome o) (find-held k c) live)
+
+  -- ---- what is kept with a file
+
+  found_kept : (k : FileKey) (o : Option CatalogFile) → (file_or_new k (option_map (file_by B) o)).kept ≡ unwrap_or (option_map (λ f. f.kept) o) nothing_kept
+  found_kept k None = refl
+  found_kept k (Some f) = refl
+
+  pub kept-held : (c : Catalog) (k : FileKey) → kept_of k (held_by B c).files ≡ kept_at k c
+  kept-held c k = ap (λ (o : Option FileState). (file_or_new k o).kept) (find-held k c) ∙ found_kept k (find_key (λ f. f.key) k c.files)
+
+  -- what the attributes of the other files count
+  pub others-held : (c : Catalog) (k : FileKey) (f : CatalogFile) → find_key (λ x. x.key) k c.files ≡ Some f → other_attributes k (held_by B c).files ≡ others_total k c
+  others-held c k f found =
+      let all : held_total (held_by B c).files ≡ attribute_total c.files = sum-held (λ (s : FileState). bytes_of_attributes s.kept.attributes) c in
+      let kept : kept_of k (held_by B c).files ≡ f.kept = kept-held c k ∙ rw found refl in
+      let own = ap (λ (x : Kept). bytes_of_attributes x.attributes) kept in
+      let rest = total-drop k f c.files found in
+      omega arith
+
+  -- ---- what is true of them all
+
+  told-found : (o : Option CatalogFile) → ((f : CatalogFile) → o ≡ Some f → length (B f) ≡ f.size) → option_map told_of o ≡ option_map told_held (option_map (file_by B) o)
+  told-found None sizes = refl
+  told-found (Some f) sizes = rw (sizes f refl, mapped-by f) refl
+
+  pub shows : (c : Catalog) → AllByRecursion (λ f. length (B f) ≡ f.size) c.files → Shows c (held_by B c)
+  shows c sizes = record {
+    next = sym (next-held c);
+    names = sym (names-held c);
+    found = λ k. told-found (find_key (λ f. f.key) k c.files) (λ f found. each-found (λ g. length (B g) ≡ g.size) k f c.files sizes found) ∙ ap (option_map told_held) (sym (find-held k c));
+    used = sym (used-held c);
+  }
+
+  pub held_lawful : (c : Catalog) → IsCatalog c → IsLawful (geometry_of c.geometry).files (held_by B c)
+  held_lawful c is = record {
+    table = rw (names-held c, next-held c) is.table;
+    opening = rw (names-held c, next-held c) (greatest-below (geometry_of c.geometry).files c.next _ is.first is.table.within);
+    next = rw (next-held c) is.next;
+    few = rw (length-held c) (files-few c is);
+  }
+
+  -- no more blocks are used than there are
+  pub used_few : (c : Catalog) → IsCatalog c → used (held_by B c).files ≤ (geometry_of c.geometry).blocks
+  used_few c is = rw (used-held c) (blocks-few c is)
 
 -- ---- edits, after which the bytes are found otherwise, but not those of the other files
 

@@ -20,10 +20,9 @@ use Rattle.file_store.specs.HeldFiles.{IsHeldFiles}
 use Rattle.file_store.specs.declared.refusal.StoreRefusal.TheVariants as store
 use Rattle.file_store.specs.Refusals.{refused_as}
 use Rattle.file_store.specs.Stores.{Store, Proceeds, IsLive, IsSound, marks_of}
-use Rattle.file_store.proofs.Applied.{Tells, applied_proceeds, applied_live}
-use Rattle.file_store.proofs.FreedBlocks.{marks-after, none-freed, freed-within}
-use Rattle.file_store.proofs.Marked.{marks_there}
-use Rattle.file_store.proofs.HeldAfter.{bodies_after, held_at-after, held_with-after, IsHeldFiles-after}
+use Rattle.file_store.proofs.Durable.{Tells, applied_proceeds, applied_live}
+use Rattle.file_store.proofs.Marks.{marks-after, none-freed, freed-within, marks_there}
+use Rattle.file_store.proofs.WithBodies.{bodies_after, held_at-after, held_with-after, IsHeldFiles-after}
 
 -- ---- the store of its parts
 
@@ -82,7 +81,7 @@ module _ {D : Type 0} (g : disk.Ghosts D) (k : FileKey) (r : Record) (freed : Li
     settled_is : (p.pending || drops r) ≡ false → after_it.space.durable ≡ after_it.space.current
     settled_is idle =
         let parts = or_parts p.pending (drops r) idle in
-        rw (live.settled parts.0, none-freed k p.meta.current catalog freed r parts.1 free) (cond_both wrote p.space.current p.space.current (λ flags. flags ≡ p.space.current) (λ stored. refl) (λ none. refl))
+        rw (live.settled parts.0, none-freed k p.meta.current freed r parts.1 free) (cond_both wrote p.space.current p.space.current (λ flags. flags ≡ p.space.current) (λ stored. refl) (λ none. refl))
 
     pub recorded : IsMeta m → Backs g new m → StoresOrKeeps g p.disk new p.meta n → IsRecorded
     recorded lawful backs turns = record {

@@ -16,7 +16,7 @@ use Rattle.meta_store.proofs.FileEdits.{names_of-change}
 use Rattle.file_store.specs.Steps.{places_of}
 use Rattle.file_store.specs.Rewrites.{mappings_in, IsMapOn, IsRewriting, remapped}
 use Rattle.meta_store.proofs.MappedPlaces.{length-fitted, length-places_set, uses-fitted, uses-mapped}
-use Rattle.file_store.proofs.MovedBlocks.{uses-changed}
+use Rattle.file_store.proofs.Marks.{uses-changed}
 use Rattle.file_store.proofs.EachOf.{each-parts}
 
 -- ---- a file that changes twice

@@ -1,11 +1,12 @@
 -- A live store, a file whose bytes are changed, and the blocks that this touches, with the places that were taken for them.
-use Rattle.std.proofs.Common.{◌≡◌, inl, ℕ, zero, suc, ◌-◌, ◌<◌, ◌≤◌, List, [], ◌∷◌, length, take, drop, get_or, Option, Some, None, Bool, true, false, if◌then◌else◌, refl, sym, ◌∙◌, ap, subst, arith, length-take}
+use Rattle.std.proofs.Common.{◌≡◌, inl, inr, ℕ, zero, suc, ◌-◌, ◌*◌, ◌<◌, ◌≤◌, List, [], ◌∷◌, length, take, drop, get_or, Option, Some, None, Bool, true, false, if◌then◌else◌, refl, sym, ◌∙◌, ap, subst, arith, length-take}
 use Rattle.std.specs.List.{All, AllByRecursion}
 use Rattle.std.proofs.lemmas.List.Elements.{All-from_recursion, All-weaker}
 use Rattle.hsm_types.specs.declared.keys.FileKey.{FileKey}
 use Rattle.disk_model.specs.declared.device.Disk as disk
-use Rattle.disk_model.specs.Images.{Follows}
-use Rattle.disk_model.specs.Moments.{Keeps}
+use Rattle.disk_model.specs.Images.{part, Follows}
+use Rattle.disk_model.specs.Moments.{MayBe, LeavesOnly, Keeps}
+use Rattle.disk_model.proofs.Steps.{holds_on, holds_now}
 use Rattle.commit_slots.specs.Places.{layout_of}
 use Rattle.plain_model.specs.Distinct.{Distinct}
 use Rattle.plain_model.specs.Plain.{rebody}
@@ -20,33 +21,29 @@ use Rattle.meta_store.specs.declared.snapshot.Mapping.{Mapping}
 use Rattle.meta_store.specs.declared.records.Record.{Record}
 use Rattle.meta_store.specs.Catalogs.{Catalog, IsCatalogFile, geometry_of, present, blocks_of}
 use Rattle.meta_store.specs.Records.{with_changed, after_all, CanStandAll, key_on}
-use Rattle.meta_store.specs.Images.{blocks_in_image}
+use Rattle.meta_store.specs.Images.{IsImage, blocks_in_image}
 use Rattle.meta_store.specs.Meta.{Meta, IsMeta, Backs, StoresOrKeeps}
 use Rattle.meta_store.proofs.BlockUses.{uses, uses-append}
 use Rattle.meta_store.proofs.FoundFiles.{each-found}
 use Rattle.file_store.specs.declared.rewrites.Rewrite.{Rewrite}
 use Rattle.file_store.specs.declared.rewrites.Rewrite.TheVariants.{Write, Resize}
-use Rattle.file_store.specs.Bodies.{bytes_at, bytes_with, held_at, held_with}
+use Rattle.file_store.specs.Bodies.{block_of, bytes_at, bytes_with, held_at, held_with}
 use Rattle.file_store.specs.HeldFiles.{IsHeldFiles}
 use Rattle.file_store.specs.Steps.{places_of, IsBesideBlocks, HasBlocks}
 use Rattle.file_store.specs.Rewrites.{effect_of, IsRewrite, IsRewriting, mappings_of, remapped, freed_by, places_under}
-use Rattle.file_store.specs.Stores.{Store, Proceeds, IsLive, marks_of}
+use Rattle.file_store.specs.Stores.{Store, IsEither, Proceeds, IsLive, marks_of}
+use Rattle.file_store.proofs.Beside.{block_in, length-block, image_beside, used_stay, held_beside, backs_beside}
 use Rattle.file_store.proofs.ByBlocks.{at_place}
-use Rattle.file_store.proofs.GrownBodies.{grown, changed-grown}
-use Rattle.file_store.proofs.Putting.{places-mapped, blocks-mapped}
-use Rattle.file_store.proofs.MappedFlags.{touched-below, touched-ascends}
-use Rattle.file_store.proofs.LiveKeys.{IsFound, bytes-held, key_on-live}
-use Rattle.file_store.proofs.SizedBodies.{body-of}
 use Rattle.file_store.proofs.DataBlocks.{held-changed}
-use Rattle.file_store.proofs.FreedBlocks.{length-marks}
-use Rattle.file_store.proofs.Marked.{marks_there}
-use Rattle.file_store.proofs.MovedBlocks.{marks-moved}
+use Rattle.file_store.proofs.Durable.{Tells, proceeds_on, kept_proceeds, applied_proceeds, applied_live}
+use Rattle.file_store.proofs.EachOf.{each-weaker, each-both, each-join, each-mapped}
+use Rattle.file_store.proofs.GrownBodies.{grown, changed-grown}
+use Rattle.file_store.proofs.LiveKeys.{key_on-live}
+use Rattle.file_store.proofs.MappedFlags.{touched-below, touched-ascends}
+use Rattle.file_store.proofs.Marks.{length-marks, marks_there, marks-moved, ArePlaces, are_places}
+use Rattle.file_store.proofs.Putting.{places-mapped, blocks-mapped}
 use Rattle.file_store.proofs.RewriteRecords.{after_rewriting, can_stand}
-use Rattle.file_store.proofs.Taking.{ArePlaces, are_places}
-use Rattle.file_store.proofs.Changing.{put_proceeds, put_live, put_current}
-use Rattle.file_store.proofs.Applied.{Tells, applied_proceeds, applied_live}
-use Rattle.file_store.proofs.Durable.{proceeds_on, commit_proceeds}
-use Rattle.file_store.proofs.EachOf.{each-join}
+use Rattle.file_store.proofs.WithBodies.{IsFound, bytes-held, body-of}
 
 -- ---- blocks that a file frees
 
@@ -66,22 +63,11 @@ all-under P (b ∷ bs) ps all =
 all-freed : (P : ℕ → Type 0) (size : ℕ) (bs : List ℕ) (ps : List (Option ℕ)) → AllByRecursion P (present ps) → AllByRecursion P (freed_by size bs ps)
 all-freed P size bs ps all = each-join P (present (drop (blocks_in size) ps)) (present (places_under bs ps)) (all-present P (blocks_in size) ps all) (all-under P bs ps all)
 
--- ---- marks that are there stay where more are marked
-
-marks_kept : (places : List ℕ) (flags : List Bool) (bs : List ℕ) → AllByRecursion (λ b. get_or flags b false ≡ true) bs → AllByRecursion (λ b. get_or (marked places flags) b false ≡ true) bs
-marks_kept places flags [] all = tt
-marks_kept places flags (b ∷ bs) all = (marked_keeps places flags b all.0, marks_kept places flags bs all.1)
-
 -- each block of a run below so many, at a place below so many
-fit : (n total : ℕ) (bs ps : List ℕ) → AllByRecursion (λ b. b < n) bs → AllByRecursion (λ p. p < total) ps → AllByRecursion (λ (m : Mapping). (m.block < n) × (m.place < total)) (mappings_of bs ps)
-fit n total [] ps low within = tt
-fit n total (b ∷ bs) [] low within = tt
-fit n total (b ∷ bs) (p ∷ ps) low within = ((low.0, within.0), fit n total bs ps low.1 within.1)
-
-at_places : (total : ℕ) (bs ps : List ℕ) → AllByRecursion (λ p. p < total) ps → AllByRecursion (λ (m : Mapping). m.place < total) (mappings_of bs ps)
-at_places total [] ps within = tt
-at_places total (b ∷ bs) [] within = tt
-at_places total (b ∷ bs) (p ∷ ps) within = (within.0, at_places total bs ps within.1)
+fit : (n total : ℕ) (bs ps : List ℕ) → length ps ≡ length bs → AllByRecursion (λ b. b < n) bs → AllByRecursion (λ p. p < total) ps → AllByRecursion (λ (m : Mapping). (m.block < n) × (m.place < total)) (mappings_of bs ps)
+fit n total bs ps long low within =
+    each-both (λ (m : Mapping). m.block < n) (λ (m : Mapping). m.place < total) (λ (m : Mapping). (m.block < n) × (m.place < total)) (λ m a b. (a, b)) (mappings_of bs ps)
+    (each-mapped (λ b. b < n) (λ (m : Mapping). m.block) (mappings_of bs ps) (rw (blocks-mapped bs ps long) low)) (each-mapped (λ p. p < total) (λ (m : Mapping). m.place) (mappings_of bs ps) (rw (places-mapped bs ps long) within))
 
 -- the body of that file, and how many bytes it has after the change
 abbrev pub body_of : List (List ℕ) → FileKey → List ℕ
@@ -120,7 +106,7 @@ module _ {D : Type 0} (g : disk.Ghosts D) (s : Store D) (bs : List (List ℕ)) (
   long = omega (arith, x.enough, ap length x.taken, length-take (length blocks) (free s.space))
 
   are : ArePlaces s.meta.current s.meta.durable places
-  are = rw x.taken (are_places s.meta.current s.meta.durable s.space (length blocks) x.lawful.current x.live.marks x.live.marked)
+  are = rw x.taken (are_places s.meta.current x.lawful.current s.meta.durable s.space (length blocks) x.live.marks x.live.marked)
 
   geometry : s.meta.current.geometry ≡ s.meta.durable.geometry
   geometry = x.lawful.stored.geometry
@@ -128,8 +114,8 @@ module _ {D : Type 0} (g : disk.Ghosts D) (s : Store D) (bs : List (List ℕ)) (
   pub apart : Distinct places
   apart = are.distinct
 
-  pub within : AllByRecursion (λ m. m.place < (geometry_of s.meta.durable.geometry).blocks) ms
-  within = at_places (geometry_of s.meta.durable.geometry).blocks blocks places (subst (λ (z : ℕ). AllByRecursion (λ p. p < (geometry_of z).blocks) places) geometry are.within)
+  pub within : AllByRecursion (λ p. p < (geometry_of s.meta.durable.geometry).blocks) places
+  within = subst (λ (z : ℕ). AllByRecursion (λ p. p < (geometry_of z).blocks) places) geometry are.within
 
   low : AllByRecursion (λ b. b < blocks_in size) blocks
   low = rw x.touched (touched-below change (length body))
@@ -142,7 +128,7 @@ module _ {D : Type 0} (g : disk.Ghosts D) (s : Store D) (bs : List (List ℕ)) (
 
     pub stand : CanStandAll records s.meta.current
     stand =
-        can_stand k.ino size ms records s.meta.current x.at.file is x.few (rw key x.at.found) (fit (blocks_in size) (geometry_of s.meta.current.geometry).blocks blocks places low are.within)
+        can_stand k.ino size ms records s.meta.current x.at.file is x.few (rw key x.at.found) (fit (blocks_in size) (geometry_of s.meta.current.geometry).blocks blocks places long low are.within)
         (λ n. let once = are.once n in omega (arith, uses-append n (blocks_of s.meta.current.files) places, ap (uses n) (places-mapped blocks places long)))
 
     pub become : after_all records s.meta.current ≡ next
@@ -181,44 +167,86 @@ module _ {D : Type 0} (g : disk.Ghosts D) (s : Store D) (bs : List (List ℕ)) (
   bytes was holds =
       sym (bytes-held (bytes_at was) s.meta.current k x.at.file x.at.found) ∙ ap (λ (h : Held). bytes_of k h.files) (holds ∙ x.held) ∙ bytes-held (bytes_with bs) s.meta.current k x.at.file x.at.found ∙ body-of bs s.meta x.files k x.at
 
-  module _ (mid : D) (keeps : Keeps g s.disk mid (IsBesideBlocks (layout_of s.meta.durable.geometry).blocks (places_of ms))) where
-    keeps_places : Keeps g s.disk mid (IsBesideBlocks (layout_of s.meta.durable.geometry).blocks places)
-    keeps_places = subst (λ (ps : List ℕ). Keeps g s.disk mid (IsBesideBlocks (layout_of s.meta.durable.geometry).blocks ps)) (places-mapped blocks places long) keeps
+  module _ (mid : D) (keeps : Keeps g s.disk mid (IsBesideBlocks (layout_of s.meta.durable.geometry).blocks places)) where
+    -- what recovery finds is what was durable
+    abbrev Was : List ℕ → Type 0
+    Was c = IsImage s.meta.fsid s.meta.number s.meta.durable c × (held_at (blocks_in_image s.meta.durable.geometry c) s.meta.durable ≡ s.durable)
+
+    was : (c : List ℕ) → MayBe g s.disk c → Was c
+    was c may = (x.live.backs.image c may, x.live.stored c may)
+
+    stays : (d c : List ℕ) → Was d → IsBesideBlocks (layout_of s.meta.durable.geometry).blocks places d c → Was c
+    stays d c w step = (
+      image_beside s.meta.durable.geometry places d c step s.meta refl w.0,
+      held_beside s.meta.durable.geometry places d c step s.meta.durable refl x.lawful.stored.catalog are.free ∙ w.1,
+    )
+
+    found : (n : ℕ) (c : List ℕ) → Was c → IsEither s n c
+    found n c w = inl (record { catalog = s.meta.durable; same = refl; is = w.0; holds = w.1 })
 
     pub written_proceeds : (n : ℕ) (t : Store D) → t.disk ≡ mid → t.meta ≡ s.meta → t.durable ≡ s.durable → Proceeds g s n t
-    written_proceeds = put_proceeds g s x.lawful x.live places are.unused are.free mid keeps_places
+    written_proceeds n t disk_is meta_is durable_is = record {
+      geometry = ap (λ (m : Meta). m.durable.geometry) meta_is;
+      fsid = ap (λ (m : Meta). m.fsid) meta_is;
+      moments = subst (λ (e : D). LeavesOnly g s.disk e (IsEither s n)) (sym disk_is) (holds_on g s.disk mid _ Was (IsEither s n) keeps was (λ d c w step. found n c (stays d c w step)));
+      now = λ c may. found n c (holds_now g s.disk mid _ Was Was keeps was stays c (subst (λ (e : D). MayBe g e c) disk_is may));
+      durable = inl (ap (λ (m : Meta). m.number) meta_is, durable_is);
+    }
 
     module _ (written : Follows (HasBlocks (layout_of s.meta.durable.geometry).blocks (rebody (effect_of change) (grown size body)) ms) (g.gives s.disk) (g.gives mid)) where
       abbrev after : List ℕ
       after = rebody (effect_of change) body
 
-      has_blocks : Follows (HasBlocks (layout_of s.meta.durable.geometry).blocks after ms) (g.gives s.disk) (g.gives mid)
-      has_blocks =
-          subst (λ (b : List ℕ). Follows (HasBlocks (layout_of s.meta.durable.geometry).blocks b ms) (g.gives s.disk) (g.gives mid)) (changed-grown change body) written
+      abbrev base : ℕ
+      base = (layout_of s.meta.durable.geometry).blocks
 
+      has_blocks : Follows (HasBlocks base after ms) (g.gives s.disk) (g.gives mid)
+      has_blocks = subst (λ (b : List ℕ). Follows (HasBlocks base b ms) (g.gives s.disk) (g.gives mid)) (changed-grown change body) written
+
+      beside : (d c : List ℕ) → HasBlocks base after ms d c → IsBesideBlocks base places d c
+      beside d c step = subst (λ (ps : List ℕ). IsBesideBlocks base ps d c) (places-mapped blocks places long) step.beside
+
+      -- the store stays as it is
       pub written_live : IsLive g (record s { disk = mid })
-      written_live = put_live g s x.lawful x.live places are.unused are.free mid keeps_places after ms (places-mapped blocks places long) has_blocks
+      written_live = record {
+        backs = backs_beside g s.disk mid s.meta.durable.geometry places s.meta keeps refl x.live.backs;
+        stored = λ c may. (holds_now g s.disk mid _ Was Was keeps was stays c may).1;
+        current = λ c gives.
+            let p = has_blocks c gives in
+            held_beside s.meta.durable.geometry places p.0 c (beside p.0 c p.2) s.meta.current geometry x.lawful.current are.unused ∙ x.live.current p.0 p.1;
+        marks = x.live.marks;
+        marked = x.live.marked;
+        settled = x.live.settled;
+      }
 
+      -- and reads give the new blocks, with all that files use
       holds_next : (c : List ℕ) → g.gives mid c → held_at (blocks_in_image s.meta.durable.geometry c) next ≡ held_next
-      holds_next =
-          put_current g s x.lawful x.live places are.unused are.free mid keeps_places after ms (places-mapped blocks places long) has_blocks within next held_next (λ was now holds whole stays there.
-          held-changed was now s.meta.current stays change k size ms x.at.file body x.lawful.current whole x.may x.at.found (bytes was holds) refl (blocks-mapped blocks places long ∙ x.touched) there
-          ∙ ap (λ (h : Held). record h { files = affected_held (effect_of change) k h.files }) holds)
+      holds_next c gives =
+          let p = has_blocks c gives in
+          let was : List ℕ = blocks_in_image s.meta.durable.geometry p.0 in
+          let now : List ℕ = blocks_in_image s.meta.durable.geometry c in
+          let holds = x.live.current p.0 p.1 in
+          let there : AllByRecursion (λ (m : Mapping). part now (4096 * m.place) 4096 ≡ block_of after m.block) ms =
+          each-both (λ (m : Mapping). m.place < (geometry_of s.meta.durable.geometry).blocks) _ _ (λ m low is. block_in s.meta.durable.geometry c m.place low ∙ is) ms
+          (each-mapped (λ q. q < (geometry_of s.meta.durable.geometry).blocks) (λ (m : Mapping). m.place) ms (rw (places-mapped blocks places long) within)) p.2.there in
+          held-changed was now s.meta.current (used_stay s.meta.durable.geometry places p.0 c (beside p.0 c p.2) s.meta.current geometry x.lawful.current are.unused) change k size ms x.at.file body x.lawful.current
+          (λ b lt. length-block s.meta.durable.geometry p.0 b (subst (λ z. b < (geometry_of z).blocks) geometry lt) (x.live.backs.image p.0 (inr p.1)).found.size)
+          x.may x.at.found (bytes was holds) refl (blocks-mapped blocks places long ∙ x.touched) there
+          ∙ ap (λ (h : Held). record h { files = affected_held (effect_of change) k h.files }) holds
 
       joined : (n : ℕ) (t : Store D) → Proceeds g (record s { disk = mid }) n t → Proceeds g s n t
       joined n t more = proceeds_on g s (record s { disk = mid }) t n (written_proceeds n (record s { disk = mid }) refl refl refl) refl more
 
       -- the records aren't taken
-      pub kept_proceeds : (n : ℕ) (t : Store D) → StoresOrKeeps g mid t.disk s.meta n → t.meta ≡ s.meta → t.durable ≡ s.durable → Proceeds g s n t
-      kept_proceeds n t turns meta_is durable_is =
-          joined n t (commit_proceeds g (record s { disk = mid }) x.lawful written_live n t turns (ap (λ (m : Meta). m.durable.geometry) meta_is) (ap (λ (m : Meta). m.fsid) meta_is) (inl (ap (λ (m : Meta). m.number) meta_is, durable_is)))
+      pub refused_proceeds : (n : ℕ) (t : Store D) → StoresOrKeeps g mid t.disk s.meta n → t.meta ≡ s.meta → t.durable ≡ s.durable → Proceeds g s n t
+      refused_proceeds n t turns meta_is durable_is = joined n t (kept_proceeds g (record s { disk = mid }) x.lawful written_live n t turns meta_is durable_is)
 
       -- they are
       pub done_proceeds : (n : ℕ) (t : Store D) (wrote : Bool) → StoresOrKeeps g mid t.disk s.meta n → Tells g mid s.meta n wrote t.disk t.meta → t.durable ≡ (if wrote then s.held else s.durable) → Proceeds g s n t
       done_proceeds n t wrote turns tells durable_is = joined n t (applied_proceeds g (record s { disk = mid }) x.lawful written_live n t wrote turns tells durable_is)
 
       has_marks : AllByRecursion (λ b. get_or (marked places s.space.current) b false ≡ true) (blocks_of s.meta.current.files)
-      has_marks = rw x.live.marks (marks_kept places (marks_of s.meta.current) (blocks_of s.meta.current.files) (marks_there s.meta.current x.lawful.current))
+      has_marks = each-weaker (λ b. get_or s.space.current b false ≡ true) _ (λ b. marked_keeps places s.space.current b) (blocks_of s.meta.current.files) (rw x.live.marks (marks_there s.meta.current x.lawful.current))
 
       pub done_live : (n : ℕ) (t : Store D) (wrote : Bool) (freed : List ℕ) → freed ≡ freed_by size blocks x.at.file.places → Backs g t.disk t.meta → t.meta.current ≡ next → t.held ≡ held_next → t.space.current ≡ unmarked freed (marked places s.space.current)
           → t.space.durable ≡ (if wrote then marked places s.space.current else s.space.durable) → t.pending ≡ true → Tells g mid s.meta n wrote t.disk t.meta → t.durable ≡ (if wrote then s.held else s.durable) → IsLive g t

@@ -1,46 +1,57 @@
--- The body of one inode in memory becomes another. Those of all other files stay.
-use Rattle.std.proofs.Common.{◌≡◌, ℕ, ◌+◌, ◌-◌, ◌≤◌, List, [], ◌∷◌, set, true, false, cond, Some, eqb, refl, arith, get_or-set_other}
+-- Files with their bodies in memory, after a record that concerns no bytes, and after a change of the bytes of one.
+use Rattle.std.proofs.Common.{◌≡◌, ℕ, ◌+◌, ◌-◌, ◌≤◌, List, [], ◌∷◌, length, map, get_or, set, true, false, cond, Option, Some, eqb, refl, sym, ◌∙◌, ap, subst, arith, length-set, get_or-set_same, get_or-set_other}
 use Rattle.std.specs.List.{AllByRecursion}
+use Rattle.std.specs.Option.{IsSome, option_map}
 use Rattle.std.proofs.lemmas.Bool.{eqb-true, eqb-false, ne_eqb, and_parts}
 use Rattle.hsm_types.specs.declared.keys.FileKey.{FileKey}
-use Rattle.plain_model.specs.Keyed.{same_key, find_key, drop_key}
+use Rattle.plain_model.specs.Keyed.{same_key, find_key, change_key, drop_key}
+use Rattle.plain_model.specs.Plain.{rebody}
+use Rattle.plain_model.specs.Blocks.{touched, size_after}
+use Rattle.plain_model.specs.State.{FileState, file_or_new, bytes_of, affected_held}
 use Rattle.inode_table.specs.Listing.{has_inode, Ascend, Within}
 use Rattle.inode_table.proofs.Choices.{neither}
 use Rattle.inode_table.proofs.Orders.{absent-low, ascend-drop}
-use Rattle.meta_store.specs.Catalogs.{CatalogFile, names_of}
-use Rattle.meta_store.proofs.FileEdits.{names_of-drop}
-use Rattle.file_store.specs.Bodies.{bytes_with}
-use Rattle.file_store.proofs.FilesBy.{SameBytes}
+use Rattle.meta_store.specs.declared.snapshot.Mapping.{Mapping}
+use Rattle.meta_store.specs.declared.records.Record.{Record}
+use Rattle.meta_store.specs.declared.records.Record.TheVariants.{Make, Drop, Size, Map}
+use Rattle.meta_store.specs.Catalogs.{CatalogFile, Catalog, IsCatalog, geometry_of, names_of}
+use Rattle.meta_store.specs.Meta.{Meta}
+use Rattle.meta_store.specs.Records.{after, with_changed, CanStand}
+use Rattle.meta_store.proofs.FileEdits.{names_of-drop, each-drop}
+use Rattle.meta_store.proofs.FoundFiles.{each-found, key-found}
+use Rattle.file_store.specs.declared.rewrites.Rewrite.{Rewrite}
+use Rattle.file_store.specs.Bodies.{body_at, bytes_at, bytes_with, file_by, held_at, held_by, held_with}
+use Rattle.file_store.specs.Effects.{IsBodiless, held_after, empties}
+use Rattle.file_store.specs.HeldFiles.{IsHeldFiles}
+use Rattle.file_store.specs.Rewrites.{effect_of, remapped}
+use Rattle.file_store.proofs.EachOf.{each-all, each-weaker, each-both}
+use Rattle.file_store.proofs.FilesBy.{SameBytes, find-held, live-by}
+use Rattle.file_store.proofs.GrownBodies.{length-changed}
+use Rattle.file_store.proofs.HeldRecords.{KeepsBytes, held-after, sizes-after, held-rewritten}
+use Rattle.file_store.proofs.Marks.{geometry-after}
 
 -- ---- the inode of a file that is found
 
-one_inode : (j k : FileKey) → same_key j k ≡ true → j.ino ≡ k.ino
-one_inode j k same = eqb-true j.ino k.ino (and_parts (eqb j.ino k.ino) (eqb j.igen k.igen) same).0
+pub each-above : (n : ℕ) (fs : List CatalogFile) → Ascend n (names_of fs) → AllByRecursion (λ f. n ≤ f.key.ino) fs
+each-above n [] a = tt
+each-above n (f ∷ fs) a = let low = a.0 in (low, each-weaker (λ g. f.key.ino + 1 ≤ g.key.ino) (λ g. n ≤ g.key.ino) (λ g above. omega arith) fs (each-above (f.key.ino + 1) fs a.1))
 
-pub found-above : (n : ℕ) (k : FileKey) (f : CatalogFile) (fs : List CatalogFile) → Ascend n (names_of fs) → find_key (λ x. x.key) k fs ≡ Some f → n ≤ k.ino
-found-above n k f [] a found = cc
-found-above n k f (e ∷ fs) a found =
-    let low = a.0 in
-    elim (same_key e.key k) as (λ b. same_key e.key k ≡ b → cond b (Some e) (find_key (λ x. x.key) k fs) ≡ Some f → n ≤ k.ino) [
-      | true ↦ λ same is. let it = one_inode e.key k same in omega arith
-      | false ↦ λ other is. let more = found-above (e.key.ino + 1) k f fs a.1 is in omega arith
-    ] refl found
+pub each-within : (limit next : ℕ) (fs : List CatalogFile) → Within limit next (names_of fs) → AllByRecursion (λ f. f.key.ino ≤ limit) fs
+each-within limit next [] w = tt
+each-within limit next (f ∷ fs) w = (w.0, each-within limit next fs w.2)
 
-pub found-within : (limit next : ℕ) (k : FileKey) (f : CatalogFile) (fs : List CatalogFile) → Within limit next (names_of fs) → find_key (λ x. x.key) k fs ≡ Some f → k.ino ≤ limit
-found-within limit next k f [] w found = cc
-found-within limit next k f (e ∷ fs) w found =
-    let high = w.0 in
-    elim (same_key e.key k) as (λ b. same_key e.key k ≡ b → cond b (Some e) (find_key (λ x. x.key) k fs) ≡ Some f → k.ino ≤ limit) [
-      | true ↦ λ same is. let it = one_inode e.key k same in omega arith
-      | false ↦ λ other is. found-within limit next k f fs w.2 is
-    ] refl found
+found-by : (P : ℕ → Type 0) (k : FileKey) (f : CatalogFile) (fs : List CatalogFile) → AllByRecursion (λ f. P f.key.ino) fs → find_key (λ x. x.key) k fs ≡ Some f → P k.ino
+found-by P k f fs each found = subst (λ (j : FileKey). P j.ino) (key-found k f fs found) (each-found (λ g. P g.key.ino) k f fs each found)
+
+found-above : (n : ℕ) (k : FileKey) (f : CatalogFile) (fs : List CatalogFile) → Ascend n (names_of fs) → find_key (λ x. x.key) k fs ≡ Some f → n ≤ k.ino
+found-above n k f fs a found = found-by (λ ino. n ≤ ino) k f fs (each-above n fs a) found
 
 -- Once it is dropped no file has the inode.
 dropped-inode : (n : ℕ) (k : FileKey) (f : CatalogFile) (fs : List CatalogFile) → Ascend n (names_of fs) → find_key (λ x. x.key) k fs ≡ Some f → has_inode k.ino (names_of (drop_key (λ x. x.key) k fs)) ≡ false
 dropped-inode n k f [] a found = cc
 dropped-inode n k f (e ∷ fs) a found =
     elim (same_key e.key k) as (λ b. same_key e.key k ≡ b → cond b (Some e) (find_key (λ x. x.key) k fs) ≡ Some f → has_inode k.ino (names_of (cond b fs (e ∷ drop_key (λ x. x.key) k fs))) ≡ false) [
-      | true ↦ λ same is. let it = one_inode e.key k same in absent-low k.ino (e.key.ino + 1) (names_of fs) a.1 (omega arith)
+      | true ↦ λ same is. let it = eqb-true e.key.ino k.ino (and_parts (eqb e.key.ino k.ino) (eqb e.key.igen k.igen) same).0 in absent-low k.ino (e.key.ino + 1) (names_of fs) a.1 (omega arith)
       | false ↦ λ other is.
           let above = found-above (e.key.ino + 1) k f fs a.1 is in
           rw (ne_eqb e.key.ino k.ino (λ same. absurd (omega arith))) (dropped-inode (e.key.ino + 1) k f fs a.1 is)
@@ -49,7 +60,7 @@ dropped-inode n k f (e ∷ fs) a found =
 -- ---- the files that keep their bodies
 
 -- where no file has the inode
-pub stay-unused : (bs : List (List ℕ)) (n ino : ℕ) (x : List ℕ) (fs : List CatalogFile) → 1 ≤ ino → 1 ≤ n → Ascend n (names_of fs) → has_inode ino (names_of fs) ≡ false → AllByRecursion (SameBytes (bytes_with bs) (bytes_with (set bs (ino - 1) x))) fs
+stay-unused : (bs : List (List ℕ)) (n ino : ℕ) (x : List ℕ) (fs : List CatalogFile) → 1 ≤ ino → 1 ≤ n → Ascend n (names_of fs) → has_inode ino (names_of fs) ≡ false → AllByRecursion (SameBytes (bytes_with bs) (bytes_with (set bs (ino - 1) x))) fs
 stay-unused bs n ino x [] low from a free = tt
 stay-unused bs n ino x (f ∷ fs) low from a free =
     let parts = neither (eqb f.key.ino ino) (has_inode ino (names_of fs)) free in
@@ -58,7 +69,132 @@ stay-unused bs n ino x (f ∷ fs) low from a free =
     (get_or-set_other bs (ino - 1) (f.key.ino - 1) x [] (λ same. other (omega arith)), stay-unused bs (f.key.ino + 1) ino x fs low (omega arith) a.1 parts.1)
 
 -- where a file has it, those beside that one
-pub stay-beside : (bs : List (List ℕ)) (k : FileKey) (x : List ℕ) (f : CatalogFile) (fs : List CatalogFile) → Ascend 1 (names_of fs) → find_key (λ y. y.key) k fs ≡ Some f
+stay-beside : (bs : List (List ℕ)) (k : FileKey) (x : List ℕ) (f : CatalogFile) (fs : List CatalogFile) → Ascend 1 (names_of fs) → find_key (λ y. y.key) k fs ≡ Some f
     → AllByRecursion (SameBytes (bytes_with bs) (bytes_with (set bs (k.ino - 1) x))) (drop_key (λ y. y.key) k fs)
 stay-beside bs k x f fs a found =
     stay-unused bs 1 k.ino x (drop_key (λ y. y.key) k fs) (found-above 1 k f fs a found) (omega arith) (rw (names_of-drop k fs) (ascend-drop 1 k (names_of fs) a)) (dropped-inode 1 k f fs a found)
+
+-- ---- a record that concerns no bytes, among data blocks
+
+empty_at : (blocks : List ℕ) → body_at blocks 0 [] ≡ []
+unfolding body_at
+empty_at blocks = refl
+
+keeps-at : (blocks : List ℕ) (k : FileKey) (r : Record) (c : Catalog) → KeepsBytes (bytes_at blocks) (bytes_at blocks) k r c
+keeps-at blocks k (Make key name) c = (each-all (SameBytes (bytes_at blocks) (bytes_at blocks)) (λ f. refl) c.files, empty_at blocks)
+keeps-at blocks k (Drop ino) c = each-all (SameBytes (bytes_at blocks) (bytes_at blocks)) (λ f. refl) _
+keeps-at blocks k r c = λ f. refl
+
+pub held_at-after : (blocks : List ℕ) (k : FileKey) (r : Record) (c : Catalog) → IsBodiless k r c → CanStand r c → held_at blocks (after r c) ≡ held_after k r (held_at blocks c)
+held_at-after blocks k r c is stands = held-after (bytes_at blocks) (bytes_at blocks) (λ f kept. refl) k r c is stands (keeps-at blocks k r c)
+
+-- ---- in memory, where the body of the inode is empty once its file is new or gone
+
+abbrev pub bodies_after : FileKey → Record → List (List ℕ) → List (List ℕ)
+bodies_after k r bs = cond (empties r) (set bs (k.ino - 1) []) bs
+
+pub bytes-held : (B : CatalogFile → List ℕ) (c : Catalog) (k : FileKey) (f : CatalogFile) → find_key (λ x. x.key) k c.files ≡ Some f → bytes_of k (held_by B c).files ≡ B f
+bytes-held B c k f found = ap (λ (o : Option FileState). (file_or_new k o).body) (find-held B k c ∙ ap (option_map (file_by B)) found)
+
+pub body-held : (bs : List (List ℕ)) (c : Catalog) (k : FileKey) (f : CatalogFile) → find_key (λ x. x.key) k c.files ≡ Some f → bytes_of k (held_with bs c).files ≡ get_or bs (k.ino - 1) []
+body-held bs c k f found = bytes-held (bytes_with bs) c k f found ∙ ap (λ (j : FileKey). get_or bs (j.ino - 1) []) (key-found k f c.files found)
+
+-- the same files, whatever is durable
+pub same-files : (bs : List (List ℕ)) (m n : Meta) → n.current ≡ m.current → IsHeldFiles bs m → IsHeldFiles bs n
+same-files bs m n same is = record { catalog = rw same is.catalog; sizes = rw same is.sizes; count = rw same is.count }
+
+-- the file has the key, and its inode is one of those that there are
+pub record IsFound (limit : ℕ) (c : Catalog) (k : FileKey) : Type 0 where
+  pub file : CatalogFile
+  pub found : find_key (λ f. f.key) k c.files ≡ Some file
+  pub low : 1 ≤ k.ino
+  pub high : k.ino ≤ limit
+
+module _ (bs : List (List ℕ)) (m : Meta) (is : IsHeldFiles bs m) where
+  found-there : (k : FileKey) (f : CatalogFile) → find_key (λ x. x.key) k m.current.files ≡ Some f → IsFound (length bs) m.current k
+  found-there k f found =
+      let files = m.current.files in
+      let table = is.catalog.table in
+      let within = found-by (λ ino. ino ≤ (geometry_of m.current.geometry).files) k f files (each-within _ m.current.next files table.within) found in
+      record { file = f; found = found; low = found-above 1 k f files table.ascend found; high = rw is.count within }
+
+  pub live-held : (k : FileKey) → IsSome (find_key (λ f. f.key) k (held_with bs m.current).files) → IsFound (length bs) m.current k
+  live-held k live = let f = live-by (bytes_with bs) k m.current live in found-there k f.0 f.1
+
+  -- the inode is one of those that there are
+  pub slot-there : (k : FileKey) (r : Record) → empties r ≡ true → IsBodiless k r m.current → CanStand r m.current → (1 ≤ k.ino) × (k.ino ≤ length bs)
+  slot-there k (Make key name) new same stands = subst (λ (j : FileKey). (1 ≤ j.ino) × (j.ino ≤ length bs)) same (stands.low, rw is.count stands.high)
+  slot-there k (Drop ino) gone same stands = let at = found-there k stands.0 (rw (← same) stands.1) in (at.low, at.high)
+  slot-there k r never same stands = cc
+
+  keeps-with : (k : FileKey) (r : Record) → IsBodiless k r m.current → CanStand r m.current → KeepsBytes (bytes_with bs) (bytes_with (bodies_after k r bs)) k r m.current
+  keeps-with k (Make key name) same stands =
+      let low = stands.low in
+      let high = stands.high in
+      let count = is.count in
+      subst (λ (j : FileKey). KeepsBytes (bytes_with bs) (bytes_with (set bs (j.ino - 1) [])) j (Make key name) m.current) same
+      (stay-unused bs 1 key.ino [] m.current.files stands.low (omega arith) is.catalog.table.ascend stands.inode, get_or-set_same bs (key.ino - 1) [] [] (omega arith))
+  keeps-with k (Drop ino) same stands = stay-beside bs k [] stands.0 m.current.files is.catalog.table.ascend (rw (← same) stands.1)
+  keeps-with k (Size ino size) same stands = absurd same
+  keeps-with k (Map ino block places) same stands = absurd same
+  keeps-with k r same stands = λ f. refl
+
+  count-after : (k : FileKey) (r : Record) → length (bodies_after k r bs) ≡ length bs
+  count-after k (Make key name) = length-set bs (k.ino - 1) []
+  count-after k (Drop ino) = length-set bs (k.ino - 1) []
+  count-after k r = refl
+
+  pub held_with-after : (k : FileKey) (r : Record) → IsBodiless k r m.current → CanStand r m.current → held_with (bodies_after k r bs) (after r m.current) ≡ held_after k r (held_with bs m.current)
+  held_with-after k r same stands = held-after (bytes_with bs) (bytes_with (bodies_after k r bs)) (λ f kept. refl) k r m.current same stands (keeps-with k r same stands)
+
+  pub IsHeldFiles-after : (k : FileKey) (r : Record) (n : Meta) → IsBodiless k r m.current → CanStand r m.current → n.current ≡ after r m.current → IsCatalog n.current → IsHeldFiles (bodies_after k r bs) n
+  IsHeldFiles-after k r n same stands current lawful = record {
+    catalog = lawful;
+    sizes = rw current (sizes-after (bytes_with bs) (bytes_with (bodies_after k r bs)) (λ f kept. refl) k r m.current same (keeps-with k r same stands) is.sizes);
+    count = count-after k r ∙ is.count ∙ ap (λ (g : ℕ). (geometry_of g).files) (sym (ap (λ (c : Catalog). c.geometry) current ∙ geometry-after r m.current));
+  }
+
+-- ---- and after a change of the bytes of one file
+
+-- what is true of the others and of the changed file is true of each
+each-changed : (P : CatalogFile → Type 0) (k : FileKey) (to : CatalogFile → CatalogFile) (f : CatalogFile) (fs : List CatalogFile) → find_key (λ g. g.key) k fs ≡ Some f → P (to f) → AllByRecursion P (drop_key (λ g. g.key) k fs) → AllByRecursion P (change_key (λ g. g.key) k to fs)
+each-changed P k to f [] found here others = cc
+each-changed P k to f (e ∷ fs) found here others =
+    elim (same_key e.key k) as (λ b. cond b (Some e) (find_key (λ x. x.key) k fs) ≡ Some f → AllByRecursion P (cond b fs (e ∷ drop_key (λ x. x.key) k fs)) → AllByRecursion P (cond b (to e ∷ fs) (e ∷ change_key (λ x. x.key) k to fs))) [
+      | true ↦ λ is all. let it : f ≡ e = cc in (subst (λ (g : CatalogFile). P (to g)) it here, all)
+      | false ↦ λ is all. (all.0, each-changed P k to f fs is here all.1)
+    ] found others
+
+module _ (bs : List (List ℕ)) (m : Meta) (is : IsHeldFiles bs m) (k : FileKey) (at : IsFound (length bs) m.current k) where
+  ino_is : at.file.key ≡ k
+  ino_is = key-found k at.file m.current.files at.found
+
+  pub body-of : bytes_with bs at.file ≡ get_or bs (k.ino - 1) []
+  body-of = ap (λ (j : FileKey). get_or bs (j.ino - 1) []) ino_is
+
+  module _ (change : Rewrite) (size : ℕ) (ms : List Mapping) (after : size ≡ size_after (effect_of change) (length (get_or bs (k.ino - 1) []))) (blocks : map (λ m. m.block) ms ≡ touched (effect_of change) (length (get_or bs (k.ino - 1) []))) where
+    abbrev new : List (List ℕ)
+    new = set bs (k.ino - 1) (rebody (effect_of change) (get_or bs (k.ino - 1) []))
+
+    becomes : bytes_with new (remapped size ms at.file) ≡ rebody (effect_of change) (get_or bs (k.ino - 1) [])
+    becomes =
+        let low = at.low in
+        let high = at.high in
+        ap (λ (j : FileKey). get_or new (j.ino - 1) []) ino_is ∙ get_or-set_same bs (k.ino - 1) (rebody (effect_of change) (get_or bs (k.ino - 1) [])) [] (omega arith)
+
+    others : AllByRecursion (SameBytes (bytes_with bs) (bytes_with new)) (drop_key (λ g. g.key) k m.current.files)
+    others = stay-beside bs k (rebody (effect_of change) (get_or bs (k.ino - 1) [])) at.file m.current.files is.catalog.table.ascend at.found
+
+    pub held_with-rewritten : held_with new (with_changed k (remapped size ms) m.current) ≡ record (held_with bs m.current) { files = affected_held (effect_of change) k (held_with bs m.current).files }
+    held_with-rewritten =
+        held-rewritten (bytes_with bs) (bytes_with new) k change size ms m.current at.file at.found (after ∙ ap (λ (b : List ℕ). size_after (effect_of change) (length b)) (sym body-of)) (blocks ∙ ap (λ (b : List ℕ). touched (effect_of change) (length b)) (sym body-of))
+        (becomes ∙ ap (rebody (effect_of change)) (sym body-of)) others
+
+    pub IsHeldFiles-rewritten : (t : Meta) → t.current ≡ with_changed k (remapped size ms) m.current → IsCatalog t.current → IsHeldFiles new t
+    IsHeldFiles-rewritten t current lawful = record {
+      catalog = lawful;
+      sizes = rw current (each-changed (λ f. length (bytes_with new f) ≡ f.size) k (remapped size ms) at.file m.current.files at.found (ap length becomes ∙ length-changed change _ ∙ sym after)
+          (each-both (SameBytes (bytes_with bs) (bytes_with new)) (λ f. length (bytes_with bs f) ≡ f.size) (λ f. length (bytes_with new f) ≡ f.size) (λ f same sized. ap length same ∙ sized) (drop_key (λ g. g.key) k m.current.files) others
+          (each-drop (λ f. length (bytes_with bs f) ≡ f.size) k m.current.files is.sizes)));
+      count = length-set bs (k.ino - 1) _ ∙ is.count ∙ ap (λ (c : Catalog). (geometry_of c.geometry).files) (sym current);
+    }

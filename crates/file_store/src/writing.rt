@@ -7,7 +7,7 @@ ghost use Rattle.disk_model.specs.Moments.{Keeps};
 ghost use Rattle.plain_model.specs.Distinct.{Distinct};
 ghost use Rattle.plain_model.specs.Plain.{rebody};
 ghost use Rattle.plain_model.specs.Blocks.{size_after};
-ghost use Rattle.file_store.specs.Steps.{places_of, IsBesideBlocks, HasBlocks};
+ghost use Rattle.file_store.specs.Steps.{IsBesideBlocks, HasBlocks};
 ghost use Rattle.file_store.specs.Rewrites.{effect_of, IsRewrite, mappings_of};
 
 use crate::rewrites::Rewrite;
@@ -29,9 +29,9 @@ pub(crate) fn put_blocks<D: Disk>(
     requires grows { 0 < length blocks.now → length body.now ≤ size_after (effect_of change) (length body.now) }
     requires count { length places.now ≡ length blocks.now }
     requires low { base < 2 ^ 32 }
-    requires fits { AllByRecursion (λ m. base + 4096 * m.place + 4096 ≤ D.length_of disk.old) (mappings_of blocks.now places.now) }
+    requires fits { AllByRecursion (λ p. base + 4096 * p + 4096 ≤ D.length_of disk.old) places.now }
     requires apart { Distinct places.now }
-    ensures any_moment { Keeps D.Disk disk.old disk.new (IsBesideBlocks base (places_of (mappings_of blocks.now places.now))) }
+    ensures any_moment { Keeps D.Disk disk.old disk.new (IsBesideBlocks base places.now) }
     ensures written { OnOk result (Follows (HasBlocks base (rebody (effect_of change.entry) body.now) (mappings_of blocks.now places.now)) (D.gives disk.old) (D.gives disk.new)) }
     ensures cause { HasCause result (D.fault_count disk.old) (D.fault_count disk.new) }
 {

@@ -3,7 +3,8 @@ use Rattle.std.specs.Prelude.{OnOk}
 use Rattle.disk_model.specs.Images.{part}
 use Rattle.commit_slots.specs.Places.{layout_of}
 use Rattle.commit_slots.specs.declared.places.Layout.{Layout}
-use Rattle.file_store.proofs.Loaded.{block_fits, block_read}
+use Rattle.file_store.proofs.Beside.{block_fits}
+use Rattle.file_store.proofs.Loaded.{block_read}
 use Rattle.file_store.proofs.loading.load_block.Goals as goal
 
 pub overflow_add-layout : goal.overflow_add-layout

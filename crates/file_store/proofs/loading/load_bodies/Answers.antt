@@ -4,9 +4,8 @@ use Rattle.disk_model.proofs.Steps.{sames_on}
 use Rattle.meta_store.specs.Catalogs.{CatalogFile}
 use Rattle.meta_store.specs.Images.{blocks_in_image}
 use Rattle.file_store.specs.Bodies.{body_at, bytes_at, bytes_with}
-use Rattle.file_store.proofs.ByInode.{next-file, each-more}
+use Rattle.file_store.proofs.ByInode.{next-file, each-more, listed-count}
 use Rattle.file_store.proofs.FilesBy.{held-same}
-use Rattle.file_store.proofs.Readings.{listed-count}
 use Rattle.file_store.proofs.loading.load_bodies.Goals as goal
 
 pub slot-requires : goal.slot-requires

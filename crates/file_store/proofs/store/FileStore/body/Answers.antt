@@ -1,14 +1,14 @@
 use Rattle.std.proofs.Common.{◌-◌, [], refl, arith}
 use Rattle.std.proofs.lemmas.List.{get_or_read}
-use Rattle.file_store.proofs.LiveKeys.{live-held, body-held}
+use Rattle.file_store.proofs.WithBodies.{live-held, body-held}
 use Rattle.file_store.proofs.store.FileStore.body.Goals as goal
 
 pub slot-requires : goal.slot-requires
-slot-requires g c = (live-held c.self.inside.bodies.items c.self.inside.meta c.args.key c.self.invariant.0 (rw (← c.self.view_is) at c.requires)).low
+slot-requires g c = (live-held c.self.inside.bodies.items c.self.inside.meta c.self.invariant.0 c.args.key (rw (← c.self.view_is) at c.requires)).low
 
 pub index-requires : goal.index-requires
 index-requires g c =
-    let live = live-held c.self.inside.bodies.items c.self.inside.meta c.args.key c.self.invariant.0 (rw (← c.self.view_is) at c.requires) in
+    let live = live-held c.self.inside.bodies.items c.self.inside.meta c.self.invariant.0 c.args.key (rw (← c.self.view_is) at c.requires) in
     let low = live.low in
     let high = live.high in
     omega arith
@@ -16,7 +16,7 @@ index-requires g c =
 pub returns : goal.returns
 returns g c =
     let bs = c.self.inside.bodies.items in
-    let live = live-held bs c.self.inside.meta c.args.key c.self.invariant.0 (rw (← c.self.view_is) at c.requires) in
+    let live = live-held bs c.self.inside.meta c.self.invariant.0 c.args.key (rw (← c.self.view_is) at c.requires) in
     let low = live.low in
     let high = live.high in
     let here = get_or_read bs (c.args.key.ino - 1) c.index.result.now (omega arith) (rw c.slot.ensures at c.index.ensures) [] in

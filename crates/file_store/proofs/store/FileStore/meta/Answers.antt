@@ -1,6 +1,5 @@
 use Rattle.file_store.specs.Bodies.{bytes_with}
-use Rattle.file_store.proofs.Lawful.{held_lawful}
-use Rattle.file_store.proofs.Readings.{shows}
+use Rattle.file_store.proofs.FilesBy.{held_lawful, shows}
 use Rattle.file_store.proofs.store.FileStore.meta.Goals as goal
 
 pub returns-clause-shows : goal.returns-clause-shows

@@ -5,7 +5,7 @@ use Rattle.meta_store.specs.Catalogs.{geometry_of}
 use Rattle.file_store.specs.Bodies.{bytes_with, held_with}
 use Rattle.file_store.specs.Stores.{IsLawful}
 use Rattle.file_store.proofs.Durable.{opened_sound}
-use Rattle.file_store.proofs.Lawful.{held_lawful}
+use Rattle.file_store.proofs.FilesBy.{held_lawful}
 use Rattle.file_store.proofs.store.FileStore.open.Goals as goal
 
 pub invariant_of-result : goal.invariant_of-result

@@ -1,5 +1,5 @@
 use Rattle.std.proofs.Common.{rules, inl, Err, ◌≡◌, false, cond, refl, sym, ◌∙◌, ap, subst, arith}
-use Rattle.file_store.proofs.HeldAfter.{bodies_after, slot-there}
+use Rattle.file_store.proofs.WithBodies.{bodies_after, slot-there}
 use Rattle.file_store.proofs.Recorded.{Parts, IsRecorded, recorded, is_disk, refused_sound, refused_part, refusal_alone}
 use Rattle.file_store.proofs.Durable.{commit_proceeds, sound_idle}
 use Rattle.meta_store.specs.Records.{after_all, refusal_of_all}

@@ -24,17 +24,15 @@ use Rattle.file_store.specs.Refusals.{refused_as}
 use Rattle.file_store.specs.declared.refusal.StoreRefusal.{StoreRefusal}
 use Rattle.file_store.specs.Stores.{Store, Proceeds, IsLive}
 use Rattle.file_store.proofs.Beside.{blocks_low, blocks_fit}
-use Rattle.file_store.proofs.Counting.{used-held}
-use Rattle.file_store.proofs.Durable.{sound_idle}
+use Rattle.file_store.proofs.FilesBy.{used-held}
+use Rattle.file_store.proofs.Durable.{sound_idle, Tells, durable_held}
 use Rattle.file_store.proofs.GrownBodies.{grown, length-grown, changed-grown, grown-enough, grown-no_more, grown-back}
-use Rattle.file_store.proofs.LiveKeys.{IsFound, live-held, body-held}
+use Rattle.file_store.proofs.WithBodies.{IsFound, live-held, body-held, held_with-rewritten, IsHeldFiles-rewritten}
 use Rattle.file_store.proofs.RewriteRecords.{is_event, not_refused}
-use Rattle.file_store.proofs.RewrittenStores.{Given, body_of, size_of, long, apart, within, stand, become, places_within, freed_within, undone, written_proceeds, written_live, kept_proceeds, done_proceeds, done_live, size-few, from_same}
-use Rattle.file_store.proofs.Applied.{Tells, durable_held}
+use Rattle.file_store.proofs.RewrittenStores.{Given, body_of, size_of, long, apart, within, stand, become, places_within, freed_within, undone, written_proceeds, written_live, refused_proceeds, done_proceeds, done_live, size-few, from_same}
 use Rattle.file_store.proofs.Recorded.{is_disk, refused_sound, refused_part}
 use Rattle.file_store.proofs.Putting.{blocks-mapped}
-use Rattle.file_store.proofs.SizedBodies.{held_with-rewritten, IsHeldFiles-rewritten}
-use Rattle.file_store.proofs.Taking.{enough}
+use Rattle.file_store.proofs.Marks.{enough}
 use Rattle.file_store.proofs.store.FileStore.rewrite.Given.{Over}
 use Rattle.file_store.proofs.store.FileStore.rewrite.Goals.{After-of-before, After-count, After-as_slice-places, After-of_geometry-base, After-put_blocks, In-Ok-put_blocks, In-Ok-apply, After-apply-in-Ok-apply, After-make_durable, After-release_all-in-Ok-apply, After-resize-in-Err, After-release_all-in-Err, After-eq-self-inside}
 use Rattle.file_store.proofs.store.FileStore.rewrite.Goals as goal
@@ -48,7 +46,7 @@ abbrev store : (g : Over) → After-of-before g → Store g.row.D.Denot
 store g c = record { disk = c.self.inside.disk; meta = c.self.inside.meta; held = held_with (bodies g c) c.self.inside.meta.current; durable = held_with c.self.inside.durable.value.items c.self.inside.meta.durable; space = c.self.inside.space; pending = c.self.inside.pending; failed = c.self.inside.failed }
 
 found : (g : Over) (c : After-of-before g) → IsFound (length (bodies g c)) c.self.inside.meta.current c.args.key
-found g c = live-held (bodies g c) c.self.inside.meta c.args.key c.self.invariant.0 (rw (← c.self.view_is) at c.requires.live)
+found g c = live-held (bodies g c) c.self.inside.meta c.self.invariant.0 c.args.key (rw (← c.self.view_is) at c.requires.live)
 
 live : (g : Over) (c : After-of-before g) → IsLive g.D.Disk (store g c)
 live g c = c.self.invariant.1.live (ap (λ s. s.failed) c.self.view_is ∙ c.requires.working)
@@ -74,7 +72,7 @@ enough_free : (g : Over) (c : After-count g) → c.count.result ≤ length (free
 enough_free g c =
     let before = (goal.at.After-count g c).After-of-before in
     let l = live g before in
-    enough c.self.inside.meta.current c.self.inside.space c.count.result c.self.invariant.1.meta.current l.marks (l.settled (ap (λ s. s.pending) c.self.view_is ∙ c.requires.settled)) (room g c)
+    enough c.self.inside.meta.current c.self.invariant.1.meta.current c.self.inside.space c.count.result l.marks (l.settled (ap (λ s. s.pending) c.self.view_is ∙ c.requires.settled)) (room g c)
 
 given : (g : Over) (c : After-as_slice-places g) → Given g.D.Disk (store g (goal.at.After-as_slice-places g c).After-of-before) c.self.inside.bodies.items c.args.key c.args.change c.touched-touched.result c.as_slice-places.result.now
 given g c =
@@ -112,8 +110,8 @@ base_is g c =
     ap (λ (l : Layout). l.blocks) c.of_geometry-base.ensures
     ∙ ap (λ (z : ℕ). (layout_of z).blocks) (c.geometry.ensures.geometry ∙ ap (λ (x : Catalog). x.geometry) c.catalog-catalog.ensures.catalog ∙ c.self.invariant.1.meta.stored.geometry)
 
-keeps : (g : Over) (c : After-put_blocks g) → Keeps g.D.Disk c.self.inside.disk c.put_blocks.new.disk (IsBesideBlocks (layout_of c.self.inside.meta.durable.geometry).blocks (places_of (mappings_of c.touched-touched.result c.as_slice-places.result.now)))
-keeps g c = subst (λ (base : ℕ). Keeps g.D.Disk c.self.inside.disk c.put_blocks.new.disk (IsBesideBlocks base (places_of (mappings_of c.touched-touched.result c.as_slice-places.result.now)))) (base_is g (goal.at.After-put_blocks g c).After-of_geometry-base) c.put_blocks.ensures.any_moment
+keeps : (g : Over) (c : After-put_blocks g) → Keeps g.D.Disk c.self.inside.disk c.put_blocks.new.disk (IsBesideBlocks (layout_of c.self.inside.meta.durable.geometry).blocks c.as_slice-places.result.now)
+keeps g c = subst (λ (base : ℕ). Keeps g.D.Disk c.self.inside.disk c.put_blocks.new.disk (IsBesideBlocks base c.as_slice-places.result.now)) (base_is g (goal.at.After-put_blocks g c).After-of_geometry-base) c.put_blocks.ensures.any_moment
 
 written : (g : Over) (c : In-Ok-put_blocks g) → Follows (HasBlocks (layout_of c.self.inside.meta.durable.geometry).blocks (rebody (effect_of c.args.change) (grown (size_of c.args.change (body_of c.self.inside.bodies.items c.args.key)) (body_of c.self.inside.bodies.items c.args.key)))
     (mappings_of c.touched-touched.result c.as_slice-places.result.now)) (g.D.Disk.gives c.self.inside.disk) (g.D.Disk.gives c.put_blocks.new.disk)
@@ -170,17 +168,13 @@ index_mut-body-requires g c =
     let high = at.high in
     omega arith
 
-pub take-requires-clause-few : goal.take-requires-clause-few
-take-requires-clause-few g c = omega (arith, room g (goal.at.take-requires-clause-few g c).After-count, (geometry-bounded c.self.inside.meta.current.geometry).1)
+pub take-requires : goal.take-requires
+take-requires g c = let at = (goal.at.take-requires g c).After-count in record { few = omega (arith, room g at, (geometry-bounded c.self.inside.meta.current.geometry).1); enough = enough_free g at }
 
-pub take-requires-clause-enough : goal.take-requires-clause-enough
-take-requires-clause-enough g c = enough_free g (goal.at.take-requires-clause-enough g c).After-count
-
-pub prepare-requires-clause-live : goal.prepare-requires-clause-live
-prepare-requires-clause-live g c = rw (c.catalog-catalog.ensures.catalog, (found g (goal.at.prepare-requires-clause-live g c).After-of-before).found) refl
-
-pub prepare-requires-clause-count : goal.prepare-requires-clause-count
-prepare-requires-clause-count g c = long g.D.Disk _ _ _ _ _ _ (given g (goal.at.prepare-requires-clause-count g c).After-as_slice-places)
+pub prepare-requires : goal.prepare-requires
+prepare-requires g c =
+    let at = goal.at.prepare-requires g c in
+    record { live = rw (c.catalog-catalog.ensures.catalog, (found g at.After-of-before).found) refl; lawful = c.requires.lawful; count = long g.D.Disk _ _ _ _ _ _ (given g at.After-as_slice-places) }
 
 -- the space once they are taken
 space_is : (g : Over) (c : After-as_slice-places g) → c.take.new.space ≡ record c.self.inside.space { current = marked c.as_slice-places.result.now c.self.inside.space.current }
@@ -204,47 +198,37 @@ invariant_of-self-in_default g c =
     let at = goal.at.invariant_of-self-in_default g c in
     rw (c.slot.ensures, c.in_default.ensures.err, body_is g at.After-count, set-get_or c.self.inside.bodies.items (c.args.key.ino - 1) [], space_back g at.After-as_slice-places _ c.release_all.ensures) c.self.invariant
 
-pub put_blocks-requires-clause-grows : goal.put_blocks-requires-clause-grows
-put_blocks-requires-clause-grows g c =
-    let at = goal.at.put_blocks-requires-clause-grows g c in
-    λ some. rw (grown_is g at.After-of_geometry-base) (grown-no_more c.args.change (body_of c.self.inside.bodies.items c.args.key) (omega (arith, ap length (touched_is g at.After-count))))
-
-pub put_blocks-requires-clause-count : goal.put_blocks-requires-clause-count
-put_blocks-requires-clause-count g c =
-    let at = goal.at.put_blocks-requires-clause-count g c in
-    long g.D.Disk _ _ _ _ _ _ (given g at.After-as_slice-places)
-
-pub put_blocks-requires-clause-low : goal.put_blocks-requires-clause-low
-put_blocks-requires-clause-low g c = omega (arith, base_is g (goal.at.put_blocks-requires-clause-low g c).After-of_geometry-base, blocks_low c.self.inside.meta.durable.geometry)
-
-pub put_blocks-requires-clause-fits : goal.put_blocks-requires-clause-fits
-put_blocks-requires-clause-fits g c =
-    let at = goal.at.put_blocks-requires-clause-fits g c in
-    subst (λ (base : ℕ). AllByRecursion (λ (m : Mapping). base + 4096 * m.place + 4096 ≤ g.D.Disk.length_of c.self.inside.disk) (mappings_of c.touched-touched.result c.as_slice-places.result.now)) (sym (base_is g at.After-of_geometry-base))
-    (blocks_fit c.self.inside.meta.durable.geometry _ (live g at.After-of-before).backs.length _ (within g.D.Disk _ _ _ _ _ _ (given g at.After-as_slice-places)))
-
-pub put_blocks-requires-clause-apart : goal.put_blocks-requires-clause-apart
-put_blocks-requires-clause-apart g c =
-    let at = goal.at.put_blocks-requires-clause-apart g c in
-    apart g.D.Disk _ _ _ _ _ _ (given g at.After-as_slice-places)
+pub put_blocks-requires : goal.put_blocks-requires
+put_blocks-requires g c =
+    let at = goal.at.put_blocks-requires g c in
+    let known = given g at.After-as_slice-places in
+    let geometry = c.self.inside.meta.durable.geometry in
+    let base = base_is g at.After-of_geometry-base in
+    record {
+      change = c.requires.lawful;
+      grows = λ some. rw (grown_is g at.After-of_geometry-base) (grown-no_more c.args.change (body_of c.self.inside.bodies.items c.args.key) (omega (arith, ap length (touched_is g at.After-count))));
+      count = long g.D.Disk _ _ _ _ _ _ known;
+      low = omega (arith, base, blocks_low geometry);
+      fits = rw base (blocks_fit geometry _ (live g at.After-of-before).backs.length _ (within g.D.Disk _ _ _ _ _ _ known));
+      apart = apart g.D.Disk _ _ _ _ _ _ known;
+    }
 
 pub returns-in_default-put_blocks-clause-proceeds : goal.returns-in_default-put_blocks-clause-proceeds
 returns-in_default-put_blocks-clause-proceeds g c =
     let at = goal.at.returns-in_default-put_blocks-clause-proceeds g c in
     from_same g.D.Disk _ _ c.args.number _ c.self.view_is (written_proceeds g.D.Disk _ _ _ _ _ _ (given g at.After-as_slice-places) _ (keeps g at.After-put_blocks) c.args.number _ refl refl refl)
 
-pub apply-requires-clause-backs : goal.apply-requires-clause-backs
-apply-requires-clause-backs g c =
-    let at = goal.at.apply-requires-clause-backs g c in
-    (written_live g.D.Disk _ _ _ _ _ _ (given g at.After-as_slice-places) _ (keeps g at.After-put_blocks) (written g at.In-Ok-put_blocks)).backs
-
-pub apply-requires-clause-event : goal.apply-requires-clause-event
-apply-requires-clause-event g c = is_event _ _ _ _ (rewriting g (goal.at.apply-requires-clause-event g c).After-of_geometry-base)
-
-pub apply-requires-clause-stand : goal.apply-requires-clause-stand
-apply-requires-clause-stand g c =
-    let at = goal.at.apply-requires-clause-stand g c in
-    stand g.D.Disk _ _ _ _ _ _ (given g at.After-as_slice-places) _ (rewriting g at.After-of_geometry-base)
+pub apply-requires : goal.apply-requires
+apply-requires g c =
+    let at = goal.at.apply-requires g c in
+    let known = given g at.After-as_slice-places in
+    let records = rewriting g at.After-of_geometry-base in
+    record {
+      backs = (written_live g.D.Disk _ _ _ _ _ _ known _ (keeps g at.After-put_blocks) (written g at.In-Ok-put_blocks)).backs;
+      event = is_event _ _ _ _ records;
+      stand = stand g.D.Disk _ _ _ _ _ _ known _ records;
+      number = omega (arith, c.if-number-gt-LAST_NUMBER.false);
+    }
 
 -- ---- once the records are taken
 
@@ -356,4 +340,4 @@ pub returns-in-Err-clause-proceeds : goal.returns-in-Err-clause-proceeds
 returns-in-Err-clause-proceeds g c =
     let at = goal.at.returns-in-Err-clause-proceeds g c in
     from_same g.D.Disk _ _ c.args.number _ c.self.view_is
-    (kept_proceeds g.D.Disk _ _ _ _ _ _ (given g at.After-as_slice-places) _ (keeps g at.After-put_blocks) (written g at.In-Ok-put_blocks) c.args.number _ c.apply.ensures.any_moment c.in-Err.ensures.err (ap (λ (m : Meta). held_with c.self.inside.durable.value.items m.durable) c.in-Err.ensures.err))
+    (refused_proceeds g.D.Disk _ _ _ _ _ _ (given g at.After-as_slice-places) _ (keeps g at.After-put_blocks) (written g at.In-Ok-put_blocks) c.args.number _ c.apply.ensures.any_moment c.in-Err.ensures.err (ap (λ (m : Meta). held_with c.self.inside.durable.value.items m.durable) c.in-Err.ensures.err))

@@ -1,5 +1,5 @@
 use Rattle.file_store.specs.Bodies.{bytes_with}
-use Rattle.file_store.proofs.Lawful.{used_few}
+use Rattle.file_store.proofs.FilesBy.{used_few}
 use Rattle.file_store.proofs.store.FileStore.superblock.Goals as goal
 
 pub returns-clause-mapped : goal.returns-clause-mapped
