@@ -3,55 +3,102 @@ use Rattle.std.proofs.Common.{rules, ◌≡◌, ◌⊎◌, inl, inr, ⊎_elim, �
 use Rattle.std.specs.Prelude.{replicate}
 use Rattle.std.specs.List.{flat_map, AllByRecursion}
 use Rattle.std.proofs.lemmas.Bool.{cases_eq}
-use Rattle.std.proofs.lemmas.List.{ext_get_or, get_or-take, get_or_append_left, get_or-append_right, places}
+use Rattle.std.proofs.lemmas.List.{ext_get_or, length-replicate, get_or-take, get_or_append_left, get_or-append_right, places}
+use Rattle.disk_model.specs.Images.{part}
 use Rattle.plain_model.specs.Plain.{written}
 use Rattle.plain_model.specs.Blocks.{blocks_in}
 use Rattle.meta_store.specs.declared.snapshot.Mapping.{Mapping}
 use Rattle.meta_store.specs.Catalogs.{present}
 use Rattle.meta_store.specs.Records.{places_fitted, places_set}
+use Rattle.file_store.specs.Bodies.{block_at, body_at}
+
+-- ---- places
+
+-- what is true of the block of a hole, and of each block that is present
+pub at_place : (P : ℕ → Type 0) (Q : Option ℕ → Type 0) → Q None → ((p : ℕ) → P p → Q (Some p)) → (ps : List (Option ℕ)) (q : ℕ) → AllByRecursion P (present ps) → Q (get_or ps q None)
+at_place P Q none some [] q all = none
+at_place P Q none some (None ∷ ps) zero all = none
+at_place P Q none some (None ∷ ps) (suc q) all = at_place P Q none some ps q all
+at_place P Q none some (Some p ∷ ps) zero all = some p all.0
+at_place P Q none some (Some p ∷ ps) (suc q) all = at_place P Q none some ps q all.1
+
+-- the place of a block after mappings: that of a mapping, or the one before
+pub after_set : (Q : Option ℕ → Type 0) (q : ℕ) (ms : List Mapping) (ps : List (Option ℕ)) → q < length ps → AllByRecursion (λ m. m.block ≡ q → Q (Some m.place)) ms
+    → (AllByRecursion (λ b. b ≡ q → ⊥) (map (λ m. m.block) ms) → Q (get_or ps q None)) → Q (get_or (places_set ms ps) q None)
+after_set Q q [] ps h there before = before tt
+after_set Q q (m ∷ ms) ps h there before =
+    let long : length (set ps m.block (Some m.place)) ≡ length ps = length-set ps m.block (Some m.place) in
+    after_set Q q ms (set ps m.block (Some m.place)) (omega arith) there.1 (λ others.
+    ⊎_elim
+    (λ (e : m.block ≡ q). subst Q (sym (ap (λ (i : ℕ). get_or (set ps i (Some m.place)) q None) e ∙ get_or-set_same ps q (Some m.place) None h)) (there.0 e))
+    (λ (n : m.block ≡ q → ⊥). subst Q (sym (get_or-set_other ps m.block q (Some m.place) None (λ e. n (sym e)))) (before (n, others)))
+    (cases_eq m.block q))
+
+-- a new size leaves the places of the blocks that stay
+pub get_or-fitted : (size q : ℕ) (ps : List (Option ℕ)) → q < blocks_in size → get_or (places_fitted size ps) q None ≡ get_or ps q None
+get_or-fitted size q ps h = grind (arith, places)
 
 -- ---- blocks one after the other
 
-pub length-blocks : (f : Option ℕ → List ℕ) (places : List (Option ℕ)) → ((i : ℕ) → i < length places → length (f (get_or places i None)) ≡ 4096) → length (flat_map f places) ≡ 4096 * length places
-length-blocks f [] full = refl
-length-blocks f (p ∷ ps) full =
-    let first : length (f p) ≡ 4096 = full zero (omega arith) in
-    let rest : length (flat_map f ps) ≡ 4096 * length ps = length-blocks f ps (λ i h. full (suc i) (omega arith)) in
-    omega (arith, length-append (f p) (flat_map f ps), first, rest)
+module _ (blocks : List ℕ) where
+  -- as far as the body goes, its bytes are those of the blocks at these places, and zeros where there is none
+  abbrev pub HasBytes : ℕ → List (Option ℕ) → List ℕ → Type 0
+  HasBytes size ps body = (q r : ℕ) → r < 4096 → 4096 * q + r < size → get_or body (4096 * q + r) 0 ≡ get_or (block_at blocks (get_or ps q None)) r 0
 
--- byte r of block q
-pub byte-blocks : (f : Option ℕ → List ℕ) (places : List (Option ℕ)) → ((i : ℕ) → i < length places → length (f (get_or places i None)) ≡ 4096) → (q r : ℕ) → q < length places → r < 4096
-    → get_or (flat_map f places) (4096 * q + r) 0 ≡ get_or (f (get_or places q None)) r 0
-byte-blocks f [] full q r h l = absurd (omega arith)
-byte-blocks f (p ∷ ps) full zero r h l =
-    let first : length (f p) ≡ 4096 = full zero (omega arith) in
-    let here : 4096 * zero + r ≡ r = omega arith in
-    ap (λ i. get_or (f p ++ flat_map f ps) i 0) here ∙ get_or_append_left (f p) (flat_map f ps) 0 r (omega arith)
-byte-blocks f (p ∷ ps) full (suc q) r h l =
-    let first : length (f p) ≡ 4096 = full zero (omega arith) in
-    let there : 4096 * suc q + r - 4096 ≡ 4096 * q + r = omega arith in
-    get_or-append_right (f p) (flat_map f ps) 4096 (4096 * suc q + r) 0 first (omega arith)
-    ∙ ap (λ i. get_or (flat_map f ps) i 0) there
-    ∙ byte-blocks f ps (λ i g. full (suc i) (omega arith)) q r (omega arith) l
+  -- the block has its bytes
+  abbrev pub Whole : ℕ → Type 0
+  Whole p = length (part blocks (4096 * p) 4096) ≡ 4096
 
--- they are a body, if each has its bytes
-pub same_body : (f : Option ℕ → List ℕ) (places : List (Option ℕ)) (size : ℕ) (body : List ℕ) → length places ≡ blocks_in size → length body ≡ size
-    → ((q : ℕ) → q < length places → length (f (get_or places q None)) ≡ 4096)
-    → ((q r : ℕ) → q < length places → r < 4096 → 4096 * q + r < size → get_or (f (get_or places q None)) r 0 ≡ get_or body (4096 * q + r) 0)
-    → take size (flat_map f places) ≡ body
-same_body f places size body count long full each =
-    let whole : length (flat_map f places) ≡ 4096 * length places = length-blocks f places full in
-    let same : length (take size (flat_map f places)) ≡ size = omega (arith, length-take size (flat_map f places)) in
-    ext_get_or 0 (take size (flat_map f places)) body (same ∙ sym long) (λ k h.
-    let l : k < size = omega arith in
-    let r : k % 4096 < 4096 = omega arith in
-    let is : k ≡ 4096 * (k / 4096) + k % 4096 = omega arith in
-    let q : k / 4096 < length places = omega arith in
-    get_or-take size (flat_map f places) k 0 l
-    ∙ ap (λ i. get_or (flat_map f places) i 0) is
-    ∙ byte-blocks f places full (k / 4096) (k % 4096) q r
-    ∙ each (k / 4096) (k % 4096) q r (omega arith)
-    ∙ ap (λ i. get_or body i 0) (sym is))
+  abbrev Full : List (Option ℕ) → Type 0
+  Full ps = (q : ℕ) → q < length ps → length (block_at blocks (get_or ps q None)) ≡ 4096
+
+  pub full : (ps : List (Option ℕ)) → AllByRecursion Whole (present ps) → (q : ℕ) → length (block_at blocks (get_or ps q None)) ≡ 4096
+  full ps whole q = at_place Whole (λ p. length (block_at blocks p) ≡ 4096) (length-replicate {A = ℕ} 4096 0) (λ p is. is) ps q whole
+
+  length-blocks : (ps : List (Option ℕ)) → Full ps → length (flat_map (block_at blocks) ps) ≡ 4096 * length ps
+  length-blocks [] all = refl
+  length-blocks (p ∷ ps) all =
+      let first = all zero (omega arith) in
+      let rest = length-blocks ps (λ i h. all (suc i) (omega arith)) in
+      omega (arith, length-append (block_at blocks p) (flat_map (block_at blocks) ps))
+
+  -- byte r of block q
+  byte-blocks : (ps : List (Option ℕ)) → Full ps → (q r : ℕ) → q < length ps → r < 4096 → get_or (flat_map (block_at blocks) ps) (4096 * q + r) 0 ≡ get_or (block_at blocks (get_or ps q None)) r 0
+  byte-blocks [] all q r h l = absurd (omega arith)
+  byte-blocks (p ∷ ps) all zero r h l =
+      let first = all zero (omega arith) in
+      let here : 4096 * zero + r ≡ r = omega arith in
+      ap (λ i. get_or (block_at blocks p ++ flat_map (block_at blocks) ps) i 0) here ∙ get_or_append_left (block_at blocks p) (flat_map (block_at blocks) ps) 0 r (omega arith)
+  byte-blocks (p ∷ ps) all (suc q) r h l =
+      let there : 4096 * suc q + r - 4096 ≡ 4096 * q + r = omega arith in
+      get_or-append_right (block_at blocks p) (flat_map (block_at blocks) ps) 4096 (4096 * suc q + r) 0 (all zero (omega arith)) (omega arith)
+      ∙ ap (λ i. get_or (flat_map (block_at blocks) ps) i 0) there
+      ∙ byte-blocks ps (λ i g. all (suc i) (omega arith)) q r (omega arith) l
+
+  -- where each has its bytes, they are a body
+  pub same_body : (size : ℕ) (ps : List (Option ℕ)) (body : List ℕ) → length ps ≡ blocks_in size → length body ≡ size → Full ps
+      → ((q r : ℕ) → r < 4096 → 4096 * q + r < size → get_or body (4096 * q + r) 0 ≡ get_or (block_at blocks (get_or ps q None)) r 0) → body_at blocks size ps ≡ body
+  unfolding body_at
+  same_body size ps body count long all has =
+      let bytes : List ℕ = flat_map (block_at blocks) ps in
+      let whole : length bytes ≡ 4096 * length ps = length-blocks ps all in
+      let same : length (take size bytes) ≡ size = omega (arith, length-take size bytes) in
+      ext_get_or 0 (take size bytes) body (same ∙ sym long) (λ k h.
+      let is : k ≡ 4096 * (k / 4096) + k % 4096 = omega arith in
+      get_or-take size bytes k 0 (omega arith)
+      ∙ ap (λ i. get_or bytes i 0) is
+      ∙ byte-blocks ps all (k / 4096) (k % 4096) (omega arith) (omega arith)
+      ∙ sym (ap (λ i. get_or body i 0) is ∙ has (k / 4096) (k % 4096) (omega arith) (omega arith)))
+
+  -- and so is a body that they are
+  pub has_bytes : (size : ℕ) (ps : List (Option ℕ)) (body : List ℕ) → AllByRecursion Whole (present ps) → length ps ≡ blocks_in size → body_at blocks size ps ≡ body → HasBytes size ps body
+  unfolding body_at
+  has_bytes size ps body whole count was q r l h =
+      sym (sym (byte-blocks ps (λ i g. full ps whole i) q r (omega arith) l) ∙ sym (get_or-take size (flat_map (block_at blocks) ps) (4096 * q + r) 0 h) ∙ ap (λ b. get_or b (4096 * q + r) 0) was)
+
+  pub length-body : (size : ℕ) (ps : List (Option ℕ)) → AllByRecursion Whole (present ps) → length ps ≡ blocks_in size → length (body_at blocks size ps) ≡ size
+  unfolding body_at
+  length-body size ps whole count = omega (arith, length-blocks ps (λ q h. full ps whole q), length-take size (flat_map (block_at blocks) ps))
 
 -- ---- one block of a body
 
@@ -69,35 +116,3 @@ written-beside offset k bytes body (inr behind) = grind (arith, places)
 
 pub written-in : (offset k r : ℕ) (bytes body : List ℕ) → k ≡ offset + r → r < length bytes → get_or (written offset bytes body) k 0 ≡ get_or bytes r 0
 written-in offset k r bytes body is within = grind (arith, places)
-
--- ---- places
-
--- what is true of the block of a hole, and of each block that is present
-pub at_place : (P : ℕ → Type 0) (Q : Option ℕ → Type 0) → Q None → ((p : ℕ) → P p → Q (Some p)) → (places : List (Option ℕ)) (q : ℕ) → AllByRecursion P (present places) → Q (get_or places q None)
-at_place P Q none some [] q all = none
-at_place P Q none some (None ∷ ps) zero all = none
-at_place P Q none some (None ∷ ps) (suc q) all = at_place P Q none some ps q all
-at_place P Q none some (Some p ∷ ps) zero all = some p all.0
-at_place P Q none some (Some p ∷ ps) (suc q) all = at_place P Q none some ps q all.1
-
--- the place of a block after mappings: that of a mapping, or the one before
-pub after_set : (Q : Option ℕ → Type 0) (q : ℕ) (ms : List Mapping) (places : List (Option ℕ)) → q < length places
-    → AllByRecursion (λ m. m.block ≡ q → Q (Some m.place)) ms
-    → (AllByRecursion (λ b. b ≡ q → ⊥) (map (λ m. m.block) ms) → Q (get_or places q None))
-    → Q (get_or (places_set ms places) q None)
-after_set Q q [] places h there before = before tt
-after_set Q q (m ∷ ms) places h there before =
-    let next : List (Option ℕ) = set places m.block (Some m.place) in
-    let long : length next ≡ length places = length-set places m.block (Some m.place) in
-    after_set Q q ms next (omega arith) there.1 (λ others.
-    ⊎_elim
-    (λ (e : m.block ≡ q).
-    let low : m.block < length places = omega arith in
-    let now : get_or next q None ≡ Some m.place = subst (λ (i : ℕ). get_or next i None ≡ Some m.place) e (get_or-set_same places m.block (Some m.place) None low) in
-    subst Q (sym now) (there.0 e))
-    (λ (n : m.block ≡ q → ⊥). subst Q (sym (get_or-set_other places m.block q (Some m.place) None (λ e. n (sym e)))) (before (n, others)))
-    (cases_eq m.block q))
-
--- a new size leaves the places of the blocks that stay
-pub get_or-fitted : (size q : ℕ) (ps : List (Option ℕ)) → q < blocks_in size → get_or (places_fitted size ps) q None ≡ get_or ps q None
-get_or-fitted size q ps h = grind (arith, places)

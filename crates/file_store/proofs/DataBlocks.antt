@@ -1,62 +1,135 @@
 -- What data blocks hold of files: those whose blocks stay, and one whose touched blocks are written to new places.
-use Rattle.std.proofs.Common.{◌≡◌, ℕ, ◌*◌, ◌<◌, List, [], ◌∷◌, ◌++◌, length, map, take, true, eqb, Option, Some, None, refl, sym, ◌∙◌, ap, arith, length-take}
+use Rattle.std.proofs.Common.{◌≡◌, ⊎_elim, inl, inr, ℕ, zero, suc, ◌+◌, ◌-◌, ◌*◌, ◌/◌, ◌%◌, ◌<◌, ◌≤◌, List, [], ◌∷◌, ◌++◌, length, map, get_or, take, drop, Option, Some, None, Bool, true, eqb, ltb, ◌&&◌, refl, sym, ◌∙◌, ap, subst, arith}
+use Rattle.std.specs.Prelude.{if◌then◌else◌}
 use Rattle.std.specs.List.{flat_map, list_any, AllByRecursion}
-use Rattle.std.proofs.lemmas.Bool.{eq-eqb, or_left, or_right}
-use Rattle.std.proofs.lemmas.List.{length-replicate}
+use Rattle.std.proofs.lemmas.Bool.{cases_lt, cond_both, and_from, lt-ltb, eqb-true}
+use Rattle.std.proofs.lemmas.List.{get_or-replicate, get_or_past, places}
 use Rattle.hsm_types.specs.declared.keys.FileKey.{FileKey}
 use Rattle.disk_model.specs.Images.{part}
 use Rattle.plain_model.specs.Keyed.{find_key}
-use Rattle.plain_model.specs.Plain.{rebody}
-use Rattle.plain_model.specs.Blocks.{blocks_in, touched, size_after}
+use Rattle.plain_model.specs.Plain.{resized, rebody}
+use Rattle.plain_model.specs.Blocks.{from_on, blocks_in, met, old_end, touched, size_after}
 use Rattle.plain_model.specs.State.{affected_held}
 use Rattle.meta_store.specs.declared.snapshot.Mapping.{Mapping}
 use Rattle.meta_store.specs.Catalogs.{CatalogFile, Catalog, IsCatalogFile, IsCatalog, geometry_of, present, blocks_of}
-use Rattle.meta_store.specs.Records.{with_changed}
-use Rattle.meta_store.proofs.FoundFiles.{each-found}
+use Rattle.meta_store.specs.Records.{with_changed, places_fitted, places_set}
 use Rattle.meta_store.proofs.FileEdits.{each-drop}
+use Rattle.meta_store.proofs.FoundFiles.{each-found}
+use Rattle.meta_store.proofs.MappedPlaces.{length-fitted, length-places_set}
 use Rattle.file_store.specs.declared.rewrites.Rewrite.{Rewrite}
+use Rattle.file_store.specs.declared.rewrites.Rewrite.TheVariants.{Write, Resize}
 use Rattle.file_store.specs.Bodies.{block_of, block_at, body_at, bytes_at, held_at}
 use Rattle.file_store.specs.Rewrites.{effect_of, IsRewrite, remapped}
+use Rattle.file_store.proofs.ByBlocks.{Whole, full, HasBytes, has_bytes, same_body, length-body, length-block, byte-block, at_place, after_set, get_or-fitted, written-beside}
+use Rattle.file_store.proofs.EachOf.{each-weaker, each-parts, each_member}
 use Rattle.file_store.proofs.FilesBy.{SameBytes, held-same}
-use Rattle.file_store.proofs.ByBlocks.{length-blocks, at_place}
-use Rattle.file_store.proofs.Rewriting.{changed_at}
+use Rattle.file_store.proofs.GrownBodies.{length-changed}
 use Rattle.file_store.proofs.HeldRecords.{held-rewritten}
-use Rattle.file_store.proofs.EachOf.{each-weaker, each-parts}
 
--- ---- the places of each file are among those of all
+-- ---- blocks that aren't touched
 
-each_member : (P : ℕ → Type 0) (ns : List ℕ) → ((p : ℕ) → list_any (λ q. eqb q p) ns ≡ true → P p) → AllByRecursion P ns
-each_member P [] all = tt
-each_member P (n ∷ ns) all = (all n (or_left (eqb n n) (list_any (λ q. eqb q n) ns) (eq-eqb n n refl)), each_member P ns (λ p is. all p (or_right (eqb n p) (list_any (λ q. eqb q p) ns) is)))
+-- none of these blocks is q
+abbrev Others : ℕ → List ℕ → Type 0
+Others q blocks = AllByRecursion (λ b. b ≡ q → ⊥) blocks
 
-each_file : (P : ℕ → Type 0) (fs : List CatalogFile) → AllByRecursion P (blocks_of fs) → AllByRecursion (λ f. AllByRecursion P (present f.places)) fs
-each_file P [] all = tt
-each_file P (f ∷ fs) all = let sides = each-parts P (present f.places) (blocks_of fs) all in (sides.0, each_file P fs sides.1)
+others_run : (q a n : ℕ) → a ≤ q → Others q (from_on a n) → a + n ≤ q
+others_run q a zero from all = omega arith
+others_run q a (suc n) from all = let differ : a ≡ q → ⊥ = all.0 in let more = others_run q (a + 1) n (omega arith) all.1 in omega arith
 
--- ---- bodies
+others_end : (q size : ℕ) → size / 4096 ≤ q → Others q (old_end size) → blocks_in size ≤ q
+others_end q size from =
+    cond_both (eqb (size % 4096) 0) [] ((size / 4096) ∷ []) (λ bs. Others q bs → blocks_in size ≤ q)
+    (λ whole none. let even : size % 4096 ≡ 0 = eqb-true (size % 4096) 0 whole in omega arith)
+    (λ cut others. let differ : size / 4096 ≡ q → ⊥ = others.0 in omega arith)
 
--- Each block is 4,096 bytes.
-abbrev Whole : List ℕ → ℕ → Type 0
-Whole blocks p = length (part blocks (4096 * p) 4096) ≡ 4096
+byte-resized : (to k : ℕ) (body : List ℕ) → k < to → get_or (resized to body) k 0 ≡ get_or body k 0
+byte-resized to k body h = grind (arith, places)
+
+-- a byte that lies in no touched block is as it was, and in an old block or a new one
+beside_touched : (change : Rewrite) (body : List ℕ) (q r : ℕ) → IsRewrite change → r < 4096 → 4096 * q + r < size_after (effect_of change) (length body) → Others q (touched (effect_of change) (length body))
+    → (get_or (rebody (effect_of change) body) (4096 * q + r) 0 ≡ get_or body (4096 * q + r) 0) × (length body ≤ 4096 * q + r → blocks_in (length body) ≤ q)
+beside_touched (Write offset bytes) body q r lawful l h others =
+    let size : ℕ = length body in
+    let end : ℕ = offset + length bytes.now in
+    let first : ℕ = offset / 4096 in
+    let some = lawful.0 in
+    let run : Others q (met offset end) =
+    cond_both (ltb size end && ltb (size / 4096) first) (old_end size ++ met offset end) (met offset end) (λ bs. Others q bs → Others q (met offset end)) (λ far all. (each-parts (λ b. b ≡ q → ⊥) (old_end size) (met offset end) all).1) (λ near all. all) others in
+    let behind : first ≤ q → first + (blocks_in end - first) ≤ q = λ from. others_run q first (blocks_in end - first) from run in
+    ⊎_elim
+    (λ (low : q < first). (
+      written-beside offset (4096 * q + r) bytes.now body (inl (omega arith)),
+      λ past.
+          let far = and_from (ltb size end) (ltb (size / 4096) first) (lt-ltb size end (omega arith)) (lt-ltb (size / 4096) first (omega arith)) in
+          let all = subst (λ (t : Bool). Others q (if t then old_end size ++ met offset end else met offset end)) far others in
+          others_end q size (omega arith) (each-parts (λ b. b ≡ q → ⊥) (old_end size) (met offset end) all).0,
+    ))
+    (λ (from : first ≤ q). let high = behind from in (written-beside offset (4096 * q + r) bytes.now body (inr (omega arith)), λ past. absurd (omega arith)))
+    (cases_lt q first)
+beside_touched (Resize to) body q r lawful l h others =
+    let size : ℕ = length body in
+    (byte-resized to (4096 * q + r) body h, λ past. others_end q size (omega arith) (subst (λ (t : Bool). Others q (if t then old_end size else [])) (lt-ltb size to (omega arith)) others))
+
+-- ---- a body with its touched blocks at new places
 
 -- The block is the same.
 abbrev pub Stays : List ℕ → List ℕ → ℕ → Type 0
 Stays old new p = part new (4096 * p) 4096 ≡ part old (4096 * p) 4096
 
--- a body has its size
-length-bytes : (blocks : List ℕ) (f : CatalogFile) → length f.places ≡ blocks_in f.size → AllByRecursion (Whole blocks) (present f.places) → length (bytes_at blocks f) ≡ f.size
-unfolding body_at
-length-bytes blocks f count whole =
-    let long : length (flat_map (block_at blocks) f.places) ≡ 4096 * length f.places =
-    length-blocks (block_at blocks) f.places (λ q h. at_place (Whole blocks) (λ p. length (block_at blocks p) ≡ 4096) (length-replicate {A = ℕ} 4096 0) (λ p is. is) f.places q whole) in
-    omega (arith, length-take f.size (flat_map (block_at blocks) f.places))
+module _ (change : Rewrite) (old new : List ℕ) (ps : List (Option ℕ)) (body : List ℕ) (ms : List Mapping) (lawful : IsRewrite change) (count : length ps ≡ blocks_in (length body)) (was : body_at old (length body) ps ≡ body) (whole : AllByRecursion (Whole old) (present ps))
+    (blocks : map (λ m. m.block) ms ≡ touched (effect_of change) (length body)) (there : AllByRecursion (λ m. part new (4096 * m.place) 4096 ≡ block_of (rebody (effect_of change) body) m.block) ms) (same : AllByRecursion (Stays old new) (present ps)) where
+  abbrev to : ℕ
+  to = size_after (effect_of change) (length body)
 
-same_blocks : (old new : List ℕ) (places : List (Option ℕ)) → AllByRecursion (Stays old new) (present places) → flat_map (block_at new) places ≡ flat_map (block_at old) places
+  abbrev after : List ℕ
+  after = rebody (effect_of change) body
+
+  -- a block that lies there is the new body's block q, as far as that goes
+  abbrev Lies : ℕ → Option ℕ → Type 0
+  Lies q p = (length (block_at new p) ≡ 4096) × ((r : ℕ) → r < 4096 → 4096 * q + r < to → get_or after (4096 * q + r) 0 ≡ get_or (block_at new p) r 0)
+
+  written_there : (q : ℕ) (m : Mapping) → part new (4096 * m.place) 4096 ≡ block_of after m.block → m.block ≡ q → Lies q (Some m.place)
+  unfolding block_of
+  written_there q m e is = (
+    ap length e ∙ length-block 4096 (drop (4096 * m.block) after),
+    λ r l h. sym (ap (λ b. get_or b r 0) e ∙ byte-block 4096 (4096 * m.block) r after l ∙ ap (λ i. get_or after (4096 * i + r) 0) is),
+  )
+
+  stays : (q : ℕ) → Others q (map (λ m. m.block) ms) → Lies q (get_or ps q None)
+  stays q others =
+      let kept : block_at new (get_or ps q None) ≡ block_at old (get_or ps q None) = at_place (Stays old new) (λ p. block_at new p ≡ block_at old p) refl (λ p h. h) ps q same in (
+        ap length kept ∙ full old ps whole q,
+        λ r l h.
+            let k = 4096 * q + r in
+            let beside = beside_touched change body q r lawful l h (subst (Others q) blocks others) in
+            let byte : get_or body k 0 ≡ get_or (block_at old (get_or ps q None)) r 0 =
+            ⊎_elim
+            (λ (low : k < length body). has_bytes old (length body) ps body whole count was q r l low)
+            (λ (past : length body ≤ k). get_or_past body k 0 past ∙ sym (ap (λ p. get_or (block_at old p) r 0) (get_or_past ps q None (rw count (beside.1 past))) ∙ get_or-replicate 4096 r 0 0 l))
+            (cases_lt k (length body)) in
+            beside.0 ∙ byte ∙ sym (ap (λ b. get_or b r 0) kept),
+      )
+
+  lies : (q : ℕ) → q < blocks_in to → Lies q (get_or (places_set ms (places_fitted to ps)) q None)
+  lies q h =
+      after_set (Lies q) q ms (places_fitted to ps) (omega (arith, length-fitted to ps)) (each-weaker (λ (m : Mapping). part new (4096 * m.place) 4096 ≡ block_of after m.block) (λ (m : Mapping). m.block ≡ q → Lies q (Some m.place)) (written_there q) ms there)
+      (λ others. subst (Lies q) (sym (get_or-fitted to q ps h)) (stays q others))
+
+  changed_at : body_at new to (places_set ms (places_fitted to ps)) ≡ after
+  changed_at =
+      let long : length (places_set ms (places_fitted to ps)) ≡ blocks_in to = length-places_set ms (places_fitted to ps) ∙ length-fitted to ps in
+      same_body new to (places_set ms (places_fitted to ps)) after long (length-changed change body) (λ q h. (lies q (omega arith)).0) (λ q r l h. (lies q (omega arith)).1 r l h)
+
+-- ---- where the blocks in use stay
+
+same_blocks : (old new : List ℕ) (ps : List (Option ℕ)) → AllByRecursion (Stays old new) (present ps) → flat_map (block_at new) ps ≡ flat_map (block_at old) ps
 same_blocks old new [] stays = refl
 same_blocks old new (None ∷ ps) stays = ap (λ bs. block_at old None ++ bs) (same_blocks old new ps stays)
 same_blocks old new (Some p ∷ ps) stays = rw (stays.0, same_blocks old new ps stays.1) refl
 
--- ---- where the blocks in use stay
+each_file : (P : ℕ → Type 0) (fs : List CatalogFile) → AllByRecursion P (blocks_of fs) → AllByRecursion (λ f. AllByRecursion P (present f.places)) fs
+each_file P [] all = tt
+each_file P (f ∷ fs) all = let sides = each-parts P (present f.places) (blocks_of fs) all in (sides.0, each_file P fs sides.1)
 
 module _ (old new : List ℕ) (c : Catalog) (stays : (p : ℕ) → list_any (λ q. eqb q p) (blocks_of c.files) ≡ true → Stays old new p) where
   each-stays : AllByRecursion (λ f. AllByRecursion (Stays old new) (present f.places)) c.files
@@ -80,10 +153,10 @@ module _ (old new : List ℕ) (c : Catalog) (stays : (p : ℕ) → list_any (λ 
       → held_at new (with_changed k (remapped size ms) c) ≡ record (held_at old c) { files = affected_held (effect_of change) k (held_at old c).files }
   held-changed change k size ms f body lawful whole may found was after blocks there =
       let is : IsCatalogFile (geometry_of c.geometry).blocks f = each-found (IsCatalogFile (geometry_of c.geometry).blocks) k f c.files lawful.each found in
-      let full : AllByRecursion (Whole old) (present f.places) = each-weaker (λ p. p < (geometry_of c.geometry).blocks) (Whole old) whole (present f.places) is.within in
+      let each : AllByRecursion (Whole old) (present f.places) = each-weaker (λ p. p < (geometry_of c.geometry).blocks) (Whole old) whole (present f.places) is.within in
       let kept : AllByRecursion (Stays old new) (present f.places) = each-found (λ g. AllByRecursion (Stays old new) (present g.places)) k f c.files each-stays found in
-      let long : f.size ≡ length body = sym (length-bytes old f is.places full) ∙ ap length was in
+      let long : f.size ≡ length body = sym (length-body old f.size f.places each is.places) ∙ ap length was in
       let lay : body_at old (length body) f.places ≡ body = ap (λ n. body_at old n f.places) (sym long) ∙ was in
-      let becomes = changed_at change old new f.places body ms may (is.places ∙ ap blocks_in long) lay full blocks there kept in
+      let becomes = changed_at change old new f.places body ms may (is.places ∙ ap blocks_in long) lay each blocks there kept in
       held-rewritten (bytes_at old) (bytes_at new) k change size ms c f found (after ∙ ap (λ (b : List ℕ). size_after (effect_of change) (length b)) (sym was)) (blocks ∙ ap (λ (b : List ℕ). touched (effect_of change) (length b)) (sym was))
       (rw (after, was) becomes) (each-drop (SameBytes (bytes_at old) (bytes_at new)) k c.files all-same)

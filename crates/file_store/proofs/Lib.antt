@@ -8,7 +8,6 @@ pub mod Marks
 pub mod HeldRecords
 pub mod WithBodies
 pub mod ByInode
-pub mod Rewriting
 pub mod DataBlocks
 pub mod Beside
 pub mod Loaded

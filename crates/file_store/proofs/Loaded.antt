@@ -12,7 +12,8 @@ use Rattle.meta_store.specs.Catalogs.{geometry_of, present}
 use Rattle.meta_store.specs.Images.{blocks_in_image}
 use Rattle.file_store.specs.Bodies.{block_at, body_at}
 use Rattle.file_store.proofs.Beside.{block_in, length-block}
-use Rattle.file_store.proofs.ByBlocks.{at_place, same_body, written-beside, written-in}
+use Rattle.file_store.proofs.ByBlocks.{HasBytes, Whole, full, at_place, same_body, written-beside, written-in}
+use Rattle.file_store.proofs.EachOf.{each-weaker}
 
 -- what a read of a data block gives
 pub block_read : (geometry place : ℕ) (l : Layout) (c : List ℕ) → l ≡ layout_of geometry → place < (geometry_of geometry).blocks → part c (l.blocks + 4096 * place) 4096 ≡ part (blocks_in_image geometry c) (4096 * place) 4096
@@ -23,10 +24,6 @@ present-at P ps i p all at = at_place P (λ o. (q : ℕ) → o ≡ Some q → P 
 
 zeros : (size k : ℕ) → get_or (resized size []) k 0 ≡ 0
 zeros size k = grind (arith, places)
-
--- as far as the body goes, the bytes of its blocks are those at their places, and zeros where there is none
-abbrev pub HasBytes : List ℕ → ℕ → List (Option ℕ) → List ℕ → Type 0
-HasBytes blocks size ps body = (q r : ℕ) → r < 4096 → 4096 * q + r < size → get_or body (4096 * q + r) 0 ≡ get_or (block_at blocks (get_or ps q None)) r 0
 
 pub no_bytes : (blocks : List ℕ) (size : ℕ) → HasBytes blocks size [] (resized size [])
 no_bytes blocks size q r l h = zeros size (4096 * q + r) ∙ sym (get_or-replicate 4096 r 0 0 l)
@@ -63,8 +60,7 @@ block-more blocks size ps i p start old new within at whole begins long before i
 -- all blocks
 pub all-filled : (geometry size : ℕ) (c : List ℕ) (ps : List (Option ℕ)) (body : List ℕ) → length c ≡ (layout_of geometry).whole → AllByRecursion (λ p. p < (geometry_of geometry).blocks) (present ps) → length ps ≡ blocks_in size → length body ≡ size
     → HasBytes (blocks_in_image geometry c) size ps body → body ≡ body_at (blocks_in_image geometry c) size ps
-unfolding body_at
 all-filled geometry size c ps body whole within count long has =
     let blocks = blocks_in_image geometry c in
-    let full : (q : ℕ) → length (block_at blocks (get_or ps q None)) ≡ 4096 = λ q. at_place _ (λ p. length (block_at blocks p) ≡ 4096) (length-replicate {A = ℕ} 4096 0) (λ p low. length-block geometry c p low whole) ps q within in
-    sym (same_body (block_at blocks) ps size body count long (λ q h. full q) (λ q r low l h. sym (has q r l h)))
+    let all : AllByRecursion (Whole blocks) (present ps) = each-weaker (λ p. p < (geometry_of geometry).blocks) (Whole blocks) (λ p low. length-block geometry c p low whole) (present ps) within in
+    sym (same_body blocks size ps body count long (λ q h. full blocks ps all q) has)

@@ -8,7 +8,8 @@ use Rattle.commit_slots.specs.Places.{layout_of}
 use Rattle.meta_store.specs.Catalogs.{geometry_of}
 use Rattle.meta_store.specs.Images.{blocks_in_image}
 use Rattle.file_store.proofs.Beside.{length-block}
-use Rattle.file_store.proofs.Loaded.{HasBytes, present-at, no_bytes, hole-more, block-more, all-filled}
+use Rattle.file_store.proofs.ByBlocks.{HasBytes}
+use Rattle.file_store.proofs.Loaded.{present-at, no_bytes, hole-more, block-more, all-filled}
 use Rattle.file_store.proofs.loading.load_body.Goals.{in-Some+in-Ok-fill, in_default-place}
 use Rattle.file_store.proofs.loading.load_body.Goals as goal
 

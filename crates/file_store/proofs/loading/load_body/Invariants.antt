@@ -2,7 +2,7 @@ use Rattle.std.proofs.Common.{◌≡◌, ◌*◌, ℕ, List, length, take}
 use Rattle.disk_model.specs.Images.{Alike}
 use Rattle.disk_model.specs.Moments.{Keeps, Same}
 use Rattle.meta_store.specs.Images.{blocks_in_image}
-use Rattle.file_store.proofs.Loaded.{HasBytes}
+use Rattle.file_store.proofs.ByBlocks.{HasBytes}
 use Rattle.file_store.proofs.loading.load_body.Given as goal
 
 abbrev pub invariant-loop-place : goal.invariant-loop-place
