@@ -1,5 +1,5 @@
 //! The two ways of an event: records that concern no bytes, and bytes with their records. Each takes the records by one call.
-ghost use Rattle.std.specs.Prelude.{◌≡◌, ◌+◌, ◌≤◌, ◌<◌, ◌^◌, true, false, if◌then◌else◌, None, Some, Err, length, take, IfOk, OnOk, OnErr, IsErrOf, IsSome};
+ghost use Rattle.std.specs.Prelude.{◌≡◌, ◌+◌, ◌-◌, ◌≤◌, ◌<◌, ◌^◌, true, false, if◌then◌else◌, None, Some, Err, [], length, take, slice_set, IfOk, OnOk, OnErr, IsErrOf, IsSome};
 ghost use Rattle.disk_model.specs.Calls.{Rose};
 ghost use Rattle.hsm_types.specs.declared.dm.DmRefusal.{DmRefusal};
 ghost use Rattle.plain_model.specs.Keyed.{find_key};
@@ -107,9 +107,7 @@ impl<D: Disk> FileStore<D> {
         let before = Snapshot::of(&self.bodies);
         match self.meta.apply(alloc, &mut self.disk, records, number) {
             Ok(wrote) => {
-                if empty {
-                    self.bodies[slot(key.ino)] = Body::new(alloc);
-                }
+                clear(alloc, &mut self.bodies, key, empty);
                 make_durable(wrote, before, &mut self.durable, &mut self.space);
                 self.space.release_all(&freed);
                 self.pending |= gone;
@@ -194,6 +192,16 @@ fn take(alloc: Global, space: &mut BlockSpace, count: u64) -> Result<Blocks, All
         Ok(blocks) => Ok(blocks),
         Err(TakeRefusal::Memory) => Err(AllocError),
         Err(TakeRefusal::Short { .. }) => unreachable!(),
+    }
+}
+
+/// Where its file is new or gone, the inode has no bytes.
+fn clear(alloc: Global, bodies: &mut Vec<Body>, key: FileKey, empty: bool)
+    requires { empty ≡ true → (1 ≤ key.ino) × (key.ino ≤ length bodies.old.items) }
+    ensures { bodies.new.items ≡ (if empty then slice_set bodies.old.items (key.ino - 1) [] else bodies.old.items) }
+{
+    if empty {
+        bodies[slot(key.ino)] = Body::new(alloc);
     }
 }
 
