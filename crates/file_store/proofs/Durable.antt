@@ -12,8 +12,22 @@ use Rattle.meta_store.specs.Catalogs.{Catalog, blocks_of}
 use Rattle.meta_store.specs.Images.{IsImage, blocks_in_image, Recovers}
 use Rattle.meta_store.specs.Meta.{Meta, IsMeta, Backs, StoresOrKeeps, HasStored, IsStoredNow}
 use Rattle.file_store.specs.Bodies.{held_at, held_with}
+use Rattle.file_store.specs.HeldFiles.{IsHeldFiles}
 use Rattle.file_store.specs.Stores.{Store, IsDurable, IsEither, Proceeds, IsLive, IsSound, marks_of}
 use Rattle.file_store.proofs.Marks.{marks_there}
+
+-- a store by its parts
+pub record Parts (D : Type 0) : Type 0 where
+  pub disk : D
+  pub meta : Meta
+  pub bodies : List (List ℕ)
+  pub durable : List (List ℕ)
+  pub space : Space
+  pub pending : Bool
+  pub failed : Bool
+
+abbrev pub store_of : {D : Type 0} → Parts D → Store D
+store_of p = record { disk = p.disk; meta = p.meta; held = held_with p.bodies p.meta.current; durable = held_with p.durable p.meta.durable; space = p.space; pending = p.pending; failed = p.failed }
 
 -- what recovery finds of a live store
 pub durable_found : {D : Type 0} (g : disk.Ghosts D) (s : Store D) → IsLive g s → (c : List ℕ) → MayBe g s.disk c → IsDurable s c
@@ -52,12 +66,6 @@ proceeds_on {D} g a b c n first held second = record {
 -- what calls tell, where they wrote it, and where they wrote nothing
 abbrev pub Tells : {D : Type 0} → disk.Ghosts D → D → Meta → ℕ → Bool → D → Meta → Type 0
 Tells g old m n wrote new t = (wrote ≡ true → HasStored g old new m n × IsStoredNow m n t) × (wrote ≡ false → (new ≡ old) × (t ≡ record m { current = t.current }))
-
--- with the bodies that were held before, or those that were durable
-pub durable_held : {D : Type 0} (g : disk.Ghosts D) (old new : D) (m t : Meta) (n : ℕ) (wrote : Bool) (now before kept : List (List ℕ)) → now ≡ (if wrote then before else kept) → Tells g old m n wrote new t
-    → held_with now t.durable ≡ (if wrote then held_with before m.current else held_with kept m.durable)
-durable_held g old new m t n true now before kept is tells = ap (λ (b : List (List ℕ)). held_with b t.durable) is ∙ ap (held_with before) (tells.0 refl).1.durable
-durable_held g old new m t n false now before kept is tells = ap (λ (b : List (List ℕ)). held_with b t.durable) is ∙ ap (λ (x : Meta). held_with kept x.durable) (tells.1 refl).1
 
 -- the data blocks are those that reads gave
 holds_new : (y x : Catalog) (h : Held) (fsid n a b : ℕ) (d c : List ℕ) → a ≡ y.geometry → y.geometry ≡ b → Recovers fsid n y d c → held_at (blocks_in_image b d) x ≡ h → held_at (blocks_in_image a c) x ≡ h
@@ -138,6 +146,37 @@ module _ {D : Type 0} (g : disk.Ghosts D) (s : Store D) (lawful : IsMeta s.meta)
             applied_live t backs (λ c gives. ap (held_at (blocks_in_image s.meta.durable.geometry c)) current ∙ live.current c gives ∙ sym held) (rw (space, current) live.marks) (λ idle. rw space refl)
             s.space.current (rw live.marks (marks_there s.meta.current lawful.current)) true tells made (ap (λ (x : Space). x.durable) space);
       }
+
+-- ---- an event that is done
+
+-- what is then held, with which blocks marked
+pub record IsDone {D : Type 0} (g : disk.Ghosts D) (old : Parts D) (n : ℕ) (next : Held) (new : Parts D) : Type 0 where
+  pub files : IsHeldFiles new.bodies new.meta
+  pub sound : IsSound g (store_of new)
+  pub held : (store_of new).held ≡ next
+  pub proceeds : Proceeds g (store_of old) n (store_of new)
+
+-- the store after it, where it was told whether a snapshot was written of what was held before, whose blocks have the full marks
+abbrev pub after_event : {D : Type 0} → Parts D → D → Meta → Bool → List (List ℕ) → List Bool → List Bool → Bool → Parts D
+after_event p new m wrote bodies marks full pending =
+    record { disk = new; meta = m; bodies = bodies; durable = if wrote then p.bodies else p.durable; space = record { current = marks; durable = if wrote then full else p.space.durable }; pending = pending; failed = p.failed }
+
+module _ {D : Type 0} (g : disk.Ghosts D) (p : Parts D) (lawful : IsMeta p.meta) (live : IsLive g (store_of p)) (n : ℕ) (new : D) (m : Meta) (wrote : Bool) (tells : Tells g p.disk p.meta n wrote new m) (bodies : List (List ℕ)) (marks full : List Bool) (pending : Bool) where
+  abbrev after_it : Parts D
+  after_it = after_event p new m wrote bodies marks full pending
+
+  durable_is : (b : Bool) → Tells g p.disk p.meta n b new m → held_with (if b then p.bodies else p.durable) m.durable ≡ (if b then held_with p.bodies p.meta.current else held_with p.durable p.meta.durable)
+  durable_is true told = ap (held_with p.bodies) (told.0 refl).1.durable
+  durable_is false told = ap (λ (x : Meta). held_with p.durable x.durable) (told.1 refl).1
+
+  pub done : IsMeta m → Backs g new m → StoresOrKeeps g p.disk new p.meta n → IsHeldFiles bodies m → (held : Held) → held_with bodies m.current ≡ held → ((c : List ℕ) → g.gives p.disk c → held_at (blocks_in_image p.meta.durable.geometry c) m.current ≡ held)
+      → marks ≡ marks_of m.current → (pending ≡ false → after_it.space.durable ≡ marks) → AllByRecursion (λ b. slice_index_or full b false ≡ true) (blocks_of p.meta.current.files) → IsDone g p n held after_it
+  done lawful_now backs turns files held held_is current exact settled has = record {
+    files = files;
+    sound = record { meta = lawful_now; live = λ working. applied_live g (store_of p) lawful live n (store_of after_it) backs (λ c gives. current c gives ∙ sym held_is) exact settled full has wrote tells (durable_is wrote tells) refl };
+    held = held_is;
+    proceeds = applied_proceeds g (store_of p) lawful live n (store_of after_it) wrote turns tells (durable_is wrote tells);
+  }
 
 -- ---- an opening
 

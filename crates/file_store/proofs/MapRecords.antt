@@ -1,7 +1,9 @@
 -- The records that a change of a file's bytes is.
-use Rattle.std.proofs.Common.{rules, ◌≡◌, ℕ, zero, suc, ◌+◌, ◌-◌, ◌≤◌, min, List, [], ◌∷◌, ◌++◌, length, take, drop, get_or, Option, Some, None, refl, sym, ◌∙◌, ap, arith, length-append}
+use Rattle.std.proofs.Common.{rules, ◌≡◌, ⊎_elim, ◌<◌, ℕ, zero, suc, ◌+◌, ◌-◌, ◌≤◌, min, List, [], ◌∷◌, ◌++◌, length, take, drop, get_or, Option, Some, None, refl, sym, ◌∙◌, ap, arith, length-append, take_all}
+use Rattle.std.proofs.lemmas.Bool.{cases_lt}
 use Rattle.std.proofs.lemmas.Grind.{flat_map-append}
-use Rattle.std.proofs.lemmas.List.{append-nil, append_assoc, map-append, same_lists, places}
+use Rattle.std.proofs.lemmas.List.{drop_more, drop_all, get_or_past, append-nil, append_assoc, map-append, same_lists, places}
+use Rattle.file_body.proofs.Runs.{length_blocks}
 use Rattle.plain_model.specs.Blocks.{from_on, blocks_in}
 use Rattle.meta_store.specs.declared.snapshot.Mapping.{Mapping}
 use Rattle.meta_store.specs.declared.records.Record.{Record}
@@ -12,10 +14,6 @@ use Rattle.file_store.specs.Rewrites.{mappings_of, mappings_in, IsMapOn, IsRewri
 use Rattle.file_store.proofs.EachOf.{each-join}
 
 -- ---- places of two runs of blocks
-
-length-run : (a n : ℕ) → length (from_on a n) ≡ n
-length-run a zero = refl
-length-run a (suc n) = ap suc (length-run (a + 1) n)
 
 mappings-run : (a n : ℕ) (ps : List ℕ) → length ps ≡ length (from_on a n) → mappings_of (from_on a n) ps ≡ mappings_from a ps
 mappings-run a zero [] is = refl
@@ -32,7 +30,7 @@ pub mappings-runs : (a m b n : ℕ) (blocks ps : List ℕ) → from_on a m ++ fr
 mappings-runs a m b n blocks ps is long = mappings-two a m b n ps (long ∙ ap length (sym is)) ∙ ap (λ (bs : List ℕ). mappings_of bs ps) is
 
 pub run-within : (a m b n : ℕ) (blocks : List ℕ) → from_on a m ++ from_on b n ≡ blocks → m ≤ length blocks
-run-within a m b n blocks is = omega (arith, ap length is, length-append (from_on a m) (from_on b n), length-run a m)
+run-within a m b n blocks is = omega (arith, ap length is, length-append (from_on a m) (from_on b n), length_blocks None a m)
 
 -- ---- records one after the other
 
@@ -54,22 +52,18 @@ present-append [] qs = refl
 present-append (None ∷ ps) qs = present-append ps qs
 present-append (Some at ∷ ps) qs = ap (λ (bs : List ℕ). at ∷ bs) (present-append ps qs)
 
-present-none : (a n : ℕ) → present (places_under (from_on a n) []) ≡ []
-present-none a zero = refl
-present-none a (suc n) = present-none (a + 1) n
-
-under-next : (a n : ℕ) (p : Option ℕ) (ps : List (Option ℕ)) → places_under (from_on (a + 1) n) (p ∷ ps) ≡ places_under (from_on a n) ps
-under-next a zero p ps = refl
-under-next a (suc n) p ps = let e : a + 1 ≡ suc a = omega arith in rw (under-next (a + 1) n p ps, e) refl
+present-more : (p : Option ℕ) (ps qs : List (Option ℕ)) → present ps ≡ present qs → present (p ∷ ps) ≡ present (p ∷ qs)
+present-more None ps qs same = same
+present-more (Some at) ps qs same = ap (λ (bs : List ℕ). at ∷ bs) same
 
 present-run : (a n : ℕ) (ps : List (Option ℕ)) → present (take n (drop a ps)) ≡ present (places_under (from_on a n) ps)
-present-run zero zero ps = refl
-present-run zero (suc n) [] = sym (present-none 0 (suc n))
-present-run zero (suc n) (None ∷ ps) = present-run zero n ps ∙ ap present (sym (under-next 0 n None ps))
-present-run zero (suc n) (Some at ∷ ps) = ap (λ (bs : List ℕ). at ∷ bs) (present-run zero n ps ∙ ap present (sym (under-next 0 n (Some at) ps)))
-present-run (suc a) zero [] = refl
-present-run (suc a) (suc n) [] = sym (present-none (suc a) (suc n))
-present-run (suc a) n (p ∷ ps) = let e : a + 1 ≡ suc a = omega arith in present-run a n ps ∙ rw (← e, under-next a n p ps) refl
+present-run a zero ps = refl
+present-run a (suc n) ps =
+    let rest = present-run (a + 1) n ps in
+    ⊎_elim
+    (λ (there : a < length ps). rw (drop_more ps a None there) (present-more (get_or ps a None) (take n (drop (a + 1) ps)) (places_under (from_on (a + 1) n) ps) rest))
+    (λ (past : length ps ≤ a). rw (get_or_past ps a None past, drop_all a ps past) (rw (drop_all (a + 1) ps (omega arith), take_all {A = Option ℕ} n [] (omega arith)) at rest))
+    (cases_lt a (length ps))
 
 past-end : (n k : ℕ) (ps : List (Option ℕ)) → k ≡ min (length ps) n → take (length ps - k) (drop k ps) ≡ drop n ps
 past-end n k ps is = same_lists _ _ (search (rules, places)) (λ i d h. grind (arith, places))

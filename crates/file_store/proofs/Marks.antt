@@ -93,7 +93,7 @@ module _ (c : Catalog) (is : IsCatalog c) where
 
 -- ---- blocks that are freed
 
-has-uses : (b : ℕ) (ms : List ℕ) → list_any (λ m. eqb m b) ms ≡ ltb 0 (uses b ms)
+pub has-uses : (b : ℕ) (ms : List ℕ) → list_any (λ m. eqb m b) ms ≡ ltb 0 (uses b ms)
 has-uses b [] = refl
 has-uses b (m ∷ ms) = let rest = has-uses b ms in grind (arith, nat_tests)
 

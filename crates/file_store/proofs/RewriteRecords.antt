@@ -1,7 +1,7 @@
 -- The records of a change of a file's bytes: the catalog after them, and that they can come.
 use Rattle.std.proofs.Common.{◌≡◌, ℕ, ◌+◌, ◌<◌, ◌≤◌, List, [], ◌∷◌, ◌++◌, length, set, Option, Some, None, true, false, cond, eqb, refl, sym, ◌∙◌, ap, subst, arith}
 use Rattle.std.specs.List.{flat_map, list_any, AllByRecursion}
-use Rattle.std.proofs.lemmas.Bool.{and_from, eq-eqb, cond-true}
+use Rattle.std.proofs.lemmas.Bool.{cond_both, ltb-true}
 use Rattle.std.proofs.lemmas.List.{map-append}
 use Rattle.hsm_types.specs.declared.keys.FileKey.{FileKey}
 use Rattle.plain_model.specs.Keyed.{same_key, find_key, change_key}
@@ -11,18 +11,15 @@ use Rattle.meta_store.specs.declared.records.Record.{Record}
 use Rattle.meta_store.specs.declared.records.Record.TheVariants.{Size, Map}
 use Rattle.meta_store.specs.Catalogs.{CatalogFile, Catalog, geometry_of, blocks_of}
 use Rattle.meta_store.specs.Records.{places_set, mappings_from, file_after, with_changed, key_on, after, after_all, refusal_of_all, IsMappable, CanStandAll, IsMap, IsEvent}
-use Rattle.meta_store.proofs.BlockUses.{is_one, uses, uses-append, absent-unused, uses-distinct}
+use Rattle.meta_store.proofs.BlockUses.{uses, uses-append, absent-unused, uses-distinct}
 use Rattle.meta_store.proofs.FileEdits.{names_of-change}
 use Rattle.file_store.specs.Steps.{places_of}
 use Rattle.file_store.specs.Rewrites.{mappings_in, IsMapOn, IsRewriting, remapped}
 use Rattle.meta_store.proofs.MappedPlaces.{length-fitted, length-places_set, uses-fitted, uses-mapped}
-use Rattle.file_store.proofs.Marks.{uses-changed}
-use Rattle.file_store.proofs.EachOf.{each-parts}
+use Rattle.file_store.proofs.Marks.{has-uses, uses-changed}
+use Rattle.file_store.proofs.EachOf.{each-parts, each_member}
 
 -- ---- a file that changes twice
-
-same_itself : (k : FileKey) → same_key k k ≡ true
-same_itself k = and_from (eqb k.ino k.ino) (eqb k.igen k.igen) (eq-eqb k.ino k.ino refl) (eq-eqb k.igen k.igen refl)
 
 change-twice : (k : FileKey) (f g h : CatalogFile → CatalogFile) (fs : List CatalogFile) → ((x : CatalogFile) → (f x).key ≡ x.key) → ((x : CatalogFile) → g (f x) ≡ h x)
     → change_key (λ x. x.key) k g (change_key (λ x. x.key) k f fs) ≡ change_key (λ x. x.key) k h fs
@@ -53,24 +50,29 @@ places_set-append (m ∷ ms) ns ps = places_set-append ms ns (set ps m.block (So
 abbrev mapped_by : List Mapping → CatalogFile → CatalogFile
 mapped_by ms f = record f { places = places_set ms f.places }
 
-after-maps : (ino : ℕ) (k : FileKey) (maps : List Record) (c : Catalog) (to : CatalogFile → CatalogFile) → ((x : CatalogFile) → ((to x).key ≡ x.key) × ((to x).name ≡ x.name)) → key_on ino c ≡ k → AllByRecursion (IsMapOn ino) maps
-    → after_all maps (with_changed k to c) ≡ with_changed k (λ x. mapped_by (flat_map mappings_in maps) (to x)) c
-after-maps ino k [] c to same on each = refl
-after-maps ino k (Map i block places ∷ maps) c to same on each =
+same-files : (k : FileKey) (fs : List CatalogFile) → change_key (λ x. x.key) k (λ x. x) fs ≡ fs
+same-files k [] = refl
+same-files k (f ∷ fs) = cond_both (same_key f.key k) (f ∷ fs) (f ∷ change_key (λ x. x.key) k (λ x. x) fs) (λ gs. gs ≡ f ∷ fs) (λ same. refl) (λ other. ap (λ (gs : List CatalogFile). f ∷ gs) (same-files k fs))
+
+after-maps : (ino : ℕ) (maps : List Record) (c : Catalog) → AllByRecursion (IsMapOn ino) maps → after_all maps c ≡ with_changed (key_on ino c) (mapped_by (flat_map mappings_in maps)) c
+after-maps ino [] c each = ap (λ (fs : List CatalogFile). record c { files = fs }) (sym (same-files (key_on ino c) c.files))
+after-maps ino (Map i block places ∷ maps) c each =
     let ms : List Mapping = mappings_from block places.items in
     let rest : List Mapping = flat_map mappings_in maps in
-    let key : key_on i (with_changed k to c) ≡ k = ap (λ j. key_on j (with_changed k to c)) each.0.0 ∙ key_on-changed ino k to c same ∙ on in
-    ap (λ (j : FileKey). after_all maps (with_changed j (mapped_by ms) (with_changed k to c))) key
-    ∙ ap (λ (fs : List CatalogFile). after_all maps (record c { files = fs })) (change-twice k to (mapped_by ms) (λ x. mapped_by ms (to x)) c.files (λ x. (same x).0) (λ x. refl))
-    ∙ after-maps ino k maps c (λ x. mapped_by ms (to x)) same on each.1
-    ∙ ap (λ (fs : List CatalogFile). record c { files = fs }) (sym (change-twice k to (mapped_by (ms ++ rest)) (λ x. mapped_by rest (mapped_by ms (to x))) c.files (λ x. (same x).0) (λ x. ap (λ (ps : List (Option ℕ)). record (to x) { places = ps }) (sym (places_set-append ms rest (to x).places)))) ∙ change-twice k to (mapped_by (ms ++ rest)) (λ x. mapped_by (ms ++ rest) (to x)) c.files (λ x. (same x).0) (λ x. refl))
-after-maps ino k (r ∷ maps) c to same on each = absurd each.0
+    let next : Catalog = with_changed (key_on ino c) (mapped_by ms) c in
+    ap (λ (j : ℕ). after_all maps (with_changed (key_on j c) (mapped_by ms) c)) each.0.0
+    ∙ after-maps ino maps next each.1
+    ∙ ap (λ (k : FileKey). with_changed k (mapped_by rest) next) (key_on-changed ino (key_on ino c) (mapped_by ms) c (λ x. (refl, refl)))
+    ∙ ap (λ (fs : List CatalogFile). record c { files = fs }) (change-twice (key_on ino c) (mapped_by ms) (mapped_by rest) (mapped_by (ms ++ rest)) c.files (λ x. refl) (λ x. ap (λ (ps : List (Option ℕ)). record x { places = ps }) (places_set-append ms rest x.places)))
+after-maps ino (r ∷ maps) c each = absurd each.0
 
 pub after_rewriting : (ino size : ℕ) (ms : List Mapping) (rs : List Record) (c : Catalog) → IsRewriting ino size ms rs → after_all rs c ≡ with_changed (key_on ino c) (remapped size ms) c
 after_rewriting ino size ms rs c is =
+    let k : FileKey = key_on ino c in
+    let to : CatalogFile → CatalogFile = file_after (Size ino size) in
     ap (λ (xs : List Record). after_all xs c) is.first
-    ∙ after-maps ino (key_on ino c) is.maps c (file_after (Size ino size)) (λ x. (refl, refl)) refl is.each
-    ∙ ap (λ (ns : List Mapping). with_changed (key_on ino c) (remapped size ns) c) is.all
+    ∙ after-maps ino is.maps (with_changed k to c) is.each
+    ∙ rw (key_on-changed ino k to c (λ x. (refl, refl)), is.all) (ap (λ (fs : List CatalogFile). record c { files = fs }) (change-twice k to (mapped_by ms) (remapped size ms) c.files (λ x. refl) (λ x. refl)))
 
 -- ---- they are an event, which nothing refuses
 
@@ -108,11 +110,7 @@ abbrev Once : List ℕ → List ℕ → Type 0
 Once places blocks = (n : ℕ) → uses n places + uses n blocks ≤ 1
 
 each-unused : (ps bs : List ℕ) → Once ps bs → AllByRecursion (λ p. list_any (λ b. eqb b p) bs ≡ false) ps
-each-unused [] bs once = tt
-each-unused (p ∷ ps) bs once =
-    let here : is_one p p ≡ 1 = cond-true (eqb p p) 1 0 (eq-eqb p p refl) in
-    let most = once p in
-    (absent-unused p bs (omega arith), each-unused ps bs (λ n. let all = once n in omega arith))
+each-unused ps bs once = each_member (λ p. list_any (λ b. eqb b p) bs ≡ false) ps (λ p there. let some = ltb-true 0 (uses p ps) (sym (has-uses p ps) ∙ there) in let most = once p in absent-unused p bs (omega arith))
 
 mappable : (n total block : ℕ) (ps : List ℕ) (f : CatalogFile) (c : Catalog) → length f.places ≡ n → (geometry_of c.geometry).blocks ≡ total → 1 ≤ length ps → Fit n total (mappings_from block ps) → Once ps (blocks_of c.files) → IsMappable block ps f c
 mappable n total block [] f c long blocks some fit once = absurd (omega arith)

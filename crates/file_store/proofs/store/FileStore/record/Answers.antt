@@ -1,10 +1,13 @@
-use Rattle.std.proofs.Common.{rules, Err, ◌≡◌, cond, refl, sym, ◌∙◌, ap, arith}
-use Rattle.file_store.proofs.WithBodies.{slot-there}
-use Rattle.file_store.proofs.Recorded.{Parts, IsRecorded, recorded, is_disk, refused_sound, refused_part, refusal_alone}
-use Rattle.file_store.proofs.Durable.{kept_proceeds, sound_idle}
+use Rattle.std.proofs.Common.{rules, Err, ◌≡◌, ◌||◌, refl, sym, ◌∙◌, ap, arith}
+use Rattle.block_space.specs.Space.{unmarked}
 use Rattle.meta_store.specs.Records.{after_all, refusal_of_all}
+use Rattle.file_store.specs.Bodies.{held_with}
+use Rattle.file_store.specs.Effects.{held_after, drops}
+use Rattle.file_store.proofs.Durable.{Parts, IsDone, after_event, kept_proceeds, sound_idle}
+use Rattle.file_store.proofs.Recorded.{within, recorded, is_disk, refused_sound, refused_part, refusal_alone}
+use Rattle.file_store.proofs.WithBodies.{bodies_after, slot-there}
 use Rattle.file_store.proofs.store.FileStore.record.Given.{Over}
-use Rattle.file_store.proofs.store.FileStore.record.Goals.{After-deref, After-eq-self-inside}
+use Rattle.file_store.proofs.store.FileStore.record.Goals.{After-apply, In-Ok, After-eq-self-inside}
 use Rattle.file_store.proofs.store.FileStore.record.Goals as goal
 
 pub clear-requires : goal.clear-requires
@@ -12,34 +15,34 @@ clear-requires g c = λ is. slot-there _ _ c.self.invariant.0 c.args.key c.args.
 
 -- ---- it was taken
 
-durable_kept : (g : Over) (c : After-deref g) → c.make_durable.new.durable.value.items ≡ cond c.in-Ok.wrote c.self.inside.bodies.items c.self.inside.durable.value.items
-durable_kept g c = rw (c.make_durable.ensures.bodies, c.of-before.ensures) refl
-
-abbrev parts : (g : Over) (c : After-deref g) → Parts g.row.D.Denot
+abbrev parts : (g : Over) → After-apply g → Parts g.row.D.Denot
 parts g c = record { disk = c.self.inside.disk; meta = c.self.inside.meta; bodies = c.self.inside.bodies.items; durable = c.self.inside.durable.value.items; space = c.self.inside.space; pending = c.self.inside.pending; failed = c.self.inside.failed }
 
-taken : (g : Over) (c : After-deref g) → IsRecorded g.D.Disk c.args.key c.args.change c.in_ok-freed.freed.items (parts g c) c.apply.new.disk c.apply.new.self c.args.number c.in-Ok.wrote
+taken : (g : Over) (c : In-Ok g) → IsDone g.D.Disk (parts g (goal.at.In-Ok g c).After-apply) c.args.number (held_after c.args.key c.args.change (held_with c.self.inside.bodies.items c.self.inside.meta.current))
+    (after_event (parts g (goal.at.In-Ok g c).After-apply) c.apply.new.disk c.apply.new.self c.in-Ok.wrote (bodies_after c.args.key c.args.change c.self.inside.bodies.items) (unmarked c.in_ok-freed.freed.items c.self.inside.space.current) c.self.inside.space.current (c.self.inside.pending || drops c.args.change))
 taken g c =
-    recorded g.D.Disk c.args.key c.args.change c.in_ok-freed.freed.items (parts g c) c.apply.new.disk c.apply.new.self c.args.number c.in-Ok.wrote c.self.invariant.0 c.self.invariant.1
-    (ap (λ s. s.failed) c.self.view_is ∙ c.requires.working) (rw (← c.self.view_is) at c.requires.bodiless) (rw (← c.self.view_is) at c.requires.stands) (rw c.catalog.ensures.catalog at c.in_ok-freed.ensures)
-    (c.in-Ok.ensures.taken.current ∙ ap (λ rs. after_all rs c.self.inside.meta.current) c.in_ok-records.ensures) (c.in-Ok.ensures.wrote, c.in-Ok.ensures.staged) c.in-Ok.ensures.lawful c.in-Ok.ensures.backs c.apply.ensures.any_moment
+    recorded g.D.Disk c.args.key c.args.change c.in_ok-freed.freed.items (parts g (goal.at.In-Ok g c).After-apply) c.self.invariant.0 c.self.invariant.1 (ap (λ s. s.failed) c.self.view_is ∙ c.requires.working) (rw (← c.self.view_is) at c.requires.bodiless) (rw (← c.self.view_is) at c.requires.stands)
+    (rw c.catalog.ensures.catalog at c.in_ok-freed.ensures) c.apply.new.disk c.apply.new.self c.args.number c.in-Ok.wrote (c.in-Ok.ensures.wrote, c.in-Ok.ensures.staged) (c.in-Ok.ensures.taken.current ∙ ap (λ rs. after_all rs c.self.inside.meta.current) c.in_ok-records.ensures)
+    c.in-Ok.ensures.lawful c.in-Ok.ensures.backs c.apply.ensures.any_moment
 
 pub release_all-requires : goal.release_all-requires
-release_all-requires g c = rw (c.deref.ensures.value, c.make_durable.ensures.blocks) (taken g c).within
+release_all-requires g c =
+    rw (c.deref.ensures.value, c.make_durable.ensures.blocks)
+    (within g.D.Disk c.args.key c.args.change c.in_ok-freed.freed.items (parts g (goal.at.release_all-requires g c).After-apply) c.self.invariant.0 c.self.invariant.1 (ap (λ s. s.failed) c.self.view_is ∙ c.requires.working) (rw (← c.self.view_is) at c.requires.bodiless)
+    (rw (← c.self.view_is) at c.requires.stands) (rw c.catalog.ensures.catalog at c.in_ok-freed.ensures))
 
 pub invariant_of-self : goal.invariant_of-self
 invariant_of-self g c =
-    let at = (goal.at.invariant_of-self g c).After-deref in
-    let is = taken g at in
-    rw (c.release_all.ensures, c.deref.ensures.value, c.clear.ensures, c.empties-empty.ensures, c.drops-gone.ensures, durable_kept g at, c.make_durable.ensures.blocks) (is.files, is.sound)
+    let is = taken g (goal.at.invariant_of-self g c).In-Ok in
+    rw (c.release_all.ensures, c.deref.ensures.value, c.clear.ensures, c.empties-empty.ensures, c.drops-gone.ensures, c.make_durable.ensures.bodies, c.of-before.ensures, c.make_durable.ensures.blocks) (is.files, is.sound)
 
 pub returns-in-Ok-clause-held : goal.returns-in-Ok-clause-held
-returns-in-Ok-clause-held g c = rw (c.clear.ensures, c.empties-empty.ensures, ← c.self.view_is) (taken g (goal.at.returns-in-Ok-clause-held g c).After-deref).held
+returns-in-Ok-clause-held g c = rw (c.clear.ensures, c.empties-empty.ensures, ← c.self.view_is) (taken g (goal.at.returns-in-Ok-clause-held g c).In-Ok).held
 
 pub returns-in-Ok-clause-proceeds : goal.returns-in-Ok-clause-proceeds
 returns-in-Ok-clause-proceeds g c =
-    let at = (goal.at.returns-in-Ok-clause-proceeds g c).After-deref in
-    rw (c.release_all.ensures, c.deref.ensures.value, c.clear.ensures, c.empties-empty.ensures, c.drops-gone.ensures, durable_kept g at, c.make_durable.ensures.blocks, ← c.self.view_is) (taken g at).proceeds
+    rw (c.release_all.ensures, c.deref.ensures.value, c.clear.ensures, c.empties-empty.ensures, c.drops-gone.ensures, c.make_durable.ensures.bodies, c.of-before.ensures, c.make_durable.ensures.blocks, ← c.self.view_is)
+    (taken g (goal.at.returns-in-Ok-clause-proceeds g c).In-Ok).proceeds
 
 -- ---- it wasn't taken
 

@@ -1,4 +1,4 @@
-use Rattle.std.proofs.Common.{rules, ◌≡◌, ◌+◌, ◌-◌, ◌*◌, ◌<◌, ◌≤◌, ℕ, List, [], length, set, map, take, Bool, if◌then◌else◌, refl, sym, ◌∙◌, ap, subst, arith}
+use Rattle.std.proofs.Common.{rules, ◌≡◌, ◌+◌, ◌-◌, ◌*◌, ◌<◌, ◌≤◌, ℕ, List, [], length, set, take, Bool, true, refl, sym, ◌∙◌, ap, subst, arith}
 use Rattle.std.specs.Prelude.{Result, Ok, Err, IsOk, OnOk}
 use Rattle.std.specs.List.{All, AllByRecursion}
 use Rattle.std.proofs.lemmas.List.{get_or_read, set-get_or}
@@ -25,11 +25,11 @@ use Rattle.file_store.specs.declared.refusal.StoreRefusal.{StoreRefusal}
 use Rattle.file_store.specs.Stores.{Store, Proceeds, IsLive}
 use Rattle.file_store.proofs.Beside.{blocks_low, blocks_fit}
 use Rattle.file_store.proofs.FilesBy.{used-held}
-use Rattle.file_store.proofs.Durable.{sound_idle, Tells, durable_held}
+use Rattle.file_store.proofs.Durable.{Parts, store_of, IsDone, after_event, sound_idle}
 use Rattle.file_store.proofs.GrownBodies.{grown, length-grown, changed-grown, grown-enough, grown-no_more, grown-back}
 use Rattle.file_store.proofs.WithBodies.{IsFound, live-held, body-held, held_with-rewritten, IsHeldFiles-rewritten}
 use Rattle.file_store.proofs.RewriteRecords.{is_event, not_refused}
-use Rattle.file_store.proofs.RewrittenStores.{Given, body_of, size_of, long, apart, within, stand, become, places_within, freed_within, undone, written_proceeds, written_live, refused_proceeds, done_proceeds, done_live, size-few, from_same}
+use Rattle.file_store.proofs.RewrittenStores.{Given, body_of, size_of, long, apart, within, stand, become, places_within, freed_within, undone, written_proceeds, written_live, refused_proceeds, rewritten, size-few}
 use Rattle.file_store.proofs.Recorded.{is_disk, refused_sound, refused_part}
 use Rattle.file_store.proofs.Putting.{blocks-mapped}
 use Rattle.file_store.proofs.Marks.{enough}
@@ -39,16 +39,13 @@ use Rattle.file_store.proofs.store.FileStore.rewrite.Goals as goal
 
 -- ---- what is known before the first write
 
-abbrev bodies : (g : Over) → After-of-before g → List (List ℕ)
-bodies g c = c.self.inside.bodies.items
+abbrev parts : (g : Over) → After-of-before g → Parts g.row.D.Denot
+parts g c = record { disk = c.self.inside.disk; meta = c.self.inside.meta; bodies = c.self.inside.bodies.items; durable = c.self.inside.durable.value.items; space = c.self.inside.space; pending = c.self.inside.pending; failed = c.self.inside.failed }
 
-abbrev store : (g : Over) → After-of-before g → Store g.row.D.Denot
-store g c = record { disk = c.self.inside.disk; meta = c.self.inside.meta; held = held_with (bodies g c) c.self.inside.meta.current; durable = held_with c.self.inside.durable.value.items c.self.inside.meta.durable; space = c.self.inside.space; pending = c.self.inside.pending; failed = c.self.inside.failed }
+found : (g : Over) (c : After-of-before g) → IsFound (length c.self.inside.bodies.items) c.self.inside.meta.current c.args.key
+found g c = live-held c.self.inside.bodies.items c.self.inside.meta c.self.invariant.0 c.args.key (rw (← c.self.view_is) at c.requires.live)
 
-found : (g : Over) (c : After-of-before g) → IsFound (length (bodies g c)) c.self.inside.meta.current c.args.key
-found g c = live-held (bodies g c) c.self.inside.meta c.self.invariant.0 c.args.key (rw (← c.self.view_is) at c.requires.live)
-
-live : (g : Over) (c : After-of-before g) → IsLive g.D.Disk (store g c)
+live : (g : Over) (c : After-of-before g) → IsLive g.D.Disk (store_of (parts g c))
 live g c = c.self.invariant.1.live (ap (λ s. s.failed) c.self.view_is ∙ c.requires.working)
 
 body_is : (g : Over) (c : After-count g) → c.index_mut-body.result.now ≡ body_of c.self.inside.bodies.items c.args.key
@@ -74,12 +71,11 @@ enough_free g c =
     let l = live g before in
     enough c.self.inside.meta.current c.self.invariant.1.meta.current c.self.inside.space c.count.result l.marks (l.settled (ap (λ s. s.pending) c.self.view_is ∙ c.requires.settled)) (room g c)
 
-given : (g : Over) (c : After-as_slice-places g) → Given g.D.Disk (store g (goal.at.After-as_slice-places g c).After-of-before) c.self.inside.bodies.items c.args.key c.args.change c.touched-touched.result c.as_slice-places.result.now
+given : (g : Over) (c : After-as_slice-places g) → Given g.D.Disk (parts g (goal.at.After-as_slice-places g c).After-of-before) c.args.key c.args.change c.touched-touched.result c.as_slice-places.result.now
 given g c =
     let at = goal.at.After-as_slice-places g c in
     record {
       files = c.self.invariant.0;
-      held = refl;
       lawful = c.self.invariant.1.meta;
       live = live g at.After-of-before;
       at = found g at.After-of-before;
@@ -115,13 +111,7 @@ keeps g c = subst (λ (base : ℕ). Keeps g.D.Disk c.self.inside.disk c.put_bloc
 
 written : (g : Over) (c : In-Ok-put_blocks g) → Follows (HasBlocks (layout_of c.self.inside.meta.durable.geometry).blocks (rebody (effect_of c.args.change) (grown (size_of c.args.change (body_of c.self.inside.bodies.items c.args.key)) (body_of c.self.inside.bodies.items c.args.key)))
     (mappings_of c.touched-touched.result c.as_slice-places.result.now)) (g.D.Disk.gives c.self.inside.disk) (g.D.Disk.gives c.put_blocks.new.disk)
-written g c =
-    let at = (goal.at.In-Ok-put_blocks g c).After-of_geometry-base in
-    let ts = c.touched-touched.result in
-    let change = effect_of c.args.change in
-    let after : List ℕ = rebody change (grown (size_of c.args.change (body_of c.self.inside.bodies.items c.args.key)) (body_of c.self.inside.bodies.items c.args.key)) in
-    subst (λ (base : ℕ). Follows (HasBlocks base after (mappings_of ts c.as_slice-places.result.now)) (g.D.Disk.gives c.self.inside.disk) (g.D.Disk.gives c.put_blocks.new.disk)) (base_is g at)
-    (subst (λ (b : List ℕ). Follows (HasBlocks c.of_geometry-base.result.blocks (rebody change b) (mappings_of ts c.as_slice-places.result.now)) (g.D.Disk.gives c.self.inside.disk) (g.D.Disk.gives c.put_blocks.new.disk)) (grown_is g at) c.in-Ok-put_blocks.ensures.written)
+written g c = let at = (goal.at.In-Ok-put_blocks g c).After-of_geometry-base in rw (base_is g at, grown_is g at) at c.in-Ok-put_blocks.ensures.written
 
 refused_memory : (refusal : MetaRefusal) → refused_as refusal ≡ StoreRefusal.Memory → refusal ≡ MetaRefusal.Memory
 refused_memory (MetaRefusal.Part why) is = cc
@@ -155,8 +145,7 @@ old_body g c =
 
 pub returns-then-number-gt-LAST_NUMBER-clause-proceeds : goal.returns-then-number-gt-LAST_NUMBER-clause-proceeds
 returns-then-number-gt-LAST_NUMBER-clause-proceeds g c =
-    from_same g.D.Disk _ _ c.args.number _ c.self.view_is (subst (λ (s : Store g.row.D.Denot). Proceeds g.D.Disk (store g (goal.at.returns-then-number-gt-LAST_NUMBER-clause-proceeds g c).After-of-before) c.args.number s) c.self.view_is
-    (sound_idle g.D.Disk _ c.args.number c.self.invariant.1 (g.met.D.Disk.only_now c.self.inside.disk) (ap (λ s. s.failed) c.self.view_is ∙ c.requires.working)))
+    rw (← c.self.view_is) (sound_idle g.D.Disk _ c.args.number c.self.invariant.1 (g.met.D.Disk.only_now c.self.inside.disk) (ap (λ s. s.failed) c.self.view_is ∙ c.requires.working))
 
 pub slot-requires : goal.slot-requires
 slot-requires g c = (found g (goal.at.slot-requires g c).After-of-before).low
@@ -174,7 +163,7 @@ take-requires g c = let at = (goal.at.take-requires g c).After-count in record {
 pub prepare-requires : goal.prepare-requires
 prepare-requires g c =
     let at = goal.at.prepare-requires g c in
-    record { live = rw (c.catalog-catalog.ensures.catalog, (found g at.After-of-before).found) refl; lawful = c.requires.lawful; count = long g.D.Disk _ _ _ _ _ _ (given g at.After-as_slice-places) }
+    record { live = rw (c.catalog-catalog.ensures.catalog, (found g at.After-of-before).found) refl; lawful = c.requires.lawful; count = long g.D.Disk _ _ _ _ _ (given g at.After-as_slice-places) }
 
 -- the space once they are taken
 space_is : (g : Over) (c : After-as_slice-places g) → c.take.new.space ≡ record c.self.inside.space { current = marked c.as_slice-places.result.now c.self.inside.space.current }
@@ -185,10 +174,10 @@ space_back : (g : Over) (c : After-as_slice-places g) (new : Space) → new ≡ 
 space_back g c new is =
     is
     ∙ ap (λ (x : Space). record x { current = unmarked c.as_slice-places.result.now x.current }) (space_is g c)
-    ∙ ap (λ (flags : List Bool). record c.self.inside.space { current = flags }) (undone g.D.Disk _ _ _ _ _ _ (given g c))
+    ∙ ap (λ (flags : List Bool). record c.self.inside.space { current = flags }) (undone g.D.Disk _ _ _ _ _ (given g c))
 
 all_within : (g : Over) (c : After-as_slice-places g) → All (λ b. b < length c.take.new.space.current) c.as_slice-places.result.now
-all_within g c = subst (λ (x : Space). All (λ b. b < length x.current) c.as_slice-places.result.now) (sym (space_is g c)) (places_within g.D.Disk _ _ _ _ _ _ (given g c))
+all_within g c = subst (λ (x : Space). All (λ b. b < length x.current) c.as_slice-places.result.now) (sym (space_is g c)) (places_within g.D.Disk _ _ _ _ _ (given g c))
 
 pub release_all-requires : goal.release_all-requires
 release_all-requires g c = all_within g (goal.at.release_all-requires g c).After-as_slice-places
@@ -207,16 +196,16 @@ put_blocks-requires g c =
     record {
       change = c.requires.lawful;
       grows = λ some. rw (grown_is g at.After-of_geometry-base) (grown-no_more c.args.change (body_of c.self.inside.bodies.items c.args.key) (omega (arith, ap length (touched_is g at.After-count))));
-      count = long g.D.Disk _ _ _ _ _ _ known;
+      count = long g.D.Disk _ _ _ _ _ known;
       low = omega (arith, base, blocks_low geometry);
-      fits = rw base (blocks_fit geometry _ (live g at.After-of-before).backs.length _ (within g.D.Disk _ _ _ _ _ _ known));
-      apart = apart g.D.Disk _ _ _ _ _ _ known;
+      fits = rw base (blocks_fit geometry _ (live g at.After-of-before).backs.length _ (within g.D.Disk _ _ _ _ _ known));
+      apart = apart g.D.Disk _ _ _ _ _ known;
     }
 
 pub returns-in_default-put_blocks-clause-proceeds : goal.returns-in_default-put_blocks-clause-proceeds
 returns-in_default-put_blocks-clause-proceeds g c =
     let at = goal.at.returns-in_default-put_blocks-clause-proceeds g c in
-    from_same g.D.Disk _ _ c.args.number _ c.self.view_is (written_proceeds g.D.Disk _ _ _ _ _ _ (given g at.After-as_slice-places) _ (keeps g at.After-put_blocks) c.args.number _ refl refl refl)
+    rw (← c.self.view_is) (written_proceeds g.D.Disk _ _ _ _ _ (given g at.After-as_slice-places) _ (keeps g at.After-put_blocks) c.args.number _ refl refl refl)
 
 pub apply-requires : goal.apply-requires
 apply-requires g c =
@@ -224,76 +213,47 @@ apply-requires g c =
     let known = given g at.After-as_slice-places in
     let records = rewriting g at.After-of_geometry-base in
     record {
-      backs = (written_live g.D.Disk _ _ _ _ _ _ known _ (keeps g at.After-put_blocks) (written g at.In-Ok-put_blocks)).backs;
+      backs = (written_live g.D.Disk _ _ _ _ _ known _ (keeps g at.After-put_blocks) (written g at.In-Ok-put_blocks)).backs;
       event = is_event _ _ _ _ records;
-      stand = stand g.D.Disk _ _ _ _ _ _ known _ records;
+      stand = stand g.D.Disk _ _ _ _ _ known _ records;
       number = omega (arith, c.if-number-gt-LAST_NUMBER.false);
     }
 
 -- ---- once the records are taken
 
-next_is : (g : Over) (c : In-Ok-apply g) → c.apply.new.self.current ≡ with_changed c.args.key (remapped (size_of c.args.change (body_of c.self.inside.bodies.items c.args.key)) (mappings_of c.touched-touched.result c.as_slice-places.result.now)) c.self.inside.meta.current
-next_is g c = let at = goal.at.In-Ok-apply g c in c.in-Ok-apply.ensures.taken.current ∙ become g.D.Disk _ _ _ _ _ _ (given g at.After-as_slice-places) _ (rewriting g at.After-of_geometry-base)
-
-blocks_are : (g : Over) (c : After-as_slice-places g) → map (λ (m : Mapping). m.block) (mappings_of c.touched-touched.result c.as_slice-places.result.now) ≡ touched (effect_of c.args.change) (length (body_of c.self.inside.bodies.items c.args.key))
-blocks_are g c = blocks-mapped c.touched-touched.result c.as_slice-places.result.now (long g.D.Disk _ _ _ _ _ _ (given g c)) ∙ touched_is g (goal.at.After-as_slice-places g c).After-count
-
-held_is : (g : Over) (c : After-apply-in-Ok-apply g) → held_with (set c.self.inside.bodies.items c.slot.result c.apply-in-Ok-apply.new.body) c.apply.new.self.current ≡ record (held_with c.self.inside.bodies.items c.self.inside.meta.current) { files = affected_held (effect_of c.args.change) c.args.key (held_with c.self.inside.bodies.items c.self.inside.meta.current).files }
-held_is g c =
-    let at = goal.at.After-apply-in-Ok-apply g c in
-    rw (c.slot.ensures, new_body g c, next_is g at.In-Ok-apply)
-    (held_with-rewritten c.self.inside.bodies.items c.self.inside.meta c.self.invariant.0 c.args.key (found g at.After-of-before) c.args.change _ _ refl (blocks_are g at.After-as_slice-places))
-
-tells : (g : Over) (c : In-Ok-apply g) → Tells g.D.Disk c.put_blocks.new.disk c.self.inside.meta c.args.number c.in-Ok-apply.wrote c.apply.new.disk c.apply.new.self
-tells g c = (λ e. c.in-Ok-apply.ensures.wrote e, λ e. c.in-Ok-apply.ensures.staged e)
-
-durable_is : (g : Over) (c : After-make_durable g) → held_with c.make_durable.new.durable.value.items c.apply.new.self.durable
-    ≡ (if c.in-Ok-apply.wrote then held_with c.self.inside.bodies.items c.self.inside.meta.current else held_with c.self.inside.durable.value.items c.self.inside.meta.durable)
-durable_is g c =
-    durable_held g.D.Disk _ _ c.self.inside.meta c.apply.new.self c.args.number c.in-Ok-apply.wrote _ _ _ (c.make_durable.ensures.bodies ∙ ap (λ (v : Vec (List ℕ)). if c.in-Ok-apply.wrote then v.items else c.self.inside.durable.value.items) c.of-before.ensures) (tells g (goal.at.After-make_durable g c).In-Ok-apply)
-
-space_kept : (g : Over) (c : After-make_durable g) → c.make_durable.new.space ≡ record { current = marked c.as_slice-places.result.now c.self.inside.space.current; durable = if c.in-Ok-apply.wrote then marked c.as_slice-places.result.now c.self.inside.space.current else c.self.inside.space.durable }
-space_kept g c = c.make_durable.ensures.blocks ∙ ap (λ (x : Space). record x { durable = if c.in-Ok-apply.wrote then x.current else x.durable }) (space_is g (goal.at.After-make_durable g c).After-as_slice-places)
+taken : (g : Over) (c : In-Ok-apply g) → IsDone g.D.Disk (parts g (goal.at.In-Ok-apply g c).After-of-before) c.args.number (record (held_with c.self.inside.bodies.items c.self.inside.meta.current) { files = affected_held (effect_of c.args.change) c.args.key (held_with c.self.inside.bodies.items c.self.inside.meta.current).files })
+    (after_event (parts g (goal.at.In-Ok-apply g c).After-of-before) c.apply.new.disk c.apply.new.self c.in-Ok-apply.wrote (set c.self.inside.bodies.items (c.args.key.ino - 1) (rebody (effect_of c.args.change) (body_of c.self.inside.bodies.items c.args.key)))
+    (unmarked c.in-Ok.plan.freed.items (marked c.as_slice-places.result.now c.self.inside.space.current)) (marked c.as_slice-places.result.now c.self.inside.space.current) true)
+unfolding given found
+taken g c =
+    let at = goal.at.In-Ok-apply g c in
+    let known = given g at.After-as_slice-places in
+    let current = c.in-Ok-apply.ensures.taken.current ∙ become g.D.Disk _ _ _ _ _ known _ (rewriting g at.After-of_geometry-base) in
+    rewritten g.D.Disk _ _ _ _ _ known _ (keeps g at.After-put_blocks) (written g at.In-Ok-put_blocks) c.args.number _ _ c.in-Ok-apply.wrote _ (freed_is g at.After-of_geometry-base) (λ e. c.in-Ok-apply.ensures.wrote e, λ e. c.in-Ok-apply.ensures.staged e) current
+    c.in-Ok-apply.ensures.lawful c.in-Ok-apply.ensures.backs c.apply.ensures.any_moment
 
 pub release_all-requires-in-Ok-apply : goal.release_all-requires-in-Ok-apply
 unfolding given found
 release_all-requires-in-Ok-apply g c =
     let at = goal.at.release_all-requires-in-Ok-apply g c in
-    subst (λ (xs : List ℕ). All (λ b. b < length c.make_durable.new.space.current) xs) (sym c.deref.ensures.value)
-    (subst (λ (x : Space). All (λ b. b < length x.current) c.in-Ok.plan.freed.items) (sym (space_kept g at.After-make_durable)) (freed_within g.D.Disk _ _ _ _ _ _ (given g at.After-as_slice-places) _ (freed_is g at.After-of_geometry-base)))
-
-space_next : (g : Over) (c : After-release_all-in-Ok-apply g) → c.release_all-in-Ok-apply.new.self
-    ≡ record { current = unmarked c.in-Ok.plan.freed.items (marked c.as_slice-places.result.now c.self.inside.space.current); durable = if c.in-Ok-apply.wrote then marked c.as_slice-places.result.now c.self.inside.space.current else c.self.inside.space.durable }
-space_next g c =
-    c.release_all-in-Ok-apply.ensures
-    ∙ ap (λ (x : Space). record x { current = unmarked c.deref.result.now x.current }) (space_kept g (goal.at.After-release_all-in-Ok-apply g c).After-make_durable)
-    ∙ ap (λ (xs : List ℕ). record { current = unmarked xs (marked c.as_slice-places.result.now c.self.inside.space.current); durable = if c.in-Ok-apply.wrote then marked c.as_slice-places.result.now c.self.inside.space.current else c.self.inside.space.durable }) c.deref.ensures.value
+    rw (c.deref.ensures.value, c.make_durable.ensures.blocks, space_is g at.After-as_slice-places) (freed_within g.D.Disk _ _ _ _ _ (given g at.After-as_slice-places) _ (freed_is g at.After-of_geometry-base))
 
 pub invariant_of-self-in-Ok-apply : goal.invariant_of-self-in-Ok-apply
-unfolding given found
 invariant_of-self-in-Ok-apply g c =
     let at = goal.at.invariant_of-self-in-Ok-apply g c in
-    let next = next_is g at.In-Ok-apply in
-    let space = space_next g at.After-release_all-in-Ok-apply in (
-      rw (c.slot.ensures, new_body g at.After-apply-in-Ok-apply)
-          (IsHeldFiles-rewritten c.self.inside.bodies.items c.self.inside.meta c.self.invariant.0 c.args.key (found g at.After-of-before) c.args.change _ _ refl (blocks_are g at.After-as_slice-places) c.apply.new.self next c.in-Ok-apply.ensures.lawful.current),
-      record {
-        meta = c.in-Ok-apply.ensures.lawful;
-        live = λ working. done_live g.D.Disk _ _ _ _ _ _ (given g at.After-as_slice-places) _ (keeps g at.After-put_blocks) (written g at.In-Ok-put_blocks) c.args.number _ c.in-Ok-apply.wrote _ (freed_is g at.After-of_geometry-base) c.in-Ok-apply.ensures.backs next
-            (held_is g at.After-apply-in-Ok-apply) (ap (λ (x : Space). x.current) space) (ap (λ (x : Space). x.durable) space) refl (tells g at.In-Ok-apply) (durable_is g at.After-make_durable);
-      },
-    )
+    let is = taken g at.In-Ok-apply in
+    rw (c.slot.ensures, new_body g at.After-apply-in-Ok-apply, c.release_all-in-Ok-apply.ensures, c.deref.ensures.value, c.make_durable.ensures.blocks, space_is g at.After-as_slice-places, c.make_durable.ensures.bodies, c.of-before.ensures) (is.files, is.sound)
 
 pub returns-in-Ok-apply-clause-held : goal.returns-in-Ok-apply-clause-held
 returns-in-Ok-apply-clause-held g c =
-    held_is g (goal.at.returns-in-Ok-apply-clause-held g c).After-apply-in-Ok-apply
-    ∙ ap (λ (s : Store g.row.D.Denot). record s.held { files = affected_held (effect_of c.args.change) c.args.key s.held.files }) c.self.view_is
+    let at = goal.at.returns-in-Ok-apply-clause-held g c in
+    rw (c.slot.ensures, new_body g at.After-apply-in-Ok-apply, ← c.self.view_is) (taken g at.In-Ok-apply).held
 
 pub returns-in-Ok-apply-clause-proceeds : goal.returns-in-Ok-apply-clause-proceeds
 returns-in-Ok-apply-clause-proceeds g c =
     let at = goal.at.returns-in-Ok-apply-clause-proceeds g c in
-    from_same g.D.Disk _ _ c.args.number _ c.self.view_is
-    (done_proceeds g.D.Disk _ _ _ _ _ _ (given g at.After-as_slice-places) _ (keeps g at.After-put_blocks) (written g at.In-Ok-put_blocks) c.args.number _ c.in-Ok-apply.wrote c.apply.ensures.any_moment (tells g at.In-Ok-apply) (durable_is g at.After-make_durable))
+    rw (c.slot.ensures, new_body g at.After-apply-in-Ok-apply, c.release_all-in-Ok-apply.ensures, c.deref.ensures.value, c.make_durable.ensures.blocks, space_is g at.After-as_slice-places, c.make_durable.ensures.bodies, c.of-before.ensures, ← c.self.view_is)
+    (taken g at.In-Ok-apply).proceeds
 
 -- ---- where they aren't taken
 
@@ -317,7 +277,7 @@ invariant_of-self-in-Err-apply g c =
     rw (bodies_back g at.After-resize-in-Err, space_same g at.After-release_all-in-Err, c.in-Err.ensures.err, failed_is g at.After-eq-self-inside) (
       c.self.invariant.0,
       refused_sound g.D.Disk _ c.apply.new.disk c.in-Err.refusal
-          (record { meta = sound.meta; live = λ still. written_live g.D.Disk _ _ _ _ _ _ (given g at.After-as_slice-places) _ (keeps g at.After-put_blocks) (written g at.In-Ok-put_blocks) })
+          (record { meta = sound.meta; live = λ still. written_live g.D.Disk _ _ _ _ _ (given g at.After-as_slice-places) _ (keeps g at.After-put_blocks) (written g at.In-Ok-put_blocks) })
           working (λ why is. c.in-Err.ensures.unwritten why (ap (λ e. Err e) is)) (λ is. c.in-Err.ensures.memory (ap (λ e. Err e) is)),
     )
 
@@ -339,5 +299,4 @@ returns-in-Err-clause-no_part g c = λ why is.
 pub returns-in-Err-clause-proceeds : goal.returns-in-Err-clause-proceeds
 returns-in-Err-clause-proceeds g c =
     let at = goal.at.returns-in-Err-clause-proceeds g c in
-    from_same g.D.Disk _ _ c.args.number _ c.self.view_is
-    (refused_proceeds g.D.Disk _ _ _ _ _ _ (given g at.After-as_slice-places) _ (keeps g at.After-put_blocks) (written g at.In-Ok-put_blocks) c.args.number _ c.apply.ensures.any_moment c.in-Err.ensures.err (ap (λ (m : Meta). held_with c.self.inside.durable.value.items m.durable) c.in-Err.ensures.err))
+    rw (c.in-Err.ensures.err, ← c.self.view_is) (refused_proceeds g.D.Disk _ _ _ _ _ (given g at.After-as_slice-places) _ (keeps g at.After-put_blocks) (written g at.In-Ok-put_blocks) c.args.number _ c.apply.ensures.any_moment refl refl)
