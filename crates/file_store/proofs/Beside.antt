@@ -1,5 +1,5 @@
 -- What writes of data blocks leave of what recovery finds, and of the other data blocks.
-use Rattle.std.proofs.Common.{◌≡◌, inl, inr, ⊎_elim, ℕ, ◌+◌, ◌*◌, ◌<◌, ◌≤◌, ◌^◌, ◌==◌, Bool, true, false, if◌then◌else◌, List, length, refl, sym, ◌∙◌, ap, subst, arith}
+use Rattle.std.proofs.Common.{◌≡◌, inl, inr, ⊎_elim, ℕ, ◌+◌, ◌*◌, ◌<◌, ◌≤◌, ◌^◌, ◌==◌, Bool, true, false, if◌then◌else◌, List, length, sym, ◌∙◌, ap, subst, arith}
 use Rattle.std.specs.List.{AllByRecursion, list_any}
 use Rattle.std.proofs.lemmas.Bool.{false≢true, false_from_ne_true, cases_lt}
 use Rattle.std.proofs.lemmas.List.Elements.{All-from_recursion}
@@ -11,7 +11,6 @@ use Rattle.hsm_types.specs.declared.stores.Geometry.{Geometry}
 use Rattle.block_space.proofs.Members.{All-has}
 use Rattle.commit_slots.specs.declared.places.Layout.{Layout}
 use Rattle.commit_slots.specs.Places.{layout_of, small, large, IsApart}
-use Rattle.meta_store.specs.declared.snapshot.Mapping.{Mapping}
 use Rattle.meta_store.specs.Catalogs.{Catalog, geometry_of, blocks_of, IsCatalog}
 use Rattle.meta_store.specs.Images.{IsImage, blocks_in_image}
 use Rattle.meta_store.specs.Meta.{Meta, Backs}

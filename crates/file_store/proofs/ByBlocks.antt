@@ -1,6 +1,5 @@
 -- A body by its blocks: where each byte stands, and which body the blocks at other places give.
-use Rattle.std.proofs.Common.{rules, ◌≡◌, ◌⊎◌, inl, inr, ⊎_elim, ℕ, zero, suc, ◌+◌, ◌-◌, ◌*◌, ◌/◌, ◌%◌, ◌<◌, ◌≤◌, List, [], ◌∷◌, ◌++◌, length, map, get_or, take, drop, set, Option, Some, None, refl, sym, ◌∙◌, ap, subst, arith, length-append, length-take, length-set, get_or-set_same, get_or-set_other}
-use Rattle.std.specs.Prelude.{replicate}
+use Rattle.std.proofs.Common.{rules, ◌≡◌, ◌⊎◌, inl, inr, ⊎_elim, ℕ, zero, suc, ◌+◌, ◌-◌, ◌*◌, ◌/◌, ◌%◌, ◌<◌, ◌≤◌, List, [], ◌∷◌, ◌++◌, length, map, get_or, take, drop, set, Option, Some, None, refl, sym, ◌∙◌, ap, subst, arith, length-append, length-take, length-set, get_or-set_same, get_or-set_other, replicate}
 use Rattle.std.specs.List.{flat_map, AllByRecursion}
 use Rattle.std.proofs.lemmas.Bool.{cases_eq}
 use Rattle.std.proofs.lemmas.List.{ext_get_or, length-replicate, get_or-take, get_or_append_left, get_or-append_right, places}

@@ -1,8 +1,6 @@
 -- A catalog's files as they are held, however their bytes are found: what the catalog tells of them, one that is found, one more, one less and one changed.
-use Rattle.std.proofs.Common.{◌≡◌, ℕ, ◌<◌, ◌≤◌, ◌+◌, List, [], ◌∷◌, length, map, Bool, true, false, cond, Option, Some, None, ltb, refl, sym, ◌∙◌, ap, subst, arith}
-use Rattle.std.specs.Prelude.{is_some}
+use Rattle.std.proofs.Common.{◌≡◌, ℕ, ◌<◌, ◌≤◌, ◌+◌, List, [], ◌∷◌, length, map, Bool, true, false, cond, Option, Some, None, ltb, refl, sym, ◌∙◌, ap, subst, arith, is_some, IsSome, option_map, unwrap_or}
 use Rattle.std.specs.List.{AllByRecursion, fold, sum, sum_by}
-use Rattle.std.specs.Option.{IsSome, option_map, unwrap_or}
 use Rattle.std.proofs.lemmas.List.{length-map}
 use Rattle.std.proofs.lemmas.List.Sums.{sum-map}
 use Rattle.std.proofs.lemmas.Simd.{map-map}

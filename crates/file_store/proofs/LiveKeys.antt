@@ -1,6 +1,5 @@
 -- Keys of files that live, and of the next one.
-use Rattle.std.proofs.Common.{◌≡◌, ℕ, ◌+◌, ◌<◌, ◌≤◌, ◌^◌, max, List, length, map, true, Option, Some, None, refl, ◌∙◌, ap, arith}
-use Rattle.std.specs.Option.{IsSome, option_map, unwrap_or}
+use Rattle.std.proofs.Common.{◌≡◌, ℕ, ◌+◌, ◌<◌, ◌^◌, max, List, length, map, true, Option, Some, None, refl, ◌∙◌, ap, arith, IsSome, option_map, unwrap_or}
 use Rattle.std.proofs.lemmas.List.{length-map}
 use Rattle.std.proofs.lemmas.Simd.{map-map}
 use Rattle.hsm_types.specs.Names.{is_name}
@@ -9,7 +8,6 @@ use Rattle.plain_model.specs.Effects.{Makes}
 use Rattle.plain_model.specs.Keyed.{find_key}
 use Rattle.plain_model.specs.Plain.{Listed, named, free_inode}
 use Rattle.plain_model.specs.State.{Held, names_of, next_key, affected_held}
-use Rattle.inode_table.specs.Listing.{listing}
 use Rattle.inode_table.specs.Table.{entry_of}
 use Rattle.inode_table.specs.Table.{next_key as next_listed}
 use Rattle.inode_table.proofs.KeysAt.{found-key_at}
@@ -30,14 +28,6 @@ pub key_on-live : (c : Catalog) (k : FileKey) (f : CatalogFile) → IsCatalog c 
 key_on-live c k f is found =
     let listed = find-map (λ l. l.key) name_of (λ g. refl) k c.files ∙ ap (option_map name_of) found in
     ap (λ (o : Option FileKey). unwrap_or o (record { ino = k.ino; igen = 0 })) (found-key_at 1 k (name_of f) (names_in c.files) is.table.ascend listed)
-
-some_there : (o : Option CatalogFile) → IsSome o → (f : CatalogFile) × (o ≡ Some f)
-some_there None live = cc
-some_there (Some f) live = (f, refl)
-
--- what no part judges of a record about it
-pub stands : (c : Catalog) (ino : ℕ) (k : FileKey) → key_on ino c ≡ k → IsSome (find_key (λ f. f.key) k c.files) → (f : CatalogFile) × (find_key (λ x. x.key) (key_on ino c) c.files ≡ Some f) × Unit {0}
-stands c ino k is live = let f = some_there (find_key (λ x. x.key) k c.files) live in (f.0, rw is f.1, tt)
 
 -- ---- the next file
 

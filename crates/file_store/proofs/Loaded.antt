@@ -1,19 +1,26 @@
 -- Bodies that are read block by block.
-use Rattle.std.proofs.Common.{◌≡◌, ◌⊎◌, inl, inr, ⊎_elim, ℕ, ◌+◌, ◌-◌, ◌*◌, ◌<◌, ◌≤◌, List, [], length, get_or, take, Option, Some, None, sym, ◌∙◌, ap, subst, arith}
+use Rattle.std.proofs.Common.{◌≡◌, inl, inr, ⊎_elim, ℕ, ◌+◌, ◌-◌, ◌*◌, ◌<◌, ◌≤◌, List, [], length, get_or, take, Option, Some, None, sym, ◌∙◌, ap, subst, arith}
 use Rattle.std.specs.List.{AllByRecursion}
 use Rattle.std.proofs.lemmas.Bool.{cases_lt, cases_eq}
-use Rattle.std.proofs.lemmas.List.{places, length-replicate, get_or-replicate, get_or-take, get_or_past}
+use Rattle.std.proofs.lemmas.List.{places, get_or-replicate, get_or-take, get_or_past}
 use Rattle.plain_model.specs.Plain.{written, resized}
 use Rattle.plain_model.specs.Blocks.{blocks_in}
+use Rattle.disk_model.specs.declared.device.Disk as disk
 use Rattle.disk_model.specs.Images.{part}
+use Rattle.disk_model.proofs.Steps.{sames_on}
 use Rattle.commit_slots.specs.declared.places.Layout.{Layout}
 use Rattle.commit_slots.specs.Places.{layout_of}
 use Rattle.meta_store.specs.Catalogs.{geometry_of, present}
 use Rattle.meta_store.specs.Images.{blocks_in_image}
+use Rattle.file_store.specs.Steps.{OnlyReads}
 use Rattle.file_store.specs.Bodies.{block_at, body_at}
 use Rattle.file_store.proofs.Beside.{block_in, length-block}
 use Rattle.file_store.proofs.ByBlocks.{HasBytes, Whole, full, at_place, same_body, written-beside, written-in}
 use Rattle.file_store.proofs.EachOf.{each-weaker}
+
+-- one read after another
+pub reads_on : {D : Type 0} (g : disk.Ghosts D) (a b c : D) → OnlyReads g a b → OnlyReads g b c → OnlyReads g a c
+reads_on g a b c first second = (sames_on g a b c first.0 second.0, (λ d gives. first.1.0 d (second.1.0 d gives), λ d gives. second.1.1 d (first.1.1 d gives)))
 
 -- what a read of a data block gives
 pub block_read : (geometry place : ℕ) (l : Layout) (c : List ℕ) → l ≡ layout_of geometry → place < (geometry_of geometry).blocks → part c (l.blocks + 4096 * place) 4096 ≡ part (blocks_in_image geometry c) (4096 * place) 4096

@@ -1,8 +1,7 @@
 -- The marks of the blocks that files use: places that may be taken, and what is left where a file frees blocks.
-use Rattle.std.proofs.Common.{◌≡◌, ℕ, zero, suc, ◌+◌, ◌<◌, ◌≤◌, List, [], ◌∷◌, ◌++◌, length, take, drop, set, get_or, Option, Some, None, Bool, true, false, eqb, ltb, refl, sym, ◌∙◌, ap, subst, arith, length-set, get_or-set_other}
-use Rattle.std.specs.Prelude.{◌&&◌, not, replicate}
+use Rattle.std.proofs.Common.{◌≡◌, ℕ, zero, suc, ◌+◌, ◌<◌, ◌≤◌, List, [], ◌∷◌, ◌++◌, length, take, drop, set, get_or, Option, Some, None, Bool, true, false, eqb, ltb, refl, sym, ◌∙◌, ap, subst, arith, length-set, get_or-set_other, replicate}
 use Rattle.std.specs.List.{All, AllByRecursion, list_any, sum_by}
-use Rattle.std.proofs.lemmas.Bool.{cond_both, false≢true, false_from_ne_true}
+use Rattle.std.proofs.lemmas.Bool.{false≢true, false_from_ne_true}
 use Rattle.std.proofs.lemmas.Bool.Decides.{nat_tests}
 use Rattle.std.proofs.lemmas.List.{length-replicate}
 use Rattle.std.proofs.lemmas.List.Elements.{All-from_recursion, All-weaker, recursion_from_All}
@@ -13,14 +12,14 @@ use Rattle.plain_model.specs.Keyed.{find_key, change_key, put_key, drop_key}
 use Rattle.plain_model.specs.Blocks.{blocks_in}
 use Rattle.block_space.specs.Space.{Space, free, marked, unmarked}
 use Rattle.block_space.specs.Laws.{IsFree}
-use Rattle.block_space.proofs.Members.{has, All-has, Ascend, Ascend-low}
+use Rattle.block_space.proofs.Members.{All-has, Ascend, Ascend-low}
 use Rattle.block_space.proofs.Marks.{length-marked}
 use Rattle.block_space.proofs.Spaces.{others_are_free, taken_are_free, take_adds_others, marks_are_members, marks_join, releases-leave}
 use Rattle.meta_store.specs.declared.records.Record.{Record}
 use Rattle.meta_store.specs.declared.records.Record.TheVariants.{Make, Drop, Size, Map}
 use Rattle.meta_store.specs.Catalogs.{CatalogFile, Catalog, IsCatalogFile, IsCatalog, geometry_of, present, blocks_of}
 use Rattle.meta_store.specs.Records.{file_after, inode_of, key_on, after, CanStand, places_fitted, places_set, with_changed}
-use Rattle.meta_store.proofs.BlockUses.{is_one, uses, uses-append, uses-absent, absent-unused, distinct-uses}
+use Rattle.meta_store.proofs.BlockUses.{uses, uses-append, distinct-uses}
 use Rattle.meta_store.proofs.FileEdits.{uses_of, uses-sum, sum-put, sum-drop, sum-change, blocks-change}
 use Rattle.meta_store.proofs.FoundFiles.{each-found}
 use Rattle.meta_store.proofs.KeptCatalogs.{empty_file}

@@ -1,6 +1,5 @@
 -- A store that took a record which concerns no bytes of a file that stays.
-use Rattle.std.proofs.Common.{◌≡◌, ℕ, ◌<◌, List, [], ◌∷◌, length, Bool, true, false, cond, ◌||◌, Option, Some, None, refl, sym, ◌∙◌, ap, subst}
-use Rattle.std.specs.List.{All}
+use Rattle.std.proofs.Common.{◌≡◌, ℕ, ◌<◌, List, [], ◌∷◌, length, Bool, true, false, ◌||◌, Option, Some, None, refl, sym, ◌∙◌, ap, subst, All}
 use Rattle.std.proofs.lemmas.Bool.{or_parts, cond_both}
 use Rattle.disk_model.specs.declared.device.Disk as disk
 use Rattle.hsm_types.specs.declared.keys.FileKey.{FileKey}
@@ -19,7 +18,7 @@ use Rattle.file_store.specs.Effects.{IsBodiless, IsFreed, held_after, drops}
 use Rattle.file_store.specs.HeldFiles.{IsHeldFiles}
 use Rattle.file_store.specs.declared.refusal.StoreRefusal.TheVariants as store
 use Rattle.file_store.specs.Refusals.{refused_as}
-use Rattle.file_store.specs.Stores.{Store, Proceeds, IsLive, IsSound, marks_of}
+use Rattle.file_store.specs.Stores.{Store, IsLive, IsSound, marks_of}
 use Rattle.file_store.proofs.Durable.{Parts, store_of, Tells, IsDone, after_event, done}
 use Rattle.file_store.proofs.Marks.{marks-after, none-freed, freed-within, marks_there}
 use Rattle.file_store.proofs.WithBodies.{bodies_after, held_at-after, held_with-after, IsHeldFiles-after}

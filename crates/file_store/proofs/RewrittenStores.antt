@@ -1,5 +1,5 @@
 -- A live store, a file whose bytes are changed, and the blocks that this touches, with the places that were taken for them.
-use Rattle.std.proofs.Common.{◌≡◌, inl, inr, ℕ, zero, suc, ◌-◌, ◌*◌, ◌<◌, ◌≤◌, List, [], ◌∷◌, length, take, drop, get_or, set, Option, Some, None, Bool, true, false, if◌then◌else◌, refl, sym, ◌∙◌, ap, subst, arith, length-take}
+use Rattle.std.proofs.Common.{◌≡◌, inl, inr, ℕ, zero, suc, ◌-◌, ◌*◌, ◌<◌, ◌≤◌, List, [], ◌∷◌, length, take, drop, get_or, set, Option, Some, None, Bool, true, false, refl, sym, ◌∙◌, ap, subst, arith, length-take}
 use Rattle.std.specs.List.{All, AllByRecursion}
 use Rattle.std.proofs.lemmas.List.Elements.{All-from_recursion, All-weaker}
 use Rattle.hsm_types.specs.declared.keys.FileKey.{FileKey}
@@ -29,7 +29,7 @@ use Rattle.file_store.specs.declared.rewrites.Rewrite.{Rewrite}
 use Rattle.file_store.specs.declared.rewrites.Rewrite.TheVariants.{Write, Resize}
 use Rattle.file_store.specs.Bodies.{block_of, bytes_at, bytes_with, held_at, held_with}
 use Rattle.file_store.specs.HeldFiles.{IsHeldFiles}
-use Rattle.file_store.specs.Steps.{places_of, IsBesideBlocks, HasBlocks}
+use Rattle.file_store.specs.Steps.{IsBesideBlocks, HasBlocks}
 use Rattle.file_store.specs.Rewrites.{effect_of, IsRewrite, IsRewriting, mappings_of, remapped, freed_by, places_under}
 use Rattle.file_store.specs.Stores.{Store, IsEither, Proceeds, IsLive, marks_of}
 use Rattle.file_store.proofs.Beside.{block_in, length-block, image_beside, used_stay, held_beside, backs_beside}

@@ -1,7 +1,6 @@
 -- Files with their bodies in memory, after a record that concerns no bytes, and after a change of the bytes of one.
-use Rattle.std.proofs.Common.{◌≡◌, ℕ, ◌+◌, ◌-◌, ◌≤◌, List, [], ◌∷◌, length, map, get_or, set, true, false, cond, Option, Some, eqb, refl, sym, ◌∙◌, ap, subst, arith, length-set, get_or-set_same, get_or-set_other}
+use Rattle.std.proofs.Common.{◌≡◌, ℕ, ◌+◌, ◌-◌, ◌≤◌, List, [], ◌∷◌, length, map, get_or, set, true, false, cond, Option, Some, eqb, refl, sym, ◌∙◌, ap, subst, arith, length-set, get_or-set_same, get_or-set_other, IsSome, option_map}
 use Rattle.std.specs.List.{AllByRecursion}
-use Rattle.std.specs.Option.{IsSome, option_map}
 use Rattle.std.proofs.lemmas.Bool.{eqb-true, eqb-false, ne_eqb, and_parts}
 use Rattle.hsm_types.specs.declared.keys.FileKey.{FileKey}
 use Rattle.plain_model.specs.Keyed.{same_key, find_key, change_key, drop_key}

@@ -16,6 +16,10 @@ IsBodiless k (Size ino size) c = ⊥
 IsBodiless k (Map ino block places) c = ⊥
 IsBodiless k r c = key_on (inode_of r) c ≡ k
 
+-- a file of the catalog has the inode
+abbrev pub HasInode : ℕ → Catalog → Type 0
+HasInode ino c = (f : CatalogFile) × (find_key (λ f. f.key) (key_on ino c) c.files ≡ Some f) × Unit {0}
+
 -- the effect that it is
 abbrev pub effect_in : Record → Effect
 effect_in (Make key name) = Makes name

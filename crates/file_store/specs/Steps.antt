@@ -1,10 +1,16 @@
 -- What writes of data blocks do to images.
 use Rattle.std.specs.Prelude.{◌≡◌, ℕ, ◌+◌, ◌*◌, List, length, map}
 use Rattle.std.specs.List.{AllByRecursion}
-use Rattle.disk_model.specs.Images.{part}
+use Rattle.disk_model.specs.declared.device.Disk as disk
+use Rattle.disk_model.specs.Images.{part, Alike}
+use Rattle.disk_model.specs.Moments.{Keeps, Same}
 use Rattle.commit_slots.specs.Places.{IsApart}
 use Rattle.meta_store.specs.declared.snapshot.Mapping.{Mapping}
 use Rattle.file_store.specs.Bodies.{block_of}
+
+-- what reads leave: no image has changed
+abbrev pub OnlyReads : {D : Type 0} → disk.Ghosts D → D → D → Type 0
+OnlyReads g old new = Keeps g old new Same × Alike (g.gives old) (g.gives new)
 
 -- where blocks lie
 abbrev pub places_of : List Mapping → List ℕ

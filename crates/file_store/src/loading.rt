@@ -4,11 +4,11 @@ ghost use Rattle.std.specs.List.{AllByRecursion};
 ghost use Rattle.plain_model.specs.Plain.{written};
 ghost use Rattle.plain_model.specs.Blocks.{blocks_in};
 ghost use Rattle.disk_model.specs.Calls.{HasCause, Rose};
-ghost use Rattle.disk_model.specs.Images.{part, Alike};
-ghost use Rattle.disk_model.specs.Moments.{Keeps, Same};
+ghost use Rattle.disk_model.specs.Images.{part};
 ghost use Rattle.commit_slots.specs.Places.{layout_of};
 ghost use Rattle.meta_store.specs.Catalogs.{geometry_of, present};
 ghost use Rattle.meta_store.specs.Images.{blocks_in_image};
+ghost use Rattle.file_store.specs.Steps.{OnlyReads};
 ghost use Rattle.file_store.specs.Bodies.{body_at, held_at, held_with, AreBodies};
 
 use crate::StoreRefusal;
@@ -34,8 +34,7 @@ pub(crate) fn load_bodies<D: Disk>(
     catalog: &Catalog,
 ) -> Result<Vec<Body>, StoreRefusal>
     requires length { D.length_of disk.old ≡ (layout_of catalog.now.geometry).whole }
-    ensures keeps { Keeps D.Disk disk.old disk.new Same }
-    ensures given { Alike (D.gives disk.old) (D.gives disk.new) }
+    ensures reads { OnlyReads D.Disk disk.old disk.new }
     ensures count { IfOk result (λ bodies. length bodies.items ≡ (geometry_of catalog.now.geometry).files) }
     // On a disk that doesn't tell, too.
     ensures sizes { IfOk result (λ bodies. AreBodies bodies.items catalog.now.files) }
@@ -77,8 +76,7 @@ fn load_body<D: Disk>(
     requires size { size ≤ FILE_BYTES }
     requires count { length places.now ≡ blocks_in size }
     requires within { AllByRecursion (λ place. place < (geometry_of geometry).blocks) (present places.now) }
-    ensures keeps { Keeps D.Disk disk.old disk.new Same }
-    ensures given { Alike (D.gives disk.old) (D.gives disk.new) }
+    ensures reads { OnlyReads D.Disk disk.old disk.new }
     ensures size { IfOk result (λ body. length body ≡ size) }
     ensures loaded { IfOk result (λ body. (c : List ℕ) → D.gives disk.old c → body ≡ body_at (blocks_in_image geometry c) size places.now) }
     ensures failed { IsErrOf result StoreRefusal.Disk → Rose (D.fault_count disk.old) (D.fault_count disk.new) }
@@ -111,8 +109,7 @@ fn fill<D: Disk>(
     requires whole { D.length_of disk.old ≡ (layout_of geometry).whole }
     requires place { place < (geometry_of geometry).blocks }
     requires start { start < length body.old }
-    ensures keeps { Keeps D.Disk disk.old disk.new Same }
-    ensures given { Alike (D.gives disk.old) (D.gives disk.new) }
+    ensures reads { OnlyReads D.Disk disk.old disk.new }
     ensures size { length body.new ≡ length body.old }
     ensures filled { OnOk result ((c : List ℕ) → D.gives disk.old c → body.new ≡ written start (take (length body.old - start) (part (blocks_in_image geometry c) (4096 * place) 4096)) body.old) }
     ensures cause { HasCause result (D.fault_count disk.old) (D.fault_count disk.new) }
@@ -134,8 +131,7 @@ fn load_block<D: Disk>(
     requires whole { D.length_of disk.old ≡ (layout_of geometry).whole }
     requires place { place < (geometry_of geometry).blocks }
     requires len { length block.old ≡ 4096 }
-    ensures keeps { Keeps D.Disk disk.old disk.new Same }
-    ensures given { Alike (D.gives disk.old) (D.gives disk.new) }
+    ensures reads { OnlyReads D.Disk disk.old disk.new }
     ensures bytes { OnOk result ((c : List ℕ) → D.gives disk.old c → block.new ≡ part (blocks_in_image geometry c) (4096 * place) 4096) }
     ensures cause { HasCause result (D.fault_count disk.old) (D.fault_count disk.new) }
 {

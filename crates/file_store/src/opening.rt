@@ -1,12 +1,12 @@
 // Opening what a crash may have left.
-ghost use Rattle.std.specs.Prelude.{◌≡◌, List, ℕ, length, OnOk, IfOk, IsErrOf};
+ghost use Rattle.std.specs.Prelude.{◌≡◌, List, ℕ, length, IfOk, IfErr};
 ghost use Rattle.disk_model.specs.Calls.{Rose};
-ghost use Rattle.disk_model.specs.Images.{Alike};
-ghost use Rattle.disk_model.specs.Moments.{MayBe, Keeps, Same};
+ghost use Rattle.disk_model.specs.Moments.{MayBe};
 ghost use Rattle.commit_slots.specs.Places.{layout_of};
 ghost use Rattle.commit_slots.specs.Images.{IsStore};
 ghost use Rattle.meta_store.specs.Images.{blocks_in_image, IsCorruptAt};
 ghost use Rattle.meta_store.specs.Meta.{IsMeta, Backs};
+ghost use Rattle.file_store.specs.Steps.{OnlyReads};
 ghost use Rattle.file_store.specs.Bodies.{held_at, held_with, AreBodies};
 ghost use Rattle.meta_store.specs.Catalogs.{geometry_of};
 ghost use Rattle.file_store.specs.HeldFiles.{IsHeldFiles};
@@ -26,17 +26,16 @@ pub(crate) fn read_in<D: Disk>(
     alloc: Global,
     disk: &mut D,
 ) -> Result<(MetaStore, Vec<Body>, BlockSpace), OpenRefusal>
-    ensures keeps { Keeps D.Disk disk.old disk.new Same }
-    ensures given { Alike (D.gives disk.old) (D.gives disk.new) }
+    ensures reads { OnlyReads D.Disk disk.old disk.new }
     ensures lawful { IfOk result (λ r. IsMeta r.0) }
     ensures same { IfOk result (λ r. r.0.current ≡ r.0.durable) }
     ensures backs { IfOk result (λ r. Backs D.Disk disk.new r.0) }
     ensures bodies { IfOk result (λ r. IsHeldFiles r.1.items r.0) }
     ensures holds { IfOk result (λ r. (c : List ℕ) → MayBe D.Disk disk.new c → held_at (blocks_in_image r.0.durable.geometry c) r.0.durable ≡ held_with r.1.items r.0.current) }
     ensures space { IfOk result (λ r. r.2 ≡ record { current = marks_of r.0.current; durable = marks_of r.0.current }) }
-    ensures not_store { IsErrOf result OpenRefusal.NotStore → (c : List ℕ) → D.gives disk.old c → (geometry fsid : ℕ) → IsStore geometry fsid c → ⊥ }
-    ensures corrupt { (place : ℕ) → IsErrOf result (OpenRefusal.Corrupt place) → (c : List ℕ) → D.gives disk.old c → IsCorruptAt place c }
-    ensures failed { IsErrOf result OpenRefusal.Disk → Rose (D.fault_count disk.old) (D.fault_count disk.new) }
+    ensures not_store { IfErr result (λ e. e ≡ OpenRefusal.NotStore → (c : List ℕ) → D.gives disk.old c → (geometry fsid : ℕ) → IsStore geometry fsid c → ⊥) }
+    ensures corrupt { IfErr result (λ e. (place : ℕ) → e ≡ OpenRefusal.Corrupt place → (c : List ℕ) → D.gives disk.old c → IsCorruptAt place c) }
+    ensures failed { IfErr result (λ e. e ≡ OpenRefusal.Disk → Rose (D.fault_count disk.old) (D.fault_count disk.new)) }
 {
     let meta = match MetaStore::open(alloc, disk) {
         Ok(meta) => meta,
@@ -56,15 +55,14 @@ fn read_files<D: Disk>(
     catalog: &Catalog,
 ) -> Result<(Vec<Body>, BlockSpace), OpenRefusal>
     requires length { D.length_of disk.old ≡ (layout_of catalog.now.geometry).whole }
-    ensures keeps { Keeps D.Disk disk.old disk.new Same }
-    ensures given { Alike (D.gives disk.old) (D.gives disk.new) }
+    ensures reads { OnlyReads D.Disk disk.old disk.new }
     ensures count { IfOk result (λ r. length r.0.items ≡ (geometry_of catalog.now.geometry).files) }
     ensures sizes { IfOk result (λ r. AreBodies r.0.items catalog.now.files) }
     ensures loaded { IfOk result (λ r. (c : List ℕ) → D.gives disk.old c → held_with r.0.items catalog.now ≡ held_at (blocks_in_image catalog.now.geometry c) catalog.now) }
     ensures space { IfOk result (λ r. r.1 ≡ record { current = marks_of catalog.now; durable = marks_of catalog.now }) }
-    ensures not_store { IsErrOf result OpenRefusal.NotStore → ⊥ }
-    ensures not_corrupt { (place : ℕ) → IsErrOf result (OpenRefusal.Corrupt place) → ⊥ }
-    ensures failed { IsErrOf result OpenRefusal.Disk → Rose (D.fault_count disk.old) (D.fault_count disk.new) }
+    ensures not_store { IfErr result (λ e. e ≡ OpenRefusal.NotStore → ⊥) }
+    ensures not_corrupt { IfErr result (λ e. (place : ℕ) → e ≡ OpenRefusal.Corrupt place → ⊥) }
+    ensures failed { IfErr result (λ e. e ≡ OpenRefusal.Disk → Rose (D.fault_count disk.old) (D.fault_count disk.new)) }
 {
     let bodies = match load_bodies(alloc, disk, catalog) {
         Ok(bodies) => bodies,

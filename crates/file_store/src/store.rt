@@ -12,6 +12,7 @@ ghost use Rattle.meta_store.specs.Catalogs.{geometry_of};
 ghost use Rattle.meta_store.specs.Images.{IsCorruptAt};
 ghost use Rattle.meta_store.specs.Meta.{IsMeta};
 ghost use Rattle.meta_store.specs.Records.{key_on, kept_at, others_total};
+ghost use Rattle.file_store.specs.Effects.{HasInode};
 ghost use Rattle.file_store.specs.Stores.{superblock_of, IsLawful, IsDurable, Proceeds, Shows};
 
 use crate::loading::slot;
@@ -142,8 +143,8 @@ impl<D: Disk> FileStore<D> {
     pub(crate) fn inode(&self, key: FileKey) -> u64
         requires { IsSome (find_key (λ f. f.key) key self.now.held.files) }
         ensures inode { result ≡ key.ino }
-        ensures key { key_on key.ino self.now.meta.current ≡ key }
-        ensures live { IsSome (find_key (λ f. f.key) key self.now.meta.current.files) }
+        ensures key { key_on result self.now.meta.current ≡ key }
+        ensures stands { HasInode result self.now.meta.current }
         ensures kept { kept_of key self.now.held.files ≡ kept_at key self.now.meta.current }
         ensures others { other_attributes key self.now.held.files ≡ others_total key self.now.meta.current }
         ensures lawful { IsMeta self.now.meta }

@@ -1,5 +1,4 @@
-use Rattle.std.proofs.Common.{◌≡◌, []}
-use Rattle.std.specs.Prelude.{replicate}
+use Rattle.std.proofs.Common.{◌≡◌, [], replicate}
 use Rattle.file_store.proofs.loading.empty.Given as goal
 
 abbrev pub invariant-loop : goal.invariant-loop

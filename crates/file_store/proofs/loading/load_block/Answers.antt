@@ -1,5 +1,4 @@
-use Rattle.std.proofs.Common.{Result, Ok, Err, ◌≡◌, ◌+◌, ◌*◌, ℕ, List, length, ap, ◌∙◌, arith}
-use Rattle.std.specs.Prelude.{OnOk}
+use Rattle.std.proofs.Common.{Result, Ok, Err, ◌≡◌, ◌+◌, ◌*◌, ℕ, List, length, ap, ◌∙◌, arith, OnOk}
 use Rattle.disk_model.specs.Images.{part}
 use Rattle.commit_slots.specs.Places.{layout_of}
 use Rattle.commit_slots.specs.declared.places.Layout.{Layout}

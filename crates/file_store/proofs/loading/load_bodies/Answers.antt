@@ -1,9 +1,9 @@
 use Rattle.std.proofs.Common.{◌≡◌, ◌-◌, ℕ, List, length, sym, ◌∙◌, subst, arith, length-set, take_all}
 use Rattle.std.specs.List.{AllByRecursion}
-use Rattle.disk_model.proofs.Steps.{sames_on}
 use Rattle.meta_store.specs.Catalogs.{CatalogFile}
 use Rattle.meta_store.specs.Images.{blocks_in_image}
 use Rattle.file_store.specs.Bodies.{body_at, bytes_at, bytes_with}
+use Rattle.file_store.proofs.Loaded.{reads_on}
 use Rattle.file_store.proofs.ByInode.{next-file, each-more, listed-count}
 use Rattle.file_store.proofs.FilesBy.{held-same}
 use Rattle.file_store.proofs.loading.load_bodies.Goals as goal
@@ -26,12 +26,11 @@ loop-index-preserved g c =
     let body = c.in_ok-bodies.field-0 in
     let is = next-file catalog c.loop-index.index _ c.geometry-geometry.ensures.valid (sym (rw c.unwrap-size.ensures at c.file.ensures)) in
     rw c.slot.ensures record {
-      keeps = sames_on g.D.Disk _ _ _ so_far.keeps c.in_ok-bodies.ensures.keeps;
-      given = (λ d gives. so_far.given.0 d (c.in_ok-bodies.ensures.given.0 d gives), λ d gives. c.in_ok-bodies.ensures.given.1 d (so_far.given.1 d gives));
+      reads = reads_on g.D.Disk _ _ _ so_far.reads c.in_ok-bodies.ensures.reads;
       count = length-set bodies (c.unwrap-size.result.0.ino - 1) body ∙ so_far.count;
       sizes = each-more (λ f b. length b ≡ f.size) catalog c.loop-index.index _ bodies body is so_far.count c.in_ok-bodies.ensures.size so_far.sizes;
       loaded = λ d gives. each-more (λ f b. b ≡ bytes_at (blocks_in_image catalog.geometry d) f) catalog c.loop-index.index _ bodies body is so_far.count
-          (subst (λ (n : ℕ). body ≡ body_at (blocks_in_image n d) c.unwrap-size.result.2 c.unwrap-size.result.3.now.places) c.geometry-geometry.ensures.geometry (rw c.places-places.ensures at (c.in_ok-bodies.ensures.loaded d (so_far.given.1 d gives))))
+          (subst (λ (n : ℕ). body ≡ body_at (blocks_in_image n d) c.unwrap-size.result.2 c.unwrap-size.result.3.now.places) c.geometry-geometry.ensures.geometry (rw c.places-places.ensures at (c.in_ok-bodies.ensures.loaded d (so_far.reads.1.1 d gives))))
           (so_far.loaded d gives);
     }
 

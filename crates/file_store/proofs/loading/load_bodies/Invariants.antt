@@ -1,16 +1,14 @@
 use Rattle.std.proofs.Common.{◌≡◌, ℕ, List, length, take}
 use Rattle.std.specs.List.{AllByRecursion}
-use Rattle.disk_model.specs.Images.{Alike}
-use Rattle.disk_model.specs.Moments.{Keeps, Same}
 use Rattle.meta_store.specs.Catalogs.{geometry_of}
 use Rattle.meta_store.specs.Images.{blocks_in_image}
 use Rattle.file_store.specs.Bodies.{bytes_at, bytes_with, AreBodies}
+use Rattle.file_store.specs.Steps.{OnlyReads}
 use Rattle.file_store.proofs.loading.load_bodies.Given as goal
 
 abbrev pub invariant-loop-index : goal.invariant-loop-index
 invariant-loop-index g l = record {
-  keeps : Keeps g.D.Disk l.fn.disk l.disk Same;
-  given : Alike (g.D.Disk.gives l.fn.disk) (g.D.Disk.gives l.disk);
+  reads : OnlyReads g.D.Disk l.fn.disk l.disk;
   count : length l.bodies.items ≡ (geometry_of l.catalog.geometry).files;
   sizes : AreBodies l.bodies.items (take l.index l.catalog.files);
   loaded : (c : List ℕ) → g.D.Disk.gives l.fn.disk c → AllByRecursion (λ f. bytes_with l.bodies.items f ≡ bytes_at (blocks_in_image l.catalog.geometry c) f) (take l.index l.catalog.files);

@@ -1,7 +1,6 @@
-use Rattle.std.proofs.Common.{◌≡◌, ◌<◌, ℕ, List, [], length, refl, ◌∙◌, ap, subst, arith, take_all}
-use Rattle.std.specs.Prelude.{Option}
+use Rattle.std.proofs.Common.{◌≡◌, ◌<◌, ℕ, List, [], length, refl, ◌∙◌, ap, subst, arith, take_all, Option}
 use Rattle.disk_model.specs.Moments.{Same}
-use Rattle.disk_model.proofs.Steps.{idle, sames_on}
+use Rattle.disk_model.proofs.Steps.{idle}
 use Rattle.file_body.proofs.Sizes.{length-resized}
 use Rattle.plain_model.specs.Plain.{resized}
 use Rattle.commit_slots.specs.Places.{layout_of}
@@ -9,7 +8,7 @@ use Rattle.meta_store.specs.Catalogs.{geometry_of}
 use Rattle.meta_store.specs.Images.{blocks_in_image}
 use Rattle.file_store.proofs.Beside.{length-block}
 use Rattle.file_store.proofs.ByBlocks.{HasBytes}
-use Rattle.file_store.proofs.Loaded.{present-at, no_bytes, hole-more, block-more, all-filled}
+use Rattle.file_store.proofs.Loaded.{reads_on, present-at, no_bytes, hole-more, block-more, all-filled}
 use Rattle.file_store.proofs.loading.load_body.Goals.{in-Some+in-Ok-fill, in_default-place}
 use Rattle.file_store.proofs.loading.load_body.Goals as goal
 
@@ -21,8 +20,7 @@ loop-place-init g c =
     let is : c.resize.new.self ≡ resized c.args.size [] = c.in-Ok.ensures.ok ∙ ap (resized c.args.size) c.new-body.ensures in
     record {
       start = refl;
-      keeps = idle g.D.Disk _ Same (λ d. refl) (g.met.D.Disk.only_now c.args.disk.now);
-      given = (λ d gives. gives, λ d gives. gives);
+      reads = (idle g.D.Disk _ Same (λ d. refl) (g.met.D.Disk.only_now c.args.disk.now), (λ d gives. gives, λ d gives. gives));
       size = ap length is ∙ length-resized c.args.size [];
       loaded = λ d gives. rw is (no_bytes (blocks_in_image c.args.geometry d) c.args.size);
     }
@@ -36,19 +34,17 @@ loop-place-preserved g c =
     elim c.match-place.branch [
       | in-Some+in-Ok-fill w ↦ rw (w.disk-is, w.body-is) record {
         start = omega arith;
-        keeps = sames_on g.D.Disk _ _ _ so_far.keeps w.fill.ensures.keeps;
-        given = (λ d gives. so_far.given.0 d (w.fill.ensures.given.0 d gives), λ d gives. w.fill.ensures.given.1 d (so_far.given.1 d gives));
+        reads = reads_on g.D.Disk _ _ _ so_far.reads w.fill.ensures.reads;
         size = w.fill.ensures.size ∙ so_far.size;
         loaded = λ d gives.
             let within = present-at (λ p. p < (geometry_of c.args.geometry).blocks) places i w.in-Some.place c.requires.within w.in-Some.is in
             let whole : length d ≡ (layout_of c.args.geometry).whole = g.met.D.Disk.given_length c.args.disk.now d gives ∙ c.requires.whole in
             block-more (blocks_in_image c.args.geometry d) c.args.size places i w.in-Some.place c.loop-place.start _ _ c.loop-place-test.true w.in-Some.is (length-block c.args.geometry d w.in-Some.place within whole) begins so_far.size
-            (omega (arith, c.requires.count, c.loop-place-test.true)) (w.in-Ok-fill.ensures.filled d (so_far.given.1 d gives)) (so_far.loaded d gives);
+            (omega (arith, c.requires.count, c.loop-place-test.true)) (w.in-Ok-fill.ensures.filled d (so_far.reads.1.1 d gives)) (so_far.loaded d gives);
       }
       | in_default-place w ↦ rw (w.disk-is, w.body-is) record {
         start = omega arith;
-        keeps = so_far.keeps;
-        given = so_far.given;
+        reads = so_far.reads;
         size = so_far.size;
         loaded = λ d gives. hole-more (blocks_in_image c.args.geometry d) c.args.size places i _ c.loop-place-test.true w.in_default-place.is (so_far.loaded d gives);
       }

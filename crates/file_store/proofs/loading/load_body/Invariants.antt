@@ -1,15 +1,13 @@
 use Rattle.std.proofs.Common.{◌≡◌, ◌*◌, ℕ, List, length, take}
-use Rattle.disk_model.specs.Images.{Alike}
-use Rattle.disk_model.specs.Moments.{Keeps, Same}
 use Rattle.meta_store.specs.Images.{blocks_in_image}
+use Rattle.file_store.specs.Steps.{OnlyReads}
 use Rattle.file_store.proofs.ByBlocks.{HasBytes}
 use Rattle.file_store.proofs.loading.load_body.Given as goal
 
 abbrev pub invariant-loop-place : goal.invariant-loop-place
 invariant-loop-place g l = record {
   start : l.start ≡ 4096 * l.place-index;
-  keeps : Keeps g.D.Disk l.fn.disk l.disk Same;
-  given : Alike (g.D.Disk.gives l.fn.disk) (g.D.Disk.gives l.disk);
+  reads : OnlyReads g.D.Disk l.fn.disk l.disk;
   size : length l.body ≡ l.size;
   loaded : (c : List ℕ) → g.D.Disk.gives l.fn.disk c → HasBytes (blocks_in_image l.geometry c) l.size (take l.place-index l.places) l.body;
 }

@@ -1,6 +1,4 @@
-use Rattle.std.proofs.Common.{ℕ, refl, ◌∙◌, ap, subst}
-use Rattle.std.specs.Prelude.{Err}
-use Rattle.disk_model.specs.declared.refusal.OpenRefusal.{OpenRefusal}
+use Rattle.std.proofs.Common.{ℕ, refl, ◌∙◌, ap, subst, Err}
 use Rattle.meta_store.specs.Catalogs.{geometry_of}
 use Rattle.file_store.specs.Bodies.{bytes_with, held_with}
 use Rattle.file_store.specs.Stores.{IsLawful}
@@ -26,9 +24,3 @@ returns-in-Ok-clause-lawful g c =
     let bodies = c.in-Ok.bodies.items in
     let m = c.in-Ok.meta in
     subst (λ (z : ℕ). IsLawful (geometry_of z).files (held_with bodies m.current)) c.in-Ok.ensures.lawful.stored.geometry (held_lawful (bytes_with bodies) m.current c.in-Ok.ensures.lawful.current)
-
-pub returns-in-Err-clause-not_store : goal.returns-in-Err-clause-not_store
-returns-in-Err-clause-not_store g c = λ is. c.in-Err.ensures.not_store (ap (λ (e : OpenRefusal). Err e) is)
-
-pub returns-in-Err-clause-corrupt : goal.returns-in-Err-clause-corrupt
-returns-in-Err-clause-corrupt g c = λ place is. c.in-Err.ensures.corrupt place (ap (λ (e : OpenRefusal). Err e) is)

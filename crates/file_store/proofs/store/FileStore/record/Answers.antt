@@ -1,4 +1,4 @@
-use Rattle.std.proofs.Common.{rules, Err, ◌≡◌, ◌||◌, refl, sym, ◌∙◌, ap, arith}
+use Rattle.std.proofs.Common.{rules, Err, ◌≡◌, ◌||◌, refl, sym, ◌∙◌, ap}
 use Rattle.block_space.specs.Space.{unmarked}
 use Rattle.meta_store.specs.Records.{after_all, refusal_of_all}
 use Rattle.file_store.specs.Bodies.{held_with}

@@ -1,37 +1,30 @@
-use Rattle.std.proofs.Common.{rules, ◌≡◌, ◌+◌, ◌-◌, ◌*◌, ◌<◌, ◌≤◌, ℕ, List, [], length, set, take, Bool, true, refl, sym, ◌∙◌, ap, subst, arith}
-use Rattle.std.specs.Prelude.{Result, Ok, Err, IsOk, OnOk}
-use Rattle.std.specs.List.{All, AllByRecursion}
+use Rattle.std.proofs.Common.{rules, ◌≡◌, ◌+◌, ◌-◌, ◌<◌, ◌≤◌, ℕ, List, [], length, set, take, Bool, true, refl, sym, ◌∙◌, ap, subst, arith, Result, Ok, Err, IsOk, OnOk, All}
 use Rattle.std.proofs.lemmas.List.{get_or_read, set-get_or}
 use Rattle.disk_model.specs.Images.{Follows}
 use Rattle.disk_model.specs.Moments.{Keeps}
 use Rattle.plain_model.specs.Plain.{rebody, resized}
 use Rattle.plain_model.specs.Blocks.{touched, size_after}
 use Rattle.plain_model.specs.State.{affected_held}
-use Rattle.std.specs.Global.{Vec}
 use Rattle.block_space.specs.Space.{Space, free, marked, unmarked}
 use Rattle.commit_slots.specs.declared.places.Layout.{Layout}
 use Rattle.commit_slots.specs.Places.{layout_of}
-use Rattle.meta_store.specs.declared.snapshot.Mapping.{Mapping}
 use Rattle.meta_store.specs.Catalogs.{Catalog, geometry_of, blocks_of}
-use Rattle.meta_store.specs.Meta.{Meta}
-use Rattle.meta_store.specs.Records.{with_changed}
 use Rattle.meta_store.specs.declared.refusal.MetaRefusal.{MetaRefusal}
 use Rattle.meta_store.proofs.SnapshotFits.{geometry-bounded}
 use Rattle.file_store.specs.Bodies.{held_with, bytes_with}
-use Rattle.file_store.specs.Rewrites.{effect_of, remapped, IsRewriting, mappings_of, freed_by}
-use Rattle.file_store.specs.Steps.{places_of, IsBesideBlocks, HasBlocks}
+use Rattle.file_store.specs.Rewrites.{effect_of, IsRewriting, mappings_of, freed_by}
+use Rattle.file_store.specs.Steps.{IsBesideBlocks, HasBlocks}
 use Rattle.file_store.specs.Refusals.{refused_as}
 use Rattle.file_store.specs.declared.refusal.StoreRefusal.{StoreRefusal}
-use Rattle.file_store.specs.Stores.{Store, Proceeds, IsLive}
+use Rattle.file_store.specs.Stores.{IsLive}
 use Rattle.file_store.proofs.Beside.{blocks_low, blocks_fit}
 use Rattle.file_store.proofs.FilesBy.{used-held}
 use Rattle.file_store.proofs.Durable.{Parts, store_of, IsDone, after_event, sound_idle}
 use Rattle.file_store.proofs.GrownBodies.{grown, length-grown, changed-grown, grown-enough, grown-no_more, grown-back}
-use Rattle.file_store.proofs.WithBodies.{IsFound, live-held, body-held, held_with-rewritten, IsHeldFiles-rewritten}
+use Rattle.file_store.proofs.WithBodies.{IsFound, live-held, body-held}
 use Rattle.file_store.proofs.RewriteRecords.{is_event, not_refused}
 use Rattle.file_store.proofs.RewrittenStores.{Given, body_of, size_of, long, apart, within, stand, become, places_within, freed_within, undone, written_proceeds, written_live, refused_proceeds, rewritten, size-few}
 use Rattle.file_store.proofs.Recorded.{is_disk, refused_sound, refused_part}
-use Rattle.file_store.proofs.Putting.{blocks-mapped}
 use Rattle.file_store.proofs.Marks.{enough}
 use Rattle.file_store.proofs.store.FileStore.rewrite.Given.{Over}
 use Rattle.file_store.proofs.store.FileStore.rewrite.Goals.{After-of-before, After-count, After-as_slice-places, After-of_geometry-base, After-put_blocks, In-Ok-put_blocks, In-Ok-apply, After-apply-in-Ok-apply, After-make_durable, After-release_all-in-Ok-apply, After-resize-in-Err, After-release_all-in-Err, After-eq-self-inside}

@@ -1,6 +1,5 @@
-use Rattle.std.proofs.Common.{◌≡◌, true, false, refl, ◌∙◌, ap, arith}
+use Rattle.std.proofs.Common.{true, refl, ◌∙◌, ap, arith}
 use Rattle.file_store.specs.Bodies.{held_with}
-use Rattle.file_store.specs.Stores.{Store, Proceeds}
 use Rattle.file_store.proofs.Durable.{sound_idle, kept_proceeds, applied_proceeds, committed_sound}
 use Rattle.file_store.proofs.WithBodies.{same-files}
 use Rattle.file_store.proofs.store.FileStore.sync.Goals as goal
