@@ -22,8 +22,8 @@ use Rattle.file_store.specs.Rewrites.{effect_of, IsRewrite, remapped}
 use Rattle.file_store.proofs.ByBlocks.{Whole, full, has_bytes, same_body, length-body, length-block, byte-block, at_place, after_set, get_or-fitted, written-beside}
 use Rattle.file_store.proofs.EachOf.{each-weaker, each-parts, each_member}
 use Rattle.file_store.proofs.FilesBy.{SameBytes, held-same}
-use Rattle.file_store.proofs.GrownBodies.{length-changed}
-use Rattle.file_store.proofs.HeldRecords.{held-rewritten}
+use Rattle.file_store.proofs.ByteChanges.{length-changed}
+use Rattle.file_store.proofs.WithBodies.{held-rewritten}
 
 -- ---- blocks that aren't touched
 

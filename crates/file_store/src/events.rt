@@ -9,7 +9,7 @@ ghost use Rattle.block_space.specs.Space.{marked, free};
 ghost use Rattle.meta_store.specs.Catalogs.{geometry_of};
 ghost use Rattle.meta_store.specs.Records.{CanStand, refusal_of};
 ghost use Rattle.file_store.specs.Rewrites.{effect_of, IsRewrite};
-ghost use Rattle.file_store.specs.Stores.{Proceeds};
+ghost use Rattle.file_store.specs.Stores.{Store, Proceeds};
 ghost use Rattle.file_store.specs.Effects.{IsBodiless, IsFreed, held_after, drops, empties};
 
 use crate::loading::slot;
@@ -65,6 +65,7 @@ impl<D: Disk> FileStore<D> {
         ensures held { self.new.held ≡ self.old.held }
         ensures current { self.new.meta.current ≡ self.old.meta.current }
         ensures proceeds { Proceeds D.Disk self.old number self.new }
+        ensures goes_on { (later : Store D) → Proceeds D.Disk self.new number later → Proceeds D.Disk self.old number later }
         ensures settled { OnOk result (self.new.pending ≡ false) }
         ensures working { OnOk result (self.new.failed ≡ false) }
         ensures memory { IsErrOf result StoreRefusal.Memory → self.new ≡ self.old }

@@ -1,5 +1,17 @@
-use Rattle.file_store.proofs.Recoveries as law
+use Rattle.std.proofs.Common.{◌≡◌, ℕ, List, refl, sym, ◌∙◌, ap}
+use Rattle.meta_store.specs.Catalogs.{Catalog}
+use Rattle.meta_store.specs.Images.{blocks_in_image}
+use Rattle.meta_store.proofs.FoundImages.{found-one}
+use Rattle.file_store.specs.Bodies.{held_at, held_by}
+use Rattle.file_store.specs.Laws.{RecoversOne, FormattedIsEmpty}
 use Rattle.file_store.proofs.laws.one_recovery.Goals as goal
 
+one_recovery : (image : List ℕ) → RecoversOne image
+one_recovery image geometry fsid n h geometry' fsid' n' h' found found' =
+    let one = found-one image fsid n found.catalog fsid' n' found'.catalog found.is found'.is in
+    let same : geometry' ≡ geometry = sym found'.same ∙ ap (λ (c : Catalog). c.geometry) one.2 ∙ found.same in
+    let held : held_at (blocks_in_image geometry' image) found'.catalog ≡ held_at (blocks_in_image geometry image) found.catalog = rw (same, one.2) refl in
+    (same, one.0, one.1, sym found'.holds ∙ held ∙ found.holds)
+
 pub returns : goal.returns
-returns c = law.one_recovery
+returns c = one_recovery

@@ -1,4 +1,4 @@
-use Rattle.file_store.proofs.MapRecords.{freed-runs}
+use Rattle.file_store.proofs.RewriteRecords.{freed-runs}
 use Rattle.file_store.proofs.plans.freed_by.Goals as goal
 
 pub returns : goal.returns

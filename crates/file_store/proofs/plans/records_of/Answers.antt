@@ -1,7 +1,7 @@
 use Rattle.std.proofs.Common.{List, [], subst, arith}
 use Rattle.meta_store.specs.declared.snapshot.Mapping.{Mapping}
 use Rattle.file_store.specs.Rewrites.{IsRewriting}
-use Rattle.file_store.proofs.MapRecords.{run-within, mappings-runs, size_first}
+use Rattle.file_store.proofs.RewriteRecords.{run-within, mappings-runs, size_first}
 use Rattle.file_store.proofs.plans.records_of.Goals as goal
 
 pub split_at-requires : goal.split_at-requires

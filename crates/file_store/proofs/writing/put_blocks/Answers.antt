@@ -10,7 +10,7 @@ use Rattle.file_store.specs.Bodies.{block_of}
 use Rattle.file_store.specs.Rewrites.{effect_of, mappings_of}
 use Rattle.file_store.specs.Steps.{IsBesideBlocks, HasBlocks}
 use Rattle.file_store.proofs.EachOf.{each-at}
-use Rattle.file_store.proofs.Putting.{mapping_at, places-mapped, length-mapped, before, beside_on, beside_freed, has_more}
+use Rattle.file_store.proofs.Beside.{before, mapping_at, places-mapped, length-mapped, beside_on, beside_freed, has_more}
 use Rattle.file_store.proofs.writing.put_blocks.Given.{Over}
 use Rattle.file_store.proofs.writing.put_blocks.Goals.{After-from, After-write_at}
 use Rattle.file_store.proofs.writing.put_blocks.Goals as goal

@@ -5,7 +5,7 @@ use Rattle.inode_table.specs.Table.{next_key}
 use Rattle.plain_model.specs.State.{next_key as next_held}
 use Rattle.file_store.specs.Stores.{Store}
 use Rattle.file_store.specs.Bodies.{bytes_with}
-use Rattle.file_store.proofs.LiveKeys.{key_next, next-listed, next-key_held, new-file, held-made}
+use Rattle.file_store.proofs.FilesBy.{key_next, next-listed, next-key_held, new-file, held-made}
 use Rattle.file_store.proofs.store.FileStore.make.Given.{Over}
 use Rattle.file_store.proofs.store.FileStore.make.Goals.{After-next_key-key}
 use Rattle.file_store.proofs.store.FileStore.make.Goals as goal

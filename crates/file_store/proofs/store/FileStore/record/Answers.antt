@@ -4,7 +4,7 @@ use Rattle.meta_store.specs.Records.{after_all, refusal_of_all}
 use Rattle.file_store.specs.Bodies.{held_with}
 use Rattle.file_store.specs.Effects.{held_after, drops}
 use Rattle.file_store.proofs.Durable.{Parts, IsDone, after_event, kept_proceeds, sound_idle}
-use Rattle.file_store.proofs.Recorded.{within, recorded, is_disk, refused_sound, refused_part, refusal_alone}
+use Rattle.file_store.proofs.StoreEvents.{freed_low, recorded, is_disk, refused_sound, refused_part, refusal_alone}
 use Rattle.file_store.proofs.WithBodies.{bodies_after, slot-there}
 use Rattle.file_store.proofs.store.FileStore.record.Given.{Over}
 use Rattle.file_store.proofs.store.FileStore.record.Goals.{After-apply, In-Ok, After-eq-self-inside}
@@ -28,7 +28,7 @@ taken g c =
 pub release_all-requires : goal.release_all-requires
 release_all-requires g c =
     rw (c.deref.ensures.value, c.make_durable.ensures.blocks)
-    (within g.D.Disk c.args.key c.args.change c.in_ok-freed.freed.items (parts g (goal.at.release_all-requires g c).After-apply) c.self.invariant.0 c.self.invariant.1 (ap (λ s. s.failed) c.self.view_is ∙ c.requires.working) (rw (← c.self.view_is) at c.requires.bodiless)
+    (freed_low g.D.Disk c.args.key c.args.change c.in_ok-freed.freed.items (parts g (goal.at.release_all-requires g c).After-apply) c.self.invariant.0 c.self.invariant.1 (ap (λ s. s.failed) c.self.view_is ∙ c.requires.working) (rw (← c.self.view_is) at c.requires.bodiless)
     (rw (← c.self.view_is) at c.requires.stands) (rw c.catalog.ensures.catalog at c.in_ok-freed.ensures))
 
 pub invariant_of-self : goal.invariant_of-self

@@ -20,11 +20,10 @@ use Rattle.file_store.specs.Stores.{IsLive}
 use Rattle.file_store.proofs.Beside.{blocks_low, blocks_fit}
 use Rattle.file_store.proofs.FilesBy.{used-held}
 use Rattle.file_store.proofs.Durable.{Parts, store_of, IsDone, after_event, sound_idle}
-use Rattle.file_store.proofs.GrownBodies.{grown, length-grown, changed-grown, grown-enough, grown-no_more, grown-back}
+use Rattle.file_store.proofs.ByteChanges.{grown, length-grown, changed-grown, grown-enough, grown-no_more, grown-back}
 use Rattle.file_store.proofs.WithBodies.{IsFound, live-held, body-held}
 use Rattle.file_store.proofs.RewriteRecords.{is_event, not_refused}
-use Rattle.file_store.proofs.RewrittenStores.{Given, body_of, size_of, long, apart, within, stand, become, places_within, freed_within, undone, written_proceeds, written_live, refused_proceeds, rewritten, size-few}
-use Rattle.file_store.proofs.Recorded.{is_disk, refused_sound, refused_part}
+use Rattle.file_store.proofs.StoreEvents.{Given, within, body_of, size_of, long, apart, stand, become, places_within, freed_within, undone, written_proceeds, written_live, refused_proceeds, rewritten, size-few, is_disk, refused_sound, refused_part}
 use Rattle.file_store.proofs.Marks.{enough}
 use Rattle.file_store.proofs.store.FileStore.rewrite.Given.{Over}
 use Rattle.file_store.proofs.store.FileStore.rewrite.Goals.{After-of-before, After-count, After-as_slice-places, After-of_geometry-base, After-put_blocks, In-Ok-put_blocks, In-Ok-apply, After-apply-in-Ok-apply, After-make_durable, After-release_all-in-Ok-apply, After-resize-in-Err, After-release_all-in-Err, After-eq-self-inside}

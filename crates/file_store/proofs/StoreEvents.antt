@@ -1,49 +1,102 @@
--- A live store, a file whose bytes are changed, and the blocks that this touches, with the places that were taken for them.
-use Rattle.std.proofs.Common.{◌≡◌, inl, inr, ℕ, zero, suc, ◌-◌, ◌*◌, ◌<◌, ◌≤◌, List, [], ◌∷◌, length, take, drop, get_or, set, Option, Some, None, Bool, true, false, refl, sym, ◌∙◌, ap, subst, arith, length-take}
+-- Events of a live store: a record that concerns no bytes of a file that stays, and bytes with their records.
+use Rattle.std.proofs.Common.{◌≡◌, ℕ, ◌<◌, List, [], ◌∷◌, length, Bool, true, false, ◌||◌, Option, Some, None, refl, sym, ◌∙◌, ap, subst, All, inl, inr, zero, suc, ◌-◌, ◌*◌, ◌≤◌, take, drop, get_or, set, arith, length-take}
+use Rattle.std.proofs.lemmas.Bool.{or_parts, cond_both}
+use Rattle.hsm_types.specs.declared.keys.FileKey.{FileKey}
+use Rattle.block_space.specs.Space.{unmarked, free, marked}
+use Rattle.hsm_types.specs.declared.dm.DmRefusal.{DmRefusal}
+use Rattle.hsm_types.specs.Refusals.{first_refusal}
+use Rattle.meta_store.specs.declared.records.Record.{Record}
+use Rattle.meta_store.specs.declared.refusal.MetaRefusal.{MetaRefusal}
+use Rattle.meta_store.specs.declared.refusal.MetaRefusal.TheVariants.{Part, Disk, Memory}
+use Rattle.meta_store.specs.Catalogs.{Catalog, IsCatalog, IsCatalogFile, geometry_of, present, blocks_of}
+use Rattle.meta_store.specs.Records.{after, CanStand, refusal_of, refusal_of_all, with_changed, after_all, CanStandAll, key_on}
+use Rattle.meta_store.specs.Images.{blocks_in_image, IsImage}
+use Rattle.meta_store.specs.Meta.{Meta, IsMeta, Backs, StoresOrKeeps}
+use Rattle.file_store.specs.Bodies.{held_at, held_with, block_of, bytes_at, bytes_with}
+use Rattle.file_store.specs.Effects.{IsBodiless, IsFreed, held_after, drops}
+use Rattle.file_store.specs.HeldFiles.{IsHeldFiles}
+use Rattle.file_store.specs.Refusals.{refused_as}
+use Rattle.file_store.specs.Stores.{Store, IsLive, IsSound, marks_of, IsEither, Proceeds}
+use Rattle.file_store.proofs.Durable.{Parts, store_of, Tells, IsDone, after_event, done, proceeds_on, kept_proceeds}
+use Rattle.file_store.proofs.Marks.{marks-after, none-freed, freed-within, marks_there, length-marks, marks-moved, ArePlaces, are_places}
+use Rattle.file_store.proofs.WithBodies.{bodies_after, held_at-after, held_with-after, IsHeldFiles-after, IsFound, bytes-held, body-of, held_with-rewritten, IsHeldFiles-rewritten}
+use Rattle.file_store.proofs.Beside.{block_in, length-block, image_beside, used_stay, held_beside, backs_beside, places-mapped, blocks-mapped}
+use Rattle.file_store.proofs.ByBlocks.{at_place}
+use Rattle.file_store.proofs.DataBlocks.{held-changed}
+use Rattle.file_store.proofs.EachOf.{each-weaker, each-both, each-join, each-mapped}
+use Rattle.file_store.proofs.ByteChanges.{grown, changed-grown, touched-below, touched-ascends}
+use Rattle.file_store.proofs.FilesBy.{key_on-live}
+use Rattle.file_store.proofs.RewriteRecords.{after_rewriting, can_stand}
 use Rattle.std.specs.List.{All, AllByRecursion}
 use Rattle.std.proofs.lemmas.List.Elements.{All-from_recursion, All-weaker}
-use Rattle.hsm_types.specs.declared.keys.FileKey.{FileKey}
-use Rattle.disk_model.specs.declared.device.Disk as disk
 use Rattle.disk_model.specs.Images.{part, Follows}
 use Rattle.disk_model.specs.Moments.{MayBe, LeavesOnly, Keeps}
 use Rattle.disk_model.proofs.Steps.{holds_on, holds_now}
 use Rattle.commit_slots.specs.Places.{layout_of}
 use Rattle.plain_model.specs.Distinct.{Distinct}
 use Rattle.plain_model.specs.Plain.{rebody}
-use Rattle.plain_model.specs.Blocks.{blocks_in, size_after}
-use Rattle.plain_model.specs.Blocks.{touched as touched_by}
+use Rattle.plain_model.specs.Blocks.{blocks_in, size_after, touched as touched_by}
 use Rattle.plain_model.specs.State.{Held, bytes_of, affected_held}
-use Rattle.block_space.specs.Space.{free, marked, unmarked}
 use Rattle.block_space.specs.Laws.{IsFree}
 use Rattle.block_space.proofs.Marks.{length-marked, marked_keeps}
 use Rattle.block_space.proofs.Spaces.{taken_are_free, release_undoes_take}
 use Rattle.meta_store.specs.declared.snapshot.Mapping.{Mapping}
-use Rattle.meta_store.specs.declared.records.Record.{Record}
-use Rattle.meta_store.specs.Catalogs.{Catalog, IsCatalogFile, geometry_of, present, blocks_of}
-use Rattle.meta_store.specs.Records.{with_changed, after_all, CanStandAll, key_on}
-use Rattle.meta_store.specs.Images.{IsImage, blocks_in_image}
-use Rattle.meta_store.specs.Meta.{Meta, IsMeta, Backs, StoresOrKeeps}
 use Rattle.meta_store.proofs.BlockUses.{uses, uses-append}
 use Rattle.meta_store.proofs.FoundFiles.{each-found}
 use Rattle.file_store.specs.declared.rewrites.Rewrite.{Rewrite}
 use Rattle.file_store.specs.declared.rewrites.Rewrite.TheVariants.{Write, Resize}
-use Rattle.file_store.specs.Bodies.{block_of, bytes_at, bytes_with, held_at, held_with}
-use Rattle.file_store.specs.HeldFiles.{IsHeldFiles}
 use Rattle.file_store.specs.Steps.{IsBesideBlocks, HasBlocks}
 use Rattle.file_store.specs.Rewrites.{effect_of, IsRewrite, IsRewriting, mappings_of, remapped, freed_by, places_under}
-use Rattle.file_store.specs.Stores.{Store, IsEither, Proceeds, IsLive, marks_of}
-use Rattle.file_store.proofs.Beside.{block_in, length-block, image_beside, used_stay, held_beside, backs_beside}
-use Rattle.file_store.proofs.ByBlocks.{at_place}
-use Rattle.file_store.proofs.DataBlocks.{held-changed}
-use Rattle.file_store.proofs.Durable.{Parts, store_of, Tells, IsDone, after_event, done, proceeds_on, kept_proceeds}
-use Rattle.file_store.proofs.EachOf.{each-weaker, each-both, each-join, each-mapped}
-use Rattle.file_store.proofs.GrownBodies.{grown, changed-grown}
-use Rattle.file_store.proofs.LiveKeys.{key_on-live}
-use Rattle.file_store.proofs.MappedFlags.{touched-below, touched-ascends}
-use Rattle.file_store.proofs.Marks.{length-marks, marks_there, marks-moved, ArePlaces, are_places}
-use Rattle.file_store.proofs.Putting.{places-mapped, blocks-mapped}
-use Rattle.file_store.proofs.RewriteRecords.{after_rewriting, can_stand}
-use Rattle.file_store.proofs.WithBodies.{IsFound, bytes-held, body-of, held_with-rewritten, IsHeldFiles-rewritten}
+use Rattle.disk_model.specs.declared.device.Disk as disk
+use Rattle.file_store.specs.declared.refusal.StoreRefusal.TheVariants as store
+
+module _ {D : Type 0} (g : disk.Ghosts D) (k : FileKey) (r : Record) (freed : List ℕ) (p : Parts D) (held : IsHeldFiles p.bodies p.meta) (sound : IsSound g (store_of p)) (working : p.failed ≡ false) (bodiless : IsBodiless k r p.meta.current) (stands : CanStand r p.meta.current)
+    (free : IsFreed k r p.meta.current freed) where
+  live : IsLive g (store_of p)
+  live = sound.live working
+
+  catalog : IsCatalog p.meta.current
+  catalog = sound.meta.current
+
+  pub freed_low : All (λ b. b < length p.space.current) freed
+  freed_low = rw live.marks (freed-within k p.meta.current catalog freed r bodiless stands free)
+
+  pub recorded : (new : D) (m : Meta) (n : ℕ) (wrote : Bool) (tells : Tells g p.disk p.meta n wrote new m) → m.current ≡ after r p.meta.current → IsMeta m → Backs g new m → StoresOrKeeps g p.disk new p.meta n
+      → IsDone g p n (held_after k r (store_of p).held) (after_event p new m wrote (bodies_after k r p.bodies) (unmarked freed p.space.current) p.space.current (p.pending || drops r))
+  recorded new m n wrote tells current lawful backs turns =
+      done g p sound.meta live n new m wrote tells _ _ p.space.current (p.pending || drops r) lawful backs turns (IsHeldFiles-after p.bodies p.meta held k r m bodiless stands current lawful.current) _
+      (ap (held_with (bodies_after k r p.bodies)) current ∙ held_with-after p.bodies p.meta held k r bodiless stands)
+      (λ c gives. let blocks = blocks_in_image p.meta.durable.geometry c in ap (held_at blocks) current ∙ held_at-after blocks k r p.meta.current bodiless stands ∙ ap (held_after k r) (live.current c gives))
+      (ap (unmarked freed) live.marks ∙ marks-after k p.meta.current catalog freed r bodiless stands free ∙ ap marks_of (sym current))
+      (λ idle.
+      let parts = or_parts p.pending (drops r) idle in
+      rw (live.settled parts.0, none-freed k p.meta.current freed r parts.1 free) (cond_both wrote p.space.current p.space.current (λ flags. flags ≡ p.space.current) (λ stored. refl) (λ none. refl)))
+      (rw live.marks (marks_there p.meta.current catalog))
+
+-- ---- it wasn't taken
+
+abbrev pub is_disk : MetaRefusal → Bool
+is_disk (Part why) = false
+is_disk Disk = true
+is_disk Memory = false
+
+pub refused_sound : {D : Type 0} (g : disk.Ghosts D) (s : Store D) (new : D) (refusal : MetaRefusal) → IsSound g s → s.failed ≡ false → ((why : DmRefusal) → refusal ≡ Part why → new ≡ s.disk) → (refusal ≡ Memory → new ≡ s.disk)
+    → IsSound g (record s { disk = new; failed = is_disk refusal })
+refused_sound g s new (Part why) sound working part memory = rw (part why refl) (subst (λ b. IsSound g (record s { failed = b })) working sound)
+refused_sound g s new Disk sound working part memory = record { meta = sound.meta; live = λ still. absurd cc }
+refused_sound g s new Memory sound working part memory = rw (memory refl) (subst (λ b. IsSound g (record s { failed = b })) working sound)
+
+pub refused_part : (refusal : MetaRefusal) (why : DmRefusal) → refused_as refusal ≡ store.Part why → refusal ≡ Part why
+refused_part (Part w) why is = cc
+refused_part Disk why is = cc
+refused_part Memory why is = cc
+
+pub refusal_alone : (r : Record) (c : Catalog) → refusal_of_all (r ∷ []) c ≡ refusal_of r c
+refusal_alone r c = first_alone (refusal_of r c)
+  where
+    first_alone : (o : Option DmRefusal) → first_refusal (o ∷ None ∷ []) ≡ o
+    first_alone None = refl
+    first_alone (Some why) = refl
 
 -- ---- blocks that a file frees
 
@@ -193,16 +246,16 @@ module _ {D : Type 0} (g : disk.Ghosts D) (p : Parts D) (k : FileKey) (change : 
     }
 
     module _ (written : Follows (HasBlocks (layout_of p.meta.durable.geometry).blocks (rebody (effect_of change) (grown size body)) ms) (g.gives p.disk) (g.gives mid)) where
-      abbrev after : List ℕ
-      after = rebody (effect_of change) body
+      abbrev changed : List ℕ
+      changed = rebody (effect_of change) body
 
       abbrev base : ℕ
       base = (layout_of p.meta.durable.geometry).blocks
 
-      has_blocks : Follows (HasBlocks base after ms) (g.gives p.disk) (g.gives mid)
+      has_blocks : Follows (HasBlocks base changed ms) (g.gives p.disk) (g.gives mid)
       has_blocks = subst (λ (b : List ℕ). Follows (HasBlocks base b ms) (g.gives p.disk) (g.gives mid)) (changed-grown change body) written
 
-      beside : (d c : List ℕ) → HasBlocks base after ms d c → IsBesideBlocks base places d c
+      beside : (d c : List ℕ) → HasBlocks base changed ms d c → IsBesideBlocks base places d c
       beside d c step = subst (λ (ps : List ℕ). IsBesideBlocks base ps d c) (places-mapped blocks places long) step.beside
 
       -- the store stays as it is
@@ -225,7 +278,7 @@ module _ {D : Type 0} (g : disk.Ghosts D) (p : Parts D) (k : FileKey) (change : 
           let was : List ℕ = blocks_in_image p.meta.durable.geometry was_on.0 in
           let now : List ℕ = blocks_in_image p.meta.durable.geometry c in
           let holds = x.live.current was_on.0 was_on.1 in
-          let there : AllByRecursion (λ (m : Mapping). part now (4096 * m.place) 4096 ≡ block_of after m.block) ms =
+          let there : AllByRecursion (λ (m : Mapping). part now (4096 * m.place) 4096 ≡ block_of changed m.block) ms =
           each-both (λ (m : Mapping). m.place < (geometry_of p.meta.durable.geometry).blocks) _ _ (λ m low is. block_in p.meta.durable.geometry c m.place low ∙ is) ms
           (each-mapped (λ q. q < (geometry_of p.meta.durable.geometry).blocks) (λ (m : Mapping). m.place) ms (rw (places-mapped blocks places long) within)) was_on.2.there in
           held-changed was now p.meta.current (used_stay p.meta.durable.geometry places was_on.0 c (beside was_on.0 c was_on.2) p.meta.current geometry x.lawful.current are.unused) change k size ms x.at.file body x.lawful.current
@@ -242,18 +295,18 @@ module _ {D : Type 0} (g : disk.Ghosts D) (p : Parts D) (k : FileKey) (change : 
 
       -- they are
       pub rewritten : (n : ℕ) (new : D) (m : Meta) (wrote : Bool) (freed : List ℕ) → freed ≡ freed_by size blocks x.at.file.places → Tells g mid p.meta n wrote new m → m.current ≡ next → IsMeta m → Backs g new m → StoresOrKeeps g mid new p.meta n
-          → IsDone g p n held_next (after_event p new m wrote (set p.bodies (k.ino - 1) after) (unmarked freed (marked places p.space.current)) (marked places p.space.current) true)
+          → IsDone g p n held_next (after_event p new m wrote (set p.bodies (k.ino - 1) changed) (unmarked freed (marked places p.space.current)) (marked places p.space.current) true)
       rewritten n new m wrote freed freed_are tells current lawful backs turns =
           let touched_are = blocks-mapped blocks places long ∙ x.touched in
           let has_marks = each-weaker (λ b. get_or p.space.current b false ≡ true) (λ b. get_or (marked places p.space.current) b false ≡ true) (λ b. marked_keeps places p.space.current b) (blocks_of p.meta.current.files) (rw x.live.marks (marks_there p.meta.current x.lawful.current)) in
           let it =
           done g (record p { disk = mid }) x.lawful written_live n new m wrote tells _ (unmarked freed (marked places p.space.current)) (marked places p.space.current) true lawful backs turns
           (IsHeldFiles-rewritten p.bodies p.meta x.files k x.at change size ms refl touched_are m current lawful.current) held_next
-          (ap (held_with (set p.bodies (k.ino - 1) after)) current ∙ held_with-rewritten p.bodies p.meta x.files k x.at change size ms refl touched_are)
+          (ap (held_with (set p.bodies (k.ino - 1) changed)) current ∙ held_with-rewritten p.bodies p.meta x.files k x.at change size ms refl touched_are)
           (λ c gives. ap (held_at (blocks_in_image p.meta.durable.geometry c)) current ∙ holds_next c gives) (marks freed freed_are ∙ ap marks_of (sym current)) (λ idle. absurd cc) has_marks in
           record { files = it.files; sound = it.sound; held = it.held; proceeds = joined n _ it.proceeds }
 
--- ---- how much a file has after it
+-- ---- how much a file has changed it
 
 pub size-few : (change : Rewrite) (n : ℕ) → IsRewrite change → n ≤ 16777216 → size_after (effect_of change) n ≤ 16777216
 size-few (Write offset bytes) n may few = let end = may.1 in omega arith
