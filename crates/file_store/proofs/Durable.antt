@@ -95,57 +95,6 @@ module _ {D : Type 0} (g : disk.Ghosts D) (s : Store D) (lawful : IsMeta s.meta)
   pub kept_proceeds : (t : Store D) → StoresOrKeeps g s.disk t.disk s.meta n → t.meta ≡ s.meta → t.durable ≡ s.durable → Proceeds g s n t
   kept_proceeds t turns meta_is durable_is = commit_proceeds t turns (ap (λ (m : Meta). m.durable.geometry) meta_is) (ap (λ (m : Meta). m.fsid) meta_is) (inl (ap (λ (m : Meta). m.number) meta_is, durable_is))
 
-  -- where it succeeds, the snapshot that it may have written is of the state before
-  pub applied_proceeds : (t : Store D) (wrote : Bool) → StoresOrKeeps g s.disk t.disk s.meta n → Tells g s.disk s.meta n wrote t.disk t.meta → t.durable ≡ (if wrote then s.held else s.durable) → Proceeds g s n t
-  applied_proceeds t true turns tells durable =
-      let now = (tells.0 refl).1 in
-      commit_proceeds t turns (ap (λ (x : Catalog). x.geometry) now.durable ∙ same) now.fsid (inr (now.number, durable))
-  applied_proceeds t false turns tells durable =
-      let staged = (tells.1 refl).1 in
-      commit_proceeds t turns (ap (λ (m : Meta). m.durable.geometry) staged) (ap (λ (m : Meta). m.fsid) staged) (inl (ap (λ (m : Meta). m.number) staged, durable))
-
-  pub applied_live : (t : Store D) (backs : Backs g t.disk t.meta) (current : (c : List ℕ) → g.gives s.disk c → held_at (blocks_in_image s.meta.durable.geometry c) t.meta.current ≡ t.held) (marks : t.space.current ≡ marks_of t.meta.current)
-      (settled : t.pending ≡ false → t.space.durable ≡ t.space.current) (full : List Bool) (has : AllByRecursion (λ b. slice_index_or full b false ≡ true) (blocks_of s.meta.current.files))
-      (wrote : Bool) → Tells g s.disk s.meta n wrote t.disk t.meta → t.durable ≡ (if wrote then s.held else s.durable) → t.space.durable ≡ (if wrote then full else s.space.durable) → IsLive g t
-  applied_live t backs current marks settled full has true tells durable space =
-      let now = (tells.0 refl).1 in
-      let geometry = ap (λ (x : Catalog). x.geometry) now.durable in
-      record {
-        backs = backs;
-        stored = λ c may.
-            let d = (tells.0 refl).0 c may in
-            ap (held_at (blocks_in_image t.meta.durable.geometry c)) now.durable ∙ holds_new s.meta.current s.meta.current s.held _ _ _ _ d.0 c geometry same d.2 (live.current d.0 d.1) ∙ sym durable;
-        current = λ c gives. let d = (tells.0 refl).0 c (inr gives) in holds_new s.meta.current t.meta.current t.held _ _ _ _ d.0 c geometry same d.2 (current d.0 d.1);
-        marks = marks;
-        marked = rw (space, now.durable) has;
-        settled = settled;
-      }
-  applied_live t backs current marks settled full has false tells durable space =
-      let disk_is = (tells.1 refl).0 in
-      let store = ap (λ (m : Meta). m.durable) (tells.1 refl).1 in
-      record {
-        backs = backs;
-        stored = λ c may. ap (λ (x : Catalog). held_at (blocks_in_image x.geometry c) x) store ∙ live.stored c (subst (λ (e : D). MayBe g e c) disk_is may) ∙ sym durable;
-        current = λ c gives. ap (λ (x : Catalog). held_at (blocks_in_image x.geometry c) t.meta.current) store ∙ current c (subst (λ (e : D). g.gives e c) disk_is gives);
-        marks = marks;
-        marked = rw (space, store) live.marked;
-        settled = settled;
-      }
-
-  -- where all that was held is durable, no block that the durable files don't use is marked
-  pub committed_sound : (t : Store D) → Tells g s.disk s.meta n true t.disk t.meta → t.meta.current ≡ s.meta.current → t.held ≡ s.held → t.durable ≡ s.held → n ≤ 2 ^ 62 → Backs g t.disk t.meta → t.space ≡ record s.space { durable = s.space.current } → IsSound g t
-  committed_sound t tells current held made bound backs space =
-      let now = (tells.0 refl).1 in
-      record {
-        meta = record {
-          stored = record { number = rw now.number bound; catalog = rw now.durable lawful.current; geometry = rw (now.durable, current) refl };
-          current = rw current lawful.current;
-        };
-        live = λ working.
-            applied_live t backs (λ c gives. ap (held_at (blocks_in_image s.meta.durable.geometry c)) current ∙ live.current c gives ∙ sym held) (rw (space, current) live.marks) (λ idle. rw space refl)
-            s.space.current (rw live.marks (marks_there s.meta.current lawful.current)) true tells made (ap (λ (x : Space). x.durable) space);
-      }
-
 -- ---- an event that is done
 
 -- what is then held, with which blocks marked
@@ -160,22 +109,53 @@ abbrev pub after_event : {D : Type 0} → Parts D → D → Meta → Bool → Li
 after_event p new m wrote bodies marks full pending =
     record { disk = new; meta = m; bodies = bodies; durable = if wrote then p.bodies else p.durable; space = record { current = marks; durable = if wrote then full else p.space.durable }; pending = pending; failed = p.failed }
 
-module _ {D : Type 0} (g : disk.Ghosts D) (p : Parts D) (lawful : IsMeta p.meta) (live : IsLive g (store_of p)) (n : ℕ) (new : D) (m : Meta) (wrote : Bool) (tells : Tells g p.disk p.meta n wrote new m) (bodies : List (List ℕ)) (marks full : List Bool) (pending : Bool) where
-  abbrev after_it : Parts D
-  after_it = after_event p new m wrote bodies marks full pending
+module _ {D : Type 0} (g : disk.Ghosts D) (p : Parts D) (lawful : IsMeta p.meta) (live : IsLive g (store_of p)) (n : ℕ) (new : D) (m : Meta) (bodies : List (List ℕ)) (marks full : List Bool) (pending : Bool) where
+  proceeds_after : (wrote : Bool) → Tells g p.disk p.meta n wrote new m → StoresOrKeeps g p.disk new p.meta n → Proceeds g (store_of p) n (store_of (after_event p new m wrote bodies marks full pending))
+  proceeds_after true told turns =
+      let now = (told.0 refl).1 in
+      commit_proceeds g (store_of p) lawful live n _ turns (ap (λ (x : Catalog). x.geometry) now.durable ∙ lawful.stored.geometry) now.fsid (inr (now.number, ap (held_with p.bodies) now.durable))
+  proceeds_after false told turns =
+      let staged = (told.1 refl).1 in
+      commit_proceeds g (store_of p) lawful live n _ turns (ap (λ (x : Meta). x.durable.geometry) staged) (ap (λ (x : Meta). x.fsid) staged) (inl (ap (λ (x : Meta). x.number) staged, ap (λ (x : Meta). held_with p.durable x.durable) staged))
 
-  durable_is : (b : Bool) → Tells g p.disk p.meta n b new m → held_with (if b then p.bodies else p.durable) m.durable ≡ (if b then held_with p.bodies p.meta.current else held_with p.durable p.meta.durable)
-  durable_is true told = ap (held_with p.bodies) (told.0 refl).1.durable
-  durable_is false told = ap (λ (x : Meta). held_with p.durable x.durable) (told.1 refl).1
+  module _ (backs : Backs g new m) (held : Held) (held_is : held_with bodies m.current ≡ held) (current : (c : List ℕ) → g.gives p.disk c → held_at (blocks_in_image p.meta.durable.geometry c) m.current ≡ held) (exact : marks ≡ marks_of m.current)
+      (has : AllByRecursion (λ b. slice_index_or full b false ≡ true) (blocks_of p.meta.current.files)) where
+    live_after : (wrote : Bool) → Tells g p.disk p.meta n wrote new m → (pending ≡ false → (if wrote then full else p.space.durable) ≡ marks) → IsLive g (store_of (after_event p new m wrote bodies marks full pending))
+    live_after true told settled =
+        let now = (told.0 refl).1 in
+        let geometry = ap (λ (x : Catalog). x.geometry) now.durable in
+        record {
+          backs = backs;
+          stored = λ c may.
+              let d = (told.0 refl).0 c may in
+              ap (held_at (blocks_in_image m.durable.geometry c)) now.durable ∙ holds_new p.meta.current p.meta.current _ _ _ _ _ d.0 c geometry lawful.stored.geometry d.2 (live.current d.0 d.1) ∙ sym (ap (held_with p.bodies) now.durable);
+          current = λ c gives. let d = (told.0 refl).0 c (inr gives) in holds_new p.meta.current m.current held _ _ _ _ d.0 c geometry lawful.stored.geometry d.2 (current d.0 d.1) ∙ sym held_is;
+          marks = exact;
+          marked = rw now.durable has;
+          settled = settled;
+        }
+    live_after false told settled =
+        let disk_is = (told.1 refl).0 in
+        let store = ap (λ (x : Meta). x.durable) (told.1 refl).1 in
+        record {
+          backs = backs;
+          stored = λ c may. ap (λ (x : Catalog). held_at (blocks_in_image x.geometry c) x) store ∙ live.stored c (subst (λ (e : D). MayBe g e c) disk_is may) ∙ sym (ap (held_with p.durable) store);
+          current = λ c gives. ap (λ (x : Catalog). held_at (blocks_in_image x.geometry c) m.current) store ∙ current c (subst (λ (e : D). g.gives e c) disk_is gives) ∙ sym held_is;
+          marks = exact;
+          marked = rw store live.marked;
+          settled = settled;
+        }
 
-  pub done : IsMeta m → Backs g new m → StoresOrKeeps g p.disk new p.meta n → IsHeldFiles bodies m → (held : Held) → held_with bodies m.current ≡ held → ((c : List ℕ) → g.gives p.disk c → held_at (blocks_in_image p.meta.durable.geometry c) m.current ≡ held)
-      → marks ≡ marks_of m.current → (pending ≡ false → after_it.space.durable ≡ marks) → AllByRecursion (λ b. slice_index_or full b false ≡ true) (blocks_of p.meta.current.files) → IsDone g p n held after_it
-  done lawful_now backs turns files held held_is current exact settled has = record {
-    files = files;
-    sound = record { meta = lawful_now; live = λ working. applied_live g (store_of p) lawful live n (store_of after_it) backs (λ c gives. current c gives ∙ sym held_is) exact settled full has wrote tells (durable_is wrote tells) refl };
-    held = held_is;
-    proceeds = applied_proceeds g (store_of p) lawful live n (store_of after_it) wrote turns tells (durable_is wrote tells);
-  }
+    pub done : (wrote : Bool) → Tells g p.disk p.meta n wrote new m → IsMeta m → StoresOrKeeps g p.disk new p.meta n → IsHeldFiles bodies m → (pending ≡ false → (if wrote then full else p.space.durable) ≡ marks) → IsDone g p n held (after_event p new m wrote bodies marks full pending)
+    done wrote told lawful_now turns files settled =
+        record { files = files; sound = record { meta = lawful_now; live = λ working. live_after wrote told settled }; held = held_is; proceeds = proceeds_after wrote told turns }
+
+-- what was stored is what was held, which is lawful
+pub stored_meta : (m new : Meta) (n : ℕ) → IsMeta m → IsStoredNow m n new → new.current ≡ m.current → n ≤ 2 ^ 62 → IsMeta new
+stored_meta m new n lawful now current bound = record {
+  stored = record { number = rw now.number bound; catalog = rw now.durable lawful.current; geometry = rw (now.durable, current) refl };
+  current = rw current lawful.current;
+}
 
 -- ---- an opening
 

@@ -115,8 +115,6 @@ next-file c i f is at = record {
 pub each-more : (P : CatalogFile → List ℕ → Type 0) (c : Catalog) (i : ℕ) (f : CatalogFile) (bodies : List (List ℕ)) (body : List ℕ) → IsNext c i f → length bodies ≡ (geometry_of c.geometry).files → P f body → AllByRecursion (λ g. P g (bytes_with bodies g)) (take i c.files)
     → AllByRecursion (λ g. P g (bytes_with (set bodies (f.key.ino - 1) body) g)) (take (i + 1) c.files)
 each-more P c i f bodies body is count here are =
-    let low = is.low in
-    let high = is.high in
     let new = set bodies (f.key.ino - 1) body in
     let Q : CatalogFile → Type 0 = λ g. P g (bytes_with new g) in
     let there : get_or new (f.key.ino - 1) [] ≡ body = get_or-set_same bodies (f.key.ino - 1) body [] (omega arith) in

@@ -40,18 +40,8 @@ mappings-runs a m b n blocks ps is long = mappings-two a m b n ps (long ∙ ap l
 pub run-within : (a m b n : ℕ) (blocks : List ℕ) → from_on a m ++ from_on b n ≡ blocks → m ≤ length blocks
 run-within a m b n blocks is = omega (arith, ap length is, length-append (from_on a m) (from_on b n), length_blocks None a m)
 
--- ---- records one after the other
-
 pub size_first : (ino size : ℕ) → IsRewriting ino size [] (Size ino size ∷ [])
 size_first ino size = record { maps = []; first = refl; each = tt; all = refl }
-
-pub map_behind : (ino size : ℕ) (ms : List Mapping) (rs : List Record) (r : Record) → IsMapOn ino r → IsRewriting ino size ms rs → IsRewriting ino size (ms ++ mappings_in r) (rs ++ r ∷ [])
-map_behind ino size ms rs r on is = record {
-  maps = is.maps ++ r ∷ [];
-  first = ap (λ (xs : List Record). xs ++ r ∷ []) is.first;
-  each = each-join (IsMapOn ino) is.maps (r ∷ []) is.each (on, tt);
-  all = flat_map-append mappings_in is.maps (r ∷ []) ∙ ap (λ (xs : List Mapping). xs ++ (mappings_in r ++ [])) is.all ∙ ap (λ (xs : List Mapping). ms ++ xs) (append-nil (mappings_in r));
-}
 
 -- ---- places that a run of blocks had
 

@@ -2,7 +2,7 @@
 use Rattle.std.proofs.Common.{◌≡◌, ℕ, ◌<◌, List, [], ◌∷◌, length, Bool, true, false, ◌||◌, Option, Some, None, refl, sym, ◌∙◌, ap, subst, All, inl, inr, zero, suc, ◌-◌, ◌*◌, ◌≤◌, take, drop, get_or, set, arith, length-take}
 use Rattle.std.proofs.lemmas.Bool.{or_parts, cond_both}
 use Rattle.hsm_types.specs.declared.keys.FileKey.{FileKey}
-use Rattle.block_space.specs.Space.{unmarked, free, marked}
+use Rattle.block_space.specs.Space.{Space, unmarked, free, marked}
 use Rattle.hsm_types.specs.declared.dm.DmRefusal.{DmRefusal}
 use Rattle.hsm_types.specs.Refusals.{first_refusal}
 use Rattle.meta_store.specs.declared.records.Record.{Record}
@@ -64,14 +64,13 @@ module _ {D : Type 0} (g : disk.Ghosts D) (k : FileKey) (r : Record) (freed : Li
   pub recorded : (new : D) (m : Meta) (n : ℕ) (wrote : Bool) (tells : Tells g p.disk p.meta n wrote new m) → m.current ≡ after r p.meta.current → IsMeta m → Backs g new m → StoresOrKeeps g p.disk new p.meta n
       → IsDone g p n (held_after k r (store_of p).held) (after_event p new m wrote (bodies_after k r p.bodies) (unmarked freed p.space.current) p.space.current (p.pending || drops r))
   recorded new m n wrote tells current lawful backs turns =
-      done g p sound.meta live n new m wrote tells _ _ p.space.current (p.pending || drops r) lawful backs turns (IsHeldFiles-after p.bodies p.meta held k r m bodiless stands current lawful.current) _
-      (ap (held_with (bodies_after k r p.bodies)) current ∙ held_with-after p.bodies p.meta held k r bodiless stands)
+      done g p sound.meta live n new m _ _ p.space.current (p.pending || drops r) backs _ (ap (held_with (bodies_after k r p.bodies)) current ∙ held_with-after p.bodies p.meta held k r bodiless stands)
       (λ c gives. let blocks = blocks_in_image p.meta.durable.geometry c in ap (held_at blocks) current ∙ held_at-after blocks k r p.meta.current bodiless stands ∙ ap (held_after k r) (live.current c gives))
-      (ap (unmarked freed) live.marks ∙ marks-after k p.meta.current catalog freed r bodiless stands free ∙ ap marks_of (sym current))
+      (ap (unmarked freed) live.marks ∙ marks-after k p.meta.current catalog freed r bodiless stands free ∙ ap marks_of (sym current)) (rw live.marks (marks_there p.meta.current catalog)) wrote tells lawful turns
+      (IsHeldFiles-after p.bodies p.meta held k r m bodiless stands current lawful.current)
       (λ idle.
       let parts = or_parts p.pending (drops r) idle in
       rw (live.settled parts.0, none-freed k p.meta.current freed r parts.1 free) (cond_both wrote p.space.current p.space.current (λ flags. flags ≡ p.space.current) (λ stored. refl) (λ none. refl)))
-      (rw live.marks (marks_there p.meta.current catalog))
 
 -- ---- it wasn't taken
 
@@ -157,17 +156,11 @@ module _ {D : Type 0} (g : disk.Ghosts D) (p : Parts D) (k : FileKey) (change : 
   pub long : length places ≡ length blocks
   long = omega (arith, x.enough, ap length x.taken, length-take (length blocks) (free p.space))
 
-  are : ArePlaces p.meta.current p.meta.durable places
+  pub are : ArePlaces p.meta.current p.meta.durable places
   are = rw x.taken (are_places p.meta.current x.lawful.current p.meta.durable p.space (length blocks) x.live.marks x.live.marked)
 
-  geometry : p.meta.current.geometry ≡ p.meta.durable.geometry
-  geometry = x.lawful.stored.geometry
-
-  pub apart : Distinct places
-  apart = are.distinct
-
   pub within : AllByRecursion (λ q. q < (geometry_of p.meta.durable.geometry).blocks) places
-  within = subst (λ (z : ℕ). AllByRecursion (λ q. q < (geometry_of z).blocks) places) geometry are.within
+  within = subst (λ (z : ℕ). AllByRecursion (λ q. q < (geometry_of z).blocks) places) x.lawful.stored.geometry are.within
 
   low : AllByRecursion (λ b. b < blocks_in size) blocks
   low = rw x.touched (touched-below change (length body))
@@ -198,11 +191,10 @@ module _ {D : Type 0} (g : disk.Ghosts D) (p : Parts D) (k : FileKey) (change : 
   undone = release_undoes_take p.space.current places (rw x.taken (All-weaker (IsFree p.space) (λ b. get_or p.space.current b true ≡ false) (λ b f. f.current) (take (length blocks) (free p.space)) (taken_are_free p.space (length blocks)).each))
 
   module _ (freed : List ℕ) (freed_are : freed ≡ freed_by size blocks x.at.file.places) where
-    file_is : IsCatalogFile (geometry_of p.meta.current.geometry).blocks x.at.file
-    file_is = each-found (IsCatalogFile (geometry_of p.meta.current.geometry).blocks) k x.at.file p.meta.current.files x.lawful.current.each x.at.found
-
     pub freed_within : All (λ b. b < length (marked places p.space.current)) freed
-    freed_within = rw (total, freed_are) (All-from_recursion (λ b. b < (geometry_of p.meta.current.geometry).blocks) (freed_by size blocks x.at.file.places) (all-freed (λ b. b < (geometry_of p.meta.current.geometry).blocks) size blocks x.at.file.places file_is.within))
+    freed_within =
+        let file = each-found (IsCatalogFile (geometry_of p.meta.current.geometry).blocks) k x.at.file p.meta.current.files x.lawful.current.each x.at.found in
+        rw (total, freed_are) (All-from_recursion _ (freed_by size blocks x.at.file.places) (all-freed (λ b. b < (geometry_of p.meta.current.geometry).blocks) size blocks x.at.file.places file.within))
 
     pub marks : unmarked freed (marked places p.space.current) ≡ marks_of next
     marks =
@@ -236,13 +228,13 @@ module _ {D : Type 0} (g : disk.Ghosts D) (p : Parts D) (k : FileKey) (change : 
     found : (n : ℕ) (c : List ℕ) → Was c → IsEither (store_of p) n c
     found n c w = inl (record { catalog = p.meta.durable; same = refl; is = w.0; holds = w.1 })
 
-    pub written_proceeds : (n : ℕ) (t : Store D) → t.disk ≡ mid → t.meta ≡ p.meta → t.durable ≡ (store_of p).durable → Proceeds g (store_of p) n t
-    written_proceeds n t disk_is meta_is durable_is = record {
-      geometry = ap (λ (m : Meta). m.durable.geometry) meta_is;
-      fsid = ap (λ (m : Meta). m.fsid) meta_is;
-      moments = subst (λ (e : D). LeavesOnly g p.disk e (IsEither (store_of p) n)) (sym disk_is) (holds_on g p.disk mid _ Was (IsEither (store_of p) n) keeps was (λ d c w step. found n c (stays d c w step)));
-      now = λ c may. found n c (holds_now g p.disk mid _ Was Was keeps was stays c (subst (λ (e : D). MayBe g e c) disk_is may));
-      durable = inl (ap (λ (m : Meta). m.number) meta_is, durable_is);
+    pub written_proceeds : (n : ℕ) (held : Held) (space : Space) (failed : Bool) → Proceeds g (store_of p) n (record (store_of p) { disk = mid; held = held; space = space; failed = failed })
+    written_proceeds n held space failed = record {
+      geometry = refl;
+      fsid = refl;
+      moments = holds_on g p.disk mid _ Was (IsEither (store_of p) n) keeps was (λ d c w step. found n c (stays d c w step));
+      now = λ c may. found n c (holds_now g p.disk mid _ Was Was keeps was stays c may);
+      durable = inl (refl, refl);
     }
 
     module _ (written : Follows (HasBlocks (layout_of p.meta.durable.geometry).blocks (rebody (effect_of change) (grown size body)) ms) (g.gives p.disk) (g.gives mid)) where
@@ -265,7 +257,7 @@ module _ {D : Type 0} (g : disk.Ghosts D) (p : Parts D) (k : FileKey) (change : 
         stored = λ c may. (holds_now g p.disk mid _ Was Was keeps was stays c may).1;
         current = λ c gives.
             let was_on = has_blocks c gives in
-            held_beside p.meta.durable.geometry places was_on.0 c (beside was_on.0 c was_on.2) p.meta.current geometry x.lawful.current are.unused ∙ x.live.current was_on.0 was_on.1;
+            held_beside p.meta.durable.geometry places was_on.0 c (beside was_on.0 c was_on.2) p.meta.current x.lawful.stored.geometry x.lawful.current are.unused ∙ x.live.current was_on.0 was_on.1;
         marks = x.live.marks;
         marked = x.live.marked;
         settled = x.live.settled;
@@ -281,13 +273,13 @@ module _ {D : Type 0} (g : disk.Ghosts D) (p : Parts D) (k : FileKey) (change : 
           let there : AllByRecursion (λ (m : Mapping). part now (4096 * m.place) 4096 ≡ block_of changed m.block) ms =
           each-both (λ (m : Mapping). m.place < (geometry_of p.meta.durable.geometry).blocks) _ _ (λ m low is. block_in p.meta.durable.geometry c m.place low ∙ is) ms
           (each-mapped (λ q. q < (geometry_of p.meta.durable.geometry).blocks) (λ (m : Mapping). m.place) ms (rw (places-mapped blocks places long) within)) was_on.2.there in
-          held-changed was now p.meta.current (used_stay p.meta.durable.geometry places was_on.0 c (beside was_on.0 c was_on.2) p.meta.current geometry x.lawful.current are.unused) change k size ms x.at.file body x.lawful.current
-          (λ b lt. length-block p.meta.durable.geometry was_on.0 b (subst (λ z. b < (geometry_of z).blocks) geometry lt) (x.live.backs.image was_on.0 (inr was_on.1)).found.size)
+          held-changed was now p.meta.current (used_stay p.meta.durable.geometry places was_on.0 c (beside was_on.0 c was_on.2) p.meta.current x.lawful.stored.geometry x.lawful.current are.unused) change k size ms x.at.file body x.lawful.current
+          (λ b lt. length-block p.meta.durable.geometry was_on.0 b (subst (λ z. b < (geometry_of z).blocks) x.lawful.stored.geometry lt) (x.live.backs.image was_on.0 (inr was_on.1)).found.size)
           x.may x.at.found (bytes was holds) refl (blocks-mapped blocks places long ∙ x.touched) there
           ∙ ap (λ (h : Held). record h { files = affected_held (effect_of change) k h.files }) holds
 
       joined : (n : ℕ) (t : Store D) → Proceeds g (store_of (record p { disk = mid })) n t → Proceeds g (store_of p) n t
-      joined n t more = proceeds_on g (store_of p) (store_of (record p { disk = mid })) t n (written_proceeds n (store_of (record p { disk = mid })) refl refl refl) refl more
+      joined n t more = proceeds_on g (store_of p) (store_of (record p { disk = mid })) t n (written_proceeds n (store_of p).held p.space p.failed) refl more
 
       -- the records aren't taken
       pub refused_proceeds : (n : ℕ) (t : Store D) → StoresOrKeeps g mid t.disk p.meta n → t.meta ≡ p.meta → t.durable ≡ (store_of p).durable → Proceeds g (store_of p) n t
@@ -300,10 +292,10 @@ module _ {D : Type 0} (g : disk.Ghosts D) (p : Parts D) (k : FileKey) (change : 
           let touched_are = blocks-mapped blocks places long ∙ x.touched in
           let has_marks = each-weaker (λ b. get_or p.space.current b false ≡ true) (λ b. get_or (marked places p.space.current) b false ≡ true) (λ b. marked_keeps places p.space.current b) (blocks_of p.meta.current.files) (rw x.live.marks (marks_there p.meta.current x.lawful.current)) in
           let it =
-          done g (record p { disk = mid }) x.lawful written_live n new m wrote tells _ (unmarked freed (marked places p.space.current)) (marked places p.space.current) true lawful backs turns
-          (IsHeldFiles-rewritten p.bodies p.meta x.files k x.at change size ms refl touched_are m current lawful.current) held_next
+          done g (record p { disk = mid }) x.lawful written_live n new m _ (unmarked freed (marked places p.space.current)) (marked places p.space.current) true backs held_next
           (ap (held_with (set p.bodies (k.ino - 1) changed)) current ∙ held_with-rewritten p.bodies p.meta x.files k x.at change size ms refl touched_are)
-          (λ c gives. ap (held_at (blocks_in_image p.meta.durable.geometry c)) current ∙ holds_next c gives) (marks freed freed_are ∙ ap marks_of (sym current)) (λ idle. absurd cc) has_marks in
+          (λ c gives. ap (held_at (blocks_in_image p.meta.durable.geometry c)) current ∙ holds_next c gives) (marks freed freed_are ∙ ap marks_of (sym current)) has_marks wrote tells lawful turns
+          (IsHeldFiles-rewritten p.bodies p.meta x.files k x.at change size ms refl touched_are m current lawful.current) (λ idle. absurd cc) in
           record { files = it.files; sound = it.sound; held = it.held; proceeds = joined n _ it.proceeds }
 
 -- ---- how much a file has changed it

@@ -201,9 +201,6 @@ module _ (bs : List (List ℕ)) (m : Meta) (is : IsHeldFiles bs m) where
 
   keeps-with : (k : FileKey) (r : Record) → IsBodiless k r m.current → CanStand r m.current → KeepsBytes (bytes_with bs) (bytes_with (bodies_after k r bs)) k r m.current
   keeps-with k (Make key name) same stands =
-      let low = stands.low in
-      let high = stands.high in
-      let count = is.count in
       subst (λ (j : FileKey). KeepsBytes (bytes_with bs) (bytes_with (set bs (j.ino - 1) [])) j (Make key name) m.current) same
       (stay-unused bs 1 key.ino [] m.current.files stands.low (omega arith) is.catalog.table.ascend stands.inode, get_or-set_same bs (key.ino - 1) [] [] (omega arith))
   keeps-with k (Drop ino) same stands = stay-beside bs k [] stands.0 m.current.files is.catalog.table.ascend (rw (← same) stands.1)
@@ -250,8 +247,6 @@ module _ (bs : List (List ℕ)) (m : Meta) (is : IsHeldFiles bs m) (k : FileKey)
 
     becomes : bytes_with new (remapped size ms at.file) ≡ rebody (effect_of change) (get_or bs (k.ino - 1) [])
     becomes =
-        let low = at.low in
-        let high = at.high in
         ap (λ (j : FileKey). get_or new (j.ino - 1) []) ino_is ∙ get_or-set_same bs (k.ino - 1) (rebody (effect_of change) (get_or bs (k.ino - 1) [])) [] (omega arith)
 
     others : AllByRecursion (SameBytes (bytes_with bs) (bytes_with new)) (drop_key (λ g. g.key) k m.current.files)

@@ -2,8 +2,8 @@ use Rattle.std.proofs.Common.{◌≡◌, ℕ, List, refl, sym, ◌∙◌, ap}
 use Rattle.meta_store.specs.Catalogs.{Catalog}
 use Rattle.meta_store.specs.Images.{blocks_in_image}
 use Rattle.meta_store.proofs.FoundImages.{found-one}
-use Rattle.file_store.specs.Bodies.{held_at, held_by}
-use Rattle.file_store.specs.Laws.{RecoversOne, FormattedIsEmpty}
+use Rattle.file_store.specs.Bodies.{held_at}
+use Rattle.file_store.specs.Laws.{RecoversOne}
 use Rattle.file_store.proofs.laws.one_recovery.Goals as goal
 
 one_recovery : (image : List ℕ) → RecoversOne image

@@ -13,8 +13,6 @@ slot-requires g c = (next-file c.args.catalog.now c.loop-index.index _ c.geometr
 pub index_mut-requires : goal.index_mut-requires
 index_mut-requires g c =
     let is = next-file c.args.catalog.now c.loop-index.index _ c.geometry-geometry.ensures.valid (sym (rw c.unwrap-size.ensures at c.file.ensures)) in
-    let low = is.low in
-    let high = is.high in
     omega (arith, c.loop-index.invariant.count, c.slot.ensures)
 
 pub loop-index-preserved : goal.loop-index-preserved

@@ -1,4 +1,4 @@
-use Rattle.std.proofs.Common.{ℕ, refl, ◌∙◌, ap, subst, Err}
+use Rattle.std.proofs.Common.{ℕ, refl, ◌∙◌, subst}
 use Rattle.meta_store.specs.Catalogs.{geometry_of}
 use Rattle.file_store.specs.Bodies.{bytes_with, held_with}
 use Rattle.file_store.specs.Stores.{IsLawful}

@@ -23,7 +23,7 @@ use Rattle.file_store.proofs.Durable.{Parts, store_of, IsDone, after_event, soun
 use Rattle.file_store.proofs.ByteChanges.{grown, length-grown, changed-grown, grown-enough, grown-no_more, grown-back}
 use Rattle.file_store.proofs.WithBodies.{IsFound, live-held, body-held}
 use Rattle.file_store.proofs.RewriteRecords.{is_event, not_refused}
-use Rattle.file_store.proofs.StoreEvents.{Given, within, body_of, size_of, long, apart, stand, become, places_within, freed_within, undone, written_proceeds, written_live, refused_proceeds, rewritten, size-few, is_disk, refused_sound, refused_part}
+use Rattle.file_store.proofs.StoreEvents.{Given, within, body_of, size_of, long, are, stand, become, places_within, freed_within, undone, written_proceeds, written_live, refused_proceeds, rewritten, size-few, is_disk, refused_sound, refused_part}
 use Rattle.file_store.proofs.Marks.{enough}
 use Rattle.file_store.proofs.store.FileStore.rewrite.Given.{Over}
 use Rattle.file_store.proofs.store.FileStore.rewrite.Goals.{After-of-before, After-count, After-as_slice-places, After-of_geometry-base, After-put_blocks, In-Ok-put_blocks, In-Ok-apply, After-apply-in-Ok-apply, After-make_durable, After-release_all-in-Ok-apply, After-resize-in-Err, After-release_all-in-Err, After-eq-self-inside}
@@ -43,8 +43,6 @@ live g c = c.self.invariant.1.live (ap (λ s. s.failed) c.self.view_is ∙ c.req
 body_is : (g : Over) (c : After-count g) → c.index_mut-body.result.now ≡ body_of c.self.inside.bodies.items c.args.key
 body_is g c =
     let at = found g (goal.at.After-count g c).After-of-before in
-    let low = at.low in
-    let high = at.high in
     get_or_read c.self.inside.bodies.items (c.args.key.ino - 1) c.index_mut-body.result.now (omega arith) (rw c.slot.ensures at c.index_mut-body.ensures.value) []
 
 touched_is : (g : Over) (c : After-count g) → c.touched-touched.result ≡ touched (effect_of c.args.change) (length (body_of c.self.inside.bodies.items c.args.key))
@@ -81,17 +79,16 @@ given g c =
 -- ---- what is planned
 
 rewriting : (g : Over) (c : After-of_geometry-base g) → IsRewriting c.args.key.ino (size_of c.args.change (body_of c.self.inside.bodies.items c.args.key)) (mappings_of c.touched-touched.result c.as_slice-places.result.now) c.in-Ok.plan.records
-rewriting g c =
-    subst (λ (n : ℕ). IsRewriting c.args.key.ino (size_after (effect_of c.args.change) n) (mappings_of c.touched-touched.result c.as_slice-places.result.now) c.in-Ok.plan.records) (ap length (body_is g (goal.at.After-of_geometry-base g c).After-count)) c.in-Ok.ensures.records
+rewriting g c = rw (body_is g (goal.at.After-of_geometry-base g c).After-count) at c.in-Ok.ensures.records
 
 grown_is : (g : Over) (c : After-of_geometry-base g) → c.prepare.new.body ≡ grown (size_of c.args.change (body_of c.self.inside.bodies.items c.args.key)) (body_of c.self.inside.bodies.items c.args.key)
-grown_is g c = subst (λ (b : List ℕ). c.prepare.new.body ≡ grown (size_after (effect_of c.args.change) (length b)) b) (body_is g (goal.at.After-of_geometry-base g c).After-count) c.in-Ok.ensures.grown
+grown_is g c = rw (body_is g (goal.at.After-of_geometry-base g c).After-count) at c.in-Ok.ensures.grown
 
 freed_is : (g : Over) (c : After-of_geometry-base g) → c.in-Ok.plan.freed.items ≡ freed_by (size_of c.args.change (body_of c.self.inside.bodies.items c.args.key)) c.touched-touched.result (found g (goal.at.After-of_geometry-base g c).After-of-before).file.places
 freed_is g c =
     let at = goal.at.After-of_geometry-base g c in
     let file = found g at.After-of-before in
-    subst (λ (n : ℕ). c.in-Ok.plan.freed.items ≡ freed_by (size_after (effect_of c.args.change) n) c.touched-touched.result file.file.places) (ap length (body_is g at.After-count)) (c.in-Ok.ensures.freed file.file (rw c.catalog-catalog.ensures.catalog file.found))
+    rw (body_is g at.After-count) at (c.in-Ok.ensures.freed file.file (rw c.catalog-catalog.ensures.catalog file.found))
 
 base_is : (g : Over) (c : After-of_geometry-base g) → c.of_geometry-base.result.blocks ≡ (layout_of c.self.inside.meta.durable.geometry).blocks
 base_is g c =
@@ -99,7 +96,7 @@ base_is g c =
     ∙ ap (λ (z : ℕ). (layout_of z).blocks) (c.geometry.ensures.geometry ∙ ap (λ (x : Catalog). x.geometry) c.catalog-catalog.ensures.catalog ∙ c.self.invariant.1.meta.stored.geometry)
 
 keeps : (g : Over) (c : After-put_blocks g) → Keeps g.D.Disk c.self.inside.disk c.put_blocks.new.disk (IsBesideBlocks (layout_of c.self.inside.meta.durable.geometry).blocks c.as_slice-places.result.now)
-keeps g c = subst (λ (base : ℕ). Keeps g.D.Disk c.self.inside.disk c.put_blocks.new.disk (IsBesideBlocks base c.as_slice-places.result.now)) (base_is g (goal.at.After-put_blocks g c).After-of_geometry-base) c.put_blocks.ensures.any_moment
+keeps g c = rw (base_is g (goal.at.After-put_blocks g c).After-of_geometry-base) at c.put_blocks.ensures.any_moment
 
 written : (g : Over) (c : In-Ok-put_blocks g) → Follows (HasBlocks (layout_of c.self.inside.meta.durable.geometry).blocks (rebody (effect_of c.args.change) (grown (size_of c.args.change (body_of c.self.inside.bodies.items c.args.key)) (body_of c.self.inside.bodies.items c.args.key)))
     (mappings_of c.touched-touched.result c.as_slice-places.result.now)) (g.D.Disk.gives c.self.inside.disk) (g.D.Disk.gives c.put_blocks.new.disk)
@@ -143,11 +140,7 @@ pub slot-requires : goal.slot-requires
 slot-requires g c = (found g (goal.at.slot-requires g c).After-of-before).low
 
 pub index_mut-body-requires : goal.index_mut-body-requires
-index_mut-body-requires g c =
-    let at = found g (goal.at.index_mut-body-requires g c).After-of-before in
-    let low = at.low in
-    let high = at.high in
-    omega arith
+index_mut-body-requires g c = let at = found g (goal.at.index_mut-body-requires g c).After-of-before in omega arith
 
 pub take-requires : goal.take-requires
 take-requires g c = let at = (goal.at.take-requires g c).After-count in record { few = omega (arith, room g at, (geometry-bounded c.self.inside.meta.current.geometry).1); enough = enough_free g at }
@@ -191,13 +184,13 @@ put_blocks-requires g c =
       count = long g.D.Disk _ _ _ _ _ known;
       low = omega (arith, base, blocks_low geometry);
       fits = rw base (blocks_fit geometry _ (live g at.After-of-before).backs.length _ (within g.D.Disk _ _ _ _ _ known));
-      apart = apart g.D.Disk _ _ _ _ _ known;
+      apart = (are g.D.Disk _ _ _ _ _ known).distinct;
     }
 
 pub returns-in_default-put_blocks-clause-proceeds : goal.returns-in_default-put_blocks-clause-proceeds
 returns-in_default-put_blocks-clause-proceeds g c =
     let at = goal.at.returns-in_default-put_blocks-clause-proceeds g c in
-    rw (← c.self.view_is) (written_proceeds g.D.Disk _ _ _ _ _ (given g at.After-as_slice-places) _ (keeps g at.After-put_blocks) c.args.number _ refl refl refl)
+    rw (← c.self.view_is) (written_proceeds g.D.Disk _ _ _ _ _ (given g at.After-as_slice-places) _ (keeps g at.After-put_blocks) c.args.number _ _ true)
 
 pub apply-requires : goal.apply-requires
 apply-requires g c =
