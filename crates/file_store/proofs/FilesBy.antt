@@ -143,16 +143,13 @@ module _ (B C : CatalogFile → List ℕ) where
   by-same [] same = refl
   by-same (f ∷ fs) same = rw (same.0, by-same fs same.1) refl
 
-  chosen : (b : Bool) (x y : List CatalogFile) (u v : List FileState) → map (file_by C) x ≡ u → map (file_by C) y ≡ v → map (file_by C) (cond b x y) ≡ cond b u v
-  chosen true x y u v p q = p
-  chosen false x y u v p q = q
-
   pub by-put : (g : CatalogFile) (fs : List CatalogFile) → AllByRecursion SameBytes fs → map (file_by C) (put_key (λ f. f.key) g fs) ≡ put_key (λ f. f.key) (file_by C g) (map (file_by B) fs)
   by-put g [] same = refl
   by-put g (f ∷ fs) same =
-      let all = by-same (f ∷ fs) same in
-      let here : file_by C f ≡ file_by B f = rw same.0 refl in
-      chosen (ltb g.key.ino f.key.ino) (g ∷ f ∷ fs) (f ∷ put_key (λ x. x.key) g fs) _ _ (ap (λ ss. file_by C g ∷ ss) all) (ap (λ s. s ∷ map (file_by C) (put_key (λ x. x.key) g fs)) here ∙ ap (λ ss. file_by B f ∷ ss) (by-put g fs same.1))
+      elim (ltb g.key.ino f.key.ino) as (λ b. map (file_by C) (cond b (g ∷ f ∷ fs) (f ∷ put_key (λ x. x.key) g fs)) ≡ cond b (file_by C g ∷ file_by B f ∷ map (file_by B) fs) (file_by B f ∷ put_key (λ x. x.key) (file_by C g) (map (file_by B) fs))) [
+        | true ↦ rw (same.0, by-same fs same.1) refl
+        | false ↦ rw (same.0, by-put g fs same.1) refl
+      ]
 
   pub by-drop : (k : FileKey) (fs : List CatalogFile) → AllByRecursion SameBytes (drop_key (λ f. f.key) k fs) → map (file_by C) (drop_key (λ f. f.key) k fs) ≡ drop_key (λ f. f.key) k (map (file_by B) fs)
   by-drop k [] same = refl

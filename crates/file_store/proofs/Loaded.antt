@@ -1,5 +1,5 @@
 -- Bodies that are read block by block, and put by inode, one after the other in the order of the files.
-use Rattle.std.proofs.Common.{◌≡◌, inl, inr, ⊎_elim, ℕ, ◌+◌, ◌-◌, ◌*◌, ◌<◌, ◌≤◌, List, [], length, get_or, take, Option, Some, None, sym, ◌∙◌, ap, subst, arith, zero, suc, ◌∷◌, ◌++◌, map, set, get_or-set_same, get_or-set_other}
+use Rattle.std.proofs.Common.{◌≡◌, ◌⊎◌, inl, inr, ⊎_elim, ℕ, ◌+◌, ◌-◌, ◌*◌, ◌<◌, ◌≤◌, List, [], length, get_or, take, Option, Some, None, sym, ◌∙◌, ap, subst, arith, zero, suc, ◌∷◌, ◌++◌, map, set, get_or-set_same, get_or-set_other}
 use Rattle.std.specs.List.{AllByRecursion, slice_get}
 use Rattle.std.proofs.lemmas.Bool.{cases_lt, cases_eq}
 use Rattle.std.proofs.lemmas.List.{places, get_or-replicate, get_or-take, get_or_past, take_more, length-map}
@@ -40,33 +40,33 @@ pub no_bytes : (blocks : List ℕ) (size : ℕ) → HasBytes blocks size [] (res
 no_bytes blocks size q r l h = zeros size (4096 * q + r) ∙ sym (get_or-replicate 4096 r 0 0 l)
 
 -- the places before the next one, and that one
-place-more : (ps : List (Option ℕ)) (i q : ℕ) → i < length ps → (q < i → get_or (take (i + 1) ps) q None ≡ get_or (take i ps) q None) × (i < q → get_or (take (i + 1) ps) q None ≡ get_or (take i ps) q None) × (q ≡ i → get_or (take (i + 1) ps) q None ≡ get_or ps i None)
-place-more ps i q within = (λ below. grind (arith, places), λ above. grind (arith, places), λ same. ap (λ (n : ℕ). get_or (take (i + 1) ps) n None) same ∙ get_or-take (i + 1) ps i None (omega arith))
+place_other : (ps : List (Option ℕ)) (i q : ℕ) → i < length ps → (q ≡ i → ⊥) → get_or (take (i + 1) ps) q None ≡ get_or (take i ps) q None
+place_other ps i q within other = ⊎_elim (λ (below : q < i). grind (arith, places)) (λ (from : i ≤ q). let above : i < q = omega (arith, other) in grind (arith, places)) (cases_lt q i)
+
+place_next : (ps : List (Option ℕ)) (i q : ℕ) → q ≡ i → get_or (take (i + 1) ps) q None ≡ get_or ps i None
+place_next ps i q same = ap (λ (n : ℕ). get_or (take (i + 1) ps) n None) same ∙ get_or-take (i + 1) ps i None (omega arith)
 
 -- a hole
 pub hole-more : (blocks : List ℕ) (size : ℕ) (ps : List (Option ℕ)) (i : ℕ) (body : List ℕ) → i < length ps → get_or ps i None ≡ None → HasBytes blocks size (take i ps) body → HasBytes blocks size (take (i + 1) ps) body
 hole-more blocks size ps i body within hole has q r l h =
-    let more = place-more ps i q within in
     let same : get_or (take i ps) q None ≡ get_or (take (i + 1) ps) q None =
-    ⊎_elim (λ (below : q < i). sym (more.0 below)) (λ (from : i ≤ q). ⊎_elim (λ (is : q ≡ i). get_or_past (take i ps) q None (grind (arith, places)) ∙ sym (more.2 is ∙ hole)) (λ (other : q ≡ i → ⊥). sym (more.1 (omega (arith, other)))) (cases_eq q i)) (cases_lt q i) in
+    ⊎_elim (λ (is : q ≡ i). get_or_past (take i ps) q None (grind (arith, places)) ∙ sym (place_next ps i q is ∙ hole)) (λ (other : q ≡ i → ⊥). sym (place_other ps i q within other)) (cases_eq q i) in
     has q r l h ∙ ap (λ (p : Option ℕ). get_or (block_at blocks p) r 0) same
 
 -- a block from the disk
 pub block-more : (blocks : List ℕ) (size : ℕ) (ps : List (Option ℕ)) (i p start : ℕ) (old new : List ℕ) → i < length ps → get_or ps i None ≡ Some p → length (part blocks (4096 * p) 4096) ≡ 4096 → start ≡ 4096 * i → length old ≡ size → start < size
     → new ≡ written start (take (length old - start) (part blocks (4096 * p) 4096)) old → HasBytes blocks size (take i ps) old → HasBytes blocks size (take (i + 1) ps) new
 block-more blocks size ps i p start old new within at whole begins long before is has q r l h =
+    let k : ℕ = 4096 * q + r in
     let block : List ℕ = part blocks (4096 * p) 4096 in
-    let more = place-more ps i q within in
-    let there : (o : Option ℕ) → get_or (take (i + 1) ps) q None ≡ o → get_or (written start (take (length old - start) block) old) (4096 * q + r) 0 ≡ get_or (block_at blocks o) r 0 → get_or new (4096 * q + r) 0 ≡ get_or (block_at blocks (get_or (take (i + 1) ps) q None)) r 0 =
-    λ o place byte. ap (λ (b : List ℕ). get_or b (4096 * q + r) 0) is ∙ byte ∙ sym (ap (λ (x : Option ℕ). get_or (block_at blocks x) r 0) place) in
-    ⊎_elim
-    (λ (below : q < i). there _ (more.0 below) (written-beside start (4096 * q + r) _ old (inl (omega arith)) ∙ has q r l h))
-    (λ (from : i ≤ q).
-    ⊎_elim
-    (λ (same : q ≡ i). there _ (more.2 same ∙ at) (written-in start (4096 * q + r) r _ old (omega arith) (grind (arith, places)) ∙ get_or-take (length old - start) block r 0 (omega arith)))
-    (λ (other : q ≡ i → ⊥). there _ (more.1 (omega (arith, other))) (written-beside start (4096 * q + r) _ old (inr (grind (arith, places))) ∙ has q r l h))
-    (cases_eq q i))
-    (cases_lt q i)
+    let piece : List ℕ = take (length old - start) block in
+    ap (λ (b : List ℕ). get_or b k 0) is
+    ∙ ⊎_elim
+    (λ (same : q ≡ i). written-in start k r piece old (omega arith) (grind (arith, places)) ∙ get_or-take (length old - start) block r 0 (omega arith) ∙ sym (ap (λ (x : Option ℕ). get_or (block_at blocks x) r 0) (place_next ps i q same ∙ at)))
+    (λ (other : q ≡ i → ⊥).
+    let apart : (k < start) ⊎ (start + length piece ≤ k) = ⊎_elim (λ (below : q < i). inl (omega arith)) (λ (from : i ≤ q). let above : i < q = omega (arith, other) in inr (grind (arith, places))) (cases_lt q i) in
+    written-beside start k piece old apart ∙ has q r l h ∙ sym (ap (λ (x : Option ℕ). get_or (block_at blocks x) r 0) (place_other ps i q within other)))
+    (cases_eq q i)
 
 -- all blocks
 pub all-filled : (geometry size : ℕ) (c : List ℕ) (ps : List (Option ℕ)) (body : List ℕ) → length c ≡ (layout_of geometry).whole → AllByRecursion (λ p. p < (geometry_of geometry).blocks) (present ps) → length ps ≡ blocks_in size → length body ≡ size

@@ -85,17 +85,17 @@ refused_sound g s new (Part why) sound working part memory = rw (part why refl) 
 refused_sound g s new Disk sound working part memory = record { meta = sound.meta; live = λ still. absurd cc }
 refused_sound g s new Memory sound working part memory = rw (memory refl) (subst (λ b. IsSound g (record s { failed = b })) working sound)
 
-pub refused_part : (refusal : MetaRefusal) (why : DmRefusal) → refused_as refusal ≡ store.Part why → refusal ≡ Part why
-refused_part (Part w) why is = cc
-refused_part Disk why is = cc
-refused_part Memory why is = cc
+pub refused_as_is : (refusal : MetaRefusal) → ((why : DmRefusal) → refused_as refusal ≡ store.Part why → refusal ≡ Part why) × (refused_as refusal ≡ store.Memory → refusal ≡ Memory)
+refused_as_is (Part w) = (λ why is. cc, λ is. cc)
+refused_as_is Disk = (λ why is. cc, λ is. cc)
+refused_as_is Memory = (λ why is. cc, λ is. refl)
 
 pub refusal_alone : (r : Record) (c : Catalog) → refusal_of_all (r ∷ []) c ≡ refusal_of r c
-refusal_alone r c = first_alone (refusal_of r c)
-  where
-    first_alone : (o : Option DmRefusal) → first_refusal (o ∷ None ∷ []) ≡ o
-    first_alone None = refl
-    first_alone (Some why) = refl
+refusal_alone r c =
+    elim (refusal_of r c) as (λ o. first_refusal (o ∷ None ∷ []) ≡ o) [
+      | None ↦ refl
+      | Some why ↦ refl
+    ]
 
 -- ---- blocks that a file frees
 

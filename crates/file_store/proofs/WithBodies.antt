@@ -42,29 +42,21 @@ KeepsBytes B C k (Drop ino) c = AllByRecursion (SameBytes B C) (drop_key (λ f. 
 KeepsBytes B C k r c = (f : CatalogFile) → C f ≡ B f
 
 module _ (B C : CatalogFile → List ℕ) (sees : SeesNoKept B) where
-  made : (key : FileKey) (name : List ℕ) (c : Catalog) → AllByRecursion (SameBytes B C) c.files → C (empty_file key name) ≡ [] → held_by C (with_file key name c) ≡ held_after key (Make key name) (held_by B c)
-  unfolding held_by
-  made key name c same none =
-      same_held _ _ _ _ (by-put B C (empty_file key name) c.files same ∙ ap (λ (b : List ℕ). put_key (λ f. f.key) (record (new_file key name) { body = b }) (map (file_by B) c.files)) none) refl
-
-  dropped : (k : FileKey) (c : Catalog) → AllByRecursion (SameBytes B C) (drop_key (λ f. f.key) k c.files) → held_by C (without_file k c) ≡ record (held_by B c) { files = drop_key (λ f. f.key) k (held_by B c).files }
-  unfolding held_by
-  dropped k c same = same_held _ _ _ _ (by-drop B C k c.files same) refl
-
-  managed : (k : FileKey) (to : CatalogFile → CatalogFile) (into : FileState → FileState) (c : Catalog) → ((f : CatalogFile) → C f ≡ B f) → (f : CatalogFile) → find_key (λ g. g.key) k c.files ≡ Some f → file_by B (to f) ≡ into (file_by B f)
-      → held_by C (with_changed k to c) ≡ record (held_by B c) { files = change_key (λ f. f.key) k into (held_by B c).files }
-  unfolding held_by
-  managed k to into c same f found is = same_held _ _ _ _ (by-change B C k to into f c.files found (rw (same (to f)) is) (each-all (SameBytes B C) same (drop_key (λ g. g.key) k c.files))) refl
-
   of_kept : (kept : Kept) (f : CatalogFile) → file_by B (record f { kept = kept }) ≡ record (file_by B f) { kept = kept }
   of_kept kept f = rw (sees f kept) refl
 
   pub held-after : (k : FileKey) (r : Record) (c : Catalog) → IsBodiless k r c → CanStand r c → KeepsBytes B C k r c → held_by C (after r c) ≡ held_after k r (held_by B c)
-  held-after k (Make key name) c is stands keeps = subst (λ (j : FileKey). held_by C (with_file key name c) ≡ held_after j (Make key name) (held_by B c)) is (made key name c keeps.0 keeps.1)
-  held-after k (Drop ino) c is stands keeps = rw is (dropped k c keeps)
+  unfolding held_by
+  held-after k (Make key name) c is stands keeps =
+      subst (λ (j : FileKey). held_by C (with_file key name c) ≡ held_after j (Make key name) (held_by B c)) is
+      (same_held _ _ _ _ (by-put B C (empty_file key name) c.files keeps.0 ∙ ap (λ (b : List ℕ). put_key (λ f. f.key) (record (new_file key name) { body = b }) (map (file_by B) c.files)) keeps.1) refl)
+  held-after k (Drop ino) c is stands keeps = rw is (same_held _ _ _ _ (by-drop B C k c.files keeps) refl)
   held-after k (Size ino size) c is stands keeps = absurd is
   held-after k (Map ino block places) c is stands keeps = absurd is
-  held-after k r c is stands keeps = rw (← is) (managed (key_on (inode_of r) c) (file_after r) (remade (effect_in r)) c keeps stands.0 stands.1 (of_kept (file_after r stands.0).kept stands.0))
+  held-after k r c is stands keeps =
+      let j : FileKey = key_on (inode_of r) c in
+      let one : file_by C (file_after r stands.0) ≡ remade (effect_in r) (file_by B stands.0) = rw (keeps (file_after r stands.0)) (of_kept (file_after r stands.0).kept stands.0) in
+      rw (← is) (same_held _ _ _ _ (by-change B C j (file_after r) (remade (effect_in r)) stands.0 c.files stands.1 one (each-all (SameBytes B C) keeps (drop_key (λ g. g.key) j c.files))) refl)
 
   -- ---- bodies keep their files' sizes
 

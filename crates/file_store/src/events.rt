@@ -101,6 +101,8 @@ impl<D: Disk> FileStore<D> {
     {
         let (empty, gone) = (empties(&change), drops(&change));
         let freed = blocks_gone(alloc, self.meta.catalog(), key, &change)?;
+        // Asked for what is true of the disk.
+        let _failed = self.has_failed();
         if number > LAST_NUMBER {
             return Err(StoreRefusal::Memory);
         }
@@ -142,6 +144,8 @@ impl<D: Disk> FileStore<D> {
         ensures no_part { (why : DmRefusal) → IsErrOf result (StoreRefusal.Part why) → ⊥ }
         ensures proceeds { Proceeds D.Disk self.old number self.new }
     {
+        // Asked for what is true of the disk.
+        let _failed = self.has_failed();
         let before = Snapshot::of(&self.bodies);
         if number > LAST_NUMBER {
             return Err(StoreRefusal::Memory);

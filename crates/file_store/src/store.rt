@@ -102,8 +102,8 @@ impl<D: Disk> FileStore<D> {
         ensures failed { IsErrOf result StoreRefusal.Disk → (self.new.failed ≡ true) × Rose (D.fault_count self.old.disk) (D.fault_count self.new.disk) }
         ensures no_part { (why : DmRefusal) → IsErrOf result (StoreRefusal.Part why) → ⊥ }
     {
-        // Read for what is true of it.
-        let _disk = &self.disk;
+        // Asked for what is true of the disk.
+        let _failed = self.has_failed();
         if number > LAST_NUMBER {
             return Err(StoreRefusal::Memory);
         }

@@ -3,8 +3,8 @@ use Rattle.block_space.specs.Space.{unmarked}
 use Rattle.meta_store.specs.Records.{after_all, refusal_of_all}
 use Rattle.file_store.specs.Bodies.{held_with}
 use Rattle.file_store.specs.Effects.{held_after, drops}
-use Rattle.file_store.proofs.Durable.{Parts, IsDone, after_event, kept_proceeds, sound_idle}
-use Rattle.file_store.proofs.StoreEvents.{freed_low, recorded, is_disk, refused_sound, refused_part, refusal_alone}
+use Rattle.file_store.proofs.Durable.{Parts, IsDone, after_event, kept_proceeds}
+use Rattle.file_store.proofs.StoreEvents.{freed_low, recorded, is_disk, refused_sound, refused_as_is, refusal_alone}
 use Rattle.file_store.proofs.WithBodies.{bodies_after, slot-there}
 use Rattle.file_store.proofs.store.FileStore.record.Given.{Over}
 use Rattle.file_store.proofs.store.FileStore.record.Goals.{After-apply, In-Ok, After-eq-self-inside}
@@ -60,14 +60,10 @@ invariant_of-self-in-Err g c =
 
 pub returns-clause-refused : goal.returns-clause-refused
 returns-clause-refused g c = λ why is.
-    let part = refused_part c.in-Err.refusal why (sym c.from.ensures ∙ cc) in
+    let part = (refused_as_is c.in-Err.refusal).0 why (sym c.from.ensures ∙ cc) in
     rw (← c.self.view_is) (sym (refusal_alone c.args.change c.self.inside.meta.current) ∙ ap (λ rs. refusal_of_all rs c.self.inside.meta.current) (sym c.in_ok-records.ensures) ∙ (c.in-Err.ensures.refused why).0 (ap (λ e. Err e) part))
 
 pub returns-clause-proceeds : goal.returns-clause-proceeds
 returns-clause-proceeds g c =
     let working = ap (λ s. s.failed) c.self.view_is ∙ c.requires.working in
     rw (c.in-Err.ensures.err, ← c.self.view_is) (kept_proceeds g.D.Disk _ c.self.invariant.1.meta (c.self.invariant.1.live working) c.args.number _ c.apply.ensures.any_moment refl refl)
-
-pub returns-then-number-gt-LAST_NUMBER-clause-proceeds : goal.returns-then-number-gt-LAST_NUMBER-clause-proceeds
-returns-then-number-gt-LAST_NUMBER-clause-proceeds g c =
-    rw (← c.self.view_is) (sound_idle g.D.Disk _ c.args.number c.self.invariant.1 (g.met.D.Disk.only_now c.self.inside.disk) (ap (λ s. s.failed) c.self.view_is ∙ c.requires.working))

@@ -19,11 +19,11 @@ use Rattle.file_store.specs.declared.refusal.StoreRefusal.{StoreRefusal}
 use Rattle.file_store.specs.Stores.{IsLive}
 use Rattle.file_store.proofs.Beside.{blocks_low, blocks_fit}
 use Rattle.file_store.proofs.FilesBy.{used-held}
-use Rattle.file_store.proofs.Durable.{Parts, store_of, IsDone, after_event, sound_idle}
+use Rattle.file_store.proofs.Durable.{Parts, store_of, IsDone, after_event}
 use Rattle.file_store.proofs.ByteChanges.{grown, length-grown, changed-grown, grown-enough, grown-no_more, grown-back}
 use Rattle.file_store.proofs.WithBodies.{IsFound, live-held, body-held}
 use Rattle.file_store.proofs.RewriteRecords.{is_event, not_refused}
-use Rattle.file_store.proofs.StoreEvents.{Given, within, body_of, size_of, long, are, stand, become, places_within, freed_within, undone, written_proceeds, written_live, refused_proceeds, rewritten, size-few, is_disk, refused_sound, refused_part}
+use Rattle.file_store.proofs.StoreEvents.{Given, within, body_of, size_of, long, are, stand, become, places_within, freed_within, undone, written_proceeds, written_live, refused_proceeds, rewritten, size-few, is_disk, refused_sound, refused_as_is}
 use Rattle.file_store.proofs.Marks.{enough}
 use Rattle.file_store.proofs.store.FileStore.rewrite.Given.{Over}
 use Rattle.file_store.proofs.store.FileStore.rewrite.Goals.{After-of-before, After-count, After-as_slice-places, After-of_geometry-base, After-put_blocks, In-Ok-put_blocks, In-Ok-apply, After-apply-in-Ok-apply, After-make_durable, After-release_all-in-Ok-apply, After-resize-in-Err, After-release_all-in-Err, After-eq-self-inside}
@@ -102,11 +102,6 @@ written : (g : Over) (c : In-Ok-put_blocks g) → Follows (HasBlocks (layout_of 
     (mappings_of c.touched-touched.result c.as_slice-places.result.now)) (g.D.Disk.gives c.self.inside.disk) (g.D.Disk.gives c.put_blocks.new.disk)
 written g c = let at = (goal.at.In-Ok-put_blocks g c).After-of_geometry-base in rw (base_is g at, grown_is g at) at c.in-Ok-put_blocks.ensures.written
 
-refused_memory : (refusal : MetaRefusal) → refused_as refusal ≡ StoreRefusal.Memory → refusal ≡ MetaRefusal.Memory
-refused_memory (MetaRefusal.Part why) is = cc
-refused_memory MetaRefusal.Disk is = cc
-refused_memory MetaRefusal.Memory is = refl
-
 -- ---- what becomes of the body
 
 when_ok : {T E : Type 0} (r : Result T E) (P : Type 0) → IsOk r → OnOk r P → P
@@ -131,10 +126,6 @@ old_body g c =
     ∙ ap (resized c.len-old.result) is ∙ ap (λ (n : ℕ). resized n (grown size body)) old ∙ grown-back size body
 
 -- ---- calls
-
-pub returns-then-number-gt-LAST_NUMBER-clause-proceeds : goal.returns-then-number-gt-LAST_NUMBER-clause-proceeds
-returns-then-number-gt-LAST_NUMBER-clause-proceeds g c =
-    rw (← c.self.view_is) (sound_idle g.D.Disk _ c.args.number c.self.invariant.1 (g.met.D.Disk.only_now c.self.inside.disk) (ap (λ s. s.failed) c.self.view_is ∙ c.requires.working))
 
 pub slot-requires : goal.slot-requires
 slot-requires g c = (found g (goal.at.slot-requires g c).After-of-before).low
@@ -269,14 +260,14 @@ invariant_of-self-in-Err-apply g c =
 pub returns-in-Err-clause-memory : goal.returns-in-Err-clause-memory
 returns-in-Err-clause-memory g c = λ is.
     let at = goal.at.returns-in-Err-clause-memory g c in
-    let memory = refused_memory c.in-Err.refusal (sym c.from.ensures ∙ cc) in (
+    let memory = (refused_as_is c.in-Err.refusal).1 (sym c.from.ensures ∙ cc) in (
       rw (bodies_back g at.After-resize-in-Err, c.in-Err.ensures.err) (ap (λ s. s.held) c.self.view_is),
       failed_is g at.After-eq-self-inside ∙ ap is_disk memory,
     )
 
 pub returns-in-Err-clause-no_part : goal.returns-in-Err-clause-no_part
 returns-in-Err-clause-no_part g c = λ why is.
-    let part = refused_part c.in-Err.refusal why (sym c.from.ensures ∙ cc) in
+    let part = (refused_as_is c.in-Err.refusal).0 why (sym c.from.ensures ∙ cc) in
     let some = (c.in-Err.ensures.refused why).0 (ap (λ e. Err e) part) in
     let none = not_refused _ _ _ _ c.self.inside.meta.current (rewriting g (goal.at.returns-in-Err-clause-no_part g c).After-of_geometry-base) in
     cc

@@ -1,16 +1,12 @@
 use Rattle.std.proofs.Common.{◌≡◌, true, false, refl, sym, ◌∙◌, ap, arith}
 use Rattle.file_store.specs.Bodies.{held_at, held_with}
 use Rattle.file_store.specs.Stores.{marks_of}
-use Rattle.file_store.proofs.Durable.{Parts, IsDone, after_event, done, stored_meta, sound_idle, kept_proceeds}
+use Rattle.file_store.proofs.Durable.{Parts, IsDone, after_event, done, stored_meta, kept_proceeds}
 use Rattle.file_store.proofs.Marks.{marks_there}
 use Rattle.file_store.proofs.WithBodies.{same-files}
 use Rattle.file_store.proofs.store.FileStore.sync.Given.{Over}
 use Rattle.file_store.proofs.store.FileStore.sync.Goals.{After-commit, In-Ok}
 use Rattle.file_store.proofs.store.FileStore.sync.Goals as goal
-
-pub returns-then-number-gt-LAST_NUMBER-clause-proceeds : goal.returns-then-number-gt-LAST_NUMBER-clause-proceeds
-returns-then-number-gt-LAST_NUMBER-clause-proceeds g c =
-    rw (← c.self.view_is) (sound_idle g.D.Disk _ c.args.number c.self.invariant.1 (g.met.D.Disk.only_now c.self.inside.disk) (ap (λ s. s.failed) c.self.view_is ∙ c.requires.working))
 
 abbrev parts : (g : Over) → After-commit g → Parts g.row.D.Denot
 parts g c = record { disk = c.self.inside.disk; meta = c.self.inside.meta; bodies = c.self.inside.bodies.items; durable = c.self.inside.durable.value.items; space = c.self.inside.space; pending = c.self.inside.pending; failed = c.self.inside.failed }
