@@ -1,5 +1,5 @@
 -- A catalog's files as they are held, however their bytes are found: what the catalog tells of them, their keys, one that is found, one more, one less and one changed.
-use Rattle.std.proofs.Common.{◌≡◌, ℕ, ◌<◌, ◌≤◌, ◌+◌, List, [], ◌∷◌, length, map, Bool, true, false, cond, Option, Some, None, ltb, refl, sym, ◌∙◌, ap, subst, arith, is_some, IsSome, option_map, unwrap_or, ◌^◌, max}
+use Rattle.std.proofs.Common.{◌≡◌, ℕ, ◌<◌, ◌≤◌, ◌+◌, List, [], ◌∷◌, length, map, true, false, cond, Option, Some, None, ltb, refl, sym, ◌∙◌, ap, subst, arith, is_some, IsSome, option_map, unwrap_or, ◌^◌, max}
 use Rattle.std.specs.List.{AllByRecursion, fold, sum, sum_by}
 use Rattle.std.proofs.lemmas.List.{length-map}
 use Rattle.std.proofs.lemmas.List.Sums.{sum-map}

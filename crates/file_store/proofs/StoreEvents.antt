@@ -30,10 +30,9 @@ use Rattle.file_store.proofs.RewriteRecords.{after_rewriting, can_stand}
 use Rattle.std.specs.List.{All, AllByRecursion}
 use Rattle.std.proofs.lemmas.List.Elements.{All-from_recursion, All-weaker}
 use Rattle.disk_model.specs.Images.{part, Follows}
-use Rattle.disk_model.specs.Moments.{MayBe, LeavesOnly, Keeps}
+use Rattle.disk_model.specs.Moments.{MayBe, Keeps}
 use Rattle.disk_model.proofs.Steps.{holds_on, holds_now}
 use Rattle.commit_slots.specs.Places.{layout_of}
-use Rattle.plain_model.specs.Distinct.{Distinct}
 use Rattle.plain_model.specs.Plain.{rebody}
 use Rattle.plain_model.specs.Blocks.{blocks_in, size_after, touched as touched_by}
 use Rattle.plain_model.specs.State.{Held, bytes_of, affected_held}

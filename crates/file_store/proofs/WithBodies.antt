@@ -11,7 +11,7 @@ use Rattle.meta_store.specs.declared.snapshot.Mapping.{Mapping}
 use Rattle.meta_store.specs.declared.records.Record.{Record}
 use Rattle.meta_store.specs.declared.records.Record.TheVariants.{Make, Drop, Size, Map}
 use Rattle.meta_store.specs.Catalogs.{CatalogFile, Catalog, IsCatalog, geometry_of, names_of}
-use Rattle.meta_store.specs.Records.{file_after, with_file, without_file, with_changed, inode_of, key_on, after, CanStand}
+use Rattle.meta_store.specs.Records.{file_after, with_file, with_changed, inode_of, key_on, after, CanStand}
 use Rattle.meta_store.proofs.FileEdits.{each-put, each-drop, each-change, names_of-drop}
 use Rattle.meta_store.proofs.KeptCatalogs.{empty_file}
 use Rattle.file_store.specs.declared.rewrites.Rewrite.{Rewrite}

@@ -9,13 +9,10 @@ use Rattle.block_space.specs.Space.{Space, free, marked, unmarked}
 use Rattle.commit_slots.specs.declared.places.Layout.{Layout}
 use Rattle.commit_slots.specs.Places.{layout_of}
 use Rattle.meta_store.specs.Catalogs.{Catalog, geometry_of, blocks_of}
-use Rattle.meta_store.specs.declared.refusal.MetaRefusal.{MetaRefusal}
 use Rattle.meta_store.proofs.SnapshotFits.{geometry-bounded}
 use Rattle.file_store.specs.Bodies.{held_with, bytes_with}
 use Rattle.file_store.specs.Rewrites.{effect_of, IsRewriting, mappings_of, freed_by}
 use Rattle.file_store.specs.Steps.{IsBesideBlocks, HasBlocks}
-use Rattle.file_store.specs.Refusals.{refused_as}
-use Rattle.file_store.specs.declared.refusal.StoreRefusal.{StoreRefusal}
 use Rattle.file_store.specs.Stores.{IsLive}
 use Rattle.file_store.proofs.Beside.{blocks_low, blocks_fit}
 use Rattle.file_store.proofs.FilesBy.{used-held}

@@ -1,4 +1,4 @@
-use Rattle.std.proofs.Common.{◌≡◌, true, false, refl, sym, ◌∙◌, ap, arith}
+use Rattle.std.proofs.Common.{true, false, refl, sym, ◌∙◌, ap, arith}
 use Rattle.file_store.specs.Bodies.{held_at, held_with}
 use Rattle.file_store.specs.Stores.{marks_of}
 use Rattle.file_store.proofs.Durable.{Parts, IsDone, after_event, done, stored_meta, kept_proceeds}
