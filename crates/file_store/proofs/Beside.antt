@@ -135,9 +135,6 @@ before (m ∷ ms) (suc k) d apart h = (
 
 -- ---- images
 
-pub beside_on : (base : ℕ) (places : List ℕ) (a b c : List ℕ) → IsBesideBlocks base places a b → IsBesideBlocks base places b c → IsBesideBlocks base places a c
-beside_on base places a b c f g = record { size = g.size ∙ f.size; same = λ at n all. g.same at n all ∙ f.same at n all }
-
 -- what a write to one of the places keeps
 pub beside_freed : (base : ℕ) (places : List ℕ) (k : ℕ) → k < length places → (old new : List ℕ) → IsFreed (base + 4096 * get_or places k 0) 4096 old new → IsBesideBlocks base places old new
 beside_freed base places k h old new f = record { size = f.size; same = λ a n all. ⊎_elim (f.below a n) (f.above a n) (each-at (λ p. IsApart a n (base + 4096 * p) 4096) places k 0 h all) }

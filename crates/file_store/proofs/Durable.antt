@@ -71,14 +71,11 @@ holds_new : (y x : Catalog) (h : Held) (fsid n a b : ℕ) (d c : List ℕ) → a
 holds_new y x h fsid n a b d c from to step was = ap (λ (z : ℕ). held_at (blocks_in_image z c) x) from ∙ ap (λ (blocks : List ℕ). held_at blocks x) step.data_blocks ∙ ap (λ (z : ℕ). held_at (blocks_in_image z d) x) to ∙ was
 
 module _ {D : Type 0} (g : disk.Ghosts D) (s : Store D) (lawful : IsMeta s.meta) (live : IsLive g s) (n : ℕ) where
-  same : s.meta.current.geometry ≡ s.meta.durable.geometry
-  same = lawful.stored.geometry
-
   kept : (d c : List ℕ) → held_at (blocks_in_image s.meta.durable.geometry d) s.meta.durable ≡ s.durable → Recovers s.meta.fsid s.meta.number s.meta.durable d c → IsEither s n c
   kept d c was step = inl (record { catalog = s.meta.durable; same = refl; is = step.found; holds = holds_new s.meta.durable s.meta.durable s.durable _ _ _ _ d c refl refl step was })
 
   stored : (d c : List ℕ) → held_at (blocks_in_image s.meta.durable.geometry d) s.meta.current ≡ s.held → Recovers s.meta.fsid n s.meta.current d c → IsEither s n c
-  stored d c was step = inr (record { catalog = s.meta.current; same = same; is = step.found; holds = holds_new s.meta.current s.meta.current s.held _ _ _ _ d c (sym same) same step was })
+  stored d c was step = inr (record { catalog = s.meta.current; same = lawful.stored.geometry; is = step.found; holds = holds_new s.meta.current s.meta.current s.held _ _ _ _ d c (sym lawful.stored.geometry) lawful.stored.geometry step was })
 
   -- whether a call succeeds or fails
   pub commit_proceeds : (t : Store D) → StoresOrKeeps g s.disk t.disk s.meta n → t.meta.durable.geometry ≡ s.meta.durable.geometry → t.meta.fsid ≡ s.meta.fsid

@@ -54,18 +54,15 @@ module _ {D : Type 0} (g : disk.Ghosts D) (k : FileKey) (r : Record) (freed : Li
   live : IsLive g (store_of p)
   live = sound.live working
 
-  catalog : IsCatalog p.meta.current
-  catalog = sound.meta.current
-
   pub freed_low : All (λ b. b < length p.space.current) freed
-  freed_low = rw live.marks (freed-within k p.meta.current catalog freed r bodiless stands free)
+  freed_low = rw live.marks (freed-within k p.meta.current sound.meta.current freed r bodiless stands free)
 
   pub recorded : (new : D) (m : Meta) (n : ℕ) (wrote : Bool) (tells : Tells g p.disk p.meta n wrote new m) → m.current ≡ after r p.meta.current → IsMeta m → Backs g new m → StoresOrKeeps g p.disk new p.meta n
       → IsDone g p n (held_after k r (store_of p).held) (after_event p new m wrote (bodies_after k r p.bodies) (unmarked freed p.space.current) p.space.current (p.pending || drops r))
   recorded new m n wrote tells current lawful backs turns =
       done g p sound.meta live n new m _ _ p.space.current (p.pending || drops r) backs _ (ap (held_with (bodies_after k r p.bodies)) current ∙ held_with-after p.bodies p.meta held k r bodiless stands)
       (λ c gives. let blocks = blocks_in_image p.meta.durable.geometry c in ap (held_at blocks) current ∙ held_at-after blocks k r p.meta.current bodiless stands ∙ ap (held_after k r) (live.current c gives))
-      (ap (unmarked freed) live.marks ∙ marks-after k p.meta.current catalog freed r bodiless stands free ∙ ap marks_of (sym current)) (rw live.marks (marks_there p.meta.current catalog)) wrote tells lawful turns
+      (ap (unmarked freed) live.marks ∙ marks-after k p.meta.current sound.meta.current freed r bodiless stands free ∙ ap marks_of (sym current)) (rw live.marks (marks_there p.meta.current sound.meta.current)) wrote tells lawful turns
       (IsHeldFiles-after p.bodies p.meta held k r m bodiless stands current lawful.current)
       (λ idle.
       let parts = or_parts p.pending (drops r) idle in

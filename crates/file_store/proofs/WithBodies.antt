@@ -66,16 +66,13 @@ module _ (B C : CatalogFile → List ℕ) (sees : SeesNoKept B) where
   sized : (fs : List CatalogFile) → AllByRecursion (SameBytes B C) fs → AllByRecursion (Sized B) fs → AllByRecursion (Sized C) fs
   sized = each-both (SameBytes B C) (Sized B) (Sized C) (λ f same is. ap length same ∙ is)
 
-  managed_sizes : (k : FileKey) (to : CatalogFile → CatalogFile) (c : Catalog) → ((f : CatalogFile) → C f ≡ B f) → ((f : CatalogFile) → (B (to f) ≡ B f) × ((to f).size ≡ f.size)) → AllByRecursion (Sized B) c.files → AllByRecursion (Sized C) (with_changed k to c).files
-  managed_sizes k to c same stays are =
-      each-change (Sized C) k to c.files (λ f is. ap length (same (to f) ∙ (stays f).0 ∙ sym (same f)) ∙ is ∙ sym (stays f).1) (sized c.files (each-all (SameBytes B C) same c.files) are)
-
   pub sizes-after : (k : FileKey) (r : Record) (c : Catalog) → IsBodiless k r c → KeepsBytes B C k r c → AllByRecursion (Sized B) c.files → AllByRecursion (Sized C) (after r c).files
   sizes-after k (Make key name) c is keeps are = each-put (Sized C) (empty_file key name) c.files (ap length keeps.1) (sized c.files keeps.0 are)
   sizes-after k (Drop ino) c is keeps are = rw is (sized (drop_key (λ f. f.key) k c.files) keeps (each-drop (Sized B) k c.files are))
   sizes-after k (Size ino size) c is keeps are = absurd is
   sizes-after k (Map ino block places) c is keeps are = absurd is
-  sizes-after k r c is keeps are = managed_sizes (key_on (inode_of r) c) (file_after r) c keeps (λ f. (sees f (file_after r f).kept, refl)) are
+  sizes-after k r c is keeps are =
+      each-change (Sized C) (key_on (inode_of r) c) (file_after r) c.files (λ f was. ap length (keeps (file_after r f) ∙ sees f (file_after r f).kept ∙ sym (keeps f)) ∙ was) (sized c.files (each-all (SameBytes B C) keeps c.files) are)
 
 -- ---- bytes that change, and touched blocks that get new places
 

@@ -10,7 +10,7 @@ use Rattle.file_store.specs.Bodies.{block_of}
 use Rattle.file_store.specs.Rewrites.{effect_of, mappings_of}
 use Rattle.file_store.specs.Steps.{IsBesideBlocks, HasBlocks}
 use Rattle.file_store.proofs.EachOf.{each-at}
-use Rattle.file_store.proofs.Beside.{before, mapping_at, places-mapped, length-mapped, beside_on, beside_freed, has_more}
+use Rattle.file_store.proofs.Beside.{before, mapping_at, places-mapped, length-mapped, beside_freed, has_more}
 use Rattle.file_store.proofs.writing.put_blocks.Given.{Over}
 use Rattle.file_store.proofs.writing.put_blocks.Goals.{After-from, After-write_at}
 use Rattle.file_store.proofs.writing.put_blocks.Goals as goal
@@ -44,7 +44,7 @@ write_at-requires g c =
 moments : (g : Over) (c : After-write_at g) → Keeps g.D.Disk c.args.disk.now c.write_at.new.disk (IsBesideBlocks c.args.base c.args.places.now)
 moments g c =
     let at = (goal.at.After-write_at g c).After-from in
-    keeps_on g.D.Disk _ _ _ _ (beside_on c.args.base c.args.places.now) c.loop-i.invariant.keeps
+    keeps_on g.D.Disk _ _ _ _ (λ a b d first then_on. record { size = then_on.size ∙ first.size; same = λ i n all. then_on.same i n all ∙ first.same i n all }) c.loop-i.invariant.keeps
     (kept_by g.D.Disk _ _ _ _
     (λ d i f. beside_freed c.args.base c.args.places.now c.loop-i.i (omega arith) d i
     (subst (λ (n : ℕ). IsFreed (c.args.base + 4096 * n) 4096 d i) c.from.ensures (subst (λ (n : ℕ). IsFreed (c.args.base + 4096 * c.from.result) n d i) (long g at) f)))

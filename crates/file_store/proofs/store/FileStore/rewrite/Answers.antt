@@ -23,7 +23,7 @@ use Rattle.file_store.proofs.RewriteRecords.{is_event, not_refused}
 use Rattle.file_store.proofs.StoreEvents.{Given, within, body_of, size_of, long, are, stand, become, places_within, freed_within, undone, written_proceeds, written_live, refused_proceeds, rewritten, size-few, is_disk, refused_sound, refused_as_is}
 use Rattle.file_store.proofs.Marks.{enough}
 use Rattle.file_store.proofs.store.FileStore.rewrite.Given.{Over}
-use Rattle.file_store.proofs.store.FileStore.rewrite.Goals.{After-of-before, After-count, After-as_slice-places, After-of_geometry-base, After-put_blocks, In-Ok-put_blocks, In-Ok-apply, After-apply-in-Ok-apply, After-make_durable, After-release_all-in-Ok-apply, After-resize-in-Err, After-release_all-in-Err, After-eq-self-inside}
+use Rattle.file_store.proofs.store.FileStore.rewrite.Goals.{After-of-before, After-count, After-as_slice-places, After-of_geometry-base, After-put_blocks, In-Ok-put_blocks, In-Ok-apply, After-apply-in-Ok-apply, After-make_durable, After-release_all-in-Ok-apply, After-resize-in-Err, After-eq-self-inside}
 use Rattle.file_store.proofs.store.FileStore.rewrite.Goals as goal
 
 -- ---- what is known before the first write
@@ -236,9 +236,6 @@ release_all-requires-in-Err g c = all_within g (goal.at.release_all-requires-in-
 bodies_back : (g : Over) (c : After-resize-in-Err g) → set c.self.inside.bodies.items c.slot.result c.resize-in-Err.new.self ≡ c.self.inside.bodies.items
 bodies_back g c = rw (c.slot.ensures, old_body g c) (set-get_or c.self.inside.bodies.items (c.args.key.ino - 1) [])
 
-space_same : (g : Over) (c : After-release_all-in-Err g) → c.release_all-in-Err.new.self ≡ c.self.inside.space
-space_same g c = space_back g (goal.at.After-release_all-in-Err g c).After-as_slice-places _ c.release_all-in-Err.ensures
-
 failed_is : (g : Over) (c : After-eq-self-inside g) → c.eq-self-inside.result ≡ is_disk c.in-Err.refusal
 failed_is g c = search rules
 
@@ -247,7 +244,7 @@ invariant_of-self-in-Err-apply g c =
     let at = goal.at.invariant_of-self-in-Err-apply g c in
     let sound = c.self.invariant.1 in
     let working = ap (λ s. s.failed) c.self.view_is ∙ c.requires.working in
-    rw (bodies_back g at.After-resize-in-Err, space_same g at.After-release_all-in-Err, c.in-Err.ensures.err, failed_is g at.After-eq-self-inside) (
+    rw (bodies_back g at.After-resize-in-Err, space_back g at.After-as_slice-places _ c.release_all-in-Err.ensures, c.in-Err.ensures.err, failed_is g at.After-eq-self-inside) (
       c.self.invariant.0,
       refused_sound g.D.Disk _ c.apply.new.disk c.in-Err.refusal
           (record { meta = sound.meta; live = λ still. written_live g.D.Disk _ _ _ _ _ (given g at.After-as_slice-places) _ (keeps g at.After-put_blocks) (written g at.In-Ok-put_blocks) })
