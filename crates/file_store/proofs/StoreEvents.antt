@@ -8,7 +8,7 @@ use Rattle.hsm_types.specs.Refusals.{first_refusal}
 use Rattle.meta_store.specs.declared.records.Record.{Record}
 use Rattle.meta_store.specs.declared.refusal.MetaRefusal.{MetaRefusal}
 use Rattle.meta_store.specs.declared.refusal.MetaRefusal.TheVariants.{Part, Disk, Memory}
-use Rattle.meta_store.specs.Catalogs.{Catalog, IsCatalog, IsCatalogFile, geometry_of, present, blocks_of}
+use Rattle.meta_store.specs.Catalogs.{Catalog, IsCatalogFile, geometry_of, present, blocks_of}
 use Rattle.meta_store.specs.Records.{after, CanStand, refusal_of, refusal_of_all, with_changed, after_all, CanStandAll, key_on}
 use Rattle.meta_store.specs.Images.{blocks_in_image, IsImage}
 use Rattle.meta_store.specs.Meta.{Meta, IsMeta, Backs, StoresOrKeeps}
