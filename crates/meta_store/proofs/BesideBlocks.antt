@@ -14,6 +14,7 @@ use Rattle.meta_store.proofs.SnapshotFits.{fits_of}
 -- a catalog's snapshot in front of the selected area, and a closed gate
 pub image_from : (fsid n : ℕ) (x : Catalog) (image c : List ℕ) → IsStore x.geometry fsid c → image ≡ spelling (snapshot_of n x) → length image ≤ (layout_of x.geometry).snapshot_len
     → part c (snapshot_at (layout_of x.geometry) (slot_of c)) (length image) ≡ image → gate_of x.geometry c ≡ gate_closed → IsCatalog x → n ≤ 2 ^ 62 → IsImage fsid n x c
+unfolding area_of
 image_from fsid n x image c store is short holds gate lawful bound =
     let at : ℕ = snapshot_at (layout_of x.geometry) (slot_of c) in
     let behind : List ℕ = part c (at + length image) ((layout_of x.geometry).snapshot_len - length image) in
@@ -42,6 +43,7 @@ slot_below geometry d c same = let h : IsSlot (layout_of geometry) false = slot_
 
 -- Recovery finds the same where only data blocks differ.
 pub image_below : (geometry fsid n : ℕ) (x : Catalog) (d c : List ℕ) → x.geometry ≡ geometry → length c ≡ length d → IsSameBelow (layout_of geometry).blocks d c → IsImage fsid n x d → IsImage fsid n x c
+unfolding area_of gate_of
 image_below geometry fsid n x d c there size same is =
     let h : IsSlot (layout_of geometry) (slot_of d) = slot_laid (layout_of geometry) (laid geometry) (slot_of d) in
     let select = slot_below geometry d c same in

@@ -12,7 +12,7 @@ use Rattle.commit_slots.proofs.Laid.{laid}
 use Rattle.commit_slots.proofs.Kept.{KeepsParts, parts_kept}
 use Rattle.meta_store.specs.Catalogs.{Catalog, IsCatalog}
 use Rattle.meta_store.specs.Snapshots.{spelling, snapshot_of}
-use Rattle.meta_store.specs.Images.{IsImage, blocks_in_image, Recovers}
+use Rattle.meta_store.specs.Images.{area_of, gate_of, IsImage, blocks_in_image, Recovers}
 use Rattle.meta_store.specs.Meta.{Meta, IsStored, IsMeta, Backs, StoresOrKeeps, HasStored}
 use Rattle.meta_store.proofs.BesideBlocks.{image_from, image_same}
 
@@ -25,7 +25,7 @@ gate_from at n d c long same = sym (front c) ∙ ap (λ (l : List ℕ). part l 0
 
 -- what was recovered from the old slot, where that is kept
 same_image : (z n fsid number : ℕ) (x : Catalog) (d c : List ℕ) → x.geometry ≡ z → n ≤ (layout_of z).snapshot_len → IsImage fsid number x d → KeepsSlot (layout_of z) (slot_of d) n d c → Recovers fsid number x d c
-unfolding blocks_in_image
+unfolding blocks_in_image area_of gate_of
 same_image z n fsid number x d c there fits is k =
     let kept : KeepsParts (layout_of z) (slot_of d) d c = parts_kept (layout_of z) (laid z) (slot_of d) n fits d c k.outside in
     record {
@@ -36,7 +36,7 @@ same_image z n fsid number x d c there fits is k =
 -- what is recovered from the new slot
 new_image : (z fsid number : ℕ) (x : Catalog) (image d c : List ℕ) → x.geometry ≡ z → length image ≤ (layout_of z).snapshot_len → image ≡ spelling (snapshot_of number x) → IsCatalog x → number ≤ 2 ^ 62
     → IsStore z fsid d → IsSwitched (layout_of z) (not (slot_of d)) image d c → Recovers fsid number x d c
-unfolding blocks_in_image
+unfolding blocks_in_image area_of gate_of
 new_image z fsid number x image d c there short is lawful bound was s =
     let kept : KeepsParts (layout_of z) (slot_of d) d c = parts_kept (layout_of z) (laid z) (slot_of d) (length image) short d c s.outside in
     record {

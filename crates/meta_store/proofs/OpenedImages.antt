@@ -11,7 +11,7 @@ use Rattle.commit_slots.specs.Images.{slot_of, IsStore}
 use Rattle.commit_slots.proofs.Laid.{laid, slot_laid, IsSlot}
 use Rattle.meta_store.specs.Catalogs.{Catalog}
 use Rattle.meta_store.specs.Snapshots.{IsSnapshot}
-use Rattle.meta_store.specs.Images.{area_of, IsClosed, IsImage, IsCorruptAt}
+use Rattle.meta_store.specs.Images.{area_of, gate_of, IsClosed, IsImage, IsCorruptAt}
 use Rattle.meta_store.specs.Meta.{Meta, Backs}
 
 -- which error it was
@@ -36,10 +36,12 @@ gate_fits geometry second = let here : IsSlot (layout_of geometry) second = slot
 
 module _ {geometry fsid : ℕ} {second : Bool} {area image : List ℕ} (s : Says geometry fsid second area image) (place : ℕ) where
   pub snapshot_corrupt : place ≡ snapshot_at (layout_of geometry) second → ((n : ℕ) (c : Catalog) → c.geometry ≡ geometry → IsSnapshot area n c → ⊥) → IsCorruptAt place image
+  unfolding area_of
   snapshot_corrupt at invalid = record { geometry = geometry; fsid = fsid; found = s.store; fault = inl (rw s.select at, λ n c same is. invalid n c same (rw (s.holds, ← s.select) is)) }
 
   module _ (at : place ≡ journal_at (layout_of geometry) second) (n : ℕ) (c : Catalog) (same : c.geometry ≡ geometry) (is : IsSnapshot area n c) where
     pub gate_corrupt : (IsClosed (part image place 1) → ⊥) → IsCorruptAt place image
+    unfolding area_of gate_of
     gate_corrupt gate = record {
       geometry = geometry;
       fsid = fsid;
@@ -48,6 +50,7 @@ module _ {geometry fsid : ℕ} {second : Bool} {area image : List ℕ} (s : Says
     }
 
     pub image_found : IsClosed (part image place 1) → IsImage fsid n c image
+    unfolding area_of gate_of
     image_found gate = record { found = rw same s.store; snapshot = subst (λ (y : ℕ). IsSnapshot (area_of y image) n c) (sym same) (rw (s.select, ← s.holds) is); gate = rw (same, s.select, ← at) gate }
 
 -- after a sync that succeeded, what was read is what may be

@@ -7,11 +7,11 @@ use Rattle.meta_store.specs.Catalogs.{Catalog}
 use Rattle.meta_store.specs.Snapshots.{IsSnapshot}
 
 -- the selected snapshot's area
-abbrev pub area_of : ℕ → List ℕ → List ℕ
+unfoldable pub area_of : ℕ → List ℕ → List ℕ
 area_of geometry image = part image (snapshot_at (layout_of geometry) (slot_of image)) (layout_of geometry).snapshot_len
 
 -- the first gate of the selected journal
-abbrev pub gate_of : ℕ → List ℕ → List ℕ
+unfoldable pub gate_of : ℕ → List ℕ → List ℕ
 gate_of geometry image = part image (journal_at (layout_of geometry) (slot_of image)) 1
 
 -- a gate is open where its byte is 1
