@@ -55,13 +55,32 @@ static ROWS: [(&[Step], Answer); 21] = [
     (&[Step::Fill, HEIR], Ok(65)),
     (&[Step::Fill, Step::Destroy(64), NEW], Ok(65)),
     (&[NEW, Step::Count(1)], NOTHING),
-    (&[NEW, Step::Send(1), Step::Send(1), HEIR, Step::Count(2)], Ok(2)),
+    (
+        &[NEW, Step::Send(1), Step::Send(1), HEIR, Step::Count(2)],
+        Ok(2),
+    ),
     (&[NEW, Step::Send(1), HEIR, Step::Count(1)], GONE),
     (
-        &[NEW, Step::Send(1), Step::Send(1), HEIR, Step::Deliver(2, 1), Step::Destroy(2)],
+        &[
+            NEW,
+            Step::Send(1),
+            Step::Send(1),
+            HEIR,
+            Step::Deliver(2, 1),
+            Step::Destroy(2),
+        ],
         ONE_LEFT,
     ),
-    (&[NEW, Step::Send(1), HEIR, Step::Deliver(2, 1), Step::Destroy(2)], Ok(2)),
+    (
+        &[
+            NEW,
+            Step::Send(1),
+            HEIR,
+            Step::Deliver(2, 1),
+            Step::Destroy(2),
+        ],
+        Ok(2),
+    ),
 ];
 
 /// `None` for want of memory.
