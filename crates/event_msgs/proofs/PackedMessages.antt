@@ -4,9 +4,11 @@ use Rattle.std.proofs.lemmas.Bool.{cases_lt}
 use Rattle.std.proofs.lemmas.Bool.Decides.{nat_tests}
 use Rattle.std.proofs.lemmas.List.{drop_more, take_more, take_all, drop_all, length-append, get_or_append_left}
 use Rattle.std.proofs.Math.Seq.{get_or-append_seam}
+use Rattle.std.proofs.lemmas.List.Elements.{All-same, All-push}
 use Rattle.std.specs.List.{All}
 use Rattle.hsm_types.specs.Messages.{IsMessage, message_bytes, header, payload, padding, message_text, packed, fitting, first_or_all}
 use Rattle.hsm_types.specs.declared.messages.Message.{Message}
+use Rattle.event_msgs.specs.Buffers.{IsInGrammar}
 use Rattle.event_msgs.specs.Packing.{first_bytes}
 
 -- ---- which fit
@@ -92,6 +94,18 @@ pub written_all : (out new : List ℕ) (messages before : List Message) (last : 
     → new ≡ packed messages
 written_all out new messages before last i past written so_far =
     written ∙ sym (ap (λ (l : List Message). out ++ packed (l ++ last ∷ [])) (drop_all i before past)) ∙ so_far
+
+-- those that are written are in the grammar
+abbrev pub SpelledBefore : List ℕ → List Message → List Message → Message → ℕ → Type 0
+SpelledBefore out messages before last i = WrittenBefore out messages before last i × All IsInGrammar (take i before)
+
+pub good_more : (before : List Message) (i : ℕ) (m : Message) → i < length before → m ≡ get_or before i m → IsInGrammar m → All IsInGrammar (take i before) → All IsInGrammar (take (i + 1) before)
+good_more before i m within is good so_far =
+    All-same IsInGrammar (take (i + 1) before) (take i before ++ m ∷ []) (take_more before i m within ∙ ap (λ (n : Message). take i before ++ n ∷ []) (sym is)) (All-push IsInGrammar (take i before) m so_far good)
+
+pub good_all : (messages before : List Message) (last : Message) (i : ℕ) → messages ≡ before ++ last ∷ [] → length before ≤ i → IsInGrammar last → All IsInGrammar (take i before) → All IsInGrammar messages
+good_all messages before last i parts past good so_far =
+    All-same IsInGrammar messages (before ++ last ∷ []) parts (All-push IsInGrammar before last (All-same IsInGrammar before (take i before) (sym (take_all i before past)) so_far) good)
 
 -- ---- each is a message
 

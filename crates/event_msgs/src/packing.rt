@@ -2,6 +2,7 @@
 ghost use Rattle.std.specs.Prelude.{◌≡◌, ◌≢◌, ◌≤◌, ◌<◌, [], ◌∷◌, sum_by, All, IfOk, IfErr, OnOk};
 ghost use Rattle.hsm_types.specs.Messages.{IsMessage, message_bytes, packed, fitting, first_or_all, handed_out};
 ghost use Rattle.hsm_types.specs.Sessions.{tokens_of};
+ghost use Rattle.event_msgs.specs.Buffers.{IsPacked};
 ghost use Rattle.event_msgs.specs.Packing.{first_bytes, Refuses};
 
 use crate::writing::{message_bytes, spell};
@@ -71,6 +72,7 @@ pub fn pack(alloc: Global, messages: &[Message], max: u32, room: u32) -> Result<
     requires each { All IsMessage messages.now }
     ensures bytes { IfOk result (λ p. p.bytes ≡ packed (handed_out max room messages.now)) }
     ensures tokens { IfOk result (λ p. p.tokens ≡ tokens_of (handed_out max room messages.now)) }
+    ensures grammar { IfOk result (λ p. IsPacked p.bytes (handed_out max room messages.now)) }
     ensures fits { OnOk result (first_bytes messages.now ≤ room) }
     ensures refused { IfErr result (λ why. Refuses room messages.now why) }
 {
@@ -93,6 +95,7 @@ pub fn pack_one(alloc: Global, message: &Message, room: u32) -> Result<Packed, P
     requires { IsMessage message.now }
     ensures bytes { IfOk result (λ p. p.bytes ≡ packed (message.now ∷ [])) }
     ensures tokens { IfOk result (λ p. p.tokens ≡ message.now.token ∷ []) }
+    ensures grammar { IfOk result (λ p. IsPacked p.bytes (message.now ∷ [])) }
     ensures fits { OnOk result (message_bytes message.now ≤ room) }
     ensures refused { IfErr result (λ why. Refuses room (message.now ∷ []) why) }
 {

@@ -1,8 +1,9 @@
 // Writing the bytes of messages.
-ghost use Rattle.std.specs.Prelude.{◌≡◌, ◌≢◌, ◌≤◌, ◌<◌, ◌^◌, [], ◌∷◌, ◌++◌, All, IfOk, OnOk};
+ghost use Rattle.std.specs.Prelude.{◌≡◌, ◌≢◌, ◌≤◌, ◌<◌, ◌^◌, [], ◌∷◌, ◌++◌, All, IfSome, IfOk, OnOk};
 ghost use Rattle.byteorder.specs.Endian.{big_bytes};
-ghost use Rattle.hsm_types.specs.Handles.{handle_bytes};
+ghost use Rattle.hsm_types.specs.Handles.{handle_bytes, IsHandle};
 ghost use Rattle.hsm_types.specs.Messages.{IsMessage, kind_number, payload, payload_size, rounded_up, message_bytes, header, message_text, packed};
+ghost use Rattle.event_msgs.specs.Buffers.{IsInGrammar};
 
 use byteorder::{BigEndian, ByteOrder};
 use hsm_types::{Handle, Kind, Message};
@@ -57,21 +58,31 @@ pub(crate) fn message_bytes(message: &Message) -> usize
     HEADER_BYTES + rounded_up(payload_size(message))
 }
 
+fn token_number(message: &Message) -> u64
+    ensures number { result ≡ message.now.token.0 }
+    ensures small { message.now.token.0 < 2 ^ 64 }
+{
+    message.token.0
+}
+
 #[tactic(auto, unfolding(hsm_types::specs::Messages::header))]
 fn header(message: &Message, next: u32) -> [u8; HEADER_BYTES]
     requires { IsMessage message.now }
-    ensures { result ≡ header next message.now }
+    ensures bytes { result ≡ header next message.now }
+    ensures token { message.now.token.0 < 2 ^ 64 }
 {
     let mut bytes = [0; HEADER_BYTES];
     BigEndian::write_u32(&mut bytes, next);
     BigEndian::write_u32(&mut bytes[4..], kind_number(message.kind));
-    BigEndian::write_u64(&mut bytes[8..], message.token.0);
+    BigEndian::write_u64(&mut bytes[8..], token_number(message));
     BigEndian::write_u32(&mut bytes[16..], payload_size(message) as u32);
     bytes
 }
 
 fn put_access(out: &mut Vec<u8>, handle: Handle, offset: u64, length: u64) -> Result<(), AllocError>
-    ensures { OnOk result (out.new.items ≡ out.old.items ++ (handle_bytes handle ++ big_bytes 8 offset ++ big_bytes 8 length)) }
+    ensures bytes { OnOk result (out.new.items ≡ out.old.items ++ (handle_bytes handle ++ big_bytes 8 offset ++ big_bytes 8 length)) }
+    ensures handle { OnOk result (IsHandle handle) }
+    ensures numbers { (offset < 2 ^ 64) × (length < 2 ^ 64) }
 {
     let mut numbers = [0; 16];
     BigEndian::write_u64(&mut numbers, offset);
@@ -83,7 +94,9 @@ fn put_access(out: &mut Vec<u8>, handle: Handle, offset: u64, length: u64) -> Re
 
 fn put_payload(out: &mut Vec<u8>, message: &Message) -> Result<(), AllocError>
     requires { IsMessage message.now }
-    ensures { OnOk result (out.new.items ≡ out.old.items ++ payload message.now) }
+    ensures bytes { OnOk result (out.new.items ≡ out.old.items ++ payload message.now) }
+    ensures handle { OnOk result (IfSome message.now.handle IsHandle) }
+    ensures numbers { OnOk result ((message.now.offset < 2 ^ 64) × (message.now.length < 2 ^ 64)) }
 {
     match message.handle {
         Some(handle) => put_access(out, handle, message.offset, message.length),
@@ -92,10 +105,10 @@ fn put_payload(out: &mut Vec<u8>, message: &Message) -> Result<(), AllocError>
 }
 
 /// A message, `next` bytes before the one behind it.
-
 fn put_message(out: &mut Vec<u8>, next: u32, message: &Message) -> Result<(), AllocError>
     requires { IsMessage message.now }
-    ensures { OnOk result (out.new.items ≡ out.old.items ++ message_text next message.now) }
+    ensures bytes { OnOk result (out.new.items ≡ out.old.items ++ message_text next message.now) }
+    ensures grammar { OnOk result (IsInGrammar message.now) }
 {
     let size = payload_size(message);
     let padding = rounded_up(size) - size;
@@ -108,7 +121,8 @@ fn put_message(out: &mut Vec<u8>, next: u32, message: &Message) -> Result<(), Al
 /// A buffer of the messages. It takes `len` bytes of memory at first.
 pub(crate) fn spell(alloc: Global, messages: &[Message], len: usize) -> Result<Vec<u8>, AllocError>
     requires { All IsMessage messages.now }
-    ensures { IfOk result (λ v. v.items ≡ packed messages.now) }
+    ensures bytes { IfOk result (λ v. v.items ≡ packed messages.now) }
+    ensures grammar { OnOk result (All IsInGrammar messages.now) }
 {
     let mut out = Vec::with_capacity(alloc, len)?;
     let Some((last, before)) = messages.split_last() else {
