@@ -5,7 +5,7 @@ use crate::lists::{Bytes, Word};
 use thiserror::Error;
 
 /// What a caller asks of the store. Offsets and lengths are in bytes.
-#[derive(Clone, Debug, PartialEq, Drop)]
+#[derive(Debug, PartialEq, Drop)]
 pub enum Call {
     Create {
         name: Word,
@@ -35,7 +35,7 @@ pub enum Call {
 }
 
 /// What the store answers to a call.
-#[derive(Clone, Debug, PartialEq, Drop)]
+#[derive(Debug, PartialEq, Drop)]
 pub enum Reply {
     Done,
     Made(FileKey),

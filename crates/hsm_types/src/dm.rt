@@ -9,7 +9,7 @@ use crate::lists::{Bytes, Names, Regions, Sids, Tokens, Word};
 use thiserror::Error;
 
 /// What a session asks of the store.
-#[derive(Clone, Debug, PartialEq, Drop)]
+#[derive(Debug, PartialEq, Drop)]
 pub enum DmCall {
     /// Makes a session: beside the others where `old` is 0, and else in the place of the session `old`.
     CreateSession {

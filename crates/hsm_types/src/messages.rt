@@ -21,7 +21,7 @@ pub struct Message {
 }
 
 /// A buffer of messages, as sessions get it.
-#[derive(Clone, Debug, PartialEq, Drop)]
+#[derive(Debug, PartialEq, Drop)]
 pub struct Packed {
     pub bytes: Bytes,
     /// Those of its messages, in order, 0 for one that wants no response.
