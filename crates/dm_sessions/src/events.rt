@@ -49,7 +49,7 @@ impl Sessions {
         Ok(())
     }
 
-    /// Posts the message of an access, under a token above all that were given: to the session that takes its kind, or to none yet.
+    /// Posts the message of an access, under a token above all that stand anywhere: to the session that takes its kind, or to none yet.
     pub fn post(&mut self, message: Message) -> Result<(), AllocError>
         requires message { IsMessage message }
         requires access { message.kind ≢ User }
@@ -64,7 +64,7 @@ impl Sessions {
         Ok(())
     }
 
-    /// Makes an event of a live session's own, which is outstanding to it at once, under a token above all that were given.
+    /// Makes an event of a live session's own, which is outstanding to it at once, under a token above all that stand anywhere.
     pub fn user(&mut self, sid: Sid, token: Token, body: Bytes) -> Result<(), DmRefusal>
         requires { IsNewToken token self.old }
         ensures ok { OnOk result (first_refusal (dead_session sid self.old ∷ event_refusal body self.old ∷ []) ≡ None) }

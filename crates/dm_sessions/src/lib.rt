@@ -6,6 +6,7 @@ mod events;
 mod laws;
 mod live_session;
 mod moving;
+mod queue;
 mod sessions;
 mod tokens;
 

@@ -7,20 +7,20 @@ ghost use Rattle.hsm_types.specs.Messages.{IsMessage, takes, has_token, no_token
 ghost use Rattle.hsm_types.specs.Sessions.{heir, queued, hands_out, holds, message_in, places_in, put_message, tokens_of, without_token};
 ghost use Rattle.dm_sessions.specs.Tables.{IsEvent, IsQueued, users_of};
 
-use crate::moving::{count_of_kinds, count_without_token, hand_out, move_kinds};
+use crate::moving::{count_without_token, hand_out};
+use crate::queue::Queue;
 use hsm_types::{Kinds, Message, Token, Tokens, Word};
 use indexmap::IndexMap;
 use std::alloc::{AllocError, Global};
 use std::collections::VecDeque;
 use std::marker::Model;
-use std::mem;
 
 /// A live session.
 #[derive(Drop)]
 pub(crate) struct LiveSession {
     info: Word,
     kinds: Kinds,
-    queue: Vec<Message>,
+    queue: Queue,
     /// How many messages of the queue have no token.
     waiting: u64,
     /// The messages whose tokens are to be responded to, in any order.
@@ -33,9 +33,9 @@ impl Model for LiveSession {
 
     ghost Value = { LiveSession };
 
-    ghost view = { λ s. record { info = s.info; kinds = s.kinds; queue = s.queue.items; outstanding = in_order s.outstanding.entries } };
+    ghost view = { λ s. record { info = s.info; kinds = s.kinds; queue = s.queue; outstanding = in_order s.outstanding.entries } };
 
-    ghost invariant = { λ s. IsSession s.queue.items s.waiting s.outstanding.entries };
+    ghost invariant = { λ s. IsSession s.queue s.waiting s.outstanding.entries };
 }
 
 impl LiveSession {
@@ -46,14 +46,14 @@ impl LiveSession {
         LiveSession {
             info,
             kinds: Kinds::none(),
-            queue: Vec::new(alloc),
+            queue: Queue::new(alloc),
             waiting: 0,
             outstanding: IndexMap::new(alloc),
         }
     }
 
     /// The same session with other information.
-    pub(crate) fn renamed(mut self, info: Word) -> LiveSession
+    pub(crate) fn with_info(mut self, info: Word) -> LiveSession
         ensures { result ≡ record self { info = info } }
     {
         self.info = info;
@@ -124,9 +124,7 @@ impl LiveSession {
         ensures err { OnErr result (self.new ≡ self.old) }
         ensures unmoved { OnErr result (messages.new.items ≡ messages.old.items) }
     {
-        self.queue.reserve(count_of_kinds(messages, kinds))?;
-        move_kinds(messages, &mut self.queue, kinds);
-        Ok(())
+        self.queue.join(messages, kinds)
     }
 
     /// The first `count` messages leave the queue. Those with a token are outstanding then.
@@ -139,10 +137,7 @@ impl LiveSession {
     {
         let over = count_without_token(self.queue.as_slice(), count);
         self.outstanding.reserve(count - over)?;
-        let alloc = *self.queue.allocator();
-        let mut queue = VecDeque::from_vec(mem::replace(&mut self.queue, Vec::new(alloc)));
-        hand_out(&mut queue, &mut self.outstanding, count);
-        self.queue = queue.into_vec();
+        hand_out(&mut self.queue, &mut self.outstanding, count);
         self.waiting -= over as u64;
         Ok(())
     }

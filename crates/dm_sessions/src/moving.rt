@@ -1,6 +1,5 @@
 //! Messages that move from one list to another.
-ghost use Rattle.std.specs.Prelude.{◌≡◌, ◌+◌, ◌<◌, ◌≤◌, ◌++◌, [], ◌∷◌, None, vec_len, vec_capacity, length, take, drop, filter, map, count_by, not, if◌then◌else◌};
-ghost use Rattle.std.specs.VecDeque.{deque_len};
+ghost use Rattle.std.specs.Prelude.{◌≡◌, ◌+◌, ◌<◌, ◌≤◌, ◌++◌, [], ◌∷◌, None, vec_len, vec_capacity, length, take, drop, filter, count_by, not};
 ghost use Rattle.indexmap.specs.IndexMap.{spare};
 ghost use Rattle.std.specs.List.{All};
 ghost use Rattle.std.specs.Map.{lookup};
@@ -8,6 +7,7 @@ ghost use Rattle.hsm_types.specs.Messages.{takes, has_token, no_token};
 ghost use Rattle.hsm_types.specs.Sessions.{with_tokens};
 ghost use Rattle.dm_sessions.specs.Moves.{keyed, same_token, AreApart};
 
+use crate::queue::Queue;
 use hsm_types::{Kinds, Message, Token};
 use indexmap::IndexMap;
 use std::collections::VecDeque;
@@ -50,17 +50,13 @@ pub(crate) fn move_kinds(from: &mut VecDeque<Message>, to: &mut Vec<Message>, ki
 }
 
 /// Moves the first `count` messages of a queue to the outstanding ones, where there is room for them. Those without a token are over.
-pub(crate) fn hand_out(
-    queue: &mut VecDeque<Message>,
-    outstanding: &mut IndexMap<Token, Message>,
-    count: usize,
-)
-    requires within { count ≤ deque_len queue.old }
-    requires room { length (with_tokens (take count queue.old.items)) ≤ spare outstanding.old }
+pub(crate) fn hand_out(queue: &mut Queue, outstanding: &mut IndexMap<Token, Message>, count: usize)
+    requires within { count ≤ length queue.old }
+    requires room { length (with_tokens (take count queue.old)) ≤ spare outstanding.old }
     requires kept { All (λ e. e.0 ≡ e.1.token) outstanding.old.entries }
-    requires apart { AreApart queue.old.items outstanding.old.entries }
-    ensures left { queue.new.items ≡ drop count queue.old.items }
-    ensures held { outstanding.new.entries ≡ outstanding.old.entries ++ keyed (with_tokens (take count queue.old.items)) }
+    requires apart { AreApart queue.old outstanding.old.entries }
+    ensures left { queue.new ≡ drop count queue.old }
+    ensures held { outstanding.new.entries ≡ outstanding.old.entries ++ keyed (with_tokens (take count queue.old)) }
 {
     for _ in 0..count {
         let message = queue.pop_front().unwrap();

@@ -62,7 +62,7 @@ impl Sessions {
         self.live.reserve(1).map_err(|_| DmRefusal::Memory)?;
         let alloc = *self.live.allocator();
         let session = match self.live.shift_remove(&old) {
-            Some(session) => session.renamed(info),
+            Some(session) => session.with_info(info),
             None => LiveSession::new(alloc, info),
         };
         let _none = self.live.insert(Sid(next), session).unwrap();

@@ -4,7 +4,7 @@ ghost use Rattle.std.specs.Option.{option_copied};
 ghost use Rattle.std.specs.List.Sorted.{IsStrictlyIncreasing};
 ghost use Rattle.hsm_types.specs.Refusals.{first_refusal};
 ghost use Rattle.hsm_types.specs.Messages.{IsMessage};
-ghost use Rattle.hsm_types.specs.Sessions.{is_of_user, user_tokens, owner, outstanding_of, outstanding_message, tokens_of, dead_session, bad_token, responded};
+ghost use Rattle.hsm_types.specs.Sessions.{is_of_user, owner, outstanding_of, outstanding_message, tokens_of, dead_session, bad_token, responded};
 ghost use Rattle.hsm_types.specs.declared.dm.DmRefusal.TheVariants.{Memory};
 
 use crate::changes;
@@ -13,15 +13,8 @@ use hsm_types::{DmRefusal, Kind, Message, Sid, Token, Tokens};
 use std::alloc::Global;
 
 impl Sessions {
-    /// How many tokens of user events are outstanding.
-    pub fn user_tokens(&self) -> u64
-        ensures { result ≡ user_tokens self.now }
-    {
-        self.user_tokens
-    }
-
     /// The session to which the token is outstanding.
-    pub fn owner(&self, token: Token) -> Option<Sid>
+    fn owner(&self, token: Token) -> Option<Sid>
         ensures { result ≡ owner token self.now }
     {
         for (sid, session) in self.live.iter() {

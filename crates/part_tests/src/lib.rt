@@ -1,4 +1,4 @@
-//! Tests of the lower crates: of their fakes, and of what the program doesn't call yet.
+//! Tests of the lower crates: of their fakes, and of what no script shows.
 #![tactic(auto)]
 
 #[cfg(test)]

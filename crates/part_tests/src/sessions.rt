@@ -1,4 +1,4 @@
-//! Sessions that take the place of others, sessions that end, and what waits for them. No script can ask for it yet.
+//! Sessions that take the place of others, sessions that end, and what waits for them, in a table without a store.
 use dm_sessions::Sessions;
 use hsm_types::{Bytes, DmRefusal, Sid, Word};
 use std::alloc::Global;

@@ -3,4 +3,4 @@ use Rattle.dm_sessions.proofs.InOrder.{length-in_order}
 use Rattle.dm_sessions.proofs.live_session.LiveSession.message_count.Goals as goal
 
 pub returns : goal.returns
-returns c = rw (← c.self.view_is) (omega (arith, length-in_order c.self.inside.outstanding.entries, c.self.inside.queue.ok.0))
+returns c = rw (← c.self.view_is) (omega (arith, length-in_order c.self.inside.outstanding.entries))

@@ -9,4 +9,4 @@ counts true = refl
 counts false = refl
 
 pub invariant_of-self-2 : goal.invariant_of-self-2
-invariant_of-self-2 c = rw c.in_ok-push.ensures.items (session-pushed c.self.inside.queue.items c.self.inside.waiting c.from.result c.self.inside.outstanding.entries c.args.message c.self.invariant c.requires (c.from.ensures ∙ counts (has_token no_token c.args.message)))
+invariant_of-self-2 c = rw c.in_ok-push.ensures.after (session-pushed c.self.inside.queue c.self.inside.waiting c.from.result c.self.inside.outstanding.entries c.args.message c.self.invariant c.requires (c.from.ensures ∙ counts (has_token no_token c.args.message)))

@@ -21,9 +21,9 @@ placed c =
     inserted ∙ insert_entry-new same_token c.self.inside.outstanding c.args.message.token c.args.message (absent c.args.message.token c.self.inside.outstanding.entries (own-keys c.self.inside.outstanding.entries c.self.invariant.kept) (none c))
 
 pub invariant_of-self-2 : goal.invariant_of-self-2
-invariant_of-self-2 c = rw (placed c) (session-put c.self.inside.queue.items c.self.inside.waiting c.self.inside.outstanding.entries c.args.message c.self.invariant c.requires.message c.requires.token (none c))
+invariant_of-self-2 c = rw (placed c) (session-put c.self.inside.queue c.self.inside.waiting c.self.inside.outstanding.entries c.args.message c.self.invariant c.requires.message c.requires.token (none c))
 
 pub returns-clause-after : goal.returns-clause-after
 returns-clause-after c =
     let put : in_order c.insert.new.self.entries ≡ put_message (in_order c.self.inside.outstanding.entries) c.args.message = ap in_order (placed c) ∙ in_order-push c.self.inside.outstanding.entries c.args.message in
-    rw (← c.self.view_is) (λ i. record { info = c.self.inside.info; kinds = c.self.inside.kinds; queue = c.self.inside.queue.items; outstanding = put i })
+    rw (← c.self.view_is) (λ i. record { info = c.self.inside.info; kinds = c.self.inside.kinds; queue = c.self.inside.queue; outstanding = put i })

@@ -27,7 +27,7 @@ returns-clause-after c =
     ∙ in_order-without c.args.token entries (swap_remove_entry (same_token c.args.token) entries) c.self.invariant.kept c.self.invariant.apart (kept-swapped c.args.token entries c.self.invariant.kept)
     (λ u. apart-swapped c.args.token entries u (c.self.invariant.apart u))
     (λ u. ap (lookup (same_token u)) (sym c.swap_remove.ensures.entries) ∙ c.swap_remove.ensures.updates.0 u) in
-    rw (← c.self.view_is) (λ i. record { info = c.self.inside.info; kinds = c.self.inside.kinds; queue = c.self.inside.queue.items; outstanding = left i })
+    rw (← c.self.view_is) (λ i. record { info = c.self.inside.info; kinds = c.self.inside.kinds; queue = c.self.inside.queue; outstanding = left i })
 
 pub returns-clause-apart : goal.returns-clause-apart
 returns-clause-apart c = rw (← c.self.view_is) (rw (count-in_order (has_token c.args.token) c.self.inside.outstanding.entries) (c.self.invariant.apart c.args.token))

@@ -21,7 +21,7 @@ none c = search rules
 inherits : (c : goal.Joined-none) → c.match-shift_remove.session ≡ heir c.args.info (session_of c.args.old (table c))
 inherits c =
     elim c.match-shift_remove.branch [
-      | in-Some w ↦ w.session-is ∙ w.renamed-session.ensures ∙ ap (heir c.args.info) (sym w.in-Some.is ∙ c.shift_remove.ensures.value ∙ ap (λ (l : Live). lookup (same_sid c.args.old) l) c.reserve.ensures.entries)
+      | in-Some w ↦ w.session-is ∙ w.with_info-session.ensures ∙ ap (heir c.args.info) (sym w.in-Some.is ∙ c.shift_remove.ensures.value ∙ ap (λ (l : Live). lookup (same_sid c.args.old) l) c.reserve.ensures.entries)
       | in-None w ↦ w.session-is ∙ w.new-session.ensures ∙ ap (heir c.args.info) (sym w.in-None.is ∙ c.shift_remove.ensures.value ∙ ap (λ (l : Live). lookup (same_sid c.args.old) l) c.reserve.ensures.entries)
     ]
 
