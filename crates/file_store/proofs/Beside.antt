@@ -1,28 +1,15 @@
 -- Blocks written to their places, one after the other, and what that leaves of what recovery finds, and of the other data blocks.
-use Rattle.std.proofs.Common.{◌≡◌, inl, inr, ⊎_elim, ℕ, ◌+◌, ◌*◌, ◌<◌, ◌≤◌, ◌^◌, ◌==◌, Bool, true, false, if◌then◌else◌, List, length, sym, ◌∙◌, ap, subst, arith, zero, suc, [], ◌∷◌, ◌++◌, map, get_or, take, refl}
-use Rattle.std.specs.List.{AllByRecursion, list_any}
-use Rattle.std.proofs.lemmas.Bool.{false≢true, false_from_ne_true, cases_lt}
-use Rattle.std.proofs.lemmas.List.Elements.{All-from_recursion}
-use Rattle.disk_model.specs.Images.{part, IsFreed, IsWritten}
-use Rattle.disk_model.specs.Moments.{Keeps}
+use Rattle.file_store.proofs.Names.{◌≡◌, inl, inr, ⊎_elim, ℕ, ◌+◌, ◌*◌, ◌<◌, ◌≤◌, ◌^◌, ◌==◌, Bool, true, false, if◌then◌else◌, List, length, sym, ◌∙◌, ap, subst, arith, zero, suc, [], ◌∷◌, ◌++◌, map, get_or, take, refl, AllByRecursion, list_any, false≢true, false_from_ne_true, cases_lt, All-from_recursion, part, IsFreed, IsWritten, Keeps, All-has, Layout, small, large, IsApart, Catalog, blocks_of, IsCatalog, IsImage, Meta, Backs, held_at, block_of, IsBesideBlocks, places_of, HasBlocks, length-map, map-append, Mapping, mappings_of}
 use Rattle.disk_model.proofs.Parts.{part_part, length-part}
 use Rattle.hsm_types.specs.declared.stores.Geometry.{Geometry}
-use Rattle.block_space.proofs.Members.{All-has}
-use Rattle.commit_slots.specs.declared.places.Layout.{Layout}
-use Rattle.commit_slots.specs.Places.{layout_of, small, large, IsApart}
-use Rattle.meta_store.specs.Catalogs.{Catalog, geometry_of, blocks_of, IsCatalog}
-use Rattle.meta_store.specs.Images.{IsImage, blocks_in_image}
-use Rattle.meta_store.specs.Meta.{Meta, Backs}
+use Rattle.commit_slots.specs.Places.{layout_of}
+use Rattle.meta_store.specs.Catalogs.{geometry_of}
+use Rattle.meta_store.specs.Images.{blocks_in_image}
 use Rattle.meta_store.proofs.BesideBlocks.{IsSameBelow, slot_below, image_below}
-use Rattle.file_store.specs.Bodies.{held_at, block_of}
-use Rattle.file_store.specs.Steps.{IsBesideBlocks, places_of, HasBlocks}
 use Rattle.file_store.proofs.DataBlocks.{Stays, held-stays}
 use Rattle.file_store.proofs.EachOf.{each-all, each-weaker, each_other, each-at, each-both, each-join, each-mapped, each-parts}
 use Rattle.file_store.proofs.Marks.{NoneOf, used-within}
-use Rattle.std.proofs.lemmas.List.{length-map, map-append}
 use Rattle.plain_model.specs.Distinct.{Distinct}
-use Rattle.meta_store.specs.declared.snapshot.Mapping.{Mapping}
-use Rattle.file_store.specs.Rewrites.{mappings_of}
 use Rattle.disk_model.specs.declared.device.Disk as disk
 
 -- ---- where the data blocks lie, and how many there are

@@ -1,15 +1,6 @@
 -- A body by its blocks: where each byte stands, and which body the blocks at other places give.
-use Rattle.std.proofs.Common.{rules, ◌≡◌, ◌⊎◌, inl, inr, ⊎_elim, ℕ, zero, suc, ◌+◌, ◌-◌, ◌*◌, ◌/◌, ◌%◌, ◌<◌, ◌≤◌, List, [], ◌∷◌, ◌++◌, length, map, get_or, take, drop, set, Option, Some, None, refl, sym, ◌∙◌, ap, subst, arith, length-append, length-take, length-set, get_or-set_same, get_or-set_other, replicate}
-use Rattle.std.specs.List.{flat_map, AllByRecursion}
-use Rattle.std.proofs.lemmas.Bool.{cases_eq}
-use Rattle.std.proofs.lemmas.List.{ext_get_or, length-replicate, get_or-take, get_or_append_left, get_or-append_right, places}
-use Rattle.disk_model.specs.Images.{part}
-use Rattle.plain_model.specs.Plain.{written}
-use Rattle.plain_model.specs.Blocks.{blocks_in}
-use Rattle.meta_store.specs.declared.snapshot.Mapping.{Mapping}
-use Rattle.meta_store.specs.Catalogs.{present}
-use Rattle.meta_store.specs.Records.{places_fitted, places_set}
-use Rattle.file_store.specs.Bodies.{block_at, body_at}
+use Rattle.file_store.proofs.Names.{rules, ◌≡◌, ◌⊎◌, inl, inr, ⊎_elim, ℕ, zero, suc, ◌+◌, ◌-◌, ◌*◌, ◌/◌, ◌%◌, ◌<◌, ◌≤◌, List, [], ◌∷◌, ◌++◌, length, map, get_or, take, drop, set, Option, Some, None, refl, sym, ◌∙◌, ap, subst, arith, length-append, length-take, length-set, get_or-set_same, get_or-set_other, replicate, flat_map, AllByRecursion, cases_eq, ext_get_or, length-replicate, get_or-take, get_or_append_left, get_or-append_right, places, part, written, blocks_in, Mapping, present, places_fitted, places_set, block_at}
+use Rattle.file_store.specs.Bodies.{body_at}
 
 -- ---- places
 

@@ -1,22 +1,7 @@
 -- A change of the bytes of a file: of a body that was lengthened by zeros before it, and of the flags of the blocks that it touches.
-use Rattle.std.proofs.Common.{rules, ◌≡◌, ℕ, ◌+◌, ◌-◌, ◌<◌, ◌≤◌, max, List, [], ◌++◌, length, ltb, refl, arith, length-append, replicate, zero, suc, ◌∷◌, map, take, set, false, eqb, ◌&&◌, Option, Some, None, ◌∙◌, ap, is_some, ◌/◌, ◌%◌}
-use Rattle.std.proofs.lemmas.Bool.{cond_both, ltb-true, and_parts}
-use Rattle.std.proofs.lemmas.List.{length-replicate, same_lists, places, map-append, map-set, take-map, length-map}
-use Rattle.plain_model.specs.Plain.{written, resized, rebody}
-use Rattle.plain_model.specs.Blocks.{old_end, touched, size_after, from_on, blocks_in, met, with_mapped, fitted, mapped_after}
+use Rattle.file_store.proofs.Names.{grown, new_size, rules, ◌≡◌, ℕ, ◌+◌, ◌-◌, ◌<◌, ◌≤◌, max, List, [], ◌++◌, length, ltb, refl, arith, length-append, replicate, zero, suc, ◌∷◌, map, take, set, false, eqb, ◌&&◌, Option, Some, None, ◌∙◌, ap, is_some, ◌/◌, ◌%◌, cond_both, ltb-true, and_parts, length-replicate, same_lists, places, map-append, map-set, take-map, length-map, written, resized, rebody, old_end, touched, size_after, from_on, blocks_in, met, with_mapped, fitted, mapped_after, Rewrite, Write, Resize, effect_of, AllByRecursion, Ascend, places_fitted, places_set, Mapping}
 use Rattle.file_body.proofs.Sizes.{length-written, length-resized}
-use Rattle.file_store.specs.declared.rewrites.Rewrite.{Rewrite}
-use Rattle.file_store.specs.declared.rewrites.Rewrite.TheVariants.{Write, Resize}
-use Rattle.file_store.specs.Rewrites.{effect_of}
-use Rattle.std.specs.List.{AllByRecursion}
 use Rattle.plain_model.specs.Effects.{Effect}
-use Rattle.block_space.proofs.Members.{Ascend}
-use Rattle.meta_store.specs.Records.{places_fitted, places_set}
-use Rattle.meta_store.specs.declared.snapshot.Mapping.{Mapping}
-
--- zeros behind the body
-abbrev pub grown : ℕ → List ℕ → List ℕ
-grown size body = body ++ replicate (size - length body) 0
 
 pub length-grown : (size : ℕ) (body : List ℕ) → length (grown size body) ≡ max size (length body)
 length-grown size body = omega (arith, length-append body (replicate (size - length body) 0), length-replicate {A = ℕ} (size - length body) 0)
@@ -29,22 +14,22 @@ resized-grown size body = same_lists _ _ (search (rules, places)) (λ i d h. gri
 
 -- ---- what is left after a change
 
-pub length-changed : (change : Rewrite) (body : List ℕ) → length (rebody (effect_of change) body) ≡ size_after (effect_of change) (length body)
+pub length-changed : (change : Rewrite) (body : List ℕ) → length (rebody (effect_of change) body) ≡ new_size change body
 length-changed (Write offset bytes) body = length-written offset bytes.now body
 length-changed (Resize size) body = length-resized size body
 
-pub changed-grown : (change : Rewrite) (body : List ℕ) → rebody (effect_of change) (grown (size_after (effect_of change) (length body)) body) ≡ rebody (effect_of change) body
+pub changed-grown : (change : Rewrite) (body : List ℕ) → rebody (effect_of change) (grown (new_size change body) body) ≡ rebody (effect_of change) body
 changed-grown (Write offset bytes) body = written-grown (max (length body) (offset + length bytes.now)) offset bytes.now body refl
 changed-grown (Resize size) body = resized-grown size body
 
 -- the body is long enough for it
-pub grown-enough : (change : Rewrite) (body : List ℕ) → size_after (effect_of change) (length (grown (size_after (effect_of change) (length body)) body)) ≤ length (grown (size_after (effect_of change) (length body)) body)
+pub grown-enough : (change : Rewrite) (body : List ℕ) → new_size change (grown (new_size change body) body) ≤ length (grown (new_size change body) body)
 grown-enough (Write offset bytes) body = omega (arith, length-grown (max (length body) (offset + length bytes.now)) body)
 grown-enough (Resize size) body = omega (arith, length-grown size body)
 
 -- and no longer than after it, where it touches blocks
 pub grown-no_more : (change : Rewrite) (body : List ℕ) → 0 < length (touched (effect_of change) (length body))
-    → length (grown (size_after (effect_of change) (length body)) body) ≤ size_after (effect_of change) (length (grown (size_after (effect_of change) (length body)) body))
+    → length (grown (new_size change body) body) ≤ new_size change (grown (new_size change body) body)
 grown-no_more (Write offset bytes) body some = omega arith
 grown-no_more (Resize size) body some =
     let P : List ℕ → Type 0 = λ bs. 0 < length bs → length (grown size body) ≤ size in

@@ -1,24 +1,7 @@
 -- What data blocks hold of files: those whose blocks stay, and one whose touched blocks are written to new places.
-use Rattle.std.proofs.Common.{◌≡◌, ⊎_elim, inl, inr, ℕ, zero, suc, ◌+◌, ◌-◌, ◌*◌, ◌/◌, ◌%◌, ◌<◌, ◌≤◌, List, [], ◌∷◌, ◌++◌, length, map, get_or, take, drop, Option, Some, None, Bool, true, eqb, ltb, ◌&&◌, refl, sym, ◌∙◌, ap, subst, arith, if◌then◌else◌}
-use Rattle.std.specs.List.{flat_map, list_any, AllByRecursion}
-use Rattle.std.proofs.lemmas.Bool.{cases_lt, cond_both, and_from, lt-ltb, eqb-true}
-use Rattle.std.proofs.lemmas.List.{get_or-replicate, get_or_past, places}
-use Rattle.hsm_types.specs.declared.keys.FileKey.{FileKey}
-use Rattle.disk_model.specs.Images.{part}
-use Rattle.plain_model.specs.Keyed.{find_key}
-use Rattle.plain_model.specs.Plain.{resized, rebody}
-use Rattle.plain_model.specs.Blocks.{from_on, blocks_in, met, old_end, touched, size_after}
-use Rattle.plain_model.specs.State.{affected_held}
-use Rattle.meta_store.specs.declared.snapshot.Mapping.{Mapping}
-use Rattle.meta_store.specs.Catalogs.{CatalogFile, Catalog, IsCatalogFile, IsCatalog, geometry_of, present, blocks_of}
-use Rattle.meta_store.specs.Records.{with_changed, places_fitted, places_set}
-use Rattle.meta_store.proofs.FileEdits.{each-drop}
-use Rattle.meta_store.proofs.FoundFiles.{each-found}
+use Rattle.file_store.proofs.Names.{◌≡◌, ⊎_elim, inl, inr, ℕ, zero, suc, ◌+◌, ◌-◌, ◌*◌, ◌/◌, ◌%◌, ◌<◌, ◌≤◌, List, [], ◌∷◌, ◌++◌, length, map, get_or, take, drop, Option, Some, None, Bool, true, eqb, ltb, ◌&&◌, refl, sym, ◌∙◌, ap, subst, arith, if◌then◌else◌, flat_map, list_any, AllByRecursion, cases_lt, cond_both, and_from, lt-ltb, eqb-true, get_or-replicate, get_or_past, places, FileKey, part, find_key, resized, rebody, from_on, blocks_in, met, old_end, touched, size_after, affected_held, Mapping, CatalogFile, Catalog, IsCatalogFile, IsCatalog, geometry_of, present, blocks_of, with_changed, places_fitted, places_set, each-drop, each-found, Rewrite, Write, Resize, block_at, bytes_at, held_at, effect_of, IsRewrite, remapped}
 use Rattle.meta_store.proofs.MappedPlaces.{length-fitted, length-places_set}
-use Rattle.file_store.specs.declared.rewrites.Rewrite.{Rewrite}
-use Rattle.file_store.specs.declared.rewrites.Rewrite.TheVariants.{Write, Resize}
-use Rattle.file_store.specs.Bodies.{block_of, block_at, body_at, bytes_at, held_at}
-use Rattle.file_store.specs.Rewrites.{effect_of, IsRewrite, remapped}
+use Rattle.file_store.specs.Bodies.{block_of, body_at}
 use Rattle.file_store.proofs.ByBlocks.{Whole, full, has_bytes, same_body, length-body, length-block, byte-block, at_place, after_set, get_or-fitted, written-beside}
 use Rattle.file_store.proofs.EachOf.{each-weaker, each-parts, each_member}
 use Rattle.file_store.proofs.FilesBy.{SameBytes, held-same}

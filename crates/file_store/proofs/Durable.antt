@@ -1,18 +1,8 @@
 -- What calls make durable, and what is true of the store after them.
-use Rattle.std.proofs.Common.{◌≡◌, ◌⊎◌, inl, inr, ⊎_elim, ℕ, ◌≤◌, ◌^◌, Bool, true, false, if◌then◌else◌, List, refl, sym, ◌∙◌, ap, subst, slice_index_or}
-use Rattle.std.specs.List.{AllByRecursion}
+use Rattle.file_store.proofs.Names.{◌≡◌, ◌⊎◌, inl, inr, ⊎_elim, ℕ, ◌≤◌, ◌^◌, Bool, true, false, if◌then◌else◌, List, refl, sym, ◌∙◌, ap, subst, slice_index_or, AllByRecursion, MayBe, Keeps, Same, started, turns_leave, turns_now, joined, weakened, Space, Held, Catalog, blocks_of, IsImage, blocks_in_image, Recovers, Meta, IsMeta, Backs, StoresOrKeeps, HasStored, IsStoredNow, held_at, held_with, Store, IsDurable, IsEither, Proceeds, IsLive, IsSound, marks_of}
 use Rattle.disk_model.specs.declared.device.Disk as disk
-use Rattle.disk_model.specs.Moments.{MayBe, Keeps, Same}
-use Rattle.disk_model.proofs.Steps.{started, turns_leave, turns_now, joined, weakened}
 use Rattle.commit_slots.specs.Images.{slot_of}
-use Rattle.block_space.specs.Space.{Space}
-use Rattle.plain_model.specs.State.{Held}
-use Rattle.meta_store.specs.Catalogs.{Catalog, blocks_of}
-use Rattle.meta_store.specs.Images.{IsImage, blocks_in_image, Recovers}
-use Rattle.meta_store.specs.Meta.{Meta, IsMeta, Backs, StoresOrKeeps, HasStored, IsStoredNow}
-use Rattle.file_store.specs.Bodies.{held_at, held_with}
 use Rattle.file_store.specs.HeldFiles.{IsHeldFiles}
-use Rattle.file_store.specs.Stores.{Store, IsDurable, IsEither, Proceeds, IsLive, IsSound, marks_of}
 use Rattle.file_store.proofs.Marks.{marks_there}
 
 -- a store by its parts

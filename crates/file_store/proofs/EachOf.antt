@@ -1,10 +1,7 @@
 -- What is true of each of a list.
-use Rattle.std.proofs.Common.{◌≡◌, ◌<◌, ℕ, zero, suc, List, [], ◌∷◌, ◌++◌, length, map, get_or, Some, true, false, eqb, sym, ◌∙◌, subst, arith}
-use Rattle.std.specs.List.{AllByRecursion, list_any, slice_get}
-use Rattle.std.proofs.lemmas.Bool.{false≢true}
-use Rattle.std.proofs.lemmas.List.Elements.{recursion_from_All}
+use Rattle.file_store.proofs.Names.{◌≡◌, ◌<◌, ℕ, zero, suc, List, [], ◌∷◌, ◌++◌, length, map, get_or, Some, true, false, eqb, sym, ◌∙◌, subst, arith, AllByRecursion, list_any, false≢true, recursion_from_All, All-from_has}
+use Rattle.std.specs.List.{slice_get}
 use Rattle.std.proofs.lemmas.Option.{slice_get_within, get_or_from_slice_get}
-use Rattle.block_space.proofs.Members.{All-from_has}
 
 module _ {X : Type 0} where
   pub each-all : (P : X → Type 0) → ((x : X) → P x) → (xs : List X) → AllByRecursion P xs

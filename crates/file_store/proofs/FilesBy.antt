@@ -1,31 +1,18 @@
 -- A catalog's files as they are held, however their bytes are found: what the catalog tells of them, their keys, one that is found, one more, one less and one changed.
-use Rattle.std.proofs.Common.{◌≡◌, ℕ, ◌<◌, ◌≤◌, ◌+◌, List, [], ◌∷◌, length, map, true, false, cond, Option, Some, None, ltb, refl, sym, ◌∙◌, ap, subst, arith, is_some, IsSome, option_map, unwrap_or, ◌^◌, max}
-use Rattle.std.specs.List.{AllByRecursion, fold, sum, sum_by}
-use Rattle.std.proofs.lemmas.List.{length-map}
+use Rattle.file_store.proofs.Names.{◌≡◌, ℕ, ◌<◌, ◌≤◌, ◌+◌, List, [], ◌∷◌, length, map, true, false, cond, Option, Some, None, ltb, refl, sym, ◌∙◌, ap, subst, arith, is_some, IsSome, option_map, unwrap_or, ◌^◌, max, AllByRecursion, fold, sum, sum_by, length-map, FileKey, same_key, find_key, change_key, put_key, drop_key, Listed, greatest, named, free_inode, FileState, Held, file_or_new, used, used_by, next_key, affected_held, CatalogFile, Catalog, IsCatalog, geometry_of, present, blocks_of, attribute_total, names_in, kept_at, others_total, key_on, IsNewFile, total-drop, used-sum, name_of, each-found, files-few, blocks-few, file_by, told_of, told_held, Shows, IsLawful, Make, held_after}
 use Rattle.std.proofs.lemmas.List.Sums.{sum-map}
 use Rattle.std.proofs.lemmas.Simd.{map-map}
 use Rattle.hsm_types.specs.Attributes.{bytes_of_attributes}
 use Rattle.hsm_types.specs.Kept.{Kept, nothing_kept}
-use Rattle.hsm_types.specs.declared.keys.FileKey.{FileKey}
-use Rattle.plain_model.specs.Keyed.{same_key, find_key, change_key, put_key, drop_key}
-use Rattle.plain_model.specs.Plain.{Listed, greatest, named, free_inode}
 use Rattle.plain_model.specs.Services.{kept_of, other_attributes, attribute_total as held_total}
-use Rattle.plain_model.specs.State.{FileState, Held, names_of, file_or_new, used, used_by, next_key, affected_held}
+use Rattle.plain_model.specs.State.{names_of}
 use Rattle.inode_table.specs.Listing.{Within}
-use Rattle.meta_store.specs.Catalogs.{CatalogFile, Catalog, IsCatalog, geometry_of, present, blocks_of, attribute_total, names_of as names_in}
-use Rattle.meta_store.specs.Records.{kept_at, others_total, key_on, IsNewFile}
-use Rattle.meta_store.proofs.FileEdits.{total-drop, used-sum, name_of}
-use Rattle.meta_store.proofs.FoundFiles.{each-found}
-use Rattle.meta_store.proofs.SnapshotFits.{files-few, blocks-few}
-use Rattle.file_store.specs.Bodies.{file_by, held_by}
-use Rattle.file_store.specs.Stores.{told_of, told_held, Shows, IsLawful}
+use Rattle.file_store.specs.Bodies.{held_by}
 use Rattle.hsm_types.specs.Names.{is_name}
 use Rattle.plain_model.specs.Effects.{Makes}
 use Rattle.inode_table.specs.Table.{entry_of, next_key as next_listed}
 use Rattle.inode_table.proofs.KeysAt.{found-key_at}
 use Rattle.inode_table.proofs.Orders.{free-ge, free-le, free-absent}
-use Rattle.meta_store.specs.declared.records.Record.TheVariants.{Make}
-use Rattle.file_store.specs.Effects.{held_after}
 
 abbrev held_of : List FileState → ℕ → Held
 held_of files next = record { files = files; next = next }

@@ -1,3 +1,4 @@
+pub mod Names
 pub mod EachOf
 pub mod ByBlocks
 pub mod Marks

@@ -1,18 +1,6 @@
 -- Bodies that are read block by block, and put by inode, one after the other in the order of the files.
-use Rattle.std.proofs.Common.{◌≡◌, ◌⊎◌, inl, inr, ⊎_elim, ℕ, ◌+◌, ◌-◌, ◌*◌, ◌<◌, ◌≤◌, List, [], length, get_or, take, Option, Some, None, sym, ◌∙◌, ap, subst, arith, zero, suc, ◌∷◌, ◌++◌, map, set, get_or-set_same, get_or-set_other}
-use Rattle.std.specs.List.{AllByRecursion, slice_get}
-use Rattle.std.proofs.lemmas.Bool.{cases_lt, cases_eq}
-use Rattle.std.proofs.lemmas.List.{places, get_or-replicate, get_or-take, get_or_past, take_more, length-map}
-use Rattle.plain_model.specs.Plain.{written, resized}
-use Rattle.plain_model.specs.Blocks.{blocks_in}
-use Rattle.disk_model.specs.Images.{part}
-use Rattle.disk_model.proofs.Steps.{sames_on}
-use Rattle.commit_slots.specs.declared.places.Layout.{Layout}
-use Rattle.commit_slots.specs.Places.{layout_of}
-use Rattle.meta_store.specs.Catalogs.{geometry_of, present, CatalogFile, Catalog, IsCatalog, IsCatalogFile, names_of}
-use Rattle.meta_store.specs.Images.{blocks_in_image}
-use Rattle.file_store.specs.Steps.{OnlyReads}
-use Rattle.file_store.specs.Bodies.{block_at, body_at, bytes_with}
+use Rattle.file_store.proofs.Names.{◌≡◌, ◌⊎◌, inl, inr, ⊎_elim, ℕ, ◌+◌, ◌-◌, ◌*◌, ◌<◌, ◌≤◌, List, [], length, get_or, take, Option, Some, None, sym, ◌∙◌, ap, subst, arith, zero, suc, ◌∷◌, ◌++◌, map, set, get_or-set_same, get_or-set_other, AllByRecursion, cases_lt, cases_eq, places, get_or-replicate, get_or-take, get_or_past, take_more, length-map, written, resized, blocks_in, part, sames_on, Layout, layout_of, geometry_of, present, CatalogFile, Catalog, IsCatalog, IsCatalogFile, names_of, blocks_in_image, OnlyReads, block_at, body_at, bytes_with}
+use Rattle.std.specs.List.{slice_get}
 use Rattle.file_store.proofs.Beside.{block_in, length-block}
 use Rattle.file_store.proofs.ByBlocks.{HasBytes, Whole, full, at_place, same_body, written-beside, written-in}
 use Rattle.file_store.proofs.EachOf.{each-weaker, each-both, each-join, each-there}

@@ -1,33 +1,16 @@
 -- The marks of the blocks that files use: places that may be taken, and what is left where a file frees blocks.
-use Rattle.std.proofs.Common.{◌≡◌, ℕ, zero, suc, ◌+◌, ◌<◌, ◌≤◌, List, [], ◌∷◌, ◌++◌, length, take, drop, set, get_or, Option, Some, None, Bool, true, false, eqb, ltb, refl, sym, ◌∙◌, ap, subst, arith, length-set, get_or-set_other, replicate}
-use Rattle.std.specs.List.{All, AllByRecursion, list_any, sum_by}
-use Rattle.std.proofs.lemmas.Bool.{false≢true, false_from_ne_true}
+use Rattle.file_store.proofs.Names.{◌≡◌, ℕ, zero, suc, ◌+◌, ◌<◌, ◌≤◌, List, [], ◌∷◌, ◌++◌, length, take, drop, set, get_or, Option, Some, None, Bool, true, false, eqb, ltb, refl, sym, ◌∙◌, ap, subst, arith, length-set, get_or-set_other, replicate, AllByRecursion, list_any, sum_by, false≢true, false_from_ne_true, length-replicate, All-from_recursion, All-weaker, recursion_from_All, FileKey, find_key, change_key, put_key, drop_key, blocks_in, Space, free, marked, unmarked, All-has, Ascend, Ascend-low, Record, Make, Drop, Size, Map, CatalogFile, Catalog, IsCatalogFile, IsCatalog, geometry_of, present, blocks_of, file_after, inode_of, key_on, after, CanStand, places_fitted, places_set, with_changed, uses_of, uses-sum, sum-put, sum-drop, sum-change, blocks-change, each-found, blocks-within, IsBodiless, drops, mappings_of, remapped, places_under, freed_by, marks_of}
+use Rattle.std.specs.List.{All}
 use Rattle.std.proofs.lemmas.Bool.Decides.{nat_tests}
-use Rattle.std.proofs.lemmas.List.{length-replicate}
-use Rattle.std.proofs.lemmas.List.Elements.{All-from_recursion, All-weaker, recursion_from_All}
 use Rattle.std.proofs.lemmas.List.Sums.{sum_by-cons, sum_by-set}
-use Rattle.hsm_types.specs.declared.keys.FileKey.{FileKey}
 use Rattle.plain_model.specs.Distinct.{Distinct}
-use Rattle.plain_model.specs.Keyed.{find_key, change_key, put_key, drop_key}
-use Rattle.plain_model.specs.Blocks.{blocks_in}
-use Rattle.block_space.specs.Space.{Space, free, marked, unmarked}
 use Rattle.block_space.specs.Laws.{IsFree}
-use Rattle.block_space.proofs.Members.{All-has, Ascend, Ascend-low}
 use Rattle.block_space.proofs.Marks.{length-marked}
 use Rattle.block_space.proofs.Spaces.{others_are_free, taken_are_free, take_adds_others, marks_are_members, marks_join, releases-leave}
-use Rattle.meta_store.specs.declared.records.Record.{Record}
-use Rattle.meta_store.specs.declared.records.Record.TheVariants.{Make, Drop, Size, Map}
-use Rattle.meta_store.specs.Catalogs.{CatalogFile, Catalog, IsCatalogFile, IsCatalog, geometry_of, present, blocks_of}
-use Rattle.meta_store.specs.Records.{file_after, inode_of, key_on, after, CanStand, places_fitted, places_set, with_changed}
 use Rattle.meta_store.proofs.BlockUses.{uses, uses-append, distinct-uses}
-use Rattle.meta_store.proofs.FileEdits.{uses_of, uses-sum, sum-put, sum-drop, sum-change, blocks-change}
-use Rattle.meta_store.proofs.FoundFiles.{each-found}
 use Rattle.meta_store.proofs.KeptCatalogs.{empty_file}
 use Rattle.meta_store.proofs.MappedPlaces.{length-fitted, present-fitted}
-use Rattle.meta_store.proofs.SnapshotFits.{blocks-within}
-use Rattle.file_store.specs.Effects.{IsBodiless, IsFreed, drops}
-use Rattle.file_store.specs.Rewrites.{mappings_of, remapped, places_under, freed_by}
-use Rattle.file_store.specs.Stores.{marks_of}
+use Rattle.file_store.specs.Effects.{IsFreed}
 use Rattle.file_store.proofs.ByBlocks.{get_or-fitted}
 use Rattle.file_store.proofs.EachOf.{each_member}
 

@@ -1,23 +1,10 @@
 -- The records of a change of a file's bytes: that they are its places, the catalog after them, and that they can come.
-use Rattle.std.proofs.Common.{rules, ◌≡◌, ⊎_elim, ◌<◌, ℕ, zero, suc, ◌+◌, ◌-◌, ◌≤◌, min, List, [], ◌∷◌, ◌++◌, length, take, drop, get_or, Option, Some, None, refl, sym, ◌∙◌, ap, arith, length-append, take_all, set, true, false, cond, eqb, subst}
-use Rattle.std.proofs.lemmas.Bool.{cases_lt, cond_both, ltb-true}
-use Rattle.std.proofs.lemmas.List.{drop_more, drop_all, get_or_past, append_assoc, map-append, same_lists, places}
+use Rattle.file_store.proofs.Names.{rules, ◌≡◌, ⊎_elim, ◌<◌, ℕ, zero, suc, ◌+◌, ◌-◌, ◌≤◌, min, List, [], ◌∷◌, ◌++◌, length, take, drop, get_or, Option, Some, None, refl, sym, ◌∙◌, ap, arith, length-append, take_all, set, true, false, cond, eqb, subst, cases_lt, cond_both, ltb-true, drop_more, drop_all, get_or_past, map-append, same_lists, places, from_on, blocks_in, Mapping, Record, Size, Map, present, CatalogFile, Catalog, geometry_of, blocks_of, mappings_from, places_set, file_after, with_changed, key_on, after, after_all, refusal_of_all, IsMappable, CanStandAll, IsMap, IsEvent, mappings_of, mappings_in, IsMapOn, IsRewriting, places_under, freed_by, remapped, flat_map, list_any, AllByRecursion, FileKey, same_key, find_key, change_key, names_of-change, places_of}
+use Rattle.std.proofs.lemmas.List.{append_assoc}
 use Rattle.file_body.proofs.Runs.{length_blocks}
-use Rattle.plain_model.specs.Blocks.{from_on, blocks_in}
-use Rattle.meta_store.specs.declared.snapshot.Mapping.{Mapping}
-use Rattle.meta_store.specs.declared.records.Record.{Record}
-use Rattle.meta_store.specs.declared.records.Record.TheVariants.{Size, Map}
-use Rattle.meta_store.specs.Catalogs.{present, CatalogFile, Catalog, geometry_of, blocks_of}
-use Rattle.meta_store.specs.Records.{mappings_from, places_set, file_after, with_changed, key_on, after, after_all, refusal_of_all, IsMappable, CanStandAll, IsMap, IsEvent}
-use Rattle.file_store.specs.Rewrites.{mappings_of, mappings_in, IsMapOn, IsRewriting, places_under, freed_by, remapped}
 use Rattle.file_store.proofs.EachOf.{each-parts, each_member}
 use Rattle.file_store.proofs.Marks.{has-uses, uses-changed}
-use Rattle.std.specs.List.{flat_map, list_any, AllByRecursion}
-use Rattle.hsm_types.specs.declared.keys.FileKey.{FileKey}
-use Rattle.plain_model.specs.Keyed.{same_key, find_key, change_key}
 use Rattle.meta_store.proofs.BlockUses.{uses, uses-append, absent-unused, uses-distinct}
-use Rattle.meta_store.proofs.FileEdits.{names_of-change}
-use Rattle.file_store.specs.Steps.{places_of}
 use Rattle.meta_store.proofs.MappedPlaces.{length-fitted, length-places_set, uses-fitted, uses-mapped}
 
 -- ---- places of two runs of blocks

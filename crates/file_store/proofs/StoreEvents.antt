@@ -1,51 +1,27 @@
 -- Events of a live store: a record that concerns no bytes of a file that stays, and bytes with their records.
-use Rattle.std.proofs.Common.{◌≡◌, ℕ, ◌<◌, List, [], ◌∷◌, length, Bool, true, false, ◌||◌, Option, Some, None, refl, sym, ◌∙◌, ap, subst, All, inl, inr, zero, suc, ◌-◌, ◌*◌, ◌≤◌, take, drop, get_or, set, arith, length-take}
-use Rattle.std.proofs.lemmas.Bool.{or_parts, cond_both}
-use Rattle.hsm_types.specs.declared.keys.FileKey.{FileKey}
-use Rattle.block_space.specs.Space.{Space, unmarked, free, marked}
+use Rattle.file_store.proofs.Names.{◌+◌, IsSome, find_key, used, bytes_with, new_size, touched_of, places_for, IsStaged, get_or, ◌≡◌, ℕ, ◌<◌, List, [], ◌∷◌, length, Bool, true, false, ◌||◌, Option, Some, None, refl, sym, ◌∙◌, ap, subst, All, inl, inr, zero, suc, ◌-◌, ◌*◌, ◌≤◌, take, drop, set, arith, length-take, or_parts, cond_both, FileKey, Space, unmarked, free, marked, Record, Catalog, IsCatalogFile, geometry_of, present, blocks_of, after, CanStand, refusal_of, refusal_of_all, with_changed, after_all, CanStandAll, key_on, blocks_in_image, IsImage, Meta, IsMeta, Backs, StoresOrKeeps, held_at, held_with, block_of, bytes_at, IsBodiless, held_after, drops, Store, IsLive, IsSound, marks_of, IsEither, Proceeds, AllByRecursion, All-from_recursion, All-weaker, part, Follows, MayBe, Keeps, holds_on, holds_now, layout_of, rebody, blocks_in, size_after, Held, bytes_of, affected_held, Mapping, each-found, Rewrite, Write, Resize, IsBesideBlocks, HasBlocks, effect_of, IsRewrite, IsRewriting, mappings_of, remapped, freed_by, places_under}
 use Rattle.hsm_types.specs.declared.dm.DmRefusal.{DmRefusal}
 use Rattle.hsm_types.specs.Refusals.{first_refusal}
-use Rattle.meta_store.specs.declared.records.Record.{Record}
 use Rattle.meta_store.specs.declared.refusal.MetaRefusal.{MetaRefusal}
 use Rattle.meta_store.specs.declared.refusal.MetaRefusal.TheVariants.{Part, Disk, Memory}
-use Rattle.meta_store.specs.Catalogs.{Catalog, IsCatalogFile, geometry_of, present, blocks_of}
-use Rattle.meta_store.specs.Records.{after, CanStand, refusal_of, refusal_of_all, with_changed, after_all, CanStandAll, key_on}
-use Rattle.meta_store.specs.Images.{blocks_in_image, IsImage}
-use Rattle.meta_store.specs.Meta.{Meta, IsMeta, Backs, StoresOrKeeps}
-use Rattle.file_store.specs.Bodies.{held_at, held_with, block_of, bytes_at, bytes_with}
-use Rattle.file_store.specs.Effects.{IsBodiless, IsFreed, held_after, drops}
+use Rattle.file_store.specs.Effects.{IsFreed}
 use Rattle.file_store.specs.HeldFiles.{IsHeldFiles}
 use Rattle.file_store.specs.Refusals.{refused_as}
-use Rattle.file_store.specs.Stores.{Store, IsLive, IsSound, marks_of, IsEither, Proceeds}
 use Rattle.file_store.proofs.Durable.{Parts, store_of, Tells, IsDone, after_event, done, proceeds_on, kept_proceeds}
-use Rattle.file_store.proofs.Marks.{marks-after, none-freed, freed-within, marks_there, length-marks, marks-moved, ArePlaces, are_places}
-use Rattle.file_store.proofs.WithBodies.{bodies_after, held_at-after, held_with-after, IsHeldFiles-after, IsFound, bytes-held, body-of, held_with-rewritten, IsHeldFiles-rewritten}
-use Rattle.file_store.proofs.Beside.{block_in, length-block, image_beside, used_stay, held_beside, backs_beside, places-mapped, blocks-mapped}
+use Rattle.file_store.proofs.Marks.{enough, marks-after, none-freed, freed-within, marks_there, length-marks, marks-moved, ArePlaces, are_places}
+use Rattle.file_store.proofs.WithBodies.{live-held, body-held, bodies_after, held_at-after, held_with-after, IsHeldFiles-after, IsFound, bytes-held, body-of, held_with-rewritten, IsHeldFiles-rewritten}
+use Rattle.file_store.proofs.Beside.{blocks_fit, block_in, length-block, image_beside, used_stay, held_beside, backs_beside, places-mapped, blocks-mapped}
 use Rattle.file_store.proofs.ByBlocks.{at_place}
 use Rattle.file_store.proofs.DataBlocks.{held-changed}
 use Rattle.file_store.proofs.EachOf.{each-weaker, each-both, each-join, each-mapped}
-use Rattle.file_store.proofs.ByteChanges.{grown, changed-grown, touched-below, touched-ascends}
-use Rattle.file_store.proofs.FilesBy.{key_on-live}
+use Rattle.file_store.proofs.ByteChanges.{touched-below, touched-ascends}
+use Rattle.file_store.proofs.FilesBy.{key_on-live, used-held}
 use Rattle.file_store.proofs.RewriteRecords.{after_rewriting, can_stand}
-use Rattle.std.specs.List.{All, AllByRecursion}
-use Rattle.std.proofs.lemmas.List.Elements.{All-from_recursion, All-weaker}
-use Rattle.disk_model.specs.Images.{part, Follows}
-use Rattle.disk_model.specs.Moments.{MayBe, Keeps}
-use Rattle.disk_model.proofs.Steps.{holds_on, holds_now}
-use Rattle.commit_slots.specs.Places.{layout_of}
-use Rattle.plain_model.specs.Plain.{rebody}
-use Rattle.plain_model.specs.Blocks.{blocks_in, size_after, touched as touched_by}
-use Rattle.plain_model.specs.State.{Held, bytes_of, affected_held}
+use Rattle.std.specs.List.{All}
 use Rattle.block_space.specs.Laws.{IsFree}
 use Rattle.block_space.proofs.Marks.{length-marked, marked_keeps}
 use Rattle.block_space.proofs.Spaces.{taken_are_free, release_undoes_take}
-use Rattle.meta_store.specs.declared.snapshot.Mapping.{Mapping}
 use Rattle.meta_store.proofs.BlockUses.{uses, uses-append}
-use Rattle.meta_store.proofs.FoundFiles.{each-found}
-use Rattle.file_store.specs.declared.rewrites.Rewrite.{Rewrite}
-use Rattle.file_store.specs.declared.rewrites.Rewrite.TheVariants.{Write, Resize}
-use Rattle.file_store.specs.Steps.{IsBesideBlocks, HasBlocks}
-use Rattle.file_store.specs.Rewrites.{effect_of, IsRewrite, IsRewriting, mappings_of, remapped, freed_by, places_under}
 use Rattle.disk_model.specs.declared.device.Disk as disk
 use Rattle.file_store.specs.declared.refusal.StoreRefusal.TheVariants as store
 
@@ -117,31 +93,66 @@ fit n total bs ps long low within =
     each-both (λ (m : Mapping). m.block < n) (λ (m : Mapping). m.place < total) (λ (m : Mapping). (m.block < n) × (m.place < total)) (λ m a b. (a, b)) (mappings_of bs ps)
     (each-mapped (λ b. b < n) (λ (m : Mapping). m.block) (mappings_of bs ps) (rw (blocks-mapped bs ps long) low)) (each-mapped (λ p. p < total) (λ (m : Mapping). m.place) (mappings_of bs ps) (rw (places-mapped bs ps long) within))
 
--- the body of that file, and how many bytes it has after the change
+-- places that are taken can be given back, which undoes it
+module _ (space : Space) (n : ℕ) where
+  pub places_within : All (λ b. b < length (marked (take n (free space)) space.current)) (take n (free space))
+  places_within = rw (length-marked (take n (free space)) space.current) (All-weaker (IsFree space) (λ b. b < length space.current) (λ b f. f.within) (take n (free space)) (taken_are_free space n).each)
+
+  pub undone : unmarked (take n (free space)) (marked (take n (free space)) space.current) ≡ space.current
+  undone = release_undoes_take space.current (take n (free space)) (All-weaker (IsFree space) (λ b. get_or space.current b true ≡ false) (λ b f. f.current) (take n (free space)) (taken_are_free space n).each)
+
+-- the body of that file
 abbrev pub body_of : List (List ℕ) → FileKey → List ℕ
 body_of bs k = get_or bs (k.ino - 1) []
 
-abbrev pub size_of : Rewrite → List ℕ → ℕ
-size_of change body = size_after (effect_of change) (length body)
-
--- what is known before the first write
-pub record Given {D : Type 0} (g : disk.Ghosts D) (p : Parts D) (k : FileKey) (change : Rewrite) (blocks places : List ℕ) : Type 0 where
+-- what is known of a store and of a change before the first write
+pub record Given {D : Type 0} (g : disk.Ghosts D) (p : Parts D) (k : FileKey) (change : Rewrite) : Type 0 where
   pub files : IsHeldFiles p.bodies p.meta
   pub lawful : IsMeta p.meta
   pub live : IsLive g (store_of p)
   pub at : IsFound (length p.bodies) p.meta.current k
   pub may : IsRewrite change
-  pub few : size_of change (body_of p.bodies k) ≤ 16777216
-  pub touched : blocks ≡ touched_by (effect_of change) (length (body_of p.bodies k))
-  pub taken : places ≡ take (length blocks) (free p.space)
-  pub enough : length blocks ≤ length (free p.space)
+  pub few : new_size change (body_of p.bodies k) ≤ 16777216
+  pub room : length (touched_of change (body_of p.bodies k)) + length (blocks_of p.meta.current.files) ≤ (geometry_of p.meta.current.geometry).blocks
+  pub enough : length (touched_of change (body_of p.bodies k)) ≤ length (free p.space)
 
-module _ {D : Type 0} (g : disk.Ghosts D) (p : Parts D) (k : FileKey) (change : Rewrite) (blocks places : List ℕ) (x : Given g p k change blocks places) where
+size-few : (change : Rewrite) (n : ℕ) → IsRewrite change → n ≤ 16777216 → size_after (effect_of change) n ≤ 16777216
+size-few (Write offset bytes) n may few = let end = may.1 in omega arith
+size-few (Resize to) n may few = may
+
+pub known : {D : Type 0} (g : disk.Ghosts D) (p : Parts D) (k : FileKey) (change : Rewrite) → IsHeldFiles p.bodies p.meta → IsSound g (store_of p) → p.failed ≡ false → p.pending ≡ false → IsSome (find_key (λ f. f.key) k (store_of p).held.files) → IsRewrite change
+    → length (touched_of change (bytes_of k (store_of p).held.files)) + used (store_of p).held.files ≤ (geometry_of p.meta.durable.geometry).blocks → Given g p k change
+known g p k change files sound working settled there may left =
+    let at = live-held p.bodies p.meta files k there in
+    let live = sound.live working in
+    let size = each-found (λ f. length (bytes_with p.bodies f) ≡ f.size) k at.file p.meta.current.files files.sizes at.found in
+    let file = each-found (IsCatalogFile (geometry_of p.meta.current.geometry).blocks) k at.file p.meta.current.files sound.meta.current.each at.found in
+    let own = ap length (body-of p.bodies p.meta files k at) in
+    let room : length (touched_of change (body_of p.bodies k)) + length (blocks_of p.meta.current.files) ≤ (geometry_of p.meta.current.geometry).blocks =
+    rw (body-held p.bodies p.meta.current k at.file at.found, used-held (bytes_with p.bodies) p.meta.current, ← sound.meta.stored.geometry) at left in
+    record {
+      files = files;
+      lawful = sound.meta;
+      live = live;
+      at = at;
+      may = may;
+      few = size-few change _ may (let most = file.size in omega arith);
+      room = room;
+      enough = enough p.meta.current sound.meta.current p.space _ live.marks (live.settled settled) room;
+    }
+
+module _ {D : Type 0} (g : disk.Ghosts D) (p : Parts D) (k : FileKey) (change : Rewrite) (x : Given g p k change) where
   abbrev body : List ℕ
   body = body_of p.bodies k
 
   abbrev size : ℕ
-  size = size_of change body
+  size = new_size change body
+
+  abbrev blocks : List ℕ
+  blocks = touched_of change body
+
+  abbrev places : List ℕ
+  places = places_for change body p.space
 
   abbrev ms : List Mapping
   ms = mappings_of blocks places
@@ -150,16 +161,17 @@ module _ {D : Type 0} (g : disk.Ghosts D) (p : Parts D) (k : FileKey) (change : 
   next = with_changed k (remapped size ms) p.meta.current
 
   pub long : length places ≡ length blocks
-  long = omega (arith, x.enough, ap length x.taken, length-take (length blocks) (free p.space))
+  long = omega (arith, x.enough, length-take (length blocks) (free p.space))
 
-  pub are : ArePlaces p.meta.current p.meta.durable places
-  are = rw x.taken (are_places p.meta.current x.lawful.current p.meta.durable p.space (length blocks) x.live.marks x.live.marked)
-
-  pub within : AllByRecursion (λ q. q < (geometry_of p.meta.durable.geometry).blocks) places
-  within = subst (λ (z : ℕ). AllByRecursion (λ q. q < (geometry_of z).blocks) places) x.lawful.stored.geometry are.within
+  are : ArePlaces p.meta.current p.meta.durable places
+  are = are_places p.meta.current x.lawful.current p.meta.durable p.space (length blocks) x.live.marks x.live.marked
 
   low : AllByRecursion (λ b. b < blocks_in size) blocks
-  low = rw x.touched (touched-below change (length body))
+  low = touched-below change (length body)
+
+  -- the disk has them
+  pub fits : AllByRecursion (λ q. (layout_of p.meta.current.geometry).blocks + 4096 * q + 4096 ≤ g.length_of p.disk) places
+  fits = blocks_fit p.meta.current.geometry _ (x.live.backs.length ∙ ap (λ (z : ℕ). (layout_of z).whole) (sym x.lawful.stored.geometry)) _ are.within
 
   -- ---- the records
 
@@ -172,31 +184,23 @@ module _ {D : Type 0} (g : disk.Ghosts D) (p : Parts D) (k : FileKey) (change : 
         can_stand k.ino size ms records p.meta.current x.at.file is x.few (rw key x.at.found) (fit (blocks_in size) (geometry_of p.meta.current.geometry).blocks blocks places long low are.within)
         (λ n. let once = are.once n in omega (arith, uses-append n (blocks_of p.meta.current.files) places, ap (uses n) (places-mapped blocks places long)))
 
-    pub become : after_all records p.meta.current ≡ next
+    become : after_all records p.meta.current ≡ next
     become = after_rewriting k.ino size ms records p.meta.current is ∙ ap (λ (j : FileKey). with_changed j (remapped size ms) p.meta.current) key
 
   -- ---- the marks
-
-  pub total : length (marked places p.space.current) ≡ (geometry_of p.meta.current.geometry).blocks
-  total = length-marked places p.space.current ∙ ap length x.live.marks ∙ length-marks p.meta.current
-
-  pub places_within : All (λ b. b < length (marked places p.space.current)) places
-  places_within = rw total (All-from_recursion (λ b. b < (geometry_of p.meta.current.geometry).blocks) places are.within)
-
-  pub undone : unmarked places (marked places p.space.current) ≡ p.space.current
-  undone = release_undoes_take p.space.current places (rw x.taken (All-weaker (IsFree p.space) (λ b. get_or p.space.current b true ≡ false) (λ b f. f.current) (take (length blocks) (free p.space)) (taken_are_free p.space (length blocks)).each))
 
   module _ (freed : List ℕ) (freed_are : freed ≡ freed_by size blocks x.at.file.places) where
     pub freed_within : All (λ b. b < length (marked places p.space.current)) freed
     freed_within =
         let file = each-found (IsCatalogFile (geometry_of p.meta.current.geometry).blocks) k x.at.file p.meta.current.files x.lawful.current.each x.at.found in
-        rw (total, freed_are) (All-from_recursion _ (freed_by size blocks x.at.file.places) (all-freed (λ b. b < (geometry_of p.meta.current.geometry).blocks) size blocks x.at.file.places file.within))
+        rw (length-marked places p.space.current ∙ ap length x.live.marks ∙ length-marks p.meta.current, freed_are)
+        (All-from_recursion _ (freed_by size blocks x.at.file.places) (all-freed (λ b. b < (geometry_of p.meta.current.geometry).blocks) size blocks x.at.file.places file.within))
 
-    pub marks : unmarked freed (marked places p.space.current) ≡ marks_of next
+    marks : unmarked freed (marked places p.space.current) ≡ marks_of next
     marks =
         ap (λ (fs : List ℕ). unmarked fs (marked places p.space.current)) freed_are
         ∙ ap (λ (flags : List Bool). unmarked (freed_by size blocks x.at.file.places) (marked places flags)) x.live.marks
-        ∙ (marks-moved p.meta.current size blocks places k x.at.file x.at.found (rw x.touched (touched-ascends change (length body))) low long are.once)
+        ∙ (marks-moved p.meta.current size blocks places k x.at.file x.at.found (touched-ascends change (length body)) low long are.once)
 
   -- ---- the writes, and then the records
 
@@ -207,7 +211,10 @@ module _ {D : Type 0} (g : disk.Ghosts D) (p : Parts D) (k : FileKey) (change : 
   bytes was holds =
       sym (bytes-held (bytes_at was) p.meta.current k x.at.file x.at.found) ∙ ap (λ (h : Held). bytes_of k h.files) holds ∙ bytes-held (bytes_with p.bodies) p.meta.current k x.at.file x.at.found ∙ body-of p.bodies p.meta x.files k x.at
 
-  module _ (mid : D) (keeps : Keeps g p.disk mid (IsBesideBlocks (layout_of p.meta.durable.geometry).blocks places)) where
+  module _ (mid : D) (moments : Keeps g p.disk mid (IsBesideBlocks (layout_of p.meta.current.geometry).blocks places)) where
+    keeps : Keeps g p.disk mid (IsBesideBlocks (layout_of p.meta.durable.geometry).blocks places)
+    keeps = subst (λ (z : ℕ). Keeps g p.disk mid (IsBesideBlocks (layout_of z).blocks places)) x.lawful.stored.geometry moments
+
     -- what recovery finds is what was durable
     abbrev Was : List ℕ → Type 0
     Was c = IsImage p.meta.fsid p.meta.number p.meta.durable c × (held_at (blocks_in_image p.meta.durable.geometry c) p.meta.durable ≡ (store_of p).durable)
@@ -233,7 +240,7 @@ module _ {D : Type 0} (g : disk.Ghosts D) (p : Parts D) (k : FileKey) (change : 
       durable = inl (refl, refl);
     }
 
-    module _ (written : Follows (HasBlocks (layout_of p.meta.durable.geometry).blocks (rebody (effect_of change) (grown size body)) ms) (g.gives p.disk) (g.gives mid)) where
+    module _ (records : List Record) (freed : List ℕ) (staged : IsStaged g p.disk mid p.meta.current k change body p.space records freed) where
       abbrev changed : List ℕ
       changed = rebody (effect_of change) body
 
@@ -241,7 +248,7 @@ module _ {D : Type 0} (g : disk.Ghosts D) (p : Parts D) (k : FileKey) (change : 
       base = (layout_of p.meta.durable.geometry).blocks
 
       has_blocks : Follows (HasBlocks base changed ms) (g.gives p.disk) (g.gives mid)
-      has_blocks = subst (λ (b : List ℕ). Follows (HasBlocks base b ms) (g.gives p.disk) (g.gives mid)) (changed-grown change body) written
+      has_blocks = subst (λ (z : ℕ). Follows (HasBlocks (layout_of z).blocks changed ms) (g.gives p.disk) (g.gives mid)) x.lawful.stored.geometry staged.written
 
       beside : (d c : List ℕ) → HasBlocks base changed ms d c → IsBesideBlocks base places d c
       beside d c step = subst (λ (ps : List ℕ). IsBesideBlocks base ps d c) (places-mapped blocks places long) step.beside
@@ -268,10 +275,10 @@ module _ {D : Type 0} (g : disk.Ghosts D) (p : Parts D) (k : FileKey) (change : 
           let holds = x.live.current was_on.0 was_on.1 in
           let there : AllByRecursion (λ (m : Mapping). part now (4096 * m.place) 4096 ≡ block_of changed m.block) ms =
           each-both (λ (m : Mapping). m.place < (geometry_of p.meta.durable.geometry).blocks) _ _ (λ m low is. block_in p.meta.durable.geometry c m.place low ∙ is) ms
-          (each-mapped (λ q. q < (geometry_of p.meta.durable.geometry).blocks) (λ (m : Mapping). m.place) ms (rw (places-mapped blocks places long) within)) was_on.2.there in
+          (each-mapped (λ q. q < (geometry_of p.meta.durable.geometry).blocks) (λ (m : Mapping). m.place) ms (rw (places-mapped blocks places long, ← x.lawful.stored.geometry) are.within)) was_on.2.there in
           held-changed was now p.meta.current (used_stay p.meta.durable.geometry places was_on.0 c (beside was_on.0 c was_on.2) p.meta.current x.lawful.stored.geometry x.lawful.current are.unused) change k size ms x.at.file body x.lawful.current
           (λ b lt. length-block p.meta.durable.geometry was_on.0 b (subst (λ z. b < (geometry_of z).blocks) x.lawful.stored.geometry lt) (x.live.backs.image was_on.0 (inr was_on.1)).found.size)
-          x.may x.at.found (bytes was holds) refl (blocks-mapped blocks places long ∙ x.touched) there
+          x.may x.at.found (bytes was holds) refl (blocks-mapped blocks places long) there
           ∙ ap (λ (h : Held). record h { files = affected_held (effect_of change) k h.files }) holds
 
       joined : (n : ℕ) (t : Store D) → Proceeds g (store_of (record p { disk = mid })) n t → Proceeds g (store_of p) n t
@@ -282,20 +289,15 @@ module _ {D : Type 0} (g : disk.Ghosts D) (p : Parts D) (k : FileKey) (change : 
       refused_proceeds n t turns meta_is durable_is = joined n t (kept_proceeds g (store_of (record p { disk = mid })) x.lawful written_live n t turns meta_is durable_is)
 
       -- they are
-      pub rewritten : (n : ℕ) (new : D) (m : Meta) (wrote : Bool) (freed : List ℕ) → freed ≡ freed_by size blocks x.at.file.places → Tells g mid p.meta n wrote new m → m.current ≡ next → IsMeta m → Backs g new m → StoresOrKeeps g mid new p.meta n
+      pub rewritten : (n : ℕ) (new : D) (m : Meta) (wrote : Bool) → Tells g mid p.meta n wrote new m → m.current ≡ after_all records p.meta.current → IsMeta m → Backs g new m → StoresOrKeeps g mid new p.meta n
           → IsDone g p n held_next (after_event p new m wrote (set p.bodies (k.ino - 1) changed) (unmarked freed (marked places p.space.current)) (marked places p.space.current) true)
-      rewritten n new m wrote freed freed_are tells current lawful backs turns =
-          let touched_are = blocks-mapped blocks places long ∙ x.touched in
+      rewritten n new m wrote tells taken lawful backs turns =
+          let current = taken ∙ become records staged.rewriting in
+          let touched_are = blocks-mapped blocks places long in
           let has_marks = each-weaker (λ b. get_or p.space.current b false ≡ true) (λ b. get_or (marked places p.space.current) b false ≡ true) (λ b. marked_keeps places p.space.current b) (blocks_of p.meta.current.files) (rw x.live.marks (marks_there p.meta.current x.lawful.current)) in
           let it =
           done g (record p { disk = mid }) x.lawful written_live n new m _ (unmarked freed (marked places p.space.current)) (marked places p.space.current) true backs held_next
           (ap (held_with (set p.bodies (k.ino - 1) changed)) current ∙ held_with-rewritten p.bodies p.meta x.files k x.at change size ms refl touched_are)
-          (λ c gives. ap (held_at (blocks_in_image p.meta.durable.geometry c)) current ∙ holds_next c gives) (marks freed freed_are ∙ ap marks_of (sym current)) has_marks wrote tells lawful turns
+          (λ c gives. ap (held_at (blocks_in_image p.meta.durable.geometry c)) current ∙ holds_next c gives) (marks freed (staged.frees x.at.file x.at.found) ∙ ap marks_of (sym current)) has_marks wrote tells lawful turns
           (IsHeldFiles-rewritten p.bodies p.meta x.files k x.at change size ms refl touched_are m current lawful.current) (λ idle. absurd cc) in
           record { files = it.files; sound = it.sound; held = it.held; proceeds = joined n _ it.proceeds }
-
--- ---- how much a file has changed it
-
-pub size-few : (change : Rewrite) (n : ℕ) → IsRewrite change → n ≤ 16777216 → size_after (effect_of change) n ≤ 16777216
-size-few (Write offset bytes) n may few = let end = may.1 in omega arith
-size-few (Resize to) n may few = may

@@ -1,34 +1,15 @@
 -- Files after a record, and after a change of the bytes of one, however bytes are found, and with their bodies in memory.
-use Rattle.std.proofs.Common.{◌≡◌, ℕ, List, [], length, map, Some, refl, ◌∙◌, sym, ap, subst, ◌+◌, ◌-◌, ◌≤◌, ◌∷◌, get_or, set, true, false, cond, Option, eqb, arith, length-set, get_or-set_same, get_or-set_other, IsSome, option_map}
-use Rattle.std.specs.List.{AllByRecursion}
-use Rattle.hsm_types.specs.declared.keys.FileKey.{FileKey}
+use Rattle.file_store.proofs.Names.{◌≡◌, ℕ, List, [], length, map, Some, refl, ◌∙◌, sym, ap, subst, ◌+◌, ◌-◌, ◌≤◌, ◌∷◌, get_or, set, true, false, cond, Option, eqb, arith, length-set, get_or-set_same, get_or-set_other, IsSome, option_map, AllByRecursion, FileKey, find_key, change_key, put_key, drop_key, same_key, rebody, touched, size_after, mapped_after, FileState, new_file, remade, affected_held, file_or_new, bytes_of, Mapping, Record, Make, Drop, Size, Map, CatalogFile, Catalog, IsCatalog, geometry_of, names_of, file_after, with_file, with_changed, inode_of, key_on, after, CanStand, each-put, each-drop, each-change, names_of-drop, Rewrite, Write, Resize, file_by, bytes_at, bytes_with, held_at, held_with, IsBodiless, effect_in, held_after, empties, effect_of, remapped, eqb-true, eqb-false, ne_eqb, and_parts, Meta, each-found, key-found}
 use Rattle.hsm_types.specs.Kept.{Kept}
-use Rattle.plain_model.specs.Keyed.{find_key, change_key, put_key, drop_key, same_key}
-use Rattle.plain_model.specs.Plain.{rebody}
-use Rattle.plain_model.specs.Blocks.{touched, size_after, mapped_after}
-use Rattle.plain_model.specs.State.{FileState, new_file, remade, affected_held, file_or_new, bytes_of}
-use Rattle.meta_store.specs.declared.snapshot.Mapping.{Mapping}
-use Rattle.meta_store.specs.declared.records.Record.{Record}
-use Rattle.meta_store.specs.declared.records.Record.TheVariants.{Make, Drop, Size, Map}
-use Rattle.meta_store.specs.Catalogs.{CatalogFile, Catalog, IsCatalog, geometry_of, names_of}
-use Rattle.meta_store.specs.Records.{file_after, with_file, with_changed, inode_of, key_on, after, CanStand}
-use Rattle.meta_store.proofs.FileEdits.{each-put, each-drop, each-change, names_of-drop}
 use Rattle.meta_store.proofs.KeptCatalogs.{empty_file}
-use Rattle.file_store.specs.declared.rewrites.Rewrite.{Rewrite}
-use Rattle.file_store.specs.declared.rewrites.Rewrite.TheVariants.{Write, Resize}
-use Rattle.file_store.specs.Bodies.{file_by, held_by, body_at, bytes_at, bytes_with, held_at, held_with}
-use Rattle.file_store.specs.Effects.{IsBodiless, effect_in, held_after, empties}
-use Rattle.file_store.specs.Rewrites.{effect_of, remapped}
+use Rattle.file_store.specs.Bodies.{held_by, body_at}
 use Rattle.file_store.proofs.EachOf.{each-all, each-both, each-weaker}
 use Rattle.file_store.proofs.FilesBy.{SameBytes, same_held, by-put, by-drop, by-change, find-held, live-by}
 use Rattle.file_store.proofs.ByteChanges.{flags-mapped, length-changed}
 use Rattle.file_store.proofs.Marks.{geometry-after}
-use Rattle.std.proofs.lemmas.Bool.{eqb-true, eqb-false, ne_eqb, and_parts}
 use Rattle.inode_table.specs.Listing.{has_inode, Ascend, Within}
 use Rattle.inode_table.proofs.Choices.{neither}
 use Rattle.inode_table.proofs.Orders.{absent-low, ascend-drop}
-use Rattle.meta_store.specs.Meta.{Meta}
-use Rattle.meta_store.proofs.FoundFiles.{each-found, key-found}
 use Rattle.file_store.specs.HeldFiles.{IsHeldFiles}
 
 -- where bytes don't go by what is kept beside them

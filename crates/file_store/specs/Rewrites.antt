@@ -1,8 +1,9 @@
 -- Changes of the bytes of a file, and the records that they are.
-use Rattle.std.specs.Prelude.{◌≡◌, ℕ, ◌+◌, ◌≤◌, List, [], ◌∷◌, ◌++◌, length, map, drop, get_or, Option, None}
+use Rattle.std.specs.Prelude.{◌≡◌, ℕ, ◌+◌, ◌-◌, ◌≤◌, List, [], ◌∷◌, ◌++◌, length, map, take, drop, replicate, get_or, Option, None}
 use Rattle.std.specs.List.{flat_map, AllByRecursion}
 use Rattle.plain_model.specs.Effects.{Effect, Writes, Resizes}
-use Rattle.plain_model.specs.Blocks.{blocks_in}
+use Rattle.plain_model.specs.Blocks.{blocks_in, touched, size_after}
+use Rattle.block_space.specs.Space.{Space, free}
 use Rattle.meta_store.specs.declared.snapshot.Mapping.{Mapping}
 use Rattle.meta_store.specs.declared.records.Record.{Record}
 use Rattle.meta_store.specs.declared.records.Record.TheVariants.{Size, Map}
@@ -19,6 +20,21 @@ effect_of (Resize size) = Resizes size
 abbrev pub IsRewrite : Rewrite → Type 0
 IsRewrite (Write offset bytes) = (1 ≤ length bytes.now) × (offset + length bytes.now ≤ 16777216)
 IsRewrite (Resize size) = size ≤ 16777216
+
+-- of a body: its size after the change, and the blocks that the change touches
+abbrev pub new_size : Rewrite → List ℕ → ℕ
+new_size change body = size_after (effect_of change) (length body)
+
+abbrev pub touched_of : Rewrite → List ℕ → List ℕ
+touched_of change body = touched (effect_of change) (length body)
+
+-- zeros behind the body, up to that size
+abbrev pub grown : ℕ → List ℕ → List ℕ
+grown size body = body ++ replicate (size - length body) 0
+
+-- the lowest free places for the blocks that it touches
+abbrev pub places_for : Rewrite → List ℕ → Space → List ℕ
+places_for change body space = take (length (touched_of change body)) (free space)
 
 -- ---- records
 

@@ -1,12 +1,20 @@
 -- What writes of data blocks do to images.
-use Rattle.std.specs.Prelude.{◌≡◌, ℕ, ◌+◌, ◌*◌, List, length, map}
+use Rattle.std.specs.Prelude.{◌≡◌, ℕ, ◌+◌, ◌*◌, List, length, map, Some}
 use Rattle.std.specs.List.{AllByRecursion}
 use Rattle.disk_model.specs.declared.device.Disk as disk
-use Rattle.disk_model.specs.Images.{part, Alike}
+use Rattle.disk_model.specs.Images.{part, Alike, Follows}
 use Rattle.disk_model.specs.Moments.{Keeps, Same}
-use Rattle.commit_slots.specs.Places.{IsApart}
+use Rattle.commit_slots.specs.Places.{IsApart, layout_of}
+use Rattle.hsm_types.specs.declared.keys.FileKey.{FileKey}
+use Rattle.plain_model.specs.Keyed.{find_key}
+use Rattle.plain_model.specs.Plain.{rebody}
+use Rattle.block_space.specs.Space.{Space}
+use Rattle.meta_store.specs.declared.records.Record.{Record}
+use Rattle.meta_store.specs.Catalogs.{CatalogFile, Catalog}
 use Rattle.meta_store.specs.declared.snapshot.Mapping.{Mapping}
 use Rattle.file_store.specs.Bodies.{block_of}
+use Rattle.file_store.specs.declared.rewrites.Rewrite.{Rewrite}
+use Rattle.file_store.specs.Rewrites.{effect_of, new_size, touched_of, places_for, mappings_of, IsRewriting, freed_by}
 
 -- what reads leave: no image has changed
 abbrev pub OnlyReads : {D : Type 0} → disk.Ghosts D → D → D → Type 0
@@ -25,3 +33,9 @@ pub record IsBesideBlocks (base : ℕ) (places : List ℕ) (old new : List ℕ) 
 pub record HasBlocks (base : ℕ) (body : List ℕ) (mappings : List Mapping) (old new : List ℕ) : Type 0 where
   pub beside : IsBesideBlocks base (places_of mappings) old new
   pub there : AllByRecursion (λ m. part new (base + 4096 * m.place) 4096 ≡ block_of body m.block) mappings
+
+-- The blocks of a change of a file's bytes lie at the lowest free places: what its records are, what they free, and what reads give.
+pub record IsStaged {D : Type 0} (g : disk.Ghosts D) (old new : D) (c : Catalog) (k : FileKey) (change : Rewrite) (body : List ℕ) (space : Space) (records : List Record) (freed : List ℕ) : Type 0 where
+  pub rewriting : IsRewriting k.ino (new_size change body) (mappings_of (touched_of change body) (places_for change body space)) records
+  pub frees : (f : CatalogFile) → find_key (λ f. f.key) k c.files ≡ Some f → freed ≡ freed_by (new_size change body) (touched_of change body) f.places
+  pub written : Follows (HasBlocks (layout_of c.geometry).blocks (rebody (effect_of change) body) (mappings_of (touched_of change body) (places_for change body space))) (g.gives old) (g.gives new)

@@ -1,14 +1,19 @@
 //! The two ways of an event: records that concern no bytes, and bytes with their records. Each takes the records by one call.
-ghost use Rattle.std.specs.Prelude.{◌≡◌, ◌+◌, ◌-◌, ◌≤◌, ◌<◌, ◌^◌, true, false, if◌then◌else◌, None, Some, Err, [], length, take, slice_set, IfOk, OnOk, OnErr, IsErrOf, IsSome};
+ghost use Rattle.std.specs.Prelude.{◌≡◌, ◌+◌, ◌-◌, ◌*◌, ◌≤◌, ◌<◌, ◌^◌, true, false, if◌then◌else◌, None, Some, Err, [], length, take, slice_set, IfOk, OnOk, OnErr, IsErrOf, IsSome};
+ghost use Rattle.std.specs.List.{AllByRecursion};
 ghost use Rattle.disk_model.specs.Calls.{Rose};
+ghost use Rattle.disk_model.specs.Moments.{Keeps};
+ghost use Rattle.commit_slots.specs.Places.{layout_of};
 ghost use Rattle.hsm_types.specs.declared.dm.DmRefusal.{DmRefusal};
 ghost use Rattle.plain_model.specs.Keyed.{find_key};
+ghost use Rattle.plain_model.specs.Plain.{resized};
 ghost use Rattle.plain_model.specs.Blocks.{touched};
 ghost use Rattle.plain_model.specs.State.{bytes_of, affected_held, used};
 ghost use Rattle.block_space.specs.Space.{marked, free};
 ghost use Rattle.meta_store.specs.Catalogs.{geometry_of};
 ghost use Rattle.meta_store.specs.Records.{CanStand, refusal_of};
-ghost use Rattle.file_store.specs.Rewrites.{effect_of, IsRewrite};
+ghost use Rattle.file_store.specs.Rewrites.{effect_of, IsRewrite, new_size, touched_of, grown, places_for};
+ghost use Rattle.file_store.specs.Steps.{IsBesideBlocks, IsStaged};
 ghost use Rattle.file_store.specs.Stores.{Store, Proceeds};
 ghost use Rattle.file_store.specs.Effects.{IsBodiless, IsFreed, held_after, drops, empties};
 
@@ -23,7 +28,7 @@ use commit_slots::Layout;
 use disk_model::Disk;
 use file_body::Body;
 use hsm_types::FileKey;
-use meta_store::{Catalog, MetaRefusal, Record};
+use meta_store::{Catalog, MetaRefusal, Record, Records};
 use std::alloc::{AllocError, Global};
 use std::snapshot::Snapshot;
 
@@ -152,37 +157,99 @@ impl<D: Disk> FileStore<D> {
         }
         let body = &mut self.bodies[slot(key.ino)];
         let old = body.len();
-        let touched = change.touched(old);
-        let blocks = take(alloc, &mut self.space, touched.count())?;
-        let places = blocks.as_slice();
         let catalog = self.meta.catalog();
-        let Ok(plan) = plans::prepare(alloc, catalog, body, key, change, &touched, places) else {
-            self.space.release_all(places);
-            return Err(StoreRefusal::Memory);
+        let (disk, space) = (&mut self.disk, &mut self.space);
+        let staged = match stage(alloc, disk, catalog, space, body, key, change) {
+            Ok(staged) => staged,
+            Err(refusal) => {
+                self.failed = refusal == MetaRefusal::Disk;
+                return Err(StoreRefusal::from(refusal));
+            }
         };
-        let Plan { records, freed } = plan;
-        let base = Layout::of_geometry(catalog.geometry()).blocks;
-        let Ok(()) = put_blocks(&mut self.disk, base, body, change, &touched, places) else {
-            body.resize(alloc, old).unwrap();
-            self.failed = true;
-            return Err(StoreRefusal::Disk);
-        };
+        let Staged {
+            places,
+            records,
+            freed,
+        } = staged;
         match self.meta.apply(alloc, &mut self.disk, records, number) {
             Ok(wrote) => {
-                change.apply(alloc, body).unwrap();
+                change.apply(alloc, body);
                 make_durable(wrote, before, &mut self.durable, &mut self.space);
                 self.space.release_all(&freed);
                 self.pending = true;
                 Ok(())
             }
             Err(refusal) => {
-                body.resize(alloc, old).unwrap();
-                self.space.release_all(places);
+                cut(alloc, body, old);
+                self.space.release_all(places.as_slice());
                 self.failed = refusal == MetaRefusal::Disk;
                 Err(StoreRefusal::from(refusal))
             }
         }
     }
+}
+
+/// A change of a file's bytes whose blocks are written: their places, the records to be taken, and the blocks that are free then.
+#[derive(Drop)]
+struct Staged {
+    places: Blocks,
+    records: Records,
+    freed: Vec<u32>,
+}
+
+/// Writes the blocks that a change touches to the lowest free places, and lengthens the body by zeros to the new size.
+fn stage<D: Disk>(
+    alloc: Global,
+    disk: &mut D,
+    catalog: &Catalog,
+    space: &mut BlockSpace,
+    body: &mut Body,
+    key: FileKey,
+    change: Rewrite<'_>,
+) -> Result<Staged, MetaRefusal>
+    requires live { IsSome (find_key (λ f. f.key) key catalog.now.files) }
+    requires lawful { IsRewrite change }
+    requires few { length (touched_of change body.old) < 2 ^ 32 }
+    requires enough { length (touched_of change body.old) ≤ length (free space.old) }
+    requires fits { AllByRecursion (λ p. (layout_of catalog.now.geometry).blocks + 4096 * p + 4096 ≤ D.length_of disk.old) (places_for change body.old space.old) }
+    ensures any_moment { Keeps D.Disk disk.old disk.new (IsBesideBlocks (layout_of catalog.now.geometry).blocks (places_for change.entry body.old space.old)) }
+    ensures staged { IfOk result (λ s. IsStaged D.Disk disk.old disk.new catalog.now key change.entry body.old space.old s.records s.freed.items) }
+    ensures places { IfOk result (λ s. s.places ≡ places_for change.entry body.old space.old) }
+    ensures marked { OnOk result (space.new ≡ record space.old { current = marked (places_for change.entry body.old space.old) space.old.current }) }
+    ensures grown { OnOk result (body.new ≡ grown (new_size change.entry body.old) body.old) }
+    ensures err { OnErr result (body.new ≡ body.old) }
+    ensures memory { IsErrOf result MetaRefusal.Memory → (space.new ≡ space.old) × (disk.new ≡ disk.old) }
+    ensures failed { IsErrOf result MetaRefusal.Disk → Rose (D.fault_count disk.old) (D.fault_count disk.new) }
+    ensures no_part { (why : DmRefusal) → IsErrOf result (MetaRefusal.Part why) → ⊥ }
+{
+    let old = body.len();
+    let touched = change.touched(old);
+    let blocks = take(alloc, space, touched.count())?;
+    let places = blocks.as_slice();
+    let Ok(plan) = plans::prepare(alloc, catalog, body, key, change, &touched, places) else {
+        space.release_all(places);
+        return Err(MetaRefusal::Memory);
+    };
+    let base = Layout::of_geometry(catalog.geometry()).blocks;
+    let Ok(()) = put_blocks(disk, base, body, change, &touched, places) else {
+        cut(alloc, body, old);
+        return Err(MetaRefusal::Disk);
+    };
+    let Plan { records, freed } = plan;
+    Ok(Staged {
+        places: blocks,
+        records,
+        freed,
+    })
+}
+
+/// Takes away what lies behind that size.
+fn cut(alloc: Global, body: &mut Body, size: u64)
+    requires within { size ≤ length body.old }
+    requires file { size ≤ 16777216 }
+    ensures { body.new ≡ resized size body.old }
+{
+    body.resize(alloc, size).unwrap();
 }
 
 /// Takes the lowest blocks that are free.

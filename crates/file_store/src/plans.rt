@@ -5,7 +5,7 @@ ghost use Rattle.plain_model.specs.Blocks.{touched, size_after};
 ghost use Rattle.meta_store.specs.declared.snapshot.Mapping.{Mapping};
 ghost use Rattle.meta_store.specs.Catalogs.{CatalogFile, present};
 ghost use Rattle.meta_store.specs.Records.{IsEvent, mappings_from};
-ghost use Rattle.file_store.specs.Rewrites.{effect_of, IsRewrite, IsRewriting, mappings_of, freed_by};
+ghost use Rattle.file_store.specs.Rewrites.{IsRewrite, IsRewriting, new_size, grown, mappings_of, freed_by};
 
 use crate::rewrites::Rewrite;
 use crate::spaces::put_present;
@@ -35,9 +35,9 @@ pub(crate) fn prepare(
     requires live { IsSome (find_key (λ f. f.key) key catalog.now.files) }
     requires lawful { IsRewrite change }
     requires count { length places.now ≡ length touched.now }
-    ensures records { IfOk result (λ p. IsRewriting key.ino (size_after (effect_of change.entry) (length body.old)) (mappings_of touched.now places.now) p.records) }
-    ensures freed { IfOk result (λ p. (f : CatalogFile) → find_key (λ f. f.key) key catalog.now.files ≡ Some f → p.freed.items ≡ freed_by (size_after (effect_of change.entry) (length body.old)) touched.now f.places) }
-    ensures grown { OnOk result (body.new ≡ body.old ++ replicate (size_after (effect_of change.entry) (length body.old) - length body.old) 0) }
+    ensures records { IfOk result (λ p. IsRewriting key.ino (new_size change.entry body.old) (mappings_of touched.now places.now) p.records) }
+    ensures freed { IfOk result (λ p. (f : CatalogFile) → find_key (λ f. f.key) key catalog.now.files ≡ Some f → p.freed.items ≡ freed_by (new_size change.entry body.old) touched.now f.places) }
+    ensures grown { OnOk result (body.new ≡ grown (new_size change.entry body.old) body.old) }
     ensures err { OnErr result (body.new ≡ body.old) }
 {
     let old = body.len();

@@ -56,15 +56,15 @@ impl Rewrite<'_> {
         }
     }
 
-    /// Makes it of a body. It can't fail where the body doesn't become longer.
-    pub(crate) fn apply(self, alloc: Global, body: &mut Body) -> Result<(), AllocError>
-        requires { IsRewrite self }
-        ensures ok { OnOk result (body.new ≡ rebody (effect_of self.entry) body.old) }
-        ensures in_place { size_after (effect_of self.entry) (length body.old) ≤ length body.old → IsOk result }
+    /// Makes it of a body that doesn't become longer by it.
+    pub(crate) fn apply(self, alloc: Global, body: &mut Body)
+        requires lawful { IsRewrite self }
+        requires in_place { size_after (effect_of self) (length body.old) ≤ length body.old }
+        ensures { body.new ≡ rebody (effect_of self.entry) body.old }
     {
         match self {
-            Rewrite::Write { offset, bytes } => body.write(alloc, offset, bytes),
-            Rewrite::Resize { size } => body.resize(alloc, size),
+            Rewrite::Write { offset, bytes } => body.write(alloc, offset, bytes).unwrap(),
+            Rewrite::Resize { size } => body.resize(alloc, size).unwrap(),
         }
     }
 }

@@ -1,9 +1,7 @@
-use Rattle.std.proofs.Common.{◌≡◌, ℕ, List, refl}
-use Rattle.plain_model.specs.State.{nothing_held}
-use Rattle.meta_store.specs.Images.{blocks_in_image}
+use Rattle.file_store.proofs.Names.{◌≡◌, ℕ, List, refl, nothing_held, blocks_in_image, held_at}
 use Rattle.meta_store.specs.Laws.{no_files}
 use Rattle.meta_store.proofs.FormattedStores.{formatted-image}
-use Rattle.file_store.specs.Bodies.{held_at, held_by}
+use Rattle.file_store.specs.Bodies.{held_by}
 use Rattle.file_store.specs.Laws.{FormattedIsEmpty}
 use Rattle.file_store.proofs.laws.formatted_is_empty.Goals as goal
 

@@ -1,8 +1,5 @@
-use Rattle.std.proofs.Common.{◌≡◌, ℕ, List, refl, sym, ◌∙◌, ap}
-use Rattle.meta_store.specs.Catalogs.{Catalog}
-use Rattle.meta_store.specs.Images.{blocks_in_image}
+use Rattle.file_store.proofs.Names.{◌≡◌, ℕ, List, refl, sym, ◌∙◌, ap, Catalog, blocks_in_image, held_at}
 use Rattle.meta_store.proofs.FoundImages.{found-one}
-use Rattle.file_store.specs.Bodies.{held_at}
 use Rattle.file_store.specs.Laws.{RecoversOne}
 use Rattle.file_store.proofs.laws.one_recovery.Goals as goal
 

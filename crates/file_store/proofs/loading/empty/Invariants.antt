@@ -1,4 +1,4 @@
-use Rattle.std.proofs.Common.{◌≡◌, [], replicate}
+use Rattle.file_store.proofs.Names.{◌≡◌, [], replicate}
 use Rattle.file_store.proofs.loading.empty.Given as goal
 
 abbrev pub invariant-loop : goal.invariant-loop

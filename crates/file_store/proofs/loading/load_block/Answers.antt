@@ -1,7 +1,4 @@
-use Rattle.std.proofs.Common.{Result, Ok, Err, ◌≡◌, ◌+◌, ◌*◌, ℕ, List, length, ap, ◌∙◌, arith, OnOk}
-use Rattle.disk_model.specs.Images.{part}
-use Rattle.commit_slots.specs.Places.{layout_of}
-use Rattle.commit_slots.specs.declared.places.Layout.{Layout}
+use Rattle.file_store.proofs.Names.{Result, Ok, Err, ◌≡◌, ◌+◌, ◌*◌, ℕ, List, length, ap, ◌∙◌, arith, OnOk, part, layout_of, Layout}
 use Rattle.file_store.proofs.Beside.{block_fits}
 use Rattle.file_store.proofs.Loaded.{block_read}
 use Rattle.file_store.proofs.loading.load_block.Goals as goal

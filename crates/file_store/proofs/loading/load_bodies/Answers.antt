@@ -1,8 +1,4 @@
-use Rattle.std.proofs.Common.{◌≡◌, ◌-◌, ℕ, List, length, sym, ◌∙◌, subst, arith, length-set, take_all}
-use Rattle.std.specs.List.{AllByRecursion}
-use Rattle.meta_store.specs.Catalogs.{CatalogFile}
-use Rattle.meta_store.specs.Images.{blocks_in_image}
-use Rattle.file_store.specs.Bodies.{body_at, bytes_at, bytes_with}
+use Rattle.file_store.proofs.Names.{◌≡◌, ◌-◌, ℕ, List, length, sym, ◌∙◌, subst, arith, length-set, take_all, AllByRecursion, CatalogFile, blocks_in_image, body_at, bytes_at, bytes_with}
 use Rattle.file_store.proofs.Loaded.{reads_on, next-file, each-more, listed-count}
 use Rattle.file_store.proofs.FilesBy.{held-same}
 use Rattle.file_store.proofs.loading.load_bodies.Goals as goal

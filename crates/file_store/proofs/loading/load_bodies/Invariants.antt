@@ -1,9 +1,4 @@
-use Rattle.std.proofs.Common.{◌≡◌, ℕ, List, length, take}
-use Rattle.std.specs.List.{AllByRecursion}
-use Rattle.meta_store.specs.Catalogs.{geometry_of}
-use Rattle.meta_store.specs.Images.{blocks_in_image}
-use Rattle.file_store.specs.Bodies.{bytes_at, bytes_with, AreBodies}
-use Rattle.file_store.specs.Steps.{OnlyReads}
+use Rattle.file_store.proofs.Names.{◌≡◌, ℕ, List, length, take, AllByRecursion, geometry_of, blocks_in_image, bytes_at, bytes_with, AreBodies, OnlyReads}
 use Rattle.file_store.proofs.loading.load_bodies.Given as goal
 
 abbrev pub invariant-loop-index : goal.invariant-loop-index

@@ -1,11 +1,5 @@
-use Rattle.std.proofs.Common.{◌≡◌, ◌<◌, ℕ, List, [], length, refl, ◌∙◌, ap, subst, arith, take_all, Option}
-use Rattle.disk_model.specs.Moments.{Same}
-use Rattle.disk_model.proofs.Steps.{idle}
+use Rattle.file_store.proofs.Names.{◌≡◌, ◌<◌, ℕ, List, [], length, refl, ◌∙◌, ap, subst, arith, take_all, Option, Same, idle, resized, layout_of, geometry_of, blocks_in_image}
 use Rattle.file_body.proofs.Sizes.{length-resized}
-use Rattle.plain_model.specs.Plain.{resized}
-use Rattle.commit_slots.specs.Places.{layout_of}
-use Rattle.meta_store.specs.Catalogs.{geometry_of}
-use Rattle.meta_store.specs.Images.{blocks_in_image}
 use Rattle.file_store.proofs.Beside.{length-block}
 use Rattle.file_store.proofs.ByBlocks.{HasBytes}
 use Rattle.file_store.proofs.Loaded.{reads_on, present-at, no_bytes, hole-more, block-more, all-filled}

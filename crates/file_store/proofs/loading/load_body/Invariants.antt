@@ -1,6 +1,4 @@
-use Rattle.std.proofs.Common.{◌≡◌, ◌*◌, ℕ, List, length, take}
-use Rattle.meta_store.specs.Images.{blocks_in_image}
-use Rattle.file_store.specs.Steps.{OnlyReads}
+use Rattle.file_store.proofs.Names.{◌≡◌, ◌*◌, ℕ, List, length, take, blocks_in_image, OnlyReads}
 use Rattle.file_store.proofs.ByBlocks.{HasBytes}
 use Rattle.file_store.proofs.loading.load_body.Given as goal
 

@@ -1,4 +1,4 @@
-use Rattle.std.proofs.Common.{ap, Err}
+use Rattle.file_store.proofs.Names.{ap, Err}
 use Rattle.disk_model.specs.declared.refusal.OpenRefusal.{OpenRefusal}
 use Rattle.file_store.proofs.Durable.{backs_same}
 use Rattle.file_store.proofs.Loaded.{reads_on}

@@ -1,6 +1,4 @@
-use Rattle.std.proofs.Common.{List, [], subst, arith}
-use Rattle.meta_store.specs.declared.snapshot.Mapping.{Mapping}
-use Rattle.file_store.specs.Rewrites.{IsRewriting}
+use Rattle.file_store.proofs.Names.{List, [], subst, arith, Mapping, IsRewriting}
 use Rattle.file_store.proofs.RewriteRecords.{run-within, mappings-runs, size_first}
 use Rattle.file_store.proofs.plans.records_of.Goals as goal
 

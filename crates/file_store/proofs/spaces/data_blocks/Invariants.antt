@@ -1,5 +1,4 @@
-use Rattle.std.proofs.Common.{◌≡◌, ◌++◌, drop}
-use Rattle.meta_store.specs.Catalogs.{blocks_of}
+use Rattle.file_store.proofs.Names.{◌≡◌, ◌++◌, drop, blocks_of}
 use Rattle.file_store.proofs.spaces.data_blocks.Given as goal
 
 abbrev pub invariant-loop-index : goal.invariant-loop-index

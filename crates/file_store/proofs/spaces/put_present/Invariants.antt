@@ -1,5 +1,4 @@
-use Rattle.std.proofs.Common.{◌≡◌, ◌++◌, drop}
-use Rattle.meta_store.specs.Catalogs.{present}
+use Rattle.file_store.proofs.Names.{◌≡◌, ◌++◌, drop, present}
 use Rattle.file_store.proofs.spaces.put_present.Given as goal
 
 abbrev pub invariant-loop-place : goal.invariant-loop-place

@@ -1,7 +1,4 @@
-use Rattle.std.proofs.Common.{◌<◌}
-use Rattle.std.proofs.lemmas.List.Elements.{All-from_recursion}
-use Rattle.meta_store.specs.Catalogs.{geometry_of, blocks_of}
-use Rattle.meta_store.proofs.SnapshotFits.{blocks-within}
+use Rattle.file_store.proofs.Names.{◌<◌, All-from_recursion, geometry_of, blocks_of, blocks-within}
 use Rattle.file_store.proofs.spaces.space_of.Goals as goal
 
 pub new-requires : goal.new-requires

@@ -1,14 +1,5 @@
-use Rattle.std.proofs.Common.{◌≡◌, ◌+◌, ◌*◌, ◌<◌, ◌≤◌, ◌++◌, ◌∷◌, [], ℕ, List, length, get_or, take, ◌∙◌, ap, subst, arith, take_all}
-use Rattle.std.proofs.lemmas.List.{take_more}
-use Rattle.disk_model.specs.Images.{IsFreed, IsWritten}
-use Rattle.disk_model.specs.Moments.{Keeps}
-use Rattle.disk_model.proofs.Steps.{keeps_on, kept_by, given_on}
+use Rattle.file_store.proofs.Names.{◌≡◌, ◌+◌, ◌*◌, ◌<◌, ◌≤◌, ◌++◌, ◌∷◌, [], ℕ, List, length, get_or, take, ◌∙◌, ap, subst, arith, take_all, take_more, IsFreed, IsWritten, Keeps, keeps_on, kept_by, given_on, rebody, Mapping, block_of, effect_of, mappings_of, IsBesideBlocks, HasBlocks}
 use Rattle.file_body.proofs.Pieces.{length-block_of}
-use Rattle.plain_model.specs.Plain.{rebody}
-use Rattle.meta_store.specs.declared.snapshot.Mapping.{Mapping}
-use Rattle.file_store.specs.Bodies.{block_of}
-use Rattle.file_store.specs.Rewrites.{effect_of, mappings_of}
-use Rattle.file_store.specs.Steps.{IsBesideBlocks, HasBlocks}
 use Rattle.file_store.proofs.EachOf.{each-at}
 use Rattle.file_store.proofs.Beside.{before, mapping_at, places-mapped, length-mapped, beside_freed, has_more}
 use Rattle.file_store.proofs.writing.put_blocks.Given.{Over}

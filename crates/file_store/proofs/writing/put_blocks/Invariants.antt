@@ -1,9 +1,4 @@
-use Rattle.std.proofs.Common.{take}
-use Rattle.disk_model.specs.Images.{Follows}
-use Rattle.disk_model.specs.Moments.{Keeps}
-use Rattle.plain_model.specs.Plain.{rebody}
-use Rattle.file_store.specs.Rewrites.{effect_of, mappings_of}
-use Rattle.file_store.specs.Steps.{IsBesideBlocks, HasBlocks}
+use Rattle.file_store.proofs.Names.{take, Follows, Keeps, rebody, effect_of, mappings_of, IsBesideBlocks, HasBlocks}
 use Rattle.file_store.proofs.writing.put_blocks.Given as goal
 
 abbrev pub invariant-loop-i : goal.invariant-loop-i

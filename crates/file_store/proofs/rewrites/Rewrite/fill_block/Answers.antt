@@ -1,4 +1,4 @@
-use Rattle.std.proofs.Common.{◌∙◌, sym}
+use Rattle.file_store.proofs.Names.{◌∙◌, sym}
 use Rattle.file_body.proofs.ChangedBlocks.{resized-block}
 use Rattle.file_store.proofs.rewrites.Rewrite.fill_block.Goals as goal
 

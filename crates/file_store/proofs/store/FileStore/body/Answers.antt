@@ -1,5 +1,4 @@
-use Rattle.std.proofs.Common.{◌-◌, [], refl, arith}
-use Rattle.std.proofs.lemmas.List.{get_or_read}
+use Rattle.file_store.proofs.Names.{◌-◌, [], refl, arith, get_or_read}
 use Rattle.file_store.proofs.WithBodies.{live-held, body-held}
 use Rattle.file_store.proofs.store.FileStore.body.Goals as goal
 

@@ -1,6 +1,4 @@
-use Rattle.std.proofs.Common.{◌≡◌, ℕ, false, List, subst}
-use Rattle.disk_model.specs.Moments.{MayBe}
-use Rattle.file_store.specs.Stores.{Store, IsDurable}
+use Rattle.file_store.proofs.Names.{◌≡◌, ℕ, false, List, subst, MayBe, Store, IsDurable}
 use Rattle.file_store.proofs.Durable.{durable_found}
 use Rattle.file_store.proofs.store.FileStore.close.Goals as goal
 

@@ -1,5 +1,4 @@
-use Rattle.std.proofs.Common.{◌≡◌, ℕ, false, subst}
-use Rattle.file_store.specs.Stores.{Store, Proceeds}
+use Rattle.file_store.proofs.Names.{◌≡◌, ℕ, false, subst, Store, Proceeds}
 use Rattle.file_store.proofs.Durable.{sound_idle}
 use Rattle.file_store.proofs.store.FileStore.has_failed.Goals as goal
 

@@ -1,5 +1,4 @@
-use Rattle.std.proofs.Common.{refl}
-use Rattle.file_store.specs.Bodies.{bytes_with}
+use Rattle.file_store.proofs.Names.{refl, bytes_with}
 use Rattle.file_store.proofs.FilesBy.{kept-held, others-held, key_on-live}
 use Rattle.file_store.proofs.WithBodies.{live-held}
 use Rattle.file_store.proofs.store.FileStore.inode.Goals as goal

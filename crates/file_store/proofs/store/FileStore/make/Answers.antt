@@ -1,10 +1,5 @@
-use Rattle.std.proofs.Common.{◌≡◌, ◌<◌, ◌^◌, refl, ◌∙◌, ap, subst, arith}
-use Rattle.meta_store.specs.Catalogs.{geometry_of}
-use Rattle.hsm_types.specs.declared.keys.FileKey.{FileKey}
+use Rattle.file_store.proofs.Names.{◌≡◌, ◌<◌, ◌^◌, refl, ◌∙◌, ap, subst, arith, geometry_of, FileKey, next_held, Store, bytes_with}
 use Rattle.inode_table.specs.Table.{next_key}
-use Rattle.plain_model.specs.State.{next_key as next_held}
-use Rattle.file_store.specs.Stores.{Store}
-use Rattle.file_store.specs.Bodies.{bytes_with}
 use Rattle.file_store.proofs.FilesBy.{key_next, next-listed, next-key_held, new-file, held-made}
 use Rattle.file_store.proofs.store.FileStore.make.Given.{Over}
 use Rattle.file_store.proofs.store.FileStore.make.Goals.{After-next_key-key}

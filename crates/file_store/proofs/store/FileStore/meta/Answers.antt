@@ -1,4 +1,4 @@
-use Rattle.file_store.specs.Bodies.{bytes_with}
+use Rattle.file_store.proofs.Names.{bytes_with}
 use Rattle.file_store.proofs.FilesBy.{held_lawful, shows}
 use Rattle.file_store.proofs.store.FileStore.meta.Goals as goal
 

@@ -1,7 +1,4 @@
-use Rattle.std.proofs.Common.{ℕ, refl, ◌∙◌, subst}
-use Rattle.meta_store.specs.Catalogs.{geometry_of}
-use Rattle.file_store.specs.Bodies.{bytes_with, held_with}
-use Rattle.file_store.specs.Stores.{IsLawful}
+use Rattle.file_store.proofs.Names.{ℕ, refl, ◌∙◌, subst, geometry_of, bytes_with, held_with, IsLawful}
 use Rattle.file_store.proofs.Durable.{opened_sound}
 use Rattle.file_store.proofs.FilesBy.{held_lawful}
 use Rattle.file_store.proofs.store.FileStore.open.Goals as goal

@@ -1,8 +1,4 @@
-use Rattle.std.proofs.Common.{rules, Err, ◌≡◌, ◌||◌, refl, sym, ◌∙◌, ap}
-use Rattle.block_space.specs.Space.{unmarked}
-use Rattle.meta_store.specs.Records.{after_all, refusal_of_all}
-use Rattle.file_store.specs.Bodies.{held_with}
-use Rattle.file_store.specs.Effects.{held_after, drops}
+use Rattle.file_store.proofs.Names.{rules, Err, ◌≡◌, ◌||◌, refl, sym, ◌∙◌, ap, unmarked, after_all, refusal_of_all, held_with, held_after, drops}
 use Rattle.file_store.proofs.Durable.{Parts, IsDone, after_event, kept_proceeds}
 use Rattle.file_store.proofs.StoreEvents.{freed_low, recorded, is_disk, refused_sound, refused_as_is, refusal_alone}
 use Rattle.file_store.proofs.WithBodies.{bodies_after, slot-there}

@@ -1,6 +1,4 @@
-use Rattle.std.proofs.Common.{true, false, refl, sym, ◌∙◌, ap, arith}
-use Rattle.file_store.specs.Bodies.{held_at, held_with}
-use Rattle.file_store.specs.Stores.{marks_of}
+use Rattle.file_store.proofs.Names.{true, false, refl, sym, ◌∙◌, ap, arith, held_at, held_with, marks_of}
 use Rattle.file_store.proofs.Durable.{Parts, IsDone, after_event, done, stored_meta, kept_proceeds}
 use Rattle.file_store.proofs.Marks.{marks_there}
 use Rattle.file_store.proofs.WithBodies.{same-files}
