@@ -1,5 +1,6 @@
 -- Blocks written to their places, one after the other, and what that leaves of what recovery finds, and of the other data blocks.
-use Rattle.file_store.proofs.Names.{◌≡◌, inl, inr, ⊎_elim, ℕ, ◌+◌, ◌*◌, ◌<◌, ◌≤◌, ◌^◌, ◌==◌, Bool, true, false, if◌then◌else◌, List, length, sym, ◌∙◌, ap, subst, arith, zero, suc, [], ◌∷◌, ◌++◌, map, get_or, take, refl, AllByRecursion, list_any, false≢true, false_from_ne_true, cases_lt, All-from_recursion, part, IsFreed, IsWritten, Keeps, All-has, Layout, small, large, IsApart, Catalog, blocks_of, IsCatalog, IsImage, Meta, Backs, held_at, block_of, IsBesideBlocks, places_of, HasBlocks, length-map, map-append, Mapping, mappings_of}
+use Rattle.std.proofs.lemmas.Bool.Decides.{nat_tests}
+use Rattle.file_store.proofs.Names.{◌≡◌, inl, inr, ⊎_elim, ℕ, ◌+◌, ◌*◌, ◌<◌, ◌≤◌, ◌^◌, ◌==◌, Bool, true, false, if◌then◌else◌, List, length, sym, ◌∙◌, ap, subst, arith, zero, suc, [], ◌∷◌, ◌++◌, map, get_or, take, refl, AllByRecursion, list_any, false≢true, false_from_ne_true, cases_lt, All-from_recursion, part, IsFreed, IsWritten, Keeps, All-has, Layout, small, large, IsApart, Catalog, blocks_of, IsCatalog, IsImage, Meta, Backs, held_at, block_of, IsBesideBlocks, places_of, HasBlocks, length-map, map-append, Mapping, mappings_of, Distinct, Ghosts}
 use Rattle.disk_model.proofs.Parts.{part_part, length-part}
 use Rattle.hsm_types.specs.declared.stores.Geometry.{Geometry}
 use Rattle.commit_slots.specs.Places.{layout_of}
@@ -9,8 +10,6 @@ use Rattle.meta_store.proofs.BesideBlocks.{IsSameBelow, slot_below, image_below}
 use Rattle.file_store.proofs.DataBlocks.{Stays, held-stays}
 use Rattle.file_store.proofs.EachOf.{each-all, each-weaker, each_other, each-at, each-both, each-join, each-mapped, each-parts}
 use Rattle.file_store.proofs.Marks.{NoneOf, used-within}
-use Rattle.plain_model.specs.Distinct.{Distinct}
-use Rattle.disk_model.specs.declared.device.Disk as disk
 
 -- ---- where the data blocks lie, and how many there are
 
@@ -19,19 +18,9 @@ pub record IsRoom (l : Layout) (blocks : ℕ) : Type 0 where
   pub fits : l.blocks + l.blocks_len ≤ l.whole
   pub short : l.whole ≤ 287318016
 
-abbrev few : Geometry
-few = record { files = 64; blocks = 1024; attributes = 32768 }
-
-abbrev many : Geometry
-many = record { files = 4096; blocks = 65536; attributes = 1048576 }
-
-room_by : (b : Bool) → IsRoom (if b then small else large) (if b then few else many).blocks
-room_by true = record { len = omega arith; fits = omega arith; short = omega arith }
-room_by false = record { len = omega arith; fits = omega arith; short = omega arith }
-
 pub room : (geometry : ℕ) → IsRoom (layout_of geometry) (geometry_of geometry).blocks
 unfolding layout_of geometry_of
-room geometry = room_by (geometry == 0)
+room geometry = record { len = grind (arith, nat_tests); fits = grind (arith, nat_tests); short = grind (arith, nat_tests) }
 
 -- a data block lies on the disk
 pub block_fits : (geometry place : ℕ) → place < (geometry_of geometry).blocks → ((layout_of geometry).blocks + 4096 * place + 4096 ≤ (layout_of geometry).whole) × ((layout_of geometry).whole ≤ 287318016)
@@ -80,7 +69,7 @@ module _ (geometry : ℕ) (places : List ℕ) (d c : List ℕ) (beside : IsBesid
   pub held_beside : (x : Catalog) → x.geometry ≡ geometry → IsCatalog x → NoneOf places (blocks_of x.files) → held_at (blocks_in_image geometry c) x ≡ held_at (blocks_in_image geometry d) x
   held_beside x same lawful none = held-stays (blocks_in_image geometry d) (blocks_in_image geometry c) x (used_stay x same lawful none)
 
-pub backs_beside : {D : Type 0} (g : disk.Ghosts D) (old new : D) (geometry : ℕ) (places : List ℕ) (m : Meta) → Keeps g old new (IsBesideBlocks (layout_of geometry).blocks places) → m.durable.geometry ≡ geometry → Backs g old m → Backs g new m
+pub backs_beside : {D : Type 0} (g : Ghosts D) (old new : D) (geometry : ℕ) (places : List ℕ) (m : Meta) → Keeps g old new (IsBesideBlocks (layout_of geometry).blocks places) → m.durable.geometry ≡ geometry → Backs g old m → Backs g new m
 backs_beside g old new geometry places m keeps same backs = record {
   length = keeps.moments.length ∙ backs.length;
   slot = λ c may. let p = keeps.now c may in slot_below geometry p.0 c (below geometry places p.0 c p.2) ∙ backs.slot p.0 p.1;
@@ -89,20 +78,15 @@ backs_beside g old new geometry places m keeps same backs = record {
 
 -- ---- lists of mappings
 
-mapped : (bs ps : List ℕ) → length ps ≡ length bs → (map (λ m. m.block) (mappings_of bs ps) ≡ bs) × (places_of (mappings_of bs ps) ≡ ps)
+-- their blocks, and their places
+pub mapped : (bs ps : List ℕ) → length ps ≡ length bs → (map (λ m. m.block) (mappings_of bs ps) ≡ bs) × (places_of (mappings_of bs ps) ≡ ps)
 mapped [] [] long = (refl, refl)
 mapped [] (p ∷ ps) long = absurd (omega arith)
 mapped (b ∷ bs) [] long = absurd (omega arith)
 mapped (b ∷ bs) (p ∷ ps) long = let rest = mapped bs ps (omega arith) in (ap (λ (xs : List ℕ). b ∷ xs) rest.0, ap (λ (xs : List ℕ). p ∷ xs) rest.1)
 
-pub blocks-mapped : (bs ps : List ℕ) → length ps ≡ length bs → map (λ m. m.block) (mappings_of bs ps) ≡ bs
-blocks-mapped bs ps long = (mapped bs ps long).0
-
-pub places-mapped : (bs ps : List ℕ) → length ps ≡ length bs → places_of (mappings_of bs ps) ≡ ps
-places-mapped bs ps long = (mapped bs ps long).1
-
 pub length-mapped : (bs ps : List ℕ) → length ps ≡ length bs → length (mappings_of bs ps) ≡ length bs
-length-mapped bs ps long = sym (length-map (mappings_of bs ps) (λ m. m.block)) ∙ ap length (blocks-mapped bs ps long)
+length-mapped bs ps long = sym (length-map (mappings_of bs ps) (λ m. m.block)) ∙ ap length (mapped bs ps long).0
 
 -- the block and the place that stand there
 pub mapping_at : (bs ps : List ℕ) (k : ℕ) (d : Mapping) → length ps ≡ length bs → k < length bs → get_or (mappings_of bs ps) k d ≡ record { block = get_or bs k 0; place = get_or ps k 0 }

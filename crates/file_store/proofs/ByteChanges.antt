@@ -1,16 +1,8 @@
 -- A change of the bytes of a file: of a body that was lengthened by zeros before it, and of the flags of the blocks that it touches.
-use Rattle.file_store.proofs.Names.{grown, new_size, rules, ◌≡◌, ℕ, ◌+◌, ◌-◌, ◌<◌, ◌≤◌, max, List, [], ◌++◌, length, ltb, refl, arith, length-append, replicate, zero, suc, ◌∷◌, map, take, set, false, eqb, ◌&&◌, Option, Some, None, ◌∙◌, ap, is_some, ◌/◌, ◌%◌, cond_both, ltb-true, and_parts, length-replicate, same_lists, places, map-append, map-set, take-map, length-map, written, resized, rebody, old_end, touched, size_after, from_on, blocks_in, met, with_mapped, fitted, mapped_after, Rewrite, Write, Resize, effect_of, AllByRecursion, Ascend, places_fitted, places_set, Mapping}
-use Rattle.file_body.proofs.Sizes.{length-written, length-resized}
-use Rattle.plain_model.specs.Effects.{Effect}
+use Rattle.file_store.proofs.Names.{grown, new_size, rules, ◌≡◌, ℕ, ◌+◌, ◌-◌, ◌<◌, ◌≤◌, max, List, [], ◌++◌, length, ltb, refl, arith, length-append, replicate, zero, suc, ◌∷◌, map, take, set, false, eqb, ◌&&◌, Option, Some, None, ◌∙◌, ap, is_some, ◌/◌, ◌%◌, cond_both, ltb-true, and_parts, length-replicate, same_lists, places, map-append, map-set, take-map, length-map, written, resized, rebody, old_end, touched, size_after, from_on, blocks_in, met, with_mapped, fitted, mapped_after, Rewrite, Write, Resize, effect_of, AllByRecursion, Ascend, places_fitted, places_set, Mapping, length-written, length-resized, Effect}
 
 pub length-grown : (size : ℕ) (body : List ℕ) → length (grown size body) ≡ max size (length body)
 length-grown size body = omega (arith, length-append body (replicate (size - length body) 0), length-replicate {A = ℕ} (size - length body) 0)
-
-written-grown : (size offset : ℕ) (bytes body : List ℕ) → size ≡ max (length body) (offset + length bytes) → written offset bytes (grown size body) ≡ written offset bytes body
-written-grown size offset bytes body is = same_lists _ _ (search (rules, places)) (λ i d h. grind (arith, places))
-
-resized-grown : (size : ℕ) (body : List ℕ) → resized size (grown size body) ≡ resized size body
-resized-grown size body = same_lists _ _ (search (rules, places)) (λ i d h. grind (arith, places))
 
 -- ---- what is left after a change
 
@@ -19,8 +11,8 @@ length-changed (Write offset bytes) body = length-written offset bytes.now body
 length-changed (Resize size) body = length-resized size body
 
 pub changed-grown : (change : Rewrite) (body : List ℕ) → rebody (effect_of change) (grown (new_size change body) body) ≡ rebody (effect_of change) body
-changed-grown (Write offset bytes) body = written-grown (max (length body) (offset + length bytes.now)) offset bytes.now body refl
-changed-grown (Resize size) body = resized-grown size body
+changed-grown (Write offset bytes) body = same_lists _ _ (search (rules, places)) (λ i d h. grind (arith, places))
+changed-grown (Resize size) body = same_lists _ _ (search (rules, places)) (λ i d h. grind (arith, places))
 
 -- the body is long enough for it
 pub grown-enough : (change : Rewrite) (body : List ℕ) → new_size change (grown (new_size change body) body) ≤ length (grown (new_size change body) body)

@@ -1,6 +1,5 @@
 -- What data blocks hold of files: those whose blocks stay, and one whose touched blocks are written to new places.
-use Rattle.file_store.proofs.Names.{◌≡◌, ⊎_elim, inl, inr, ℕ, zero, suc, ◌+◌, ◌-◌, ◌*◌, ◌/◌, ◌%◌, ◌<◌, ◌≤◌, List, [], ◌∷◌, ◌++◌, length, map, get_or, take, drop, Option, Some, None, Bool, true, eqb, ltb, ◌&&◌, refl, sym, ◌∙◌, ap, subst, arith, if◌then◌else◌, flat_map, list_any, AllByRecursion, cases_lt, cond_both, and_from, lt-ltb, eqb-true, get_or-replicate, get_or_past, places, FileKey, part, find_key, resized, rebody, from_on, blocks_in, met, old_end, touched, size_after, affected_held, Mapping, CatalogFile, Catalog, IsCatalogFile, IsCatalog, geometry_of, present, blocks_of, with_changed, places_fitted, places_set, each-drop, each-found, Rewrite, Write, Resize, block_at, bytes_at, held_at, effect_of, IsRewrite, remapped}
-use Rattle.meta_store.proofs.MappedPlaces.{length-fitted, length-places_set}
+use Rattle.file_store.proofs.Names.{◌≡◌, ⊎_elim, inl, inr, ℕ, zero, suc, ◌+◌, ◌-◌, ◌*◌, ◌/◌, ◌%◌, ◌<◌, ◌≤◌, List, [], ◌∷◌, ◌++◌, length, map, get_or, take, drop, Option, Some, None, Bool, true, eqb, ltb, ◌&&◌, refl, sym, ◌∙◌, ap, subst, arith, if◌then◌else◌, flat_map, list_any, AllByRecursion, cases_lt, cond_both, and_from, lt-ltb, eqb-true, get_or-replicate, get_or_past, places, FileKey, part, find_key, resized, rebody, from_on, blocks_in, met, old_end, touched, size_after, affected_held, Mapping, CatalogFile, Catalog, IsCatalogFile, IsCatalog, geometry_of, present, blocks_of, with_changed, places_fitted, places_set, each-drop, each-found, Rewrite, Write, Resize, block_at, bytes_at, held_at, effect_of, IsRewrite, remapped, length-fitted, length-places_set}
 use Rattle.file_store.specs.Bodies.{block_of, body_at}
 use Rattle.file_store.proofs.ByBlocks.{Whole, full, has_bytes, same_body, length-body, length-block, byte-block, at_place, after_set, get_or-fitted, written-beside}
 use Rattle.file_store.proofs.EachOf.{each-weaker, each-parts, each_member}
@@ -23,9 +22,6 @@ others_end q size from =
     cond_both (eqb (size % 4096) 0) [] ((size / 4096) ∷ []) (λ bs. Others q bs → blocks_in size ≤ q)
     (λ whole none. let even : size % 4096 ≡ 0 = eqb-true (size % 4096) 0 whole in omega arith)
     (λ cut others. let differ : size / 4096 ≡ q → ⊥ = others.0 in omega arith)
-
-byte-resized : (to k : ℕ) (body : List ℕ) → k < to → get_or (resized to body) k 0 ≡ get_or body k 0
-byte-resized to k body h = grind (arith, places)
 
 -- a byte that lies in no touched block is as it was, and in an old block or a new one
 beside_touched : (change : Rewrite) (body : List ℕ) (q r : ℕ) → IsRewrite change → r < 4096 → 4096 * q + r < size_after (effect_of change) (length body) → Others q (touched (effect_of change) (length body))
@@ -50,7 +46,7 @@ beside_touched (Write offset bytes) body q r lawful l h others =
     (cases_lt q first)
 beside_touched (Resize to) body q r lawful l h others =
     let size : ℕ = length body in
-    (byte-resized to (4096 * q + r) body h, λ past. others_end q size (omega arith) (subst (λ (t : Bool). Others q (if t then old_end size else [])) (lt-ltb size to (omega arith)) others))
+    (grind (arith, places), λ past. others_end q size (omega arith) (subst (λ (t : Bool). Others q (if t then old_end size else [])) (lt-ltb size to (omega arith)) others))
 
 -- ---- a body with its touched blocks at new places
 

@@ -1,8 +1,6 @@
 -- What calls make durable, and what is true of the store after them.
-use Rattle.file_store.proofs.Names.{◌≡◌, ◌⊎◌, inl, inr, ⊎_elim, ℕ, ◌≤◌, ◌^◌, Bool, true, false, if◌then◌else◌, List, refl, sym, ◌∙◌, ap, subst, slice_index_or, AllByRecursion, MayBe, Keeps, Same, started, turns_leave, turns_now, joined, weakened, Space, Held, Catalog, blocks_of, IsImage, blocks_in_image, Recovers, Meta, IsMeta, Backs, StoresOrKeeps, HasStored, IsStoredNow, held_at, held_with, Store, IsDurable, IsEither, Proceeds, IsLive, IsSound, marks_of}
-use Rattle.disk_model.specs.declared.device.Disk as disk
+use Rattle.file_store.proofs.Names.{◌≡◌, ◌⊎◌, inl, inr, ⊎_elim, ℕ, ◌≤◌, ◌^◌, Bool, true, false, if◌then◌else◌, List, refl, sym, ◌∙◌, ap, subst, slice_index_or, AllByRecursion, MayBe, Keeps, Same, started, turns_leave, turns_now, joined, weakened, Space, Held, Catalog, blocks_of, IsImage, blocks_in_image, Recovers, Meta, IsMeta, Backs, StoresOrKeeps, HasStored, IsStoredNow, held_at, held_with, Store, IsDurable, IsEither, Proceeds, IsLive, IsSound, marks_of, Ghosts, IsHeldFiles}
 use Rattle.commit_slots.specs.Images.{slot_of}
-use Rattle.file_store.specs.HeldFiles.{IsHeldFiles}
 use Rattle.file_store.proofs.Marks.{marks_there}
 
 -- a store by its parts
@@ -19,11 +17,11 @@ abbrev pub store_of : {D : Type 0} → Parts D → Store D
 store_of p = record { disk = p.disk; meta = p.meta; held = held_with p.bodies p.meta.current; durable = held_with p.durable p.meta.durable; space = p.space; pending = p.pending; failed = p.failed }
 
 -- what recovery finds of a live store
-pub durable_found : {D : Type 0} (g : disk.Ghosts D) (s : Store D) → IsLive g s → (c : List ℕ) → MayBe g s.disk c → IsDurable s c
+pub durable_found : {D : Type 0} (g : Ghosts D) (s : Store D) → IsLive g s → (c : List ℕ) → MayBe g s.disk c → IsDurable s c
 durable_found g s live c may = record { catalog = s.meta.durable; same = refl; is = live.backs.image c may; holds = live.stored c may }
 
 -- where no call of the disk is made
-pub sound_idle : {D : Type 0} (g : disk.Ghosts D) (s : Store D) (n : ℕ) → IsSound g s → ((c : List ℕ) → g.left_since s.disk (g.moment s.disk) c → g.may_leave s.disk c) → s.failed ≡ false → Proceeds g s n s
+pub sound_idle : {D : Type 0} (g : Ghosts D) (s : Store D) (n : ℕ) → IsSound g s → ((c : List ℕ) → g.left_since s.disk (g.moment s.disk) c → g.may_leave s.disk c) → s.failed ≡ false → Proceeds g s n s
 sound_idle g s n sound only_now working =
     let found = durable_found g s (sound.live working) in
     record {
@@ -35,7 +33,7 @@ sound_idle g s n sound only_now working =
     }
 
 -- one call after another
-pub proceeds_on : {D : Type 0} (g : disk.Ghosts D) (a b c : Store D) (n : ℕ) → Proceeds g a n b → b.held ≡ a.held → Proceeds g b n c → Proceeds g a n c
+pub proceeds_on : {D : Type 0} (g : Ghosts D) (a b c : Store D) (n : ℕ) → Proceeds g a n b → b.held ≡ a.held → Proceeds g b n c → Proceeds g a n c
 proceeds_on {D} g a b c n first held second = record {
   geometry = second.geometry ∙ first.geometry;
   fsid = second.fsid ∙ first.fsid;
@@ -53,14 +51,14 @@ proceeds_on {D} g a b c n first held second = record {
 -- ---- a snapshot that may be written
 
 -- what calls tell, where they wrote it, and where they wrote nothing
-abbrev pub Tells : {D : Type 0} → disk.Ghosts D → D → Meta → ℕ → Bool → D → Meta → Type 0
+abbrev pub Tells : {D : Type 0} → Ghosts D → D → Meta → ℕ → Bool → D → Meta → Type 0
 Tells g old m n wrote new t = (wrote ≡ true → HasStored g old new m n × IsStoredNow m n t) × (wrote ≡ false → (new ≡ old) × (t ≡ record m { current = t.current }))
 
 -- the data blocks are those that reads gave
 holds_new : (y x : Catalog) (h : Held) (fsid n a b : ℕ) (d c : List ℕ) → a ≡ y.geometry → y.geometry ≡ b → Recovers fsid n y d c → held_at (blocks_in_image b d) x ≡ h → held_at (blocks_in_image a c) x ≡ h
 holds_new y x h fsid n a b d c from to step was = ap (λ (z : ℕ). held_at (blocks_in_image z c) x) from ∙ ap (λ (blocks : List ℕ). held_at blocks x) step.data_blocks ∙ ap (λ (z : ℕ). held_at (blocks_in_image z d) x) to ∙ was
 
-module _ {D : Type 0} (g : disk.Ghosts D) (s : Store D) (lawful : IsMeta s.meta) (live : IsLive g s) (n : ℕ) where
+module _ {D : Type 0} (g : Ghosts D) (s : Store D) (lawful : IsMeta s.meta) (live : IsLive g s) (n : ℕ) where
   kept : (d c : List ℕ) → held_at (blocks_in_image s.meta.durable.geometry d) s.meta.durable ≡ s.durable → Recovers s.meta.fsid s.meta.number s.meta.durable d c → IsEither s n c
   kept d c was step = inl (record { catalog = s.meta.durable; same = refl; is = step.found; holds = holds_new s.meta.durable s.meta.durable s.durable _ _ _ _ d c refl refl step was })
 
@@ -85,7 +83,7 @@ module _ {D : Type 0} (g : disk.Ghosts D) (s : Store D) (lawful : IsMeta s.meta)
 -- ---- an event that is done
 
 -- what is then held, with which blocks marked
-pub record IsDone {D : Type 0} (g : disk.Ghosts D) (old : Parts D) (n : ℕ) (next : Held) (new : Parts D) : Type 0 where
+pub record IsDone {D : Type 0} (g : Ghosts D) (old : Parts D) (n : ℕ) (next : Held) (new : Parts D) : Type 0 where
   pub files : IsHeldFiles new.bodies new.meta
   pub sound : IsSound g (store_of new)
   pub held : (store_of new).held ≡ next
@@ -96,7 +94,7 @@ abbrev pub after_event : {D : Type 0} → Parts D → D → Meta → Bool → Li
 after_event p new m wrote bodies marks full pending =
     record { disk = new; meta = m; bodies = bodies; durable = if wrote then p.bodies else p.durable; space = record { current = marks; durable = if wrote then full else p.space.durable }; pending = pending; failed = p.failed }
 
-module _ {D : Type 0} (g : disk.Ghosts D) (p : Parts D) (lawful : IsMeta p.meta) (live : IsLive g (store_of p)) (n : ℕ) (new : D) (m : Meta) (bodies : List (List ℕ)) (marks full : List Bool) (pending : Bool) where
+module _ {D : Type 0} (g : Ghosts D) (p : Parts D) (lawful : IsMeta p.meta) (live : IsLive g (store_of p)) (n : ℕ) (new : D) (m : Meta) (bodies : List (List ℕ)) (marks full : List Bool) (pending : Bool) where
   proceeds_after : (wrote : Bool) → Tells g p.disk p.meta n wrote new m → StoresOrKeeps g p.disk new p.meta n → Proceeds g (store_of p) n (store_of (after_event p new m wrote bodies marks full pending))
   proceeds_after true told turns =
       let now = (told.0 refl).1 in
@@ -146,7 +144,7 @@ stored_meta m new n lawful now current bound = record {
 
 -- ---- an opening
 
-pub opened_sound : {D : Type 0} (g : disk.Ghosts D) (s : Store D) → IsMeta s.meta → Backs g s.disk s.meta → s.meta.current ≡ s.meta.durable → s.held ≡ s.durable
+pub opened_sound : {D : Type 0} (g : Ghosts D) (s : Store D) → IsMeta s.meta → Backs g s.disk s.meta → s.meta.current ≡ s.meta.durable → s.held ≡ s.durable
     → ((c : List ℕ) → MayBe g s.disk c → held_at (blocks_in_image s.meta.durable.geometry c) s.meta.durable ≡ s.held) → s.space ≡ record { current = marks_of s.meta.current; durable = marks_of s.meta.current } → IsSound g s
 opened_sound g s lawful backs same held holds space = record {
   meta = lawful;
@@ -161,7 +159,7 @@ opened_sound g s lawful backs same held holds space = record {
 }
 
 -- a read changes no image
-pub backs_same : {D : Type 0} (g : disk.Ghosts D) (mid new : D) (m : Meta) → Keeps g mid new Same → Backs g mid m → Backs g new m
+pub backs_same : {D : Type 0} (g : Ghosts D) (mid new : D) (m : Meta) → Keeps g mid new Same → Backs g mid m → Backs g new m
 backs_same g mid new m keeps b = record {
   length = keeps.moments.length ∙ b.length;
   slot = λ c may. let d = keeps.now c may in ap slot_of d.2 ∙ b.slot d.0 d.1;

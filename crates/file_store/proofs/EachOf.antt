@@ -1,7 +1,6 @@
 -- What is true of each of a list.
-use Rattle.file_store.proofs.Names.{◌≡◌, ◌<◌, ℕ, zero, suc, List, [], ◌∷◌, ◌++◌, length, map, get_or, Some, true, false, eqb, sym, ◌∙◌, subst, arith, AllByRecursion, list_any, false≢true, recursion_from_All, All-from_has}
+use Rattle.file_store.proofs.Names.{◌≡◌, ◌<◌, ℕ, zero, suc, List, [], ◌∷◌, ◌++◌, length, map, get_or, Some, true, false, eqb, sym, ◌∙◌, subst, arith, AllByRecursion, list_any, false≢true, recursion_from_All, All-from_has, slice_get_within, get_or_from_slice_get}
 use Rattle.std.specs.List.{slice_get}
-use Rattle.std.proofs.lemmas.Option.{slice_get_within, get_or_from_slice_get}
 
 module _ {X : Type 0} where
   pub each-all : (P : X → Type 0) → ((x : X) → P x) → (xs : List X) → AllByRecursion P xs

@@ -1,33 +1,18 @@
 -- A catalog's files as they are held, however their bytes are found: what the catalog tells of them, their keys, one that is found, one more, one less and one changed.
-use Rattle.file_store.proofs.Names.{◌≡◌, ℕ, ◌<◌, ◌≤◌, ◌+◌, List, [], ◌∷◌, length, map, true, false, cond, Option, Some, None, ltb, refl, sym, ◌∙◌, ap, subst, arith, is_some, IsSome, option_map, unwrap_or, ◌^◌, max, AllByRecursion, fold, sum, sum_by, length-map, FileKey, same_key, find_key, change_key, put_key, drop_key, Listed, greatest, named, free_inode, FileState, Held, file_or_new, used, used_by, next_key, affected_held, CatalogFile, Catalog, IsCatalog, geometry_of, present, blocks_of, attribute_total, names_in, kept_at, others_total, key_on, IsNewFile, total-drop, used-sum, name_of, each-found, files-few, blocks-few, file_by, told_of, told_held, Shows, IsLawful, Make, held_after}
-use Rattle.std.proofs.lemmas.List.Sums.{sum-map}
+use Rattle.file_store.proofs.Names.{map-find, map-put, map-drop, ◌≡◌, ℕ, ◌<◌, ◌≤◌, ◌+◌, List, [], ◌∷◌, length, map, true, false, cond, Option, Some, None, ltb, refl, sym, ◌∙◌, ap, subst, arith, is_some, IsSome, option_map, unwrap_or, ◌^◌, max, AllByRecursion, fold, sum, sum_by, length-map, FileKey, same_key, find_key, change_key, put_key, drop_key, Listed, greatest, named, free_inode, FileState, Held, file_or_new, used, used_by, next_key, affected_held, CatalogFile, Catalog, IsCatalog, geometry_of, present, blocks_of, attribute_total, names_in, kept_at, others_total, key_on, IsNewFile, total-drop, used-sum, name_of, each-found, files-few, blocks-few, file_by, told_of, told_held, Shows, IsLawful, Make, held_after, sum-map, Kept, nothing_kept, Within, Makes, entry_of, next_listed, free-ge, free-le, free-absent}
 use Rattle.std.proofs.lemmas.Simd.{map-map}
 use Rattle.hsm_types.specs.Attributes.{bytes_of_attributes}
-use Rattle.hsm_types.specs.Kept.{Kept, nothing_kept}
 use Rattle.plain_model.specs.Services.{kept_of, other_attributes, attribute_total as held_total}
 use Rattle.plain_model.specs.State.{names_of}
-use Rattle.inode_table.specs.Listing.{Within}
 use Rattle.file_store.specs.Bodies.{held_by}
 use Rattle.hsm_types.specs.Names.{is_name}
-use Rattle.plain_model.specs.Effects.{Makes}
-use Rattle.inode_table.specs.Table.{entry_of, next_key as next_listed}
 use Rattle.inode_table.proofs.KeysAt.{found-key_at}
-use Rattle.inode_table.proofs.Orders.{free-ge, free-le, free-absent}
 
 abbrev held_of : List FileState → ℕ → Held
 held_of files next = record { files = files; next = next }
 
 pub same_held : (a b : List FileState) (m n : ℕ) → a ≡ b → m ≡ n → held_of a m ≡ held_of b n
 same_held a b m n files next = rw (files, next) refl
-
--- a list of what is known of each file has the key where the files have it
-pub find-map : {Y : Type 0} (key : Y → FileKey) (h : CatalogFile → Y) (same : (f : CatalogFile) → key (h f) ≡ f.key) (k : FileKey) (fs : List CatalogFile) → find_key key k (map h fs) ≡ option_map h (find_key (λ f. f.key) k fs)
-find-map key h same k [] = refl
-find-map key h same k (f ∷ fs) =
-    rw (same f, find-map key h same k fs) (elim (same_key f.key k) as (λ b. cond b (Some (h f)) (option_map h (find_key (λ x. x.key) k fs)) ≡ option_map h (cond b (Some f) (find_key (λ x. x.key) k fs))) [
-      | true ↦ refl
-      | false ↦ refl
-    ])
 
 present-flags : (n : ℕ) (ps : List (Option ℕ)) → fold (λ a x. a + cond x 1 0) n (map is_some ps) ≡ n + length (present ps)
 present-flags n [] = omega arith
@@ -66,7 +51,7 @@ module _ (B : CatalogFile → List ℕ) where
 
   pub find-held : (k : FileKey) (c : Catalog) → find_key (λ f. f.key) k (held_by B c).files ≡ option_map (file_by B) (find_key (λ f. f.key) k c.files)
   unfolding held_by
-  find-held k c = find-map (λ s. s.key) (file_by B) (λ f. refl) k c.files
+  find-held k c = map-find (λ (s : FileState). s.key) (file_by B) k c.files
 
   some_by : (o : Option CatalogFile) → IsSome (option_map (file_by B) o) → (f : CatalogFile) × (o ≡ Some f)
   some_by None live = cc
@@ -77,12 +62,8 @@ module _ (B : CatalogFile → List ℕ) where
 
   -- ---- what is kept with a file
 
-  found_kept : (k : FileKey) (o : Option CatalogFile) → (file_or_new k (option_map (file_by B) o)).kept ≡ unwrap_or (option_map (λ f. f.kept) o) nothing_kept
-  found_kept k None = refl
-  found_kept k (Some f) = refl
-
   pub kept-held : (c : Catalog) (k : FileKey) → kept_of k (held_by B c).files ≡ kept_at k c
-  kept-held c k = ap (λ (o : Option FileState). (file_or_new k o).kept) (find-held k c) ∙ found_kept k (find_key (λ f. f.key) k c.files)
+  kept-held c k = grind (arith, find-held k c)
 
   -- what the attributes of the other files count
   pub others-held : (c : Catalog) (k : FileKey) (f : CatalogFile) → find_key (λ x. x.key) k c.files ≡ Some f → other_attributes k (held_by B c).files ≡ others_total k c
@@ -131,34 +112,19 @@ module _ (B C : CatalogFile → List ℕ) where
   by-same (f ∷ fs) same = rw (same.0, by-same fs same.1) refl
 
   pub by-put : (g : CatalogFile) (fs : List CatalogFile) → AllByRecursion SameBytes fs → map (file_by C) (put_key (λ f. f.key) g fs) ≡ put_key (λ f. f.key) (file_by C g) (map (file_by B) fs)
-  by-put g [] same = refl
-  by-put g (f ∷ fs) same =
-      elim (ltb g.key.ino f.key.ino) as (λ b. map (file_by C) (cond b (g ∷ f ∷ fs) (f ∷ put_key (λ x. x.key) g fs)) ≡ cond b (file_by C g ∷ file_by B f ∷ map (file_by B) fs) (file_by B f ∷ put_key (λ x. x.key) (file_by C g) (map (file_by B) fs))) [
-        | true ↦ rw (same.0, by-same fs same.1) refl
-        | false ↦ rw (same.0, by-put g fs same.1) refl
-      ]
+  by-put g fs same = map-put (λ (s : FileState). s.key) (file_by C) g fs ∙ ap (put_key (λ s. s.key) (file_by C g)) (by-same fs same)
 
   pub by-drop : (k : FileKey) (fs : List CatalogFile) → AllByRecursion SameBytes (drop_key (λ f. f.key) k fs) → map (file_by C) (drop_key (λ f. f.key) k fs) ≡ drop_key (λ f. f.key) k (map (file_by B) fs)
-  by-drop k [] same = refl
-  by-drop k (f ∷ fs) same =
-      elim (same_key f.key k) as (λ b. AllByRecursion SameBytes (cond b fs (f ∷ drop_key (λ x. x.key) k fs)) → map (file_by C) (cond b fs (f ∷ drop_key (λ x. x.key) k fs)) ≡ cond b (map (file_by B) fs) (file_by B f ∷ drop_key (λ x. x.key) k (map (file_by B) fs))) [
-        | true ↦ λ others. by-same fs others
-        | false ↦ λ others. rw (others.0, by-drop k fs others.1) refl
-      ] same
+  by-drop k fs same = by-same (drop_key (λ f. f.key) k fs) same ∙ map-drop (λ (s : FileState). s.key) (file_by B) k fs
 
   -- where the change of the found file and of its bytes is that change of what is held of it
   pub by-change : (k : FileKey) (to : CatalogFile → CatalogFile) (into : FileState → FileState) (f : CatalogFile) (fs : List CatalogFile) → find_key (λ x. x.key) k fs ≡ Some f → file_by C (to f) ≡ into (file_by B f)
       → AllByRecursion SameBytes (drop_key (λ x. x.key) k fs) → map (file_by C) (change_key (λ x. x.key) k to fs) ≡ change_key (λ x. x.key) k into (map (file_by B) fs)
-  by-change k to into f [] found is same = cc
-  by-change k to into f (e ∷ fs) found is same =
-      elim (same_key e.key k) as (λ b. cond b (Some e) (find_key (λ x. x.key) k fs) ≡ Some f → AllByRecursion SameBytes (cond b fs (e ∷ drop_key (λ x. x.key) k fs))
-      → map (file_by C) (cond b (to e ∷ fs) (e ∷ change_key (λ x. x.key) k to fs)) ≡ cond b (into (file_by B e) ∷ map (file_by B) fs) (file_by B e ∷ change_key (λ x. x.key) k into (map (file_by B) fs))) [
-        | true ↦ λ it others.
-            let one : f ≡ e = cc in
-            let here : file_by C (to e) ≡ into (file_by B e) = subst (λ (g : CatalogFile). file_by C (to g) ≡ into (file_by B g)) one is in
-            rw (here, by-same fs others) refl
-        | false ↦ λ it others. rw (others.0, by-change k to into f fs it is others.1) refl
-      ] found same
+  by-change k to into f fs found is same = walk fs found (by-same (drop_key (λ x. x.key) k fs) same)
+    where
+      walk : (gs : List CatalogFile) → find_key (λ x. x.key) k gs ≡ Some f → map (file_by C) (drop_key (λ x. x.key) k gs) ≡ map (file_by B) (drop_key (λ x. x.key) k gs) → map (file_by C) (change_key (λ x. x.key) k to gs) ≡ change_key (λ x. x.key) k into (map (file_by B) gs)
+      walk [] there others = cc
+      walk (e ∷ gs) there others = grind (arith, is, walk gs)
 
   -- ---- the same of what is held
 
@@ -170,7 +136,7 @@ module _ (B C : CatalogFile → List ℕ) where
 
 pub key_on-live : (c : Catalog) (k : FileKey) (f : CatalogFile) → IsCatalog c → find_key (λ x. x.key) k c.files ≡ Some f → key_on k.ino c ≡ k
 key_on-live c k f is found =
-    let listed = find-map (λ l. l.key) name_of (λ g. refl) k c.files ∙ ap (option_map name_of) found in
+    let listed = map-find (λ (l : Listed). l.key) name_of k c.files ∙ ap (option_map name_of) found in
     ap (λ (o : Option FileKey). unwrap_or o (record { ino = k.ino; igen = 0 })) (found-key_at 1 k (name_of f) (names_in c.files) is.table.ascend listed)
 
 -- ---- the next file

@@ -1,44 +1,26 @@
 -- Bodies that are read block by block, and put by inode, one after the other in the order of the files.
-use Rattle.file_store.proofs.Names.{◌≡◌, ◌⊎◌, inl, inr, ⊎_elim, ℕ, ◌+◌, ◌-◌, ◌*◌, ◌<◌, ◌≤◌, List, [], length, get_or, take, Option, Some, None, sym, ◌∙◌, ap, subst, arith, zero, suc, ◌∷◌, ◌++◌, map, set, get_or-set_same, get_or-set_other, AllByRecursion, cases_lt, cases_eq, places, get_or-replicate, get_or-take, get_or_past, take_more, length-map, written, resized, blocks_in, part, sames_on, Layout, layout_of, geometry_of, present, CatalogFile, Catalog, IsCatalog, IsCatalogFile, names_of, blocks_in_image, OnlyReads, block_at, body_at, bytes_with}
+use Rattle.file_store.proofs.Names.{◌≡◌, ◌⊎◌, inl, inr, ⊎_elim, ℕ, ◌+◌, ◌-◌, ◌*◌, ◌<◌, ◌≤◌, List, [], length, get_or, take, Option, Some, None, sym, ◌∙◌, ap, subst, arith, zero, suc, ◌∷◌, ◌++◌, map, set, get_or-set_same, get_or-set_other, AllByRecursion, cases_lt, cases_eq, places, get_or-replicate, get_or-take, get_or_past, take_more, length-map, written, resized, blocks_in, part, sames_on, Layout, layout_of, geometry_of, present, CatalogFile, Catalog, IsCatalog, IsCatalogFile, names_of, blocks_in_image, OnlyReads, block_at, body_at, bytes_with, slice_get_within, get_or_from_slice_get, Table, entry_of, Ghosts}
 use Rattle.std.specs.List.{slice_get}
 use Rattle.file_store.proofs.Beside.{block_in, length-block}
 use Rattle.file_store.proofs.ByBlocks.{HasBytes, Whole, full, at_place, same_body, written-beside, written-in}
 use Rattle.file_store.proofs.EachOf.{each-weaker, each-both, each-join, each-there}
 use Rattle.file_store.proofs.WithBodies.{each-above, each-within}
-use Rattle.std.proofs.lemmas.Option.{slice_get_within, get_or_from_slice_get}
 use Rattle.inode_table.specs.Listing.{Ascend}
-use Rattle.inode_table.specs.Table.{Table, entry_of}
-use Rattle.disk_model.specs.declared.device.Disk as disk
 
 -- one read after another
-pub reads_on : {D : Type 0} (g : disk.Ghosts D) (a b c : D) → OnlyReads g a b → OnlyReads g b c → OnlyReads g a c
+pub reads_on : {D : Type 0} (g : Ghosts D) (a b c : D) → OnlyReads g a b → OnlyReads g b c → OnlyReads g a c
 reads_on g a b c first second = (sames_on g a b c first.0 second.0, (λ d gives. first.1.0 d (second.1.0 d gives), λ d gives. second.1.1 d (first.1.1 d gives)))
-
--- what a read of a data block gives
-pub block_read : (geometry place : ℕ) (l : Layout) (c : List ℕ) → l ≡ layout_of geometry → place < (geometry_of geometry).blocks → part c (l.blocks + 4096 * place) 4096 ≡ part (blocks_in_image geometry c) (4096 * place) 4096
-block_read geometry place l c is within = ap (λ (m : Layout). part c (m.blocks + 4096 * place) 4096) is ∙ sym (block_in geometry c place within)
 
 pub present-at : (P : ℕ → Type 0) (ps : List (Option ℕ)) (i p : ℕ) → AllByRecursion P (present ps) → get_or ps i None ≡ Some p → P p
 present-at P ps i p all at = at_place P (λ o. (q : ℕ) → o ≡ Some q → P q) (λ q none. absurd cc) (λ n here q is. let it : n ≡ q = cc in subst P it here) ps i all p at
 
-zeros : (size k : ℕ) → get_or (resized size []) k 0 ≡ 0
-zeros size k = grind (arith, places)
-
 pub no_bytes : (blocks : List ℕ) (size : ℕ) → HasBytes blocks size [] (resized size [])
-no_bytes blocks size q r l h = zeros size (4096 * q + r) ∙ sym (get_or-replicate 4096 r 0 0 l)
-
--- the places before the next one, and that one
-place_other : (ps : List (Option ℕ)) (i q : ℕ) → i < length ps → (q ≡ i → ⊥) → get_or (take (i + 1) ps) q None ≡ get_or (take i ps) q None
-place_other ps i q within other = ⊎_elim (λ (below : q < i). grind (arith, places)) (λ (from : i ≤ q). let above : i < q = omega (arith, other) in grind (arith, places)) (cases_lt q i)
-
-place_next : (ps : List (Option ℕ)) (i q : ℕ) → q ≡ i → get_or (take (i + 1) ps) q None ≡ get_or ps i None
-place_next ps i q same = ap (λ (n : ℕ). get_or (take (i + 1) ps) n None) same ∙ get_or-take (i + 1) ps i None (omega arith)
+no_bytes blocks size q r l h = let none : get_or (resized size []) (4096 * q + r) 0 ≡ 0 = grind (arith, places) in none ∙ sym (get_or-replicate 4096 r 0 0 l)
 
 -- a hole
 pub hole-more : (blocks : List ℕ) (size : ℕ) (ps : List (Option ℕ)) (i : ℕ) (body : List ℕ) → i < length ps → get_or ps i None ≡ None → HasBytes blocks size (take i ps) body → HasBytes blocks size (take (i + 1) ps) body
 hole-more blocks size ps i body within hole has q r l h =
-    let same : get_or (take i ps) q None ≡ get_or (take (i + 1) ps) q None =
-    ⊎_elim (λ (is : q ≡ i). get_or_past (take i ps) q None (grind (arith, places)) ∙ sym (place_next ps i q is ∙ hole)) (λ (other : q ≡ i → ⊥). sym (place_other ps i q within other)) (cases_eq q i) in
+    let same : get_or (take i ps) q None ≡ get_or (take (i + 1) ps) q None = grind (arith, places) in
     has q r l h ∙ ap (λ (p : Option ℕ). get_or (block_at blocks p) r 0) same
 
 -- a block from the disk
@@ -50,10 +32,13 @@ block-more blocks size ps i p start old new within at whole begins long before i
     let piece : List ℕ = take (length old - start) block in
     ap (λ (b : List ℕ). get_or b k 0) is
     ∙ ⊎_elim
-    (λ (same : q ≡ i). written-in start k r piece old (omega arith) (grind (arith, places)) ∙ get_or-take (length old - start) block r 0 (omega arith) ∙ sym (ap (λ (x : Option ℕ). get_or (block_at blocks x) r 0) (place_next ps i q same ∙ at)))
+    (λ (same : q ≡ i).
+    let next : get_or (take (i + 1) ps) q None ≡ Some p = grind (arith, places) in
+    written-in start k r piece old (omega arith) (grind (arith, places)) ∙ get_or-take (length old - start) block r 0 (omega arith) ∙ sym (ap (λ (x : Option ℕ). get_or (block_at blocks x) r 0) next))
     (λ (other : q ≡ i → ⊥).
     let apart : (k < start) ⊎ (start + length piece ≤ k) = ⊎_elim (λ (below : q < i). inl (omega arith)) (λ (from : i ≤ q). let above : i < q = omega (arith, other) in inr (grind (arith, places))) (cases_lt q i) in
-    written-beside start k piece old apart ∙ has q r l h ∙ sym (ap (λ (x : Option ℕ). get_or (block_at blocks x) r 0) (place_other ps i q within other)))
+    let stays : get_or (take (i + 1) ps) q None ≡ get_or (take i ps) q None = grind (arith, places) in
+    written-beside start k piece old apart ∙ has q r l h ∙ sym (ap (λ (x : Option ℕ). get_or (block_at blocks x) r 0) stays))
     (cases_eq q i)
 
 -- all blocks

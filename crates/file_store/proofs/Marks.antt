@@ -1,15 +1,7 @@
 -- The marks of the blocks that files use: places that may be taken, and what is left where a file frees blocks.
-use Rattle.file_store.proofs.Names.{◌≡◌, ℕ, zero, suc, ◌+◌, ◌<◌, ◌≤◌, List, [], ◌∷◌, ◌++◌, length, take, drop, set, get_or, Option, Some, None, Bool, true, false, eqb, ltb, refl, sym, ◌∙◌, ap, subst, arith, length-set, get_or-set_other, replicate, AllByRecursion, list_any, sum_by, false≢true, false_from_ne_true, length-replicate, All-from_recursion, All-weaker, recursion_from_All, FileKey, find_key, change_key, put_key, drop_key, blocks_in, Space, free, marked, unmarked, All-has, Ascend, Ascend-low, Record, Make, Drop, Size, Map, CatalogFile, Catalog, IsCatalogFile, IsCatalog, geometry_of, present, blocks_of, file_after, inode_of, key_on, after, CanStand, places_fitted, places_set, with_changed, uses_of, uses-sum, sum-put, sum-drop, sum-change, blocks-change, each-found, blocks-within, IsBodiless, drops, mappings_of, remapped, places_under, freed_by, marks_of}
+use Rattle.file_store.proofs.Names.{places, ◌≡◌, ℕ, zero, suc, ◌+◌, ◌<◌, ◌≤◌, List, [], ◌∷◌, ◌++◌, length, take, drop, set, get_or, Option, Some, None, Bool, true, false, eqb, ltb, refl, sym, ◌∙◌, ap, subst, arith, length-set, get_or-set_other, replicate, AllByRecursion, list_any, sum_by, false≢true, false_from_ne_true, length-replicate, All-from_recursion, All-weaker, recursion_from_All, FileKey, find_key, change_key, put_key, drop_key, blocks_in, Space, free, marked, unmarked, All-has, Ascend, Ascend-low, Record, Make, Drop, Size, Map, CatalogFile, Catalog, IsCatalogFile, IsCatalog, geometry_of, present, blocks_of, file_after, inode_of, key_on, after, CanStand, places_fitted, places_set, with_changed, uses_of, uses-sum, sum-put, sum-drop, sum-change, blocks-change, each-found, blocks-within, IsBodiless, drops, mappings_of, remapped, places_under, freed_by, marks_of, sum_by-cons, sum_by-set, Distinct, IsFree, length-marked, others_are_free, taken_are_free, take_adds_others, marks_are_members, marks_join, releases-leave, uses, uses-append, distinct-uses, empty_file, length-fitted, present-fitted}
 use Rattle.std.specs.List.{All}
 use Rattle.std.proofs.lemmas.Bool.Decides.{nat_tests}
-use Rattle.std.proofs.lemmas.List.Sums.{sum_by-cons, sum_by-set}
-use Rattle.plain_model.specs.Distinct.{Distinct}
-use Rattle.block_space.specs.Laws.{IsFree}
-use Rattle.block_space.proofs.Marks.{length-marked}
-use Rattle.block_space.proofs.Spaces.{others_are_free, taken_are_free, take_adds_others, marks_are_members, marks_join, releases-leave}
-use Rattle.meta_store.proofs.BlockUses.{uses, uses-append, distinct-uses}
-use Rattle.meta_store.proofs.KeptCatalogs.{empty_file}
-use Rattle.meta_store.proofs.MappedPlaces.{length-fitted, present-fitted}
 use Rattle.file_store.specs.Effects.{IsFreed}
 use Rattle.file_store.proofs.ByBlocks.{get_or-fitted}
 use Rattle.file_store.proofs.EachOf.{each_member}
@@ -32,9 +24,7 @@ pub record ArePlaces (now durable : Catalog) (places : List ℕ) : Type 0 where
   pub once : (n : ℕ) → uses n (blocks_of now.files ++ places) ≤ 1
 
 unmarked_at : (ds : List Bool) (b : ℕ) → get_or ds b true ≡ false → get_or ds b false ≡ false
-unmarked_at [] b is = cc
-unmarked_at (d ∷ ds) zero is = is
-unmarked_at (d ∷ ds) (suc b) is = unmarked_at ds b is
+unmarked_at ds b is = grind (arith, places)
 
 module _ (c : Catalog) (is : IsCatalog c) where
   abbrev total : ℕ

@@ -1,11 +1,9 @@
 -- The records of a change of a file's bytes: that they are its places, the catalog after them, and that they can come.
-use Rattle.file_store.proofs.Names.{rules, ◌≡◌, ⊎_elim, ◌<◌, ℕ, zero, suc, ◌+◌, ◌-◌, ◌≤◌, min, List, [], ◌∷◌, ◌++◌, length, take, drop, get_or, Option, Some, None, refl, sym, ◌∙◌, ap, arith, length-append, take_all, set, true, false, cond, eqb, subst, cases_lt, cond_both, ltb-true, drop_more, drop_all, get_or_past, map-append, same_lists, places, from_on, blocks_in, Mapping, Record, Size, Map, present, CatalogFile, Catalog, geometry_of, blocks_of, mappings_from, places_set, file_after, with_changed, key_on, after, after_all, refusal_of_all, IsMappable, CanStandAll, IsMap, IsEvent, mappings_of, mappings_in, IsMapOn, IsRewriting, places_under, freed_by, remapped, flat_map, list_any, AllByRecursion, FileKey, same_key, find_key, change_key, names_of-change, places_of}
+use Rattle.file_store.proofs.Names.{rules, ◌≡◌, ⊎_elim, ◌<◌, ℕ, zero, suc, ◌+◌, ◌-◌, ◌≤◌, min, List, [], ◌∷◌, ◌++◌, length, take, drop, get_or, Option, Some, None, refl, sym, ◌∙◌, ap, arith, length-append, take_all, set, true, false, cond, eqb, subst, cases_lt, cond_both, ltb-true, drop_more, drop_all, get_or_past, map-append, same_lists, places, from_on, blocks_in, Mapping, Record, Size, Map, present, CatalogFile, Catalog, geometry_of, blocks_of, mappings_from, places_set, file_after, with_changed, key_on, after, after_all, refusal_of_all, IsMappable, CanStandAll, IsMap, IsEvent, mappings_of, mappings_in, IsMapOn, IsRewriting, places_under, freed_by, remapped, flat_map, list_any, AllByRecursion, FileKey, same_key, find_key, change_key, names_of-change, places_of, uses, uses-append, absent-unused, uses-distinct, length-fitted, length-places_set, uses-fitted, uses-mapped}
 use Rattle.std.proofs.lemmas.List.{append_assoc}
 use Rattle.file_body.proofs.Runs.{length_blocks}
 use Rattle.file_store.proofs.EachOf.{each-parts, each_member}
 use Rattle.file_store.proofs.Marks.{has-uses, uses-changed}
-use Rattle.meta_store.proofs.BlockUses.{uses, uses-append, absent-unused, uses-distinct}
-use Rattle.meta_store.proofs.MappedPlaces.{length-fitted, length-places_set, uses-fitted, uses-mapped}
 
 -- ---- places of two runs of blocks
 
@@ -65,19 +63,11 @@ freed-runs a m b n size k blocks ps is kept =
 change-twice : (k : FileKey) (f g h : CatalogFile → CatalogFile) (fs : List CatalogFile) → ((x : CatalogFile) → (f x).key ≡ x.key) → ((x : CatalogFile) → g (f x) ≡ h x)
     → change_key (λ x. x.key) k g (change_key (λ x. x.key) k f fs) ≡ change_key (λ x. x.key) k h fs
 change-twice k f g h [] key is = refl
-change-twice k f g h (x ∷ fs) key is =
-    elim (same_key x.key k) as (λ b. same_key x.key k ≡ b → change_key (λ y. y.key) k g (cond b (f x ∷ fs) (x ∷ change_key (λ y. y.key) k f fs)) ≡ cond b (h x ∷ fs) (x ∷ change_key (λ y. y.key) k h fs)) [
-      | true ↦ λ same. let here : same_key (f x).key k ≡ true = ap (λ j. same_key j k) (key x) ∙ same in rw here (ap (λ (y : CatalogFile). y ∷ fs) (is x))
-      | false ↦ λ other. rw (other, change-twice k f g h fs key is) refl
-    ] refl
+change-twice k f g h (x ∷ fs) key is = grind (arith, key x, is x, change-twice k f g h fs key is)
 
 find-changed : (k : FileKey) (to : CatalogFile → CatalogFile) (f : CatalogFile) (fs : List CatalogFile) → ((x : CatalogFile) → (to x).key ≡ x.key) → find_key (λ x. x.key) k fs ≡ Some f → find_key (λ x. x.key) k (change_key (λ x. x.key) k to fs) ≡ Some (to f)
 find-changed k to f [] key found = cc
-find-changed k to f (x ∷ fs) key found =
-    elim (same_key x.key k) as (λ b. same_key x.key k ≡ b → cond b (Some x) (find_key (λ y. y.key) k fs) ≡ Some f → find_key (λ y. y.key) k (cond b (to x ∷ fs) (x ∷ change_key (λ y. y.key) k to fs)) ≡ Some (to f)) [
-      | true ↦ λ same it. let one : x ≡ f = cc in let here : same_key (to x).key k ≡ true = ap (λ j. same_key j k) (key x) ∙ same in rw here (ap (λ (y : CatalogFile). Some (to y)) one)
-      | false ↦ λ other it. rw other (find-changed k to f fs key it)
-    ] refl found
+find-changed k to f (x ∷ fs) key found = grind (arith, key x, find-changed k to f fs key)
 
 key_on-changed : (ino : ℕ) (k : FileKey) (to : CatalogFile → CatalogFile) (c : Catalog) → ((x : CatalogFile) → ((to x).key ≡ x.key) × ((to x).name ≡ x.name)) → key_on ino (with_changed k to c) ≡ key_on ino c
 key_on-changed ino k to c same = rw (names_of-change k to c.files (λ x. rw ((same x).0, (same x).1) refl)) refl

@@ -1,16 +1,15 @@
 -- Events of a live store: a record that concerns no bytes of a file that stays, and bytes with their records.
-use Rattle.file_store.proofs.Names.{◌+◌, IsSome, find_key, used, bytes_with, new_size, touched_of, places_for, IsStaged, get_or, ◌≡◌, ℕ, ◌<◌, List, [], ◌∷◌, length, Bool, true, false, ◌||◌, Option, Some, None, refl, sym, ◌∙◌, ap, subst, All, inl, inr, zero, suc, ◌-◌, ◌*◌, ◌≤◌, take, drop, set, arith, length-take, or_parts, cond_both, FileKey, Space, unmarked, free, marked, Record, Catalog, IsCatalogFile, geometry_of, present, blocks_of, after, CanStand, refusal_of, refusal_of_all, with_changed, after_all, CanStandAll, key_on, blocks_in_image, IsImage, Meta, IsMeta, Backs, StoresOrKeeps, held_at, held_with, block_of, bytes_at, IsBodiless, held_after, drops, Store, IsLive, IsSound, marks_of, IsEither, Proceeds, AllByRecursion, All-from_recursion, All-weaker, part, Follows, MayBe, Keeps, holds_on, holds_now, layout_of, rebody, blocks_in, size_after, Held, bytes_of, affected_held, Mapping, each-found, Rewrite, Write, Resize, IsBesideBlocks, HasBlocks, effect_of, IsRewrite, IsRewriting, mappings_of, remapped, freed_by, places_under}
+use Rattle.file_store.proofs.Names.{◌+◌, IsSome, find_key, used, bytes_with, new_size, touched_of, places_for, IsStaged, get_or, ◌≡◌, ℕ, ◌<◌, List, [], ◌∷◌, length, Bool, true, false, ◌||◌, Option, Some, None, refl, sym, ◌∙◌, ap, subst, All, inl, inr, zero, suc, ◌-◌, ◌*◌, ◌≤◌, take, drop, set, arith, length-take, or_parts, cond_both, FileKey, Space, unmarked, free, marked, Record, Catalog, IsCatalogFile, geometry_of, present, blocks_of, after, CanStand, refusal_of, refusal_of_all, with_changed, after_all, CanStandAll, key_on, blocks_in_image, IsImage, Meta, IsMeta, Backs, StoresOrKeeps, held_at, held_with, block_of, bytes_at, IsBodiless, held_after, drops, Store, IsLive, IsSound, marks_of, IsEither, Proceeds, AllByRecursion, All-from_recursion, All-weaker, part, Follows, MayBe, Keeps, holds_on, holds_now, layout_of, rebody, blocks_in, size_after, Held, bytes_of, affected_held, Mapping, each-found, Rewrite, Write, Resize, IsBesideBlocks, HasBlocks, effect_of, IsRewrite, IsRewriting, mappings_of, remapped, freed_by, places_under, IsHeldFiles, IsFree, length-marked, marked_keeps, taken_are_free, release_undoes_take, uses, uses-append, Ghosts}
 use Rattle.hsm_types.specs.declared.dm.DmRefusal.{DmRefusal}
 use Rattle.hsm_types.specs.Refusals.{first_refusal}
 use Rattle.meta_store.specs.declared.refusal.MetaRefusal.{MetaRefusal}
 use Rattle.meta_store.specs.declared.refusal.MetaRefusal.TheVariants.{Part, Disk, Memory}
 use Rattle.file_store.specs.Effects.{IsFreed}
-use Rattle.file_store.specs.HeldFiles.{IsHeldFiles}
 use Rattle.file_store.specs.Refusals.{refused_as}
 use Rattle.file_store.proofs.Durable.{Parts, store_of, Tells, IsDone, after_event, done, proceeds_on, kept_proceeds}
 use Rattle.file_store.proofs.Marks.{enough, marks-after, none-freed, freed-within, marks_there, length-marks, marks-moved, ArePlaces, are_places}
 use Rattle.file_store.proofs.WithBodies.{live-held, body-held, bodies_after, held_at-after, held_with-after, IsHeldFiles-after, IsFound, bytes-held, body-of, held_with-rewritten, IsHeldFiles-rewritten}
-use Rattle.file_store.proofs.Beside.{blocks_fit, block_in, length-block, image_beside, used_stay, held_beside, backs_beside, places-mapped, blocks-mapped}
+use Rattle.file_store.proofs.Beside.{blocks_fit, block_in, length-block, image_beside, used_stay, held_beside, backs_beside, mapped}
 use Rattle.file_store.proofs.ByBlocks.{at_place}
 use Rattle.file_store.proofs.DataBlocks.{held-changed}
 use Rattle.file_store.proofs.EachOf.{each-weaker, each-both, each-join, each-mapped}
@@ -18,14 +17,9 @@ use Rattle.file_store.proofs.ByteChanges.{touched-below, touched-ascends}
 use Rattle.file_store.proofs.FilesBy.{key_on-live, used-held}
 use Rattle.file_store.proofs.RewriteRecords.{after_rewriting, can_stand}
 use Rattle.std.specs.List.{All}
-use Rattle.block_space.specs.Laws.{IsFree}
-use Rattle.block_space.proofs.Marks.{length-marked, marked_keeps}
-use Rattle.block_space.proofs.Spaces.{taken_are_free, release_undoes_take}
-use Rattle.meta_store.proofs.BlockUses.{uses, uses-append}
-use Rattle.disk_model.specs.declared.device.Disk as disk
 use Rattle.file_store.specs.declared.refusal.StoreRefusal.TheVariants as store
 
-module _ {D : Type 0} (g : disk.Ghosts D) (k : FileKey) (r : Record) (freed : List ℕ) (p : Parts D) (held : IsHeldFiles p.bodies p.meta) (sound : IsSound g (store_of p)) (working : p.failed ≡ false) (bodiless : IsBodiless k r p.meta.current) (stands : CanStand r p.meta.current)
+module _ {D : Type 0} (g : Ghosts D) (k : FileKey) (r : Record) (freed : List ℕ) (p : Parts D) (held : IsHeldFiles p.bodies p.meta) (sound : IsSound g (store_of p)) (working : p.failed ≡ false) (bodiless : IsBodiless k r p.meta.current) (stands : CanStand r p.meta.current)
     (free : IsFreed k r p.meta.current freed) where
   live : IsLive g (store_of p)
   live = sound.live working
@@ -51,7 +45,7 @@ is_disk (Part why) = false
 is_disk Disk = true
 is_disk Memory = false
 
-pub refused_sound : {D : Type 0} (g : disk.Ghosts D) (s : Store D) (new : D) (refusal : MetaRefusal) → IsSound g s → s.failed ≡ false → ((why : DmRefusal) → refusal ≡ Part why → new ≡ s.disk) → (refusal ≡ Memory → new ≡ s.disk)
+pub refused_sound : {D : Type 0} (g : Ghosts D) (s : Store D) (new : D) (refusal : MetaRefusal) → IsSound g s → s.failed ≡ false → ((why : DmRefusal) → refusal ≡ Part why → new ≡ s.disk) → (refusal ≡ Memory → new ≡ s.disk)
     → IsSound g (record s { disk = new; failed = is_disk refusal })
 refused_sound g s new (Part why) sound working part memory = rw (part why refl) (subst (λ b. IsSound g (record s { failed = b })) working sound)
 refused_sound g s new Disk sound working part memory = record { meta = sound.meta; live = λ still. absurd cc }
@@ -63,11 +57,7 @@ refused_as_is Disk = (λ why is. cc, λ is. cc)
 refused_as_is Memory = (λ why is. cc, λ is. refl)
 
 pub refusal_alone : (r : Record) (c : Catalog) → refusal_of_all (r ∷ []) c ≡ refusal_of r c
-refusal_alone r c =
-    elim (refusal_of r c) as (λ o. first_refusal (o ∷ None ∷ []) ≡ o) [
-      | None ↦ refl
-      | Some why ↦ refl
-    ]
+refusal_alone r c = grind arith
 
 -- ---- blocks that a file frees
 
@@ -83,15 +73,11 @@ all-under P (b ∷ bs) ps all =
     let Q : Option ℕ → Type 0 = λ p. AllByRecursion P (present (p ∷ places_under bs ps)) in
     at_place P Q (all-under P bs ps all) (λ p here. (here, all-under P bs ps all)) ps b all
 
--- they are some of those that it uses
-all-freed : (P : ℕ → Type 0) (size : ℕ) (bs : List ℕ) (ps : List (Option ℕ)) → AllByRecursion P (present ps) → AllByRecursion P (freed_by size bs ps)
-all-freed P size bs ps all = each-join P (present (drop (blocks_in size) ps)) (present (places_under bs ps)) (all-present P (blocks_in size) ps all) (all-under P bs ps all)
-
 -- each block of a run below so many, at a place below so many
 fit : (n total : ℕ) (bs ps : List ℕ) → length ps ≡ length bs → AllByRecursion (λ b. b < n) bs → AllByRecursion (λ p. p < total) ps → AllByRecursion (λ (m : Mapping). (m.block < n) × (m.place < total)) (mappings_of bs ps)
 fit n total bs ps long low within =
     each-both (λ (m : Mapping). m.block < n) (λ (m : Mapping). m.place < total) (λ (m : Mapping). (m.block < n) × (m.place < total)) (λ m a b. (a, b)) (mappings_of bs ps)
-    (each-mapped (λ b. b < n) (λ (m : Mapping). m.block) (mappings_of bs ps) (rw (blocks-mapped bs ps long) low)) (each-mapped (λ p. p < total) (λ (m : Mapping). m.place) (mappings_of bs ps) (rw (places-mapped bs ps long) within))
+    (each-mapped (λ b. b < n) (λ (m : Mapping). m.block) (mappings_of bs ps) (rw (mapped bs ps long).0 low)) (each-mapped (λ p. p < total) (λ (m : Mapping). m.place) (mappings_of bs ps) (rw (mapped bs ps long).1 within))
 
 -- places that are taken can be given back, which undoes it
 module _ (space : Space) (n : ℕ) where
@@ -106,7 +92,7 @@ abbrev pub body_of : List (List ℕ) → FileKey → List ℕ
 body_of bs k = get_or bs (k.ino - 1) []
 
 -- what is known of a store and of a change before the first write
-pub record Given {D : Type 0} (g : disk.Ghosts D) (p : Parts D) (k : FileKey) (change : Rewrite) : Type 0 where
+pub record Given {D : Type 0} (g : Ghosts D) (p : Parts D) (k : FileKey) (change : Rewrite) : Type 0 where
   pub files : IsHeldFiles p.bodies p.meta
   pub lawful : IsMeta p.meta
   pub live : IsLive g (store_of p)
@@ -120,7 +106,7 @@ size-few : (change : Rewrite) (n : ℕ) → IsRewrite change → n ≤ 16777216 
 size-few (Write offset bytes) n may few = let end = may.1 in omega arith
 size-few (Resize to) n may few = may
 
-pub known : {D : Type 0} (g : disk.Ghosts D) (p : Parts D) (k : FileKey) (change : Rewrite) → IsHeldFiles p.bodies p.meta → IsSound g (store_of p) → p.failed ≡ false → p.pending ≡ false → IsSome (find_key (λ f. f.key) k (store_of p).held.files) → IsRewrite change
+pub known : {D : Type 0} (g : Ghosts D) (p : Parts D) (k : FileKey) (change : Rewrite) → IsHeldFiles p.bodies p.meta → IsSound g (store_of p) → p.failed ≡ false → p.pending ≡ false → IsSome (find_key (λ f. f.key) k (store_of p).held.files) → IsRewrite change
     → length (touched_of change (bytes_of k (store_of p).held.files)) + used (store_of p).held.files ≤ (geometry_of p.meta.durable.geometry).blocks → Given g p k change
 known g p k change files sound working settled there may left =
     let at = live-held p.bodies p.meta files k there in
@@ -141,7 +127,7 @@ known g p k change files sound working settled there may left =
       enough = enough p.meta.current sound.meta.current p.space _ live.marks (live.settled settled) room;
     }
 
-module _ {D : Type 0} (g : disk.Ghosts D) (p : Parts D) (k : FileKey) (change : Rewrite) (x : Given g p k change) where
+module _ {D : Type 0} (g : Ghosts D) (p : Parts D) (k : FileKey) (change : Rewrite) (x : Given g p k change) where
   abbrev body : List ℕ
   body = body_of p.bodies k
 
@@ -182,7 +168,7 @@ module _ {D : Type 0} (g : disk.Ghosts D) (p : Parts D) (k : FileKey) (change : 
     pub stand : CanStandAll records p.meta.current
     stand =
         can_stand k.ino size ms records p.meta.current x.at.file is x.few (rw key x.at.found) (fit (blocks_in size) (geometry_of p.meta.current.geometry).blocks blocks places long low are.within)
-        (λ n. let once = are.once n in omega (arith, uses-append n (blocks_of p.meta.current.files) places, ap (uses n) (places-mapped blocks places long)))
+        (λ n. let once = are.once n in omega (arith, uses-append n (blocks_of p.meta.current.files) places, ap (uses n) (mapped blocks places long).1))
 
     become : after_all records p.meta.current ≡ next
     become = after_rewriting k.ino size ms records p.meta.current is ∙ ap (λ (j : FileKey). with_changed j (remapped size ms) p.meta.current) key
@@ -193,8 +179,9 @@ module _ {D : Type 0} (g : disk.Ghosts D) (p : Parts D) (k : FileKey) (change : 
     pub freed_within : All (λ b. b < length (marked places p.space.current)) freed
     freed_within =
         let file = each-found (IsCatalogFile (geometry_of p.meta.current.geometry).blocks) k x.at.file p.meta.current.files x.lawful.current.each x.at.found in
-        rw (length-marked places p.space.current ∙ ap length x.live.marks ∙ length-marks p.meta.current, freed_are)
-        (All-from_recursion _ (freed_by size blocks x.at.file.places) (all-freed (λ b. b < (geometry_of p.meta.current.geometry).blocks) size blocks x.at.file.places file.within))
+        let P : ℕ → Type 0 = λ b. b < (geometry_of p.meta.current.geometry).blocks in
+        let all = each-join P (present (drop (blocks_in size) x.at.file.places)) (present (places_under blocks x.at.file.places)) (all-present P (blocks_in size) x.at.file.places file.within) (all-under P blocks x.at.file.places file.within) in
+        rw (length-marked places p.space.current ∙ ap length x.live.marks ∙ length-marks p.meta.current, freed_are) (All-from_recursion P (freed_by size blocks x.at.file.places) all)
 
     marks : unmarked freed (marked places p.space.current) ≡ marks_of next
     marks =
@@ -251,7 +238,7 @@ module _ {D : Type 0} (g : disk.Ghosts D) (p : Parts D) (k : FileKey) (change : 
       has_blocks = subst (λ (z : ℕ). Follows (HasBlocks (layout_of z).blocks changed ms) (g.gives p.disk) (g.gives mid)) x.lawful.stored.geometry staged.written
 
       beside : (d c : List ℕ) → HasBlocks base changed ms d c → IsBesideBlocks base places d c
-      beside d c step = subst (λ (ps : List ℕ). IsBesideBlocks base ps d c) (places-mapped blocks places long) step.beside
+      beside d c step = subst (λ (ps : List ℕ). IsBesideBlocks base ps d c) (mapped blocks places long).1 step.beside
 
       -- the store stays as it is
       pub written_live : IsLive g (store_of (record p { disk = mid }))
@@ -275,10 +262,10 @@ module _ {D : Type 0} (g : disk.Ghosts D) (p : Parts D) (k : FileKey) (change : 
           let holds = x.live.current was_on.0 was_on.1 in
           let there : AllByRecursion (λ (m : Mapping). part now (4096 * m.place) 4096 ≡ block_of changed m.block) ms =
           each-both (λ (m : Mapping). m.place < (geometry_of p.meta.durable.geometry).blocks) _ _ (λ m low is. block_in p.meta.durable.geometry c m.place low ∙ is) ms
-          (each-mapped (λ q. q < (geometry_of p.meta.durable.geometry).blocks) (λ (m : Mapping). m.place) ms (rw (places-mapped blocks places long, ← x.lawful.stored.geometry) are.within)) was_on.2.there in
+          (each-mapped (λ q. q < (geometry_of p.meta.durable.geometry).blocks) (λ (m : Mapping). m.place) ms (rw ((mapped blocks places long).1, ← x.lawful.stored.geometry) are.within)) was_on.2.there in
           held-changed was now p.meta.current (used_stay p.meta.durable.geometry places was_on.0 c (beside was_on.0 c was_on.2) p.meta.current x.lawful.stored.geometry x.lawful.current are.unused) change k size ms x.at.file body x.lawful.current
           (λ b lt. length-block p.meta.durable.geometry was_on.0 b (subst (λ z. b < (geometry_of z).blocks) x.lawful.stored.geometry lt) (x.live.backs.image was_on.0 (inr was_on.1)).found.size)
-          x.may x.at.found (bytes was holds) refl (blocks-mapped blocks places long) there
+          x.may x.at.found (bytes was holds) refl (mapped blocks places long).0 there
           ∙ ap (λ (h : Held). record h { files = affected_held (effect_of change) k h.files }) holds
 
       joined : (n : ℕ) (t : Store D) → Proceeds g (store_of (record p { disk = mid })) n t → Proceeds g (store_of p) n t
@@ -293,7 +280,7 @@ module _ {D : Type 0} (g : disk.Ghosts D) (p : Parts D) (k : FileKey) (change : 
           → IsDone g p n held_next (after_event p new m wrote (set p.bodies (k.ino - 1) changed) (unmarked freed (marked places p.space.current)) (marked places p.space.current) true)
       rewritten n new m wrote tells taken lawful backs turns =
           let current = taken ∙ become records staged.rewriting in
-          let touched_are = blocks-mapped blocks places long in
+          let touched_are = (mapped blocks places long).0 in
           let has_marks = each-weaker (λ b. get_or p.space.current b false ≡ true) (λ b. get_or (marked places p.space.current) b false ≡ true) (λ b. marked_keeps places p.space.current b) (blocks_of p.meta.current.files) (rw x.live.marks (marks_there p.meta.current x.lawful.current)) in
           let it =
           done g (record p { disk = mid }) x.lawful written_live n new m _ (unmarked freed (marked places p.space.current)) (marked places p.space.current) true backs held_next

@@ -1,16 +1,13 @@
 -- Files after a record, and after a change of the bytes of one, however bytes are found, and with their bodies in memory.
-use Rattle.file_store.proofs.Names.{◌≡◌, ℕ, List, [], length, map, Some, refl, ◌∙◌, sym, ap, subst, ◌+◌, ◌-◌, ◌≤◌, ◌∷◌, get_or, set, true, false, cond, Option, eqb, arith, length-set, get_or-set_same, get_or-set_other, IsSome, option_map, AllByRecursion, FileKey, find_key, change_key, put_key, drop_key, same_key, rebody, touched, size_after, mapped_after, FileState, new_file, remade, affected_held, file_or_new, bytes_of, Mapping, Record, Make, Drop, Size, Map, CatalogFile, Catalog, IsCatalog, geometry_of, names_of, file_after, with_file, with_changed, inode_of, key_on, after, CanStand, each-put, each-drop, each-change, names_of-drop, Rewrite, Write, Resize, file_by, bytes_at, bytes_with, held_at, held_with, IsBodiless, effect_in, held_after, empties, effect_of, remapped, eqb-true, eqb-false, ne_eqb, and_parts, Meta, each-found, key-found}
-use Rattle.hsm_types.specs.Kept.{Kept}
-use Rattle.meta_store.proofs.KeptCatalogs.{empty_file}
+use Rattle.std.proofs.lemmas.Bool.Decides.{nat_tests}
+use Rattle.file_store.proofs.Names.{◌≡◌, ℕ, List, [], length, map, Some, refl, ◌∙◌, sym, ap, subst, ◌+◌, ◌-◌, ◌≤◌, ◌∷◌, get_or, set, true, false, cond, Option, eqb, arith, length-set, get_or-set_same, get_or-set_other, IsSome, option_map, AllByRecursion, FileKey, find_key, change_key, put_key, drop_key, same_key, rebody, touched, size_after, mapped_after, FileState, new_file, remade, affected_held, file_or_new, bytes_of, Mapping, Record, Make, Drop, Size, Map, CatalogFile, Catalog, IsCatalog, geometry_of, names_of, file_after, with_file, with_changed, inode_of, key_on, after, CanStand, each-put, each-drop, each-change, names_of-drop, Rewrite, Write, Resize, file_by, bytes_at, bytes_with, held_at, held_with, IsBodiless, effect_in, held_after, empties, effect_of, remapped, eqb-true, eqb-false, ne_eqb, and_parts, Meta, each-found, key-found, Kept, empty_file, has_inode, Within, absent-low, ascend-drop, IsHeldFiles}
 use Rattle.file_store.specs.Bodies.{held_by, body_at}
 use Rattle.file_store.proofs.EachOf.{each-all, each-both, each-weaker}
 use Rattle.file_store.proofs.FilesBy.{SameBytes, same_held, by-put, by-drop, by-change, find-held, live-by}
 use Rattle.file_store.proofs.ByteChanges.{flags-mapped, length-changed}
 use Rattle.file_store.proofs.Marks.{geometry-after}
-use Rattle.inode_table.specs.Listing.{has_inode, Ascend, Within}
+use Rattle.inode_table.specs.Listing.{Ascend}
 use Rattle.inode_table.proofs.Choices.{neither}
-use Rattle.inode_table.proofs.Orders.{absent-low, ascend-drop}
-use Rattle.file_store.specs.HeldFiles.{IsHeldFiles}
 
 -- where bytes don't go by what is kept beside them
 abbrev pub SeesNoKept : (CatalogFile → List ℕ) → Type 0
@@ -92,12 +89,8 @@ found-above n k f fs a found = found-by (λ ino. n ≤ ino) k f fs (each-above n
 dropped-inode : (n : ℕ) (k : FileKey) (f : CatalogFile) (fs : List CatalogFile) → Ascend n (names_of fs) → find_key (λ x. x.key) k fs ≡ Some f → has_inode k.ino (names_of (drop_key (λ x. x.key) k fs)) ≡ false
 dropped-inode n k f [] a found = cc
 dropped-inode n k f (e ∷ fs) a found =
-    elim (same_key e.key k) as (λ b. same_key e.key k ≡ b → cond b (Some e) (find_key (λ x. x.key) k fs) ≡ Some f → has_inode k.ino (names_of (cond b fs (e ∷ drop_key (λ x. x.key) k fs))) ≡ false) [
-      | true ↦ λ same is. let it = eqb-true e.key.ino k.ino (and_parts (eqb e.key.ino k.ino) (eqb e.key.igen k.igen) same).0 in absent-low k.ino (e.key.ino + 1) (names_of fs) a.1 (omega arith)
-      | false ↦ λ other is.
-          let above = found-above (e.key.ino + 1) k f fs a.1 is in
-          rw (ne_eqb e.key.ino k.ino (λ same. absurd (omega arith))) (dropped-inode (e.key.ino + 1) k f fs a.1 is)
-    ] refl found
+    let low = absent-low e.key.ino (e.key.ino + 1) (names_of fs) a.1 (omega arith) in
+    grind (arith, nat_tests, low, dropped-inode (e.key.ino + 1) k f fs a.1, found-above (e.key.ino + 1) k f fs a.1)
 
 -- ---- the files that keep their bodies
 
@@ -198,11 +191,7 @@ module _ (bs : List (List ℕ)) (m : Meta) (is : IsHeldFiles bs m) where
 -- what is true of the others and of the changed file is true of each
 each-changed : (P : CatalogFile → Type 0) (k : FileKey) (to : CatalogFile → CatalogFile) (f : CatalogFile) (fs : List CatalogFile) → find_key (λ g. g.key) k fs ≡ Some f → P (to f) → AllByRecursion P (drop_key (λ g. g.key) k fs) → AllByRecursion P (change_key (λ g. g.key) k to fs)
 each-changed P k to f [] found here others = cc
-each-changed P k to f (e ∷ fs) found here others =
-    elim (same_key e.key k) as (λ b. cond b (Some e) (find_key (λ x. x.key) k fs) ≡ Some f → AllByRecursion P (cond b fs (e ∷ drop_key (λ x. x.key) k fs)) → AllByRecursion P (cond b (to e ∷ fs) (e ∷ change_key (λ x. x.key) k to fs))) [
-      | true ↦ λ is all. let it : f ≡ e = cc in (subst (λ (g : CatalogFile). P (to g)) it here, all)
-      | false ↦ λ is all. (all.0, each-changed P k to f fs is here all.1)
-    ] found others
+each-changed P k to f (e ∷ fs) found here others = grind (arith, each-changed P k to f fs)
 
 module _ (bs : List (List ℕ)) (m : Meta) (is : IsHeldFiles bs m) (k : FileKey) (at : IsFound (length bs) m.current k) where
   ino_is : at.file.key ≡ k

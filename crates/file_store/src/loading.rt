@@ -135,6 +135,15 @@ fn load_block<D: Disk>(
     ensures bytes { OnOk result ((c : List ℕ) → D.gives disk.old c → block.new ≡ part (blocks_in_image geometry c) (4096 * place) 4096) }
     ensures cause { HasCause result (D.fault_count disk.old) (D.fault_count disk.new) }
 {
-    let layout = Layout::of_geometry(geometry);
-    read_at(disk, layout.blocks + BLOCK_BYTES * place as u64, block)
+    read_at(disk, offset_of(geometry, place), block)?;
+    Ok(())
+}
+
+/// Where on the disk the data block at that place begins.
+fn offset_of(geometry: u32, place: u32) -> u64
+    requires { place < (geometry_of geometry).blocks }
+    ensures begins { result ≡ (layout_of geometry).blocks + 4096 * place }
+    ensures fits { result + 4096 ≤ (layout_of geometry).whole }
+{
+    Layout::of_geometry(geometry).blocks + BLOCK_BYTES * u64::from(place)
 }

@@ -1,5 +1,4 @@
-use Rattle.file_store.proofs.Names.{◌≡◌, refl, ◌∙◌, ap, length, marked, layout_of, Layout, touched, effect_of, touched_of, places_for}
-use Rattle.block_space.proofs.Spaces.{taken_are_free}
+use Rattle.file_store.proofs.Names.{◌≡◌, refl, ◌∙◌, ap, length, marked, layout_of, Layout, touched, effect_of, touched_of, places_for, taken_are_free}
 use Rattle.file_store.proofs.Beside.{blocks_low}
 use Rattle.file_store.proofs.ByteChanges.{changed-grown}
 use Rattle.file_store.proofs.StoreEvents.{places_within, undone}

@@ -1,5 +1,4 @@
-use Rattle.file_store.proofs.Names.{◌≡◌, ◌<◌, ℕ, List, [], length, refl, ◌∙◌, ap, subst, arith, take_all, Option, Same, idle, resized, layout_of, geometry_of, blocks_in_image}
-use Rattle.file_body.proofs.Sizes.{length-resized}
+use Rattle.file_store.proofs.Names.{◌≡◌, ◌<◌, ℕ, List, [], length, refl, ◌∙◌, ap, subst, arith, take_all, Option, Same, idle, resized, layout_of, geometry_of, blocks_in_image, length-resized}
 use Rattle.file_store.proofs.Beside.{length-block}
 use Rattle.file_store.proofs.ByBlocks.{HasBytes}
 use Rattle.file_store.proofs.Loaded.{reads_on, present-at, no_bytes, hole-more, block-more, all-filled}

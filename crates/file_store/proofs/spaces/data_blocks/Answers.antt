@@ -1,5 +1,4 @@
-use Rattle.file_store.proofs.Names.{◌≡◌, ℕ, ◌+◌, ◌++◌, List, Some, drop, sym, arith, append_assoc, slice_get, drop_more, CatalogFile, present, blocks_of}
-use Rattle.std.proofs.lemmas.Option.{slice_get_within, get_or_from_slice_get}
+use Rattle.file_store.proofs.Names.{◌≡◌, ℕ, ◌+◌, ◌++◌, List, Some, drop, sym, arith, append_assoc, slice_get, drop_more, CatalogFile, present, blocks_of, slice_get_within, get_or_from_slice_get}
 use Rattle.meta_store.proofs.WrittenFiles.{some-at}
 use Rattle.file_store.proofs.Loaded.{listed-count}
 use Rattle.file_store.proofs.spaces.data_blocks.Goals as goal

@@ -1,7 +1,7 @@
 use Rattle.file_store.proofs.Names.{◌≡◌, ◌+◌, ◌*◌, ◌<◌, ◌≤◌, ◌++◌, ◌∷◌, [], ℕ, List, length, get_or, take, ◌∙◌, ap, subst, arith, take_all, take_more, IsFreed, IsWritten, Keeps, keeps_on, kept_by, given_on, rebody, Mapping, block_of, effect_of, mappings_of, IsBesideBlocks, HasBlocks}
 use Rattle.file_body.proofs.Pieces.{length-block_of}
 use Rattle.file_store.proofs.EachOf.{each-at}
-use Rattle.file_store.proofs.Beside.{before, mapping_at, places-mapped, length-mapped, beside_freed, has_more}
+use Rattle.file_store.proofs.Beside.{before, mapping_at, mapped, length-mapped, beside_freed, has_more}
 use Rattle.file_store.proofs.writing.put_blocks.Given.{Over}
 use Rattle.file_store.proofs.writing.put_blocks.Goals.{After-from, After-write_at}
 use Rattle.file_store.proofs.writing.put_blocks.Goals as goal
@@ -52,7 +52,7 @@ loop-i-preserved g c =
     let m : Mapping = this g at in
     let within : c.loop-i.i < length ms = omega (arith, length-mapped c.args.blocks.now c.args.places.now c.requires.count, c.requires.count) in
     let more : take (c.loop-i.i + 1) ms ≡ take c.loop-i.i ms ++ m ∷ [] = take_more ms c.loop-i.i m within ∙ ap (λ (n : Mapping). take c.loop-i.i ms ++ n ∷ []) (this_is g at) in
-    let others = rw (this_is g at) at (before ms c.loop-i.i m (rw (places-mapped c.args.blocks.now c.args.places.now c.requires.count) c.requires.apart) within) in
+    let others = rw (this_is g at) at (before ms c.loop-i.i m (rw (mapped c.args.blocks.now c.args.places.now c.requires.count).1 c.requires.apart) within) in
     record {
       keeps = moments g after;
       written = rw more (given_on g.D.Disk _ _ _ _ _ _ c.loop-i.invariant.written c.in_ok-write_at.ensures.written

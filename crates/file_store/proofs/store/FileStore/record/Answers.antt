@@ -3,7 +3,7 @@ use Rattle.file_store.proofs.Durable.{Parts, IsDone, after_event, kept_proceeds}
 use Rattle.file_store.proofs.StoreEvents.{freed_low, recorded, is_disk, refused_sound, refused_as_is, refusal_alone}
 use Rattle.file_store.proofs.WithBodies.{bodies_after, slot-there}
 use Rattle.file_store.proofs.store.FileStore.record.Given.{Over}
-use Rattle.file_store.proofs.store.FileStore.record.Goals.{After-apply, In-Ok, After-eq-self-inside}
+use Rattle.file_store.proofs.store.FileStore.record.Goals.{After-apply, In-Ok}
 use Rattle.file_store.proofs.store.FileStore.record.Goals as goal
 
 pub clear-requires : goal.clear-requires
@@ -42,13 +42,11 @@ returns-in-Ok-clause-proceeds g c =
 
 -- ---- it wasn't taken
 
-failed_is : (g : Over) (c : After-eq-self-inside g) → c.eq-self-inside.result ≡ is_disk c.in-Err.refusal
-failed_is g c = search rules
-
 pub invariant_of-self-in-Err : goal.invariant_of-self-in-Err
 invariant_of-self-in-Err g c =
     let working = ap (λ s. s.failed) c.self.view_is ∙ c.requires.working in
-    rw (c.in-Err.ensures.err, failed_is g (goal.at.invariant_of-self-in-Err g c).After-eq-self-inside) (
+    let failed : c.eq-self-inside.result ≡ is_disk c.in-Err.refusal = search rules in
+    rw (c.in-Err.ensures.err, failed) (
       c.self.invariant.0,
       refused_sound g.D.Disk _ c.apply.new.disk c.in-Err.refusal c.self.invariant.1 working
           (λ why is. c.in-Err.ensures.unwritten why (ap (λ e. Err e) is)) (λ is. c.in-Err.ensures.memory (ap (λ e. Err e) is)),

@@ -1,5 +1,4 @@
-use Rattle.file_store.proofs.Names.{rules, true, ◌≡◌, ◌-◌, [], refl, sym, ◌∙◌, ap, arith, Err, length, set, marked, unmarked, affected_held, rebody, effect_of, new_size, touched_of, places_for, layout_of, IsBesideBlocks, IsStaged, Keeps, held_with, geometry-bounded}
-use Rattle.std.proofs.lemmas.List.{get_or_read, set-get_or}
+use Rattle.file_store.proofs.Names.{rules, true, ◌≡◌, ◌-◌, [], refl, sym, ◌∙◌, ap, arith, Err, length, set, marked, unmarked, affected_held, rebody, effect_of, new_size, touched_of, places_for, layout_of, IsBesideBlocks, IsStaged, Keeps, held_with, geometry-bounded, get_or_read, set-get_or}
 use Rattle.file_store.proofs.Durable.{Parts, IsDone, after_event}
 use Rattle.file_store.proofs.ByteChanges.{changed-grown, grown-back}
 use Rattle.file_store.proofs.RewriteRecords.{is_event, not_refused}
