@@ -1,8 +1,7 @@
 -- Blocks written to their places, one after the other, and what that leaves of what recovery finds, and of the other data blocks.
 use Rattle.std.proofs.lemmas.Bool.Decides.{nat_tests}
-use Rattle.file_store.proofs.Names.{◌≡◌, inl, inr, ⊎_elim, ℕ, ◌+◌, ◌*◌, ◌<◌, ◌≤◌, ◌^◌, ◌==◌, Bool, true, false, if◌then◌else◌, List, length, sym, ◌∙◌, ap, subst, arith, zero, suc, [], ◌∷◌, ◌++◌, map, get_or, take, refl, AllByRecursion, list_any, false≢true, false_from_ne_true, cases_lt, All-from_recursion, part, IsFreed, IsWritten, Keeps, All-has, Layout, small, large, IsApart, Catalog, blocks_of, IsCatalog, IsImage, Meta, Backs, held_at, block_of, IsBesideBlocks, places_of, HasBlocks, length-map, map-append, Mapping, mappings_of, Distinct, Ghosts}
+use Rattle.file_store.proofs.Names.{◌≡◌, inl, inr, ⊎_elim, ℕ, ◌+◌, ◌*◌, ◌<◌, ◌≤◌, ◌^◌, ◌==◌, true, false, List, length, sym, ◌∙◌, ap, subst, arith, zero, suc, [], ◌∷◌, ◌++◌, map, get_or, take, refl, AllByRecursion, list_any, false≢true, false_from_ne_true, cases_lt, All-from_recursion, part, IsFreed, IsWritten, Keeps, All-has, Layout, IsApart, Catalog, blocks_of, IsCatalog, IsImage, Meta, Backs, held_at, block_of, IsBesideBlocks, places_of, HasBlocks, length-map, map-append, Mapping, mappings_of, Distinct, Ghosts}
 use Rattle.disk_model.proofs.Parts.{part_part, length-part}
-use Rattle.hsm_types.specs.declared.stores.Geometry.{Geometry}
 use Rattle.commit_slots.specs.Places.{layout_of}
 use Rattle.meta_store.specs.Catalogs.{geometry_of}
 use Rattle.meta_store.specs.Images.{blocks_in_image}

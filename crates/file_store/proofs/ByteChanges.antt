@@ -1,5 +1,5 @@
 -- A change of the bytes of a file: of a body that was lengthened by zeros before it, and of the flags of the blocks that it touches.
-use Rattle.file_store.proofs.Names.{grown, new_size, rules, ◌≡◌, ℕ, ◌+◌, ◌-◌, ◌<◌, ◌≤◌, max, List, [], ◌++◌, length, ltb, refl, arith, length-append, replicate, zero, suc, ◌∷◌, map, take, set, false, eqb, ◌&&◌, Option, Some, None, ◌∙◌, ap, is_some, ◌/◌, ◌%◌, cond_both, ltb-true, and_parts, length-replicate, same_lists, places, map-append, map-set, take-map, length-map, written, resized, rebody, old_end, touched, size_after, from_on, blocks_in, met, with_mapped, fitted, mapped_after, Rewrite, Write, Resize, effect_of, AllByRecursion, Ascend, places_fitted, places_set, Mapping, length-written, length-resized, Effect}
+use Rattle.file_store.proofs.Names.{grown, new_size, rules, ◌≡◌, ℕ, ◌+◌, ◌-◌, ◌<◌, ◌≤◌, max, List, [], ◌++◌, length, ltb, refl, arith, length-append, replicate, zero, suc, ◌∷◌, map, take, set, false, eqb, ◌&&◌, Option, Some, None, ◌∙◌, ap, is_some, ◌/◌, ◌%◌, cond_both, ltb-true, and_parts, length-replicate, same_lists, places, map-append, map-set, take-map, length-map, resized, rebody, old_end, touched, size_after, from_on, blocks_in, met, with_mapped, fitted, mapped_after, Rewrite, Write, Resize, effect_of, AllByRecursion, Ascend, places_fitted, places_set, Mapping, length-written, length-resized, Effect}
 
 pub length-grown : (size : ℕ) (body : List ℕ) → length (grown size body) ≡ max size (length body)
 length-grown size body = omega (arith, length-append body (replicate (size - length body) 0), length-replicate {A = ℕ} (size - length body) 0)

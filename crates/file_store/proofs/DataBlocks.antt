@@ -1,5 +1,5 @@
 -- What data blocks hold of files: those whose blocks stay, and one whose touched blocks are written to new places.
-use Rattle.file_store.proofs.Names.{◌≡◌, ⊎_elim, inl, inr, ℕ, zero, suc, ◌+◌, ◌-◌, ◌*◌, ◌/◌, ◌%◌, ◌<◌, ◌≤◌, List, [], ◌∷◌, ◌++◌, length, map, get_or, take, drop, Option, Some, None, Bool, true, eqb, ltb, ◌&&◌, refl, sym, ◌∙◌, ap, subst, arith, if◌then◌else◌, flat_map, list_any, AllByRecursion, cases_lt, cond_both, and_from, lt-ltb, eqb-true, get_or-replicate, get_or_past, places, FileKey, part, find_key, resized, rebody, from_on, blocks_in, met, old_end, touched, size_after, affected_held, Mapping, CatalogFile, Catalog, IsCatalogFile, IsCatalog, geometry_of, present, blocks_of, with_changed, places_fitted, places_set, each-drop, each-found, Rewrite, Write, Resize, block_at, bytes_at, held_at, effect_of, IsRewrite, remapped, length-fitted, length-places_set}
+use Rattle.file_store.proofs.Names.{◌≡◌, ⊎_elim, inl, inr, ℕ, zero, suc, ◌+◌, ◌-◌, ◌*◌, ◌/◌, ◌%◌, ◌<◌, ◌≤◌, List, [], ◌∷◌, ◌++◌, length, map, get_or, take, drop, Option, Some, None, Bool, true, eqb, ltb, ◌&&◌, refl, sym, ◌∙◌, ap, subst, arith, if◌then◌else◌, flat_map, list_any, AllByRecursion, cases_lt, cond_both, and_from, lt-ltb, eqb-true, get_or-replicate, get_or_past, places, FileKey, part, find_key, rebody, from_on, blocks_in, met, old_end, touched, size_after, affected_held, Mapping, CatalogFile, Catalog, IsCatalogFile, IsCatalog, geometry_of, present, blocks_of, with_changed, places_fitted, places_set, each-drop, each-found, Rewrite, Write, Resize, block_at, bytes_at, held_at, effect_of, IsRewrite, remapped, length-fitted, length-places_set}
 use Rattle.file_store.specs.Bodies.{block_of, body_at}
 use Rattle.file_store.proofs.ByBlocks.{Whole, full, has_bytes, same_body, length-body, length-block, byte-block, at_place, after_set, get_or-fitted, written-beside}
 use Rattle.file_store.proofs.EachOf.{each-weaker, each-parts, each_member}

@@ -1,5 +1,5 @@
 -- The marks of the blocks that files use: places that may be taken, and what is left where a file frees blocks.
-use Rattle.file_store.proofs.Names.{places, ◌≡◌, ℕ, zero, suc, ◌+◌, ◌<◌, ◌≤◌, List, [], ◌∷◌, ◌++◌, length, take, drop, set, get_or, Option, Some, None, Bool, true, false, eqb, ltb, refl, sym, ◌∙◌, ap, subst, arith, length-set, get_or-set_other, replicate, AllByRecursion, list_any, sum_by, false≢true, false_from_ne_true, length-replicate, All-from_recursion, All-weaker, recursion_from_All, FileKey, find_key, change_key, put_key, drop_key, blocks_in, Space, free, marked, unmarked, All-has, Ascend, Ascend-low, Record, Make, Drop, Size, Map, CatalogFile, Catalog, IsCatalogFile, IsCatalog, geometry_of, present, blocks_of, file_after, inode_of, key_on, after, CanStand, places_fitted, places_set, with_changed, uses_of, uses-sum, sum-put, sum-drop, sum-change, blocks-change, each-found, blocks-within, IsBodiless, drops, mappings_of, remapped, places_under, freed_by, marks_of, sum_by-cons, sum_by-set, Distinct, IsFree, length-marked, others_are_free, taken_are_free, take_adds_others, marks_are_members, marks_join, releases-leave, uses, uses-append, distinct-uses, empty_file, length-fitted, present-fitted}
+use Rattle.file_store.proofs.Names.{places, ◌≡◌, ℕ, ◌+◌, ◌<◌, ◌≤◌, List, [], ◌∷◌, ◌++◌, length, take, drop, set, get_or, Option, Some, None, Bool, true, false, eqb, ltb, refl, sym, ◌∙◌, ap, subst, arith, length-set, get_or-set_other, replicate, AllByRecursion, list_any, sum_by, false≢true, false_from_ne_true, length-replicate, All-from_recursion, All-weaker, recursion_from_All, FileKey, find_key, change_key, put_key, drop_key, blocks_in, Space, free, marked, unmarked, All-has, Ascend, Ascend-low, Record, Make, Drop, Size, Map, CatalogFile, Catalog, IsCatalogFile, IsCatalog, geometry_of, present, blocks_of, file_after, inode_of, key_on, after, CanStand, places_fitted, places_set, with_changed, uses_of, uses-sum, sum-put, sum-drop, sum-change, blocks-change, each-found, blocks-within, IsBodiless, drops, mappings_of, remapped, places_under, freed_by, marks_of, sum_by-cons, sum_by-set, Distinct, IsFree, length-marked, others_are_free, taken_are_free, take_adds_others, marks_are_members, marks_join, releases-leave, uses, uses-append, distinct-uses, empty_file, length-fitted, present-fitted}
 use Rattle.std.specs.List.{All}
 use Rattle.std.proofs.lemmas.Bool.Decides.{nat_tests}
 use Rattle.file_store.specs.Effects.{IsFreed}

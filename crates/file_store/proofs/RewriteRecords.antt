@@ -1,5 +1,5 @@
 -- The records of a change of a file's bytes: that they are its places, the catalog after them, and that they can come.
-use Rattle.file_store.proofs.Names.{rules, ◌≡◌, ⊎_elim, ◌<◌, ℕ, zero, suc, ◌+◌, ◌-◌, ◌≤◌, min, List, [], ◌∷◌, ◌++◌, length, take, drop, get_or, Option, Some, None, refl, sym, ◌∙◌, ap, arith, length-append, take_all, set, true, false, cond, eqb, subst, cases_lt, cond_both, ltb-true, drop_more, drop_all, get_or_past, map-append, same_lists, places, from_on, blocks_in, Mapping, Record, Size, Map, present, CatalogFile, Catalog, geometry_of, blocks_of, mappings_from, places_set, file_after, with_changed, key_on, after, after_all, refusal_of_all, IsMappable, CanStandAll, IsMap, IsEvent, mappings_of, mappings_in, IsMapOn, IsRewriting, places_under, freed_by, remapped, flat_map, list_any, AllByRecursion, FileKey, same_key, find_key, change_key, names_of-change, places_of, uses, uses-append, absent-unused, uses-distinct, length-fitted, length-places_set, uses-fitted, uses-mapped}
+use Rattle.file_store.proofs.Names.{rules, ◌≡◌, ⊎_elim, ◌<◌, ℕ, zero, suc, ◌+◌, ◌-◌, ◌≤◌, min, List, [], ◌∷◌, ◌++◌, length, take, drop, get_or, Option, Some, None, refl, sym, ◌∙◌, ap, arith, length-append, take_all, set, false, eqb, subst, cases_lt, cond_both, ltb-true, drop_more, drop_all, get_or_past, map-append, same_lists, places, from_on, blocks_in, Mapping, Record, Size, Map, present, CatalogFile, Catalog, geometry_of, blocks_of, mappings_from, places_set, file_after, with_changed, key_on, after, after_all, refusal_of_all, IsMappable, CanStandAll, IsMap, IsEvent, mappings_of, mappings_in, IsMapOn, IsRewriting, places_under, freed_by, remapped, flat_map, list_any, AllByRecursion, FileKey, same_key, find_key, change_key, names_of-change, places_of, uses, uses-append, absent-unused, uses-distinct, length-fitted, length-places_set, uses-fitted, uses-mapped}
 use Rattle.std.proofs.lemmas.List.{append_assoc}
 use Rattle.file_body.proofs.Runs.{length_blocks}
 use Rattle.file_store.proofs.EachOf.{each-parts, each_member}
@@ -50,9 +50,9 @@ present-run a (suc n) ps =
 past-end : (n k : ℕ) (ps : List (Option ℕ)) → k ≡ min (length ps) n → take (length ps - k) (drop k ps) ≡ drop n ps
 past-end n k ps is = same_lists _ _ (search (rules, places)) (λ i d h. grind (arith, places))
 
-pub freed-runs : (a m b n size k : ℕ) (blocks : List ℕ) (ps : List (Option ℕ)) → from_on a m ++ from_on b n ≡ blocks → k ≡ min (length ps) (blocks_in size)
+pub freed_runs : (a m b n size k : ℕ) (blocks : List ℕ) (ps : List (Option ℕ)) → from_on a m ++ from_on b n ≡ blocks → k ≡ min (length ps) (blocks_in size)
     → [] ++ present (take (length ps - k) (drop k ps)) ++ present (take m (drop a ps)) ++ present (take n (drop b ps)) ≡ freed_by size blocks ps
-freed-runs a m b n size k blocks ps is kept =
+freed_runs a m b n size k blocks ps is kept =
     let under : present (take m (drop a ps)) ++ present (take n (drop b ps)) ≡ present (places_under blocks ps) =
     rw (present-run a m ps, present-run b n ps, ← is) (sym (ap present (map-append (λ i. get_or ps i None) (from_on a m) (from_on b n)) ∙ present-append (places_under (from_on a m) ps) (places_under (from_on b n) ps))) in
     append_assoc (present (take (length ps - k) (drop k ps))) (present (take m (drop a ps))) (present (take n (drop b ps)))

@@ -1,6 +1,6 @@
 -- Files after a record, and after a change of the bytes of one, however bytes are found, and with their bodies in memory.
 use Rattle.std.proofs.lemmas.Bool.Decides.{nat_tests}
-use Rattle.file_store.proofs.Names.{◌≡◌, ℕ, List, [], length, map, Some, refl, ◌∙◌, sym, ap, subst, ◌+◌, ◌-◌, ◌≤◌, ◌∷◌, get_or, set, true, false, cond, Option, eqb, arith, length-set, get_or-set_same, get_or-set_other, IsSome, option_map, AllByRecursion, FileKey, find_key, change_key, put_key, drop_key, same_key, rebody, touched, size_after, mapped_after, FileState, new_file, remade, affected_held, file_or_new, bytes_of, Mapping, Record, Make, Drop, Size, Map, CatalogFile, Catalog, IsCatalog, geometry_of, names_of, file_after, with_file, with_changed, inode_of, key_on, after, CanStand, each-put, each-drop, each-change, names_of-drop, Rewrite, Write, Resize, file_by, bytes_at, bytes_with, held_at, held_with, IsBodiless, effect_in, held_after, empties, effect_of, remapped, eqb-true, eqb-false, ne_eqb, and_parts, Meta, each-found, key-found, Kept, empty_file, has_inode, Within, absent-low, ascend-drop, IsHeldFiles}
+use Rattle.file_store.proofs.Names.{◌≡◌, ℕ, List, [], length, map, Some, refl, ◌∙◌, sym, ap, subst, ◌+◌, ◌-◌, ◌≤◌, ◌∷◌, get_or, set, true, false, cond, Option, eqb, arith, length-set, get_or-set_same, get_or-set_other, IsSome, option_map, AllByRecursion, FileKey, find_key, change_key, put_key, drop_key, rebody, touched, size_after, mapped_after, FileState, new_file, remade, affected_held, file_or_new, bytes_of, Mapping, Record, Make, Drop, Size, Map, CatalogFile, Catalog, IsCatalog, geometry_of, names_of, file_after, with_file, with_changed, inode_of, key_on, after, CanStand, each-put, each-drop, each-change, names_of-drop, Rewrite, Write, Resize, file_by, bytes_at, bytes_with, held_at, held_with, IsBodiless, effect_in, held_after, empties, effect_of, remapped, eqb-false, Meta, each-found, key-found, Kept, empty_file, has_inode, Within, absent-low, ascend-drop, IsHeldFiles}
 use Rattle.file_store.specs.Bodies.{held_by, body_at}
 use Rattle.file_store.proofs.EachOf.{each-all, each-both, each-weaker}
 use Rattle.file_store.proofs.FilesBy.{SameBytes, same_held, by-put, by-drop, by-change, find-held, live-by}

@@ -22,6 +22,7 @@ use meta_store::{Catalog, MetaStore};
 use std::alloc::Global;
 
 /// Reads the files of a store, their bodies, that of inode i at i - 1, and which blocks they leave free.
+#[tactic(auto, using(crate::proofs::Loaded::reads_on, crate::proofs::Durable::backs_same))]
 pub(crate) fn read_in<D: Disk>(
     alloc: Global,
     disk: &mut D,

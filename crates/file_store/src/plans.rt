@@ -110,6 +110,7 @@ fn push_map(
 }
 
 /// The blocks that a file with these places frees as it gets that size, and new places for the blocks that are touched.
+#[tactic(auto, using(crate::proofs::RewriteRecords::freed_runs))]
 fn freed_by(
     alloc: Global,
     places: &[Option<u32>],

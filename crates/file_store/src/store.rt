@@ -122,6 +122,7 @@ impl<D: Disk> FileStore<D> {
     }
 
     /// What is kept of the files beside their bytes.
+    #[tactic(auto, using(crate::proofs::FilesBy::held_lawful, crate::proofs::FilesBy::shows))]
     pub fn meta(&self) -> &MetaStore
         ensures meta { result.now ≡ self.now.meta }
         ensures lawful { IsMeta self.now.meta }
@@ -155,6 +156,7 @@ impl<D: Disk> FileStore<D> {
     }
 
     /// How the store was formatted. No more blocks are mapped than it has.
+    #[tactic(auto, using(crate::proofs::FilesBy::used_few))]
     pub fn superblock(&self) -> Superblock
         ensures superblock { result ≡ superblock_of self.now }
         ensures mapped { used self.now.held.files ≤ (superblock_of self.now).geometry.blocks }
@@ -166,6 +168,7 @@ impl<D: Disk> FileStore<D> {
     }
 
     /// Whether a call of the disk has failed. As long as none has, nothing becomes of the disk between calls.
+    #[tactic(auto, using(crate::proofs::Durable::sound_idle))]
     pub fn has_failed(&self) -> bool
         ensures failed { result ≡ self.now.failed }
         ensures idle { self.now.failed ≡ false → (n : ℕ) → Proceeds D.Disk self.now n self.now }
@@ -174,6 +177,7 @@ impl<D: Disk> FileStore<D> {
     }
 
     /// Ends with the disk. What wasn't made durable is lost.
+    #[tactic(auto, using(crate::proofs::Durable::durable_found))]
     pub fn close(self) -> D
         ensures disk { result ≡ self.disk }
         ensures durable { self.failed ≡ false → (c : List ℕ) → MayBe D.Disk self.disk c → IsDurable self c }

@@ -1,4 +1,4 @@
-use Rattle.file_store.proofs.Names.{◌≡◌, ℕ, List, refl, sym, ◌∙◌, ap, Catalog, blocks_in_image, held_at, RecoversOne}
+use Rattle.file_store.proofs.Names.{◌≡◌, refl, sym, ◌∙◌, ap, Catalog, blocks_in_image, held_at}
 use Rattle.meta_store.proofs.FoundImages.{found-one}
 use Rattle.file_store.proofs.laws.one_recovery.Goals as goal
 
