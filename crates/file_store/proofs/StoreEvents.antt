@@ -44,11 +44,11 @@ is_disk (Part why) = false
 is_disk Disk = true
 is_disk Memory = false
 
-pub refused_sound : {D : Type 0} (g : Ghosts D) (s : Store D) (new : D) (refusal : MetaRefusal) → IsSound g s → s.failed ≡ false → ((why : DmRefusal) → refusal ≡ Part why → new ≡ s.disk) → (refusal ≡ Memory → new ≡ s.disk)
-    → IsSound g (record s { disk = new; failed = is_disk refusal })
-refused_sound g s new (Part why) sound working part memory = rw (part why refl) (subst (λ b. IsSound g (record s { failed = b })) working sound)
-refused_sound g s new Disk sound working part memory = record { meta = sound.meta; live = λ still. absurd cc }
-refused_sound g s new Memory sound working part memory = rw (memory refl) (subst (λ b. IsSound g (record s { failed = b })) working sound)
+pub refused_sound : {D : Type 0} (g : Ghosts D) (s : Store D) (new : D) (space : Space) (refusal : MetaRefusal) → IsSound g s → s.failed ≡ false → ((why : DmRefusal) → refusal ≡ Part why → (space ≡ s.space) × (new ≡ s.disk)) → (refusal ≡ Memory → (space ≡ s.space) × (new ≡ s.disk))
+    → IsSound g (record s { disk = new; space = space; failed = is_disk refusal })
+refused_sound g s new space (Part why) sound working part memory = rw ((part why refl).0, (part why refl).1) (subst (λ b. IsSound g (record s { failed = b })) working sound)
+refused_sound g s new space Disk sound working part memory = record { meta = sound.meta; live = λ still. absurd cc }
+refused_sound g s new space Memory sound working part memory = rw ((memory refl).0, (memory refl).1) (subst (λ b. IsSound g (record s { failed = b })) working sound)
 
 pub refused_as_is : (refusal : MetaRefusal) → ((why : DmRefusal) → refused_as refusal ≡ store.Part why → refusal ≡ Part why) × (refused_as refusal ≡ store.Memory → refusal ≡ Memory)
 refused_as_is (Part w) = (λ why is. cc, λ is. cc)

@@ -1,6 +1,6 @@
-use Rattle.file_store.proofs.Names.{◌≡◌, refl, ◌∙◌, ap, length, marked, layout_of, Layout, touched, effect_of, touched_of, places_for, taken_are_free}
+use Rattle.file_store.proofs.Names.{arith, new_size, ◌≡◌, refl, ◌∙◌, ap, length, marked, layout_of, Layout, touched, effect_of, touched_of, places_for, taken_are_free}
 use Rattle.file_store.proofs.Beside.{blocks_low}
-use Rattle.file_store.proofs.ByteChanges.{changed-grown}
+use Rattle.file_store.proofs.ByteChanges.{length-grown, changed-grown, grown-no_more}
 use Rattle.file_store.proofs.StoreEvents.{places_within, undone}
 use Rattle.file_store.proofs.events.stage.Given.{Over}
 use Rattle.file_store.proofs.events.stage.Goals.{After-as_slice-places, After-of_geometry-base}
@@ -26,6 +26,11 @@ returns-in_default-clause-memory g c = λ is.
     let at = (goal.at.returns-in_default-clause-memory g c).After-as_slice-places in
     (c.release_all.ensures ∙ rw (space_is g at, places_is g at, undone c.args.space.now (length (touched_of c.args.change c.args.body.now))) refl, refl)
 
+pub put_blocks-requires-clause-grows : goal.put_blocks-requires-clause-grows
+put_blocks-requires-clause-grows g c = λ some.
+    let touched = touched_is g (goal.at.put_blocks-requires-clause-grows g c).After-as_slice-places in
+    rw c.in-Ok.ensures.grown (grown-no_more c.args.change c.args.body.now (rw touched at some))
+
 pub put_blocks-requires-clause-low : goal.put_blocks-requires-clause-low
 put_blocks-requires-clause-low g c = rw (base_is g (goal.at.put_blocks-requires-clause-low g c).After-of_geometry-base) (blocks_low c.args.catalog.now.geometry)
 
@@ -34,6 +39,11 @@ put_blocks-requires-clause-fits g c = let at = goal.at.put_blocks-requires-claus
 
 pub put_blocks-requires-clause-apart : goal.put_blocks-requires-clause-apart
 put_blocks-requires-clause-apart g c = rw (places_is g (goal.at.put_blocks-requires-clause-apart g c).After-as_slice-places) (taken_are_free c.args.space.now _).once
+
+pub cut-requires : goal.cut-requires
+cut-requires g c =
+    let size = new_size c.args.change c.args.body.now in
+    record { within = rw (c.in-Ok.ensures.grown, c.len-old.ensures.len) (omega (arith, length-grown size c.args.body.now)); file = c.len-old.ensures.limit }
 
 pub returns-clause-staged : goal.returns-clause-staged
 returns-clause-staged g c =

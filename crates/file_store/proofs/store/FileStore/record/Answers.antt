@@ -48,8 +48,8 @@ invariant_of-self-in-Err g c =
     let failed : c.eq-self-inside.result ≡ is_disk c.in-Err.refusal = search rules in
     rw (c.in-Err.ensures.err, failed) (
       c.self.invariant.0,
-      refused_sound g.D.Disk _ c.apply.new.disk c.in-Err.refusal c.self.invariant.1 working
-          (λ why is. c.in-Err.ensures.unwritten why (ap (λ e. Err e) is)) (λ is. c.in-Err.ensures.memory (ap (λ e. Err e) is)),
+      refused_sound g.D.Disk _ c.apply.new.disk _ c.in-Err.refusal c.self.invariant.1 working
+          (λ why is. (refl, c.in-Err.ensures.unwritten why (ap (λ e. Err e) is))) (λ is. (refl, c.in-Err.ensures.memory (ap (λ e. Err e) is))),
     )
 
 pub returns-clause-refused : goal.returns-clause-refused

@@ -1,6 +1,6 @@
 use Rattle.file_store.proofs.Names.{rules, true, ◌≡◌, ◌-◌, [], refl, sym, ◌∙◌, ap, arith, Err, length, set, marked, unmarked, affected_held, rebody, effect_of, new_size, touched_of, places_for, layout_of, IsBesideBlocks, IsStaged, Keeps, held_with, geometry-bounded, get_or_read, set-get_or}
 use Rattle.file_store.proofs.Durable.{Parts, IsDone, after_event}
-use Rattle.file_store.proofs.ByteChanges.{changed-grown, grown-back}
+use Rattle.file_store.proofs.ByteChanges.{length-grown, changed-grown, grown-enough, grown-back}
 use Rattle.file_store.proofs.RewriteRecords.{is_event, not_refused}
 use Rattle.file_store.proofs.StoreEvents.{Given, known, body_of, fits, stand, places_within, freed_within, undone, written_proceeds, written_live, refused_proceeds, rewritten, is_disk, refused_sound, refused_as_is}
 use Rattle.file_store.proofs.store.FileStore.rewrite.Given.{Over}
@@ -52,6 +52,26 @@ staged g c = rw (c.catalog-catalog.ensures.catalog, body_is g (goal.at.In-Ok g c
 space_is : (g : Over) (c : In-Ok g) → c.stage.new.space ≡ record c.self.inside.space { current = marked (places_for c.args.change (body_of c.self.inside.bodies.items c.args.key) c.self.inside.space) c.self.inside.space.current }
 space_is g c = rw (body_is g (goal.at.In-Ok g c).After-stage) at c.in-Ok.ensures.marked
 
+-- where there was no memory for it, or the disk failed
+kept_body : (g : Over) (c : After-stage g) → c.stage.new.body ≡ c.index_mut-body.result.now → set c.self.inside.bodies.items c.slot.result c.stage.new.body ≡ c.self.inside.bodies.items
+kept_body g c same = rw (c.slot.ensures, same, body_is g c) (set-get_or c.self.inside.bodies.items (c.args.key.ino - 1) [])
+
+pub invariant_of-self : goal.invariant_of-self
+invariant_of-self g c =
+    let at = goal.at.invariant_of-self g c in
+    let failed : c.eq-self-inside.result ≡ is_disk c.in-Err.refusal = search rules in
+    rw (kept_body g at.After-stage c.in-Err.ensures.err, failed) (
+      c.self.invariant.0,
+      refused_sound g.D.Disk _ c.stage.new.disk c.stage.new.space c.in-Err.refusal c.self.invariant.1 (ap (λ s. s.failed) c.self.view_is ∙ c.requires.working) (λ why is. absurd (c.in-Err.ensures.no_part why (ap (λ e. Err e) is)))
+          (λ is. c.in-Err.ensures.memory (ap (λ e. Err e) is)),
+    )
+
+pub returns-in-Err-clause-memory : goal.returns-in-Err-clause-memory
+returns-in-Err-clause-memory g c = λ is.
+    let memory = (refused_as_is c.in-Err.refusal).1 (sym c.from.ensures ∙ cc) in
+    let failed : c.eq-self-inside.result ≡ is_disk c.in-Err.refusal = search rules in
+    (rw (kept_body g (goal.at.returns-in-Err-clause-memory g c).After-stage c.in-Err.ensures.err) (ap (λ s. s.held) c.self.view_is), failed ∙ ap is_disk memory)
+
 pub returns-in-Err-clause-proceeds : goal.returns-in-Err-clause-proceeds
 returns-in-Err-clause-proceeds g c =
     let at = goal.at.returns-in-Err-clause-proceeds g c in
@@ -80,6 +100,9 @@ taken g c =
     (rewritten g.D.Disk _ _ _ (given g at.After-of-before) _ (moments g at.After-stage) _ _ (staged g at.In-Ok) c.args.number _ _ c.in-Ok-apply.wrote (λ e. c.in-Ok-apply.ensures.wrote e, λ e. c.in-Ok-apply.ensures.staged e) c.in-Ok-apply.ensures.taken.current
     c.in-Ok-apply.ensures.lawful c.in-Ok-apply.ensures.backs c.apply.ensures.any_moment)
 
+pub apply-requires-in-Ok-apply : goal.apply-requires-in-Ok-apply
+apply-requires-in-Ok-apply g c = record { lawful = c.requires.lawful; in_place = rw c.in-Ok.ensures.grown (grown-enough c.args.change c.index_mut-body.result.now) }
+
 pub release_all-requires : goal.release_all-requires
 release_all-requires g c =
     let at = goal.at.release_all-requires g c in
@@ -106,6 +129,17 @@ old_body : (g : Over) (c : After-cut g) → set c.self.inside.bodies.items c.slo
 old_body g c =
     rw (c.slot.ensures, c.cut.ensures, c.in-Ok.ensures.grown, c.len-old.ensures.len, grown-back (new_size c.args.change c.index_mut-body.result.now) c.index_mut-body.result.now, body_is g (goal.at.After-cut g c).After-stage) (set-get_or c.self.inside.bodies.items (c.args.key.ino - 1) [])
 
+pub cut-requires : goal.cut-requires
+cut-requires g c =
+    let body = c.index_mut-body.result.now in
+    record { within = rw (c.in-Ok.ensures.grown, c.len-old.ensures.len) (omega (arith, length-grown (new_size c.args.change body) body)); file = c.len-old.ensures.limit }
+
+pub returns-in-Err-apply-clause-memory : goal.returns-in-Err-apply-clause-memory
+returns-in-Err-apply-clause-memory g c = λ is.
+    let memory = (refused_as_is c.in-Err-apply.refusal).1 (sym c.from-in-Err-apply.ensures ∙ cc) in
+    let failed : c.eq-self-inside-in-Err-apply.result ≡ is_disk c.in-Err-apply.refusal = search rules in
+    (rw (old_body g (goal.at.returns-in-Err-apply-clause-memory g c).After-cut, c.in-Err-apply.ensures.err) (ap (λ s. s.held) c.self.view_is), failed ∙ ap is_disk memory)
+
 pub release_all-requires-in-Err-apply : goal.release_all-requires-in-Err-apply
 release_all-requires-in-Err-apply g c =
     let at = goal.at.release_all-requires-in-Err-apply g c in
@@ -120,9 +154,9 @@ invariant_of-self-in-Err-apply g c =
     let failed : c.eq-self-inside-in-Err-apply.result ≡ is_disk c.in-Err-apply.refusal = search rules in
     rw (old_body g at.After-cut, c.release_all-in-Err-apply.ensures, c.as_slice.ensures.value, c.in-Ok.ensures.places, space_is g at.In-Ok, body_is g at.After-stage, undone c.self.inside.space (length (touched_of c.args.change body)), c.in-Err-apply.ensures.err, failed) (
       c.self.invariant.0,
-      refused_sound g.D.Disk _ c.apply.new.disk c.in-Err-apply.refusal
+      refused_sound g.D.Disk _ c.apply.new.disk _ c.in-Err-apply.refusal
           (record { meta = sound.meta; live = λ still. written_live g.D.Disk _ _ _ (given g at.After-of-before) _ (moments g at.After-stage) _ _ (staged g at.In-Ok) })
-          (ap (λ s. s.failed) c.self.view_is ∙ c.requires.working) (λ why is. c.in-Err-apply.ensures.unwritten why (ap (λ e. Err e) is)) (λ is. c.in-Err-apply.ensures.memory (ap (λ e. Err e) is)),
+          (ap (λ s. s.failed) c.self.view_is ∙ c.requires.working) (λ why is. (refl, c.in-Err-apply.ensures.unwritten why (ap (λ e. Err e) is))) (λ is. (refl, c.in-Err-apply.ensures.memory (ap (λ e. Err e) is))),
     )
 
 pub returns-in-Err-apply-clause-no_part : goal.returns-in-Err-apply-clause-no_part
