@@ -10,7 +10,8 @@ use Rattle.file_store.proofs.DataBlocks.{Stays, held-stays}
 use Rattle.file_store.proofs.EachOf.{each-all, each-weaker, each_other, each-at, each-both, each-join, each-mapped, each-parts}
 use Rattle.file_store.proofs.Marks.{NoneOf, used-within}
 
--- where the data blocks lie, and how many there are
+-- ---- where the data blocks lie, and how many there are
+
 pub record IsRoom (l : Layout) (blocks : ℕ) : Type 0 where
   pub len : l.blocks_len ≡ 4096 * blocks
   pub fits : l.blocks + l.blocks_len ≤ l.whole
@@ -101,6 +102,8 @@ before (m ∷ ms) (suc k) d apart h = (
   each-at (λ (n : Mapping). m.place ≡ n.place → ⊥) ms k d (omega arith) (each-mapped (λ p. m.place ≡ p → ⊥) (λ (n : Mapping). n.place) ms (each_other m.place (places_of ms) apart.0)),
   before ms k d apart.1 (omega arith),
 )
+
+-- ---- images
 
 -- what a write to one of the places keeps
 pub beside_freed : (base : ℕ) (places : List ℕ) (k : ℕ) → k < length places → (old new : List ℕ) → IsFreed (base + 4096 * get_or places k 0) 4096 old new → IsBesideBlocks base places old new

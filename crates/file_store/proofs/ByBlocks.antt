@@ -2,6 +2,8 @@
 use Rattle.file_store.proofs.Names.{rules, ◌≡◌, ◌⊎◌, inl, inr, ⊎_elim, ℕ, zero, suc, ◌+◌, ◌-◌, ◌*◌, ◌/◌, ◌%◌, ◌<◌, ◌≤◌, List, [], ◌∷◌, ◌++◌, length, map, get_or, take, drop, set, Option, Some, None, refl, sym, ◌∙◌, ap, subst, arith, length-append, length-take, length-set, get_or-set_same, get_or-set_other, replicate, flat_map, AllByRecursion, cases_eq, ext_get_or, length-replicate, get_or-take, get_or_append_left, get_or-append_right, places, part, written, blocks_in, Mapping, present, places_fitted, places_set, block_at}
 use Rattle.file_store.specs.Bodies.{body_at}
 
+-- ---- places
+
 -- what is true of the block of a hole, and of each block that is present
 pub at_place : (P : ℕ → Type 0) (Q : Option ℕ → Type 0) → Q None → ((p : ℕ) → P p → Q (Some p)) → (ps : List (Option ℕ)) (q : ℕ) → AllByRecursion P (present ps) → Q (get_or ps q None)
 at_place P Q none some [] q all = none

@@ -4,7 +4,8 @@ use Rattle.file_store.proofs.Names.{grown, new_size, rules, ◌≡◌, ℕ, ◌+
 pub length-grown : (size : ℕ) (body : List ℕ) → length (grown size body) ≡ max size (length body)
 length-grown size body = omega (arith, length-append body (replicate (size - length body) 0), length-replicate {A = ℕ} (size - length body) 0)
 
--- what is left after a change
+-- ---- what is left after a change
+
 pub length-changed : (change : Rewrite) (body : List ℕ) → length (rebody (effect_of change) body) ≡ new_size change body
 length-changed (Write offset bytes) body = length-written offset bytes.now body
 length-changed (Resize size) body = length-resized size body

@@ -7,6 +7,8 @@ use Rattle.file_store.proofs.FilesBy.{SameBytes, held-same}
 use Rattle.file_store.proofs.ByteChanges.{length-changed}
 use Rattle.file_store.proofs.WithBodies.{held-rewritten}
 
+-- ---- blocks that aren't touched
+
 -- none of these blocks is q
 abbrev Others : ℕ → List ℕ → Type 0
 Others q blocks = AllByRecursion (λ b. b ≡ q → ⊥) blocks
