@@ -80,8 +80,8 @@ impl Sessions {
         Ok(())
     }
 
-    /// What refuses an event of a session's own, if anything does.
-    fn judge_event(&self, sid: Sid, body: &Bytes) -> Result<(), DmRefusal>
+    /// What refuses an event of a session's own, if anything does. It takes no memory.
+    pub fn judge_event(&self, sid: Sid, body: &Bytes) -> Result<(), DmRefusal>
         ensures { MatchResult result (λ _. first_refusal (dead_session sid self.now ∷ event_refusal body.now self.now ∷ []) ≡ None)
             (λ why. first_refusal (dead_session sid self.now ∷ event_refusal body.now self.now ∷ []) ≡ Some why) }
     {
@@ -109,8 +109,8 @@ impl Sessions {
         Ok(())
     }
 
-    /// What refuses to send a message, if anything does.
-    fn judge_sending(&self, sid: Sid, target: Sid, body: &Bytes) -> Result<(), DmRefusal>
+    /// What refuses to send a message, if anything does. It takes no memory.
+    pub fn judge_sending(&self, sid: Sid, target: Sid, body: &Bytes) -> Result<(), DmRefusal>
         ensures { MatchResult result (λ _. first_refusal (dead_session sid self.now ∷ sending_refusal target body.now self.now ∷ []) ≡ None)
             (λ why. first_refusal (dead_session sid self.now ∷ sending_refusal target body.now self.now ∷ []) ≡ Some why) }
     {

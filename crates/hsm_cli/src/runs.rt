@@ -79,6 +79,7 @@ fn run_line<D: Disk>(alloc: Global, hsm: &mut Hsm<D>, line: Line) -> Result<(), 
     let Line::Event { actor, action, .. } = line;
     match (&actor, action) {
         (Actor::Caller(caller), Action::Issue(call)) => goes_on(&hsm.issue(alloc, *caller, call)),
+        (Actor::Caller(caller), Action::Resume) => goes_on(&hsm.resume(alloc, *caller)),
         (Actor::Session(sid), Action::Dm(call)) => is_served(&hsm.dm(alloc, *sid, call)),
         (Actor::Store, Action::Commit) => commit(alloc, hsm),
         _ => unreachable!(),

@@ -1,9 +1,13 @@
 -- An event more: what becomes of a store by what became of its parts.
 use Rattle.std.proofs.Common.{◌≡◌, ◌⊎◌, ℕ, ◌+◌, ◌≤◌, List, [], ◌∷◌, ◌++◌, length, true, false, inl, inr, refl, sym, ◌∙◌, ap, subst, arith, length-append}
-use Rattle.std.specs.Prelude.{Result, Ok, Err, IfOk, OnOk, OnErr, IsErrOf}
+use Rattle.std.specs.Prelude.{Bool, if◌then◌else◌, Result, Ok, Err, IfOk, OnOk, OnErr, IsOk, IsErrOf}
 use Rattle.disk_model.specs.declared.device.Disk as disk
 use Rattle.disk_model.specs.Calls.{Rose}
+use Rattle.hsm_types.specs.Sessions.{SessionTable}
+use Rattle.hsm_types.specs.declared.dm.DmCall.{DmCall}
+use Rattle.hsm_types.specs.declared.dm.DmCall.TheVariants.{Respond, CreateUserEvent, GetSpace}
 use Rattle.hsm_types.specs.declared.dm.DmRefusal.{DmRefusal}
+use Rattle.hsm_types.specs.declared.keys.Sid.{Sid}
 use Rattle.hsm_types.specs.declared.keys.FileKey.{FileKey}
 use Rattle.hsm_types.specs.declared.stores.Superblock.{Superblock}
 use Rattle.plain_model.specs.declared.entries.Entry.{Entry}
@@ -11,6 +15,7 @@ use Rattle.plain_model.specs.declared.entries.Actor.{Actor}
 use Rattle.plain_model.specs.declared.entries.Action.{Action}
 use Rattle.plain_model.specs.declared.entries.Answer.{Answer}
 use Rattle.plain_model.specs.Faults.{fault_of, is_fault, Acts}
+use Rattle.plain_model.specs.State.{Held, State}
 use Rattle.plain_model.specs.Exact.{answer_to, left_own, left_by}
 use Rattle.plain_model.specs.Synced.{is_sync}
 use Rattle.plain_model.proofs.Faultless.{own_faultless}
@@ -19,8 +24,12 @@ use Rattle.file_store.specs.declared.refusal.StoreRefusal.TheVariants.{Part, Mem
 use Rattle.file_store.specs.Stores.{superblock_of, Proceeds}
 use Rattle.hsm_core.specs.Store.{Store, last_number, state_with, state_of, HasRun}
 use Rattle.hsm_core.specs.Crashes.{IsSafe, IsSynced}
-use Rattle.hsm_core.specs.Ends.{Ends, AreBoth}
+use Rattle.dm_service.specs.Services.{AreBoth, is_due, entries_for}
+use Rattle.dm_service.specs.Tables.{Tables, ledger_of, awaited_in}
+use Rattle.hsm_core.specs.Ends.{Ends}
+use Rattle.hsm_core.specs.Targets.{EachLasts}
 use Rattle.hsm_core.specs.Answers.{entry_of, memory_of, own_answer, own_state, IsAnswer}
+use Rattle.hsm_core.proofs.Lasting.{event_lasts}
 use Rattle.hsm_core.proofs.Syncs.{fault_no_sync}
 use Rattle.hsm_core.proofs.Runs.{formatted_as, true_false, HasRun-unkept, HasRun-kept}
 use Rattle.hsm_core.proofs.Safety.{safe_within, safe_unkept, safe_kept, safe_faulted}
@@ -74,15 +83,17 @@ module _ {D : Type 0} (g : disk.Ghosts D) (s t : Store D) (has : HasRun s) (safe
     })),
   )
 
-  faulted : answer ≡ fault_of action → t.history ≡ s.history ++ entry_of actor action (fault_of action) ∷ [] → t.files.failed ≡ true
+  faulted : answer ≡ fault_of action → t.history ≡ s.history ++ entry_of actor action (fault_of action) ∷ [] → t.stamps ≡ s.stamps → t.tables ≡ s.tables → t.files.failed ≡ true
       → Rose (g.fault_count s.files.disk) (g.fault_count t.files.disk) → IsNext g s actor action answer t
-  faulted answered history failed rose = (
+  faulted answered history stamps tables failed rose = (
     HasRun-kept g s t has (last_number s) opened proceeds (entry_of actor action (fault_of action)) working history (inl (acts, refl)) (λ still. true_false t.files.failed failed still),
     safe_faulted g s t has safe working opened proceeds (entry_of actor action (fault_of action)) history (fault_no_sync action) failed,
     inr (inr (inl (record {
       goes = record { opened = opened; working = working; proceeds = proceeds; within = safe_within g s has t safe working proceeds };
       answer = answered;
       history = history;
+      stamps = stamps;
+      tables = tables;
       failed = failed;
       rose = rose;
     }))),
@@ -130,7 +141,7 @@ module _ {D R : Type 0} (g : disk.Ghosts D) (s t : Store D) (has : HasRun s) (sa
   ended (Err NoMemory) became keeps =
       lacking g s t has safe working opened became.ends.proceeds actor action acts (say reply) (keeps.memory refl).0 (keeps.memory refl).1
       (λ i. state_with ((became.ends.memory refl).0 i) (became.stamps i) (became.tables i) (uncounted s t opened (keeps.memory refl).1 i)) (became.ends.memory refl).1
-  ended (Err Failed) became keeps = faulted g s t has safe working opened became.ends.proceeds actor action acts (say reply) (keeps.failed refl).0 (keeps.failed refl).1 (became.ends.failed refl).0 (became.ends.failed refl).1
+  ended (Err Failed) became keeps = faulted g s t has safe working opened became.ends.proceeds actor action acts (say reply) (keeps.failed refl).0 (keeps.failed refl).1 became.stamps became.tables (became.ends.failed refl).0 (became.ends.failed refl).1
   ended (Err (Part why)) became keeps = absurd (became.ends.no_part why refl)
 
 -- ---- an event of a store that was made ready for it
@@ -162,3 +173,42 @@ module _ {D : Type 0} (g : disk.Ghosts D) (s : Store D) (has : HasRun s) (safe :
       let counted_on = subst (λ (m : ℕ). Becomes g (superblock_of s.opened) m ready t actor action say own d) number formatted in
       subst (λ (x : Store D). IsNext g x actor action (say reply) t) same
       (ended g ready t run (subst (λ (x : Store D). IsSafe g x) (sym same) safe) working opened actor action acts say own reply d counted_on keeps)
+
+-- calls that wait are such as before
+pub lasting : {R : Type 0} (super : Superblock) (h h' : Held) (stamps stamps' : List (FileKey × ℕ)) (n : ℕ) (t u : Tables) (actor : Actor) (action : Action) (d : Result (R × R) StoreRefusal)
+    → OnOk d (state_with h' stamps' u (n + 1) ≡ left_own super (state_with h stamps t n) actor action) → OnErr d (u ≡ t) → EachLasts (ledger_of t) → EachLasts (ledger_of u)
+lasting super h h' stamps stamps' n t u actor action (Ok r) left same is = subst EachLasts (ap (λ (st : State). st.ledger) (sym left)) (event_lasts super (state_with h stamps t n) actor action is)
+lasting super h h' stamps stamps' n t u actor action (Err why) left same is = subst (λ (x : Tables). EachLasts (ledger_of x)) (sym same) is
+
+-- for how much there is room
+pub room_after : {T E : Type 0} (t u : Tables) (k : ℕ) (d : Result T E) → OnOk d (awaited_in u ≤ awaited_in t + k) → OnErr d (u ≡ t) → awaited_in u ≤ awaited_in t + k
+room_after t u k (Ok x) fewer same = fewer
+room_after t u k (Err e) fewer same = let equal : awaited_in u ≡ awaited_in t = ap awaited_in same in omega (arith, equal)
+
+pub room_again : {T E : Type 0} (t u : Tables) (aborted : Bool) (d : Result T E) → OnOk d (awaited_in u + 1 ≤ awaited_in t + (if aborted then 0 else 2)) → OnErr d (u ≡ t) → (aborted ≡ true → IsOk d) → awaited_in u + 1 ≤ awaited_in t + (if aborted then 0 else 2)
+room_again t u aborted (Ok x) fewer same ok = fewer
+room_again t u true (Err e) fewer same ok = absurd (let wrong : false ≡ true = ok refl in cc wrong)
+room_again t u false (Err e) fewer same ok = let equal : awaited_in u ≡ awaited_in t = ap awaited_in same in omega (arith, equal)
+
+some_entry : (t : SessionTable) (sid : Sid) (call : DmCall) → (is_due t sid call ≡ true → ⊥) → 1 ≤ entries_for t sid call
+some_entry t sid (CreateUserEvent body) wrong = omega arith
+some_entry t sid (Respond token response) wrong = undue (is_due t sid (Respond token response)) wrong
+  where
+    undue : (due : Bool) → (due ≡ true → ⊥) → 1 ≤ (if due then 0 else 1)
+    undue true wrong = absurd (wrong refl)
+    undue false wrong = omega arith
+some_entry t sid GetSpace wrong = omega arith
+some_entry t sid call wrong = omega arith
+
+pub room_served : {T E : Type 0} (t u : Tables) (sid : Sid) (call : DmCall) (d : Result T E) → OnOk d (awaited_in u + 1 ≤ awaited_in t + entries_for t.sessions sid call) → OnErr d (u ≡ t) → (is_due t.sessions sid call ≡ true → IsOk d)
+    → awaited_in u + 1 ≤ awaited_in t + entries_for t.sessions sid call
+room_served t u sid call (Ok x) fewer same ok = fewer
+room_served t u sid call (Err e) fewer same ok =
+    let equal : awaited_in u ≡ awaited_in t = ap awaited_in same in
+    let some = some_entry t.sessions sid call (λ due. let wrong : false ≡ true = ok due in cc wrong) in
+    omega (arith, equal, some)
+
+-- a reply that is known, where the event was answered
+pub told_done : {R E : Type 0} (P : R × R → Type 0) (d : Result (R × R) E) (own told known : R) → IsOk d → IfOk d (λ r. AreBoth own r) → IfOk d (λ r. (told ≡ r.0) × P r) → own ≡ known → told ≡ known
+told_done P (Ok r) own told known ok both kept is = kept.0 ∙ both.0 ∙ is
+told_done P (Err e) own told known ok both kept is = absurd (let wrong : false ≡ true = ok in cc wrong)

@@ -1,12 +1,13 @@
 pub mod Refusing
 pub mod ListedFiles
 pub mod NamedFiles
-pub mod Calls
-pub mod Ledgers
-pub mod Awaiting
-pub mod HandedOut
+pub mod Accesses
+pub mod Targets
+pub mod Replying
+pub mod Lasting
 pub mod Serving
 pub mod Syncs
 pub mod Runs
 pub mod Safety
 pub mod Events
+pub mod Readiness

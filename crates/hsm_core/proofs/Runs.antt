@@ -1,18 +1,22 @@
 -- What a run keeps, and one event more of it.
-use Rattle.std.proofs.Common.{◌≡◌, ℕ, ◌+◌, List, [], ◌∷◌, ◌++◌, Bool, true, false, refl, sym, ◌∙◌, ap, subst, arith}
+use Rattle.std.proofs.Common.{◌≡◌, ℕ, ◌+◌, List, [], ◌∷◌, ◌++◌, Bool, true, false, Option, Some, None, refl, sym, ◌∙◌, ap, subst, arith}
+use Rattle.std.specs.Prelude.{IfSome}
+use Rattle.std.specs.Option.{option_map}
 use Rattle.disk_model.specs.declared.device.Disk as disk
-use Rattle.hsm_types.specs.Sessions.{no_sessions}
 use Rattle.hsm_types.specs.declared.stores.Superblock.{Superblock}
 use Rattle.plain_model.specs.declared.entries.Entry.{Entry}
 use Rattle.plain_model.specs.Faults.{is_fault}
-use Rattle.plain_model.specs.Ledger.{no_ledger}
 use Rattle.plain_model.specs.State.{Held, State, just_opened}
 use Rattle.plain_model.specs.Exact.{IsAnswer, left_by}
 use Rattle.plain_model.specs.Laws.{IsOpening, RunIsGood}
 use Rattle.plain_model.proofs.Faultless.{has_fault-push}
 use Rattle.plain_model.proofs.Histories.{state_by-push, Exact-push}
 use Rattle.file_store.specs.Stores.{superblock_of, Proceeds}
-use Rattle.hsm_core.specs.Store.{Store, no_tables, state_of, HasRun}
+use Rattle.access_park.specs.Pending.{waiting_in}
+use Rattle.access_park.proofs.Counting.{waiting-nobody}
+use Rattle.dm_service.specs.Tables.{Tables, waiting, is_open, pending_as, ledger_of, open_among, awaited_in, AreNew}
+use Rattle.hsm_core.specs.Targets.{MayLast, EachLasts}
+use Rattle.hsm_core.specs.Store.{Store, state_of, HasRun}
 use Rattle.hsm_core.specs.Kept.{IsKept}
 
 -- the store is formatted as it was
@@ -34,14 +38,28 @@ pub true_false : {A : Type 0} (b : Bool) → b ≡ true → b ≡ false → A
 true_false b is isnt = absurd cc
 
 -- a store that was just opened
-pub HasRun-opened : {D : Type 0} (s : Store D) → s.opened ≡ s.files → s.history ≡ [] → s.stamps ≡ [] → s.tables ≡ no_tables → IsOpening s.files.held → HasRun s
-HasRun-opened s opened none stamps tables opening = record {
+pub HasRun-opened : {D : Type 0} (s : Store D) → s.opened ≡ s.files → s.history ≡ [] → s.stamps ≡ [] → AreNew s.tables → IsOpening s.files.held → HasRun s
+HasRun-opened s opened none stamps new opening = record {
   geometry = rw opened refl;
   fsid = rw opened refl;
   run = record { opening = rw opened opening; exact = rw none tt };
   faultless = λ working. rw none refl;
-  state = λ working. rw (none, opened, stamps, tables) (ap (λ (n : ℕ). record { held = s.files.held; stamps = λ k. 0; number = n; sessions = no_sessions; ledger = no_ledger }) (plus_nothing s.files.meta.number));
+  state = λ working. rw (none, opened, stamps) (λ i. record { held = s.files.held; stamps = λ k. 0; number = plus_nothing s.files.meta.number i; sessions = (new i).sessions; flags = (new i).flags; ledger = (new i).ledger });
 }
+
+-- nothing waits in new tables, and nothing is awaited
+none_of : {A B : Type 0} (f : A → B) (o : Option A) → option_map f o ≡ None → o ≡ None
+none_of f None is = refl
+none_of f (Some x) is = cc
+
+pub new_awaited : (t : Tables) → AreNew t → awaited_in t ≡ 0
+new_awaited t new =
+    let idle : waiting_in (waiting t) ≡ 0 = (λ i. waiting_in (λ c. none_of pending_as (waiting t c) (ap (λ (st : State). st.ledger.pending c) new) i)) ∙ waiting-nobody in
+    let shut : open_among t.tokens (is_open t.sessions) ≡ 0 = ap (λ (st : State). open_among st.ledger.top (is_open t.sessions)) new in
+    omega (arith, idle, shut)
+
+pub new_lasts : (t : Tables) → AreNew t → EachLasts (ledger_of t)
+new_lasts t new c = subst (λ x. IfSome x (λ a. MayLast a.call)) (sym (ap (λ (st : State). st.ledger.pending c) new)) tt
 
 module _ {D : Type 0} (g : disk.Ghosts D) (s t : Store D) (has : HasRun s) (n : ℕ) (opened : t.opened ≡ s.opened) (proceeds : Proceeds g s.files n t.files) where
   -- an event that isn't kept

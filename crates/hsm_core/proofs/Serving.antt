@@ -1,5 +1,5 @@
 -- A session's call by its scope and its service.
-use Rattle.std.proofs.Common.{◌≡◌, ℕ, ◌+◌, List, [], ◌∷◌, Option, Some, None, refl, sym, ◌∙◌, ap}
+use Rattle.std.proofs.Common.{◌≡◌, ℕ, ◌+◌, false, List, [], ◌∷◌, Option, Some, None, refl, sym, ◌∙◌, ap}
 use Rattle.std.specs.Prelude.{Result, Ok, Err, OnOk}
 use Rattle.hsm_types.specs.Refusals.{first_refusal}
 use Rattle.hsm_types.specs.Calls.{scope_of}
@@ -7,7 +7,7 @@ use Rattle.hsm_types.specs.declared.keys.FileKey.{FileKey}
 use Rattle.hsm_types.specs.declared.keys.Sid.{Sid}
 use Rattle.hsm_types.specs.declared.stores.Superblock.{Superblock}
 use Rattle.hsm_types.specs.declared.dm.DmCall.{DmCall}
-use Rattle.hsm_types.specs.declared.dm.DmCall.TheVariants.{Respond, CreateUserEvent, GetSpace}
+use Rattle.hsm_types.specs.declared.dm.DmCall.TheVariants.{GetFileAttr, SetRegion, GetRegion, SetDmAttr, GetDmAttr, RemoveDmAttr, GetAllDmAttr, PathToHandle, GetSpace}
 use Rattle.hsm_types.specs.declared.dm.DmRefusal.{DmRefusal}
 use Rattle.hsm_types.specs.declared.dm.DmReply.{DmReply}
 use Rattle.hsm_types.specs.declared.dm.DmReply.TheVariants as reply
@@ -15,12 +15,11 @@ use Rattle.plain_model.specs.Effects.{Change, Nothing, OfFile, OfSessions, chang
 use Rattle.plain_model.specs.State.{Held, State, noted, changed}
 use Rattle.plain_model.specs.Services.{Service, service, scope_refusals, dm_judged, dm_reply_where, dm_reply_to, dm_state_where, dm_state_after}
 use Rattle.file_store.specs.declared.refusal.StoreRefusal.{StoreRefusal}
-use Rattle.hsm_core.specs.Store.{Tables, ledger_of, state_with}
-use Rattle.hsm_core.specs.Services.{asked, told_where, held_where, sessions_where, tokens_where, tables_where}
-use Rattle.plain_model.specs.Ledger.{next_token, ledger_told}
-use Rattle.plain_model.specs.Stands.{InOrder}
-use Rattle.plain_model.proofs.Orders.{dm_ordered}
-use Rattle.hsm_core.proofs.Ledgers.{ledger_is}
+use Rattle.dm_service.specs.Services.{asks_tables}
+use Rattle.dm_service.specs.Tables.{Tables}
+use Rattle.hsm_core.specs.Store.{state_with}
+use Rattle.hsm_core.specs.Services.{asked, told_where, held_where}
+use Rattle.plain_model.specs.Ledger.{ledger_told}
 use Rattle.hsm_core.proofs.Refusing.{all_pass, one_stops, alone}
 
 -- a service is the same whatever the number of the entry
@@ -32,52 +31,56 @@ reply_told : (why : Option DmRefusal) (s : Superblock) (st : State) (sid : Sid) 
 reply_told None s st sid call = refl
 reply_told (Some why) s st sid call = refl
 
--- ---- what a call leaves, by its parts
+-- ---- what a call on files leaves, by its parts
 
+-- its change is none of the sessions
 held_done : (change : Change) (st : State) → held_where change None st.held ≡ (changed change st).held
 held_done Nothing st = refl
 held_done (OfFile k effect) st = refl
 held_done (OfSessions to) st = refl
 
-stamps_done : (change : Change) (st : State) → st.stamps ≡ (changed change st).stamps
-stamps_done Nothing st = refl
-stamps_done (OfFile k effect) st = refl
-stamps_done (OfSessions to) st = refl
+abbrev OnFiles : Change → Type 0
+OnFiles (OfSessions to) = ⊥
+OnFiles change = Unit {0}
 
-number_done : (change : Change) (st : State) → st.number + 1 ≡ (changed change st).number + 1
-number_done Nothing st = refl
-number_done (OfFile k effect) st = refl
-number_done (OfSessions to) st = refl
+on_files : (sid : Sid) (call : DmCall) → asks_tables call ≡ false → OnFiles (change_of sid call)
+on_files sid (SetRegion token handle regions) is = tt
+on_files sid (SetDmAttr token handle name value) is = tt
+on_files sid (RemoveDmAttr token handle name) is = tt
+on_files sid (GetFileAttr token handle) is = tt
+on_files sid (GetRegion token handle) is = tt
+on_files sid (GetDmAttr token handle name) is = tt
+on_files sid (GetAllDmAttr token handle) is = tt
+on_files sid (PathToHandle name) is = tt
+on_files sid GetSpace is = tt
+on_files sid call is = absurd cc
 
-sessions_done : (change : Change) (st : State) → sessions_where change None (next_token st.ledger) st.sessions ≡ (changed change st).sessions
-sessions_done Nothing st = refl
-sessions_done (OfFile k effect) st = refl
-sessions_done (OfSessions to) st = refl
+left_changed : (change : Change) (h : Held) (stamps : List (FileKey × ℕ)) (t : Tables) (number : ℕ) → OnFiles change → state_with (held_where change None h) stamps t (number + 1) ≡ noted (changed change (state_with h stamps t number))
+left_changed Nothing h stamps t number on = refl
+left_changed (OfFile k effect) h stamps t number on = refl
+left_changed (OfSessions to) h stamps t number on = absurd on
 
-tokens_done : (s : Superblock) (st : State) (sid : Sid) (call : DmCall) → tokens_where call None st.ledger.top ≡ (ledger_told st.ledger call (service s st sid call).reply).top
-tokens_done s st sid (CreateUserEvent body) = refl
-tokens_done s st sid (Respond token response) = refl
-tokens_done s st sid call = refl
+same_ledger : (s : Superblock) (st : State) (sid : Sid) (call : DmCall) → asks_tables call ≡ false → ledger_told st.ledger call (service s st sid call).reply ≡ st.ledger
+same_ledger s st sid GetSpace is = refl
+same_ledger s st sid call is = cc
 
-pending_done : (s : Superblock) (st : State) (sid : Sid) (call : DmCall) → (ledger_told st.ledger call (service s st sid call).reply).pending ≡ st.ledger.pending
-pending_done s st sid (CreateUserEvent body) = refl
-pending_done s st sid (Respond token response) = refl
-pending_done s st sid call = refl
+ledger_changed : (change : Change) (st : State) → (changed change st).ledger ≡ st.ledger
+ledger_changed Nothing st = refl
+ledger_changed (OfFile k effect) st = refl
+ledger_changed (OfSessions to) st = refl
 
-left_parts : (why : Option DmRefusal) (s : Superblock) (h : Held) (stamps : List (FileKey × ℕ)) (t : Tables) (number : ℕ) (sid : Sid) (call : DmCall) → InOrder (dm_state_where why s (state_with h stamps t number) sid call)
-    → state_with (held_where (change_of sid call) why h) stamps (tables_where sid call why t) (number + 1) ≡ dm_state_where why s (state_with h stamps t number) sid call
-left_parts None s h stamps t number sid call ordered =
+left_parts : (why : Option DmRefusal) (s : Superblock) (h : Held) (stamps : List (FileKey × ℕ)) (t : Tables) (number : ℕ) (sid : Sid) (call : DmCall) → asks_tables call ≡ false
+    → state_with (held_where (change_of sid call) why h) stamps t (number + 1) ≡ dm_state_where why s (state_with h stamps t number) sid call
+left_parts None s h stamps t number sid call is =
     let st : State = state_with h stamps t number in
-    let change : Change = change_of sid call in
-    let ledger = ledger_is (dm_state_where None s st sid call) ordered (pending_done s st sid call) in
-    let tables : ledger_of (tables_where sid call None t) ≡ ledger_told (ledger_of t) call (service s st sid call).reply =
-    (λ i. ledger_of (record { sessions = sessions_done change st i; tokens = tokens_done s st sid call i })) ∙ sym ledger in
-    λ i. record { held = held_done change st i; stamps = stamps_done change st i; number = number_done change st i; sessions = sessions_done change st i; ledger = tables i }
-left_parts (Some why) s h stamps t number sid call ordered = refused_parts call
+    left_changed (change_of sid call) h stamps t number (on_files sid call is)
+    ∙ (λ i. record (noted (changed (change_of sid call) st)) { ledger = (ledger_changed (change_of sid call) st ∙ sym (same_ledger s st sid call is)) i })
+left_parts (Some why) s h stamps t number sid call is = refused_parts (change_of sid call)
   where
-    refused_parts : (call : DmCall) → state_with (held_where (change_of sid call) (Some why) h) stamps (tables_where sid call (Some why) t) (number + 1) ≡ noted (state_with h stamps t number)
-    refused_parts GetSpace = refl
-    refused_parts call = refl
+    refused_parts : (change : Change) → state_with (held_where change (Some why) h) stamps t (number + 1) ≡ noted (state_with h stamps t number)
+    refused_parts Nothing = refl
+    refused_parts (OfFile k effect) = refl
+    refused_parts (OfSessions to) = refl
 
 -- ---- where the scope refuses
 
@@ -107,15 +110,12 @@ module _ (s : Superblock) (h : Held) (stamps : List (FileKey × ℕ)) (t : Table
       (λ i. told_where (sym judged_asked i) (sym (service_asked s h stamps t number sid call) i).reply)
       ∙ sym (reply_told (dm_judged s (state_with h stamps t number) sid call) s (state_with h stamps t number) sid call)
 
-  left_asked : InOrder (state_with h stamps t number)
-      → state_with (held_where (change_of sid call) (asked s h stamps t sid call).refusal h) stamps (tables_where sid call (asked s h stamps t sid call).refusal t) (number + 1) ≡ dm_state_after s (state_with h stamps t number) sid call
-  left_asked ordered =
-      let st : State = state_with h stamps t number in
-      ap (λ (why : Option DmRefusal). state_with (held_where (change_of sid call) why h) stamps (tables_where sid call why t) (number + 1)) (sym judged_asked)
-      ∙ left_parts (dm_judged s st sid call) s h stamps t number sid call (dm_ordered s st sid call ordered)
+  left_asked : asks_tables call ≡ false → state_with (held_where (change_of sid call) (asked s h stamps t sid call).refusal h) stamps t (number + 1) ≡ dm_state_after s (state_with h stamps t number) sid call
+  left_asked is =
+      ap (λ (why : Option DmRefusal). state_with (held_where (change_of sid call) why h) stamps t (number + 1)) (sym judged_asked)
+      ∙ left_parts (dm_judged s (state_with h stamps t number) sid call) s h stamps t number sid call is
 
-  pub served_left : InOrder (state_with h stamps t number) → (result : Result (DmReply × DmReply) StoreRefusal) (h' : Held) (t' : Tables)
-      → OnOk result (h' ≡ held_where (change_of sid call) (asked s h stamps t sid call).refusal h) → OnOk result (t' ≡ tables_where sid call (asked s h stamps t sid call).refusal t)
-      → OnOk result (state_with h' stamps t' (number + 1) ≡ dm_state_after s (state_with h stamps t number) sid call)
-  served_left ordered (Ok r) h' t' held tables = (λ i. state_with (held i) stamps (tables i) (number + 1)) ∙ left_asked ordered
-  served_left ordered (Err e) h' t' held tables = tt
+  pub served_left : asks_tables call ≡ false → (result : Result (DmReply × DmReply) StoreRefusal) (h' : Held) → OnOk result (h' ≡ held_where (change_of sid call) (asked s h stamps t sid call).refusal h)
+      → OnOk result (state_with h' stamps t (number + 1) ≡ dm_state_after s (state_with h stamps t number) sid call)
+  served_left is (Ok r) h' held = (λ i. state_with (held i) stamps t (number + 1)) ∙ left_asked is
+  served_left is (Err e) h' held = tt

@@ -6,7 +6,7 @@ use Rattle.hsm_types.specs.declared.calls.CallRefusal.TheVariants.{Disk}
 use Rattle.hsm_types.specs.declared.calls.Reply.{Reply}
 use Rattle.hsm_types.specs.declared.calls.Reply.TheVariants.{Refused}
 use Rattle.plain_model.specs.declared.entries.Action.{Action}
-use Rattle.plain_model.specs.declared.entries.Action.TheVariants.{Issue, Dm, Commit}
+use Rattle.plain_model.specs.declared.entries.Action.TheVariants.{Issue, Resume, Dm, Commit}
 use Rattle.plain_model.specs.declared.entries.Answer.TheVariants.{Call as Replied}
 use Rattle.plain_model.specs.Faults.{fault_of}
 use Rattle.plain_model.specs.Synced.{syncs}
@@ -21,5 +21,6 @@ refused_no_sync call = refl
 
 pub fault_no_sync : (action : Action) → syncs action (fault_of action) ≡ false
 fault_no_sync (Issue call) = refused_no_sync call
+fault_no_sync Resume = refl
 fault_no_sync (Dm call) = refl
 fault_no_sync Commit = refl

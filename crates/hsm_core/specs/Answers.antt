@@ -16,7 +16,7 @@ use Rattle.plain_model.specs.declared.entries.Entry.{Entry}
 use Rattle.plain_model.specs.declared.entries.Actor.{Actor}
 use Rattle.plain_model.specs.declared.entries.Actor.TheVariants.{Caller, Session, Store as TheStore}
 use Rattle.plain_model.specs.declared.entries.Action.{Action}
-use Rattle.plain_model.specs.declared.entries.Action.TheVariants.{Issue, Dm, Commit}
+use Rattle.plain_model.specs.declared.entries.Action.TheVariants.{Issue, Resume, Dm, Commit}
 use Rattle.plain_model.specs.declared.entries.Answer.{Answer}
 use Rattle.plain_model.specs.declared.entries.Answer.TheVariants.{Call as Replied, Dm as Told}
 use Rattle.plain_model.specs.Faults.{fault_of}
@@ -64,11 +64,13 @@ pub record LacksMemory {D : Type 0} (g : disk.Ghosts D) (old : Store D) (action 
   pub state : state_of new ≡ state_of old
   pub still : new.files.failed ≡ false
 
--- a call of the disk failed in the event
+-- a call of the disk failed in the event: no stamp is changed, and no message, no token and no access that waits
 pub record HasFailed {D : Type 0} (g : disk.Ghosts D) (old : Store D) (actor : Actor) (action : Action) (given : Answer) (new : Store D) : Type 0 where
   pub goes : Goes g old new
   pub answer : given ≡ fault_of action
   pub history : new.history ≡ old.history ++ entry_of actor action (fault_of action) ∷ []
+  pub stamps : new.stamps ≡ old.stamps
+  pub tables : new.tables ≡ old.tables
   pub failed : new.files.failed ≡ true
   pub rose : Rose (g.fault_count old.files.disk) (g.fault_count new.files.disk)
 
@@ -89,6 +91,10 @@ IsAnswer g old actor action given new = IsClosed old action given new ⊎ LacksM
 -- the call of that caller was answered
 abbrev pub IsAnswered : {D : Type 0} → disk.Ghosts D → Store D → ℕ → Call → Reply → Store D → Type 0
 IsAnswered g old caller call reply new = IsAnswer g old (Caller caller) (Issue call) (Replied reply) new
+
+-- so was the caller who asked for the answer to its access that waits
+abbrev pub IsResumed : {D : Type 0} → disk.Ghosts D → Store D → ℕ → Reply → Store D → Type 0
+IsResumed g old caller reply new = IsAnswer g old (Caller caller) Resume (Replied reply) new
 
 -- so was the call of that session
 abbrev pub IsTold : {D : Type 0} → disk.Ghosts D → Store D → Sid → DmCall → DmReply → Store D → Type 0

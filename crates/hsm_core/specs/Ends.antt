@@ -15,7 +15,3 @@ pub record Ends {D T : Type 0} (g : disk.Ghosts D) (old : FileStore D) (n : ℕ)
   pub failed : IsErrOf result Disk → (new.failed ≡ true) × Rose (g.fault_count old.disk) (g.fault_count new.disk)
   pub no_part : (why : DmRefusal) → IsErrOf result (Part why) → ⊥
   pub proceeds : Proceeds g old n new
-
--- both replies, for who asked and for the history, are this one
-abbrev pub AreBoth : {R : Type 0} → R → R × R → Type 0
-AreBoth reply r = (r.0 ≡ reply) × (r.1 ≡ reply)

@@ -1,9 +1,10 @@
-pub mod Refusals
 pub mod Targets
 pub mod Stamps
 pub mod Store
 pub mod Crashes
 pub mod Ends
 pub mod Services
+pub mod Outcomes
 pub mod Answers
+pub mod Ready
 pub mod Kept

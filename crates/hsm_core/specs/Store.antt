@@ -1,24 +1,14 @@
 -- A store as its callers and sessions see it.
-use Rattle.std.specs.Prelude.{ℕ, zero, suc, ◌≡◌, ◌+◌, Bool, false, ◌&&◌, nat_lt, if◌then◌else◌, length, List, None}
-use Rattle.hsm_types.specs.Sessions.{SessionTable, no_sessions, places}
+use Rattle.std.specs.Prelude.{ℕ, ◌≡◌, ◌+◌, false, length, List}
 use Rattle.hsm_types.specs.declared.keys.FileKey.{FileKey}
 use Rattle.plain_model.specs.declared.entries.Entry.{Entry}
 use Rattle.plain_model.specs.Faults.{has_fault}
-use Rattle.plain_model.specs.Ledger.{Ledger}
 use Rattle.plain_model.specs.State.{Held, State, just_opened}
 use Rattle.plain_model.specs.Exact.{state_by}
 use Rattle.plain_model.specs.Laws.{IsRun}
+use Rattle.dm_service.specs.Tables.{Tables, state_in}
 use Rattle.file_store.specs.Stores.{Store as FileStore, superblock_of}
 use Rattle.hsm_core.specs.Stamps.{stamp_in}
-
--- the sessions, and how many tokens were given
-pub record Tables : Type 0 where
-  pub sessions : SessionTable
-  pub tokens : ℕ
-
--- those of a store that was just opened
-abbrev pub no_tables : Tables
-no_tables = record { sessions = no_sessions; tokens = 0 }
 
 pub record Store (D : Type 0) : Type 0 where
   -- its files and their disk, as they were when it was opened, and as they are
@@ -26,6 +16,7 @@ pub record Store (D : Type 0) : Type 0 where
   pub files : FileStore D
   -- the stamps of files that were accessed
   pub stamps : List (FileKey × ℕ)
+  -- its sessions, and the accesses that wait
   pub tables : Tables
   -- the events since
   pub history : List Entry
@@ -35,30 +26,13 @@ pub record Store (D : Type 0) : Type 0 where
 abbrev pub last_number : {D : Type 0} → Store D → ℕ
 last_number s = s.opened.meta.number + length s.history
 
--- a token is open as long as it stands anywhere
-abbrev pub is_open : SessionTable → ℕ → Bool
-is_open t n = nat_lt 0 (places (record { 0 = n }) t) && nat_lt 0 n
-
--- no access waits
-abbrev pub ledger_of : Tables → Ledger
-ledger_of t = record { pending = λ c. None; top = t.tokens; «open» = is_open t.sessions }
-
 -- the state by its parts
 abbrev pub state_with : Held → List (FileKey × ℕ) → Tables → ℕ → State
-state_with held stamps t number = record { held = held; stamps = stamp_in stamps; number = number; sessions = t.sessions; ledger = ledger_of t }
+state_with held stamps t number = state_in held (stamp_in stamps) number t
 
 -- what it holds, and what ends with its opening
 abbrev pub state_of : {D : Type 0} → Store D → State
 state_of s = state_with s.files.held s.stamps s.tables (last_number s)
-
--- how many of the first so many tokens are open
-abbrev pub open_among : ℕ → (ℕ → Bool) → ℕ
-open_among zero given = 0
-open_among (suc n) given = open_among n given + (if given (suc n) then 1 else 0)
-
--- how many responses may come: one to each open token
-abbrev pub awaited_in : Tables → ℕ
-awaited_in t = open_among t.tokens (is_open t.sessions)
 
 -- The store is formatted as it was when it was opened, and its history is a run from there. As long as no call of the disk has failed it has
 -- no fault, and the store's state is what the history leaves.

@@ -1,77 +1,223 @@
-//! Answers to callers: judged, and done where nothing refuses them.
-ghost use Rattle.std.specs.Prelude.{◌≡◌, ◌<◌, ◌+◌, ◌^◌, false, ℕ, None, IfOk, OnOk, OnErr};
+//! Answers to callers: to the calls that they issue, and to those who ask for the answer to an access that waits. Each reply comes twice, for the caller
+//! and for the history.
+ghost use Rattle.std.specs.Prelude.{◌≡◌, ◌≢◌, ◌<◌, ◌≤◌, ◌+◌, ◌^◌, false, true, ℕ, Some, None, if◌then◌else◌, IfSome, IsSomeAnd, MatchOption, OnOk, IsOk};
 ghost use Rattle.hsm_types.specs.declared.calls.Call.TheVariants.{Sync};
-ghost use Rattle.plain_model.specs.Ledger.{objection};
-ghost use Rattle.plain_model.specs.State.{names_of};
-ghost use Rattle.plain_model.specs.Verdict.{verdict, reply_by, reply_to, left_by_verdict, state_after};
+ghost use Rattle.hsm_types.specs.declared.dm.Response.{Response};
+ghost use Rattle.plain_model.specs.declared.entries.Action.TheVariants.{Issue, Resume};
+ghost use Rattle.plain_model.specs.declared.entries.Answer.TheVariants.{Call as Replied};
+ghost use Rattle.plain_model.specs.Ledger.{Means, goes_on};
+ghost use Rattle.plain_model.specs.Plain.{refusal_of};
+ghost use Rattle.plain_model.specs.State.{names_of, used};
+ghost use Rattle.plain_model.specs.Stands.{InOrder};
+ghost use Rattle.plain_model.specs.Synced.{syncs};
+ghost use Rattle.plain_model.specs.Verdict.{facts_of, reply_to};
 ghost use Rattle.indexmap.specs.IndexMap.{spare};
+ghost use Rattle.dm_service.specs.Services.{AreBoth};
+ghost use Rattle.dm_service.specs.Tables.{awaited_in, ledger_of, pending_as, waiting};
 ghost use Rattle.file_store.specs.Stores.{superblock_of, Proceeds};
-ghost use Rattle.hsm_core.specs.Ends.{Ends, AreBoth};
-ghost use Rattle.hsm_core.specs.Store.{Tables, state_with};
-ghost use Rattle.hsm_core.specs.Targets.{IsMeant, key_in};
+ghost use Rattle.hsm_core.specs.Store.{state_with};
+ghost use Rattle.hsm_core.specs.Targets.{EachLasts, IsBounded, IsMeant, IsTarget, MayComplete, key_in};
 ghost use Rattle.hsm_core.specs.Crashes.{IsSynced};
+ghost use Rattle.hsm_core.specs.Outcomes.{ended_by, ends, is_aborted, is_fresh, IsAbort, IsFinished, IsReplied};
 
-use crate::judging::{Target, judge_room, meant};
-use crate::performing::perform;
+use crate::judging::{Target, facts, find_again, meant, no_facts};
+use crate::parking::{wait, wait_again};
+use crate::performing::{perform, perform_alone};
 use crate::stamps::note_access;
 use disk_model::Disk;
+use dm_service::{Access, DmService, Facts, Verdict};
 use file_store::{FileStore, StoreRefusal};
-use hsm_types::{Call, FileKey, Reply};
+use hsm_types::{Call, CallRefusal, CallerId, FileKey, Reply, Response};
 use indexmap::IndexMap;
 use std::alloc::Global;
 
-/// Answers a call of a caller, whoever that is, and renews the stamp of the file that it accesses. The number is that of the last entry before. The
-/// reply comes twice, for the caller and for the history.
+/// Answers a call that the caller issues, and renews the stamp of the file that it accesses. The number is that of the last entry before.
 pub(crate) fn answer<D: Disk>(
     files: &mut FileStore<D>,
     stamps: &mut IndexMap<FileKey, u64>,
+    service: &mut DmService,
     alloc: Global,
-    call: &Call,
+    caller: CallerId,
+    access: &Access,
     number: u64,
 ) -> Result<(Reply, Reply), StoreRefusal>
     requires working { files.old.failed ≡ false }
     requires room { 0 < spare stamps.old }
     requires number { number < 2 ^ 63 }
     requires idle { Proceeds D.Disk files.old number files.old }
-    ensures replies { (tables : Tables) → IfOk result (λ r. AreBoth (reply_to (superblock_of files.old) (state_with files.old.held stamps.old.entries tables number) call.now) r) }
-    ensures left { (tables : Tables) (c : ℕ) → OnOk result (state_with files.new.held stamps.new.entries tables (number + 1) ≡ state_after (superblock_of files.old) (state_with files.old.held stamps.old.entries tables number) c call.now) }
-    ensures unstamped { OnErr result (stamps.new.entries ≡ stamps.old.entries) }
-    ensures synced { call.now ≡ Sync → OnOk result (IsSynced D.Disk number files.old files.new) }
-    ensures ends { Ends D.Disk files.old number result files.new }
+    requires fresh { is_fresh access.now ≡ true }
+    requires ordered { InOrder (state_with files.old.held stamps.old.entries service.old number) }
+    ensures replied { IsReplied D.Disk files.old number stamps.old.entries service.old caller (Issue access.now.call) result files.new stamps.new.entries service.new }
+    ensures synced { syncs (Issue access.now.call) (Replied (reply_to (superblock_of files.old) (state_with files.old.held stamps.old.entries service.old number) caller (Issue access.now.call))) ≡ true → OnOk result (IsSynced D.Disk number files.old files.new) }
+    ensures room { OnOk result (awaited_in service.new ≤ awaited_in service.old + 2) }
 {
-    match meant(files, call) {
-        Ok(target) => decide(files, stamps, alloc, target, call, number),
-        Err(why) => Ok((Reply::Refused(why), Reply::Refused(why))),
+    if service.pending(caller).is_some() {
+        return Ok(refused(CallRefusal::Waiting));
+    }
+    match meant(files, &access.call) {
+        Ok(target) => begin(
+            files, stamps, service, alloc, caller, target, access, number,
+        ),
+        Err(why) => Ok(refused(why)),
     }
 }
 
-/// Says what the rules say to a call on that file: why it is refused, or what comes of it once it is done.
-fn decide<D: Disk>(
+/// Answers a call that its words and the names of the files don't refuse.
+fn begin<D: Disk>(
+    files: &mut FileStore<D>,
+    stamps: &mut IndexMap<FileKey, u64>,
+    service: &mut DmService,
+    alloc: Global,
+    caller: CallerId,
+    target: Option<Target>,
+    access: &Access,
+    number: u64,
+) -> Result<(Reply, Reply), StoreRefusal>
+    requires working { files.old.failed ≡ false }
+    requires room { 0 < spare stamps.old }
+    requires number { number < 2 ^ 63 }
+    requires idle { Proceeds D.Disk files.old number files.old }
+    requires fresh { is_fresh access.now ≡ true }
+    requires ordered { InOrder (state_with files.old.held stamps.old.entries service.old number) }
+    requires none { waiting service.old caller ≡ None }
+    requires lawful { refusal_of (superblock_of files.old) (names_of files.old.held.files) access.now.call ≡ None }
+    requires meant { IsMeant files.old.held.files access.now.call target }
+    ensures replied { IsReplied D.Disk files.old number stamps.old.entries service.old caller (Issue access.now.call) result files.new stamps.new.entries service.new }
+    ensures synced { access.now.call ≡ Sync → OnOk result (IsSynced D.Disk number files.old files.new) }
+    ensures room { OnOk result (awaited_in service.new ≤ awaited_in service.old + 2) }
+{
+    let Some(file) = target else {
+        // Creates and syncs never wait.
+        return perform_alone(files, alloc, &access.call, number);
+    };
+    let facts = facts(files, file, &access.call);
+    let verdict = service.judge(access, &facts);
+    if let Verdict::Post(kind) = verdict {
+        return wait(
+            files, service, alloc, caller, file.key, access, &facts, kind,
+        );
+    }
+    finish(files, stamps, alloc, target, access, verdict, number)
+}
+
+/// Answers the caller who asks for the answer to its access that waits. One that was aborted takes no memory to end.
+pub(crate) fn answer_again<D: Disk>(
+    files: &mut FileStore<D>,
+    stamps: &mut IndexMap<FileKey, u64>,
+    service: &mut DmService,
+    alloc: Global,
+    caller: CallerId,
+    number: u64,
+) -> Result<(Reply, Reply), StoreRefusal>
+    requires working { files.old.failed ≡ false }
+    requires room { is_aborted (waiting service.old caller) ≡ false → 0 < spare stamps.old }
+    requires number { number < 2 ^ 63 }
+    requires idle { Proceeds D.Disk files.old number files.old }
+    requires ordered { InOrder (state_with files.old.held stamps.old.entries service.old number) }
+    requires lasts { EachLasts (ledger_of service.old) }
+    ensures replied { IsReplied D.Disk files.old number stamps.old.entries service.old caller Resume result files.new stamps.new.entries service.new }
+    ensures aborts { is_aborted (waiting service.old caller) ≡ true → IsOk result }
+    ensures room { OnOk result (awaited_in service.new + 1 ≤ awaited_in service.old + (if is_aborted (waiting service.old caller) then 0 else 2)) }
+{
+    let Some(access) = service.pending(caller) else {
+        return Ok(refused(CallRefusal::Idle));
+    };
+    if let (Some(token), None) = (access.token, access.answer) {
+        return Ok((Reply::Still { token }, Reply::Still { token }));
+    }
+    go_on(files, stamps, service, alloc, caller, number)
+}
+
+/// Judges an access again that waits for no response, and lets it end or wait anew.
+fn go_on<D: Disk>(
+    files: &mut FileStore<D>,
+    stamps: &mut IndexMap<FileKey, u64>,
+    service: &mut DmService,
+    alloc: Global,
+    caller: CallerId,
+    number: u64,
+) -> Result<(Reply, Reply), StoreRefusal>
+    requires working { files.old.failed ≡ false }
+    requires room { is_aborted (waiting service.old caller) ≡ false → 0 < spare stamps.old }
+    requires number { number < 2 ^ 63 }
+    requires idle { Proceeds D.Disk files.old number files.old }
+    requires lasts { EachLasts (ledger_of service.old) }
+    requires waits { IsSomeAnd (waiting service.old caller) (λ a. goes_on (pending_as a) a.token a.answer ≡ Means a.key a.call) }
+    ensures replied { IsReplied D.Disk files.old number stamps.old.entries service.old caller Resume result files.new stamps.new.entries service.new }
+    ensures aborts { is_aborted (waiting service.old caller) ≡ true → IsOk result }
+    ensures room { OnOk result (awaited_in service.new + 1 ≤ awaited_in service.old + (if is_aborted (waiting service.old caller) then 0 else 2)) }
+{
+    let access = service.pending(caller).unwrap();
+    let target = find_again(files, access.key);
+    let facts = facts_again(files, target, &access.call);
+    let verdict = service.judge(access, &facts);
+    if let Verdict::Post(kind) = verdict {
+        return wait_again(files, service, alloc, caller, &facts, kind);
+    }
+    let replies = finish(files, stamps, alloc, target, access, verdict, number)?;
+    let _ended = service.end(caller);
+    Ok(replies)
+}
+
+/// What the store knows of a call on that file, or on one that is gone.
+fn facts_again<D: Disk>(files: &FileStore<D>, target: Option<Target>, call: &Call) -> Facts
+    requires bounded { IsBounded call.now }
+    requires target { IfSome target (λ t. IsTarget files.now.held.files t.key t) }
+    ensures { MatchOption target (result ≡ record { live = false; touches = false; short = None })
+        (λ t. (result ≡ facts_of (superblock_of files.now) files.now.held t.key call.now) × (used files.now.held.files ≤ (superblock_of files.now).geometry.blocks)) }
+{
+    match target {
+        Some(target) => facts(files, target, call),
+        None => no_facts(false),
+    }
+}
+
+/// Ends an access as was said of it: it is done, or refused.
+fn finish<D: Disk>(
     files: &mut FileStore<D>,
     stamps: &mut IndexMap<FileKey, u64>,
     alloc: Global,
     target: Option<Target>,
-    call: &Call,
+    access: &Access,
+    verdict: Verdict,
     number: u64,
 ) -> Result<(Reply, Reply), StoreRefusal>
     requires working { files.old.failed ≡ false }
-    requires room { 0 < spare stamps.old }
+    requires room { verdict ≡ Verdict.Complete → 0 < spare stamps.old }
     requires number { number < 2 ^ 63 }
     requires idle { Proceeds D.Disk files.old number files.old }
-    requires lawful { objection (superblock_of files.old) (names_of files.old.held.files) call.now ≡ None }
-    requires meant { IsMeant files.old.held.files call.now target }
-    ensures replies { (tables : Tables) → IfOk result (λ r. let st = state_with files.old.held stamps.old.entries tables number in AreBoth (reply_by st (key_in target) call.now (verdict (superblock_of files.old) st (key_in target) call.now)) r) }
-    ensures left { (tables : Tables) (c : ℕ) → OnOk result (let st = state_with files.old.held stamps.old.entries tables number in state_with files.new.held stamps.new.entries tables (number + 1) ≡ left_by_verdict st c (key_in target) call.now (verdict (superblock_of files.old) st (key_in target) call.now)) }
-    ensures unstamped { OnErr result (stamps.new.entries ≡ stamps.old.entries) }
-    ensures synced { call.now ≡ Sync → OnOk result (IsSynced D.Disk number files.old files.new) }
-    ensures ends { Ends D.Disk files.old number result files.new }
+    requires ends { ends verdict ≡ true }
+    requires complete { verdict ≡ Verdict.Complete → MayComplete (superblock_of files.old) files.old.held access.now.call target }
+    requires aborted { (response : Response) → verdict ≡ Verdict.Answered response → IsAbort response }
+    ensures { IsFinished D.Disk files.old number stamps.old.entries (key_in target) access.now.call verdict result files.new stamps.new.entries }
 {
-    match judge_room(files, target, call) {
-        Ok(()) => {
-            let replies = perform(files, alloc, target, call, number)?;
-            note_access(stamps, target, call, number + 1);
-            Ok(replies)
+    let why = match verdict {
+        Verdict::Complete => {
+            let replies = perform(files, alloc, target.unwrap(), &access.call, number)?;
+            note_access(stamps, target, &access.call, number + 1);
+            return Ok(replies);
         }
-        Err(why) => Ok((Reply::Refused(why), Reply::Refused(why))),
+        Verdict::Post(_) => unreachable!(),
+        Verdict::NoSpace { need, free } => CallRefusal::NoSpace { need, free },
+        Verdict::Missing => CallRefusal::Missing,
+        Verdict::Answered(response) => ended_by(response),
+    };
+    Ok(refused(why))
+}
+
+/// Why an access ends that was aborted.
+fn ended_by(response: Response) -> CallRefusal
+    requires { IsAbort response }
+    ensures { result ≡ ended_by response }
+{
+    match response {
+        Response::Abort(errno) => CallRefusal::Aborted { errno: errno as u8 },
+        Response::Continue => CallRefusal::Missing,
     }
+}
+
+fn refused(why: CallRefusal) -> (Reply, Reply)
+    ensures { AreBoth (Reply.Refused why) result }
+{
+    (Reply::Refused(why), Reply::Refused(why))
 }

@@ -1,21 +1,23 @@
-//! Which file a call means, and what refuses the call: its words, the names of the files, and then the room that it wants. Judging takes no memory.
-ghost use Rattle.std.specs.Prelude.{◌≡◌, ◌≤◌, None, IfOk};
-ghost use Rattle.plain_model.specs.Plain.{named, key_or_none, missing};
-ghost use Rattle.plain_model.specs.Ledger.{objection};
-ghost use Rattle.plain_model.specs.State.{names_of, used, just_opened};
-ghost use Rattle.plain_model.specs.Verdict.{verdict};
+//! Which file a call means, what refuses the call by its words and the names of the files, and what the store knows of it then. Judging takes no memory.
+ghost use Rattle.std.specs.Prelude.{◌≡◌, ◌≤◌, false, None, IfOk, MatchOption};
+ghost use Rattle.plain_model.specs.Keyed.{find_key};
+ghost use Rattle.plain_model.specs.Plain.{named, key_or_none, missing, refusal_of};
+ghost use Rattle.plain_model.specs.Accesses.{kind_of, reach};
+ghost use Rattle.plain_model.specs.State.{names_of, file_at, used};
+ghost use Rattle.plain_model.specs.Verdict.{touches_as, shortage, facts_of};
 ghost use Rattle.file_store.specs.Stores.{superblock_of};
-ghost use Rattle.hsm_core.specs.Refusals.{ruled, Judges};
-ghost use Rattle.hsm_core.specs.Targets.{IsTarget, IsMeant, key_in};
+ghost use Rattle.dm_service.specs.Services.{Judges};
+ghost use Rattle.hsm_core.specs.Targets.{IsTarget, IsMeant, IsBounded};
 
 use crate::lookups;
 use crate::refusals::{
     judge_absence, judge_end, judge_inodes, judge_length, judge_name, judge_write,
 };
 use disk_model::Disk;
+use dm_service::{Facts, NoRoom, kind_of};
 use file_body::{touched_by_truncate, touched_by_write};
 use file_store::FileStore;
-use hsm_types::{Call, CallRefusal, FileKey, Word};
+use hsm_types::{Call, CallRefusal, FileKey, Range, Word};
 
 /// The file that a call means.
 #[derive(Clone, Copy)]
@@ -30,7 +32,7 @@ pub(crate) fn meant<D: Disk>(
     files: &FileStore<D>,
     call: &Call,
 ) -> Result<Option<Target>, CallRefusal>
-    ensures judged { Judges result (objection (superblock_of files.now) (names_of files.now.held.files) call.now) }
+    ensures judged { Judges result (refusal_of (superblock_of files.now) (names_of files.now.held.files) call.now) }
     ensures meant { IfOk result (λ target. IsMeant files.now.held.files call.now target) }
 {
     match call {
@@ -81,29 +83,108 @@ fn find<D: Disk>(files: &FileStore<D>, name: &Word) -> Result<Target, CallRefusa
     }
 }
 
-/// Whether a call to which nothing objects touches more blocks of its file than are free.
-pub(crate) fn judge_room<D: Disk>(
-    files: &FileStore<D>,
-    target: Option<Target>,
-    call: &Call,
-) -> Result<(), CallRefusal>
-    requires lawful { objection (superblock_of files.now) (names_of files.now.held.files) call.now ≡ None }
-    requires meant { IsMeant files.now.held.files call.now target }
-    ensures judged { Judges result (ruled (verdict (superblock_of files.now) (just_opened 0 files.now.held) (key_in target) call.now)) }
+/// The file with that key, if it lives.
+pub(crate) fn find_again<D: Disk>(files: &FileStore<D>, key: FileKey) -> Option<Target>
+    ensures { MatchOption result (find_key (λ f. f.key) key files.now.held.files ≡ None) (λ t. IsTarget files.now.held.files key t) }
+{
+    if lookups::is_live(files, key) {
+        Some(Target {
+            key,
+            size: files.body(key).len(),
+        })
+    } else {
+        None
+    }
+}
+
+/// What the store knows of a call on that file.
+pub(crate) fn facts<D: Disk>(files: &FileStore<D>, target: Target, call: &Call) -> Facts
+    requires target { IsTarget files.now.held.files target.key target }
+    requires bounded { IsBounded call.now }
+    ensures facts { result ≡ facts_of (superblock_of files.now) files.now.held target.key call.now }
     ensures mapped { used files.now.held.files ≤ (superblock_of files.now).geometry.blocks }
 {
-    let need = match (call, target) {
-        (Call::Write { offset, body, .. }, Some(file)) => {
-            touched_by_write(file.size, *offset, body.as_slice().len() as u64).count()
+    Facts {
+        live: true,
+        touches: touches_region(files, target, call),
+        short: shortage(files, target, call),
+    }
+}
+
+/// What it knows of a call on no file, or on one that is gone.
+pub(crate) fn no_facts(live: bool) -> Facts
+    ensures { result ≡ record { live = live; touches = false; short = None } }
+{
+    Facts {
+        live,
+        touches: false,
+        short: None,
+    }
+}
+
+/// Whether the call touches a region of the file with its flag.
+fn touches_region<D: Disk>(files: &FileStore<D>, target: Target, call: &Call) -> bool
+    requires target { IsTarget files.now.held.files target.key target }
+    requires bounded { IsBounded call.now }
+    ensures { result ≡ touches_as (kind_of call.now) (file_at target.key files.now.held.files) call.now }
+{
+    let Some(kind) = kind_of(call) else {
+        return false;
+    };
+    let regions = files.meta().catalog().regions(target.key).unwrap();
+    regions.touches(reach(target.size, call), kind)
+}
+
+/// The bytes that a call on a file of that size reaches.
+fn reach(size: u64, call: &Call) -> Range
+    requires { IsBounded call.now }
+    ensures { result ≡ reach size call.now }
+{
+    match call {
+        Call::Read { offset, len, .. } => Range {
+            offset: *offset,
+            len: offset
+                .saturating_add(*len)
+                .min(size)
+                .saturating_sub(*offset),
+        },
+        Call::Write { offset, body, .. } => {
+            let start = (*offset).min(size);
+            Range {
+                offset: start,
+                len: *offset + body.as_slice().len() as u64 - start,
+            }
         }
-        (Call::Truncate { size, .. }, Some(file)) => touched_by_truncate(file.size, *size).count(),
+        Call::Truncate { size: to, .. } => {
+            let start = (*to).min(size);
+            Range {
+                offset: start,
+                len: (*to).max(size) - start,
+            }
+        }
+        _ => Range { offset: 0, len: 0 },
+    }
+}
+
+/// How many blocks the call touches of the file, and how many are free, where these are fewer.
+fn shortage<D: Disk>(files: &FileStore<D>, target: Target, call: &Call) -> Option<NoRoom>
+    requires target { IsTarget files.now.held.files target.key target }
+    requires bounded { IsBounded call.now }
+    ensures short { result ≡ shortage (superblock_of files.now) files.now.held target.key call.now }
+    ensures mapped { used files.now.held.files ≤ (superblock_of files.now).geometry.blocks }
+{
+    let need = match call {
+        Call::Write { offset, body, .. } => {
+            touched_by_write(target.size, *offset, body.as_slice().len() as u64).count()
+        }
+        Call::Truncate { size, .. } => touched_by_truncate(target.size, *size).count(),
         _ => 0,
     };
     let blocks = u64::from(files.superblock().geometry.blocks);
     let free = blocks.saturating_sub(files.meta().catalog().used());
     if free < need {
-        Err(CallRefusal::NoSpace { need, free })
+        Some(NoRoom { need, free })
     } else {
-        Ok(())
+        None
     }
 }

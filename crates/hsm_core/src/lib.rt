@@ -4,11 +4,11 @@
 mod answering;
 mod judging;
 mod lookups;
+mod parking;
 mod performing;
 mod refusals;
 mod services;
 mod stamps;
 mod store;
-mod tables;
 
-pub use store::Hsm;
+pub use store::{Hsm, Ready};

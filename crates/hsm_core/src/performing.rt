@@ -1,17 +1,17 @@
 //! Calls that nothing refuses, done by the key of their file. Each reply comes twice, for the caller and for the history.
-ghost use Rattle.std.specs.Prelude.{◌≡◌, ◌≤◌, ◌+◌, false, ℕ, None, IsSome, IfOk, OnOk, length};
+ghost use Rattle.std.specs.Prelude.{◌≡◌, ◌≤◌, ◌+◌, false, ℕ, Some, None, IsSome, IfOk, OnOk, length};
 ghost use Rattle.hsm_types.specs.declared.calls.Call.TheVariants.{Create, Sync};
 ghost use Rattle.hsm_types.specs.declared.calls.Reply.TheVariants.{Made, Data};
 ghost use Rattle.plain_model.specs.Keyed.{find_key};
-ghost use Rattle.plain_model.specs.Plain.{read_at};
+ghost use Rattle.plain_model.specs.Plain.{read_at, refusal_of};
 ghost use Rattle.plain_model.specs.Effects.{Makes, Writes, Resizes, Drops};
-ghost use Rattle.plain_model.specs.Ledger.{objection};
 ghost use Rattle.plain_model.specs.Blocks.{touched};
-ghost use Rattle.plain_model.specs.State.{names_of, next_key, bytes_of, used, affected_held, just_opened};
-ghost use Rattle.plain_model.specs.Verdict.{verdict, done_reply, done_held};
+ghost use Rattle.plain_model.specs.State.{names_of, next_key, bytes_of, used, affected_held};
+ghost use Rattle.plain_model.specs.Verdict.{shortage, done_reply, done_held};
 ghost use Rattle.file_store.specs.Stores.{superblock_of, Proceeds};
-ghost use Rattle.hsm_core.specs.Ends.{Ends, AreBoth};
-ghost use Rattle.hsm_core.specs.Targets.{IsMeant, key_in};
+ghost use Rattle.dm_service.specs.Services.{AreBoth};
+ghost use Rattle.hsm_core.specs.Ends.{Ends};
+ghost use Rattle.hsm_core.specs.Targets.{IsBounded, IsOn, MayDo, key_in};
 ghost use Rattle.hsm_core.specs.Crashes.{IsSynced};
 
 use crate::judging::Target;
@@ -20,41 +20,59 @@ use file_store::{FileStore, StoreRefusal};
 use hsm_types::{Bytes, Call, FileKey, Reply, Word};
 use std::alloc::{AllocError, Global};
 
+/// A call on a file.
 pub(crate) fn perform<D: Disk>(
     files: &mut FileStore<D>,
     alloc: Global,
-    target: Option<Target>,
+    target: Target,
     call: &Call,
     number: u64,
 ) -> Result<(Reply, Reply), StoreRefusal>
     requires working { files.old.failed ≡ false }
     requires idle { Proceeds D.Disk files.old number files.old }
-    requires lawful { objection (superblock_of files.old) (names_of files.old.held.files) call.now ≡ None }
-    requires meant { IsMeant files.old.held.files call.now target }
-    requires passed { verdict (superblock_of files.old) (just_opened 0 files.old.held) (key_in target) call.now ≡ None }
+    requires bounded { IsBounded call.now }
+    requires target { IsOn files.old.held.files target.key call.now (Some target) }
+    requires fits { shortage (superblock_of files.old) files.old.held target.key call.now ≡ None }
     requires mapped { used files.old.held.files ≤ (superblock_of files.old).geometry.blocks }
-    ensures reply { IfOk result (λ r. AreBoth (done_reply files.old.held (key_in target) call.now) r) }
-    ensures held { OnOk result (files.new.held ≡ done_held files.old.held (key_in target) call.now) }
+    ensures reply { IfOk result (λ r. AreBoth (done_reply files.old.held target.key call.now) r) }
+    ensures held { OnOk result (files.new.held ≡ done_held files.old.held target.key call.now) }
+    ensures ends { Ends D.Disk files.old number result files.new }
+{
+    match call {
+        Call::Read { offset, len, .. } => { Ok(read(files, alloc, target.key, *offset, *len)?) }
+        Call::Write { offset, body, .. } => {
+            write(files, alloc, target.key, *offset, body, number)
+        }
+        Call::Truncate { size, .. } => { truncate(files, alloc, target.key, *size, number) }
+        Call::Remove { .. } => remove(files, alloc, target.key, number),
+        Call::Stat { .. } => {
+            let size = target.size;
+            Ok((Reply::Size(size), Reply::Size(size)))
+        }
+        Call::Create { .. } | Call::Sync => unreachable!(),
+    }
+}
+
+/// A create or a sync, which means no file.
+pub(crate) fn perform_alone<D: Disk>(
+    files: &mut FileStore<D>,
+    alloc: Global,
+    call: &Call,
+    number: u64,
+) -> Result<(Reply, Reply), StoreRefusal>
+    requires working { files.old.failed ≡ false }
+    requires idle { Proceeds D.Disk files.old number files.old }
+    requires lawful { MayDo (superblock_of files.old) files.old.held.files call.now }
+    requires alone { IsOn files.old.held.files (key_in None) call.now None }
+    ensures reply { IfOk result (λ r. AreBoth (done_reply files.old.held (key_in None) call.now) r) }
+    ensures held { OnOk result (files.new.held ≡ done_held files.old.held (key_in None) call.now) }
     ensures synced { call.now ≡ Sync → OnOk result (IsSynced D.Disk number files.old files.new) }
     ensures ends { Ends D.Disk files.old number result files.new }
 {
     match call {
         Call::Create { name } => create(files, alloc, name, number),
-        Call::Read { offset, len, .. } => {
-            Ok(read(files, alloc, target.unwrap().key, *offset, *len)?)
-        }
-        Call::Write { offset, body, .. } => {
-            write(files, alloc, target.unwrap().key, *offset, body, number)
-        }
-        Call::Truncate { size, .. } => {
-            truncate(files, alloc, target.unwrap().key, *size, number)
-        }
-        Call::Remove { .. } => remove(files, alloc, target.unwrap().key, number),
-        Call::Stat { .. } => {
-            let size = target.unwrap().size;
-            Ok((Reply::Size(size), Reply::Size(size)))
-        }
         Call::Sync => commit(files, alloc, number),
+        _ => unreachable!(),
     }
 }
 
@@ -65,7 +83,7 @@ fn create<D: Disk>(
     number: u64,
 ) -> Result<(Reply, Reply), StoreRefusal>
     requires working { files.old.failed ≡ false }
-    requires lawful { objection (superblock_of files.old) (names_of files.old.held.files) (Create name.now) ≡ None }
+    requires lawful { refusal_of (superblock_of files.old) (names_of files.old.held.files) (Create name.now) ≡ None }
     ensures reply { IfOk result (λ r. AreBoth (Made (next_key files.old.held)) r) }
     ensures held { OnOk result (files.new.held ≡ record { files = affected_held (Makes name.now) (next_key files.old.held) files.old.held.files; next = files.old.held.next + 1 }) }
     ensures ends { Ends D.Disk files.old number result files.new }

@@ -3,7 +3,7 @@ ghost use Rattle.std.specs.Prelude.{◌+◌};
 ghost use Rattle.plain_model.specs.Plain.{bad_name, bad_length, exists, too_big, no_inodes};
 ghost use Rattle.plain_model.specs.State.{names_of};
 ghost use Rattle.file_store.specs.Stores.{superblock_of};
-ghost use Rattle.hsm_core.specs.Refusals.{Judges};
+ghost use Rattle.dm_service.specs.Services.{Judges};
 
 use crate::lookups::find;
 use disk_model::Disk;

@@ -1,25 +1,24 @@
 //! Answers to sessions: judged by the scope of the call, and then by the call itself. Each reply comes twice, for the session and for the history.
-ghost use Rattle.std.specs.Prelude.{◌≡◌, ◌+◌, ℕ, true, false, IfOk, IsOk, OnOk, OnErr};
+ghost use Rattle.std.specs.Prelude.{◌≡◌, ◌≤◌, ◌+◌, ℕ, false, true, IfOk, IsOk, OnOk, OnErr};
 ghost use Rattle.hsm_types.specs.Calls.{scope_of};
-ghost use Rattle.hsm_types.specs.Sessions.{IsNewToken};
 ghost use Rattle.plain_model.specs.Services.{dm_reply_to, dm_state_after};
 ghost use Rattle.plain_model.specs.Stands.{InOrder};
+ghost use Rattle.dm_service.specs.Services.{AreBoth, asks_tables, entries_for, is_due};
+ghost use Rattle.dm_service.specs.Tables.{Tables, awaited_in, ledger_of};
 ghost use Rattle.file_store.specs.Stores.{superblock_of, Proceeds};
-ghost use Rattle.hsm_core.specs.Ends.{Ends, AreBoth};
+ghost use Rattle.hsm_core.specs.Ends.{Ends};
 ghost use Rattle.hsm_core.specs.Store.{state_with};
-ghost use Rattle.hsm_core.specs.Services.{IsInScope, is_due, IsPerformed};
+ghost use Rattle.hsm_core.specs.Services.{IsInScope, IsPerformed};
 
 mod attributes;
 mod handles;
-mod messages;
 mod regions;
 mod replies;
 mod scope;
-mod sessions;
 mod space;
 
-use crate::tables::Tables;
 use disk_model::Disk;
+use dm_service::{DmService, asks_tables};
 use file_store::{FileStore, StoreRefusal};
 use hsm_types::{DmCall, DmReply, FileKey, Sid};
 use indexmap::IndexMap;
@@ -31,7 +30,7 @@ use std::alloc::Global;
 pub(crate) fn serve<D: Disk>(
     files: &mut FileStore<D>,
     stamps: &IndexMap<FileKey, u64>,
-    tables: &mut Tables,
+    service: &mut DmService,
     alloc: Global,
     sid: Sid,
     call: &DmCall,
@@ -39,24 +38,27 @@ pub(crate) fn serve<D: Disk>(
 ) -> Result<(DmReply, DmReply), StoreRefusal>
     requires working { files.old.failed ≡ false }
     requires idle { Proceeds D.Disk files.old number files.old }
-    requires ordered { InOrder (state_with files.old.held stamps.now.entries tables.old number) }
-    ensures replies { IfOk result (λ r. AreBoth (dm_reply_to (superblock_of files.old) (state_with files.old.held stamps.now.entries tables.old number) sid call.now) r) }
-    ensures left { OnOk result (state_with files.new.held stamps.now.entries tables.new (number + 1) ≡ dm_state_after (superblock_of files.old) (state_with files.old.held stamps.now.entries tables.old number) sid call.now) }
-    ensures err { OnErr result (tables.new ≡ tables.old) }
-    ensures responds { is_due tables.old.sessions sid call.now ≡ true → IsOk result }
+    requires ordered { InOrder (state_with files.old.held stamps.now.entries service.old number) }
+    ensures replies { IfOk result (λ r. AreBoth (dm_reply_to (superblock_of files.old) (state_with files.old.held stamps.now.entries service.old number) sid call.now) r) }
+    ensures left { OnOk result (state_with files.new.held stamps.now.entries service.new (number + 1) ≡ dm_state_after (superblock_of files.old) (state_with files.old.held stamps.now.entries service.old number) sid call.now) }
+    ensures err { OnErr result (service.new ≡ service.old) }
+    ensures responds { is_due service.old.sessions sid call.now ≡ true → IsOk result }
+    ensures room { OnOk result (awaited_in service.new + 1 ≤ awaited_in service.old + entries_for service.old.sessions sid call.now) }
     ensures ends { Ends D.Disk files.old number result files.new }
 {
-    match judge_scope(files, &tables.sessions, sid, call.scope()) {
-        Ok(()) => perform(files, stamps, tables, alloc, sid, call, number),
+    if asks_tables(call) {
+        return Ok(service.dm(alloc, sid, call)?);
+    }
+    match judge_scope(files, service, sid, call.scope()) {
+        Ok(()) => perform(files, stamps, alloc, sid, call, number),
         Err(why) => Ok(refused(why)),
     }
 }
 
-/// Serves a call that its scope doesn't refuse.
+/// Serves a call on files that its scope doesn't refuse.
 fn perform<D: Disk>(
     files: &mut FileStore<D>,
     stamps: &IndexMap<FileKey, u64>,
-    tables: &mut Tables,
     alloc: Global,
     sid: Sid,
     call: &DmCall,
@@ -64,28 +66,11 @@ fn perform<D: Disk>(
 ) -> Result<(DmReply, DmReply), StoreRefusal>
     requires working { files.old.failed ≡ false }
     requires idle { Proceeds D.Disk files.old number files.old }
-    requires within { IsInScope files.old.held.files tables.old.sessions sid (scope_of call.now) }
-    requires new { IsNewToken (record { 0 = tables.old.tokens + 1 }) tables.old.sessions }
-    ensures performed { IsPerformed D.Disk files.old number stamps.now.entries tables.old sid call.now result files.new tables.new }
-    ensures responds { is_due tables.old.sessions sid call.now ≡ true → IsOk result }
+    requires files { asks_tables call.now ≡ false }
+    requires within { IsInScope files.old.held.files (scope_of call.now) }
+    ensures { (t : Tables) → IsPerformed D.Disk files.old number stamps.now.entries t sid call.now result files.new }
 {
     match call {
-        DmCall::CreateSession { old, info } => Ok(sessions::create(tables, *old, info)?),
-        DmCall::DestroySession => Ok(sessions::destroy(tables, sid)?),
-        DmCall::GetAllSessions => Ok(sessions::list(tables, alloc)?),
-        DmCall::QuerySession { target } => Ok(sessions::query(tables, *target)?),
-        DmCall::SetDisp { kinds } => Ok(sessions::set_kinds(tables, sid, *kinds)?),
-        DmCall::GetDisp => Ok(sessions::kinds(tables, sid)),
-        DmCall::GetEvents { max, room } => {
-            Ok(messages::hand_out(tables, alloc, sid, *max, *room)?)
-        }
-        DmCall::GetAllTokens => Ok(messages::tokens(tables, alloc, sid)?),
-        DmCall::FindEventMsg { token, room } => Ok(messages::find(tables, alloc, *token, *room)?),
-        DmCall::Respond { token, response } => {
-            Ok(messages::respond(tables, sid, *token, *response))
-        }
-        DmCall::CreateUserEvent { body } => Ok(messages::make_event(tables, sid, body)?),
-        DmCall::SendMsg { target, body } => Ok(messages::send(tables, sid, *target, body)?),
         DmCall::GetFileAttr { handle, .. } => Ok(handles::attributes(files, stamps, *handle)?),
         DmCall::SetRegion {
             handle,
@@ -106,5 +91,6 @@ fn perform<D: Disk>(
         DmCall::GetAllDmAttr { handle, .. } => Ok(attributes::list(files, alloc, *handle)?),
         DmCall::PathToHandle { name } => Ok(handles::find(files, name)?),
         DmCall::GetSpace => Ok(space::space(files)?),
+        _ => unreachable!(),
     }
 }

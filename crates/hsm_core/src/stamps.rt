@@ -2,7 +2,8 @@
 //! stamp, since no key comes a second time.
 ghost use Rattle.std.specs.Prelude.{◌≡◌, ◌<◌, true, None, IsSome, OnOk};
 ghost use Rattle.indexmap.specs.IndexMap.{spare};
-ghost use Rattle.plain_model.specs.Verdict.{is_access, stamped, stamps_by};
+ghost use Rattle.plain_model.specs.Accesses.{is_access};
+ghost use Rattle.plain_model.specs.Verdict.{stamped, stamps_by};
 ghost use Rattle.hsm_core.specs.Stamps.{stamp_in};
 ghost use Rattle.hsm_core.specs.Targets.{key_in};
 

@@ -1,5 +1,5 @@
 //! The store with its history.
-ghost use Rattle.std.specs.Prelude.{◌≡◌, ◌⊎◌, ◌<◌, ◌≤◌, ◌+◌, ◌^◌, ◌++◌, [], ◌∷◌, true, false, List, ℕ, vec_len, vec_capacity, IfOk, IfErr, OnOk, OnErr, IsOk, IsErrOf};
+ghost use Rattle.std.specs.Prelude.{◌≡◌, ◌⊎◌, ◌<◌, ◌≤◌, ◌+◌, ◌^◌, ◌++◌, [], ◌∷◌, true, false, if◌then◌else◌, List, ℕ, vec_len, vec_capacity, IfOk, IfErr, OnOk, OnErr, IsOk, IsErrOf};
 ghost use Rattle.disk_model.specs.Calls.{Rose, HasCause};
 ghost use Rattle.disk_model.specs.Images.{Alike};
 ghost use Rattle.disk_model.specs.Moments.{MayBe, LeavesOnly, Keeps, Same};
@@ -9,21 +9,21 @@ ghost use Rattle.meta_store.specs.Catalogs.{geometry_of};
 ghost use Rattle.meta_store.specs.Images.{IsCorruptAt};
 ghost use Rattle.file_store.specs.Stores.{IsLawful, IsDurable, Proceeds};
 ghost use Rattle.indexmap.specs.IndexMap.{spare};
-ghost use Rattle.hsm_core.specs.Answers.{entry_of, IsAnswered, IsTold, IsCommitted};
+ghost use Rattle.dm_service.specs.Services.{is_due};
+ghost use Rattle.dm_service.specs.Tables.{AreNew, waiting};
+ghost use Rattle.hsm_core.specs.Answers.{entry_of, IsAnswered, IsResumed, IsTold, IsCommitted};
 ghost use Rattle.hsm_core.specs.Crashes.{IsPrefix, IsSafeNow};
 ghost use Rattle.hsm_core.specs.Kept.{IsKept};
-ghost use Rattle.hsm_types.specs.declared.dm.DmCall.TheVariants.{Respond, CreateUserEvent};
-ghost use Rattle.hsm_core.specs.Services.{is_due, entries_for, awaited_after};
-ghost use Rattle.hsm_core.specs.Store.{no_tables};
+ghost use Rattle.hsm_core.specs.Outcomes.{is_aborted, is_fresh, IsAbortedBy};
+ghost use Rattle.hsm_core.specs.Ready.{ready, told_ready};
 
-use crate::answering::answer;
+use crate::answering::{answer, answer_again};
 use crate::performing::commit;
 use crate::services::serve;
 use crate::stamps::make_room;
-use crate::tables::Tables;
 use commit_slots::CommitSlots;
 use disk_model::{Disk, Failed, OpenRefusal};
-use dm_sessions::Sessions;
+use dm_service::{Access, DmService};
 use file_store::{FileStore, StoreRefusal};
 use hsm_types::{
     Call, CallRefusal, CallerId, DmCall, DmRefusal, DmReply, FileKey, Reply, Response, Sid, Token,
@@ -34,6 +34,17 @@ use std::alloc::Global;
 use std::marker::Model;
 use std::snapshot::Snapshot;
 
+/// What a resume of a caller would come to.
+#[derive(Clone, Copy, Debug, PartialEq, Eq)]
+pub enum Ready {
+    /// No access of the caller waits.
+    Idle,
+    /// Its access would wait on, for this token.
+    Waits(Token),
+    /// Its access would end, or park anew, or be told that the disk has failed.
+    Now,
+}
+
 /// A store on its disk. Its history has just the answers that the store gives, one after the other, from its opening on.
 #[derive(Drop)]
 pub struct Hsm<D: Disk> {
@@ -42,25 +53,26 @@ pub struct Hsm<D: Disk> {
     /// The number of the snapshot that was opened.
     base: u64,
     stamps: IndexMap<FileKey, u64>,
-    tables: Tables,
+    service: DmService,
+    /// With room for each response and each resume that may come.
     history: Vec<Entry>,
-    /// How many responses may come. For each there is room in the history.
-    awaited: usize,
 }
 
 impl<D: Disk> Model for Hsm<D> {
     ghost use Rattle.std.specs.Prelude.{◌≡◌, ◌≤◌, ◌+◌, ◌^◌, vec_len, vec_capacity};
-    ghost use Rattle.hsm_core.specs.Store.{Store, HasRun, awaited_in};
+    ghost use Rattle.dm_service.specs.Tables.{awaited_in, ledger_of, waiting};
+    ghost use Rattle.hsm_core.specs.Store.{Store, HasRun};
     ghost use Rattle.hsm_core.specs.Crashes.{IsSafe};
+    ghost use Rattle.hsm_core.specs.Targets.{EachLasts};
 
     ghost Value = { Store D };
 
-    ghost view = { λ h. record { opened = h.opened.value; files = h.files; stamps = h.stamps.entries; tables = h.tables; history = h.history.items } };
+    ghost view = { λ h. record { opened = h.opened.value; files = h.files; stamps = h.stamps.entries; tables = h.service; history = h.history.items } };
 
-    ghost invariant = { λ h. HasRun (record { opened = h.opened.value; files = h.files; stamps = h.stamps.entries; tables = h.tables; history = h.history.items })
-        × IsSafe D.Disk (record { opened = h.opened.value; files = h.files; stamps = h.stamps.entries; tables = h.tables; history = h.history.items })
+    ghost invariant = { λ h. HasRun (record { opened = h.opened.value; files = h.files; stamps = h.stamps.entries; tables = h.service; history = h.history.items })
+        × IsSafe D.Disk (record { opened = h.opened.value; files = h.files; stamps = h.stamps.entries; tables = h.service; history = h.history.items })
         × (h.base ≡ h.opened.value.meta.number) × (h.base ≤ 2 ^ 62)
-        × (h.awaited ≡ awaited_in h.tables) × (vec_len h.history + h.awaited ≤ vec_capacity h.history) };
+        × (vec_len h.history + awaited_in h.service ≤ vec_capacity h.history) × EachLasts (ledger_of h.service) };
 }
 
 /// Makes room for so many entries beside those that are set apart, unless a call of the disk has failed before.
@@ -86,7 +98,7 @@ fn make_ready<D: Disk>(
     Ok(())
 }
 
-/// Makes room for an entry and a stamp, likewise.
+/// Makes room for an entry and a stamp, likewise, and for the response and the resume that may come of an access.
 fn make_ready_for_access<D: Disk>(
     files: &FileStore<D>,
     history: &mut Vec<Entry>,
@@ -95,49 +107,75 @@ fn make_ready_for_access<D: Disk>(
 ) -> Result<(), StoreRefusal>
     ensures same { history.new.items ≡ history.old.items }
     ensures stamps { stamps.new.entries ≡ stamps.old.entries }
-    ensures room { OnOk result ((vec_len history.new + awaited + 1 ≤ vec_capacity history.new) × (0 < spare stamps.new)) }
+    ensures room { OnOk result ((vec_len history.new + awaited + 3 ≤ vec_capacity history.new) × (0 < spare stamps.new)) }
     ensures keeps { vec_capacity history.old ≤ vec_capacity history.new }
     ensures working { OnOk result (files.now.failed ≡ false) }
     ensures idle { files.now.failed ≡ false → (n : ℕ) → Proceeds D.Disk files.now n files.now }
     ensures refused { IfErr result (λ why. (why ≡ StoreRefusal.Disk) × (files.now.failed ≡ true) ⊎ (why ≡ StoreRefusal.Memory) × (files.now.failed ≡ false)) }
 {
-    make_ready(files, history, awaited, 1)?;
+    make_ready(files, history, awaited, 3)?;
     make_room(stamps)?;
     Ok(())
 }
 
-/// How many entries must have room for a session's call, beside those that are set apart.
-fn entries_for(tables: &Tables, sid: Sid, call: &DmCall) -> usize
-    ensures { result ≡ entries_for tables.now.sessions sid call.now }
+/// Makes room for a resume, likewise. That of an access that was aborted has its entry set apart, and it renews no stamp.
+fn make_ready_to_resume<D: Disk>(
+    files: &FileStore<D>,
+    history: &mut Vec<Entry>,
+    awaited: usize,
+    stamps: &mut IndexMap<FileKey, u64>,
+    aborted: bool,
+) -> Result<(), StoreRefusal>
+    ensures same { history.new.items ≡ history.old.items }
+    ensures stamps { stamps.new.entries ≡ stamps.old.entries }
+    ensures room { OnOk result (vec_len history.new + awaited + (if aborted then 0 else 2) ≤ vec_capacity history.new) }
+    ensures spare { aborted ≡ false → OnOk result (0 < spare stamps.new) }
+    ensures keeps { vec_capacity history.old ≤ vec_capacity history.new }
+    ensures there { files.now.failed ≡ false → aborted ≡ true → vec_len history.old + awaited ≤ vec_capacity history.old → IsOk result }
+    ensures working { OnOk result (files.now.failed ≡ false) }
+    ensures idle { files.now.failed ≡ false → (n : ℕ) → Proceeds D.Disk files.now n files.now }
+    ensures refused { IfErr result (λ why. (why ≡ StoreRefusal.Disk) × (files.now.failed ≡ true) ⊎ (why ≡ StoreRefusal.Memory) × (files.now.failed ≡ false)) }
 {
-    match call {
-        DmCall::CreateUserEvent { .. } => 2,
-        DmCall::Respond { token, response } if is_due(&tables.sessions, sid, *token, *response) =>
-            0,
-        _ => 1,
+    if aborted {
+        return make_ready(files, history, awaited, 0);
+    }
+    make_ready(files, history, awaited, 2)?;
+    make_room(stamps)?;
+    Ok(())
+}
+
+/// Whether the caller's access that waits was aborted.
+fn is_aborted(service: &DmService, caller: CallerId) -> bool
+    ensures { result ≡ is_aborted (waiting service.now caller) }
+{
+    match service.pending(caller) {
+        Some(access) => matches!(access.answer, Some(Response::Abort(_))),
+        None => false,
     }
 }
 
-/// Whether it is a lawful response to a token that is outstanding to the session.
-fn is_due(sessions: &Sessions, sid: Sid, token: Token, response: Response) -> bool
-    ensures { result ≡ is_due sessions.now sid (Respond token response) }
+/// What a resume comes to of an access that waits for this token and has this response: of a store whose disk has failed, that it has.
+fn ready_for(failed: bool, token: Option<Token>, answer: Option<Response>) -> Ready
+    ensures { result ≡ told_ready failed token answer }
 {
-    token.0 != 0 && response.is_lawful() && sessions.admit(sid, token).is_ok()
+    match (token, answer) {
+        (Some(token), None) if !failed => Ready::Waits(token),
+        _ => Ready::Now,
+    }
 }
 
-/// How many responses may come after a call that ended so.
-fn awaited_after(
-    awaited: usize,
-    call: &DmCall,
-    done: &Result<(DmReply, DmReply), StoreRefusal>,
-) -> usize
-    requires { (body : List ℕ) → call.now ≡ CreateUserEvent body → awaited + 1 < 2 ^ 64 }
-    ensures { result ≡ awaited_after call.now done.now awaited }
+/// An access that has not waited. The file that it means is found by its call's name.
+fn issued(call: Call) -> Access
+    ensures call { result.call ≡ call }
+    ensures fresh { is_fresh result ≡ true }
 {
-    match (call, done) {
-        (DmCall::CreateUserEvent { .. }, Ok((DmReply::Token(_), _))) => awaited + 1,
-        (DmCall::Respond { .. }, Ok((DmReply::Done, _))) => awaited.saturating_sub(1),
-        _ => awaited,
+    Access {
+        key: FileKey { ino: 0, igen: 0 },
+        call,
+        cleared: false,
+        spaced: false,
+        token: None,
+        answer: None,
     }
 }
 
@@ -253,7 +291,7 @@ impl<D: Disk> Hsm<D> {
 
         // Ok: what it holds is what recovery finds from now on.
         ensures opened { IfOk result (λ s. (s.opened ≡ s.files) × (s.history ≡ [])) }
-        ensures anew { IfOk result (λ s. (s.tables ≡ no_tables) × (s.stamps ≡ [])) }
+        ensures anew { IfOk result (λ s. AreNew s.tables × (s.stamps ≡ [])) }
         ensures found { IfOk result (λ s. (s.files.held ≡ s.files.durable) × (s.files.failed ≡ false)) }
         ensures durable { IfOk result (λ s. (c : List ℕ) → MayBe D.Disk s.files.disk c → IsDurable s.files c) }
         ensures lawful { IfOk result (λ s. IsLawful (geometry_of s.files.meta.durable.geometry).files s.files.held) }
@@ -263,7 +301,7 @@ impl<D: Disk> Hsm<D> {
         ensures corrupt { IfErr result (λ e. (place : ℕ) → e.0 ≡ OpenRefusal.Corrupt place → (c : List ℕ) → D.gives disk c → IsCorruptAt place c) }
         ensures failed { IfErr result (λ e. e.0 ≡ OpenRefusal.Disk → Rose (D.fault_count disk) (D.fault_count e.1)) }
     {
-        let Ok(sessions) = Sessions::new(alloc) else {
+        let Ok(service) = DmService::new(alloc) else {
             return Err((OpenRefusal::Memory, disk));
         };
         match FileStore::open(alloc, disk) {
@@ -272,12 +310,8 @@ impl<D: Disk> Hsm<D> {
                 base: files.meta().number(),
                 files,
                 stamps: IndexMap::new(alloc),
-                tables: Tables {
-                    sessions,
-                    tokens: 0,
-                },
+                service,
                 history: Vec::new(alloc),
-                awaited: 0,
             }),
             Err(refusal) => Err(refusal),
         }
@@ -289,7 +323,7 @@ impl<D: Disk> Hsm<D> {
         ensures answered { IsAnswered D.Disk self.old caller call result self.new }
         ensures safe { IsSafeNow D.Disk self.new }
     {
-        let awaited = self.awaited;
+        let awaited = self.service.awaited();
         if let Err(why) = make_ready_for_access(
             &self.files,
             &mut self.history,
@@ -299,13 +333,63 @@ impl<D: Disk> Hsm<D> {
             return undone(why);
         }
         let number = self.base + self.history.len() as u64;
-        let done = answer(&mut self.files, &mut self.stamps, alloc, &call, number);
+        let access = issued(call);
+        let done = answer(
+            &mut self.files,
+            &mut self.stamps,
+            &mut self.service,
+            alloc,
+            caller,
+            &access,
+            number,
+        );
         keep(
             &mut self.history,
             Actor::Caller(caller),
-            Action::Issue(call),
+            Action::Issue(access.call),
             done,
         )
+    }
+
+    /// Answers the caller who asks for the answer to its access that waits, and keeps that in the history. It is refused for want of memory, and by a
+    /// closed store, as calls are; but there is always memory to end an access that was aborted. Each refusal but these and `Idle` ends the access.
+    pub fn resume(&mut self, alloc: Global, caller: CallerId) -> Reply
+        ensures resumed { IsResumed D.Disk self.old caller result self.new }
+        ensures aborts { self.old.files.failed ≡ false → IsAbortedBy (waiting self.old.tables caller) (λ error. result ≡ Reply.Refused (CallRefusal.Aborted error)) }
+        ensures safe { IsSafeNow D.Disk self.new }
+    {
+        let awaited = self.service.awaited();
+        let aborted = is_aborted(&self.service, caller);
+        if let Err(why) = make_ready_to_resume(
+            &self.files,
+            &mut self.history,
+            awaited,
+            &mut self.stamps,
+            aborted,
+        ) {
+            return undone(why);
+        }
+        let number = self.base + self.history.len() as u64;
+        let done = answer_again(
+            &mut self.files,
+            &mut self.stamps,
+            &mut self.service,
+            alloc,
+            caller,
+            number,
+        );
+        let actor = Actor::Caller(caller);
+        keep(&mut self.history, actor, Action::Resume, done)
+    }
+
+    /// What a resume of the caller would come to now. It is no event, and takes no memory.
+    pub fn ready(&self, caller: CallerId) -> Ready
+        ensures { result ≡ ready self.now caller }
+    {
+        match self.service.pending(caller) {
+            Some(access) => ready_for(self.files.has_failed(), access.token, access.answer),
+            None => Ready::Idle,
+        }
     }
 
     /// Answers a session's call, and keeps it in the history. It is refused for want of memory, and by a closed store, as calls are; but there is
@@ -315,8 +399,8 @@ impl<D: Disk> Hsm<D> {
         ensures responds { is_due self.old.tables.sessions sid call ≡ true → self.old.files.failed ≡ false → result ≡ DmReply.Done }
         ensures safe { IsSafeNow D.Disk self.new }
     {
-        let awaited = self.awaited;
-        let more = entries_for(&self.tables, sid, &call);
+        let awaited = self.service.awaited();
+        let more = self.service.entries_for(sid, &call);
         if let Err(why) = make_ready(&self.files, &mut self.history, awaited, more) {
             return unserved(why);
         }
@@ -324,13 +408,12 @@ impl<D: Disk> Hsm<D> {
         let done = serve(
             &mut self.files,
             &self.stamps,
-            &mut self.tables,
+            &mut self.service,
             alloc,
             sid,
             &call,
             number,
         );
-        self.awaited = awaited_after(awaited, &call, &done);
         keep_dm(&mut self.history, sid, call, done)
     }
 
@@ -339,7 +422,7 @@ impl<D: Disk> Hsm<D> {
         ensures committed { IsCommitted D.Disk self.old result self.new }
         ensures safe { IsSafeNow D.Disk self.new }
     {
-        let awaited = self.awaited;
+        let awaited = self.service.awaited();
         if let Err(why) = make_ready(&self.files, &mut self.history, awaited, 1) {
             return undone(why);
         }

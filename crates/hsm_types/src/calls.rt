@@ -1,11 +1,11 @@
 //! The calls of callers, and the replies to them.
 
-use crate::keys::FileKey;
+use crate::keys::{FileKey, Token};
 use crate::lists::{Bytes, Word};
 use thiserror::Error;
 
 /// What a caller asks of the store. Offsets and lengths are in bytes.
-#[derive(Debug, PartialEq, Drop)]
+#[derive(Clone, Debug, PartialEq, Drop)]
 pub enum Call {
     Create {
         name: Word,
@@ -34,13 +34,19 @@ pub enum Call {
     Sync,
 }
 
-/// What the store answers to a call.
+/// What the store answers to a call, or to the caller who asks for the answer to one that waits.
 #[derive(Debug, PartialEq, Drop)]
 pub enum Reply {
     Done,
     Made(FileKey),
     Data(Bytes),
     Size(u64),
+    /// The access waits for a response to this token, which was given for it.
+    Parked { token: Token },
+    /// The access waits for the end of a right that this token has.
+    Blocked { token: Token },
+    /// The access waits on: its token has no response yet.
+    Still { token: Token },
     Refused(CallRefusal),
 }
 
@@ -61,9 +67,16 @@ pub enum CallRefusal {
     NoInodes { count: u64 },
     #[error("{need} blocks are needed, and {free} are free")]
     NoSpace { need: u64, free: u64 },
+    /// The response to the token for which the access waited.
+    #[error("the access was aborted with the error {errno}")]
+    Aborted { errno: u8 },
     /// A call of the disk failed in this event, or the store is closed by such a fault.
     #[error("the disk failed")]
     Disk,
     #[error("no memory")]
     Memory,
+    #[error("an access of the caller waits")]
+    Waiting,
+    #[error("no access of the caller waits")]
+    Idle,
 }

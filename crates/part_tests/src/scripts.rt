@@ -4,7 +4,7 @@ use plain_model::Action;
 use script_text::{Line, ParseRefusal, parse, print};
 use std::alloc::Global;
 
-static PRINTED: [&str; 17] = [
+static PRINTED: [&str; 18] = [
     "",
     "s0 session 0 a/b\ns0 sessions\ns0 query 0\ns0 query 18446744073709551615\n",
     "s1 handle a\ns0 handle a/b\ns0 space\ns7 space\n",
@@ -22,6 +22,7 @@ static PRINTED: [&str; 17] = [
     "s1 userevent x:\ns1 userevent p:3:7\ns1 send 0 x:00ff\ns1 send 18446744073709551615 p:4096:0\n",
     "c1 create a\nc1 write a 0 x:00ff\nc2 write a 2 p:3:255\nc2 write a 5 x:\nc2 write a 5 p:0:0\n",
     "c64 read a 1 2\nc1 truncate a 3\nc1 stat a\nc1 sync\nc1 remove a\nstore commit\n",
+    "c1 resume\nc64 resume\nc1 resume\n",
 ];
 
 /// Whether what is read of a text is printed as that text, `None` for want of memory.
@@ -84,7 +85,7 @@ fn bad_line(alloc: Global, text: &[u8]) -> u64 {
     }
 }
 
-static BAD: [&str; 96] = [
+static BAD: [&str; 107] = [
     "\n",
     "c1",
     " c1 sync",
@@ -101,8 +102,18 @@ static BAD: [&str; 96] = [
     "c1 write a 0 p:1:",
     "c1 write a 0 p:01:0",
     "c1 write a 0 p:1:0:0",
+    "resume",
+    "c0 resume",
+    "c65 resume",
+    "c1 resum",
+    "c1 resumes",
+    "c1 resume ",
+    "c1 resume x",
+    "c1  resume",
+    "c1 commit",
     "store",
     "store sync",
+    "store resume",
     "store  commit",
     "store commit x",
     "store space",
@@ -137,6 +148,7 @@ static BAD: [&str; 96] = [
     "s1 setattr 0 1.1.1 0123456789abcdef x:0",
     "s1 setattr 0 1.1.1 0123456789abcdef p:1:256",
     "s1 commit",
+    "s1 resume",
     "s1 fileattr 0",
     "s1 attrs 1.1.1",
     "s1 setregion 0 1.1 -",
@@ -192,11 +204,12 @@ fn are_refused(rt: HostRuntime) {
 
 /// A line, how often it stands, the last line behind these, and the first bad one: at most 100,000 lines, and 536,870,912 bytes that are read,
 /// written and set.
-static LONG: [(&str, u32, &str, u64); 8] = [
+static LONG: [(&str, u32, &str, u64); 9] = [
     ("c1 sync\n", 99999, "c1 sync", 0),
     ("c1 sync\n", 100000, "c1 sync", 100001),
     ("c1 read a 0 99999\n", 8192, "c1 write a 0 p:0:0", 0),
     ("c1 read a 0 99999\n", 8192, "c1 write a 0 p:1:0", 8193),
+    ("c1 read a 0 99999\n", 8192, "c1 resume", 0),
     (
         "c1 read a 0 99999\n",
         8192,

@@ -17,6 +17,8 @@ use Rattle.hsm_types.specs.declared.dm.DmCall.{DmCall}
 use Rattle.hsm_types.specs.declared.dm.DmCall.TheVariants.{CreateSession, DestroySession, QuerySession, GetEvents, FindEventMsg, Respond, CreateUserEvent, SendMsg, SetRegion, SetDmAttr, GetDmAttr, RemoveDmAttr, PathToHandle}
 use Rattle.hsm_types.specs.declared.dm.DmRefusal.{DmRefusal}
 use Rattle.hsm_types.specs.declared.dm.DmReply.TheVariants as told
+use Rattle.hsm_types.specs.declared.dm.Response.{Response}
+use Rattle.hsm_types.specs.declared.dm.Response.TheVariants.{Abort}
 use Rattle.hsm_types.specs.declared.dm.Right.{Right}
 use Rattle.hsm_types.specs.declared.dm.Right.TheVariants.{Null}
 use Rattle.hsm_types.specs.declared.keys.Token.{Token}
@@ -27,21 +29,23 @@ use Rattle.hsm_types.specs.declared.stores.Superblock.{Superblock}
 use Rattle.hsm_types.specs.declared.calls.Call.{Call}
 use Rattle.hsm_types.specs.declared.calls.Call.TheVariants.{Create, Read, Write, Truncate, Remove, Stat, Sync}
 use Rattle.hsm_types.specs.declared.calls.CallRefusal.{CallRefusal}
-use Rattle.hsm_types.specs.declared.calls.Reply.TheVariants.{Refused}
+use Rattle.hsm_types.specs.declared.calls.CallRefusal.TheVariants.{Waiting, Idle}
+use Rattle.hsm_types.specs.declared.calls.Reply.TheVariants.{Still, Refused}
 use Rattle.plain_model.specs.declared.entries.Entry.{Entry}
 use Rattle.plain_model.specs.declared.entries.Actor.{Actor}
 use Rattle.plain_model.specs.declared.entries.Actor.TheVariants.{Caller, Session, Store}
 use Rattle.plain_model.specs.declared.entries.Action.{Action}
-use Rattle.plain_model.specs.declared.entries.Action.TheVariants.{Issue, Dm, Commit}
+use Rattle.plain_model.specs.declared.entries.Action.TheVariants.{Issue, Resume, Dm, Commit}
 use Rattle.plain_model.specs.declared.entries.Answer.{Answer}
 use Rattle.plain_model.specs.declared.entries.Answer.TheVariants.{Call as Replied, Dm as Told}
-use Rattle.plain_model.specs.Plain.{Listed, named, bad_name, bad_length, missing, exists, too_big, no_inodes, refusal_of, reply_on}
-use Rattle.plain_model.specs.Ledger.{Meant}
+use Rattle.plain_model.specs.Plain.{Listed, has_key, named, bad_name, bad_length, missing, exists, too_big, no_inodes, refusal_of, reply_on}
+use Rattle.plain_model.specs.Ledger.{Access, Meant, Fixed, Means, aborted, gone, objection_again, objection}
 use Rattle.plain_model.specs.Faults.{is_fault, fault_of, FaultIsLast, has_fault}
-use Rattle.plain_model.specs.State.{State, names_of}
-use Rattle.plain_model.specs.Verdict.{Lacks, Verdict, verdict, reply_by, reply_where, objection_in, meant_in, reply_to}
+use Rattle.plain_model.specs.State.{Flags, State, names_of}
+use Rattle.plain_model.specs.Verdict.{Posts, Lacks, Verdict, verdict, reply_by, flags_now, reply_where, objection_in, meant_in, reply_to}
 use Rattle.plain_model.specs.Services.{bad_own_token, bad_given_token, no_right, is_live, bad_handle, scope_refusals, kept_of, other_attributes, message_or_none, service, dm_judged, dm_reply_where, dm_reply_to}
 use Rattle.plain_model.specs.Exact.{IsOwn}
+use Rattle.plain_model.proofs.Judged.{Says, meant_says}
 
 -- what refuses a call of its kind, if anything, is no fault
 module _ {R : Type 0} (refused : R → Answer) where
@@ -110,15 +114,36 @@ faultless_on k body call = refl
 
 faultless_by : (st : State) (k : FileKey) (call : Call) (v : Verdict) → is_fault (Replied (reply_by st k call v)) ≡ false
 faultless_by st k call None = faultless_on _ _ call
+faultless_by st k call (Some (Posts kind)) = refl
 faultless_by st k call (Some (Lacks need free)) = refl
 
-faultless_where : (why : Option CallRefusal) (s : Superblock) (st : State) (a : Meant) → Ordinary why → is_fault (Replied (reply_where why s st a)) ≡ false
-faultless_where None s st a is = faultless_by st a.key a.call (verdict s st a.key a.call)
-faultless_where (Some why) s st a is = is
+ordinary_abort : (answer : Option Response) → Ordinary (aborted answer)
+ordinary_abort (Some (Abort error)) = refl
+ordinary_abort answer = tt
 
--- the store's reply to a call is for no fault
-pub faultless_reply : (s : Superblock) (st : State) (call : Call) → is_fault (Replied (reply_to s st call)) ≡ false
-faultless_reply s st call = faultless_where (objection_in s st call) s st (meant_in st call) (ordinary_refusal (names_of st.held.files) s call)
+ordinary_again : (files : List Listed) (waits : Option Access) → Ordinary (objection_again files waits)
+ordinary_again files None = tt
+ordinary_again files (Some a) =
+    ordinary_first of_call (aborted a.answer) _ (ordinary_abort a.answer)
+    (ordinary_first of_call (gone (has_key a.key files)) _ (ordinary_if of_call (has_key a.key files) _ _ tt refl) tt)
+
+ordinary_objection : (s : Superblock) (files : List Listed) (waits : Option Access) (what : Action) → Ordinary (objection s files waits what)
+ordinary_objection s files waits (Issue call) = ordinary_refusal files s call
+ordinary_objection s files waits what = ordinary_again files waits
+
+faultless_where : (s : Superblock) (st : State) (fl : Flags) (why : Option CallRefusal) (m : Meant) → Ordinary why → Says m → is_fault (Replied (reply_where s st fl why m)) ≡ false
+faultless_where s st fl why (Fixed (Refused Waiting)) is says = refl
+faultless_where s st fl why (Fixed (Refused Idle)) is says = refl
+faultless_where s st fl why (Fixed (Still t)) is says = refl
+faultless_where s st fl why (Fixed reply) is says = absurd says
+faultless_where s st fl None (Means k call) is says = faultless_by st k call (verdict s st fl k call)
+faultless_where s st fl (Some why) (Means k call) is says = is
+
+-- the store's reply to a caller's event is for no fault
+pub faultless_reply : (s : Superblock) (st : State) (c : ℕ) (what : Action) → is_fault (Replied (reply_to s st c what)) ≡ false
+faultless_reply s st c what =
+    faultless_where s st (flags_now st c what) (objection_in s st c what) (meant_in st c what)
+    (ordinary_objection s (names_of st.held.files) (st.ledger.pending c) what) (meant_says (names_of st.held.files) (st.ledger.pending c) what)
 
 -- ---- a session's call
 
@@ -238,7 +263,8 @@ faultless_dm_reply s st sid call =
 
 -- the store's own answer is for no fault
 pub own_faultless : (s : Superblock) (st : State) (who : Actor) (what : Action) (answer : Answer) → IsOwn s st who what answer → is_fault answer ≡ false
-own_faultless s st (Caller c) (Issue call) answer is = ap is_fault is.1 ∙ faultless_reply s st call
+own_faultless s st (Caller c) (Issue call) answer is = ap is_fault is.1 ∙ faultless_reply s st c (Issue call)
+own_faultless s st (Caller c) Resume answer is = ap is_fault is.1 ∙ faultless_reply s st c Resume
 own_faultless s st (Session sid) (Dm call) answer is = ap is_fault is.1 ∙ faultless_dm_reply s st sid call
 own_faultless s st Store Commit answer is = ap is_fault is.1
 own_faultless s st who what answer is = absurd is.0
@@ -257,8 +283,8 @@ pub has_fault-cons : (e : Entry) (es : List Entry) → has_fault (e ∷ es) ≡ 
 has_fault-cons e es none = or_false (is_fault e.answer) (has_fault es) none
 
 -- an entry that is for no fault need not be the last
-pub goes_on : (e : Entry) (es : List Entry) → is_fault e.answer ≡ false → FaultIsLast e es
-goes_on e es none fault = cc
+pub not_last : (e : Entry) (es : List Entry) → is_fault e.answer ≡ false → FaultIsLast e es
+not_last e es none fault = cc
 
 or-none : (b : Bool) → (b || false) ≡ b
 or-none true = refl

@@ -10,16 +10,16 @@ use Rattle.plain_model.specs.declared.entries.Entry.{Entry}
 use Rattle.plain_model.specs.declared.entries.Actor.{Actor}
 use Rattle.plain_model.specs.declared.entries.Actor.TheVariants.{Caller, Session}
 use Rattle.plain_model.specs.declared.entries.Action.{Action}
-use Rattle.plain_model.specs.declared.entries.Action.TheVariants.{Issue, Dm}
+use Rattle.plain_model.specs.declared.entries.Action.TheVariants.{Issue, Resume, Dm}
 use Rattle.plain_model.specs.declared.entries.Answer.{Answer}
 use Rattle.plain_model.specs.Effects.{Change, Nothing, OfFile, OfSessions, change_of}
-use Rattle.plain_model.specs.Ledger.{Meant}
-use Rattle.plain_model.specs.State.{State, noted, changed}
-use Rattle.plain_model.specs.Verdict.{objection_in, meant_in, state_where}
+use Rattle.plain_model.specs.Ledger.{Meant, Fixed, Means}
+use Rattle.plain_model.specs.State.{Flags, State, noted, changed}
+use Rattle.plain_model.specs.Verdict.{flags_now, objection_in, meant_in, state_where}
 use Rattle.plain_model.specs.Services.{dm_judged, dm_state_where}
 use Rattle.plain_model.specs.Faults.{is_fault, has_fault}
 use Rattle.plain_model.specs.Exact.{IsAnswer, left_own, left_by, Exact, state_by}
-use Rattle.plain_model.proofs.Faultless.{has_fault-cons, goes_on}
+use Rattle.plain_model.proofs.Faultless.{has_fault-cons, not_last}
 
 pub state_by-push : (s : Superblock) (st : State) (es : List Entry) (e : Entry) → state_by s st (es ++ e ∷ []) ≡ left_by s (state_by s st es) e.actor e.action e.answer
 state_by-push s st [] e = refl
@@ -29,7 +29,7 @@ pub Exact-push : (s : Superblock) (st : State) (es : List Entry) (e : Entry) →
 Exact-push s st [] e exact faultless is = (is, λ fault. refl, tt)
 Exact-push s st (x ∷ es) e exact faultless is =
     let none = has_fault-cons x es faultless in
-    (exact.0, goes_on x (es ++ e ∷ []) none.0, Exact-push s (left_by s st x.actor x.action x.answer) es e exact.2 none.1 is)
+    (exact.0, not_last x (es ++ e ∷ []) none.0, Exact-push s (left_by s st x.actor x.action x.answer) es e exact.2 none.1 is)
 
 -- ---- beginnings
 
@@ -46,9 +46,10 @@ Exact-take s st (e ∷ es) (suc i) exact = (exact.0, (λ fault. take_none i es (
 
 -- ---- numbers
 
-counted_call : (why : Option CallRefusal) (s : Superblock) (st : State) (c : ℕ) (a : Meant) → (state_where why s st c a).number ≡ st.number + 1
-counted_call None s st c a = refl
-counted_call (Some why) s st c a = refl
+counted_call : (s : Superblock) (st : State) (c : ℕ) (fl : Flags) (why : Option CallRefusal) (m : Meant) → (state_where s st c fl why m).number ≡ st.number + 1
+counted_call s st c fl why (Fixed reply) = refl
+counted_call s st c fl None (Means k call) = refl
+counted_call s st c fl (Some why) (Means k call) = refl
 
 changed-number : (change : Change) (st : State) → (changed change st).number ≡ st.number
 changed-number Nothing st = refl
@@ -60,7 +61,8 @@ counted_dm None s st sid call = rw (changed-number (change_of sid call) st) refl
 counted_dm (Some why) s st sid call = refl
 
 own_number : (s : Superblock) (st : State) (who : Actor) (what : Action) → (left_own s st who what).number ≡ st.number + 1
-own_number s st (Caller c) (Issue call) = counted_call (objection_in s st call) s st c (meant_in st call)
+own_number s st (Caller c) (Issue call) = counted_call s st c (flags_now st c (Issue call)) (objection_in s st c (Issue call)) (meant_in st c (Issue call))
+own_number s st (Caller c) Resume = counted_call s st c (flags_now st c Resume) (objection_in s st c Resume) (meant_in st c Resume)
 own_number s st (Session sid) (Dm call) = counted_dm (dm_judged s st sid call) s st sid call
 own_number s st who what = refl
 

@@ -14,14 +14,14 @@ use Rattle.plain_model.specs.declared.entries.Entry.{Entry}
 use Rattle.plain_model.specs.declared.entries.Actor.{Actor}
 use Rattle.plain_model.specs.declared.entries.Actor.TheVariants.{Caller, Session, Store}
 use Rattle.plain_model.specs.declared.entries.Action.{Action}
-use Rattle.plain_model.specs.declared.entries.Action.TheVariants.{Issue, Dm, Commit}
+use Rattle.plain_model.specs.declared.entries.Action.TheVariants.{Issue, Resume, Dm, Commit}
 use Rattle.plain_model.specs.declared.entries.Answer.{Answer}
 use Rattle.plain_model.specs.Keyed.{same_key, find_key, change_key, put_key, drop_key}
 use Rattle.plain_model.specs.Effects.{Effect, Leaves, Makes, Drops, Writes, Resizes, Change, Nothing, OfFile, OfSessions, change_of}
 use Rattle.plain_model.specs.Plain.{File, body_or_none, body_of}
-use Rattle.plain_model.specs.Ledger.{Meant}
-use Rattle.plain_model.specs.State.{FileState, Held, State, just_opened, noted, changed, remade, affected_held}
-use Rattle.plain_model.specs.Verdict.{Lacks, Verdict, verdict, done_reply, done_held, reply_by, held_by_verdict, objection_in, meant_in, reply_where, reply_to, state_where, state_after}
+use Rattle.plain_model.specs.Ledger.{Meant, Fixed, Means}
+use Rattle.plain_model.specs.State.{FileState, Held, Flags, State, just_opened, noted, changed, remade, affected_held}
+use Rattle.plain_model.specs.Verdict.{Posts, Lacks, Verdict, verdict, done_reply, done_held, reply_by, held_by_verdict, flags_now, objection_in, meant_in, reply_where, reply_to, state_where, state_after}
 use Rattle.plain_model.specs.Services.{service, dm_judged, dm_reply_where, dm_state_where}
 use Rattle.plain_model.specs.Faults.{is_fault}
 use Rattle.plain_model.specs.Step.{World, start, meant_for, after}
@@ -78,10 +78,7 @@ affected_sided e k fs gs st = sides_change e k fs gs st
 
 -- ---- callers
 
-abbrev on_key : FileKey → Call → Meant
-on_key k call = record { key = k; call = call }
-
-done_sided : (h : Held) (k : FileKey) (call : Call) (gs : List File) → Stands h.files gs → sides_of (done_held h k call).files ≡ side_replied gs (on_key k call) (done_reply h k call) (sides_of h.files)
+done_sided : (h : Held) (k : FileKey) (call : Call) (gs : List File) → Stands h.files gs → sides_of (done_held h k call).files ≡ side_replied gs (Means k call) (done_reply h k call) (sides_of h.files)
 done_sided h k (Create name) gs st = affected_sided (Makes name) _ h.files gs st
 done_sided h k (Read name o n) gs st = refl
 done_sided h k (Write name o bytes) gs st = affected_sided (Writes o bytes) k h.files gs st
@@ -91,19 +88,21 @@ done_sided h k (Stat name) gs st = refl
 done_sided h k Sync gs st = refl
 
 verdict_sided : (st : State) (k : FileKey) (call : Call) (v : Verdict) (gs : List File) → Stands st.held.files gs
-    → sides_of (held_by_verdict st.held k call v).files ≡ side_replied gs (on_key k call) (reply_by st k call v) (sides_of st.held.files)
+    → sides_of (held_by_verdict st.held k call v).files ≡ side_replied gs (Means k call) (reply_by st k call v) (sides_of st.held.files)
 verdict_sided st k call None gs stands = done_sided st.held k call gs stands
+verdict_sided st k call (Some (Posts kind)) gs stands = refl
 verdict_sided st k call (Some (Lacks need free)) gs stands = refl
 
-where_sided : (s : Superblock) (st : State) (c : ℕ) (why : Option CallRefusal) (a : Meant) (gs : List File) → Stands st.held.files gs
-    → sides_of (state_where why s st c a).held.files ≡ side_replied gs a (reply_where why s st a) (sides_of st.held.files)
-where_sided s st c None a gs stands = verdict_sided st a.key a.call (verdict s st a.key a.call) gs stands
-where_sided s st c (Some why) a gs stands = refl
+where_sided : (s : Superblock) (st : State) (c : ℕ) (fl : Flags) (why : Option CallRefusal) (m : Meant) (gs : List File) → Stands st.held.files gs
+    → sides_of (state_where s st c fl why m).held.files ≡ side_replied gs m (reply_where s st fl why m) (sides_of st.held.files)
+where_sided s st c fl why (Fixed reply) gs stands = refl
+where_sided s st c fl None (Means k call) gs stands = verdict_sided st k call (verdict s st fl k call) gs stands
+where_sided s st c fl (Some why) (Means k call) gs stands = refl
 
-call_sided : (s : Superblock) (st : State) (W : World) (c : ℕ) (call : Call) → StandsFor st W → sides_of (state_after s st c call).held.files ≡ side_replied W.files (meant_for W call) (reply_to s st call) (sides_of st.held.files)
-call_sided s st W c call stands =
-    where_sided s st c (objection_in s st call) (meant_in st call) W.files stands.files
-    ∙ ap (λ (a : Meant). side_replied W.files a (reply_to s st call) (sides_of st.held.files)) (same_meant s st W stands call)
+call_sided : (s : Superblock) (st : State) (W : World) (c : ℕ) (what : Action) → StandsFor st W → sides_of (state_after s st c what).held.files ≡ side_replied W.files (meant_for W c what) (reply_to s st c what) (sides_of st.held.files)
+call_sided s st W c what stands =
+    where_sided s st c (flags_now st c what) (objection_in s st c what) (meant_in st c what) W.files stands.files
+    ∙ ap (λ (m : Meant). side_replied W.files m (reply_to s st c what) (sides_of st.held.files)) (same_meant s st W stands c what)
 
 -- ---- sessions
 
@@ -126,7 +125,8 @@ dm_sided s st sid call (Some why) gs stands = refl
 
 own_sided : (s : Superblock) (st : State) (W : World) (who : Actor) (what : Action) (answer : Answer) → StandsFor st W → IsOwn s st who what answer
     → sides_of (left_own s st who what).held.files ≡ side_given W who what answer (sides_of st.held.files)
-own_sided s st W (Caller c) (Issue call) answer stands is = rw is.1 (call_sided s st W c call stands)
+own_sided s st W (Caller c) (Issue call) answer stands is = rw is.1 (call_sided s st W c (Issue call) stands)
+own_sided s st W (Caller c) Resume answer stands is = rw is.1 (call_sided s st W c Resume stands)
 own_sided s st W (Session sid) (Dm call) answer stands is = rw is.1 (dm_sided s st sid call (dm_judged s st sid call) W.files stands.files)
 own_sided s st W Store Commit answer stands is = refl
 own_sided s st W who what answer stands is = absurd is.0

@@ -7,20 +7,22 @@ use Rattle.hsm_types.specs.declared.stores.Superblock.{Superblock}
 use Rattle.hsm_types.specs.declared.calls.Call.{Call}
 use Rattle.hsm_types.specs.declared.calls.Call.TheVariants.{Create, Read, Write, Truncate, Remove, Stat, Sync}
 use Rattle.hsm_types.specs.declared.calls.CallRefusal.{CallRefusal}
+use Rattle.hsm_types.specs.declared.calls.CallRefusal.TheVariants.{Disk}
+use Rattle.hsm_types.specs.declared.calls.Reply.TheVariants.{Refused}
 use Rattle.hsm_types.specs.declared.dm.DmCall.{DmCall}
 use Rattle.hsm_types.specs.declared.dm.DmRefusal.{DmRefusal}
 use Rattle.plain_model.specs.declared.entries.Entry.{Entry}
 use Rattle.plain_model.specs.declared.entries.Actor.{Actor}
 use Rattle.plain_model.specs.declared.entries.Actor.TheVariants.{Caller, Session, Store}
 use Rattle.plain_model.specs.declared.entries.Action.{Action}
-use Rattle.plain_model.specs.declared.entries.Action.TheVariants.{Issue, Dm, Commit}
+use Rattle.plain_model.specs.declared.entries.Action.TheVariants.{Issue, Resume, Dm, Commit}
 use Rattle.plain_model.specs.declared.entries.Answer.{Answer}
 use Rattle.plain_model.specs.Effects.{Change, Nothing, OfFile, OfSessions, change_of}
 use Rattle.plain_model.specs.Plain.{File}
-use Rattle.plain_model.specs.Ledger.{Meant}
-use Rattle.plain_model.specs.Step.{World, start, after}
-use Rattle.plain_model.specs.State.{Held, State, just_opened, noted, changed}
-use Rattle.plain_model.specs.Verdict.{Lacks, Verdict, verdict, reply_by, stamps_by, objection_in, meant_in, reply_where, reply_to, state_where}
+use Rattle.plain_model.specs.Ledger.{Meant, Fixed, Means}
+use Rattle.plain_model.specs.Step.{World, start, meant_for, after}
+use Rattle.plain_model.specs.State.{Held, Flags, State, just_opened, noted, changed}
+use Rattle.plain_model.specs.Verdict.{Posts, Lacks, Verdict, verdict, reply_by, stamps_by, flags_now, objection_in, meant_in, reply_where, reply_to, state_where, state_after}
 use Rattle.plain_model.specs.Services.{dm_judged, dm_state_where}
 use Rattle.plain_model.specs.Faults.{is_fault, fault_of}
 use Rattle.plain_model.specs.Stands.{Stands, StandsFor}
@@ -32,7 +34,8 @@ use Rattle.plain_model.proofs.Histories.{left_by-number}
 use Rattle.plain_model.proofs.Steps.{same_meant, event_stands, stands_at_first}
 
 module _ (number : ℕ) (st : State) (stamps : FileKey → ℕ) (j : FileKey) where
-  verdict_stamped : (k : FileKey) (call : Call) (v : Verdict) → stamps_by number k call v stamps j ≡ (if reaches_key (record { key = k; call = call }) (reply_by st k call v) j then number else stamps j)
+  verdict_stamped : (k : FileKey) (call : Call) (v : Verdict) → stamps_by number k call v stamps j ≡ (if reaches_key (Means k call) (reply_by st k call v) j then number else stamps j)
+  verdict_stamped k call (Some (Posts kind)) = refl
   verdict_stamped k call (Some (Lacks need free)) = refl
   verdict_stamped k (Create name) None = refl
   verdict_stamped k (Read name offset len) None = refl
@@ -43,9 +46,15 @@ module _ (number : ℕ) (st : State) (stamps : FileKey → ℕ) (j : FileKey) wh
   verdict_stamped k Sync None = refl
 
 module _ (s : Superblock) (st : State) (k : FileKey) where
-  where_stamped : (c : ℕ) (why : Option CallRefusal) (a : Meant) → (state_where why s st c a).stamps k ≡ (if reaches_key a (reply_where why s st a) k then st.number + 1 else st.stamps k)
-  where_stamped c None a = verdict_stamped (st.number + 1) st st.stamps k a.key a.call (verdict s st a.key a.call)
-  where_stamped c (Some why) a = refl
+  where_stamped : (c : ℕ) (fl : Flags) (why : Option CallRefusal) (m : Meant) → (state_where s st c fl why m).stamps k ≡ (if reaches_key m (reply_where s st fl why m) k then st.number + 1 else st.stamps k)
+  where_stamped c fl why (Fixed reply) = refl
+  where_stamped c fl None (Means j call) = verdict_stamped (st.number + 1) st st.stamps k j call (verdict s st fl j call)
+  where_stamped c fl (Some why) (Means j call) = refl
+
+  call_stamped : (W : World) (c : ℕ) (what : Action) → StandsFor st W → (state_after s st c what).stamps k ≡ (if reaches_key (meant_for W c what) (reply_to s st c what) k then st.number + 1 else st.stamps k)
+  call_stamped W c what stands =
+      where_stamped c (flags_now st c what) (objection_in s st c what) (meant_in st c what)
+      ∙ ap (λ (m : Meant). if reaches_key m (reply_to s st c what) k then st.number + 1 else st.stamps k) (same_meant s st W stands c what)
 
   changed_stamped : (change : Change) → (changed change st).stamps k ≡ st.stamps k
   changed_stamped Nothing = refl
@@ -58,16 +67,20 @@ module _ (s : Superblock) (st : State) (k : FileKey) where
 
   own_stamped : (W : World) (who : Actor) (what : Action) (answer : Answer) → StandsFor st W → IsOwn s st who what answer
       → (left_own s st who what).stamps k ≡ (if accesses W k who what answer then st.number + 1 else st.stamps k)
-  own_stamped W (Caller c) (Issue call) answer stands is =
-      rw is.1 (where_stamped c (objection_in s st call) (meant_in st call)
-      ∙ ap (λ (a : Meant). if reaches_key a (reply_to s st call) k then st.number + 1 else st.stamps k) (same_meant s st W stands call))
+  own_stamped W (Caller c) (Issue call) answer stands is = rw is.1 (call_stamped W c (Issue call) stands)
+  own_stamped W (Caller c) Resume answer stands is = rw is.1 (call_stamped W c Resume stands)
   own_stamped W (Session sid) (Dm call) answer stands is = dm_stamped (dm_judged s st sid call) sid call
   own_stamped W Store Commit answer stands is = refl
   own_stamped W who what answer stands is = absurd is.0
 
+  no_access : (m : Meant) → reaches_key m (Refused Disk) k ≡ false
+  no_access (Fixed fixed) = refl
+  no_access (Means j call) = refl
+
   -- a fault accesses no file
   fault_accesses : (W : World) (who : Actor) (what : Action) → accesses W k who what (fault_of what) ≡ false
-  fault_accesses W (Caller c) (Issue call) = refl
+  fault_accesses W (Caller c) (Issue call) = no_access (meant_for W c (Issue call))
+  fault_accesses W (Caller c) Resume = no_access (meant_for W c Resume)
   fault_accesses W (Caller c) (Dm call) = refl
   fault_accesses W (Caller c) Commit = refl
   fault_accesses W who what = refl

@@ -1,7 +1,7 @@
 -- What the store answers is a legal step from each world that it stands for, and it stands for the world after it.
 use Rattle.std.proofs.Common.{◌≡◌, ◌<◌, ◌-◌, ℕ, min, List, [], ◌∷◌, length, Bool, true, false, Option, Some, None, inl, inr, refl, sym, ◌∙◌, ap, subst, arith}
 use Rattle.std.proofs.lemmas.Bool.Decides.{nat_tests}
-use Rattle.std.specs.Prelude.{◌==◌, nat_lt, if◌then◌else◌, is_some}
+use Rattle.std.specs.Prelude.{◌==◌, ◌&&◌, not, nat_lt, if◌then◌else◌, is_some}
 use Rattle.hsm_types.specs.Refusals.{first_refusal}
 use Rattle.hsm_types.specs.declared.keys.FileKey.{FileKey}
 use Rattle.hsm_types.specs.declared.keys.Sid.{Sid}
@@ -9,7 +9,11 @@ use Rattle.hsm_types.specs.declared.stores.Superblock.{Superblock}
 use Rattle.hsm_types.specs.declared.calls.Call.{Call}
 use Rattle.hsm_types.specs.declared.calls.Call.TheVariants.{Create, Read, Write, Truncate, Remove, Stat, Sync}
 use Rattle.hsm_types.specs.declared.calls.CallRefusal.{CallRefusal}
-use Rattle.hsm_types.specs.declared.calls.Reply.TheVariants.{Data, Size}
+use Rattle.hsm_types.specs.declared.calls.CallRefusal.TheVariants.{NoSpace, Waiting, Idle}
+use Rattle.hsm_types.specs.declared.calls.Reply.{Reply}
+use Rattle.hsm_types.specs.declared.calls.Reply.TheVariants.{Done, Made, Data, Size, Parked, Still, Refused}
+use Rattle.hsm_types.specs.declared.dm.Kind.{Kind}
+use Rattle.hsm_types.specs.declared.dm.Kind.TheVariants as kind
 use Rattle.hsm_types.specs.declared.dm.DmCall.{DmCall}
 use Rattle.hsm_types.specs.declared.dm.DmCall.TheVariants.{CreateSession, Respond, CreateUserEvent, GetFileAttr, PathToHandle, GetSpace}
 use Rattle.hsm_types.specs.declared.dm.DmRefusal.{DmRefusal}
@@ -22,17 +26,20 @@ use Rattle.plain_model.specs.declared.entries.Entry.{Entry}
 use Rattle.plain_model.specs.declared.entries.Actor.{Actor}
 use Rattle.plain_model.specs.declared.entries.Actor.TheVariants.{Caller, Session, Store}
 use Rattle.plain_model.specs.declared.entries.Action.{Action}
-use Rattle.plain_model.specs.declared.entries.Action.TheVariants.{Issue, Dm, Commit}
+use Rattle.plain_model.specs.declared.entries.Action.TheVariants.{Issue, Resume, Dm, Commit}
 use Rattle.plain_model.specs.declared.entries.Answer.{Answer}
+use Rattle.plain_model.specs.declared.facts.Facts.{Facts}
+use Rattle.plain_model.specs.declared.facts.NoRoom.{NoRoom}
 use Rattle.plain_model.specs.Effects.{Makes, Drops, Writes, Resizes, effect_of, Change, Nothing, OfFile, OfSessions, change_of}
 use Rattle.plain_model.specs.Plain.{File, Listed, listing, named, key_or_none, free_inode, read_at, body_of}
-use Rattle.plain_model.specs.Ledger.{Ledger, Meant, next_token, meant, objection, ledger_told}
+use Rattle.plain_model.specs.Accesses.{is_access, wants_space, kind_of, room_or_none}
+use Rattle.plain_model.specs.Ledger.{Ledger, Meant, Fixed, Means, next_token, meant, objection, ledger_replied, ledger_told}
 use Rattle.plain_model.specs.Blocks.{touched}
-use Rattle.plain_model.specs.State.{FileState, Held, State, just_opened, noted, changed, names_of, next_key, file_at, bytes_of, used}
-use Rattle.plain_model.specs.Verdict.{Lacks, Verdict, verdict, done_reply, reply_by, objection_in, meant_in, reply_where, reply_to, left_by_verdict, state_where, state_after}
+use Rattle.plain_model.specs.State.{FileState, Held, Flags, State, just_opened, noted, changed, names_of, next_key, file_at, bytes_of, used}
+use Rattle.plain_model.specs.Verdict.{Ruling, Posts, Lacks, Verdict, shortage, facts_of, is_taken, posts, touching, without_room, lacking, verdict, done_reply, reply_by, flags_now, objection_in, meant_in, reply_where, reply_to, left_by_verdict, state_where, state_after}
 use Rattle.plain_model.specs.Services.{bad_own_token, bad_given_token, no_right, is_live, bad_handle, no_such_name, service, dm_judged, dm_reply_where, dm_state_where}
 use Rattle.plain_model.specs.Faults.{is_fault}
-use Rattle.plain_model.specs.Step.{World, start, wants_space, IsOutcome, MayReply, meant_for, objection_for, replied, MayTell, changed_plain, files_told, world_told, MayAnswer, MayGive, given, after}
+use Rattle.plain_model.specs.Step.{World, start, IsOutcome, MayReply, meant_for, objection_for, replied, MayTell, changed_plain, files_told, world_told, MayAnswer, MayGive, given, after}
 use Rattle.plain_model.specs.Legal.{Legal, After}
 use Rattle.plain_model.specs.Stands.{HasBody, Stands, StandsFor, InOrder}
 use Rattle.plain_model.specs.Exact.{IsOwn, IsAnswer, left_own, left_by, Exact, state_by}
@@ -40,7 +47,7 @@ use Rattle.plain_model.specs.Laws.{IsOpening}
 use Rattle.plain_model.proofs.Bodies.{read_same}
 use Rattle.plain_model.proofs.Standing.{affected_stands, names_stand, file_stands, found_stands}
 use Rattle.plain_model.proofs.Faultless.{fault_is}
-use Rattle.plain_model.proofs.Judged.{none_first, passes, right_of}
+use Rattle.plain_model.proofs.Judged.{none_first, passes, right_of, Says, meant_says}
 use Rattle.plain_model.proofs.Orders.{owned_open, event_ordered, ordered_at_first}
 
 -- ---- a call to which nothing objects
@@ -55,9 +62,63 @@ wants (Remove name) size free short = absurd (omega arith)
 wants (Stat name) size free short = absurd (omega arith)
 wants Sync size free short = absurd (omega arith)
 
-short_if : (b : Bool) (need free need' free' : ℕ) → nat_lt free need ≡ b → first_refusal ((if b then Some (Lacks need free) else None) ∷ []) ≡ Some (Lacks need' free') → (need ≡ need') × (free ≡ free') × (free < need)
-short_if true need free need' free' is e = (cc, cc, grind (arith, nat_tests))
-short_if false need free need' free' is e = cc
+-- a call that wants space is an access
+wanting : (call : Call) → wants_space call ≡ true → is_access call ≡ true
+wanting (Write name offset bytes) is = refl
+wanting (Truncate name to) is = refl
+wanting (Create name) is = cc
+wanting (Read name offset len) is = cc
+wanting (Remove name) is = cc
+wanting (Stat name) is = cc
+wanting Sync is = cc
+
+-- what a ruling says of a call, of which these facts are known
+abbrev Follows : Call → Option NoRoom → Ruling → Type 0
+Follows call short (Posts kind) = is_access call ≡ true
+Follows call short (Lacks need free) = short ≡ Some (record { need = need; free = free })
+
+-- only accesses have an event
+asks_access : (asks : Bool) (call : Call) (ruling : Ruling) → posts asks (kind_of call) ≡ Some ruling → (short : Option NoRoom) → Follows call short ruling
+asks_access false call ruling is short = cc
+asks_access true (Read name offset len) (Posts kind) is short = refl
+asks_access true (Write name offset bytes) (Posts kind) is short = refl
+asks_access true (Truncate name to) (Posts kind) is short = refl
+asks_access true call (Lacks need free) is short = posts_only (kind_of call) need free short is
+  where
+    posts_only : (kind : Option Kind) (need free : ℕ) (short : Option NoRoom) → posts true kind ≡ Some (Lacks need free) → short ≡ Some (record { need = need; free = free })
+    posts_only None need free short is = cc
+    posts_only (Some kind) need free short is = cc
+asks_access true (Create name) (Posts kind) is short = cc
+asks_access true (Remove name) (Posts kind) is short = cc
+asks_access true (Stat name) (Posts kind) is short = cc
+asks_access true Sync (Posts kind) is short = cc
+
+abbrev some_room : ℕ → ℕ → Option NoRoom
+some_room need free = Some (record { need = need; free = free })
+
+same_numbers : (need free need' free' : ℕ) → Some (Lacks need free) ≡ Some (Lacks need' free') → (need ≡ need') × (free ≡ free')
+same_numbers need free need' free' is = (cc, cc)
+
+lacks_room : (asks : Bool) (call : Call) (short : Option NoRoom) (ruling : Ruling) → without_room asks short ≡ Some ruling → (is_some short ≡ true → is_access call ≡ true) → Follows call short ruling
+lacks_room asks call None ruling is only = cc
+lacks_room true call (Some room) (Posts kind) is only = only refl
+lacks_room true call (Some room) (Lacks need free) is only = cc
+lacks_room false call (Some room) (Posts kind) is only = cc
+lacks_room false call (Some room) (Lacks need free) is only = let same = same_numbers room.need room.free need free is in λ i. some_room (same.0 i) (same.1 i)
+
+first_follows : (x y : Verdict) (call : Call) (short : Option NoRoom) (ruling : Ruling) → first_refusal (x ∷ y ∷ []) ≡ Some ruling → ((r : Ruling) → x ≡ Some r → Follows call short r) → ((r : Ruling) → y ≡ Some r → Follows call short r)
+    → Follows call short ruling
+first_follows (Some r) y call short ruling is here there = here ruling is
+first_follows None (Some r) call short ruling is here there = there ruling is
+first_follows None None call short ruling is here there = cc
+
+short_by : (b : Bool) (need free need' free' : ℕ) → nat_lt free need ≡ b → (if b then some_room need free else None) ≡ some_room need' free' → (need ≡ need') × (free ≡ free') × (free < need)
+short_by true need free need' free' is e = (ap (λ room. (room_or_none room).need) e, ap (λ room. (room_or_none room).free) e, grind (arith, nat_tests))
+short_by false need free need' free' is e = cc
+
+some_short : (b : Bool) (need free : ℕ) → nat_lt free need ≡ b → is_some (if b then some_room need free else None) ≡ true → free < need
+some_short true need free is e = grind (arith, nat_tests)
+some_short false need free is e = cc
 
 module _ (s : Superblock) (st : State) (W : World) (stands : StandsFor st W) where
   names : names_of st.held.files ≡ listing W.files
@@ -69,6 +130,9 @@ module _ (s : Superblock) (st : State) (W : World) (stands : StandsFor st W) whe
   same_read : (k : FileKey) (o n : ℕ) → read_at o n (bytes_of k st.held.files) ≡ read_at o n (body_of k W.files)
   same_read k o n = read_same o n (bytes_of k st.held.files) (body_of k W.files) (ap (λ size. min n (size - o)) (bytes k).size) (λ i from to within. (bytes k).bytes i)
 
+  same_left : (c : ℕ) (m : Meant) (reply : Reply) → ledger_replied st.ledger c m reply ≡ ledger_replied W.ledger c m reply
+  same_left c m reply = ap (λ (L : Ledger). ledger_replied L c m reply) stands.ledger
+
   outcome : (k : FileKey) (call : Call) → IsOutcome W k call (done_reply st.held k call)
   outcome k (Create name) = ((ap (free_inode 1) names, stands.newer), refl)
   outcome k (Read name o n) = (tt, ap Data (same_read k o n))
@@ -78,41 +142,62 @@ module _ (s : Superblock) (st : State) (W : World) (stands : StandsFor st W) whe
   outcome k (Stat name) = (tt, ap (λ n. Size n) (bytes k).size)
   outcome k Sync = (tt, refl)
 
-  done_stands : (c : ℕ) (k : FileKey) (call : Call) → StandsFor (left_by_verdict st c k call None) (replied W c (record { key = k; call = call }) (done_reply st.held k call))
-  done_stands c k (Create name) = record { files = affected_stands (Makes name) (next_key st.held) st.held.files W.files stands.files; newer = omega arith; ledger = stands.ledger }
-  done_stands c k (Write name o bytes) = record { files = affected_stands (Writes o bytes) k st.held.files W.files stands.files; newer = stands.newer; ledger = stands.ledger }
-  done_stands c k (Truncate name n) = record { files = affected_stands (Resizes n) k st.held.files W.files stands.files; newer = stands.newer; ledger = stands.ledger }
-  done_stands c k (Remove name) = record { files = affected_stands Drops k st.held.files W.files stands.files; newer = stands.newer; ledger = stands.ledger }
-  done_stands c k (Read name o n) = record { files = stands.files; newer = stands.newer; ledger = stands.ledger }
-  done_stands c k (Stat name) = record { files = stands.files; newer = stands.newer; ledger = stands.ledger }
-  done_stands c k Sync = record { files = stands.files; newer = stands.newer; ledger = stands.ledger }
+  done_stands : (c : ℕ) (fl : Flags) (k : FileKey) (call : Call) → StandsFor (left_by_verdict s st c fl k call None) (replied W c (Means k call) (done_reply st.held k call))
+  done_stands c fl k (Create name) = record { files = affected_stands (Makes name) (next_key st.held) st.held.files W.files stands.files; newer = omega arith; ledger = same_left c (Means k (Create name)) (Made (next_key st.held)) }
+  done_stands c fl k (Write name o bytes) = record { files = affected_stands (Writes o bytes) k st.held.files W.files stands.files; newer = stands.newer; ledger = same_left c (Means k (Write name o bytes)) Done }
+  done_stands c fl k (Truncate name n) = record { files = affected_stands (Resizes n) k st.held.files W.files stands.files; newer = stands.newer; ledger = same_left c (Means k (Truncate name n)) Done }
+  done_stands c fl k (Remove name) = record { files = affected_stands Drops k st.held.files W.files stands.files; newer = stands.newer; ledger = same_left c (Means k (Remove name)) Done }
+  done_stands c fl k (Read name o n) = record { files = stands.files; newer = stands.newer; ledger = same_left c (Means k (Read name o n)) (done_reply st.held k (Read name o n)) }
+  done_stands c fl k (Stat name) = record { files = stands.files; newer = stands.newer; ledger = same_left c (Means k (Stat name)) (done_reply st.held k (Stat name)) }
+  done_stands c fl k Sync = record { files = stands.files; newer = stands.newer; ledger = same_left c (Means k Sync) Done }
 
-  verdict_step : (c : ℕ) (k : FileKey) (call : Call) (v : Verdict) → verdict s st k call ≡ v
-      → IsOutcome W k call (reply_by st k call v) × StandsFor (left_by_verdict st c k call v) (replied W c (record { key = k; call = call }) (reply_by st k call v))
-  verdict_step c k call None is = (outcome k call, done_stands c k call)
-  verdict_step c k call (Some (Lacks need free)) is =
+  -- what rules 4 and 6 say
+  rules_follow : (fl : Flags) (k : FileKey) (call : Call) (ruling : Ruling) → verdict s st fl k call ≡ Some ruling → Follows call (shortage s st.held k call) ruling
+  rules_follow fl k call ruling is =
+      let facts : Facts = facts_of s st.held k call in
       let size : ℕ = length (bytes_of k st.held.files) in
-      let short = short_if (nat_lt (s.geometry.blocks - used st.held.files) (length (touched (effect_of call) size))) (length (touched (effect_of call) size)) (s.geometry.blocks - used st.held.files) need free refl is in (
+      let need : ℕ = length (touched (effect_of call) size) in
+      let free : ℕ = s.geometry.blocks - used st.held.files in
+      first_follows (touching fl facts call) (lacking fl facts st.sessions) call facts.short ruling is
+      (λ r at. asks_access (not fl.cleared && facts.touches) call r at facts.short)
+      (λ r at. lacks_room (not fl.spaced && is_taken kind.NoSpace st.sessions) call facts.short r at
+      (λ some. wanting call (wants call size free (some_short (nat_lt free need) need free refl some))))
+
+  verdict_step : (c : ℕ) (fl : Flags) (k : FileKey) (call : Call) (v : Verdict) → verdict s st fl k call ≡ v
+      → IsOutcome W k call (reply_by st k call v) × StandsFor (left_by_verdict s st c fl k call v) (replied W c (Means k call) (reply_by st k call v))
+  verdict_step c fl k call None is = (outcome k call, done_stands c fl k call)
+  verdict_step c fl k call (Some (Posts kind)) is = (
+    (rules_follow fl k call (Posts kind) is, ap next_token stands.ledger),
+    record { files = stands.files; newer = stands.newer; ledger = same_left c (Means k call) (Parked (next_token st.ledger)) },
+  )
+  verdict_step c fl k call (Some (Lacks need free)) is =
+      let size : ℕ = length (bytes_of k st.held.files) in
+      let short = short_by (nat_lt (s.geometry.blocks - used st.held.files) (length (touched (effect_of call) size))) (length (touched (effect_of call) size)) (s.geometry.blocks - used st.held.files) need free refl (rules_follow fl k call (Lacks need free) is) in (
         (wants call size (s.geometry.blocks - used st.held.files) short.2, rw (← short.0, ← short.1) short.2),
-        record { files = stands.files; newer = stands.newer; ledger = stands.ledger },
+        record { files = stands.files; newer = stands.newer; ledger = same_left c (Means k call) (Refused (NoSpace need free)) },
       )
 
-  where_step : (c : ℕ) (why : Option CallRefusal) (a : Meant) → MayReply W why a (reply_where why s st a) × StandsFor (state_where why s st c a) (replied W c a (reply_where why s st a))
-  where_step c None a = verdict_step c a.key a.call (verdict s st a.key a.call) refl
-  where_step c (Some why) a = (refl, record { files = stands.files; newer = stands.newer; ledger = stands.ledger })
+  where_step : (c : ℕ) (fl : Flags) (why : Option CallRefusal) (m : Meant) → Says m
+      → MayReply W why m (reply_where s st fl why m) × StandsFor (state_where s st c fl why m) (replied W c m (reply_where s st fl why m))
+  where_step c fl why (Fixed (Refused Waiting)) says = (refl, record { files = stands.files; newer = stands.newer; ledger = same_left c (Fixed (Refused Waiting)) (Refused Waiting) })
+  where_step c fl why (Fixed (Refused Idle)) says = (refl, record { files = stands.files; newer = stands.newer; ledger = same_left c (Fixed (Refused Idle)) (Refused Idle) })
+  where_step c fl why (Fixed (Still t)) says = (refl, record { files = stands.files; newer = stands.newer; ledger = same_left c (Fixed (Still t)) (Still t) })
+  where_step c fl why (Fixed reply) says = absurd says
+  where_step c fl None (Means k call) says = verdict_step c fl k call (verdict s st fl k call) refl
+  where_step c fl (Some why) (Means k call) says = (refl, record { files = stands.files; newer = stands.newer; ledger = same_left c (Means k call) (Refused why) })
 
-  pub same_meant : (call : Call) → meant_in st call ≡ meant_for W call
-  same_meant call = ap (λ ls. meant ls call) names
+  pub same_meant : (c : ℕ) (what : Action) → meant_in st c what ≡ meant_for W c what
+  same_meant c what i = meant (names i) ((stands.ledger i).pending c) what
 
-  same_objection : (call : Call) → objection_in s st call ≡ objection_for s W call
-  same_objection call = ap (λ ls. objection s ls call) names
+  same_objection : (c : ℕ) (what : Action) → objection_in s st c what ≡ objection_for s W c what
+  same_objection c what i = objection s (names i) ((stands.ledger i).pending c) what
 
-  call_step : (c : ℕ) (call : Call) → MayReply W (objection_for s W call) (meant_for W call) (reply_to s st call) × StandsFor (state_after s st c call) (replied W c (meant_for W call) (reply_to s st call))
-  call_step c call =
-      let step = where_step c (objection_in s st call) (meant_in st call) in (
-        subst (λ (a : Meant). MayReply W (objection_for s W call) a (reply_to s st call)) (same_meant call)
-            (subst (λ (why : Option CallRefusal). MayReply W why (meant_in st call) (reply_to s st call)) (same_objection call) step.0),
-        subst (λ (a : Meant). StandsFor (state_after s st c call) (replied W c a (reply_to s st call))) (same_meant call) step.1,
+  call_step : (c : ℕ) (what : Action) → MayReply W (objection_for s W c what) (meant_for W c what) (reply_to s st c what) × StandsFor (state_after s st c what) (replied W c (meant_for W c what) (reply_to s st c what))
+  call_step c what =
+      let step = where_step c (flags_now st c what) (objection_in s st c what) (meant_in st c what) (meant_says (names_of st.held.files) (st.ledger.pending c) what) in (
+        subst (λ (m : Meant). MayReply W (objection_for s W c what) m (reply_to s st c what)) (same_meant c what)
+            (subst (λ (why : Option CallRefusal). MayReply W why (meant_in st c what) (reply_to s st c what)) (same_objection c what) step.0),
+        subst (λ (m : Meant). StandsFor (state_after s st c what) (replied W c m (reply_to s st c what))) (same_meant c what) step.1,
       )
 
 -- ---- a session's call
@@ -182,13 +267,15 @@ module _ (s : Superblock) (st : State) (W : World) (stands : StandsFor st W) (si
 -- ---- any event
 
 own_may : (s : Superblock) (st : State) (W : World) (who : Actor) (what : Action) (answer : Answer) → StandsFor st W → InOrder st → IsOwn s st who what answer → MayAnswer s W who what answer
-own_may s st W (Caller c) (Issue call) answer stands ordered is = rw is.1 (call_step s st W stands c call).0
+own_may s st W (Caller c) (Issue call) answer stands ordered is = rw is.1 (call_step s st W stands c (Issue call)).0
+own_may s st W (Caller c) Resume answer stands ordered is = rw is.1 (call_step s st W stands c Resume).0
 own_may s st W (Session sid) (Dm call) answer stands ordered is = rw is.1 (may_tell s st W stands sid call (dm_judged s st sid call) ordered refl)
 own_may s st W Store Commit answer stands ordered is = rw is.1 refl
 own_may s st W who what answer stands ordered is = absurd is.0
 
 own_stands : (s : Superblock) (st : State) (W : World) (who : Actor) (what : Action) (answer : Answer) → StandsFor st W → IsOwn s st who what answer → StandsFor (left_own s st who what) (given W who what answer)
-own_stands s st W (Caller c) (Issue call) answer stands is = rw is.1 (call_step s st W stands c call).1
+own_stands s st W (Caller c) (Issue call) answer stands is = rw is.1 (call_step s st W stands c (Issue call)).1
+own_stands s st W (Caller c) Resume answer stands is = rw is.1 (call_step s st W stands c Resume).1
 own_stands s st W (Session sid) (Dm call) answer stands is = rw is.1 (told_stands s st W stands sid call (dm_judged s st sid call))
 own_stands s st W Store Commit answer stands is = (record { files = stands.files; newer = stands.newer; ledger = stands.ledger })
 own_stands s st W who what answer stands is = absurd is.0

@@ -6,7 +6,7 @@ use Rattle.plain_model.specs.declared.entries.Entry.{Entry}
 use Rattle.plain_model.specs.declared.entries.Actor.{Actor}
 use Rattle.plain_model.specs.declared.entries.Actor.TheVariants.{Caller, Session}
 use Rattle.plain_model.specs.declared.entries.Action.{Action}
-use Rattle.plain_model.specs.declared.entries.Action.TheVariants.{Issue, Dm}
+use Rattle.plain_model.specs.declared.entries.Action.TheVariants.{Issue, Resume, Dm}
 use Rattle.plain_model.specs.declared.entries.Answer.{Answer}
 use Rattle.plain_model.specs.declared.entries.Answer.TheVariants.{Call as Replied, Dm as Told}
 use Rattle.plain_model.specs.Faults.{is_fault, Acts, IsFault, FaultIsLast}
@@ -16,12 +16,14 @@ use Rattle.plain_model.specs.Services.{dm_reply_to, dm_state_after}
 
 -- the store's own answer to an event, and what it leaves of the store. To a commit it is done
 abbrev pub answer_to : Superblock → State → Actor → Action → Answer
-answer_to s st (Caller c) (Issue call) = Replied (reply_to s st call)
+answer_to s st (Caller c) (Issue call) = Replied (reply_to s st c (Issue call))
+answer_to s st (Caller c) Resume = Replied (reply_to s st c Resume)
 answer_to s st (Session sid) (Dm call) = Told (dm_reply_to s st sid call)
 answer_to s st actor action = Replied Done
 
 abbrev pub left_own : Superblock → State → Actor → Action → State
-left_own s st (Caller c) (Issue call) = state_after s st c call
+left_own s st (Caller c) (Issue call) = state_after s st c (Issue call)
+left_own s st (Caller c) Resume = state_after s st c Resume
 left_own s st (Session sid) (Dm call) = dm_state_after s st sid call
 left_own s st actor action = noted st
 

@@ -9,7 +9,7 @@ use Rattle.plain_model.specs.declared.entries.Entry.{Entry}
 use Rattle.plain_model.specs.declared.entries.Actor.{Actor}
 use Rattle.plain_model.specs.declared.entries.Actor.TheVariants.{Caller, Session, Store}
 use Rattle.plain_model.specs.declared.entries.Action.{Action}
-use Rattle.plain_model.specs.declared.entries.Action.TheVariants.{Issue, Dm, Commit}
+use Rattle.plain_model.specs.declared.entries.Action.TheVariants.{Issue, Resume, Dm, Commit}
 use Rattle.plain_model.specs.declared.entries.Answer.{Answer}
 use Rattle.plain_model.specs.declared.entries.Answer.TheVariants.{Call as Replied, Dm as Told}
 
@@ -24,9 +24,10 @@ abbrev pub fault_of : Action → Answer
 fault_of (Dm call) = Told (told.Refused dm.Disk)
 fault_of action = Replied (Refused Disk)
 
--- callers issue calls, sessions make theirs, and the store commits
+-- callers issue calls and resume, sessions make their calls, and the store commits
 abbrev pub Acts : Actor → Action → Type 0
 Acts (Caller c) (Issue call) = Unit {0}
+Acts (Caller c) Resume = Unit {0}
 Acts (Session sid) (Dm call) = Unit {0}
 Acts Store Commit = Unit {0}
 Acts actor action = ⊥

@@ -3,7 +3,7 @@ use Rattle.std.specs.Prelude.{List, [], ◌∷◌}
 use Rattle.hsm_types.specs.declared.stores.Superblock.{Superblock}
 use Rattle.plain_model.specs.declared.entries.Entry.{Entry}
 use Rattle.plain_model.specs.declared.entries.Action.{Action}
-use Rattle.plain_model.specs.declared.entries.Action.TheVariants.{Issue, Dm, Commit}
+use Rattle.plain_model.specs.declared.entries.Action.TheVariants.{Issue, Resume, Dm, Commit}
 use Rattle.plain_model.specs.declared.entries.Answer.{Answer}
 use Rattle.plain_model.specs.Faults.{FaultIsLast}
 use Rattle.plain_model.specs.Step.{World, Allows, after}
@@ -21,6 +21,7 @@ After W (e ∷ es) = After (after W e) es
 -- Bytes that an entry brings back are those that the world has at their place. None of today's actions brings any.
 abbrev pub BringsTrueBytes : World → Action → Answer → Type 0
 BringsTrueBytes W (Issue call) answer = Unit {0}
+BringsTrueBytes W Resume answer = Unit {0}
 BringsTrueBytes W (Dm call) answer = Unit {0}
 BringsTrueBytes W Commit answer = Unit {0}
 

@@ -1,7 +1,8 @@
 pub mod Keyed
 pub mod Effects
-pub mod Ledger
 pub mod Plain
+pub mod Accesses
+pub mod Ledger
 pub mod Faults
 pub mod Step
 pub mod Legal

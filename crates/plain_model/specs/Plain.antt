@@ -1,5 +1,5 @@
 -- A plain map of files, what refuses a call on it, and what calls and effects do to it.
-use Rattle.std.specs.Prelude.{ℕ, ◌+◌, ◌-◌, ◌^◌, max, min, List, [], ◌∷◌, ◌++◌, length, map, take, drop, replicate, ◌==◌, ◌&&◌, nat_lt, nat_le, if◌then◌else◌, Option, Some, None, is_some}
+use Rattle.std.specs.Prelude.{ℕ, ◌+◌, ◌-◌, ◌^◌, max, min, List, [], ◌∷◌, ◌++◌, length, map, take, drop, replicate, ◌==◌, ◌&&◌, nat_lt, nat_le, if◌then◌else◌, Bool, Option, Some, None, is_some}
 use Rattle.std.specs.Str.{bytes_eq}
 use Rattle.hsm_types.specs.Names.{is_name}
 use Rattle.hsm_types.specs.Refusals.{first_refusal}
@@ -32,6 +32,10 @@ listing files = map (λ f. record { key = f.key; name = f.name }) files
 abbrev pub named : List ℕ → List Listed → Option Listed
 named name [] = None
 named name (l ∷ ls) = if bytes_eq l.name name then Some l else named name ls
+
+-- a file has the key
+abbrev pub has_key : FileKey → List Listed → Bool
+has_key k files = is_some (find_key (λ l. l.key) k files)
 
 -- the lowest inode from n on that no file has
 abbrev pub free_inode : ℕ → List Listed → ℕ

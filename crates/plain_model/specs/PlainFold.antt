@@ -1,36 +1,48 @@
 -- The plain map of files that were never moved: no tokens, no restores, only the calls that were done.
-use Rattle.std.specs.Prelude.{ℕ, List, [], ◌∷◌, if◌then◌else◌, Option, Some, None}
+use Rattle.std.specs.Prelude.{ℕ, List, [], ◌∷◌, Bool, true, false, if◌then◌else◌, Option, Some, None}
 use Rattle.hsm_types.specs.declared.calls.Call.{Call}
+use Rattle.hsm_types.specs.declared.calls.CallRefusal.TheVariants.{Waiting}
 use Rattle.hsm_types.specs.declared.calls.Reply.{Reply}
+use Rattle.hsm_types.specs.declared.calls.Reply.TheVariants.{Refused}
+use Rattle.hsm_types.specs.declared.keys.FileKey.{FileKey}
 use Rattle.plain_model.specs.declared.entries.Entry.{Entry}
 use Rattle.plain_model.specs.declared.entries.Actor.{Actor}
 use Rattle.plain_model.specs.declared.entries.Actor.TheVariants.{Caller}
 use Rattle.plain_model.specs.declared.entries.Action.{Action}
-use Rattle.plain_model.specs.declared.entries.Action.TheVariants.{Issue}
+use Rattle.plain_model.specs.declared.entries.Action.TheVariants.{Issue, Resume}
 use Rattle.plain_model.specs.declared.entries.Answer.{Answer}
 use Rattle.plain_model.specs.declared.entries.Answer.TheVariants.{Call as Replied}
 use Rattle.plain_model.specs.Keyed.{set_at}
-use Rattle.plain_model.specs.Plain.{File, listing, key_by, act}
-use Rattle.plain_model.specs.Ledger.{Meant, meant, is_completion}
+use Rattle.plain_model.specs.Plain.{File, listing, key_meant, key_by, act}
+use Rattle.plain_model.specs.Ledger.{is_completion}
 
--- the files, and for each caller the access of its last issue
+-- the files, and for each caller the file and the call of its last issue that wasn't told to wait
+pub record Issued : Type 0 where
+  pub key : FileKey
+  pub call : Call
+
 pub record Walk : Type 0 where
   pub files : List File
-  pub issued : ℕ → Option Meant
+  pub issued : ℕ → Option Issued
 
-abbrev pub done_on : List File → Option Meant → Reply → List File
+abbrev pub done_on : List File → Option Issued → Reply → List File
 done_on P None reply = P
-done_on P (Some a) reply = (act P (key_by a.key reply) a.call).1
+done_on P (Some i) reply = (act P (key_by i.key reply) i.call).1
 
 -- the call of the caller's last issue is done, where the reply says so
 abbrev pub done : Walk → ℕ → Reply → Walk
 done V c reply = if is_completion reply then record V { files = done_on V.files (V.issued c) reply } else V
 
-abbrev pub begun : Walk → ℕ → Call → Walk
-begun V c call = record V { issued = set_at c (Some (meant (listing V.files) call)) V.issued }
+abbrev pub is_waiting : Reply → Bool
+is_waiting (Refused Waiting) = true
+is_waiting reply = false
+
+abbrev pub begun : Walk → ℕ → Call → Reply → Walk
+begun V c call reply = if is_waiting reply then V else record V { issued = set_at c (Some (record { key = key_meant (listing V.files) call; call = call })) V.issued }
 
 abbrev pub walk : Walk → Actor → Action → Answer → Walk
-walk V (Caller c) (Issue call) (Replied reply) = done (begun V c call) c reply
+walk V (Caller c) (Issue call) (Replied reply) = done (begun V c call reply) c reply
+walk V (Caller c) Resume (Replied reply) = done V c reply
 walk V actor action answer = V
 
 abbrev pub walked : Walk → List Entry → Walk

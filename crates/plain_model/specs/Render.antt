@@ -6,9 +6,9 @@ use Rattle.hex.specs.Hex.{encode_lower}
 use Rattle.sha2.specs.Sha256.{sha256}
 use Rattle.hsm_types.specs.declared.calls.Call.{Call}
 use Rattle.hsm_types.specs.declared.calls.CallRefusal.{CallRefusal}
-use Rattle.hsm_types.specs.declared.calls.CallRefusal.TheVariants.{Missing, Exists, BadName, TooBig, BadLength, NoInodes, NoSpace, Disk, Memory}
+use Rattle.hsm_types.specs.declared.calls.CallRefusal.TheVariants.{Missing, Exists, BadName, TooBig, BadLength, NoInodes, NoSpace, Aborted, Disk, Memory, Waiting, Idle}
 use Rattle.hsm_types.specs.declared.calls.Reply.{Reply}
-use Rattle.hsm_types.specs.declared.calls.Reply.TheVariants.{Done, Made, Data, Size, Refused}
+use Rattle.hsm_types.specs.declared.calls.Reply.TheVariants.{Done, Made, Data, Size, Parked, Blocked, Still, Refused}
 use Rattle.hsm_types.specs.declared.dm.DmCall.{DmCall}
 use Rattle.hsm_types.specs.declared.dm.Kinds.{Kinds}
 use Rattle.hsm_types.specs.declared.dm.Response.{Response}
@@ -30,7 +30,7 @@ use Rattle.plain_model.specs.declared.entries.Entry.{Entry}
 use Rattle.plain_model.specs.declared.entries.Actor.{Actor}
 use Rattle.plain_model.specs.declared.entries.Actor.TheVariants.{Caller, Session, Store}
 use Rattle.plain_model.specs.declared.entries.Action.{Action}
-use Rattle.plain_model.specs.declared.entries.Action.TheVariants.{Issue, Dm, Commit}
+use Rattle.plain_model.specs.declared.entries.Action.TheVariants.{Issue, Resume, Dm, Commit}
 use Rattle.plain_model.specs.declared.entries.Answer.{Answer}
 use Rattle.plain_model.specs.declared.entries.Answer.TheVariants.{Call as Replied, Dm as Told}
 
@@ -124,6 +124,7 @@ dm_words word call = form_words word (dm_verb_text (dm_form call).0) (dm_form ca
 
 abbrev pub action_words : (List ℕ → List ℕ) → Action → List (List ℕ)
 action_words word (Issue call) = call_words word call
+action_words word Resume = codes "resume" ∷ []
 action_words word (Dm call) = dm_words word call
 action_words word Commit = codes "commit" ∷ []
 
@@ -135,14 +136,20 @@ refusal_words (TooBig end) = codes "TooBig" ∷ decimal end ∷ []
 refusal_words (BadLength len) = codes "BadLength" ∷ decimal len ∷ []
 refusal_words (NoInodes count) = codes "NoInodes" ∷ decimal count ∷ []
 refusal_words (NoSpace need free) = codes "NoSpace" ∷ decimal need ∷ decimal free ∷ []
+refusal_words (Aborted error) = codes "Aborted" ∷ decimal error ∷ []
 refusal_words Disk = codes "Disk" ∷ []
 refusal_words Memory = codes "Memory" ∷ []
+refusal_words Waiting = codes "Waiting" ∷ []
+refusal_words Idle = codes "Idle" ∷ []
 
 abbrev pub reply_words : Reply → List (List ℕ)
 reply_words Done = codes "done" ∷ []
 reply_words (Made k) = codes "made" ∷ key_word k ∷ []
 reply_words (Data bytes) = data_text bytes ∷ []
 reply_words (Size n) = codes "size" ∷ decimal n ∷ []
+reply_words (Parked t) = codes "parked" ∷ decimal t.0 ∷ []
+reply_words (Blocked t) = codes "blocked" ∷ decimal t.0 ∷ []
+reply_words (Still t) = codes "still" ∷ decimal t.0 ∷ []
 reply_words (Refused why) = codes "refused" ∷ refusal_words why
 
 abbrev pub dm_refusal_words : DmRefusal → List (List ℕ)

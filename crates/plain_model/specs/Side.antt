@@ -12,13 +12,13 @@ use Rattle.plain_model.specs.declared.entries.Entry.{Entry}
 use Rattle.plain_model.specs.declared.entries.Actor.{Actor}
 use Rattle.plain_model.specs.declared.entries.Actor.TheVariants.{Caller, Session}
 use Rattle.plain_model.specs.declared.entries.Action.{Action}
-use Rattle.plain_model.specs.declared.entries.Action.TheVariants.{Issue, Dm}
+use Rattle.plain_model.specs.declared.entries.Action.TheVariants.{Issue, Resume, Dm}
 use Rattle.plain_model.specs.declared.entries.Answer.{Answer}
 use Rattle.plain_model.specs.declared.entries.Answer.TheVariants.{Call as Replied, Dm as Told}
 use Rattle.plain_model.specs.Keyed.{change_key, put_key, drop_key}
 use Rattle.plain_model.specs.Effects.{Effect, Leaves, Makes, Drops, effect_of, Change, Nothing, OfFile, OfSessions, change_of}
 use Rattle.plain_model.specs.Plain.{File, key_by, body_of}
-use Rattle.plain_model.specs.Ledger.{Meant, is_completion}
+use Rattle.plain_model.specs.Ledger.{Meant, Fixed, Means, is_completion}
 use Rattle.plain_model.specs.Blocks.{remapped}
 use Rattle.plain_model.specs.State.{FileState, rekept}
 use Rattle.plain_model.specs.Faults.{is_fault}
@@ -48,7 +48,8 @@ affected_side Drops k P X = drop_key (λ x. x.key) k X
 affected_side effect k P X = change_key (λ x. x.key) k (remade_side effect (length (body_of k P))) X
 
 abbrev pub side_replied : List File → Meant → Reply → List Side → List Side
-side_replied P a reply X = if is_completion reply then affected_side (effect_of a.call) (key_by a.key reply) P X else X
+side_replied P (Fixed fixed) reply X = X
+side_replied P (Means k call) reply X = if is_completion reply then affected_side (effect_of call) (key_by k reply) P X else X
 
 abbrev pub side_changed : Change → List File → List Side → List Side
 side_changed Nothing P X = X
@@ -60,7 +61,8 @@ side_told P sid call (told.Refused why) X = X
 side_told P sid call reply X = side_changed (change_of sid call) P X
 
 abbrev pub side_given : World → Actor → Action → Answer → List Side → List Side
-side_given W (Caller c) (Issue call) (Replied reply) X = side_replied W.files (meant_for W call) reply X
+side_given W (Caller c) (Issue call) (Replied reply) X = side_replied W.files (meant_for W c (Issue call)) reply X
+side_given W (Caller c) Resume (Replied reply) X = side_replied W.files (meant_for W c Resume) reply X
 side_given W (Session sid) (Dm call) (Told reply) X = side_told W.files sid call reply X
 side_given W actor action answer X = X
 

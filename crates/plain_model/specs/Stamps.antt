@@ -6,21 +6,23 @@ use Rattle.plain_model.specs.declared.entries.Entry.{Entry}
 use Rattle.plain_model.specs.declared.entries.Actor.{Actor}
 use Rattle.plain_model.specs.declared.entries.Actor.TheVariants.{Caller}
 use Rattle.plain_model.specs.declared.entries.Action.{Action}
-use Rattle.plain_model.specs.declared.entries.Action.TheVariants.{Issue}
+use Rattle.plain_model.specs.declared.entries.Action.TheVariants.{Issue, Resume}
 use Rattle.plain_model.specs.declared.entries.Answer.{Answer}
 use Rattle.plain_model.specs.declared.entries.Answer.TheVariants.{Call as Replied}
 use Rattle.plain_model.specs.Keyed.{same_key}
-use Rattle.plain_model.specs.Ledger.{Meant, is_completion}
-use Rattle.plain_model.specs.Verdict.{is_access}
+use Rattle.plain_model.specs.Ledger.{Meant, Fixed, Means, is_completion}
+use Rattle.plain_model.specs.Accesses.{is_access}
 use Rattle.plain_model.specs.Step.{World, meant_for, after}
 
 -- it is a reply that the call was done, and the call is a read, a write or a truncate of the file with that key
 abbrev pub reaches_key : Meant → Reply → FileKey → Bool
-reaches_key a reply k = is_completion reply && is_access a.call && same_key k a.key
+reaches_key (Fixed fixed) reply k = false
+reaches_key (Means j call) reply k = is_completion reply && is_access call && same_key k j
 
 -- in W, such an access of the file with that key was done
 abbrev pub accesses : World → FileKey → Actor → Action → Answer → Bool
-accesses W k (Caller c) (Issue call) (Replied reply) = reaches_key (meant_for W call) reply k
+accesses W k (Caller c) (Issue call) (Replied reply) = reaches_key (meant_for W c (Issue call)) reply k
+accesses W k (Caller c) Resume (Replied reply) = reaches_key (meant_for W c Resume) reply k
 accesses W k actor action answer = false
 
 -- the numbers of the entries that did so. Entries are counted on from that number

@@ -1,8 +1,10 @@
 -- When what a store holds stands for a plain map, and when its tables agree.
-use Rattle.std.specs.Prelude.{ℕ, ◌≡◌, ◌<◌, List, [], ◌∷◌, length, get_or, false, if◌then◌else◌}
+use Rattle.std.specs.Prelude.{ℕ, ◌≡◌, ◌<◌, ◌≤◌, List, [], ◌∷◌, length, get_or, false, if◌then◌else◌, Option, Some, None, is_none, IfSome}
 use Rattle.hsm_types.specs.Sessions.{Ascend, places}
+use Rattle.hsm_types.specs.declared.dm.Response.{Response}
 use Rattle.hsm_types.specs.declared.keys.Token.{Token}
 use Rattle.plain_model.specs.Plain.{File}
+use Rattle.plain_model.specs.Ledger.{Ledger}
 use Rattle.plain_model.specs.Step.{World}
 use Rattle.plain_model.specs.State.{FileState, State}
 
@@ -24,6 +26,11 @@ Stands (f ∷ fs) (g ∷ gs) = IsFile f g × Stands fs gs
 Stands [] (g ∷ gs) = ⊥
 Stands (f ∷ fs) [] = ⊥
 
+-- a token for which an access waits was given, and is open as long as there is no response
+abbrev pub Awaits : Ledger → Option Token → Option Response → Type 0
+Awaits L None answer = answer ≡ None
+Awaits L (Some t) answer = (t.0 ≤ L.top) × (L.open t.0 ≡ is_none answer)
+
 -- the store stands for the world: for its map, with a next generation that is new there, and with the same ledger
 pub record StandsFor (st : State) (W : World) : Type 0 where
   pub files : Stands st.held.files W.files
@@ -31,9 +38,10 @@ pub record StandsFor (st : State) (W : World) : Type 0 where
   pub ledger : st.ledger ≡ W.ledger
 
 -- The tables agree with the ledger: ids of sessions ascend; each open token stands at just one place, unrouted, in a queue or outstanding, and no other
--- stands anywhere; and no token is open that was never given, nor is 0.
+-- stands anywhere; no token is open that was never given, nor is 0; and the token of an access that waits was given, and is open up to its response.
 pub record InOrder (st : State) : Type 0 where
   pub ascend : Ascend 0 st.sessions.given st.sessions.live
   pub once : (t : Token) → 0 < t.0 → places t st.sessions ≡ (if st.ledger.open t.0 then 1 else 0)
   pub given : (t : ℕ) → st.ledger.top < t → st.ledger.open t ≡ false
   pub none : st.ledger.open 0 ≡ false
+  pub waits : (c : ℕ) → IfSome (st.ledger.pending c) (λ a. Awaits st.ledger a.token a.answer)

@@ -1,5 +1,5 @@
 -- What a store holds, and a store at a moment.
-use Rattle.std.specs.Prelude.{ℕ, ◌+◌, List, [], length, map, sum_by, count_by, Bool, Option, Some, None}
+use Rattle.std.specs.Prelude.{ℕ, ◌+◌, List, [], length, map, sum_by, count_by, Bool, false, Option, Some, None}
 use Rattle.hsm_types.specs.Attributes.{with_value, without_value}
 use Rattle.hsm_types.specs.Kept.{Kept, nothing_kept}
 use Rattle.hsm_types.specs.Sessions.{SessionTable, no_sessions}
@@ -80,6 +80,16 @@ affected_held effect k files = change_key (λ f. f.key) k (remade effect) files
 
 -- ---- the store at a moment
 
+-- Beside an access that waits, as it will be judged once its token is continued: whether an event of it was continued, and whether one for want of space
+-- was. Only a continue lets a parked access go on, and nothing judges by them before, so both are set when it parks.
+pub record Flags : Type 0 where
+  pub cleared : Bool
+  pub spaced : Bool
+
+-- of an access that has not waited
+abbrev pub no_flags : Flags
+no_flags = record { cleared = false; spaced = false }
+
 pub record State : Type 0 where
   pub held : Held
   -- of each file, the number of the last entry that completed a read, a write or a truncate of it since the opening, 0 for none
@@ -87,11 +97,13 @@ pub record State : Type 0 where
   -- the number of the last entry
   pub number : ℕ
   pub sessions : SessionTable
+  -- of each caller, beside its access that waits
+  pub flags : ℕ → Flags
   pub ledger : Ledger
 
 -- a store that holds this and was just opened. Its entries are counted on from the number that was found
 abbrev pub just_opened : ℕ → Held → State
-just_opened base h = record { held = h; stamps = λ k. 0; number = base; sessions = no_sessions; ledger = no_ledger }
+just_opened base h = record { held = h; stamps = λ k. 0; number = base; sessions = no_sessions; flags = λ c. no_flags; ledger = no_ledger }
 
 -- an entry more, which changes nothing else
 abbrev pub noted : State → State

@@ -1,5 +1,5 @@
 -- Which event may come in a world, and the world that it leaves.
-use Rattle.std.specs.Prelude.{ℕ, ◌≡◌, ◌<◌, ◌⊎◌, List, length, Bool, true, false, if◌then◌else◌, Option, is_some, IsTrue, MatchOption}
+use Rattle.std.specs.Prelude.{ℕ, ◌≡◌, ◌<◌, ◌⊎◌, List, length, if◌then◌else◌, Option, is_some, IsTrue, MatchOption}
 use Rattle.hsm_types.specs.Answers.{reply_kind}
 use Rattle.hsm_types.specs.Forms.{answer_kind}
 use Rattle.hsm_types.specs.Messages.{is_lawful}
@@ -7,11 +7,11 @@ use Rattle.hsm_types.specs.declared.keys.FileKey.{FileKey}
 use Rattle.hsm_types.specs.declared.keys.Sid.{Sid}
 use Rattle.hsm_types.specs.declared.stores.Superblock.{Superblock}
 use Rattle.hsm_types.specs.declared.calls.Call.{Call}
-use Rattle.hsm_types.specs.declared.calls.Call.TheVariants.{Create, Write, Truncate}
+use Rattle.hsm_types.specs.declared.calls.Call.TheVariants.{Create}
 use Rattle.hsm_types.specs.declared.calls.CallRefusal.{CallRefusal}
 use Rattle.hsm_types.specs.declared.calls.CallRefusal.TheVariants.{NoSpace}
 use Rattle.hsm_types.specs.declared.calls.Reply.{Reply}
-use Rattle.hsm_types.specs.declared.calls.Reply.TheVariants.{Done, Made, Refused}
+use Rattle.hsm_types.specs.declared.calls.Reply.TheVariants.{Done, Made, Parked, Blocked, Refused}
 use Rattle.hsm_types.specs.declared.dm.DmCall.{DmCall}
 use Rattle.hsm_types.specs.declared.dm.DmCall.TheVariants.{Respond, CreateUserEvent, GetFileAttr, PathToHandle}
 use Rattle.hsm_types.specs.declared.dm.DmReply.{DmReply}
@@ -20,13 +20,14 @@ use Rattle.plain_model.specs.declared.entries.Entry.{Entry}
 use Rattle.plain_model.specs.declared.entries.Actor.{Actor}
 use Rattle.plain_model.specs.declared.entries.Actor.TheVariants.{Caller, Session, Store}
 use Rattle.plain_model.specs.declared.entries.Action.{Action}
-use Rattle.plain_model.specs.declared.entries.Action.TheVariants.{Issue, Dm, Commit}
+use Rattle.plain_model.specs.declared.entries.Action.TheVariants.{Issue, Resume, Dm, Commit}
 use Rattle.plain_model.specs.declared.entries.Answer.{Answer}
 use Rattle.plain_model.specs.declared.entries.Answer.TheVariants.{Call as Replied, Dm as Told}
 use Rattle.plain_model.specs.Keyed.{find_key}
 use Rattle.plain_model.specs.Effects.{Change, Nothing, OfFile, OfSessions, change_of}
 use Rattle.plain_model.specs.Plain.{File, listing, named, key_or_none, body_of, free_inode, greatest, key_by, affected, act}
-use Rattle.plain_model.specs.Ledger.{Meant, Ledger, no_ledger, next_token, meant, objection, is_completion, ledger_replied, ledger_told}
+use Rattle.plain_model.specs.Accesses.{is_access, can_block, wants_space}
+use Rattle.plain_model.specs.Ledger.{Meant, Fixed, Means, Ledger, no_ledger, next_token, meant, objection, is_completion, ledger_replied, ledger_told}
 use Rattle.plain_model.specs.Faults.{is_fault, IsFault}
 
 -- the plain map, the greatest generation that was ever given, and what users see of waiting
@@ -50,38 +51,36 @@ IsNewKey W call k = Unit {0}
 abbrev pub Completes : World → FileKey → Call → Reply → Type 0
 Completes W k call reply = IsNewKey W call (key_by k reply) × (reply ≡ (act W.files (key_by k reply) call).0)
 
--- only these calls want space
-abbrev pub wants_space : Call → Bool
-wants_space (Write name offset bytes) = true
-wants_space (Truncate name size) = true
-wants_space call = false
-
--- what may come of a call that nothing objects to: it is done, or too few blocks are free
+-- what may come of a call that nothing objects to: it parks on the next token, an open token blocks it, too few blocks are free, or it is done
 abbrev pub IsOutcome : World → FileKey → Call → Reply → Type 0
+IsOutcome W k call (Parked t) = IsTrue (is_access call) × (t ≡ next_token W.ledger)
+IsOutcome W k call (Blocked t) = IsTrue (can_block call) × IsTrue (W.ledger.open t.0)
 IsOutcome W k call (Refused (NoSpace need free)) = IsTrue (wants_space call) × (free < need)
 IsOutcome W k call reply = Completes W k call reply
 
--- an access may get this reply: the refusal where there is an objection, else an outcome
+-- an event that came to this may get this reply: the fixed one, the refusal where there is an objection, else an outcome
 abbrev pub MayReply : World → Option CallRefusal → Meant → Reply → Type 0
-MayReply W why a reply = MatchOption why (IsOutcome W a.key a.call reply) (λ y. reply ≡ Refused y)
+MayReply W why (Fixed fixed) reply = reply ≡ fixed
+MayReply W why (Means k call) reply = MatchOption why (IsOutcome W k call reply) (λ y. reply ≡ Refused y)
 
--- what a caller's call means, and what ends it before a store is asked
-abbrev pub meant_for : World → Call → Meant
-meant_for W call = meant (listing W.files) call
+-- what a caller's event comes to, and what ends the access before a store is asked
+abbrev pub meant_for : World → ℕ → Action → Meant
+meant_for W c action = meant (listing W.files) (W.ledger.pending c) action
 
-abbrev pub objection_for : Superblock → World → Call → Option CallRefusal
-objection_for s W call = objection s (listing W.files) call
+abbrev pub objection_for : Superblock → World → ℕ → Action → Option CallRefusal
+objection_for s W c action = objection s (listing W.files) (W.ledger.pending c) action
 
 abbrev pub files_replied : List File → Meant → Reply → List File
-files_replied P a reply = if is_completion reply then (act P (key_by a.key reply) a.call).1 else P
+files_replied P (Fixed fixed) reply = P
+files_replied P (Means k call) reply = if is_completion reply then (act P (key_by k reply) call).1 else P
 
-abbrev pub last_by : ℕ → Reply → ℕ
-last_by last (Made k) = k.igen
-last_by last reply = last
+abbrev pub last_by : ℕ → Meant → Reply → ℕ
+last_by last (Means k call) (Made j) = j.igen
+last_by last m reply = last
 
 -- the world after the reply
 abbrev pub replied : World → ℕ → Meant → Reply → World
-replied W c a reply = record { files = files_replied W.files a reply; last = last_by W.last reply; ledger = ledger_replied W.ledger c a reply }
+replied W c m reply = record { files = files_replied W.files m reply; last = last_by W.last m reply; ledger = ledger_replied W.ledger c m reply }
 
 -- ---- sessions
 
@@ -113,7 +112,8 @@ world_told W sid call reply = record W { files = files_told W.files sid call rep
 
 -- the answer is of the actor's and the action's kind, and may come
 abbrev pub MayAnswer : Superblock → World → Actor → Action → Answer → Type 0
-MayAnswer s W (Caller c) (Issue call) (Replied reply) = MayReply W (objection_for s W call) (meant_for W call) reply
+MayAnswer s W (Caller c) (Issue call) (Replied reply) = MayReply W (objection_for s W c (Issue call)) (meant_for W c (Issue call)) reply
+MayAnswer s W (Caller c) Resume (Replied reply) = MayReply W (objection_for s W c Resume) (meant_for W c Resume) reply
 MayAnswer s W (Session sid) (Dm call) (Told reply) = MayTell s W call reply
 MayAnswer s W Store Commit (Replied reply) = reply ≡ Done
 MayAnswer s W actor action answer = ⊥
@@ -124,7 +124,8 @@ MayGive s W actor action answer = IsFault actor action answer ⊎ MayAnswer s W 
 
 -- the world that it leaves, where it is for no fault
 abbrev pub given : World → Actor → Action → Answer → World
-given W (Caller c) (Issue call) (Replied reply) = replied W c (meant_for W call) reply
+given W (Caller c) (Issue call) (Replied reply) = replied W c (meant_for W c (Issue call)) reply
+given W (Caller c) Resume (Replied reply) = replied W c (meant_for W c Resume) reply
 given W (Session sid) (Dm call) (Told reply) = world_told W sid call reply
 given W actor action answer = W
 

@@ -1,40 +1,94 @@
 -- What a store says to an access: rules of which the first that applies decides; where none does, the access is done.
-use Rattle.std.specs.Prelude.{ℕ, ◌+◌, ◌-◌, [], ◌∷◌, length, Bool, true, false, nat_lt, if◌then◌else◌, Option, Some, None}
+use Rattle.std.specs.Prelude.{ℕ, ◌+◌, ◌-◌, [], ◌∷◌, length, Bool, true, false, not, ◌&&◌, ◌||◌, nat_lt, if◌then◌else◌, Option, Some, None, is_some}
+use Rattle.std.specs.Option.{option_map}
 use Rattle.hsm_types.specs.Refusals.{first_refusal}
+use Rattle.hsm_types.specs.Regions.{touches}
+use Rattle.hsm_types.specs.Sessions.{SessionTable, taker, posted}
 use Rattle.hsm_types.specs.declared.keys.FileKey.{FileKey}
 use Rattle.hsm_types.specs.declared.stores.Superblock.{Superblock}
 use Rattle.hsm_types.specs.declared.calls.Call.{Call}
-use Rattle.hsm_types.specs.declared.calls.Call.TheVariants.{Create, Read, Write, Truncate}
+use Rattle.hsm_types.specs.declared.calls.Call.TheVariants.{Create}
 use Rattle.hsm_types.specs.declared.calls.CallRefusal.{CallRefusal}
 use Rattle.hsm_types.specs.declared.calls.CallRefusal.TheVariants.{NoSpace}
 use Rattle.hsm_types.specs.declared.calls.Reply.{Reply}
-use Rattle.hsm_types.specs.declared.calls.Reply.TheVariants.{Refused}
-use Rattle.plain_model.specs.Keyed.{same_key}
+use Rattle.hsm_types.specs.declared.calls.Reply.TheVariants.{Parked, Refused}
+use Rattle.hsm_types.specs.declared.dm.Kind.{Kind}
+use Rattle.hsm_types.specs.declared.dm.Kind.TheVariants as kind
+use Rattle.hsm_types.specs.declared.dm.Response.{Response}
+use Rattle.hsm_types.specs.declared.messages.Message.{Message}
+use Rattle.plain_model.specs.declared.entries.Action.{Action}
+use Rattle.plain_model.specs.declared.entries.Action.TheVariants.{Issue}
+use Rattle.plain_model.specs.declared.facts.Facts.{Facts}
+use Rattle.plain_model.specs.declared.facts.NoRoom.{NoRoom}
+use Rattle.plain_model.specs.Keyed.{same_key, find_key, set_at}
 use Rattle.plain_model.specs.Effects.{effect_of}
 use Rattle.plain_model.specs.Plain.{reply_on}
-use Rattle.plain_model.specs.Ledger.{Meant, meant, objection, ledger_replied}
+use Rattle.plain_model.specs.Accesses.{is_access, kind_of, reach, told_span, event_message}
+use Rattle.plain_model.specs.Ledger.{Meant, Fixed, Means, next_token, meant, objection, aborted, gone, ledger_replied}
 use Rattle.plain_model.specs.Blocks.{touched}
-use Rattle.plain_model.specs.State.{Held, State, names_of, next_key, bytes_of, used, affected_held, noted}
+use Rattle.plain_model.specs.State.{FileState, Held, Flags, no_flags, State, names_of, next_key, file_at, bytes_of, used, affected_held, noted}
 
 pub data Ruling : Type 0 where
+  -- an event of that kind is posted, and the access parks on its token
+  Posts : Kind → Ruling
   -- more blocks are needed than are free
   Lacks : ℕ → ℕ → Ruling
 
--- what a rule says, where one applies
+-- what a rule says, where one applies; else (rule 7) the access is done
 abbrev pub Verdict : Type 0
 Verdict = Option Ruling
 
+-- ---- the facts
+
+-- the access touches a region of the file with its flag
+abbrev pub touches_as : Option Kind → FileState → Call → Bool
+touches_as None f call = false
+touches_as (Some kind) f call = touches f.kept.regions (reach (length f.body) call) kind
+
+abbrev pub short_of : ℕ → ℕ → Option NoRoom
+short_of need free = if nat_lt free need then Some (record { need = need; free = free }) else None
+
+-- it touches more blocks of the file with that key than are free
+abbrev pub shortage : Superblock → Held → FileKey → Call → Option NoRoom
+shortage s h k call = short_of (length (touched (effect_of call) (length (bytes_of k h.files)))) (s.geometry.blocks - used h.files)
+
+-- what is known of a call on the file with that key
+abbrev pub facts_of : Superblock → Held → FileKey → Call → Facts
+facts_of s h k call = record {
+  live = is_some (find_key (λ f. f.key) k h.files);
+  touches = touches_as (kind_of call) (file_at k h.files) call;
+  short = shortage s h k call;
+}
+
+-- some session takes events of that kind
+abbrev pub is_taken : Kind → SessionTable → Bool
+is_taken kind t = is_some (taker kind t)
+
 -- ---- the rules
 
-abbrev pub short_of : ℕ → ℕ → Verdict
-short_of need free = if nat_lt free need then Some (Lacks need free) else None
+abbrev pub posts : Bool → Option Kind → Verdict
+posts false kind = None
+posts true kind = option_map Posts kind
 
--- the call touches more blocks of the file with that key than are free
-abbrev pub lacking : Superblock → Held → FileKey → Call → Verdict
-lacking s h k call = short_of (length (touched (effect_of call) (length (bytes_of k h.files)))) (s.geometry.blocks - used h.files)
+-- 4: no event of it was continued yet, and it touches a region with its flag
+abbrev pub touching : Flags → Facts → Call → Verdict
+touching fl facts call = posts (not fl.cleared && facts.touches) (kind_of call)
 
-abbrev pub verdict : Superblock → State → FileKey → Call → Verdict
-verdict s st k call = first_refusal (lacking s st.held k call ∷ [])
+-- an event asks for space once, where a session takes such
+abbrev pub without_room : Bool → Option NoRoom → Verdict
+without_room asks None = None
+without_room asks (Some room) = if asks then Some (Posts kind.NoSpace) else Some (Lacks room.need room.free)
+
+-- 6: it is short of space
+abbrev pub lacking : Flags → Facts → SessionTable → Verdict
+lacking fl facts t = without_room (not fl.spaced && is_taken kind.NoSpace t) facts.short
+
+-- an access with these flags, of which that is known
+abbrev pub verdict_on : Flags → Facts → SessionTable → Call → Verdict
+verdict_on fl facts t call = first_refusal (touching fl facts call ∷ lacking fl facts t ∷ [])
+
+abbrev pub verdict : Superblock → State → Flags → FileKey → Call → Verdict
+verdict s st fl k call = verdict_on fl (facts_of s st.held k call) st.sessions call
 
 -- ---- the reply, and what is left
 
@@ -55,6 +109,7 @@ abbrev pub done_held : Held → FileKey → Call → Held
 done_held h k call = record { files = affected_held (effect_of call) (key_done h k call) h.files; next = next_done h.next call }
 
 abbrev pub reply_by : State → FileKey → Call → Verdict → Reply
+reply_by st k call (Some (Posts kind)) = Parked (next_token st.ledger)
 reply_by st k call (Some (Lacks need free)) = Refused (NoSpace need free)
 reply_by st k call None = done_reply st.held k call
 
@@ -62,53 +117,81 @@ abbrev pub held_by_verdict : Held → FileKey → Call → Verdict → Held
 held_by_verdict h k call (Some ruling) = h
 held_by_verdict h k call None = done_held h k call
 
--- reads, writes and truncates renew the stamp of their file
-abbrev pub is_access : Call → Bool
-is_access (Read name offset len) = true
-is_access (Write name offset bytes) = true
-is_access (Truncate name size) = true
-is_access call = false
-
 -- the stamp of the file with that key is this number
 abbrev pub stamped : FileKey → ℕ → (FileKey → ℕ) → FileKey → ℕ
 stamped k number stamps j = if same_key j k then number else stamps j
 
--- the stamps after the entry of that number
+-- The stamps after the entry of that number: accesses renew the stamp of their file
 abbrev pub stamps_by : ℕ → FileKey → Call → Verdict → (FileKey → ℕ) → FileKey → ℕ
 stamps_by number k call (Some ruling) stamps = stamps
 stamps_by number k call None stamps = if is_access call then stamped k number stamps else stamps
 
+-- the message of an event that is posted
+abbrev pub message_of : Superblock → State → FileKey → Call → Kind → Message
+message_of s st k call kind = event_message kind (next_token st.ledger) (record { fsid = s.fsid; key = k }) (told_span call (shortage s st.held k call) kind)
+
+abbrev pub sessions_by : Superblock → State → FileKey → Call → Verdict → SessionTable
+sessions_by s st k call (Some (Posts kind)) = posted (message_of s st k call kind) st.sessions
+sessions_by s st k call v = st.sessions
+
+abbrev pub is_no_space : Kind → Bool
+is_no_space kind.NoSpace = true
+is_no_space kind = false
+
+-- the flags beside what waits then
+abbrev pub flags_by : Flags → Verdict → Flags
+flags_by fl (Some (Posts kind)) = record { cleared = true; spaced = fl.spaced || is_no_space kind }
+flags_by fl v = no_flags
+
 -- ---- an event of a caller
 
--- the access that the call means, and what ends it by the names of the files alone
-abbrev pub meant_in : State → Call → Meant
-meant_in st call = meant (names_of st.held.files) call
+-- the flags with which its access is judged
+abbrev pub flags_now : State → ℕ → Action → Flags
+flags_now st c (Issue call) = no_flags
+flags_now st c action = st.flags c
 
-abbrev pub objection_in : Superblock → State → Call → Option CallRefusal
-objection_in s st call = objection s (names_of st.held.files) call
+-- what the event comes to, and what ends the access by the names of the files and the response alone
+abbrev pub meant_in : State → ℕ → Action → Meant
+meant_in st c action = meant (names_of st.held.files) (st.ledger.pending c) action
 
-abbrev pub reply_where : Option CallRefusal → Superblock → State → Meant → Reply
-reply_where (Some why) s st m = Refused why
-reply_where None s st m = reply_by st m.key m.call (verdict s st m.key m.call)
+abbrev pub objection_in : Superblock → State → ℕ → Action → Option CallRefusal
+objection_in s st c action = objection s (names_of st.held.files) (st.ledger.pending c) action
 
--- the store's reply to a caller's call
-abbrev pub reply_to : Superblock → State → Call → Reply
-reply_to s st call = reply_where (objection_in s st call) s st (meant_in st call)
+abbrev pub reply_where : Superblock → State → Flags → Option CallRefusal → Meant → Reply
+reply_where s st fl why (Fixed reply) = reply
+reply_where s st fl (Some why) (Means k call) = Refused why
+reply_where s st fl None (Means k call) = reply_by st k call (verdict s st fl k call)
+
+-- the store's reply
+abbrev pub reply_to : Superblock → State → ℕ → Action → Reply
+reply_to s st c action = reply_where s st (flags_now st c action) (objection_in s st c action) (meant_in st c action)
 
 -- what an access leaves of which the rules say so
-abbrev pub left_by_verdict : State → ℕ → FileKey → Call → Verdict → State
-left_by_verdict st c k call v = record {
+abbrev pub left_by_verdict : Superblock → State → ℕ → Flags → FileKey → Call → Verdict → State
+left_by_verdict s st c fl k call v = record {
   held = held_by_verdict st.held k call v;
   stamps = stamps_by (st.number + 1) k call v st.stamps;
   number = st.number + 1;
-  sessions = st.sessions;
-  ledger = ledger_replied st.ledger c (record { key = k; call = call }) (reply_by st k call v);
+  sessions = sessions_by s st k call v;
+  flags = set_at c (flags_by fl v) st.flags;
+  ledger = ledger_replied st.ledger c (Means k call) (reply_by st k call v);
 }
 
-abbrev pub state_where : Option CallRefusal → Superblock → State → ℕ → Meant → State
-state_where (Some why) s st c m = record (noted st) { ledger = ledger_replied st.ledger c m (Refused why) }
-state_where None s st c m = left_by_verdict st c m.key m.call (verdict s st m.key m.call)
+abbrev pub state_where : Superblock → State → ℕ → Flags → Option CallRefusal → Meant → State
+state_where s st c fl why (Fixed reply) = record (noted st) { ledger = ledger_replied st.ledger c (Fixed reply) reply }
+state_where s st c fl (Some why) (Means k call) = record (noted st) { flags = set_at c no_flags st.flags; ledger = ledger_replied st.ledger c (Means k call) (Refused why) }
+state_where s st c fl None (Means k call) = left_by_verdict s st c fl k call (verdict s st fl k call)
 
--- the store after a call of that caller
-abbrev pub state_after : Superblock → State → ℕ → Call → State
-state_after s st c call = state_where (objection_in s st call) s st c (meant_in st call)
+-- the store after the event
+abbrev pub state_after : Superblock → State → ℕ → Action → State
+state_after s st c action = state_where s st c (flags_now st c action) (objection_in s st c action) (meant_in st c action)
+
+-- ---- all seven rules in one list, as one who judges an access sees them
+
+pub data Judgement : Type 0 where
+  Ends : CallRefusal → Judgement
+  Rules : Ruling → Judgement
+
+-- the first that applies decides; where none does, the access is done
+abbrev pub judgement : Flags → Option Response → Facts → SessionTable → Call → Option Judgement
+judgement fl answer facts t call = first_refusal (option_map Ends (aborted answer) ∷ option_map Ends (gone facts.live) ∷ option_map Rules (touching fl facts call) ∷ option_map Rules (lacking fl facts t) ∷ [])

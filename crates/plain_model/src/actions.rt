@@ -63,6 +63,7 @@ fn push_action<S: Spelling>(
     match action {
         Action::Issue(call) => push_form(alloc, out, call.verb().text(), &call.parts(), spelling),
         Action::Dm(call) => push_form(alloc, out, call.verb().text(), &call.parts(), spelling),
+        Action::Resume => push(out, b"resume"),
         Action::Commit => push(out, b"commit"),
     }
 }

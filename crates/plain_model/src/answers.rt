@@ -39,6 +39,9 @@ fn push_reply(alloc: Global, out: &mut Vec<u8>, reply: &Reply) -> Result<(), All
         }
         Reply::Data(bytes) => push_data(alloc, out, bytes.as_slice()),
         Reply::Size(size) => push_numbered(alloc, out, b"size", *size),
+        Reply::Parked { token } => push_numbered(alloc, out, b"parked", token.0),
+        Reply::Blocked { token } => push_numbered(alloc, out, b"blocked", token.0),
+        Reply::Still { token } => push_numbered(alloc, out, b"still", token.0),
         Reply::Refused(why) => {
             push(out, b"refused ")?;
             push_refusal(alloc, out, *why)
@@ -60,8 +63,13 @@ fn push_refusal(alloc: Global, out: &mut Vec<u8>, why: CallRefusal) -> Result<()
             push_numbered(alloc, out, b"NoSpace", need)?;
             push_field(alloc, out, free)
         }
+        CallRefusal::Aborted { errno } => {
+            push_numbered(alloc, out, b"Aborted", u64::from(errno))
+        }
         CallRefusal::Disk => push(out, b"Disk"),
         CallRefusal::Memory => push(out, b"Memory"),
+        CallRefusal::Waiting => push(out, b"Waiting"),
+        CallRefusal::Idle => push(out, b"Idle"),
     }
 }
 

@@ -14,6 +14,8 @@ pub enum Actor {
 #[derive(Debug, PartialEq, Drop)]
 pub enum Action {
     Issue(Call),
+    /// The caller asks for the answer to its access that waits.
+    Resume,
     Dm(DmCall),
     Commit,
 }

@@ -4,11 +4,13 @@
 mod actions;
 mod answers;
 mod entries;
+mod facts;
 mod laws;
 mod pieces;
 mod transcript;
 
 pub use actions::{Spelling, push_event};
 pub use entries::{Action, Actor, Answer, Entry, History};
+pub use facts::{Facts, NoRoom};
 pub use laws::{run_is_good, synced_grows, transparent};
 pub use transcript::render;

@@ -1,6 +1,8 @@
 -- Calls: what a verb and the parts behind it spell, and why nothing else.
-use Rattle.std.proofs.Common.{◌≡◌, ◌≢◌, ℕ, ◌<◌, List, [], ◌∷◌, length, map, true, Option, Some, None, refl, sym, ap, ◌∙◌, subst, arith}
+use Rattle.std.proofs.Common.{◌≡◌, ◌≢◌, ℕ, ◌<◌, List, [], ◌∷◌, length, map, true, false, Option, Some, None, refl, sym, ap, ◌∙◌, subst, arith}
+use Rattle.std.specs.Prelude.{codes}
 use Rattle.std.specs.List.{AllByRecursion}
+use Rattle.std.specs.Str.{bytes_eq}
 use Rattle.hsm_types.specs.declared.calls.Call.{Call}
 use Rattle.hsm_types.specs.declared.dm.DmCall.{DmCall}
 use Rattle.hsm_types.specs.declared.forms.CallVerb.{CallVerb}
@@ -19,6 +21,7 @@ use Rattle.script_text.specs.declared.requests.Request.{Request}
 use Rattle.script_text.specs.Lines.{data_word, AreParts}
 use Rattle.script_text.specs.Reading.{Reads, Lacks, parts_text, behind_verb, AreOfKinds, ReadsParts, is_signature, with_rest, form_text, request_text, IsRequest, dm_request_text, IsDmRequest}
 use Rattle.script_text.proofs.Cutting.{Lacks-not, cut_same}
+use Rattle.script_text.proofs.DataParts.{differ}
 use Rattle.script_text.proofs.Spelling.{IsVisible, Lacks-visible}
 use Rattle.script_text.proofs.Parting.{same_parts, Lacks-parts}
 
@@ -150,6 +153,18 @@ one_request x y h k e =
 
 pub Lacks-request : (seed : Option ℕ) (call : Call) → AreParts seed (call_form call).1 → AllByRecursion (Lacks 10) (form_words (data_word seed) (verb_text (call_form call).0) (call_form call).1)
 Lacks-request seed call h = Lacks-form verb_text verb_kinds call_verbs seed (call_form call) (call_kinds call) h
+
+-- computed for each
+no_resuming_verb : (v : CallVerb) → bytes_eq (codes "resume") (verb_text v) ≡ false
+no_resuming_verb verbs.Sync = refl
+no_resuming_verb other = refl
+
+-- no call is spelled as a resume
+pub no_resume : (r : Request) → codes "resume" ≢ request_text r
+no_resume r same =
+    let v : CallVerb = (call_form r.call).0 in
+    let cut = form_cut verb_text verb_kinds call_verbs (codes "resume") (codes "resume") None v r.seed (call_form r.call).1 refl (Lacks-visible 32 (codes "resume") refl refl) same in
+    differ (codes "resume") (verb_text v) (verb_text v) false (sym (no_resuming_verb v)) refl refl cut.0
 
 pub one_dm_request : (x y : DmRequest) → IsDmRequest x → IsDmRequest y → dm_request_text x ≡ dm_request_text y → (x.call ≡ y.call) × (x.seed ≡ y.seed)
 one_dm_request x y h k e =

@@ -1,5 +1,5 @@
 -- What data spell, and why nothing else.
-use Rattle.std.proofs.Common.{◌≡◌, ◌≢◌, ℕ, inl, inr, ◌⊎◌, List, [], ◌∷◌, ◌++◌, length, Bool, false, Option, Some, None, refl, sym, ap, ◌∙◌, arith}
+use Rattle.std.proofs.Common.{◌≡◌, ◌≢◌, ℕ, inl, inr, ◌⊎◌, List, [], ◌∷◌, ◌++◌, length, Bool, true, false, Option, Some, None, refl, sym, ap, ◌∙◌, arith}
 use Rattle.std.specs.Prelude.{codes}
 use Rattle.std.specs.Fmt.{decimal}
 use Rattle.std.specs.Str.{bytes_eq}
@@ -14,7 +14,10 @@ use Rattle.script_text.specs.Reading.{Lacks, IsNumber, pattern_text, IsPattern}
 use Rattle.script_text.proofs.Cutting.{Lacks-not, cut_same}
 use Rattle.script_text.proofs.Spelling.{Lacks-computed, Lacks-colon}
 
--- bytes that don't compare as the same
+-- bytes that compare as the same, and that don't
+pub agree : (xs ys zs : List ℕ) (r : Bool) → r ≡ bytes_eq xs ys → ys ≡ zs → r ≡ true → xs ≡ zs
+agree xs ys zs r is literal passed = (bytes_eq-Decides xs ys).0 (sym is ∙ passed) ∙ literal
+
 pub differ : (xs ys zs : List ℕ) (r : Bool) → r ≡ bytes_eq xs ys → ys ≡ zs → r ≡ false → xs ≢ zs
 differ xs ys zs r is literal failed same = false≢true (sym failed ∙ is ∙ (bytes_eq-Decides xs ys).1 (same ∙ sym literal))
 

@@ -11,7 +11,7 @@ use Rattle.hsm_types.specs.declared.keys.Sid.{Sid}
 use Rattle.plain_model.specs.declared.entries.Actor.{Actor}
 use Rattle.plain_model.specs.declared.entries.Actor.TheVariants.{Caller, Session, Store}
 use Rattle.plain_model.specs.declared.entries.Action.{Action}
-use Rattle.plain_model.specs.declared.entries.Action.TheVariants.{Issue, Dm, Commit}
+use Rattle.plain_model.specs.declared.entries.Action.TheVariants.{Issue, Resume, Dm, Commit}
 use Rattle.plain_model.specs.Render.{spaced, actor_word, action_words}
 use Rattle.script_text.specs.declared.lines.Line.{Line}
 use Rattle.script_text.specs.declared.lines.Line.TheVariants.{Event}
@@ -23,7 +23,7 @@ use Rattle.script_text.specs.Reading.{Lacks, caller_word, sid_word, IsSid, reque
 use Rattle.script_text.proofs.Cutting.{Lacks-not, Lacks-join, cut_same}
 use Rattle.script_text.proofs.Numerals.{Lacks-decimal}
 use Rattle.script_text.proofs.Spelling.{IsVisible, Lacks-visible, visible_decimal}
-use Rattle.script_text.proofs.Calling.{one_request, Lacks-request, one_dm_request, Lacks-dm_request}
+use Rattle.script_text.proofs.Calling.{one_request, no_resume, Lacks-request, one_dm_request, Lacks-dm_request}
 
 -- ---- actors
 
@@ -68,11 +68,13 @@ caller_number word n x is small h same =
 
 said_text : (actor : Actor) (action : Action) (seed : Option ℕ) → line_text (Event actor action seed) ≡ text_by actor (spaced (action_words (data_word seed) action))
 said_text actor (Issue call) seed = refl
+said_text actor Resume seed = refl
 said_text actor (Dm call) seed = refl
 said_text actor Commit seed = refl
 
 event_actor : (actor : Actor) (action : Action) (seed : Option ℕ) → IsEvent actor action seed → IsActor actor
 event_actor (Caller c) (Issue call) seed h = h.0
+event_actor (Caller c) Resume seed h = h.0
 event_actor (Caller c) other seed h = absurd h
 event_actor (Session sid) (Dm call) seed h = h.0
 event_actor (Session sid) other seed h = absurd h
@@ -101,12 +103,13 @@ pub record IsCalled (text : List ℕ) : Type 0 where
   pub lawful : IsRequest request
   pub spelled : text ≡ request_text request
 
-called : (c : ℕ) (text : List ℕ) (action : Action) (seed : Option ℕ) → IsEvent (Caller c) action seed → text ≡ spaced (action_words (data_word seed) action) → IsCalled text
-called c text (Issue call) seed h same = record { request = record { call = call; seed = seed }; lawful = h.1; spelled = same }
-called c text other seed h same = absurd h
+called : (c : ℕ) (text : List ℕ) (action : Action) (seed : Option ℕ) → IsEvent (Caller c) action seed → text ≢ codes "resume" → text ≡ spaced (action_words (data_word seed) action) → IsCalled text
+called c text (Issue call) seed h other same = record { request = record { call = call; seed = seed }; lawful = h.1; spelled = same }
+called c text Resume seed h other same = absurd (other same)
+called c text action seed h other same = absurd h
 
-pub caller_says : (c : ℕ) (text : List ℕ) (line : Line) → IsCallerNumber c → IsLine line → text_by (Caller c) text ≡ line_text line → IsCalled text
-caller_says c text line k h same = let s = said (Caller c) text line k h same in called c text s.action s.seed s.lawful s.spelled
+pub caller_says : (c : ℕ) (text : List ℕ) (line : Line) → IsCallerNumber c → IsLine line → text ≢ codes "resume" → text_by (Caller c) text ≡ line_text line → IsCalled text
+caller_says c text line k h other same = let s = said (Caller c) text line k h same in called c text s.action s.seed s.lawful other s.spelled
 
 -- a session's call
 pub record IsAsked (sid : Sid) (text : List ℕ) : Type 0 where
@@ -149,7 +152,11 @@ line_unnamed text who rest (Event actor action seed) h same cut lacks no_caller 
 one_action : (actor : Actor) (x y : Action) (s t : Option ℕ) → IsEvent actor x s → IsEvent actor y t → spaced (action_words (data_word s) x) ≡ spaced (action_words (data_word t) y) → (x ≡ y) × (s ≡ t)
 one_action (Caller c) (Issue call) (Issue other) s t h k e =
     let one = one_request (record { call = call; seed = s }) (record { call = other; seed = t }) h.1 k.1 e in (ap Issue one.0, one.1)
+one_action (Caller c) (Issue call) Resume s t h k e = absurd (no_resume (record { call = call; seed = s }) (sym e))
 one_action (Caller c) (Issue call) other s t h k e = absurd k
+one_action (Caller c) Resume (Issue call) s t h k e = absurd (no_resume (record { call = call; seed = t }) e)
+one_action (Caller c) Resume Resume s t h k e = (refl, h.1 ∙ sym k.1)
+one_action (Caller c) Resume other s t h k e = absurd k
 one_action (Caller c) x y s t h k e = absurd h
 one_action (Session sid) (Dm call) (Dm other) s t h k e =
     let one = one_dm_request (record { call = call; seed = s }) (record { call = other; seed = t }) h.2 k.2 e in (ap Dm one.0, one.1)
@@ -176,6 +183,7 @@ same_access before text read line h same g = ap access_length (line_text-injecti
 
 Lacks-action : (actor : Actor) (action : Action) (seed : Option ℕ) → IsEvent actor action seed → AllByRecursion (Lacks 10) (action_words (data_word seed) action)
 Lacks-action (Caller c) (Issue call) seed h = Lacks-request seed call h.1
+Lacks-action (Caller c) Resume seed h = (Lacks-visible 10 (codes "resume") refl refl, tt)
 Lacks-action (Caller c) other seed h = absurd h
 Lacks-action (Session sid) (Dm call) seed h = Lacks-dm_request seed call h.2
 Lacks-action (Session sid) other seed h = absurd h

@@ -20,7 +20,7 @@ use Rattle.hsm_types.specs.Parts.{access_of}
 use Rattle.plain_model.specs.declared.entries.Actor.{Actor}
 use Rattle.plain_model.specs.declared.entries.Actor.TheVariants.{Caller, Session, Store}
 use Rattle.plain_model.specs.declared.entries.Action.{Action}
-use Rattle.plain_model.specs.declared.entries.Action.TheVariants.{Issue, Dm, Commit}
+use Rattle.plain_model.specs.declared.entries.Action.TheVariants.{Issue, Resume, Dm, Commit}
 use Rattle.plain_model.specs.Render.{spaced, actor_word, action_words}
 use Rattle.script_text.specs.declared.lines.Line.{Line}
 use Rattle.script_text.specs.declared.lines.Line.TheVariants.{Event}
@@ -106,15 +106,18 @@ IsAskedBy sid InSession = Unit {0}
 IsAskedBy sid (OnToken token) = Unit {0}
 IsAskedBy sid (OnFile token handle right) = Unit {0}
 
--- callers issue calls, sessions ask, and the store commits
+-- callers issue calls and resume, sessions ask, and the store commits
 abbrev pub IsEvent : Actor → Action → Option ℕ → Type 0
 IsEvent (Caller c) (Issue call) seed = IsCallerNumber c × AreParts seed (call_form call).1
+IsEvent (Caller c) Resume seed = IsCallerNumber c × (seed ≡ None)
 IsEvent (Caller c) (Dm call) seed = ⊥
 IsEvent (Caller c) Commit seed = ⊥
 IsEvent (Session sid) (Issue call) seed = ⊥
+IsEvent (Session sid) Resume seed = ⊥
 IsEvent (Session sid) (Dm call) seed = (sid.0 < 2 ^ 64) × IsAskedBy sid (scope_of call) × AreParts seed (dm_form call).1
 IsEvent (Session sid) Commit seed = ⊥
 IsEvent Store (Issue call) seed = ⊥
+IsEvent Store Resume seed = ⊥
 IsEvent Store (Dm call) seed = ⊥
 IsEvent Store Commit seed = seed ≡ None
 
@@ -126,6 +129,7 @@ IsLine (Event actor action seed) = IsEvent actor action seed
 -- the bytes that an action brings or may fetch
 abbrev pub action_access : Action → ℕ
 action_access (Issue call) = access_of (call_form call).1
+action_access Resume = 0
 action_access (Dm call) = access_of (dm_form call).1
 action_access Commit = 0
 

@@ -36,11 +36,18 @@ pub fn line(alloc: Global, text: &[u8]) -> Result<Option<Line>, AllocError>
     }
 }
 
-/// The line of a caller's call.
+/// The line of a caller, who resumes or issues a call.
 fn caller_line(alloc: Global, caller: CallerId, text: &[u8]) -> Result<Option<Line>, AllocError>
     requires { IsCallerNumber caller }
     ensures { IfOk result (λ read. Reads line_text IsLine (text_by (Actor.Caller caller) text.now) read) }
 {
+    if text == b"resume".as_slice() {
+        return Ok(Some(Line::Event {
+            actor: Actor::Caller(caller),
+            action: Action::Resume,
+            seed: None,
+        }));
+    }
     let Some(Request { call, seed }) = request_of(alloc, text)? else {
         return Ok(None);
     };

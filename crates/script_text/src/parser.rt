@@ -107,6 +107,6 @@ fn access_bytes(line: &Line) -> u64
     match action {
         Action::Issue(call) => call.access_bytes(),
         Action::Dm(call) => call.access_bytes(),
-        Action::Commit => 0,
+        Action::Resume | Action::Commit => 0,
     }
 }

@@ -1,9 +1,10 @@
 //! Calls on the attributes of a live file that sessions give it.
 ghost use Rattle.std.specs.Prelude.{◌≡◌, ℕ, false, IsSome, IfOk};
+ghost use Rattle.hsm_types.specs.Messages.{no_token};
 ghost use Rattle.hsm_types.specs.declared.dm.DmCall.TheVariants.{SetDmAttr, GetDmAttr, RemoveDmAttr, GetAllDmAttr};
 ghost use Rattle.plain_model.specs.Keyed.{find_key};
 ghost use Rattle.file_store.specs.Stores.{Proceeds};
-ghost use Rattle.hsm_core.specs.Services.{null, AreOf, service_on, IsServed};
+ghost use Rattle.hsm_core.specs.Services.{AreOf, service_on, IsServed};
 
 use crate::services::replies::{changed, refused, twice};
 use disk_model::Disk;
@@ -23,7 +24,7 @@ pub(crate) fn set<D: Disk>(
     requires working { files.old.failed ≡ false }
     requires live { IsSome (find_key (λ f. f.key) handle.key files.old.held.files) }
     requires idle { Proceeds D.Disk files.old number files.old }
-    ensures { IsServed D.Disk files.old number (SetDmAttr null handle name value.now) result files.new }
+    ensures { IsServed D.Disk files.old number (SetDmAttr no_token handle name value.now) result files.new }
 {
     let value = value.clone()?;
     changed(files.set_attr(alloc, handle.key, name, value, number))
@@ -36,7 +37,7 @@ pub(crate) fn value<D: Disk>(
     name: AttrName,
 ) -> Result<(DmReply, DmReply), AllocError>
     requires { IsSome (find_key (λ f. f.key) handle.key files.now.held.files) }
-    ensures { IfOk result (λ r. AreOf (service_on files.now (GetDmAttr null handle name)) r) }
+    ensures { IfOk result (λ r. AreOf (service_on files.now (GetDmAttr no_token handle name)) r) }
 {
     let attributes = files.meta().catalog().attributes(handle.key).unwrap();
     match attributes.get(name) {
@@ -56,7 +57,7 @@ pub(crate) fn remove<D: Disk>(
     requires working { files.old.failed ≡ false }
     requires live { IsSome (find_key (λ f. f.key) handle.key files.old.held.files) }
     requires idle { Proceeds D.Disk files.old number files.old }
-    ensures { IsServed D.Disk files.old number (RemoveDmAttr null handle name) result files.new }
+    ensures { IsServed D.Disk files.old number (RemoveDmAttr no_token handle name) result files.new }
 {
     changed(files.drop_attr(alloc, handle.key, name, number))
 }
@@ -68,7 +69,7 @@ pub(crate) fn list<D: Disk>(
     handle: Handle,
 ) -> Result<(DmReply, DmReply), AllocError>
     requires { IsSome (find_key (λ f. f.key) handle.key files.now.held.files) }
-    ensures { IfOk result (λ r. AreOf (service_on files.now (GetAllDmAttr null handle)) r) }
+    ensures { IfOk result (λ r. AreOf (service_on files.now (GetAllDmAttr no_token handle)) r) }
 {
     let attributes = files.meta().catalog().attributes(handle.key).unwrap();
     twice(DmReply::Names(attributes.list(alloc)?))

@@ -1,10 +1,11 @@
 //! Calls on handles, and on what the store itself keeps of a file.
 ghost use Rattle.std.specs.Prelude.{IsSome, IfOk};
+ghost use Rattle.hsm_types.specs.Messages.{no_token};
 ghost use Rattle.hsm_types.specs.declared.dm.DmCall.TheVariants.{PathToHandle, GetFileAttr};
 ghost use Rattle.plain_model.specs.Keyed.{find_key};
 ghost use Rattle.file_store.specs.Stores.{superblock_of};
-ghost use Rattle.hsm_core.specs.Store.{no_tables};
-ghost use Rattle.hsm_core.specs.Services.{nobody, null, asked, AreOf, service_on};
+ghost use Rattle.dm_service.specs.Tables.{Tables};
+ghost use Rattle.hsm_core.specs.Services.{AreOf, anybody, asked, service_on};
 
 use crate::lookups;
 use crate::services::replies::{refused, twice};
@@ -35,7 +36,7 @@ pub(crate) fn attributes<D: Disk>(
     handle: Handle,
 ) -> Result<(DmReply, DmReply), AllocError>
     requires { IsSome (find_key (λ f. f.key) handle.key files.now.held.files) }
-    ensures { IfOk result (λ r. AreOf (asked (superblock_of files.now) files.now.held stamps.now.entries no_tables nobody (GetFileAttr null handle)) r) }
+    ensures { (t : Tables) → IfOk result (λ r. AreOf (asked (superblock_of files.now) files.now.held stamps.now.entries t anybody (GetFileAttr no_token handle)) r) }
 {
     twice(DmReply::Attr {
         size: files.body(handle.key).len(),

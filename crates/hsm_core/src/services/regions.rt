@@ -1,9 +1,10 @@
 //! Calls on the regions of a live file.
 ghost use Rattle.std.specs.Prelude.{◌≡◌, ℕ, false, IsSome, IfOk};
+ghost use Rattle.hsm_types.specs.Messages.{no_token};
 ghost use Rattle.hsm_types.specs.declared.dm.DmCall.TheVariants.{SetRegion, GetRegion};
 ghost use Rattle.plain_model.specs.Keyed.{find_key};
 ghost use Rattle.file_store.specs.Stores.{Proceeds};
-ghost use Rattle.hsm_core.specs.Services.{null, AreOf, service_on, IsServed};
+ghost use Rattle.hsm_core.specs.Services.{AreOf, service_on, IsServed};
 
 use crate::services::replies::{changed, twice};
 use disk_model::Disk;
@@ -22,7 +23,7 @@ pub(crate) fn set<D: Disk>(
     requires working { files.old.failed ≡ false }
     requires live { IsSome (find_key (λ f. f.key) handle.key files.old.held.files) }
     requires idle { Proceeds D.Disk files.old number files.old }
-    ensures { IsServed D.Disk files.old number (SetRegion null handle regions.now) result files.new }
+    ensures { IsServed D.Disk files.old number (SetRegion no_token handle regions.now) result files.new }
 {
     let regions = regions.clone()?;
     changed(files.set_regions(alloc, handle.key, regions, number))
@@ -34,7 +35,7 @@ pub(crate) fn list<D: Disk>(
     handle: Handle,
 ) -> Result<(DmReply, DmReply), AllocError>
     requires { IsSome (find_key (λ f. f.key) handle.key files.now.held.files) }
-    ensures { IfOk result (λ r. AreOf (service_on files.now (GetRegion null handle)) r) }
+    ensures { IfOk result (λ r. AreOf (service_on files.now (GetRegion no_token handle)) r) }
 {
     let regions = files.meta().catalog().regions(handle.key).unwrap().list();
     twice(DmReply::Regions(regions.clone()?))

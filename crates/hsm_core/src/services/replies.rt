@@ -1,6 +1,6 @@
 //! Replies as they are given: twice.
 ghost use Rattle.std.specs.Prelude.{◌≡◌, IfOk};
-ghost use Rattle.hsm_core.specs.Ends.{AreBoth};
+ghost use Rattle.dm_service.specs.Services.{AreBoth};
 ghost use Rattle.hsm_core.specs.Services.{replies_to};
 
 use file_store::StoreRefusal;

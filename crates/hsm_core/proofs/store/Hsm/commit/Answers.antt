@@ -12,10 +12,10 @@ use Rattle.hsm_core.proofs.store.Hsm.commit.Goals as goal
 
 -- the store before the commit, and after it
 abbrev before : (g : Over) → After-keep g → Store g.row.D.Denot
-before g c = record { opened = c.self.inside.opened.value; files = c.self.inside.files; stamps = c.self.inside.stamps.entries; tables = c.self.inside.tables; history = c.self.inside.history.items }
+before g c = record { opened = c.self.inside.opened.value; files = c.self.inside.files; stamps = c.self.inside.stamps.entries; tables = c.self.inside.service; history = c.self.inside.history.items }
 
 abbrev after : (g : Over) → After-keep g → Store g.row.D.Denot
-after g c = record { opened = c.self.inside.opened.value; files = c.commit-done.new.files; stamps = c.self.inside.stamps.entries; tables = c.self.inside.tables; history = c.keep.new.history.items }
+after g c = record { opened = c.self.inside.opened.value; files = c.commit-done.new.files; stamps = c.self.inside.stamps.entries; tables = c.self.inside.service; history = c.keep.new.history.items }
 
 keeps : (g : Over) (c : After-keep g) → Keeps c.make_ready.new.history.items TheStore Commit (λ (r : Reply). Replied r) c.commit-done.result c.keep.result c.keep.new.history.items
 keeps g c = record {
@@ -31,7 +31,7 @@ next g c =
     (record {
       exact = refl;
       replies = c.commit-done.ensures.reply;
-      leaves = (always c.commit-done.result (λ i. state_with (c.commit-done.ensures.held i) c.self.inside.stamps.entries c.self.inside.tables (c.self.inside.base + c.len.result + 1))).0;
+      leaves = (always c.commit-done.result (λ i. state_with (c.commit-done.ensures.held i) c.self.inside.stamps.entries c.self.inside.service (c.self.inside.base + c.len.result + 1))).0;
       stamps = (always c.commit-done.result refl).1;
       tables = (always c.commit-done.result refl).1;
       synced = λ syncs. c.commit-done.ensures.synced;
@@ -41,7 +41,7 @@ next g c =
 
 pub returns-in-Err-clause-committed : goal.returns-in-Err-clause-committed
 returns-in-Err-clause-committed g c =
-    let s : Store g.row.D.Denot = record { opened = c.self.inside.opened.value; files = c.self.inside.files; stamps = c.self.inside.stamps.entries; tables = c.self.inside.tables; history = c.self.inside.history.items } in
+    let s : Store g.row.D.Denot = record { opened = c.self.inside.opened.value; files = c.self.inside.files; stamps = c.self.inside.stamps.entries; tables = c.self.inside.service; history = c.self.inside.history.items } in
     let t : Store g.row.D.Denot = record s { stamps = c.self.inside.stamps.entries; history = c.make_ready.new.history.items } in
     subst (λ (old : Store g.row.D.Denot). IsCommitted g.D.Disk old c.undone.result t) c.self.view_is
     (not_begun g.D.Disk s c.self.invariant.0 c.self.invariant.1 c.self.inside.stamps.entries c.make_ready.new.history.items refl c.make_ready.ensures.same TheStore Commit tt (Replied c.undone.result) c.in-Err.why c.make_ready.ensures.idle
@@ -52,7 +52,7 @@ invariant_of-self-2 g c =
     let at = (goal.at.invariant_of-self-2 g c).After-keep in
     let is = next g at in
     let more = one_more c.make_ready.new.history.items c.keep.new.history.items TheStore Commit (λ (r : Reply). Replied r) c.commit-done.result c.keep.result c.commit-done.ensures.ends.no_part (keeps g at) in
-    (is.0, is.1, c.self.invariant.2, c.self.invariant.3, c.self.invariant.4, omega (arith, more, c.in_default.ensures.room.0, c.keep.ensures.room))
+    (is.0, is.1, c.self.invariant.2, c.self.invariant.3, omega (arith, more, c.in_default.ensures.room.0, c.keep.ensures.room, c.awaited-awaited.ensures.count), c.self.invariant.5)
 
 pub returns-clause-committed : goal.returns-clause-committed
 returns-clause-committed g c = subst (λ (old : Store g.row.D.Denot). IsCommitted g.D.Disk old c.keep.result (after g (goal.at.returns-clause-committed g c).After-keep)) c.self.view_is (next g (goal.at.returns-clause-committed g c).After-keep).2

@@ -1,25 +1,26 @@
-use Rattle.std.proofs.Common.{◌≡◌, ◌+◌, ◌≤◌, true, false, refl, sym, ◌∙◌, ap, subst, arith}
+use Rattle.std.proofs.Common.{◌≡◌, ◌+◌, true, false, refl, ap, subst, arith}
 use Rattle.hsm_types.specs.declared.dm.DmReply.{DmReply}
 use Rattle.hsm_types.specs.declared.dm.DmReply.TheVariants.{Done as DmDone}
 use Rattle.plain_model.specs.declared.entries.Actor.TheVariants.{Session}
 use Rattle.plain_model.specs.declared.entries.Action.TheVariants.{Dm}
 use Rattle.plain_model.specs.declared.entries.Answer.TheVariants.{Dm as Told}
-use Rattle.hsm_core.specs.Services.{is_due, entries_for, awaited_after}
-use Rattle.hsm_core.specs.Store.{Store, state_with, awaited_in}
-use Rattle.hsm_core.proofs.Awaiting.{in_order, told_awaits, has_room, due_done, told_done}
+use Rattle.dm_service.specs.Services.{is_due}
+use Rattle.dm_service.proofs.Anywhere.{due_done}
+use Rattle.dm_service.proofs.Ledgers.{ordered_in}
+use Rattle.hsm_core.specs.Store.{Store, state_with}
 use Rattle.file_store.specs.Stores.{superblock_of}
 use Rattle.hsm_core.specs.Answers.{IsTold}
-use Rattle.hsm_core.proofs.Events.{event, always, not_begun, one_more, IsNext, Keeps}
+use Rattle.hsm_core.proofs.Events.{event, always, lasting, room_served, told_done, not_begun, one_more, IsNext, Keeps}
 use Rattle.hsm_core.proofs.store.Hsm.dm.Given.{Over}
-use Rattle.hsm_core.proofs.store.Hsm.dm.Goals.{After-serve-done, After-keep_dm}
+use Rattle.hsm_core.proofs.store.Hsm.dm.Goals.{After-keep_dm}
 use Rattle.hsm_core.proofs.store.Hsm.dm.Goals as goal
 
 -- the store before the call, and after it
 abbrev before : (g : Over) → After-keep_dm g → Store g.row.D.Denot
-before g c = record { opened = c.self.inside.opened.value; files = c.self.inside.files; stamps = c.self.inside.stamps.entries; tables = c.self.inside.tables; history = c.self.inside.history.items }
+before g c = record { opened = c.self.inside.opened.value; files = c.self.inside.files; stamps = c.self.inside.stamps.entries; tables = c.self.inside.service; history = c.self.inside.history.items }
 
 abbrev after : (g : Over) → After-keep_dm g → Store g.row.D.Denot
-after g c = record { opened = c.self.inside.opened.value; files = c.serve-done.new.files; stamps = c.self.inside.stamps.entries; tables = c.serve-done.new.tables; history = c.keep_dm.new.history.items }
+after g c = record { opened = c.self.inside.opened.value; files = c.serve-done.new.files; stamps = c.self.inside.stamps.entries; tables = c.serve-done.new.service; history = c.keep_dm.new.history.items }
 
 keeps : (g : Over) (c : After-keep_dm g) → Keeps c.make_ready.new.history.items (Session c.args.sid) (Dm c.args.call) (λ (r : DmReply). Told r) c.serve-done.result c.keep_dm.result c.keep_dm.new.history.items
 keeps g c = record {
@@ -45,7 +46,7 @@ next g c =
 
 pub returns-in-Err-clause-told : goal.returns-in-Err-clause-told
 returns-in-Err-clause-told g c =
-    let s : Store g.row.D.Denot = record { opened = c.self.inside.opened.value; files = c.self.inside.files; stamps = c.self.inside.stamps.entries; tables = c.self.inside.tables; history = c.self.inside.history.items } in
+    let s : Store g.row.D.Denot = record { opened = c.self.inside.opened.value; files = c.self.inside.files; stamps = c.self.inside.stamps.entries; tables = c.self.inside.service; history = c.self.inside.history.items } in
     let t : Store g.row.D.Denot = record s { stamps = c.self.inside.stamps.entries; history = c.make_ready.new.history.items } in
     subst (λ (old : Store g.row.D.Denot). IsTold g.D.Disk old c.args.sid c.args.call c.unserved.result t) c.self.view_is
     (not_begun g.D.Disk s c.self.invariant.0 c.self.invariant.1 c.self.inside.stamps.entries c.make_ready.new.history.items refl c.make_ready.ensures.same (Session c.args.sid) (Dm c.args.call) tt (Told c.unserved.result) c.in-Err.why c.make_ready.ensures.idle
@@ -55,39 +56,22 @@ pub serve-done-requires-clause-idle : goal.serve-done-requires-clause-idle
 serve-done-requires-clause-idle g c = c.make_ready.ensures.idle c.in_default.ensures.working _
 
 pub serve-done-requires-clause-ordered : goal.serve-done-requires-clause-ordered
-serve-done-requires-clause-ordered g c =
-    in_order (record { opened = c.self.inside.opened.value; files = c.self.inside.files; stamps = c.self.inside.stamps.entries; tables = c.self.inside.tables; history = c.self.inside.history.items })
-    c.self.invariant.0 c.in_default.ensures.working c.self.inside.files.held c.self.inside.stamps.entries _
-
--- how many responses may come after it, and that there is room for each
-counted : (g : Over) (c : After-serve-done g) → (awaited_in c.serve-done.new.tables ≡ awaited_after c.args.call c.serve-done.result (awaited_in c.self.inside.tables))
-    × (awaited_after c.args.call c.serve-done.result (awaited_in c.self.inside.tables) + 1 ≤ awaited_in c.self.inside.tables + entries_for c.self.inside.tables.sessions c.args.sid c.args.call)
-counted g c =
-    let s : Store g.row.D.Denot = record { opened = c.self.inside.opened.value; files = c.self.inside.files; stamps = c.self.inside.stamps.entries; tables = c.self.inside.tables; history = c.self.inside.history.items } in
-    let is = told_awaits (superblock_of c.self.inside.files) c.self.inside.files.held c.serve-done.new.files.held c.self.inside.stamps.entries c.self.inside.tables c.serve-done.new.tables _ c.args.sid c.args.call
-    (in_order s c.self.invariant.0 c.in_default.ensures.working c.self.inside.files.held c.self.inside.stamps.entries _)
-    c.serve-done.result c.serve-done.ensures.replies c.serve-done.ensures.left c.serve-done.ensures.err in
-    (is.0, has_room c.self.inside.tables.sessions c.args.sid c.args.call c.serve-done.result (awaited_in c.self.inside.tables) c.serve-done.ensures.responds is.1)
-
-pub keep_dm-requires : goal.keep_dm-requires
-keep_dm-requires g c =
-    let count = counted g (goal.at.keep_dm-requires g c).After-serve-done in
-    omega (arith, count.1, c.in_default.ensures.room.0, c.self.invariant.4, c.entries_for-more.ensures)
+serve-done-requires-clause-ordered g c = ordered_in c.self.inside.service _ c.self.inside.files.held _ _ 0 _ c.awaited-awaited.ensures.ordered
 
 pub invariant_of-self-2 : goal.invariant_of-self-2
 invariant_of-self-2 g c =
     let at = (goal.at.invariant_of-self-2 g c).After-keep_dm in
     let is = next g at in
-    let count = counted g (goal.at.invariant_of-self-2 g c).After-serve-done in
-    let after : c.awaited_after-self-inside.result ≡ awaited_after c.args.call c.serve-done.result (awaited_in c.self.inside.tables) =
-    c.awaited_after-self-inside.ensures ∙ ap (λ n. awaited_after c.args.call c.serve-done.result n) c.self.invariant.4 in
     let more = one_more c.make_ready.new.history.items c.keep_dm.new.history.items (Session c.args.sid) (Dm c.args.call) (λ (r : DmReply). Told r) c.serve-done.result c.keep_dm.result c.serve-done.ensures.ends.no_part (keeps g at) in (
       is.0,
       is.1,
       c.self.invariant.2,
       c.self.invariant.3,
-      after ∙ sym count.0,
-      omega (arith, more, after, count.1, c.in_default.ensures.room.0, c.keep_dm.ensures.room, c.self.invariant.4, c.entries_for-more.ensures),
+      (
+          let fewer = room_served c.self.inside.service c.serve-done.new.service c.args.sid c.args.call c.serve-done.result c.serve-done.ensures.room c.serve-done.ensures.err c.serve-done.ensures.responds in
+          omega (arith, more, fewer, c.awaited-awaited.ensures.count, c.in_default.ensures.room.0, c.keep_dm.ensures.room, c.entries_for-more.ensures)
+          ),
+      lasting _ c.self.inside.files.held _ _ _ _ c.self.inside.service c.serve-done.new.service (Session c.args.sid) (Dm c.args.call) c.serve-done.result c.serve-done.ensures.left c.serve-done.ensures.err c.self.invariant.5,
     )
 
 pub returns-clause-told : goal.returns-clause-told
@@ -103,5 +87,5 @@ pub returns-clause-responds : goal.returns-clause-responds
 returns-clause-responds g c =
     subst (λ (old : Store g.row.D.Denot). is_due old.tables.sessions c.args.sid c.args.call ≡ true → old.files.failed ≡ false → c.keep_dm.result ≡ DmDone) c.self.view_is
     (λ due working.
-    told_done _ c.serve-done.result _ c.keep_dm.result (c.serve-done.ensures.responds due) c.serve-done.ensures.replies c.keep_dm.ensures.kept
-    (due_done (superblock_of c.self.inside.files) (state_with c.self.inside.files.held c.self.inside.stamps.entries c.self.inside.tables (c.self.inside.base + c.len.result)) c.args.sid c.args.call due))
+    told_done _ c.serve-done.result _ c.keep_dm.result DmDone (c.serve-done.ensures.responds due) c.serve-done.ensures.replies c.keep_dm.ensures.kept
+    (due_done (superblock_of c.self.inside.files) (state_with c.self.inside.files.held c.self.inside.stamps.entries c.self.inside.service (c.self.inside.base + c.len.result)) c.args.sid c.args.call due))

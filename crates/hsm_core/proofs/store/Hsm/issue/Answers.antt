@@ -1,48 +1,50 @@
 use Rattle.std.proofs.Common.{refl, ap, subst, arith}
+use Rattle.hsm_types.specs.declared.calls.Call.{Call}
 use Rattle.hsm_types.specs.declared.calls.Reply.{Reply}
 use Rattle.plain_model.specs.declared.entries.Actor.TheVariants.{Caller}
 use Rattle.plain_model.specs.declared.entries.Action.TheVariants.{Issue}
 use Rattle.plain_model.specs.declared.entries.Answer.TheVariants.{Call as Replied}
+use Rattle.dm_service.proofs.Ledgers.{ordered_in}
+use Rattle.file_store.specs.Stores.{superblock_of}
 use Rattle.hsm_core.specs.Store.{Store}
 use Rattle.hsm_core.specs.Answers.{IsAnswered}
-use Rattle.hsm_core.proofs.Syncs.{sync_only}
-use Rattle.hsm_core.proofs.Events.{event, always, not_begun, one_more, IsNext, Keeps}
+use Rattle.hsm_core.proofs.Events.{event, lasting, room_after, not_begun, one_more, IsNext, Keeps}
 use Rattle.hsm_core.proofs.store.Hsm.issue.Given.{Over}
 use Rattle.hsm_core.proofs.store.Hsm.issue.Goals.{After-keep}
 use Rattle.hsm_core.proofs.store.Hsm.issue.Goals as goal
 
 -- the store before the event, and after it
 abbrev before : (g : Over) → After-keep g → Store g.row.D.Denot
-before g c = record { opened = c.self.inside.opened.value; files = c.self.inside.files; stamps = c.self.inside.stamps.entries; tables = c.self.inside.tables; history = c.self.inside.history.items }
+before g c = record { opened = c.self.inside.opened.value; files = c.self.inside.files; stamps = c.self.inside.stamps.entries; tables = c.self.inside.service; history = c.self.inside.history.items }
 
 abbrev after : (g : Over) → After-keep g → Store g.row.D.Denot
-after g c = record { opened = c.self.inside.opened.value; files = c.answer-done.new.files; stamps = c.answer-done.new.stamps.entries; tables = c.self.inside.tables; history = c.keep.new.history.items }
+after g c = record { opened = c.self.inside.opened.value; files = c.answer-done.new.files; stamps = c.answer-done.new.stamps.entries; tables = c.answer-done.new.service; history = c.keep.new.history.items }
 
-keeps : (g : Over) (c : After-keep g) → Keeps c.make_ready_for_access.new.history.items (Caller c.args.caller) (Issue c.args.call) (λ (r : Reply). Replied r) c.answer-done.result c.keep.result c.keep.new.history.items
+keeps : (g : Over) (c : After-keep g) → Keeps c.make_ready_for_access.new.history.items (Caller c.args.caller) (Issue c.issued-access.result.call) (λ (r : Reply). Replied r) c.answer-done.result c.keep.result c.keep.new.history.items
 keeps g c = record {
   kept = c.keep.ensures.kept;
   memory = λ lacks. (ap (λ (r : Reply). Replied r) (c.keep.ensures.memory lacks).0, (c.keep.ensures.memory lacks).1);
   failed = λ fails. (ap (λ (r : Reply). Replied r) (c.keep.ensures.failed fails).0, (c.keep.ensures.failed fails).1);
 }
 
-next : (g : Over) (c : After-keep g) → IsNext g.D.Disk (before g c) (Caller c.args.caller) (Issue c.args.call) (Replied c.keep.result) (after g c)
+next : (g : Over) (c : After-keep g) → IsNext g.D.Disk (before g c) (Caller c.args.caller) (Issue c.issued-access.result.call) (Replied c.keep.result) (after g c)
 next g c =
     event g.D.Disk (before g c) c.self.invariant.0 c.self.invariant.1 c.make_ready_for_access.new.stamps.entries c.make_ready_for_access.new.history.items c.make_ready_for_access.ensures.stamps c.make_ready_for_access.ensures.same (after g c) c.in_default.ensures.working refl
-    (Caller c.args.caller) (Issue c.args.call) tt (λ (r : Reply). Replied r) _ c.keep.result _ (omega (arith, c.self.invariant.2, c.len.ensures)) c.answer-done.result
+    (Caller c.args.caller) (Issue c.issued-access.result.call) tt (λ (r : Reply). Replied r) _ c.keep.result _ (omega (arith, c.self.invariant.2, c.len.ensures)) c.answer-done.result
     (record {
       exact = refl;
-      replies = c.answer-done.ensures.replies c.self.inside.tables;
-      leaves = c.answer-done.ensures.left c.self.inside.tables c.args.caller;
-      stamps = c.answer-done.ensures.unstamped;
-      tables = (always c.answer-done.result refl).1;
-      synced = λ syncs. c.answer-done.ensures.synced (sync_only c.args.call _ syncs);
-      ends = c.answer-done.ensures.ends;
+      replies = c.answer-done.ensures.replied.replies;
+      leaves = c.answer-done.ensures.replied.left;
+      stamps = c.answer-done.ensures.replied.unstamped;
+      tables = c.answer-done.ensures.replied.err;
+      synced = c.answer-done.ensures.synced;
+      ends = c.answer-done.ensures.replied.ends;
     })
     (keeps g c)
 
 pub returns-in-Err-clause-answered : goal.returns-in-Err-clause-answered
 returns-in-Err-clause-answered g c =
-    let s : Store g.row.D.Denot = record { opened = c.self.inside.opened.value; files = c.self.inside.files; stamps = c.self.inside.stamps.entries; tables = c.self.inside.tables; history = c.self.inside.history.items } in
+    let s : Store g.row.D.Denot = record { opened = c.self.inside.opened.value; files = c.self.inside.files; stamps = c.self.inside.stamps.entries; tables = c.self.inside.service; history = c.self.inside.history.items } in
     let t : Store g.row.D.Denot = record s { stamps = c.make_ready_for_access.new.stamps.entries; history = c.make_ready_for_access.new.history.items } in
     subst (λ (old : Store g.row.D.Denot). IsAnswered g.D.Disk old c.args.caller c.args.call c.undone.result t) c.self.view_is
     (not_begun g.D.Disk s c.self.invariant.0 c.self.invariant.1 c.make_ready_for_access.new.stamps.entries c.make_ready_for_access.new.history.items c.make_ready_for_access.ensures.stamps c.make_ready_for_access.ensures.same (Caller c.args.caller) (Issue c.args.call) tt (Replied c.undone.result) c.in-Err.why c.make_ready_for_access.ensures.idle
@@ -51,15 +53,30 @@ returns-in-Err-clause-answered g c =
 pub answer-done-requires-clause-idle : goal.answer-done-requires-clause-idle
 answer-done-requires-clause-idle g c = c.make_ready_for_access.ensures.idle c.in_default.ensures.working _
 
+pub answer-done-requires-clause-ordered : goal.answer-done-requires-clause-ordered
+answer-done-requires-clause-ordered g c = ordered_in c.self.inside.service _ c.self.inside.files.held _ _ 0 _ c.awaited-awaited.ensures.ordered
+
 pub invariant_of-self-2 : goal.invariant_of-self-2
 invariant_of-self-2 g c =
     let at = (goal.at.invariant_of-self-2 g c).After-keep in
     let is = next g at in
-    let more = one_more c.make_ready_for_access.new.history.items c.keep.new.history.items (Caller c.args.caller) (Issue c.args.call) (λ (r : Reply). Replied r) c.answer-done.result c.keep.result c.answer-done.ensures.ends.no_part (keeps g at) in
-    (is.0, is.1, c.self.invariant.2, c.self.invariant.3, c.self.invariant.4, omega (arith, more, c.in_default.ensures.room.0, c.keep.ensures.room))
+    let more = one_more c.make_ready_for_access.new.history.items c.keep.new.history.items (Caller c.args.caller) (Issue c.issued-access.result.call) (λ (r : Reply). Replied r) c.answer-done.result c.keep.result c.answer-done.ensures.replied.ends.no_part (keeps g at) in (
+      is.0,
+      is.1,
+      c.self.invariant.2,
+      c.self.invariant.3,
+      (
+          let fewer = room_after c.self.inside.service c.answer-done.new.service 2 c.answer-done.result c.answer-done.ensures.room c.answer-done.ensures.replied.err in
+          omega (arith, more, fewer, c.awaited-awaited.ensures.count, c.in_default.ensures.room.0, c.keep.ensures.room)
+          ),
+      lasting (superblock_of c.self.inside.files) c.self.inside.files.held _ _ _ _ c.self.inside.service c.answer-done.new.service (Caller c.args.caller) (Issue c.issued-access.result.call) c.answer-done.result c.answer-done.ensures.replied.left c.answer-done.ensures.replied.err c.self.invariant.5,
+    )
 
 pub returns-clause-answered : goal.returns-clause-answered
-returns-clause-answered g c = subst (λ (old : Store g.row.D.Denot). IsAnswered g.D.Disk old c.args.caller c.args.call c.keep.result (after g (goal.at.returns-clause-answered g c).After-keep)) c.self.view_is (next g (goal.at.returns-clause-answered g c).After-keep).2
+returns-clause-answered g c =
+    subst (λ (old : Store g.row.D.Denot). IsAnswered g.D.Disk old c.args.caller c.args.call c.keep.result (after g (goal.at.returns-clause-answered g c).After-keep)) c.self.view_is
+    (subst (λ (call : Call). IsAnswered g.D.Disk (before g (goal.at.returns-clause-answered g c).After-keep) c.args.caller call c.keep.result (after g (goal.at.returns-clause-answered g c).After-keep)) c.issued-access.ensures.call
+    (next g (goal.at.returns-clause-answered g c).After-keep).2)
 
 pub returns-clause-safe : goal.returns-clause-safe
 returns-clause-safe g c = (next g (goal.at.returns-clause-safe g c).After-keep).1.now

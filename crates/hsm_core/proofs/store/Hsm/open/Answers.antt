@@ -1,18 +1,17 @@
-use Rattle.std.proofs.Common.{sym, refl, ◌∙◌, ap, arith}
+use Rattle.std.proofs.Common.{sym, ◌∙◌, ap, arith}
 use Rattle.meta_store.specs.Meta.{Meta}
-use Rattle.hsm_types.specs.Sessions.{SessionTable}
 use Rattle.hsm_core.specs.Store.{Store}
-use Rattle.hsm_core.proofs.Runs.{HasRun-opened}
+use Rattle.hsm_core.proofs.Runs.{HasRun-opened, new_awaited, new_lasts}
 use Rattle.hsm_core.proofs.Safety.{safe_opened}
 use Rattle.hsm_core.proofs.store.Hsm.open.Goals as goal
 
 pub invariant_of-result : goal.invariant_of-result
 invariant_of-result g c =
-    let s : Store g.row.D.Denot = record { opened = c.of.result.value; files = c.in-Ok-open.files; stamps = c.new-in-Ok-open.result.entries; tables = record { sessions = c.in-Ok.sessions; tokens = 0 }; history = c.new-in-Ok-open-2.result.items } in (
-      HasRun-opened s c.of.ensures c.new-in-Ok-open-2.ensures.items c.new-in-Ok-open.ensures.empty (ap (λ (t : SessionTable). record { sessions = t; tokens = 0 }) c.in-Ok.ensures) c.in-Ok-open.ensures.lawful.opening,
+    let s : Store g.row.D.Denot = record { opened = c.of.result.value; files = c.in-Ok-open.files; stamps = c.new-in-Ok-open.result.entries; tables = c.in-Ok.service; history = c.new-in-Ok-open-2.result.items } in (
+      HasRun-opened s c.of.ensures c.new-in-Ok-open-2.ensures.items c.new-in-Ok-open.ensures.empty c.in-Ok.ensures c.in-Ok-open.ensures.lawful.opening,
       safe_opened g.D.Disk s c.of.ensures c.new-in-Ok-open-2.ensures.items c.in-Ok-open.ensures.found.1 c.in-Ok-open.ensures.found.0 c.in-Ok-open.ensures.durable (g.met.D.Disk.only_now c.in-Ok-open.files.disk),
       c.number.ensures.number ∙ ap (λ (m : Meta). m.number) c.meta.ensures.meta ∙ sym (ap (λ f. f.meta.number) c.of.ensures),
       c.number.ensures.within,
-      refl,
-      omega arith,
+      omega (arith, new_awaited c.in-Ok.service c.in-Ok.ensures),
+      new_lasts c.in-Ok.service c.in-Ok.ensures,
     )

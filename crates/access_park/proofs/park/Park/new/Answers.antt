@@ -1,0 +1,9 @@
+use Rattle.std.proofs.Common.{refl}
+use Rattle.access_park.proofs.Tables.{access_of-empty, table-empty}
+use Rattle.access_park.proofs.park.Park.new.Goals as goal
+
+pub invariant_of-result : goal.invariant_of-result
+invariant_of-result c = rw c.in_ok-slots.ensures (table-empty 65 refl)
+
+pub returns : goal.returns
+returns c = rw c.in_ok-slots.ensures (access_of-empty 65)

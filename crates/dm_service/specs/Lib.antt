@@ -1,0 +1,4 @@
+pub mod Tables
+pub mod Services
+pub mod Parking
+pub mod Judging

@@ -1,0 +1,93 @@
+//! The rules by which an access is judged. The first that applies decides.
+ghost use Rattle.std.specs.Prelude.{◌≡◌};
+ghost use Rattle.std.specs.Option.{option_map};
+ghost use Rattle.plain_model.specs.Accesses.{kind_of};
+ghost use Rattle.plain_model.specs.Ledger.{aborted, gone};
+ghost use Rattle.plain_model.specs.Verdict.{Ends, Rules, touching, lacking, judgement};
+ghost use Rattle.dm_service.specs.Tables.{flags_in};
+ghost use Rattle.dm_service.specs.Judging.{verdict_of, said};
+
+use crate::service::DmService;
+use crate::verdict::Verdict;
+use access_park::Access;
+use dm_sessions::Sessions;
+use hsm_types::{Call, Kind, Response};
+use plain_model::Facts;
+
+impl DmService {
+    /// Judges an access of which the store knows these facts: when it is issued, and again when it is resumed. It takes no memory.
+    pub fn judge(&self, access: &Access, facts: &Facts) -> Verdict
+        ensures { result ≡ verdict_of (judgement (flags_in access.now) access.now.answer facts.now self.now.sessions access.now.call) }
+    {
+        if let Some(verdict) = judge_answer(access) {
+            return verdict;
+        }
+        if let Some(verdict) = judge_file(facts) {
+            return verdict;
+        }
+        if let Some(verdict) = judge_regions(access, facts) {
+            return verdict;
+        }
+        if let Some(verdict) = judge_space(access, facts, &self.sessions) {
+            return verdict;
+        }
+        Verdict::Complete
+    }
+}
+
+/// An abort ends it.
+fn judge_answer(access: &Access) -> Option<Verdict>
+    ensures { result ≡ said (option_map Ends (aborted access.now.answer)) }
+{
+    match access.answer {
+        Some(Response::Abort(error)) => Some(Verdict::Answered(Response::Abort(error))),
+        _ => None,
+    }
+}
+
+/// So does the end of its file.
+fn judge_file(facts: &Facts) -> Option<Verdict>
+    ensures { result ≡ said (option_map Ends (gone facts.now.live)) }
+{
+    if facts.live {
+        None
+    } else {
+        Some(Verdict::Missing)
+    }
+}
+
+/// It asks where it touches a region with its flag, unless an event of it was continued.
+fn judge_regions(access: &Access, facts: &Facts) -> Option<Verdict>
+    ensures { result ≡ said (option_map Rules (touching (flags_in access.now) facts.now access.now.call)) }
+{
+    if access.cleared || !facts.touches {
+        return None;
+    }
+    kind_of(&access.call).map(Verdict::Post)
+}
+
+/// Where it is short of space it asks for space once, if a session takes such events, and else it ends.
+fn judge_space(access: &Access, facts: &Facts, sessions: &Sessions) -> Option<Verdict>
+    ensures { result ≡ said (option_map Rules (lacking (flags_in access.now) facts.now sessions.now)) }
+{
+    let room = facts.short?;
+    if !access.spaced && sessions.taker(Kind::NoSpace).is_some() {
+        return Some(Verdict::Post(Kind::NoSpace));
+    }
+    Some(Verdict::NoSpace {
+        need: room.need,
+        free: room.free,
+    })
+}
+
+/// Of which kind the event of the access is.
+pub fn kind_of(call: &Call) -> Option<Kind>
+    ensures { result ≡ kind_of call.now }
+{
+    match call {
+        Call::Read { .. } => Some(Kind::Read),
+        Call::Write { .. } => Some(Kind::Write),
+        Call::Truncate { .. } => Some(Kind::Truncate),
+        _ => None,
+    }
+}

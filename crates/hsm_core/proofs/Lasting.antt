@@ -1,0 +1,127 @@
+-- A call that waits is on a file and was judged to be within bounds: after each event.
+use Rattle.std.proofs.Common.{◌≡◌, ℕ, [], ◌∷◌, Bool, true, false, Option, Some, None, refl, sym, subst, arith}
+use Rattle.std.proofs.lemmas.Bool.Decides.{nat_tests}
+use Rattle.std.specs.Prelude.{◌==◌, ◌&&◌, not, nat_lt, if◌then◌else◌, IfSome}
+use Rattle.hsm_types.specs.Refusals.{first_refusal}
+use Rattle.hsm_types.specs.declared.keys.FileKey.{FileKey}
+use Rattle.hsm_types.specs.declared.keys.Token.{Token}
+use Rattle.hsm_types.specs.declared.stores.Superblock.{Superblock}
+use Rattle.hsm_types.specs.declared.calls.Call.{Call}
+use Rattle.hsm_types.specs.declared.calls.Call.TheVariants.{Create, Read, Stat, Sync}
+use Rattle.hsm_types.specs.declared.calls.CallRefusal.{CallRefusal}
+use Rattle.hsm_types.specs.declared.calls.CallRefusal.TheVariants.{Waiting, Idle}
+use Rattle.hsm_types.specs.declared.calls.Reply.{Reply}
+use Rattle.hsm_types.specs.declared.calls.Reply.TheVariants.{Still, Refused}
+use Rattle.hsm_types.specs.declared.dm.DmCall.{DmCall}
+use Rattle.hsm_types.specs.declared.dm.DmCall.TheVariants.{Respond, CreateUserEvent, GetSpace}
+use Rattle.hsm_types.specs.declared.dm.DmRefusal.{DmRefusal}
+use Rattle.hsm_types.specs.declared.dm.DmReply.{DmReply}
+use Rattle.hsm_types.specs.declared.dm.DmReply.TheVariants as told
+use Rattle.hsm_types.specs.declared.dm.Kind.{Kind}
+use Rattle.hsm_types.specs.declared.dm.Kind.TheVariants as kinds
+use Rattle.hsm_types.specs.declared.dm.Response.{Response}
+use Rattle.plain_model.specs.declared.entries.Actor.{Actor}
+use Rattle.plain_model.specs.declared.entries.Actor.TheVariants.{Caller, Session}
+use Rattle.plain_model.specs.declared.entries.Action.{Action}
+use Rattle.plain_model.specs.declared.entries.Action.TheVariants.{Issue, Resume, Dm}
+use Rattle.plain_model.specs.declared.facts.NoRoom.{NoRoom}
+use Rattle.plain_model.specs.Keyed.{set_at}
+use Rattle.plain_model.specs.Ledger.{Access, Ledger, Meant, Fixed, Means, issued, goes_on, resumed, objection_again, kept, waits_for, answered, ledger_told}
+use Rattle.plain_model.specs.Plain.{refusal_of}
+use Rattle.plain_model.specs.State.{Flags, State, names_of}
+use Rattle.plain_model.specs.Verdict.{Posts, Lacks, Verdict, posts, without_room, short_of, is_taken, facts_of, shortage, verdict, flags_now, left_by_verdict, state_where}
+use Rattle.plain_model.specs.Services.{service, dm_judged, dm_state_where}
+use Rattle.plain_model.specs.Exact.{left_own}
+use Rattle.hsm_core.specs.Targets.{MayLast, EachLasts}
+use Rattle.hsm_core.proofs.Targets.{bounded}
+
+abbrev Lasts : Option Access → Type 0
+Lasts waits = IfSome waits (λ a. MayLast a.call)
+
+-- of whoever waits then
+at_caller : (c d : ℕ) (left : Option Access) (pending : ℕ → Option Access) → Lasts left → Lasts (pending d) → Lasts (set_at c left pending d)
+at_caller c d left pending here there = elim (d == c) as (λ b. Lasts (if b then left else pending d)) [ true ↦ here | false ↦ there ]
+
+kept_lasts : (reply : Reply) (waits : Option Access) → Lasts waits → Lasts (kept reply waits)
+kept_lasts (Still t) waits is = is
+kept_lasts (Refused Waiting) waits is = is
+kept_lasts (Refused Idle) waits is = is
+kept_lasts reply waits is = tt
+
+-- ---- a caller's event
+
+verdict_lasts : (s : Superblock) (st : State) (c : ℕ) (fl : Flags) (k : FileKey) (call : Call) (v : Verdict) → EachLasts st.ledger → ((kind : Kind) → v ≡ Some (Posts kind) → MayLast call) → EachLasts (left_by_verdict s st c fl k call v).ledger
+verdict_lasts s st c fl k call (Some (Posts kind)) is may d = at_caller c d _ st.ledger.pending (may kind refl) (is d)
+verdict_lasts s st c fl k call (Some (Lacks need free)) is may d = at_caller c d _ st.ledger.pending tt (is d)
+verdict_lasts s st c fl k (Create name) None is may d = at_caller c d _ st.ledger.pending tt (is d)
+verdict_lasts s st c fl k (Read name offset len) None is may d = at_caller c d _ st.ledger.pending tt (is d)
+verdict_lasts s st c fl k (Stat name) None is may d = at_caller c d _ st.ledger.pending tt (is d)
+verdict_lasts s st c fl k call None is may d = at_caller c d _ st.ledger.pending tt (is d)
+
+where_lasts : (s : Superblock) (st : State) (c : ℕ) (fl : Flags) (why : Option CallRefusal) (m : Meant) → EachLasts st.ledger
+    → ((k : FileKey) (call : Call) (kind : Kind) → m ≡ Means k call → why ≡ None → verdict s st fl k call ≡ Some (Posts kind) → MayLast call) → EachLasts (state_where s st c fl why m).ledger
+where_lasts s st c fl why (Fixed reply) is may d = at_caller c d _ st.ledger.pending (kept_lasts reply (st.ledger.pending c) (is c)) (is d)
+where_lasts s st c fl (Some why) (Means k call) is may d = at_caller c d _ st.ledger.pending tt (is d)
+where_lasts s st c fl None (Means k call) is may d = verdict_lasts s st c fl k call (verdict s st fl k call) is (λ kind posts. may k call kind refl refl posts) d
+
+-- creates and syncs post no event
+no_shortage : (free : ℕ) → short_of 0 free ≡ None
+no_shortage free = let none : nat_lt free 0 ≡ false = grind (arith, nat_tests) in rw none refl
+
+none_posted : (asks asks' : Bool) (short : Option NoRoom) (kind : Kind) → short ≡ None → first_refusal (posts asks None ∷ without_room asks' short ∷ []) ≡ Some (Posts kind) → ⊥
+none_posted true asks' None kind none is = cc
+none_posted false asks' None kind none is = cc
+none_posted asks asks' (Some room) kind none is = cc
+
+posted_lasts : (s : Superblock) (st : State) (fl : Flags) (k : FileKey) (call : Call) (kind : Kind) → refusal_of s (names_of st.held.files) call ≡ None → verdict s st fl k call ≡ Some (Posts kind) → MayLast call
+posted_lasts s st fl k (Create name) kind none is =
+    absurd (none_posted (not fl.cleared && (facts_of s st.held k (Create name)).touches) (not fl.spaced && is_taken kinds.NoSpace st.sessions) (shortage s st.held k (Create name)) kind (no_shortage _) is)
+posted_lasts s st fl k Sync kind none is =
+    absurd (none_posted (not fl.cleared && (facts_of s st.held k Sync).touches) (not fl.spaced && is_taken kinds.NoSpace st.sessions) (shortage s st.held k Sync) kind (no_shortage _) is)
+posted_lasts s st fl k call kind none is = (tt, bounded s (names_of st.held.files) call none)
+
+same_call : (k j : FileKey) (call other : Call) → Means k call ≡ Means j other → call ≡ other
+same_call k j call other is = cc
+
+issue_lasts : (s : Superblock) (st : State) (c : ℕ) (call : Call) (waits : Option Access) → EachLasts st.ledger → EachLasts (state_where s st c (flags_now st c (Issue call)) (refusal_of s (names_of st.held.files) call) (issued (names_of st.held.files) waits call)).ledger
+issue_lasts s st c call None is =
+    where_lasts s st c (flags_now st c (Issue call)) (refusal_of s (names_of st.held.files) call) (issued (names_of st.held.files) None call) is
+    (λ k other kind means none posts.
+    let same = same_call _ k call other means in
+    subst MayLast same (posted_lasts s st (flags_now st c (Issue call)) k call kind none (subst (λ (x : Call). verdict s st (flags_now st c (Issue call)) k x ≡ Some (Posts kind)) (sym same) posts)))
+issue_lasts s st c call (Some a) is =
+    where_lasts s st c (flags_now st c (Issue call)) (refusal_of s (names_of st.held.files) call) (issued (names_of st.held.files) (Some a) call) is (λ k other kind means none posts. absurd cc)
+
+goes_on_lasts : (a : Access) (token : Option Token) (answer : Option Response) (k : FileKey) (call : Call) → goes_on a token answer ≡ Means k call → MayLast a.call → MayLast call
+goes_on_lasts a (Some t) None k call is last = absurd cc
+goes_on_lasts a None answer k call is last = subst MayLast (same_call a.key k a.call call is) last
+goes_on_lasts a (Some t) (Some response) k call is last = subst MayLast (same_call a.key k a.call call is) last
+
+resumed_lasts : (waits : Option Access) (k : FileKey) (call : Call) → resumed waits ≡ Means k call → Lasts waits → MayLast call
+resumed_lasts None k call is last = absurd cc
+resumed_lasts (Some a) k call is last = goes_on_lasts a a.token a.answer k call is last
+
+-- ---- a session's call
+
+answered_lasts : (t : Token) (response : Response) (waits : Option Access) → Lasts waits → Lasts (answered t response waits)
+answered_lasts t response None is = tt
+answered_lasts t response (Some a) is = elim (waits_for t a.token) as (λ b. Lasts (if b then Some (record a { answer = Some response }) else Some a)) [ true ↦ is | false ↦ is ]
+
+told_lasts : (L : Ledger) (call : DmCall) (reply : DmReply) → EachLasts L → EachLasts (ledger_told L call reply)
+told_lasts L (Respond t response) told.Done is c = answered_lasts t response (L.pending c) (is c)
+told_lasts L (CreateUserEvent body) (told.Token t) is c = is c
+told_lasts L GetSpace reply is c = is c
+told_lasts L call reply is c = is c
+
+dm_lasts : (s : Superblock) (st : State) (sid : _) (call : DmCall) (why : Option DmRefusal) → EachLasts st.ledger → EachLasts (dm_state_where why s st sid call).ledger
+dm_lasts s st sid call None is = told_lasts st.ledger call (service s st sid call).reply is
+dm_lasts s st sid call (Some why) is = is
+
+-- ---- any event
+
+pub event_lasts : (s : Superblock) (st : State) (actor : Actor) (action : Action) → EachLasts st.ledger → EachLasts (left_own s st actor action).ledger
+event_lasts s st (Caller c) (Issue call) is = issue_lasts s st c call (st.ledger.pending c) is
+event_lasts s st (Caller c) Resume is =
+    where_lasts s st c (flags_now st c Resume) (objection_again (names_of st.held.files) (st.ledger.pending c)) (resumed (st.ledger.pending c)) is (λ k call kind means none posts. resumed_lasts (st.ledger.pending c) k call means (is c))
+event_lasts s st (Session sid) (Dm call) is = dm_lasts s st sid call (dm_judged s st sid call) is
+event_lasts s st actor action is = is

@@ -1,0 +1,327 @@
+-- How the replies to callers, and the states that they leave, are those of the model.
+use Rattle.std.proofs.Common.{◌≡◌, ◌≤◌, ◌+◌, ℕ, List, [], ◌∷◌, Bool, true, false, Option, Some, None, refl, sym, ◌∙◌, ap, subst}
+use Rattle.std.specs.Prelude.{◌&&◌, not, is_some, is_none, if◌then◌else◌, Result, Ok, Err, IfOk, IfErr, OnOk, OnErr, MatchOption}
+use Rattle.std.specs.Option.{option_map}
+use Rattle.disk_model.specs.declared.device.Disk as disk
+use Rattle.hsm_types.specs.Refusals.{first_refusal}
+use Rattle.hsm_types.specs.declared.keys.FileKey.{FileKey}
+use Rattle.hsm_types.specs.declared.stores.Superblock.{Superblock}
+use Rattle.hsm_types.specs.declared.calls.Call.{Call}
+use Rattle.hsm_types.specs.declared.calls.Reply.{Reply}
+use Rattle.hsm_types.specs.declared.calls.Reply.TheVariants.{Parked}
+use Rattle.hsm_types.specs.declared.dm.Kind.{Kind}
+use Rattle.plain_model.specs.declared.entries.Action.{Action}
+use Rattle.plain_model.specs.declared.entries.Action.TheVariants.{Issue, Resume}
+use Rattle.plain_model.specs.declared.facts.Facts.{Facts}
+use Rattle.plain_model.specs.Keyed.{same_key, find_key}
+use Rattle.plain_model.specs.Accesses.{told_span}
+use Rattle.plain_model.specs.Ledger.{Means, next_token, goes_on, aborted, gone, issued, resumed, objection_again}
+use Rattle.plain_model.specs.Plain.{Listed, has_key, refusal_of, key_meant}
+use Rattle.plain_model.specs.State.{FileState, Held, no_flags, State, names_of, used}
+use Rattle.plain_model.specs.Verdict.{facts_of, judgement, reply_where, reply_to, state_where, state_after}
+use Rattle.access_park.specs.declared.access.Access.{Access}
+use Rattle.dm_service.specs.declared.verdict.Verdict.{Verdict}
+use Rattle.dm_service.specs.declared.verdict.Verdict.TheVariants.{Answered, Missing, Post, NoSpace, Complete}
+use Rattle.dm_service.specs.Judging.{verdict_of}
+use Rattle.dm_service.specs.Parking.{parked_on, with_access}
+use Rattle.dm_service.specs.Services.{AreBoth}
+use Rattle.dm_service.specs.Tables.{Tables, waiting, seen, ledger_of, pending_as, flags_in, flags_or_none, state_in}
+use Rattle.dm_service.proofs.Anywhere.{still_idle}
+use Rattle.file_store.specs.declared.refusal.StoreRefusal.{StoreRefusal}
+use Rattle.file_store.specs.declared.refusal.StoreRefusal.TheVariants.{Memory as NoMemory}
+use Rattle.file_store.specs.Stores.{Store as FileStore, superblock_of, Proceeds}
+use Rattle.hsm_core.specs.Ends.{Ends}
+use Rattle.hsm_core.specs.Outcomes.{ends, ended_reply, held_said, stamps_said, is_fresh, IsFinished, IsReplied}
+use Rattle.hsm_core.specs.Stamps.{stamp_in}
+use Rattle.hsm_core.specs.Targets.{IsTarget, IsMeant, MayLast, MayComplete, key_in}
+use Rattle.hsm_core.specs.declared.judging.Target.{Target}
+use Rattle.hsm_core.proofs.Accesses.{reply_said, left_said, said_reply, said_left, parked_left, ended_left}
+use Rattle.hsm_core.proofs.Targets.{key_of_meant, on_own, on_file, still_on, bounded, complete, posted}
+
+-- ---- results
+
+pub on_ok : {T E P Q : Type 0} (r : Result T E) → (P → Q) → OnOk r P → OnOk r Q
+on_ok (Ok x) to is = to is
+on_ok (Err e) to is = tt
+
+pub every : {T E P : Type 0} (r : Result T E) → P → OnOk r P
+every (Ok x) p = p
+every (Err e) p = tt
+
+-- an event that nothing was done to the files for, and that may have lacked memory
+pub same_ends : {D T : Type 0} (g : disk.Ghosts D) (f : FileStore D) (n : ℕ) (r : Result T StoreRefusal) → f.failed ≡ false → Proceeds g f n f → IfErr r (λ why. why ≡ NoMemory) → Ends g f n r f
+same_ends g f n (Ok x) working idle memory = record { working = working; memory = λ is. absurd cc; failed = λ is. absurd cc; no_part = λ why is. cc; proceeds = idle }
+same_ends g f n (Err e) working idle memory = record {
+  working = tt;
+  memory = λ is. (refl, working);
+  failed = λ is. let lack : e ≡ NoMemory = memory in absurd cc;
+  no_part = λ why is. let lack : e ≡ NoMemory = memory in cc;
+  proceeds = idle;
+}
+
+-- ---- verdicts
+
+pub ends_unless : (said : Verdict) → ((kind : _) → said ≡ Post kind → ⊥) → ends said ≡ true
+ends_unless (Post kind) not_post = absurd (not_post kind refl)
+ends_unless Complete not_post = refl
+ends_unless (NoSpace need free) not_post = refl
+ends_unless Missing not_post = refl
+ends_unless (Answered response) not_post = refl
+
+pub said_ended : (st : State) (k : FileKey) (call : Call) (said : Verdict) → ends said ≡ true → reply_said st k call said ≡ ended_reply st.held k call said
+said_ended st k call (Post kind) is = cc
+said_ended st k call Complete is = refl
+said_ended st k call (NoSpace need free) is = refl
+said_ended st k call Missing is = refl
+said_ended st k call (Answered response) is = refl
+
+-- ---- an access that has not waited
+
+first_of : (a b : Bool) → (a && b) ≡ true → a ≡ true
+first_of true b is = refl
+first_of false b is = is
+
+last_of : (a b : Bool) → (a && b) ≡ true → b ≡ true
+last_of true b is = is
+last_of false b is = cc
+
+not_true : (b : Bool) → not b ≡ true → b ≡ false
+not_true true is = sym is
+not_true false is = refl
+
+none_there : {A : Type 0} (o : Option A) → is_none o ≡ true → o ≡ None
+none_there None is = refl
+none_there (Some x) is = cc
+
+pub fresh_flags : (a : Access) → is_fresh a ≡ true → flags_in a ≡ no_flags
+fresh_flags a is =
+    let unanswered = first_of (not a.cleared && not a.spaced && is_none a.token) (is_none a.answer) is in
+    let flagless = first_of (not a.cleared && not a.spaced) (is_none a.token) unanswered in
+    λ i. record { cleared = not_true a.cleared (first_of (not a.cleared) (not a.spaced) flagless) i; spaced = not_true a.spaced (last_of (not a.cleared) (not a.spaced) flagless) i }
+
+pub fresh_answer : (a : Access) → is_fresh a ≡ true → a.answer ≡ None
+fresh_answer a is = none_there a.answer (last_of (not a.cleared && not a.spaced && is_none a.token) (is_none a.answer) is)
+
+-- ---- a call that is issued, and that nothing objects to
+
+module _ (s : Superblock) (h : Held) (stamps : FileKey → ℕ) (n : ℕ) (t : Tables) (c : ℕ) (a : Access) (k : FileKey) (fresh : is_fresh a ≡ true) (none : waiting t c ≡ None)
+    (lawful : refusal_of s (names_of h.files) a.call ≡ None) (meant : k ≡ key_meant (names_of h.files) a.call) (facts : Facts) (known : facts ≡ facts_of s h k a.call) (live : facts.live ≡ true) where
+  abbrev st : State
+  st = state_in h stamps n t
+
+  abbrev said : Verdict
+  said = verdict_of (judgement (flags_in a) a.answer facts t.sessions a.call)
+
+  means : issued (names_of h.files) (option_map pending_as (waiting t c)) a.call ≡ Means k a.call
+  means = (λ i. issued (names_of h.files) (option_map pending_as (none i)) a.call) ∙ ap (λ j. Means j a.call) (sym meant)
+
+  unopposed : first_refusal (aborted a.answer ∷ gone facts.live ∷ []) ≡ refusal_of s (names_of h.files) a.call
+  unopposed = (λ i. first_refusal (aborted (fresh_answer a fresh i) ∷ gone (live i) ∷ [])) ∙ sym lawful
+
+  pub issue_reply : reply_said st k a.call said ≡ reply_to s st c (Issue a.call)
+  issue_reply =
+      said_reply s st c (flags_in a) k a.call a.answer facts (λ is. known)
+      ∙ (λ i. reply_where s st (fresh_flags a fresh i) (unopposed i) (sym means i))
+
+  pub issue_left : left_said s st c (flags_in a) k a.call said ≡ state_after s st c (Issue a.call)
+  issue_left =
+      said_left s st c (flags_in a) k a.call a.answer facts (λ is. known)
+      ∙ (λ i. state_where s st c (fresh_flags a fresh i) (unopposed i) (sym means i))
+
+-- ---- an access that goes on
+
+either_some : {A B : Type 0} (b : Bool) (x : A) (y : B) (p : Option A) (q : Option B) → is_some p ≡ is_some q → is_some (if b then Some x else p) ≡ is_some (if b then Some y else q)
+either_some true x y p q same = refl
+either_some false x y p q same = same
+
+pub listed_lives : (k : FileKey) (fs : List FileState) → has_key k (names_of fs) ≡ is_some (find_key (λ f. f.key) k fs)
+listed_lives k [] = refl
+listed_lives k (f ∷ fs) = either_some (same_key f.key k) (listed f) f (find_key (λ l. l.key) k (names_of fs)) (find_key (λ f. f.key) k fs) (listed_lives k fs)
+  where
+    listed : FileState → Listed
+    listed f = record { key = f.key; name = f.name }
+
+module _ (s : Superblock) (h : Held) (stamps : FileKey → ℕ) (n : ℕ) (t : Tables) (c : ℕ) (a : Access) (waits : waiting t c ≡ Some a) (goes : goes_on (pending_as a) a.token a.answer ≡ Means a.key a.call)
+    (facts : Facts) (lives : facts.live ≡ is_some (find_key (λ f. f.key) a.key h.files)) (known : facts.live ≡ true → facts ≡ facts_of s h a.key a.call) where
+  abbrev st' : State
+  st' = state_in h stamps n t
+
+  abbrev said' : Verdict
+  said' = verdict_of (judgement (flags_in a) a.answer facts t.sessions a.call)
+
+  again_where_reply : reply_where s st' (flags_in a) (first_refusal (aborted a.answer ∷ gone facts.live ∷ [])) (Means a.key a.call) ≡ reply_to s st' c Resume
+  again_where_reply =
+      (λ i. reply_where s st' (flags_in a) (first_refusal (aborted a.answer ∷ gone ((lives ∙ sym (listed_lives a.key h.files)) i) ∷ [])) (sym goes i))
+      ∙ (λ i. reply_where s st' (flags_or_none (sym waits i)) (objection_again (names_of h.files) (option_map pending_as (sym waits i))) (resumed (option_map pending_as (sym waits i))))
+
+  again_where_left : state_where s st' c (flags_in a) (first_refusal (aborted a.answer ∷ gone facts.live ∷ [])) (Means a.key a.call) ≡ state_after s st' c Resume
+  again_where_left =
+      (λ i. state_where s st' c (flags_in a) (first_refusal (aborted a.answer ∷ gone ((lives ∙ sym (listed_lives a.key h.files)) i) ∷ [])) (sym goes i))
+      ∙ (λ i. state_where s st' c (flags_or_none (sym waits i)) (objection_again (names_of h.files) (option_map pending_as (sym waits i))) (resumed (option_map pending_as (sym waits i))))
+
+  pub again_reply : reply_said st' a.key a.call said' ≡ reply_to s st' c Resume
+  again_reply = said_reply s st' c (flags_in a) a.key a.call a.answer facts known ∙ again_where_reply
+
+  pub again_left : left_said s st' c (flags_in a) a.key a.call said' ≡ state_after s st' c Resume
+  again_left = said_left s st' c (flags_in a) a.key a.call a.answer facts known ∙ again_where_left
+
+-- ---- what was done to the parts of a store
+
+always : {T E P : Type 0} (r : Result T E) → P → OnErr r P
+always (Ok x) p = tt
+always (Err e) p = p
+
+both_as : {R : Type 0} (r : Result (R × R) StoreRefusal) (x y : R) → x ≡ y → IfOk r (λ z. AreBoth x z) → IfOk r (λ z. AreBoth y z)
+both_as (Ok z) x y same is = (is.0 ∙ same, is.1 ∙ same)
+both_as (Err e) x y same is = tt
+
+ok_both : {T E : Type 0} (P Q : Type 0) (r : Result T E) → OnOk r P → OnOk r Q → OnOk r (P × Q)
+ok_both P Q (Ok x) p q = (p, q)
+ok_both P Q (Err e) p q = tt
+
+module _ {D : Type 0} (g : disk.Ghosts D) (f : FileStore D) (n : ℕ) (stamps : List (FileKey × ℕ)) (t : Tables) (c : ℕ) (a : Access) (facts : Facts) (working : f.failed ≡ false) (idle : Proceeds g f n f) where
+  abbrev super : Superblock
+  super = superblock_of f
+
+  abbrev now : State
+  now = state_in f.held (stamp_in stamps) n t
+
+  abbrev heard : Verdict
+  heard = verdict_of (judgement (flags_in a) a.answer facts t.sessions a.call)
+
+  -- an event of which its reply and what it leaves are known, and that did nothing to the files
+  waits_so : (action : Action) (k : FileKey) (kind : Kind) (u : Tables) (r : Result (Reply × Reply) StoreRefusal) → heard ≡ Post kind → facts ≡ facts_of super f.held k a.call
+      → reply_said now k a.call heard ≡ reply_to super now c action → left_said super now c (flags_in a) k a.call heard ≡ state_after super now c action
+      → IfOk r (λ x. AreBoth (Parked (next_token (ledger_of t))) x) → OnOk r (seen u ≡ parked_on c (record a { key = k }) kind (record { fsid = f.meta.fsid; key = k }) (told_span a.call facts.short kind) (seen t))
+      → OnErr r (u ≡ t) → IfErr r (λ why. why ≡ NoMemory) → IsReplied g f n stamps t c action r f stamps u
+  waits_so action k kind u r says known reply left replies after err memory = record {
+    replies = both_as r (Parked (next_token (ledger_of t))) (reply_to super now c action) (sym (ap (reply_said now k a.call) says) ∙ reply) replies;
+    left = on_ok r
+        (λ (is : seen u ≡ parked_on c (record a { key = k }) kind (record { fsid = f.meta.fsid; key = k }) (told_span a.call facts.short kind) (seen t)).
+        parked_left super f.held (stamp_in stamps) n t u c (record a { key = k }) kind facts.short (ap (λ x. x.short) known) is
+        ∙ sym (ap (left_said super now c (flags_in a) k a.call) says) ∙ left) after;
+    unstamped = always r refl;
+    err = err;
+    ends = same_ends g f n r working idle memory;
+  }
+
+  -- one that has ended
+  ends_so : (action : Action) (k : FileKey) (u : Tables) (r : Result (Reply × Reply) StoreRefusal) (new : FileStore D) (after : List (FileKey × ℕ)) → ends heard ≡ true
+      → reply_said now k a.call heard ≡ reply_to super now c action → left_said super now c (flags_in a) k a.call heard ≡ state_after super now c action
+      → IsFinished g f n stamps k a.call heard r new after → OnOk r (seen u ≡ with_access c None (seen t)) → OnErr r (u ≡ t) → IsReplied g f n stamps t c action r new after u
+  ends_so action k u r new after over reply left finished gone err = record {
+    replies = both_as r (ended_reply f.held k a.call heard) (reply_to super now c action) (sym (said_ended now k a.call heard over) ∙ reply) finished.replies;
+    left = on_ok r
+        (λ (is : (new.held ≡ held_said f.held k a.call heard) × ((stamp_in after ≡ stamps_said (n + 1) k a.call heard (stamp_in stamps)) × (seen u ≡ with_access c None (seen t)))).
+        (λ i. state_in (is.0 i) (is.1.0 i) (n + 1) u) ∙ ended_left super f.held (stamp_in stamps) n t u c (flags_in a) k a.call heard over is.1.1 ∙ left)
+        (ok_both _ _ r finished.held (ok_both _ _ r finished.stamps gone));
+    unstamped = finished.unstamped;
+    err = err;
+    ends = finished.ended;
+  }
+
+  -- ---- a call that is issued on a file
+  module _ (file : Target) (fresh : is_fresh a ≡ true) (none : waiting t c ≡ None) (lawful : refusal_of super (names_of f.held.files) a.call ≡ None) (meant : IsMeant f.held.files a.call (Some file))
+      (known : facts ≡ facts_of super f.held file.key a.call) where
+    live : facts.live ≡ true
+    live = ap (λ x. x.live) known ∙ (on_file f.held.files (key_meant (names_of f.held.files) a.call) a.call file meant).1.live
+
+    own_reply : reply_said now file.key a.call heard ≡ reply_to super now c (Issue a.call)
+    own_reply = issue_reply super f.held (stamp_in stamps) n t c a file.key fresh none lawful (key_of_meant f.held.files a.call (Some file) meant) facts known live
+
+    own_left : left_said super now c (flags_in a) file.key a.call heard ≡ state_after super now c (Issue a.call)
+    own_left = issue_left super f.held (stamp_in stamps) n t c a file.key fresh none lawful (key_of_meant f.held.files a.call (Some file) meant) facts known live
+
+    pub issue_waits : (kind : Kind) (u : Tables) (r : Result (Reply × Reply) StoreRefusal) → heard ≡ Post kind → IfOk r (λ x. AreBoth (Parked (next_token (ledger_of t))) x)
+        → OnOk r (seen u ≡ parked_on c (record a { key = file.key }) kind (record { fsid = f.meta.fsid; key = file.key }) (told_span a.call facts.short kind) (seen t)) → OnErr r (u ≡ t) → IfErr r (λ why. why ≡ NoMemory)
+        → IsReplied g f n stamps t c (Issue a.call) r f stamps u
+    issue_waits kind u r says replies after err memory = waits_so (Issue a.call) file.key kind u r says known own_reply own_left replies after err memory
+
+    pub issue_ends : (r : Result (Reply × Reply) StoreRefusal) (new : FileStore D) (after : List (FileKey × ℕ)) → ends heard ≡ true → IsFinished g f n stamps file.key a.call heard r new after
+        → IsReplied g f n stamps t c (Issue a.call) r new after t
+    issue_ends r new after over finished = ends_so (Issue a.call) file.key t r new after over own_reply own_left finished (ok_still r) (always r refl)
+      where
+        ok_still : (r : Result (Reply × Reply) StoreRefusal) → OnOk r (seen t ≡ with_access c None (seen t))
+        ok_still (Ok x) = sym (still_idle t c none)
+        ok_still (Err e) = tt
+
+    pub issue_completes : used f.held.files ≤ super.geometry.blocks → heard ≡ Complete → MayComplete super f.held a.call (Some file)
+    issue_completes mapped is =
+        let may = complete (flags_in a) a.answer facts t.sessions a.call is in
+        record {
+          on = on_own f.held.files (key_meant (names_of f.held.files) a.call) a.call (Some file) meant;
+          bounded = bounded super (names_of f.held.files) a.call lawful;
+          fits = sym (ap (λ x. x.short) known) ∙ may.1;
+          mapped = mapped;
+        }
+
+  -- ---- an access that goes on
+  module _ (target : Option Target) (waits : waiting t c ≡ Some a) (goes : goes_on (pending_as a) a.token a.answer ≡ Means a.key a.call) (last : MayLast a.call)
+      (found : MatchOption target (find_key (λ x. x.key) a.key f.held.files ≡ None) (λ x. IsTarget f.held.files a.key x))
+      (known : MatchOption target (facts ≡ record { live = false; touches = false; short = None }) (λ x. (facts ≡ facts_of super f.held x.key a.call) × (used f.held.files ≤ super.geometry.blocks))) where
+    lives : facts.live ≡ is_some (find_key (λ x. x.key) a.key f.held.files)
+    lives = elim target as (λ (o : Option Target). MatchOption o (find_key (λ x. x.key) a.key f.held.files ≡ None) (λ x. IsTarget f.held.files a.key x)
+        → MatchOption o (facts ≡ record { live = false; touches = false; short = None }) (λ x. (facts ≡ facts_of super f.held x.key a.call) × (used f.held.files ≤ super.geometry.blocks))
+        → facts.live ≡ is_some (find_key (λ x. x.key) a.key f.held.files)) [
+          | None ↦ λ found known. ap (λ x. x.live) known ∙ sym (ap (λ o. is_some o) found)
+          | Some x ↦ λ found known. ap (λ y. y.live) known.0 ∙ ap (λ k. is_some (find_key (λ y. y.key) k f.held.files)) found.key
+        ] found known
+
+    facts_known : facts.live ≡ true → facts ≡ facts_of super f.held a.key a.call
+    facts_known live = elim target as (λ (o : Option Target). MatchOption o (find_key (λ x. x.key) a.key f.held.files ≡ None) (λ x. IsTarget f.held.files a.key x)
+        → MatchOption o (facts ≡ record { live = false; touches = false; short = None }) (λ x. (facts ≡ facts_of super f.held x.key a.call) × (used f.held.files ≤ super.geometry.blocks))
+        → facts ≡ facts_of super f.held a.key a.call) [
+          | None ↦ λ found known. absurd (let wrong : true ≡ false = sym live ∙ ap (λ x. x.live) known in cc wrong)
+          | Some x ↦ λ found known. known.0 ∙ ap (λ k. facts_of super f.held k a.call) found.key
+        ] found known
+
+    again_own : reply_said now a.key a.call heard ≡ reply_to super now c Resume
+    again_own = again_reply super f.held (stamp_in stamps) n t c a waits goes facts lives facts_known
+
+    again_leaves : left_said super now c (flags_in a) a.key a.call heard ≡ state_after super now c Resume
+    again_leaves = again_left super f.held (stamp_in stamps) n t c a waits goes facts lives facts_known
+
+    pub again_waits : (kind : Kind) (u : Tables) (r : Result (Reply × Reply) StoreRefusal) → heard ≡ Post kind → IfOk r (λ x. AreBoth (Parked (next_token (ledger_of t))) x)
+        → OnOk r (seen u ≡ parked_on c a kind (record { fsid = f.meta.fsid; key = a.key }) (told_span a.call facts.short kind) (seen t)) → OnErr r (u ≡ t) → IfErr r (λ why. why ≡ NoMemory)
+        → IsReplied g f n stamps t c Resume r f stamps u
+    again_waits kind u r says replies after err memory =
+        waits_so Resume a.key kind u r says (facts_known (posted (flags_in a) a.answer facts t.sessions a.call kind says).0) again_own again_leaves replies after err memory
+
+    -- by the key of the file that was found, if one was
+    finished_on : (k : FileKey) (r : Result (Reply × Reply) StoreRefusal) (new : FileStore D) (after : List (FileKey × ℕ)) → (heard ≡ Complete → k ≡ a.key) → IsFinished g f n stamps k a.call heard r new after
+        → IsFinished g f n stamps a.key a.call heard r new after
+    finished_on k r new after same is = by_verdict heard same is
+      where
+        by_verdict : (said : Verdict) → (said ≡ Complete → k ≡ a.key) → IsFinished g f n stamps k a.call said r new after → IsFinished g f n stamps a.key a.call said r new after
+        by_verdict Complete same is = subst (λ (j : FileKey). IsFinished g f n stamps j a.call Complete r new after) (same refl) is
+        by_verdict (Post kind) same is = record { replies = is.replies; held = is.held; stamps = is.stamps; unstamped = is.unstamped; answered = is.answered; ended = is.ended }
+        by_verdict (NoSpace need free) same is = record { replies = is.replies; held = is.held; stamps = is.stamps; unstamped = is.unstamped; answered = is.answered; ended = is.ended }
+        by_verdict Missing same is = record { replies = is.replies; held = is.held; stamps = is.stamps; unstamped = is.unstamped; answered = is.answered; ended = is.ended }
+        by_verdict (Answered response) same is = record { replies = is.replies; held = is.held; stamps = is.stamps; unstamped = is.unstamped; answered = is.answered; ended = is.ended }
+
+    found_key : heard ≡ Complete → key_in target ≡ a.key
+    found_key is =
+        let live = (complete (flags_in a) a.answer facts t.sessions a.call is).0 in
+        elim target as (λ (o : Option Target). MatchOption o (find_key (λ x. x.key) a.key f.held.files ≡ None) (λ x. IsTarget f.held.files a.key x)
+        → MatchOption o (facts ≡ record { live = false; touches = false; short = None }) (λ x. (facts ≡ facts_of super f.held x.key a.call) × (used f.held.files ≤ super.geometry.blocks)) → key_in o ≡ a.key) [
+          | None ↦ λ found known. absurd (let wrong : true ≡ false = sym live ∙ ap (λ x. x.live) known in cc wrong)
+          | Some x ↦ λ found known. found.key
+        ] found known
+
+    pub again_completes : heard ≡ Complete → MayComplete super f.held a.call target
+    again_completes is =
+        let may = complete (flags_in a) a.answer facts t.sessions a.call is in
+        elim target as (λ (o : Option Target). MatchOption o (find_key (λ x. x.key) a.key f.held.files ≡ None) (λ x. IsTarget f.held.files a.key x)
+        → MatchOption o (facts ≡ record { live = false; touches = false; short = None }) (λ x. (facts ≡ facts_of super f.held x.key a.call) × (used f.held.files ≤ super.geometry.blocks)) → MayComplete super f.held a.call o) [
+          | None ↦ λ found known. absurd (let wrong : true ≡ false = sym may.0 ∙ ap (λ x. x.live) known in cc wrong)
+          | Some x ↦ λ found known. record {
+            on = still_on f.held.files a.call x last.0 (record { key = refl; live = found.live; size = found.size });
+            bounded = last.1;
+            fits = sym (ap (λ y. y.short) known.0) ∙ may.1;
+            mapped = known.1;
+          }
+        ] found known
+
+    pub again_ends : (u : Tables) (r : Result (Reply × Reply) StoreRefusal) (new : FileStore D) (after : List (FileKey × ℕ)) → ends heard ≡ true → IsFinished g f n stamps (key_in target) a.call heard r new after
+        → OnOk r (seen u ≡ with_access c None (seen t)) → OnErr r (u ≡ t) → IsReplied g f n stamps t c Resume r new after u
+    again_ends u r new after over finished gone err = ends_so Resume a.key u r new after over again_own again_leaves (finished_on (key_in target) r new after found_key finished) gone err

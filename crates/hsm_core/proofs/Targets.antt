@@ -1,0 +1,216 @@
+-- What the judging of an access says of its call and its file.
+use Rattle.std.proofs.Common.{◌≡◌, ◌≤◌, ◌+◌, ◌-◌, ◌^◌, ℕ, min, length, List, [], ◌∷◌, Bool, true, false, Option, Some, None, refl, ap, subst, arith}
+use Rattle.std.proofs.lemmas.Bool.Decides.{nat_tests}
+use Rattle.std.specs.Prelude.{◌&&◌, not, nat_lt, nat_le, if◌then◌else◌, IsSomeAnd}
+use Rattle.std.specs.Option.{option_map}
+use Rattle.hsm_types.specs.Messages.{is_lawful}
+use Rattle.hsm_types.specs.Refusals.{first_refusal}
+use Rattle.hsm_types.specs.Sessions.{SessionTable}
+use Rattle.hsm_types.specs.declared.keys.FileKey.{FileKey}
+use Rattle.hsm_types.specs.declared.stores.Superblock.{Superblock}
+use Rattle.hsm_types.specs.declared.calls.Call.{Call}
+use Rattle.hsm_types.specs.declared.calls.Call.TheVariants.{Create, Read, Write, Truncate, Remove, Stat, Sync}
+use Rattle.hsm_types.specs.declared.calls.CallRefusal.TheVariants.{BadLength, TooBig}
+use Rattle.hsm_types.specs.declared.dm.Kind.{Kind}
+use Rattle.hsm_types.specs.declared.dm.Kind.TheVariants as kind
+use Rattle.hsm_types.specs.declared.dm.Response.{Response}
+use Rattle.hsm_types.specs.declared.dm.Response.TheVariants.{Continue, Abort}
+use Rattle.plain_model.specs.declared.facts.Facts.{Facts}
+use Rattle.plain_model.specs.declared.facts.NoRoom.{NoRoom}
+use Rattle.plain_model.specs.Accesses.{kind_of}
+use Rattle.plain_model.specs.Ledger.{aborted, gone}
+use Rattle.plain_model.specs.Plain.{Listed, bad_name, bad_length, missing, too_big, refusal_of, key_meant}
+use Rattle.plain_model.specs.State.{FileState, Flags, names_of}
+use Rattle.plain_model.specs.Verdict.{Verdict as Ruled, Posts, Lacks, Ends, Rules, posts, touching, without_room, lacking, is_taken, judgement}
+use Rattle.plain_model.proofs.Judged.{none_first, passes}
+use Rattle.access_park.specs.Pending.{is_lawful_answer}
+use Rattle.dm_service.specs.declared.verdict.Verdict.TheVariants.{Answered, Post, Complete}
+use Rattle.dm_service.specs.Judging.{verdict_of}
+use Rattle.hsm_core.specs.declared.judging.Target.{Target}
+use Rattle.hsm_core.specs.Outcomes.{is_abort, IsAbort, MayAsk}
+use Rattle.hsm_core.specs.Targets.{IsTarget, IsOn, IsMeant, IsBounded, MayDo, IsOnFile, MayLast, key_in}
+
+-- ---- the file of a call
+
+of_target : (files : List FileState) (k : FileKey) (target : Option Target) → IsSomeAnd target (λ t. IsTarget files k t) → (key_in target ≡ k) × IsSomeAnd target (λ t. IsTarget files (key_in target) t)
+of_target files k None is = absurd is
+of_target files k (Some t) is = (is.key, record { key = refl; live = is.live; size = is.size })
+
+pub key_of_meant : (files : List FileState) (call : Call) (target : Option Target) → IsMeant files call target → key_in target ≡ key_meant (names_of files) call
+key_of_meant files (Create name) target is = ap key_in is
+key_of_meant files Sync target is = ap key_in is
+key_of_meant files call target is = (of_target files (key_meant (names_of files) call) target is).0
+
+pub on_own : (files : List FileState) (k : FileKey) (call : Call) (target : Option Target) → IsOn files k call target → IsOn files (key_in target) call target
+on_own files k (Create name) target is = is
+on_own files k Sync target is = is
+on_own files k call target is = (of_target files k target is).1
+
+-- a call that means a file is on it
+pub on_file : (files : List FileState) (k : FileKey) (call : Call) (t : Target) → IsOn files k call (Some t) → IsOnFile call × IsTarget files t.key t
+on_file files k (Create name) t is = absurd cc
+on_file files k Sync t is = absurd cc
+on_file files k call t is = (tt, record { key = refl; live = is.live; size = is.size })
+
+-- a sync means none
+pub not_alone : (files : List FileState) (t : Target) (call : Call) → call ≡ Sync → IsMeant files call (Some t) → ⊥
+not_alone files t call is meant = let none : Some t ≡ None = subst (λ (x : Call). IsMeant files x (Some t)) is meant in absurd cc
+
+-- and one that waited is still on its file
+pub still_on : (files : List FileState) (call : Call) (t : Target) → IsOnFile call → IsTarget files t.key t → IsOn files t.key call (Some t)
+still_on files (Create name) t on is = absurd on
+still_on files Sync t on is = absurd on
+still_on files call t on is = is
+
+-- ---- what bounds a call
+
+both_of : (a b : Bool) → (a && b) ≡ true → (a ≡ true) × (b ≡ true)
+both_of true b is = (refl, is)
+both_of false b is = cc
+
+some_bytes : (len : ℕ) → bad_length len ≡ None → 1 ≤ len
+some_bytes len none = let in_range = both_of (nat_le 1 len) (nat_le len 65536) (passes (nat_le 1 len && nat_le len 65536) (BadLength len) none) in let least = in_range.0 in grind (arith, nat_tests, least)
+
+within : (end : ℕ) → too_big end ≡ None → end ≤ 16777216
+within end none = elim (nat_lt 16777216 end) as (λ b. nat_lt 16777216 end ≡ b → (if b then Some (TooBig (min end (2 ^ 64 - 1))) else None) ≡ None → end ≤ 16777216) [
+  | true ↦ λ past is. cc
+  | false ↦ λ not_past is. grind (arith, nat_tests, not_past)
+] refl none
+
+pub bounded : (s : Superblock) (files : List Listed) (call : Call) → refusal_of s files call ≡ None → IsBounded call
+bounded s files (Write name offset bytes) none =
+    let past_name = none_first (bad_name name) (bad_length (length bytes) ∷ missing name files ∷ too_big (offset + length bytes) ∷ []) none in
+    let past_length = none_first (bad_length (length bytes)) (missing name files ∷ too_big (offset + length bytes) ∷ []) past_name.1 in
+    let past_file = none_first (missing name files) (too_big (offset + length bytes) ∷ []) past_length.1 in
+    (some_bytes (length bytes) past_length.0, within (offset + length bytes) (none_first (too_big (offset + length bytes)) [] past_file.1).0)
+bounded s files (Truncate name size) none =
+    let past_name = none_first (bad_name name) (missing name files ∷ too_big size ∷ []) none in
+    let past_file = none_first (missing name files) (too_big size ∷ []) past_name.1 in
+    within size (none_first (too_big size) [] past_file.1).0
+bounded s files (Create name) none = tt
+bounded s files (Read name offset len) none = tt
+bounded s files (Remove name) none = tt
+bounded s files (Stat name) none = tt
+bounded s files Sync none = tt
+
+pub may_do : (s : Superblock) (files : List FileState) (call : Call) → refusal_of s (names_of files) call ≡ None → MayDo s files call
+may_do s files (Create name) none = none
+may_do s files call none = bounded s (names_of files) call none
+
+pub may_still : (s : Superblock) (files : List FileState) (call : Call) → MayLast call → MayDo s files call
+may_still s files (Create name) last = absurd last.0
+may_still s files call last = last.1
+
+-- ---- what a verdict says
+
+-- of an access that is done
+no_ending : (answer : Option Response) (live : Bool) (x y : Ruled) → verdict_of (first_refusal (option_map Ends (aborted answer) ∷ option_map Ends (gone live) ∷ option_map Rules x ∷ option_map Rules y ∷ [])) ≡ Complete
+    → (live ≡ true) × (y ≡ None)
+no_ending (Some (Abort error)) live x y is = cc
+no_ending None false x y is = cc
+no_ending (Some Continue) false x y is = cc
+no_ending None true None None is = (refl, refl)
+no_ending (Some Continue) true None None is = (refl, refl)
+no_ending None true (Some (Posts kind)) y is = cc
+no_ending None true (Some (Lacks need free)) y is = cc
+no_ending None true None (Some (Posts kind)) is = cc
+no_ending None true None (Some (Lacks need free)) is = cc
+no_ending (Some Continue) true (Some (Posts kind)) y is = cc
+no_ending (Some Continue) true (Some (Lacks need free)) y is = cc
+no_ending (Some Continue) true None (Some (Posts kind)) is = cc
+no_ending (Some Continue) true None (Some (Lacks need free)) is = cc
+
+no_lack : (asks : Bool) (short : Option NoRoom) → without_room asks short ≡ None → short ≡ None
+no_lack asks None is = refl
+no_lack true (Some room) is = cc
+no_lack false (Some room) is = cc
+
+pub complete : (fl : Flags) (answer : Option Response) (facts : Facts) (t : SessionTable) (call : Call) → verdict_of (judgement fl answer facts t call) ≡ Complete → (facts.live ≡ true) × (facts.short ≡ None)
+complete fl answer facts t call is =
+    let none = no_ending answer facts.live (touching fl facts call) (lacking fl facts t) is in
+    (none.0, no_lack (not fl.spaced && is_taken kind.NoSpace t) facts.short none.1)
+
+pub unaborted : (fl : Flags) (answer : Option Response) (facts : Facts) (t : SessionTable) (call : Call) → verdict_of (judgement fl answer facts t call) ≡ Complete → is_abort answer ≡ false
+unaborted fl None facts t call is = refl
+unaborted fl (Some Continue) facts t call is = refl
+unaborted fl (Some (Abort error)) facts t call is = cc
+
+-- of one that was aborted
+lawful_abort : (error : ℕ) → is_lawful (Abort error) ≡ true → error ≤ 255
+lawful_abort error is = let most = (both_of (nat_le 1 error) (nat_le error 255) is).1 in grind (arith, nat_tests, most)
+
+by_abort : (answer : Option Response) (live : Bool) (x y : Ruled) (response : Response) → verdict_of (first_refusal (option_map Ends (aborted answer) ∷ option_map Ends (gone live) ∷ option_map Rules x ∷ option_map Rules y ∷ [])) ≡ Answered response
+    → answer ≡ Some response
+by_abort (Some (Abort error)) live x y response is = cc
+by_abort None false x y response is = cc
+by_abort (Some Continue) false x y response is = cc
+by_abort None true None None response is = cc
+by_abort (Some Continue) true None None response is = cc
+by_abort None true (Some (Posts kind)) y response is = cc
+by_abort None true (Some (Lacks need free)) y response is = cc
+by_abort None true None (Some (Posts kind)) response is = cc
+by_abort None true None (Some (Lacks need free)) response is = cc
+by_abort (Some Continue) true (Some (Posts kind)) y response is = cc
+by_abort (Some Continue) true (Some (Lacks need free)) y response is = cc
+by_abort (Some Continue) true None (Some (Posts kind)) response is = cc
+by_abort (Some Continue) true None (Some (Lacks need free)) response is = cc
+
+ends_by : (answer : Option Response) (live : Bool) (x y : Ruled) (response : Response) → verdict_of (first_refusal (option_map Ends (aborted answer) ∷ option_map Ends (gone live) ∷ option_map Rules x ∷ option_map Rules y ∷ [])) ≡ Answered response
+    → is_lawful_answer answer ≡ true → IsAbort response
+ends_by (Some (Abort error)) live x y Continue is lawful = absurd cc
+ends_by (Some (Abort error)) live x y (Abort e) is lawful = let same : error ≡ e = cc in let few = lawful_abort error lawful in omega (arith, same, few)
+ends_by None live x y response is lawful = let wrong = by_abort None live x y response is in absurd cc
+ends_by (Some Continue) live x y Continue is lawful = let wrong = stays live x y is in absurd wrong
+  where
+    stays : (live : Bool) (x y : Ruled) → verdict_of (first_refusal (option_map Ends (gone live) ∷ option_map Rules x ∷ option_map Rules y ∷ [])) ≡ Answered Continue → ⊥
+    stays false x y is = cc
+    stays true (Some (Posts kind)) y is = cc
+    stays true (Some (Lacks need free)) y is = cc
+    stays true None (Some (Posts kind)) is = cc
+    stays true None (Some (Lacks need free)) is = cc
+    stays true None None is = cc
+ends_by (Some Continue) live x y (Abort error) is lawful = let wrong = by_abort (Some Continue) live x y (Abort error) is in absurd cc
+
+pub answered : (fl : Flags) (answer : Option Response) (facts : Facts) (t : SessionTable) (call : Call) (response : Response) → verdict_of (judgement fl answer facts t call) ≡ Answered response → is_lawful_answer answer ≡ true → IsAbort response
+answered fl answer facts t call response is lawful = ends_by answer facts.live (touching fl facts call) (lacking fl facts t) response is lawful
+
+-- of one that is to wait
+abbrev Asks : Call → Ruled → Type 0
+Asks call None = Unit {0}
+Asks call (Some (Posts kind)) = MayAsk call kind
+Asks call (Some (Lacks need free)) = Unit {0}
+
+touching_asks : (asks : Bool) (call : Call) → Asks call (posts asks (kind_of call))
+touching_asks false call = tt
+touching_asks true (Read name offset len) = (λ is. cc, λ short is. absurd cc)
+touching_asks true (Write name offset bytes) = (λ is. cc, λ short is. absurd cc)
+touching_asks true (Truncate name size) = (λ is. cc, λ short is. refl)
+touching_asks true (Create name) = tt
+touching_asks true (Remove name) = tt
+touching_asks true (Stat name) = tt
+touching_asks true Sync = tt
+
+lacking_asks : (asks : Bool) (short : Option NoRoom) (call : Call) → Asks call (without_room asks short)
+lacking_asks asks None call = tt
+lacking_asks true (Some room) call = (λ is. cc, λ short is. absurd cc)
+lacking_asks false (Some room) call = tt
+
+one_asks : (answer : Option Response) (live : Bool) (x y : Ruled) (call : Call) (kind : Kind) → verdict_of (first_refusal (option_map Ends (aborted answer) ∷ option_map Ends (gone live) ∷ option_map Rules x ∷ option_map Rules y ∷ [])) ≡ Post kind
+    → Asks call x → Asks call y → (live ≡ true) × MayAsk call kind
+one_asks (Some (Abort error)) live x y call kind is first second = absurd cc
+one_asks None false x y call kind is first second = absurd cc
+one_asks (Some Continue) false x y call kind is first second = absurd cc
+one_asks None true (Some (Posts asked)) y call kind is first second = (refl, subst (MayAsk call) (let same : asked ≡ kind = cc in same) first)
+one_asks (Some Continue) true (Some (Posts asked)) y call kind is first second = (refl, subst (MayAsk call) (let same : asked ≡ kind = cc in same) first)
+one_asks None true (Some (Lacks need free)) y call kind is first second = absurd cc
+one_asks (Some Continue) true (Some (Lacks need free)) y call kind is first second = absurd cc
+one_asks None true None (Some (Posts asked)) call kind is first second = (refl, subst (MayAsk call) (let same : asked ≡ kind = cc in same) second)
+one_asks (Some Continue) true None (Some (Posts asked)) call kind is first second = (refl, subst (MayAsk call) (let same : asked ≡ kind = cc in same) second)
+one_asks None true None (Some (Lacks need free)) call kind is first second = absurd cc
+one_asks (Some Continue) true None (Some (Lacks need free)) call kind is first second = absurd cc
+one_asks None true None None call kind is first second = absurd cc
+one_asks (Some Continue) true None None call kind is first second = absurd cc
+
+pub posted : (fl : Flags) (answer : Option Response) (facts : Facts) (t : SessionTable) (call : Call) (asked : Kind) → verdict_of (judgement fl answer facts t call) ≡ Post asked → (facts.live ≡ true) × MayAsk call asked
+posted fl answer facts t call asked is =
+    one_asks answer facts.live (touching fl facts call) (lacking fl facts t) call asked is (touching_asks (not fl.cleared && facts.touches) call) (lacking_asks (not fl.spaced && is_taken kind.NoSpace t) facts.short call)

@@ -1,0 +1,39 @@
+use Rattle.std.proofs.Common.{sym, ◌∙◌, ap, subst, arith}
+use Rattle.dm_service.specs.declared.verdict.Verdict.{Verdict}
+use Rattle.hsm_core.specs.Outcomes.{ends, IsFinished}
+use Rattle.hsm_core.specs.Targets.{IsMeant}
+use Rattle.access_park.specs.Pending.{is_lawful_answer}
+use Rattle.hsm_core.proofs.Targets.{answered, not_alone}
+use Rattle.hsm_core.proofs.Replying.{every, ends_unless, fresh_answer, issue_waits, issue_ends, issue_completes}
+use Rattle.hsm_core.proofs.answering.begin.Goals as goal
+
+pub returns-in-Post-clause-replied : goal.returns-in-Post-clause-replied
+returns-in-Post-clause-replied g c =
+    issue_waits g.D.Disk c.args.files.now c.args.number c.args.stamps.now.entries c.args.service.now c.args.caller c.args.access.now c.facts-facts.result c.requires.working c.requires.idle
+    c.in-Some.file c.requires.fresh c.requires.none c.requires.lawful (subst (IsMeant c.args.files.now.held.files c.args.access.now.call) c.in-Some.is c.requires.meant) c.facts-facts.ensures.facts
+    c.in-Post.kind c.wait.new.service c.wait.result (sym c.judge-verdict.ensures ∙ c.in-Post.is) c.wait.ensures.reply c.wait.ensures.after c.wait.ensures.err c.wait.ensures.memory
+
+pub finish-requires : goal.finish-requires
+finish-requires g c = record {
+  working = c.requires.working;
+  room = λ is. c.requires.room;
+  number = c.requires.number;
+  idle = c.requires.idle;
+  ends = ends_unless c.judge-verdict.result c.in_default-verdict.not-Post;
+  complete = λ is.
+      issue_completes g.D.Disk c.args.files.now c.args.number c.args.stamps.now.entries c.args.service.now c.args.caller c.args.access.now c.facts-facts.result c.requires.working c.requires.idle
+      c.in-Some.file c.requires.fresh c.requires.none c.requires.lawful (subst (IsMeant c.args.files.now.held.files c.args.access.now.call) c.in-Some.is c.requires.meant) c.facts-facts.ensures.facts
+      c.facts-facts.ensures.mapped (sym c.judge-verdict.ensures ∙ is);
+  aborted = λ response is. answered _ c.args.access.now.answer c.facts-facts.result c.args.service.now.sessions c.args.access.now.call response (sym c.judge-verdict.ensures ∙ is)
+      (ap is_lawful_answer (fresh_answer c.args.access.now c.requires.fresh));
+}
+
+pub returns : goal.returns
+returns g c = record {
+  replied = issue_ends g.D.Disk c.args.files.now c.args.number c.args.stamps.now.entries c.args.service.now c.args.caller c.args.access.now c.facts-facts.result c.requires.working c.requires.idle
+      c.in-Some.file c.requires.fresh c.requires.none c.requires.lawful (subst (IsMeant c.args.files.now.held.files c.args.access.now.call) c.in-Some.is c.requires.meant) c.facts-facts.ensures.facts
+      c.finish.result c.finish.new.files c.finish.new.stamps.entries (sym (ap ends c.judge-verdict.ensures) ∙ ends_unless c.judge-verdict.result c.in_default-verdict.not-Post)
+      (subst (λ (said : Verdict). IsFinished g.D.Disk c.args.files.now c.args.number c.args.stamps.now.entries c.in-Some.file.key c.args.access.now.call said c.finish.result c.finish.new.files c.finish.new.stamps.entries) c.judge-verdict.ensures c.finish.ensures);
+  synced = λ is. absurd (not_alone c.args.files.now.held.files c.in-Some.file c.args.access.now.call is (subst (IsMeant c.args.files.now.held.files c.args.access.now.call) c.in-Some.is c.requires.meant));
+  room = every c.finish.result (omega arith);
+}

@@ -1,0 +1,85 @@
+use Rattle.std.proofs.Common.{◌≤◌, ◌+◌, Bool, refl, ap, subst, arith}
+use Rattle.std.specs.Prelude.{if◌then◌else◌, vec_len, vec_capacity}
+use Rattle.hsm_types.specs.declared.calls.Reply.{Reply}
+use Rattle.plain_model.specs.declared.entries.Actor.TheVariants.{Caller}
+use Rattle.plain_model.specs.declared.entries.Action.TheVariants.{Resume}
+use Rattle.plain_model.specs.declared.entries.Answer.TheVariants.{Call as Replied}
+use Rattle.dm_service.proofs.Ledgers.{ordered_in}
+use Rattle.dm_service.specs.Tables.{waiting}
+use Rattle.hsm_core.specs.Outcomes.{is_aborted}
+use Rattle.file_store.specs.Stores.{superblock_of}
+use Rattle.hsm_core.specs.Store.{Store}
+use Rattle.hsm_core.specs.Answers.{IsResumed}
+use Rattle.hsm_core.proofs.Events.{event, lasting, room_again, not_begun, one_more, IsNext, Keeps}
+use Rattle.hsm_core.proofs.store.Hsm.resume.Given.{Over}
+use Rattle.hsm_core.proofs.store.Hsm.resume.Goals.{After-keep}
+use Rattle.hsm_core.proofs.store.Hsm.resume.Goals as goal
+
+-- the store before the event, and after it
+abbrev before : (g : Over) → After-keep g → Store g.row.D.Denot
+before g c = record { opened = c.self.inside.opened.value; files = c.self.inside.files; stamps = c.self.inside.stamps.entries; tables = c.self.inside.service; history = c.self.inside.history.items }
+
+abbrev after : (g : Over) → After-keep g → Store g.row.D.Denot
+after g c = record { opened = c.self.inside.opened.value; files = c.answer_again-done.new.files; stamps = c.answer_again-done.new.stamps.entries; tables = c.answer_again-done.new.service; history = c.keep.new.history.items }
+
+keeps : (g : Over) (c : After-keep g) → Keeps c.make_ready_to_resume.new.history.items (Caller c.args.caller) Resume (λ (r : Reply). Replied r) c.answer_again-done.result c.keep.result c.keep.new.history.items
+keeps g c = record {
+  kept = c.keep.ensures.kept;
+  memory = λ lacks. (ap (λ (r : Reply). Replied r) (c.keep.ensures.memory lacks).0, (c.keep.ensures.memory lacks).1);
+  failed = λ fails. (ap (λ (r : Reply). Replied r) (c.keep.ensures.failed fails).0, (c.keep.ensures.failed fails).1);
+}
+
+next : (g : Over) (c : After-keep g) → IsNext g.D.Disk (before g c) (Caller c.args.caller) Resume (Replied c.keep.result) (after g c)
+next g c =
+    event g.D.Disk (before g c) c.self.invariant.0 c.self.invariant.1 c.make_ready_to_resume.new.stamps.entries c.make_ready_to_resume.new.history.items c.make_ready_to_resume.ensures.stamps c.make_ready_to_resume.ensures.same (after g c) c.in_default.ensures.working refl
+    (Caller c.args.caller) Resume tt (λ (r : Reply). Replied r) _ c.keep.result _ (omega (arith, c.self.invariant.2, c.len.ensures)) c.answer_again-done.result
+    (record {
+      exact = refl;
+      replies = c.answer_again-done.ensures.replied.replies;
+      leaves = c.answer_again-done.ensures.replied.left;
+      stamps = c.answer_again-done.ensures.replied.unstamped;
+      tables = c.answer_again-done.ensures.replied.err;
+      synced = λ syncs. absurd cc;
+      ends = c.answer_again-done.ensures.replied.ends;
+    })
+    (keeps g c)
+
+pub returns-in-Err-clause-resumed : goal.returns-in-Err-clause-resumed
+returns-in-Err-clause-resumed g c =
+    let s : Store g.row.D.Denot = record { opened = c.self.inside.opened.value; files = c.self.inside.files; stamps = c.self.inside.stamps.entries; tables = c.self.inside.service; history = c.self.inside.history.items } in
+    let t : Store g.row.D.Denot = record s { stamps = c.make_ready_to_resume.new.stamps.entries; history = c.make_ready_to_resume.new.history.items } in
+    subst (λ (old : Store g.row.D.Denot). IsResumed g.D.Disk old c.args.caller c.undone.result t) c.self.view_is
+    (not_begun g.D.Disk s c.self.invariant.0 c.self.invariant.1 c.make_ready_to_resume.new.stamps.entries c.make_ready_to_resume.new.history.items c.make_ready_to_resume.ensures.stamps c.make_ready_to_resume.ensures.same (Caller c.args.caller) Resume tt (Replied c.undone.result) c.in-Err.why c.make_ready_to_resume.ensures.idle
+    (record { memory = λ is. ap (λ (r : Reply). Replied r) (c.undone.ensures.memory is); failed = λ is. ap (λ (r : Reply). Replied r) (c.undone.ensures.failed is) }) c.in-Err.ensures.refused)
+
+pub answer_again-done-requires-clause-idle : goal.answer_again-done-requires-clause-idle
+answer_again-done-requires-clause-idle g c = c.make_ready_to_resume.ensures.idle c.in_default.ensures.working _
+
+pub answer_again-done-requires-clause-ordered : goal.answer_again-done-requires-clause-ordered
+answer_again-done-requires-clause-ordered g c = ordered_in c.self.inside.service _ c.self.inside.files.held _ _ 0 _ c.awaited-awaited.ensures.ordered
+
+pub invariant_of-self-2 : goal.invariant_of-self-2
+invariant_of-self-2 g c =
+    let at = (goal.at.invariant_of-self-2 g c).After-keep in
+    let is = next g at in
+    let more = one_more c.make_ready_to_resume.new.history.items c.keep.new.history.items (Caller c.args.caller) Resume (λ (r : Reply). Replied r) c.answer_again-done.result c.keep.result c.answer_again-done.ensures.replied.ends.no_part (keeps g at) in (
+      is.0,
+      is.1,
+      c.self.invariant.2,
+      c.self.invariant.3,
+      (
+          let fewer = room_again c.self.inside.service c.answer_again-done.new.service (is_aborted (waiting c.self.inside.service c.args.caller)) c.answer_again-done.result c.answer_again-done.ensures.room c.answer_again-done.ensures.replied.err c.answer_again-done.ensures.aborts in
+          let there = subst (λ (b : Bool). vec_len c.make_ready_to_resume.new.history + c.awaited-awaited.result + (if b then 0 else 2) ≤ vec_capacity c.make_ready_to_resume.new.history) c.is_aborted-aborted.ensures c.in_default.ensures.room in
+          omega (arith, more, fewer, there, c.awaited-awaited.ensures.count, c.keep.ensures.room)
+          ),
+      lasting (superblock_of c.self.inside.files) c.self.inside.files.held _ _ _ _ c.self.inside.service c.answer_again-done.new.service (Caller c.args.caller) Resume c.answer_again-done.result c.answer_again-done.ensures.replied.left c.answer_again-done.ensures.replied.err c.self.invariant.5,
+    )
+
+pub returns-clause-resumed : goal.returns-clause-resumed
+returns-clause-resumed g c = subst (λ (old : Store g.row.D.Denot). IsResumed g.D.Disk old c.args.caller c.keep.result (after g (goal.at.returns-clause-resumed g c).After-keep)) c.self.view_is (next g (goal.at.returns-clause-resumed g c).After-keep).2
+
+pub returns-clause-safe : goal.returns-clause-safe
+returns-clause-safe g c = (next g (goal.at.returns-clause-safe g c).After-keep).1.now
+
+pub returns-in-Err-clause-safe : goal.returns-in-Err-clause-safe
+returns-in-Err-clause-safe g c = rw (c.make_ready_to_resume.ensures.same) c.self.invariant.1.now
