@@ -23,10 +23,10 @@ opens st ordered (suc n) = open_where (st.ledger.open (suc n)) (suc n) (places (
 
 -- tables are in order, whatever else they are seen with
 pub ordered_in : (t : Tables) (held h : Held) (stamps st : FileKey → ℕ) (number n : ℕ) → InOrder (state_in held stamps number t) → InOrder (state_in h st n t)
-ordered_in t held h stamps st number n is = record { ascend = is.ascend; once = is.once; given = is.given; none = is.none; waits = is.waits }
+ordered_in t held h stamps st number n is = record { ascend = is.ascend; once = is.once; given = is.given; none = is.none; waits = is.waits; rights = is.rights; held = is.held }
 
--- tables that have the sessions, the number of tokens and the accesses of a state in order
-module _ (u : Tables) (st : State) (ordered : InOrder st) (sessions : u.sessions ≡ st.sessions) (top : u.tokens ≡ st.ledger.top)
+-- tables that have the sessions, the number of tokens, the rights and the accesses of a state in order
+module _ (u : Tables) (st : State) (ordered : InOrder st) (sessions : u.sessions ≡ st.sessions) (top : u.tokens ≡ st.ledger.top) (rights : u.rights ≡ st.rights)
     (pending : (c : ℕ) → option_map pending_as (waiting u c) ≡ st.ledger.pending c) (flags : (c : ℕ) → flags_of u c ≡ st.flags c) where
   opens_as : (n : ℕ) → is_open u.sessions n ≡ st.ledger.open n
   opens_as n = ap (λ s. is_open s n) sessions ∙ sym (opens st ordered n)
@@ -37,6 +37,7 @@ module _ (u : Tables) (st : State) (ordered : InOrder st) (sessions : u.sessions
     stamps = st.stamps;
     number = st.number;
     sessions = sessions i;
+    rights = rights i;
     flags = λ c. flags c i;
     ledger = record { pending = λ c. pending c i; top = top i; «open» = λ n. opens_as n i };
   }

@@ -1,4 +1,6 @@
 pub mod Refusing
+pub mod Righted
+pub mod Judged
 pub mod HandedOut
 pub mod Ledgers
 pub mod Awaiting

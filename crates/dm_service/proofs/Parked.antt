@@ -1,89 +1,42 @@
 -- What events of accesses leave of the tables, and accesses that wait.
-use Rattle.std.proofs.Common.{◌≡◌, ℕ, ◌+◌, ◌<◌, ◌≤◌, ◌^◌, Bool, true, false, Option, None, Some, refl, sym, ◌∙◌, ap, subst, arith}
+use Rattle.std.proofs.Common.{◌≡◌, ℕ, ◌+◌, ◌<◌, ◌≤◌, ◌^◌, true, false, Option, None, Some, refl, sym, ◌∙◌, ap, subst, arith}
 use Rattle.std.proofs.lemmas.Bool.{ne_eqb, eq-eqb, false_from_ne_true, eqb-false, cond_both}
-use Rattle.std.proofs.lemmas.Bool.Decides.{nat_tests}
-use Rattle.std.specs.Prelude.{◌==◌, is_some, is_none, if◌then◌else◌, IfSome}
+use Rattle.std.specs.Prelude.{◌==◌, is_some, if◌then◌else◌, IfSome}
 use Rattle.std.specs.Option.{option_map}
 use Rattle.hsm_types.specs.Callers.{IsCallerNumber}
-use Rattle.hsm_types.specs.Sessions.{SessionTable, Ascend, places, taker, posted_to, posted}
+use Rattle.hsm_types.specs.Sessions.{posted}
 use Rattle.hsm_types.specs.declared.dm.Kind.{Kind}
-use Rattle.hsm_types.specs.declared.dm.Response.{Response}
 use Rattle.hsm_types.specs.declared.keys.Handle.{Handle}
-use Rattle.hsm_types.specs.declared.keys.Sid.{Sid}
 use Rattle.hsm_types.specs.declared.keys.Token.{Token}
-use Rattle.hsm_types.specs.declared.messages.Message.{Message}
 use Rattle.hsm_types.specs.declared.regions.Range.{Range}
-use Rattle.hsm_types.proofs.AscendingIds.{ascend-changed}
-use Rattle.hsm_types.proofs.Queues.{places-posted}
 use Rattle.plain_model.specs.Keyed.{set_at}
 use Rattle.plain_model.specs.Accesses.{event_message}
-use Rattle.plain_model.specs.Ledger.{Access as Pending, Ledger, next_token}
+use Rattle.plain_model.specs.Ledger.{Ledger, next_token}
 use Rattle.plain_model.specs.State.{State}
 use Rattle.plain_model.specs.Stands.{Awaits, InOrder}
+use Rattle.plain_model.proofs.Orders.{posted_ordered}
 use Rattle.access_park.specs.Laws.{CountsWaiting}
 use Rattle.access_park.specs.Pending.{Slots, access_of, is_token, holds, has_lawful_answer, waiting_in, IsNewToken, IsPark}
 use Rattle.access_park.specs.declared.access.Access.{Access}
 use Rattle.access_park.proofs.Counting.{counts_waiting}
 use Rattle.dm_service.specs.Tables.{Tables, waiting, is_open, pending_as, flags_or_none, ledger_of, seen, awaited_in, AreKept}
-use Rattle.dm_service.specs.Parking.{with_access, with_event, parked, parked_on, MayWait}
+use Rattle.dm_service.specs.Parking.{with_access, with_event, blocked, parked, parked_on, MayWait}
 use Rattle.dm_service.proofs.Ledgers.{shown, still_ordered, open_as}
 use Rattle.dm_service.proofs.Awaiting.{opened}
 
 -- ---- an event that is posted
 
-ascends : (m : Message) (t : SessionTable) → Ascend 0 t.given t.live → Ascend 0 (posted m t).given (posted m t).live
-ascends m t ascend = to (taker m.kind t)
-  where
-    to : (found : Option Sid) → Ascend 0 (posted_to found m t).given (posted_to found m t).live
-    to None = ascend
-    to (Some sid) = ascend-changed sid _ 0 t.given t.live ascend
-
--- one place more for a new token, which is open now
-opened_once : (given : ℕ → Bool) (top u places_then places_now : ℕ) → ((n : ℕ) → top < n → given n ≡ false) → places_then ≡ (if given u then 1 else 0)
-    → places_now ≡ places_then + (if (top + 1) == u then 1 else 0) → places_now ≡ (if set_at (top + 1) true given u then 1 else 0)
-opened_once given top u places_then places_now beyond is more =
-    more
-    ∙ elim (u == (top + 1)) as (λ b. (u == (top + 1)) ≡ b → places_then + (if (top + 1) == u then 1 else 0) ≡ (if (if b then true else given u) then 1 else 0)) [
-      | true ↦ λ here. grind (arith, nat_tests, is, beyond u)
-      | false ↦ λ apart. grind (arith, nat_tests, is)
-    ] refl
-
-elsewhere : (given : ℕ → Bool) (new n : ℕ) (b : Bool) → (n ≡ new → ⊥) → given n ≡ b → set_at new true given n ≡ b
-elsewhere given new n b apart is = let off : (n == new) ≡ false = ne_eqb n new apart in rw off is
-
--- what waits still does
-moved : (L M : Ledger) → L.top ≤ M.top → ((n : ℕ) (b : Bool) → n ≤ L.top → L.open n ≡ b → M.open n ≡ b) → (token : Option Token) (answer : Option Response) → Awaits L token answer → Awaits M token answer
-moved L M up same None answer is = is
-moved L M up same (Some t) answer is = let old = is.0 in (omega (arith, old, up), same t.0 (is_none answer) old is.1)
-
-moved_waits : (L M : Ledger) → L.top ≤ M.top → ((n : ℕ) (b : Bool) → n ≤ L.top → L.open n ≡ b → M.open n ≡ b) → (p : Option Pending) → IfSome p (λ a. Awaits L a.token a.answer) → IfSome p (λ a. Awaits M a.token a.answer)
-moved_waits L M up same None is = tt
-moved_waits L M up same (Some a) is = moved L M up same a.token a.answer is
-
-event_ordered : (st : State) (kind : Kind) (handle : Handle) (told : Range) → InOrder st → InOrder (with_event kind handle told st)
-event_ordered st kind handle told ordered =
-    let L : Ledger = st.ledger in
-    let new : State = with_event kind handle told st in
-    let m : Message = event_message kind (next_token L) handle told in
-    record {
-      ascend = ascends m st.sessions ordered.ascend;
-      once = λ u some. opened_once L.open L.top u.0 (places u st.sessions) (places u (posted m st.sessions)) ordered.given (ordered.once u some) (places-posted u m st.sessions);
-      given = λ n past. elsewhere L.open (L.top + 1) n false (λ same. omega (arith, past, same)) (ordered.given n (omega arith));
-      none = elsewhere L.open (L.top + 1) 0 false (λ same. omega (arith, same)) ordered.none;
-      waits = λ c. moved_waits L new.ledger (omega arith) (λ n b old is. elsewhere L.open (L.top + 1) n b (λ same. omega (arith, old, same)) is) (L.pending c) (ordered.waits c);
-    }
-
 pub posted_by : (t u : Tables) (n : ℕ) (kind : Kind) (handle : Handle) (told : Range) → AreKept t n → u.sessions ≡ posted (event_message kind (next_token (ledger_of t)) handle told) t.sessions → u.tokens ≡ t.tokens + 1 → u.tokens ≤ 2 ^ 62
-    → u.park ≡ t.park → (seen u ≡ with_event kind handle told (seen t)) × AreKept u (n + 1) × (awaited_in u ≡ awaited_in t + 1)
-posted_by t u n kind handle told kept sessions tokens few park =
+    → u.rights ≡ t.rights → u.park ≡ t.park → (seen u ≡ with_event kind handle told (seen t)) × AreKept u (n + 1) × (awaited_in u ≡ awaited_in t + 1)
+posted_by t u n kind handle told kept sessions tokens few rights park =
     let st : State = with_event kind handle told (seen t) in
-    let ordered = event_ordered (seen t) kind handle told kept.ordered in
+    let ordered = posted_ordered (seen t) kind handle told kept.ordered in
     let pending = λ (c : ℕ). ap (λ p. option_map pending_as (access_of p c)) park in
     let flags = λ (c : ℕ). ap (λ p. flags_or_none (access_of p c)) park in
-    let more = open_as u st ordered sessions tokens pending flags ∙ opened t.tokens (is_open t.sessions) in
+    let more = open_as u st ordered sessions tokens rights pending flags ∙ opened t.tokens (is_open t.sessions) in
     let wait : waiting_in (waiting u) ≡ waiting_in (waiting t) = ap (λ p. waiting_in (access_of p)) park in (
-      shown u st ordered sessions tokens pending flags,
-      record { ordered = still_ordered u st ordered sessions tokens pending flags; counted = omega (arith, more, kept.counted); few = few },
+      shown u st ordered sessions tokens rights pending flags,
+      record { ordered = still_ordered u st ordered sessions tokens rights pending flags; counted = omega (arith, more, kept.counted); few = few },
       omega (arith, more, wait),
     )
 
@@ -125,6 +78,10 @@ pub parked_again : (old posted_in taken_from new : Tables) (c : ℕ) (kind : Kin
     → seen new ≡ parked_on c a kind handle told (seen old)
 parked_again old posted_in taken_from new c kind handle told token a is posts ends parks =
     parks ∙ ap (with_access c (Some (parked kind token a))) (ends ∙ ap (with_access c None) posts) ∙ replaced c None (Some (parked kind token a)) (with_event kind handle told (seen old)) ∙ parks_on c a kind handle told token (seen old) is
+
+-- and one that is blocked again
+pub blocked_again : (old taken_from new : Tables) (c : ℕ) (a : Access) → seen taken_from ≡ with_access c None (seen old) → seen new ≡ with_access c (Some (blocked a)) (seen taken_from) → seen new ≡ with_access c (Some (blocked a)) (seen old)
+blocked_again old taken_from new c a ends blocks = blocks ∙ ap (with_access c (Some (blocked a))) ends ∙ replaced c None (Some (blocked a)) (seen old)
 
 -- ---- an access that is taken out
 

@@ -6,6 +6,7 @@ use Rattle.std.specs.Option.{option_map}
 use Rattle.hsm_types.specs.Calls.{scope_of}
 use Rattle.hsm_types.specs.Refusals.{first_refusal}
 use Rattle.hsm_types.specs.Messages.{is_lawful}
+use Rattle.hsm_types.specs.Rights.{released}
 use Rattle.hsm_types.specs.Sessions.{SessionTable, lives, dead_session, bad_response, responded, user_event}
 use Rattle.hsm_types.specs.declared.keys.Sid.{Sid}
 use Rattle.hsm_types.specs.declared.keys.Token.{Token}
@@ -38,9 +39,9 @@ passed t sid call ordered none = subst (λ why. InOrder (dm_state_where why any_
 
 -- ---- calls that open and close no token
 
-judged_by : (t : Tables) (sid : Sid) (call : DmCall) → whole_refusal t.sessions sid call ≡ dm_judged any_superblock (seen t) sid call
-judged_by t sid GetSpace = refl
-judged_by t sid call = refl
+judged_by : (t : Tables) (sid : Sid) (call : DmCall) → asks_sessions call ≡ true → whole_refusal t.sessions sid call ≡ dm_judged any_superblock (seen t) sid call
+judged_by t sid GetSpace asks = refl
+judged_by t sid call asks = cc
 
 told_by : (t : Tables) (sid : Sid) (call : DmCall) (why : Option DmRefusal) → asks_sessions call ≡ true → dm_reply_where why any_superblock (with_sessions t.sessions) sid call ≡ dm_reply_where why any_superblock (seen t) sid call
 told_by t sid call (Some why) asks = refl
@@ -72,7 +73,7 @@ module _ (t : SessionTable) (sid : Sid) (call : DmCall) (asks : asks_sessions ca
   told_outside {E = E} why r refuses both =
       subst (λ w. IsTold {E = E} t sid call w (Ok r) t) (sym (judged ∙ one_stops (session_refusals t sid (scope_of call)) (own_refusal t sid call ∷ []) why refuses)) (record { replies = both; left = refl; memory = tt; err = tt })
 
-module _ (t u : Tables) (n : ℕ) (kept : AreKept t n) (sid : Sid) (call : DmCall) (asks : asks_sessions call ≡ true) (tokens : u.tokens ≡ t.tokens) (park : u.park ≡ t.park) where
+module _ (t u : Tables) (n : ℕ) (kept : AreKept t n) (sid : Sid) (call : DmCall) (asks : asks_sessions call ≡ true) (tokens : u.tokens ≡ t.tokens) (rights : u.rights ≡ t.rights) (park : u.park ≡ t.park) where
   pub left_by : (why : Option DmRefusal) → dm_judged any_superblock (seen t) sid call ≡ why → u.sessions ≡ (dm_state_where why any_superblock (with_sessions t.sessions) sid call).sessions
       → (noted (seen u) ≡ dm_state_where why any_superblock (seen t) sid call) × AreKept u n × (awaited_in u ≡ awaited_in t)
   left_by why is sessions =
@@ -81,18 +82,18 @@ module _ (t u : Tables) (n : ℕ) (kept : AreKept t n) (sid : Sid) (call : DmCal
       let ordered : InOrder st = subst InOrder rest (subst (λ w. InOrder (dm_state_where w any_superblock (seen t) sid call)) is (dm_ordered any_superblock (seen t) sid call kept.ordered)) in
       let pending = λ (c : ℕ). ap (λ p. option_map pending_as (access_of p c)) park in
       let flags = λ (c : ℕ). ap (λ p. flags_or_none (access_of p c)) park in
-      let open_same = open_as u st ordered sessions tokens pending flags in (
-        shown u st ordered sessions tokens pending flags ∙ sym rest,
-        record { ordered = still_ordered u st ordered sessions tokens pending flags; counted = kept.counted ∙ sym open_same; few = rw tokens kept.few },
+      let open_same = open_as u st ordered sessions tokens rights pending flags in (
+        shown u st ordered sessions tokens rights pending flags ∙ sym rest,
+        record { ordered = still_ordered u st ordered sessions tokens rights pending flags; counted = kept.counted ∙ sym open_same; few = rw tokens kept.few },
         λ i. open_same i + waiting_in (access_of (park i)),
       )
 
   unchanged : u.sessions ≡ t.sessions → u ≡ t
-  unchanged sessions i = record { sessions = sessions i; tokens = tokens i; park = park i }
+  unchanged sessions i = record { sessions = sessions i; tokens = tokens i; rights = rights i; park = park i }
 
   pub served_by : {E : Type 0} (result : Result (DmReply × DmReply) E) → IsTold t.sessions sid call (whole_refusal t.sessions sid call) result u.sessions → IsServed t sid call result u × AreKept u n × (awaited_in u ≡ awaited_in t)
   served_by (Ok r) told =
-      let is = judged_by t sid call in
+      let is = judged_by t sid call asks in
       let after = left_by (dm_judged any_superblock (seen t) sid call) refl (subst (λ why. u.sessions ≡ (dm_state_where why any_superblock (with_sessions t.sessions) sid call).sessions) is told.left) in (
         record {
           replies = subst (λ (x : DmReply). AreBoth x r) ((λ i. dm_reply_where (is i) any_superblock (with_sessions t.sessions) sid call) ∙ told_by t sid call (dm_judged any_superblock (seen t) sid call) asks) told.replies;
@@ -105,7 +106,7 @@ module _ (t u : Tables) (n : ℕ) (kept : AreKept t n) (sid : Sid) (call : DmCal
       )
   served_by (Err e) told =
       let same = unchanged told.err in
-      (record { replies = tt; left = tt; memory = sym (judged_by t sid call) ∙ told.memory; err = same }, subst (λ x. AreKept x n) (sym same) kept, ap awaited_in same)
+      (record { replies = tt; left = tt; memory = sym (judged_by t sid call asks) ∙ told.memory; err = same }, subst (λ x. AreKept x n) (sym same) kept, ap awaited_in same)
 
   -- so it is of a call that isn't answered by a reply
   pub changed_by : {T E : Type 0} (result : Result T E) → OnOk result (dm_judged any_superblock (seen t) sid call ≡ None) → OnOk result (u.sessions ≡ (dm_state_where None any_superblock (with_sessions t.sessions) sid call).sessions)
@@ -145,36 +146,36 @@ module _ (t : Tables) (n : ℕ) (kept : AreKept t n) (sid : Sid) (token : Token)
   pub some_open : 1 ≤ n
   some_open = let one = one_less in omega arith
 
-  pub responded_by : (u : Tables) → u.sessions ≡ responded sid token t.sessions → u.tokens ≡ t.tokens → access_of u.park ≡ (λ c. answered token response (waiting t c))
+  pub responded_by : (u : Tables) → u.sessions ≡ responded sid token t.sessions → u.tokens ≡ t.tokens → u.rights ≡ released token t.rights → access_of u.park ≡ (λ c. answered token response (waiting t c))
       → (noted (seen u) ≡ dm_state_where None any_superblock (seen t) sid (Respond token response)) × AreKept u (n - 1) × (awaited_in u + 1 ≡ awaited_in t)
-  responded_by u sessions tokens park =
+  responded_by u sessions tokens rights park =
       let st : State = dm_state_where None any_superblock (seen t) sid (Respond token response) in
       let ordered : InOrder st = passed t sid (Respond token response) kept.ordered none in
       let pending = λ (c : ℕ). (λ i. option_map pending_as (park i c)) ∙ pending-answered token response (waiting t c) in
       let flags = λ (c : ℕ). (λ i. flags_or_none (park i c)) ∙ flags-answered token response (waiting t c) in
-      let fewer = open_as u st ordered sessions tokens pending flags in
+      let fewer = open_as u st ordered sessions tokens rights pending flags in
       let counts : CountsWaiting (waiting t) = counts_waiting (waiting t) in
       let wait : waiting_in (waiting u) ≡ waiting_in (waiting t) = ap waiting_in park ∙ counts.kept token response in
       let one = one_less in (
-        shown u st ordered sessions tokens pending flags,
-        record { ordered = still_ordered u st ordered sessions tokens pending flags; counted = omega (arith, fewer, one); few = rw tokens kept.few },
+        shown u st ordered sessions tokens rights pending flags,
+        record { ordered = still_ordered u st ordered sessions tokens rights pending flags; counted = omega (arith, fewer, one); few = rw tokens kept.few },
         omega (arith, fewer, one, wait, kept.counted),
       )
 
 -- ---- an event of a session's own
 
 module _ (t : Tables) (n : ℕ) (kept : AreKept t n) (sid : Sid) (body : List ℕ) (none : dm_judged any_superblock (seen t) sid (CreateUserEvent body) ≡ None) where
-  pub made_by : (u : Tables) → u.sessions ≡ user_event sid (next_token (ledger_of t)) body t.sessions → u.tokens ≡ t.tokens + 1 → u.tokens ≤ 2 ^ 62 → u.park ≡ t.park
+  pub made_by : (u : Tables) → u.sessions ≡ user_event sid (next_token (ledger_of t)) body t.sessions → u.tokens ≡ t.tokens + 1 → u.tokens ≤ 2 ^ 62 → u.rights ≡ t.rights → u.park ≡ t.park
       → (noted (seen u) ≡ dm_state_where None any_superblock (seen t) sid (CreateUserEvent body)) × AreKept u (n + 1) × (awaited_in u ≡ awaited_in t + 1)
-  made_by u sessions tokens few park =
+  made_by u sessions tokens few rights park =
       let st : State = dm_state_where None any_superblock (seen t) sid (CreateUserEvent body) in
       let ordered : InOrder st = passed t sid (CreateUserEvent body) kept.ordered none in
       let pending = λ (c : ℕ). ap (λ p. option_map pending_as (access_of p c)) park in
       let flags = λ (c : ℕ). ap (λ p. flags_or_none (access_of p c)) park in
-      let more = open_as u st ordered sessions tokens pending flags ∙ opened t.tokens (is_open t.sessions) in
+      let more = open_as u st ordered sessions tokens rights pending flags ∙ opened t.tokens (is_open t.sessions) in
       let wait : waiting_in (waiting u) ≡ waiting_in (waiting t) = ap (λ p. waiting_in (access_of p)) park in (
-        shown u st ordered sessions tokens pending flags,
-        record { ordered = still_ordered u st ordered sessions tokens pending flags; counted = omega (arith, more, kept.counted); few = few },
+        shown u st ordered sessions tokens rights pending flags,
+        record { ordered = still_ordered u st ordered sessions tokens rights pending flags; counted = omega (arith, more, kept.counted); few = few },
         omega (arith, more, wait),
       )
 

@@ -44,6 +44,10 @@ parked_on c a kind handle told st = record st {
 abbrev pub parked : Kind → Token → Access → Access
 parked kind t a = record a { cleared = true; spaced = a.spaced || is_no_space kind; token = Some t; answer = None }
 
+-- as it waits for no token, and may be judged again at any time
+abbrev pub blocked : Access → Access
+blocked a = record a { token = None; answer = None }
+
 -- It may wait: its token was given, is open up to the response, and no other access waits for it; and the response is lawful
 pub record MayWait (t : Tables) (a : Access) : Type 0 where
   pub awaits : Awaits (ledger_of t) a.token a.answer

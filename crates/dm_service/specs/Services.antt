@@ -5,16 +5,16 @@ use Rattle.hsm_types.specs.Sessions.{SessionTable, lives, dead_session}
 use Rattle.hsm_types.specs.declared.keys.Sid.{Sid}
 use Rattle.hsm_types.specs.declared.stores.Superblock.{Superblock}
 use Rattle.hsm_types.specs.declared.dm.Scope.{Scope}
-use Rattle.hsm_types.specs.declared.dm.Scope.TheVariants.{Anyone, InSession, OnToken, OnFile}
+use Rattle.hsm_types.specs.declared.dm.Scope.TheVariants.{Anyone, InSession, OnToken, OnFile, OnRight}
 use Rattle.hsm_types.specs.declared.dm.DmCall.{DmCall}
-use Rattle.hsm_types.specs.declared.dm.DmCall.TheVariants.{CreateSession, DestroySession, GetAllSessions, QuerySession, SetDisp, GetDisp, GetEvents, GetAllTokens, FindEventMsg, Respond, CreateUserEvent, SendMsg}
+use Rattle.hsm_types.specs.declared.dm.DmCall.TheVariants.{CreateSession, DestroySession, GetAllSessions, QuerySession, SetDisp, GetDisp, GetEvents, GetAllTokens, FindEventMsg, Respond, CreateUserEvent, SendMsg, RequestRight, ReleaseRight, QueryRight, UpgradeRight, DowngradeRight}
 use Rattle.hsm_types.specs.declared.dm.DmRefusal.{DmRefusal}
 use Rattle.hsm_types.specs.declared.dm.DmRefusal.TheVariants.{Memory}
 use Rattle.hsm_types.specs.declared.dm.DmReply.{DmReply}
 use Rattle.hsm_types.specs.declared.dm.DmReply.TheVariants as reply
 use Rattle.plain_model.specs.State.{State, nothing_held, just_opened, noted}
 use Rattle.plain_model.specs.Services.{service, bad_own_token, bad_given_token, dm_judged, dm_reply_where, dm_reply_to, dm_state_where, dm_state_after}
-use Rattle.dm_service.specs.Tables.{Tables, seen}
+use Rattle.dm_service.specs.Tables.{Tables, is_open, seen}
 
 -- ---- judging
 
@@ -32,6 +32,12 @@ session_refusals t sid Anyone = []
 session_refusals t sid InSession = dead_session sid t ∷ []
 session_refusals t sid (OnToken token) = dead_session sid t ∷ bad_own_token sid token t ∷ []
 session_refusals t sid (OnFile token handle right) = dead_session sid t ∷ bad_given_token sid token t ∷ []
+session_refusals t sid (OnRight token handle right) = dead_session sid t ∷ bad_own_token sid token t ∷ []
+
+-- a call on a right is made with an open token
+abbrev pub HasOpenToken : SessionTable → Scope → Type 0
+HasOpenToken t (OnRight token handle right) = is_open t token.0 ≡ true
+HasOpenToken t scope = Unit {0}
 
 -- ---- which calls these are
 
@@ -54,6 +60,15 @@ abbrev pub asks_tables : DmCall → Bool
 asks_tables (Respond token response) = true
 asks_tables (CreateUserEvent body) = true
 asks_tables call = asks_sessions call
+
+-- those on rights
+abbrev pub asks_rights : DmCall → Bool
+asks_rights (RequestRight token handle right) = true
+asks_rights (ReleaseRight token handle) = true
+asks_rights (QueryRight token handle) = true
+asks_rights (UpgradeRight token handle) = true
+asks_rights (DowngradeRight token handle) = true
+asks_rights call = false
 
 -- they are the same in every store
 abbrev pub any_superblock : Superblock
@@ -103,6 +118,13 @@ whole_refusal t sid call = dm_judged any_superblock (with_sessions t) sid call
 abbrev pub is_due : SessionTable → Sid → DmCall → Bool
 is_due t sid (Respond token response) = lives sid t && not (is_some (bad_own_token sid token t)) && is_lawful response
 is_due t sid call = false
+
+-- a call that wants memory for its entry alone
+abbrev pub wants_entry_alone : DmCall → Bool
+wants_entry_alone (ReleaseRight token handle) = true
+wants_entry_alone (QueryRight token handle) = true
+wants_entry_alone (DowngradeRight token handle) = true
+wants_entry_alone call = false
 
 -- for how many entries a call needs room beside those that are set apart: its own, which is among them for a response that is due, and the response to the
 -- event that it may make

@@ -1,6 +1,7 @@
 -- What a store keeps of its sessions and of the accesses that wait, and how the model sees it.
 use Rattle.std.specs.Prelude.{ℕ, zero, suc, ◌≡◌, ◌+◌, ◌≤◌, ◌^◌, Bool, ◌&&◌, nat_lt, if◌then◌else◌, Option, Some, None}
 use Rattle.std.specs.Option.{option_map}
+use Rattle.hsm_types.specs.Rights.{Rights}
 use Rattle.hsm_types.specs.Sessions.{SessionTable, places}
 use Rattle.hsm_types.specs.declared.keys.FileKey.{FileKey}
 use Rattle.plain_model.specs.Ledger.{Access as Pending, Ledger}
@@ -13,6 +14,8 @@ pub record Tables : Type 0 where
   pub sessions : SessionTable
   -- how many tokens were given
   pub tokens : ℕ
+  -- what tokens hold
+  pub rights : Rights
   -- a slot for the access of each caller
   pub park : Slots
 
@@ -45,7 +48,7 @@ flags_of t c = flags_or_none (waiting t c)
 
 -- a store with these tables
 abbrev pub state_in : Held → (FileKey → ℕ) → ℕ → Tables → State
-state_in held stamps number t = record { held = held; stamps = stamps; number = number; sessions = t.sessions; flags = flags_of t; ledger = ledger_of t }
+state_in held stamps number t = record { held = held; stamps = stamps; number = number; sessions = t.sessions; rights = t.rights; flags = flags_of t; ledger = ledger_of t }
 
 -- one with nothing else
 abbrev pub seen : Tables → State

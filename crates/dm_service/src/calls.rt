@@ -2,7 +2,7 @@
 ghost use Rattle.std.specs.Prelude.{◌≡◌, None, true};
 ghost use Rattle.hsm_types.specs.Calls.{scope_of};
 ghost use Rattle.hsm_types.specs.Refusals.{first_refusal};
-ghost use Rattle.dm_service.specs.Services.{asks_sessions, asks_tables, own_refusal, session_refusals, whole_refusal, IsTold};
+ghost use Rattle.dm_service.specs.Services.{asks_rights, asks_sessions, asks_tables, own_refusal, session_refusals, whole_refusal, IsTold};
 
 use crate::replies::refused;
 use crate::scope::judge_scope;
@@ -30,6 +30,20 @@ pub fn asks_tables(call: &DmCall) -> bool
         | DmCall::SendMsg { .. } => true,
         _ => false,
     }
+}
+
+/// Whether the call is on the rights of tokens.
+pub fn asks_rights(call: &DmCall) -> bool
+    ensures { result ≡ asks_rights call.now }
+{
+    matches!(
+        call,
+        DmCall::RequestRight { .. }
+            | DmCall::ReleaseRight { .. }
+            | DmCall::QueryRight { .. }
+            | DmCall::UpgradeRight { .. }
+            | DmCall::DowngradeRight { .. }
+    )
 }
 
 /// Answers a call that opens and closes no token.

@@ -1,9 +1,11 @@
 //! The rules by which an access is judged. The first that applies decides.
 ghost use Rattle.std.specs.Prelude.{◌≡◌};
 ghost use Rattle.std.specs.Option.{option_map};
-ghost use Rattle.plain_model.specs.Accesses.{kind_of};
+ghost use Rattle.hsm_types.specs.Messages.{no_token};
+ghost use Rattle.hsm_types.specs.Rights.{conflict};
+ghost use Rattle.plain_model.specs.Accesses.{kind_of, need_of};
 ghost use Rattle.plain_model.specs.Ledger.{aborted, gone};
-ghost use Rattle.plain_model.specs.Verdict.{Ends, Rules, touching, lacking, judgement};
+ghost use Rattle.plain_model.specs.Verdict.{Ends, Rules, conflicting, touching, lacking, judgement};
 ghost use Rattle.dm_service.specs.Tables.{flags_in};
 ghost use Rattle.dm_service.specs.Judging.{verdict_of, said};
 
@@ -11,18 +13,22 @@ use crate::service::DmService;
 use crate::verdict::Verdict;
 use access_park::Access;
 use dm_sessions::Sessions;
-use hsm_types::{Call, Kind, Response};
+use hsm_types::{Call, FileKey, Kind, Response, Right, Token};
 use plain_model::Facts;
 
 impl DmService {
-    /// Judges an access of which the store knows these facts: when it is issued, and again when it is resumed. It takes no memory.
-    pub fn judge(&self, access: &Access, facts: &Facts) -> Verdict
-        ensures { result ≡ verdict_of (judgement (flags_in access.now) access.now.answer facts.now self.now.sessions access.now.call) }
+    /// Judges an access to the file with that key, of which the store knows these facts: when it is issued, and again when it is resumed. It takes no
+    /// memory.
+    pub fn judge(&self, key: FileKey, access: &Access, facts: &Facts) -> Verdict
+        ensures { result ≡ verdict_of (judgement (flags_in access.now) access.now.answer facts.now self.now.rights self.now.sessions key access.now.call) }
     {
         if let Some(verdict) = judge_answer(access) {
             return verdict;
         }
         if let Some(verdict) = judge_file(facts) {
+            return verdict;
+        }
+        if let Some(verdict) = self.judge_rights(key, &access.call) {
             return verdict;
         }
         if let Some(verdict) = judge_regions(access, facts) {
@@ -32,6 +38,31 @@ impl DmService {
             return verdict;
         }
         Verdict::Complete
+    }
+
+    /// It waits where a token's right on its file excludes it.
+    fn judge_rights(&self, key: FileKey, call: &Call) -> Option<Verdict>
+        ensures { result ≡ said (option_map Rules (conflicting self.now.rights key call.now)) }
+    {
+        self.conflict(key, call).map(Verdict::Block)
+    }
+
+    /// The lowest token whose right on the file excludes the call. It costs a look-up, and a walk over the rights on that file.
+    pub fn conflict(&self, key: FileKey, call: &Call) -> Option<Token>
+        ensures { result ≡ conflict key (need_of call.now) no_token self.now.rights }
+    {
+        self.rights.conflict(key, need_of(call), Token(0))
+    }
+}
+
+/// The right that an access needs on its file.
+fn need_of(call: &Call) -> Right
+    ensures { result ≡ need_of call.now }
+{
+    match call {
+        Call::Read { .. } => Right::Shared,
+        Call::Write { .. } | Call::Truncate { .. } | Call::Remove { .. } => Right::Excl,
+        Call::Create { .. } | Call::Stat { .. } | Call::Sync => Right::Null,
     }
 }
 

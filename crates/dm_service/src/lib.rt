@@ -1,4 +1,4 @@
-//! The service of sessions: their calls on dispositions, messages and tokens, the events of accesses, and the accesses that wait for responses.
+//! The service of sessions: their calls on dispositions, messages and tokens, what tokens hold, the events of accesses, and the accesses that wait.
 #![tactic(auto)]
 
 mod calls;
@@ -6,6 +6,7 @@ mod judging;
 mod messages;
 mod parking;
 mod replies;
+mod rights;
 mod scope;
 mod service;
 mod serving;
@@ -14,7 +15,7 @@ mod tokens;
 mod verdict;
 
 pub use access_park::Access;
-pub use calls::asks_tables;
+pub use calls::{asks_rights, asks_tables};
 pub use judging::kind_of;
 pub use plain_model::{Facts, NoRoom};
 pub use service::DmService;

@@ -6,7 +6,7 @@ ghost use Rattle.plain_model.specs.Accesses.{event_message};
 ghost use Rattle.plain_model.specs.Ledger.{next_token};
 ghost use Rattle.access_park.specs.declared.access.Access.{Access};
 ghost use Rattle.dm_service.specs.Tables.{awaited_in, ledger_of, seen, waiting};
-ghost use Rattle.dm_service.specs.Parking.{parked, parked_on, with_access, with_event, MayWait};
+ghost use Rattle.dm_service.specs.Parking.{blocked, parked, parked_on, with_access, with_event, MayWait};
 
 use crate::service::DmService;
 use crate::tokens::next_token;
@@ -87,6 +87,25 @@ impl DmService {
         Ok(token)
     }
 
+    /// Lets an access of the caller wait for no token.
+    pub fn block(&mut self, caller: CallerId, access: Access)
+        requires idle { waiting self.old caller ≡ None }
+        ensures after { seen self.new ≡ with_access caller (Some (blocked access)) (seen self.old) }
+        ensures counted { awaited_in self.new ≡ awaited_in self.old + 1 }
+    {
+        self.park(caller, blocked(access));
+    }
+
+    /// Lets the caller's access wait on for no token, whatever it has waited for.
+    pub fn block_again(&mut self, caller: CallerId)
+        requires { IsSome (waiting self.old caller) }
+        ensures after { IfSome (waiting self.old caller) (λ access. seen self.new ≡ with_access caller (Some (blocked access)) (seen self.old)) }
+        ensures counted { awaited_in self.new ≡ awaited_in self.old }
+    {
+        let access = self.end(caller).unwrap();
+        self.block(caller, access);
+    }
+
     /// Lets an access of the caller wait.
     pub fn park(&mut self, caller: CallerId, access: Access)
         requires idle { waiting self.old caller ≡ None }
@@ -137,6 +156,17 @@ fn post_message(
         length: told.len,
         body: Bytes::from(Vec::new(alloc)),
     })
+}
+
+/// The access as it waits for no token.
+fn blocked(access: Access) -> Access
+    ensures { result ≡ blocked access }
+{
+    Access {
+        token: None,
+        answer: None,
+        ..access
+    }
 }
 
 /// The access as it waits for the token of an event of that kind. A continue will clear it.

@@ -15,7 +15,9 @@ pub(crate) fn judge_scope(sessions: &Sessions, sid: Sid, scope: Scope) -> Result
     match scope {
         Scope::Anyone => Ok(()),
         Scope::InSession => judge_session(sessions, sid),
-        Scope::OnToken { token } => judge_own_token(sessions, sid, token),
+        Scope::OnToken { token } | Scope::OnRight { token, .. } => {
+            judge_own_token(sessions, sid, token)
+        }
         Scope::OnFile { token, .. } => judge_given_token(sessions, sid, token),
     }
 }

@@ -1,5 +1,5 @@
 //! The service itself, and what is asked of it.
-ghost use Rattle.std.specs.Prelude.{◌≡◌, [], ◌∷◌, IfOk};
+ghost use Rattle.std.specs.Prelude.{◌≡◌, [], ◌∷◌, IfOk, OnOk};
 ghost use Rattle.std.specs.Option.{option_copied};
 ghost use Rattle.hsm_types.specs.Refusals.{first_refusal};
 ghost use Rattle.hsm_types.specs.Sessions.{lives, dead_session};
@@ -7,7 +7,7 @@ ghost use Rattle.plain_model.specs.Services.{bad_given_token};
 ghost use Rattle.plain_model.specs.Stands.{InOrder};
 ghost use Rattle.plain_model.specs.Verdict.{is_taken};
 ghost use Rattle.access_park.specs.Pending.{IsPark};
-ghost use Rattle.dm_service.specs.Services.{Judges, entries_for, is_due, session_refusals};
+ghost use Rattle.dm_service.specs.Services.{HasOpenToken, Judges, entries_for, is_due, session_refusals};
 ghost use Rattle.dm_service.specs.Tables.{AreNew, awaited_in, seen, waiting};
 
 use crate::scope::{judge_given_token, judge_own_token, judge_scope};
@@ -16,8 +16,9 @@ use dm_sessions::Sessions;
 use hsm_types::{CallerId, DmCall, DmRefusal, Kind, Scope, Sid, Token};
 use std::alloc::{AllocError, Global};
 use std::marker::Model;
+use token_rights::Rights;
 
-/// The sessions with their messages and tokens, and the accesses of callers that wait. Every token was given here. `seen` shows it as a store.
+/// The sessions with their messages and tokens, what tokens hold, and the accesses of callers that wait. Every token was given here. `seen` shows it as a store.
 #[derive(Drop)]
 pub struct DmService {
     pub(crate) sessions: Sessions,
@@ -25,6 +26,7 @@ pub struct DmService {
     pub(crate) tokens: u64,
     /// How many of them are open.
     pub(crate) open_tokens: usize,
+    pub(crate) rights: Rights,
     pub(crate) park: Park,
 }
 
@@ -33,9 +35,9 @@ impl Model for DmService {
 
     ghost Value = { Tables };
 
-    ghost view = { λ d. record { sessions = d.sessions; tokens = d.tokens; park = d.park } };
+    ghost view = { λ d. record { sessions = d.sessions; tokens = d.tokens; rights = d.rights; park = d.park } };
 
-    ghost invariant = { λ d. AreKept (record { sessions = d.sessions; tokens = d.tokens; park = d.park }) d.open_tokens };
+    ghost invariant = { λ d. AreKept (record { sessions = d.sessions; tokens = d.tokens; rights = d.rights; park = d.park }) d.open_tokens };
 }
 
 impl DmService {
@@ -49,6 +51,7 @@ impl DmService {
             sessions,
             tokens: 0,
             open_tokens: 0,
+            rights: Rights::new(alloc),
             park,
         })
     }
@@ -69,7 +72,8 @@ impl DmService {
 
     /// What refuses a call of that scope by its session and its token, if anything does. It takes no memory.
     pub fn judge_scope(&self, sid: Sid, scope: Scope) -> Result<(), DmRefusal>
-        ensures { Judges result (first_refusal (session_refusals self.now.sessions sid scope)) }
+        ensures judged { Judges result (first_refusal (session_refusals self.now.sessions sid scope)) }
+        ensures open { OnOk result (HasOpenToken self.now.sessions scope) }
     {
         judge_scope(&self.sessions, sid, scope)
     }

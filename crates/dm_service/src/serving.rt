@@ -70,7 +70,8 @@ impl DmService {
         messages::deliver(&mut self.sessions, alloc, sid, max, room)
     }
 
-    /// Responds to a token that is outstanding to the session. The response reaches the access that waits for it. It takes no memory.
+    /// Responds to a token that is outstanding to the session, which has no right any more then. The response reaches the access that waits for it. It
+    /// takes no memory.
     pub fn respond(&mut self, sid: Sid, token: Token, response: Response) -> Result<(), DmRefusal>
         ensures judged { Judges result (first_refusal (dead_session sid self.old.sessions ∷ bad_own_token sid token self.old.sessions ∷ bad_response response ∷ [])) }
         ensures after { OnOk result (noted (seen self.new) ≡ dm_state_where None any_superblock (seen self.old) sid (Respond token response)) }
@@ -84,6 +85,7 @@ impl DmService {
         let open_tokens = self.open_tokens;
         self.sessions.answer(sid, token)?;
         self.open_tokens = open_tokens - 1;
+        self.rights.end(token);
         let _caller = self.park.answer(token, response);
         Ok(())
     }

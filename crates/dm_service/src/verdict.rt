@@ -1,6 +1,6 @@
 //! What is said of an access.
 
-use hsm_types::{Kind, Response};
+use hsm_types::{Kind, Response, Token};
 
 /// What becomes of an access that is judged.
 #[derive(Clone, Copy, Debug, PartialEq, Eq)]
@@ -9,6 +9,8 @@ pub enum Verdict {
     Answered(Response),
     /// It ends, since its file is gone.
     Missing,
+    /// It waits without a token, since the right of that one excludes it.
+    Block(Token),
     /// An event of that kind is posted, and it waits for the response.
     Post(Kind),
     /// It ends, since it needs more blocks than are free.

@@ -7,12 +7,13 @@ use Rattle.std.specs.Option.{option_map}
 use Rattle.hsm_types.specs.Refusals.{first_refusal}
 use Rattle.hsm_types.specs.Sessions.{SessionTable, posted}
 use Rattle.hsm_types.specs.declared.keys.FileKey.{FileKey}
+use Rattle.hsm_types.specs.declared.keys.Token.{Token}
 use Rattle.hsm_types.specs.declared.stores.Superblock.{Superblock}
 use Rattle.hsm_types.specs.declared.calls.Call.{Call}
 use Rattle.hsm_types.specs.declared.calls.Call.TheVariants.{Create, Read, Stat}
 use Rattle.hsm_types.specs.declared.calls.CallRefusal.{CallRefusal}
 use Rattle.hsm_types.specs.declared.calls.Reply.{Reply}
-use Rattle.hsm_types.specs.declared.calls.Reply.TheVariants.{Parked, Refused}
+use Rattle.hsm_types.specs.declared.calls.Reply.TheVariants.{Parked, Blocked, Refused}
 use Rattle.hsm_types.specs.declared.dm.Kind.{Kind}
 use Rattle.hsm_types.specs.declared.dm.Response.{Response}
 use Rattle.hsm_types.specs.declared.dm.Response.TheVariants.{Continue, Abort}
@@ -22,12 +23,12 @@ use Rattle.plain_model.specs.Keyed.{set_at}
 use Rattle.plain_model.specs.Accesses.{told_span, event_message}
 use Rattle.plain_model.specs.Ledger.{Ledger, Means, next_token, aborted, gone, ledger_replied}
 use Rattle.plain_model.specs.State.{Held, Flags, no_flags, State, noted}
-use Rattle.plain_model.specs.Verdict.{Verdict as Ruled, Posts, done_held, stamps_by, Lacks, Ends, Rules, is_no_space, touching, lacking, facts_of, shortage, verdict, judgement, message_of, reply_by, reply_where, left_by_verdict, state_where}
+use Rattle.plain_model.specs.Verdict.{Verdict as Ruled, Ruling, Blocks, Posts, done_held, stamps_by, Lacks, Ends, Rules, is_no_space, conflicting, touching, lacking, rulings, facts_of, shortage, verdict, judgement, message_of, reply_by, reply_where, left_by_verdict, state_where}
 use Rattle.access_park.specs.declared.access.Access.{Access}
 use Rattle.dm_service.specs.declared.verdict.Verdict.{Verdict}
-use Rattle.dm_service.specs.declared.verdict.Verdict.TheVariants.{Answered, Missing, Post, NoSpace, Complete}
+use Rattle.dm_service.specs.declared.verdict.Verdict.TheVariants.{Answered, Missing, Block, Post, NoSpace, Complete}
 use Rattle.dm_service.specs.Judging.{verdict_of}
-use Rattle.dm_service.specs.Parking.{parked_on, with_access}
+use Rattle.dm_service.specs.Parking.{blocked, parked_on, with_access}
 use Rattle.dm_service.specs.Tables.{Tables, waiting, seen, pending_as, flags_in, flags_or_none, flags_of, ledger_of, state_in}
 use Rattle.hsm_core.specs.Outcomes.{ends, ended_reply, held_said, stamps_said}
 
@@ -35,6 +36,7 @@ use Rattle.hsm_core.specs.Outcomes.{ends, ended_reply, held_said, stamps_said}
 
 abbrev pub reply_said : State → FileKey → Call → Verdict → Reply
 reply_said st k call (Post kind) = Parked (next_token st.ledger)
+reply_said st k call (Block t) = Blocked t
 reply_said st k call said = ended_reply st.held k call said
 
 abbrev sessions_said : Superblock → State → FileKey → Call → Verdict → SessionTable
@@ -42,6 +44,7 @@ sessions_said s st k call (Post kind) = posted (message_of s st k call kind) st.
 sessions_said s st k call said = st.sessions
 
 abbrev flags_said : Flags → Verdict → Flags
+flags_said fl (Block t) = fl
 flags_said fl (Post kind) = record { cleared = true; spaced = fl.spaced || is_no_space kind }
 flags_said fl said = no_flags
 
@@ -52,6 +55,7 @@ left_said s st c fl k call said = record {
   stamps = stamps_said (st.number + 1) k call said st.stamps;
   number = st.number + 1;
   sessions = sessions_said s st k call said;
+  rights = st.rights;
   flags = set_at c (flags_said fl said) st.flags;
   ledger = ledger_replied st.ledger c (Means k call) (reply_said st k call said);
 }
@@ -59,8 +63,8 @@ left_said s st c fl k call said = record {
 -- ---- the rules
 
 -- what the rules say one after the other, of an access with that response to a file that lives or not
-abbrev said_by : Option Response → Bool → Ruled → Ruled → Verdict
-said_by answer live x y = verdict_of (first_refusal (option_map Ends (aborted answer) ∷ option_map Ends (gone live) ∷ option_map Rules x ∷ option_map Rules y ∷ []))
+abbrev said_by : Option Response → Bool → Ruled → Ruled → Ruled → Verdict
+said_by answer live w x y = verdict_of (first_refusal (option_map Ends (aborted answer) ∷ option_map Ends (gone live) ∷ option_map Rules w ∷ option_map Rules x ∷ option_map Rules y ∷ []))
 
 abbrev opposed : Option Response → Bool → Option CallRefusal
 opposed answer live = first_refusal (aborted answer ∷ gone live ∷ [])
@@ -79,19 +83,23 @@ module _ (s : Superblock) (st : State) (c : ℕ) (fl : Flags) (k : FileKey) (cal
     reply : reply_said st k call said ≡ reply_if why v
     left : left_said s st c fl k call said ≡ left_if why v
 
-  ruled : (x y : Ruled) → Says (said_by None true x y) None (first_refusal (x ∷ y ∷ []))
-  ruled None None = record { reply = refl; left = refl }
-  ruled None (Some (Posts kind)) = record { reply = refl; left = refl }
-  ruled None (Some (Lacks need free)) = record { reply = refl; left = refl }
-  ruled (Some (Posts kind)) y = record { reply = refl; left = refl }
-  ruled (Some (Lacks need free)) y = record { reply = refl; left = refl }
+  ruling_said : (ruling : Ruling) → Says (verdict_of (Some (Rules ruling))) None (Some ruling)
+  ruling_said (Blocks t) = record { reply = refl; left = refl }
+  ruling_said (Posts kind) = record { reply = refl; left = refl }
+  ruling_said (Lacks need free) = record { reply = refl; left = refl }
 
-  by_rules : (answer : Option Response) (live : Bool) (x y : Ruled) → Says (said_by answer live x y) (opposed answer live) (first_refusal (x ∷ y ∷ []))
-  by_rules (Some (Abort error)) live x y = record { reply = refl; left = refl }
-  by_rules (Some Continue) true x y = record { reply = (ruled x y).reply; left = (ruled x y).left }
-  by_rules (Some Continue) false x y = record { reply = refl; left = refl }
-  by_rules None true x y = record { reply = (ruled x y).reply; left = (ruled x y).left }
-  by_rules None false x y = record { reply = refl; left = refl }
+  ruled : (w x y : Ruled) → Says (said_by None true w x y) None (first_refusal (w ∷ x ∷ y ∷ []))
+  ruled None None None = record { reply = refl; left = refl }
+  ruled None None (Some ruling) = record { reply = (ruling_said ruling).reply; left = (ruling_said ruling).left }
+  ruled None (Some ruling) y = record { reply = (ruling_said ruling).reply; left = (ruling_said ruling).left }
+  ruled (Some ruling) x y = record { reply = (ruling_said ruling).reply; left = (ruling_said ruling).left }
+
+  by_rules : (answer : Option Response) (live : Bool) (w x y : Ruled) → Says (said_by answer live w x y) (opposed answer live) (first_refusal (w ∷ x ∷ y ∷ []))
+  by_rules (Some (Abort error)) live w x y = record { reply = refl; left = refl }
+  by_rules (Some Continue) true w x y = record { reply = (ruled w x y).reply; left = (ruled w x y).left }
+  by_rules (Some Continue) false w x y = record { reply = refl; left = refl }
+  by_rules None true w x y = record { reply = (ruled w x y).reply; left = (ruled w x y).left }
+  by_rules None false w x y = record { reply = refl; left = refl }
 
   reply_same : (why : Option CallRefusal) (v : Ruled) → (why ≡ None → v ≡ verdict s st fl k call) → reply_if why v ≡ reply_where s st fl why (Means k call)
   reply_same None v same = ap (reply_by st k call) (same refl)
@@ -110,19 +118,19 @@ module _ (s : Superblock) (st : State) (c : ℕ) (fl : Flags) (k : FileKey) (cal
   -- what the service says of an access, of which these are the facts where its file lives
   module _ (answer : Option Response) (facts : Facts) (known : facts.live ≡ true → facts ≡ facts_of s st.held k call) where
     abbrev said : Verdict
-    said = verdict_of (judgement fl answer facts st.sessions call)
+    said = verdict_of (judgement fl answer facts st.rights st.sessions k call)
 
     abbrev rules : Facts → Ruled
-    rules x = first_refusal (touching fl x call ∷ lacking fl x st.sessions ∷ [])
+    rules x = first_refusal (rulings fl x st.rights st.sessions k call)
 
     same_rules : opposed answer facts.live ≡ None → rules facts ≡ verdict s st fl k call
     same_rules none = ap rules (known (unopposed answer facts.live none))
 
     pub said_reply : reply_said st k call said ≡ reply_where s st fl (opposed answer facts.live) (Means k call)
-    said_reply = (by_rules answer facts.live (touching fl facts call) (lacking fl facts st.sessions)).reply ∙ reply_same (opposed answer facts.live) (rules facts) same_rules
+    said_reply = (by_rules answer facts.live (conflicting st.rights k call) (touching fl facts call) (lacking fl facts st.sessions)).reply ∙ reply_same (opposed answer facts.live) (rules facts) same_rules
 
     pub said_left : left_said s st c fl k call said ≡ state_where s st c fl (opposed answer facts.live) (Means k call)
-    said_left = (by_rules answer facts.live (touching fl facts call) (lacking fl facts st.sessions)).left ∙ left_same (opposed answer facts.live) (rules facts) same_rules
+    said_left = (by_rules answer facts.live (conflicting st.rights k call) (touching fl facts call) (lacking fl facts st.sessions)).left ∙ left_same (opposed answer facts.live) (rules facts) same_rules
 
 -- ---- creates and syncs, which never wait
 
@@ -146,6 +154,7 @@ ended_ledger L h c k (Read name offset len) Complete is = refl
 ended_ledger L h c k (Stat name) Complete is = refl
 ended_ledger L h c k call Complete is = refl
 ended_ledger L h c k call (Post kind) is = cc
+ended_ledger L h c k call (Block t) is = cc
 ended_ledger L h c k call (NoSpace need free) is = refl
 ended_ledger L h c k call Missing is = refl
 ended_ledger L h c k call (Answered response) is = refl
@@ -156,8 +165,8 @@ none_gone c st pending flags i = record st { flags = λ d. same_at c no_flags st
 
 -- a store with these tables is what is seen of them, with files
 as_seen : (t u : Tables) (change : State → State) → seen u ≡ change (seen t) → (h : Held) (stamps : FileKey → ℕ) (n : ℕ)
-    → state_in h stamps n u ≡ record { held = h; stamps = stamps; number = n; sessions = (change (seen t)).sessions; flags = (change (seen t)).flags; ledger = (change (seen t)).ledger }
-as_seen t u change is h stamps n i = record { held = h; stamps = stamps; number = n; sessions = (is i).sessions; flags = (is i).flags; ledger = (is i).ledger }
+    → state_in h stamps n u ≡ record { held = h; stamps = stamps; number = n; sessions = (change (seen t)).sessions; rights = (change (seen t)).rights; flags = (change (seen t)).flags; ledger = (change (seen t)).ledger }
+as_seen t u change is h stamps n i = record { held = h; stamps = stamps; number = n; sessions = (is i).sessions; rights = (is i).rights; flags = (is i).flags; ledger = (is i).ledger }
 
 -- an access that has ended
 pub ended_left : (s : Superblock) (h : Held) (stamps : FileKey → ℕ) (n : ℕ) (t u : Tables) (c : ℕ) (fl : Flags) (k : FileKey) (call : Call) (said : Verdict) → ends said ≡ true → seen u ≡ with_access c None (seen t)
@@ -165,10 +174,11 @@ pub ended_left : (s : Superblock) (h : Held) (stamps : FileKey → ℕ) (n : ℕ
 ended_left s h stamps n t u c fl k call said is gone = as_seen t u (with_access c None) gone _ _ (n + 1) ∙ parts said is
   where
     parts : (said : Verdict) → ends said ≡ true
-        → record { held = held_said h k call said; stamps = stamps_said (n + 1) k call said stamps; number = n + 1; sessions = t.sessions; flags = set_at c no_flags (flags_of t); ledger = record (ledger_of t) { pending = set_at c None (ledger_of t).pending } }
+        → record { held = held_said h k call said; stamps = stamps_said (n + 1) k call said stamps; number = n + 1; sessions = t.sessions; rights = t.rights; flags = set_at c no_flags (flags_of t); ledger = record (ledger_of t) { pending = set_at c None (ledger_of t).pending } }
         ≡ left_said s (state_in h stamps n t) c fl k call said
     parts (Post kind) is = cc
-    parts Complete is = λ i. record { held = done_held h k call; stamps = stamps_by (n + 1) k call None stamps; number = n + 1; sessions = t.sessions; flags = set_at c no_flags (flags_of t); ledger = sym (ended_ledger (ledger_of t) h c k call Complete refl) i }
+    parts (Block t) is = cc
+    parts Complete is = λ i. record { held = done_held h k call; stamps = stamps_by (n + 1) k call None stamps; number = n + 1; sessions = t.sessions; rights = t.rights; flags = set_at c no_flags (flags_of t); ledger = sym (ended_ledger (ledger_of t) h c k call Complete refl) i }
     parts (NoSpace need free) is = refl
     parts Missing is = refl
     parts (Answered response) is = refl
@@ -187,3 +197,8 @@ parked_left s h stamps n t u c a kind short lacks is =
     ∙ (λ i. record (left_said s (state_in h stamps n t) c (flags_in a) a.key a.call (Post kind)) {
       sessions = posted (event_message kind (next_token (ledger_of t)) (record { fsid = s.fsid; key = a.key }) (told_span a.call (lacks i) kind)) t.sessions;
     })
+
+-- and one that a token blocks
+pub blocked_left : (s : Superblock) (h : Held) (stamps : FileKey → ℕ) (n : ℕ) (t u : Tables) (c : ℕ) (a : Access) (other : Token) → seen u ≡ with_access c (Some (blocked a)) (seen t)
+    → state_in h stamps (n + 1) u ≡ left_said s (state_in h stamps n t) c (flags_in a) a.key a.call (Block other)
+blocked_left s h stamps n t u c a other is = as_seen t u (with_access c (Some (blocked a))) is h stamps (n + 1)

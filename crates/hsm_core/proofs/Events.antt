@@ -70,14 +70,16 @@ module _ {D : Type 0} (g : disk.Ghosts D) (s t : Store D) (has : HasRun s) (safe
     }))),
   )
 
-  lacking : answer ≡ memory_of action → t.history ≡ s.history → state_of t ≡ state_of s → t.files.failed ≡ false → IsNext g s actor action answer t
-  lacking answered history state still = (
+  lacking : answer ≡ memory_of action → t.history ≡ s.history → t.stamps ≡ s.stamps → t.tables ≡ s.tables → state_of t ≡ state_of s → t.files.failed ≡ false → IsNext g s actor action answer t
+  lacking answered history stamps tables state still = (
     HasRun-unkept g s t has (last_number s) opened proceeds working history state,
     safe_unkept g s t has safe working opened proceeds history still,
     inr (inl (record {
       goes = record { opened = opened; working = working; proceeds = proceeds; within = safe_within g s has t safe working proceeds };
       answer = answered;
       history = history;
+      stamps = stamps;
+      tables = tables;
       state = state;
       still = still;
     })),
@@ -139,7 +141,7 @@ module _ {D R : Type 0} (g : disk.Ghosts D) (s t : Store D) (has : HasRun s) (sa
       done g s t has safe working opened became.ends.proceeds actor action acts (say reply) told history
       (ap (state_with t.files.held t.stamps t.tables) (counted s t (entry_of actor action (own_answer s actor action)) opened history) ∙ became.leaves) became.ends.working became.synced
   ended (Err NoMemory) became keeps =
-      lacking g s t has safe working opened became.ends.proceeds actor action acts (say reply) (keeps.memory refl).0 (keeps.memory refl).1
+      lacking g s t has safe working opened became.ends.proceeds actor action acts (say reply) (keeps.memory refl).0 (keeps.memory refl).1 became.stamps became.tables
       (λ i. state_with ((became.ends.memory refl).0 i) (became.stamps i) (became.tables i) (uncounted s t opened (keeps.memory refl).1 i)) (became.ends.memory refl).1
   ended (Err Failed) became keeps = faulted g s t has safe working opened became.ends.proceeds actor action acts (say reply) (keeps.failed refl).0 (keeps.failed refl).1 became.stamps became.tables (became.ends.failed refl).0 (became.ends.failed refl).1
   ended (Err (Part why)) became keeps = absurd (became.ends.no_part why refl)
@@ -158,13 +160,6 @@ module _ {D : Type 0} (g : disk.Ghosts D) (s : Store D) (has : HasRun s) (safe :
   same : ready ≡ s
   same i = record s { stamps = stamped i; history = noted i }
 
-  pub not_begun : (actor : Actor) (action : Action) → Acts actor action → (answer : Answer) (why : StoreRefusal) → (s.files.failed ≡ false → (n : ℕ) → Proceeds g s.files n s.files) → IsRefused action why answer
-      → (why ≡ Failed) × (s.files.failed ≡ true) ⊎ (why ≡ NoMemory) × (s.files.failed ≡ false) → IsAnswer g s actor action answer ready
-  not_begun actor action acts answer why idle told (inl closed) = inl (record { failed = closed.1; answer = told.failed closed.0; same = same })
-  not_begun actor action acts answer why idle told (inr lacks) =
-      subst (λ (x : Store D). IsAnswer g s actor action answer x) (sym same)
-      (lacking g s s has safe lacks.1 refl (idle lacks.1 (last_number s)) actor action acts answer (told.memory lacks.0) refl refl lacks.1).2
-
   pub event : {R : Type 0} (t : Store D) → s.files.failed ≡ false → t.opened ≡ s.opened → (actor : Actor) (action : Action) → Acts actor action → (say : R → Answer) (own reply : R) (n : ℕ) → n ≡ last_number ready → (d : Result (R × R) StoreRefusal)
       → Becomes g (superblock_of s.files) n ready t actor action say own d → Keeps history actor action say d reply t.history → IsNext g s actor action (say reply) t
   event t working opened actor action acts say own reply n number d became keeps =
@@ -174,11 +169,26 @@ module _ {D : Type 0} (g : disk.Ghosts D) (s : Store D) (has : HasRun s) (safe :
       subst (λ (x : Store D). IsNext g x actor action (say reply) t) same
       (ended g ready t run (subst (λ (x : Store D). IsSafe g x) (sym same) safe) working opened actor action acts say own reply d counted_on keeps)
 
+-- an event that was refused before it began, whatever the room that was made
+module _ {D : Type 0} (g : disk.Ghosts D) (s : Store D) (has : HasRun s) (safe : IsSafe g s) (stamps : List (FileKey × ℕ)) (history : List Entry) (spare : ℕ) (stamped : stamps ≡ s.stamps) (noted : history ≡ s.history) where
+  abbrev untouched : Store D
+  untouched = record s { stamps = stamps; history = history; spare = spare }
+
+  unchanged : untouched ≡ record s { spare = spare }
+  unchanged i = record s { stamps = stamped i; history = noted i; spare = spare }
+
+  pub not_begun : (actor : Actor) (action : Action) → Acts actor action → (answer : Answer) (why : StoreRefusal) → (s.files.failed ≡ false → (n : ℕ) → Proceeds g s.files n s.files) → IsRefused action why answer
+      → (why ≡ Failed) × (s.files.failed ≡ true) ⊎ (why ≡ NoMemory) × (s.files.failed ≡ false) → IsAnswer g s actor action answer untouched
+  not_begun actor action acts answer why idle told (inl closed) = inl (record { failed = closed.1; answer = told.failed closed.0; same = unchanged })
+  not_begun actor action acts answer why idle told (inr lacks) =
+      subst (λ (x : Store D). IsAnswer g s actor action answer x) (sym unchanged)
+      (lacking g s (record s { spare = spare }) has safe lacks.1 refl (idle lacks.1 (last_number s)) actor action acts answer (told.memory lacks.0) refl refl refl refl lacks.1).2
+
 -- calls that wait are such as before
 pub lasting : {R : Type 0} (super : Superblock) (h h' : Held) (stamps stamps' : List (FileKey × ℕ)) (n : ℕ) (t u : Tables) (actor : Actor) (action : Action) (d : Result (R × R) StoreRefusal)
     → OnOk d (state_with h' stamps' u (n + 1) ≡ left_own super (state_with h stamps t n) actor action) → OnErr d (u ≡ t) → EachLasts (ledger_of t) → EachLasts (ledger_of u)
-lasting super h h' stamps stamps' n t u actor action (Ok r) left same is = subst EachLasts (ap (λ (st : State). st.ledger) (sym left)) (event_lasts super (state_with h stamps t n) actor action is)
-lasting super h h' stamps stamps' n t u actor action (Err why) left same is = subst (λ (x : Tables). EachLasts (ledger_of x)) (sym same) is
+lasting super h h' stamps stamps' n t u actor action (Ok r) left _ is = subst EachLasts (ap (λ (st : State). st.ledger) (sym left)) (event_lasts super (state_with h stamps t n) actor action is)
+lasting super h h' stamps stamps' n t u actor action (Err why) left kept is = subst (λ (x : Tables). EachLasts (ledger_of x)) (sym kept) is
 
 -- for how much there is room
 pub room_after : {T E : Type 0} (t u : Tables) (k : ℕ) (d : Result T E) → OnOk d (awaited_in u ≤ awaited_in t + k) → OnErr d (u ≡ t) → awaited_in u ≤ awaited_in t + k

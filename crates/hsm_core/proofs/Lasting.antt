@@ -1,8 +1,12 @@
 -- A call that waits is on a file and was judged to be within bounds: after each event.
-use Rattle.std.proofs.Common.{◌≡◌, ℕ, [], ◌∷◌, Bool, true, false, Option, Some, None, refl, sym, subst, arith}
+use Rattle.std.proofs.Common.{◌≡◌, ℕ, [], ◌∷◌, Bool, true, false, Option, Some, None, inl, inr, refl, sym, ◌∙◌, ⊎_elim, subst, arith}
 use Rattle.std.proofs.lemmas.Bool.Decides.{nat_tests}
-use Rattle.std.specs.Prelude.{◌==◌, ◌&&◌, not, nat_lt, if◌then◌else◌, IfSome}
+use Rattle.std.specs.Prelude.{◌⊎◌, ◌==◌, ◌&&◌, not, nat_lt, if◌then◌else◌, IfSome}
+use Rattle.std.specs.Option.{option_map}
+use Rattle.hsm_types.specs.Messages.{no_token}
 use Rattle.hsm_types.specs.Refusals.{first_refusal}
+use Rattle.hsm_types.specs.Rights.{conflict}
+use Rattle.hsm_types.specs.declared.dm.Right.TheVariants.{Null}
 use Rattle.hsm_types.specs.declared.keys.FileKey.{FileKey}
 use Rattle.hsm_types.specs.declared.keys.Token.{Token}
 use Rattle.hsm_types.specs.declared.stores.Superblock.{Superblock}
@@ -17,7 +21,6 @@ use Rattle.hsm_types.specs.declared.dm.DmCall.TheVariants.{Respond, CreateUserEv
 use Rattle.hsm_types.specs.declared.dm.DmRefusal.{DmRefusal}
 use Rattle.hsm_types.specs.declared.dm.DmReply.{DmReply}
 use Rattle.hsm_types.specs.declared.dm.DmReply.TheVariants as told
-use Rattle.hsm_types.specs.declared.dm.Kind.{Kind}
 use Rattle.hsm_types.specs.declared.dm.Kind.TheVariants as kinds
 use Rattle.hsm_types.specs.declared.dm.Response.{Response}
 use Rattle.plain_model.specs.declared.entries.Actor.{Actor}
@@ -29,10 +32,11 @@ use Rattle.plain_model.specs.Keyed.{set_at}
 use Rattle.plain_model.specs.Ledger.{Access, Ledger, Meant, Fixed, Means, issued, goes_on, resumed, objection_again, kept, waits_for, answered, ledger_told}
 use Rattle.plain_model.specs.Plain.{refusal_of}
 use Rattle.plain_model.specs.State.{Flags, State, names_of}
-use Rattle.plain_model.specs.Verdict.{Posts, Lacks, Verdict, posts, without_room, short_of, is_taken, facts_of, shortage, verdict, flags_now, left_by_verdict, state_where}
+use Rattle.plain_model.specs.Verdict.{Ruling, Blocks, Posts, Lacks, Verdict, posts, without_room, short_of, is_taken, facts_of, shortage, verdict, flags_now, left_by_verdict, state_where}
 use Rattle.plain_model.specs.Services.{service, dm_judged, dm_state_where}
 use Rattle.plain_model.specs.Exact.{left_own}
-use Rattle.hsm_core.specs.Targets.{MayLast, EachLasts}
+use Rattle.hsm_core.specs.Targets.{IsOnFile, MayLast, EachLasts}
+use Rattle.plain_model.proofs.Steps.{unhindered}
 use Rattle.hsm_core.proofs.Targets.{bounded}
 
 abbrev Lasts : Option Access → Type 0
@@ -50,8 +54,9 @@ kept_lasts reply waits is = tt
 
 -- ---- a caller's event
 
-verdict_lasts : (s : Superblock) (st : State) (c : ℕ) (fl : Flags) (k : FileKey) (call : Call) (v : Verdict) → EachLasts st.ledger → ((kind : Kind) → v ≡ Some (Posts kind) → MayLast call) → EachLasts (left_by_verdict s st c fl k call v).ledger
-verdict_lasts s st c fl k call (Some (Posts kind)) is may d = at_caller c d _ st.ledger.pending (may kind refl) (is d)
+verdict_lasts : (s : Superblock) (st : State) (c : ℕ) (fl : Flags) (k : FileKey) (call : Call) (v : Verdict) → EachLasts st.ledger → ((ruling : Ruling) → v ≡ Some ruling → MayLast call) → EachLasts (left_by_verdict s st c fl k call v).ledger
+verdict_lasts s st c fl k call (Some (Blocks t)) is may d = at_caller c d _ st.ledger.pending (may (Blocks t) refl) (is d)
+verdict_lasts s st c fl k call (Some (Posts kind)) is may d = at_caller c d _ st.ledger.pending (may (Posts kind) refl) (is d)
 verdict_lasts s st c fl k call (Some (Lacks need free)) is may d = at_caller c d _ st.ledger.pending tt (is d)
 verdict_lasts s st c fl k (Create name) None is may d = at_caller c d _ st.ledger.pending tt (is d)
 verdict_lasts s st c fl k (Read name offset len) None is may d = at_caller c d _ st.ledger.pending tt (is d)
@@ -59,26 +64,31 @@ verdict_lasts s st c fl k (Stat name) None is may d = at_caller c d _ st.ledger.
 verdict_lasts s st c fl k call None is may d = at_caller c d _ st.ledger.pending tt (is d)
 
 where_lasts : (s : Superblock) (st : State) (c : ℕ) (fl : Flags) (why : Option CallRefusal) (m : Meant) → EachLasts st.ledger
-    → ((k : FileKey) (call : Call) (kind : Kind) → m ≡ Means k call → why ≡ None → verdict s st fl k call ≡ Some (Posts kind) → MayLast call) → EachLasts (state_where s st c fl why m).ledger
+    → ((k : FileKey) (call : Call) (ruling : Ruling) → m ≡ Means k call → why ≡ None → verdict s st fl k call ≡ Some ruling → MayLast call) → EachLasts (state_where s st c fl why m).ledger
 where_lasts s st c fl why (Fixed reply) is may d = at_caller c d _ st.ledger.pending (kept_lasts reply (st.ledger.pending c) (is c)) (is d)
 where_lasts s st c fl (Some why) (Means k call) is may d = at_caller c d _ st.ledger.pending tt (is d)
-where_lasts s st c fl None (Means k call) is may d = verdict_lasts s st c fl k call (verdict s st fl k call) is (λ kind posts. may k call kind refl refl posts) d
+where_lasts s st c fl None (Means k call) is may d = verdict_lasts s st c fl k call (verdict s st fl k call) is (λ ruling rules. may k call ruling refl refl rules) d
 
--- creates and syncs post no event
+-- no rule applies to creates and syncs
 no_shortage : (free : ℕ) → short_of 0 free ≡ None
 no_shortage free = let none : nat_lt free 0 ≡ false = grind (arith, nat_tests) in rw none refl
 
-none_posted : (asks asks' : Bool) (short : Option NoRoom) (kind : Kind) → short ≡ None → first_refusal (posts asks None ∷ without_room asks' short ∷ []) ≡ Some (Posts kind) → ⊥
-none_posted true asks' None kind none is = cc
-none_posted false asks' None kind none is = cc
-none_posted asks asks' (Some room) kind none is = cc
+none_ruled : (other : Option Token) (asks asks' : Bool) (short : Option NoRoom) → other ≡ None → short ≡ None → first_refusal (option_map Blocks other ∷ posts asks None ∷ without_room asks' short ∷ []) ≡ None
+none_ruled None true asks' None free room = refl
+none_ruled None false asks' None free room = refl
+none_ruled (Some t) asks asks' short free room = absurd cc
+none_ruled None asks asks' (Some short) free room = absurd cc
 
-posted_lasts : (s : Superblock) (st : State) (fl : Flags) (k : FileKey) (call : Call) (kind : Kind) → refusal_of s (names_of st.held.files) call ≡ None → verdict s st fl k call ≡ Some (Posts kind) → MayLast call
-posted_lasts s st fl k (Create name) kind none is =
-    absurd (none_posted (not fl.cleared && (facts_of s st.held k (Create name)).touches) (not fl.spaced && is_taken kinds.NoSpace st.sessions) (shortage s st.held k (Create name)) kind (no_shortage _) is)
-posted_lasts s st fl k Sync kind none is =
-    absurd (none_posted (not fl.cleared && (facts_of s st.held k Sync).touches) (not fl.spaced && is_taken kinds.NoSpace st.sessions) (shortage s st.held k Sync) kind (no_shortage _) is)
-posted_lasts s st fl k call kind none is = (tt, bounded s (names_of st.held.files) call none)
+pub never_ruled : (s : Superblock) (st : State) (fl : Flags) (k : FileKey) (call : Call) → IsOnFile call ⊎ (verdict s st fl k call ≡ None)
+never_ruled s st fl k (Create name) =
+    inr (none_ruled (conflict k Null no_token st.rights) (not fl.cleared && (facts_of s st.held k (Create name)).touches) (not fl.spaced && is_taken kinds.NoSpace st.sessions) (shortage s st.held k (Create name)) (unhindered k no_token st.rights) (no_shortage _))
+never_ruled s st fl k Sync =
+    inr (none_ruled (conflict k Null no_token st.rights) (not fl.cleared && (facts_of s st.held k Sync).touches) (not fl.spaced && is_taken kinds.NoSpace st.sessions) (shortage s st.held k Sync) (unhindered k no_token st.rights) (no_shortage _))
+never_ruled s st fl k call = inl tt
+
+ruled_lasts : (s : Superblock) (st : State) (fl : Flags) (k : FileKey) (call : Call) (ruling : Ruling) → refusal_of s (names_of st.held.files) call ≡ None → verdict s st fl k call ≡ Some ruling → MayLast call
+ruled_lasts s st fl k call ruling none is =
+    ⊎_elim (λ (on : IsOnFile call). (on, bounded s (names_of st.held.files) call none)) (λ (never : verdict s st fl k call ≡ None). absurd (let wrong : None ≡ Some ruling = sym never ∙ is in cc)) (never_ruled s st fl k call)
 
 same_call : (k j : FileKey) (call other : Call) → Means k call ≡ Means j other → call ≡ other
 same_call k j call other is = cc
@@ -86,11 +96,11 @@ same_call k j call other is = cc
 issue_lasts : (s : Superblock) (st : State) (c : ℕ) (call : Call) (waits : Option Access) → EachLasts st.ledger → EachLasts (state_where s st c (flags_now st c (Issue call)) (refusal_of s (names_of st.held.files) call) (issued (names_of st.held.files) waits call)).ledger
 issue_lasts s st c call None is =
     where_lasts s st c (flags_now st c (Issue call)) (refusal_of s (names_of st.held.files) call) (issued (names_of st.held.files) None call) is
-    (λ k other kind means none posts.
+    (λ k other ruling means none rules.
     let same = same_call _ k call other means in
-    subst MayLast same (posted_lasts s st (flags_now st c (Issue call)) k call kind none (subst (λ (x : Call). verdict s st (flags_now st c (Issue call)) k x ≡ Some (Posts kind)) (sym same) posts)))
+    subst MayLast same (ruled_lasts s st (flags_now st c (Issue call)) k call ruling none (subst (λ (x : Call). verdict s st (flags_now st c (Issue call)) k x ≡ Some ruling) (sym same) rules)))
 issue_lasts s st c call (Some a) is =
-    where_lasts s st c (flags_now st c (Issue call)) (refusal_of s (names_of st.held.files) call) (issued (names_of st.held.files) (Some a) call) is (λ k other kind means none posts. absurd cc)
+    where_lasts s st c (flags_now st c (Issue call)) (refusal_of s (names_of st.held.files) call) (issued (names_of st.held.files) (Some a) call) is (λ k other ruling means none rules. absurd cc)
 
 goes_on_lasts : (a : Access) (token : Option Token) (answer : Option Response) (k : FileKey) (call : Call) → goes_on a token answer ≡ Means k call → MayLast a.call → MayLast call
 goes_on_lasts a (Some t) None k call is last = absurd cc

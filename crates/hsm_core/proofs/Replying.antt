@@ -1,14 +1,16 @@
 -- How the replies to callers, and the states that they leave, are those of the model.
-use Rattle.std.proofs.Common.{◌≡◌, ◌≤◌, ◌+◌, ℕ, List, [], ◌∷◌, Bool, true, false, Option, Some, None, refl, sym, ◌∙◌, ap, subst}
+use Rattle.std.proofs.Common.{◌≡◌, ◌≤◌, ◌+◌, ℕ, List, [], ◌∷◌, Bool, true, false, Option, Some, None, refl, sym, ◌∙◌, ⊎_elim, ap, subst}
 use Rattle.std.specs.Prelude.{◌&&◌, not, is_some, is_none, if◌then◌else◌, Result, Ok, Err, IfOk, IfErr, OnOk, OnErr, MatchOption}
 use Rattle.std.specs.Option.{option_map}
 use Rattle.disk_model.specs.declared.device.Disk as disk
 use Rattle.hsm_types.specs.Refusals.{first_refusal}
 use Rattle.hsm_types.specs.declared.keys.FileKey.{FileKey}
+use Rattle.hsm_types.specs.declared.keys.Token.{Token}
 use Rattle.hsm_types.specs.declared.stores.Superblock.{Superblock}
 use Rattle.hsm_types.specs.declared.calls.Call.{Call}
+use Rattle.hsm_types.specs.declared.calls.Call.TheVariants.{Create, Sync}
 use Rattle.hsm_types.specs.declared.calls.Reply.{Reply}
-use Rattle.hsm_types.specs.declared.calls.Reply.TheVariants.{Parked}
+use Rattle.hsm_types.specs.declared.calls.Reply.TheVariants.{Parked, Blocked}
 use Rattle.hsm_types.specs.declared.dm.Kind.{Kind}
 use Rattle.plain_model.specs.declared.entries.Action.{Action}
 use Rattle.plain_model.specs.declared.entries.Action.TheVariants.{Issue, Resume}
@@ -18,12 +20,12 @@ use Rattle.plain_model.specs.Accesses.{told_span}
 use Rattle.plain_model.specs.Ledger.{Means, next_token, goes_on, aborted, gone, issued, resumed, objection_again}
 use Rattle.plain_model.specs.Plain.{Listed, has_key, refusal_of, key_meant}
 use Rattle.plain_model.specs.State.{FileState, Held, no_flags, State, names_of, used}
-use Rattle.plain_model.specs.Verdict.{facts_of, judgement, reply_where, reply_to, state_where, state_after}
+use Rattle.plain_model.specs.Verdict.{facts_of, judgement, verdict, done_reply, done_held, stamps_by, reply_by, reply_where, reply_to, left_by_verdict, state_where, state_after}
 use Rattle.access_park.specs.declared.access.Access.{Access}
 use Rattle.dm_service.specs.declared.verdict.Verdict.{Verdict}
-use Rattle.dm_service.specs.declared.verdict.Verdict.TheVariants.{Answered, Missing, Post, NoSpace, Complete}
+use Rattle.dm_service.specs.declared.verdict.Verdict.TheVariants.{Answered, Missing, Block, Post, NoSpace, Complete}
 use Rattle.dm_service.specs.Judging.{verdict_of}
-use Rattle.dm_service.specs.Parking.{parked_on, with_access}
+use Rattle.dm_service.specs.Parking.{blocked, parked_on, with_access}
 use Rattle.dm_service.specs.Services.{AreBoth}
 use Rattle.dm_service.specs.Tables.{Tables, waiting, seen, ledger_of, pending_as, flags_in, flags_or_none, state_in}
 use Rattle.dm_service.proofs.Anywhere.{still_idle}
@@ -33,9 +35,10 @@ use Rattle.file_store.specs.Stores.{Store as FileStore, superblock_of, Proceeds}
 use Rattle.hsm_core.specs.Ends.{Ends}
 use Rattle.hsm_core.specs.Outcomes.{ends, ended_reply, held_said, stamps_said, is_fresh, IsFinished, IsReplied}
 use Rattle.hsm_core.specs.Stamps.{stamp_in}
-use Rattle.hsm_core.specs.Targets.{IsTarget, IsMeant, MayLast, MayComplete, key_in}
+use Rattle.hsm_core.specs.Targets.{IsTarget, IsMeant, IsOnFile, MayLast, MayComplete, key_in}
 use Rattle.hsm_core.specs.declared.judging.Target.{Target}
-use Rattle.hsm_core.proofs.Accesses.{reply_said, left_said, said_reply, said_left, parked_left, ended_left}
+use Rattle.hsm_core.proofs.Accesses.{reply_said, left_said, said_reply, said_left, parked_left, blocked_left, ended_left, fresh_ended}
+use Rattle.hsm_core.proofs.Lasting.{never_ruled}
 use Rattle.hsm_core.proofs.Targets.{key_of_meant, on_own, on_file, still_on, bounded, complete, posted}
 
 -- ---- results
@@ -61,15 +64,17 @@ same_ends g f n (Err e) working idle memory = record {
 
 -- ---- verdicts
 
-pub ends_unless : (said : Verdict) → ((kind : _) → said ≡ Post kind → ⊥) → ends said ≡ true
-ends_unless (Post kind) not_post = absurd (not_post kind refl)
-ends_unless Complete not_post = refl
-ends_unless (NoSpace need free) not_post = refl
-ends_unless Missing not_post = refl
-ends_unless (Answered response) not_post = refl
+pub ends_unless : (said : Verdict) → ((kind : _) → said ≡ Post kind → ⊥) → ((other : _) → said ≡ Block other → ⊥) → ends said ≡ true
+ends_unless (Post kind) not_post not_block = absurd (not_post kind refl)
+ends_unless (Block other) not_post not_block = absurd (not_block other refl)
+ends_unless Complete not_post not_block = refl
+ends_unless (NoSpace need free) not_post not_block = refl
+ends_unless Missing not_post not_block = refl
+ends_unless (Answered response) not_post not_block = refl
 
 pub said_ended : (st : State) (k : FileKey) (call : Call) (said : Verdict) → ends said ≡ true → reply_said st k call said ≡ ended_reply st.held k call said
 said_ended st k call (Post kind) is = cc
+said_ended st k call (Block other) is = cc
 said_ended st k call Complete is = refl
 said_ended st k call (NoSpace need free) is = refl
 said_ended st k call Missing is = refl
@@ -110,7 +115,7 @@ module _ (s : Superblock) (h : Held) (stamps : FileKey → ℕ) (n : ℕ) (t : T
   st = state_in h stamps n t
 
   abbrev said : Verdict
-  said = verdict_of (judgement (flags_in a) a.answer facts t.sessions a.call)
+  said = verdict_of (judgement (flags_in a) a.answer facts t.rights t.sessions k a.call)
 
   means : issued (names_of h.files) (option_map pending_as (waiting t c)) a.call ≡ Means k a.call
   means = (λ i. issued (names_of h.files) (option_map pending_as (none i)) a.call) ∙ ap (λ j. Means j a.call) (sym meant)
@@ -147,7 +152,7 @@ module _ (s : Superblock) (h : Held) (stamps : FileKey → ℕ) (n : ℕ) (t : T
   st' = state_in h stamps n t
 
   abbrev said' : Verdict
-  said' = verdict_of (judgement (flags_in a) a.answer facts t.sessions a.call)
+  said' = verdict_of (judgement (flags_in a) a.answer facts t.rights t.sessions a.key a.call)
 
   again_where_reply : reply_where s st' (flags_in a) (first_refusal (aborted a.answer ∷ gone facts.live ∷ [])) (Means a.key a.call) ≡ reply_to s st' c Resume
   again_where_reply =
@@ -186,12 +191,12 @@ module _ {D : Type 0} (g : disk.Ghosts D) (f : FileStore D) (n : ℕ) (stamps : 
   abbrev now : State
   now = state_in f.held (stamp_in stamps) n t
 
-  abbrev heard : Verdict
-  heard = verdict_of (judgement (flags_in a) a.answer facts t.sessions a.call)
+  abbrev heard : FileKey → Verdict
+  heard k = verdict_of (judgement (flags_in a) a.answer facts t.rights t.sessions k a.call)
 
   -- an event of which its reply and what it leaves are known, and that did nothing to the files
-  waits_so : (action : Action) (k : FileKey) (kind : Kind) (u : Tables) (r : Result (Reply × Reply) StoreRefusal) → heard ≡ Post kind → facts ≡ facts_of super f.held k a.call
-      → reply_said now k a.call heard ≡ reply_to super now c action → left_said super now c (flags_in a) k a.call heard ≡ state_after super now c action
+  waits_so : (action : Action) (k : FileKey) (kind : Kind) (u : Tables) (r : Result (Reply × Reply) StoreRefusal) → heard k ≡ Post kind → facts ≡ facts_of super f.held k a.call
+      → reply_said now k a.call (heard k) ≡ reply_to super now c action → left_said super now c (flags_in a) k a.call (heard k) ≡ state_after super now c action
       → IfOk r (λ x. AreBoth (Parked (next_token (ledger_of t))) x) → OnOk r (seen u ≡ parked_on c (record a { key = k }) kind (record { fsid = f.meta.fsid; key = k }) (told_span a.call facts.short kind) (seen t))
       → OnErr r (u ≡ t) → IfErr r (λ why. why ≡ NoMemory) → IsReplied g f n stamps t c action r f stamps u
   waits_so action k kind u r says known reply left replies after err memory = record {
@@ -205,15 +210,31 @@ module _ {D : Type 0} (g : disk.Ghosts D) (f : FileStore D) (n : ℕ) (stamps : 
     ends = same_ends g f n r working idle memory;
   }
 
-  -- one that has ended
-  ends_so : (action : Action) (k : FileKey) (u : Tables) (r : Result (Reply × Reply) StoreRefusal) (new : FileStore D) (after : List (FileKey × ℕ)) → ends heard ≡ true
-      → reply_said now k a.call heard ≡ reply_to super now c action → left_said super now c (flags_in a) k a.call heard ≡ state_after super now c action
-      → IsFinished g f n stamps k a.call heard r new after → OnOk r (seen u ≡ with_access c None (seen t)) → OnErr r (u ≡ t) → IsReplied g f n stamps t c action r new after u
-  ends_so action k u r new after over reply left finished gone err = record {
-    replies = both_as r (ended_reply f.held k a.call heard) (reply_to super now c action) (sym (said_ended now k a.call heard over) ∙ reply) finished.replies;
+  -- one that a token blocks
+  blocks_so : (action : Action) (k : FileKey) (other : Token) (u : Tables) (r : Result (Reply × Reply) StoreRefusal) → heard k ≡ Block other
+      → reply_said now k a.call (heard k) ≡ reply_to super now c action → left_said super now c (flags_in a) k a.call (heard k) ≡ state_after super now c action
+      → IfOk r (λ x. AreBoth (Blocked other) x) → OnOk r (seen u ≡ with_access c (Some (blocked (record a { key = k }))) (seen t))
+      → OnErr r (u ≡ t) → IfErr r (λ why. why ≡ NoMemory) → IsReplied g f n stamps t c action r f stamps u
+  blocks_so action k other u r says reply left replies after err memory = record {
+    replies = both_as r (Blocked other) (reply_to super now c action) (sym (ap (reply_said now k a.call) says) ∙ reply) replies;
     left = on_ok r
-        (λ (is : (new.held ≡ held_said f.held k a.call heard) × ((stamp_in after ≡ stamps_said (n + 1) k a.call heard (stamp_in stamps)) × (seen u ≡ with_access c None (seen t)))).
-        (λ i. state_in (is.0 i) (is.1.0 i) (n + 1) u) ∙ ended_left super f.held (stamp_in stamps) n t u c (flags_in a) k a.call heard over is.1.1 ∙ left)
+        (λ (is : seen u ≡ with_access c (Some (blocked (record a { key = k }))) (seen t)).
+        blocked_left super f.held (stamp_in stamps) n t u c (record a { key = k }) other is
+        ∙ sym (ap (left_said super now c (flags_in a) k a.call) says) ∙ left) after;
+    unstamped = always r refl;
+    err = err;
+    ends = same_ends g f n r working idle memory;
+  }
+
+  -- one that has ended
+  ends_so : (action : Action) (k : FileKey) (u : Tables) (r : Result (Reply × Reply) StoreRefusal) (new : FileStore D) (after : List (FileKey × ℕ)) → ends (heard k) ≡ true
+      → reply_said now k a.call (heard k) ≡ reply_to super now c action → left_said super now c (flags_in a) k a.call (heard k) ≡ state_after super now c action
+      → IsFinished g f n stamps k a.call (heard k) r new after → OnOk r (seen u ≡ with_access c None (seen t)) → OnErr r (u ≡ t) → IsReplied g f n stamps t c action r new after u
+  ends_so action k u r new after over reply left finished gone err = record {
+    replies = both_as r (ended_reply f.held k a.call (heard k)) (reply_to super now c action) (sym (said_ended now k a.call (heard k) over) ∙ reply) finished.replies;
+    left = on_ok r
+        (λ (is : (new.held ≡ held_said f.held k a.call (heard k)) × ((stamp_in after ≡ stamps_said (n + 1) k a.call (heard k) (stamp_in stamps)) × (seen u ≡ with_access c None (seen t)))).
+        (λ i. state_in (is.0 i) (is.1.0 i) (n + 1) u) ∙ ended_left super f.held (stamp_in stamps) n t u c (flags_in a) k a.call (heard k) over is.1.1 ∙ left)
         (ok_both _ _ r finished.held (ok_both _ _ r finished.stamps gone));
     unstamped = finished.unstamped;
     err = err;
@@ -226,18 +247,22 @@ module _ {D : Type 0} (g : disk.Ghosts D) (f : FileStore D) (n : ℕ) (stamps : 
     live : facts.live ≡ true
     live = ap (λ x. x.live) known ∙ (on_file f.held.files (key_meant (names_of f.held.files) a.call) a.call file meant).1.live
 
-    own_reply : reply_said now file.key a.call heard ≡ reply_to super now c (Issue a.call)
+    own_reply : reply_said now file.key a.call (heard file.key) ≡ reply_to super now c (Issue a.call)
     own_reply = issue_reply super f.held (stamp_in stamps) n t c a file.key fresh none lawful (key_of_meant f.held.files a.call (Some file) meant) facts known live
 
-    own_left : left_said super now c (flags_in a) file.key a.call heard ≡ state_after super now c (Issue a.call)
+    own_left : left_said super now c (flags_in a) file.key a.call (heard file.key) ≡ state_after super now c (Issue a.call)
     own_left = issue_left super f.held (stamp_in stamps) n t c a file.key fresh none lawful (key_of_meant f.held.files a.call (Some file) meant) facts known live
 
-    pub issue_waits : (kind : Kind) (u : Tables) (r : Result (Reply × Reply) StoreRefusal) → heard ≡ Post kind → IfOk r (λ x. AreBoth (Parked (next_token (ledger_of t))) x)
+    pub issue_waits : (kind : Kind) (u : Tables) (r : Result (Reply × Reply) StoreRefusal) → heard file.key ≡ Post kind → IfOk r (λ x. AreBoth (Parked (next_token (ledger_of t))) x)
         → OnOk r (seen u ≡ parked_on c (record a { key = file.key }) kind (record { fsid = f.meta.fsid; key = file.key }) (told_span a.call facts.short kind) (seen t)) → OnErr r (u ≡ t) → IfErr r (λ why. why ≡ NoMemory)
         → IsReplied g f n stamps t c (Issue a.call) r f stamps u
     issue_waits kind u r says replies after err memory = waits_so (Issue a.call) file.key kind u r says known own_reply own_left replies after err memory
 
-    pub issue_ends : (r : Result (Reply × Reply) StoreRefusal) (new : FileStore D) (after : List (FileKey × ℕ)) → ends heard ≡ true → IsFinished g f n stamps file.key a.call heard r new after
+    pub issue_blocks : (other : Token) (u : Tables) (r : Result (Reply × Reply) StoreRefusal) → heard file.key ≡ Block other → IfOk r (λ x. AreBoth (Blocked other) x)
+        → OnOk r (seen u ≡ with_access c (Some (blocked (record a { key = file.key }))) (seen t)) → OnErr r (u ≡ t) → IfErr r (λ why. why ≡ NoMemory) → IsReplied g f n stamps t c (Issue a.call) r f stamps u
+    issue_blocks other u r says replies after err memory = blocks_so (Issue a.call) file.key other u r says own_reply own_left replies after err memory
+
+    pub issue_ends : (r : Result (Reply × Reply) StoreRefusal) (new : FileStore D) (after : List (FileKey × ℕ)) → ends (heard file.key) ≡ true → IsFinished g f n stamps file.key a.call (heard file.key) r new after
         → IsReplied g f n stamps t c (Issue a.call) r new after t
     issue_ends r new after over finished = ends_so (Issue a.call) file.key t r new after over own_reply own_left finished (ok_still r) (always r refl)
       where
@@ -245,9 +270,9 @@ module _ {D : Type 0} (g : disk.Ghosts D) (f : FileStore D) (n : ℕ) (stamps : 
         ok_still (Ok x) = sym (still_idle t c none)
         ok_still (Err e) = tt
 
-    pub issue_completes : used f.held.files ≤ super.geometry.blocks → heard ≡ Complete → MayComplete super f.held a.call (Some file)
+    pub issue_completes : used f.held.files ≤ super.geometry.blocks → heard file.key ≡ Complete → MayComplete super f.held a.call (Some file)
     issue_completes mapped is =
-        let may = complete (flags_in a) a.answer facts t.sessions a.call is in
+        let may = complete (flags_in a) a.answer facts t.rights t.sessions file.key a.call is in
         record {
           on = on_own f.held.files (key_meant (names_of f.held.files) a.call) a.call (Some file) meant;
           bounded = bounded super (names_of f.held.files) a.call lawful;
@@ -275,42 +300,47 @@ module _ {D : Type 0} (g : disk.Ghosts D) (f : FileStore D) (n : ℕ) (stamps : 
           | Some x ↦ λ found known. known.0 ∙ ap (λ k. facts_of super f.held k a.call) found.key
         ] found known
 
-    again_own : reply_said now a.key a.call heard ≡ reply_to super now c Resume
+    again_own : reply_said now a.key a.call (heard a.key) ≡ reply_to super now c Resume
     again_own = again_reply super f.held (stamp_in stamps) n t c a waits goes facts lives facts_known
 
-    again_leaves : left_said super now c (flags_in a) a.key a.call heard ≡ state_after super now c Resume
+    again_leaves : left_said super now c (flags_in a) a.key a.call (heard a.key) ≡ state_after super now c Resume
     again_leaves = again_left super f.held (stamp_in stamps) n t c a waits goes facts lives facts_known
 
-    pub again_waits : (kind : Kind) (u : Tables) (r : Result (Reply × Reply) StoreRefusal) → heard ≡ Post kind → IfOk r (λ x. AreBoth (Parked (next_token (ledger_of t))) x)
+    pub again_waits : (kind : Kind) (u : Tables) (r : Result (Reply × Reply) StoreRefusal) → heard a.key ≡ Post kind → IfOk r (λ x. AreBoth (Parked (next_token (ledger_of t))) x)
         → OnOk r (seen u ≡ parked_on c a kind (record { fsid = f.meta.fsid; key = a.key }) (told_span a.call facts.short kind) (seen t)) → OnErr r (u ≡ t) → IfErr r (λ why. why ≡ NoMemory)
         → IsReplied g f n stamps t c Resume r f stamps u
     again_waits kind u r says replies after err memory =
-        waits_so Resume a.key kind u r says (facts_known (posted (flags_in a) a.answer facts t.sessions a.call kind says).0) again_own again_leaves replies after err memory
+        waits_so Resume a.key kind u r says (facts_known (posted (flags_in a) a.answer facts t.rights t.sessions a.key a.call kind says).0) again_own again_leaves replies after err memory
+
+    pub again_blocks : (other : Token) (u : Tables) (reply : Reply × Reply) → heard a.key ≡ Block other → AreBoth (Blocked other) reply → seen u ≡ with_access c (Some (blocked a)) (seen t)
+        → IsReplied g f n stamps t c Resume (Ok reply) f stamps u
+    again_blocks other u reply says replies after = blocks_so Resume a.key other u (Ok reply) says again_own again_leaves replies after tt tt
 
     -- by the key of the file that was found, if one was
-    finished_on : (k : FileKey) (r : Result (Reply × Reply) StoreRefusal) (new : FileStore D) (after : List (FileKey × ℕ)) → (heard ≡ Complete → k ≡ a.key) → IsFinished g f n stamps k a.call heard r new after
-        → IsFinished g f n stamps a.key a.call heard r new after
-    finished_on k r new after same is = by_verdict heard same is
+    finished_on : (k : FileKey) (r : Result (Reply × Reply) StoreRefusal) (new : FileStore D) (after : List (FileKey × ℕ)) → (heard a.key ≡ Complete → k ≡ a.key) → IsFinished g f n stamps k a.call (heard a.key) r new after
+        → IsFinished g f n stamps a.key a.call (heard a.key) r new after
+    finished_on k r new after same is = by_verdict (heard a.key) same is
       where
         by_verdict : (said : Verdict) → (said ≡ Complete → k ≡ a.key) → IsFinished g f n stamps k a.call said r new after → IsFinished g f n stamps a.key a.call said r new after
         by_verdict Complete same is = subst (λ (j : FileKey). IsFinished g f n stamps j a.call Complete r new after) (same refl) is
         by_verdict (Post kind) same is = record { replies = is.replies; held = is.held; stamps = is.stamps; unstamped = is.unstamped; answered = is.answered; ended = is.ended }
+        by_verdict (Block other) same is = record { replies = is.replies; held = is.held; stamps = is.stamps; unstamped = is.unstamped; answered = is.answered; ended = is.ended }
         by_verdict (NoSpace need free) same is = record { replies = is.replies; held = is.held; stamps = is.stamps; unstamped = is.unstamped; answered = is.answered; ended = is.ended }
         by_verdict Missing same is = record { replies = is.replies; held = is.held; stamps = is.stamps; unstamped = is.unstamped; answered = is.answered; ended = is.ended }
         by_verdict (Answered response) same is = record { replies = is.replies; held = is.held; stamps = is.stamps; unstamped = is.unstamped; answered = is.answered; ended = is.ended }
 
-    found_key : heard ≡ Complete → key_in target ≡ a.key
+    found_key : (heard a.key) ≡ Complete → key_in target ≡ a.key
     found_key is =
-        let live = (complete (flags_in a) a.answer facts t.sessions a.call is).0 in
+        let live = (complete (flags_in a) a.answer facts t.rights t.sessions a.key a.call is).0 in
         elim target as (λ (o : Option Target). MatchOption o (find_key (λ x. x.key) a.key f.held.files ≡ None) (λ x. IsTarget f.held.files a.key x)
         → MatchOption o (facts ≡ record { live = false; touches = false; short = None }) (λ x. (facts ≡ facts_of super f.held x.key a.call) × (used f.held.files ≤ super.geometry.blocks)) → key_in o ≡ a.key) [
           | None ↦ λ found known. absurd (let wrong : true ≡ false = sym live ∙ ap (λ x. x.live) known in cc wrong)
           | Some x ↦ λ found known. found.key
         ] found known
 
-    pub again_completes : heard ≡ Complete → MayComplete super f.held a.call target
+    pub again_completes : (heard a.key) ≡ Complete → MayComplete super f.held a.call target
     again_completes is =
-        let may = complete (flags_in a) a.answer facts t.sessions a.call is in
+        let may = complete (flags_in a) a.answer facts t.rights t.sessions a.key a.call is in
         elim target as (λ (o : Option Target). MatchOption o (find_key (λ x. x.key) a.key f.held.files ≡ None) (λ x. IsTarget f.held.files a.key x)
         → MatchOption o (facts ≡ record { live = false; touches = false; short = None }) (λ x. (facts ≡ facts_of super f.held x.key a.call) × (used f.held.files ≤ super.geometry.blocks)) → MayComplete super f.held a.call o) [
           | None ↦ λ found known. absurd (let wrong : true ≡ false = sym may.0 ∙ ap (λ x. x.live) known in cc wrong)
@@ -322,6 +352,64 @@ module _ {D : Type 0} (g : disk.Ghosts D) (f : FileStore D) (n : ℕ) (stamps : 
           }
         ] found known
 
-    pub again_ends : (u : Tables) (r : Result (Reply × Reply) StoreRefusal) (new : FileStore D) (after : List (FileKey × ℕ)) → ends heard ≡ true → IsFinished g f n stamps (key_in target) a.call heard r new after
+    pub again_ends : (u : Tables) (r : Result (Reply × Reply) StoreRefusal) (new : FileStore D) (after : List (FileKey × ℕ)) → ends (heard a.key) ≡ true → IsFinished g f n stamps (key_in target) a.call (heard a.key) r new after
         → OnOk r (seen u ≡ with_access c None (seen t)) → OnErr r (u ≡ t) → IsReplied g f n stamps t c Resume r new after u
     again_ends u r new after over finished gone err = ends_so Resume a.key u r new after over again_own again_leaves (finished_on (key_in target) r new after found_key finished) gone err
+
+-- ---- a create or a sync, to which no rule applies
+
+module _ {D : Type 0} (g : disk.Ghosts D) (f : FileStore D) (n : ℕ) (stamps : List (FileKey × ℕ)) (t : Tables) (c : ℕ) (call : Call) (idle : waiting t c ≡ None) (lawful : refusal_of (superblock_of f) (names_of f.held.files) call ≡ None)
+    (meant : IsMeant f.held.files call None) where
+  abbrev here : State
+  here = state_in f.held (stamp_in stamps) n t
+
+  abbrev key : FileKey
+  key = key_meant (names_of f.held.files) call
+
+  not_on_file : (call : Call) → IsMeant f.held.files call None → IsOnFile call → ⊥
+  not_on_file (Create name) is on = on
+  not_on_file Sync is on = on
+  not_on_file call is on = is
+
+  never : verdict (superblock_of f) here no_flags key call ≡ None
+  never = ⊎_elim (λ (on : IsOnFile call). absurd (not_on_file call meant on)) (λ (none : verdict (superblock_of f) here no_flags key call ≡ None). none) (never_ruled (superblock_of f) here no_flags key call)
+
+  means_so : issued (names_of f.held.files) (option_map pending_as (waiting t c)) call ≡ Means key call
+  means_so i = issued (names_of f.held.files) (option_map pending_as (idle i)) call
+
+  alone_reply : reply_by here key call None ≡ reply_to (superblock_of f) here c (Issue call)
+  alone_reply = ap (reply_by here key call) (sym never) ∙ (λ i. reply_where (superblock_of f) here no_flags (sym lawful i) (sym means_so i))
+
+  alone_left : left_by_verdict (superblock_of f) here c no_flags key call None ≡ state_after (superblock_of f) here c (Issue call)
+  alone_left = ap (left_by_verdict (superblock_of f) here c no_flags key call) (sym never) ∙ (λ i. state_where (superblock_of f) here c no_flags (sym lawful i) (sym means_so i))
+
+  -- it is done on no file
+  same_reply : (call : Call) (k : FileKey) → IsMeant f.held.files call None → done_reply f.held (key_in None) call ≡ done_reply f.held k call
+  same_reply (Create name) k is = refl
+  same_reply Sync k is = refl
+  same_reply call k is = absurd is
+
+  same_held : (call : Call) (k : FileKey) → IsMeant f.held.files call None → done_held f.held (key_in None) call ≡ done_held f.held k call
+  same_held (Create name) k is = refl
+  same_held Sync k is = refl
+  same_held call k is = absurd is
+
+  unstamped_by : (call : Call) (k : FileKey) → IsMeant f.held.files call None → stamp_in stamps ≡ stamps_by (n + 1) k call None (stamp_in stamps)
+  unstamped_by (Create name) k is = refl
+  unstamped_by Sync k is = refl
+  unstamped_by call k is = absurd is
+
+  left_idle : state_in (done_held f.held key call) (stamp_in stamps) (n + 1) t ≡ left_by_verdict (superblock_of f) here c no_flags key call None
+  left_idle =
+      (λ i. state_in (done_held f.held key call) (unstamped_by call key meant i) (n + 1) t)
+      ∙ fresh_ended (superblock_of f) f.held (stamp_in stamps) n t c no_flags key call Complete refl idle
+
+  pub alone_replied : (r : Result (Reply × Reply) StoreRefusal) (new : FileStore D) → IfOk r (λ x. AreBoth (done_reply f.held (key_in None) call) x) → OnOk r (new.held ≡ done_held f.held (key_in None) call) → Ends g f n r new
+      → IsReplied g f n stamps t c (Issue call) r new stamps t
+  alone_replied r new replies held over = record {
+    replies = both_as r (done_reply f.held (key_in None) call) (reply_to (superblock_of f) here c (Issue call)) (same_reply call key meant ∙ alone_reply) replies;
+    left = on_ok r (λ (is : new.held ≡ done_held f.held (key_in None) call). (λ i. state_in ((is ∙ same_held call key meant) i) (stamp_in stamps) (n + 1) t) ∙ left_idle ∙ alone_left) held;
+    unstamped = always r refl;
+    err = always r refl;
+    ends = over;
+  }

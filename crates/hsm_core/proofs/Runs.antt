@@ -44,7 +44,7 @@ HasRun-opened s opened none stamps new opening = record {
   fsid = rw opened refl;
   run = record { opening = rw opened opening; exact = rw none tt };
   faultless = λ working. rw none refl;
-  state = λ working. rw (none, opened, stamps) (λ i. record { held = s.files.held; stamps = λ k. 0; number = plus_nothing s.files.meta.number i; sessions = (new i).sessions; flags = (new i).flags; ledger = (new i).ledger });
+  state = λ working. rw (none, opened, stamps) (λ i. record { held = s.files.held; stamps = λ k. 0; number = plus_nothing s.files.meta.number i; sessions = (new i).sessions; rights = (new i).rights; flags = (new i).flags; ledger = (new i).ledger });
 }
 
 -- nothing waits in new tables, and nothing is awaited

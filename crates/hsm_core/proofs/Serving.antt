@@ -1,24 +1,28 @@
 -- A session's call by its scope and its service.
-use Rattle.std.proofs.Common.{◌≡◌, ℕ, ◌+◌, false, List, [], ◌∷◌, Option, Some, None, refl, sym, ◌∙◌, ap}
-use Rattle.std.specs.Prelude.{Result, Ok, Err, OnOk}
+use Rattle.std.proofs.Common.{◌≡◌, ℕ, ◌+◌, true, false, List, [], ◌∷◌, ◌++◌, Option, Some, None, refl, sym, ◌∙◌, ap, subst}
+use Rattle.std.specs.Prelude.{Result, Ok, Err, MatchOption, MatchResult, IfOk, OnOk, OnErr, IsErrOf}
 use Rattle.hsm_types.specs.Refusals.{first_refusal}
 use Rattle.hsm_types.specs.Calls.{scope_of}
+use Rattle.hsm_types.specs.Rights.{Rights}
+use Rattle.hsm_types.specs.declared.dm.DmRefusal.TheVariants.{Memory}
 use Rattle.hsm_types.specs.declared.keys.FileKey.{FileKey}
 use Rattle.hsm_types.specs.declared.keys.Sid.{Sid}
 use Rattle.hsm_types.specs.declared.stores.Superblock.{Superblock}
+use Rattle.hsm_types.specs.declared.dm.Scope.{Scope}
+use Rattle.hsm_types.specs.declared.dm.Scope.TheVariants.{Anyone, InSession, OnToken, OnFile, OnRight}
 use Rattle.hsm_types.specs.declared.dm.DmCall.{DmCall}
-use Rattle.hsm_types.specs.declared.dm.DmCall.TheVariants.{GetFileAttr, SetRegion, GetRegion, SetDmAttr, GetDmAttr, RemoveDmAttr, GetAllDmAttr, PathToHandle, GetSpace}
+use Rattle.hsm_types.specs.declared.dm.DmCall.TheVariants.{RequestRight, ReleaseRight, QueryRight, UpgradeRight, DowngradeRight, GetFileAttr, SetRegion, GetRegion, SetDmAttr, GetDmAttr, RemoveDmAttr, GetAllDmAttr, PathToHandle, GetSpace}
 use Rattle.hsm_types.specs.declared.dm.DmRefusal.{DmRefusal}
 use Rattle.hsm_types.specs.declared.dm.DmReply.{DmReply}
 use Rattle.hsm_types.specs.declared.dm.DmReply.TheVariants as reply
-use Rattle.plain_model.specs.Effects.{Change, Nothing, OfFile, OfSessions, change_of}
+use Rattle.plain_model.specs.Effects.{Change, Nothing, OfFile, OfSessions, OfRights, Closes, change_of}
 use Rattle.plain_model.specs.State.{Held, State, noted, changed}
 use Rattle.plain_model.specs.Services.{Service, service, scope_refusals, dm_judged, dm_reply_where, dm_reply_to, dm_state_where, dm_state_after}
 use Rattle.file_store.specs.declared.refusal.StoreRefusal.{StoreRefusal}
-use Rattle.dm_service.specs.Services.{asks_tables}
+use Rattle.dm_service.specs.Services.{asks_rights, asks_tables, done_or, session_refusals, AreBoth, Judges}
 use Rattle.dm_service.specs.Tables.{Tables}
 use Rattle.hsm_core.specs.Store.{state_with}
-use Rattle.hsm_core.specs.Services.{asked, told_where, held_where}
+use Rattle.hsm_core.specs.Services.{anybody, asked, file_refusals, told_where, held_where, service_with, rights_where, IsGranted}
 use Rattle.plain_model.specs.Ledger.{ledger_told}
 use Rattle.hsm_core.proofs.Refusing.{all_pass, one_stops, alone}
 
@@ -38,27 +42,33 @@ held_done : (change : Change) (st : State) → held_where change None st.held �
 held_done Nothing st = refl
 held_done (OfFile k effect) st = refl
 held_done (OfSessions to) st = refl
+held_done (OfRights to) st = refl
+held_done (Closes owner token) st = refl
 
 abbrev OnFiles : Change → Type 0
 OnFiles (OfSessions to) = ⊥
+OnFiles (OfRights to) = ⊥
+OnFiles (Closes owner token) = ⊥
 OnFiles change = Unit {0}
 
-on_files : (sid : Sid) (call : DmCall) → asks_tables call ≡ false → OnFiles (change_of sid call)
-on_files sid (SetRegion token handle regions) is = tt
-on_files sid (SetDmAttr token handle name value) is = tt
-on_files sid (RemoveDmAttr token handle name) is = tt
-on_files sid (GetFileAttr token handle) is = tt
-on_files sid (GetRegion token handle) is = tt
-on_files sid (GetDmAttr token handle name) is = tt
-on_files sid (GetAllDmAttr token handle) is = tt
-on_files sid (PathToHandle name) is = tt
-on_files sid GetSpace is = tt
-on_files sid call is = absurd cc
+on_files : (sid : Sid) (call : DmCall) → asks_tables call ≡ false → asks_rights call ≡ false → OnFiles (change_of sid call)
+on_files sid (SetRegion token handle regions) is no_rights = tt
+on_files sid (SetDmAttr token handle name value) is no_rights = tt
+on_files sid (RemoveDmAttr token handle name) is no_rights = tt
+on_files sid (GetFileAttr token handle) is no_rights = tt
+on_files sid (GetRegion token handle) is no_rights = tt
+on_files sid (GetDmAttr token handle name) is no_rights = tt
+on_files sid (GetAllDmAttr token handle) is no_rights = tt
+on_files sid (PathToHandle name) is no_rights = tt
+on_files sid GetSpace is no_rights = tt
+on_files sid call is no_rights = absurd cc
 
 left_changed : (change : Change) (h : Held) (stamps : List (FileKey × ℕ)) (t : Tables) (number : ℕ) → OnFiles change → state_with (held_where change None h) stamps t (number + 1) ≡ noted (changed change (state_with h stamps t number))
 left_changed Nothing h stamps t number on = refl
 left_changed (OfFile k effect) h stamps t number on = refl
 left_changed (OfSessions to) h stamps t number on = absurd on
+left_changed (OfRights to) h stamps t number on = absurd on
+left_changed (Closes owner token) h stamps t number on = absurd on
 
 same_ledger : (s : Superblock) (st : State) (sid : Sid) (call : DmCall) → asks_tables call ≡ false → ledger_told st.ledger call (service s st sid call).reply ≡ st.ledger
 same_ledger s st sid GetSpace is = refl
@@ -68,19 +78,43 @@ ledger_changed : (change : Change) (st : State) → (changed change st).ledger �
 ledger_changed Nothing st = refl
 ledger_changed (OfFile k effect) st = refl
 ledger_changed (OfSessions to) st = refl
+ledger_changed (OfRights to) st = refl
+ledger_changed (Closes owner token) st = refl
 
-left_parts : (why : Option DmRefusal) (s : Superblock) (h : Held) (stamps : List (FileKey × ℕ)) (t : Tables) (number : ℕ) (sid : Sid) (call : DmCall) → asks_tables call ≡ false
+left_parts : (why : Option DmRefusal) (s : Superblock) (h : Held) (stamps : List (FileKey × ℕ)) (t : Tables) (number : ℕ) (sid : Sid) (call : DmCall) → asks_tables call ≡ false → asks_rights call ≡ false
     → state_with (held_where (change_of sid call) why h) stamps t (number + 1) ≡ dm_state_where why s (state_with h stamps t number) sid call
-left_parts None s h stamps t number sid call is =
+left_parts None s h stamps t number sid call is no_rights =
     let st : State = state_with h stamps t number in
-    left_changed (change_of sid call) h stamps t number (on_files sid call is)
+    left_changed (change_of sid call) h stamps t number (on_files sid call is no_rights)
     ∙ (λ i. record (noted (changed (change_of sid call) st)) { ledger = (ledger_changed (change_of sid call) st ∙ sym (same_ledger s st sid call is)) i })
-left_parts (Some why) s h stamps t number sid call is = refused_parts (change_of sid call)
+left_parts (Some why) s h stamps t number sid call is no_rights = refused_parts (change_of sid call)
   where
     refused_parts : (change : Change) → state_with (held_where change (Some why) h) stamps t (number + 1) ≡ noted (state_with h stamps t number)
     refused_parts Nothing = refl
     refused_parts (OfFile k effect) = refl
     refused_parts (OfSessions to) = refl
+    refused_parts (OfRights to) = refl
+    refused_parts (Closes owner token) = refl
+
+-- ---- the refusals of a scope: by its session and token, then by its file and right
+
+pub scope_parts : (s : Superblock) (h : Held) (stamps : List (FileKey × ℕ)) (t : Tables) (number : ℕ) (sid : Sid) (scope : Scope)
+    → session_refusals t.sessions sid scope ++ file_refusals s h.files t.rights scope ≡ scope_refusals s (state_with h stamps t number) sid scope
+scope_parts s h stamps t number sid Anyone = refl
+scope_parts s h stamps t number sid InSession = refl
+scope_parts s h stamps t number sid (OnToken token) = refl
+scope_parts s h stamps t number sid (OnFile token handle right) = refl
+scope_parts s h stamps t number sid (OnRight token handle right) = refl
+
+pub stopped_by_session : (s : Superblock) (h : Held) (stamps : List (FileKey × ℕ)) (t : Tables) (number : ℕ) (sid : Sid) (scope : Scope) (why : DmRefusal)
+    → first_refusal (session_refusals t.sessions sid scope) ≡ Some why → first_refusal (scope_refusals s (state_with h stamps t number) sid scope) ≡ Some why
+stopped_by_session s h stamps t number sid scope why refuses =
+    sym (ap first_refusal (scope_parts s h stamps t number sid scope)) ∙ one_stops (session_refusals t.sessions sid scope) (file_refusals s h.files t.rights scope) why refuses
+
+pub passed_to_file : (s : Superblock) (h : Held) (stamps : List (FileKey × ℕ)) (t : Tables) (number : ℕ) (sid : Sid) (scope : Scope)
+    → first_refusal (session_refusals t.sessions sid scope) ≡ None → first_refusal (scope_refusals s (state_with h stamps t number) sid scope) ≡ first_refusal (file_refusals s h.files t.rights scope)
+passed_to_file s h stamps t number sid scope none =
+    sym (ap first_refusal (scope_parts s h stamps t number sid scope)) ∙ all_pass (session_refusals t.sessions sid scope) (file_refusals s h.files t.rights scope) none
 
 -- ---- where the scope refuses
 
@@ -110,12 +144,107 @@ module _ (s : Superblock) (h : Held) (stamps : List (FileKey × ℕ)) (t : Table
       (λ i. told_where (sym judged_asked i) (sym (service_asked s h stamps t number sid call) i).reply)
       ∙ sym (reply_told (dm_judged s (state_with h stamps t number) sid call) s (state_with h stamps t number) sid call)
 
-  left_asked : asks_tables call ≡ false → state_with (held_where (change_of sid call) (asked s h stamps t sid call).refusal h) stamps t (number + 1) ≡ dm_state_after s (state_with h stamps t number) sid call
-  left_asked is =
+  left_asked : asks_tables call ≡ false → asks_rights call ≡ false → state_with (held_where (change_of sid call) (asked s h stamps t sid call).refusal h) stamps t (number + 1) ≡ dm_state_after s (state_with h stamps t number) sid call
+  left_asked is no_rights =
       ap (λ (why : Option DmRefusal). state_with (held_where (change_of sid call) why h) stamps t (number + 1)) (sym judged_asked)
-      ∙ left_parts (dm_judged s (state_with h stamps t number) sid call) s h stamps t number sid call is
+      ∙ left_parts (dm_judged s (state_with h stamps t number) sid call) s h stamps t number sid call is no_rights
 
-  pub served_left : asks_tables call ≡ false → (result : Result (DmReply × DmReply) StoreRefusal) (h' : Held) → OnOk result (h' ≡ held_where (change_of sid call) (asked s h stamps t sid call).refusal h)
+  pub served_left : asks_tables call ≡ false → asks_rights call ≡ false → (result : Result (DmReply × DmReply) StoreRefusal) (h' : Held) → OnOk result (h' ≡ held_where (change_of sid call) (asked s h stamps t sid call).refusal h)
       → OnOk result (state_with h' stamps t (number + 1) ≡ dm_state_after s (state_with h stamps t number) sid call)
-  served_left is (Ok r) h' held = (λ i. state_with (held i) stamps t (number + 1)) ∙ left_asked is
-  served_left is (Err e) h' held = tt
+  served_left is no_rights (Ok r) h' held = (λ i. state_with (held i) stamps t (number + 1)) ∙ left_asked is no_rights
+  served_left is no_rights (Err e) h' held = tt
+
+-- ---- calls on rights
+
+granted_asked : (s : Superblock) (h : Held) (stamps : List (FileKey × ℕ)) (t : Tables) (sid : Sid) (call : DmCall) → asks_rights call ≡ true → service_with t.rights call ≡ asked s h stamps t sid call
+granted_asked s h stamps t sid (RequestRight token handle right) is = refl
+granted_asked s h stamps t sid (ReleaseRight token handle) is = refl
+granted_asked s h stamps t sid (QueryRight token handle) is = refl
+granted_asked s h stamps t sid (UpgradeRight token handle) is = refl
+granted_asked s h stamps t sid (DowngradeRight token handle) is = refl
+granted_asked s h stamps t sid GetSpace is = absurd cc
+granted_asked s h stamps t sid call is = absurd cc
+
+-- what they leave, by whether something refuses
+rights_left : (why : Option DmRefusal) (s : Superblock) (h : Held) (stamps : List (FileKey × ℕ)) (t : Tables) (number : ℕ) (sid : Sid) (call : DmCall) → asks_rights call ≡ true
+    → state_with h stamps (record t { rights = rights_where (change_of anybody call) why t.rights }) (number + 1) ≡ dm_state_where why s (state_with h stamps t number) sid call
+rights_left None s h stamps t number sid (RequestRight token handle right) is = refl
+rights_left None s h stamps t number sid (ReleaseRight token handle) is = refl
+rights_left None s h stamps t number sid (QueryRight token handle) is = refl
+rights_left None s h stamps t number sid (UpgradeRight token handle) is = refl
+rights_left None s h stamps t number sid (DowngradeRight token handle) is = refl
+rights_left None s h stamps t number sid GetSpace is = absurd cc
+rights_left None s h stamps t number sid call is = absurd cc
+rights_left (Some why) s h stamps t number sid call is = refused_rights (change_of anybody call)
+  where
+    refused_rights : (change : Change) → state_with h stamps (record t { rights = rights_where change (Some why) t.rights }) (number + 1) ≡ noted (state_with h stamps t number)
+    refused_rights Nothing = refl
+    refused_rights (OfFile k effect) = refl
+    refused_rights (OfSessions to) = refl
+    refused_rights (OfRights to) = refl
+    refused_rights (Closes owner token) = refl
+
+module _ (s : Superblock) (h : Held) (stamps : List (FileKey × ℕ)) (t u : Tables) (number : ℕ) (sid : Sid) (call : DmCall) {E : Type 0} (result : Result (DmReply × DmReply) E)
+    (none : first_refusal (scope_refusals s (state_with h stamps t number) sid (scope_of call)) ≡ None) (is : asks_rights call ≡ true) (granted : IsGranted t call result u) where
+  pub granted_reply : IfOk result (λ r. AreBoth (dm_reply_to s (state_with h stamps t number) sid call) r)
+  granted_reply = subst (λ (x : DmReply). IfOk result (λ r. AreBoth x r)) (ap (λ (v : Service). told_where v.refusal v.reply) (granted_asked s h stamps t sid call is) ∙ served_reply s h stamps t number sid call none) granted.replies
+
+  pub granted_left : OnOk result (state_with h stamps u (number + 1) ≡ dm_state_after s (state_with h stamps t number) sid call)
+  granted_left = on_done result
+      (λ (left : u ≡ record t { rights = rights_where (change_of anybody call) (service_with t.rights call).refusal t.rights }).
+      (λ i. state_with h stamps (left i) (number + 1))
+      ∙ rights_left (service_with t.rights call).refusal s h stamps t number sid call is
+      ∙ ap (λ (why : Option DmRefusal). dm_state_where why s (state_with h stamps t number) sid call) (ap (λ (v : Service). v.refusal) (granted_asked s h stamps t sid call is) ∙ sym (judged_asked s h stamps t number sid call none))) granted.left
+    where
+      on_done : {T P Q : Type 0} (r : Result T E) → (P → Q) → OnOk r P → OnOk r Q
+      on_done (Ok x) to is = to is
+      on_done (Err e) to is = tt
+
+-- ---- a change of rights that may be refused
+
+abbrev granted_where : DmCall → Tables → Option DmRefusal → DmReply
+granted_where call t why = told_where why (service_with t.rights call).reply
+
+-- by what was judged, of a call that its token's right doesn't refuse
+pub granted_by : {E : Type 0} (t u : Tables) (call : DmCall) (to : Rights → Rights) (outcome : Result Unit DmRefusal) (result : Result (DmReply × DmReply) E) → change_of anybody call ≡ OfRights to → (service_with t.rights call).reply ≡ reply.Done
+    → MatchResult outcome (λ _. (service_with t.rights call).refusal ≡ None) (λ why. MatchOption (service_with t.rights call).refusal (why ≡ Memory) (λ cause. why ≡ cause))
+    → OnOk outcome (u ≡ record t { rights = to t.rights }) → OnErr outcome (u ≡ t)
+    → IfOk result (λ r. AreBoth (done_or outcome) r) → OnOk result (IsErrOf outcome Memory → ⊥) → OnErr result (IsErrOf outcome Memory) → IsGranted t call result u
+granted_by t u call to (Ok x) (Ok r) changes is_done judged after err replies other memory = record {
+  replies = subst (λ (x : DmReply). AreBoth x r) (sym (ap (granted_where call t) judged ∙ is_done)) replies;
+  left = after ∙ (λ i. record t { rights = rights_where (sym changes i) (sym judged i) t.rights });
+  err = tt;
+}
+granted_by t u call to (Ok x) (Err e) changes is_done judged after err replies other memory = absurd (cc memory)
+granted_by t u call to (Err why) (Err e) changes is_done judged after err replies other memory = record { replies = tt; left = tt; err = err }
+granted_by {E} t u call to (Err why) (Ok r) changes is_done judged after err replies other memory = refused (service_with t.rights call).refusal refl judged
+  where
+    lack : DmRefusal → Result Unit DmRefusal
+    lack w = Err w
+
+    refused : (cause : Option DmRefusal) → (service_with t.rights call).refusal ≡ cause → MatchOption cause (why ≡ Memory) (λ cause. why ≡ cause) → IsGranted {E = E} t call (Ok r) u
+    refused None is lacks = absurd (other (ap lack lacks))
+    refused (Some cause) is same = record {
+      replies = subst (λ (x : DmReply). AreBoth x r) (ap (λ (w : DmRefusal). reply.Refused w) same ∙ sym (ap (granted_where call t) is)) replies;
+      left = err ∙ (λ i. record t { rights = rights_where (sym changes i) (sym is i) t.rights });
+      err = tt;
+    }
+
+-- where the token has what an upgrade needs, another token alone refuses it
+pub upgrade_judged : (outcome : Result Unit DmRefusal) (low hindered : Option DmRefusal) → low ≡ None → Judges outcome (first_refusal (low ∷ hindered ∷ []))
+    → MatchResult outcome (λ _. hindered ≡ None) (λ why. MatchOption hindered (why ≡ Memory) (λ cause. why ≡ cause))
+upgrade_judged (Ok x) None hindered enough judged = sym (alone hindered) ∙ judged
+upgrade_judged (Err why) None hindered enough judged = by hindered judged
+  where
+    by : (hindered : Option DmRefusal) → first_refusal (None ∷ hindered ∷ []) ≡ Some why → MatchOption hindered (why ≡ Memory) (λ cause. why ≡ cause)
+    by None is = absurd cc
+    by (Some cause) is = cc
+upgrade_judged outcome (Some low) hindered enough judged = absurd cc
+
+abbrev nothing : Option DmRefusal
+nothing = None
+
+-- and nothing a downgrade
+pub downgrade_judged : (outcome : Result Unit DmRefusal) (low : Option DmRefusal) → low ≡ None → Judges outcome low → MatchResult outcome (λ _. nothing ≡ nothing) (λ why. why ≡ Memory)
+downgrade_judged (Ok x) low enough judged = refl
+downgrade_judged (Err why) low enough judged = absurd (let wrong : None ≡ Some why = sym enough ∙ judged in cc)

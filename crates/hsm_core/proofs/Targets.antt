@@ -1,12 +1,14 @@
 -- What the judging of an access says of its call and its file.
-use Rattle.std.proofs.Common.{◌≡◌, ◌≤◌, ◌+◌, ◌-◌, ◌^◌, ℕ, min, length, List, [], ◌∷◌, Bool, true, false, Option, Some, None, refl, ap, subst, arith}
+use Rattle.std.proofs.Common.{◌≡◌, ◌≤◌, ◌+◌, ◌-◌, ◌^◌, ℕ, min, length, List, [], ◌∷◌, Bool, true, false, Option, Some, None, refl, sym, ◌∙◌, ap, subst, arith}
 use Rattle.std.proofs.lemmas.Bool.Decides.{nat_tests}
 use Rattle.std.specs.Prelude.{◌&&◌, not, nat_lt, nat_le, if◌then◌else◌, IsSomeAnd}
 use Rattle.std.specs.Option.{option_map}
-use Rattle.hsm_types.specs.Messages.{is_lawful}
+use Rattle.hsm_types.specs.Messages.{no_token, is_lawful}
 use Rattle.hsm_types.specs.Refusals.{first_refusal}
+use Rattle.hsm_types.specs.Rights.{Rights, conflict}
 use Rattle.hsm_types.specs.Sessions.{SessionTable}
 use Rattle.hsm_types.specs.declared.keys.FileKey.{FileKey}
+use Rattle.hsm_types.specs.declared.keys.Token.{Token}
 use Rattle.hsm_types.specs.declared.stores.Superblock.{Superblock}
 use Rattle.hsm_types.specs.declared.calls.Call.{Call}
 use Rattle.hsm_types.specs.declared.calls.Call.TheVariants.{Create, Read, Write, Truncate, Remove, Stat, Sync}
@@ -17,13 +19,14 @@ use Rattle.hsm_types.specs.declared.dm.Response.{Response}
 use Rattle.hsm_types.specs.declared.dm.Response.TheVariants.{Continue, Abort}
 use Rattle.plain_model.specs.declared.facts.Facts.{Facts}
 use Rattle.plain_model.specs.declared.facts.NoRoom.{NoRoom}
-use Rattle.plain_model.specs.Accesses.{kind_of}
+use Rattle.plain_model.specs.Accesses.{need_of, kind_of}
 use Rattle.plain_model.specs.Ledger.{aborted, gone}
 use Rattle.plain_model.specs.Plain.{Listed, bad_name, bad_length, missing, too_big, refusal_of, key_meant}
 use Rattle.plain_model.specs.State.{FileState, Flags, names_of}
-use Rattle.plain_model.specs.Verdict.{Verdict as Ruled, Posts, Lacks, Ends, Rules, posts, touching, without_room, lacking, is_taken, judgement}
+use Rattle.plain_model.specs.Verdict.{Verdict as Ruled, Blocks, Posts, Lacks, Ends, Rules, posts, conflicting, touching, without_room, lacking, rulings, is_taken, judgement}
 use Rattle.plain_model.proofs.Judged.{none_first, passes}
 use Rattle.access_park.specs.Pending.{is_lawful_answer}
+use Rattle.dm_service.specs.declared.verdict.Verdict.{Verdict}
 use Rattle.dm_service.specs.declared.verdict.Verdict.TheVariants.{Answered, Post, Complete}
 use Rattle.dm_service.specs.Judging.{verdict_of}
 use Rattle.hsm_core.specs.declared.judging.Target.{Target}
@@ -103,82 +106,77 @@ may_still s files call last = last.1
 
 -- ---- what a verdict says
 
--- of an access that is done
-no_ending : (answer : Option Response) (live : Bool) (x y : Ruled) → verdict_of (first_refusal (option_map Ends (aborted answer) ∷ option_map Ends (gone live) ∷ option_map Rules x ∷ option_map Rules y ∷ [])) ≡ Complete
-    → (live ≡ true) × (y ≡ None)
-no_ending (Some (Abort error)) live x y is = cc
-no_ending None false x y is = cc
-no_ending (Some Continue) false x y is = cc
-no_ending None true None None is = (refl, refl)
-no_ending (Some Continue) true None None is = (refl, refl)
-no_ending None true (Some (Posts kind)) y is = cc
-no_ending None true (Some (Lacks need free)) y is = cc
-no_ending None true None (Some (Posts kind)) is = cc
-no_ending None true None (Some (Lacks need free)) is = cc
-no_ending (Some Continue) true (Some (Posts kind)) y is = cc
-no_ending (Some Continue) true (Some (Lacks need free)) y is = cc
-no_ending (Some Continue) true None (Some (Posts kind)) is = cc
-no_ending (Some Continue) true None (Some (Lacks need free)) is = cc
+-- of several rules the first that applies is as good as all
+rules_first : (w x y : Ruled) → first_refusal (option_map Rules w ∷ option_map Rules x ∷ option_map Rules y ∷ []) ≡ first_refusal (option_map Rules (first_refusal (w ∷ x ∷ y ∷ [])) ∷ [])
+rules_first (Some ruling) x y = refl
+rules_first None (Some ruling) y = refl
+rules_first None None (Some ruling) = refl
+rules_first None None None = refl
+
+abbrev heard : Option Response → Bool → Ruled → Verdict
+heard answer live v = verdict_of (first_refusal (option_map Ends (aborted answer) ∷ option_map Ends (gone live) ∷ option_map Rules v ∷ []))
+
+either_first : {R : Type 0} (a b : Option R) (rest rest' : List (Option R)) → first_refusal rest ≡ first_refusal rest' → first_refusal (a ∷ b ∷ rest) ≡ first_refusal (a ∷ b ∷ rest')
+either_first (Some x) b rest rest' same = refl
+either_first None (Some x) rest rest' same = refl
+either_first None None rest rest' same = same
+
+abbrev ruled : Flags → Facts → Rights → SessionTable → FileKey → Call → Ruled
+ruled fl facts rights t k call = first_refusal (rulings fl facts rights t k call)
+
+heard_is : (fl : Flags) (answer : Option Response) (facts : Facts) (rights : Rights) (t : SessionTable) (k : FileKey) (call : Call) → verdict_of (judgement fl answer facts rights t k call) ≡ heard answer facts.live (ruled fl facts rights t k call)
+heard_is fl answer facts rights t k call =
+    ap verdict_of (either_first (option_map Ends (aborted answer)) (option_map Ends (gone facts.live)) _ (option_map Rules (ruled fl facts rights t k call) ∷ [])
+    (rules_first (conflicting rights k call) (touching fl facts call) (lacking fl facts t)))
+
+-- ---- an access that is done
+
+no_ending : (answer : Option Response) (live : Bool) (v : Ruled) → heard answer live v ≡ Complete → (live ≡ true) × (v ≡ None)
+no_ending (Some (Abort error)) live v is = absurd cc
+no_ending None false v is = absurd cc
+no_ending (Some Continue) false v is = absurd cc
+no_ending None true None is = (refl, refl)
+no_ending (Some Continue) true None is = (refl, refl)
+no_ending None true (Some (Blocks t)) is = absurd cc
+no_ending None true (Some (Posts kind)) is = absurd cc
+no_ending None true (Some (Lacks need free)) is = absurd cc
+no_ending (Some Continue) true (Some (Blocks t)) is = absurd cc
+no_ending (Some Continue) true (Some (Posts kind)) is = absurd cc
+no_ending (Some Continue) true (Some (Lacks need free)) is = absurd cc
 
 no_lack : (asks : Bool) (short : Option NoRoom) → without_room asks short ≡ None → short ≡ None
 no_lack asks None is = refl
 no_lack true (Some room) is = cc
 no_lack false (Some room) is = cc
 
-pub complete : (fl : Flags) (answer : Option Response) (facts : Facts) (t : SessionTable) (call : Call) → verdict_of (judgement fl answer facts t call) ≡ Complete → (facts.live ≡ true) × (facts.short ≡ None)
-complete fl answer facts t call is =
-    let none = no_ending answer facts.live (touching fl facts call) (lacking fl facts t) is in
-    (none.0, no_lack (not fl.spaced && is_taken kind.NoSpace t) facts.short none.1)
+-- ---- an access that was aborted
 
-pub unaborted : (fl : Flags) (answer : Option Response) (facts : Facts) (t : SessionTable) (call : Call) → verdict_of (judgement fl answer facts t call) ≡ Complete → is_abort answer ≡ false
-unaborted fl None facts t call is = refl
-unaborted fl (Some Continue) facts t call is = refl
-unaborted fl (Some (Abort error)) facts t call is = cc
-
--- of one that was aborted
 lawful_abort : (error : ℕ) → is_lawful (Abort error) ≡ true → error ≤ 255
 lawful_abort error is = let most = (both_of (nat_le 1 error) (nat_le error 255) is).1 in grind (arith, nat_tests, most)
 
-by_abort : (answer : Option Response) (live : Bool) (x y : Ruled) (response : Response) → verdict_of (first_refusal (option_map Ends (aborted answer) ∷ option_map Ends (gone live) ∷ option_map Rules x ∷ option_map Rules y ∷ [])) ≡ Answered response
-    → answer ≡ Some response
-by_abort (Some (Abort error)) live x y response is = cc
-by_abort None false x y response is = cc
-by_abort (Some Continue) false x y response is = cc
-by_abort None true None None response is = cc
-by_abort (Some Continue) true None None response is = cc
-by_abort None true (Some (Posts kind)) y response is = cc
-by_abort None true (Some (Lacks need free)) y response is = cc
-by_abort None true None (Some (Posts kind)) response is = cc
-by_abort None true None (Some (Lacks need free)) response is = cc
-by_abort (Some Continue) true (Some (Posts kind)) y response is = cc
-by_abort (Some Continue) true (Some (Lacks need free)) y response is = cc
-by_abort (Some Continue) true None (Some (Posts kind)) response is = cc
-by_abort (Some Continue) true None (Some (Lacks need free)) response is = cc
+never_answered : (v : Ruled) (response : Response) → verdict_of (first_refusal (option_map Rules v ∷ [])) ≡ Answered response → ⊥
+never_answered None response is = cc
+never_answered (Some (Blocks t)) response is = cc
+never_answered (Some (Posts kind)) response is = cc
+never_answered (Some (Lacks need free)) response is = cc
 
-ends_by : (answer : Option Response) (live : Bool) (x y : Ruled) (response : Response) → verdict_of (first_refusal (option_map Ends (aborted answer) ∷ option_map Ends (gone live) ∷ option_map Rules x ∷ option_map Rules y ∷ [])) ≡ Answered response
-    → is_lawful_answer answer ≡ true → IsAbort response
-ends_by (Some (Abort error)) live x y Continue is lawful = absurd cc
-ends_by (Some (Abort error)) live x y (Abort e) is lawful = let same : error ≡ e = cc in let few = lawful_abort error lawful in omega (arith, same, few)
-ends_by None live x y response is lawful = let wrong = by_abort None live x y response is in absurd cc
-ends_by (Some Continue) live x y Continue is lawful = let wrong = stays live x y is in absurd wrong
-  where
-    stays : (live : Bool) (x y : Ruled) → verdict_of (first_refusal (option_map Ends (gone live) ∷ option_map Rules x ∷ option_map Rules y ∷ [])) ≡ Answered Continue → ⊥
-    stays false x y is = cc
-    stays true (Some (Posts kind)) y is = cc
-    stays true (Some (Lacks need free)) y is = cc
-    stays true None (Some (Posts kind)) is = cc
-    stays true None (Some (Lacks need free)) is = cc
-    stays true None None is = cc
-ends_by (Some Continue) live x y (Abort error) is lawful = let wrong = by_abort (Some Continue) live x y (Abort error) is in absurd cc
+ends_by : (answer : Option Response) (live : Bool) (v : Ruled) (response : Response) → heard answer live v ≡ Answered response → is_lawful_answer answer ≡ true → IsAbort response
+ends_by (Some (Abort error)) live v Continue is lawful = absurd cc
+ends_by (Some (Abort error)) live v (Abort e) is lawful = let same : error ≡ e = cc in let few = lawful_abort error lawful in omega (arith, same, few)
+ends_by None false v response is lawful = absurd cc
+ends_by (Some Continue) false v response is lawful = absurd cc
+ends_by None true v response is lawful = absurd (never_answered v response is)
+ends_by (Some Continue) true v response is lawful = absurd (never_answered v response is)
 
-pub answered : (fl : Flags) (answer : Option Response) (facts : Facts) (t : SessionTable) (call : Call) (response : Response) → verdict_of (judgement fl answer facts t call) ≡ Answered response → is_lawful_answer answer ≡ true → IsAbort response
-answered fl answer facts t call response is lawful = ends_by answer facts.live (touching fl facts call) (lacking fl facts t) response is lawful
+-- ---- one that is to wait for an event
 
--- of one that is to wait
 abbrev Asks : Call → Ruled → Type 0
-Asks call None = Unit {0}
 Asks call (Some (Posts kind)) = MayAsk call kind
-Asks call (Some (Lacks need free)) = Unit {0}
+Asks call v = Unit {0}
+
+conflicting_asks : (other : Option Token) (call : Call) → Asks call (option_map Blocks other)
+conflicting_asks None call = tt
+conflicting_asks (Some t) call = tt
 
 touching_asks : (asks : Bool) (call : Call) → Asks call (posts asks (kind_of call))
 touching_asks false call = tt
@@ -195,22 +193,56 @@ lacking_asks asks None call = tt
 lacking_asks true (Some room) call = (λ is. cc, λ short is. absurd cc)
 lacking_asks false (Some room) call = tt
 
-one_asks : (answer : Option Response) (live : Bool) (x y : Ruled) (call : Call) (kind : Kind) → verdict_of (first_refusal (option_map Ends (aborted answer) ∷ option_map Ends (gone live) ∷ option_map Rules x ∷ option_map Rules y ∷ [])) ≡ Post kind
-    → Asks call x → Asks call y → (live ≡ true) × MayAsk call kind
-one_asks (Some (Abort error)) live x y call kind is first second = absurd cc
-one_asks None false x y call kind is first second = absurd cc
-one_asks (Some Continue) false x y call kind is first second = absurd cc
-one_asks None true (Some (Posts asked)) y call kind is first second = (refl, subst (MayAsk call) (let same : asked ≡ kind = cc in same) first)
-one_asks (Some Continue) true (Some (Posts asked)) y call kind is first second = (refl, subst (MayAsk call) (let same : asked ≡ kind = cc in same) first)
-one_asks None true (Some (Lacks need free)) y call kind is first second = absurd cc
-one_asks (Some Continue) true (Some (Lacks need free)) y call kind is first second = absurd cc
-one_asks None true None (Some (Posts asked)) call kind is first second = (refl, subst (MayAsk call) (let same : asked ≡ kind = cc in same) second)
-one_asks (Some Continue) true None (Some (Posts asked)) call kind is first second = (refl, subst (MayAsk call) (let same : asked ≡ kind = cc in same) second)
-one_asks None true None (Some (Lacks need free)) call kind is first second = absurd cc
-one_asks (Some Continue) true None (Some (Lacks need free)) call kind is first second = absurd cc
-one_asks None true None None call kind is first second = absurd cc
-one_asks (Some Continue) true None None call kind is first second = absurd cc
+first_asks : (w x y : Ruled) (call : Call) → Asks call w → Asks call x → Asks call y → Asks call (first_refusal (w ∷ x ∷ y ∷ []))
+first_asks (Some ruling) x y call first second third = first
+first_asks None (Some ruling) y call first second third = second
+first_asks None None (Some ruling) call first second third = third
+first_asks None None None call first second third = tt
 
-pub posted : (fl : Flags) (answer : Option Response) (facts : Facts) (t : SessionTable) (call : Call) (asked : Kind) → verdict_of (judgement fl answer facts t call) ≡ Post asked → (facts.live ≡ true) × MayAsk call asked
-posted fl answer facts t call asked is =
-    one_asks answer facts.live (touching fl facts call) (lacking fl facts t) call asked is (touching_asks (not fl.cleared && facts.touches) call) (lacking_asks (not fl.spaced && is_taken kind.NoSpace t) facts.short call)
+one_asks : (answer : Option Response) (live : Bool) (v : Ruled) (call : Call) (kind : Kind) → heard answer live v ≡ Post kind → Asks call v → (live ≡ true) × MayAsk call kind
+one_asks (Some (Abort error)) live v call kind is asks = absurd cc
+one_asks None false v call kind is asks = absurd cc
+one_asks (Some Continue) false v call kind is asks = absurd cc
+one_asks None true (Some (Posts asked)) call kind is asks = (refl, subst (MayAsk call) (let same : asked ≡ kind = cc in same) asks)
+one_asks (Some Continue) true (Some (Posts asked)) call kind is asks = (refl, subst (MayAsk call) (let same : asked ≡ kind = cc in same) asks)
+one_asks None true (Some (Blocks t)) call kind is asks = absurd cc
+one_asks (Some Continue) true (Some (Blocks t)) call kind is asks = absurd cc
+one_asks None true (Some (Lacks need free)) call kind is asks = absurd cc
+one_asks (Some Continue) true (Some (Lacks need free)) call kind is asks = absurd cc
+one_asks None true None call kind is asks = absurd cc
+one_asks (Some Continue) true None call kind is asks = absurd cc
+
+-- ---- what was said, by the rules
+
+module _ (fl : Flags) (answer : Option Response) (facts : Facts) (rights : Rights) (t : SessionTable) (k : FileKey) (call : Call) where
+  abbrev said : Verdict
+  said = verdict_of (judgement fl answer facts rights t k call)
+
+  heard_so : (v : Verdict) → said ≡ v → heard answer facts.live (ruled fl facts rights t k call) ≡ v
+  heard_so v is = sym (heard_is fl answer facts rights t k call) ∙ is
+
+  pub complete : said ≡ Complete → (facts.live ≡ true) × (facts.short ≡ None)
+  complete is =
+      let none = no_ending answer facts.live (ruled fl facts rights t k call) (heard_so Complete is) in
+      let free = none_first (conflicting rights k call) (touching fl facts call ∷ lacking fl facts t ∷ []) none.1 in
+      let clear = none_first (touching fl facts call) (lacking fl facts t ∷ []) free.1 in
+      let room = none_first (lacking fl facts t) [] clear.1 in
+      (none.0, no_lack (not fl.spaced && is_taken kind.NoSpace t) facts.short room.0)
+
+  -- only an abort ends an access by a response
+  pub unaborted : (v : Verdict) → said ≡ v → ((response : Response) → v ≡ Answered response → ⊥) → is_abort answer ≡ false
+  unaborted v is other = by answer (heard_so v is)
+    where
+      by : (answer : Option Response) → heard answer facts.live (ruled fl facts rights t k call) ≡ v → is_abort answer ≡ false
+      by None is = refl
+      by (Some Continue) is = refl
+      by (Some (Abort error)) is = absurd (other (Abort error) (sym is))
+
+  pub answered : (response : Response) → said ≡ Answered response → is_lawful_answer answer ≡ true → IsAbort response
+  answered response is lawful = ends_by answer facts.live (ruled fl facts rights t k call) response (heard_so (Answered response) is) lawful
+
+  pub posted : (asked : Kind) → said ≡ Post asked → (facts.live ≡ true) × MayAsk call asked
+  posted asked is =
+      one_asks answer facts.live (ruled fl facts rights t k call) call asked (heard_so (Post asked) is)
+      (first_asks (conflicting rights k call) (touching fl facts call) (lacking fl facts t) call (conflicting_asks (conflict k (need_of call) no_token rights) call)
+      (touching_asks (not fl.cleared && facts.touches) call) (lacking_asks (not fl.spaced && is_taken kind.NoSpace t) facts.short call))

@@ -50,17 +50,19 @@ pub record Goes {D : Type 0} (g : disk.Ghosts D) (old new : Store D) : Type 0 wh
   pub proceeds : Proceeds g old.files (last_number old) new.files
   pub within : LeavesOnly g old.files.disk new.files.disk (IsPrefix old.opened old.history (synced old.history))
 
--- a call of the disk had failed before: nothing changes
+-- a call of the disk had failed before: nothing changes, whatever the room in the history
 pub record IsClosed {D : Type 0} (old : Store D) (action : Action) (given : Answer) (new : Store D) : Type 0 where
   pub failed : old.files.failed ≡ true
   pub answer : given ≡ fault_of action
-  pub same : new ≡ old
+  pub same : new ≡ record old { spare = new.spare }
 
--- there was no memory: nothing is kept of the event, and the state is as before
+-- there was no memory: nothing is kept of the event, and all but the room in the history is as before
 pub record LacksMemory {D : Type 0} (g : disk.Ghosts D) (old : Store D) (action : Action) (given : Answer) (new : Store D) : Type 0 where
   pub goes : Goes g old new
   pub answer : given ≡ memory_of action
   pub history : new.history ≡ old.history
+  pub stamps : new.stamps ≡ old.stamps
+  pub tables : new.tables ≡ old.tables
   pub state : state_of new ≡ state_of old
   pub still : new.files.failed ≡ false
 

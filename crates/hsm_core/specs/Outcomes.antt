@@ -18,7 +18,7 @@ use Rattle.plain_model.specs.State.{Held}
 use Rattle.plain_model.specs.Verdict.{done_reply, done_held, stamps_by, reply_to, state_after}
 use Rattle.access_park.specs.declared.access.Access.{Access}
 use Rattle.dm_service.specs.declared.verdict.Verdict.{Verdict}
-use Rattle.dm_service.specs.declared.verdict.Verdict.TheVariants.{Answered, Post, NoSpace, Complete}
+use Rattle.dm_service.specs.declared.verdict.Verdict.TheVariants.{Answered, Block, Post, NoSpace, Complete}
 use Rattle.dm_service.specs.Services.{AreBoth}
 use Rattle.dm_service.specs.Tables.{Tables}
 use Rattle.file_store.specs.declared.refusal.StoreRefusal.{StoreRefusal}
@@ -70,6 +70,7 @@ ended_reply h k call said = Refused why.Missing
 -- it ends, and doesn't wait
 abbrev pub ends : Verdict → Bool
 ends (Post kind) = false
+ends (Block t) = false
 ends said = true
 
 abbrev pub held_said : Held → FileKey → Call → Verdict → Held

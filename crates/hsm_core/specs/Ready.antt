@@ -1,5 +1,5 @@
 -- What a resume would come to now.
-use Rattle.std.specs.Prelude.{ℕ, Bool, if◌then◌else◌, Option, Some, None}
+use Rattle.std.specs.Prelude.{ℕ, Bool, not, ◌&&◌, if◌then◌else◌, Option, Some, None}
 use Rattle.hsm_types.specs.declared.calls.CallRefusal.TheVariants.{Disk}
 use Rattle.hsm_types.specs.declared.calls.Reply.{Reply}
 use Rattle.hsm_types.specs.declared.calls.Reply.TheVariants.{Blocked, Still, Refused}
@@ -10,6 +10,7 @@ use Rattle.plain_model.specs.Verdict.{reply_to}
 use Rattle.access_park.specs.declared.access.Access.{Access}
 use Rattle.dm_service.specs.Tables.{waiting}
 use Rattle.file_store.specs.Stores.{superblock_of}
+use Rattle.hsm_core.specs.Outcomes.{is_abort}
 use Rattle.hsm_core.specs.Store.{Store, state_of}
 use Rattle.hsm_core.specs.declared.store.Ready.{Ready}
 use Rattle.hsm_core.specs.declared.store.Ready.TheVariants.{Idle, Waits, Now}
@@ -28,10 +29,16 @@ ready_by (Some a) reply = Now
 abbrev pub ready : {D : Type 0} → Store D → ℕ → Ready
 ready s c = ready_by (waiting s.tables c) (resume_reply s c)
 
--- by what the access waits for: a token without a response, unless the disk has failed
-abbrev pub told_by : Option Token → Option Response → Ready
-told_by (Some t) None = Waits t
-told_by token answer = Now
+-- where a token blocks it
+abbrev pub blocked_by : Option Token → Ready
+blocked_by None = Now
+blocked_by (Some t) = Waits t
 
-abbrev pub told_ready : Bool → Option Token → Option Response → Ready
-told_ready failed token answer = if failed then Now else told_by token answer
+-- By what the access waits for: a token without a response; else, unless the response is an abort or the file is gone, the token whose right excludes it.
+abbrev pub told_by : Bool → Option Token → Option Token → Option Response → Ready
+told_by live other (Some t) None = Waits t
+told_by live other token answer = if not (is_abort answer) && live then blocked_by other else Now
+
+-- a store whose disk has failed tells that
+abbrev pub told_ready : Bool → Bool → Option Token → Option Token → Option Response → Ready
+told_ready failed live other token answer = if failed then Now else told_by live other token answer

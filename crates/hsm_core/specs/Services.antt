@@ -1,20 +1,21 @@
 -- How a session's call is served that its scope doesn't refuse: by its service, and by its change.
-use Rattle.std.specs.Prelude.{◌≡◌, ℕ, List, [], ◌∷◌, Option, Some, None, IsSome, Result, Ok, Err, IfOk, OnOk}
+use Rattle.std.specs.Prelude.{◌≡◌, ℕ, List, [], ◌∷◌, Option, Some, None, IsSome, Result, Ok, Err, IfOk, OnOk, OnErr}
 use Rattle.disk_model.specs.declared.device.Disk as disk
+use Rattle.hsm_types.specs.Rights.{Rights, right_of, too_low, bad_right}
 use Rattle.hsm_types.specs.declared.keys.FileKey.{FileKey}
 use Rattle.hsm_types.specs.declared.keys.Sid.{Sid}
 use Rattle.hsm_types.specs.declared.stores.Superblock.{Superblock}
 use Rattle.hsm_types.specs.declared.dm.Scope.{Scope}
-use Rattle.hsm_types.specs.declared.dm.Scope.TheVariants.{OnFile}
+use Rattle.hsm_types.specs.declared.dm.Scope.TheVariants.{OnFile, OnRight}
 use Rattle.hsm_types.specs.declared.dm.DmCall.{DmCall}
 use Rattle.hsm_types.specs.declared.dm.DmRefusal.{DmRefusal}
 use Rattle.hsm_types.specs.declared.dm.DmReply.{DmReply}
 use Rattle.hsm_types.specs.declared.dm.DmReply.TheVariants as reply
 use Rattle.plain_model.specs.Keyed.{find_key}
-use Rattle.plain_model.specs.Effects.{Change, OfFile, change_of}
+use Rattle.plain_model.specs.Effects.{Change, OfFile, OfRights, change_of}
 use Rattle.plain_model.specs.State.{FileState, Held, nothing_held, affected_held, just_opened}
-use Rattle.plain_model.specs.Services.{Service, service, bad_handle, no_right}
-use Rattle.dm_service.specs.Services.{AreBoth}
+use Rattle.plain_model.specs.Services.{Service, service, bad_handle}
+use Rattle.dm_service.specs.Services.{AreBoth, any_superblock}
 use Rattle.dm_service.specs.Tables.{Tables}
 use Rattle.file_store.specs.declared.refusal.StoreRefusal.{StoreRefusal}
 use Rattle.file_store.specs.declared.refusal.StoreRefusal.TheVariants.{Part}
@@ -25,12 +26,19 @@ use Rattle.hsm_core.specs.Store.{state_with}
 -- What a scope that doesn't refuse says of files: its file lives
 abbrev pub IsInScope : List FileState → Scope → Type 0
 IsInScope files (OnFile token handle right) = IsSome (find_key (λ f. f.key) handle.key files)
+IsInScope files (OnRight token handle right) = IsSome (find_key (λ f. f.key) handle.key files)
 IsInScope files scope = Unit {0}
 
+-- and of rights: its token has the one that is needed
+abbrev pub HasRight : Rights → Scope → Type 0
+HasRight rights (OnRight token handle right) = too_low right (right_of token handle.key rights) ≡ None
+HasRight rights scope = Unit {0}
+
 -- what refuses a call by its file, and by the right that it needs there
-abbrev pub file_refusals : Superblock → List FileState → Scope → List (Option DmRefusal)
-file_refusals s files (OnFile token handle right) = bad_handle s files handle ∷ no_right token right ∷ []
-file_refusals s files scope = []
+abbrev pub file_refusals : Superblock → List FileState → Rights → Scope → List (Option DmRefusal)
+file_refusals s files rights (OnFile token handle right) = bad_handle s files handle ∷ bad_right token handle.key right rights ∷ []
+file_refusals s files rights (OnRight token handle right) = bad_handle s files handle ∷ too_low right (right_of token handle.key rights) ∷ []
+file_refusals s files rights scope = []
 
 -- ---- how it is served
 
@@ -72,6 +80,21 @@ pub record IsServed {D : Type 0} (g : disk.Ghosts D) (old : FileStore D) (n : �
   pub replies : IfOk result (λ r. AreOf (service_on old call) r)
   pub held : OnOk result (new.held ≡ held_where (change_of anybody call) (service_on old call).refusal old.held)
   pub ends : Ends g old n result new
+
+-- the service of a call that asks of rights alone
+abbrev pub service_with : Rights → DmCall → Service
+service_with rights call = service any_superblock (record (just_opened 0 nothing_held) { rights = rights }) anybody call
+
+-- what tokens hold after a change that may have been refused
+abbrev pub rights_where : Change → Option DmRefusal → Rights → Rights
+rights_where (OfRights to) None rights = to rights
+rights_where change why rights = rights
+
+-- A call on rights that its scope doesn't refuse was served, by the rights alone. For want of memory, where nothing refuses, they are left.
+pub record IsGranted {E : Type 0} (t : Tables) (call : DmCall) (result : Result (DmReply × DmReply) E) (u : Tables) : Type 0 where
+  pub replies : IfOk result (λ r. AreOf (service_with t.rights call) r)
+  pub left : OnOk result (u ≡ record t { rights = rights_where (change_of anybody call) (service_with t.rights call).refusal t.rights })
+  pub err : OnErr result (u ≡ t)
 
 -- The replies to a change of what is kept with a file: that it is done, or why its part refuses it. Else it ends as the change has.
 abbrev pub replies_to : {T : Type 0} → Result T StoreRefusal → Result (DmReply × DmReply) StoreRefusal

@@ -1,12 +1,12 @@
 -- A store as its callers and sessions see it.
-use Rattle.std.specs.Prelude.{ℕ, ◌≡◌, ◌+◌, false, length, List}
+use Rattle.std.specs.Prelude.{ℕ, ◌≡◌, ◌+◌, ◌≤◌, false, length, List}
 use Rattle.hsm_types.specs.declared.keys.FileKey.{FileKey}
 use Rattle.plain_model.specs.declared.entries.Entry.{Entry}
 use Rattle.plain_model.specs.Faults.{has_fault}
 use Rattle.plain_model.specs.State.{Held, State, just_opened}
 use Rattle.plain_model.specs.Exact.{state_by}
 use Rattle.plain_model.specs.Laws.{IsRun}
-use Rattle.dm_service.specs.Tables.{Tables, state_in}
+use Rattle.dm_service.specs.Tables.{Tables, awaited_in, state_in}
 use Rattle.file_store.specs.Stores.{Store as FileStore, superblock_of}
 use Rattle.hsm_core.specs.Stamps.{stamp_in}
 
@@ -20,11 +20,17 @@ pub record Store (D : Type 0) : Type 0 where
   pub tables : Tables
   -- the events since
   pub history : List Entry
+  -- for how many entries there is room beside those that are set apart, one for each response and each resume that may come
+  pub spare : ℕ
 
 -- The number of its last entry. Entries are counted on from the number of the snapshot that was opened. A commit in the next event stores what is
 -- held under this number.
 abbrev pub last_number : {D : Type 0} → Store D → ℕ
 last_number s = s.opened.meta.number + length s.history
+
+-- The room in the history never shrinks: what was spare is spare still, or has gone to entries and to what is awaited.
+abbrev pub KeepsRoom : {D : Type 0} → Store D → Store D → Type 0
+KeepsRoom old new = length old.history + awaited_in old.tables + old.spare ≤ length new.history + awaited_in new.tables + new.spare
 
 -- the state by its parts
 abbrev pub state_with : Held → List (FileKey × ℕ) → Tables → ℕ → State

@@ -21,7 +21,7 @@ ghost use Rattle.hsm_core.specs.Crashes.{IsSynced};
 ghost use Rattle.hsm_core.specs.Outcomes.{ended_by, ends, is_aborted, is_fresh, IsAbort, IsFinished, IsReplied};
 
 use crate::judging::{Target, facts, find_again, meant, no_facts};
-use crate::parking::{wait, wait_again};
+use crate::parking::{block, block_again, wait, wait_again};
 use crate::performing::{perform, perform_alone};
 use crate::stamps::note_access;
 use disk_model::Disk;
@@ -91,13 +91,14 @@ fn begin<D: Disk>(
         return perform_alone(files, alloc, &access.call, number);
     };
     let facts = facts(files, file, &access.call);
-    let verdict = service.judge(access, &facts);
-    if let Verdict::Post(kind) = verdict {
-        return wait(
+    let verdict = service.judge(file.key, access, &facts);
+    match verdict {
+        Verdict::Post(kind) => wait(
             files, service, alloc, caller, file.key, access, &facts, kind,
-        );
+        ),
+        Verdict::Block(token) => block(service, caller, file.key, access, token),
+        _ => finish(files, stamps, alloc, target, access, verdict, number),
     }
-    finish(files, stamps, alloc, target, access, verdict, number)
 }
 
 /// Answers the caller who asks for the answer to its access that waits. One that was aborted takes no memory to end.
@@ -150,13 +151,16 @@ fn go_on<D: Disk>(
     let access = service.pending(caller).unwrap();
     let target = find_again(files, access.key);
     let facts = facts_again(files, target, &access.call);
-    let verdict = service.judge(access, &facts);
-    if let Verdict::Post(kind) = verdict {
-        return wait_again(files, service, alloc, caller, &facts, kind);
+    let verdict = service.judge(access.key, access, &facts);
+    match verdict {
+        Verdict::Post(kind) => wait_again(files, service, alloc, caller, &facts, kind),
+        Verdict::Block(token) => Ok(block_again(service, caller, token)),
+        _ => {
+            let replies = finish(files, stamps, alloc, target, access, verdict, number)?;
+            let _ended = service.end(caller);
+            Ok(replies)
+        }
     }
-    let replies = finish(files, stamps, alloc, target, access, verdict, number)?;
-    let _ended = service.end(caller);
-    Ok(replies)
 }
 
 /// What the store knows of a call on that file, or on one that is gone.
@@ -197,7 +201,7 @@ fn finish<D: Disk>(
             note_access(stamps, target, &access.call, number + 1);
             return Ok(replies);
         }
-        Verdict::Post(_) => unreachable!(),
+        Verdict::Post(_) | Verdict::Block(_) => unreachable!(),
         Verdict::NoSpace { need, free } => CallRefusal::NoSpace { need, free },
         Verdict::Missing => CallRefusal::Missing,
         Verdict::Answered(response) => ended_by(response),

@@ -1,9 +1,9 @@
 //! Accesses that begin to wait, or wait anew. Each reply comes twice, for the caller and for the history.
-ghost use Rattle.std.specs.Prelude.{◌≡◌, ◌≢◌, ◌+◌, false, None, IfOk, IfErr, IfSome, IsSome, OnOk, OnErr};
-ghost use Rattle.hsm_types.specs.declared.calls.Reply.TheVariants.{Parked};
+ghost use Rattle.std.specs.Prelude.{◌≡◌, ◌≢◌, ◌+◌, false, None, Some, IfOk, IfErr, IfSome, IsSome, OnOk, OnErr};
+ghost use Rattle.hsm_types.specs.declared.calls.Reply.TheVariants.{Parked, Blocked};
 ghost use Rattle.plain_model.specs.Accesses.{span, told_span};
 ghost use Rattle.plain_model.specs.Ledger.{next_token};
-ghost use Rattle.dm_service.specs.Parking.{parked_on};
+ghost use Rattle.dm_service.specs.Parking.{blocked, parked_on, with_access};
 ghost use Rattle.dm_service.specs.Services.{AreBoth};
 ghost use Rattle.dm_service.specs.Tables.{awaited_in, ledger_of, seen, waiting};
 ghost use Rattle.file_store.specs.Stores.{superblock_of};
@@ -12,7 +12,7 @@ ghost use Rattle.hsm_core.specs.Outcomes.{MayAsk};
 use disk_model::Disk;
 use dm_service::{Access, DmService, Facts, NoRoom};
 use file_store::{FileStore, StoreRefusal};
-use hsm_types::{Call, CallerId, FileKey, Handle, Kind, Range, Reply};
+use hsm_types::{Call, CallerId, FileKey, Handle, Kind, Range, Reply, Token};
 use std::alloc::{AllocError, Global};
 
 /// Posts an event of that kind for an access that was issued on the file with that key, and lets it wait.
@@ -63,6 +63,36 @@ pub(crate) fn wait_again<D: Disk>(
     let handle = dm_handles::make(files.superblock().fsid, access.key);
     let token = service.park_again(alloc, caller, kind, handle, told)?;
     Ok((Reply::Parked { token }, Reply::Parked { token }))
+}
+
+/// Lets an access that was issued on the file with that key wait for no token, since the right of that one excludes it.
+pub(crate) fn block(
+    service: &mut DmService,
+    caller: CallerId,
+    key: FileKey,
+    access: &Access,
+    token: Token,
+) -> Result<(Reply, Reply), StoreRefusal>
+    requires { waiting service.old caller ≡ None }
+    ensures reply { IfOk result (λ r. AreBoth (Blocked token) r) }
+    ensures after { OnOk result (seen service.new ≡ with_access caller (Some (blocked (record access.now { key = key }))) (seen service.old)) }
+    ensures err { OnErr result (service.new ≡ service.old) }
+    ensures memory { IfErr result (λ why. why ≡ StoreRefusal.Memory) }
+    ensures counted { OnOk result (awaited_in service.new ≡ awaited_in service.old + 1) }
+{
+    service.block(caller, to_file(access, key)?);
+    Ok((Reply::Blocked { token }, Reply::Blocked { token }))
+}
+
+/// Lets the caller's access wait on for no token, since the right of that one excludes it. It takes no memory.
+pub(crate) fn block_again(service: &mut DmService, caller: CallerId, token: Token) -> (Reply, Reply)
+    requires { IsSome (waiting service.old caller) }
+    ensures reply { AreBoth (Blocked token) result }
+    ensures after { IfSome (waiting service.old caller) (λ a. seen service.new ≡ with_access caller (Some (blocked a)) (seen service.old)) }
+    ensures counted { awaited_in service.new ≡ awaited_in service.old }
+{
+    service.block_again(caller);
+    (Reply::Blocked { token }, Reply::Blocked { token })
 }
 
 /// The access to the file with that key.

@@ -3,7 +3,7 @@ ghost use Rattle.std.specs.Prelude.{◌≡◌, ◌≤◌, ◌+◌, ℕ, false, t
 ghost use Rattle.hsm_types.specs.Calls.{scope_of};
 ghost use Rattle.plain_model.specs.Services.{dm_reply_to, dm_state_after};
 ghost use Rattle.plain_model.specs.Stands.{InOrder};
-ghost use Rattle.dm_service.specs.Services.{AreBoth, asks_tables, entries_for, is_due};
+ghost use Rattle.dm_service.specs.Services.{AreBoth, asks_rights, asks_tables, entries_for, is_due, wants_entry_alone};
 ghost use Rattle.dm_service.specs.Tables.{Tables, awaited_in, ledger_of};
 ghost use Rattle.file_store.specs.Stores.{superblock_of, Proceeds};
 ghost use Rattle.hsm_core.specs.Ends.{Ends};
@@ -14,11 +14,12 @@ mod attributes;
 mod handles;
 mod regions;
 mod replies;
+mod rights;
 mod scope;
 mod space;
 
 use disk_model::Disk;
-use dm_service::{DmService, asks_tables};
+use dm_service::{DmService, asks_rights, asks_tables};
 use file_store::{FileStore, StoreRefusal};
 use hsm_types::{DmCall, DmReply, FileKey, Sid};
 use indexmap::IndexMap;
@@ -43,16 +44,20 @@ pub(crate) fn serve<D: Disk>(
     ensures left { OnOk result (state_with files.new.held stamps.now.entries service.new (number + 1) ≡ dm_state_after (superblock_of files.old) (state_with files.old.held stamps.now.entries service.old number) sid call.now) }
     ensures err { OnErr result (service.new ≡ service.old) }
     ensures responds { is_due service.old.sessions sid call.now ≡ true → IsOk result }
+    ensures alone { wants_entry_alone call.now ≡ true → IsOk result }
     ensures room { OnOk result (awaited_in service.new + 1 ≤ awaited_in service.old + entries_for service.old.sessions sid call.now) }
     ensures ends { Ends D.Disk files.old number result files.new }
 {
     if asks_tables(call) {
         return Ok(service.dm(alloc, sid, call)?);
     }
-    match judge_scope(files, service, sid, call.scope()) {
-        Ok(()) => perform(files, stamps, alloc, sid, call, number),
-        Err(why) => Ok(refused(why)),
+    if let Err(why) = judge_scope(files, service, sid, call.scope()) {
+        return Ok(refused(why));
     }
+    if asks_rights(call) {
+        return Ok(rights::serve(service, call)?);
+    }
+    perform(files, stamps, alloc, sid, call, number)
 }
 
 /// Serves a call on files that its scope doesn't refuse.
@@ -67,6 +72,7 @@ fn perform<D: Disk>(
     requires working { files.old.failed ≡ false }
     requires idle { Proceeds D.Disk files.old number files.old }
     requires files { asks_tables call.now ≡ false }
+    requires bodies { asks_rights call.now ≡ false }
     requires within { IsInScope files.old.held.files (scope_of call.now) }
     ensures { (t : Tables) → IsPerformed D.Disk files.old number stamps.now.entries t sid call.now result files.new }
 {

@@ -1,5 +1,5 @@
 //! The store with its history.
-ghost use Rattle.std.specs.Prelude.{◌≡◌, ◌⊎◌, ◌<◌, ◌≤◌, ◌+◌, ◌^◌, ◌++◌, [], ◌∷◌, true, false, if◌then◌else◌, List, ℕ, vec_len, vec_capacity, IfOk, IfErr, OnOk, OnErr, IsOk, IsErrOf};
+ghost use Rattle.std.specs.Prelude.{◌≡◌, ◌⊎◌, ◌<◌, ◌≤◌, ◌+◌, ◌^◌, ◌++◌, [], ◌∷◌, true, false, if◌then◌else◌, List, ℕ, is_some, vec_len, vec_capacity, IfOk, IfErr, OnOk, OnErr, IsOk, IsErrOf};
 ghost use Rattle.disk_model.specs.Calls.{Rose, HasCause};
 ghost use Rattle.disk_model.specs.Images.{Alike};
 ghost use Rattle.disk_model.specs.Moments.{MayBe, LeavesOnly, Keeps, Same};
@@ -9,15 +9,21 @@ ghost use Rattle.meta_store.specs.Catalogs.{geometry_of};
 ghost use Rattle.meta_store.specs.Images.{IsCorruptAt};
 ghost use Rattle.file_store.specs.Stores.{IsLawful, IsDurable, Proceeds};
 ghost use Rattle.indexmap.specs.IndexMap.{spare};
-ghost use Rattle.dm_service.specs.Services.{is_due};
+ghost use Rattle.hsm_types.specs.Messages.{no_token};
+ghost use Rattle.hsm_types.specs.Rights.{conflict};
+ghost use Rattle.plain_model.specs.Accesses.{need_of};
+ghost use Rattle.plain_model.specs.Keyed.{find_key};
+ghost use Rattle.dm_service.specs.Services.{entries_for, is_due, wants_entry_alone};
 ghost use Rattle.dm_service.specs.Tables.{AreNew, waiting};
-ghost use Rattle.hsm_core.specs.Answers.{entry_of, IsAnswered, IsResumed, IsTold, IsCommitted};
+ghost use Rattle.hsm_core.specs.Answers.{entry_of, own_answer, IsAnswered, IsResumed, IsTold, IsCommitted};
 ghost use Rattle.hsm_core.specs.Crashes.{IsPrefix, IsSafeNow};
 ghost use Rattle.hsm_core.specs.Kept.{IsKept};
 ghost use Rattle.hsm_core.specs.Outcomes.{is_aborted, is_fresh, IsAbortedBy};
-ghost use Rattle.hsm_core.specs.Ready.{ready, told_ready};
+ghost use Rattle.hsm_core.specs.Store.{KeepsRoom};
+ghost use Rattle.hsm_core.specs.Ready.{blocked_by, ready, told_ready};
 
 use crate::answering::{answer, answer_again};
+use crate::lookups::is_live;
 use crate::performing::commit;
 use crate::services::serve;
 use crate::stamps::make_room;
@@ -30,7 +36,7 @@ use hsm_types::{
 };
 use indexmap::IndexMap;
 use plain_model::{Action, Actor, Answer, Entry, History, run_is_good};
-use std::alloc::Global;
+use std::alloc::{AllocError, Global};
 use std::marker::Model;
 use std::snapshot::Snapshot;
 
@@ -39,7 +45,7 @@ use std::snapshot::Snapshot;
 pub enum Ready {
     /// No access of the caller waits.
     Idle,
-    /// Its access would wait on, for this token.
+    /// Its access would wait on: for the response to this token, or since the right of this token excludes it.
     Waits(Token),
     /// Its access would end, or park anew, or be told that the disk has failed.
     Now,
@@ -59,7 +65,7 @@ pub struct Hsm<D: Disk> {
 }
 
 impl<D: Disk> Model for Hsm<D> {
-    ghost use Rattle.std.specs.Prelude.{◌≡◌, ◌≤◌, ◌+◌, ◌^◌, vec_len, vec_capacity};
+    ghost use Rattle.std.specs.Prelude.{◌≡◌, ◌≤◌, ◌+◌, ◌-◌, ◌^◌, vec_len, vec_capacity};
     ghost use Rattle.dm_service.specs.Tables.{awaited_in, ledger_of, waiting};
     ghost use Rattle.hsm_core.specs.Store.{Store, HasRun};
     ghost use Rattle.hsm_core.specs.Crashes.{IsSafe};
@@ -67,10 +73,10 @@ impl<D: Disk> Model for Hsm<D> {
 
     ghost Value = { Store D };
 
-    ghost view = { λ h. record { opened = h.opened.value; files = h.files; stamps = h.stamps.entries; tables = h.service; history = h.history.items } };
+    ghost view = { λ h. record { opened = h.opened.value; files = h.files; stamps = h.stamps.entries; tables = h.service; history = h.history.items; spare = vec_capacity h.history - (vec_len h.history + awaited_in h.service) } };
 
-    ghost invariant = { λ h. HasRun (record { opened = h.opened.value; files = h.files; stamps = h.stamps.entries; tables = h.service; history = h.history.items })
-        × IsSafe D.Disk (record { opened = h.opened.value; files = h.files; stamps = h.stamps.entries; tables = h.service; history = h.history.items })
+    ghost invariant = { λ h. HasRun (record { opened = h.opened.value; files = h.files; stamps = h.stamps.entries; tables = h.service; history = h.history.items; spare = vec_capacity h.history - (vec_len h.history + awaited_in h.service) })
+        × IsSafe D.Disk (record { opened = h.opened.value; files = h.files; stamps = h.stamps.entries; tables = h.service; history = h.history.items; spare = vec_capacity h.history - (vec_len h.history + awaited_in h.service) })
         × (h.base ≡ h.opened.value.meta.number) × (h.base ≤ 2 ^ 62)
         × (vec_len h.history + awaited_in h.service ≤ vec_capacity h.history) × EachLasts (ledger_of h.service) };
 }
@@ -85,7 +91,7 @@ fn make_ready<D: Disk>(
     ensures same { history.new.items ≡ history.old.items }
     ensures room { OnOk result ((vec_len history.new + awaited + more ≤ vec_capacity history.new) × (awaited + more < 2 ^ 64)) }
     ensures keeps { vec_capacity history.old ≤ vec_capacity history.new }
-    ensures there { files.now.failed ≡ false → more ≡ 0 → vec_len history.old + awaited ≤ vec_capacity history.old → IsOk result }
+    ensures there { files.now.failed ≡ false → vec_len history.old + awaited + more ≤ vec_capacity history.old → IsOk result }
     ensures working { OnOk result (files.now.failed ≡ false) }
     ensures idle { files.now.failed ≡ false → (n : ℕ) → Proceeds D.Disk files.now n files.now }
     ensures refused { IfErr result (λ why. (why ≡ StoreRefusal.Disk) × (files.now.failed ≡ true) ⊎ (why ≡ StoreRefusal.Memory) × (files.now.failed ≡ false)) }
@@ -154,13 +160,28 @@ fn is_aborted(service: &DmService, caller: CallerId) -> bool
     }
 }
 
-/// What a resume comes to of an access that waits for this token and has this response: of a store whose disk has failed, that it has.
-fn ready_for(failed: bool, token: Option<Token>, answer: Option<Response>) -> Ready
-    ensures { result ≡ told_ready failed token answer }
+/// What a resume of this access comes to: of a store whose disk has failed, that it has.
+fn ready_for<D: Disk>(files: &FileStore<D>, service: &DmService, access: &Access) -> Ready
+    ensures { result ≡ told_ready files.now.failed (is_some (find_key (λ f. f.key) access.now.key files.now.held.files)) (conflict access.now.key (need_of access.now.call) no_token service.now.rights) access.now.token access.now.answer }
 {
-    match (token, answer) {
-        (Some(token), None) if !failed => Ready::Waits(token),
-        _ => Ready::Now,
+    if files.has_failed() {
+        return Ready::Now;
+    }
+    match (access.token, access.answer) {
+        (Some(token), None) => Ready::Waits(token),
+        (_, Some(Response::Abort(_))) => Ready::Now,
+        _ if !is_live(files, access.key) => Ready::Now,
+        _ => blocked_by(service.conflict(access.key, &access.call)),
+    }
+}
+
+/// It would be blocked again by that token, if by one.
+fn blocked_by(token: Option<Token>) -> Ready
+    ensures { result ≡ blocked_by token }
+{
+    match token {
+        Some(token) => Ready::Waits(token),
+        None => Ready::Now,
     }
 }
 
@@ -322,6 +343,8 @@ impl<D: Disk> Hsm<D> {
     pub fn issue(&mut self, alloc: Global, caller: CallerId, call: Call) -> Reply
         ensures answered { IsAnswered D.Disk self.old caller call result self.new }
         ensures safe { IsSafeNow D.Disk self.new }
+        ensures room { self.old.spare ≤ self.new.spare + 3 }
+        ensures keeps { KeepsRoom self.old self.new }
     {
         let awaited = self.service.awaited();
         if let Err(why) = make_ready_for_access(
@@ -357,6 +380,8 @@ impl<D: Disk> Hsm<D> {
         ensures resumed { IsResumed D.Disk self.old caller result self.new }
         ensures aborts { self.old.files.failed ≡ false → IsAbortedBy (waiting self.old.tables caller) (λ error. result ≡ Reply.Refused (CallRefusal.Aborted error)) }
         ensures safe { IsSafeNow D.Disk self.new }
+        ensures room { self.old.spare ≤ self.new.spare + (if is_aborted (waiting self.old.tables caller) then 0 else 2) }
+        ensures keeps { KeepsRoom self.old self.new }
     {
         let awaited = self.service.awaited();
         let aborted = is_aborted(&self.service, caller);
@@ -387,17 +412,21 @@ impl<D: Disk> Hsm<D> {
         ensures { result ≡ ready self.now caller }
     {
         match self.service.pending(caller) {
-            Some(access) => ready_for(self.files.has_failed(), access.token, access.answer),
+            Some(access) => ready_for(&self.files, &self.service, access),
             None => Ready::Idle,
         }
     }
 
     /// Answers a session's call, and keeps it in the history. It is refused for want of memory, and by a closed store, as calls are; but there is
-    /// always memory for a lawful response to a token that is outstanding to the session.
+    /// always memory for a lawful response to a token that is outstanding to the session, and as long as there is an entry to spare also to release or
+    /// downgrade a right, and to say what a token has.
     pub fn dm(&mut self, alloc: Global, sid: Sid, call: DmCall) -> DmReply
         ensures told { IsTold D.Disk self.old sid call result self.new }
         ensures responds { is_due self.old.tables.sessions sid call ≡ true → self.old.files.failed ≡ false → result ≡ DmReply.Done }
+        ensures spared { wants_entry_alone call ≡ true → 1 ≤ self.old.spare → self.old.files.failed ≡ false → Answer.Dm result ≡ own_answer self.old (Actor.Session sid) (Action.Dm call) }
         ensures safe { IsSafeNow D.Disk self.new }
+        ensures room { self.old.spare ≤ self.new.spare + entries_for self.old.tables.sessions sid call }
+        ensures keeps { KeepsRoom self.old self.new }
     {
         let awaited = self.service.awaited();
         let more = self.service.entries_for(sid, &call);
@@ -421,6 +450,8 @@ impl<D: Disk> Hsm<D> {
     pub fn commit(&mut self, alloc: Global) -> Reply
         ensures committed { IsCommitted D.Disk self.old result self.new }
         ensures safe { IsSafeNow D.Disk self.new }
+        ensures room { self.old.spare ≤ self.new.spare + 1 }
+        ensures keeps { KeepsRoom self.old self.new }
     {
         let awaited = self.service.awaited();
         if let Err(why) = make_ready(&self.files, &mut self.history, awaited, 1) {
@@ -429,6 +460,17 @@ impl<D: Disk> Hsm<D> {
         let number = self.base + self.history.len() as u64;
         let done = commit(&mut self.files, alloc, number);
         keep(&mut self.history, Actor::Store, Action::Commit, done)
+    }
+
+    /// Makes room in the history for so many entries beside those that are set apart for the responses and the resumes that may come. It is no event,
+    /// and says nothing of a fault of the disk.
+    pub fn reserve(&mut self, n: u64) -> Result<(), AllocError>
+        ensures made { OnOk result (n ≤ self.new.spare) }
+        ensures kept { self.old.spare ≤ self.new.spare }
+        ensures same { self.new ≡ record self.old { spare = self.new.spare } }
+    {
+        let entries = self.service.awaited().checked_add(n as usize);
+        self.history.reserve(entries.ok_or(AllocError)?)
     }
 
     /// The number from which the entries are counted on, which is that of the snapshot that was opened.

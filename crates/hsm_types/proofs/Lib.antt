@@ -3,3 +3,4 @@ pub mod AscendingIds
 mod Finding
 pub mod Forming
 pub mod Queues
+pub mod Righted

@@ -11,6 +11,7 @@ pub data ReplyKind : Type 0 where
   OfPacked : ReplyKind
   OfTokens : ReplyKind
   OfToken : ReplyKind
+  OfRight : ReplyKind
   OfAttr : ReplyKind
   OfData : ReplyKind
   OfRegions : ReplyKind
@@ -28,6 +29,7 @@ reply_kind (told.Kinds kinds) = OfKinds
 reply_kind (told.Packed bytes tokens) = OfPacked
 reply_kind (told.Tokens tokens) = OfTokens
 reply_kind (told.Token token) = OfToken
+reply_kind (told.Right right) = OfRight
 reply_kind (told.Attr size stamp blocks) = OfAttr
 reply_kind (told.Data bytes) = OfData
 reply_kind (told.Regions regions) = OfRegions

@@ -1,9 +1,9 @@
 -- Who may make a session's call, and what it names.
 use Rattle.hsm_types.specs.declared.dm.DmCall.{DmCall}
-use Rattle.hsm_types.specs.declared.dm.DmCall.TheVariants.{CreateSession, DestroySession, GetAllSessions, QuerySession, SetDisp, GetDisp, GetEvents, GetAllTokens, FindEventMsg, Respond, CreateUserEvent, SendMsg, GetFileAttr, SetRegion, GetRegion, SetDmAttr, GetDmAttr, RemoveDmAttr, GetAllDmAttr, PathToHandle, GetSpace}
-use Rattle.hsm_types.specs.declared.dm.Right.TheVariants.{Shared, Excl}
+use Rattle.hsm_types.specs.declared.dm.DmCall.TheVariants.{CreateSession, DestroySession, GetAllSessions, QuerySession, SetDisp, GetDisp, GetEvents, GetAllTokens, FindEventMsg, Respond, CreateUserEvent, SendMsg, RequestRight, ReleaseRight, QueryRight, UpgradeRight, DowngradeRight, GetFileAttr, SetRegion, GetRegion, SetDmAttr, GetDmAttr, RemoveDmAttr, GetAllDmAttr, PathToHandle, GetSpace}
+use Rattle.hsm_types.specs.declared.dm.Right.TheVariants.{Null, Shared, Excl}
 use Rattle.hsm_types.specs.declared.dm.Scope.{Scope}
-use Rattle.hsm_types.specs.declared.dm.Scope.TheVariants.{Anyone, InSession, OnToken, OnFile}
+use Rattle.hsm_types.specs.declared.dm.Scope.TheVariants.{Anyone, InSession, OnToken, OnFile, OnRight}
 
 abbrev pub scope_of : DmCall → Scope
 scope_of (CreateSession old info) = Anyone
@@ -18,6 +18,11 @@ scope_of (FindEventMsg token room) = OnToken token
 scope_of (Respond token response) = OnToken token
 scope_of (CreateUserEvent body) = InSession
 scope_of (SendMsg target body) = InSession
+scope_of (RequestRight token handle right) = OnRight token handle Null
+scope_of (ReleaseRight token handle) = OnRight token handle Null
+scope_of (QueryRight token handle) = OnRight token handle Null
+scope_of (UpgradeRight token handle) = OnRight token handle Shared
+scope_of (DowngradeRight token handle) = OnRight token handle Excl
 scope_of (GetFileAttr token handle) = OnFile token handle Shared
 scope_of (SetRegion token handle regions) = OnFile token handle Excl
 scope_of (GetRegion token handle) = OnFile token handle Shared

@@ -3,7 +3,7 @@ use Rattle.std.specs.Prelude.{ℕ, List, [], ◌∷◌, codes, drop}
 use Rattle.hsm_types.specs.declared.calls.Call.{Call}
 use Rattle.hsm_types.specs.declared.calls.Call.TheVariants.{Create, Read, Write, Truncate, Remove, Stat, Sync}
 use Rattle.hsm_types.specs.declared.dm.DmCall.{DmCall}
-use Rattle.hsm_types.specs.declared.dm.DmCall.TheVariants.{CreateSession, DestroySession, GetAllSessions, QuerySession, SetDisp, GetDisp, GetEvents, GetAllTokens, FindEventMsg, Respond, CreateUserEvent, SendMsg, GetFileAttr, SetRegion, GetRegion, SetDmAttr, GetDmAttr, RemoveDmAttr, GetAllDmAttr, PathToHandle, GetSpace}
+use Rattle.hsm_types.specs.declared.dm.DmCall.TheVariants.{CreateSession, DestroySession, GetAllSessions, QuerySession, SetDisp, GetDisp, GetEvents, GetAllTokens, FindEventMsg, Respond, CreateUserEvent, SendMsg, RequestRight, ReleaseRight, QueryRight, UpgradeRight, DowngradeRight, GetFileAttr, SetRegion, GetRegion, SetDmAttr, GetDmAttr, RemoveDmAttr, GetAllDmAttr, PathToHandle, GetSpace}
 use Rattle.hsm_types.specs.declared.forms.CallVerb.{CallVerb}
 use Rattle.hsm_types.specs.declared.forms.CallVerb.TheVariants as verbs
 use Rattle.hsm_types.specs.declared.forms.DmVerb.{DmVerb}
@@ -12,8 +12,8 @@ use Rattle.hsm_types.specs.declared.parts.Part.{Part}
 use Rattle.hsm_types.specs.declared.parts.Part.TheVariants as part
 use Rattle.hsm_types.specs.declared.parts.PartKind.{PartKind}
 use Rattle.hsm_types.specs.declared.parts.PartKind.TheVariants as kinds
-use Rattle.hsm_types.specs.Answers.{ReplyKind, OfDone, OfSession, OfSids, OfInfo, OfKinds, OfPacked, OfTokens, OfToken, OfAttr, OfData, OfRegions, OfNames, OfHandle, OfSpace}
-use Rattle.hsm_types.specs.Parts.{number_in, count_in, fetch_in, word_in, handle_in, regions_in, name_in, kinds_in, response_in, data_in}
+use Rattle.hsm_types.specs.Answers.{ReplyKind, OfDone, OfSession, OfSids, OfInfo, OfKinds, OfPacked, OfTokens, OfToken, OfRight, OfAttr, OfData, OfRegions, OfNames, OfHandle, OfSpace}
+use Rattle.hsm_types.specs.Parts.{number_in, count_in, fetch_in, word_in, handle_in, regions_in, name_in, kinds_in, response_in, right_in, data_in}
 
 -- ---- callers
 
@@ -68,6 +68,11 @@ dm_verb_row dm_verbs.FindEventMsg = (codes "findmsg", kinds.Number ∷ kinds.Cou
 dm_verb_row dm_verbs.Respond = (codes "respond", kinds.Number ∷ kinds.Response ∷ [], OfDone)
 dm_verb_row dm_verbs.CreateUserEvent = (codes "userevent", kinds.Data ∷ [], OfToken)
 dm_verb_row dm_verbs.SendMsg = (codes "send", kinds.Number ∷ kinds.Data ∷ [], OfDone)
+dm_verb_row dm_verbs.RequestRight = (codes "request", kinds.Number ∷ kinds.Handle ∷ kinds.Right ∷ [], OfDone)
+dm_verb_row dm_verbs.ReleaseRight = (codes "release", kinds.Number ∷ kinds.Handle ∷ [], OfDone)
+dm_verb_row dm_verbs.QueryRight = (codes "right", kinds.Number ∷ kinds.Handle ∷ [], OfRight)
+dm_verb_row dm_verbs.UpgradeRight = (codes "upgrade", kinds.Number ∷ kinds.Handle ∷ [], OfDone)
+dm_verb_row dm_verbs.DowngradeRight = (codes "downgrade", kinds.Number ∷ kinds.Handle ∷ [], OfDone)
 dm_verb_row dm_verbs.GetFileAttr = (codes "fileattr", kinds.Number ∷ kinds.Handle ∷ [], OfAttr)
 dm_verb_row dm_verbs.SetRegion = (codes "setregion", kinds.Number ∷ kinds.Handle ∷ kinds.Regions ∷ [], OfDone)
 dm_verb_row dm_verbs.GetRegion = (codes "getregion", kinds.Number ∷ kinds.Handle ∷ [], OfRegions)
@@ -97,6 +102,11 @@ dm_form (FindEventMsg token room) = (dm_verbs.FindEventMsg, part.Number token.0 
 dm_form (Respond token response) = (dm_verbs.Respond, part.Number token.0 ∷ part.Response response ∷ [])
 dm_form (CreateUserEvent body) = (dm_verbs.CreateUserEvent, part.Data body ∷ [])
 dm_form (SendMsg target body) = (dm_verbs.SendMsg, part.Number target.0 ∷ part.Data body ∷ [])
+dm_form (RequestRight token handle right) = (dm_verbs.RequestRight, part.Number token.0 ∷ part.Handle handle ∷ part.Right right ∷ [])
+dm_form (ReleaseRight token handle) = (dm_verbs.ReleaseRight, part.Number token.0 ∷ part.Handle handle ∷ [])
+dm_form (QueryRight token handle) = (dm_verbs.QueryRight, part.Number token.0 ∷ part.Handle handle ∷ [])
+dm_form (UpgradeRight token handle) = (dm_verbs.UpgradeRight, part.Number token.0 ∷ part.Handle handle ∷ [])
+dm_form (DowngradeRight token handle) = (dm_verbs.DowngradeRight, part.Number token.0 ∷ part.Handle handle ∷ [])
 dm_form (GetFileAttr token handle) = (dm_verbs.GetFileAttr, part.Number token.0 ∷ part.Handle handle ∷ [])
 dm_form (SetRegion token handle regions) = (dm_verbs.SetRegion, part.Number token.0 ∷ part.Handle handle ∷ part.Regions regions ∷ [])
 dm_form (GetRegion token handle) = (dm_verbs.GetRegion, part.Number token.0 ∷ part.Handle handle ∷ [])
@@ -120,6 +130,11 @@ dm_call_of dm_verbs.FindEventMsg ps = FindEventMsg (record { 0 = number_in ps })
 dm_call_of dm_verbs.Respond ps = Respond (record { 0 = number_in ps }) (response_in (drop 1 ps))
 dm_call_of dm_verbs.CreateUserEvent ps = CreateUserEvent (data_in ps)
 dm_call_of dm_verbs.SendMsg ps = SendMsg (record { 0 = number_in ps }) (data_in (drop 1 ps))
+dm_call_of dm_verbs.RequestRight ps = RequestRight (record { 0 = number_in ps }) (handle_in (drop 1 ps)) (right_in (drop 1 (drop 1 ps)))
+dm_call_of dm_verbs.ReleaseRight ps = ReleaseRight (record { 0 = number_in ps }) (handle_in (drop 1 ps))
+dm_call_of dm_verbs.QueryRight ps = QueryRight (record { 0 = number_in ps }) (handle_in (drop 1 ps))
+dm_call_of dm_verbs.UpgradeRight ps = UpgradeRight (record { 0 = number_in ps }) (handle_in (drop 1 ps))
+dm_call_of dm_verbs.DowngradeRight ps = DowngradeRight (record { 0 = number_in ps }) (handle_in (drop 1 ps))
 dm_call_of dm_verbs.GetFileAttr ps = GetFileAttr (record { 0 = number_in ps }) (handle_in (drop 1 ps))
 dm_call_of dm_verbs.SetRegion ps = SetRegion (record { 0 = number_in ps }) (handle_in (drop 1 ps)) (regions_in (drop 1 (drop 1 ps)))
 dm_call_of dm_verbs.GetRegion ps = GetRegion (record { 0 = number_in ps }) (handle_in (drop 1 ps))

@@ -1,7 +1,11 @@
--- Handles of files, as the bytes that sessions and media have.
-use Rattle.std.specs.Prelude.{ℕ, ◌<◌, ◌^◌, List, ◌++◌}
+-- Keys of files, and their handles as the bytes that sessions and media have.
+use Rattle.std.specs.Prelude.{ℕ, ◌<◌, ◌^◌, List, ◌++◌, Bool, ◌==◌, ◌&&◌}
 use Rattle.byteorder.specs.Endian.{big_bytes}
+use Rattle.hsm_types.specs.declared.keys.FileKey.{FileKey}
 use Rattle.hsm_types.specs.declared.keys.Handle.{Handle}
+
+abbrev pub same_key : FileKey → FileKey → Bool
+same_key j k = (j.ino == k.ino) && (j.igen == k.igen)
 
 -- the file system id, the inode and the generation, in eight bytes each, the highest first
 unfoldable pub handle_bytes : Handle → List ℕ

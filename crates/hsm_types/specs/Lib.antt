@@ -10,4 +10,5 @@ pub mod Names
 pub mod Parts
 pub mod Refusals
 pub mod Regions
+pub mod Rights
 pub mod Sessions

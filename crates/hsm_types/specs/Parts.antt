@@ -5,6 +5,8 @@ use Rattle.hsm_types.specs.Messages.{no_kinds}
 use Rattle.hsm_types.specs.declared.dm.Kinds.{Kinds}
 use Rattle.hsm_types.specs.declared.dm.Response.{Response}
 use Rattle.hsm_types.specs.declared.dm.Response.TheVariants.{Continue}
+use Rattle.hsm_types.specs.declared.dm.Right.{Right}
+use Rattle.hsm_types.specs.declared.dm.Right.TheVariants.{Null}
 use Rattle.hsm_types.specs.declared.keys.Handle.{Handle}
 use Rattle.hsm_types.specs.declared.regions.Region.{Region}
 use Rattle.hsm_types.specs.declared.parts.PartKind.{PartKind}
@@ -24,6 +26,7 @@ kind_of (part.Regions regions) = kinds.Regions
 kind_of (part.Name name) = kinds.Name
 kind_of (part.Kinds taken) = kinds.Kinds
 kind_of (part.Response response) = kinds.Response
+kind_of (part.Right right) = kinds.Right
 kind_of (part.Data bytes) = kinds.Data
 
 -- a part that is lent
@@ -37,6 +40,7 @@ part_of (lent.Regions regions) = part.Regions regions.now
 part_of (lent.Name name) = part.Name name
 part_of (lent.Kinds taken) = part.Kinds taken
 part_of (lent.Response response) = part.Response response
+part_of (lent.Right right) = part.Right right
 part_of (lent.Data bytes) = part.Data bytes.now
 
 -- the parts that are lent in as many places or more
@@ -92,6 +96,10 @@ kinds_in parts = no_kinds
 abbrev pub response_in : List Part → Response
 response_in (part.Response response ∷ parts) = response
 response_in parts = Continue
+
+abbrev pub right_in : List Part → Right
+right_in (part.Right right ∷ parts) = right
+right_in parts = Null
 
 abbrev pub data_in : List Part → List ℕ
 data_in (part.Data bytes ∷ parts) = bytes

@@ -50,7 +50,9 @@ pub enum Reply {
     Refused(CallRefusal),
 }
 
-/// Why a call was refused. Nothing has changed then but the history, and not even that after `Memory`, or after `Disk` from a closed store.
+/// Why a call was refused, or how an access that waited has ended. No file has changed then, and of the rest nothing but the history, and whether the
+/// access waits: each refusal of a resume but `Idle`, `Memory` and `Disk` ends it. Not even the history has changed after `Memory`, or after `Disk`
+/// from a closed store. A fault of the disk in the event closes the store.
 #[derive(Clone, Copy, Debug, PartialEq, Eq, Error)]
 pub enum CallRefusal {
     #[error("no file has the name")]

@@ -2,6 +2,7 @@
 ghost use Rattle.std.specs.Prelude.{◌≡◌};
 ghost use Rattle.hsm_types.specs.Calls.{scope_of};
 ghost use Rattle.hsm_types.specs.Messages.{no_kinds, takes, without_kinds, is_lawful};
+ghost use Rattle.hsm_types.specs.Rights.{reaches, excludes};
 
 use crate::attributes::AttrName;
 use crate::keys::{Handle, Sid, Token};
@@ -50,6 +51,32 @@ pub enum DmCall {
     SendMsg {
         target: Sid,
         body: Bytes,
+    },
+    /// Gives a token a right on a file, unless the right of another token excludes it. What it has already stays, if that is as high.
+    RequestRight {
+        token: Token,
+        handle: Handle,
+        right: Right,
+    },
+    /// The token has no right on the file then.
+    ReleaseRight {
+        token: Token,
+        handle: Handle,
+    },
+    /// What the token has on the file.
+    QueryRight {
+        token: Token,
+        handle: Handle,
+    },
+    /// Makes the token's right on the file exclusive.
+    UpgradeRight {
+        token: Token,
+        handle: Handle,
+    },
+    /// Makes an exclusive right one that others may have too.
+    DowngradeRight {
+        token: Token,
+        handle: Handle,
     },
     GetFileAttr {
         token: Token,
@@ -175,9 +202,36 @@ impl Response {
 /// What a token holds on a file, the higher later.
 #[derive(Clone, Copy, Debug, PartialEq, Eq)]
 pub enum Right {
+    /// Nothing.
     Null,
+    /// Others may have it too.
     Shared,
+    /// No other token holds the file.
     Excl,
+}
+
+impl Right {
+    /// Whether it is at least as high as the one that is needed.
+    pub fn reaches(self, need: Right) -> bool
+        ensures { result ≡ reaches self need }
+    {
+        match (self, need) {
+            (_, Right::Null) | (Right::Excl, _) => true,
+            (Right::Shared, Right::Shared) => true,
+            _ => false,
+        }
+    }
+
+    /// Whether no two tokens may have these on one file.
+    pub fn excludes(self, other: Right) -> bool
+        ensures { result ≡ excludes self other }
+    {
+        match (self, other) {
+            (Right::Null, _) | (_, Right::Null) => false,
+            (Right::Shared, Right::Shared) => false,
+            _ => true,
+        }
+    }
 }
 
 /// Who may make a call, and what it must name.
@@ -191,8 +245,15 @@ pub enum Scope {
     OnToken {
         token: Token,
     },
-    /// A live session and a file, with a token that is outstanding to the session and has that right on the file, or with token 0.
+    /// A live session and a file, with a token that is outstanding to the session and has that right on the file; or with token 0, where no token's
+    /// right excludes that one.
     OnFile {
+        token: Token,
+        handle: Handle,
+        right: Right,
+    },
+    /// A live session, a token that is outstanding to it, and a file on which the token has that right.
+    OnRight {
         token: Token,
         handle: Handle,
         right: Right,
@@ -218,6 +279,23 @@ impl DmCall {
                 token: *token,
                 handle: *handle,
                 right: Right::Shared,
+            },
+            DmCall::RequestRight { token, handle, .. }
+            | DmCall::ReleaseRight { token, handle }
+            | DmCall::QueryRight { token, handle } => Scope::OnRight {
+                token: *token,
+                handle: *handle,
+                right: Right::Null,
+            },
+            DmCall::UpgradeRight { token, handle } => Scope::OnRight {
+                token: *token,
+                handle: *handle,
+                right: Right::Shared,
+            },
+            DmCall::DowngradeRight { token, handle } => Scope::OnRight {
+                token: *token,
+                handle: *handle,
+                right: Right::Excl,
             },
             DmCall::SetRegion { token, handle, .. }
             | DmCall::SetDmAttr { token, handle, .. }
@@ -254,6 +332,8 @@ pub enum DmReply {
     /// The tokens that are outstanding to the session, in their order.
     Tokens(Tokens),
     Token(Token),
+    /// What the token has on the file.
+    Right(Right),
     /// A file's size in bytes, the number of the last event that completed a read, write or truncate of it, and how many of its blocks are mapped.
     Attr { size: u64, stamp: u64, blocks: u64 },
     /// The value of an attribute.
@@ -267,7 +347,8 @@ pub enum DmReply {
     Refused(DmRefusal),
 }
 
-/// Why a session's call was refused. Nothing has changed then but the history, and not even that after `Memory`, or after `Disk` from a closed store.
+/// Why a session's call was refused. Nothing has changed then but the history, and not even that after `Memory`, or after `Disk` from a closed store. A
+/// fault of the disk in the event closes the store.
 #[derive(Clone, Copy, Debug, PartialEq, Eq, Error)]
 pub enum DmRefusal {
     #[error("no session has the id")]
@@ -281,6 +362,9 @@ pub enum DmRefusal {
     /// What the token has on the file.
     #[error("the token's right on the file is too small")]
     NeedRight { have: Right },
+    /// The lowest other token whose right on the file excludes the one that is needed.
+    #[error("the token {} has a right on the file that excludes this", token.0)]
+    Busy { token: Token },
     #[error("{count} messages are undelivered or outstanding")]
     EventsLeft { count: u64 },
     #[error("nothing is undelivered")]

@@ -43,6 +43,11 @@ macro_rules! dm_forms {
             Respond b"respond" { token: Token, response: Response }
             CreateUserEvent b"userevent" { body: Data }
             SendMsg b"send" { target: Sid, body: Data }
+            RequestRight b"request" { token: Token, handle: Handle, right: Right }
+            ReleaseRight b"release" { token: Token, handle: Handle }
+            QueryRight b"right" { token: Token, handle: Handle }
+            UpgradeRight b"upgrade" { token: Token, handle: Handle }
+            DowngradeRight b"downgrade" { token: Token, handle: Handle }
             GetFileAttr b"fileattr" { token: Token, handle: Handle }
             SetRegion b"setregion" { token: Token, handle: Handle, regions: Regions }
             GetRegion b"getregion" { token: Token, handle: Handle }
@@ -83,6 +88,11 @@ pub enum DmVerb {
     Respond,
     CreateUserEvent,
     SendMsg,
+    RequestRight,
+    ReleaseRight,
+    QueryRight,
+    UpgradeRight,
+    DowngradeRight,
     GetFileAttr,
     SetRegion,
     GetRegion,
@@ -170,6 +180,7 @@ macro_rules! taken {
     (Name $parts:ident) => { $parts.name() };
     (Kinds $parts:ident) => { $parts.kinds() };
     (Response $parts:ident) => { $parts.response() };
+    (Right $parts:ident) => { $parts.right() };
     (Data $parts:ident) => { $parts.data() };
 }
 
@@ -198,7 +209,7 @@ macro_rules! access_of {
 const CALL_VERBS: [CallVerb; 7] = call_forms!(all_verbs());
 
 /// All of them, likewise.
-const DM_VERBS: [DmVerb; 21] = dm_forms!(all_verbs());
+const DM_VERBS: [DmVerb; 26] = dm_forms!(all_verbs());
 
 impl CallVerb {
     pub fn text(self) -> &'static [u8]

@@ -47,15 +47,22 @@ impl CallerId {
 }
 
 /// Which file: its inode, from 1, and its generation, from 1. No two files ever have one generation.
-#[derive(Clone, Copy, Debug, PartialEq, Eq, Hash)]
+#[derive(Clone, Copy, Debug, PartialEq, Eq, PartialOrd, Ord, Hash)]
 pub struct FileKey {
     pub ino: u64,
     pub igen: u64,
 }
 
 /// Which event a session is to respond to, from 1. 0 stands for none.
-#[derive(Clone, Copy, Debug, PartialEq, Eq, Hash)]
+#[derive(Clone, Copy, Debug, PartialEq, Eq, PartialOrd, Ord, Hash)]
 pub struct Token(pub u64);
+
+/// Which token holds which file. They stand in the order of files, and on one file in that of tokens.
+#[derive(Clone, Copy, Debug, PartialEq, Eq, PartialOrd, Ord)]
+pub struct Holding {
+    pub key: FileKey,
+    pub token: Token,
+}
 
 /// Which session, from 1. 0 stands for none.
 #[derive(Clone, Copy, Debug, PartialEq, Eq, Hash)]

@@ -18,7 +18,7 @@ pub use attributes::{ATTRIBUTE_BYTES, ATTRIBUTE_COST, AttrName};
 pub use calls::{Call, CallRefusal, Reply};
 pub use dm::{DmCall, DmRefusal, DmReply, Kind, Kinds, Response, Right, Scope};
 pub use forms::{CALL_PARTS, CallVerb, DmVerb};
-pub use keys::{CallerId, FileKey, HANDLE_BYTES, Handle, Sid, Token};
+pub use keys::{CallerId, FileKey, HANDLE_BYTES, Handle, Holding, Sid, Token};
 pub use limits::{
     ACCESS_BYTES, BLOCK_BYTES, CALLERS, FILE_BYTES, INFO_BYTES, LIVE_SESSIONS, MESSAGE_BYTES,
     NAME_BYTES, SEGMENT_BYTES, USER_TOKENS, WAITING_MESSAGES,

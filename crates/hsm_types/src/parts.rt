@@ -1,9 +1,9 @@
 //! The parts of which calls are made.
 ghost use Rattle.std.specs.Prelude.{◌≡◌, drop, OnOk, [], ◌∷◌};
-ghost use Rattle.hsm_types.specs.Parts.{number_in, count_in, fetch_in, word_in, handle_in, regions_in, name_in, kinds_in, response_in, data_in};
+ghost use Rattle.hsm_types.specs.Parts.{number_in, count_in, fetch_in, word_in, handle_in, regions_in, name_in, kinds_in, response_in, right_in, data_in};
 
 use crate::attributes::AttrName;
-use crate::dm::{Kinds, Response};
+use crate::dm::{Kinds, Response, Right};
 use crate::keys::{FileKey, Handle};
 use crate::lists::{Bytes, Regions, Word};
 use std::alloc::{AllocError, Global};
@@ -24,6 +24,7 @@ pub enum Part {
     Name(AttrName),
     Kinds(Kinds),
     Response(Response),
+    Right(Right),
     Data(Bytes),
 }
 
@@ -39,6 +40,7 @@ pub enum PartRef<'a> {
     Name(AttrName),
     Kinds(Kinds),
     Response(Response),
+    Right(Right),
     Data(&'a Bytes),
 }
 
@@ -54,10 +56,11 @@ pub enum PartKind {
     Name,
     Kinds,
     Response,
+    Right,
     Data,
 }
 
-/// The parts of a call, to be taken one by one from the front. What isn't there, or is of another kind, is taken as 0, or as empty. Contracts see
+/// The parts of a call, to be taken one by one from the front. What isn't there, or is of another kind, is taken as 0, or as nothing. Contracts see
 /// them as a list.
 #[derive(Drop)]
 pub struct Parts {
@@ -180,6 +183,16 @@ impl Parts {
         match self.items.pop_front() {
             Some(Part::Response(response)) => response,
             _ => Response::Continue,
+        }
+    }
+
+    pub fn right(&mut self) -> Right
+        ensures value { result ≡ right_in self.old }
+        ensures rest { self.new ≡ drop 1 self.old }
+    {
+        match self.items.pop_front() {
+            Some(Part::Right(right)) => right,
+            _ => Right::Null,
         }
     }
 

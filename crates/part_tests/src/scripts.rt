@@ -4,7 +4,7 @@ use plain_model::Action;
 use script_text::{Line, ParseRefusal, parse, print};
 use std::alloc::Global;
 
-static PRINTED: [&str; 18] = [
+static PRINTED: [&str; 20] = [
     "",
     "s0 session 0 a/b\ns0 sessions\ns0 query 0\ns0 query 18446744073709551615\n",
     "s1 handle a\ns0 handle a/b\ns0 space\ns7 space\n",
@@ -19,6 +19,8 @@ static PRINTED: [&str; 18] = [
     "s1 setdisp -\ns1 setdisp read\ns1 setdisp write,nospace\ns1 setdisp read,write,truncate,nospace\ns1 disp\n",
     "s1 getevents 0 4294967295\ns1 getevents 4294967295 0\ns1 tokens\ns1 findmsg 18446744073709551615 64\n",
     "s1 respond 0 continue\ns1 respond 1 abort 0\ns1 respond 18446744073709551615 abort 4294967295\n",
+    "s1 request 1 1.2.3 shared\ns1 request 18446744073709551615 1.1.1 excl\ns1 upgrade 1 1.2.3\n",
+    "s1 release 0 1.1.1\ns1 right 1 1.2.3\ns0 right 18446744073709551615 1.1.1\ns1 downgrade 1 1.2.3\n",
     "s1 userevent x:\ns1 userevent p:3:7\ns1 send 0 x:00ff\ns1 send 18446744073709551615 p:4096:0\n",
     "c1 create a\nc1 write a 0 x:00ff\nc2 write a 2 p:3:255\nc2 write a 5 x:\nc2 write a 5 p:0:0\n",
     "c64 read a 1 2\nc1 truncate a 3\nc1 stat a\nc1 sync\nc1 remove a\nstore commit\n",
@@ -85,7 +87,7 @@ fn bad_line(alloc: Global, text: &[u8]) -> u64 {
     }
 }
 
-static BAD: [&str; 107] = [
+static BAD: [&str; 117] = [
     "\n",
     "c1",
     " c1 sync",
@@ -193,6 +195,16 @@ static BAD: [&str; 107] = [
     "s1 userevent x:0",
     "s1 send 1",
     "s1 send x:00",
+    "s1 request 1 1.1.1",
+    "s1 request 1 1.1.1 ",
+    "s1 request 1 1.1.1 null",
+    "s1 request 1 1.1.1 Shared",
+    "s1 request 1 1.1.1 exclusive",
+    "s1 request 1 shared",
+    "s1 release 1 1.1.1 excl",
+    "s1 right 1",
+    "s1 upgrade 1 1.1.1 excl",
+    "s1 downgrade 1.1.1",
 ];
 
 #[test]

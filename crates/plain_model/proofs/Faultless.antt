@@ -14,17 +14,19 @@ use Rattle.hsm_types.specs.declared.keys.FileKey.{FileKey}
 use Rattle.hsm_types.specs.declared.regions.Region.{Region}
 use Rattle.hsm_types.specs.declared.keys.Sid.{Sid}
 use Rattle.hsm_types.specs.declared.dm.DmCall.{DmCall}
-use Rattle.hsm_types.specs.declared.dm.DmCall.TheVariants.{CreateSession, DestroySession, QuerySession, GetEvents, FindEventMsg, Respond, CreateUserEvent, SendMsg, SetRegion, SetDmAttr, GetDmAttr, RemoveDmAttr, PathToHandle}
+use Rattle.hsm_types.specs.declared.dm.DmCall.TheVariants.{CreateSession, DestroySession, QuerySession, GetEvents, FindEventMsg, Respond, CreateUserEvent, SendMsg, RequestRight, UpgradeRight, SetRegion, SetDmAttr, GetDmAttr, RemoveDmAttr, PathToHandle}
 use Rattle.hsm_types.specs.declared.dm.DmRefusal.{DmRefusal}
 use Rattle.hsm_types.specs.declared.dm.DmReply.TheVariants as told
+use Rattle.hsm_types.specs.Rights.{Rights, reaches, same_token, right_of, conflict, busy, too_low, bad_right}
 use Rattle.hsm_types.specs.declared.dm.Response.{Response}
 use Rattle.hsm_types.specs.declared.dm.Response.TheVariants.{Abort}
 use Rattle.hsm_types.specs.declared.dm.Right.{Right}
-use Rattle.hsm_types.specs.declared.dm.Right.TheVariants.{Null}
+use Rattle.hsm_types.specs.declared.dm.Right.TheVariants.{Excl}
+use Rattle.hsm_types.specs.declared.keys.FileKey.{FileKey}
 use Rattle.hsm_types.specs.declared.keys.Token.{Token}
 use Rattle.hsm_types.specs.declared.messages.Message.{Message}
 use Rattle.hsm_types.specs.declared.dm.Scope.{Scope}
-use Rattle.hsm_types.specs.declared.dm.Scope.TheVariants.{Anyone, InSession, OnToken, OnFile}
+use Rattle.hsm_types.specs.declared.dm.Scope.TheVariants.{Anyone, InSession, OnToken, OnFile, OnRight}
 use Rattle.hsm_types.specs.declared.stores.Superblock.{Superblock}
 use Rattle.hsm_types.specs.declared.calls.Call.{Call}
 use Rattle.hsm_types.specs.declared.calls.Call.TheVariants.{Create, Read, Write, Truncate, Remove, Stat, Sync}
@@ -42,8 +44,8 @@ use Rattle.plain_model.specs.Plain.{Listed, has_key, named, bad_name, bad_length
 use Rattle.plain_model.specs.Ledger.{Access, Meant, Fixed, Means, aborted, gone, objection_again, objection}
 use Rattle.plain_model.specs.Faults.{is_fault, fault_of, FaultIsLast, has_fault}
 use Rattle.plain_model.specs.State.{Flags, State, names_of}
-use Rattle.plain_model.specs.Verdict.{Posts, Lacks, Verdict, verdict, reply_by, flags_now, reply_where, objection_in, meant_in, reply_to}
-use Rattle.plain_model.specs.Services.{bad_own_token, bad_given_token, no_right, is_live, bad_handle, scope_refusals, kept_of, other_attributes, message_or_none, service, dm_judged, dm_reply_where, dm_reply_to}
+use Rattle.plain_model.specs.Verdict.{Blocks, Posts, Lacks, Verdict, verdict, reply_by, flags_now, reply_where, objection_in, meant_in, reply_to}
+use Rattle.plain_model.specs.Services.{bad_own_token, bad_given_token, is_live, bad_handle, scope_refusals, kept_of, other_attributes, message_or_none, service, dm_judged, dm_reply_where, dm_reply_to}
 use Rattle.plain_model.specs.Exact.{IsOwn}
 use Rattle.plain_model.proofs.Judged.{Says, meant_says}
 
@@ -114,6 +116,7 @@ faultless_on k body call = refl
 
 faultless_by : (st : State) (k : FileKey) (call : Call) (v : Verdict) → is_fault (Replied (reply_by st k call v)) ≡ false
 faultless_by st k call None = faultless_on _ _ call
+faultless_by st k call (Some (Blocks t)) = refl
 faultless_by st k call (Some (Posts kind)) = refl
 faultless_by st k call (Some (Lacks need free)) = refl
 
@@ -201,6 +204,19 @@ usual_sending target body t =
     (ordinary_first of_dm (too_long body) _ (usual_length body)
     (ordinary_first of_dm (too_many_waiting (queue_of target t)) _ (ordinary_if of_dm (nat_le 1024 (count_by (has_token no_token) (queue_of target t))) _ _ refl tt) tt))
 
+usual_busy : (other : Option Token) → Usual (busy other)
+usual_busy None = tt
+usual_busy (Some t) = refl
+
+usual_low : (need have : Right) → Usual (too_low need have)
+usual_low need have = ordinary_if of_dm (reaches have need) _ _ tt refl
+
+usual_right : (token : Token) (k : FileKey) (need : Right) (rights : Rights) → Usual (bad_right token k need rights)
+usual_right token k need rights = elim (same_token token no_token) as (λ b. Usual (if b then busy (conflict k need no_token rights) else too_low need (right_of token k rights))) [
+  | true ↦ usual_busy (conflict k need no_token rights)
+  | false ↦ usual_low need (right_of token k rights)
+]
+
 usual_service : (s : Superblock) (st : State) (sid : Sid) (call : DmCall) → Usual (service s st sid call).refusal
 usual_service s st sid (CreateSession old info) = usual_creation old info st.sessions
 usual_service s st sid DestroySession = ordinary_if of_dm (length (queue_of sid st.sessions) + length (outstanding_of sid st.sessions) == 0) _ _ tt refl
@@ -210,6 +226,8 @@ usual_service s st sid (FindEventMsg token room) = usual_fit room (message_or_no
 usual_service s st sid (Respond token response) = ordinary_if of_dm (is_lawful response) _ _ tt refl
 usual_service s st sid (CreateUserEvent body) = usual_event body st.sessions
 usual_service s st sid (SendMsg target body) = usual_sending target body st.sessions
+usual_service s st sid (RequestRight token handle right) = usual_busy (conflict handle.key right token st.rights)
+usual_service s st sid (UpgradeRight token handle) = usual_busy (conflict handle.key Excl token st.rights)
 usual_service s st sid (SetRegion token handle regions) = usual_regions regions
 usual_service s st sid (SetDmAttr token handle name value) = usual_setting name value (other_attributes handle.key st.held.files) s.geometry.attributes (kept_of handle.key st.held.files).attributes
 usual_service s st sid (GetDmAttr token handle name) = usual_absent name (kept_of handle.key st.held.files).attributes
@@ -230,10 +248,6 @@ module _ (s : Superblock) (st : State) (sid : Sid) (own : Option DmRefusal) (is 
   usual_owner None = refl
   usual_owner (Some other) = ordinary_if of_dm (same_sid other sid) _ _ tt refl
 
-  usual_right : (token : Token) (right : Right) → Usual (no_right token right)
-  usual_right token Null = tt
-  usual_right token right = ordinary_if of_dm (token.0 == 0) _ _ tt refl
-
   usual_scope : (scope : Scope) → Usual (first_refusal (scope_refusals s st sid scope ++ own ∷ []))
   usual_scope Anyone = usual_last
   usual_scope InSession = usual_session (own ∷ []) usual_last
@@ -241,10 +255,15 @@ module _ (s : Superblock) (st : State) (sid : Sid) (own : Option DmRefusal) (is 
       usual_session (bad_own_token sid token st.sessions ∷ own ∷ [])
       (ordinary_first of_dm (bad_own_token sid token st.sessions) _ (ordinary_if of_dm (token.0 == 0) _ _ refl (usual_owner (owner token st.sessions))) usual_last)
   usual_scope (OnFile token handle right) =
-      usual_session (bad_given_token sid token st.sessions ∷ bad_handle s st.held.files handle ∷ no_right token right ∷ own ∷ [])
+      usual_session (bad_given_token sid token st.sessions ∷ bad_handle s st.held.files handle ∷ bad_right token handle.key right st.rights ∷ own ∷ [])
       (ordinary_first of_dm (bad_given_token sid token st.sessions) _ (ordinary_if of_dm (token.0 == 0) _ _ tt (usual_owner (owner token st.sessions)))
       (ordinary_first of_dm (bad_handle s st.held.files handle) _ (ordinary_if of_dm (is_live s st.held.files handle) _ _ tt refl)
-      (ordinary_first of_dm (no_right token right) _ (usual_right token right) usual_last)))
+      (ordinary_first of_dm (bad_right token handle.key right st.rights) _ (usual_right token handle.key right st.rights) usual_last)))
+  usual_scope (OnRight token handle right) =
+      usual_session (bad_own_token sid token st.sessions ∷ bad_handle s st.held.files handle ∷ too_low right (right_of token handle.key st.rights) ∷ own ∷ [])
+      (ordinary_first of_dm (bad_own_token sid token st.sessions) _ (ordinary_if of_dm (token.0 == 0) _ _ refl (usual_owner (owner token st.sessions)))
+      (ordinary_first of_dm (bad_handle s st.held.files handle) _ (ordinary_if of_dm (is_live s st.held.files handle) _ _ tt refl)
+      (ordinary_first of_dm (too_low right (right_of token handle.key st.rights)) _ (usual_low right (right_of token handle.key st.rights)) usual_last)))
 
 faultless_told : (s : Superblock) (st : State) (sid : Sid) (call : DmCall) → is_fault (Told (service s st sid call).reply) ≡ false
 faultless_told s st sid (CreateSession old info) = refl

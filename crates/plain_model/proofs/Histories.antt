@@ -12,7 +12,7 @@ use Rattle.plain_model.specs.declared.entries.Actor.TheVariants.{Caller, Session
 use Rattle.plain_model.specs.declared.entries.Action.{Action}
 use Rattle.plain_model.specs.declared.entries.Action.TheVariants.{Issue, Resume, Dm}
 use Rattle.plain_model.specs.declared.entries.Answer.{Answer}
-use Rattle.plain_model.specs.Effects.{Change, Nothing, OfFile, OfSessions, change_of}
+use Rattle.plain_model.specs.Effects.{Change, Nothing, OfFile, OfSessions, OfRights, Closes, change_of}
 use Rattle.plain_model.specs.Ledger.{Meant, Fixed, Means}
 use Rattle.plain_model.specs.State.{Flags, State, noted, changed}
 use Rattle.plain_model.specs.Verdict.{flags_now, objection_in, meant_in, state_where}
@@ -55,6 +55,8 @@ changed-number : (change : Change) (st : State) → (changed change st).number �
 changed-number Nothing st = refl
 changed-number (OfFile k effect) st = refl
 changed-number (OfSessions to) st = refl
+changed-number (OfRights to) st = refl
+changed-number (Closes sid token) st = refl
 
 counted_dm : (why : Option DmRefusal) (s : Superblock) (st : State) (sid : Sid) (call : DmCall) → (dm_state_where why s st sid call).number ≡ st.number + 1
 counted_dm None s st sid call = rw (changed-number (change_of sid call) st) refl

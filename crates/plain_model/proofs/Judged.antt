@@ -20,9 +20,9 @@ pub passes : {R : Type 0} (b : Bool) (why : R) → (if b then None else Some why
 passes true why is = refl
 passes false why is = cc
 
-pub right_of : (a b : Bool) → (a && b) ≡ true → b ≡ true
-right_of true b is = is
-right_of false b is = cc
+pub second_holds : (a b : Bool) → (a && b) ≡ true → b ≡ true
+second_holds true b is = is
+second_holds false b is = cc
 
 -- a reply that is fixed tells to wait, or that nothing waits
 abbrev pub Says : Meant → Type 0

@@ -33,7 +33,7 @@ use Rattle.plain_model.specs.Plain.{Listed, has_key, reply_on}
 use Rattle.plain_model.specs.Ledger.{Access, Ledger, Meant, Fixed, Means, next_token, issued, goes_on, resumed, aborted, gone, objection_again, left_waiting, waiting_after, top_by, open_by, ledger_replied, waits_for, answered}
 use Rattle.plain_model.specs.Once.{gives, takes, is_taken, MustWait, either, used_by, waits_by, on_taken}
 use Rattle.plain_model.specs.State.{Flags, no_flags, State, names_of, noted}
-use Rattle.plain_model.specs.Verdict.{Posts, Lacks, Verdict, verdict, reply_by, reply_where, state_where, objection_in, reply_to, state_after}
+use Rattle.plain_model.specs.Verdict.{Blocks, Posts, Lacks, Verdict, verdict, reply_by, reply_where, state_where, objection_in, reply_to, state_after}
 use Rattle.plain_model.specs.Services.{bad_own_token, service, dm_judged, dm_reply_where, dm_state_where}
 use Rattle.plain_model.specs.Faults.{is_fault, IsFault}
 use Rattle.plain_model.specs.Stands.{Awaits, InOrder}
@@ -135,6 +135,7 @@ next_done L left k body (Stat name) = tt
 next_done L left k body call = tt
 
 next_by : (st : State) (k : FileKey) (call : Call) (v : Verdict) → ParksNext st.ledger (left_waiting k call (reply_by st k call v)) (reply_by st k call v)
+next_by st k call (Some (Blocks t)) = tt
 next_by st k call (Some (Posts kind)) = (refl, (refl, refl))
 next_by st k call (Some (Lacks need free)) = tt
 next_by st k call None = next_done st.ledger _ _ _ call
@@ -146,6 +147,7 @@ used_done c t later k body (Stat name) = own_either c _ later tt
 used_done c t later k body call = own_either c _ later tt
 
 used_verdict : (st : State) (c t : ℕ) (later : Type 0) (k : FileKey) (call : Call) (v : Verdict) → used_by c t Continue (Caller c) Resume (Replied (reply_by st k call v)) later
+used_verdict st c t later k call (Some (Blocks u)) = own_either c _ later tt
 used_verdict st c t later k call (Some (Posts kind)) = own_either c _ later tt
 used_verdict st c t later k call (Some (Lacks need free)) = own_either c _ later tt
 used_verdict st c t later k call None = used_done c t later _ _ call

@@ -4,7 +4,16 @@ use Rattle.std.proofs.lemmas.Bool.{eqb-true, eqb-false, eq-eqb, ne_eqb}
 use Rattle.std.proofs.lemmas.Bool.Decides.{nat_tests}
 use Rattle.std.specs.Prelude.{◌==◌, if◌then◌else◌, IfSome}
 use Rattle.hsm_types.specs.Sessions.{SessionTable, Ascend, places, lives, owner, dead_session, not_yours, same_sid, destruction_refusal, bad_response, event_refusal, responded, with_session, without_session, with_kinds, loses, delivered_within, queue_of, sent, taker, posted_to, posted}
+use Rattle.std.proofs.lemmas.List.Elements.{All-nil, All-weaker}
+use Rattle.std.specs.List.{All}
+use Rattle.std.specs.Map.{keys_of}
 use Rattle.hsm_types.specs.Messages.{handed_out}
+use Rattle.hsm_types.specs.Rights.{Rights, AreRights, holding, reaches, right_of, conflict, busy, too_low, with_right, requested, without_right}
+use Rattle.hsm_types.specs.declared.dm.Right.{Right}
+use Rattle.hsm_types.specs.declared.dm.Right.TheVariants.{Null, Shared, Excl}
+use Rattle.hsm_types.specs.declared.keys.Handle.{Handle}
+use Rattle.hsm_types.specs.declared.keys.Holding.{Holding}
+use Rattle.hsm_types.proofs.Righted.{no-rights, requested-rights, upgraded-rights, downgraded-rights, without-rights, released-rights, keys-requested, keys-with_right, keys-without_right, keys-released}
 use Rattle.hsm_types.specs.Refusals.{first_refusal}
 use Rattle.hsm_types.specs.declared.calls.Call.{Call}
 use Rattle.hsm_types.specs.declared.calls.Call.TheVariants.{Create, Read, Stat}
@@ -14,14 +23,16 @@ use Rattle.hsm_types.specs.declared.calls.Reply.TheVariants.{Parked, Still, Refu
 use Rattle.hsm_types.specs.declared.dm.Kind.{Kind}
 use Rattle.hsm_types.specs.declared.dm.Response.{Response}
 use Rattle.hsm_types.specs.declared.messages.Message.{Message}
+use Rattle.hsm_types.specs.declared.regions.Range.{Range}
+use Rattle.plain_model.specs.Accesses.{told_span, event_message}
 use Rattle.hsm_types.specs.declared.keys.FileKey.{FileKey}
 use Rattle.hsm_types.specs.declared.keys.Sid.{Sid}
 use Rattle.hsm_types.specs.declared.keys.Token.{Token}
 use Rattle.hsm_types.specs.declared.dm.DmCall.{DmCall}
-use Rattle.hsm_types.specs.declared.dm.DmCall.TheVariants.{CreateSession, DestroySession, SetDisp, GetEvents, Respond, CreateUserEvent, SendMsg, GetSpace}
+use Rattle.hsm_types.specs.declared.dm.DmCall.TheVariants.{CreateSession, DestroySession, SetDisp, GetEvents, Respond, CreateUserEvent, SendMsg, RequestRight, ReleaseRight, UpgradeRight, DowngradeRight, GetSpace}
 use Rattle.hsm_types.specs.declared.dm.DmRefusal.{DmRefusal}
 use Rattle.hsm_types.specs.declared.dm.DmReply.TheVariants as told
-use Rattle.hsm_types.specs.declared.dm.DmRefusal.TheVariants.{NoSession, NoToken, NotYours}
+use Rattle.hsm_types.specs.declared.dm.DmRefusal.TheVariants.{NoSession, NoToken, NotYours, NeedRight}
 use Rattle.hsm_types.specs.declared.stores.Superblock.{Superblock}
 use Rattle.hsm_types.proofs.AscendingIds.{ascend-removed, ascend-pushed, ascend-mapped, ascend-changed}
 use Rattle.hsm_types.proofs.Queues.{count-any, places-held, owner-holds, places-created, places-destroyed, places-disposed, places-delivered, places-responded-other, places-answered, places-user_event, places-sent, places-posted}
@@ -30,11 +41,11 @@ use Rattle.plain_model.specs.declared.entries.Actor.{Actor}
 use Rattle.plain_model.specs.declared.entries.Actor.TheVariants.{Caller, Session}
 use Rattle.plain_model.specs.declared.entries.Action.{Action}
 use Rattle.plain_model.specs.declared.entries.Action.TheVariants.{Issue, Resume, Dm}
-use Rattle.plain_model.specs.Ledger.{Access, Ledger, Meant, Fixed, Means, next_token, ledger_replied, waits_for, answered, ledger_told}
+use Rattle.plain_model.specs.Ledger.{Access, Ledger, no_ledger, Meant, Fixed, Means, next_token, ledger_replied, waits_for, answered, ledger_told}
 use Rattle.plain_model.specs.Keyed.{set_at}
 use Rattle.plain_model.specs.State.{Held, Flags, State, names_of, just_opened, noted}
-use Rattle.plain_model.specs.Verdict.{Posts, Lacks, Verdict, verdict, message_of, left_by_verdict, flags_now, objection_in, meant_in, state_where, state_after}
-use Rattle.plain_model.specs.Services.{bad_own_token, dm_judged, dm_state_where, dm_state_after}
+use Rattle.plain_model.specs.Verdict.{Blocks, Posts, Lacks, Verdict, verdict, shortage, left_by_verdict, flags_now, objection_in, meant_in, state_where, state_after}
+use Rattle.plain_model.specs.Services.{bad_own_token, bad_handle, dm_judged, dm_state_where, dm_state_after}
 use Rattle.plain_model.specs.Faults.{is_fault}
 use Rattle.plain_model.specs.Stands.{Awaits, InOrder}
 use Rattle.plain_model.specs.Exact.{left_own, left_by, state_by}
@@ -78,14 +89,23 @@ posted-ascends m t ascend = to (taker m.kind t)
     to None = ascend
     to (Some sid) = ascend-changed sid _ 0 t.given t.live ascend
 
+-- whose right it is, is an open token
+abbrev IsOpen : Ledger → Holding → Type 0
+IsOpen L h = L.open h.token.0 ≡ true
+
 -- the number of places stays, and so does the ledger
 same_order : (st : State) (t : SessionTable) (n : ℕ) (held : Held) (stamps : FileKey → ℕ) → InOrder st → Ascend 0 t.given t.live → ((u : Token) → 0 < u.0 → places u t ≡ places u st.sessions)
-    → InOrder (record { held = held; stamps = stamps; number = n; sessions = t; flags = st.flags; ledger = st.ledger })
-same_order st t n held stamps ordered ascend same = record { ascend = ascend; once = λ u some. same u some ∙ ordered.once u some; given = ordered.given; none = ordered.none; waits = ordered.waits }
+    → InOrder (record { held = held; stamps = stamps; number = n; sessions = t; rights = st.rights; flags = st.flags; ledger = st.ledger })
+same_order st t n held stamps ordered ascend same = record { ascend = ascend; once = λ u some. same u some ∙ ordered.once u some; given = ordered.given; none = ordered.none; waits = ordered.waits; rights = ordered.rights; held = ordered.held }
 
 -- the tables and the ledger are those of before
-pub still_ordered : (st : State) (held : Held) (stamps : FileKey → ℕ) (n : ℕ) (flags : ℕ → Flags) → InOrder st → InOrder (record { held = held; stamps = stamps; number = n; sessions = st.sessions; flags = flags; ledger = st.ledger })
-still_ordered st held stamps n flags ordered = record { ascend = ordered.ascend; once = ordered.once; given = ordered.given; none = ordered.none; waits = ordered.waits }
+pub still_ordered : (st : State) (held : Held) (stamps : FileKey → ℕ) (n : ℕ) (flags : ℕ → Flags) → InOrder st → InOrder (record { held = held; stamps = stamps; number = n; sessions = st.sessions; rights = st.rights; flags = flags; ledger = st.ledger })
+still_ordered st held stamps n flags ordered = record { ascend = ordered.ascend; once = ordered.once; given = ordered.given; none = ordered.none; waits = ordered.waits; rights = ordered.rights; held = ordered.held }
+
+-- the rights change, and are still of open tokens
+rights_ordered : (st : State) (n : ℕ) (rights : Rights) → InOrder st → AreRights rights → All (IsOpen st.ledger) (keys_of rights)
+    → InOrder (record { held = st.held; stamps = st.stamps; number = n; sessions = st.sessions; rights = rights; flags = st.flags; ledger = st.ledger })
+rights_ordered st n rights ordered are held = record { ascend = ordered.ascend; once = ordered.once; given = ordered.given; none = ordered.none; waits = ordered.waits; rights = are; held = held }
 
 closed_once : (given : ℕ → Bool) (u : Token) (token : Token) (t : SessionTable) (sid : Sid) → Ascend 0 t.given t.live → places u t ≡ (if given u.0 then 1 else 0) → places token t ≡ 1 → owner token t ≡ Some sid
     → places u (responded sid token t) ≡ (if set_at token.0 false given u.0 then 1 else 0)
@@ -153,12 +173,31 @@ answered_waits L t response (Some a) is = reached L t response a a.token refl is
 fresh_open : (L : Ledger) (u : ℕ) → u ≤ L.top → set_at (L.top + 1) true L.open u ≡ L.open u
 fresh_open L u old = elsewhere (L.top + 1) true L.open u (ne_eqb u (L.top + 1) (λ same. omega (arith, old, same)))
 
+-- a right stays that of an open token where one more token opens
+still_open : (st : State) → InOrder st → (h : Holding) → IsOpen st.ledger h → set_at (st.ledger.top + 1) true st.ledger.open h.token.0 ≡ true
+still_open st ordered h is = elim (h.token.0 == st.ledger.top + 1) as (λ b. (if b then true else st.ledger.open h.token.0) ≡ true) [ true ↦ refl | false ↦ is ]
+
+pub not_busy : (other : Option Token) → busy other ≡ None → other ≡ None
+not_busy None is = refl
+not_busy (Some t) is = absurd cc
+
 module _ (s : Superblock) (st : State) (sid : Sid) (ordered : InOrder st) where
   abbrev t : SessionTable
   t = st.sessions
 
   alive : (rest : List (Option DmRefusal)) → first_refusal (dead_session sid t ∷ rest) ≡ None → (lives sid t ≡ true) × (first_refusal rest ≡ None)
   alive rest none = let past = none_first (dead_session sid t) rest none in (passes (lives sid t) NoSession past.0, past.1)
+
+  -- what is known of a call on a right that its scope doesn't refuse
+  on_right : (token : Token) (handle : Handle) (need : Right) (own : Option DmRefusal)
+      → first_refusal (dead_session sid t ∷ bad_own_token sid token t ∷ bad_handle s st.held.files handle ∷ too_low need (right_of token handle.key st.rights) ∷ own ∷ []) ≡ None
+      → IsOpen st.ledger (holding token handle.key) × (reaches (right_of token handle.key st.rights) need ≡ true) × (first_refusal (own ∷ []) ≡ None)
+  on_right token handle need own none =
+      let past_session = alive (bad_own_token sid token t ∷ bad_handle s st.held.files handle ∷ too_low need (right_of token handle.key st.rights) ∷ own ∷ []) none in
+      let past_token = none_first (bad_own_token sid token t) (bad_handle s st.held.files handle ∷ too_low need (right_of token handle.key st.rights) ∷ own ∷ []) past_session.1 in
+      let past_handle = none_first (bad_handle s st.held.files handle) (too_low need (right_of token handle.key st.rights) ∷ own ∷ []) past_token.1 in
+      let past_right = none_first (too_low need (right_of token handle.key st.rights)) (own ∷ []) past_handle.1 in
+      ((owned_open st sid token ordered past_token.0).0, passes (reaches (right_of token handle.key st.rights) need) (NeedRight (right_of token handle.key st.rights)) past_right.0, past_right.1)
 
   told_ordered : (call : DmCall) → dm_judged s st sid call ≡ None → InOrder (dm_state_where None s st sid call)
   told_ordered (CreateSession old info) none =
@@ -183,6 +222,8 @@ module _ (s : Superblock) (st : State) (sid : Sid) (ordered : InOrder st) where
         given = closed_given st.ledger.open st.ledger.top token.0 ordered.given;
         none = closed_none st.ledger.open token.0 0 ordered.none;
         waits = λ c. answered_waits st.ledger token response (st.ledger.pending c) (ordered.waits c);
+        rights = released-rights token st.rights ordered.rights;
+        held = keys-released (IsOpen st.ledger) (IsOpen (closed st.ledger token response)) token st.rights ordered.held (λ h is other. elsewhere token.0 false st.ledger.open h.token.0 other ∙ is);
       }
   told_ordered (CreateUserEvent body) none =
       let live = (alive (event_refusal body t ∷ []) none).0 in
@@ -192,9 +233,28 @@ module _ (s : Superblock) (st : State) (sid : Sid) (ordered : InOrder st) where
         given = opened_given st.ledger.open st.ledger.top (st.ledger.top + 1) refl ordered.given;
         none = opened_none st.ledger.open (st.ledger.top + 1) (omega arith) ordered.none;
         waits = λ c. moved_waits st.ledger (ledger_told st.ledger (CreateUserEvent body) (told.Token (next_token st.ledger))) (omega arith) (fresh_open st.ledger) (st.ledger.pending c) (ordered.waits c);
+        rights = ordered.rights;
+        held = All-weaker (IsOpen st.ledger) _ (still_open st ordered) (keys_of st.rights) ordered.held;
       }
   told_ordered (SendMsg target body) none =
       same_order st (sent target body t) _ _ _ ordered (ascend-changed target _ 0 t.given t.live ordered.ascend) (λ u some. places-sent u target body t some)
+  told_ordered (RequestRight token handle right) none =
+      let own = on_right token handle Null (busy (conflict handle.key right token st.rights)) none in
+      rights_ordered st _ (requested token handle.key right st.rights) ordered
+      (requested-rights token handle.key right st.rights ordered.rights (not_busy (conflict handle.key right token st.rights) (none_first (busy (conflict handle.key right token st.rights)) [] own.2).0))
+      (keys-requested (IsOpen st.ledger) token handle.key right st.rights ordered.held own.0)
+  told_ordered (ReleaseRight token handle) none =
+      rights_ordered st _ (without_right token handle.key st.rights) ordered (without-rights token handle.key st.rights ordered.rights) (keys-without_right (IsOpen st.ledger) token handle.key st.rights ordered.held)
+  told_ordered (UpgradeRight token handle) none =
+      let own = on_right token handle Shared (busy (conflict handle.key Excl token st.rights)) none in
+      rights_ordered st _ (with_right token handle.key Excl st.rights) ordered
+      (upgraded-rights token handle.key st.rights ordered.rights (not_busy (conflict handle.key Excl token st.rights) (none_first (busy (conflict handle.key Excl token st.rights)) [] own.2).0))
+      (keys-with_right (IsOpen st.ledger) token handle.key Excl st.rights ordered.held own.0)
+  told_ordered (DowngradeRight token handle) none =
+      let own = on_right token handle Excl None none in
+      rights_ordered st _ (with_right token handle.key Shared st.rights) ordered
+      (downgraded-rights token handle.key st.rights ordered.rights own.1)
+      (keys-with_right (IsOpen st.ledger) token handle.key Shared st.rights ordered.held own.0)
   told_ordered GetSpace none = still_ordered st _ _ _ st.flags ordered
   told_ordered call none = still_ordered st _ _ _ st.flags ordered
 
@@ -217,28 +277,47 @@ same_tokens L pending = record L { pending = pending }
 
 -- an event that gives no token
 replied_ordered : (st : State) (held : Held) (stamps : FileKey → ℕ) (n : ℕ) (flags : ℕ → Flags) (c : ℕ) (left : Option Access) → InOrder st → IfSome left (λ a. Awaits st.ledger a.token a.answer)
-    → InOrder (record { held = held; stamps = stamps; number = n; sessions = st.sessions; flags = flags; ledger = same_tokens st.ledger (set_at c left st.ledger.pending) })
+    → InOrder (record { held = held; stamps = stamps; number = n; sessions = st.sessions; rights = st.rights; flags = flags; ledger = same_tokens st.ledger (set_at c left st.ledger.pending) })
 replied_ordered st held stamps n flags c left ordered is = record {
   ascend = ordered.ascend;
   once = ordered.once;
   given = ordered.given;
   none = ordered.none;
   waits = λ d. at_caller (λ x. IfSome x (λ a. Awaits st.ledger a.token a.answer)) c d left st.ledger.pending is (ordered.waits d);
+  rights = ordered.rights;
+  held = ordered.held;
 }
 
--- an access that parks
-parked_ordered : (s : Superblock) (st : State) (c : ℕ) (fl : Flags) (k : FileKey) (call : Call) (kind : Kind) → InOrder st → InOrder (left_by_verdict s st c fl k call (Some (Posts kind)))
-parked_ordered s st c fl k call kind ordered =
+-- an event is posted under the next token
+pub posted_ordered : (st : State) (kind : Kind) (handle : Handle) (told : Range) → InOrder st
+    → InOrder (record st { sessions = posted (event_message kind (next_token st.ledger) handle told) st.sessions; ledger = record st.ledger { top = st.ledger.top + 1; «open» = set_at (st.ledger.top + 1) true st.ledger.open } })
+posted_ordered st kind handle told ordered =
     let L : Ledger = st.ledger in
-    let m : Message = message_of s st k call kind in
+    let m : Message = event_message kind (next_token L) handle told in
     record {
       ascend = posted-ascends m st.sessions ordered.ascend;
       once = λ u some. opened_once L.open L.top u (next_token L) (places u st.sessions) _ refl ordered.given (ordered.once u some) (places-posted u m st.sessions);
       given = opened_given L.open L.top (L.top + 1) refl ordered.given;
       none = opened_none L.open (L.top + 1) (omega arith) ordered.none;
+      waits = λ c. moved_waits L (record L { top = L.top + 1; «open» = set_at (L.top + 1) true L.open }) (omega arith) (fresh_open L) (L.pending c) (ordered.waits c);
+      rights = ordered.rights;
+      held = All-weaker (IsOpen L) _ (still_open st ordered) (keys_of st.rights) ordered.held;
+    }
+
+-- and the access parks on it
+parked_ordered : (s : Superblock) (st : State) (c : ℕ) (fl : Flags) (k : FileKey) (call : Call) (kind : Kind) → InOrder st → InOrder (left_by_verdict s st c fl k call (Some (Posts kind)))
+parked_ordered s st c fl k call kind ordered =
+    let L : Ledger = st.ledger in
+    let new = posted_ordered st kind (record { fsid = s.fsid; key = k }) (told_span call (shortage s st.held k call) kind) ordered in
+    record {
+      ascend = new.ascend;
+      once = new.once;
+      given = new.given;
+      none = new.none;
       waits = λ d. at_caller (λ x. IfSome x (λ a. Awaits (ledger_replied L c (Means k call) (Parked (next_token L))) a.token a.answer)) c d _ L.pending
-          (omega arith, let at : (L.top + 1 == L.top + 1) ≡ true = eq-eqb (L.top + 1) (L.top + 1) refl in rw at refl)
-          (moved_waits L (ledger_replied L c (Means k call) (Parked (next_token L))) (omega arith) (fresh_open L) (L.pending d) (ordered.waits d));
+          (omega arith, let at : (L.top + 1 == L.top + 1) ≡ true = eq-eqb (L.top + 1) (L.top + 1) refl in rw at refl) (new.waits d);
+      rights = new.rights;
+      held = new.held;
     }
 
 done_ordered : (s : Superblock) (st : State) (c : ℕ) (fl : Flags) (k : FileKey) (call : Call) → InOrder st → InOrder (left_by_verdict s st c fl k call None)
@@ -249,6 +328,7 @@ done_ordered s st c fl k call ordered = replied_ordered st _ _ _ _ c None ordere
 
 verdict_ordered : (s : Superblock) (st : State) (c : ℕ) (fl : Flags) (k : FileKey) (call : Call) (v : Verdict) → InOrder st → InOrder (left_by_verdict s st c fl k call v)
 verdict_ordered s st c fl k call None ordered = done_ordered s st c fl k call ordered
+verdict_ordered s st c fl k call (Some (Blocks t)) ordered = replied_ordered st _ _ _ _ c (Some (record { key = k; call = call; token = None; answer = None })) ordered refl
 verdict_ordered s st c fl k call (Some (Posts kind)) ordered = parked_ordered s st c fl k call kind ordered
 verdict_ordered s st c fl k call (Some (Lacks need free)) ordered = replied_ordered st _ _ _ _ c None ordered tt
 
@@ -281,7 +361,7 @@ event_ordered s st e ordered = if_ordered (is_fault e.answer) st (left_own s st 
 
 -- a store that was just opened has no sessions and no tokens
 pub ordered_at_first : (base : ℕ) (h : Held) → InOrder (just_opened base h)
-ordered_at_first base h = record { ascend = tt; once = λ u some. refl; given = λ n past. refl; none = refl; waits = λ c. tt }
+ordered_at_first base h = record { ascend = tt; once = λ u some. refl; given = λ n past. refl; none = refl; waits = λ c. tt; rights = no-rights; held = All-nil (IsOpen no_ledger) }
 
 -- each exact run leaves them so
 pub state_ordered : (s : Superblock) (st : State) (es : List Entry) → InOrder st → InOrder (state_by s st es)

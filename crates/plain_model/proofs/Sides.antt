@@ -17,11 +17,11 @@ use Rattle.plain_model.specs.declared.entries.Action.{Action}
 use Rattle.plain_model.specs.declared.entries.Action.TheVariants.{Issue, Resume, Dm, Commit}
 use Rattle.plain_model.specs.declared.entries.Answer.{Answer}
 use Rattle.plain_model.specs.Keyed.{same_key, find_key, change_key, put_key, drop_key}
-use Rattle.plain_model.specs.Effects.{Effect, Leaves, Makes, Drops, Writes, Resizes, Change, Nothing, OfFile, OfSessions, change_of}
+use Rattle.plain_model.specs.Effects.{Effect, Leaves, Makes, Drops, Writes, Resizes, Change, Nothing, OfFile, OfSessions, OfRights, Closes, change_of}
 use Rattle.plain_model.specs.Plain.{File, body_or_none, body_of}
 use Rattle.plain_model.specs.Ledger.{Meant, Fixed, Means}
 use Rattle.plain_model.specs.State.{FileState, Held, Flags, State, just_opened, noted, changed, remade, affected_held}
-use Rattle.plain_model.specs.Verdict.{Posts, Lacks, Verdict, verdict, done_reply, done_held, reply_by, held_by_verdict, flags_now, objection_in, meant_in, reply_where, reply_to, state_where, state_after}
+use Rattle.plain_model.specs.Verdict.{Blocks, Posts, Lacks, Verdict, verdict, done_reply, done_held, reply_by, held_by_verdict, flags_now, objection_in, meant_in, reply_where, reply_to, state_where, state_after}
 use Rattle.plain_model.specs.Services.{service, dm_judged, dm_reply_where, dm_state_where}
 use Rattle.plain_model.specs.Faults.{is_fault}
 use Rattle.plain_model.specs.Step.{World, start, meant_for, after}
@@ -90,6 +90,7 @@ done_sided h k Sync gs st = refl
 verdict_sided : (st : State) (k : FileKey) (call : Call) (v : Verdict) (gs : List File) → Stands st.held.files gs
     → sides_of (held_by_verdict st.held k call v).files ≡ side_replied gs (Means k call) (reply_by st k call v) (sides_of st.held.files)
 verdict_sided st k call None gs stands = done_sided st.held k call gs stands
+verdict_sided st k call (Some (Blocks t)) gs stands = refl
 verdict_sided st k call (Some (Posts kind)) gs stands = refl
 verdict_sided st k call (Some (Lacks need free)) gs stands = refl
 
@@ -110,6 +111,8 @@ changed_sided : (change : Change) (st : State) (gs : List File) → Stands st.he
 changed_sided Nothing st gs stands = refl
 changed_sided (OfFile k effect) st gs stands = affected_sided effect k st.held.files gs stands
 changed_sided (OfSessions to) st gs stands = refl
+changed_sided (OfRights to) st gs stands = refl
+changed_sided (Closes sid token) st gs stands = refl
 
 -- it isn't told a refusal
 sides_done : (s : Superblock) (st : State) (sid : Sid) (call : DmCall) (gs : List File) (X : List Side) → side_changed (change_of sid call) gs X ≡ side_told gs sid call (service s st sid call).reply X

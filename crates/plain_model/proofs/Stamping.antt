@@ -17,12 +17,12 @@ use Rattle.plain_model.specs.declared.entries.Actor.TheVariants.{Caller, Session
 use Rattle.plain_model.specs.declared.entries.Action.{Action}
 use Rattle.plain_model.specs.declared.entries.Action.TheVariants.{Issue, Resume, Dm, Commit}
 use Rattle.plain_model.specs.declared.entries.Answer.{Answer}
-use Rattle.plain_model.specs.Effects.{Change, Nothing, OfFile, OfSessions, change_of}
+use Rattle.plain_model.specs.Effects.{Change, Nothing, OfFile, OfSessions, OfRights, Closes, change_of}
 use Rattle.plain_model.specs.Plain.{File}
 use Rattle.plain_model.specs.Ledger.{Meant, Fixed, Means}
 use Rattle.plain_model.specs.Step.{World, start, meant_for, after}
 use Rattle.plain_model.specs.State.{Held, Flags, State, just_opened, noted, changed}
-use Rattle.plain_model.specs.Verdict.{Posts, Lacks, Verdict, verdict, reply_by, stamps_by, flags_now, objection_in, meant_in, reply_where, reply_to, state_where, state_after}
+use Rattle.plain_model.specs.Verdict.{Blocks, Posts, Lacks, Verdict, verdict, reply_by, stamps_by, flags_now, objection_in, meant_in, reply_where, reply_to, state_where, state_after}
 use Rattle.plain_model.specs.Services.{dm_judged, dm_state_where}
 use Rattle.plain_model.specs.Faults.{is_fault, fault_of}
 use Rattle.plain_model.specs.Stands.{Stands, StandsFor}
@@ -35,6 +35,7 @@ use Rattle.plain_model.proofs.Steps.{same_meant, event_stands, stands_at_first}
 
 module _ (number : ℕ) (st : State) (stamps : FileKey → ℕ) (j : FileKey) where
   verdict_stamped : (k : FileKey) (call : Call) (v : Verdict) → stamps_by number k call v stamps j ≡ (if reaches_key (Means k call) (reply_by st k call v) j then number else stamps j)
+  verdict_stamped k call (Some (Blocks t)) = refl
   verdict_stamped k call (Some (Posts kind)) = refl
   verdict_stamped k call (Some (Lacks need free)) = refl
   verdict_stamped k (Create name) None = refl
@@ -60,6 +61,8 @@ module _ (s : Superblock) (st : State) (k : FileKey) where
   changed_stamped Nothing = refl
   changed_stamped (OfFile j effect) = refl
   changed_stamped (OfSessions to) = refl
+  changed_stamped (OfRights to) = refl
+  changed_stamped (Closes sid token) = refl
 
   dm_stamped : (why : Option DmRefusal) (sid : Sid) (call : DmCall) → (dm_state_where why s st sid call).stamps k ≡ st.stamps k
   dm_stamped None sid call = changed_stamped (change_of sid call)

@@ -2,7 +2,11 @@
 use Rattle.std.proofs.Common.{◌≡◌, ◌<◌, ◌-◌, ℕ, min, List, [], ◌∷◌, length, Bool, true, false, Option, Some, None, inl, inr, refl, sym, ◌∙◌, ap, subst, arith}
 use Rattle.std.proofs.lemmas.Bool.Decides.{nat_tests}
 use Rattle.std.specs.Prelude.{◌==◌, ◌&&◌, not, nat_lt, if◌then◌else◌, is_some}
+use Rattle.std.specs.Option.{option_map}
 use Rattle.hsm_types.specs.Refusals.{first_refusal}
+use Rattle.hsm_types.specs.Handles.{same_key}
+use Rattle.hsm_types.specs.Rights.{Rights, same_token, conflict, bad_right}
+use Rattle.hsm_types.proofs.Righted.{conflict-held}
 use Rattle.hsm_types.specs.declared.keys.FileKey.{FileKey}
 use Rattle.hsm_types.specs.declared.keys.Sid.{Sid}
 use Rattle.hsm_types.specs.declared.stores.Superblock.{Superblock}
@@ -11,7 +15,7 @@ use Rattle.hsm_types.specs.declared.calls.Call.TheVariants.{Create, Read, Write,
 use Rattle.hsm_types.specs.declared.calls.CallRefusal.{CallRefusal}
 use Rattle.hsm_types.specs.declared.calls.CallRefusal.TheVariants.{NoSpace, Waiting, Idle}
 use Rattle.hsm_types.specs.declared.calls.Reply.{Reply}
-use Rattle.hsm_types.specs.declared.calls.Reply.TheVariants.{Done, Made, Data, Size, Parked, Still, Refused}
+use Rattle.hsm_types.specs.declared.calls.Reply.TheVariants.{Done, Made, Data, Size, Parked, Blocked, Still, Refused}
 use Rattle.hsm_types.specs.declared.dm.Kind.{Kind}
 use Rattle.hsm_types.specs.declared.dm.Kind.TheVariants as kind
 use Rattle.hsm_types.specs.declared.dm.DmCall.{DmCall}
@@ -19,8 +23,10 @@ use Rattle.hsm_types.specs.declared.dm.DmCall.TheVariants.{CreateSession, Respon
 use Rattle.hsm_types.specs.declared.dm.DmRefusal.{DmRefusal}
 use Rattle.hsm_types.specs.declared.dm.DmRefusal.TheVariants.{NoObject, BadResponse}
 use Rattle.hsm_types.specs.declared.dm.DmReply.TheVariants as told
-use Rattle.hsm_types.specs.declared.dm.Right.TheVariants.{Shared}
-use Rattle.hsm_types.specs.Messages.{is_lawful}
+use Rattle.hsm_types.specs.declared.dm.Right.{Right}
+use Rattle.hsm_types.specs.declared.dm.Right.TheVariants.{Null, Shared, Excl}
+use Rattle.hsm_types.specs.declared.keys.Token.{Token}
+use Rattle.hsm_types.specs.Messages.{no_token, is_lawful}
 use Rattle.hsm_types.specs.Sessions.{dead_session, bad_response}
 use Rattle.plain_model.specs.declared.entries.Entry.{Entry}
 use Rattle.plain_model.specs.declared.entries.Actor.{Actor}
@@ -30,14 +36,14 @@ use Rattle.plain_model.specs.declared.entries.Action.TheVariants.{Issue, Resume,
 use Rattle.plain_model.specs.declared.entries.Answer.{Answer}
 use Rattle.plain_model.specs.declared.facts.Facts.{Facts}
 use Rattle.plain_model.specs.declared.facts.NoRoom.{NoRoom}
-use Rattle.plain_model.specs.Effects.{Makes, Drops, Writes, Resizes, effect_of, Change, Nothing, OfFile, OfSessions, change_of}
+use Rattle.plain_model.specs.Effects.{Makes, Drops, Writes, Resizes, effect_of, Change, Nothing, OfFile, OfSessions, OfRights, Closes, change_of}
 use Rattle.plain_model.specs.Plain.{File, Listed, listing, named, key_or_none, free_inode, read_at, body_of}
-use Rattle.plain_model.specs.Accesses.{is_access, wants_space, kind_of, room_or_none}
+use Rattle.plain_model.specs.Accesses.{is_access, can_block, need_of, wants_space, kind_of, room_or_none}
 use Rattle.plain_model.specs.Ledger.{Ledger, Meant, Fixed, Means, next_token, meant, objection, ledger_replied, ledger_told}
 use Rattle.plain_model.specs.Blocks.{touched}
 use Rattle.plain_model.specs.State.{FileState, Held, Flags, State, just_opened, noted, changed, names_of, next_key, file_at, bytes_of, used}
-use Rattle.plain_model.specs.Verdict.{Ruling, Posts, Lacks, Verdict, shortage, facts_of, is_taken, posts, touching, without_room, lacking, verdict, done_reply, reply_by, flags_now, objection_in, meant_in, reply_where, reply_to, left_by_verdict, state_where, state_after}
-use Rattle.plain_model.specs.Services.{bad_own_token, bad_given_token, no_right, is_live, bad_handle, no_such_name, service, dm_judged, dm_reply_where, dm_state_where}
+use Rattle.plain_model.specs.Verdict.{Ruling, Blocks, Posts, Lacks, Verdict, shortage, facts_of, is_taken, conflicting, posts, touching, without_room, lacking, verdict, done_reply, reply_by, flags_now, objection_in, meant_in, reply_where, reply_to, left_by_verdict, state_where, state_after}
+use Rattle.plain_model.specs.Services.{bad_own_token, bad_given_token, is_live, bad_handle, no_such_name, service, dm_judged, dm_reply_where, dm_state_where}
 use Rattle.plain_model.specs.Faults.{is_fault}
 use Rattle.plain_model.specs.Step.{World, start, IsOutcome, MayReply, meant_for, objection_for, replied, MayTell, changed_plain, files_told, world_told, MayAnswer, MayGive, given, after}
 use Rattle.plain_model.specs.Legal.{Legal, After}
@@ -47,7 +53,7 @@ use Rattle.plain_model.specs.Laws.{IsOpening}
 use Rattle.plain_model.proofs.Bodies.{read_same}
 use Rattle.plain_model.proofs.Standing.{affected_stands, names_stand, file_stands, found_stands}
 use Rattle.plain_model.proofs.Faultless.{fault_is}
-use Rattle.plain_model.proofs.Judged.{none_first, passes, right_of, Says, meant_says}
+use Rattle.plain_model.proofs.Judged.{none_first, passes, second_holds, Says, meant_says}
 use Rattle.plain_model.proofs.Orders.{owned_open, event_ordered, ordered_at_first}
 
 -- ---- a call to which nothing objects
@@ -73,25 +79,31 @@ wanting (Stat name) is = cc
 wanting Sync is = cc
 
 -- what a ruling says of a call, of which these facts are known
-abbrev Follows : Call → Option NoRoom → Ruling → Type 0
-Follows call short (Posts kind) = is_access call ≡ true
-Follows call short (Lacks need free) = short ≡ Some (record { need = need; free = free })
+abbrev Follows : Option Token → Call → Option NoRoom → Ruling → Type 0
+Follows other call short (Blocks t) = (can_block call ≡ true) × (other ≡ Some t)
+Follows other call short (Posts kind) = is_access call ≡ true
+Follows other call short (Lacks need free) = short ≡ Some (record { need = need; free = free })
 
 -- only accesses have an event
-asks_access : (asks : Bool) (call : Call) (ruling : Ruling) → posts asks (kind_of call) ≡ Some ruling → (short : Option NoRoom) → Follows call short ruling
-asks_access false call ruling is short = cc
-asks_access true (Read name offset len) (Posts kind) is short = refl
-asks_access true (Write name offset bytes) (Posts kind) is short = refl
-asks_access true (Truncate name to) (Posts kind) is short = refl
-asks_access true call (Lacks need free) is short = posts_only (kind_of call) need free short is
+asks_access : (other : Option Token) (asks : Bool) (call : Call) (ruling : Ruling) → posts asks (kind_of call) ≡ Some ruling → (short : Option NoRoom) → Follows other call short ruling
+asks_access other false call ruling is short = cc
+asks_access other true (Read name offset len) (Posts kind) is short = refl
+asks_access other true (Write name offset bytes) (Posts kind) is short = refl
+asks_access other true (Truncate name to) (Posts kind) is short = refl
+asks_access other true call (Blocks t) is short = never_blocks (kind_of call) is
+  where
+    never_blocks : (kind : Option Kind) → posts true kind ≡ Some (Blocks t) → (can_block call ≡ true) × (other ≡ Some t)
+    never_blocks None is = absurd cc
+    never_blocks (Some kind) is = absurd cc
+asks_access other true call (Lacks need free) is short = posts_only (kind_of call) need free short is
   where
     posts_only : (kind : Option Kind) (need free : ℕ) (short : Option NoRoom) → posts true kind ≡ Some (Lacks need free) → short ≡ Some (record { need = need; free = free })
     posts_only None need free short is = cc
     posts_only (Some kind) need free short is = cc
-asks_access true (Create name) (Posts kind) is short = cc
-asks_access true (Remove name) (Posts kind) is short = cc
-asks_access true (Stat name) (Posts kind) is short = cc
-asks_access true Sync (Posts kind) is short = cc
+asks_access other true (Create name) (Posts kind) is short = cc
+asks_access other true (Remove name) (Posts kind) is short = cc
+asks_access other true (Stat name) (Posts kind) is short = cc
+asks_access other true Sync (Posts kind) is short = cc
 
 abbrev some_room : ℕ → ℕ → Option NoRoom
 some_room need free = Some (record { need = need; free = free })
@@ -99,18 +111,51 @@ some_room need free = Some (record { need = need; free = free })
 same_numbers : (need free need' free' : ℕ) → Some (Lacks need free) ≡ Some (Lacks need' free') → (need ≡ need') × (free ≡ free')
 same_numbers need free need' free' is = (cc, cc)
 
-lacks_room : (asks : Bool) (call : Call) (short : Option NoRoom) (ruling : Ruling) → without_room asks short ≡ Some ruling → (is_some short ≡ true → is_access call ≡ true) → Follows call short ruling
-lacks_room asks call None ruling is only = cc
-lacks_room true call (Some room) (Posts kind) is only = only refl
-lacks_room true call (Some room) (Lacks need free) is only = cc
-lacks_room false call (Some room) (Posts kind) is only = cc
-lacks_room false call (Some room) (Lacks need free) is only = let same = same_numbers room.need room.free need free is in λ i. some_room (same.0 i) (same.1 i)
+lacks_room : (other : Option Token) (asks : Bool) (call : Call) (short : Option NoRoom) (ruling : Ruling) → without_room asks short ≡ Some ruling → (is_some short ≡ true → is_access call ≡ true) → Follows other call short ruling
+lacks_room other asks call None ruling is only = cc
+lacks_room other true call (Some room) (Blocks t) is only = absurd cc
+lacks_room other false call (Some room) (Blocks t) is only = absurd cc
+lacks_room other true call (Some room) (Posts kind) is only = only refl
+lacks_room other true call (Some room) (Lacks need free) is only = cc
+lacks_room other false call (Some room) (Posts kind) is only = cc
+lacks_room other false call (Some room) (Lacks need free) is only = let same = same_numbers room.need room.free need free is in λ i. some_room (same.0 i) (same.1 i)
 
-first_follows : (x y : Verdict) (call : Call) (short : Option NoRoom) (ruling : Ruling) → first_refusal (x ∷ y ∷ []) ≡ Some ruling → ((r : Ruling) → x ≡ Some r → Follows call short r) → ((r : Ruling) → y ≡ Some r → Follows call short r)
-    → Follows call short ruling
-first_follows (Some r) y call short ruling is here there = here ruling is
-first_follows None (Some r) call short ruling is here there = there ruling is
-first_follows None None call short ruling is here there = cc
+first_follows : (w x y : Verdict) (other : Option Token) (call : Call) (short : Option NoRoom) (ruling : Ruling) → first_refusal (w ∷ x ∷ y ∷ []) ≡ Some ruling
+    → ((r : Ruling) → w ≡ Some r → Follows other call short r) → ((r : Ruling) → x ≡ Some r → Follows other call short r) → ((r : Ruling) → y ≡ Some r → Follows other call short r) → Follows other call short ruling
+first_follows (Some r) x y other call short ruling is first here there = first ruling is
+first_follows None (Some r) y other call short ruling is first here there = here ruling is
+first_follows None None (Some r) other call short ruling is first here there = there ruling is
+first_follows None None None other call short ruling is first here there = cc
+
+-- what needs no right isn't blocked
+and_never : (a b : Bool) → (a && b && false) ≡ false
+and_never true true = refl
+and_never true false = refl
+and_never false b = refl
+
+pub unhindered : (k : FileKey) (own : Token) (rights : Rights) → conflict k Null own rights ≡ None
+unhindered k own [] = refl
+unhindered k own (x ∷ xs) = rw (and_never (same_key x.0.key k) (not (same_token x.0.token own))) (unhindered k own xs)
+
+-- a right blocks only what waits for rights
+blocks_some : (need : Right) (call : Call) (k : FileKey) (rights : Rights) (t : Token) → need_of call ≡ need → conflict k need no_token rights ≡ Some t → can_block call ≡ true
+blocks_some need (Read name offset len) k rights t is held = refl
+blocks_some need (Write name offset bytes) k rights t is held = refl
+blocks_some need (Truncate name to) k rights t is held = refl
+blocks_some need (Remove name) k rights t is held = refl
+blocks_some Null call k rights t is held = absurd (let never : None ≡ Some t = sym (unhindered k no_token rights) ∙ held in cc)
+blocks_some Shared (Create name) k rights t is held = absurd cc
+blocks_some Shared (Stat name) k rights t is held = absurd cc
+blocks_some Shared Sync k rights t is held = absurd cc
+blocks_some Excl (Create name) k rights t is held = absurd cc
+blocks_some Excl (Stat name) k rights t is held = absurd cc
+blocks_some Excl Sync k rights t is held = absurd cc
+
+blocked_by : (other : Option Token) (call : Call) (short : Option NoRoom) (ruling : Ruling) → option_map Blocks other ≡ Some ruling → ((t : Token) → other ≡ Some t → can_block call ≡ true) → Follows other call short ruling
+blocked_by None call short ruling is may = absurd cc
+blocked_by (Some t) call short (Blocks u) is may = (may t refl, cc)
+blocked_by (Some t) call short (Posts kind) is may = absurd cc
+blocked_by (Some t) call short (Lacks need free) is may = absurd cc
 
 short_by : (b : Bool) (need free need' free' : ℕ) → nat_lt free need ≡ b → (if b then some_room need free else None) ≡ some_room need' free' → (need ≡ need') × (free ≡ free') × (free < need)
 short_by true need free need' free' is e = (ap (λ room. (room_or_none room).need) e, ap (λ room. (room_or_none room).free) e, grind (arith, nat_tests))
@@ -151,40 +196,47 @@ module _ (s : Superblock) (st : State) (W : World) (stands : StandsFor st W) whe
   done_stands c fl k (Stat name) = record { files = stands.files; newer = stands.newer; ledger = same_left c (Means k (Stat name)) (done_reply st.held k (Stat name)) }
   done_stands c fl k Sync = record { files = stands.files; newer = stands.newer; ledger = same_left c (Means k Sync) Done }
 
-  -- what rules 4 and 6 say
-  rules_follow : (fl : Flags) (k : FileKey) (call : Call) (ruling : Ruling) → verdict s st fl k call ≡ Some ruling → Follows call (shortage s st.held k call) ruling
+  -- what rules 3, 4 and 6 say
+  rules_follow : (fl : Flags) (k : FileKey) (call : Call) (ruling : Ruling) → verdict s st fl k call ≡ Some ruling → Follows (conflict k (need_of call) no_token st.rights) call (shortage s st.held k call) ruling
   rules_follow fl k call ruling is =
       let facts : Facts = facts_of s st.held k call in
       let size : ℕ = length (bytes_of k st.held.files) in
       let need : ℕ = length (touched (effect_of call) size) in
       let free : ℕ = s.geometry.blocks - used st.held.files in
-      first_follows (touching fl facts call) (lacking fl facts st.sessions) call facts.short ruling is
-      (λ r at. asks_access (not fl.cleared && facts.touches) call r at facts.short)
-      (λ r at. lacks_room (not fl.spaced && is_taken kind.NoSpace st.sessions) call facts.short r at
+      let other : Option Token = conflict k (need_of call) no_token st.rights in
+      first_follows (conflicting st.rights k call) (touching fl facts call) (lacking fl facts st.sessions) other call facts.short ruling is
+      (λ r at. blocked_by other call facts.short r at (λ t held. blocks_some (need_of call) call k st.rights t refl held))
+      (λ r at. asks_access other (not fl.cleared && facts.touches) call r at facts.short)
+      (λ r at. lacks_room other (not fl.spaced && is_taken kind.NoSpace st.sessions) call facts.short r at
       (λ some. wanting call (wants call size free (some_short (nat_lt free need) need free refl some))))
 
   verdict_step : (c : ℕ) (fl : Flags) (k : FileKey) (call : Call) (v : Verdict) → verdict s st fl k call ≡ v
-      → IsOutcome W k call (reply_by st k call v) × StandsFor (left_by_verdict s st c fl k call v) (replied W c (Means k call) (reply_by st k call v))
-  verdict_step c fl k call None is = (outcome k call, done_stands c fl k call)
+      → (InOrder st → IsOutcome W k call (reply_by st k call v)) × StandsFor (left_by_verdict s st c fl k call v) (replied W c (Means k call) (reply_by st k call v))
+  verdict_step c fl k call None is = ((λ ordered. outcome k call), done_stands c fl k call)
+  verdict_step c fl k call (Some (Blocks t)) is =
+      let held = rules_follow fl k call (Blocks t) is in (
+        (λ ordered. (held.0, ap (λ (L : Ledger). L.open t.0) (sym stands.ledger) ∙ conflict-held (λ h. st.ledger.open h.token.0 ≡ true) k (need_of call) no_token t st.rights ordered.held held.1)),
+        record { files = stands.files; newer = stands.newer; ledger = same_left c (Means k call) (Blocked t) },
+      )
   verdict_step c fl k call (Some (Posts kind)) is = (
-    (rules_follow fl k call (Posts kind) is, ap next_token stands.ledger),
+    (λ ordered. (rules_follow fl k call (Posts kind) is, ap next_token stands.ledger)),
     record { files = stands.files; newer = stands.newer; ledger = same_left c (Means k call) (Parked (next_token st.ledger)) },
   )
   verdict_step c fl k call (Some (Lacks need free)) is =
       let size : ℕ = length (bytes_of k st.held.files) in
       let short = short_by (nat_lt (s.geometry.blocks - used st.held.files) (length (touched (effect_of call) size))) (length (touched (effect_of call) size)) (s.geometry.blocks - used st.held.files) need free refl (rules_follow fl k call (Lacks need free) is) in (
-        (wants call size (s.geometry.blocks - used st.held.files) short.2, rw (← short.0, ← short.1) short.2),
+        (λ ordered. (wants call size (s.geometry.blocks - used st.held.files) short.2, rw (← short.0, ← short.1) short.2)),
         record { files = stands.files; newer = stands.newer; ledger = same_left c (Means k call) (Refused (NoSpace need free)) },
       )
 
   where_step : (c : ℕ) (fl : Flags) (why : Option CallRefusal) (m : Meant) → Says m
-      → MayReply W why m (reply_where s st fl why m) × StandsFor (state_where s st c fl why m) (replied W c m (reply_where s st fl why m))
-  where_step c fl why (Fixed (Refused Waiting)) says = (refl, record { files = stands.files; newer = stands.newer; ledger = same_left c (Fixed (Refused Waiting)) (Refused Waiting) })
-  where_step c fl why (Fixed (Refused Idle)) says = (refl, record { files = stands.files; newer = stands.newer; ledger = same_left c (Fixed (Refused Idle)) (Refused Idle) })
-  where_step c fl why (Fixed (Still t)) says = (refl, record { files = stands.files; newer = stands.newer; ledger = same_left c (Fixed (Still t)) (Still t) })
+      → (InOrder st → MayReply W why m (reply_where s st fl why m)) × StandsFor (state_where s st c fl why m) (replied W c m (reply_where s st fl why m))
+  where_step c fl why (Fixed (Refused Waiting)) says = ((λ ordered. refl), record { files = stands.files; newer = stands.newer; ledger = same_left c (Fixed (Refused Waiting)) (Refused Waiting) })
+  where_step c fl why (Fixed (Refused Idle)) says = ((λ ordered. refl), record { files = stands.files; newer = stands.newer; ledger = same_left c (Fixed (Refused Idle)) (Refused Idle) })
+  where_step c fl why (Fixed (Still t)) says = ((λ ordered. refl), record { files = stands.files; newer = stands.newer; ledger = same_left c (Fixed (Still t)) (Still t) })
   where_step c fl why (Fixed reply) says = absurd says
   where_step c fl None (Means k call) says = verdict_step c fl k call (verdict s st fl k call) refl
-  where_step c fl (Some why) (Means k call) says = (refl, record { files = stands.files; newer = stands.newer; ledger = same_left c (Means k call) (Refused why) })
+  where_step c fl (Some why) (Means k call) says = ((λ ordered. refl), record { files = stands.files; newer = stands.newer; ledger = same_left c (Means k call) (Refused why) })
 
   pub same_meant : (c : ℕ) (what : Action) → meant_in st c what ≡ meant_for W c what
   same_meant c what i = meant (names i) ((stands.ledger i).pending c) what
@@ -192,11 +244,11 @@ module _ (s : Superblock) (st : State) (W : World) (stands : StandsFor st W) whe
   same_objection : (c : ℕ) (what : Action) → objection_in s st c what ≡ objection_for s W c what
   same_objection c what i = objection s (names i) ((stands.ledger i).pending c) what
 
-  call_step : (c : ℕ) (what : Action) → MayReply W (objection_for s W c what) (meant_for W c what) (reply_to s st c what) × StandsFor (state_after s st c what) (replied W c (meant_for W c what) (reply_to s st c what))
+  call_step : (c : ℕ) (what : Action) → (InOrder st → MayReply W (objection_for s W c what) (meant_for W c what) (reply_to s st c what)) × StandsFor (state_after s st c what) (replied W c (meant_for W c what) (reply_to s st c what))
   call_step c what =
       let step = where_step c (flags_now st c what) (objection_in s st c what) (meant_in st c what) (meant_says (names_of st.held.files) (st.ledger.pending c) what) in (
-        subst (λ (m : Meant). MayReply W (objection_for s W c what) m (reply_to s st c what)) (same_meant c what)
-            (subst (λ (why : Option CallRefusal). MayReply W why (meant_in st c what) (reply_to s st c what)) (same_objection c what) step.0),
+        subst (λ (m : Meant). InOrder st → MayReply W (objection_for s W c what) m (reply_to s st c what)) (same_meant c what)
+            (subst (λ (why : Option CallRefusal). InOrder st → MayReply W why (meant_in st c what) (reply_to s st c what)) (same_objection c what) step.0),
         subst (λ (m : Meant). StandsFor (state_after s st c what) (replied W c m (reply_to s st c what))) (same_meant c what) step.1,
       )
 
@@ -221,10 +273,10 @@ module _ (s : Superblock) (st : State) (W : World) (stands : StandsFor st W) (si
       )
   told_step (CreateUserEvent body) ordered none = ap next_token stands.ledger
   told_step (GetFileAttr token handle) ordered none =
-      let past_session = none_first (dead_session sid st.sessions) (bad_given_token sid token st.sessions ∷ bad_handle s st.held.files handle ∷ no_right token Shared ∷ None ∷ []) none in
-      let past_token = none_first (bad_given_token sid token st.sessions) (bad_handle s st.held.files handle ∷ no_right token Shared ∷ None ∷ []) past_session.1 in
-      let past_handle = none_first (bad_handle s st.held.files handle) (no_right token Shared ∷ None ∷ []) past_token.1 in
-      let live = right_of (handle.fsid == s.fsid) _ (passes (is_live s st.held.files handle) NoObject past_handle.0) in
+      let past_session = none_first (dead_session sid st.sessions) (bad_given_token sid token st.sessions ∷ bad_handle s st.held.files handle ∷ bad_right token handle.key Shared st.rights ∷ None ∷ []) none in
+      let past_token = none_first (bad_given_token sid token st.sessions) (bad_handle s st.held.files handle ∷ bad_right token handle.key Shared st.rights ∷ None ∷ []) past_session.1 in
+      let past_handle = none_first (bad_handle s st.held.files handle) (bad_right token handle.key Shared st.rights ∷ None ∷ []) past_token.1 in
+      let live = second_holds (handle.fsid == s.fsid) _ (passes (is_live s st.held.files handle) NoObject past_handle.0) in
       (sym (found_stands handle.key st.held.files W.files stands.files) ∙ live, (file_stands handle.key st.held.files W.files stands.files).size)
   told_step (PathToHandle name) ordered none =
       let own : Option DmRefusal = no_such_name (named name (names_of st.held.files)) in
@@ -241,11 +293,15 @@ module _ (s : Superblock) (st : State) (W : World) (stands : StandsFor st W) (si
   changed_files Nothing = stands.files
   changed_files (OfFile k effect) = affected_stands effect k st.held.files W.files stands.files
   changed_files (OfSessions to) = stands.files
+  changed_files (OfRights to) = stands.files
+  changed_files (Closes owner token) = stands.files
 
   changed_next : (change : Change) → (changed change st).held.next ≡ st.held.next
   changed_next Nothing = refl
   changed_next (OfFile k effect) = refl
   changed_next (OfSessions to) = refl
+  changed_next (OfRights to) = refl
+  changed_next (Closes owner token) = refl
 
   -- it isn't told a refusal
   files_done : (call : DmCall) → changed_plain (change_of sid call) W.files ≡ files_told W.files sid call (service s st sid call).reply
@@ -267,8 +323,8 @@ module _ (s : Superblock) (st : State) (W : World) (stands : StandsFor st W) (si
 -- ---- any event
 
 own_may : (s : Superblock) (st : State) (W : World) (who : Actor) (what : Action) (answer : Answer) → StandsFor st W → InOrder st → IsOwn s st who what answer → MayAnswer s W who what answer
-own_may s st W (Caller c) (Issue call) answer stands ordered is = rw is.1 (call_step s st W stands c (Issue call)).0
-own_may s st W (Caller c) Resume answer stands ordered is = rw is.1 (call_step s st W stands c Resume).0
+own_may s st W (Caller c) (Issue call) answer stands ordered is = rw is.1 ((call_step s st W stands c (Issue call)).0 ordered)
+own_may s st W (Caller c) Resume answer stands ordered is = rw is.1 ((call_step s st W stands c Resume).0 ordered)
 own_may s st W (Session sid) (Dm call) answer stands ordered is = rw is.1 (may_tell s st W stands sid call (dm_judged s st sid call) ordered refl)
 own_may s st W Store Commit answer stands ordered is = rw is.1 refl
 own_may s st W who what answer stands ordered is = absurd is.0

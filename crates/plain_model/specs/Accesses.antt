@@ -5,6 +5,8 @@ use Rattle.hsm_types.specs.declared.calls.Call.{Call}
 use Rattle.hsm_types.specs.declared.calls.Call.TheVariants.{Read, Write, Truncate, Remove}
 use Rattle.hsm_types.specs.declared.dm.Kind.{Kind}
 use Rattle.hsm_types.specs.declared.dm.Kind.TheVariants as kind
+use Rattle.hsm_types.specs.declared.dm.Right.{Right}
+use Rattle.hsm_types.specs.declared.dm.Right.TheVariants.{Null, Shared, Excl}
 use Rattle.hsm_types.specs.declared.keys.Handle.{Handle}
 use Rattle.hsm_types.specs.declared.keys.Token.{Token}
 use Rattle.hsm_types.specs.declared.messages.Message.{Message}
@@ -23,6 +25,14 @@ is_access call = false
 abbrev pub can_block : Call → Bool
 can_block (Remove name) = true
 can_block call = is_access call
+
+-- the right that it needs on its file: no token may hold one that excludes it
+abbrev pub need_of : Call → Right
+need_of (Read name offset len) = Shared
+need_of (Write name offset bytes) = Excl
+need_of (Truncate name size) = Excl
+need_of (Remove name) = Excl
+need_of call = Null
 
 -- only these calls want space
 abbrev pub wants_space : Call → Bool

@@ -1,7 +1,8 @@
 -- What an event does to one file, of callers and sessions alike. What becomes of files, and of what stands beside them, goes by the effect of a
 -- completed event, and not by its call.
 use Rattle.std.specs.Prelude.{ℕ, List}
-use Rattle.hsm_types.specs.Sessions.{SessionTable, with_session, without_session, with_kinds, delivered_within, responded, user_event, sent}
+use Rattle.hsm_types.specs.Rights.{Rights, with_right, requested, without_right}
+use Rattle.hsm_types.specs.Sessions.{SessionTable, with_session, without_session, with_kinds, delivered_within, user_event, sent}
 use Rattle.hsm_types.specs.declared.attributes.AttrName.{AttrName}
 use Rattle.hsm_types.specs.declared.regions.Region.{Region}
 use Rattle.hsm_types.specs.declared.keys.FileKey.{FileKey}
@@ -9,8 +10,9 @@ use Rattle.hsm_types.specs.declared.keys.Sid.{Sid}
 use Rattle.hsm_types.specs.declared.keys.Token.{Token}
 use Rattle.hsm_types.specs.declared.calls.Call.{Call}
 use Rattle.hsm_types.specs.declared.calls.Call.TheVariants.{Create, Read, Write, Truncate, Remove, Stat, Sync}
+use Rattle.hsm_types.specs.declared.dm.Right.TheVariants.{Shared, Excl}
 use Rattle.hsm_types.specs.declared.dm.DmCall.{DmCall}
-use Rattle.hsm_types.specs.declared.dm.DmCall.TheVariants.{CreateSession, DestroySession, GetAllSessions, QuerySession, SetDisp, GetDisp, GetEvents, GetAllTokens, FindEventMsg, Respond, CreateUserEvent, SendMsg, GetFileAttr, SetRegion, GetRegion, SetDmAttr, GetDmAttr, RemoveDmAttr, GetAllDmAttr, PathToHandle, GetSpace}
+use Rattle.hsm_types.specs.declared.dm.DmCall.TheVariants.{CreateSession, DestroySession, GetAllSessions, QuerySession, SetDisp, GetDisp, GetEvents, GetAllTokens, FindEventMsg, Respond, CreateUserEvent, SendMsg, RequestRight, ReleaseRight, QueryRight, UpgradeRight, DowngradeRight, GetFileAttr, SetRegion, GetRegion, SetDmAttr, GetDmAttr, RemoveDmAttr, GetAllDmAttr, PathToHandle, GetSpace}
 
 pub data Effect : Type 0 where
   Leaves : Effect
@@ -38,11 +40,14 @@ effect_of (Remove name) = Drops
 effect_of (Stat name) = Leaves
 effect_of Sync = Leaves
 
--- what a call changes that is done: nothing, one file, or the sessions, for which there is a token that was never given
+-- what a call changes that is done: nothing, one file, the sessions, for which there is a token that was never given, or what tokens hold
 pub data Change : Type 0 where
   Nothing : Change
   OfFile : FileKey → Effect → Change
   OfSessions : (Token → SessionTable → SessionTable) → Change
+  OfRights : (Rights → Rights) → Change
+  -- a token of that session is over, with all its rights
+  Closes : Sid → Token → Change
 
 -- of a call of that session
 abbrev pub change_of : Sid → DmCall → Change
@@ -55,9 +60,14 @@ change_of sid GetDisp = Nothing
 change_of sid (GetEvents max room) = OfSessions (λ new. delivered_within sid max room)
 change_of sid GetAllTokens = Nothing
 change_of sid (FindEventMsg token room) = Nothing
-change_of sid (Respond token response) = OfSessions (λ new. responded sid token)
+change_of sid (Respond token response) = Closes sid token
 change_of sid (CreateUserEvent body) = OfSessions (λ new. user_event sid new body)
 change_of sid (SendMsg target body) = OfSessions (λ new. sent target body)
+change_of sid (RequestRight token handle right) = OfRights (requested token handle.key right)
+change_of sid (ReleaseRight token handle) = OfRights (without_right token handle.key)
+change_of sid (QueryRight token handle) = Nothing
+change_of sid (UpgradeRight token handle) = OfRights (with_right token handle.key Excl)
+change_of sid (DowngradeRight token handle) = OfRights (with_right token handle.key Shared)
 change_of sid (GetFileAttr token handle) = Nothing
 change_of sid (SetRegion token handle regions) = OfFile handle.key (Manages regions)
 change_of sid (GetRegion token handle) = Nothing

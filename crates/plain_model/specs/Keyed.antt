@@ -1,9 +1,7 @@
 -- Lists of files in the order of their inodes, whatever is kept of each file, and values by number.
-use Rattle.std.specs.Prelude.{ℕ, List, [], ◌∷◌, Bool, ◌==◌, ◌&&◌, nat_lt, if◌then◌else◌, Option, Some, None}
+use Rattle.std.specs.Prelude.{ℕ, List, [], ◌∷◌, ◌==◌, nat_lt, if◌then◌else◌, Option, Some, None}
+pub use Rattle.hsm_types.specs.Handles.{same_key}
 use Rattle.hsm_types.specs.declared.keys.FileKey.{FileKey}
-
-abbrev pub same_key : FileKey → FileKey → Bool
-same_key j k = (j.ino == k.ino) && (j.igen == k.igen)
 
 -- the file with that key, if there is one
 abbrev pub find_key : {F : Type 0} → (F → FileKey) → FileKey → List F → Option F

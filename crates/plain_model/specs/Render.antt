@@ -110,6 +110,7 @@ part_word word (part.Regions regions) = regions_word regions
 part_word word (part.Name name) = name_word name
 part_word word (part.Kinds kinds) = kinds_word kinds
 part_word word (part.Response response) = response_word response
+part_word word (part.Right right) = right_word right
 part_word word (part.Data bytes) = word bytes
 
 -- a verb, and the parts behind it
@@ -158,6 +159,7 @@ dm_refusal_words why.NoToken = codes "NoToken" ∷ []
 dm_refusal_words (why.NotYours owner) = codes "NotYours" ∷ decimal owner.0 ∷ []
 dm_refusal_words why.NoObject = codes "NoObject" ∷ []
 dm_refusal_words (why.NeedRight have) = codes "NeedRight" ∷ right_word have ∷ []
+dm_refusal_words (why.Busy token) = codes "Busy" ∷ decimal token.0 ∷ []
 dm_refusal_words (why.EventsLeft count) = codes "EventsLeft" ∷ decimal count ∷ []
 dm_refusal_words why.Again = codes "Again" ∷ []
 dm_refusal_words (why.TooSmall need) = codes "TooSmall" ∷ decimal need ∷ []
@@ -179,6 +181,7 @@ dm_reply_words (told.Kinds kinds) = codes "disp" ∷ kinds_word kinds ∷ []
 dm_reply_words (told.Packed bytes tokens) = codes "packed" ∷ decimal (length bytes) ∷ listed (map (λ token. decimal token.0) tokens)
 dm_reply_words (told.Tokens tokens) = codes "tokens" ∷ listed (map (λ token. decimal token.0) tokens)
 dm_reply_words (told.Token token) = codes "token" ∷ decimal token.0 ∷ []
+dm_reply_words (told.Right right) = codes "right" ∷ right_word right ∷ []
 dm_reply_words (told.Attr size stamp blocks) = codes "attr" ∷ decimal size ∷ decimal stamp ∷ decimal blocks ∷ []
 dm_reply_words (told.Data bytes) = data_text bytes ∷ []
 dm_reply_words (told.Regions regions) = codes "regions" ∷ regions_word regions ∷ []

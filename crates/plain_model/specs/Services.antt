@@ -8,21 +8,21 @@ use Rattle.hsm_types.specs.Sessions.{SessionTable, info_of, kinds_of, queue_of, 
 use Rattle.hsm_types.specs.Attributes.{value_of, bytes_of_attributes, setting_refusal, no_attribute, removal_refusal}
 use Rattle.hsm_types.specs.Regions.{regions_refusal}
 use Rattle.hsm_types.specs.Kept.{Kept}
+use Rattle.hsm_types.specs.Rights.{right_of, conflict, busy, too_low, bad_right}
 use Rattle.hsm_types.specs.declared.keys.FileKey.{FileKey}
 use Rattle.hsm_types.specs.declared.keys.Handle.{Handle}
 use Rattle.hsm_types.specs.declared.keys.Sid.{Sid}
 use Rattle.hsm_types.specs.declared.keys.Token.{Token}
 use Rattle.hsm_types.specs.declared.stores.Superblock.{Superblock}
-use Rattle.hsm_types.specs.declared.dm.Right.{Right}
-use Rattle.hsm_types.specs.declared.dm.Right.TheVariants.{Null}
+use Rattle.hsm_types.specs.declared.dm.Right.TheVariants.{Excl}
 use Rattle.hsm_types.specs.declared.dm.Scope.{Scope}
-use Rattle.hsm_types.specs.declared.dm.Scope.TheVariants.{Anyone, InSession, OnToken, OnFile}
+use Rattle.hsm_types.specs.declared.dm.Scope.TheVariants.{Anyone, InSession, OnToken, OnFile, OnRight}
 use Rattle.hsm_types.specs.declared.dm.DmCall.{DmCall}
-use Rattle.hsm_types.specs.declared.dm.DmCall.TheVariants.{CreateSession, DestroySession, GetAllSessions, QuerySession, SetDisp, GetDisp, GetEvents, GetAllTokens, FindEventMsg, Respond, CreateUserEvent, SendMsg, GetFileAttr, SetRegion, GetRegion, SetDmAttr, GetDmAttr, RemoveDmAttr, GetAllDmAttr, PathToHandle, GetSpace}
+use Rattle.hsm_types.specs.declared.dm.DmCall.TheVariants.{CreateSession, DestroySession, GetAllSessions, QuerySession, SetDisp, GetDisp, GetEvents, GetAllTokens, FindEventMsg, Respond, CreateUserEvent, SendMsg, RequestRight, ReleaseRight, QueryRight, UpgradeRight, DowngradeRight, GetFileAttr, SetRegion, GetRegion, SetDmAttr, GetDmAttr, RemoveDmAttr, GetAllDmAttr, PathToHandle, GetSpace}
 use Rattle.hsm_types.specs.declared.dm.DmReply.{DmReply}
 use Rattle.hsm_types.specs.declared.dm.DmReply.TheVariants as reply
 use Rattle.hsm_types.specs.declared.dm.DmRefusal.{DmRefusal}
-use Rattle.hsm_types.specs.declared.dm.DmRefusal.TheVariants.{NoToken, NoObject, NeedRight}
+use Rattle.hsm_types.specs.declared.dm.DmRefusal.TheVariants.{NoToken, NoObject}
 use Rattle.hsm_types.specs.declared.messages.Message.{Message}
 use Rattle.plain_model.specs.Keyed.{find_key}
 use Rattle.plain_model.specs.Ledger.{next_token, ledger_told}
@@ -47,17 +47,13 @@ is_live s files h = (h.fsid == s.fsid) && is_some (find_key (λ f. f.key) h.key 
 abbrev pub bad_handle : Superblock → List FileState → Handle → Option DmRefusal
 bad_handle s files h = if is_live s files h then None else Some NoObject
 
--- No token of today has a right on any file. 0 takes the right that it needs
-abbrev pub no_right : Token → Right → Option DmRefusal
-no_right token Null = None
-no_right token right = if token.0 == 0 then None else Some (NeedRight Null)
-
 -- in the order of judgement
 abbrev pub scope_refusals : Superblock → State → Sid → Scope → List (Option DmRefusal)
 scope_refusals s st sid Anyone = []
 scope_refusals s st sid InSession = dead_session sid st.sessions ∷ []
 scope_refusals s st sid (OnToken token) = dead_session sid st.sessions ∷ bad_own_token sid token st.sessions ∷ []
-scope_refusals s st sid (OnFile token handle right) = dead_session sid st.sessions ∷ bad_given_token sid token st.sessions ∷ bad_handle s st.held.files handle ∷ no_right token right ∷ []
+scope_refusals s st sid (OnFile token handle right) = dead_session sid st.sessions ∷ bad_given_token sid token st.sessions ∷ bad_handle s st.held.files handle ∷ bad_right token handle.key right st.rights ∷ []
+scope_refusals s st sid (OnRight token handle right) = dead_session sid st.sessions ∷ bad_own_token sid token st.sessions ∷ bad_handle s st.held.files handle ∷ too_low right (right_of token handle.key st.rights) ∷ []
 
 -- ---- what a call asks for by itself
 
@@ -107,6 +103,11 @@ service s st sid (FindEventMsg token room) = let found = message_or_none (outsta
 service s st sid (Respond token response) = record { refusal = bad_response response; reply = reply.Done }
 service s st sid (CreateUserEvent body) = record { refusal = event_refusal body st.sessions; reply = reply.Token (next_token st.ledger) }
 service s st sid (SendMsg target body) = record { refusal = sending_refusal target body st.sessions; reply = reply.Done }
+service s st sid (RequestRight token handle right) = record { refusal = busy (conflict handle.key right token st.rights); reply = reply.Done }
+service s st sid (ReleaseRight token handle) = record { refusal = None; reply = reply.Done }
+service s st sid (QueryRight token handle) = record { refusal = None; reply = reply.Right (right_of token handle.key st.rights) }
+service s st sid (UpgradeRight token handle) = record { refusal = busy (conflict handle.key Excl token st.rights); reply = reply.Done }
+service s st sid (DowngradeRight token handle) = record { refusal = None; reply = reply.Done }
 service s st sid (GetFileAttr token handle) = let f = file_at handle.key st.held.files in record { refusal = None; reply = reply.Attr (length f.body) (st.stamps handle.key) (used_by f) }
 service s st sid (SetRegion token handle regions) = record { refusal = regions_refusal regions; reply = reply.Done }
 service s st sid (GetRegion token handle) = record { refusal = None; reply = reply.Regions (kept_of handle.key st.held.files).regions }

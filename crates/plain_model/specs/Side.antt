@@ -16,7 +16,7 @@ use Rattle.plain_model.specs.declared.entries.Action.TheVariants.{Issue, Resume,
 use Rattle.plain_model.specs.declared.entries.Answer.{Answer}
 use Rattle.plain_model.specs.declared.entries.Answer.TheVariants.{Call as Replied, Dm as Told}
 use Rattle.plain_model.specs.Keyed.{change_key, put_key, drop_key}
-use Rattle.plain_model.specs.Effects.{Effect, Leaves, Makes, Drops, effect_of, Change, Nothing, OfFile, OfSessions, change_of}
+use Rattle.plain_model.specs.Effects.{Effect, Leaves, Makes, Drops, effect_of, Change, Nothing, OfFile, OfSessions, OfRights, Closes, change_of}
 use Rattle.plain_model.specs.Plain.{File, key_by, body_of}
 use Rattle.plain_model.specs.Ledger.{Meant, Fixed, Means, is_completion}
 use Rattle.plain_model.specs.Blocks.{remapped}
@@ -55,6 +55,8 @@ abbrev pub side_changed : Change → List File → List Side → List Side
 side_changed Nothing P X = X
 side_changed (OfFile k effect) P X = affected_side effect k P X
 side_changed (OfSessions to) P X = X
+side_changed (OfRights to) P X = X
+side_changed (Closes sid token) P X = X
 
 abbrev pub side_told : List File → Sid → DmCall → DmReply → List Side → List Side
 side_told P sid call (told.Refused why) X = X

@@ -1,5 +1,8 @@
 -- When what a store holds stands for a plain map, and when its tables agree.
-use Rattle.std.specs.Prelude.{ℕ, ◌≡◌, ◌<◌, ◌≤◌, List, [], ◌∷◌, length, get_or, false, if◌then◌else◌, Option, Some, None, is_none, IfSome}
+use Rattle.std.specs.Prelude.{ℕ, ◌≡◌, ◌<◌, ◌≤◌, List, [], ◌∷◌, length, get_or, true, false, if◌then◌else◌, Option, Some, None, is_none, IfSome}
+use Rattle.std.specs.List.{All}
+use Rattle.std.specs.Map.{keys_of}
+use Rattle.hsm_types.specs.Rights.{AreRights}
 use Rattle.hsm_types.specs.Sessions.{Ascend, places}
 use Rattle.hsm_types.specs.declared.dm.Response.{Response}
 use Rattle.hsm_types.specs.declared.keys.Token.{Token}
@@ -38,10 +41,13 @@ pub record StandsFor (st : State) (W : World) : Type 0 where
   pub ledger : st.ledger ≡ W.ledger
 
 -- The tables agree with the ledger: ids of sessions ascend; each open token stands at just one place, unrouted, in a queue or outstanding, and no other
--- stands anywhere; no token is open that was never given, nor is 0; and the token of an access that waits was given, and is open up to its response.
+-- stands anywhere; no token is open that was never given, nor is 0; the token of an access that waits was given, and is open up to its response; and
+-- rights are many or exclusive, of open tokens alone.
 pub record InOrder (st : State) : Type 0 where
   pub ascend : Ascend 0 st.sessions.given st.sessions.live
   pub once : (t : Token) → 0 < t.0 → places t st.sessions ≡ (if st.ledger.open t.0 then 1 else 0)
   pub given : (t : ℕ) → st.ledger.top < t → st.ledger.open t ≡ false
   pub none : st.ledger.open 0 ≡ false
   pub waits : (c : ℕ) → IfSome (st.ledger.pending c) (λ a. Awaits st.ledger a.token a.answer)
+  pub rights : AreRights st.rights
+  pub held : All (λ h. st.ledger.open h.token.0 ≡ true) (keys_of st.rights)

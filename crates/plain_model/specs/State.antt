@@ -2,10 +2,11 @@
 use Rattle.std.specs.Prelude.{ℕ, ◌+◌, List, [], length, map, sum_by, count_by, Bool, false, Option, Some, None}
 use Rattle.hsm_types.specs.Attributes.{with_value, without_value}
 use Rattle.hsm_types.specs.Kept.{Kept, nothing_kept}
-use Rattle.hsm_types.specs.Sessions.{SessionTable, no_sessions}
+use Rattle.hsm_types.specs.Rights.{Rights, released}
+use Rattle.hsm_types.specs.Sessions.{SessionTable, no_sessions, responded}
 use Rattle.hsm_types.specs.declared.keys.FileKey.{FileKey}
 use Rattle.plain_model.specs.Keyed.{find_key, change_key, put_key, drop_key}
-use Rattle.plain_model.specs.Effects.{Effect, Leaves, Makes, Drops, Manages, Attaches, Detaches, Change, Nothing, OfFile, OfSessions}
+use Rattle.plain_model.specs.Effects.{Effect, Leaves, Makes, Drops, Manages, Attaches, Detaches, Change, Nothing, OfFile, OfSessions, OfRights, Closes}
 use Rattle.plain_model.specs.Plain.{Listed, free_inode, rebody}
 use Rattle.plain_model.specs.Ledger.{Ledger, no_ledger, next_token}
 use Rattle.plain_model.specs.Blocks.{remapped}
@@ -97,13 +98,15 @@ pub record State : Type 0 where
   -- the number of the last entry
   pub number : ℕ
   pub sessions : SessionTable
+  -- what tokens hold
+  pub rights : Rights
   -- of each caller, beside its access that waits
   pub flags : ℕ → Flags
   pub ledger : Ledger
 
 -- a store that holds this and was just opened. Its entries are counted on from the number that was found
 abbrev pub just_opened : ℕ → Held → State
-just_opened base h = record { held = h; stamps = λ k. 0; number = base; sessions = no_sessions; flags = λ c. no_flags; ledger = no_ledger }
+just_opened base h = record { held = h; stamps = λ k. 0; number = base; sessions = no_sessions; rights = []; flags = λ c. no_flags; ledger = no_ledger }
 
 -- an entry more, which changes nothing else
 abbrev pub noted : State → State
@@ -114,3 +117,5 @@ abbrev pub changed : Change → State → State
 changed Nothing st = st
 changed (OfFile k effect) st = record st { held = record st.held { files = affected_held effect k st.held.files } }
 changed (OfSessions to) st = record st { sessions = to (next_token st.ledger) st.sessions }
+changed (OfRights to) st = record st { rights = to st.rights }
+changed (Closes sid token) st = record st { sessions = responded sid token st.sessions; rights = released token st.rights }

@@ -24,7 +24,7 @@ use Rattle.plain_model.specs.declared.entries.Action.TheVariants.{Issue, Resume,
 use Rattle.plain_model.specs.declared.entries.Answer.{Answer}
 use Rattle.plain_model.specs.declared.entries.Answer.TheVariants.{Call as Replied, Dm as Told}
 use Rattle.plain_model.specs.Keyed.{find_key}
-use Rattle.plain_model.specs.Effects.{Change, Nothing, OfFile, OfSessions, change_of}
+use Rattle.plain_model.specs.Effects.{Change, Nothing, OfFile, OfSessions, OfRights, Closes, change_of}
 use Rattle.plain_model.specs.Plain.{File, listing, named, key_or_none, body_of, free_inode, greatest, key_by, affected, act}
 use Rattle.plain_model.specs.Accesses.{is_access, can_block, wants_space}
 use Rattle.plain_model.specs.Ledger.{Meant, Fixed, Means, Ledger, no_ledger, next_token, meant, objection, is_completion, ledger_replied, ledger_told}
@@ -99,6 +99,8 @@ abbrev pub changed_plain : Change → List File → List File
 changed_plain Nothing P = P
 changed_plain (OfFile k effect) P = affected effect k P
 changed_plain (OfSessions to) P = P
+changed_plain (OfRights to) P = P
+changed_plain (Closes sid token) P = P
 
 abbrev pub files_told : List File → Sid → DmCall → DmReply → List File
 files_told P sid call (told.Refused why) = P

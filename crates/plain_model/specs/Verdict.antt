@@ -1,17 +1,20 @@
 -- What a store says to an access: rules of which the first that applies decides; where none does, the access is done.
-use Rattle.std.specs.Prelude.{ℕ, ◌+◌, ◌-◌, [], ◌∷◌, length, Bool, true, false, not, ◌&&◌, ◌||◌, nat_lt, if◌then◌else◌, Option, Some, None, is_some}
+use Rattle.std.specs.Prelude.{ℕ, ◌+◌, ◌-◌, List, [], ◌∷◌, length, map, Bool, true, false, not, ◌&&◌, ◌||◌, nat_lt, if◌then◌else◌, Option, Some, None, is_some}
 use Rattle.std.specs.Option.{option_map}
 use Rattle.hsm_types.specs.Refusals.{first_refusal}
+use Rattle.hsm_types.specs.Messages.{no_token}
 use Rattle.hsm_types.specs.Regions.{touches}
+use Rattle.hsm_types.specs.Rights.{Rights, conflict}
 use Rattle.hsm_types.specs.Sessions.{SessionTable, taker, posted}
 use Rattle.hsm_types.specs.declared.keys.FileKey.{FileKey}
+use Rattle.hsm_types.specs.declared.keys.Token.{Token}
 use Rattle.hsm_types.specs.declared.stores.Superblock.{Superblock}
 use Rattle.hsm_types.specs.declared.calls.Call.{Call}
 use Rattle.hsm_types.specs.declared.calls.Call.TheVariants.{Create}
 use Rattle.hsm_types.specs.declared.calls.CallRefusal.{CallRefusal}
 use Rattle.hsm_types.specs.declared.calls.CallRefusal.TheVariants.{NoSpace}
 use Rattle.hsm_types.specs.declared.calls.Reply.{Reply}
-use Rattle.hsm_types.specs.declared.calls.Reply.TheVariants.{Parked, Refused}
+use Rattle.hsm_types.specs.declared.calls.Reply.TheVariants.{Parked, Blocked, Refused}
 use Rattle.hsm_types.specs.declared.dm.Kind.{Kind}
 use Rattle.hsm_types.specs.declared.dm.Kind.TheVariants as kind
 use Rattle.hsm_types.specs.declared.dm.Response.{Response}
@@ -23,12 +26,14 @@ use Rattle.plain_model.specs.declared.facts.NoRoom.{NoRoom}
 use Rattle.plain_model.specs.Keyed.{same_key, find_key, set_at}
 use Rattle.plain_model.specs.Effects.{effect_of}
 use Rattle.plain_model.specs.Plain.{reply_on}
-use Rattle.plain_model.specs.Accesses.{is_access, kind_of, reach, told_span, event_message}
+use Rattle.plain_model.specs.Accesses.{is_access, need_of, kind_of, reach, told_span, event_message}
 use Rattle.plain_model.specs.Ledger.{Meant, Fixed, Means, next_token, meant, objection, aborted, gone, ledger_replied}
 use Rattle.plain_model.specs.Blocks.{touched}
 use Rattle.plain_model.specs.State.{FileState, Held, Flags, no_flags, State, names_of, next_key, file_at, bytes_of, used, affected_held, noted}
 
 pub data Ruling : Type 0 where
+  -- the right of that token excludes the access, which waits without a token
+  Blocks : Token → Ruling
   -- an event of that kind is posted, and the access parks on its token
   Posts : Kind → Ruling
   -- more blocks are needed than are free
@@ -70,6 +75,10 @@ abbrev pub posts : Bool → Option Kind → Verdict
 posts false kind = None
 posts true kind = option_map Posts kind
 
+-- 3: a token's right on the file excludes it, and the lowest such token blocks it
+abbrev pub conflicting : Rights → FileKey → Call → Verdict
+conflicting rights k call = option_map Blocks (conflict k (need_of call) no_token rights)
+
 -- 4: no event of it was continued yet, and it touches a region with its flag
 abbrev pub touching : Flags → Facts → Call → Verdict
 touching fl facts call = posts (not fl.cleared && facts.touches) (kind_of call)
@@ -83,12 +92,12 @@ without_room asks (Some room) = if asks then Some (Posts kind.NoSpace) else Some
 abbrev pub lacking : Flags → Facts → SessionTable → Verdict
 lacking fl facts t = without_room (not fl.spaced && is_taken kind.NoSpace t) facts.short
 
--- an access with these flags, of which that is known
-abbrev pub verdict_on : Flags → Facts → SessionTable → Call → Verdict
-verdict_on fl facts t call = first_refusal (touching fl facts call ∷ lacking fl facts t ∷ [])
+-- in the order of judgement, of an access with these flags to the file with that key, of which these facts are known
+abbrev pub rulings : Flags → Facts → Rights → SessionTable → FileKey → Call → List Verdict
+rulings fl facts rights t k call = conflicting rights k call ∷ touching fl facts call ∷ lacking fl facts t ∷ []
 
 abbrev pub verdict : Superblock → State → Flags → FileKey → Call → Verdict
-verdict s st fl k call = verdict_on fl (facts_of s st.held k call) st.sessions call
+verdict s st fl k call = first_refusal (rulings fl (facts_of s st.held k call) st.rights st.sessions k call)
 
 -- ---- the reply, and what is left
 
@@ -109,6 +118,7 @@ abbrev pub done_held : Held → FileKey → Call → Held
 done_held h k call = record { files = affected_held (effect_of call) (key_done h k call) h.files; next = next_done h.next call }
 
 abbrev pub reply_by : State → FileKey → Call → Verdict → Reply
+reply_by st k call (Some (Blocks t)) = Blocked t
 reply_by st k call (Some (Posts kind)) = Parked (next_token st.ledger)
 reply_by st k call (Some (Lacks need free)) = Refused (NoSpace need free)
 reply_by st k call None = done_reply st.held k call
@@ -140,6 +150,7 @@ is_no_space kind = false
 
 -- the flags beside what waits then
 abbrev pub flags_by : Flags → Verdict → Flags
+flags_by fl (Some (Blocks t)) = fl
 flags_by fl (Some (Posts kind)) = record { cleared = true; spaced = fl.spaced || is_no_space kind }
 flags_by fl v = no_flags
 
@@ -173,6 +184,7 @@ left_by_verdict s st c fl k call v = record {
   stamps = stamps_by (st.number + 1) k call v st.stamps;
   number = st.number + 1;
   sessions = sessions_by s st k call v;
+  rights = st.rights;
   flags = set_at c (flags_by fl v) st.flags;
   ledger = ledger_replied st.ledger c (Means k call) (reply_by st k call v);
 }
@@ -193,5 +205,5 @@ pub data Judgement : Type 0 where
   Rules : Ruling → Judgement
 
 -- the first that applies decides; where none does, the access is done
-abbrev pub judgement : Flags → Option Response → Facts → SessionTable → Call → Option Judgement
-judgement fl answer facts t call = first_refusal (option_map Ends (aborted answer) ∷ option_map Ends (gone facts.live) ∷ option_map Rules (touching fl facts call) ∷ option_map Rules (lacking fl facts t) ∷ [])
+abbrev pub judgement : Flags → Option Response → Facts → Rights → SessionTable → FileKey → Call → Option Judgement
+judgement fl answer facts rights t k call = first_refusal (option_map Ends (aborted answer) ∷ option_map Ends (gone facts.live) ∷ map (option_map Rules) (rulings fl facts rights t k call))

@@ -6,7 +6,7 @@ ghost use Rattle.plain_model.specs.Render.{spaced, part_word, form_words, actor_
 
 use crate::entries::{Action, Actor};
 use crate::pieces::{
-    push, push_handle, push_kinds, push_name, push_number, push_regions, push_response,
+    push, push_handle, push_kinds, push_name, push_number, push_regions, push_response, right_text,
 };
 use hsm_types::PartRef;
 use std::alloc::{AllocError, Global};
@@ -117,6 +117,7 @@ fn push_part<S: Spelling>(
         PartRef::Name(name) => push_name(alloc, out, name),
         PartRef::Kinds(kinds) => push_kinds(out, kinds),
         PartRef::Response(response) => push_response(alloc, out, response),
+        PartRef::Right(right) => push(out, right_text(right)),
         PartRef::Data(bytes) => spelling.push_data(alloc, out, bytes.as_slice()),
     }
 }

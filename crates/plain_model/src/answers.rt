@@ -2,7 +2,7 @@
 ghost use Rattle.std.specs.Prelude.{◌≡◌, ◌++◌, OnOk, ◌∷◌, [], codes, map, length};
 ghost use Rattle.std.specs.Fmt.{decimal};
 ghost use Rattle.std.specs.List.{flat_map};
-ghost use Rattle.plain_model.specs.Render.{spaced, listed, name_word, refusal_words, reply_words, dm_refusal_words, dm_reply_words, answer_words};
+ghost use Rattle.plain_model.specs.Render.{spaced, listed, name_word, right_word, refusal_words, reply_words, dm_refusal_words, dm_reply_words, answer_words};
 
 use crate::entries::Answer;
 use crate::pieces::{
@@ -11,7 +11,7 @@ use crate::pieces::{
 };
 use crate::transcript::push_data;
 use hsm_types::{
-    AttrName, Bytes, CallRefusal, DmRefusal, DmReply, Names, Reply, Sid, Sids, Token, Tokens,
+    AttrName, Bytes, CallRefusal, DmRefusal, DmReply, Names, Reply, Right, Sid, Sids, Token, Tokens,
 };
 use std::alloc::{AllocError, Global};
 
@@ -79,10 +79,7 @@ fn push_dm_reply(alloc: Global, out: &mut Vec<u8>, reply: &DmReply) -> Result<()
     match reply {
         DmReply::Done => push(out, b"done"),
         DmReply::Session(sid) => push_numbered(alloc, out, b"session", sid.0),
-        DmReply::Sids(sids) => {
-            push(out, b"sessions")?;
-            push_sids(alloc, out, sids)
-        }
+        DmReply::Sids(sids) => push_sessions(alloc, out, sids),
         DmReply::Info(info) => push_named(out, b"info ", info),
         DmReply::Kinds(kinds) => {
             push(out, b"disp ")?;
@@ -94,6 +91,7 @@ fn push_dm_reply(alloc: Global, out: &mut Vec<u8>, reply: &DmReply) -> Result<()
             push_tokens(alloc, out, tokens)
         }
         DmReply::Token(token) => push_numbered(alloc, out, b"token", token.0),
+        DmReply::Right(right) => push_right(out, *right),
         DmReply::Attr {
             size,
             stamp,
@@ -104,10 +102,7 @@ fn push_dm_reply(alloc: Global, out: &mut Vec<u8>, reply: &DmReply) -> Result<()
             push(out, b"regions ")?;
             push_regions(alloc, out, regions)
         }
-        DmReply::Names(names) => {
-            push(out, b"attrs")?;
-            push_names(alloc, out, names)
-        }
+        DmReply::Names(names) => push_attributes(alloc, out, names),
         DmReply::Handle(handle) => {
             push(out, b"handle ")?;
             push_handle(alloc, out, *handle)
@@ -118,6 +113,30 @@ fn push_dm_reply(alloc: Global, out: &mut Vec<u8>, reply: &DmReply) -> Result<()
             push_dm_refusal(alloc, out, *why)
         }
     }
+}
+
+/// The live sessions.
+fn push_sessions(alloc: Global, out: &mut Vec<u8>, sids: &Sids) -> Result<(), AllocError>
+    ensures { OnOk result (out.new.items ≡ out.old.items ++ spaced (codes "sessions" ∷ listed (map (λ sid. decimal sid.0) sids.now))) }
+{
+    push(out, b"sessions")?;
+    push_sids(alloc, out, sids)
+}
+
+/// The names of a file's attributes.
+fn push_attributes(alloc: Global, out: &mut Vec<u8>, names: &Names) -> Result<(), AllocError>
+    ensures { OnOk result (out.new.items ≡ out.old.items ++ spaced (codes "attrs" ∷ listed (map name_word names.now))) }
+{
+    push(out, b"attrs")?;
+    push_names(alloc, out, names)
+}
+
+/// What a token has on a file.
+fn push_right(out: &mut Vec<u8>, right: Right) -> Result<(), AllocError>
+    ensures { OnOk result (out.new.items ≡ out.old.items ++ spaced (codes "right" ∷ right_word right ∷ [])) }
+{
+    push(out, b"right ")?;
+    push(out, right_text(right))
 }
 
 /// The attributes of a file that the store itself keeps.
@@ -232,6 +251,7 @@ fn push_dm_refusal(alloc: Global, out: &mut Vec<u8>, why: DmRefusal) -> Result<(
             push(out, b"NeedRight ")?;
             push(out, right_text(have))
         }
+        DmRefusal::Busy { token } => push_numbered(alloc, out, b"Busy", token.0),
         DmRefusal::EventsLeft { count } => push_numbered(alloc, out, b"EventsLeft", count),
         DmRefusal::Again => push(out, b"Again"),
         DmRefusal::TooSmall { need } => push_numbered(alloc, out, b"TooSmall", need),

@@ -10,5 +10,6 @@ mod Parting
 mod Printed
 mod RegionParts
 mod ResponseParts
+mod RightParts
 mod Speaking
 mod Spelling

@@ -20,6 +20,7 @@ use Rattle.script_text.proofs.Cutting.{cut_same}
 use Rattle.script_text.proofs.KindParts.{kinds_at, spelled_kinds}
 use Rattle.script_text.proofs.Numerals.{digits_value-decimal}
 use Rattle.script_text.proofs.ResponseParts.{response_at, response_at-word, Lacks-response}
+use Rattle.script_text.proofs.RightParts.{right_at, right_at-word, visible_right}
 use Rattle.script_text.proofs.Spelling.{IsVisible, Lacks-visible, visible_word, visible_decimal, visible_handle, visible_regions, visible_name, visible_data, data_at, data_at-word, handle_at, handle_at-word, regions_at, regions_at-word, name_at, name_at-word}
 
 -- ---- parts of a kind
@@ -50,6 +51,7 @@ part_at kinds.Regions text = plain (part.Regions (regions_at text))
 part_at kinds.Name text = plain (part.Name (name_at text))
 part_at kinds.Kinds text = plain (part.Kinds (kinds_at text))
 part_at kinds.Response text = plain (part.Response (response_at text))
+part_at kinds.Right text = plain (part.Right (right_at text))
 part_at kinds.Data text = record { part = part.Data (data_at text).bytes; seed = (data_at text).seed }
 
 part_at-text : (seed : Option ℕ) (p : Part) → IsPart seed p → part_at (kind_of p) (part_word (data_word seed) p) ≡ record { part = p; seed = seed }
@@ -62,6 +64,7 @@ part_at-text seed (part.Regions regions) h = rw (regions_at-word regions h.0, h.
 part_at-text seed (part.Name name) h = rw (name_at-word name h.0, h.1) refl
 part_at-text seed (part.Kinds taken) h = rw ((spelled_kinds taken).back, h) refl
 part_at-text seed (part.Response response) h = rw (response_at-word response h.0, h.1) refl
+part_at-text seed (part.Right right) h = rw (right_at-word right h.0, h.1) refl
 part_at-text seed (part.Data bytes) h = rw (data_at-word seed bytes h) refl
 
 -- ---- its bytes are visible
@@ -77,6 +80,7 @@ visible_part seed (part.Regions regions) other h = visible_regions regions h.0
 visible_part seed (part.Name name) other h = visible_name name h.0
 visible_part seed (part.Kinds taken) other h = (spelled_kinds taken).visible
 visible_part seed (part.Response response) other h = absurd (other refl)
+visible_part seed (part.Right right) other h = visible_right right
 visible_part seed (part.Data bytes) other h = visible_data seed bytes h
 
 -- none is a newline

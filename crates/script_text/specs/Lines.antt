@@ -6,8 +6,10 @@ use Rattle.hex.specs.Hex.{encode_lower, IsBytes}
 use Rattle.hsm_types.specs.declared.attributes.AttrName.{AttrName}
 use Rattle.hsm_types.specs.declared.dm.Response.{Response}
 use Rattle.hsm_types.specs.declared.dm.Response.TheVariants.{Continue, Abort}
+use Rattle.hsm_types.specs.declared.dm.Right.{Right}
+use Rattle.hsm_types.specs.declared.dm.Right.TheVariants.{Null, Shared, Excl}
 use Rattle.hsm_types.specs.declared.dm.Scope.{Scope}
-use Rattle.hsm_types.specs.declared.dm.Scope.TheVariants.{Anyone, InSession, OnToken, OnFile}
+use Rattle.hsm_types.specs.declared.dm.Scope.TheVariants.{Anyone, InSession, OnToken, OnFile, OnRight}
 use Rattle.hsm_types.specs.declared.keys.Sid.{Sid}
 use Rattle.hsm_types.specs.declared.parts.Part.{Part}
 use Rattle.hsm_types.specs.declared.parts.Part.TheVariants as part
@@ -80,6 +82,12 @@ abbrev pub IsResponse : Response → Type 0
 IsResponse Continue = Unit {0}
 IsResponse (Abort error) = error < 2 ^ 32
 
+-- What a line asks for is a right, and null is none.
+abbrev pub IsAskedRight : Right → Type 0
+IsAskedRight Null = ⊥
+IsAskedRight Shared = Unit {0}
+IsAskedRight Excl = Unit {0}
+
 -- A lawful part. Only data have a seed.
 abbrev pub IsPart : Option ℕ → Part → Type 0
 IsPart seed (part.Number n) = (n < 2 ^ 64) × (seed ≡ None)
@@ -91,6 +99,7 @@ IsPart seed (part.Regions regions) = IsRegions regions × (seed ≡ None)
 IsPart seed (part.Name name) = IsAttrName name × (seed ≡ None)
 IsPart seed (part.Kinds taken) = seed ≡ None
 IsPart seed (part.Response response) = IsResponse response × (seed ≡ None)
+IsPart seed (part.Right right) = IsAskedRight right × (seed ≡ None)
 IsPart seed (part.Data bytes) = IsData seed bytes
 
 -- lawful parts. Only the last one may have the seed
@@ -105,6 +114,7 @@ IsAskedBy sid Anyone = sid.0 ≡ 0
 IsAskedBy sid InSession = Unit {0}
 IsAskedBy sid (OnToken token) = Unit {0}
 IsAskedBy sid (OnFile token handle right) = Unit {0}
+IsAskedBy sid (OnRight token handle right) = Unit {0}
 
 -- callers issue calls and resume, sessions ask, and the store commits
 abbrev pub IsEvent : Actor → Action → Option ℕ → Type 0

@@ -82,6 +82,7 @@ fn may_ask(sid: Sid, call: &DmCall) -> bool
 {
     match call.scope() {
         Scope::Anyone => sid.0 == 0,
-        Scope::InSession | Scope::OnToken { .. } | Scope::OnFile { .. } => true,
+        Scope::InSession | Scope::OnToken { .. } | Scope::OnFile { .. } | Scope::OnRight { .. } =>
+            true,
     }
 }

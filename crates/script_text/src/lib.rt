@@ -15,6 +15,7 @@ mod printing;
 mod regions;
 mod requests;
 mod responses;
+mod rights;
 mod streams;
 mod words;
 

@@ -1,15 +1,17 @@
 //! The parts of a call, read by the kinds that its verb has.
 ghost use Rattle.std.specs.Prelude.{◌≡◌, ◌<◌, ◌∷◌, [], length, true, IfOk};
 ghost use Rattle.std.specs.Option.{option_map};
+ghost use Rattle.hsm_types.specs.declared.parts.PartKind.TheVariants as kinds;
 ghost use Rattle.script_text.specs.Reading.{Reads, read_text, IsOfKind, parts_text, AreOfKinds, ReadsParts, is_signature};
 
 use crate::attributes::attr_name;
-use crate::bodies::body_of;
+use crate::bodies::{Body, body_of};
 use crate::handles::handle_of;
 use crate::kinds::kinds_of;
 use crate::regions::regions_of;
 use crate::responses::response_of;
-use crate::words::{count, cut, is_word, number, word};
+use crate::rights::right_of;
+use crate::words::{count, cut, number, word};
 use hsm_types::{Part, PartKind, Parts};
 use std::alloc::{AllocError, Global};
 
@@ -38,53 +40,29 @@ fn part_of(alloc: Global, kind: PartKind, text: &[u8]) -> Result<Option<ReadPart
     ensures { IfOk result (λ read. Reads read_text (IsOfKind kind) text.now read) }
 {
     match kind {
-        PartKind::Number => match number(text) {
-            Some(n) => Ok(Some(unseeded(Part::Number(n)))),
-            None => Ok(None),
-        },
-        PartKind::Count => match count(text) {
-            Some(n) => Ok(Some(unseeded(Part::Count(n)))),
-            None => Ok(None),
-        },
-        PartKind::Fetch => match number(text) {
-            Some(len) => Ok(Some(unseeded(Part::Fetch(len)))),
-            None => Ok(None),
-        },
-        PartKind::Word => {
-            if !is_word(text) {
-                return Ok(None);
-            }
-            let word = word(alloc, text)?;
-            Ok(Some(unseeded(Part::Word(word))))
-        }
-        PartKind::Handle => match handle_of(text) {
-            Some(handle) => Ok(Some(unseeded(Part::Handle(handle)))),
-            None => Ok(None),
-        },
-        PartKind::Regions => match regions_of(alloc, text)? {
-            Some(regions) => Ok(Some(unseeded(Part::Regions(regions)))),
-            None => Ok(None),
-        },
-        PartKind::Name => match attr_name(text) {
-            Some(name) => Ok(Some(unseeded(Part::Name(name)))),
-            None => Ok(None),
-        },
-        PartKind::Kinds => match kinds_of(text) {
-            Some(kinds) => Ok(Some(unseeded(Part::Kinds(kinds)))),
-            None => Ok(None),
-        },
-        PartKind::Response => match response_of(text) {
-            Some(response) => Ok(Some(unseeded(Part::Response(response)))),
-            None => Ok(None),
-        },
-        PartKind::Data => match body_of(alloc, text)? {
-            Some(body) => Ok(Some(ReadPart {
-                part: Part::Data(body.bytes),
-                seed: body.seed,
-            })),
-            None => Ok(None),
-        },
+        PartKind::Number => Ok(number(text).map(Part::Number).map(unseeded)),
+        PartKind::Count => Ok(count(text).map(Part::Count).map(unseeded)),
+        PartKind::Fetch => Ok(number(text).map(Part::Fetch).map(unseeded)),
+        PartKind::Word => Ok(word(alloc, text)?.map(Part::Word).map(unseeded)),
+        PartKind::Handle => Ok(handle_of(text).map(Part::Handle).map(unseeded)),
+        PartKind::Regions => Ok(regions_of(alloc, text)?.map(Part::Regions).map(unseeded)),
+        PartKind::Name => Ok(attr_name(text).map(Part::Name).map(unseeded)),
+        PartKind::Kinds => Ok(kinds_of(text).map(Part::Kinds).map(unseeded)),
+        PartKind::Response => Ok(response_of(text).map(Part::Response).map(unseeded)),
+        PartKind::Right => Ok(right_of(text).map(Part::Right).map(unseeded)),
+        PartKind::Data => data_of(alloc, text),
     }
+}
+
+/// The data that a text is, as a part.
+fn data_of(alloc: Global, text: &[u8]) -> Result<Option<ReadPart>, AllocError>
+    ensures { IfOk result (λ read. Reads read_text (IsOfKind kinds.Data) text.now read) }
+{
+    let Some(Body { bytes, seed }) = body_of(alloc, text)? else {
+        return Ok(None);
+    };
+    let part = Part::Data(bytes);
+    Ok(Some(ReadPart { part, seed }))
 }
 
 /// The parts of those kinds that stand behind a verb.

@@ -171,7 +171,7 @@ pub fn session(word: &[u8]) -> Option<Sid>
 }
 
 /// Whether a word is one or more visible ASCII bytes.
-pub fn is_word(word: &[u8]) -> bool
+fn is_word(word: &[u8]) -> bool
     ensures { result ≡ is_word word.now }
 {
     let visible = are_visible(word);
@@ -184,9 +184,13 @@ fn are_visible(word: &[u8]) -> bool
     word.iter().all(|b| 0x21 <= *b && *b <= 0x7e)
 }
 
-/// A word of its own.
-pub fn word(alloc: Global, bytes: &[u8]) -> Result<Word, AllocError>
-    ensures { IfOk result (λ word. word ≡ bytes.now) }
+/// The word that bytes are, in memory of its own.
+pub fn word(alloc: Global, bytes: &[u8]) -> Result<Option<Word>, AllocError>
+    ensures { IfOk result (λ read. Reads (λ word. word) (λ word. IsTrue (is_word word)) bytes.now read) }
 {
-    Ok(Word::from(Vec::from_slice(alloc, bytes)?))
+    if !is_word(bytes) {
+        return Ok(None);
+    }
+    let word = Word::from(Vec::from_slice(alloc, bytes)?);
+    Ok(Some(word))
 }

@@ -5,15 +5,16 @@ use Rattle.plain_model.specs.Ledger.{Means, goes_on}
 use Rattle.access_park.specs.Pending.{has_lawful_answer}
 use Rattle.access_park.specs.declared.access.Access.{Access}
 use Rattle.dm_service.specs.declared.verdict.Verdict.{Verdict}
+use Rattle.dm_service.specs.declared.verdict.Verdict.TheVariants.{Complete}
 use Rattle.hsm_types.specs.declared.calls.Reply.{Reply}
 use Rattle.plain_model.specs.Accesses.{told_span}
-use Rattle.dm_service.specs.Parking.{parked_on}
+use Rattle.dm_service.specs.Parking.{blocked, parked_on, with_access}
 use Rattle.dm_service.specs.Tables.{waiting, seen, pending_as}
 use Rattle.file_store.specs.declared.refusal.StoreRefusal.{StoreRefusal}
 use Rattle.hsm_core.specs.Outcomes.{ends, is_aborted, IsFinished, MayAsk}
 use Rattle.hsm_core.specs.Targets.{MayLast, key_in}
 use Rattle.hsm_core.proofs.Targets.{answered, posted, unaborted}
-use Rattle.hsm_core.proofs.Replying.{on_ok, ends_unless, again_waits, again_ends, again_completes}
+use Rattle.hsm_core.proofs.Replying.{on_ok, ends_unless, again_waits, again_blocks, again_ends, again_completes}
 use Rattle.hsm_core.proofs.answering.go_on.Given.{Over}
 use Rattle.hsm_core.proofs.answering.go_on.Goals.{After-judge-verdict}
 use Rattle.hsm_core.proofs.answering.go_on.Goals as goal
@@ -38,7 +39,7 @@ pub wait_again-requires-clause-asks : goal.wait_again-requires-clause-asks
 wait_again-requires-clause-asks g c =
     let at = (goal.at.wait_again-requires-clause-asks g c).After-judge-verdict in
     subst (λ (x : Option Access). IfSome x (λ a. MayAsk a.call c.in-Post.kind)) (sym (waits g at))
-    (posted _ c.unwrap-access.result.now.answer c.facts_again-facts.result c.args.service.now.sessions c.unwrap-access.result.now.call c.in-Post.kind (sym c.judge-verdict.ensures ∙ c.in-Post.is)).1
+    (posted _ c.unwrap-access.result.now.answer c.facts_again-facts.result c.args.service.now.rights c.args.service.now.sessions c.unwrap-access.result.now.key c.unwrap-access.result.now.call c.in-Post.kind (sym c.judge-verdict.ensures ∙ c.in-Post.is)).1
 
 pub returns-in-Post-clause-replied : goal.returns-in-Post-clause-replied
 returns-in-Post-clause-replied g c =
@@ -51,30 +52,38 @@ returns-in-Post-clause-replied g c =
     ≡ parked_on c.args.caller a c.in-Post.kind (record { fsid = c.args.files.now.meta.fsid; key = a.key }) (told_span a.call c.facts_again-facts.result.short c.in-Post.kind) (seen c.args.service.now))) (waits g at) is)
     c.wait_again.ensures.after) c.wait_again.ensures.err c.wait_again.ensures.memory
 
+pub returns-in-Block-clause-replied : goal.returns-in-Block-clause-replied
+returns-in-Block-clause-replied g c =
+    let at = (goal.at.returns-in-Block-clause-replied g c).After-judge-verdict in
+    again_blocks g.D.Disk c.args.files.now c.args.number c.args.stamps.now.entries c.args.service.now c.args.caller c.unwrap-access.result.now c.facts_again-facts.result c.requires.working c.requires.idle
+    c.find_again-target.result (waits g at) (goes g at) (last g at) c.find_again-target.ensures c.facts_again-facts.ensures
+    c.in-Block.token c.block_again.new.service c.block_again.result (sym c.judge-verdict.ensures ∙ c.in-Block.is) c.block_again.ensures.reply
+    (subst (λ (x : Option Access). IfSome x (λ a. seen c.block_again.new.service ≡ with_access c.args.caller (Some (blocked a)) (seen c.args.service.now))) (waits g at) c.block_again.ensures.after)
+
 pub finish-requires : goal.finish-requires
 finish-requires g c =
     let at = (goal.at.finish-requires g c).After-judge-verdict in
     record {
       working = c.requires.working;
-      room = λ is. c.requires.room (ap is_aborted (waits g at) ∙ unaborted _ c.unwrap-access.result.now.answer c.facts_again-facts.result c.args.service.now.sessions c.unwrap-access.result.now.call (sym c.judge-verdict.ensures ∙ is));
+      room = λ is. c.requires.room (ap is_aborted (waits g at) ∙ unaborted _ c.unwrap-access.result.now.answer c.facts_again-facts.result c.args.service.now.rights c.args.service.now.sessions c.unwrap-access.result.now.key c.unwrap-access.result.now.call Complete (sym c.judge-verdict.ensures ∙ is) (λ response same. cc same));
       number = c.requires.number;
       idle = c.requires.idle;
-      ends = ends_unless c.judge-verdict.result c.in_default.not-Post;
+      ends = ends_unless c.judge-verdict.result c.in_default.not-Post c.in_default.not-Block;
       complete = λ is.
           again_completes g.D.Disk c.args.files.now c.args.number c.args.stamps.now.entries c.args.service.now c.args.caller c.unwrap-access.result.now c.facts_again-facts.result c.requires.working c.requires.idle
           c.find_again-target.result (waits g at) (goes g at) (last g at) c.find_again-target.ensures c.facts_again-facts.ensures (sym c.judge-verdict.ensures ∙ is);
-      aborted = λ response is. answered _ c.unwrap-access.result.now.answer c.facts_again-facts.result c.args.service.now.sessions c.unwrap-access.result.now.call response (sym c.judge-verdict.ensures ∙ is) (lawful g at);
+      aborted = λ response is. answered _ c.unwrap-access.result.now.answer c.facts_again-facts.result c.args.service.now.rights c.args.service.now.sessions c.unwrap-access.result.now.key c.unwrap-access.result.now.call response (sym c.judge-verdict.ensures ∙ is) (lawful g at);
     }
 
-pub returns : goal.returns
-returns g c =
-    let at = (goal.at.returns g c).After-judge-verdict in
+pub returns-in_ok-replies-in_default : goal.returns-in_ok-replies-in_default
+returns-in_ok-replies-in_default g c =
+    let at = (goal.at.returns-in_ok-replies-in_default g c).After-judge-verdict in
     record {
       replied = again_ends g.D.Disk c.args.files.now c.args.number c.args.stamps.now.entries c.args.service.now c.args.caller c.unwrap-access.result.now c.facts_again-facts.result c.requires.working c.requires.idle
           c.find_again-target.result (waits g at) (goes g at) (last g at) c.find_again-target.ensures c.facts_again-facts.ensures
-          c.end-ended.new.self _ c.finish.new.files c.finish.new.stamps.entries (sym (ap ends c.judge-verdict.ensures) ∙ ends_unless c.judge-verdict.result c.in_default.not-Post)
-          (subst (λ (said : Verdict). IsFinished g.D.Disk c.args.files.now c.args.number c.args.stamps.now.entries (key_in c.find_again-target.result) c.unwrap-access.result.now.call said (Ok c.in_ok-replies.replies) c.finish.new.files c.finish.new.stamps.entries) c.judge-verdict.ensures
-          (subst (λ (r : Result (Reply × Reply) StoreRefusal). IsFinished g.D.Disk c.args.files.now c.args.number c.args.stamps.now.entries (key_in c.find_again-target.result) c.unwrap-access.result.now.call c.judge-verdict.result r c.finish.new.files c.finish.new.stamps.entries) c.in_ok-replies.was c.finish.ensures))
+          c.end-ended.new.self _ c.finish.new.files c.finish.new.stamps.entries (sym (ap ends c.judge-verdict.ensures) ∙ ends_unless c.judge-verdict.result c.in_default.not-Post c.in_default.not-Block)
+          (subst (λ (said : Verdict). IsFinished g.D.Disk c.args.files.now c.args.number c.args.stamps.now.entries (key_in c.find_again-target.result) c.unwrap-access.result.now.call said (Ok c.in_ok-replies-in_default.replies) c.finish.new.files c.finish.new.stamps.entries) c.judge-verdict.ensures
+          (subst (λ (r : Result (Reply × Reply) StoreRefusal). IsFinished g.D.Disk c.args.files.now c.args.number c.args.stamps.now.entries (key_in c.find_again-target.result) c.unwrap-access.result.now.call c.judge-verdict.result r c.finish.new.files c.finish.new.stamps.entries) c.in_ok-replies-in_default.was c.finish.ensures))
           c.end-ended.ensures.after tt;
       aborts = λ is. refl;
       room = one_less _ _ _ _ c.end-ended.ensures.counted (ap is_some (c.end-ended.ensures.access ∙ waits g at));

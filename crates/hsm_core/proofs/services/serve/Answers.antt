@@ -1,4 +1,4 @@
-use Rattle.std.proofs.Common.{◌≡◌, Some, None, sym, ◌∙◌, subst}
+use Rattle.std.proofs.Common.{◌≡◌, Some, None, Ok, sym, ◌∙◌, ap, subst, arith}
 use Rattle.std.specs.Prelude.{IfOk}
 use Rattle.hsm_types.specs.Refusals.{first_refusal}
 use Rattle.hsm_types.specs.Calls.{scope_of}
@@ -7,10 +7,11 @@ use Rattle.hsm_types.specs.declared.dm.DmReply.{DmReply}
 use Rattle.plain_model.specs.Services.{scope_refusals}
 use Rattle.file_store.specs.Stores.{superblock_of}
 use Rattle.dm_service.specs.Services.{AreBoth}
-use Rattle.dm_service.proofs.Anywhere.{told_anywhere, left_anywhere}
+use Rattle.dm_service.specs.Tables.{awaited_in}
+use Rattle.dm_service.proofs.Anywhere.{told_anywhere, left_anywhere, entry_alone}
 use Rattle.hsm_core.specs.Stamps.{stamp_in}
 use Rattle.hsm_core.specs.Store.{state_with}
-use Rattle.hsm_core.proofs.Serving.{refused_reply, refused_left, served_reply, served_left}
+use Rattle.hsm_core.proofs.Serving.{refused_reply, refused_left, served_reply, served_left, granted_reply, granted_left}
 use Rattle.hsm_core.proofs.services.serve.Given.{Over}
 use Rattle.hsm_core.proofs.services.serve.Goals.{After-refused, After-perform}
 use Rattle.hsm_core.proofs.services.serve.Goals as goal
@@ -30,22 +31,22 @@ passed : (g : Over) (c : After-perform g)
     → first_refusal (scope_refusals (superblock_of c.args.files.now) (state_with c.args.files.now.held c.args.stamps.now.entries c.args.service.now c.args.number) c.args.sid (scope_of c.args.call.now)) ≡ None
 passed g c =
     subst (λ (scope : Scope). first_refusal (scope_refusals (superblock_of c.args.files.now) (state_with c.args.files.now.held c.args.stamps.now.entries c.args.service.now c.args.number) c.args.sid scope) ≡ None)
-    c.scope.ensures (c.in-Ok.ensures.judged c.args.stamps.now.entries c.args.number)
+    c.scope.ensures (c.in_default.ensures.judged c.args.stamps.now.entries c.args.number)
 
-pub returns-in-Ok-clause-replies : goal.returns-in-Ok-clause-replies
-returns-in-Ok-clause-replies g c =
+pub returns-clause-replies : goal.returns-clause-replies
+returns-clause-replies g c =
     subst (λ (reply : DmReply). IfOk c.perform.result (λ r. AreBoth reply r))
     (served_reply (superblock_of c.args.files.now) c.args.files.now.held c.args.stamps.now.entries c.args.service.now c.args.number c.args.sid c.args.call.now
-    (passed g (goal.at.returns-in-Ok-clause-replies g c).After-perform)) (c.perform.ensures c.args.service.now).replies
+    (passed g (goal.at.returns-clause-replies g c).After-perform)) (c.perform.ensures c.args.service.now).replies
 
-pub returns-in-Ok-clause-left : goal.returns-in-Ok-clause-left
-returns-in-Ok-clause-left g c =
+pub returns-clause-left : goal.returns-clause-left
+returns-clause-left g c =
     served_left (superblock_of c.args.files.now) c.args.files.now.held c.args.stamps.now.entries c.args.service.now c.args.number c.args.sid c.args.call.now
-    (passed g (goal.at.returns-in-Ok-clause-left g c).After-perform) (sym c.asks_tables.ensures ∙ c.if-asks_tables.false)
+    (passed g (goal.at.returns-clause-left g c).After-perform) (sym c.asks_tables.ensures ∙ c.if-asks_tables.false) (sym c.asks_rights.ensures ∙ c.if-asks_rights.false)
     c.perform.result c.perform.new.files.held (c.perform.ensures c.args.service.now).held
 
-pub returns-in-Ok-clause-ends : goal.returns-in-Ok-clause-ends
-returns-in-Ok-clause-ends g c = (c.perform.ensures c.args.service.now).ends
+pub returns-clause-ends : goal.returns-clause-ends
+returns-clause-ends g c = (c.perform.ensures c.args.service.now).ends
 
 refuses : (g : Over) (c : After-refused g)
     → first_refusal (scope_refusals (superblock_of c.args.files.now) (state_with c.args.files.now.held c.args.stamps.now.entries c.args.service.now c.args.number) c.args.sid (scope_of c.args.call.now)) ≡ Some c.in-Err.why
@@ -63,3 +64,25 @@ pub returns-in-Err-clause-left : goal.returns-in-Err-clause-left
 returns-in-Err-clause-left g c =
     refused_left (superblock_of c.args.files.now) (state_with c.args.files.now.held c.args.stamps.now.entries c.args.service.now c.args.number) c.args.sid c.args.call.now c.in-Err.why
     (refuses g (goal.at.returns-in-Err-clause-left g c).After-refused)
+
+granting : (g : Over) (c : goal.In_ok-serve g)
+    → first_refusal (scope_refusals (superblock_of c.args.files.now) (state_with c.args.files.now.held c.args.stamps.now.entries c.args.service.now c.args.number) c.args.sid (scope_of c.args.call.now)) ≡ None
+granting g c =
+    subst (λ (scope : Scope). first_refusal (scope_refusals (superblock_of c.args.files.now) (state_with c.args.files.now.held c.args.stamps.now.entries c.args.service.now c.args.number) c.args.sid scope) ≡ None)
+    c.scope.ensures (c.in_default.ensures.judged c.args.stamps.now.entries c.args.number)
+
+pub returns-then-asks_rights-clause-replies : goal.returns-then-asks_rights-clause-replies
+returns-then-asks_rights-clause-replies g c =
+    granted_reply (superblock_of c.args.files.now) c.args.files.now.held c.args.stamps.now.entries c.args.service.now c.serve.new.service c.args.number c.args.sid c.args.call.now (Ok c.in_ok-serve.field-0)
+    (granting g c) (sym c.asks_rights.ensures ∙ c.if-asks_rights.true) c.in_ok-serve.ensures.granted
+
+pub returns-then-asks_rights-clause-left : goal.returns-then-asks_rights-clause-left
+returns-then-asks_rights-clause-left g c =
+    granted_left (superblock_of c.args.files.now) c.args.files.now.held c.args.stamps.now.entries c.args.service.now c.serve.new.service c.args.number c.args.sid c.args.call.now (Ok c.in_ok-serve.field-0)
+    (granting g c) (sym c.asks_rights.ensures ∙ c.if-asks_rights.true) c.in_ok-serve.ensures.granted
+
+pub returns-then-asks_rights-clause-room : goal.returns-then-asks_rights-clause-room
+returns-then-asks_rights-clause-room g c =
+    let same : awaited_in c.serve.new.service ≡ awaited_in c.args.service.now = ap awaited_in c.in_ok-serve.ensures.granted.left in
+    let one = entry_alone c.args.service.now.sessions c.args.sid c.args.call.now (sym c.asks_tables.ensures ∙ c.if-asks_tables.false) in
+    omega (arith, same, one)

@@ -12,16 +12,16 @@ use Rattle.dm_service.proofs.service.DmService.assume.Goals.{After-create}
 use Rattle.dm_service.proofs.service.DmService.assume.Goals as goal
 
 abbrev before : After-create → Tables
-before c = record { sessions = c.self.inside.sessions; tokens = c.self.inside.tokens; park = c.self.inside.park }
+before c = record { sessions = c.self.inside.sessions; tokens = c.self.inside.tokens; rights = c.self.inside.rights; park = c.self.inside.park }
 
 abbrev after : After-create → Tables
-after c = record { sessions = c.create.new.self; tokens = c.self.inside.tokens; park = c.self.inside.park }
+after c = record { sessions = c.create.new.self; tokens = c.self.inside.tokens; rights = c.self.inside.rights; park = c.self.inside.park }
 
 left : (c : After-create) (sid : Sid)
     → OnOk c.create.result (noted (seen (after c)) ≡ dm_state_where None any_superblock (seen (before c)) sid (CreateSession c.args.old c.args.info)) × AreKept (after c) c.self.inside.open_tokens × (awaited_in (after c) ≡ awaited_in (before c))
 left c sid =
     let none = ok_first (creation_refusal c.args.old c.args.info c.self.inside.sessions ≡ None) (λ sid. sid ≡ next_sid c.self.inside.sessions) c.create.result c.create.ensures.made in
-    changed_by (before c) (after c) c.self.inside.open_tokens c.self.invariant sid (CreateSession c.args.old c.args.info) refl refl refl c.create.result
+    changed_by (before c) (after c) c.self.inside.open_tokens c.self.invariant sid (CreateSession c.args.old c.args.info) refl refl refl refl c.create.result
     (ok_alone c.create.result (creation_refusal c.args.old c.args.info c.self.inside.sessions) none) c.create.ensures.after c.create.ensures.err
 
 pub invariant_of-self : goal.invariant_of-self

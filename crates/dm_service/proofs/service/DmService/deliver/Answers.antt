@@ -12,15 +12,15 @@ use Rattle.dm_service.proofs.service.DmService.deliver.Goals.{After-deliver}
 use Rattle.dm_service.proofs.service.DmService.deliver.Goals as goal
 
 abbrev before : After-deliver → Tables
-before c = record { sessions = c.self.inside.sessions; tokens = c.self.inside.tokens; park = c.self.inside.park }
+before c = record { sessions = c.self.inside.sessions; tokens = c.self.inside.tokens; rights = c.self.inside.rights; park = c.self.inside.park }
 
 abbrev after : After-deliver → Tables
-after c = record { sessions = c.deliver.new.sessions; tokens = c.self.inside.tokens; park = c.self.inside.park }
+after c = record { sessions = c.deliver.new.sessions; tokens = c.self.inside.tokens; rights = c.self.inside.rights; park = c.self.inside.park }
 
 left : (c : After-deliver)
     → OnOk c.deliver.result (noted (seen (after c)) ≡ dm_state_where None any_superblock (seen (before c)) c.args.sid (GetEvents c.args.max c.args.room)) × AreKept (after c) c.self.inside.open_tokens × (awaited_in (after c) ≡ awaited_in (before c))
 left c =
-    changed_by (before c) (after c) c.self.inside.open_tokens c.self.invariant c.args.sid (GetEvents c.args.max c.args.room) refl refl refl c.deliver.result
+    changed_by (before c) (after c) c.self.inside.open_tokens c.self.invariant c.args.sid (GetEvents c.args.max c.args.room) refl refl refl refl c.deliver.result
     (ok_judged c.deliver.result (first_refusal (dead_session c.args.sid c.self.inside.sessions ∷ none_fits c.args.room (queue_of c.args.sid c.self.inside.sessions) ∷ [])) c.deliver.ensures.judged)
     c.deliver.ensures.after c.deliver.ensures.err
 

@@ -6,16 +6,16 @@ use Rattle.dm_service.proofs.service.DmService.dm.Goals.{After-serve}
 use Rattle.dm_service.proofs.service.DmService.dm.Goals as goal
 
 abbrev before : After-serve → Tables
-before c = record { sessions = c.self.inside.sessions; tokens = c.self.inside.tokens; park = c.self.inside.park }
+before c = record { sessions = c.self.inside.sessions; tokens = c.self.inside.tokens; rights = c.self.inside.rights; park = c.self.inside.park }
 
 abbrev after : After-serve → Tables
-after c = record { sessions = c.serve.new.sessions; tokens = c.self.inside.tokens; park = c.self.inside.park }
+after c = record { sessions = c.serve.new.sessions; tokens = c.self.inside.tokens; rights = c.self.inside.rights; park = c.self.inside.park }
 
 asks : (c : After-serve) → asks_sessions c.args.call.now ≡ true
 asks c = others c.args.call.now c.requires c.in_default.not-Respond c.in_default.not-CreateUserEvent
 
 left : (c : After-serve) → IsServed (before c) c.args.sid c.args.call.now c.serve.result (after c) × AreKept (after c) c.self.inside.open_tokens × (awaited_in (after c) ≡ awaited_in (before c))
-left c = served_by (before c) (after c) c.self.inside.open_tokens c.self.invariant c.args.sid c.args.call.now (asks c) refl refl c.serve.result c.serve.ensures
+left c = served_by (before c) (after c) c.self.inside.open_tokens c.self.invariant c.args.sid c.args.call.now (asks c) refl refl refl c.serve.result c.serve.ensures
 
 pub invariant_of-self : goal.invariant_of-self
 invariant_of-self c = (left c).1

@@ -14,10 +14,10 @@ use Rattle.dm_service.proofs.service.DmService.make_event.Goals.{In-Ok}
 use Rattle.dm_service.proofs.service.DmService.make_event.Goals as goal
 
 abbrev before : In-Ok → Tables
-before c = record { sessions = c.self.inside.sessions; tokens = c.self.inside.tokens; park = c.self.inside.park }
+before c = record { sessions = c.self.inside.sessions; tokens = c.self.inside.tokens; rights = c.self.inside.rights; park = c.self.inside.park }
 
 abbrev after : In-Ok → Tables
-after c = record { sessions = c.user.new.self; tokens = c.in_ok-token.token.0; park = c.self.inside.park }
+after c = record { sessions = c.user.new.self; tokens = c.in_ok-token.token.0; rights = c.self.inside.rights; park = c.self.inside.park }
 
 pub overflow_add-self : goal.overflow_add-self
 overflow_add-self c = omega (arith, few_open c.self.inside.tokens (is_open c.self.inside.sessions), c.self.invariant.counted, c.self.invariant.few)
@@ -31,7 +31,7 @@ left c =
     let is : c.in_ok-token.token ≡ record { 0 = c.self.inside.tokens + 1 } = c.in_ok-token.ensures.next in
     made_by (before c) c.self.inside.open_tokens c.self.invariant c.args.sid c.args.body.now (none c) (after c)
     (c.in-Ok.ensures.after ∙ (λ i. user_event c.args.sid (is i) (c.in_ok-copy.ensures.cases i) c.self.inside.sessions))
-    (ap (λ (t : Token). t.0) is) (rw is c.in_ok-token.ensures.few) refl
+    (ap (λ (t : Token). t.0) is) (rw is c.in_ok-token.ensures.few) refl refl
 
 pub invariant_of-self : goal.invariant_of-self
 invariant_of-self c = (left (goal.at.invariant_of-self c).In-Ok).1

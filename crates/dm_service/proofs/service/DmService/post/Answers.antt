@@ -10,10 +10,10 @@ use Rattle.dm_service.proofs.service.DmService.post.Goals.{In_ok-post_message}
 use Rattle.dm_service.proofs.service.DmService.post.Goals as goal
 
 abbrev before : In_ok-post_message → Tables
-before c = record { sessions = c.self.inside.sessions; tokens = c.self.inside.tokens; park = c.self.inside.park }
+before c = record { sessions = c.self.inside.sessions; tokens = c.self.inside.tokens; rights = c.self.inside.rights; park = c.self.inside.park }
 
 abbrev after : In_ok-post_message → Tables
-after c = record { sessions = c.post_message.new.sessions; tokens = c.in_ok-token.token.0; park = c.self.inside.park }
+after c = record { sessions = c.post_message.new.sessions; tokens = c.in_ok-token.token.0; rights = c.self.inside.rights; park = c.self.inside.park }
 
 pub overflow_add-self : goal.overflow_add-self
 overflow_add-self c = omega (arith, few_open c.self.inside.tokens (is_open c.self.inside.sessions), c.self.invariant.counted, c.self.invariant.few)
@@ -23,7 +23,7 @@ left c =
     let is : c.in_ok-token.token ≡ record { 0 = c.self.inside.tokens + 1 } = c.in_ok-token.ensures.next in
     posted_by (before c) (after c) c.self.inside.open_tokens c.args.kind c.args.handle c.args.told c.self.invariant
     (c.in_ok-post_message.ensures.after ∙ (λ i. posted (event_message c.args.kind (is i) c.args.handle c.args.told) c.self.inside.sessions))
-    (ap (λ (t : Token). t.0) is) (rw is c.in_ok-token.ensures.few) refl
+    (ap (λ (t : Token). t.0) is) (rw is c.in_ok-token.ensures.few) refl refl
 
 pub invariant_of-self-2 : goal.invariant_of-self-2
 invariant_of-self-2 c = (left (goal.at.invariant_of-self-2 c).In_ok-post_message).1

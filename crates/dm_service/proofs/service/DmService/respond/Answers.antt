@@ -11,7 +11,7 @@ use Rattle.dm_service.proofs.service.DmService.respond.Goals.{In_ok-answer, Afte
 use Rattle.dm_service.proofs.service.DmService.respond.Goals as goal
 
 abbrev before : In_ok-answer → Tables
-before c = record { sessions = c.self.inside.sessions; tokens = c.self.inside.tokens; park = c.self.inside.park }
+before c = record { sessions = c.self.inside.sessions; tokens = c.self.inside.tokens; rights = c.self.inside.rights; park = c.self.inside.park }
 
 none : (c : In_ok-answer) → dm_judged any_superblock (seen (before c)) c.args.sid (Respond c.args.token c.args.response) ≡ None
 none c =
@@ -22,14 +22,14 @@ pub overflow_sub-self : goal.overflow_sub-self
 overflow_sub-self c = some_open (before c) c.self.inside.open_tokens c.self.invariant c.args.sid c.args.token c.args.response (none c)
 
 abbrev after : After-answer-caller → Tables
-after c = record { sessions = c.answer.new.self; tokens = c.self.inside.tokens; park = c.answer-caller.new.self }
+after c = record { sessions = c.answer.new.self; tokens = c.self.inside.tokens; rights = c.end.new.self; park = c.answer-caller.new.self }
 
 left : (c : After-answer-caller)
     → (noted (seen (after c)) ≡ dm_state_where None any_superblock (seen (before (goal.at.invariant_of-self-2 c).In_ok-answer)) c.args.sid (Respond c.args.token c.args.response))
     × AreKept (after c) (c.self.inside.open_tokens - 1) × (awaited_in (after c) + 1 ≡ awaited_in (before (goal.at.invariant_of-self-2 c).In_ok-answer))
 left c =
     let at : In_ok-answer = (goal.at.invariant_of-self-2 c).In_ok-answer in
-    responded_by (before at) c.self.inside.open_tokens c.self.invariant c.args.sid c.args.token c.args.response (none at) (after c) c.in_ok-answer.ensures.after refl c.answer-caller.ensures.after
+    responded_by (before at) c.self.inside.open_tokens c.self.invariant c.args.sid c.args.token c.args.response (none at) (after c) c.in_ok-answer.ensures.after refl c.end.ensures c.answer-caller.ensures.after
 
 pub invariant_of-self-2 : goal.invariant_of-self-2
 invariant_of-self-2 c = (left c).1

@@ -1,9 +1,11 @@
-use Rattle.std.proofs.Common.{◌+◌, refl, ap, subst, arith}
+use Rattle.std.proofs.Common.{◌≤◌, length, ◌+◌, ◌-◌, refl, ap, subst, arith}
 use Rattle.hsm_types.specs.declared.calls.Reply.{Reply}
 use Rattle.plain_model.specs.declared.entries.Actor.TheVariants.{Store as TheStore}
 use Rattle.plain_model.specs.declared.entries.Action.TheVariants.{Commit}
 use Rattle.plain_model.specs.declared.entries.Answer.TheVariants.{Call as Replied}
-use Rattle.hsm_core.specs.Store.{Store, state_with}
+use Rattle.std.specs.Prelude.{vec_len, vec_capacity}
+use Rattle.dm_service.specs.Tables.{awaited_in}
+use Rattle.hsm_core.specs.Store.{Store, KeepsRoom, state_with}
 use Rattle.hsm_core.specs.Answers.{IsCommitted}
 use Rattle.hsm_core.proofs.Events.{event, always, not_begun, one_more, IsNext, Keeps}
 use Rattle.hsm_core.proofs.store.Hsm.commit.Given.{Over}
@@ -12,10 +14,10 @@ use Rattle.hsm_core.proofs.store.Hsm.commit.Goals as goal
 
 -- the store before the commit, and after it
 abbrev before : (g : Over) → After-keep g → Store g.row.D.Denot
-before g c = record { opened = c.self.inside.opened.value; files = c.self.inside.files; stamps = c.self.inside.stamps.entries; tables = c.self.inside.service; history = c.self.inside.history.items }
+before g c = record { opened = c.self.inside.opened.value; files = c.self.inside.files; stamps = c.self.inside.stamps.entries; tables = c.self.inside.service; history = c.self.inside.history.items; spare = vec_capacity c.self.inside.history - (vec_len c.self.inside.history + awaited_in c.self.inside.service) }
 
 abbrev after : (g : Over) → After-keep g → Store g.row.D.Denot
-after g c = record { opened = c.self.inside.opened.value; files = c.commit-done.new.files; stamps = c.self.inside.stamps.entries; tables = c.self.inside.service; history = c.keep.new.history.items }
+after g c = record { opened = c.self.inside.opened.value; files = c.commit-done.new.files; stamps = c.self.inside.stamps.entries; tables = c.self.inside.service; history = c.keep.new.history.items; spare = vec_capacity c.keep.new.history - (vec_len c.keep.new.history + awaited_in c.self.inside.service) }
 
 keeps : (g : Over) (c : After-keep g) → Keeps c.make_ready.new.history.items TheStore Commit (λ (r : Reply). Replied r) c.commit-done.result c.keep.result c.keep.new.history.items
 keeps g c = record {
@@ -41,10 +43,10 @@ next g c =
 
 pub returns-in-Err-clause-committed : goal.returns-in-Err-clause-committed
 returns-in-Err-clause-committed g c =
-    let s : Store g.row.D.Denot = record { opened = c.self.inside.opened.value; files = c.self.inside.files; stamps = c.self.inside.stamps.entries; tables = c.self.inside.service; history = c.self.inside.history.items } in
-    let t : Store g.row.D.Denot = record s { stamps = c.self.inside.stamps.entries; history = c.make_ready.new.history.items } in
+    let s : Store g.row.D.Denot = record { opened = c.self.inside.opened.value; files = c.self.inside.files; stamps = c.self.inside.stamps.entries; tables = c.self.inside.service; history = c.self.inside.history.items; spare = vec_capacity c.self.inside.history - (vec_len c.self.inside.history + awaited_in c.self.inside.service) } in
+    let t : Store g.row.D.Denot = record s { stamps = c.self.inside.stamps.entries; history = c.make_ready.new.history.items; spare = vec_capacity c.make_ready.new.history - (vec_len c.make_ready.new.history + awaited_in c.self.inside.service) } in
     subst (λ (old : Store g.row.D.Denot). IsCommitted g.D.Disk old c.undone.result t) c.self.view_is
-    (not_begun g.D.Disk s c.self.invariant.0 c.self.invariant.1 c.self.inside.stamps.entries c.make_ready.new.history.items refl c.make_ready.ensures.same TheStore Commit tt (Replied c.undone.result) c.in-Err.why c.make_ready.ensures.idle
+    (not_begun g.D.Disk s c.self.invariant.0 c.self.invariant.1 c.self.inside.stamps.entries c.make_ready.new.history.items _ refl c.make_ready.ensures.same TheStore Commit tt (Replied c.undone.result) c.in-Err.why c.make_ready.ensures.idle
     (record { memory = λ is. ap (λ (r : Reply). Replied r) (c.undone.ensures.memory is); failed = λ is. ap (λ (r : Reply). Replied r) (c.undone.ensures.failed is) }) c.in-Err.ensures.refused)
 
 pub invariant_of-self-2 : goal.invariant_of-self-2
@@ -62,3 +64,27 @@ returns-clause-safe g c = (next g (goal.at.returns-clause-safe g c).After-keep).
 
 pub returns-in-Err-clause-safe : goal.returns-in-Err-clause-safe
 returns-in-Err-clause-safe g c = rw (c.make_ready.ensures.same) c.self.invariant.1.now
+
+pub returns-clause-room : goal.returns-clause-room
+returns-clause-room g c =
+    let at = (goal.at.returns-clause-room g c).After-keep in
+    let more = one_more c.make_ready.new.history.items c.keep.new.history.items TheStore Commit (λ (r : Reply). Replied r) c.commit-done.result c.keep.result c.commit-done.ensures.ends.no_part (keeps g at) in
+    let noted = ap length c.make_ready.ensures.same in
+    subst (λ (old : Store g.row.D.Denot). old.spare ≤ (after g at).spare + 1) c.self.view_is (omega (arith, more, noted, c.make_ready.ensures.keeps, c.keep.ensures.room, c.self.invariant.4))
+
+pub returns-in-Err-clause-room : goal.returns-in-Err-clause-room
+returns-in-Err-clause-room g c =
+    let noted = ap length c.make_ready.ensures.same in
+    subst (λ (old : Store g.row.D.Denot). old.spare ≤ vec_capacity c.make_ready.new.history - (vec_len c.make_ready.new.history + awaited_in c.self.inside.service) + 1) c.self.view_is
+    (omega (arith, noted, c.make_ready.ensures.keeps, c.self.invariant.4))
+
+pub returns-clause-keeps : goal.returns-clause-keeps
+returns-clause-keeps g c =
+    let at = (goal.at.returns-clause-keeps g c).After-keep in
+    subst (λ (old : Store g.row.D.Denot). KeepsRoom old (after g at)) c.self.view_is (omega (arith, c.make_ready.ensures.keeps, c.keep.ensures.room, c.self.invariant.4))
+
+pub returns-in-Err-clause-keeps : goal.returns-in-Err-clause-keeps
+returns-in-Err-clause-keeps g c =
+    subst (λ (old : Store g.row.D.Denot). length old.history + awaited_in old.tables + old.spare
+    ≤ length c.make_ready.new.history.items + awaited_in c.self.inside.service + (vec_capacity c.make_ready.new.history - (vec_len c.make_ready.new.history + awaited_in c.self.inside.service))) c.self.view_is
+    (omega (arith, c.make_ready.ensures.keeps, c.self.invariant.4))

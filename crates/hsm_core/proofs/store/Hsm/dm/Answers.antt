@@ -1,15 +1,19 @@
-use Rattle.std.proofs.Common.{◌≡◌, ◌+◌, true, false, refl, ap, subst, arith}
+use Rattle.std.proofs.Common.{◌≡◌, ◌+◌, ◌-◌, ◌≤◌, length, true, false, refl, ◌∙◌, ap, subst, arith}
 use Rattle.hsm_types.specs.declared.dm.DmReply.{DmReply}
 use Rattle.hsm_types.specs.declared.dm.DmReply.TheVariants.{Done as DmDone}
 use Rattle.plain_model.specs.declared.entries.Actor.TheVariants.{Session}
 use Rattle.plain_model.specs.declared.entries.Action.TheVariants.{Dm}
 use Rattle.plain_model.specs.declared.entries.Answer.TheVariants.{Dm as Told}
-use Rattle.dm_service.specs.Services.{is_due}
+use Rattle.dm_service.specs.Services.{entries_for, is_due, wants_entry_alone}
 use Rattle.dm_service.proofs.Anywhere.{due_done}
 use Rattle.dm_service.proofs.Ledgers.{ordered_in}
-use Rattle.hsm_core.specs.Store.{Store, state_with}
+use Rattle.std.specs.Prelude.{vec_len, vec_capacity}
+use Rattle.dm_service.specs.Tables.{awaited_in}
+use Rattle.hsm_core.specs.Store.{Store, KeepsRoom, last_number, state_with}
+use Rattle.hsm_core.proofs.Runs.{formatted_as}
+use Rattle.plain_model.specs.Services.{dm_reply_to}
 use Rattle.file_store.specs.Stores.{superblock_of}
-use Rattle.hsm_core.specs.Answers.{IsTold}
+use Rattle.hsm_core.specs.Answers.{own_answer, IsTold}
 use Rattle.hsm_core.proofs.Events.{event, always, lasting, room_served, told_done, not_begun, one_more, IsNext, Keeps}
 use Rattle.hsm_core.proofs.store.Hsm.dm.Given.{Over}
 use Rattle.hsm_core.proofs.store.Hsm.dm.Goals.{After-keep_dm}
@@ -17,10 +21,10 @@ use Rattle.hsm_core.proofs.store.Hsm.dm.Goals as goal
 
 -- the store before the call, and after it
 abbrev before : (g : Over) → After-keep_dm g → Store g.row.D.Denot
-before g c = record { opened = c.self.inside.opened.value; files = c.self.inside.files; stamps = c.self.inside.stamps.entries; tables = c.self.inside.service; history = c.self.inside.history.items }
+before g c = record { opened = c.self.inside.opened.value; files = c.self.inside.files; stamps = c.self.inside.stamps.entries; tables = c.self.inside.service; history = c.self.inside.history.items; spare = vec_capacity c.self.inside.history - (vec_len c.self.inside.history + awaited_in c.self.inside.service) }
 
 abbrev after : (g : Over) → After-keep_dm g → Store g.row.D.Denot
-after g c = record { opened = c.self.inside.opened.value; files = c.serve-done.new.files; stamps = c.self.inside.stamps.entries; tables = c.serve-done.new.service; history = c.keep_dm.new.history.items }
+after g c = record { opened = c.self.inside.opened.value; files = c.serve-done.new.files; stamps = c.self.inside.stamps.entries; tables = c.serve-done.new.service; history = c.keep_dm.new.history.items; spare = vec_capacity c.keep_dm.new.history - (vec_len c.keep_dm.new.history + awaited_in c.serve-done.new.service) }
 
 keeps : (g : Over) (c : After-keep_dm g) → Keeps c.make_ready.new.history.items (Session c.args.sid) (Dm c.args.call) (λ (r : DmReply). Told r) c.serve-done.result c.keep_dm.result c.keep_dm.new.history.items
 keeps g c = record {
@@ -46,10 +50,10 @@ next g c =
 
 pub returns-in-Err-clause-told : goal.returns-in-Err-clause-told
 returns-in-Err-clause-told g c =
-    let s : Store g.row.D.Denot = record { opened = c.self.inside.opened.value; files = c.self.inside.files; stamps = c.self.inside.stamps.entries; tables = c.self.inside.service; history = c.self.inside.history.items } in
-    let t : Store g.row.D.Denot = record s { stamps = c.self.inside.stamps.entries; history = c.make_ready.new.history.items } in
+    let s : Store g.row.D.Denot = record { opened = c.self.inside.opened.value; files = c.self.inside.files; stamps = c.self.inside.stamps.entries; tables = c.self.inside.service; history = c.self.inside.history.items; spare = vec_capacity c.self.inside.history - (vec_len c.self.inside.history + awaited_in c.self.inside.service) } in
+    let t : Store g.row.D.Denot = record s { stamps = c.self.inside.stamps.entries; history = c.make_ready.new.history.items; spare = vec_capacity c.make_ready.new.history - (vec_len c.make_ready.new.history + awaited_in c.self.inside.service) } in
     subst (λ (old : Store g.row.D.Denot). IsTold g.D.Disk old c.args.sid c.args.call c.unserved.result t) c.self.view_is
-    (not_begun g.D.Disk s c.self.invariant.0 c.self.invariant.1 c.self.inside.stamps.entries c.make_ready.new.history.items refl c.make_ready.ensures.same (Session c.args.sid) (Dm c.args.call) tt (Told c.unserved.result) c.in-Err.why c.make_ready.ensures.idle
+    (not_begun g.D.Disk s c.self.invariant.0 c.self.invariant.1 c.self.inside.stamps.entries c.make_ready.new.history.items _ refl c.make_ready.ensures.same (Session c.args.sid) (Dm c.args.call) tt (Told c.unserved.result) c.in-Err.why c.make_ready.ensures.idle
     (record { memory = λ is. ap (λ (r : DmReply). Told r) (c.unserved.ensures.memory is); failed = λ is. ap (λ (r : DmReply). Told r) (c.unserved.ensures.failed is) }) c.in-Err.ensures.refused)
 
 pub serve-done-requires-clause-idle : goal.serve-done-requires-clause-idle
@@ -89,3 +93,44 @@ returns-clause-responds g c =
     (λ due working.
     told_done _ c.serve-done.result _ c.keep_dm.result DmDone (c.serve-done.ensures.responds due) c.serve-done.ensures.replies c.keep_dm.ensures.kept
     (due_done (superblock_of c.self.inside.files) (state_with c.self.inside.files.held c.self.inside.stamps.entries c.self.inside.service (c.self.inside.base + c.len.result)) c.args.sid c.args.call due))
+
+-- at most as much room is used up as the call needs
+pub returns-clause-room : goal.returns-clause-room
+returns-clause-room g c =
+    let at = (goal.at.returns-clause-room g c).After-keep_dm in
+    let more = one_more c.make_ready.new.history.items c.keep_dm.new.history.items (Session c.args.sid) (Dm c.args.call) (λ (r : DmReply). Told r) c.serve-done.result c.keep_dm.result c.serve-done.ensures.ends.no_part (keeps g at) in
+    let fewer = room_served c.self.inside.service c.serve-done.new.service c.args.sid c.args.call c.serve-done.result c.serve-done.ensures.room c.serve-done.ensures.err c.serve-done.ensures.responds in
+    let noted = ap length c.make_ready.ensures.same in
+    subst (λ (old : Store g.row.D.Denot). old.spare ≤ (after g at).spare + entries_for old.tables.sessions c.args.sid c.args.call) c.self.view_is
+    (omega (arith, more, fewer, noted, c.make_ready.ensures.keeps, c.keep_dm.ensures.room, c.self.invariant.4))
+
+pub returns-in-Err-clause-room : goal.returns-in-Err-clause-room
+returns-in-Err-clause-room g c =
+    subst (λ (old : Store g.row.D.Denot). old.spare ≤ vec_capacity c.make_ready.new.history - (vec_len c.make_ready.new.history + awaited_in c.self.inside.service) + entries_for old.tables.sessions c.args.sid c.args.call) c.self.view_is
+    (let same = ap length c.make_ready.ensures.same in omega (arith, same, c.make_ready.ensures.keeps, c.self.invariant.4))
+
+own_told : (g : Over) (c : After-keep_dm g) → wants_entry_alone c.args.call ≡ true → Told c.keep_dm.result ≡ own_answer (before g c) (Session c.args.sid) (Dm c.args.call)
+own_told g c alone =
+    let noted = ap length c.make_ready.ensures.same in
+    let number : c.self.inside.base + c.len.result ≡ last_number (before g c) = omega (arith, noted, c.self.invariant.2, c.len.ensures) in
+    ap (λ (r : DmReply). Told r)
+    (told_done _ c.serve-done.result _ c.keep_dm.result (dm_reply_to (superblock_of c.self.inside.files) (state_with c.self.inside.files.held c.self.inside.stamps.entries c.self.inside.service (c.self.inside.base + c.len.result)) c.args.sid c.args.call)
+    (c.serve-done.ensures.alone alone) c.serve-done.ensures.replies c.keep_dm.ensures.kept refl)
+    ∙ (λ i. Told (dm_reply_to (formatted_as (before g c) c.self.invariant.0 i) (state_with c.self.inside.files.held c.self.inside.stamps.entries c.self.inside.service (number i)) c.args.sid c.args.call))
+
+pub returns-clause-spared : goal.returns-clause-spared
+returns-clause-spared g c =
+    let at = (goal.at.returns-clause-spared g c).After-keep_dm in
+    subst (λ (old : Store g.row.D.Denot). wants_entry_alone c.args.call ≡ true → 1 ≤ old.spare → old.files.failed ≡ false → Told c.keep_dm.result ≡ own_answer old (Session c.args.sid) (Dm c.args.call)) c.self.view_is
+    (λ alone spare working. own_told g at alone)
+
+pub returns-clause-keeps : goal.returns-clause-keeps
+returns-clause-keeps g c =
+    let at = (goal.at.returns-clause-keeps g c).After-keep_dm in
+    subst (λ (old : Store g.row.D.Denot). KeepsRoom old (after g at)) c.self.view_is (omega (arith, c.make_ready.ensures.keeps, c.keep_dm.ensures.room, c.self.invariant.4))
+
+pub returns-in-Err-clause-keeps : goal.returns-in-Err-clause-keeps
+returns-in-Err-clause-keeps g c =
+    subst (λ (old : Store g.row.D.Denot). length old.history + awaited_in old.tables + old.spare
+    ≤ length c.make_ready.new.history.items + awaited_in c.self.inside.service + (vec_capacity c.make_ready.new.history - (vec_len c.make_ready.new.history + awaited_in c.self.inside.service))) c.self.view_is
+    (omega (arith, c.make_ready.ensures.keeps, c.self.invariant.4))

@@ -1,14 +1,14 @@
-use Rattle.std.proofs.Common.{◌≤◌, ◌+◌, Bool, refl, ap, subst, arith}
+use Rattle.std.proofs.Common.{◌≤◌, length, ◌+◌, ◌-◌, Bool, refl, ap, subst, arith}
 use Rattle.std.specs.Prelude.{if◌then◌else◌, vec_len, vec_capacity}
 use Rattle.hsm_types.specs.declared.calls.Reply.{Reply}
 use Rattle.plain_model.specs.declared.entries.Actor.TheVariants.{Caller}
 use Rattle.plain_model.specs.declared.entries.Action.TheVariants.{Resume}
 use Rattle.plain_model.specs.declared.entries.Answer.TheVariants.{Call as Replied}
 use Rattle.dm_service.proofs.Ledgers.{ordered_in}
-use Rattle.dm_service.specs.Tables.{waiting}
+use Rattle.dm_service.specs.Tables.{awaited_in, waiting}
 use Rattle.hsm_core.specs.Outcomes.{is_aborted}
 use Rattle.file_store.specs.Stores.{superblock_of}
-use Rattle.hsm_core.specs.Store.{Store}
+use Rattle.hsm_core.specs.Store.{Store, KeepsRoom}
 use Rattle.hsm_core.specs.Answers.{IsResumed}
 use Rattle.hsm_core.proofs.Events.{event, lasting, room_again, not_begun, one_more, IsNext, Keeps}
 use Rattle.hsm_core.proofs.store.Hsm.resume.Given.{Over}
@@ -17,10 +17,10 @@ use Rattle.hsm_core.proofs.store.Hsm.resume.Goals as goal
 
 -- the store before the event, and after it
 abbrev before : (g : Over) → After-keep g → Store g.row.D.Denot
-before g c = record { opened = c.self.inside.opened.value; files = c.self.inside.files; stamps = c.self.inside.stamps.entries; tables = c.self.inside.service; history = c.self.inside.history.items }
+before g c = record { opened = c.self.inside.opened.value; files = c.self.inside.files; stamps = c.self.inside.stamps.entries; tables = c.self.inside.service; history = c.self.inside.history.items; spare = vec_capacity c.self.inside.history - (vec_len c.self.inside.history + awaited_in c.self.inside.service) }
 
 abbrev after : (g : Over) → After-keep g → Store g.row.D.Denot
-after g c = record { opened = c.self.inside.opened.value; files = c.answer_again-done.new.files; stamps = c.answer_again-done.new.stamps.entries; tables = c.answer_again-done.new.service; history = c.keep.new.history.items }
+after g c = record { opened = c.self.inside.opened.value; files = c.answer_again-done.new.files; stamps = c.answer_again-done.new.stamps.entries; tables = c.answer_again-done.new.service; history = c.keep.new.history.items; spare = vec_capacity c.keep.new.history - (vec_len c.keep.new.history + awaited_in c.answer_again-done.new.service) }
 
 keeps : (g : Over) (c : After-keep g) → Keeps c.make_ready_to_resume.new.history.items (Caller c.args.caller) Resume (λ (r : Reply). Replied r) c.answer_again-done.result c.keep.result c.keep.new.history.items
 keeps g c = record {
@@ -46,10 +46,10 @@ next g c =
 
 pub returns-in-Err-clause-resumed : goal.returns-in-Err-clause-resumed
 returns-in-Err-clause-resumed g c =
-    let s : Store g.row.D.Denot = record { opened = c.self.inside.opened.value; files = c.self.inside.files; stamps = c.self.inside.stamps.entries; tables = c.self.inside.service; history = c.self.inside.history.items } in
-    let t : Store g.row.D.Denot = record s { stamps = c.make_ready_to_resume.new.stamps.entries; history = c.make_ready_to_resume.new.history.items } in
+    let s : Store g.row.D.Denot = record { opened = c.self.inside.opened.value; files = c.self.inside.files; stamps = c.self.inside.stamps.entries; tables = c.self.inside.service; history = c.self.inside.history.items; spare = vec_capacity c.self.inside.history - (vec_len c.self.inside.history + awaited_in c.self.inside.service) } in
+    let t : Store g.row.D.Denot = record s { stamps = c.make_ready_to_resume.new.stamps.entries; history = c.make_ready_to_resume.new.history.items; spare = vec_capacity c.make_ready_to_resume.new.history - (vec_len c.make_ready_to_resume.new.history + awaited_in c.self.inside.service) } in
     subst (λ (old : Store g.row.D.Denot). IsResumed g.D.Disk old c.args.caller c.undone.result t) c.self.view_is
-    (not_begun g.D.Disk s c.self.invariant.0 c.self.invariant.1 c.make_ready_to_resume.new.stamps.entries c.make_ready_to_resume.new.history.items c.make_ready_to_resume.ensures.stamps c.make_ready_to_resume.ensures.same (Caller c.args.caller) Resume tt (Replied c.undone.result) c.in-Err.why c.make_ready_to_resume.ensures.idle
+    (not_begun g.D.Disk s c.self.invariant.0 c.self.invariant.1 c.make_ready_to_resume.new.stamps.entries c.make_ready_to_resume.new.history.items _ c.make_ready_to_resume.ensures.stamps c.make_ready_to_resume.ensures.same (Caller c.args.caller) Resume tt (Replied c.undone.result) c.in-Err.why c.make_ready_to_resume.ensures.idle
     (record { memory = λ is. ap (λ (r : Reply). Replied r) (c.undone.ensures.memory is); failed = λ is. ap (λ (r : Reply). Replied r) (c.undone.ensures.failed is) }) c.in-Err.ensures.refused)
 
 pub answer_again-done-requires-clause-idle : goal.answer_again-done-requires-clause-idle
@@ -83,3 +83,29 @@ returns-clause-safe g c = (next g (goal.at.returns-clause-safe g c).After-keep).
 
 pub returns-in-Err-clause-safe : goal.returns-in-Err-clause-safe
 returns-in-Err-clause-safe g c = rw (c.make_ready_to_resume.ensures.same) c.self.invariant.1.now
+
+pub returns-clause-room : goal.returns-clause-room
+returns-clause-room g c =
+    let at = (goal.at.returns-clause-room g c).After-keep in
+    let more = one_more c.make_ready_to_resume.new.history.items c.keep.new.history.items (Caller c.args.caller) Resume (λ (r : Reply). Replied r) c.answer_again-done.result c.keep.result c.answer_again-done.ensures.replied.ends.no_part (keeps g at) in
+    let fewer = room_again c.self.inside.service c.answer_again-done.new.service (is_aborted (waiting c.self.inside.service c.args.caller)) c.answer_again-done.result c.answer_again-done.ensures.room c.answer_again-done.ensures.replied.err c.answer_again-done.ensures.aborts in
+    let noted = ap length c.make_ready_to_resume.ensures.same in
+    subst (λ (old : Store g.row.D.Denot). old.spare ≤ (after g at).spare + (if is_aborted (waiting old.tables c.args.caller) then 0 else 2)) c.self.view_is
+    (omega (arith, more, fewer, noted, c.make_ready_to_resume.ensures.keeps, c.keep.ensures.room, c.self.invariant.4))
+
+pub returns-in-Err-clause-room : goal.returns-in-Err-clause-room
+returns-in-Err-clause-room g c =
+    let noted = ap length c.make_ready_to_resume.ensures.same in
+    subst (λ (old : Store g.row.D.Denot). old.spare ≤ vec_capacity c.make_ready_to_resume.new.history - (vec_len c.make_ready_to_resume.new.history + awaited_in c.self.inside.service) + (if is_aborted (waiting old.tables c.args.caller) then 0 else 2)) c.self.view_is
+    (omega (arith, noted, c.make_ready_to_resume.ensures.keeps, c.self.invariant.4))
+
+pub returns-clause-keeps : goal.returns-clause-keeps
+returns-clause-keeps g c =
+    let at = (goal.at.returns-clause-keeps g c).After-keep in
+    subst (λ (old : Store g.row.D.Denot). KeepsRoom old (after g at)) c.self.view_is (omega (arith, c.make_ready_to_resume.ensures.keeps, c.keep.ensures.room, c.self.invariant.4))
+
+pub returns-in-Err-clause-keeps : goal.returns-in-Err-clause-keeps
+returns-in-Err-clause-keeps g c =
+    subst (λ (old : Store g.row.D.Denot). length old.history + awaited_in old.tables + old.spare
+    ≤ length c.make_ready_to_resume.new.history.items + awaited_in c.self.inside.service + (vec_capacity c.make_ready_to_resume.new.history - (vec_len c.make_ready_to_resume.new.history + awaited_in c.self.inside.service))) c.self.view_is
+    (omega (arith, c.make_ready_to_resume.ensures.keeps, c.self.invariant.4))
