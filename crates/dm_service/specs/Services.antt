@@ -72,7 +72,7 @@ asks_rights call = false
 
 -- they are the same in every store
 abbrev pub any_superblock : Superblock
-any_superblock = record { geometry = record { files = 0; blocks = 0; attributes = 0 }; fsid = 0 }
+any_superblock = record { geometry = record { files = 0; blocks = 0; attributes = 0; stubs = 0 }; fsid = 0 }
 
 -- ---- how they are served
 

@@ -5,7 +5,7 @@ ghost use Rattle.hsm_types.specs.Messages.{no_token};
 ghost use Rattle.hsm_types.specs.Rights.{conflict};
 ghost use Rattle.plain_model.specs.Accesses.{kind_of, need_of};
 ghost use Rattle.plain_model.specs.Ledger.{aborted, gone};
-ghost use Rattle.plain_model.specs.Verdict.{Ends, Rules, conflicting, touching, lacking, judgement};
+ghost use Rattle.plain_model.specs.Verdict.{Ends, Rules, conflicting, touching, needing, lacking, judgement};
 ghost use Rattle.dm_service.specs.Tables.{flags_in};
 ghost use Rattle.dm_service.specs.Judging.{verdict_of, said};
 
@@ -32,6 +32,9 @@ impl DmService {
             return verdict;
         }
         if let Some(verdict) = judge_regions(access, facts) {
+            return verdict;
+        }
+        if let Some(verdict) = judge_segments(access, facts) {
             return verdict;
         }
         if let Some(verdict) = judge_space(access, facts, &self.sessions) {
@@ -92,6 +95,16 @@ fn judge_regions(access: &Access, facts: &Facts) -> Option<Verdict>
     ensures { result ≡ said (option_map Rules (touching (flags_in access.now) facts.now access.now.call)) }
 {
     if access.cleared || !facts.touches {
+        return None;
+    }
+    kind_of(&access.call).map(Verdict::Post)
+}
+
+/// Once an event of it was continued, it asks again as long as bytes that it needs are away.
+fn judge_segments(access: &Access, facts: &Facts) -> Option<Verdict>
+    ensures { result ≡ said (option_map Rules (needing (flags_in access.now) facts.now access.now.call)) }
+{
+    if !access.cleared || !facts.needs {
         return None;
     }
     kind_of(&access.call).map(Verdict::Post)

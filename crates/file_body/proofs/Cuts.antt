@@ -1,10 +1,11 @@
 -- Segments, and the bytes that they are one after the other.
-use Rattle.std.proofs.Common.{◌≡◌, ℕ, zero, suc, ◌+◌, ◌-◌, ◌*◌, ◌<◌, ◌≤◌, List, [], ◌∷◌, ◌++◌, length, take, drop, set, get_or, ⊎_elim, refl, sym, ◌∙◌, ap, arith, rules, add-one, append_assoc, length-append, length-set, length-take-le, get_or-set_same, get_or-set_other}
+use Rattle.std.proofs.Common.{◌≡◌, ℕ, min, ◌⊎◌, inl, inr, length-take, zero, suc, ◌+◌, ◌-◌, ◌*◌, ◌<◌, ◌≤◌, List, [], ◌∷◌, ◌++◌, length, take, drop, set, get_or, ⊎_elim, refl, sym, ◌∙◌, ap, arith, rules, add-one, append_assoc, length-append, length-set, length-take-le, get_or-set_same, get_or-set_other}
 use Rattle.std.specs.Prelude.{replicate}
 use Rattle.std.specs.List.{concat}
 use Rattle.std.proofs.Math.Nat.{mul-le-mul_right}
 use Rattle.std.proofs.lemmas.Bool.{cases_lt, cases_eq}
-use Rattle.std.proofs.lemmas.List.{same_lists, places, take-append-drop, append-nil, drop_more, take_more, drop_all, take-take, set_split, set_past, get_or-take, get_or_append_left, get_or-append_right, get_or_default, length-drop, drop-drop, get_or_push, length-replicate, replicate-append-replicate, nil_from_length}
+use Rattle.std.proofs.lemmas.List.{same_lists, places, take-append-drop, append-nil, drop_more, take_more, drop_all, take_all, take-take, set_split, set_past, get_or-take, get_or_append_left, get_or-append_right, get_or_default, length-drop, drop-drop, get_or_push, length-replicate, replicate-append-replicate, nil_from_length}
+use Rattle.plain_model.specs.Plain.{written}
 use Rattle.file_body.specs.Segments.{IsCut}
 
 pub concat-append : (a b : List (List ℕ)) → concat (a ++ b) ≡ concat a ++ concat b
@@ -175,6 +176,91 @@ written_more body now bytes offset m n is room within = same_lists _ _ (rw is (s
 
 pub length_written : (body bytes : List ℕ) (offset m : ℕ) → offset + length bytes ≤ length body → m ≤ length bytes → length (take offset body ++ take m bytes ++ drop (offset + m) body) ≡ length body
 length_written body bytes offset m room within = grind (arith, places)
+
+-- ---- a whole segment
+
+-- a segment is one of them where a byte stands at its start
+pub starts_in : (size : ℕ) (ss : List (List ℕ)) → IsCut size ss → (i : ℕ) → i < length ss → i * size < length (concat ss)
+starts_in size ss cut i h = omega (arith, length_at size ss cut i h, cut.some i h)
+
+pub starts_most : (ss : List (List ℕ)) → IsCut 65536 ss → (i : ℕ) → 65536 * i ≤ length (concat ss) → i ≤ length ss
+starts_most ss cut i h = omega (arith, h, length_most 65536 ss cut)
+
+pub starts_past : (size : ℕ) (ss : List (List ℕ)) → IsCut size ss → (i : ℕ) → length ss ≤ i → length (concat ss) ≤ i * size
+starts_past size ss cut i h = omega (arith, length_most size ss cut, mul-le-mul_right size h)
+
+front_of : (g b : List ℕ) (size : ℕ) → ((length g ≡ size) ⊎ ((b ≡ []) × (length g ≤ size))) → g ≡ take size (g ++ b)
+front_of g b size = ⊎_elim
+    (λ (full : length g ≡ size). same_lists _ _ (search (rules, places)) (λ k d l. grind (arith, places)))
+    (λ (last : (b ≡ []) × (length g ≤ size)). rw (last.0, append-nil) (sym (take_all size g last.1)))
+
+behind : (a b : List ℕ) (n : ℕ) → length a ≡ n → drop n (a ++ b) ≡ b
+behind a b n is = same_lists _ _ (search (rules, places)) (λ k d l. grind (arith, places))
+
+-- the bytes of a segment
+pub segment_bytes : (size : ℕ) (ss : List (List ℕ)) → IsCut size ss → (i : ℕ) → i < length ss → get_or ss i [] ≡ take size (drop (i * size) (concat ss))
+segment_bytes size ss cut i h =
+    let rest : List ℕ = concat (drop (i + 1) ss) in
+    let before : length (concat (take i ss)) ≡ i * size = length_before size ss cut i h in
+    let from : drop (i * size) (concat ss) ≡ get_or ss i [] ++ rest = ap (drop (i * size)) (concat_at ss i h) ∙ behind (concat (take i ss)) (get_or ss i [] ++ rest) (i * size) before in
+    front_of (get_or ss i []) rest size
+    (⊎_elim
+    (λ (l : i + 1 < length ss). inl (cut.full i l))
+    (λ (g : length ss ≤ i + 1). inr (ap concat (drop_all (i + 1) ss g), cut.most i h))
+    (cases_lt (i + 1) (length ss)))
+    ∙ ap (take size) (sym from)
+
+-- as many bytes are as many segments
+pub same_count : (a b : List (List ℕ)) → IsCut 65536 a → IsCut 65536 b → length (concat a) ≡ length (concat b) → length a ≡ length b
+same_count a b is was same =
+    ⊎_elim
+    (λ (l : length a < length b). absurd (omega (arith, same, starts_past 65536 a is (length a) (omega arith), starts_in 65536 b was (length a) l)))
+    (λ (g : length b ≤ length a).
+    ⊎_elim
+    (λ (l : length b < length a). absurd (omega (arith, same, starts_past 65536 b was (length b) (omega arith), starts_in 65536 a is (length b) l)))
+    (λ (e : length a ≤ length b). omega arith)
+    (cases_lt (length b) (length a)))
+    (cases_lt (length a) (length b))
+
+pub front_is : (a b : List ℕ) (n : ℕ) → n ≡ length a → take n (a ++ b) ≡ a
+front_is a b n is = same_lists _ _ (search (rules, places)) (λ k d l. grind (arith, places))
+
+-- ---- segments that become zeros, one after the other
+
+-- so many bytes of a segment
+length_of : (size : ℕ) (ss : List (List ℕ)) → IsCut size ss → (i : ℕ) → i < length ss → length (get_or ss i []) ≡ min size (length (concat ss) - i * size)
+length_of size ss cut i h = omega (arith, ap length (segment_bytes size ss cut i h), length-take size (drop (i * size) (concat ss)), length-drop (i * size) (concat ss))
+
+zeros_for : (g : List ℕ) → replicate (length g) 0 ≡ take 0 g ++ replicate (length g) 0 ++ drop (0 + length (replicate {A = ℕ} (length g) 0)) g
+zeros_for g = same_lists _ _ (search (rules, places)) (λ k d l. grind (arith, places))
+
+zeros_next : (body now : List ℕ) (from at n next : ℕ) → from ≤ at → at < length body → next ≡ at + 65536 → n ≡ min 65536 (length body - at)
+    → now ≡ take from body ++ replicate (min at (length body) - from) 0 ++ drop at body
+    → take at now ++ replicate n 0 ++ drop (at + n) now ≡ take from body ++ replicate (min next (length body) - from) 0 ++ drop next body
+zeros_next body now from at n next order within after is now_is = same_lists _ _ (rw (now_is, is, after) (search (rules, places))) (λ k d l. rw (now_is, is, after) (grind (arith, places)))
+
+pub zeros_none : (body : List ℕ) (from : ℕ) → from ≤ length body → body ≡ take from body ++ replicate (min from (length body) - from) 0 ++ drop from body
+zeros_none body from within = same_lists _ _ (search (rules, places)) (λ k d l. grind (arith, places))
+
+-- the next segment becomes zeros
+pub zeros_more_of : (ss : List (List ℕ)) → IsCut 65536 ss → (body new : List ℕ) (from i : ℕ) → from ≤ i → i < length ss → length (concat ss) ≡ length body → new ≡ replicate (length (get_or ss i [])) 0
+    → concat ss ≡ take (65536 * from) body ++ replicate (min (65536 * i) (length body) - 65536 * from) 0 ++ drop (65536 * i) body
+    → concat (set ss i new) ≡ take (65536 * from) body ++ replicate (min (65536 * (i + 1)) (length body) - 65536 * from) 0 ++ drop (65536 * (i + 1)) body
+zeros_more_of ss cut body new from i order h same is now =
+    let n : ℕ = length (get_or ss i []) in
+    let count : length (replicate {A = ℕ} n 0) ≡ n = length-replicate n 0 in
+    let size : n ≡ min 65536 (length body - 65536 * i) = omega (arith, length_of 65536 ss cut i h, same) in
+    let start : 65536 * i < length body = omega (arith, starts_in 65536 ss cut i h, same) in
+    overwritten 65536 ss cut i 0 n (65536 * i) (replicate n 0) [] new (omega arith) (omega (arith, cut.some i h)) (sym count) (omega (arith, cut.most i h)) (omega (arith, size, start, same)) (is ∙ zeros_for (get_or ss i []))
+    ∙ zeros_next body (concat ss) (65536 * from) (65536 * i) n (65536 * (i + 1)) (omega arith) start (omega arith) size now
+
+pub length_zeros : (body now : List ℕ) (from at : ℕ) → from ≤ at → from ≤ length body → now ≡ take from body ++ replicate (min at (length body) - from) 0 ++ drop at body → length now ≡ length body
+length_zeros body now from at order within is = ap length is ∙ grind (arith, places)
+
+-- zeros in the place of bytes are written
+pub zeros_written : (body : List ℕ) (from at to : ℕ) → from ≤ length body → from ≤ at → from ≤ to → min at (length body) ≡ min to (length body)
+    → take from body ++ replicate (min at (length body) - from) 0 ++ drop at body ≡ written from (replicate (min to (length body) - from) 0) body
+zeros_written body from at to within order up same = same_lists _ _ (search (rules, places)) (λ k d l. grind (arith, places))
 
 -- ---- a cut
 

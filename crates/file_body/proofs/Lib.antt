@@ -4,3 +4,6 @@ pub mod Sizes
 pub mod Pieces
 pub mod Runs
 pub mod ChangedBlocks
+pub mod Contents
+pub mod HeldLists
+pub mod Outcomes

@@ -1,2 +1,4 @@
 pub mod Segments
 pub mod BodyBlocks
+pub mod HeldBodies
+pub mod Contents

@@ -1,7 +1,8 @@
 //! The bytes of one file.
-ghost use Rattle.std.specs.Prelude.{◌≡◌, ◌+◌, ◌-◌, ◌^◌, ◌≤◌, ◌<◌, ◌++◌, [], length, take, drop, replicate, IfOk, OnOk, OnErr, IsOk};
+ghost use Rattle.std.specs.Prelude.{◌≡◌, ℕ, ◌+◌, ◌-◌, ◌*◌, ◌^◌, ◌≤◌, ◌<◌, ◌++◌, ◌&&◌, ◌||◌, ◌↔◌, true, false, nat_lt, nat_le, min, length, take, drop, replicate, IfOk, IfSome, IsSome, OnOk, OnErr, IsOk};
 ghost use Rattle.plain_model.specs.Plain.{read_at, written, resized};
 ghost use Rattle.file_body.specs.BodyBlocks.{block_of};
+ghost use Rattle.file_body.specs.HeldBodies.{no_body, is_away, AreHere, KeepsHere, Misses};
 
 use crate::segment_lists;
 use crate::segments::Segment;
@@ -10,29 +11,31 @@ use std::alloc::{AllocError, Global};
 use std::marker::Model;
 
 /// The bytes of one file, at most [`FILE_BYTES`] of them, in segments of
-/// [`SEGMENT_BYTES`](hsm_types::SEGMENT_BYTES). Contracts see the list of the bytes.
+/// [`SEGMENT_BYTES`](hsm_types::SEGMENT_BYTES). A segment is here, or its bytes are away, on another medium, and it takes no memory.
+/// Contracts see the bytes, with zeros in the place of those that are away, and which segments are away.
 #[derive(Debug, Drop)]
 pub struct Body {
     segments: Vec<Segment>,
 }
 
 impl Model for Body {
-    ghost use Rattle.std.specs.Prelude.{ℕ, List, ◌≤◌, length};
+    ghost use Rattle.std.specs.Prelude.{◌≤◌, length};
     ghost use Rattle.std.specs.List.{concat};
     ghost use Rattle.hsm_types.specs.declared.limits.TheConstants.{FILE_BYTES, SEGMENT_BYTES};
     ghost use Rattle.file_body.specs.Segments.{IsCut};
+    ghost use Rattle.file_body.specs.HeldBodies.{HeldBody, pieces, aways};
 
-    ghost Value = { List ℕ };
+    ghost Value = { HeldBody };
 
-    ghost view = { λ b. concat b.segments.items };
+    ghost view = { λ b. record { bytes = concat (pieces b.segments.items); away = aways b.segments.items } };
 
-    ghost invariant = { λ b. IsCut SEGMENT_BYTES b.segments.items × (length (concat b.segments.items) ≤ FILE_BYTES) };
+    ghost invariant = { λ b. IsCut SEGMENT_BYTES (pieces b.segments.items) × (length (concat (pieces b.segments.items)) ≤ FILE_BYTES) };
 }
 
 impl Body {
     /// No bytes. It takes no memory.
     pub fn new(alloc: Global) -> Body
-        ensures { result ≡ [] }
+        ensures { result ≡ no_body }
     {
         Body {
             segments: Vec::new(alloc),
@@ -41,7 +44,7 @@ impl Body {
 
     /// How many bytes there are. It costs the same for each body.
     pub fn len(&self) -> u64
-        ensures len { result ≡ length self.now }
+        ensures len { result ≡ length self.now.bytes }
         ensures limit { result ≤ FILE_BYTES }
     {
         segment_lists::len(self.segments.as_slice()) as u64
@@ -49,7 +52,7 @@ impl Body {
 
     /// At most so many bytes, from the offset on. It costs these bytes and the segments that they meet.
     pub fn read(&self, alloc: Global, offset: u64, len: u64) -> Result<Bytes, AllocError>
-        ensures { IfOk result (λ bytes. bytes ≡ read_at offset len self.now) }
+        ensures { IfOk result (λ bytes. bytes ≡ read_at offset len self.now.bytes) }
     {
         let size = segment_lists::len(self.segments.as_slice()) as u64;
         let start = offset.min(size);
@@ -63,10 +66,18 @@ impl Body {
         Ok(Bytes::from(bytes))
     }
 
+    /// The bytes of a segment that is here, without a copy.
+    pub fn segment(&self, segment: u32) -> Option<&[u8]>
+        ensures bytes { IfSome result (λ bytes. bytes.now ≡ read_at (65536 * segment) 65536 self.now.bytes) }
+        ensures here { IsSome result ↔ ((65536 * segment < length self.now.bytes) × (is_away self.now segment ≡ false)) }
+    {
+        segment_lists::here(self.segments.as_slice(), segment as usize)
+    }
+
     /// Fills the buffer with a block of the body, and zeros past the body's end. It takes no memory and costs the block.
     pub fn fill_block(&self, block: u32, buffer: &mut [u8])
         requires { length buffer.old ≡ 4096 }
-        ensures { buffer.new ≡ block_of self.now block }
+        ensures { buffer.new ≡ block_of self.now.bytes block }
     {
         segment_lists::fill_block(self.segments.as_slice(), block as usize, buffer);
     }
@@ -76,21 +87,25 @@ impl Body {
     pub fn fill_written_block(&self, block: u32, offset: u64, bytes: &[u8], buffer: &mut [u8])
         requires len { length buffer.old ≡ 4096 }
         requires end { offset + length bytes.now ≤ FILE_BYTES }
-        ensures { buffer.new ≡ block_of (written offset bytes.now self.now) block }
+        ensures { buffer.new ≡ block_of (written offset bytes.now self.now.bytes) block }
     {
         self.fill_block(block, buffer);
         overlay(buffer, u64::from(block) * BLOCK_BYTES, offset, bytes);
     }
 
-    /// Writes the bytes at the offset, in place. Zeros fill what lies between the old end and the offset.
+    /// Writes the bytes at the offset, in place. Zeros fill what lies between the old end and the offset. What is away of the segments that the bytes
+    /// meet comes as zeros first.
     pub fn write(&mut self, alloc: Global, offset: u64, bytes: &[u8]) -> Result<(), AllocError>
         requires { offset + length bytes.now ≤ FILE_BYTES }
-        ensures ok { OnOk result (self.new ≡ written offset bytes.now self.old) }
+        ensures ok { OnOk result (self.new.bytes ≡ written offset bytes.now self.old.bytes) }
+        ensures keeps { OnOk result (KeepsHere self.old self.new) }
+        ensures here { OnOk result (AreHere offset (offset + length bytes.now) self.new) }
+        ensures others { OnOk result ((j : ℕ) → Misses offset (offset + length bytes.now) j → is_away self.new j ≡ is_away self.old j) }
         ensures err { OnErr result (self.new ≡ self.old) }
-        ensures in_place { offset + length bytes.now ≤ length self.old → IsOk result }
+        ensures in_place { offset + length bytes.now ≤ length self.old.bytes → AreHere offset (offset + length bytes.now) self.old → IsOk result }
     {
         let start = offset as usize;
-        self.grow(alloc, start + bytes.len())?;
+        self.ready(alloc, start, start + bytes.len())?;
         segment_lists::overwrite(self.segments.as_mut_slice(), start, bytes);
         Ok(())
     }
@@ -98,9 +113,11 @@ impl Body {
     /// Cuts the bytes to that size, or lengthens them by zeros. A cut frees the segments past the new end.
     pub fn resize(&mut self, alloc: Global, size: u64) -> Result<(), AllocError>
         requires { size ≤ FILE_BYTES }
-        ensures ok { OnOk result (self.new ≡ resized size self.old) }
+        ensures ok { OnOk result (self.new.bytes ≡ resized size self.old.bytes) }
+        ensures here { OnOk result ((j : ℕ) → is_away self.new j ≡ true → (is_away self.old j ≡ true) × (65536 * j < size)) }
+        ensures away { OnOk result ((j : ℕ) → is_away self.old j ≡ true → 65536 * j < size → is_away self.new j ≡ true) }
         ensures err { OnErr result (self.new ≡ self.old) }
-        ensures cut { size ≤ length self.old → IsOk result }
+        ensures cut { size ≤ length self.old.bytes → IsOk result }
     {
         let end = size as usize;
         self.grow(alloc, end)?;
@@ -108,12 +125,55 @@ impl Body {
         Ok(())
     }
 
+    /// Takes memory for a segment, so that it is here. Zeros stand where it was away.
+    pub fn bring(&mut self, alloc: Global, segment: u32) -> Result<(), AllocError>
+        ensures ok { OnOk result ((self.new.bytes ≡ self.old.bytes) × (is_away self.new segment ≡ false)) }
+        ensures keeps { OnOk result (KeepsHere self.old self.new) }
+        ensures others { (j : ℕ) → (j ≡ segment → ⊥) → is_away self.new j ≡ is_away self.old j }
+        ensures err { OnErr result (self.new ≡ self.old) }
+        ensures here { is_away self.old segment ≡ false → IsOk result × (self.new ≡ self.old) }
+    {
+        let from = segment as usize;
+        segment_lists::bring(alloc, self.segments.as_mut_slice(), from, from + 1)
+    }
+
+    /// The segments from the first up to the second go away, as far as there are any, and their memory is free. It takes none, and costs the segments.
+    pub fn leave(&mut self, from: u32, to: u32)
+        requires order { from ≤ to }
+        requires within { 65536 * from ≤ length self.old.bytes }
+        ensures bytes { self.new.bytes ≡ written (65536 * from) (replicate (min (65536 * to) (length self.old.bytes) - 65536 * from) 0) self.old.bytes }
+        ensures away { (j : ℕ) → is_away self.new j ≡ (is_away self.old j || (nat_le from j && nat_lt j to && nat_lt (65536 * j) (length self.old.bytes))) }
+    {
+        segment_lists::leave(self.segments.as_mut_slice(), from as usize, to as usize);
+    }
+
+    /// Lengthens the bytes to that end by zeros, where they are fewer, and takes memory for the segments from the start up to the end.
+    fn ready(&mut self, alloc: Global, start: usize, end: usize) -> Result<(), AllocError>
+        requires order { start ≤ end }
+        requires end { end ≤ FILE_BYTES }
+        ensures ok { OnOk result (self.new.bytes ≡ self.old.bytes ++ replicate (end - length self.old.bytes) 0) }
+        ensures keeps { OnOk result (KeepsHere self.old self.new) }
+        ensures here { OnOk result (AreHere start end self.new) }
+        ensures others { OnOk result ((j : ℕ) → Misses start end j → is_away self.new j ≡ is_away self.old j) }
+        ensures err { OnErr result (self.new ≡ self.old) }
+        ensures in_place { end ≤ length self.old.bytes → AreHere start end self.old → IsOk result }
+    {
+        let old = segment_lists::len(self.segments.as_slice());
+        self.grow(alloc, end)?;
+        let brought = segment_lists::bring_range(alloc, self.segments.as_mut_slice(), start, end);
+        if brought.is_err() {
+            segment_lists::cut(&mut self.segments, old);
+        }
+        brought
+    }
+
     /// Lengthens the bytes to that size by zeros, where they are fewer.
     fn grow(&mut self, alloc: Global, size: usize) -> Result<(), AllocError>
         requires { size ≤ FILE_BYTES }
-        ensures ok { OnOk result (self.new ≡ self.old ++ replicate (size - length self.old) 0) }
+        ensures ok { OnOk result (self.new.bytes ≡ self.old.bytes ++ replicate (size - length self.old.bytes) 0) }
+        ensures away { (j : ℕ) → is_away self.new j ≡ is_away self.old j }
         ensures err { OnErr result (self.new ≡ self.old) }
-        ensures enough { size ≤ length self.old → IsOk result }
+        ensures enough { size ≤ length self.old.bytes → IsOk result × (self.new ≡ self.old) }
     {
         let old = segment_lists::len(self.segments.as_slice());
         if old < size {

@@ -7,4 +7,6 @@ mod segments;
 mod touches;
 
 pub use bodies::Body;
-pub use touches::{BlockRun, TouchedBlocks, blocks_in, touched_by_truncate, touched_by_write};
+pub use touches::{
+    BlockRun, TouchedBlocks, blocks_in, touched_by_restore, touched_by_truncate, touched_by_write,
+};

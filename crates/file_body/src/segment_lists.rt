@@ -1,8 +1,10 @@
 //! The bytes of segments, one after the other. All but the last segment are full, and none is empty.
-ghost use Rattle.std.specs.Prelude.{◌≡◌, ℕ, ◌+◌, ◌-◌, ◌%◌, ◌^◌, ◌<◌, ◌≤◌, ◌++◌, length, take, drop, replicate, slice_set, slice_index_or, IfOk, OnOk, OnErr, [], vec_len};
+ghost use Rattle.std.specs.Prelude.{◌≡◌, ℕ, ◌+◌, ◌-◌, ◌*◌, ◌/◌, ◌%◌, ◌^◌, ◌<◌, ◌≤◌, ◌++◌, ◌&&◌, ◌||◌, ◌↔◌, true, false, nat_lt, nat_le, min, length, take, drop, replicate, slice_set, slice_index_or, IfOk, IfSome, IsSome, IsOk, OnOk, OnErr, [], vec_len};
 ghost use Rattle.std.specs.List.{concat};
+ghost use Rattle.plain_model.specs.Plain.{written};
 ghost use Rattle.file_body.specs.BodyBlocks.{block_of};
 ghost use Rattle.file_body.specs.Segments.{IsCut};
+ghost use Rattle.file_body.specs.HeldBodies.{pieces, aways, stands_away, Misses};
 
 use crate::segments::{FULL, Segment};
 use hsm_types::BLOCK_BYTES;
@@ -13,9 +15,9 @@ const BLOCK: usize = BLOCK_BYTES as usize;
 
 /// How many bytes there are.
 pub fn len(segments: &[Segment]) -> usize
-    requires cut { IsCut FULL segments.now }
-    requires short { length (concat segments.now) < 2 ^ 63 }
-    ensures { result ≡ length (concat segments.now) }
+    requires cut { IsCut FULL (pieces segments.now) }
+    requires short { length (concat (pieces segments.now)) < 2 ^ 63 }
+    ensures { result ≡ length (concat (pieces segments.now)) }
 {
     let count = segments.len();
     if count == 0 {
@@ -31,10 +33,10 @@ pub fn read(
     offset: usize,
     count: usize,
 ) -> Result<Vec<u8>, AllocError>
-    requires cut { IsCut FULL segments.now }
-    requires within { offset + count ≤ length (concat segments.now) }
-    requires short { length (concat segments.now) < 2 ^ 63 }
-    ensures { IfOk result (λ bytes. bytes.items ≡ take count (drop offset (concat segments.now))) }
+    requires cut { IsCut FULL (pieces segments.now) }
+    requires within { offset + count ≤ length (concat (pieces segments.now)) }
+    requires short { length (concat (pieces segments.now)) < 2 ^ 63 }
+    ensures { IfOk result (λ bytes. bytes.items ≡ take count (drop offset (concat (pieces segments.now)))) }
 {
     let mut bytes = Vec::with_capacity(alloc, count)?;
     while bytes.len() < count {
@@ -47,12 +49,12 @@ pub fn read(
 
 /// Bytes at that place, as many as stand in one segment, up to a count.
 fn piece_at(segments: &[Segment], place: usize, count: usize) -> &[u8]
-    requires cut { IsCut FULL segments.now }
-    requires within { place + count ≤ length (concat segments.now) }
+    requires cut { IsCut FULL (pieces segments.now) }
+    requires within { place + count ≤ length (concat (pieces segments.now)) }
     requires some { 0 < count }
     ensures some { 0 < length result.now }
     ensures within { length result.now ≤ count }
-    ensures bytes { result.now ≡ take (length result.now) (drop place (concat segments.now)) }
+    ensures bytes { result.now ≡ take (length result.now) (drop place (concat (pieces segments.now))) }
     ensures whole { place % FULL + count ≤ FULL → length result.now ≡ count }
 {
     let at = place % FULL;
@@ -63,11 +65,11 @@ fn piece_at(segments: &[Segment], place: usize, count: usize) -> &[u8]
 
 /// Fills the buffer with the bytes of a block, and zeros past the last byte. It costs the block.
 pub fn fill_block(segments: &[Segment], block: usize, buffer: &mut [u8])
-    requires cut { IsCut FULL segments.now }
-    requires short { length (concat segments.now) < 2 ^ 63 }
+    requires cut { IsCut FULL (pieces segments.now) }
+    requires short { length (concat (pieces segments.now)) < 2 ^ 63 }
     requires low { block < 2 ^ 32 }
     requires block { length buffer.old ≡ 4096 }
-    ensures { buffer.new ≡ block_of (concat segments.now) block }
+    ensures { buffer.new ≡ block_of (concat (pieces segments.now)) block }
 {
     let place = block * BLOCK;
     let count = len(segments).saturating_sub(place).min(BLOCK);
@@ -87,13 +89,15 @@ fn put_front(buffer: &mut [u8], bytes: &[u8])
     buffer[..bytes.len()].copy_from_slice(bytes);
 }
 
-/// Writes the bytes over those at the offset.
+/// Writes the bytes over those at the offset, which are here.
 pub fn overwrite(segments: &mut [Segment], offset: usize, bytes: &[u8])
-    requires cut { IsCut FULL segments.old }
-    requires within { offset + length bytes.now ≤ length (concat segments.old) }
-    requires short { length (concat segments.old) < 2 ^ 63 }
-    ensures bytes { concat segments.new ≡ take offset (concat segments.old) ++ bytes.now ++ drop (offset + length bytes.now) (concat segments.old) }
-    ensures cut { IsCut FULL segments.new }
+    requires cut { IsCut FULL (pieces segments.old) }
+    requires within { offset + length bytes.now ≤ length (concat (pieces segments.old)) }
+    requires here { (i : ℕ) → offset ≤ i → i < offset + length bytes.now → stands_away segments.old (i / FULL) ≡ false }
+    requires short { length (concat (pieces segments.old)) < 2 ^ 63 }
+    ensures bytes { concat (pieces segments.new) ≡ take offset (concat (pieces segments.old)) ++ bytes.now ++ drop (offset + length bytes.now) (concat (pieces segments.old)) }
+    ensures cut { IsCut FULL (pieces segments.new) }
+    ensures away { aways segments.new ≡ aways segments.old }
 {
     let mut done = 0;
     while done < bytes.len() {
@@ -103,13 +107,15 @@ pub fn overwrite(segments: &mut [Segment], offset: usize, bytes: &[u8])
 
 /// Writes as many of the bytes as stand in one segment over those at that place. It answers how many.
 fn overwrite_piece(segments: &mut [Segment], place: usize, bytes: &[u8]) -> usize
-    requires cut { IsCut FULL segments.old }
-    requires within { place + length bytes.now ≤ length (concat segments.old) }
+    requires cut { IsCut FULL (pieces segments.old) }
+    requires within { place + length bytes.now ≤ length (concat (pieces segments.old)) }
     requires some { 0 < length bytes.now }
+    requires here { stands_away segments.old (place / FULL) ≡ false }
     ensures some { 0 < result }
     ensures within { result ≤ length bytes.now }
-    ensures bytes { concat segments.new ≡ take place (concat segments.old) ++ take result bytes.now ++ drop (place + result) (concat segments.old) }
-    ensures cut { IsCut FULL segments.new }
+    ensures bytes { concat (pieces segments.new) ≡ take place (concat (pieces segments.old)) ++ take result bytes.now ++ drop (place + result) (concat (pieces segments.old)) }
+    ensures cut { IsCut FULL (pieces segments.new) }
+    ensures away { aways segments.new ≡ aways segments.old }
 {
     let at = place % FULL;
     let size = bytes.len().min(FULL - at);
@@ -118,13 +124,91 @@ fn overwrite_piece(segments: &mut [Segment], place: usize, bytes: &[u8]) -> usiz
     size
 }
 
+/// The bytes of the segment at that place, if it is here.
+pub fn here(segments: &[Segment], at: usize) -> Option<&[u8]>
+    requires { IsCut FULL (pieces segments.now) }
+    ensures bytes { IfSome result (λ bytes. bytes.now ≡ take FULL (drop (FULL * at) (concat (pieces segments.now)))) }
+    ensures here { IsSome result ↔ ((FULL * at < length (concat (pieces segments.now))) × (stands_away segments.now at ≡ false)) }
+{
+    if at < segments.len() {
+        segments[at].here()
+    } else {
+        None
+    }
+}
+
+/// Takes memory for the segments that the bytes from the start up to the end meet, so that they are here.
+pub fn bring_range(
+    alloc: Global,
+    segments: &mut [Segment],
+    start: usize,
+    end: usize,
+) -> Result<(), AllocError>
+    requires { start ≤ end }
+    ensures pieces { pieces segments.new ≡ pieces segments.old }
+    ensures here { OnOk result ((i : ℕ) → start ≤ i → i < end → stands_away segments.new (i / FULL) ≡ false) }
+    ensures keeps { (j : ℕ) → stands_away segments.new j ≡ true → stands_away segments.old j ≡ true }
+    ensures others { (j : ℕ) → Misses start end j → stands_away segments.new j ≡ stands_away segments.old j }
+    ensures err { OnErr result (segments.new ≡ segments.old) }
+    ensures enough { ((i : ℕ) → start ≤ i → i < end → stands_away segments.old (i / FULL) ≡ false) → IsOk result }
+{
+    if start == end {
+        return Ok(());
+    }
+    bring(alloc, segments, start / FULL, (end - 1) / FULL + 1)
+}
+
+/// Takes memory for the segments from the first up to the second, as far as there are any, so that they are here, or for none of them.
+pub fn bring(
+    alloc: Global,
+    segments: &mut [Segment],
+    from: usize,
+    to: usize,
+) -> Result<(), AllocError>
+    ensures pieces { pieces segments.new ≡ pieces segments.old }
+    ensures here { OnOk result ((j : ℕ) → from ≤ j → j < to → stands_away segments.new j ≡ false) }
+    ensures others { (j : ℕ) → (from ≤ j → j < to → ⊥) → stands_away segments.new j ≡ stands_away segments.old j }
+    ensures err { OnErr result (segments.new ≡ segments.old) }
+    ensures enough { ((j : ℕ) → from ≤ j → j < to → stands_away segments.old j ≡ false) → IsOk result × (segments.new ≡ segments.old) }
+{
+    if from >= to.min(segments.len()) {
+        return Ok(());
+    }
+    // The memory of all is taken before any comes.
+    let zeros = segments[from].stand_in(alloc)?;
+    bring(alloc, segments, from + 1, to)?;
+    if let Some(zeros) = zeros {
+        segments[from] = zeros;
+    }
+    Ok(())
+}
+
+/// The segments from the first up to the second, as far as there are any, go away.
+pub fn leave(segments: &mut [Segment], from: usize, to: usize)
+    requires cut { IsCut FULL (pieces segments.old) }
+    requires order { from ≤ to }
+    requires within { FULL * from ≤ length (concat (pieces segments.old)) }
+    ensures bytes { concat (pieces segments.new) ≡ written (FULL * from) (replicate (min (FULL * to) (length (concat (pieces segments.old))) - FULL * from) 0) (concat (pieces segments.old)) }
+    ensures cut { IsCut FULL (pieces segments.new) }
+    ensures away { (j : ℕ) → stands_away segments.new j ≡ (stands_away segments.old j || (nat_le from j && nat_lt j to && nat_lt (FULL * j) (length (concat (pieces segments.old))))) }
+{
+    let end = to.min(segments.len());
+    let mut at = from;
+    while at < end {
+        let segment = &mut segments[at];
+        segment.leave();
+        at += 1;
+    }
+}
+
 /// Keeps so many bytes. It takes no memory.
 pub fn cut(segments: &mut Vec<Segment>, size: usize)
-    requires cut { IsCut FULL segments.old.items }
-    requires within { size ≤ length (concat segments.old.items) }
-    requires short { length (concat segments.old.items) < 2 ^ 63 }
-    ensures bytes { concat segments.new.items ≡ take size (concat segments.old.items) }
-    ensures cut { IsCut FULL segments.new.items }
+    requires cut { IsCut FULL (pieces segments.old.items) }
+    requires within { size ≤ length (concat (pieces segments.old.items)) }
+    requires short { length (concat (pieces segments.old.items)) < 2 ^ 63 }
+    ensures bytes { concat (pieces segments.new.items) ≡ take size (concat (pieces segments.old.items)) }
+    ensures cut { IsCut FULL (pieces segments.new.items) }
+    ensures away { (j : ℕ) → stands_away segments.new.items j ≡ (stands_away segments.old.items j && nat_lt (FULL * j) size) }
 {
     if size == 0 {
         segments.clear();
@@ -138,11 +222,12 @@ pub fn cut(segments: &mut Vec<Segment>, size: usize)
 
 /// Adds so many zeros.
 pub fn lengthen(alloc: Global, segments: &mut Vec<Segment>, count: usize) -> Result<(), AllocError>
-    requires cut { IsCut FULL segments.old.items }
-    requires short { length (concat segments.old.items) + count < 2 ^ 63 }
-    ensures ok { OnOk result (concat segments.new.items ≡ concat segments.old.items ++ replicate count 0) }
+    requires cut { IsCut FULL (pieces segments.old.items) }
+    requires short { length (concat (pieces segments.old.items)) + count < 2 ^ 63 }
+    ensures ok { OnOk result (concat (pieces segments.new.items) ≡ concat (pieces segments.old.items) ++ replicate count 0) }
     ensures err { OnErr result (segments.new.items ≡ segments.old.items) }
-    ensures cut { IsCut FULL segments.new.items }
+    ensures cut { IsCut FULL (pieces segments.new.items) }
+    ensures away { (j : ℕ) → stands_away segments.new.items j ≡ stands_away segments.old.items j }
 {
     let fill = count.min(room(segments.as_slice()));
     let mut rest = zeros(alloc, count - fill)?;
@@ -154,9 +239,9 @@ pub fn lengthen(alloc: Global, segments: &mut Vec<Segment>, count: usize) -> Res
 
 /// How many bytes the last segment lacks.
 fn room(segments: &[Segment]) -> usize
-    requires cut { IsCut FULL segments.now }
+    requires cut { IsCut FULL (pieces segments.now) }
     ensures none { length segments.now ≡ 0 → result ≡ 0 }
-    ensures last { 0 < length segments.now → result + length (slice_index_or segments.now (length segments.now - 1) []) ≡ FULL }
+    ensures last { 0 < length segments.now → result + length (slice_index_or (pieces segments.now) (length segments.now - 1) []) ≡ FULL }
 {
     let count = segments.len();
     if count == 0 {
@@ -167,7 +252,9 @@ fn room(segments: &[Segment]) -> usize
 
 /// Adds so many zeros to the last segment, which has room for them.
 fn lengthen_last(segments: &mut [Segment], count: usize) -> Result<(), AllocError>
-    ensures ok { OnOk result (segments.new ≡ slice_set segments.old (length segments.old - 1) (slice_index_or segments.old (length segments.old - 1) [] ++ replicate count 0)) }
+    requires { 0 < length segments.old → length (slice_index_or (pieces segments.old) (length segments.old - 1) []) + count ≤ FULL }
+    ensures ok { OnOk result (pieces segments.new ≡ slice_set (pieces segments.old) (length segments.old - 1) (slice_index_or (pieces segments.old) (length segments.old - 1) [] ++ replicate count 0)) }
+    ensures away { aways segments.new ≡ aways segments.old }
     ensures err { OnErr result (segments.new ≡ segments.old) }
 {
     let many = segments.len();
@@ -178,10 +265,11 @@ fn lengthen_last(segments: &mut [Segment], count: usize) -> Result<(), AllocErro
     last.lengthen(count)
 }
 
-/// Segments of so many zeros.
+/// Segments of so many zeros, which are here.
 fn zeros(alloc: Global, count: usize) -> Result<Vec<Segment>, AllocError>
-    ensures bytes { IfOk result (λ segments. concat segments.items ≡ replicate count 0) }
-    ensures cut { IfOk result (λ segments. IsCut FULL segments.items) }
+    ensures bytes { IfOk result (λ segments. concat (pieces segments.items) ≡ replicate count 0) }
+    ensures cut { IfOk result (λ segments. IsCut FULL (pieces segments.items)) }
+    ensures here { IfOk result (λ segments. (j : ℕ) → stands_away segments.items j ≡ false) }
 {
     let mut segments = Vec::new(alloc);
     let mut left = count;

@@ -2,9 +2,9 @@
 ghost use Rattle.std.specs.Prelude.{◌≡◌, ℕ, ◌+◌, ◌*◌, ◌<◌, ◌≤◌, ◌++◌, List, length, slice_index_or, IfSome};
 ghost use Rattle.std.specs.Option.{option_to_list};
 ghost use Rattle.plain_model.specs.Effects.{Writes, Resizes};
-ghost use Rattle.plain_model.specs.Blocks.{from_on, touched, blocks_in, old_end};
+ghost use Rattle.plain_model.specs.Blocks.{from_on, met, touched, blocks_in, old_end};
 
-use hsm_types::{BLOCK_BYTES, FILE_BYTES};
+use hsm_types::{BLOCK_BYTES, FILE_BYTES, SEGMENT_BYTES};
 use std::marker::Model;
 
 /// The blocks that a change touches: perhaps that of the old end, and a run. Contracts see the list of them.
@@ -103,6 +103,21 @@ pub fn touched_by_truncate(size: u64, new: u64) -> TouchedBlocks
         old_end: if size < new { old_end(size) } else { None },
         first: 0,
         count: 0,
+    }
+}
+
+/// The blocks of so many bytes of a segment.
+pub fn touched_by_restore(segment: u32, len: u64) -> TouchedBlocks
+    requires segment { len ≤ SEGMENT_BYTES }
+    requires end { 65536 * segment + len ≤ FILE_BYTES }
+    ensures { result ≡ met (65536 * segment) (65536 * segment + len) }
+{
+    let start = u64::from(segment) * SEGMENT_BYTES;
+    let first = start / BLOCK_BYTES;
+    TouchedBlocks {
+        old_end: None,
+        first,
+        count: blocks_in(start + len) - first,
     }
 }
 

@@ -1,5 +1,5 @@
 -- What data blocks hold of files: those whose blocks stay, and one whose touched blocks are written to new places.
-use Rattle.file_store.proofs.Names.{◌≡◌, ⊎_elim, inl, inr, ℕ, zero, suc, ◌+◌, ◌-◌, ◌*◌, ◌/◌, ◌%◌, ◌<◌, ◌≤◌, List, [], ◌∷◌, ◌++◌, length, map, get_or, take, drop, Option, Some, None, Bool, true, eqb, ltb, ◌&&◌, refl, sym, ◌∙◌, ap, subst, arith, if◌then◌else◌, flat_map, list_any, AllByRecursion, cases_lt, cond_both, and_from, lt-ltb, eqb-true, get_or-replicate, get_or_past, places, FileKey, part, find_key, rebody, from_on, blocks_in, met, old_end, touched, size_after, affected_held, Mapping, CatalogFile, Catalog, IsCatalogFile, IsCatalog, geometry_of, present, blocks_of, with_changed, places_fitted, places_set, each-drop, each-found, Rewrite, Write, Resize, block_at, bytes_at, held_at, effect_of, IsRewrite, remapped, length-fitted, length-places_set}
+use Rattle.file_store.proofs.Names.{◌≡◌, ⊎_elim, inl, inr, ℕ, zero, suc, ◌+◌, ◌-◌, ◌*◌, ◌/◌, ◌%◌, ◌<◌, ◌≤◌, List, [], ◌∷◌, ◌++◌, length, map, get_or, take, drop, Option, Some, None, Bool, true, eqb, ltb, ◌&&◌, refl, sym, ◌∙◌, ap, subst, arith, if◌then◌else◌, flat_map, list_any, AllByRecursion, cases_lt, cond_both, and_from, lt-ltb, eqb-true, get_or-replicate, get_or_past, places, FileKey, part, find_key, rebody, from_on, blocks_in, met, old_end, touched, size_after, affected_held, Mapping, CatalogFile, Catalog, IsCatalogFile, IsCatalog, geometry_of, present, blocks_of, with_changed, places_fitted, places_set, each-drop, each-found, Rewrite, Write, Resize, Restore, IsWithin, block_at, bytes_at, held_at, effect_of, IsRewrite, remapped, length-fitted, length-places_set}
 use Rattle.file_store.specs.Bodies.{block_of, body_at}
 use Rattle.file_store.proofs.ByBlocks.{Whole, full, has_bytes, same_body, length-body, length-block, byte-block, at_place, after_set, get_or-fitted, written-beside}
 use Rattle.file_store.proofs.EachOf.{each-weaker, each-parts, each_member}
@@ -47,6 +47,14 @@ beside_touched (Write offset bytes) body q r lawful l h others =
 beside_touched (Resize to) body q r lawful l h others =
     let size : ℕ = length body in
     (grind (arith, places), λ past. others_end q size (omega arith) (subst (λ (t : Bool). Others q (if t then old_end size else [])) (lt-ltb size to (omega arith)) others))
+beside_touched (Restore segment bytes) body q r lawful l h others =
+    let first : ℕ = 65536 * segment / 4096 in
+    let end : ℕ = 65536 * segment + length bytes.now in
+    let some = lawful.0 in
+    ⊎_elim
+    (λ (low : q < first). (written-beside (65536 * segment) (4096 * q + r) bytes.now body (inl (omega arith)), λ past. absurd (omega arith)))
+    (λ (from : first ≤ q). let high = others_run q first (blocks_in end - first) from others in (written-beside (65536 * segment) (4096 * q + r) bytes.now body (inr (omega arith)), λ past. absurd (omega arith)))
+    (cases_lt q first)
 
 -- ---- a body with its touched blocks at new places
 
@@ -54,7 +62,7 @@ beside_touched (Resize to) body q r lawful l h others =
 abbrev pub Stays : List ℕ → List ℕ → ℕ → Type 0
 Stays old new p = part new (4096 * p) 4096 ≡ part old (4096 * p) 4096
 
-module _ (change : Rewrite) (old new : List ℕ) (ps : List (Option ℕ)) (body : List ℕ) (ms : List Mapping) (lawful : IsRewrite change) (count : length ps ≡ blocks_in (length body)) (was : body_at old (length body) ps ≡ body) (whole : AllByRecursion (Whole old) (present ps))
+module _ (change : Rewrite) (old new : List ℕ) (ps : List (Option ℕ)) (body : List ℕ) (ms : List Mapping) (lawful : IsRewrite change) (within : IsWithin change (length body)) (count : length ps ≡ blocks_in (length body)) (was : body_at old (length body) ps ≡ body) (whole : AllByRecursion (Whole old) (present ps))
     (blocks : map (λ m. m.block) ms ≡ touched (effect_of change) (length body)) (there : AllByRecursion (λ m. part new (4096 * m.place) 4096 ≡ block_of (rebody (effect_of change) body) m.block) ms) (same : AllByRecursion (Stays old new) (present ps)) where
   abbrev to : ℕ
   to = size_after (effect_of change) (length body)
@@ -96,7 +104,7 @@ module _ (change : Rewrite) (old new : List ℕ) (ps : List (Option ℕ)) (body 
   changed_at : body_at new to (places_set ms (places_fitted to ps)) ≡ after
   changed_at =
       let long : length (places_set ms (places_fitted to ps)) ≡ blocks_in to = length-places_set ms (places_fitted to ps) ∙ length-fitted to ps in
-      same_body new to (places_set ms (places_fitted to ps)) after long (length-changed change body) (λ q h. (lies q (omega arith)).0) (λ q r l h. (lies q (omega arith)).1 r l h)
+      same_body new to (places_set ms (places_fitted to ps)) after long (length-changed change body within) (λ q h. (lies q (omega arith)).0) (λ q r l h. (lies q (omega arith)).1 r l h)
 
 -- ---- where the blocks in use stay
 
@@ -125,16 +133,16 @@ module _ (old new : List ℕ) (c : Catalog) (stays : (p : ℕ) → list_any (λ 
   held-stays = held-same (bytes_at old) (bytes_at new) c all-same
 
   -- and where new ones hold a file as it is after a change, so does that
-  pub held-changed : (change : Rewrite) (k : FileKey) (size : ℕ) (ms : List Mapping) (f : CatalogFile) (body : List ℕ) → IsCatalog c → ((p : ℕ) → p < (geometry_of c.geometry).blocks → Whole old p) → IsRewrite change
-      → find_key (λ g. g.key) k c.files ≡ Some f → bytes_at old f ≡ body → size ≡ size_after (effect_of change) (length body) → map (λ m. m.block) ms ≡ touched (effect_of change) (length body)
+  pub held-changed : (change : Rewrite) (k : FileKey) (ms : List Mapping) (f : CatalogFile) (body : List ℕ) → IsCatalog c → ((p : ℕ) → p < (geometry_of c.geometry).blocks → Whole old p) → IsRewrite change → IsWithin change (length body)
+      → find_key (λ g. g.key) k c.files ≡ Some f → bytes_at old f ≡ body → map (λ m. m.block) ms ≡ touched (effect_of change) (length body)
       → AllByRecursion (λ m. part new (4096 * m.place) 4096 ≡ block_of (rebody (effect_of change) body) m.block) ms
-      → held_at new (with_changed k (remapped size ms) c) ≡ record (held_at old c) { files = affected_held (effect_of change) k (held_at old c).files }
-  held-changed change k size ms f body lawful whole may found was after blocks there =
+      → held_at new (with_changed k (remapped change (length body) ms) c) ≡ record (held_at old c) { files = affected_held (effect_of change) k (held_at old c).files }
+  held-changed change k ms f body lawful whole may within found was blocks there =
       let is : IsCatalogFile (geometry_of c.geometry).blocks f = each-found (IsCatalogFile (geometry_of c.geometry).blocks) k f c.files lawful.each found in
       let each : AllByRecursion (Whole old) (present f.places) = each-weaker (λ p. p < (geometry_of c.geometry).blocks) (Whole old) whole (present f.places) is.within in
       let kept : AllByRecursion (Stays old new) (present f.places) = each-found (λ g. AllByRecursion (Stays old new) (present g.places)) k f c.files each-stays found in
       let long : f.size ≡ length body = sym (length-body old f.size f.places each is.places) ∙ ap length was in
       let lay : body_at old (length body) f.places ≡ body = ap (λ n. body_at old n f.places) (sym long) ∙ was in
-      let becomes = changed_at change old new f.places body ms may (is.places ∙ ap blocks_in long) lay each blocks there kept in
-      held-rewritten (bytes_at old) (bytes_at new) k change size ms c f found (after ∙ ap (λ (b : List ℕ). size_after (effect_of change) (length b)) (sym was)) (blocks ∙ ap (λ (b : List ℕ). touched (effect_of change) (length b)) (sym was))
-      (rw (after, was) becomes) (each-drop (SameBytes (bytes_at old) (bytes_at new)) k c.files all-same)
+      let becomes = changed_at change old new f.places body ms may within (is.places ∙ ap blocks_in long) lay each blocks there kept in
+      held-rewritten (bytes_at old) (bytes_at new) k change (length body) ms c f found (ap length (sym was)) blocks
+      (rw was becomes) (each-drop (SameBytes (bytes_at old) (bytes_at new)) k c.files all-same)

@@ -1,5 +1,5 @@
 -- What calls make durable, and what is true of the store after them.
-use Rattle.file_store.proofs.Names.{◌≡◌, ◌⊎◌, inl, inr, ⊎_elim, ℕ, ◌≤◌, ◌^◌, Bool, true, false, if◌then◌else◌, List, refl, sym, ◌∙◌, ap, subst, slice_index_or, AllByRecursion, MayBe, Keeps, Same, started, turns_leave, turns_now, joined, weakened, Space, Held, Catalog, blocks_of, IsImage, blocks_in_image, Recovers, Meta, IsMeta, Backs, StoresOrKeeps, HasStored, IsStoredNow, held_at, held_with, Store, IsDurable, IsEither, Proceeds, IsLive, IsSound, marks_of, Ghosts, IsHeldFiles}
+use Rattle.file_store.proofs.Names.{◌≡◌, ◌⊎◌, inl, inr, ⊎_elim, ℕ, ◌≤◌, ◌^◌, Bool, true, false, if◌then◌else◌, List, refl, sym, ◌∙◌, ap, subst, slice_index_or, AllByRecursion, HeldBody, MayBe, Keeps, Same, started, turns_leave, turns_now, joined, weakened, Space, Held, Catalog, blocks_of, IsImage, blocks_in_image, Recovers, Meta, IsMeta, Backs, StoresOrKeeps, HasStored, IsStoredNow, held_at, held_with, Store, IsDurable, IsEither, Proceeds, IsLive, IsSound, marks_of, Ghosts, IsHeldFiles}
 use Rattle.commit_slots.specs.Images.{slot_of}
 use Rattle.file_store.proofs.Marks.{marks_there}
 
@@ -7,8 +7,8 @@ use Rattle.file_store.proofs.Marks.{marks_there}
 pub record Parts (D : Type 0) : Type 0 where
   pub disk : D
   pub meta : Meta
-  pub bodies : List (List ℕ)
-  pub durable : List (List ℕ)
+  pub bodies : List HeldBody
+  pub durable : List HeldBody
   pub space : Space
   pub pending : Bool
   pub failed : Bool
@@ -90,11 +90,11 @@ pub record IsDone {D : Type 0} (g : Ghosts D) (old : Parts D) (n : ℕ) (next : 
   pub proceeds : Proceeds g (store_of old) n (store_of new)
 
 -- the store after it, where it was told whether a snapshot was written of what was held before, whose blocks have the full marks
-abbrev pub after_event : {D : Type 0} → Parts D → D → Meta → Bool → List (List ℕ) → List Bool → List Bool → Bool → Parts D
+abbrev pub after_event : {D : Type 0} → Parts D → D → Meta → Bool → List HeldBody → List Bool → List Bool → Bool → Parts D
 after_event p new m wrote bodies marks full pending =
     record { disk = new; meta = m; bodies = bodies; durable = if wrote then p.bodies else p.durable; space = record { current = marks; durable = if wrote then full else p.space.durable }; pending = pending; failed = p.failed }
 
-module _ {D : Type 0} (g : Ghosts D) (p : Parts D) (lawful : IsMeta p.meta) (live : IsLive g (store_of p)) (n : ℕ) (new : D) (m : Meta) (bodies : List (List ℕ)) (marks full : List Bool) (pending : Bool) where
+module _ {D : Type 0} (g : Ghosts D) (p : Parts D) (lawful : IsMeta p.meta) (live : IsLive g (store_of p)) (n : ℕ) (new : D) (m : Meta) (bodies : List HeldBody) (marks full : List Bool) (pending : Bool) where
   proceeds_after : (wrote : Bool) → Tells g p.disk p.meta n wrote new m → StoresOrKeeps g p.disk new p.meta n → Proceeds g (store_of p) n (store_of (after_event p new m wrote bodies marks full pending))
   proceeds_after true told turns =
       let now = (told.0 refl).1 in
@@ -138,7 +138,7 @@ module _ {D : Type 0} (g : Ghosts D) (p : Parts D) (lawful : IsMeta p.meta) (liv
 -- what was stored is what was held, which is lawful
 pub stored_meta : (m new : Meta) (n : ℕ) → IsMeta m → IsStoredNow m n new → new.current ≡ m.current → n ≤ 2 ^ 62 → IsMeta new
 stored_meta m new n lawful now current bound = record {
-  stored = record { number = rw now.number bound; catalog = rw now.durable lawful.current; geometry = rw (now.durable, current) refl };
+  stored = record { number = rw now.number bound; catalog = rw now.durable lawful.current; geometry = rw (now.durable, current) refl; lengths = rw now.durable lawful.stored.now; now = rw current lawful.stored.now };
   current = rw current lawful.current;
 }
 

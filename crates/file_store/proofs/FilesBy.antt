@@ -1,10 +1,18 @@
 -- A catalog's files as they are held, however their bytes are found: what the catalog tells of them, their keys, one that is found, one more, one less and one changed.
-use Rattle.file_store.proofs.Names.{map-find, map-put, map-drop, ◌≡◌, ℕ, ◌<◌, ◌≤◌, ◌+◌, List, [], ◌∷◌, length, map, true, cond, Option, Some, None, refl, sym, ◌∙◌, ap, subst, arith, is_some, IsSome, option_map, unwrap_or, ◌^◌, max, AllByRecursion, fold, sum, sum_by, length-map, FileKey, find_key, change_key, put_key, drop_key, Listed, greatest, named, free_inode, FileState, Held, used, used_by, next_key, affected_held, CatalogFile, Catalog, IsCatalog, geometry_of, present, blocks_of, attribute_total, names_in, kept_at, others_total, key_on, IsNewFile, total-drop, used-sum, name_of, each-found, files-few, blocks-few, file_by, told_of, told_held, Shows, IsLawful, Make, held_after, sum-map, Kept, Within, Makes, entry_of, next_listed, free-ge, free-le, free-absent}
+use Rattle.file_store.proofs.Names.{map-find, map-put, map-drop, ◌≡◌, ℕ, ◌<◌, ◌≤◌, ◌+◌, List, [], ◌∷◌, length, map, true, cond, Option, Some, None, refl, sym, ◌∙◌, ap, subst, arith, is_some, IsSome, option_map, unwrap_or, ◌^◌, max, AllByRecursion, fold, sum, sum_by, length-map, FileKey, find_key, same_key, cond_both, change_key, put_key, drop_key, Listed, greatest, named, free_inode, FileState, Held, used, used_by, next_key, affected_held, CatalogFile, Catalog, IsCatalog, geometry_of, present, blocks_of, attribute_total, names_in, kept_at, others_total, key_on, IsNewFile, total-drop, used-sum, name_of, each-found, files-few, blocks-few, file_by, told_of, told_held, Shows, IsLawful, Make, held_after, sum-map, Kept, Within, Makes, entry_of, next_listed, free-ge, free-le, free-absent}
 use Rattle.std.proofs.lemmas.Simd.{map-map}
 use Rattle.hsm_types.specs.Attributes.{bytes_of_attributes}
 use Rattle.plain_model.specs.Services.{kept_of, other_attributes, attribute_total as held_total}
 use Rattle.plain_model.specs.State.{names_of}
+use Rattle.hsm_types.specs.Segments.{segment_len}
+use Rattle.hsm_types.specs.Stubs.{FitsFile}
+use Rattle.meta_store.specs.Catalogs.{IsCatalogFile, IsCatalogStub, HasLengths, AreLengths, stub_total}
+use Rattle.meta_store.specs.Records.{others_stubs}
+use Rattle.plain_model.specs.Services.{other_stubs, stub_total as held_stubs}
 use Rattle.file_store.specs.Bodies.{held_by}
+use Rattle.file_store.specs.Stores.{IsStubbed, row_of, row_held}
+use Rattle.file_store.proofs.EachOf.{each-both}
+use Rattle.meta_store.proofs.FileEdits.{sum-drop}
 use Rattle.hsm_types.specs.Names.{is_name}
 use Rattle.inode_table.proofs.KeysAt.{found-key_at}
 
@@ -65,6 +73,9 @@ module _ (B : CatalogFile → List ℕ) where
   pub kept-held : (c : Catalog) (k : FileKey) → kept_of k (held_by B c).files ≡ kept_at k c
   kept-held c k = grind (arith, find-held k c)
 
+  pub kept-found : (c : Catalog) (k : FileKey) (f : CatalogFile) → find_key (λ x. x.key) k c.files ≡ Some f → kept_of k (held_by B c).files ≡ f.kept
+  kept-found c k f found = kept-held c k ∙ rw found refl
+
   -- what the attributes of the other files count
   pub others-held : (c : Catalog) (k : FileKey) (f : CatalogFile) → find_key (λ x. x.key) k c.files ≡ Some f → other_attributes k (held_by B c).files ≡ others_total k c
   others-held c k f found =
@@ -74,31 +85,69 @@ module _ (B : CatalogFile → List ℕ) where
       let rest = total-drop k f c.files found in
       omega arith
 
+  -- how many stub entries they have
+  pub stubs-others : (c : Catalog) (k : FileKey) (f : CatalogFile) → find_key (λ x. x.key) k c.files ≡ Some f → other_stubs k (held_by B c).files ≡ others_stubs k c
+  stubs-others c k f found =
+      let all : held_stubs (held_by B c).files ≡ stub_total c.files = sum-held (λ (s : FileState). length s.kept.stubs) c in
+      let own = ap (λ (x : Kept). length x.stubs) (kept-found c k f found) in
+      let rest = sum-drop (λ (g : CatalogFile). length g.kept.stubs) k f c.files found in
+      omega arith
+
   -- ---- what is true of them all
 
   told-found : (o : Option CatalogFile) → ((f : CatalogFile) → o ≡ Some f → length (B f) ≡ f.size) → option_map told_of o ≡ option_map told_held (option_map (file_by B) o)
   told-found None sizes = refl
   told-found (Some f) sizes = rw (sizes f refl, mapped-by f) refl
 
+  rows : (fs : List CatalogFile) → AllByRecursion (λ f. length (B f) ≡ f.size) fs → map row_of fs ≡ map row_held (map (file_by B) fs)
+  rows [] sizes = refl
+  rows (f ∷ fs) sizes = rw (sizes.0, rows fs sizes.1) refl
+
+  rows-held : (c : Catalog) → AllByRecursion (λ f. length (B f) ≡ f.size) c.files → map row_of c.files ≡ map row_held (held_by B c).files
+  unfolding held_by
+  rows-held c sizes = rows c.files sizes
+
   pub shows : (c : Catalog) → AllByRecursion (λ f. length (B f) ≡ f.size) c.files → Shows c (held_by B c)
   shows c sizes = record {
     next = sym (next-held c);
     names = sym (names-held c);
     found = λ k. told-found (find_key (λ f. f.key) k c.files) (λ f found. each-found (λ g. length (B g) ≡ g.size) k f c.files sizes found) ∙ ap (option_map told_held) (sym (find-held k c));
+    rows = rows-held c sizes;
     used = sym (used-held c);
   }
 
-  pub held_lawful : (c : Catalog) → IsCatalog c → IsLawful (geometry_of c.geometry).files (held_by B c)
-  held_lawful c is = record {
+  stubbed : (blocks : ℕ) (f : CatalogFile) → IsCatalogFile blocks f → HasLengths f → length (B f) ≡ f.size → IsStubbed (file_by B f)
+  stubbed blocks f is has size =
+      rw size record {
+        ascend = is.ascend;
+        each = each-both (IsCatalogStub f) (λ x. x.1.entry.print.len ≡ segment_len f.size x.0) (FitsFile f.size f.kept.regions) (λ x it len. record { start = it.start; len = len; volume = it.volume; covered = it.covered }) f.kept.stubs is.stubs has;
+      }
+
+  all-stubbed : (blocks : ℕ) (fs : List CatalogFile) → AllByRecursion (IsCatalogFile blocks) fs → AllByRecursion HasLengths fs → AllByRecursion (λ f. length (B f) ≡ f.size) fs → AllByRecursion IsStubbed (map (file_by B) fs)
+  all-stubbed blocks [] are has sizes = tt
+  all-stubbed blocks (f ∷ fs) are has sizes = (stubbed blocks f are.0 has.0 sizes.0, all-stubbed blocks fs are.1 has.1 sizes.1)
+
+  stubs-held : (c : Catalog) → IsCatalog c → AreLengths c → AllByRecursion (λ f. length (B f) ≡ f.size) c.files → AllByRecursion IsStubbed (held_by B c).files
+  unfolding held_by
+  stubs-held c is has sizes = all-stubbed (geometry_of c.geometry).blocks c.files is.each has sizes
+
+  pub held_lawful : (c : Catalog) → IsCatalog c → AreLengths c → AllByRecursion (λ f. length (B f) ≡ f.size) c.files → IsLawful (geometry_of c.geometry).files (held_by B c)
+  held_lawful c is has sizes = record {
     table = rw (names-held c, next-held c) is.table;
     opening = rw (names-held c, next-held c) (greatest-below (geometry_of c.geometry).files c.next _ is.first is.table.within);
     next = rw (next-held c) is.next;
     few = rw (length-held c) (files-few c is);
+    stubs = stubs-held c is has sizes;
   }
 
   -- no more blocks are used than there are
   pub used_few : (c : Catalog) → IsCatalog c → used (held_by B c).files ≤ (geometry_of c.geometry).blocks
   used_few c is = rw (used-held c) (blocks-few c is)
+
+-- a change of a file to itself
+pub change-none : {F : Type 0} (key : F → FileKey) (k : FileKey) (fs : List F) → change_key key k (λ f. f) fs ≡ fs
+change-none key k [] = refl
+change-none key k (f ∷ fs) = cond_both (same_key (key f) k) (f ∷ fs) (f ∷ change_key key k (λ x. x) fs) (λ gs. gs ≡ f ∷ fs) (λ same. refl) (λ other. ap (λ gs. f ∷ gs) (change-none key k fs))
 
 -- ---- edits, after which the bytes are found otherwise, but not those of the other files
 

@@ -1,6 +1,15 @@
 -- Bodies that are read block by block, and put by inode, one after the other in the order of the files.
-use Rattle.file_store.proofs.Names.{◌≡◌, ◌⊎◌, inl, inr, ⊎_elim, ℕ, ◌+◌, ◌-◌, ◌*◌, ◌<◌, ◌≤◌, List, [], length, get_or, take, Option, Some, None, sym, ◌∙◌, ap, subst, arith, zero, suc, ◌∷◌, ◌++◌, map, set, get_or-set_same, get_or-set_other, AllByRecursion, cases_lt, cases_eq, places, get_or-replicate, get_or-take, take_more, length-map, written, resized, blocks_in, part, sames_on, layout_of, geometry_of, present, CatalogFile, Catalog, IsCatalog, IsCatalogFile, names_of, blocks_in_image, OnlyReads, block_at, body_at, bytes_with, slice_get_within, get_or_from_slice_get, Table, entry_of, Ghosts}
+use Rattle.file_store.proofs.Names.{rules, same_lists, Bool, false, if◌then◌else◌, ◌||◌, is_some, replicate, ◌/◌, refl, true, false≢true, ◌≡◌, ◌⊎◌, inl, inr, ⊎_elim, ℕ, ◌+◌, ◌-◌, ◌*◌, ◌<◌, ◌≤◌, List, [], length, get_or, take, Option, Some, None, sym, ◌∙◌, ap, subst, arith, zero, suc, ◌∷◌, ◌++◌, map, set, get_or-set_same, get_or-set_other, AllByRecursion, cases_lt, cases_eq, places, get_or-replicate, get_or-take, take_more, length-map, written, resized, blocks_in, part, sames_on, layout_of, geometry_of, present, CatalogFile, Catalog, IsCatalog, IsCatalogFile, names_of, blocks_in_image, OnlyReads, block_at, body_at, body_with, HeldBody, no_body, is_away, slice_get_within, get_or_from_slice_get, Table, entry_of, Ghosts}
 use Rattle.std.specs.List.{slice_get}
+use Rattle.std.specs.Prelude.{IfSome}
+use Rattle.hsm_types.specs.Stubs.{Stubs, stub_at, is_offline, offline_at}
+use Rattle.hsm_types.specs.declared.stubs.StubEntry.{StubEntry}
+use Rattle.stub_map.specs.States.{state_of}
+use Rattle.stub_map.specs.declared.stubs.State.TheVariants.{Offline, Sealed}
+use Rattle.hsm_types.specs.declared.stubs.Stub.{Stub as StubOf}
+use Rattle.meta_store.specs.Catalogs.{IsCatalogStub}
+use Rattle.meta_store.proofs.ClearedPlaces.{away-at}
+use Rattle.meta_store.proofs.StubLists.{each-at as stub-each}
 use Rattle.file_store.proofs.Beside.{length-block}
 use Rattle.file_store.proofs.ByBlocks.{HasBytes, Whole, full, at_place, same_body, written-beside, written-in}
 use Rattle.file_store.proofs.EachOf.{each-weaker, each-both, each-join, each-there}
@@ -49,6 +58,56 @@ all-filled geometry size c ps body whole within count long has =
     let all : AllByRecursion (Whole blocks) (present ps) = each-weaker (λ p. p < (geometry_of geometry).blocks) (Whole blocks) (λ p low. length-block geometry c p low whole) (present ps) within in
     sym (same_body blocks size ps body count long (λ q h. full blocks ps all q) has)
 
+pub none-away : (j : ℕ) → is_away no_body j ≡ true → ⊥
+none-away j away = cc
+
+-- ---- entries
+
+-- the segments of a lawful file's entries begin within it
+pub stub-starts : (blocks : ℕ) (f : CatalogFile) → IsCatalogFile blocks f → AllByRecursion (λ x. 65536 * x.0 < f.size) f.kept.stubs
+stub-starts blocks f is = each-weaker (IsCatalogStub f) (λ x. 65536 * x.0 < f.size) (λ x lawful. lawful.start) f.kept.stubs is.stubs
+
+pub offline-some : (o : Option StubOf) → is_offline o ≡ true → (stub : StubOf) × (o ≡ Some stub) × (stub.offline ≡ true)
+offline-some None off = absurd (false≢true off)
+offline-some (Some stub) off = (stub, refl, off)
+
+some-at : (o : Option StubOf) → is_some o ≡ true → (stub : StubOf) × (o ≡ Some stub)
+some-at None some = absurd (false≢true some)
+some-at (Some stub) some = (stub, refl)
+
+pub entry-starts : (size j : ℕ) (stubs : Stubs) → AllByRecursion (λ x. 65536 * x.0 < size) stubs → is_some (stub_at j stubs) ≡ true → 65536 * j < size
+entry-starts size j stubs starts some = let at = some-at (stub_at j stubs) some in stub-each (λ x. 65536 * x.0 < size) stubs j at.0 starts at.1
+
+pub offline-state : (o : Option StubOf) (entry : StubEntry) → state_of o ≡ Offline entry → is_offline o ≡ true
+offline-state None entry is = cc
+offline-state (Some stub) entry is = by stub.offline is
+  where
+    by : (b : Bool) → (if b then Offline stub.entry else Sealed stub.entry) ≡ Offline entry → b ≡ true
+    by true same = refl
+    by false same = cc
+
+-- the entry has what is true of each
+pub entry-has : (P : ℕ × StubOf → Type 0) (j : ℕ) (stubs : Stubs) → AllByRecursion P stubs → IfSome (stub_at j stubs) (λ stub. P (j, stub))
+entry-has P j stubs all = by (stub_at j stubs) (λ stub is. stub-each P stubs j stub all is)
+  where
+    by : (o : Option StubOf) → ((stub : StubOf) → o ≡ Some stub → P (j, stub)) → IfSome o (λ stub. P (j, stub))
+    by None has = tt
+    by (Some stub) has = has stub refl
+
+-- zeros over zeros
+pub written-zeros : (from k n : ℕ) (body : List ℕ) → body ≡ replicate n 0 → from + k ≤ n → written from (replicate k 0) body ≡ body
+written-zeros from k n body zeros within = rw zeros (same_lists _ _ (search (rules, places)) (λ i d h. grind (arith, places)))
+
+pub either : (a b : Bool) → (a || b) ≡ true → (a ≡ true) ⊎ (b ≡ true)
+either true b is = inl refl
+either false b is = inr is
+
+-- and those that are offline have no blocks
+pub offline-holes : (blocks : ℕ) (f : CatalogFile) → IsCatalogFile blocks f → (i : ℕ) → offline_at f.kept.stubs (i / 16) ≡ true → get_or f.places i None ≡ None
+offline-holes blocks f is i off =
+    let at = offline-some (stub_at (i / 16) f.kept.stubs) off in
+    away-at 16 (16 * (i / 16)) f.places ((stub-each (IsCatalogStub f) f.kept.stubs (i / 16) at.0 is.stubs at.1).away at.2) i (omega arith) (omega arith)
+
 -- ---- by inode
 
 -- the table of a catalog has as many names
@@ -85,12 +144,12 @@ next-file c i f is at = record {
 }
 
 -- What is true of each file and its body stays so, since the bodies of lower inodes stay, and is true of one file more.
-pub each-more : (P : CatalogFile → List ℕ → Type 0) (c : Catalog) (i : ℕ) (f : CatalogFile) (bodies : List (List ℕ)) (body : List ℕ) → IsNext c i f → length bodies ≡ (geometry_of c.geometry).files → P f body → AllByRecursion (λ g. P g (bytes_with bodies g)) (take i c.files)
-    → AllByRecursion (λ g. P g (bytes_with (set bodies (f.key.ino - 1) body) g)) (take (i + 1) c.files)
+pub each-more : (P : CatalogFile → HeldBody → Type 0) (c : Catalog) (i : ℕ) (f : CatalogFile) (bodies : List HeldBody) (body : HeldBody) → IsNext c i f → length bodies ≡ (geometry_of c.geometry).files → P f body → AllByRecursion (λ g. P g (body_with bodies g)) (take i c.files)
+    → AllByRecursion (λ g. P g (body_with (set bodies (f.key.ino - 1) body) g)) (take (i + 1) c.files)
 each-more P c i f bodies body is count here are =
     let new = set bodies (f.key.ino - 1) body in
-    let Q : CatalogFile → Type 0 = λ g. P g (bytes_with new g) in
-    let there : get_or new (f.key.ino - 1) [] ≡ body = get_or-set_same bodies (f.key.ino - 1) body [] (omega arith) in
-    let stay : (g : CatalogFile) → (1 ≤ g.key.ino) × (g.key.ino < f.key.ino) → P g (bytes_with bodies g) → Q g =
-    λ g below p. let from = below.0 in let to = below.1 in subst (λ (b : List ℕ). P g b) (sym (get_or-set_other bodies (f.key.ino - 1) (g.key.ino - 1) body [] (λ same. absurd (omega arith)))) p in
-    subst (λ (fs : List CatalogFile). AllByRecursion Q fs) (sym is.more) (each-join Q (take i c.files) (f ∷ []) (each-both _ _ Q stay (take i c.files) is.before are) (subst (λ (b : List ℕ). P f b) (sym there) here, tt))
+    let Q : CatalogFile → Type 0 = λ g. P g (body_with new g) in
+    let there : get_or new (f.key.ino - 1) no_body ≡ body = get_or-set_same bodies (f.key.ino - 1) body no_body (omega arith) in
+    let stay : (g : CatalogFile) → (1 ≤ g.key.ino) × (g.key.ino < f.key.ino) → P g (body_with bodies g) → Q g =
+    λ g below p. let from = below.0 in let to = below.1 in subst (λ (b : HeldBody). P g b) (sym (get_or-set_other bodies (f.key.ino - 1) (g.key.ino - 1) body no_body (λ same. absurd (omega arith)))) p in
+    subst (λ (fs : List CatalogFile). AllByRecursion Q fs) (sym is.more) (each-join Q (take i c.files) (f ∷ []) (each-both _ _ Q stay (take i c.files) is.before are) (subst (λ (b : HeldBody). P f b) (sym there) here, tt))

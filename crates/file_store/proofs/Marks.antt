@@ -1,10 +1,11 @@
 -- The marks of the blocks that files use: places that may be taken, and what is left where a file frees blocks.
-use Rattle.file_store.proofs.Names.{places, ◌≡◌, ℕ, ◌+◌, ◌<◌, ◌≤◌, List, [], ◌∷◌, ◌++◌, length, take, drop, set, get_or, Option, Some, None, Bool, true, false, eqb, ltb, refl, sym, ◌∙◌, ap, subst, arith, length-set, get_or-set_other, replicate, AllByRecursion, list_any, sum_by, false≢true, false_from_ne_true, length-replicate, All-from_recursion, All-weaker, recursion_from_All, FileKey, find_key, change_key, put_key, drop_key, blocks_in, Space, free, marked, unmarked, All-has, Ascend, Ascend-low, Record, Make, Drop, Size, Map, CatalogFile, Catalog, IsCatalogFile, IsCatalog, geometry_of, present, blocks_of, file_after, inode_of, key_on, after, CanStand, places_fitted, places_set, with_changed, uses_of, uses-sum, sum-put, sum-drop, sum-change, blocks-change, each-found, blocks-within, IsBodiless, drops, mappings_of, remapped, places_under, freed_by, marks_of, sum_by-cons, sum_by-set, Distinct, IsFree, length-marked, others_are_free, taken_are_free, take_adds_others, marks_are_members, marks_join, releases-leave, uses, uses-append, distinct-uses, empty_file, length-fitted, present-fitted}
+use Rattle.file_store.proofs.Names.{Stub, Rewrite, effect_of, size_after, places, ◌≡◌, ℕ, ◌+◌, ◌<◌, ◌≤◌, List, [], ◌∷◌, ◌++◌, length, take, drop, set, get_or, Option, Some, None, Bool, true, false, eqb, ltb, refl, sym, ◌∙◌, ap, subst, arith, length-set, get_or-set_other, replicate, AllByRecursion, list_any, sum_by, false≢true, false_from_ne_true, length-replicate, All-from_recursion, All-weaker, recursion_from_All, FileKey, find_key, change_key, put_key, drop_key, blocks_in, Space, free, marked, unmarked, All-has, Ascend, Ascend-low, Record, Make, Drop, Size, Map, CatalogFile, Catalog, IsCatalogFile, IsCatalog, geometry_of, present, blocks_of, file_after, inode_of, key_on, after, CanStand, places_fitted, places_set, with_changed, uses_of, uses-sum, sum-put, sum-drop, sum-change, blocks-change, each-found, blocks-within, IsBodiless, drops, mappings_of, remapped, places_under, freed_by, marks_of, sum_by-cons, sum_by-set, Distinct, IsFree, length-marked, others_are_free, taken_are_free, take_adds_others, marks_are_members, marks_join, releases-leave, uses, uses-append, distinct-uses, empty_file, length-fitted, present-fitted}
 use Rattle.std.specs.List.{All}
 use Rattle.std.proofs.lemmas.Bool.Decides.{nat_tests}
 use Rattle.file_store.specs.Effects.{IsFreed}
 use Rattle.file_store.proofs.ByBlocks.{get_or-fitted}
 use Rattle.file_store.proofs.EachOf.{each_member}
+use Rattle.file_store.proofs.SealedFiles.{seal-places}
 
 -- none of the places is among these blocks
 abbrev pub NoneOf : List ℕ → List ℕ → Type 0
@@ -70,7 +71,7 @@ has-uses b [] = refl
 has-uses b (m ∷ ms) = let rest = has-uses b ms in grind (arith, nat_tests)
 
 -- where blocks are some and others, each once, the marks without some are those of the others
-marks-left : (total : ℕ) (all some others : List ℕ) → ((b : ℕ) → uses b all ≤ 1) → ((b : ℕ) → uses b all ≡ uses b some + uses b others) → unmarked some (marked all (replicate total false)) ≡ marked others (replicate total false)
+pub marks-left : (total : ℕ) (all some others : List ℕ) → ((b : ℕ) → uses b all ≤ 1) → ((b : ℕ) → uses b all ≡ uses b some + uses b others) → unmarked some (marked all (replicate total false)) ≡ marked others (replicate total false)
 marks-left total all some others once sum =
     releases-leave total all some others (λ b. let most = once b in let is = sum b in rw (has-uses b all, has-uses b some, has-uses b others) (grind (arith, nat_tests)))
 
@@ -94,6 +95,11 @@ module _ (k : FileKey) (c : Catalog) (lawful : IsCatalog c) (freed : List ℕ) w
       omega (arith, ap (uses n) (free stands.0 (rw is at stands.1)), uses-sum n c.files, uses-sum n (drop_key (λ f. f.key) j c.files), sum-drop (uses_of n) j stands.0 c.files stands.1)
   uses-freed (Size ino size) is stands free n = absurd is
   uses-freed (Map ino block places) is stands free n = absurd is
+  uses-freed (Stub ino j None) is stands free n = absurd is
+  uses-freed (Stub ino j (Some stub)) is stands free n =
+      let at : FileKey = key_on ino c in
+      let seal = is.1 stands.0 (ap (λ (i : FileKey). find_key (λ x. x.key) i c.files) (sym is.0) ∙ stands.1) in
+      rw (free, blocks-change at (file_after (Stub ino j (Some stub))) c.files (λ f. seal-places ino j stub f seal.stays)) (omega arith)
   uses-freed r is stands free n = rw (free, blocks-change (key_on (inode_of r) c) (file_after r) c.files (λ f. refl)) (omega arith)
 
   -- the marks that are left are those of the catalog after it
@@ -144,7 +150,7 @@ under-fitted size [] ps below = refl
 under-fitted size (b ∷ bs) ps below = rw (get_or-fitted size b ps below.0, under-fitted size bs ps below.1) refl
 
 file-moved : (n size : ℕ) (bs places : List ℕ) (f : CatalogFile) → Ascend 0 bs → AllByRecursion (λ b. b < blocks_in size) bs → length places ≡ length bs
-    → uses n (present (remapped size (mappings_of bs places) f).places) + uses n (freed_by size bs f.places) ≡ uses n places + uses n (present f.places)
+    → uses n (present (places_set (mappings_of bs places) (places_fitted size f.places))) + uses n (freed_by size bs f.places) ≡ uses n places + uses n (present f.places)
 file-moved n size bs places f a below long =
     let fitted : List (Option ℕ) = places_fitted size f.places in
     let past : List ℕ = present (drop (blocks_in size) f.places) in
@@ -157,10 +163,11 @@ pub uses-changed : (n : ℕ) (k : FileKey) (to : CatalogFile → CatalogFile) (f
 uses-changed n k to f fs found = omega (arith, uses-sum n fs, uses-sum n (change_key (λ g. g.key) k to fs), sum-change (uses_of n) k to f fs found)
 
 -- Once the new places are marked and those that the file leaves are released, the marks are those of the new catalog.
-pub marks-moved : (c : Catalog) (size : ℕ) (bs places : List ℕ) (k : FileKey) (f : CatalogFile) → find_key (λ g. g.key) k c.files ≡ Some f → Ascend 0 bs → AllByRecursion (λ b. b < blocks_in size) bs → length places ≡ length bs
-    → ((n : ℕ) → uses n (blocks_of c.files ++ places) ≤ 1) → unmarked (freed_by size bs f.places) (marked places (marks_of c)) ≡ marks_of (with_changed k (remapped size (mappings_of bs places)) c)
-marks-moved c size bs places k f found a below long once =
-    let to : CatalogFile → CatalogFile = remapped size (mappings_of bs places) in
+pub marks-moved : (c : Catalog) (change : Rewrite) (was : ℕ) (bs places : List ℕ) (k : FileKey) (f : CatalogFile) → find_key (λ g. g.key) k c.files ≡ Some f → Ascend 0 bs → AllByRecursion (λ b. b < blocks_in (size_after (effect_of change) was)) bs → length places ≡ length bs
+    → ((n : ℕ) → uses n (blocks_of c.files ++ places) ≤ 1) → unmarked (freed_by (size_after (effect_of change) was) bs f.places) (marked places (marks_of c)) ≡ marks_of (with_changed k (remapped change was (mappings_of bs places)) c)
+marks-moved c change was bs places k f found a below long once =
+    let size : ℕ = size_after (effect_of change) was in
+    let to : CatalogFile → CatalogFile = remapped change was (mappings_of bs places) in
     ap (unmarked (freed_by size bs f.places)) (marks_join (geometry_of c.geometry).blocks (blocks_of c.files) places)
     ∙ marks-left (geometry_of c.geometry).blocks (blocks_of c.files ++ places) (freed_by size bs f.places) (blocks_of (change_key (λ g. g.key) k to c.files)) once
     (λ n. omega (arith, uses-changed n k to f c.files found, file-moved n size bs places f a below long, uses-append n (blocks_of c.files) places))

@@ -18,14 +18,15 @@ pub use Rattle.disk_model.specs.Images.{part, IsFreed, IsWritten, Follows}
 pub use Rattle.disk_model.specs.Moments.{Keeps, MayBe, Same}
 pub use Rattle.disk_model.specs.declared.device.Disk.{Ghosts}
 pub use Rattle.file_body.proofs.Sizes.{length-written, length-resized}
-pub use Rattle.file_store.specs.Bodies.{held_at, block_of, block_at, body_at, bytes_at, held_with, file_by, bytes_with, AreBodies}
+pub use Rattle.file_body.specs.HeldBodies.{HeldBody, no_body, is_away, AreHere, KeepsHere}
+pub use Rattle.file_store.specs.Bodies.{held_at, block_of, block_at, body_at, bytes_at, held_with, file_by, body_with, bytes_with, IsHere, IsBody, AreBodies}
 pub use Rattle.file_store.specs.Effects.{held_after, IsBodiless, drops, effect_in, empties}
 pub use Rattle.file_store.specs.HeldFiles.{IsHeldFiles}
-pub use Rattle.file_store.specs.Rewrites.{new_size, touched_of, grown, places_for, mappings_of, effect_of, IsRewrite, remapped, places_under, freed_by, mappings_in, IsMapOn, IsRewriting}
+pub use Rattle.file_store.specs.Rewrites.{new_size, touched_of, grown, places_for, mappings_of, effect_of, IsRewrite, remapped, places_under, freed_by, IsWithin, HasEntry, IsBrought, HasRange, IsLeft, unseals, unsealing, IsHead, AreUnsealed, mappings_in, IsMapOn, IsRewriting}
 pub use Rattle.file_store.specs.Steps.{IsStaged, IsBesideBlocks, places_of, HasBlocks, OnlyReads}
 pub use Rattle.file_store.specs.Stores.{Store, IsDurable, IsEither, Proceeds, IsLive, IsSound, marks_of, told_of, told_held, Shows, IsLawful}
 pub use Rattle.file_store.specs.declared.rewrites.Rewrite.{Rewrite}
-pub use Rattle.file_store.specs.declared.rewrites.Rewrite.TheVariants.{Write, Resize}
+pub use Rattle.file_store.specs.declared.rewrites.Rewrite.TheVariants.{Write, Resize, Restore}
 pub use Rattle.hsm_types.specs.Kept.{Kept}
 pub use Rattle.hsm_types.specs.declared.keys.FileKey.{FileKey}
 pub use Rattle.inode_table.proofs.Orders.{free-ge, free-le, free-absent, absent-low, ascend-drop}
@@ -40,13 +41,13 @@ pub use Rattle.meta_store.proofs.SnapshotFits.{files-few, blocks-few, blocks-wit
 pub use Rattle.meta_store.specs.Catalogs.{Catalog, geometry_of, blocks_of, IsCatalog, present, CatalogFile, IsCatalogFile, attribute_total, names_of as names_in, names_of}
 pub use Rattle.meta_store.specs.Images.{IsImage, blocks_in_image, Recovers}
 pub use Rattle.meta_store.specs.Meta.{Meta, Backs, IsMeta, StoresOrKeeps, HasStored, IsStoredNow}
-pub use Rattle.meta_store.specs.Records.{places_fitted, places_set, with_changed, kept_at, others_total, key_on, IsNewFile, file_after, inode_of, after, CanStand, mappings_from, after_all, refusal_of_all, IsMappable, CanStandAll, IsMap, IsEvent, refusal_of, with_file}
+pub use Rattle.meta_store.specs.Records.{places_fitted, places_set, with_changed, kept_at, others_total, key_on, IsNewFile, file_after, inode_of, after, CanStand, mappings_from, after_all, refusal_of_all, IsMappable, CanStandAll, IsSure, IsEvent, refusal_of, with_file}
 pub use Rattle.meta_store.specs.declared.records.Record.{Record}
-pub use Rattle.meta_store.specs.declared.records.Record.TheVariants.{Make, Drop, Size, Map}
+pub use Rattle.meta_store.specs.declared.records.Record.TheVariants.{Make, Drop, Size, Map, Stub}
 pub use Rattle.meta_store.specs.declared.snapshot.Mapping.{Mapping}
 pub use Rattle.plain_model.specs.Blocks.{blocks_in, old_end, touched, size_after, from_on, met, with_mapped, fitted, mapped_after}
 pub use Rattle.plain_model.specs.Distinct.{Distinct}
 pub use Rattle.plain_model.specs.Effects.{Effect, Makes}
 pub use Rattle.plain_model.specs.Keyed.{find_key, same_key, change_key, put_key, drop_key}
 pub use Rattle.plain_model.specs.Plain.{written, resized, rebody, Listed, greatest, named, free_inode}
-pub use Rattle.plain_model.specs.State.{affected_held, Held, FileState, file_or_new, used, used_by, next_key, bytes_of, new_file, remade, next_key as next_held}
+pub use Rattle.plain_model.specs.State.{affected_held, Held, FileState, file_at as held_file, file_or_new, rekept, used, used_by, next_key, bytes_of, new_file, remade, next_key as next_held}

@@ -1,9 +1,21 @@
 -- The records of a change of a file's bytes: that they are its places, the catalog after them, and that they can come.
-use Rattle.file_store.proofs.Names.{rules, ◌≡◌, ⊎_elim, ◌<◌, ℕ, zero, suc, ◌+◌, ◌-◌, ◌≤◌, min, List, [], ◌∷◌, ◌++◌, length, take, drop, get_or, Option, Some, None, refl, sym, ◌∙◌, ap, arith, length-append, take_all, set, false, eqb, subst, cases_lt, cond_both, ltb-true, drop_more, drop_all, get_or_past, map-append, same_lists, places, from_on, blocks_in, Mapping, Record, Size, Map, present, CatalogFile, Catalog, geometry_of, blocks_of, mappings_from, places_set, file_after, with_changed, key_on, after, after_all, refusal_of_all, IsMappable, CanStandAll, IsMap, IsEvent, mappings_of, mappings_in, IsMapOn, IsRewriting, places_under, freed_by, remapped, flat_map, list_any, AllByRecursion, FileKey, same_key, find_key, change_key, names_of-change, places_of, uses, uses-append, absent-unused, uses-distinct, length-fitted, length-places_set, uses-fitted, uses-mapped}
-use Rattle.std.proofs.lemmas.List.{append_assoc}
+use Rattle.file_store.proofs.Names.{◌||◌, true, Bool, ◌*◌, max, map, ◌&&◌, ltb, and_parts, and_from, lt-ltb, cases_eq, ◌/◌, false≢true, is_some, IsSure, Stub, Rewrite, Write, Resize, Restore, effect_of, size_after, rekept, unseals, unsealing, IsHead, AreUnsealed, IsCatalogFile, places_fitted, CanStand, refusal_of, rules, ◌≡◌, ⊎_elim, ◌<◌, ℕ, zero, suc, ◌+◌, ◌-◌, ◌≤◌, min, List, [], ◌∷◌, ◌++◌, length, take, drop, get_or, Option, Some, None, refl, sym, ◌∙◌, ap, arith, length-append, take_all, set, false, eqb, subst, cases_lt, cond_both, ltb-true, drop_more, drop_all, get_or_past, map-append, same_lists, places, from_on, blocks_in, Mapping, Record, Size, Map, present, CatalogFile, Catalog, geometry_of, blocks_of, mappings_from, places_set, file_after, with_changed, key_on, after, after_all, refusal_of_all, IsMappable, CanStandAll, IsEvent, mappings_of, mappings_in, IsMapOn, IsRewriting, places_under, freed_by, remapped, flat_map, list_any, AllByRecursion, FileKey, same_key, find_key, change_key, names_of-change, places_of, uses, uses-append, absent-unused, uses-distinct, length-fitted, length-places_set, uses-fitted, uses-mapped}
+use Rattle.std.proofs.lemmas.List.{append_assoc, append-nil}
 use Rattle.file_body.proofs.Runs.{length_blocks}
-use Rattle.file_store.proofs.EachOf.{each-parts, each_member}
+use Rattle.file_store.proofs.EachOf.{each-parts, each-join, each-weaker, each_member}
 use Rattle.file_store.proofs.Marks.{has-uses, uses-changed}
+use Rattle.file_store.proofs.FilesBy.{change-none}
+use Rattle.file_store.proofs.UnsealedEntries.{without_all, here-without, here-below, none-unsealed, left-written, left-resized}
+use Rattle.std.specs.Prelude.{nat_le}
+use Rattle.std.proofs.lemmas.Bool.{le-leb, leb-true, eq-eqb}
+use Rattle.std.proofs.lemmas.List.Folds.{list_any-append}
+use Rattle.stub_map.specs.States.{NoneBetween}
+use Rattle.hsm_types.specs.Segments.{segments_in}
+use Rattle.hsm_types.specs.Stubs.{Stubs, stub_at, is_offline, offline_at, with_stub, without_stub, restored}
+use Rattle.hsm_types.specs.declared.stubs.Stub.{Stub as StubOf}
+use Rattle.meta_store.specs.Catalogs.{IsCatalogStub}
+use Rattle.meta_store.specs.Records.{IsStubbable}
+use Rattle.meta_store.proofs.StubLists.{moved-with, each-at as stub-each}
 
 -- ---- places of two runs of blocks
 
@@ -24,8 +36,65 @@ mappings-runs a m b n blocks ps is long = mappings-two a m b n ps (long ∙ ap l
 pub run-within : (a m b n : ℕ) (blocks : List ℕ) → from_on a m ++ from_on b n ≡ blocks → m ≤ length blocks
 run-within a m b n blocks is = omega (arith, ap length is, length-append (from_on a m) (from_on b n), length_blocks None a m)
 
-pub size_first : (ino size : ℕ) → IsRewriting ino size [] (Size ino size ∷ [])
-size_first ino size = record { maps = []; first = refl; each = tt; all = refl }
+-- the first record, and then those that drop entries
+pub unseals_first : (ino : ℕ) (change : Rewrite) (size from to : ℕ) (stubs : Stubs) (first : Record) (records : List Record) → IsHead ino change size stubs first → ((j : ℕ) → unseals change size j ≡ (nat_le from j && ltb j to))
+    → AreUnsealed ino from to stubs (first ∷ []) records → IsRewriting ino change size stubs [] records
+unseals_first ino change size from to stubs first records head range is = record {
+  first = first;
+  segments = is.segments;
+  maps = [];
+  are = is.are ∙ ap (λ (rs : List Record). first ∷ rs) (sym (append-nil (map (unsealing ino) is.segments)));
+  head = head;
+  only = each-weaker (λ j. (from ≤ j) × (j < to)) (λ j. unseals change size j ≡ true) (λ j within. range j ∙ and_from (nat_le from j) (ltb j to) (le-leb from j within.0) (lt-ltb j to within.1)) is.segments is.only;
+  every = λ j drops some. let parts = and_parts (nat_le from j) (ltb j to) (sym (range j) ∙ drops) in is.every j (leb-true from j parts.0) (ltb-true j to parts.1) some;
+  each = tt;
+  all = refl;
+}
+
+-- ---- entries that go, of one segment after another
+
+pub none_unsealed : (ino from : ℕ) (stubs : Stubs) (before : List Record) → AreUnsealed ino from from stubs before before
+none_unsealed ino from stubs before = record { segments = []; are = sym (append-nil before); only = tt; every = λ j low high some. absurd (omega arith) }
+
+or-left : (a b : Bool) → a ≡ true → (a || b) ≡ true
+or-left true b is = refl
+or-left false b is = absurd (false≢true is)
+
+or-right : (a b : Bool) → b ≡ true → (a || b) ≡ true
+or-right true b is = refl
+or-right false b is = is
+
+not-some : (o : Option StubOf) → o ≡ None → is_some o ≡ true → ⊥
+not-some None none some = false≢true some
+not-some (Some stub) none some = cc
+
+-- the next one
+pub more_unsealed : (ino from start segment : ℕ) (stubs : Stubs) (before mid after : List Record) → from ≤ start → start ≤ segment → NoneBetween start segment stubs → after ≡ mid ++ unsealing ino segment ∷ [] → AreUnsealed ino from start stubs before mid
+    → AreUnsealed ino from (segment + 1) stubs before after
+more_unsealed ino from start segment stubs before mid after begun low none pushed is = record {
+  segments = is.segments ++ segment ∷ [];
+  are = pushed ∙ ap (λ (rs : List Record). rs ++ unsealing ino segment ∷ []) is.are ∙ append_assoc before (map (unsealing ino) is.segments) (unsealing ino segment ∷ []) ∙ ap (λ (rs : List Record). before ++ rs) (sym (map-append (unsealing ino) is.segments (segment ∷ [])));
+  only = each-join (λ j. (from ≤ j) × (j < segment + 1)) is.segments (segment ∷ []) (each-weaker (λ j. (from ≤ j) × (j < start)) (λ j. (from ≤ j) × (j < segment + 1)) (λ j in_it. (in_it.0, let high = in_it.1 in omega arith)) is.segments is.only) ((omega arith, omega arith), tt);
+  every = λ j above below some.
+      list_any-append (λ s. eqb s j) is.segments (segment ∷ [])
+      ∙ ⊎_elim
+      (λ (early : j < start). or-left (list_any (λ s. eqb s j) is.segments) (list_any (λ s. eqb s j) (segment ∷ [])) (is.every j above early some))
+      (λ (late : start ≤ j).
+      ⊎_elim
+      (λ (same : segment ≡ j). or-right (list_any (λ s. eqb s j) is.segments) (list_any (λ s. eqb s j) (segment ∷ [])) (or-left (eqb segment j) false (eq-eqb segment j same)))
+      (λ (other : segment ≡ j → ⊥). absurd (not-some (stub_at j stubs) (none j late (omega arith)) some))
+      (cases_eq segment j))
+      (cases_lt j start);
+}
+
+-- and no more
+pub all_unsealed : (ino from start to : ℕ) (stubs : Stubs) (before after : List Record) → start ≤ max from to → ((j : ℕ) → start ≤ j → j < to → stub_at j stubs ≡ None) → AreUnsealed ino from start stubs before after → AreUnsealed ino from to stubs before after
+all_unsealed ino from start to stubs before after most none is = record {
+  segments = is.segments;
+  are = is.are;
+  only = each-weaker (λ j. (from ≤ j) × (j < start)) (λ j. (from ≤ j) × (j < to)) (λ j in_it. (in_it.0, let low = in_it.0 in let high = in_it.1 in omega arith)) is.segments is.only;
+  every = λ j above below some. ⊎_elim (λ (early : j < start). is.every j above early some) (λ (late : start ≤ j). absurd (not-some (stub_at j stubs) (none j late below) some)) (cases_lt j start);
+}
 
 -- ---- places that a run of blocks had
 
@@ -65,11 +134,11 @@ change-twice : (k : FileKey) (f g h : CatalogFile → CatalogFile) (fs : List Ca
 change-twice k f g h [] key is = refl
 change-twice k f g h (x ∷ fs) key is = grind (arith, key x, is x, change-twice k f g h fs key is)
 
-find-changed : (k : FileKey) (to : CatalogFile → CatalogFile) (f : CatalogFile) (fs : List CatalogFile) → ((x : CatalogFile) → (to x).key ≡ x.key) → find_key (λ x. x.key) k fs ≡ Some f → find_key (λ x. x.key) k (change_key (λ x. x.key) k to fs) ≡ Some (to f)
+pub find-changed : (k : FileKey) (to : CatalogFile → CatalogFile) (f : CatalogFile) (fs : List CatalogFile) → ((x : CatalogFile) → (to x).key ≡ x.key) → find_key (λ x. x.key) k fs ≡ Some f → find_key (λ x. x.key) k (change_key (λ x. x.key) k to fs) ≡ Some (to f)
 find-changed k to f [] key found = cc
 find-changed k to f (x ∷ fs) key found = grind (arith, key x, find-changed k to f fs key)
 
-key_on-changed : (ino : ℕ) (k : FileKey) (to : CatalogFile → CatalogFile) (c : Catalog) → ((x : CatalogFile) → ((to x).key ≡ x.key) × ((to x).name ≡ x.name)) → key_on ino (with_changed k to c) ≡ key_on ino c
+pub key_on-changed : (ino : ℕ) (k : FileKey) (to : CatalogFile → CatalogFile) (c : Catalog) → ((x : CatalogFile) → ((to x).key ≡ x.key) × ((to x).name ≡ x.name)) → key_on ino (with_changed k to c) ≡ key_on ino c
 key_on-changed ino k to c same = rw (names_of-change k to c.files (λ x. rw ((same x).0, (same x).1) refl)) refl
 
 places_set-append : (ms ns : List Mapping) (ps : List (Option ℕ)) → places_set ns (places_set ms ps) ≡ places_set (ms ++ ns) ps
@@ -81,12 +150,8 @@ places_set-append (m ∷ ms) ns ps = places_set-append ms ns (set ps m.block (So
 abbrev mapped_by : List Mapping → CatalogFile → CatalogFile
 mapped_by ms f = record f { places = places_set ms f.places }
 
-same-files : (k : FileKey) (fs : List CatalogFile) → change_key (λ x. x.key) k (λ x. x) fs ≡ fs
-same-files k [] = refl
-same-files k (f ∷ fs) = cond_both (same_key f.key k) (f ∷ fs) (f ∷ change_key (λ x. x.key) k (λ x. x) fs) (λ gs. gs ≡ f ∷ fs) (λ same. refl) (λ other. ap (λ (gs : List CatalogFile). f ∷ gs) (same-files k fs))
-
 after-maps : (ino : ℕ) (maps : List Record) (c : Catalog) → AllByRecursion (IsMapOn ino) maps → after_all maps c ≡ with_changed (key_on ino c) (mapped_by (flat_map mappings_in maps)) c
-after-maps ino [] c each = ap (λ (fs : List CatalogFile). record c { files = fs }) (sym (same-files (key_on ino c) c.files))
+after-maps ino [] c each = ap (λ (fs : List CatalogFile). record c { files = fs }) (sym (change-none (λ (f : CatalogFile). f.key) (key_on ino c) c.files))
 after-maps ino (Map i block places ∷ maps) c each =
     let ms : List Mapping = mappings_from block places.items in
     let rest : List Mapping = flat_map mappings_in maps in
@@ -97,40 +162,144 @@ after-maps ino (Map i block places ∷ maps) c each =
     ∙ ap (λ (fs : List CatalogFile). record c { files = fs }) (change-twice (key_on ino c) (mapped_by ms) (mapped_by rest) (mapped_by (ms ++ rest)) c.files (λ x. refl) (λ x. ap (λ (ps : List (Option ℕ)). record x { places = ps }) (places_set-append ms rest x.places)))
 after-maps ino (r ∷ maps) c each = absurd each.0
 
-pub after_rewriting : (ino size : ℕ) (ms : List Mapping) (rs : List Record) (c : Catalog) → IsRewriting ino size ms rs → after_all rs c ≡ with_changed (key_on ino c) (remapped size ms) c
-after_rewriting ino size ms rs c is =
+-- entries go one by one
+abbrev unsealed_by : List ℕ → CatalogFile → CatalogFile
+unsealed_by js f = record f { kept = record f.kept { stubs = without_all js f.kept.stubs } }
+
+after-unseals : (ino : ℕ) (js : List ℕ) (rest : List Record) (c : Catalog) → after_all (map (unsealing ino) js ++ rest) c ≡ after_all rest (with_changed (key_on ino c) (unsealed_by js) c)
+after-unseals ino [] rest c = ap (λ (fs : List CatalogFile). after_all rest (record c { files = fs })) (sym (change-none (λ (f : CatalogFile). f.key) (key_on ino c) c.files))
+after-unseals ino (j ∷ js) rest c =
     let k : FileKey = key_on ino c in
-    let to : CatalogFile → CatalogFile = file_after (Size ino size) in
-    ap (λ (xs : List Record). after_all xs c) is.first
-    ∙ after-maps ino is.maps (with_changed k to c) is.each
-    ∙ rw (key_on-changed ino k to c (λ x. (refl, refl)), is.all) (ap (λ (fs : List CatalogFile). record c { files = fs }) (change-twice k to (mapped_by ms) (remapped size ms) c.files (λ x. refl) (λ x. refl)))
+    let one : CatalogFile → CatalogFile = unsealed_by (j ∷ []) in
+    after-unseals ino js rest (with_changed k one c)
+    ∙ ap (λ (x : FileKey). after_all rest (with_changed x (unsealed_by js) (with_changed k one c))) (key_on-changed ino k one c (λ x. (refl, refl)))
+    ∙ ap (λ (fs : List CatalogFile). after_all rest (record c { files = fs })) (change-twice k one (unsealed_by js) (unsealed_by (j ∷ js)) c.files (λ x. refl) (λ x. refl))
+
+-- a change goes by what it makes of the file that is found
+change-found : (k : FileKey) (to into : CatalogFile → CatalogFile) (f : CatalogFile) (fs : List CatalogFile) → find_key (λ x. x.key) k fs ≡ Some f → to f ≡ into f → change_key (λ x. x.key) k to fs ≡ change_key (λ x. x.key) k into fs
+change-found k to into f [] found same = cc
+change-found k to into f (x ∷ fs) found same = grind (arith, same, change-found k to into f fs)
+
+-- ---- what the file becomes before its blocks lie elsewhere
+
+abbrev reshaped : Rewrite → ℕ → CatalogFile → CatalogFile
+reshaped change size f = record f { size = size_after (effect_of change) size; places = places_fitted (size_after (effect_of change) size) f.places; kept = rekept (effect_of change) size f.kept }
+
+fitted-same : (n : ℕ) (ps : List (Option ℕ)) → length ps ≡ blocks_in n → places_fitted n ps ≡ ps
+fitted-same n ps count = same_lists _ _ (search (rules, places)) (λ i d h. grind (arith, places))
+
+pub starts-in : (blocks : ℕ) (f : CatalogFile) → IsCatalogFile blocks f → AllByRecursion (λ x. 65536 * x.0 < f.size) f.kept.stubs
+starts-in blocks f is = each-weaker (IsCatalogStub f) (λ x. 65536 * x.0 < f.size) (λ x lawful. lawful.start) f.kept.stubs is.stubs
+
+reshapes : (ino : ℕ) (change : Rewrite) (f : CatalogFile) (blocks : ℕ) → IsCatalogFile blocks f → (first : Record) (js : List ℕ) → IsHead ino change f.size f.kept.stubs first
+    → AllByRecursion (λ j. unseals change f.size j ≡ true) js → ((j : ℕ) → unseals change f.size j ≡ true → is_some (stub_at j f.kept.stubs) ≡ true → list_any (λ s. eqb s j) js ≡ true)
+    → unsealed_by js (file_after first f) ≡ reshaped change f.size f
+reshapes ino (Write offset bytes) f blocks lawful first js head only every =
+    let stubs = left-written f.size offset bytes.now js f.kept.stubs (starts-in blocks f lawful) only every in
+    ap (λ (r : Record). unsealed_by js (file_after r f)) head ∙ ap (λ (s : Stubs). record (reshaped (Write offset bytes) f.size f) { kept = record f.kept { stubs = s } }) stubs
+reshapes ino (Resize to) f blocks lawful first js head only every =
+    let stubs = left-resized f.size to js f.kept.stubs (starts-in blocks f lawful) only every in
+    ap (λ (r : Record). unsealed_by js (file_after r f)) head ∙ ap (λ (s : Stubs). record (reshaped (Resize to) f.size f) { kept = record f.kept { stubs = s } }) stubs
+reshapes ino (Restore segment bytes) f blocks lawful first js head only every =
+    let stubs : with_stub segment (record head.0 { offline = false }) f.kept.stubs ≡ restored segment f.kept.stubs = sym (moved-with segment head.0.offline (record head.0 { offline = false }) f.kept.stubs lawful.ascend head.1) in
+    ap (λ (r : Record). unsealed_by js (file_after r f)) head.2
+    ∙ ap (λ (ks : List ℕ). unsealed_by ks (file_after (Stub ino segment (Some (record head.0 { offline = false }))) f)) (none-unsealed js only)
+    ∙ rw (stubs, fitted-same f.size f.places lawful.places) refl
+
+-- the first record changes just the file on its inode
+after-first : (ino : ℕ) (change : Rewrite) (size : ℕ) (stubs : Stubs) (first : Record) (c : Catalog) → IsHead ino change size stubs first → after first c ≡ with_changed (key_on ino c) (file_after first) c
+after-first ino (Write offset bytes) size stubs first c head = rw head refl
+after-first ino (Resize to) size stubs first c head = rw head refl
+after-first ino (Restore segment bytes) size stubs first c head = rw head.2 refl
+
+keeps-name : (ino : ℕ) (change : Rewrite) (size : ℕ) (stubs : Stubs) (first : Record) → IsHead ino change size stubs first → (x : CatalogFile) → ((file_after first x).key ≡ x.key) × ((file_after first x).name ≡ x.name)
+keeps-name ino (Write offset bytes) size stubs first head x = rw head (refl, refl)
+keeps-name ino (Resize to) size stubs first head x = rw head (refl, refl)
+keeps-name ino (Restore segment bytes) size stubs first head x = rw head.2 (refl, refl)
+
+module _ (ino : ℕ) (change : Rewrite) (ms : List Mapping) (rs : List Record) (c : Catalog) (f : CatalogFile) (found : find_key (λ x. x.key) (key_on ino c) c.files ≡ Some f) (lawful : IsCatalogFile (geometry_of c.geometry).blocks f)
+    (is : IsRewriting ino change f.size f.kept.stubs ms rs) where
+  abbrev k : FileKey
+  k = key_on ino c
+
+  abbrev begun : Catalog
+  begun = with_changed k (file_after is.first) c
+
+  abbrev bare : Catalog
+  bare = with_changed k (reshaped change f.size) c
+
+  name-kept : (x : CatalogFile) → ((file_after is.first x).key ≡ x.key) × ((file_after is.first x).name ≡ x.name)
+  name-kept = keeps-name ino change f.size f.kept.stubs is.first is.head
+
+  key-begun : key_on ino begun ≡ k
+  key-begun = key_on-changed ino k (file_after is.first) c name-kept
+
+  -- once the entries are dropped
+  bare-is : with_changed k (unsealed_by is.segments) begun ≡ bare
+  bare-is =
+      ap (λ (fs : List CatalogFile). record c { files = fs })
+      (change-twice k (file_after is.first) (unsealed_by is.segments) (λ x. unsealed_by is.segments (file_after is.first x)) c.files (λ x. (name-kept x).0) (λ x. refl)
+      ∙ change-found k (λ x. unsealed_by is.segments (file_after is.first x)) (reshaped change f.size) f c.files found (reshapes ino change f (geometry_of c.geometry).blocks lawful is.first is.segments is.head is.only is.every))
+
+  pub after_rewriting : after_all rs c ≡ with_changed k (remapped change f.size ms) c
+  after_rewriting =
+      ap (λ (xs : List Record). after_all xs c) is.are
+      ∙ ap (after_all (map (unsealing ino) is.segments ++ is.maps)) (after-first ino change f.size f.kept.stubs is.first c is.head)
+      ∙ after-unseals ino is.segments is.maps begun
+      ∙ ap (λ (x : FileKey). after_all is.maps (with_changed x (unsealed_by is.segments) begun)) key-begun
+      ∙ ap (after_all is.maps) bare-is
+      ∙ after-maps ino is.maps bare is.each
+      ∙ rw (key_on-changed ino k (reshaped change f.size) c (λ x. (refl, refl)), is.all) (ap (λ (fs : List CatalogFile). record c { files = fs }) (change-twice k (reshaped change f.size) (mapped_by ms) (remapped change f.size ms) c.files (λ x. refl) (λ x. refl)))
 
 -- ---- they are an event, which nothing refuses
 
-each-map : (ino : ℕ) (maps : List Record) → AllByRecursion (IsMapOn ino) maps → AllByRecursion IsMap maps
+each-map : (ino : ℕ) (maps : List Record) → AllByRecursion (IsMapOn ino) maps → AllByRecursion IsSure maps
 each-map ino [] each = tt
 each-map ino (Map i block places ∷ maps) each = (tt, each-map ino maps each.1)
 each-map ino (r ∷ maps) each = absurd each.0
 
-pub is_event : (ino size : ℕ) (ms : List Mapping) (rs : List Record) → IsRewriting ino size ms rs → IsEvent rs
-is_event ino size ms rs is = rw is.first (each-map ino is.maps is.each)
+each-sure : (ino : ℕ) (js : List ℕ) (maps : List Record) → AllByRecursion (IsMapOn ino) maps → AllByRecursion IsSure (map (unsealing ino) js ++ maps)
+each-sure ino [] maps each = each-map ino maps each
+each-sure ino (j ∷ js) maps each = (tt, each-sure ino js maps each)
 
-maps-pass : (maps : List Record) (c : Catalog) → AllByRecursion IsMap maps → refusal_of_all maps c ≡ None
-maps-pass [] c each = refl
-maps-pass (Map i block places ∷ maps) c each = rw (maps-pass maps (after (Map i block places) c) each.1) refl
-maps-pass (r ∷ maps) c each = absurd each.0
+pub is_event : (ino : ℕ) (change : Rewrite) (size : ℕ) (stubs : Stubs) (ms : List Mapping) (rs : List Record) → IsRewriting ino change size stubs ms rs → IsEvent rs
+is_event ino change size stubs ms rs is = rw is.are (each-sure ino is.segments is.maps is.each)
 
-pub not_refused : (ino size : ℕ) (ms : List Mapping) (rs : List Record) (c : Catalog) → IsRewriting ino size ms rs → refusal_of_all rs c ≡ None
-not_refused ino size ms rs c is = rw (is.first, maps-pass is.maps (after (Size ino size) c) (each-map ino is.maps is.each)) refl
+maps-pass : (ino : ℕ) (maps : List Record) (c : Catalog) → AllByRecursion (IsMapOn ino) maps → refusal_of_all maps c ≡ None
+maps-pass ino [] c each = refl
+maps-pass ino (Map i block places ∷ maps) c each = rw (maps-pass ino maps (after (Map i block places) c) each.1) refl
+maps-pass ino (r ∷ maps) c each = absurd each.0
+
+all-pass : (ino : ℕ) (js : List ℕ) (maps : List Record) (c : Catalog) → AllByRecursion (IsMapOn ino) maps → refusal_of_all (map (unsealing ino) js ++ maps) c ≡ None
+all-pass ino [] maps c each = maps-pass ino maps c each
+all-pass ino (j ∷ js) maps c each = rw (all-pass ino js maps (after (unsealing ino j) c) each) refl
+
+first-passes : (ino : ℕ) (change : Rewrite) (f : CatalogFile) (first : Record) (c : Catalog) → find_key (λ x. x.key) (key_on ino c) c.files ≡ Some f → IsHead ino change f.size f.kept.stubs first → refusal_of first c ≡ None
+first-passes ino (Write offset bytes) f first c found head = rw head refl
+first-passes ino (Resize to) f first c found head = rw head refl
+first-passes ino (Restore segment bytes) f first c found head = rw head.2 (rw found (rw head.1 refl))
+
+pub not_refused : (ino : ℕ) (change : Rewrite) (ms : List Mapping) (rs : List Record) (c : Catalog) (f : CatalogFile) → find_key (λ x. x.key) (key_on ino c) c.files ≡ Some f → IsRewriting ino change f.size f.kept.stubs ms rs → refusal_of_all rs c ≡ None
+not_refused ino change ms rs c f found is =
+    rw (is.are, first-passes ino change f is.first c found is.head, all-pass ino is.segments is.maps (after is.first c) is.each) refl
 
 -- ---- they can stand
 
-abbrev Fit : ℕ → ℕ → List Mapping → Type 0
-Fit n total ms = AllByRecursion (λ m. (m.block < n) × (m.place < total)) ms
+-- each block is one that there is, and of a segment that is here, and each place one of the disk's
+abbrev pub IsFit : Stubs → ℕ → ℕ → Mapping → Type 0
+IsFit stubs n total m = (m.block < n) × (m.place < total) × (offline_at stubs (m.block / 16) ≡ false)
 
-run-fits : (n total block : ℕ) (p : ℕ) (ps : List ℕ) → Fit n total (mappings_from block (p ∷ ps)) → (block + length (p ∷ ps) ≤ n) × AllByRecursion (λ q. q < total) (p ∷ ps)
-run-fits n total block p [] fit = let low = fit.0.0 in (omega arith, (fit.0.1, tt))
-run-fits n total block p (q ∷ ps) fit = let more = run-fits n total (block + 1) q ps fit.1 in let most = more.0 in (omega arith, (fit.0.1, more.1))
+abbrev Fit : Stubs → ℕ → ℕ → List Mapping → Type 0
+Fit stubs n total ms = AllByRecursion (IsFit stubs n total) ms
+
+run-fits : (stubs : Stubs) (n total block : ℕ) (p : ℕ) (ps : List ℕ) → Fit stubs n total (mappings_from block (p ∷ ps)) → (block + length (p ∷ ps) ≤ n) × AllByRecursion (λ q. q < total) (p ∷ ps)
+run-fits stubs n total block p [] fit = let low = fit.0.0 in (omega arith, (fit.0.1, tt))
+run-fits stubs n total block p (q ∷ ps) fit = let more = run-fits stubs n total (block + 1) q ps fit.1 in let most = more.0 in (omega arith, (fit.0.1, more.1))
+
+run-here : (stubs : Stubs) (n total block : ℕ) (ps : List ℕ) → Fit stubs n total (mappings_from block ps) → (b : ℕ) → block ≤ b → b < block + length ps → offline_at stubs (b / 16) ≡ false
+run-here stubs n total block [] fit b low high = absurd (omega arith)
+run-here stubs n total block (p ∷ ps) fit b low high =
+    ⊎_elim (λ (same : b ≡ block). subst (λ (x : ℕ). offline_at stubs (x / 16) ≡ false) (sym same) fit.0.2) (λ (other : b ≡ block → ⊥). run-here stubs n total (block + 1) ps fit.1 b (omega arith) (omega arith)) (cases_eq b block)
 
 places-run : (block : ℕ) (ps : List ℕ) → places_of (mappings_from block ps) ≡ ps
 places-run block [] = refl
@@ -143,24 +312,25 @@ Once places blocks = (n : ℕ) → uses n places + uses n blocks ≤ 1
 each-unused : (ps bs : List ℕ) → Once ps bs → AllByRecursion (λ p. list_any (λ b. eqb b p) bs ≡ false) ps
 each-unused ps bs once = each_member (λ p. list_any (λ b. eqb b p) bs ≡ false) ps (λ p there. let some = ltb-true 0 (uses p ps) (sym (has-uses p ps) ∙ there) in let most = once p in absent-unused p bs (omega arith))
 
-mappable : (n total block : ℕ) (ps : List ℕ) (f : CatalogFile) (c : Catalog) → length f.places ≡ n → (geometry_of c.geometry).blocks ≡ total → 1 ≤ length ps → Fit n total (mappings_from block ps) → Once ps (blocks_of c.files) → IsMappable block ps f c
+mappable : (n total block : ℕ) (ps : List ℕ) (f : CatalogFile) (c : Catalog) → length f.places ≡ n → (geometry_of c.geometry).blocks ≡ total → 1 ≤ length ps → Fit f.kept.stubs n total (mappings_from block ps) → Once ps (blocks_of c.files) → IsMappable block ps f c
 mappable n total block [] f c long blocks some fit once = absurd (omega arith)
 mappable n total block (p ∷ ps) f c long blocks some fit once =
-    let fits = run-fits n total block p ps fit in
+    let fits = run-fits f.kept.stubs n total block p ps fit in
     record {
       blocks = rw long fits.0;
+      here = run-here f.kept.stubs n total block (p ∷ ps) fit;
       within = subst (λ (t : ℕ). AllByRecursion (λ q. q < t) (p ∷ ps)) (sym blocks) fits.1;
       unused = each-unused (p ∷ ps) (blocks_of c.files) once;
       distinct = uses-distinct (p ∷ ps) (λ m. let all = once m in omega arith);
     }
 
 maps-stand : (ino n total : ℕ) (k : FileKey) (maps : List Record) (c : Catalog) (f : CatalogFile) → find_key (λ x. x.key) k c.files ≡ Some f → key_on ino c ≡ k → length f.places ≡ n → (geometry_of c.geometry).blocks ≡ total → AllByRecursion (IsMapOn ino) maps
-    → Fit n total (flat_map mappings_in maps) → Once (places_of (flat_map mappings_in maps)) (blocks_of c.files) → CanStandAll maps c
+    → Fit f.kept.stubs n total (flat_map mappings_in maps) → Once (places_of (flat_map mappings_in maps)) (blocks_of c.files) → CanStandAll maps c
 maps-stand ino n total k [] c f found on long blocks each fit once = tt
 maps-stand ino n total k (Map i block places ∷ maps) c f found on long blocks each fit once =
     let ms : List Mapping = mappings_from block places.items in
     let rest : List Mapping = flat_map mappings_in maps in
-    let sides = each-parts (λ (m : Mapping). (m.block < n) × (m.place < total)) ms rest fit in
+    let sides = each-parts (IsFit f.kept.stubs n total) ms rest fit in
     let here : key_on i c ≡ k = ap (λ j. key_on j c) each.0.0 ∙ on in
     let all : (m : ℕ) → uses m places.items + uses m (places_of rest) + uses m (blocks_of c.files) ≤ 1 =
     λ m. let split = ap (uses m) (map-append (λ (x : Mapping). x.place) ms rest) in let both = uses-append m (places_of ms) (places_of rest) in let run = ap (uses m) (places-run block places.items) in let most = once m in omega arith in
@@ -175,13 +345,60 @@ maps-stand ino n total k (Map i block places ∷ maps) c f found on long blocks 
     ((f, rw here found, first), rw here last)
 maps-stand ino n total k (r ∷ maps) c f found on long blocks each fit once = absurd each.0
 
-pub can_stand : (ino size : ℕ) (ms : List Mapping) (rs : List Record) (c : Catalog) (f : CatalogFile) → IsRewriting ino size ms rs → size ≤ 16777216 → find_key (λ x. x.key) (key_on ino c) c.files ≡ Some f
-    → Fit (blocks_in size) (geometry_of c.geometry).blocks ms → Once (places_of ms) (blocks_of c.files) → CanStandAll rs c
-can_stand ino size ms rs c f is few found fit once =
-    let k : FileKey = key_on ino c in
-    let to : CatalogFile → CatalogFile = file_after (Size ino size) in
-    let rest : CanStandAll is.maps (with_changed k to c) =
-    maps-stand ino (blocks_in size) (geometry_of c.geometry).blocks k is.maps (with_changed k to c) (to f) (find-changed k to f c.files (λ x. refl) found) (key_on-changed ino k to c (λ x. (refl, refl))) (length-fitted size f.places) refl is.each
-    (rw is.all fit)
-    (rw is.all (λ n. let cut = uses-changed n k to f c.files found in let less = uses-fitted n size f.places in let most = once n in omega arith)) in
-    subst (λ (xs : List Record). CanStandAll xs c) (sym is.first) ((f, found, few), rest)
+-- entries of segments that are here can go
+unseals-stand : (ino : ℕ) (k : FileKey) (js : List ℕ) (rest : List Record) (c : Catalog) (f : CatalogFile) → find_key (λ x. x.key) k c.files ≡ Some f → key_on ino c ≡ k → AllByRecursion (λ j. offline_at f.kept.stubs j ≡ false) js
+    → CanStandAll rest (with_changed k (unsealed_by js) c) → CanStandAll (map (unsealing ino) js ++ rest) c
+unseals-stand ino k [] rest c f found on here last = subst (λ (fs : List CatalogFile). CanStandAll rest (record c { files = fs })) (change-none (λ (x : CatalogFile). x.key) k c.files) last
+unseals-stand ino k (j ∷ js) rest c f found on here last =
+    let one : CatalogFile → CatalogFile = unsealed_by (j ∷ []) in
+    let twice = change-twice k one (unsealed_by js) (unsealed_by (j ∷ js)) c.files (λ x. refl) (λ x. refl) in
+    let more =
+    unseals-stand ino k js rest (with_changed k one c) (one f) (find-changed k one f c.files (λ x. refl) found) (key_on-changed ino k one c (λ x. (refl, refl)) ∙ on)
+    (each-weaker (λ i. offline_at f.kept.stubs i ≡ false) (λ i. offline_at (without_stub j f.kept.stubs) i ≡ false) (λ i. here-without j f.kept.stubs i) js here.1) (subst (λ (fs : List CatalogFile). CanStandAll rest (record c { files = fs })) (sym twice) last) in
+    ((f, rw on found, here.0), rw on more)
+
+-- what has to be true of the file
+pub record MayChange (change : Rewrite) (f : CatalogFile) : Type 0 where
+  pub few : size_after (effect_of change) f.size ≤ 16777216
+  pub free : (j : ℕ) → unseals change f.size j ≡ true → offline_at f.kept.stubs j ≡ false
+
+restores-stand : (segment : ℕ) (stub : StubOf) (blocks : ℕ) (f : CatalogFile) → IsCatalogFile blocks f → stub_at segment f.kept.stubs ≡ Some stub → IsStubbable segment (record stub { offline = false }) f
+restores-stand segment stub blocks f lawful at =
+    let is = stub-each (IsCatalogStub f) f.kept.stubs segment stub lawful.stubs at in
+    record {
+      start = is.start;
+      volume = is.volume;
+      goes = λ away. absurd (false≢true away);
+      covered = λ away. absurd (false≢true away);
+      comes = λ here off. at ∙ ap (λ (b : Bool). Some (record stub { offline = b })) (sym (ap is_offline at) ∙ off);
+    }
+
+first-stands : (ino : ℕ) (change : Rewrite) (f : CatalogFile) (first : Record) (c : Catalog) → find_key (λ x. x.key) (key_on ino c) c.files ≡ Some f → IsCatalogFile (geometry_of c.geometry).blocks f → MayChange change f → IsHead ino change f.size f.kept.stubs first → CanStand first c
+first-stands ino (Write offset bytes) f first c found lawful may head = rw head (f, found, may.few)
+first-stands ino (Resize to) f first c found lawful may head = rw head (f, found, may.few)
+first-stands ino (Restore segment bytes) f first c found lawful may head = rw head.2 (f, found, restores-stand segment head.0 (geometry_of c.geometry).blocks f lawful head.1)
+
+-- after the first record segments that were here are
+here-first : (ino : ℕ) (change : Rewrite) (f : CatalogFile) (first : Record) (js : List ℕ) → MayChange change f → IsHead ino change f.size f.kept.stubs first → AllByRecursion (λ j. unseals change f.size j ≡ true) js
+    → AllByRecursion (λ j. offline_at (file_after first f).kept.stubs j ≡ false) js
+here-first ino (Write offset bytes) f first js may head only = rw head (each-weaker _ _ (λ j drops. here-below (segments_in (max f.size (offset + length bytes.now))) f.kept.stubs j (may.free j drops)) js only)
+here-first ino (Resize to) f first js may head only = rw head (each-weaker _ _ (λ j drops. here-below (segments_in to) f.kept.stubs j (may.free j drops)) js only)
+here-first ino (Restore segment bytes) f first js may head only = subst (AllByRecursion (λ j. offline_at (file_after first f).kept.stubs j ≡ false)) (sym (none-unsealed js only)) tt
+
+module _ (ino : ℕ) (change : Rewrite) (ms : List Mapping) (rs : List Record) (c : Catalog) (f : CatalogFile) (found : find_key (λ x. x.key) (key_on ino c) c.files ≡ Some f) (lawful : IsCatalogFile (geometry_of c.geometry).blocks f)
+    (is : IsRewriting ino change f.size f.kept.stubs ms rs) (may : MayChange change f) where
+  pub can_stand : Fit (rekept (effect_of change) f.size f.kept).stubs (blocks_in (size_after (effect_of change) f.size)) (geometry_of c.geometry).blocks ms → Once (places_of ms) (blocks_of c.files) → CanStandAll rs c
+  can_stand fit once =
+      let j : FileKey = key_on ino c in
+      let to : CatalogFile → CatalogFile = reshaped change f.size in
+      let size : ℕ = size_after (effect_of change) f.size in
+      let next : Catalog = with_changed j to c in
+      let maps : CanStandAll is.maps next =
+      maps-stand ino (blocks_in size) (geometry_of c.geometry).blocks j is.maps next (to f) (find-changed j to f c.files (λ x. refl) found) (key_on-changed ino j to c (λ x. (refl, refl))) (length-fitted size f.places) refl is.each
+      (rw is.all fit) (rw is.all (λ n. let cut = uses-changed n j to f c.files found in let less = uses-fitted n size f.places in let most = once n in omega arith)) in
+      let name = name-kept ino change ms rs c f found lawful is in
+      let rest : CanStandAll (map (unsealing ino) is.segments ++ is.maps) (with_changed j (file_after is.first) c) =
+      unseals-stand ino j is.segments is.maps (with_changed j (file_after is.first) c) (file_after is.first f) (find-changed j (file_after is.first) f c.files (λ x. (name x).0) found) (key_on-changed ino j (file_after is.first) c name)
+      (here-first ino change f is.first is.segments may is.head is.only) (subst (CanStandAll is.maps) (sym (bare-is ino change ms rs c f found lawful is)) maps) in
+      subst (λ (xs : List Record). CanStandAll xs c) (sym is.are)
+      (first-stands ino change f is.first c found lawful may is.head, subst (CanStandAll (map (unsealing ino) is.segments ++ is.maps)) (sym (after-first ino change f.size f.kept.stubs is.first c is.head)) rest)

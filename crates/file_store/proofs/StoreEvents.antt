@@ -1,5 +1,5 @@
 -- Events of a live store: a record that concerns no bytes of a file that stays, and bytes with their records.
-use Rattle.file_store.proofs.Names.{◌+◌, IsSome, find_key, used, bytes_with, new_size, touched_of, places_for, IsStaged, get_or, ◌≡◌, ℕ, ◌<◌, List, [], ◌∷◌, length, Bool, true, false, ◌||◌, Option, Some, None, refl, sym, ◌∙◌, ap, subst, All, inl, inr, zero, suc, ◌-◌, ◌*◌, ◌≤◌, take, drop, set, arith, length-take, or_parts, cond_both, FileKey, Space, unmarked, free, marked, Record, Catalog, IsCatalogFile, geometry_of, present, blocks_of, after, CanStand, refusal_of, refusal_of_all, with_changed, after_all, CanStandAll, key_on, blocks_in_image, IsImage, Meta, IsMeta, Backs, StoresOrKeeps, held_at, held_with, block_of, bytes_at, IsBodiless, held_after, drops, Store, IsLive, IsSound, marks_of, IsEither, Proceeds, AllByRecursion, All-from_recursion, All-weaker, part, Follows, MayBe, Keeps, holds_on, holds_now, layout_of, rebody, blocks_in, size_after, Held, bytes_of, affected_held, Mapping, each-found, Rewrite, Write, Resize, IsBesideBlocks, HasBlocks, effect_of, IsRewrite, IsRewriting, mappings_of, remapped, freed_by, places_under, IsHeldFiles, IsFree, length-marked, marked_keeps, taken_are_free, release_undoes_take, uses, uses-append, Ghosts}
+use Rattle.file_store.proofs.Names.{KeepsHere, HeldBody, no_body, IsHere, IsWithin, ◌/◌, held_file, file_or_new, file_by, option_map, rekept, touched, Restore, each-drop, ◌+◌, IsSome, find_key, used, bytes_with, new_size, touched_of, places_for, IsStaged, get_or, ◌≡◌, ℕ, ◌<◌, List, [], ◌∷◌, length, Bool, true, false, ◌||◌, Option, Some, None, refl, sym, ◌∙◌, ap, subst, All, inl, inr, zero, suc, ◌-◌, ◌*◌, ◌≤◌, take, drop, set, arith, length-take, or_parts, cond_both, FileKey, Space, unmarked, free, marked, Record, Catalog, IsCatalogFile, geometry_of, present, blocks_of, after, CanStand, refusal_of, refusal_of_all, with_changed, after_all, CanStandAll, key_on, blocks_in_image, IsImage, Meta, IsMeta, Backs, StoresOrKeeps, held_at, held_with, block_of, bytes_at, IsBodiless, held_after, drops, Store, IsLive, IsSound, marks_of, IsEither, Proceeds, AllByRecursion, All-from_recursion, All-weaker, part, Follows, MayBe, Keeps, holds_on, holds_now, layout_of, rebody, blocks_in, size_after, Held, bytes_of, affected_held, Mapping, each-found, Rewrite, Write, Resize, IsBesideBlocks, HasBlocks, effect_of, IsRewrite, IsRewriting, mappings_of, remapped, freed_by, places_under, IsHeldFiles, IsFree, length-marked, marked_keeps, taken_are_free, release_undoes_take, uses, uses-append, Ghosts}
 use Rattle.hsm_types.specs.declared.dm.DmRefusal.{DmRefusal}
 use Rattle.meta_store.specs.declared.refusal.MetaRefusal.{MetaRefusal}
 use Rattle.meta_store.specs.declared.refusal.MetaRefusal.TheVariants.{Part, Disk, Memory}
@@ -7,14 +7,18 @@ use Rattle.file_store.specs.Effects.{IsFreed}
 use Rattle.file_store.specs.Refusals.{refused_as}
 use Rattle.file_store.proofs.Durable.{Parts, store_of, Tells, IsDone, after_event, done, proceeds_on, kept_proceeds}
 use Rattle.file_store.proofs.Marks.{enough, marks-after, none-freed, freed-within, marks_there, length-marks, marks-moved, ArePlaces, are_places}
-use Rattle.file_store.proofs.WithBodies.{live-held, body-held, bodies_after, held_at-after, held_with-after, IsHeldFiles-after, IsFound, bytes-held, body-of, held_with-rewritten, IsHeldFiles-rewritten}
+use Rattle.file_store.proofs.WithBodies.{IsHeldFiles-back, held_with-back, each-changed, is-body, bytes-of, live-held, body-held, bodies_after, held_at-after, held_with-after, IsHeldFiles-after, IsFound, bytes-held, body-of, held_with-rewritten, IsHeldFiles-rewritten}
 use Rattle.file_store.proofs.Beside.{blocks_fit, block_in, length-block, image_beside, used_stay, held_beside, backs_beside, mapped}
 use Rattle.file_store.proofs.ByBlocks.{at_place}
 use Rattle.file_store.proofs.DataBlocks.{held-changed}
 use Rattle.file_store.proofs.EachOf.{each-weaker, each-both, each-join, each-mapped}
 use Rattle.file_store.proofs.ByteChanges.{touched-below, touched-ascends}
-use Rattle.file_store.proofs.FilesBy.{key_on-live, used-held}
-use Rattle.file_store.proofs.RewriteRecords.{after_rewriting, can_stand}
+use Rattle.file_store.proofs.FilesBy.{key_on-live, used-held, find-held}
+use Rattle.file_store.proofs.RewriteRecords.{IsFit, MayChange, after_rewriting, can_stand, not_refused}
+use Rattle.file_store.proofs.SoundChanges.{Allowed, allowed, lengths-after, touched-here}
+use Rattle.hsm_types.specs.Stubs.{Stubs, offline_at}
+use Rattle.plain_model.specs.Sound.{IsSound as IsAllowed}
+use Rattle.meta_store.specs.Catalogs.{AreLengths, HasLengths}
 use Rattle.std.specs.List.{All}
 use Rattle.file_store.specs.declared.refusal.StoreRefusal.TheVariants as store
 
@@ -72,11 +76,14 @@ all-under P (b ∷ bs) ps all =
     let Q : Option ℕ → Type 0 = λ p. AllByRecursion P (present (p ∷ places_under bs ps)) in
     at_place P Q (all-under P bs ps all) (λ p here. (here, all-under P bs ps all)) ps b all
 
--- each block of a run below so many, at a place below so many
-fit : (n total : ℕ) (bs ps : List ℕ) → length ps ≡ length bs → AllByRecursion (λ b. b < n) bs → AllByRecursion (λ p. p < total) ps → AllByRecursion (λ (m : Mapping). (m.block < n) × (m.place < total)) (mappings_of bs ps)
-fit n total bs ps long low within =
-    each-both (λ (m : Mapping). m.block < n) (λ (m : Mapping). m.place < total) (λ (m : Mapping). (m.block < n) × (m.place < total)) (λ m a b. (a, b)) (mappings_of bs ps)
-    (each-mapped (λ b. b < n) (λ (m : Mapping). m.block) (mappings_of bs ps) (rw (mapped bs ps long).0 low)) (each-mapped (λ p. p < total) (λ (m : Mapping). m.place) (mappings_of bs ps) (rw (mapped bs ps long).1 within))
+-- each block of a run below so many, of a segment that is here, at a place below so many
+fit : (stubs : Stubs) (n total : ℕ) (bs ps : List ℕ) → length ps ≡ length bs → AllByRecursion (λ b. b < n) bs → AllByRecursion (λ p. p < total) ps → AllByRecursion (λ b. offline_at stubs (b / 16) ≡ false) bs → AllByRecursion (IsFit stubs n total) (mappings_of bs ps)
+fit stubs n total bs ps long low within here =
+    let P : Mapping → Type 0 = λ m. (m.block < n) × (offline_at stubs (m.block / 16) ≡ false) in
+    let Q : ℕ → Type 0 = λ b. (b < n) × (offline_at stubs (b / 16) ≡ false) in
+    let both = each-both (λ b. b < n) (λ b. offline_at stubs (b / 16) ≡ false) Q (λ b l h. (l, h)) bs low here in
+    each-both P (λ (m : Mapping). m.place < total) (IsFit stubs n total) (λ m a b. (a.0, b, a.1)) (mappings_of bs ps)
+    (each-mapped Q (λ (m : Mapping). m.block) (mappings_of bs ps) (rw (mapped bs ps long).0 both)) (each-mapped (λ p. p < total) (λ (m : Mapping). m.place) (mappings_of bs ps) (rw (mapped bs ps long).1 within))
 
 -- places that are taken can be given back, which undoes it
 module _ (space : Space) (n : ℕ) where
@@ -86,9 +93,16 @@ module _ (space : Space) (n : ℕ) where
   pub undone : unmarked (take n (free space)) (marked (take n (free space)) space.current) ≡ space.current
   undone = release_undoes_take space.current (take n (free space)) (All-weaker (IsFree space) (λ b. get_or space.current b true ≡ false) (λ b f. f.current) (take n (free space)) (taken_are_free space n).each)
 
--- the body of that file
-abbrev pub body_of : List (List ℕ) → FileKey → List ℕ
-body_of bs k = get_or bs (k.ino - 1) []
+-- the body of that file, and its bytes
+abbrev pub body_of : List HeldBody → FileKey → HeldBody
+body_of bs k = get_or bs (k.ino - 1) no_body
+
+abbrev pub bytes_in : List HeldBody → FileKey → List ℕ
+bytes_in bs k = (body_of bs k).bytes
+
+-- the files are held as they were, with these bodies
+abbrev pub IsBack : {D : Type 0} → Parts D → List HeldBody → Type 0
+IsBack p bodies = IsHeldFiles bodies p.meta × (held_with bodies p.meta.current ≡ held_with p.bodies p.meta.current)
 
 -- what is known of a store and of a change before the first write
 pub record Given {D : Type 0} (g : Ghosts D) (p : Parts D) (k : FileKey) (change : Rewrite) : Type 0 where
@@ -97,23 +111,26 @@ pub record Given {D : Type 0} (g : Ghosts D) (p : Parts D) (k : FileKey) (change
   pub live : IsLive g (store_of p)
   pub at : IsFound (length p.bodies) p.meta.current k
   pub may : IsRewrite change
-  pub few : new_size change (body_of p.bodies k) ≤ 16777216
-  pub room : length (touched_of change (body_of p.bodies k)) + length (blocks_of p.meta.current.files) ≤ (geometry_of p.meta.current.geometry).blocks
-  pub enough : length (touched_of change (body_of p.bodies k)) ≤ length (free p.space)
+  pub allowed : Allowed change at.file
+  pub few : new_size change (bytes_in p.bodies k) ≤ 16777216
+  pub room : length (touched_of change (bytes_in p.bodies k)) + length (blocks_of p.meta.current.files) ≤ (geometry_of p.meta.current.geometry).blocks
+  pub enough : length (touched_of change (bytes_in p.bodies k)) ≤ length (free p.space)
 
 size-few : (change : Rewrite) (n : ℕ) → IsRewrite change → n ≤ 16777216 → size_after (effect_of change) n ≤ 16777216
 size-few (Write offset bytes) n may few = let end = may.1 in omega arith
 size-few (Resize to) n may few = may
+size-few (Restore segment bytes) n may few = few
 
 pub known : {D : Type 0} (g : Ghosts D) (p : Parts D) (k : FileKey) (change : Rewrite) → IsHeldFiles p.bodies p.meta → IsSound g (store_of p) → p.failed ≡ false → p.pending ≡ false → IsSome (find_key (λ f. f.key) k (store_of p).held.files) → IsRewrite change
-    → length (touched_of change (bytes_of k (store_of p).held.files)) + used (store_of p).held.files ≤ (geometry_of p.meta.durable.geometry).blocks → Given g p k change
-known g p k change files sound working settled there may left =
+    → IsAllowed (effect_of change) (held_file k (store_of p).held.files) → length (touched_of change (bytes_of k (store_of p).held.files)) + used (store_of p).held.files ≤ (geometry_of p.meta.durable.geometry).blocks → Given g p k change
+known g p k change files sound working settled there may allows left =
     let at = live-held p.bodies p.meta files k there in
     let live = sound.live working in
-    let size = each-found (λ f. length (bytes_with p.bodies f) ≡ f.size) k at.file p.meta.current.files files.sizes at.found in
+    let body = is-body p.bodies p.meta files k at in
     let file = each-found (IsCatalogFile (geometry_of p.meta.current.geometry).blocks) k at.file p.meta.current.files sound.meta.current.each at.found in
-    let own = ap length (body-of p.bodies p.meta files k at) in
-    let room : length (touched_of change (body_of p.bodies k)) + length (blocks_of p.meta.current.files) ≤ (geometry_of p.meta.current.geometry).blocks =
+    let lengths = each-found HasLengths k at.file p.meta.current.files sound.meta.stored.now at.found in
+    let is : held_file k (store_of p).held.files ≡ file_by (bytes_with p.bodies) at.file = ap (file_or_new k) (find-held (bytes_with p.bodies) k p.meta.current ∙ ap (option_map (file_by (bytes_with p.bodies))) at.found) in
+    let room : length (touched_of change (bytes_in p.bodies k)) + length (blocks_of p.meta.current.files) ≤ (geometry_of p.meta.current.geometry).blocks =
     rw (body-held p.bodies p.meta.current k at.file at.found, used-held (bytes_with p.bodies) p.meta.current, ← sound.meta.stored.geometry) at left in
     record {
       files = files;
@@ -121,14 +138,15 @@ known g p k change files sound working settled there may left =
       live = live;
       at = at;
       may = may;
-      few = size-few change _ may (let most = file.size in omega arith);
+      allowed = allowed (bytes_with p.bodies) at.file (geometry_of p.meta.current.geometry).blocks file lengths (ap length (bytes-of p.bodies p.meta files k at) ∙ body.size) change (subst (IsAllowed (effect_of change)) is allows);
+      few = size-few change _ may (let most = file.size in let own = body.size in omega arith);
       room = room;
       enough = enough p.meta.current sound.meta.current p.space _ live.marks (live.settled settled) room;
     }
 
 module _ {D : Type 0} (g : Ghosts D) (p : Parts D) (k : FileKey) (change : Rewrite) (x : Given g p k change) where
   abbrev body : List ℕ
-  body = body_of p.bodies k
+  body = bytes_in p.bodies k
 
   abbrev size : ℕ
   size = new_size change body
@@ -143,7 +161,20 @@ module _ {D : Type 0} (g : Ghosts D) (p : Parts D) (k : FileKey) (change : Rewri
   ms = mappings_of blocks places
 
   abbrev next : Catalog
-  next = with_changed k (remapped size ms) p.meta.current
+  next = with_changed k (remapped change (length body) ms) p.meta.current
+
+  own : length body ≡ x.at.file.size
+  own = (is-body p.bodies p.meta x.files k x.at).size
+
+  within : IsWithin change (length body)
+  within = rw own x.allowed.within
+
+  file : IsCatalogFile (geometry_of p.meta.current.geometry).blocks x.at.file
+  file = each-found (IsCatalogFile (geometry_of p.meta.current.geometry).blocks) k x.at.file p.meta.current.files x.lawful.current.each x.at.found
+
+  -- what the file becomes
+  pub becomes_is : remapped change (length body) ms x.at.file ≡ remapped change x.at.file.size ms x.at.file
+  becomes_is = ap (λ (n : ℕ). remapped change n ms x.at.file) own
 
   pub long : length places ≡ length blocks
   long = omega (arith, x.enough, length-take (length blocks) (free p.space))
@@ -152,7 +183,11 @@ module _ {D : Type 0} (g : Ghosts D) (p : Parts D) (k : FileKey) (change : Rewri
   are = are_places p.meta.current x.lawful.current p.meta.durable p.space (length blocks) x.live.marks x.live.marked
 
   low : AllByRecursion (λ b. b < blocks_in size) blocks
-  low = touched-below change (length body)
+  low = touched-below change (length body) within
+
+  -- the body has its bytes again, whatever memory it has taken
+  pub bodies_back : (b : HeldBody) → b.bytes ≡ body → KeepsHere (body_of p.bodies k) b → IsBack p (set p.bodies (k.ino - 1) b)
+  bodies_back b same keeps = (IsHeldFiles-back p.bodies p.meta x.files k x.at b same keeps, held_with-back p.bodies p.meta x.files k x.at b same keeps)
 
   -- the disk has them
   pub fits : AllByRecursion (λ q. (layout_of p.meta.current.geometry).blocks + 4096 * q + 4096 ≤ g.length_of p.disk) places
@@ -160,17 +195,40 @@ module _ {D : Type 0} (g : Ghosts D) (p : Parts D) (k : FileKey) (change : Rewri
 
   -- ---- the records
 
-  module _ (records : List Record) (is : IsRewriting k.ino size ms records) where
+  module _ (records : List Record) (is : IsRewriting k.ino change (length body) x.at.file.kept.stubs ms records) where
     key : key_on k.ino p.meta.current ≡ k
     key = key_on-live p.meta.current k x.at.file x.lawful.current x.at.found
 
+    found_on : find_key (λ f. f.key) (key_on k.ino p.meta.current) p.meta.current.files ≡ Some x.at.file
+    found_on = rw key x.at.found
+
+    rewriting : IsRewriting k.ino change x.at.file.size x.at.file.kept.stubs ms records
+    rewriting = subst (λ (n : ℕ). IsRewriting k.ino change n x.at.file.kept.stubs ms records) own is
+
     pub stand : CanStandAll records p.meta.current
     stand =
-        can_stand k.ino size ms records p.meta.current x.at.file is x.few (rw key x.at.found) (fit (blocks_in size) (geometry_of p.meta.current.geometry).blocks blocks places long low are.within)
+        can_stand k.ino change ms records p.meta.current x.at.file found_on file rewriting (record { few = subst (λ (n : ℕ). size_after (effect_of change) n ≤ 16777216) own x.few; free = x.allowed.free })
+        (subst (λ (n : ℕ). AllByRecursion (IsFit (rekept (effect_of change) x.at.file.size x.at.file.kept).stubs (blocks_in (size_after (effect_of change) n)) (geometry_of p.meta.current.geometry).blocks) ms) own
+        (fit (rekept (effect_of change) x.at.file.size x.at.file.kept).stubs (blocks_in size) (geometry_of p.meta.current.geometry).blocks blocks places long low are.within
+        (subst (λ (n : ℕ). AllByRecursion (λ b. offline_at (rekept (effect_of change) x.at.file.size x.at.file.kept).stubs (b / 16) ≡ false) (touched (effect_of change) n)) (sym own) (touched-here change x.at.file x.may))))
         (λ n. let once = are.once n in omega (arith, uses-append n (blocks_of p.meta.current.files) places, ap (uses n) (mapped blocks places long).1))
 
     become : after_all records p.meta.current ≡ next
-    become = after_rewriting k.ino size ms records p.meta.current is ∙ ap (λ (j : FileKey). with_changed j (remapped size ms) p.meta.current) key
+    become =
+        after_rewriting k.ino change ms records p.meta.current x.at.file found_on file rewriting
+        ∙ ap (λ (j : FileKey). with_changed j (remapped change x.at.file.size ms) p.meta.current) key
+        ∙ ap (λ (n : ℕ). with_changed k (remapped change n ms) p.meta.current) (sym own)
+
+    pub passes : refusal_of_all records p.meta.current ≡ None
+    passes = not_refused k.ino change ms records p.meta.current x.at.file found_on rewriting
+
+    -- entries keep their lengths
+    pub lengths_then : AreLengths (after_all records p.meta.current)
+    lengths_then =
+        let own_lengths = each-found HasLengths k x.at.file p.meta.current.files x.lawful.stored.now x.at.found in
+        subst AreLengths (sym become)
+        (each-changed HasLengths k (remapped change (length body) ms) x.at.file p.meta.current.files x.at.found (subst HasLengths (sym becomes_is) (lengths-after change ms x.at.file x.may own_lengths))
+        (each-drop HasLengths k p.meta.current.files x.lawful.stored.now))
 
   -- ---- the marks
 
@@ -186,7 +244,7 @@ module _ {D : Type 0} (g : Ghosts D) (p : Parts D) (k : FileKey) (change : Rewri
     marks =
         ap (λ (fs : List ℕ). unmarked fs (marked places p.space.current)) freed_are
         ∙ ap (λ (flags : List Bool). unmarked (freed_by size blocks x.at.file.places) (marked places flags)) x.live.marks
-        ∙ (marks-moved p.meta.current size blocks places k x.at.file x.at.found (touched-ascends change (length body)) low long are.once)
+        ∙ (marks-moved p.meta.current change (length body) blocks places k x.at.file x.at.found (touched-ascends change (length body) within) low long are.once)
 
   -- ---- the writes, and then the records
 
@@ -195,7 +253,7 @@ module _ {D : Type 0} (g : Ghosts D) (p : Parts D) (k : FileKey) (change : Rewri
 
   bytes : (was : List ℕ) → held_at was p.meta.current ≡ (store_of p).held → bytes_at was x.at.file ≡ body
   bytes was holds =
-      sym (bytes-held (bytes_at was) p.meta.current k x.at.file x.at.found) ∙ ap (λ (h : Held). bytes_of k h.files) holds ∙ bytes-held (bytes_with p.bodies) p.meta.current k x.at.file x.at.found ∙ body-of p.bodies p.meta x.files k x.at
+      sym (bytes-held (bytes_at was) p.meta.current k x.at.file x.at.found) ∙ ap (λ (h : Held). bytes_of k h.files) holds ∙ bytes-held (bytes_with p.bodies) p.meta.current k x.at.file x.at.found ∙ bytes-of p.bodies p.meta x.files k x.at
 
   module _ (mid : D) (moments : Keeps g p.disk mid (IsBesideBlocks (layout_of p.meta.current.geometry).blocks places)) where
     keeps : Keeps g p.disk mid (IsBesideBlocks (layout_of p.meta.durable.geometry).blocks places)
@@ -262,9 +320,9 @@ module _ {D : Type 0} (g : Ghosts D) (p : Parts D) (k : FileKey) (change : Rewri
           let there : AllByRecursion (λ (m : Mapping). part now (4096 * m.place) 4096 ≡ block_of changed m.block) ms =
           each-both (λ (m : Mapping). m.place < (geometry_of p.meta.durable.geometry).blocks) _ _ (λ m low is. block_in p.meta.durable.geometry c m.place low ∙ is) ms
           (each-mapped (λ q. q < (geometry_of p.meta.durable.geometry).blocks) (λ (m : Mapping). m.place) ms (rw ((mapped blocks places long).1, ← x.lawful.stored.geometry) are.within)) was_on.2.there in
-          held-changed was now p.meta.current (used_stay p.meta.durable.geometry places was_on.0 c (beside was_on.0 c was_on.2) p.meta.current x.lawful.stored.geometry x.lawful.current are.unused) change k size ms x.at.file body x.lawful.current
+          held-changed was now p.meta.current (used_stay p.meta.durable.geometry places was_on.0 c (beside was_on.0 c was_on.2) p.meta.current x.lawful.stored.geometry x.lawful.current are.unused) change k ms x.at.file body x.lawful.current
           (λ b lt. length-block p.meta.durable.geometry was_on.0 b (subst (λ z. b < (geometry_of z).blocks) x.lawful.stored.geometry lt) (x.live.backs.image was_on.0 (inr was_on.1)).found.size)
-          x.may x.at.found (bytes was holds) refl (mapped blocks places long).0 there
+          x.may within x.at.found (bytes was holds) (mapped blocks places long).0 there
           ∙ ap (λ (h : Held). record h { files = affected_held (effect_of change) k h.files }) holds
 
       joined : (n : ℕ) (t : Store D) → Proceeds g (store_of (record p { disk = mid })) n t → Proceeds g (store_of p) n t
@@ -275,15 +333,15 @@ module _ {D : Type 0} (g : Ghosts D) (p : Parts D) (k : FileKey) (change : Rewri
       refused_proceeds n t turns meta_is durable_is = joined n t (kept_proceeds g (store_of (record p { disk = mid })) x.lawful written_live n t turns meta_is durable_is)
 
       -- they are
-      pub rewritten : (n : ℕ) (new : D) (m : Meta) (wrote : Bool) → Tells g mid p.meta n wrote new m → m.current ≡ after_all records p.meta.current → IsMeta m → Backs g new m → StoresOrKeeps g mid new p.meta n
-          → IsDone g p n held_next (after_event p new m wrote (set p.bodies (k.ino - 1) changed) (unmarked freed (marked places p.space.current)) (marked places p.space.current) true)
-      rewritten n new m wrote tells taken lawful backs turns =
-          let current = taken ∙ become records staged.rewriting in
+      pub rewritten : (b : HeldBody) → b.bytes ≡ changed → IsHere b (remapped change x.at.file.size ms x.at.file) → (n : ℕ) (new : D) (m : Meta) (wrote : Bool) → Tells g mid p.meta n wrote new m → m.current ≡ after_all records p.meta.current → IsMeta m → Backs g new m → StoresOrKeeps g mid new p.meta n
+          → IsDone g p n held_next (after_event p new m wrote (set p.bodies (k.ino - 1) b) (unmarked freed (marked places p.space.current)) (marked places p.space.current) true)
+      rewritten b bytes_are here n new m wrote tells taken lawful backs turns =
+          let current = taken ∙ become records (staged.rewriting x.at.file x.at.found) in
           let touched_are = (mapped blocks places long).0 in
           let has_marks = each-weaker (λ b. get_or p.space.current b false ≡ true) (λ b. get_or (marked places p.space.current) b false ≡ true) (λ b. marked_keeps places p.space.current b) (blocks_of p.meta.current.files) (rw x.live.marks (marks_there p.meta.current x.lawful.current)) in
           let it =
           done g (record p { disk = mid }) x.lawful written_live n new m _ (unmarked freed (marked places p.space.current)) (marked places p.space.current) true backs held_next
-          (ap (held_with (set p.bodies (k.ino - 1) changed)) current ∙ held_with-rewritten p.bodies p.meta x.files k x.at change size ms refl touched_are)
+          (ap (held_with (set p.bodies (k.ino - 1) b)) current ∙ held_with-rewritten p.bodies p.meta x.files k x.at b change ms touched_are bytes_are)
           (λ c gives. ap (held_at (blocks_in_image p.meta.durable.geometry c)) current ∙ holds_next c gives) (marks freed (staged.frees x.at.file x.at.found) ∙ ap marks_of (sym current)) has_marks wrote tells lawful turns
-          (IsHeldFiles-rewritten p.bodies p.meta x.files k x.at change size ms refl touched_are m current lawful.current) (λ idle. absurd cc) in
+          (IsHeldFiles-rewritten p.bodies p.meta x.files k x.at b change ms touched_are bytes_are m current lawful.current within (subst (IsHere b) (sym becomes_is) here)) (λ idle. absurd cc) in
           record { files = it.files; sound = it.sound; held = it.held; proceeds = joined n _ it.proceeds }

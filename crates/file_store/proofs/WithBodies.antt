@@ -1,11 +1,16 @@
 -- Files after a record, and after a change of the bytes of one, however bytes are found, and with their bodies in memory.
 use Rattle.std.proofs.lemmas.Bool.Decides.{nat_tests}
-use Rattle.file_store.proofs.Names.{◌≡◌, ℕ, List, [], length, map, Some, refl, ◌∙◌, sym, ap, subst, ◌+◌, ◌-◌, ◌≤◌, ◌∷◌, get_or, set, true, false, cond, Option, eqb, arith, length-set, get_or-set_same, get_or-set_other, IsSome, option_map, AllByRecursion, FileKey, find_key, change_key, put_key, drop_key, rebody, touched, size_after, mapped_after, FileState, new_file, remade, affected_held, file_or_new, bytes_of, Mapping, Record, Make, Drop, Size, Map, CatalogFile, Catalog, IsCatalog, geometry_of, names_of, file_after, with_file, with_changed, inode_of, key_on, after, CanStand, each-put, each-drop, each-change, names_of-drop, Rewrite, Write, Resize, file_by, bytes_at, bytes_with, held_at, held_with, IsBodiless, effect_in, held_after, empties, effect_of, remapped, eqb-false, Meta, each-found, key-found, Kept, empty_file, has_inode, Within, absent-low, ascend-drop, IsHeldFiles}
+use Rattle.file_store.proofs.Names.{◌≡◌, ℕ, List, [], length, map, Some, None, refl, ◌∙◌, sym, ap, subst, ◌+◌, ◌-◌, ◌≤◌, ◌∷◌, get_or, set, true, false, cond, Option, eqb, arith, length-set, get_or-set_same, get_or-set_other, IsSome, option_map, AllByRecursion, FileKey, find_key, change_key, put_key, drop_key, rebody, touched, size_after, mapped_after, FileState, new_file, remade, affected_held, file_or_new, bytes_of, Mapping, Record, Make, Drop, Size, Map, CatalogFile, Catalog, IsCatalog, geometry_of, names_of, file_after, with_file, with_changed, inode_of, key_on, after, CanStand, each-put, each-drop, each-change, names_of-drop, Rewrite, Write, Resize, file_by, bytes_at, body_with, bytes_with, held_at, held_with, HeldBody, no_body, is_away, KeepsHere, IsHere, IsBody, AreBodies, IsWithin, rekept, Stub, Restore, IsBodiless, effect_in, held_after, empties, effect_of, remapped, eqb-false, Meta, each-found, key-found, Kept, empty_file, has_inode, Within, absent-low, ascend-drop, IsHeldFiles}
 use Rattle.file_store.specs.Bodies.{held_by, body_at}
 use Rattle.file_store.proofs.EachOf.{each-all, each-both, each-weaker}
-use Rattle.file_store.proofs.FilesBy.{SameBytes, same_held, by-put, by-drop, by-change, find-held, live-by}
+use Rattle.file_store.proofs.FilesBy.{SameBytes, same_held, by-put, by-drop, by-change, change-none, find-held, live-by}
 use Rattle.file_store.proofs.ByteChanges.{flags-mapped, length-changed}
 use Rattle.file_store.proofs.Marks.{geometry-after}
+use Rattle.file_store.proofs.SealedFiles.{seal_is, seal-away}
+use Rattle.hsm_types.specs.Stubs.{sealed}
+use Rattle.hsm_types.specs.declared.stubs.Stub.{Stub as StubOf}
+use Rattle.plain_model.specs.Effects.{Seals}
+use Rattle.meta_store.proofs.FileEdits.{each-changed as each-known}
 use Rattle.inode_table.specs.Listing.{Ascend}
 use Rattle.inode_table.proofs.Choices.{neither}
 
@@ -31,43 +36,39 @@ module _ (B C : CatalogFile → List ℕ) (sees : SeesNoKept B) where
   held-after k (Drop ino) c is stands keeps = rw is (same_held _ _ _ _ (by-drop B C k c.files keeps) refl)
   held-after k (Size ino size) c is stands keeps = absurd is
   held-after k (Map ino block places) c is stands keeps = absurd is
+  held-after k (Stub ino j None) c is stands keeps = absurd is
+  held-after k (Stub ino j (Some stub)) c is stands keeps =
+      let at : FileKey = key_on ino c in
+      let seal = is.1 stands.0 (ap (λ (i : FileKey). find_key (λ x. x.key) i c.files) (sym is.0) ∙ stands.1) in
+      let r : Record = Stub ino j (Some stub) in
+      let one : file_by C (file_after r stands.0) ≡ remade (Seals j stub.entry) (file_by B stands.0) =
+      rw (keeps (file_after r stands.0)) (subst (λ (s : StubOf). file_by B (file_after (Stub ino j (Some s)) stands.0) ≡ remade (Seals j s.entry) (file_by B stands.0)) (seal_is stub seal.stays)
+      (of_kept (record stands.0.kept { stubs = sealed j stub.entry stands.0.kept.stubs }) stands.0)) in
+      rw (← is.0) (same_held _ _ _ _ (by-change B C at (file_after r) (remade (Seals j stub.entry)) stands.0 c.files stands.1 one (each-all (SameBytes B C) keeps (drop_key (λ g. g.key) at c.files))) refl)
   held-after k r c is stands keeps =
       let j : FileKey = key_on (inode_of r) c in
       let one : file_by C (file_after r stands.0) ≡ remade (effect_in r) (file_by B stands.0) = rw (keeps (file_after r stands.0)) (of_kept (file_after r stands.0).kept stands.0) in
       rw (← is) (same_held _ _ _ _ (by-change B C j (file_after r) (remade (effect_in r)) stands.0 c.files stands.1 one (each-all (SameBytes B C) keeps (drop_key (λ g. g.key) j c.files))) refl)
 
-  -- ---- bodies keep their files' sizes
-
-  abbrev Sized : (CatalogFile → List ℕ) → CatalogFile → Type 0
-  Sized F f = length (F f) ≡ f.size
-
-  sized : (fs : List CatalogFile) → AllByRecursion (SameBytes B C) fs → AllByRecursion (Sized B) fs → AllByRecursion (Sized C) fs
-  sized = each-both (SameBytes B C) (Sized B) (Sized C) (λ f same is. ap length same ∙ is)
-
-  pub sizes-after : (k : FileKey) (r : Record) (c : Catalog) → IsBodiless k r c → KeepsBytes B C k r c → AllByRecursion (Sized B) c.files → AllByRecursion (Sized C) (after r c).files
-  sizes-after k (Make key name) c is keeps are = each-put (Sized C) (empty_file key name) c.files (ap length keeps.1) (sized c.files keeps.0 are)
-  sizes-after k (Drop ino) c is keeps are = rw is (sized (drop_key (λ f. f.key) k c.files) keeps (each-drop (Sized B) k c.files are))
-  sizes-after k (Size ino size) c is keeps are = absurd is
-  sizes-after k (Map ino block places) c is keeps are = absurd is
-  sizes-after k r c is keeps are =
-      each-change (Sized C) (key_on (inode_of r) c) (file_after r) c.files (λ f was. ap length (keeps (file_after r f) ∙ sees f (file_after r f).kept ∙ sym (keeps f)) ∙ was) (sized c.files (each-all (SameBytes B C) keeps c.files) are)
-
 -- ---- bytes that change, and touched blocks that get new places
 
+-- all that the change leaves of it
 abbrev rewritten : Rewrite → FileState → FileState
-rewritten change f = record f { body = rebody (effect_of change) f.body; mapped = mapped_after (effect_of change) (length f.body) f.mapped }
+rewritten change f = record f { body = rebody (effect_of change) f.body; mapped = mapped_after (effect_of change) (length f.body) f.mapped; kept = rekept (effect_of change) (length f.body) f.kept }
 
 affected-rewritten : (change : Rewrite) (key : FileKey) (files : List FileState) → affected_held (effect_of change) key files ≡ change_key (λ f. f.key) key (rewritten change) files
 affected-rewritten (Write offset bytes) key files = refl
 affected-rewritten (Resize size) key files = refl
+affected-rewritten (Restore segment bytes) key files = refl
 
 pub held-rewritten : (B C : CatalogFile → List ℕ) (k : FileKey) (change : Rewrite) (size : ℕ) (ms : List Mapping) (c : Catalog) (f : CatalogFile) → find_key (λ g. g.key) k c.files ≡ Some f
-    → size ≡ size_after (effect_of change) (length (B f)) → map (λ m. m.block) ms ≡ touched (effect_of change) (length (B f)) → C (remapped size ms f) ≡ rebody (effect_of change) (B f)
-    → AllByRecursion (SameBytes B C) (drop_key (λ g. g.key) k c.files) → held_by C (with_changed k (remapped size ms) c) ≡ record (held_by B c) { files = affected_held (effect_of change) k (held_by B c).files }
+    → size ≡ length (B f) → map (λ m. m.block) ms ≡ touched (effect_of change) size → C (remapped change size ms f) ≡ rebody (effect_of change) (B f)
+    → AllByRecursion (SameBytes B C) (drop_key (λ g. g.key) k c.files) → held_by C (with_changed k (remapped change size ms) c) ≡ record (held_by B c) { files = affected_held (effect_of change) k (held_by B c).files }
 unfolding held_by
-held-rewritten B C k change size ms c f found after blocks becomes others =
-    let one : file_by C (remapped size ms f) ≡ rewritten change (file_by B f) = rw (becomes, flags-mapped (effect_of change) (length (B f)) size ms f.places blocks after) refl in
-    same_held _ _ _ _ (by-change B C k (remapped size ms) (rewritten change) f c.files found one others ∙ sym (affected-rewritten change k (map (file_by B) c.files))) refl
+held-rewritten B C k change size ms c f found was blocks becomes others =
+    let flags = flags-mapped (effect_of change) size (size_after (effect_of change) size) ms f.places blocks refl in
+    let one : file_by C (remapped change size ms f) ≡ rewritten change (file_by B f) = rw (becomes, flags, was) refl in
+    same_held _ _ _ _ (by-change B C k (remapped change size ms) (rewritten change) f c.files found one others ∙ sym (affected-rewritten change k (map (file_by B) c.files))) refl
 
 -- ---- the inode of a file that is found
 
@@ -94,18 +95,32 @@ dropped-inode n k f (e ∷ fs) a found =
 
 -- ---- the files that keep their bodies
 
+-- the file has the same body
+abbrev pub SameBody : List HeldBody → List HeldBody → CatalogFile → Type 0
+SameBody bs cs f = body_with cs f ≡ body_with bs f
+
+pub same-bytes : (bs cs : List HeldBody) (fs : List CatalogFile) → AllByRecursion (SameBody bs cs) fs → AllByRecursion (SameBytes (bytes_with bs) (bytes_with cs)) fs
+same-bytes bs cs = each-weaker (SameBody bs cs) (SameBytes (bytes_with bs) (bytes_with cs)) (λ f same. ap (λ (b : HeldBody). b.bytes) same)
+
+-- what is true of each file and its body
+abbrev Bodied : List HeldBody → CatalogFile → Type 0
+Bodied bs f = IsBody (body_with bs f) f
+
+same-bodies : (bs cs : List HeldBody) (fs : List CatalogFile) → AllByRecursion (SameBody bs cs) fs → AreBodies bs fs → AreBodies cs fs
+same-bodies bs cs = each-both (SameBody bs cs) (Bodied bs) (Bodied cs) (λ f same is. subst (λ (b : HeldBody). IsBody b f) (sym same) is)
+
 -- where no file has the inode
-stay-unused : (bs : List (List ℕ)) (n ino : ℕ) (x : List ℕ) (fs : List CatalogFile) → 1 ≤ ino → 1 ≤ n → Ascend n (names_of fs) → has_inode ino (names_of fs) ≡ false → AllByRecursion (SameBytes (bytes_with bs) (bytes_with (set bs (ino - 1) x))) fs
+stay-unused : (bs : List HeldBody) (n ino : ℕ) (x : HeldBody) (fs : List CatalogFile) → 1 ≤ ino → 1 ≤ n → Ascend n (names_of fs) → has_inode ino (names_of fs) ≡ false → AllByRecursion (SameBody bs (set bs (ino - 1) x)) fs
 stay-unused bs n ino x [] low from a free = tt
 stay-unused bs n ino x (f ∷ fs) low from a free =
     let parts = neither (eqb f.key.ino ino) (has_inode ino (names_of fs)) free in
     let other = eqb-false f.key.ino ino parts.0 in
     let above = a.0 in
-    (get_or-set_other bs (ino - 1) (f.key.ino - 1) x [] (λ same. other (omega arith)), stay-unused bs (f.key.ino + 1) ino x fs low (omega arith) a.1 parts.1)
+    (get_or-set_other bs (ino - 1) (f.key.ino - 1) x no_body (λ same. other (omega arith)), stay-unused bs (f.key.ino + 1) ino x fs low (omega arith) a.1 parts.1)
 
 -- where a file has it, those beside that one
-stay-beside : (bs : List (List ℕ)) (k : FileKey) (x : List ℕ) (f : CatalogFile) (fs : List CatalogFile) → Ascend 1 (names_of fs) → find_key (λ y. y.key) k fs ≡ Some f
-    → AllByRecursion (SameBytes (bytes_with bs) (bytes_with (set bs (k.ino - 1) x))) (drop_key (λ y. y.key) k fs)
+stay-beside : (bs : List HeldBody) (k : FileKey) (x : HeldBody) (f : CatalogFile) (fs : List CatalogFile) → Ascend 1 (names_of fs) → find_key (λ y. y.key) k fs ≡ Some f
+    → AllByRecursion (SameBody bs (set bs (k.ino - 1) x)) (drop_key (λ y. y.key) k fs)
 stay-beside bs k x f fs a found =
     stay-unused bs 1 k.ino x (drop_key (λ y. y.key) k fs) (found-above 1 k f fs a found) (omega arith) (rw (names_of-drop k fs) (ascend-drop 1 k (names_of fs) a)) (dropped-inode 1 k f fs a found)
 
@@ -125,18 +140,45 @@ held_at-after blocks k r c is stands = held-after (bytes_at blocks) (bytes_at bl
 
 -- ---- in memory, where the body of the inode is empty once its file is new or gone
 
-abbrev pub bodies_after : FileKey → Record → List (List ℕ) → List (List ℕ)
-bodies_after k r bs = cond (empties r) (set bs (k.ino - 1) []) bs
+abbrev pub bodies_after : FileKey → Record → List HeldBody → List HeldBody
+bodies_after k r bs = cond (empties r) (set bs (k.ino - 1) no_body) bs
 
 pub bytes-held : (B : CatalogFile → List ℕ) (c : Catalog) (k : FileKey) (f : CatalogFile) → find_key (λ x. x.key) k c.files ≡ Some f → bytes_of k (held_by B c).files ≡ B f
 bytes-held B c k f found = ap (λ (o : Option FileState). (file_or_new k o).body) (find-held B k c ∙ ap (option_map (file_by B)) found)
 
-pub body-held : (bs : List (List ℕ)) (c : Catalog) (k : FileKey) (f : CatalogFile) → find_key (λ x. x.key) k c.files ≡ Some f → bytes_of k (held_with bs c).files ≡ get_or bs (k.ino - 1) []
-body-held bs c k f found = bytes-held (bytes_with bs) c k f found ∙ ap (λ (j : FileKey). get_or bs (j.ino - 1) []) (key-found k f c.files found)
+pub body-held : (bs : List HeldBody) (c : Catalog) (k : FileKey) (f : CatalogFile) → find_key (λ x. x.key) k c.files ≡ Some f → bytes_of k (held_with bs c).files ≡ (get_or bs (k.ino - 1) no_body).bytes
+body-held bs c k f found = bytes-held (bytes_with bs) c k f found ∙ ap (λ (j : FileKey). (get_or bs (j.ino - 1) no_body).bytes) (key-found k f c.files found)
 
 -- the same files, whatever is durable
-pub same-files : (bs : List (List ℕ)) (m n : Meta) → n.current ≡ m.current → IsHeldFiles bs m → IsHeldFiles bs n
+pub same-files : (bs : List HeldBody) (m n : Meta) → n.current ≡ m.current → IsHeldFiles bs m → IsHeldFiles bs n
 same-files bs m n same is = record { catalog = rw same is.catalog; sizes = rw same is.sizes; count = rw same is.count }
+
+-- The bodies of files after a record that concerns no bytes: a new file has none, and all files that stay have the same.
+abbrev KeepsBodies : List HeldBody → List HeldBody → FileKey → Record → Catalog → Type 0
+KeepsBodies bs cs k (Make key name) c = AllByRecursion (SameBody bs cs) c.files × (body_with cs (empty_file key name) ≡ no_body)
+KeepsBodies bs cs k (Drop ino) c = AllByRecursion (SameBody bs cs) (drop_key (λ f. f.key) k c.files)
+KeepsBodies bs cs k r c = (f : CatalogFile) → body_with cs f ≡ body_with bs f
+
+keeps-bytes : (bs cs : List HeldBody) (k : FileKey) (r : Record) (c : Catalog) → KeepsBodies bs cs k r c → KeepsBytes (bytes_with bs) (bytes_with cs) k r c
+keeps-bytes bs cs k (Make key name) c keeps = (same-bytes bs cs c.files keeps.0, ap (λ (b : HeldBody). b.bytes) keeps.1)
+keeps-bytes bs cs k (Drop ino) c keeps = same-bytes bs cs (drop_key (λ f. f.key) k c.files) keeps
+keeps-bytes bs cs k r c keeps = λ f. ap (λ (b : HeldBody). b.bytes) (keeps f)
+
+no-body : (f : CatalogFile) → f.size ≡ 0 → IsBody no_body f
+no-body f none = record { size = sym none; here = λ j away. absurd cc }
+
+bodies-after : (bs cs : List HeldBody) (k : FileKey) (r : Record) (c : Catalog) → IsBodiless k r c → KeepsBodies bs cs k r c → AreBodies bs c.files → AreBodies cs (after r c).files
+bodies-after bs cs k (Make key name) c is keeps are = each-put (Bodied cs) (empty_file key name) c.files (subst (λ (b : HeldBody). IsBody b (empty_file key name)) (sym keeps.1) (no-body (empty_file key name) refl)) (same-bodies bs cs c.files keeps.0 are)
+bodies-after bs cs k (Drop ino) c is keeps are = rw is (same-bodies bs cs (drop_key (λ f. f.key) k c.files) keeps (each-drop (Bodied bs) k c.files are))
+bodies-after bs cs k (Size ino size) c is keeps are = absurd is
+bodies-after bs cs k (Map ino block places) c is keeps are = absurd is
+bodies-after bs cs k (Stub ino j None) c is keeps are = absurd is
+bodies-after bs cs k (Stub ino j (Some stub)) c is keeps are =
+    each-known (Bodied cs) (key_on ino c) (file_after (Stub ino j (Some stub))) c.files
+    (λ f found was. record { size = was.size; here = λ i away. seal-away j i stub f.kept.stubs (is.1 f (ap (λ (at : FileKey). find_key (λ x. x.key) at c.files) (sym is.0) ∙ found)).here (was.here i away) })
+    (same-bodies bs cs c.files (each-all (SameBody bs cs) keeps c.files) are)
+bodies-after bs cs k r c is keeps are =
+    each-change (Bodied cs) (key_on (inode_of r) c) (file_after r) c.files (λ f was. record { size = was.size; here = was.here }) (same-bodies bs cs c.files (each-all (SameBody bs cs) keeps c.files) are)
 
 -- the file has the key, and its inode is one of those that there are
 pub record IsFound (limit : ℕ) (c : Catalog) (k : FileKey) : Type 0 where
@@ -145,7 +187,7 @@ pub record IsFound (limit : ℕ) (c : Catalog) (k : FileKey) : Type 0 where
   pub low : 1 ≤ k.ino
   pub high : k.ino ≤ limit
 
-module _ (bs : List (List ℕ)) (m : Meta) (is : IsHeldFiles bs m) where
+module _ (bs : List HeldBody) (m : Meta) (is : IsHeldFiles bs m) where
   found-there : (k : FileKey) (f : CatalogFile) → find_key (λ x. x.key) k m.current.files ≡ Some f → IsFound (length bs) m.current k
   found-there k f found =
       let files = m.current.files in
@@ -162,65 +204,97 @@ module _ (bs : List (List ℕ)) (m : Meta) (is : IsHeldFiles bs m) where
   slot-there k (Drop ino) gone same stands = let at = found-there k stands.0 (rw (← same) stands.1) in (at.low, at.high)
   slot-there k r never same stands = cc
 
-  keeps-with : (k : FileKey) (r : Record) → IsBodiless k r m.current → CanStand r m.current → KeepsBytes (bytes_with bs) (bytes_with (bodies_after k r bs)) k r m.current
+  keeps-with : (k : FileKey) (r : Record) → IsBodiless k r m.current → CanStand r m.current → KeepsBodies bs (bodies_after k r bs) k r m.current
   keeps-with k (Make key name) same stands =
-      subst (λ (j : FileKey). KeepsBytes (bytes_with bs) (bytes_with (set bs (j.ino - 1) [])) j (Make key name) m.current) same
-      (stay-unused bs 1 key.ino [] m.current.files stands.low (omega arith) is.catalog.table.ascend stands.inode, get_or-set_same bs (key.ino - 1) [] [] (omega arith))
-  keeps-with k (Drop ino) same stands = stay-beside bs k [] stands.0 m.current.files is.catalog.table.ascend (rw (← same) stands.1)
+      subst (λ (j : FileKey). KeepsBodies bs (set bs (j.ino - 1) no_body) j (Make key name) m.current) same
+      (stay-unused bs 1 key.ino no_body m.current.files stands.low (omega arith) is.catalog.table.ascend stands.inode, get_or-set_same bs (key.ino - 1) no_body no_body (omega arith))
+  keeps-with k (Drop ino) same stands = stay-beside bs k no_body stands.0 m.current.files is.catalog.table.ascend (rw (← same) stands.1)
   keeps-with k (Size ino size) same stands = absurd same
   keeps-with k (Map ino block places) same stands = absurd same
   keeps-with k r same stands = λ f. refl
 
   count-after : (k : FileKey) (r : Record) → length (bodies_after k r bs) ≡ length bs
-  count-after k (Make key name) = length-set bs (k.ino - 1) []
-  count-after k (Drop ino) = length-set bs (k.ino - 1) []
+  count-after k (Make key name) = length-set bs (k.ino - 1) no_body
+  count-after k (Drop ino) = length-set bs (k.ino - 1) no_body
   count-after k r = refl
 
   pub held_with-after : (k : FileKey) (r : Record) → IsBodiless k r m.current → CanStand r m.current → held_with (bodies_after k r bs) (after r m.current) ≡ held_after k r (held_with bs m.current)
-  held_with-after k r same stands = held-after (bytes_with bs) (bytes_with (bodies_after k r bs)) (λ f kept. refl) k r m.current same stands (keeps-with k r same stands)
+  held_with-after k r same stands = held-after (bytes_with bs) (bytes_with (bodies_after k r bs)) (λ f kept. refl) k r m.current same stands (keeps-bytes bs (bodies_after k r bs) k r m.current (keeps-with k r same stands))
 
   pub IsHeldFiles-after : (k : FileKey) (r : Record) (n : Meta) → IsBodiless k r m.current → CanStand r m.current → n.current ≡ after r m.current → IsCatalog n.current → IsHeldFiles (bodies_after k r bs) n
   IsHeldFiles-after k r n same stands current lawful = record {
     catalog = lawful;
-    sizes = rw current (sizes-after (bytes_with bs) (bytes_with (bodies_after k r bs)) (λ f kept. refl) k r m.current same (keeps-with k r same stands) is.sizes);
+    sizes = rw current (bodies-after bs (bodies_after k r bs) k r m.current same (keeps-with k r same stands) is.sizes);
     count = count-after k r ∙ is.count ∙ ap (λ (g : ℕ). (geometry_of g).files) (sym (ap (λ (c : Catalog). c.geometry) current ∙ geometry-after r m.current));
   }
 
 -- ---- and after a change of the bytes of one file
 
 -- what is true of the others and of the changed file is true of each
-each-changed : (P : CatalogFile → Type 0) (k : FileKey) (to : CatalogFile → CatalogFile) (f : CatalogFile) (fs : List CatalogFile) → find_key (λ g. g.key) k fs ≡ Some f → P (to f) → AllByRecursion P (drop_key (λ g. g.key) k fs) → AllByRecursion P (change_key (λ g. g.key) k to fs)
+pub each-changed : (P : CatalogFile → Type 0) (k : FileKey) (to : CatalogFile → CatalogFile) (f : CatalogFile) (fs : List CatalogFile) → find_key (λ g. g.key) k fs ≡ Some f → P (to f) → AllByRecursion P (drop_key (λ g. g.key) k fs) → AllByRecursion P (change_key (λ g. g.key) k to fs)
 each-changed P k to f [] found here others = cc
 each-changed P k to f (e ∷ fs) found here others = grind (arith, each-changed P k to f fs)
 
-module _ (bs : List (List ℕ)) (m : Meta) (is : IsHeldFiles bs m) (k : FileKey) (at : IsFound (length bs) m.current k) where
+module _ (bs : List HeldBody) (m : Meta) (is : IsHeldFiles bs m) (k : FileKey) (at : IsFound (length bs) m.current k) where
   ino_is : at.file.key ≡ k
   ino_is = key-found k at.file m.current.files at.found
 
-  pub body-of : bytes_with bs at.file ≡ get_or bs (k.ino - 1) []
-  body-of = ap (λ (j : FileKey). get_or bs (j.ino - 1) []) ino_is
+  abbrev old : HeldBody
+  old = get_or bs (k.ino - 1) no_body
 
-  module _ (change : Rewrite) (size : ℕ) (ms : List Mapping) (after : size ≡ size_after (effect_of change) (length (get_or bs (k.ino - 1) []))) (blocks : map (λ m. m.block) ms ≡ touched (effect_of change) (length (get_or bs (k.ino - 1) []))) where
-    abbrev new : List (List ℕ)
-    new = set bs (k.ino - 1) (rebody (effect_of change) (get_or bs (k.ino - 1) []))
+  pub body-of : body_with bs at.file ≡ old
+  body-of = ap (λ (j : FileKey). get_or bs (j.ino - 1) no_body) ino_is
 
-    becomes : bytes_with new (remapped size ms at.file) ≡ rebody (effect_of change) (get_or bs (k.ino - 1) [])
-    becomes =
-        ap (λ (j : FileKey). get_or new (j.ino - 1) []) ino_is ∙ get_or-set_same bs (k.ino - 1) (rebody (effect_of change) (get_or bs (k.ino - 1) [])) [] (omega arith)
+  pub bytes-of : bytes_with bs at.file ≡ old.bytes
+  bytes-of = ap (λ (b : HeldBody). b.bytes) body-of
 
-    others : AllByRecursion (SameBytes (bytes_with bs) (bytes_with new)) (drop_key (λ g. g.key) k m.current.files)
-    others = stay-beside bs k (rebody (effect_of change) (get_or bs (k.ino - 1) [])) at.file m.current.files is.catalog.table.ascend at.found
+  pub is-body : IsBody old at.file
+  is-body = subst (λ (b : HeldBody). IsBody b at.file) body-of (each-found (Bodied bs) k at.file m.current.files is.sizes at.found)
 
-    pub held_with-rewritten : held_with new (with_changed k (remapped size ms) m.current) ≡ record (held_with bs m.current) { files = affected_held (effect_of change) k (held_with bs m.current).files }
-    held_with-rewritten =
-        held-rewritten (bytes_with bs) (bytes_with new) k change size ms m.current at.file at.found (after ∙ ap (λ (b : List ℕ). size_after (effect_of change) (length b)) (sym body-of)) (blocks ∙ ap (λ (b : List ℕ). touched (effect_of change) (length b)) (sym body-of))
-        (becomes ∙ ap (rebody (effect_of change)) (sym body-of)) others
+  module _ (b : HeldBody) where
+    abbrev new : List HeldBody
+    new = set bs (k.ino - 1) b
 
-    pub IsHeldFiles-rewritten : (t : Meta) → t.current ≡ with_changed k (remapped size ms) m.current → IsCatalog t.current → IsHeldFiles new t
-    IsHeldFiles-rewritten t current lawful = record {
-      catalog = lawful;
-      sizes = rw current (each-changed (λ f. length (bytes_with new f) ≡ f.size) k (remapped size ms) at.file m.current.files at.found (ap length becomes ∙ length-changed change _ ∙ sym after)
-          (each-both (SameBytes (bytes_with bs) (bytes_with new)) (λ f. length (bytes_with bs f) ≡ f.size) (λ f. length (bytes_with new f) ≡ f.size) (λ f same sized. ap length same ∙ sized) (drop_key (λ g. g.key) k m.current.files) others
-          (each-drop (λ f. length (bytes_with bs f) ≡ f.size) k m.current.files is.sizes)));
-      count = length-set bs (k.ino - 1) _ ∙ is.count ∙ ap (λ (c : Catalog). (geometry_of c.geometry).files) (sym current);
-    }
+    pub put-there : (f : CatalogFile) → f.key ≡ at.file.key → body_with new f ≡ b
+    put-there f same = ap (λ (j : FileKey). get_or new (j.ino - 1) no_body) (same ∙ ino_is) ∙ get_or-set_same bs (k.ino - 1) b no_body (omega arith)
+
+    pub others : AllByRecursion (SameBody bs new) (drop_key (λ g. g.key) k m.current.files)
+    others = stay-beside bs k b at.file m.current.files is.catalog.table.ascend at.found
+
+    -- where that file becomes another one of the same key, whose body it is
+    pub put-bodies : (to : CatalogFile → CatalogFile) → (to at.file).key ≡ at.file.key → IsBody b (to at.file) → AreBodies new (change_key (λ f. f.key) k to m.current.files)
+    put-bodies to same body =
+        each-changed (Bodied new) k to at.file m.current.files at.found (subst (λ (x : HeldBody). IsBody x (to at.file)) (sym (put-there (to at.file) same)) body)
+        (same-bodies bs new (drop_key (λ g. g.key) k m.current.files) others (each-drop (Bodied bs) k m.current.files is.sizes))
+
+    pub count-put : length new ≡ (geometry_of m.current.geometry).files
+    count-put = length-set bs (k.ino - 1) b ∙ is.count
+
+    module _ (change : Rewrite) (ms : List Mapping) (blocks : map (λ m. m.block) ms ≡ touched (effect_of change) (length old.bytes)) (becomes : b.bytes ≡ rebody (effect_of change) old.bytes) where
+      pub held_with-rewritten : held_with new (with_changed k (remapped change (length old.bytes) ms) m.current) ≡ record (held_with bs m.current) { files = affected_held (effect_of change) k (held_with bs m.current).files }
+      held_with-rewritten =
+          held-rewritten (bytes_with bs) (bytes_with new) k change (length old.bytes) ms m.current at.file at.found (ap length (sym bytes-of)) blocks
+          (ap (λ (x : HeldBody). x.bytes) (put-there (remapped change (length old.bytes) ms at.file) refl) ∙ becomes ∙ ap (rebody (effect_of change)) (sym bytes-of)) (same-bytes bs new (drop_key (λ g. g.key) k m.current.files) others)
+
+      pub IsHeldFiles-rewritten : (t : Meta) → t.current ≡ with_changed k (remapped change (length old.bytes) ms) m.current → IsCatalog t.current → IsWithin change (length old.bytes) → IsHere b (remapped change (length old.bytes) ms at.file) → IsHeldFiles new t
+      IsHeldFiles-rewritten t current lawful within here = record {
+        catalog = lawful;
+        sizes = rw current (put-bodies (remapped change (length old.bytes) ms) refl (record { size = ap length becomes ∙ length-changed change old.bytes within; here = here }));
+        count = count-put ∙ ap (λ (c : Catalog). (geometry_of c.geometry).files) (sym current);
+      }
+
+    -- where it has the same bytes, and no more segments are away
+    module _ (same : b.bytes ≡ old.bytes) (keeps : KeepsHere old b) where
+      pub held_with-back : held_with new m.current ≡ held_with bs m.current
+      unfolding held_by
+      held_with-back =
+          let one : file_by (bytes_with new) at.file ≡ file_by (bytes_with bs) at.file = ap (λ (bytes : List ℕ). record (file_by (bytes_with bs) at.file) { body = bytes }) (ap (λ (x : HeldBody). x.bytes) (put-there at.file refl) ∙ same ∙ sym bytes-of) in
+          let all = by-change (bytes_with bs) (bytes_with new) k (λ f. f) (λ f. f) at.file m.current.files at.found one (same-bytes bs new (drop_key (λ g. g.key) k m.current.files) others) in
+          same_held _ _ _ _ (ap (map (file_by (bytes_with new))) (sym (change-none (λ (f : CatalogFile). f.key) k m.current.files)) ∙ all ∙ change-none (λ (f : FileState). f.key) k (map (file_by (bytes_with bs)) m.current.files)) refl
+
+      pub IsHeldFiles-back : IsHeldFiles new m
+      IsHeldFiles-back = record {
+        catalog = is.catalog;
+        sizes = subst (AreBodies new) (change-none (λ (f : CatalogFile). f.key) k m.current.files) (put-bodies (λ f. f) refl (record { size = ap length same ∙ is-body.size; here = λ j away. is-body.here j (keeps j away) }));
+        count = count-put;
+      }

@@ -1,8 +1,10 @@
 -- The bytes of files by blocks of 4,096 bytes.
-use Rattle.std.specs.Prelude.{◌≡◌, ℕ, ◌*◌, ◌-◌, List, length, map, get_or, take, replicate, [], Option, Some, None, is_some}
+use Rattle.std.specs.Prelude.{◌≡◌, ℕ, ◌*◌, ◌-◌, List, length, map, get_or, take, replicate, true, Option, Some, None, is_some}
 use Rattle.std.specs.List.{flat_map, AllByRecursion}
 use Rattle.disk_model.specs.Images.{part}
+use Rattle.hsm_types.specs.Stubs.{offline_at}
 use Rattle.plain_model.specs.State.{FileState, Held}
+use Rattle.file_body.specs.HeldBodies.{HeldBody, no_body, is_away}
 use Rattle.meta_store.specs.Catalogs.{CatalogFile, Catalog}
 unfoldable pub use Rattle.file_body.specs.BodyBlocks.{block_of}
 
@@ -35,15 +37,26 @@ abbrev pub held_at : List ℕ → Catalog → Held
 held_at blocks = held_by (bytes_at blocks)
 
 -- with these bodies in memory, that of inode i at i - 1
-abbrev pub bytes_with : List (List ℕ) → CatalogFile → List ℕ
-bytes_with bodies f = get_or bodies (f.key.ino - 1) []
+abbrev pub body_with : List HeldBody → CatalogFile → HeldBody
+body_with bodies f = get_or bodies (f.key.ino - 1) no_body
 
-abbrev pub file_with : List (List ℕ) → CatalogFile → FileState
+abbrev pub bytes_with : List HeldBody → CatalogFile → List ℕ
+bytes_with bodies f = (body_with bodies f).bytes
+
+abbrev pub file_with : List HeldBody → CatalogFile → FileState
 file_with bodies = file_by (bytes_with bodies)
 
-abbrev pub held_with : List (List ℕ) → Catalog → Held
+abbrev pub held_with : List HeldBody → Catalog → Held
 held_with bodies = held_by (bytes_with bodies)
 
--- each body has its file's size
-abbrev pub AreBodies : List (List ℕ) → List CatalogFile → Type 0
-AreBodies bodies files = AllByRecursion (λ f. length (bytes_with bodies f) ≡ f.size) files
+-- a segment is away from the body only where the file's is offline
+abbrev pub IsHere : HeldBody → CatalogFile → Type 0
+IsHere body f = (j : ℕ) → is_away body j ≡ true → offline_at f.kept.stubs j ≡ true
+
+-- each body has its file's size, and of the segments that aren't offline their bytes
+pub record IsBody (body : HeldBody) (f : CatalogFile) : Type 0 where
+  pub size : length body.bytes ≡ f.size
+  pub here : IsHere body f
+
+abbrev pub AreBodies : List HeldBody → List CatalogFile → Type 0
+AreBodies bodies files = AllByRecursion (λ f. IsBody (body_with bodies f) f) files

@@ -1,19 +1,30 @@
 -- Records that concern no bytes of a file that stays, and what they do to what is held.
-use Rattle.std.specs.Prelude.{◌≡◌, ℕ, ◌+◌, max, List, [], Bool, true, false, Some}
+use Rattle.std.specs.Prelude.{◌≡◌, ℕ, ◌+◌, max, List, [], Bool, true, false, Some, None}
+use Rattle.hsm_types.specs.Segments.{segment_len}
+use Rattle.hsm_types.specs.Stubs.{offline_at}
+use Rattle.hsm_types.specs.declared.stubs.Stub.{Stub as StubOf}
 use Rattle.hsm_types.specs.declared.keys.FileKey.{FileKey}
 use Rattle.plain_model.specs.Keyed.{find_key}
-use Rattle.plain_model.specs.Effects.{Effect, Leaves, Makes, Drops, Manages, Attaches, Detaches}
+use Rattle.plain_model.specs.Effects.{Effect, Leaves, Makes, Drops, Manages, Attaches, Detaches, Seals}
 use Rattle.plain_model.specs.State.{Held, affected_held}
 use Rattle.meta_store.specs.declared.records.Record.{Record}
-use Rattle.meta_store.specs.declared.records.Record.TheVariants.{Make, Drop, Size, Map, Regions, SetAttr, DropAttr}
+use Rattle.meta_store.specs.declared.records.Record.TheVariants.{Make, Drop, Size, Map, Regions, SetAttr, DropAttr, Stub}
 use Rattle.meta_store.specs.Catalogs.{CatalogFile, Catalog, present}
 use Rattle.meta_store.specs.Records.{inode_of, key_on}
+
+-- The segment is sealed whose bytes are here, by an entry of its length.
+pub record IsSeal (j : ℕ) (stub : StubOf) (f : CatalogFile) : Type 0 where
+  pub stays : stub.offline ≡ false
+  pub here : offline_at f.kept.stubs j ≡ false
+  pub len : stub.entry.print.len ≡ segment_len f.size j
 
 -- it concerns no bytes, and the file of the catalog that it is about has that key
 abbrev pub IsBodiless : FileKey → Record → Catalog → Type 0
 IsBodiless k (Make key name) c = key ≡ k
 IsBodiless k (Size ino size) c = ⊥
 IsBodiless k (Map ino block places) c = ⊥
+IsBodiless k (Stub ino j None) c = ⊥
+IsBodiless k (Stub ino j (Some stub)) c = (key_on ino c ≡ k) × ((f : CatalogFile) → find_key (λ f. f.key) k c.files ≡ Some f → IsSeal j stub f)
 IsBodiless k r c = key_on (inode_of r) c ≡ k
 
 -- a file of the catalog has the inode
@@ -27,6 +38,7 @@ effect_in (Drop ino) = Drops
 effect_in (Regions ino regions) = Manages regions
 effect_in (SetAttr ino name value) = Attaches name value
 effect_in (DropAttr ino name) = Detaches name
+effect_in (Stub ino j (Some stub)) = Seals j stub.entry
 effect_in r = Leaves
 
 -- a generation that a file has isn't given again

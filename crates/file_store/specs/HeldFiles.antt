@@ -1,8 +1,9 @@
 -- The files of a store in memory: what is kept of them beside their bytes, and the bytes.
-use Rattle.std.specs.Prelude.{◌≡◌, ℕ, List, length}
+use Rattle.std.specs.Prelude.{◌≡◌, List, length}
 use Rattle.plain_model.specs.State.{Held}
 use Rattle.meta_store.specs.Catalogs.{IsCatalog, geometry_of}
 use Rattle.meta_store.specs.Meta.{Meta}
+use Rattle.file_body.specs.HeldBodies.{HeldBody}
 use Rattle.file_store.specs.Bodies.{AreBodies, held_with}
 
 pub record HeldFiles : Type 0 where
@@ -10,11 +11,11 @@ pub record HeldFiles : Type 0 where
   pub held : Held
 
 -- with these bodies in memory
-abbrev pub files_with : List (List ℕ) → Meta → HeldFiles
+abbrev pub files_with : List HeldBody → Meta → HeldFiles
 files_with bodies m = record { meta = m; held = held_with bodies m.current }
 
--- the catalog is lawful, each file has a body of its size, and there is a body for each inode
-pub record IsHeldFiles (bodies : List (List ℕ)) (m : Meta) : Type 0 where
+-- the catalog is lawful, each file has a body of its size, whose segments are here unless they are offline, and there is a body for each inode
+pub record IsHeldFiles (bodies : List HeldBody) (m : Meta) : Type 0 where
   pub catalog : IsCatalog m.current
   pub sizes : AreBodies bodies m.current.files
   pub count : length bodies ≡ (geometry_of m.current.geometry).files

@@ -2,6 +2,7 @@ pub mod Bodies
 pub mod HeldFiles
 pub mod Steps
 pub mod Rewrites
+pub mod Punches
 pub mod Refusals
 pub mod Effects
 pub mod Stores

@@ -1,4 +1,5 @@
 -- Refusals of the layer below, as the store tells them.
+use Rattle.hsm_types.specs.declared.dm.DmRefusal.{DmRefusal}
 use Rattle.meta_store.specs.declared.refusal.MetaRefusal.{MetaRefusal}
 use Rattle.meta_store.specs.declared.refusal.MetaRefusal.TheVariants.{Part, Disk, Memory}
 use Rattle.file_store.specs.declared.refusal.StoreRefusal.{StoreRefusal}
@@ -8,6 +9,9 @@ abbrev pub refused_as : MetaRefusal → StoreRefusal
 refused_as (Part why) = store.Part why
 refused_as Disk = store.Disk
 refused_as Memory = store.Memory
+
+abbrev pub refused_part : DmRefusal → StoreRefusal
+refused_part why = store.Part why
 
 abbrev pub no_memory : StoreRefusal
 no_memory = store.Memory

@@ -1,25 +1,42 @@
 -- Changes of the bytes of a file, and the records that they are.
-use Rattle.std.specs.Prelude.{◌≡◌, ℕ, ◌+◌, ◌-◌, ◌≤◌, List, [], ◌∷◌, ◌++◌, length, map, take, drop, replicate, get_or, Option, None}
-use Rattle.std.specs.List.{flat_map, AllByRecursion}
-use Rattle.plain_model.specs.Effects.{Effect, Writes, Resizes}
+use Rattle.std.specs.Prelude.{◌≡◌, ℕ, ◌+◌, ◌-◌, ◌*◌, ◌<◌, ◌≤◌, ◌==◌, ◌&&◌, nat_lt, min, max, Bool, true, false, List, [], ◌∷◌, ◌++◌, length, map, take, drop, replicate, get_or, Option, Some, None, is_some}
+use Rattle.std.specs.List.{flat_map, list_any, AllByRecursion}
+use Rattle.hsm_types.specs.Segments.{meets_segment}
+use Rattle.hsm_types.specs.Stubs.{Stubs, stub_at}
+use Rattle.hsm_types.specs.declared.stubs.Stub.{Stub as StubOf}
+use Rattle.plain_model.specs.Effects.{Effect, Writes, Resizes, Restores}
 use Rattle.plain_model.specs.Blocks.{blocks_in, touched, size_after}
+use Rattle.plain_model.specs.State.{rekept}
 use Rattle.block_space.specs.Space.{Space, free}
+use Rattle.file_body.specs.HeldBodies.{HeldBody, is_away, AreHere}
 use Rattle.meta_store.specs.declared.snapshot.Mapping.{Mapping}
 use Rattle.meta_store.specs.declared.records.Record.{Record}
-use Rattle.meta_store.specs.declared.records.Record.TheVariants.{Size, Map}
+use Rattle.meta_store.specs.declared.records.Record.TheVariants.{Size, Map, Stub}
 use Rattle.meta_store.specs.Catalogs.{CatalogFile, present}
 use Rattle.meta_store.specs.Records.{places_fitted, places_set, mappings_from}
 use Rattle.file_store.specs.declared.rewrites.Rewrite.{Rewrite}
-use Rattle.file_store.specs.declared.rewrites.Rewrite.TheVariants.{Write, Resize}
+use Rattle.file_store.specs.declared.rewrites.Rewrite.TheVariants.{Write, Resize, Restore}
 
 abbrev pub effect_of : Rewrite → Effect
 effect_of (Write offset bytes) = Writes offset bytes.now
 effect_of (Resize size) = Resizes size
+effect_of (Restore segment bytes) = Restores segment bytes.now
 
--- a write has bytes, and no file has more than 16,777,216 of them after it
+-- what is written has bytes, and no file has more than 16,777,216 of them after it
 abbrev pub IsRewrite : Rewrite → Type 0
 IsRewrite (Write offset bytes) = (1 ≤ length bytes.now) × (offset + length bytes.now ≤ 16777216)
 IsRewrite (Resize size) = size ≤ 16777216
+IsRewrite (Restore segment bytes) = (1 ≤ length bytes.now) × (length bytes.now ≤ 65536) × (65536 * segment + length bytes.now ≤ 16777216)
+
+-- a segment comes back within the file, which has that size
+abbrev pub IsWithin : Rewrite → ℕ → Type 0
+IsWithin (Restore segment bytes) size = 65536 * segment + length bytes.now ≤ size
+IsWithin change size = Unit {0}
+
+-- and by an entry that it has
+abbrev pub HasEntry : Rewrite → Stubs → Type 0
+HasEntry (Restore segment bytes) stubs = (stub : StubOf) × (stub_at segment stubs ≡ Some stub)
+HasEntry change stubs = Unit {0}
 
 -- of a body: its size after the change, and the blocks that the change touches
 abbrev pub new_size : Rewrite → List ℕ → ℕ
@@ -36,11 +53,36 @@ grown size body = body ++ replicate (size - length body) 0
 abbrev pub places_for : Rewrite → List ℕ → Space → List ℕ
 places_for change body space = take (length (touched_of change body)) (free space)
 
+-- ---- which segments are in memory
+
+-- that which comes back
+abbrev pub IsBrought : Rewrite → HeldBody → Type 0
+IsBrought (Restore segment bytes) body = is_away body segment ≡ false
+IsBrought change body = Unit {0}
+
+-- those in which the change puts bytes
+abbrev pub HasRange : Rewrite → HeldBody → Type 0
+HasRange (Write offset bytes) body = AreHere offset (offset + length bytes.now) body
+HasRange (Resize size) body = Unit {0}
+HasRange (Restore segment bytes) body = AreHere (65536 * segment) (65536 * segment + length bytes.now) body
+
+-- a cut doesn't take the segment away
+abbrev pub IsLeft : Rewrite → ℕ → Type 0
+IsLeft (Resize size) j = 65536 * j < size
+IsLeft change j = Unit {0}
+
 -- ---- records
 
--- the file gets that size, and these of its blocks lie at new places
-abbrev pub remapped : ℕ → List Mapping → CatalogFile → CatalogFile
-remapped size mappings f = record f { size = size; places = places_set mappings (places_fitted size f.places) }
+-- of a file of that size: the segment has bytes after the change, and its entry goes, since the change touches it
+abbrev pub unseals : Rewrite → ℕ → ℕ → Bool
+unseals (Write offset bytes) size j = meets_segment (min offset size) (offset + length bytes.now) j
+unseals (Resize to) size j = meets_segment (min to size) (max to size) j && nat_lt (65536 * j) to
+unseals (Restore segment bytes) size j = false
+
+-- what the file becomes, which had that size, as these of its blocks lie at new places
+abbrev pub remapped : Rewrite → ℕ → List Mapping → CatalogFile → CatalogFile
+remapped change size mappings f =
+    record f { size = size_after (effect_of change) size; places = places_set mappings (places_fitted (size_after (effect_of change) size) f.places); kept = rekept (effect_of change) size f.kept }
 
 -- each of these blocks at the place beside it
 abbrev pub mappings_of : List ℕ → List ℕ → List Mapping
@@ -58,12 +100,35 @@ abbrev pub IsMapOn : ℕ → Record → Type 0
 IsMapOn ino (Map i block places) = (i ≡ ino) × (1 ≤ length places.items)
 IsMapOn ino r = ⊥
 
--- Records that give the file on that inode this size and these places: the size, and then the places in their order.
-pub record IsRewriting (ino size : ℕ) (mappings : List Mapping) (records : List Record) : Type 0 where
+-- the segment has no entry
+abbrev pub unsealing : ℕ → ℕ → Record
+unsealing ino j = Stub ino j None
+
+-- The first record of a change of the file on that inode, which had that size and these entries: the new size, or the entry of the segment that comes
+-- back.
+abbrev pub IsHead : ℕ → Rewrite → ℕ → Stubs → Record → Type 0
+IsHead ino (Restore segment bytes) size stubs r = (stub : StubOf) × (stub_at segment stubs ≡ Some stub) × (r ≡ Stub ino segment (Some (record stub { offline = false })))
+IsHead ino change size stubs r = r ≡ Size ino (size_after (effect_of change) size)
+
+-- Records that let the file on that inode become what a change leaves of it, which had that size and these entries: the first one, then those that take
+-- away the entries that the change drops, and then places in their order.
+pub record IsRewriting (ino : ℕ) (change : Rewrite) (size : ℕ) (stubs : Stubs) (mappings : List Mapping) (records : List Record) : Type 0 where
+  pub first : Record
+  pub segments : List ℕ
   pub maps : List Record
-  pub first : records ≡ Size ino size ∷ maps
+  pub are : records ≡ first ∷ map (unsealing ino) segments ++ maps
+  pub head : IsHead ino change size stubs first
+  pub only : AllByRecursion (λ j. unseals change size j ≡ true) segments
+  pub every : (j : ℕ) → unseals change size j ≡ true → is_some (stub_at j stubs) ≡ true → list_any (λ s. s == j) segments ≡ true
   pub each : AllByRecursion (IsMapOn ino) maps
   pub all : flat_map mappings_in maps ≡ mappings
+
+-- Behind records those that take the entries away of the segments from the first number up to the second.
+pub record AreUnsealed (ino from to : ℕ) (stubs : Stubs) (before after : List Record) : Type 0 where
+  pub segments : List ℕ
+  pub are : after ≡ before ++ map (unsealing ino) segments
+  pub only : AllByRecursion (λ j. (from ≤ j) × (j < to)) segments
+  pub every : (j : ℕ) → from ≤ j → j < to → is_some (stub_at j stubs) ≡ true → list_any (λ s. s == j) segments ≡ true
 
 -- ---- blocks that it frees
 

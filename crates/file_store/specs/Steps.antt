@@ -36,6 +36,6 @@ pub record HasBlocks (base : ℕ) (body : List ℕ) (mappings : List Mapping) (o
 
 -- The blocks of a change of a file's bytes lie at the lowest free places: what its records are, what they free, and what reads give.
 pub record IsStaged {D : Type 0} (g : disk.Ghosts D) (old new : D) (c : Catalog) (k : FileKey) (change : Rewrite) (body : List ℕ) (space : Space) (records : List Record) (freed : List ℕ) : Type 0 where
-  pub rewriting : IsRewriting k.ino (new_size change body) (mappings_of (touched_of change body) (places_for change body space)) records
+  pub rewriting : (f : CatalogFile) → find_key (λ f. f.key) k c.files ≡ Some f → IsRewriting k.ino change (length body) f.kept.stubs (mappings_of (touched_of change body) (places_for change body space)) records
   pub frees : (f : CatalogFile) → find_key (λ f. f.key) k c.files ≡ Some f → freed ≡ freed_by (new_size change body) (touched_of change body) f.places
   pub written : Follows (HasBlocks (layout_of c.geometry).blocks (rebody (effect_of change) body) (mappings_of (touched_of change body) (places_for change body space))) (g.gives old) (g.gives new)

@@ -1,5 +1,5 @@
 -- A store of files on a disk, and what recovery finds on an image.
-use Rattle.std.specs.Prelude.{◌≡◌, ◌⊎◌, ℕ, ◌≤◌, ◌^◌, Bool, true, false, List, length, replicate, slice_index_or}
+use Rattle.std.specs.Prelude.{◌≡◌, ◌⊎◌, ℕ, ◌≤◌, ◌^◌, Bool, true, false, List, length, map, replicate, slice_index_or, is_some}
 use Rattle.std.specs.Option.{option_map}
 use Rattle.std.specs.List.{AllByRecursion}
 use Rattle.disk_model.specs.Moments.{MayBe, LeavesOnly}
@@ -7,6 +7,7 @@ use Rattle.disk_model.specs.declared.device.Disk as disk
 use Rattle.hsm_types.specs.declared.stores.Superblock.{Superblock}
 use Rattle.hsm_types.specs.declared.keys.FileKey.{FileKey}
 use Rattle.hsm_types.specs.Kept.{Kept}
+use Rattle.hsm_types.specs.Stubs.{AreStubs}
 use Rattle.plain_model.specs.Keyed.{find_key}
 use Rattle.plain_model.specs.State.{FileState, Held, names_of, used_by, used}
 use Rattle.plain_model.specs.Laws.{IsOpening}
@@ -25,13 +26,18 @@ pub record IsRecovered (geometry fsid n : ℕ) (h : Held) (image : List ℕ) : T
   pub is : IsImage fsid n catalog image
   pub holds : held_at (blocks_in_image geometry image) catalog ≡ h
 
--- What is true of what each store of so many files holds: inodes ascend and are within that number, names differ, and each generation is
--- below the next one.
+-- the stub entries of a file are lawful
+abbrev pub IsStubbed : FileState → Type 0
+IsStubbed f = AreStubs (length f.body) f.kept.regions f.kept.stubs
+
+-- What is true of what each store of so many files holds: inodes ascend and are within that number, names differ, each generation is
+-- below the next one, and stub entries are lawful.
 pub record IsLawful (limit : ℕ) (h : Held) : Type 0 where
   pub table : IsTable limit h.next (names_of h.files)
   pub opening : IsOpening h
   pub next : h.next ≤ 2 ^ 62
   pub few : length h.files ≤ limit
+  pub stubs : AllByRecursion IsStubbed h.files
 
 pub record Store (D : Type 0) : Type 0 where
   pub disk : D
@@ -104,9 +110,24 @@ told_of f = record { size = f.size; mapped = length (present f.places); kept = f
 abbrev pub told_held : FileState → Told
 told_held f = record { size = length f.body; mapped = used_by f; kept = f.kept }
 
+-- what stands of a file in a table of all
+pub record Row : Type 0 where
+  pub key : FileKey
+  pub size : ℕ
+  -- for each block whether it is mapped
+  pub mapped : List Bool
+  pub kept : Kept
+
+abbrev pub row_of : CatalogFile → Row
+row_of f = record { key = f.key; size = f.size; mapped = map is_some f.places; kept = f.kept }
+
+abbrev pub row_held : FileState → Row
+row_held f = record { key = f.key; size = length f.body; mapped = f.mapped; kept = f.kept }
+
 -- The catalog tells of what is held all but its bytes.
 pub record Shows (c : Catalog) (h : Held) : Type 0 where
   pub next : c.next ≡ h.next
   pub names : names_in c.files ≡ names_of h.files
   pub found : (key : FileKey) → option_map told_of (find_key (λ f. f.key) key c.files) ≡ option_map told_held (find_key (λ f. f.key) key h.files)
+  pub rows : map row_of c.files ≡ map row_held h.files
   pub used : length (blocks_of c.files) ≡ used h.files

@@ -1,24 +1,30 @@
 // What changes the files of a store: each event is records, blocks that they take and free, and bytes.
-ghost use Rattle.std.specs.Prelude.{◌≡◌, ◌≢◌, ◌+◌, ◌≤◌, true, false, None, Some, Err, length, OnOk, IfOk, IsErrOf, IsSome};
+ghost use Rattle.std.specs.Prelude.{◌≡◌, ◌≢◌, ◌+◌, ◌*◌, ◌<◌, ◌≤◌, [], ◌∷◌, min, true, false, None, Some, Err, length, OnOk, IfOk, IfSome, IsErrOf, IsSome};
 ghost use Rattle.disk_model.specs.Calls.{Rose};
 ghost use Rattle.hsm_types.specs.Names.{is_name};
 ghost use Rattle.hsm_types.specs.Regions.{regions_refusal};
 ghost use Rattle.hsm_types.specs.Attributes.{setting_refusal, removal_refusal};
 ghost use Rattle.hsm_types.specs.declared.dm.DmRefusal.{DmRefusal};
 ghost use Rattle.plain_model.specs.Keyed.{find_key};
-ghost use Rattle.plain_model.specs.Effects.{Makes, Drops, Writes, Resizes, Manages, Attaches, Detaches};
-ghost use Rattle.plain_model.specs.Plain.{named};
+ghost use Rattle.hsm_types.specs.Refusals.{first_refusal};
+ghost use Rattle.hsm_types.specs.Segments.{segments_in};
+ghost use Rattle.hsm_types.specs.Stubs.{print_of, stub_at, offline_at, uncovered, sealing_refusal, restoring_refusal, any_unpunched};
+ghost use Rattle.plain_model.specs.Effects.{Makes, Drops, Writes, Resizes, Manages, Attaches, Detaches, Seals, Punches, Restores};
+ghost use Rattle.plain_model.specs.Plain.{named, segment as segment_of};
+ghost use Rattle.plain_model.specs.Sound.{IsSound};
 ghost use Rattle.plain_model.specs.Blocks.{touched};
-ghost use Rattle.plain_model.specs.State.{names_of, bytes_of, next_key, affected_held, used};
-ghost use Rattle.plain_model.specs.Services.{kept_of, other_attributes};
+ghost use Rattle.plain_model.specs.State.{names_of, file_at, bytes_of, next_key, affected_held, used};
+ghost use Rattle.plain_model.specs.Services.{kept_of, other_attributes, other_stubs};
 ghost use Rattle.meta_store.specs.Catalogs.{geometry_of};
 ghost use Rattle.file_store.specs.Stores.{superblock_of, Proceeds};
 
+use crate::punches::{self, segments_in};
 use crate::refusal::StoreRefusal;
 use crate::rewrites::Rewrite;
+use crate::seals;
 use crate::store::FileStore;
 use disk_model::Disk;
-use hsm_types::{AttrName, Bytes, FileKey, Regions, Word};
+use hsm_types::{AttrName, Bytes, DmRefusal, FileKey, Regions, Stub, StubEntry, Verified, Word};
 use meta_store::Record;
 use std::alloc::Global;
 
@@ -78,6 +84,7 @@ impl<D: Disk> FileStore<D> {
         requires live { IsSome (find_key (λ f. f.key) key self.old.held.files) }
         requires some { 1 ≤ length bytes.now }
         requires end { offset + length bytes.now ≤ 16777216 }
+        requires here { IsSound (Writes offset bytes.now) (file_at key self.old.held.files) }
         requires room { length (touched (Writes offset bytes.now) (length (bytes_of key self.old.held.files))) + used self.old.held.files ≤ (geometry_of self.old.meta.durable.geometry).blocks }
         ensures held { OnOk result (self.new.held ≡ record self.old.held { files = affected_held (Writes offset bytes.now) key self.old.held.files }) }
         ensures working { OnOk result (self.new.failed ≡ false) }
@@ -101,6 +108,7 @@ impl<D: Disk> FileStore<D> {
         requires working { self.old.failed ≡ false }
         requires live { IsSome (find_key (λ f. f.key) key self.old.held.files) }
         requires end { size ≤ 16777216 }
+        requires here { IsSound (Resizes size) (file_at key self.old.held.files) }
         requires room { length (touched (Resizes size) (length (bytes_of key self.old.held.files))) + used self.old.held.files ≤ (geometry_of self.old.meta.durable.geometry).blocks }
         ensures held { OnOk result (self.new.held ≡ record self.old.held { files = affected_held (Resizes size) key self.old.held.files }) }
         ensures working { OnOk result (self.new.failed ≡ false) }
@@ -113,7 +121,7 @@ impl<D: Disk> FileStore<D> {
         self.rewrite(alloc, key, Rewrite::Resize { size }, number)
     }
 
-    /// Gives a live file these regions, in the place of those that it has.
+    /// Gives a live file these regions, in the place of those that it has, unless they leave a segment that is offline uncovered.
     pub fn set_regions(
         &mut self,
         alloc: Global,
@@ -123,8 +131,8 @@ impl<D: Disk> FileStore<D> {
     ) -> Result<(), StoreRefusal>
         requires working { self.old.failed ≡ false }
         requires live { IsSome (find_key (λ f. f.key) key self.old.held.files) }
-        ensures judged { OnOk result (regions_refusal regions ≡ None) }
-        ensures refused { (why : DmRefusal) → (result ≡ Err (StoreRefusal.Part why)) → (regions_refusal regions ≡ Some why) }
+        ensures judged { OnOk result (first_refusal (regions_refusal regions ∷ uncovered regions (kept_of key self.old.held.files).stubs ∷ []) ≡ None) }
+        ensures refused { (why : DmRefusal) → (result ≡ Err (StoreRefusal.Part why)) → (first_refusal (regions_refusal regions ∷ uncovered regions (kept_of key self.old.held.files).stubs ∷ []) ≡ Some why) }
         ensures held { OnOk result (self.new.held ≡ record self.old.held { files = affected_held (Manages regions) key self.old.held.files }) }
         ensures working { OnOk result (self.new.failed ≡ false) }
         ensures unchanged { (why : DmRefusal) → IsErrOf result (StoreRefusal.Part why) → self.new ≡ self.old }
@@ -181,5 +189,103 @@ impl<D: Disk> FileStore<D> {
     {
         let ino = self.inode(key);
         self.record(alloc, key, Record::DropAttr { ino, name }, number)
+    }
+
+    /// Seals a segment of a live file with that entry, in the place of an older one.
+    pub fn seal(
+        &mut self,
+        alloc: Global,
+        key: FileKey,
+        segment: u32,
+        entry: StubEntry,
+        number: u64,
+    ) -> Result<(), StoreRefusal>
+        requires working { self.old.failed ≡ false }
+        requires live { IsSome (find_key (λ f. f.key) key self.old.held.files) }
+        requires start { 65536 * segment < length (bytes_of key self.old.held.files) }
+        requires volume { entry.volume ≤ 255 }
+        requires print { offline_at (kept_of key self.old.held.files).stubs segment ≡ false → entry.print ≡ print_of (segment_of segment (bytes_of key self.old.held.files)) }
+        ensures judged { OnOk result (sealing_refusal segment (other_stubs key self.old.held.files) (superblock_of self.old).geometry.stubs (kept_of key self.old.held.files).stubs ≡ None) }
+        ensures refused { (why : DmRefusal) → (result ≡ Err (StoreRefusal.Part why)) → (sealing_refusal segment (other_stubs key self.old.held.files) (superblock_of self.old).geometry.stubs (kept_of key self.old.held.files).stubs ≡ Some why) }
+        ensures held { OnOk result (self.new.held ≡ record self.old.held { files = affected_held (Seals segment entry) key self.old.held.files }) }
+        ensures working { OnOk result (self.new.failed ≡ false) }
+        ensures unchanged { (why : DmRefusal) → IsErrOf result (StoreRefusal.Part why) → self.new ≡ self.old }
+        ensures memory { IsErrOf result StoreRefusal.Memory → (self.new.held ≡ self.old.held) × (self.new.failed ≡ false) }
+        ensures failed { IsErrOf result StoreRefusal.Disk → (self.new.failed ≡ true) × Rose (D.fault_count self.old.disk) (D.fault_count self.new.disk) }
+        ensures proceeds { Proceeds D.Disk self.old number self.new }
+    {
+        // Asked for what is true of the disk.
+        let _failed = self.has_failed();
+        let ino = self.inode(key);
+        let stub = Some(Stub {
+            entry,
+            offline: false,
+        });
+        seals::judge(self.meta.catalog(), key, segment)?;
+        self.record(alloc, key, Record::Stub { ino, segment, stub }, number)
+    }
+
+    /// Gives up the bytes of the segments of a live file from the first up to the second, as far as it has them: their entries stand for them. It
+    /// costs the segments, and no byte.
+    pub fn punch(
+        &mut self,
+        alloc: Global,
+        key: FileKey,
+        from: u32,
+        to: u32,
+        number: u64,
+    ) -> Result<(), StoreRefusal>
+        requires working { self.old.failed ≡ false }
+        requires live { IsSome (find_key (λ f. f.key) key self.old.held.files) }
+        requires order { from ≤ to }
+        requires start { 65536 * from < length (bytes_of key self.old.held.files) }
+        ensures judged { OnOk result (any_unpunched (kept_of key self.old.held.files).regions (kept_of key self.old.held.files).stubs from (min to (segments_in (length (bytes_of key self.old.held.files)))) ≡ None) }
+        ensures refused { (why : DmRefusal) → (result ≡ Err (StoreRefusal.Part why)) → (any_unpunched (kept_of key self.old.held.files).regions (kept_of key self.old.held.files).stubs from (min to (segments_in (length (bytes_of key self.old.held.files)))) ≡ Some why) }
+        ensures held { OnOk result (self.new.held ≡ record self.old.held { files = affected_held (Punches from to) key self.old.held.files }) }
+        ensures working { OnOk result (self.new.failed ≡ false) }
+        ensures unchanged { (why : DmRefusal) → IsErrOf result (StoreRefusal.Part why) → self.new ≡ self.old }
+        ensures memory { IsErrOf result StoreRefusal.Memory → (self.new.held ≡ self.old.held) × (self.new.failed ≡ false) }
+        ensures failed { IsErrOf result StoreRefusal.Disk → (self.new.failed ≡ true) × Rose (D.fault_count self.old.disk) (D.fault_count self.new.disk) }
+        ensures proceeds { Proceeds D.Disk self.old number self.new }
+    {
+        let end = to.min(segments_in(self.body(key).len()));
+        // Asked for what is true of the disk, and of what is kept with the file.
+        let (_failed, _ino) = (self.has_failed(), self.inode(key));
+        let punch = punches::plan(alloc, self.meta.catalog(), key, from, end)?;
+        self.settle(alloc, number)?;
+        self.let_go(alloc, key, from, end, punch, number)
+    }
+
+    /// Brings the bytes of a segment of a live file back. The segment is sealed then.
+    pub fn restore(
+        &mut self,
+        alloc: Global,
+        key: FileKey,
+        segment: u32,
+        bytes: &Verified,
+        number: u64,
+    ) -> Result<(), StoreRefusal>
+        requires working { self.old.failed ≡ false }
+        requires live { IsSome (find_key (λ f. f.key) key self.old.held.files) }
+        requires start { 65536 * segment < length (bytes_of key self.old.held.files) }
+        requires print { offline_at (kept_of key self.old.held.files).stubs segment ≡ true → IfSome (stub_at segment (kept_of key self.old.held.files).stubs) (λ stub. stub.entry.print ≡ print_of bytes.now) }
+        requires room { length (touched (Restores segment bytes.now) (length (bytes_of key self.old.held.files))) + used self.old.held.files ≤ (geometry_of self.old.meta.durable.geometry).blocks }
+        ensures judged { OnOk result (restoring_refusal segment (kept_of key self.old.held.files).stubs ≡ None) }
+        ensures refused { (why : DmRefusal) → (result ≡ Err (StoreRefusal.Part why)) → (restoring_refusal segment (kept_of key self.old.held.files).stubs ≡ Some why) }
+        ensures held { OnOk result (self.new.held ≡ record self.old.held { files = affected_held (Restores segment bytes.now) key self.old.held.files }) }
+        ensures working { OnOk result (self.new.failed ≡ false) }
+        ensures unchanged { (why : DmRefusal) → IsErrOf result (StoreRefusal.Part why) → self.new ≡ self.old }
+        ensures memory { IsErrOf result StoreRefusal.Memory → (self.new.held ≡ self.old.held) × (self.new.failed ≡ false) }
+        ensures failed { IsErrOf result StoreRefusal.Disk → (self.new.failed ≡ true) × Rose (D.fault_count self.old.disk) (D.fault_count self.new.disk) }
+        ensures proceeds { Proceeds D.Disk self.old number self.new }
+    {
+        // Asked for what is true of the disk.
+        let _failed = self.has_failed();
+        if !self.is_offline(key, segment) {
+            return Err(StoreRefusal::Part(DmRefusal::NotOffline { segment }));
+        }
+        self.settle(alloc, number)?;
+        let bytes = bytes.as_slice();
+        self.rewrite(alloc, key, Rewrite::Restore { segment, bytes }, number)
     }
 }

@@ -8,11 +8,13 @@ ghost use Rattle.hsm_types.specs.declared.dm.DmRefusal.{DmRefusal};
 ghost use Rattle.plain_model.specs.Keyed.{find_key};
 ghost use Rattle.plain_model.specs.Plain.{resized};
 ghost use Rattle.plain_model.specs.Blocks.{touched};
-ghost use Rattle.plain_model.specs.State.{bytes_of, affected_held, used};
+ghost use Rattle.plain_model.specs.Sound.{IsSound};
+ghost use Rattle.plain_model.specs.State.{file_at, bytes_of, affected_held, used};
 ghost use Rattle.block_space.specs.Space.{marked, free};
-ghost use Rattle.meta_store.specs.Catalogs.{geometry_of};
+ghost use Rattle.file_body.specs.HeldBodies.{no_body, KeepsHere};
+ghost use Rattle.meta_store.specs.Catalogs.{CatalogFile, geometry_of};
 ghost use Rattle.meta_store.specs.Records.{CanStand, refusal_of};
-ghost use Rattle.file_store.specs.Rewrites.{effect_of, IsRewrite, new_size, touched_of, grown, places_for};
+ghost use Rattle.file_store.specs.Rewrites.{effect_of, IsRewrite, IsWithin, HasEntry, IsBrought, new_size, touched_of, grown, places_for};
 ghost use Rattle.file_store.specs.Steps.{IsBesideBlocks, IsStaged};
 ghost use Rattle.file_store.specs.Stores.{Store, Proceeds};
 ghost use Rattle.file_store.specs.Effects.{IsBodiless, IsFreed, held_after, drops, empties};
@@ -105,9 +107,9 @@ impl<D: Disk> FileStore<D> {
         ensures proceeds { Proceeds D.Disk self.old number self.new }
     {
         let (empty, gone) = (empties(&change), drops(&change));
-        let freed = blocks_gone(alloc, self.meta.catalog(), key, &change)?;
         // Asked for what is true of the disk.
         let _failed = self.has_failed();
+        let freed = blocks_gone(alloc, self.meta.catalog(), key, &change)?;
         if number > LAST_NUMBER {
             return Err(StoreRefusal::Memory);
         }
@@ -129,7 +131,7 @@ impl<D: Disk> FileStore<D> {
     }
 
     /// Changes the bytes of a live file. The blocks that this touches are written to places that nothing uses, then the records are taken, and
-    /// then the old places are free. It costs the bytes, the blocks, and what the file grows by.
+    /// then the old places are free. It costs the bytes, the blocks, the stub entries that go, and what the file grows by.
     pub(crate) fn rewrite(
         &mut self,
         alloc: Global,
@@ -141,6 +143,7 @@ impl<D: Disk> FileStore<D> {
         requires settled { self.old.pending ≡ false }
         requires live { IsSome (find_key (λ f. f.key) key self.old.held.files) }
         requires lawful { IsRewrite change }
+        requires sound { IsSound (effect_of change) (file_at key self.old.held.files) }
         requires room { length (touched (effect_of change) (length (bytes_of key self.old.held.files))) + used self.old.held.files ≤ (geometry_of self.old.meta.durable.geometry).blocks }
         ensures held { OnOk result (self.new.held ≡ record self.old.held { files = affected_held (effect_of change.entry) key self.old.held.files }) }
         ensures working { OnOk result (self.new.failed ≡ false) }
@@ -197,7 +200,7 @@ struct Staged {
     freed: Vec<u32>,
 }
 
-/// Writes the blocks that a change touches to the lowest free places, and lengthens the body by zeros to the new size.
+/// Writes the blocks that a change touches to the lowest free places, and makes room for it in the body.
 fn stage<D: Disk>(
     alloc: Global,
     disk: &mut D,
@@ -209,15 +212,18 @@ fn stage<D: Disk>(
 ) -> Result<Staged, MetaRefusal>
     requires live { IsSome (find_key (λ f. f.key) key catalog.now.files) }
     requires lawful { IsRewrite change }
-    requires few { length (touched_of change body.old) < 2 ^ 32 }
-    requires enough { length (touched_of change body.old) ≤ length (free space.old) }
-    requires fits { AllByRecursion (λ p. (layout_of catalog.now.geometry).blocks + 4096 * p + 4096 ≤ D.length_of disk.old) (places_for change body.old space.old) }
-    ensures any_moment { Keeps D.Disk disk.old disk.new (IsBesideBlocks (layout_of catalog.now.geometry).blocks (places_for change.entry body.old space.old)) }
-    ensures staged { IfOk result (λ s. IsStaged D.Disk disk.old disk.new catalog.now key change.entry body.old space.old s.records s.freed.items) }
-    ensures places { IfOk result (λ s. s.places ≡ places_for change.entry body.old space.old) }
-    ensures marked { OnOk result (space.new ≡ record space.old { current = marked (places_for change.entry body.old space.old) space.old.current }) }
-    ensures grown { OnOk result (body.new ≡ grown (new_size change.entry body.old) body.old) }
-    ensures err { OnErr result (body.new ≡ body.old) }
+    requires entry { (f : CatalogFile) → find_key (λ f. f.key) key catalog.now.files ≡ Some f → HasEntry change f.kept.stubs }
+    requires few { length (touched_of change body.old.bytes) < 2 ^ 32 }
+    requires enough { length (touched_of change body.old.bytes) ≤ length (free space.old) }
+    requires fits { AllByRecursion (λ p. (layout_of catalog.now.geometry).blocks + 4096 * p + 4096 ≤ D.length_of disk.old) (places_for change body.old.bytes space.old) }
+    ensures any_moment { Keeps D.Disk disk.old disk.new (IsBesideBlocks (layout_of catalog.now.geometry).blocks (places_for change.entry body.old.bytes space.old)) }
+    ensures staged { IfOk result (λ s. IsStaged D.Disk disk.old disk.new catalog.now key change.entry body.old.bytes space.old s.records s.freed.items) }
+    ensures places { IfOk result (λ s. s.places ≡ places_for change.entry body.old.bytes space.old) }
+    ensures marked { OnOk result (space.new ≡ record space.old { current = marked (places_for change.entry body.old.bytes space.old) space.old.current }) }
+    ensures grown { OnOk result (body.new.bytes ≡ grown (new_size change.entry body.old.bytes) body.old.bytes) }
+    ensures brought { OnOk result (IsBrought change.entry body.new) }
+    ensures keeps { KeepsHere body.old body.new }
+    ensures err { OnErr result (body.new.bytes ≡ body.old.bytes) }
     ensures memory { IsErrOf result MetaRefusal.Memory → (space.new ≡ space.old) × (disk.new ≡ disk.old) }
     ensures failed { IsErrOf result MetaRefusal.Disk → Rose (D.fault_count disk.old) (D.fault_count disk.new) }
     ensures no_part { (why : DmRefusal) → IsErrOf result (MetaRefusal.Part why) → ⊥ }
@@ -245,9 +251,10 @@ fn stage<D: Disk>(
 
 /// Takes away what lies behind that size.
 fn cut(alloc: Global, body: &mut Body, size: u64)
-    requires within { size ≤ length body.old }
+    requires within { size ≤ length body.old.bytes }
     requires file { size ≤ 16777216 }
-    ensures { body.new ≡ resized size body.old }
+    ensures bytes { body.new.bytes ≡ resized size body.old.bytes }
+    ensures keeps { KeepsHere body.old body.new }
 {
     body.resize(alloc, size).unwrap();
 }
@@ -270,7 +277,7 @@ fn take(alloc: Global, space: &mut BlockSpace, count: u64) -> Result<Blocks, All
 /// Where its file is new or gone, the inode has no bytes.
 fn clear(alloc: Global, bodies: &mut Vec<Body>, key: FileKey, empty: bool)
     requires { empty ≡ true → (1 ≤ key.ino) × (key.ino ≤ length bodies.old.items) }
-    ensures { bodies.new.items ≡ (if empty then slice_set bodies.old.items (key.ino - 1) [] else bodies.old.items) }
+    ensures { bodies.new.items ≡ (if empty then slice_set bodies.old.items (key.ino - 1) no_body else bodies.old.items) }
 {
     if empty {
         bodies[slot(key.ino)] = Body::new(alloc);
@@ -278,7 +285,7 @@ fn clear(alloc: Global, bodies: &mut Vec<Body>, key: FileKey, empty: bool)
 }
 
 /// Where a snapshot was written of what was held before, that is durable, with the blocks that it uses.
-fn make_durable(
+pub(crate) fn make_durable(
     wrote: bool,
     before: Snapshot<Vec<Body>>,
     durable: &mut Snapshot<Vec<Body>>,

@@ -1,5 +1,5 @@
 // Reading the bodies of a store that was just opened.
-ghost use Rattle.std.specs.Prelude.{◌≡◌, ◌+◌, ◌-◌, ◌*◌, ◌<◌, ◌≤◌, List, ℕ, [], length, take, replicate, IfOk, OnOk, IsErrOf};
+ghost use Rattle.std.specs.Prelude.{◌≡◌, ◌⊎◌, ◌+◌, ◌-◌, ◌*◌, ◌/◌, ◌<◌, ◌≤◌, List, ℕ, [], None, true, min, length, take, get_or, replicate, IfOk, OnOk, IsErrOf};
 ghost use Rattle.std.specs.List.{AllByRecursion};
 ghost use Rattle.plain_model.specs.Plain.{written};
 ghost use Rattle.plain_model.specs.Blocks.{blocks_in};
@@ -8,6 +8,8 @@ ghost use Rattle.disk_model.specs.Images.{part};
 ghost use Rattle.commit_slots.specs.Places.{layout_of};
 ghost use Rattle.meta_store.specs.Catalogs.{geometry_of, present};
 ghost use Rattle.meta_store.specs.Images.{blocks_in_image};
+ghost use Rattle.hsm_types.specs.Stubs.{offline_at};
+ghost use Rattle.file_body.specs.HeldBodies.{no_body, is_away, AreHere, KeepsHere};
 ghost use Rattle.file_store.specs.Steps.{OnlyReads};
 ghost use Rattle.file_store.specs.Bodies.{body_at, held_at, held_with, AreBodies};
 
@@ -18,6 +20,7 @@ use file_body::Body;
 use hsm_types::{BLOCK_BYTES, FILE_BYTES};
 use meta_store::{Catalog, geometry_of};
 use std::alloc::{AllocError, Global};
+use stub_map::{State, StubMap};
 
 /// Where the body of the file with that inode is.
 pub(crate) fn slot(ino: u64) -> usize
@@ -48,14 +51,14 @@ pub(crate) fn load_bodies<D: Disk>(
     for index in 0..catalog.names().len() {
         let (key, _name, size, parts) = catalog.file(index).unwrap();
         let places = parts.places();
-        bodies[slot(key.ino)] = load_body(alloc, disk, geometry, size, places)?;
+        bodies[slot(key.ino)] = load_body(alloc, disk, geometry, size, places, parts.stubs())?;
     }
     Ok(bodies)
 }
 
 /// So many bodies of no bytes.
 fn empty(alloc: Global, count: u32) -> Result<Vec<Body>, AllocError>
-    ensures { IfOk result (λ bodies. bodies.items ≡ replicate count []) }
+    ensures { IfOk result (λ bodies. bodies.items ≡ replicate count no_body) }
 {
     let mut bodies = Vec::with_capacity(alloc, count as usize)?;
     for _ in 0..count {
@@ -64,27 +67,34 @@ fn empty(alloc: Global, count: u32) -> Result<Vec<Body>, AllocError>
     Ok(bodies)
 }
 
-/// The body of that size whose blocks lie at these places. It costs the blocks that aren't holes.
+/// The body of that size whose blocks lie at these places. Segments that are offline are away from it. It costs the blocks that aren't holes, and
+/// the entries.
 fn load_body<D: Disk>(
     alloc: Global,
     disk: &mut D,
     geometry: u32,
     size: u64,
     places: &[Option<u32>],
+    stubs: &StubMap,
 ) -> Result<Body, StoreRefusal>
     requires whole { D.length_of disk.old ≡ (layout_of geometry).whole }
     requires size { size ≤ FILE_BYTES }
     requires count { length places.now ≡ blocks_in size }
     requires within { AllByRecursion (λ place. place < (geometry_of geometry).blocks) (present places.now) }
+    requires starts { AllByRecursion (λ x. 65536 * x.0 < size) stubs.now }
+    // A segment that is offline has no blocks.
+    requires away { (i : ℕ) → offline_at stubs.now (i / 16) ≡ true → get_or places.now i None ≡ None }
     ensures reads { OnlyReads D.Disk disk.old disk.new }
-    ensures size { IfOk result (λ body. length body ≡ size) }
-    ensures loaded { IfOk result (λ body. (c : List ℕ) → D.gives disk.old c → body ≡ body_at (blocks_in_image geometry c) size places.now) }
+    ensures size { IfOk result (λ body. length body.bytes ≡ size) }
+    ensures here { IfOk result (λ body. (j : ℕ) → is_away body j ≡ true → offline_at stubs.now j ≡ true) }
+    ensures loaded { IfOk result (λ body. (c : List ℕ) → D.gives disk.old c → body.bytes ≡ body_at (blocks_in_image geometry c) size places.now) }
     ensures failed { IsErrOf result StoreRefusal.Disk → Rose (D.fault_count disk.old) (D.fault_count disk.new) }
 {
     let mut body = Body::new(alloc);
     let Ok(()) = body.resize(alloc, size) else {
         return Err(StoreRefusal::Memory);
     };
+    leave_offline(&mut body, stubs);
     let mut start = 0;
     for place in places {
         if let Some(place) = *place {
@@ -95,6 +105,23 @@ fn load_body<D: Disk>(
         start += BLOCK_BYTES;
     }
     Ok(body)
+}
+
+/// The segments of a body of zeros go away that are offline by these entries.
+fn leave_offline(body: &mut Body, stubs: &StubMap)
+    requires file { length body.old.bytes ≤ 16777216 }
+    requires zeros { body.old.bytes ≡ replicate (length body.old.bytes) 0 }
+    requires starts { AllByRecursion (λ x. 65536 * x.0 < length body.old.bytes) stubs.now }
+    ensures bytes { body.new.bytes ≡ body.old.bytes }
+    ensures away { (j : ℕ) → is_away body.new j ≡ true → (is_away body.old j ≡ true) ⊎ (offline_at stubs.now j ≡ true) }
+{
+    let mut start = 0;
+    while let Some(segment) = stubs.next(start) {
+        if let State::Offline(_) = stubs.state(segment) {
+            body.leave(segment, segment + 1);
+        }
+        start = segment + 1;
+    }
 }
 
 /// Reads a data block into the body, which may end in it.
@@ -108,10 +135,12 @@ fn fill<D: Disk>(
 ) -> Result<(), Failed>
     requires whole { D.length_of disk.old ≡ (layout_of geometry).whole }
     requires place { place < (geometry_of geometry).blocks }
-    requires start { start < length body.old }
+    requires start { start < length body.old.bytes }
+    requires here { AreHere start (start + min 4096 (length body.old.bytes - start)) body.old }
     ensures reads { OnlyReads D.Disk disk.old disk.new }
-    ensures size { length body.new ≡ length body.old }
-    ensures filled { OnOk result ((c : List ℕ) → D.gives disk.old c → body.new ≡ written start (take (length body.old - start) (part (blocks_in_image geometry c) (4096 * place) 4096)) body.old) }
+    ensures size { length body.new.bytes ≡ length body.old.bytes }
+    ensures keeps { KeepsHere body.old body.new }
+    ensures filled { OnOk result ((c : List ℕ) → D.gives disk.old c → body.new.bytes ≡ written start (take (length body.old.bytes - start) (part (blocks_in_image geometry c) (4096 * place) 4096)) body.old.bytes) }
     ensures cause { HasCause result (D.fault_count disk.old) (D.fault_count disk.new) }
 {
     let mut block = [0; BLOCK_BYTES as usize];

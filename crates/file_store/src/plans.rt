@@ -1,11 +1,14 @@
 //! What an event needs before it changes anything: its records, the blocks that it frees, and memory.
-ghost use Rattle.std.specs.Prelude.{◌≡◌, ℕ, ◌∷◌, [], ◌-◌, ◌≤◌, ◌++◌, List, length, replicate, take, drop, IfOk, OnOk, OnErr, IsSome};
+ghost use Rattle.std.specs.Prelude.{◌≡◌, ℕ, ◌∷◌, [], ◌-◌, ◌≤◌, ◌++◌, List, length, replicate, take, drop, Some, IfOk, OnOk, OnErr, IsSome};
+ghost use Rattle.file_body.specs.HeldBodies.{KeepsHere};
 ghost use Rattle.plain_model.specs.Keyed.{find_key};
 ghost use Rattle.plain_model.specs.Blocks.{touched, size_after};
+ghost use Rattle.hsm_types.specs.Stubs.{Stubs, offline_at};
 ghost use Rattle.meta_store.specs.declared.snapshot.Mapping.{Mapping};
 ghost use Rattle.meta_store.specs.Catalogs.{CatalogFile, present};
 ghost use Rattle.meta_store.specs.Records.{IsEvent, mappings_from};
-ghost use Rattle.file_store.specs.Rewrites.{IsRewrite, IsRewriting, new_size, grown, mappings_of, freed_by};
+ghost use Rattle.file_store.specs.declared.rewrites.Rewrite.{Rewrite};
+ghost use Rattle.file_store.specs.Rewrites.{IsRewrite, IsRewriting, AreUnsealed, HasEntry, IsBrought, new_size, grown, mappings_of, freed_by};
 
 use crate::rewrites::Rewrite;
 use crate::spaces::put_present;
@@ -13,6 +16,7 @@ use file_body::{BlockRun, Body, TouchedBlocks, blocks_in};
 use hsm_types::FileKey;
 use meta_store::{Catalog, Record, Records};
 use std::alloc::{AllocError, Global};
+use stub_map::{State, StubMap};
 
 /// The records of a change of a file's bytes, and the blocks that it frees.
 #[derive(Drop)]
@@ -21,8 +25,8 @@ pub(crate) struct Plan {
     pub(crate) freed: Vec<u32>,
 }
 
-/// Plans a change of a live file's bytes, whose touched blocks get these places, and lengthens the body by zeros to the new size. At an `Err`
-/// the body is as before.
+/// Plans a change of a live file's bytes, whose touched blocks get these places, and makes room for it in the body. At an `Err` the body is as
+/// before.
 pub(crate) fn prepare(
     alloc: Global,
     catalog: &Catalog,
@@ -34,17 +38,25 @@ pub(crate) fn prepare(
 ) -> Result<Plan, AllocError>
     requires live { IsSome (find_key (λ f. f.key) key catalog.now.files) }
     requires lawful { IsRewrite change }
+    requires entry { (f : CatalogFile) → find_key (λ f. f.key) key catalog.now.files ≡ Some f → HasEntry change f.kept.stubs }
     requires count { length places.now ≡ length touched.now }
-    ensures records { IfOk result (λ p. IsRewriting key.ino (new_size change.entry body.old) (mappings_of touched.now places.now) p.records) }
-    ensures freed { IfOk result (λ p. (f : CatalogFile) → find_key (λ f. f.key) key catalog.now.files ≡ Some f → p.freed.items ≡ freed_by (new_size change.entry body.old) touched.now f.places) }
-    ensures grown { OnOk result (body.new ≡ grown (new_size change.entry body.old) body.old) }
+    ensures records { IfOk result (λ p. (f : CatalogFile) → find_key (λ f. f.key) key catalog.now.files ≡ Some f → IsRewriting key.ino change.entry (length body.old.bytes) f.kept.stubs (mappings_of touched.now places.now) p.records) }
+    ensures freed { IfOk result (λ p. (f : CatalogFile) → find_key (λ f. f.key) key catalog.now.files ≡ Some f → p.freed.items ≡ freed_by (new_size change.entry body.old.bytes) touched.now f.places) }
+    ensures grown { OnOk result (body.new.bytes ≡ grown (new_size change.entry body.old.bytes) body.old.bytes) }
+    ensures keeps { OnOk result (KeepsHere body.old body.new) }
+    ensures brought { OnOk result (IsBrought change.entry body.new) }
     ensures err { OnErr result (body.new ≡ body.old) }
 {
-    let old = body.len();
-    let size = change.size_after(old);
-    let records = records_of(alloc, key.ino, size, touched, places)?;
-    let freed = freed_by(alloc, catalog.places(key).unwrap(), size, touched)?;
-    body.resize(alloc, old.max(size))?;
+    let size = body.len();
+    let stubs = catalog.stubs(key).unwrap();
+    let records = records_of(alloc, key.ino, size, stubs, change, touched, places)?;
+    let freed = freed_by(
+        alloc,
+        catalog.places(key).unwrap(),
+        change.size_after(size),
+        touched,
+    )?;
+    change.make_room(alloc, body)?;
     Ok(Plan { records, freed })
 }
 
@@ -55,6 +67,15 @@ pub(crate) fn one(alloc: Global, change: Record) -> Result<Records, AllocError>
     let mut records = Vec::new(alloc);
     records.push(change)?;
     Ok(Records::from(records))
+}
+
+/// Whether the bytes of a segment of a live file are away.
+pub(crate) fn is_away(catalog: &Catalog, key: FileKey, segment: u32) -> bool
+    requires { IsSome (find_key (λ f. f.key) key catalog.now.files) }
+    ensures { (f : CatalogFile) → find_key (λ f. f.key) key catalog.now.files ≡ Some f → result ≡ offline_at f.kept.stubs segment }
+{
+    let stubs = catalog.stubs(key).unwrap();
+    matches!(stubs.state(segment), State::Offline(_))
 }
 
 /// The blocks that a live file uses.
@@ -71,24 +92,56 @@ pub(crate) fn blocks_of(
     Ok(blocks)
 }
 
-/// The size of the file on that inode, and then the places of the blocks that are touched.
+/// What a change is of the file on that inode, which has that size and these entries.
 fn records_of(
     alloc: Global,
     ino: u64,
     size: u64,
+    stubs: &StubMap,
+    change: Rewrite<'_>,
     touched: &TouchedBlocks,
     places: &[u32],
 ) -> Result<Records, AllocError>
-    requires { length places.now ≡ length touched.now }
-    ensures { IfOk result (IsRewriting ino size (mappings_of touched.now places.now)) }
+    requires lawful { IsRewrite change }
+    requires size { size ≤ 16777216 }
+    requires entry { HasEntry change stubs.now }
+    requires count { length places.now ≡ length touched.now }
+    ensures { IfOk result (IsRewriting ino change.entry size stubs.now (mappings_of touched.now places.now)) }
 {
     let (end, others) = touched.runs();
     let (first, rest) = places.split_at(end.count as usize);
-    let mut records = Vec::with_capacity(alloc, 3)?;
-    records.push(Record::Size { ino, size })?;
+    let (from, to) = change.unsealed(size);
+    let mut records = Vec::with_capacity(alloc, 4)?;
+    records.push(change.head(ino, size, stubs))?;
+    push_unsealed(&mut records, ino, stubs, from, to)?;
     push_map(alloc, &mut records, ino, end.first, first)?;
     push_map(alloc, &mut records, ino, others.first, rest)?;
     Ok(Records::from(records))
+}
+
+/// Puts the records behind the others that the segments from the first up to the second have no entry, of those that have one. It costs these.
+fn push_unsealed(
+    records: &mut Vec<Record>,
+    ino: u64,
+    stubs: &StubMap,
+    from: u32,
+    to: u32,
+) -> Result<(), AllocError>
+    ensures { OnOk result (AreUnsealed ino from to stubs.now records.old.items records.new.items) }
+{
+    let mut start = from;
+    while let Some(segment) = stubs.next(start) {
+        if segment >= to {
+            break;
+        }
+        records.push(Record::Stub {
+            ino,
+            segment,
+            stub: None,
+        })?;
+        start = segment + 1;
+    }
+    Ok(())
 }
 
 /// Puts the record behind the others that the blocks from that one on lie at these places, if there are any.
@@ -99,7 +152,7 @@ fn push_map(
     block: u32,
     places: &[u32],
 ) -> Result<(), AllocError>
-    ensures { OnOk result ((size : ℕ) (before : List Mapping) → IsRewriting ino size before records.old.items → IsRewriting ino size (before ++ mappings_from block places.now) records.new.items) }
+    ensures { OnOk result ((change : Rewrite) (size : ℕ) (stubs : Stubs) (before : List Mapping) → IsRewriting ino change size stubs before records.old.items → IsRewriting ino change size stubs (before ++ mappings_from block places.now) records.new.items) }
 {
     if places.is_empty() {
         return Ok(());
@@ -130,7 +183,7 @@ fn freed_by(
 }
 
 /// The places of the blocks of a run, as far as there are any.
-fn places_under(run: BlockRun, places: &[Option<u32>]) -> &[Option<u32>]
+pub(crate) fn places_under(run: BlockRun, places: &[Option<u32>]) -> &[Option<u32>]
     ensures { result.now ≡ take run.count (drop run.first places.now) }
 {
     let start = places.len().min(run.first as usize);

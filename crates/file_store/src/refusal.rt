@@ -1,6 +1,6 @@
 // Why a call wasn't done.
 ghost use Rattle.std.specs.Prelude.{◌≡◌};
-ghost use Rattle.file_store.specs.Refusals.{refused_as, no_memory};
+ghost use Rattle.file_store.specs.Refusals.{refused_as, refused_part, no_memory};
 
 use hsm_types::DmRefusal;
 use meta_store::MetaRefusal;
@@ -40,5 +40,13 @@ impl From<AllocError> for StoreRefusal {
 
     fn from(_e: AllocError) -> StoreRefusal {
         StoreRefusal::Memory
+    }
+}
+
+impl From<DmRefusal> for StoreRefusal {
+    ghost from_gives = { λ why r. r ≡ refused_part why };
+
+    fn from(why: DmRefusal) -> StoreRefusal {
+        StoreRefusal::Part(why)
     }
 }

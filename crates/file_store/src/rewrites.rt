@@ -1,12 +1,16 @@
 //! Changes of the bytes of a file.
-ghost use Rattle.std.specs.Prelude.{◌≡◌, ◌≤◌, length, OnOk, IsOk};
+ghost use Rattle.std.specs.Prelude.{◌≡◌, ◌≤◌, ◌<◌, ◌+◌, ◌*◌, ◌&&◌, ℕ, nat_le, nat_lt, true, length, OnOk, OnErr, IsOk};
 ghost use Rattle.plain_model.specs.Plain.{rebody};
 ghost use Rattle.plain_model.specs.Blocks.{touched, size_after};
+ghost use Rattle.file_body.specs.HeldBodies.{is_away, KeepsHere};
 ghost use Rattle.file_store.specs.Bodies.{block_of};
-ghost use Rattle.file_store.specs.Rewrites.{effect_of, IsRewrite};
+ghost use Rattle.file_store.specs.Rewrites.{effect_of, grown, new_size, IsRewrite, IsWithin, HasEntry, IsBrought, HasRange, IsLeft, IsHead, unseals};
 
-use file_body::{Body, TouchedBlocks, touched_by_truncate, touched_by_write};
+use file_body::{Body, TouchedBlocks, touched_by_restore, touched_by_truncate, touched_by_write};
+use hsm_types::{SEGMENT_BYTES, Stub};
+use meta_store::Record;
 use std::alloc::{AllocError, Global};
+use stub_map::{State, StubMap};
 
 /// What becomes of the bytes of a file.
 #[derive(Clone, Copy)]
@@ -15,6 +19,8 @@ pub(crate) enum Rewrite<'a> {
     Write { offset: u64, bytes: &'a [u8] },
     /// There are so many of them.
     Resize { size: u64 },
+    /// Those of a segment that was offline are here again.
+    Restore { segment: u32, bytes: &'a [u8] },
 }
 
 impl Rewrite<'_> {
@@ -26,6 +32,7 @@ impl Rewrite<'_> {
         match self {
             Rewrite::Write { offset, bytes } => touched_by_write(size, offset, bytes.len() as u64),
             Rewrite::Resize { size: new } => touched_by_truncate(size, new),
+            Rewrite::Restore { segment, bytes } => touched_by_restore(segment, bytes.len() as u64),
         }
     }
 
@@ -38,33 +45,116 @@ impl Rewrite<'_> {
         match self {
             Rewrite::Write { offset, bytes } => size.max(offset + bytes.len() as u64),
             Rewrite::Resize { size: new } => new,
+            Rewrite::Restore { .. } => size,
         }
+    }
+
+    /// The segments of a file of that size whose entries it drops, from the first up to the second, as far as they begin below the new size.
+    pub(crate) fn unsealed(self, size: u64) -> (u32, u32)
+        requires lawful { IsRewrite self }
+        requires size { size ≤ 16777216 }
+        ensures { (j : ℕ) → unseals self.entry size j ≡ (nat_le result.0 j && nat_lt j result.1) }
+    {
+        match self {
+            Rewrite::Write { offset, bytes } => segments(
+                offset.min(size),
+                offset + bytes.len() as u64,
+            ),
+            Rewrite::Resize { size: new } if new != size => segments(new.min(size), new),
+            _ => (0, 0),
+        }
+    }
+
+    /// The first record of it, of a file of that size with these entries.
+    pub(crate) fn head(self, ino: u64, size: u64, stubs: &StubMap) -> Record
+        requires lawful { IsRewrite self }
+        requires entry { HasEntry self stubs.now }
+        ensures { IsHead ino self.entry size stubs.now result }
+    {
+        let Rewrite::Restore { segment, .. } = self else {
+            return Record::Size {
+                ino,
+                size: self.size_after(size),
+            };
+        };
+        let (State::Offline(entry) | State::Sealed(entry)) = stubs.state(segment) else {
+            unreachable!()
+        };
+        let stub = Some(Stub {
+            entry,
+            offline: false,
+        });
+        Record::Stub { ino, segment, stub }
     }
 
     /// Fills a block as the change will leave it.
     pub(crate) fn fill_block(self, body: &Body, block: u32, buffer: &mut [u8])
         requires lawful { IsRewrite self }
-        requires grows { length body.now ≤ size_after (effect_of self) (length body.now) }
+        requires grows { length body.now.bytes ≤ size_after (effect_of self) (length body.now.bytes) }
         requires len { length buffer.old ≡ 4096 }
-        ensures { buffer.new ≡ block_of (rebody (effect_of self.entry) body.now) block }
+        ensures { buffer.new ≡ block_of (rebody (effect_of self.entry) body.now.bytes) block }
     {
         match self {
             Rewrite::Write { offset, bytes } => body.fill_written_block(
                 block, offset, bytes, buffer,
             ),
             Rewrite::Resize { .. } => body.fill_block(block, buffer),
+            Rewrite::Restore { segment, bytes } => body.fill_written_block(
+                block,
+                start_of(segment),
+                bytes,
+                buffer,
+            ),
         }
     }
 
-    /// Makes it of a body that doesn't become longer by it.
+    /// Takes the memory for it: zeros up to the new size, or in the place of the segment that comes back.
+    pub(crate) fn make_room(self, alloc: Global, body: &mut Body) -> Result<(), AllocError>
+        requires lawful { IsRewrite self }
+        ensures bytes { OnOk result (body.new.bytes ≡ grown (new_size self.entry body.old.bytes) body.old.bytes) }
+        ensures keeps { OnOk result (KeepsHere body.old body.new) }
+        ensures brought { OnOk result (IsBrought self.entry body.new) }
+        ensures err { OnErr result (body.new ≡ body.old) }
+    {
+        let size = body.len();
+        match self {
+            Rewrite::Restore { segment, .. } => body.bring(alloc, segment),
+            change => body.resize(alloc, size.max(change.size_after(size))),
+        }
+    }
+
+    /// Makes it of a body that has room for it.
     pub(crate) fn apply(self, alloc: Global, body: &mut Body)
         requires lawful { IsRewrite self }
-        requires in_place { size_after (effect_of self) (length body.old) ≤ length body.old }
-        ensures { body.new ≡ rebody (effect_of self.entry) body.old }
+        requires in_place { size_after (effect_of self) (length body.old.bytes) ≤ length body.old.bytes }
+        requires within { IsWithin self (length body.old.bytes) }
+        requires here { HasRange self body.old }
+        ensures bytes { body.new.bytes ≡ rebody (effect_of self.entry) body.old.bytes }
+        ensures here { (j : ℕ) → is_away body.new j ≡ true → (is_away body.old j ≡ true) × IsLeft self.entry j }
     {
         match self {
             Rewrite::Write { offset, bytes } => body.write(alloc, offset, bytes).unwrap(),
             Rewrite::Resize { size } => body.resize(alloc, size).unwrap(),
+            Rewrite::Restore { segment, bytes } => body
+                .write(alloc, start_of(segment), bytes)
+                .unwrap(),
         }
     }
+}
+
+/// Where a segment begins.
+fn start_of(segment: u32) -> u64
+    ensures { result ≡ 65536 * segment }
+{
+    u64::from(segment) * SEGMENT_BYTES
+}
+
+/// The segments that have bytes of that range, from the first up to the second.
+fn segments(from: u64, to: u64) -> (u32, u32)
+    requires from { from ≤ 16777216 }
+    requires to { to ≤ 16777216 }
+    ensures { (j : ℕ) → (nat_le result.0 j && nat_lt j result.1) ≡ (nat_lt from (65536 * j + 65536) && nat_lt (65536 * j) to) }
+{
+    let last = (to + (SEGMENT_BYTES - 1)) / SEGMENT_BYTES;
+    ((from / SEGMENT_BYTES) as u32, last as u32)
 }

@@ -1,27 +1,32 @@
 // A store of files on its disk.
-ghost use Rattle.std.specs.Prelude.{◌≡◌, true, false, List, ℕ, ◌≤◌, IfOk, IfErr, OnOk, IsErrOf, IsSome};
+ghost use Rattle.std.specs.Prelude.{◌≡◌, true, false, List, ℕ, length, ◌*◌, ◌<◌, ◌≤◌, IfOk, IfErr, IfSome, OnOk, IsErrOf, IsSome};
 ghost use Rattle.disk_model.specs.Calls.{Rose};
 ghost use Rattle.disk_model.specs.Images.{Alike};
 ghost use Rattle.disk_model.specs.Moments.{MayBe, Keeps, Same};
 ghost use Rattle.commit_slots.specs.Images.{IsStore};
 ghost use Rattle.hsm_types.specs.declared.dm.DmRefusal.{DmRefusal};
 ghost use Rattle.plain_model.specs.Keyed.{find_key};
+ghost use Rattle.hsm_types.specs.Segments.{segment_len};
+ghost use Rattle.hsm_types.specs.Stubs.{print_of, stub_at, offline_at};
+ghost use Rattle.plain_model.specs.Plain.{segment as segment_of};
 ghost use Rattle.plain_model.specs.State.{bytes_of, used};
-ghost use Rattle.plain_model.specs.Services.{kept_of, other_attributes};
+ghost use Rattle.file_body.specs.HeldBodies.{is_away};
+ghost use Rattle.plain_model.specs.Services.{kept_of, other_attributes, other_stubs};
 ghost use Rattle.meta_store.specs.Catalogs.{geometry_of};
 ghost use Rattle.meta_store.specs.Images.{IsCorruptAt};
 ghost use Rattle.meta_store.specs.Meta.{IsMeta};
-ghost use Rattle.meta_store.specs.Records.{key_on, kept_at, others_total};
+ghost use Rattle.meta_store.specs.Records.{key_on, kept_at, others_total, others_stubs};
 ghost use Rattle.file_store.specs.Effects.{HasInode};
 ghost use Rattle.file_store.specs.Stores.{superblock_of, IsLawful, IsDurable, Proceeds, Shows};
 
 use crate::loading::slot;
 use crate::opening::read_in;
+use crate::plans::is_away;
 use crate::refusal::StoreRefusal;
 use block_space::BlockSpace;
 use disk_model::{Disk, OpenRefusal};
 use file_body::Body;
-use hsm_types::{FileKey, Superblock};
+use hsm_types::{FileKey, Fingerprint, Superblock};
 use meta_store::{MetaRefusal, MetaStore, geometry_of};
 use std::alloc::Global;
 use std::marker::Model;
@@ -122,7 +127,7 @@ impl<D: Disk> FileStore<D> {
     }
 
     /// What is kept of the files beside their bytes.
-    #[tactic(auto, using(crate::proofs::FilesBy::held_lawful, crate::proofs::FilesBy::shows))]
+    #[tactic(auto, using(crate::proofs::ShownFiles::lawful_with, crate::proofs::ShownFiles::shown_with))]
     pub fn meta(&self) -> &MetaStore
         ensures meta { result.now ≡ self.now.meta }
         ensures lawful { IsMeta self.now.meta }
@@ -135,9 +140,31 @@ impl<D: Disk> FileStore<D> {
     /// The body of a live file.
     pub fn body(&self, key: FileKey) -> &Body
         requires { IsSome (find_key (λ f. f.key) key self.now.held.files) }
-        ensures { result.now ≡ bytes_of key self.now.held.files }
+        ensures bytes { result.now.bytes ≡ bytes_of key self.now.held.files }
+        ensures here { (j : ℕ) → is_away result.now j ≡ true → offline_at (kept_of key self.now.held.files).stubs j ≡ true }
     {
         &self.bodies[slot(key.ino)]
+    }
+
+    /// The fingerprint of the bytes of a segment of a live file that isn't offline. They are read once, where they are. It takes no memory.
+    #[tactic(auto, using(crate::proofs::ShownFiles::segment_short))]
+    pub fn digest_segment(&self, key: FileKey, segment: u32) -> Fingerprint
+        requires live { IsSome (find_key (λ f. f.key) key self.now.held.files) }
+        requires start { 65536 * segment < length (bytes_of key self.now.held.files) }
+        requires here { offline_at (kept_of key self.now.held.files).stubs segment ≡ false }
+        ensures { result ≡ print_of (segment_of segment (bytes_of key self.now.held.files)) }
+    {
+        Fingerprint::of(self.body(key).segment(segment).unwrap())
+    }
+
+    /// Whether the bytes of a segment of a live file are away. An entry has its segment's length.
+    pub(crate) fn is_offline(&self, key: FileKey, segment: u32) -> bool
+        requires { IsSome (find_key (λ f. f.key) key self.now.held.files) }
+        ensures offline { result ≡ offline_at (kept_of key self.now.held.files).stubs segment }
+        ensures length { IfSome (stub_at segment (kept_of key self.now.held.files).stubs) (λ stub. stub.entry.print.len ≡ segment_len (length (bytes_of key self.now.held.files)) segment) }
+        ensures limit { length (bytes_of key self.now.held.files) ≤ 16777216 }
+    {
+        is_away(self.meta.catalog(), key, segment)
     }
 
     /// The inode of a live file. The catalog finds the file by it.
@@ -148,6 +175,7 @@ impl<D: Disk> FileStore<D> {
         ensures stands { HasInode result self.now.meta.current }
         ensures kept { kept_of key self.now.held.files ≡ kept_at key self.now.meta.current }
         ensures others { other_attributes key self.now.held.files ≡ others_total key self.now.meta.current }
+        ensures other_stubs { other_stubs key self.now.held.files ≡ others_stubs key self.now.meta.current }
         ensures lawful { IsMeta self.now.meta }
     {
         // Read for what is true of it.

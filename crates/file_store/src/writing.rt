@@ -26,13 +26,13 @@ pub(crate) fn put_blocks<D: Disk>(
     places: &[u32],
 ) -> Result<(), Failed>
     requires change { IsRewrite change }
-    requires grows { 0 < length blocks.now → length body.now ≤ size_after (effect_of change) (length body.now) }
+    requires grows { 0 < length blocks.now → length body.now.bytes ≤ size_after (effect_of change) (length body.now.bytes) }
     requires count { length places.now ≡ length blocks.now }
     requires low { base < 2 ^ 32 }
     requires fits { AllByRecursion (λ p. base + 4096 * p + 4096 ≤ D.length_of disk.old) places.now }
     requires apart { Distinct places.now }
     ensures any_moment { Keeps D.Disk disk.old disk.new (IsBesideBlocks base places.now) }
-    ensures written { OnOk result (Follows (HasBlocks base (rebody (effect_of change.entry) body.now) (mappings_of blocks.now places.now)) (D.gives disk.old) (D.gives disk.new)) }
+    ensures written { OnOk result (Follows (HasBlocks base (rebody (effect_of change.entry) body.now.bytes) (mappings_of blocks.now places.now)) (D.gives disk.old) (D.gives disk.new)) }
     ensures cause { HasCause result (D.fault_count disk.old) (D.fault_count disk.new) }
 {
     let mut buffer = [0; BLOCK_BYTES as usize];

@@ -12,7 +12,7 @@ opened_in o = option_map (λ s. s.value) o.opening
 
 -- the store that `replay` makes in memory: small, with the file system id 1
 abbrev pub replay_store : Superblock
-replay_store = record { geometry = record { files = 64; blocks = 1024; attributes = 32768 }; fsid = 1 }
+replay_store = record { geometry = record { files = 64; blocks = 1024; attributes = 32768; stubs = 1024 }; fsid = 1 }
 
 -- how that store was formatted
 abbrev pub superblock_at : {D : Type 0} → Option (Store D) → Superblock

@@ -23,7 +23,7 @@ use Rattle.plain_model.specs.Keyed.{set_at}
 use Rattle.plain_model.specs.Accesses.{told_span, event_message}
 use Rattle.plain_model.specs.Ledger.{Ledger, Means, next_token, aborted, gone, ledger_replied}
 use Rattle.plain_model.specs.State.{Held, Flags, no_flags, State, noted}
-use Rattle.plain_model.specs.Verdict.{Verdict as Ruled, Ruling, Blocks, Posts, done_held, stamps_by, Lacks, Ends, Rules, is_no_space, conflicting, touching, lacking, rulings, facts_of, shortage, verdict, judgement, message_of, reply_by, reply_where, left_by_verdict, state_where}
+use Rattle.plain_model.specs.Verdict.{Verdict as Ruled, Ruling, Blocks, Posts, done_held, stamps_by, Lacks, Ends, Rules, is_no_space, conflicting, touching, needing, lacking, rulings, facts_of, shortage, verdict, judgement, message_of, reply_by, reply_where, left_by_verdict, state_where}
 use Rattle.access_park.specs.declared.access.Access.{Access}
 use Rattle.dm_service.specs.declared.verdict.Verdict.{Verdict}
 use Rattle.dm_service.specs.declared.verdict.Verdict.TheVariants.{Answered, Missing, Block, Post, NoSpace, Complete}
@@ -63,8 +63,8 @@ left_said s st c fl k call said = record {
 -- ---- the rules
 
 -- what the rules say one after the other, of an access with that response to a file that lives or not
-abbrev said_by : Option Response → Bool → Ruled → Ruled → Ruled → Verdict
-said_by answer live w x y = verdict_of (first_refusal (option_map Ends (aborted answer) ∷ option_map Ends (gone live) ∷ option_map Rules w ∷ option_map Rules x ∷ option_map Rules y ∷ []))
+abbrev said_by : Option Response → Bool → Ruled → Ruled → Ruled → Ruled → Verdict
+said_by answer live w x y z = verdict_of (first_refusal (option_map Ends (aborted answer) ∷ option_map Ends (gone live) ∷ option_map Rules w ∷ option_map Rules x ∷ option_map Rules y ∷ option_map Rules z ∷ []))
 
 abbrev opposed : Option Response → Bool → Option CallRefusal
 opposed answer live = first_refusal (aborted answer ∷ gone live ∷ [])
@@ -88,18 +88,19 @@ module _ (s : Superblock) (st : State) (c : ℕ) (fl : Flags) (k : FileKey) (cal
   ruling_said (Posts kind) = record { reply = refl; left = refl }
   ruling_said (Lacks need free) = record { reply = refl; left = refl }
 
-  ruled : (w x y : Ruled) → Says (said_by None true w x y) None (first_refusal (w ∷ x ∷ y ∷ []))
-  ruled None None None = record { reply = refl; left = refl }
-  ruled None None (Some ruling) = record { reply = (ruling_said ruling).reply; left = (ruling_said ruling).left }
-  ruled None (Some ruling) y = record { reply = (ruling_said ruling).reply; left = (ruling_said ruling).left }
-  ruled (Some ruling) x y = record { reply = (ruling_said ruling).reply; left = (ruling_said ruling).left }
+  ruled : (w x y z : Ruled) → Says (said_by None true w x y z) None (first_refusal (w ∷ x ∷ y ∷ z ∷ []))
+  ruled None None None None = record { reply = refl; left = refl }
+  ruled None None None (Some ruling) = record { reply = (ruling_said ruling).reply; left = (ruling_said ruling).left }
+  ruled None None (Some ruling) z = record { reply = (ruling_said ruling).reply; left = (ruling_said ruling).left }
+  ruled None (Some ruling) y z = record { reply = (ruling_said ruling).reply; left = (ruling_said ruling).left }
+  ruled (Some ruling) x y z = record { reply = (ruling_said ruling).reply; left = (ruling_said ruling).left }
 
-  by_rules : (answer : Option Response) (live : Bool) (w x y : Ruled) → Says (said_by answer live w x y) (opposed answer live) (first_refusal (w ∷ x ∷ y ∷ []))
-  by_rules (Some (Abort error)) live w x y = record { reply = refl; left = refl }
-  by_rules (Some Continue) true w x y = record { reply = (ruled w x y).reply; left = (ruled w x y).left }
-  by_rules (Some Continue) false w x y = record { reply = refl; left = refl }
-  by_rules None true w x y = record { reply = (ruled w x y).reply; left = (ruled w x y).left }
-  by_rules None false w x y = record { reply = refl; left = refl }
+  by_rules : (answer : Option Response) (live : Bool) (w x y z : Ruled) → Says (said_by answer live w x y z) (opposed answer live) (first_refusal (w ∷ x ∷ y ∷ z ∷ []))
+  by_rules (Some (Abort error)) live w x y z = record { reply = refl; left = refl }
+  by_rules (Some Continue) true w x y z = record { reply = (ruled w x y z).reply; left = (ruled w x y z).left }
+  by_rules (Some Continue) false w x y z = record { reply = refl; left = refl }
+  by_rules None true w x y z = record { reply = (ruled w x y z).reply; left = (ruled w x y z).left }
+  by_rules None false w x y z = record { reply = refl; left = refl }
 
   reply_same : (why : Option CallRefusal) (v : Ruled) → (why ≡ None → v ≡ verdict s st fl k call) → reply_if why v ≡ reply_where s st fl why (Means k call)
   reply_same None v same = ap (reply_by st k call) (same refl)
@@ -127,10 +128,10 @@ module _ (s : Superblock) (st : State) (c : ℕ) (fl : Flags) (k : FileKey) (cal
     same_rules none = ap rules (known (unopposed answer facts.live none))
 
     pub said_reply : reply_said st k call said ≡ reply_where s st fl (opposed answer facts.live) (Means k call)
-    said_reply = (by_rules answer facts.live (conflicting st.rights k call) (touching fl facts call) (lacking fl facts st.sessions)).reply ∙ reply_same (opposed answer facts.live) (rules facts) same_rules
+    said_reply = (by_rules answer facts.live (conflicting st.rights k call) (touching fl facts call) (needing fl facts call) (lacking fl facts st.sessions)).reply ∙ reply_same (opposed answer facts.live) (rules facts) same_rules
 
     pub said_left : left_said s st c fl k call said ≡ state_where s st c fl (opposed answer facts.live) (Means k call)
-    said_left = (by_rules answer facts.live (conflicting st.rights k call) (touching fl facts call) (lacking fl facts st.sessions)).left ∙ left_same (opposed answer facts.live) (rules facts) same_rules
+    said_left = (by_rules answer facts.live (conflicting st.rights k call) (touching fl facts call) (needing fl facts call) (lacking fl facts st.sessions)).left ∙ left_same (opposed answer facts.live) (rules facts) same_rules
 
 -- ---- creates and syncs, which never wait
 

@@ -73,17 +73,19 @@ where_lasts s st c fl None (Means k call) is may d = verdict_lasts s st c fl k c
 no_shortage : (free : ℕ) → short_of 0 free ≡ None
 no_shortage free = let none : nat_lt free 0 ≡ false = grind (arith, nat_tests) in rw none refl
 
-none_ruled : (other : Option Token) (asks asks' : Bool) (short : Option NoRoom) → other ≡ None → short ≡ None → first_refusal (option_map Blocks other ∷ posts asks None ∷ without_room asks' short ∷ []) ≡ None
-none_ruled None true asks' None free room = refl
-none_ruled None false asks' None free room = refl
-none_ruled (Some t) asks asks' short free room = absurd cc
-none_ruled None asks asks' (Some short) free room = absurd cc
+none_ruled : (other : Option Token) (asks asks' asks'' : Bool) (short : Option NoRoom) → other ≡ None → short ≡ None → first_refusal (option_map Blocks other ∷ posts asks None ∷ posts asks' None ∷ without_room asks'' short ∷ []) ≡ None
+none_ruled None true true asks'' None free room = refl
+none_ruled None true false asks'' None free room = refl
+none_ruled None false true asks'' None free room = refl
+none_ruled None false false asks'' None free room = refl
+none_ruled (Some t) asks asks' asks'' short free room = absurd cc
+none_ruled None asks asks' asks'' (Some short) free room = absurd cc
 
 pub never_ruled : (s : Superblock) (st : State) (fl : Flags) (k : FileKey) (call : Call) → IsOnFile call ⊎ (verdict s st fl k call ≡ None)
 never_ruled s st fl k (Create name) =
-    inr (none_ruled (conflict k Null no_token st.rights) (not fl.cleared && (facts_of s st.held k (Create name)).touches) (not fl.spaced && is_taken kinds.NoSpace st.sessions) (shortage s st.held k (Create name)) (unhindered k no_token st.rights) (no_shortage _))
+    inr (none_ruled (conflict k Null no_token st.rights) (not fl.cleared && (facts_of s st.held k (Create name)).touches) (fl.cleared && (facts_of s st.held k (Create name)).needs) (not fl.spaced && is_taken kinds.NoSpace st.sessions) (shortage s st.held k (Create name)) (unhindered k no_token st.rights) (no_shortage _))
 never_ruled s st fl k Sync =
-    inr (none_ruled (conflict k Null no_token st.rights) (not fl.cleared && (facts_of s st.held k Sync).touches) (not fl.spaced && is_taken kinds.NoSpace st.sessions) (shortage s st.held k Sync) (unhindered k no_token st.rights) (no_shortage _))
+    inr (none_ruled (conflict k Null no_token st.rights) (not fl.cleared && (facts_of s st.held k Sync).touches) (fl.cleared && (facts_of s st.held k Sync).needs) (not fl.spaced && is_taken kinds.NoSpace st.sessions) (shortage s st.held k Sync) (unhindered k no_token st.rights) (no_shortage _))
 never_ruled s st fl k call = inl tt
 
 ruled_lasts : (s : Superblock) (st : State) (fl : Flags) (k : FileKey) (call : Call) (ruling : Ruling) → refusal_of s (names_of st.held.files) call ≡ None → verdict s st fl k call ≡ Some ruling → MayLast call

@@ -3,9 +3,14 @@ pub mod ListedFiles
 pub mod NamedFiles
 pub mod Accesses
 pub mod Targets
+pub mod Unstopped
+pub mod Needed
 pub mod Replying
 pub mod Lasting
 pub mod Serving
+pub mod Aways
+pub mod Told
+pub mod Moved
 pub mod Syncs
 pub mod Runs
 pub mod Safety

@@ -23,7 +23,7 @@ use Rattle.plain_model.specs.Accesses.{need_of, kind_of}
 use Rattle.plain_model.specs.Ledger.{Means, goes_on, resumed, aborted, gone, objection_again}
 use Rattle.plain_model.specs.Plain.{has_key}
 use Rattle.plain_model.specs.State.{Flags, State, names_of}
-use Rattle.plain_model.specs.Verdict.{Blocks, Posts, Lacks, Verdict, posts, without_room, is_taken, facts_of, touching, lacking, reply_by, reply_where}
+use Rattle.plain_model.specs.Verdict.{Blocks, Posts, Lacks, Verdict, posts, without_room, is_taken, facts_of, touching, needing, lacking, reply_by, reply_where}
 use Rattle.access_park.specs.declared.access.Access.{Access}
 use Rattle.dm_service.specs.Tables.{waiting, pending_as, flags_in, flags_or_none}
 use Rattle.file_store.specs.Stores.{superblock_of}
@@ -40,7 +40,7 @@ done_ready st k (Read name offset len) a = refl
 done_ready st k (Stat name) a = refl
 done_ready st k call a = refl
 
--- the rules on regions and space block nothing
+-- the rules on regions, segments and space block nothing
 abbrev Unblocking : Verdict → Type 0
 Unblocking (Some (Blocks t)) = ⊥
 Unblocking v = Unit {0}
@@ -55,10 +55,11 @@ room_unblocking asks None = tt
 room_unblocking true (Some room) = tt
 room_unblocking false (Some room) = tt
 
-either_unblocking : (x y : Verdict) → Unblocking x → Unblocking y → Unblocking (first_refusal (x ∷ y ∷ []))
-either_unblocking (Some ruling) y first second = first
-either_unblocking None (Some ruling) first second = second
-either_unblocking None None first second = tt
+first_unblocking : (x y z : Verdict) → Unblocking x → Unblocking y → Unblocking z → Unblocking (first_refusal (x ∷ y ∷ z ∷ []))
+first_unblocking (Some ruling) y z first second third = first
+first_unblocking None (Some ruling) z first second third = second
+first_unblocking None None (Some ruling) first second third = third
+first_unblocking None None None first second third = tt
 
 other_ready : (st : State) (k : FileKey) (call : Call) (a : Access) (v : Verdict) → Unblocking v → ready_by (Some a) (reply_by st k call v) ≡ Now
 other_ready st k call a None is = done_ready st k call a
@@ -67,9 +68,10 @@ other_ready st k call a (Some (Posts kind)) is = refl
 other_ready st k call a (Some (Lacks need free)) is = refl
 
 -- so a right decides, where one excludes it
-rules_ready : (st : State) (k : FileKey) (call : Call) (a : Access) (other : Option Token) (x y : Verdict) → Unblocking x → Unblocking y → ready_by (Some a) (reply_by st k call (first_refusal (option_map Blocks other ∷ x ∷ y ∷ []))) ≡ blocked_by other
-rules_ready st k call a None x y first second = other_ready st k call a (first_refusal (x ∷ y ∷ [])) (either_unblocking x y first second)
-rules_ready st k call a (Some t) x y first second = refl
+rules_ready : (st : State) (k : FileKey) (call : Call) (a : Access) (other : Option Token) (x y z : Verdict) → Unblocking x → Unblocking y → Unblocking z
+    → ready_by (Some a) (reply_by st k call (first_refusal (option_map Blocks other ∷ x ∷ y ∷ z ∷ []))) ≡ blocked_by other
+rules_ready st k call a None x y z first second third = other_ready st k call a (first_refusal (x ∷ y ∷ z ∷ [])) (first_unblocking x y z first second third)
+rules_ready st k call a (Some t) x y z first second third = refl
 
 module _ (s : Superblock) (st : State) (fl : Flags) (a : Access) where
   abbrev other : Option Token
@@ -80,7 +82,8 @@ module _ (s : Superblock) (st : State) (fl : Flags) (a : Access) where
 
   means_ready : ready_by (Some a) (reply_where s st fl None (Means a.key a.call)) ≡ blocked_by other
   means_ready =
-      rules_ready st a.key a.call a other (touching fl facts a.call) (lacking fl facts st.sessions) (posts_unblocking (not fl.cleared && facts.touches) (kind_of a.call))
+      rules_ready st a.key a.call a other (touching fl facts a.call) (needing fl facts a.call) (lacking fl facts st.sessions) (posts_unblocking (not fl.cleared && facts.touches) (kind_of a.call))
+      (posts_unblocking (fl.cleared && facts.needs) (kind_of a.call))
       (room_unblocking (not fl.spaced && is_taken kind.NoSpace st.sessions) facts.short)
 
   -- unless it was aborted, or its file is gone

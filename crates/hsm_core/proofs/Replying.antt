@@ -1,5 +1,5 @@
 -- How the replies to callers, and the states that they leave, are those of the model.
-use Rattle.std.proofs.Common.{◌≡◌, ◌≤◌, ◌+◌, ℕ, List, [], ◌∷◌, Bool, true, false, Option, Some, None, refl, sym, ◌∙◌, ⊎_elim, ap, subst}
+use Rattle.std.proofs.Common.{◌≡◌, ◌+◌, ℕ, List, [], ◌∷◌, Bool, true, false, Option, Some, None, refl, sym, ◌∙◌, ⊎_elim, ap, subst}
 use Rattle.std.specs.Prelude.{◌&&◌, not, is_some, is_none, if◌then◌else◌, Result, Ok, Err, IfOk, IfErr, OnOk, OnErr, MatchOption}
 use Rattle.std.specs.Option.{option_map}
 use Rattle.disk_model.specs.declared.device.Disk as disk
@@ -19,7 +19,7 @@ use Rattle.plain_model.specs.Keyed.{same_key, find_key}
 use Rattle.plain_model.specs.Accesses.{told_span}
 use Rattle.plain_model.specs.Ledger.{Means, next_token, goes_on, aborted, gone, issued, resumed, objection_again}
 use Rattle.plain_model.specs.Plain.{Listed, has_key, refusal_of, key_meant}
-use Rattle.plain_model.specs.State.{FileState, Held, no_flags, State, names_of, used}
+use Rattle.plain_model.specs.State.{FileState, Held, no_flags, State, names_of}
 use Rattle.plain_model.specs.Verdict.{facts_of, judgement, verdict, done_reply, done_held, stamps_by, reply_by, reply_where, reply_to, left_by_verdict, state_where, state_after}
 use Rattle.access_park.specs.declared.access.Access.{Access}
 use Rattle.dm_service.specs.declared.verdict.Verdict.{Verdict}
@@ -35,11 +35,12 @@ use Rattle.file_store.specs.Stores.{Store as FileStore, superblock_of, Proceeds}
 use Rattle.hsm_core.specs.Ends.{Ends}
 use Rattle.hsm_core.specs.Outcomes.{ends, ended_reply, held_said, stamps_said, is_fresh, IsFinished, IsReplied}
 use Rattle.hsm_core.specs.Stamps.{stamp_in}
-use Rattle.hsm_core.specs.Targets.{IsTarget, IsMeant, IsOnFile, MayLast, MayComplete, key_in}
+use Rattle.hsm_core.specs.Targets.{IsTarget, IsMeant, AreKnown, IsOnFile, MayLast, MayComplete, key_in}
 use Rattle.hsm_core.specs.declared.judging.Target.{Target}
 use Rattle.hsm_core.proofs.Accesses.{reply_said, left_said, said_reply, said_left, parked_left, blocked_left, ended_left, fresh_ended}
 use Rattle.hsm_core.proofs.Lasting.{never_ruled}
 use Rattle.hsm_core.proofs.Targets.{key_of_meant, on_own, on_file, still_on, bounded, complete, posted}
+use Rattle.hsm_core.proofs.Unstopped.{unstopped_sound}
 
 -- ---- results
 
@@ -270,34 +271,35 @@ module _ {D : Type 0} (g : disk.Ghosts D) (f : FileStore D) (n : ℕ) (stamps : 
         ok_still (Ok x) = sym (still_idle t c none)
         ok_still (Err e) = tt
 
-    pub issue_completes : used f.held.files ≤ super.geometry.blocks → heard file.key ≡ Complete → MayComplete super f.held a.call (Some file)
-    issue_completes mapped is =
+    pub issue_completes : AreKnown super f.held file.key a.call facts → heard file.key ≡ Complete → MayComplete super f.held a.call (Some file)
+    issue_completes are is =
         let may = complete (flags_in a) a.answer facts t.rights t.sessions file.key a.call is in
         record {
           on = on_own f.held.files (key_meant (names_of f.held.files) a.call) a.call (Some file) meant;
           bounded = bounded super (names_of f.held.files) a.call lawful;
-          fits = sym (ap (λ x. x.short) known) ∙ may.1;
-          mapped = mapped;
+          fits = sym (ap (λ x. x.short) known) ∙ may.short;
+          mapped = are.mapped;
+          sound = unstopped_sound super f.held file.key (flags_in a) a.call facts are may.touching may.needing;
         }
 
   -- ---- an access that goes on
   module _ (target : Option Target) (waits : waiting t c ≡ Some a) (goes : goes_on (pending_as a) a.token a.answer ≡ Means a.key a.call) (last : MayLast a.call)
       (found : MatchOption target (find_key (λ x. x.key) a.key f.held.files ≡ None) (λ x. IsTarget f.held.files a.key x))
-      (known : MatchOption target (facts ≡ record { live = false; touches = false; short = None }) (λ x. (facts ≡ facts_of super f.held x.key a.call) × (used f.held.files ≤ super.geometry.blocks))) where
+      (known : MatchOption target (facts ≡ record { live = false; touches = false; needs = false; short = None }) (λ x. AreKnown super f.held x.key a.call facts)) where
     lives : facts.live ≡ is_some (find_key (λ x. x.key) a.key f.held.files)
     lives = elim target as (λ (o : Option Target). MatchOption o (find_key (λ x. x.key) a.key f.held.files ≡ None) (λ x. IsTarget f.held.files a.key x)
-        → MatchOption o (facts ≡ record { live = false; touches = false; short = None }) (λ x. (facts ≡ facts_of super f.held x.key a.call) × (used f.held.files ≤ super.geometry.blocks))
+        → MatchOption o (facts ≡ record { live = false; touches = false; needs = false; short = None }) (λ x. AreKnown super f.held x.key a.call facts)
         → facts.live ≡ is_some (find_key (λ x. x.key) a.key f.held.files)) [
           | None ↦ λ found known. ap (λ x. x.live) known ∙ sym (ap (λ o. is_some o) found)
-          | Some x ↦ λ found known. ap (λ y. y.live) known.0 ∙ ap (λ k. is_some (find_key (λ y. y.key) k f.held.files)) found.key
+          | Some x ↦ λ found known. ap (λ y. y.live) known.known ∙ ap (λ k. is_some (find_key (λ y. y.key) k f.held.files)) found.key
         ] found known
 
     facts_known : facts.live ≡ true → facts ≡ facts_of super f.held a.key a.call
     facts_known live = elim target as (λ (o : Option Target). MatchOption o (find_key (λ x. x.key) a.key f.held.files ≡ None) (λ x. IsTarget f.held.files a.key x)
-        → MatchOption o (facts ≡ record { live = false; touches = false; short = None }) (λ x. (facts ≡ facts_of super f.held x.key a.call) × (used f.held.files ≤ super.geometry.blocks))
+        → MatchOption o (facts ≡ record { live = false; touches = false; needs = false; short = None }) (λ x. AreKnown super f.held x.key a.call facts)
         → facts ≡ facts_of super f.held a.key a.call) [
           | None ↦ λ found known. absurd (let wrong : true ≡ false = sym live ∙ ap (λ x. x.live) known in cc wrong)
-          | Some x ↦ λ found known. known.0 ∙ ap (λ k. facts_of super f.held k a.call) found.key
+          | Some x ↦ λ found known. known.known ∙ ap (λ k. facts_of super f.held k a.call) found.key
         ] found known
 
     again_own : reply_said now a.key a.call (heard a.key) ≡ reply_to super now c Resume
@@ -331,9 +333,9 @@ module _ {D : Type 0} (g : disk.Ghosts D) (f : FileStore D) (n : ℕ) (stamps : 
 
     found_key : (heard a.key) ≡ Complete → key_in target ≡ a.key
     found_key is =
-        let live = (complete (flags_in a) a.answer facts t.rights t.sessions a.key a.call is).0 in
+        let live = (complete (flags_in a) a.answer facts t.rights t.sessions a.key a.call is).live in
         elim target as (λ (o : Option Target). MatchOption o (find_key (λ x. x.key) a.key f.held.files ≡ None) (λ x. IsTarget f.held.files a.key x)
-        → MatchOption o (facts ≡ record { live = false; touches = false; short = None }) (λ x. (facts ≡ facts_of super f.held x.key a.call) × (used f.held.files ≤ super.geometry.blocks)) → key_in o ≡ a.key) [
+        → MatchOption o (facts ≡ record { live = false; touches = false; needs = false; short = None }) (λ x. AreKnown super f.held x.key a.call facts) → key_in o ≡ a.key) [
           | None ↦ λ found known. absurd (let wrong : true ≡ false = sym live ∙ ap (λ x. x.live) known in cc wrong)
           | Some x ↦ λ found known. found.key
         ] found known
@@ -342,13 +344,14 @@ module _ {D : Type 0} (g : disk.Ghosts D) (f : FileStore D) (n : ℕ) (stamps : 
     again_completes is =
         let may = complete (flags_in a) a.answer facts t.rights t.sessions a.key a.call is in
         elim target as (λ (o : Option Target). MatchOption o (find_key (λ x. x.key) a.key f.held.files ≡ None) (λ x. IsTarget f.held.files a.key x)
-        → MatchOption o (facts ≡ record { live = false; touches = false; short = None }) (λ x. (facts ≡ facts_of super f.held x.key a.call) × (used f.held.files ≤ super.geometry.blocks)) → MayComplete super f.held a.call o) [
-          | None ↦ λ found known. absurd (let wrong : true ≡ false = sym may.0 ∙ ap (λ x. x.live) known in cc wrong)
+        → MatchOption o (facts ≡ record { live = false; touches = false; needs = false; short = None }) (λ x. AreKnown super f.held x.key a.call facts) → MayComplete super f.held a.call o) [
+          | None ↦ λ found known. absurd (let wrong : true ≡ false = sym may.live ∙ ap (λ x. x.live) known in cc wrong)
           | Some x ↦ λ found known. record {
-            on = still_on f.held.files a.call x last.0 (record { key = refl; live = found.live; size = found.size });
+            on = still_on f.held.files a.call x last.0 (record { key = refl; live = found.live; size = found.size; limit = found.limit });
             bounded = last.1;
-            fits = sym (ap (λ y. y.short) known.0) ∙ may.1;
-            mapped = known.1;
+            fits = sym (ap (λ y. y.short) known.known) ∙ may.short;
+            mapped = known.mapped;
+            sound = unstopped_sound super f.held x.key (flags_in a) a.call facts known may.touching may.needing;
           }
         ] found known
 

@@ -1,6 +1,7 @@
 -- A session's call by its scope and its service.
 use Rattle.std.proofs.Common.{◌≡◌, ℕ, ◌+◌, true, false, List, [], ◌∷◌, ◌++◌, Option, Some, None, refl, sym, ◌∙◌, ap, subst}
 use Rattle.std.specs.Prelude.{Result, Ok, Err, MatchOption, MatchResult, IfOk, OnOk, OnErr, IsErrOf}
+use Rattle.disk_model.specs.declared.device.Disk as disk
 use Rattle.hsm_types.specs.Refusals.{first_refusal}
 use Rattle.hsm_types.specs.Calls.{scope_of}
 use Rattle.hsm_types.specs.Rights.{Rights}
@@ -11,7 +12,7 @@ use Rattle.hsm_types.specs.declared.stores.Superblock.{Superblock}
 use Rattle.hsm_types.specs.declared.dm.Scope.{Scope}
 use Rattle.hsm_types.specs.declared.dm.Scope.TheVariants.{Anyone, InSession, OnToken, OnFile, OnRight}
 use Rattle.hsm_types.specs.declared.dm.DmCall.{DmCall}
-use Rattle.hsm_types.specs.declared.dm.DmCall.TheVariants.{RequestRight, ReleaseRight, QueryRight, UpgradeRight, DowngradeRight, GetFileAttr, SetRegion, GetRegion, SetDmAttr, GetDmAttr, RemoveDmAttr, GetAllDmAttr, PathToHandle, GetSpace}
+use Rattle.hsm_types.specs.declared.dm.DmCall.TheVariants.{RequestRight, ReleaseRight, QueryRight, UpgradeRight, DowngradeRight, GetFileAttr, SetRegion, GetRegion, SetDmAttr, GetDmAttr, RemoveDmAttr, GetAllDmAttr, ReadInvis, WriteInvis, PunchHole, ProbeHole, GetAllocInfo, Seal, Restore, PathToHandle, GetSpace, GetTable}
 use Rattle.hsm_types.specs.declared.dm.DmRefusal.{DmRefusal}
 use Rattle.hsm_types.specs.declared.dm.DmReply.{DmReply}
 use Rattle.hsm_types.specs.declared.dm.DmReply.TheVariants as reply
@@ -19,10 +20,11 @@ use Rattle.plain_model.specs.Effects.{Change, Nothing, OfFile, OfSessions, OfRig
 use Rattle.plain_model.specs.State.{Held, State, noted, changed}
 use Rattle.plain_model.specs.Services.{Service, service, scope_refusals, dm_judged, dm_reply_where, dm_reply_to, dm_state_where, dm_state_after}
 use Rattle.file_store.specs.declared.refusal.StoreRefusal.{StoreRefusal}
+use Rattle.file_store.specs.Stores.{Store as FileStore}
 use Rattle.dm_service.specs.Services.{asks_rights, asks_tables, done_or, session_refusals, AreBoth, Judges}
 use Rattle.dm_service.specs.Tables.{Tables}
 use Rattle.hsm_core.specs.Store.{state_with}
-use Rattle.hsm_core.specs.Services.{anybody, asked, file_refusals, told_where, held_where, service_with, rights_where, IsGranted}
+use Rattle.hsm_core.specs.Services.{anybody, asked, file_refusals, told_where, held_where, service_with, rights_where, asks_segments, moves_segments, IsGranted, IsPerformed, IsServed}
 use Rattle.plain_model.specs.Ledger.{ledger_told}
 use Rattle.hsm_core.proofs.Refusing.{all_pass, one_stops, alone}
 
@@ -61,6 +63,14 @@ on_files sid (GetDmAttr token handle name) is no_rights = tt
 on_files sid (GetAllDmAttr token handle) is no_rights = tt
 on_files sid (PathToHandle name) is no_rights = tt
 on_files sid GetSpace is no_rights = tt
+on_files sid GetTable is no_rights = tt
+on_files sid (ReadInvis token handle offset len) is no_rights = tt
+on_files sid (WriteInvis token handle offset body) is no_rights = tt
+on_files sid (PunchHole token handle offset len) is no_rights = tt
+on_files sid (ProbeHole token handle offset len) is no_rights = tt
+on_files sid (GetAllocInfo token handle) is no_rights = tt
+on_files sid (Seal token handle segment entry) is no_rights = tt
+on_files sid (Restore token handle segment bytes) is no_rights = tt
 on_files sid call is no_rights = absurd cc
 
 left_changed : (change : Change) (h : Held) (stamps : List (FileKey × ℕ)) (t : Tables) (number : ℕ) → OnFiles change → state_with (held_where change None h) stamps t (number + 1) ≡ noted (changed change (state_with h stamps t number))
@@ -153,6 +163,24 @@ module _ (s : Superblock) (h : Held) (stamps : List (FileKey × ℕ)) (t : Table
       → OnOk result (state_with h' stamps t (number + 1) ≡ dm_state_after s (state_with h stamps t number) sid call)
   served_left is no_rights (Ok r) h' held = (λ i. state_with (held i) stamps t (number + 1)) ∙ left_asked is no_rights
   served_left is no_rights (Err e) h' held = tt
+
+-- ---- calls on segments, which ask of the files alone
+
+module _ {D : Type 0} (g : disk.Ghosts D) (old new : FileStore D) (n : ℕ) (stamps : List (FileKey × ℕ)) (t : Tables) (sid : Sid) where
+  pub asks_performed : (call : DmCall) (result : Result (DmReply × DmReply) StoreRefusal) → asks_segments call ≡ true → IsServed g old n call result new → IsPerformed g old n stamps t sid call result new
+  asks_performed (ReadInvis token handle offset len) result is served = record { replies = served.replies; held = served.held; ends = served.ends }
+  asks_performed (WriteInvis token handle offset body) result is served = record { replies = served.replies; held = served.held; ends = served.ends }
+  asks_performed (ProbeHole token handle offset len) result is served = record { replies = served.replies; held = served.held; ends = served.ends }
+  asks_performed (GetAllocInfo token handle) result is served = record { replies = served.replies; held = served.held; ends = served.ends }
+  asks_performed GetSpace result is served = absurd cc
+  asks_performed call result is served = absurd cc
+
+  pub moves_performed : (call : DmCall) (result : Result (DmReply × DmReply) StoreRefusal) → moves_segments call ≡ true → IsServed g old n call result new → IsPerformed g old n stamps t sid call result new
+  moves_performed (PunchHole token handle offset len) result is served = record { replies = served.replies; held = served.held; ends = served.ends }
+  moves_performed (Seal token handle segment entry) result is served = record { replies = served.replies; held = served.held; ends = served.ends }
+  moves_performed (Restore token handle segment bytes) result is served = record { replies = served.replies; held = served.held; ends = served.ends }
+  moves_performed GetSpace result is served = absurd cc
+  moves_performed call result is served = absurd cc
 
 -- ---- calls on rights
 

@@ -23,7 +23,7 @@ use Rattle.plain_model.specs.Accesses.{need_of, kind_of}
 use Rattle.plain_model.specs.Ledger.{aborted, gone}
 use Rattle.plain_model.specs.Plain.{Listed, bad_name, bad_length, missing, too_big, refusal_of, key_meant}
 use Rattle.plain_model.specs.State.{FileState, Flags, names_of}
-use Rattle.plain_model.specs.Verdict.{Verdict as Ruled, Blocks, Posts, Lacks, Ends, Rules, posts, conflicting, touching, without_room, lacking, rulings, is_taken, judgement}
+use Rattle.plain_model.specs.Verdict.{Verdict as Ruled, Blocks, Posts, Lacks, Ends, Rules, posts, conflicting, touching, needing, without_room, lacking, rulings, is_taken, judgement}
 use Rattle.plain_model.proofs.Judged.{none_first, passes}
 use Rattle.access_park.specs.Pending.{is_lawful_answer}
 use Rattle.dm_service.specs.declared.verdict.Verdict.{Verdict}
@@ -37,7 +37,7 @@ use Rattle.hsm_core.specs.Targets.{IsTarget, IsOn, IsMeant, IsBounded, MayDo, Is
 
 of_target : (files : List FileState) (k : FileKey) (target : Option Target) → IsSomeAnd target (λ t. IsTarget files k t) → (key_in target ≡ k) × IsSomeAnd target (λ t. IsTarget files (key_in target) t)
 of_target files k None is = absurd is
-of_target files k (Some t) is = (is.key, record { key = refl; live = is.live; size = is.size })
+of_target files k (Some t) is = (is.key, record { key = refl; live = is.live; size = is.size; limit = is.limit })
 
 pub key_of_meant : (files : List FileState) (call : Call) (target : Option Target) → IsMeant files call target → key_in target ≡ key_meant (names_of files) call
 key_of_meant files (Create name) target is = ap key_in is
@@ -53,7 +53,7 @@ on_own files k call target is = (of_target files k target is).1
 pub on_file : (files : List FileState) (k : FileKey) (call : Call) (t : Target) → IsOn files k call (Some t) → IsOnFile call × IsTarget files t.key t
 on_file files k (Create name) t is = absurd cc
 on_file files k Sync t is = absurd cc
-on_file files k call t is = (tt, record { key = refl; live = is.live; size = is.size })
+on_file files k call t is = (tt, record { key = refl; live = is.live; size = is.size; limit = is.limit })
 
 -- a sync means none
 pub not_alone : (files : List FileState) (t : Target) (call : Call) → call ≡ Sync → IsMeant files call (Some t) → ⊥
@@ -107,11 +107,12 @@ may_still s files call last = last.1
 -- ---- what a verdict says
 
 -- of several rules the first that applies is as good as all
-rules_first : (w x y : Ruled) → first_refusal (option_map Rules w ∷ option_map Rules x ∷ option_map Rules y ∷ []) ≡ first_refusal (option_map Rules (first_refusal (w ∷ x ∷ y ∷ [])) ∷ [])
-rules_first (Some ruling) x y = refl
-rules_first None (Some ruling) y = refl
-rules_first None None (Some ruling) = refl
-rules_first None None None = refl
+rules_first : (w x y z : Ruled) → first_refusal (option_map Rules w ∷ option_map Rules x ∷ option_map Rules y ∷ option_map Rules z ∷ []) ≡ first_refusal (option_map Rules (first_refusal (w ∷ x ∷ y ∷ z ∷ [])) ∷ [])
+rules_first (Some ruling) x y z = refl
+rules_first None (Some ruling) y z = refl
+rules_first None None (Some ruling) z = refl
+rules_first None None None (Some ruling) = refl
+rules_first None None None None = refl
 
 abbrev heard : Option Response → Bool → Ruled → Verdict
 heard answer live v = verdict_of (first_refusal (option_map Ends (aborted answer) ∷ option_map Ends (gone live) ∷ option_map Rules v ∷ []))
@@ -127,7 +128,7 @@ ruled fl facts rights t k call = first_refusal (rulings fl facts rights t k call
 heard_is : (fl : Flags) (answer : Option Response) (facts : Facts) (rights : Rights) (t : SessionTable) (k : FileKey) (call : Call) → verdict_of (judgement fl answer facts rights t k call) ≡ heard answer facts.live (ruled fl facts rights t k call)
 heard_is fl answer facts rights t k call =
     ap verdict_of (either_first (option_map Ends (aborted answer)) (option_map Ends (gone facts.live)) _ (option_map Rules (ruled fl facts rights t k call) ∷ [])
-    (rules_first (conflicting rights k call) (touching fl facts call) (lacking fl facts t)))
+    (rules_first (conflicting rights k call) (touching fl facts call) (needing fl facts call) (lacking fl facts t)))
 
 -- ---- an access that is done
 
@@ -178,26 +179,27 @@ conflicting_asks : (other : Option Token) (call : Call) → Asks call (option_ma
 conflicting_asks None call = tt
 conflicting_asks (Some t) call = tt
 
-touching_asks : (asks : Bool) (call : Call) → Asks call (posts asks (kind_of call))
-touching_asks false call = tt
-touching_asks true (Read name offset len) = (λ is. cc, λ short is. absurd cc)
-touching_asks true (Write name offset bytes) = (λ is. cc, λ short is. absurd cc)
-touching_asks true (Truncate name size) = (λ is. cc, λ short is. refl)
-touching_asks true (Create name) = tt
-touching_asks true (Remove name) = tt
-touching_asks true (Stat name) = tt
-touching_asks true Sync = tt
+posts_asks : (asks : Bool) (call : Call) → Asks call (posts asks (kind_of call))
+posts_asks false call = tt
+posts_asks true (Read name offset len) = (λ is. cc, λ short is. absurd cc)
+posts_asks true (Write name offset bytes) = (λ is. cc, λ short is. absurd cc)
+posts_asks true (Truncate name size) = (λ is. cc, λ short is. refl)
+posts_asks true (Create name) = tt
+posts_asks true (Remove name) = tt
+posts_asks true (Stat name) = tt
+posts_asks true Sync = tt
 
 lacking_asks : (asks : Bool) (short : Option NoRoom) (call : Call) → Asks call (without_room asks short)
 lacking_asks asks None call = tt
 lacking_asks true (Some room) call = (λ is. cc, λ short is. absurd cc)
 lacking_asks false (Some room) call = tt
 
-first_asks : (w x y : Ruled) (call : Call) → Asks call w → Asks call x → Asks call y → Asks call (first_refusal (w ∷ x ∷ y ∷ []))
-first_asks (Some ruling) x y call first second third = first
-first_asks None (Some ruling) y call first second third = second
-first_asks None None (Some ruling) call first second third = third
-first_asks None None None call first second third = tt
+first_asks : (w x y z : Ruled) (call : Call) → Asks call w → Asks call x → Asks call y → Asks call z → Asks call (first_refusal (w ∷ x ∷ y ∷ z ∷ []))
+first_asks (Some ruling) x y z call first second third fourth = first
+first_asks None (Some ruling) y z call first second third fourth = second
+first_asks None None (Some ruling) z call first second third fourth = third
+first_asks None None None (Some ruling) call first second third fourth = fourth
+first_asks None None None None call first second third fourth = tt
 
 one_asks : (answer : Option Response) (live : Bool) (v : Ruled) (call : Call) (kind : Kind) → heard answer live v ≡ Post kind → Asks call v → (live ≡ true) × MayAsk call kind
 one_asks (Some (Abort error)) live v call kind is asks = absurd cc
@@ -221,13 +223,21 @@ module _ (fl : Flags) (answer : Option Response) (facts : Facts) (rights : Right
   heard_so : (v : Verdict) → said ≡ v → heard answer facts.live (ruled fl facts rights t k call) ≡ v
   heard_so v is = sym (heard_is fl answer facts rights t k call) ∙ is
 
-  pub complete : said ≡ Complete → (facts.live ≡ true) × (facts.short ≡ None)
+  -- the file lives, and no rule applies
+  pub record Unstopped : Type 0 where
+    pub live : facts.live ≡ true
+    pub touching : touching fl facts call ≡ None
+    pub needing : needing fl facts call ≡ None
+    pub short : facts.short ≡ None
+
+  pub complete : said ≡ Complete → Unstopped
   complete is =
       let none = no_ending answer facts.live (ruled fl facts rights t k call) (heard_so Complete is) in
-      let free = none_first (conflicting rights k call) (touching fl facts call ∷ lacking fl facts t ∷ []) none.1 in
-      let clear = none_first (touching fl facts call) (lacking fl facts t ∷ []) free.1 in
-      let room = none_first (lacking fl facts t) [] clear.1 in
-      (none.0, no_lack (not fl.spaced && is_taken kind.NoSpace t) facts.short room.0)
+      let free = none_first (conflicting rights k call) (touching fl facts call ∷ needing fl facts call ∷ lacking fl facts t ∷ []) none.1 in
+      let clear = none_first (touching fl facts call) (needing fl facts call ∷ lacking fl facts t ∷ []) free.1 in
+      let here = none_first (needing fl facts call) (lacking fl facts t ∷ []) clear.1 in
+      let room = none_first (lacking fl facts t) [] here.1 in
+      record { live = none.0; touching = clear.0; needing = here.0; short = no_lack (not fl.spaced && is_taken kind.NoSpace t) facts.short room.0 }
 
   -- only an abort ends an access by a response
   pub unaborted : (v : Verdict) → said ≡ v → ((response : Response) → v ≡ Answered response → ⊥) → is_abort answer ≡ false
@@ -244,5 +254,5 @@ module _ (fl : Flags) (answer : Option Response) (facts : Facts) (rights : Right
   pub posted : (asked : Kind) → said ≡ Post asked → (facts.live ≡ true) × MayAsk call asked
   posted asked is =
       one_asks answer facts.live (ruled fl facts rights t k call) call asked (heard_so (Post asked) is)
-      (first_asks (conflicting rights k call) (touching fl facts call) (lacking fl facts t) call (conflicting_asks (conflict k (need_of call) no_token rights) call)
-      (touching_asks (not fl.cleared && facts.touches) call) (lacking_asks (not fl.spaced && is_taken kind.NoSpace t) facts.short call))
+      (first_asks (conflicting rights k call) (touching fl facts call) (needing fl facts call) (lacking fl facts t) call (conflicting_asks (conflict k (need_of call) no_token rights) call)
+      (posts_asks (not fl.cleared && facts.touches) call) (posts_asks (fl.cleared && facts.needs) call) (lacking_asks (not fl.spaced && is_taken kind.NoSpace t) facts.short call))

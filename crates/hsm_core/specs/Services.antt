@@ -1,5 +1,5 @@
 -- How a session's call is served that its scope doesn't refuse: by its service, and by its change.
-use Rattle.std.specs.Prelude.{◌≡◌, ℕ, List, [], ◌∷◌, Option, Some, None, IsSome, Result, Ok, Err, IfOk, OnOk, OnErr}
+use Rattle.std.specs.Prelude.{◌≡◌, ℕ, List, [], ◌∷◌, length, map, Bool, true, false, Option, Some, None, is_some, IsSome, Result, Ok, Err, IfOk, OnOk, OnErr}
 use Rattle.disk_model.specs.declared.device.Disk as disk
 use Rattle.hsm_types.specs.Rights.{Rights, right_of, too_low, bad_right}
 use Rattle.hsm_types.specs.declared.keys.FileKey.{FileKey}
@@ -7,7 +7,9 @@ use Rattle.hsm_types.specs.declared.keys.Sid.{Sid}
 use Rattle.hsm_types.specs.declared.stores.Superblock.{Superblock}
 use Rattle.hsm_types.specs.declared.dm.Scope.{Scope}
 use Rattle.hsm_types.specs.declared.dm.Scope.TheVariants.{OnFile, OnRight}
+use Rattle.hsm_types.specs.Stubs.{Stubs}
 use Rattle.hsm_types.specs.declared.dm.DmCall.{DmCall}
+use Rattle.hsm_types.specs.declared.dm.DmCall.TheVariants.{ReadInvis, WriteInvis, PunchHole, ProbeHole, GetAllocInfo, Seal, Restore}
 use Rattle.hsm_types.specs.declared.dm.DmRefusal.{DmRefusal}
 use Rattle.hsm_types.specs.declared.dm.DmReply.{DmReply}
 use Rattle.hsm_types.specs.declared.dm.DmReply.TheVariants as reply
@@ -39,6 +41,29 @@ abbrev pub file_refusals : Superblock → List FileState → Rights → Scope �
 file_refusals s files rights (OnFile token handle right) = bad_handle s files handle ∷ bad_right token handle.key right rights ∷ []
 file_refusals s files rights (OnRight token handle right) = bad_handle s files handle ∷ too_low right (right_of token handle.key rights) ∷ []
 file_refusals s files rights scope = []
+
+-- ---- which calls these are
+
+-- those on bytes of a file without an event, and on what is held of its segments
+abbrev pub asks_segments : DmCall → Bool
+asks_segments (ReadInvis token handle offset len) = true
+asks_segments (WriteInvis token handle offset body) = true
+asks_segments (ProbeHole token handle offset len) = true
+asks_segments (GetAllocInfo token handle) = true
+asks_segments call = false
+
+-- those by which bytes of segments go away and come back
+abbrev pub moves_segments : DmCall → Bool
+moves_segments (PunchHole token handle offset len) = true
+moves_segments (Seal token handle segment entry) = true
+moves_segments (Restore token handle segment bytes) = true
+moves_segments call = false
+
+-- The file has so many bytes, its blocks lie at these places, and these are its stub entries.
+pub record IsMadeOf (bytes : ℕ) (places : List (Option ℕ)) (entries : Stubs) (f : FileState) : Type 0 where
+  pub size : length f.body ≡ bytes
+  pub mapped : f.mapped ≡ map is_some places
+  pub stubs : f.kept.stubs ≡ entries
 
 -- ---- how it is served
 
@@ -75,7 +100,7 @@ pub record IsPerformed {D : Type 0} (g : disk.Ghosts D) (old : FileStore D) (n :
   pub held : OnOk result (new.held ≡ held_where (change_of sid call) (asked (superblock_of old) old.held stamps t sid call).refusal old.held)
   pub ends : Ends g old n result new
 
--- The same of a call that changes what is kept with a file, by the files alone.
+-- The same of a call that asks of the files alone.
 pub record IsServed {D : Type 0} (g : disk.Ghosts D) (old : FileStore D) (n : ℕ) (call : DmCall) (result : Result (DmReply × DmReply) StoreRefusal) (new : FileStore D) : Type 0 where
   pub replies : IfOk result (λ r. AreOf (service_on old call) r)
   pub held : OnOk result (new.held ≡ held_where (change_of anybody call) (service_on old call).refusal old.held)

@@ -7,16 +7,16 @@ ghost use Rattle.plain_model.specs.declared.entries.Action.TheVariants.{Issue, R
 ghost use Rattle.plain_model.specs.declared.entries.Answer.TheVariants.{Call as Replied};
 ghost use Rattle.plain_model.specs.Ledger.{Means, goes_on};
 ghost use Rattle.plain_model.specs.Plain.{refusal_of};
-ghost use Rattle.plain_model.specs.State.{names_of, used};
+ghost use Rattle.plain_model.specs.State.{names_of};
 ghost use Rattle.plain_model.specs.Stands.{InOrder};
 ghost use Rattle.plain_model.specs.Synced.{syncs};
-ghost use Rattle.plain_model.specs.Verdict.{facts_of, reply_to};
+ghost use Rattle.plain_model.specs.Verdict.{reply_to};
 ghost use Rattle.indexmap.specs.IndexMap.{spare};
 ghost use Rattle.dm_service.specs.Services.{AreBoth};
 ghost use Rattle.dm_service.specs.Tables.{awaited_in, ledger_of, pending_as, waiting};
 ghost use Rattle.file_store.specs.Stores.{superblock_of, Proceeds};
 ghost use Rattle.hsm_core.specs.Store.{state_with};
-ghost use Rattle.hsm_core.specs.Targets.{EachLasts, IsBounded, IsMeant, IsTarget, MayComplete, key_in};
+ghost use Rattle.hsm_core.specs.Targets.{AreKnown, EachLasts, IsBounded, IsMeant, IsTarget, MayComplete, key_in};
 ghost use Rattle.hsm_core.specs.Crashes.{IsSynced};
 ghost use Rattle.hsm_core.specs.Outcomes.{ended_by, ends, is_aborted, is_fresh, IsAbort, IsFinished, IsReplied};
 
@@ -167,8 +167,8 @@ fn go_on<D: Disk>(
 fn facts_again<D: Disk>(files: &FileStore<D>, target: Option<Target>, call: &Call) -> Facts
     requires bounded { IsBounded call.now }
     requires target { IfSome target (λ t. IsTarget files.now.held.files t.key t) }
-    ensures { MatchOption target (result ≡ record { live = false; touches = false; short = None })
-        (λ t. (result ≡ facts_of (superblock_of files.now) files.now.held t.key call.now) × (used files.now.held.files ≤ (superblock_of files.now).geometry.blocks)) }
+    ensures { MatchOption target (result ≡ record { live = false; touches = false; needs = false; short = None })
+        (λ t. AreKnown (superblock_of files.now) files.now.held t.key call.now result) }
 {
     match target {
         Some(target) => facts(files, target, call),

@@ -4,12 +4,13 @@ ghost use Rattle.plain_model.specs.Keyed.{find_key};
 ghost use Rattle.plain_model.specs.Plain.{named, key_or_none, missing, refusal_of};
 ghost use Rattle.plain_model.specs.Accesses.{kind_of, reach};
 ghost use Rattle.plain_model.specs.State.{names_of, file_at, used};
-ghost use Rattle.plain_model.specs.Verdict.{touches_as, shortage, facts_of};
+ghost use Rattle.plain_model.specs.Verdict.{touches_as, shortage};
 ghost use Rattle.file_store.specs.Stores.{superblock_of};
 ghost use Rattle.dm_service.specs.Services.{Judges};
-ghost use Rattle.hsm_core.specs.Targets.{IsTarget, IsMeant, IsBounded};
+ghost use Rattle.hsm_core.specs.Targets.{AreKnown, IsTarget, IsMeant, IsBounded};
 
 use crate::lookups;
+use crate::needs::needs_segment;
 use crate::refusals::{
     judge_absence, judge_end, judge_inodes, judge_length, judge_name, judge_write,
 };
@@ -101,23 +102,24 @@ pub(crate) fn find_again<D: Disk>(files: &FileStore<D>, key: FileKey) -> Option<
 pub(crate) fn facts<D: Disk>(files: &FileStore<D>, target: Target, call: &Call) -> Facts
     requires target { IsTarget files.now.held.files target.key target }
     requires bounded { IsBounded call.now }
-    ensures facts { result ≡ facts_of (superblock_of files.now) files.now.held target.key call.now }
-    ensures mapped { used files.now.held.files ≤ (superblock_of files.now).geometry.blocks }
+    ensures { AreKnown (superblock_of files.now) files.now.held target.key call.now result }
 {
     Facts {
         live: true,
         touches: touches_region(files, target, call),
+        needs: needs_segment(files, target, call),
         short: shortage(files, target, call),
     }
 }
 
 /// What it knows of a call on no file, or on one that is gone.
 pub(crate) fn no_facts(live: bool) -> Facts
-    ensures { result ≡ record { live = live; touches = false; short = None } }
+    ensures { result ≡ record { live = live; touches = false; needs = false; short = None } }
 {
     Facts {
         live,
         touches: false,
+        needs: false,
         short: None,
     }
 }

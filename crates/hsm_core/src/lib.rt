@@ -4,6 +4,7 @@
 mod answering;
 mod judging;
 mod lookups;
+mod needs;
 mod parking;
 mod performing;
 mod refusals;

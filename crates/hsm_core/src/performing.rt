@@ -4,9 +4,10 @@ ghost use Rattle.hsm_types.specs.declared.calls.Call.TheVariants.{Create, Sync};
 ghost use Rattle.hsm_types.specs.declared.calls.Reply.TheVariants.{Made, Data};
 ghost use Rattle.plain_model.specs.Keyed.{find_key};
 ghost use Rattle.plain_model.specs.Plain.{read_at, refusal_of};
-ghost use Rattle.plain_model.specs.Effects.{Makes, Writes, Resizes, Drops};
+ghost use Rattle.plain_model.specs.Effects.{effect_of, Makes, Writes, Resizes, Drops};
 ghost use Rattle.plain_model.specs.Blocks.{touched};
-ghost use Rattle.plain_model.specs.State.{names_of, next_key, bytes_of, used, affected_held};
+ghost use Rattle.plain_model.specs.Sound.{IsSound};
+ghost use Rattle.plain_model.specs.State.{names_of, next_key, file_at, bytes_of, used, affected_held};
 ghost use Rattle.plain_model.specs.Verdict.{shortage, done_reply, done_held};
 ghost use Rattle.file_store.specs.Stores.{superblock_of, Proceeds};
 ghost use Rattle.dm_service.specs.Services.{AreBoth};
@@ -34,6 +35,7 @@ pub(crate) fn perform<D: Disk>(
     requires target { IsOn files.old.held.files target.key call.now (Some target) }
     requires fits { shortage (superblock_of files.old) files.old.held target.key call.now ≡ None }
     requires mapped { used files.old.held.files ≤ (superblock_of files.old).geometry.blocks }
+    requires sound { IsSound (effect_of call.now) (file_at target.key files.old.held.files) }
     ensures reply { IfOk result (λ r. AreBoth (done_reply files.old.held target.key call.now) r) }
     ensures held { OnOk result (files.new.held ≡ done_held files.old.held target.key call.now) }
     ensures ends { Ends D.Disk files.old number result files.new }
@@ -120,6 +122,7 @@ fn write<D: Disk>(
     requires live { IsSome (find_key (λ f. f.key) key files.old.held.files) }
     requires some { 1 ≤ length body.now }
     requires end { offset + length body.now ≤ 16777216 }
+    requires here { IsSound (Writes offset body.now) (file_at key files.old.held.files) }
     requires room { length (touched (Writes offset body.now) (length (bytes_of key files.old.held.files))) + used files.old.held.files ≤ (superblock_of files.old).geometry.blocks }
     ensures reply { IfOk result (λ r. AreBoth Reply.Done r) }
     ensures held { OnOk result (files.new.held ≡ record files.old.held { files = affected_held (Writes offset body.now) key files.old.held.files }) }
@@ -139,6 +142,7 @@ fn truncate<D: Disk>(
     requires working { files.old.failed ≡ false }
     requires live { IsSome (find_key (λ f. f.key) key files.old.held.files) }
     requires end { size ≤ 16777216 }
+    requires here { IsSound (Resizes size) (file_at key files.old.held.files) }
     requires room { length (touched (Resizes size) (length (bytes_of key files.old.held.files))) + used files.old.held.files ≤ (superblock_of files.old).geometry.blocks }
     ensures reply { IfOk result (λ r. AreBoth Reply.Done r) }
     ensures held { OnOk result (files.new.held ≡ record files.old.held { files = affected_held (Resizes size) key files.old.held.files }) }

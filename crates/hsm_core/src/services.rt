@@ -12,19 +12,25 @@ ghost use Rattle.hsm_core.specs.Services.{IsInScope, IsPerformed};
 
 mod attributes;
 mod handles;
+mod moving;
+mod ranges;
 mod regions;
 mod replies;
 mod rights;
 mod scope;
+mod segments;
 mod space;
+mod tables;
 
 use disk_model::Disk;
 use dm_service::{DmService, asks_rights, asks_tables};
 use file_store::{FileStore, StoreRefusal};
 use hsm_types::{DmCall, DmReply, FileKey, Sid};
 use indexmap::IndexMap;
+use moving::moves_segments;
 use replies::refused;
 use scope::judge_scope;
+use segments::asks_segments;
 use std::alloc::Global;
 
 /// Answers a session's call. The number is that of the last entry before. The reply comes twice, for the session and for the history.
@@ -76,6 +82,12 @@ fn perform<D: Disk>(
     requires within { IsInScope files.old.held.files (scope_of call.now) }
     ensures { (t : Tables) → IsPerformed D.Disk files.old number stamps.now.entries t sid call.now result files.new }
 {
+    if asks_segments(call) {
+        return segments::serve(files, alloc, call, number);
+    }
+    if moves_segments(call) {
+        return moving::serve(files, alloc, call, number);
+    }
     match call {
         DmCall::GetFileAttr { handle, .. } => Ok(handles::attributes(files, stamps, *handle)?),
         DmCall::SetRegion {
@@ -97,6 +109,7 @@ fn perform<D: Disk>(
         DmCall::GetAllDmAttr { handle, .. } => Ok(attributes::list(files, alloc, *handle)?),
         DmCall::PathToHandle { name } => Ok(handles::find(files, name)?),
         DmCall::GetSpace => Ok(space::space(files)?),
+        DmCall::GetTable => Ok(tables::table(files, stamps, alloc)?),
         _ => unreachable!(),
     }
 }

@@ -15,7 +15,7 @@ use Rattle.hsm_types.specs.declared.parts.Part.{Part}
 use Rattle.hsm_types.specs.declared.parts.Part.TheVariants as part
 use Rattle.hsm_types.specs.declared.parts.PartKind.{PartKind}
 use Rattle.hsm_types.specs.declared.parts.PartKind.TheVariants as kinds
-use Rattle.hsm_types.specs.Parts.{kind_of, number_in, count_in, fetch_in, word_in, handle_in, regions_in, name_in, kinds_in, response_in, right_in, data_in}
+use Rattle.hsm_types.specs.Parts.{kind_of, number_in, count_in, fetch_in, word_in, handle_in, regions_in, name_in, kinds_in, response_in, right_in, digest_in, data_in, verified_in}
 use Rattle.hsm_types.specs.Forms.{verb_text, verb_kinds, call_form, call_of, dm_verb_text, dm_verb_kinds, dm_form, dm_call_of}
 
 some_same : {A : Type 0} (x y : A) → Some x ≡ Some y → x ≡ y
@@ -35,7 +35,9 @@ made kinds.Name ps = part.Name (name_in ps)
 made kinds.Kinds ps = part.Kinds (kinds_in ps)
 made kinds.Response ps = part.Response (response_in ps)
 made kinds.Right ps = part.Right (right_in ps)
+made kinds.Digest ps = part.Digest (digest_in ps)
 made kinds.Data ps = part.Data (data_in ps)
+made kinds.Verified ps = part.Verified (verified_in ps)
 
 pub made-same : (p : Part) (ps : List Part) → made (kind_of p) (p ∷ ps) ≡ p
 made-same (part.Number n) ps = refl

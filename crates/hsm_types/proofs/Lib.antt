@@ -4,3 +4,4 @@ mod Finding
 pub mod Forming
 pub mod Queues
 pub mod Righted
+pub mod Stubbing

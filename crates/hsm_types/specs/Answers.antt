@@ -14,10 +14,13 @@ pub data ReplyKind : Type 0 where
   OfRight : ReplyKind
   OfAttr : ReplyKind
   OfData : ReplyKind
+  OfRange : ReplyKind
+  OfAlloc : ReplyKind
   OfRegions : ReplyKind
   OfNames : ReplyKind
   OfHandle : ReplyKind
   OfSpace : ReplyKind
+  OfTable : ReplyKind
   OfRefusal : ReplyKind
 
 abbrev pub reply_kind : DmReply → ReplyKind
@@ -32,8 +35,11 @@ reply_kind (told.Token token) = OfToken
 reply_kind (told.Right right) = OfRight
 reply_kind (told.Attr size stamp blocks) = OfAttr
 reply_kind (told.Data bytes) = OfData
+reply_kind (told.Range offset len) = OfRange
+reply_kind (told.Alloc segments) = OfAlloc
 reply_kind (told.Regions regions) = OfRegions
 reply_kind (told.Names names) = OfNames
 reply_kind (told.Handle handle) = OfHandle
 reply_kind (told.Space used total) = OfSpace
+reply_kind (told.Table table) = OfTable
 reply_kind (told.Refused why) = OfRefusal

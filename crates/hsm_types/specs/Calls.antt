@@ -1,6 +1,6 @@
 -- Who may make a session's call, and what it names.
 use Rattle.hsm_types.specs.declared.dm.DmCall.{DmCall}
-use Rattle.hsm_types.specs.declared.dm.DmCall.TheVariants.{CreateSession, DestroySession, GetAllSessions, QuerySession, SetDisp, GetDisp, GetEvents, GetAllTokens, FindEventMsg, Respond, CreateUserEvent, SendMsg, RequestRight, ReleaseRight, QueryRight, UpgradeRight, DowngradeRight, GetFileAttr, SetRegion, GetRegion, SetDmAttr, GetDmAttr, RemoveDmAttr, GetAllDmAttr, PathToHandle, GetSpace}
+use Rattle.hsm_types.specs.declared.dm.DmCall.TheVariants.{CreateSession, DestroySession, GetAllSessions, QuerySession, SetDisp, GetDisp, GetEvents, GetAllTokens, FindEventMsg, Respond, CreateUserEvent, SendMsg, RequestRight, ReleaseRight, QueryRight, UpgradeRight, DowngradeRight, GetFileAttr, SetRegion, GetRegion, SetDmAttr, GetDmAttr, RemoveDmAttr, GetAllDmAttr, ReadInvis, WriteInvis, PunchHole, ProbeHole, GetAllocInfo, Seal, Restore, PathToHandle, GetSpace, GetTable}
 use Rattle.hsm_types.specs.declared.dm.Right.TheVariants.{Null, Shared, Excl}
 use Rattle.hsm_types.specs.declared.dm.Scope.{Scope}
 use Rattle.hsm_types.specs.declared.dm.Scope.TheVariants.{Anyone, InSession, OnToken, OnFile, OnRight}
@@ -30,5 +30,13 @@ scope_of (SetDmAttr token handle name value) = OnFile token handle Excl
 scope_of (GetDmAttr token handle name) = OnFile token handle Shared
 scope_of (RemoveDmAttr token handle name) = OnFile token handle Excl
 scope_of (GetAllDmAttr token handle) = OnFile token handle Shared
+scope_of (ReadInvis token handle offset len) = OnFile token handle Shared
+scope_of (WriteInvis token handle offset body) = OnFile token handle Excl
+scope_of (PunchHole token handle offset len) = OnFile token handle Excl
+scope_of (ProbeHole token handle offset len) = OnFile token handle Shared
+scope_of (GetAllocInfo token handle) = OnFile token handle Shared
+scope_of (Seal token handle segment entry) = OnFile token handle Excl
+scope_of (Restore token handle segment bytes) = OnFile token handle Excl
 scope_of (PathToHandle name) = InSession
 scope_of GetSpace = InSession
+scope_of GetTable = InSession

@@ -3,7 +3,7 @@ use Rattle.std.specs.Prelude.{ℕ, List, [], ◌∷◌, codes, drop}
 use Rattle.hsm_types.specs.declared.calls.Call.{Call}
 use Rattle.hsm_types.specs.declared.calls.Call.TheVariants.{Create, Read, Write, Truncate, Remove, Stat, Sync}
 use Rattle.hsm_types.specs.declared.dm.DmCall.{DmCall}
-use Rattle.hsm_types.specs.declared.dm.DmCall.TheVariants.{CreateSession, DestroySession, GetAllSessions, QuerySession, SetDisp, GetDisp, GetEvents, GetAllTokens, FindEventMsg, Respond, CreateUserEvent, SendMsg, RequestRight, ReleaseRight, QueryRight, UpgradeRight, DowngradeRight, GetFileAttr, SetRegion, GetRegion, SetDmAttr, GetDmAttr, RemoveDmAttr, GetAllDmAttr, PathToHandle, GetSpace}
+use Rattle.hsm_types.specs.declared.dm.DmCall.TheVariants.{CreateSession, DestroySession, GetAllSessions, QuerySession, SetDisp, GetDisp, GetEvents, GetAllTokens, FindEventMsg, Respond, CreateUserEvent, SendMsg, RequestRight, ReleaseRight, QueryRight, UpgradeRight, DowngradeRight, GetFileAttr, SetRegion, GetRegion, SetDmAttr, GetDmAttr, RemoveDmAttr, GetAllDmAttr, ReadInvis, WriteInvis, PunchHole, ProbeHole, GetAllocInfo, Seal, Restore, PathToHandle, GetSpace, GetTable}
 use Rattle.hsm_types.specs.declared.forms.CallVerb.{CallVerb}
 use Rattle.hsm_types.specs.declared.forms.CallVerb.TheVariants as verbs
 use Rattle.hsm_types.specs.declared.forms.DmVerb.{DmVerb}
@@ -12,8 +12,8 @@ use Rattle.hsm_types.specs.declared.parts.Part.{Part}
 use Rattle.hsm_types.specs.declared.parts.Part.TheVariants as part
 use Rattle.hsm_types.specs.declared.parts.PartKind.{PartKind}
 use Rattle.hsm_types.specs.declared.parts.PartKind.TheVariants as kinds
-use Rattle.hsm_types.specs.Answers.{ReplyKind, OfDone, OfSession, OfSids, OfInfo, OfKinds, OfPacked, OfTokens, OfToken, OfRight, OfAttr, OfData, OfRegions, OfNames, OfHandle, OfSpace}
-use Rattle.hsm_types.specs.Parts.{number_in, count_in, fetch_in, word_in, handle_in, regions_in, name_in, kinds_in, response_in, right_in, data_in}
+use Rattle.hsm_types.specs.Answers.{ReplyKind, OfDone, OfSession, OfSids, OfInfo, OfKinds, OfPacked, OfTokens, OfToken, OfRight, OfAttr, OfData, OfRange, OfAlloc, OfRegions, OfNames, OfHandle, OfSpace, OfTable}
+use Rattle.hsm_types.specs.Parts.{number_in, count_in, fetch_in, word_in, handle_in, regions_in, name_in, kinds_in, response_in, right_in, entry_in, data_in, verified_in}
 
 -- ---- callers
 
@@ -80,8 +80,16 @@ dm_verb_row dm_verbs.SetDmAttr = (codes "setattr", kinds.Number ∷ kinds.Handle
 dm_verb_row dm_verbs.GetDmAttr = (codes "getattr", kinds.Number ∷ kinds.Handle ∷ kinds.Name ∷ [], OfData)
 dm_verb_row dm_verbs.RemoveDmAttr = (codes "rmattr", kinds.Number ∷ kinds.Handle ∷ kinds.Name ∷ [], OfDone)
 dm_verb_row dm_verbs.GetAllDmAttr = (codes "attrs", kinds.Number ∷ kinds.Handle ∷ [], OfNames)
+dm_verb_row dm_verbs.ReadInvis = (codes "readinvis", kinds.Number ∷ kinds.Handle ∷ kinds.Number ∷ kinds.Fetch ∷ [], OfData)
+dm_verb_row dm_verbs.WriteInvis = (codes "writeinvis", kinds.Number ∷ kinds.Handle ∷ kinds.Number ∷ kinds.Data ∷ [], OfDone)
+dm_verb_row dm_verbs.PunchHole = (codes "punch", kinds.Number ∷ kinds.Handle ∷ kinds.Number ∷ kinds.Number ∷ [], OfDone)
+dm_verb_row dm_verbs.ProbeHole = (codes "probe", kinds.Number ∷ kinds.Handle ∷ kinds.Number ∷ kinds.Number ∷ [], OfRange)
+dm_verb_row dm_verbs.GetAllocInfo = (codes "alloc", kinds.Number ∷ kinds.Handle ∷ [], OfAlloc)
+dm_verb_row dm_verbs.Seal = (codes "seal", kinds.Number ∷ kinds.Handle ∷ kinds.Count ∷ kinds.Count ∷ kinds.Count ∷ kinds.Count ∷ kinds.Digest ∷ [], OfDone)
+dm_verb_row dm_verbs.Restore = (codes "restore", kinds.Number ∷ kinds.Handle ∷ kinds.Count ∷ kinds.Verified ∷ [], OfDone)
 dm_verb_row dm_verbs.PathToHandle = (codes "handle", kinds.Word ∷ [], OfHandle)
 dm_verb_row dm_verbs.GetSpace = (codes "space", [], OfSpace)
+dm_verb_row dm_verbs.GetTable = (codes "table", [], OfTable)
 
 abbrev pub dm_verb_text : DmVerb → List ℕ
 dm_verb_text verb = (dm_verb_row verb).0
@@ -114,8 +122,19 @@ dm_form (SetDmAttr token handle name value) = (dm_verbs.SetDmAttr, part.Number t
 dm_form (GetDmAttr token handle name) = (dm_verbs.GetDmAttr, part.Number token.0 ∷ part.Handle handle ∷ part.Name name ∷ [])
 dm_form (RemoveDmAttr token handle name) = (dm_verbs.RemoveDmAttr, part.Number token.0 ∷ part.Handle handle ∷ part.Name name ∷ [])
 dm_form (GetAllDmAttr token handle) = (dm_verbs.GetAllDmAttr, part.Number token.0 ∷ part.Handle handle ∷ [])
+dm_form (ReadInvis token handle offset len) = (dm_verbs.ReadInvis, part.Number token.0 ∷ part.Handle handle ∷ part.Number offset ∷ part.Fetch len ∷ [])
+dm_form (WriteInvis token handle offset body) = (dm_verbs.WriteInvis, part.Number token.0 ∷ part.Handle handle ∷ part.Number offset ∷ part.Data body ∷ [])
+dm_form (PunchHole token handle offset len) = (dm_verbs.PunchHole, part.Number token.0 ∷ part.Handle handle ∷ part.Number offset ∷ part.Number len ∷ [])
+dm_form (ProbeHole token handle offset len) = (dm_verbs.ProbeHole, part.Number token.0 ∷ part.Handle handle ∷ part.Number offset ∷ part.Number len ∷ [])
+dm_form (GetAllocInfo token handle) = (dm_verbs.GetAllocInfo, part.Number token.0 ∷ part.Handle handle ∷ [])
+dm_form (Seal token handle segment entry) = (
+  dm_verbs.Seal,
+  part.Number token.0 ∷ part.Handle handle ∷ part.Count segment ∷ part.Count entry.volume ∷ part.Count entry.object ∷ part.Count entry.print.len ∷ part.Digest entry.print.digest ∷ [],
+)
+dm_form (Restore token handle segment bytes) = (dm_verbs.Restore, part.Number token.0 ∷ part.Handle handle ∷ part.Count segment ∷ part.Verified bytes ∷ [])
 dm_form (PathToHandle name) = (dm_verbs.PathToHandle, part.Word name ∷ [])
 dm_form GetSpace = (dm_verbs.GetSpace, [])
+dm_form GetTable = (dm_verbs.GetTable, [])
 
 abbrev pub dm_call_of : DmVerb → List Part → DmCall
 dm_call_of dm_verbs.CreateSession ps = CreateSession (record { 0 = number_in ps }) (word_in (drop 1 ps))
@@ -142,8 +161,16 @@ dm_call_of dm_verbs.SetDmAttr ps = SetDmAttr (record { 0 = number_in ps }) (hand
 dm_call_of dm_verbs.GetDmAttr ps = GetDmAttr (record { 0 = number_in ps }) (handle_in (drop 1 ps)) (name_in (drop 1 (drop 1 ps)))
 dm_call_of dm_verbs.RemoveDmAttr ps = RemoveDmAttr (record { 0 = number_in ps }) (handle_in (drop 1 ps)) (name_in (drop 1 (drop 1 ps)))
 dm_call_of dm_verbs.GetAllDmAttr ps = GetAllDmAttr (record { 0 = number_in ps }) (handle_in (drop 1 ps))
+dm_call_of dm_verbs.ReadInvis ps = ReadInvis (record { 0 = number_in ps }) (handle_in (drop 1 ps)) (number_in (drop 1 (drop 1 ps))) (fetch_in (drop 1 (drop 1 (drop 1 ps))))
+dm_call_of dm_verbs.WriteInvis ps = WriteInvis (record { 0 = number_in ps }) (handle_in (drop 1 ps)) (number_in (drop 1 (drop 1 ps))) (data_in (drop 1 (drop 1 (drop 1 ps))))
+dm_call_of dm_verbs.PunchHole ps = PunchHole (record { 0 = number_in ps }) (handle_in (drop 1 ps)) (number_in (drop 1 (drop 1 ps))) (number_in (drop 1 (drop 1 (drop 1 ps))))
+dm_call_of dm_verbs.ProbeHole ps = ProbeHole (record { 0 = number_in ps }) (handle_in (drop 1 ps)) (number_in (drop 1 (drop 1 ps))) (number_in (drop 1 (drop 1 (drop 1 ps))))
+dm_call_of dm_verbs.GetAllocInfo ps = GetAllocInfo (record { 0 = number_in ps }) (handle_in (drop 1 ps))
+dm_call_of dm_verbs.Seal ps = Seal (record { 0 = number_in ps }) (handle_in (drop 1 ps)) (count_in (drop 1 (drop 1 ps))) (entry_in (drop 1 (drop 1 (drop 1 ps))))
+dm_call_of dm_verbs.Restore ps = Restore (record { 0 = number_in ps }) (handle_in (drop 1 ps)) (count_in (drop 1 (drop 1 ps))) (verified_in (drop 1 (drop 1 (drop 1 ps))))
 dm_call_of dm_verbs.PathToHandle ps = PathToHandle (word_in ps)
 dm_call_of dm_verbs.GetSpace ps = GetSpace
+dm_call_of dm_verbs.GetTable ps = GetTable
 
 -- the kind of the answer to a call that is done
 abbrev pub answer_kind : DmCall → ReplyKind

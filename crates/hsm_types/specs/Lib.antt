@@ -11,4 +11,6 @@ pub mod Parts
 pub mod Refusals
 pub mod Regions
 pub mod Rights
+pub mod Segments
 pub mod Sessions
+pub mod Stubs

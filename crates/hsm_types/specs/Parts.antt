@@ -1,5 +1,5 @@
 -- The parts of which calls are made.
-use Rattle.std.specs.Prelude.{ℕ, List, [], ◌∷◌, length, min, sum_by, replicate, Option, Some, None}
+use Rattle.std.specs.Prelude.{ℕ, List, [], ◌∷◌, length, min, sum_by, replicate, drop, Option, Some, None}
 use Rattle.hsm_types.specs.declared.attributes.AttrName.{AttrName}
 use Rattle.hsm_types.specs.Messages.{no_kinds}
 use Rattle.hsm_types.specs.declared.dm.Kinds.{Kinds}
@@ -9,6 +9,8 @@ use Rattle.hsm_types.specs.declared.dm.Right.{Right}
 use Rattle.hsm_types.specs.declared.dm.Right.TheVariants.{Null}
 use Rattle.hsm_types.specs.declared.keys.Handle.{Handle}
 use Rattle.hsm_types.specs.declared.regions.Region.{Region}
+use Rattle.hsm_types.specs.declared.stubs.Digest.{Digest}
+use Rattle.hsm_types.specs.declared.stubs.StubEntry.{StubEntry}
 use Rattle.hsm_types.specs.declared.parts.PartKind.{PartKind}
 use Rattle.hsm_types.specs.declared.parts.PartKind.TheVariants as kinds
 use Rattle.hsm_types.specs.declared.parts.Part.{Part}
@@ -27,7 +29,9 @@ kind_of (part.Name name) = kinds.Name
 kind_of (part.Kinds taken) = kinds.Kinds
 kind_of (part.Response response) = kinds.Response
 kind_of (part.Right right) = kinds.Right
+kind_of (part.Digest digest) = kinds.Digest
 kind_of (part.Data bytes) = kinds.Data
+kind_of (part.Verified bytes) = kinds.Verified
 
 -- a part that is lent
 abbrev pub part_of : PartRef → Part
@@ -41,7 +45,9 @@ part_of (lent.Name name) = part.Name name
 part_of (lent.Kinds taken) = part.Kinds taken
 part_of (lent.Response response) = part.Response response
 part_of (lent.Right right) = part.Right right
+part_of (lent.Digest digest) = part.Digest digest
 part_of (lent.Data bytes) = part.Data bytes.now
+part_of (lent.Verified bytes) = part.Verified bytes.now
 
 -- the parts that are lent in as many places or more
 abbrev pub parts_in : List (Option PartRef) → List Part
@@ -53,6 +59,7 @@ parts_in (Some part ∷ places) = part_of part ∷ parts_in places
 abbrev pub part_access : Part → ℕ
 part_access (part.Fetch len) = min len 65536
 part_access (part.Data bytes) = length bytes
+part_access (part.Verified bytes) = length bytes
 part_access other = 0
 
 -- the bytes that parts bring or may fetch together
@@ -100,6 +107,22 @@ response_in parts = Continue
 abbrev pub right_in : List Part → Right
 right_in (part.Right right ∷ parts) = right
 right_in parts = Null
+
+abbrev pub digest_in : List Part → Digest
+digest_in (part.Digest digest ∷ parts) = digest
+digest_in parts = record { 0 = replicate 32 0 }
+
+-- of the first four parts
+abbrev pub entry_in : List Part → StubEntry
+entry_in parts = record {
+  volume = count_in parts;
+  object = count_in (drop 1 parts);
+  print = record { len = count_in (drop 1 (drop 1 parts)); digest = digest_in (drop 1 (drop 1 (drop 1 parts))) };
+}
+
+abbrev pub verified_in : List Part → List ℕ
+verified_in (part.Verified bytes ∷ parts) = bytes
+verified_in parts = []
 
 abbrev pub data_in : List Part → List ℕ
 data_in (part.Data bytes ∷ parts) = bytes

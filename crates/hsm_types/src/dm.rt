@@ -6,7 +6,9 @@ ghost use Rattle.hsm_types.specs.Rights.{reaches, excludes};
 
 use crate::attributes::AttrName;
 use crate::keys::{Handle, Sid, Token};
-use crate::lists::{Bytes, Names, Regions, Sids, Tokens, Word};
+use crate::lists::{Bytes, Names, Regions, Segments, Sids, Tokens, Word};
+use crate::stubs::{Fingerprint, StubEntry, Verified};
+use crate::tables::Table;
 use thiserror::Error;
 
 /// What a session asks of the store.
@@ -112,10 +114,58 @@ pub enum DmCall {
         token: Token,
         handle: Handle,
     },
+    /// At most so many bytes of the file from the offset on, whatever regions there are. It leaves the file's stamp.
+    ReadInvis {
+        token: Token,
+        handle: Handle,
+        offset: u64,
+        len: u64,
+    },
+    /// Writes over bytes of the file, likewise.
+    WriteInvis {
+        token: Token,
+        handle: Handle,
+        offset: u64,
+        body: Bytes,
+    },
+    /// Gives up the bytes of sealed segments: their entries stand for them. With a length of 0 all from the offset on.
+    PunchHole {
+        token: Token,
+        handle: Handle,
+        offset: u64,
+        len: u64,
+    },
+    /// The range within this one that could be punched.
+    ProbeHole {
+        token: Token,
+        handle: Handle,
+        offset: u64,
+        len: u64,
+    },
+    /// What is held of each segment of the file.
+    GetAllocInfo {
+        token: Token,
+        handle: Handle,
+    },
+    /// Says where a copy of the segment's bytes lies, whose fingerprint has to be that of the bytes.
+    Seal {
+        token: Token,
+        handle: Handle,
+        segment: u32,
+        entry: StubEntry,
+    },
+    /// Brings the bytes of a segment that is offline back. They need the fingerprint of its entry.
+    Restore {
+        token: Token,
+        handle: Handle,
+        segment: u32,
+        bytes: Verified,
+    },
     PathToHandle {
         name: Word,
     },
     GetSpace,
+    GetTable,
 }
 
 /// The kinds of events, each of which is told by a message.
@@ -275,7 +325,10 @@ impl DmCall {
             DmCall::GetFileAttr { token, handle }
             | DmCall::GetRegion { token, handle }
             | DmCall::GetDmAttr { token, handle, .. }
-            | DmCall::GetAllDmAttr { token, handle } => Scope::OnFile {
+            | DmCall::GetAllDmAttr { token, handle }
+            | DmCall::ReadInvis { token, handle, .. }
+            | DmCall::ProbeHole { token, handle, .. }
+            | DmCall::GetAllocInfo { token, handle } => Scope::OnFile {
                 token: *token,
                 handle: *handle,
                 right: Right::Shared,
@@ -299,7 +352,11 @@ impl DmCall {
             },
             DmCall::SetRegion { token, handle, .. }
             | DmCall::SetDmAttr { token, handle, .. }
-            | DmCall::RemoveDmAttr { token, handle, .. } => Scope::OnFile {
+            | DmCall::RemoveDmAttr { token, handle, .. }
+            | DmCall::WriteInvis { token, handle, .. }
+            | DmCall::PunchHole { token, handle, .. }
+            | DmCall::Seal { token, handle, .. }
+            | DmCall::Restore { token, handle, .. } => Scope::OnFile {
                 token: *token,
                 handle: *handle,
                 right: Right::Excl,
@@ -312,7 +369,8 @@ impl DmCall {
             | DmCall::CreateUserEvent { .. }
             | DmCall::SendMsg { .. }
             | DmCall::PathToHandle { .. }
-            | DmCall::GetSpace => Scope::InSession,
+            | DmCall::GetSpace
+            | DmCall::GetTable => Scope::InSession,
         }
     }
 }
@@ -336,14 +394,18 @@ pub enum DmReply {
     Right(Right),
     /// A file's size in bytes, the number of the last event that completed a read, write or truncate of it, and how many of its blocks are mapped.
     Attr { size: u64, stamp: u64, blocks: u64 },
-    /// The value of an attribute.
+    /// The value of an attribute, or bytes of a file.
     Data(Bytes),
+    Range { offset: u64, len: u64 },
+    /// What is held of each segment, from the first on.
+    Alloc(Segments),
     Regions(Regions),
     /// The names of the file's attributes, in their order.
     Names(Names),
     Handle(Handle),
     /// How many blocks are mapped, and how many there are.
     Space { used: u64, total: u64 },
+    Table(Table),
     Refused(DmRefusal),
 }
 
@@ -381,8 +443,26 @@ pub enum DmRefusal {
     Reserved,
     #[error("the value's length {len} is out of bounds")]
     AttrTooBig { len: u64 },
+    /// The lowest segment that is meant and offline.
+    #[error("the segment {segment} is offline")]
+    Offline { segment: u32 },
+    #[error("the segment {segment} is not sealed")]
+    NotSealed { segment: u32 },
+    #[error("the segment {segment} is not offline")]
+    NotOffline { segment: u32 },
+    /// The fingerprint that the bytes should have, and the one that they have.
+    #[error("the bytes have another fingerprint")]
+    Changed { want: Fingerprint, got: Fingerprint },
+    /// The lowest segment that is meant and that no region with all flags contains.
+    #[error("the segment {segment} is not covered")]
+    Uncovered { segment: u32 },
+    #[error("the range is out of bounds")]
+    BadRange,
     #[error("an abort's error is from 1 to 255")]
     BadResponse,
+    /// More blocks are needed than are free.
+    #[error("{need} blocks are needed, and {free} are free")]
+    NoSpace { need: u64, free: u64 },
     #[error("the count {count} is out of bounds")]
     TooMany { count: u64 },
     /// A call of the disk failed in this event, or the store is closed by such a fault.

@@ -10,7 +10,7 @@ use crate::limits::ACCESS_BYTES;
 use crate::parts::{PartKind, PartRef, Parts};
 
 /// The most parts of a call.
-pub const CALL_PARTS: usize = 4;
+pub const CALL_PARTS: usize = 7;
 
 /// The forms of callers' calls, each a row: the call, whose name its verb has too, the verb's text, and the fields with the part that each is.
 macro_rules! call_forms {
@@ -55,8 +55,16 @@ macro_rules! dm_forms {
             GetDmAttr b"getattr" { token: Token, handle: Handle, name: Name }
             RemoveDmAttr b"rmattr" { token: Token, handle: Handle, name: Name }
             GetAllDmAttr b"attrs" { token: Token, handle: Handle }
+            ReadInvis b"readinvis" { token: Token, handle: Handle, offset: Number, len: Fetch }
+            WriteInvis b"writeinvis" { token: Token, handle: Handle, offset: Number, body: Data }
+            PunchHole b"punch" { token: Token, handle: Handle, offset: Number, len: Number }
+            ProbeHole b"probe" { token: Token, handle: Handle, offset: Number, len: Number }
+            GetAllocInfo b"alloc" { token: Token, handle: Handle }
+            Seal b"seal" { token: Token, handle: Handle, segment: Count, entry: Entry }
+            Restore b"restore" { token: Token, handle: Handle, segment: Count, bytes: Verified }
             PathToHandle b"handle" { name: Word }
             GetSpace b"space" {}
+            GetTable b"table" {}
         }
     };
 }
@@ -100,8 +108,16 @@ pub enum DmVerb {
     GetDmAttr,
     RemoveDmAttr,
     GetAllDmAttr,
+    ReadInvis,
+    WriteInvis,
+    PunchHole,
+    ProbeHole,
+    GetAllocInfo,
+    Seal,
+    Restore,
     PathToHandle,
     GetSpace,
+    GetTable,
 }
 
 macro_rules! all_verbs {
@@ -116,16 +132,20 @@ macro_rules! text_of {
     };
 }
 
-/// The kind of a field's part: ids and tokens are spelled as numbers.
-macro_rules! kind_of {
-    (Sid) => { PartKind::Number };
-    (Token) => { PartKind::Number };
-    ($part:ident) => { PartKind::$part };
+/// The kinds of fields' parts: ids and tokens are spelled as numbers, and a stub entry as four parts.
+macro_rules! kinds {
+    ([$($kind:expr),*]) => { &[$($kind),*] };
+    ([$($kind:expr),*] Sid $($rest:ident)*) => { kinds!([$($kind,)* PartKind::Number] $($rest)*) };
+    ([$($kind:expr),*] Token $($rest:ident)*) => { kinds!([$($kind,)* PartKind::Number] $($rest)*) };
+    ([$($kind:expr),*] Entry $($rest:ident)*) => {
+        kinds!([$($kind,)* PartKind::Count, PartKind::Count, PartKind::Count, PartKind::Digest] $($rest)*)
+    };
+    ([$($kind:expr),*] $part:ident $($rest:ident)*) => { kinds!([$($kind,)* PartKind::$part] $($rest)*) };
 }
 
 macro_rules! kinds_of {
     (($of:expr) $calls:ident $verbs:ident $($call:ident $text:literal { $($field:ident: $part:ident),* })*) => {
-        match $of { $($verbs::$call => &[$(kind_of!($part)),*],)* }
+        match $of { $($verbs::$call => kinds!([] $($part)*),)* }
     };
 }
 
@@ -140,29 +160,40 @@ macro_rules! bound {
     (Word $field:ident) => { ref $field };
     (Regions $field:ident) => { ref $field };
     (Data $field:ident) => { ref $field };
+    (Verified $field:ident) => { ref $field };
     ($part:ident $field:ident) => { $field };
 }
 
-/// A bound field as a part.
+/// Bound fields as parts.
 macro_rules! lent {
-    (Sid $field:ident) => { PartRef::Number($field.0) };
-    (Token $field:ident) => { PartRef::Number($field.0) };
-    ($part:ident $field:ident) => { PartRef::$part($field) };
+    ([$($lent:expr),*]) => { padded!($($lent),*) };
+    ([$($lent:expr),*] Sid $field:ident $($rest:ident)*) => { lent!([$($lent,)* PartRef::Number($field.0)] $($rest)*) };
+    ([$($lent:expr),*] Token $field:ident $($rest:ident)*) => { lent!([$($lent,)* PartRef::Number($field.0)] $($rest)*) };
+    ([$($lent:expr),*] Entry $field:ident $($rest:ident)*) => {
+        lent!([
+            $($lent,)*
+            PartRef::Count($field.volume), PartRef::Count($field.object), PartRef::Count($field.print.len), PartRef::Digest($field.print.digest)
+        ] $($rest)*)
+    };
+    ([$($lent:expr),*] $part:ident $field:ident $($rest:ident)*) => { lent!([$($lent,)* PartRef::$part($field)] $($rest)*) };
 }
 
 /// As many parts as there may be, with none in the places that are left.
 macro_rules! padded {
-    () => { [None, None, None, None] };
-    ($a:expr) => { [Some($a), None, None, None] };
-    ($a:expr, $b:expr) => { [Some($a), Some($b), None, None] };
-    ($a:expr, $b:expr, $c:expr) => { [Some($a), Some($b), Some($c), None] };
-    ($a:expr, $b:expr, $c:expr, $d:expr) => { [Some($a), Some($b), Some($c), Some($d)] };
+    () => { [None, None, None, None, None, None, None] };
+    ($a:expr) => { [Some($a), None, None, None, None, None, None] };
+    ($a:expr, $b:expr) => { [Some($a), Some($b), None, None, None, None, None] };
+    ($a:expr, $b:expr, $c:expr) => { [Some($a), Some($b), Some($c), None, None, None, None] };
+    ($a:expr, $b:expr, $c:expr, $d:expr) => { [Some($a), Some($b), Some($c), Some($d), None, None, None] };
+    ($a:expr, $b:expr, $c:expr, $d:expr, $e:expr, $f:expr, $g:expr) => {
+        [Some($a), Some($b), Some($c), Some($d), Some($e), Some($f), Some($g)]
+    };
 }
 
 macro_rules! parts_of {
     (($of:expr) $calls:ident $verbs:ident $($call:ident $text:literal { $($field:ident: $part:ident),* })*) => {
         match *$of {
-            $($calls::$call { $($field: bound!($part $field)),* } => padded!($(lent!($part $field)),*),)*
+            $($calls::$call { $($field: bound!($part $field)),* } => lent!([] $($part $field)*),)*
         }
     };
 }
@@ -181,7 +212,9 @@ macro_rules! taken {
     (Kinds $parts:ident) => { $parts.kinds() };
     (Response $parts:ident) => { $parts.response() };
     (Right $parts:ident) => { $parts.right() };
+    (Entry $parts:ident) => { $parts.entry() };
     (Data $parts:ident) => { $parts.data() };
+    (Verified $parts:ident) => { $parts.verified() };
 }
 
 macro_rules! call_of {
@@ -196,6 +229,7 @@ macro_rules! call_of {
 macro_rules! access {
     (Fetch $field:ident) => { (*$field).min(ACCESS_BYTES) };
     (Data $field:ident) => { $field.as_slice().len() as u64 };
+    (Verified $field:ident) => { $field.as_slice().len() as u64 };
     ($part:ident $field:ident) => { 0 };
 }
 
@@ -209,7 +243,7 @@ macro_rules! access_of {
 const CALL_VERBS: [CallVerb; 7] = call_forms!(all_verbs());
 
 /// All of them, likewise.
-const DM_VERBS: [DmVerb; 26] = dm_forms!(all_verbs());
+const DM_VERBS: [DmVerb; 34] = dm_forms!(all_verbs());
 
 impl CallVerb {
     pub fn text(self) -> &'static [u8]

@@ -13,6 +13,8 @@ mod names;
 mod parts;
 mod regions;
 mod stores;
+mod stubs;
+mod tables;
 
 pub use attributes::{ATTRIBUTE_BYTES, ATTRIBUTE_COST, AttrName};
 pub use calls::{Call, CallRefusal, Reply};
@@ -23,9 +25,11 @@ pub use limits::{
     ACCESS_BYTES, BLOCK_BYTES, CALLERS, FILE_BYTES, INFO_BYTES, LIVE_SESSIONS, MESSAGE_BYTES,
     NAME_BYTES, SEGMENT_BYTES, USER_TOKENS, WAITING_MESSAGES,
 };
-pub use lists::{Bytes, ListOf, Names, Regions, Sids, Tokens, Word};
+pub use lists::{Bytes, FileRows, ListOf, Names, Regions, Segments, Sids, Tokens, Word};
 pub use messages::{Message, Packed};
 pub use names::can_name;
 pub use parts::{Part, PartKind, PartRef, Parts};
 pub use regions::{REGION_READ, REGION_TRUNCATE, REGION_WRITE, REGIONS, Range, Region};
 pub use stores::{Geometry, SMALL, Superblock};
+pub use stubs::{Changed, Digest, Fingerprint, LAST_VOLUME, Segment, Stub, StubEntry, Verified};
+pub use tables::{FileRow, Table};

@@ -5,7 +5,9 @@ ghost use Rattle.std.specs.Cmp.Lexicographic.{pointwise, lists_per};
 use crate::attributes::AttrName;
 use crate::keys::{Sid, Token};
 use crate::regions::Region;
-use std::alloc::AllocError;
+use crate::stubs::Segment;
+use crate::tables::FileRow;
+use std::alloc::{AllocError, Global};
 use std::marker::{Model, PhantomData};
 
 /// A list of items. `As` is what they are used as, where two lists of such items are to be two types.
@@ -37,6 +39,12 @@ pub type Regions = ListOf<Region>;
 /// Names of attributes.
 pub type Names = ListOf<AttrName>;
 
+/// The states of a file's segments, from the first on.
+pub type Segments = ListOf<Segment>;
+
+/// Files as a table tells them.
+pub type FileRows = ListOf<FileRow>;
+
 impl<T, As> Model for ListOf<T, As> {
     ghost use Rattle.std.specs.Prelude.{List};
 
@@ -61,6 +69,11 @@ impl<T, As> ListOf<T, As> {
         ensures { result.now ≡ self.now }
     {
         self.items.as_slice()
+    }
+
+    /// What its memory is from.
+    pub(crate) fn allocator(&self) -> Global {
+        *self.items.allocator()
     }
 
     pub fn into_vec(self) -> Vec<T>

@@ -1,11 +1,12 @@
 //! The parts of which calls are made.
 ghost use Rattle.std.specs.Prelude.{◌≡◌, drop, OnOk, [], ◌∷◌};
-ghost use Rattle.hsm_types.specs.Parts.{number_in, count_in, fetch_in, word_in, handle_in, regions_in, name_in, kinds_in, response_in, right_in, data_in};
+ghost use Rattle.hsm_types.specs.Parts.{number_in, count_in, fetch_in, word_in, handle_in, regions_in, name_in, kinds_in, response_in, right_in, digest_in, entry_in, data_in, verified_in};
 
 use crate::attributes::AttrName;
 use crate::dm::{Kinds, Response, Right};
 use crate::keys::{FileKey, Handle};
 use crate::lists::{Bytes, Regions, Word};
+use crate::stubs::{Digest, Fingerprint, StubEntry, Verified};
 use std::alloc::{AllocError, Global};
 use std::collections::VecDeque;
 use std::marker::Model;
@@ -25,7 +26,10 @@ pub enum Part {
     Kinds(Kinds),
     Response(Response),
     Right(Right),
+    Digest(Digest),
     Data(Bytes),
+    /// Data with their fingerprint.
+    Verified(Verified),
 }
 
 /// The same, lent by a call.
@@ -41,7 +45,9 @@ pub enum PartRef<'a> {
     Kinds(Kinds),
     Response(Response),
     Right(Right),
+    Digest(Digest),
     Data(&'a Bytes),
+    Verified(&'a Verified),
 }
 
 /// What may stand in one place.
@@ -57,7 +63,9 @@ pub enum PartKind {
     Kinds,
     Response,
     Right,
+    Digest,
     Data,
+    Verified,
 }
 
 /// The parts of a call, to be taken one by one from the front. What isn't there, or is of another kind, is taken as 0, or as nothing. Contracts see
@@ -193,6 +201,42 @@ impl Parts {
         match self.items.pop_front() {
             Some(Part::Right(right)) => right,
             _ => Right::Null,
+        }
+    }
+
+    pub fn digest(&mut self) -> Digest
+        ensures value { result ≡ digest_in self.old }
+        ensures rest { self.new ≡ drop 1 self.old }
+    {
+        match self.items.pop_front() {
+            Some(Part::Digest(digest)) => digest,
+            _ => Digest([0; 32]),
+        }
+    }
+
+    /// A stub entry, of four parts.
+    pub fn entry(&mut self) -> StubEntry
+        ensures value { result ≡ entry_in self.old }
+        ensures rest { self.new ≡ drop 1 (drop 1 (drop 1 (drop 1 self.old))) }
+    {
+        let volume = self.count();
+        let object = self.count();
+        let len = self.count();
+        let digest = self.digest();
+        StubEntry {
+            volume,
+            object,
+            print: Fingerprint { len, digest },
+        }
+    }
+
+    pub fn verified(&mut self) -> Verified
+        ensures value { result ≡ verified_in self.old }
+        ensures rest { self.new ≡ drop 1 self.old }
+    {
+        match self.items.pop_front() {
+            Some(Part::Verified(verified)) => verified,
+            _ => Verified::of(Bytes::from(Vec::new(*self.items.allocator()))),
         }
     }
 

@@ -11,6 +11,9 @@ pub struct Geometry {
 
     /// How many bytes the attributes of all files together may count.
     pub attributes: u32,
+
+    /// How many stub entries all files together may have.
+    pub stubs: u32,
 }
 
 /// The geometry that the words call `small`.
@@ -18,6 +21,7 @@ pub const SMALL: Geometry = Geometry {
     files: 64,
     blocks: 1024,
     attributes: 32_768,
+    stubs: 1024,
 };
 
 /// What formatting fixes of a store for all its life.

@@ -6,22 +6,22 @@ use Rattle.commit_slots.specs.Places.{layout_of, snapshot_at, select_at, superbl
 use Rattle.commit_slots.specs.Images.{slot_of, gate_closed, IsStore}
 use Rattle.commit_slots.proofs.Laid.{laid, IsSlot, slot_laid}
 use Rattle.commit_slots.proofs.Switches.{slot_from}
-use Rattle.meta_store.specs.Catalogs.{Catalog, IsCatalog}
+use Rattle.meta_store.specs.Catalogs.{Catalog, IsCatalog, AreLengths}
 use Rattle.meta_store.specs.Snapshots.{spelling, snapshot_of}
 use Rattle.meta_store.specs.Images.{area_of, gate_of, IsImage}
 use Rattle.meta_store.proofs.SnapshotFits.{fits_of}
 
 -- a catalog's snapshot in front of the selected area, and a closed gate
 pub image_from : (fsid n : ℕ) (x : Catalog) (image c : List ℕ) → IsStore x.geometry fsid c → image ≡ spelling (snapshot_of n x) → length image ≤ (layout_of x.geometry).snapshot_len
-    → part c (snapshot_at (layout_of x.geometry) (slot_of c)) (length image) ≡ image → gate_of x.geometry c ≡ gate_closed → IsCatalog x → n ≤ 2 ^ 62 → IsImage fsid n x c
+    → part c (snapshot_at (layout_of x.geometry) (slot_of c)) (length image) ≡ image → gate_of x.geometry c ≡ gate_closed → IsCatalog x → AreLengths x → n ≤ 2 ^ 62 → IsImage fsid n x c
 unfolding area_of
-image_from fsid n x image c store is short holds gate lawful bound =
+image_from fsid n x image c store is short holds gate lawful lengths bound =
     let at : ℕ = snapshot_at (layout_of x.geometry) (slot_of c) in
     let behind : List ℕ = part c (at + length image) ((layout_of x.geometry).snapshot_len - length image) in
     let area : area_of x.geometry c ≡ spelling (snapshot_of n x) ++ behind = part_split c at (length image) (layout_of x.geometry).snapshot_len short ∙ ap (λ (b : List ℕ). b ++ behind) (holds ∙ is) in
     record {
       found = store;
-      snapshot = record { number = bound; catalog = lawful; spelled = record { fits = fits_of n x bound lawful; rest = behind; spelled = area } };
+      snapshot = record { number = bound; catalog = lawful; lengths = lengths; spelled = record { fits = fits_of n x bound lawful; rest = behind; spelled = area } };
       gate = rw gate refl;
     }
 

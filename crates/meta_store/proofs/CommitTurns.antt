@@ -10,7 +10,7 @@ use Rattle.commit_slots.specs.Images.{slot_of, IsStore}
 use Rattle.commit_slots.specs.Steps.{Selects, KeepsSlot, IsSwitched}
 use Rattle.commit_slots.proofs.Laid.{laid}
 use Rattle.commit_slots.proofs.Kept.{KeepsParts, parts_kept}
-use Rattle.meta_store.specs.Catalogs.{Catalog, IsCatalog}
+use Rattle.meta_store.specs.Catalogs.{Catalog, IsCatalog, AreLengths}
 use Rattle.meta_store.specs.Snapshots.{spelling, snapshot_of}
 use Rattle.meta_store.specs.Images.{area_of, gate_of, IsImage, blocks_in_image, Recovers}
 use Rattle.meta_store.specs.Meta.{Meta, IsStored, IsMeta, Backs, StoresOrKeeps, HasStored}
@@ -34,13 +34,13 @@ same_image z n fsid number x d c there fits is k =
     }
 
 -- what is recovered from the new slot
-new_image : (z fsid number : ℕ) (x : Catalog) (image d c : List ℕ) → x.geometry ≡ z → length image ≤ (layout_of z).snapshot_len → image ≡ spelling (snapshot_of number x) → IsCatalog x → number ≤ 2 ^ 62
+new_image : (z fsid number : ℕ) (x : Catalog) (image d c : List ℕ) → x.geometry ≡ z → length image ≤ (layout_of z).snapshot_len → image ≡ spelling (snapshot_of number x) → IsCatalog x → AreLengths x → number ≤ 2 ^ 62
     → IsStore z fsid d → IsSwitched (layout_of z) (not (slot_of d)) image d c → Recovers fsid number x d c
 unfolding blocks_in_image area_of gate_of
-new_image z fsid number x image d c there short is lawful bound was s =
+new_image z fsid number x image d c there short is lawful lengths bound was s =
     let kept : KeepsParts (layout_of z) (slot_of d) d c = parts_kept (layout_of z) (laid z) (slot_of d) (length image) short d c s.outside in
     record {
-      found = image_from fsid number x image c (rw there (record { superblock = rw kept.superblock was.superblock; size = s.outside.size ∙ was.size })) is (rw there short) (rw (there, s.select) s.holds) (rw (there, s.select) s.gate) lawful bound;
+      found = image_from fsid number x image c (rw there (record { superblock = rw kept.superblock was.superblock; size = s.outside.size ∙ was.size })) is (rw there short) (rw (there, s.select) s.holds) (rw (there, s.select) s.gate) lawful lengths bound;
       data_blocks = rw there kept.blocks;
     }
 
@@ -82,7 +82,7 @@ module _ {D : Type 0} (g : disk.Ghosts D) (old new : D) (m : Meta) (lawful : IsM
   durable_as = sym (geometry ∙ lawful.stored.geometry)
 
   found_as : (d c : List ℕ) → Was d → IsSwitched (layout_of z) (not m.second) image d c → Recovers m.fsid number m.current d c
-  found_as d c known s = new_image z m.fsid number m.current image d c (sym geometry) fits is lawful.current bound (rw durable_as at known.holds.found) (rw known.slot s)
+  found_as d c known s = new_image z m.fsid number m.current image d c (sym geometry) fits is lawful.current lawful.stored.now bound (rw durable_as at known.holds.found) (rw known.slot s)
 
   pub commits : (Selects g old m.second → Turns g old new (KeepsSlot (layout_of z) m.second (length image)) (IsSwitched (layout_of z) (not m.second) image)) → Commits g old new m number (HasSwitched g old new z m.second image)
   commits turned = record {

@@ -56,10 +56,13 @@ module _ (m : CatalogFile → ℕ) where
   sum-change k to g [] found = cc
   sum-change k to g (f ∷ fs) found = grind (arith, sum_by-cons m f fs, sum_by-cons m (to f) fs, sum_by-cons m f (change_key (λ x. x.key) k to fs), sum-change k to g fs)
 
--- ---- what is summed: bytes of attributes, blocks, and how often a block of the disk is used
+-- ---- what is summed: bytes of attributes, stub entries, blocks, and how often a block of the disk is used
 
 abbrev pub count_of : CatalogFile → ℕ
 count_of f = bytes_of_attributes f.kept.attributes
+
+abbrev pub stubs_of : CatalogFile → ℕ
+stubs_of f = length f.kept.stubs
 
 abbrev pub mapped_of : CatalogFile → ℕ
 mapped_of f = length (present f.places)

@@ -12,4 +12,4 @@ pub formatted-image : (geometry fsid : ℕ) (image : List ℕ) → IsEmptyStore 
 unfolding gate_of
 formatted-image geometry fsid image e =
     image_from fsid 0 (no_files geometry) empty_snapshot image e.found (sym (spelling-empty geometry)) (laid geometry).snapshot_len (rw e.select e.emptied.snapshot) (rw e.select e.emptied.gate_0)
-    (record { known = e.found.superblock.known; first = omega arith; next = omega arith; table = record { ascend = tt; within = tt; differ = tt }; each = tt; distinct = tt; few = omega arith }) (omega arith)
+    (record { known = e.found.superblock.known; first = omega arith; next = omega arith; table = record { ascend = tt; within = tt; differ = tt }; each = tt; distinct = tt; few = omega arith; few_stubs = omega arith }) tt (omega arith)

@@ -16,17 +16,17 @@ use Rattle.inode_table.proofs.KeysAt.{found-key_at, key_at-found}
 use Rattle.inode_table.proofs.Listings.{found-listed}
 use Rattle.meta_store.specs.declared.file_parts.FileParts.{FileParts}
 use Rattle.meta_store.specs.declared.catalog.Catalog.TheInside.{Inside}
-use Rattle.meta_store.specs.Catalogs.{CatalogFile, Catalog, IsCatalogFile, IsCatalog, geometry_of, names_of, present, blocks_of, attribute_total}
-use Rattle.meta_store.specs.Records.{with_put, without_file, others_total, key_on}
+use Rattle.meta_store.specs.Catalogs.{CatalogFile, Catalog, IsCatalogFile, IsCatalog, geometry_of, names_of, present, blocks_of, attribute_total, stub_total}
+use Rattle.meta_store.specs.Records.{with_put, without_file, others_total, others_stubs, key_on}
 use Rattle.meta_store.specs.InMemory.{no_parts, parts_of, file_of, catalog_held, file_held, files_held, IsHeld}
 use Rattle.meta_store.proofs.SnapshotFits.{blocks-few, geometry-bounded}
-use Rattle.meta_store.proofs.FileEdits.{count_of, mapped_of, used-sum, sum-put, sum-drop, map-find, map-drop}
+use Rattle.meta_store.proofs.FileEdits.{count_of, stubs_of, mapped_of, used-sum, sum-put, sum-drop, map-find, map-drop}
 use Rattle.meta_store.proofs.HeldFiles.{names_of-held, entries-held, held-put_at, found-within}
 use Rattle.meta_store.proofs.KeptCatalogs.{IsCatalog-with_put, IsCatalog-without_file}
 
 -- what is true of each catalog in memory
-abbrev pub IsCounted : ℕ → Table → List FileParts → ℕ → ℕ → Type 0
-IsCounted geometry t ps total used = IsHeld geometry t ps total × (used ≡ length (blocks_of (files_held ps t.files)))
+abbrev pub IsCounted : ℕ → Table → List FileParts → ℕ → ℕ → ℕ → Type 0
+IsCounted geometry t ps total stubs used = IsHeld geometry t ps total stubs × (used ≡ length (blocks_of (files_held ps t.files)))
 
 -- ---- a file that is found
 
@@ -63,7 +63,11 @@ read-live t ps k f one at x here read =
 pub held-live : (t : Table) (ps : List FileParts) (k : FileKey) (f : CatalogFile) → IsLive t ps k f → file_held ps (entry_of f.key f.name f.size) ≡ f
 held-live t ps k f one = rw (one.key, one.parts) refl
 
-module _ (s : Inside) (v : Catalog) (is : catalog_held s.geometry s.table s.parts.items ≡ v) (i : IsCounted s.geometry s.table s.parts.items s.attribute_total s.used) where
+few-stubs : (geometry : ℕ) → (geometry_of geometry).stubs ≤ 65536
+unfolding geometry_of
+few-stubs geometry = grind arith
+
+module _ (s : Inside) (v : Catalog) (is : catalog_held s.geometry s.table s.parts.items ≡ v) (i : IsCounted s.geometry s.table s.parts.items s.attribute_total s.stub_total s.used) where
   pub lawful : IsCatalog v
   lawful = rw (← is) i.0.catalog
 
@@ -79,6 +83,12 @@ module _ (s : Inside) (v : Catalog) (is : catalog_held s.geometry s.table s.part
 
   pub counted : s.attribute_total ≡ attribute_total v.files
   counted = rw (← is) i.0.counted
+
+  pub stubs-counted : s.stub_total ≡ stub_total v.files
+  stubs-counted = rw (← is) i.0.stubbed
+
+  pub stubs-bounded : (s.stub_total ≤ (geometry_of v.geometry).stubs) × ((geometry_of v.geometry).stubs ≤ 65536)
+  stubs-bounded = (omega (arith, stubs-counted, lawful.few_stubs), few-stubs v.geometry)
 
   blocks-counted : s.used ≡ length (blocks_of v.files)
   blocks-counted = rw (← is) i.1
@@ -108,9 +118,10 @@ module _ (s : Inside) (v : Catalog) (is : catalog_held s.geometry s.table s.part
       (file_held s.parts.items one.0, found, live k (file_held s.parts.items one.0) found)
 
   -- what is counted of one file and of the others
-  pub others : (k : FileKey) (f : CatalogFile) → find_key (λ g. g.key) k v.files ≡ Some f → (others_total k v + count_of f ≡ s.attribute_total) × (length (blocks_of (without_file k v).files) + mapped_of f ≡ s.used)
+  pub others : (k : FileKey) (f : CatalogFile) → find_key (λ g. g.key) k v.files ≡ Some f → (others_total k v + count_of f ≡ s.attribute_total) × (others_stubs k v + stubs_of f ≡ s.stub_total) × (length (blocks_of (without_file k v).files) + mapped_of f ≡ s.used)
   others k f found = (
     omega (arith, sum-drop count_of k f v.files found, counted),
+    omega (arith, sum-drop stubs_of k f v.files found, stubs-counted),
     omega (arith, sum-drop mapped_of k f v.files found, used-sum v.files, used-sum (without_file k v).files, blocks-counted),
   )
 
@@ -134,7 +145,8 @@ module _ (s : Inside) (v : Catalog) (is : catalog_held s.geometry s.table s.part
     some-at o k here taken = rw (key-at o k here taken) some
 
     pub left : (o : Option FileKey) (k : FileKey) → o ≡ key_at ino (listing s.table.files) → o ≡ Some k → (x : FileParts) → Some x ≡ option_map parts_of (find_key (λ g. g.key) k v.files)
-        → (others_total (key_on ino v) v + bytes_of_attributes x.attributes ≡ s.attribute_total) × (length (blocks_of (without_file (key_on ino v) v).files) + length (present x.places) ≡ s.used)
+        → (others_total (key_on ino v) v + bytes_of_attributes x.attributes ≡ s.attribute_total) × (others_stubs (key_on ino v) v + length x.stubs ≡ s.stub_total)
+        × (length (blocks_of (without_file (key_on ino v) v).files) + length (present x.places) ≡ s.used)
     left o k here taken x parts =
         let found = rw (key-at o k here taken, file.1) at parts in
         let same : x ≡ parts_of file.0 = cc in
@@ -142,12 +154,14 @@ module _ (s : Inside) (v : Catalog) (is : catalog_held s.geometry s.table s.part
 
   -- ---- after a change
 
-  pub after : (t' : Table) (ps' : List FileParts) (w : Catalog) (total' used' : ℕ) → catalog_held s.geometry t' ps' ≡ w → t'.limit ≡ s.table.limit → length ps' ≡ length s.parts.items → IsCatalog w → total' ≡ attribute_total w.files → used' ≡ length (blocks_of w.files) → IsCounted s.geometry t' ps' total' used'
-  after t' ps' w total' used' held limit len good bytes blocks = (
+  pub after : (t' : Table) (ps' : List FileParts) (w : Catalog) (total' stubs' used' : ℕ) → catalog_held s.geometry t' ps' ≡ w → t'.limit ≡ s.table.limit → length ps' ≡ length s.parts.items → IsCatalog w → total' ≡ attribute_total w.files → stubs' ≡ stub_total w.files
+      → used' ≡ length (blocks_of w.files) → IsCounted s.geometry t' ps' total' stubs' used'
+  after t' ps' w total' stubs' used' held limit len good bytes entries blocks = (
     record {
       limit = limit ∙ i.0.limit;
       count = len ∙ i.0.count;
       counted = bytes ∙ ap (λ (c : Catalog). attribute_total c.files) (sym held);
+      stubbed = entries ∙ ap (λ (c : Catalog). stub_total c.files) (sym held);
       catalog = subst IsCatalog (sym held) good;
     },
     blocks ∙ ap (λ (c : Catalog). length (blocks_of c.files)) (sym held),
@@ -159,22 +173,22 @@ module _ (s : Inside) (v : Catalog) (is : catalog_held s.geometry s.table s.part
         let kind = ap (λ (c : Catalog). (geometry_of c.geometry).files) is in
         rw (← is, held-put_at s.parts.items (entry_of key name size) x s.table.files low (omega (arith, i.0.count)) table.ascend (rw names at free)) refl
 
-    pub put-counted : (total' used' : ℕ) → named name (names_of v.files) ≡ None → key.igen < 2 ^ 62 → IsCatalogFile (geometry_of v.geometry).blocks (file_of key name size x) → Distinct (present x.places ++ blocks_of v.files)
-        → attribute_total v.files + bytes_of_attributes x.attributes ≤ (geometry_of v.geometry).attributes → total' ≡ s.attribute_total + bytes_of_attributes x.attributes → used' ≡ s.used + length (present x.places)
-        → IsCounted s.geometry (with_entry (entry_of key name size) s.table) (set s.parts.items (key.ino - 1) x) total' used'
-    put-counted total' used' new early good apart room bytes blocks =
+    pub put-counted : (total' stubs' used' : ℕ) → named name (names_of v.files) ≡ None → key.igen < 2 ^ 62 → IsCatalogFile (geometry_of v.geometry).blocks (file_of key name size x) → Distinct (present x.places ++ blocks_of v.files)
+        → attribute_total v.files + bytes_of_attributes x.attributes ≤ (geometry_of v.geometry).attributes → stub_total v.files + length x.stubs ≤ (geometry_of v.geometry).stubs → total' ≡ s.attribute_total + bytes_of_attributes x.attributes
+        → stubs' ≡ s.stub_total + length x.stubs → used' ≡ s.used + length (present x.places) → IsCounted s.geometry (with_entry (entry_of key name size) s.table) (set s.parts.items (key.ino - 1) x) total' stubs' used'
+    put-counted total' stubs' used' new early good apart room stub_room bytes entries blocks =
         let f : CatalogFile = file_of key name size x in
-        after (with_entry (entry_of key name size) s.table) (set s.parts.items (key.ino - 1) x) (with_put f v) total' used' put-held refl (length-set s.parts.items (key.ino - 1) x) (IsCatalog-with_put f v lawful low high free new early good apart room)
-        (omega (arith, sum-put count_of f v.files, counted)) (omega (arith, sum-put mapped_of f v.files, used-sum v.files, used-sum (with_put f v).files, blocks-counted))
+        after (with_entry (entry_of key name size) s.table) (set s.parts.items (key.ino - 1) x) (with_put f v) total' stubs' used' put-held refl (length-set s.parts.items (key.ino - 1) x) (IsCatalog-with_put f v lawful low high free new early good apart room stub_room)
+        (omega (arith, sum-put count_of f v.files, counted)) (omega (arith, sum-put stubs_of f v.files, stubs-counted)) (omega (arith, sum-put mapped_of f v.files, used-sum v.files, used-sum (with_put f v).files, blocks-counted))
 
   pub drop-held : (key : FileKey) → catalog_held s.geometry (record s.table { files = drop_key (λ e. e.key) key s.table.files }) s.parts.items ≡ without_file key v
   drop-held key = rw (← is, map-drop (λ (f : CatalogFile). f.key) (file_held s.parts.items) key s.table.files) refl
 
-  pub drop-counted : (ino : ℕ) → IsSome (find_key (λ g. g.key) (key_on ino v) v.files) → (total' used' : ℕ) → total' ≡ others_total (key_on ino v) v → used' ≡ length (blocks_of (without_file (key_on ino v) v).files)
-      → IsCounted s.geometry (record s.table { files = drop_key (λ e. e.key) (key_on ino v) s.table.files }) s.parts.items total' used'
-  drop-counted ino some total' used' bytes blocks =
+  pub drop-counted : (ino : ℕ) → IsSome (find_key (λ g. g.key) (key_on ino v) v.files) → (total' stubs' used' : ℕ) → total' ≡ others_total (key_on ino v) v → stubs' ≡ others_stubs (key_on ino v) v → used' ≡ length (blocks_of (without_file (key_on ino v) v).files)
+      → IsCounted s.geometry (record s.table { files = drop_key (λ e. e.key) (key_on ino v) s.table.files }) s.parts.items total' stubs' used'
+  drop-counted ino some total' stubs' used' bytes entries blocks =
       let f = there (find_key (λ g. g.key) (key_on ino v) v.files) some in
-      after (record s.table { files = drop_key (λ e. e.key) (key_on ino v) s.table.files }) s.parts.items (without_file (key_on ino v) v) total' used' (drop-held (key_on ino v)) refl refl (IsCatalog-without_file (key_on ino v) f.0 v lawful f.1) bytes blocks
+      after (record s.table { files = drop_key (λ e. e.key) (key_on ino v) s.table.files }) s.parts.items (without_file (key_on ino v) v) total' stubs' used' (drop-held (key_on ino v)) refl refl (IsCatalog-without_file (key_on ino v) f.0 v lawful f.1) bytes entries blocks
 
 -- ---- a part of the file that a key has, if it has one
 

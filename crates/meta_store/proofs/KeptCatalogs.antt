@@ -1,6 +1,10 @@
 -- What is true of each catalog stays true.
 use Rattle.std.proofs.Common.{◌≡◌, ℕ, ◌+◌, ◌<◌, ◌≤◌, ◌^◌, List, [], ◌++◌, Some, None, false, refl, arith}
 use Rattle.hsm_types.specs.declared.keys.FileKey.{FileKey}
+use Rattle.std.specs.List.Sorted.{IsStrictlySortedBy}
+use Rattle.std.specs.Map.{keys_of}
+use Rattle.std.specs.Ordering.{nat_cmp}
+use Rattle.hsm_types.specs.declared.stores.Geometry.{Geometry}
 use Rattle.hsm_types.specs.Kept.{nothing_kept}
 use Rattle.plain_model.specs.Keyed.{find_key, put_key, drop_key}
 use Rattle.plain_model.specs.Plain.{Listed, named}
@@ -8,12 +12,14 @@ use Rattle.plain_model.specs.Distinct.{Distinct}
 use Rattle.inode_table.specs.Listing.{has_inode}
 use Rattle.inode_table.proofs.Orders.{ascend-put, ascend-drop, within-put, within-more, within-drop}
 use Rattle.inode_table.proofs.Names.{differ-put, differ-drop}
+use Rattle.meta_store.specs.declared.file_parts.Others.{Others}
 use Rattle.meta_store.specs.declared.records.Record.{Record}
-use Rattle.meta_store.specs.Catalogs.{CatalogFile, Catalog, IsLawfulKept, IsCatalogFile, IsCatalog, geometry_of, names_of, present, blocks_of, attribute_total}
-use Rattle.meta_store.specs.Records.{file_after, with_put, without_file, with_changed, CanStandOn}
+use Rattle.meta_store.specs.InMemory.{IsNumbered}
+use Rattle.meta_store.specs.Catalogs.{CatalogFile, Catalog, IsLawfulKept, IsCatalogFile, IsCatalog, geometry_of, names_of, present, blocks_of, attribute_total, stub_total}
+use Rattle.meta_store.specs.Records.{file_after, part_refusal, with_put, without_file, with_changed, CanStandOn}
 use Rattle.meta_store.proofs.BlockUses.{uses-append, distinct-uses, uses-distinct}
 use Rattle.meta_store.proofs.FilesAfter.{named-after, IsCatalogFile-after, uses-after}
-use Rattle.meta_store.proofs.FileEdits.{name_of, count_of, uses_of, uses-sum, map-put, names_of-drop, names_of-change, sum-put, sum-drop, sum-change, each-put, each-drop, each-changed}
+use Rattle.meta_store.proofs.FileEdits.{name_of, count_of, stubs_of, uses_of, uses-sum, map-put, names_of-drop, names_of-change, sum-put, sum-drop, sum-change, each-put, each-drop, each-changed}
 
 -- an empty file
 abbrev pub empty_file : FileKey → List ℕ → CatalogFile
@@ -22,8 +28,9 @@ empty_file key name = record { key = key; name = name; size = 0; places = []; ke
 -- ---- one file more
 
 pub IsCatalog-with_put : (g : CatalogFile) (c : Catalog) → IsCatalog c → 1 ≤ g.key.ino → g.key.ino ≤ (geometry_of c.geometry).files → has_inode g.key.ino (names_of c.files) ≡ false → named g.name (names_of c.files) ≡ None → g.key.igen < 2 ^ 62
-    → IsCatalogFile (geometry_of c.geometry).blocks g → Distinct (present g.places ++ blocks_of c.files) → attribute_total c.files + count_of g ≤ (geometry_of c.geometry).attributes → IsCatalog (with_put g c)
-IsCatalog-with_put g c is low high free new early lawful apart room = record {
+    → IsCatalogFile (geometry_of c.geometry).blocks g → Distinct (present g.places ++ blocks_of c.files) → attribute_total c.files + count_of g ≤ (geometry_of c.geometry).attributes
+    → stub_total c.files + stubs_of g ≤ (geometry_of c.geometry).stubs → IsCatalog (with_put g c)
+IsCatalog-with_put g c is low high free new early lawful apart room stub_room = record {
   known = is.known;
   first = omega (arith, is.first);
   next = omega (arith, is.next);
@@ -36,6 +43,7 @@ IsCatalog-with_put g c is low high free new early lawful apart room = record {
   distinct = uses-distinct (blocks_of (put_key (λ f. f.key) g c.files)) (λ n.
       omega (arith, sum-put (uses_of n) g c.files, uses-sum n (put_key (λ f. f.key) g c.files), uses-sum n c.files, uses-append n (present g.places) (blocks_of c.files), distinct-uses (present g.places ++ blocks_of c.files) apart n));
   few = omega (arith, sum-put count_of g c.files);
+  few_stubs = omega (arith, sum-put stubs_of g c.files);
 }
 
 -- ---- one less
@@ -53,22 +61,25 @@ IsCatalog-without_file key f c is found = record {
   each = each-drop (IsCatalogFile (geometry_of c.geometry).blocks) key c.files is.each;
   distinct = uses-distinct (blocks_of (drop_key (λ f. f.key) key c.files)) (λ n. omega (arith, sum-drop (uses_of n) key f c.files found, uses-sum n (drop_key (λ f. f.key) key c.files), uses-sum n c.files, distinct-uses (blocks_of c.files) is.distinct n));
   few = omega (arith, is.few, sum-drop count_of key f c.files found);
+  few_stubs = omega (arith, is.few_stubs, sum-drop stubs_of key f c.files found);
 }
 
 -- ---- one changed
 
-pub IsCatalog-after : (r : Record) (key : FileKey) (f : CatalogFile) (c : Catalog) → IsCatalog c → find_key (λ g. g.key) key c.files ≡ Some f → CanStandOn r f c → IsLawfulKept (file_after r f).kept
-    → attribute_total (with_changed key (file_after r) c).files ≤ (geometry_of c.geometry).attributes → IsCatalog (with_changed key (file_after r) c)
-IsCatalog-after r key f c is found stands kept few =
+pub IsCatalog-after : (r : Record) (key : FileKey) (f : CatalogFile) (c : Catalog) (others : Others) (limits : Geometry) → IsCatalog c → find_key (λ g. g.key) key c.files ≡ Some f → CanStandOn r f c → part_refusal r others limits f.kept ≡ None → IsNumbered r
+    → IsLawfulKept (file_after r f).kept → IsStrictlySortedBy nat_cmp (keys_of (file_after r f).kept.stubs) → attribute_total (with_changed key (file_after r) c).files ≤ (geometry_of c.geometry).attributes
+    → stub_total (with_changed key (file_after r) c).files ≤ (geometry_of c.geometry).stubs → IsCatalog (with_changed key (file_after r) c)
+IsCatalog-after r key f c others limits is found stands none numbers kept sorted few few_stubs =
     let blocks = (geometry_of c.geometry).blocks in
     record {
       known = is.known;
       first = is.first;
       next = is.next;
       table = rw (names_of-change key (file_after r) c.files (named-after r)) is.table;
-      each = each-changed (IsCatalogFile blocks) key (file_after r) c.files (λ g there old. let it : g ≡ f = cc in rw it (IsCatalogFile-after blocks r f c (rw it at old) refl stands kept)) is.each;
+      each = each-changed (IsCatalogFile blocks) key (file_after r) c.files (λ g there old. let it : g ≡ f = cc in rw it (IsCatalogFile-after blocks r f c others limits (rw it at old) refl stands none numbers kept sorted)) is.each;
       distinct = uses-distinct (blocks_of (with_changed key (file_after r) c).files) (λ n.
           let more = uses-after n r f c is stands in
           omega (arith, more.1, more.2, sum-change (uses_of n) key (file_after r) f c.files found, uses-sum n (with_changed key (file_after r) c).files, uses-sum n c.files));
       few = few;
+      few_stubs = few_stubs;
     }

@@ -3,6 +3,7 @@ pub mod Readers
 pub mod ReadSnapshots
 pub mod KeptBounds
 pub mod KeptAttributes
+pub mod LawfulStubs
 pub mod SnapshotFits
 pub mod WrittenFiles
 pub mod BesideBlocks
@@ -21,5 +22,8 @@ pub mod HeldFiles
 pub mod HeldCatalogs
 pub mod SpreadPlaces
 pub mod StandOnce
+pub mod StubLists
+pub mod ClearedPlaces
+pub mod StubsAfter
 pub mod PassingFiles
 pub mod TakenFiles

@@ -1,18 +1,20 @@
 -- Which files pass the judgement.
 use Rattle.std.proofs.lemmas.List.Sums.{sum_by-cons, sum_by-append}
 use Rattle.std.proofs.lemmas.List.Folds.{fold-map}
-use Rattle.std.proofs.Common.{◌≡◌, ℕ, ◌+◌, ◌≤◌, List, [], ◌∷◌, ◌++◌, map, true, leb, refl, ap, sym, ◌∙◌, arith}
+use Rattle.std.proofs.Common.{◌≡◌, inl, inr, ℕ, ◌+◌, ◌-◌, ◌≤◌, List, [], ◌∷◌, ◌++◌, length, map, Bool, true, false, None, Result, Err, leb, refl, ap, sym, ◌∙◌, arith}
 use Rattle.std.specs.List.{AllByRecursion}
+use Rattle.std.proofs.lemmas.Bool.{cases_lt}
 use Rattle.std.proofs.lemmas.List.{map-append}
 use Rattle.std.proofs.lemmas.List.Concat.{flat_map-append}
 use Rattle.hsm_types.specs.declared.stores.Geometry.{Geometry}
 use Rattle.plain_model.specs.Blocks.{blocks_in}
 use Rattle.inode_table.specs.Listing.{Within}
 use Rattle.hsm_types.specs.Attributes.{bytes_of_attributes}
-use Rattle.meta_store.specs.Catalogs.{CatalogFile, Catalog, IsCatalogFile, IsCatalog, geometry_of, names_of, blocks_of}
+use Rattle.meta_store.specs.Catalogs.{CatalogFile, Catalog, IsCatalogFile, IsCatalog, HasLengths, AreLengths, geometry_of, names_of, blocks_of, stub_total}
 use Rattle.meta_store.specs.Snapshots.{SnapshotFile, snapshot_file}
-use Rattle.meta_store.specs.Validity.{listed_in, names_in, places_of, places_in, is_file, is_kept, can_follow, attribute_total_in, is_next, Follows}
+use Rattle.meta_store.specs.Validity.{listed_in, names_in, places_of, places_in, is_file, are_stubs, is_kept, can_follow, attribute_total_in, stub_total_in, is_next, Follows}
 use Rattle.meta_store.proofs.KeptAttributes.{attributes-pass}
+use Rattle.meta_store.proofs.LawfulStubs.{stubs-pass}
 use Rattle.meta_store.proofs.MappedPlaces.{all-parts}
 use Rattle.meta_store.proofs.SpreadPlaces.{places_of-extents, are_extents-from}
 use Rattle.meta_store.proofs.StandOnce.{above-last, nameless, unused-from}
@@ -27,31 +29,50 @@ pub places_in-snapshot : (fs : List CatalogFile) → places_in (map snapshot_fil
 places_in-snapshot [] = refl
 places_in-snapshot (f ∷ fs) = rw (places_of-extents 0 f.places, places_in-snapshot fs) refl
 
+pub stub_total_in-snapshot : (fs : List CatalogFile) → stub_total fs ≡ stub_total_in (map snapshot_file fs)
+stub_total_in-snapshot fs = sym (fold-map (λ (sum : ℕ) (s : SnapshotFile). sum + length s.kept.stubs) snapshot_file 0 fs)
+
 -- ---- a file of a valid catalog passes
 
 -- what is judged of a file alone
 abbrev Passes : ℕ → ℕ → ℕ → SnapshotFile → Type 0
-Passes limit next blocks f = (leb f.key.ino limit ≡ true) × (is_file next blocks f ≡ true) × (is_kept f.kept ≡ true)
+Passes limit next blocks f = (leb f.key.ino limit ≡ true) × (is_file next blocks f ≡ true) × (is_kept f ≡ true)
 
-each-alone : (limit next blocks : ℕ) (fs : List CatalogFile) → Within limit next (names_of fs) → AllByRecursion (IsCatalogFile blocks) fs → AllByRecursion (Passes limit next blocks) (map snapshot_file fs)
-each-alone limit next blocks [] within each = tt
-each-alone limit next blocks (f ∷ fs) within each =
+each-alone : (limit next blocks : ℕ) (fs : List CatalogFile) → Within limit next (names_of fs) → AllByRecursion (IsCatalogFile blocks) fs → AllByRecursion HasLengths fs → AllByRecursion (Passes limit next blocks) (map snapshot_file fs)
+each-alone limit next blocks [] within each long = tt
+each-alone limit next blocks (f ∷ fs) within each long =
     let extents = are_extents-from 0 0 (blocks_in f.size) blocks f.places (omega arith) (omega (arith, each.0.places)) each.0.within in
-    let kept : is_kept f.kept ≡ true = rw (each.0.kept.regions, attributes-pass f.kept.attributes each.0.kept.attributes) refl in
-    ((grind arith, grind (arith, each.0), kept), each-alone limit next blocks fs within.2 each.1)
+    let kept : is_kept (snapshot_file f) ≡ true = rw (each.0.kept.regions, attributes-pass f.kept.attributes each.0.kept.attributes, stubs-pass f f.kept.stubs each.0.ascend each.0.stubs long.0) refl in
+    ((grind arith, grind (arith, each.0), kept), each-alone limit next blocks fs within.2 each.1 long.1)
 
-pub passes : (c : Catalog) (before : List SnapshotFile) (f : SnapshotFile) (rest : List SnapshotFile) → IsCatalog c → map snapshot_file c.files ≡ before ++ f ∷ rest → is_next (geometry_of c.geometry) c.next before f ≡ true
-passes c before f rest is e =
+pub passes : (c : Catalog) (before : List SnapshotFile) (f : SnapshotFile) (rest : List SnapshotFile) → IsCatalog c → AreLengths c → map snapshot_file c.files ≡ before ++ f ∷ rest → is_next (geometry_of c.geometry) c.next before f ≡ true
+passes c before f rest is long e =
     let g : Geometry = geometry_of c.geometry in
     let names : names_of c.files ≡ names_in before ++ listed_in f ∷ names_in rest = sym (names_in-snapshot c.files) ∙ ap names_in e ∙ map-append listed_in before (f ∷ rest) in
     let places : blocks_of c.files ≡ places_in before ++ (places_of f.extents ++ places_in rest) = sym (places_in-snapshot c.files) ∙ ap places_in e ∙ flat_map-append (λ (s : SnapshotFile). places_of s.extents) before (f ∷ rest) in
-    let alone = (all-parts (Passes g.files c.next g.blocks) before (f ∷ rest) (rw e at (each-alone g.files c.next g.blocks c.files is.table.within is.each))).1.0 in
+    let alone = (all-parts (Passes g.files c.next g.blocks) before (f ∷ rest) (rw e at (each-alone g.files c.next g.blocks c.files is.table.within is.each long))).1.0 in
     let count = λ (s : SnapshotFile). bytes_of_attributes s.kept.attributes in
     let few : attribute_total_in before + count f ≤ g.attributes = omega (arith, sum_by-append count before (f ∷ rest), sum_by-cons count f rest, ap attribute_total_in e, fold-map (λ (sum : ℕ) (s : SnapshotFile). sum + count s) snapshot_file 0 c.files, is.few) in
+    let entries = λ (s : SnapshotFile). length s.kept.stubs in
+    let few_stubs : stub_total_in before + entries f ≤ g.stubs =
+    omega (arith, sum_by-append entries before (f ∷ rest), sum_by-cons entries f rest, ap stub_total_in e, stub_total_in-snapshot c.files, is.few_stubs) in
     let fresh = nameless (names_in before) (listed_in f) (names_in rest) (rw names at is.table.differ) in
     let above = above-last 0 (names_in before) (listed_in f) (names_in rest) (rw names at is.table.ascend) in
     let unused = unused-from (places_in before) (places_of f.extents) (places_in rest) (rw places at is.distinct) in
     grind (arith, alone)
+
+-- a file whose entries aren't lawful, or too many, can't stand behind others, which have so many
+pub not-next : (geometry : Geometry) (next : ℕ) (before : List SnapshotFile) (f : SnapshotFile) (total : ℕ) → total ≡ stub_total_in before
+    → (are_stubs f.size f.kept.regions f.extents None f.kept.stubs ≡ true → length f.kept.stubs ≤ geometry.stubs - total → ⊥) → is_next geometry next before f ≡ false
+not-next geometry next before f total counted refused = by (are_stubs f.size f.kept.regions f.extents None f.kept.stubs) refl
+  where
+    by : (b : Bool) → are_stubs f.size f.kept.regions f.extents None f.kept.stubs ≡ b → is_next geometry next before f ≡ false
+    by false bad = grind (arith, bad)
+    by true are = elim (cases_lt (geometry.stubs - total) (length f.kept.stubs)) [ inl many ↦ grind (arith, many, counted) | inr within ↦ absurd (refused are within) ]
+
+-- one error, told twice
+pub same_err : {T E : Type 0} (r : Result T E) (e why from : E) → r ≡ Err e → r ≡ Err why → e ≡ from → from ≡ why
+same_err r e why from a b is = cc
 
 -- what the judgement tells
 pub follows : (geometry : Geometry) (next : ℕ) (before : List SnapshotFile) (f : SnapshotFile) → can_follow geometry next before f ≡ true → Follows geometry next before f

@@ -1,5 +1,5 @@
 -- What is read is spelled so, and what is spelled so is read: for the parts of a snapshot.
-use Rattle.std.proofs.Common.{◌≡◌, ℕ, ◌^◌, ◌<◌, List, length, Option, Some, Err, refl, sym, ap, ◌∙◌, arith}
+use Rattle.std.proofs.Common.{◌≡◌, ℕ, ◌^◌, ◌<◌, ◌++◌, List, length, Bool, true, false, Option, Some, Err, refl, sym, ap, ◌∙◌, arith}
 use Rattle.std.specs.Prelude.{IsErrOf}
 use Rattle.std.specs.List.{AllByRecursion}
 use Rattle.std.proofs.lemmas.Option.{same_Some}
@@ -7,9 +7,9 @@ use Rattle.byteorder.specs.Endian.{big_bytes}
 use Rattle.meta_store.specs.declared.snapshot.RawSnapshot.{RawSnapshot}
 use Rattle.meta_store.specs.declared.snapshot.ReadRefusal.{ReadRefusal}
 use Rattle.meta_store.specs.declared.snapshot.ReadRefusal.TheVariants.{Memory, Corrupt}
-use Rattle.meta_store.specs.Snapshots.{Snapshot, key_bytes, region_bytes, attribute_bytes, extent_bytes, counted_bytes, file_bytes, spelling, RegionFits, AttributeFits, ExtentFits, FileFits, Fits, IsSpelled}
-use Rattle.meta_store.specs.Reading.{Fails, number_at, several, counted, key_at, region_at, attr_name_at, attribute_at, extent_at, file_at, snapshot_at}
-use Rattle.meta_store.proofs.Readers.{IsBytes, IsReader, IsWide, refit, wide1, wide2, wide4, wide8, number_reads, only_reads, bytes_read, several_read, both_read, made_reads, counted_reads}
+use Rattle.meta_store.specs.Snapshots.{Snapshot, key_bytes, region_bytes, attribute_bytes, extent_bytes, state_of, stub_bytes, counted_bytes, file_bytes, spelling, RegionFits, AttributeFits, ExtentFits, StubFits, FileFits, Fits, IsSpelled}
+use Rattle.meta_store.specs.Reading.{Fails, number_at, several, counted, key_at, region_at, attr_name_at, attribute_at, extent_at, offline_in, state_at, print_at, stub_in, file_at, snapshot_at}
+use Rattle.meta_store.proofs.Readers.{IsBytes, IsReader, IsWide, refit, wide1, wide2, wide4, wide8, number_reads, only_reads, bytes_read, several_read, both_read, made_reads, picked_reads, counted_reads}
 
 long_reads : IsReader (number_at 8) (big_bytes 8) (λ x. x < 2 ^ 64)
 long_reads = number_reads wide8
@@ -40,13 +40,40 @@ extent_reads : IsReader extent_at extent_bytes ExtentFits
 unfolding extent_at
 extent_reads = made_reads (both_read (number_reads wide4) (number_reads wide4)) (λ e. (e.block, e.place)) (λ e. refl) (λ n. refl) (λ e. refl) (λ n fit. fit) (λ e fit. fit)
 
+state_reads : IsReader state_at (λ offline. big_bytes 1 (state_of offline)) (λ _. Unit {0})
+unfolding state_at
+state_reads = picked_reads (number_reads wide1) offline_in state_of offline-back state-back (λ offline fit. small offline)
+  where
+    offline-back : (n : ℕ) (offline : Bool) → offline_in n ≡ Some offline → state_of offline ≡ n
+    offline-back n offline is = grind arith
+
+    state-back : (offline : Bool) → offline_in (state_of offline) ≡ Some offline
+    state-back true = refl
+    state-back false = refl
+
+    small : (offline : Bool) → state_of offline < 256 ^ 1
+    small true = omega arith
+    small false = omega arith
+
+print_reads : IsReader print_at (λ p. big_bytes 4 p.len ++ p.digest.0) (λ p. (p.len < 2 ^ 32) × (length p.digest.0 ≡ 32))
+unfolding print_at
+print_reads = made_reads (both_read (number_reads wide4) (bytes_read 32)) (λ p. (p.len, p.digest.0)) (λ p. refl) (λ n. refl) (λ p. refl) (λ n fit. (fit.0, fit.1.0)) (λ p fit. (fit.0, (fit.1, tt)))
+
+stub_reads : IsReader stub_in stub_bytes StubFits
+unfolding stub_in
+stub_reads =
+    made_reads (both_read (both_read (both_read (both_read (number_reads wide4) state_reads) (number_reads wide4)) (number_reads wide4)) print_reads)
+    (λ x. ((((x.0, x.1.offline), x.1.entry.volume), x.1.entry.object), x.1.entry.print)) (λ x. refl) (λ p. refl) (λ x. refl)
+    (λ p fit. record { segment = fit.0.0.0.0; volume = fit.0.0.1; object = fit.0.1; len = fit.1.0; digest = fit.1.1 })
+    (λ x fit. ((((fit.segment, tt), fit.volume), fit.object), (fit.len, fit.digest)))
+
 file_reads : IsReader file_at file_bytes FileFits
 unfolding file_at file_bytes
 file_reads =
     let named = both_read (both_read key_reads long_reads) (counted_reads (λ name. length name) wide1 bytes_read) in
     let kept = both_read (both_read named (listed_read wide1 region_reads)) (listed_read wide4 attribute_reads) in
-    made_reads (both_read (both_read kept (listed_read wide4 extent_reads)) (only_reads wide4 (omega arith)))
-    (λ f. ((((((f.key, f.size), f.name), f.kept.regions), f.kept.attributes), f.extents), tt)) (λ f. refl) (λ p. refl) (λ f. refl)
+    made_reads (both_read (both_read kept (listed_read wide4 extent_reads)) (listed_read wide4 stub_reads))
+    (λ f. ((((((f.key, f.size), f.name), f.kept.regions), f.kept.attributes), f.extents), f.kept.stubs)) (λ f. refl) (λ p. refl) (λ f. refl)
     (λ p fit. search) (λ f fit. search)
 
 snapshot_reads : IsReader snapshot_at spelling Fits

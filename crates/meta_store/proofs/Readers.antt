@@ -118,6 +118,17 @@ module _ {A B : Type 0} {ra : List ℕ → Option (A × List ℕ)} {ta : A → L
     again = λ x rest fit. rw (spelled x, p.again (parts x) rest (fits_back x fit), whole x) refl;
   }
 
+-- a value that stands for what is read, where anything does
+pub picked_reads : {A B : Type 0} {reader : List ℕ → Option (A × List ℕ)} {text : A → List ℕ} {Fit : A → Type 0} → IsReader reader text Fit → (pick : A → Option B) (back : B → A) → ((a : A) (b : B) → pick a ≡ Some b → back b ≡ a) → ((b : B) → pick (back b) ≡ Some b) → ((b : B) → Unit {0} → Fit (back b))
+    → IsReader (λ bytes. reader bytes >>= λ a. pick a.0 >>= λ b. Some (b, a.1)) (λ b. text (back b)) (λ _. Unit {0})
+picked_reads {reader} {text} p pick back is again_is fits = record {
+  takes = λ bytes ok. bind (reader bytes) _ (p.takes bytes ok) (λ a t. bind (pick a.0) _ (picked (pick a.0)) (λ b same. given (b, a.1) (record { parts = rw (is a.0 b same) t.parts; fit = tt; rest = t.rest })));
+  again = λ b rest fit. rw (p.again (back b) rest (fits b tt), again_is b) refl;
+}
+  where
+    picked : {B : Type 0} (o : Option B) → IfGiven o (λ b. o ≡ Some b)
+    picked o = record { is = λ x e. e }
+
 pub only_reads : {n wanted : ℕ} → IsWide n → wanted < 256 ^ n → IsReader (only_at n wanted) (λ _. big_bytes n wanted) (λ _. Unit {0})
 unfolding only_at
 only_reads {n} {wanted} wide small = record {

@@ -7,16 +7,18 @@ use Rattle.std.proofs.lemmas.Map.Steps.{length-le_from_distinct_below}
 use Rattle.hsm_types.specs.Names.{is_name}
 use Rattle.hsm_types.specs.declared.regions.Region.{Region}
 use Rattle.hsm_types.specs.Attributes.{bytes_of_attributes}
+use Rattle.hsm_types.specs.Stubs.{Stubs}
 use Rattle.plain_model.specs.Distinct.{Distinct}
 use Rattle.inode_table.specs.Listing.{Within}
 use Rattle.inode_table.proofs.Orders.{few}
 use Rattle.commit_slots.specs.Places.{layout_of}
 use Rattle.commit_slots.specs.Images.{empty_snapshot}
 use Rattle.meta_store.specs.declared.snapshot.Mapping.{Mapping}
-use Rattle.meta_store.specs.Catalogs.{CatalogFile, Catalog, IsCatalog, IsCatalogFile, geometry_of, present, blocks_of, names_of, attribute_total}
-use Rattle.meta_store.specs.Snapshots.{region_bytes, extent_bytes, file_bytes, extents_from, spelling, snapshot_file, snapshot_of, ExtentFits, FileFits, Fits}
+use Rattle.meta_store.specs.Catalogs.{CatalogFile, Catalog, IsCatalog, IsCatalogFile, geometry_of, present, blocks_of, names_of, attribute_total, stub_total}
+use Rattle.meta_store.specs.Snapshots.{region_bytes, extent_bytes, stub_bytes, file_bytes, extents_from, spelling, snapshot_file, snapshot_of, ExtentFits, StubFits, FileFits, Fits}
 use Rattle.meta_store.proofs.SpreadPlaces.{present-few, length-extents}
 use Rattle.meta_store.proofs.KeptBounds.{regions-few, regions-fit, attributes-few, attributes-fit, attributes-short, values-short}
+use Rattle.meta_store.proofs.LawfulStubs.{stubs-fit}
 
 -- ---- numbers that differ, below a bound
 
@@ -39,10 +41,14 @@ pub geometry-bounded : (geometry : ℕ) → ((geometry_of geometry).files ≤ 40
 unfolding geometry_of
 geometry-bounded geometry = grind arith
 
+stubs-bounded : (geometry : ℕ) → (geometry_of geometry).stubs ≤ 65536
+unfolding geometry_of
+stubs-bounded geometry = grind arith
+
 pub name-short : (name : List ℕ) → is_name name ≡ true → length name ≤ 64
 name-short name is = grind arith
 
-all-both : {X : Type 0} (P : X → Type 0) (xs ys : List X) → AllByRecursion P xs → AllByRecursion P ys → AllByRecursion P (xs ++ ys)
+pub all-both : {X : Type 0} (P : X → Type 0) (xs ys : List X) → AllByRecursion P xs → AllByRecursion P ys → AllByRecursion P (xs ++ ys)
 all-both P [] ys p q = q
 all-both P (x ∷ xs) ys p q = (p.0, all-both P xs ys p.1 q)
 
@@ -69,8 +75,8 @@ extents-fit blocks n [] few_blocks fit below = tt
 extents-fit blocks n (None ∷ places) few_blocks fit below = extents-fit blocks (n + 1) places few_blocks (omega arith) below
 extents-fit blocks n (Some at ∷ places) few_blocks fit below = let low = below.0 in ((omega arith, omega arith), extents-fit blocks (n + 1) places few_blocks (omega arith) below.1)
 
-file-fits : (blocks limit next : ℕ) (f : CatalogFile) → blocks ≤ 65536 → limit ≤ 4096 → next ≤ 2 ^ 62 → f.key.ino ≤ limit → f.key.igen < next → bytes_of_attributes f.kept.attributes ≤ 1048576 → IsCatalogFile blocks f → FileFits (snapshot_file f)
-file-fits blocks limit next f few_blocks few_files old ino igen few is = record {
+file-fits : (blocks limit next : ℕ) (f : CatalogFile) → blocks ≤ 65536 → limit ≤ 4096 → next ≤ 2 ^ 62 → f.key.ino ≤ limit → f.key.igen < next → bytes_of_attributes f.kept.attributes ≤ 1048576 → length f.kept.stubs ≤ 65536 → IsCatalogFile blocks f → FileFits (snapshot_file f)
+file-fits blocks limit next f few_blocks few_files old ino igen few few_stubs is = record {
   ino = omega arith;
   igen = omega arith;
   size = omega arith;
@@ -81,13 +87,17 @@ file-fits blocks limit next f few_blocks few_files old ino igen few is = record 
   each_attribute = attributes-fit f.kept.attributes is.kept.eight (values-short f.kept.attributes is.kept.attributes);
   extents = omega (arith, length-extents 0 f.places, present-few f.places);
   each_extent = extents-fit blocks 0 f.places (omega arith) (omega arith) is.within;
+  stubs = omega arith;
+  each_stub = stubs-fit f f.kept.stubs is.size is.stubs;
 }
 
-files-fit : (blocks limit next : ℕ) (fs : List CatalogFile) → blocks ≤ 65536 → limit ≤ 4096 → next ≤ 2 ^ 62 → Within limit next (names_of fs) → attribute_total fs ≤ 1048576 → AllByRecursion (IsCatalogFile blocks) fs → AllByRecursion FileFits (map snapshot_file fs)
-files-fit blocks limit next [] few_blocks few_files old w few each = tt
-files-fit blocks limit next (f ∷ fs) few_blocks few_files old w few each =
+files-fit : (blocks limit next : ℕ) (fs : List CatalogFile) → blocks ≤ 65536 → limit ≤ 4096 → next ≤ 2 ^ 62 → Within limit next (names_of fs) → attribute_total fs ≤ 1048576 → stub_total fs ≤ 65536 → AllByRecursion (IsCatalogFile blocks) fs
+    → AllByRecursion FileFits (map snapshot_file fs)
+files-fit blocks limit next [] few_blocks few_files old w few few_stubs each = tt
+files-fit blocks limit next (f ∷ fs) few_blocks few_files old w few few_stubs each =
     let sum = sum_by-cons (λ (g : CatalogFile). bytes_of_attributes g.kept.attributes) f fs in
-    (file-fits blocks limit next f few_blocks few_files old w.0 w.1 (omega arith) each.0, files-fit blocks limit next fs few_blocks few_files old w.2 (omega arith) each.1)
+    let stubs = sum_by-cons (λ (g : CatalogFile). length g.kept.stubs) f fs in
+    (file-fits blocks limit next f few_blocks few_files old w.0 w.1 (omega arith) (omega arith) each.0, files-fit blocks limit next fs few_blocks few_files old w.2 (omega arith) (omega arith) each.1)
 
 pub fits_of : (n : ℕ) (c : Catalog) → n ≤ 2 ^ 62 → IsCatalog c → Fits (snapshot_of n c)
 unfolding snapshot_of
@@ -97,7 +107,7 @@ fits_of n c low is =
       number = omega arith;
       next = omega (arith, is.next);
       count = omega (arith, length-map c.files snapshot_file, files-few c is);
-      each = files-fit (geometry_of c.geometry).blocks (geometry_of c.geometry).files c.next c.files g.1 g.0 is.next is.table.within (omega (arith, is.few)) is.each;
+      each = files-fit (geometry_of c.geometry).blocks (geometry_of c.geometry).files c.next c.files g.1 g.0 is.next is.table.within (omega (arith, is.few)) (omega (arith, is.few_stubs, stubs-bounded c.geometry)) is.each;
     }
 
 -- ---- the area
@@ -110,24 +120,32 @@ length-mappings : (es : List Mapping) → length (flat_map extent_bytes es) ≡ 
 length-mappings [] = refl
 length-mappings (e ∷ es) = omega (arith, length-append (extent_bytes e) (flat_map extent_bytes es), length-mappings es)
 
-file-short : (blocks : ℕ) (f : CatalogFile) → IsCatalogFile blocks f → length (file_bytes (snapshot_file f)) ≤ 170 + 8 * length (present f.places) + bytes_of_attributes f.kept.attributes
+length-stubs : (stubs : Stubs) → AllByRecursion StubFits stubs → length (flat_map stub_bytes stubs) ≡ 49 * length stubs
+length-stubs [] fit = refl
+length-stubs (x ∷ stubs) fit = simp length-append (omega (arith, fit.0.digest, length-stubs stubs fit.1))
+
+file-short : (blocks : ℕ) (f : CatalogFile) → IsCatalogFile blocks f → length (file_bytes (snapshot_file f)) ≤ 170 + 8 * length (present f.places) + bytes_of_attributes f.kept.attributes + 49 * length f.kept.stubs
 unfolding file_bytes
 file-short blocks f is =
     let k = is.kept in
-    simp length-append (omega (arith, length-regions f.kept.regions, length-mappings (extents_from 0 f.places), length-extents 0 f.places, name-short f.name is.name, regions-few f.kept.regions k.regions, attributes-short f.kept.attributes k.eight))
+    let stubs = length-stubs f.kept.stubs (stubs-fit f f.kept.stubs is.size is.stubs) in
+    simp length-append (omega (arith, stubs, length-regions f.kept.regions, length-mappings (extents_from 0 f.places), length-extents 0 f.places, name-short f.name is.name, regions-few f.kept.regions k.regions, attributes-short f.kept.attributes k.eight))
 
-files-short : (blocks : ℕ) (fs : List CatalogFile) → AllByRecursion (IsCatalogFile blocks) fs → length (flat_map file_bytes (map snapshot_file fs)) ≤ 170 * length fs + 8 * length (blocks_of fs) + attribute_total fs
+files-short : (blocks : ℕ) (fs : List CatalogFile) → AllByRecursion (IsCatalogFile blocks) fs
+    → length (flat_map file_bytes (map snapshot_file fs)) ≤ 170 * length fs + 8 * length (blocks_of fs) + attribute_total fs + 49 * stub_total fs
 files-short blocks [] each = omega arith
 files-short blocks (f ∷ fs) each =
-    simp length-append (omega (arith, sum_by-cons (λ (g : CatalogFile). bytes_of_attributes g.kept.attributes) f fs, file-short blocks f each.0, files-short blocks fs each.1))
+    let attributes = sum_by-cons (λ (g : CatalogFile). bytes_of_attributes g.kept.attributes) f fs in
+    let stubs = sum_by-cons (λ (g : CatalogFile). length g.kept.stubs) f fs in
+    simp length-append (omega (arith, attributes, stubs, file-short blocks f each.0, files-short blocks fs each.1))
 
-area-bounded : (geometry : ℕ) → 24 + 170 * (geometry_of geometry).files + 8 * (geometry_of geometry).blocks + (geometry_of geometry).attributes ≤ (layout_of geometry).snapshot_len
+area-bounded : (geometry : ℕ) → 24 + 170 * (geometry_of geometry).files + 8 * (geometry_of geometry).blocks + (geometry_of geometry).attributes + 49 * (geometry_of geometry).stubs ≤ (layout_of geometry).snapshot_len
 unfolding geometry_of layout_of
 area-bounded geometry = grind arith
 
 pub snapshot-short : (n : ℕ) (c : Catalog) → IsCatalog c → length (spelling (snapshot_of n c)) ≤ (layout_of c.geometry).snapshot_len
 unfolding spelling snapshot_of
-snapshot-short n c is = omega (arith, files-short (geometry_of c.geometry).blocks c.files is.each, blocks-few c is, files-few c is, is.few, area-bounded c.geometry)
+snapshot-short n c is = omega (arith, files-short (geometry_of c.geometry).blocks c.files is.each, blocks-few c is, files-few c is, is.few, is.few_stubs, area-bounded c.geometry)
 
 -- `format` writes the snapshot of no file
 pub spelling-empty : (geometry : ℕ) → spelling (snapshot_of 0 (record { geometry = geometry; next = 1; files = [] })) ≡ empty_snapshot

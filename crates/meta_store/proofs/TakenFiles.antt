@@ -10,14 +10,16 @@ use Rattle.plain_model.specs.Blocks.{blocks_in, with_mapped}
 use Rattle.plain_model.specs.Distinct.{Distinct}
 use Rattle.inode_table.specs.Listing.{listing, key_named, Ascend}
 use Rattle.inode_table.specs.Table.{Table, entry_of}
-use Rattle.meta_store.specs.Catalogs.{CatalogFile, Catalog, IsLawfulKept, IsCatalogFile, names_of, blocks_of, present}
+use Rattle.meta_store.specs.Catalogs.{CatalogFile, Catalog, IsLawfulKept, IsCatalogFile, HasLengths, names_of, blocks_of, present}
 use Rattle.meta_store.specs.Records.{with_put}
-use Rattle.meta_store.specs.Snapshots.{SnapshotFile, snapshot_file}
-use Rattle.meta_store.specs.Validity.{names_in, places_of, places_in, last_inode, are_unused, are_free, Follows, Flags, HasTaken}
+use Rattle.meta_store.specs.Snapshots.{SnapshotFile, snapshot_file, extents_from, StubFits}
+use Rattle.meta_store.specs.Validity.{names_in, places_of, places_in, last_inode, are_unused, are_free, are_stubs, Follows, Flags, HasTaken}
 use Rattle.meta_store.proofs.MappedPlaces.{length-places_set}
 use Rattle.meta_store.proofs.SpreadPlaces.{filled, spread-holes, present-spread, extents-tell, all-places}
 use Rattle.meta_store.proofs.StandOnce.{put-behind, unused-joins, free-is, length-mapped}
 use Rattle.meta_store.proofs.PassingFiles.{names_in-snapshot, places_in-snapshot}
+use Rattle.meta_store.proofs.SnapshotFits.{all-both}
+use Rattle.meta_store.proofs.LawfulStubs.{stubs-ascend, stubs-tell, stubs-long}
 
 same_variant : {X Y : Type 0} (to : X → Y) (o : Option X) → is_some (option_map to o) ≡ is_some o
 same_variant to None = refl
@@ -33,7 +35,15 @@ table-has fs name t is = same_variant (λ (l : Listed). l.key) (named name (list
 
 -- ---- a file that can follow, behind those of a catalog
 
+-- its entries were judged by the places of its blocks
+abbrev pub AreJudged : SnapshotFile → Type 0
+AreJudged f = are_stubs f.size f.kept.regions (extents_from 0 (filled f).places) None f.kept.stubs ≡ true
+
 module _ {g : Geometry} {next : ℕ} {c : Catalog} {flags : List Bool} {f : SnapshotFile} (t : HasTaken c.geometry next g.blocks (map snapshot_file c.files) c flags) (follows : Follows g next (map snapshot_file c.files) f) where
+  -- the places of its blocks stand for its extents
+  pub extents-again : extents_from 0 (filled f).places ≡ f.extents
+  extents-again = spread-holes f.extents (blocks_in f.size) g.blocks follows.extents
+
   pub is-above : last_inode 0 (names_of c.files) < f.key.ino
   is-above = rw (← names_in-snapshot c.files) follows.above
 
@@ -43,25 +53,28 @@ module _ {g : Geometry} {next : ℕ} {c : Catalog} {flags : List Bool} {f : Snap
   pub flags-tell : (are_free (places_of f.extents) flags ≡ are_unused (places_in (map snapshot_file c.files)) (places_of f.extents)) × Flags (with_mapped (places_of f.extents) flags) (places_in (map snapshot_file c.files) ++ places_of f.extents)
   flags-tell = free-is (places_of f.extents) flags (places_in (map snapshot_file c.files)) (all-places (λ p. p < length flags) f.extents within) t.flagged
 
-  pub is-lawful : IsLawfulKept f.kept → IsCatalogFile g.blocks (filled f)
-  is-lawful kept = record {
+  pub is-lawful : IsLawfulKept f.kept → AreJudged f → AllByRecursion StubFits f.kept.stubs → IsCatalogFile g.blocks (filled f)
+  is-lawful kept stubs fit = record {
     generation = follows.first;
     name = follows.name;
     size = follows.size;
     places = length-places_set f.extents (replicate (blocks_in f.size) None) ∙ length-replicate (blocks_in f.size) None;
     within = rw (present-spread f.extents (blocks_in f.size) g.blocks follows.extents) (all-places (λ b. b < g.blocks) f.extents (extents-tell 0 (blocks_in f.size) g.blocks f.extents follows.extents).1);
     kept = kept;
+    ascend = stubs-ascend f.size f.kept.regions (extents_from 0 (filled f).places) None f.kept.stubs stubs;
+    stubs = stubs-tell (filled f) None f.kept.stubs stubs fit;
   }
 
   pub once-each : are_free (places_of f.extents) flags ≡ true → Distinct (blocks_of c.files) → Distinct (present (filled f).places ++ blocks_of c.files)
   once-each free d =
       rw (present-spread f.extents (blocks_in f.size) g.blocks follows.extents) (unused-joins (blocks_of c.files) (places_of f.extents) (rw (← places_in-snapshot c.files, ← flags-tell.0) free) d)
 
-  pub taken-more : Ascend 1 (names_of c.files) → HasTaken c.geometry next g.blocks (map snapshot_file c.files ++ f ∷ []) (with_put (filled f) c) (with_mapped (places_of f.extents) flags)
-  taken-more a = record {
+  pub taken-more : Ascend 1 (names_of c.files) → AreJudged f → HasTaken c.geometry next g.blocks (map snapshot_file c.files ++ f ∷ []) (with_put (filled f) c) (with_mapped (places_of f.extents) flags)
+  taken-more a stubs = record {
     geometry = refl;
     next = omega (arith, t.next, follows.old);
-    taken = rw (put-behind 0 (filled f) c.files a is-above, map-append snapshot_file c.files (filled f ∷ []), spread-holes f.extents (blocks_in f.size) g.blocks follows.extents) refl;
+    taken = rw (put-behind 0 (filled f) c.files a is-above, map-append snapshot_file c.files (filled f ∷ []), extents-again) refl;
+    lengths = rw (put-behind 0 (filled f) c.files a is-above) (all-both HasLengths c.files (filled f ∷ []) t.lengths (stubs-long f.size f.kept.regions (extents_from 0 (filled f).places) None f.kept.stubs stubs, tt));
     count = length-mapped (places_of f.extents) flags ∙ t.count;
     flagged = rw (flat_map-append (λ (s : SnapshotFile). places_of s.extents) (map snapshot_file c.files) (f ∷ []), append-nil (places_of f.extents)) flags-tell.1;
   }

@@ -1,12 +1,17 @@
 -- What a store keeps of its files beside their bytes.
-use Rattle.std.specs.Prelude.{◌≡◌, ℕ, ◌<◌, ◌≤◌, ◌^◌, ◌==◌, List, [], ◌∷◌, length, map, sum_by, true, if◌then◌else◌, Option, Some, None}
+use Rattle.std.specs.Prelude.{◌≡◌, ℕ, ◌*◌, ◌<◌, ◌≤◌, ◌^◌, ◌==◌, List, [], ◌∷◌, length, map, take, drop, sum_by, true, if◌then◌else◌, Option, Some, None}
 use Rattle.std.specs.List.{flat_map, AllByRecursion}
+use Rattle.std.specs.List.Sorted.{IsStrictlySortedBy}
+use Rattle.std.specs.Map.{keys_of}
+use Rattle.std.specs.Ordering.{nat_cmp}
 use Rattle.hsm_types.specs.Names.{is_name}
 use Rattle.hsm_types.specs.declared.keys.FileKey.{FileKey}
 use Rattle.hsm_types.specs.declared.stores.Geometry.{Geometry}
-use Rattle.hsm_types.specs.Regions.{regions_refusal}
+use Rattle.hsm_types.specs.Regions.{regions_refusal, covers}
+use Rattle.hsm_types.specs.Segments.{segment_len}
 use Rattle.hsm_types.specs.Attributes.{AreAttributes, bytes_of_attributes}
 use Rattle.hsm_types.specs.Kept.{Kept}
+use Rattle.hsm_types.specs.declared.stubs.Stub.{Stub}
 use Rattle.plain_model.specs.Plain.{Listed}
 use Rattle.plain_model.specs.Blocks.{blocks_in}
 use Rattle.plain_model.specs.Distinct.{Distinct}
@@ -28,7 +33,7 @@ pub record Catalog : Type 0 where
 
 -- how much a store of geometry 0 can hold, which is small, and one of any other, which is large
 unfoldable pub geometry_of : ℕ → Geometry
-geometry_of geometry = if geometry == 0 then record { files = 64; blocks = 1024; attributes = 32768 } else record { files = 4096; blocks = 65536; attributes = 1048576 }
+geometry_of geometry = if geometry == 0 then record { files = 64; blocks = 1024; attributes = 32768; stubs = 1024 } else record { files = 4096; blocks = 65536; attributes = 1048576; stubs = 65536 }
 
 -- the key and the name of each file
 abbrev pub names_of : List CatalogFile → List Listed
@@ -48,6 +53,30 @@ blocks_of files = flat_map (λ f. present f.places) files
 abbrev pub attribute_total : List CatalogFile → ℕ
 attribute_total files = sum_by (λ f. bytes_of_attributes f.kept.attributes) files
 
+-- how many stub entries all files have
+abbrev pub stub_total : List CatalogFile → ℕ
+stub_total files = sum_by (λ f. length f.kept.stubs) files
+
+-- where the blocks of a segment lie, of a file whose blocks lie there
+abbrev pub places_in_segment : ℕ → List (Option ℕ) → List (Option ℕ)
+places_in_segment j places = take 16 (drop (16 * j) places)
+
+-- What is true of each stub entry of a file: its segment starts below the size, its volume is one that there may be, and a segment that is offline is
+-- covered and has no blocks.
+pub record IsCatalogStub (f : CatalogFile) (x : ℕ × Stub) : Type 0 where
+  pub start : 65536 * x.0 < f.size
+  pub volume : x.1.entry.volume ≤ 255
+  pub covered : x.1.offline ≡ true → covers f.kept.regions x.0 ≡ true
+  pub away : x.1.offline ≡ true → present (places_in_segment x.0 f.places) ≡ []
+  -- a number has 32 bits, and a digest 32 bytes
+  pub object : x.1.entry.object < 2 ^ 32
+  pub len : x.1.entry.print.len < 2 ^ 32
+  pub digest : length x.1.entry.print.digest.0 ≡ 32
+
+-- each of the file's entries has the length of its segment
+abbrev pub HasLengths : CatalogFile → Type 0
+HasLengths f = AllByRecursion (λ x. x.1.entry.print.len ≡ segment_len f.size x.0) f.kept.stubs
+
 -- what is true of what sessions keep with each file
 pub record IsLawfulKept (k : Kept) : Type 0 where
   pub regions : regions_refusal k.regions ≡ None
@@ -63,9 +92,11 @@ pub record IsCatalogFile (blocks : ℕ) (f : CatalogFile) : Type 0 where
   pub places : length f.places ≡ blocks_in f.size
   pub within : AllByRecursion (λ b. b < blocks) (present f.places)
   pub kept : IsLawfulKept f.kept
+  pub ascend : IsStrictlySortedBy nat_cmp (keys_of f.kept.stubs)
+  pub stubs : AllByRecursion (IsCatalogStub f) f.kept.stubs
 
 -- What is true of each catalog: inodes ascend and are within the geometry's, names differ, each generation is below the next one, no block
--- of the disk is used twice, and all attributes together count at most what the geometry allows.
+-- of the disk is used twice, and all attributes together, and all stub entries, count at most what the geometry allows.
 pub record IsCatalog (c : Catalog) : Type 0 where
   pub known : c.geometry ≤ 1
   pub first : 1 ≤ c.next
@@ -74,3 +105,9 @@ pub record IsCatalog (c : Catalog) : Type 0 where
   pub each : AllByRecursion (IsCatalogFile (geometry_of c.geometry).blocks) c.files
   pub distinct : Distinct (blocks_of c.files)
   pub few : attribute_total c.files ≤ (geometry_of c.geometry).attributes
+  pub few_stubs : stub_total c.files ≤ (geometry_of c.geometry).stubs
+
+-- Between two events each entry of its files has the length of its segment. The records of one event may change a size before they drop the entry of the
+-- segment that it cuts.
+abbrev pub AreLengths : Catalog → Type 0
+AreLengths c = AllByRecursion HasLengths c.files

@@ -4,7 +4,7 @@ use Rattle.disk_model.specs.Moments.{MayBe, Turns}
 use Rattle.disk_model.specs.declared.device.Disk as disk
 use Rattle.commit_slots.specs.Places.{layout_of}
 use Rattle.commit_slots.specs.Steps.{Selects}
-use Rattle.meta_store.specs.Catalogs.{Catalog, IsCatalog}
+use Rattle.meta_store.specs.Catalogs.{Catalog, IsCatalog, AreLengths}
 use Rattle.meta_store.specs.Images.{IsImage, Recovers}
 use Rattle.meta_store.specs.declared.records.Record.{Record}
 use Rattle.meta_store.specs.Records.{after_all, refusal_of_all}
@@ -19,11 +19,13 @@ pub record Meta : Type 0 where
   -- with all changes since
   pub current : Catalog
 
--- what was stored is lawful, and of the geometry of the files as they are
+-- what was stored is lawful, and of the geometry of the files as they are; and each stub entry has the length of its segment
 pub record IsStored (m : Meta) : Type 0 where
   pub number : m.number ≤ 2 ^ 62
   pub catalog : IsCatalog m.durable
   pub geometry : m.current.geometry ≡ m.durable.geometry
+  pub lengths : AreLengths m.durable
+  pub now : AreLengths m.current
 
 -- so are the files as they are
 pub record IsMeta (m : Meta) : Type 0 where

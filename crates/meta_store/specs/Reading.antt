@@ -1,9 +1,11 @@
 -- Reading the bytes of a snapshot from left to right. A reader takes a value from the front of some bytes, and gives it with the bytes after it.
-use Rattle.std.specs.Prelude.{◌≡◌, ℕ, zero, suc, List, [], ◌∷◌, length, take, drop, Option, Some, None, Result, Ok, Err, ◌==◌, nat_lt, if◌then◌else◌}
+use Rattle.std.specs.Prelude.{◌≡◌, ℕ, zero, suc, List, [], ◌∷◌, length, take, drop, Bool, true, false, Option, Some, None, Result, Ok, Err, ◌==◌, nat_lt, if◌then◌else◌}
 use Rattle.byteorder.specs.Endian.{big_number}
 use Rattle.hsm_types.specs.declared.keys.FileKey.{FileKey}
 use Rattle.hsm_types.specs.declared.regions.Region.{Region}
 use Rattle.hsm_types.specs.declared.attributes.AttrName.{AttrName}
+use Rattle.hsm_types.specs.declared.stubs.Fingerprint.{Fingerprint}
+use Rattle.hsm_types.specs.declared.stubs.Stub.{Stub}
 use Rattle.meta_store.specs.declared.snapshot.Mapping.{Mapping}
 use Rattle.meta_store.specs.declared.snapshot.ReadRefusal.{ReadRefusal}
 use Rattle.meta_store.specs.declared.snapshot.ReadRefusal.TheVariants.{Memory, Corrupt}
@@ -87,10 +89,27 @@ attribute_at = both attr_name_at (counted 2 bytes_at)
 unfoldable pub extent_at : List ℕ → Option (Mapping × List ℕ)
 extent_at = made (λ n. record { block = n.0; place = n.1 }) (both (number_at 4) (number_at 4))
 
--- the count of stub entries is last
+-- the state of a segment with an entry: whether it is offline
+abbrev pub offline_in : ℕ → Option Bool
+offline_in state = if state == 1 then Some false else if state == 2 then Some true else None
+
+unfoldable pub state_at : List ℕ → Option (Bool × List ℕ)
+state_at bytes = do
+  state ← number_at 1 bytes
+  offline ← offline_in state.0
+  Some (offline, state.1)
+
+unfoldable pub print_at : List ℕ → Option (Fingerprint × List ℕ)
+print_at = made (λ p. record { len = p.0; digest = record { 0 = p.1 } }) (both (number_at 4) (bytes_at 32))
+
+-- a segment, its state and its entry
+unfoldable pub stub_in : List ℕ → Option ((ℕ × Stub) × List ℕ)
+stub_in = made (λ p. (p.0.0.0.0, record { entry = record { volume = p.0.0.1; object = p.0.1; print = p.1 }; offline = p.0.0.0.1 }))
+    (both (both (both (both (number_at 4) state_at) (number_at 4)) (number_at 4)) print_at)
+
 unfoldable pub file_at : List ℕ → Option (SnapshotFile × List ℕ)
-file_at = made (λ p. record { key = p.0.0.0.0.0.0; size = p.0.0.0.0.0.1; name = p.0.0.0.0.1; kept = record { regions = p.0.0.0.1; attributes = p.0.0.1 }; extents = p.0.1 })
-    (both (both (both (both (both (both key_at (number_at 8)) (counted 1 bytes_at)) (counted 1 (several region_at))) (counted 4 (several attribute_at))) (counted 4 (several extent_at))) (only_at 4 0))
+file_at = made (λ p. record { key = p.0.0.0.0.0.0; size = p.0.0.0.0.0.1; name = p.0.0.0.0.1; kept = record { regions = p.0.0.0.1; attributes = p.0.0.1; stubs = p.1 }; extents = p.0.1 })
+    (both (both (both (both (both (both key_at (number_at 8)) (counted 1 bytes_at)) (counted 1 (several region_at))) (counted 4 (several attribute_at))) (counted 4 (several extent_at))) (counted 4 (several stub_in)))
 
 unfoldable pub snapshot_at : List ℕ → Option (Snapshot × List ℕ)
 snapshot_at = made (λ p. record { number = p.0.0.0; next = p.0.0.1; files = p.1 })

@@ -1,12 +1,16 @@
 -- What records change of a catalog. Those of one event are taken together.
-use Rattle.std.specs.Prelude.{◌≡◌, ℕ, ◌+◌, ◌-◌, ◌≤◌, ◌<◌, ◌^◌, max, List, [], ◌∷◌, ◌++◌, length, take, replicate, slice_set, true, false, ◌==◌, Option, Some, None}
+use Rattle.std.specs.Prelude.{◌≡◌, ℕ, ◌+◌, ◌-◌, ◌*◌, ◌/◌, ◌≤◌, ◌<◌, ◌^◌, max, min, List, [], ◌∷◌, ◌++◌, length, take, drop, replicate, slice_set, true, false, if◌then◌else◌, ◌==◌, Option, Some, None}
 use Rattle.std.specs.List.{list_any, AllByRecursion}
 use Rattle.std.specs.Option.{option_map, unwrap_or}
 use Rattle.hsm_types.specs.Names.{is_name}
 use Rattle.hsm_types.specs.declared.keys.FileKey.{FileKey}
 use Rattle.hsm_types.specs.declared.dm.DmRefusal.{DmRefusal}
 use Rattle.hsm_types.specs.Refusals.{first_refusal}
-use Rattle.hsm_types.specs.Regions.{regions_refusal}
+use Rattle.hsm_types.specs.Regions.{regions_refusal, covers}
+use Rattle.hsm_types.specs.Segments.{segments_in}
+use Rattle.hsm_types.specs.Stubs.{stub_at, offline_at, with_stub, without_stub, stubs_below, uncovered, too_many_stubs}
+use Rattle.hsm_types.specs.declared.stores.Geometry.{Geometry}
+use Rattle.hsm_types.specs.declared.stubs.Stub.{Stub as StubOf}
 use Rattle.hsm_types.specs.Attributes.{with_value, without_value, setting_refusal, removal_refusal}
 use Rattle.hsm_types.specs.Kept.{Kept, nothing_kept}
 use Rattle.plain_model.specs.Keyed.{find_key, change_key, put_key, drop_key}
@@ -16,8 +20,9 @@ use Rattle.plain_model.specs.Distinct.{Distinct}
 use Rattle.inode_table.specs.Listing.{key_at, has_inode}
 use Rattle.meta_store.specs.declared.snapshot.Mapping.{Mapping}
 use Rattle.meta_store.specs.declared.records.Record.{Record}
-use Rattle.meta_store.specs.declared.records.Record.TheVariants.{Make, Drop, Size, Map, Regions, SetAttr, DropAttr}
-use Rattle.meta_store.specs.Catalogs.{CatalogFile, Catalog, names_of, blocks_of, geometry_of, attribute_total}
+use Rattle.meta_store.specs.declared.records.Record.TheVariants.{Make, Drop, Size, Map, Regions, SetAttr, DropAttr, Stub}
+use Rattle.meta_store.specs.declared.file_parts.Others.{Others}
+use Rattle.meta_store.specs.Catalogs.{CatalogFile, Catalog, names_of, blocks_of, geometry_of, attribute_total, stub_total}
 
 -- ---- one file
 
@@ -35,13 +40,19 @@ abbrev pub mappings_from : ℕ → List ℕ → List Mapping
 mappings_from block [] = []
 mappings_from block (p ∷ ps) = (record { block = block; place = p }) ∷ mappings_from (block + 1) ps
 
+-- no block of the segment has a place
+abbrev pub places_without : ℕ → List (Option ℕ) → List (Option ℕ)
+places_without j places = take (16 * j) places ++ replicate (min 16 (length places - 16 * j)) None ++ drop (16 * j + 16) places
+
 -- the file that a record is about, after it
 abbrev pub file_after : Record → CatalogFile → CatalogFile
-file_after (Size ino size) f = record f { size = size; places = places_fitted size f.places }
+file_after (Size ino size) f = record f { size = size; places = places_fitted size f.places; kept = record f.kept { stubs = stubs_below (segments_in size) f.kept.stubs } }
 file_after (Map ino block places) f = record f { places = places_set (mappings_from block places.items) f.places }
 file_after (Regions ino regions) f = record f { kept = record f.kept { regions = regions } }
 file_after (SetAttr ino name value) f = record f { kept = record f.kept { attributes = with_value name value f.kept.attributes } }
 file_after (DropAttr ino name) f = record f { kept = record f.kept { attributes = without_value name f.kept.attributes } }
+file_after (Stub ino j None) f = record f { kept = record f.kept { stubs = without_stub j f.kept.stubs } }
+file_after (Stub ino j (Some stub)) f = record f { places = if stub.offline then places_without j f.places else f.places; kept = record f.kept { stubs = with_stub j stub f.kept.stubs } }
 file_after r f = f
 
 -- ---- the catalog
@@ -70,6 +81,7 @@ inode_of (Map ino block places) = ino
 inode_of (Regions ino regions) = ino
 inode_of (SetAttr ino name value) = ino
 inode_of (DropAttr ino name) = ino
+inode_of (Stub ino j stub) = ino
 
 -- the key of the file that has that inode; where none has it, one of no file
 abbrev pub key_on : ℕ → Catalog → FileKey
@@ -95,15 +107,23 @@ kept_at key c = unwrap_or (option_map (λ f. f.kept) (find_key (λ f. f.key) key
 abbrev pub others_total : FileKey → Catalog → ℕ
 others_total key c = attribute_total (without_file key c).files
 
--- by the rules of the part that it is about, where the attributes of all other files count so much
-abbrev pub part_refusal : Record → ℕ → ℕ → Kept → Option DmRefusal
-part_refusal (Regions ino regions) others limit k = regions_refusal regions
-part_refusal (SetAttr ino name value) others limit k = setting_refusal name value others limit k.attributes
-part_refusal (DropAttr ino name) others limit k = removal_refusal name k.attributes
-part_refusal r others limit k = None
+-- how many stub entries they have
+abbrev pub others_stubs : FileKey → Catalog → ℕ
+others_stubs key c = stub_total (without_file key c).files
+
+abbrev pub others_of : FileKey → Catalog → Others
+others_of key c = record { attributes = others_total key c; stubs = others_stubs key c }
+
+-- by the rules of the part that it is about, where all other files have so much, in a store of that geometry
+abbrev pub part_refusal : Record → Others → Geometry → Kept → Option DmRefusal
+part_refusal (Regions ino regions) others limits k = first_refusal (regions_refusal regions ∷ uncovered regions k.stubs ∷ [])
+part_refusal (SetAttr ino name value) others limits k = setting_refusal name value others.attributes limits.attributes k.attributes
+part_refusal (DropAttr ino name) others limits k = removal_refusal name k.attributes
+part_refusal (Stub ino j (Some stub)) others limits k = too_many_stubs j others.stubs limits.stubs k.stubs
+part_refusal r others limits k = None
 
 abbrev pub refusal_of : Record → Catalog → Option DmRefusal
-refusal_of r c = part_refusal r (others_total (key_on (inode_of r) c) c) (geometry_of c.geometry).attributes (kept_at (key_on (inode_of r) c) c)
+refusal_of r c = part_refusal r (others_of (key_on (inode_of r) c) c) (geometry_of c.geometry) (kept_at (key_on (inode_of r) c) c)
 
 -- of records, the refusal of the first that is refused, over the catalog after those before it
 abbrev pub refusal_of_all : List Record → Catalog → Option DmRefusal
@@ -122,17 +142,30 @@ pub record IsNewFile (key : FileKey) (name : List ℕ) (c : Catalog) : Type 0 wh
   pub generation : c.next ≤ key.igen
   pub last : key.igen < 2 ^ 62
 
--- Blocks of a file and their places: the file has the blocks, and the disk has the places, which no file uses, each once.
+-- Blocks of a file and their places: the file has the blocks, none of them in a segment that is offline, and the disk has the places, which no file
+-- uses, each once.
 pub record IsMappable (block : ℕ) (places : List ℕ) (f : CatalogFile) (c : Catalog) : Type 0 where
   pub blocks : block + length places ≤ length f.places
+  pub here : (b : ℕ) → block ≤ b → b < block + length places → offline_at f.kept.stubs (b / 16) ≡ false
   pub within : AllByRecursion (λ p. p < (geometry_of c.geometry).blocks) places
   pub unused : AllByRecursion (λ p. list_any (λ b. b == p) (blocks_of c.files) ≡ false) places
   pub distinct : Distinct places
 
--- What no part judges: a file has the inode, and the record fits it.
+-- A stub entry of a file. Its segment starts below the size. It goes away only by the entry that it is sealed with, and where it is covered, and comes
+-- back only by the entry that it has.
+pub record IsStubbable (j : ℕ) (stub : StubOf) (f : CatalogFile) : Type 0 where
+  pub start : 65536 * j < f.size
+  pub volume : stub.entry.volume ≤ 255
+  pub goes : stub.offline ≡ true → stub_at j f.kept.stubs ≡ Some (record stub { offline = false })
+  pub covered : stub.offline ≡ true → covers f.kept.regions j ≡ true
+  pub comes : stub.offline ≡ false → offline_at f.kept.stubs j ≡ true → stub_at j f.kept.stubs ≡ Some (record stub { offline = true })
+
+-- What no part judges: a file has the inode, and the record fits it. A segment without an entry has its bytes.
 abbrev pub CanStandOn : Record → CatalogFile → Catalog → Type 0
 CanStandOn (Size ino size) f c = size ≤ 16777216
 CanStandOn (Map ino block places) f c = IsMappable block places.items f c
+CanStandOn (Stub ino j None) f c = offline_at f.kept.stubs j ≡ false
+CanStandOn (Stub ino j (Some stub)) f c = IsStubbable j stub f
 CanStandOn r f c = Unit {0}
 
 abbrev pub CanStand : Record → Catalog → Type 0
@@ -150,11 +183,14 @@ IsAboutOne (Make key name) = ⊥
 IsAboutOne (Drop ino) = ⊥
 IsAboutOne r = Unit {0}
 
-abbrev pub IsMap : Record → Type 0
-IsMap (Map ino block places) = Unit {0}
-IsMap r = ⊥
+-- it is never refused, and takes no memory: the places of blocks, and that an entry is gone or stands for bytes that are away
+abbrev pub IsSure : Record → Type 0
+IsSure (Map ino block places) = Unit {0}
+IsSure (Stub ino j None) = Unit {0}
+IsSure (Stub ino j (Some stub)) = stub.offline ≡ true
+IsSure r = ⊥
 
--- The records of an event are one, and maps behind it. So none but the first may be refused, or take memory.
+-- The records of an event are one, and behind it such as are sure. So none but the first may be refused, or take memory.
 abbrev pub IsEvent : List Record → Type 0
 IsEvent [] = Unit {0}
-IsEvent (r ∷ rs) = AllByRecursion IsMap rs
+IsEvent (r ∷ rs) = AllByRecursion IsSure rs

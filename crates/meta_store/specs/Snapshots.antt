@@ -1,15 +1,16 @@
 -- The bytes of a snapshot.
-use Rattle.std.specs.Prelude.{◌≡◌, ℕ, ◌+◌, ◌<◌, ◌≤◌, ◌^◌, List, [], ◌∷◌, ◌++◌, length, map, Option, Some, None}
+use Rattle.std.specs.Prelude.{◌≡◌, ℕ, ◌+◌, ◌<◌, ◌≤◌, ◌^◌, List, [], ◌∷◌, ◌++◌, length, map, Bool, if◌then◌else◌, Option, Some, None}
 use Rattle.std.specs.List.{flat_map, AllByRecursion}
 use Rattle.byteorder.specs.Endian.{big_bytes}
 use Rattle.hsm_types.specs.declared.keys.FileKey.{FileKey}
 use Rattle.hsm_types.specs.declared.regions.Region.{Region}
 use Rattle.hsm_types.specs.declared.attributes.AttrName.{AttrName}
 use Rattle.hsm_types.specs.Kept.{Kept}
+use Rattle.hsm_types.specs.declared.stubs.Stub.{Stub}
 use Rattle.meta_store.specs.declared.snapshot.Mapping.{Mapping}
 use Rattle.meta_store.specs.declared.snapshot.RawFile.{RawFile}
 use Rattle.meta_store.specs.declared.snapshot.RawSnapshot.{RawSnapshot}
-use Rattle.meta_store.specs.Catalogs.{CatalogFile, Catalog, IsCatalog}
+use Rattle.meta_store.specs.Catalogs.{CatalogFile, Catalog, IsCatalog, AreLengths}
 
 -- a file as a snapshot spells it
 pub record SnapshotFile : Type 0 where
@@ -27,7 +28,7 @@ pub record Snapshot : Type 0 where
 
 -- the snapshot that was read
 abbrev pub raw_file : RawFile → SnapshotFile
-raw_file f = record { key = f.key; size = f.size; name = f.name; kept = record { regions = f.regions.items; attributes = f.attributes.items }; extents = f.extents.items }
+raw_file f = record { key = f.key; size = f.size; name = f.name; kept = record { regions = f.regions.items; attributes = f.attributes.items; stubs = f.stubs.items }; extents = f.extents.items }
 
 abbrev pub raw_snapshot : RawSnapshot → Snapshot
 raw_snapshot s = record { number = s.number; next = s.next; files = map raw_file s.files.items }
@@ -47,11 +48,18 @@ region_bytes r = big_bytes 8 r.offset ++ big_bytes 8 r.size ++ big_bytes 1 r.fla
 abbrev pub attribute_bytes : AttrName × List ℕ → List ℕ
 attribute_bytes a = a.0.0 ++ (big_bytes 2 (length a.1) ++ a.1)
 
+-- a sealed segment has the state 1, and one that is offline 2
+abbrev pub state_of : Bool → ℕ
+state_of offline = if offline then 2 else 1
+
+-- a segment with its state and its entry, whose digest has 32 bytes
+abbrev pub stub_bytes : ℕ × Stub → List ℕ
+stub_bytes x = big_bytes 4 x.0 ++ big_bytes 1 (state_of x.1.offline) ++ big_bytes 4 x.1.entry.volume ++ big_bytes 4 x.1.entry.object ++ big_bytes 4 x.1.entry.print.len ++ x.1.entry.print.digest.0
+
 -- a number of n bytes that says how many there are, and each
 abbrev pub counted_bytes : {X : Type 0} → ℕ → (X → List ℕ) → List X → List ℕ
 counted_bytes n text xs = big_bytes n (length xs) ++ flat_map text xs
 
--- The count of stub entries is 0.
 unfoldable pub file_bytes : SnapshotFile → List ℕ
 file_bytes f =
     key_bytes f.key ++ big_bytes 8 f.size
@@ -59,7 +67,7 @@ file_bytes f =
     ++ counted_bytes 1 region_bytes f.kept.regions
     ++ counted_bytes 4 attribute_bytes f.kept.attributes
     ++ counted_bytes 4 extent_bytes f.extents
-    ++ big_bytes 4 0
+    ++ counted_bytes 4 stub_bytes f.kept.stubs
 
 -- The format is 1.
 unfoldable pub spelling : Snapshot → List ℕ
@@ -74,6 +82,13 @@ AttributeFits a = (length a.0.0 ≡ 8) × (length a.1 < 2 ^ 16)
 abbrev pub ExtentFits : Mapping → Type 0
 ExtentFits e = (e.block < 2 ^ 32) × (e.place < 2 ^ 32)
 
+pub record StubFits (x : ℕ × Stub) : Type 0 where
+  pub segment : x.0 < 2 ^ 32
+  pub volume : x.1.entry.volume < 2 ^ 32
+  pub object : x.1.entry.object < 2 ^ 32
+  pub len : x.1.entry.print.len < 2 ^ 32
+  pub digest : length x.1.entry.print.digest.0 ≡ 32
+
 -- each number is one that its field can hold
 pub record FileFits (f : SnapshotFile) : Type 0 where
   pub ino : f.key.ino < 2 ^ 64
@@ -86,6 +101,8 @@ pub record FileFits (f : SnapshotFile) : Type 0 where
   pub each_attribute : AllByRecursion AttributeFits f.kept.attributes
   pub extents : length f.extents < 2 ^ 32
   pub each_extent : AllByRecursion ExtentFits f.extents
+  pub stubs : length f.kept.stubs < 2 ^ 32
+  pub each_stub : AllByRecursion StubFits f.kept.stubs
 
 pub record Fits (s : Snapshot) : Type 0 where
   pub number : s.number < 2 ^ 64
@@ -117,4 +134,5 @@ snapshot_of number c = record { number = number; next = c.next; files = map snap
 pub record IsSnapshot (area : List ℕ) (n : ℕ) (c : Catalog) : Type 0 where
   pub number : n ≤ 2 ^ 62
   pub catalog : IsCatalog c
+  pub lengths : AreLengths c
   pub spelled : IsSpelled area (snapshot_of n c)

@@ -1,18 +1,20 @@
 -- What is judged of the files of a snapshot, one after the other.
-use Rattle.std.specs.Prelude.{◌≡◌, ℕ, ◌+◌, ◌<◌, ◌≤◌, List, [], ◌∷◌, ◌++◌, length, map, sum_by, get_or, slice_set, Bool, true, false, not, ◌==◌, ◌&&◌, nat_lt, nat_le, Option, Some, None, is_some}
+use Rattle.std.specs.Prelude.{◌≡◌, ℕ, ◌+◌, ◌*◌, ◌/◌, ◌<◌, ◌≤◌, List, [], ◌∷◌, ◌++◌, length, map, sum_by, get_or, slice_set, Bool, true, false, not, ◌==◌, ◌&&◌, ◌||◌, nat_lt, nat_le, Option, Some, None, is_some}
 use Rattle.std.specs.List.{flat_map, list_any}
 use Rattle.std.specs.Ordering.{is_lt}
 use Rattle.hsm_types.specs.Names.{is_name}
 use Rattle.hsm_types.specs.declared.stores.Geometry.{Geometry}
 use Rattle.hsm_types.specs.declared.attributes.AttrName.{AttrName}
 use Rattle.hsm_types.specs.declared.regions.Region.{Region}
-use Rattle.hsm_types.specs.Regions.{regions_refusal}
-use Rattle.hsm_types.specs.Kept.{Kept}
+use Rattle.hsm_types.specs.Regions.{regions_refusal, covers}
+use Rattle.hsm_types.specs.Segments.{segment_len}
+use Rattle.hsm_types.specs.Stubs.{Stubs}
+use Rattle.hsm_types.specs.declared.stubs.Stub.{Stub}
 use Rattle.hsm_types.specs.Attributes.{Attributes, name_cmp, is_reserved, bytes_of_attributes}
 use Rattle.plain_model.specs.Plain.{Listed, named}
 use Rattle.plain_model.specs.Blocks.{blocks_in}
 use Rattle.meta_store.specs.declared.snapshot.Mapping.{Mapping}
-use Rattle.meta_store.specs.Catalogs.{Catalog}
+use Rattle.meta_store.specs.Catalogs.{Catalog, AreLengths}
 use Rattle.meta_store.specs.Snapshots.{SnapshotFile, snapshot_file}
 
 abbrev pub listed_in : SnapshotFile → Listed
@@ -57,6 +59,29 @@ abbrev pub are_attributes : Option AttrName → Attributes → Bool
 are_attributes before [] = true
 are_attributes before (a ∷ attrs) = is_attribute before a && are_attributes (Some a.0) attrs
 
+-- the segment stands behind the first one, if there is one before it
+abbrev pub is_above : Option ℕ → ℕ → Bool
+is_above None j = true
+is_above (Some before) j = nat_lt before j
+
+-- none of these extents is in the segment
+abbrev pub has_none : List Mapping → ℕ → Bool
+has_none extents j = not (list_any (λ e. e.block / 16 == j) extents)
+
+-- a file of that size may have the entry: its segment starts below the size, and it has the segment's length and a volume that there may be
+abbrev pub is_entry : ℕ → ℕ × Stub → Bool
+is_entry size x = nat_lt (65536 * x.0) size && (x.1.entry.print.len == segment_len size x.0) && nat_le x.1.entry.volume 255
+
+-- of a file of that size with these regions and extents, the entry can stand behind that of the segment before it: where the segment is offline it is
+-- covered and has no extent
+abbrev pub is_stub : ℕ → List Region → List Mapping → Option ℕ → ℕ × Stub → Bool
+is_stub size regions extents before x = is_above before x.0 && is_entry size x && (not x.1.offline || (covers regions x.0 && has_none extents x.0))
+
+-- each entry can stand behind the one before it
+abbrev pub are_stubs : ℕ → List Region → List Mapping → Option ℕ → Stubs → Bool
+are_stubs size regions extents before [] = true
+are_stubs size regions extents before (x ∷ stubs) = is_stub size regions extents before x && are_stubs size regions extents (Some x.0) stubs
+
 -- what can be judged of a file by itself, what sessions keep with it aside
 abbrev pub is_file : ℕ → ℕ → SnapshotFile → Bool
 is_file next blocks f = nat_le 1 f.key.igen && nat_lt f.key.igen next && nat_le f.size 16777216 && is_name f.name && are_extents 0 (blocks_in f.size) blocks f.extents
@@ -90,13 +115,21 @@ attribute_total_in files = sum_by (λ f. bytes_of_attributes f.kept.attributes) 
 abbrev pub are_few : Geometry → List SnapshotFile → SnapshotFile → Bool
 are_few geometry before f = nat_le (attribute_total_in before + bytes_of_attributes f.kept.attributes) geometry.attributes
 
+-- how many stub entries these files have
+abbrev pub stub_total_in : List SnapshotFile → ℕ
+stub_total_in files = sum_by (λ f. length f.kept.stubs) files
+
+-- the stub entries of the file and those before it are at most so many as the geometry allows
+abbrev pub are_few_stubs : Geometry → List SnapshotFile → SnapshotFile → Bool
+are_few_stubs geometry before f = nat_le (stub_total_in before + length f.kept.stubs) geometry.stubs
+
 -- what sessions keep with the file is lawful
-abbrev pub is_kept : Kept → Bool
-is_kept k = are_regions k.regions && are_attributes None k.attributes
+abbrev pub is_kept : SnapshotFile → Bool
+is_kept f = are_regions f.kept.regions && are_attributes None f.kept.attributes && are_stubs f.size f.kept.regions f.extents None f.kept.stubs
 
 -- the file can stand behind those
 abbrev pub is_next : Geometry → ℕ → List SnapshotFile → SnapshotFile → Bool
-is_next geometry next before f = can_follow geometry next before f && is_kept f.kept && are_few geometry before f && are_unused (places_in before) (places_of f.extents)
+is_next geometry next before f = can_follow geometry next before f && is_kept f && are_few geometry before f && are_few_stubs geometry before f && are_unused (places_in before) (places_of f.extents)
 
 -- ---- flags of the places in use
 
@@ -109,11 +142,12 @@ are_free (p ∷ ps) flags = not (get_or flags p false) && are_free ps (slice_set
 abbrev pub Flags : List Bool → List ℕ → Type 0
 Flags flags places = (p : ℕ) → p < length flags → get_or flags p false ≡ list_any (λ q. q == p) places
 
--- How far the walk over the files has come: the catalog, of that geometry and with that next generation, has these files, and a flag of each
--- block of the disk says whether they use it.
+-- How far the walk over the files has come: the catalog, of that geometry and with that next generation, has these files, each entry the
+-- length of its segment, and a flag of each block of the disk says whether they use it.
 pub record HasTaken (kind later blocks : ℕ) (files : List SnapshotFile) (c : Catalog) (flags : List Bool) : Type 0 where
   pub geometry : c.geometry ≡ kind
   pub next : c.next ≡ later
   pub taken : map snapshot_file c.files ≡ files
+  pub lengths : AreLengths c
   pub count : length flags ≡ blocks
   pub flagged : Flags flags (places_in files)

@@ -8,11 +8,11 @@ ghost use Rattle.plain_model.specs.Plain.{named};
 ghost use Rattle.plain_model.specs.Distinct.{Distinct};
 ghost use Rattle.inode_table.specs.Listing.{has_inode};
 ghost use Rattle.inode_table.specs.Table.{entry_of};
-ghost use Rattle.meta_store.specs.Catalogs.{geometry_of, names_of, present, blocks_of, attribute_total, IsCatalog, IsCatalogFile};
-ghost use Rattle.meta_store.specs.Records.{with_put, without_file, with_changed, key_on, inode_of, file_after, after, others_total, refusal_of, IsAboutOne, IsMap, CanStand};
+ghost use Rattle.meta_store.specs.Catalogs.{geometry_of, names_of, present, blocks_of, attribute_total, stub_total, IsCatalog, IsCatalogFile};
+ghost use Rattle.meta_store.specs.Records.{with_put, without_file, with_changed, key_on, inode_of, file_after, after, others_of, refusal_of, IsAboutOne, IsSure, CanStand};
 ghost use Rattle.meta_store.specs.InMemory.{file_of, parts_of};
 
-use crate::file_parts::FileParts;
+use crate::file_parts::{FileParts, Others};
 use crate::geometry::geometry_of;
 use crate::inode_parts::{self, slot};
 use crate::records::Record;
@@ -23,6 +23,7 @@ use inode_table::InodeTable;
 use managed_regions::ManagedRegions;
 use std::alloc::{AllocError, Global};
 use std::marker::Model;
+use stub_map::StubMap;
 
 /// The names, sizes and block places of a store's files, and what sessions keep with them. A name costs one look-up in a map, a key a binary
 /// search. The parts of a dropped file keep their memory until its inode is given again.
@@ -34,6 +35,8 @@ pub struct Catalog {
     parts: Vec<FileParts>,
     /// What the attributes of all files count.
     attribute_total: u64,
+    /// How many stub entries all files have.
+    stub_total: u32,
     /// How many blocks of the disk the files use.
     used: u64,
 }
@@ -47,7 +50,7 @@ impl Model for Catalog {
 
     ghost view = { λ c. catalog_held c.geometry c.table c.parts.items };
 
-    ghost invariant = { λ c. IsHeld c.geometry c.table c.parts.items c.attribute_total × (c.used ≡ length (blocks_of (files_held c.parts.items c.table.files))) };
+    ghost invariant = { λ c. IsHeld c.geometry c.table c.parts.items c.attribute_total c.stub_total × (c.used ≡ length (blocks_of (files_held c.parts.items c.table.files))) };
 }
 
 impl Catalog {
@@ -64,6 +67,7 @@ impl Catalog {
             table: InodeTable::new(alloc, files, next),
             parts: inode_parts::empty(alloc, files)?,
             attribute_total: 0,
+            stub_total: 0,
             used: 0,
         })
     }
@@ -89,6 +93,13 @@ impl Catalog {
         ensures { result ≡ attribute_total self.now.files }
     {
         self.attribute_total
+    }
+
+    /// How many stub entries all files have.
+    pub fn stub_total(&self) -> u32
+        ensures { result ≡ stub_total self.now.files }
+    {
+        self.stub_total
     }
 
     /// How many blocks of the disk the files use.
@@ -138,6 +149,14 @@ impl Catalog {
         Some(self.parts(key)?.attributes())
     }
 
+    /// The stub entries of a live file.
+    #[tactic(auto, using(crate::proofs::HeldCatalogs::part_none, crate::proofs::HeldCatalogs::part_some))]
+    pub fn stubs(&self, key: FileKey) -> Option<&StubMap>
+        ensures { option_map (λ r. r.now) result ≡ option_map (λ f. f.kept.stubs) (find_key (λ f. f.key) key self.now.files) }
+    {
+        Some(self.parts(key)?.stubs())
+    }
+
     /// What is kept of a live file beside its key, its name and its size.
     fn parts(&self, key: FileKey) -> Option<&FileParts>
         ensures { option_map (λ r. r.now) result ≡ option_map parts_of (find_key (λ f. f.key) key self.now.files) }
@@ -163,25 +182,28 @@ impl Catalog {
         requires lawful { IsCatalogFile (geometry_of self.old.geometry).blocks (file_of key name.now size parts) }
         requires distinct { Distinct (present parts.places ++ blocks_of self.old.files) }
         requires room { attribute_total self.old.files + bytes_of_attributes parts.attributes ≤ (geometry_of self.old.geometry).attributes }
+        requires stub_room { stub_total self.old.files + length parts.stubs ≤ (geometry_of self.old.geometry).stubs }
         ensures ok { OnOk result (self.new ≡ with_put (file_of key name.now size parts) self.old) }
         ensures err { OnErr result (self.new ≡ self.old) }
     {
         self.table.put(alloc, key, name, size)?;
         self.attribute_total += parts.attributes.bytes();
+        self.stub_total += parts.stubs.len();
         self.used += u64::from(parts.places.mapped());
         self.parts[slot(key.ino)] = parts;
         Ok(())
     }
 
-    /// Changes the files as a record says. At an `Err` nothing has changed. It costs the record, and the blocks that a size adds or takes away.
+    /// Changes the files as a record says. At an `Err` nothing has changed. It costs the record, and the blocks that a size adds or takes away, or
+    /// those of a segment that goes away.
     pub(crate) fn apply(&mut self, alloc: Global, change: Record) -> Result<(), MetaRefusal>
         requires { CanStand change self.old }
         ensures judged { OnOk result (refusal_of change self.old ≡ None) }
         ensures taken { OnOk result (self.new ≡ after change self.old) }
         ensures refused { (why : DmRefusal) → (result ≡ Err (MetaRefusal.Part why)) ↔ (refusal_of change self.old ≡ Some why) }
         ensures no_disk { IsErrOf result MetaRefusal.Disk → ⊥ }
-        // The place of a block takes no memory.
-        ensures mapped { IsMap change → IsOk result }
+        // The place of a block takes no memory, nor does an entry that goes or stands for bytes that are away.
+        ensures sure { IsSure change → IsOk result }
         ensures err { OnErr result (self.new ≡ self.old) }
     {
         match change {
@@ -195,7 +217,7 @@ impl Catalog {
                 self.drop_file(ino);
                 Ok(())
             }
-            change => self.change_file(change),
+            change => self.change_file(alloc, change),
         }
     }
 
@@ -204,43 +226,48 @@ impl Catalog {
         requires { IsSome (find_key (λ f. f.key) (key_on ino self.old) self.old.files) }
         ensures { self.new ≡ without_file (key_on ino self.old) self.old }
     {
-        let (key, attributes, blocks) = self.others(ino);
-        self.attribute_total = attributes;
+        let (key, others, blocks) = self.others(ino);
+        self.attribute_total = others.attributes;
+        self.stub_total = others.stubs;
         self.used = blocks;
         self.table.drop_file(key);
     }
 
-    /// The key of the file with that inode, what the attributes of all other files count, and how many blocks of the disk those use.
-    fn others(&self, ino: u64) -> (FileKey, u64, u64)
+    /// The key of the file with that inode, what all other files have, and how many blocks of the disk those use.
+    fn others(&self, ino: u64) -> (FileKey, Others, u64)
         requires { IsSome (find_key (λ f. f.key) (key_on ino self.now) self.now.files) }
         ensures key { result.0 ≡ key_on ino self.now }
-        ensures attributes { result.1 ≡ others_total (key_on ino self.now) self.now }
+        ensures others { result.1 ≡ others_of (key_on ino self.now) self.now }
         ensures used { result.2 ≡ length (blocks_of (without_file (key_on ino self.now) self.now).files) }
     {
         let key = self.table.key_at(ino).unwrap();
         let parts = self.parts(key).unwrap();
-        let attributes = self.attribute_total - parts.attributes.bytes();
+        let others = Others {
+            attributes: self.attribute_total - parts.attributes.bytes(),
+            stubs: self.stub_total - parts.stubs.len(),
+        };
         let blocks = self.used - u64::from(parts.places.mapped());
-        (key, attributes, blocks)
+        (key, others, blocks)
     }
 
     /// Changes the file that a record is about.
-    fn change_file(&mut self, change: Record) -> Result<(), MetaRefusal>
+    fn change_file(&mut self, alloc: Global, change: Record) -> Result<(), MetaRefusal>
         requires about { IsAboutOne change }
         requires stands { CanStand change self.old }
         ensures judged { OnOk result (refusal_of change self.old ≡ None) }
         ensures taken { OnOk result (self.new ≡ with_changed (key_on (inode_of change) self.old) (file_after change) self.old) }
         ensures refused { (why : DmRefusal) → (result ≡ Err (MetaRefusal.Part why)) ↔ (refusal_of change self.old ≡ Some why) }
         ensures no_disk { IsErrOf result MetaRefusal.Disk → ⊥ }
-        ensures mapped { IsMap change → IsOk result }
+        ensures sure { IsSure change → IsOk result }
         ensures err { OnErr result (self.new ≡ self.old) }
     {
-        let limit = u64::from(geometry_of(self.geometry).attributes);
-        let (key, attributes, blocks) = self.others(change.ino());
+        let limits = geometry_of(self.geometry);
+        let (key, others, blocks) = self.others(change.ino());
         let size = change.size_after(self.table.size(key).unwrap());
         let parts = &mut self.parts[slot(key.ino)];
-        parts.apply(change, attributes, limit)?;
-        self.attribute_total = attributes + parts.attributes.bytes();
+        parts.apply(alloc, change, others, limits)?;
+        self.attribute_total = others.attributes + parts.attributes.bytes();
+        self.stub_total = others.stubs + parts.stubs.len();
         self.used = blocks + u64::from(parts.places.mapped());
         self.table.set_size(key, size);
         Ok(())

@@ -1,9 +1,9 @@
 // The fields of a snapshot: each function reads one from the front of some bytes, and gives it with the bytes after it.
-ghost use Rattle.meta_store.specs.Reading.{Gives, number_at, only_at, bytes_at, counted, key_at, region_at, attr_name_at, attribute_at, extent_at};
+ghost use Rattle.meta_store.specs.Reading.{Gives, number_at, only_at, bytes_at, counted, key_at, region_at, attr_name_at, attribute_at, extent_at, state_at, print_at, stub_in};
 
-use crate::snapshot::{Mapping, ReadRefusal};
+use crate::snapshot::{Mapping, OFFLINE, ReadRefusal, SEALED};
 use byteorder::{BigEndian, ByteOrder};
-use hsm_types::{AttrName, Bytes, FileKey, Region, Word};
+use hsm_types::{AttrName, Bytes, Digest, FileKey, Fingerprint, Region, Stub, StubEntry, Word};
 use std::alloc::Global;
 
 pub(crate) fn u8_at(bytes: &[u8]) -> Result<(u8, &[u8]), ReadRefusal>
@@ -137,4 +137,55 @@ pub(crate) fn attribute_at(
     let (name, rest) = attr_name_at(bytes)?;
     let (value, rest) = value_at(alloc, rest)?;
     Ok(((name, value), rest))
+}
+
+/// Whether a segment with an entry is offline.
+#[tactic(auto, unfolding(crate::specs::Reading::state_at))]
+fn state_at(bytes: &[u8]) -> Result<(bool, &[u8]), ReadRefusal>
+    ensures { Gives (λ x. (x.0, x.1.now)) result (state_at bytes.now) }
+{
+    let (state, rest) = u8_at(bytes)?;
+    match state {
+        SEALED => Ok((false, rest)),
+        OFFLINE => Ok((true, rest)),
+        _ => Err(ReadRefusal::Corrupt),
+    }
+}
+
+fn digest_at(bytes: &[u8]) -> Result<(Digest, &[u8]), ReadRefusal>
+    ensures { Gives (λ x. (x.0.0, x.1.now)) result (bytes_at 32 bytes.now) }
+{
+    if bytes.len() < 32 {
+        return Err(ReadRefusal::Corrupt);
+    }
+    let mut digest = [0; 32];
+    digest.copy_from_slice(&bytes[..32]);
+    Ok((Digest(digest), &bytes[32..]))
+}
+
+#[tactic(auto, unfolding(crate::specs::Reading::made, crate::specs::Reading::both, crate::specs::Reading::print_at))]
+fn print_at(bytes: &[u8]) -> Result<(Fingerprint, &[u8]), ReadRefusal>
+    ensures { Gives (λ x. (x.0, x.1.now)) result (print_at bytes.now) }
+{
+    let (len, rest) = u32_at(bytes)?;
+    let (digest, rest) = digest_at(rest)?;
+    Ok((Fingerprint { len, digest }, rest))
+}
+
+/// A segment with its entry.
+#[tactic(auto, unfolding(crate::specs::Reading::made, crate::specs::Reading::both, crate::specs::Reading::stub_in))]
+pub(crate) fn stub_in(bytes: &[u8]) -> Result<((u32, Stub), &[u8]), ReadRefusal>
+    ensures { Gives (λ x. (x.0, x.1.now)) result (stub_in bytes.now) }
+{
+    let (segment, rest) = u32_at(bytes)?;
+    let (offline, rest) = state_at(rest)?;
+    let (volume, rest) = u32_at(rest)?;
+    let (object, rest) = u32_at(rest)?;
+    let (print, rest) = print_at(rest)?;
+    let entry = StubEntry {
+        volume,
+        object,
+        print,
+    };
+    Ok(((segment, Stub { entry, offline }), rest))
 }

@@ -1,19 +1,27 @@
 // What is kept of one file beside its key, its name and its size.
-ghost use Rattle.std.specs.Prelude.{◌≡◌, ◌↔◌, ◌+◌, ◌≤◌, ◌^◌, length, Err, None, Some, IsOk, IsErrOf, OnOk, OnErr};
+ghost use Rattle.std.specs.Prelude.{◌≡◌, ◌↔◌, ◌+◌, ◌≤◌, ◌^◌, ◌∷◌, [], length, Err, None, Some, true, false, if◌then◌else◌, IfErr, IsOk, IsErrOf, OnOk, OnErr, MatchOption, MatchResult};
 ghost use Rattle.std.specs.List.{AllByRecursion};
+ghost use Rattle.std.specs.Option.{option_map};
 ghost use Rattle.hsm_types.specs.Attributes.{bytes_of_attributes};
+ghost use Rattle.hsm_types.specs.Refusals.{first_refusal};
 ghost use Rattle.hsm_types.specs.Regions.{regions_refusal};
+ghost use Rattle.hsm_types.specs.Segments.{segments_in};
+ghost use Rattle.hsm_types.specs.Stubs.{offline_at, stubs_below, too_many_stubs, uncovered, with_stub, without_stub};
+ghost use Rattle.hsm_types.specs.declared.dm.DmRefusal.TheVariants.{Memory};
 ghost use Rattle.hsm_types.specs.declared.dm.DmRefusal.{DmRefusal};
-ghost use Rattle.meta_store.specs.InMemory.{no_parts, kept_in, parts_after, FitsParts};
-ghost use Rattle.meta_store.specs.Records.{part_refusal, IsMap};
+ghost use Rattle.meta_store.specs.InMemory.{no_parts, kept_in, parts_after, FitsParts, FitsStub, IsNumbered};
+ghost use Rattle.meta_store.specs.Snapshots.{StubFits};
+ghost use Rattle.meta_store.specs.Records.{part_refusal, places_fitted, places_without, IsSure};
 
 use crate::file_places::FilePlaces;
 use crate::kept::name_len;
 use crate::records::Record;
 use crate::refusal::MetaRefusal;
 use dm_attrs::DmAttrs;
+use hsm_types::{DmRefusal, FILE_BYTES, Geometry, Regions, SEGMENT_BYTES, Stub};
 use managed_regions::ManagedRegions;
-use std::alloc::Global;
+use std::alloc::{AllocError, Global};
+use stub_map::{State, StubMap};
 
 /// Where the blocks of a file lie, and what sessions keep with it.
 #[derive(Drop)]
@@ -21,10 +29,20 @@ pub struct FileParts {
     pub(crate) places: FilePlaces,
     pub(crate) regions: ManagedRegions,
     pub(crate) attributes: DmAttrs,
+    pub(crate) stubs: StubMap,
+}
+
+/// What all other files have.
+#[derive(Clone, Copy, Debug)]
+pub struct Others {
+    /// What their attributes count.
+    pub attributes: u64,
+    /// How many stub entries they have.
+    pub stubs: u32,
 }
 
 impl FileParts {
-    /// Of no blocks, no regions and no attributes. It takes no memory.
+    /// Of no blocks, and with nothing kept. It takes no memory.
     pub fn new(alloc: Global) -> FileParts
         ensures { result ≡ no_parts }
     {
@@ -32,47 +50,135 @@ impl FileParts {
             places: FilePlaces::new(alloc),
             regions: ManagedRegions::new(alloc),
             attributes: DmAttrs::new(alloc),
+            stubs: StubMap::new(alloc),
         }
     }
 
-    /// Changes them as a record about their file says. The attributes of all other files count `others`, and those of all `limit` at most.
+    /// Changes them as a record about their file says, where all other files have `others`.
     #[tactic(auto, using(crate::proofs::KeptBounds::kept_steps))]
     pub(crate) fn apply(
         &mut self,
+        alloc: Global,
         change: Record,
-        others: u64,
-        limit: u64,
+        others: Others,
+        limits: Geometry,
     ) -> Result<(), MetaRefusal>
         requires fits { FitsParts change self.old }
-        requires others { others ≤ limit }
-        requires limit { limit ≤ 2 ^ 32 }
-        ensures judged { OnOk result (part_refusal change others limit (kept_in self.old) ≡ None) }
+        requires attributes { others.attributes ≤ limits.attributes }
+        requires stubs { others.stubs ≤ limits.stubs }
+        ensures judged { OnOk result (part_refusal change others limits (kept_in self.old) ≡ None) }
         ensures taken { OnOk result (self.new ≡ parts_after change self.old) }
-        ensures refused { (why : DmRefusal) → (result ≡ Err (MetaRefusal.Part why)) ↔ (part_refusal change others limit (kept_in self.old) ≡ Some why) }
+        ensures refused { (why : DmRefusal) → (result ≡ Err (MetaRefusal.Part why)) ↔ (part_refusal change others limits (kept_in self.old) ≡ Some why) }
         ensures no_disk { IsErrOf result MetaRefusal.Disk → ⊥ }
-        ensures mapped { IsMap change → IsOk result }
+        ensures sure { IsSure change → IsOk result }
         // They count no more than what all may.
-        ensures within { OnOk result (others + bytes_of_attributes self.old.attributes ≤ limit → others + bytes_of_attributes self.new.attributes ≤ limit) }
+        ensures within { OnOk result (others.attributes + bytes_of_attributes self.old.attributes ≤ limits.attributes → others.attributes + bytes_of_attributes self.new.attributes ≤ limits.attributes) }
         ensures regions { OnOk result (regions_refusal self.old.regions ≡ None → regions_refusal self.new.regions ≡ None) }
         // Names of attributes have eight bytes.
         ensures eight { AllByRecursion (λ a. length a.0.0 ≡ 8) self.old.attributes → AllByRecursion (λ a. length a.0.0 ≡ 8) self.new.attributes }
+        ensures numbers { IsNumbered change }
         ensures err { OnErr result (self.new ≡ self.old) }
     {
         match change {
             Record::Make { name: _name, .. } => Ok(()),
             Record::Drop { .. } => Ok(()),
-            Record::Size { size, .. } => Ok(self.places.fit(size)?),
+            Record::Size { size, .. } => Ok(self.resize(size)?),
             Record::Map { block, places, .. } => {
                 self.places.map(block, places.as_slice());
                 Ok(())
             }
-            Record::Regions { regions, .. } => Ok(self.regions.set(regions)?),
+            Record::Regions { regions, .. } => Ok(self.set_regions(alloc, regions)?),
             Record::SetAttr { name, value, .. } => {
                 // Read for the eight bytes of each name.
                 let _len = name_len(name);
-                Ok(self.attributes.set(name, value, others, limit)?)
+                let limit = u64::from(limits.attributes);
+                Ok(self.attributes.set(name, value, others.attributes, limit)?)
             }
             Record::DropAttr { name, .. } => Ok(self.attributes.remove(name)?),
+            Record::Stub { segment, stub, .. } => match stub {
+                Some(stub) => Ok(self.set_stub(segment, stub, others.stubs, limits.stubs)?),
+                None => {
+                    self.drop_stub(segment);
+                    Ok(())
+                }
+            },
+        }
+    }
+
+    /// Follows the file to its new size. At an `Err` nothing has changed.
+    fn resize(&mut self, size: u64) -> Result<(), AllocError>
+        requires { size ≤ FILE_BYTES }
+        ensures ok { OnOk result (self.new ≡ record self.old { places = places_fitted size self.old.places; stubs = stubs_below (segments_in size) self.old.stubs }) }
+        ensures err { OnErr result (self.new ≡ self.old) }
+    {
+        self.places.fit(size)?;
+        self.stubs.cut(segments_in(size));
+        Ok(())
+    }
+
+    /// Takes these regions in the place of the old ones, unless they aren't lawful or leave a segment uncovered that is offline.
+    fn set_regions(&mut self, alloc: Global, regions: Regions) -> Result<(), DmRefusal>
+        ensures judged { MatchResult result (λ _. first_refusal (regions_refusal regions ∷ uncovered regions self.old.stubs ∷ []) ≡ None) (λ why. first_refusal (regions_refusal regions ∷ uncovered regions self.old.stubs ∷ []) ≡ Some why) }
+        ensures lawful { OnOk result (regions_refusal regions ≡ None) }
+        ensures taken { OnOk result (self.new ≡ record self.old { regions = regions }) }
+        ensures err { OnErr result (self.new ≡ self.old) }
+    {
+        let mut new = ManagedRegions::new(alloc);
+        new.set(regions)?;
+        if let Some(segment) = self.first_uncovered(&new) {
+            return Err(DmRefusal::Uncovered { segment });
+        }
+        self.regions = new;
+        Ok(())
+    }
+
+    /// The lowest segment that is offline and that these regions leave uncovered.
+    fn first_uncovered(&self, regions: &ManagedRegions) -> Option<u32>
+        ensures { uncovered regions.now self.now.stubs ≡ option_map (λ segment. DmRefusal.Uncovered segment) result }
+    {
+        for (segment, stub) in self.stubs.iter() {
+            if stub.offline && !regions.covers(*segment) {
+                return Some(*segment);
+            }
+        }
+        None
+    }
+
+    /// The segment has no entry. It takes no memory.
+    fn drop_stub(&mut self, segment: u32)
+        requires { offline_at self.old.stubs segment ≡ false }
+        ensures { self.new ≡ record self.old { stubs = without_stub segment self.old.stubs } }
+    {
+        self.stubs.unseal(segment);
+    }
+
+    /// The segment has this entry. Where it says so, its blocks go.
+    fn set_stub(
+        &mut self,
+        segment: u32,
+        stub: Stub,
+        others: u32,
+        limit: u32,
+    ) -> Result<(), DmRefusal>
+        requires fits { FitsStub segment stub self.old.stubs }
+        requires others { others ≤ limit }
+        ensures judged { OnOk result (too_many_stubs segment others limit self.old.stubs ≡ None) }
+        ensures taken { OnOk result (self.new ≡ record self.old { places = if stub.offline then places_without segment self.old.places else self.old.places; stubs = with_stub segment stub self.old.stubs }) }
+        ensures refused { IfErr result (λ why. MatchOption (too_many_stubs segment others limit self.old.stubs) (why ≡ Memory) (λ cause. why ≡ cause)) }
+        ensures sure { stub.offline ≡ true → IsOk result }
+        ensures numbers { StubFits (segment, stub) }
+        ensures err { OnErr result (self.new ≡ self.old) }
+    {
+        // Read for the order of the entries.
+        let _count = self.stubs.len();
+        if stub.offline {
+            self.stubs.punch(segment)?;
+            self.places.clear_segment(segment);
+            return Ok(());
+        }
+        match self.stubs.state(segment) {
+            State::Offline(_) => self.stubs.restore(segment),
+            _ => self.stubs.seal(segment, stub.entry, others, limit),
         }
     }
 
@@ -96,4 +202,19 @@ impl FileParts {
     {
         &self.attributes
     }
+
+    /// The stub entries.
+    pub fn stubs(&self) -> &StubMap
+        ensures { result.now ≡ self.now.stubs }
+    {
+        &self.stubs
+    }
+}
+
+/// How many segments a file of that size has.
+fn segments_in(size: u64) -> u32
+    requires { size ≤ FILE_BYTES }
+    ensures { result ≡ segments_in size }
+{
+    ((size + (SEGMENT_BYTES - 1)) / SEGMENT_BYTES) as u32
 }

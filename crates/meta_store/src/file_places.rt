@@ -3,12 +3,15 @@ ghost use Rattle.std.specs.Prelude.{◌≡◌, ◌+◌, ◌-◌, ◌<◌, ◌≤
 ghost use Rattle.std.specs.List.{AllByRecursion};
 ghost use Rattle.plain_model.specs.Blocks.{blocks_in};
 ghost use Rattle.meta_store.specs.Catalogs.{present};
-ghost use Rattle.meta_store.specs.Records.{places_fitted, places_set, mappings_from};
+ghost use Rattle.meta_store.specs.Records.{places_fitted, places_set, places_without, mappings_from};
 
 use crate::snapshot::Mapping;
-use hsm_types::{BLOCK_BYTES, FILE_BYTES};
+use hsm_types::{BLOCK_BYTES, FILE_BYTES, SEGMENT_BYTES};
 use std::alloc::{AllocError, Global};
 use std::marker::Model;
+
+/// How many blocks a segment has.
+pub(crate) const SEGMENT_BLOCKS: usize = (SEGMENT_BYTES / BLOCK_BYTES) as usize;
 
 /// For each block of a file which block of the disk has it; a hole has none. Contracts see the list of these places.
 #[derive(Drop)]
@@ -91,6 +94,13 @@ impl FilePlaces {
     {
         self.mapped += set_from(&mut self.places, block as usize, places);
     }
+
+    /// Makes holes of the blocks of the segment. It takes no memory, and costs those blocks.
+    pub(crate) fn clear_segment(&mut self, segment: u32)
+        ensures { self.new ≡ places_without segment self.old }
+    {
+        self.mapped -= clear_segment(&mut self.places, segment);
+    }
 }
 
 /// How many of a file's places aren't holes.
@@ -168,6 +178,23 @@ fn put(places: &mut Vec<Option<u32>>, block: usize, place: u32) -> u32
     let added = hole(places[block]);
     places[block] = Some(place);
     added
+}
+
+/// Makes holes of the blocks of the segment, and tells how many holes there are more.
+#[tactic(auto, using(crate::proofs::ClearedPlaces::clear_steps))]
+fn clear_segment(places: &mut Vec<Option<u32>>, segment: u32) -> u32
+    requires few { length places.old.items ≤ 4096 }
+    ensures places { places.new.items ≡ places_without segment places.old.items }
+    ensures cleared { result + length (present places.new.items) ≡ length (present places.old.items) }
+{
+    let from = segment as usize * SEGMENT_BLOCKS;
+    let end = places.len().min(from + SEGMENT_BLOCKS);
+    let mut cleared = 0;
+    for block in from..end {
+        cleared += 1 - hole(places[block]);
+        places[block] = None;
+    }
+    cleared
 }
 
 /// 1 of a hole, and 0 of a place.

@@ -17,6 +17,7 @@ pub fn geometry_of(geometry: u32) -> Geometry
             files: 4_096,
             blocks: 65_536,
             attributes: 1_048_576,
+            stubs: 65_536,
         }
     }
 }

@@ -22,7 +22,7 @@ pub(crate) fn name_len(name: AttrName) -> usize
 }
 
 /// What a refusal by a part says of the snapshot.
-fn refusal_of(why: DmRefusal) -> ReadRefusal
+pub(crate) fn refusal_of(why: DmRefusal) -> ReadRefusal
     ensures { result ≡ ReadRefusal.Memory ↔ why ≡ Memory }
 {
     match why {

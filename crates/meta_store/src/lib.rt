@@ -9,6 +9,7 @@ mod file_places;
 mod geometry;
 mod inode_parts;
 mod kept;
+mod kept_stubs;
 mod laws;
 mod opening;
 mod reading;

@@ -1,13 +1,14 @@
 // Reading a snapshot's bytes.
 ghost use Rattle.std.specs.Prelude.{◌≡◌, List, ℕ, map, IfOk, IsErrOf};
 ghost use Rattle.meta_store.specs.Snapshots.{Snapshot, IsSpelled, raw_file, raw_snapshot};
-ghost use Rattle.meta_store.specs.Reading.{Gives, both, number_at, bytes_at, several, counted, key_at, region_at, attribute_at, extent_at, file_at, snapshot_at};
+ghost use Rattle.meta_store.specs.Reading.{Gives, both, number_at, bytes_at, several, counted, key_at, region_at, attribute_at, extent_at, stub_in, file_at, snapshot_at};
 
 use crate::fields::{
-    attribute_at, extent_at, key_at, name_at, only_u32_at, region_at, u8_at, u32_at, u64_at,
+    attribute_at, extent_at, key_at, name_at, only_u32_at, region_at, stub_in, u8_at, u32_at,
+    u64_at,
 };
 use crate::snapshot::{FORMAT, Mapping, RawFile, RawSnapshot, ReadRefusal};
-use hsm_types::{AttrName, Bytes, FileKey, Region, Word};
+use hsm_types::{AttrName, Bytes, FileKey, Region, Stub, Word};
 use std::alloc::Global;
 
 #[tactic(auto, using(crate::proofs::ReadValues::read_steps))]
@@ -56,6 +57,24 @@ fn extents_of(alloc: Global, count: u32, bytes: &[u8]) -> Result<(Vec<Mapping>, 
     Ok((extents, rest))
 }
 
+#[tactic(auto, using(crate::proofs::ReadValues::read_steps))]
+fn stubs_of(
+    alloc: Global,
+    count: u32,
+    bytes: &[u8],
+) -> Result<(Vec<(u32, Stub)>, &[u8]), ReadRefusal>
+    ensures { Gives (λ x. (x.0.items, x.1.now)) result (several stub_in count bytes.now) }
+{
+    let mut stubs = Vec::new(alloc);
+    let mut rest = bytes;
+    for _ in 0..count {
+        let (stub, after) = stub_in(rest)?;
+        stubs.push(stub)?;
+        rest = after;
+    }
+    Ok((stubs, rest))
+}
+
 /// The count of a file's regions, and the regions.
 #[tactic(auto, unfolding(crate::specs::Reading::counted))]
 fn regions_at(alloc: Global, bytes: &[u8]) -> Result<(Vec<Region>, &[u8]), ReadRefusal>
@@ -86,6 +105,15 @@ fn extents_at(alloc: Global, bytes: &[u8]) -> Result<(Vec<Mapping>, &[u8]), Read
     extents_of(alloc, count, rest)
 }
 
+/// The count of a file's stub entries, and the entries.
+#[tactic(auto, unfolding(crate::specs::Reading::counted))]
+fn stubs_at(alloc: Global, bytes: &[u8]) -> Result<(Vec<(u32, Stub)>, &[u8]), ReadRefusal>
+    ensures { Gives (λ x. (x.0.items, x.1.now)) result (counted 4 (several stub_in) bytes.now) }
+{
+    let (count, rest) = u32_at(bytes)?;
+    stubs_of(alloc, count, rest)
+}
+
 /// A file's key, its size and its name.
 #[tactic(auto, unfolding(crate::specs::Reading::both))]
 fn heading_at(alloc: Global, bytes: &[u8]) -> Result<((FileKey, u64, Word), &[u8]), ReadRefusal>
@@ -105,7 +133,7 @@ fn file_at(alloc: Global, bytes: &[u8]) -> Result<(RawFile, &[u8]), ReadRefusal>
     let (regions, rest) = regions_at(alloc, rest)?;
     let (attributes, rest) = attributes_at(alloc, rest)?;
     let (extents, rest) = extents_at(alloc, rest)?;
-    let rest = only_u32_at(rest, 0)?;
+    let (stubs, rest) = stubs_at(alloc, rest)?;
     Ok((
         RawFile {
             key,
@@ -114,6 +142,7 @@ fn file_at(alloc: Global, bytes: &[u8]) -> Result<(RawFile, &[u8]), ReadRefusal>
             regions,
             attributes,
             extents,
+            stubs,
         },
         rest,
     ))

@@ -3,7 +3,7 @@ ghost use Rattle.std.specs.Prelude.{◌≡◌, ℕ};
 ghost use Rattle.meta_store.specs.Catalogs.{CatalogFile};
 ghost use Rattle.meta_store.specs.Records.{inode_of, file_after};
 
-use hsm_types::{AttrName, Bytes, FileKey, ListOf, Regions, Word};
+use hsm_types::{AttrName, Bytes, FileKey, ListOf, Regions, Stub, Word};
 
 /// One change. `ino` is the inode of the file that it is about.
 #[derive(Debug, Drop)]
@@ -44,6 +44,12 @@ pub enum Record {
         ino: u64,
         name: AttrName,
     },
+    /// The segment has this entry, or none. Where it is offline, its blocks go.
+    Stub {
+        ino: u64,
+        segment: u32,
+        stub: Option<Stub>,
+    },
 }
 
 impl Record {
@@ -58,7 +64,8 @@ impl Record {
             | Record::Map { ino, .. }
             | Record::Regions { ino, .. }
             | Record::SetAttr { ino, .. }
-            | Record::DropAttr { ino, .. } => *ino,
+            | Record::DropAttr { ino, .. }
+            | Record::Stub { ino, .. } => *ino,
         }
     }
 

@@ -2,11 +2,17 @@
 ghost use Rattle.std.specs.Prelude.{◌≡◌};
 ghost use Rattle.meta_store.specs.declared.snapshot.ReadRefusal.TheVariants.{Memory};
 
-use hsm_types::{AttrName, Bytes, FileKey, Region, Word};
+use hsm_types::{AttrName, Bytes, FileKey, Region, Stub, Word};
 use std::alloc::{AllocError, AllocFailed};
 
 /// The one format that there is.
 pub(crate) const FORMAT: u32 = 1;
+
+/// The state of a segment that has its bytes and an entry.
+pub(crate) const SEALED: u8 = 1;
+
+/// The state of a segment that has an entry in the place of its bytes.
+pub(crate) const OFFLINE: u8 = 2;
 
 /// A block of a file, counted from 0 in the file, and the disk's block that has it, counted from 0 among the data blocks.
 #[derive(Clone, Copy, Debug, PartialEq, Eq)]
@@ -24,6 +30,7 @@ pub(crate) struct RawFile {
     pub(crate) regions: Vec<Region>,
     pub(crate) attributes: Vec<(AttrName, Bytes)>,
     pub(crate) extents: Vec<Mapping>,
+    pub(crate) stubs: Vec<(u32, Stub)>,
 }
 
 /// A snapshot as it is spelled. It need not be valid.

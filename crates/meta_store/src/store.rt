@@ -8,7 +8,8 @@ ghost use Rattle.disk_model.specs.Moments.{MayBe, Keeps, Same};
 ghost use Rattle.commit_slots.specs.Places.{layout_of, snapshot_at, journal_at};
 ghost use Rattle.commit_slots.specs.Images.{slot_of, IsStore};
 ghost use Rattle.meta_store.specs.Images.{IsImage, IsCorruptAt};
-ghost use Rattle.meta_store.specs.Records.{refusal_of_all, CanStandAll, IsEvent};
+ghost use Rattle.meta_store.specs.Records.{after_all, refusal_of_all, CanStandAll, IsEvent};
+ghost use Rattle.meta_store.specs.Catalogs.{AreLengths};
 ghost use Rattle.meta_store.specs.Meta.{Meta, IsMeta, Backs, StoresOrKeeps, HasStored, IsStoredNow, IsTaken};
 
 use crate::catalog::Catalog;
@@ -142,6 +143,7 @@ impl MetaStore {
         requires backs { Backs D.Disk disk.old self.old }
         requires event { IsEvent records }
         requires stand { CanStandAll records self.old.current }
+        requires lengths { AreLengths (after_all records self.old.current) }
         requires number { number ≤ 2 ^ 62 }
 
         ensures any_moment { StoresOrKeeps D.Disk disk.old disk.new self.old number }

@@ -4,7 +4,7 @@ ghost use Rattle.std.specs.Prelude.{◌≡◌, ℕ, ◌^◌, ◌≤◌, ◌++◌
 ghost use Rattle.plain_model.specs.Plain.{named};
 ghost use Rattle.std.specs.Bool.{OnTrue};
 ghost use Rattle.std.specs.Result.{IsErrOf};
-ghost use Rattle.meta_store.specs.Catalogs.{Catalog, geometry_of, IsCatalog};
+ghost use Rattle.meta_store.specs.Catalogs.{Catalog, geometry_of, IsCatalog, AreLengths};
 ghost use Rattle.meta_store.specs.Snapshots.{raw_file, raw_snapshot, snapshot_file, snapshot_of};
 ghost use Rattle.meta_store.specs.Validity.{last_inode, is_file, can_follow, Follows, is_next, names_in, HasTaken};
 
@@ -14,6 +14,7 @@ use crate::file_parts::FileParts;
 use crate::file_places::FilePlaces;
 use crate::geometry::geometry_of;
 use crate::kept::{attributes_of, regions_of};
+use crate::kept_stubs::stubs_of;
 use crate::snapshot::{RawFile, RawSnapshot, ReadRefusal};
 use hsm_types::{BLOCK_BYTES, FILE_BYTES, Geometry, Word, can_name};
 use std::alloc::Global;
@@ -27,8 +28,9 @@ pub(crate) fn catalog_of(
 ) -> Result<Catalog, ReadRefusal>
     requires { geometry ≤ 1 }
     ensures found { IfOk result (λ c. (c.geometry ≡ geometry) × (raw_snapshot snapshot ≡ snapshot_of snapshot.number c) × IsCatalog c) }
+    ensures lengths { IfOk result AreLengths }
     ensures number { OnOk result (snapshot.number ≤ 2 ^ 62) }
-    ensures corrupt { IsErrOf result ReadRefusal.Corrupt → (n : ℕ) (c : Catalog) → c.geometry ≡ geometry → n ≤ 2 ^ 62 → IsCatalog c → raw_snapshot snapshot ≡ snapshot_of n c → ⊥ }
+    ensures corrupt { IsErrOf result ReadRefusal.Corrupt → (n : ℕ) (c : Catalog) → c.geometry ≡ geometry → n ≤ 2 ^ 62 → IsCatalog c → AreLengths c → raw_snapshot snapshot ≡ snapshot_of n c → ⊥ }
 {
     let most = 1 << 62;
     let next = snapshot.next;
@@ -69,15 +71,22 @@ fn take_in(
     // Read for what is true of each catalog.
     let _geometry = catalog.geometry();
     let room = u64::from(limits.attributes) - catalog.attribute_total();
+    let stub_room = limits.stubs - catalog.stub_total();
     if !can_follow(catalog, limits, next, last, &file) || !claim(flags, file.extents.as_slice()) {
         return Err(ReadRefusal::Corrupt);
     }
+    let size = file.size;
+    let places = FilePlaces::of(alloc, size, file.extents.as_slice())?;
+    let regions = regions_of(alloc, file.regions)?;
+    let entries = file.stubs.as_slice();
+    let stubs = stubs_of(alloc, size, &regions, &places, entries, stub_room)?;
     let parts = FileParts {
-        places: FilePlaces::of(alloc, file.size, file.extents.as_slice())?,
-        regions: regions_of(alloc, file.regions)?,
+        places,
+        regions,
         attributes: attributes_of(alloc, file.attributes, room)?,
+        stubs,
     };
-    catalog.put(alloc, file.key, &file.name, file.size, parts)?;
+    catalog.put(alloc, file.key, &file.name, size, parts)?;
     Ok(())
 }
 

@@ -3,15 +3,16 @@ ghost use Rattle.std.specs.Prelude.{◌≡◌, ◌+◌, ◌≤◌, ◌<◌, ◌^
 ghost use Rattle.std.specs.List.{flat_map};
 ghost use Rattle.byteorder.specs.Endian.{big_bytes};
 ghost use Rattle.meta_store.specs.Catalogs.{present};
-ghost use Rattle.meta_store.specs.Snapshots.{region_bytes, attribute_bytes, extent_bytes, extents_from, file_bytes, snapshot_file};
+ghost use Rattle.meta_store.specs.Snapshots.{region_bytes, attribute_bytes, extent_bytes, stub_bytes, state_of, extents_from, file_bytes, snapshot_file};
 ghost use Rattle.meta_store.specs.InMemory.{file_of};
 
 use crate::file_parts::FileParts;
-use crate::snapshot::{FORMAT, Mapping};
+use crate::snapshot::{FORMAT, Mapping, OFFLINE, SEALED};
 use byteorder::{BigEndian, ByteOrder};
 use dm_attrs::DmAttrs;
-use hsm_types::{AttrName, Bytes, FileKey, Region, Word};
+use hsm_types::{AttrName, Bytes, FileKey, Region, Stub, Word};
 use std::alloc::AllocError;
+use stub_map::StubMap;
 
 fn put_u16(out: &mut Vec<u8>, number: u16) -> Result<(), AllocError>
     ensures { OnOk result (out.new.items ≡ out.old.items ++ big_bytes 2 number) }
@@ -171,7 +172,39 @@ fn put_attributes(out: &mut Vec<u8>, attributes: &DmAttrs) -> Result<(), AllocEr
     Ok(())
 }
 
-/// What sessions keep with a file, which mostly is nothing, and how many extents it has.
+/// A segment and its entry, without the digest.
+fn spell_stub(segment: u32, stub: Stub) -> [u8; 17]
+    ensures { result ≡ big_bytes 4 segment ++ big_bytes 1 (state_of stub.offline) ++ big_bytes 4 stub.entry.volume ++ big_bytes 4 stub.entry.object ++ big_bytes 4 stub.entry.print.len }
+{
+    let mut bytes = [0; 17];
+    BigEndian::write_u32(&mut bytes, segment);
+    bytes[4] = if stub.offline { OFFLINE } else { SEALED };
+    BigEndian::write_u32(&mut bytes[5..], stub.entry.volume);
+    BigEndian::write_u32(&mut bytes[9..], stub.entry.object);
+    BigEndian::write_u32(&mut bytes[13..], stub.entry.print.len);
+    bytes
+}
+
+fn put_stub(out: &mut Vec<u8>, segment: u32, stub: Stub) -> Result<(), AllocError>
+    ensures { OnOk result (out.new.items ≡ out.old.items ++ stub_bytes (segment, stub)) }
+{
+    out.extend_from_slice(&spell_stub(segment, stub))?;
+    out.extend_from_slice(&stub.entry.print.digest.0)?;
+    Ok(())
+}
+
+/// The count of a file's stub entries, and the entries.
+fn put_stubs(out: &mut Vec<u8>, stubs: &StubMap) -> Result<(), AllocError>
+    ensures { OnOk result (out.new.items ≡ out.old.items ++ (big_bytes 4 (length stubs.now) ++ flat_map stub_bytes stubs.now)) }
+{
+    put_u32(out, stubs.len())?;
+    for (segment, stub) in stubs.iter() {
+        put_stub(out, *segment, *stub)?;
+    }
+    Ok(())
+}
+
+/// What sessions keep with a file before its extents, which mostly is nothing, and how many extents it has.
 fn put_kept(out: &mut Vec<u8>, parts: &FileParts) -> Result<(), AllocError>
     requires { length parts.now.regions ≤ 4 }
     ensures { OnOk result (out.new.items ≡ out.old.items ++ (big_bytes 1 (length parts.now.regions) ++ flat_map region_bytes parts.now.regions ++ big_bytes 4 (length parts.now.attributes) ++ flat_map attribute_bytes parts.now.attributes ++ big_bytes 4 (length (present parts.now.places)))) }
@@ -191,16 +224,18 @@ fn put_kept(out: &mut Vec<u8>, parts: &FileParts) -> Result<(), AllocError>
 
 /// Whether sessions keep nothing with a file.
 fn is_plain(parts: &FileParts) -> bool
-    ensures { IsTrue result → (parts.now.regions ≡ []) × (parts.now.attributes ≡ []) }
+    ensures { IsTrue result → (parts.now.regions ≡ []) × (parts.now.attributes ≡ []) × (parts.now.stubs ≡ []) }
 {
-    parts.regions.list().as_slice().is_empty() && parts.attributes.len() == 0
+    parts.regions.list().as_slice().is_empty()
+        && parts.attributes.len() == 0
+        && parts.stubs.len() == 0
 }
 
 /// What stands behind a file's name, at once where that is short.
 fn put_rest(out: &mut Vec<u8>, parts: &FileParts) -> Result<(), AllocError>
     requires places { length parts.now.places ≤ 4096 }
     requires regions { length parts.now.regions ≤ 4 }
-    ensures { OnOk result (out.new.items ≡ out.old.items ++ (big_bytes 1 (length parts.now.regions) ++ flat_map region_bytes parts.now.regions ++ big_bytes 4 (length parts.now.attributes) ++ flat_map attribute_bytes parts.now.attributes ++ big_bytes 4 (length (present parts.now.places)) ++ flat_map extent_bytes (extents_from 0 parts.now.places) ++ big_bytes 4 0)) }
+    ensures { OnOk result (out.new.items ≡ out.old.items ++ (big_bytes 1 (length parts.now.regions) ++ flat_map region_bytes parts.now.regions ++ big_bytes 4 (length parts.now.attributes) ++ flat_map attribute_bytes parts.now.attributes ++ big_bytes 4 (length (present parts.now.places)) ++ flat_map extent_bytes (extents_from 0 parts.now.places) ++ (big_bytes 4 (length parts.now.stubs) ++ flat_map stub_bytes parts.now.stubs))) }
 {
     let places = parts.places.as_slice();
     match places {
@@ -211,7 +246,7 @@ fn put_rest(out: &mut Vec<u8>, parts: &FileParts) -> Result<(), AllocError>
         _ => {
             put_kept(out, parts)?;
             put_extents(out, places)?;
-            put_u32(out, 0)
+            put_stubs(out, &parts.stubs)
         }
     }
 }

@@ -4,7 +4,7 @@ use plain_model::Action;
 use script_text::{Line, ParseRefusal, parse, print};
 use std::alloc::Global;
 
-static PRINTED: [&str; 20] = [
+static PRINTED: [&str; 23] = [
     "",
     "s0 session 0 a/b\ns0 sessions\ns0 query 0\ns0 query 18446744073709551615\n",
     "s1 handle a\ns0 handle a/b\ns0 space\ns7 space\n",
@@ -25,6 +25,9 @@ static PRINTED: [&str; 20] = [
     "c1 create a\nc1 write a 0 x:00ff\nc2 write a 2 p:3:255\nc2 write a 5 x:\nc2 write a 5 p:0:0\n",
     "c64 read a 1 2\nc1 truncate a 3\nc1 stat a\nc1 sync\nc1 remove a\nstore commit\n",
     "c1 resume\nc64 resume\nc1 resume\n",
+    "s1 readinvis 0 1.1.1 1 2\ns1 writeinvis 1 1.2.3 0 x:00ff\ns0 writeinvis 1 1.2.3 3 p:3:7\ns1 punch 1 1.2.3 65536 0\n",
+    "s1 probe 0 1.1.1 0 18446744073709551615\ns1 alloc 0 1.1.1\ns1 table\ns1 restore 0 1.1.1 0 x:\ns1 restore 1 1.2.3 4294967295 p:65536:7\n",
+    "s1 seal 1 1.2.3 4294967295 255 0 0 e3b0c44298fc1c149afbf4c8996fb92427ae41e4649b934ca495991b7852b855\n",
 ];
 
 /// Whether what is read of a text is printed as that text, `None` for want of memory.
@@ -87,7 +90,7 @@ fn bad_line(alloc: Global, text: &[u8]) -> u64 {
     }
 }
 
-static BAD: [&str; 117] = [
+static BAD: [&str; 127] = [
     "\n",
     "c1",
     " c1 sync",
@@ -205,6 +208,16 @@ static BAD: [&str; 117] = [
     "s1 right 1",
     "s1 upgrade 1 1.1.1 excl",
     "s1 downgrade 1.1.1",
+    "s1 readinvis 0 1.1.1 0",
+    "s1 writeinvis 0 1.1.1 x:00",
+    "s1 punch 0 1.1.1 0",
+    "s0 table 0",
+    "s1 restore 0 1.1.1 0 p:131073:0",
+    "s1 restore 0 1.1.1 4294967296 x:",
+    "s1 seal 0 1.1.1 0 0 0 e3b0c44298fc1c149afbf4c8996fb92427ae41e4649b934ca495991b7852b855",
+    "s1 seal 0 1.1.1 0 0 0 4294967296 e3b0c44298fc1c149afbf4c8996fb92427ae41e4649b934ca495991b7852b855",
+    "s1 seal 0 1.1.1 0 0 0 0 e3b0c44298fc1c149afbf4c8996fb92427ae41e4649b934ca495991b7852b8",
+    "s1 seal 0 1.1.1 0 0 0 0 e3b0c44298fc1c149afbf4c8996fb92427ae41e4649b934ca495991b7852b85B",
 ];
 
 #[test]
@@ -216,7 +229,7 @@ fn are_refused(rt: HostRuntime) {
 
 /// A line, how often it stands, the last line behind these, and the first bad one: at most 100,000 lines, and 536,870,912 bytes that are read,
 /// written and set.
-static LONG: [(&str, u32, &str, u64); 9] = [
+static LONG: [(&str, u32, &str, u64); 10] = [
     ("c1 sync\n", 99999, "c1 sync", 0),
     ("c1 sync\n", 100000, "c1 sync", 100001),
     ("c1 read a 0 99999\n", 8192, "c1 write a 0 p:0:0", 0),
@@ -241,6 +254,12 @@ static LONG: [(&str, u32, &str, u64); 9] = [
         0,
     ),
     ("c1 read a 0 99999\n", 8192, "s1 send 1 x:00", 8193),
+    (
+        "s1 readinvis 0 1.1.1 0 99999\n",
+        8192,
+        "s1 restore 0 1.1.1 0 x:00",
+        8193,
+    ),
 ];
 
 /// The first bad line of so many that are alike, and a last one.

@@ -1,20 +1,28 @@
 -- The answers that a store gives by itself are for no fault, and a history without one goes on.
 use Rattle.std.proofs.Common.{◌≡◌, List, [], ◌∷◌, ◌++◌, Bool, true, false, Option, Some, None, refl, ◌∙◌, ap}
 use Rattle.std.proofs.lemmas.List.Folds.{list_any-append}
-use Rattle.std.specs.Prelude.{ℕ, length, count_by, ◌+◌, ◌==◌, ◌&&◌, ◌||◌, nat_lt, nat_le, is_some, if◌then◌else◌}
+use Rattle.std.specs.Prelude.{ℕ, length, map, min, count_by, not, ◌+◌, ◌-◌, ◌*◌, ◌%◌, ◌==◌, ◌&&◌, ◌||◌, nat_lt, nat_le, is_some, if◌then◌else◌}
+use Rattle.std.specs.List.{find}
+use Rattle.std.specs.Option.{option_map}
 use Rattle.hsm_types.specs.Names.{is_name}
 use Rattle.hsm_types.specs.Refusals.{first_refusal}
 use Rattle.hsm_types.specs.Calls.{scope_of}
 use Rattle.hsm_types.specs.Messages.{no_token, has_token, message_bytes, is_lawful}
 use Rattle.hsm_types.specs.Sessions.{SessionTable, lives, queue_of, outstanding_of, owner, user_tokens, outstanding_message, same_sid, no_session, bad_info, too_many_sessions, creation_refusal, dead_session, not_yours, none_fits, too_long, too_many_events, event_refusal, too_many_waiting, sending_refusal}
 use Rattle.hsm_types.specs.Attributes.{Attributes, is_reserved, reserved, too_big_value, too_many_bytes, bytes_of_attributes, with_value, value_of, setting_refusal, no_attribute}
-use Rattle.hsm_types.specs.Regions.{first_bad, too_many_regions, bad_region, regions_refusal}
+use Rattle.hsm_types.specs.Regions.{first_bad, too_many_regions, bad_region, regions_refusal, covers}
+use Rattle.hsm_types.specs.Segments.{from_on, segments_in, segments_met}
+use Rattle.hsm_types.specs.Stubs.{Stubs, print_of, stub_at, is_offline, is_sealed, not_offline, not_sealed, too_many_stubs, uncovered, not_covered, not_punched}
+use Rattle.hsm_types.specs.declared.stubs.Fingerprint.{Fingerprint}
+use Rattle.hsm_types.specs.declared.stubs.StubEntry.{StubEntry}
+use Rattle.hsm_types.specs.declared.stubs.Stub.{Stub}
+use Rattle.hsm_types.specs.declared.dm.DmRefusal.TheVariants.{Uncovered, NoSpace}
 use Rattle.hsm_types.specs.declared.attributes.AttrName.{AttrName}
 use Rattle.hsm_types.specs.declared.keys.FileKey.{FileKey}
 use Rattle.hsm_types.specs.declared.regions.Region.{Region}
 use Rattle.hsm_types.specs.declared.keys.Sid.{Sid}
 use Rattle.hsm_types.specs.declared.dm.DmCall.{DmCall}
-use Rattle.hsm_types.specs.declared.dm.DmCall.TheVariants.{CreateSession, DestroySession, QuerySession, GetEvents, FindEventMsg, Respond, CreateUserEvent, SendMsg, RequestRight, UpgradeRight, SetRegion, SetDmAttr, GetDmAttr, RemoveDmAttr, PathToHandle}
+use Rattle.hsm_types.specs.declared.dm.DmCall.TheVariants.{CreateSession, DestroySession, QuerySession, GetEvents, FindEventMsg, Respond, CreateUserEvent, SendMsg, RequestRight, UpgradeRight, SetRegion, SetDmAttr, GetDmAttr, RemoveDmAttr, ReadInvis, WriteInvis, PunchHole, ProbeHole, Seal, Restore, PathToHandle}
 use Rattle.hsm_types.specs.declared.dm.DmRefusal.{DmRefusal}
 use Rattle.hsm_types.specs.declared.dm.DmReply.TheVariants as told
 use Rattle.hsm_types.specs.Rights.{Rights, reaches, same_token, right_of, conflict, busy, too_low, bad_right}
@@ -40,12 +48,16 @@ use Rattle.plain_model.specs.declared.entries.Action.{Action}
 use Rattle.plain_model.specs.declared.entries.Action.TheVariants.{Issue, Resume, Dm, Commit}
 use Rattle.plain_model.specs.declared.entries.Answer.{Answer}
 use Rattle.plain_model.specs.declared.entries.Answer.TheVariants.{Call as Replied, Dm as Told}
-use Rattle.plain_model.specs.Plain.{Listed, has_key, named, bad_name, bad_length, missing, exists, too_big, no_inodes, refusal_of, reply_on}
+use Rattle.plain_model.specs.declared.facts.NoRoom.{NoRoom}
+use Rattle.plain_model.specs.Effects.{Writes, Restores, punch_from, punch_to}
+use Rattle.plain_model.specs.Blocks.{touched}
+use Rattle.plain_model.specs.Segments.{bad_access, past_size, past_end, bad_volume, ends_well, bad_punch, probe_start, probe_end, nothing_to_punch, away, any_away, no_room, same_print, changed_bytes, changed_from, reading_refusal, writing_refusal, punch_refusal, seal_refusal, restore_refusal}
+use Rattle.plain_model.specs.Plain.{Listed, has_key, named, bad_name, bad_length, missing, exists, too_big, no_inodes, refusal_of, segment, reply_on}
 use Rattle.plain_model.specs.Ledger.{Access, Meant, Fixed, Means, aborted, gone, objection_again, objection}
 use Rattle.plain_model.specs.Faults.{is_fault, fault_of, FaultIsLast, has_fault}
-use Rattle.plain_model.specs.State.{Flags, State, names_of}
-use Rattle.plain_model.specs.Verdict.{Blocks, Posts, Lacks, Verdict, verdict, reply_by, flags_now, reply_where, objection_in, meant_in, reply_to}
-use Rattle.plain_model.specs.Services.{bad_own_token, bad_given_token, is_live, bad_handle, scope_refusals, kept_of, other_attributes, message_or_none, service, dm_judged, dm_reply_where, dm_reply_to}
+use Rattle.plain_model.specs.State.{FileState, Held, Flags, State, names_of, file_at, used}
+use Rattle.plain_model.specs.Verdict.{short_of, Blocks, Posts, Lacks, Verdict, verdict, reply_by, flags_now, reply_where, objection_in, meant_in, reply_to}
+use Rattle.plain_model.specs.Services.{bad_own_token, bad_given_token, is_live, bad_handle, scope_refusals, kept_of, other_attributes, other_stubs, message_or_none, service, dm_judged, dm_reply_where, dm_reply_to}
 use Rattle.plain_model.specs.Exact.{IsOwn}
 use Rattle.plain_model.proofs.Judged.{Says, meant_says}
 
@@ -217,6 +229,97 @@ usual_right token k need rights = elim (same_token token no_token) as (λ b. Usu
   | false ↦ usual_low need (right_of token k rights)
 ]
 
+usual_found : (found : Option (ℕ × Stub)) → Usual (option_map (λ (x : ℕ × Stub). Uncovered x.0) found)
+usual_found None = tt
+usual_found (Some x) = refl
+
+usual_uncovered : (regions : List Region) (stubs : Stubs) → Usual (uncovered regions stubs)
+usual_uncovered regions stubs = usual_found (find (λ (x : ℕ × Stub). x.1.offline && not (covers regions x.0)) stubs)
+
+-- ---- what sessions ask of segments
+
+usual_access : (len : ℕ) → Usual (bad_access len)
+usual_access len = ordinary_if of_dm (nat_le 1 len && nat_le len 65536) _ _ tt refl
+
+usual_size : (end size : ℕ) → Usual (past_size end size)
+usual_size end size = ordinary_if of_dm (nat_le end size) _ _ tt refl
+
+usual_end : (j size : ℕ) → Usual (past_end j size)
+usual_end j size = ordinary_if of_dm (nat_lt (65536 * j) size) _ _ tt refl
+
+usual_volume : (volume : ℕ) → Usual (bad_volume volume)
+usual_volume volume = ordinary_if of_dm (nat_le volume 255) _ _ tt refl
+
+usual_bounds : (offset len size : ℕ) → Usual (bad_punch offset len size)
+usual_bounds offset len size = ordinary_if of_dm (offset % 65536 == 0 && nat_lt offset size && ends_well offset len size) _ _ tt refl
+
+usual_probe : (offset len size : ℕ) → Usual (nothing_to_punch offset len size)
+usual_probe offset len size = ordinary_if of_dm (nat_lt (probe_start offset) (probe_end offset len size)) _ _ tt refl
+
+usual_any : (refusal : ℕ → Option DmRefusal) → ((j : ℕ) → Usual (refusal j)) → (js : List ℕ) → Usual (first_refusal (map refusal js))
+usual_any refusal each [] = tt
+usual_any refusal each (j ∷ js) = ordinary_first of_dm (refusal j) (map refusal js) (each j) (usual_any refusal each js)
+
+usual_room : (room : Option NoRoom) → Usual (option_map (λ (x : NoRoom). NoSpace x.need x.free) room)
+usual_room None = tt
+usual_room (Some room) = refl
+
+usual_bytes : (want : Fingerprint) (bytes : List ℕ) → Usual (changed_bytes want bytes)
+usual_bytes want bytes = ordinary_if of_dm (same_print want (print_of bytes)) _ _ tt refl
+
+usual_from : (stub : Option Stub) (bytes : List ℕ) → Usual (changed_from stub bytes)
+usual_from None bytes = tt
+usual_from (Some stub) bytes = usual_bytes stub.entry.print bytes
+
+usual_entries : (j others limit : ℕ) (stubs : Stubs) → Usual (too_many_stubs j others limit stubs)
+usual_entries j others limit stubs = ordinary_if of_dm (is_some (stub_at j stubs) || nat_lt (others + length stubs) limit) _ _ tt refl
+
+module _ (f : FileState) where
+  usual_away : (j : ℕ) → Usual (away f j)
+  usual_away j = ordinary_if of_dm (is_offline (stub_at j f.kept.stubs)) _ _ refl tt
+
+  usual_punched : (j : ℕ) → Usual (not_punched f.kept.regions f.kept.stubs j)
+  usual_punched j =
+      ordinary_first of_dm (away f j) _ (usual_away j)
+      (ordinary_first of_dm (not_sealed j (stub_at j f.kept.stubs)) _ (ordinary_if of_dm (is_sealed (stub_at j f.kept.stubs)) _ _ tt refl)
+      (ordinary_first of_dm (not_covered j f.kept.regions) [] (ordinary_if of_dm (covers f.kept.regions j) _ _ tt refl) tt))
+
+  usual_reading : (offset len : ℕ) → Usual (reading_refusal f offset len)
+  usual_reading offset len =
+      let to : ℕ = min (offset + len) (length f.body) in
+      ordinary_first of_dm (bad_access len) _ (usual_access len) (ordinary_first of_dm (any_away f offset to) [] (usual_any (away f) usual_away (segments_met offset to)) tt)
+
+  usual_writing : (s : Superblock) (h : Held) (offset : ℕ) (bytes : List ℕ) → Usual (writing_refusal s h f offset bytes)
+  usual_writing s h offset bytes =
+      let end : ℕ = offset + length bytes in
+      ordinary_first of_dm (bad_access (length bytes)) _ (usual_access (length bytes))
+      (ordinary_first of_dm (past_size end (length f.body)) _ (usual_size end (length f.body))
+      (ordinary_first of_dm (any_away f offset end) _ (usual_any (away f) usual_away (segments_met offset end))
+      (ordinary_first of_dm (no_room s h f (Writes offset bytes)) [] (usual_room (short_of (length (touched (Writes offset bytes) (length f.body))) (s.geometry.blocks - used h.files))) tt)))
+
+  usual_punching : (offset len : ℕ) → Usual (punch_refusal f offset len)
+  usual_punching offset len =
+      let from : ℕ = punch_from offset in
+      let segments : List ℕ = from_on from (min (punch_to offset len) (segments_in (length f.body)) - from) in
+      ordinary_first of_dm (bad_punch offset len (length f.body)) _ (usual_bounds offset len (length f.body))
+      (ordinary_first of_dm (first_refusal (map (not_punched f.kept.regions f.kept.stubs) segments)) [] (usual_any (not_punched f.kept.regions f.kept.stubs) usual_punched segments) tt)
+
+  usual_sealing : (j : ℕ) (entry : StubEntry) → Usual (seal_refusal f j entry)
+  usual_sealing j entry =
+      ordinary_first of_dm (past_end j (length f.body)) _ (usual_end j (length f.body))
+      (ordinary_first of_dm (bad_volume entry.volume) _ (usual_volume entry.volume)
+      (ordinary_first of_dm (away f j) _ (usual_away j) (ordinary_first of_dm (changed_bytes entry.print (segment j f.body)) [] (usual_bytes entry.print (segment j f.body)) tt)))
+
+  usual_restoring : (s : Superblock) (h : Held) (j : ℕ) (bytes : List ℕ) → Usual (restore_refusal s h f j bytes)
+  usual_restoring s h j bytes =
+      let stub : Option Stub = stub_at j f.kept.stubs in
+      ordinary_first of_dm (past_end j (length f.body)) _ (usual_end j (length f.body))
+      (ordinary_first of_dm (not_offline j stub) _ (ordinary_if of_dm (is_offline stub) _ _ tt refl)
+      (ordinary_first of_dm (changed_from stub bytes) _ (usual_from stub bytes)
+      (ordinary_first of_dm (no_room s h f (Restores j bytes)) [] (usual_room (short_of (length (touched (Restores j bytes) (length f.body))) (s.geometry.blocks - used h.files))) tt)))
+
+-- ---- any call
+
 usual_service : (s : Superblock) (st : State) (sid : Sid) (call : DmCall) → Usual (service s st sid call).refusal
 usual_service s st sid (CreateSession old info) = usual_creation old info st.sessions
 usual_service s st sid DestroySession = ordinary_if of_dm (length (queue_of sid st.sessions) + length (outstanding_of sid st.sessions) == 0) _ _ tt refl
@@ -228,12 +331,24 @@ usual_service s st sid (CreateUserEvent body) = usual_event body st.sessions
 usual_service s st sid (SendMsg target body) = usual_sending target body st.sessions
 usual_service s st sid (RequestRight token handle right) = usual_busy (conflict handle.key right token st.rights)
 usual_service s st sid (UpgradeRight token handle) = usual_busy (conflict handle.key Excl token st.rights)
-usual_service s st sid (SetRegion token handle regions) = usual_regions regions
+usual_service s st sid (SetRegion token handle regions) =
+    let stubs : Stubs = (kept_of handle.key st.held.files).stubs in
+    ordinary_first of_dm (regions_refusal regions) _ (usual_regions regions) (ordinary_first of_dm (uncovered regions stubs) [] (usual_uncovered regions stubs) tt)
 usual_service s st sid (SetDmAttr token handle name value) = usual_setting name value (other_attributes handle.key st.held.files) s.geometry.attributes (kept_of handle.key st.held.files).attributes
 usual_service s st sid (GetDmAttr token handle name) = usual_absent name (kept_of handle.key st.held.files).attributes
 usual_service s st sid (RemoveDmAttr token handle name) =
     let attributes : Attributes = (kept_of handle.key st.held.files).attributes in
     ordinary_first of_dm (reserved name) _ (usual_reserved name) (ordinary_first of_dm (no_attribute name attributes) _ (usual_absent name attributes) tt)
+usual_service s st sid (ReadInvis token handle offset len) = usual_reading (file_at handle.key st.held.files) offset len
+usual_service s st sid (WriteInvis token handle offset body) = usual_writing (file_at handle.key st.held.files) s st.held offset body
+usual_service s st sid (PunchHole token handle offset len) = usual_punching (file_at handle.key st.held.files) offset len
+usual_service s st sid (ProbeHole token handle offset len) = usual_probe offset len (length (file_at handle.key st.held.files).body)
+usual_service s st sid (Seal token handle j entry) =
+    let f : FileState = file_at handle.key st.held.files in
+    let others : ℕ = other_stubs handle.key st.held.files in
+    let stubs : Stubs = (kept_of handle.key st.held.files).stubs in
+    ordinary_first of_dm (seal_refusal f j entry) _ (usual_sealing f j entry) (ordinary_first of_dm (too_many_stubs j others s.geometry.stubs stubs) [] (usual_entries j others s.geometry.stubs stubs) tt)
+usual_service s st sid (Restore token handle j bytes) = usual_restoring (file_at handle.key st.held.files) s st.held j bytes
 usual_service s st sid (PathToHandle name) = ordinary_if of_dm (is_some (named name (names_of st.held.files))) _ _ tt refl
 usual_service s st sid call = tt
 

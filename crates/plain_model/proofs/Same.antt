@@ -1,17 +1,18 @@
 -- The files of a legal history without a clash are those that were never moved.
-use Rattle.std.proofs.Common.{◌≡◌, ℕ, zero, suc, List, [], ◌∷◌, take, Bool, true, false, Option, Some, None, inl, inr, refl, sym, ◌∙◌, ap, subst}
+use Rattle.std.proofs.Common.{◌≡◌, ◌<◌, ◌*◌, ℕ, zero, suc, List, [], ◌∷◌, length, take, Bool, true, false, Option, Some, None, inl, inr, refl, sym, ◌∙◌, ap, subst, arith}
 use Rattle.std.proofs.lemmas.Bool.{eqb-true, eq-eqb, false≢true}
-use Rattle.std.specs.Prelude.{◌==◌, if◌then◌else◌, MatchOption}
+use Rattle.std.specs.Prelude.{◌==◌, if◌then◌else◌, MatchOption, IfSome}
 use Rattle.hsm_types.specs.declared.calls.Call.{Call}
 use Rattle.hsm_types.specs.declared.calls.CallRefusal.{CallRefusal}
 use Rattle.hsm_types.specs.declared.calls.CallRefusal.TheVariants.{Disk, Waiting, Idle}
 use Rattle.hsm_types.specs.declared.calls.Reply.{Reply}
 use Rattle.hsm_types.specs.declared.calls.Reply.TheVariants.{Parked, Blocked, Still, Refused}
 use Rattle.hsm_types.specs.declared.keys.FileKey.{FileKey}
+use Rattle.hsm_types.specs.declared.keys.Handle.{Handle}
 use Rattle.hsm_types.specs.declared.keys.Sid.{Sid}
 use Rattle.hsm_types.specs.declared.keys.Token.{Token}
 use Rattle.hsm_types.specs.declared.dm.DmCall.{DmCall}
-use Rattle.hsm_types.specs.declared.dm.DmCall.TheVariants.{Respond, CreateUserEvent, SetRegion}
+use Rattle.hsm_types.specs.declared.dm.DmCall.TheVariants.{Respond, CreateUserEvent, SetRegion, WriteInvis, Restore}
 use Rattle.hsm_types.specs.declared.dm.DmReply.{DmReply}
 use Rattle.hsm_types.specs.declared.dm.DmReply.TheVariants as told
 use Rattle.hsm_types.specs.declared.dm.Response.{Response}
@@ -23,16 +24,29 @@ use Rattle.plain_model.specs.declared.entries.Action.{Action}
 use Rattle.plain_model.specs.declared.entries.Action.TheVariants.{Issue, Resume, Dm, Commit}
 use Rattle.plain_model.specs.declared.entries.Answer.{Answer}
 use Rattle.plain_model.specs.declared.entries.Answer.TheVariants.{Call as Replied, Dm as Told}
-use Rattle.plain_model.specs.Keyed.{set_at}
-use Rattle.plain_model.specs.Effects.{change_of}
-use Rattle.plain_model.specs.Plain.{File, listing, key_meant, key_by, act}
+use Rattle.plain_model.specs.Keyed.{same_key, find_key, change_key, set_at}
+use Rattle.plain_model.specs.Effects.{Restores, change_of}
+use Rattle.plain_model.specs.Plain.{File, listing, key_meant, key_by, written, segment, body_or_none, body_of, affected, act}
 use Rattle.plain_model.specs.Ledger.{Access, Ledger, Meant, Fixed, Means, issued, goes_on, resumed, is_completion, kept, left_waiting, waiting_after, waits_for, answered, ledger_told}
 use Rattle.plain_model.specs.Faults.{is_fault, FaultIsLast}
-use Rattle.plain_model.specs.Step.{World, start, MayReply, meant_for, objection_for, files_replied, replied, changed_plain, files_told, world_told, MayGive, given}
-use Rattle.plain_model.specs.Legal.{Legal, After}
-use Rattle.plain_model.specs.PlainFold.{Issued, Walk, done_on, done, is_waiting, begun, walk, walked}
+use Rattle.plain_model.specs.Step.{World, start, MayReply, meant_for, objection_for, files_replied, replied, MayTell, changed_plain, files_told, world_told, MayGive, given}
+use Rattle.plain_model.specs.Legal.{Legal, After, AreTrueBytes, BringsTrueBytes, NoClash}
+use Rattle.plain_model.specs.PlainFold.{Issued, Walk, done_on, done, is_waiting, begun, written_by, walk, walked}
 use Rattle.plain_model.specs.Laws.{IsTransparent}
+use Rattle.plain_model.proofs.Bodies.{rewritten}
 use Rattle.plain_model.proofs.Faultless.{fault_is}
+
+-- ---- files of which one is changed
+
+unchanged_if : {F : Type 0} (key : F → FileKey) (k : FileKey) (change : F → F) (b : Bool) (f : F) (fs : List F) → IfSome (if b then Some f else find_key key k fs) (λ g. change g ≡ g)
+    → (IfSome (find_key key k fs) (λ g. change g ≡ g) → change_key key k change fs ≡ fs) → (if b then change f ∷ fs else f ∷ change_key key k change fs) ≡ f ∷ fs
+unchanged_if key k change true f fs here there = ap (λ g. g ∷ fs) here
+unchanged_if key k change false f fs here there = ap (λ gs. f ∷ gs) (there here)
+
+-- the file with the key stays as it is, so all do
+key_unchanged : {F : Type 0} (key : F → FileKey) (k : FileKey) (change : F → F) (fs : List F) → IfSome (find_key key k fs) (λ g. change g ≡ g) → change_key key k change fs ≡ fs
+key_unchanged key k change [] here = refl
+key_unchanged key k change (f ∷ fs) here = unchanged_if key k change (same_key (key f) k) f fs here (key_unchanged key k change fs)
 
 -- ---- what stands at a place
 
@@ -45,6 +59,15 @@ set_apart c d value f apart = rw apart refl
 if_either : {A : Type 0} (P : A → Type 0) (b : Bool) (x y : A) → (b ≡ true → P x) → (b ≡ false → P y) → P (if b then x else y)
 if_either P true x y here there = here refl
 if_either P false x y here there = there refl
+
+-- ---- bytes that are written where they stand
+
+found_same : (o : Option File) (j : ℕ) (bytes : List ℕ) → bytes ≡ segment j (body_or_none o) → 65536 * j < length (body_or_none o) → IfSome o (λ (f : File). record f { body = written (65536 * j) bytes f.body } ≡ f)
+found_same None j bytes is some = tt
+found_same (Some f) j bytes is some = ap (λ (body : List ℕ). record f { body = body }) (rw is (rewritten (65536 * j) 65536 f.body (omega arith)))
+
+restored_same : (j : ℕ) (bytes : List ℕ) (k : FileKey) (P : List File) → bytes ≡ segment j (body_of k P) → 65536 * j < length (body_of k P) → affected (Restores j bytes) k P ≡ P
+restored_same j bytes k P is some = key_unchanged (λ (f : File). f.key) k (λ f. record f { body = written (65536 * j) bytes f.body }) P (found_same (find_key (λ f. f.key) k P) j bytes is some)
 
 -- ---- the walk follows the world
 
@@ -176,27 +199,59 @@ told_tracks L (CreateUserEvent body) (told.Token t) c last is = is
 told_tracks L (SetRegion token handle regions) reply c last is = is
 told_tracks L call reply c last is = is
 
--- no session's call of today changes what a plain map knows
-change_same : (sid : Sid) (call : DmCall) (P : List File) → changed_plain (change_of sid call) P ≡ P
-change_same sid (SetRegion token handle regions) P = refl
-change_same sid call P = refl
+-- a call that was done changes of the files what it wrote. A segment that came back with its own bytes leaves them
+done_same : (s : Superblock) (W : World) (sid : Sid) (call : DmCall) → MayTell s W call told.Done → AreTrueBytes W call → changed_plain (change_of sid call) W.files ≡ written_by call W.files
+done_same s W sid (WriteInvis token handle offset bytes) may true_bytes = refl
+done_same s W sid (Restore token handle j bytes) may true_bytes = restored_same j bytes handle.key W.files true_bytes may.0.1
+done_same s W sid call may true_bytes = refl
 
-told_same : (P : List File) (sid : Sid) (call : DmCall) (reply : DmReply) → files_told P sid call reply ≡ P
-told_same P sid call (told.Refused why) = refl
-told_same P sid call reply = change_same sid call P
+abbrev is_done : DmReply → Bool
+is_done told.Done = true
+is_done reply = false
 
-told_follows : (W : World) (V : Walk) (sid : Sid) (call : DmCall) (reply : DmReply) → Follows W V → Follows (world_told W sid call reply) V
-told_follows W V sid call reply follows = record { files = told_same W.files sid call reply ∙ follows.files; issued = λ c. told_tracks W.ledger call reply c (V.issued c) (follows.issued c) }
+unchanged : (P : List File) (sid : Sid) (call : DmCall) (reply : DmReply) → changed_plain (change_of sid call) P ≡ P → files_told P sid call reply ≡ P
+unchanged P sid call (told.Refused why) same = refl
+unchanged P sid call reply same = same
+
+-- what writes is answered done, or refused
+other_write : (s : Superblock) (W : World) (sid : Sid) (token : Token) (handle : Handle) (offset : ℕ) (bytes : List ℕ) (reply : DmReply) → is_done reply ≡ false → MayTell s W (WriteInvis token handle offset bytes) reply
+    → files_told W.files sid (WriteInvis token handle offset bytes) reply ≡ W.files
+other_write s W sid token handle offset bytes told.Done other may = cc
+other_write s W sid token handle offset bytes (told.Refused why) other may = refl
+other_write s W sid token handle offset bytes reply other may = cc
+
+other_restore : (s : Superblock) (W : World) (sid : Sid) (token : Token) (handle : Handle) (j : ℕ) (bytes : List ℕ) (reply : DmReply) → is_done reply ≡ false → MayTell s W (Restore token handle j bytes) reply
+    → files_told W.files sid (Restore token handle j bytes) reply ≡ W.files
+other_restore s W sid token handle j bytes told.Done other may = cc
+other_restore s W sid token handle j bytes (told.Refused why) other may = refl
+other_restore s W sid token handle j bytes reply other may = cc
+
+other_same : (s : Superblock) (W : World) (sid : Sid) (call : DmCall) (reply : DmReply) → is_done reply ≡ false → MayTell s W call reply → files_told W.files sid call reply ≡ W.files
+other_same s W sid (WriteInvis token handle offset bytes) reply other may = other_write s W sid token handle offset bytes reply other may
+other_same s W sid (Restore token handle j bytes) reply other may = other_restore s W sid token handle j bytes reply other may
+other_same s W sid call reply other may = unchanged W.files sid call reply refl
+
+told_follows : (s : Superblock) (W : World) (V : Walk) (sid : Sid) (call : DmCall) (reply : DmReply) → Follows W V → MayTell s W call reply → BringsTrueBytes W (Dm call) (Told reply)
+    → Follows (world_told W sid call reply) (walk V (Session sid) (Dm call) (Told reply))
+told_follows s W V sid call told.Done follows may brings = record {
+  files = done_same s W sid call may brings ∙ ap (written_by call) follows.files;
+  issued = λ c. told_tracks W.ledger call told.Done c (V.issued c) (follows.issued c);
+}
+told_follows s W V sid call reply follows may brings = record {
+  files = other_same s W sid call reply refl may ∙ follows.files;
+  issued = λ c. told_tracks W.ledger call reply c (V.issued c) (follows.issued c);
+}
 
 -- ---- any event
 
-event_follows : (s : Superblock) (W : World) (V : Walk) (who : Actor) (what : Action) (answer : Answer) → is_fault answer ≡ false → Follows W V → MayGive s W who what answer → Follows (given W who what answer) (walk V who what answer)
-event_follows s W V who what answer sound follows (inl is) = absurd (false≢true (sym sound ∙ (ap is_fault is.1 ∙ fault_is what)))
-event_follows s W V (Caller c) (Issue call) (Replied reply) sound follows (inr may) = issue_follows s W V c call reply follows may
-event_follows s W V (Caller c) Resume (Replied reply) sound follows (inr may) = resume_follows s W V c reply follows may
-event_follows s W V (Session sid) (Dm call) (Told reply) sound follows (inr may) = told_follows W V sid call reply follows
-event_follows s W V Store Commit (Replied reply) sound follows (inr may) = follows
-event_follows s W V who what answer sound follows (inr may) = absurd may
+event_follows : (s : Superblock) (W : World) (V : Walk) (who : Actor) (what : Action) (answer : Answer) → is_fault answer ≡ false → Follows W V → MayGive s W who what answer → BringsTrueBytes W what answer
+    → Follows (given W who what answer) (walk V who what answer)
+event_follows s W V who what answer sound follows (inl is) brings = absurd (false≢true (sym sound ∙ (ap is_fault is.1 ∙ fault_is what)))
+event_follows s W V (Caller c) (Issue call) (Replied reply) sound follows (inr may) brings = issue_follows s W V c call reply follows may
+event_follows s W V (Caller c) Resume (Replied reply) sound follows (inr may) brings = resume_follows s W V c reply follows may
+event_follows s W V (Session sid) (Dm call) (Told reply) sound follows (inr may) brings = told_follows s W V sid call reply follows may brings
+event_follows s W V Store Commit (Replied reply) sound follows (inr may) brings = follows
+event_follows s W V who what answer sound follows (inr may) brings = absurd may
 
 -- a fault leaves the files
 fault_same : (V : Walk) (who : Actor) (what : Action) (answer : Answer) → is_fault answer ≡ true → (walk V who what answer).files ≡ V.files
@@ -204,6 +259,7 @@ fault_same V (Caller c) (Issue call) (Replied (Refused Disk)) is = refl
 fault_same V (Caller c) (Issue call) (Replied reply) is = cc
 fault_same V (Caller c) Resume (Replied (Refused Disk)) is = refl
 fault_same V (Caller c) Resume (Replied reply) is = cc
+fault_same V (Session sid) (Dm call) (Told told.Done) is = cc
 fault_same V who what answer is = refl
 
 none_taken : (i : ℕ) (W : World) (V : Walk) → W.files ≡ V.files → (After W (take i [])).files ≡ (walked V (take i [])).files
@@ -211,19 +267,22 @@ none_taken zero W V same = same
 none_taken (suc i) W V same = same
 
 more_same : (s : Superblock) (W : World) (V : Walk) (x : Entry) (es : List Entry) (i : ℕ) (fault : Bool) → is_fault x.answer ≡ fault → Follows W V
-    → ((W' : World) (U : Walk) → Follows W' U → Legal s W' es → (After W' (take i es)).files ≡ (walked U (take i es)).files)
-    → MayGive s W x.actor x.action x.answer → FaultIsLast x es → Legal s (if fault then W else given W x.actor x.action x.answer) es
+    → ((W' : World) (U : Walk) → Follows W' U → Legal s W' es → NoClash W' es → (After W' (take i es)).files ≡ (walked U (take i es)).files)
+    → MayGive s W x.actor x.action x.answer → FaultIsLast x es → BringsTrueBytes W x.action x.answer
+    → Legal s (if fault then W else given W x.actor x.action x.answer) es → NoClash (if fault then W else given W x.actor x.action x.answer) es
     → (After (if fault then W else given W x.actor x.action x.answer) (take i es)).files ≡ (walked (walk V x.actor x.action x.answer) (take i es)).files
-more_same s W V x es i true is follows later may last legal =
+more_same s W V x es i true is follows later may last brings legal clash =
     subst (λ (rest : List Entry). (After W (take i rest)).files ≡ (walked (walk V x.actor x.action x.answer) (take i rest)).files) (sym (last is))
     (none_taken i W (walk V x.actor x.action x.answer) (follows.files ∙ sym (fault_same V x.actor x.action x.answer is)))
-more_same s W V x es i false is follows later may last legal = later (given W x.actor x.action x.answer) (walk V x.actor x.action x.answer) (event_follows s W V x.actor x.action x.answer is follows may) legal
+more_same s W V x es i false is follows later may last brings legal clash =
+    later (given W x.actor x.action x.answer) (walk V x.actor x.action x.answer) (event_follows s W V x.actor x.action x.answer is follows may brings) legal clash
 
-steps_same : (s : Superblock) (W : World) (V : Walk) (es : List Entry) (i : ℕ) → Follows W V → Legal s W es → (After W (take i es)).files ≡ (walked V (take i es)).files
-steps_same s W V [] zero follows legal = follows.files
-steps_same s W V [] (suc i) follows legal = follows.files
-steps_same s W V (x ∷ es) zero follows legal = follows.files
-steps_same s W V (x ∷ es) (suc i) follows legal = more_same s W V x es i (is_fault x.answer) refl follows (λ W' U is more. steps_same s W' U es i is more) legal.0 legal.1 legal.2
+steps_same : (s : Superblock) (W : World) (V : Walk) (es : List Entry) (i : ℕ) → Follows W V → Legal s W es → NoClash W es → (After W (take i es)).files ≡ (walked V (take i es)).files
+steps_same s W V [] zero follows legal clash = follows.files
+steps_same s W V [] (suc i) follows legal clash = follows.files
+steps_same s W V (x ∷ es) zero follows legal clash = follows.files
+steps_same s W V (x ∷ es) (suc i) follows legal clash =
+    more_same s W V x es i (is_fault x.answer) refl follows (λ W' U is more none. steps_same s W' U es i is more none) legal.0 legal.1 clash.0 legal.2 clash.1
 
 pub transparent : (s : Superblock) (P : List File) (es : List Entry) → IsTransparent s P es
-transparent s P es legal clash i = steps_same s (start P) (record { files = P; issued = λ c. None }) es i (record { files = refl; issued = λ c. tt }) legal
+transparent s P es legal clash i = steps_same s (start P) (record { files = P; issued = λ c. None }) es i (record { files = refl; issued = λ c. tt }) legal clash

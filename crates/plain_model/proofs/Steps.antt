@@ -1,14 +1,13 @@
 -- What the store answers is a legal step from each world that it stands for, and it stands for the world after it.
-use Rattle.std.proofs.Common.{◌≡◌, ◌<◌, ◌-◌, ℕ, min, List, [], ◌∷◌, length, Bool, true, false, Option, Some, None, inl, inr, refl, sym, ◌∙◌, ap, subst, arith}
+use Rattle.std.proofs.Common.{◌≡◌, ◌<◌, ◌-◌, ℕ, List, [], ◌∷◌, length, Bool, true, false, Option, Some, None, inl, inr, refl, sym, ◌∙◌, ap, subst, arith}
 use Rattle.std.proofs.lemmas.Bool.Decides.{nat_tests}
-use Rattle.std.specs.Prelude.{◌==◌, ◌&&◌, not, nat_lt, if◌then◌else◌, is_some}
+use Rattle.std.specs.Prelude.{◌&&◌, not, nat_lt, if◌then◌else◌, is_some}
 use Rattle.std.specs.Option.{option_map}
 use Rattle.hsm_types.specs.Refusals.{first_refusal}
 use Rattle.hsm_types.specs.Handles.{same_key}
-use Rattle.hsm_types.specs.Rights.{Rights, same_token, conflict, bad_right}
+use Rattle.hsm_types.specs.Rights.{Rights, same_token, conflict}
 use Rattle.hsm_types.proofs.Righted.{conflict-held}
 use Rattle.hsm_types.specs.declared.keys.FileKey.{FileKey}
-use Rattle.hsm_types.specs.declared.keys.Sid.{Sid}
 use Rattle.hsm_types.specs.declared.stores.Superblock.{Superblock}
 use Rattle.hsm_types.specs.declared.calls.Call.{Call}
 use Rattle.hsm_types.specs.declared.calls.Call.TheVariants.{Create, Read, Write, Truncate, Remove, Stat, Sync}
@@ -18,16 +17,10 @@ use Rattle.hsm_types.specs.declared.calls.Reply.{Reply}
 use Rattle.hsm_types.specs.declared.calls.Reply.TheVariants.{Done, Made, Data, Size, Parked, Blocked, Still, Refused}
 use Rattle.hsm_types.specs.declared.dm.Kind.{Kind}
 use Rattle.hsm_types.specs.declared.dm.Kind.TheVariants as kind
-use Rattle.hsm_types.specs.declared.dm.DmCall.{DmCall}
-use Rattle.hsm_types.specs.declared.dm.DmCall.TheVariants.{CreateSession, Respond, CreateUserEvent, GetFileAttr, PathToHandle, GetSpace}
-use Rattle.hsm_types.specs.declared.dm.DmRefusal.{DmRefusal}
-use Rattle.hsm_types.specs.declared.dm.DmRefusal.TheVariants.{NoObject, BadResponse}
-use Rattle.hsm_types.specs.declared.dm.DmReply.TheVariants as told
 use Rattle.hsm_types.specs.declared.dm.Right.{Right}
 use Rattle.hsm_types.specs.declared.dm.Right.TheVariants.{Null, Shared, Excl}
 use Rattle.hsm_types.specs.declared.keys.Token.{Token}
-use Rattle.hsm_types.specs.Messages.{no_token, is_lawful}
-use Rattle.hsm_types.specs.Sessions.{dead_session, bad_response}
+use Rattle.hsm_types.specs.Messages.{no_token}
 use Rattle.plain_model.specs.declared.entries.Entry.{Entry}
 use Rattle.plain_model.specs.declared.entries.Actor.{Actor}
 use Rattle.plain_model.specs.declared.entries.Actor.TheVariants.{Caller, Session, Store}
@@ -36,25 +29,26 @@ use Rattle.plain_model.specs.declared.entries.Action.TheVariants.{Issue, Resume,
 use Rattle.plain_model.specs.declared.entries.Answer.{Answer}
 use Rattle.plain_model.specs.declared.facts.Facts.{Facts}
 use Rattle.plain_model.specs.declared.facts.NoRoom.{NoRoom}
-use Rattle.plain_model.specs.Effects.{Makes, Drops, Writes, Resizes, effect_of, Change, Nothing, OfFile, OfSessions, OfRights, Closes, change_of}
-use Rattle.plain_model.specs.Plain.{File, Listed, listing, named, key_or_none, free_inode, read_at, body_of}
+use Rattle.plain_model.specs.Effects.{Makes, Drops, Writes, Resizes, effect_of}
+use Rattle.plain_model.specs.Plain.{File, listing, free_inode, body_of}
 use Rattle.plain_model.specs.Accesses.{is_access, can_block, need_of, wants_space, kind_of, room_or_none}
-use Rattle.plain_model.specs.Ledger.{Ledger, Meant, Fixed, Means, next_token, meant, objection, ledger_replied, ledger_told}
+use Rattle.plain_model.specs.Ledger.{Ledger, Meant, Fixed, Means, next_token, meant, objection, ledger_replied}
 use Rattle.plain_model.specs.Blocks.{touched}
-use Rattle.plain_model.specs.State.{FileState, Held, Flags, State, just_opened, noted, changed, names_of, next_key, file_at, bytes_of, used}
-use Rattle.plain_model.specs.Verdict.{Ruling, Blocks, Posts, Lacks, Verdict, shortage, facts_of, is_taken, conflicting, posts, touching, without_room, lacking, verdict, done_reply, reply_by, flags_now, objection_in, meant_in, reply_where, reply_to, left_by_verdict, state_where, state_after}
-use Rattle.plain_model.specs.Services.{bad_own_token, bad_given_token, is_live, bad_handle, no_such_name, service, dm_judged, dm_reply_where, dm_state_where}
+use Rattle.plain_model.specs.State.{FileState, Held, Flags, State, just_opened, noted, names_of, next_key, file_at, bytes_of, used}
+use Rattle.plain_model.specs.Verdict.{Ruling, Blocks, Posts, Lacks, Verdict, shortage, facts_of, is_taken, conflicting, posts, touching, needing, without_room, lacking, verdict, done_reply, reply_by, flags_now, objection_in, meant_in, reply_where, reply_to, left_by_verdict, state_where, state_after}
+use Rattle.plain_model.specs.Services.{dm_judged}
 use Rattle.plain_model.specs.Faults.{is_fault}
-use Rattle.plain_model.specs.Step.{World, start, IsOutcome, MayReply, meant_for, objection_for, replied, MayTell, changed_plain, files_told, world_told, MayAnswer, MayGive, given, after}
+use Rattle.plain_model.specs.Step.{World, start, IsOutcome, MayReply, meant_for, objection_for, replied, MayAnswer, MayGive, given, after}
 use Rattle.plain_model.specs.Legal.{Legal, After}
 use Rattle.plain_model.specs.Stands.{HasBody, Stands, StandsFor, InOrder}
 use Rattle.plain_model.specs.Exact.{IsOwn, IsAnswer, left_own, left_by, Exact, state_by}
 use Rattle.plain_model.specs.Laws.{IsOpening}
-use Rattle.plain_model.proofs.Bodies.{read_same}
-use Rattle.plain_model.proofs.Standing.{affected_stands, names_stand, file_stands, found_stands}
+use Rattle.plain_model.proofs.Unstopped.{read_free, call_sound}
+use Rattle.plain_model.proofs.Standing.{IsSoundAt, sound_at, affected_stands, names_stand, file_stands}
 use Rattle.plain_model.proofs.Faultless.{fault_is}
-use Rattle.plain_model.proofs.Judged.{none_first, passes, second_holds, Says, meant_says}
-use Rattle.plain_model.proofs.Orders.{owned_open, event_ordered, ordered_at_first}
+use Rattle.plain_model.proofs.Told.{same_read, may_tell, told_stands}
+use Rattle.plain_model.proofs.Judged.{none_first, Says, meant_says}
+use Rattle.plain_model.proofs.Orders.{event_ordered, ordered_at_first}
 
 -- ---- a call to which nothing objects
 
@@ -120,12 +114,14 @@ lacks_room other true call (Some room) (Lacks need free) is only = cc
 lacks_room other false call (Some room) (Posts kind) is only = cc
 lacks_room other false call (Some room) (Lacks need free) is only = let same = same_numbers room.need room.free need free is in λ i. some_room (same.0 i) (same.1 i)
 
-first_follows : (w x y : Verdict) (other : Option Token) (call : Call) (short : Option NoRoom) (ruling : Ruling) → first_refusal (w ∷ x ∷ y ∷ []) ≡ Some ruling
-    → ((r : Ruling) → w ≡ Some r → Follows other call short r) → ((r : Ruling) → x ≡ Some r → Follows other call short r) → ((r : Ruling) → y ≡ Some r → Follows other call short r) → Follows other call short ruling
-first_follows (Some r) x y other call short ruling is first here there = first ruling is
-first_follows None (Some r) y other call short ruling is first here there = here ruling is
-first_follows None None (Some r) other call short ruling is first here there = there ruling is
-first_follows None None None other call short ruling is first here there = cc
+first_follows : (v w x y : Verdict) (other : Option Token) (call : Call) (short : Option NoRoom) (ruling : Ruling) → first_refusal (v ∷ w ∷ x ∷ y ∷ []) ≡ Some ruling
+    → ((r : Ruling) → v ≡ Some r → Follows other call short r) → ((r : Ruling) → w ≡ Some r → Follows other call short r) → ((r : Ruling) → x ≡ Some r → Follows other call short r)
+    → ((r : Ruling) → y ≡ Some r → Follows other call short r) → Follows other call short ruling
+first_follows (Some r) w x y other call short ruling is third fourth fifth sixth = third ruling is
+first_follows None (Some r) x y other call short ruling is third fourth fifth sixth = fourth ruling is
+first_follows None None (Some r) y other call short ruling is third fourth fifth sixth = fifth ruling is
+first_follows None None None (Some r) other call short ruling is third fourth fifth sixth = sixth ruling is
+first_follows None None None None other call short ruling is third fourth fifth sixth = cc
 
 -- what needs no right isn't blocked
 and_never : (a b : Bool) → (a && b && false) ≡ false
@@ -172,31 +168,49 @@ module _ (s : Superblock) (st : State) (W : World) (stands : StandsFor st W) whe
   bytes : (k : FileKey) → HasBody (file_at k st.held.files) (body_of k W.files)
   bytes k = file_stands k st.held.files W.files stands.files
 
-  same_read : (k : FileKey) (o n : ℕ) → read_at o n (bytes_of k st.held.files) ≡ read_at o n (body_of k W.files)
-  same_read k o n = read_same o n (bytes_of k st.held.files) (body_of k W.files) (ap (λ size. min n (size - o)) (bytes k).size) (λ i from to within. (bytes k).bytes i)
-
   same_left : (c : ℕ) (m : Meant) (reply : Reply) → ledger_replied st.ledger c m reply ≡ ledger_replied W.ledger c m reply
   same_left c m reply = ap (λ (L : Ledger). ledger_replied L c m reply) stands.ledger
 
-  outcome : (k : FileKey) (call : Call) → IsOutcome W k call (done_reply st.held k call)
-  outcome k (Create name) = ((ap (free_inode 1) names, stands.newer), refl)
-  outcome k (Read name o n) = (tt, ap Data (same_read k o n))
-  outcome k (Write name o bytes) = (tt, refl)
-  outcome k (Truncate name n) = (tt, refl)
-  outcome k (Remove name) = (tt, refl)
-  outcome k (Stat name) = (tt, ap (λ n. Size n) (bytes k).size)
-  outcome k Sync = (tt, refl)
+  -- rules 4 and 5 don't apply where none does
+  unstopped : (fl : Flags) (k : FileKey) (call : Call) → verdict s st fl k call ≡ None → (touching fl (facts_of s st.held k call) call ≡ None) × (needing fl (facts_of s st.held k call) call ≡ None)
+  unstopped fl k call is =
+      let facts : Facts = facts_of s st.held k call in
+      let past_third = none_first (conflicting st.rights k call) (touching fl facts call ∷ needing fl facts call ∷ lacking fl facts st.sessions ∷ []) is in
+      let past_fourth = none_first (touching fl facts call) (needing fl facts call ∷ lacking fl facts st.sessions ∷ []) past_third.1 in
+      let past_fifth = none_first (needing fl facts call) (lacking fl facts st.sessions ∷ []) past_fourth.1 in
+      (past_fourth.0, past_fifth.0)
 
-  done_stands : (c : ℕ) (fl : Flags) (k : FileKey) (call : Call) → StandsFor (left_by_verdict s st c fl k call None) (replied W c (Means k call) (done_reply st.held k call))
-  done_stands c fl k (Create name) = record { files = affected_stands (Makes name) (next_key st.held) st.held.files W.files stands.files; newer = omega arith; ledger = same_left c (Means k (Create name)) (Made (next_key st.held)) }
-  done_stands c fl k (Write name o bytes) = record { files = affected_stands (Writes o bytes) k st.held.files W.files stands.files; newer = stands.newer; ledger = same_left c (Means k (Write name o bytes)) Done }
-  done_stands c fl k (Truncate name n) = record { files = affected_stands (Resizes n) k st.held.files W.files stands.files; newer = stands.newer; ledger = same_left c (Means k (Truncate name n)) Done }
-  done_stands c fl k (Remove name) = record { files = affected_stands Drops k st.held.files W.files stands.files; newer = stands.newer; ledger = same_left c (Means k (Remove name)) Done }
-  done_stands c fl k (Read name o n) = record { files = stands.files; newer = stands.newer; ledger = same_left c (Means k (Read name o n)) (done_reply st.held k (Read name o n)) }
-  done_stands c fl k (Stat name) = record { files = stands.files; newer = stands.newer; ledger = same_left c (Means k (Stat name)) (done_reply st.held k (Stat name)) }
-  done_stands c fl k Sync = record { files = stands.files; newer = stands.newer; ledger = same_left c (Means k Sync) Done }
+  outcome : (fl : Flags) (k : FileKey) (call : Call) → verdict s st fl k call ≡ None → IsOutcome W k call (done_reply st.held k call)
+  outcome fl k (Create name) none = ((ap (free_inode 1) names, stands.newer), refl)
+  outcome fl k (Read name o n) none =
+      let f : FileState = file_at k st.held.files in
+      let past = unstopped fl k (Read name o n) none in
+      (tt, ap Data (same_read f (body_of k W.files) (bytes k) o n (read_free f (bytes k).covered fl (facts_of s st.held k (Read name o n)) name o n (refl, refl) past.0 past.1)))
+  outcome fl k (Write name o b) none = (tt, refl)
+  outcome fl k (Truncate name n) none = (tt, refl)
+  outcome fl k (Remove name) none = (tt, refl)
+  outcome fl k (Stat name) none = (tt, ap (λ n. Size n) (bytes k).size)
+  outcome fl k Sync none = (tt, refl)
 
-  -- what rules 3, 4 and 6 say
+  done_sound : (fl : Flags) (k : FileKey) (call : Call) → verdict s st fl k call ≡ None → IsSoundAt (effect_of call) k st.held.files
+  done_sound fl k call none =
+      let past = unstopped fl k call none in
+      sound_at (effect_of call) k st.held.files (call_sound (file_at k st.held.files) (bytes k).covered fl (facts_of s st.held k call) call (refl, refl) past.0 past.1)
+
+  done_stands : (c : ℕ) (fl : Flags) (k : FileKey) (call : Call) → verdict s st fl k call ≡ None → StandsFor (left_by_verdict s st c fl k call None) (replied W c (Means k call) (done_reply st.held k call))
+  done_stands c fl k (Create name) none = record {
+    files = affected_stands (Makes name) (next_key st.held) st.held.files W.files (sound_at (Makes name) (next_key st.held) st.held.files tt) stands.files;
+    newer = omega arith;
+    ledger = same_left c (Means k (Create name)) (Made (next_key st.held));
+  }
+  done_stands c fl k (Write name o b) none = record { files = affected_stands (Writes o b) k st.held.files W.files (done_sound fl k (Write name o b) none) stands.files; newer = stands.newer; ledger = same_left c (Means k (Write name o b)) Done }
+  done_stands c fl k (Truncate name n) none = record { files = affected_stands (Resizes n) k st.held.files W.files (done_sound fl k (Truncate name n) none) stands.files; newer = stands.newer; ledger = same_left c (Means k (Truncate name n)) Done }
+  done_stands c fl k (Remove name) none = record { files = affected_stands Drops k st.held.files W.files (done_sound fl k (Remove name) none) stands.files; newer = stands.newer; ledger = same_left c (Means k (Remove name)) Done }
+  done_stands c fl k (Read name o n) none = record { files = stands.files; newer = stands.newer; ledger = same_left c (Means k (Read name o n)) (done_reply st.held k (Read name o n)) }
+  done_stands c fl k (Stat name) none = record { files = stands.files; newer = stands.newer; ledger = same_left c (Means k (Stat name)) (done_reply st.held k (Stat name)) }
+  done_stands c fl k Sync none = record { files = stands.files; newer = stands.newer; ledger = same_left c (Means k Sync) Done }
+
+  -- what rules 3 to 6 say
   rules_follow : (fl : Flags) (k : FileKey) (call : Call) (ruling : Ruling) → verdict s st fl k call ≡ Some ruling → Follows (conflict k (need_of call) no_token st.rights) call (shortage s st.held k call) ruling
   rules_follow fl k call ruling is =
       let facts : Facts = facts_of s st.held k call in
@@ -204,15 +218,16 @@ module _ (s : Superblock) (st : State) (W : World) (stands : StandsFor st W) whe
       let need : ℕ = length (touched (effect_of call) size) in
       let free : ℕ = s.geometry.blocks - used st.held.files in
       let other : Option Token = conflict k (need_of call) no_token st.rights in
-      first_follows (conflicting st.rights k call) (touching fl facts call) (lacking fl facts st.sessions) other call facts.short ruling is
+      first_follows (conflicting st.rights k call) (touching fl facts call) (needing fl facts call) (lacking fl facts st.sessions) other call facts.short ruling is
       (λ r at. blocked_by other call facts.short r at (λ t held. blocks_some (need_of call) call k st.rights t refl held))
       (λ r at. asks_access other (not fl.cleared && facts.touches) call r at facts.short)
+      (λ r at. asks_access other (fl.cleared && facts.needs) call r at facts.short)
       (λ r at. lacks_room other (not fl.spaced && is_taken kind.NoSpace st.sessions) call facts.short r at
       (λ some. wanting call (wants call size free (some_short (nat_lt free need) need free refl some))))
 
   verdict_step : (c : ℕ) (fl : Flags) (k : FileKey) (call : Call) (v : Verdict) → verdict s st fl k call ≡ v
       → (InOrder st → IsOutcome W k call (reply_by st k call v)) × StandsFor (left_by_verdict s st c fl k call v) (replied W c (Means k call) (reply_by st k call v))
-  verdict_step c fl k call None is = ((λ ordered. outcome k call), done_stands c fl k call)
+  verdict_step c fl k call None is = ((λ ordered. outcome fl k call is), done_stands c fl k call is)
   verdict_step c fl k call (Some (Blocks t)) is =
       let held = rules_follow fl k call (Blocks t) is in (
         (λ ordered. (held.0, ap (λ (L : Ledger). L.open t.0) (sym stands.ledger) ∙ conflict-held (λ h. st.ledger.open h.token.0 ≡ true) k (need_of call) no_token t st.rights ordered.held held.1)),
@@ -252,74 +267,6 @@ module _ (s : Superblock) (st : State) (W : World) (stands : StandsFor st W) whe
         subst (λ (m : Meant). StandsFor (state_after s st c what) (replied W c m (reply_to s st c what))) (same_meant c what) step.1,
       )
 
--- ---- a session's call
-
--- a refusal leaves the ledger
-refused_ledger : (call : DmCall) (why : DmRefusal) (L : Ledger) → ledger_told L call (told.Refused why) ≡ L
-refused_ledger GetSpace why L = refl
-refused_ledger call why L = refl
-
-module _ (s : Superblock) (st : State) (W : World) (stands : StandsFor st W) (sid : Sid) where
-  files : List FileState
-  files = st.held.files
-
-  told_step : (call : DmCall) → InOrder st → dm_judged s st sid call ≡ None → MayTell s W call (service s st sid call).reply
-  told_step (Respond token response) ordered none =
-      let past_session = none_first (dead_session sid st.sessions) (bad_own_token sid token st.sessions ∷ bad_response response ∷ []) none in
-      let past_token = none_first (bad_own_token sid token st.sessions) (bad_response response ∷ []) past_session.1 in
-      let past_own = none_first (bad_response response) [] past_token.1 in (
-        ap (λ (L : Ledger). L.open token.0) (sym stands.ledger) ∙ (owned_open st sid token ordered past_token.0).0,
-        passes (is_lawful response) BadResponse past_own.0,
-      )
-  told_step (CreateUserEvent body) ordered none = ap next_token stands.ledger
-  told_step (GetFileAttr token handle) ordered none =
-      let past_session = none_first (dead_session sid st.sessions) (bad_given_token sid token st.sessions ∷ bad_handle s st.held.files handle ∷ bad_right token handle.key Shared st.rights ∷ None ∷ []) none in
-      let past_token = none_first (bad_given_token sid token st.sessions) (bad_handle s st.held.files handle ∷ bad_right token handle.key Shared st.rights ∷ None ∷ []) past_session.1 in
-      let past_handle = none_first (bad_handle s st.held.files handle) (bad_right token handle.key Shared st.rights ∷ None ∷ []) past_token.1 in
-      let live = second_holds (handle.fsid == s.fsid) _ (passes (is_live s st.held.files handle) NoObject past_handle.0) in
-      (sym (found_stands handle.key st.held.files W.files stands.files) ∙ live, (file_stands handle.key st.held.files W.files stands.files).size)
-  told_step (PathToHandle name) ordered none =
-      let own : Option DmRefusal = no_such_name (named name (names_of st.held.files)) in
-      let past_session = none_first (dead_session sid st.sessions) (own ∷ []) none in
-      let past_own = none_first own [] past_session.1 in
-      let found = passes (is_some (named name (names_of st.held.files))) NoObject past_own.0 in
-      let same : names_of st.held.files ≡ listing W.files = names_stand st.held.files W.files stands.files in (
-        ap (λ ls. is_some (named name ls)) (sym same) ∙ found,
-        ap (λ (ls : List Listed). record { fsid = s.fsid; key = key_or_none (named name ls) }) same,
-      )
-  told_step call ordered none = refl
-
-  changed_files : (change : Change) → Stands (changed change st).held.files (changed_plain change W.files)
-  changed_files Nothing = stands.files
-  changed_files (OfFile k effect) = affected_stands effect k st.held.files W.files stands.files
-  changed_files (OfSessions to) = stands.files
-  changed_files (OfRights to) = stands.files
-  changed_files (Closes owner token) = stands.files
-
-  changed_next : (change : Change) → (changed change st).held.next ≡ st.held.next
-  changed_next Nothing = refl
-  changed_next (OfFile k effect) = refl
-  changed_next (OfSessions to) = refl
-  changed_next (OfRights to) = refl
-  changed_next (Closes owner token) = refl
-
-  -- it isn't told a refusal
-  files_done : (call : DmCall) → changed_plain (change_of sid call) W.files ≡ files_told W.files sid call (service s st sid call).reply
-  files_done (CreateSession old info) = refl
-  files_done call = refl
-
-  may_tell : (call : DmCall) (why : Option DmRefusal) → InOrder st → dm_judged s st sid call ≡ why → MayTell s W call (dm_reply_where why s st sid call)
-  may_tell call None ordered is = told_step call ordered is
-  may_tell call (Some why) ordered is = tt
-
-  told_stands : (call : DmCall) (why : Option DmRefusal) → StandsFor (dm_state_where why s st sid call) (world_told W sid call (dm_reply_where why s st sid call))
-  told_stands call None = record {
-    files = rw (sym (files_done call)) (changed_files (change_of sid call));
-    newer = rw (changed_next (change_of sid call)) stands.newer;
-    ledger = ap (λ (L : Ledger). ledger_told L call (service s st sid call).reply) stands.ledger;
-  }
-  told_stands call (Some why) = record { files = stands.files; newer = stands.newer; ledger = stands.ledger ∙ sym (refused_ledger call why W.ledger) }
-
 -- ---- any event
 
 own_may : (s : Superblock) (st : State) (W : World) (who : Actor) (what : Action) (answer : Answer) → StandsFor st W → InOrder st → IsOwn s st who what answer → MayAnswer s W who what answer
@@ -332,7 +279,7 @@ own_may s st W who what answer stands ordered is = absurd is.0
 own_stands : (s : Superblock) (st : State) (W : World) (who : Actor) (what : Action) (answer : Answer) → StandsFor st W → IsOwn s st who what answer → StandsFor (left_own s st who what) (given W who what answer)
 own_stands s st W (Caller c) (Issue call) answer stands is = rw is.1 (call_step s st W stands c (Issue call)).1
 own_stands s st W (Caller c) Resume answer stands is = rw is.1 (call_step s st W stands c Resume).1
-own_stands s st W (Session sid) (Dm call) answer stands is = rw is.1 (told_stands s st W stands sid call (dm_judged s st sid call))
+own_stands s st W (Session sid) (Dm call) answer stands is = rw is.1 (told_stands s st W stands sid call (dm_judged s st sid call) refl)
 own_stands s st W Store Commit answer stands is = (record { files = stands.files; newer = stands.newer; ledger = stands.ledger })
 own_stands s st W who what answer stands is = absurd is.0
 

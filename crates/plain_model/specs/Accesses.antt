@@ -1,6 +1,9 @@
--- Accesses: calls on the bytes of a file, which may have to wait. Of which kind their event is, which bytes they reach, and what the message of the event
--- says of them.
-use Rattle.std.specs.Prelude.{ℕ, ◌+◌, ◌-◌, min, max, length, [], Bool, true, false, Option, Some, None}
+-- Accesses: calls on the bytes of a file, which may have to wait. Of which kind their event is, which bytes they reach, which segments they need, and what
+-- the message of the event says of them.
+use Rattle.std.specs.Prelude.{ℕ, ◌+◌, ◌-◌, ◌==◌, min, max, List, length, [], Bool, true, false, if◌then◌else◌, Option, Some, None}
+use Rattle.std.specs.List.{list_any}
+use Rattle.hsm_types.specs.Segments.{segments_met, segment_around}
+use Rattle.hsm_types.specs.Stubs.{Stubs, offline_at}
 use Rattle.hsm_types.specs.declared.calls.Call.{Call}
 use Rattle.hsm_types.specs.declared.calls.Call.TheVariants.{Read, Write, Truncate, Remove}
 use Rattle.hsm_types.specs.declared.dm.Kind.{Kind}
@@ -54,6 +57,18 @@ reach size (Read name offset len) = record { offset = offset; len = min (offset 
 reach size (Write name offset bytes) = record { offset = min offset size; len = offset + length bytes - min offset size }
 reach size (Truncate name to) = record { offset = min to size; len = max to size - min to size }
 reach size call = record { offset = 0; len = 0 }
+
+-- ---- which segments an access of a file of that size needs, where their bytes are away
+
+abbrev pub needed : ℕ → Call → List ℕ
+needed size (Read name offset len) = segments_met offset (min (offset + len) size)
+needed size (Write name offset bytes) = segments_met (min offset size) (offset + length bytes)
+needed size (Truncate name to) = if to == size then [] else segment_around (min to size)
+needed size call = []
+
+-- the bytes of one of them are away
+abbrev pub needs : Stubs → ℕ → Call → Bool
+needs stubs size call = list_any (offline_at stubs) (needed size call)
 
 -- ---- the message of its event
 

@@ -1,11 +1,7 @@
--- Blocks of 4,096 bytes: which of them an effect touches, and which are mapped after it.
-use Rattle.std.specs.Prelude.{ℕ, zero, suc, ◌+◌, ◌-◌, ◌/◌, ◌%◌, max, List, [], ◌∷◌, ◌++◌, length, take, replicate, slice_set, Bool, true, false, ◌==◌, ◌&&◌, nat_lt, if◌then◌else◌}
-use Rattle.plain_model.specs.Effects.{Effect, Writes, Resizes}
-
--- n numbers from a on
-abbrev pub from_on : ℕ → ℕ → List ℕ
-from_on a zero = []
-from_on a (suc n) = a ∷ from_on (a + 1) n
+-- Blocks of 4,096 bytes, 16 to a segment: which of them an effect touches, and which are mapped after it.
+use Rattle.std.specs.Prelude.{ℕ, ◌+◌, ◌-◌, ◌*◌, ◌/◌, ◌%◌, max, min, List, [], ◌∷◌, ◌++◌, length, take, drop, replicate, slice_set, Bool, true, false, ◌==◌, ◌&&◌, nat_lt, if◌then◌else◌}
+pub use Rattle.hsm_types.specs.Segments.{from_on}
+use Rattle.plain_model.specs.Effects.{Effect, Writes, Resizes, Punches, Restores}
 
 -- how many blocks a body of that size has
 abbrev pub blocks_in : ℕ → ℕ
@@ -26,6 +22,7 @@ touched (Writes offset bytes) size =
     then old_end size ++ met offset (offset + length bytes)
     else met offset (offset + length bytes)
 touched (Resizes to) size = if nat_lt size to then old_end size else []
+touched (Restores j bytes) size = met (65536 * j) (65536 * j + length bytes)
 touched effect size = []
 
 -- the size after the effect
@@ -47,8 +44,14 @@ fitted size mapped = take (blocks_in size) mapped ++ replicate (blocks_in size -
 abbrev pub mapped_after : Effect → ℕ → List Bool → List Bool
 mapped_after effect size mapped = with_mapped (touched effect size) (fitted (size_after effect size) mapped)
 
+-- the blocks of the segments from the first up to the second are holes
+abbrev pub with_holes : ℕ → ℕ → List Bool → List Bool
+with_holes from to mapped = take (16 * from) mapped ++ replicate (min (16 * to) (length mapped) - 16 * from) false ++ drop (16 * to) mapped
+
 -- and after any effect
 abbrev pub remapped : Effect → ℕ → List Bool → List Bool
 remapped (Writes offset bytes) size mapped = mapped_after (Writes offset bytes) size mapped
 remapped (Resizes to) size mapped = mapped_after (Resizes to) size mapped
+remapped (Punches from to) size mapped = with_holes from to mapped
+remapped (Restores j bytes) size mapped = mapped_after (Restores j bytes) size mapped
 remapped effect size mapped = mapped

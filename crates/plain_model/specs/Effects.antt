@@ -1,10 +1,12 @@
 -- What an event does to one file, of callers and sessions alike. What becomes of files, and of what stands beside them, goes by the effect of a
 -- completed event, and not by its call.
-use Rattle.std.specs.Prelude.{ℕ, List}
+use Rattle.std.specs.Prelude.{ℕ, ◌+◌, ◌/◌, ◌==◌, List, if◌then◌else◌}
+use Rattle.hsm_types.specs.Segments.{segments_in}
 use Rattle.hsm_types.specs.Rights.{Rights, with_right, requested, without_right}
 use Rattle.hsm_types.specs.Sessions.{SessionTable, with_session, without_session, with_kinds, delivered_within, user_event, sent}
 use Rattle.hsm_types.specs.declared.attributes.AttrName.{AttrName}
 use Rattle.hsm_types.specs.declared.regions.Region.{Region}
+use Rattle.hsm_types.specs.declared.stubs.StubEntry.{StubEntry}
 use Rattle.hsm_types.specs.declared.keys.FileKey.{FileKey}
 use Rattle.hsm_types.specs.declared.keys.Sid.{Sid}
 use Rattle.hsm_types.specs.declared.keys.Token.{Token}
@@ -12,7 +14,7 @@ use Rattle.hsm_types.specs.declared.calls.Call.{Call}
 use Rattle.hsm_types.specs.declared.calls.Call.TheVariants.{Create, Read, Write, Truncate, Remove, Stat, Sync}
 use Rattle.hsm_types.specs.declared.dm.Right.TheVariants.{Shared, Excl}
 use Rattle.hsm_types.specs.declared.dm.DmCall.{DmCall}
-use Rattle.hsm_types.specs.declared.dm.DmCall.TheVariants.{CreateSession, DestroySession, GetAllSessions, QuerySession, SetDisp, GetDisp, GetEvents, GetAllTokens, FindEventMsg, Respond, CreateUserEvent, SendMsg, RequestRight, ReleaseRight, QueryRight, UpgradeRight, DowngradeRight, GetFileAttr, SetRegion, GetRegion, SetDmAttr, GetDmAttr, RemoveDmAttr, GetAllDmAttr, PathToHandle, GetSpace}
+use Rattle.hsm_types.specs.declared.dm.DmCall.TheVariants.{CreateSession, DestroySession, GetAllSessions, QuerySession, SetDisp, GetDisp, GetEvents, GetAllTokens, FindEventMsg, Respond, CreateUserEvent, SendMsg, RequestRight, ReleaseRight, QueryRight, UpgradeRight, DowngradeRight, GetFileAttr, SetRegion, GetRegion, SetDmAttr, GetDmAttr, RemoveDmAttr, GetAllDmAttr, ReadInvis, WriteInvis, PunchHole, ProbeHole, GetAllocInfo, Seal, Restore, PathToHandle, GetSpace, GetTable}
 
 pub data Effect : Type 0 where
   Leaves : Effect
@@ -29,6 +31,12 @@ pub data Effect : Type 0 where
   Attaches : AttrName → List ℕ → Effect
   -- it has no attribute of that name
   Detaches : AttrName → Effect
+  -- the segment is sealed with that entry
+  Seals : ℕ → StubEntry → Effect
+  -- the bytes of the segments from the first up to the second are away, and their entries stand for them
+  Punches : ℕ → ℕ → Effect
+  -- the bytes of the segment are here again
+  Restores : ℕ → List ℕ → Effect
 
 -- of a caller's call that is done
 abbrev pub effect_of : Call → Effect
@@ -39,6 +47,13 @@ effect_of (Truncate name size) = Resizes size
 effect_of (Remove name) = Drops
 effect_of (Stat name) = Leaves
 effect_of Sync = Leaves
+
+-- The segments that a punch is of: those from the first number up to the second, as far as the file has them. No file has more than 256
+abbrev pub punch_from : ℕ → ℕ
+punch_from offset = offset / 65536
+
+abbrev pub punch_to : ℕ → ℕ → ℕ
+punch_to offset len = if len == 0 then 256 else segments_in (offset + len)
 
 -- what a call changes that is done: nothing, one file, the sessions, for which there is a token that was never given, or what tokens hold
 pub data Change : Type 0 where
@@ -75,5 +90,13 @@ change_of sid (SetDmAttr token handle name value) = OfFile handle.key (Attaches 
 change_of sid (GetDmAttr token handle name) = Nothing
 change_of sid (RemoveDmAttr token handle name) = OfFile handle.key (Detaches name)
 change_of sid (GetAllDmAttr token handle) = Nothing
+change_of sid (ReadInvis token handle offset len) = Nothing
+change_of sid (WriteInvis token handle offset body) = OfFile handle.key (Writes offset body)
+change_of sid (PunchHole token handle offset len) = OfFile handle.key (Punches (punch_from offset) (punch_to offset len))
+change_of sid (ProbeHole token handle offset len) = Nothing
+change_of sid (GetAllocInfo token handle) = Nothing
+change_of sid (Seal token handle segment entry) = OfFile handle.key (Seals segment entry)
+change_of sid (Restore token handle segment bytes) = OfFile handle.key (Restores segment bytes)
 change_of sid (PathToHandle name) = Nothing
 change_of sid GetSpace = Nothing
+change_of sid GetTable = Nothing

@@ -1,10 +1,15 @@
 -- Which histories are legal from a plain map.
-use Rattle.std.specs.Prelude.{List, [], ◌∷◌}
+use Rattle.std.specs.Prelude.{◌≡◌, List, [], ◌∷◌}
 use Rattle.hsm_types.specs.declared.stores.Superblock.{Superblock}
+use Rattle.hsm_types.specs.declared.dm.DmCall.{DmCall}
+use Rattle.hsm_types.specs.declared.dm.DmCall.TheVariants.{Restore}
+use Rattle.hsm_types.specs.declared.dm.DmReply.TheVariants as told
 use Rattle.plain_model.specs.declared.entries.Entry.{Entry}
 use Rattle.plain_model.specs.declared.entries.Action.{Action}
-use Rattle.plain_model.specs.declared.entries.Action.TheVariants.{Issue, Resume, Dm, Commit}
+use Rattle.plain_model.specs.declared.entries.Action.TheVariants.{Dm}
 use Rattle.plain_model.specs.declared.entries.Answer.{Answer}
+use Rattle.plain_model.specs.declared.entries.Answer.TheVariants.{Dm as Told}
+use Rattle.plain_model.specs.Plain.{segment, body_of}
 use Rattle.plain_model.specs.Faults.{FaultIsLast}
 use Rattle.plain_model.specs.Step.{World, Allows, after}
 
@@ -18,12 +23,15 @@ abbrev pub After : World → List Entry → World
 After W [] = W
 After W (e ∷ es) = After (after W e) es
 
--- Bytes that an entry brings back are those that the world has at their place. None of today's actions brings any.
+-- The bytes that a call brings back are those that the world has at their place.
+abbrev pub AreTrueBytes : World → DmCall → Type 0
+AreTrueBytes W (Restore token handle j bytes) = bytes ≡ segment j (body_of handle.key W.files)
+AreTrueBytes W call = Unit {0}
+
+-- so are those of an entry that was done
 abbrev pub BringsTrueBytes : World → Action → Answer → Type 0
-BringsTrueBytes W (Issue call) answer = Unit {0}
-BringsTrueBytes W Resume answer = Unit {0}
-BringsTrueBytes W (Dm call) answer = Unit {0}
-BringsTrueBytes W Commit answer = Unit {0}
+BringsTrueBytes W (Dm call) (Told told.Done) = AreTrueBytes W call
+BringsTrueBytes W action answer = Unit {0}
 
 -- no two byte lists of one digest stood in for each other
 abbrev pub NoClash : World → List Entry → Type 0

@@ -12,7 +12,9 @@ pub mod Distinct
 pub mod PlainFold
 pub mod State
 pub mod Verdict
+pub mod Segments
 pub mod Services
+pub mod Sound
 pub mod Stands
 pub mod Exact
 pub mod Synced

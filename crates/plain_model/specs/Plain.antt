@@ -1,5 +1,5 @@
 -- A plain map of files, what refuses a call on it, and what calls and effects do to it.
-use Rattle.std.specs.Prelude.{ℕ, ◌+◌, ◌-◌, ◌^◌, max, min, List, [], ◌∷◌, ◌++◌, length, map, take, drop, replicate, ◌==◌, ◌&&◌, nat_lt, nat_le, if◌then◌else◌, Bool, Option, Some, None, is_some}
+use Rattle.std.specs.Prelude.{ℕ, ◌+◌, ◌-◌, ◌*◌, ◌^◌, max, min, List, [], ◌∷◌, ◌++◌, length, map, take, drop, replicate, ◌==◌, ◌&&◌, nat_lt, nat_le, if◌then◌else◌, Bool, Option, Some, None, is_some}
 use Rattle.std.specs.Str.{bytes_eq}
 use Rattle.hsm_types.specs.Names.{is_name}
 use Rattle.hsm_types.specs.Refusals.{first_refusal}
@@ -12,7 +12,7 @@ use Rattle.hsm_types.specs.declared.calls.Reply.TheVariants.{Done, Made, Data, S
 use Rattle.hsm_types.specs.declared.calls.CallRefusal.{CallRefusal}
 use Rattle.hsm_types.specs.declared.calls.CallRefusal.TheVariants.{Missing, Exists, BadName, TooBig, BadLength, NoInodes}
 use Rattle.plain_model.specs.Keyed.{find_key, change_key, put_key, drop_key}
-use Rattle.plain_model.specs.Effects.{Effect, Makes, Drops, Writes, Resizes, effect_of}
+use Rattle.plain_model.specs.Effects.{Effect, Makes, Drops, Writes, Resizes, Restores, effect_of}
 
 -- a file: its key, its name and its bytes. A plain map is a list of files in the order of their inodes
 pub record File : Type 0 where
@@ -116,10 +116,15 @@ written offset bytes body = take offset body ++ replicate (offset - length body)
 abbrev pub resized : ℕ → List ℕ → List ℕ
 resized size body = take size body ++ replicate (size - length body) 0
 
+-- the bytes of a segment of the body
+abbrev pub segment : ℕ → List ℕ → List ℕ
+segment j body = read_at (65536 * j) 65536 body
+
 -- the bytes after an effect
 abbrev pub rebody : Effect → List ℕ → List ℕ
 rebody (Writes offset bytes) body = written offset bytes body
 rebody (Resizes size) body = resized size body
+rebody (Restores j bytes) body = written (65536 * j) bytes body
 rebody effect body = body
 
 abbrev pub body_or_none : Option File → List ℕ
@@ -136,6 +141,7 @@ affected (Makes name) k P = put_key (λ f. f.key) (record { key = k; name = name
 affected Drops k P = drop_key (λ f. f.key) k P
 affected (Writes offset bytes) k P = change_key (λ f. f.key) k (λ f. record f { body = rebody (Writes offset bytes) f.body }) P
 affected (Resizes size) k P = change_key (λ f. f.key) k (λ f. record f { body = rebody (Resizes size) f.body }) P
+affected (Restores j bytes) k P = change_key (λ f. f.key) k (λ f. record f { body = rebody (Restores j bytes) f.body }) P
 affected effect k P = P
 
 -- the reply to a call on the file with that key and these bytes

@@ -1,19 +1,23 @@
--- The plain map of files that were never moved: no tokens, no restores, only the calls that were done.
+-- The plain map of files that were never moved: no tokens, no restores, only the calls that were done, and what sessions wrote.
 use Rattle.std.specs.Prelude.{ℕ, List, [], ◌∷◌, Bool, true, false, if◌then◌else◌, Option, Some, None}
 use Rattle.hsm_types.specs.declared.calls.Call.{Call}
 use Rattle.hsm_types.specs.declared.calls.CallRefusal.TheVariants.{Waiting}
 use Rattle.hsm_types.specs.declared.calls.Reply.{Reply}
 use Rattle.hsm_types.specs.declared.calls.Reply.TheVariants.{Refused}
 use Rattle.hsm_types.specs.declared.keys.FileKey.{FileKey}
+use Rattle.hsm_types.specs.declared.dm.DmCall.{DmCall}
+use Rattle.hsm_types.specs.declared.dm.DmCall.TheVariants.{WriteInvis}
+use Rattle.hsm_types.specs.declared.dm.DmReply.TheVariants as told
 use Rattle.plain_model.specs.declared.entries.Entry.{Entry}
 use Rattle.plain_model.specs.declared.entries.Actor.{Actor}
-use Rattle.plain_model.specs.declared.entries.Actor.TheVariants.{Caller}
+use Rattle.plain_model.specs.declared.entries.Actor.TheVariants.{Caller, Session}
 use Rattle.plain_model.specs.declared.entries.Action.{Action}
-use Rattle.plain_model.specs.declared.entries.Action.TheVariants.{Issue, Resume}
+use Rattle.plain_model.specs.declared.entries.Action.TheVariants.{Issue, Resume, Dm}
 use Rattle.plain_model.specs.declared.entries.Answer.{Answer}
-use Rattle.plain_model.specs.declared.entries.Answer.TheVariants.{Call as Replied}
+use Rattle.plain_model.specs.declared.entries.Answer.TheVariants.{Call as Replied, Dm as Told}
 use Rattle.plain_model.specs.Keyed.{set_at}
-use Rattle.plain_model.specs.Plain.{File, listing, key_meant, key_by, act}
+use Rattle.plain_model.specs.Effects.{Writes}
+use Rattle.plain_model.specs.Plain.{File, listing, key_meant, key_by, affected, act}
 use Rattle.plain_model.specs.Ledger.{is_completion}
 
 -- the files, and for each caller the file and the call of its last issue that wasn't told to wait
@@ -40,9 +44,15 @@ is_waiting reply = false
 abbrev pub begun : Walk → ℕ → Call → Reply → Walk
 begun V c call reply = if is_waiting reply then V else record V { issued = set_at c (Some (record { key = key_meant (listing V.files) call; call = call })) V.issued }
 
+-- of sessions' calls only one writes
+abbrev pub written_by : DmCall → List File → List File
+written_by (WriteInvis token handle offset bytes) P = affected (Writes offset bytes) handle.key P
+written_by call P = P
+
 abbrev pub walk : Walk → Actor → Action → Answer → Walk
 walk V (Caller c) (Issue call) (Replied reply) = done (begun V c call reply) c reply
 walk V (Caller c) Resume (Replied reply) = done V c reply
+walk V (Session sid) (Dm call) (Told told.Done) = record V { files = written_by call V.files }
 walk V actor action answer = V
 
 abbrev pub walked : Walk → List Entry → Walk

@@ -23,6 +23,9 @@ use Rattle.hsm_types.specs.declared.attributes.AttrName.{AttrName}
 use Rattle.hsm_types.specs.declared.keys.FileKey.{FileKey}
 use Rattle.hsm_types.specs.declared.regions.Region.{Region}
 use Rattle.hsm_types.specs.declared.keys.Handle.{Handle}
+use Rattle.hsm_types.specs.declared.stubs.Fingerprint.{Fingerprint}
+use Rattle.hsm_types.specs.declared.stubs.Segment.{Segment}
+use Rattle.hsm_types.specs.declared.stubs.Segment.TheVariants as state
 use Rattle.hsm_types.specs.declared.parts.Part.{Part}
 use Rattle.hsm_types.specs.declared.parts.Part.TheVariants as part
 use Rattle.hsm_types.specs.Forms.{verb_text, call_form, dm_verb_text, dm_form}
@@ -111,7 +114,9 @@ part_word word (part.Name name) = name_word name
 part_word word (part.Kinds kinds) = kinds_word kinds
 part_word word (part.Response response) = response_word response
 part_word word (part.Right right) = right_word right
+part_word word (part.Digest digest) = encode_lower digest.0
 part_word word (part.Data bytes) = word bytes
+part_word word (part.Verified bytes) = word bytes
 
 -- a verb, and the parts behind it
 abbrev pub form_words : (List ℕ → List ℕ) → List ℕ → List Part → List (List ℕ)
@@ -153,6 +158,10 @@ reply_words (Blocked t) = codes "blocked" ∷ decimal t.0 ∷ []
 reply_words (Still t) = codes "still" ∷ decimal t.0 ∷ []
 reply_words (Refused why) = codes "refused" ∷ refusal_words why
 
+-- a fingerprint: how many bytes there are, and their digest
+abbrev pub print_words : Fingerprint → List (List ℕ)
+print_words print = decimal print.len ∷ encode_lower print.digest.0 ∷ []
+
 abbrev pub dm_refusal_words : DmRefusal → List (List ℕ)
 dm_refusal_words why.NoSession = codes "NoSession" ∷ []
 dm_refusal_words why.NoToken = codes "NoToken" ∷ []
@@ -167,10 +176,26 @@ dm_refusal_words (why.BadRegion index) = codes "BadRegion" ∷ decimal index ∷
 dm_refusal_words why.NoAttr = codes "NoAttr" ∷ []
 dm_refusal_words why.Reserved = codes "Reserved" ∷ []
 dm_refusal_words (why.AttrTooBig len) = codes "AttrTooBig" ∷ decimal len ∷ []
+dm_refusal_words (why.Offline segment) = codes "Offline" ∷ decimal segment ∷ []
+dm_refusal_words (why.NotSealed segment) = codes "NotSealed" ∷ decimal segment ∷ []
+dm_refusal_words (why.NotOffline segment) = codes "NotOffline" ∷ decimal segment ∷ []
+dm_refusal_words (why.Changed want got) = codes "Changed" ∷ print_words want ++ print_words got
+dm_refusal_words (why.Uncovered segment) = codes "Uncovered" ∷ decimal segment ∷ []
+dm_refusal_words why.BadRange = codes "BadRange" ∷ []
 dm_refusal_words why.BadResponse = codes "BadResponse" ∷ []
+dm_refusal_words (why.NoSpace need free) = codes "NoSpace" ∷ decimal need ∷ decimal free ∷ []
 dm_refusal_words (why.TooMany count) = codes "TooMany" ∷ decimal count ∷ []
 dm_refusal_words why.Disk = codes "Disk" ∷ []
 dm_refusal_words why.Memory = codes "Memory" ∷ []
+
+-- a letter for each segment: resident, sealed or offline
+abbrev pub segment_letter : Segment → ℕ
+segment_letter (state.Resident blocks) = 114
+segment_letter (state.Sealed blocks entry) = 115
+segment_letter (state.Offline entry) = 111
+
+abbrev pub segments_word : List Segment → List ℕ
+segments_word segments = if length segments == 0 then codes "-" else map segment_letter segments
 
 abbrev pub dm_reply_words : DmReply → List (List ℕ)
 dm_reply_words told.Done = codes "done" ∷ []
@@ -184,10 +209,13 @@ dm_reply_words (told.Token token) = codes "token" ∷ decimal token.0 ∷ []
 dm_reply_words (told.Right right) = codes "right" ∷ right_word right ∷ []
 dm_reply_words (told.Attr size stamp blocks) = codes "attr" ∷ decimal size ∷ decimal stamp ∷ decimal blocks ∷ []
 dm_reply_words (told.Data bytes) = data_text bytes ∷ []
+dm_reply_words (told.Range offset len) = codes "range" ∷ decimal offset ∷ decimal len ∷ []
+dm_reply_words (told.Alloc segments) = codes "alloc" ∷ segments_word segments ∷ []
 dm_reply_words (told.Regions regions) = codes "regions" ∷ regions_word regions ∷ []
 dm_reply_words (told.Names names) = codes "attrs" ∷ listed (map name_word names)
 dm_reply_words (told.Handle handle) = codes "handle" ∷ handle_word handle ∷ []
 dm_reply_words (told.Space used total) = codes "space" ∷ decimal used ∷ decimal total ∷ []
+dm_reply_words (told.Table table) = codes "table" ∷ decimal table.used ∷ decimal table.total ∷ decimal (length table.files) ∷ []
 dm_reply_words (told.Refused why) = codes "refused" ∷ dm_refusal_words why
 
 abbrev pub answer_words : Answer → List (List ℕ)

@@ -7,6 +7,7 @@ use Rattle.hsm_types.specs.Messages.{packed, handed_out}
 use Rattle.hsm_types.specs.Sessions.{SessionTable, info_of, kinds_of, queue_of, outstanding_of, tokens_of, outstanding_message, creation_refusal, dead_session, bad_token, destruction_refusal, none_fits, bad_response, event_refusal, sending_refusal, next_sid}
 use Rattle.hsm_types.specs.Attributes.{value_of, bytes_of_attributes, setting_refusal, no_attribute, removal_refusal}
 use Rattle.hsm_types.specs.Regions.{regions_refusal}
+use Rattle.hsm_types.specs.Stubs.{uncovered, too_many_stubs}
 use Rattle.hsm_types.specs.Kept.{Kept}
 use Rattle.hsm_types.specs.Rights.{right_of, conflict, busy, too_low, bad_right}
 use Rattle.hsm_types.specs.declared.keys.FileKey.{FileKey}
@@ -18,7 +19,7 @@ use Rattle.hsm_types.specs.declared.dm.Right.TheVariants.{Excl}
 use Rattle.hsm_types.specs.declared.dm.Scope.{Scope}
 use Rattle.hsm_types.specs.declared.dm.Scope.TheVariants.{Anyone, InSession, OnToken, OnFile, OnRight}
 use Rattle.hsm_types.specs.declared.dm.DmCall.{DmCall}
-use Rattle.hsm_types.specs.declared.dm.DmCall.TheVariants.{CreateSession, DestroySession, GetAllSessions, QuerySession, SetDisp, GetDisp, GetEvents, GetAllTokens, FindEventMsg, Respond, CreateUserEvent, SendMsg, RequestRight, ReleaseRight, QueryRight, UpgradeRight, DowngradeRight, GetFileAttr, SetRegion, GetRegion, SetDmAttr, GetDmAttr, RemoveDmAttr, GetAllDmAttr, PathToHandle, GetSpace}
+use Rattle.hsm_types.specs.declared.dm.DmCall.TheVariants.{CreateSession, DestroySession, GetAllSessions, QuerySession, SetDisp, GetDisp, GetEvents, GetAllTokens, FindEventMsg, Respond, CreateUserEvent, SendMsg, RequestRight, ReleaseRight, QueryRight, UpgradeRight, DowngradeRight, GetFileAttr, SetRegion, GetRegion, SetDmAttr, GetDmAttr, RemoveDmAttr, GetAllDmAttr, ReadInvis, WriteInvis, PunchHole, ProbeHole, GetAllocInfo, Seal, Restore, PathToHandle, GetSpace, GetTable}
 use Rattle.hsm_types.specs.declared.dm.DmReply.{DmReply}
 use Rattle.hsm_types.specs.declared.dm.DmReply.TheVariants as reply
 use Rattle.hsm_types.specs.declared.dm.DmRefusal.{DmRefusal}
@@ -27,7 +28,8 @@ use Rattle.hsm_types.specs.declared.messages.Message.{Message}
 use Rattle.plain_model.specs.Keyed.{find_key}
 use Rattle.plain_model.specs.Ledger.{next_token, ledger_told}
 use Rattle.plain_model.specs.Effects.{change_of}
-use Rattle.plain_model.specs.Plain.{Listed, named, key_or_none}
+use Rattle.plain_model.specs.Plain.{Listed, named, key_or_none, read_at}
+use Rattle.plain_model.specs.Segments.{probe_start, probe_end, nothing_to_punch, reading_refusal, writing_refusal, punch_refusal, seal_refusal, restore_refusal, segments_told, table_of}
 use Rattle.plain_model.specs.State.{FileState, names_of, file_at, used_by, used, State, noted, changed}
 
 -- ---- what refuses by the scope of a call
@@ -67,6 +69,14 @@ attribute_total files = sum_by (λ f. bytes_of_attributes f.kept.attributes) fil
 -- what those of all files but one count
 abbrev pub other_attributes : FileKey → List FileState → ℕ
 other_attributes k files = attribute_total files - bytes_of_attributes (kept_of k files).attributes
+
+-- how many stub entries all files have
+abbrev pub stub_total : List FileState → ℕ
+stub_total files = sum_by (λ f. length f.kept.stubs) files
+
+-- all files but one
+abbrev pub other_stubs : FileKey → List FileState → ℕ
+other_stubs k files = stub_total files - length (kept_of k files).stubs
 
 abbrev pub no_such_name : Option Listed → Option DmRefusal
 no_such_name found = if is_some found then None else Some NoObject
@@ -109,7 +119,7 @@ service s st sid (QueryRight token handle) = record { refusal = None; reply = re
 service s st sid (UpgradeRight token handle) = record { refusal = busy (conflict handle.key Excl token st.rights); reply = reply.Done }
 service s st sid (DowngradeRight token handle) = record { refusal = None; reply = reply.Done }
 service s st sid (GetFileAttr token handle) = let f = file_at handle.key st.held.files in record { refusal = None; reply = reply.Attr (length f.body) (st.stamps handle.key) (used_by f) }
-service s st sid (SetRegion token handle regions) = record { refusal = regions_refusal regions; reply = reply.Done }
+service s st sid (SetRegion token handle regions) = record { refusal = first_refusal (regions_refusal regions ∷ uncovered regions (kept_of handle.key st.held.files).stubs ∷ []); reply = reply.Done }
 service s st sid (GetRegion token handle) = record { refusal = None; reply = reply.Regions (kept_of handle.key st.held.files).regions }
 service s st sid (SetDmAttr token handle name value) = record {
   refusal = setting_refusal name value (other_attributes handle.key st.held.files) s.geometry.attributes (kept_of handle.key st.held.files).attributes;
@@ -118,8 +128,22 @@ service s st sid (SetDmAttr token handle name value) = record {
 service s st sid (GetDmAttr token handle name) = let attributes = (kept_of handle.key st.held.files).attributes in record { refusal = no_attribute name attributes; reply = reply.Data (bytes_or_none (value_of name attributes)) }
 service s st sid (RemoveDmAttr token handle name) = record { refusal = removal_refusal name (kept_of handle.key st.held.files).attributes; reply = reply.Done }
 service s st sid (GetAllDmAttr token handle) = record { refusal = None; reply = reply.Names (keys_of (kept_of handle.key st.held.files).attributes) }
+service s st sid (ReadInvis token handle offset len) = let f = file_at handle.key st.held.files in record { refusal = reading_refusal f offset len; reply = reply.Data (read_at offset len f.body) }
+service s st sid (WriteInvis token handle offset body) = record { refusal = writing_refusal s st.held (file_at handle.key st.held.files) offset body; reply = reply.Done }
+service s st sid (PunchHole token handle offset len) = record { refusal = punch_refusal (file_at handle.key st.held.files) offset len; reply = reply.Done }
+service s st sid (ProbeHole token handle offset len) = let size = length (file_at handle.key st.held.files).body in record {
+  refusal = nothing_to_punch offset len size;
+  reply = reply.Range (probe_start offset) (probe_end offset len size - probe_start offset);
+}
+service s st sid (GetAllocInfo token handle) = record { refusal = None; reply = reply.Alloc (segments_told (file_at handle.key st.held.files)) }
+service s st sid (Seal token handle segment entry) = record {
+  refusal = first_refusal (seal_refusal (file_at handle.key st.held.files) segment entry ∷ too_many_stubs segment (other_stubs handle.key st.held.files) s.geometry.stubs (kept_of handle.key st.held.files).stubs ∷ []);
+  reply = reply.Done;
+}
+service s st sid (Restore token handle segment bytes) = record { refusal = restore_refusal s st.held (file_at handle.key st.held.files) segment bytes; reply = reply.Done }
 service s st sid (PathToHandle name) = let found = named name (names_of st.held.files) in record { refusal = no_such_name found; reply = reply.Handle (record { fsid = s.fsid; key = key_or_none found }) }
 service s st sid GetSpace = record { refusal = None; reply = reply.Space (used st.held.files) s.geometry.blocks }
+service s st sid GetTable = record { refusal = None; reply = reply.Table (table_of s st.stamps st.held) }
 
 -- what refuses a session's call, in the order of judgement
 abbrev pub dm_judged : Superblock → State → Sid → DmCall → Option DmRefusal

@@ -1,20 +1,26 @@
 -- When what a store holds stands for a plain map, and when its tables agree.
-use Rattle.std.specs.Prelude.{ℕ, ◌≡◌, ◌<◌, ◌≤◌, List, [], ◌∷◌, length, get_or, true, false, if◌then◌else◌, Option, Some, None, is_none, IfSome}
+use Rattle.std.specs.Prelude.{ℕ, ◌≡◌, ◌*◌, ◌/◌, ◌<◌, ◌≤◌, List, [], ◌∷◌, length, get_or, true, false, if◌then◌else◌, Option, Some, None, is_none, IfSome}
 use Rattle.std.specs.List.{All}
 use Rattle.std.specs.Map.{keys_of}
 use Rattle.hsm_types.specs.Rights.{AreRights}
 use Rattle.hsm_types.specs.Sessions.{Ascend, places}
+use Rattle.hsm_types.specs.Regions.{covers}
+use Rattle.hsm_types.specs.Stubs.{print_of, stub_at, offline_at}
 use Rattle.hsm_types.specs.declared.dm.Response.{Response}
 use Rattle.hsm_types.specs.declared.keys.Token.{Token}
-use Rattle.plain_model.specs.Plain.{File}
+use Rattle.plain_model.specs.Plain.{File, segment}
 use Rattle.plain_model.specs.Ledger.{Ledger}
 use Rattle.plain_model.specs.Step.{World}
 use Rattle.plain_model.specs.State.{FileState, State}
 
--- what is held of a file's bytes stands for these bytes: as many, and each at its place
+-- What is held of a file's bytes stands for these bytes: as many; each at its place, unless it is away; each stub entry has the fingerprint of its
+-- segment, and none is past the end; and each segment whose bytes are away is covered.
 pub record HasBody (f : FileState) (body : List ℕ) : Type 0 where
   pub size : length f.body ≡ length body
-  pub bytes : (i : ℕ) → get_or f.body i 0 ≡ get_or body i 0
+  pub bytes : (i : ℕ) → offline_at f.kept.stubs (i / 65536) ≡ false → get_or f.body i 0 ≡ get_or body i 0
+  pub prints : (j : ℕ) → IfSome (stub_at j f.kept.stubs) (λ stub. stub.entry.print ≡ print_of (segment j body))
+  pub within : (j : ℕ) → length body ≤ 65536 * j → stub_at j f.kept.stubs ≡ None
+  pub covered : (j : ℕ) → offline_at f.kept.stubs j ≡ true → covers f.kept.regions j ≡ true
 
 -- the held file is that of the map
 pub record IsFile (f : FileState) (g : File) : Type 0 where

@@ -1,17 +1,18 @@
 -- What a store holds, and a store at a moment.
-use Rattle.std.specs.Prelude.{ℕ, ◌+◌, List, [], length, map, sum_by, count_by, Bool, false, Option, Some, None}
+use Rattle.std.specs.Prelude.{ℕ, ◌+◌, ◌-◌, ◌*◌, max, min, List, [], length, map, replicate, sum_by, count_by, Bool, false, Option, Some, None}
 use Rattle.hsm_types.specs.Attributes.{with_value, without_value}
 use Rattle.hsm_types.specs.Kept.{Kept, nothing_kept}
 use Rattle.hsm_types.specs.Rights.{Rights, released}
 use Rattle.hsm_types.specs.Sessions.{SessionTable, no_sessions, responded}
+use Rattle.hsm_types.specs.Stubs.{sealed, punched, restored, unsealed}
 use Rattle.hsm_types.specs.declared.keys.FileKey.{FileKey}
 use Rattle.plain_model.specs.Keyed.{find_key, change_key, put_key, drop_key}
-use Rattle.plain_model.specs.Effects.{Effect, Leaves, Makes, Drops, Manages, Attaches, Detaches, Change, Nothing, OfFile, OfSessions, OfRights, Closes}
-use Rattle.plain_model.specs.Plain.{Listed, free_inode, rebody}
+use Rattle.plain_model.specs.Effects.{Effect, Leaves, Makes, Drops, Writes, Resizes, Manages, Attaches, Detaches, Seals, Punches, Restores, Change, Nothing, OfFile, OfSessions, OfRights, Closes}
+use Rattle.plain_model.specs.Plain.{Listed, free_inode, written, rebody}
 use Rattle.plain_model.specs.Ledger.{Ledger, no_ledger, next_token}
 use Rattle.plain_model.specs.Blocks.{remapped}
 
--- a file as the store holds it: its bytes, for each of its blocks whether it is mapped, and what sessions keep with it
+-- a file as the store holds it: its bytes, with zeros where they are away, for each of its blocks whether it is mapped, and what sessions keep with it
 pub record FileState : Type 0 where
   pub key : FileKey
   pub name : List ℕ
@@ -61,16 +62,26 @@ used files = sum_by used_by files
 
 -- ---- effects
 
--- what is kept with a file after an effect on it, which had that size
+-- What is kept with a file after an effect on it, which had that size. What changes bytes of a segment drops its entry
 abbrev pub rekept : Effect → ℕ → Kept → Kept
+rekept (Writes offset bytes) size kept = record kept { stubs = unsealed (min offset size) (offset + length bytes) kept.stubs }
+rekept (Resizes to) size kept = record kept { stubs = unsealed (min to size) (max to size) kept.stubs }
 rekept (Manages regions) size kept = record kept { regions = regions }
 rekept (Attaches name value) size kept = record kept { attributes = with_value name value kept.attributes }
 rekept (Detaches name) size kept = record kept { attributes = without_value name kept.attributes }
+rekept (Seals j entry) size kept = record kept { stubs = sealed j entry kept.stubs }
+rekept (Punches from to) size kept = record kept { stubs = punched from to kept.stubs }
+rekept (Restores j bytes) size kept = record kept { stubs = restored j kept.stubs }
 rekept effect size kept = kept
+
+-- what is held of the bytes after an effect: zeros of those that are away then, and else as in a plain map
+abbrev pub rebody_held : Effect → List ℕ → List ℕ
+rebody_held (Punches from to) body = written (65536 * from) (replicate (min (65536 * to) (length body) - 65536 * from) 0) body
+rebody_held effect body = rebody effect body
 
 -- the file after an effect on it
 abbrev pub remade : Effect → FileState → FileState
-remade effect f = record f { body = rebody effect f.body; mapped = remapped effect (length f.body) f.mapped; kept = rekept effect (length f.body) f.kept }
+remade effect f = record f { body = rebody_held effect f.body; mapped = remapped effect (length f.body) f.mapped; kept = rekept effect (length f.body) f.kept }
 
 -- the files after an effect on the one with that key
 abbrev pub affected_held : Effect → FileKey → List FileState → List FileState

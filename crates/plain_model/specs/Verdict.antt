@@ -26,7 +26,7 @@ use Rattle.plain_model.specs.declared.facts.NoRoom.{NoRoom}
 use Rattle.plain_model.specs.Keyed.{same_key, find_key, set_at}
 use Rattle.plain_model.specs.Effects.{effect_of}
 use Rattle.plain_model.specs.Plain.{reply_on}
-use Rattle.plain_model.specs.Accesses.{is_access, need_of, kind_of, reach, told_span, event_message}
+use Rattle.plain_model.specs.Accesses.{is_access, need_of, kind_of, reach, needs, told_span, event_message}
 use Rattle.plain_model.specs.Ledger.{Meant, Fixed, Means, next_token, meant, objection, aborted, gone, ledger_replied}
 use Rattle.plain_model.specs.Blocks.{touched}
 use Rattle.plain_model.specs.State.{FileState, Held, Flags, no_flags, State, names_of, next_key, file_at, bytes_of, used, affected_held, noted}
@@ -62,6 +62,7 @@ abbrev pub facts_of : Superblock → Held → FileKey → Call → Facts
 facts_of s h k call = record {
   live = is_some (find_key (λ f. f.key) k h.files);
   touches = touches_as (kind_of call) (file_at k h.files) call;
+  needs = needs (file_at k h.files).kept.stubs (length (file_at k h.files).body) call;
   short = shortage s h k call;
 }
 
@@ -83,6 +84,10 @@ conflicting rights k call = option_map Blocks (conflict k (need_of call) no_toke
 abbrev pub touching : Flags → Facts → Call → Verdict
 touching fl facts call = posts (not fl.cleared && facts.touches) (kind_of call)
 
+-- 5: an event of it was continued, and it needs a segment whose bytes are still away
+abbrev pub needing : Flags → Facts → Call → Verdict
+needing fl facts call = posts (fl.cleared && facts.needs) (kind_of call)
+
 -- an event asks for space once, where a session takes such
 abbrev pub without_room : Bool → Option NoRoom → Verdict
 without_room asks None = None
@@ -94,7 +99,7 @@ lacking fl facts t = without_room (not fl.spaced && is_taken kind.NoSpace t) fac
 
 -- in the order of judgement, of an access with these flags to the file with that key, of which these facts are known
 abbrev pub rulings : Flags → Facts → Rights → SessionTable → FileKey → Call → List Verdict
-rulings fl facts rights t k call = conflicting rights k call ∷ touching fl facts call ∷ lacking fl facts t ∷ []
+rulings fl facts rights t k call = conflicting rights k call ∷ touching fl facts call ∷ needing fl facts call ∷ lacking fl facts t ∷ []
 
 abbrev pub verdict : Superblock → State → Flags → FileKey → Call → Verdict
 verdict s st fl k call = first_refusal (rulings fl (facts_of s st.held k call) st.rights st.sessions k call)

@@ -6,7 +6,8 @@ ghost use Rattle.plain_model.specs.Render.{spaced, part_word, form_words, actor_
 
 use crate::entries::{Action, Actor};
 use crate::pieces::{
-    push, push_handle, push_kinds, push_name, push_number, push_regions, push_response, right_text,
+    push, push_handle, push_hex, push_kinds, push_name, push_number, push_regions, push_response,
+    right_text,
 };
 use hsm_types::PartRef;
 use std::alloc::{AllocError, Global};
@@ -118,6 +119,8 @@ fn push_part<S: Spelling>(
         PartRef::Kinds(kinds) => push_kinds(out, kinds),
         PartRef::Response(response) => push_response(alloc, out, response),
         PartRef::Right(right) => push(out, right_text(right)),
+        PartRef::Digest(digest) => push_hex(alloc, out, &digest.0),
         PartRef::Data(bytes) => spelling.push_data(alloc, out, bytes.as_slice()),
+        PartRef::Verified(bytes) => spelling.push_data(alloc, out, bytes.as_slice()),
     }
 }

@@ -2,16 +2,17 @@
 ghost use Rattle.std.specs.Prelude.{◌≡◌, ◌++◌, OnOk, ◌∷◌, [], codes, map, length};
 ghost use Rattle.std.specs.Fmt.{decimal};
 ghost use Rattle.std.specs.List.{flat_map};
-ghost use Rattle.plain_model.specs.Render.{spaced, listed, name_word, right_word, refusal_words, reply_words, dm_refusal_words, dm_reply_words, answer_words};
+ghost use Rattle.plain_model.specs.Render.{spaced, listed, name_word, right_word, print_words, segment_letter, segments_word, refusal_words, reply_words, dm_refusal_words, dm_reply_words, answer_words};
 
 use crate::entries::Answer;
 use crate::pieces::{
-    push, push_field, push_handle, push_key, push_kinds, push_name, push_named, push_numbered,
-    push_regions, right_text,
+    push, push_field, push_handle, push_hex, push_key, push_kinds, push_name, push_named,
+    push_numbered, push_regions, right_text,
 };
 use crate::transcript::push_data;
 use hsm_types::{
-    AttrName, Bytes, CallRefusal, DmRefusal, DmReply, Names, Reply, Right, Sid, Sids, Token, Tokens,
+    AttrName, Bytes, CallRefusal, DmRefusal, DmReply, Fingerprint, Names, Reply, Right, Segment,
+    Sid, Sids, Token, Tokens,
 };
 use std::alloc::{AllocError, Global};
 
@@ -98,6 +99,11 @@ fn push_dm_reply(alloc: Global, out: &mut Vec<u8>, reply: &DmReply) -> Result<()
             blocks,
         } => push_attr(alloc, out, *size, *stamp, *blocks),
         DmReply::Data(bytes) => push_data(alloc, out, bytes.as_slice()),
+        DmReply::Range { offset, len } => push_range(alloc, out, *offset, *len),
+        DmReply::Alloc(segments) => {
+            push(out, b"alloc ")?;
+            push_segments(out, segments.as_slice())
+        }
         DmReply::Regions(regions) => {
             push(out, b"regions ")?;
             push_regions(alloc, out, regions)
@@ -108,11 +114,71 @@ fn push_dm_reply(alloc: Global, out: &mut Vec<u8>, reply: &DmReply) -> Result<()
             push_handle(alloc, out, *handle)
         }
         DmReply::Space { used, total } => push_space(alloc, out, *used, *total),
+        DmReply::Table(table) => {
+            push_table(
+                alloc,
+                out,
+                table.used,
+                table.total,
+                table.files.as_slice().len() as u64,
+            )
+        }
         DmReply::Refused(why) => {
             push(out, b"refused ")?;
             push_dm_refusal(alloc, out, *why)
         }
     }
+}
+
+fn push_range(alloc: Global, out: &mut Vec<u8>, offset: u64, len: u64) -> Result<(), AllocError>
+    ensures { OnOk result (out.new.items ≡ out.old.items ++ spaced (codes "range" ∷ decimal offset ∷ decimal len ∷ [])) }
+{
+    push_numbered(alloc, out, b"range", offset)?;
+    push_field(alloc, out, len)
+}
+
+/// A letter for each segment, `-` for none.
+fn push_segments(out: &mut Vec<u8>, segments: &[Segment]) -> Result<(), AllocError>
+    ensures { OnOk result (out.new.items ≡ out.old.items ++ segments_word segments.now) }
+{
+    if segments.is_empty() {
+        return push(out, b"-");
+    }
+    push_letters(out, segments)
+}
+
+fn push_letters(out: &mut Vec<u8>, segments: &[Segment]) -> Result<(), AllocError>
+    ensures { OnOk result (out.new.items ≡ out.old.items ++ map segment_letter segments.now) }
+{
+    for segment in segments {
+        out.push(segment_letter(*segment))?;
+    }
+    Ok(())
+}
+
+fn segment_letter(segment: Segment) -> u8
+    ensures { result ≡ segment_letter segment }
+{
+    match segment {
+        Segment::Resident { .. } => b'r',
+        Segment::Sealed { .. } => b's',
+        Segment::Offline { .. } => b'o',
+    }
+}
+
+/// How many blocks are mapped, how many there are, and how many files.
+fn push_table(
+    alloc: Global,
+    out: &mut Vec<u8>,
+    used: u64,
+    total: u64,
+    files: u64,
+) -> Result<(), AllocError>
+    ensures { OnOk result (out.new.items ≡ out.old.items ++ spaced (codes "table" ∷ decimal used ∷ decimal total ∷ decimal files ∷ [])) }
+{
+    push_numbered(alloc, out, b"table", used)?;
+    push_field(alloc, out, total)?;
+    push_field(alloc, out, files)
 }
 
 /// The live sessions.
@@ -239,6 +305,41 @@ fn push_each_name(alloc: Global, out: &mut Vec<u8>, names: &[AttrName]) -> Resul
     Ok(())
 }
 
+/// A word and the number of a segment.
+fn push_segment(
+    alloc: Global,
+    out: &mut Vec<u8>,
+    word: &[u8],
+    segment: u32,
+) -> Result<(), AllocError>
+    ensures { OnOk result (out.new.items ≡ out.old.items ++ spaced (word.now ∷ decimal segment ∷ [])) }
+{
+    push_numbered(alloc, out, word, u64::from(segment))
+}
+
+/// The fingerprint that bytes should have, and the one that they have.
+fn push_changed(
+    alloc: Global,
+    out: &mut Vec<u8>,
+    want: Fingerprint,
+    got: Fingerprint,
+) -> Result<(), AllocError>
+    ensures { OnOk result (out.new.items ≡ out.old.items ++ spaced (codes "Changed" ∷ print_words want ++ print_words got)) }
+{
+    push(out, b"Changed")?;
+    push_print(alloc, out, want)?;
+    push_print(alloc, out, got)
+}
+
+/// A fingerprint, with a space in front of its length and of its digest.
+fn push_print(alloc: Global, out: &mut Vec<u8>, print: Fingerprint) -> Result<(), AllocError>
+    ensures { OnOk result (out.new.items ≡ out.old.items ++ flat_map (λ word. 32 ∷ word) (print_words print)) }
+{
+    push_field(alloc, out, u64::from(print.len))?;
+    push(out, b" ")?;
+    push_hex(alloc, out, &print.digest.0)
+}
+
 fn push_dm_refusal(alloc: Global, out: &mut Vec<u8>, why: DmRefusal) -> Result<(), AllocError>
     ensures { OnOk result (out.new.items ≡ out.old.items ++ spaced (dm_refusal_words why)) }
 {
@@ -261,7 +362,17 @@ fn push_dm_refusal(alloc: Global, out: &mut Vec<u8>, why: DmRefusal) -> Result<(
         DmRefusal::NoAttr => push(out, b"NoAttr"),
         DmRefusal::Reserved => push(out, b"Reserved"),
         DmRefusal::AttrTooBig { len } => push_numbered(alloc, out, b"AttrTooBig", len),
+        DmRefusal::Offline { segment } => push_segment(alloc, out, b"Offline", segment),
+        DmRefusal::NotSealed { segment } => push_segment(alloc, out, b"NotSealed", segment),
+        DmRefusal::NotOffline { segment } => push_segment(alloc, out, b"NotOffline", segment),
+        DmRefusal::Changed { want, got } => push_changed(alloc, out, want, got),
+        DmRefusal::Uncovered { segment } => push_segment(alloc, out, b"Uncovered", segment),
+        DmRefusal::BadRange => push(out, b"BadRange"),
         DmRefusal::BadResponse => push(out, b"BadResponse"),
+        DmRefusal::NoSpace { need, free } => {
+            push_numbered(alloc, out, b"NoSpace", need)?;
+            push_field(alloc, out, free)
+        }
         DmRefusal::TooMany { count } => push_numbered(alloc, out, b"TooMany", count),
         DmRefusal::Disk => push(out, b"Disk"),
         DmRefusal::Memory => push(out, b"Memory"),

@@ -7,6 +7,8 @@ pub struct Facts {
     pub live: bool,
     /// What it reaches touches a region with its flag.
     pub touches: bool,
+    /// It needs a segment whose bytes are away.
+    pub needs: bool,
     /// It needs more blocks than are free.
     pub short: Option<NoRoom>,
 }

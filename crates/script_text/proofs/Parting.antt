@@ -21,7 +21,7 @@ use Rattle.script_text.proofs.KindParts.{kinds_at, spelled_kinds}
 use Rattle.script_text.proofs.Numerals.{digits_value-decimal}
 use Rattle.script_text.proofs.ResponseParts.{response_at, response_at-word, Lacks-response}
 use Rattle.script_text.proofs.RightParts.{right_at, right_at-word, visible_right}
-use Rattle.script_text.proofs.Spelling.{IsVisible, Lacks-visible, visible_word, visible_decimal, visible_handle, visible_regions, visible_name, visible_data, data_at, data_at-word, handle_at, handle_at-word, regions_at, regions_at-word, name_at, name_at-word}
+use Rattle.script_text.proofs.Spelling.{IsVisible, Lacks-visible, visible_word, visible_decimal, visible_handle, visible_regions, visible_name, visible_digest, visible_data, data_at, data_at-word, handle_at, handle_at-word, regions_at, regions_at-word, name_at, name_at-word, digest_at, digest_at-word}
 
 -- ---- parts of a kind
 
@@ -52,7 +52,9 @@ part_at kinds.Name text = plain (part.Name (name_at text))
 part_at kinds.Kinds text = plain (part.Kinds (kinds_at text))
 part_at kinds.Response text = plain (part.Response (response_at text))
 part_at kinds.Right text = plain (part.Right (right_at text))
+part_at kinds.Digest text = plain (part.Digest (digest_at text))
 part_at kinds.Data text = record { part = part.Data (data_at text).bytes; seed = (data_at text).seed }
+part_at kinds.Verified text = record { part = part.Verified (data_at text).bytes; seed = (data_at text).seed }
 
 part_at-text : (seed : Option ℕ) (p : Part) → IsPart seed p → part_at (kind_of p) (part_word (data_word seed) p) ≡ record { part = p; seed = seed }
 part_at-text seed (part.Number n) h = rw (digits_value-decimal n h.0, h.1) refl
@@ -65,7 +67,9 @@ part_at-text seed (part.Name name) h = rw (name_at-word name h.0, h.1) refl
 part_at-text seed (part.Kinds taken) h = rw ((spelled_kinds taken).back, h) refl
 part_at-text seed (part.Response response) h = rw (response_at-word response h.0, h.1) refl
 part_at-text seed (part.Right right) h = rw (right_at-word right h.0, h.1) refl
+part_at-text seed (part.Digest digest) h = rw (digest_at-word digest h.0, h.1) refl
 part_at-text seed (part.Data bytes) h = rw (data_at-word seed bytes h) refl
+part_at-text seed (part.Verified bytes) h = rw (data_at-word seed bytes h.0) refl
 
 -- ---- its bytes are visible
 
@@ -81,7 +85,9 @@ visible_part seed (part.Name name) other h = visible_name name h.0
 visible_part seed (part.Kinds taken) other h = (spelled_kinds taken).visible
 visible_part seed (part.Response response) other h = absurd (other refl)
 visible_part seed (part.Right right) other h = visible_right right
+visible_part seed (part.Digest digest) other h = visible_digest digest h.0
 visible_part seed (part.Data bytes) other h = visible_data seed bytes h
+visible_part seed (part.Verified bytes) other h = visible_data seed bytes h.0
 
 -- none is a newline
 Lacks-part : (seed : Option ℕ) (p : Part) → IsPart seed p → Lacks 10 (part_word (data_word seed) p)
@@ -98,11 +104,13 @@ pub record IsPlain (seed other : Option ℕ) (p : Part) : Type 0 where
 
 lawful_alone : (seed : Option ℕ) (p : Part) → is_plain (kind_of p) ≡ true → IsPart seed p → IsPart None p
 lawful_alone seed (part.Data bytes) e h = absurd (false≢true e)
+lawful_alone seed (part.Verified bytes) e h = absurd (false≢true e)
 lawful_alone seed (part.Kinds taken) e h = refl
 lawful_alone seed other e h = (h.0, refl)
 
 alike_plain : (seed other : Option ℕ) (p : Part) → is_plain (kind_of p) ≡ true → part_word (data_word seed) p ≡ part_word (data_word other) p
 alike_plain seed other (part.Data bytes) e = absurd (false≢true e)
+alike_plain seed other (part.Verified bytes) e = absurd (false≢true e)
 alike_plain seed other another e = refl
 
 plain_no_response : (k : PartKind) → is_plain k ≡ true → k ≢ kinds.Response

@@ -15,9 +15,10 @@ use Rattle.hsm_types.specs.declared.attributes.AttrName.{AttrName}
 use Rattle.hsm_types.specs.declared.keys.FileKey.{FileKey}
 use Rattle.hsm_types.specs.declared.keys.Handle.{Handle}
 use Rattle.hsm_types.specs.declared.regions.Region.{Region}
+use Rattle.hsm_types.specs.declared.stubs.Digest.{Digest}
 use Rattle.plain_model.specs.Render.{key_word, handle_word, region_word, regions_word, name_word}
-use Rattle.script_text.specs.Lines.{pattern, coloned, data_word, is_word, is_word_byte, IsData, IsRegion, IsRegions, IsAttrName}
-use Rattle.script_text.specs.Reading.{Lacks, is_lower_hex}
+use Rattle.script_text.specs.Lines.{pattern, coloned, data_word, is_word, is_word_byte, IsData, IsRegion, IsRegions, IsAttrName, IsDigest}
+use Rattle.script_text.specs.Reading.{Lacks, is_lower_hex, digest_word}
 use Rattle.script_text.proofs.Cutting.{slice_split-join, Lacks-join}
 use Rattle.script_text.proofs.Numerals.{decimal_digits, Lacks-decimal, digits_value-decimal}
 use Rattle.script_text.proofs.HexText.{encoded_lower, Lacks-encoded, decode-encoded}
@@ -145,6 +146,9 @@ visible_regions (r ∷ rs) h = visible_joined 44 (map region_word (r ∷ rs)) re
 pub visible_name : (name : AttrName) → IsAttrName name → IsVisible (name_word name)
 visible_name name h = visible_lower (encode_lower name.0) (encoded_lower name.0 h.0)
 
+pub visible_digest : (digest : Digest) → IsDigest digest → IsVisible (digest_word digest)
+visible_digest digest h = visible_lower (encode_lower digest.0) (encoded_lower digest.0 h.0)
+
 -- ---- data are spelled as no other ones
 
 -- data and their seed
@@ -176,6 +180,12 @@ pub data_at-word : (seed : Option ℕ) (bytes : List ℕ) → IsData seed bytes 
 data_at-word seed bytes h =
     ap data_at (data_word-parts seed bytes) ∙ ap data_of (split_parts seed bytes h) ∙ data_of-parts seed bytes h
 
+-- data of one text are one
+pub one_data : (seed other : Option ℕ) (bytes others : List ℕ) → IsData seed bytes → IsData other others → data_word seed bytes ≡ data_word other others → bytes ≡ others
+one_data seed other bytes others h k e =
+    let read : ◌≡◌ {A = Given} (record { bytes = bytes; seed = seed }) (record { bytes = others; seed = other }) = sym (data_at-word seed bytes h) ∙ ap data_at e ∙ data_at-word other others k in
+    ap (λ (g : Given). g.bytes) read
+
 -- the handle of these parts, if they are those of a handle
 abbrev handle_of : List (List ℕ) → Handle
 handle_of (fsid ∷ ino ∷ igen ∷ rest) = record { fsid = digits_value 10 fsid; key = record { ino = digits_value 10 ino; igen = digits_value 10 igen } }
@@ -202,6 +212,9 @@ regions_at word = if is_dashed word then [] else map region_at (slice_split (λ 
 
 abbrev pub name_at : List ℕ → AttrName
 name_at word = record { 0 = result_unwrap_or (decode_of word) [] }
+
+abbrev pub digest_at : List ℕ → Digest
+digest_at word = record { 0 = result_unwrap_or (decode_of word) [] }
 
 dots_handle : (handle : Handle) → IsHandle handle → AllByRecursion (Lacks 46) (handle_parts handle)
 dots_handle handle h = (Lacks-dot handle.fsid h.fsid, (Lacks-dot handle.key.ino h.ino, (Lacks-dot handle.key.igen h.igen, tt)))
@@ -251,3 +264,6 @@ regions_at-word (r ∷ rs) h =
 
 pub name_at-word : (name : AttrName) → IsAttrName name → name_at (name_word name) ≡ name
 name_at-word name h = rw (decode-encoded name.0 h.0) refl
+
+pub digest_at-word : (digest : Digest) → IsDigest digest → digest_at (digest_word digest) ≡ digest
+digest_at-word digest h = rw (decode-encoded digest.0 h.0) refl

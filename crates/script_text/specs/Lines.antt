@@ -14,6 +14,7 @@ use Rattle.hsm_types.specs.declared.keys.Sid.{Sid}
 use Rattle.hsm_types.specs.declared.parts.Part.{Part}
 use Rattle.hsm_types.specs.declared.parts.Part.TheVariants as part
 use Rattle.hsm_types.specs.declared.regions.Region.{Region}
+use Rattle.hsm_types.specs.declared.stubs.Digest.{Digest}
 use Rattle.hsm_types.specs.Callers.{IsCallerNumber}
 use Rattle.hsm_types.specs.Calls.{scope_of}
 use Rattle.hsm_types.specs.Forms.{call_form, dm_form}
@@ -66,6 +67,10 @@ abbrev pub IsData : Option ℕ → List ℕ → Type 0
 IsData None bytes = IsBytes bytes
 IsData (Some seed) bytes = (length bytes ≤ 131072) × (seed ≤ 255) × (bytes ≡ pattern (length bytes) seed)
 
+-- Data with their fingerprint are as many as it can count.
+abbrev pub IsVerified : Option ℕ → List ℕ → Type 0
+IsVerified seed bytes = IsData seed bytes × (length bytes < 2 ^ 32)
+
 abbrev pub IsRegion : Region → Type 0
 IsRegion r = (r.offset < 2 ^ 64) × (r.size < 2 ^ 64) × (r.flags < 256)
 
@@ -76,6 +81,10 @@ IsRegions regions = (length regions ≤ 64) × AllByRecursion IsRegion regions
 -- eight bytes
 abbrev pub IsAttrName : AttrName → Type 0
 IsAttrName name = IsBytes name.0 × (length name.0 ≡ 8)
+
+-- 32 bytes
+abbrev pub IsDigest : Digest → Type 0
+IsDigest digest = IsBytes digest.0 × (length digest.0 ≡ 32)
 
 -- An abort's error has 32 bits. The store judges which it takes.
 abbrev pub IsResponse : Response → Type 0
@@ -100,7 +109,9 @@ IsPart seed (part.Name name) = IsAttrName name × (seed ≡ None)
 IsPart seed (part.Kinds taken) = seed ≡ None
 IsPart seed (part.Response response) = IsResponse response × (seed ≡ None)
 IsPart seed (part.Right right) = IsAskedRight right × (seed ≡ None)
+IsPart seed (part.Digest digest) = IsDigest digest × (seed ≡ None)
 IsPart seed (part.Data bytes) = IsData seed bytes
+IsPart seed (part.Verified bytes) = IsVerified seed bytes
 
 -- lawful parts. Only the last one may have the seed
 abbrev pub AreParts : Option ℕ → List Part → Type 0

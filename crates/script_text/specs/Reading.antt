@@ -3,6 +3,7 @@ use Rattle.std.specs.Prelude.{ℕ, ◌≡◌, ◌≢◌, ◌^◌, ◌<◌, ◌�
 use Rattle.std.specs.List.{AllByRecursion, slice_split}
 use Rattle.std.specs.Fmt.{decimal}
 use Rattle.std.specs.Str.{bytes_eq}
+use Rattle.hex.specs.Hex.{encode_lower}
 use Rattle.hsm_types.specs.declared.dm.Kinds.{Kinds}
 use Rattle.hsm_types.specs.declared.keys.FileKey.{FileKey}
 use Rattle.hsm_types.specs.declared.keys.Sid.{Sid}
@@ -10,6 +11,7 @@ use Rattle.hsm_types.specs.declared.parts.Part.{Part}
 use Rattle.hsm_types.specs.declared.parts.PartKind.{PartKind}
 use Rattle.hsm_types.specs.declared.parts.PartKind.TheVariants as kinds
 use Rattle.hsm_types.specs.declared.regions.Region.{Region}
+use Rattle.hsm_types.specs.declared.stubs.Digest.{Digest}
 use Rattle.hsm_types.specs.Forms.{verb_text, call_form, dm_verb_text, dm_form}
 use Rattle.hsm_types.specs.Parts.{kind_of}
 use Rattle.plain_model.specs.declared.entries.Actor.{Actor}
@@ -59,6 +61,9 @@ IsKey k = IsNumber k.ino × IsNumber k.igen
 -- a hex digit in lower case
 abbrev pub is_lower_hex : ℕ → Bool
 is_lower_hex b = (nat_le 48 b && nat_le b 57) || (nat_le 97 b && nat_le b 102)
+
+abbrev pub digest_word : Digest → List ℕ
+digest_word digest = encode_lower digest.0
 
 abbrev pub pattern_text : Pattern → List ℕ
 pattern_text p = coloned (decimal p.len ∷ decimal p.seed ∷ [])
@@ -123,6 +128,7 @@ ReadsParts ks text (Some r) = AreOfKinds ks r × (text ≡ behind_verb r.seed r.
 -- only the last part may have a seed, or a space
 abbrev pub is_plain : PartKind → Bool
 is_plain kinds.Data = false
+is_plain kinds.Verified = false
 is_plain kinds.Response = false
 is_plain other = true
 

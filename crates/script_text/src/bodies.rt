@@ -1,4 +1,4 @@
-//! The data of a write, and the value of an attribute.
+//! Data, as a word of a line.
 ghost use Rattle.std.specs.Prelude.{◌≡◌, ◌≤◌, ◌<◌, ◌%◌, ◌++◌, length, slice_index, true, IfOk, codes};
 ghost use Rattle.std.specs.List.{list_all};
 ghost use Rattle.hex.specs.Hex.{encode_lower, lower_digits, IsBytes};

@@ -3,6 +3,7 @@
 
 mod attributes;
 mod bodies;
+mod digests;
 mod events;
 mod handles;
 mod kinds;

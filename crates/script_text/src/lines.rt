@@ -8,8 +8,8 @@ use std::marker::Model;
 /// A line of a script.
 #[derive(Debug, PartialEq, Drop)]
 pub enum Line {
-    /// An event, which the history will have with its answer. The seed is that of a write's data or of an attribute's value that were given as
-    /// `p:LEN:SEED`, and the action has their bytes.
+    /// An event, which the history will have with its answer. The seed is that of data that were given as `p:LEN:SEED`, and the action has
+    /// their bytes.
     Event {
         actor: Actor,
         action: Action,

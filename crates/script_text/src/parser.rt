@@ -17,7 +17,7 @@ const LINE_BYTES: usize = 4096;
 /// The lines of the longest script.
 const LINES: usize = 100000;
 
-/// The most bytes that the reads, the writes and the values of attributes of a script may have together.
+/// The most bytes that the accesses of a script may have together.
 const ALL_ACCESS_BYTES: u64 = 536870912;
 
 /// Why bytes are no script.

@@ -6,13 +6,14 @@ ghost use Rattle.script_text.specs.Reading.{Reads, read_text, IsOfKind, parts_te
 
 use crate::attributes::attr_name;
 use crate::bodies::{Body, body_of};
+use crate::digests::digest_of;
 use crate::handles::handle_of;
 use crate::kinds::kinds_of;
 use crate::regions::regions_of;
 use crate::responses::response_of;
 use crate::rights::right_of;
-use crate::words::{count, cut, number, word};
-use hsm_types::{Part, PartKind, Parts};
+use crate::words::{GREATEST_COUNT, count, cut, number, word};
+use hsm_types::{Part, PartKind, Parts, Verified};
 use std::alloc::{AllocError, Global};
 
 /// A part, and the seed if it is data that were given by one.
@@ -50,7 +51,9 @@ fn part_of(alloc: Global, kind: PartKind, text: &[u8]) -> Result<Option<ReadPart
         PartKind::Kinds => Ok(kinds_of(text).map(Part::Kinds).map(unseeded)),
         PartKind::Response => Ok(response_of(text).map(Part::Response).map(unseeded)),
         PartKind::Right => Ok(right_of(text).map(Part::Right).map(unseeded)),
+        PartKind::Digest => Ok(digest_of(text).map(Part::Digest).map(unseeded)),
         PartKind::Data => data_of(alloc, text),
+        PartKind::Verified => verified_of(alloc, text),
     }
 }
 
@@ -62,6 +65,20 @@ fn data_of(alloc: Global, text: &[u8]) -> Result<Option<ReadPart>, AllocError>
         return Ok(None);
     };
     let part = Part::Data(bytes);
+    Ok(Some(ReadPart { part, seed }))
+}
+
+/// The data that a text is, as a part with their fingerprint.
+fn verified_of(alloc: Global, text: &[u8]) -> Result<Option<ReadPart>, AllocError>
+    ensures { IfOk result (λ read. Reads read_text (IsOfKind kinds.Verified) text.now read) }
+{
+    let Some(Body { bytes, seed }) = body_of(alloc, text)? else {
+        return Ok(None);
+    };
+    if bytes.as_slice().len() as u64 > GREATEST_COUNT {
+        return Ok(None);
+    }
+    let part = Part::Verified(Verified::of(bytes));
     Ok(Some(ReadPart { part, seed }))
 }
 

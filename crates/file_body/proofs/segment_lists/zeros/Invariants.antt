@@ -1,14 +1,16 @@
 use Rattle.std.proofs.Common.{◌≡◌, ℕ, ◌<◌, ◌++◌, length, get_or, []}
-use Rattle.std.specs.Prelude.{replicate}
+use Rattle.std.specs.Prelude.{replicate, false}
 use Rattle.std.specs.List.{concat}
+use Rattle.file_body.specs.HeldBodies.{pieces, stands_away}
 use Rattle.file_body.specs.Segments.{IsCut}
 use Rattle.file_body.proofs.segment_lists.zeros.Given as goal
 
 abbrev pub invariant-loop-left : goal.invariant-loop-left
 invariant-loop-left l = record {
-  zeros : concat l.segments.items ++ replicate l.left 0 ≡ replicate l.count 0;
-  cut : IsCut 65536 l.segments.items;
-  full : 0 < l.left → (i : ℕ) → i < length l.segments.items → length (get_or l.segments.items i []) ≡ 65536;
+  zeros : concat (pieces l.segments.items) ++ replicate l.left 0 ≡ replicate l.count 0;
+  cut : IsCut 65536 (pieces l.segments.items);
+  full : 0 < l.left → (i : ℕ) → i < length (pieces l.segments.items) → length (get_or (pieces l.segments.items) i []) ≡ 65536;
+  here : (j : ℕ) → stands_away l.segments.items j ≡ false;
 }
 
 abbrev pub decreases-loop-left : goal.decreases-loop-left

@@ -1,7 +1,7 @@
-use Rattle.file_store.proofs.Names.{◌≡◌, ◌<◌, ℕ, List, [], length, refl, ◌∙◌, ap, subst, arith, take_all, Option, Same, idle, resized, layout_of, geometry_of, blocks_in_image, length-resized}
+use Rattle.file_store.proofs.Names.{⊎_elim, true, HeldBody, is_away, ◌≡◌, ◌<◌, ℕ, List, [], length, refl, ◌∙◌, ap, subst, arith, take_all, Option, Same, idle, resized, layout_of, geometry_of, blocks_in_image, length-resized}
 use Rattle.file_store.proofs.Beside.{length-block}
 use Rattle.file_store.proofs.ByBlocks.{HasBytes}
-use Rattle.file_store.proofs.Loaded.{reads_on, present-at, no_bytes, hole-more, block-more, all-filled}
+use Rattle.file_store.proofs.Loaded.{reads_on, present-at, no_bytes, none-away, hole-more, block-more, all-filled}
 use Rattle.file_store.proofs.loading.load_body.Goals.{in-Some+in-Ok-fill, in_default-place}
 use Rattle.file_store.proofs.loading.load_body.Goals as goal
 
@@ -10,11 +10,13 @@ fill-requires-clause-place g c = present-at (λ p. p < (geometry_of c.args.geome
 
 pub loop-place-init : goal.loop-place-init
 loop-place-init g c =
-    let is : c.resize.new.self ≡ resized c.args.size [] = c.in-Ok.ensures.ok ∙ ap (resized c.args.size) c.new-body.ensures in
+    let zeros : c.resize.new.self.bytes ≡ resized c.args.size [] = c.in-Ok.ensures.ok ∙ ap (λ (b : HeldBody). resized c.args.size b.bytes) c.new-body.ensures in
+    let is : c.leave_offline.new.body.bytes ≡ resized c.args.size [] = c.leave_offline.ensures.bytes ∙ zeros in
     record {
       start = refl;
       reads = (idle g.D.Disk _ Same (λ d. refl) (g.met.D.Disk.only_now c.args.disk.now), (λ d gives. gives, λ d gives. gives));
       size = ap length is ∙ length-resized c.args.size [];
+      here = λ j away. ⊎_elim (λ before. absurd (none-away j (subst (λ (b : HeldBody). is_away b j ≡ true) c.new-body.ensures (c.in-Ok.ensures.here j before).0))) (λ offline. offline) (c.leave_offline.ensures.away j away);
       loaded = λ d gives. rw is (no_bytes (blocks_in_image c.args.geometry d) c.args.size);
     }
 
@@ -29,6 +31,7 @@ loop-place-preserved g c =
         start = omega arith;
         reads = reads_on g.D.Disk _ _ _ so_far.reads w.fill.ensures.reads;
         size = w.fill.ensures.size ∙ so_far.size;
+        here = λ j away. so_far.here j (w.fill.ensures.keeps j away);
         loaded = λ d gives.
             let within = present-at (λ p. p < (geometry_of c.args.geometry).blocks) places i w.in-Some.place c.requires.within w.in-Some.is in
             let whole : length d ≡ (layout_of c.args.geometry).whole = g.met.D.Disk.given_length c.args.disk.now d gives ∙ c.requires.whole in
@@ -39,6 +42,7 @@ loop-place-preserved g c =
         start = omega arith;
         reads = so_far.reads;
         size = so_far.size;
+        here = so_far.here;
         loaded = λ d gives. hole-more (blocks_in_image c.args.geometry d) c.args.size places i _ c.loop-place-test.true w.in_default-place.is (so_far.loaded d gives);
       }
     ]
@@ -48,4 +52,4 @@ returns-clause-loaded g c = λ d gives.
     let so_far = c.loop-place.invariant in
     let all = take_all c.loop-place.place-index c.args.places.now c.loop-place-test.false in
     all-filled c.args.geometry c.args.size d c.args.places.now _ (g.met.D.Disk.given_length c.args.disk.now d gives ∙ c.requires.whole) c.requires.within c.requires.count so_far.size
-    (subst (λ (ps : List (Option ℕ)). HasBytes (blocks_in_image c.args.geometry d) c.args.size ps c.loop-place.body) all (so_far.loaded d gives))
+    (subst (λ (ps : List (Option ℕ)). HasBytes (blocks_in_image c.args.geometry d) c.args.size ps c.loop-place.body.bytes) all (so_far.loaded d gives))

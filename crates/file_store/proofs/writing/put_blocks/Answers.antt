@@ -10,7 +10,7 @@ abbrev mappings : (g : Over) → After-from g → List Mapping
 mappings g c = mappings_of c.args.blocks.now c.args.places.now
 
 abbrev body : (g : Over) → After-from g → List ℕ
-body g c = rebody (effect_of c.args.change) c.args.body.now
+body g c = rebody (effect_of c.args.change) c.args.body.now.bytes
 
 -- the block that is written, and its place
 abbrev this : (g : Over) → After-from g → Mapping
@@ -65,4 +65,4 @@ returns-clause-written g c = λ image gives.
     let ms : List Mapping = mappings_of c.args.blocks.now c.args.places.now in
     let all : take c.loop-i.i ms ≡ ms = take_all c.loop-i.i ms (omega (arith, length-mapped c.args.blocks.now c.args.places.now c.requires.count, c.requires.count)) in
     let has = c.loop-i.invariant.written image gives in
-    (has.0, has.1, subst (λ (ns : List Mapping). HasBlocks c.args.base (rebody (effect_of c.args.change) c.args.body.now) ns has.0 image) all has.2)
+    (has.0, has.1, subst (λ (ns : List Mapping). HasBlocks c.args.base (rebody (effect_of c.args.change) c.args.body.now.bytes) ns has.0 image) all has.2)

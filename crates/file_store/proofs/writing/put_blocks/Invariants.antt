@@ -4,5 +4,5 @@ use Rattle.file_store.proofs.writing.put_blocks.Given as goal
 abbrev pub invariant-loop-i : goal.invariant-loop-i
 invariant-loop-i g l = record {
   keeps : Keeps g.D.Disk l.fn.disk l.disk (IsBesideBlocks l.base l.places);
-  written : Follows (HasBlocks l.base (rebody (effect_of l.change) l.body) (take l.i (mappings_of l.blocks l.places))) (g.D.Disk.gives l.fn.disk) (g.D.Disk.gives l.disk);
+  written : Follows (HasBlocks l.base (rebody (effect_of l.change) l.body.bytes) (take l.i (mappings_of l.blocks l.places))) (g.D.Disk.gives l.fn.disk) (g.D.Disk.gives l.disk);
 }

@@ -8,4 +8,4 @@ body-requires g c = (found_live c.args.name.now c.args.files.now.held.files c.in
 pub returns-in-Some-clause-target : goal.returns-in-Some-clause-target
 returns-in-Some-clause-target g c =
     let found = found_live c.args.name.now c.args.files.now.held.files c.in-Some.key (sym c.find.ensures ∙ c.in-Some.is) in
-    record { key = found.0; live = found.1; size = c.len.ensures.len ∙ ap length c.body.ensures }
+    record { key = found.0; live = found.1; size = c.len.ensures.len ∙ ap length c.body.ensures.bytes; limit = c.len.ensures.limit }

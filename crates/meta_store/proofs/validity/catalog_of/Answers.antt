@@ -1,4 +1,4 @@
-use Rattle.std.proofs.Common.{◌≡◌, List, [], ◌∷◌, ◌++◌, length, map, Result, Err, sym, ◌∙◌, ap, arith, append_assoc, append-nil, ℕ, true, refl}
+use Rattle.std.proofs.Common.{◌≡◌, List, [], ◌∷◌, ◌++◌, length, map, Err, sym, ◌∙◌, ap, arith, append_assoc, append-nil, ℕ, true, refl}
 use Rattle.std.specs.Vec.Iter.{into_iter_items}
 use Rattle.std.proofs.lemmas.List.{map-append, nil_from_length}
 use Rattle.std.proofs.lemmas.Result.{err_from_is_err_and}
@@ -7,10 +7,10 @@ use Rattle.meta_store.specs.declared.snapshot.ReadRefusal.TheVariants.{Corrupt}
 use Rattle.meta_store.specs.declared.snapshot.RawFile.{RawFile}
 use Rattle.meta_store.specs.Snapshots.{raw_file, Snapshot, SnapshotFile, raw_snapshot, snapshot_file, snapshot_of}
 use Rattle.meta_store.specs.declared.snapshot.RawSnapshot.{RawSnapshot}
-use Rattle.meta_store.specs.Catalogs.{Catalog, IsCatalog, geometry_of}
+use Rattle.meta_store.specs.Catalogs.{Catalog, IsCatalog, AreLengths, geometry_of}
 use Rattle.meta_store.specs.Validity.{listed_in, names_in, last_inode, is_next}
 use Rattle.meta_store.proofs.StandOnce.{last_inode-push}
-use Rattle.meta_store.proofs.PassingFiles.{passes}
+use Rattle.meta_store.proofs.PassingFiles.{passes, same_err}
 use Rattle.meta_store.proofs.validity.catalog_of.Goals as goal
 
 -- ---- what a snapshot that was read says
@@ -24,11 +24,11 @@ unfolding snapshot_of
 saying s c next files = rw (next, files) refl
 
 -- a valid catalog's snapshot has no file that can't stand behind those before it
-each-passes : (s : RawSnapshot) (n : ℕ) (c : Catalog) (before : List RawFile) (f : RawFile) (rest : List RawFile) → IsCatalog c → raw_snapshot s ≡ snapshot_of n c → before ++ f ∷ rest ≡ s.files.items
+each-passes : (s : RawSnapshot) (n : ℕ) (c : Catalog) (before : List RawFile) (f : RawFile) (rest : List RawFile) → IsCatalog c → AreLengths c → raw_snapshot s ≡ snapshot_of n c → before ++ f ∷ rest ≡ s.files.items
     → is_next (geometry_of c.geometry) s.next (map raw_file before) (raw_file f) ≡ true
-each-passes s n c before f rest valid e cut =
+each-passes s n c before f rest valid long e cut =
     let says = said s n c e in
-    rw says.1 (passes c (map raw_file before) (raw_file f) (map raw_file rest) valid (sym says.2 ∙ sym (ap (λ (fs : List RawFile). map raw_file fs) cut) ∙ map-append raw_file before (f ∷ rest)))
+    rw says.1 (passes c (map raw_file before) (raw_file f) (map raw_file rest) valid long (sym says.2 ∙ sym (ap (λ (fs : List RawFile). map raw_file fs) cut) ∙ map-append raw_file before (f ∷ rest)))
 
 last-taken : (before : List SnapshotFile) (f : SnapshotFile) → f.key.ino ≡ last_inode 0 (names_in (before ++ f ∷ []))
 last-taken before f = rw (map-append listed_in before (f ∷ []), last_inode-push 0 (names_in before) (listed_in f)) refl
@@ -36,16 +36,13 @@ last-taken before f = rw (map-append listed_in before (f ∷ []), last_inode-pus
 -- ---- the goals
 
 pub returns-then-snapshot-most-clause-corrupt : goal.returns-then-snapshot-most-clause-corrupt
-returns-then-snapshot-most-clause-corrupt c = λ is n d kind small valid same.
+returns-then-snapshot-most-clause-corrupt c = λ is n d kind small valid long same.
     grind (arith, said c.args.snapshot n d same, valid.first, valid.next, c.then-snapshot-most.either)
 
-same_err : {T E : Type 0} (r : Result T E) (e why from : E) → r ≡ Err e → r ≡ Err why → e ≡ from → from ≡ why
-same_err r e why from a b is = cc
-
 pub returns-in_err-take_in-clause-corrupt : goal.returns-in_err-take_in-clause-corrupt
-returns-in_err-take_in-clause-corrupt c = λ is n d kind small valid same.
+returns-in_err-take_in-clause-corrupt c = λ is n d kind small valid long same.
     let cut = sym (ap (λ (fs : List RawFile). c.loop-file.yielded ++ fs) c.in-Some.ensures.steps.0) ∙ c.loop-file.invariant.walked in
-    let passes = each-passes c.args.snapshot n d c.loop-file.yielded c.in-Some.file (into_iter_items c.next.new.self) valid same cut in
+    let passes = each-passes c.args.snapshot n d c.loop-file.yielded c.in-Some.file (into_iter_items c.next.new.self) valid long same cut in
     let p = err_from_is_err_and c.from_residual-in_err-take_in.result c.from_residual-in_err-take_in.ensures.1 in
     let why : c.in_err-take_in.field-0.0 ≡ Corrupt = same_err c.from_residual-in_err-take_in.result p.0 Corrupt c.in_err-take_in.field-0.0 p.1 is p.2 in
     let fails = c.in_err-take_in.ensures.corrupt (ap (λ (e : ReadRefusal). Err e) why) in

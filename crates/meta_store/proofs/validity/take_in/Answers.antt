@@ -1,10 +1,13 @@
-use Rattle.std.proofs.Common.{map, sym, ◌∙◌, arith}
+use Rattle.std.proofs.Common.{◌≡◌, map, Err, sym, ap, ◌∙◌, arith}
+use Rattle.std.proofs.lemmas.Result.{err_from_is_err_and}
 use Rattle.plain_model.specs.Blocks.{blocks_in}
+use Rattle.meta_store.specs.declared.snapshot.ReadRefusal.{ReadRefusal}
+use Rattle.meta_store.specs.declared.snapshot.ReadRefusal.TheVariants.{Corrupt}
 use Rattle.meta_store.specs.Snapshots.{raw_file, snapshot_file}
 use Rattle.meta_store.proofs.SpreadPlaces.{extents-tell}
 use Rattle.meta_store.proofs.StandOnce.{absent}
-use Rattle.meta_store.proofs.PassingFiles.{names_in-snapshot}
-use Rattle.meta_store.proofs.TakenFiles.{is-above, within, flags-tell, is-lawful, once-each, taken-more}
+use Rattle.meta_store.proofs.PassingFiles.{names_in-snapshot, stub_total_in-snapshot, not-next, same_err}
+use Rattle.meta_store.proofs.TakenFiles.{extents-again, is-above, within, flags-tell, is-lawful, once-each, taken-more}
 use Rattle.meta_store.proofs.validity.take_in.Goals as goal
 use Rattle.meta_store.proofs.validity.take_in.Goals.{then-not-can_follow-via-then-not-can_follow, then-not-can_follow-via-else-not-can_follow+then-not-claim}
 
@@ -26,6 +29,15 @@ returns-then-not-can_follow-clause-corrupt c = λ is.
 pub of-requires-clause-blocks : goal.of-requires-clause-blocks
 of-requires-clause-blocks c = rw c.as_slice-2.ensures.value (extents-tell 0 (blocks_in c.args.file.size) _ c.args.file.extents.items c.if-not-can_follow.ensures.follows.extents).0
 
+pub returns-in_err-stubs-clause-corrupt : goal.returns-in_err-stubs-clause-corrupt
+returns-in_err-stubs-clause-corrupt c = λ is.
+    let p = err_from_is_err_and c.from_residual-in_err-stubs.result c.from_residual-in_err-stubs.ensures.1 in
+    let why : c.in_err-stubs.field-0.0 ≡ Corrupt = same_err c.from_residual-in_err-stubs.result p.0 Corrupt c.in_err-stubs.field-0.0 p.1 is p.2 in
+    let again = extents-again c.requires.taken c.if-not-can_follow.ensures.follows in
+    not-next c.args.limits c.args.next (map snapshot_file c.args.catalog.now.files) (raw_file c.args.file) c.stub_total.result (c.stub_total.ensures ∙ stub_total_in-snapshot c.args.catalog.now.files) (λ are few.
+    c.in_err-stubs.ensures.corrupt (ap (λ (e : ReadRefusal). Err e) why)
+    (rw (c.in_ok-places.ensures, c.as_slice-2.ensures.value, c.in_ok-regions.ensures.ok, c.as_slice-entries.ensures.value, again) are) (rw c.as_slice-entries.ensures.value few))
+
 pub put-requires-clause-inode : goal.put-requires-clause-inode
 put-requires-clause-inode c = absent 0 c.args.file.key.ino _ c.geometry-geometry.ensures.valid.table.ascend (is-above c.requires.taken c.if-not-can_follow.ensures.follows)
 
@@ -35,15 +47,20 @@ put-requires-clause-name c = rw (← names_in-snapshot c.args.catalog.now.files)
 pub put-requires-clause-lawful : goal.put-requires-clause-lawful
 put-requires-clause-lawful c =
     let kept = c.in_ok-attributes_of.ensures in
-    rw (← c.requires.limits, c.in_ok-of.ensures, c.as_slice-2.ensures.value, c.in_ok-regions_of.ensures.ok, kept.ok)
-    (is-lawful c.requires.taken c.if-not-can_follow.ensures.follows (record { regions = let lawful = c.in_ok-regions_of.ensures.lawful in grind arith; attributes = rw kept.ok at kept.attributes; eight = rw kept.ok at kept.eight }))
+    let stubs = c.in_ok-stubs.ensures in
+    let judged = rw (c.in_ok-places.ensures, c.as_slice-2.ensures.value, c.in_ok-regions.ensures.ok, c.as_slice-entries.ensures.value) at stubs.lawful in
+    let fit = rw (stubs.ok, c.as_slice-entries.ensures.value) at stubs.fits in
+    rw (← c.requires.limits, c.places.view_is, c.in_ok-places.ensures, c.as_slice-2.ensures.value, c.regions.view_is, c.in_ok-regions.ensures.ok, kept.ok, stubs.ok, c.as_slice-entries.ensures.value)
+    (is-lawful c.requires.taken c.if-not-can_follow.ensures.follows (record { regions = let lawful = c.in_ok-regions.ensures.lawful in grind arith; attributes = rw kept.ok at kept.attributes; eight = rw kept.ok at kept.eight }) judged fit)
 
 pub put-requires-clause-distinct : goal.put-requires-clause-distinct
 put-requires-clause-distinct c =
     let free = rw c.as_slice.ensures.value at (sym c.claim.ensures.free ∙ c.if-not-claim.false) in
-    rw (c.in_ok-of.ensures, c.as_slice-2.ensures.value) (once-each c.requires.taken c.if-not-can_follow.ensures.follows free c.geometry-geometry.ensures.valid.distinct)
+    rw (c.places.view_is, c.in_ok-places.ensures, c.as_slice-2.ensures.value) (once-each c.requires.taken c.if-not-can_follow.ensures.follows free c.geometry-geometry.ensures.valid.distinct)
 
 pub returns-clause-taken : goal.returns-clause-taken
 returns-clause-taken c =
-    rw (c.in_ok-put.ensures.ok, c.in_ok-of.ensures, c.as_slice-2.ensures.value, c.in_ok-regions_of.ensures.ok, c.in_ok-attributes_of.ensures.ok, c.if-not-claim.ensures.flags, c.as_slice.ensures.value)
-    (taken-more c.requires.taken c.if-not-can_follow.ensures.follows c.geometry-geometry.ensures.valid.table.ascend)
+    let stubs = c.in_ok-stubs.ensures in
+    let judged = rw (c.in_ok-places.ensures, c.as_slice-2.ensures.value, c.in_ok-regions.ensures.ok, c.as_slice-entries.ensures.value) at stubs.lawful in
+    rw (c.in_ok-put.ensures.ok, c.places.view_is, c.in_ok-places.ensures, c.as_slice-2.ensures.value, c.regions.view_is, c.in_ok-regions.ensures.ok, c.in_ok-attributes_of.ensures.ok, stubs.ok, c.as_slice-entries.ensures.value, c.if-not-claim.ensures.flags, c.as_slice.ensures.value)
+    (taken-more c.requires.taken c.if-not-can_follow.ensures.follows c.geometry-geometry.ensures.valid.table.ascend judged)

@@ -6,4 +6,4 @@ pub returns : goal.returns
 returns c =
     let start : c.args.block * 4096 ≡ 4096 * c.args.block = omega arith in
     let over = rw (c.fill_block.ensures, c.from.ensures, start) at c.overlay.ensures in
-    over ∙ written-block c.args.offset c.args.bytes.now c.args.self.now c.args.block
+    over ∙ written-block c.args.offset c.args.bytes.now c.args.self.now.bytes c.args.block

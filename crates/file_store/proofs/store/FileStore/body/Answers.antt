@@ -1,5 +1,10 @@
-use Rattle.file_store.proofs.Names.{◌-◌, [], refl, arith, get_or_read}
-use Rattle.file_store.proofs.WithBodies.{live-held, body-held}
+use Rattle.file_store.proofs.Names.{◌≡◌, ◌-◌, refl, ◌∙◌, ap, subst, arith, get_or, get_or_read, HeldBody, no_body, is_away, IsHeldFiles, bytes_with}
+use Rattle.hsm_types.specs.Stubs.{offline_at}
+use Rattle.plain_model.specs.Services.{kept_of}
+use Rattle.file_store.proofs.FilesBy.{kept-found}
+use Rattle.file_store.proofs.WithBodies.{IsFound, live-held, body-held, is-body}
+use Rattle.file_store.proofs.store.FileStore.body.Given.{Over}
+use Rattle.file_store.proofs.store.FileStore.body.Goals.{After-index}
 use Rattle.file_store.proofs.store.FileStore.body.Goals as goal
 
 pub slot-requires : goal.slot-requires
@@ -11,6 +16,11 @@ index-requires g c = let live = live-held c.self.inside.bodies.items c.self.insi
 pub returns : goal.returns
 returns g c =
     let bs = c.self.inside.bodies.items in
-    let live = live-held bs c.self.inside.meta c.self.invariant.0 c.args.key (rw (← c.self.view_is) at c.requires) in
-    let here = get_or_read bs (c.args.key.ino - 1) c.index.result.now (omega (arith, live.low, live.high)) (rw c.slot.ensures at c.index.ensures) [] in
-    rw (← c.self.view_is, body-held bs c.self.inside.meta.current c.args.key live.file live.found, ← here) refl
+    let m = c.self.inside.meta in
+    let live = live-held bs m c.self.invariant.0 c.args.key (rw (← c.self.view_is) at c.requires) in
+    let it = get_or_read bs (c.args.key.ino - 1) c.index.result.now (omega (arith, live.low, live.high)) (rw c.slot.ensures at c.index.ensures) no_body in
+    let own = is-body bs m c.self.invariant.0 c.args.key live in
+    rw (← c.self.view_is) record {
+      bytes = rw (body-held bs m.current c.args.key live.file live.found, it) refl;
+      here = λ j away. rw (kept-found (bytes_with bs) m.current c.args.key live.file live.found) (own.here j (rw it at away));
+    }

@@ -1,5 +1,5 @@
 use Rattle.file_store.proofs.Names.{refl, bytes_with}
-use Rattle.file_store.proofs.FilesBy.{kept-held, others-held, key_on-live}
+use Rattle.file_store.proofs.FilesBy.{kept-held, others-held, stubs-others, key_on-live}
 use Rattle.file_store.proofs.WithBodies.{live-held}
 use Rattle.file_store.proofs.store.FileStore.inode.Goals as goal
 
@@ -15,5 +15,6 @@ returns g c =
       stands = (live.file, rw key live.found, tt);
       kept = kept-held (bytes_with bs) now c.args.key;
       others = others-held (bytes_with bs) now c.args.key live.file live.found;
+      other_stubs = stubs-others (bytes_with bs) now c.args.key live.file live.found;
       lawful = c.self.invariant.1.meta;
     }

@@ -1,6 +1,6 @@
-use Rattle.file_store.proofs.Names.{ℕ, refl, ◌∙◌, subst, geometry_of, bytes_with, held_with, IsLawful}
+use Rattle.file_store.proofs.Names.{ℕ, refl, ◌∙◌, subst, geometry_of, held_with, IsLawful}
 use Rattle.file_store.proofs.Durable.{opened_sound}
-use Rattle.file_store.proofs.FilesBy.{held_lawful}
+use Rattle.file_store.proofs.ShownFiles.{lawful_with}
 use Rattle.file_store.proofs.store.FileStore.open.Goals as goal
 
 pub invariant_of-result : goal.invariant_of-result
@@ -20,4 +20,4 @@ pub returns-in-Ok-clause-lawful : goal.returns-in-Ok-clause-lawful
 returns-in-Ok-clause-lawful g c =
     let bodies = c.in-Ok.bodies.items in
     let m = c.in-Ok.meta in
-    subst (λ (z : ℕ). IsLawful (geometry_of z).files (held_with bodies m.current)) c.in-Ok.ensures.lawful.stored.geometry (held_lawful (bytes_with bodies) m.current c.in-Ok.ensures.lawful.current)
+    subst (λ (z : ℕ). IsLawful (geometry_of z).files (held_with bodies m.current)) c.in-Ok.ensures.lawful.stored.geometry (lawful_with bodies m c.in-Ok.ensures.bodies c.in-Ok.ensures.lawful)

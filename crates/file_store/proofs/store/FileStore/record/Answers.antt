@@ -2,6 +2,7 @@ use Rattle.file_store.proofs.Names.{rules, Err, ◌≡◌, ◌||◌, refl, sym, 
 use Rattle.file_store.proofs.Durable.{Parts, IsDone, after_event, kept_proceeds}
 use Rattle.file_store.proofs.StoreEvents.{freed_low, recorded, is_disk, refused_sound, refused_as_is, refusal_alone}
 use Rattle.file_store.proofs.WithBodies.{bodies_after, slot-there}
+use Rattle.file_store.proofs.SealedFiles.{lengths-after}
 use Rattle.file_store.proofs.store.FileStore.record.Given.{Over}
 use Rattle.file_store.proofs.store.FileStore.record.Goals.{After-apply, In-Ok}
 use Rattle.file_store.proofs.store.FileStore.record.Goals as goal
@@ -61,3 +62,10 @@ pub returns-clause-proceeds : goal.returns-clause-proceeds
 returns-clause-proceeds g c =
     let working = ap (λ s. s.failed) c.self.view_is ∙ c.requires.working in
     rw (c.in-Err.ensures.err, ← c.self.view_is) (kept_proceeds g.D.Disk _ c.self.invariant.1.meta (c.self.invariant.1.live working) c.args.number _ c.apply.ensures.any_moment refl refl)
+
+pub apply-requires-clause-lengths : goal.apply-requires-clause-lengths
+apply-requires-clause-lengths g c =
+    rw c.in_ok-records.ensures (lengths-after c.args.key c.args.change c.self.inside.meta.current (rw (← c.self.view_is) at c.requires.bodiless) (rw (← c.self.view_is) at c.requires.stands) c.self.invariant.1.meta.stored.now)
+
+pub returns-in_err-freed-clause-proceeds : goal.returns-in_err-freed-clause-proceeds
+returns-in_err-freed-clause-proceeds g c = c.has_failed-failed.ensures.idle c.requires.working c.args.number

@@ -1,6 +1,10 @@
-use Rattle.std.proofs.Common.{rules, refl, arith}
+use Rattle.std.proofs.Common.{◌≡◌, ℕ, rules, refl, arith}
+use Rattle.meta_store.specs.declared.file_parts.Others.{Others}
 use Rattle.meta_store.proofs.HeldCatalogs.{live-at, key-at, some-at, left}
 use Rattle.meta_store.proofs.catalog.Catalog.others.Goals as goal
+
+both : (a b x y : ℕ) → a ≡ x → b ≡ y → ◌≡◌ {A = Others} (record { attributes = a; stubs = b }) (record { attributes = x; stubs = y })
+both a b x y attributes stubs = rw (attributes, stubs) refl
 
 pub unwrap-key-requires : goal.unwrap-key-requires
 unwrap-key-requires c = rw (c.key_at.ensures, live-at c.self.inside _ c.self.view_is c.self.invariant c.args.ino c.requires) refl
@@ -8,17 +12,20 @@ unwrap-key-requires c = rw (c.key_at.ensures, live-at c.self.inside _ c.self.vie
 pub unwrap-parts-requires : goal.unwrap-parts-requires
 unwrap-parts-requires c = let some = some-at c.self.inside _ c.self.view_is c.self.invariant c.args.ino c.requires c.key_at.result c.unwrap-key.result c.key_at.ensures c.unwrap-key.ensures in search rules
 
-pub overflow_sub-attributes : goal.overflow_sub-attributes
-overflow_sub-attributes c = let sum = (left c.self.inside _ c.self.view_is c.self.invariant c.args.ino c.requires c.key_at.result c.unwrap-key.result c.key_at.ensures c.unwrap-key.ensures c.unwrap-parts.result.now (rw c.unwrap-parts.ensures at c.parts.ensures)).0 in omega (arith, c.bytes.ensures.count)
+pub overflow_sub-others : goal.overflow_sub-others
+overflow_sub-others c = let sum = (left c.self.inside _ c.self.view_is c.self.invariant c.args.ino c.requires c.key_at.result c.unwrap-key.result c.key_at.ensures c.unwrap-key.ensures c.unwrap-parts.result.now (rw c.unwrap-parts.ensures at c.parts.ensures)).0 in omega (arith, c.bytes.ensures.count)
+
+pub overflow_sub-others-2 : goal.overflow_sub-others-2
+overflow_sub-others-2 c = let sum = (left c.self.inside _ c.self.view_is c.self.invariant c.args.ino c.requires c.key_at.result c.unwrap-key.result c.key_at.ensures c.unwrap-key.ensures c.unwrap-parts.result.now (rw c.unwrap-parts.ensures at c.parts.ensures)).1 in omega (arith, c.len.ensures.count)
 
 pub overflow_sub-blocks : goal.overflow_sub-blocks
-overflow_sub-blocks c = let sum = (left c.self.inside _ c.self.view_is c.self.invariant c.args.ino c.requires c.key_at.result c.unwrap-key.result c.key_at.ensures c.unwrap-key.ensures c.unwrap-parts.result.now (rw c.unwrap-parts.ensures at c.parts.ensures)).1 in omega (arith, c.from.ensures, c.mapped.ensures)
+overflow_sub-blocks c = let sum = (left c.self.inside _ c.self.view_is c.self.invariant c.args.ino c.requires c.key_at.result c.unwrap-key.result c.key_at.ensures c.unwrap-key.ensures c.unwrap-parts.result.now (rw c.unwrap-parts.ensures at c.parts.ensures)).2 in omega (arith, c.from.ensures, c.mapped.ensures)
 
 pub returns : goal.returns
 returns c =
     let sum = left c.self.inside _ c.self.view_is c.self.invariant c.args.ino c.requires c.key_at.result c.unwrap-key.result c.key_at.ensures c.unwrap-key.ensures c.unwrap-parts.result.now (rw c.unwrap-parts.ensures at c.parts.ensures) in
     record {
       key = key-at c.self.inside _ c.self.view_is c.self.invariant c.args.ino c.requires c.key_at.result c.unwrap-key.result c.key_at.ensures c.unwrap-key.ensures;
-      attributes = omega (arith, sum.0, c.bytes.ensures.count);
-      used = omega (arith, sum.1, c.from.ensures, c.mapped.ensures);
+      others = both _ _ _ _ (omega (arith, sum.0, c.bytes.ensures.count)) (omega (arith, sum.1, c.len.ensures.count));
+      used = omega (arith, sum.2, c.from.ensures, c.mapped.ensures);
     }

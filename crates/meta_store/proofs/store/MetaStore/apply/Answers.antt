@@ -1,7 +1,8 @@
-use Rattle.std.proofs.Common.{◌≡◌, ◌∷◌, rules, sym, ◌∙◌, ap}
+use Rattle.std.proofs.Common.{◌≡◌, [], ◌∷◌, rules, sym, ◌∙◌, ap, subst}
 use Rattle.std.proofs.lemmas.Result.{err_from_is_err_and}
 use Rattle.std.specs.Vec.Iter.{into_iter_items}
-use Rattle.meta_store.specs.Records.{refusal_of_all}
+use Rattle.meta_store.specs.Records.{after_all, refusal_of_all}
+use Rattle.meta_store.specs.Catalogs.{AreLengths}
 use Rattle.meta_store.specs.Meta.{Meta}
 use Rattle.meta_store.proofs.CommitTurns.{meta_of}
 use Rattle.meta_store.proofs.AppliedRecords.{IsTaking, taking-stops, taking-judged, told_on}
@@ -23,13 +24,16 @@ returns-in_err-apply-clause-refused g c = λ why.
 pub returns-in_err-apply-clause-err : goal.returns-in_err-apply-clause-err
 returns-in_err-apply-clause-err g c =
     let p = err_from_is_err_and c.from_residual.result c.from_residual.ensures.1 in
-    let first : c.loop-record.self-inside.catalog ≡ c.self.inside.catalog = taking-stops _ _ _ _ _ (taking g c) (λ is. let ok = c.in_err-apply.ensures.mapped is in absurd cc) in
+    let first : c.loop-record.self-inside.catalog ≡ c.self.inside.catalog = taking-stops _ _ _ _ _ (taking g c) (λ is. let ok = c.in_err-apply.ensures.sure is in absurd cc) in
     rw (p.1, c.in_err-apply.ensures.err, first, c.loop-record.invariant.others) c.self.view_is
 
 pub invariant_of-self-2 : goal.invariant_of-self-2
 invariant_of-self-2 g c =
+    let step : into_iter_items c.loop-record.record-iterator ≡ [] = search (rules, c.in-None.ensures.steps) in
+    let ends : c.loop-record.self-inside.catalog ≡ after_all c.args.records c.self.inside.catalog = rw step at c.loop-record.invariant.taking.ends in
+    let now = subst AreLengths (sym (ends ∙ ap (λ (m : Meta). after_all c.args.records m.current) c.self.view_is)) c.requires.lengths in
     let geometry = c.loop-record.invariant.taking.geometry in
-    rw c.loop-record.invariant.others (record { number = c.self.invariant.0.number; catalog = c.self.invariant.0.catalog; geometry = geometry ∙ c.self.invariant.0.geometry }, c.self.invariant.1 ∙ sym geometry)
+    rw c.loop-record.invariant.others (record { number = c.self.invariant.0.number; catalog = c.self.invariant.0.catalog; geometry = geometry ∙ c.self.invariant.0.geometry; lengths = c.self.invariant.0.lengths; now = now }, c.self.invariant.1 ∙ sym geometry)
 
 pub returns-clause-lawful : goal.returns-clause-lawful
 returns-clause-lawful g c = meta_of _ (invariant_of-self-2 g (goal.at.returns-clause-lawful g c).After-geometry-geometry).0 c.geometry-geometry.ensures.valid

@@ -1,0 +1,21 @@
+-- What holds by the outcome of a call.
+use Rattle.std.specs.Prelude.{Option, Some, None, IfSome, Result, Ok, Err, OnOk, OnErr}
+
+module _ {T E P : Type 0} where
+  pub on_ok : {Q : Type 0} (r : Result T E) → (P → Q) → OnOk r P → OnOk r Q
+  on_ok (Ok x) f p = f p
+  on_ok (Err e) f p = tt
+
+  pub on_err : {Q : Type 0} (r : Result T E) → (P → Q) → OnErr r P → OnErr r Q
+  on_err (Ok x) f p = tt
+  on_err (Err e) f p = f p
+
+  -- what holds either way
+  pub either : (r : Result T E) → OnOk r P → OnErr r P → P
+  either (Ok x) p q = p
+  either (Err e) p q = q
+
+module _ {T : Type 0} {P Q : T → Type 0} where
+  pub if_some : (o : Option T) → ((x : T) → P x → Q x) → IfSome o P → IfSome o Q
+  if_some (Some x) f p = f x p
+  if_some None f p = tt

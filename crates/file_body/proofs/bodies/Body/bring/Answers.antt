@@ -1,0 +1,29 @@
+use Rattle.std.proofs.Common.{◌≡◌, ⊎_elim, ◌++◌, true, length, take, drop, sym, ◌∙◌, ap, arith}
+use Rattle.std.specs.List.{concat}
+use Rattle.std.proofs.lemmas.Bool.{true≢false, cases_eq}
+use Rattle.std.proofs.lemmas.Grind.{common_steps}
+use Rattle.file_body.specs.HeldBodies.{pieces, is_away, stands_away}
+use Rattle.file_body.proofs.Outcomes.{on_ok}
+use Rattle.file_body.proofs.bodies.Body.bring.Goals as goal
+
+-- all segments are written back
+whole : (c : goal.After-self-1) → take c.self.inside.segments.len (c.bring.new.segments ++ drop (length c.bring.new.segments) c.self.inside.segments.items) ≡ c.bring.new.segments
+whole c = grind (arith, common_steps)
+
+pub returns-clause-ok : goal.returns-clause-ok
+returns-clause-ok c =
+    on_ok c.bring.result
+    (λ here. (rw (whole c) (ap concat (c.bring.ensures.pieces ∙ ap pieces c.as_mut_slice.ensures.value) ∙ ap (λ b. b.bytes) c.self.view_is), rw (whole c) (here c.args.segment (omega arith) (omega arith))))
+    c.bring.ensures.here
+
+pub returns-clause-keeps : goal.returns-clause-keeps
+returns-clause-keeps c =
+    on_ok c.bring.result
+    (λ here j gone.
+    let now : stands_away c.bring.new.segments j ≡ true = ap (λ l. stands_away l j) (sym (whole c)) ∙ gone in
+    ⊎_elim
+    (λ (q : j ≡ c.args.segment). absurd (true≢false (sym now ∙ here j (omega arith) (omega arith))))
+    (λ (q : j ≡ c.args.segment → ⊥).
+    sym (ap (λ b. is_away b j) c.self.view_is) ∙ (ap (λ l. stands_away l j) (sym c.as_mut_slice.ensures.value) ∙ (sym (c.bring.ensures.others j (λ low high. q (omega arith))) ∙ now)))
+    (cases_eq j c.args.segment))
+    c.bring.ensures.here

@@ -1,0 +1,194 @@
+-- Segments of a live file that go away: which ones may, and the store after it.
+use Rattle.file_store.proofs.Names.{◌≡◌, ℕ, zero, suc, ◌+◌, ◌-◌, ◌*◌, ◌<◌, ◌≤◌, List, [], ◌∷◌, length, map, get_or, set, take, drop, min, Bool, true, false, ◌&&◌, ◌||◌, if◌then◌else◌, Option, Some, None, refl, sym, ◌∙◌, ap, subst, arith, All, AllByRecursion, All-from_recursion, ltb-true, FileKey, find_key, change_key, Held, affected_held, bytes_of, Record, CatalogFile, Catalog, IsCatalogFile, geometry_of, present, blocks_of, with_changed, after_all, CanStandAll, IsEvent, refusal_of_all, key_on, kept_at, blocks_in_image, Meta, IsMeta, Backs, StoresOrKeeps, held_at, held_with, body_with, HeldBody, no_body, is_away, IsBody, Store, IsLive, IsSound, marks_of, Space, unmarked, layout_of, each-found, distinct-uses, uses, IsHeldFiles, IsSome, Ghosts, inr, ⊎_elim, cases_lt, ◌++◌}
+use Rattle.std.specs.Prelude.{nat_le, nat_lt}
+use Rattle.hsm_types.specs.Refusals.{first_refusal}
+use Rattle.hsm_types.specs.Regions.{covers}
+use Rattle.hsm_types.specs.Segments.{from_on, segments_in}
+use Rattle.hsm_types.specs.Stubs.{Stubs, stub_at, is_offline, offline_at, punched, not_punched, already_offline, not_sealed, not_covered, any_unpunched}
+use Rattle.hsm_types.specs.declared.dm.DmRefusal.{DmRefusal}
+use Rattle.hsm_types.specs.declared.dm.DmRefusal.TheVariants.{Uncovered}
+use Rattle.hsm_types.specs.declared.regions.Region.{Region}
+use Rattle.hsm_types.specs.declared.stubs.Stub.{Stub}
+use Rattle.hsm_types.specs.declared.stubs.StubEntry.{StubEntry}
+use Rattle.hsm_types.proofs.Stubbing.{set_away, stub_at-punched}
+use Rattle.plain_model.specs.Effects.{Punches}
+use Rattle.meta_store.specs.Catalogs.{IsCatalogStub, AreLengths}
+use Rattle.meta_store.proofs.StubLists.{each-at}
+use Rattle.file_store.specs.Punches.{punch_records, places_between}
+use Rattle.file_store.proofs.Beside.{length-block}
+use Rattle.file_store.proofs.Durable.{Parts, store_of, Tells, IsDone, after_event, done}
+use Rattle.file_store.proofs.FilesBy.{key_on-live}
+use Rattle.file_store.proofs.Marks.{marks-left, uses-changed, length-marks, marks_there}
+use Rattle.file_store.proofs.PunchedBodies.{zeroed, length-zeroed, held-punched, held_at-punched}
+use Rattle.file_store.proofs.PunchedFiles.{uses-freed, each-freed, without_segments}
+use Rattle.file_store.proofs.PunchRecords.{CanGo, sealed_by, AreGoing, going, are_event, lengths_gone}
+use Rattle.file_store.proofs.WithBodies.{IsFound, live-held, body-held, bytes-of, is-body, put-there, put-bodies, others, count-put, same-bytes}
+
+-- ---- which segments can go
+
+-- none of these is refused
+each_passes : (what : ℕ → Option DmRefusal) (from n j : ℕ) → first_refusal (map what (from_on from n)) ≡ None → from ≤ j → j < from + n → what j ≡ None
+each_passes what from zero j none above below = absurd (omega arith)
+each_passes what from (suc n) j none above below = by (what from) refl none (λ rest behind. each_passes what (from + 1) n j rest behind (omega arith))
+  where
+    by : (o : Option DmRefusal) → what from ≡ o → first_refusal (o ∷ map what (from_on (from + 1) n)) ≡ None → (first_refusal (map what (from_on (from + 1) n)) ≡ None → from + 1 ≤ j → what j ≡ None) → what j ≡ None
+    by None is rest later = ⊎_elim (λ (here : j < from + 1). let same : from ≡ j = omega arith in subst (λ i. what i ≡ None) same is) (λ (behind : from + 1 ≤ j). later rest behind) (cases_lt j (from + 1))
+    by (Some why) is rest later = cc
+
+-- a segment that nothing refuses is sealed and covered
+passes : (regions : List Region) (stubs : Stubs) (j : ℕ) → not_punched regions stubs j ≡ None → (entry : StubEntry) × ((stub_at j stubs ≡ Some (sealed_by entry)) × (covers regions j ≡ true))
+passes regions stubs j none = by (stub_at j stubs) refl none
+  where
+    covered : (b : Bool) → covers regions j ≡ b → first_refusal ((if b then None else Some (Uncovered j)) ∷ []) ≡ None → covers regions j ≡ true
+    covered true is rest = is
+    covered false is rest = cc
+
+    here : (stub : Stub) (b : Bool) → stub.offline ≡ b → stub_at j stubs ≡ Some stub → first_refusal (already_offline j (Some stub) ∷ not_sealed j (Some stub) ∷ not_covered j regions ∷ []) ≡ None
+        → (entry : StubEntry) × ((stub_at j stubs ≡ Some (sealed_by entry)) × (covers regions j ≡ true))
+    here stub true off is rest = absurd (let bad = rw off at rest in cc)
+    here stub false off is rest = (stub.entry, (is ∙ ap (λ b. Some (record stub { offline = b })) off, covered (covers regions j) refl (rw off at rest)))
+
+    by : (o : Option Stub) → stub_at j stubs ≡ o → first_refusal (already_offline j o ∷ not_sealed j o ∷ not_covered j regions ∷ []) ≡ None → (entry : StubEntry) × ((stub_at j stubs ≡ Some (sealed_by entry)) × (covers regions j ≡ true))
+    by None is rest = cc
+    by (Some stub) is rest = here stub stub.offline refl is rest
+
+pub can_go : (f : CatalogFile) (from n : ℕ) → AllByRecursion (IsCatalogStub f) f.kept.stubs → any_unpunched f.kept.regions f.kept.stubs from (from + n) ≡ None → from + n ≤ segments_in f.size → (j : ℕ) → from ≤ j → j < from + n → CanGo f f.kept.stubs j
+can_go f from n each none end j above below =
+    let count : from + n - from ≡ n = omega arith in
+    let it = passes f.kept.regions f.kept.stubs j (each_passes (not_punched f.kept.regions f.kept.stubs) from n j (rw count at none) above below) in
+    let was = each-at (IsCatalogStub f) f.kept.stubs j (sealed_by it.0) each it.1.0 in
+    record { entry = it.0; is = it.1.0; start = was.start; volume = was.volume; covered = it.1.1 }
+
+-- ---- which segments of the body are away then
+
+still_away : (from to : ℕ) (stubs : Stubs) (j : ℕ) (was low : Bool) → (from ≤ j → j < to → (stub : Stub) × (stub_at j stubs ≡ Some stub)) → (was ≡ true → offline_at stubs j ≡ true) → (was || (nat_le from j && nat_lt j to && low)) ≡ true
+    → offline_at (punched from to stubs) j ≡ true
+still_away from to stubs j was low can here away = by (nat_le from j && nat_lt j to) refl (stub_at-punched from to stubs j)
+  where
+    above : (nat_le from j && nat_lt j to) ≡ true → (from ≤ j) × (j < to)
+    above within = (grind arith, grind arith)
+
+    old : (nat_le from j && nat_lt j to) ≡ false → was ≡ true
+    old out = grind arith
+
+    by : (b : Bool) → (nat_le from j && nat_lt j to) ≡ b → stub_at j (punched from to stubs) ≡ (if b then set_away true (stub_at j stubs) else stub_at j stubs) → offline_at (punched from to stubs) j ≡ true
+    by true within is = let there = can (above within).0 (above within).1 in ap is_offline (is ∙ ap (set_away true) there.1)
+    by false out is = ap is_offline is ∙ here (old out)
+
+-- ---- a live store
+
+-- what is known of it before n segments of that file go away, from the first number on
+pub record IsGoing {D : Type 0} (g : Ghosts D) (p : Parts D) (k : FileKey) (from n : ℕ) : Type 0 where
+  pub files : IsHeldFiles p.bodies p.meta
+  pub lawful : IsMeta p.meta
+  pub live : IsLive g (store_of p)
+  pub at : IsFound (length p.bodies) p.meta.current k
+  pub can : (j : ℕ) → from ≤ j → j < from + n → CanGo at.file at.file.kept.stubs j
+  pub start : 65536 * from ≤ at.file.size
+
+pub kept_is : (c : Catalog) (k : FileKey) (f : CatalogFile) → find_key (λ x. x.key) k c.files ≡ Some f → kept_at k c ≡ f.kept
+kept_is c k f found = rw found refl
+
+pub ready : {D : Type 0} (g : Ghosts D) (p : Parts D) (k : FileKey) (from to : ℕ) → IsHeldFiles p.bodies p.meta → IsSound g (store_of p) → p.failed ≡ false → IsSome (find_key (λ f. f.key) k (store_of p).held.files)
+    → 65536 * from ≤ length (bytes_of k (store_of p).held.files) → from ≤ to → to ≤ segments_in (length (bytes_of k (store_of p).held.files)) → any_unpunched (kept_at k p.meta.current).regions (kept_at k p.meta.current).stubs from to ≡ None → IsGoing g p k from (to - from)
+ready g p k from to files sound working there start order end none =
+    let at = live-held p.bodies p.meta files k there in
+    let own = is-body p.bodies p.meta files k at in
+    let file = each-found (IsCatalogFile (geometry_of p.meta.current.geometry).blocks) k at.file p.meta.current.files sound.meta.current.each at.found in
+    let size : length (bytes_of k (store_of p).held.files) ≡ at.file.size = ap length (body-held p.bodies p.meta.current k at.file at.found) ∙ own.size in
+    let last : from + (to - from) ≡ to = omega arith in
+    record {
+      files = files;
+      lawful = sound.meta;
+      live = sound.live working;
+      at = at;
+      can = can_go at.file from (to - from) file.stubs (rw (last, ← kept_is p.meta.current k at.file at.found) none) (rw (last, ← size) end);
+      start = rw (← size) start;
+    }
+
+module _ {D : Type 0} (g : Ghosts D) (p : Parts D) (k : FileKey) (from to n : ℕ) (x : IsGoing g p k from n) (end : to ≡ from + n) where
+  abbrev file : CatalogFile
+  file = x.at.file
+
+  abbrev records : List Record
+  records = punch_records k.ino file.kept.stubs (from_on from n)
+
+  abbrev next : Catalog
+  next = with_changed k (without_segments from n) p.meta.current
+
+  lawful_file : IsCatalogFile (geometry_of p.meta.current.geometry).blocks file
+  lawful_file = each-found (IsCatalogFile (geometry_of p.meta.current.geometry).blocks) k file p.meta.current.files x.lawful.current.each x.at.found
+
+  pub are_going : AreGoing k.ino k file.kept.stubs from n p.meta.current
+  are_going = going k.ino k file.kept.stubs from n p.meta.current file (key_on-live p.meta.current k file x.lawful.current x.at.found) x.at.found lawful_file.ascend (λ j above. refl) x.can
+
+  pub event : IsEvent records
+  event = are_event k.ino file file.kept.stubs from n x.can
+
+  pub lengths : AreLengths (after_all records p.meta.current)
+  lengths = rw are_going.become (lengths_gone k from n p.meta.current x.lawful.stored.now)
+
+  -- ---- the blocks that go
+
+  abbrev freed : List ℕ
+  freed = present (take (16 * n) (drop (16 * from) file.places))
+
+  pub freed_within : All (λ b. b < length p.space.current) freed
+  freed_within =
+      let total : ℕ = (geometry_of p.meta.current.geometry).blocks in
+      rw (ap length x.live.marks ∙ length-marks p.meta.current) (All-from_recursion (λ b. b < total) freed (each-freed (λ b. b < total) (16 * from) (16 * n) file.places lawful_file.within))
+
+  marks : unmarked freed p.space.current ≡ marks_of next
+  marks =
+      let total : ℕ = (geometry_of p.meta.current.geometry).blocks in
+      ap (unmarked freed) x.live.marks
+      ∙ marks-left total (blocks_of p.meta.current.files) freed (blocks_of next.files) (distinct-uses (blocks_of p.meta.current.files) x.lawful.current.distinct)
+      (λ b. omega (arith, uses-changed b k (without_segments from n) file p.meta.current.files x.at.found, uses-freed b (16 * from) (16 * n) file.places))
+
+  -- ---- what is held
+
+  abbrev held_next : Held
+  held_next = record (store_of p).held { files = affected_held (Punches from to) k (store_of p).held.files }
+
+  holds_next : (c : List ℕ) → g.gives p.disk c → held_at (blocks_in_image p.meta.durable.geometry c) next ≡ held_next
+  holds_next c gives =
+      let blocks : List ℕ = blocks_in_image p.meta.durable.geometry c in
+      held_at-punched blocks k from to n p.meta.current file x.lawful.current
+      (λ b low. length-block p.meta.durable.geometry c b (subst (λ z. b < (geometry_of z).blocks) x.lawful.stored.geometry low) (x.live.backs.image c (inr gives)).found.size) x.at.found end x.start
+      ∙ ap (λ (h : Held). record h { files = affected_held (Punches from to) k h.files }) (x.live.current c gives)
+
+  abbrev old_body : HeldBody
+  old_body = get_or p.bodies (k.ino - 1) no_body
+
+  -- the body without them
+  module _ (b : HeldBody) (bytes : b.bytes ≡ zeroed from to old_body.bytes) (away : (j : ℕ) → is_away b j ≡ (is_away old_body j || (nat_le from j && nat_lt j to && nat_lt (65536 * j) (length old_body.bytes)))) where
+    own : IsBody old_body file
+    own = is-body p.bodies p.meta x.files k x.at
+
+    new_own : IsBody b (without_segments from n file)
+    new_own = record {
+      size = ap length bytes ∙ length-zeroed from to old_body.bytes (rw own.size x.start) ∙ own.size;
+      here = λ j gone.
+          still_away from (from + n) file.kept.stubs j (is_away old_body j) (nat_lt (65536 * j) (length old_body.bytes)) (λ above below. let it = x.can j above below in (sealed_by it.entry, it.is)) (own.here j) (sym (subst (λ t. is_away b j ≡ (is_away old_body j || (nat_le from j && nat_lt j t && nat_lt (65536 * j) (length old_body.bytes)))) end (away j)) ∙ gone);
+    }
+
+    becomes : held_with (set p.bodies (k.ino - 1) b) next ≡ held_next
+    becomes =
+        held-punched (λ f. (body_with p.bodies f).bytes) (λ f. (body_with (set p.bodies (k.ino - 1) b) f).bytes) k from to n p.meta.current file x.at.found end
+        (ap (λ (y : HeldBody). y.bytes) (put-there p.bodies p.meta x.files k x.at b (without_segments from n file) refl) ∙ bytes ∙ ap (zeroed from to) (sym (bytes-of p.bodies p.meta x.files k x.at)))
+        (same-bytes p.bodies (set p.bodies (k.ino - 1) b) _ (others p.bodies p.meta x.files k x.at b))
+
+    files_next : (m : Meta) → m.current ≡ next → IsMeta m → IsHeldFiles (set p.bodies (k.ino - 1) b) m
+    files_next m current lawful = record {
+      catalog = lawful.current;
+      sizes = rw current (put-bodies p.bodies p.meta x.files k x.at b (without_segments from n) refl new_own);
+      count = count-put p.bodies p.meta x.files k x.at b ∙ ap (λ (c : Catalog). (geometry_of c.geometry).files) (sym current);
+    }
+
+    pub gone : (new : D) (m : Meta) (number : ℕ) (wrote : Bool) → Tells g p.disk p.meta number wrote new m → m.current ≡ after_all records p.meta.current → IsMeta m → Backs g new m → StoresOrKeeps g p.disk new p.meta number
+        → IsDone g p number held_next (after_event p new m wrote (set p.bodies (k.ino - 1) b) (unmarked freed p.space.current) p.space.current true)
+    gone new m number wrote tells taken lawful backs turns =
+        let current = taken ∙ are_going.become in
+        done g p x.lawful x.live number new m (set p.bodies (k.ino - 1) b) (unmarked freed p.space.current) p.space.current true backs held_next (ap (held_with (set p.bodies (k.ino - 1) b)) current ∙ becomes)
+        (λ c gives. ap (held_at (blocks_in_image p.meta.durable.geometry c)) current ∙ holds_next c gives) (marks ∙ ap marks_of (sym current)) (rw x.live.marks (marks_there p.meta.current x.lawful.current)) wrote tells lawful turns (files_next m current lawful)
+        (λ idle. absurd cc)

@@ -1,0 +1,60 @@
+-- Files whose segments are sealed: their entries keep the lengths of their segments, and no more of them are offline.
+use Rattle.std.proofs.Common.{◌≡◌, ℕ, List, [], ◌∷◌, Bool, true, false, Option, Some, None, Ordering, Less, Equal, Greater, refl, sym, ◌∙◌, ap, subst, arith}
+use Rattle.std.specs.Prelude.{◌==◌, if◌then◌else◌}
+use Rattle.std.specs.BTreeMap.{insert_entry}
+use Rattle.std.specs.List.{AllByRecursion}
+use Rattle.std.specs.Ordering.{nat_cmp, match_ordering}
+use Rattle.std.proofs.lemmas.Bool.{eqb-true, false≢true}
+use Rattle.hsm_types.specs.Segments.{segment_len}
+use Rattle.hsm_types.specs.Stubs.{Stubs, stub_at, is_offline, offline_at, with_stub}
+use Rattle.hsm_types.specs.declared.keys.FileKey.{FileKey}
+use Rattle.hsm_types.specs.declared.stubs.Stub.{Stub as StubOf}
+use Rattle.plain_model.specs.Keyed.{find_key, drop_key}
+use Rattle.meta_store.specs.Catalogs.{CatalogFile, Catalog, HasLengths, AreLengths}
+use Rattle.meta_store.specs.Records.{file_after, inode_of, key_on, after, CanStand}
+use Rattle.meta_store.specs.declared.records.Record.{Record}
+use Rattle.meta_store.specs.declared.records.Record.TheVariants.{Make, Drop, Size, Map, Stub}
+use Rattle.meta_store.proofs.FileEdits.{each-put, each-drop, each-change, each-changed}
+use Rattle.meta_store.proofs.KeptCatalogs.{empty_file}
+use Rattle.meta_store.proofs.StubLists.{stub_at-with}
+use Rattle.file_store.specs.Effects.{IsBodiless, IsSeal}
+
+pub seal_is : (stub : StubOf) → stub.offline ≡ false → record stub { offline = false } ≡ stub
+seal_is stub off = ap (λ (b : Bool). record stub { offline = b }) (sym off)
+
+pub seal-places : (ino j : ℕ) (stub : StubOf) (f : CatalogFile) → stub.offline ≡ false → (file_after (Stub ino j (Some stub)) f).places ≡ f.places
+seal-places ino j stub f off = rw off refl
+
+-- a segment that is offline isn't the one that is sealed
+pub seal-away : (j i : ℕ) (stub : StubOf) (stubs : Stubs) → offline_at stubs j ≡ false → offline_at stubs i ≡ true → offline_at (with_stub j stub stubs) i ≡ true
+seal-away j i stub stubs here away = by (i == j) refl (stub_at-with j stub stubs i)
+  where
+    by : (b : Bool) → (i == j) ≡ b → stub_at i (with_stub j stub stubs) ≡ (if b then Some stub else stub_at i stubs) → offline_at (with_stub j stub stubs) i ≡ true
+    by true same is = absurd (false≢true (sym here ∙ subst (λ n. offline_at stubs n ≡ true) (eqb-true i j same) away))
+    by false other is = ap is_offline is ∙ away
+
+-- ---- lengths
+
+each-with : (P : ℕ × StubOf → Type 0) (j : ℕ) (stub : StubOf) (stubs : Stubs) → P (j, stub) → ((x : ℕ × StubOf) → nat_cmp j x.0 ≡ Equal → P (x.0, stub)) → AllByRecursion P stubs → AllByRecursion P (with_stub j stub stubs)
+each-with P j stub [] new same each = (new, tt)
+each-with P j stub (x ∷ rest) new same each = by (nat_cmp j x.0) refl (each-with P j stub rest new same each.1)
+  where
+    by : (r : Ordering) → nat_cmp j x.0 ≡ r → AllByRecursion P (with_stub j stub rest) → AllByRecursion P (match_ordering r ((j, stub) ∷ x ∷ rest) ((x.0, stub) ∷ rest) (x ∷ insert_entry nat_cmp rest j stub))
+    by Less is later = (new, each)
+    by Equal is later = (same x is, each.1)
+    by Greater is later = (each.0, later)
+
+sealed-lengths : (ino j : ℕ) (stub : StubOf) (f : CatalogFile) → IsSeal j stub f → HasLengths f → HasLengths (file_after (Stub ino j (Some stub)) f)
+sealed-lengths ino j stub f is has =
+    each-with (λ x. x.1.entry.print.len ≡ segment_len f.size x.0) j stub f.kept.stubs is.len (λ x same. let at : j ≡ x.0 = grind arith in is.len ∙ ap (segment_len f.size) at) has
+
+-- a record that concerns no bytes keeps them
+pub lengths-after : (k : FileKey) (r : Record) (c : Catalog) → IsBodiless k r c → CanStand r c → AreLengths c → AreLengths (after r c)
+lengths-after k (Make key name) c is stands are = each-put HasLengths (empty_file key name) c.files tt are
+lengths-after k (Drop ino) c is stands are = each-drop HasLengths (key_on ino c) c.files are
+lengths-after k (Size ino size) c is stands are = absurd is
+lengths-after k (Map ino block places) c is stands are = absurd is
+lengths-after k (Stub ino j None) c is stands are = absurd is
+lengths-after k (Stub ino j (Some stub)) c is stands are =
+    each-changed HasLengths (key_on ino c) (file_after (Stub ino j (Some stub))) c.files (λ f found has. sealed-lengths ino j stub f (is.1 f (ap (λ (at : FileKey). find_key (λ x. x.key) at c.files) (sym is.0) ∙ found)) has) are
+lengths-after k r c is stands are = each-change HasLengths (key_on (inode_of r) c) (file_after r) c.files (λ f has. has) are

@@ -1,0 +1,17 @@
+-- What readers of the catalog tell of the files in memory.
+use Rattle.file_store.proofs.Names.{ℕ, ◌*◌, ◌<◌, take, drop, arith, ap, length-take, ◌≡◌, List, length, AllByRecursion, HeldBody, CatalogFile, geometry_of, Meta, IsMeta, IsHeldFiles, IsBody, AreBodies, body_with, bytes_with, held_with, Shows, IsLawful}
+use Rattle.file_store.proofs.EachOf.{each-weaker}
+use Rattle.file_store.proofs.FilesBy.{shows, held_lawful}
+
+pub sizes_with : (bs : List HeldBody) (fs : List CatalogFile) → AreBodies bs fs → AllByRecursion (λ f. length (bytes_with bs f) ≡ f.size) fs
+sizes_with bs fs are = each-weaker (λ f. IsBody (body_with bs f) f) (λ f. length (bytes_with bs f) ≡ f.size) (λ f is. is.size) fs are
+
+pub shown_with : (bs : List HeldBody) (m : Meta) → IsHeldFiles bs m → Shows m.current (held_with bs m.current)
+shown_with bs m is = shows (bytes_with bs) m.current (sizes_with bs m.current.files is.sizes)
+
+pub lawful_with : (bs : List HeldBody) (m : Meta) → IsHeldFiles bs m → IsMeta m → IsLawful (geometry_of m.current.geometry).files (held_with bs m.current)
+lawful_with bs m is lawful = held_lawful (bytes_with bs) m.current lawful.current lawful.stored.now (sizes_with bs m.current.files is.sizes)
+
+-- a segment has few bytes
+pub segment_short : (j : ℕ) (body bytes : List ℕ) → bytes ≡ take 65536 (drop (65536 * j) body) → length bytes < 4294967296
+segment_short j body bytes is = omega (arith, ap length is, length-take 65536 (drop (65536 * j) body))

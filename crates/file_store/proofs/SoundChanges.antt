@@ -1,0 +1,192 @@
+-- A change of the bytes of a file that is sound: which of its segments are here, before it and after it, and that its entries keep their lengths.
+use Rattle.file_store.proofs.Names.{◌≡◌, ⊎_elim, ℕ, zero, suc, ◌+◌, ◌-◌, ◌*◌, ◌/◌, ◌%◌, ◌<◌, ◌≤◌, min, max, List, [], ◌∷◌, ◌++◌, length, Bool, true, false, ◌&&◌, Option, Some, None, refl, sym, ◌∙◌, ap, subst, arith, cond, cond_both, eqb, ltb, if◌then◌else◌, AllByRecursion, false≢true, and_parts, ltb-true, lt-ltb, and_from, Rewrite, Write, Resize, Restore, effect_of, unseals, IsRewrite, IsWithin, HasEntry, IsBrought, HasRange, IsLeft, size_after, touched, from_on, met, old_end, blocks_in, rekept, remapped, Mapping, CatalogFile, IsCatalogFile, file_by, HeldBody, is_away, KeepsHere, IsHere}
+use Rattle.std.specs.Prelude.{filter, not, map, nat_le, nat_lt, IfSome}
+use Rattle.std.specs.Option.{option_map}
+use Rattle.std.proofs.lemmas.Bool.Decides.{nat_tests}
+use Rattle.std.proofs.lemmas.Bool.{eq-eqb, ne_eqb, le-ltb}
+use Rattle.hsm_types.specs.Segments.{segment_len, meets_segment}
+use Rattle.hsm_types.specs.Stubs.{Stubs, stub_at, is_offline, offline_at, moved, restored, unsealed}
+use Rattle.hsm_types.specs.declared.stubs.Fingerprint.{Fingerprint}
+use Rattle.hsm_types.specs.declared.stubs.Stub.{Stub as StubOf}
+use Rattle.hsm_types.proofs.Stubbing.{stub_at-unsealed, stub_at-restored}
+use Rattle.plain_model.specs.Sound.{IsSound}
+use Rattle.meta_store.specs.Catalogs.{IsCatalogStub, HasLengths}
+use Rattle.meta_store.proofs.StubLists.{each-at as stub-each}
+use Rattle.file_store.proofs.EachOf.{each-weaker, each-join}
+use Rattle.file_store.proofs.Loaded.{offline-some}
+use Rattle.file_store.proofs.UnsealedEntries.{each-filter}
+
+-- ---- what soundness says of the file of a catalog
+
+pub record Allowed (change : Rewrite) (f : CatalogFile) : Type 0 where
+  pub within : IsWithin change f.size
+  pub entry : HasEntry change f.kept.stubs
+  pub free : (j : ℕ) → unseals change f.size j ≡ true → offline_at f.kept.stubs j ≡ false
+
+-- a segment with an entry begins within the file
+offline-starts : (blocks : ℕ) (f : CatalogFile) → IsCatalogFile blocks f → (j : ℕ) → offline_at f.kept.stubs j ≡ true → 65536 * j < f.size
+offline-starts blocks f lawful j off = let at = offline-some (stub_at j f.kept.stubs) off in (stub-each (IsCatalogStub f) f.kept.stubs j at.0 lawful.stubs at.1).start
+
+unless : (b : Bool) → (b ≡ true → b ≡ false) → b ≡ false
+unless true step = step refl
+unless false step = refl
+
+meets-parts : (from to j : ℕ) → meets_segment from to j ≡ true → (from < to) × (from < 65536 * j + 65536) × (65536 * j < to)
+meets-parts from to j meets =
+    let first = and_parts (ltb from to && ltb from (65536 * j + 65536)) (ltb (65536 * j) to) meets in
+    let second = and_parts (ltb from to) (ltb from (65536 * j + 65536)) first.0 in
+    (ltb-true from to second.0, ltb-true from (65536 * j + 65536) second.1, ltb-true (65536 * j) to first.1)
+
+meets-from : (from to j : ℕ) → from < to → from < 65536 * j + 65536 → 65536 * j < to → meets_segment from to j ≡ true
+meets-from from to j some low high = and_from (ltb from to && ltb from (65536 * j + 65536)) (ltb (65536 * j) to) (and_from (ltb from to) (ltb from (65536 * j + 65536)) (lt-ltb from to some) (lt-ltb from (65536 * j + 65536) low)) (lt-ltb (65536 * j) to high)
+
+module _ (B : CatalogFile → List ℕ) (f : CatalogFile) (blocks : ℕ) (lawful : IsCatalogFile blocks f) (lengths : HasLengths f) (size : length (B f) ≡ f.size) where
+  pub allowed : (change : Rewrite) → IsSound (effect_of change) (file_by B f) → Allowed change f
+  allowed (Write offset bytes) sound = record { within = tt; entry = tt; free = λ j drops. sound j (rw size drops) }
+  allowed (Resize to) sound = record {
+    within = tt;
+    entry = tt;
+    free = λ j drops.
+        let parts = and_parts (meets_segment (min to f.size) (max to f.size) j) (ltb (65536 * j) to) drops in
+        let meets = meets-parts (min to f.size) (max to f.size) j parts.0 in
+        let low = ltb-true (65536 * j) to parts.1 in
+        let around = rw size at sound in
+        unless (offline_at f.kept.stubs j) (λ off. let start = offline-starts blocks f lawful j off in let some = meets.0 in let inside = meets.1 in around (λ same. absurd (omega arith)) j (omega arith) inside);
+  }
+  allowed (Restore segment bytes) sound =
+      let at = sound.1 in
+      let len = stub-each (λ x. x.1.entry.print.len ≡ segment_len f.size x.0) f.kept.stubs segment at.0 lengths at.1 in
+      let own = ap (λ (p : Fingerprint). p.len) at.2 in
+      let start = rw size at sound.0 in
+      record { within = omega (arith, len, own, start); entry = (at.0, at.1); free = λ j drops. absurd (false≢true drops) }
+
+-- bytes that come back: some, no more than a segment has, and within the longest file
+pub restores-lawful : (size segment len : ℕ) → len ≡ segment_len size segment → 65536 * segment < size → size ≤ 16777216 → (1 ≤ len) × (len ≤ 65536) × (65536 * segment + len ≤ 16777216)
+restores-lawful size segment len is start few = (omega (arith, is), omega (arith, is), omega (arith, is))
+
+-- those of an entry of that fingerprint
+pub of-entry : (P : StubOf → Type 0) (o : Option StubOf) → is_offline o ≡ true → IfSome o P → (stub : StubOf) × (o ≡ Some stub) × P stub
+of-entry P None off is = absurd (false≢true off)
+of-entry P (Some stub) off is = (stub, refl, is)
+
+-- ---- entries keep their lengths
+
+print-len : StubOf → ℕ
+print-len stub = stub.entry.print.len
+
+abbrev HasLen : ℕ → ℕ × StubOf → Type 0
+HasLen size x = x.1.entry.print.len ≡ segment_len size x.0
+
+written-len : (size from end j : ℕ) → from < end → from ≤ size → not (meets_segment from end j) ≡ true → segment_len size j ≡ segment_len (max size end) j
+written-len size from end j some low apart = grind (arith, nat_tests)
+
+resized-len : (size to j : ℕ) → not (meets_segment (min to size) (max to size) j) ≡ true → segment_len size j ≡ segment_len to j
+resized-len size to j apart = grind (arith, nat_tests)
+
+moved-lens : (b : Bool) (from to size : ℕ) (stubs : Stubs) → AllByRecursion (HasLen size) stubs → AllByRecursion (HasLen size) (moved b from to stubs)
+moved-lens b from to size [] all = tt
+moved-lens b from to size (x ∷ stubs) all = (by (nat_le from x.0 && nat_lt x.0 to) all.0, moved-lens b from to size stubs all.1)
+  where
+    by : (inside : Bool) → HasLen size x → HasLen size (if inside then (x.0, record x.1 { offline = b }) else x)
+    by true len = len
+    by false len = len
+
+pub lengths-after : (change : Rewrite) (ms : List Mapping) (f : CatalogFile) → IsRewrite change → HasLengths f → HasLengths (remapped change f.size ms f)
+lengths-after (Write offset bytes) ms f may lengths =
+    let end : ℕ = offset + length bytes.now in
+    let some = may.0 in
+    each-filter (λ (x : ℕ × StubOf). not (meets_segment (min offset f.size) end x.0)) (HasLen f.size) (HasLen (max f.size end)) f.kept.stubs (λ x apart len. len ∙ written-len f.size (min offset f.size) end x.0 (omega arith) (omega arith) apart) lengths
+lengths-after (Resize to) ms f may lengths =
+    each-filter (λ (x : ℕ × StubOf). not (meets_segment (min to f.size) (max to f.size) x.0)) (HasLen f.size) (HasLen to) f.kept.stubs (λ x apart len. len ∙ resized-len f.size to x.0 apart) lengths
+lengths-after (Restore segment bytes) ms f may lengths = moved-lens false segment (segment + 1) f.size f.kept.stubs lengths
+
+-- ---- touched blocks are of segments that are here then
+
+run-each : (P : ℕ → Type 0) (a n : ℕ) → ((b : ℕ) → a ≤ b → b < a + n → P b) → AllByRecursion P (from_on a n)
+run-each P a zero all = tt
+run-each P a (suc n) all = (all a (omega arith) (omega arith), run-each P (a + 1) n (λ b low high. all b (omega arith) (omega arith)))
+
+unsealed-here : (from to : ℕ) (stubs : Stubs) (j : ℕ) → meets_segment from to j ≡ true → offline_at (unsealed from to stubs) j ≡ false
+unsealed-here from to stubs j meets = ap is_offline (stub_at-unsealed from to stubs j) ∙ rw meets refl
+
+unsealed-stays : (from to : ℕ) (stubs : Stubs) (j : ℕ) → meets_segment from to j ≡ false → offline_at (unsealed from to stubs) j ≡ offline_at stubs j
+unsealed-stays from to stubs j apart = ap is_offline (stub_at-unsealed from to stubs j) ∙ rw apart refl
+
+never-offline : (o : Option StubOf) → is_offline (option_map (λ (x : StubOf). record x { offline = false }) o) ≡ false
+never-offline None = refl
+never-offline (Some stub) = refl
+
+restored-here : (k : ℕ) (stubs : Stubs) → offline_at (restored k stubs) k ≡ false
+restored-here k stubs = ap is_offline (stub_at-restored k stubs k) ∙ rw (eq-eqb k k refl) (never-offline (stub_at k stubs))
+
+restored-stays : (k : ℕ) (stubs : Stubs) (j : ℕ) → (j ≡ k → ⊥) → offline_at (restored k stubs) j ≡ offline_at stubs j
+restored-stays k stubs j other = ap is_offline (stub_at-restored k stubs j) ∙ rw (ne_eqb j k other) refl
+
+-- a block of it
+abbrev HereThen : Rewrite → CatalogFile → ℕ → Type 0
+HereThen change f b = offline_at (rekept (effect_of change) f.size f.kept).stubs (b / 16) ≡ false
+
+pub touched-here : (change : Rewrite) (f : CatalogFile) → IsRewrite change → AllByRecursion (HereThen change f) (touched (effect_of change) f.size)
+touched-here (Write offset bytes) f may =
+    let size : ℕ = f.size in
+    let end : ℕ = offset + length bytes.now in
+    let P : ℕ → Type 0 = HereThen (Write offset bytes) f in
+    let some = may.0 in
+    let run : AllByRecursion P (met offset end) =
+    run-each P (offset / 4096) (blocks_in end - offset / 4096) (λ b low high. unsealed-here (min offset size) end f.kept.stubs (b / 16) (meets-from (min offset size) end (b / 16) (omega arith) (omega arith) (omega arith))) in
+    cond_both (ltb size end && ltb (size / 4096) (offset / 4096)) (old_end size ++ met offset end) (met offset end) (AllByRecursion P)
+    (λ far.
+    let parts = and_parts (ltb size end) (ltb (size / 4096) (offset / 4096)) far in
+    let grows = ltb-true size end parts.0 in
+    let apart = ltb-true (size / 4096) (offset / 4096) parts.1 in
+    cond_both (eqb (size % 4096) 0) [] ((size / 4096) ∷ []) (λ bs. AllByRecursion P (bs ++ met offset end)) (λ whole. run)
+    (λ cut. (unsealed-here (min offset size) end f.kept.stubs (size / 4096 / 16) (meets-from (min offset size) end (size / 4096 / 16) (omega arith) (omega arith) (omega arith)), run)))
+    (λ near. run)
+touched-here (Resize to) f may =
+    let size : ℕ = f.size in
+    let P : ℕ → Type 0 = HereThen (Resize to) f in
+    cond_both (ltb size to) (old_end size) [] (AllByRecursion P)
+    (λ grows.
+    let lt = ltb-true size to grows in
+    cond_both (eqb (size % 4096) 0) [] ((size / 4096) ∷ []) (AllByRecursion P) (λ whole. tt)
+    (λ cut. (unsealed-here (min to size) (max to size) f.kept.stubs (size / 4096 / 16) (meets-from (min to size) (max to size) (size / 4096 / 16) (omega arith) (omega arith) (omega arith)), tt)))
+    (λ other. tt)
+touched-here (Restore segment bytes) f may =
+    let P : ℕ → Type 0 = HereThen (Restore segment bytes) f in
+    let most = may.1 in
+    run-each P (65536 * segment / 4096) (blocks_in (65536 * segment + length bytes.now) - 65536 * segment / 4096)
+    (λ b low high. let same : b / 16 ≡ segment = omega arith in subst (λ (j : ℕ). offline_at (restored segment f.kept.stubs) j ≡ false) (sym same) (restored-here segment f.kept.stubs))
+
+-- ---- bodies
+
+-- a body that has room for the change, of one that had what isn't offline
+module _ (change : Rewrite) (f : CatalogFile) (is : Allowed change f) (old room : HeldBody) (here : IsHere old f) (keeps : KeepsHere old room) (brought : IsBrought change room) where
+  -- bytes are put only where they are here
+  pub has-range : IsRewrite change → HasRange change room
+  has-range may = by change is keeps brought may
+    where
+      by : (c : Rewrite) → Allowed c f → KeepsHere old room → IsBrought c room → IsRewrite c → HasRange c room
+      by (Write offset bytes) is keeps brought may = λ i low high.
+          let j : ℕ = i / 65536 in
+          unless (is_away room j) (λ away. absurd (false≢true (sym (is.free j (meets-from (min offset f.size) (offset + length bytes.now) j (omega arith) (omega arith) (omega arith))) ∙ here j (keeps j away))))
+      by (Resize to) is keeps brought may = tt
+      by (Restore segment bytes) is keeps brought may = λ i low high.
+          let most = may.1 in
+          let same : i / 65536 ≡ segment = omega arith in
+          ap (is_away room) same ∙ brought
+
+  -- and what is away after the change is offline then
+  pub here-after : (new : HeldBody) (ms : List Mapping) → ((j : ℕ) → is_away new j ≡ true → (is_away room j ≡ true) × IsLeft change j) → IsHere new (remapped change f.size ms f)
+  here-after new ms away j gone = by change is brought (away j gone).0 (away j gone).1
+    where
+      by : (c : Rewrite) → Allowed c f → IsBrought c room → is_away room j ≡ true → IsLeft c j → offline_at (rekept (effect_of c) f.size f.kept).stubs j ≡ true
+      by (Write offset bytes) is brought out left =
+          let off = here j (keeps j out) in
+          unsealed-stays (min offset f.size) (offset + length bytes.now) f.kept.stubs j (unless (meets_segment (min offset f.size) (offset + length bytes.now) j) (λ meets. absurd (false≢true (sym (is.free j meets) ∙ off)))) ∙ off
+      by (Resize to) is brought out left =
+          let off = here j (keeps j out) in
+          unsealed-stays (min to f.size) (max to f.size) f.kept.stubs j
+          (unless (meets_segment (min to f.size) (max to f.size) j) (λ meets. absurd (false≢true (sym (is.free j (and_from (meets_segment (min to f.size) (max to f.size) j) (ltb (65536 * j) to) meets (lt-ltb (65536 * j) to left))) ∙ off))))
+          ∙ off
+      by (Restore segment bytes) is brought out left =
+          restored-stays segment f.kept.stubs j (λ same. false≢true (sym brought ∙ subst (λ (i : ℕ). is_away room i ≡ true) same out)) ∙ here j (keeps j out)

@@ -1,0 +1,138 @@
+-- Stub entries after a change of the bytes of their file: those of segments that it touches go, first by the new size, and then one by one.
+use Rattle.file_store.proofs.Names.{◌≡◌, ⊎_elim, ℕ, ◌+◌, ◌-◌, ◌*◌, ◌<◌, ◌≤◌, min, max, List, [], ◌∷◌, length, Bool, true, false, ◌&&◌, ◌||◌, Option, Some, None, refl, sym, ◌∙◌, ap, subst, arith, cond, cond_both, eqb, ltb, if◌then◌else◌, list_any, AllByRecursion, false≢true, eqb-true, is_some, Rewrite, Write, Resize, Restore, effect_of, unseals, IsWithin, size_after, rekept, Kept}
+use Rattle.std.specs.Prelude.{filter, not, nat_eq, nat_lt, nat_le}
+use Rattle.std.specs.List.Sorted.{IsStrictlySortedBy}
+use Rattle.std.specs.Map.{keys_of}
+use Rattle.std.specs.Ordering.{nat_cmp}
+use Rattle.std.proofs.lemmas.Bool.Decides.{nat_tests}
+use Rattle.std.proofs.lemmas.Bool.{eq-eqb}
+use Rattle.hsm_types.specs.Segments.{segments_in, segment_len, meets_segment}
+use Rattle.hsm_types.specs.Stubs.{Stubs, stub_at, is_offline, offline_at, moved, with_stub, without_stub, stubs_below, restored, unsealed}
+use Rattle.hsm_types.specs.declared.stubs.Stub.{Stub as StubOf}
+use Rattle.hsm_types.proofs.Stubbing.{stub_at-unsealed, stub_at-without, stub_at-below, stub_at-restored}
+
+-- ---- lists of which some are left
+
+filter-twice : {X : Type 0} (p q : X → Bool) (xs : List X) → filter p (filter q xs) ≡ filter (λ x. q x && p x) xs
+filter-twice p q [] = refl
+filter-twice p q (x ∷ xs) = by (q x) refl (filter-twice p q xs)
+  where
+    by : (b : Bool) → q x ≡ b → filter p (filter q xs) ≡ filter (λ y. q y && p y) xs → filter p (cond b (x ∷ filter q xs) (filter q xs)) ≡ cond (b && p x) (x ∷ filter (λ y. q y && p y) xs) (filter (λ y. q y && p y) xs)
+    by true is same = ap (λ ys. cond (p x) (x ∷ ys) ys) same
+    by false is same = same
+
+pub filter-same : {X : Type 0} (p q : X → Bool) (xs : List X) → AllByRecursion (λ x. p x ≡ q x) xs → filter p xs ≡ filter q xs
+filter-same p q [] all = refl
+filter-same p q (x ∷ xs) all = rw (all.0, filter-same p q xs all.1) refl
+
+pub each-filter : {X : Type 0} (p : X → Bool) (P Q : X → Type 0) (xs : List X) → ((x : X) → p x ≡ true → P x → Q x) → AllByRecursion P xs → AllByRecursion Q (filter p xs)
+each-filter p P Q [] weaker all = tt
+each-filter p P Q (x ∷ xs) weaker all = by (p x) refl (each-filter p P Q xs weaker all.1)
+  where
+    by : (b : Bool) → p x ≡ b → AllByRecursion Q (filter p xs) → AllByRecursion Q (cond b (x ∷ filter p xs) (filter p xs))
+    by true is rest = (weaker x is all.0, rest)
+    by false is rest = rest
+
+-- ---- entries that go one by one
+
+abbrev has : List ℕ → ℕ → Bool
+has js j = list_any (λ s. eqb s j) js
+
+abbrev pub without_all : List ℕ → Stubs → Stubs
+without_all [] stubs = stubs
+without_all (j ∷ js) stubs = without_all js (without_stub j stubs)
+
+without-is : (js : List ℕ) (p : ℕ → Bool) (stubs : Stubs) → without_all js (filter (λ x. p x.0) stubs) ≡ filter (λ x. p x.0 && not (has js x.0)) stubs
+without-is [] p stubs = filter-same (λ x. p x.0) (λ x. p x.0 && true) stubs (all stubs)
+  where
+    all : (xs : Stubs) → AllByRecursion (λ x. p x.0 ≡ (p x.0 && true)) xs
+    all [] = tt
+    all (x ∷ xs) = (grind arith, all xs)
+without-is (j ∷ js) p stubs =
+    ap (without_all js) (filter-twice (λ (x : ℕ × StubOf). not (eqb x.0 j)) (λ x. p x.0) stubs)
+    ∙ without-is js (λ q. p q && not (eqb q j)) stubs
+    ∙ filter-same _ _ stubs (all stubs)
+  where
+    flip : (q : ℕ) → eqb q j ≡ eqb j q
+    flip q = grind (arith, nat_tests)
+
+    all : (xs : Stubs) → AllByRecursion (λ x. (((p x.0 && not (eqb x.0 j)) && not (has js x.0)) ≡ (p x.0 && not (eqb j x.0 || has js x.0)))) xs
+    all [] = tt
+    all (x ∷ xs) = (rw (flip x.0) (grind arith), all xs)
+
+-- an entry that goes leaves others as they are
+pub here-without : (k : ℕ) (stubs : Stubs) (j : ℕ) → offline_at stubs j ≡ false → offline_at (without_stub k stubs) j ≡ false
+here-without k stubs j here = rw (stub_at-without k stubs j) (cond_both (eqb j k) None (stub_at j stubs) (λ s. is_offline s ≡ false) (λ same. refl) (λ other. here))
+
+pub here-below : (n : ℕ) (stubs : Stubs) (j : ℕ) → offline_at stubs j ≡ false → offline_at (stubs_below n stubs) j ≡ false
+here-below n stubs j here = rw (stub_at-below n stubs j) (cond_both (nat_lt j n) (stub_at j stubs) None (λ s. is_offline s ≡ false) (λ low. here) (λ past. refl))
+
+-- ---- what is left by a change
+
+-- no segment is unsealed by a restore
+pub none-unsealed : (js : List ℕ) → AllByRecursion (λ (j : ℕ). false ≡ true) js → js ≡ []
+none-unsealed [] only = refl
+none-unsealed (j ∷ js) only = absurd (false≢true only.0)
+
+has-only : (P : ℕ → Bool) (js : List ℕ) (j : ℕ) → AllByRecursion (λ i. P i ≡ true) js → has js j ≡ true → P j ≡ true
+has-only P [] j only there = absurd (false≢true there)
+has-only P (i ∷ js) j only there = by (eqb i j) refl (has-only P js j only.1) there
+  where
+    by : (b : Bool) → eqb i j ≡ b → (has js j ≡ true → P j ≡ true) → (b || has js j) ≡ true → P j ≡ true
+    by true same later is = subst (λ n. P n ≡ true) (eqb-true i j same) only.0
+    by false other later is = later is
+
+both : (a b : Bool) → (a ≡ true → b ≡ true) → (b ≡ true → a ≡ true) → a ≡ b
+both true b to from = sym (to refl)
+both false true to from = from refl
+both false false to from = refl
+
+own-entry : (x : ℕ × StubOf) (rest : Stubs) → is_some (stub_at x.0 (x ∷ rest)) ≡ true
+own-entry x rest = rw (eq-eqb x.0 x.0 refl) refl
+
+more-entry : (x : ℕ × StubOf) (rest : Stubs) (j : ℕ) → is_some (stub_at j rest) ≡ true → is_some (stub_at j (x ∷ rest)) ≡ true
+more-entry x rest j is = cond_both (nat_eq j x.0) (Some x.1) (stub_at j rest) (λ s. is_some s ≡ true) (λ same. refl) (λ other. is)
+
+-- these segments are just those that pass the test, of those with an entry
+dropped : (P : ℕ → Bool) (js : List ℕ) (stubs xs : Stubs) → AllByRecursion (λ j. P j ≡ true) js → ((j : ℕ) → P j ≡ true → is_some (stub_at j stubs) ≡ true → has js j ≡ true) → ((j : ℕ) → is_some (stub_at j xs) ≡ true → is_some (stub_at j stubs) ≡ true)
+    → AllByRecursion (λ x. has js x.0 ≡ P x.0) xs
+dropped P js stubs [] only every there = tt
+dropped P js stubs (x ∷ xs) only every there = (
+  both (has js x.0) (P x.0) (λ is. has-only P js x.0 only is) (λ is. every x.0 is (there x.0 (own-entry x xs))),
+  dropped P js stubs xs only every (λ j is. there j (more-entry x xs j is)),
+)
+
+abbrev Starts : ℕ → ℕ × StubOf → Type 0
+Starts size x = 65536 * x.0 < size
+
+resized-left : (size to j : ℕ) → 65536 * j < size → (nat_lt j (segments_in to) && not (meets_segment (min to size) (max to size) j && nat_lt (65536 * j) to)) ≡ not (meets_segment (min to size) (max to size) j)
+resized-left size to j start = grind (arith, nat_tests)
+
+written-left : (size from end j : ℕ) → 65536 * j < size → (nat_lt j (segments_in (max size end)) && not (meets_segment from end j)) ≡ not (meets_segment from end j)
+written-left size from end j start = grind (arith, nat_tests)
+
+each-two : (P Q R : ℕ × StubOf → Type 0) → ((x : ℕ × StubOf) → P x → Q x → R x) → (xs : Stubs) → AllByRecursion P xs → AllByRecursion Q xs → AllByRecursion R xs
+each-two P Q R step [] p q = tt
+each-two P Q R step (x ∷ xs) p q = (step x p.0 q.0, each-two P Q R step xs p.1 q.1)
+
+-- a new size, and then the others
+pub left-written : (size offset : ℕ) (bytes : List ℕ) (js : List ℕ) (stubs : Stubs) → AllByRecursion (Starts size) stubs → AllByRecursion (λ j. meets_segment (min offset size) (offset + length bytes) j ≡ true) js
+    → ((j : ℕ) → meets_segment (min offset size) (offset + length bytes) j ≡ true → is_some (stub_at j stubs) ≡ true → has js j ≡ true)
+    → without_all js (stubs_below (segments_in (max size (offset + length bytes))) stubs) ≡ unsealed (min offset size) (offset + length bytes) stubs
+left-written size offset bytes js stubs starts only every =
+    let from : ℕ = min offset size in
+    let end : ℕ = offset + length bytes in
+    without-is js (λ q. nat_lt q (segments_in (max size end))) stubs
+    ∙ filter-same _ _ stubs
+    (each-two (Starts size) (λ x. has js x.0 ≡ meets_segment from end x.0) (λ x. (nat_lt x.0 (segments_in (max size end)) && not (has js x.0)) ≡ not (meets_segment from end x.0))
+    (λ x start same. rw same (written-left size from end x.0 start)) stubs starts (dropped (meets_segment from end) js stubs stubs only every (λ j is. is)))
+
+pub left-resized : (size to : ℕ) (js : List ℕ) (stubs : Stubs) → AllByRecursion (Starts size) stubs → AllByRecursion (λ j. (meets_segment (min to size) (max to size) j && nat_lt (65536 * j) to) ≡ true) js
+    → ((j : ℕ) → (meets_segment (min to size) (max to size) j && nat_lt (65536 * j) to) ≡ true → is_some (stub_at j stubs) ≡ true → has js j ≡ true)
+    → without_all js (stubs_below (segments_in to) stubs) ≡ unsealed (min to size) (max to size) stubs
+left-resized size to js stubs starts only every =
+    let P : ℕ → Bool = λ j. meets_segment (min to size) (max to size) j && nat_lt (65536 * j) to in
+    without-is js (λ q. nat_lt q (segments_in to)) stubs
+    ∙ filter-same _ _ stubs
+    (each-two (Starts size) (λ x. has js x.0 ≡ P x.0) (λ x. (nat_lt x.0 (segments_in to) && not (has js x.0)) ≡ not (meets_segment (min to size) (max to size) x.0))
+    (λ x start same. rw same (resized-left size to x.0 start)) stubs starts (dropped P js stubs stubs only every (λ j is. is)))

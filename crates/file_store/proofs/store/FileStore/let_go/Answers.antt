@@ -1,0 +1,110 @@
+use Rattle.file_store.proofs.Names.{rules, Err, true, ◌≡◌, ◌≤◌, ◌-◌, ◌+◌, ◌*◌, ◌&&◌, ◌||◌, ℕ, refl, sym, ◌∙◌, ap, subst, arith, set, length, take, drop, unmarked, after_all, refusal_of_all, CanStandAll, IsEvent, held_with, affected_held, present, Held, HeldBody, no_body, is_away, get_or, get_or_read, Kept}
+use Rattle.std.specs.Prelude.{nat_le, nat_lt}
+use Rattle.plain_model.specs.Effects.{Punches}
+use Rattle.hsm_types.specs.Segments.{from_on}
+use Rattle.meta_store.specs.Catalogs.{AreLengths}
+use Rattle.file_store.specs.Punches.{punch_records}
+use Rattle.file_store.proofs.Durable.{Parts, IsDone, after_event, kept_proceeds}
+use Rattle.file_store.proofs.PunchedBodies.{zeroed}
+use Rattle.file_store.proofs.PunchEvents.{IsGoing, ready, are_going, event, lengths, freed_within, gone, kept_is}
+use Rattle.file_store.proofs.StoreEvents.{refused_as_is}
+use Rattle.file_store.proofs.WithBodies.{is-body}
+use Rattle.file_store.proofs.store.FileStore.let_go.Given.{Over}
+use Rattle.file_store.proofs.store.FileStore.let_go.Goals.{After-of-before, After-index_mut, After-leave}
+use Rattle.file_store.proofs.store.FileStore.let_go.Goals as goal
+
+-- ---- what is known before the records are taken
+
+abbrev parts : (g : Over) → After-of-before g → Parts g.row.D.Denot
+parts g c = record { disk = c.self.inside.disk; meta = c.self.inside.meta; bodies = c.self.inside.bodies.items; durable = c.self.inside.durable.value.items; space = c.self.inside.space; pending = c.self.inside.pending; failed = c.self.inside.failed }
+
+given : (g : Over) (c : After-of-before g) → IsGoing g.D.Disk (parts g c) c.args.key c.args.from (c.args.to - c.args.from)
+given g c =
+    ready g.D.Disk (parts g c) c.args.key c.args.from c.args.to c.self.invariant.0 c.self.invariant.1 (ap (λ s. s.failed) c.self.view_is ∙ c.requires.working) (rw (← c.self.view_is) at c.requires.live) (rw (← c.self.view_is) at c.requires.start) c.requires.order
+    (rw (← c.self.view_is) at c.requires.end) (rw (← c.self.view_is) at c.requires.judged)
+
+last : (g : Over) (c : After-of-before g) → c.args.to ≡ c.args.from + (c.args.to - c.args.from)
+last g c = omega (arith, c.requires.order)
+
+records_are : (g : Over) (c : After-of-before g) → c.args.punch.records ≡ punch_records c.args.key.ino (given g c).at.file.kept.stubs (from_on c.args.from (c.args.to - c.args.from))
+records_are g c =
+    let at = (given g c).at in
+    (rw (← c.self.view_is) at c.requires.records) ∙ ap (λ (kept : Kept). punch_records c.args.key.ino kept.stubs (from_on c.args.from (c.args.to - c.args.from))) (kept_is c.self.inside.meta.current c.args.key at.file at.found)
+
+freed_are : (g : Over) (c : After-of-before g) → c.args.punch.freed.items ≡ present (take (16 * (c.args.to - c.args.from)) (drop (16 * c.args.from) (given g c).at.file.places))
+freed_are g c = let at = (given g c).at in (rw (← c.self.view_is) at c.requires.freed) at.file at.found
+
+pub apply-requires-clause-event : goal.apply-requires-clause-event
+apply-requires-clause-event g c = let at = (goal.at.apply-requires-clause-event g c).After-of-before in subst IsEvent (sym (records_are g at)) (event g.D.Disk _ _ _ _ _ (given g at) (last g at))
+
+pub apply-requires-clause-stand : goal.apply-requires-clause-stand
+apply-requires-clause-stand g c =
+    let at = (goal.at.apply-requires-clause-stand g c).After-of-before in subst (λ rs. CanStandAll rs c.self.inside.meta.current) (sym (records_are g at)) (are_going g.D.Disk _ _ _ _ _ (given g at) (last g at)).stand
+
+pub apply-requires-clause-lengths : goal.apply-requires-clause-lengths
+apply-requires-clause-lengths g c =
+    let at = (goal.at.apply-requires-clause-lengths g c).After-of-before in subst (λ rs. AreLengths (after_all rs c.self.inside.meta.current)) (sym (records_are g at)) (lengths g.D.Disk _ _ _ _ _ (given g at) (last g at))
+
+-- ---- once they are taken
+
+pub slot-requires : goal.slot-requires
+slot-requires g c = (given g (goal.at.slot-requires g c).After-of-before).at.low
+
+pub index_mut-requires : goal.index_mut-requires
+index_mut-requires g c = let at = (given g (goal.at.index_mut-requires g c).After-of-before).at in omega (arith, c.slot.ensures, at.low, at.high)
+
+body_is : (g : Over) (c : After-index_mut g) → c.index_mut.result.now ≡ get_or c.self.inside.bodies.items (c.args.key.ino - 1) no_body
+body_is g c =
+    let at = (given g (goal.at.After-index_mut g c).After-of-before).at in
+    get_or_read c.self.inside.bodies.items (c.args.key.ino - 1) c.index_mut.result.now (omega (arith, at.low, at.high)) (rw c.slot.ensures at c.index_mut.ensures.value) no_body
+
+pub leave-requires-clause-within : goal.leave-requires-clause-within
+leave-requires-clause-within g c =
+    let at = goal.at.leave-requires-clause-within g c in
+    let x = given g at.After-of-before in
+    rw (body_is g at.After-index_mut, (is-body _ _ x.files c.args.key x.at).size) x.start
+
+taken : (g : Over) (c : After-leave g) → IsDone g.D.Disk (parts g (goal.at.After-leave g c).After-of-before) c.args.number (record (held_with c.self.inside.bodies.items c.self.inside.meta.current) { files = affected_held (Punches c.args.from c.args.to) c.args.key (held_with c.self.inside.bodies.items c.self.inside.meta.current).files })
+    (after_event (parts g (goal.at.After-leave g c).After-of-before) c.apply.new.disk c.apply.new.self c.in-Ok.wrote (set c.self.inside.bodies.items c.slot.result c.leave.new.self) (unmarked c.args.punch.freed.items c.self.inside.space.current) c.self.inside.space.current true)
+taken g c =
+    let at = goal.at.After-leave g c in
+    let x = given g at.After-of-before in
+    let old : HeldBody = get_or c.self.inside.bodies.items (c.args.key.ino - 1) no_body in
+    let bytes : c.leave.new.self.bytes ≡ zeroed c.args.from c.args.to old.bytes = rw (body_is g at.After-index_mut) at c.leave.ensures.bytes in
+    let away : (j : ℕ) → is_away c.leave.new.self j ≡ (is_away old j || (nat_le c.args.from j && nat_lt j c.args.to && nat_lt (65536 * j) (length old.bytes))) =
+    λ j. rw (body_is g at.After-index_mut) at c.leave.ensures.away j in
+    let it =
+    gone g.D.Disk _ _ _ _ _ x (last g at.After-of-before) c.leave.new.self bytes away c.apply.new.disk c.apply.new.self c.args.number c.in-Ok.wrote (λ e. c.in-Ok.ensures.wrote e, λ e. c.in-Ok.ensures.staged e) (c.in-Ok.ensures.taken.current ∙ ap (λ rs. after_all rs c.self.inside.meta.current) (records_are g at.After-of-before))
+    c.in-Ok.ensures.lawful c.in-Ok.ensures.backs c.apply.ensures.any_moment in
+    rw (c.slot.ensures, freed_are g at.After-of-before) it
+
+pub release_all-requires : goal.release_all-requires
+release_all-requires g c =
+    let at = (goal.at.release_all-requires g c).After-of-before in rw (c.deref.ensures.value, c.make_durable.ensures.blocks, freed_are g at) (freed_within g.D.Disk _ _ _ _ _ (given g at) (last g at))
+
+pub invariant_of-self : goal.invariant_of-self
+invariant_of-self g c =
+    let is = taken g (goal.at.invariant_of-self g c).After-leave in
+    rw (c.release_all.ensures, c.deref.ensures.value, c.make_durable.ensures.blocks, c.make_durable.ensures.bodies, c.of-before.ensures) (is.files, is.sound)
+
+pub returns-in-Ok-clause-held : goal.returns-in-Ok-clause-held
+returns-in-Ok-clause-held g c = rw (← c.self.view_is) (taken g (goal.at.returns-in-Ok-clause-held g c).After-leave).held
+
+pub returns-in-Ok-clause-proceeds : goal.returns-in-Ok-clause-proceeds
+returns-in-Ok-clause-proceeds g c =
+    rw (c.release_all.ensures, c.deref.ensures.value, c.make_durable.ensures.blocks, c.make_durable.ensures.bodies, c.of-before.ensures, ← c.self.view_is) (taken g (goal.at.returns-in-Ok-clause-proceeds g c).After-leave).proceeds
+
+-- ---- where they aren't
+
+pub returns-in-Err-clause-no_part : goal.returns-in-Err-clause-no_part
+returns-in-Err-clause-no_part g c = λ why is.
+    let at = (goal.at.returns-in-Err-clause-no_part g c).After-of-before in
+    let part = (refused_as_is c.in-Err.refusal).0 why (sym c.from.ensures ∙ cc) in
+    let some = (c.in-Err.ensures.refused why).0 (ap (λ e. Err e) part) in
+    let none = ap (λ rs. refusal_of_all rs c.self.inside.meta.current) (records_are g at) ∙ (are_going g.D.Disk _ _ _ _ _ (given g at) (last g at)).passed in
+    cc
+
+pub returns-in-Err-clause-proceeds : goal.returns-in-Err-clause-proceeds
+returns-in-Err-clause-proceeds g c =
+    let working = ap (λ s. s.failed) c.self.view_is ∙ c.requires.working in
+    rw (c.in-Err.ensures.err, ← c.self.view_is) (kept_proceeds g.D.Disk _ c.self.invariant.1.meta (c.self.invariant.1.live working) c.args.number _ c.apply.ensures.any_moment refl refl)

@@ -1,0 +1,40 @@
+use Rattle.file_store.proofs.Names.{rules, ◌≡◌, ◌*◌, ◌<◌, sym, ◌∙◌, ap, min, length, bytes_of, affected_held, Err, None, FileState, List}
+use Rattle.hsm_types.specs.Segments.{segments_in}
+use Rattle.hsm_types.specs.Stubs.{any_unpunched}
+use Rattle.plain_model.specs.Effects.{Punches}
+use Rattle.plain_model.specs.Services.{kept_of}
+use Rattle.file_store.specs.declared.refusal.StoreRefusal.TheVariants as store
+use Rattle.file_store.proofs.PunchEnds.{punch_end}
+use Rattle.file_store.proofs.PunchRuns.{on_ok, so_ok}
+use Rattle.file_store.proofs.WithBodies.{live-held}
+use Rattle.file_store.proofs.store.FileStore.punch.Given.{Over}
+use Rattle.file_store.proofs.store.FileStore.punch.Goals.{After-min-end}
+use Rattle.file_store.proofs.store.FileStore.punch.Goals as goal
+
+end_is : (g : Over) (c : After-min-end g) → c.min-end.result ≡ min c.args.to (segments_in (length (bytes_of c.args.key c.args.self.now.held.files)))
+end_is g c = let least : c.min-end.result ≡ min c.args.to c.segments_in.result = search rules in least ∙ ap (min c.args.to) (c.segments_in.ensures.count ∙ ap segments_in (c.len.ensures.len ∙ ap length c.body.ensures.bytes))
+
+pub returns-in_err-punch-clause-refused : goal.returns-in_err-punch-clause-refused
+returns-in_err-punch-clause-refused g c = λ why is.
+    let at = (goal.at.returns-in_err-punch-clause-refused g c).After-min-end in
+    let part : c.in_err-punch.field-0.0 ≡ store.Part why = search rules in
+    rw (c.inode-ino.ensures.kept, ← end_is g at, ← c.self.view_is, ← c.catalog.ensures.catalog) (c.in_err-punch.ensures.refused why (ap (λ e. Err e) part))
+
+pub returns-clause-judged : goal.returns-clause-judged
+returns-clause-judged g c =
+    let at = (goal.at.returns-clause-judged g c).After-min-end in
+    let kept = kept_of c.args.key c.args.self.now.held.files in
+    let judged : any_unpunched kept.regions kept.stubs c.args.from (min c.args.to (segments_in (length (bytes_of c.args.key c.args.self.now.held.files)))) ≡ None =
+    rw (c.inode-ino.ensures.kept, ← end_is g at, ← c.self.view_is, ← c.catalog.ensures.catalog) c.in_ok-punch.ensures.judged in
+    on_ok c.let_go.result _ judged
+
+pub returns-clause-held : goal.returns-clause-held
+returns-clause-held g c =
+    let at = (goal.at.returns-clause-held g c).After-min-end in
+    let bs = c.self.inside.bodies.items in
+    let m = c.self.inside.meta in
+    let live = live-held bs m c.self.invariant.0 c.args.key (rw (← c.self.view_is) at c.requires.live) in
+    let ends : affected_held (Punches c.args.from c.min-end.result) c.args.key c.args.self.now.held.files ≡ affected_held (Punches c.args.from c.args.to) c.args.key c.args.self.now.held.files =
+    rw (← c.self.view_is) (punch_end bs m c.self.invariant.0 c.args.key live c.args.from c.args.to c.min-end.result (rw (← c.self.view_is) at c.requires.start) (rw (← c.self.view_is) at (end_is g at))) in
+    so_ok c.let_go.result _ _ c.let_go.ensures.held
+    (λ (is : c.let_go.new.self.held ≡ record c.settle.new.self.held { files = affected_held (Punches c.args.from c.min-end.result) c.args.key c.settle.new.self.held.files }). (rw c.settle.ensures.held at is) ∙ ap (λ (fs : List FileState). record c.args.self.now.held { files = fs }) ends)

@@ -1,0 +1,146 @@
+-- How calls that change a file's segments are served.
+use Rattle.std.proofs.Common.{◌≡◌, ℕ, min, List, [], ◌∷◌, length, Bool, true, false, Option, Some, None, refl, sym, ◌∙◌, ap, subst, arith}
+use Rattle.std.proofs.lemmas.Bool.{eqb-true}
+use Rattle.std.proofs.lemmas.Slice.Eq.{bytes_eq-Decides}
+use Rattle.std.specs.Prelude.{◌&&◌, ◌==◌, Result, Ok, Err, OnOk, IsErrOf, IfSome, if◌then◌else◌}
+use Rattle.std.specs.List.{AllByRecursion}
+use Rattle.std.specs.Str.{bytes_eq}
+use Rattle.disk_model.specs.Calls.{Rose}
+use Rattle.disk_model.specs.declared.device.Disk as disk
+use Rattle.hsm_types.specs.Refusals.{first_refusal}
+use Rattle.hsm_types.specs.Segments.{segment_len, segments_in}
+use Rattle.hsm_types.specs.Stubs.{FitsFile, print_of, stub_at, already_offline, not_offline, too_many_stubs, any_unpunched, sealing_refusal, restoring_refusal}
+use Rattle.hsm_types.specs.declared.keys.FileKey.{FileKey}
+use Rattle.hsm_types.specs.declared.stores.Superblock.{Superblock}
+use Rattle.hsm_types.specs.declared.stubs.Fingerprint.{Fingerprint}
+use Rattle.hsm_types.specs.declared.stubs.Stub.{Stub}
+use Rattle.hsm_types.specs.declared.stubs.StubEntry.{StubEntry}
+use Rattle.hsm_types.specs.declared.dm.DmCall.{DmCall}
+use Rattle.hsm_types.specs.declared.dm.DmRefusal.{DmRefusal}
+use Rattle.hsm_types.specs.declared.dm.DmReply.TheVariants as reply
+use Rattle.plain_model.specs.Effects.{Effect, Restores, OfFile, change_of, punch_from, punch_to}
+use Rattle.plain_model.specs.Keyed.{find_key}
+use Rattle.plain_model.specs.Plain.{segment}
+use Rattle.plain_model.specs.Segments.{past_end, bad_volume, bad_punch, away, changed_bytes, changed_from, no_room, same_print, punch_refusal, seal_refusal, restore_refusal}
+use Rattle.plain_model.specs.Services.{kept_of}
+use Rattle.plain_model.specs.State.{FileState, Held, file_or_new, bytes_of, affected_held}
+use Rattle.plain_model.proofs.Judged.{none_first}
+use Rattle.meta_store.proofs.StubLists.{each-at}
+use Rattle.stub_map.specs.States.{state_of}
+use Rattle.stub_map.specs.declared.stubs.State.TheVariants.{Sealed, Offline as Away}
+use Rattle.file_store.specs.declared.refusal.StoreRefusal.{StoreRefusal}
+use Rattle.file_store.specs.declared.refusal.StoreRefusal.TheVariants.{Part, Disk, Memory}
+use Rattle.file_store.specs.Stores.{Store as FileStore, IsLawful, IsStubbed, Proceeds}
+use Rattle.hsm_core.specs.Services.{anybody, service_on, told_where, held_where, replies_to, IsServed}
+use Rattle.hsm_core.proofs.Refusing.{passes, alone}
+
+-- ---- fingerprints
+
+pub print_itself : (a b : Fingerprint) → a ≡ b → same_print a b ≡ true
+print_itself a b same = subst (λ (x : Fingerprint). same_print a x ≡ true) same (rw ((bytes_eq-Decides a.digest.0 a.digest.0).1 refl) (by a.len))
+  where
+    by : (n : ℕ) → ((n == n) && true) ≡ true
+    by n = grind arith
+
+same_if : (a b : Fingerprint) (len digest : Bool) → (a.len == b.len) ≡ len → bytes_eq a.digest.0 b.digest.0 ≡ digest → (a ≡ b → ⊥) → (len && digest) ≡ false
+same_if a b true true len digest apart =
+    let lens : a.len ≡ b.len = eqb-true a.len b.len len in
+    let digests : a.digest.0 ≡ b.digest.0 = (bytes_eq-Decides a.digest.0 b.digest.0).0 digest in
+    absurd (apart (λ i. record { len = lens i; digest = record { 0 = digests i } }))
+same_if a b true false len digest apart = refl
+same_if a b false digest len is apart = refl
+
+pub print_apart : (a b : Fingerprint) → (a ≡ b → ⊥) → same_print a b ≡ false
+print_apart a b apart = same_if a b (a.len == b.len) (bytes_eq a.digest.0 b.digest.0) refl refl apart
+
+-- ---- the bytes of a segment that comes back
+
+each_held : (P : FileState → Type 0) (k : FileKey) (f : FileState) (fs : List FileState) → AllByRecursion P fs → find_key (λ x. x.key) k fs ≡ Some f → P f
+each_held P k f [] each found = cc
+each_held P k f (x ∷ fs) each found = grind (arith, each.0, each_held P k f fs each.1)
+
+stubbed_file : (k : FileKey) (fs : List FileState) (j : ℕ) (stub : Stub) (found : Option FileState) → find_key (λ x. x.key) k fs ≡ found → AllByRecursion IsStubbed fs → stub_at j (file_or_new k found).kept.stubs ≡ Some stub
+    → FitsFile (length (file_or_new k found).body) (file_or_new k found).kept.regions (j, stub)
+stubbed_file k fs j stub None is each at = absurd cc
+stubbed_file k fs j stub (Some f) is each at = each-at (FitsFile (length f.body) f.kept.regions) f.kept.stubs j stub (each_held IsStubbed k f fs each is).each at
+
+-- an entry has the length of its segment
+pub entry_len : (limit : ℕ) (h : Held) (k : FileKey) (j : ℕ) → IsLawful limit h → IfSome (stub_at j (kept_of k h.files).stubs) (λ stub. stub.entry.print.len ≡ segment_len (length (bytes_of k h.files)) j)
+entry_len limit h k j lawful = by (stub_at j (kept_of k h.files).stubs) refl
+  where
+    by : (o : Option Stub) → stub_at j (kept_of k h.files).stubs ≡ o → IfSome o (λ stub. stub.entry.print.len ≡ segment_len (length (bytes_of k h.files)) j)
+    by None at = tt
+    by (Some stub) at = (stubbed_file k h.files j stub (find_key (λ x. x.key) k h.files) refl lawful.stubs at).len
+
+-- so have the bytes that come back
+pub restored_len : (stub : Option Stub) (entry : StubEntry) (bytes : List ℕ) (n : ℕ) → state_of stub ≡ Away entry → IfSome stub (λ stub. stub.entry.print.len ≡ n) → entry.print ≡ print_of bytes → length bytes ≡ n
+restored_len None entry bytes n is len print = absurd cc
+restored_len (Some x) entry bytes n is len print = by x.offline is
+  where
+    by : (b : Bool) → (if b then Away x.entry else Sealed x.entry) ≡ Away entry → length bytes ≡ n
+    by true is = let same : x.entry ≡ entry = cc in ap (λ (p : Fingerprint). p.len) (sym print) ∙ ap (λ (e : StubEntry). e.print.len) (sym same) ∙ len
+    by false is = absurd cc
+
+-- ---- the answer to a change of a file
+
+-- the change is done, or its part refuses as the service does, or it fails
+pub record HasEnded {D : Type 0} (g : disk.Ghosts D) (old : FileStore D) (n : ℕ) (k : FileKey) (effect : Effect) (own : Option DmRefusal) (ended : Result Unit StoreRefusal) (new : FileStore D) : Type 0 where
+  pub judged : OnOk ended (own ≡ None)
+  pub refused : (why : DmRefusal) → ended ≡ Err (Part why) → own ≡ Some why
+  pub held : OnOk ended (new.held ≡ record old.held { files = affected_held effect k old.held.files })
+  pub working : OnOk ended (new.failed ≡ false)
+  pub unchanged : (why : DmRefusal) → IsErrOf ended (Part why) → new ≡ old
+  pub memory : IsErrOf ended Memory → (new.held ≡ old.held) × (new.failed ≡ false)
+  pub failed : IsErrOf ended Disk → (new.failed ≡ true) × Rose (g.fault_count old.disk) (g.fault_count new.disk)
+  pub proceeds : Proceeds g old n new
+
+pub change_served : {D : Type 0} (g : disk.Ghosts D) (old new : FileStore D) (n : ℕ) (call : DmCall) (k : FileKey) (effect : Effect) (ended : Result Unit StoreRefusal) → change_of anybody call ≡ OfFile k effect → (service_on old call).reply ≡ reply.Done
+    → old.failed ≡ false → HasEnded g old n k effect (service_on old call).refusal ended new → IsServed g old n call (replies_to ended) new
+change_served g old new n call k effect (Ok x) changes is_done works is = record {
+  replies = (sym (ap (λ why. told_where why (service_on old call).reply) is.judged ∙ is_done), sym (ap (λ why. told_where why (service_on old call).reply) is.judged ∙ is_done));
+  held = is.held ∙ (λ i. held_where (sym changes i) (sym is.judged i) old.held);
+  ends = record { working = is.working; memory = λ e. absurd cc; failed = λ e. absurd cc; no_part = λ why e. cc; proceeds = is.proceeds };
+}
+change_served g old new n call k effect (Err (Part why)) changes is_done works is =
+    let refuses = is.refused why refl in
+    let same = is.unchanged why refl in
+    record {
+      replies = (sym (ap (λ why. told_where why (service_on old call).reply) refuses), sym (ap (λ why. told_where why (service_on old call).reply) refuses));
+      held = ap (λ f. f.held) same ∙ (λ i. held_where (sym changes i) (sym refuses i) old.held);
+      ends = record { working = ap (λ f. f.failed) same ∙ works; memory = λ e. absurd cc; failed = λ e. absurd cc; no_part = λ why e. cc; proceeds = is.proceeds };
+    }
+change_served g old new n call k effect (Err Memory) changes is_done works is =
+    record { replies = tt; held = tt; ends = record { working = tt; memory = λ e. is.memory refl; failed = λ e. absurd cc; no_part = λ why e. cc; proceeds = is.proceeds } }
+change_served g old new n call k effect (Err Disk) changes is_done works is =
+    record { replies = tt; held = tt; ends = record { working = tt; memory = λ e. absurd cc; failed = λ e. is.failed refl; no_part = λ why e. cc; proceeds = is.proceeds } }
+
+-- ---- what is left to its part
+
+pub punch_left : (f : FileState) (offset len : ℕ) → bad_punch offset len (length f.body) ≡ None
+    → punch_refusal f offset len ≡ any_unpunched f.kept.regions f.kept.stubs (punch_from offset) (min (punch_to offset len) (segments_in (length f.body)))
+punch_left f offset len none =
+    let own : Option DmRefusal = any_unpunched f.kept.regions f.kept.stubs (punch_from offset) (min (punch_to offset len) (segments_in (length f.body))) in
+    passes (bad_punch offset len (length f.body)) (own ∷ []) none ∙ alone own
+
+seal_here : (f : FileState) (j : ℕ) (entry : StubEntry) → seal_refusal f j entry ≡ None → already_offline j (stub_at j f.kept.stubs) ≡ None
+seal_here f j entry none =
+    let change : Option DmRefusal = changed_bytes entry.print (segment j f.body) in
+    let past_start = none_first (past_end j (length f.body)) (bad_volume entry.volume ∷ away f j ∷ change ∷ []) none in
+    let past_volume = none_first (bad_volume entry.volume) (away f j ∷ change ∷ []) past_start.1 in
+    let past_away = none_first (away f j) (change ∷ []) past_volume.1 in
+    past_away.0
+
+pub seal_left : (f : FileState) (j : ℕ) (entry : StubEntry) (others limit : ℕ) → seal_refusal f j entry ≡ None
+    → first_refusal (seal_refusal f j entry ∷ too_many_stubs j others limit f.kept.stubs ∷ []) ≡ sealing_refusal j others limit f.kept.stubs
+seal_left f j entry others limit none =
+    let many : Option DmRefusal = too_many_stubs j others limit f.kept.stubs in
+    passes (seal_refusal f j entry) (many ∷ []) none ∙ sym (passes (already_offline j (stub_at j f.kept.stubs)) (many ∷ []) (seal_here f j entry none))
+
+-- nothing is: its part refuses what isn't offline, and that was refused before
+pub restore_left : (s : Superblock) (h : Held) (f : FileState) (j : ℕ) (bytes : List ℕ) → restore_refusal s h f j bytes ≡ None → restoring_refusal j f.kept.stubs ≡ None
+restore_left s h f j bytes none =
+    let stub : Option Stub = stub_at j f.kept.stubs in
+    let room : Option DmRefusal = no_room s h f (Restores j bytes) in
+    let past_start = none_first (past_end j (length f.body)) (not_offline j stub ∷ changed_from stub bytes ∷ room ∷ []) none in
+    let past_here = none_first (not_offline j stub) (changed_from stub bytes ∷ room ∷ []) past_start.1 in
+    past_here.0

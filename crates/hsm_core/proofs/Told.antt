@@ -1,0 +1,120 @@
+-- What is told of the segments of a file, and of all files.
+use Rattle.std.proofs.Common.{◌≡◌, ◌+◌, ◌-◌, ◌*◌, ℕ, zero, suc, min, List, [], ◌∷◌, ◌++◌, length, take, drop, map, Bool, true, false, Option, Some, None, refl, sym, ◌∙◌, ap, subst, arith}
+use Rattle.std.specs.Prelude.{count_by, is_some, if◌then◌else◌, slice_get}
+use Rattle.std.specs.Option.{option_map}
+use Rattle.hsm_types.specs.Segments.{from_on, segments_in}
+use Rattle.hsm_types.specs.Stubs.{Stubs, stub_at}
+use Rattle.hsm_types.specs.declared.keys.FileKey.{FileKey}
+use Rattle.hsm_types.specs.declared.stubs.Segment.{Segment}
+use Rattle.plain_model.specs.Keyed.{same_key, find_key}
+use Rattle.hsm_types.specs.declared.stores.Superblock.{Superblock}
+use Rattle.hsm_types.specs.declared.tables.FileRow.{FileRow}
+use Rattle.plain_model.specs.Segments.{segment_as, segments_told}
+use Rattle.plain_model.specs.Segments.{row_of as row_told}
+use Rattle.plain_model.specs.State.{FileState, Held, file_or_new, file_at}
+use Rattle.std.proofs.lemmas.List.{take-map, drop-map, map-append}
+use Rattle.meta_store.specs.Catalogs.{CatalogFile, Catalog}
+use Rattle.meta_store.proofs.LawfulStubs.{segment-window}
+use Rattle.file_store.specs.Stores.{Row, row_of, row_held, Shows}
+use Rattle.hsm_core.specs.Services.{IsMadeOf}
+
+-- ---- the segments of a file
+
+-- what is told of a segment, by the places of the file's blocks and its entries
+abbrev pub told_at : List (Option ℕ) → Stubs → ℕ → Segment
+told_at places stubs j = segment_as (count_by (λ b. b) (take 16 (drop (16 * j) (map is_some places)))) (stub_at j stubs)
+
+one_more : {A : Type 0} (to : ℕ → A) (a n : ℕ) → map to (from_on a (n + 1)) ≡ map to (from_on a n) ++ to (a + n) ∷ []
+one_more to a n = ap (λ m. map to (from_on a m)) (let is : n + 1 ≡ suc n = omega arith in is) ∙ by a n
+  where
+    by : (a n : ℕ) → map to (from_on a (suc n)) ≡ map to (from_on a n) ++ to (a + n) ∷ []
+    by a zero = ap (λ m. to m ∷ []) (let is : a ≡ a + zero = omega arith in is)
+    by a (suc n) = ap (λ rest. to a ∷ rest) (by (a + 1) n ∙ ap (λ m. map to (from_on (a + 1) n) ++ to m ∷ []) (let is : a + 1 + n ≡ a + suc n = omega arith in is))
+
+-- the segments up to the next one
+pub next_told : {A : Type 0} (to : ℕ → A) (n : ℕ) → map to (from_on 0 (n + 1)) ≡ map to (from_on 0 n) ++ to n ∷ []
+next_told to n = one_more to 0 n ∙ ap (λ m. map to (from_on 0 n) ++ to m ∷ []) (let at : 0 + n ≡ n = omega arith in at)
+
+pub told_so : (size : ℕ) (places : List (Option ℕ)) (stubs : Stubs) (f : FileState) → IsMadeOf size places stubs f → map (told_at places stubs) (from_on 0 (segments_in size)) ≡ segments_told f
+told_so size places stubs f made =
+    λ i. map (λ j. segment_as (count_by (λ b. b) (take 16 (drop (16 * j) (sym made.mapped i)))) (stub_at j (sym made.stubs i))) (from_on 0 (segments_in (sym made.size i)))
+
+-- ---- a file that the catalog lists
+
+-- rows that are alike stand for files alike
+abbrev pub IsRowOf : CatalogFile → FileState → Type 0
+IsRowOf c f = row_of c ≡ row_held f
+
+pub made_of_row : (c : CatalogFile) (f : FileState) → row_of c ≡ row_held f → IsMadeOf c.size c.places c.kept.stubs f
+made_of_row c f same = record { size = sym (ap (λ (r : Row). r.size) same); mapped = sym (ap (λ (r : Row). r.mapped) same); stubs = sym (ap (λ (r : Row). r.kept.stubs) same) }
+
+abbrev pub BothFound : Option CatalogFile → Option FileState → Type 0
+BothFound None None = Unit {0}
+BothFound (Some c) (Some f) = row_of c ≡ row_held f
+BothFound c f = ⊥
+
+found_first : (j k : FileKey) (c : CatalogFile) (f : FileState) (p : Option CatalogFile) (q : Option FileState) → j ≡ k → row_of c ≡ row_held f → BothFound p q → (w : FileKey) → BothFound (if same_key j w then Some c else p) (if same_key k w then Some f else q)
+found_first j k c f p q keys same later w = subst (λ x. BothFound (if same_key j w then Some c else p) (if same_key x w then Some f else q)) keys (by (same_key j w))
+  where
+    by : (b : Bool) → BothFound (if b then Some c else p) (if b then Some f else q)
+    by true = same
+    by false = later
+
+rows_found : (cs : List CatalogFile) (fs : List FileState) (k : FileKey) → map row_of cs ≡ map row_held fs → BothFound (find_key (λ c. c.key) k cs) (find_key (λ f. f.key) k fs)
+rows_found [] [] k same = tt
+rows_found [] (f ∷ fs) k same = absurd cc
+rows_found (c ∷ cs) [] k same = absurd cc
+rows_found (c ∷ cs) (f ∷ fs) k same =
+    let first : row_of c ≡ row_held f = cc in
+    let rest : map row_of cs ≡ map row_held fs = cc in
+    found_first c.key f.key c f (find_key (λ c. c.key) k cs) (find_key (λ f. f.key) k fs) (ap (λ (r : Row). r.key) first) first (rows_found cs fs k rest) k
+
+-- by what the catalog lends of the file
+pub made_of_parts : (c : Catalog) (h : Held) (k : FileKey) (places : List (Option ℕ)) (stubs : Stubs) → Shows c h → Some places ≡ option_map (λ f. f.places) (find_key (λ f. f.key) k c.files) → Some stubs ≡ option_map (λ f. f.kept.stubs) (find_key (λ f. f.key) k c.files)
+    → IsMadeOf (length (file_at k h.files).body) places stubs (file_at k h.files)
+made_of_parts c h k places stubs shows lent entries = by (find_key (λ f. f.key) k c.files) (find_key (λ f. f.key) k h.files) (rows_found c.files h.files k shows.rows) lent entries
+  where
+    by : (x : Option CatalogFile) (y : Option FileState) → BothFound x y → Some places ≡ option_map (λ f. f.places) x → Some stubs ≡ option_map (λ f. f.kept.stubs) x → IsMadeOf (length (file_or_new k y).body) places stubs (file_or_new k y)
+    by None y both lent entries = absurd cc
+    by (Some x) None both lent entries = absurd both
+    by (Some x) (Some y) both lent entries =
+        let at : places ≡ x.places = cc in
+        let has : stubs ≡ x.kept.stubs = cc in
+        let made = made_of_row x y both in
+        record { size = refl; mapped = made.mapped ∙ ap (map is_some) (sym at); stubs = made.stubs ∙ sym has }
+
+-- ---- the list of all files
+
+-- the file of a place in the catalog is that of the same place among those held
+pub row_at : (cs : List CatalogFile) (fs : List FileState) (i : ℕ) (c : CatalogFile) → map row_of cs ≡ map row_held fs → slice_get cs i ≡ Some c → (f : FileState) × (row_of c ≡ row_held f) × (take (i + 1) fs ≡ take i fs ++ f ∷ [])
+row_at [] fs i c same is = absurd cc
+row_at (x ∷ cs) [] i c same is = absurd cc
+row_at (x ∷ cs) (f ∷ fs) zero c same is = (f, (let first : row_of x ≡ row_held f = cc in let at : x ≡ c = cc in ap row_of (sym at) ∙ first), refl)
+row_at (x ∷ cs) (f ∷ fs) (suc i) c same is =
+    let rest : map row_of cs ≡ map row_held fs = cc in
+    let found = row_at cs fs i c rest is in
+    (found.0, found.1, (ap (λ n. take n (f ∷ fs)) (let more : suc i + 1 ≡ suc (i + 1) = omega arith in more) ∙ ap (λ r. f ∷ r) found.2))
+
+-- ---- the blocks of a segment
+
+-- its window of the places, cut at their end
+pub mapped_window : (j from to : ℕ) (places : List (Option ℕ)) → from ≡ min (16 * j) (length places) → to ≡ min (from + 16) (length places)
+    → count_by (λ b. b) (map is_some (take (to - from) (drop from places))) ≡ count_by (λ b. b) (take 16 (drop (16 * j) (map is_some places)))
+mapped_window j from to places first last =
+    let window : take (to - from) (drop from places) ≡ take 16 (drop (16 * j) places) = segment-window j from to places (omega (arith, first)) (omega (arith, last)) in
+    ap (λ ps. count_by (λ b. b) (map is_some ps)) window
+    ∙ ap (λ bs. count_by (λ b. b) bs) (sym (take-map is_some 16 (drop (16 * j) places)) ∙ ap (take 16) (sym (drop-map is_some (16 * j) places)))
+
+-- with the row of that file after those of the files before it
+pub row_more : {A : Type 0} (to : FileState → A) (fs : List FileState) (i : ℕ) (f : FileState) (rows more : List A) (row : A) → more ≡ rows ++ row ∷ [] → rows ≡ map to (take i fs) → row ≡ to f → take (i + 1) fs ≡ take i fs ++ f ∷ []
+    → more ≡ map to (take (i + 1) fs)
+row_more to fs i f rows more row put before same is = put ∙ (λ j. before j ++ same j ∷ []) ∙ sym (map-append to (take i fs) (f ∷ [])) ∙ ap (map to) (sym is)
+
+pub row_same : (super : Superblock) (stamps : FileKey → ℕ) (c : CatalogFile) (f : FileState) (row : FileRow) → row_of c ≡ row_held f → row.handle ≡ record { fsid = super.fsid; key = c.key } → row.size ≡ c.size → row.stamp ≡ stamps c.key → row.segments ≡ segments_told f
+    → row ≡ row_told super stamps f
+row_same super stamps c f row same handle size stamp segments =
+    let key : c.key ≡ f.key = ap (λ (r : Row). r.key) same in
+    let handles : row.handle ≡ record { fsid = super.fsid; key = f.key } = handle ∙ (λ i. record { fsid = super.fsid; key = key i }) in
+    let sizes : row.size ≡ length f.body = size ∙ ap (λ (r : Row). r.size) same in
+    let stamped : row.stamp ≡ stamps f.key = stamp ∙ ap stamps key in
+    λ i. record { handle = handles i; size = sizes i; stamp = stamped i; segments = segments i }

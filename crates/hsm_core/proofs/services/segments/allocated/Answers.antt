@@ -1,0 +1,22 @@
+use Rattle.std.proofs.Common.{ℕ, List, length, sym, ◌∙◌, ap, subst}
+use Rattle.std.specs.Prelude.{IfOk}
+use Rattle.hsm_types.specs.declared.dm.DmReply.TheVariants as reply
+use Rattle.hsm_types.specs.declared.stubs.Segment.{Segment}
+use Rattle.plain_model.specs.State.{file_at}
+use Rattle.meta_store.specs.Catalogs.{Catalog}
+use Rattle.meta_store.specs.Meta.{Meta}
+use Rattle.dm_service.specs.Services.{AreBoth}
+use Rattle.file_store.specs.Stores.{Shows}
+use Rattle.hsm_core.specs.Services.{IsMadeOf}
+use Rattle.hsm_core.proofs.Told.{made_of_parts}
+use Rattle.hsm_core.proofs.services.segments.allocated.Goals as goal
+
+pub returns : goal.returns
+returns g c =
+    let catalog : Catalog = c.catalog-catalog.result.now in
+    let shows : Shows catalog c.args.files.now.held = subst (λ (x : Catalog). Shows x c.args.files.now.held) (sym (c.catalog-catalog.ensures.catalog ∙ ap (λ (m : Meta). m.current) c.meta.ensures.meta)) c.meta.ensures.shows in
+    let made = made_of_parts catalog c.args.files.now.held c.args.handle.key c.unwrap-places.result.now c.unwrap-stubs.result.now shows (rw c.unwrap-places.ensures at c.places.ensures) (rw c.unwrap-stubs.ensures at c.stubs.ensures) in
+    subst (λ (told : List Segment). IfOk c.twice.result (λ r. AreBoth (reply.Alloc told) r))
+    (c.in_ok-segments_of.ensures (file_at c.args.handle.key c.args.files.now.held.files)
+    (subst (λ (n : ℕ). IsMadeOf n c.unwrap-places.result.now c.unwrap-stubs.result.now (file_at c.args.handle.key c.args.files.now.held.files)) (sym (c.len-size.ensures.len ∙ ap length c.body.ensures.bytes)) made))
+    c.twice.ensures

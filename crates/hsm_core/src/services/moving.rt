@@ -1,0 +1,231 @@
+//! Calls by which the bytes of a live file's segments go away and come back.
+ghost use Rattle.std.specs.Prelude.{◌≡◌, ◌+◌, ◌*◌, ◌<◌, ◌≤◌, ◌⊎◌, false, true, Some, IsSome, OnOk, length};
+ghost use Rattle.hsm_types.specs.Calls.{scope_of};
+ghost use Rattle.hsm_types.specs.Messages.{no_token};
+ghost use Rattle.hsm_types.specs.declared.limits.TheConstants.{FILE_BYTES};
+ghost use Rattle.hsm_types.specs.declared.dm.DmCall.TheVariants.{PunchHole, Seal, Restore};
+ghost use Rattle.plain_model.specs.Effects.{Restores, punch_from, punch_to};
+ghost use Rattle.plain_model.specs.Blocks.{touched};
+ghost use Rattle.plain_model.specs.Keyed.{find_key};
+ghost use Rattle.plain_model.specs.Segments.{bad_volume, ends_well, bad_punch, seal_refusal, restore_refusal};
+ghost use Rattle.plain_model.specs.State.{file_at, bytes_of, used};
+ghost use Rattle.file_store.specs.Stores.{superblock_of, Proceeds};
+ghost use Rattle.dm_service.specs.Services.{Judges};
+ghost use Rattle.hsm_core.specs.Services.{IsInScope, IsServed, moves_segments};
+
+use crate::services::ranges::{judge_print, judge_room, judge_segment, segments_in, state};
+use crate::services::replies::{changed, refused};
+use disk_model::Disk;
+use file_body::touched_by_restore;
+use file_store::{FileStore, StoreRefusal};
+use hsm_types::{
+    DmCall, DmRefusal, DmReply, FILE_BYTES, FileKey, Handle, LAST_VOLUME, SEGMENT_BYTES, StubEntry,
+    Verified,
+};
+use std::alloc::Global;
+use stub_map::State;
+
+/// Whether the call is one of these.
+pub(crate) fn moves_segments(call: &DmCall) -> bool
+    ensures { result ≡ moves_segments call.now }
+{
+    matches!(
+        call,
+        DmCall::PunchHole { .. } | DmCall::Seal { .. } | DmCall::Restore { .. }
+    )
+}
+
+/// Serves one that its scope doesn't refuse.
+pub(crate) fn serve<D: Disk>(
+    files: &mut FileStore<D>,
+    alloc: Global,
+    call: &DmCall,
+    number: u64,
+) -> Result<(DmReply, DmReply), StoreRefusal>
+    requires working { files.old.failed ≡ false }
+    requires idle { Proceeds D.Disk files.old number files.old }
+    requires moves { moves_segments call.now ≡ true }
+    requires within { IsInScope files.old.held.files (scope_of call.now) }
+    ensures { IsServed D.Disk files.old number call.now result files.new }
+{
+    match call {
+        DmCall::PunchHole {
+            handle,
+            offset,
+            len,
+            ..
+        } => punch(files, alloc, *handle, *offset, *len, number),
+        DmCall::Seal {
+            handle,
+            segment,
+            entry,
+            ..
+        } => seal(files, alloc, *handle, *segment, *entry, number),
+        DmCall::Restore {
+            handle,
+            segment,
+            bytes,
+            ..
+        } => restore(files, alloc, *handle, *segment, bytes, number),
+        _ => unreachable!(),
+    }
+}
+
+/// Gives up the bytes of sealed segments.
+fn punch<D: Disk>(
+    files: &mut FileStore<D>,
+    alloc: Global,
+    handle: Handle,
+    offset: u64,
+    len: u64,
+    number: u64,
+) -> Result<(DmReply, DmReply), StoreRefusal>
+    requires working { files.old.failed ≡ false }
+    requires live { IsSome (find_key (λ f. f.key) handle.key files.old.held.files) }
+    requires idle { Proceeds D.Disk files.old number files.old }
+    ensures { IsServed D.Disk files.old number (PunchHole no_token handle offset len) result files.new }
+{
+    let size = files.body(handle.key).len();
+    if let Err(why) = judge_punch(offset, len, size) {
+        return Ok(refused(why));
+    }
+    let from = (offset / SEGMENT_BYTES) as u32;
+    let to = punched_to(offset, len);
+    changed(files.punch(alloc, handle.key, from, to, number))
+}
+
+/// A punch begins at a segment of a file of that size, and ends at one, or with the file.
+fn judge_punch(offset: u64, len: u64, size: u64) -> Result<(), DmRefusal>
+    requires { size ≤ FILE_BYTES }
+    ensures judged { Judges result (bad_punch offset len size) }
+    ensures start { OnOk result (65536 * punch_from offset < size) }
+    ensures end { OnOk result (len ≡ 0 ⊎ offset + len ≤ FILE_BYTES) }
+{
+    let begins = offset % SEGMENT_BYTES == 0 && offset < size;
+    if begins && ends_well(offset, len, size) {
+        Ok(())
+    } else {
+        Err(DmRefusal::BadRange)
+    }
+}
+
+/// Whether it ends so.
+fn ends_well(offset: u64, len: u64, size: u64) -> bool
+    requires { size ≤ FILE_BYTES }
+    ensures judged { result ≡ ends_well offset len size }
+    ensures end { result ≡ true → len ≡ 0 ⊎ offset + len ≤ FILE_BYTES }
+{
+    if len == 0 {
+        return true;
+    }
+    match offset.checked_add(len) {
+        Some(end) => end <= FILE_BYTES && (end % SEGMENT_BYTES == 0 || end == size),
+        None => false,
+    }
+}
+
+/// The segment behind the last one that a punch is of, as far as the file has it.
+fn punched_to(offset: u64, len: u64) -> u32
+    requires { len ≡ 0 ⊎ offset + len ≤ FILE_BYTES }
+    ensures { result ≡ punch_to offset len }
+{
+    if len == 0 {
+        segments_in(FILE_BYTES)
+    } else {
+        segments_in(offset + len)
+    }
+}
+
+/// Says where a copy of the segment's bytes lies.
+fn seal<D: Disk>(
+    files: &mut FileStore<D>,
+    alloc: Global,
+    handle: Handle,
+    segment: u32,
+    entry: StubEntry,
+    number: u64,
+) -> Result<(DmReply, DmReply), StoreRefusal>
+    requires working { files.old.failed ≡ false }
+    requires live { IsSome (find_key (λ f. f.key) handle.key files.old.held.files) }
+    requires idle { Proceeds D.Disk files.old number files.old }
+    ensures { IsServed D.Disk files.old number (Seal no_token handle segment entry) result files.new }
+{
+    if let Err(why) = judge_seal(files, handle.key, segment, entry) {
+        return Ok(refused(why));
+    }
+    changed(files.seal(alloc, handle.key, segment, entry, number))
+}
+
+/// What refuses it, but for the limit of entries. The bytes are read once, where they are.
+#[tactic(auto, using(crate::proofs::Refusing::passes, crate::proofs::Refusing::stops))]
+fn judge_seal<D: Disk>(
+    files: &FileStore<D>,
+    key: FileKey,
+    segment: u32,
+    entry: StubEntry,
+) -> Result<(), DmRefusal>
+    requires { IsSome (find_key (λ f. f.key) key files.now.held.files) }
+    ensures judged { Judges result (seal_refusal (file_at key files.now.held.files) segment entry) }
+    ensures start { OnOk result (65536 * segment < length (bytes_of key files.now.held.files)) }
+    ensures volume { OnOk result (entry.volume ≤ 255) }
+{
+    judge_segment(files, key, segment)?;
+    judge_volume(entry.volume)?;
+    if let State::Offline(_) = state(files, key, segment) {
+        return Err(DmRefusal::Offline { segment });
+    }
+    judge_print(entry.print, files.digest_segment(key, segment))
+}
+
+fn judge_volume(volume: u32) -> Result<(), DmRefusal>
+    ensures judged { Judges result (bad_volume volume) }
+    ensures volume { OnOk result (volume ≤ 255) }
+{
+    if volume <= LAST_VOLUME {
+        Ok(())
+    } else {
+        Err(DmRefusal::BadRange)
+    }
+}
+
+/// Brings the bytes of a segment back.
+fn restore<D: Disk>(
+    files: &mut FileStore<D>,
+    alloc: Global,
+    handle: Handle,
+    segment: u32,
+    bytes: &Verified,
+    number: u64,
+) -> Result<(DmReply, DmReply), StoreRefusal>
+    requires working { files.old.failed ≡ false }
+    requires live { IsSome (find_key (λ f. f.key) handle.key files.old.held.files) }
+    requires idle { Proceeds D.Disk files.old number files.old }
+    ensures { IsServed D.Disk files.old number (Restore no_token handle segment bytes.now) result files.new }
+{
+    if let Err(why) = judge_restore(files, handle.key, segment, bytes) {
+        return Ok(refused(why));
+    }
+    changed(files.restore(alloc, handle.key, segment, bytes, number))
+}
+
+/// What refuses it. The bytes aren't read: they come with their fingerprint.
+#[tactic(auto, using(crate::proofs::Refusing::passes, crate::proofs::Refusing::stops))]
+fn judge_restore<D: Disk>(
+    files: &FileStore<D>,
+    key: FileKey,
+    segment: u32,
+    bytes: &Verified,
+) -> Result<(), DmRefusal>
+    requires { IsSome (find_key (λ f. f.key) key files.now.held.files) }
+    ensures judged { Judges result (restore_refusal (superblock_of files.now) files.now.held (file_at key files.now.held.files) segment bytes.now) }
+    ensures start { OnOk result (65536 * segment < length (bytes_of key files.now.held.files)) }
+    ensures room { OnOk result (length (touched (Restores segment bytes.now) (length (bytes_of key files.now.held.files))) + used files.now.held.files ≤ (superblock_of files.now).geometry.blocks) }
+{
+    judge_segment(files, key, segment)?;
+    let State::Offline(entry) = state(files, key, segment) else {
+        return Err(DmRefusal::NotOffline { segment });
+    };
+    judge_print(entry.print, bytes.fingerprint())?;
+    let len = bytes.as_slice().len() as u64;
+    judge_room(files, touched_by_restore(segment, len).count())
+}
