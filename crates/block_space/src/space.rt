@@ -1,5 +1,5 @@
 //! The blocks of a disk.
-ghost use Rattle.std.specs.Prelude.{◌≡◌, ℕ, ◌<◌, ◌≤◌, length, take, replicate, false, IfOk, IsOk, IsErrOf, OnOk, OnErr, slice_set};
+ghost use Rattle.std.specs.Prelude.{◌≡◌, ℕ, ◌<◌, ◌≤◌, length, nat_le, take, replicate, false, IfOk, IsOk, IsErrOf, OnOk, OnErr, slice_set};
 ghost use Rattle.std.specs.List.{All};
 ghost use Rattle.block_space.specs.Space.{marked, unmarked, free};
 
@@ -61,6 +61,14 @@ impl BlockSpace {
         ensures durable { result ≡ length self.now.durable }
     {
         self.current.len() as u32
+    }
+
+    /// Whether so many blocks are free, which neither map uses. It costs a walk from the lowest block that may be free up to the last that is counted.
+    pub fn has_free(&self, count: u32) -> bool
+        ensures { result ≡ nat_le count (length (free self.now)) }
+    {
+        let (current, durable) = (self.current.as_slice(), self.durable.as_slice());
+        flags::count_free(current, durable, self.low, count as usize) == count as usize
     }
 
     /// Takes the `n` lowest blocks that neither map uses: the current map uses them from then on.

@@ -1,5 +1,5 @@
 -- Segments, and the bytes that they are one after the other.
-use Rattle.std.proofs.Common.{◌≡◌, ℕ, min, ◌⊎◌, inl, inr, length-take, zero, suc, ◌+◌, ◌-◌, ◌*◌, ◌<◌, ◌≤◌, List, [], ◌∷◌, ◌++◌, length, take, drop, set, get_or, ⊎_elim, refl, sym, ◌∙◌, ap, arith, rules, add-one, append_assoc, length-append, length-set, length-take-le, get_or-set_same, get_or-set_other}
+use Rattle.std.proofs.Common.{◌≡◌, ℕ, min, ◌⊎◌, inl, inr, length-take, zero, suc, ◌+◌, ◌-◌, ◌*◌, ◌/◌, ◌%◌, ◌<◌, ◌≤◌, List, [], ◌∷◌, ◌++◌, length, take, drop, set, get_or, ⊎_elim, refl, sym, ◌∙◌, ap, arith, rules, add-one, append_assoc, length-append, length-set, length-take-le, get_or-set_same, get_or-set_other}
 use Rattle.std.specs.Prelude.{replicate}
 use Rattle.std.specs.List.{concat}
 use Rattle.std.proofs.Math.Nat.{mul-le-mul_right}
@@ -209,6 +209,21 @@ segment_bytes size ss cut i h =
     (λ (g : length ss ≤ i + 1). inr (ap concat (drop_all (i + 1) ss g), cut.most i h))
     (cases_lt (i + 1) (length ss)))
     ∙ ap (take size) (sym from)
+
+-- where the bytes are full segments, each is full
+pub all_full : (ss : List (List ℕ)) → IsCut 65536 ss → length (concat ss) % 65536 ≡ 0 → (i : ℕ) → i < length ss → length (get_or ss i []) ≡ 65536
+all_full ss cut whole i h =
+    ⊎_elim (λ (l : i + 1 < length ss). cut.full i l)
+    (λ (g : length ss ≤ i + 1). omega (arith, whole, length_to_last 65536 ss cut i (omega arith), cut.some i h, cut.most i h))
+    (cases_lt (i + 1) (length ss))
+
+-- and there are as many as the bytes fill
+pub count_full : (ss : List (List ℕ)) → IsCut 65536 ss → length (concat ss) % 65536 ≡ 0 → length (concat ss) / 65536 ≡ length ss
+count_full ss cut whole =
+    ⊎_elim
+    (λ (some : 0 < length ss). let last : ℕ = length ss - 1 in omega (arith, length_to_last 65536 ss cut last (omega arith), all_full ss cut whole last (omega arith)))
+    (λ (no : length ss ≤ 0). omega (arith, length_most 65536 ss cut))
+    (cases_lt 0 (length ss))
 
 -- as many bytes are as many segments
 pub same_count : (a b : List (List ℕ)) → IsCut 65536 a → IsCut 65536 b → length (concat a) ≡ length (concat b) → length a ≡ length b

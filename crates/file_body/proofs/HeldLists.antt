@@ -1,15 +1,16 @@
 -- Held segments: their bytes, and which of them are away.
-use Rattle.std.proofs.Common.{◌≡◌, ℕ, zero, suc, ◌+◌, ◌-◌, ◌*◌, ◌/◌, ◌<◌, ◌≤◌, ◌==◌, ◌&&◌, ◌||◌, nat_lt, nat_le, min, if◌then◌else◌, Bool, true, false, List, [], ◌∷◌, ◌++◌, length, take, set, get_or, refl, sym, ◌∙◌, ap, ⊎_elim, arith, length-take, get_or-set_same, get_or-set_other}
+use Rattle.std.proofs.Common.{◌≡◌, ℕ, zero, suc, ◌+◌, ◌-◌, ◌*◌, ◌/◌, ◌<◌, ◌≤◌, ◌==◌, ◌&&◌, ◌||◌, nat_lt, nat_le, min, if◌then◌else◌, Bool, true, false, List, [], ◌∷◌, ◌++◌, length, take, drop, set, get_or, refl, sym, ◌∙◌, ap, subst, ⊎_elim, arith, length-append, length-take, get_or-set_same, get_or-set_other}
 use Rattle.std.proofs.Math.ListN.{get_or-map}
 use Rattle.std.proofs.Math.Seq.{map-set_same}
 use Rattle.std.proofs.Math.Bool.{and-true, and-false}
-use Rattle.std.proofs.lemmas.Bool.{cases_lt, cases_eq, lt-ltb, le-ltb, le-leb, eq-eqb, ne_eqb, or_right, and_from}
+use Rattle.std.proofs.lemmas.Bool.{true≢false, cases_lt, cases_eq, lt-ltb, le-ltb, le-leb, eq-eqb, ne_eqb, or_right, and_from}
 use Rattle.std.proofs.lemmas.Bool.Decides.{nat_tests}
-use Rattle.std.proofs.lemmas.List.{length-map, map-set, map-append, take-map, get_or_default, get_or_past, get_or-take, get_or_append_left, get_or-append_right, ext_get_or}
+use Rattle.std.proofs.lemmas.List.{length-map, map-set, map-append, take-map, get_or_default, get_or_past, get_or-take, get_or_append_left, get_or-append_right, get_or_push, ext_get_or}
 use Rattle.std.specs.List.{concat}
 use Rattle.file_body.specs.Segments.{IsCut}
-use Rattle.file_body.proofs.Cuts.{starts_in, same_count, front_is}
-use Rattle.file_body.specs.HeldBodies.{HeldBody, HeldSegment, pieces, aways, stands_away}
+use Rattle.plain_model.specs.Plain.{segment}
+use Rattle.file_body.proofs.Cuts.{starts_in, starts_past, segment_bytes, same_count, front_is}
+use Rattle.file_body.specs.HeldBodies.{AreZeros, HeldBody, HeldSegment, pieces, aways, stands_away}
 
 -- what stands past the last segment
 abbrev pub no_segment : HeldSegment
@@ -47,6 +48,14 @@ aways-append a b = map-append (λ s. s.away) a b
 
 pub stands_past : (ss : List HeldSegment) (i : ℕ) → length ss ≤ i → stands_away ss i ≡ false
 stands_past ss i h = get_or_past (aways ss) i false (omega (arith, length-aways ss))
+
+-- what is away begins within the bytes
+pub starts_away : (ss : List HeldSegment) → IsCut 65536 (pieces ss) → (j : ℕ) → stands_away ss j ≡ true → 65536 * j < length (concat (pieces ss))
+starts_away ss cut j gone =
+    ⊎_elim
+    (λ (l : j < length ss). omega (arith, starts_in 65536 (pieces ss) cut j (omega (arith, length-pieces ss, l))))
+    (λ (g : length ss ≤ j). absurd (true≢false (sym gone ∙ stands_past ss j g)))
+    (cases_lt j (length ss))
 
 -- a segment whose bytes alone change
 pub aways-kept : (ss : List HeldSegment) (i : ℕ) (s d : HeldSegment) → s.away ≡ (get_or ss i d).away → aways (set ss i s) ≡ aways ss
@@ -106,6 +115,21 @@ here-push ss s j here new = stands-append ss (s ∷ []) j one ∙ here j
     one zero = new
     one (suc k) = refl
 
+-- one that is away
+pub away-push : (ss : List HeldSegment) (s : HeldSegment) (j : ℕ) → s.away ≡ true → j ≡ length ss → stands_away (ss ++ s ∷ []) j ≡ true
+away-push ss s j gone at = ap (λ l. get_or l j false) (aways-append ss (s ∷ [])) ∙ (get_or_push (aways ss) s.away false j (omega (arith, length-aways ss)) ∙ gone)
+
+pub others-push : (ss : List HeldSegment) (s : HeldSegment) (j : ℕ) → (j ≡ length ss → ⊥) → stands_away (ss ++ s ∷ []) j ≡ stands_away ss j
+others-push ss s j other =
+    ap (λ l. get_or l j false) (aways-append ss (s ∷ []))
+    ∙ ⊎_elim
+    (λ (l : j < length (aways ss)). get_or_append_left (aways ss) (s.away ∷ []) false j l)
+    (λ (g : length (aways ss) ≤ j). get_or_past (aways ss ++ s.away ∷ []) j false (omega (arith, other_than, length-append (aways ss) (s.away ∷ []))) ∙ sym (get_or_past (aways ss) j false g))
+    (cases_lt j (length (aways ss)))
+  where
+    other_than : j ≡ length (aways ss) → ⊥
+    other_than q = other (q ∙ length-aways ss)
+
 -- ---- segments that come, one before the others
 
 module _ (ss new : List HeldSegment) (from to : ℕ) (s : HeldSegment) (in_new : from < length new) (comes : s.away ≡ false) where
@@ -118,6 +142,24 @@ module _ (ss new : List HeldSegment) (from to : ℕ) (s : HeldSegment) (in_new :
   brought-others some rest j out =
       stands_in_place new from j s in_new
       ∙ ⊎_elim (λ (q : j ≡ from). absurd (out (omega arith) (omega arith))) (λ (q : j ≡ from → ⊥). rw (ne_eqb j from q) (rest j (λ low high. out (omega arith) high))) (cases_eq j from)
+
+-- what is away is zeros: the first segment, and those behind
+pub zeros-first : (ss : List HeldSegment) (from to : ℕ) (d : HeldSegment) → from < length ss → ((get_or ss from d).away ≡ true → AreZeros (get_or ss from d).bytes)
+    → ((j : ℕ) → from + 1 ≤ j → j < to → stands_away ss j ≡ true → AreZeros (get_or (pieces ss) j [])) → (j : ℕ) → from ≤ j → j < to → stands_away ss j ≡ true → AreZeros (get_or (pieces ss) j [])
+zeros-first ss from to d within first rest j low high gone =
+    ⊎_elim
+    (λ (q : j ≡ from).
+    let here : stands_away ss from ≡ true = ap (stands_away ss) (sym q) ∙ gone in
+    subst (λ (i : ℕ). AreZeros (get_or (pieces ss) i [])) (sym q) (subst AreZeros (piece_of ss from d within) (first (away_of ss from d within ∙ here))))
+    (λ (q : j ≡ from → ⊥). rest j (omega arith) high gone)
+    (cases_eq j from)
+
+-- the bytes of the whole that are its bytes
+pub zeros_of : (ss : List HeldSegment) → IsCut 65536 (pieces ss) → (j : ℕ) → stands_away ss j ≡ true → AreZeros (get_or (pieces ss) j []) → AreZeros (segment j (concat (pieces ss)))
+zeros_of ss cut j gone zeros =
+    let start = starts_away ss cut j gone in
+    let within : j < length (pieces ss) = ⊎_elim (λ (l : j < length (pieces ss)). l) (λ (g : length (pieces ss) ≤ j). absurd (omega (arith, start, starts_past 65536 (pieces ss) cut j g))) (cases_lt j (length (pieces ss))) in
+    subst AreZeros (segment_bytes 65536 (pieces ss) cut j within ∙ ap (λ n. take 65536 (drop n (concat (pieces ss)))) (omega arith)) zeros
 
 -- ---- segments that go away, one after the other
 

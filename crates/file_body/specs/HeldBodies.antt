@@ -1,5 +1,5 @@
 -- What is held of a body: its bytes, with zeros in the place of segments that are away, and which segments are away.
-use Rattle.std.specs.Prelude.{◌≡◌, ℕ, ◌/◌, ◌<◌, ◌≤◌, List, [], Bool, true, false, map, get_or}
+use Rattle.std.specs.Prelude.{◌≡◌, ℕ, ◌/◌, ◌<◌, ◌≤◌, List, [], length, replicate, Bool, true, false, map, get_or}
 
 pub record HeldBody : Type 0 where
   pub bytes : List ℕ
@@ -18,6 +18,14 @@ AreHere from to b = (i : ℕ) → from ≤ i → i < to → is_away b (i / 65536
 -- no segment goes away
 abbrev pub KeepsHere : HeldBody → HeldBody → Type 0
 KeepsHere old new = (j : ℕ) → is_away new j ≡ true → is_away old j ≡ true
+
+-- and none comes
+abbrev pub SameAway : HeldBody → HeldBody → Type 0
+SameAway old new = (j : ℕ) → is_away new j ≡ is_away old j
+
+-- they are zeros alone
+abbrev pub AreZeros : List ℕ → Type 0
+AreZeros bytes = bytes ≡ replicate (length bytes) 0
 
 -- no byte of the range is in the segment
 abbrev pub Misses : ℕ → ℕ → ℕ → Type 0

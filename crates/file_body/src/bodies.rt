@@ -1,8 +1,8 @@
 //! The bytes of one file.
-ghost use Rattle.std.specs.Prelude.{◌≡◌, ℕ, ◌+◌, ◌-◌, ◌*◌, ◌^◌, ◌≤◌, ◌<◌, ◌++◌, ◌&&◌, ◌||◌, ◌↔◌, true, false, nat_lt, nat_le, min, length, take, drop, replicate, IfOk, IfSome, IsSome, OnOk, OnErr, IsOk};
-ghost use Rattle.plain_model.specs.Plain.{read_at, written, resized};
+ghost use Rattle.std.specs.Prelude.{◌≡◌, ℕ, ◌+◌, ◌-◌, ◌*◌, ◌/◌, ◌%◌, ◌^◌, ◌≤◌, ◌<◌, ◌++◌, ◌&&◌, ◌||◌, ◌↔◌, true, false, nat_lt, nat_le, min, length, take, drop, replicate, IfOk, IfSome, IsSome, OnOk, OnErr, IsOk};
+ghost use Rattle.plain_model.specs.Plain.{read_at, segment as segment_of, written, resized};
 ghost use Rattle.file_body.specs.BodyBlocks.{block_of};
-ghost use Rattle.file_body.specs.HeldBodies.{no_body, is_away, AreHere, KeepsHere, Misses};
+ghost use Rattle.file_body.specs.HeldBodies.{no_body, is_away, AreHere, AreZeros, KeepsHere, SameAway, Misses};
 
 use crate::segment_lists;
 use crate::segments::Segment;
@@ -46,6 +46,7 @@ impl Body {
     pub fn len(&self) -> u64
         ensures len { result ≡ length self.now.bytes }
         ensures limit { result ≤ FILE_BYTES }
+        ensures away { (j : ℕ) → is_away self.now j ≡ true → 65536 * j < result }
     {
         segment_lists::len(self.segments.as_slice()) as u64
     }
@@ -101,6 +102,7 @@ impl Body {
         ensures keeps { OnOk result (KeepsHere self.old self.new) }
         ensures here { OnOk result (AreHere offset (offset + length bytes.now) self.new) }
         ensures others { OnOk result ((j : ℕ) → Misses offset (offset + length bytes.now) j → is_away self.new j ≡ is_away self.old j) }
+        ensures same { AreHere offset (offset + length bytes.now) self.old → SameAway self.old self.new }
         ensures err { OnErr result (self.new ≡ self.old) }
         ensures in_place { offset + length bytes.now ≤ length self.old.bytes → AreHere offset (offset + length bytes.now) self.old → IsOk result }
     {
@@ -114,8 +116,7 @@ impl Body {
     pub fn resize(&mut self, alloc: Global, size: u64) -> Result<(), AllocError>
         requires { size ≤ FILE_BYTES }
         ensures ok { OnOk result (self.new.bytes ≡ resized size self.old.bytes) }
-        ensures here { OnOk result ((j : ℕ) → is_away self.new j ≡ true → (is_away self.old j ≡ true) × (65536 * j < size)) }
-        ensures away { OnOk result ((j : ℕ) → is_away self.old j ≡ true → 65536 * j < size → is_away self.new j ≡ true) }
+        ensures away { OnOk result ((j : ℕ) → is_away self.new j ≡ (is_away self.old j && nat_lt (65536 * j) size)) }
         ensures err { OnErr result (self.new ≡ self.old) }
         ensures cut { size ≤ length self.old.bytes → IsOk result }
     {
@@ -125,11 +126,26 @@ impl Body {
         Ok(())
     }
 
+    /// Adds a segment of so many bytes that is away, behind segments that are full. It takes no memory for these bytes.
+    pub fn lengthen_away(&mut self, count: u64) -> Result<(), AllocError>
+        requires full { length self.old.bytes % 65536 ≡ 0 }
+        requires some { 1 ≤ count }
+        requires most { count ≤ 65536 }
+        requires end { length self.old.bytes + count ≤ FILE_BYTES }
+        ensures ok { OnOk result (self.new.bytes ≡ self.old.bytes ++ replicate count 0) }
+        ensures away { OnOk result (is_away self.new (length self.old.bytes / 65536) ≡ true) }
+        ensures others { (j : ℕ) → (j ≡ length self.old.bytes / 65536 → ⊥) → is_away self.new j ≡ is_away self.old j }
+        ensures err { OnErr result (self.new ≡ self.old) }
+    {
+        segment_lists::lengthen_away(&mut self.segments, count as usize)
+    }
+
     /// Takes memory for a segment, so that it is here. Zeros stand where it was away.
     pub fn bring(&mut self, alloc: Global, segment: u32) -> Result<(), AllocError>
         ensures ok { OnOk result ((self.new.bytes ≡ self.old.bytes) × (is_away self.new segment ≡ false)) }
         ensures keeps { OnOk result (KeepsHere self.old self.new) }
         ensures others { (j : ℕ) → (j ≡ segment → ⊥) → is_away self.new j ≡ is_away self.old j }
+        ensures zeros { OnOk result (is_away self.old segment ≡ true → AreZeros (segment_of segment self.old.bytes)) }
         ensures err { OnErr result (self.new ≡ self.old) }
         ensures here { is_away self.old segment ≡ false → IsOk result × (self.new ≡ self.old) }
     {
@@ -155,6 +171,7 @@ impl Body {
         ensures keeps { OnOk result (KeepsHere self.old self.new) }
         ensures here { OnOk result (AreHere start end self.new) }
         ensures others { OnOk result ((j : ℕ) → Misses start end j → is_away self.new j ≡ is_away self.old j) }
+        ensures same { AreHere start end self.old → SameAway self.old self.new }
         ensures err { OnErr result (self.new ≡ self.old) }
         ensures in_place { end ≤ length self.old.bytes → AreHere start end self.old → IsOk result }
     {

@@ -4,7 +4,7 @@ ghost use Rattle.std.specs.List.{concat};
 ghost use Rattle.plain_model.specs.Plain.{written};
 ghost use Rattle.file_body.specs.BodyBlocks.{block_of};
 ghost use Rattle.file_body.specs.Segments.{IsCut};
-ghost use Rattle.file_body.specs.HeldBodies.{pieces, aways, stands_away, Misses};
+ghost use Rattle.file_body.specs.HeldBodies.{pieces, aways, stands_away, AreZeros, Misses};
 
 use crate::segments::{FULL, Segment};
 use hsm_types::BLOCK_BYTES;
@@ -150,7 +150,7 @@ pub fn bring_range(
     ensures keeps { (j : ℕ) → stands_away segments.new j ≡ true → stands_away segments.old j ≡ true }
     ensures others { (j : ℕ) → Misses start end j → stands_away segments.new j ≡ stands_away segments.old j }
     ensures err { OnErr result (segments.new ≡ segments.old) }
-    ensures enough { ((i : ℕ) → start ≤ i → i < end → stands_away segments.old (i / FULL) ≡ false) → IsOk result }
+    ensures enough { ((i : ℕ) → start ≤ i → i < end → stands_away segments.old (i / FULL) ≡ false) → IsOk result × (segments.new ≡ segments.old) }
 {
     if start == end {
         return Ok(());
@@ -168,6 +168,7 @@ pub fn bring(
     ensures pieces { pieces segments.new ≡ pieces segments.old }
     ensures here { OnOk result ((j : ℕ) → from ≤ j → j < to → stands_away segments.new j ≡ false) }
     ensures others { (j : ℕ) → (from ≤ j → j < to → ⊥) → stands_away segments.new j ≡ stands_away segments.old j }
+    ensures zeros { OnOk result ((j : ℕ) → from ≤ j → j < to → stands_away segments.old j ≡ true → AreZeros (slice_index_or (pieces segments.old) j [])) }
     ensures err { OnErr result (segments.new ≡ segments.old) }
     ensures enough { ((j : ℕ) → from ≤ j → j < to → stands_away segments.old j ≡ false) → IsOk result × (segments.new ≡ segments.old) }
 {
@@ -279,4 +280,20 @@ fn zeros(alloc: Global, count: usize) -> Result<Vec<Segment>, AllocError>
         left -= size;
     }
     Ok(segments)
+}
+
+/// Adds a segment of so many bytes that is away, behind segments that are full. It takes no memory for these bytes.
+pub fn lengthen_away(segments: &mut Vec<Segment>, count: usize) -> Result<(), AllocError>
+    requires cut { IsCut FULL (pieces segments.old.items) }
+    requires full { length (concat (pieces segments.old.items)) % FULL ≡ 0 }
+    requires some { 1 ≤ count }
+    requires most { count ≤ FULL }
+    ensures ok { OnOk result (concat (pieces segments.new.items) ≡ concat (pieces segments.old.items) ++ replicate count 0) }
+    ensures err { OnErr result (segments.new.items ≡ segments.old.items) }
+    ensures cut { IsCut FULL (pieces segments.new.items) }
+    ensures away { OnOk result (stands_away segments.new.items (length (concat (pieces segments.old.items)) / FULL) ≡ true) }
+    ensures others { (j : ℕ) → (j ≡ length (concat (pieces segments.old.items)) / FULL → ⊥) → stands_away segments.new.items j ≡ stands_away segments.old.items j }
+{
+    segments.push(Segment::away(count))?;
+    Ok(())
 }

@@ -1,5 +1,6 @@
 //! A segment of a body.
 ghost use Rattle.std.specs.Prelude.{◌≡◌, ◌+◌, ◌≤◌, ◌++◌, ◌↔◌, true, false, length, take, drop, replicate, IfOk, OnOk, OnErr, IfSome, IsSome, IsOk};
+ghost use Rattle.file_body.specs.HeldBodies.{AreZeros};
 
 use hsm_types::SEGMENT_BYTES;
 use std::alloc::{AllocError, Global};
@@ -47,6 +48,16 @@ impl Segment {
         })
     }
 
+    /// So many bytes that are away. It takes no memory.
+    pub fn away(count: usize) -> Segment
+        requires { count ≤ FULL }
+        ensures { result ≡ record { bytes = replicate count 0; away = true } }
+    {
+        Segment {
+            content: Content::Away(count),
+        }
+    }
+
     pub fn len(&self) -> usize
         ensures { result ≡ length self.now.bytes }
     {
@@ -81,6 +92,7 @@ impl Segment {
     pub fn stand_in(&self, alloc: Global) -> Result<Option<Segment>, AllocError>
         ensures zeros { IfOk result (λ zeros. IfSome zeros (λ s. s ≡ record { bytes = self.now.bytes; away = false })) }
         ensures away { IfOk result (λ zeros. IsSome zeros ↔ (self.now.away ≡ true)) }
+        ensures were { self.now.away ≡ true → AreZeros self.now.bytes }
         ensures here { self.now.away ≡ false → IsOk result }
     {
         match &self.content {

@@ -11,7 +11,8 @@ length-changed (Write offset bytes) body within = length-written offset bytes.no
 length-changed (Resize size) body within = length-resized size body
 length-changed (Restore segment bytes) body within = length-written (65536 * segment) bytes.now body ∙ omega (arith, within)
 
-grown-none : (body : List ℕ) → grown (length body) body ≡ body
+-- none for the size that it has
+pub grown-none : (body : List ℕ) → grown (length body) body ≡ body
 grown-none body = same_lists _ _ (search (rules, places)) (λ i d h. grind (arith, places))
 
 pub changed-grown : (change : Rewrite) (body : List ℕ) → rebody (effect_of change) (grown (new_size change body) body) ≡ rebody (effect_of change) body

@@ -10,11 +10,10 @@ pub record Parts (D : Type 0) : Type 0 where
   pub bodies : List HeldBody
   pub durable : List HeldBody
   pub space : Space
-  pub pending : Bool
   pub failed : Bool
 
 abbrev pub store_of : {D : Type 0} → Parts D → Store D
-store_of p = record { disk = p.disk; meta = p.meta; held = held_with p.bodies p.meta.current; durable = held_with p.durable p.meta.durable; space = p.space; pending = p.pending; failed = p.failed }
+store_of p = record { disk = p.disk; meta = p.meta; held = held_with p.bodies p.meta.current; durable = held_with p.durable p.meta.durable; space = p.space; failed = p.failed }
 
 -- what recovery finds of a live store
 pub durable_found : {D : Type 0} (g : Ghosts D) (s : Store D) → IsLive g s → (c : List ℕ) → MayBe g s.disk c → IsDurable s c
@@ -90,12 +89,12 @@ pub record IsDone {D : Type 0} (g : Ghosts D) (old : Parts D) (n : ℕ) (next : 
   pub proceeds : Proceeds g (store_of old) n (store_of new)
 
 -- the store after it, where it was told whether a snapshot was written of what was held before, whose blocks have the full marks
-abbrev pub after_event : {D : Type 0} → Parts D → D → Meta → Bool → List HeldBody → List Bool → List Bool → Bool → Parts D
-after_event p new m wrote bodies marks full pending =
-    record { disk = new; meta = m; bodies = bodies; durable = if wrote then p.bodies else p.durable; space = record { current = marks; durable = if wrote then full else p.space.durable }; pending = pending; failed = p.failed }
+abbrev pub after_event : {D : Type 0} → Parts D → D → Meta → Bool → List HeldBody → List Bool → List Bool → Parts D
+after_event p new m wrote bodies marks full =
+    record { disk = new; meta = m; bodies = bodies; durable = if wrote then p.bodies else p.durable; space = record { current = marks; durable = if wrote then full else p.space.durable }; failed = p.failed }
 
-module _ {D : Type 0} (g : Ghosts D) (p : Parts D) (lawful : IsMeta p.meta) (live : IsLive g (store_of p)) (n : ℕ) (new : D) (m : Meta) (bodies : List HeldBody) (marks full : List Bool) (pending : Bool) where
-  proceeds_after : (wrote : Bool) → Tells g p.disk p.meta n wrote new m → StoresOrKeeps g p.disk new p.meta n → Proceeds g (store_of p) n (store_of (after_event p new m wrote bodies marks full pending))
+module _ {D : Type 0} (g : Ghosts D) (p : Parts D) (lawful : IsMeta p.meta) (live : IsLive g (store_of p)) (n : ℕ) (new : D) (m : Meta) (bodies : List HeldBody) (marks full : List Bool) where
+  proceeds_after : (wrote : Bool) → Tells g p.disk p.meta n wrote new m → StoresOrKeeps g p.disk new p.meta n → Proceeds g (store_of p) n (store_of (after_event p new m wrote bodies marks full))
   proceeds_after true told turns =
       let now = (told.0 refl).1 in
       commit_proceeds g (store_of p) lawful live n _ turns (ap (λ (x : Catalog). x.geometry) now.durable ∙ lawful.stored.geometry) now.fsid (inr (now.number, ap (held_with p.bodies) now.durable))
@@ -105,8 +104,8 @@ module _ {D : Type 0} (g : Ghosts D) (p : Parts D) (lawful : IsMeta p.meta) (liv
 
   module _ (backs : Backs g new m) (held : Held) (held_is : held_with bodies m.current ≡ held) (current : (c : List ℕ) → g.gives p.disk c → held_at (blocks_in_image p.meta.durable.geometry c) m.current ≡ held) (exact : marks ≡ marks_of m.current)
       (has : AllByRecursion (λ b. slice_index_or full b false ≡ true) (blocks_of p.meta.current.files)) where
-    live_after : (wrote : Bool) → Tells g p.disk p.meta n wrote new m → (pending ≡ false → (if wrote then full else p.space.durable) ≡ marks) → IsLive g (store_of (after_event p new m wrote bodies marks full pending))
-    live_after true told settled =
+    live_after : (wrote : Bool) → Tells g p.disk p.meta n wrote new m → IsLive g (store_of (after_event p new m wrote bodies marks full))
+    live_after true told =
         let now = (told.0 refl).1 in
         let geometry = ap (λ (x : Catalog). x.geometry) now.durable in
         record {
@@ -117,9 +116,8 @@ module _ {D : Type 0} (g : Ghosts D) (p : Parts D) (lawful : IsMeta p.meta) (liv
           current = λ c gives. let d = (told.0 refl).0 c (inr gives) in holds_new p.meta.current m.current held _ _ _ _ d.0 c geometry lawful.stored.geometry d.2 (current d.0 d.1) ∙ sym held_is;
           marks = exact;
           marked = rw now.durable has;
-          settled = settled;
         }
-    live_after false told settled =
+    live_after false told =
         let disk_is = (told.1 refl).0 in
         let store = ap (λ (x : Meta). x.durable) (told.1 refl).1 in
         record {
@@ -128,12 +126,11 @@ module _ {D : Type 0} (g : Ghosts D) (p : Parts D) (lawful : IsMeta p.meta) (liv
           current = λ c gives. ap (λ (x : Catalog). held_at (blocks_in_image x.geometry c) m.current) store ∙ current c (subst (λ (e : D). g.gives e c) disk_is gives) ∙ sym held_is;
           marks = exact;
           marked = rw store live.marked;
-          settled = settled;
         }
 
-    pub done : (wrote : Bool) → Tells g p.disk p.meta n wrote new m → IsMeta m → StoresOrKeeps g p.disk new p.meta n → IsHeldFiles bodies m → (pending ≡ false → (if wrote then full else p.space.durable) ≡ marks) → IsDone g p n held (after_event p new m wrote bodies marks full pending)
-    done wrote told lawful_now turns files settled =
-        record { files = files; sound = record { meta = lawful_now; live = λ working. live_after wrote told settled }; held = held_is; proceeds = proceeds_after wrote told turns }
+    pub done : (wrote : Bool) → Tells g p.disk p.meta n wrote new m → IsMeta m → StoresOrKeeps g p.disk new p.meta n → IsHeldFiles bodies m → IsDone g p n held (after_event p new m wrote bodies marks full)
+    done wrote told lawful_now turns files =
+        record { files = files; sound = record { meta = lawful_now; live = λ working. live_after wrote told }; held = held_is; proceeds = proceeds_after wrote told turns }
 
 -- what was stored is what was held, which is lawful
 pub stored_meta : (m new : Meta) (n : ℕ) → IsMeta m → IsStoredNow m n new → new.current ≡ m.current → n ≤ 2 ^ 62 → IsMeta new
@@ -154,7 +151,6 @@ opened_sound g s lawful backs same held holds space = record {
     current = λ c gives. ap (held_at (blocks_in_image s.meta.durable.geometry c)) same ∙ holds c (inr gives);
     marks = ap (λ (x : Space). x.current) space;
     marked = rw (space, ← same) (marks_there s.meta.current lawful.current);
-    settled = λ idle. rw space refl;
   };
 }
 

@@ -120,7 +120,7 @@ module _ (B : CatalogFile → List ℕ) where
   stubbed blocks f is has size =
       rw size record {
         ascend = is.ascend;
-        each = each-both (IsCatalogStub f) (λ x. x.1.entry.print.len ≡ segment_len f.size x.0) (FitsFile f.size f.kept.regions) (λ x it len. record { start = it.start; len = len; volume = it.volume; covered = it.covered }) f.kept.stubs is.stubs has;
+        each = each-both (IsCatalogStub f) (λ x. x.1.entry.print.len ≡ segment_len f.size x.0) (FitsFile f.size f.kept.regions) (λ x it len. record { start = it.fits.start; len = len; volume = it.fits.volume; covered = it.fits.covered }) f.kept.stubs is.stubs has;
       }
 
   all-stubbed : (blocks : ℕ) (fs : List CatalogFile) → AllByRecursion (IsCatalogFile blocks) fs → AllByRecursion HasLengths fs → AllByRecursion (λ f. length (B f) ≡ f.size) fs → AllByRecursion IsStubbed (map (file_by B) fs)

@@ -9,6 +9,7 @@ pub mod RewriteRecords
 pub mod SoundChanges
 pub mod ByteChanges
 pub mod Loaded
+pub mod Rooms
 pub mod FilesBy
 pub mod ShownFiles
 pub mod WithBodies

@@ -1,11 +1,12 @@
--- Bodies that are read block by block, and put by inode, one after the other in the order of the files.
-use Rattle.file_store.proofs.Names.{rules, same_lists, Bool, false, if◌then◌else◌, ◌||◌, is_some, replicate, ◌/◌, refl, true, false≢true, ◌≡◌, ◌⊎◌, inl, inr, ⊎_elim, ℕ, ◌+◌, ◌-◌, ◌*◌, ◌<◌, ◌≤◌, List, [], length, get_or, take, Option, Some, None, sym, ◌∙◌, ap, subst, arith, zero, suc, ◌∷◌, ◌++◌, map, set, get_or-set_same, get_or-set_other, AllByRecursion, cases_lt, cases_eq, places, get_or-replicate, get_or-take, take_more, length-map, written, resized, blocks_in, part, sames_on, layout_of, geometry_of, present, CatalogFile, Catalog, IsCatalog, IsCatalogFile, names_of, blocks_in_image, OnlyReads, block_at, body_at, body_with, HeldBody, no_body, is_away, slice_get_within, get_or_from_slice_get, Table, entry_of, Ghosts}
+-- Bodies that are made segment by segment, read block by block, and put by inode, one after the other in the order of the files.
+use Rattle.file_store.proofs.Names.{Bool, false, if◌then◌else◌, replicate, ◌/◌, refl, true, false≢true, ◌≡◌, ◌⊎◌, inl, inr, ⊎_elim, ℕ, ◌+◌, ◌-◌, ◌*◌, ◌<◌, ◌≤◌, List, [], length, get_or, take, Option, Some, None, sym, ◌∙◌, ap, subst, arith, zero, suc, ◌∷◌, ◌++◌, map, set, get_or-set_same, get_or-set_other, AllByRecursion, cases_lt, cases_eq, places, length-replicate, min, get_or-replicate, get_or-take, take_more, length-map, written, blocks_in, part, sames_on, layout_of, geometry_of, present, CatalogFile, Catalog, IsCatalog, IsCatalogFile, names_of, blocks_in_image, OnlyReads, block_at, body_at, body_with, HeldBody, no_body, is_away, slice_get_within, get_or_from_slice_get, Table, entry_of, Ghosts}
 use Rattle.std.specs.List.{slice_get}
-use Rattle.std.specs.Prelude.{IfSome}
+use Rattle.std.specs.Prelude.{◌==◌, ◌&&◌, nat_lt, IfSome}
+use Rattle.std.proofs.Math.Bool.{and-true, and-false}
+use Rattle.std.proofs.lemmas.Bool.{lt-ltb, le-ltb, eq-eqb, ne_eqb}
+use Rattle.std.proofs.lemmas.Bool.Decides.{nat_tests}
+use Rattle.std.proofs.lemmas.List.{replicate-append-replicate}
 use Rattle.hsm_types.specs.Stubs.{Stubs, stub_at, is_offline, offline_at}
-use Rattle.hsm_types.specs.declared.stubs.StubEntry.{StubEntry}
-use Rattle.stub_map.specs.States.{state_of}
-use Rattle.stub_map.specs.declared.stubs.State.TheVariants.{Offline, Sealed}
 use Rattle.hsm_types.specs.declared.stubs.Stub.{Stub as StubOf}
 use Rattle.meta_store.specs.Catalogs.{IsCatalogStub}
 use Rattle.meta_store.proofs.ClearedPlaces.{away-at}
@@ -23,8 +24,8 @@ reads_on g a b c first second = (sames_on g a b c first.0 second.0, (λ d gives.
 pub present-at : (P : ℕ → Type 0) (ps : List (Option ℕ)) (i p : ℕ) → AllByRecursion P (present ps) → get_or ps i None ≡ Some p → P p
 present-at P ps i p all at = at_place P (λ o. (q : ℕ) → o ≡ Some q → P q) (λ q none. absurd cc) (λ n here q is. let it : n ≡ q = cc in subst P it here) ps i all p at
 
-pub no_bytes : (blocks : List ℕ) (size : ℕ) → HasBytes blocks size [] (resized size [])
-no_bytes blocks size q r l h = let none : get_or (resized size []) (4096 * q + r) 0 ≡ 0 = grind (arith, places) in none ∙ sym (get_or-replicate 4096 r 0 0 l)
+pub no_bytes : (blocks : List ℕ) (size : ℕ) → HasBytes blocks size [] (replicate size 0)
+no_bytes blocks size q r l h = let none : get_or (replicate size 0) (4096 * q + r) 0 ≡ 0 = grind (arith, places) in none ∙ sym (get_or-replicate 4096 r 0 0 l)
 
 -- a hole
 pub hole-more : (blocks : List ℕ) (size : ℕ) (ps : List (Option ℕ)) (i : ℕ) (body : List ℕ) → i < length ps → get_or ps i None ≡ None → HasBytes blocks size (take i ps) body → HasBytes blocks size (take (i + 1) ps) body
@@ -58,33 +59,15 @@ all-filled geometry size c ps body whole within count long has =
     let all : AllByRecursion (Whole blocks) (present ps) = each-weaker (λ p. p < (geometry_of geometry).blocks) (Whole blocks) (λ p low. length-block geometry c p low whole) (present ps) within in
     sym (same_body blocks size ps body count long (λ q h. full blocks ps all q) has)
 
-pub none-away : (j : ℕ) → is_away no_body j ≡ true → ⊥
-none-away j away = cc
-
 -- ---- entries
 
 -- the segments of a lawful file's entries begin within it
 pub stub-starts : (blocks : ℕ) (f : CatalogFile) → IsCatalogFile blocks f → AllByRecursion (λ x. 65536 * x.0 < f.size) f.kept.stubs
-stub-starts blocks f is = each-weaker (IsCatalogStub f) (λ x. 65536 * x.0 < f.size) (λ x lawful. lawful.start) f.kept.stubs is.stubs
+stub-starts blocks f is = each-weaker (IsCatalogStub f) (λ x. 65536 * x.0 < f.size) (λ x lawful. lawful.fits.start) f.kept.stubs is.stubs
 
 pub offline-some : (o : Option StubOf) → is_offline o ≡ true → (stub : StubOf) × (o ≡ Some stub) × (stub.offline ≡ true)
 offline-some None off = absurd (false≢true off)
 offline-some (Some stub) off = (stub, refl, off)
-
-some-at : (o : Option StubOf) → is_some o ≡ true → (stub : StubOf) × (o ≡ Some stub)
-some-at None some = absurd (false≢true some)
-some-at (Some stub) some = (stub, refl)
-
-pub entry-starts : (size j : ℕ) (stubs : Stubs) → AllByRecursion (λ x. 65536 * x.0 < size) stubs → is_some (stub_at j stubs) ≡ true → 65536 * j < size
-entry-starts size j stubs starts some = let at = some-at (stub_at j stubs) some in stub-each (λ x. 65536 * x.0 < size) stubs j at.0 starts at.1
-
-pub offline-state : (o : Option StubOf) (entry : StubEntry) → state_of o ≡ Offline entry → is_offline o ≡ true
-offline-state None entry is = cc
-offline-state (Some stub) entry is = by stub.offline is
-  where
-    by : (b : Bool) → (if b then Offline stub.entry else Sealed stub.entry) ≡ Offline entry → b ≡ true
-    by true same = refl
-    by false same = cc
 
 -- the entry has what is true of each
 pub entry-has : (P : ℕ × StubOf → Type 0) (j : ℕ) (stubs : Stubs) → AllByRecursion P stubs → IfSome (stub_at j stubs) (λ stub. P (j, stub))
@@ -94,13 +77,46 @@ entry-has P j stubs all = by (stub_at j stubs) (λ stub is. stub-each P stubs j 
     by None has = tt
     by (Some stub) has = has stub refl
 
--- zeros over zeros
-pub written-zeros : (from k n : ℕ) (body : List ℕ) → body ≡ replicate n 0 → from + k ≤ n → written from (replicate k 0) body ≡ body
-written-zeros from k n body zeros within = rw zeros (same_lists _ _ (search (rules, places)) (λ i d h. grind (arith, places)))
+-- what is offline begins within the file
+pub offline-start : (size j : ℕ) (stubs : Stubs) → AllByRecursion (λ x. 65536 * x.0 < size) stubs → offline_at stubs j ≡ true → 65536 * j < size
+offline-start size j stubs starts off = let at = offline-some (stub_at j stubs) off in stub-each (λ x. 65536 * x.0 < size) stubs j at.0 starts at.1
 
-pub either : (a b : Bool) → (a || b) ≡ true → (a ≡ true) ⊎ (b ≡ true)
-either true b is = inl refl
-either false b is = inr is
+-- ---- segments that come one after the other, in memory or away
+
+-- one more of them
+pub shaped-more : (stubs : Stubs) (old new : HeldBody) (n i : ℕ) → n ≡ i → ((j : ℕ) → is_away old j ≡ (offline_at stubs j && nat_lt j i)) → ((j : ℕ) → is_away new j ≡ (if j == n then offline_at stubs i else is_away old j))
+    → (j : ℕ) → is_away new j ≡ (offline_at stubs j && nat_lt j (i + 1))
+shaped-more stubs old new n i at was is j =
+    is j
+    ∙ ⊎_elim
+    (λ (q : j ≡ n).
+    rw (q, eq-eqb n n refl) (ap (offline_at stubs) (sym at) ∙ sym (rw (lt-ltb n (i + 1) (omega arith)) (and-true (offline_at stubs n)))))
+    (λ (q : j ≡ n → ⊥). rw (ne_eqb j n q) (was j ∙ ap (λ (b : Bool). offline_at stubs j && b) (grind (arith, nat_tests))))
+    (cases_eq j n)
+
+-- of so many zeros
+pub zeros-more : (size i end : ℕ) (old new : List ℕ) → 65536 * i < size → end ≡ min size (65536 * (i + 1)) → old ≡ replicate (min size (65536 * i)) 0 → new ≡ old ++ replicate (end - length old) 0 → new ≡ replicate (min size (65536 * (i + 1))) 0
+zeros-more size i end old new more at was is =
+    let count : length old ≡ 65536 * i = omega (arith, ap length was, length-replicate {A = ℕ} (min size (65536 * i)) 0) in
+    let zeros : ℕ → List ℕ = λ n. replicate n 0 in
+    is ∙ (ap (λ (b : List ℕ). b ++ zeros (end - length old)) was ∙ (replicate-append-replicate (min size (65536 * i)) (end - length old) 0 ∙ ap zeros (omega arith)))
+
+-- all of them
+pub shaped-all : (stubs : Stubs) (size i j : ℕ) → AllByRecursion (λ x. 65536 * x.0 < size) stubs → size ≤ 65536 * i → (offline_at stubs j && nat_lt j i) ≡ offline_at stubs j
+shaped-all stubs size i j starts end = by (offline_at stubs j) (λ off. lt-ltb j i (let start = offline-start size j stubs starts off in omega arith))
+  where
+    by : (b : Bool) → (b ≡ true → nat_lt j i ≡ true) → (b && nat_lt j i) ≡ b
+    by true within = within refl
+    by false within = refl
+
+-- none yet
+pub shaped-none : (b : Bool) (j : ℕ) → false ≡ (b && nat_lt j 0)
+shaped-none b j = sym (rw (le-ltb j 0 (omega arith)) (and-false b))
+
+-- a segment that is resized with all before
+pub within-all : (away : Bool) (j size : ℕ) → (away ≡ true → 65536 * j < size) → (away && nat_lt (65536 * j) size) ≡ away
+within-all true j size starts = lt-ltb (65536 * j) size (starts refl)
+within-all false j size starts = refl
 
 -- and those that are offline have no blocks
 pub offline-holes : (blocks : ℕ) (f : CatalogFile) → IsCatalogFile blocks f → (i : ℕ) → offline_at f.kept.stubs (i / 16) ≡ true → get_or f.places i None ≡ None

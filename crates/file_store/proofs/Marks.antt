@@ -1,5 +1,5 @@
 -- The marks of the blocks that files use: places that may be taken, and what is left where a file frees blocks.
-use Rattle.file_store.proofs.Names.{Stub, Rewrite, effect_of, size_after, places, ◌≡◌, ℕ, ◌+◌, ◌<◌, ◌≤◌, List, [], ◌∷◌, ◌++◌, length, take, drop, set, get_or, Option, Some, None, Bool, true, false, eqb, ltb, refl, sym, ◌∙◌, ap, subst, arith, length-set, get_or-set_other, replicate, AllByRecursion, list_any, sum_by, false≢true, false_from_ne_true, length-replicate, All-from_recursion, All-weaker, recursion_from_All, FileKey, find_key, change_key, put_key, drop_key, blocks_in, Space, free, marked, unmarked, All-has, Ascend, Ascend-low, Record, Make, Drop, Size, Map, CatalogFile, Catalog, IsCatalogFile, IsCatalog, geometry_of, present, blocks_of, file_after, inode_of, key_on, after, CanStand, places_fitted, places_set, with_changed, uses_of, uses-sum, sum-put, sum-drop, sum-change, blocks-change, each-found, blocks-within, IsBodiless, drops, mappings_of, remapped, places_under, freed_by, marks_of, sum_by-cons, sum_by-set, Distinct, IsFree, length-marked, others_are_free, taken_are_free, take_adds_others, marks_are_members, marks_join, releases-leave, uses, uses-append, distinct-uses, empty_file, length-fitted, present-fitted}
+use Rattle.file_store.proofs.Names.{Stub, Rewrite, effect_of, size_after, places, ◌≡◌, ℕ, ◌+◌, ◌<◌, ◌≤◌, List, [], ◌∷◌, ◌++◌, length, take, drop, set, get_or, Option, Some, None, Bool, true, false, eqb, ltb, refl, sym, ◌∙◌, ap, subst, arith, length-set, get_or-set_other, replicate, AllByRecursion, list_any, sum_by, false≢true, false_from_ne_true, length-replicate, All-from_recursion, All-weaker, recursion_from_All, FileKey, find_key, change_key, put_key, drop_key, blocks_in, Space, free, marked, unmarked, All-has, Ascend, Ascend-low, Record, Make, Drop, Size, Map, CatalogFile, Catalog, IsCatalogFile, IsCatalog, geometry_of, present, blocks_of, file_after, inode_of, key_on, after, CanStand, places_fitted, places_set, with_changed, uses_of, uses-sum, sum-put, sum-drop, sum-change, blocks-change, each-found, blocks-within, IsBodiless, mappings_of, remapped, places_under, freed_by, marks_of, sum_by-cons, sum_by-set, Distinct, IsFree, length-marked, others_are_free, taken_are_free, take_adds_others, marks_are_members, marks_join, releases-leave, uses, uses-append, distinct-uses, empty_file, length-fitted, present-fitted}
 use Rattle.std.specs.List.{All}
 use Rattle.std.proofs.lemmas.Bool.Decides.{nat_tests}
 use Rattle.file_store.specs.Effects.{IsFreed}
@@ -42,11 +42,10 @@ module _ (c : Catalog) (is : IsCatalog c) where
   marks_there = each_member _ (blocks_of c.files) (λ b used. marks_are_members total (blocks_of c.files) b (used-within b used) ∙ used)
 
   -- where both maps have just these, all others are free
-  pub enough : (space : Space) (n : ℕ) → space.current ≡ marks_of c → space.durable ≡ space.current → n + length (blocks_of c.files) ≤ total → n ≤ length (free space)
-  enough space n marks settled room =
-      let left = others_are_free total (blocks_of c.files) is.distinct all-within in
-      let same : space ≡ record { current = marks_of c; durable = marks_of c } = rw (settled, marks) refl in
-      rw same (omega arith)
+  pub others_free : (space : Space) → space.current ≡ marks_of c → space.durable ≡ space.current → length (free space) + length (blocks_of c.files) ≡ total
+  others_free space marks same =
+      let is_space : space ≡ record { current = marks_of c; durable = marks_of c } = rw (same, marks) refl in
+      rw is_space (others_are_free total (blocks_of c.files) is.distinct all-within)
 
   pub are_places : (d : Catalog) (space : Space) (n : ℕ) → space.current ≡ marks_of c → AllByRecursion (λ b. get_or space.durable b false ≡ true) (blocks_of d.files) → ArePlaces c d (take n (free space))
   are_places d space n marks marked =
@@ -79,10 +78,6 @@ pub geometry-after : (r : Record) (c : Catalog) → (after r c).geometry ≡ c.g
 geometry-after (Make key name) c = refl
 geometry-after (Drop ino) c = refl
 geometry-after r c = refl
-
-pub none-freed : (k : FileKey) (c : Catalog) (freed : List ℕ) (r : Record) → drops r ≡ false → IsFreed k r c freed → freed ≡ []
-none-freed k c freed (Drop ino) stays free = absurd cc
-none-freed k c freed r stays free = free
 
 -- by a record that concerns no bytes of a file that stays
 module _ (k : FileKey) (c : Catalog) (lawful : IsCatalog c) (freed : List ℕ) where

@@ -18,11 +18,11 @@ pub use Rattle.disk_model.specs.Images.{part, IsFreed, IsWritten, Follows}
 pub use Rattle.disk_model.specs.Moments.{Keeps, MayBe, Same}
 pub use Rattle.disk_model.specs.declared.device.Disk.{Ghosts}
 pub use Rattle.file_body.proofs.Sizes.{length-written, length-resized}
-pub use Rattle.file_body.specs.HeldBodies.{HeldBody, no_body, is_away, AreHere, KeepsHere}
-pub use Rattle.file_store.specs.Bodies.{held_at, block_of, block_at, body_at, bytes_at, held_with, file_by, body_with, bytes_with, IsHere, IsBody, AreBodies}
+pub use Rattle.file_body.specs.HeldBodies.{HeldBody, no_body, is_away, AreHere, AreZeros, SameAway}
+pub use Rattle.file_store.specs.Bodies.{held_at, block_of, block_at, body_at, bytes_at, held_with, file_by, body_with, bytes_with, IsHere, IsBody, IsAlike, AreBodies}
 pub use Rattle.file_store.specs.Effects.{held_after, IsBodiless, drops, effect_in, empties}
 pub use Rattle.file_store.specs.HeldFiles.{IsHeldFiles}
-pub use Rattle.file_store.specs.Rewrites.{new_size, touched_of, grown, places_for, mappings_of, effect_of, IsRewrite, remapped, places_under, freed_by, IsWithin, HasEntry, IsBrought, HasRange, IsLeft, unseals, unsealing, IsHead, AreUnsealed, mappings_in, IsMapOn, IsRewriting}
+pub use Rattle.file_store.specs.Rewrites.{new_size, touched_of, grown, places_for, mappings_of, effect_of, IsRewrite, remapped, places_under, freed_by, IsWithin, HasEntry, brings, BringsOffline, BringsAway, HasRoom, HasRange, spares, unseals, unsealing, IsHead, AreUnsealed, mappings_in, IsMapOn, IsRewriting}
 pub use Rattle.file_store.specs.Steps.{IsStaged, IsBesideBlocks, places_of, HasBlocks, OnlyReads}
 pub use Rattle.file_store.specs.Stores.{Store, IsDurable, IsEither, Proceeds, IsLive, IsSound, marks_of, told_of, told_held, Shows, IsLawful}
 pub use Rattle.file_store.specs.declared.rewrites.Rewrite.{Rewrite}

@@ -1,6 +1,7 @@
 -- Segments of a live file that go away: which ones may, and the store after it.
-use Rattle.file_store.proofs.Names.{◌≡◌, ℕ, zero, suc, ◌+◌, ◌-◌, ◌*◌, ◌<◌, ◌≤◌, List, [], ◌∷◌, length, map, get_or, set, take, drop, min, Bool, true, false, ◌&&◌, ◌||◌, if◌then◌else◌, Option, Some, None, refl, sym, ◌∙◌, ap, subst, arith, All, AllByRecursion, All-from_recursion, ltb-true, FileKey, find_key, change_key, Held, affected_held, bytes_of, Record, CatalogFile, Catalog, IsCatalogFile, geometry_of, present, blocks_of, with_changed, after_all, CanStandAll, IsEvent, refusal_of_all, key_on, kept_at, blocks_in_image, Meta, IsMeta, Backs, StoresOrKeeps, held_at, held_with, body_with, HeldBody, no_body, is_away, IsBody, Store, IsLive, IsSound, marks_of, Space, unmarked, layout_of, each-found, distinct-uses, uses, IsHeldFiles, IsSome, Ghosts, inr, ⊎_elim, cases_lt, ◌++◌}
+use Rattle.file_store.proofs.Names.{◌≡◌, ℕ, zero, suc, ◌+◌, ◌-◌, ◌*◌, ◌<◌, ◌≤◌, List, [], ◌∷◌, length, map, get_or, set, take, drop, Bool, true, false, ◌&&◌, ◌||◌, if◌then◌else◌, Option, Some, None, refl, sym, ◌∙◌, ap, subst, arith, All, AllByRecursion, All-from_recursion, FileKey, find_key, Held, affected_held, bytes_of, Record, CatalogFile, Catalog, IsCatalogFile, geometry_of, present, blocks_of, with_changed, after_all, IsEvent, kept_at, blocks_in_image, Meta, IsMeta, Backs, StoresOrKeeps, held_at, held_with, body_with, HeldBody, no_body, is_away, IsBody, IsLive, IsSound, marks_of, unmarked, each-found, distinct-uses, IsHeldFiles, IsSome, Ghosts, inr, ⊎_elim, cases_lt, lt-ltb}
 use Rattle.std.specs.Prelude.{nat_le, nat_lt}
+use Rattle.std.proofs.Math.Bool.{or-true, or-false}
 use Rattle.hsm_types.specs.Refusals.{first_refusal}
 use Rattle.hsm_types.specs.Regions.{covers}
 use Rattle.hsm_types.specs.Segments.{from_on, segments_in}
@@ -14,7 +15,7 @@ use Rattle.hsm_types.proofs.Stubbing.{set_away, stub_at-punched}
 use Rattle.plain_model.specs.Effects.{Punches}
 use Rattle.meta_store.specs.Catalogs.{IsCatalogStub, AreLengths}
 use Rattle.meta_store.proofs.StubLists.{each-at}
-use Rattle.file_store.specs.Punches.{punch_records, places_between}
+use Rattle.file_store.specs.Punches.{punch_records}
 use Rattle.file_store.proofs.Beside.{length-block}
 use Rattle.file_store.proofs.Durable.{Parts, store_of, Tells, IsDone, after_event, done}
 use Rattle.file_store.proofs.FilesBy.{key_on-live}
@@ -57,23 +58,22 @@ can_go f from n each none end j above below =
     let count : from + n - from ≡ n = omega arith in
     let it = passes f.kept.regions f.kept.stubs j (each_passes (not_punched f.kept.regions f.kept.stubs) from n j (rw count at none) above below) in
     let was = each-at (IsCatalogStub f) f.kept.stubs j (sealed_by it.0) each it.1.0 in
-    record { entry = it.0; is = it.1.0; start = was.start; volume = was.volume; covered = it.1.1 }
+    record { entry = it.0; is = it.1.0; start = was.fits.start; volume = was.fits.volume; covered = it.1.1 }
 
 -- ---- which segments of the body are away then
 
-still_away : (from to : ℕ) (stubs : Stubs) (j : ℕ) (was low : Bool) → (from ≤ j → j < to → (stub : Stub) × (stub_at j stubs ≡ Some stub)) → (was ≡ true → offline_at stubs j ≡ true) → (was || (nat_le from j && nat_lt j to && low)) ≡ true
-    → offline_at (punched from to stubs) j ≡ true
-still_away from to stubs j was low can here away = by (nat_le from j && nat_lt j to) refl (stub_at-punched from to stubs j)
+now_away : (from to : ℕ) (stubs : Stubs) (j : ℕ) (was low : Bool) → (from ≤ j → j < to → ((stub : Stub) × (stub_at j stubs ≡ Some stub)) × (low ≡ true)) → was ≡ offline_at stubs j
+    → (was || (nat_le from j && nat_lt j to && low)) ≡ offline_at (punched from to stubs) j
+now_away from to stubs j was low can here = by (nat_le from j && nat_lt j to) refl (stub_at-punched from to stubs j)
   where
     above : (nat_le from j && nat_lt j to) ≡ true → (from ≤ j) × (j < to)
     above within = (grind arith, grind arith)
 
-    old : (nat_le from j && nat_lt j to) ≡ false → was ≡ true
-    old out = grind arith
-
-    by : (b : Bool) → (nat_le from j && nat_lt j to) ≡ b → stub_at j (punched from to stubs) ≡ (if b then set_away true (stub_at j stubs) else stub_at j stubs) → offline_at (punched from to stubs) j ≡ true
-    by true within is = let there = can (above within).0 (above within).1 in ap is_offline (is ∙ ap (set_away true) there.1)
-    by false out is = ap is_offline is ∙ here (old out)
+    by : (b : Bool) → (nat_le from j && nat_lt j to) ≡ b → stub_at j (punched from to stubs) ≡ (if b then set_away true (stub_at j stubs) else stub_at j stubs) → (was || (nat_le from j && nat_lt j to && low)) ≡ offline_at (punched from to stubs) j
+    by true within is =
+        let there = can (above within).0 (above within).1 in
+        rw (within, there.1) (or-true was) ∙ sym (ap is_offline (is ∙ ap (set_away true) there.0.1))
+    by false out is = rw out (or-false was) ∙ (here ∙ sym (ap is_offline is))
 
 -- ---- a live store
 
@@ -168,8 +168,10 @@ module _ {D : Type 0} (g : Ghosts D) (p : Parts D) (k : FileKey) (from to n : �
     new_own : IsBody b (without_segments from n file)
     new_own = record {
       size = ap length bytes ∙ length-zeroed from to old_body.bytes (rw own.size x.start) ∙ own.size;
-      here = λ j gone.
-          still_away from (from + n) file.kept.stubs j (is_away old_body j) (nat_lt (65536 * j) (length old_body.bytes)) (λ above below. let it = x.can j above below in (sealed_by it.entry, it.is)) (own.here j) (sym (subst (λ t. is_away b j ≡ (is_away old_body j || (nat_le from j && nat_lt j t && nat_lt (65536 * j) (length old_body.bytes)))) end (away j)) ∙ gone);
+      here = λ j.
+          subst (λ t. is_away b j ≡ (is_away old_body j || (nat_le from j && nat_lt j t && nat_lt (65536 * j) (length old_body.bytes)))) end (away j)
+          ∙ now_away from (from + n) file.kept.stubs j (is_away old_body j) (nat_lt (65536 * j) (length old_body.bytes))
+          (λ above below. let it = x.can j above below in ((sealed_by it.entry, it.is), lt-ltb (65536 * j) (length old_body.bytes) (let start = it.start in let size = own.size in omega arith))) (own.here j);
     }
 
     becomes : held_with (set p.bodies (k.ino - 1) b) next ≡ held_next
@@ -186,9 +188,8 @@ module _ {D : Type 0} (g : Ghosts D) (p : Parts D) (k : FileKey) (from to n : �
     }
 
     pub gone : (new : D) (m : Meta) (number : ℕ) (wrote : Bool) → Tells g p.disk p.meta number wrote new m → m.current ≡ after_all records p.meta.current → IsMeta m → Backs g new m → StoresOrKeeps g p.disk new p.meta number
-        → IsDone g p number held_next (after_event p new m wrote (set p.bodies (k.ino - 1) b) (unmarked freed p.space.current) p.space.current true)
+        → IsDone g p number held_next (after_event p new m wrote (set p.bodies (k.ino - 1) b) (unmarked freed p.space.current) p.space.current)
     gone new m number wrote tells taken lawful backs turns =
         let current = taken ∙ are_going.become in
-        done g p x.lawful x.live number new m (set p.bodies (k.ino - 1) b) (unmarked freed p.space.current) p.space.current true backs held_next (ap (held_with (set p.bodies (k.ino - 1) b)) current ∙ becomes)
+        done g p x.lawful x.live number new m (set p.bodies (k.ino - 1) b) (unmarked freed p.space.current) p.space.current backs held_next (ap (held_with (set p.bodies (k.ino - 1) b)) current ∙ becomes)
         (λ c gives. ap (held_at (blocks_in_image p.meta.durable.geometry c)) current ∙ holds_next c gives) (marks ∙ ap marks_of (sym current)) (rw x.live.marks (marks_there p.meta.current x.lawful.current)) wrote tells lawful turns (files_next m current lawful)
-        (λ idle. absurd cc)

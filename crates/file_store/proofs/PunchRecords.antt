@@ -1,6 +1,6 @@
 -- The records of a punch: that they can come, that nothing refuses them, and the catalog after them.
-use Rattle.std.proofs.Common.{◌≡◌, ℕ, zero, suc, ◌+◌, ◌*◌, ◌<◌, ◌≤◌, List, [], ◌∷◌, Bool, true, false, Option, Some, None, refl, sym, ◌∙◌, ap, subst, arith}
-use Rattle.std.specs.Prelude.{nat_le, nat_lt, ◌&&◌, if◌then◌else◌}
+use Rattle.std.proofs.Common.{◌≡◌, ℕ, zero, suc, ◌+◌, ◌*◌, ◌<◌, ◌≤◌, List, [], ◌∷◌, true, false, Option, Some, None, refl, sym, ◌∙◌, ap, subst, arith}
+use Rattle.std.specs.Prelude.{nat_le, nat_lt, ◌&&◌}
 use Rattle.std.specs.List.{AllByRecursion}
 use Rattle.std.specs.List.Sorted.{IsStrictlySortedBy}
 use Rattle.std.specs.Map.{keys_of}
@@ -11,13 +11,13 @@ use Rattle.hsm_types.specs.Stubs.{Stubs, stub_at, punched}
 use Rattle.hsm_types.specs.declared.keys.FileKey.{FileKey}
 use Rattle.hsm_types.specs.declared.stubs.Stub.{Stub as StubOf}
 use Rattle.hsm_types.specs.declared.stubs.StubEntry.{StubEntry}
-use Rattle.hsm_types.proofs.Stubbing.{set_away, stub_at-punched}
-use Rattle.plain_model.specs.Keyed.{find_key, change_key, same_key}
+use Rattle.hsm_types.proofs.Stubbing.{stub_at-punched}
+use Rattle.plain_model.specs.Keyed.{find_key, change_key}
 use Rattle.meta_store.specs.Catalogs.{CatalogFile, Catalog, HasLengths, AreLengths}
-use Rattle.meta_store.specs.Records.{file_after, with_changed, key_on, after, after_all, refusal_of_all, refusal_of, CanStandAll, CanStand, IsStubbable, IsSure, IsEvent}
+use Rattle.meta_store.specs.Records.{file_after, with_changed, key_on, after, after_all, refusal_of_all, refusal_of, CanStandAll, CanStand, IsSure, IsEvent}
 use Rattle.meta_store.specs.declared.records.Record.{Record}
 use Rattle.meta_store.specs.declared.records.Record.TheVariants.{Stub}
-use Rattle.meta_store.proofs.ClearedPlaces.{cleared, without-cleared, cleared-nothing}
+use Rattle.meta_store.proofs.ClearedPlaces.{without-cleared, cleared-nothing}
 use Rattle.meta_store.proofs.FileEdits.{each-changed}
 use Rattle.meta_store.proofs.StubLists.{punched-with}
 use Rattle.file_store.specs.Punches.{away_by, punch_records}
@@ -91,7 +91,7 @@ going ino k stubs from (suc n) c f on found sorted same can =
     let first : Stub ino from (away_by (stub_at from stubs)) ≡ r = ap (λ (o : Option StubOf). Stub ino from (away_by o)) it.is in
     let twice : with_changed k (without_segments (from + 1) n) next ≡ with_changed k (without_segments from (suc n)) c =
     ap (λ (fs : List CatalogFile). record c { files = fs }) (change-found k f (file_after r) (without_segments (from + 1) n) (without_segments from (suc n)) c.files found (λ x. refl) (ap (without_segments (from + 1) n) one ∙ more_gone from n f)) in
-    let can_stand : CanStand r c = (f, ap (λ (j : FileKey). find_key (λ x. x.key) j c.files) on ∙ found, record { start = it.start; volume = it.volume; goes = λ off. here; covered = λ off. it.covered; comes = λ off. absurd cc }) in
+    let can_stand : CanStand r c = (f, ap (λ (j : FileKey). find_key (λ x. x.key) j c.files) on ∙ found, record { fits = record { start = it.start; len = refl; volume = it.volume; covered = λ off. it.covered }; turns = record { goes = λ off. here; comes = λ off. absurd cc } }) in
     let not_refused : refusal_of r c ≡ None = rw (on, found, here) refl in
     record {
       become = ap (λ (x : Record). after_all (x ∷ rest) c) first ∙ ap (after_all rest) step ∙ later.become ∙ twice;

@@ -1,7 +1,6 @@
 -- What is held of a file once some of its segments are away.
-use Rattle.file_store.proofs.Names.{◌≡◌, inl, inr, ⊎_elim, ℕ, ◌+◌, ◌-◌, ◌*◌, ◌<◌, ◌≤◌, min, List, length, get_or, replicate, Option, Some, None, refl, sym, ◌∙◌, ap, subst, arith, AllByRecursion, cases_lt, length-replicate, get_or-replicate, written, length-written, blocks_in, FileKey, find_key, drop_key, FileState, Held, affected_held, remade, CatalogFile, Catalog, IsCatalog, IsCatalogFile, geometry_of, present, with_changed, each-found, file_by, bytes_at, block_at, body_at, held_at}
+use Rattle.file_store.proofs.Names.{◌≡◌, inl, inr, ⊎_elim, ℕ, ◌+◌, ◌-◌, ◌*◌, ◌<◌, ◌≤◌, min, List, length, get_or, replicate, Option, Some, None, refl, sym, ◌∙◌, ap, subst, arith, AllByRecursion, cases_lt, length-replicate, get_or-replicate, written, length-written, blocks_in, FileKey, find_key, drop_key, affected_held, remade, CatalogFile, Catalog, IsCatalog, IsCatalogFile, geometry_of, present, with_changed, each-found, file_by, bytes_at, block_at, body_at, held_at}
 use Rattle.plain_model.specs.Effects.{Punches}
-use Rattle.plain_model.specs.State.{rebody_held}
 use Rattle.meta_store.proofs.ClearedPlaces.{cleared, length-cleared}
 use Rattle.file_store.specs.Bodies.{held_by}
 use Rattle.file_store.proofs.ByBlocks.{Whole, full, has_bytes, same_body, length-body, written-beside, written-in}

@@ -1,16 +1,16 @@
 -- A file without some of its segments: its places, and its stub entries.
-use Rattle.std.proofs.Common.{◌≡◌, ℕ, zero, suc, ◌+◌, ◌-◌, ◌*◌, ◌<◌, ◌≤◌, List, [], ◌∷◌, ◌++◌, length, take, drop, map, get_or, Bool, true, false, Option, Some, None, refl, sym, ◌∙◌, ap, subst, arith, append_assoc, cond}
-use Rattle.std.specs.Prelude.{replicate, min, is_some, nat_le, nat_lt, ◌&&◌, if◌then◌else◌}
+use Rattle.std.proofs.Common.{◌≡◌, ℕ, zero, suc, ◌+◌, ◌-◌, ◌*◌, ◌<◌, ◌≤◌, List, [], ◌∷◌, ◌++◌, length, take, drop, map, get_or, Bool, true, false, Option, Some, None, refl, sym, ◌∙◌, ap, arith, append_assoc}
+use Rattle.std.specs.Prelude.{replicate, min, max, is_some, nat_le, nat_lt, ◌&&◌, if◌then◌else◌}
 use Rattle.std.specs.List.{AllByRecursion}
 use Rattle.std.specs.Map.{keys_of}
-use Rattle.std.proofs.lemmas.List.{length-map, map-append, take-map}
-use Rattle.hsm_types.specs.Stubs.{Stubs, stub_at, is_offline, offline_at, moved, punched}
+use Rattle.std.proofs.lemmas.List.{length-map}
+use Rattle.hsm_types.specs.Stubs.{Stubs, moved, punched}
 use Rattle.hsm_types.specs.declared.stubs.Stub.{Stub}
 use Rattle.hsm_types.specs.declared.stubs.StubEntry.{StubEntry}
 use Rattle.plain_model.specs.Blocks.{with_holes}
 use Rattle.meta_store.specs.Catalogs.{CatalogFile, present}
-use Rattle.meta_store.proofs.BlockUses.{uses, uses-append}
-use Rattle.meta_store.proofs.ClearedPlaces.{cleared, cleared-is, length-cleared}
+use Rattle.meta_store.proofs.BlockUses.{uses}
+use Rattle.meta_store.proofs.ClearedPlaces.{cleared}
 
 -- ---- places
 
@@ -86,7 +86,8 @@ pub flags-punched : (from to n : ℕ) (ps : List (Option ℕ)) → to ≡ from +
 flags-punched from to n ps end =
     let flags : List Bool = map is_some ps in
     let holes : ℕ = min (16 * to) (length flags) - 16 * from in
-    flags-cleared (16 * from) (16 * n) (16 * to) holes ps (omega arith) (omega (arith, length-map ps is_some)) ∙ sym (append_assoc (take (16 * from) flags) (replicate holes false) (drop (16 * to) flags))
+    let last : max from to ≡ to = omega arith in
+    rw last (flags-cleared (16 * from) (16 * n) (16 * to) holes ps (omega arith) (omega (arith, length-map ps is_some)) ∙ sym (append_assoc (take (16 * from) flags) (replicate holes false) (drop (16 * to) flags)))
 
 -- ---- entries
 

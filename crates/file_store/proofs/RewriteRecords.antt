@@ -1,5 +1,5 @@
 -- The records of a change of a file's bytes: that they are its places, the catalog after them, and that they can come.
-use Rattle.file_store.proofs.Names.{◌||◌, true, Bool, ◌*◌, max, map, ◌&&◌, ltb, and_parts, and_from, lt-ltb, cases_eq, ◌/◌, false≢true, is_some, IsSure, Stub, Rewrite, Write, Resize, Restore, effect_of, size_after, rekept, unseals, unsealing, IsHead, AreUnsealed, IsCatalogFile, places_fitted, CanStand, refusal_of, rules, ◌≡◌, ⊎_elim, ◌<◌, ℕ, zero, suc, ◌+◌, ◌-◌, ◌≤◌, min, List, [], ◌∷◌, ◌++◌, length, take, drop, get_or, Option, Some, None, refl, sym, ◌∙◌, ap, arith, length-append, take_all, set, false, eqb, subst, cases_lt, cond_both, ltb-true, drop_more, drop_all, get_or_past, map-append, same_lists, places, from_on, blocks_in, Mapping, Record, Size, Map, present, CatalogFile, Catalog, geometry_of, blocks_of, mappings_from, places_set, file_after, with_changed, key_on, after, after_all, refusal_of_all, IsMappable, CanStandAll, IsEvent, mappings_of, mappings_in, IsMapOn, IsRewriting, places_under, freed_by, remapped, flat_map, list_any, AllByRecursion, FileKey, same_key, find_key, change_key, names_of-change, places_of, uses, uses-append, absent-unused, uses-distinct, length-fitted, length-places_set, uses-fitted, uses-mapped}
+use Rattle.file_store.proofs.Names.{◌||◌, true, Bool, ◌*◌, max, map, ◌&&◌, ltb, and_parts, and_from, lt-ltb, cases_eq, ◌/◌, false≢true, is_some, IsSure, Stub, Rewrite, Write, Resize, Restore, effect_of, size_after, rekept, unseals, unsealing, IsHead, AreUnsealed, IsCatalogFile, places_fitted, CanStand, refusal_of, rules, ◌≡◌, ⊎_elim, ◌<◌, ℕ, zero, suc, ◌+◌, ◌-◌, ◌≤◌, min, List, [], ◌∷◌, ◌++◌, length, take, drop, get_or, Option, Some, None, refl, sym, ◌∙◌, ap, arith, length-append, take_all, set, false, eqb, subst, cases_lt, ltb-true, drop_more, drop_all, get_or_past, map-append, same_lists, places, from_on, blocks_in, Mapping, Record, Map, present, CatalogFile, Catalog, geometry_of, blocks_of, mappings_from, places_set, file_after, with_changed, key_on, after, after_all, refusal_of_all, IsMappable, CanStandAll, IsEvent, mappings_of, mappings_in, IsMapOn, IsRewriting, places_under, freed_by, remapped, flat_map, list_any, AllByRecursion, FileKey, find_key, change_key, names_of-change, places_of, uses, uses-append, absent-unused, uses-distinct, length-fitted, length-places_set, uses-fitted, uses-mapped}
 use Rattle.std.proofs.lemmas.List.{append_assoc, append-nil}
 use Rattle.file_body.proofs.Runs.{length_blocks}
 use Rattle.file_store.proofs.EachOf.{each-parts, each-join, each-weaker, each_member}
@@ -189,7 +189,7 @@ fitted-same : (n : ℕ) (ps : List (Option ℕ)) → length ps ≡ blocks_in n �
 fitted-same n ps count = same_lists _ _ (search (rules, places)) (λ i d h. grind (arith, places))
 
 pub starts-in : (blocks : ℕ) (f : CatalogFile) → IsCatalogFile blocks f → AllByRecursion (λ x. 65536 * x.0 < f.size) f.kept.stubs
-starts-in blocks f is = each-weaker (IsCatalogStub f) (λ x. 65536 * x.0 < f.size) (λ x lawful. lawful.start) f.kept.stubs is.stubs
+starts-in blocks f is = each-weaker (IsCatalogStub f) (λ x. 65536 * x.0 < f.size) (λ x lawful. lawful.fits.start) f.kept.stubs is.stubs
 
 reshapes : (ino : ℕ) (change : Rewrite) (f : CatalogFile) (blocks : ℕ) → IsCatalogFile blocks f → (first : Record) (js : List ℕ) → IsHead ino change f.size f.kept.stubs first
     → AllByRecursion (λ j. unseals change f.size j ≡ true) js → ((j : ℕ) → unseals change f.size j ≡ true → is_some (stub_at j f.kept.stubs) ≡ true → list_any (λ s. eqb s j) js ≡ true)
@@ -366,11 +366,8 @@ restores-stand : (segment : ℕ) (stub : StubOf) (blocks : ℕ) (f : CatalogFile
 restores-stand segment stub blocks f lawful at =
     let is = stub-each (IsCatalogStub f) f.kept.stubs segment stub lawful.stubs at in
     record {
-      start = is.start;
-      volume = is.volume;
-      goes = λ away. absurd (false≢true away);
-      covered = λ away. absurd (false≢true away);
-      comes = λ here off. at ∙ ap (λ (b : Bool). Some (record stub { offline = b })) (sym (ap is_offline at) ∙ off);
+      fits = record { start = is.fits.start; len = refl; volume = is.fits.volume; covered = λ away. absurd (false≢true away) };
+      turns = record { goes = λ away. absurd (false≢true away); comes = λ here off. at ∙ ap (λ (b : Bool). Some (record stub { offline = b })) (sym (ap is_offline at) ∙ off) };
     }
 
 first-stands : (ino : ℕ) (change : Rewrite) (f : CatalogFile) (first : Record) (c : Catalog) → find_key (λ x. x.key) (key_on ino c) c.files ≡ Some f → IsCatalogFile (geometry_of c.geometry).blocks f → MayChange change f → IsHead ino change f.size f.kept.stubs first → CanStand first c

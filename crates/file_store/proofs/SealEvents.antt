@@ -1,10 +1,10 @@
 -- Sealing a segment of a live file: that its record can come, and what refuses it.
-use Rattle.file_store.proofs.Names.{◌≡◌, ◌*◌, ◌<◌, ◌≤◌, ℕ, List, [], ◌∷◌, length, Bool, true, false, Option, Some, None, refl, sym, ◌∙◌, ap, subst, arith, IsSome, FileKey, find_key, bytes_of, Record, Stub, CatalogFile, Catalog, geometry_of, key_on, kept_at, CanStand, refusal_of, Meta, IsMeta, IsHeldFiles, HeldBody, held_with, bytes_with, IsBodiless, Kept, if◌then◌else◌}
+use Rattle.file_store.proofs.Names.{◌≡◌, ◌*◌, ◌<◌, ◌≤◌, ℕ, List, [], ◌∷◌, length, Bool, true, false, Option, Some, None, refl, sym, ◌∙◌, ap, subst, IsSome, FileKey, find_key, bytes_of, Record, Stub, geometry_of, key_on, kept_at, CanStand, refusal_of, Meta, IsMeta, IsHeldFiles, HeldBody, held_with, bytes_with, IsBodiless, Kept, if◌then◌else◌}
 use Rattle.std.proofs.lemmas.Bool.{false≢true}
 use Rattle.std.proofs.lemmas.Option.{same_Some}
 use Rattle.hsm_types.specs.Refusals.{first_refusal}
 use Rattle.hsm_types.specs.Segments.{segment_len}
-use Rattle.hsm_types.specs.Stubs.{stub_at, is_offline, offline_at, already_offline, too_many_stubs, sealing_refusal, print_of}
+use Rattle.hsm_types.specs.Stubs.{stub_at, is_offline, offline_at, already_offline, sealing_refusal, print_of}
 use Rattle.hsm_types.specs.declared.dm.DmRefusal.{DmRefusal}
 use Rattle.hsm_types.specs.declared.dm.DmRefusal.TheVariants.{Offline}
 use Rattle.hsm_types.specs.declared.stubs.Fingerprint.{Fingerprint}
@@ -13,7 +13,6 @@ use Rattle.hsm_types.specs.declared.stubs.StubEntry.{StubEntry}
 use Rattle.plain_model.proofs.Bodies.{length-read}
 use Rattle.plain_model.specs.Plain.{segment}
 use Rattle.plain_model.specs.Services.{kept_of, other_stubs}
-use Rattle.meta_store.specs.Records.{others_stubs}
 use Rattle.file_store.specs.Effects.{IsSeal}
 use Rattle.file_store.proofs.FilesBy.{kept-held, kept-found, stubs-others, key_on-live}
 use Rattle.file_store.proofs.WithBodies.{IsFound, live-held, body-held, is-body}
@@ -65,7 +64,7 @@ module _ (bs : List HeldBody) (m : Meta) (is : IsHeldFiles bs m) (k : FileKey) (
       seals = (key, λ f found. let same : at.file ≡ f = same_Some at.file f (sym at.found ∙ found) in subst (IsSeal j (record { entry = entry; offline = false })) same (record { stays = refl; here = here; len = of_length }))
 
       pub can_seal : CanStand (sealing j entry k) m.current
-      can_seal = (at.file, ap (λ (i : FileKey). find_key (λ f. f.key) i m.current.files) key ∙ at.found, record { start = rw (← size) start; volume = volume; goes = λ off. absurd cc; covered = λ off. absurd cc; comes = λ stays off. absurd (false≢true (sym here ∙ off)) })
+      can_seal = (at.file, ap (λ (i : FileKey). find_key (λ f. f.key) i m.current.files) key ∙ at.found, record { fits = record { start = rw (← size) start; len = refl; volume = volume; covered = λ off. absurd cc }; turns = record { goes = λ off. absurd cc; comes = λ stays off. absurd (false≢true (sym here ∙ off)) } })
 
   -- or that it is offline
   pub refused_offline : (why : DmRefusal) → already_offline j (stub_at j (kept_at k m.current).stubs) ≡ Some why → sealing_refusal j (other_stubs k (held_with bs m.current).files) (geometry_of m.durable.geometry).stubs (kept_of k (held_with bs m.current).files).stubs ≡ Some why

@@ -1,15 +1,15 @@
--- Files whose segments are sealed: their entries keep the lengths of their segments, and no more of them are offline.
-use Rattle.std.proofs.Common.{◌≡◌, ℕ, List, [], ◌∷◌, Bool, true, false, Option, Some, None, Ordering, Less, Equal, Greater, refl, sym, ◌∙◌, ap, subst, arith}
+-- Files whose segments are sealed: their entries keep the lengths of their segments, and the same ones are offline.
+use Rattle.std.proofs.Common.{◌≡◌, ℕ, [], ◌∷◌, Bool, true, false, Some, None, Ordering, Less, Equal, Greater, refl, sym, ◌∙◌, ap, arith}
 use Rattle.std.specs.Prelude.{◌==◌, if◌then◌else◌}
 use Rattle.std.specs.BTreeMap.{insert_entry}
 use Rattle.std.specs.List.{AllByRecursion}
 use Rattle.std.specs.Ordering.{nat_cmp, match_ordering}
-use Rattle.std.proofs.lemmas.Bool.{eqb-true, false≢true}
+use Rattle.std.proofs.lemmas.Bool.{eqb-true}
 use Rattle.hsm_types.specs.Segments.{segment_len}
 use Rattle.hsm_types.specs.Stubs.{Stubs, stub_at, is_offline, offline_at, with_stub}
 use Rattle.hsm_types.specs.declared.keys.FileKey.{FileKey}
 use Rattle.hsm_types.specs.declared.stubs.Stub.{Stub as StubOf}
-use Rattle.plain_model.specs.Keyed.{find_key, drop_key}
+use Rattle.plain_model.specs.Keyed.{find_key}
 use Rattle.meta_store.specs.Catalogs.{CatalogFile, Catalog, HasLengths, AreLengths}
 use Rattle.meta_store.specs.Records.{file_after, inode_of, key_on, after, CanStand}
 use Rattle.meta_store.specs.declared.records.Record.{Record}
@@ -25,13 +25,13 @@ seal_is stub off = ap (λ (b : Bool). record stub { offline = b }) (sym off)
 pub seal-places : (ino j : ℕ) (stub : StubOf) (f : CatalogFile) → stub.offline ≡ false → (file_after (Stub ino j (Some stub)) f).places ≡ f.places
 seal-places ino j stub f off = rw off refl
 
--- a segment that is offline isn't the one that is sealed
-pub seal-away : (j i : ℕ) (stub : StubOf) (stubs : Stubs) → offline_at stubs j ≡ false → offline_at stubs i ≡ true → offline_at (with_stub j stub stubs) i ≡ true
-seal-away j i stub stubs here away = by (i == j) refl (stub_at-with j stub stubs i)
+-- where a segment is sealed that isn't offline, the same ones are offline
+pub seal-same : (j i : ℕ) (stub : StubOf) (stubs : Stubs) → offline_at stubs j ≡ false → stub.offline ≡ false → offline_at (with_stub j stub stubs) i ≡ offline_at stubs i
+seal-same j i stub stubs here stays = by (i == j) refl (stub_at-with j stub stubs i)
   where
-    by : (b : Bool) → (i == j) ≡ b → stub_at i (with_stub j stub stubs) ≡ (if b then Some stub else stub_at i stubs) → offline_at (with_stub j stub stubs) i ≡ true
-    by true same is = absurd (false≢true (sym here ∙ subst (λ n. offline_at stubs n ≡ true) (eqb-true i j same) away))
-    by false other is = ap is_offline is ∙ away
+    by : (b : Bool) → (i == j) ≡ b → stub_at i (with_stub j stub stubs) ≡ (if b then Some stub else stub_at i stubs) → offline_at (with_stub j stub stubs) i ≡ offline_at stubs i
+    by true same is = ap is_offline is ∙ (stays ∙ (sym here ∙ ap (offline_at stubs) (sym (eqb-true i j same))))
+    by false other is = ap is_offline is
 
 -- ---- lengths
 

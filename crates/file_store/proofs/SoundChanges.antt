@@ -1,9 +1,10 @@
 -- A change of the bytes of a file that is sound: which of its segments are here, before it and after it, and that its entries keep their lengths.
-use Rattle.file_store.proofs.Names.{◌≡◌, ⊎_elim, ℕ, zero, suc, ◌+◌, ◌-◌, ◌*◌, ◌/◌, ◌%◌, ◌<◌, ◌≤◌, min, max, List, [], ◌∷◌, ◌++◌, length, Bool, true, false, ◌&&◌, Option, Some, None, refl, sym, ◌∙◌, ap, subst, arith, cond, cond_both, eqb, ltb, if◌then◌else◌, AllByRecursion, false≢true, and_parts, ltb-true, lt-ltb, and_from, Rewrite, Write, Resize, Restore, effect_of, unseals, IsRewrite, IsWithin, HasEntry, IsBrought, HasRange, IsLeft, size_after, touched, from_on, met, old_end, blocks_in, rekept, remapped, Mapping, CatalogFile, IsCatalogFile, file_by, HeldBody, is_away, KeepsHere, IsHere}
-use Rattle.std.specs.Prelude.{filter, not, map, nat_le, nat_lt, IfSome}
+use Rattle.file_store.proofs.Names.{◌≡◌, ℕ, zero, suc, ◌+◌, ◌-◌, ◌*◌, ◌/◌, ◌%◌, ◌<◌, ◌≤◌, min, max, List, [], ◌∷◌, ◌++◌, length, Bool, true, false, ◌&&◌, Option, Some, None, refl, sym, ◌∙◌, ap, subst, ⊎_elim, arith, cond_both, eqb, ltb, ◌==◌, if◌then◌else◌, AllByRecursion, false≢true, and_parts, ltb-true, lt-ltb, and_from, Rewrite, Write, Resize, Restore, effect_of, unseals, IsRewrite, IsWithin, HasEntry, BringsOffline, BringsAway, HasRoom, HasRange, brings, spares, touched, from_on, met, old_end, blocks_in, rekept, remapped, Mapping, CatalogFile, IsCatalogFile, file_by, HeldBody, is_away, IsHere}
+use Rattle.std.specs.Prelude.{not, nat_le, nat_lt, IfSome}
 use Rattle.std.specs.Option.{option_map}
 use Rattle.std.proofs.lemmas.Bool.Decides.{nat_tests}
-use Rattle.std.proofs.lemmas.Bool.{eq-eqb, ne_eqb, le-ltb}
+use Rattle.std.proofs.Math.Bool.{and-true, and-false}
+use Rattle.std.proofs.lemmas.Bool.{ltb-false, cases_eq, eq-eqb, ne_eqb}
 use Rattle.hsm_types.specs.Segments.{segment_len, meets_segment}
 use Rattle.hsm_types.specs.Stubs.{Stubs, stub_at, is_offline, offline_at, moved, restored, unsealed}
 use Rattle.hsm_types.specs.declared.stubs.Fingerprint.{Fingerprint}
@@ -12,7 +13,6 @@ use Rattle.hsm_types.proofs.Stubbing.{stub_at-unsealed, stub_at-restored}
 use Rattle.plain_model.specs.Sound.{IsSound}
 use Rattle.meta_store.specs.Catalogs.{IsCatalogStub, HasLengths}
 use Rattle.meta_store.proofs.StubLists.{each-at as stub-each}
-use Rattle.file_store.proofs.EachOf.{each-weaker, each-join}
 use Rattle.file_store.proofs.Loaded.{offline-some}
 use Rattle.file_store.proofs.UnsealedEntries.{each-filter}
 
@@ -22,10 +22,11 @@ pub record Allowed (change : Rewrite) (f : CatalogFile) : Type 0 where
   pub within : IsWithin change f.size
   pub entry : HasEntry change f.kept.stubs
   pub free : (j : ℕ) → unseals change f.size j ≡ true → offline_at f.kept.stubs j ≡ false
+  pub starts : (j : ℕ) → offline_at f.kept.stubs j ≡ true → 65536 * j < f.size
 
 -- a segment with an entry begins within the file
 offline-starts : (blocks : ℕ) (f : CatalogFile) → IsCatalogFile blocks f → (j : ℕ) → offline_at f.kept.stubs j ≡ true → 65536 * j < f.size
-offline-starts blocks f lawful j off = let at = offline-some (stub_at j f.kept.stubs) off in (stub-each (IsCatalogStub f) f.kept.stubs j at.0 lawful.stubs at.1).start
+offline-starts blocks f lawful j off = let at = offline-some (stub_at j f.kept.stubs) off in (stub-each (IsCatalogStub f) f.kept.stubs j at.0 lawful.stubs at.1).fits.start
 
 unless : (b : Bool) → (b ≡ true → b ≡ false) → b ≡ false
 unless true step = step refl
@@ -42,7 +43,7 @@ meets-from from to j some low high = and_from (ltb from to && ltb from (65536 * 
 
 module _ (B : CatalogFile → List ℕ) (f : CatalogFile) (blocks : ℕ) (lawful : IsCatalogFile blocks f) (lengths : HasLengths f) (size : length (B f) ≡ f.size) where
   pub allowed : (change : Rewrite) → IsSound (effect_of change) (file_by B f) → Allowed change f
-  allowed (Write offset bytes) sound = record { within = tt; entry = tt; free = λ j drops. sound j (rw size drops) }
+  allowed (Write offset bytes) sound = record { within = tt; entry = tt; free = λ j drops. sound j (rw size drops); starts = offline-starts blocks f lawful }
   allowed (Resize to) sound = record {
     within = tt;
     entry = tt;
@@ -52,13 +53,14 @@ module _ (B : CatalogFile → List ℕ) (f : CatalogFile) (blocks : ℕ) (lawful
         let low = ltb-true (65536 * j) to parts.1 in
         let around = rw size at sound in
         unless (offline_at f.kept.stubs j) (λ off. let start = offline-starts blocks f lawful j off in let some = meets.0 in let inside = meets.1 in around (λ same. absurd (omega arith)) j (omega arith) inside);
+    starts = offline-starts blocks f lawful;
   }
   allowed (Restore segment bytes) sound =
       let at = sound.1 in
       let len = stub-each (λ x. x.1.entry.print.len ≡ segment_len f.size x.0) f.kept.stubs segment at.0 lengths at.1 in
       let own = ap (λ (p : Fingerprint). p.len) at.2 in
       let start = rw size at sound.0 in
-      record { within = omega (arith, len, own, start); entry = (at.0, at.1); free = λ j drops. absurd (false≢true drops) }
+      record { within = omega (arith, len, own, start); entry = (at.0, at.1); free = λ j drops. absurd (false≢true drops); starts = offline-starts blocks f lawful }
 
 -- bytes that come back: some, no more than a segment has, and within the longest file
 pub restores-lawful : (size segment len : ℕ) → len ≡ segment_len size segment → 65536 * segment < size → size ≤ 16777216 → (1 ≤ len) × (len ≤ 65536) × (65536 * segment + len ≤ 16777216)
@@ -112,6 +114,31 @@ unsealed-here from to stubs j meets = ap is_offline (stub_at-unsealed from to st
 unsealed-stays : (from to : ℕ) (stubs : Stubs) (j : ℕ) → meets_segment from to j ≡ false → offline_at (unsealed from to stubs) j ≡ offline_at stubs j
 unsealed-stays from to stubs j apart = ap is_offline (stub_at-unsealed from to stubs j) ∙ rw apart refl
 
+-- entries that go where the range meets no segment that is offline
+unsealed-free : (from to : ℕ) (stubs : Stubs) (j : ℕ) → (meets_segment from to j ≡ true → offline_at stubs j ≡ false) → offline_at (unsealed from to stubs) j ≡ offline_at stubs j
+unsealed-free from to stubs j free = by (meets_segment from to j) refl
+  where
+    by : (b : Bool) → meets_segment from to j ≡ b → offline_at (unsealed from to stubs) j ≡ offline_at stubs j
+    by true meets = unsealed-here from to stubs j meets ∙ sym (free meets)
+    by false apart = unsealed-stays from to stubs j apart
+
+-- and where the file is resized, which leaves what is offline below the new end
+cut-away : (size to : ℕ) (stubs : Stubs) (j : ℕ) → ((meets_segment (min to size) (max to size) j && nat_lt (65536 * j) to) ≡ true → offline_at stubs j ≡ false) → (offline_at stubs j ≡ true → 65536 * j < size)
+    → (offline_at stubs j && nat_lt (65536 * j) to) ≡ offline_at (unsealed (min to size) (max to size) stubs) j
+cut-away size to stubs j free starts = by (meets_segment (min to size) (max to size) j) (nat_lt (65536 * j) to) refl refl
+  where
+    by : (meets below : Bool) → meets_segment (min to size) (max to size) j ≡ meets → nat_lt (65536 * j) to ≡ below → (offline_at stubs j && nat_lt (65536 * j) to) ≡ offline_at (unsealed (min to size) (max to size) stubs) j
+    by true true meets below = rw below (and-true (offline_at stubs j) ∙ free (and_from (meets_segment (min to size) (max to size) j) (nat_lt (65536 * j) to) meets below)) ∙ sym (unsealed-here (min to size) (max to size) stubs j meets)
+    by true false meets past = rw past (and-false (offline_at stubs j)) ∙ sym (unsealed-here (min to size) (max to size) stubs j meets)
+    by false true apart below = rw below (and-true (offline_at stubs j)) ∙ sym (unsealed-stays (min to size) (max to size) stubs j apart)
+    by false false apart past =
+        rw past (and-false (offline_at stubs j))
+        ∙ sym (unsealed-stays (min to size) (max to size) stubs j apart
+        ∙ unless (offline_at stubs j) (λ off.
+        let start = starts off in
+        let end = ltb-false (65536 * j) to past in
+        absurd (false≢true (sym apart ∙ meets-from (min to size) (max to size) j (omega arith) (omega arith) (omega arith)))))
+
 never-offline : (o : Option StubOf) → is_offline (option_map (λ (x : StubOf). record x { offline = false }) o) ≡ false
 never-offline None = refl
 never-offline (Some stub) = refl
@@ -159,34 +186,42 @@ touched-here (Restore segment bytes) f may =
 
 -- ---- bodies
 
--- a body that has room for the change, of one that had what isn't offline
-module _ (change : Rewrite) (f : CatalogFile) (is : Allowed change f) (old room : HeldBody) (here : IsHere old f) (keeps : KeepsHere old room) (brought : IsBrought change room) where
+-- what comes back is away
+pub brings-away : (change : Rewrite) (f : CatalogFile) (body : HeldBody) → IsHere body f → BringsOffline change f.kept.stubs → BringsAway change body
+brings-away (Write offset bytes) f body here off = tt
+brings-away (Resize to) f body here off = tt
+brings-away (Restore segment bytes) f body here off = here segment ∙ off
+
+-- a body that has room for the change, of one whose segments were away exactly where they are offline
+module _ (change : Rewrite) (f : CatalogFile) (is : Allowed change f) (old room : HeldBody) (here : IsHere old f) (has : HasRoom change old room) where
   -- bytes are put only where they are here
   pub has-range : IsRewrite change → HasRange change room
-  has-range may = by change is keeps brought may
+  has-range may = by change is has may
     where
-      by : (c : Rewrite) → Allowed c f → KeepsHere old room → IsBrought c room → IsRewrite c → HasRange c room
-      by (Write offset bytes) is keeps brought may = λ i low high.
+      by : (c : Rewrite) → Allowed c f → HasRoom c old room → IsRewrite c → HasRange c room
+      by (Write offset bytes) is has may = λ i low high.
           let j : ℕ = i / 65536 in
-          unless (is_away room j) (λ away. absurd (false≢true (sym (is.free j (meets-from (min offset f.size) (offset + length bytes.now) j (omega arith) (omega arith) (omega arith))) ∙ here j (keeps j away))))
-      by (Resize to) is keeps brought may = tt
-      by (Restore segment bytes) is keeps brought may = λ i low high.
+          has.away j ∙ ap (λ (b : Bool). b && true) (here j ∙ is.free j (meets-from (min offset f.size) (offset + length bytes.now) j (omega arith) (omega arith) (omega arith)))
+      by (Resize to) is has may = tt
+      by (Restore segment bytes) is has may = λ i low high.
           let most = may.1 in
           let same : i / 65536 ≡ segment = omega arith in
-          ap (is_away room) same ∙ brought
+          has.away (i / 65536) ∙ rw (same, eq-eqb segment segment refl) (and-false (is_away old segment))
 
-  -- and what is away after the change is offline then
-  pub here-after : (new : HeldBody) (ms : List Mapping) → ((j : ℕ) → is_away new j ≡ true → (is_away room j ≡ true) × IsLeft change j) → IsHere new (remapped change f.size ms f)
-  here-after new ms away j gone = by change is brought (away j gone).0 (away j gone).1
+  -- and what is away after the change is what is offline then
+  pub here-after : (new : HeldBody) (ms : List Mapping) → ((j : ℕ) → is_away new j ≡ (is_away room j && spares change j)) → IsHere new (remapped change f.size ms f)
+  here-after new ms away j = by change is (away j ∙ ap (λ (b : Bool). b && spares change j) (has.away j ∙ ap (λ (b : Bool). b && not (brings change j)) (here j)))
     where
-      by : (c : Rewrite) → Allowed c f → IsBrought c room → is_away room j ≡ true → IsLeft c j → offline_at (rekept (effect_of c) f.size f.kept).stubs j ≡ true
-      by (Write offset bytes) is brought out left =
-          let off = here j (keeps j out) in
-          unsealed-stays (min offset f.size) (offset + length bytes.now) f.kept.stubs j (unless (meets_segment (min offset f.size) (offset + length bytes.now) j) (λ meets. absurd (false≢true (sym (is.free j meets) ∙ off)))) ∙ off
-      by (Resize to) is brought out left =
-          let off = here j (keeps j out) in
-          unsealed-stays (min to f.size) (max to f.size) f.kept.stubs j
-          (unless (meets_segment (min to f.size) (max to f.size) j) (λ meets. absurd (false≢true (sym (is.free j (and_from (meets_segment (min to f.size) (max to f.size) j) (ltb (65536 * j) to) meets (lt-ltb (65536 * j) to left))) ∙ off))))
-          ∙ off
-      by (Restore segment bytes) is brought out left =
-          restored-stays segment f.kept.stubs j (λ same. false≢true (sym brought ∙ subst (λ (i : ℕ). is_away room i ≡ true) same out)) ∙ here j (keeps j out)
+      by : (c : Rewrite) → Allowed c f → is_away new j ≡ (offline_at f.kept.stubs j && not (brings c j) && spares c j) → is_away new j ≡ offline_at (rekept (effect_of c) f.size f.kept).stubs j
+      by (Write offset bytes) is now =
+          now ∙ and-true (offline_at f.kept.stubs j && true) ∙ and-true (offline_at f.kept.stubs j)
+          ∙ sym (unsealed-free (min offset f.size) (offset + length bytes.now) f.kept.stubs j (is.free j))
+      by (Resize to) is now =
+          now ∙ ap (λ (b : Bool). b && nat_lt (65536 * j) to) (and-true (offline_at f.kept.stubs j))
+          ∙ cut-away f.size to f.kept.stubs j (is.free j) (is.starts j)
+      by (Restore segment bytes) is now =
+          now ∙ and-true (offline_at f.kept.stubs j && not (j == segment))
+          ∙ ⊎_elim
+          (λ (q : j ≡ segment). rw (q, eq-eqb segment segment refl) (and-false (offline_at f.kept.stubs segment) ∙ sym (restored-here segment f.kept.stubs)))
+          (λ (q : j ≡ segment → ⊥). rw (ne_eqb j segment q) (and-true (offline_at f.kept.stubs j) ∙ sym (restored-stays segment f.kept.stubs j q)))
+          (cases_eq j segment)

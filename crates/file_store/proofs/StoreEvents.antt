@@ -1,20 +1,20 @@
 -- Events of a live store: a record that concerns no bytes of a file that stays, and bytes with their records.
-use Rattle.file_store.proofs.Names.{KeepsHere, HeldBody, no_body, IsHere, IsWithin, ◌/◌, held_file, file_or_new, file_by, option_map, rekept, touched, Restore, each-drop, ◌+◌, IsSome, find_key, used, bytes_with, new_size, touched_of, places_for, IsStaged, get_or, ◌≡◌, ℕ, ◌<◌, List, [], ◌∷◌, length, Bool, true, false, ◌||◌, Option, Some, None, refl, sym, ◌∙◌, ap, subst, All, inl, inr, zero, suc, ◌-◌, ◌*◌, ◌≤◌, take, drop, set, arith, length-take, or_parts, cond_both, FileKey, Space, unmarked, free, marked, Record, Catalog, IsCatalogFile, geometry_of, present, blocks_of, after, CanStand, refusal_of, refusal_of_all, with_changed, after_all, CanStandAll, key_on, blocks_in_image, IsImage, Meta, IsMeta, Backs, StoresOrKeeps, held_at, held_with, block_of, bytes_at, IsBodiless, held_after, drops, Store, IsLive, IsSound, marks_of, IsEither, Proceeds, AllByRecursion, All-from_recursion, All-weaker, part, Follows, MayBe, Keeps, holds_on, holds_now, layout_of, rebody, blocks_in, size_after, Held, bytes_of, affected_held, Mapping, each-found, Rewrite, Write, Resize, IsBesideBlocks, HasBlocks, effect_of, IsRewrite, IsRewriting, mappings_of, remapped, freed_by, places_under, IsHeldFiles, IsFree, length-marked, marked_keeps, taken_are_free, release_undoes_take, uses, uses-append, Ghosts}
+use Rattle.file_store.proofs.Names.{IsAlike, HeldBody, no_body, IsHere, IsWithin, ◌/◌, held_file, file_or_new, file_by, option_map, rekept, touched, Restore, each-drop, ◌+◌, IsSome, find_key, used, bytes_with, new_size, touched_of, places_for, IsStaged, get_or, ◌≡◌, ℕ, ◌<◌, List, [], ◌∷◌, length, Bool, true, false, Option, Some, None, refl, sym, ◌∙◌, ap, subst, All, inl, inr, zero, suc, ◌-◌, ◌*◌, ◌≤◌, take, drop, set, arith, length-take, FileKey, Space, unmarked, free, marked, Record, Catalog, IsCatalogFile, geometry_of, present, blocks_of, after, CanStand, refusal_of, refusal_of_all, with_changed, after_all, CanStandAll, key_on, blocks_in_image, IsImage, Meta, IsMeta, Backs, StoresOrKeeps, held_at, held_with, block_of, bytes_at, IsBodiless, held_after, Store, IsLive, IsSound, marks_of, IsEither, Proceeds, AllByRecursion, All-from_recursion, All-weaker, part, Follows, MayBe, Keeps, holds_on, holds_now, layout_of, rebody, blocks_in, size_after, Held, bytes_of, affected_held, Mapping, each-found, Rewrite, Write, Resize, IsBesideBlocks, HasBlocks, effect_of, IsRewrite, IsRewriting, mappings_of, remapped, freed_by, places_under, IsHeldFiles, IsFree, length-marked, marked_keeps, taken_are_free, release_undoes_take, uses, uses-append, Ghosts}
 use Rattle.hsm_types.specs.declared.dm.DmRefusal.{DmRefusal}
 use Rattle.meta_store.specs.declared.refusal.MetaRefusal.{MetaRefusal}
 use Rattle.meta_store.specs.declared.refusal.MetaRefusal.TheVariants.{Part, Disk, Memory}
 use Rattle.file_store.specs.Effects.{IsFreed}
-use Rattle.file_store.specs.Refusals.{refused_as}
+use Rattle.file_store.specs.Refusals.{is_disk, refused_as}
 use Rattle.file_store.proofs.Durable.{Parts, store_of, Tells, IsDone, after_event, done, proceeds_on, kept_proceeds}
-use Rattle.file_store.proofs.Marks.{enough, marks-after, none-freed, freed-within, marks_there, length-marks, marks-moved, ArePlaces, are_places}
-use Rattle.file_store.proofs.WithBodies.{IsHeldFiles-back, held_with-back, each-changed, is-body, bytes-of, live-held, body-held, bodies_after, held_at-after, held_with-after, IsHeldFiles-after, IsFound, bytes-held, body-of, held_with-rewritten, IsHeldFiles-rewritten}
+use Rattle.file_store.proofs.Marks.{others_free, marks-after, freed-within, marks_there, length-marks, marks-moved, ArePlaces, are_places}
+use Rattle.file_store.proofs.WithBodies.{IsHeldFiles-back, held_with-back, each-changed, is-body, bytes-of, live-held, body-held, bodies_after, held_at-after, held_with-after, IsHeldFiles-after, IsFound, bytes-held, held_with-rewritten, IsHeldFiles-rewritten}
 use Rattle.file_store.proofs.Beside.{blocks_fit, block_in, length-block, image_beside, used_stay, held_beside, backs_beside, mapped}
 use Rattle.file_store.proofs.ByBlocks.{at_place}
 use Rattle.file_store.proofs.DataBlocks.{held-changed}
 use Rattle.file_store.proofs.EachOf.{each-weaker, each-both, each-join, each-mapped}
 use Rattle.file_store.proofs.ByteChanges.{touched-below, touched-ascends}
 use Rattle.file_store.proofs.FilesBy.{key_on-live, used-held, find-held}
-use Rattle.file_store.proofs.RewriteRecords.{IsFit, MayChange, after_rewriting, can_stand, not_refused}
+use Rattle.file_store.proofs.RewriteRecords.{IsFit, after_rewriting, can_stand, not_refused}
 use Rattle.file_store.proofs.SoundChanges.{Allowed, allowed, lengths-after, touched-here}
 use Rattle.hsm_types.specs.Stubs.{Stubs, offline_at}
 use Rattle.plain_model.specs.Sound.{IsSound as IsAllowed}
@@ -31,22 +31,18 @@ module _ {D : Type 0} (g : Ghosts D) (k : FileKey) (r : Record) (freed : List �
   freed_low = rw live.marks (freed-within k p.meta.current sound.meta.current freed r bodiless stands free)
 
   pub recorded : (new : D) (m : Meta) (n : ℕ) (wrote : Bool) (tells : Tells g p.disk p.meta n wrote new m) → m.current ≡ after r p.meta.current → IsMeta m → Backs g new m → StoresOrKeeps g p.disk new p.meta n
-      → IsDone g p n (held_after k r (store_of p).held) (after_event p new m wrote (bodies_after k r p.bodies) (unmarked freed p.space.current) p.space.current (p.pending || drops r))
+      → IsDone g p n (held_after k r (store_of p).held) (after_event p new m wrote (bodies_after k r p.bodies) (unmarked freed p.space.current) p.space.current)
   recorded new m n wrote tells current lawful backs turns =
-      done g p sound.meta live n new m _ _ p.space.current (p.pending || drops r) backs _ (ap (held_with (bodies_after k r p.bodies)) current ∙ held_with-after p.bodies p.meta held k r bodiless stands)
+      done g p sound.meta live n new m _ _ p.space.current backs _ (ap (held_with (bodies_after k r p.bodies)) current ∙ held_with-after p.bodies p.meta held k r bodiless stands)
       (λ c gives. let blocks = blocks_in_image p.meta.durable.geometry c in ap (held_at blocks) current ∙ held_at-after blocks k r p.meta.current bodiless stands ∙ ap (held_after k r) (live.current c gives))
       (ap (unmarked freed) live.marks ∙ marks-after k p.meta.current sound.meta.current freed r bodiless stands free ∙ ap marks_of (sym current)) (rw live.marks (marks_there p.meta.current sound.meta.current)) wrote tells lawful turns
       (IsHeldFiles-after p.bodies p.meta held k r m bodiless stands current lawful.current)
-      (λ idle.
-      let parts = or_parts p.pending (drops r) idle in
-      rw (live.settled parts.0, none-freed k p.meta.current freed r parts.1 free) (cond_both wrote p.space.current p.space.current (λ flags. flags ≡ p.space.current) (λ stored. refl) (λ none. refl)))
+
+-- where both maps have just the blocks that files use, all others are free
+pub all_free : {D : Type 0} (g : Ghosts D) (p : Parts D) → IsSound g (store_of p) → p.failed ≡ false → p.space.durable ≡ p.space.current → length (free p.space) + used (store_of p).held.files ≡ (geometry_of p.meta.durable.geometry).blocks
+all_free g p sound working same = rw (used-held (bytes_with p.bodies) p.meta.current, ← sound.meta.stored.geometry) (others_free p.meta.current sound.meta.current p.space (sound.live working).marks same)
 
 -- ---- it wasn't taken
-
-abbrev pub is_disk : MetaRefusal → Bool
-is_disk (Part why) = false
-is_disk Disk = true
-is_disk Memory = false
 
 pub refused_sound : {D : Type 0} (g : Ghosts D) (s : Store D) (new : D) (space : Space) (refusal : MetaRefusal) → IsSound g s → s.failed ≡ false → ((why : DmRefusal) → refusal ≡ Part why → (space ≡ s.space) × (new ≡ s.disk)) → (refusal ≡ Memory → (space ≡ s.space) × (new ≡ s.disk))
     → IsSound g (record s { disk = new; space = space; failed = is_disk refusal })
@@ -121,9 +117,9 @@ size-few (Write offset bytes) n may few = let end = may.1 in omega arith
 size-few (Resize to) n may few = may
 size-few (Restore segment bytes) n may few = few
 
-pub known : {D : Type 0} (g : Ghosts D) (p : Parts D) (k : FileKey) (change : Rewrite) → IsHeldFiles p.bodies p.meta → IsSound g (store_of p) → p.failed ≡ false → p.pending ≡ false → IsSome (find_key (λ f. f.key) k (store_of p).held.files) → IsRewrite change
-    → IsAllowed (effect_of change) (held_file k (store_of p).held.files) → length (touched_of change (bytes_of k (store_of p).held.files)) + used (store_of p).held.files ≤ (geometry_of p.meta.durable.geometry).blocks → Given g p k change
-known g p k change files sound working settled there may allows left =
+pub known : {D : Type 0} (g : Ghosts D) (p : Parts D) (k : FileKey) (change : Rewrite) → IsHeldFiles p.bodies p.meta → IsSound g (store_of p) → p.failed ≡ false → IsSome (find_key (λ f. f.key) k (store_of p).held.files) → IsRewrite change
+    → IsAllowed (effect_of change) (held_file k (store_of p).held.files) → length (touched_of change (bytes_of k (store_of p).held.files)) + used (store_of p).held.files ≤ (geometry_of p.meta.durable.geometry).blocks → length (touched_of change (bytes_of k (store_of p).held.files)) ≤ length (free p.space) → Given g p k change
+known g p k change files sound working there may allows left many =
     let at = live-held p.bodies p.meta files k there in
     let live = sound.live working in
     let body = is-body p.bodies p.meta files k at in
@@ -141,7 +137,7 @@ known g p k change files sound working settled there may allows left =
       allowed = allowed (bytes_with p.bodies) at.file (geometry_of p.meta.current.geometry).blocks file lengths (ap length (bytes-of p.bodies p.meta files k at) ∙ body.size) change (subst (IsAllowed (effect_of change)) is allows);
       few = size-few change _ may (let most = file.size in let own = body.size in omega arith);
       room = room;
-      enough = enough p.meta.current sound.meta.current p.space _ live.marks (live.settled settled) room;
+      enough = rw (body-held p.bodies p.meta.current k at.file at.found) at many;
     }
 
 module _ {D : Type 0} (g : Ghosts D) (p : Parts D) (k : FileKey) (change : Rewrite) (x : Given g p k change) where
@@ -166,7 +162,7 @@ module _ {D : Type 0} (g : Ghosts D) (p : Parts D) (k : FileKey) (change : Rewri
   own : length body ≡ x.at.file.size
   own = (is-body p.bodies p.meta x.files k x.at).size
 
-  within : IsWithin change (length body)
+  pub within : IsWithin change (length body)
   within = rw own x.allowed.within
 
   file : IsCatalogFile (geometry_of p.meta.current.geometry).blocks x.at.file
@@ -185,9 +181,9 @@ module _ {D : Type 0} (g : Ghosts D) (p : Parts D) (k : FileKey) (change : Rewri
   low : AllByRecursion (λ b. b < blocks_in size) blocks
   low = touched-below change (length body) within
 
-  -- the body has its bytes again, whatever memory it has taken
-  pub bodies_back : (b : HeldBody) → b.bytes ≡ body → KeepsHere (body_of p.bodies k) b → IsBack p (set p.bodies (k.ino - 1) b)
-  bodies_back b same keeps = (IsHeldFiles-back p.bodies p.meta x.files k x.at b same keeps, held_with-back p.bodies p.meta x.files k x.at b same keeps)
+  -- the body is as it was
+  pub bodies_back : (b : HeldBody) → IsAlike (body_of p.bodies k) b → IsBack p (set p.bodies (k.ino - 1) b)
+  bodies_back b alike = (IsHeldFiles-back p.bodies p.meta x.files k x.at b alike, held_with-back p.bodies p.meta x.files k x.at b alike)
 
   -- the disk has them
   pub fits : AllByRecursion (λ q. (layout_of p.meta.current.geometry).blocks + 4096 * q + 4096 ≤ g.length_of p.disk) places
@@ -307,7 +303,6 @@ module _ {D : Type 0} (g : Ghosts D) (p : Parts D) (k : FileKey) (change : Rewri
             held_beside p.meta.durable.geometry places was_on.0 c (beside was_on.0 c was_on.2) p.meta.current x.lawful.stored.geometry x.lawful.current are.unused ∙ x.live.current was_on.0 was_on.1;
         marks = x.live.marks;
         marked = x.live.marked;
-        settled = x.live.settled;
       }
 
       -- and reads give the new blocks, with all that files use
@@ -334,14 +329,14 @@ module _ {D : Type 0} (g : Ghosts D) (p : Parts D) (k : FileKey) (change : Rewri
 
       -- they are
       pub rewritten : (b : HeldBody) → b.bytes ≡ changed → IsHere b (remapped change x.at.file.size ms x.at.file) → (n : ℕ) (new : D) (m : Meta) (wrote : Bool) → Tells g mid p.meta n wrote new m → m.current ≡ after_all records p.meta.current → IsMeta m → Backs g new m → StoresOrKeeps g mid new p.meta n
-          → IsDone g p n held_next (after_event p new m wrote (set p.bodies (k.ino - 1) b) (unmarked freed (marked places p.space.current)) (marked places p.space.current) true)
+          → IsDone g p n held_next (after_event p new m wrote (set p.bodies (k.ino - 1) b) (unmarked freed (marked places p.space.current)) (marked places p.space.current))
       rewritten b bytes_are here n new m wrote tells taken lawful backs turns =
           let current = taken ∙ become records (staged.rewriting x.at.file x.at.found) in
           let touched_are = (mapped blocks places long).0 in
           let has_marks = each-weaker (λ b. get_or p.space.current b false ≡ true) (λ b. get_or (marked places p.space.current) b false ≡ true) (λ b. marked_keeps places p.space.current b) (blocks_of p.meta.current.files) (rw x.live.marks (marks_there p.meta.current x.lawful.current)) in
           let it =
-          done g (record p { disk = mid }) x.lawful written_live n new m _ (unmarked freed (marked places p.space.current)) (marked places p.space.current) true backs held_next
+          done g (record p { disk = mid }) x.lawful written_live n new m _ (unmarked freed (marked places p.space.current)) (marked places p.space.current) backs held_next
           (ap (held_with (set p.bodies (k.ino - 1) b)) current ∙ held_with-rewritten p.bodies p.meta x.files k x.at b change ms touched_are bytes_are)
           (λ c gives. ap (held_at (blocks_in_image p.meta.durable.geometry c)) current ∙ holds_next c gives) (marks freed (staged.frees x.at.file x.at.found) ∙ ap marks_of (sym current)) has_marks wrote tells lawful turns
-          (IsHeldFiles-rewritten p.bodies p.meta x.files k x.at b change ms touched_are bytes_are m current lawful.current within (subst (IsHere b) (sym becomes_is) here)) (λ idle. absurd cc) in
+          (IsHeldFiles-rewritten p.bodies p.meta x.files k x.at b change ms touched_are bytes_are m current lawful.current within (subst (IsHere b) (sym becomes_is) here)) in
           record { files = it.files; sound = it.sound; held = it.held; proceeds = joined n _ it.proceeds }

@@ -1,15 +1,12 @@
 -- Stub entries after a change of the bytes of their file: those of segments that it touches go, first by the new size, and then one by one.
-use Rattle.file_store.proofs.Names.{◌≡◌, ⊎_elim, ℕ, ◌+◌, ◌-◌, ◌*◌, ◌<◌, ◌≤◌, min, max, List, [], ◌∷◌, length, Bool, true, false, ◌&&◌, ◌||◌, Option, Some, None, refl, sym, ◌∙◌, ap, subst, arith, cond, cond_both, eqb, ltb, if◌then◌else◌, list_any, AllByRecursion, false≢true, eqb-true, is_some, Rewrite, Write, Resize, Restore, effect_of, unseals, IsWithin, size_after, rekept, Kept}
-use Rattle.std.specs.Prelude.{filter, not, nat_eq, nat_lt, nat_le}
-use Rattle.std.specs.List.Sorted.{IsStrictlySortedBy}
-use Rattle.std.specs.Map.{keys_of}
-use Rattle.std.specs.Ordering.{nat_cmp}
+use Rattle.file_store.proofs.Names.{◌≡◌, ℕ, ◌+◌, ◌*◌, ◌<◌, min, max, List, [], ◌∷◌, length, Bool, true, false, ◌&&◌, ◌||◌, Some, None, refl, sym, ◌∙◌, ap, subst, arith, cond, cond_both, eqb, list_any, AllByRecursion, false≢true, eqb-true, is_some}
+use Rattle.std.specs.Prelude.{filter, not, nat_eq, nat_lt}
 use Rattle.std.proofs.lemmas.Bool.Decides.{nat_tests}
 use Rattle.std.proofs.lemmas.Bool.{eq-eqb}
-use Rattle.hsm_types.specs.Segments.{segments_in, segment_len, meets_segment}
-use Rattle.hsm_types.specs.Stubs.{Stubs, stub_at, is_offline, offline_at, moved, with_stub, without_stub, stubs_below, restored, unsealed}
+use Rattle.hsm_types.specs.Segments.{segments_in, meets_segment}
+use Rattle.hsm_types.specs.Stubs.{Stubs, stub_at, is_offline, offline_at, without_stub, stubs_below, unsealed}
 use Rattle.hsm_types.specs.declared.stubs.Stub.{Stub as StubOf}
-use Rattle.hsm_types.proofs.Stubbing.{stub_at-unsealed, stub_at-without, stub_at-below, stub_at-restored}
+use Rattle.hsm_types.proofs.Stubbing.{stub_at-without, stub_at-below}
 
 -- ---- lists of which some are left
 

@@ -1,12 +1,12 @@
 -- Files after a record, and after a change of the bytes of one, however bytes are found, and with their bodies in memory.
 use Rattle.std.proofs.lemmas.Bool.Decides.{nat_tests}
-use Rattle.file_store.proofs.Names.{◌≡◌, ℕ, List, [], length, map, Some, None, refl, ◌∙◌, sym, ap, subst, ◌+◌, ◌-◌, ◌≤◌, ◌∷◌, get_or, set, true, false, cond, Option, eqb, arith, length-set, get_or-set_same, get_or-set_other, IsSome, option_map, AllByRecursion, FileKey, find_key, change_key, put_key, drop_key, rebody, touched, size_after, mapped_after, FileState, new_file, remade, affected_held, file_or_new, bytes_of, Mapping, Record, Make, Drop, Size, Map, CatalogFile, Catalog, IsCatalog, geometry_of, names_of, file_after, with_file, with_changed, inode_of, key_on, after, CanStand, each-put, each-drop, each-change, names_of-drop, Rewrite, Write, Resize, file_by, bytes_at, body_with, bytes_with, held_at, held_with, HeldBody, no_body, is_away, KeepsHere, IsHere, IsBody, AreBodies, IsWithin, rekept, Stub, Restore, IsBodiless, effect_in, held_after, empties, effect_of, remapped, eqb-false, Meta, each-found, key-found, Kept, empty_file, has_inode, Within, absent-low, ascend-drop, IsHeldFiles}
+use Rattle.file_store.proofs.Names.{◌≡◌, ℕ, List, [], length, map, Some, None, refl, ◌∙◌, sym, ap, subst, ◌+◌, ◌-◌, ◌≤◌, ◌∷◌, get_or, set, true, false, cond, Option, eqb, arith, length-set, get_or_past, get_or-set_same, get_or-set_other, IsSome, option_map, AllByRecursion, FileKey, find_key, change_key, put_key, drop_key, rebody, touched, size_after, mapped_after, FileState, new_file, remade, affected_held, file_or_new, bytes_of, Mapping, Record, Make, Drop, Size, Map, CatalogFile, Catalog, IsCatalog, geometry_of, names_of, file_after, with_file, with_changed, inode_of, key_on, after, CanStand, each-put, each-drop, each-change, names_of-drop, Rewrite, Write, Resize, file_by, bytes_at, body_with, bytes_with, held_at, held_with, HeldBody, no_body, IsAlike, IsHere, IsBody, AreBodies, IsWithin, rekept, Stub, Restore, IsBodiless, effect_in, held_after, empties, effect_of, remapped, eqb-false, Meta, each-found, key-found, Kept, empty_file, has_inode, Within, absent-low, ascend-drop, IsHeldFiles}
 use Rattle.file_store.specs.Bodies.{held_by, body_at}
 use Rattle.file_store.proofs.EachOf.{each-all, each-both, each-weaker}
 use Rattle.file_store.proofs.FilesBy.{SameBytes, same_held, by-put, by-drop, by-change, change-none, find-held, live-by}
 use Rattle.file_store.proofs.ByteChanges.{flags-mapped, length-changed}
 use Rattle.file_store.proofs.Marks.{geometry-after}
-use Rattle.file_store.proofs.SealedFiles.{seal_is, seal-away}
+use Rattle.file_store.proofs.SealedFiles.{seal_is, seal-same}
 use Rattle.hsm_types.specs.Stubs.{sealed}
 use Rattle.hsm_types.specs.declared.stubs.Stub.{Stub as StubOf}
 use Rattle.plain_model.specs.Effects.{Seals}
@@ -164,18 +164,20 @@ keeps-bytes bs cs k (Make key name) c keeps = (same-bytes bs cs c.files keeps.0,
 keeps-bytes bs cs k (Drop ino) c keeps = same-bytes bs cs (drop_key (λ f. f.key) k c.files) keeps
 keeps-bytes bs cs k r c keeps = λ f. ap (λ (b : HeldBody). b.bytes) (keeps f)
 
-no-body : (f : CatalogFile) → f.size ≡ 0 → IsBody no_body f
-no-body f none = record { size = sym none; here = λ j away. absurd cc }
+no-body : (key : FileKey) (name : List ℕ) → IsBody no_body (empty_file key name)
+no-body key name = record { size = refl; here = λ j. get_or_past [] j false (omega arith) }
 
 bodies-after : (bs cs : List HeldBody) (k : FileKey) (r : Record) (c : Catalog) → IsBodiless k r c → KeepsBodies bs cs k r c → AreBodies bs c.files → AreBodies cs (after r c).files
-bodies-after bs cs k (Make key name) c is keeps are = each-put (Bodied cs) (empty_file key name) c.files (subst (λ (b : HeldBody). IsBody b (empty_file key name)) (sym keeps.1) (no-body (empty_file key name) refl)) (same-bodies bs cs c.files keeps.0 are)
+bodies-after bs cs k (Make key name) c is keeps are = each-put (Bodied cs) (empty_file key name) c.files (subst (λ (b : HeldBody). IsBody b (empty_file key name)) (sym keeps.1) (no-body key name)) (same-bodies bs cs c.files keeps.0 are)
 bodies-after bs cs k (Drop ino) c is keeps are = rw is (same-bodies bs cs (drop_key (λ f. f.key) k c.files) keeps (each-drop (Bodied bs) k c.files are))
 bodies-after bs cs k (Size ino size) c is keeps are = absurd is
 bodies-after bs cs k (Map ino block places) c is keeps are = absurd is
 bodies-after bs cs k (Stub ino j None) c is keeps are = absurd is
 bodies-after bs cs k (Stub ino j (Some stub)) c is keeps are =
     each-known (Bodied cs) (key_on ino c) (file_after (Stub ino j (Some stub))) c.files
-    (λ f found was. record { size = was.size; here = λ i away. seal-away j i stub f.kept.stubs (is.1 f (ap (λ (at : FileKey). find_key (λ x. x.key) at c.files) (sym is.0) ∙ found)).here (was.here i away) })
+    (λ f found was.
+    let seal = is.1 f (ap (λ (at : FileKey). find_key (λ x. x.key) at c.files) (sym is.0) ∙ found) in
+    record { size = was.size; here = λ i. was.here i ∙ sym (seal-same j i stub f.kept.stubs seal.here seal.stays) })
     (same-bodies bs cs c.files (each-all (SameBody bs cs) keeps c.files) are)
 bodies-after bs cs k r c is keeps are =
     each-change (Bodied cs) (key_on (inode_of r) c) (file_after r) c.files (λ f was. record { size = was.size; here = was.here }) (same-bodies bs cs c.files (each-all (SameBody bs cs) keeps c.files) are)
@@ -283,18 +285,18 @@ module _ (bs : List HeldBody) (m : Meta) (is : IsHeldFiles bs m) (k : FileKey) (
         count = count-put ∙ ap (λ (c : Catalog). (geometry_of c.geometry).files) (sym current);
       }
 
-    -- where it has the same bytes, and no more segments are away
-    module _ (same : b.bytes ≡ old.bytes) (keeps : KeepsHere old b) where
+    -- where it is alike
+    module _ (alike : IsAlike old b) where
       pub held_with-back : held_with new m.current ≡ held_with bs m.current
       unfolding held_by
       held_with-back =
-          let one : file_by (bytes_with new) at.file ≡ file_by (bytes_with bs) at.file = ap (λ (bytes : List ℕ). record (file_by (bytes_with bs) at.file) { body = bytes }) (ap (λ (x : HeldBody). x.bytes) (put-there at.file refl) ∙ same ∙ sym bytes-of) in
+          let one : file_by (bytes_with new) at.file ≡ file_by (bytes_with bs) at.file = ap (λ (bytes : List ℕ). record (file_by (bytes_with bs) at.file) { body = bytes }) (ap (λ (x : HeldBody). x.bytes) (put-there at.file refl) ∙ alike.bytes ∙ sym bytes-of) in
           let all = by-change (bytes_with bs) (bytes_with new) k (λ f. f) (λ f. f) at.file m.current.files at.found one (same-bytes bs new (drop_key (λ g. g.key) k m.current.files) others) in
           same_held _ _ _ _ (ap (map (file_by (bytes_with new))) (sym (change-none (λ (f : CatalogFile). f.key) k m.current.files)) ∙ all ∙ change-none (λ (f : FileState). f.key) k (map (file_by (bytes_with bs)) m.current.files)) refl
 
       pub IsHeldFiles-back : IsHeldFiles new m
       IsHeldFiles-back = record {
         catalog = is.catalog;
-        sizes = subst (AreBodies new) (change-none (λ (f : CatalogFile). f.key) k m.current.files) (put-bodies (λ f. f) refl (record { size = ap length same ∙ is-body.size; here = λ j away. is-body.here j (keeps j away) }));
+        sizes = subst (AreBodies new) (change-none (λ (f : CatalogFile). f.key) k m.current.files) (put-bodies (λ f. f) refl (record { size = ap length alike.bytes ∙ is-body.size; here = λ j. alike.away j ∙ is-body.here j }));
         count = count-put;
       }

@@ -1,10 +1,10 @@
 -- The bytes of files by blocks of 4,096 bytes.
-use Rattle.std.specs.Prelude.{◌≡◌, ℕ, ◌*◌, ◌-◌, List, length, map, get_or, take, replicate, true, Option, Some, None, is_some}
+use Rattle.std.specs.Prelude.{◌≡◌, ℕ, ◌*◌, ◌-◌, List, length, map, get_or, take, replicate, Option, Some, None, is_some}
 use Rattle.std.specs.List.{flat_map, AllByRecursion}
 use Rattle.disk_model.specs.Images.{part}
 use Rattle.hsm_types.specs.Stubs.{offline_at}
 use Rattle.plain_model.specs.State.{FileState, Held}
-use Rattle.file_body.specs.HeldBodies.{HeldBody, no_body, is_away}
+use Rattle.file_body.specs.HeldBodies.{HeldBody, no_body, is_away, SameAway}
 use Rattle.meta_store.specs.Catalogs.{CatalogFile, Catalog}
 unfoldable pub use Rattle.file_body.specs.BodyBlocks.{block_of}
 
@@ -49,14 +49,19 @@ file_with bodies = file_by (bytes_with bodies)
 abbrev pub held_with : List HeldBody → Catalog → Held
 held_with bodies = held_by (bytes_with bodies)
 
--- a segment is away from the body only where the file's is offline
+-- a segment is away from the body exactly where the file's is offline
 abbrev pub IsHere : HeldBody → CatalogFile → Type 0
-IsHere body f = (j : ℕ) → is_away body j ≡ true → offline_at f.kept.stubs j ≡ true
+IsHere body f = (j : ℕ) → is_away body j ≡ offline_at f.kept.stubs j
 
--- each body has its file's size, and of the segments that aren't offline their bytes
+-- each body has its file's size, and memory for the bytes of the segments that aren't offline
 pub record IsBody (body : HeldBody) (f : CatalogFile) : Type 0 where
   pub size : length body.bytes ≡ f.size
   pub here : IsHere body f
+
+-- it has the same bytes, and the same segments are away
+pub record IsAlike (old new : HeldBody) : Type 0 where
+  pub bytes : new.bytes ≡ old.bytes
+  pub away : SameAway old new
 
 abbrev pub AreBodies : List HeldBody → List CatalogFile → Type 0
 AreBodies bodies files = AllByRecursion (λ f. IsBody (body_with bodies f) f) files

@@ -14,7 +14,7 @@ pub record HeldFiles : Type 0 where
 abbrev pub files_with : List HeldBody → Meta → HeldFiles
 files_with bodies m = record { meta = m; held = held_with bodies m.current }
 
--- the catalog is lawful, each file has a body of its size, whose segments are here unless they are offline, and there is a body for each inode
+-- the catalog is lawful, each file has a body of its size, whose segments are here exactly where they aren't offline, and there is a body for each inode
 pub record IsHeldFiles (bodies : List HeldBody) (m : Meta) : Type 0 where
   pub catalog : IsCatalog m.current
   pub sizes : AreBodies bodies m.current.files

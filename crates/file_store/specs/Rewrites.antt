@@ -1,14 +1,15 @@
 -- Changes of the bytes of a file, and the records that they are.
-use Rattle.std.specs.Prelude.{◌≡◌, ℕ, ◌+◌, ◌-◌, ◌*◌, ◌<◌, ◌≤◌, ◌==◌, ◌&&◌, nat_lt, min, max, Bool, true, false, List, [], ◌∷◌, ◌++◌, length, map, take, drop, replicate, get_or, Option, Some, None, is_some}
+use Rattle.std.specs.Prelude.{◌≡◌, ℕ, ◌+◌, ◌-◌, ◌*◌, ◌<◌, ◌≤◌, ◌==◌, ◌&&◌, nat_lt, not, min, max, Bool, true, false, List, [], ◌∷◌, ◌++◌, length, map, take, drop, replicate, get_or, Option, Some, None, is_some}
 use Rattle.std.specs.List.{flat_map, list_any, AllByRecursion}
 use Rattle.hsm_types.specs.Segments.{meets_segment}
-use Rattle.hsm_types.specs.Stubs.{Stubs, stub_at}
+use Rattle.hsm_types.specs.Stubs.{Stubs, stub_at, offline_at}
 use Rattle.hsm_types.specs.declared.stubs.Stub.{Stub as StubOf}
 use Rattle.plain_model.specs.Effects.{Effect, Writes, Resizes, Restores}
+use Rattle.plain_model.specs.Plain.{segment as segment_of}
 use Rattle.plain_model.specs.Blocks.{blocks_in, touched, size_after}
 use Rattle.plain_model.specs.State.{rekept}
 use Rattle.block_space.specs.Space.{Space, free}
-use Rattle.file_body.specs.HeldBodies.{HeldBody, is_away, AreHere}
+use Rattle.file_body.specs.HeldBodies.{HeldBody, is_away, AreHere, AreZeros}
 use Rattle.meta_store.specs.declared.snapshot.Mapping.{Mapping}
 use Rattle.meta_store.specs.declared.records.Record.{Record}
 use Rattle.meta_store.specs.declared.records.Record.TheVariants.{Size, Map, Stub}
@@ -56,9 +57,27 @@ places_for change body space = take (length (touched_of change body)) (free spac
 -- ---- which segments are in memory
 
 -- that which comes back
-abbrev pub IsBrought : Rewrite → HeldBody → Type 0
-IsBrought (Restore segment bytes) body = is_away body segment ≡ false
-IsBrought change body = Unit {0}
+abbrev pub brings : Rewrite → ℕ → Bool
+brings (Restore segment bytes) j = j == segment
+brings change j = false
+
+-- it is offline
+abbrev pub BringsOffline : Rewrite → Stubs → Type 0
+BringsOffline (Restore segment bytes) stubs = offline_at stubs segment ≡ true
+BringsOffline change stubs = Unit {0}
+
+-- and away from the body
+abbrev pub BringsAway : Rewrite → HeldBody → Type 0
+BringsAway (Restore segment bytes) body = is_away body segment ≡ true
+BringsAway change body = Unit {0}
+
+-- The body, as it was and with the memory for the change: for zeros up to the new size, and for the segment that comes back.
+pub record HasRoom (change : Rewrite) (old new : HeldBody) : Type 0 where
+  pub bytes : new.bytes ≡ grown (new_size change old.bytes) old.bytes
+  pub away : (j : ℕ) → is_away new j ≡ (is_away old j && not (brings change j))
+  -- so it can be as it was again
+  pub starts : (j : ℕ) → is_away old j ≡ true → 65536 * j < length old.bytes
+  pub zeros : (j : ℕ) → brings change j ≡ true → is_away old j ≡ true → AreZeros (segment_of j old.bytes)
 
 -- those in which the change puts bytes
 abbrev pub HasRange : Rewrite → HeldBody → Type 0
@@ -66,10 +85,10 @@ HasRange (Write offset bytes) body = AreHere offset (offset + length bytes.now) 
 HasRange (Resize size) body = Unit {0}
 HasRange (Restore segment bytes) body = AreHere (65536 * segment) (65536 * segment + length bytes.now) body
 
--- a cut doesn't take the segment away
-abbrev pub IsLeft : Rewrite → ℕ → Type 0
-IsLeft (Resize size) j = 65536 * j < size
-IsLeft change j = Unit {0}
+-- a cut spares the segment
+abbrev pub spares : Rewrite → ℕ → Bool
+spares (Resize size) j = nat_lt (65536 * j) size
+spares change j = true
 
 -- ---- records
 

@@ -46,9 +46,8 @@ pub record Store (D : Type 0) : Type 0 where
   -- what it holds, and what was made durable
   pub held : Held
   pub durable : Held
-  -- which blocks were free when it was made durable, and whether blocks were taken or freed since
+  -- which blocks are used, as it is and as it was made durable
   pub space : Space
-  pub pending : Bool
   -- a call of the disk has failed
   pub failed : Bool
 
@@ -86,10 +85,9 @@ pub record IsLive {D : Type 0} (g : disk.Ghosts D) (s : Store D) : Type 0 where
   pub stored : (c : List ℕ) → MayBe g s.disk c → held_at (blocks_in_image s.meta.durable.geometry c) s.meta.durable ≡ s.durable
   -- what reads give has those that are held
   pub current : (c : List ℕ) → g.gives s.disk c → held_at (blocks_in_image s.meta.durable.geometry c) s.meta.current ≡ s.held
-  -- of the files as they are the marks are exact; what was made durable has all of its marks, and just those of the files as they are where no block was taken or freed since
+  -- of the files as they are the marks are exact; what was made durable has all of its marks, and may have more
   pub marks : s.space.current ≡ marks_of s.meta.current
   pub marked : AllByRecursion (λ b. slice_index_or s.space.durable b false ≡ true) (blocks_of s.meta.durable.files)
-  pub settled : s.pending ≡ false → s.space.durable ≡ s.space.current
 
 pub record IsSound {D : Type 0} (g : disk.Ghosts D) (s : Store D) : Type 0 where
   pub meta : IsMeta s.meta

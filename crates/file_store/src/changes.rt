@@ -18,13 +18,14 @@ ghost use Rattle.plain_model.specs.Services.{kept_of, other_attributes, other_st
 ghost use Rattle.meta_store.specs.Catalogs.{geometry_of};
 ghost use Rattle.file_store.specs.Stores.{superblock_of, Proceeds};
 
-use crate::punches::{self, segments_in};
 use crate::refusal::StoreRefusal;
 use crate::rewrites::Rewrite;
-use crate::seals;
 use crate::store::FileStore;
+use crate::{punches, seals};
 use disk_model::Disk;
-use hsm_types::{AttrName, Bytes, DmRefusal, FileKey, Regions, Stub, StubEntry, Verified, Word};
+use hsm_types::{
+    AttrName, Bytes, DmRefusal, FileKey, Regions, Stub, StubEntry, Verified, Word, segments_in,
+};
 use meta_store::Record;
 use std::alloc::Global;
 
@@ -66,7 +67,6 @@ impl<D: Disk> FileStore<D> {
         ensures no_part { (why : DmRefusal) → IsErrOf result (StoreRefusal.Part why) → ⊥ }
         ensures proceeds { Proceeds D.Disk self.old number self.new }
     {
-        self.settle(alloc, number)?;
         let ino = self.inode(key);
         self.record(alloc, key, Record::Drop { ino }, number)
     }
@@ -93,8 +93,9 @@ impl<D: Disk> FileStore<D> {
         ensures no_part { (why : DmRefusal) → IsErrOf result (StoreRefusal.Part why) → ⊥ }
         ensures proceeds { Proceeds D.Disk self.old number self.new }
     {
-        self.settle(alloc, number)?;
-        self.rewrite(alloc, key, Rewrite::Write { offset, bytes }, number)
+        let change = Rewrite::Write { offset, bytes };
+        self.make_room(alloc, key, change, number)?;
+        self.rewrite(alloc, key, change, number)
     }
 
     /// Cuts the body to that size, or lengthens it by zeros.
@@ -117,8 +118,9 @@ impl<D: Disk> FileStore<D> {
         ensures no_part { (why : DmRefusal) → IsErrOf result (StoreRefusal.Part why) → ⊥ }
         ensures proceeds { Proceeds D.Disk self.old number self.new }
     {
-        self.settle(alloc, number)?;
-        self.rewrite(alloc, key, Rewrite::Resize { size }, number)
+        let change = Rewrite::Resize { size };
+        self.make_room(alloc, key, change, number)?;
+        self.rewrite(alloc, key, change, number)
     }
 
     /// Gives a live file these regions, in the place of those that it has, unless they leave a segment that is offline uncovered.
@@ -210,7 +212,7 @@ impl<D: Disk> FileStore<D> {
         ensures held { OnOk result (self.new.held ≡ record self.old.held { files = affected_held (Seals segment entry) key self.old.held.files }) }
         ensures working { OnOk result (self.new.failed ≡ false) }
         ensures unchanged { (why : DmRefusal) → IsErrOf result (StoreRefusal.Part why) → self.new ≡ self.old }
-        ensures memory { IsErrOf result StoreRefusal.Memory → (self.new.held ≡ self.old.held) × (self.new.failed ≡ false) }
+        ensures memory { IsErrOf result StoreRefusal.Memory → self.new ≡ self.old }
         ensures failed { IsErrOf result StoreRefusal.Disk → (self.new.failed ≡ true) × Rose (D.fault_count self.old.disk) (D.fault_count self.new.disk) }
         ensures proceeds { Proceeds D.Disk self.old number self.new }
     {
@@ -237,7 +239,6 @@ impl<D: Disk> FileStore<D> {
     ) -> Result<(), StoreRefusal>
         requires working { self.old.failed ≡ false }
         requires live { IsSome (find_key (λ f. f.key) key self.old.held.files) }
-        requires order { from ≤ to }
         requires start { 65536 * from < length (bytes_of key self.old.held.files) }
         ensures judged { OnOk result (any_unpunched (kept_of key self.old.held.files).regions (kept_of key self.old.held.files).stubs from (min to (segments_in (length (bytes_of key self.old.held.files)))) ≡ None) }
         ensures refused { (why : DmRefusal) → (result ≡ Err (StoreRefusal.Part why)) → (any_unpunched (kept_of key self.old.held.files).regions (kept_of key self.old.held.files).stubs from (min to (segments_in (length (bytes_of key self.old.held.files)))) ≡ Some why) }
@@ -248,11 +249,11 @@ impl<D: Disk> FileStore<D> {
         ensures failed { IsErrOf result StoreRefusal.Disk → (self.new.failed ≡ true) × Rose (D.fault_count self.old.disk) (D.fault_count self.new.disk) }
         ensures proceeds { Proceeds D.Disk self.old number self.new }
     {
-        let end = to.min(segments_in(self.body(key).len()));
+        let last = to.min(segments_in(self.body(key).len()));
+        let end = last.max(from);
         // Asked for what is true of the disk, and of what is kept with the file.
         let (_failed, _ino) = (self.has_failed(), self.inode(key));
         let punch = punches::plan(alloc, self.meta.catalog(), key, from, end)?;
-        self.settle(alloc, number)?;
         self.let_go(alloc, key, from, end, punch, number)
     }
 
@@ -284,8 +285,9 @@ impl<D: Disk> FileStore<D> {
         if !self.is_offline(key, segment) {
             return Err(StoreRefusal::Part(DmRefusal::NotOffline { segment }));
         }
-        self.settle(alloc, number)?;
         let bytes = bytes.as_slice();
-        self.rewrite(alloc, key, Rewrite::Restore { segment, bytes }, number)
+        let change = Rewrite::Restore { segment, bytes };
+        self.make_room(alloc, key, change, number)?;
+        self.rewrite(alloc, key, change, number)
     }
 }

@@ -6,18 +6,20 @@ ghost use Rattle.disk_model.specs.Moments.{Keeps};
 ghost use Rattle.commit_slots.specs.Places.{layout_of};
 ghost use Rattle.hsm_types.specs.declared.dm.DmRefusal.{DmRefusal};
 ghost use Rattle.plain_model.specs.Keyed.{find_key};
-ghost use Rattle.plain_model.specs.Plain.{resized};
 ghost use Rattle.plain_model.specs.Blocks.{touched};
+ghost use Rattle.plain_model.specs.Services.{kept_of};
 ghost use Rattle.plain_model.specs.Sound.{IsSound};
 ghost use Rattle.plain_model.specs.State.{file_at, bytes_of, affected_held, used};
 ghost use Rattle.block_space.specs.Space.{marked, free};
-ghost use Rattle.file_body.specs.HeldBodies.{no_body, KeepsHere};
+ghost use Rattle.file_body.specs.HeldBodies.{no_body};
 ghost use Rattle.meta_store.specs.Catalogs.{CatalogFile, geometry_of};
 ghost use Rattle.meta_store.specs.Records.{CanStand, refusal_of};
-ghost use Rattle.file_store.specs.Rewrites.{effect_of, IsRewrite, IsWithin, HasEntry, IsBrought, new_size, touched_of, grown, places_for};
+ghost use Rattle.file_store.specs.Rewrites.{effect_of, IsRewrite, IsWithin, HasEntry, BringsOffline, BringsAway, HasRoom, touched_of, places_for};
+ghost use Rattle.file_store.specs.Bodies.{IsAlike};
+ghost use Rattle.file_store.specs.Refusals.{is_disk, refused_as};
 ghost use Rattle.file_store.specs.Steps.{IsBesideBlocks, IsStaged};
 ghost use Rattle.file_store.specs.Stores.{Store, Proceeds};
-ghost use Rattle.file_store.specs.Effects.{IsBodiless, IsFreed, held_after, drops, empties};
+ghost use Rattle.file_store.specs.Effects.{IsBodiless, IsFreed, held_after, empties};
 
 use crate::loading::slot;
 use crate::plans::{self, Plan};
@@ -33,13 +35,6 @@ use hsm_types::FileKey;
 use meta_store::{Catalog, MetaRefusal, Record, Records};
 use std::alloc::{AllocError, Global};
 use std::snapshot::Snapshot;
-
-/// Whether the file is gone after it.
-fn drops(change: &Record) -> bool
-    ensures { result ≡ drops change.now }
-{
-    matches!(change, Record::Drop { .. })
-}
 
 /// Whether the inode has no bytes after it, its file being new or gone.
 fn empties(change: &Record) -> bool
@@ -66,24 +61,35 @@ fn blocks_gone(
 }
 
 impl<D: Disk> FileStore<D> {
-    /// Makes all durable that is held, where blocks were taken or freed since that was done last.
-    pub(crate) fn settle(&mut self, alloc: Global, number: u64) -> Result<(), StoreRefusal>
+    /// Sees to it that as many blocks are free as a change of a live file touches. Where they are too few, all that is held is made durable: then
+    /// all blocks are free that no file uses.
+    pub(crate) fn make_room(
+        &mut self,
+        alloc: Global,
+        key: FileKey,
+        change: Rewrite<'_>,
+        number: u64,
+    ) -> Result<(), StoreRefusal>
         requires working { self.old.failed ≡ false }
+        requires live { IsSome (find_key (λ f. f.key) key self.old.held.files) }
+        requires lawful { IsRewrite change }
+        requires room { length (touched (effect_of change) (length (bytes_of key self.old.held.files))) + used self.old.held.files ≤ (geometry_of self.old.meta.durable.geometry).blocks }
+        ensures enough { OnOk result (length (touched (effect_of change.entry) (length (bytes_of key self.old.held.files))) ≤ length (free self.new.space)) }
         ensures held { self.new.held ≡ self.old.held }
-        ensures current { self.new.meta.current ≡ self.old.meta.current }
         ensures proceeds { Proceeds D.Disk self.old number self.new }
         ensures goes_on { (later : Store D) → Proceeds D.Disk self.new number later → Proceeds D.Disk self.old number later }
-        ensures settled { OnOk result (self.new.pending ≡ false) }
         ensures working { OnOk result (self.new.failed ≡ false) }
         ensures memory { IsErrOf result StoreRefusal.Memory → self.new ≡ self.old }
         ensures failed { IsErrOf result StoreRefusal.Disk → (self.new.failed ≡ true) × Rose (D.fault_count self.old.disk) (D.fault_count self.new.disk) }
         ensures no_part { (why : DmRefusal) → IsErrOf result (StoreRefusal.Part why) → ⊥ }
     {
-        if self.pending {
-            self.sync(alloc, number)
-        } else {
-            Ok(())
+        // Asked for what is true of the disk.
+        let _failed = self.has_failed();
+        let blocks = change.touched(self.body(key).len());
+        if self.space.has_free(blocks.count() as u32) {
+            return Ok(());
         }
+        self.sync(alloc, number)
     }
 
     /// Takes the record of an event that concerns no bytes of a file that stays. At an `Err` but `Disk` nothing has changed.
@@ -106,7 +112,7 @@ impl<D: Disk> FileStore<D> {
         ensures failed { IsErrOf result StoreRefusal.Disk → (self.new.failed ≡ true) × Rose (D.fault_count self.old.disk) (D.fault_count self.new.disk) }
         ensures proceeds { Proceeds D.Disk self.old number self.new }
     {
-        let (empty, gone) = (empties(&change), drops(&change));
+        let empty = empties(&change);
         // Asked for what is true of the disk.
         let _failed = self.has_failed();
         let freed = blocks_gone(alloc, self.meta.catalog(), key, &change)?;
@@ -120,7 +126,6 @@ impl<D: Disk> FileStore<D> {
                 clear(alloc, &mut self.bodies, key, empty);
                 make_durable(wrote, before, &mut self.durable, &mut self.space);
                 self.space.release_all(&freed);
-                self.pending |= gone;
                 Ok(())
             }
             Err(refusal) => {
@@ -140,11 +145,12 @@ impl<D: Disk> FileStore<D> {
         number: u64,
     ) -> Result<(), StoreRefusal>
         requires working { self.old.failed ≡ false }
-        requires settled { self.old.pending ≡ false }
         requires live { IsSome (find_key (λ f. f.key) key self.old.held.files) }
         requires lawful { IsRewrite change }
         requires sound { IsSound (effect_of change) (file_at key self.old.held.files) }
+        requires offline { BringsOffline change (kept_of key self.old.held.files).stubs }
         requires room { length (touched (effect_of change) (length (bytes_of key self.old.held.files))) + used self.old.held.files ≤ (geometry_of self.old.meta.durable.geometry).blocks }
+        requires enough { length (touched (effect_of change) (length (bytes_of key self.old.held.files))) ≤ length (free self.old.space) }
         ensures held { OnOk result (self.new.held ≡ record self.old.held { files = affected_held (effect_of change.entry) key self.old.held.files }) }
         ensures working { OnOk result (self.new.failed ≡ false) }
         ensures memory { IsErrOf result StoreRefusal.Memory → (self.new.held ≡ self.old.held) × (self.new.failed ≡ false) }
@@ -164,40 +170,40 @@ impl<D: Disk> FileStore<D> {
         let (disk, space) = (&mut self.disk, &mut self.space);
         let staged = match stage(alloc, disk, catalog, space, body, key, change) {
             Ok(staged) => staged,
-            Err(refusal) => {
-                self.failed = refusal == MetaRefusal::Disk;
-                return Err(StoreRefusal::from(refusal));
-            }
+            Err(refusal) => return Err(refused(&mut self.failed, refusal)),
         };
-        let Staged {
-            places,
-            records,
-            freed,
-        } = staged;
+        let Staged { places, plan } = staged;
+        let Plan { records, freed } = plan;
         match self.meta.apply(alloc, &mut self.disk, records, number) {
             Ok(wrote) => {
                 change.apply(alloc, body);
                 make_durable(wrote, before, &mut self.durable, &mut self.space);
                 self.space.release_all(&freed);
-                self.pending = true;
                 Ok(())
             }
             Err(refusal) => {
-                cut(alloc, body, old);
+                change.undo(alloc, body, old);
                 self.space.release_all(places.as_slice());
-                self.failed = refusal == MetaRefusal::Disk;
-                Err(StoreRefusal::from(refusal))
+                Err(refused(&mut self.failed, refusal))
             }
         }
     }
 }
 
-/// A change of a file's bytes whose blocks are written: their places, the records to be taken, and the blocks that are free then.
+/// Tells a refusal of the layer below as the store's. Where the disk failed, so has the store.
+fn refused(failed: &mut bool, refusal: MetaRefusal) -> StoreRefusal
+    ensures failed { failed.new ≡ is_disk refusal }
+    ensures refusal { result ≡ refused_as refusal }
+{
+    *failed = refusal == MetaRefusal::Disk;
+    StoreRefusal::from(refusal)
+}
+
+/// A change of a file's bytes whose blocks are written: their places, and the plan of what comes then.
 #[derive(Drop)]
 struct Staged {
     places: Blocks,
-    records: Records,
-    freed: Vec<u32>,
+    plan: Plan,
 }
 
 /// Writes the blocks that a change touches to the lowest free places, and makes room for it in the body.
@@ -213,17 +219,17 @@ fn stage<D: Disk>(
     requires live { IsSome (find_key (λ f. f.key) key catalog.now.files) }
     requires lawful { IsRewrite change }
     requires entry { (f : CatalogFile) → find_key (λ f. f.key) key catalog.now.files ≡ Some f → HasEntry change f.kept.stubs }
+    requires away { BringsAway change body.old }
+    requires within { IsWithin change (length body.old.bytes) }
     requires few { length (touched_of change body.old.bytes) < 2 ^ 32 }
     requires enough { length (touched_of change body.old.bytes) ≤ length (free space.old) }
     requires fits { AllByRecursion (λ p. (layout_of catalog.now.geometry).blocks + 4096 * p + 4096 ≤ D.length_of disk.old) (places_for change body.old.bytes space.old) }
     ensures any_moment { Keeps D.Disk disk.old disk.new (IsBesideBlocks (layout_of catalog.now.geometry).blocks (places_for change.entry body.old.bytes space.old)) }
-    ensures staged { IfOk result (λ s. IsStaged D.Disk disk.old disk.new catalog.now key change.entry body.old.bytes space.old s.records s.freed.items) }
+    ensures staged { IfOk result (λ s. IsStaged D.Disk disk.old disk.new catalog.now key change.entry body.old.bytes space.old s.plan.records s.plan.freed.items) }
     ensures places { IfOk result (λ s. s.places ≡ places_for change.entry body.old.bytes space.old) }
     ensures marked { OnOk result (space.new ≡ record space.old { current = marked (places_for change.entry body.old.bytes space.old) space.old.current }) }
-    ensures grown { OnOk result (body.new.bytes ≡ grown (new_size change.entry body.old.bytes) body.old.bytes) }
-    ensures brought { OnOk result (IsBrought change.entry body.new) }
-    ensures keeps { KeepsHere body.old body.new }
-    ensures err { OnErr result (body.new.bytes ≡ body.old.bytes) }
+    ensures room { OnOk result (HasRoom change.entry body.old body.new) }
+    ensures err { OnErr result (IsAlike body.old body.new) }
     ensures memory { IsErrOf result MetaRefusal.Memory → (space.new ≡ space.old) × (disk.new ≡ disk.old) }
     ensures failed { IsErrOf result MetaRefusal.Disk → Rose (D.fault_count disk.old) (D.fault_count disk.new) }
     ensures no_part { (why : DmRefusal) → IsErrOf result (MetaRefusal.Part why) → ⊥ }
@@ -238,25 +244,13 @@ fn stage<D: Disk>(
     };
     let base = Layout::of_geometry(catalog.geometry()).blocks;
     let Ok(()) = put_blocks(disk, base, body, change, &touched, places) else {
-        cut(alloc, body, old);
+        change.undo(alloc, body, old);
         return Err(MetaRefusal::Disk);
     };
-    let Plan { records, freed } = plan;
     Ok(Staged {
         places: blocks,
-        records,
-        freed,
+        plan,
     })
-}
-
-/// Takes away what lies behind that size.
-fn cut(alloc: Global, body: &mut Body, size: u64)
-    requires within { size ≤ length body.old.bytes }
-    requires file { size ≤ 16777216 }
-    ensures bytes { body.new.bytes ≡ resized size body.old.bytes }
-    ensures keeps { KeepsHere body.old body.new }
-{
-    body.resize(alloc, size).unwrap();
 }
 
 /// Takes the lowest blocks that are free.

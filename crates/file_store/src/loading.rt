@@ -1,5 +1,5 @@
 // Reading the bodies of a store that was just opened.
-ghost use Rattle.std.specs.Prelude.{◌≡◌, ◌⊎◌, ◌+◌, ◌-◌, ◌*◌, ◌/◌, ◌<◌, ◌≤◌, List, ℕ, [], None, true, min, length, take, get_or, replicate, IfOk, OnOk, IsErrOf};
+ghost use Rattle.std.specs.Prelude.{◌≡◌, ◌+◌, ◌-◌, ◌*◌, ◌/◌, ◌%◌, ◌<◌, ◌≤◌, ◌==◌, ◌++◌, if◌then◌else◌, List, ℕ, None, true, min, length, take, get_or, replicate, IfOk, OnOk, IsErrOf};
 ghost use Rattle.std.specs.List.{AllByRecursion};
 ghost use Rattle.plain_model.specs.Plain.{written};
 ghost use Rattle.plain_model.specs.Blocks.{blocks_in};
@@ -9,7 +9,7 @@ ghost use Rattle.commit_slots.specs.Places.{layout_of};
 ghost use Rattle.meta_store.specs.Catalogs.{geometry_of, present};
 ghost use Rattle.meta_store.specs.Images.{blocks_in_image};
 ghost use Rattle.hsm_types.specs.Stubs.{offline_at};
-ghost use Rattle.file_body.specs.HeldBodies.{no_body, is_away, AreHere, KeepsHere};
+ghost use Rattle.file_body.specs.HeldBodies.{no_body, is_away, AreHere, SameAway};
 ghost use Rattle.file_store.specs.Steps.{OnlyReads};
 ghost use Rattle.file_store.specs.Bodies.{body_at, held_at, held_with, AreBodies};
 
@@ -17,10 +17,10 @@ use crate::StoreRefusal;
 use commit_slots::Layout;
 use disk_model::{Disk, Failed, read_at};
 use file_body::Body;
-use hsm_types::{BLOCK_BYTES, FILE_BYTES};
+use hsm_types::{BLOCK_BYTES, FILE_BYTES, SEGMENT_BYTES, segments_in};
 use meta_store::{Catalog, geometry_of};
 use std::alloc::{AllocError, Global};
-use stub_map::{State, StubMap};
+use stub_map::StubMap;
 
 /// Where the body of the file with that inode is.
 pub(crate) fn slot(ino: u64) -> usize
@@ -67,8 +67,8 @@ fn empty(alloc: Global, count: u32) -> Result<Vec<Body>, AllocError>
     Ok(bodies)
 }
 
-/// The body of that size whose blocks lie at these places. Segments that are offline are away from it. It costs the blocks that aren't holes, and
-/// the entries.
+/// The body of that size whose blocks lie at these places. Segments that are offline are away from it. It costs the blocks that aren't holes, the
+/// segments and the entries.
 fn load_body<D: Disk>(
     alloc: Global,
     disk: &mut D,
@@ -86,15 +86,13 @@ fn load_body<D: Disk>(
     requires away { (i : ℕ) → offline_at stubs.now (i / 16) ≡ true → get_or places.now i None ≡ None }
     ensures reads { OnlyReads D.Disk disk.old disk.new }
     ensures size { IfOk result (λ body. length body.bytes ≡ size) }
-    ensures here { IfOk result (λ body. (j : ℕ) → is_away body j ≡ true → offline_at stubs.now j ≡ true) }
+    ensures here { IfOk result (λ body. (j : ℕ) → is_away body j ≡ offline_at stubs.now j) }
     ensures loaded { IfOk result (λ body. (c : List ℕ) → D.gives disk.old c → body.bytes ≡ body_at (blocks_in_image geometry c) size places.now) }
     ensures failed { IsErrOf result StoreRefusal.Disk → Rose (D.fault_count disk.old) (D.fault_count disk.new) }
 {
-    let mut body = Body::new(alloc);
-    let Ok(()) = body.resize(alloc, size) else {
+    let Ok(mut body) = zeros(alloc, size, stubs) else {
         return Err(StoreRefusal::Memory);
     };
-    leave_offline(&mut body, stubs);
     let mut start = 0;
     for place in places {
         if let Some(place) = *place {
@@ -107,20 +105,35 @@ fn load_body<D: Disk>(
     Ok(body)
 }
 
-/// The segments of a body of zeros go away that are offline by these entries.
-fn leave_offline(body: &mut Body, stubs: &StubMap)
-    requires file { length body.old.bytes ≤ 16777216 }
-    requires zeros { body.old.bytes ≡ replicate (length body.old.bytes) 0 }
-    requires starts { AllByRecursion (λ x. 65536 * x.0 < length body.old.bytes) stubs.now }
-    ensures bytes { body.new.bytes ≡ body.old.bytes }
-    ensures away { (j : ℕ) → is_away body.new j ≡ true → (is_away body.old j ≡ true) ⊎ (offline_at stubs.now j ≡ true) }
+/// A body of so many zeros, from which the segments are away that are offline by these entries: they take no memory.
+fn zeros(alloc: Global, size: u64, stubs: &StubMap) -> Result<Body, AllocError>
+    requires size { size ≤ FILE_BYTES }
+    requires starts { AllByRecursion (λ x. 65536 * x.0 < size) stubs.now }
+    ensures bytes { IfOk result (λ body. body.bytes ≡ replicate size 0) }
+    ensures here { IfOk result (λ body. (j : ℕ) → is_away body j ≡ offline_at stubs.now j) }
 {
-    let mut start = 0;
-    while let Some(segment) = stubs.next(start) {
-        if let State::Offline(_) = stubs.state(segment) {
-            body.leave(segment, segment + 1);
-        }
-        start = segment + 1;
+    let mut body = Body::new(alloc);
+    for segment in 0..segments_in(size) {
+        let end = size.min((u64::from(segment) + 1) * SEGMENT_BYTES);
+        lengthen(alloc, &mut body, end, stubs.is_offline(segment))?;
+    }
+    Ok(body)
+}
+
+/// Lengthens a body of full segments up to that end, by one that is away or here.
+fn lengthen(alloc: Global, body: &mut Body, end: u64, away: bool) -> Result<(), AllocError>
+    requires full { length body.old.bytes % 65536 ≡ 0 }
+    requires some { length body.old.bytes < end }
+    requires most { end ≤ length body.old.bytes + 65536 }
+    requires file { end ≤ FILE_BYTES }
+    ensures bytes { OnOk result (body.new.bytes ≡ body.old.bytes ++ replicate (end - length body.old.bytes) 0) }
+    ensures away { OnOk result ((j : ℕ) → is_away body.new j ≡ (if j == length body.old.bytes / 65536 then away else is_away body.old j)) }
+{
+    let count = end - body.len();
+    if away {
+        body.lengthen_away(count)
+    } else {
+        body.resize(alloc, end)
     }
 }
 
@@ -139,7 +152,7 @@ fn fill<D: Disk>(
     requires here { AreHere start (start + min 4096 (length body.old.bytes - start)) body.old }
     ensures reads { OnlyReads D.Disk disk.old disk.new }
     ensures size { length body.new.bytes ≡ length body.old.bytes }
-    ensures keeps { KeepsHere body.old body.new }
+    ensures same { SameAway body.old body.new }
     ensures filled { OnOk result ((c : List ℕ) → D.gives disk.old c → body.new.bytes ≡ written start (take (length body.old.bytes - start) (part (blocks_in_image geometry c) (4096 * place) 4096)) body.old.bytes) }
     ensures cause { HasCause result (D.fault_count disk.old) (D.fault_count disk.new) }
 {

@@ -1,6 +1,5 @@
 //! What an event needs before it changes anything: its records, the blocks that it frees, and memory.
 ghost use Rattle.std.specs.Prelude.{◌≡◌, ℕ, ◌∷◌, [], ◌-◌, ◌≤◌, ◌++◌, List, length, replicate, take, drop, Some, IfOk, OnOk, OnErr, IsSome};
-ghost use Rattle.file_body.specs.HeldBodies.{KeepsHere};
 ghost use Rattle.plain_model.specs.Keyed.{find_key};
 ghost use Rattle.plain_model.specs.Blocks.{touched, size_after};
 ghost use Rattle.hsm_types.specs.Stubs.{Stubs, offline_at};
@@ -8,7 +7,7 @@ ghost use Rattle.meta_store.specs.declared.snapshot.Mapping.{Mapping};
 ghost use Rattle.meta_store.specs.Catalogs.{CatalogFile, present};
 ghost use Rattle.meta_store.specs.Records.{IsEvent, mappings_from};
 ghost use Rattle.file_store.specs.declared.rewrites.Rewrite.{Rewrite};
-ghost use Rattle.file_store.specs.Rewrites.{IsRewrite, IsRewriting, AreUnsealed, HasEntry, IsBrought, new_size, grown, mappings_of, freed_by};
+ghost use Rattle.file_store.specs.Rewrites.{IsRewrite, IsRewriting, AreUnsealed, HasEntry, HasRoom, new_size, mappings_of, freed_by};
 
 use crate::rewrites::Rewrite;
 use crate::spaces::put_present;
@@ -16,7 +15,7 @@ use file_body::{BlockRun, Body, TouchedBlocks, blocks_in};
 use hsm_types::FileKey;
 use meta_store::{Catalog, Record, Records};
 use std::alloc::{AllocError, Global};
-use stub_map::{State, StubMap};
+use stub_map::StubMap;
 
 /// The records of a change of a file's bytes, and the blocks that it frees.
 #[derive(Drop)]
@@ -42,9 +41,7 @@ pub(crate) fn prepare(
     requires count { length places.now ≡ length touched.now }
     ensures records { IfOk result (λ p. (f : CatalogFile) → find_key (λ f. f.key) key catalog.now.files ≡ Some f → IsRewriting key.ino change.entry (length body.old.bytes) f.kept.stubs (mappings_of touched.now places.now) p.records) }
     ensures freed { IfOk result (λ p. (f : CatalogFile) → find_key (λ f. f.key) key catalog.now.files ≡ Some f → p.freed.items ≡ freed_by (new_size change.entry body.old.bytes) touched.now f.places) }
-    ensures grown { OnOk result (body.new.bytes ≡ grown (new_size change.entry body.old.bytes) body.old.bytes) }
-    ensures keeps { OnOk result (KeepsHere body.old body.new) }
-    ensures brought { OnOk result (IsBrought change.entry body.new) }
+    ensures room { OnOk result (HasRoom change.entry body.old body.new) }
     ensures err { OnErr result (body.new ≡ body.old) }
 {
     let size = body.len();
@@ -74,8 +71,7 @@ pub(crate) fn is_away(catalog: &Catalog, key: FileKey, segment: u32) -> bool
     requires { IsSome (find_key (λ f. f.key) key catalog.now.files) }
     ensures { (f : CatalogFile) → find_key (λ f. f.key) key catalog.now.files ≡ Some f → result ≡ offline_at f.kept.stubs segment }
 {
-    let stubs = catalog.stubs(key).unwrap();
-    matches!(stubs.state(segment), State::Offline(_))
+    catalog.stubs(key).unwrap().is_offline(segment)
 }
 
 /// The blocks that a live file uses.

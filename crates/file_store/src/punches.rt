@@ -21,30 +21,18 @@ use crate::spaces::put_present;
 use crate::store::{FileStore, LAST_NUMBER};
 use disk_model::Disk;
 use file_body::BlockRun;
-use hsm_types::{DmRefusal, FILE_BYTES, FileKey, SEGMENT_BYTES, Stub};
+use hsm_types::{DmRefusal, FileKey, SEGMENT_BLOCKS, Stub};
 use managed_regions::ManagedRegions;
 use meta_store::{Catalog, MetaRefusal, Record, Records};
 use std::alloc::{AllocError, Global};
 use std::snapshot::Snapshot;
 use stub_map::{State, StubMap};
 
-/// How many blocks a segment has.
-const SEGMENT_BLOCKS: u32 = 16;
-
 /// The records by which segments go away, and the blocks that are free then.
 #[derive(Drop)]
 pub(crate) struct Punch {
     records: Records,
     freed: Vec<u32>,
-}
-
-/// How many segments a file of that size has.
-pub(crate) fn segments_in(size: u64) -> u32
-    requires { size ≤ FILE_BYTES }
-    ensures count { result ≡ segments_in size }
-    ensures few { result ≤ 256 }
-{
-    ((size + (SEGMENT_BYTES - 1)) / SEGMENT_BYTES) as u32
 }
 
 /// Plans that the segments of a live file go away from the first up to the second, unless one of them can't. It costs the segments.
@@ -175,7 +163,6 @@ impl<D: Disk> FileStore<D> {
                 self.bodies[slot(key.ino)].leave(from, to);
                 make_durable(wrote, before, &mut self.durable, &mut self.space);
                 self.space.release_all(&freed);
-                self.pending = true;
                 Ok(())
             }
             Err(refusal) => {

@@ -1,10 +1,10 @@
 //! Changes of the bytes of a file.
-ghost use Rattle.std.specs.Prelude.{◌≡◌, ◌≤◌, ◌<◌, ◌+◌, ◌*◌, ◌&&◌, ℕ, nat_le, nat_lt, true, length, OnOk, OnErr, IsOk};
+ghost use Rattle.std.specs.Prelude.{◌≡◌, ◌≤◌, ◌<◌, ◌+◌, ◌*◌, ◌&&◌, ℕ, nat_le, nat_lt, length, OnOk, OnErr, IsOk};
 ghost use Rattle.plain_model.specs.Plain.{rebody};
 ghost use Rattle.plain_model.specs.Blocks.{touched, size_after};
-ghost use Rattle.file_body.specs.HeldBodies.{is_away, KeepsHere};
-ghost use Rattle.file_store.specs.Bodies.{block_of};
-ghost use Rattle.file_store.specs.Rewrites.{effect_of, grown, new_size, IsRewrite, IsWithin, HasEntry, IsBrought, HasRange, IsLeft, IsHead, unseals};
+ghost use Rattle.file_body.specs.HeldBodies.{HeldBody, is_away};
+ghost use Rattle.file_store.specs.Bodies.{block_of, IsAlike};
+ghost use Rattle.file_store.specs.Rewrites.{effect_of, spares, IsRewrite, IsWithin, HasEntry, BringsAway, HasRoom, HasRange, IsHead, unseals};
 
 use file_body::{Body, TouchedBlocks, touched_by_restore, touched_by_truncate, touched_by_write};
 use hsm_types::{SEGMENT_BYTES, Stub};
@@ -111,15 +111,27 @@ impl Rewrite<'_> {
     /// Takes the memory for it: zeros up to the new size, or in the place of the segment that comes back.
     pub(crate) fn make_room(self, alloc: Global, body: &mut Body) -> Result<(), AllocError>
         requires lawful { IsRewrite self }
-        ensures bytes { OnOk result (body.new.bytes ≡ grown (new_size self.entry body.old.bytes) body.old.bytes) }
-        ensures keeps { OnOk result (KeepsHere body.old body.new) }
-        ensures brought { OnOk result (IsBrought self.entry body.new) }
+        ensures room { OnOk result (HasRoom self.entry body.old body.new) }
         ensures err { OnErr result (body.new ≡ body.old) }
     {
         let size = body.len();
         match self {
             Rewrite::Restore { segment, .. } => body.bring(alloc, segment),
             change => body.resize(alloc, size.max(change.size_after(size))),
+        }
+    }
+
+    /// Gives the memory back that `make_room` took, of a body that had that size. It takes none.
+    pub(crate) fn undo(self, alloc: Global, body: &mut Body, size: u64)
+        requires lawful { IsRewrite self }
+        requires file { size ≤ 16777216 }
+        requires size { size ≤ length body.old.bytes }
+        requires within { IsWithin self size }
+        ensures { (old : HeldBody) → HasRoom self.entry old body.old → length old.bytes ≡ size → BringsAway self.entry old → IsAlike old body.new }
+    {
+        match self {
+            Rewrite::Restore { segment, .. } => body.leave(segment, segment + 1),
+            _ => body.resize(alloc, size).unwrap(),
         }
     }
 
@@ -130,7 +142,7 @@ impl Rewrite<'_> {
         requires within { IsWithin self (length body.old.bytes) }
         requires here { HasRange self body.old }
         ensures bytes { body.new.bytes ≡ rebody (effect_of self.entry) body.old.bytes }
-        ensures here { (j : ℕ) → is_away body.new j ≡ true → (is_away body.old j ≡ true) × IsLeft self.entry j }
+        ensures away { (j : ℕ) → is_away body.new j ≡ (is_away body.old j && spares self.entry j) }
     {
         match self {
             Rewrite::Write { offset, bytes } => body.write(alloc, offset, bytes).unwrap(),

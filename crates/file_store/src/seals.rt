@@ -6,15 +6,15 @@ ghost use Rattle.meta_store.specs.Records.{kept_at};
 
 use hsm_types::{DmRefusal, FileKey};
 use meta_store::Catalog;
-use stub_map::State;
 
 /// A segment of a live file can't be sealed whose bytes are away.
 pub(crate) fn judge(catalog: &Catalog, key: FileKey, segment: u32) -> Result<(), DmRefusal>
     requires { IsSome (find_key (λ f. f.key) key catalog.now.files) }
     ensures { MatchResult result (λ _. already_offline segment (stub_at segment (kept_at key catalog.now).stubs) ≡ None) (λ why. already_offline segment (stub_at segment (kept_at key catalog.now).stubs) ≡ Some why) }
 {
-    match catalog.stubs(key).unwrap().state(segment) {
-        State::Offline(_) => Err(DmRefusal::Offline { segment }),
-        _ => Ok(()),
+    if catalog.stubs(key).unwrap().is_offline(segment) {
+        Err(DmRefusal::Offline { segment })
+    } else {
+        Ok(())
     }
 }

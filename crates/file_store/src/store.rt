@@ -1,5 +1,5 @@
 // A store of files on its disk.
-ghost use Rattle.std.specs.Prelude.{◌≡◌, true, false, List, ℕ, length, ◌*◌, ◌<◌, ◌≤◌, IfOk, IfErr, IfSome, OnOk, IsErrOf, IsSome};
+ghost use Rattle.std.specs.Prelude.{◌≡◌, true, false, List, ℕ, length, ◌+◌, ◌*◌, ◌<◌, ◌≤◌, IfOk, IfErr, IfSome, OnOk, IsErrOf, IsSome};
 ghost use Rattle.disk_model.specs.Calls.{Rose};
 ghost use Rattle.disk_model.specs.Images.{Alike};
 ghost use Rattle.disk_model.specs.Moments.{MayBe, Keeps, Same};
@@ -10,6 +10,7 @@ ghost use Rattle.hsm_types.specs.Segments.{segment_len};
 ghost use Rattle.hsm_types.specs.Stubs.{print_of, stub_at, offline_at};
 ghost use Rattle.plain_model.specs.Plain.{segment as segment_of};
 ghost use Rattle.plain_model.specs.State.{bytes_of, used};
+ghost use Rattle.block_space.specs.Space.{free};
 ghost use Rattle.file_body.specs.HeldBodies.{is_away};
 ghost use Rattle.plain_model.specs.Services.{kept_of, other_attributes, other_stubs};
 ghost use Rattle.meta_store.specs.Catalogs.{geometry_of};
@@ -45,8 +46,6 @@ pub struct FileStore<D: Disk> {
     /// As they were made durable.
     pub(crate) durable: Snapshot<Vec<Body>>,
     pub(crate) space: BlockSpace,
-    /// Whether blocks were taken or freed since.
-    pub(crate) pending: bool,
     pub(crate) failed: bool,
 }
 
@@ -57,9 +56,9 @@ impl<D: Disk> Model for FileStore<D> {
 
     ghost Value = { Store D };
 
-    ghost view = { λ s. record { disk = s.disk; meta = s.meta; held = held_with s.bodies.items s.meta.current; durable = held_with s.durable.value.items s.meta.durable; space = s.space; pending = s.pending; failed = s.failed } };
+    ghost view = { λ s. record { disk = s.disk; meta = s.meta; held = held_with s.bodies.items s.meta.current; durable = held_with s.durable.value.items s.meta.durable; space = s.space; failed = s.failed } };
 
-    ghost invariant = { λ s. IsHeldFiles s.bodies.items s.meta × IsSound D.Disk (record { disk = s.disk; meta = s.meta; held = held_with s.bodies.items s.meta.current; durable = held_with s.durable.value.items s.meta.durable; space = s.space; pending = s.pending; failed = s.failed }) };
+    ghost invariant = { λ s. IsHeldFiles s.bodies.items s.meta × IsSound D.Disk (record { disk = s.disk; meta = s.meta; held = held_with s.bodies.items s.meta.current; durable = held_with s.durable.value.items s.meta.durable; space = s.space; failed = s.failed }) };
 }
 
 impl<D: Disk> FileStore<D> {
@@ -86,7 +85,6 @@ impl<D: Disk> FileStore<D> {
                 durable: Snapshot::of(&bodies),
                 bodies,
                 space,
-                pending: false,
                 failed: false,
             }),
             Err(refusal) => Err((refusal, disk)),
@@ -102,7 +100,7 @@ impl<D: Disk> FileStore<D> {
         ensures durable { OnOk result ((c : List ℕ) → MayBe D.Disk self.new.disk c → IsDurable self.new c) }
         ensures proceeds { Proceeds D.Disk self.old number self.new }
         ensures working { OnOk result (self.new.failed ≡ false) }
-        ensures settled { OnOk result (self.new.pending ≡ false) }
+        ensures room { OnOk result (length (free self.new.space) + used self.new.held.files ≡ (geometry_of self.new.meta.durable.geometry).blocks) }
         ensures memory { IsErrOf result StoreRefusal.Memory → self.new ≡ self.old }
         ensures failed { IsErrOf result StoreRefusal.Disk → (self.new.failed ≡ true) × Rose (D.fault_count self.old.disk) (D.fault_count self.new.disk) }
         ensures no_part { (why : DmRefusal) → IsErrOf result (StoreRefusal.Part why) → ⊥ }
@@ -116,7 +114,6 @@ impl<D: Disk> FileStore<D> {
             Ok(()) => {
                 self.durable = Snapshot::of(&self.bodies);
                 self.space.committed();
-                self.pending = false;
                 Ok(())
             }
             Err(refusal) => {
@@ -141,7 +138,7 @@ impl<D: Disk> FileStore<D> {
     pub fn body(&self, key: FileKey) -> &Body
         requires { IsSome (find_key (λ f. f.key) key self.now.held.files) }
         ensures bytes { result.now.bytes ≡ bytes_of key self.now.held.files }
-        ensures here { (j : ℕ) → is_away result.now j ≡ true → offline_at (kept_of key self.now.held.files).stubs j ≡ true }
+        ensures here { (j : ℕ) → is_away result.now j ≡ offline_at (kept_of key self.now.held.files).stubs j }
     {
         &self.bodies[slot(key.ino)]
     }

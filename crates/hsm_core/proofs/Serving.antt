@@ -24,7 +24,7 @@ use Rattle.file_store.specs.Stores.{Store as FileStore}
 use Rattle.dm_service.specs.Services.{asks_rights, asks_tables, done_or, session_refusals, AreBoth, Judges}
 use Rattle.dm_service.specs.Tables.{Tables}
 use Rattle.hsm_core.specs.Store.{state_with}
-use Rattle.hsm_core.specs.Services.{anybody, asked, file_refusals, told_where, held_where, service_with, rights_where, asks_segments, moves_segments, IsGranted, IsPerformed, IsServed}
+use Rattle.hsm_core.specs.Services.{anybody, asked, file_refusals, told_where, held_where, service_with, rights_where, changes_file, IsGranted, IsPerformed, IsServed}
 use Rattle.plain_model.specs.Ledger.{ledger_told}
 use Rattle.hsm_core.proofs.Refusing.{all_pass, one_stops, alone}
 
@@ -164,23 +164,32 @@ module _ (s : Superblock) (h : Held) (stamps : List (FileKey × ℕ)) (t : Table
   served_left is no_rights (Ok r) h' held = (λ i. state_with (held i) stamps t (number + 1)) ∙ left_asked is no_rights
   served_left is no_rights (Err e) h' held = tt
 
--- ---- calls on segments, which ask of the files alone
+-- ---- calls that change a file, and those that change nothing
 
 module _ {D : Type 0} (g : disk.Ghosts D) (old new : FileStore D) (n : ℕ) (stamps : List (FileKey × ℕ)) (t : Tables) (sid : Sid) where
-  pub asks_performed : (call : DmCall) (result : Result (DmReply × DmReply) StoreRefusal) → asks_segments call ≡ true → IsServed g old n call result new → IsPerformed g old n stamps t sid call result new
-  asks_performed (ReadInvis token handle offset len) result is served = record { replies = served.replies; held = served.held; ends = served.ends }
-  asks_performed (WriteInvis token handle offset body) result is served = record { replies = served.replies; held = served.held; ends = served.ends }
-  asks_performed (ProbeHole token handle offset len) result is served = record { replies = served.replies; held = served.held; ends = served.ends }
-  asks_performed (GetAllocInfo token handle) result is served = record { replies = served.replies; held = served.held; ends = served.ends }
-  asks_performed GetSpace result is served = absurd cc
-  asks_performed call result is served = absurd cc
+  -- a change asks of the files alone
+  pub change_performed : (call : DmCall) (result : Result (DmReply × DmReply) StoreRefusal) → changes_file call ≡ true → IsServed g old n call result new → IsPerformed g old n stamps t sid call result new
+  change_performed (SetRegion token handle regions) result is served = record { replies = served.replies; held = served.held; ends = served.ends }
+  change_performed (SetDmAttr token handle name value) result is served = record { replies = served.replies; held = served.held; ends = served.ends }
+  change_performed (RemoveDmAttr token handle name) result is served = record { replies = served.replies; held = served.held; ends = served.ends }
+  change_performed (WriteInvis token handle offset body) result is served = record { replies = served.replies; held = served.held; ends = served.ends }
+  change_performed (PunchHole token handle offset len) result is served = record { replies = served.replies; held = served.held; ends = served.ends }
+  change_performed (Seal token handle segment entry) result is served = record { replies = served.replies; held = served.held; ends = served.ends }
+  change_performed (Restore token handle segment bytes) result is served = record { replies = served.replies; held = served.held; ends = served.ends }
+  change_performed GetSpace result is served = absurd cc
+  change_performed call result is served = absurd cc
 
-  pub moves_performed : (call : DmCall) (result : Result (DmReply × DmReply) StoreRefusal) → moves_segments call ≡ true → IsServed g old n call result new → IsPerformed g old n stamps t sid call result new
-  moves_performed (PunchHole token handle offset len) result is served = record { replies = served.replies; held = served.held; ends = served.ends }
-  moves_performed (Seal token handle segment entry) result is served = record { replies = served.replies; held = served.held; ends = served.ends }
-  moves_performed (Restore token handle segment bytes) result is served = record { replies = served.replies; held = served.held; ends = served.ends }
-  moves_performed GetSpace result is served = absurd cc
-  moves_performed call result is served = absurd cc
+-- whatever refuses
+pub same_held : (sid : Sid) (call : DmCall) (why : Option DmRefusal) (h : Held) → changes_file call ≡ false → h ≡ held_where (change_of sid call) why h
+same_held sid (SetRegion token handle regions) why h is = absurd cc
+same_held sid (SetDmAttr token handle name value) why h is = absurd cc
+same_held sid (RemoveDmAttr token handle name) why h is = absurd cc
+same_held sid (WriteInvis token handle offset body) why h is = absurd cc
+same_held sid (PunchHole token handle offset len) why h is = absurd cc
+same_held sid (Seal token handle segment entry) why h is = absurd cc
+same_held sid (Restore token handle segment bytes) why h is = absurd cc
+same_held sid GetSpace why h is = refl
+same_held sid call why h is = refl
 
 -- ---- calls on rights
 

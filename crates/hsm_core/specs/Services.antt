@@ -9,7 +9,7 @@ use Rattle.hsm_types.specs.declared.dm.Scope.{Scope}
 use Rattle.hsm_types.specs.declared.dm.Scope.TheVariants.{OnFile, OnRight}
 use Rattle.hsm_types.specs.Stubs.{Stubs}
 use Rattle.hsm_types.specs.declared.dm.DmCall.{DmCall}
-use Rattle.hsm_types.specs.declared.dm.DmCall.TheVariants.{ReadInvis, WriteInvis, PunchHole, ProbeHole, GetAllocInfo, Seal, Restore}
+use Rattle.hsm_types.specs.declared.dm.DmCall.TheVariants.{SetRegion, SetDmAttr, RemoveDmAttr, WriteInvis, PunchHole, Seal, Restore}
 use Rattle.hsm_types.specs.declared.dm.DmRefusal.{DmRefusal}
 use Rattle.hsm_types.specs.declared.dm.DmReply.{DmReply}
 use Rattle.hsm_types.specs.declared.dm.DmReply.TheVariants as reply
@@ -44,20 +44,20 @@ file_refusals s files rights scope = []
 
 -- ---- which calls these are
 
--- those on bytes of a file without an event, and on what is held of its segments
-abbrev pub asks_segments : DmCall → Bool
-asks_segments (ReadInvis token handle offset len) = true
-asks_segments (WriteInvis token handle offset body) = true
-asks_segments (ProbeHole token handle offset len) = true
-asks_segments (GetAllocInfo token handle) = true
-asks_segments call = false
-
 -- those by which bytes of segments go away and come back
 abbrev pub moves_segments : DmCall → Bool
 moves_segments (PunchHole token handle offset len) = true
 moves_segments (Seal token handle segment entry) = true
 moves_segments (Restore token handle segment bytes) = true
 moves_segments call = false
+
+-- those that change a file, or what is kept with it
+abbrev pub changes_file : DmCall → Bool
+changes_file (SetRegion token handle regions) = true
+changes_file (SetDmAttr token handle name value) = true
+changes_file (RemoveDmAttr token handle name) = true
+changes_file (WriteInvis token handle offset body) = true
+changes_file call = moves_segments call
 
 -- The file has so many bytes, its blocks lie at these places, and these are its stub entries.
 pub record IsMadeOf (bytes : ℕ) (places : List (Option ℕ)) (entries : Stubs) (f : FileState) : Type 0 where

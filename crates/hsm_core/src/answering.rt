@@ -1,5 +1,5 @@
-//! Answers to callers: to the calls that they issue, and to those who ask for the answer to an access that waits. Each reply comes twice, for the caller
-//! and for the history.
+//! Answers to callers: to the calls that they issue, and to their resumes of accesses that wait. Each reply comes twice, for the caller and for the
+//! history.
 ghost use Rattle.std.specs.Prelude.{◌≡◌, ◌≢◌, ◌<◌, ◌≤◌, ◌+◌, ◌^◌, false, true, ℕ, Some, None, if◌then◌else◌, IfSome, IsSomeAnd, MatchOption, OnOk, IsOk};
 ghost use Rattle.hsm_types.specs.declared.calls.Call.TheVariants.{Sync};
 ghost use Rattle.hsm_types.specs.declared.dm.Response.{Response};
@@ -31,7 +31,7 @@ use hsm_types::{Call, CallRefusal, CallerId, FileKey, Reply, Response};
 use indexmap::IndexMap;
 use std::alloc::Global;
 
-/// Answers a call that the caller issues, and renews the stamp of the file that it accesses. The number is that of the last entry before.
+/// Answers a call that the caller issues, and renews the stamp of the file that it accesses. The number is that of the last entry before it.
 pub(crate) fn answer<D: Disk>(
     files: &mut FileStore<D>,
     stamps: &mut IndexMap<FileKey, u64>,
@@ -62,7 +62,7 @@ pub(crate) fn answer<D: Disk>(
     }
 }
 
-/// Answers a call that its words and the names of the files don't refuse.
+/// Answers a call that its words and the names of the files don't refuse: it is done, parks, is blocked or is refused.
 fn begin<D: Disk>(
     files: &mut FileStore<D>,
     stamps: &mut IndexMap<FileKey, u64>,
@@ -101,7 +101,7 @@ fn begin<D: Disk>(
     }
 }
 
-/// Answers the caller who asks for the answer to its access that waits. One that was aborted takes no memory to end.
+/// Answers a resume of the caller's access that waits. To end one that was aborted takes no memory.
 pub(crate) fn answer_again<D: Disk>(
     files: &mut FileStore<D>,
     stamps: &mut IndexMap<FileKey, u64>,
@@ -129,7 +129,7 @@ pub(crate) fn answer_again<D: Disk>(
     go_on(files, stamps, service, alloc, caller, number)
 }
 
-/// Judges an access again that waits for no response, and lets it end or wait anew.
+/// Judges an access again that waits for no response: it ends, or waits again.
 fn go_on<D: Disk>(
     files: &mut FileStore<D>,
     stamps: &mut IndexMap<FileKey, u64>,
@@ -163,7 +163,7 @@ fn go_on<D: Disk>(
     }
 }
 
-/// What the store knows of a call on that file, or on one that is gone.
+/// The facts of a call on that file, or on one that is gone.
 fn facts_again<D: Disk>(files: &FileStore<D>, target: Option<Target>, call: &Call) -> Facts
     requires bounded { IsBounded call.now }
     requires target { IfSome target (λ t. IsTarget files.now.held.files t.key t) }
@@ -172,11 +172,11 @@ fn facts_again<D: Disk>(files: &FileStore<D>, target: Option<Target>, call: &Cal
 {
     match target {
         Some(target) => facts(files, target, call),
-        None => no_facts(false),
+        None => no_facts(),
     }
 }
 
-/// Ends an access as was said of it: it is done, or refused.
+/// Ends an access by the verdict on it: it is done, or refused.
 fn finish<D: Disk>(
     files: &mut FileStore<D>,
     stamps: &mut IndexMap<FileKey, u64>,
@@ -209,7 +209,7 @@ fn finish<D: Disk>(
     Ok(refused(why))
 }
 
-/// Why an access ends that was aborted.
+/// What is told of an access that was aborted.
 fn ended_by(response: Response) -> CallRefusal
     requires { IsAbort response }
     ensures { result ≡ ended_by response }
@@ -220,6 +220,7 @@ fn ended_by(response: Response) -> CallRefusal
     }
 }
 
+/// The replies to a call that is refused.
 fn refused(why: CallRefusal) -> (Reply, Reply)
     ensures { AreBoth (Reply.Refused why) result }
 {

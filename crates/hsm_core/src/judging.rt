@@ -1,4 +1,5 @@
-//! Which file a call means, what refuses the call by its words and the names of the files, and what the store knows of it then. Judging takes no memory.
+//! The file that a call means, what refuses the call by its words and the names of the files, and the facts by which it is judged then. This takes no
+//! memory.
 ghost use Rattle.std.specs.Prelude.{◌≡◌, ◌≤◌, false, None, IfOk, MatchOption};
 ghost use Rattle.plain_model.specs.Keyed.{find_key};
 ghost use Rattle.plain_model.specs.Plain.{named, key_or_none, missing, refusal_of};
@@ -12,22 +13,24 @@ ghost use Rattle.hsm_core.specs.Targets.{AreKnown, IsTarget, IsMeant, IsBounded}
 use crate::lookups;
 use crate::needs::needs_segment;
 use crate::refusals::{
-    judge_absence, judge_end, judge_inodes, judge_length, judge_name, judge_write,
+    judge_absence, judge_inodes, judge_length, judge_name, judge_size, judge_written_size,
 };
+use crate::room::short_of;
 use disk_model::Disk;
 use dm_service::{Facts, NoRoom, kind_of};
 use file_body::{touched_by_truncate, touched_by_write};
 use file_store::FileStore;
 use hsm_types::{Call, CallRefusal, FileKey, Range, Word};
 
-/// The file that a call means.
+/// A live file that a call means.
 #[derive(Clone, Copy)]
 pub(crate) struct Target {
     pub(crate) key: FileKey,
+    /// In bytes.
     pub(crate) size: u64,
 }
 
-/// The file that a call means, unless its words or the names of the files refuse it.
+/// The file that a call means, if it means one, unless its words or the names of the files refuse it.
 #[tactic(auto, using(crate::proofs::Refusing::passes, crate::proofs::Refusing::stops))]
 pub(crate) fn meant<D: Disk>(
     files: &FileStore<D>,
@@ -53,13 +56,13 @@ pub(crate) fn meant<D: Disk>(
             judge_name(name)?;
             judge_length(len)?;
             let target = find(files, name)?;
-            judge_write(*offset, len)?;
+            judge_written_size(*offset, len)?;
             Ok(Some(target))
         }
         Call::Truncate { name, size } => {
             judge_name(name)?;
             let target = find(files, name)?;
-            judge_end(*size)?;
+            judge_size(*size)?;
             Ok(Some(target))
         }
         Call::Remove { name } | Call::Stat { name } => {
@@ -98,7 +101,7 @@ pub(crate) fn find_again<D: Disk>(files: &FileStore<D>, key: FileKey) -> Option<
     }
 }
 
-/// What the store knows of a call on that file.
+/// The facts of a call on that file.
 pub(crate) fn facts<D: Disk>(files: &FileStore<D>, target: Target, call: &Call) -> Facts
     requires target { IsTarget files.now.held.files target.key target }
     requires bounded { IsBounded call.now }
@@ -112,19 +115,19 @@ pub(crate) fn facts<D: Disk>(files: &FileStore<D>, target: Target, call: &Call) 
     }
 }
 
-/// What it knows of a call on no file, or on one that is gone.
-pub(crate) fn no_facts(live: bool) -> Facts
-    ensures { result ≡ record { live = live; touches = false; needs = false; short = None } }
+/// The facts of a call on a file that is gone.
+pub(crate) fn no_facts() -> Facts
+    ensures { result ≡ record { live = false; touches = false; needs = false; short = None } }
 {
     Facts {
-        live,
+        live: false,
         touches: false,
         needs: false,
         short: None,
     }
 }
 
-/// Whether the call touches a region of the file with its flag.
+/// Whether the call touches a region of the file with the flag of its kind.
 fn touches_region<D: Disk>(files: &FileStore<D>, target: Target, call: &Call) -> bool
     requires target { IsTarget files.now.held.files target.key target }
     requires bounded { IsBounded call.now }
@@ -137,7 +140,7 @@ fn touches_region<D: Disk>(files: &FileStore<D>, target: Target, call: &Call) ->
     regions.touches(reach(target.size, call), kind)
 }
 
-/// The bytes that a call on a file of that size reaches.
+/// The bytes of a file of that size that the call reaches.
 fn reach(size: u64, call: &Call) -> Range
     requires { IsBounded call.now }
     ensures { result ≡ reach size call.now }
@@ -168,7 +171,7 @@ fn reach(size: u64, call: &Call) -> Range
     }
 }
 
-/// How many blocks the call touches of the file, and how many are free, where these are fewer.
+/// The blocks that the call touches and those that are free, where these are fewer.
 fn shortage<D: Disk>(files: &FileStore<D>, target: Target, call: &Call) -> Option<NoRoom>
     requires target { IsTarget files.now.held.files target.key target }
     requires bounded { IsBounded call.now }
@@ -182,11 +185,5 @@ fn shortage<D: Disk>(files: &FileStore<D>, target: Target, call: &Call) -> Optio
         Call::Truncate { size, .. } => touched_by_truncate(target.size, *size).count(),
         _ => 0,
     };
-    let blocks = u64::from(files.superblock().geometry.blocks);
-    let free = blocks.saturating_sub(files.meta().catalog().used());
-    if free < need {
-        Some(NoRoom { need, free })
-    } else {
-        None
-    }
+    short_of(files, need)
 }

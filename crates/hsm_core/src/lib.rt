@@ -8,6 +8,7 @@ mod needs;
 mod parking;
 mod performing;
 mod refusals;
+mod room;
 mod services;
 mod stamps;
 mod store;

@@ -1,4 +1,4 @@
-//! Accesses that begin to wait, or wait anew. Each reply comes twice, for the caller and for the history.
+//! Accesses that begin to wait, or wait again. Each reply comes twice, for the caller and for the history.
 ghost use Rattle.std.specs.Prelude.{◌≡◌, ◌≢◌, ◌+◌, false, None, Some, IfOk, IfErr, IfSome, IsSome, OnOk, OnErr};
 ghost use Rattle.hsm_types.specs.declared.calls.Reply.TheVariants.{Parked, Blocked};
 ghost use Rattle.plain_model.specs.Accesses.{span, told_span};
@@ -15,7 +15,7 @@ use file_store::{FileStore, StoreRefusal};
 use hsm_types::{Call, CallerId, FileKey, Handle, Kind, Range, Reply, Token};
 use std::alloc::{AllocError, Global};
 
-/// Posts an event of that kind for an access that was issued on the file with that key, and lets it wait.
+/// Posts an event of that kind for a new access to the file with that key, which parks on its token.
 pub(crate) fn wait<D: Disk>(
     files: &FileStore<D>,
     service: &mut DmService,
@@ -41,7 +41,7 @@ pub(crate) fn wait<D: Disk>(
     Ok((Reply::Parked { token }, Reply::Parked { token }))
 }
 
-/// Posts an event of that kind for the caller's access, which waits on for that.
+/// Posts an event of that kind for the caller's access that waits, which parks on its token.
 pub(crate) fn wait_again<D: Disk>(
     files: &FileStore<D>,
     service: &mut DmService,
@@ -65,7 +65,7 @@ pub(crate) fn wait_again<D: Disk>(
     Ok((Reply::Parked { token }, Reply::Parked { token }))
 }
 
-/// Lets an access that was issued on the file with that key wait for no token, since the right of that one excludes it.
+/// Blocks a new access to the file with that key, since that token has a right that excludes it.
 pub(crate) fn block(
     service: &mut DmService,
     caller: CallerId,
@@ -84,7 +84,7 @@ pub(crate) fn block(
     Ok((Reply::Blocked { token }, Reply::Blocked { token }))
 }
 
-/// Lets the caller's access wait on for no token, since the right of that one excludes it. It takes no memory.
+/// Blocks the caller's access that waits, since that token has a right that excludes it. This takes no memory.
 pub(crate) fn block_again(service: &mut DmService, caller: CallerId, token: Token) -> (Reply, Reply)
     requires { IsSome (waiting service.old caller) }
     ensures reply { AreBoth (Blocked token) result }
@@ -95,7 +95,7 @@ pub(crate) fn block_again(service: &mut DmService, caller: CallerId, token: Toke
     (Reply::Blocked { token }, Reply::Blocked { token })
 }
 
-/// The access to the file with that key.
+/// A copy of the access, as one to the file with that key.
 fn to_file(access: &Access, key: FileKey) -> Result<Access, AllocError>
     ensures { IfOk result (λ a. a ≡ record access.now { key = key }) }
 {
@@ -109,7 +109,7 @@ fn to_file(access: &Access, key: FileKey) -> Result<Access, AllocError>
     })
 }
 
-/// The two numbers that the message of an event of that kind tells.
+/// The two numbers that the message of an event of that kind tells: the span of the access, or for want of space the blocks needed and free.
 fn told_span(call: &Call, short: Option<NoRoom>, kind: Kind) -> Range
     ensures { result ≡ told_span call.now short kind }
 {
@@ -123,7 +123,7 @@ fn told_span(call: &Call, short: Option<NoRoom>, kind: Kind) -> Range
     }
 }
 
-/// Where an access begins, and its bytes; of a truncate the new size and 0.
+/// The offset and the length of an access; of a truncate the new size and 0.
 fn span(call: &Call) -> Range
     ensures { result ≡ span call.now }
 {

@@ -21,7 +21,7 @@ use file_store::{FileStore, StoreRefusal};
 use hsm_types::{Bytes, Call, FileKey, Reply, Word};
 use std::alloc::{AllocError, Global};
 
-/// A call on a file.
+/// Does a call on a file.
 pub(crate) fn perform<D: Disk>(
     files: &mut FileStore<D>,
     alloc: Global,
@@ -55,7 +55,7 @@ pub(crate) fn perform<D: Disk>(
     }
 }
 
-/// A create or a sync, which means no file.
+/// Does a create or a sync, which mean no file.
 pub(crate) fn perform_alone<D: Disk>(
     files: &mut FileStore<D>,
     alloc: Global,
@@ -78,6 +78,7 @@ pub(crate) fn perform_alone<D: Disk>(
     }
 }
 
+/// Makes an empty file with that name.
 fn create<D: Disk>(
     files: &mut FileStore<D>,
     alloc: Global,
@@ -94,7 +95,7 @@ fn create<D: Disk>(
     Ok((Reply::Made(key), Reply::Made(key)))
 }
 
-/// The bytes are copied once.
+/// Reads at most `len` bytes from the offset on, and copies them once for the history.
 fn read<D: Disk>(
     files: &FileStore<D>,
     alloc: Global,
@@ -110,6 +111,7 @@ fn read<D: Disk>(
     Ok((Reply::Data(bytes), Reply::Data(again)))
 }
 
+/// Writes the bytes from the offset on.
 fn write<D: Disk>(
     files: &mut FileStore<D>,
     alloc: Global,
@@ -132,6 +134,7 @@ fn write<D: Disk>(
     Ok((Reply::Done, Reply::Done))
 }
 
+/// Gives the file that size in bytes.
 fn truncate<D: Disk>(
     files: &mut FileStore<D>,
     alloc: Global,
@@ -152,6 +155,7 @@ fn truncate<D: Disk>(
     Ok((Reply::Done, Reply::Done))
 }
 
+/// Removes the file.
 fn remove<D: Disk>(
     files: &mut FileStore<D>,
     alloc: Global,
@@ -168,7 +172,7 @@ fn remove<D: Disk>(
     Ok((Reply::Done, Reply::Done))
 }
 
-/// Makes all durable that is held.
+/// Makes durable all that is held.
 pub(crate) fn commit<D: Disk>(
     files: &mut FileStore<D>,
     alloc: Global,

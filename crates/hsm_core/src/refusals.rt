@@ -1,4 +1,4 @@
-//! What refuses a call by its words, or by the names of the files.
+//! What refuses a call by its own words, or by the names of the files.
 ghost use Rattle.std.specs.Prelude.{◌+◌};
 ghost use Rattle.plain_model.specs.Plain.{bad_name, bad_length, exists, too_big, no_inodes};
 ghost use Rattle.plain_model.specs.State.{names_of};
@@ -10,6 +10,7 @@ use disk_model::Disk;
 use file_store::FileStore;
 use hsm_types::{ACCESS_BYTES, CallRefusal, FILE_BYTES, Word, can_name};
 
+/// A name has from 1 to 64 visible bytes, none of them a slash.
 pub(crate) fn judge_name(name: &Word) -> Result<(), CallRefusal>
     ensures { Judges result (bad_name name.now) }
 {
@@ -20,6 +21,7 @@ pub(crate) fn judge_name(name: &Word) -> Result<(), CallRefusal>
     }
 }
 
+/// An access has from 1 to 65,536 bytes.
 pub(crate) fn judge_length(len: u64) -> Result<(), CallRefusal>
     ensures { Judges result (bad_length len) }
 {
@@ -30,6 +32,7 @@ pub(crate) fn judge_length(len: u64) -> Result<(), CallRefusal>
     }
 }
 
+/// No file has the name.
 pub(crate) fn judge_absence<D: Disk>(files: &FileStore<D>, name: &Word) -> Result<(), CallRefusal>
     ensures { Judges result (exists name.now (names_of files.now.held.files)) }
 {
@@ -39,6 +42,7 @@ pub(crate) fn judge_absence<D: Disk>(files: &FileStore<D>, name: &Word) -> Resul
     }
 }
 
+/// An inode is free.
 pub(crate) fn judge_inodes<D: Disk>(files: &FileStore<D>) -> Result<(), CallRefusal>
     ensures { Judges result (no_inodes (superblock_of files.now).geometry.files (names_of files.now.held.files)) }
 {
@@ -52,20 +56,22 @@ pub(crate) fn judge_inodes<D: Disk>(files: &FileStore<D>) -> Result<(), CallRefu
     }
 }
 
-pub(crate) fn judge_write(offset: u64, len: u64) -> Result<(), CallRefusal>
+/// A write leaves a file of at most 16,777,216 bytes. An end that no u64 can tell is told as the largest.
+pub(crate) fn judge_written_size(offset: u64, len: u64) -> Result<(), CallRefusal>
     ensures { Judges result (too_big (offset + len)) }
 {
     match offset.checked_add(len) {
-        Some(end) => judge_end(end),
+        Some(end) => judge_size(end),
         None => Err(CallRefusal::TooBig { end: u64::MAX }),
     }
 }
 
-pub(crate) fn judge_end(end: u64) -> Result<(), CallRefusal>
-    ensures { Judges result (too_big end) }
+/// A file has at most 16,777,216 bytes.
+pub(crate) fn judge_size(size: u64) -> Result<(), CallRefusal>
+    ensures { Judges result (too_big size) }
 {
-    if FILE_BYTES < end {
-        Err(CallRefusal::TooBig { end })
+    if FILE_BYTES < size {
+        Err(CallRefusal::TooBig { end: size })
     } else {
         Ok(())
     }

@@ -1,4 +1,4 @@
-//! Answers to sessions: judged by the scope of the call, and then by the call itself. Each reply comes twice, for the session and for the history.
+//! Answers to sessions: a call is judged by its scope, and then by itself. Each reply comes twice, for the session and for the history.
 ghost use Rattle.std.specs.Prelude.{◌≡◌, ◌≤◌, ◌+◌, ℕ, false, true, IfOk, IsOk, OnOk, OnErr};
 ghost use Rattle.hsm_types.specs.Calls.{scope_of};
 ghost use Rattle.plain_model.specs.Services.{dm_reply_to, dm_state_after};
@@ -8,10 +8,11 @@ ghost use Rattle.dm_service.specs.Tables.{Tables, awaited_in, ledger_of};
 ghost use Rattle.file_store.specs.Stores.{superblock_of, Proceeds};
 ghost use Rattle.hsm_core.specs.Ends.{Ends};
 ghost use Rattle.hsm_core.specs.Store.{state_with};
-ghost use Rattle.hsm_core.specs.Services.{IsInScope, IsPerformed};
+ghost use Rattle.hsm_core.specs.Services.{AreOf, IsInScope, IsPerformed, IsServed, asked, changes_file};
 
 mod attributes;
 mod handles;
+mod invisible;
 mod moving;
 mod ranges;
 mod regions;
@@ -27,13 +28,11 @@ use dm_service::{DmService, asks_rights, asks_tables};
 use file_store::{FileStore, StoreRefusal};
 use hsm_types::{DmCall, DmReply, FileKey, Sid};
 use indexmap::IndexMap;
-use moving::moves_segments;
 use replies::refused;
 use scope::judge_scope;
-use segments::asks_segments;
-use std::alloc::Global;
+use std::alloc::{AllocError, Global};
 
-/// Answers a session's call. The number is that of the last entry before. The reply comes twice, for the session and for the history.
+/// Answers a session's call. The number is that of the last entry before it.
 pub(crate) fn serve<D: Disk>(
     files: &mut FileStore<D>,
     stamps: &IndexMap<FileKey, u64>,
@@ -82,34 +81,101 @@ fn perform<D: Disk>(
     requires within { IsInScope files.old.held.files (scope_of call.now) }
     ensures { (t : Tables) → IsPerformed D.Disk files.old number stamps.now.entries t sid call.now result files.new }
 {
-    if asks_segments(call) {
-        return segments::serve(files, alloc, call, number);
+    if changes_file(call) {
+        return change(files, alloc, call, number);
     }
-    if moves_segments(call) {
-        return moving::serve(files, alloc, call, number);
-    }
+    Ok(tell(files, stamps, alloc, sid, call)?)
+}
+
+/// Whether the call changes a file, or what is kept with it.
+fn changes_file(call: &DmCall) -> bool
+    ensures { result ≡ changes_file call.now }
+{
+    matches!(
+        call,
+        DmCall::SetRegion { .. }
+            | DmCall::SetDmAttr { .. }
+            | DmCall::RemoveDmAttr { .. }
+            | DmCall::WriteInvis { .. }
+            | DmCall::PunchHole { .. }
+            | DmCall::Seal { .. }
+            | DmCall::Restore { .. }
+    )
+}
+
+/// Serves a call that changes a file, or what is kept with it.
+fn change<D: Disk>(
+    files: &mut FileStore<D>,
+    alloc: Global,
+    call: &DmCall,
+    number: u64,
+) -> Result<(DmReply, DmReply), StoreRefusal>
+    requires working { files.old.failed ≡ false }
+    requires idle { Proceeds D.Disk files.old number files.old }
+    requires changes { changes_file call.now ≡ true }
+    requires within { IsInScope files.old.held.files (scope_of call.now) }
+    ensures { IsServed D.Disk files.old number call.now result files.new }
+{
     match call {
-        DmCall::GetFileAttr { handle, .. } => Ok(handles::attributes(files, stamps, *handle)?),
         DmCall::SetRegion {
             handle,
             regions,
             ..
         } => regions::set(files, alloc, *handle, regions, number),
-        DmCall::GetRegion { handle, .. } => Ok(regions::list(files, *handle)?),
         DmCall::SetDmAttr {
             handle,
             name,
             value,
             ..
         } => attributes::set(files, alloc, *handle, *name, value, number),
-        DmCall::GetDmAttr { handle, name, .. } => Ok(attributes::value(files, *handle, *name)?),
         DmCall::RemoveDmAttr { handle, name, .. } => {
             attributes::remove(files, alloc, *handle, *name, number)
         }
-        DmCall::GetAllDmAttr { handle, .. } => Ok(attributes::list(files, alloc, *handle)?),
-        DmCall::PathToHandle { name } => Ok(handles::find(files, name)?),
-        DmCall::GetSpace => Ok(space::space(files)?),
-        DmCall::GetTable => Ok(tables::table(files, stamps, alloc)?),
+        DmCall::WriteInvis {
+            handle,
+            offset,
+            body,
+            ..
+        } => invisible::write(files, alloc, *handle, *offset, body, number),
+        _ => moving::serve(files, alloc, call, number),
+    }
+}
+
+/// Serves a call on files that changes nothing.
+fn tell<D: Disk>(
+    files: &FileStore<D>,
+    stamps: &IndexMap<FileKey, u64>,
+    alloc: Global,
+    sid: Sid,
+    call: &DmCall,
+) -> Result<(DmReply, DmReply), AllocError>
+    requires files { asks_tables call.now ≡ false }
+    requires bodies { asks_rights call.now ≡ false }
+    requires tells { changes_file call.now ≡ false }
+    requires within { IsInScope files.now.held.files (scope_of call.now) }
+    ensures { (t : Tables) → IfOk result (λ r. AreOf (asked (superblock_of files.now) files.now.held stamps.now.entries t sid call.now) r) }
+{
+    match call {
+        DmCall::GetFileAttr { handle, .. } => handles::attributes(files, stamps, *handle),
+        DmCall::GetRegion { handle, .. } => regions::list(files, *handle),
+        DmCall::GetDmAttr { handle, name, .. } => attributes::value(files, *handle, *name),
+        DmCall::GetAllDmAttr { handle, .. } => attributes::list(files, alloc, *handle),
+        DmCall::ReadInvis {
+            handle,
+            offset,
+            len,
+            ..
+        } => invisible::read(files, alloc, *handle, *offset, *len),
+        DmCall::ProbeHole {
+            handle,
+            offset,
+            len,
+            ..
+        } => segments::probe(files, *handle, *offset, *len),
+        DmCall::GetAllocInfo { handle, .. } => segments::allocated(files, alloc, *handle),
+        DmCall::PathToHandle { name } => handles::find(files, name),
+        DmCall::GetSpace => space::space(files),
+        DmCall::GetTable => tables::table(files, stamps, alloc),
         _ => unreachable!(),
     }
 }

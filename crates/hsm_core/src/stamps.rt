@@ -1,5 +1,5 @@
-//! Access stamps: of each file, the number of the last event that completed a read, a write or a truncate of it. A file that is gone keeps its
-//! stamp, since no key comes a second time.
+//! Stamps: of each file, the number of the last entry that completed a read, a write or a truncate of it. A file that is gone keeps its stamp, since no
+//! key comes a second time.
 ghost use Rattle.std.specs.Prelude.{◌≡◌, ◌<◌, true, None, IsSome, OnOk};
 ghost use Rattle.indexmap.specs.IndexMap.{spare};
 ghost use Rattle.plain_model.specs.Accesses.{is_access};
@@ -12,7 +12,7 @@ use hsm_types::{Call, FileKey};
 use indexmap::IndexMap;
 use std::alloc::AllocError;
 
-/// Makes room for a stamp more.
+/// Makes room for one more stamp.
 pub(crate) fn make_room(stamps: &mut IndexMap<FileKey, u64>) -> Result<(), AllocError>
     ensures same { stamps.new.entries ≡ stamps.old.entries }
     ensures room { OnOk result (0 < spare stamps.new) }
@@ -30,7 +30,7 @@ pub(crate) fn stamp(stamps: &IndexMap<FileKey, u64>, key: FileKey) -> u64
     }
 }
 
-/// Renews the stamp of the file on which the call was done, if the call is one that does so.
+/// Renews the stamp of the file on which the call was done, if the call is an access.
 pub(crate) fn note_access(
     stamps: &mut IndexMap<FileKey, u64>,
     target: Option<Target>,
@@ -54,7 +54,7 @@ fn renew(stamps: &mut IndexMap<FileKey, u64>, key: FileKey, number: u64)
     let _before = stamps.insert(key, number).unwrap();
 }
 
-/// Whether a call renews the stamp of its file.
+/// Whether the call is an access: a read, a write or a truncate.
 fn is_access(call: &Call) -> bool
     ensures { result ≡ is_access call.now }
 {

@@ -45,13 +45,13 @@ use std::snapshot::Snapshot;
 pub enum Ready {
     /// No access of the caller waits.
     Idle,
-    /// Its access would wait on: for the response to this token, or since the right of this token excludes it.
+    /// Its access would wait on, for the response to this token, or for the end of a right that this token has.
     Waits(Token),
-    /// Its access would end, or park anew, or be told that the disk has failed.
+    /// Its access would end or park again, or the caller would be told that the disk has failed.
     Now,
 }
 
-/// A store on its disk. Its history has just the answers that the store gives, one after the other, from its opening on.
+/// A store on its disk. Its history has each answer that the store has given since it was opened.
 #[derive(Drop)]
 pub struct Hsm<D: Disk> {
     files: FileStore<D>,
@@ -60,7 +60,7 @@ pub struct Hsm<D: Disk> {
     base: u64,
     stamps: IndexMap<FileKey, u64>,
     service: DmService,
-    /// With room for each response and each resume that may come.
+    /// It has room for each response and each resume that may come.
     history: Vec<Entry>,
 }
 
@@ -81,7 +81,7 @@ impl<D: Disk> Model for Hsm<D> {
         × (vec_len h.history + awaited_in h.service ≤ vec_capacity h.history) × EachLasts (ledger_of h.service) };
 }
 
-/// Makes room for so many entries beside those that are set apart, unless a call of the disk has failed before.
+/// Makes room for `more` entries beside the awaited ones, which are set apart, unless a call of the disk has failed before.
 fn make_ready<D: Disk>(
     files: &FileStore<D>,
     history: &mut Vec<Entry>,
@@ -104,7 +104,7 @@ fn make_ready<D: Disk>(
     Ok(())
 }
 
-/// Makes room for an entry and a stamp, likewise, and for the response and the resume that may come of an access.
+/// Makes room for the entry and the stamp of a call, and for a response and a resume if it has to wait, unless a call of the disk has failed before.
 fn make_ready_for_access<D: Disk>(
     files: &FileStore<D>,
     history: &mut Vec<Entry>,
@@ -124,7 +124,8 @@ fn make_ready_for_access<D: Disk>(
     Ok(())
 }
 
-/// Makes room for a resume, likewise. That of an access that was aborted has its entry set apart, and it renews no stamp.
+/// Makes room for a resume, unless a call of the disk has failed before. One of an aborted access needs none: its entry is set apart, and it renews no
+/// stamp.
 fn make_ready_to_resume<D: Disk>(
     files: &FileStore<D>,
     history: &mut Vec<Entry>,
@@ -160,7 +161,7 @@ fn is_aborted(service: &DmService, caller: CallerId) -> bool
     }
 }
 
-/// What a resume of this access comes to: of a store whose disk has failed, that it has.
+/// What a resume of this access would come to.
 fn ready_for<D: Disk>(files: &FileStore<D>, service: &DmService, access: &Access) -> Ready
     ensures { result ≡ told_ready files.now.failed (is_some (find_key (λ f. f.key) access.now.key files.now.held.files)) (conflict access.now.key (need_of access.now.call) no_token service.now.rights) access.now.token access.now.answer }
 {
@@ -175,7 +176,7 @@ fn ready_for<D: Disk>(files: &FileStore<D>, service: &DmService, access: &Access
     }
 }
 
-/// It would be blocked again by that token, if by one.
+/// What a resume would come to of an access that the right of this token excludes, if of one.
 fn blocked_by(token: Option<Token>) -> Ready
     ensures { result ≡ blocked_by token }
 {
@@ -185,7 +186,7 @@ fn blocked_by(token: Option<Token>) -> Ready
     }
 }
 
-/// An access that has not waited. The file that it means is found by its call's name.
+/// The access of a call that has not waited. Its file is found by the name.
 fn issued(call: Call) -> Access
     ensures call { result.call ≡ call }
     ensures fresh { is_fresh result ≡ true }
@@ -222,7 +223,7 @@ fn unserved(why: StoreRefusal) -> DmReply
     }
 }
 
-/// Keeps an entry, for which there is room.
+/// Adds an entry to the history, which has room for it.
 fn note(history: &mut Vec<Entry>, actor: Actor, action: Action, answer: Answer)
     requires { vec_len history.old < vec_capacity history.old }
     ensures noted { history.new.items ≡ history.old.items ++ entry_of actor action answer ∷ [] }
@@ -237,7 +238,7 @@ fn note(history: &mut Vec<Entry>, actor: Actor, action: Action, answer: Answer)
         .unwrap();
 }
 
-/// Keeps an event, for which there is room, and answers it. Nothing is kept of one that lacked memory.
+/// Keeps a caller's event, or the store's, in the history, which has room for it, and answers it. Nothing is kept of one that lacked memory.
 fn keep(
     history: &mut Vec<Entry>,
     actor: Actor,
@@ -262,7 +263,7 @@ fn keep(
     reply
 }
 
-/// Keeps a session's call, for which there is room, and answers it. Nothing is kept of one that lacked memory.
+/// Keeps a session's call in the history, which has room for it, and answers it. Nothing is kept of one that lacked memory.
 fn keep_dm(
     history: &mut Vec<Entry>,
     sid: Sid,
@@ -293,7 +294,7 @@ fn keep_dm(
 }
 
 impl<D: Disk> Hsm<D> {
-    /// Makes an empty store of geometry 0 or 1 of the disk. Until it has answered nothing is said of what a crash leaves.
+    /// Makes an empty store of geometry 0, small, or 1, large, on the disk. Until this has returned nothing is promised of what a crash leaves.
     pub fn format(disk: &mut D, geometry: u32, fsid: u64) -> Result<(), Failed>
         requires known { geometry ≤ 1 }
         requires length { D.length_of disk.old ≡ (layout_of geometry).whole }
@@ -304,7 +305,7 @@ impl<D: Disk> Hsm<D> {
         CommitSlots::format(disk, geometry, fsid)
     }
 
-    /// Opens what a crash may have left on the disk, beginning with a sync. All bodies are read. A refusal hands the disk back.
+    /// Opens a store that a crash may have ended. It syncs the disk first, and reads all bodies. A refusal hands the disk back.
     pub fn open(alloc: Global, disk: D) -> Result<Hsm<D>, (OpenRefusal, D)>
         // Nothing changes.
         ensures opening { IfOk result (λ s. Keeps D.Disk disk s.files.disk Same × Alike (D.gives disk) (D.gives s.files.disk)) }
@@ -374,8 +375,8 @@ impl<D: Disk> Hsm<D> {
         )
     }
 
-    /// Answers the caller who asks for the answer to its access that waits, and keeps that in the history. It is refused for want of memory, and by a
-    /// closed store, as calls are; but there is always memory to end an access that was aborted. Each refusal but these and `Idle` ends the access.
+    /// Answers a resume of the caller's access that waits, and keeps it in the history. It is refused for want of memory, and by a closed store, as
+    /// calls are; but there is always memory to end an access that was aborted. Each refusal but these and `Idle` ends the access.
     pub fn resume(&mut self, alloc: Global, caller: CallerId) -> Reply
         ensures resumed { IsResumed D.Disk self.old caller result self.new }
         ensures aborts { self.old.files.failed ≡ false → IsAbortedBy (waiting self.old.tables caller) (λ error. result ≡ Reply.Refused (CallRefusal.Aborted error)) }
@@ -446,7 +447,7 @@ impl<D: Disk> Hsm<D> {
         keep_dm(&mut self.history, sid, call, done)
     }
 
-    /// Makes all durable that is held, and keeps that in the history. It is refused as calls are.
+    /// Makes durable all that is held, and keeps that in the history. It is refused as calls are.
     pub fn commit(&mut self, alloc: Global) -> Reply
         ensures committed { IsCommitted D.Disk self.old result self.new }
         ensures safe { IsSafeNow D.Disk self.new }
@@ -462,8 +463,8 @@ impl<D: Disk> Hsm<D> {
         keep(&mut self.history, Actor::Store, Action::Commit, done)
     }
 
-    /// Makes room in the history for so many entries beside those that are set apart for the responses and the resumes that may come. It is no event,
-    /// and says nothing of a fault of the disk.
+    /// Makes room in the history for `n` entries beside those that are set apart for the responses and the resumes that may come. It is no event, and
+    /// says nothing of a fault of the disk.
     pub fn reserve(&mut self, n: u64) -> Result<(), AllocError>
         ensures made { OnOk result (n ≤ self.new.spare) }
         ensures kept { self.old.spare ≤ self.new.spare }
@@ -473,14 +474,14 @@ impl<D: Disk> Hsm<D> {
         self.history.reserve(entries.ok_or(AllocError)?)
     }
 
-    /// The number from which the entries are counted on, which is that of the snapshot that was opened.
+    /// The number of the snapshot that was opened. The entries are counted on from it.
     pub fn base(&self) -> u64
         ensures { result ≡ self.now.opened.meta.number }
     {
         self.base
     }
 
-    /// The events so far.
+    /// The events since the opening.
     pub fn history(&self) -> &[Entry]
         ensures entries { result.now ≡ self.now.history }
         ensures kept { IsKept self.now }
@@ -489,7 +490,7 @@ impl<D: Disk> Hsm<D> {
         self.history.as_slice()
     }
 
-    /// Ends with the disk, the events, and the store as it was opened. What wasn't made durable is lost.
+    /// Ends the store, and hands out its disk, its history and the store as it was opened. What wasn't made durable is lost.
     pub fn close(self) -> (D, History, Snapshot<FileStore<D>>)
         ensures disk { result.0 ≡ self.files.disk }
         ensures entries { result.1 ≡ self.history }

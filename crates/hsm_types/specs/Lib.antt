@@ -5,6 +5,7 @@ pub mod Calls
 pub mod Forms
 pub mod Handles
 pub mod Kept
+pub mod Media
 pub mod Messages
 pub mod Names
 pub mod Parts

@@ -3,6 +3,7 @@ ghost use Rattle.std.specs.Prelude.{◌≡◌};
 ghost use Rattle.hsm_types.specs.Calls.{scope_of};
 ghost use Rattle.hsm_types.specs.Messages.{no_kinds, takes, without_kinds, is_lawful};
 ghost use Rattle.hsm_types.specs.Rights.{reaches, excludes};
+ghost use Rattle.hsm_types.specs.declared.dm.Scope.TheVariants.{OnFile, OnRight};
 
 use crate::attributes::AttrName;
 use crate::keys::{Handle, Sid, Token};
@@ -310,6 +311,26 @@ pub enum Scope {
     },
 }
 
+fn on_file(token: &Token, handle: &Handle, right: Right) -> Scope
+    ensures { result ≡ OnFile token.now handle.now right }
+{
+    Scope::OnFile {
+        token: *token,
+        handle: *handle,
+        right,
+    }
+}
+
+fn on_right(token: &Token, handle: &Handle, right: Right) -> Scope
+    ensures { result ≡ OnRight token.now handle.now right }
+{
+    Scope::OnRight {
+        token: *token,
+        handle: *handle,
+        right,
+    }
+}
+
 impl DmCall {
     /// Who may make the call, and what it names.
     pub fn scope(&self) -> Scope
@@ -328,39 +349,19 @@ impl DmCall {
             | DmCall::GetAllDmAttr { token, handle }
             | DmCall::ReadInvis { token, handle, .. }
             | DmCall::ProbeHole { token, handle, .. }
-            | DmCall::GetAllocInfo { token, handle } => Scope::OnFile {
-                token: *token,
-                handle: *handle,
-                right: Right::Shared,
-            },
+            | DmCall::GetAllocInfo { token, handle } => on_file(token, handle, Right::Shared),
             DmCall::RequestRight { token, handle, .. }
             | DmCall::ReleaseRight { token, handle }
-            | DmCall::QueryRight { token, handle } => Scope::OnRight {
-                token: *token,
-                handle: *handle,
-                right: Right::Null,
-            },
-            DmCall::UpgradeRight { token, handle } => Scope::OnRight {
-                token: *token,
-                handle: *handle,
-                right: Right::Shared,
-            },
-            DmCall::DowngradeRight { token, handle } => Scope::OnRight {
-                token: *token,
-                handle: *handle,
-                right: Right::Excl,
-            },
+            | DmCall::QueryRight { token, handle } => on_right(token, handle, Right::Null),
+            DmCall::UpgradeRight { token, handle } => on_right(token, handle, Right::Shared),
+            DmCall::DowngradeRight { token, handle } => on_right(token, handle, Right::Excl),
             DmCall::SetRegion { token, handle, .. }
             | DmCall::SetDmAttr { token, handle, .. }
             | DmCall::RemoveDmAttr { token, handle, .. }
             | DmCall::WriteInvis { token, handle, .. }
             | DmCall::PunchHole { token, handle, .. }
             | DmCall::Seal { token, handle, .. }
-            | DmCall::Restore { token, handle, .. } => Scope::OnFile {
-                token: *token,
-                handle: *handle,
-                right: Right::Excl,
-            },
+            | DmCall::Restore { token, handle, .. } => on_file(token, handle, Right::Excl),
             DmCall::DestroySession
             | DmCall::SetDisp { .. }
             | DmCall::GetDisp

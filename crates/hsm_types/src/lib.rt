@@ -8,6 +8,7 @@ mod forms;
 mod keys;
 mod limits;
 mod lists;
+mod media;
 mod messages;
 mod names;
 mod parts;
@@ -23,9 +24,10 @@ pub use forms::{CALL_PARTS, CallVerb, DmVerb};
 pub use keys::{CallerId, FileKey, HANDLE_BYTES, Handle, Holding, Sid, Token};
 pub use limits::{
     ACCESS_BYTES, BLOCK_BYTES, CALLERS, FILE_BYTES, INFO_BYTES, LIVE_SESSIONS, MESSAGE_BYTES,
-    NAME_BYTES, SEGMENT_BYTES, USER_TOKENS, WAITING_MESSAGES,
+    NAME_BYTES, SEGMENT_BLOCKS, SEGMENT_BYTES, USER_TOKENS, WAITING_MESSAGES, segments_in,
 };
 pub use lists::{Bytes, FileRows, ListOf, Names, Regions, Segments, Sids, Tokens, Word};
+pub use media::{CopyRefusal, Fault, FetchRefusal, MediaCause};
 pub use messages::{Message, Packed};
 pub use names::can_name;
 pub use parts::{Part, PartKind, PartRef, Parts};

@@ -33,7 +33,7 @@ sure_stands (DropAttr ino name) c sure can = absurd sure
 sure_stands (Stub ino j None) c sure can = refl
 sure_stands (Stub ino j (Some stub)) c sure can =
     let key = key_on ino c in
-    rw (found-kept key can.0 c can.1) (goes_stands j (others_stubs key c) (geometry_of c.geometry).stubs (record stub { offline = false }) can.0.kept.stubs (can.2.goes sure))
+    rw (found-kept key can.0 c can.1) (goes_stands j (others_stubs key c) (geometry_of c.geometry).stubs (record stub { offline = false }) can.0.kept.stubs (can.2.turns.goes sure))
 
 all_stand : (rs : List Record) (c : Catalog) → AllByRecursion IsSure rs → CanStandAll rs c → refusal_of_all rs c ≡ None
 all_stand [] c sure can = refl

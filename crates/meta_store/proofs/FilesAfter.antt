@@ -29,7 +29,7 @@ pub fits : (r : Record) (f : CatalogFile) (c : Catalog) → CanStandOn r f c →
 fits (Size ino size) f c stands = stands
 fits (Map ino block places) f c stands = stands.blocks
 fits (Stub ino j None) f c stands = stands
-fits (Stub ino j (Some stub)) f c stands = record { goes = stands.goes; comes = stands.comes }
+fits (Stub ino j (Some stub)) f c stands = stands.turns
 fits r f c stands = tt
 
 -- ---- its name and its parts

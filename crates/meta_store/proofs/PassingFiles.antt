@@ -1,9 +1,8 @@
 -- Which files pass the judgement.
 use Rattle.std.proofs.lemmas.List.Sums.{sum_by-cons, sum_by-append}
 use Rattle.std.proofs.lemmas.List.Folds.{fold-map}
-use Rattle.std.proofs.Common.{◌≡◌, inl, inr, ℕ, ◌+◌, ◌-◌, ◌≤◌, List, [], ◌∷◌, ◌++◌, length, map, Bool, true, false, None, Result, Err, leb, refl, ap, sym, ◌∙◌, arith}
+use Rattle.std.proofs.Common.{◌≡◌, ℕ, ◌+◌, ◌-◌, ◌≤◌, List, [], ◌∷◌, ◌++◌, length, map, true, Result, Err, leb, refl, ap, sym, ◌∙◌, arith}
 use Rattle.std.specs.List.{AllByRecursion}
-use Rattle.std.proofs.lemmas.Bool.{cases_lt}
 use Rattle.std.proofs.lemmas.List.{map-append}
 use Rattle.std.proofs.lemmas.List.Concat.{flat_map-append}
 use Rattle.hsm_types.specs.declared.stores.Geometry.{Geometry}
@@ -12,11 +11,11 @@ use Rattle.inode_table.specs.Listing.{Within}
 use Rattle.hsm_types.specs.Attributes.{bytes_of_attributes}
 use Rattle.meta_store.specs.Catalogs.{CatalogFile, Catalog, IsCatalogFile, IsCatalog, HasLengths, AreLengths, geometry_of, names_of, blocks_of, stub_total}
 use Rattle.meta_store.specs.Snapshots.{SnapshotFile, snapshot_file}
-use Rattle.meta_store.specs.Validity.{listed_in, names_in, places_of, places_in, is_file, are_stubs, is_kept, can_follow, attribute_total_in, stub_total_in, is_next, Follows}
+use Rattle.meta_store.specs.Validity.{listed_in, names_in, places_of, places_in, is_file, places_by, AreLawfulStubs, is_kept, can_follow, attribute_total_in, stub_total_in, Follows, IsNext}
 use Rattle.meta_store.proofs.KeptAttributes.{attributes-pass}
 use Rattle.meta_store.proofs.LawfulStubs.{stubs-pass}
 use Rattle.meta_store.proofs.MappedPlaces.{all-parts}
-use Rattle.meta_store.proofs.SpreadPlaces.{places_of-extents, are_extents-from}
+use Rattle.meta_store.proofs.SpreadPlaces.{places_of-extents, are_extents-from, places-again}
 use Rattle.meta_store.proofs.StandOnce.{above-last, nameless, unused-from}
 
 -- ---- the names and places of a snapshot are those of its catalog
@@ -36,16 +35,17 @@ stub_total_in-snapshot fs = sym (fold-map (λ (sum : ℕ) (s : SnapshotFile). su
 
 -- what is judged of a file alone
 abbrev Passes : ℕ → ℕ → ℕ → SnapshotFile → Type 0
-Passes limit next blocks f = (leb f.key.ino limit ≡ true) × (is_file next blocks f ≡ true) × (is_kept f ≡ true)
+Passes limit next blocks f = (leb f.key.ino limit ≡ true) × (is_file next blocks f ≡ true) × (is_kept f ≡ true) × AreLawfulStubs f.size f.kept.regions (places_by f) f.kept.stubs
 
 each-alone : (limit next blocks : ℕ) (fs : List CatalogFile) → Within limit next (names_of fs) → AllByRecursion (IsCatalogFile blocks) fs → AllByRecursion HasLengths fs → AllByRecursion (Passes limit next blocks) (map snapshot_file fs)
 each-alone limit next blocks [] within each long = tt
 each-alone limit next blocks (f ∷ fs) within each long =
     let extents = are_extents-from 0 0 (blocks_in f.size) blocks f.places (omega arith) (omega (arith, each.0.places)) each.0.within in
-    let kept : is_kept (snapshot_file f) ≡ true = rw (each.0.kept.regions, attributes-pass f.kept.attributes each.0.kept.attributes, stubs-pass f f.kept.stubs each.0.ascend each.0.stubs long.0) refl in
-    ((grind arith, grind (arith, each.0), kept), each-alone limit next blocks fs within.2 each.1 long.1)
+    let kept : is_kept (snapshot_file f) ≡ true = rw (each.0.kept.regions, attributes-pass f.kept.attributes each.0.kept.attributes) refl in
+    let stubs : AreLawfulStubs f.size f.kept.regions (places_by (snapshot_file f)) f.kept.stubs = rw (places-again f each.0.places) (stubs-pass f each.0.ascend each.0.stubs long.0) in
+    ((grind arith, grind (arith, each.0), kept, stubs), each-alone limit next blocks fs within.2 each.1 long.1)
 
-pub passes : (c : Catalog) (before : List SnapshotFile) (f : SnapshotFile) (rest : List SnapshotFile) → IsCatalog c → AreLengths c → map snapshot_file c.files ≡ before ++ f ∷ rest → is_next (geometry_of c.geometry) c.next before f ≡ true
+pub passes : (c : Catalog) (before : List SnapshotFile) (f : SnapshotFile) (rest : List SnapshotFile) → IsCatalog c → AreLengths c → map snapshot_file c.files ≡ before ++ f ∷ rest → IsNext (geometry_of c.geometry) c.next before f
 passes c before f rest is long e =
     let g : Geometry = geometry_of c.geometry in
     let names : names_of c.files ≡ names_in before ++ listed_in f ∷ names_in rest = sym (names_in-snapshot c.files) ∙ ap names_in e ∙ map-append listed_in before (f ∷ rest) in
@@ -59,16 +59,12 @@ passes c before f rest is long e =
     let fresh = nameless (names_in before) (listed_in f) (names_in rest) (rw names at is.table.differ) in
     let above = above-last 0 (names_in before) (listed_in f) (names_in rest) (rw names at is.table.ascend) in
     let unused = unused-from (places_in before) (places_of f.extents) (places_in rest) (rw places at is.distinct) in
-    grind (arith, alone)
+    record { judged = grind (arith, alone.0, alone.1, alone.2); stubs = alone.3 }
 
--- a file whose entries aren't lawful, or too many, can't stand behind others, which have so many
+-- behind others, which have so many, no file can stand whose entries aren't lawful, or too many
 pub not-next : (geometry : Geometry) (next : ℕ) (before : List SnapshotFile) (f : SnapshotFile) (total : ℕ) → total ≡ stub_total_in before
-    → (are_stubs f.size f.kept.regions f.extents None f.kept.stubs ≡ true → length f.kept.stubs ≤ geometry.stubs - total → ⊥) → is_next geometry next before f ≡ false
-not-next geometry next before f total counted refused = by (are_stubs f.size f.kept.regions f.extents None f.kept.stubs) refl
-  where
-    by : (b : Bool) → are_stubs f.size f.kept.regions f.extents None f.kept.stubs ≡ b → is_next geometry next before f ≡ false
-    by false bad = grind (arith, bad)
-    by true are = elim (cases_lt (geometry.stubs - total) (length f.kept.stubs)) [ inl many ↦ grind (arith, many, counted) | inr within ↦ absurd (refused are within) ]
+    → (AreLawfulStubs f.size f.kept.regions (places_by f) f.kept.stubs → length f.kept.stubs ≤ geometry.stubs - total → ⊥) → IsNext geometry next before f → ⊥
+not-next geometry next before f total counted refused is = let judged = is.judged in refused is.stubs (grind (arith, counted))
 
 -- one error, told twice
 pub same_err : {T E : Type 0} (r : Result T E) (e why from : E) → r ≡ Err e → r ≡ Err why → e ≡ from → from ≡ why

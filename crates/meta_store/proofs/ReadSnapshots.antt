@@ -7,7 +7,8 @@ use Rattle.byteorder.specs.Endian.{big_bytes}
 use Rattle.meta_store.specs.declared.snapshot.RawSnapshot.{RawSnapshot}
 use Rattle.meta_store.specs.declared.snapshot.ReadRefusal.{ReadRefusal}
 use Rattle.meta_store.specs.declared.snapshot.ReadRefusal.TheVariants.{Memory, Corrupt}
-use Rattle.meta_store.specs.Snapshots.{Snapshot, key_bytes, region_bytes, attribute_bytes, extent_bytes, state_of, stub_bytes, counted_bytes, file_bytes, spelling, RegionFits, AttributeFits, ExtentFits, StubFits, FileFits, Fits, IsSpelled}
+use Rattle.meta_store.specs.Catalogs.{StubFits}
+use Rattle.meta_store.specs.Snapshots.{Snapshot, key_bytes, region_bytes, attribute_bytes, extent_bytes, state_of, stub_bytes, counted_bytes, file_bytes, spelling, RegionFits, AttributeFits, ExtentFits, FileFits, Fits, IsSpelled}
 use Rattle.meta_store.specs.Reading.{Fails, number_at, several, counted, key_at, region_at, attr_name_at, attribute_at, extent_at, offline_in, state_at, print_at, stub_in, file_at, snapshot_at}
 use Rattle.meta_store.proofs.Readers.{IsBytes, IsReader, IsWide, refit, wide1, wide2, wide4, wide8, number_reads, only_reads, bytes_read, several_read, both_read, made_reads, picked_reads, counted_reads}
 

@@ -14,8 +14,8 @@ use Rattle.inode_table.proofs.Orders.{few}
 use Rattle.commit_slots.specs.Places.{layout_of}
 use Rattle.commit_slots.specs.Images.{empty_snapshot}
 use Rattle.meta_store.specs.declared.snapshot.Mapping.{Mapping}
-use Rattle.meta_store.specs.Catalogs.{CatalogFile, Catalog, IsCatalog, IsCatalogFile, geometry_of, present, blocks_of, names_of, attribute_total, stub_total}
-use Rattle.meta_store.specs.Snapshots.{region_bytes, extent_bytes, stub_bytes, file_bytes, extents_from, spelling, snapshot_file, snapshot_of, ExtentFits, StubFits, FileFits, Fits}
+use Rattle.meta_store.specs.Catalogs.{CatalogFile, Catalog, StubFits, IsCatalog, IsCatalogFile, geometry_of, present, blocks_of, names_of, attribute_total, stub_total}
+use Rattle.meta_store.specs.Snapshots.{region_bytes, extent_bytes, stub_bytes, file_bytes, extents_from, spelling, snapshot_file, snapshot_of, ExtentFits, FileFits, Fits}
 use Rattle.meta_store.proofs.SpreadPlaces.{present-few, length-extents}
 use Rattle.meta_store.proofs.KeptBounds.{regions-few, regions-fit, attributes-few, attributes-fit, attributes-short, values-short}
 use Rattle.meta_store.proofs.LawfulStubs.{stubs-fit}
@@ -88,7 +88,7 @@ file-fits blocks limit next f few_blocks few_files old ino igen few few_stubs is
   extents = omega (arith, length-extents 0 f.places, present-few f.places);
   each_extent = extents-fit blocks 0 f.places (omega arith) (omega arith) is.within;
   stubs = omega arith;
-  each_stub = stubs-fit f f.kept.stubs is.size is.stubs;
+  each_stub = stubs-fit f f.kept.stubs is.stubs;
 }
 
 files-fit : (blocks limit next : ℕ) (fs : List CatalogFile) → blocks ≤ 65536 → limit ≤ 4096 → next ≤ 2 ^ 62 → Within limit next (names_of fs) → attribute_total fs ≤ 1048576 → stub_total fs ≤ 65536 → AllByRecursion (IsCatalogFile blocks) fs
@@ -128,7 +128,7 @@ file-short : (blocks : ℕ) (f : CatalogFile) → IsCatalogFile blocks f → len
 unfolding file_bytes
 file-short blocks f is =
     let k = is.kept in
-    let stubs = length-stubs f.kept.stubs (stubs-fit f f.kept.stubs is.size is.stubs) in
+    let stubs = length-stubs f.kept.stubs (stubs-fit f f.kept.stubs is.stubs) in
     simp length-append (omega (arith, stubs, length-regions f.kept.regions, length-mappings (extents_from 0 f.places), length-extents 0 f.places, name-short f.name is.name, regions-few f.kept.regions k.regions, attributes-short f.kept.attributes k.eight))
 
 files-short : (blocks : ℕ) (fs : List CatalogFile) → AllByRecursion (IsCatalogFile blocks) fs

@@ -8,7 +8,7 @@ use Rattle.plain_model.specs.Blocks.{blocks_in}
 use Rattle.meta_store.specs.Catalogs.{CatalogFile, IsCatalogFile, present}
 use Rattle.meta_store.specs.Records.{places_set}
 use Rattle.meta_store.specs.Snapshots.{SnapshotFile, extents_from, snapshot_file}
-use Rattle.meta_store.specs.Validity.{are_extents, places_of}
+use Rattle.meta_store.specs.Validity.{are_extents, places_of, places_by}
 
 -- ---- the places, from their extents
 
@@ -48,13 +48,15 @@ spread-holes ms n blocks h =
 
 -- the file of a catalog that a snapshot says
 abbrev pub filled : SnapshotFile → CatalogFile
-filled f = record { key = f.key; name = f.name; size = f.size; places = places_set f.extents (replicate (blocks_in f.size) None); kept = f.kept }
+filled f = record { key = f.key; name = f.name; size = f.size; places = places_by f; kept = f.kept }
+
+pub places-again : (f : CatalogFile) → length f.places ≡ blocks_in f.size → places_by (snapshot_file f) ≡ f.places
+places-again f size = rw size at (again f.places [])
 
 pub filled-again : (blocks : ℕ) (fs : List CatalogFile) → AllByRecursion (IsCatalogFile blocks) fs → map filled (map snapshot_file fs) ≡ fs
 filled-again blocks [] each = refl
 filled-again blocks (f ∷ fs) each =
-    let places : places_set (extents_from 0 f.places) (replicate (blocks_in f.size) None) ≡ f.places = rw each.0.places at (again f.places []) in
-    rw (places, filled-again blocks fs each.1) refl
+    rw (places-again f each.0.places, filled-again blocks fs each.1) refl
 
 -- ---- what extents tell
 

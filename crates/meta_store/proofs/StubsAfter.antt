@@ -15,9 +15,8 @@ use Rattle.meta_store.specs.declared.file_parts.Others.{Others}
 use Rattle.meta_store.specs.declared.file_parts.FileParts.{FileParts}
 use Rattle.meta_store.specs.declared.records.Record.{Record}
 use Rattle.meta_store.specs.declared.records.Record.TheVariants.{Size, Map, Regions, Stub}
-use Rattle.meta_store.specs.Catalogs.{CatalogFile, Catalog, IsCatalogStub}
+use Rattle.meta_store.specs.Catalogs.{CatalogFile, Catalog, StubFits, IsCatalogStub}
 use Rattle.meta_store.specs.Records.{file_after, part_refusal, CanStandOn, IsMappable, IsStubbable}
-use Rattle.meta_store.specs.Snapshots.{StubFits}
 use Rattle.meta_store.specs.InMemory.{kept_in, parts_after, IsNumbered}
 use Rattle.meta_store.proofs.ClearedPlaces.{away-at, at-away, none-fitted, get_or-mapped, none-gone_if, gone-none}
 use Rattle.meta_store.proofs.StubLists.{each-at, at-each, stub_at-with, room-with, fewer-filter}
@@ -36,13 +35,9 @@ kept_unless false o stub is = is
 same_stub : (f g : CatalogFile) (j : ℕ) (stub : StubOf) → IsCatalogStub f (j, stub) → 65536 * j < g.size → g.kept.regions ≡ f.kept.regions
     → (stub.offline ≡ true → (i : ℕ) → 16 * j ≤ i → i < 16 * j + 16 → get_or f.places i None ≡ None → get_or g.places i None ≡ None) → IsCatalogStub g (j, stub)
 same_stub f g j stub is start regions places = record {
-  start = start;
-  volume = is.volume;
-  covered = λ off. rw regions (is.covered off);
+  fits = record { start = start; len = refl; volume = is.fits.volume; covered = λ off. rw regions (is.fits.covered off) };
   away = λ off. at-away 16 (16 * j) g.places (λ i from to. places off i from to (away-at 16 (16 * j) f.places (is.away off) i from to));
-  object = is.object;
-  len = is.len;
-  digest = is.digest;
+  numbers = is.numbers;
 }
 
 below-start : (j size : ℕ) → j < segments_in size → 65536 * j < size
@@ -61,13 +56,9 @@ mapped-elsewhere block places f c j stub can is off i from to low high =
 -- the entry that the record sets
 new_stub : (f : CatalogFile) (j : ℕ) (stub : StubOf) (ino : ℕ) → IsStubbable j stub f → StubFits (j, stub) → IsCatalogStub (file_after (Stub ino j (Some stub)) f) (j, stub)
 new_stub f j stub ino can numbers = record {
-  start = can.start;
-  volume = can.volume;
-  covered = can.covered;
+  fits = can.fits;
   away = λ off. at-away 16 (16 * j) _ (λ i from to. rw off (gone-none j f.places i from to));
-  object = numbers.object;
-  len = numbers.len;
-  digest = numbers.digest;
+  numbers = numbers;
 }
 
 stub-after : (r : Record) (f : CatalogFile) (c : Catalog) (others : Others) (limits : Geometry) → CanStandOn r f c → part_refusal r others limits f.kept ≡ None → IsNumbered r → AllByRecursion (IsCatalogStub f) f.kept.stubs
@@ -77,23 +68,19 @@ stub-after (Size ino size) f c others limits stands none numbers old j stub is =
     same_stub f (file_after (Size ino size) f) j stub (each-at (IsCatalogStub f) f.kept.stubs j stub old found.1) (below-start j size (ltb-true j (segments_in size) found.0)) refl (λ off i from to. none-fitted size f.places i)
 stub-after (Map ino block places) f c others limits stands none numbers old j stub is =
     let was = each-at (IsCatalogStub f) f.kept.stubs j stub old is in
-    same_stub f (file_after (Map ino block places) f) j stub was was.start refl (λ off i from to none. get_or-mapped block places.items f.places i (mapped-elsewhere block places.items f c j stub stands is off i from to) ∙ none)
+    same_stub f (file_after (Map ino block places) f) j stub was was.fits.start refl (λ off i from to none. get_or-mapped block places.items f.places i (mapped-elsewhere block places.items f c j stub stands is off i from to) ∙ none)
 stub-after (Regions ino regions) f c others limits stands none numbers old j stub is =
     let was = each-at (IsCatalogStub f) f.kept.stubs j stub old is in
     let rest : uncovered regions f.kept.stubs ≡ None = grind arith in
     record {
-      start = was.start;
-      volume = was.volume;
-      covered = λ off. all_covered regions f.kept.stubs rest j (ap is_offline is ∙ off);
+      fits = record { start = was.fits.start; len = refl; volume = was.fits.volume; covered = λ off. all_covered regions f.kept.stubs rest j (ap is_offline is ∙ off) };
       away = was.away;
-      object = was.object;
-      len = was.len;
-      digest = was.digest;
+      numbers = was.numbers;
     }
 stub-after (Stub ino k None) f c others limits stands none numbers old j stub is =
     let found = kept_unless (j == k) (stub_at j f.kept.stubs) stub (sym (stub_at-without k f.kept.stubs j) ∙ is) in
     let was = each-at (IsCatalogStub f) f.kept.stubs j stub old found in
-    same_stub f (file_after (Stub ino k None) f) j stub was was.start refl (λ off i from to none. none)
+    same_stub f (file_after (Stub ino k None) f) j stub was was.fits.start refl (λ off i from to none. none)
 stub-after (Stub ino k (Some new)) f c others limits stands none numbers old j stub is = by (j == k) refl (sym (stub_at-with k new f.kept.stubs j) ∙ is)
   where
     by : (b : Bool) → (j == k) ≡ b → (if b then Some new else stub_at j f.kept.stubs) ≡ Some stub → IsCatalogStub (file_after (Stub ino k (Some new)) f) (j, stub)
@@ -102,10 +89,10 @@ stub-after (Stub ino k (Some new)) f c others limits stands none numbers old j s
         subst (λ (s : StubOf). IsCatalogStub (file_after (Stub ino k (Some new)) f) (j, s)) it (subst (λ (n : ℕ). IsCatalogStub (file_after (Stub ino k (Some new)) f) (n, new)) (sym (eqb-true j k same)) (new_stub f k new ino stands numbers))
     by false other found =
         let was = each-at (IsCatalogStub f) f.kept.stubs j stub old found in
-        same_stub f (file_after (Stub ino k (Some new)) f) j stub was was.start refl (λ off i from to. none-gone_if new.offline k f.places i)
+        same_stub f (file_after (Stub ino k (Some new)) f) j stub was was.fits.start refl (λ off i from to. none-gone_if new.offline k f.places i)
 stub-after r f c others limits stands none numbers old j stub is =
     let was = each-at (IsCatalogStub f) f.kept.stubs j stub old is in
-    record { start = was.start; volume = was.volume; covered = was.covered; away = was.away; object = was.object; len = was.len; digest = was.digest }
+    record { fits = was.fits; away = was.away; numbers = was.numbers }
 
 -- ---- all of them
 

@@ -10,16 +10,16 @@ use Rattle.plain_model.specs.Blocks.{blocks_in, with_mapped}
 use Rattle.plain_model.specs.Distinct.{Distinct}
 use Rattle.inode_table.specs.Listing.{listing, key_named, Ascend}
 use Rattle.inode_table.specs.Table.{Table, entry_of}
-use Rattle.meta_store.specs.Catalogs.{CatalogFile, Catalog, IsLawfulKept, IsCatalogFile, HasLengths, names_of, blocks_of, present}
+use Rattle.meta_store.specs.Catalogs.{CatalogFile, Catalog, StubFits, IsLawfulKept, IsCatalogFile, HasLengths, names_of, blocks_of, present}
 use Rattle.meta_store.specs.Records.{with_put}
-use Rattle.meta_store.specs.Snapshots.{SnapshotFile, snapshot_file, extents_from, StubFits}
-use Rattle.meta_store.specs.Validity.{names_in, places_of, places_in, last_inode, are_unused, are_free, are_stubs, Follows, Flags, HasTaken}
+use Rattle.meta_store.specs.Snapshots.{SnapshotFile, snapshot_file, extents_from}
+use Rattle.meta_store.specs.Validity.{names_in, places_of, places_in, last_inode, are_unused, are_free, places_by, AreLawfulStubs, Follows, Flags, HasTaken}
 use Rattle.meta_store.proofs.MappedPlaces.{length-places_set}
 use Rattle.meta_store.proofs.SpreadPlaces.{filled, spread-holes, present-spread, extents-tell, all-places}
 use Rattle.meta_store.proofs.StandOnce.{put-behind, unused-joins, free-is, length-mapped}
 use Rattle.meta_store.proofs.PassingFiles.{names_in-snapshot, places_in-snapshot}
 use Rattle.meta_store.proofs.SnapshotFits.{all-both}
-use Rattle.meta_store.proofs.LawfulStubs.{stubs-ascend, stubs-tell, stubs-long}
+use Rattle.meta_store.proofs.LawfulStubs.{stubs-tell, stubs-long}
 
 same_variant : {X Y : Type 0} (to : X → Y) (o : Option X) → is_some (option_map to o) ≡ is_some o
 same_variant to None = refl
@@ -37,7 +37,7 @@ table-has fs name t is = same_variant (λ (l : Listed). l.key) (named name (list
 
 -- its entries were judged by the places of its blocks
 abbrev pub AreJudged : SnapshotFile → Type 0
-AreJudged f = are_stubs f.size f.kept.regions (extents_from 0 (filled f).places) None f.kept.stubs ≡ true
+AreJudged f = AreLawfulStubs f.size f.kept.regions (places_by f) f.kept.stubs
 
 module _ {g : Geometry} {next : ℕ} {c : Catalog} {flags : List Bool} {f : SnapshotFile} (t : HasTaken c.geometry next g.blocks (map snapshot_file c.files) c flags) (follows : Follows g next (map snapshot_file c.files) f) where
   -- the places of its blocks stand for its extents
@@ -61,8 +61,8 @@ module _ {g : Geometry} {next : ℕ} {c : Catalog} {flags : List Bool} {f : Snap
     places = length-places_set f.extents (replicate (blocks_in f.size) None) ∙ length-replicate (blocks_in f.size) None;
     within = rw (present-spread f.extents (blocks_in f.size) g.blocks follows.extents) (all-places (λ b. b < g.blocks) f.extents (extents-tell 0 (blocks_in f.size) g.blocks f.extents follows.extents).1);
     kept = kept;
-    ascend = stubs-ascend f.size f.kept.regions (extents_from 0 (filled f).places) None f.kept.stubs stubs;
-    stubs = stubs-tell (filled f) None f.kept.stubs stubs fit;
+    ascend = stubs.fit.ascend;
+    stubs = stubs-tell (filled f) f.kept.stubs stubs.fit.each stubs.away fit;
   }
 
   pub once-each : are_free (places_of f.extents) flags ≡ true → Distinct (blocks_of c.files) → Distinct (present (filled f).places ++ blocks_of c.files)
@@ -74,7 +74,7 @@ module _ {g : Geometry} {next : ℕ} {c : Catalog} {flags : List Bool} {f : Snap
     geometry = refl;
     next = omega (arith, t.next, follows.old);
     taken = rw (put-behind 0 (filled f) c.files a is-above, map-append snapshot_file c.files (filled f ∷ []), extents-again) refl;
-    lengths = rw (put-behind 0 (filled f) c.files a is-above) (all-both HasLengths c.files (filled f ∷ []) t.lengths (stubs-long f.size f.kept.regions (extents_from 0 (filled f).places) None f.kept.stubs stubs, tt));
+    lengths = rw (put-behind 0 (filled f) c.files a is-above) (all-both HasLengths c.files (filled f ∷ []) t.lengths (stubs-long f.size f.kept.regions f.kept.stubs stubs.fit.each, tt));
     count = length-mapped (places_of f.extents) flags ∙ t.count;
     flagged = rw (flat_map-append (λ (s : SnapshotFile). places_of s.extents) (map snapshot_file c.files) (f ∷ []), append-nil (places_of f.extents)) flags-tell.1;
   }

@@ -7,10 +7,11 @@ use Rattle.std.specs.Ordering.{nat_cmp}
 use Rattle.hsm_types.specs.Names.{is_name}
 use Rattle.hsm_types.specs.declared.keys.FileKey.{FileKey}
 use Rattle.hsm_types.specs.declared.stores.Geometry.{Geometry}
-use Rattle.hsm_types.specs.Regions.{regions_refusal, covers}
+use Rattle.hsm_types.specs.Regions.{regions_refusal}
 use Rattle.hsm_types.specs.Segments.{segment_len}
 use Rattle.hsm_types.specs.Attributes.{AreAttributes, bytes_of_attributes}
 use Rattle.hsm_types.specs.Kept.{Kept}
+use Rattle.hsm_types.specs.Stubs.{FitsFile}
 use Rattle.hsm_types.specs.declared.stubs.Stub.{Stub}
 use Rattle.plain_model.specs.Plain.{Listed}
 use Rattle.plain_model.specs.Blocks.{blocks_in}
@@ -61,17 +62,31 @@ stub_total files = sum_by (λ f. length f.kept.stubs) files
 abbrev pub places_in_segment : ℕ → List (Option ℕ) → List (Option ℕ)
 places_in_segment j places = take 16 (drop (16 * j) places)
 
--- What is true of each stub entry of a file: its segment starts below the size, its volume is one that there may be, and a segment that is offline is
--- covered and has no blocks.
-pub record IsCatalogStub (f : CatalogFile) (x : ℕ × Stub) : Type 0 where
-  pub start : 65536 * x.0 < f.size
-  pub volume : x.1.entry.volume ≤ 255
-  pub covered : x.1.offline ≡ true → covers f.kept.regions x.0 ≡ true
-  pub away : x.1.offline ≡ true → present (places_in_segment x.0 f.places) ≡ []
-  -- a number has 32 bits, and a digest 32 bytes
+-- each number of a stub entry is one that its field can hold, and its digest has 32 bytes
+pub record StubFits (x : ℕ × Stub) : Type 0 where
+  pub segment : x.0 < 2 ^ 32
+  pub volume : x.1.entry.volume < 2 ^ 32
   pub object : x.1.entry.object < 2 ^ 32
   pub len : x.1.entry.print.len < 2 ^ 32
   pub digest : length x.1.entry.print.digest.0 ≡ 32
+
+-- the entry with the length of its segment of a file of that size
+abbrev pub with_length : ℕ → ℕ × Stub → ℕ × Stub
+with_length size x = (x.0, record x.1 { entry = record x.1.entry { print = record x.1.entry.print { len = segment_len size x.0 } } })
+
+-- but for its length the entry fits the file
+abbrev pub FitsButLength : CatalogFile → ℕ × Stub → Type 0
+FitsButLength f x = FitsFile f.size f.kept.regions (with_length f.size x)
+
+-- where the entry says that the bytes of its segment are away, the segment has no blocks
+abbrev pub HasNoBlocks : List (Option ℕ) → ℕ × Stub → Type 0
+HasNoBlocks places x = x.1.offline ≡ true → present (places_in_segment x.0 places) ≡ []
+
+-- what is true of each stub entry of a file
+pub record IsCatalogStub (f : CatalogFile) (x : ℕ × Stub) : Type 0 where
+  pub fits : FitsButLength f x
+  pub away : HasNoBlocks f.places x
+  pub numbers : StubFits x
 
 -- each of the file's entries has the length of its segment
 abbrev pub HasLengths : CatalogFile → Type 0

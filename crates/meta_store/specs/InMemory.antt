@@ -1,17 +1,15 @@
 -- A catalog in memory: a table of its files, for each inode, from 1, what is kept of the file that has it beside them, and what all attributes count.
-use Rattle.std.specs.Prelude.{◌≡◌, ℕ, ◌+◌, ◌-◌, ◌≤◌, List, [], length, map, slice_index_or, true, false, Some, None}
+use Rattle.std.specs.Prelude.{◌≡◌, ℕ, ◌+◌, ◌-◌, ◌≤◌, List, [], length, map, slice_index_or, false, Some, None}
 use Rattle.hsm_types.specs.declared.keys.FileKey.{FileKey}
 use Rattle.hsm_types.specs.Kept.{Kept}
-use Rattle.hsm_types.specs.Stubs.{Stubs, stub_at, offline_at}
-use Rattle.hsm_types.specs.declared.stubs.Stub.{Stub as StubOf}
+use Rattle.hsm_types.specs.Stubs.{offline_at}
 use Rattle.inode_table.specs.declared.entries.FileEntry.{FileEntry}
 use Rattle.inode_table.specs.Table.{Table}
 use Rattle.meta_store.specs.declared.file_parts.FileParts.{FileParts}
 use Rattle.meta_store.specs.declared.records.Record.{Record}
 use Rattle.meta_store.specs.declared.records.Record.TheVariants.{Size, Map, Stub}
-use Rattle.meta_store.specs.Catalogs.{CatalogFile, Catalog, IsCatalog, geometry_of, attribute_total, stub_total}
-use Rattle.meta_store.specs.Records.{file_after}
-use Rattle.meta_store.specs.Snapshots.{StubFits}
+use Rattle.meta_store.specs.Catalogs.{CatalogFile, Catalog, StubFits, IsCatalog, geometry_of, attribute_total, stub_total}
+use Rattle.meta_store.specs.Records.{file_after, FitsStub}
 
 -- of a new file
 abbrev pub no_parts : FileParts
@@ -31,11 +29,6 @@ parts_of f = record { places = f.places; regions = f.kept.regions; attributes = 
 -- the parts after a record about their file
 abbrev pub parts_after : Record → FileParts → FileParts
 parts_after r parts = parts_of (file_after r (file_of (record { ino = 0; igen = 0 }) [] 0 parts))
-
--- the segment goes away only by the entry that it is sealed with, and comes back only by the entry that it has
-pub record FitsStub (j : ℕ) (stub : StubOf) (stubs : Stubs) : Type 0 where
-  pub goes : stub.offline ≡ true → stub_at j stubs ≡ Some (record stub { offline = false })
-  pub comes : stub.offline ≡ false → offline_at stubs j ≡ true → stub_at j stubs ≡ Some (record stub { offline = true })
 
 -- the record is within what a file may have
 abbrev pub FitsParts : Record → FileParts → Type 0

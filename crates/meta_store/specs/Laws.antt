@@ -1,8 +1,10 @@
--- Laws on what recovery finds on an image.
-use Rattle.std.specs.Prelude.{◌≡◌, ℕ, List, []}
+-- Laws on snapshots and on what recovery finds on an image.
+use Rattle.std.specs.Prelude.{◌≡◌, ℕ, ◌≤◌, List, [], length}
 use Rattle.commit_slots.specs.Images.{IsEmptyStore}
-use Rattle.meta_store.specs.Catalogs.{Catalog}
+use Rattle.commit_slots.specs.Places.{layout_of}
+use Rattle.meta_store.specs.Catalogs.{Catalog, IsCatalog}
 use Rattle.meta_store.specs.Images.{IsImage}
+use Rattle.meta_store.specs.Snapshots.{spelling, snapshot_of}
 
 -- the catalog of a new store of this geometry
 abbrev pub no_files : ℕ → Catalog
@@ -15,3 +17,7 @@ FindsOne image = (fsid n : ℕ) (c : Catalog) (fsid' n' : ℕ) (c' : Catalog) �
 -- on an image that was just formatted recovery finds number 0 and no files
 abbrev pub FormattedHasNoFiles : ℕ → ℕ → List ℕ → Type 0
 FormattedHasNoFiles geometry fsid image = IsEmptyStore geometry fsid image → IsImage fsid 0 (no_files geometry) image
+
+-- a catalog's snapshot is no longer than its area
+abbrev pub FitsItsArea : ℕ → Catalog → Type 0
+FitsItsArea number c = IsCatalog c → length (spelling (snapshot_of number c)) ≤ (layout_of c.geometry).snapshot_len

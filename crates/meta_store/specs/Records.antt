@@ -6,9 +6,9 @@ use Rattle.hsm_types.specs.Names.{is_name}
 use Rattle.hsm_types.specs.declared.keys.FileKey.{FileKey}
 use Rattle.hsm_types.specs.declared.dm.DmRefusal.{DmRefusal}
 use Rattle.hsm_types.specs.Refusals.{first_refusal}
-use Rattle.hsm_types.specs.Regions.{regions_refusal, covers}
+use Rattle.hsm_types.specs.Regions.{regions_refusal}
 use Rattle.hsm_types.specs.Segments.{segments_in}
-use Rattle.hsm_types.specs.Stubs.{stub_at, offline_at, with_stub, without_stub, stubs_below, uncovered, too_many_stubs}
+use Rattle.hsm_types.specs.Stubs.{Stubs, stub_at, offline_at, with_stub, without_stub, stubs_below, uncovered, too_many_stubs}
 use Rattle.hsm_types.specs.declared.stores.Geometry.{Geometry}
 use Rattle.hsm_types.specs.declared.stubs.Stub.{Stub as StubOf}
 use Rattle.hsm_types.specs.Attributes.{with_value, without_value, setting_refusal, removal_refusal}
@@ -22,7 +22,7 @@ use Rattle.meta_store.specs.declared.snapshot.Mapping.{Mapping}
 use Rattle.meta_store.specs.declared.records.Record.{Record}
 use Rattle.meta_store.specs.declared.records.Record.TheVariants.{Make, Drop, Size, Map, Regions, SetAttr, DropAttr, Stub}
 use Rattle.meta_store.specs.declared.file_parts.Others.{Others}
-use Rattle.meta_store.specs.Catalogs.{CatalogFile, Catalog, names_of, blocks_of, geometry_of, attribute_total, stub_total}
+use Rattle.meta_store.specs.Catalogs.{CatalogFile, Catalog, FitsButLength, names_of, blocks_of, geometry_of, attribute_total, stub_total}
 
 -- ---- one file
 
@@ -151,14 +151,15 @@ pub record IsMappable (block : ℕ) (places : List ℕ) (f : CatalogFile) (c : C
   pub unused : AllByRecursion (λ p. list_any (λ b. b == p) (blocks_of c.files) ≡ false) places
   pub distinct : Distinct places
 
--- A stub entry of a file. Its segment starts below the size. It goes away only by the entry that it is sealed with, and where it is covered, and comes
--- back only by the entry that it has.
+-- the segment goes away only by the entry that it is sealed with, and comes back only by the entry that it has
+pub record FitsStub (j : ℕ) (stub : StubOf) (stubs : Stubs) : Type 0 where
+  pub goes : stub.offline ≡ true → stub_at j stubs ≡ Some (record stub { offline = false })
+  pub comes : stub.offline ≡ false → offline_at stubs j ≡ true → stub_at j stubs ≡ Some (record stub { offline = true })
+
+-- a stub entry of a file, in the place of those that it has
 pub record IsStubbable (j : ℕ) (stub : StubOf) (f : CatalogFile) : Type 0 where
-  pub start : 65536 * j < f.size
-  pub volume : stub.entry.volume ≤ 255
-  pub goes : stub.offline ≡ true → stub_at j f.kept.stubs ≡ Some (record stub { offline = false })
-  pub covered : stub.offline ≡ true → covers f.kept.regions j ≡ true
-  pub comes : stub.offline ≡ false → offline_at f.kept.stubs j ≡ true → stub_at j f.kept.stubs ≡ Some (record stub { offline = true })
+  pub fits : FitsButLength f (j, stub)
+  pub turns : FitsStub j stub f.kept.stubs
 
 -- What no part judges: a file has the inode, and the record fits it. A segment without an entry has its bytes.
 abbrev pub CanStandOn : Record → CatalogFile → Catalog → Type 0

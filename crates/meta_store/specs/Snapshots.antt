@@ -10,7 +10,7 @@ use Rattle.hsm_types.specs.declared.stubs.Stub.{Stub}
 use Rattle.meta_store.specs.declared.snapshot.Mapping.{Mapping}
 use Rattle.meta_store.specs.declared.snapshot.RawFile.{RawFile}
 use Rattle.meta_store.specs.declared.snapshot.RawSnapshot.{RawSnapshot}
-use Rattle.meta_store.specs.Catalogs.{CatalogFile, Catalog, IsCatalog, AreLengths}
+use Rattle.meta_store.specs.Catalogs.{CatalogFile, Catalog, StubFits, IsCatalog, AreLengths}
 
 -- a file as a snapshot spells it
 pub record SnapshotFile : Type 0 where
@@ -81,13 +81,6 @@ AttributeFits a = (length a.0.0 ≡ 8) × (length a.1 < 2 ^ 16)
 
 abbrev pub ExtentFits : Mapping → Type 0
 ExtentFits e = (e.block < 2 ^ 32) × (e.place < 2 ^ 32)
-
-pub record StubFits (x : ℕ × Stub) : Type 0 where
-  pub segment : x.0 < 2 ^ 32
-  pub volume : x.1.entry.volume < 2 ^ 32
-  pub object : x.1.entry.object < 2 ^ 32
-  pub len : x.1.entry.print.len < 2 ^ 32
-  pub digest : length x.1.entry.print.digest.0 ≡ 32
 
 -- each number is one that its field can hold
 pub record FileFits (f : SnapshotFile) : Type 0 where

@@ -1,20 +1,19 @@
 -- What is judged of the files of a snapshot, one after the other.
-use Rattle.std.specs.Prelude.{◌≡◌, ℕ, ◌+◌, ◌*◌, ◌/◌, ◌<◌, ◌≤◌, List, [], ◌∷◌, ◌++◌, length, map, sum_by, get_or, slice_set, Bool, true, false, not, ◌==◌, ◌&&◌, ◌||◌, nat_lt, nat_le, Option, Some, None, is_some}
-use Rattle.std.specs.List.{flat_map, list_any}
+use Rattle.std.specs.Prelude.{◌≡◌, ℕ, ◌+◌, ◌<◌, ◌≤◌, List, [], ◌∷◌, ◌++◌, length, map, replicate, sum_by, get_or, slice_set, Bool, true, false, not, ◌==◌, ◌&&◌, nat_lt, nat_le, Option, Some, None, is_some}
+use Rattle.std.specs.List.{flat_map, list_any, AllByRecursion}
 use Rattle.std.specs.Ordering.{is_lt}
 use Rattle.hsm_types.specs.Names.{is_name}
 use Rattle.hsm_types.specs.declared.stores.Geometry.{Geometry}
 use Rattle.hsm_types.specs.declared.attributes.AttrName.{AttrName}
 use Rattle.hsm_types.specs.declared.regions.Region.{Region}
-use Rattle.hsm_types.specs.Regions.{regions_refusal, covers}
-use Rattle.hsm_types.specs.Segments.{segment_len}
-use Rattle.hsm_types.specs.Stubs.{Stubs}
-use Rattle.hsm_types.specs.declared.stubs.Stub.{Stub}
+use Rattle.hsm_types.specs.Regions.{regions_refusal}
+use Rattle.hsm_types.specs.Stubs.{Stubs, AreStubs}
 use Rattle.hsm_types.specs.Attributes.{Attributes, name_cmp, is_reserved, bytes_of_attributes}
 use Rattle.plain_model.specs.Plain.{Listed, named}
 use Rattle.plain_model.specs.Blocks.{blocks_in}
 use Rattle.meta_store.specs.declared.snapshot.Mapping.{Mapping}
-use Rattle.meta_store.specs.Catalogs.{Catalog, AreLengths}
+use Rattle.meta_store.specs.Catalogs.{Catalog, HasNoBlocks, AreLengths}
+use Rattle.meta_store.specs.Records.{places_set}
 use Rattle.meta_store.specs.Snapshots.{SnapshotFile, snapshot_file}
 
 abbrev pub listed_in : SnapshotFile → Listed
@@ -64,23 +63,11 @@ abbrev pub is_above : Option ℕ → ℕ → Bool
 is_above None j = true
 is_above (Some before) j = nat_lt before j
 
--- none of these extents is in the segment
-abbrev pub has_none : List Mapping → ℕ → Bool
-has_none extents j = not (list_any (λ e. e.block / 16 == j) extents)
-
--- a file of that size may have the entry: its segment starts below the size, and it has the segment's length and a volume that there may be
-abbrev pub is_entry : ℕ → ℕ × Stub → Bool
-is_entry size x = nat_lt (65536 * x.0) size && (x.1.entry.print.len == segment_len size x.0) && nat_le x.1.entry.volume 255
-
--- of a file of that size with these regions and extents, the entry can stand behind that of the segment before it: where the segment is offline it is
--- covered and has no extent
-abbrev pub is_stub : ℕ → List Region → List Mapping → Option ℕ → ℕ × Stub → Bool
-is_stub size regions extents before x = is_above before x.0 && is_entry size x && (not x.1.offline || (covers regions x.0 && has_none extents x.0))
-
--- each entry can stand behind the one before it
-abbrev pub are_stubs : ℕ → List Region → List Mapping → Option ℕ → Stubs → Bool
-are_stubs size regions extents before [] = true
-are_stubs size regions extents before (x ∷ stubs) = is_stub size regions extents before x && are_stubs size regions extents (Some x.0) stubs
+-- Stub entries of a file of that size, with these regions and its blocks at these places: at most one a segment, each of which fits, and no segment that
+-- is offline has blocks.
+pub record AreLawfulStubs (size : ℕ) (regions : List Region) (places : List (Option ℕ)) (stubs : Stubs) : Type 0 where
+  pub fit : AreStubs size regions stubs
+  pub away : AllByRecursion (HasNoBlocks places) stubs
 
 -- what can be judged of a file by itself, what sessions keep with it aside
 abbrev pub is_file : ℕ → ℕ → SnapshotFile → Bool
@@ -123,13 +110,22 @@ stub_total_in files = sum_by (λ f. length f.kept.stubs) files
 abbrev pub are_few_stubs : Geometry → List SnapshotFile → SnapshotFile → Bool
 are_few_stubs geometry before f = nat_le (stub_total_in before + length f.kept.stubs) geometry.stubs
 
--- what sessions keep with the file is lawful
+-- its regions and its attributes are lawful
 abbrev pub is_kept : SnapshotFile → Bool
-is_kept f = are_regions f.kept.regions && are_attributes None f.kept.attributes && are_stubs f.size f.kept.regions f.extents None f.kept.stubs
+is_kept f = are_regions f.kept.regions && are_attributes None f.kept.attributes
 
--- the file can stand behind those
+-- the file can stand behind those, if its stub entries are lawful
 abbrev pub is_next : Geometry → ℕ → List SnapshotFile → SnapshotFile → Bool
 is_next geometry next before f = can_follow geometry next before f && is_kept f && are_few geometry before f && are_few_stubs geometry before f && are_unused (places_in before) (places_of f.extents)
+
+-- the places of the file's blocks
+abbrev pub places_by : SnapshotFile → List (Option ℕ)
+places_by f = places_set f.extents (replicate (blocks_in f.size) None)
+
+-- the file can stand behind those
+pub record IsNext (geometry : Geometry) (next : ℕ) (before : List SnapshotFile) (f : SnapshotFile) : Type 0 where
+  pub judged : is_next geometry next before f ≡ true
+  pub stubs : AreLawfulStubs f.size f.kept.regions (places_by f) f.kept.stubs
 
 -- ---- flags of the places in use
 

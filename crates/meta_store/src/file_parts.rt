@@ -9,16 +9,16 @@ ghost use Rattle.hsm_types.specs.Segments.{segments_in};
 ghost use Rattle.hsm_types.specs.Stubs.{offline_at, stubs_below, too_many_stubs, uncovered, with_stub, without_stub};
 ghost use Rattle.hsm_types.specs.declared.dm.DmRefusal.TheVariants.{Memory};
 ghost use Rattle.hsm_types.specs.declared.dm.DmRefusal.{DmRefusal};
-ghost use Rattle.meta_store.specs.InMemory.{no_parts, kept_in, parts_after, FitsParts, FitsStub, IsNumbered};
-ghost use Rattle.meta_store.specs.Snapshots.{StubFits};
-ghost use Rattle.meta_store.specs.Records.{part_refusal, places_fitted, places_without, IsSure};
+ghost use Rattle.meta_store.specs.InMemory.{no_parts, kept_in, parts_after, FitsParts, IsNumbered};
+ghost use Rattle.meta_store.specs.Catalogs.{StubFits};
+ghost use Rattle.meta_store.specs.Records.{part_refusal, places_fitted, places_without, FitsStub, IsSure};
 
 use crate::file_places::FilePlaces;
 use crate::kept::name_len;
 use crate::records::Record;
 use crate::refusal::MetaRefusal;
 use dm_attrs::DmAttrs;
-use hsm_types::{DmRefusal, FILE_BYTES, Geometry, Regions, SEGMENT_BYTES, Stub};
+use hsm_types::{DmRefusal, FILE_BYTES, Geometry, Regions, Stub, segments_in};
 use managed_regions::ManagedRegions;
 use std::alloc::{AllocError, Global};
 use stub_map::{State, StubMap};
@@ -209,12 +209,4 @@ impl FileParts {
     {
         &self.stubs
     }
-}
-
-/// How many segments a file of that size has.
-fn segments_in(size: u64) -> u32
-    requires { size ≤ FILE_BYTES }
-    ensures { result ≡ segments_in size }
-{
-    ((size + (SEGMENT_BYTES - 1)) / SEGMENT_BYTES) as u32
 }

@@ -2,16 +2,13 @@
 ghost use Rattle.std.specs.Prelude.{◌≡◌, ◌+◌, ◌-◌, ◌<◌, ◌≤◌, ◌++◌, [], ◌∷◌, length, take, drop, replicate, slice_set, None, Some, IfOk, OnOk, OnErr};
 ghost use Rattle.std.specs.List.{AllByRecursion};
 ghost use Rattle.plain_model.specs.Blocks.{blocks_in};
-ghost use Rattle.meta_store.specs.Catalogs.{present};
+ghost use Rattle.meta_store.specs.Catalogs.{present, places_in_segment};
 ghost use Rattle.meta_store.specs.Records.{places_fitted, places_set, places_without, mappings_from};
 
 use crate::snapshot::Mapping;
-use hsm_types::{BLOCK_BYTES, FILE_BYTES, SEGMENT_BYTES};
+use hsm_types::{BLOCK_BYTES, FILE_BYTES, SEGMENT_BLOCKS};
 use std::alloc::{AllocError, Global};
 use std::marker::Model;
-
-/// How many blocks a segment has.
-pub(crate) const SEGMENT_BLOCKS: usize = (SEGMENT_BYTES / BLOCK_BYTES) as usize;
 
 /// For each block of a file which block of the disk has it; a hole has none. Contracts see the list of these places.
 #[derive(Drop)]
@@ -103,6 +100,15 @@ impl FilePlaces {
     }
 }
 
+/// Which of the places of a file's blocks are those of the segment: none of a segment past the last block.
+pub fn segment_places(places: &[Option<u32>], segment: u32) -> &[Option<u32>]
+    ensures { result.now ≡ places_in_segment segment places.now }
+{
+    let from = places.len().min(segment as usize * SEGMENT_BLOCKS as usize);
+    let to = places.len().min(from + SEGMENT_BLOCKS as usize);
+    &places[from..to]
+}
+
 /// How many of a file's places aren't holes.
 #[tactic(auto, using(crate::proofs::MappedPlaces::mapped_steps))]
 pub fn count_present(places: &[Option<u32>]) -> u32
@@ -187,8 +193,8 @@ fn clear_segment(places: &mut Vec<Option<u32>>, segment: u32) -> u32
     ensures places { places.new.items ≡ places_without segment places.old.items }
     ensures cleared { result + length (present places.new.items) ≡ length (present places.old.items) }
 {
-    let from = segment as usize * SEGMENT_BLOCKS;
-    let end = places.len().min(from + SEGMENT_BLOCKS);
+    let from = segment as usize * SEGMENT_BLOCKS as usize;
+    let end = places.len().min(from + SEGMENT_BLOCKS as usize);
     let mut cleared = 0;
     for block in from..end {
         cleared += 1 - hole(places[block]);

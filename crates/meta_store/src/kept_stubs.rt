@@ -1,11 +1,12 @@
 // Stub entries of a file, as a snapshot has them.
-ghost use Rattle.std.specs.Prelude.{◌≡◌, ◌++◌, ◌<◌, ◌≤◌, [], ◌∷◌, length, None, IfOk, IsErrOf, OnOk, true};
+ghost use Rattle.std.specs.Prelude.{◌≡◌, ◌↔◌, ◌++◌, ◌<◌, [], ◌∷◌, ◌≤◌, length, IfOk, IsErrOf, IsTrue, OnOk};
 ghost use Rattle.std.specs.List.{AllByRecursion};
 ghost use Rattle.hsm_types.specs.Segments.{segment_len};
-ghost use Rattle.meta_store.specs.Snapshots.{extents_from, StubFits};
-ghost use Rattle.meta_store.specs.Validity.{is_above, has_none, is_entry, is_stub, are_stubs};
+ghost use Rattle.hsm_types.specs.Stubs.{FitsFile};
+ghost use Rattle.meta_store.specs.Catalogs.{present, places_in_segment, StubFits, HasNoBlocks};
+ghost use Rattle.meta_store.specs.Validity.{is_above, AreLawfulStubs};
 
-use crate::file_places::{FilePlaces, SEGMENT_BLOCKS, count_present};
+use crate::file_places::{FilePlaces, count_present, segment_places};
 use crate::kept::refusal_of;
 use crate::snapshot::ReadRefusal;
 use hsm_types::{LAST_VOLUME, SEGMENT_BYTES, Stub};
@@ -22,22 +23,24 @@ pub(crate) fn stubs_of(
     stubs: &[(u32, Stub)],
     limit: u32,
 ) -> Result<StubMap, ReadRefusal>
-    ensures lawful { OnOk result (are_stubs size regions.now (extents_from 0 places.now) None stubs.now ≡ true) }
+    ensures lawful { OnOk result (AreLawfulStubs size regions.now places.now stubs.now) }
     ensures within { OnOk result (length stubs.now ≤ limit) }
     ensures ok { IfOk result (λ kept. kept ≡ stubs.now) }
     ensures fits { IfOk result (AllByRecursion StubFits) }
-    ensures corrupt { IsErrOf result ReadRefusal.Corrupt → are_stubs size regions.now (extents_from 0 places.now) None stubs.now ≡ true → length stubs.now ≤ limit → ⊥ }
+    ensures corrupt { IsErrOf result ReadRefusal.Corrupt → AreLawfulStubs size regions.now places.now stubs.now → length stubs.now ≤ limit → ⊥ }
 {
     let mut kept = StubMap::new(alloc);
     let mut before = None;
     for entry in stubs {
         let (segment, stub) = *entry;
-        if !is_stub(size, regions, places, before, segment, stub) {
+        if !is_above(before, segment) || !is_lawful(size, regions, places, segment, stub) {
             return Err(ReadRefusal::Corrupt);
         }
         put(&mut kept, segment, stub, limit)?;
         before = Some(segment);
     }
+    // Read for the order of the entries.
+    let _count = kept.len();
     Ok(kept)
 }
 
@@ -62,22 +65,6 @@ fn put(kept: &mut StubMap, segment: u32, stub: Stub, limit: u32) -> Result<(), R
     Ok(())
 }
 
-/// Whether an entry can stand behind that of the segment before it.
-fn is_stub(
-    size: u64,
-    regions: &ManagedRegions,
-    places: &FilePlaces,
-    before: Option<u32>,
-    segment: u32,
-    stub: Stub,
-) -> bool
-    ensures { result ≡ is_stub size regions.now (extents_from 0 places.now) before (segment, stub) }
-{
-    is_above(before, segment)
-        && is_entry(size, segment, stub)
-        && (!stub.offline || (regions.covers(segment) && has_none(places, segment)))
-}
-
 /// Whether the segment stands behind the first one, if there is one before it.
 fn is_above(before: Option<u32>, segment: u32) -> bool
     ensures { result ≡ is_above before segment }
@@ -88,13 +75,23 @@ fn is_above(before: Option<u32>, segment: u32) -> bool
     }
 }
 
-/// Whether a file of that size may have the entry, if its bytes may be away.
-fn is_entry(size: u64, segment: u32, stub: Stub) -> bool
-    ensures { result ≡ is_entry size (segment, stub) }
+/// Whether a file of that size, with these regions and its blocks at these places, may have the entry.
+fn is_lawful(
+    size: u64,
+    regions: &ManagedRegions,
+    places: &FilePlaces,
+    segment: u32,
+    stub: Stub,
+) -> bool
+    ensures { IsTrue result ↔ (FitsFile size regions.now (segment, stub) × HasNoBlocks places.now (segment, stub)) }
 {
-    u64::from(segment) * SEGMENT_BYTES < size
-        && u64::from(stub.entry.print.len) == segment_len(size, segment)
-        && stub.entry.volume <= LAST_VOLUME
+    if size <= u64::from(segment) * SEGMENT_BYTES
+        || u64::from(stub.entry.print.len) != segment_len(size, segment)
+        || LAST_VOLUME < stub.entry.volume
+    {
+        return false;
+    }
+    !stub.offline || (regions.covers(segment) && has_none(places, segment))
 }
 
 /// How many bytes the segment has of a file of that size.
@@ -107,10 +104,7 @@ fn segment_len(size: u64, segment: u32) -> u64
 
 /// Whether no block of the segment has a place.
 fn has_none(places: &FilePlaces, segment: u32) -> bool
-    ensures { result ≡ has_none (extents_from 0 places.now) segment }
+    ensures { IsTrue result ↔ (present (places_in_segment segment places.now) ≡ []) }
 {
-    let places = places.as_slice();
-    let from = places.len().min(segment as usize * SEGMENT_BLOCKS);
-    let to = places.len().min(from + SEGMENT_BLOCKS);
-    count_present(&places[from..to]) == 0
+    count_present(segment_places(places.as_slice(), segment)) == 0
 }

@@ -23,8 +23,9 @@ mod writing;
 
 pub use catalog::Catalog;
 pub use file_parts::FileParts;
+pub use file_places::{count_present, segment_places};
 pub use geometry::geometry_of;
-pub use laws::{formatted_image, one_image};
+pub use laws::{formatted_image, one_image, snapshot_fits};
 pub use records::{Record, Records};
 pub use refusal::MetaRefusal;
 pub use snapshot::Mapping;

@@ -17,7 +17,7 @@ pub enum Record {
     Drop {
         ino: u64,
     },
-    /// The file has so many bytes. Blocks wholly past them go.
+    /// The file has so many bytes. Blocks wholly past them go, and so do stub entries of segments wholly past them.
     Size {
         ino: u64,
         size: u64,

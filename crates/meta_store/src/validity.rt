@@ -1,12 +1,12 @@
 // The judgement of a snapshot that was read: the catalog that it says, if it is a valid one.
 
-ghost use Rattle.std.specs.Prelude.{◌≡◌, ℕ, ◌^◌, ◌≤◌, ◌++◌, [], ◌∷◌, map, false, is_some, IfOk, OnOk};
+ghost use Rattle.std.specs.Prelude.{◌≡◌, ℕ, ◌^◌, ◌≤◌, ◌++◌, [], ◌∷◌, map, is_some, IfOk, OnOk};
 ghost use Rattle.plain_model.specs.Plain.{named};
 ghost use Rattle.std.specs.Bool.{OnTrue};
 ghost use Rattle.std.specs.Result.{IsErrOf};
 ghost use Rattle.meta_store.specs.Catalogs.{Catalog, geometry_of, IsCatalog, AreLengths};
 ghost use Rattle.meta_store.specs.Snapshots.{raw_file, raw_snapshot, snapshot_file, snapshot_of};
-ghost use Rattle.meta_store.specs.Validity.{last_inode, is_file, can_follow, Follows, is_next, names_in, HasTaken};
+ghost use Rattle.meta_store.specs.Validity.{last_inode, is_file, can_follow, Follows, IsNext, names_in, HasTaken};
 
 use crate::catalog::Catalog;
 use crate::extents::{are_extents, claim};
@@ -66,7 +66,7 @@ fn take_in(
     requires taken { HasTaken catalog.old.geometry next limits.blocks (map snapshot_file catalog.old.files) catalog.old flags.old }
     requires last { last ≡ last_inode 0 (names_in (map snapshot_file catalog.old.files)) }
     ensures taken { OnOk result (HasTaken catalog.old.geometry next limits.blocks (map snapshot_file catalog.old.files ++ raw_file file ∷ []) catalog.new flags.new) }
-    ensures corrupt { IsErrOf result ReadRefusal.Corrupt → is_next limits next (map snapshot_file catalog.old.files) (raw_file file) ≡ false }
+    ensures corrupt { IsErrOf result ReadRefusal.Corrupt → IsNext limits next (map snapshot_file catalog.old.files) (raw_file file) → ⊥ }
 {
     // Read for what is true of each catalog.
     let _geometry = catalog.geometry();

@@ -8,10 +8,14 @@ mod handles;
 #[cfg(test)]
 mod messages;
 #[cfg(test)]
+mod objects;
+#[cfg(test)]
 mod regions;
 #[cfg(test)]
 mod scripts;
 #[cfg(test)]
 mod sessions;
+#[cfg(test)]
+mod shelf;
 #[cfg(test)]
 mod streams;

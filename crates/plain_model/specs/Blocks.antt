@@ -46,7 +46,7 @@ mapped_after effect size mapped = with_mapped (touched effect size) (fitted (siz
 
 -- the blocks of the segments from the first up to the second are holes
 abbrev pub with_holes : ℕ → ℕ → List Bool → List Bool
-with_holes from to mapped = take (16 * from) mapped ++ replicate (min (16 * to) (length mapped) - 16 * from) false ++ drop (16 * to) mapped
+with_holes from to mapped = take (16 * from) mapped ++ replicate (min (16 * to) (length mapped) - 16 * from) false ++ drop (16 * max from to) mapped
 
 -- and after any effect
 abbrev pub remapped : Effect → ℕ → List Bool → List Bool

@@ -12,7 +12,7 @@ use crate::pieces::{
 use crate::transcript::push_data;
 use hsm_types::{
     AttrName, Bytes, CallRefusal, DmRefusal, DmReply, Fingerprint, Names, Reply, Right, Segment,
-    Sid, Sids, Token, Tokens,
+    Sid, Sids, Table, Token, Tokens,
 };
 use std::alloc::{AllocError, Global};
 
@@ -87,10 +87,7 @@ fn push_dm_reply(alloc: Global, out: &mut Vec<u8>, reply: &DmReply) -> Result<()
             push_kinds(out, *kinds)
         }
         DmReply::Packed { bytes, tokens } => push_packed(alloc, out, bytes, tokens),
-        DmReply::Tokens(tokens) => {
-            push(out, b"tokens")?;
-            push_tokens(alloc, out, tokens)
-        }
+        DmReply::Tokens(tokens) => push_told_tokens(alloc, out, tokens),
         DmReply::Token(token) => push_numbered(alloc, out, b"token", token.0),
         DmReply::Right(right) => push_right(out, *right),
         DmReply::Attr {
@@ -100,10 +97,7 @@ fn push_dm_reply(alloc: Global, out: &mut Vec<u8>, reply: &DmReply) -> Result<()
         } => push_attr(alloc, out, *size, *stamp, *blocks),
         DmReply::Data(bytes) => push_data(alloc, out, bytes.as_slice()),
         DmReply::Range { offset, len } => push_range(alloc, out, *offset, *len),
-        DmReply::Alloc(segments) => {
-            push(out, b"alloc ")?;
-            push_segments(out, segments.as_slice())
-        }
+        DmReply::Alloc(segments) => push_segments(out, segments.as_slice()),
         DmReply::Regions(regions) => {
             push(out, b"regions ")?;
             push_regions(alloc, out, regions)
@@ -114,15 +108,7 @@ fn push_dm_reply(alloc: Global, out: &mut Vec<u8>, reply: &DmReply) -> Result<()
             push_handle(alloc, out, *handle)
         }
         DmReply::Space { used, total } => push_space(alloc, out, *used, *total),
-        DmReply::Table(table) => {
-            push_table(
-                alloc,
-                out,
-                table.used,
-                table.total,
-                table.files.as_slice().len() as u64,
-            )
-        }
+        DmReply::Table(table) => push_table(alloc, out, table),
         DmReply::Refused(why) => {
             push(out, b"refused ")?;
             push_dm_refusal(alloc, out, *why)
@@ -137,10 +123,11 @@ fn push_range(alloc: Global, out: &mut Vec<u8>, offset: u64, len: u64) -> Result
     push_field(alloc, out, len)
 }
 
-/// A letter for each segment, `-` for none.
+/// The letters of a file's segments, `-` for none.
 fn push_segments(out: &mut Vec<u8>, segments: &[Segment]) -> Result<(), AllocError>
-    ensures { OnOk result (out.new.items ≡ out.old.items ++ segments_word segments.now) }
+    ensures { OnOk result (out.new.items ≡ out.old.items ++ spaced (codes "alloc" ∷ segments_word segments.now ∷ [])) }
 {
+    push(out, b"alloc ")?;
     if segments.is_empty() {
         return push(out, b"-");
     }
@@ -167,18 +154,20 @@ fn segment_letter(segment: Segment) -> u8
 }
 
 /// How many blocks are mapped, how many there are, and how many files.
-fn push_table(
-    alloc: Global,
-    out: &mut Vec<u8>,
-    used: u64,
-    total: u64,
-    files: u64,
-) -> Result<(), AllocError>
-    ensures { OnOk result (out.new.items ≡ out.old.items ++ spaced (codes "table" ∷ decimal used ∷ decimal total ∷ decimal files ∷ [])) }
+fn push_table(alloc: Global, out: &mut Vec<u8>, table: &Table) -> Result<(), AllocError>
+    ensures { OnOk result (out.new.items ≡ out.old.items ++ spaced (codes "table" ∷ decimal table.now.used ∷ decimal table.now.total ∷ decimal (length table.now.files) ∷ [])) }
 {
-    push_numbered(alloc, out, b"table", used)?;
-    push_field(alloc, out, total)?;
-    push_field(alloc, out, files)
+    push_numbered(alloc, out, b"table", table.used)?;
+    push_field(alloc, out, table.total)?;
+    push_field(alloc, out, table.files.as_slice().len() as u64)
+}
+
+/// The tokens that are outstanding to a session.
+fn push_told_tokens(alloc: Global, out: &mut Vec<u8>, tokens: &Tokens) -> Result<(), AllocError>
+    ensures { OnOk result (out.new.items ≡ out.old.items ++ spaced (codes "tokens" ∷ listed (map (λ token. decimal token.0) tokens.now))) }
+{
+    push(out, b"tokens")?;
+    push_tokens(alloc, out, tokens)
 }
 
 /// The live sessions.

@@ -1,5 +1,5 @@
 -- Lists that are cut at a byte.
-use Rattle.std.proofs.Common.{◌≡◌, ◌≢◌, ℕ, ◌<◌, List, [], ◌∷◌, ◌++◌, length, true, false, refl, ap, ◌∙◌, arith}
+use Rattle.std.proofs.Common.{◌≡◌, ◌≢◌, ℕ, ◌+◌, ◌<◌, List, [], ◌∷◌, ◌++◌, length, length-append, true, false, refl, ap, ◌∙◌, arith}
 use Rattle.std.specs.Prelude.{◌==◌}
 use Rattle.std.specs.List.{slice_split, join_with_byte, AllByRecursion}
 use Rattle.std.proofs.lemmas.Bool.Decides.{nat_tests}
@@ -75,3 +75,7 @@ texts_of-last text h many = ap ended_texts (slice_split-lacks 10 text h) ∙ end
 pub texts_of-none : (bytes : List ℕ) → length bytes ≡ 0 → texts_of bytes ≡ []
 texts_of-none [] h = refl
 texts_of-none (b ∷ bs) h = absurd (omega arith)
+
+-- what stands before the byte and what behind it are shorter than the whole
+pub cut_shorter : (bytes front rest : List ℕ) (b : ℕ) → bytes ≡ front ++ b ∷ rest → length front + length rest < length bytes
+cut_shorter bytes front rest b e = omega (arith, simp length-append at (ap length e))

@@ -1,5 +1,5 @@
 -- What data spell, and why nothing else.
-use Rattle.std.proofs.Common.{◌≡◌, ◌≢◌, ℕ, inl, inr, ◌⊎◌, List, [], ◌∷◌, ◌++◌, length, Bool, true, false, Option, Some, None, refl, sym, ap, ◌∙◌, arith}
+use Rattle.std.proofs.Common.{◌≡◌, ◌≢◌, ℕ, ◌<◌, ◌^◌, inl, inr, ◌⊎◌, List, [], ◌∷◌, ◌++◌, length, Bool, true, false, Option, Some, None, refl, sym, ap, ◌∙◌, arith}
 use Rattle.std.specs.Prelude.{codes}
 use Rattle.std.specs.Fmt.{decimal}
 use Rattle.std.specs.Str.{bytes_eq}
@@ -12,6 +12,7 @@ use Rattle.script_text.specs.declared.bodies.Pattern.{Pattern}
 use Rattle.script_text.specs.Lines.{coloned, data_word, pattern, pattern_byte, IsData}
 use Rattle.script_text.specs.Reading.{Lacks, IsNumber, pattern_text, IsPattern}
 use Rattle.script_text.proofs.Cutting.{Lacks-not, cut_same}
+use Rattle.script_text.proofs.HexText.{length-encoded}
 use Rattle.script_text.proofs.Spelling.{Lacks-computed, Lacks-colon}
 
 -- bytes that compare as the same, and that don't
@@ -61,3 +62,8 @@ pub pattern_body : (text bytes : List ℕ) (x : Pattern) → IsPattern x → tex
 pattern_body text bytes x h same is =
     let long : length bytes ≡ x.len = ap length is ∙ length-pattern x.len x.seed in
     rw long ((h.0, h.1, is), ap (λ t. codes "p:" ++ t) same)
+
+-- data are no more than the bytes of their spelling, or than a seed may stand for
+pub data_few : (seed : Option ℕ) (bytes : List ℕ) → IsData seed bytes → length (data_word seed bytes) < 2 ^ 32 → length bytes < 2 ^ 32
+data_few None bytes is short = omega (arith, length-encoded bytes)
+data_few (Some seed) bytes is short = omega (arith, is.0)

@@ -180,12 +180,6 @@ pub data_at-word : (seed : Option ℕ) (bytes : List ℕ) → IsData seed bytes 
 data_at-word seed bytes h =
     ap data_at (data_word-parts seed bytes) ∙ ap data_of (split_parts seed bytes h) ∙ data_of-parts seed bytes h
 
--- data of one text are one
-pub one_data : (seed other : Option ℕ) (bytes others : List ℕ) → IsData seed bytes → IsData other others → data_word seed bytes ≡ data_word other others → bytes ≡ others
-one_data seed other bytes others h k e =
-    let read : ◌≡◌ {A = Given} (record { bytes = bytes; seed = seed }) (record { bytes = others; seed = other }) = sym (data_at-word seed bytes h) ∙ ap data_at e ∙ data_at-word other others k in
-    ap (λ (g : Given). g.bytes) read
-
 -- the handle of these parts, if they are those of a handle
 abbrev handle_of : List (List ℕ) → Handle
 handle_of (fsid ∷ ino ∷ igen ∷ rest) = record { fsid = digits_value 10 fsid; key = record { ino = digits_value 10 ino; igen = digits_value 10 igen } }

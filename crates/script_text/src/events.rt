@@ -1,5 +1,5 @@
 //! The lines of callers, of sessions and of the store.
-ghost use Rattle.std.specs.Prelude.{◌↔◌, IfOk, IsTrue};
+ghost use Rattle.std.specs.Prelude.{◌↔◌, ◌<◌, ◌^◌, length, IfOk, IsTrue};
 ghost use Rattle.hsm_types.specs.Callers.{IsCallerNumber};
 ghost use Rattle.hsm_types.specs.Calls.{scope_of};
 ghost use Rattle.plain_model.specs.declared.entries.Actor.{Actor};
@@ -14,7 +14,9 @@ use plain_model::{Action, Actor};
 use std::alloc::{AllocError, Global};
 
 /// The line that a text is.
+#[tactic(auto, using(crate::proofs::Cutting::cut_shorter))]
 pub fn line(alloc: Global, text: &[u8]) -> Result<Option<Line>, AllocError>
+    requires { length text.now < 2 ^ 32 }
     ensures { IfOk result (λ read. Reads line_text IsLine text.now read) }
 {
     if text == b"store commit".as_slice() {
@@ -38,7 +40,8 @@ pub fn line(alloc: Global, text: &[u8]) -> Result<Option<Line>, AllocError>
 
 /// The line of a caller, who resumes or issues a call.
 fn caller_line(alloc: Global, caller: CallerId, text: &[u8]) -> Result<Option<Line>, AllocError>
-    requires { IsCallerNumber caller }
+    requires caller { IsCallerNumber caller }
+    requires short { length text.now < 2 ^ 32 }
     ensures { IfOk result (λ read. Reads line_text IsLine (text_by (Actor.Caller caller) text.now) read) }
 {
     if text == b"resume".as_slice() {
@@ -60,7 +63,8 @@ fn caller_line(alloc: Global, caller: CallerId, text: &[u8]) -> Result<Option<Li
 
 /// The line of a session's call.
 fn session_line(alloc: Global, sid: Sid, text: &[u8]) -> Result<Option<Line>, AllocError>
-    requires { IsSid sid }
+    requires session { IsSid sid }
+    requires short { length text.now < 2 ^ 32 }
     ensures { IfOk result (λ read. Reads line_text IsLine (text_by (Actor.Session sid) text.now) read) }
 {
     let Some(DmRequest { call, seed }) = dm_request_of(alloc, text)? else {

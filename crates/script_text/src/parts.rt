@@ -1,6 +1,6 @@
 //! The parts of a call, read by the kinds that its verb has.
-ghost use Rattle.std.specs.Prelude.{◌≡◌, ◌<◌, ◌∷◌, [], length, true, IfOk};
-ghost use Rattle.std.specs.Option.{option_map};
+ghost use Rattle.std.specs.Prelude.{◌≡◌, ◌<◌, ◌^◌, ◌∷◌, [], length, true, IfOk};
+ghost use Rattle.std.specs.Option.{option_map, ForSome};
 ghost use Rattle.hsm_types.specs.declared.parts.PartKind.TheVariants as kinds;
 ghost use Rattle.script_text.specs.Reading.{Reads, read_text, IsOfKind, parts_text, AreOfKinds, ReadsParts, is_signature};
 
@@ -12,7 +12,7 @@ use crate::kinds::kinds_of;
 use crate::regions::regions_of;
 use crate::responses::response_of;
 use crate::rights::right_of;
-use crate::words::{GREATEST_COUNT, count, cut, number, word};
+use crate::words::{count, cut, number, word};
 use hsm_types::{Part, PartKind, Parts, Verified};
 use std::alloc::{AllocError, Global};
 
@@ -38,6 +38,7 @@ fn unseeded(part: Part) -> ReadPart
 
 /// The part of that kind that a text is.
 fn part_of(alloc: Global, kind: PartKind, text: &[u8]) -> Result<Option<ReadPart>, AllocError>
+    requires { length text.now < 2 ^ 32 }
     ensures { IfOk result (λ read. Reads read_text (IsOfKind kind) text.now read) }
 {
     match kind {
@@ -70,14 +71,12 @@ fn data_of(alloc: Global, text: &[u8]) -> Result<Option<ReadPart>, AllocError>
 
 /// The data that a text is, as a part with their fingerprint.
 fn verified_of(alloc: Global, text: &[u8]) -> Result<Option<ReadPart>, AllocError>
+    requires { length text.now < 2 ^ 32 }
     ensures { IfOk result (λ read. Reads read_text (IsOfKind kinds.Verified) text.now read) }
 {
     let Some(Body { bytes, seed }) = body_of(alloc, text)? else {
         return Ok(None);
     };
-    if bytes.as_slice().len() as u64 > GREATEST_COUNT {
-        return Ok(None);
-    }
     let part = Part::Verified(Verified::of(bytes));
     Ok(Some(ReadPart { part, seed }))
 }
@@ -88,7 +87,8 @@ pub fn parts_of(
     kinds: &[PartKind],
     text: Option<&[u8]>,
 ) -> Result<Option<ReadParts>, AllocError>
-    requires { is_signature kinds.now ≡ true }
+    requires signature { is_signature kinds.now ≡ true }
+    requires short { ForSome text (λ t. length t.now < 2 ^ 32) }
     ensures { IfOk result (λ read. ReadsParts kinds.now (option_map (λ t. t.now) text.entry) read) }
 {
     match text {
@@ -111,6 +111,7 @@ pub fn parts_of(
 }
 
 /// One part or more.
+#[tactic(auto, using(crate::proofs::Cutting::cut_shorter))]
 fn some_parts(
     alloc: Global,
     kinds: &[PartKind],
@@ -118,6 +119,7 @@ fn some_parts(
 ) -> Result<Option<ReadParts>, AllocError>
     requires some { 0 < length kinds.now }
     requires signature { is_signature kinds.now ≡ true }
+    requires short { length text.now < 2 ^ 32 }
     ensures { IfOk result (λ read. Reads parts_text (AreOfKinds kinds.now) text.now read) }
 {
     let kind = kinds[0];
@@ -140,6 +142,7 @@ fn some_parts(
 
 /// The only part.
 fn last_part(alloc: Global, kind: PartKind, text: &[u8]) -> Result<Option<ReadParts>, AllocError>
+    requires { length text.now < 2 ^ 32 }
     ensures { IfOk result (λ read. Reads parts_text (AreOfKinds (kind ∷ [])) text.now read) }
 {
     let Some(ReadPart { part, seed }) = part_of(alloc, kind, text)? else {

@@ -1,5 +1,5 @@
 //! Calls, each with the seed of its data.
-ghost use Rattle.std.specs.Prelude.{◌≡◌, IfOk};
+ghost use Rattle.std.specs.Prelude.{◌≡◌, ◌<◌, ◌^◌, length, IfOk, IfSome};
 ghost use Rattle.std.specs.Option.{option_map};
 ghost use Rattle.script_text.specs.Reading.{Reads, Lacks, with_rest, request_text, IsRequest, dm_request_text, IsDmRequest};
 
@@ -24,6 +24,7 @@ pub struct DmRequest {
 
 /// The caller's call that a text is.
 pub fn request_of(alloc: Global, text: &[u8]) -> Result<Option<Request>, AllocError>
+    requires { length text.now < 2 ^ 32 }
     ensures { IfOk result (λ read. Reads request_text IsRequest text.now read) }
 {
     let (word, rest) = first_word(text);
@@ -39,6 +40,7 @@ pub fn request_of(alloc: Global, text: &[u8]) -> Result<Option<Request>, AllocEr
 
 /// The session's call that a text is.
 pub fn dm_request_of(alloc: Global, text: &[u8]) -> Result<Option<DmRequest>, AllocError>
+    requires { length text.now < 2 ^ 32 }
     ensures { IfOk result (λ read. Reads dm_request_text IsDmRequest text.now read) }
 {
     let (word, rest) = first_word(text);
@@ -53,9 +55,11 @@ pub fn dm_request_of(alloc: Global, text: &[u8]) -> Result<Option<DmRequest>, Al
 }
 
 /// What stands before the first space, and what behind it, if there is one.
+#[tactic(auto, using(crate::proofs::Cutting::cut_shorter))]
 fn first_word(text: &[u8]) -> (&[u8], Option<&[u8]>)
     ensures whole { text.now ≡ with_rest result.0.now (option_map (λ rest. rest.now) result.1) }
     ensures first { Lacks 32 result.0.now }
+    ensures shorter { IfSome result.1 (λ rest. length rest.now < length text.now) }
 {
     match cut(text, b' ') {
         Some((word, rest)) => (word, Some(rest)),

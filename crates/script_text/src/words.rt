@@ -14,7 +14,7 @@ use memchr::memchr;
 use std::alloc::{AllocError, Global};
 
 /// The greatest number of 32 bits.
-pub const GREATEST_COUNT: u64 = 4294967295;
+const GREATEST_COUNT: u64 = 4294967295;
 
 /// The place of the first such byte, or the length where there is none.
 fn find(bytes: &[u8], byte: u8) -> usize

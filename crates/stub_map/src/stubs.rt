@@ -3,9 +3,9 @@ ghost use Rattle.std.specs.Prelude.{◌≡◌, ◌+◌, ◌^◌, ◌<◌, ◌≤
 ghost use Rattle.std.specs.List.Sorted.{IsStrictlySortedBy};
 ghost use Rattle.std.specs.Map.{keys_of};
 ghost use Rattle.std.specs.Ordering.{nat_cmp};
-ghost use Rattle.hsm_types.specs.Stubs.{is_sealed, moved, punched, punching_refusal, restored, restoring_refusal, sealed, sealing_refusal, stub_at, stubs_below, without_stub};
+ghost use Rattle.hsm_types.specs.Stubs.{is_sealed, moved, offline_at, punched, punching_refusal, restored, restoring_refusal, sealed, sealing_refusal, stub_at, stubs_below, without_stub};
 ghost use Rattle.hsm_types.specs.declared.dm.DmRefusal.TheVariants.{Memory};
-ghost use Rattle.stub_map.specs.States.{IsNext, NoneFrom, state_of};
+ghost use Rattle.stub_map.specs.States.{HereBetween, IsFirstOffline, IsNext, NoneFrom, state_of};
 
 use hsm_types::{DmRefusal, Stub, StubEntry};
 use std::alloc::Global;
@@ -183,6 +183,30 @@ impl StubMap {
             return None;
         };
         Some(*segment)
+    }
+
+    /// Whether the bytes of the segment are away.
+    pub fn is_offline(&self, segment: u32) -> bool
+        ensures { result ≡ offline_at self.now segment }
+    {
+        matches!(self.state(segment), State::Offline(_))
+    }
+
+    /// The first segment from the first number on and below the second whose bytes are away. It costs the entries between.
+    pub fn first_offline(&self, from: u32, to: u32) -> Option<u32>
+        ensures { MatchOption result (HereBetween from to self.now) (IsFirstOffline from to self.now) }
+    {
+        let mut start = from;
+        while let Some(segment) = self.next(start) {
+            if segment >= to {
+                return None;
+            }
+            if self.is_offline(segment) {
+                return Some(segment);
+            }
+            start = segment + 1;
+        }
+        None
     }
 
     /// How many segments have an entry.

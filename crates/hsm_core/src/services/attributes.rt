@@ -1,4 +1,4 @@
-//! Calls on the attributes of a live file that sessions give it.
+//! Calls on the attributes that sessions give a live file.
 ghost use Rattle.std.specs.Prelude.{◌≡◌, ℕ, false, IsSome, IfOk};
 ghost use Rattle.hsm_types.specs.Messages.{no_token};
 ghost use Rattle.hsm_types.specs.declared.dm.DmCall.TheVariants.{SetDmAttr, GetDmAttr, RemoveDmAttr, GetAllDmAttr};
@@ -12,7 +12,7 @@ use file_store::{FileStore, StoreRefusal};
 use hsm_types::{AttrName, Bytes, DmRefusal, DmReply, Handle};
 use std::alloc::{AllocError, Global};
 
-/// Gives one of them a value.
+/// Gives an attribute its value.
 pub(crate) fn set<D: Disk>(
     files: &mut FileStore<D>,
     alloc: Global,
@@ -30,7 +30,7 @@ pub(crate) fn set<D: Disk>(
     changed(files.set_attr(alloc, handle.key, name, value, number))
 }
 
-/// The value of one of them.
+/// The value of an attribute.
 pub(crate) fn value<D: Disk>(
     files: &FileStore<D>,
     handle: Handle,
@@ -46,7 +46,7 @@ pub(crate) fn value<D: Disk>(
     }
 }
 
-/// Takes one of them away.
+/// Removes an attribute.
 pub(crate) fn remove<D: Disk>(
     files: &mut FileStore<D>,
     alloc: Global,
@@ -62,7 +62,7 @@ pub(crate) fn remove<D: Disk>(
     changed(files.drop_attr(alloc, handle.key, name, number))
 }
 
-/// Their names.
+/// The names of the attributes of a file.
 pub(crate) fn list<D: Disk>(
     files: &FileStore<D>,
     alloc: Global,

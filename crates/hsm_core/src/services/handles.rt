@@ -1,4 +1,4 @@
-//! Calls on handles, and on what the store itself keeps of a file.
+//! Calls on the handle of a file, and on its size, stamp and blocks.
 ghost use Rattle.std.specs.Prelude.{IsSome, IfOk};
 ghost use Rattle.hsm_types.specs.Messages.{no_token};
 ghost use Rattle.hsm_types.specs.declared.dm.DmCall.TheVariants.{PathToHandle, GetFileAttr};
@@ -29,7 +29,7 @@ pub(crate) fn find<D: Disk>(
     }
 }
 
-/// The size of a live file, its stamp, and how many of its blocks are mapped.
+/// The size of a live file in bytes, its stamp, and how many of its blocks are mapped.
 pub(crate) fn attributes<D: Disk>(
     files: &FileStore<D>,
     stamps: &IndexMap<FileKey, u64>,

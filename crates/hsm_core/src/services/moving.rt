@@ -1,4 +1,4 @@
-//! Calls by which the bytes of a live file's segments go away and come back.
+//! Calls by which the bytes of a live file's segments leave the store and come back.
 ghost use Rattle.std.specs.Prelude.{◌≡◌, ◌+◌, ◌*◌, ◌<◌, ◌≤◌, ◌⊎◌, false, true, Some, IsSome, OnOk, length};
 ghost use Rattle.hsm_types.specs.Calls.{scope_of};
 ghost use Rattle.hsm_types.specs.Messages.{no_token};
@@ -13,29 +13,19 @@ ghost use Rattle.file_store.specs.Stores.{superblock_of, Proceeds};
 ghost use Rattle.dm_service.specs.Services.{Judges};
 ghost use Rattle.hsm_core.specs.Services.{IsInScope, IsServed, moves_segments};
 
-use crate::services::ranges::{judge_print, judge_room, judge_segment, segments_in, state};
+use crate::services::ranges::{judge_print, judge_room, judge_segment, state};
 use crate::services::replies::{changed, refused};
 use disk_model::Disk;
 use file_body::touched_by_restore;
 use file_store::{FileStore, StoreRefusal};
 use hsm_types::{
     DmCall, DmRefusal, DmReply, FILE_BYTES, FileKey, Handle, LAST_VOLUME, SEGMENT_BYTES, StubEntry,
-    Verified,
+    Verified, segments_in,
 };
 use std::alloc::Global;
 use stub_map::State;
 
-/// Whether the call is one of these.
-pub(crate) fn moves_segments(call: &DmCall) -> bool
-    ensures { result ≡ moves_segments call.now }
-{
-    matches!(
-        call,
-        DmCall::PunchHole { .. } | DmCall::Seal { .. } | DmCall::Restore { .. }
-    )
-}
-
-/// Serves one that its scope doesn't refuse.
+/// Serves a seal, a punch or a restore that its scope doesn't refuse.
 pub(crate) fn serve<D: Disk>(
     files: &mut FileStore<D>,
     alloc: Global,
@@ -94,7 +84,7 @@ fn punch<D: Disk>(
     changed(files.punch(alloc, handle.key, from, to, number))
 }
 
-/// A punch begins at a segment of a file of that size, and ends at one, or with the file.
+/// A punch of a file of that size begins at a segment, and ends at one or with the file.
 fn judge_punch(offset: u64, len: u64, size: u64) -> Result<(), DmRefusal>
     requires { size ≤ FILE_BYTES }
     ensures judged { Judges result (bad_punch offset len size) }
@@ -109,7 +99,7 @@ fn judge_punch(offset: u64, len: u64, size: u64) -> Result<(), DmRefusal>
     }
 }
 
-/// Whether it ends so.
+/// Whether a punch of a file of that size ends at a segment, or with the file.
 fn ends_well(offset: u64, len: u64, size: u64) -> bool
     requires { size ≤ FILE_BYTES }
     ensures judged { result ≡ ends_well offset len size }
@@ -124,7 +114,7 @@ fn ends_well(offset: u64, len: u64, size: u64) -> bool
     }
 }
 
-/// The segment behind the last one that a punch is of, as far as the file has it.
+/// The number behind that of the last segment that a punch may give up.
 fn punched_to(offset: u64, len: u64) -> u32
     requires { len ≡ 0 ⊎ offset + len ≤ FILE_BYTES }
     ensures { result ≡ punch_to offset len }
@@ -156,7 +146,7 @@ fn seal<D: Disk>(
     changed(files.seal(alloc, handle.key, segment, entry, number))
 }
 
-/// What refuses it, but for the limit of entries. The bytes are read once, where they are.
+/// What refuses a seal, but for the limit of entries. The bytes are read once, where they are.
 #[tactic(auto, using(crate::proofs::Refusing::passes, crate::proofs::Refusing::stops))]
 fn judge_seal<D: Disk>(
     files: &FileStore<D>,
@@ -177,6 +167,7 @@ fn judge_seal<D: Disk>(
     judge_print(entry.print, files.digest_segment(key, segment))
 }
 
+/// Volumes are numbered from 0 to 255.
 fn judge_volume(volume: u32) -> Result<(), DmRefusal>
     ensures judged { Judges result (bad_volume volume) }
     ensures volume { OnOk result (volume ≤ 255) }
@@ -188,7 +179,7 @@ fn judge_volume(volume: u32) -> Result<(), DmRefusal>
     }
 }
 
-/// Brings the bytes of a segment back.
+/// Brings back the bytes of an offline segment.
 fn restore<D: Disk>(
     files: &mut FileStore<D>,
     alloc: Global,
@@ -208,7 +199,7 @@ fn restore<D: Disk>(
     changed(files.restore(alloc, handle.key, segment, bytes, number))
 }
 
-/// What refuses it. The bytes aren't read: they come with their fingerprint.
+/// What refuses a restore. The bytes aren't read, since they come with their fingerprint.
 #[tactic(auto, using(crate::proofs::Refusing::passes, crate::proofs::Refusing::stops))]
 fn judge_restore<D: Disk>(
     files: &FileStore<D>,

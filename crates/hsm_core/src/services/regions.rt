@@ -12,7 +12,7 @@ use file_store::{FileStore, StoreRefusal};
 use hsm_types::{DmReply, Handle, Regions};
 use std::alloc::{AllocError, Global};
 
-/// Replaces them.
+/// Replaces the regions of a file.
 pub(crate) fn set<D: Disk>(
     files: &mut FileStore<D>,
     alloc: Global,
@@ -29,7 +29,7 @@ pub(crate) fn set<D: Disk>(
     changed(files.set_regions(alloc, handle.key, regions, number))
 }
 
-/// Tells them.
+/// The regions of a file.
 pub(crate) fn list<D: Disk>(
     files: &FileStore<D>,
     handle: Handle,

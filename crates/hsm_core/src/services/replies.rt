@@ -1,4 +1,4 @@
-//! Replies as they are given: twice.
+//! Replies to sessions, which are given twice: to the session and to the history.
 ghost use Rattle.std.specs.Prelude.{◌≡◌, IfOk};
 ghost use Rattle.dm_service.specs.Services.{AreBoth};
 ghost use Rattle.hsm_core.specs.Services.{replies_to};
@@ -7,6 +7,7 @@ use file_store::StoreRefusal;
 use hsm_types::{DmRefusal, DmReply};
 use std::alloc::AllocError;
 
+/// The reply and a copy of it.
 pub(crate) fn twice(reply: DmReply) -> Result<(DmReply, DmReply), AllocError>
     ensures { IfOk result (λ r. AreBoth reply r) }
 {
@@ -14,6 +15,7 @@ pub(crate) fn twice(reply: DmReply) -> Result<(DmReply, DmReply), AllocError>
     Ok((reply, again))
 }
 
+/// The replies to a call that is refused.
 pub(crate) fn refused(why: DmRefusal) -> (DmReply, DmReply)
     ensures { AreBoth (DmReply.Refused why) result }
 {
@@ -27,7 +29,7 @@ pub(crate) fn done() -> (DmReply, DmReply)
     (DmReply::Done, DmReply::Done)
 }
 
-/// The replies to a change of what is kept with a file.
+/// The replies to a change of a file that is done, or that its part refuses.
 pub(crate) fn changed(ended: Result<(), StoreRefusal>) -> Result<(DmReply, DmReply), StoreRefusal>
     ensures { result ≡ replies_to ended }
 {

@@ -1,4 +1,4 @@
-//! Calls on the rights of tokens, of files that live.
+//! Calls on the rights of tokens on live files.
 ghost use Rattle.std.specs.Prelude.{◌≡◌, true, IfOk, IsOk, IsErrOf, OnOk, OnErr};
 ghost use Rattle.hsm_types.specs.Calls.{scope_of};
 ghost use Rattle.dm_service.specs.Services.{asks_rights, done_or, wants_entry_alone, AreBoth, HasOpenToken};
@@ -9,7 +9,7 @@ use dm_service::DmService;
 use hsm_types::{DmCall, DmRefusal, DmReply};
 use std::alloc::AllocError;
 
-/// Serves a call that its scope doesn't refuse. Only a request may want memory.
+/// Serves a call on rights that its scope doesn't refuse. Only a request may lack memory.
 pub(crate) fn serve(
     service: &mut DmService,
     call: &DmCall,
@@ -40,7 +40,7 @@ pub(crate) fn serve(
     }
 }
 
-/// The replies to a call that is done or refused, or want of memory.
+/// The replies to a call that is done or refused. For want of memory there is none.
 fn ended(outcome: Result<(), DmRefusal>) -> Result<(DmReply, DmReply), AllocError>
     ensures replies { IfOk result (λ r. AreBoth (done_or outcome) r) }
     ensures other { OnOk result (IsErrOf outcome DmRefusal.Memory → ⊥) }

@@ -16,7 +16,7 @@ use dm_service::DmService;
 use file_store::FileStore;
 use hsm_types::{DmRefusal, Handle, Right, Scope, Sid};
 
-/// In the order of judgement. It takes no memory.
+/// Judges a scope by its session and token, and then by its file and right. This takes no memory.
 #[tactic(auto, using(crate::proofs::Serving::stopped_by_session, crate::proofs::Serving::passed_to_file))]
 pub(crate) fn judge_scope<D: Disk>(
     files: &FileStore<D>,
@@ -35,7 +35,7 @@ pub(crate) fn judge_scope<D: Disk>(
     }
 }
 
-/// What refuses it by its file, and by the right that it needs there.
+/// Judges a scope by its file, and by the right that it needs there.
 #[tactic(auto, using(crate::proofs::Refusing::passes, crate::proofs::Refusing::stops))]
 fn judge_file<D: Disk>(
     files: &FileStore<D>,
@@ -67,7 +67,7 @@ fn judge_file<D: Disk>(
     }
 }
 
-/// What a token has must reach what is needed.
+/// The right that a token has reaches the one that is needed.
 fn judge_right(have: Right, need: Right) -> Result<(), DmRefusal>
     ensures { Judges result (too_low need have) }
 {
@@ -78,6 +78,7 @@ fn judge_right(have: Right, need: Right) -> Result<(), DmRefusal>
     }
 }
 
+/// The handle is of this store, and its file lives.
 fn judge_handle<D: Disk>(files: &FileStore<D>, handle: Handle) -> Result<(), DmRefusal>
     ensures judged { Judges result (bad_handle (superblock_of files.now) files.now.held.files handle) }
     ensures live { OnOk result (IsSome (find_key (λ f. f.key) handle.key files.now.held.files)) }

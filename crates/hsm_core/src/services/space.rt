@@ -1,4 +1,4 @@
-//! The call on space.
+//! The call on the space of the store.
 ghost use Rattle.std.specs.Prelude.{IfOk};
 ghost use Rattle.hsm_types.specs.declared.dm.DmCall.TheVariants.{GetSpace};
 ghost use Rattle.hsm_core.specs.Services.{AreOf, service_on};

@@ -2,7 +2,7 @@ use Rattle.std.proofs.Common.{◌≡◌, ◌<◌, ⊎_elim, [], true, false, get
 use Rattle.std.specs.Prelude.{is_some}
 use Rattle.std.proofs.Math.Seq.{map-set_same}
 use Rattle.std.proofs.lemmas.Bool.{true≢false, cases_Bool, cases_eq}
-use Rattle.file_body.proofs.HeldLists.{no_segment, length-pieces, piece_is, piece_of, away_of, brought-here, brought-others}
+use Rattle.file_body.proofs.HeldLists.{no_segment, length-pieces, piece_is, piece_of, away_of, brought-here, brought-others, zeros-first}
 use Rattle.file_body.proofs.segment_lists.+bring.Goals as goal
 
 pub returns-in-Some-clause-pieces : goal.returns-in-Some-clause-pieces
@@ -25,10 +25,16 @@ returns-in-Some-clause-others t c =
     let within : c.args.from < length c.bring.new.segments = omega (arith, length-pieces c.args.segments.now, length-pieces c.bring.new.segments, ap length c.in_ok-bring.ensures.pieces) in
     brought-others c.args.segments.now c.bring.new.segments c.args.from c.args.to c.in-Some.zeros within (ap (λ s. s.away) new) (omega arith) c.in_ok-bring.ensures.others
 
+pub returns-in-Some-clause-zeros : goal.returns-in-Some-clause-zeros
+returns-in-Some-clause-zeros t c = zeros-first c.args.segments.now c.args.from c.args.to c.index-segments-from.result (omega arith) c.in_ok-zeros.ensures.were c.in_ok-bring.ensures.zeros
+
 pub returns-in-Some-clause-enough : goal.returns-in-Some-clause-enough
 returns-in-Some-clause-enough t c = λ here.
     let away : (get_or c.args.segments.now c.args.from c.index-segments-from.result).away ≡ true = c.in_ok-zeros.ensures.away.0 (ap is_some c.in-Some.is) in
     absurd (true≢false (sym away ∙ (away_of c.args.segments.now c.args.from c.index-segments-from.result (omega arith) ∙ here c.args.from (omega arith) (omega arith))))
+
+pub returns-in_default-clause-zeros : goal.returns-in_default-clause-zeros
+returns-in_default-clause-zeros t c = zeros-first c.args.segments.now c.args.from c.args.to c.index-segments-from.result (omega arith) c.in_ok-zeros.ensures.were c.in_ok-bring.ensures.zeros
 
 pub returns-in_default-clause-here : goal.returns-in_default-clause-here
 returns-in_default-clause-here t c = λ j low high.

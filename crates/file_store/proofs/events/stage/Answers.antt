@@ -29,7 +29,7 @@ returns-in_default-clause-memory g c = λ is.
 pub put_blocks-requires-clause-grows : goal.put_blocks-requires-clause-grows
 put_blocks-requires-clause-grows g c = λ some.
     let touched = touched_is g (goal.at.put_blocks-requires-clause-grows g c).After-as_slice-places in
-    rw c.in-Ok.ensures.grown (grown-no_more c.args.change c.args.body.now.bytes (rw touched at some))
+    rw c.in-Ok.ensures.room.bytes (grown-no_more c.args.change c.args.body.now.bytes (rw touched at some))
 
 pub put_blocks-requires-clause-low : goal.put_blocks-requires-clause-low
 put_blocks-requires-clause-low g c = rw (base_is g (goal.at.put_blocks-requires-clause-low g c).After-of_geometry-base) (blocks_low c.args.catalog.now.geometry)
@@ -40,10 +40,15 @@ put_blocks-requires-clause-fits g c = let at = goal.at.put_blocks-requires-claus
 pub put_blocks-requires-clause-apart : goal.put_blocks-requires-clause-apart
 put_blocks-requires-clause-apart g c = rw (places_is g (goal.at.put_blocks-requires-clause-apart g c).After-as_slice-places) (taken_are_free c.args.space.now _).once
 
-pub cut-requires : goal.cut-requires
-cut-requires g c =
+pub undo-requires : goal.undo-requires
+undo-requires g c =
     let size = new_size c.args.change c.args.body.now.bytes in
-    record { within = rw (c.in-Ok.ensures.grown, c.len-old.ensures.len) (omega (arith, length-grown size c.args.body.now.bytes)); file = c.len-old.ensures.limit }
+    record {
+      lawful = c.requires.lawful;
+      file = c.len-old.ensures.limit;
+      size = rw (c.in-Ok.ensures.room.bytes, c.len-old.ensures.len) (omega (arith, length-grown size c.args.body.now.bytes));
+      within = rw c.len-old.ensures.len c.requires.within;
+    }
 
 pub returns-clause-staged : goal.returns-clause-staged
 returns-clause-staged g c =
@@ -52,5 +57,5 @@ returns-clause-staged g c =
     record {
       rewriting = λ f found. rw (touched_is g at, places_is g at) at c.in-Ok.ensures.records f found;
       frees = rw (touched_is g at) at c.in-Ok.ensures.freed;
-      written = rw (base, touched_is g at, places_is g at, c.in-Ok.ensures.grown, changed-grown c.args.change c.args.body.now.bytes) at c.in-Ok-put_blocks.ensures.written;
+      written = rw (base, touched_is g at, places_is g at, c.in-Ok.ensures.room.bytes, changed-grown c.args.change c.args.body.now.bytes) at c.in-Ok-put_blocks.ensures.written;
     }

@@ -1,7 +1,7 @@
-use Rattle.file_store.proofs.Names.{⊎_elim, true, HeldBody, is_away, ◌≡◌, ◌<◌, ℕ, List, [], length, refl, ◌∙◌, ap, subst, arith, take_all, Option, Same, idle, resized, layout_of, geometry_of, blocks_in_image, length-resized}
+use Rattle.file_store.proofs.Names.{◌≡◌, ◌<◌, ℕ, List, length, refl, ◌∙◌, ap, subst, arith, take_all, Option, Same, idle, layout_of, geometry_of, blocks_in_image, length-replicate}
 use Rattle.file_store.proofs.Beside.{length-block}
 use Rattle.file_store.proofs.ByBlocks.{HasBytes}
-use Rattle.file_store.proofs.Loaded.{reads_on, present-at, no_bytes, none-away, hole-more, block-more, all-filled}
+use Rattle.file_store.proofs.Loaded.{reads_on, present-at, no_bytes, hole-more, block-more, all-filled}
 use Rattle.file_store.proofs.loading.load_body.Goals.{in-Some+in-Ok-fill, in_default-place}
 use Rattle.file_store.proofs.loading.load_body.Goals as goal
 
@@ -9,16 +9,13 @@ pub fill-requires-clause-place : goal.fill-requires-clause-place
 fill-requires-clause-place g c = present-at (λ p. p < (geometry_of c.args.geometry).blocks) c.args.places.now c.loop-place.place-index c.in-Some.place c.requires.within c.in-Some.is
 
 pub loop-place-init : goal.loop-place-init
-loop-place-init g c =
-    let zeros : c.resize.new.self.bytes ≡ resized c.args.size [] = c.in-Ok.ensures.ok ∙ ap (λ (b : HeldBody). resized c.args.size b.bytes) c.new-body.ensures in
-    let is : c.leave_offline.new.body.bytes ≡ resized c.args.size [] = c.leave_offline.ensures.bytes ∙ zeros in
-    record {
-      start = refl;
-      reads = (idle g.D.Disk _ Same (λ d. refl) (g.met.D.Disk.only_now c.args.disk.now), (λ d gives. gives, λ d gives. gives));
-      size = ap length is ∙ length-resized c.args.size [];
-      here = λ j away. ⊎_elim (λ before. absurd (none-away j (subst (λ (b : HeldBody). is_away b j ≡ true) c.new-body.ensures (c.in-Ok.ensures.here j before).0))) (λ offline. offline) (c.leave_offline.ensures.away j away);
-      loaded = λ d gives. rw is (no_bytes (blocks_in_image c.args.geometry d) c.args.size);
-    }
+loop-place-init g c = record {
+  start = refl;
+  reads = (idle g.D.Disk _ Same (λ d. refl) (g.met.D.Disk.only_now c.args.disk.now), (λ d gives. gives, λ d gives. gives));
+  size = ap length c.in-Ok.ensures.bytes ∙ length-replicate c.args.size 0;
+  here = c.in-Ok.ensures.here;
+  loaded = λ d gives. rw c.in-Ok.ensures.bytes (no_bytes (blocks_in_image c.args.geometry d) c.args.size);
+}
 
 pub loop-place-preserved : goal.loop-place-preserved
 loop-place-preserved g c =
@@ -31,7 +28,7 @@ loop-place-preserved g c =
         start = omega arith;
         reads = reads_on g.D.Disk _ _ _ so_far.reads w.fill.ensures.reads;
         size = w.fill.ensures.size ∙ so_far.size;
-        here = λ j away. so_far.here j (w.fill.ensures.keeps j away);
+        here = λ j. w.fill.ensures.same j ∙ so_far.here j;
         loaded = λ d gives.
             let within = present-at (λ p. p < (geometry_of c.args.geometry).blocks) places i w.in-Some.place c.requires.within w.in-Some.is in
             let whole : length d ≡ (layout_of c.args.geometry).whole = g.met.D.Disk.given_length c.args.disk.now d gives ∙ c.requires.whole in

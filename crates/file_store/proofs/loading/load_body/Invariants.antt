@@ -1,4 +1,4 @@
-use Rattle.file_store.proofs.Names.{◌≡◌, ◌*◌, ℕ, List, true, length, take, is_away, blocks_in_image, OnlyReads}
+use Rattle.file_store.proofs.Names.{◌≡◌, ◌*◌, ℕ, List, length, take, is_away, blocks_in_image, OnlyReads}
 use Rattle.hsm_types.specs.Stubs.{offline_at}
 use Rattle.file_store.proofs.ByBlocks.{HasBytes}
 use Rattle.file_store.proofs.loading.load_body.Given as goal
@@ -8,6 +8,6 @@ invariant-loop-place g l = record {
   start : l.start ≡ 4096 * l.place-index;
   reads : OnlyReads g.D.Disk l.fn.disk l.disk;
   size : length l.body.bytes ≡ l.size;
-  here : (j : ℕ) → is_away l.body j ≡ true → offline_at l.stubs j ≡ true;
+  here : (j : ℕ) → is_away l.body j ≡ offline_at l.stubs j;
   loaded : (c : List ℕ) → g.D.Disk.gives l.fn.disk c → HasBytes (blocks_in_image l.geometry c) l.size (take l.place-index l.places) l.body.bytes;
 }

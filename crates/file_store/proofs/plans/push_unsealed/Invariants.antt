@@ -1,4 +1,4 @@
-use Rattle.file_store.proofs.Names.{ℕ, ◌-◌, ◌≤◌, max, AreUnsealed}
+use Rattle.file_store.proofs.Names.{◌-◌, ◌≤◌, max, AreUnsealed}
 use Rattle.file_store.proofs.plans.push_unsealed.Given as goal
 
 abbrev pub invariant-loop-segment : goal.invariant-loop-segment

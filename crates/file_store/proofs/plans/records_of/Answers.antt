@@ -1,4 +1,4 @@
-use Rattle.file_store.proofs.Names.{List, [], ◌∙◌, subst, arith, Mapping, IsRewriting}
+use Rattle.file_store.proofs.Names.{List, [], subst, arith, Mapping, IsRewriting}
 use Rattle.file_store.proofs.RewriteRecords.{run-within, mappings-runs, unseals_first}
 use Rattle.file_store.proofs.plans.records_of.Goals as goal
 

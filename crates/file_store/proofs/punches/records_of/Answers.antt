@@ -1,5 +1,4 @@
-use Rattle.file_store.proofs.Names.{rules, ◌≡◌, sym, ◌∙◌, ap, arith, Some}
-use Rattle.hsm_types.specs.declared.dm.DmRefusal.{DmRefusal}
+use Rattle.file_store.proofs.Names.{◌≡◌, ◌∙◌, ap, Some}
 use Rattle.file_store.proofs.PunchRuns.{told_part, refused_at, judged_more, records_more}
 use Rattle.file_store.proofs.punches.records_of.Goals as goal
 

@@ -1,4 +1,4 @@
-use Rattle.std.proofs.Common.{◌-◌, ◌<◌, length, arith, sym, ◌∙◌, refl, length-set}
+use Rattle.std.proofs.Common.{◌<◌, length, arith, sym, ◌∙◌, refl, length-set}
 use Rattle.meta_store.proofs.ClearedPlaces.{clear-begun, cleared-end, cleared-more, present-unset}
 use Rattle.meta_store.proofs.SpreadPlaces.{present-few}
 use Rattle.meta_store.proofs.file_places.clear_segment.Goals as goal

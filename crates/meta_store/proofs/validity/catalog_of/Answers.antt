@@ -1,4 +1,4 @@
-use Rattle.std.proofs.Common.{◌≡◌, List, [], ◌∷◌, ◌++◌, length, map, Err, sym, ◌∙◌, ap, arith, append_assoc, append-nil, ℕ, true, refl}
+use Rattle.std.proofs.Common.{◌≡◌, List, [], ◌∷◌, ◌++◌, length, map, Err, sym, ◌∙◌, ap, arith, append_assoc, append-nil, ℕ, refl}
 use Rattle.std.specs.Vec.Iter.{into_iter_items}
 use Rattle.std.proofs.lemmas.List.{map-append, nil_from_length}
 use Rattle.std.proofs.lemmas.Result.{err_from_is_err_and}
@@ -8,7 +8,7 @@ use Rattle.meta_store.specs.declared.snapshot.RawFile.{RawFile}
 use Rattle.meta_store.specs.Snapshots.{raw_file, Snapshot, SnapshotFile, raw_snapshot, snapshot_file, snapshot_of}
 use Rattle.meta_store.specs.declared.snapshot.RawSnapshot.{RawSnapshot}
 use Rattle.meta_store.specs.Catalogs.{Catalog, IsCatalog, AreLengths, geometry_of}
-use Rattle.meta_store.specs.Validity.{listed_in, names_in, last_inode, is_next}
+use Rattle.meta_store.specs.Validity.{listed_in, names_in, last_inode, IsNext}
 use Rattle.meta_store.proofs.StandOnce.{last_inode-push}
 use Rattle.meta_store.proofs.PassingFiles.{passes, same_err}
 use Rattle.meta_store.proofs.validity.catalog_of.Goals as goal
@@ -25,7 +25,7 @@ saying s c next files = rw (next, files) refl
 
 -- a valid catalog's snapshot has no file that can't stand behind those before it
 each-passes : (s : RawSnapshot) (n : ℕ) (c : Catalog) (before : List RawFile) (f : RawFile) (rest : List RawFile) → IsCatalog c → AreLengths c → raw_snapshot s ≡ snapshot_of n c → before ++ f ∷ rest ≡ s.files.items
-    → is_next (geometry_of c.geometry) s.next (map raw_file before) (raw_file f) ≡ true
+    → IsNext (geometry_of c.geometry) s.next (map raw_file before) (raw_file f)
 each-passes s n c before f rest valid long e cut =
     let says = said s n c e in
     rw says.1 (passes c (map raw_file before) (raw_file f) (map raw_file rest) valid long (sym says.2 ∙ sym (ap (λ (fs : List RawFile). map raw_file fs) cut) ∙ map-append raw_file before (f ∷ rest)))
@@ -46,8 +46,7 @@ returns-in_err-take_in-clause-corrupt c = λ is n d kind small valid long same.
     let p = err_from_is_err_and c.from_residual-in_err-take_in.result c.from_residual-in_err-take_in.ensures.1 in
     let why : c.in_err-take_in.field-0.0 ≡ Corrupt = same_err c.from_residual-in_err-take_in.result p.0 Corrupt c.in_err-take_in.field-0.0 p.1 is p.2 in
     let fails = c.in_err-take_in.ensures.corrupt (ap (λ (e : ReadRefusal). Err e) why) in
-    let alike = rw (kind, ← c.geometry_of-limits.ensures, ← c.loop-file.invariant.taken.taken) at passes in
-    cc
+    fails (rw (kind, ← c.geometry_of-limits.ensures, ← c.loop-file.invariant.taken.taken) at passes)
 
 pub loop-file-preserved : goal.loop-file-preserved
 loop-file-preserved c =

@@ -7,7 +7,7 @@ use Rattle.meta_store.specs.Snapshots.{raw_file, snapshot_file}
 use Rattle.meta_store.proofs.SpreadPlaces.{extents-tell}
 use Rattle.meta_store.proofs.StandOnce.{absent}
 use Rattle.meta_store.proofs.PassingFiles.{names_in-snapshot, stub_total_in-snapshot, not-next, same_err}
-use Rattle.meta_store.proofs.TakenFiles.{extents-again, is-above, within, flags-tell, is-lawful, once-each, taken-more}
+use Rattle.meta_store.proofs.TakenFiles.{is-above, within, flags-tell, is-lawful, once-each, taken-more}
 use Rattle.meta_store.proofs.validity.take_in.Goals as goal
 use Rattle.meta_store.proofs.validity.take_in.Goals.{then-not-can_follow-via-then-not-can_follow, then-not-can_follow-via-else-not-can_follow+then-not-claim}
 
@@ -15,7 +15,8 @@ pub claim-requires : goal.claim-requires
 claim-requires c = rw c.as_slice.ensures.value (within c.requires.taken c.if-not-can_follow.ensures.follows)
 
 pub returns-then-not-can_follow-clause-corrupt : goal.returns-then-not-can_follow-clause-corrupt
-returns-then-not-can_follow-clause-corrupt c = λ is.
+returns-then-not-can_follow-clause-corrupt c = λ is next.
+    let judged = next.judged in
     let before = map snapshot_file c.args.catalog.now.files in
     let file = raw_file c.args.file in
     elim c.then-not-can_follow.branch [
@@ -30,13 +31,13 @@ pub of-requires-clause-blocks : goal.of-requires-clause-blocks
 of-requires-clause-blocks c = rw c.as_slice-2.ensures.value (extents-tell 0 (blocks_in c.args.file.size) _ c.args.file.extents.items c.if-not-can_follow.ensures.follows.extents).0
 
 pub returns-in_err-stubs-clause-corrupt : goal.returns-in_err-stubs-clause-corrupt
-returns-in_err-stubs-clause-corrupt c = λ is.
+returns-in_err-stubs-clause-corrupt c = λ is next.
     let p = err_from_is_err_and c.from_residual-in_err-stubs.result c.from_residual-in_err-stubs.ensures.1 in
     let why : c.in_err-stubs.field-0.0 ≡ Corrupt = same_err c.from_residual-in_err-stubs.result p.0 Corrupt c.in_err-stubs.field-0.0 p.1 is p.2 in
-    let again = extents-again c.requires.taken c.if-not-can_follow.ensures.follows in
     not-next c.args.limits c.args.next (map snapshot_file c.args.catalog.now.files) (raw_file c.args.file) c.stub_total.result (c.stub_total.ensures ∙ stub_total_in-snapshot c.args.catalog.now.files) (λ are few.
     c.in_err-stubs.ensures.corrupt (ap (λ (e : ReadRefusal). Err e) why)
-    (rw (c.in_ok-places.ensures, c.as_slice-2.ensures.value, c.in_ok-regions.ensures.ok, c.as_slice-entries.ensures.value, again) are) (rw c.as_slice-entries.ensures.value few))
+    (rw (c.in_ok-places.ensures, c.as_slice-2.ensures.value, c.in_ok-regions.ensures.ok, c.as_slice-entries.ensures.value) are) (rw c.as_slice-entries.ensures.value few))
+    next
 
 pub put-requires-clause-inode : goal.put-requires-clause-inode
 put-requires-clause-inode c = absent 0 c.args.file.key.ino _ c.geometry-geometry.ensures.valid.table.ascend (is-above c.requires.taken c.if-not-can_follow.ensures.follows)

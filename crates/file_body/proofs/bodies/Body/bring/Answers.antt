@@ -1,8 +1,10 @@
-use Rattle.std.proofs.Common.{◌≡◌, ⊎_elim, ◌++◌, true, length, take, drop, sym, ◌∙◌, ap, arith}
+use Rattle.std.proofs.Common.{◌≡◌, ⊎_elim, ◌++◌, true, length, take, drop, sym, ◌∙◌, ap, subst, arith}
 use Rattle.std.specs.List.{concat}
 use Rattle.std.proofs.lemmas.Bool.{true≢false, cases_eq}
 use Rattle.std.proofs.lemmas.Grind.{common_steps}
-use Rattle.file_body.specs.HeldBodies.{pieces, is_away, stands_away}
+use Rattle.file_body.specs.HeldBodies.{AreZeros, HeldBody, pieces, is_away, stands_away}
+use Rattle.plain_model.specs.Plain.{segment as segment_of}
+use Rattle.file_body.proofs.HeldLists.{zeros_of}
 use Rattle.file_body.proofs.Outcomes.{on_ok}
 use Rattle.file_body.proofs.bodies.Body.bring.Goals as goal
 
@@ -15,6 +17,16 @@ returns-clause-ok c =
     on_ok c.bring.result
     (λ here. (rw (whole c) (ap concat (c.bring.ensures.pieces ∙ ap pieces c.as_mut_slice.ensures.value) ∙ ap (λ b. b.bytes) c.self.view_is), rw (whole c) (here c.args.segment (omega arith) (omega arith))))
     c.bring.ensures.here
+
+pub returns-clause-zeros : goal.returns-clause-zeros
+returns-clause-zeros c =
+    on_ok c.bring.result
+    (λ zeros gone.
+    let items = c.self.inside.segments.items in
+    let segment = c.args.segment in
+    let now : stands_away items segment ≡ true = ap (λ b. is_away b segment) c.self.view_is ∙ gone in
+    subst (λ (b : HeldBody). AreZeros (segment_of segment b.bytes)) c.self.view_is (zeros_of items c.self.invariant.0 segment now (zeros segment (omega arith) (omega arith) now)))
+    (rw c.as_mut_slice.ensures.value at c.bring.ensures.zeros)
 
 pub returns-clause-keeps : goal.returns-clause-keeps
 returns-clause-keeps c =

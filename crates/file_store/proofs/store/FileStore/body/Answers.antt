@@ -1,9 +1,6 @@
-use Rattle.file_store.proofs.Names.{◌≡◌, ◌-◌, refl, ◌∙◌, ap, subst, arith, get_or, get_or_read, HeldBody, no_body, is_away, IsHeldFiles, bytes_with}
-use Rattle.hsm_types.specs.Stubs.{offline_at}
-use Rattle.plain_model.specs.Services.{kept_of}
+use Rattle.file_store.proofs.Names.{◌-◌, refl, arith, get_or_read, no_body, bytes_with}
 use Rattle.file_store.proofs.FilesBy.{kept-found}
-use Rattle.file_store.proofs.WithBodies.{IsFound, live-held, body-held, is-body}
-use Rattle.file_store.proofs.store.FileStore.body.Given.{Over}
+use Rattle.file_store.proofs.WithBodies.{live-held, body-held, is-body}
 use Rattle.file_store.proofs.store.FileStore.body.Goals.{After-index}
 use Rattle.file_store.proofs.store.FileStore.body.Goals as goal
 
@@ -22,5 +19,5 @@ returns g c =
     let own = is-body bs m c.self.invariant.0 c.args.key live in
     rw (← c.self.view_is) record {
       bytes = rw (body-held bs m.current c.args.key live.file live.found, it) refl;
-      here = λ j away. rw (kept-found (bytes_with bs) m.current c.args.key live.file live.found) (own.here j (rw it at away));
+      here = λ j. rw (kept-found (bytes_with bs) m.current c.args.key live.file live.found, it) (own.here j);
     }

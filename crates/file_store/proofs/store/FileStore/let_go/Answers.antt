@@ -1,4 +1,4 @@
-use Rattle.file_store.proofs.Names.{rules, Err, true, ◌≡◌, ◌≤◌, ◌-◌, ◌+◌, ◌*◌, ◌&&◌, ◌||◌, ℕ, refl, sym, ◌∙◌, ap, subst, arith, set, length, take, drop, unmarked, after_all, refusal_of_all, CanStandAll, IsEvent, held_with, affected_held, present, Held, HeldBody, no_body, is_away, get_or, get_or_read, Kept}
+use Rattle.file_store.proofs.Names.{Err, ◌≡◌, ◌-◌, ◌+◌, ◌*◌, ◌&&◌, ◌||◌, ℕ, refl, sym, ◌∙◌, ap, subst, arith, set, length, take, drop, unmarked, after_all, refusal_of_all, CanStandAll, IsEvent, held_with, affected_held, present, HeldBody, no_body, is_away, get_or, get_or_read, Kept}
 use Rattle.std.specs.Prelude.{nat_le, nat_lt}
 use Rattle.plain_model.specs.Effects.{Punches}
 use Rattle.hsm_types.specs.Segments.{from_on}
@@ -16,7 +16,7 @@ use Rattle.file_store.proofs.store.FileStore.let_go.Goals as goal
 -- ---- what is known before the records are taken
 
 abbrev parts : (g : Over) → After-of-before g → Parts g.row.D.Denot
-parts g c = record { disk = c.self.inside.disk; meta = c.self.inside.meta; bodies = c.self.inside.bodies.items; durable = c.self.inside.durable.value.items; space = c.self.inside.space; pending = c.self.inside.pending; failed = c.self.inside.failed }
+parts g c = record { disk = c.self.inside.disk; meta = c.self.inside.meta; bodies = c.self.inside.bodies.items; durable = c.self.inside.durable.value.items; space = c.self.inside.space; failed = c.self.inside.failed }
 
 given : (g : Over) (c : After-of-before g) → IsGoing g.D.Disk (parts g c) c.args.key c.args.from (c.args.to - c.args.from)
 given g c =
@@ -65,7 +65,7 @@ leave-requires-clause-within g c =
     rw (body_is g at.After-index_mut, (is-body _ _ x.files c.args.key x.at).size) x.start
 
 taken : (g : Over) (c : After-leave g) → IsDone g.D.Disk (parts g (goal.at.After-leave g c).After-of-before) c.args.number (record (held_with c.self.inside.bodies.items c.self.inside.meta.current) { files = affected_held (Punches c.args.from c.args.to) c.args.key (held_with c.self.inside.bodies.items c.self.inside.meta.current).files })
-    (after_event (parts g (goal.at.After-leave g c).After-of-before) c.apply.new.disk c.apply.new.self c.in-Ok.wrote (set c.self.inside.bodies.items c.slot.result c.leave.new.self) (unmarked c.args.punch.freed.items c.self.inside.space.current) c.self.inside.space.current true)
+    (after_event (parts g (goal.at.After-leave g c).After-of-before) c.apply.new.disk c.apply.new.self c.in-Ok.wrote (set c.self.inside.bodies.items c.slot.result c.leave.new.self) (unmarked c.args.punch.freed.items c.self.inside.space.current) c.self.inside.space.current)
 taken g c =
     let at = goal.at.After-leave g c in
     let x = given g at.After-of-before in

@@ -1,4 +1,5 @@
-use Rattle.file_store.proofs.Names.{rules, ◌≡◌, ◌*◌, ◌<◌, sym, ◌∙◌, ap, min, length, bytes_of, affected_held, Err, None, FileState, List}
+use Rattle.file_store.proofs.Names.{rules, ◌≡◌, ◌-◌, ℕ, refl, arith, sym, ◌∙◌, ap, min, length, bytes_of, affected_held, Err, None, Some, FileState, List, Kept}
+use Rattle.std.specs.Prelude.{max}
 use Rattle.hsm_types.specs.Segments.{segments_in}
 use Rattle.hsm_types.specs.Stubs.{any_unpunched}
 use Rattle.plain_model.specs.Effects.{Punches}
@@ -8,33 +9,41 @@ use Rattle.file_store.proofs.PunchEnds.{punch_end}
 use Rattle.file_store.proofs.PunchRuns.{on_ok, so_ok}
 use Rattle.file_store.proofs.WithBodies.{live-held}
 use Rattle.file_store.proofs.store.FileStore.punch.Given.{Over}
-use Rattle.file_store.proofs.store.FileStore.punch.Goals.{After-min-end}
+use Rattle.file_store.proofs.store.FileStore.punch.Goals.{After-min-last, After-max-end}
 use Rattle.file_store.proofs.store.FileStore.punch.Goals as goal
 
-end_is : (g : Over) (c : After-min-end g) → c.min-end.result ≡ min c.args.to (segments_in (length (bytes_of c.args.key c.args.self.now.held.files)))
-end_is g c = let least : c.min-end.result ≡ min c.args.to c.segments_in.result = search rules in least ∙ ap (min c.args.to) (c.segments_in.ensures.count ∙ ap segments_in (c.len.ensures.len ∙ ap length c.body.ensures.bytes))
+last_is : (g : Over) (c : After-min-last g) → c.min-last.result ≡ min c.args.to (segments_in (length (bytes_of c.args.key c.args.self.now.held.files)))
+last_is g c = let least : c.min-last.result ≡ min c.args.to c.segments_in.result = search rules in least ∙ ap (min c.args.to) (c.segments_in.ensures.count ∙ ap segments_in (c.len.ensures.len ∙ ap length c.body.ensures.bytes))
+
+end_is : (g : Over) (c : After-max-end g) → c.max-end.result ≡ max c.args.from (min c.args.to (segments_in (length (bytes_of c.args.key c.args.self.now.held.files))))
+end_is g c = let most : c.max-end.result ≡ max c.args.from c.min-last.result = search rules in most ∙ ap (max c.args.from) (last_is g (goal.at.After-max-end g c).After-min-last)
+
+-- the segments of both ranges are the same
+same_judged : (kept : Kept) (from to end : ℕ) → end ≡ max from to → any_unpunched kept.regions kept.stubs from end ≡ any_unpunched kept.regions kept.stubs from to
+same_judged kept from to end is = let count : end - from ≡ to - from = omega arith in rw count refl
 
 pub returns-in_err-punch-clause-refused : goal.returns-in_err-punch-clause-refused
 returns-in_err-punch-clause-refused g c = λ why is.
-    let at = (goal.at.returns-in_err-punch-clause-refused g c).After-min-end in
+    let at = (goal.at.returns-in_err-punch-clause-refused g c).After-max-end in
+    let kept = kept_of c.args.key c.args.self.now.held.files in
     let part : c.in_err-punch.field-0.0 ≡ store.Part why = search rules in
-    rw (c.inode-ino.ensures.kept, ← end_is g at, ← c.self.view_is, ← c.catalog.ensures.catalog) (c.in_err-punch.ensures.refused why (ap (λ e. Err e) part))
+    let refused : any_unpunched kept.regions kept.stubs c.args.from c.max-end.result ≡ Some why = rw (c.inode-ino.ensures.kept, ← c.self.view_is, ← c.catalog.ensures.catalog) (c.in_err-punch.ensures.refused why (ap (λ e. Err e) part)) in
+    sym (same_judged kept c.args.from _ c.max-end.result (end_is g at)) ∙ refused
 
 pub returns-clause-judged : goal.returns-clause-judged
 returns-clause-judged g c =
-    let at = (goal.at.returns-clause-judged g c).After-min-end in
+    let at = (goal.at.returns-clause-judged g c).After-max-end in
     let kept = kept_of c.args.key c.args.self.now.held.files in
-    let judged : any_unpunched kept.regions kept.stubs c.args.from (min c.args.to (segments_in (length (bytes_of c.args.key c.args.self.now.held.files)))) ≡ None =
-    rw (c.inode-ino.ensures.kept, ← end_is g at, ← c.self.view_is, ← c.catalog.ensures.catalog) c.in_ok-punch.ensures.judged in
-    on_ok c.let_go.result _ judged
+    let judged : any_unpunched kept.regions kept.stubs c.args.from c.max-end.result ≡ None = rw (c.inode-ino.ensures.kept, ← c.self.view_is, ← c.catalog.ensures.catalog) c.in_ok-punch.ensures.judged in
+    on_ok c.let_go.result _ (sym (same_judged kept c.args.from _ c.max-end.result (end_is g at)) ∙ judged)
 
 pub returns-clause-held : goal.returns-clause-held
 returns-clause-held g c =
-    let at = (goal.at.returns-clause-held g c).After-min-end in
+    let at = (goal.at.returns-clause-held g c).After-max-end in
     let bs = c.self.inside.bodies.items in
     let m = c.self.inside.meta in
     let live = live-held bs m c.self.invariant.0 c.args.key (rw (← c.self.view_is) at c.requires.live) in
-    let ends : affected_held (Punches c.args.from c.min-end.result) c.args.key c.args.self.now.held.files ≡ affected_held (Punches c.args.from c.args.to) c.args.key c.args.self.now.held.files =
-    rw (← c.self.view_is) (punch_end bs m c.self.invariant.0 c.args.key live c.args.from c.args.to c.min-end.result (rw (← c.self.view_is) at c.requires.start) (rw (← c.self.view_is) at (end_is g at))) in
+    let ends : affected_held (Punches c.args.from c.max-end.result) c.args.key c.args.self.now.held.files ≡ affected_held (Punches c.args.from c.args.to) c.args.key c.args.self.now.held.files =
+    rw (← c.self.view_is) (punch_end bs m c.self.invariant.0 c.args.key live c.args.from c.args.to c.max-end.result (rw (← c.self.view_is) at c.requires.start) (rw (← c.self.view_is) at (end_is g at))) in
     so_ok c.let_go.result _ _ c.let_go.ensures.held
-    (λ (is : c.let_go.new.self.held ≡ record c.settle.new.self.held { files = affected_held (Punches c.args.from c.min-end.result) c.args.key c.settle.new.self.held.files }). (rw c.settle.ensures.held at is) ∙ ap (λ (fs : List FileState). record c.args.self.now.held { files = fs }) ends)
+    (λ (is : c.let_go.new.self.held ≡ record c.args.self.now.held { files = affected_held (Punches c.args.from c.max-end.result) c.args.key c.args.self.now.held.files }). is ∙ ap (λ (fs : List FileState). record c.args.self.now.held { files = fs }) ends)

@@ -1,4 +1,4 @@
-use Rattle.file_store.proofs.Names.{◌≡◌, sym, ◌∙◌, false, true}
+use Rattle.file_store.proofs.Names.{◌≡◌, sym, ◌∙◌, true}
 use Rattle.hsm_types.specs.Stubs.{print_of, stub_at, offline_at}
 use Rattle.plain_model.specs.Services.{kept_of}
 use Rattle.file_store.proofs.SoundChanges.{of-entry}
@@ -11,4 +11,7 @@ pub rewrite-requires-clause-sound : goal.rewrite-requires-clause-sound
 rewrite-requires-clause-sound g c =
     let off : offline_at (kept_of c.args.key c.args.self.now.held.files).stubs c.args.segment ≡ true = sym c.is_offline.ensures.offline ∙ c.if-not-is_offline.false in
     let at = of-entry (λ stub. stub.entry.print ≡ print_of c.args.bytes.now) (stub_at c.args.segment (kept_of c.args.key c.args.self.now.held.files).stubs) off (c.requires.print off) in
-    rw (c.settle.ensures.held, c.as_slice-bytes.ensures.bytes) (c.requires.start, at)
+    rw (c.make_room.ensures.held, c.as_slice-bytes.ensures.bytes) (c.requires.start, at)
+
+pub rewrite-requires-clause-offline : goal.rewrite-requires-clause-offline
+rewrite-requires-clause-offline g c = rw c.make_room.ensures.held (sym c.is_offline.ensures.offline ∙ c.if-not-is_offline.false)

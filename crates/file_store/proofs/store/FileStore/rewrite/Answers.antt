@@ -1,30 +1,41 @@
-use Rattle.file_store.proofs.Names.{mappings_of, subst, List, Mapping, CatalogFile, HeldBody, no_body, KeepsHere, IsHere, HasEntry, remapped, rules, true, ◌≡◌, ◌-◌, [], refl, sym, ◌∙◌, ap, arith, Err, length, set, marked, unmarked, affected_held, rebody, effect_of, new_size, touched_of, places_for, layout_of, IsBesideBlocks, IsStaged, Keeps, held_with, geometry-bounded, get_or_read, set-get_or}
+use Rattle.file_store.proofs.Names.{mappings_of, subst, List, Mapping, CatalogFile, HeldBody, no_body, IsHere, IsAlike, HasEntry, BringsAway, HasRoom, remapped, bytes_with, ◌≡◌, ◌-◌, refl, sym, ◌∙◌, ap, arith, Err, length, set, marked, unmarked, affected_held, rebody, effect_of, new_size, touched_of, places_for, layout_of, IsBesideBlocks, IsStaged, Keeps, held_with, geometry-bounded, get_or_read}
 use Rattle.file_store.proofs.Durable.{Parts, IsDone, after_event}
-use Rattle.file_store.proofs.ByteChanges.{within-grown, length-grown, changed-grown, grown-enough, grown-back}
+use Rattle.file_store.proofs.ByteChanges.{within-grown, length-grown, changed-grown, grown-enough}
 use Rattle.file_store.proofs.RewriteRecords.{is_event}
-use Rattle.file_store.proofs.SoundChanges.{has-range, here-after}
+use Rattle.file_store.proofs.SoundChanges.{brings-away, has-range, here-after}
+use Rattle.file_store.proofs.FilesBy.{kept-found}
+use Rattle.file_store.specs.Refusals.{is_disk}
 use Rattle.file_store.proofs.WithBodies.{is-body}
 use Rattle.std.proofs.lemmas.Option.{same_Some}
-use Rattle.file_store.proofs.StoreEvents.{Given, known, body_of, bytes_in, IsBack, bodies_back, lengths_then, passes, fits, stand, places_within, freed_within, undone, written_proceeds, written_live, refused_proceeds, rewritten, is_disk, refused_sound, refused_as_is}
+use Rattle.file_store.proofs.StoreEvents.{Given, known, body_of, bytes_in, IsBack, bodies_back, within, lengths_then, passes, fits, stand, places_within, freed_within, undone, written_proceeds, written_live, refused_proceeds, rewritten, refused_sound, refused_as_is}
 use Rattle.file_store.proofs.store.FileStore.rewrite.Given.{Over}
-use Rattle.file_store.proofs.store.FileStore.rewrite.Goals.{After-of-before, After-stage, In-Ok, After-apply-in-Ok-apply, After-cut}
+use Rattle.file_store.proofs.store.FileStore.rewrite.Goals.{After-of-before, After-stage, In-Ok, After-apply-in-Ok-apply, After-undo}
 use Rattle.file_store.proofs.store.FileStore.rewrite.Goals as goal
 
 -- ---- what is known before the first write
 
 abbrev parts : (g : Over) → After-of-before g → Parts g.row.D.Denot
-parts g c = record { disk = c.self.inside.disk; meta = c.self.inside.meta; bodies = c.self.inside.bodies.items; durable = c.self.inside.durable.value.items; space = c.self.inside.space; pending = c.self.inside.pending; failed = c.self.inside.failed }
+parts g c = record { disk = c.self.inside.disk; meta = c.self.inside.meta; bodies = c.self.inside.bodies.items; durable = c.self.inside.durable.value.items; space = c.self.inside.space; failed = c.self.inside.failed }
 
 given : (g : Over) (c : After-of-before g) → Given g.D.Disk (parts g c) c.args.key c.args.change
 given g c =
-    known g.D.Disk (parts g c) c.args.key c.args.change c.self.invariant.0 c.self.invariant.1 (ap (λ s. s.failed) c.self.view_is ∙ c.requires.working) (ap (λ s. s.pending) c.self.view_is ∙ c.requires.settled) (rw (← c.self.view_is) at c.requires.live) c.requires.lawful
-    (rw (← c.self.view_is) at c.requires.sound) (rw (← c.self.view_is) at c.requires.room)
+    known g.D.Disk (parts g c) c.args.key c.args.change c.self.invariant.0 c.self.invariant.1 (ap (λ s. s.failed) c.self.view_is ∙ c.requires.working) (rw (← c.self.view_is) at c.requires.live) c.requires.lawful
+    (rw (← c.self.view_is) at c.requires.sound) (rw (← c.self.view_is) at c.requires.room) (rw (← c.self.view_is) at c.requires.enough)
 
 pub slot-requires : goal.slot-requires
 slot-requires g c = (given g (goal.at.slot-requires g c).After-of-before).at.low
 
 pub index_mut-body-requires : goal.index_mut-body-requires
 index_mut-body-requires g c = let at = (given g (goal.at.index_mut-body-requires g c).After-of-before).at in omega arith
+
+-- what comes back is away
+away : (g : Over) (c : After-of-before g) → BringsAway c.args.change (body_of c.self.inside.bodies.items c.args.key)
+away g c =
+    let x = given g c in
+    let bodies = c.self.inside.bodies.items in
+    let meta = c.self.inside.meta in
+    let kept = kept-found (bytes_with bodies) meta.current c.args.key x.at.file x.at.found in
+    brings-away c.args.change x.at.file (body_of bodies c.args.key) (is-body bodies meta x.files c.args.key x.at).here (rw kept at (rw (← c.self.view_is) at c.requires.offline))
 
 body_is : (g : Over) (c : After-stage g) → c.index_mut-body.result.now ≡ body_of c.self.inside.bodies.items c.args.key
 body_is g c =
@@ -44,6 +55,8 @@ stage-requires g c =
       live = rw x.at.found refl;
       lawful = x.may;
       entry = λ f found. subst (λ (e : CatalogFile). HasEntry c.args.change e.kept.stubs) (same_Some _ _ (sym x.at.found ∙ found)) x.allowed.entry;
+      away = away g (goal.at.stage-requires g c).After-of-before;
+      within = within g.D.Disk _ _ _ x;
       few = omega (arith, x.room, (geometry-bounded c.self.inside.meta.current.geometry).1);
       enough = x.enough;
       fits = fits g.D.Disk _ _ _ x;
@@ -54,22 +67,22 @@ stage-requires g c =
 moments : (g : Over) (c : After-stage g) → Keeps g.D.Disk c.self.inside.disk c.stage.new.disk (IsBesideBlocks (layout_of c.self.inside.meta.current.geometry).blocks (places_for c.args.change (bytes_in c.self.inside.bodies.items c.args.key) c.self.inside.space))
 moments g c = rw (c.catalog-catalog.ensures.catalog, bytes_are g c) at c.stage.ensures.any_moment
 
-staged : (g : Over) (c : In-Ok g) → IsStaged g.D.Disk c.self.inside.disk c.stage.new.disk c.self.inside.meta.current c.args.key c.args.change (bytes_in c.self.inside.bodies.items c.args.key) c.self.inside.space c.in-Ok.staged.records c.in-Ok.staged.freed.items
+staged : (g : Over) (c : In-Ok g) → IsStaged g.D.Disk c.self.inside.disk c.stage.new.disk c.self.inside.meta.current c.args.key c.args.change (bytes_in c.self.inside.bodies.items c.args.key) c.self.inside.space c.in-Ok.staged.plan.records c.in-Ok.staged.plan.freed.items
 staged g c = rw (c.catalog-catalog.ensures.catalog, bytes_are g (goal.at.In-Ok g c).After-stage) at c.in-Ok.ensures.staged
 
 space_is : (g : Over) (c : In-Ok g) → c.stage.new.space ≡ record c.self.inside.space { current = marked (places_for c.args.change (bytes_in c.self.inside.bodies.items c.args.key) c.self.inside.space) c.self.inside.space.current }
 space_is g c = rw (bytes_are g (goal.at.In-Ok g c).After-stage) at c.in-Ok.ensures.marked
 
--- where there was no memory for it, or the disk failed: the body has its bytes
-back : (g : Over) (c : After-stage g) → c.stage.new.body.bytes ≡ c.index_mut-body.result.now.bytes → IsBack (parts g (goal.at.After-stage g c).After-of-before) (set c.self.inside.bodies.items c.slot.result c.stage.new.body)
-back g c same =
+-- where there was no memory for it, or the disk failed: the body is as it was
+back : (g : Over) (c : After-stage g) → IsAlike c.index_mut-body.result.now c.stage.new.body → IsBack (parts g (goal.at.After-stage g c).After-of-before) (set c.self.inside.bodies.items c.slot.result c.stage.new.body)
+back g c alike =
     let x = given g (goal.at.After-stage g c).After-of-before in
-    rw c.slot.ensures (bodies_back g.D.Disk (parts g (goal.at.After-stage g c).After-of-before) c.args.key c.args.change x c.stage.new.body (same ∙ bytes_are g c) (subst (λ (b : HeldBody). KeepsHere b c.stage.new.body) (body_is g c) c.stage.ensures.keeps))
+    rw c.slot.ensures (bodies_back g.D.Disk (parts g (goal.at.After-stage g c).After-of-before) c.args.key c.args.change x c.stage.new.body (subst (λ (b : HeldBody). IsAlike b c.stage.new.body) (body_is g c) alike))
 
 pub invariant_of-self : goal.invariant_of-self
 invariant_of-self g c =
     let at = goal.at.invariant_of-self g c in
-    let failed : c.eq-self-inside.result ≡ is_disk c.in-Err.refusal = search rules in
+    let failed = c.refused.ensures.failed in
     let same = back g at.After-stage c.in-Err.ensures.err in
     rw (same.1, failed) (
       same.0,
@@ -79,8 +92,8 @@ invariant_of-self g c =
 
 pub returns-in-Err-clause-memory : goal.returns-in-Err-clause-memory
 returns-in-Err-clause-memory g c = λ is.
-    let memory = (refused_as_is c.in-Err.refusal).1 (sym c.from.ensures ∙ cc) in
-    let failed : c.eq-self-inside.result ≡ is_disk c.in-Err.refusal = search rules in
+    let memory = (refused_as_is c.in-Err.refusal).1 (sym c.refused.ensures.refusal ∙ cc) in
+    let failed = c.refused.ensures.failed in
     ((back g (goal.at.returns-in-Err-clause-memory g c).After-stage c.in-Err.ensures.err).1 ∙ ap (λ s. s.held) c.self.view_is, failed ∙ ap is_disk memory)
 
 pub returns-in-Err-clause-proceeds : goal.returns-in-Err-clause-proceeds
@@ -114,21 +127,24 @@ apply-requires-clause-lengths g c =
 new_bytes : (g : Over) (c : After-apply-in-Ok-apply g) → c.apply-in-Ok-apply.new.body.bytes ≡ rebody (effect_of c.args.change) (bytes_in c.self.inside.bodies.items c.args.key)
 new_bytes g c =
     c.apply-in-Ok-apply.ensures.bytes
-    ∙ ap (rebody (effect_of c.args.change)) c.in-Ok.ensures.grown
+    ∙ ap (rebody (effect_of c.args.change)) c.in-Ok.ensures.room.bytes
     ∙ changed-grown c.args.change c.index_mut-body.result.now.bytes
     ∙ ap (rebody (effect_of c.args.change)) (bytes_are g (goal.at.After-apply-in-Ok-apply g c).After-stage)
 
--- what is away of the body is offline then
+room : (g : Over) (c : In-Ok g) → HasRoom c.args.change (body_of c.self.inside.bodies.items c.args.key) c.stage.new.body
+room g c = subst (λ (b : HeldBody). HasRoom c.args.change b c.stage.new.body) (body_is g (goal.at.In-Ok g c).After-stage) c.in-Ok.ensures.room
+
+-- what is away of the body is what is offline then
 new_here : (g : Over) (c : After-apply-in-Ok-apply g) (ms : List Mapping) → let x = given g (goal.at.After-apply-in-Ok-apply g c).After-of-before in IsHere c.apply-in-Ok-apply.new.body (remapped c.args.change x.at.file.size ms x.at.file)
 new_here g c ms =
     let at = goal.at.After-apply-in-Ok-apply g c in
     let x = given g at.After-of-before in
-    here-after c.args.change x.at.file x.allowed (body_of c.self.inside.bodies.items c.args.key) c.stage.new.body (is-body c.self.inside.bodies.items c.self.inside.meta x.files c.args.key x.at).here
-    (subst (λ (b : HeldBody). KeepsHere b c.stage.new.body) (body_is g at.After-stage) c.stage.ensures.keeps) c.in-Ok.ensures.brought c.apply-in-Ok-apply.new.body ms c.apply-in-Ok-apply.ensures.here
+    here-after c.args.change x.at.file x.allowed (body_of c.self.inside.bodies.items c.args.key) c.stage.new.body (is-body c.self.inside.bodies.items c.self.inside.meta x.files c.args.key x.at).here (room g at.In-Ok)
+    c.apply-in-Ok-apply.new.body ms c.apply-in-Ok-apply.ensures.away
 
 taken : (g : Over) (c : After-apply-in-Ok-apply g) → IsDone g.D.Disk (parts g (goal.at.After-apply-in-Ok-apply g c).After-of-before) c.args.number (record (held_with c.self.inside.bodies.items c.self.inside.meta.current) { files = affected_held (effect_of c.args.change) c.args.key (held_with c.self.inside.bodies.items c.self.inside.meta.current).files })
     (after_event (parts g (goal.at.After-apply-in-Ok-apply g c).After-of-before) c.apply.new.disk c.apply.new.self c.in-Ok-apply.wrote (set c.self.inside.bodies.items c.slot.result c.apply-in-Ok-apply.new.body)
-    (unmarked c.in-Ok.staged.freed.items (marked (places_for c.args.change (bytes_in c.self.inside.bodies.items c.args.key) c.self.inside.space) c.self.inside.space.current)) (marked (places_for c.args.change (bytes_in c.self.inside.bodies.items c.args.key) c.self.inside.space) c.self.inside.space.current) true)
+    (unmarked c.in-Ok.staged.plan.freed.items (marked (places_for c.args.change (bytes_in c.self.inside.bodies.items c.args.key) c.self.inside.space) c.self.inside.space.current)) (marked (places_for c.args.change (bytes_in c.self.inside.bodies.items c.args.key) c.self.inside.space) c.self.inside.space.current))
 taken g c =
     let at = goal.at.After-apply-in-Ok-apply g c in
     rw c.slot.ensures
@@ -143,10 +159,9 @@ apply-requires-in-Ok-apply g c =
     let own = ap length (bytes_are g at.After-stage) ∙ (is-body c.self.inside.bodies.items c.self.inside.meta x.files c.args.key x.at).size in
     record {
       lawful = c.requires.lawful;
-      in_place = rw c.in-Ok.ensures.grown (grown-enough c.args.change body);
-      within = rw c.in-Ok.ensures.grown (within-grown c.args.change (new_size c.args.change body) body (rw own x.allowed.within));
-      here = has-range c.args.change x.at.file x.allowed (body_of c.self.inside.bodies.items c.args.key) c.stage.new.body (is-body c.self.inside.bodies.items c.self.inside.meta x.files c.args.key x.at).here
-          (subst (λ (b : HeldBody). KeepsHere b c.stage.new.body) (body_is g at.After-stage) c.stage.ensures.keeps) c.in-Ok.ensures.brought c.requires.lawful;
+      in_place = rw c.in-Ok.ensures.room.bytes (grown-enough c.args.change body);
+      within = rw c.in-Ok.ensures.room.bytes (within-grown c.args.change (new_size c.args.change body) body (rw own x.allowed.within));
+      here = has-range c.args.change x.at.file x.allowed (body_of c.self.inside.bodies.items c.args.key) c.stage.new.body (is-body c.self.inside.bodies.items c.self.inside.meta x.files c.args.key x.at).here (room g at.In-Ok) c.requires.lawful;
     }
 
 pub release_all-requires : goal.release_all-requires
@@ -171,26 +186,29 @@ returns-in-Ok-apply-clause-proceeds g c =
 
 -- ---- where they aren't taken
 
-old_bytes : (g : Over) (c : After-cut g) → c.cut.new.body.bytes ≡ c.index_mut-body.result.now.bytes
-old_bytes g c = c.cut.ensures.bytes ∙ rw (c.in-Ok.ensures.grown, c.len-old.ensures.len) (grown-back (new_size c.args.change c.index_mut-body.result.now.bytes) c.index_mut-body.result.now.bytes)
-
-back_again : (g : Over) (c : After-cut g) → IsBack (parts g (goal.at.After-cut g c).After-of-before) (set c.self.inside.bodies.items c.slot.result c.cut.new.body)
+back_again : (g : Over) (c : After-undo g) → IsBack (parts g (goal.at.After-undo g c).After-of-before) (set c.self.inside.bodies.items c.slot.result c.undo.new.body)
 back_again g c =
-    let at = goal.at.After-cut g c in
+    let at = goal.at.After-undo g c in
     let x = given g at.After-of-before in
-    rw c.slot.ensures (bodies_back g.D.Disk (parts g at.After-of-before) c.args.key c.args.change x c.cut.new.body (old_bytes g c ∙ bytes_are g at.After-stage)
-    (subst (λ (b : HeldBody). KeepsHere b c.cut.new.body) (body_is g at.After-stage) (λ j away. c.stage.ensures.keeps j (c.cut.ensures.keeps j away))))
+    let long = ap (λ (b : HeldBody). length b.bytes) (sym (body_is g at.After-stage)) ∙ sym c.len-old.ensures.len in
+    rw c.slot.ensures (bodies_back g.D.Disk (parts g at.After-of-before) c.args.key c.args.change x c.undo.new.body (c.undo.ensures (body_of c.self.inside.bodies.items c.args.key) (room g at.In-Ok) long (away g at.After-of-before)))
 
-pub cut-requires : goal.cut-requires
-cut-requires g c =
+pub undo-requires : goal.undo-requires
+undo-requires g c =
+    let at = goal.at.undo-requires g c in
     let body = c.index_mut-body.result.now.bytes in
-    record { within = rw (c.in-Ok.ensures.grown, c.len-old.ensures.len) (omega (arith, length-grown (new_size c.args.change body) body)); file = c.len-old.ensures.limit }
+    record {
+      lawful = c.requires.lawful;
+      file = c.len-old.ensures.limit;
+      size = rw (c.in-Ok.ensures.room.bytes, c.len-old.ensures.len) (omega (arith, length-grown (new_size c.args.change body) body));
+      within = rw (c.len-old.ensures.len, bytes_are g at.After-stage) (within g.D.Disk _ _ _ (given g at.After-of-before));
+    }
 
 pub returns-in-Err-apply-clause-memory : goal.returns-in-Err-apply-clause-memory
 returns-in-Err-apply-clause-memory g c = λ is.
-    let memory = (refused_as_is c.in-Err-apply.refusal).1 (sym c.from-in-Err-apply.ensures ∙ cc) in
-    let failed : c.eq-self-inside-in-Err-apply.result ≡ is_disk c.in-Err-apply.refusal = search rules in
-    (rw c.in-Err-apply.ensures.err ((back_again g (goal.at.returns-in-Err-apply-clause-memory g c).After-cut).1 ∙ ap (λ s. s.held) c.self.view_is), failed ∙ ap is_disk memory)
+    let memory = (refused_as_is c.in-Err-apply.refusal).1 (sym c.refused-in-Err-apply.ensures.refusal ∙ cc) in
+    let failed = c.refused-in-Err-apply.ensures.failed in
+    (rw c.in-Err-apply.ensures.err ((back_again g (goal.at.returns-in-Err-apply-clause-memory g c).After-undo).1 ∙ ap (λ s. s.held) c.self.view_is), failed ∙ ap is_disk memory)
 
 pub release_all-requires-in-Err-apply : goal.release_all-requires-in-Err-apply
 release_all-requires-in-Err-apply g c =
@@ -203,8 +221,8 @@ invariant_of-self-in-Err-apply g c =
     let at = goal.at.invariant_of-self-in-Err-apply g c in
     let sound = c.self.invariant.1 in
     let body = bytes_in c.self.inside.bodies.items c.args.key in
-    let failed : c.eq-self-inside-in-Err-apply.result ≡ is_disk c.in-Err-apply.refusal = search rules in
-    let same = back_again g at.After-cut in
+    let failed = c.refused-in-Err-apply.ensures.failed in
+    let same = back_again g at.After-undo in
     rw (c.in-Err-apply.ensures.err, same.1, c.release_all-in-Err-apply.ensures, c.as_slice.ensures.value, c.in-Ok.ensures.places, space_is g at.In-Ok, bytes_are g at.After-stage, undone c.self.inside.space (length (touched_of c.args.change body)), failed) (
       same.0,
       refused_sound g.D.Disk _ c.apply.new.disk _ c.in-Err-apply.refusal
@@ -214,7 +232,7 @@ invariant_of-self-in-Err-apply g c =
 
 pub returns-in-Err-apply-clause-no_part : goal.returns-in-Err-apply-clause-no_part
 returns-in-Err-apply-clause-no_part g c = λ why is.
-    let part = (refused_as_is c.in-Err-apply.refusal).0 why (sym c.from-in-Err-apply.ensures ∙ cc) in
+    let part = (refused_as_is c.in-Err-apply.refusal).0 why (sym c.refused-in-Err-apply.ensures.refusal ∙ cc) in
     let some = (c.in-Err-apply.ensures.refused why).0 (ap (λ e. Err e) part) in
     let at = goal.at.returns-in-Err-apply-clause-no_part g c in
     let x = given g at.After-of-before in

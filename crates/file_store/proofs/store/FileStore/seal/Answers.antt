@@ -1,4 +1,3 @@
-use Rattle.file_store.proofs.Names.{rules, ◌≡◌, sym, ◌∙◌, ap, Err, None, Some, IsSome, find_key}
 use Rattle.file_store.proofs.SealEvents.{seals, can_seal}
 use Rattle.file_store.proofs.store.FileStore.seal.Goals as goal
 

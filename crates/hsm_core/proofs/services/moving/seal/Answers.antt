@@ -1,4 +1,4 @@
-use Rattle.std.proofs.Common.{Option, refl, sym, subst}
+use Rattle.std.proofs.Common.{Option, refl, sym, ◌∙◌, ap, subst}
 use Rattle.hsm_types.specs.Messages.{no_token}
 use Rattle.hsm_types.specs.declared.dm.DmCall.TheVariants.{Seal}
 use Rattle.hsm_types.specs.declared.dm.DmRefusal.{DmRefusal}
@@ -25,7 +25,7 @@ returns g c =
       held = c.seal.ensures.held;
       working = c.seal.ensures.working;
       unchanged = c.seal.ensures.unchanged;
-      memory = c.seal.ensures.memory;
+      memory = λ is. (ap (λ f. f.held) (c.seal.ensures.memory is), ap (λ f. f.failed) (c.seal.ensures.memory is) ∙ c.requires.working);
       failed = c.seal.ensures.failed;
       proceeds = c.seal.ensures.proceeds;
     })))

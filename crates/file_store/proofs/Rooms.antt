@@ -1,0 +1,113 @@
+-- The memory that a body takes for a change, and gives back.
+use Rattle.file_store.proofs.Names.{◌≡◌, ℕ, ◌+◌, ◌-◌, ◌*◌, ◌<◌, ◌≤◌, ◌==◌, ◌&&◌, ◌||◌, min, max, List, length, take, drop, replicate, Bool, true, false, refl, sym, ◌∙◌, ap, subst, false≢true, ⊎_elim, arith, rules, same_lists, places, length-take, lt-ltb, and_from, written, resized, Rewrite, Write, Resize, Restore, new_size, grown, brings, HasRoom, HeldBody, is_away, AreZeros, IsAlike}
+use Rattle.std.specs.Prelude.{nat_le, nat_lt, Result, Ok, Err, OnOk, IsOk}
+use Rattle.std.proofs.Math.Bool.{and-true, and-false, or-false}
+use Rattle.std.proofs.lemmas.Bool.{cases_eq, eqb-true, eq-eqb, ne_eqb, le-leb, or_right}
+use Rattle.std.proofs.lemmas.Bool.Decides.{nat_tests}
+use Rattle.std.proofs.lemmas.List.{length-drop}
+use Rattle.plain_model.specs.Plain.{segment as segment_of}
+use Rattle.file_store.proofs.ByteChanges.{grown-none, grown-back}
+use Rattle.file_store.proofs.Loaded.{within-all}
+
+-- ---- outcomes of calls
+
+module _ {T E P Q R : Type 0} where
+  pub both_ok : (r : Result T E) → (P → Q → R) → OnOk r P → OnOk r Q → OnOk r R
+  both_ok (Ok x) f p q = f p q
+  both_ok (Err e) f p q = tt
+
+pub of_ok : {T E P : Type 0} (r : Result T E) → IsOk r → OnOk r P → P
+of_ok (Ok x) ok p = p
+of_ok (Err e) ok p = absurd (false≢true ok)
+
+-- ---- it is taken
+
+-- but for a restore nothing comes back
+pub brings-none : (change : Rewrite) → ((segment : _) (bytes : _) → change ≡ Restore segment bytes → ⊥) → (j : ℕ) → brings change j ≡ false
+brings-none (Write offset bytes) other j = refl
+brings-none (Resize size) other j = refl
+brings-none (Restore segment bytes) other j = absurd (other segment bytes refl)
+
+module _ (old new : HeldBody) (starts : (j : ℕ) → is_away old j ≡ true → 65536 * j < length old.bytes) where
+  resized-grown : (size : ℕ) (body : List ℕ) → resized (max (length body) size) body ≡ grown size body
+  resized-grown size body = same_lists _ _ (search (rules, places)) (λ i d h. grind (arith, places))
+
+  -- zeros up to the new size
+  pub grown-room : (change : Rewrite) (size : ℕ) → ((j : ℕ) → brings change j ≡ false) → size ≡ max (length old.bytes) (new_size change old.bytes) → new.bytes ≡ resized size old.bytes
+      → ((j : ℕ) → is_away new j ≡ (is_away old j && nat_lt (65536 * j) size)) → HasRoom change old new
+  grown-room change size none is bytes away = record {
+    bytes = bytes ∙ (ap (λ (n : ℕ). resized n old.bytes) is ∙ resized-grown (new_size change old.bytes) old.bytes);
+    away = λ j. away j ∙ (within-all (is_away old j) j size (λ gone. let start = starts j gone in omega (arith, start, is)) ∙ sym (rw (none j) (and-true (is_away old j))));
+    starts = starts;
+    zeros = λ j some. absurd (let never = none j in cc);
+  }
+
+  -- the segment that comes back
+  pub brought-room : (segment : ℕ) (change : Rewrite) → ((j : ℕ) → brings change j ≡ (j == segment)) → new_size change old.bytes ≡ length old.bytes → (new.bytes ≡ old.bytes) × (is_away new segment ≡ false)
+      → ((j : ℕ) → (j ≡ segment → ⊥) → is_away new j ≡ is_away old j) → (is_away old segment ≡ true → AreZeros (segment_of segment old.bytes)) → HasRoom change old new
+  brought-room segment change one size it others zeros = record {
+    bytes = it.0 ∙ sym (ap (λ (n : ℕ). grown n old.bytes) size ∙ grown-none old.bytes);
+    away = λ j.
+        ⊎_elim
+        (λ (q : j ≡ segment). rw (one j, q, eq-eqb segment segment refl) (it.1 ∙ sym (and-false (is_away old segment))))
+        (λ (q : j ≡ segment → ⊥). rw (one j, ne_eqb j segment q) (others j q ∙ sym (and-true (is_away old j))))
+        (cases_eq j segment);
+    starts = starts;
+    zeros = λ j some gone. let same : j ≡ segment = eqb-true j segment (sym (one j) ∙ some) in subst (λ (i : ℕ). AreZeros (segment_of i old.bytes)) (sym same) (zeros (subst (λ (i : ℕ). is_away old i ≡ true) same gone));
+  }
+
+-- ---- it is given back
+
+-- bytes that are written over themselves
+written-own : (at k : ℕ) (body : List ℕ) → at ≤ length body → written at (take k (drop at body)) body ≡ body
+written-own at k body within = same_lists _ _ (search (rules, places)) (λ i d h. grind (arith, places))
+
+zeros-again : (j : ℕ) (body : List ℕ) → 65536 * j < length body → AreZeros (segment_of j body) → written (65536 * j) (replicate (min (65536 * (j + 1)) (length body) - 65536 * j) 0) body ≡ body
+zeros-again j body start zeros =
+    let count : min (65536 * (j + 1)) (length body) - 65536 * j ≡ length (segment_of j body) = omega (arith, length-take 65536 (drop (65536 * j) body), length-drop (65536 * j) body) in
+    ap (λ (n : ℕ). written (65536 * j) (replicate n 0) body) count
+    ∙ (ap (λ (bytes : List ℕ). written (65536 * j) bytes body) (sym zeros)
+    ∙ written-own (65536 * j) 65536 body (omega arith))
+
+-- the segment goes, and no other one
+apart : (s j : ℕ) (low : Bool) → (j ≡ s → ⊥) → (nat_le s j && nat_lt j (s + 1) && low) ≡ false
+apart s j low other = grind (arith, nat_tests)
+
+module _ (change : Rewrite) (old room new : HeldBody) (has : HasRoom change old room) where
+  -- a cut takes the zeros away
+  pub cut-alike : (size : ℕ) → ((j : ℕ) → brings change j ≡ false) → length old.bytes ≡ size → new.bytes ≡ resized size room.bytes → ((j : ℕ) → is_away new j ≡ (is_away room j && nat_lt (65536 * j) size)) → IsAlike old new
+  cut-alike size none long bytes away = record {
+    bytes = bytes ∙ (ap (λ (n : ℕ). resized n room.bytes) (sym long) ∙ (ap (resized (length old.bytes)) has.bytes ∙ grown-back (new_size change old.bytes) old.bytes));
+    away = λ j.
+        let was : is_away room j ≡ is_away old j = has.away j ∙ rw (none j) (and-true (is_away old j)) in
+        away j ∙ (ap (λ (b : Bool). b && nat_lt (65536 * j) size) was ∙ within-all (is_away old j) j size (λ gone. let start = has.starts j gone in omega (arith, start, long)));
+  }
+
+  -- the segment that came leaves again
+  pub left-alike : (segment : ℕ) → ((j : ℕ) → brings change j ≡ (j == segment)) → new_size change old.bytes ≡ length old.bytes → is_away old segment ≡ true
+      → new.bytes ≡ written (65536 * segment) (replicate (min (65536 * (segment + 1)) (length room.bytes) - 65536 * segment) 0) room.bytes
+      → ((j : ℕ) → is_away new j ≡ (is_away room j || (nat_le segment j && nat_lt j (segment + 1) && nat_lt (65536 * j) (length room.bytes)))) → IsAlike old new
+  left-alike segment one size gone bytes away = record {
+    bytes = bytes ∙ rw same (zeros-again segment old.bytes start (has.zeros segment (one segment ∙ eq-eqb segment segment refl) gone));
+    away = λ j.
+        away j
+        ∙ ⊎_elim
+        (λ (q : j ≡ segment).
+        rw q (or_right (is_away room segment) (nat_le segment segment && nat_lt segment (segment + 1) && nat_lt (65536 * segment) (length room.bytes)) inside ∙ sym gone))
+        (λ (q : j ≡ segment → ⊥).
+        ap (λ (b : Bool). is_away room j || b) (apart segment j (nat_lt (65536 * j) (length room.bytes)) q)
+        ∙ (or-false (is_away room j) ∙ (has.away j ∙ rw (one j, ne_eqb j segment q) (and-true (is_away old j)))))
+        (cases_eq j segment);
+  }
+    where
+      same : room.bytes ≡ old.bytes
+      same = has.bytes ∙ (ap (λ (n : ℕ). grown n old.bytes) size ∙ grown-none old.bytes)
+
+      start : 65536 * segment < length old.bytes
+      start = has.starts segment gone
+
+      inside : (nat_le segment segment && nat_lt segment (segment + 1) && nat_lt (65536 * segment) (length room.bytes)) ≡ true
+      inside =
+          and_from (nat_le segment segment && nat_lt segment (segment + 1)) (nat_lt (65536 * segment) (length room.bytes))
+          (and_from (nat_le segment segment) (nat_lt segment (segment + 1)) (le-leb segment segment (omega arith)) (lt-ltb segment (segment + 1) (omega arith)))
+          (lt-ltb (65536 * segment) (length room.bytes) (omega (arith, start, ap length same)))

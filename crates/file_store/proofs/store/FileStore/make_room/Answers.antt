@@ -1,0 +1,18 @@
+use Rattle.file_store.proofs.Names.{◌≡◌, ◌+◌, ◌∙◌, ap, arith, length, free, used, geometry_of, touched, effect_of, bytes_of, geometry-bounded}
+use Rattle.file_store.proofs.Durable.{proceeds_on}
+use Rattle.file_store.proofs.PunchRuns.{so_ok}
+use Rattle.file_store.proofs.store.FileStore.make_room.Goals as goal
+
+pub overflow_cast-count : goal.overflow_cast-count
+overflow_cast-count g c =
+    let many : c.count.result ≡ length (touched (effect_of c.args.change) (length (bytes_of c.args.key c.args.self.now.held.files))) =
+    c.count.ensures ∙ ap length (c.touched-blocks.ensures ∙ ap (touched (effect_of c.args.change)) (c.len.ensures.len ∙ ap length c.body.ensures.bytes)) in
+    omega (arith, many, c.requires.room, (geometry-bounded c.args.self.now.meta.durable.geometry).1)
+
+pub returns-clause-enough : goal.returns-clause-enough
+returns-clause-enough g c =
+    let new = c.sync.new.self in
+    so_ok c.sync.result _ _ c.sync.ensures.room (λ (is : length (free new.space) + used new.held.files ≡ (geometry_of new.meta.durable.geometry).blocks). let left = rw (c.sync.ensures.held, c.sync.ensures.proceeds.geometry) at is in omega (arith, left, c.requires.room))
+
+pub returns-clause-goes_on : goal.returns-clause-goes_on
+returns-clause-goes_on g c = λ later more. proceeds_on g.D.Disk c.args.self.now c.sync.new.self later c.args.number c.sync.ensures.proceeds c.sync.ensures.held more

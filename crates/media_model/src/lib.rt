@@ -1,0 +1,13 @@
+//! A drive as the layers above it see it: volumes, each a list of objects to which one is appended and none is changed, and a count of faults.
+//! And two drives in memory.
+#![tactic(auto)]
+
+mod drive;
+mod memory;
+mod sure;
+mod volume;
+
+pub use drive::{Drive, DriveRefusal, OBJECT_BYTES};
+pub use memory::{Damage, FailingCall, MemDrive};
+pub use sure::SureDrive;
+pub use volume::ObjectBytes;

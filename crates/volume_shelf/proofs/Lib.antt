@@ -1,0 +1,4 @@
+pub mod Rising
+pub mod Running
+pub mod Pieces
+pub mod FetchSteps
