@@ -182,6 +182,12 @@ module _ (t : Tables) (n : ℕ) (kept : AreKept t n) (sid : Sid) (body : List �
 pub judged_none : (a b : Option DmRefusal) (response : Response) → first_refusal (a ∷ b ∷ []) ≡ None → is_lawful response ≡ true → first_refusal (a ∷ b ∷ bad_response response ∷ []) ≡ None
 judged_none a b response none lawful = all_pass (a ∷ b ∷ []) (bad_response response ∷ []) none ∙ rw lawful refl
 
+-- the first one that refuses, whatever comes behind
+pub judged_first : (a b c : Option DmRefusal) (why : DmRefusal) → first_refusal (a ∷ b ∷ []) ≡ Some why → first_refusal (a ∷ b ∷ c ∷ []) ≡ Some why
+judged_first (Some x) b c why is = is
+judged_first None (Some x) c why is = is
+judged_first None None c why is = absurd cc
+
 -- so it was served
 pub event_served : {E : Type 0} (t u : Tables) (sid : Sid) (body : List ℕ) (token : Token) → token ≡ next_token (ledger_of t) → dm_judged any_superblock (seen t) sid (CreateUserEvent body) ≡ None
     → noted (seen u) ≡ dm_state_where None any_superblock (seen t) sid (CreateUserEvent body) → IsServed {E = E} t sid (CreateUserEvent body) (Ok (reply.Token token, reply.Token token)) u

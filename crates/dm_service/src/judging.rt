@@ -69,12 +69,13 @@ fn need_of(call: &Call) -> Right
     }
 }
 
-/// An abort ends it.
+/// An abort ends it, and so does a fault of a medium.
 fn judge_answer(access: &Access) -> Option<Verdict>
     ensures { result ≡ said (option_map Ends (aborted access.now.answer)) }
 {
     match access.answer {
         Some(Response::Abort(error)) => Some(Verdict::Answered(Response::Abort(error))),
+        Some(Response::Media(cause)) => Some(Verdict::Answered(Response::Media(cause))),
         _ => None,
     }
 }

@@ -34,7 +34,7 @@ impl DmService {
     {
         match call {
             DmCall::Respond { token, response } => {
-                Ok(ended(self.respond(sid, *token, *response)))
+                Ok(ended(self.respond(sid, *token, response)))
             }
             DmCall::CreateUserEvent { body } => self.make_event(sid, body),
             _ => serve(&mut self.sessions, alloc, sid, call),
@@ -72,13 +72,15 @@ impl DmService {
 
     /// Responds to a token that is outstanding to the session, which has no right any more then. The response reaches the access that waits for it. It
     /// takes no memory.
-    pub fn respond(&mut self, sid: Sid, token: Token, response: Response) -> Result<(), DmRefusal>
-        ensures judged { Judges result (first_refusal (dead_session sid self.old.sessions ∷ bad_own_token sid token self.old.sessions ∷ bad_response response ∷ [])) }
-        ensures after { OnOk result (noted (seen self.new) ≡ dm_state_where None any_superblock (seen self.old) sid (Respond token response)) }
+    pub fn respond(&mut self, sid: Sid, token: Token, response: &Response) -> Result<(), DmRefusal>
+        ensures judged { Judges result (first_refusal (dead_session sid self.old.sessions ∷ bad_own_token sid token self.old.sessions ∷ bad_response response.now ∷ [])) }
+        ensures after { OnOk result (noted (seen self.new) ≡ dm_state_where None any_superblock (seen self.old) sid (Respond token response.now)) }
         ensures err { OnErr result (self.new ≡ self.old) }
         ensures counted { OnOk result (awaited_in self.new + 1 ≡ awaited_in self.old) }
     {
-        judge_own_token(&self.sessions, sid, token)?;
+        if let Err(why) = judge_own_token(&self.sessions, sid, token) {
+            return Err(why);
+        }
         if !response.is_lawful() {
             return Err(DmRefusal::BadResponse);
         }
@@ -86,7 +88,7 @@ impl DmService {
         self.sessions.answer(sid, token)?;
         self.open_tokens = open_tokens - 1;
         self.rights.end(token);
-        let _caller = self.park.answer(token, response);
+        let _caller = self.park.answer(token, *response);
         Ok(())
     }
 

@@ -6,7 +6,7 @@ use Rattle.std.proofs.lemmas.Bool.Decides.{nat_tests}
 use Rattle.std.proofs.Math.Bool.{and-true, and-false}
 use Rattle.std.proofs.lemmas.Bool.{ltb-false, cases_eq, eq-eqb, ne_eqb}
 use Rattle.hsm_types.specs.Segments.{segment_len, meets_segment}
-use Rattle.hsm_types.specs.Stubs.{Stubs, stub_at, is_offline, offline_at, moved, restored, unsealed}
+use Rattle.hsm_types.specs.Stubs.{Stubs, print_of, stub_at, is_offline, offline_at, moved, restored, unsealed}
 use Rattle.hsm_types.specs.declared.stubs.Fingerprint.{Fingerprint}
 use Rattle.hsm_types.specs.declared.stubs.Stub.{Stub as StubOf}
 use Rattle.hsm_types.proofs.Stubbing.{stub_at-unsealed, stub_at-restored}
@@ -70,6 +70,11 @@ restores-lawful size segment len is start few = (omega (arith, is), omega (arith
 pub of-entry : (P : StubOf → Type 0) (o : Option StubOf) → is_offline o ≡ true → IfSome o P → (stub : StubOf) × (o ≡ Some stub) × P stub
 of-entry P None off is = absurd (false≢true off)
 of-entry P (Some stub) off is = (stub, refl, is)
+
+-- bytes of the fingerprint of an entry have the length that it says
+pub of-length : (o : Option StubOf) (bytes : List ℕ) (len : ℕ) → is_offline o ≡ true → IfSome o (λ stub. stub.entry.print ≡ print_of bytes) → IfSome o (λ stub. stub.entry.print.len ≡ len) → length bytes ≡ len
+of-length None bytes len off print is = absurd (false≢true off)
+of-length (Some stub) bytes len off print is = sym (ap (λ (p : Fingerprint). p.len) print) ∙ is
 
 -- ---- entries keep their lengths
 

@@ -1,7 +1,9 @@
 -- A store of files on a disk, and what recovery finds on an image.
-use Rattle.std.specs.Prelude.{◌≡◌, ◌⊎◌, ℕ, ◌≤◌, ◌^◌, Bool, true, false, List, length, map, replicate, slice_index_or, is_some}
+use Rattle.std.specs.Prelude.{◌≡◌, ◌⊎◌, ℕ, ◌≤◌, ◌^◌, Bool, true, false, List, length, map, replicate, slice_index_or, is_some, Result}
 use Rattle.std.specs.Option.{option_map}
 use Rattle.std.specs.List.{AllByRecursion}
+use Rattle.std.specs.Result.{IsErrOf}
+use Rattle.disk_model.specs.Calls.{Counts}
 use Rattle.disk_model.specs.Moments.{MayBe, LeavesOnly}
 use Rattle.disk_model.specs.declared.device.Disk as disk
 use Rattle.hsm_types.specs.declared.stores.Superblock.{Superblock}
@@ -17,6 +19,8 @@ use Rattle.meta_store.specs.Catalogs.{CatalogFile, Catalog, geometry_of, present
 use Rattle.meta_store.specs.Catalogs.{names_of as names_in}
 use Rattle.meta_store.specs.Images.{IsImage, blocks_in_image}
 use Rattle.meta_store.specs.Meta.{Meta, IsMeta, Backs}
+use Rattle.file_store.specs.declared.refusal.StoreRefusal.{StoreRefusal}
+use Rattle.file_store.specs.declared.refusal.StoreRefusal.TheVariants.{Disk}
 use Rattle.file_store.specs.Bodies.{held_at}
 
 -- Recovery finds this under that number: the catalog of the image, with the bytes of its data blocks.
@@ -71,6 +75,11 @@ pub record Proceeds {D : Type 0} (g : disk.Ghosts D) (old : Store D) (n : ℕ) (
   pub moments : LeavesOnly g old.disk new.disk (IsEither old n)
   pub now : (c : List ℕ) → MayBe g new.disk c → IsEither old n c
   pub durable : (new.meta.number ≡ old.meta.number) × (new.durable ≡ old.durable) ⊎ (new.meta.number ≡ n) × (new.durable ≡ old.held)
+
+-- A call of the disk failed exactly where that is answered, and then the store is closed.
+pub record TellsFaults {D T : Type 0} (g : disk.Ghosts D) (result : Result T StoreRefusal) (old new : Store D) : Type 0 where
+  pub closes : IsErrOf result Disk → new.failed ≡ true
+  pub counts : Counts (IsErrOf result Disk) (g.fault_count old.disk) (g.fault_count new.disk)
 
 -- ---- what is true of each store
 

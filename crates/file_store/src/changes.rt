@@ -1,6 +1,5 @@
 // What changes the files of a store: each event is records, blocks that they take and free, and bytes.
 ghost use Rattle.std.specs.Prelude.{◌≡◌, ◌≢◌, ◌+◌, ◌*◌, ◌<◌, ◌≤◌, [], ◌∷◌, min, true, false, None, Some, Err, length, OnOk, IfOk, IfSome, IsErrOf, IsSome};
-ghost use Rattle.disk_model.specs.Calls.{Rose};
 ghost use Rattle.hsm_types.specs.Names.{is_name};
 ghost use Rattle.hsm_types.specs.Regions.{regions_refusal};
 ghost use Rattle.hsm_types.specs.Attributes.{setting_refusal, removal_refusal};
@@ -16,7 +15,7 @@ ghost use Rattle.plain_model.specs.Blocks.{touched};
 ghost use Rattle.plain_model.specs.State.{names_of, file_at, bytes_of, next_key, affected_held, used};
 ghost use Rattle.plain_model.specs.Services.{kept_of, other_attributes, other_stubs};
 ghost use Rattle.meta_store.specs.Catalogs.{geometry_of};
-ghost use Rattle.file_store.specs.Stores.{superblock_of, Proceeds};
+ghost use Rattle.file_store.specs.Stores.{superblock_of, Proceeds, TellsFaults};
 
 use crate::refusal::StoreRefusal;
 use crate::rewrites::Rewrite;
@@ -43,7 +42,7 @@ impl<D: Disk> FileStore<D> {
         ensures held { OnOk result (self.new.held ≡ record { files = affected_held (Makes name.now) (next_key self.old.held) self.old.held.files; next = self.old.held.next + 1 }) }
         ensures working { OnOk result (self.new.failed ≡ false) }
         ensures memory { IsErrOf result StoreRefusal.Memory → self.new ≡ self.old }
-        ensures failed { IsErrOf result StoreRefusal.Disk → (self.new.failed ≡ true) × Rose (D.fault_count self.old.disk) (D.fault_count self.new.disk) }
+        ensures faults { TellsFaults D.Disk result self.old self.new }
         ensures no_part { (why : DmRefusal) → IsErrOf result (StoreRefusal.Part why) → ⊥ }
         ensures proceeds { Proceeds D.Disk self.old number self.new }
     {
@@ -63,7 +62,7 @@ impl<D: Disk> FileStore<D> {
         ensures held { OnOk result (self.new.held ≡ record self.old.held { files = affected_held Drops key self.old.held.files }) }
         ensures working { OnOk result (self.new.failed ≡ false) }
         ensures memory { IsErrOf result StoreRefusal.Memory → (self.new.held ≡ self.old.held) × (self.new.failed ≡ false) }
-        ensures failed { IsErrOf result StoreRefusal.Disk → (self.new.failed ≡ true) × Rose (D.fault_count self.old.disk) (D.fault_count self.new.disk) }
+        ensures faults { TellsFaults D.Disk result self.old self.new }
         ensures no_part { (why : DmRefusal) → IsErrOf result (StoreRefusal.Part why) → ⊥ }
         ensures proceeds { Proceeds D.Disk self.old number self.new }
     {
@@ -89,7 +88,7 @@ impl<D: Disk> FileStore<D> {
         ensures held { OnOk result (self.new.held ≡ record self.old.held { files = affected_held (Writes offset bytes.now) key self.old.held.files }) }
         ensures working { OnOk result (self.new.failed ≡ false) }
         ensures memory { IsErrOf result StoreRefusal.Memory → (self.new.held ≡ self.old.held) × (self.new.failed ≡ false) }
-        ensures failed { IsErrOf result StoreRefusal.Disk → (self.new.failed ≡ true) × Rose (D.fault_count self.old.disk) (D.fault_count self.new.disk) }
+        ensures faults { TellsFaults D.Disk result self.old self.new }
         ensures no_part { (why : DmRefusal) → IsErrOf result (StoreRefusal.Part why) → ⊥ }
         ensures proceeds { Proceeds D.Disk self.old number self.new }
     {
@@ -114,7 +113,7 @@ impl<D: Disk> FileStore<D> {
         ensures held { OnOk result (self.new.held ≡ record self.old.held { files = affected_held (Resizes size) key self.old.held.files }) }
         ensures working { OnOk result (self.new.failed ≡ false) }
         ensures memory { IsErrOf result StoreRefusal.Memory → (self.new.held ≡ self.old.held) × (self.new.failed ≡ false) }
-        ensures failed { IsErrOf result StoreRefusal.Disk → (self.new.failed ≡ true) × Rose (D.fault_count self.old.disk) (D.fault_count self.new.disk) }
+        ensures faults { TellsFaults D.Disk result self.old self.new }
         ensures no_part { (why : DmRefusal) → IsErrOf result (StoreRefusal.Part why) → ⊥ }
         ensures proceeds { Proceeds D.Disk self.old number self.new }
     {
@@ -139,7 +138,7 @@ impl<D: Disk> FileStore<D> {
         ensures working { OnOk result (self.new.failed ≡ false) }
         ensures unchanged { (why : DmRefusal) → IsErrOf result (StoreRefusal.Part why) → self.new ≡ self.old }
         ensures memory { IsErrOf result StoreRefusal.Memory → self.new ≡ self.old }
-        ensures failed { IsErrOf result StoreRefusal.Disk → (self.new.failed ≡ true) × Rose (D.fault_count self.old.disk) (D.fault_count self.new.disk) }
+        ensures faults { TellsFaults D.Disk result self.old self.new }
         ensures proceeds { Proceeds D.Disk self.old number self.new }
     {
         let ino = self.inode(key);
@@ -163,7 +162,7 @@ impl<D: Disk> FileStore<D> {
         ensures working { OnOk result (self.new.failed ≡ false) }
         ensures unchanged { (why : DmRefusal) → IsErrOf result (StoreRefusal.Part why) → self.new ≡ self.old }
         ensures memory { IsErrOf result StoreRefusal.Memory → self.new ≡ self.old }
-        ensures failed { IsErrOf result StoreRefusal.Disk → (self.new.failed ≡ true) × Rose (D.fault_count self.old.disk) (D.fault_count self.new.disk) }
+        ensures faults { TellsFaults D.Disk result self.old self.new }
         ensures proceeds { Proceeds D.Disk self.old number self.new }
     {
         let ino = self.inode(key);
@@ -186,7 +185,7 @@ impl<D: Disk> FileStore<D> {
         ensures working { OnOk result (self.new.failed ≡ false) }
         ensures unchanged { (why : DmRefusal) → IsErrOf result (StoreRefusal.Part why) → self.new ≡ self.old }
         ensures memory { IsErrOf result StoreRefusal.Memory → self.new ≡ self.old }
-        ensures failed { IsErrOf result StoreRefusal.Disk → (self.new.failed ≡ true) × Rose (D.fault_count self.old.disk) (D.fault_count self.new.disk) }
+        ensures faults { TellsFaults D.Disk result self.old self.new }
         ensures proceeds { Proceeds D.Disk self.old number self.new }
     {
         let ino = self.inode(key);
@@ -213,7 +212,7 @@ impl<D: Disk> FileStore<D> {
         ensures working { OnOk result (self.new.failed ≡ false) }
         ensures unchanged { (why : DmRefusal) → IsErrOf result (StoreRefusal.Part why) → self.new ≡ self.old }
         ensures memory { IsErrOf result StoreRefusal.Memory → self.new ≡ self.old }
-        ensures failed { IsErrOf result StoreRefusal.Disk → (self.new.failed ≡ true) × Rose (D.fault_count self.old.disk) (D.fault_count self.new.disk) }
+        ensures faults { TellsFaults D.Disk result self.old self.new }
         ensures proceeds { Proceeds D.Disk self.old number self.new }
     {
         // Asked for what is true of the disk.
@@ -246,7 +245,7 @@ impl<D: Disk> FileStore<D> {
         ensures working { OnOk result (self.new.failed ≡ false) }
         ensures unchanged { (why : DmRefusal) → IsErrOf result (StoreRefusal.Part why) → self.new ≡ self.old }
         ensures memory { IsErrOf result StoreRefusal.Memory → (self.new.held ≡ self.old.held) × (self.new.failed ≡ false) }
-        ensures failed { IsErrOf result StoreRefusal.Disk → (self.new.failed ≡ true) × Rose (D.fault_count self.old.disk) (D.fault_count self.new.disk) }
+        ensures faults { TellsFaults D.Disk result self.old self.new }
         ensures proceeds { Proceeds D.Disk self.old number self.new }
     {
         let last = to.min(segments_in(self.body(key).len()));
@@ -277,7 +276,7 @@ impl<D: Disk> FileStore<D> {
         ensures working { OnOk result (self.new.failed ≡ false) }
         ensures unchanged { (why : DmRefusal) → IsErrOf result (StoreRefusal.Part why) → self.new ≡ self.old }
         ensures memory { IsErrOf result StoreRefusal.Memory → (self.new.held ≡ self.old.held) × (self.new.failed ≡ false) }
-        ensures failed { IsErrOf result StoreRefusal.Disk → (self.new.failed ≡ true) × Rose (D.fault_count self.old.disk) (D.fault_count self.new.disk) }
+        ensures faults { TellsFaults D.Disk result self.old self.new }
         ensures proceeds { Proceeds D.Disk self.old number self.new }
     {
         // Asked for what is true of the disk.

@@ -1,7 +1,7 @@
 //! The two ways of an event: records that concern no bytes, and bytes with their records. Each takes the records by one call.
 ghost use Rattle.std.specs.Prelude.{◌≡◌, ◌+◌, ◌-◌, ◌*◌, ◌≤◌, ◌<◌, ◌^◌, true, false, if◌then◌else◌, None, Some, Err, [], length, take, slice_set, IfOk, OnOk, OnErr, IsErrOf, IsSome};
 ghost use Rattle.std.specs.List.{AllByRecursion};
-ghost use Rattle.disk_model.specs.Calls.{Rose};
+ghost use Rattle.disk_model.specs.Calls.{Counts};
 ghost use Rattle.disk_model.specs.Moments.{Keeps};
 ghost use Rattle.commit_slots.specs.Places.{layout_of};
 ghost use Rattle.hsm_types.specs.declared.dm.DmRefusal.{DmRefusal};
@@ -18,7 +18,7 @@ ghost use Rattle.file_store.specs.Rewrites.{effect_of, IsRewrite, IsWithin, HasE
 ghost use Rattle.file_store.specs.Bodies.{IsAlike};
 ghost use Rattle.file_store.specs.Refusals.{is_disk, refused_as};
 ghost use Rattle.file_store.specs.Steps.{IsBesideBlocks, IsStaged};
-ghost use Rattle.file_store.specs.Stores.{Store, Proceeds};
+ghost use Rattle.file_store.specs.Stores.{Store, Proceeds, TellsFaults};
 ghost use Rattle.file_store.specs.Effects.{IsBodiless, IsFreed, held_after, empties};
 
 use crate::loading::slot;
@@ -80,7 +80,7 @@ impl<D: Disk> FileStore<D> {
         ensures goes_on { (later : Store D) → Proceeds D.Disk self.new number later → Proceeds D.Disk self.old number later }
         ensures working { OnOk result (self.new.failed ≡ false) }
         ensures memory { IsErrOf result StoreRefusal.Memory → self.new ≡ self.old }
-        ensures failed { IsErrOf result StoreRefusal.Disk → (self.new.failed ≡ true) × Rose (D.fault_count self.old.disk) (D.fault_count self.new.disk) }
+        ensures faults { TellsFaults D.Disk result self.old self.new }
         ensures no_part { (why : DmRefusal) → IsErrOf result (StoreRefusal.Part why) → ⊥ }
     {
         // Asked for what is true of the disk.
@@ -109,7 +109,7 @@ impl<D: Disk> FileStore<D> {
         ensures working { OnOk result (self.new.failed ≡ false) }
         ensures unchanged { (why : DmRefusal) → IsErrOf result (StoreRefusal.Part why) → self.new ≡ self.old }
         ensures memory { IsErrOf result StoreRefusal.Memory → self.new ≡ self.old }
-        ensures failed { IsErrOf result StoreRefusal.Disk → (self.new.failed ≡ true) × Rose (D.fault_count self.old.disk) (D.fault_count self.new.disk) }
+        ensures faults { TellsFaults D.Disk result self.old self.new }
         ensures proceeds { Proceeds D.Disk self.old number self.new }
     {
         let empty = empties(&change);
@@ -154,7 +154,7 @@ impl<D: Disk> FileStore<D> {
         ensures held { OnOk result (self.new.held ≡ record self.old.held { files = affected_held (effect_of change.entry) key self.old.held.files }) }
         ensures working { OnOk result (self.new.failed ≡ false) }
         ensures memory { IsErrOf result StoreRefusal.Memory → (self.new.held ≡ self.old.held) × (self.new.failed ≡ false) }
-        ensures failed { IsErrOf result StoreRefusal.Disk → (self.new.failed ≡ true) × Rose (D.fault_count self.old.disk) (D.fault_count self.new.disk) }
+        ensures faults { TellsFaults D.Disk result self.old self.new }
         ensures no_part { (why : DmRefusal) → IsErrOf result (StoreRefusal.Part why) → ⊥ }
         ensures proceeds { Proceeds D.Disk self.old number self.new }
     {
@@ -231,7 +231,7 @@ fn stage<D: Disk>(
     ensures room { OnOk result (HasRoom change.entry body.old body.new) }
     ensures err { OnErr result (IsAlike body.old body.new) }
     ensures memory { IsErrOf result MetaRefusal.Memory → (space.new ≡ space.old) × (disk.new ≡ disk.old) }
-    ensures failed { IsErrOf result MetaRefusal.Disk → Rose (D.fault_count disk.old) (D.fault_count disk.new) }
+    ensures faults { Counts (IsErrOf result MetaRefusal.Disk) (D.fault_count disk.old) (D.fault_count disk.new) }
     ensures no_part { (why : DmRefusal) → IsErrOf result (MetaRefusal.Part why) → ⊥ }
 {
     let old = body.len();

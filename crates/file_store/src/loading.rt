@@ -3,7 +3,7 @@ ghost use Rattle.std.specs.Prelude.{◌≡◌, ◌+◌, ◌-◌, ◌*◌, ◌/�
 ghost use Rattle.std.specs.List.{AllByRecursion};
 ghost use Rattle.plain_model.specs.Plain.{written};
 ghost use Rattle.plain_model.specs.Blocks.{blocks_in};
-ghost use Rattle.disk_model.specs.Calls.{HasCause, Rose};
+ghost use Rattle.disk_model.specs.Calls.{HasCause, Counts};
 ghost use Rattle.disk_model.specs.Images.{part};
 ghost use Rattle.commit_slots.specs.Places.{layout_of};
 ghost use Rattle.meta_store.specs.Catalogs.{geometry_of, present};
@@ -42,7 +42,7 @@ pub(crate) fn load_bodies<D: Disk>(
     // On a disk that doesn't tell, too.
     ensures sizes { IfOk result (λ bodies. AreBodies bodies.items catalog.now.files) }
     ensures loaded { IfOk result (λ bodies. (c : List ℕ) → D.gives disk.old c → held_with bodies.items catalog.now ≡ held_at (blocks_in_image catalog.now.geometry c) catalog.now) }
-    ensures failed { IsErrOf result StoreRefusal.Disk → Rose (D.fault_count disk.old) (D.fault_count disk.new) }
+    ensures faults { Counts (IsErrOf result StoreRefusal.Disk) (D.fault_count disk.old) (D.fault_count disk.new) }
 {
     let geometry = catalog.geometry();
     let Ok(mut bodies) = empty(alloc, geometry_of(geometry).files) else {
@@ -88,7 +88,7 @@ fn load_body<D: Disk>(
     ensures size { IfOk result (λ body. length body.bytes ≡ size) }
     ensures here { IfOk result (λ body. (j : ℕ) → is_away body j ≡ offline_at stubs.now j) }
     ensures loaded { IfOk result (λ body. (c : List ℕ) → D.gives disk.old c → body.bytes ≡ body_at (blocks_in_image geometry c) size places.now) }
-    ensures failed { IsErrOf result StoreRefusal.Disk → Rose (D.fault_count disk.old) (D.fault_count disk.new) }
+    ensures faults { Counts (IsErrOf result StoreRefusal.Disk) (D.fault_count disk.old) (D.fault_count disk.new) }
 {
     let Ok(mut body) = zeros(alloc, size, stubs) else {
         return Err(StoreRefusal::Memory);

@@ -1,6 +1,6 @@
 // Opening what a crash may have left.
-ghost use Rattle.std.specs.Prelude.{◌≡◌, List, ℕ, length, IfOk, IfErr};
-ghost use Rattle.disk_model.specs.Calls.{Rose};
+ghost use Rattle.std.specs.Prelude.{◌≡◌, List, ℕ, length, IfOk, IfErr, IsErrOf};
+ghost use Rattle.disk_model.specs.Calls.{Counts};
 ghost use Rattle.disk_model.specs.Moments.{MayBe};
 ghost use Rattle.commit_slots.specs.Places.{layout_of};
 ghost use Rattle.commit_slots.specs.Images.{IsStore};
@@ -36,7 +36,7 @@ pub(crate) fn read_in<D: Disk>(
     ensures space { IfOk result (λ r. r.2 ≡ record { current = marks_of r.0.current; durable = marks_of r.0.current }) }
     ensures not_store { IfErr result (λ e. e ≡ OpenRefusal.NotStore → (c : List ℕ) → D.gives disk.old c → (geometry fsid : ℕ) → IsStore geometry fsid c → ⊥) }
     ensures corrupt { IfErr result (λ e. (place : ℕ) → e ≡ OpenRefusal.Corrupt place → (c : List ℕ) → D.gives disk.old c → IsCorruptAt place c) }
-    ensures failed { IfErr result (λ e. e ≡ OpenRefusal.Disk → Rose (D.fault_count disk.old) (D.fault_count disk.new)) }
+    ensures faults { Counts (IsErrOf result OpenRefusal.Disk) (D.fault_count disk.old) (D.fault_count disk.new) }
 {
     let meta = match MetaStore::open(alloc, disk) {
         Ok(meta) => meta,
@@ -63,7 +63,7 @@ fn read_files<D: Disk>(
     ensures space { IfOk result (λ r. r.1 ≡ record { current = marks_of catalog.now; durable = marks_of catalog.now }) }
     ensures not_store { IfErr result (λ e. e ≡ OpenRefusal.NotStore → ⊥) }
     ensures not_corrupt { IfErr result (λ e. (place : ℕ) → e ≡ OpenRefusal.Corrupt place → ⊥) }
-    ensures failed { IfErr result (λ e. e ≡ OpenRefusal.Disk → Rose (D.fault_count disk.old) (D.fault_count disk.new)) }
+    ensures faults { Counts (IsErrOf result OpenRefusal.Disk) (D.fault_count disk.old) (D.fault_count disk.new) }
 {
     let bodies = match load_bodies(alloc, disk, catalog) {
         Ok(bodies) => bodies,

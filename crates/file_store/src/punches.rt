@@ -1,6 +1,5 @@
 //! Segments of a file whose bytes go away.
 ghost use Rattle.std.specs.Prelude.{◌≡◌, ◌≤◌, ◌-◌, ◌*◌, true, false, Err, None, Some, length, IfOk, OnOk, MatchResult, IsErrOf, IsSome};
-ghost use Rattle.disk_model.specs.Calls.{Rose};
 ghost use Rattle.hsm_types.specs.Segments.{from_on, segments_in};
 ghost use Rattle.hsm_types.specs.Stubs.{any_unpunched, not_punched, stub_at};
 ghost use Rattle.hsm_types.specs.declared.dm.DmRefusal.{DmRefusal};
@@ -11,7 +10,7 @@ ghost use Rattle.plain_model.specs.State.{affected_held, bytes_of};
 ghost use Rattle.meta_store.specs.Catalogs.{CatalogFile, present};
 ghost use Rattle.meta_store.specs.Records.{kept_at};
 ghost use Rattle.file_store.specs.Punches.{away_by, places_between, punch_records};
-ghost use Rattle.file_store.specs.Stores.{Proceeds};
+ghost use Rattle.file_store.specs.Stores.{Proceeds, TellsFaults};
 
 use crate::events::make_durable;
 use crate::loading::slot;
@@ -147,7 +146,7 @@ impl<D: Disk> FileStore<D> {
         ensures held { OnOk result (self.new.held ≡ record self.old.held { files = affected_held (Punches from to) key self.old.held.files }) }
         ensures working { OnOk result (self.new.failed ≡ false) }
         ensures memory { IsErrOf result StoreRefusal.Memory → (self.new.held ≡ self.old.held) × (self.new.failed ≡ false) }
-        ensures failed { IsErrOf result StoreRefusal.Disk → (self.new.failed ≡ true) × Rose (D.fault_count self.old.disk) (D.fault_count self.new.disk) }
+        ensures faults { TellsFaults D.Disk result self.old self.new }
         ensures no_part { (why : DmRefusal) → IsErrOf result (StoreRefusal.Part why) → ⊥ }
         ensures proceeds { Proceeds D.Disk self.old number self.new }
     {

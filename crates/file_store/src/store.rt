@@ -1,6 +1,6 @@
 // A store of files on its disk.
 ghost use Rattle.std.specs.Prelude.{◌≡◌, true, false, List, ℕ, length, ◌+◌, ◌*◌, ◌<◌, ◌≤◌, IfOk, IfErr, IfSome, OnOk, IsErrOf, IsSome};
-ghost use Rattle.disk_model.specs.Calls.{Rose};
+ghost use Rattle.disk_model.specs.Calls.{Counts};
 ghost use Rattle.disk_model.specs.Images.{Alike};
 ghost use Rattle.disk_model.specs.Moments.{MayBe, Keeps, Same};
 ghost use Rattle.commit_slots.specs.Images.{IsStore};
@@ -18,7 +18,7 @@ ghost use Rattle.meta_store.specs.Images.{IsCorruptAt};
 ghost use Rattle.meta_store.specs.Meta.{IsMeta};
 ghost use Rattle.meta_store.specs.Records.{key_on, kept_at, others_total, others_stubs};
 ghost use Rattle.file_store.specs.Effects.{HasInode};
-ghost use Rattle.file_store.specs.Stores.{superblock_of, IsLawful, IsDurable, Proceeds, Shows};
+ghost use Rattle.file_store.specs.Stores.{superblock_of, IsLawful, IsDurable, Proceeds, TellsFaults, Shows};
 
 use crate::loading::slot;
 use crate::opening::read_in;
@@ -72,11 +72,12 @@ impl<D: Disk> FileStore<D> {
         ensures found { IfOk result (λ s. (s.held ≡ s.durable) × (s.failed ≡ false)) }
         ensures durable { IfOk result (λ s. (c : List ℕ) → MayBe D.Disk s.disk c → IsDurable s c) }
         ensures lawful { IfOk result (λ s. IsLawful (geometry_of s.meta.durable.geometry).files s.held) }
+        ensures quiet { IfOk result (λ s. D.fault_count s.disk ≡ D.fault_count disk) }
 
         // Why it wasn't opened.
         ensures not_store { IfErr result (λ e. e.0 ≡ OpenRefusal.NotStore → (c : List ℕ) → D.gives disk c → (geometry fsid : ℕ) → IsStore geometry fsid c → ⊥) }
         ensures corrupt { IfErr result (λ e. (place : ℕ) → e.0 ≡ OpenRefusal.Corrupt place → (c : List ℕ) → D.gives disk c → IsCorruptAt place c) }
-        ensures failed { IfErr result (λ e. e.0 ≡ OpenRefusal.Disk → Rose (D.fault_count disk) (D.fault_count e.1)) }
+        ensures faults { IfErr result (λ e. Counts (e.0 ≡ OpenRefusal.Disk) (D.fault_count disk) (D.fault_count e.1)) }
     {
         match read_in(alloc, &mut disk) {
             Ok((meta, bodies, space)) => Ok(FileStore {
@@ -102,7 +103,7 @@ impl<D: Disk> FileStore<D> {
         ensures working { OnOk result (self.new.failed ≡ false) }
         ensures room { OnOk result (length (free self.new.space) + used self.new.held.files ≡ (geometry_of self.new.meta.durable.geometry).blocks) }
         ensures memory { IsErrOf result StoreRefusal.Memory → self.new ≡ self.old }
-        ensures failed { IsErrOf result StoreRefusal.Disk → (self.new.failed ≡ true) × Rose (D.fault_count self.old.disk) (D.fault_count self.new.disk) }
+        ensures faults { TellsFaults D.Disk result self.old self.new }
         ensures no_part { (why : DmRefusal) → IsErrOf result (StoreRefusal.Part why) → ⊥ }
     {
         // Asked for what is true of the disk.

@@ -45,7 +45,7 @@ fn main(rt: HostRuntime) -> ExitCode {
         Ok(words) => words,
         Err(cause) => return ended(&rt, Some(cause)),
     };
-    let mut host = FileHost::new(&rt);
+    let mut host = FileHost::new(rt.alloc(), &rt);
     let mut source = Reading::new(rt.reader());
     let mut sink = Writing::new(io::writer(&rt));
     let outcome = hsm_main(

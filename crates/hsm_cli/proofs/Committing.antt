@@ -43,16 +43,16 @@ committed_all (Err e) lines old new follows ok = tt
 -- ---- what a run to the end leaves
 
 -- no cause of the run itself is one of writing
-not_to_end : (Fails : Type 0) (source : SourceTold) (why : Cause) → ScriptEnds Fails source why → RanToItsEnd (Some why) → ⊥
-not_to_end Fails source WriteFault ends to_end = ends
-not_to_end Fails source (ScriptRefused line) ends to_end = to_end
-not_to_end Fails source WordsRefused ends to_end = to_end
-not_to_end Fails source NotStore ends to_end = to_end
-not_to_end Fails source (Corrupt place) ends to_end = to_end
-not_to_end Fails source ReadFault ends to_end = to_end
-not_to_end Fails source DiskFault ends to_end = to_end
-not_to_end Fails source HostFault ends to_end = to_end
-not_to_end Fails source NoMemory ends to_end = to_end
+not_to_end : (HostFails DiskFails : Type 0) (source : SourceTold) (why : Cause) → ScriptEnds HostFails DiskFails source why → RanToItsEnd (Some why) → ⊥
+not_to_end HostFails DiskFails source WriteFault ends to_end = ends
+not_to_end HostFails DiskFails source (ScriptRefused line) ends to_end = to_end
+not_to_end HostFails DiskFails source WordsRefused ends to_end = to_end
+not_to_end HostFails DiskFails source NotStore ends to_end = to_end
+not_to_end HostFails DiskFails source (Corrupt place) ends to_end = to_end
+not_to_end HostFails DiskFails source ReadFault ends to_end = to_end
+not_to_end HostFails DiskFails source DiskFault ends to_end = to_end
+not_to_end HostFails DiskFails source HostFault ends to_end = to_end
+not_to_end HostFails DiskFails source NoMemory ends to_end = to_end
 
 -- it is told first, unless memory was wanting
 first_to_end : (why : Cause) (written : Option Cause) → RanToItsEnd (first_of (Some why) written) → RanToItsEnd (Some why)
@@ -67,9 +67,9 @@ first_to_end why (Some WriteFault) to_end = to_end
 first_to_end why (Some DiskFault) to_end = to_end
 first_to_end why (Some HostFault) to_end = to_end
 
-pub ran_well : {T : Type 0} (Fails : Type 0) (source : SourceTold) (ran : Result T Cause) (written : Option Cause) → IfErr ran (λ why. ScriptEnds Fails source why) → RanToItsEnd (first_of (cause_in ran) written) → cause_in ran ≡ None
-ran_well Fails source (Ok x) written ends to_end = refl
-ran_well Fails source (Err why) written ends to_end = absurd (not_to_end Fails source why ends (first_to_end why written to_end))
+pub ran_well : {T : Type 0} (HostFails DiskFails : Type 0) (source : SourceTold) (ran : Result T Cause) (written : Option Cause) → IfErr ran (λ why. ScriptEnds HostFails DiskFails source why) → RanToItsEnd (first_of (cause_in ran) written) → cause_in ran ≡ None
+ran_well HostFails DiskFails source (Ok x) written ends to_end = refl
+ran_well HostFails DiskFails source (Err why) written ends to_end = absurd (not_to_end HostFails DiskFails source why ends (first_to_end why written to_end))
 
 pub on_none : {T : Type 0} (A : Type 0) (result : Result T Cause) → cause_in result ≡ None → OnOk result A → A
 on_none A (Ok x) none on = on

@@ -1,5 +1,5 @@
 -- A run in which nothing fails ends well, or for want of memory.
-use Rattle.std.proofs.Common.{ℕ, ◌≡◌, ◌≢◌, ◌⊎◌, inl, inr, ⊎_elim, List, Option, Some, None, IfSome, IsSome, refl, sym, ◌∙◌, subst}
+use Rattle.std.proofs.Common.{ℕ, ◌≡◌, ◌≢◌, ◌⊎◌, inl, inr, ⊎_elim, List, [], Option, Some, None, IfSome, IsSome, refl, sym, ◌∙◌, subst}
 use Rattle.disk_model.specs.declared.device.Disk as disk
 use Rattle.disk_model.specs.Calls.{Rose}
 use Rattle.meta_store.specs.Catalogs.{Catalog}
@@ -19,7 +19,7 @@ use Rattle.hsm_cli.specs.Openings.{opened_in, base_of}
 use Rattle.hsm_cli.specs.Sources.{script_bytes}
 use Rattle.hsm_cli.specs.Told.{SourceTold, SinkTold, HostTold}
 use Rattle.hsm_cli.specs.Endings.{RunEnds}
-use Rattle.hsm_cli.specs.Clauses.{Why, GivesScript, NothingFails, HasFailed, HasBegun, CanEnd, FindsNothing, TellsStore, StatusClause}
+use Rattle.hsm_cli.specs.Clauses.{Why, GivesScript, NothingFails, HasFailed, HasBegun, CanEnd, FindsNothing, TellsStore, Lacks, StatusClause}
 
 -- an image on which recovery finds something isn't corrupt
 not_corrupt : (place fsid n : ℕ) (c : Catalog) (image : List ℕ) → IsImage fsid n c image → IsCorruptAt place image → ⊥
@@ -37,7 +37,7 @@ module _ (law : (bytes : List ℕ) (lines : List Line) → IsScript bytes lines 
       let refused : IsFirstBad (script_bytes script.bytes) line = subst (λ (given : Option (List ℕ)). IfSome given (λ bytes. IsFirstBad (script_bytes bytes) line)) script.known bad in
       (law (script_bytes script.bytes) script.lines script.script).good line refused
 
-  pub complete_new : (cause : Option Cause) → RunEnds ⊥ source sink cause → (cause ≡ None) ⊎ (cause ≡ Some NoMemory)
+  pub complete_new : (cause : Option Cause) → RunEnds ⊥ ⊥ source sink cause → (cause ≡ None) ⊎ (cause ≡ Some NoMemory)
   complete_new None ends = inl refl
   complete_new (Some NoMemory) ends = inr refl
   complete_new (Some (ScriptRefused line)) ends = absurd (accepted line ends)
@@ -63,7 +63,7 @@ module _ (law : (bytes : List ℕ) (lines : List Line) → IsScript bytes lines 
   complete_store named image geometry fsid n h (Some (Corrupt place)) is found words why = absurd (not_corrupt place fsid n found.catalog image found.is (why image is))
 
 module _ {D : Type 0} (g : disk.Ghosts D) (named : List ℕ → Type 0) (source : SourceTold) (sink : SinkTold) (host : HostTold) (disk : Option D) where
-  why_new : (cause : Option Cause) → RunEnds ⊥ source sink cause → Why g named source sink host disk cause
+  why_new : (cause : Option Cause) → RunEnds ⊥ ⊥ source sink cause → Why g named source sink host disk cause
   why_new None ends = tt
   why_new (Some NoMemory) ends = tt
   why_new (Some (ScriptRefused line)) ends = ends
@@ -76,7 +76,7 @@ module _ {D : Type 0} (g : disk.Ghosts D) (named : List ℕ → Type 0) (source 
   why_new (Some HostFault) ends = absurd ends
 
 -- a run on a store in memory reads a script
-can_end_new : (source : SourceTold) (sink : SinkTold) (cause : Option Cause) → RunEnds ⊥ source sink cause → CanEnd (Some Replay) cause
+can_end_new : (source : SourceTold) (sink : SinkTold) (cause : Option Cause) → RunEnds ⊥ ⊥ source sink cause → CanEnd (Some Replay) cause
 can_end_new source sink None ends = tt
 can_end_new source sink (Some NoMemory) ends = tt
 can_end_new source sink (Some (ScriptRefused line)) ends = tt
@@ -120,12 +120,12 @@ module _ {D : Type 0} (g : disk.Ghosts D) (named : List ℕ → Type 0) (image :
   refused_store host disk opened (Some (Corrupt place)) begun durable source sink why words host_works disk_works = inl tt
   refused_store host disk opened (Some NoMemory) begun durable source sink why words host_works disk_works = inr refl
 
-words_given : (source : SourceTold) (sink : SinkTold) (cause : Option Cause) → RunEnds ⊥ source sink cause → cause ≡ Some WordsRefused → ⊥
-words_given source sink cause ends is = subst (λ (c : Option Cause). RunEnds ⊥ source sink c) is ends
+words_given : (source : SourceTold) (sink : SinkTold) (cause : Option Cause) → RunEnds ⊥ ⊥ source sink cause → cause ≡ Some WordsRefused → ⊥
+words_given source sink cause ends is = subst (λ (c : Option Cause). RunEnds ⊥ ⊥ source sink c) is ends
 
-module _ (law : (bytes : List ℕ) (lines : List Line) → IsScript bytes lines → IsOneScript bytes lines) {D : Type 0} (g : disk.Ghosts D) (holds : List ℕ → List ℕ → Type 0) (source : SourceTold) (sink : SinkTold) (host : HostTold) (o : Outcome D)
+module _ (law : (bytes : List ℕ) (lines : List Line) → IsScript bytes lines → IsOneScript bytes lines) {D M : Type 0} (g : disk.Ghosts D) (holds : List ℕ → List ℕ → Type 0) (source : SourceTold) (sink : SinkTold) (host : HostTold) (o : Outcome D M)
     (told : (o.status ≡ status_of o.cause) × (o.at ≡ place_of o.cause)) where
-  pub status_new : (o.opening ≡ None) × (o.disk ≡ None) × (o.base ≡ 0) → RunEnds ⊥ source sink o.cause → StatusClause g (Some Replay) holds source sink host o
+  pub status_new : (o.opening ≡ None) × (o.disk ≡ None) × (o.base ≡ 0) × (o.drives ≡ []) → RunEnds ⊥ ⊥ source sink o.cause → StatusClause g (Some Replay) holds source sink host o
   status_new new ends = record {
     status = told.0;
     place = told.1;
@@ -134,7 +134,7 @@ module _ (law : (bytes : List ℕ) (lines : List Line) → IsScript bytes lines 
     why = why_new g (λ _. ⊥) source sink host o.disk o.cause ends;
     forms = can_end_new source sink o.cause ends;
     begun = λ opens. absurd opens;
-    lent = λ is. new.1;
+    lent = λ is. inl new.1;
     back = λ names. absurd names;
     opened = rw new.0 tt;
     refused = λ image is. absurd is;
@@ -142,7 +142,7 @@ module _ (law : (bytes : List ℕ) (lines : List Line) → IsScript bytes lines 
   }
 
   pub status_store : (path dir : List ℕ) → o.base ≡ base_of (opened_in o) → o.cause ≢ Some WordsRefused → HasBegun (opened_in o) o.cause → IfSome (opened_in o) (λ s. (s.held ≡ s.durable) × ((image : List ℕ) → holds path image → IsDurable s image))
-      → (o.cause ≡ Some HostFault → o.disk ≡ None) → (o.disk ≡ None → (o.cause ≡ Some HostFault) ⊎ (o.cause ≡ Some NoMemory)) → Why g (holds path) source sink host o.disk o.cause → StatusClause g (Some (ReplayStore path dir)) holds source sink host o
+      → (o.cause ≡ Some HostFault → Lacks o) → (o.disk ≡ None → (o.cause ≡ Some HostFault) ⊎ (o.cause ≡ Some NoMemory)) → Why g (holds path) source sink host o.disk o.cause → StatusClause g (Some (ReplayStore path dir)) holds source sink host o
   status_store path dir base words begun opened lent back why = record {
     status = told.0;
     place = told.1;

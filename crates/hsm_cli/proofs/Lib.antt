@@ -5,8 +5,9 @@ pub mod Endings
 pub mod Legality
 pub mod Crashes
 pub mod Completeness
-pub mod NamedDisks
+pub mod NamedThings
 pub mod HandingOut
 pub mod Files
 pub mod Noted
 pub mod Committing
+pub mod Drives

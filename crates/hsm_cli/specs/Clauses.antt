@@ -1,8 +1,10 @@
 -- What is promised of a run: each clause over the words, the outcome, and what the objects tell.
-use Rattle.std.specs.Prelude.{ℕ, ◌≡◌, ◌≢◌, ◌+◌, ◌⊎◌, ◌↔◌, List, [], take, Bool, true, false, Option, Some, None, IfSome, IsSome}
+use Rattle.std.specs.Prelude.{ℕ, ◌≡◌, ◌≢◌, ◌+◌, ◌⊎◌, ◌↔◌, List, [], ◌∷◌, take, Bool, true, false, Option, Some, None, IfSome, IsSome}
 use Rattle.std.specs.Io.KnownBytes.{Appends, IsAtEnd}
 use Rattle.disk_model.specs.declared.device.Disk as disk
 use Rattle.disk_model.specs.Calls.{Rose, raised}
+use Rattle.media_model.specs.declared.drive.Drive as drive
+use Rattle.media_model.specs.Objects.{Objects}
 use Rattle.disk_model.specs.Moments.{MayBe, LeavesOnly, Keeps, Same}
 use Rattle.commit_slots.specs.Images.{IsStore, IsEmptyStore}
 use Rattle.meta_store.specs.Images.{IsCorruptAt}
@@ -15,6 +17,7 @@ use Rattle.plain_model.specs.Stands.{Stands}
 use Rattle.plain_model.specs.Laws.{IsPlain, IsGoodRun}
 use Rattle.plain_model.specs.Exact.{held_by}
 use Rattle.plain_model.specs.Synced.{synced}
+use Rattle.hsm_policy.specs.Settings.{standard}
 use Rattle.file_store.specs.Stores.{Store, superblock_of, IsRecovered, IsDurable}
 use Rattle.hsm_core.specs.Crashes.{IsPrefix}
 use Rattle.script_text.specs.Scripts.{IsScript, IsFirstBad}
@@ -27,7 +30,7 @@ use Rattle.hsm_cli.specs.Statuses.{status_of, place_of}
 use Rattle.hsm_cli.specs.Sources.{script_bytes, GivesFirst, GivesWhole}
 use Rattle.hsm_cli.specs.Openings.{opened_in, superblock_at, held_at, base_of}
 use Rattle.hsm_cli.specs.Follows.{RunsAll, RunsFirst}
-use Rattle.hsm_cli.specs.Hosts.{IsHanded, HoldsNothing, HoldsOthers, HoldsAll}
+use Rattle.hsm_cli.specs.Hosts.{IsHanded, AreHanded, HoldsNothing, HoldsOthers, HoldsAll, StoresNothing, StoresOthers, StoresAll}
 use Rattle.hsm_cli.specs.Told.{SourceTold, SinkTold, HostTold}
 
 -- ---- the script clause
@@ -42,7 +45,7 @@ HasRun commits source (Some NoMemory) history = (history ≡ []) ⊎ IfSome sour
 HasRun commits source (Some why) history = history ≡ []
 
 -- Only the forms of `replay` run a script. `replay PATH DIR` ends with a commit.
-abbrev pub ScriptClause : {D : Type 0} → Option Form → SourceTold → Outcome D → Type 0
+abbrev pub ScriptClause : {D M : Type 0} → Option Form → SourceTold → Outcome D M → Type 0
 ScriptClause None source o = o.history ≡ []
 ScriptClause (Some (Format path size)) source o = o.history ≡ []
 ScriptClause (Some Replay) source o = HasRun false source o.cause o.history
@@ -55,8 +58,9 @@ pub record IsUnread (source : SourceTold) : Type 0 where
   pub left : source.left ≡ source.given
   pub faults : source.now ≡ source.before
 
--- How much of the source a run on a store reads: a part of it where reading failed or memory was wanting, else the whole.
+-- How much of the source a run on a store reads: nothing where the host failed, a part of it where reading failed or memory was wanting, else the whole.
 abbrev pub HasRead : SourceTold → Option Cause → Type 0
+HasRead source (Some HostFault) = IsUnread source
 HasRead source (Some ReadFault) = GivesFirst source.given source.left
 HasRead source (Some NoMemory) = GivesFirst source.given source.left
 HasRead source other = GivesWhole source.given source.left
@@ -66,7 +70,7 @@ abbrev pub HasReadOn : {S : Type 0} → Option S → SourceTold → Option Cause
 HasReadOn None source cause = IsUnread source
 HasReadOn (Some s) source cause = HasRead source cause
 
-abbrev pub ReadingClause : {D : Type 0} → Option Form → SourceTold → Outcome D → Type 0
+abbrev pub ReadingClause : {D M : Type 0} → Option Form → SourceTold → Outcome D M → Type 0
 ReadingClause None source o = IsUnread source
 ReadingClause (Some (Format path size)) source o = IsUnread source
 ReadingClause (Some Replay) source o = HasRead source o.cause
@@ -88,7 +92,7 @@ pub record HasFailed {D : Type 0} (g : disk.Ghosts D) (given : Option D) : Type 
 
 -- An answer for a fault of the disk comes only where the disk has failed, and then the run ends for that fault, or for want of memory. A run on a store that was opened ends
 -- for a fault of the disk only where an entry says so.
-pub record LegalityClause {D : Type 0} (g : disk.Ghosts D) (o : Outcome D) : Type 0 where
+pub record LegalityClause {D M : Type 0} (g : disk.Ghosts D) (o : Outcome D M) : Type 0 where
   pub from : IsGoodOver (opened_in o) o.history
   pub caused : has_fault o.history ≡ true → HasFailed g o.disk
   pub told : o.cause ≡ Some DiskFault → IsSome (opened_in o) → has_fault o.history ≡ true
@@ -98,7 +102,7 @@ pub record LegalityClause {D : Type 0} (g : disk.Ghosts D) (o : Outcome D) : Typ
 abbrev pub IsPlainOver : {D : Type 0} → Option (Store D) → List Entry → Type 0
 IsPlainOver opened history = (P : List File) → Stands (held_at opened).files P → IsPlain P history
 
-abbrev pub PlainClause : {D : Type 0} → Outcome D → Type 0
+abbrev pub PlainClause : {D M : Type 0} → Outcome D M → Type 0
 PlainClause o = IsPlainOver (opened_in o) o.history
 
 -- ---- the crash clause
@@ -107,8 +111,9 @@ PlainClause o = IsPlainOver (opened_in o) o.history
 abbrev pub IsWhole : {D : Type 0} → Store D → List Entry → List ℕ → Type 0
 IsWhole opened history image = IsRecovered opened.meta.durable.geometry opened.meta.fsid (opened.meta.number + synced history) (held_by (superblock_of opened) opened.meta.number opened.held history) image
 
--- the script could not be read, or was refused, so no line was run
+-- the host failed, or the script could not be read, or was refused, so no line was run
 abbrev pub IsBeforeRun : Option Cause → Type 0
+IsBeforeRun (Some HostFault) = Unit {0}
 IsBeforeRun (Some (ScriptRefused line)) = Unit {0}
 IsBeforeRun (Some ReadFault) = Unit {0}
 IsBeforeRun other = ⊥
@@ -121,7 +126,7 @@ RanToItsEnd (Some other) = ⊥
 
 -- A crash at any moment since the host handed the disk out leaves what the opened store and the first entries make, under the number of the last of
 -- them; and a crash from now on leaves all that was synced. Where the script was run to its end it leaves what all entries make, under the number of
--- the last one before the commit. Where no line was run, as the script could not be read or was refused, the disk stays as it was.
+-- the last one before the commit. Where no line was run, as the host failed, or the script could not be read or was refused, the disk stays as it was.
 pub record IsCrashSafe {D : Type 0} (g : disk.Ghosts D) (held : List ℕ → Type 0) (opened : Store D) (history : List Entry) (cause : Option Cause) (disk : D) : Type 0 where
   pub handed : D
   pub by_host : IsHanded g held handed
@@ -143,7 +148,7 @@ LeavesSafe g held (Some opened) history cause None = ⊥
 LeavesSafe g held None history cause None = history ≡ []
 
 -- Only `replay PATH DIR` opens a store of the host.
-abbrev pub CrashClause : {D : Type 0} → disk.Ghosts D → Option Form → (List ℕ → List ℕ → Type 0) → Outcome D → Type 0
+abbrev pub CrashClause : {D M : Type 0} → disk.Ghosts D → Option Form → (List ℕ → List ℕ → Type 0) → Outcome D M → Type 0
 CrashClause g (Some (ReplayStore path dir)) holds o = LeavesSafe g (holds path) (opened_in o) o.history o.cause o.disk
 CrashClause g (Some (Format path size)) holds o = opened_in o ≡ None
 CrashClause g (Some Replay) holds o = opened_in o ≡ None
@@ -156,7 +161,7 @@ pub record IsFormatted {D : Type 0} (g : disk.Ghosts D) (geometry fsid : ℕ) (g
   pub empty : (c : List ℕ) → MayBe g disk c → IsEmptyStore geometry fsid c
   pub recovered : (c : List ℕ) → MayBe g disk c → IsRecovered geometry fsid 0 nothing_held c
 
-abbrev pub FormatClause : {D : Type 0} → disk.Ghosts D → Option Form → Outcome D → Type 0
+abbrev pub FormatClause : {D M : Type 0} → disk.Ghosts D → Option Form → Outcome D M → Type 0
 FormatClause g (Some (Format path size)) o = o.cause ≡ None → IsFormatted g (geometry_number size) (fsid_of path) o.disk
 FormatClause g (Some Replay) o = Unit {0}
 FormatClause g (Some (ReplayStore path dir)) o = Unit {0}
@@ -169,18 +174,45 @@ abbrev pub HandsOut : {D : Type 0} → List ℕ → (List ℕ → List ℕ → T
 HandsOut path old new (Some disk) = HoldsNothing (new path) × HoldsOthers path old new
 HandsOut path old new None = HoldsAll old new
 
--- `format` asks the host once to make a disk, and `replay PATH DIR` once for one that is there. They change nothing else of what it holds; what came of
+-- `format` asks the host once to make a disk, and `replay PATH DIR` once for one that is there. They change nothing else of the disks that it holds; what came of
 -- it is given back. Words that name no disk leave the host alone.
-abbrev pub HostClause : {H D : Type 0} → (H → List ℕ → List ℕ → Type 0) → (H → ℕ) → (H → ℕ) → Option Form → H → H → Outcome D → Type 0
+abbrev pub HostClause : {H D M : Type 0} → (H → List ℕ → List ℕ → Type 0) → (H → ℕ) → (H → ℕ) → Option Form → H → H → Outcome D M → Type 0
 HostClause holds makes openings None old new o = (new ≡ old) × (o.disk ≡ None)
 HostClause holds makes openings (Some Replay) old new o = (new ≡ old) × (o.disk ≡ None)
 HostClause holds makes openings (Some (Format path size)) old new o = HandsOut path (holds old) (holds new) o.disk × (makes new ≡ raised (makes old)) × (openings new ≡ openings old)
 HostClause holds makes openings (Some (ReplayStore path dir)) old new o = HandsOut path (holds old) (holds new) o.disk × (openings new ≡ raised (openings old)) × (makes new ≡ makes old)
 
+-- ---- the drives clause
+
+-- On a store that was opened a run asks for the drives of the default settings before it reads the script. What came is given back just as it was handed out: no call of a run reads
+-- or writes a volume. None came where the host failed, and perhaps where memory was wanting.
+abbrev pub GivesBack : {S M : Type 0} → drive.Ghosts M → (ℕ → Objects → Type 0) → Option S → Option Cause → List M → Type 0
+GivesBack g stored None cause drives = drives ≡ []
+GivesBack g stored (Some opened) (Some HostFault) drives = drives ≡ []
+GivesBack g stored (Some opened) (Some NoMemory) drives = (drives ≡ []) ⊎ AreHanded g stored standard.drives standard.volumes standard.capacity drives
+GivesBack g stored (Some opened) cause drives = AreHanded g stored standard.drives standard.volumes standard.capacity drives
+
+-- Drives came, and the host has no objects in their folder any more and in all others what it had; or none came, and it has in all what it had.
+abbrev pub HandsDrives : {M : Type 0} → List ℕ → (List ℕ → ℕ → Objects → Type 0) → (List ℕ → ℕ → Objects → Type 0) → List M → Type 0
+HandsDrives dir old new [] = StoresAll old new
+HandsDrives dir old new (d ∷ ds) = StoresNothing (new dir) × StoresOthers dir old new
+
+-- how often the host was asked for drives: once more for a store that was opened
+abbrev pub asked_by : {S : Type 0} → Option S → ℕ → ℕ
+asked_by None count = count
+asked_by (Some opened) count = raised count
+
+-- Only `replay PATH DIR` asks for drives, and for those of its folder.
+abbrev pub DrivesClause : {H D M : Type 0} → drive.Ghosts M → (H → List ℕ → ℕ → Objects → Type 0) → (H → ℕ) → Option Form → H → H → Outcome D M → Type 0
+DrivesClause g stores askings (Some (ReplayStore path dir)) old new o = GivesBack g (stores old dir) (opened_in o) o.cause o.drives × HandsDrives dir (stores old) (stores new) o.drives × (askings new ≡ asked_by (opened_in o) (askings old))
+DrivesClause g stores askings (Some (Format path size)) old new o = (o.drives ≡ []) × StoresAll (stores old) (stores new) × (askings new ≡ askings old)
+DrivesClause g stores askings (Some Replay) old new o = o.drives ≡ []
+DrivesClause g stores askings None old new o = o.drives ≡ []
+
 -- ---- the output clause
 
 -- The sink took a beginning of the history's text; all of it, where the run ended well, and where the sink did not fail and there was memory.
-pub record OutputClause {D : Type 0} (o : Outcome D) (sink : SinkTold) : Type 0 where
+pub record OutputClause {D M : Type 0} (o : Outcome D M) (sink : SinkTold) : Type 0 where
   pub first : (n : ℕ) × Appends sink.old sink.new (take n (text_of o.history))
   pub done : o.cause ≡ None → Appends sink.old sink.new (text_of o.history)
   pub all : ¬ (Rose sink.before sink.now) → o.cause ≢ Some NoMemory → Appends sink.old sink.new (text_of o.history)
@@ -240,10 +272,10 @@ CanEnd form (Some HostFault) = NamesDisk form
 CanEnd form other = Unit {0}
 
 -- Whether the store of the host was opened, by what went wrong first. So what is wrong with the store is told before what is wrong with the script, and
--- a run that ends well has its store. Faults of the disk and want of memory come before the opening and after it.
+-- a run that ends well has its store. Faults of the host and of the disk and want of memory come before the opening and after it.
 abbrev pub HasBegun : {S : Type 0} → Option S → Option Cause → Type 0
 HasBegun opened (Some WordsRefused) = opened ≡ None
-HasBegun opened (Some HostFault) = opened ≡ None
+HasBegun opened (Some HostFault) = Unit {0}
 HasBegun opened (Some NotStore) = opened ≡ None
 HasBegun opened (Some (Corrupt place)) = opened ≡ None
 HasBegun opened (Some DiskFault) = Unit {0}
@@ -286,8 +318,12 @@ pub record NothingFails {D : Type 0} (g : disk.Ghosts D) (source : SourceTold) (
   pub host_works : ¬ (Rose host.before host.now)
   pub disk_works : ¬ (HasFailed g disk)
 
--- When each status comes. A disk that the host handed out is given back, and the host has failed only where it handed none out. A run of a command that finds its store and its script, and in which nothing fails, ends with status 0, or 8.
-pub record StatusClause {D : Type 0} (g : disk.Ghosts D) (form : Option Form) (holds : List ℕ → List ℕ → Type 0) (source : SourceTold) (sink : SinkTold) (host : HostTold) (o : Outcome D) : Type 0 where
+-- The host has failed: it handed out no disk, or, for a store that was opened, no drives.
+abbrev pub Lacks : {D M : Type 0} → Outcome D M → Type 0
+Lacks o = (o.disk ≡ None) ⊎ (IsSome (opened_in o) × (o.drives ≡ []))
+
+-- When each status comes. A disk that the host handed out is given back, and the host has failed only where it didn't hand out one, or drives. A run of a command that finds its store and its script, and in which nothing fails, ends with status 0, or 8.
+pub record StatusClause {D M : Type 0} (g : disk.Ghosts D) (form : Option Form) (holds : List ℕ → List ℕ → Type 0) (source : SourceTold) (sink : SinkTold) (host : HostTold) (o : Outcome D M) : Type 0 where
   pub status : o.status ≡ status_of o.cause
   pub place : o.at ≡ place_of o.cause
   pub base : o.base ≡ base_of (opened_in o)
@@ -295,7 +331,7 @@ pub record StatusClause {D : Type 0} (g : disk.Ghosts D) (form : Option Form) (h
   pub why : Why g (IsNamed form holds) source sink host o.disk o.cause
   pub forms : CanEnd form o.cause
   pub begun : OpensStore form → HasBegun (opened_in o) o.cause
-  pub lent : o.cause ≡ Some HostFault → o.disk ≡ None
+  pub lent : o.cause ≡ Some HostFault → Lacks o
   pub back : NamesDisk form → o.disk ≡ None → (o.cause ≡ Some HostFault) ⊎ (o.cause ≡ Some NoMemory)
   pub opened : IfSome (opened_in o) (λ s. (s.held ≡ s.durable) × ((image : List ℕ) → IsNamed form holds image → IsDurable s image))
   pub refused : (image : List ℕ) → IsNamed form holds image → FindsNothing image → ¬ (Rose host.before host.now) → ¬ (HasFailed g o.disk) → TellsStore o.cause ⊎ (o.cause ≡ Some NoMemory)

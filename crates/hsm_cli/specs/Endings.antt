@@ -12,13 +12,20 @@ abbrev pub cause_in : {T : Type 0} → Result T Cause → Option Cause
 cause_in (Ok x) = None
 cause_in (Err why) = Some why
 
--- why a script was not read or not run to its end, given what a fault of the disk means
-abbrev pub ScriptEnds : Type 0 → SourceTold → Cause → Type 0
-ScriptEnds Fails source (ScriptRefused line) = IfSome source.given (λ bytes. IsFirstBad (script_bytes bytes) line)
-ScriptEnds Fails source ReadFault = Rose source.before source.now
-ScriptEnds Fails source DiskFault = Fails
-ScriptEnds Fails source NoMemory = Unit {0}
-ScriptEnds Fails source other = ⊥
+-- what can end a run before its script is read
+abbrev pub IsBeforeReading : Cause → Type 0
+IsBeforeReading HostFault = Unit {0}
+IsBeforeReading NoMemory = Unit {0}
+IsBeforeReading other = ⊥
+
+-- why a script was not read or not run to its end, given what a fault of the host and one of the disk mean
+abbrev pub ScriptEnds : Type 0 → Type 0 → SourceTold → Cause → Type 0
+ScriptEnds HostFails DiskFails source (ScriptRefused line) = IfSome source.given (λ bytes. IsFirstBad (script_bytes bytes) line)
+ScriptEnds HostFails DiskFails source ReadFault = Rose source.before source.now
+ScriptEnds HostFails DiskFails source DiskFault = DiskFails
+ScriptEnds HostFails DiskFails source HostFault = HostFails
+ScriptEnds HostFails DiskFails source NoMemory = Unit {0}
+ScriptEnds HostFails DiskFails source other = ⊥
 
 -- why a transcript was not written
 abbrev pub WritingEnds : SinkTold → Cause → Type 0
@@ -27,10 +34,10 @@ WritingEnds sink NoMemory = Unit {0}
 WritingEnds sink other = ⊥
 
 -- either
-abbrev pub RunEnds : Type 0 → SourceTold → SinkTold → Option Cause → Type 0
-RunEnds Fails source sink None = Unit {0}
-RunEnds Fails source sink (Some WriteFault) = Rose sink.before sink.now
-RunEnds Fails source sink (Some why) = ScriptEnds Fails source why
+abbrev pub RunEnds : Type 0 → Type 0 → SourceTold → SinkTold → Option Cause → Type 0
+RunEnds HostFails DiskFails source sink None = Unit {0}
+RunEnds HostFails DiskFails source sink (Some WriteFault) = Rose sink.before sink.now
+RunEnds HostFails DiskFails source sink (Some why) = ScriptEnds HostFails DiskFails source why
 
 -- What went wrong first in running and writing. Want of memory for the transcript is told before all else, as then it isn't whole.
 abbrev pub first_of : Option Cause → Option Cause → Option Cause
@@ -45,3 +52,9 @@ FormatEnds Fails host (Some DiskFault) = Fails
 FormatEnds Fails host (Some HostFault) = Rose host.before host.now
 FormatEnds Fails host (Some NoMemory) = Unit {0}
 FormatEnds Fails host (Some other) = ⊥
+
+-- why drives were not handed out
+abbrev pub HandingEnds : HostTold → Cause → Type 0
+HandingEnds host HostFault = Rose host.before host.now
+HandingEnds host NoMemory = Unit {0}
+HandingEnds host other = ⊥

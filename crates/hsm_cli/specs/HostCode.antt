@@ -4,7 +4,8 @@ use Rattle.std.specs.FinMap.{code}
 use Rattle.std.specs.Coded.{Coded, code_by, coded×, coded_list, coded_option, coded_ℕ}
 use Rattle.disk_model.specs.Fuse.{Fused}
 use Rattle.disk_model.specs.Medium.{Recorded}
-use Rattle.hsm_cli.specs.MemHosts.{Disks, Hosted}
+use Rattle.media_model.specs.Faults.{Faulty}
+use Rattle.hsm_cli.specs.MemHosts.{Named, Hosted}
 
 abbrev fused_code : Coded Recorded → Coded (Fused Recorded)
 fused_code disk =
@@ -13,11 +14,11 @@ fused_code disk =
     (λ p. record { inner = p.0; fuse = p.1.0; blown = p.1.1 })
     (λ _. refl)
 
--- from the code of a disk in memory
-abbrev pub hosted_code : Coded Recorded → Coded Hosted
-hosted_code disk =
-    code_by (Disks × (List ℕ × (ℕ × (ℕ × (ℕ × Option ℕ)))))
-    (coded× (code (coded_list coded_ℕ) (fused_code disk)) (coded× (coded_list coded_ℕ) (coded× coded_ℕ (coded× coded_ℕ (coded× coded_ℕ (coded_option coded_ℕ))))))
-    (λ h. (h.disks, (h.failing, (h.makes, (h.openings, (h.faults, h.fuse))))))
-    (λ p. record { disks = p.0; failing = p.1.0; makes = p.1.1.0; openings = p.1.1.1.0; faults = p.1.1.1.1.0; fuse = p.1.1.1.1.1 })
+-- from the codes of a disk and of a drive in memory
+abbrev pub hosted_code : Coded Recorded → Coded Faulty → Coded Hosted
+hosted_code disk drive =
+    code_by (Named (Fused Recorded) × (Named (List Faulty) × (List ℕ × (ℕ × (ℕ × (ℕ × (ℕ × Option ℕ)))))))
+    (coded× (code (coded_list coded_ℕ) (fused_code disk)) (coded× (code (coded_list coded_ℕ) (coded_list drive)) (coded× (coded_list coded_ℕ) (coded× coded_ℕ (coded× coded_ℕ (coded× coded_ℕ (coded× coded_ℕ (coded_option coded_ℕ))))))))
+    (λ h. (h.disks, (h.folders, (h.failing, (h.makes, (h.openings, (h.askings, (h.faults, h.fuse))))))))
+    (λ p. record { disks = p.0; folders = p.1.0; failing = p.1.1.0; makes = p.1.1.1.0; openings = p.1.1.1.1.0; askings = p.1.1.1.1.1.0; faults = p.1.1.1.1.1.1.0; fuse = p.1.1.1.1.1.1.1 })
     (λ _. refl)

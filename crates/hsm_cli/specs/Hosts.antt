@@ -1,8 +1,11 @@
 -- What a call of a host does to what its names hold, and why it is refused.
-use Rattle.std.specs.Prelude.{◌≡◌, ◌≢◌, ℕ, ◌≤◌, List, Result, IfErr}
+use Rattle.std.specs.Prelude.{◌≡◌, ◌≢◌, true, ℕ, ◌≤◌, ◌<◌, ◌%◌, List, [], length, slice_get, Result, IfErr, IfSome}
+use Rattle.std.specs.List.{AllByRecursion}
 use Rattle.disk_model.specs.declared.device.Disk as disk
 use Rattle.disk_model.specs.Images.{Within, Alike}
 use Rattle.disk_model.specs.Calls.{Rose}
+use Rattle.media_model.specs.declared.drive.Drive as drive
+use Rattle.media_model.specs.Objects.{Objects, Alike as AlikeObjects}
 use Rattle.hsm_cli.specs.declared.hosts.HostRefusal.{HostRefusal}
 use Rattle.hsm_cli.specs.declared.hosts.HostRefusal.TheVariants.{Failed}
 
@@ -28,3 +31,26 @@ pub record IsHanded {D : Type 0} (g : disk.Ghosts D) (held : List ℕ → Type 0
   pub given : (c : List ℕ) → held c → g.gives d c
   pub settled : Within (g.gives d) (g.may_leave d)
   pub counted : g.fault_count d ≡ 0
+
+-- ---- folders of volumes
+
+-- no objects
+abbrev pub StoresNothing : (ℕ → Objects → Type 0) → Type 0
+StoresNothing stored = (v : ℕ) (o : Objects) → stored v o → o ≡ []
+
+-- each folder but this one has what it had
+abbrev pub StoresOthers : List ℕ → (List ℕ → ℕ → Objects → Type 0) → (List ℕ → ℕ → Objects → Type 0) → Type 0
+StoresOthers name old new = (other : List ℕ) → other ≢ name → (v : ℕ) → AlikeObjects (old other v) (new other v)
+
+-- each folder has what it had
+abbrev pub StoresAll : (List ℕ → ℕ → Objects → Type 0) → (List ℕ → ℕ → Objects → Type 0) → Type 0
+StoresAll old new = (name : List ℕ) (v : ℕ) → AlikeObjects (old name v) (new name v)
+
+-- Drives over these volumes as the host handed them out: as many as were asked for, none has ever failed, each volume may have so many bytes, and volume v
+-- is in the drive v mod their number, with the objects that the host had of it.
+pub record AreHanded {M : Type 0} (g : drive.Ghosts M) (stored : ℕ → Objects → Type 0) (drives volumes capacity : ℕ) (given : List M) : Type 0 where
+  pub count : length given ≡ drives
+  pub counted : AllByRecursion (λ d. g.fault_count d ≡ 0) given
+  pub room : AllByRecursion (λ d. g.capacity_of d ≡ capacity) given
+  pub has : (v : ℕ) → v < volumes → IfSome (slice_get given (v % drives)) (λ d. g.has d v ≡ true)
+  pub there : (v : ℕ) (o : Objects) → v < volumes → stored v o → IfSome (slice_get given (v % drives)) (λ d. g.gives d v o)

@@ -7,7 +7,7 @@ use Rattle.file_store.specs.Stores.{Store, superblock_of}
 use Rattle.hsm_cli.specs.declared.outcomes.Outcome.{Outcome}
 
 -- the store that was opened, if one was
-abbrev pub opened_in : {D : Type 0} → Outcome D → Option (Store D)
+abbrev pub opened_in : {D M : Type 0} → Outcome D M → Option (Store D)
 opened_in o = option_map (λ s. s.value) o.opening
 
 -- the store that `replay` makes in memory: small, with the file system id 1

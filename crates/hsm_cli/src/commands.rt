@@ -44,8 +44,7 @@ pub enum Command<'a> {
     /// Run the script from the source on a new small store in memory.
     Replay,
 
-    /// Run the script from the source on the store of the disk of that name, and then commit. The folder of volumes isn't
-    /// opened as long as no call reaches a volume.
+    /// Run the script from the source on the store of the disk of that name with the volumes of that folder, and then commit.
     ReplayStore { path: &'a str, dir: &'a str },
 }
 

@@ -1,55 +1,64 @@
-//! A host of disks in memory, with calls that fail.
-ghost use Rattle.std.specs.Prelude.{◌≡◌, ◌↔◌, None, Some, IfOk, OnOk, IfErr, IsTrue, option_map};
+//! A host of disks and of folders of volumes in memory, with calls that fail.
+ghost use Rattle.std.specs.Prelude.{◌≡◌, ◌↔◌, true, false, None, Some, IfSome, IfOk, OnOk, IfErr, IsTrue, option_map};
 ghost use Rattle.std.specs.BTreeMap.{IsUnchanged, Updates};
 ghost use Rattle.std.specs.String.{string_cmp};
 ghost use Rattle.std.specs.FinMap as map;
 ghost use Rattle.hsm_cli.specs.Hosts.{HasHostCause};
-ghost use Rattle.hsm_cli.specs.MemHosts.{IsAtRest, at_rest, image_at, blank, IsToFail, asked_to_make, asked_for, faulted, Makes, Gives};
+ghost use Rattle.media_model.specs.Sharing.{AreNew};
+ghost use Rattle.hsm_cli.specs.MemHosts.{IsAtRest, AreUnfailed, at_rest, unfailed, image_at, blank, fit, IsToFail, asked_to_make, asked_for, asked_for_drives, faulted, Makes, Gives, Hands, IsUnfit};
 
 use crate::hosts::{Host, HostRefusal, fault};
 use disk_model::{FuseDisk, MemDisk};
+use hsm_types::ListOf;
+use media_model::{MemDrive, have_room, have_volumes, mem_drives};
 use std::alloc::{AllocError, Global};
 use std::collections::BTreeMap;
 use std::marker::Model;
 
-/// Disks in memory by name. The calls of `make` and `disk` are numbered from 0, and those whose numbers are in its list
-/// fail. A disk that is made passes all its calls on, unless `fuse_made` says otherwise.
+/// Disks in memory by name, and the drives of each folder by its name. The calls of `make`, `disk` and `drives` are numbered from 0, and those whose
+/// numbers are in its list fail. A disk that is made passes all its calls on, unless `fuse_made` says otherwise. A folder whose drives were put back has
+/// these; where others are asked for, in number, in volumes or in room, that is a fault, and they stay.
 #[derive(Drop)]
 pub struct MemHost {
     alloc: Global,
     disks: BTreeMap<String, FuseDisk<MemDisk>>,
+    folders: BTreeMap<String, ListOf<MemDrive>>,
     failing: Vec<u64>,
     makes: u64,
     openings: u64,
+    askings: u64,
     faults: u64,
     fuse: Option<u64>,
 }
 
 impl Model for MemHost {
     ghost use Rattle.disk_model.specs.contracts.memory.MemDisk as disk;
-    ghost use Rattle.hsm_cli.specs.MemHosts.{Hosted, disks_of, AllAtRest};
+    ghost use Rattle.media_model.specs.contracts.memory.MemDrive as drive;
+    ghost use Rattle.hsm_cli.specs.MemHosts.{Hosted, by_name, EachIs, IsAtRest, AreUnfailed};
     ghost use Rattle.hsm_cli.specs.HostCode.{hosted_code};
 
     ghost Value = { Hosted };
 
-    ghost coded = { hosted_code disk.the_row.coded };
+    ghost coded = { hosted_code disk.the_row.coded drive.the_row.coded };
 
-    ghost view = { λ h. record { disks = disks_of h.disks; failing = h.failing.items; makes = h.makes; openings = h.openings; faults = h.faults; fuse = h.fuse } };
+    ghost view = { λ h. record { disks = by_name h.disks; folders = by_name h.folders; failing = h.failing.items; makes = h.makes; openings = h.openings; askings = h.askings; faults = h.faults; fuse = h.fuse } };
 
-    ghost invariant = { λ h. AllAtRest (disks_of h.disks) };
+    ghost invariant = { λ h. EachIs IsAtRest (by_name h.disks) × EachIs AreUnfailed (by_name h.folders) };
 }
 
 impl MemHost {
-    /// A host without disks. The calls with these numbers will fail.
+    /// A host without disks and folders. The calls with these numbers will fail.
     pub fn new(alloc: Global, failing: Vec<u64>) -> MemHost
-        ensures { result ≡ record { disks = map.empty; failing = failing.items; makes = 0; openings = 0; faults = 0; fuse = None } }
+        ensures { result ≡ record { disks = map.empty; folders = map.empty; failing = failing.items; makes = 0; openings = 0; askings = 0; faults = 0; fuse = None } }
     {
         MemHost {
             alloc,
             disks: BTreeMap::new(alloc),
+            folders: BTreeMap::new(alloc),
             failing,
             makes: 0,
             openings: 0,
+            askings: 0,
             faults: 0,
             fuse: None,
         }
@@ -87,12 +96,28 @@ impl MemHost {
         put(&mut self.disks, name, disk)
     }
 
+    /// Puts drives back as those of that folder, in place of what it held, with their counts of faults at 0. Where there is no memory for the name, the
+    /// drives come back as they were.
+    pub fn put_drives(
+        &mut self,
+        dir: &str,
+        drives: ListOf<MemDrive>,
+    ) -> Result<(), (AllocError, ListOf<MemDrive>)>
+        ensures put { OnOk result (self.new ≡ record self.old { folders = map.insert self.old.folders dir.now (unfailed drives) }) }
+        ensures refused { IfErr result (λ e. (e.1 ≡ drives) × (self.new ≡ self.old)) }
+    {
+        let Ok(name) = String::from_str(self.alloc, dir) else {
+            return Err((AllocError, drives));
+        };
+        put_folder(&mut self.folders, name, drives)
+    }
+
     // Whether the next call is to fail.
     fn is_to_fail(&self) -> bool
         ensures { IsTrue result ↔ IsToFail self.now }
     {
-        self.failing
-            .contains(&self.makes.saturating_add(self.openings))
+        let calls = self.makes.saturating_add(self.openings);
+        self.failing.contains(&calls.saturating_add(self.askings))
     }
 
     // Counts a call of `make`, which fails if its number is listed.
@@ -117,6 +142,20 @@ impl MemHost {
     {
         let fails = self.is_to_fail();
         self.openings = self.openings.saturating_add(1);
+        if fails {
+            return Err(fault(&mut self.faults));
+        }
+        Ok(())
+    }
+
+    // Counts a call of `drives`, which fails if its number is listed.
+    fn begin_handing(&mut self) -> Result<(), HostRefusal>
+        ensures ok { OnOk result (¬ (IsToFail self.old) × (self.new ≡ asked_for_drives self.old)) }
+        ensures err { IfErr result (λ e. (e ≡ HostRefusal.Failed) × IsToFail self.old × (self.new ≡ faulted (asked_for_drives self.old))) }
+        ensures cause { HasHostCause result self.old.faults self.new.faults }
+    {
+        let fails = self.is_to_fail();
+        self.askings = self.askings.saturating_add(1);
         if fails {
             return Err(fault(&mut self.faults));
         }
@@ -149,25 +188,65 @@ impl MemHost {
             None => Err(fault(&mut self.faults)),
         }
     }
+
+    // `drives`, with what it answers and leaves.
+    fn hand(
+        &mut self,
+        dir: &str,
+        drives: u32,
+        volumes: u32,
+        capacity: u64,
+    ) -> Result<ListOf<MemDrive>, HostRefusal>
+        ensures hands { Hands dir.now drives volumes capacity self.old self.new result }
+        ensures unfailed { IfOk result AreUnfailed }
+        ensures cause { HasHostCause result self.old.faults self.new.faults }
+    {
+        self.begin_handing()?;
+        if !self.has_fit(dir, drives, volumes, capacity) {
+            return Err(fault(&mut self.faults));
+        }
+        if let Some(held) = self.folders.remove(dir) {
+            return Ok(held);
+        }
+        new_drives(self.alloc, drives, volumes, capacity)
+    }
+
+    // Whether the folder isn't there, or has just the drives that are asked for.
+    fn has_fit(&self, dir: &str, drives: u32, volumes: u32, capacity: u64) -> bool
+        ensures fit { result ≡ true → IfSome (map.get self.now.folders dir.now) (λ held. fit held drives volumes capacity ≡ true) }
+        ensures unfit { result ≡ false → IsUnfit (map.get self.now.folders dir.now) drives volumes capacity }
+    {
+        match self.folders.get(dir) {
+            Some(held) => fit(held, drives, volumes, capacity),
+            None => true,
+        }
+    }
 }
 
 impl Host for MemHost {
-    ghost use Rattle.std.specs.Prelude.{◌≡◌, ℕ, List, IfOk, OnOk, OnErr, length, replicate};
+    ghost use Rattle.std.specs.Prelude.{◌≡◌, ℕ, List, Ok, Err, IfOk, IfErr, OnOk, OnErr, length, replicate};
     ghost use Rattle.disk_model.specs.Images.{Within};
     ghost use Rattle.disk_model.specs.Calls.{both_faults, raised};
     ghost use Rattle.disk_model.specs.Medium.{medium_of, IsGiven, MayLeave};
-    ghost use Rattle.hsm_cli.specs.Hosts.{HoldsNothing, HoldsOthers, HoldsAll, HasHostCause};
-    ghost use Rattle.hsm_cli.specs.MemHosts.{HasImage, Makes, Gives};
+    ghost use Rattle.hsm_cli.specs.Hosts.{HoldsNothing, HoldsOthers, HoldsAll, StoresNothing, StoresOthers, StoresAll, AreHanded, HasHostCause};
+    ghost use Rattle.media_model.specs.contracts.memory.MemDriveDrive.TheImpl as drive;
+    ghost use Rattle.hsm_cli.specs.MemHosts.{HasImage, HasObjects, Makes, Gives, Hands};
 
     type Disk = FuseDisk<MemDisk>;
 
+    type Drive = MemDrive;
+
     ghost holds = { HasImage };
+
+    ghost stores = { HasObjects };
 
     ghost fault_count = { λ h. h.faults };
 
     ghost make_count = { λ h. h.makes };
 
     ghost open_count = { λ h. h.openings };
+
+    ghost drive_count = { λ h. h.askings };
 
     fn faults(&self) -> u64 {
         self.faults
@@ -183,6 +262,8 @@ impl Host for MemHost {
         ensures refused { OnErr result (HoldsAll (HasImage self.old) (HasImage self.new)) }
         ensures made { self.new.makes ≡ raised self.old.makes }
         ensures unopened { self.new.openings ≡ self.old.openings }
+        ensures undriven { self.new.askings ≡ self.old.askings }
+        ensures folders { StoresAll (HasObjects self.old) (HasObjects self.new) }
         ensures cause { HasHostCause result self.old.faults self.new.faults }
         ensures makes { Makes path.now len self.old self.new result }
     {
@@ -198,10 +279,34 @@ impl Host for MemHost {
         ensures refused { OnErr result (HoldsAll (HasImage self.old) (HasImage self.new)) }
         ensures opened { self.new.openings ≡ raised self.old.openings }
         ensures unmade { self.new.makes ≡ self.old.makes }
+        ensures undriven { self.new.askings ≡ self.old.askings }
+        ensures folders { StoresAll (HasObjects self.old) (HasObjects self.new) }
         ensures cause { HasHostCause result self.old.faults self.new.faults }
         ensures gives { Gives path.now self.old self.new result }
     {
         self.take(path)
+    }
+
+    fn drives(
+        &mut self,
+        dir: &str,
+        drives: u32,
+        volumes: u32,
+        capacity: u64,
+    ) -> Result<Vec<MemDrive>, HostRefusal>
+        ensures given { IfOk result (λ ds. AreHanded drive.ghosts (HasObjects self.old dir.now) drives volumes capacity ds.items) }
+        ensures gone { OnOk result (StoresNothing (HasObjects self.new dir.now)) }
+        ensures others { StoresOthers dir.now (HasObjects self.old) (HasObjects self.new) }
+        ensures refused { OnErr result (StoresAll (HasObjects self.old) (HasObjects self.new)) }
+        ensures disks { HoldsAll (HasImage self.old) (HasImage self.new) }
+        ensures asked { self.new.askings ≡ raised self.old.askings }
+        ensures unmade { self.new.makes ≡ self.old.makes }
+        ensures unopened { self.new.openings ≡ self.old.openings }
+        ensures cause { HasHostCause result self.old.faults self.new.faults }
+        ensures hands { IfOk result (λ ds. Hands dir.now drives volumes capacity self.old self.new (Ok ds.items)) }
+        ensures refuses { IfErr result (λ why. Hands dir.now drives volumes capacity self.old self.new (Err why)) }
+    {
+        Ok(self.hand(dir, drives, volumes, capacity)?.into_vec())
     }
 }
 
@@ -252,4 +357,63 @@ fn zeros(alloc: Global, len: u64, fuse: Option<u64>) -> Result<FuseDisk<MemDisk>
     let image = vec![in alloc; 0u8; len as usize]?;
     let inner = MemDisk::new(alloc, &image, &[])?;
     Ok(fused(inner, fuse))
+}
+
+// Puts the drives, with no fault counted, under the name. Where there is no memory for the name, they come back as they were.
+fn put_folder(
+    folders: &mut BTreeMap<String, ListOf<MemDrive>>,
+    name: String,
+    drives: ListOf<MemDrive>,
+) -> Result<(), (AllocError, ListOf<MemDrive>)>
+    ensures put { OnOk result (Updates string_cmp folders.old folders.new name (Some (unfailed drives))) }
+    ensures refused { IfErr result (λ e. (e.1 ≡ drives) × IsUnchanged folders.old folders.new) }
+{
+    match folders.entry(name) {
+        Ok(entry) => {
+            entry.insert_entry(settled_drives(drives));
+            Ok(())
+        }
+        Err(_) => Err((AllocError, drives)),
+    }
+}
+
+// The drives, with no fault counted.
+fn settled_drives(drives: ListOf<MemDrive>) -> ListOf<MemDrive>
+    ensures { result ≡ unfailed drives }
+{
+    let mut drives = drives.into_vec();
+    settle_drives(&mut drives);
+    ListOf::from(drives)
+}
+
+fn settle_drives(drives: &mut [MemDrive])
+    ensures { drives.new ≡ unfailed drives.old }
+{
+    for drive in drives.iter_mut() {
+        drive.reset_faults();
+    }
+}
+
+// Whether these are so many drives with so many volumes, and so much room for each.
+fn fit(held: &ListOf<MemDrive>, drives: u32, volumes: u32, capacity: u64) -> bool
+    ensures { result ≡ fit held.now drives volumes capacity }
+{
+    let held = held.as_slice();
+    held.len() == drives as usize && have_room(held, capacity) && have_volumes(held, volumes)
+}
+
+// So many drives without objects.
+fn new_drives(
+    alloc: Global,
+    drives: u32,
+    volumes: u32,
+    capacity: u64,
+) -> Result<ListOf<MemDrive>, HostRefusal>
+    ensures new { IfOk result (λ ds. AreNew drives volumes capacity ds) }
+    ensures memory { IfErr result (λ why. why ≡ HostRefusal.Memory) }
+{
+    match mem_drives(alloc, drives, volumes, capacity) {
+        Ok(drives) => Ok(ListOf::from(drives)),
+        Err(AllocError) => Err(HostRefusal::Memory),
+    }
 }

@@ -5,13 +5,14 @@ ghost use Rattle.hsm_cli.specs.Statuses.{status_of, place_of};
 use crate::causes::Cause;
 use disk_model::Disk;
 use file_store::FileStore;
+use hsm_types::ListOf;
 use plain_model::History;
 use std::alloc::Global;
 use std::snapshot::Snapshot;
 
 /// What a run of the program gives.
 #[derive(Drop)]
-pub struct Outcome<D: Disk> {
+pub struct Outcome<D: Disk, M> {
     /// The status with which the program ends.
     pub status: u8,
 
@@ -32,12 +33,15 @@ pub struct Outcome<D: Disk> {
 
     /// The disk, where the host handed one out.
     pub disk: Option<D>,
+
+    /// The drives, where the host handed some out.
+    pub drives: ListOf<M>,
 }
 
-impl<D: Disk> Outcome<D> {
+impl<D: Disk, M> Outcome<D, M> {
     /// A run in which no store was opened.
-    pub(crate) fn unopened(alloc: Global, cause: Option<Cause>, disk: Option<D>) -> Outcome<D>
-        ensures { result ≡ record { status = status_of cause; at = place_of cause; cause = cause; base = 0; opening = None; history = []; disk = disk } }
+    pub(crate) fn unopened(alloc: Global, cause: Option<Cause>, disk: Option<D>) -> Outcome<D, M>
+        ensures { result ≡ record { status = status_of cause; at = place_of cause; cause = cause; base = 0; opening = None; history = []; disk = disk; drives = [] } }
     {
         Outcome {
             status: Cause::status(cause),
@@ -47,6 +51,7 @@ impl<D: Disk> Outcome<D> {
             opening: None,
             history: History::from(Vec::new(alloc)),
             disk,
+            drives: ListOf::from(Vec::new(alloc)),
         }
     }
 }

@@ -1,5 +1,5 @@
 //! A run of a script on an opened store, from the source to the sink.
-ghost use Rattle.std.specs.Prelude.{◌≡◌, ◌≢◌, ℕ, List, true, false, take, None, Some, IfOk, IfErr, IfSome, OnOk, IsErrOf, MatchResult};
+ghost use Rattle.std.specs.Prelude.{◌≡◌, ◌≢◌, ◌⊎◌, ℕ, List, true, false, take, None, Some, IfOk, IfErr, IfSome, OnOk, IsErrOf, MatchResult};
 ghost use Rattle.std.specs.Io.KnownBytes.{Appends, IsAtEnd};
 ghost use Rattle.disk_model.specs.Calls.{Rose};
 ghost use Rattle.disk_model.specs.Moments.{MayBe, LeavesOnly};
@@ -10,7 +10,7 @@ ghost use Rattle.hsm_core.specs.Crashes.{IsPrefix};
 ghost use Rattle.script_text.specs.Scripts.{IsScript};
 ghost use Rattle.hsm_cli.specs.Sources.{script_bytes, GivesFirst};
 ghost use Rattle.hsm_cli.specs.Clauses.{HasRun, HasRead, IsGoodOver, IsPlainOver, IsWhole, IsBeforeRun, RanToItsEnd};
-ghost use Rattle.hsm_cli.specs.Endings.{cause_in, ScriptEnds, WritingEnds, RunEnds, first_of};
+ghost use Rattle.hsm_cli.specs.Endings.{cause_in, IsBeforeReading, ScriptEnds, WritingEnds, RunEnds, first_of};
 ghost use Rattle.hsm_cli.specs.Told.{source_told, sink_told};
 ghost use Rattle.hsm_cli.specs.Runs.{IsOpenedAnew, GoesOn, IsAllDurable};
 
@@ -42,15 +42,17 @@ pub(crate) struct Served<D: Disk> {
 }
 
 /// Runs the script from the source on a store that was just opened, and then a commit where that is wanted, and writes the
-/// transcript to the sink.
+/// transcript to the sink. Where the run isn't ready, it ends before the script is read.
 pub(crate) fn serve<D: Disk, I: Source, O: Sink>(
     alloc: Global,
     mut hsm: Hsm<D>,
     commits: bool,
+    ready: Result<(), Cause>,
     source: &mut I,
     sink: &mut O,
 ) -> Served<D>
-    requires { IsOpenedAnew hsm }
+    requires anew { IsOpenedAnew hsm }
+    requires ready { IfErr ready IsBeforeReading }
     ensures opening { result.opening.value ≡ hsm.opened }
     ensures base { result.base ≡ hsm.opened.meta.number }
     ensures script { HasRun commits (source_told I.left I.fault_count source.old source.new) result.cause result.history }
@@ -67,11 +69,12 @@ pub(crate) fn serve<D: Disk, I: Source, O: Sink>(
     ensures first { (n : ℕ) × Appends (O.taken sink.old) (O.taken sink.new) (take n (text_of result.history)) }
     ensures done { result.cause ≡ None → Appends (O.taken sink.old) (O.taken sink.new) (text_of result.history) }
     ensures all { result.cause ≢ Some Cause.NoMemory → (Rose (O.fault_count sink.old) (O.fault_count sink.new) → ⊥) → Appends (O.taken sink.old) (O.taken sink.new) (text_of result.history) }
-    ensures ends { RunEnds (Rose (D.fault_count hsm.opened.disk) (D.fault_count result.disk)) (source_told I.left I.fault_count source.old source.new) (sink_told O.taken O.fault_count sink.old sink.new) result.cause }
+    ensures unready { IfErr ready (λ why. (result.cause ≡ Some why) ⊎ (result.cause ≡ Some Cause.NoMemory)) }
+    ensures ends { RunEnds (IsErrOf ready Cause.HostFault) (Rose (D.fault_count hsm.opened.disk) (D.fault_count result.disk)) (source_told I.left I.fault_count source.old source.new) (sink_told O.taken O.fault_count sink.old sink.new) result.cause }
 {
     one_recovery();
     let base = hsm.base();
-    let ran = run_script(alloc, &mut hsm, commits, source);
+    let ran = run_script(alloc, &mut hsm, commits, ready, source);
     let (disk, history, opening) = hsm.close();
     let written = write_transcript(alloc, sink, &history);
     Served {
@@ -83,25 +86,29 @@ pub(crate) fn serve<D: Disk, I: Source, O: Sink>(
     }
 }
 
-/// Reads a script, and runs it.
+/// Reads a script where the run is ready, and runs it.
 fn run_script<D: Disk, I: Source>(
     alloc: Global,
     hsm: &mut Hsm<D>,
     commits: bool,
+    ready: Result<(), Cause>,
     source: &mut I,
 ) -> Result<(), Cause>
-    requires { IsOpenedAnew hsm.old }
+    requires anew { IsOpenedAnew hsm.old }
+    requires ready { IfErr ready IsBeforeReading }
     ensures goes_on { GoesOn D.Disk hsm.old hsm.new }
     ensures ran { HasRun commits (source_told I.left I.fault_count source.old source.new) (cause_in result) hsm.new.history }
     ensures reading { HasRead (source_told I.left I.fault_count source.old source.new) (cause_in result) }
     ensures part { GivesFirst (I.left source.old) (I.left source.new) }
-    ensures ends { IfErr result (λ why. ScriptEnds (Rose (D.fault_count hsm.old.files.disk) (D.fault_count hsm.new.files.disk)) (source_told I.left I.fault_count source.old source.new) why) }
+    ensures unready { IfErr ready (λ why. cause_in result ≡ Some why) }
+    ensures ends { IfErr result (λ why. ScriptEnds (IsErrOf ready Cause.HostFault) (Rose (D.fault_count hsm.old.files.disk) (D.fault_count hsm.new.files.disk)) (source_told I.left I.fault_count source.old source.new) why) }
     ensures failed { hsm.new.files.failed ≡ true → IsErrOf result Cause.DiskFault }
     ensures fault { IsErrOf result Cause.DiskFault → has_fault hsm.new.history ≡ true }
     ensures working { OnOk result (hsm.new.files.failed ≡ false) }
     ensures durable { commits ≡ true → OnOk result (IsAllDurable hsm.new) }
     ensures untouched { IsBeforeRun (cause_in result) → hsm.new ≡ hsm.old }
 {
+    ready?;
     let script = read_script(alloc, source)?;
     match run(alloc, hsm, script, commits) {
         Ok(()) => Ok(()),
@@ -116,7 +123,7 @@ fn read_script<I: Source>(alloc: Global, source: &mut I) -> Result<Script, Cause
     ensures ended { OnOk result (IsAtEnd (I.left source.new)) }
     ensures reading { HasRead (source_told I.left I.fault_count source.old source.new) (cause_in result) }
     ensures part { GivesFirst (I.left source.old) (I.left source.new) }
-    ensures refused { IfErr result (λ why. ScriptEnds ⊥ (source_told I.left I.fault_count source.old source.new) why) }
+    ensures refused { IfErr result (λ why. ScriptEnds ⊥ ⊥ (source_told I.left I.fault_count source.old source.new) why) }
 {
     let bytes = read_all(alloc, source)?;
     match parse(alloc, bytes.as_slice()) {

@@ -1,15 +1,17 @@
 //! The top call.
-ghost use Rattle.std.specs.Prelude.{◌≡◌, ◌≢◌, ◌⊎◌, ℕ, List, [], map, true, false, Some, None, IfOk, IfSome};
+ghost use Rattle.std.specs.Prelude.{◌≡◌, ◌≢◌, ◌≤◌, ◌⊎◌, ℕ, List, [], map, true, false, Some, None, IfOk, IfErr, OnOk, OnErr, IfSome};
 ghost use Rattle.std.specs.String.{string_bytes};
 ghost use Rattle.disk_model.specs.Calls.{raised};
 ghost use Rattle.plain_model.specs.Faults.{has_fault};
 ghost use Rattle.plain_model.specs.State.{nothing_held};
+ghost use Rattle.hsm_policy.specs.Settings.{standard};
 ghost use Rattle.file_store.specs.Stores.{superblock_of, IsDurable};
 ghost use Rattle.hsm_cli.specs.Commands.{form_of, fsid_of, geometry_number};
 ghost use Rattle.hsm_cli.specs.Statuses.{status_of, place_of};
 ghost use Rattle.hsm_cli.specs.Openings.{opened_in, base_of, replay_store};
-ghost use Rattle.hsm_cli.specs.Clauses.{ScriptClause, ReadingClause, LegalityClause, PlainClause, CrashClause, FormatClause, HostClause, OutputClause, StatusClause, HasRun, HasRead, HasReadOn, IsGoodOver, IsPlainOver, LeavesSafe, IsFormatted, HandsOut, HasFailed, HasBegun, Why};
-ghost use Rattle.hsm_cli.specs.Endings.{RunEnds, FormatEnds};
+ghost use Rattle.hsm_cli.specs.Clauses.{ScriptClause, ReadingClause, LegalityClause, PlainClause, CrashClause, FormatClause, HostClause, OutputClause, StatusClause, HasRun, HasRead, HasReadOn, IsGoodOver, IsPlainOver, LeavesSafe, IsFormatted, HandsOut, HasFailed, HasBegun, Why, Lacks, DrivesClause, GivesBack, HandsDrives, asked_by};
+ghost use Rattle.hsm_cli.specs.Endings.{RunEnds, FormatEnds, HandingEnds, IsBeforeReading};
+ghost use Rattle.hsm_cli.specs.Hosts.{AreHanded, HoldsAll, StoresAll};
 ghost use Rattle.hsm_cli.specs.Told.{source_told, sink_told, host_told};
 ghost use Rattle.hsm_cli.specs.Runs.{IsOpenedAnew};
 
@@ -23,6 +25,8 @@ use commit_slots::Layout;
 use disk_model::{Disk, Failed, SureDisk};
 use file_store::{formatted_is_empty, one_recovery};
 use hsm_core::Hsm;
+use hsm_policy::Settings;
+use hsm_types::ListOf;
 use script_text::{Sink, Source, one_script};
 use sha2::{Digest, Sha256};
 use std::alloc::{AllocError, Global};
@@ -31,14 +35,15 @@ use std::alloc::{AllocError, Global};
 const REPLAY_FSID: u64 = 1;
 
 /// Does what the words say. `format` makes an empty store on a disk of the host. `replay` runs the script from the source on a new small
-/// store in memory, or on the store of a disk of the host, and writes the transcript to the sink.
+/// store in memory, or on the store of a disk of the host with the volumes of a folder, and writes the transcript to the sink. The words are judged
+/// first, then come the opening, the drives, the script, its events and the writing.
 pub fn hsm_main<H: Host, I: Source, O: Sink>(
     alloc: Global,
     words: &[String],
     host: &mut H,
     source: &mut I,
     sink: &mut O,
-) -> Outcome<H::Disk>
+) -> Outcome<H::Disk, H::Drive>
     ensures script { ScriptClause (form_of (map string_bytes words.now)) (source_told I.left I.fault_count source.old source.new) result }
     ensures reading { ReadingClause (form_of (map string_bytes words.now)) (source_told I.left I.fault_count source.old source.new) result }
     ensures legality { LegalityClause H.Disk.Disk result }
@@ -46,6 +51,7 @@ pub fn hsm_main<H: Host, I: Source, O: Sink>(
     ensures crash { CrashClause H.Disk.Disk (form_of (map string_bytes words.now)) (H.holds host.old) result }
     ensures format { FormatClause H.Disk.Disk (form_of (map string_bytes words.now)) result }
     ensures host { HostClause H.holds H.make_count H.open_count (form_of (map string_bytes words.now)) host.old host.new result }
+    ensures drives { DrivesClause H.Drive.Drive H.stores H.drive_count (form_of (map string_bytes words.now)) host.old host.new result }
     ensures output { OutputClause result (sink_told O.taken O.fault_count sink.old sink.new) }
     ensures status { StatusClause H.Disk.Disk (form_of (map string_bytes words.now)) (H.holds host.old) (source_told I.left I.fault_count source.old source.new) (sink_told O.taken O.fault_count sink.old sink.new) (host_told H.fault_count host.old host.new) result }
 {
@@ -53,18 +59,27 @@ pub fn hsm_main<H: Host, I: Source, O: Sink>(
     match Command::of(words) {
         Some(Command::Format { path, size }) => format(alloc, host, path, size),
         Some(Command::Replay) => replay(alloc, source, sink),
-        Some(Command::ReplayStore { path, .. }) => replay_store(alloc, host, path, source, sink),
+        Some(Command::ReplayStore { path, dir }) => {
+            replay_store(alloc, host, path, dir, source, sink)
+        }
         None => Outcome::unopened(alloc, Some(Cause::WordsRefused), None),
     }
 }
 
 /// Makes an empty store on a disk of the host.
-fn format<H: Host>(alloc: Global, host: &mut H, path: &str, size: StoreSize) -> Outcome<H::Disk>
-    ensures unopened { result ≡ record { status = status_of result.cause; at = place_of result.cause; cause = result.cause; base = 0; opening = None; history = []; disk = result.disk } }
+fn format<H: Host>(
+    alloc: Global,
+    host: &mut H,
+    path: &str,
+    size: StoreSize,
+) -> Outcome<H::Disk, H::Drive>
+    ensures unopened { result ≡ record { status = status_of result.cause; at = place_of result.cause; cause = result.cause; base = 0; opening = None; history = []; disk = result.disk; drives = [] } }
     ensures formatted { result.cause ≡ None → IsFormatted H.Disk.Disk (geometry_number size) (fsid_of path.now) result.disk }
     ensures host { HandsOut path.now (H.holds host.old) (H.holds host.new) result.disk }
     ensures made { H.make_count host.new ≡ raised (H.make_count host.old) }
     ensures unasked { H.open_count host.new ≡ H.open_count host.old }
+    ensures undriven { H.drive_count host.new ≡ H.drive_count host.old }
+    ensures folders { StoresAll (H.stores host.old) (H.stores host.new) }
     ensures lent { result.cause ≡ Some Cause.HostFault → result.disk ≡ None }
     ensures back { result.disk ≡ None → (result.cause ≡ Some Cause.HostFault) ⊎ (result.cause ≡ Some Cause.NoMemory) }
     ensures ends { FormatEnds (HasFailed H.Disk.Disk result.disk) (host_told H.fault_count host.old host.new) result.cause }
@@ -91,8 +106,12 @@ fn fsid(path: &str) -> u64
 }
 
 /// Runs the script from the source on a new small store in memory.
-fn replay<D: Disk, I: Source, O: Sink>(alloc: Global, source: &mut I, sink: &mut O) -> Outcome<D>
-    ensures new { (result.opening ≡ None) × (result.disk ≡ None) × (result.base ≡ 0) }
+fn replay<D: Disk, M, I: Source, O: Sink>(
+    alloc: Global,
+    source: &mut I,
+    sink: &mut O,
+) -> Outcome<D, M>
+    ensures new { (result.opening ≡ None) × (result.disk ≡ None) × (result.base ≡ 0) × (result.drives ≡ []) }
     ensures told { (result.status ≡ status_of result.cause) × (result.at ≡ place_of result.cause) }
     ensures script { HasRun false (source_told I.left I.fault_count source.old source.new) result.cause result.history }
     ensures reading { HasRead (source_told I.left I.fault_count source.old source.new) result.cause }
@@ -100,11 +119,11 @@ fn replay<D: Disk, I: Source, O: Sink>(alloc: Global, source: &mut I, sink: &mut
     ensures faultless { has_fault result.history ≡ false }
     ensures plain { IsPlainOver {D = D} None result.history }
     ensures output { OutputClause result (sink_told O.taken O.fault_count sink.old sink.new) }
-    ensures ends { RunEnds ⊥ (source_told I.left I.fault_count source.old source.new) (sink_told O.taken O.fault_count sink.old sink.new) result.cause }
+    ensures ends { RunEnds ⊥ ⊥ (source_told I.left I.fault_count source.old source.new) (sink_told O.taken O.fault_count sink.old sink.new) result.cause }
 {
     match new_store(alloc) {
         Ok(hsm) => {
-            let served = serve(alloc, hsm, false, source, sink);
+            let served = serve(alloc, hsm, false, Ok(()), source, sink);
             Outcome {
                 status: Cause::status(served.cause),
                 at: Cause::place(served.cause),
@@ -113,6 +132,7 @@ fn replay<D: Disk, I: Source, O: Sink>(alloc: Global, source: &mut I, sink: &mut
                 opening: None,
                 history: served.history,
                 disk: None,
+                drives: ListOf::from(Vec::new(alloc)),
             }
         }
         Err(AllocError) => Outcome::unopened(alloc, Some(Cause::NoMemory), None),
@@ -138,14 +158,15 @@ fn new_store(alloc: Global) -> Result<Hsm<SureDisk>, AllocError>
     }
 }
 
-/// Runs the script from the source on the store of a disk of the host, and then commits.
+/// Runs the script from the source on the store of a disk of the host, and then commits. The drives over that folder come back as they were.
 fn replay_store<H: Host, I: Source, O: Sink>(
     alloc: Global,
     host: &mut H,
     path: &str,
+    dir: &str,
     source: &mut I,
     sink: &mut O,
-) -> Outcome<H::Disk>
+) -> Outcome<H::Disk, H::Drive>
     ensures told { (result.status ≡ status_of result.cause) × (result.at ≡ place_of result.cause) × (result.base ≡ base_of (opened_in result)) }
     ensures command { result.cause ≢ Some Cause.WordsRefused }
     ensures script { HasRun true (source_told I.left I.fault_count source.old source.new) result.cause result.history }
@@ -157,7 +178,10 @@ fn replay_store<H: Host, I: Source, O: Sink>(
     ensures host { HandsOut path.now (H.holds host.old) (H.holds host.new) result.disk }
     ensures asked { H.open_count host.new ≡ raised (H.open_count host.old) }
     ensures unmade { H.make_count host.new ≡ H.make_count host.old }
-    ensures lent { result.cause ≡ Some Cause.HostFault → result.disk ≡ None }
+    ensures lent { result.cause ≡ Some Cause.HostFault → Lacks result }
+    ensures drives { GivesBack H.Drive.Drive (H.stores host.old dir.now) (opened_in result) result.cause result.drives }
+    ensures folders { HandsDrives dir.now (H.stores host.old) (H.stores host.new) result.drives }
+    ensures driven { H.drive_count host.new ≡ asked_by (opened_in result) (H.drive_count host.old) }
     ensures begun { HasBegun (opened_in result) result.cause }
     ensures opened { IfSome (opened_in result) (λ s. (s.held ≡ s.durable) × ((image : List ℕ) → H.holds host.old path.now image → IsDurable s image)) }
     ensures back { result.disk ≡ None → (result.cause ≡ Some Cause.HostFault) ⊎ (result.cause ≡ Some Cause.NoMemory) }
@@ -169,7 +193,8 @@ fn replay_store<H: Host, I: Source, O: Sink>(
     };
     match Hsm::open(alloc, disk) {
         Ok(hsm) => {
-            let served = serve(alloc, hsm, true, source, sink);
+            let (ready, drives) = ask_for_drives(alloc, host, dir);
+            let served = serve(alloc, hsm, true, ready, source, sink);
             Outcome {
                 status: Cause::status(served.cause),
                 at: Cause::place(served.cause),
@@ -178,8 +203,38 @@ fn replay_store<H: Host, I: Source, O: Sink>(
                 opening: Some(served.opening),
                 history: served.history,
                 disk: Some(served.disk),
+                drives,
             }
         }
         Err((refusal, disk)) => Outcome::unopened(alloc, Some(Cause::from(refusal)), Some(disk)),
+    }
+}
+
+/// The drives over the volumes of a folder, as the default settings have them; or none, and why.
+fn ask_for_drives<H: Host>(
+    alloc: Global,
+    host: &mut H,
+    dir: &str,
+) -> (Result<(), Cause>, ListOf<H::Drive>)
+    ensures given { OnOk result.0 (AreHanded H.Drive.Drive (H.stores host.old dir.now) standard.drives standard.volumes standard.capacity result.1) }
+    ensures none { OnErr result.0 (result.1 ≡ []) }
+    ensures folders { HandsDrives dir.now (H.stores host.old) (H.stores host.new) result.1 }
+    ensures ready { IfErr result.0 IsBeforeReading }
+    ensures why { IfErr result.0 (HandingEnds (host_told H.fault_count host.old host.new)) }
+    ensures never_falls { H.fault_count host.old ≤ H.fault_count host.new }
+    ensures disks { HoldsAll (H.holds host.old) (H.holds host.new) }
+    ensures asked { H.drive_count host.new ≡ raised (H.drive_count host.old) }
+    ensures unmade { H.make_count host.new ≡ H.make_count host.old }
+    ensures unopened { H.open_count host.new ≡ H.open_count host.old }
+{
+    let settings = Settings::default();
+    match host.drives(
+        dir,
+        settings.drives(),
+        settings.volumes(),
+        settings.capacity(),
+    ) {
+        Ok(drives) => (Ok(()), ListOf::from(drives)),
+        Err(refusal) => (Err(Cause::from(refusal)), ListOf::from(Vec::new(alloc))),
     }
 }

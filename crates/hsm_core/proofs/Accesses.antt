@@ -16,7 +16,7 @@ use Rattle.hsm_types.specs.declared.calls.Reply.{Reply}
 use Rattle.hsm_types.specs.declared.calls.Reply.TheVariants.{Parked, Blocked, Refused}
 use Rattle.hsm_types.specs.declared.dm.Kind.{Kind}
 use Rattle.hsm_types.specs.declared.dm.Response.{Response}
-use Rattle.hsm_types.specs.declared.dm.Response.TheVariants.{Continue, Abort}
+use Rattle.hsm_types.specs.declared.dm.Response.TheVariants.{Continue, Abort, Media}
 use Rattle.plain_model.specs.declared.facts.Facts.{Facts}
 use Rattle.plain_model.specs.declared.facts.NoRoom.{NoRoom}
 use Rattle.plain_model.specs.Keyed.{set_at}
@@ -97,6 +97,7 @@ module _ (s : Superblock) (st : State) (c : ℕ) (fl : Flags) (k : FileKey) (cal
 
   by_rules : (answer : Option Response) (live : Bool) (w x y z : Ruled) → Says (said_by answer live w x y z) (opposed answer live) (first_refusal (w ∷ x ∷ y ∷ z ∷ []))
   by_rules (Some (Abort error)) live w x y z = record { reply = refl; left = refl }
+  by_rules (Some (Media fault)) live w x y z = record { reply = refl; left = refl }
   by_rules (Some Continue) true w x y z = record { reply = (ruled w x y z).reply; left = (ruled w x y z).left }
   by_rules (Some Continue) false w x y z = record { reply = refl; left = refl }
   by_rules None true w x y z = record { reply = (ruled w x y z).reply; left = (ruled w x y z).left }
@@ -115,6 +116,7 @@ module _ (s : Superblock) (st : State) (c : ℕ) (fl : Flags) (k : FileKey) (cal
   unopposed None false none = cc
   unopposed (Some Continue) false none = cc
   unopposed (Some (Abort error)) false none = cc
+  unopposed (Some (Media fault)) false none = cc
 
   -- what the service says of an access, of which these are the facts where its file lives
   module _ (answer : Option Response) (facts : Facts) (known : facts.live ≡ true → facts ≡ facts_of s st.held k call) where

@@ -56,8 +56,8 @@ module _ {D : Type 0} (g : disk.Ghosts D) (s t : Store D) (has : HasRun s) (safe
   own_leaves = rw own_is_faultless refl
 
   done : answer ≡ own_answer s actor action → t.history ≡ s.history ++ entry_of actor action (own_answer s actor action) ∷ [] → state_of t ≡ own_state s actor action → t.files.failed ≡ false
-      → (is_sync (entry_of actor action (own_answer s actor action)) ≡ true → IsSynced g (last_number s) s.files t.files) → IsNext g s actor action answer t
-  done answered history leaves still synced = (
+      → g.fault_count t.files.disk ≡ g.fault_count s.files.disk → (is_sync (entry_of actor action (own_answer s actor action)) ≡ true → IsSynced g (last_number s) s.files t.files) → IsNext g s actor action answer t
+  done answered history leaves still quiet synced = (
     HasRun-kept g s t has (last_number s) opened proceeds (entry_of actor action (own_answer s actor action)) working history (inr (acts, refl)) (λ still. (own_is_faultless, leaves ∙ sym own_leaves)),
     safe_kept g s t has safe working opened proceeds (entry_of actor action (own_answer s actor action)) history still synced,
     inr (inr (inr (record {
@@ -66,12 +66,14 @@ module _ {D : Type 0} (g : disk.Ghosts D) (s t : Store D) (has : HasRun s) (safe
       history = history;
       leaves = leaves;
       still = still;
+      quiet = quiet;
       synced = synced;
     }))),
   )
 
-  lacking : answer ≡ memory_of action → t.history ≡ s.history → t.stamps ≡ s.stamps → t.tables ≡ s.tables → state_of t ≡ state_of s → t.files.failed ≡ false → IsNext g s actor action answer t
-  lacking answered history stamps tables state still = (
+  lacking : answer ≡ memory_of action → t.history ≡ s.history → t.stamps ≡ s.stamps → t.tables ≡ s.tables → state_of t ≡ state_of s → t.files.failed ≡ false
+      → g.fault_count t.files.disk ≡ g.fault_count s.files.disk → IsNext g s actor action answer t
+  lacking answered history stamps tables state still quiet = (
     HasRun-unkept g s t has (last_number s) opened proceeds working history state,
     safe_unkept g s t has safe working opened proceeds history still,
     inr (inl (record {
@@ -82,6 +84,7 @@ module _ {D : Type 0} (g : disk.Ghosts D) (s t : Store D) (has : HasRun s) (safe
       tables = tables;
       state = state;
       still = still;
+      quiet = quiet;
     })),
   )
 
@@ -139,11 +142,11 @@ module _ {D R : Type 0} (g : disk.Ghosts D) (s t : Store D) (has : HasRun s) (sa
       let noted : say r.1 ≡ own_answer s actor action = ap say became.replies.1 ∙ became.exact in
       let history : t.history ≡ s.history ++ entry_of actor action (own_answer s actor action) ∷ [] = keeps.kept.1 ∙ ap (λ (a : Answer). s.history ++ entry_of actor action a ∷ []) noted in
       done g s t has safe working opened became.ends.proceeds actor action acts (say reply) told history
-      (ap (state_with t.files.held t.stamps t.tables) (counted s t (entry_of actor action (own_answer s actor action)) opened history) ∙ became.leaves) became.ends.working became.synced
+      (ap (state_with t.files.held t.stamps t.tables) (counted s t (entry_of actor action (own_answer s actor action)) opened history) ∙ became.leaves) became.ends.working (became.ends.faults.counts.quiet (λ is. cc)) became.synced
   ended (Err NoMemory) became keeps =
       lacking g s t has safe working opened became.ends.proceeds actor action acts (say reply) (keeps.memory refl).0 (keeps.memory refl).1 became.stamps became.tables
-      (λ i. state_with ((became.ends.memory refl).0 i) (became.stamps i) (became.tables i) (uncounted s t opened (keeps.memory refl).1 i)) (became.ends.memory refl).1
-  ended (Err Failed) became keeps = faulted g s t has safe working opened became.ends.proceeds actor action acts (say reply) (keeps.failed refl).0 (keeps.failed refl).1 became.stamps became.tables (became.ends.failed refl).0 (became.ends.failed refl).1
+      (λ i. state_with ((became.ends.memory refl).0 i) (became.stamps i) (became.tables i) (uncounted s t opened (keeps.memory refl).1 i)) (became.ends.memory refl).1 (became.ends.faults.counts.quiet (λ is. cc))
+  ended (Err Failed) became keeps = faulted g s t has safe working opened became.ends.proceeds actor action acts (say reply) (keeps.failed refl).0 (keeps.failed refl).1 became.stamps became.tables (became.ends.faults.closes refl) (became.ends.faults.counts.rose refl)
   ended (Err (Part why)) became keeps = absurd (became.ends.no_part why refl)
 
 -- ---- an event of a store that was made ready for it
@@ -182,7 +185,7 @@ module _ {D : Type 0} (g : disk.Ghosts D) (s : Store D) (has : HasRun s) (safe :
   not_begun actor action acts answer why idle told (inl closed) = inl (record { failed = closed.1; answer = told.failed closed.0; same = unchanged })
   not_begun actor action acts answer why idle told (inr lacks) =
       subst (λ (x : Store D). IsAnswer g s actor action answer x) (sym unchanged)
-      (lacking g s (record s { spare = spare }) has safe lacks.1 refl (idle lacks.1 (last_number s)) actor action acts answer (told.memory lacks.0) refl refl refl refl lacks.1).2
+      (lacking g s (record s { spare = spare }) has safe lacks.1 refl (idle lacks.1 (last_number s)) actor action acts answer (told.memory lacks.0) refl refl refl refl lacks.1 refl).2
 
 -- calls that wait are such as before
 pub lasting : {R : Type 0} (super : Superblock) (h h' : Held) (stamps stamps' : List (FileKey × ℕ)) (n : ℕ) (t u : Tables) (actor : Actor) (action : Action) (d : Result (R × R) StoreRefusal)

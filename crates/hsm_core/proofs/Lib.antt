@@ -1,4 +1,5 @@
 pub mod Refusing
+pub mod Faults
 pub mod ListedFiles
 pub mod NamedFiles
 pub mod Accesses

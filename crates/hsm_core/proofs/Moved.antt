@@ -5,7 +5,6 @@ use Rattle.std.proofs.lemmas.Slice.Eq.{bytes_eq-Decides}
 use Rattle.std.specs.Prelude.{◌&&◌, ◌==◌, Result, Ok, Err, OnOk, IsErrOf, IfSome, if◌then◌else◌}
 use Rattle.std.specs.List.{AllByRecursion}
 use Rattle.std.specs.Str.{bytes_eq}
-use Rattle.disk_model.specs.Calls.{Rose}
 use Rattle.disk_model.specs.declared.device.Disk as disk
 use Rattle.hsm_types.specs.Refusals.{first_refusal}
 use Rattle.hsm_types.specs.Segments.{segment_len, segments_in}
@@ -30,8 +29,9 @@ use Rattle.stub_map.specs.States.{state_of}
 use Rattle.stub_map.specs.declared.stubs.State.TheVariants.{Sealed, Offline as Away}
 use Rattle.file_store.specs.declared.refusal.StoreRefusal.{StoreRefusal}
 use Rattle.file_store.specs.declared.refusal.StoreRefusal.TheVariants.{Part, Disk, Memory}
-use Rattle.file_store.specs.Stores.{Store as FileStore, IsLawful, IsStubbed, Proceeds}
+use Rattle.file_store.specs.Stores.{Store as FileStore, IsLawful, IsStubbed, Proceeds, TellsFaults}
 use Rattle.hsm_core.specs.Services.{anybody, service_on, told_where, held_where, replies_to, IsServed}
+use Rattle.hsm_core.proofs.Faults.{tells_none}
 use Rattle.hsm_core.proofs.Refusing.{passes, alone}
 
 -- ---- fingerprints
@@ -91,7 +91,7 @@ pub record HasEnded {D : Type 0} (g : disk.Ghosts D) (old : FileStore D) (n : �
   pub working : OnOk ended (new.failed ≡ false)
   pub unchanged : (why : DmRefusal) → IsErrOf ended (Part why) → new ≡ old
   pub memory : IsErrOf ended Memory → (new.held ≡ old.held) × (new.failed ≡ false)
-  pub failed : IsErrOf ended Disk → (new.failed ≡ true) × Rose (g.fault_count old.disk) (g.fault_count new.disk)
+  pub faults : TellsFaults g ended old new
   pub proceeds : Proceeds g old n new
 
 pub change_served : {D : Type 0} (g : disk.Ghosts D) (old new : FileStore D) (n : ℕ) (call : DmCall) (k : FileKey) (effect : Effect) (ended : Result Unit StoreRefusal) → change_of anybody call ≡ OfFile k effect → (service_on old call).reply ≡ reply.Done
@@ -99,7 +99,7 @@ pub change_served : {D : Type 0} (g : disk.Ghosts D) (old new : FileStore D) (n 
 change_served g old new n call k effect (Ok x) changes is_done works is = record {
   replies = (sym (ap (λ why. told_where why (service_on old call).reply) is.judged ∙ is_done), sym (ap (λ why. told_where why (service_on old call).reply) is.judged ∙ is_done));
   held = is.held ∙ (λ i. held_where (sym changes i) (sym is.judged i) old.held);
-  ends = record { working = is.working; memory = λ e. absurd cc; failed = λ e. absurd cc; no_part = λ why e. cc; proceeds = is.proceeds };
+  ends = record { working = is.working; memory = λ e. absurd cc; faults = tells_none g old new _ (λ e. cc) (is.faults.counts.quiet (λ e. cc)); no_part = λ why e. cc; proceeds = is.proceeds };
 }
 change_served g old new n call k effect (Err (Part why)) changes is_done works is =
     let refuses = is.refused why refl in
@@ -107,12 +107,22 @@ change_served g old new n call k effect (Err (Part why)) changes is_done works i
     record {
       replies = (sym (ap (λ why. told_where why (service_on old call).reply) refuses), sym (ap (λ why. told_where why (service_on old call).reply) refuses));
       held = ap (λ f. f.held) same ∙ (λ i. held_where (sym changes i) (sym refuses i) old.held);
-      ends = record { working = ap (λ f. f.failed) same ∙ works; memory = λ e. absurd cc; failed = λ e. absurd cc; no_part = λ why e. cc; proceeds = is.proceeds };
+      ends = record { working = ap (λ f. f.failed) same ∙ works; memory = λ e. absurd cc; faults = tells_none g old new _ (λ e. cc) (ap (λ f. g.fault_count f.disk) same); no_part = λ why e. cc; proceeds = is.proceeds };
     }
 change_served g old new n call k effect (Err Memory) changes is_done works is =
-    record { replies = tt; held = tt; ends = record { working = tt; memory = λ e. is.memory refl; failed = λ e. absurd cc; no_part = λ why e. cc; proceeds = is.proceeds } }
+    record { replies = tt; held = tt; ends = record { working = tt; memory = λ e. is.memory refl; faults = tells_none g old new _ (λ e. cc) (is.faults.counts.quiet (λ e. cc)); no_part = λ why e. cc; proceeds = is.proceeds } }
 change_served g old new n call k effect (Err Disk) changes is_done works is =
-    record { replies = tt; held = tt; ends = record { working = tt; memory = λ e. absurd cc; failed = λ e. is.failed refl; no_part = λ why e. cc; proceeds = is.proceeds } }
+    record {
+      replies = tt;
+      held = tt;
+      ends = record {
+        working = tt;
+        memory = λ e. absurd cc;
+        faults = record { closes = λ e. is.faults.closes refl; counts = record { rose = λ e. is.faults.counts.rose refl; quiet = λ other. absurd (other refl) } };
+        no_part = λ why e. cc;
+        proceeds = is.proceeds;
+      };
+    }
 
 -- ---- what is left to its part
 

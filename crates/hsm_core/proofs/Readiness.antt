@@ -15,7 +15,7 @@ use Rattle.hsm_types.specs.declared.calls.Reply.TheVariants.{Refused}
 use Rattle.hsm_types.specs.declared.dm.Kind.{Kind}
 use Rattle.hsm_types.specs.declared.dm.Kind.TheVariants as kind
 use Rattle.hsm_types.specs.declared.dm.Response.{Response}
-use Rattle.hsm_types.specs.declared.dm.Response.TheVariants.{Continue, Abort}
+use Rattle.hsm_types.specs.declared.dm.Response.TheVariants.{Continue, Abort, Media}
 use Rattle.plain_model.specs.declared.facts.Facts.{Facts}
 use Rattle.plain_model.specs.declared.facts.NoRoom.{NoRoom}
 use Rattle.plain_model.specs.Keyed.{find_key}
@@ -89,6 +89,7 @@ module _ (s : Superblock) (st : State) (fl : Flags) (a : Access) where
   -- unless it was aborted, or its file is gone
   objected_ready : (answer : Option Response) (live : Bool) → ready_by (Some a) (reply_where s st fl (first_refusal (aborted answer ∷ gone live ∷ [])) (Means a.key a.call)) ≡ (if not (is_abort answer) && live then blocked_by other else Now)
   objected_ready (Some (Abort error)) live = refl
+  objected_ready (Some (Media fault)) live = refl
   objected_ready (Some Continue) true = means_ready
   objected_ready (Some Continue) false = refl
   objected_ready None true = means_ready

@@ -38,6 +38,7 @@ use Rattle.hsm_core.specs.Stamps.{stamp_in}
 use Rattle.hsm_core.specs.Targets.{IsTarget, IsMeant, AreKnown, IsOnFile, MayLast, MayComplete, key_in}
 use Rattle.hsm_core.specs.declared.judging.Target.{Target}
 use Rattle.hsm_core.proofs.Accesses.{reply_said, left_said, said_reply, said_left, parked_left, blocked_left, ended_left, fresh_ended}
+use Rattle.hsm_core.proofs.Faults.{tells_none}
 use Rattle.hsm_core.proofs.Lasting.{never_ruled}
 use Rattle.hsm_core.proofs.Targets.{key_of_meant, on_own, on_file, still_on, bounded, complete, posted}
 use Rattle.hsm_core.proofs.Unstopped.{unstopped_sound}
@@ -54,11 +55,11 @@ every (Err e) p = tt
 
 -- an event that nothing was done to the files for, and that may have lacked memory
 pub same_ends : {D T : Type 0} (g : disk.Ghosts D) (f : FileStore D) (n : ℕ) (r : Result T StoreRefusal) → f.failed ≡ false → Proceeds g f n f → IfErr r (λ why. why ≡ NoMemory) → Ends g f n r f
-same_ends g f n (Ok x) working idle memory = record { working = working; memory = λ is. absurd cc; failed = λ is. absurd cc; no_part = λ why is. cc; proceeds = idle }
+same_ends g f n (Ok x) working idle memory = record { working = working; memory = λ is. absurd cc; faults = tells_none g f f _ (λ is. cc) refl; no_part = λ why is. cc; proceeds = idle }
 same_ends g f n (Err e) working idle memory = record {
   working = tt;
   memory = λ is. (refl, working);
-  failed = λ is. let lack : e ≡ NoMemory = memory in absurd cc;
+  faults = tells_none g f f _ (λ is. let lack : e ≡ NoMemory = memory in cc) refl;
   no_part = λ why is. let lack : e ≡ NoMemory = memory in cc;
   proceeds = idle;
 }

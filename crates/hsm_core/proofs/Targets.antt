@@ -16,7 +16,7 @@ use Rattle.hsm_types.specs.declared.calls.CallRefusal.TheVariants.{BadLength, To
 use Rattle.hsm_types.specs.declared.dm.Kind.{Kind}
 use Rattle.hsm_types.specs.declared.dm.Kind.TheVariants as kind
 use Rattle.hsm_types.specs.declared.dm.Response.{Response}
-use Rattle.hsm_types.specs.declared.dm.Response.TheVariants.{Continue, Abort}
+use Rattle.hsm_types.specs.declared.dm.Response.TheVariants.{Continue, Abort, Media}
 use Rattle.plain_model.specs.declared.facts.Facts.{Facts}
 use Rattle.plain_model.specs.declared.facts.NoRoom.{NoRoom}
 use Rattle.plain_model.specs.Accesses.{need_of, kind_of}
@@ -134,6 +134,7 @@ heard_is fl answer facts rights t k call =
 
 no_ending : (answer : Option Response) (live : Bool) (v : Ruled) → heard answer live v ≡ Complete → (live ≡ true) × (v ≡ None)
 no_ending (Some (Abort error)) live v is = absurd cc
+no_ending (Some (Media fault)) live v is = absurd cc
 no_ending None false v is = absurd cc
 no_ending (Some Continue) false v is = absurd cc
 no_ending None true None is = (refl, refl)
@@ -163,6 +164,10 @@ never_answered (Some (Lacks need free)) response is = cc
 
 ends_by : (answer : Option Response) (live : Bool) (v : Ruled) (response : Response) → heard answer live v ≡ Answered response → is_lawful_answer answer ≡ true → IsAbort response
 ends_by (Some (Abort error)) live v Continue is lawful = absurd cc
+ends_by (Some (Abort error)) live v (Media fault) is lawful = tt
+ends_by (Some (Media fault)) live v Continue is lawful = absurd cc
+ends_by (Some (Media fault)) live v (Abort e) is lawful = absurd cc
+ends_by (Some (Media fault)) live v (Media other) is lawful = tt
 ends_by (Some (Abort error)) live v (Abort e) is lawful = let same : error ≡ e = cc in let few = lawful_abort error lawful in omega (arith, same, few)
 ends_by None false v response is lawful = absurd cc
 ends_by (Some Continue) false v response is lawful = absurd cc
@@ -203,6 +208,7 @@ first_asks None None None None call first second third fourth = tt
 
 one_asks : (answer : Option Response) (live : Bool) (v : Ruled) (call : Call) (kind : Kind) → heard answer live v ≡ Post kind → Asks call v → (live ≡ true) × MayAsk call kind
 one_asks (Some (Abort error)) live v call kind is asks = absurd cc
+one_asks (Some (Media fault)) live v call kind is asks = absurd cc
 one_asks None false v call kind is asks = absurd cc
 one_asks (Some Continue) false v call kind is asks = absurd cc
 one_asks None true (Some (Posts asked)) call kind is asks = (refl, subst (MayAsk call) (let same : asked ≡ kind = cc in same) asks)
@@ -247,6 +253,7 @@ module _ (fl : Flags) (answer : Option Response) (facts : Facts) (rights : Right
       by None is = refl
       by (Some Continue) is = refl
       by (Some (Abort error)) is = absurd (other (Abort error) (sym is))
+      by (Some (Media fault)) is = absurd (other (Media fault) (sym is))
 
   pub answered : (response : Response) → said ≡ Answered response → is_lawful_answer answer ≡ true → IsAbort response
   answered response is lawful = ends_by answer facts.live (ruled fl facts rights t k call) response (heard_so (Answered response) is) lawful

@@ -56,7 +56,7 @@ pub record IsClosed {D : Type 0} (old : Store D) (action : Action) (given : Answ
   pub answer : given ≡ fault_of action
   pub same : new ≡ record old { spare = new.spare }
 
--- there was no memory: nothing is kept of the event, and all but the room in the history is as before
+-- there was no memory, and no call of the disk failed: nothing is kept of the event, and all but the room in the history is as before
 pub record LacksMemory {D : Type 0} (g : disk.Ghosts D) (old : Store D) (action : Action) (given : Answer) (new : Store D) : Type 0 where
   pub goes : Goes g old new
   pub answer : given ≡ memory_of action
@@ -65,6 +65,7 @@ pub record LacksMemory {D : Type 0} (g : disk.Ghosts D) (old : Store D) (action 
   pub tables : new.tables ≡ old.tables
   pub state : state_of new ≡ state_of old
   pub still : new.files.failed ≡ false
+  pub quiet : g.fault_count new.files.disk ≡ g.fault_count old.files.disk
 
 -- a call of the disk failed in the event: no stamp is changed, and no message, no token and no access that waits
 pub record HasFailed {D : Type 0} (g : disk.Ghosts D) (old : Store D) (actor : Actor) (action : Action) (given : Answer) (new : Store D) : Type 0 where
@@ -76,13 +77,14 @@ pub record HasFailed {D : Type 0} (g : disk.Ghosts D) (old : Store D) (actor : A
   pub failed : new.files.failed ≡ true
   pub rose : Rose (g.fault_count old.files.disk) (g.fault_count new.files.disk)
 
--- the event was answered by the store itself
+-- the event was answered by the store itself, and no call of the disk failed
 pub record IsDone {D : Type 0} (g : disk.Ghosts D) (old : Store D) (actor : Actor) (action : Action) (given : Answer) (new : Store D) : Type 0 where
   pub goes : Goes g old new
   pub answer : given ≡ own_answer old actor action
   pub history : new.history ≡ old.history ++ entry_of actor action (own_answer old actor action) ∷ []
   pub leaves : state_of new ≡ own_state old actor action
   pub still : new.files.failed ≡ false
+  pub quiet : g.fault_count new.files.disk ≡ g.fault_count old.files.disk
   -- a sync or a commit has made all durable, under the number of the last entry before it
   pub synced : is_sync (entry_of actor action (own_answer old actor action)) ≡ true → IsSynced g (last_number old) old.files new.files
 

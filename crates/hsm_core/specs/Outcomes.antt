@@ -10,10 +10,11 @@ use Rattle.hsm_types.specs.declared.calls.Reply.TheVariants.{Refused}
 use Rattle.hsm_types.specs.declared.dm.Kind.{Kind}
 use Rattle.hsm_types.specs.declared.dm.Kind.TheVariants.{Truncate, User}
 use Rattle.hsm_types.specs.declared.dm.Response.{Response}
-use Rattle.hsm_types.specs.declared.dm.Response.TheVariants.{Continue, Abort}
+use Rattle.hsm_types.specs.declared.dm.Response.TheVariants.{Continue, Abort, Media}
 use Rattle.plain_model.specs.declared.entries.Action.{Action}
 use Rattle.plain_model.specs.declared.facts.NoRoom.{NoRoom}
 use Rattle.plain_model.specs.Accesses.{told_span}
+use Rattle.plain_model.specs.Ledger.{aborted}
 use Rattle.plain_model.specs.State.{Held}
 use Rattle.plain_model.specs.Verdict.{done_reply, done_held, stamps_by, reply_to, state_after}
 use Rattle.access_park.specs.declared.access.Access.{Access}
@@ -31,23 +32,25 @@ use Rattle.hsm_core.specs.Store.{state_with}
 abbrev pub is_fresh : Access → Bool
 is_fresh a = not a.cleared && not a.spaced && is_none a.token && is_none a.answer
 
--- the response to an access is an abort
+-- the response to an access is an abort, which may tell a fault of a medium
 abbrev pub is_abort : Option Response → Bool
 is_abort (Some (Abort error)) = true
+is_abort (Some (Media fault)) = true
 is_abort answer = false
 
 abbrev pub is_aborted : Option Access → Bool
 is_aborted None = false
 is_aborted (Some a) = is_abort a.answer
 
--- an access that waits was aborted, and of its error that is so
-abbrev pub IsAbortedBy : Option Access → (ℕ → Type 0) → Type 0
-IsAbortedBy waits P = IfSome waits (λ a. (error : ℕ) → a.answer ≡ Some (Abort error) → P error)
+-- where an access that waits was aborted, it is so of what that tells
+abbrev pub IfAborted : Option Access → (CallRefusal → Type 0) → Type 0
+IfAborted waits P = IfSome waits (λ a. IfSome (aborted a.answer) P)
 
--- an abort by an error that a caller can be told
+-- an abort by an error that a caller can be told, or by a fault
 abbrev pub IsAbort : Response → Type 0
 IsAbort Continue = ⊥
 IsAbort (Abort error) = error ≤ 255
+IsAbort (Media fault) = Unit {0}
 
 -- An event of that kind may be posted for the call
 abbrev pub MayAsk : Call → Kind → Type 0
@@ -55,10 +58,11 @@ MayAsk call kind = (kind ≢ User) × ((short : Option NoRoom) → kind ≡ Trun
 
 -- ---- by what was said
 
--- an abort ends an access by its error
+-- an abort ends an access by its error, or by its fault
 abbrev pub ended_by : Response → CallRefusal
 ended_by Continue = why.Missing
 ended_by (Abort error) = why.Aborted error
+ended_by (Media fault) = why.Media fault
 
 -- the reply to an access that ends
 abbrev pub ended_reply : Held → FileKey → Call → Verdict → Reply

@@ -52,13 +52,13 @@ pub(crate) fn answer<D: Disk>(
     ensures room { OnOk result (awaited_in service.new ≤ awaited_in service.old + 2) }
 {
     if service.pending(caller).is_some() {
-        return Ok(refused(CallRefusal::Waiting));
+        return Ok(refused(&CallRefusal::Waiting));
     }
     match meant(files, &access.call) {
         Ok(target) => begin(
             files, stamps, service, alloc, caller, target, access, number,
         ),
-        Err(why) => Ok(refused(why)),
+        Err(why) => Ok(refused(&why)),
     }
 }
 
@@ -121,7 +121,7 @@ pub(crate) fn answer_again<D: Disk>(
     ensures room { OnOk result (awaited_in service.new + 1 ≤ awaited_in service.old + (if is_aborted (waiting service.old caller) then 0 else 2)) }
 {
     let Some(access) = service.pending(caller) else {
-        return Ok(refused(CallRefusal::Idle));
+        return Ok(refused(&CallRefusal::Idle));
     };
     if let (Some(token), None) = (access.token, access.answer) {
         return Ok((Reply::Still { token }, Reply::Still { token }));
@@ -206,7 +206,7 @@ fn finish<D: Disk>(
         Verdict::Missing => CallRefusal::Missing,
         Verdict::Answered(response) => ended_by(response),
     };
-    Ok(refused(why))
+    Ok(refused(&why))
 }
 
 /// What is told of an access that was aborted.
@@ -216,13 +216,14 @@ fn ended_by(response: Response) -> CallRefusal
 {
     match response {
         Response::Abort(errno) => CallRefusal::Aborted { errno: errno as u8 },
+        Response::Media(cause) => CallRefusal::Media { cause },
         Response::Continue => CallRefusal::Missing,
     }
 }
 
 /// The replies to a call that is refused.
-fn refused(why: CallRefusal) -> (Reply, Reply)
-    ensures { AreBoth (Reply.Refused why) result }
+fn refused(why: &CallRefusal) -> (Reply, Reply)
+    ensures { AreBoth (Reply.Refused why.now) result }
 {
-    (Reply::Refused(why), Reply::Refused(why))
+    (Reply::Refused(*why), Reply::Refused(*why))
 }

@@ -1,6 +1,6 @@
 //! The store with its history.
 ghost use Rattle.std.specs.Prelude.{◌≡◌, ◌⊎◌, ◌<◌, ◌≤◌, ◌+◌, ◌^◌, ◌++◌, [], ◌∷◌, true, false, if◌then◌else◌, List, ℕ, is_some, vec_len, vec_capacity, IfOk, IfErr, OnOk, OnErr, IsOk, IsErrOf};
-ghost use Rattle.disk_model.specs.Calls.{Rose, HasCause};
+ghost use Rattle.disk_model.specs.Calls.{Counts, HasCause};
 ghost use Rattle.disk_model.specs.Images.{Alike};
 ghost use Rattle.disk_model.specs.Moments.{MayBe, LeavesOnly, Keeps, Same};
 ghost use Rattle.commit_slots.specs.Images.{IsStore, IsEmptyStore};
@@ -18,7 +18,7 @@ ghost use Rattle.dm_service.specs.Tables.{AreNew, waiting};
 ghost use Rattle.hsm_core.specs.Answers.{entry_of, own_answer, IsAnswered, IsResumed, IsTold, IsCommitted};
 ghost use Rattle.hsm_core.specs.Crashes.{IsPrefix, IsSafeNow};
 ghost use Rattle.hsm_core.specs.Kept.{IsKept};
-ghost use Rattle.hsm_core.specs.Outcomes.{is_aborted, is_fresh, IsAbortedBy};
+ghost use Rattle.hsm_core.specs.Outcomes.{is_aborted, is_fresh, IfAborted};
 ghost use Rattle.hsm_core.specs.Store.{KeepsRoom};
 ghost use Rattle.hsm_core.specs.Ready.{blocked_by, ready, told_ready};
 
@@ -156,7 +156,7 @@ fn is_aborted(service: &DmService, caller: CallerId) -> bool
     ensures { result ≡ is_aborted (waiting service.now caller) }
 {
     match service.pending(caller) {
-        Some(access) => matches!(access.answer, Some(Response::Abort(_))),
+        Some(access) => matches!(access.answer, Some(Response::Abort(_) | Response::Media(_))),
         None => false,
     }
 }
@@ -170,7 +170,7 @@ fn ready_for<D: Disk>(files: &FileStore<D>, service: &DmService, access: &Access
     }
     match (access.token, access.answer) {
         (Some(token), None) => Ready::Waits(token),
-        (_, Some(Response::Abort(_))) => Ready::Now,
+        (_, Some(Response::Abort(_) | Response::Media(_))) => Ready::Now,
         _ if !is_live(files, access.key) => Ready::Now,
         _ => blocked_by(service.conflict(access.key, &access.call)),
     }
@@ -317,11 +317,12 @@ impl<D: Disk> Hsm<D> {
         ensures found { IfOk result (λ s. (s.files.held ≡ s.files.durable) × (s.files.failed ≡ false)) }
         ensures durable { IfOk result (λ s. (c : List ℕ) → MayBe D.Disk s.files.disk c → IsDurable s.files c) }
         ensures lawful { IfOk result (λ s. IsLawful (geometry_of s.files.meta.durable.geometry).files s.files.held) }
+        ensures quiet { IfOk result (λ s. D.fault_count s.files.disk ≡ D.fault_count disk) }
 
         // Why it wasn't opened.
         ensures not_store { IfErr result (λ e. e.0 ≡ OpenRefusal.NotStore → (c : List ℕ) → D.gives disk c → (geometry fsid : ℕ) → IsStore geometry fsid c → ⊥) }
         ensures corrupt { IfErr result (λ e. (place : ℕ) → e.0 ≡ OpenRefusal.Corrupt place → (c : List ℕ) → D.gives disk c → IsCorruptAt place c) }
-        ensures failed { IfErr result (λ e. e.0 ≡ OpenRefusal.Disk → Rose (D.fault_count disk) (D.fault_count e.1)) }
+        ensures faults { IfErr result (λ e. Counts (e.0 ≡ OpenRefusal.Disk) (D.fault_count disk) (D.fault_count e.1)) }
     {
         let Ok(service) = DmService::new(alloc) else {
             return Err((OpenRefusal::Memory, disk));
@@ -379,7 +380,7 @@ impl<D: Disk> Hsm<D> {
     /// calls are; but there is always memory to end an access that was aborted. Each refusal but these and `Idle` ends the access.
     pub fn resume(&mut self, alloc: Global, caller: CallerId) -> Reply
         ensures resumed { IsResumed D.Disk self.old caller result self.new }
-        ensures aborts { self.old.files.failed ≡ false → IsAbortedBy (waiting self.old.tables caller) (λ error. result ≡ Reply.Refused (CallRefusal.Aborted error)) }
+        ensures aborts { self.old.files.failed ≡ false → IfAborted (waiting self.old.tables caller) (λ why. result ≡ Reply.Refused why) }
         ensures safe { IsSafeNow D.Disk self.new }
         ensures room { self.old.spare ≤ self.new.spare + (if is_aborted (waiting self.old.tables caller) then 0 else 2) }
         ensures keeps { KeepsRoom self.old self.new }

@@ -6,7 +6,7 @@ use Rattle.hsm_types.specs.declared.dm.Kind.{Kind}
 use Rattle.hsm_types.specs.declared.dm.Kind.TheVariants.{Read, Write, Truncate, NoSpace, User}
 use Rattle.hsm_types.specs.declared.dm.Kinds.{Kinds}
 use Rattle.hsm_types.specs.declared.dm.Response.{Response}
-use Rattle.hsm_types.specs.declared.dm.Response.TheVariants.{Continue, Abort}
+use Rattle.hsm_types.specs.declared.dm.Response.TheVariants.{Continue, Abort, Media}
 use Rattle.hsm_types.specs.declared.keys.Handle.{Handle}
 use Rattle.hsm_types.specs.declared.keys.Token.{Token}
 use Rattle.hsm_types.specs.declared.messages.Message.{Message}
@@ -38,6 +38,7 @@ without_kinds others kinds = record {
 abbrev pub is_lawful : Response → Bool
 is_lawful Continue = true
 is_lawful (Abort error) = nat_le 1 error && nat_le error 255
+is_lawful (Media fault) = true
 
 -- ---- which messages there are
 

@@ -2,6 +2,7 @@
 
 use crate::keys::{FileKey, Token};
 use crate::lists::{Bytes, Word};
+use crate::media::MediaCause;
 use thiserror::Error;
 
 /// What a caller asks of the store. Offsets and lengths are in bytes.
@@ -72,6 +73,9 @@ pub enum CallRefusal {
     /// The response to the token for which the access waited.
     #[error("the access was aborted with the error {errno}")]
     Aborted { errno: u8 },
+    /// The response to the token for which the access waited.
+    #[error("a fault of a medium ended the access: {}", cause.fault())]
+    Media { cause: MediaCause },
     /// A call of the disk failed in this event, or the store is closed by such a fault.
     #[error("the disk failed")]
     Disk,

@@ -8,6 +8,7 @@ ghost use Rattle.hsm_types.specs.declared.dm.Scope.TheVariants.{OnFile, OnRight}
 use crate::attributes::AttrName;
 use crate::keys::{Handle, Sid, Token};
 use crate::lists::{Bytes, Names, Regions, Segments, Sids, Tokens, Word};
+use crate::media::MediaCause;
 use crate::stubs::{Fingerprint, StubEntry, Verified};
 use crate::tables::Table;
 use thiserror::Error;
@@ -236,6 +237,8 @@ pub enum Response {
     Continue,
     /// It ends with that error, from 1 to 255.
     Abort(u32),
+    /// It ends with that fault of a medium: an abort that tells its cause. No script can give it.
+    Media(MediaCause),
 }
 
 impl Response {
@@ -246,6 +249,7 @@ impl Response {
         match self {
             Response::Continue => true,
             Response::Abort(error) => 1 <= error && error <= 255,
+            Response::Media(_) => true,
         }
     }
 }

@@ -155,10 +155,11 @@ macro_rules! verb_of {
     };
 }
 
-/// How a field is bound: what can't be copied is lent.
+/// How a field is bound: what can't be copied is lent, and so is a response, which is long.
 macro_rules! bound {
     (Word $field:ident) => { ref $field };
     (Regions $field:ident) => { ref $field };
+    (Response $field:ident) => { ref $field };
     (Data $field:ident) => { ref $field };
     (Verified $field:ident) => { ref $field };
     ($part:ident $field:ident) => { $field };

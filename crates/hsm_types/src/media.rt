@@ -87,7 +87,7 @@ impl MediaCause {
     }
 }
 
-/// Why a segment was not copied to a volume. After all but the second and the fourth the volume may have one object more.
+/// Why a segment was not copied to a volume. After `Failed`, `Damaged` and `Memory` the volume may have one object more.
 #[derive(Clone, Copy, Debug, PartialEq, Eq, Error)]
 pub enum CopyRefusal {
     /// The drive's count of faults rose from the one number to the other. It stops at the greatest `u64`.

@@ -43,7 +43,7 @@ pub enum PartRef<'a> {
     Regions(&'a Regions),
     Name(AttrName),
     Kinds(Kinds),
-    Response(Response),
+    Response(&'a Response),
     Right(Right),
     Digest(Digest),
     Data(&'a Bytes),
@@ -188,8 +188,8 @@ impl Parts {
         ensures value { result ≡ response_in self.old }
         ensures rest { self.new ≡ drop 1 self.old }
     {
-        match self.items.pop_front() {
-            Some(Part::Response(response)) => response,
+        match &self.items.pop_front() {
+            Some(Part::Response(response)) => *response,
             _ => Response::Continue,
         }
     }

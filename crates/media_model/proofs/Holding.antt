@@ -100,6 +100,14 @@ change-alike v w change old same = by (nat_eq w v) refl
         subst (λ (u : ℕ). Alike (AreObjects old u) (AreObjects (change_volume v change old) u)) (sym (eqb-true w v is)) ((λ o given. sym at ∙ given, λ o given. at ∙ given))
     by false is = other-alike v w change old (λ e. true≢false (sym (eq-eqb w v e) ∙ is))
 
+-- one object more, whichever it is
+pub change-adds : (v : ℕ) (bytes : List ℕ) (old : Held) → Follows (Adds bytes) (AreObjects old v) (AreObjects (change_volume v (with_object bytes) old) v)
+change-adds v bytes old now given = by (volume_in v old) (rw (same-entry v (with_object bytes) old.volumes) at given)
+  where
+    by : (w : Option Volume) → option_map (λ x. x.objects) (option_map (with_object bytes) w) ≡ Some now → (before : Objects) × (option_map (λ x. x.objects) w ≡ Some before) × Adds bytes before now
+    by None given = absurd (none-some now given)
+    by (Some x) given = let same : x.objects ++ bytes ∷ [] ≡ now = cc in (x.objects, refl, sym same)
+
 -- after a sync all objects of the volume last
 pub synced-last : (v : ℕ) (old : Held) (o : Objects) → AreObjects (change_volume v synced old) v o → length o ≤ lasting_in v (change_volume v synced old)
 synced-last v old o given = rw (same-entry v synced old.volumes) (by (volume_in v old) (rw (same-entry v synced old.volumes) at given))
@@ -154,14 +162,7 @@ module _ (result : Result ℕ DriveRefusal) (v len : ℕ) (stored : List ℕ) (o
   appends-others w apart = cases (λ r h. Alike (AreObjects old w) (AreObjects h w)) (λ n. other-alike v w (with_object stored) old apart) (λ why. same-alike w old old refl)
 
   pub appends-exact : OnOk result (Follows (Adds stored) (AreObjects old v) (AreObjects new v))
-  appends-exact = cases (λ r h. OnOk r (Follows (Adds stored) (AreObjects old v) (AreObjects h v))) (λ n. after) (λ why. tt)
-    where
-      by : (w : Option Volume) → (now : Objects) → option_map (λ x. x.objects) (option_map (with_object stored) w) ≡ Some now → (before : Objects) × (option_map (λ x. x.objects) w ≡ Some before) × Adds stored before now
-      by None now given = absurd (none-some now given)
-      by (Some x) now given = let same : x.objects ++ stored ∷ [] ≡ now = cc in (x.objects, refl, sym same)
-
-      after : Follows (Adds stored) (AreObjects old v) (AreObjects (change_volume v (with_object stored) old) v)
-      after now given = by (volume_in v old) now (rw (same-entry v (with_object stored) old.volumes) at given)
+  appends-exact = cases (λ r h. OnOk r (Follows (Adds stored) (AreObjects old v) (AreObjects h v))) (λ n. change-adds v stored old) (λ why. tt)
 
   pub appends-one : OnOk result (Follows AddsOne (AreObjects old v) (AreObjects new v))
   appends-one = on_ok_weaker result (λ follows now given. let p = follows now given in (p.0, p.1, (stored, p.2))) appends-exact

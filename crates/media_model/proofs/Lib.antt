@@ -1,3 +1,4 @@
 pub mod Sizes
 pub mod Holding
 pub mod Failing
+pub mod Places

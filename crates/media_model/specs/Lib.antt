@@ -1,3 +1,4 @@
 pub mod Objects
 pub mod Memory
 pub mod Faults
+pub mod Sharing

@@ -88,7 +88,7 @@ pub trait Drive {
         ensures cause { HasCause result (has self.old volume) (fault_count self.old) (fault_count self.new) };
 
     /// Puts the object's bytes from that place on into the buffer, as far as they fit, and tells how many it has put. At the object's end and past it
-    /// that is 0. What lies behind them in the buffer stays.
+    /// that is 0.
     fn read(
         &mut self,
         volume: u32,
@@ -98,7 +98,6 @@ pub trait Drive {
     ) -> Result<u32, DriveRefusal>
         ensures bytes { IfOk result (λ n. (o : Objects) → gives self.old volume o → (object < length o) × (take n buf.new ≡ read_from at (length buf.old) (get_or o object [])) × (n ≡ length (read_from at (length buf.old) (get_or o object [])))) }
         ensures count { IfOk result (λ n. n ≤ length buf.old) }
-        ensures behind { IfOk result (λ n. drop n buf.new ≡ drop n buf.old) }
         ensures missing { IsErrOf result NoObject → (o : Objects) → gives self.old volume o → length o ≤ object }
         ensures asked { IsAsked result }
         ensures same { (v : ℕ) → Alike (gives self.old v) (gives self.new v) }

@@ -102,6 +102,20 @@ impl MemDrive {
         self.calls
     }
 
+    /// How many bytes the objects of each volume may have together.
+    pub fn capacity(&self) -> u64
+        ensures { result ≡ self.now.held.capacity }
+    {
+        self.drive.capacity()
+    }
+
+    /// Whether the drive has the volume.
+    pub fn has(&self, volume: u32) -> bool
+        ensures { result ≡ has_volume volume self.now.held }
+    {
+        self.objects_of(volume).is_some()
+    }
+
     /// The objects of the volume, in the order of their numbers.
     pub fn objects_of(&self, volume: u32) -> Option<&[ObjectBytes]>
         ensures { MatchOption result (objects_in volume self.now.held ≡ None) (λ o. objects_in volume self.now.held ≡ Some o.now) }
@@ -240,7 +254,6 @@ impl Drive for MemDrive {
     ) -> Result<u32, DriveRefusal>
         ensures bytes { IfOk result (λ n. (o : Objects) → AreObjects self.old.held volume o → (object < length o) × (take n buf.new ≡ read_from at (length buf.old) (get_or o object [])) × (n ≡ length (read_from at (length buf.old) (get_or o object [])))) }
         ensures count { IfOk result (λ n. n ≤ length buf.old) }
-        ensures behind { IfOk result (λ n. drop n buf.new ≡ drop n buf.old) }
         ensures missing { IsErrOf result NoObject → (o : Objects) → AreObjects self.old.held volume o → length o ≤ object }
         ensures asked { IsAsked result }
         ensures same { (v : ℕ) → Alike (AreObjects self.old.held v) (AreObjects self.new.held v) }

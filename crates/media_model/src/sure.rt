@@ -46,6 +46,12 @@ impl SureDrive {
         })
     }
 
+    pub(crate) fn capacity(&self) -> u64
+        ensures { result ≡ self.now.capacity }
+    {
+        self.capacity
+    }
+
     /// The objects of the volume, in the order of their numbers.
     pub fn objects_of(&self, volume: u32) -> Option<&[ObjectBytes]>
         ensures { MatchOption result (objects_in volume self.now ≡ None) (λ o. objects_in volume self.now ≡ Some o.now) }
@@ -211,7 +217,6 @@ impl Drive for SureDrive {
     ) -> Result<u32, DriveRefusal>
         ensures bytes { IfOk result (λ n. (o : Objects) → AreObjects self.old volume o → (object < length o) × (take n buf.new ≡ read_from at (length buf.old) (get_or o object [])) × (n ≡ length (read_from at (length buf.old) (get_or o object [])))) }
         ensures count { IfOk result (λ n. n ≤ length buf.old) }
-        ensures behind { IfOk result (λ n. drop n buf.new ≡ drop n buf.old) }
         ensures missing { IsErrOf result NoObject → (o : Objects) → AreObjects self.old volume o → length o ≤ object }
         ensures asked { IsAsked result }
         ensures same { (v : ℕ) → Alike (AreObjects self.old v) (AreObjects self.new v) }
@@ -258,7 +263,6 @@ impl Drive for SureDrive {
 fn read_at(bytes: &[u8], at: usize, buf: &mut [u8]) -> usize
     ensures count { result ≡ length (read_from at (length buf.old) bytes.now) }
     ensures there { take result buf.new ≡ read_from at (length buf.old) bytes.now }
-    ensures behind { drop result buf.new ≡ drop result buf.old }
 {
     let rest = &bytes[at.min(bytes.len())..];
     let count = rest.len().min(buf.len());

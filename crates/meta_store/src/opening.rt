@@ -1,6 +1,6 @@
 // What an opening judges: the area of a snapshot, and the gate of a journal.
-ghost use Rattle.std.specs.Prelude.{◌≡◌, ◌≤◌, ◌^◌, ◌+◌, List, ℕ, length, IfOk, IsErr, IsErrOf, true, false};
-ghost use Rattle.disk_model.specs.Calls.{Rose};
+ghost use Rattle.std.specs.Prelude.{◌≡◌, ◌≤◌, ◌^◌, ◌+◌, List, ℕ, length, IfOk, IsErrOf, true, false};
+ghost use Rattle.disk_model.specs.Calls.{HasCause};
 ghost use Rattle.disk_model.specs.Images.{part, Alike};
 ghost use Rattle.disk_model.specs.Moments.{MayBe, Keeps, Same};
 ghost use Rattle.commit_slots.specs.Places.{layout_of, journal_at};
@@ -43,7 +43,7 @@ pub(crate) fn is_closed<D: Disk>(disk: &mut D, at: u64) -> Result<bool, Failed>
     ensures keeps { Keeps D.Disk disk.old disk.new Same }
     ensures given { Alike (D.gives disk.old) (D.gives disk.new) }
     ensures closed { IfOk result (λ b. (c : List ℕ) → D.gives disk.old c → (b ≡ true → IsClosed (part c at 1)) × (b ≡ false → IsClosed (part c at 1) → ⊥)) }
-    ensures failed { IsErr result → Rose (D.fault_count disk.old) (D.fault_count disk.new) }
+    ensures cause { HasCause result (D.fault_count disk.old) (D.fault_count disk.new) }
 {
     let mut gate = [0];
     read_at(disk, at, &mut gate)?;

@@ -2,7 +2,7 @@
 ghost use Rattle.std.specs.Prelude.{◌≡◌, ◌≤◌, ◌^◌, ◌↔◌, List, ℕ, true, false, Some, Err, OnOk, OnErr, IfOk, if◌then◌else◌};
 ghost use Rattle.std.specs.Result.{IsErrOf};
 ghost use Rattle.hsm_types.specs.declared.dm.DmRefusal.{DmRefusal};
-ghost use Rattle.disk_model.specs.Calls.{Rose};
+ghost use Rattle.disk_model.specs.Calls.{Counts};
 ghost use Rattle.disk_model.specs.Images.{Alike};
 ghost use Rattle.disk_model.specs.Moments.{MayBe, Keeps, Same};
 ghost use Rattle.commit_slots.specs.Places.{layout_of, snapshot_at, journal_at};
@@ -62,7 +62,7 @@ impl MetaStore {
         // Why it wasn't opened.
         ensures not_store { IsErrOf result OpenRefusal.NotStore → (c : List ℕ) → D.gives disk.old c → (geometry fsid : ℕ) → IsStore geometry fsid c → ⊥ }
         ensures corrupt { (place : ℕ) → IsErrOf result (OpenRefusal.Corrupt place) → (c : List ℕ) → D.gives disk.old c → IsCorruptAt place c }
-        ensures failed { IsErrOf result OpenRefusal.Disk → Rose (D.fault_count disk.old) (D.fault_count disk.new) }
+        ensures faults { Counts (IsErrOf result OpenRefusal.Disk) (D.fault_count disk.old) (D.fault_count disk.new) }
     {
         let Ok(()) = sync_all(disk) else {
             return Err(OpenRefusal::Disk);
@@ -80,7 +80,7 @@ impl MetaStore {
         ensures lawful { IfOk result (λ m. IsMeta m) }
         ensures not_store { IsErrOf result OpenRefusal.NotStore → (c : List ℕ) → D.gives disk.old c → (geometry fsid : ℕ) → IsStore geometry fsid c → ⊥ }
         ensures corrupt { (place : ℕ) → IsErrOf result (OpenRefusal.Corrupt place) → (c : List ℕ) → D.gives disk.old c → IsCorruptAt place c }
-        ensures failed { IsErrOf result OpenRefusal.Disk → Rose (D.fault_count disk.old) (D.fault_count disk.new) }
+        ensures faults { Counts (IsErrOf result OpenRefusal.Disk) (D.fault_count disk.old) (D.fault_count disk.new) }
     {
         let loaded = match CommitSlots::load(alloc, disk) {
             Ok(loaded) => loaded,
@@ -157,7 +157,7 @@ impl MetaStore {
         ensures refused { (why : DmRefusal) → (result ≡ Err (MetaRefusal.Part why)) ↔ (refusal_of_all records self.old.current ≡ Some why) }
         ensures unwritten { (why : DmRefusal) → IsErrOf result (MetaRefusal.Part why) → disk.new ≡ disk.old }
         ensures memory { IsErrOf result MetaRefusal.Memory → disk.new ≡ disk.old }
-        ensures failed { IsErrOf result MetaRefusal.Disk → Rose (D.fault_count disk.old) (D.fault_count disk.new) }
+        ensures faults { Counts (IsErrOf result MetaRefusal.Disk) (D.fault_count disk.old) (D.fault_count disk.new) }
         ensures err { OnErr result (self.new ≡ self.old) }
     {
         for record in records.into_vec() {
@@ -187,7 +187,7 @@ impl MetaStore {
 
         // Why it wasn't done. Without memory nothing was begun.
         ensures memory { IsErrOf result MetaRefusal.Memory → disk.new ≡ disk.old }
-        ensures failed { IsErrOf result MetaRefusal.Disk → Rose (D.fault_count disk.old) (D.fault_count disk.new) }
+        ensures faults { Counts (IsErrOf result MetaRefusal.Disk) (D.fault_count disk.old) (D.fault_count disk.new) }
         ensures no_part { (why : DmRefusal) → IsErrOf result (MetaRefusal.Part why) → ⊥ }
         ensures err { OnErr result (self.new ≡ self.old) }
     {

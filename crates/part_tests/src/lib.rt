@@ -4,11 +4,15 @@
 #[cfg(test)]
 mod disks;
 #[cfg(test)]
+mod folders;
+#[cfg(test)]
 mod handles;
 #[cfg(test)]
 mod messages;
 #[cfg(test)]
 mod objects;
+#[cfg(test)]
+mod policy;
 #[cfg(test)]
 mod regions;
 #[cfg(test)]

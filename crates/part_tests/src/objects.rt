@@ -6,7 +6,7 @@ use std::alloc::{AllocError, Global};
 use volume_format::{Object, read_object, write_object};
 
 /// The segment 7 of the file 1.2.5, which has the bytes `abc`.
-static ABC: [u8; 75] = [
+pub(crate) static ABC: [u8; 75] = [
     72, 83, 77, 79, 66, 74, 48, 49, 0, 0, 0, 0, 0, 0, 0, 1, 0, 0, 0, 0, 0, 0, 0, 2, 0, 0, 0, 0, 0,
     0, 0, 5, 0, 0, 0, 7, 0, 0, 0, 3, 186, 120, 22, 191, 143, 1, 207, 234, 65, 65, 64, 222, 93, 174,
     34, 35, 176, 3, 97, 163, 150, 23, 122, 156, 180, 16, 255, 97, 242, 0, 21, 173, 97, 98, 99,

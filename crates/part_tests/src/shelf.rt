@@ -8,7 +8,7 @@ use media_model::{Drive, DriveRefusal, FailingCall, MemDrive};
 use std::alloc::{AllocError, Global};
 use volume_shelf::{copy, fetch};
 
-const FILE: Handle = Handle {
+pub(crate) const FILE: Handle = Handle {
     fsid: 1,
     key: FileKey { ino: 2, igen: 5 },
 };
@@ -47,14 +47,14 @@ fn entry(object: u32, bytes: &[u8]) -> StubEntry
     }
 }
 
-fn fetches(outcome: &Result<Verified, FetchRefusal>, bytes: &[u8]) -> bool {
+pub(crate) fn fetches(outcome: &Result<Verified, FetchRefusal>, bytes: &[u8]) -> bool {
     match outcome {
         Ok(fetched) => fetched.as_slice() == bytes,
         Err(_) => false,
     }
 }
 
-fn tells(outcome: &Result<Verified, FetchRefusal>, fault: Fault) -> bool {
+pub(crate) fn tells(outcome: &Result<Verified, FetchRefusal>, fault: Fault) -> bool {
     match outcome {
         Err(FetchRefusal::Media(cause)) => cause.fault() == fault,
         _ => false,

@@ -27,7 +27,7 @@ use Rattle.hsm_types.specs.declared.dm.DmRefusal.{DmRefusal}
 use Rattle.hsm_types.specs.declared.dm.DmReply.TheVariants as told
 use Rattle.hsm_types.specs.Rights.{Rights, reaches, same_token, right_of, conflict, busy, too_low, bad_right}
 use Rattle.hsm_types.specs.declared.dm.Response.{Response}
-use Rattle.hsm_types.specs.declared.dm.Response.TheVariants.{Abort}
+use Rattle.hsm_types.specs.declared.dm.Response.TheVariants.{Abort, Media}
 use Rattle.hsm_types.specs.declared.dm.Right.{Right}
 use Rattle.hsm_types.specs.declared.dm.Right.TheVariants.{Excl}
 use Rattle.hsm_types.specs.declared.keys.FileKey.{FileKey}
@@ -134,6 +134,7 @@ faultless_by st k call (Some (Lacks need free)) = refl
 
 ordinary_abort : (answer : Option Response) → Ordinary (aborted answer)
 ordinary_abort (Some (Abort error)) = refl
+ordinary_abort (Some (Media fault)) = refl
 ordinary_abort answer = tt
 
 ordinary_again : (files : List Listed) (waits : Option Access) → Ordinary (objection_again files waits)

@@ -20,7 +20,7 @@ use Rattle.hsm_types.specs.declared.dm.DmRefusal.{DmRefusal}
 use Rattle.hsm_types.specs.declared.dm.DmRefusal.TheVariants as dm
 use Rattle.hsm_types.specs.declared.dm.DmReply.TheVariants as told
 use Rattle.hsm_types.specs.declared.dm.Response.{Response}
-use Rattle.hsm_types.specs.declared.dm.Response.TheVariants.{Continue, Abort}
+use Rattle.hsm_types.specs.declared.dm.Response.TheVariants.{Continue, Abort, Media}
 use Rattle.hsm_types.specs.declared.stores.Superblock.{Superblock}
 use Rattle.plain_model.specs.declared.entries.Actor.{Actor}
 use Rattle.plain_model.specs.declared.entries.Actor.TheVariants.{Caller, Session, Store}
@@ -189,6 +189,7 @@ module _ (s : Superblock) (st : State) (fl : Flags) where
   used_response : (c t : ℕ) (later : Type 0) (r : Response) (live : Bool) (k : FileKey) (call : Call)
       → used_by c t r (Caller c) Resume (Replied (reply_where s st fl (first_refusal (aborted (Some r) ∷ gone live ∷ [])) (Means k call))) later
   used_response c t later (Abort error) live k call = own_either c _ later refl
+  used_response c t later (Media fault) live k call = own_either c _ later refl
   used_response c t later Continue true k call = used_verdict st c t later k call (verdict s st fl k call)
   used_response c t later Continue false k call = own_either c _ later tt
 

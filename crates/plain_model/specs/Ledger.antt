@@ -7,11 +7,11 @@ use Rattle.hsm_types.specs.declared.keys.Token.{Token}
 use Rattle.hsm_types.specs.declared.stores.Superblock.{Superblock}
 use Rattle.hsm_types.specs.declared.calls.Call.{Call}
 use Rattle.hsm_types.specs.declared.calls.CallRefusal.{CallRefusal}
-use Rattle.hsm_types.specs.declared.calls.CallRefusal.TheVariants.{Missing, Aborted, Waiting, Idle}
+use Rattle.hsm_types.specs.declared.calls.CallRefusal.TheVariants.{Missing, Aborted, Media as Faulted, Waiting, Idle}
 use Rattle.hsm_types.specs.declared.calls.Reply.{Reply}
 use Rattle.hsm_types.specs.declared.calls.Reply.TheVariants.{Done, Made, Data, Size, Parked, Blocked, Still, Refused}
 use Rattle.hsm_types.specs.declared.dm.Response.{Response}
-use Rattle.hsm_types.specs.declared.dm.Response.TheVariants.{Abort}
+use Rattle.hsm_types.specs.declared.dm.Response.TheVariants.{Abort, Media}
 use Rattle.hsm_types.specs.declared.dm.DmCall.{DmCall}
 use Rattle.hsm_types.specs.declared.dm.DmCall.TheVariants.{Respond, CreateUserEvent}
 use Rattle.hsm_types.specs.declared.dm.DmReply.{DmReply}
@@ -72,9 +72,10 @@ meant files waits action = resumed waits
 
 -- ---- what ends an access before a store is asked
 
--- parking rule 1: the response is an abort
+-- parking rule 1: the response is an abort, or tells a fault of a medium
 abbrev pub aborted : Option Response → Option CallRefusal
 aborted (Some (Abort error)) = Some (Aborted error)
+aborted (Some (Media fault)) = Some (Faulted fault)
 aborted answer = None
 
 -- parking rule 2: the file is gone

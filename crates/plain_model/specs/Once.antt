@@ -1,13 +1,13 @@
 -- Each token is given once, at most one response to it is taken, and that is used up once, by the access that waits for it.
 use Rattle.std.specs.Prelude.{◌≡◌, ℕ, ◌≢◌, List, [], ◌∷◌, Bool, true, false, ◌==◌, Option, Some, None}
 use Rattle.std.specs.List.{AllByRecursion}
-use Rattle.hsm_types.specs.declared.calls.CallRefusal.TheVariants.{Aborted, Disk, Waiting}
+use Rattle.hsm_types.specs.declared.calls.CallRefusal.TheVariants.{Aborted, Media as Faulted, Disk, Waiting}
 use Rattle.hsm_types.specs.declared.calls.Reply.{Reply}
 use Rattle.hsm_types.specs.declared.calls.Reply.TheVariants.{Parked, Still, Refused}
 use Rattle.hsm_types.specs.declared.dm.DmCall.TheVariants.{Respond}
 use Rattle.hsm_types.specs.declared.dm.DmReply.TheVariants as told
 use Rattle.hsm_types.specs.declared.dm.Response.{Response}
-use Rattle.hsm_types.specs.declared.dm.Response.TheVariants.{Continue, Abort}
+use Rattle.hsm_types.specs.declared.dm.Response.TheVariants.{Continue, Abort, Media}
 use Rattle.plain_model.specs.declared.entries.Entry.{Entry}
 use Rattle.plain_model.specs.declared.entries.Actor.{Actor}
 use Rattle.plain_model.specs.declared.entries.Actor.TheVariants.{Caller, Session}
@@ -57,10 +57,13 @@ MustWait t Resume (Replied (Still u)) = u.0 ≡ t
 MustWait t action (Replied (Refused Disk)) = Unit {0}
 MustWait t action answer = ⊥
 
--- the reply that uses a response up: that of an abort tells its error, and no other tells one or waits for this token
+-- the reply that uses a response up: that of an abort tells its error, that of a fault of a medium tells the fault, and no other tells either or waits
+-- for this token
 abbrev pub UsesUp : ℕ → Response → Reply → Type 0
 UsesUp t (Abort error) reply = reply ≡ Refused (Aborted error)
+UsesUp t (Media fault) reply = reply ≡ Refused (Faulted fault)
 UsesUp t Continue (Refused (Aborted error)) = ⊥
+UsesUp t Continue (Refused (Faulted fault)) = ⊥
 UsesUp t Continue (Still u) = u.0 ≢ t
 UsesUp t Continue reply = Unit {0}
 

@@ -6,13 +6,13 @@ use Rattle.hex.specs.Hex.{encode_lower}
 use Rattle.sha2.specs.Sha256.{sha256}
 use Rattle.hsm_types.specs.declared.calls.Call.{Call}
 use Rattle.hsm_types.specs.declared.calls.CallRefusal.{CallRefusal}
-use Rattle.hsm_types.specs.declared.calls.CallRefusal.TheVariants.{Missing, Exists, BadName, TooBig, BadLength, NoInodes, NoSpace, Aborted, Disk, Memory, Waiting, Idle}
+use Rattle.hsm_types.specs.declared.calls.CallRefusal.TheVariants.{Missing, Exists, BadName, TooBig, BadLength, NoInodes, NoSpace, Aborted, Media as Faulted, Disk, Memory, Waiting, Idle}
 use Rattle.hsm_types.specs.declared.calls.Reply.{Reply}
 use Rattle.hsm_types.specs.declared.calls.Reply.TheVariants.{Done, Made, Data, Size, Parked, Blocked, Still, Refused}
 use Rattle.hsm_types.specs.declared.dm.DmCall.{DmCall}
 use Rattle.hsm_types.specs.declared.dm.Kinds.{Kinds}
 use Rattle.hsm_types.specs.declared.dm.Response.{Response}
-use Rattle.hsm_types.specs.declared.dm.Response.TheVariants.{Continue, Abort}
+use Rattle.hsm_types.specs.declared.dm.Response.TheVariants.{Continue, Abort, Media}
 use Rattle.hsm_types.specs.declared.dm.Right.{Right}
 use Rattle.hsm_types.specs.declared.dm.Right.TheVariants.{Null, Shared, Excl}
 use Rattle.hsm_types.specs.declared.dm.DmRefusal.{DmRefusal}
@@ -21,6 +21,8 @@ use Rattle.hsm_types.specs.declared.dm.DmReply.{DmReply}
 use Rattle.hsm_types.specs.declared.dm.DmReply.TheVariants as told
 use Rattle.hsm_types.specs.declared.attributes.AttrName.{AttrName}
 use Rattle.hsm_types.specs.declared.keys.FileKey.{FileKey}
+use Rattle.hsm_types.specs.declared.media.Fault.{Fault}
+use Rattle.hsm_types.specs.declared.media.Fault.TheVariants.{Failed, Damaged}
 use Rattle.hsm_types.specs.declared.regions.Region.{Region}
 use Rattle.hsm_types.specs.declared.keys.Handle.{Handle}
 use Rattle.hsm_types.specs.declared.stubs.Fingerprint.{Fingerprint}
@@ -92,10 +94,20 @@ kinds_word kinds =
     let words = if_taken kinds.read (codes "read") ++ if_taken kinds.write (codes "write") ++ if_taken kinds.truncate (codes "truncate") ++ if_taken kinds.no_space (codes "nospace") in
     join_with_byte 44 (listed words)
 
--- `continue`, or `abort` and the error
+-- a fingerprint: how many bytes there are, and their digest
+abbrev pub print_words : Fingerprint → List (List ℕ)
+print_words print = decimal print.len ∷ encode_lower print.digest.0 ∷ []
+
+-- a fault of a medium: its volume and object, and both counts or both fingerprints
+abbrev pub fault_words : Fault → List (List ℕ)
+fault_words (Failed volume object before after) = codes "failed" ∷ decimal volume ∷ decimal object ∷ decimal before ∷ decimal after ∷ []
+fault_words (Damaged volume object want got) = codes "damaged" ∷ decimal volume ∷ decimal object ∷ print_words want ++ print_words got
+
+-- `continue`, `abort` and the error, or `media` and the fault
 abbrev pub response_word : Response → List ℕ
 response_word Continue = codes "continue"
 response_word (Abort error) = codes "abort " ++ decimal error
+response_word (Media fault) = codes "media " ++ spaced (fault_words fault)
 
 abbrev pub right_word : Right → List ℕ
 right_word Null = codes "null"
@@ -143,6 +155,7 @@ refusal_words (BadLength len) = codes "BadLength" ∷ decimal len ∷ []
 refusal_words (NoInodes count) = codes "NoInodes" ∷ decimal count ∷ []
 refusal_words (NoSpace need free) = codes "NoSpace" ∷ decimal need ∷ decimal free ∷ []
 refusal_words (Aborted error) = codes "Aborted" ∷ decimal error ∷ []
+refusal_words (Faulted fault) = codes "Media" ∷ fault_words fault
 refusal_words Disk = codes "Disk" ∷ []
 refusal_words Memory = codes "Memory" ∷ []
 refusal_words Waiting = codes "Waiting" ∷ []
@@ -157,10 +170,6 @@ reply_words (Parked t) = codes "parked" ∷ decimal t.0 ∷ []
 reply_words (Blocked t) = codes "blocked" ∷ decimal t.0 ∷ []
 reply_words (Still t) = codes "still" ∷ decimal t.0 ∷ []
 reply_words (Refused why) = codes "refused" ∷ refusal_words why
-
--- a fingerprint: how many bytes there are, and their digest
-abbrev pub print_words : Fingerprint → List (List ℕ)
-print_words print = decimal print.len ∷ encode_lower print.digest.0 ∷ []
 
 abbrev pub dm_refusal_words : DmRefusal → List (List ℕ)
 dm_refusal_words why.NoSession = codes "NoSession" ∷ []

@@ -117,7 +117,7 @@ fn push_part<S: Spelling>(
         PartRef::Regions(regions) => push_regions(alloc, out, regions),
         PartRef::Name(name) => push_name(alloc, out, name),
         PartRef::Kinds(kinds) => push_kinds(out, kinds),
-        PartRef::Response(response) => push_response(alloc, out, response),
+        PartRef::Response(response) => push_response(alloc, out, *response),
         PartRef::Right(right) => push(out, right_text(right)),
         PartRef::Digest(digest) => push_hex(alloc, out, &digest.0),
         PartRef::Data(bytes) => spelling.push_data(alloc, out, bytes.as_slice()),

@@ -6,8 +6,8 @@ ghost use Rattle.plain_model.specs.Render.{spaced, listed, name_word, right_word
 
 use crate::entries::Answer;
 use crate::pieces::{
-    push, push_field, push_handle, push_hex, push_key, push_kinds, push_name, push_named,
-    push_numbered, push_regions, right_text,
+    push, push_fault, push_field, push_handle, push_key, push_kinds, push_name, push_named,
+    push_numbered, push_print, push_regions, right_text,
 };
 use crate::transcript::push_data;
 use hsm_types::{
@@ -66,6 +66,10 @@ fn push_refusal(alloc: Global, out: &mut Vec<u8>, why: CallRefusal) -> Result<()
         }
         CallRefusal::Aborted { errno } => {
             push_numbered(alloc, out, b"Aborted", u64::from(errno))
+        }
+        CallRefusal::Media { cause } => {
+            push(out, b"Media ")?;
+            push_fault(alloc, out, cause.fault())
         }
         CallRefusal::Disk => push(out, b"Disk"),
         CallRefusal::Memory => push(out, b"Memory"),
@@ -318,15 +322,6 @@ fn push_changed(
     push(out, b"Changed")?;
     push_print(alloc, out, want)?;
     push_print(alloc, out, got)
-}
-
-/// A fingerprint, with a space in front of its length and of its digest.
-fn push_print(alloc: Global, out: &mut Vec<u8>, print: Fingerprint) -> Result<(), AllocError>
-    ensures { OnOk result (out.new.items ≡ out.old.items ++ flat_map (λ word. 32 ∷ word) (print_words print)) }
-{
-    push_field(alloc, out, u64::from(print.len))?;
-    push(out, b" ")?;
-    push_hex(alloc, out, &print.digest.0)
 }
 
 fn push_dm_refusal(alloc: Global, out: &mut Vec<u8>, why: DmRefusal) -> Result<(), AllocError>

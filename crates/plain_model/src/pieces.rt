@@ -1,11 +1,13 @@
 //! The pieces of a line's text.
-ghost use Rattle.std.specs.Prelude.{◌≡◌, ◌≤◌, ◌∷◌, ◌++◌, [], length, OnOk};
+ghost use Rattle.std.specs.Prelude.{◌≡◌, ◌≤◌, ◌∷◌, ◌++◌, [], codes, length, OnOk};
 ghost use Rattle.std.specs.Fmt.{decimal};
 ghost use Rattle.hex.specs.Hex.{encode_lower};
-ghost use Rattle.plain_model.specs.Render.{spaced, key_word, handle_word, name_word, region_word, regions_word, kinds_word, response_word, right_word};
+ghost use Rattle.plain_model.specs.Render.{spaced, key_word, handle_word, name_word, region_word, regions_word, kinds_word, print_words, fault_words, response_word, right_word};
 ghost use Rattle.std.specs.List.{flat_map};
 
-use hsm_types::{AttrName, FileKey, Handle, Kinds, Region, Regions, Response, Right, Word};
+use hsm_types::{
+    AttrName, Fault, FileKey, Fingerprint, Handle, Kinds, Region, Regions, Response, Right, Word,
+};
 use std::alloc::{AllocError, Global};
 
 /// The most bytes of data that are written as hex.
@@ -162,7 +164,7 @@ fn kinds_text(kinds: Kinds) -> &'static [u8]
     }
 }
 
-/// `continue`, or `abort` and the error.
+/// `continue`, `abort` and the error, or `media` and the fault.
 pub(crate) fn push_response(
     alloc: Global,
     out: &mut Vec<u8>,
@@ -176,7 +178,88 @@ pub(crate) fn push_response(
             push(out, b"abort ")?;
             push_number(alloc, out, u64::from(error))
         }
+        Response::Media(cause) => {
+            push(out, b"media ")?;
+            push_fault(alloc, out, cause.fault())
+        }
     }
+}
+
+/// The fault of a medium, with both counts or both fingerprints.
+pub(crate) fn push_fault(alloc: Global, out: &mut Vec<u8>, fault: Fault) -> Result<(), AllocError>
+    ensures { OnOk result (out.new.items ≡ out.old.items ++ spaced (fault_words fault)) }
+{
+    match fault {
+        Fault::Failed {
+            volume,
+            object,
+            before,
+            after,
+        } => push_failed(alloc, out, volume, object, before, after),
+        Fault::Damaged {
+            volume,
+            object,
+            want,
+            got,
+        } => push_damaged(alloc, out, volume, object, want, got),
+    }
+}
+
+fn push_failed(
+    alloc: Global,
+    out: &mut Vec<u8>,
+    volume: u32,
+    object: u32,
+    before: u64,
+    after: u64,
+) -> Result<(), AllocError>
+    ensures { OnOk result (out.new.items ≡ out.old.items ++ spaced (codes "failed" ∷ decimal volume ∷ decimal object ∷ decimal before ∷ decimal after ∷ [])) }
+{
+    push_place(alloc, out, b"failed", volume, object)?;
+    push_field(alloc, out, before)?;
+    push_field(alloc, out, after)
+}
+
+fn push_damaged(
+    alloc: Global,
+    out: &mut Vec<u8>,
+    volume: u32,
+    object: u32,
+    want: Fingerprint,
+    got: Fingerprint,
+) -> Result<(), AllocError>
+    ensures { OnOk result (out.new.items ≡ out.old.items ++ spaced (codes "damaged" ∷ decimal volume ∷ decimal object ∷ print_words want ++ print_words got)) }
+{
+    push_place(alloc, out, b"damaged", volume, object)?;
+    push_print(alloc, out, want)?;
+    push_print(alloc, out, got)
+}
+
+/// A word, a volume and an object.
+fn push_place(
+    alloc: Global,
+    out: &mut Vec<u8>,
+    word: &[u8],
+    volume: u32,
+    object: u32,
+) -> Result<(), AllocError>
+    ensures { OnOk result (out.new.items ≡ out.old.items ++ spaced (word.now ∷ decimal volume ∷ decimal object ∷ [])) }
+{
+    push_numbered(alloc, out, word, u64::from(volume))?;
+    push_field(alloc, out, u64::from(object))
+}
+
+/// A fingerprint, with a space in front of its length and of its digest.
+pub(crate) fn push_print(
+    alloc: Global,
+    out: &mut Vec<u8>,
+    print: Fingerprint,
+) -> Result<(), AllocError>
+    ensures { OnOk result (out.new.items ≡ out.old.items ++ flat_map (λ word. 32 ∷ word) (print_words print)) }
+{
+    push_field(alloc, out, u64::from(print.len))?;
+    push(out, b" ")?;
+    push_hex(alloc, out, &print.digest.0)
 }
 
 pub(crate) fn right_text(right: Right) -> &'static [u8]

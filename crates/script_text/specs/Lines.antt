@@ -5,7 +5,7 @@ use Rattle.std.specs.Fmt.{decimal}
 use Rattle.hex.specs.Hex.{encode_lower, IsBytes}
 use Rattle.hsm_types.specs.declared.attributes.AttrName.{AttrName}
 use Rattle.hsm_types.specs.declared.dm.Response.{Response}
-use Rattle.hsm_types.specs.declared.dm.Response.TheVariants.{Continue, Abort}
+use Rattle.hsm_types.specs.declared.dm.Response.TheVariants.{Continue, Abort, Media}
 use Rattle.hsm_types.specs.declared.dm.Right.{Right}
 use Rattle.hsm_types.specs.declared.dm.Right.TheVariants.{Null, Shared, Excl}
 use Rattle.hsm_types.specs.declared.dm.Scope.{Scope}
@@ -86,10 +86,11 @@ IsAttrName name = IsBytes name.0 × (length name.0 ≡ 8)
 abbrev pub IsDigest : Digest → Type 0
 IsDigest digest = IsBytes digest.0 × (length digest.0 ≡ 32)
 
--- An abort's error has 32 bits. The store judges which it takes.
+-- An abort's error has 32 bits. The store judges which it takes. No line has a fault of a medium.
 abbrev pub IsResponse : Response → Type 0
 IsResponse Continue = Unit {0}
 IsResponse (Abort error) = error < 2 ^ 32
+IsResponse (Media fault) = ⊥
 
 -- What a line asks for is a right, and null is none.
 abbrev pub IsAskedRight : Right → Type 0

@@ -160,7 +160,7 @@ fn refuses<H: Host>(host: &mut H, folder: &str) -> bool {
 
 /// Whether a file that becomes shorter than its disk is a fault.
 fn is_cut(rt: &HostRuntime, path: &str) -> bool {
-    match FileHost::new(rt).disk(path) {
+    match FileHost::new(rt.alloc(), rt).disk(path) {
         Ok(mut disk) => fs::write(rt, path, "short").is_ok() && is_too_short(&mut disk),
         Err(_) => false,
     }
@@ -175,7 +175,12 @@ fn assert_serves<H: Host>(rt: &impl Abort, host: &mut H, path: &str, folder: &st
 fn a_file_is_a_disk(rt: HostRuntime) -> Result<(), Fail> {
     let path = path_of(&rt, "disk")?;
     let folder = env::temp_dir(&rt)?;
-    assert_serves(&rt, &mut FileHost::new(&rt), path.as_str(), folder.as_str());
+    assert_serves(
+        &rt,
+        &mut FileHost::new(rt.alloc(), &rt),
+        path.as_str(),
+        folder.as_str(),
+    );
     assert!(rt; is_cut(&rt, path.as_str()));
     fs::remove_file(&rt, path.as_str())?;
     Ok(())

@@ -7,6 +7,8 @@ mod crashes;
 #[cfg(test)]
 mod disk_faults;
 #[cfg(test)]
+mod drives;
+#[cfg(test)]
 mod hosts;
 #[cfg(test)]
 mod running;

@@ -3,6 +3,8 @@
 
 use disk_model::{Disk, FuseDisk, MemDisk};
 use hsm_cli::{MemHost, Outcome, hsm_main};
+use hsm_types::ListOf;
+use media_model::MemDrive;
 use plain_model::History;
 use script_text::{MemorySink, MemorySource, Sink, Source};
 use std::alloc::{AllocError, Global};
@@ -30,6 +32,7 @@ pub(crate) struct Ending {
     pub base: u64,
     pub history: History,
     pub disk: Option<FuseDisk<MemDisk>>,
+    pub drives: ListOf<MemDrive>,
 }
 
 /// A run that ended, with its streams.
@@ -70,13 +73,14 @@ pub(crate) struct Told {
     pub text: Vec<u8>,
 }
 
-fn ended(outcome: Outcome<FuseDisk<MemDisk>>) -> Ending {
+fn ended(outcome: Outcome<FuseDisk<MemDisk>, MemDrive>) -> Ending {
     Ending {
         status: outcome.status,
         at: outcome.at,
         base: outcome.base,
         history: outcome.history,
         disk: outcome.disk,
+        drives: outcome.drives,
     }
 }
 
@@ -183,7 +187,11 @@ pub(crate) fn assert_told(rt: &impl Abort, told: &Told, numbers: Numbers, text: 
 }
 
 /// A host that has one disk with that image, under the name `s`.
-fn host_of(alloc: Global, image: &[u8], fuse: Option<u64>) -> Result<MemHost, AllocError> {
+pub(crate) fn host_of(
+    alloc: Global,
+    image: &[u8],
+    fuse: Option<u64>,
+) -> Result<MemHost, AllocError> {
     let mut disk = FuseDisk::unset(MemDisk::new(alloc, image, &[])?);
     disk.set_fuse(fuse);
     let mut host = MemHost::new(alloc, Vec::new(alloc));

@@ -1,5 +1,5 @@
 -- A payload that is read piece by piece.
-use Rattle.std.proofs.Common.{◌≡◌, ℕ, ◌+◌, ◌-◌, ◌<◌, ◌≤◌, min, List, [], ◌++◌, length, take, drop, refl, sym, ap, ◌∙◌, arith, length-take, length-drop}
+use Rattle.std.proofs.Common.{◌≡◌, ℕ, ◌+◌, ◌-◌, ◌<◌, ◌≤◌, min, List, ◌++◌, length, take, drop, sym, ap, ◌∙◌, arith, length-take, length-drop}
 use Rattle.std.proofs.lemmas.List.{drop-drop, take-take, take_all}
 use Rattle.std.proofs.Math.Seq.{take-add}
 use Rattle.hsm_types.specs.Stubs.{print_of}
@@ -31,16 +31,6 @@ module _ {D : Type 0} (g : drive.Ghosts D) where
     pub bytes : List ℕ
     pub so_far : AreSoFar pieces bytes
     pub told : (o : Objects) → g.gives old volume o → object < length o → len ≡ length (payload_in object o) → bytes ≡ take pieces.len (payload_in object o)
-
-  -- no piece yet
-  pub no_pieces : (volume object len : ℕ) (d : D) (pieces : Pieces) → AreSoFar pieces [] → Reads g d d → SoFar volume object len d d pieces
-  no_pieces volume object len d pieces none r = record {
-    reads = r;
-    within = let few : pieces.len ≡ 0 = none.counted in omega arith;
-    bytes = [];
-    so_far = none;
-    told = λ o given there is. let few : pieces.len ≡ 0 = none.counted in rw few refl;
-  }
 
   -- one piece more
   pub next_piece : (volume object len : ℕ) (old mid new : D) (before after : Pieces) (n : ℕ) → SoFar volume object len old mid before → Reads g mid new → Reads g old new → after.len ≡ before.len + n → after.len ≤ len

@@ -1,7 +1,6 @@
 -- How the steps of a copy and of a fetch make one.
-use Rattle.std.proofs.Common.{◌≡◌, inl, ℕ, ◌+◌, ◌<◌, ◌≤◌, true, List, [], ◌∷◌, ◌++◌, length, get_or, drop, refl, sym, ap, subst, ◌∙◌, arith, length-append}
+use Rattle.std.proofs.Common.{◌≡◌, ℕ, ◌+◌, ◌<◌, ◌≤◌, true, List, [], ◌∷◌, ◌++◌, length, get_or, drop, refl, sym, ap, subst, ◌∙◌, arith, length-append}
 use Rattle.std.proofs.Math.Seq.{get_or-append_seam}
-use Rattle.disk_model.specs.Calls.{Rose}
 use Rattle.hsm_types.specs.Stubs.{print_of}
 use Rattle.hsm_types.specs.declared.keys.Handle.{Handle}
 use Rattle.hsm_types.specs.declared.media.CopyRefusal.{CopyRefusal}
@@ -12,7 +11,7 @@ use Rattle.media_model.specs.Objects.{Objects, Adds, Follows, KeepsVolumes}
 use Rattle.media_model.specs.declared.drive.Drive as drive
 use Rattle.volume_format.specs.Objects.{object_bytes}
 use Rattle.volume_shelf.specs.Shelf.{AddsPrint, MayGrow, Reads, Grows, HasRoom, Copied, CopyRefused}
-use Rattle.volume_shelf.specs.Steps.{IsPut, NotPut, Prints, IsUnlike}
+use Rattle.volume_shelf.specs.Steps.{IsPut, Prints, IsUnlike}
 use Rattle.volume_shelf.proofs.Rising.{rose_since}
 
 module _ {D : Type 0} (g : drive.Ghosts D) where
@@ -20,9 +19,6 @@ module _ {D : Type 0} (g : drive.Ghosts D) where
 
   pub idle : (d : D) → Reads g d d
   idle d = record { same = λ v. (λ o given. given, λ o given. given); volumes = record { has = λ v. refl; capacity = refl; lasting = λ v. omega arith }; faults = omega arith }
-
-  pub still : (volume : ℕ) (d : D) → Grows g volume d d
-  still volume d = record { one_more = λ now given. (now, given, inl refl); others = λ v apart. (λ o given. given, λ o given. given); volumes = (idle d).volumes; faults = omega arith }
 
   keeps_on : (old mid new : D) → KeepsVolumes (g.has old) (g.has mid) (g.capacity_of old) (g.capacity_of mid) (g.lasting old) (g.lasting mid) → KeepsVolumes (g.has mid) (g.has new) (g.capacity_of mid) (g.capacity_of new) (g.lasting mid) (g.lasting new)
       → KeepsVolumes (g.has old) (g.has new) (g.capacity_of old) (g.capacity_of new) (g.lasting old) (g.lasting new)
@@ -62,13 +58,6 @@ module _ {D : Type 0} (g : drive.Ghosts D) where
       let there : number < length now = omega (arith, ap length is, length-append before.0 (x ∷ []), at) in
       let last : get_or now number [] ≡ x = ap (λ (l : Objects). get_or l number []) is ∙ ap (λ (n : ℕ). get_or (before.0 ++ x ∷ []) n []) at ∙ get_or-append_seam before.0 x [] [] in
       (before.0, before.1, (x, is, told now given there ∙ ap (λ (l : List ℕ). print_of (drop 72 l)) last))
-
-  pub not_put : (volume size : ℕ) (print : Fingerprint) (old new : D) (why : CopyRefusal) → NotPut g volume size old new why → CopyRefused g volume size print old new why
-  not_put volume size print old new (Failed before after) is = is
-  not_put volume size print old new (Full used len capacity) is = is
-  not_put volume size print old new (Damaged want got) is = absurd is
-  not_put volume size print old new NoVolume is = is
-  not_put volume size print old new Memory is = is
 
   -- The bytes were put, read back, and made to last.
   pub copied : (volume number segment : ℕ) (handle : Handle) (bytes object : List ℕ) (old put read new : D) (entry : StubEntry) → object ≡ object_bytes handle segment bytes → length object ≡ 72 + length bytes → entry ≡ record { volume = volume; object = number; print = print_of bytes }
@@ -112,7 +101,3 @@ module _ {D : Type 0} (g : drive.Ghosts D) where
   )
   unlike volume number size bytes object old put new NoVolume is payload tells p grew r why = absurd why
   unlike volume number size bytes object old put new Memory is payload tells p grew r why = absurd why
-
-  -- The volume couldn't be made to last.
-  pub not_lasting : (volume size : ℕ) (print : Fingerprint) (old read new : D) (why : CopyRefusal) → g.fault_count old ≤ g.fault_count read → (why ≡ Failed (g.fault_count old) (g.fault_count new)) × Rose (g.fault_count read) (g.fault_count new) → CopyRefused g volume size print old new why
-  not_lasting volume size print old read new why since is = subst (CopyRefused g volume size print old new) (sym is.0) (refl, refl, rose_since (g.fault_count old) (g.fault_count read) (g.fault_count new) since is.1)

@@ -1,5 +1,5 @@
 -- What the steps of a copy and of a fetch leave and answer.
-use Rattle.std.specs.Prelude.{◌≡◌, ◌≢◌, ℕ, ◌+◌, ◌<◌, true, false, List, length}
+use Rattle.std.specs.Prelude.{◌≡◌, ◌≢◌, ℕ, ◌<◌, true, List, length}
 use Rattle.disk_model.specs.Calls.{Rose}
 use Rattle.hsm_types.specs.Stubs.{print_of}
 use Rattle.hsm_types.specs.declared.media.CopyRefusal.{CopyRefusal}
@@ -10,9 +10,9 @@ use Rattle.hsm_types.specs.declared.media.Fault.{Fault}
 use Rattle.hsm_types.specs.declared.media.Fault.TheVariants as fault
 use Rattle.hsm_types.specs.declared.stubs.Fingerprint.{Fingerprint}
 use Rattle.hsm_types.specs.declared.stubs.StubEntry.{StubEntry}
-use Rattle.media_model.specs.Objects.{Objects, size_of, Adds, AddsOne, Alike, Follows}
+use Rattle.media_model.specs.Objects.{Objects, Adds, AddsOne, Follows}
 use Rattle.media_model.specs.declared.drive.Drive as drive
-use Rattle.volume_shelf.specs.Shelf.{payload_in, HasRoom}
+use Rattle.volume_shelf.specs.Shelf.{payload_in, HasRoom, CopyRefused}
 
 module _ {D : Type 0} (g : drive.Ghosts D) where
   -- an append that was answered with that number
@@ -22,13 +22,9 @@ module _ {D : Type 0} (g : drive.Ghosts D) where
     pub added : Follows AddsOne (g.gives old volume) (g.gives new volume)
     pub exact : g.sure ≡ true → Follows (Adds object) (g.gives old volume) (g.gives new volume)
 
-  -- why an object of so many bytes wasn't put there
+  -- why an object of so many bytes wasn't put there, whatever the fingerprint of its payload
   abbrev pub NotPut : ℕ → ℕ → D → D → CopyRefusal → Type 0
-  NotPut volume size old new (refusal.Failed before after) = (before ≡ g.fault_count old) × (after ≡ g.fault_count new) × Rose before after
-  NotPut volume size old new (refusal.Full used len capacity) = (g.has old volume ≡ true) × (len ≡ size) × (capacity ≡ g.capacity_of old) × (capacity < used + len) × ((o : Objects) → g.gives old volume o → used ≡ size_of o) × Alike (g.gives old volume) (g.gives new volume)
-  NotPut volume size old new (refusal.Damaged want got) = ⊥
-  NotPut volume size old new refusal.NoVolume = (g.has old volume ≡ false) × Alike (g.gives old volume) (g.gives new volume)
-  NotPut volume size old new refusal.Memory = Alike (g.gives old volume) (g.gives new volume)
+  NotPut volume size old new why = (print : Fingerprint) → CopyRefused g volume size print old new why
 
   -- the bytes are the payload of an object that is there, where that has so many bytes
   abbrev pub IsPayload : ℕ → ℕ → ℕ → D → List ℕ → Type 0

@@ -30,6 +30,7 @@ loop-index-preserved g c =
     let is = next-file catalog c.loop-index.index _ c.geometry-geometry.ensures.valid (sym (rw c.unwrap-size.ensures at c.file.ensures)) in
     rw c.slot.ensures record {
       reads = reads_on g.D.Disk _ _ _ so_far.reads c.in_ok-bodies.ensures.reads;
+      quiet = c.in_ok-bodies.ensures.faults.quiet (λ is. cc) ∙ so_far.quiet;
       count = length-set bodies (c.unwrap-size.result.0.ino - 1) body ∙ so_far.count;
       sizes = each-more (λ f b. IsBody b f) catalog c.loop-index.index _ bodies body is so_far.count (record { size = c.in_ok-bodies.ensures.size; here = rw c.stubs.ensures at c.in_ok-bodies.ensures.here }) so_far.sizes;
       loaded = λ d gives. each-more (λ f b. b.bytes ≡ bytes_at (blocks_in_image catalog.geometry d) f) catalog c.loop-index.index _ bodies body is so_far.count

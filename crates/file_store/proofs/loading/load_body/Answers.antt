@@ -12,6 +12,7 @@ pub loop-place-init : goal.loop-place-init
 loop-place-init g c = record {
   start = refl;
   reads = (idle g.D.Disk _ Same (λ d. refl) (g.met.D.Disk.only_now c.args.disk.now), (λ d gives. gives, λ d gives. gives));
+  quiet = refl;
   size = ap length c.in-Ok.ensures.bytes ∙ length-replicate c.args.size 0;
   here = c.in-Ok.ensures.here;
   loaded = λ d gives. rw c.in-Ok.ensures.bytes (no_bytes (blocks_in_image c.args.geometry d) c.args.size);
@@ -27,6 +28,7 @@ loop-place-preserved g c =
       | in-Some+in-Ok-fill w ↦ rw (w.disk-is, w.body-is) record {
         start = omega arith;
         reads = reads_on g.D.Disk _ _ _ so_far.reads w.fill.ensures.reads;
+        quiet = w.in-Ok-fill.ensures.cause.quiet refl ∙ so_far.quiet;
         size = w.fill.ensures.size ∙ so_far.size;
         here = λ j. w.fill.ensures.same j ∙ so_far.here j;
         loaded = λ d gives.
@@ -38,6 +40,7 @@ loop-place-preserved g c =
       | in_default-place w ↦ rw (w.disk-is, w.body-is) record {
         start = omega arith;
         reads = so_far.reads;
+        quiet = so_far.quiet;
         size = so_far.size;
         here = so_far.here;
         loaded = λ d gives. hole-more (blocks_in_image c.args.geometry d) c.args.size places i _ c.loop-place-test.true w.in_default-place.is (so_far.loaded d gives);

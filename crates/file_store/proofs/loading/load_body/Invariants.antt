@@ -7,6 +7,7 @@ abbrev pub invariant-loop-place : goal.invariant-loop-place
 invariant-loop-place g l = record {
   start : l.start ≡ 4096 * l.place-index;
   reads : OnlyReads g.D.Disk l.fn.disk l.disk;
+  quiet : g.D.Disk.fault_count l.disk ≡ g.D.Disk.fault_count l.fn.disk;
   size : length l.body.bytes ≡ l.size;
   here : (j : ℕ) → is_away l.body j ≡ offline_at l.stubs j;
   loaded : (c : List ℕ) → g.D.Disk.gives l.fn.disk c → HasBytes (blocks_in_image l.geometry c) l.size (take l.place-index l.places) l.body.bytes;

@@ -1,4 +1,4 @@
-use Rattle.file_store.proofs.Names.{◌≡◌, ◌+◌, ◌*◌, ◌<◌, ◌≤◌, ◌++◌, ◌∷◌, [], ℕ, List, length, get_or, take, ◌∙◌, ap, subst, arith, take_all, take_more, IsFreed, IsWritten, Keeps, keeps_on, kept_by, given_on, rebody, Mapping, block_of, effect_of, mappings_of, IsBesideBlocks, HasBlocks}
+use Rattle.file_store.proofs.Names.{◌≡◌, ◌+◌, ◌*◌, ◌<◌, ◌≤◌, ◌++◌, ◌∷◌, [], ℕ, List, length, get_or, take, refl, ◌∙◌, ap, subst, arith, take_all, take_more, IsFreed, IsWritten, Keeps, keeps_on, kept_by, given_on, rebody, Mapping, block_of, effect_of, mappings_of, IsBesideBlocks, HasBlocks}
 use Rattle.file_body.proofs.Pieces.{length-block_of}
 use Rattle.file_store.proofs.EachOf.{each-at}
 use Rattle.file_store.proofs.Beside.{before, mapping_at, mapped, length-mapped, beside_freed, has_more}
@@ -55,6 +55,7 @@ loop-i-preserved g c =
     let others = rw (this_is g at) at (before ms c.loop-i.i m (rw (mapped c.args.blocks.now c.args.places.now c.requires.count).1 c.requires.apart) within) in
     record {
       keeps = moments g after;
+      quiet = c.in_ok-write_at.ensures.cause.quiet refl ∙ c.loop-i.invariant.quiet;
       written = rw more (given_on g.D.Disk _ _ _ _ _ _ c.loop-i.invariant.written c.in_ok-write_at.ensures.written
           (λ d n i has w. has_more c.args.base (body g at) (take c.loop-i.i ms) m others (length-block_of _ _) d n i has
           (subst (λ (p : ℕ). IsWritten (c.args.base + 4096 * p) (block_of (body g at) m.block) n i) c.from.ensures (subst (λ (bytes : List ℕ). IsWritten (c.args.base + 4096 * c.from.result) bytes n i) (block_is g at) w))));

@@ -20,7 +20,7 @@ pub returns-clause-whole : goal.returns-clause-whole
 returns-clause-whole g c =
     let s = c.run_script-ran.new.hsm in
     rw (c.close-disk.ensures.disk, c.close-disk.ensures.entries, c.first_cause.ensures) (λ commits to_end image may.
-    let ran : cause_in c.run_script-ran.result ≡ None = ran_well _ (source_told g.I.Source.left g.I.Source.fault_count c.args.source.now c.run_script-ran.new.source) c.run_script-ran.result (cause_in c.write_transcript-written.result) c.run_script-ran.ensures.ends to_end in
+    let ran : cause_in c.run_script-ran.result ≡ None = ran_well _ _ (source_told g.I.Source.left g.I.Source.fault_count c.args.source.now c.run_script-ran.new.source) c.run_script-ran.result (cause_in c.write_transcript-written.result) c.run_script-ran.ensures.ends to_end in
     let working : s.files.failed ≡ false = on_none (s.files.failed ≡ false) c.run_script-ran.result ran c.run_script-ran.ensures.working in
     let all : IsAllDurable s = on_none (IsAllDurable s) c.run_script-ran.result ran (c.run_script-ran.ensures.durable commits) in
     subst (λ (opened : FileStore g.row.D.Denot). IsWhole opened s.history image) c.run_script-ran.ensures.goes_on.opened

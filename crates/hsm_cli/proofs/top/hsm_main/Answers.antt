@@ -20,7 +20,7 @@ returns-in-Some-Replay-clause-status g c =
 
 pub returns-in-Some-ReplayStore-clause-status : goal.returns-in-Some-ReplayStore-clause-status
 returns-in-Some-ReplayStore-clause-status g c =
-    let form : Some (ReplayStore c.in-Some-ReplayStore.path.now c.in-Some-ReplayStore.field-0-1.now) ≡ form_of (map string_bytes c.args.words.now) = ap (λ (x : Command). Some (form_in x)) (sym c.in-Some-ReplayStore.field-0-is) ∙ c.in-Some-ReplayStore.ensures in
+    let form : Some (ReplayStore c.in-Some-ReplayStore.path.now c.in-Some-ReplayStore.dir.now) ≡ form_of (map string_bytes c.args.words.now) = ap (λ (x : Command). Some (form_in x)) (sym c.in-Some-ReplayStore.field-0-is) ∙ c.in-Some-ReplayStore.ensures in
     let source : SourceTold = source_told g.I.Source.left g.I.Source.fault_count c.args.source.now c.replay_store.new.source in
     let sink : SinkTold = sink_told g.O.Sink.taken g.O.Sink.fault_count c.args.sink.now c.replay_store.new.sink in
     let host : HostTold = host_told g.H.Host.fault_count c.args.host.now c.replay_store.new.host in

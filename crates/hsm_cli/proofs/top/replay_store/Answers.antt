@@ -1,7 +1,12 @@
-use Rattle.std.proofs.Common.{Some, None, refl}
+use Rattle.std.proofs.Common.{Some, None, refl, inr, sym, subst, arith}
+use Rattle.file_store.specs.Stores.{Store}
+use Rattle.hsm_cli.specs.Clauses.{GivesBack}
 use Rattle.hsm_cli.specs.Told.{source_told, sink_told, host_told}
 use Rattle.hsm_cli.proofs.Crashes.{crash_safe, why_unopened}
 use Rattle.hsm_cli.proofs.Legality.{legal_as}
+use Rattle.hsm_cli.proofs.Drives.{rose_from, gives_back, none_at_fault, host_failed, why_served, disk_came, drives_came}
+use Rattle.hsm_cli.proofs.top.replay_store.Given.{Over}
+use Rattle.hsm_cli.proofs.top.replay_store.Goals.{After-serve-served}
 use Rattle.hsm_cli.proofs.top.replay_store.Goals as goal
 
 pub returns-in-Ok-open-clause-crash : goal.returns-in-Ok-open-clause-crash
@@ -16,10 +21,40 @@ returns-in-Err-open-clause-why g c =
     rw (c.unopened-in-Err-open.ensures, c.from-in-Err-open.ensures)
     (why_unopened g.H.Disk.Disk (g.H.Host.holds c.args.host.now c.args.path.now) c.in-Ok.disk record { given = c.in-Ok.ensures.given; settled = c.in-Ok.ensures.settled; counted = c.in-Ok.ensures.counted }
     (source_told g.I.Source.left g.I.Source.fault_count c.args.source.now c.args.source.now) (sink_told g.O.Sink.taken g.O.Sink.fault_count c.args.sink.now c.args.sink.now) (host_told g.H.Host.fault_count c.args.host.now c.disk.new.self)
-    c.in-Err-open.disk c.in-Err-open.refusal c.in-Err-open.ensures.not_store c.in-Err-open.ensures.corrupt c.in-Err-open.ensures.failed)
+    c.in-Err-open.disk c.in-Err-open.refusal c.in-Err-open.ensures.not_store c.in-Err-open.ensures.corrupt c.in-Err-open.ensures.faults.rose)
 
 pub returns-in-Err-clause-legality : goal.returns-in-Err-clause-legality
 returns-in-Err-clause-legality g c = legal_as g.H.Disk.Disk c.unopened.result _ None c.unopened.ensures
 
 pub returns-in-Err-open-clause-legality : goal.returns-in-Err-open-clause-legality
 returns-in-Err-open-clause-legality g c = legal_as g.H.Disk.Disk c.unopened-in-Err-open.result _ (Some c.in-Err-open.disk) c.unopened-in-Err-open.ensures
+
+-- the drives, and what the host has left
+
+module _ (g : Over) (c : After-serve-served g) where
+  back : GivesBack g.H.Drive.Drive (g.H.Host.stores c.args.host.now c.args.dir.now) (Some c.in-Ok-open.hsm.opened) c.serve-served.result.cause c.ask_for_drives-ready.result.1
+  back =
+      gives_back g.H.Drive.Drive (g.H.Host.stores c.args.host.now c.args.dir.now) (g.H.Host.stores c.disk.new.self c.args.dir.now) (c.disk.ensures.folders c.args.dir.now) c.in-Ok-open.hsm.opened c.ask_for_drives-ready.result.0 c.serve-served.result.cause
+      c.ask_for_drives-ready.result.1 c.ask_for_drives-ready.ensures.given c.ask_for_drives-ready.ensures.none c.ask_for_drives-ready.ensures.ready c.serve-served.ensures.unready
+      (host_failed _ _ (source_told g.I.Source.left g.I.Source.fault_count c.args.source.now c.serve-served.new.source) (sink_told g.O.Sink.taken g.O.Sink.fault_count c.args.sink.now c.serve-served.new.sink) c.serve-served.result.cause c.serve-served.ensures.ends)
+
+pub returns-in-Ok-open-clause-drives : goal.returns-in-Ok-open-clause-drives
+returns-in-Ok-open-clause-drives g c =
+    subst (λ (s : Store g.row.H-Disk.Denot). GivesBack g.H.Drive.Drive (g.H.Host.stores c.args.host.now c.args.dir.now) (Some s) c.serve-served.result.cause c.ask_for_drives-ready.result.1) (sym c.serve-served.ensures.opening)
+    (back g (goal.at.returns-in-Ok-open-clause-drives g c).After-serve-served)
+
+pub returns-in-Ok-open-clause-lent : goal.returns-in-Ok-open-clause-lent
+returns-in-Ok-open-clause-lent g c = λ is. inr (refl, none_at_fault g.H.Drive.Drive (g.H.Host.stores c.args.host.now c.args.dir.now) (g.H.Host.stores c.disk.new.self c.args.dir.now) (c.disk.ensures.folders c.args.dir.now) c.in-Ok-open.hsm.opened c.serve-served.result.cause c.ask_for_drives-ready.result.1 (back g (goal.at.returns-in-Ok-open-clause-lent g c).After-serve-served) is)
+
+pub returns-in-Ok-open-clause-folders : goal.returns-in-Ok-open-clause-folders
+returns-in-Ok-open-clause-folders g c = drives_came c.args.dir.now (g.H.Host.stores c.args.host.now) (g.H.Host.stores c.disk.new.self) (g.H.Host.stores c.ask_for_drives-ready.new.host) c.ask_for_drives-ready.result.1 c.disk.ensures.folders c.ask_for_drives-ready.ensures.folders
+
+pub returns-in-Ok-open-clause-host : goal.returns-in-Ok-open-clause-host
+returns-in-Ok-open-clause-host g c = disk_came c.args.path.now (g.H.Host.holds c.args.host.now) (g.H.Host.holds c.disk.new.self) (g.H.Host.holds c.ask_for_drives-ready.new.host) c.serve-served.result.disk c.in-Ok.ensures.gone c.disk.ensures.others c.ask_for_drives-ready.ensures.disks
+
+pub returns-in-Ok-open-clause-why : goal.returns-in-Ok-open-clause-why
+returns-in-Ok-open-clause-why g c =
+    why_served g.H.Disk.Disk (g.H.Host.holds c.args.host.now c.args.path.now) (source_told g.I.Source.left g.I.Source.fault_count c.args.source.now c.serve-served.new.source) (sink_told g.O.Sink.taken g.O.Sink.fault_count c.args.sink.now c.serve-served.new.sink)
+    (host_told g.H.Host.fault_count c.args.host.now c.ask_for_drives-ready.new.host) (Some c.serve-served.result.disk) (host_told g.H.Host.fault_count c.disk.new.self c.ask_for_drives-ready.new.host) c.ask_for_drives-ready.result.0 _ c.serve-served.result.cause
+    c.disk.ensures.cause.never_falls refl c.ask_for_drives-ready.ensures.why
+    (λ rose. record { disk = c.serve-served.result.disk; back = refl; rose = rose_from 0 (g.H.Disk.Disk.fault_count c.in-Ok-open.hsm.opened.disk) (g.H.Disk.Disk.fault_count c.serve-served.result.disk) (omega arith) rose }) c.serve-served.ensures.ends

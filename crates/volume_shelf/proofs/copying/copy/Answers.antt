@@ -3,9 +3,16 @@ use Rattle.std.proofs.lemmas.Result.{err_from_is_err_and}
 use Rattle.hsm_types.specs.Stubs.{print_of}
 use Rattle.hsm_types.specs.declared.stubs.Fingerprint.{Fingerprint}
 use Rattle.hsm_types.specs.declared.stubs.StubEntry.{StubEntry}
+use Rattle.volume_shelf.specs.Shelf.{CopyRefused}
 use Rattle.volume_shelf.specs.Steps.{Prints, IsUnlike}
 use Rattle.volume_shelf.proofs.Running.{copied, unlike, reads_on, grows_on}
 use Rattle.volume_shelf.proofs.copying.copy.Goals as goal
+
+pub returns-in_err-number-clause-answer : goal.returns-in_err-number-clause-answer
+returns-in_err-number-clause-answer g c =
+    let p = err_from_is_err_and c.from_residual.result c.from_residual.ensures.1 in
+    rw (p.1, p.2) (subst (λ (n : ℕ). CopyRefused g.M.Drive c.args.volume n (print_of c.args.bytes.now) c.args.drive.now c.put.new.drive c.in_err-number.field-0.0)
+    (ap length c.as_slice.ensures ∙ c.in-Ok.ensures.size) (c.in_err-number.ensures.answer (print_of c.args.bytes.now)))
 
 pub returns-in_err-compare-clause-answer : goal.returns-in_err-compare-clause-answer
 returns-in_err-compare-clause-answer g c =

@@ -1,5 +1,5 @@
 use Rattle.std.proofs.Common.{sym}
-use Rattle.hsm_cli.proofs.NamedDisks.{image_at-found}
+use Rattle.hsm_cli.proofs.NamedThings.{image_at-found}
 use Rattle.hsm_cli.proofs.mem_host.MemHost.image.Goals as goal
 
 pub returns-in_err-disk : goal.returns-in_err-disk

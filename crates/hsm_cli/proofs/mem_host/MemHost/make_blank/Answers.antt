@@ -1,15 +1,15 @@
 use Rattle.std.proofs.Common.{◌≡◌, ◌∙◌, ap}
 use Rattle.std.specs.FinMap.{remove}
-use Rattle.hsm_cli.specs.MemHosts.{Hosted, disks_of, blank}
-use Rattle.hsm_cli.proofs.NamedDisks.{disks_of-remove, AllAtRest-remove}
+use Rattle.hsm_cli.specs.MemHosts.{Hosted, by_name, blank, IsAtRest}
+use Rattle.hsm_cli.proofs.NamedThings.{by_name-remove, EachIs-remove}
 use Rattle.hsm_cli.proofs.mem_host.MemHost.make_blank.Goals as goal
 use Rattle.hsm_cli.proofs.mem_host.MemHost.make_blank.Goals.{After-remove}
 
-removed : (c : After-remove) → disks_of c.remove.new.self ≡ remove (disks_of c.self.inside.disks) c.args.path.now
-removed c = disks_of-remove c.args.path.now c.self.inside.disks c.remove.new.self c.remove.ensures.updates
+removed : (c : After-remove) → by_name c.remove.new.self ≡ remove (by_name c.self.inside.disks) c.args.path.now
+removed c = by_name-remove c.args.path.now c.self.inside.disks c.remove.new.self c.remove.ensures.updates
 
 pub invariant_of-self : goal.invariant_of-self
-invariant_of-self c = rw (removed (goal.at.invariant_of-self c).After-remove) (AllAtRest-remove _ _ c.self.invariant)
+invariant_of-self c = (rw (removed (goal.at.invariant_of-self c).After-remove) (EachIs-remove IsAtRest _ _ c.self.invariant.0), c.self.invariant.1)
 
 pub returns-clause-makes : goal.returns-clause-makes
 returns-clause-makes c =

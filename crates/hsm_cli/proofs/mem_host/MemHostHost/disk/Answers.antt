@@ -1,4 +1,4 @@
-use Rattle.hsm_cli.proofs.HandingOut.{Gives-gone, Gives-others, Gives-opened}
+use Rattle.hsm_cli.proofs.HandingOut.{Gives-folders, Gives-gone, Gives-others, Gives-opened}
 use Rattle.hsm_cli.proofs.mem_host.MemHostHost.disk.Goals as goal
 
 pub returns-clause-gone : goal.returns-clause-gone
@@ -12,3 +12,9 @@ returns-clause-opened c = (Gives-opened c.args.path.now c.args.self.now c.take.n
 
 pub returns-clause-unmade : goal.returns-clause-unmade
 returns-clause-unmade c = (Gives-opened c.args.path.now c.args.self.now c.take.new.self c.take.result c.take.ensures.gives).1
+
+pub returns-clause-folders : goal.returns-clause-folders
+returns-clause-folders c = (Gives-folders c.args.path.now c.args.self.now c.take.new.self c.take.result c.take.ensures.gives).0
+
+pub returns-clause-undriven : goal.returns-clause-undriven
+returns-clause-undriven c = (Gives-folders c.args.path.now c.args.self.now c.take.new.self c.take.result c.take.ensures.gives).1

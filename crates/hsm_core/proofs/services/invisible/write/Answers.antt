@@ -35,6 +35,6 @@ returns g c =
       working = c.write.ensures.working;
       unchanged = λ why is. absurd (c.write.ensures.no_part why is);
       memory = c.write.ensures.memory;
-      failed = c.write.ensures.failed;
+      faults = c.write.ensures.faults;
       proceeds = c.write.ensures.proceeds;
     }))

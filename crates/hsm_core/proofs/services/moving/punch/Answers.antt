@@ -33,6 +33,6 @@ returns g c =
       working = c.punch.ensures.working;
       unchanged = c.punch.ensures.unchanged;
       memory = c.punch.ensures.memory;
-      failed = c.punch.ensures.failed;
+      faults = c.punch.ensures.faults;
       proceeds = c.punch.ensures.proceeds;
     })))

@@ -26,6 +26,6 @@ returns g c =
       working = c.restore.ensures.working;
       unchanged = c.restore.ensures.unchanged;
       memory = c.restore.ensures.memory;
-      failed = c.restore.ensures.failed;
+      faults = c.restore.ensures.faults;
       proceeds = c.restore.ensures.proceeds;
     })))

@@ -26,6 +26,6 @@ returns g c =
       working = c.seal.ensures.working;
       unchanged = c.seal.ensures.unchanged;
       memory = λ is. (ap (λ f. f.held) (c.seal.ensures.memory is), ap (λ f. f.failed) (c.seal.ensures.memory is) ∙ c.requires.working);
-      failed = c.seal.ensures.failed;
+      faults = c.seal.ensures.faults;
       proceeds = c.seal.ensures.proceeds;
     })))

@@ -1,0 +1,102 @@
+-- What a run on a store of the host has of drives, and what it leaves of the host.
+use Rattle.std.proofs.Common.{◌≡◌, ◌⊎◌, inl, inr, ℕ, ◌≤◌, List, [], ◌∷◌, Option, Some, None, Result, Ok, Err, OnOk, OnErr, IfErr, IsErrOf, refl, sym, subst, arith}
+use Rattle.disk_model.specs.declared.device.Disk as disk
+use Rattle.disk_model.specs.Calls.{Rose}
+use Rattle.media_model.specs.declared.drive.Drive as drive
+use Rattle.media_model.specs.Objects.{Objects, Alike}
+use Rattle.hsm_policy.specs.Settings.{standard}
+use Rattle.hsm_cli.specs.declared.causes.Cause.{Cause}
+use Rattle.hsm_cli.specs.declared.causes.Cause.TheVariants.{ScriptRefused, WordsRefused, NotStore, Corrupt, ReadFault, WriteFault, DiskFault, HostFault, NoMemory}
+use Rattle.hsm_cli.specs.Hosts.{AreHanded, HoldsNothing, HoldsOthers, HoldsAll, StoresAll}
+use Rattle.hsm_cli.specs.Told.{SourceTold, SinkTold, HostTold}
+use Rattle.hsm_cli.specs.Endings.{RunEnds, HandingEnds, IsBeforeReading}
+use Rattle.hsm_cli.specs.Clauses.{Why, HasFailed, GivesBack, HandsOut, HandsDrives}
+
+-- ---- the drives that come back
+
+module _ {S M : Type 0} (g : drive.Ghosts M) (old mid : ℕ → Objects → Type 0) (same : (v : ℕ) → Alike (old v) (mid v)) (opened : S) where
+  -- what was handed out of a folder since it had the same objects
+  handed_from : (given : List M) → AreHanded g mid standard.drives standard.volumes standard.capacity given → AreHanded g old standard.drives standard.volumes standard.capacity given
+  handed_from given h = record { count = h.count; counted = h.counted; room = h.room; has = h.has; there = λ v o within stored. h.there v o within ((same v).1 o stored) }
+
+  came : (cause : Option Cause) (given : List M) → AreHanded g mid standard.drives standard.volumes standard.capacity given → (cause ≡ Some HostFault → ⊥) → GivesBack g old (Some opened) cause given
+  came None given h works = handed_from given h
+  came (Some (ScriptRefused line)) given h works = handed_from given h
+  came (Some WordsRefused) given h works = handed_from given h
+  came (Some NotStore) given h works = handed_from given h
+  came (Some (Corrupt place)) given h works = handed_from given h
+  came (Some ReadFault) given h works = handed_from given h
+  came (Some WriteFault) given h works = handed_from given h
+  came (Some DiskFault) given h works = handed_from given h
+  came (Some HostFault) given h works = absurd (works refl)
+  came (Some NoMemory) given h works = inr (handed_from given h)
+
+  for_memory : (cause : Option Cause) (given : List M) → given ≡ [] → cause ≡ Some NoMemory → GivesBack g old (Some opened) cause given
+  for_memory cause given none is = subst (λ (c : Option Cause). GivesBack g old (Some opened) c given) (sym is) (inl none)
+
+  for_fault : (cause : Option Cause) (given : List M) → given ≡ [] → cause ≡ Some HostFault → GivesBack g old (Some opened) cause given
+  for_fault cause given none is = subst (λ (c : Option Cause). GivesBack g old (Some opened) c given) (sym is) none
+
+  none_came : (why : Cause) (cause : Option Cause) (given : List M) → IsBeforeReading why → given ≡ [] → (cause ≡ Some why) ⊎ (cause ≡ Some NoMemory) → GivesBack g old (Some opened) cause given
+  none_came HostFault cause given before none (inl is) = for_fault cause given none is
+  none_came NoMemory cause given before none (inl is) = for_memory cause given none is
+  none_came why cause given before none (inr is) = for_memory cause given none is
+  none_came (ScriptRefused line) cause given before none is = absurd before
+  none_came WordsRefused cause given before none is = absurd before
+  none_came NotStore cause given before none is = absurd before
+  none_came (Corrupt place) cause given before none is = absurd before
+  none_came ReadFault cause given before none is = absurd before
+  none_came WriteFault cause given before none is = absurd before
+  none_came DiskFault cause given before none is = absurd before
+
+  pub gives_back : (ready : Result (Unit {0}) Cause) (cause : Option Cause) (given : List M) → OnOk ready (AreHanded g mid standard.drives standard.volumes standard.capacity given) → OnErr ready (given ≡ []) → IfErr ready IsBeforeReading
+      → IfErr ready (λ why. (cause ≡ Some why) ⊎ (cause ≡ Some NoMemory)) → (cause ≡ Some HostFault → IsErrOf ready HostFault) → GivesBack g old (Some opened) cause given
+  gives_back (Ok x) cause given handed none before unready fails = came cause given handed (λ is. let wrong : IsErrOf {T = Unit {0}} (Ok x) HostFault = fails is in cc)
+  gives_back (Err why) cause given handed none before unready fails = none_came why cause given before none unready
+
+  -- where the host failed there are none
+  pub none_at_fault : (cause : Option Cause) (given : List M) → GivesBack g old (Some opened) cause given → cause ≡ Some HostFault → given ≡ []
+  none_at_fault cause given back is = subst (λ (c : Option Cause). GivesBack g old (Some opened) c given) is back
+
+-- ---- why a run on a store ends
+
+-- a fault of the host ends it only where it failed
+pub host_failed : (HostFails DiskFails : Type 0) (source : SourceTold) (sink : SinkTold) (cause : Option Cause) → RunEnds HostFails DiskFails source sink cause → cause ≡ Some HostFault → HostFails
+host_failed HostFails DiskFails source sink cause ends is = subst (RunEnds HostFails DiskFails source sink) is ends
+
+pub rose_from : (a b c : ℕ) → a ≤ b → Rose b c → Rose a c
+rose_from a b c le rose = omega (arith, le, rose)
+
+-- the count of the host rose in the call for drives
+fault_told : (before : ℕ) (host : HostTold) (ready : Result (Unit {0}) Cause) → before ≤ host.before → IfErr ready (HandingEnds host) → IsErrOf ready HostFault → Rose before host.now
+fault_told before host (Ok x) le why fails = cc
+fault_told before host (Err why) le ends fails = let is : why ≡ HostFault = cc in rose_from before host.before host.now le (subst (HandingEnds host) is ends)
+
+module _ {D : Type 0} (g : disk.Ghosts D) (named : List ℕ → Type 0) (source : SourceTold) (sink : SinkTold) (host : HostTold) (disk : Option D) where
+  why_run : (HostFails DiskFails : Type 0) → (HostFails → Rose host.before host.now) → (DiskFails → HasFailed g disk) → (cause : Option Cause) → RunEnds HostFails DiskFails source sink cause → Why g named source sink host disk cause
+  why_run HostFails DiskFails by_host by_disk None ends = tt
+  why_run HostFails DiskFails by_host by_disk (Some (ScriptRefused line)) ends = ends
+  why_run HostFails DiskFails by_host by_disk (Some WordsRefused) ends = tt
+  why_run HostFails DiskFails by_host by_disk (Some NotStore) ends = absurd ends
+  why_run HostFails DiskFails by_host by_disk (Some (Corrupt place)) ends = absurd ends
+  why_run HostFails DiskFails by_host by_disk (Some ReadFault) ends = ends
+  why_run HostFails DiskFails by_host by_disk (Some WriteFault) ends = ends
+  why_run HostFails DiskFails by_host by_disk (Some DiskFault) ends = by_disk ends
+  why_run HostFails DiskFails by_host by_disk (Some HostFault) ends = by_host ends
+  why_run HostFails DiskFails by_host by_disk (Some NoMemory) ends = tt
+
+  -- of a run on an opened store, since that count of the host
+  pub why_served : (asked : HostTold) (ready : Result (Unit {0}) Cause) (DiskFails : Type 0) (cause : Option Cause) → host.before ≤ asked.before → asked.now ≡ host.now → IfErr ready (HandingEnds asked)
+      → (DiskFails → HasFailed g disk) → RunEnds (IsErrOf ready HostFault) DiskFails source sink cause → Why g named source sink host disk cause
+  why_served asked ready DiskFails cause le same why by_disk ends = why_run (IsErrOf ready HostFault) DiskFails (λ fails. subst (Rose host.before) same (fault_told host.before asked ready le why fails)) by_disk cause ends
+
+-- ---- what the host has left
+
+-- a disk came, and then nothing of the disks changed
+pub disk_came : {D : Type 0} (path : List ℕ) (old mid new : List ℕ → List ℕ → Type 0) (d : D) → HoldsNothing (mid path) → HoldsOthers path old mid → HoldsAll mid new → HandsOut path old new (Some d)
+disk_came path old mid new d gone others all = (λ c holds. gone c ((all path).0 c holds), λ other differs. (λ c holds. (others other differs).0 c ((all other).0 c holds), λ c holds. (all other).1 c ((others other differs).1 c holds)))
+
+-- the folders stayed, and then drives came or not
+pub drives_came : {M : Type 0} (dir : List ℕ) (old mid new : List ℕ → ℕ → Objects → Type 0) (given : List M) → StoresAll old mid → HandsDrives dir mid new given → HandsDrives dir old new given
+drives_came dir old mid new [] same hands = λ name v. (λ o has. (same name v).0 o ((hands name v).0 o has), λ o has. (hands name v).1 o ((same name v).1 o has))
+drives_came dir old mid new (d ∷ ds) same hands = (hands.0, λ other differs v. (λ o has. (same other v).0 o ((hands.1 other differs v).0 o has), λ o has. (hands.1 other differs v).1 o ((same other v).1 o has)))

@@ -1,0 +1,4 @@
+mod Named
+mod Refusing
+mod OneOrder
+mod OneMeaning

@@ -1,0 +1,4 @@
+pub mod Settings
+pub mod Documents
+pub mod Candidates
+pub mod Picking
