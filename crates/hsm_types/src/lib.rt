@@ -3,6 +3,7 @@
 
 mod attributes;
 mod calls;
+mod daemons;
 mod dm;
 mod forms;
 mod keys;
@@ -19,6 +20,7 @@ mod tables;
 
 pub use attributes::{ATTRIBUTE_BYTES, ATTRIBUTE_COST, AttrName};
 pub use calls::{Call, CallRefusal, Reply};
+pub use daemons::{Act, Heard};
 pub use dm::{DmCall, DmRefusal, DmReply, Kind, Kinds, Response, Right, Scope};
 pub use forms::{CALL_PARTS, CallVerb, DmVerb};
 pub use keys::{CallerId, FileKey, HANDLE_BYTES, Handle, Holding, Sid, Token};
