@@ -11,6 +11,8 @@ mod drives;
 #[cfg(test)]
 mod hosts;
 #[cfg(test)]
+mod media;
+#[cfg(test)]
 mod running;
 #[cfg(test)]
 mod streams;
