@@ -4,4 +4,5 @@ pub mod PackedMessages
 pub mod PartsStand
 pub mod ReadBuffers
 pub mod ReadMessages
+pub mod ToldMessages
 pub mod Walks

@@ -148,7 +148,7 @@ walk_steps bytes messages v rest left same =
 
 -- ---- what a step of the search for a bad message shows
 
-rest_bytes : (front rest : List ℕ) → IsBytes (front ++ rest) → IsBytes rest
+pub rest_bytes : (front rest : List ℕ) → IsBytes (front ++ rest) → IsBytes rest
 rest_bytes front rest are = subst IsBytes (drop_at front rest (length front) refl) (IsBytes-drop (length front) (front ++ rest) are)
 
 passed_bytes : (buf rest : List ℕ) → IsBytes buf → Passed buf rest → IsBytes rest

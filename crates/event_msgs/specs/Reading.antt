@@ -3,7 +3,7 @@ use Rattle.std.specs.Prelude.{ℕ, zero, suc, ◌+◌, List, [], ◌∷◌, leng
 use Rattle.std.specs.Option.{option_map, option_and_then}
 use Rattle.std.specs.Str.{bytes_eq}
 use Rattle.byteorder.specs.Endian.{big_number}
-use Rattle.hsm_types.specs.Messages.{rounded_up}
+use Rattle.hsm_types.specs.Messages.{rounded_up, packed}
 use Rattle.hsm_types.specs.declared.dm.Kind.{Kind}
 use Rattle.hsm_types.specs.declared.dm.Kind.TheVariants.{Read, Write, Truncate, NoSpace, User}
 use Rattle.hsm_types.specs.declared.keys.Handle.{Handle}
@@ -83,3 +83,7 @@ messages_within (suc most) bytes = first_and_more (messages_within most) (messag
 
 unfoldable pub messages_in : List ℕ → List Message
 messages_in bytes = messages_within (length bytes) bytes
+
+-- those of a buffer that is in the grammar, and none of any other
+unfoldable pub told : List ℕ → List Message
+told bytes = if bytes_eq (packed (messages_in bytes)) bytes then messages_in bytes else []

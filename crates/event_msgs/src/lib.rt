@@ -11,4 +11,4 @@ mod writing;
 pub use laws::{one_place, one_reading, packed_or_bad, parts_stand, reads_back};
 pub use message_view::View;
 pub use packing::{PackRefusal, pack, pack_one};
-pub use unpacking::{BadMessage, MessageViews, views};
+pub use unpacking::{BadMessage, MessageViews, messages, views};

@@ -1,6 +1,7 @@
 //! How a buffer is read.
-ghost use Rattle.std.specs.Prelude.{◌≡◌, map, IfOk, IfErr};
-ghost use Rattle.event_msgs.specs.Buffers.{IsPacked, IsBadAt};
+ghost use Rattle.std.specs.Prelude.{◌≡◌, map, All, IfOk, IfErr};
+ghost use Rattle.event_msgs.specs.Buffers.{IsInGrammar, IsPacked, IsBadAt};
+ghost use Rattle.event_msgs.specs.Reading.{told};
 
 use crate::message_view::View;
 use crate::reading::message_at;
@@ -68,4 +69,15 @@ pub fn views(buf: &[u8]) -> Result<MessageViews<'_>, BadMessage>
     Err(BadMessage {
         place: (buf.len() - rest.len()) as u64,
     })
+}
+
+/// The messages of a buffer that is in the grammar, and none of any other. It takes no memory.
+pub fn messages(buf: &[u8]) -> MessageViews<'_>
+    ensures messages { result ≡ told buf.now }
+    ensures each { All IsInGrammar result }
+{
+    match views(buf) {
+        Ok(messages) => messages,
+        Err(_) => MessageViews { left: &buf[..0] },
+    }
 }

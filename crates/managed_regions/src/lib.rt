@@ -7,4 +7,5 @@ mod meeting;
 mod regions;
 
 pub use laws::lawful_stand_apart;
+pub use meeting::contains;
 pub use regions::ManagedRegions;

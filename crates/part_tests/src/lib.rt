@@ -2,7 +2,11 @@
 #![tactic(auto)]
 
 #[cfg(test)]
+mod answers;
+#[cfg(test)]
 mod disks;
+#[cfg(test)]
+mod entering;
 #[cfg(test)]
 mod folders;
 #[cfg(test)]
@@ -10,9 +14,13 @@ mod handles;
 #[cfg(test)]
 mod messages;
 #[cfg(test)]
+mod migrating;
+#[cfg(test)]
 mod objects;
 #[cfg(test)]
 mod policy;
+#[cfg(test)]
+mod recalling;
 #[cfg(test)]
 mod regions;
 #[cfg(test)]

@@ -1,4 +1,4 @@
--- The answers that a store gives by itself are for no fault, and a history without one goes on.
+-- The answers that a store gives by itself are for no fault and for no want of memory, and a history without a fault goes on.
 use Rattle.std.proofs.Common.{◌≡◌, List, [], ◌∷◌, ◌++◌, Bool, true, false, Option, Some, None, refl, ◌∙◌, ap}
 use Rattle.std.proofs.lemmas.List.Folds.{list_any-append}
 use Rattle.std.specs.Prelude.{ℕ, length, map, min, count_by, not, ◌+◌, ◌-◌, ◌*◌, ◌%◌, ◌==◌, ◌&&◌, ◌||◌, nat_lt, nat_le, is_some, if◌then◌else◌}
@@ -16,6 +16,7 @@ use Rattle.hsm_types.specs.Stubs.{Stubs, print_of, stub_at, is_offline, is_seale
 use Rattle.hsm_types.specs.declared.stubs.Fingerprint.{Fingerprint}
 use Rattle.hsm_types.specs.declared.stubs.StubEntry.{StubEntry}
 use Rattle.hsm_types.specs.declared.stubs.Stub.{Stub}
+use Rattle.hsm_types.specs.declared.dm.DmRefusal.TheVariants as dm
 use Rattle.hsm_types.specs.declared.dm.DmRefusal.TheVariants.{Uncovered, NoSpace}
 use Rattle.hsm_types.specs.declared.attributes.AttrName.{AttrName}
 use Rattle.hsm_types.specs.declared.keys.FileKey.{FileKey}
@@ -39,7 +40,7 @@ use Rattle.hsm_types.specs.declared.stores.Superblock.{Superblock}
 use Rattle.hsm_types.specs.declared.calls.Call.{Call}
 use Rattle.hsm_types.specs.declared.calls.Call.TheVariants.{Create, Read, Write, Truncate, Remove, Stat, Sync}
 use Rattle.hsm_types.specs.declared.calls.CallRefusal.{CallRefusal}
-use Rattle.hsm_types.specs.declared.calls.CallRefusal.TheVariants.{Waiting, Idle}
+use Rattle.hsm_types.specs.declared.calls.CallRefusal.TheVariants.{Disk, Memory, Waiting, Idle}
 use Rattle.hsm_types.specs.declared.calls.Reply.TheVariants.{Still, Refused}
 use Rattle.plain_model.specs.declared.entries.Entry.{Entry}
 use Rattle.plain_model.specs.declared.entries.Actor.{Actor}
@@ -61,11 +62,19 @@ use Rattle.plain_model.specs.Services.{bad_own_token, bad_given_token, is_live, 
 use Rattle.plain_model.specs.Exact.{IsOwn}
 use Rattle.plain_model.proofs.Judged.{Says, meant_says}
 
--- what refuses a call of its kind, if anything, is no fault
+-- the answers to an event that a fault or want of memory has ended
+abbrev pub is_undone : Answer → Bool
+is_undone (Replied (Refused Disk)) = true
+is_undone (Replied (Refused Memory)) = true
+is_undone (Told (told.Refused dm.Disk)) = true
+is_undone (Told (told.Refused dm.Memory)) = true
+is_undone answer = false
+
+-- what refuses a call of its kind, if anything, is neither
 module _ {R : Type 0} (refused : R → Answer) where
   abbrev OrdinaryOf : Option R → Type 0
   OrdinaryOf None = Unit {0}
-  OrdinaryOf (Some why) = is_fault (refused why) ≡ false
+  OrdinaryOf (Some why) = is_undone (refused why) ≡ false
 
   ordinary_if : (b : Bool) (x y : Option R) → OrdinaryOf x → OrdinaryOf y → OrdinaryOf (if b then x else y)
   ordinary_if true x y here there = here
@@ -120,17 +129,17 @@ module _ (files : List Listed) where
   ordinary_refusal s (Stat name) = named_one name
   ordinary_refusal s Sync = tt
 
-faultless_on : (k : FileKey) (body : List ℕ) (call : Call) → is_fault (Replied (reply_on k body call)) ≡ false
-faultless_on k body (Create name) = refl
-faultless_on k body (Read name offset len) = refl
-faultless_on k body (Stat name) = refl
-faultless_on k body call = refl
+done_on : (k : FileKey) (body : List ℕ) (call : Call) → is_undone (Replied (reply_on k body call)) ≡ false
+done_on k body (Create name) = refl
+done_on k body (Read name offset len) = refl
+done_on k body (Stat name) = refl
+done_on k body call = refl
 
-faultless_by : (st : State) (k : FileKey) (call : Call) (v : Verdict) → is_fault (Replied (reply_by st k call v)) ≡ false
-faultless_by st k call None = faultless_on _ _ call
-faultless_by st k call (Some (Blocks t)) = refl
-faultless_by st k call (Some (Posts kind)) = refl
-faultless_by st k call (Some (Lacks need free)) = refl
+done_by : (st : State) (k : FileKey) (call : Call) (v : Verdict) → is_undone (Replied (reply_by st k call v)) ≡ false
+done_by st k call None = done_on _ _ call
+done_by st k call (Some (Blocks t)) = refl
+done_by st k call (Some (Posts kind)) = refl
+done_by st k call (Some (Lacks need free)) = refl
 
 ordinary_abort : (answer : Option Response) → Ordinary (aborted answer)
 ordinary_abort (Some (Abort error)) = refl
@@ -147,18 +156,18 @@ ordinary_objection : (s : Superblock) (files : List Listed) (waits : Option Acce
 ordinary_objection s files waits (Issue call) = ordinary_refusal files s call
 ordinary_objection s files waits what = ordinary_again files waits
 
-faultless_where : (s : Superblock) (st : State) (fl : Flags) (why : Option CallRefusal) (m : Meant) → Ordinary why → Says m → is_fault (Replied (reply_where s st fl why m)) ≡ false
-faultless_where s st fl why (Fixed (Refused Waiting)) is says = refl
-faultless_where s st fl why (Fixed (Refused Idle)) is says = refl
-faultless_where s st fl why (Fixed (Still t)) is says = refl
-faultless_where s st fl why (Fixed reply) is says = absurd says
-faultless_where s st fl None (Means k call) is says = faultless_by st k call (verdict s st fl k call)
-faultless_where s st fl (Some why) (Means k call) is says = is
+done_where : (s : Superblock) (st : State) (fl : Flags) (why : Option CallRefusal) (m : Meant) → Ordinary why → Says m → is_undone (Replied (reply_where s st fl why m)) ≡ false
+done_where s st fl why (Fixed (Refused Waiting)) is says = refl
+done_where s st fl why (Fixed (Refused Idle)) is says = refl
+done_where s st fl why (Fixed (Still t)) is says = refl
+done_where s st fl why (Fixed reply) is says = absurd says
+done_where s st fl None (Means k call) is says = done_by st k call (verdict s st fl k call)
+done_where s st fl (Some why) (Means k call) is says = is
 
--- the store's reply to a caller's event is for no fault
-pub faultless_reply : (s : Superblock) (st : State) (c : ℕ) (what : Action) → is_fault (Replied (reply_to s st c what)) ≡ false
-faultless_reply s st c what =
-    faultless_where s st (flags_now st c what) (objection_in s st c what) (meant_in st c what)
+-- the store's reply to a caller's event is for neither
+pub done_reply : (s : Superblock) (st : State) (c : ℕ) (what : Action) → is_undone (Replied (reply_to s st c what)) ≡ false
+done_reply s st c what =
+    done_where s st (flags_now st c what) (objection_in s st c what) (meant_in st c what)
     (ordinary_objection s (names_of st.held.files) (st.ledger.pending c) what) (meant_says (names_of st.held.files) (st.ledger.pending c) what)
 
 -- ---- a session's call
@@ -381,28 +390,36 @@ module _ (s : Superblock) (st : State) (sid : Sid) (own : Option DmRefusal) (is 
       (ordinary_first of_dm (bad_handle s st.held.files handle) _ (ordinary_if of_dm (is_live s st.held.files handle) _ _ tt refl)
       (ordinary_first of_dm (too_low right (right_of token handle.key st.rights)) _ (usual_low right (right_of token handle.key st.rights)) usual_last)))
 
-faultless_told : (s : Superblock) (st : State) (sid : Sid) (call : DmCall) → is_fault (Told (service s st sid call).reply) ≡ false
-faultless_told s st sid (CreateSession old info) = refl
-faultless_told s st sid call = refl
+done_told : (s : Superblock) (st : State) (sid : Sid) (call : DmCall) → is_undone (Told (service s st sid call).reply) ≡ false
+done_told s st sid (CreateSession old info) = refl
+done_told s st sid call = refl
 
-faultless_told_where : (why : Option DmRefusal) (s : Superblock) (st : State) (sid : Sid) (call : DmCall) → Usual why → is_fault (Told (dm_reply_where why s st sid call)) ≡ false
-faultless_told_where None s st sid call is = faultless_told s st sid call
-faultless_told_where (Some why) s st sid call is = is
+done_told_where : (why : Option DmRefusal) (s : Superblock) (st : State) (sid : Sid) (call : DmCall) → Usual why → is_undone (Told (dm_reply_where why s st sid call)) ≡ false
+done_told_where None s st sid call is = done_told s st sid call
+done_told_where (Some why) s st sid call is = is
 
--- the store's reply to a session's call is for no fault
-pub faultless_dm_reply : (s : Superblock) (st : State) (sid : Sid) (call : DmCall) → is_fault (Told (dm_reply_to s st sid call)) ≡ false
-faultless_dm_reply s st sid call =
-    faultless_told_where (dm_judged s st sid call) s st sid call (usual_scope s st sid (service s st sid call).refusal (usual_service s st sid call) (scope_of call))
+-- the store's reply to a session's call is for neither
+pub done_dm_reply : (s : Superblock) (st : State) (sid : Sid) (call : DmCall) → is_undone (Told (dm_reply_to s st sid call)) ≡ false
+done_dm_reply s st sid call =
+    done_told_where (dm_judged s st sid call) s st sid call (usual_scope s st sid (service s st sid call).refusal (usual_service s st sid call) (scope_of call))
 
 -- ---- any event
 
--- the store's own answer is for no fault
+-- the store's own answer is for neither
+pub own_done : (s : Superblock) (st : State) (who : Actor) (what : Action) (answer : Answer) → IsOwn s st who what answer → is_undone answer ≡ false
+own_done s st (Caller c) (Issue call) answer is = ap is_undone is.1 ∙ done_reply s st c (Issue call)
+own_done s st (Caller c) Resume answer is = ap is_undone is.1 ∙ done_reply s st c Resume
+own_done s st (Session sid) (Dm call) answer is = ap is_undone is.1 ∙ done_dm_reply s st sid call
+own_done s st Store Commit answer is = ap is_undone is.1
+own_done s st who what answer is = absurd is.0
+
+faultless_done : (answer : Answer) → is_undone answer ≡ false → is_fault answer ≡ false
+faultless_done (Replied (Refused Disk)) done = done
+faultless_done (Told (told.Refused dm.Disk)) done = done
+faultless_done answer done = refl
+
 pub own_faultless : (s : Superblock) (st : State) (who : Actor) (what : Action) (answer : Answer) → IsOwn s st who what answer → is_fault answer ≡ false
-own_faultless s st (Caller c) (Issue call) answer is = ap is_fault is.1 ∙ faultless_reply s st c (Issue call)
-own_faultless s st (Caller c) Resume answer is = ap is_fault is.1 ∙ faultless_reply s st c Resume
-own_faultless s st (Session sid) (Dm call) answer is = ap is_fault is.1 ∙ faultless_dm_reply s st sid call
-own_faultless s st Store Commit answer is = ap is_fault is.1
-own_faultless s st who what answer is = absurd is.0
+own_faultless s st who what answer is = faultless_done answer (own_done s st who what answer is)
 
 pub fault_is : (what : Action) → is_fault (fault_of what) ≡ true
 fault_is (Dm call) = refl

@@ -1,0 +1,5 @@
+pub mod Daemons
+pub mod Seats
+pub mod Going
+pub mod Keeping
+pub mod Members

@@ -1,0 +1,4 @@
+mod Calls
+mod OnDrives
+mod Within
+mod Moving

@@ -1,0 +1,15 @@
+use Rattle.std.proofs.Common.{inr}
+use Rattle.std.proofs.lemmas.Result.{err_from_is_err_and}
+use Rattle.hsm_replay.proofs.Moving.{migrate_stops, migrate_acts, migrate_hears}
+use Rattle.hsm_replay.proofs.replay.Replay.step_migrate.Goals as goal
+
+pub returns-in_err-heard-clause-stopped : goal.returns-in_err-heard-clause-stopped
+returns-in_err-heard-clause-stopped g c =
+    let p = err_from_is_err_and c.from_residual-in_err-heard.result c.from_residual-in_err-heard.ensures.1 in
+    rw (p.1, p.2) (inr (migrate_stops g.D.Disk g.M.Drive c.self.view_is c.in_ok-act.act c.in-Some.migrating c.next.new.self c.in-Some.is c.next.ensures.heard c.in_ok-act.ensures.ok c.in_err-heard.field-0.0 c.act.new.self c.in_err-heard.ensures.stopped))
+
+pub returns-clause-stepped : goal.returns-clause-stepped
+returns-clause-stepped g c = inr (migrate_acts g.D.Disk g.M.Drive c.self.view_is c.in_ok-act.act c.in-Some.migrating c.next.new.self c.in-Some.is c.next.ensures.heard c.in_ok-act.ensures.ok c.in_ok-heard.heard c.act.new.self c.keep_migrate.new.self c.in_ok-heard.ensures.performed c.keep_migrate.ensures)
+
+pub keep_migrate-requires : goal.keep_migrate-requires
+keep_migrate-requires g c = migrate_hears g.D.Disk g.M.Drive c.self.view_is c.in_ok-act.act c.in-Some.migrating c.next.new.self c.in-Some.is c.next.ensures.heard c.in_ok-act.ensures.ok c.in_ok-heard.heard c.act.new.self c.in_ok-heard.ensures.performed

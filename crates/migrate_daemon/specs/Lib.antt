@@ -1,0 +1,9 @@
+pub mod Shares
+pub mod Known
+pub mod Passes
+pub mod Machine
+pub mod Hearing
+pub mod Standing
+pub mod Stages
+pub mod Turns
+pub mod Bounds

@@ -1,0 +1,11 @@
+pub mod Meeting
+pub mod Chosen
+pub mod Ready
+pub mod Folds
+pub mod Steps
+pub mod Waiting
+pub mod Answered
+pub mod Nearing
+pub mod Sound
+pub mod Entries
+pub mod Shown

@@ -1,0 +1,5 @@
+use Rattle.recall_daemon.proofs.Sound as law
+use Rattle.recall_daemon.proofs.laws.stays_sound.Goals as goal
+
+pub returns : goal.returns
+returns c = law.stays_sound

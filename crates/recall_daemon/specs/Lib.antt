@@ -1,0 +1,5 @@
+pub mod Bounds
+pub mod Known
+pub mod Machine
+pub mod Tellings
+pub mod Workers
