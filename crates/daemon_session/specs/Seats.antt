@@ -1,4 +1,5 @@
--- What a daemon knows of its session: a fold over its calls and the answers to them. The same fold goes over the entries of a history.
+-- What a daemon knows of its session: a fold over its calls and the answers to them. Over the entries of a history the same fold gives the same but for
+-- which of its events are marked.
 use Rattle.std.specs.Prelude.{◌≡◌, ℕ, ◌⊎◌, List, [], ◌∷◌, ◌++◌, map, filter, drop, Bool, true, false, not, ◌==◌, if◌then◌else◌, Option, Some, None}
 use Rattle.std.specs.Option.{option_map}
 use Rattle.std.specs.Str.{bytes_eq}
@@ -100,6 +101,7 @@ pub record IsSeated (s : Seat) (sid : Sid) : Type 0 where
   pub set : s.set ≡ true
   pub found : s.unfound ≡ Some []
 
+-- the call was refused, as its session is gone
 abbrev pub Refuses : Act → Heard → Type 0
 Refuses (Dm sid call) h = h ≡ heard.Dm (reply.Refused NoSession)
 Refuses act h = ⊥

@@ -40,6 +40,7 @@ abbrev pub reply_of : Stop → DmReply
 reply_of stop.Disk = Refused dm.Disk
 reply_of stop.Memory = Refused dm.Memory
 
+-- the store has answered itself, and not stopped the run
 abbrev pub IsServed : DmReply → Type 0
 IsServed reply = (why : Stop) → reply ≢ reply_of why
 

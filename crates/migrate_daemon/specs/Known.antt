@@ -1,4 +1,5 @@
--- What the migration daemon knows: a fold over its calls and the answers to them. The same fold goes over the entries of a history.
+-- What the migration daemon knows: a fold over its acts and the answers to them. Over the entries of a history the same fold gives the same but for the
+-- space and `fresh`: a rest leaves no entry, and nor does what allows one pass more.
 use Rattle.std.specs.Prelude.{Bool, true, false, not, ◌&&◌, Option, Some, None}
 use Rattle.hsm_types.specs.declared.daemons.Act.{Act}
 use Rattle.hsm_types.specs.declared.daemons.Act.TheVariants.{Dm, Idle}

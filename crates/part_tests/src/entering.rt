@@ -2,6 +2,7 @@
 ghost use Rattle.daemon_session.specs.Members.{IsOnWay};
 
 use crate::answers::{REFUSALS, packed};
+use crate::messages::{READ, THREE};
 use daemon_session::{Daemon, Member, Step};
 use hsm_types::{Act, DmCall, DmRefusal, DmReply, Heard, Kinds, Sid, Sids, Token, Tokens, Word};
 use std::alloc::Global;
@@ -42,23 +43,6 @@ enum Next {
     /// Whatever else.
     Other,
 }
-
-/// A read of three bytes from the first one, by token 1, of the file 1.1.1.
-static READ: [u8; 64] = [
-    0, 0, 0, 0, 0, 0, 0, 1, 0, 0, 0, 0, 0, 0, 0, 1, 0, 0, 0, 40, 0, 0, 0, 0, 0, 0, 0, 0, 0, 0, 0,
-    1, 0, 0, 0, 0, 0, 0, 0, 1, 0, 0, 0, 0, 0, 0, 0, 1, 0, 0, 0, 0, 0, 0, 0, 0, 0, 0, 0, 0, 0, 0, 0,
-    3,
-];
-
-/// The same read, `hello` by token 2, and a truncate to 258 bytes by token 3.
-static THREE: [u8; 160] = [
-    0, 0, 0, 64, 0, 0, 0, 1, 0, 0, 0, 0, 0, 0, 0, 1, 0, 0, 0, 40, 0, 0, 0, 0, 0, 0, 0, 0, 0, 0, 0,
-    1, 0, 0, 0, 0, 0, 0, 0, 1, 0, 0, 0, 0, 0, 0, 0, 1, 0, 0, 0, 0, 0, 0, 0, 0, 0, 0, 0, 0, 0, 0, 0,
-    3, 0, 0, 0, 32, 0, 0, 0, 5, 0, 0, 0, 0, 0, 0, 0, 2, 0, 0, 0, 5, 0, 0, 0, 0, 104, 101, 108, 108,
-    111, 0, 0, 0, 0, 0, 0, 0, 0, 0, 0, 3, 0, 0, 0, 0, 0, 0, 0, 3, 0, 0, 0, 40, 0, 0, 0, 0, 0, 0, 0,
-    0, 0, 0, 0, 1, 0, 0, 0, 0, 0, 0, 0, 1, 0, 0, 0, 0, 0, 0, 0, 1, 0, 0, 0, 0, 0, 0, 1, 2, 0, 0, 0,
-    0, 0, 0, 0, 0,
-];
 
 /// No session lives.
 const NONE: Told = Told::Sids(&[]);

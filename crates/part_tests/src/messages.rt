@@ -7,14 +7,14 @@ use hsm_types::{Bytes, FileKey, Handle, Kind, Message, Packed, Token};
 use std::alloc::{AllocError, Global};
 
 /// A read of three bytes from the first one, by token 1, of the file 1.1.1.
-static READ: [u8; 64] = [
+pub(crate) static READ: [u8; 64] = [
     0, 0, 0, 0, 0, 0, 0, 1, 0, 0, 0, 0, 0, 0, 0, 1, 0, 0, 0, 40, 0, 0, 0, 0, 0, 0, 0, 0, 0, 0, 0,
     1, 0, 0, 0, 0, 0, 0, 0, 1, 0, 0, 0, 0, 0, 0, 0, 1, 0, 0, 0, 0, 0, 0, 0, 0, 0, 0, 0, 0, 0, 0, 0,
     3,
 ];
 
 /// The same read, `hello` by token 2, and a truncate to 258 bytes by token 3.
-static THREE: [u8; 160] = [
+pub(crate) static THREE: [u8; 160] = [
     0, 0, 0, 64, 0, 0, 0, 1, 0, 0, 0, 0, 0, 0, 0, 1, 0, 0, 0, 40, 0, 0, 0, 0, 0, 0, 0, 0, 0, 0, 0,
     1, 0, 0, 0, 0, 0, 0, 0, 1, 0, 0, 0, 0, 0, 0, 0, 1, 0, 0, 0, 0, 0, 0, 0, 0, 0, 0, 0, 0, 0, 0, 0,
     3, 0, 0, 0, 32, 0, 0, 0, 5, 0, 0, 0, 0, 0, 0, 0, 2, 0, 0, 0, 5, 0, 0, 0, 0, 104, 101, 108, 108,
