@@ -12,9 +12,10 @@ use Rattle.dm_handles.specs.Laws.{ReadsBack}
 use Rattle.event_msgs.specs.Buffers.{IsInGrammar}
 use Rattle.event_msgs.specs.Reading.{handle_in}
 use Rattle.event_msgs.specs.Views.{shown}
-use Rattle.daemon_session.specs.declared.daemons.Daemon.{Daemon}
+use Rattle.hsm_types.specs.declared.daemons.Daemon.{Daemon}
 use Rattle.daemon_session.specs.declared.events.Kept.{Kept}
-use Rattle.daemon_session.specs.Daemons.{kinds_of, own_event}
+use Rattle.hsm_types.specs.Daemons.{kinds_of}
+use Rattle.daemon_session.specs.Tellings.{own_event}
 use Rattle.daemon_session.specs.Keeping.{own_shown}
 
 abbrev ReadBack : Type 0

@@ -11,13 +11,14 @@ use Rattle.hsm_types.specs.declared.dm.DmRefusal.TheVariants.{NoToken, NotYours,
 use Rattle.hsm_types.specs.declared.dm.DmReply.TheVariants as reply
 use Rattle.hsm_types.specs.declared.keys.Sid.{Sid}
 use Rattle.hsm_types.specs.declared.keys.Token.{Token}
-use Rattle.daemon_session.specs.declared.daemons.Daemon.{Daemon}
+use Rattle.hsm_types.specs.declared.daemons.Daemon.{Daemon}
 use Rattle.daemon_session.specs.declared.entering.Entering.{Entering}
 use Rattle.daemon_session.specs.declared.entering.Entering.TheVariants.{Outside, Listing, Querying, Making, Recollecting, Finding}
 use Rattle.daemon_session.specs.declared.events.Kept.{Kept}
 use Rattle.daemon_session.specs.declared.members.Step.{Step}
 use Rattle.daemon_session.specs.declared.members.Step.TheVariants as step
-use Rattle.daemon_session.specs.Daemons.{information, events_in}
+use Rattle.hsm_types.specs.Daemons.{information}
+use Rattle.daemon_session.specs.Tellings.{events_in}
 use Rattle.daemon_session.specs.Going.{member_in, IsQuerying, IsFinding, QueriesNext, FindsNext, Makes, Queries}
 use Rattle.daemon_session.specs.Members.{Membership, Enters, with_kept, asked_in}
 use Rattle.daemon_session.specs.Seats.{first_id}

@@ -4,7 +4,7 @@ use Rattle.hsm_types.specs.declared.daemons.Act.TheVariants.{Dm}
 use Rattle.hsm_types.specs.declared.dm.DmCall.TheVariants.{QuerySession, FindEventMsg}
 use Rattle.hsm_types.specs.declared.keys.Sid.{Sid}
 use Rattle.hsm_types.specs.declared.keys.Token.{Token}
-use Rattle.daemon_session.specs.declared.daemons.Daemon.{Daemon}
+use Rattle.hsm_types.specs.declared.daemons.Daemon.{Daemon}
 use Rattle.daemon_session.specs.declared.entering.Entering.{Entering}
 use Rattle.daemon_session.specs.declared.entering.Entering.TheVariants.{Querying, Making, Finding, Seated}
 use Rattle.daemon_session.specs.declared.events.Kept.{Kept}

@@ -3,10 +3,10 @@ use Rattle.std.specs.Prelude.{false, ◌==◌, ◌&&◌, length, Option, Some, N
 use Rattle.hsm_types.specs.Messages.{takes}
 use Rattle.event_msgs.specs.Reading.{handle_in}
 use Rattle.event_msgs.specs.Views.{Shown}
-use Rattle.daemon_session.specs.declared.daemons.Daemon.{Daemon}
+use Rattle.hsm_types.specs.declared.daemons.Daemon.{Daemon}
 use Rattle.daemon_session.specs.declared.events.Event.{Event}
 use Rattle.daemon_session.specs.declared.events.Kept.{Kept}
-use Rattle.daemon_session.specs.Daemons.{kinds_of}
+use Rattle.hsm_types.specs.Daemons.{kinds_of}
 
 abbrev pub event_shown : Shown → Event
 event_shown s = record { token = s.token; kind = s.kind; handle = handle_in s.handle; offset = s.offset; length = s.length }

@@ -1,4 +1,4 @@
-pub mod Daemons
+pub mod Tellings
 pub mod Seats
 pub mod Going
 pub mod Keeping

@@ -9,13 +9,13 @@ use Rattle.hsm_types.specs.declared.dm.DmReply.TheVariants as reply
 use Rattle.hsm_types.specs.declared.dm.DmRefusal.TheVariants.{TooMany}
 use Rattle.hsm_types.specs.declared.keys.Sid.{Sid}
 use Rattle.hsm_types.specs.declared.keys.Token.{Token}
-use Rattle.daemon_session.specs.declared.daemons.Daemon.{Daemon}
+use Rattle.hsm_types.specs.declared.daemons.Daemon.{Daemon}
 use Rattle.daemon_session.specs.declared.entering.Entering.{Entering}
 use Rattle.daemon_session.specs.declared.entering.Entering.TheVariants.{Outside, Listing, Querying, Making, Setting, Recollecting, Finding, Seated}
 use Rattle.daemon_session.specs.declared.events.Kept.{Kept}
 use Rattle.daemon_session.specs.declared.members.Step.{Step}
 use Rattle.daemon_session.specs.declared.members.Step.TheVariants as step
-use Rattle.daemon_session.specs.Daemons.{information, kinds_of}
+use Rattle.hsm_types.specs.Daemons.{information, kinds_of}
 use Rattle.daemon_session.specs.Seats.{Seat, no_seat, first_id, IsSeated, MayEnter, seat_asks_by, seat_hears_by}
 
 -- what it knows, and the act whose answer it waits for on its way: Idle where it waits for none

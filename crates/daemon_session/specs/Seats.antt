@@ -14,9 +14,10 @@ use Rattle.hsm_types.specs.declared.dm.DmReply.TheVariants as reply
 use Rattle.hsm_types.specs.declared.dm.DmRefusal.TheVariants.{NoSession, NoToken, NotYours, TooMany}
 use Rattle.hsm_types.specs.declared.keys.Sid.{Sid}
 use Rattle.hsm_types.specs.declared.keys.Token.{Token}
-use Rattle.daemon_session.specs.declared.daemons.Daemon.{Daemon}
+use Rattle.hsm_types.specs.declared.daemons.Daemon.{Daemon}
 use Rattle.daemon_session.specs.declared.events.Kept.{Kept}
-use Rattle.daemon_session.specs.Daemons.{information, kinds_of, events_in}
+use Rattle.hsm_types.specs.Daemons.{information, kinds_of}
+use Rattle.daemon_session.specs.Tellings.{events_in}
 
 pub record Seat : Type 0 where
   -- the session that it made or assumed last

@@ -1,15 +1,14 @@
 // The events that a daemon keeps, as a list.
 ghost use Rattle.std.specs.Prelude.{◌≡◌, ◌++◌, IfOk, OnOk, OnErr};
 ghost use Rattle.event_msgs.specs.Views.{seen};
-ghost use Rattle.daemon_session.specs.Daemons.{events_in};
+ghost use Rattle.daemon_session.specs.Tellings.{events_in};
 ghost use Rattle.daemon_session.specs.Keeping.{own_shown};
 ghost use Rattle.daemon_session.specs.Seats.{forgot, marked_at, all_marked};
 
-use crate::daemons::Daemon;
 use crate::events::{Event, Kept};
 use dm_handles::reads_back;
 use event_msgs::{View, messages};
-use hsm_types::{HANDLE_BYTES, Handle, Token};
+use hsm_types::{Daemon, HANDLE_BYTES, Handle, Token};
 use std::alloc::{AllocError, Global};
 
 /// Forgets the events of that token.

@@ -1,16 +1,15 @@
 //! A daemon's way to a session, and the events that it keeps.
 ghost use Rattle.std.specs.Prelude.{◌≡◌, ◌++◌, OnOk, OnErr};
-ghost use Rattle.daemon_session.specs.Daemons.{events_in};
+ghost use Rattle.daemon_session.specs.Tellings.{events_in};
 ghost use Rattle.daemon_session.specs.Seats.{first_id, forgot, marked_at, all_marked};
 ghost use Rattle.daemon_session.specs.Members.{outside, begun, with_kept};
 ghost use Rattle.hsm_types.specs.declared.daemons.Act.TheVariants.{Dm};
 ghost use Rattle.hsm_types.specs.declared.dm.DmCall.TheVariants.{GetAllSessions};
 
-use crate::daemons::Daemon;
 use crate::entering::Entering;
 use crate::events::Kept;
 use crate::keeping;
-use hsm_types::{Act, DmCall, Sid, Token};
+use hsm_types::{Act, Daemon, DmCall, Sid, Token};
 use std::alloc::{AllocError, Global};
 use std::marker::Model;
 

@@ -1,7 +1,8 @@
 //! The calls of sessions that the service answers. Each reply comes twice, for the session and for the history.
-ghost use Rattle.std.specs.Prelude.{◌≡◌, None, true};
+ghost use Rattle.std.specs.Prelude.{◌≡◌, None, true, IfOk};
 ghost use Rattle.hsm_types.specs.Calls.{scope_of};
 ghost use Rattle.hsm_types.specs.Refusals.{first_refusal};
+ghost use Rattle.dm_service.specs.Handing.{HandsOut};
 ghost use Rattle.dm_service.specs.Services.{asks_rights, asks_sessions, asks_tables, own_refusal, session_refusals, whole_refusal, IsTold};
 
 use crate::replies::refused;
@@ -54,7 +55,8 @@ pub(crate) fn serve(
     call: &DmCall,
 ) -> Result<(DmReply, DmReply), AllocError>
     requires { asks_sessions call.now ≡ true }
-    ensures { IsTold sessions.old sid call.now (whole_refusal sessions.old sid call.now) result sessions.new }
+    ensures told { IsTold sessions.old sid call.now (whole_refusal sessions.old sid call.now) result sessions.new }
+    ensures packed { IfOk result (λ r. HandsOut sessions.old sid call.now r.0) }
 {
     match judge_scope(sessions, sid, call.scope()) {
         Ok(()) => perform(sessions, alloc, sid, call),
@@ -71,7 +73,8 @@ fn perform(
 ) -> Result<(DmReply, DmReply), AllocError>
     requires asks { asks_sessions call.now ≡ true }
     requires scope { first_refusal (session_refusals sessions.old sid (scope_of call.now)) ≡ None }
-    ensures { IsTold sessions.old sid call.now (own_refusal sessions.old sid call.now) result sessions.new }
+    ensures told { IsTold sessions.old sid call.now (own_refusal sessions.old sid call.now) result sessions.new }
+    ensures packed { IfOk result (λ r. HandsOut sessions.old sid call.now r.0) }
 {
     match call {
         DmCall::CreateSession { old, info } => sessions::create(sessions, *old, info),

@@ -5,6 +5,8 @@ ghost use Rattle.hsm_types.specs.Messages.{packed, handed_out};
 ghost use Rattle.hsm_types.specs.Sessions.{lives, dead_session, queue_of, tokens_of, none_fits, delivered_within};
 ghost use Rattle.hsm_types.specs.declared.keys.Sid.{Sid};
 ghost use Rattle.hsm_types.specs.declared.dm.DmCall.TheVariants.{GetEvents, GetAllTokens, FindEventMsg, SendMsg};
+ghost use Rattle.event_msgs.specs.Buffers.{IsPacked};
+ghost use Rattle.dm_service.specs.Handing.{HandsOut};
 ghost use Rattle.dm_service.specs.Services.{own_refusal, AreBoth, IsTold, JudgesOrLacks};
 
 use crate::replies::{done, refused, twice};
@@ -22,7 +24,8 @@ pub(crate) fn hand_out(
     room: u32,
 ) -> Result<(DmReply, DmReply), AllocError>
     requires { lives sid sessions.old ≡ true }
-    ensures { IsTold sessions.old sid (GetEvents max room) (own_refusal sessions.old sid (GetEvents max room)) result sessions.new }
+    ensures told { IsTold sessions.old sid (GetEvents max room) (own_refusal sessions.old sid (GetEvents max room)) result sessions.new }
+    ensures packed { IfOk result (λ r. HandsOut sessions.old sid (GetEvents max room) r.0) }
 {
     let packed = match pack_queue(sessions, alloc, sid, max, room) {
         Ok(packed) => packed,
@@ -69,6 +72,7 @@ fn pack_queue(
     ensures bytes { IfOk result (λ p. p.bytes ≡ packed (handed_out max room (queue_of sid sessions.now))) }
     ensures tokens { IfOk result (λ p. p.tokens ≡ tokens_of (handed_out max room (queue_of sid sessions.now))) }
     ensures within { IfOk result (λ p. length p.tokens ≤ length (queue_of sid sessions.now)) }
+    ensures grammar { IfOk result (λ p. IsPacked p.bytes (handed_out max room (queue_of sid sessions.now))) }
 {
     let queue = sessions.queue(sid)?;
     match pack(alloc, queue, max, room) {
@@ -110,7 +114,8 @@ pub(crate) fn find(
     token: Token,
     room: u32,
 ) -> Result<(DmReply, DmReply), AllocError>
-    ensures { (sid : Sid) → IsTold sessions.now sid (FindEventMsg token room) (own_refusal sessions.now sid (FindEventMsg token room)) result sessions.now }
+    ensures told { (sid : Sid) → IsTold sessions.now sid (FindEventMsg token room) (own_refusal sessions.now sid (FindEventMsg token room)) result sessions.now }
+    ensures packed { (sid : Sid) → IfOk result (λ r. HandsOut sessions.now sid (FindEventMsg token room) r.0) }
 {
     let Some(message) = sessions.find(token) else {
         return Ok(refused(DmRefusal::Again));

@@ -8,6 +8,7 @@ ghost use Rattle.hsm_types.specs.declared.dm.DmCall.TheVariants.{CreateSession, 
 ghost use Rattle.plain_model.specs.State.{noted};
 ghost use Rattle.plain_model.specs.Services.{bad_own_token, dm_state_where};
 ghost use Rattle.dm_service.specs.Tables.{awaited_in, seen};
+ghost use Rattle.dm_service.specs.Handing.{HandsOut};
 ghost use Rattle.dm_service.specs.Services.{any_superblock, asks_tables, entries_for, is_due, IsServed, Judges, JudgesOrLacks};
 
 use crate::calls::serve;
@@ -29,6 +30,7 @@ impl DmService {
     ) -> Result<(DmReply, DmReply), AllocError>
         requires { asks_tables call.now ≡ true }
         ensures served { IsServed self.old sid call.now result self.new }
+        ensures packed { IfOk result (λ r. HandsOut self.old.sessions sid call.now r.0) }
         ensures responds { is_due self.old.sessions sid call.now ≡ true → IsOk result }
         ensures room { awaited_in self.new + 1 ≤ awaited_in self.old + entries_for self.old.sessions sid call.now }
     {

@@ -9,6 +9,7 @@ pub mod Needed
 pub mod Replying
 pub mod Lasting
 pub mod Serving
+pub mod HandedOut
 pub mod Aways
 pub mod Told
 pub mod Moved
@@ -17,3 +18,4 @@ pub mod Runs
 pub mod Safety
 pub mod Events
 pub mod Readiness
+pub mod Sending

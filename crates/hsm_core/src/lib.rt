@@ -12,5 +12,6 @@ mod room;
 mod services;
 mod stamps;
 mod store;
+mod threads;
 
 pub use store::{Hsm, Ready};

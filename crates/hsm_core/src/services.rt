@@ -3,6 +3,7 @@ ghost use Rattle.std.specs.Prelude.{◌≡◌, ◌≤◌, ◌+◌, ℕ, false, t
 ghost use Rattle.hsm_types.specs.Calls.{scope_of};
 ghost use Rattle.plain_model.specs.Services.{dm_reply_to, dm_state_after};
 ghost use Rattle.plain_model.specs.Stands.{InOrder};
+ghost use Rattle.dm_service.specs.Handing.{HandsOut};
 ghost use Rattle.dm_service.specs.Services.{AreBoth, asks_rights, asks_tables, entries_for, is_due, wants_entry_alone};
 ghost use Rattle.dm_service.specs.Tables.{Tables, awaited_in, ledger_of};
 ghost use Rattle.file_store.specs.Stores.{superblock_of, Proceeds};
@@ -48,6 +49,7 @@ pub(crate) fn serve<D: Disk>(
     ensures replies { IfOk result (λ r. AreBoth (dm_reply_to (superblock_of files.old) (state_with files.old.held stamps.now.entries service.old number) sid call.now) r) }
     ensures left { OnOk result (state_with files.new.held stamps.now.entries service.new (number + 1) ≡ dm_state_after (superblock_of files.old) (state_with files.old.held stamps.now.entries service.old number) sid call.now) }
     ensures err { OnErr result (service.new ≡ service.old) }
+    ensures packed { IfOk result (λ r. HandsOut service.old.sessions sid call.now r.0) }
     ensures responds { is_due service.old.sessions sid call.now ≡ true → IsOk result }
     ensures alone { wants_entry_alone call.now ≡ true → IsOk result }
     ensures room { OnOk result (awaited_in service.new + 1 ≤ awaited_in service.old + entries_for service.old.sessions sid call.now) }

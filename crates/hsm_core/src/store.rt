@@ -13,6 +13,7 @@ ghost use Rattle.hsm_types.specs.Messages.{no_token};
 ghost use Rattle.hsm_types.specs.Rights.{conflict};
 ghost use Rattle.plain_model.specs.Accesses.{need_of};
 ghost use Rattle.plain_model.specs.Keyed.{find_key};
+ghost use Rattle.dm_service.specs.Handing.{HandsOut};
 ghost use Rattle.dm_service.specs.Services.{entries_for, is_due, wants_entry_alone};
 ghost use Rattle.dm_service.specs.Tables.{AreNew, waiting};
 ghost use Rattle.hsm_core.specs.Answers.{entry_of, own_answer, IsAnswered, IsResumed, IsTold, IsCommitted};
@@ -424,6 +425,7 @@ impl<D: Disk> Hsm<D> {
     /// downgrade a right, and to say what a token has.
     pub fn dm(&mut self, alloc: Global, sid: Sid, call: DmCall) -> DmReply
         ensures told { IsTold D.Disk self.old sid call result self.new }
+        ensures packed { HandsOut self.old.tables.sessions sid call result }
         ensures responds { is_due self.old.tables.sessions sid call ≡ true → self.old.files.failed ≡ false → result ≡ DmReply.Done }
         ensures spared { wants_entry_alone call ≡ true → 1 ≤ self.old.spare → self.old.files.failed ≡ false → Answer.Dm result ≡ own_answer self.old (Actor.Session sid) (Action.Dm call) }
         ensures safe { IsSafeNow D.Disk self.new }

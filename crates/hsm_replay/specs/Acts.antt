@@ -3,6 +3,9 @@ use Rattle.std.specs.Prelude.{◌≡◌, ◌≢◌, ◌⊎◌, ℕ, ◌+◌, ◌
 use Rattle.disk_model.specs.declared.device.Disk as disk
 use Rattle.media_model.specs.declared.drive.Drive as drive
 use Rattle.hsm_types.specs.Stubs.{print_of}
+use Rattle.hsm_types.specs.declared.calls.CallRefusal.TheVariants as call
+use Rattle.hsm_types.specs.declared.calls.Reply.{Reply}
+use Rattle.hsm_types.specs.declared.calls.Reply.TheVariants as calls
 use Rattle.hsm_types.specs.declared.daemons.Act.{Act}
 use Rattle.hsm_types.specs.declared.daemons.Act.TheVariants.{Dm, Copy, Fetch, Idle}
 use Rattle.hsm_types.specs.declared.daemons.Heard.{Heard}
@@ -21,24 +24,26 @@ use Rattle.hsm_types.specs.declared.stubs.StubEntry.{StubEntry}
 use Rattle.plain_model.specs.declared.entries.Actor.TheVariants.{Session}
 use Rattle.plain_model.specs.declared.entries.Action.TheVariants as action
 use Rattle.plain_model.specs.declared.entries.Answer.TheVariants as answer
+use Rattle.dm_service.specs.Handing.{HandsOut}
 use Rattle.dm_service.specs.Services.{entries_for, is_due, wants_entry_alone}
 use Rattle.hsm_core.specs.Answers.{entry_of, own_answer, IsTold}
 use Rattle.hsm_core.specs.Crashes.{IsSafeNow}
+use Rattle.hsm_core.specs.Kept.{IsKept}
 use Rattle.hsm_core.specs.Store.{Store, KeepsRoom}
 use Rattle.volume_shelf.specs.Shelf.{Reads, Grows, Copied, CopyRefused, Fetched, FetchRefused}
 use Rattle.hsm_replay.specs.declared.stops.Stop.{Stop}
 use Rattle.hsm_replay.specs.declared.stops.Stop.TheVariants as stop
 use Rattle.hsm_replay.specs.Systems.{System, drive_of}
 
--- the bytes of a copy number 1 to 65,536
-abbrev pub MayPerform : Act → Type 0
-MayPerform (Copy volume handle segment bytes) = (1 ≤ length bytes) × (length bytes ≤ 65536)
-MayPerform act = Unit {0}
-
 -- what a session is told where the run stops
 abbrev pub reply_of : Stop → DmReply
 reply_of stop.Disk = Refused dm.Disk
 reply_of stop.Memory = Refused dm.Memory
+
+-- what a caller is
+abbrev pub call_reply_of : Stop → Reply
+call_reply_of stop.Disk = calls.Refused call.Disk
+call_reply_of stop.Memory = calls.Refused call.Memory
 
 -- the store has answered itself, and not stopped the run
 abbrev pub IsServed : DmReply → Type 0
@@ -58,7 +63,9 @@ KeepsStop sid call stop.Memory old new = (new.files.failed ≡ false) × (new.hi
 module _ {D M : Type 0} (g : disk.Ghosts D) where
   -- The call was one event of the store, in which the session was told this. The rest is as before.
   pub record IsEvent (sid : Sid) (call : DmCall) (reply : DmReply) (old new : System D M) : Type 0 where
+    pub kept : IsKept old.store
     pub told : IsTold g old.store sid call reply new.store
+    pub packed : HandsOut old.store.tables.sessions sid call reply
     pub responds : is_due old.store.tables.sessions sid call ≡ true → old.store.files.failed ≡ false → reply ≡ Done
     pub spared : wants_entry_alone call ≡ true → 1 ≤ old.store.spare → old.store.files.failed ≡ false → answer.Dm reply ≡ own_answer old.store (Session sid) (action.Dm call)
     pub safe : IsSafeNow g new.store

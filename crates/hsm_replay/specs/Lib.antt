@@ -1,3 +1,14 @@
 pub mod Systems
+pub mod Marks
+pub mod Served
+pub mod Caused
+pub mod Faults
 pub mod Acts
 pub mod Steps
+pub mod Drives
+pub mod Running
+pub mod Quiet
+pub mod Settled
+pub mod Turns
+pub mod Keeping
+pub mod Follows

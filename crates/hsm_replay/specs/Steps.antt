@@ -6,8 +6,8 @@ use Rattle.media_model.specs.declared.drive.Drive as drive
 use Rattle.hsm_types.specs.declared.daemons.Act.{Act}
 use Rattle.hsm_types.specs.declared.daemons.Heard.{Heard}
 use Rattle.hsm_types.specs.declared.daemons.Heard.TheVariants.{Nothing}
-use Rattle.daemon_session.specs.declared.daemons.Daemon.{Daemon}
-use Rattle.daemon_session.specs.declared.daemons.Daemon.TheVariants.{Recall, Migrate}
+use Rattle.hsm_types.specs.declared.daemons.Daemon.{Daemon}
+use Rattle.hsm_types.specs.declared.daemons.Daemon.TheVariants.{Recall, Migrate}
 use Rattle.recall_daemon.specs.Machine as recall
 use Rattle.migrate_daemon.specs.Machine as migrate
 use Rattle.hsm_replay.specs.declared.daemons.Recalling.{Recalling}

@@ -4,8 +4,8 @@ use Rattle.std.specs.Option.{option_or}
 use Rattle.hsm_types.specs.declared.daemons.Heard.TheVariants.{Nothing}
 use Rattle.hsm_core.specs.Store.{Store}
 use Rattle.hsm_policy.specs.Settings.{Numbers}
-use Rattle.daemon_session.specs.declared.daemons.Daemon.{Daemon}
-use Rattle.daemon_session.specs.declared.daemons.Daemon.TheVariants.{Recall, Migrate}
+use Rattle.hsm_types.specs.declared.daemons.Daemon.{Daemon}
+use Rattle.hsm_types.specs.declared.daemons.Daemon.TheVariants.{Recall, Migrate}
 use Rattle.recall_daemon.specs.Machine as recall
 use Rattle.migrate_daemon.specs.Machine as migrate
 use Rattle.hsm_replay.specs.declared.daemons.Recalling.{Recalling}

@@ -2,8 +2,13 @@
 #![tactic(auto)]
 
 mod daemons;
+mod laws;
+mod quiet;
 mod replay;
+mod settling;
 mod stops;
+mod threads;
 
+pub use laws::served_is_caused;
 pub use replay::Replay;
 pub use stops::Stop;

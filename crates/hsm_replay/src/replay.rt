@@ -1,17 +1,25 @@
 //! A store with its drives and its daemons, and the acts that are performed on them.
-ghost use Rattle.std.specs.Prelude.{◌≡◌, ◌<◌, ◌≤◌, length, None, IfOk, IfErr, OnOk};
+ghost use Rattle.std.specs.Prelude.{◌≡◌, ◌<◌, ◌≤◌, ◌^◌, ◌↔◌, IsTrue, length, None, IfOk, IfErr, OnOk};
+ghost use Rattle.std.specs.List.{AllByRecursion};
+ghost use Rattle.hsm_core.specs.Kept.{IsKept};
+ghost use Rattle.hsm_core.specs.Ready.{ready};
+ghost use Rattle.hsm_core.specs.declared.store.Ready.TheVariants.{Now};
 ghost use Rattle.migrate_daemon.specs.Machine.{IsWithin};
 ghost use Rattle.hsm_replay.specs.Systems.{drive_of, started, killed};
-ghost use Rattle.hsm_replay.specs.Acts.{MayPerform, Performs, Stops};
+ghost use Rattle.hsm_types.specs.Daemons.{MayPerform};
+ghost use Rattle.hsm_replay.specs.Acts.{Performs, Stops};
+ghost use Rattle.hsm_replay.specs.Follows.{IsOfSettling, IsStepOf};
+ghost use Rattle.hsm_replay.specs.Keeping.{Moves};
+ghost use Rattle.hsm_replay.specs.Quiet.{Rests, refreshed};
 ghost use Rattle.hsm_replay.specs.Steps.{Steps, Halts, hearing};
+ghost use Rattle.hsm_replay.specs.Turns.{MayResume};
 
 use crate::daemons::{Migrating, Recalling};
-use crate::stops::{Stop, copied, fetched, served};
-use daemon_session::Daemon;
+use crate::stops::{Stop, answered, copied, fetched, served};
 use disk_model::Disk;
-use hsm_core::Hsm;
+use hsm_core::{Hsm, Ready};
 use hsm_policy::Settings;
-use hsm_types::{Act, DmCall, Handle, Heard, Sid, StubEntry, Verified};
+use hsm_types::{Act, CallerId, Daemon, DmCall, Handle, Heard, Sid, StubEntry, Verified};
 use media_model::Drive;
 use std::alloc::Global;
 use std::marker::Model;
@@ -20,7 +28,7 @@ use volume_shelf::{copy, fetch};
 /// A store with its drives, of which there are as many as the settings say, and its daemons. Volume v is in the drive v mod the number of drives.
 #[derive(Drop)]
 pub struct Replay<D: Disk, M: Drive> {
-    hsm: Hsm<D>,
+    pub(crate) hsm: Hsm<D>,
     drives: Vec<M>,
     settings: Settings,
     recall: Option<Recalling>,
@@ -102,6 +110,14 @@ impl<D: Disk, M: Drive> Replay<D, M> {
     pub fn step(&mut self, alloc: Global, daemon: Daemon) -> Result<(), Stop>
         ensures stepped { OnOk result (Steps D.Disk M.Drive daemon self.old self.new) }
         ensures stopped { IfErr result (λ why. Halts D.Disk M.Drive daemon self.old why self.new) }
+        ensures moves { Moves D.Disk M.Drive (IsStepOf daemon) result self.old self.new }
+    {
+        self.step_of(alloc, daemon)
+    }
+
+    fn step_of(&mut self, alloc: Global, daemon: Daemon) -> Result<(), Stop>
+        ensures stepped { OnOk result (Steps D.Disk M.Drive daemon self.old self.new) }
+        ensures stopped { IfErr result (λ why. Halts D.Disk M.Drive daemon self.old why self.new) }
     {
         match daemon {
             Daemon::Recall => self.step_recall(alloc),
@@ -154,6 +170,77 @@ impl<D: Disk, M: Drive> Replay<D, M> {
         }
     }
 
+    /// Whether the daemon rests. One that doesn't run rests, and one that was just started.
+    pub(crate) fn rests(&self, daemon: Daemon) -> bool
+        ensures { IsTrue result ↔ Rests daemon self.now }
+    {
+        match daemon {
+            Daemon::Recall => self.recall_rests(),
+            Daemon::Migrate => self.migrate_rests(),
+        }
+    }
+
+    fn recall_rests(&self) -> bool
+        ensures { IsTrue result ↔ Rests Daemon.Recall self.now }
+    {
+        match &self.recall {
+            Some(recalling) => recalling.machine.rests(),
+            None => true,
+        }
+    }
+
+    fn migrate_rests(&self) -> bool
+        ensures { IsTrue result ↔ Rests Daemon.Migrate self.now }
+    {
+        match &self.migrate {
+            Some(migrating) => migrating.machine.rests(),
+            None => true,
+        }
+    }
+
+    /// Migration may begin one pass by `high` from here on.
+    pub(crate) fn refresh(&mut self)
+        ensures { self.new ≡ refreshed self.old }
+    {
+        if let Some(migrating) = &mut self.migrate {
+            migrating.machine.fresh();
+        }
+    }
+
+    /// The store has kept all that it answered.
+    pub(crate) fn kept(&self)
+        ensures { IsKept self.now.store }
+    {
+        let _ = self.hsm.history();
+    }
+
+    /// How many entries the history has.
+    pub(crate) fn entries(&self) -> usize
+        ensures count { result ≡ length self.now.store.history }
+        ensures few { length self.now.store.history < 2 ^ 64 }
+    {
+        self.hsm.history().len()
+    }
+
+    /// The caller resumes where its access may go on.
+    pub(crate) fn resume(&mut self, alloc: Global, caller: CallerId) -> Result<(), Stop>
+        ensures moves { Moves D.Disk M.Drive (AllByRecursion IsOfSettling) result self.old self.new }
+        ensures resumed { OnOk result (MayResume caller self.old self.new) }
+    {
+        if !self.is_ready(caller) {
+            return Ok(());
+        }
+        self.kept();
+        answered(&self.hsm.resume(alloc, caller))
+    }
+
+    /// Whether the caller's access may go on.
+    fn is_ready(&self, caller: CallerId) -> bool
+        ensures { IsTrue result ↔ (ready self.now.store caller ≡ Now) }
+    {
+        matches!(self.hsm.ready(caller), Ready::Now)
+    }
+
     /// Performs the act: a session's call as one event, and a copy or a fetch on the drive of its volume. A copy or a fetch is no event. What it is
     /// refused for is heard, unless that is want of memory. An act that was stopped may be given again.
     pub fn act(&mut self, alloc: Global, act: Act) -> Result<Heard, Stop>
@@ -179,6 +266,7 @@ impl<D: Disk, M: Drive> Replay<D, M> {
         ensures performed { IfOk result (λ heard. Performs D.Disk M.Drive self.old (Act.Dm sid call) heard self.new) }
         ensures stopped { IfErr result (λ stop. Stops D.Disk M.Drive self.old (Act.Dm sid call) stop self.new) }
     {
+        self.kept();
         served(self.hsm.dm(alloc, sid, call))
     }
 

@@ -1,8 +1,10 @@
 //! Why a run ends before its lines do.
-ghost use Rattle.std.specs.Prelude.{◌≡◌, ◌≢◌, Err, IfOk, IfErr};
-ghost use Rattle.hsm_replay.specs.Acts.{reply_of, IsServed};
+ghost use Rattle.std.specs.Prelude.{◌≡◌, ◌≢◌, Err, IfOk, IfErr, OnOk};
+ghost use Rattle.hsm_replay.specs.Acts.{reply_of, call_reply_of, IsServed};
 
-use hsm_types::{CopyRefusal, DmRefusal, DmReply, FetchRefusal, Heard, StubEntry, Verified};
+use hsm_types::{
+    CallRefusal, CopyRefusal, DmRefusal, DmReply, FetchRefusal, Heard, Reply, StubEntry, Verified,
+};
 use std::alloc::AllocError;
 use thiserror::Error;
 
@@ -24,6 +26,18 @@ impl From<AllocError> for Stop {
 
     fn from(_e: AllocError) -> Stop {
         Stop::Memory
+    }
+}
+
+/// Whether a run goes on after that answer to a caller, or to the store itself.
+pub(crate) fn answered(reply: &Reply) -> Result<(), Stop>
+    ensures served { OnOk result ((reply.now ≢ Reply.Refused CallRefusal.Memory) × (reply.now ≢ Reply.Refused CallRefusal.Disk)) }
+    ensures stopped { IfErr result (λ stop. reply.now ≡ call_reply_of stop) }
+{
+    match reply {
+        Reply::Refused(CallRefusal::Disk) => Err(Stop::Disk),
+        Reply::Refused(CallRefusal::Memory) => Err(Stop::Memory),
+        _ => Ok(()),
     }
 }
 

@@ -2,6 +2,7 @@ pub mod Answers
 pub mod Attributes
 pub mod Callers
 pub mod Calls
+pub mod Daemons
 pub mod Forms
 pub mod Handles
 pub mod Kept

@@ -1,9 +1,52 @@
-//! What a daemon does next, and what it hears of it.
+//! The daemons of a store, what they do next, and what they hear of it.
+ghost use Rattle.std.specs.Prelude.{◌≡◌};
+ghost use Rattle.hsm_types.specs.Daemons.{information, kinds_of};
 
-use crate::dm::{DmCall, DmReply};
+use crate::dm::{DmCall, DmReply, Kinds};
 use crate::keys::{Handle, Sid};
 use crate::media::{CopyRefusal, FetchRefusal};
 use crate::stubs::{StubEntry, Verified};
+
+/// A daemon of the store.
+#[derive(Clone, Copy, Debug, PartialEq, Eq)]
+pub enum Daemon {
+    /// Brings the bytes of offline segments back, where an access needs them.
+    Recall,
+    /// Copies bytes to volumes, and makes room.
+    Migrate,
+}
+
+impl Daemon {
+    /// What its sessions are known by.
+    pub fn information(self) -> &'static [u8]
+        ensures { result.now ≡ information self }
+    {
+        match self {
+            Daemon::Recall => b"HSMRECALL",
+            Daemon::Migrate => b"HSMMIGRATE",
+        }
+    }
+
+    /// The kinds of events that it takes.
+    pub fn kinds(self) -> Kinds
+        ensures { result ≡ kinds_of self }
+    {
+        match self {
+            Daemon::Recall => Kinds {
+                read: true,
+                write: true,
+                truncate: true,
+                no_space: false,
+            },
+            Daemon::Migrate => Kinds {
+                read: false,
+                write: false,
+                truncate: false,
+                no_space: true,
+            },
+        }
+    }
+}
 
 /// What a daemon does next.
 #[derive(Debug, PartialEq, Drop)]

@@ -20,7 +20,7 @@ mod tables;
 
 pub use attributes::{ATTRIBUTE_BYTES, ATTRIBUTE_COST, AttrName};
 pub use calls::{Call, CallRefusal, Reply};
-pub use daemons::{Act, Heard};
+pub use daemons::{Act, Daemon, Heard};
 pub use dm::{DmCall, DmRefusal, DmReply, Kind, Kinds, Response, Right, Scope};
 pub use forms::{CALL_PARTS, CallVerb, DmVerb};
 pub use keys::{CallerId, FileKey, HANDLE_BYTES, Handle, Holding, Sid, Token};

@@ -1,13 +1,17 @@
 -- Drives in memory that share volumes.
-use Rattle.std.specs.Prelude.{◌≡◌, ℕ, zero, suc, ◌%◌, Bool, true, false, ◌&&◌, ◌==◌, nat_lt, List, length, slice_get, if◌then◌else◌, Some, None, IfSome}
+use Rattle.std.specs.Prelude.{◌≡◌, ℕ, zero, suc, ◌%◌, Bool, true, false, ◌&&◌, ◌==◌, nat_lt, List, [], length, slice_get, if◌then◌else◌, Some, None, IfSome}
 use Rattle.std.specs.List.{list_all}
 use Rattle.std.specs.Option.{option_map_or}
-use Rattle.media_model.specs.Memory.{no_objects, volume_in, has_volume}
+use Rattle.media_model.specs.Memory.{Held, no_objects, volume_in, has_volume}
 use Rattle.media_model.specs.Faults.{Faulty}
 
 -- the volume is one of the drive's
 abbrev pub is_shared : ℕ → ℕ → ℕ → ℕ → Bool
 is_shared number drives volumes v = nat_lt v volumes && (v % drives == number)
+
+-- a drive that never fails, as one of those that may
+abbrev pub never_failing : Held → Faulty
+never_failing held = record { held = held; calls = 0; failing = []; damage = []; faults = 0 }
 
 -- a drive that has its volumes, without objects, and no fault so far
 pub record IsNew (number drives volumes capacity : ℕ) (d : Faulty) : Type 0 where

@@ -1,9 +1,9 @@
 //! Drives that share volumes: volume v is in the drive v mod their number.
-ghost use Rattle.std.specs.Prelude.{◌≡◌, ◌<◌, ◌≤◌, ℕ, length, nat_eq, IfOk};
+ghost use Rattle.std.specs.Prelude.{◌≡◌, ◌<◌, ◌≤◌, ℕ, map, length, nat_eq, IfOk};
 ghost use Rattle.std.specs.List.{list_any};
-ghost use Rattle.media_model.specs.Sharing.{is_shared, AreNew, have_room, has_shared, have_volumes};
+ghost use Rattle.media_model.specs.Sharing.{is_shared, never_failing, AreNew, have_room, has_shared, have_volumes};
 
-use crate::MemDrive;
+use crate::{MemDrive, SureDrive};
 use std::alloc::{AllocError, Global};
 
 /// The volumes of the drive of that number, from 0, of so many that share the volumes below `volumes`.
@@ -38,6 +38,23 @@ pub fn mem_drives(
     for number in 0..drives {
         let shared = volumes_of(alloc, number, drives, volumes)?;
         all.push(MemDrive::new(alloc, &shared, capacity, &[])?)?;
+    }
+    Ok(all)
+}
+
+/// So many drives in memory that never fail, and share the volumes below `volumes`, without objects. Each volume may have so many bytes.
+pub fn sure_drives(
+    alloc: Global,
+    drives: u32,
+    volumes: u32,
+    capacity: u64,
+) -> Result<Vec<SureDrive>, AllocError>
+    ensures { IfOk result (λ ds. AreNew drives volumes capacity (map never_failing ds.items)) }
+{
+    let mut all = Vec::new(alloc);
+    for number in 0..drives {
+        let shared = volumes_of(alloc, number, drives, volumes)?;
+        all.push(SureDrive::new(alloc, &shared, capacity)?)?;
     }
     Ok(all)
 }

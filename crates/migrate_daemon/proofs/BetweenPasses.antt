@@ -20,11 +20,11 @@ use Rattle.hsm_types.specs.declared.tables.Table.{Table}
 use Rattle.hsm_policy.specs.Picking.{IsPick}
 use Rattle.hsm_policy.specs.Settings.{Numbers}
 use Rattle.hsm_policy.specs.declared.picking.Picked.{Picked}
-use Rattle.daemon_session.specs.declared.daemons.Daemon.TheVariants.{Migrate}
+use Rattle.hsm_types.specs.declared.daemons.Daemon.TheVariants.{Migrate}
 use Rattle.daemon_session.specs.declared.events.Kept.{Kept}
 use Rattle.hsm_types.specs.declared.messages.Message.{Message}
 use Rattle.hsm_types.specs.declared.dm.DmCall.{DmCall}
-use Rattle.daemon_session.specs.Daemons.{event_on, own_event, events_in}
+use Rattle.daemon_session.specs.Tellings.{event_on, own_event, events_in}
 use Rattle.daemon_session.specs.Seats.{IsSeated, forgot, Refuses}
 use Rattle.migrate_daemon.specs.declared.shares.Space.{Space}
 use Rattle.migrate_daemon.specs.declared.stages.Turn.{Turn}

@@ -14,7 +14,7 @@ use Rattle.hsm_types.specs.declared.dm.DmRefusal.TheVariants as why
 use Rattle.hsm_types.specs.declared.keys.Sid.{Sid}
 use Rattle.hsm_policy.specs.Settings.{Numbers}
 use Rattle.hsm_policy.specs.declared.picking.Picked.{Picked}
-use Rattle.daemon_session.specs.declared.daemons.Daemon.TheVariants.{Migrate}
+use Rattle.hsm_types.specs.declared.daemons.Daemon.TheVariants.{Migrate}
 use Rattle.daemon_session.specs.declared.events.Kept.{Kept}
 use Rattle.daemon_session.specs.declared.members.Step.TheVariants as step
 use Rattle.daemon_session.specs.Members.{Enters, IsRefusedOne}

@@ -10,7 +10,7 @@ use Rattle.hsm_types.specs.declared.dm.DmCall.TheVariants.{CreateSession, GetAll
 use Rattle.hsm_types.specs.declared.dm.DmReply.{DmReply}
 use Rattle.hsm_types.specs.declared.dm.DmReply.TheVariants as reply
 use Rattle.hsm_policy.specs.Settings.{Numbers}
-use Rattle.daemon_session.specs.declared.daemons.Daemon.TheVariants.{Migrate}
+use Rattle.hsm_types.specs.declared.daemons.Daemon.TheVariants.{Migrate}
 use Rattle.daemon_session.specs.Seats.{Seat, no_seat, all_marked, seat_asks, seat_hears}
 use Rattle.migrate_daemon.specs.declared.shares.Space.{Space}
 use Rattle.migrate_daemon.specs.Shares.{is_above}

@@ -21,7 +21,7 @@ use Rattle.hsm_types.specs.declared.tables.Table.{Table}
 use Rattle.hsm_policy.specs.Picking.{IsPick}
 use Rattle.hsm_policy.specs.Settings.{Numbers}
 use Rattle.hsm_policy.specs.declared.picking.Picked.{Picked}
-use Rattle.daemon_session.specs.declared.daemons.Daemon.TheVariants.{Migrate}
+use Rattle.hsm_types.specs.declared.daemons.Daemon.TheVariants.{Migrate}
 use Rattle.daemon_session.specs.declared.events.Kept.{Kept}
 use Rattle.daemon_session.specs.Seats.{first_id, Refuses, IsSeated, MayEnter}
 use Rattle.daemon_session.specs.Members.{IsRefusedOne}

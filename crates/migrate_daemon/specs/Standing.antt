@@ -4,7 +4,7 @@ use Rattle.hsm_types.specs.declared.daemons.Act.{Act}
 use Rattle.hsm_types.specs.declared.daemons.Act.TheVariants.{Dm}
 use Rattle.hsm_types.specs.declared.dm.DmCall.TheVariants.{GetAllSessions}
 use Rattle.hsm_policy.specs.Settings.{Numbers}
-use Rattle.daemon_session.specs.declared.daemons.Daemon.TheVariants.{Migrate}
+use Rattle.hsm_types.specs.declared.daemons.Daemon.TheVariants.{Migrate}
 use Rattle.daemon_session.specs.declared.events.Kept.{Kept}
 use Rattle.daemon_session.specs.Members.{Membership}
 use Rattle.daemon_session.specs.Seats.{first_id, all_marked}

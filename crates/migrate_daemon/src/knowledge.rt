@@ -1,9 +1,9 @@
 //! What the daemon knows.
 ghost use Rattle.std.specs.Prelude.{◌≡◌, ◌≢◌, ◌++◌, ◌≤◌, [], true, false, IsTrue, ◌↔◌, Some, None, OnOk, OnErr, IfOk, MatchOption};
-ghost use Rattle.daemon_session.specs.Daemons.{events_in};
+ghost use Rattle.daemon_session.specs.Tellings.{events_in};
 ghost use Rattle.daemon_session.specs.Members.{Enters, IsOnWay};
 ghost use Rattle.daemon_session.specs.Seats.{first_id, forgot, all_marked};
-ghost use Rattle.daemon_session.specs.declared.daemons.Daemon.TheVariants.{Migrate};
+ghost use Rattle.hsm_types.specs.declared.daemons.Daemon.TheVariants.{Migrate};
 ghost use Rattle.hsm_types.specs.declared.daemons.Act.TheVariants.{Dm, Idle};
 ghost use Rattle.hsm_types.specs.declared.dm.DmCall.TheVariants.{GetAllSessions};
 ghost use Rattle.migrate_daemon.specs.Known.{nothing_known, is_due};
@@ -12,9 +12,9 @@ ghost use Rattle.migrate_daemon.specs.Shares.{share};
 ghost use Rattle.migrate_daemon.specs.Standing.{begun, resting, serving, with_known, with_kept, membership};
 
 use crate::shares::{Space, is_above, share};
-use daemon_session::{Daemon, Member, Step};
+use daemon_session::{Member, Step};
 use hsm_policy::Settings;
-use hsm_types::{Act, Heard, Response, Token};
+use hsm_types::{Act, Daemon, Heard, Response, Token};
 use std::alloc::{AllocError, Global};
 use std::marker::Model;
 
@@ -30,7 +30,7 @@ pub(crate) struct Knowledge {
 
 impl Model for Knowledge {
     ghost use Rattle.std.specs.Prelude.{◌≡◌};
-    ghost use Rattle.daemon_session.specs.declared.daemons.Daemon.TheVariants.{Migrate};
+    ghost use Rattle.hsm_types.specs.declared.daemons.Daemon.TheVariants.{Migrate};
     ghost use Rattle.migrate_daemon.specs.Standing.{Standing};
 
     ghost Value = { Standing };

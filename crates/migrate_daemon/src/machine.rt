@@ -1,5 +1,5 @@
 //! The migration machine.
-ghost use Rattle.std.specs.Prelude.{◌≡◌, false, None, Some, IfOk, OnErr, MatchOption};
+ghost use Rattle.std.specs.Prelude.{◌≡◌, ◌↔◌, IsTrue, false, None, Some, IfOk, OnErr, MatchOption};
 ghost use Rattle.hsm_types.specs.declared.daemons.Act.{Act as Acted};
 ghost use Rattle.migrate_daemon.specs.Machine.{started, freshened, GoesOn, IsOfPass, IsWithin};
 ghost use Rattle.migrate_daemon.specs.Passes.{IsOver};
@@ -67,6 +67,13 @@ impl Migrator {
         self.stage = turn.stage;
         self.asked = Snapshot::of(&turn.act);
         Ok(turn.act)
+    }
+
+    /// Whether it rests: the act that it gave last was `Act::Idle`, or it was just started. It takes no memory.
+    pub fn rests(&self) -> bool
+        ensures { IsTrue result ↔ (self.now.asked ≡ Act.Idle) }
+    {
+        matches!(self.stage, Stage::Outside | Stage::Resting { .. })
     }
 
     /// The segments skipped since the last pass began, in the order in which they were picked. It takes no memory.

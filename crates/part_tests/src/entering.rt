@@ -3,8 +3,10 @@ ghost use Rattle.daemon_session.specs.Members.{IsOnWay};
 
 use crate::answers::{REFUSALS, packed};
 use crate::messages::{READ, THREE};
-use daemon_session::{Daemon, Member, Step};
-use hsm_types::{Act, DmCall, DmRefusal, DmReply, Heard, Kinds, Sid, Sids, Token, Tokens, Word};
+use daemon_session::{Member, Step};
+use hsm_types::{
+    Act, Daemon, DmCall, DmRefusal, DmReply, Heard, Kinds, Sid, Sids, Token, Tokens, Word,
+};
 use std::alloc::Global;
 
 /// What a daemon hears.

@@ -9,11 +9,11 @@ use Rattle.hsm_types.specs.declared.dm.DmCall.{DmCall}
 use Rattle.hsm_types.specs.declared.dm.DmCall.TheVariants.{CreateSession, GetAllSessions, QuerySession, SetDisp, GetAllTokens, FindEventMsg, GetEvents}
 use Rattle.hsm_types.specs.declared.dm.DmReply.TheVariants as reply
 use Rattle.hsm_types.specs.declared.keys.Sid.{Sid}
-use Rattle.daemon_session.specs.declared.daemons.Daemon.{Daemon}
-use Rattle.daemon_session.specs.declared.daemons.Daemon.TheVariants.{Recall}
+use Rattle.hsm_types.specs.declared.daemons.Daemon.{Daemon}
+use Rattle.hsm_types.specs.declared.daemons.Daemon.TheVariants.{Recall}
 use Rattle.daemon_session.specs.declared.events.Event.{Event}
 use Rattle.daemon_session.specs.declared.members.Step.TheVariants as step
-use Rattle.daemon_session.specs.Daemons.{events_in}
+use Rattle.daemon_session.specs.Tellings.{events_in}
 use Rattle.daemon_session.specs.Members.{Membership, MayStep}
 use Rattle.daemon_session.specs.Members as members
 use Rattle.daemon_session.specs.Seats.{Seat, seat_asks_by, seat_hears_by, Refuses}

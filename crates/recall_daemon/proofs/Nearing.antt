@@ -13,7 +13,7 @@ use Rattle.hsm_types.specs.declared.keys.Handle.{Handle}
 use Rattle.hsm_types.specs.declared.keys.Sid.{Sid}
 use Rattle.hsm_types.specs.declared.keys.Token.{Token}
 use Rattle.hsm_types.specs.declared.stubs.StubEntry.{StubEntry}
-use Rattle.daemon_session.specs.declared.daemons.Daemon.TheVariants.{Recall}
+use Rattle.hsm_types.specs.declared.daemons.Daemon.TheVariants.{Recall}
 use Rattle.daemon_session.specs.declared.events.Kept.{Kept}
 use Rattle.daemon_session.specs.Members.{IsRefusedOne}
 use Rattle.daemon_session.specs.Seats.{Seat, Refuses, NeedsNone, LeadsOn, MayMake, MayEnter}

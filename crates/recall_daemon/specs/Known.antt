@@ -27,7 +27,7 @@ use Rattle.hsm_types.specs.declared.media.FetchRefusal.TheVariants as fetching
 use Rattle.hsm_types.specs.declared.stubs.Segment.{Segment}
 use Rattle.hsm_types.specs.declared.stubs.Segment.TheVariants.{Resident, Sealed, Offline}
 use Rattle.hsm_types.specs.declared.stubs.StubEntry.{StubEntry}
-use Rattle.daemon_session.specs.declared.daemons.Daemon.TheVariants.{Recall}
+use Rattle.hsm_types.specs.declared.daemons.Daemon.TheVariants.{Recall}
 use Rattle.daemon_session.specs.declared.events.Event.{Event}
 use Rattle.daemon_session.specs.declared.events.Kept.{Kept}
 use Rattle.daemon_session.specs.Seats.{Seat, no_seat, forgot, marked_at, all_marked, seat_hears, IsSeated, MayEnter}

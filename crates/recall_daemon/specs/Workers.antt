@@ -9,7 +9,7 @@ use Rattle.hsm_types.specs.declared.dm.Response.{Response}
 use Rattle.hsm_types.specs.declared.dm.Right.TheVariants.{Excl}
 use Rattle.hsm_types.specs.declared.keys.Sid.{Sid}
 use Rattle.hsm_types.specs.declared.keys.Token.{Token}
-use Rattle.daemon_session.specs.declared.daemons.Daemon.TheVariants.{Recall}
+use Rattle.hsm_types.specs.declared.daemons.Daemon.TheVariants.{Recall}
 use Rattle.daemon_session.specs.declared.events.Event.{Event}
 use Rattle.daemon_session.specs.Seats.{Seat, no_seat, IsSeated}
 use Rattle.daemon_session.specs.Members.{Membership}

@@ -1,7 +1,7 @@
 //! What the machine does by the answer to what it asked.
 ghost use Rattle.std.specs.Prelude.{◌≡◌, IfOk, OnErr, Decides};
 ghost use Rattle.daemon_session.specs.Seats.{IsSeated};
-ghost use Rattle.daemon_session.specs.declared.daemons.Daemon.TheVariants.{Recall};
+ghost use Rattle.hsm_types.specs.declared.daemons.Daemon.TheVariants.{Recall};
 ghost use Rattle.hsm_types.specs.declared.daemons.Act.{Act};
 ghost use Rattle.hsm_types.specs.declared.daemons.Heard.{Heard};
 ghost use Rattle.hsm_types.specs.declared.dm.DmRefusal.TheVariants.{NoSession};

@@ -1,5 +1,5 @@
 //! The recall daemon.
-ghost use Rattle.std.specs.Prelude.{◌≡◌, IfOk, OnErr};
+ghost use Rattle.std.specs.Prelude.{◌≡◌, ◌↔◌, IsTrue, IfOk, OnErr};
 ghost use Rattle.recall_daemon.specs.Machine.{started, GoesOn};
 
 use crate::worker::Worker;
@@ -42,5 +42,12 @@ impl Recaller {
         ensures err { OnErr result (self.new ≡ self.old) }
     {
         self.worker.next(last)
+    }
+
+    /// Whether it rests: the act that it gave last was `Act::Idle`, or it was just started. It takes no memory.
+    pub fn rests(&self) -> bool
+        ensures { IsTrue result ↔ (self.now.asked ≡ Act.Idle) }
+    {
+        self.worker.rests()
     }
 }

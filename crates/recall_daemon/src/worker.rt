@@ -1,7 +1,7 @@
 //! The machine's parts, and each act that it makes.
-ghost use Rattle.std.specs.Prelude.{◌≡◌, None, Some};
+ghost use Rattle.std.specs.Prelude.{◌≡◌, ◌↔◌, IsTrue, None, Some};
 ghost use Rattle.daemon_session.specs.Seats.{first_id, IsSeated};
-ghost use Rattle.daemon_session.specs.declared.daemons.Daemon.TheVariants.{Recall};
+ghost use Rattle.hsm_types.specs.declared.daemons.Daemon.TheVariants.{Recall};
 ghost use Rattle.hsm_types.specs.declared.daemons.Act.{Act};
 ghost use Rattle.hsm_types.specs.declared.daemons.Act.TheVariants.{Dm};
 ghost use Rattle.hsm_types.specs.declared.daemons.Heard.{Heard};
@@ -14,8 +14,8 @@ use crate::away::Away;
 use crate::choosing::first_event;
 use crate::needed::first_needed;
 use crate::serving::Serving;
-use daemon_session::{Daemon, Event, Member, ROOM};
-use hsm_types::{Act, DmCall, Response, Right, Sid};
+use daemon_session::{Event, Member, ROOM};
+use hsm_types::{Act, Daemon, DmCall, Response, Right, Sid};
 use std::alloc::Global;
 use std::snapshot::Snapshot;
 
@@ -42,6 +42,14 @@ impl Worker {
             away: Vec::new(alloc),
             asked: Snapshot::of(&Act::Idle),
         }
+    }
+
+    /// Whether it waits for nothing.
+    pub(crate) fn rests(&self) -> bool
+        requires { IsWorker self.now }
+        ensures { IsTrue result ↔ (self.now.asked.value ≡ Act.Idle) }
+    {
+        matches!(self.serving, Serving::Outside | Serving::Resting { .. })
     }
 
     /// Waits for the answer to that act, which it gives back.

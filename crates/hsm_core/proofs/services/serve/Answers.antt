@@ -11,6 +11,7 @@ use Rattle.dm_service.specs.Tables.{awaited_in}
 use Rattle.dm_service.proofs.Anywhere.{told_anywhere, left_anywhere, entry_alone}
 use Rattle.hsm_core.specs.Stamps.{stamp_in}
 use Rattle.hsm_core.specs.Store.{state_with}
+use Rattle.hsm_core.proofs.HandedOut.{unhanded, all_unhanded}
 use Rattle.hsm_core.proofs.Serving.{refused_reply, refused_left, served_reply, served_left, granted_reply, granted_left}
 use Rattle.hsm_core.proofs.services.serve.Given.{Over}
 use Rattle.hsm_core.proofs.services.serve.Goals.{After-refused, After-perform}
@@ -26,6 +27,18 @@ pub returns-then-asks_tables-clause-left : goal.returns-then-asks_tables-clause-
 returns-then-asks_tables-clause-left g c =
     left_anywhere (superblock_of c.args.files.now) c.args.files.now.held (stamp_in c.args.stamps.now.entries) c.args.number c.args.service.now c.dm.new.self c.args.sid c.args.call.now (sym c.asks_tables.ensures ∙ c.if-asks_tables.true)
     c.in_ok-dm.ensures.served.left
+
+pub returns-then-asks_tables-clause-packed : goal.returns-then-asks_tables-clause-packed
+returns-then-asks_tables-clause-packed g c = c.in_ok-dm.ensures.packed
+
+pub returns-then-asks_rights-clause-packed : goal.returns-then-asks_rights-clause-packed
+returns-then-asks_rights-clause-packed g c = unhanded c.args.service.now.sessions c.args.sid c.args.call.now c.in_ok-serve.field-0.0 (sym c.asks_tables.ensures ∙ c.if-asks_tables.false)
+
+pub returns-in-Err-clause-packed : goal.returns-in-Err-clause-packed
+returns-in-Err-clause-packed g c = unhanded c.args.service.now.sessions c.args.sid c.args.call.now c.refused.result.0 (sym c.asks_tables.ensures ∙ c.if-asks_tables.false)
+
+pub returns-clause-packed : goal.returns-clause-packed
+returns-clause-packed g c = all_unhanded c.args.service.now.sessions c.args.sid c.args.call.now c.perform.result (sym c.asks_tables.ensures ∙ c.if-asks_tables.false)
 
 passed : (g : Over) (c : After-perform g)
     → first_refusal (scope_refusals (superblock_of c.args.files.now) (state_with c.args.files.now.held c.args.stamps.now.entries c.args.service.now c.args.number) c.args.sid (scope_of c.args.call.now)) ≡ None

@@ -3,8 +3,8 @@ use Rattle.std.specs.Str.{bytes_eq}
 use Rattle.std.proofs.lemmas.Result.{IfOk-weaker, on_err_weaker}
 use Rattle.hsm_types.specs.declared.daemons.Heard.TheVariants as heard
 use Rattle.hsm_types.specs.declared.dm.DmReply.TheVariants.{Info}
-use Rattle.daemon_session.specs.declared.daemons.Daemon.{Daemon}
-use Rattle.daemon_session.specs.Daemons.{information}
+use Rattle.hsm_types.specs.declared.daemons.Daemon.{Daemon}
+use Rattle.hsm_types.specs.Daemons.{information}
 use Rattle.daemon_session.specs.Members.{Membership}
 use Rattle.daemon_session.proofs.WaySteps.{queried_next, queried_all}
 use Rattle.daemon_session.proofs.members.Member.on_querying.Goals as goal

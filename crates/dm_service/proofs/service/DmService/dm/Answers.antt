@@ -1,6 +1,8 @@
-use Rattle.std.proofs.Common.{◌≡◌, ◌+◌, ◌≤◌, true, refl, subst}
+use Rattle.std.proofs.Common.{◌≡◌, ◌+◌, ◌≤◌, true, IfOk, refl, subst}
 use Rattle.dm_service.specs.Tables.{Tables, awaited_in, AreKept}
 use Rattle.dm_service.specs.Services.{asks_sessions, entries_for, IsServed}
+use Rattle.dm_service.specs.Handing.{HandsOut}
+use Rattle.dm_service.proofs.HandedOut.{nothing_packed}
 use Rattle.dm_service.proofs.Served.{served_by, responded_room, own_room, not_due, others}
 use Rattle.dm_service.proofs.service.DmService.dm.Goals.{After-serve}
 use Rattle.dm_service.proofs.service.DmService.dm.Goals as goal
@@ -15,10 +17,16 @@ asks : (c : After-serve) → asks_sessions c.args.call.now ≡ true
 asks c = others c.args.call.now c.requires c.in_default.not-Respond c.in_default.not-CreateUserEvent
 
 left : (c : After-serve) → IsServed (before c) c.args.sid c.args.call.now c.serve.result (after c) × AreKept (after c) c.self.inside.open_tokens × (awaited_in (after c) ≡ awaited_in (before c))
-left c = served_by (before c) (after c) c.self.inside.open_tokens c.self.invariant c.args.sid c.args.call.now (asks c) refl refl refl c.serve.result c.serve.ensures
+left c = served_by (before c) (after c) c.self.inside.open_tokens c.self.invariant c.args.sid c.args.call.now (asks c) refl refl refl c.serve.result c.serve.ensures.told
 
 pub invariant_of-self : goal.invariant_of-self
 invariant_of-self c = (left c).1
+
+pub returns-in-Respond-clause-packed : goal.returns-in-Respond-clause-packed
+returns-in-Respond-clause-packed c = rw c.in-Respond.is tt
+
+pub returns-in-CreateUserEvent-clause-packed : goal.returns-in-CreateUserEvent-clause-packed
+returns-in-CreateUserEvent-clause-packed c = rw c.in-CreateUserEvent.is (nothing_packed c.make_event.result)
 
 pub returns-in-Respond-clause-room : goal.returns-in-Respond-clause-room
 returns-in-Respond-clause-room c =
@@ -28,6 +36,7 @@ returns-in-Respond-clause-room c =
 pub returns-in_default : goal.returns-in_default
 returns-in_default c = record {
   served = subst (λ (t : Tables). IsServed t c.args.sid c.args.call.now c.serve.result (after c)) c.self.view_is (left c).0;
+  packed = subst (λ (t : Tables). IfOk c.serve.result (λ r. HandsOut t.sessions c.args.sid c.args.call.now r.0)) c.self.view_is c.serve.ensures.packed;
   responds = λ due. absurd (not_due c.args.self.now.sessions c.args.sid c.args.call.now (asks c) due);
   room = subst (λ (t : Tables). awaited_in (after c) + 1 ≤ awaited_in t + entries_for t.sessions c.args.sid c.args.call.now) c.self.view_is
       (own_room (before c) (after c) c.args.sid c.args.call.now (asks c) (left c).2);

@@ -4,6 +4,7 @@ use Rattle.hsm_types.specs.declared.dm.DmReply.TheVariants.{Done as DmDone}
 use Rattle.plain_model.specs.declared.entries.Actor.TheVariants.{Session}
 use Rattle.plain_model.specs.declared.entries.Action.TheVariants.{Dm}
 use Rattle.plain_model.specs.declared.entries.Answer.TheVariants.{Dm as Told}
+use Rattle.dm_service.specs.Handing.{HandsOut}
 use Rattle.dm_service.specs.Services.{entries_for, is_due, wants_entry_alone}
 use Rattle.dm_service.proofs.Anywhere.{due_done}
 use Rattle.dm_service.proofs.Ledgers.{ordered_in}
@@ -14,6 +15,7 @@ use Rattle.hsm_core.proofs.Runs.{formatted_as}
 use Rattle.plain_model.specs.Services.{dm_reply_to}
 use Rattle.file_store.specs.Stores.{superblock_of}
 use Rattle.hsm_core.specs.Answers.{own_answer, IsTold}
+use Rattle.hsm_core.proofs.HandedOut.{told_handed, unserved_handed}
 use Rattle.hsm_core.proofs.Events.{event, always, lasting, room_served, told_done, not_begun, one_more, IsNext, Keeps}
 use Rattle.hsm_core.proofs.store.Hsm.dm.Given.{Over}
 use Rattle.hsm_core.proofs.store.Hsm.dm.Goals.{After-keep_dm}
@@ -80,6 +82,16 @@ invariant_of-self-2 g c =
 
 pub returns-clause-told : goal.returns-clause-told
 returns-clause-told g c = subst (λ (old : Store g.row.D.Denot). IsTold g.D.Disk old c.args.sid c.args.call c.keep_dm.result (after g (goal.at.returns-clause-told g c).After-keep_dm)) c.self.view_is (next g (goal.at.returns-clause-told g c).After-keep_dm).2
+
+pub returns-clause-packed : goal.returns-clause-packed
+returns-clause-packed g c =
+    subst (λ (old : Store g.row.D.Denot). HandsOut old.tables.sessions c.args.sid c.args.call c.keep_dm.result) c.self.view_is
+    (told_handed c.self.inside.service.sessions c.args.sid c.args.call _ _ _ c.serve-done.result c.keep_dm.result c.serve-done.ensures.packed c.keep_dm.ensures.kept c.keep_dm.ensures.memory c.keep_dm.ensures.failed c.serve-done.ensures.ends.no_part)
+
+pub returns-in-Err-clause-packed : goal.returns-in-Err-clause-packed
+returns-in-Err-clause-packed g c =
+    subst (λ (old : Store g.row.D.Denot). HandsOut old.tables.sessions c.args.sid c.args.call c.unserved.result) c.self.view_is
+    (unserved_handed c.self.inside.service.sessions c.args.sid c.args.call _ _ c.in-Err.why c.unserved.result c.unserved.ensures.memory c.unserved.ensures.failed c.in-Err.ensures.refused)
 
 pub returns-clause-safe : goal.returns-clause-safe
 returns-clause-safe g c = (next g (goal.at.returns-clause-safe g c).After-keep_dm).1.now

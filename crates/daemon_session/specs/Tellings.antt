@@ -1,24 +1,15 @@
--- What a daemon's sessions are known by, which kinds it takes, and which events messages tell it.
-use Rattle.std.specs.Prelude.{ℕ, List, true, false, Option, None, codes, if◌then◌else◌}
+-- Which events messages tell a daemon.
+use Rattle.std.specs.Prelude.{ℕ, List, false, Option, None, if◌then◌else◌}
 use Rattle.std.specs.List.{filter_map}
 use Rattle.std.specs.Option.{option_map}
+use Rattle.hsm_types.specs.Daemons.{kinds_of}
 use Rattle.hsm_types.specs.Messages.{takes}
-use Rattle.hsm_types.specs.declared.dm.Kinds.{Kinds}
+use Rattle.hsm_types.specs.declared.daemons.Daemon.{Daemon}
 use Rattle.hsm_types.specs.declared.keys.Handle.{Handle}
 use Rattle.hsm_types.specs.declared.messages.Message.{Message}
 use Rattle.event_msgs.specs.Reading.{told}
-use Rattle.daemon_session.specs.declared.daemons.Daemon.{Daemon}
-use Rattle.daemon_session.specs.declared.daemons.Daemon.TheVariants.{Recall, Migrate}
 use Rattle.daemon_session.specs.declared.events.Event.{Event}
 use Rattle.daemon_session.specs.declared.events.Kept.{Kept}
-
-abbrev pub information : Daemon → List ℕ
-information Recall = codes "HSMRECALL"
-information Migrate = codes "HSMMIGRATE"
-
-abbrev pub kinds_of : Daemon → Kinds
-kinds_of Recall = record { read = true; write = true; truncate = true; no_space = false }
-kinds_of Migrate = record { read = false; write = false; truncate = false; no_space = true }
 
 abbrev pub event_on : Message → Handle → Event
 event_on m h = record { token = m.token; kind = m.kind; handle = h; offset = m.offset; length = m.length }

@@ -1,0 +1,94 @@
+-- What starts and ends of daemons keep.
+use Rattle.std.proofs.Common.{◌≡◌, ◌⊎◌, ◌++◌, [], List, Option, Some, None, IfSome, Result, Ok, Err, true, inl, inr, refl, sym, ap, subst, append-nil, ◌∙◌}
+use Rattle.std.specs.Option.{option_map, option_or}
+use Rattle.disk_model.specs.declared.device.Disk as disk
+use Rattle.media_model.specs.declared.drive.Drive as drive
+use Rattle.hsm_types.specs.declared.daemons.Act.{Act}
+use Rattle.hsm_types.specs.declared.daemons.Act.TheVariants.{Dm, Copy, Fetch, Idle}
+use Rattle.hsm_types.specs.declared.daemons.Daemon.{Daemon}
+use Rattle.hsm_types.specs.declared.daemons.Daemon.TheVariants.{Recall, Migrate}
+use Rattle.hsm_types.specs.declared.daemons.Heard.{Heard}
+use Rattle.hsm_types.specs.declared.daemons.Heard.TheVariants as heard
+use Rattle.hsm_types.specs.declared.media.Fault.{Fault}
+use Rattle.hsm_policy.specs.Settings.{Numbers}
+use Rattle.recall_daemon.specs.Known as recall
+use Rattle.recall_daemon.specs.Machine as recaller
+use Rattle.migrate_daemon.specs.Known as migrate
+use Rattle.migrate_daemon.specs.Machine as migrator
+use Rattle.hsm_replay.specs.declared.daemons.Migrating.{Migrating}
+use Rattle.hsm_replay.specs.declared.daemons.Recalling.{Recalling}
+use Rattle.hsm_replay.specs.declared.stops.Stop.{Stop}
+use Rattle.hsm_replay.specs.Faults.{faults_in}
+use Rattle.hsm_replay.specs.Keeping.{IsShownAs, RecallKnows, MigrateKnows, IsMarked, Shows, Moves}
+use Rattle.hsm_replay.specs.Marks.{Mark}
+use Rattle.hsm_replay.specs.Quiet.{refreshed}
+use Rattle.hsm_replay.specs.Served.{shown, nothing_shown}
+use Rattle.hsm_replay.specs.Systems.{System, started, killed}
+use Rattle.hsm_replay.proofs.Growing.{have_grown_itself}
+use Rattle.hsm_replay.proofs.Joining.{Settles, runs_itself}
+use Rattle.hsm_replay.proofs.MigrateShown.{hears_same}
+
+module _ {M : Type 0} (h : drive.Ghosts M) (k : recall.Known) (drives : List M) (faults : List Fault) where
+  recall_starts : (o : Option Recalling) → IfSome o (RecallKnows h k drives faults) → IfSome (option_or o (Some (record { machine = recaller.started; heard = heard.Nothing }))) (RecallKnows h k drives faults)
+  recall_starts None knows = record { known = inl ((refl, refl, refl), refl); heard = tt }
+  recall_starts (Some r) knows = knows
+
+module _ (k : migrate.Known) where
+  migrate_starts : (limits : Numbers) (o : Option Migrating) → IfSome o (MigrateKnows k) → IfSome (option_or o (Some (record { machine = migrator.started limits; heard = heard.Nothing }))) (MigrateKnows k)
+  migrate_starts limits None knows = inl (refl, refl, refl)
+  migrate_starts limits (Some m) knows = knows
+
+  -- a machine that may begin a pass by `high` knows as much of all else
+  abbrev pub fresh : migrate.Known → migrate.Known
+  fresh known = record known { space = None; fresh = true }
+
+  fresh_same : (known : migrate.Known) → IsShownAs (fresh known) known
+  fresh_same known = record { seat = refl; punched = refl }
+
+  fresh_knows : (limits : Numbers) (known : migrate.Known) (asked : Act) (told : Heard) → IsShownAs (migrate.knows_by limits (fresh known) asked told) (migrate.knows_by limits known asked told)
+  fresh_knows limits known (Dm sid call) (heard.Dm reply) = hears_same limits limits (fresh known) known call reply (fresh_same known)
+  fresh_knows limits known (Dm sid call) heard.Nothing = fresh_same known
+  fresh_knows limits known (Dm sid call) (heard.Copied copied) = fresh_same known
+  fresh_knows limits known (Dm sid call) (heard.Fetched fetched) = fresh_same known
+  fresh_knows limits known (Copy volume handle segment bytes) told = fresh_same known
+  fresh_knows limits known (Fetch entry) told = fresh_same known
+  fresh_knows limits known Idle told = fresh_same known
+
+  migrate_refreshes : (m : Migrating) → MigrateKnows k m → MigrateKnows k (record m { machine = migrator.freshened m.machine })
+  migrate_refreshes m (inl start) = inl start
+  migrate_refreshes m (inr known) = let same = fresh_knows m.machine.limits m.machine.known m.machine.asked m.heard in inr (record { seat = same.seat ∙ known.seat; punched = same.punched ∙ known.punched })
+
+  migrate_refreshes_if : (o : Option Migrating) → IfSome o (MigrateKnows k) → IfSome (option_map (λ (m : Migrating). record m { machine = migrator.freshened m.machine }) o) (MigrateKnows k)
+  migrate_refreshes_if None knows = tt
+  migrate_refreshes_if (Some m) knows = migrate_refreshes m knows
+
+module _ {D M : Type 0} (g : disk.Ghosts D) (h : drive.Ghosts M) where
+  shows_started : (marks : List Mark) (daemon : Daemon) (s : System D M) → Shows h marks s → Shows h marks (started daemon s)
+  shows_started marks Recall s shows = record { marked = record { entries = shows.marked.entries; served = shows.marked.served; faults = shows.marked.faults }; recall = recall_starts h (shown s.limits nothing_shown marks).recall s.drives (faults_in s.store.history) s.recall shows.recall; migrate = shows.migrate }
+  shows_started marks Migrate s shows = record { marked = record { entries = shows.marked.entries; served = shows.marked.served; faults = shows.marked.faults }; recall = shows.recall; migrate = migrate_starts (shown s.limits nothing_shown marks).migrate s.limits s.migrate shows.migrate }
+
+  shows_killed : (marks : List Mark) (daemon : Daemon) (s : System D M) → Shows h marks s → Shows h marks (killed daemon s)
+  shows_killed marks Recall s shows = record { marked = record { entries = shows.marked.entries; served = shows.marked.served; faults = shows.marked.faults }; recall = tt; migrate = shows.migrate }
+  shows_killed marks Migrate s shows = record { marked = record { entries = shows.marked.entries; served = shows.marked.served; faults = shows.marked.faults }; recall = shows.recall; migrate = tt }
+
+  shows_refreshed : (marks : List Mark) (s : System D M) → Shows h marks s → Shows h marks (refreshed s)
+  shows_refreshed marks s shows = record { marked = record { entries = shows.marked.entries; served = shows.marked.served; faults = shows.marked.faults }; recall = shows.recall; migrate = migrate_refreshes_if (shown s.limits nothing_shown marks).migrate s.migrate shows.migrate }
+
+  -- ---- no events
+
+  abbrev IsNone : List Mark → Type 0
+  IsNone marks = marks ≡ []
+
+  still : (marks : List Mark) (s : System D M) → Shows h marks s → Shows h (marks ++ []) s
+  still marks s shows = subst (λ (ms : List Mark). Shows h ms s) (sym (append-nil marks)) shows
+
+  pub starts_moves : (daemon : Daemon) (s : System D M) → Moves {T = Unit {0}} g h IsNone (Ok tt) s (started daemon s)
+  starts_moves Recall s = record { limits = refl; drives = have_grown_itself h s.drives; runs = runs_itself g h tt s.store; keeps = λ marks shows. ([], refl, still marks (started Recall s) (shows_started marks Recall s shows)); ends = tt }
+  starts_moves Migrate s = record { limits = refl; drives = have_grown_itself h s.drives; runs = runs_itself g h tt s.store; keeps = λ marks shows. ([], refl, still marks (started Migrate s) (shows_started marks Migrate s shows)); ends = tt }
+
+  pub kills_moves : (daemon : Daemon) (s : System D M) → Moves {T = Unit {0}} g h IsNone (Ok tt) s (killed daemon s)
+  kills_moves Recall s = record { limits = refl; drives = have_grown_itself h s.drives; runs = runs_itself g h tt s.store; keeps = λ marks shows. ([], refl, still marks (killed Recall s) (shows_killed marks Recall s shows)); ends = tt }
+  kills_moves Migrate s = record { limits = refl; drives = have_grown_itself h s.drives; runs = runs_itself g h tt s.store; keeps = λ marks shows. ([], refl, still marks (killed Migrate s) (shows_killed marks Migrate s shows)); ends = tt }
+
+  pub refresh_moves : (s : System D M) → Moves {T = Unit {0}} g h (Settles g h) (Ok tt) s (refreshed s)
+  refresh_moves s = record { limits = refl; drives = have_grown_itself h s.drives; runs = runs_itself g h tt s.store; keeps = λ marks shows. ([], tt, still marks (refreshed s) (shows_refreshed marks s shows)); ends = tt }

@@ -1,0 +1,243 @@
+-- Each message that an exact history hands out is a session's own, or tells of an access that was parked before.
+use Rattle.std.proofs.Common.{◌≡◌, ℕ, Bool, true, false, List, [], ◌∷◌, ◌++◌, Option, None, Some, inl, inr, refl, sym, ◌∙◌, ap, subst, append_assoc, append-nil}
+use Rattle.std.proofs.lemmas.Bool.{eq-eqb}
+use Rattle.std.specs.Prelude.{◌⊎◌, IfSome, if◌then◌else◌}
+use Rattle.std.specs.List.{All}
+use Rattle.hsm_types.specs.Messages.{user_message}
+use Rattle.hsm_types.specs.Sessions.{SessionTable, no_sessions, posted}
+use Rattle.hsm_types.specs.declared.calls.Call.{Call}
+use Rattle.hsm_types.specs.declared.calls.CallRefusal.{CallRefusal}
+use Rattle.hsm_types.specs.declared.calls.Reply.{Reply}
+use Rattle.hsm_types.specs.declared.calls.Reply.TheVariants.{Parked}
+use Rattle.hsm_types.specs.declared.dm.DmCall.{DmCall}
+use Rattle.hsm_types.specs.declared.dm.DmCall.TheVariants.{CreateSession, DestroySession, SetDisp, GetEvents, FindEventMsg, Respond, CreateUserEvent, SendMsg}
+use Rattle.hsm_types.specs.declared.dm.DmRefusal.{DmRefusal}
+use Rattle.hsm_types.specs.declared.dm.DmReply.{DmReply}
+use Rattle.hsm_types.specs.declared.dm.DmReply.TheVariants.{Packed}
+use Rattle.hsm_types.specs.declared.keys.FileKey.{FileKey}
+use Rattle.hsm_types.specs.declared.keys.Handle.{Handle}
+use Rattle.hsm_types.specs.declared.keys.Sid.{Sid}
+use Rattle.hsm_types.specs.declared.keys.Token.{Token}
+use Rattle.hsm_types.specs.declared.messages.Message.{Message}
+use Rattle.hsm_types.specs.declared.stores.Superblock.{Superblock}
+use Rattle.plain_model.specs.declared.entries.Action.{Action}
+use Rattle.plain_model.specs.declared.entries.Action.TheVariants.{Issue, Resume, Dm}
+use Rattle.plain_model.specs.declared.entries.Actor.{Actor}
+use Rattle.plain_model.specs.declared.entries.Actor.TheVariants.{Caller, Session}
+use Rattle.plain_model.specs.declared.entries.Answer.{Answer}
+use Rattle.plain_model.specs.declared.entries.Answer.TheVariants.{Call as Replied, Dm as Told}
+use Rattle.plain_model.specs.declared.entries.Entry.{Entry}
+use Rattle.plain_model.specs.Effects.{change_of}
+use Rattle.plain_model.specs.Ledger.{Meant, Fixed, Means, next_token}
+use Rattle.plain_model.specs.State.{Flags, State, noted, changed}
+use Rattle.plain_model.specs.Verdict.{Blocks, Posts, Lacks, Verdict, verdict, reply_by, message_of, flags_now, objection_in, meant_in, reply_where, left_by_verdict, state_where}
+use Rattle.plain_model.specs.Services.{dm_judged, dm_reply_where, dm_state_where}
+use Rattle.plain_model.specs.Faults.{is_fault, fault_of}
+use Rattle.plain_model.specs.Exact.{IsOwn, IsAnswer, left_own, left_by, Exact, state_by}
+use Rattle.plain_model.proofs.Faultless.{fault_is}
+use Rattle.plain_model.proofs.Histories.{state_by-push}
+use Rattle.event_msgs.specs.Reading.{told}
+use Rattle.event_msgs.proofs.ToldMessages.{packed_told}
+use Rattle.dm_service.specs.Handing.{HandsOut}
+use Rattle.hsm_core.specs.Answers.{entry_of}
+use Rattle.hsm_replay.specs.Caused.{WaitsOn, WasParked, ArePacked}
+use Rattle.hsm_replay.proofs.Carrying.{Each, each_weaker, none_each, handed_each, one_each, queue_of_each, outstanding_message_each, posted_each, created_each, ended_each, disposed_each, delivered_each, responded_each, made_each, sent_each}
+
+-- ---- a session's call
+
+module _ (P : Message → Type 0) (own : (t : Token) (body : List ℕ) → P (user_message t body)) (st : State) (each : Each P st.sessions) where
+  call_each : (sid : Sid) (call : DmCall) → Each P (changed (change_of sid call) st).sessions
+  call_each sid (CreateSession old info) = created_each P old info st.sessions each
+  call_each sid DestroySession = ended_each P sid st.sessions each
+  call_each sid (SetDisp kinds) = disposed_each P sid kinds st.sessions each
+  call_each sid (GetEvents most room) = delivered_each P sid _ st.sessions each
+  call_each sid (Respond token response) = responded_each P sid token st.sessions each
+  call_each sid (CreateUserEvent body) = made_each P sid (next_token st.ledger) body st.sessions each (own (next_token st.ledger) body)
+  call_each sid (SendMsg target body) = sent_each P target body st.sessions each (own _ body)
+  call_each sid call = each
+
+  told_each : (why : Option DmRefusal) (s : Superblock) (sid : Sid) (call : DmCall) → Each P (dm_state_where why s st sid call).sessions
+  told_each None s sid call = call_each sid call
+  told_each (Some why) s sid call = each
+
+-- ---- a caller's event
+
+-- the message of an access that the event has parked is posted
+pub record HasParked (s : Superblock) (st after : State) (c : ℕ) (reply : Reply) : Type 0 where
+  pub message : Message
+  pub handle : Handle
+  pub posts : after.sessions ≡ posted message st.sessions
+  pub has : message.handle ≡ Some handle
+  pub parks : reply ≡ Parked message.token
+  pub waits : WaitsOn s after c message.token handle
+
+-- or none is
+abbrev PostsParked : Superblock → State → State → ℕ → Reply → Type 0
+PostsParked s st after c reply = (after.sessions ≡ st.sessions) ⊎ HasParked s st after c reply
+
+module _ (s : Superblock) (st : State) (c : ℕ) (fl : Flags) where
+  posts_verdict : (k : FileKey) (call : Call) (v : Verdict) → PostsParked s st (left_by_verdict s st c fl k call v) c (reply_by st k call v)
+  posts_verdict k call None = inl refl
+  posts_verdict k call (Some (Blocks t)) = inl refl
+  posts_verdict k call (Some (Lacks need free)) = inl refl
+  posts_verdict k call (Some (Posts kind)) = inr (record {
+    message = message_of s st k call kind;
+    handle = record { fsid = s.fsid; key = k };
+    posts = refl;
+    has = refl;
+    parks = refl;
+    waits = record {
+      access = record { key = k; call = call; token = Some (next_token st.ledger); answer = None };
+      waits = rw (eq-eqb c c refl) refl;
+      token = refl;
+      handle = refl;
+    };
+  })
+
+  posts_where : (why : Option CallRefusal) (m : Meant) → PostsParked s st (state_where s st c fl why m) c (reply_where s st fl why m)
+  posts_where why (Fixed reply) = inl refl
+  posts_where (Some why) (Means k call) = inl refl
+  posts_where None (Means k call) = posts_verdict k call (verdict s st fl k call)
+
+-- ---- calls that hand out messages
+
+abbrev IsHanding : DmCall → Type 0
+IsHanding (GetEvents most room) = Unit {0}
+IsHanding (FindEventMsg token room) = Unit {0}
+IsHanding call = ⊥
+
+-- ---- any event
+
+module _ (s : Superblock) (st : State) where
+  -- the message is a session's own, or tells of an access that was parked
+  abbrev pub IsOfParked : List Entry → Message → Type 0
+  IsOfParked es m = IfSome m.handle (λ h. WasParked s st es m.token h)
+
+  pub parked_more : (es more : List Entry) (t : Token) (h : Handle) → WasParked s st es t h → WasParked s st (es ++ more) t h
+  parked_more es more t h was = record {
+    before = was.before;
+    caller = was.caller;
+    action = was.action;
+    rest = was.rest ++ more;
+    parted = ap (λ l. l ++ more) was.parted ∙ append_assoc was.before _ more;
+    waits = was.waits;
+  }
+
+  pub of_parked_more : (es more : List Entry) (t : Token) (found : Option Handle) → IfSome found (λ h. WasParked s st es t h) → IfSome found (λ h. WasParked s st (es ++ more) t h)
+  of_parked_more es more t None is = tt
+  of_parked_more es more t (Some h) is = parked_more es more t h is
+
+  -- after an entry more
+  module _ (done : List Entry) where
+    abbrev now : State
+    now = state_by s st done
+
+    abbrev after : Actor → Action → Answer → List Entry
+    after who what answer = done ++ entry_of who what answer ∷ []
+
+    has_parked : (c : ℕ) (what : Action) (t : Token) (h : Handle) → WaitsOn s (left_own s now (Caller c) what) c t h → WasParked s st (after (Caller c) what (Replied (Parked t))) t h
+    has_parked c what t h waits = record {
+      before = done;
+      caller = c;
+      action = what;
+      rest = [];
+      parted = refl;
+      waits = subst (λ (x : State). WaitsOn s x c t h) (sym (state_by-push s st done (entry_of (Caller c) what (Replied (Parked t))))) waits;
+    }
+
+    of_parked : (c : ℕ) (what : Action) (reply : Reply) (m : Message) (h : Handle) → m.handle ≡ Some h → reply ≡ Parked m.token → WaitsOn s (left_own s now (Caller c) what) c m.token h → IsOfParked (after (Caller c) what (Replied reply)) m
+    of_parked c what reply m h has parks waits = rw has (subst (λ (r : Reply). WasParked s st (after (Caller c) what (Replied r)) m.token h) (sym parks) (has_parked c what m.token h waits))
+
+    posts_each : (c : ℕ) (what : Action) (reply : Reply) → PostsParked s now (left_own s now (Caller c) what) c reply → Each (IsOfParked (after (Caller c) what (Replied reply))) now.sessions
+        → Each (IsOfParked (after (Caller c) what (Replied reply))) (left_own s now (Caller c) what).sessions
+    posts_each c what reply (inl same) each = subst (λ (t : SessionTable). Each (IsOfParked (after (Caller c) what (Replied reply))) t) (sym same) each
+    posts_each c what reply (inr p) each =
+        subst (λ (t : SessionTable). Each (IsOfParked (after (Caller c) what (Replied reply))) t) (sym p.posts)
+        (posted_each (IsOfParked (after (Caller c) what (Replied reply))) p.message now.sessions each (of_parked c what reply p.message p.handle p.has p.parks p.waits))
+
+    own_each : (who : Actor) (what : Action) (answer : Answer) → IsOwn s now who what answer → Each (IsOfParked (after who what answer)) now.sessions → Each (IsOfParked (after who what answer)) (left_own s now who what).sessions
+    own_each (Caller c) (Issue call) answer is each =
+        let whole = posts_each c (Issue call) _ (posts_where s now c (flags_now now c (Issue call)) (objection_in s now c (Issue call)) (meant_in now c (Issue call))) in
+        rw is.1 (whole (rw is.1 at each))
+    own_each (Caller c) Resume answer is each =
+        let whole = posts_each c Resume _ (posts_where s now c (flags_now now c Resume) (objection_in s now c Resume) (meant_in now c Resume)) in
+        rw is.1 (whole (rw is.1 at each))
+    own_each (Session sid) (Dm call) answer is each = told_each (IsOfParked (after (Session sid) (Dm call) answer)) (λ t body. tt) now each (dm_judged s now sid call) s sid call
+    own_each who what answer is each = each
+
+    if_each : (P : Message → Type 0) (fault : Bool) (own : State) → Each P now.sessions → (fault ≡ false → Each P own.sessions) → Each P (if fault then noted now else own).sessions
+    if_each P true own each is = each
+    if_each P false own each is = is refl
+
+    left_each : (who : Actor) (what : Action) (answer : Answer) → IsAnswer s now who what answer → Each (IsOfParked (after who what answer)) now.sessions → Each (IsOfParked (after who what answer)) (left_by s now who what answer).sessions
+    left_each who what answer (inl is) each = let fault : is_fault answer ≡ true = ap is_fault is.1 ∙ fault_is what in rw fault each
+    left_each who what answer (inr is) each = if_each (IsOfParked (after who what answer)) (is_fault answer) (left_own s now who what) each (λ none. own_each who what answer is each)
+
+    next_each : (e : Entry) → IsAnswer s now e.actor e.action e.answer → Each (IsOfParked done) now.sessions → Each (IsOfParked (done ++ e ∷ [])) (state_by s st (done ++ e ∷ [])).sessions
+    next_each e is each = subst (λ (x : State). Each (IsOfParked (done ++ e ∷ [])) x.sessions) (sym (state_by-push s st done e))
+        (left_each e.actor e.action e.answer is (each_weaker (IsOfParked done) (IsOfParked (done ++ e ∷ [])) (λ m. of_parked_more done (e ∷ []) m.token m.handle) now.sessions each))
+
+  -- ---- whole histories
+
+  abbrev EachAt : List Entry → Type 0
+  EachAt es = Each (IsOfParked es) (state_by s st es).sessions
+
+  each_at : (done before : List Entry) (e : Entry) (rest : List Entry) → Exact s (state_by s st done) (before ++ e ∷ rest) → EachAt done → EachAt (done ++ before) × IsAnswer s (state_by s st (done ++ before)) e.actor e.action e.answer
+  each_at done [] e rest exact each = subst (λ (l : List Entry). EachAt l × IsAnswer s (state_by s st l) e.actor e.action e.answer) (sym (append-nil done)) (each, exact.0)
+  each_at done (x ∷ more) e rest exact each =
+      subst (λ (l : List Entry). EachAt l × IsAnswer s (state_by s st l) e.actor e.action e.answer) (append_assoc done (x ∷ []) more)
+      (each_at (done ++ x ∷ []) more e rest (subst (λ (y : State). Exact s y (more ++ e ∷ rest)) (sym (state_by-push s st done x)) exact.2) (next_each done x exact.0 each))
+
+  -- no other call is answered by a buffer
+  unpacked : (now : State) (sid : Sid) (call : DmCall) (bytes : List ℕ) (tokens : List Token) (why : Option DmRefusal) → Packed bytes tokens ≡ dm_reply_where why s now sid call → IsHanding call
+  unpacked now sid call bytes tokens (Some why) is = cc
+  unpacked now sid (GetEvents most room) bytes tokens None is = tt
+  unpacked now sid (FindEventMsg token room) bytes tokens None is = tt
+  unpacked now sid call bytes tokens None is = cc
+
+  handing : (now : State) (sid : Sid) (call : DmCall) (bytes : List ℕ) (tokens : List Token) → IsAnswer s now (Session sid) (Dm call) (Told (Packed bytes tokens)) → IsHanding call
+  handing now sid call bytes tokens (inl is) = let wrong : Told (Packed bytes tokens) ≡ fault_of (Dm call) = is.1 in cc
+  handing now sid call bytes tokens (inr is) =
+      let same : Told (Packed bytes tokens) ≡ Told (dm_reply_where (dm_judged s now sid call) s now sid call) = is.1 in
+      unpacked now sid call bytes tokens (dm_judged s now sid call) cc
+
+  handed_of : (es : List Entry) (sid : Sid) (call : DmCall) (bytes : List ℕ) (tokens : List Token) → IsHanding call → HandsOut (state_by s st es).sessions sid call (Packed bytes tokens) → EachAt es → All (IsOfParked es) (told bytes)
+  handed_of es sid (GetEvents most room) bytes tokens is packed each =
+      subst (λ (l : List Message). All (IsOfParked es) l) (packed_told bytes _ packed) (handed_each (IsOfParked es) most room _ (queue_of_each (IsOfParked es) sid (state_by s st es).sessions each))
+  handed_of es sid (FindEventMsg token room) bytes tokens is packed each =
+      subst (λ (l : List Message). All (IsOfParked es) l) (packed_told bytes _ packed) (one_each (IsOfParked es) _ (outstanding_message_each (IsOfParked es) token (state_by s st es).sessions each))
+  handed_of es sid call bytes tokens is packed each = absurd is
+
+  -- each message that a buffer tells
+  pub told_parked : (es : List Entry) → st.sessions ≡ no_sessions → Exact s st es → ArePacked s st es → (before : List Entry) (sid : Sid) (call : DmCall) (bytes : List ℕ) (tokens : List Token) (rest : List Entry)
+      → es ≡ before ++ entry_of (Session sid) (Dm call) (Told (Packed bytes tokens)) ∷ rest → All (IsOfParked before) (told bytes)
+  told_parked es none exact packed before sid call bytes tokens rest is =
+      let first : EachAt [] = subst (λ (t : SessionTable). Each (IsOfParked []) t) (sym none) (none_each (IsOfParked [])) in
+      let own = each_at [] before (entry_of (Session sid) (Dm call) (Told (Packed bytes tokens))) rest (subst (λ (l : List Entry). Exact s st l) is exact) first in
+      handed_of before sid call bytes tokens (handing (state_by s st before) sid call bytes tokens own.1) (packed before sid call (Packed bytes tokens) rest is) own.0
+
+-- ---- an entry more
+
+none_before : (before rest : List Entry) (x : Entry) → [] ≡ before ++ x ∷ rest → ⊥
+none_before [] rest x is = cc
+none_before (b ∷ before) rest x is = cc
+
+-- an entry of a list with one more is one of the list, or the last
+parted_push : (es before rest : List Entry) (e x : Entry) → es ++ e ∷ [] ≡ before ++ x ∷ rest → ((es ≡ before) × (e ≡ x)) ⊎ ((more : List Entry) × (es ≡ before ++ x ∷ more))
+parted_push [] [] rest e x is = inl (refl, cc)
+parted_push [] (b ∷ before) rest e x is = absurd (none_before before rest x cc)
+parted_push (y ∷ es) [] rest e x is = inr (es, let same : y ≡ x = cc in ap (λ (z : Entry). z ∷ es) same)
+parted_push (y ∷ es) (b ∷ before) rest e x is =
+    let same : y ≡ b = cc in
+    elim (parted_push es before rest e x cc) [
+      | inl last ↦ inl ((λ i. same i ∷ last.0 i), last.1)
+      | inr own ↦ inr (own.0, λ i. same i ∷ own.1 i)
+    ]
+
+-- buffers stay packed with an entry more
+pub packed_push : (s : Superblock) (st : State) (es : List Entry) (e : Entry) → ArePacked s st es
+    → ((sid : Sid) (call : DmCall) (reply : DmReply) → e ≡ entry_of (Session sid) (Dm call) (Told reply) → HandsOut (state_by s st es).sessions sid call reply) → ArePacked s st (es ++ e ∷ [])
+packed_push s st es e packed last before sid call reply rest is = elim (parted_push es before rest e (entry_of (Session sid) (Dm call) (Told reply)) is) [
+  | inl here ↦ subst (λ (l : List Entry). HandsOut (state_by s st l).sessions sid call reply) here.0 (last sid call reply here.1)
+  | inr own ↦ packed before sid call reply own.0 own.1
+]

@@ -1,0 +1,256 @@
+-- What a step of a daemon comes to, and what stops it.
+use Rattle.std.proofs.Common.{◌≡◌, ◌≢◌, ◌∙◌, ◌⊎◌, ◌∷◌, ◌++◌, ◌%◌, [], ℕ, true, false, List, length, Option, Some, None, IfSome, Result, Ok, Err, OnOk, OnErr, IfErr, inl, inr, refl, sym, ap, ap₂, subst, append-nil}
+use Rattle.std.specs.Prelude.{slice_set}
+use Rattle.disk_model.specs.declared.device.Disk as disk
+use Rattle.media_model.specs.declared.drive.Drive as drive
+use Rattle.hsm_types.specs.declared.daemons.Act.{Act}
+use Rattle.hsm_types.specs.declared.daemons.Act.TheVariants.{Dm, Copy, Fetch, Idle}
+use Rattle.hsm_types.specs.declared.daemons.Daemon.{Daemon}
+use Rattle.hsm_types.specs.declared.daemons.Daemon.TheVariants.{Recall, Migrate}
+use Rattle.hsm_types.specs.declared.daemons.Heard.{Heard}
+use Rattle.hsm_types.specs.declared.daemons.Heard.TheVariants as heard
+use Rattle.hsm_types.specs.declared.dm.DmCall.{DmCall}
+use Rattle.hsm_types.specs.declared.dm.DmReply.{DmReply}
+use Rattle.hsm_types.specs.declared.keys.Sid.{Sid}
+use Rattle.hsm_types.specs.declared.media.CopyRefusal.TheVariants as copying
+use Rattle.hsm_types.specs.declared.media.FetchRefusal.TheVariants as fetching
+use Rattle.hsm_types.specs.declared.stubs.StubEntry.{StubEntry}
+use Rattle.plain_model.specs.declared.entries.Action.TheVariants as action
+use Rattle.plain_model.specs.declared.entries.Actor.TheVariants.{Session}
+use Rattle.plain_model.specs.declared.entries.Answer.TheVariants as answer
+use Rattle.hsm_core.specs.Answers.{entry_of}
+use Rattle.hsm_core.specs.Store.{Store}
+use Rattle.recall_daemon.specs.Machine as recaller
+use Rattle.migrate_daemon.specs.Machine as migrator
+use Rattle.hsm_replay.specs.declared.daemons.Recalling.{Recalling}
+use Rattle.hsm_replay.specs.declared.daemons.Migrating.{Migrating}
+use Rattle.hsm_replay.specs.declared.stops.Stop.{Stop}
+use Rattle.hsm_replay.specs.declared.stops.Stop.TheVariants as stop
+use Rattle.hsm_replay.specs.Acts.{Performs, Stops, Serves, StopsCall, FetchesFrom, CopiesTo, KeepsStop, reply_of}
+use Rattle.hsm_replay.specs.Drives.{HasGrown, HaveGrown}
+use Rattle.hsm_replay.specs.Follows.{IsStepOf}
+use Rattle.hsm_replay.specs.Faults.{faults_in}
+use Rattle.hsm_replay.specs.Keeping.{IsMarked, Shows, Keeps, Ends, Moves}
+use Rattle.hsm_replay.specs.Marks.{Mark, made}
+use Rattle.hsm_replay.specs.Running.{GoesOn, IsStoppedFor, Runs}
+use Rattle.hsm_replay.specs.Steps.{IsDown, Acts, Steps, Halts, IsStopped, LacksMemory, MovesOn, hearing}
+use Rattle.hsm_replay.specs.Systems.{System, drive_of}
+use Rattle.hsm_replay.proofs.Fetching.{heard_of_fetch, on_drive_grown}
+use Rattle.hsm_replay.proofs.Going.{goes_itself, event_goes, stopped_for, stop_answer, session_hands}
+use Rattle.hsm_replay.proofs.Growing.{have_grown_itself, grown_at, reads_grow, grows_grow}
+use Rattle.hsm_replay.proofs.Marked.{marked_still}
+use Rattle.hsm_replay.proofs.Stepping.{recall_left, recall_marked, recall_called, recall_went, migrate_left, migrate_marked, migrate_called, migrate_went}
+
+-- the answer that stops a call
+pub stop_told : (why : Stop) (asked : DmCall) → answer.Dm (reply_of why) ≡ stop_answer why (action.Dm asked)
+stop_told stop.Disk asked = refl
+stop_told stop.Memory asked = refl
+
+-- what a copy or a fetch changes has grown
+copied_grown : {M : Type 0} (h : drive.Ghosts M) (volume : ℕ) (handle : _) (segment : ℕ) (bytes : List ℕ) (copied : _) (d e : M) → CopiesTo h volume handle segment bytes copied d e → HasGrown h d e
+copied_grown h volume handle segment bytes copied d e copies = grows_grow h volume d e copies.1
+
+fetched_grown : {M : Type 0} (h : drive.Ghosts M) (entry : StubEntry) (fetched : _) (d e : M) → FetchesFrom h entry fetched d e → HasGrown h d e
+fetched_grown h entry fetched d e fetches = reads_grow h d e fetches.1
+
+module _ {D M : Type 0} (g : disk.Ghosts D) (h : drive.Ghosts M) where
+  abbrev Moved : Daemon → System D M → System D M → Type 0
+  Moved daemon old new = Moves {T = Unit {0}} g h (IsStepOf daemon) (Ok tt) old new
+
+  abbrev Stopped : Daemon → Stop → System D M → System D M → Type 0
+  Stopped daemon why old new = Moves {T = Unit {0}} g h (IsStepOf daemon) (Err why) old new
+
+  -- where no entry came the history is marked as before
+  no_more : (IsPart : List Mark → Type 0) (marks : List Mark) (old new : System D M) → Shows h marks old → new.limits ≡ old.limits → new.store.history ≡ old.store.history → HaveGrown h old.drives new.drives → (more : List Mark) × (IsPart more ⊎ (more ≡ [])) × IsMarked h (marks ++ more) new
+  no_more IsPart marks old new shows limits history grown = ([], inr refl, marked_still h marks old new shows.marked limits history grown)
+
+  -- the call of a daemon that the store answered
+  served_runs : {T : Type 0} (x : T) (daemon : Daemon) (sid : Sid) (asked : DmCall) (reply : DmReply) (old left : System D M) → Serves g sid asked reply old left → Runs g (Ok x) old.store left.store
+  served_runs x daemon sid asked reply old left serves = record { goes_on = event_goes g old.store (Session sid) (action.Dm asked) (answer.Dm reply) left.store tt serves.event.kept (session_hands old.store sid asked reply serves.event.packed) serves.event.told; works = λ working. serves.still }
+
+  -- no event
+  rest_runs : {T : Type 0} (x : T) (s : Store D) → Runs g (Ok x) s s
+  rest_runs x s = record { goes_on = goes_itself g s; works = λ working. working }
+
+  -- ---- recall
+
+  module _ (old : System D M) (r : Recalling) (machine : recaller.Machine) (runs : old.recall ≡ Some r) (told : Heard) (left new : System D M) (keeps : new ≡ hearing Recall told left) where
+    recall_by : (act : Act) → recaller.GoesOn r.machine r.heard act machine → Performs g h (recall_left old machine heard.Nothing old.store old.drives) act told left → Moved Recall old new
+    recall_by (Dm sid asked) goes performs =
+        let reply : DmReply = performs.0 in
+        let serves = performs.2 in
+        let is : new ≡ recall_left old machine (heard.Dm reply) left.store old.drives = keeps ∙ ap (λ (s : System D M). hearing Recall told s) serves.event.rest ∙ ap (λ (t : Heard). recall_left old machine t left.store old.drives) performs.1 in
+        subst (λ (s : System D M). Moved Recall old s) (sym is) (record {
+          limits = refl;
+          drives = have_grown_itself h old.drives;
+          runs = served_runs tt Recall sid asked reply (recall_left old machine heard.Nothing old.store old.drives) left serves;
+          keeps = λ marks shows. (made Recall sid asked reply ∷ [], inr (made Recall sid asked reply, refl, (sid, asked, reply, refl)), recall_called h marks old shows r machine runs sid asked reply goes left.store serves.added);
+          ends = tt;
+        })
+    recall_by (Copy volume handle segment bytes) goes performs = absurd goes.may
+    recall_by (Fetch entry) goes performs =
+        let on = performs.3 in
+        let drives : List M = slice_set old.drives (drive_of entry.volume old.drives) on.1 in
+        let is : new ≡ recall_left old machine (heard.Fetched performs.0) old.store drives = keeps ∙ ap (λ (s : System D M). hearing Recall told s) on.4 ∙ ap (λ (t : Heard). recall_left old machine t old.store drives) performs.1 in
+        let grown : HaveGrown h old.drives drives = grown_at h (drive_of entry.volume old.drives) old.drives on.0 on.1 on.2 (fetched_grown h entry performs.0 on.0 on.1 on.3) in
+        subst (λ (s : System D M). Moved Recall old s) (sym is) (record {
+          limits = refl;
+          drives = grown;
+          runs = rest_runs tt old.store;
+          keeps = λ marks shows. ([], inl refl, recall_went h marks old shows r machine runs (Fetch entry) (heard.Fetched performs.0) tt goes drives grown (heard_of_fetch h old.drives entry on.0 on.1 on.2 (faults_in old.store.history) shows.marked.faults.each performs.0 on.3));
+          ends = tt;
+        })
+    recall_by Idle goes performs =
+        let is : new ≡ recall_left old machine heard.Nothing old.store old.drives = keeps ∙ ap₂ (λ (t : Heard) (s : System D M). hearing Recall t s) performs.0 performs.1 in
+        subst (λ (s : System D M). Moved Recall old s) (sym is) (record {
+          limits = refl;
+          drives = have_grown_itself h old.drives;
+          runs = rest_runs tt old.store;
+          keeps = λ marks shows. ([], inl refl, recall_went h marks old shows r machine runs Idle heard.Nothing tt goes old.drives (have_grown_itself h old.drives) tt);
+          ends = tt;
+        })
+
+  -- ---- migration
+
+  module _ (old : System D M) (m : Migrating) (machine : migrator.Machine) (runs : old.migrate ≡ Some m) (told : Heard) (left new : System D M) (keeps : new ≡ hearing Migrate told left) where
+    migrate_by : (act : Act) → migrator.GoesOn m.machine m.heard act machine → Performs g h (migrate_left old machine heard.Nothing old.store old.drives) act told left → Moved Migrate old new
+    migrate_by (Dm sid asked) goes performs =
+        let reply : DmReply = performs.0 in
+        let serves = performs.2 in
+        let is : new ≡ migrate_left old machine (heard.Dm reply) left.store old.drives = keeps ∙ ap (λ (s : System D M). hearing Migrate told s) serves.event.rest ∙ ap (λ (t : Heard). migrate_left old machine t left.store old.drives) performs.1 in
+        subst (λ (s : System D M). Moved Migrate old s) (sym is) (record {
+          limits = refl;
+          drives = have_grown_itself h old.drives;
+          runs = served_runs tt Migrate sid asked reply (migrate_left old machine heard.Nothing old.store old.drives) left serves;
+          keeps = λ marks shows. (made Migrate sid asked reply ∷ [], inr (made Migrate sid asked reply, refl, (sid, asked, reply, refl)), migrate_called h marks old shows m machine runs sid asked reply goes left.store serves.added);
+          ends = tt;
+        })
+    migrate_by (Copy volume handle segment bytes) goes performs =
+        let on = performs.3 in
+        let drives : List M = slice_set old.drives (drive_of volume old.drives) on.1 in
+        let is : new ≡ migrate_left old machine (heard.Copied performs.0) old.store drives = keeps ∙ ap (λ (s : System D M). hearing Migrate told s) on.4 ∙ ap (λ (t : Heard). migrate_left old machine t old.store drives) performs.1 in
+        let grown : HaveGrown h old.drives drives = grown_at h (drive_of volume old.drives) old.drives on.0 on.1 on.2 (copied_grown h volume handle segment bytes performs.0 on.0 on.1 on.3) in
+        subst (λ (s : System D M). Moved Migrate old s) (sym is) (record {
+          limits = refl;
+          drives = grown;
+          runs = rest_runs tt old.store;
+          keeps = λ marks shows. ([], inl refl, migrate_went h marks old shows m machine runs (Copy volume handle segment bytes) (heard.Copied performs.0) tt goes drives grown);
+          ends = tt;
+        })
+    migrate_by (Fetch entry) goes performs = absurd goes.may
+    migrate_by Idle goes performs =
+        let is : new ≡ migrate_left old machine heard.Nothing old.store old.drives = keeps ∙ ap₂ (λ (t : Heard) (s : System D M). hearing Migrate t s) performs.0 performs.1 in
+        subst (λ (s : System D M). Moved Migrate old s) (sym is) (record {
+          limits = refl;
+          drives = have_grown_itself h old.drives;
+          runs = rest_runs tt old.store;
+          keeps = λ marks shows. ([], inl refl, migrate_went h marks old shows m machine runs Idle heard.Nothing tt goes old.drives (have_grown_itself h old.drives));
+          ends = tt;
+        })
+
+  -- ---- a step
+
+  step_moved : (daemon : Daemon) (old new : System D M) → Steps g h daemon old new → Moved daemon old new
+  step_moved daemon old new (inl down) = subst (λ (s : System D M). Moved daemon old s) (sym down.1) (record {
+    limits = refl;
+    drives = have_grown_itself h old.drives;
+    runs = rest_runs tt old.store;
+    keeps = λ marks shows. ([], inl refl, subst (λ (ms : List Mark). Shows h ms old) (sym (append-nil marks)) shows);
+    ends = tt;
+  })
+  step_moved Recall old new (inr acts) =
+      let moves = acts.moves in
+      let is : acts.moved ≡ recall_left old moves.1 heard.Nothing old.store old.drives = moves.4 in
+      recall_by old moves.0 moves.1 moves.2 acts.told acts.left new acts.keeps acts.act moves.3 (subst (λ (s : System D M). Performs g h s acts.act acts.told acts.left) is acts.performs)
+  step_moved Migrate old new (inr acts) =
+      let moves = acts.moves in
+      let is : acts.moved ≡ migrate_left old moves.1 heard.Nothing old.store old.drives = moves.4 in
+      migrate_by old moves.0 moves.1 moves.2 acts.told acts.left new acts.keeps acts.act moves.3 (subst (λ (s : System D M). Performs g h s acts.act acts.told acts.left) is acts.performs)
+
+  -- ---- a step that is stopped
+
+  -- the call of a daemon that the store didn't answer itself
+  stopped_runs : (why : Stop) (sid : Sid) (asked : DmCall) (old new : System D M) → StopsCall g sid asked why old new → Runs g {T = Unit {0}} (Err why) old.store new.store
+  stopped_runs why sid asked old new stops = record {
+    goes_on = event_goes g old.store (Session sid) (action.Dm asked) (answer.Dm (reply_of why)) new.store tt stops.event.kept (session_hands old.store sid asked (reply_of why) stops.event.packed) stops.event.told;
+    works = stopped_for g old.store (Session sid) (action.Dm asked) (answer.Dm (reply_of why)) new.store tt stops.event.kept (session_hands old.store sid asked (reply_of why) stops.event.packed) why stops.event.told (stop_told why asked);
+  }
+
+  -- the run lacked memory, and no event was made
+  lacked_runs : (s : Store D) → Runs g {T = Unit {0}} (Err stop.Memory) s s
+  lacked_runs s = record { goes_on = goes_itself g s; works = λ working. working }
+
+  lacked : (daemon : Daemon) (why : Stop) (old new : System D M) → why ≡ stop.Memory → new.limits ≡ old.limits → new.store ≡ old.store → HaveGrown h old.drives new.drives → Stopped daemon why old new
+  lacked daemon why old new is limits store grown = record {
+    limits = limits;
+    drives = grown;
+    runs = subst (λ (w : Stop). Runs g {T = Unit {0}} (Err w) old.store new.store) (sym is) (subst (λ (s : Store D). Runs g {T = Unit {0}} (Err stop.Memory) old.store s) (sym store) (lacked_runs old.store));
+    keeps = tt;
+    ends = λ marks shows. no_more (IsStepOf daemon) marks old new shows limits (ap (λ (s : Store D). s.history) store) grown;
+  }
+
+  recall_stopped : (old new : System D M) (r : Recalling) (machine : recaller.Machine) (runs : old.recall ≡ Some r) (why : Stop) (act : Act) → recaller.GoesOn r.machine r.heard act machine → Stops g h (recall_left old machine heard.Nothing old.store old.drives) act why new → Stopped Recall why old new
+  recall_stopped old new r machine runs why (Dm sid asked) goes stops =
+      let is : new ≡ recall_left old machine heard.Nothing new.store old.drives = stops.event.rest in
+      record {
+        limits = ap (λ (s : System D M). s.limits) is;
+        drives = subst (λ (ds : List M). HaveGrown h old.drives ds) (sym (ap (λ (s : System D M). s.drives) is)) (have_grown_itself h old.drives);
+        runs = stopped_runs why sid asked (recall_left old machine heard.Nothing old.store old.drives) new stops;
+        keeps = tt;
+        ends = λ marks shows. subst (λ (s : System D M). (more : List Mark) × (IsStepOf Recall more ⊎ (more ≡ [])) × IsMarked h (marks ++ more) s) (sym is) (kept marks shows why stops.kept);
+      }
+    where
+      kept : (marks : List Mark) → Shows h marks old → (why : Stop) → KeepsStop sid asked why old.store new.store → (more : List Mark) × (IsStepOf Recall more ⊎ (more ≡ [])) × IsMarked h (marks ++ more) (recall_left old machine heard.Nothing new.store old.drives)
+      kept marks shows stop.Memory keeps = no_more (IsStepOf Recall) marks old (recall_left old machine heard.Nothing new.store old.drives) shows refl keeps.1 (have_grown_itself h old.drives)
+      kept marks shows stop.Disk (failed, inl closed) = no_more (IsStepOf Recall) marks old (recall_left old machine heard.Nothing new.store old.drives) shows refl closed.1 (have_grown_itself h old.drives)
+      kept marks shows stop.Disk (failed, inr working) =
+          let m : Mark = made Recall sid asked (reply_of stop.Disk) in
+          (m ∷ [], inl (inr (m, refl, (sid, asked, reply_of stop.Disk, refl))), recall_marked h marks old shows r machine runs sid asked (reply_of stop.Disk) goes heard.Nothing new.store working.1)
+  recall_stopped old new r machine runs why (Copy volume handle segment bytes) goes stops = absurd goes.may
+  recall_stopped old new r machine runs why (Fetch entry) goes stops =
+      let on = stops.1 in
+      let is = on.4 in
+      lacked Recall why old new stops.0 (ap (λ (s : System D M). s.limits) is) (ap (λ (s : System D M). s.store) is)
+      (subst (λ (ds : List M). HaveGrown h old.drives ds) (sym (ap (λ (s : System D M). s.drives) is)) (grown_at h (drive_of entry.volume old.drives) old.drives on.0 on.1 on.2 (fetched_grown h entry (Err fetching.Memory) on.0 on.1 on.3)))
+  recall_stopped old new r machine runs why Idle goes stops = absurd stops
+
+  migrate_stopped : (old new : System D M) (m : Migrating) (machine : migrator.Machine) (runs : old.migrate ≡ Some m) (why : Stop) (act : Act) → migrator.GoesOn m.machine m.heard act machine → Stops g h (migrate_left old machine heard.Nothing old.store old.drives) act why new → Stopped Migrate why old new
+  migrate_stopped old new m machine runs why (Dm sid asked) goes stops =
+      let is : new ≡ migrate_left old machine heard.Nothing new.store old.drives = stops.event.rest in
+      record {
+        limits = ap (λ (s : System D M). s.limits) is;
+        drives = subst (λ (ds : List M). HaveGrown h old.drives ds) (sym (ap (λ (s : System D M). s.drives) is)) (have_grown_itself h old.drives);
+        runs = stopped_runs why sid asked (migrate_left old machine heard.Nothing old.store old.drives) new stops;
+        keeps = tt;
+        ends = λ marks shows. subst (λ (s : System D M). (more : List Mark) × (IsStepOf Migrate more ⊎ (more ≡ [])) × IsMarked h (marks ++ more) s) (sym is) (kept marks shows why stops.kept);
+      }
+    where
+      kept : (marks : List Mark) → Shows h marks old → (why : Stop) → KeepsStop sid asked why old.store new.store → (more : List Mark) × (IsStepOf Migrate more ⊎ (more ≡ [])) × IsMarked h (marks ++ more) (migrate_left old machine heard.Nothing new.store old.drives)
+      kept marks shows stop.Memory keeps = no_more (IsStepOf Migrate) marks old (migrate_left old machine heard.Nothing new.store old.drives) shows refl keeps.1 (have_grown_itself h old.drives)
+      kept marks shows stop.Disk (failed, inl closed) = no_more (IsStepOf Migrate) marks old (migrate_left old machine heard.Nothing new.store old.drives) shows refl closed.1 (have_grown_itself h old.drives)
+      kept marks shows stop.Disk (failed, inr working) =
+          let one : Mark = made Migrate sid asked (reply_of stop.Disk) in
+          (one ∷ [], inl (inr (one, refl, (sid, asked, reply_of stop.Disk, refl))), migrate_marked h marks old shows m machine runs sid asked (reply_of stop.Disk) goes heard.Nothing new.store working.1)
+  migrate_stopped old new m machine runs why (Copy volume handle segment bytes) goes stops =
+      let on = stops.1 in
+      let is = on.4 in
+      lacked Migrate why old new stops.0 (ap (λ (s : System D M). s.limits) is) (ap (λ (s : System D M). s.store) is)
+      (subst (λ (ds : List M). HaveGrown h old.drives ds) (sym (ap (λ (s : System D M). s.drives) is)) (grown_at h (drive_of volume old.drives) old.drives on.0 on.1 on.2 (copied_grown h volume handle segment bytes (Err copying.Memory) on.0 on.1 on.3)))
+  migrate_stopped old new m machine runs why (Fetch entry) goes stops = absurd goes.may
+  migrate_stopped old new m machine runs why Idle goes stops = absurd stops
+
+  step_stopped : (daemon : Daemon) (old new : System D M) (why : Stop) → Halts g h daemon old why new → Stopped daemon why old new
+  step_stopped Recall old new why (inl lacks) = subst (λ (s : System D M). Stopped Recall why old s) (sym lacks.loses) (lacked Recall why old (hearing Recall heard.Nothing old) lacks.lacks refl refl (have_grown_itself h old.drives))
+  step_stopped Migrate old new why (inl lacks) = subst (λ (s : System D M). Stopped Migrate why old s) (sym lacks.loses) (lacked Migrate why old (hearing Migrate heard.Nothing old) lacks.lacks refl refl (have_grown_itself h old.drives))
+  step_stopped Recall old new why (inr stopped) =
+      let moves = stopped.moves in
+      let is : stopped.moved ≡ recall_left old moves.1 heard.Nothing old.store old.drives = moves.4 in
+      recall_stopped old new moves.0 moves.1 moves.2 why stopped.act moves.3 (subst (λ (s : System D M). Stops g h s stopped.act why new) is stopped.stops)
+  step_stopped Migrate old new why (inr stopped) =
+      let moves = stopped.moves in
+      let is : stopped.moved ≡ migrate_left old moves.1 heard.Nothing old.store old.drives = moves.4 in
+      migrate_stopped old new moves.0 moves.1 moves.2 why stopped.act moves.3 (subst (λ (s : System D M). Stops g h s stopped.act why new) is stopped.stops)
+
+  pub step_moves : (daemon : Daemon) (result : Result (Unit {0}) Stop) (old new : System D M) → OnOk result (Steps g h daemon old new) → IfErr result (λ why. Halts g h daemon old why new) → Moves g h (IsStepOf daemon) result old new
+  step_moves daemon (Ok tt) old new steps halts = step_moved daemon old new steps
+  step_moves daemon (Err why) old new steps halts = step_stopped daemon old new why halts

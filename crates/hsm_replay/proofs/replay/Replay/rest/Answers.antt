@@ -1,0 +1,26 @@
+use Rattle.std.proofs.Common.{Ok, Err, rules}
+use Rattle.std.proofs.lemmas.Result.{err_from_is_err_and}
+use Rattle.hsm_replay.specs.Quiet.{Rests}
+use Rattle.hsm_replay.proofs.Joining.{moves_itself, moves_then, step_is_settling}
+use Rattle.hsm_replay.proofs.Turning.{turn_itself, turn_then, step_goes}
+use Rattle.hsm_replay.proofs.Working.{step_nears}
+use Rattle.hsm_replay.proofs.replay.Replay.rest.Goals as goal
+
+pub loop-alloc-init : goal.loop-alloc-init
+loop-alloc-init g c = record { moves = moves_itself g.D.Disk g.M.Drive tt c.args.self.now; goes = turn_itself g.D.Disk g.M.Drive c.args.daemon c.args.self.now }
+
+pub loop-alloc-preserved : goal.loop-alloc-preserved
+loop-alloc-preserved g c = record {
+  moves = moves_then g.D.Disk g.M.Drive tt (Ok tt) _ _ _ c.loop-alloc.invariant.moves (step_is_settling g.D.Disk g.M.Drive c.args.daemon (Ok tt) _ _ c.in_ok-step.ensures.moves);
+  goes = turn_then g.D.Disk g.M.Drive c.args.daemon _ _ _ c.loop-alloc.invariant.goes (step_goes g.D.Disk g.M.Drive c.args.daemon _ _ c.in_ok-step.ensures.stepped);
+}
+
+pub loop-alloc-smaller : goal.loop-alloc-smaller
+loop-alloc-smaller g c =
+    let works : Rests c.args.daemon c.loop-alloc.self → ⊥ = search rules in
+    step_nears g.D.Disk g.M.Drive c.args.daemon _ _ c.entries.ensures.few works c.in_ok-step.ensures.stepped
+
+pub returns-in_err-step-clause-moves : goal.returns-in_err-step-clause-moves
+returns-in_err-step-clause-moves g c =
+    let p = err_from_is_err_and c.from_residual.result c.from_residual.ensures.1 in
+    rw (p.1, p.2) (moves_then g.D.Disk g.M.Drive tt (Err _) _ _ _ c.loop-alloc.invariant.moves (step_is_settling g.D.Disk g.M.Drive c.args.daemon (Err _) _ _ c.in_err-step.ensures.moves))

@@ -1,0 +1,16 @@
+use Rattle.std.proofs.Common.{Ok}
+use Rattle.std.specs.List.{AllByRecursion}
+use Rattle.hsm_replay.specs.Follows.{IsOfSettling}
+use Rattle.hsm_replay.specs.Keeping.{Moves}
+use Rattle.hsm_replay.specs.Turns.{GoesInTurn}
+use Rattle.hsm_replay.proofs.Working.{round_left}
+use Rattle.hsm_replay.proofs.replay.Replay.rest.Given as goal
+
+abbrev pub invariant-loop-alloc : goal.invariant-loop-alloc
+invariant-loop-alloc g l = record {
+  moves : Moves {T = Unit {0}} g.D.Disk g.M.Drive (AllByRecursion IsOfSettling) (Ok tt) l.fn.self l.self;
+  goes : GoesInTurn l.daemon l.fn.self l.self;
+}
+
+abbrev pub decreases-loop-alloc : goal.decreases-loop-alloc
+decreases-loop-alloc g l = round_left l.daemon l.self

@@ -1,0 +1,31 @@
+use Rattle.std.proofs.Common.{◌≡◌, sym, subst}
+use Rattle.std.specs.List.{AllByRecursion}
+use Rattle.plain_model.specs.declared.entries.Action.TheVariants.{Resume}
+use Rattle.plain_model.specs.declared.entries.Actor.TheVariants.{Caller}
+use Rattle.plain_model.specs.declared.entries.Answer.TheVariants.{Call as Replied}
+use Rattle.hsm_core.specs.Kept.{IsKept}
+use Rattle.hsm_replay.specs.Follows.{IsOfSettling}
+use Rattle.hsm_replay.specs.Keeping.{Moves}
+use Rattle.hsm_replay.specs.Systems.{System}
+use Rattle.hsm_replay.proofs.Events.{event_moves, replied_on, replied_off}
+use Rattle.hsm_replay.proofs.Going.{caller_hands}
+use Rattle.hsm_replay.proofs.Joining.{resume_is_settling, moves_itself}
+use Rattle.hsm_replay.proofs.replay.Replay.resume.Given.{Over}
+use Rattle.hsm_replay.proofs.replay.Replay.resume.Goals.{Joined-resume}
+use Rattle.hsm_replay.proofs.replay.Replay.resume.Goals as goal
+
+abbrev before : (g : Over) → Joined-resume g → System g.row.D.Denot g.row.M.Denot
+before g c = record { store = c.self.inside.hsm; drives = c.self.inside.drives.items; limits = c.self.inside.settings; recall = c.self.inside.recall; migrate = c.self.inside.migrate }
+
+abbrev left : (g : Over) → Joined-resume g → System g.row.D.Denot g.row.M.Denot
+left g c = record { store = c.resume.new.self; drives = c.self.inside.drives.items; limits = c.self.inside.settings; recall = c.self.inside.recall; migrate = c.self.inside.migrate }
+
+pub returns-clause-moves : goal.returns-clause-moves
+returns-clause-moves g c =
+    subst (λ (old : System g.row.D.Denot g.row.M.Denot). Moves g.D.Disk g.M.Drive (AllByRecursion IsOfSettling) c.answered.result old (left g c)) c.self.view_is
+    (resume_is_settling g.D.Disk g.M.Drive c.args.caller c.answered.result (before g c) (left g c)
+    (event_moves g.D.Disk g.M.Drive (before g c) c.resume.new.self (Caller c.args.caller) Resume (Replied c.resume.result) tt tt (subst (λ (s : System g.row.D.Denot g.row.M.Denot). IsKept s.store) (sym c.self.view_is) c.kept.ensures) (caller_hands c.self.inside.hsm c.args.caller Resume (Replied c.resume.result)) c.resume.ensures.resumed
+    c.answered.result (replied_on c.answered.result c.resume.result Resume tt c.answered.ensures.served) (replied_off c.answered.result c.resume.result Resume tt c.answered.ensures.stopped)))
+
+pub returns-then-not-is_ready-clause-moves : goal.returns-then-not-is_ready-clause-moves
+returns-then-not-is_ready-clause-moves g c = moves_itself g.D.Disk g.M.Drive tt c.args.self.now

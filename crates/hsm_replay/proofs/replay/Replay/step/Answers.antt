@@ -1,0 +1,5 @@
+use Rattle.hsm_replay.proofs.Moves.{step_moves}
+use Rattle.hsm_replay.proofs.replay.Replay.step.Goals as goal
+
+pub returns-clause-moves : goal.returns-clause-moves
+returns-clause-moves g c = step_moves g.D.Disk g.M.Drive c.args.daemon c.step_of.result c.args.self.now c.step_of.new.self c.step_of.ensures.stepped c.step_of.ensures.stopped

@@ -1,0 +1,27 @@
+-- Which entries a step and settling add to a marked history.
+use Rattle.std.specs.Prelude.{◌≡◌, ◌⊎◌, ℕ, List, [], ◌∷◌}
+use Rattle.hsm_types.specs.declared.daemons.Daemon.{Daemon}
+use Rattle.hsm_types.specs.declared.dm.DmCall.{DmCall}
+use Rattle.hsm_types.specs.declared.dm.DmReply.{DmReply}
+use Rattle.hsm_types.specs.declared.keys.Sid.{Sid}
+use Rattle.plain_model.specs.declared.entries.Action.TheVariants.{Resume}
+use Rattle.plain_model.specs.declared.entries.Actor.TheVariants.{Caller}
+use Rattle.plain_model.specs.declared.entries.Answer.{Answer}
+use Rattle.hsm_core.specs.Answers.{entry_of}
+use Rattle.hsm_replay.specs.Marks.{Mark, no_daemons, made}
+
+-- a call that the daemon made
+abbrev pub IsMadeBy : Daemon → Mark → Type 0
+IsMadeBy daemon m = (sid : Sid) × (call : DmCall) × (reply : DmReply) × (m ≡ made daemon sid call reply)
+
+-- a caller's resume
+abbrev pub IsResume : Mark → Type 0
+IsResume m = (caller : ℕ) × (answer : Answer) × (m ≡ no_daemons (entry_of (Caller caller) Resume answer))
+
+-- a step is at most one call
+abbrev pub IsStepOf : Daemon → List Mark → Type 0
+IsStepOf daemon marks = (marks ≡ []) ⊎ ((m : Mark) × (marks ≡ m ∷ []) × IsMadeBy daemon m)
+
+-- daemons settle by their calls, and callers by resumes
+abbrev pub IsOfSettling : Mark → Type 0
+IsOfSettling m = ((daemon : Daemon) × IsMadeBy daemon m) ⊎ IsResume m

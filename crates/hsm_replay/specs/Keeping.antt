@@ -1,0 +1,91 @@
+-- What a marked history shows of a store with its drives and its daemons, and how lines keep that.
+use Rattle.std.specs.Prelude.{◌≡◌, ◌⊎◌, List, [], ◌++◌, length, false, None, Result, Ok, Err, OnOk, OnErr, IfSome}
+use Rattle.std.specs.List.{AllByRecursion}
+use Rattle.disk_model.specs.declared.device.Disk as disk
+use Rattle.media_model.specs.declared.drive.Drive as drive
+use Rattle.hsm_types.specs.Stubs.{print_of}
+use Rattle.hsm_types.specs.declared.daemons.Act.{Act}
+use Rattle.hsm_types.specs.declared.daemons.Act.TheVariants.{Fetch, Idle}
+use Rattle.hsm_types.specs.declared.daemons.Heard.{Heard}
+use Rattle.hsm_types.specs.declared.daemons.Heard.TheVariants.{Nothing, Fetched}
+use Rattle.hsm_types.specs.declared.media.Fault.{Fault}
+use Rattle.hsm_types.specs.declared.media.FetchRefusal.TheVariants as fetching
+use Rattle.daemon_session.specs.Seats.{Seat, no_seat, all_marked}
+use Rattle.recall_daemon.specs.Known as recall
+use Rattle.migrate_daemon.specs.Known as migrate
+use Rattle.hsm_replay.specs.declared.daemons.Recalling.{Recalling}
+use Rattle.hsm_replay.specs.declared.daemons.Migrating.{Migrating}
+use Rattle.hsm_replay.specs.declared.stops.Stop.{Stop}
+use Rattle.hsm_replay.specs.Drives.{HaveGrown}
+use Rattle.hsm_replay.specs.Faults.{faults_in, IsApart, IsTrue, AreTrue}
+use Rattle.hsm_replay.specs.Marks.{Mark, entries_of}
+use Rattle.hsm_replay.specs.Running.{Runs}
+use Rattle.hsm_replay.specs.Served.{Served, IsOf, shown, nothing_shown}
+use Rattle.hsm_replay.specs.Systems.{System}
+
+-- ---- what machines know
+
+-- no event is put off
+abbrev pub unmarked : Seat → Seat
+unmarked seat = record seat { kept = all_marked false seat.kept }
+
+-- the same but for which events are put off, which a history doesn't show
+pub record IsKnownAs (k shown : recall.Known) : Type 0 where
+  pub seat : unmarked k.seat ≡ unmarked shown.seat
+  pub hand : k.hand ≡ shown.hand
+
+-- A history shows neither what is known of the space nor whether a pass by `high` may still begin.
+pub record IsShownAs (k shown : migrate.Known) : Type 0 where
+  pub seat : k.seat ≡ shown.seat
+  pub punched : k.punched ≡ shown.punched
+
+-- it was just started, or rests without a session
+abbrev pub IsAtStart : Seat → Act → Heard → Type 0
+IsAtStart seat asked told = (seat ≡ no_seat) × (asked ≡ Idle) × (told ≡ Nothing)
+
+module _ {M : Type 0} (g : drive.Ghosts M) where
+  -- What is heard of a fetch: bytes with the entry's fingerprint, or a fault of its object that is true, and apart from those that events were answered for.
+  abbrev pub IsHeardOf : List M → List Fault → Act → Heard → Type 0
+  IsHeardOf drives faults (Fetch entry) (Fetched (Ok bytes)) = print_of bytes ≡ entry.print
+  IsHeardOf drives faults (Fetch entry) (Fetched (Err (fetching.Media fault))) = IsOf entry fault × IsTrue g drives fault × AllByRecursion (λ earlier. IsApart (length drives) earlier fault) faults
+  IsHeardOf drives faults asked told = Unit {0}
+
+  -- The recall daemon knows what the history shows, unless it is at its start.
+  pub record RecallKnows (k : recall.Known) (drives : List M) (faults : List Fault) (r : Recalling) : Type 0 where
+    pub known : (IsAtStart r.machine.known.seat r.machine.asked r.heard × (r.machine.known.hand ≡ None)) ⊎ IsKnownAs (recall.knows_by r.machine.known r.machine.asked r.heard) k
+    pub heard : IsHeardOf drives faults r.machine.asked r.heard
+
+-- So does the migration daemon.
+abbrev pub MigrateKnows : migrate.Known → Migrating → Type 0
+MigrateKnows k m = IsAtStart m.machine.known.seat m.machine.asked m.heard ⊎ IsShownAs (migrate.knows_by m.machine.limits m.machine.known m.machine.asked m.heard) k
+
+-- ---- what a history shows
+
+module _ {D M : Type 0} (g : drive.Ghosts M) where
+  -- The marked entries are those of the store. They are served, and the faults that events were answered for are true.
+  pub record IsMarked (marks : List Mark) (s : System D M) : Type 0 where
+    pub entries : entries_of marks ≡ s.store.history
+    pub served : Served s.limits marks
+    pub faults : AreTrue g s.drives (faults_in s.store.history)
+
+  -- They show what the daemons know, too.
+  pub record Shows (marks : List Mark) (s : System D M) : Type 0 where
+    pub marked : IsMarked marks s
+    pub recall : IfSome s.recall (RecallKnows g (shown s.limits nothing_shown marks).recall s.drives (faults_in s.store.history))
+    pub migrate : IfSome s.migrate (MigrateKnows (shown s.limits nothing_shown marks).migrate)
+
+  -- From each marked history that shows it, entries of that kind lead on to one that shows what is left.
+  abbrev pub Keeps : (List Mark → Type 0) → System D M → System D M → Type 0
+  Keeps IsPart old new = (marks : List Mark) → Shows marks old → (more : List Mark) × IsPart more × Shows (marks ++ more) new
+
+  -- Where a run was stopped there may be no such entry, and nothing is said of what the daemons know.
+  abbrev pub Ends : (List Mark → Type 0) → System D M → System D M → Type 0
+  Ends IsPart old new = (marks : List Mark) → Shows marks old → (more : List Mark) × (IsPart more ⊎ (more ≡ [])) × IsMarked (marks ++ more) new
+
+-- What is run comes to such entries. The settings stay, and the drives are the same, used.
+pub record Moves {D M T : Type 0} (g : disk.Ghosts D) (h : drive.Ghosts M) (IsPart : List Mark → Type 0) (result : Result T Stop) (old new : System D M) : Type 0 where
+  pub limits : new.limits ≡ old.limits
+  pub drives : HaveGrown h old.drives new.drives
+  pub runs : Runs g result old.store new.store
+  pub keeps : OnOk result (Keeps h IsPart old new)
+  pub ends : OnErr result (Ends h IsPart old new)

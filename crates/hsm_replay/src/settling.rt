@@ -1,0 +1,112 @@
+// Settling: the daemons and the callers whose accesses may go on do so in turns, until all that is left is quiet.
+ghost use Rattle.std.specs.Prelude.{◌≡◌, ◌≤◌, length, drop, true, IfOk, OnOk};
+ghost use Rattle.std.specs.List.{AllByRecursion, list_all};
+ghost use Rattle.hsm_types.specs.Callers.{IsCallerNumber};
+ghost use Rattle.hsm_replay.specs.Follows.{IsOfSettling};
+ghost use Rattle.hsm_replay.specs.Keeping.{Moves};
+ghost use Rattle.hsm_replay.specs.Quiet.{Rests, is_quiet};
+ghost use Rattle.hsm_replay.specs.Settled.{EndsQuietly, IsSettled};
+ghost use Rattle.hsm_replay.specs.Turns.{GoesInTurn, HasTurned, HaveResumed, MayResume};
+
+use crate::quiet::all_quiet;
+use crate::replay::Replay;
+use crate::stops::Stop;
+use disk_model::Disk;
+use hsm_types::{CALLERS, CallerId, Daemon};
+use media_model::Drive;
+use std::alloc::Global;
+
+impl<D: Disk, M: Drive> Replay<D, M> {
+    /// Lets the daemons and the callers go on in rounds, until all events of a round are quiet ones of daemons. In a round recall goes on until it rests, then
+    /// each caller whose access may go on resumes, in order of number, and where all that was quiet, migration goes on until it rests. It begins at most
+    /// one pass by `high`. A round that a step began ends before the first one. After an error the history may have the first of these events.
+    pub fn settle(&mut self, alloc: Global) -> Result<(), Stop>
+        ensures moves { Moves D.Disk M.Drive (AllByRecursion IsOfSettling) result self.old self.new }
+        ensures settled { OnOk result (IsSettled self.old self.new) }
+    {
+        self.refresh();
+        self.rest(alloc, Daemon::Recall)?;
+        self.rest(alloc, Daemon::Migrate)?;
+        loop {
+            self.entries();
+            if self.round(alloc)? {
+                return Ok(());
+            }
+        }
+    }
+
+    /// One round. Whether all its events were quiet.
+    fn round(&mut self, alloc: Global) -> Result<bool, Stop>
+        requires recall { Rests Daemon.Recall self.old }
+        requires migrate { Rests Daemon.Migrate self.old }
+        ensures moves { Moves D.Disk M.Drive (AllByRecursion IsOfSettling) result self.old self.new }
+        ensures recall_rests { OnOk result (Rests Daemon.Recall self.new) }
+        ensures migrate_rests { OnOk result (Rests Daemon.Migrate self.new) }
+        ensures quiet { IfOk result (λ quiet. quiet ≡ list_all is_quiet (drop (length self.old.store.history) self.new.store.history)) }
+        ensures ends { IfOk result (λ quiet. quiet ≡ true → EndsQuietly self.old.store.history self.new) }
+    {
+        let before = self.entries();
+        self.turn(alloc, Daemon::Recall)?;
+        self.resume_all(alloc)?;
+        if !self.is_quiet_since(before) {
+            return Ok(false);
+        }
+        self.turn(alloc, Daemon::Migrate)?;
+        Ok(self.is_quiet_since(before))
+    }
+
+    /// A daemon's turn, from its next act on.
+    fn turn(&mut self, alloc: Global, daemon: Daemon) -> Result<(), Stop>
+        requires { Rests daemon self.old }
+        ensures moves { Moves D.Disk M.Drive (AllByRecursion IsOfSettling) result self.old self.new }
+        ensures rests { OnOk result (Rests daemon self.new) }
+        ensures turned { OnOk result (HasTurned daemon self.old self.new) }
+    {
+        self.step(alloc, daemon)?;
+        self.rest(alloc, daemon)
+    }
+
+    /// The rest of a daemon's turn: steps until it rests.
+    fn rest(&mut self, alloc: Global, daemon: Daemon) -> Result<(), Stop>
+        ensures moves { Moves D.Disk M.Drive (AllByRecursion IsOfSettling) result self.old self.new }
+        ensures rests { OnOk result (Rests daemon self.new) }
+        ensures goes { OnOk result (GoesInTurn daemon self.old self.new) }
+    {
+        while !self.rests(daemon) {
+            self.entries();
+            self.step(alloc, daemon)?;
+        }
+        Ok(())
+    }
+
+    /// Each caller whose access may go on resumes, in order of number.
+    fn resume_all(&mut self, alloc: Global) -> Result<(), Stop>
+        ensures moves { Moves D.Disk M.Drive (AllByRecursion IsOfSettling) result self.old self.new }
+        ensures resumed { OnOk result (HaveResumed self.old self.new) }
+    {
+        for number in 1..u64::from(CALLERS) + 1 {
+            self.resume_at(alloc, number)?;
+        }
+        Ok(())
+    }
+
+    /// The caller of that number resumes where its access may go on.
+    fn resume_at(&mut self, alloc: Global, number: u64) -> Result<(), Stop>
+        requires { IsCallerNumber number }
+        ensures moves { Moves D.Disk M.Drive (AllByRecursion IsOfSettling) result self.old self.new }
+        ensures resumed { OnOk result (MayResume number self.old self.new) }
+    {
+        let Some(caller) = CallerId::new(number) else {
+            unreachable!()
+        };
+        self.resume(alloc, caller)
+    }
+
+    /// Whether all events behind those first ones were quiet.
+    fn is_quiet_since(&self, first: usize) -> bool
+        requires { first ≤ length self.now.store.history }
+        ensures { result ≡ list_all is_quiet (drop first self.now.store.history) }
+    {
+        all_quiet(&self.hsm.history()[first..])
+    }
+}
