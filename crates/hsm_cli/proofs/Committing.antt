@@ -1,6 +1,5 @@
--- A run that ends with a commit.
-use Rattle.std.proofs.Common.{◌≡◌, ◌⊎◌, inr, ℕ, ◌+◌, List, [], ◌∷◌, ◌++◌, Bool, true, false, Option, Some, None, Result, Ok, Err, OnOk, OnErr, IfErr, refl, sym, ◌∙◌, ap, subst, append_assoc}
-use Rattle.plain_model.specs.declared.entries.Entry.{Entry}
+-- What a run to its end leaves.
+use Rattle.std.proofs.Common.{◌≡◌, ℕ, ◌+◌, List, Option, Some, None, Result, Ok, Err, OnOk, IfErr, refl, sym, ◌∙◌, subst}
 use Rattle.plain_model.specs.State.{Held}
 use Rattle.plain_model.specs.Exact.{held_by}
 use Rattle.plain_model.specs.Synced.{synced}
@@ -8,37 +7,12 @@ use Rattle.file_store.specs.Stores.{superblock_of, IsRecovered, IsDurable}
 use Rattle.file_store.specs.Laws.{RecoversOne}
 use Rattle.hsm_core.specs.Store.{Store}
 use Rattle.hsm_core.specs.Crashes.{IsPrefix}
-use Rattle.script_text.specs.declared.lines.Line.{Line}
 use Rattle.hsm_cli.specs.declared.causes.Cause.{Cause}
 use Rattle.hsm_cli.specs.declared.causes.Cause.TheVariants.{ScriptRefused, WordsRefused, NotStore, Corrupt, ReadFault, WriteFault, DiskFault, HostFault, NoMemory}
-use Rattle.hsm_cli.specs.Follows.{Follows, FollowsFirst, AddsPart, commit_line, lines_run}
-use Rattle.hsm_cli.specs.Runs.{IsAllDurable}
+use Rattle.hsm_replay.specs.Running.{IsAllDurable}
 use Rattle.hsm_cli.specs.Clauses.{IsWhole, RanToItsEnd}
 use Rattle.hsm_cli.specs.Endings.{cause_in, first_of, ScriptEnds}
 use Rattle.hsm_cli.specs.Told.{SourceTold}
-use Rattle.hsm_cli.proofs.Following.{follows_more, first_on}
-
--- ---- the lines
-
--- the first lines of a script are the first of what is run of it
-pub first_of_run : (commits : Bool) (lines : List Line) (history : List Entry) → FollowsFirst lines history → FollowsFirst (lines_run commits lines) history
-first_of_run false lines history first = first
-first_of_run true lines history first = record {
-  done = first.done;
-  rest = first.rest ++ commit_line ∷ [];
-  split = ap (λ (l : List Line). l ++ commit_line ∷ []) first.split ∙ append_assoc first.done first.rest (commit_line ∷ []);
-  follows = first.follows;
-}
-
--- all lines were run, and the commit was done or not
-pub committed : {T E : Type 0} (result : Result T E) (lines : List Line) (old new : List Entry) → Follows lines old → OnOk result (AddsPart commit_line old new) → OnErr result ((new ≡ old) ⊎ AddsPart commit_line old new)
-    → FollowsFirst (lines ++ commit_line ∷ []) new
-committed (Ok x) lines old new follows ok err = first_on (lines ++ commit_line ∷ []) lines commit_line [] old new refl follows (inr ok)
-committed (Err e) lines old new follows ok err = first_on (lines ++ commit_line ∷ []) lines commit_line [] old new refl follows err
-
-pub committed_all : {T E : Type 0} (result : Result T E) (lines : List Line) (old new : List Entry) → Follows lines old → OnOk result (AddsPart commit_line old new) → OnOk result (Follows (lines ++ commit_line ∷ []) new)
-committed_all (Ok x) lines old new follows ok = follows_more lines commit_line old new ok follows
-committed_all (Err e) lines old new follows ok = tt
 
 -- ---- what a run to the end leaves
 

@@ -1,10 +1,11 @@
 -- What a run on a store of the host has of drives, and what it leaves of the host.
-use Rattle.std.proofs.Common.{◌≡◌, ◌⊎◌, inl, inr, ℕ, ◌≤◌, List, [], ◌∷◌, Option, Some, None, Result, Ok, Err, OnOk, OnErr, IfErr, IsErrOf, refl, sym, subst, arith}
+use Rattle.std.proofs.Common.{◌≡◌, ◌⊎◌, inl, inr, ℕ, ◌≤◌, List, [], ◌∷◌, Option, Some, None, Result, Ok, Err, IfOk, IfErr, IsErrOf, MatchResult, refl, sym, subst, arith}
 use Rattle.disk_model.specs.declared.device.Disk as disk
 use Rattle.disk_model.specs.Calls.{Rose}
 use Rattle.media_model.specs.declared.drive.Drive as drive
 use Rattle.media_model.specs.Objects.{Objects, Alike}
 use Rattle.hsm_policy.specs.Settings.{standard}
+use Rattle.hsm_replay.specs.Drives.{HaveGrown}
 use Rattle.hsm_cli.specs.declared.causes.Cause.{Cause}
 use Rattle.hsm_cli.specs.declared.causes.Cause.TheVariants.{ScriptRefused, WordsRefused, NotStore, Corrupt, ReadFault, WriteFault, DiskFault, HostFault, NoMemory}
 use Rattle.hsm_cli.specs.Hosts.{AreHanded, HoldsNothing, HoldsOthers, HoldsAll, StoresAll}
@@ -19,17 +20,17 @@ module _ {S M : Type 0} (g : drive.Ghosts M) (old mid : ℕ → Objects → Type
   handed_from : (given : List M) → AreHanded g mid standard.drives standard.volumes standard.capacity given → AreHanded g old standard.drives standard.volumes standard.capacity given
   handed_from given h = record { count = h.count; counted = h.counted; room = h.room; has = h.has; there = λ v o within stored. h.there v o within ((same v).1 o stored) }
 
-  came : (cause : Option Cause) (given : List M) → AreHanded g mid standard.drives standard.volumes standard.capacity given → (cause ≡ Some HostFault → ⊥) → GivesBack g old (Some opened) cause given
-  came None given h works = handed_from given h
-  came (Some (ScriptRefused line)) given h works = handed_from given h
-  came (Some WordsRefused) given h works = handed_from given h
-  came (Some NotStore) given h works = handed_from given h
-  came (Some (Corrupt place)) given h works = handed_from given h
-  came (Some ReadFault) given h works = handed_from given h
-  came (Some WriteFault) given h works = handed_from given h
-  came (Some DiskFault) given h works = handed_from given h
-  came (Some HostFault) given h works = absurd (works refl)
-  came (Some NoMemory) given h works = inr (handed_from given h)
+  came : (cause : Option Cause) (handed given : List M) → AreHanded g mid standard.drives standard.volumes standard.capacity handed → HaveGrown g handed given → (cause ≡ Some HostFault → ⊥) → GivesBack g old (Some opened) cause given
+  came None handed given h grown works = (handed, handed_from handed h, grown)
+  came (Some (ScriptRefused line)) handed given h grown works = (handed, handed_from handed h, grown)
+  came (Some WordsRefused) handed given h grown works = (handed, handed_from handed h, grown)
+  came (Some NotStore) handed given h grown works = (handed, handed_from handed h, grown)
+  came (Some (Corrupt place)) handed given h grown works = (handed, handed_from handed h, grown)
+  came (Some ReadFault) handed given h grown works = (handed, handed_from handed h, grown)
+  came (Some WriteFault) handed given h grown works = (handed, handed_from handed h, grown)
+  came (Some DiskFault) handed given h grown works = (handed, handed_from handed h, grown)
+  came (Some HostFault) handed given h grown works = absurd (works refl)
+  came (Some NoMemory) handed given h grown works = inr (handed, handed_from handed h, grown)
 
   for_memory : (cause : Option Cause) (given : List M) → given ≡ [] → cause ≡ Some NoMemory → GivesBack g old (Some opened) cause given
   for_memory cause given none is = subst (λ (c : Option Cause). GivesBack g old (Some opened) c given) (sym is) (inl none)
@@ -49,10 +50,10 @@ module _ {S M : Type 0} (g : drive.Ghosts M) (old mid : ℕ → Objects → Type
   none_came WriteFault cause given before none is = absurd before
   none_came DiskFault cause given before none is = absurd before
 
-  pub gives_back : (ready : Result (Unit {0}) Cause) (cause : Option Cause) (given : List M) → OnOk ready (AreHanded g mid standard.drives standard.volumes standard.capacity given) → OnErr ready (given ≡ []) → IfErr ready IsBeforeReading
+  pub gives_back : {V : Type 0} (items : V → List M) (ready : Result V Cause) (cause : Option Cause) (given : List M) → IfOk ready (λ ds. AreHanded g mid standard.drives standard.volumes standard.capacity (items ds)) → MatchResult ready (λ ds. HaveGrown g (items ds) given) (λ why. given ≡ []) → IfErr ready IsBeforeReading
       → IfErr ready (λ why. (cause ≡ Some why) ⊎ (cause ≡ Some NoMemory)) → (cause ≡ Some HostFault → IsErrOf ready HostFault) → GivesBack g old (Some opened) cause given
-  gives_back (Ok x) cause given handed none before unready fails = came cause given handed (λ is. let wrong : IsErrOf {T = Unit {0}} (Ok x) HostFault = fails is in cc)
-  gives_back (Err why) cause given handed none before unready fails = none_came why cause given before none unready
+  gives_back items (Ok ds) cause given handed left before unready fails = came cause (items ds) given handed left (λ is. let wrong : IsErrOf (Ok ds) HostFault = fails is in cc)
+  gives_back items (Err why) cause given handed none before unready fails = none_came why cause given before none unready
 
   -- where the host failed there are none
   pub none_at_fault : (cause : Option Cause) (given : List M) → GivesBack g old (Some opened) cause given → cause ≡ Some HostFault → given ≡ []
@@ -68,7 +69,7 @@ pub rose_from : (a b c : ℕ) → a ≤ b → Rose b c → Rose a c
 rose_from a b c le rose = omega (arith, le, rose)
 
 -- the count of the host rose in the call for drives
-fault_told : (before : ℕ) (host : HostTold) (ready : Result (Unit {0}) Cause) → before ≤ host.before → IfErr ready (HandingEnds host) → IsErrOf ready HostFault → Rose before host.now
+fault_told : {V : Type 0} (before : ℕ) (host : HostTold) (ready : Result V Cause) → before ≤ host.before → IfErr ready (HandingEnds host) → IsErrOf ready HostFault → Rose before host.now
 fault_told before host (Ok x) le why fails = cc
 fault_told before host (Err why) le ends fails = let is : why ≡ HostFault = cc in rose_from before host.before host.now le (subst (HandingEnds host) is ends)
 
@@ -86,7 +87,7 @@ module _ {D : Type 0} (g : disk.Ghosts D) (named : List ℕ → Type 0) (source 
   why_run HostFails DiskFails by_host by_disk (Some NoMemory) ends = tt
 
   -- of a run on an opened store, since that count of the host
-  pub why_served : (asked : HostTold) (ready : Result (Unit {0}) Cause) (DiskFails : Type 0) (cause : Option Cause) → host.before ≤ asked.before → asked.now ≡ host.now → IfErr ready (HandingEnds asked)
+  pub why_served : {V : Type 0} (asked : HostTold) (ready : Result V Cause) (DiskFails : Type 0) (cause : Option Cause) → host.before ≤ asked.before → asked.now ≡ host.now → IfErr ready (HandingEnds asked)
       → (DiskFails → HasFailed g disk) → RunEnds (IsErrOf ready HostFault) DiskFails source sink cause → Why g named source sink host disk cause
   why_served asked ready DiskFails cause le same why by_disk ends = why_run (IsErrOf ready HostFault) DiskFails (λ fails. subst (Rose host.before) same (fault_told host.before asked ready le why fails)) by_disk cause ends
 
@@ -97,6 +98,21 @@ pub disk_came : {D : Type 0} (path : List ℕ) (old mid new : List ℕ → List 
 disk_came path old mid new d gone others all = (λ c holds. gone c ((all path).0 c holds), λ other differs. (λ c holds. (others other differs).0 c ((all other).0 c holds), λ c holds. (all other).1 c ((others other differs).1 c holds)))
 
 -- the folders stayed, and then drives came or not
-pub drives_came : {M : Type 0} (dir : List ℕ) (old mid new : List ℕ → ℕ → Objects → Type 0) (given : List M) → StoresAll old mid → HandsDrives dir mid new given → HandsDrives dir old new given
-drives_came dir old mid new [] same hands = λ name v. (λ o has. (same name v).0 o ((hands name v).0 o has), λ o has. (hands name v).1 o ((same name v).1 o has))
-drives_came dir old mid new (d ∷ ds) same hands = (hands.0, λ other differs v. (λ o has. (same other v).0 o ((hands.1 other differs v).0 o has), λ o has. (hands.1 other differs v).1 o ((same other v).1 o has)))
+stayed : (old mid new : List ℕ → ℕ → Objects → Type 0) → StoresAll old mid → StoresAll mid new → StoresAll old new
+stayed old mid new same hands = λ name v. (λ o has. (same name v).0 o ((hands name v).0 o has), λ o has. (hands name v).1 o ((same name v).1 o has))
+
+all_came : {M : Type 0} (dir : List ℕ) (old mid new : List ℕ → ℕ → Objects → Type 0) (given : List M) → StoresAll old mid → HandsDrives dir mid new given → HandsDrives dir old new given
+all_came dir old mid new [] same hands = stayed old mid new same hands
+all_came dir old mid new (d ∷ ds) same hands = (hands.0, λ other differs v. (λ o has. (same other v).0 o ((hands.1 other differs v).0 o has), λ o has. (hands.1 other differs v).1 o ((same other v).1 o has)))
+
+-- as many as came are given back
+as_many : {M : Type 0} (g : drive.Ghosts M) (dir : List ℕ) (old new : List ℕ → ℕ → Objects → Type 0) (handed given : List M) → HaveGrown g handed given → HandsDrives dir old new handed → HandsDrives dir old new given
+as_many g dir old new [] [] grown hands = hands
+as_many g dir old new [] (d ∷ ds) grown hands = absurd grown
+as_many g dir old new (d ∷ ds) [] grown hands = absurd grown
+as_many g dir old new (d ∷ ds) (e ∷ es) grown hands = hands
+
+pub drives_came : {M V : Type 0} (g : drive.Ghosts M) (items : V → List M) (dir : List ℕ) (old mid new : List ℕ → ℕ → Objects → Type 0) (ready : Result V Cause) (given : List M) → StoresAll old mid → MatchResult ready (λ ds. HandsDrives dir mid new (items ds)) (λ why. StoresAll mid new)
+    → MatchResult ready (λ ds. HaveGrown g (items ds) given) (λ why. given ≡ []) → HandsDrives dir old new given
+drives_came g items dir old mid new (Ok ds) given same hands left = as_many g dir old new (items ds) given left (all_came dir old mid new (items ds) same hands)
+drives_came g items dir old mid new (Err why) given same hands none = subst (λ (ds : List _). HandsDrives dir old new ds) (sym none) (stayed old mid new same hands)

@@ -10,7 +10,14 @@ use Rattle.hsm_cli.specs.Endings.{cause_in, WritingEnds, first_of}
 
 module _ (commits : Bool) (source : SourceTold) (history : List Entry) where
   all_is_first : (bytes : List ℕ) → RunsAll commits bytes history → RunsFirst commits bytes history
-  all_is_first bytes all = record { lines = all.lines; script = all.script; follows = record { done = lines_run commits all.lines; rest = []; split = sym (append-nil (lines_run commits all.lines)); follows = all.follows } }
+  all_is_first bytes all = record {
+    lines = all.lines;
+    script = all.script;
+    marks = all.marks;
+    entries = all.entries;
+    follows = record { done = lines_run commits all.lines; rest = []; split = sym (append-nil (lines_run commits all.lines)); follows = all.follows };
+    served = all.served;
+  }
 
   if_all_is_first : (given : Option (List ℕ)) → IfSome given (λ bytes. RunsAll commits bytes history) → IfSome given (λ bytes. RunsFirst commits bytes history)
   if_all_is_first None all = tt

@@ -1,7 +1,10 @@
 pub mod Bytes
 pub mod Following
+pub mod Faults
+pub mod Scripted
 pub mod Running
 pub mod Endings
+pub mod Telling
 pub mod Legality
 pub mod Crashes
 pub mod Completeness

@@ -1,18 +1,21 @@
 -- What is promised of a run: each clause over the words, the outcome, and what the objects tell.
 use Rattle.std.specs.Prelude.{ℕ, ◌≡◌, ◌≢◌, ◌+◌, ◌⊎◌, ◌↔◌, List, [], ◌∷◌, take, Bool, true, false, Option, Some, None, IfSome, IsSome}
 use Rattle.std.specs.Io.KnownBytes.{Appends, IsAtEnd}
+use Rattle.std.specs.List.{AllByRecursion}
 use Rattle.disk_model.specs.declared.device.Disk as disk
 use Rattle.disk_model.specs.Calls.{Rose, raised}
 use Rattle.media_model.specs.declared.drive.Drive as drive
 use Rattle.media_model.specs.Objects.{Objects}
 use Rattle.disk_model.specs.Moments.{MayBe, LeavesOnly, Keeps, Same}
+use Rattle.hsm_types.specs.declared.media.Fault.{Fault}
+use Rattle.hsm_types.specs.declared.media.Fault.TheVariants.{Failed, Damaged}
 use Rattle.commit_slots.specs.Images.{IsStore, IsEmptyStore}
 use Rattle.meta_store.specs.Images.{IsCorruptAt}
 use Rattle.plain_model.specs.declared.entries.Entry.{Entry}
 use Rattle.plain_model.specs.Render.{text_of}
 use Rattle.plain_model.specs.Plain.{File}
 use Rattle.plain_model.specs.Faults.{has_fault}
-use Rattle.plain_model.specs.State.{Held, nothing_held}
+use Rattle.plain_model.specs.State.{Held, nothing_held, just_opened}
 use Rattle.plain_model.specs.Stands.{Stands}
 use Rattle.plain_model.specs.Laws.{IsPlain, IsGoodRun}
 use Rattle.plain_model.specs.Exact.{held_by}
@@ -20,6 +23,9 @@ use Rattle.plain_model.specs.Synced.{synced}
 use Rattle.hsm_policy.specs.Settings.{standard}
 use Rattle.file_store.specs.Stores.{Store, superblock_of, IsRecovered, IsDurable}
 use Rattle.hsm_core.specs.Crashes.{IsPrefix}
+use Rattle.hsm_replay.specs.Caused.{Caused}
+use Rattle.hsm_replay.specs.Drives.{HaveGrown}
+use Rattle.hsm_replay.specs.Faults.{faults_in, AreTrue}
 use Rattle.script_text.specs.Scripts.{IsScript, IsFirstBad}
 use Rattle.script_text.specs.declared.lines.Line.{Line}
 use Rattle.hsm_cli.specs.declared.causes.Cause.{Cause}
@@ -105,6 +111,34 @@ IsPlainOver opened history = (P : List File) → Stands (held_at opened).files P
 abbrev pub PlainClause : {D M : Type 0} → Outcome D M → Type 0
 PlainClause o = IsPlainOver (opened_in o) o.history
 
+-- ---- the media clause
+
+-- no drive has failed in a fetch: each is damage
+abbrev pub IsDamage : Fault → Type 0
+IsDamage (Failed volume object before after) = ⊥
+IsDamage (Damaged volume object want got) = Unit {0}
+
+abbrev pub NoneFailed : List Fault → Type 0
+NoneFailed faults = AllByRecursion IsDamage faults
+
+-- The faults of media that events were answered for. Drives in memory never fail. Of the drives of the host each has counted those of its volumes: their intervals
+-- don't overlap, and end at or below what it counts in the end; it had counted none at first. And the payload that it gives of a damaged object is the one that was got.
+abbrev pub TellsFaults : {M : Type 0} → drive.Ghosts M → Option Form → List M → List Fault → Type 0
+TellsFaults g (Some Replay) drives faults = NoneFailed faults
+TellsFaults g (Some (ReplayStore path dir)) drives faults = AreTrue g drives faults
+TellsFaults g (Some (Format path size)) drives faults = faults ≡ []
+TellsFaults g None drives faults = faults ≡ []
+
+-- of a run on that store
+abbrev pub IsCausedOver : {D : Type 0} → Option (Store D) → List Entry → Type 0
+IsCausedOver opened history = Caused (superblock_at opened) (just_opened (base_of opened) (held_at opened)) history
+
+-- An event is answered for a fault of a medium only by a session that was told, after the access was parked, that bytes of its file are away in that object;
+-- and the drives tell the fault.
+pub record MediaClause {D M : Type 0} (g : drive.Ghosts M) (form : Option Form) (o : Outcome D M) : Type 0 where
+  pub caused : IsCausedOver (opened_in o) o.history
+  pub faults : TellsFaults g form o.drives (faults_in o.history)
+
 -- ---- the crash clause
 
 -- Recovery finds what all entries of the history have left, under the number of the last one before the last sync.
@@ -184,13 +218,17 @@ HostClause holds makes openings (Some (ReplayStore path dir)) old new o = HandsO
 
 -- ---- the drives clause
 
--- On a store that was opened a run asks for the drives of the default settings before it reads the script. What came is given back just as it was handed out: no call of a run reads
--- or writes a volume. None came where the host failed, and perhaps where memory was wanting.
+-- Drives as the host handed them out, used by copies and fetches: each volume has the objects that it had, and perhaps more.
+abbrev pub AreUsed : {M : Type 0} → drive.Ghosts M → (ℕ → Objects → Type 0) → List M → Type 0
+AreUsed {M = M} g stored drives = (handed : List M) × AreHanded g stored standard.drives standard.volumes standard.capacity handed × HaveGrown g handed drives
+
+-- On a store that was opened a run asks for the drives of the default settings before it reads the script. What came is given back. None came where the
+-- host failed, and perhaps where memory was wanting.
 abbrev pub GivesBack : {S M : Type 0} → drive.Ghosts M → (ℕ → Objects → Type 0) → Option S → Option Cause → List M → Type 0
 GivesBack g stored None cause drives = drives ≡ []
 GivesBack g stored (Some opened) (Some HostFault) drives = drives ≡ []
-GivesBack g stored (Some opened) (Some NoMemory) drives = (drives ≡ []) ⊎ AreHanded g stored standard.drives standard.volumes standard.capacity drives
-GivesBack g stored (Some opened) cause drives = AreHanded g stored standard.drives standard.volumes standard.capacity drives
+GivesBack g stored (Some opened) (Some NoMemory) drives = (drives ≡ []) ⊎ AreUsed g stored drives
+GivesBack g stored (Some opened) cause drives = AreUsed g stored drives
 
 -- Drives came, and the host has no objects in their folder any more and in all others what it had; or none came, and it has in all what it had.
 abbrev pub HandsDrives : {M : Type 0} → List ℕ → (List ℕ → ℕ → Objects → Type 0) → (List ℕ → ℕ → Objects → Type 0) → List M → Type 0

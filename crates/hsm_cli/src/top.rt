@@ -1,15 +1,16 @@
 //! The top call.
-ghost use Rattle.std.specs.Prelude.{◌≡◌, ◌≢◌, ◌≤◌, ◌⊎◌, ℕ, List, [], map, true, false, Some, None, IfOk, IfErr, OnOk, OnErr, IfSome};
+ghost use Rattle.std.specs.Prelude.{◌≡◌, ◌≢◌, ◌≤◌, ◌⊎◌, ℕ, List, [], map, length, true, false, Some, None, IfOk, IfErr, IfSome, MatchResult};
 ghost use Rattle.std.specs.String.{string_bytes};
 ghost use Rattle.disk_model.specs.Calls.{raised};
 ghost use Rattle.plain_model.specs.Faults.{has_fault};
 ghost use Rattle.plain_model.specs.State.{nothing_held};
 ghost use Rattle.hsm_policy.specs.Settings.{standard};
 ghost use Rattle.file_store.specs.Stores.{superblock_of, IsDurable};
+ghost use Rattle.hsm_replay.specs.Faults.{faults_in, AreTrue};
 ghost use Rattle.hsm_cli.specs.Commands.{form_of, fsid_of, geometry_number};
 ghost use Rattle.hsm_cli.specs.Statuses.{status_of, place_of};
 ghost use Rattle.hsm_cli.specs.Openings.{opened_in, base_of, replay_store};
-ghost use Rattle.hsm_cli.specs.Clauses.{ScriptClause, ReadingClause, LegalityClause, PlainClause, CrashClause, FormatClause, HostClause, OutputClause, StatusClause, HasRun, HasRead, HasReadOn, IsGoodOver, IsPlainOver, LeavesSafe, IsFormatted, HandsOut, HasFailed, HasBegun, Why, Lacks, DrivesClause, GivesBack, HandsDrives, asked_by};
+ghost use Rattle.hsm_cli.specs.Clauses.{ScriptClause, ReadingClause, LegalityClause, PlainClause, MediaClause, NoneFailed, IsCausedOver, CrashClause, FormatClause, HostClause, OutputClause, StatusClause, HasRun, HasRead, HasReadOn, IsGoodOver, IsPlainOver, LeavesSafe, IsFormatted, HandsOut, HasFailed, HasBegun, Why, Lacks, DrivesClause, GivesBack, HandsDrives, asked_by};
 ghost use Rattle.hsm_cli.specs.Endings.{RunEnds, FormatEnds, HandingEnds, IsBeforeReading};
 ghost use Rattle.hsm_cli.specs.Hosts.{AreHanded, HoldsAll, StoresAll};
 ghost use Rattle.hsm_cli.specs.Told.{source_told, sink_told, host_told};
@@ -27,6 +28,7 @@ use file_store::{formatted_is_empty, one_recovery};
 use hsm_core::Hsm;
 use hsm_policy::Settings;
 use hsm_types::ListOf;
+use media_model::{SureDrive, sure_drives};
 use script_text::{Sink, Source, one_script};
 use sha2::{Digest, Sha256};
 use std::alloc::{AllocError, Global};
@@ -48,6 +50,7 @@ pub fn hsm_main<H: Host, I: Source, O: Sink>(
     ensures reading { ReadingClause (form_of (map string_bytes words.now)) (source_told I.left I.fault_count source.old source.new) result }
     ensures legality { LegalityClause H.Disk.Disk result }
     ensures plain { PlainClause result }
+    ensures media { MediaClause H.Drive.Drive (form_of (map string_bytes words.now)) result }
     ensures crash { CrashClause H.Disk.Disk (form_of (map string_bytes words.now)) (H.holds host.old) result }
     ensures format { FormatClause H.Disk.Disk (form_of (map string_bytes words.now)) result }
     ensures host { HostClause H.holds H.make_count H.open_count (form_of (map string_bytes words.now)) host.old host.new result }
@@ -118,12 +121,15 @@ fn replay<D: Disk, M, I: Source, O: Sink>(
     ensures legality { IsGoodOver {D = D} None result.history }
     ensures faultless { has_fault result.history ≡ false }
     ensures plain { IsPlainOver {D = D} None result.history }
+    ensures media { NoneFailed (faults_in result.history) }
+    ensures caused_by { IsCausedOver {D = D} None result.history }
     ensures output { OutputClause result (sink_told O.taken O.fault_count sink.old sink.new) }
     ensures ends { RunEnds ⊥ ⊥ (source_told I.left I.fault_count source.old source.new) (sink_told O.taken O.fault_count sink.old sink.new) result.cause }
 {
     match new_store(alloc) {
         Ok(hsm) => {
-            let served = serve(alloc, hsm, false, Ok(()), source, sink);
+            let drives = new_drives(alloc);
+            let served = serve(alloc, hsm, drives, false, source, sink);
             Outcome {
                 status: Cause::status(served.cause),
                 at: Cause::place(served.cause),
@@ -158,7 +164,7 @@ fn new_store(alloc: Global) -> Result<Hsm<SureDisk>, AllocError>
     }
 }
 
-/// Runs the script from the source on the store of a disk of the host, and then commits. The drives over that folder come back as they were.
+/// Runs the script from the source on the store of a disk of the host, and then commits. The drives over that folder come back, used.
 fn replay_store<H: Host, I: Source, O: Sink>(
     alloc: Global,
     host: &mut H,
@@ -173,6 +179,8 @@ fn replay_store<H: Host, I: Source, O: Sink>(
     ensures reading { HasReadOn (opened_in result) (source_told I.left I.fault_count source.old source.new) result.cause }
     ensures legality { LegalityClause H.Disk.Disk result }
     ensures plain { PlainClause result }
+    ensures media { AreTrue H.Drive.Drive result.drives (faults_in result.history) }
+    ensures caused_by { IsCausedOver (opened_in result) result.history }
     ensures crash { LeavesSafe H.Disk.Disk (H.holds host.old path.now) (opened_in result) result.history result.cause result.disk }
     ensures output { OutputClause result (sink_told O.taken O.fault_count sink.old sink.new) }
     ensures host { HandsOut path.now (H.holds host.old) (H.holds host.new) result.disk }
@@ -193,8 +201,8 @@ fn replay_store<H: Host, I: Source, O: Sink>(
     };
     match Hsm::open(alloc, disk) {
         Ok(hsm) => {
-            let (ready, drives) = ask_for_drives(alloc, host, dir);
-            let served = serve(alloc, hsm, true, ready, source, sink);
+            let drives = ask_for_drives(host, dir);
+            let served = serve(alloc, hsm, drives, true, source, sink);
             Outcome {
                 status: Cause::status(served.cause),
                 at: Cause::place(served.cause),
@@ -203,24 +211,36 @@ fn replay_store<H: Host, I: Source, O: Sink>(
                 opening: Some(served.opening),
                 history: served.history,
                 disk: Some(served.disk),
-                drives,
+                drives: ListOf::from(served.drives),
             }
         }
         Err((refusal, disk)) => Outcome::unopened(alloc, Some(Cause::from(refusal)), Some(disk)),
     }
 }
 
+/// Drives in memory over new volumes, as the default settings have them.
+fn new_drives(alloc: Global) -> Result<Vec<SureDrive>, Cause>
+    ensures count { IfOk result (λ ds. length ds.items ≡ standard.drives) }
+    ensures why { IfErr result (λ why. why ≡ Cause.NoMemory) }
+{
+    let settings = Settings::default();
+    match sure_drives(
+        alloc,
+        settings.drives(),
+        settings.volumes(),
+        settings.capacity(),
+    ) {
+        Ok(drives) => Ok(drives),
+        Err(AllocError) => Err(Cause::NoMemory),
+    }
+}
+
 /// The drives over the volumes of a folder, as the default settings have them; or none, and why.
-fn ask_for_drives<H: Host>(
-    alloc: Global,
-    host: &mut H,
-    dir: &str,
-) -> (Result<(), Cause>, ListOf<H::Drive>)
-    ensures given { OnOk result.0 (AreHanded H.Drive.Drive (H.stores host.old dir.now) standard.drives standard.volumes standard.capacity result.1) }
-    ensures none { OnErr result.0 (result.1 ≡ []) }
-    ensures folders { HandsDrives dir.now (H.stores host.old) (H.stores host.new) result.1 }
-    ensures ready { IfErr result.0 IsBeforeReading }
-    ensures why { IfErr result.0 (HandingEnds (host_told H.fault_count host.old host.new)) }
+fn ask_for_drives<H: Host>(host: &mut H, dir: &str) -> Result<Vec<H::Drive>, Cause>
+    ensures given { IfOk result (λ ds. AreHanded H.Drive.Drive (H.stores host.old dir.now) standard.drives standard.volumes standard.capacity ds.items) }
+    ensures folders { MatchResult result (λ ds. HandsDrives dir.now (H.stores host.old) (H.stores host.new) ds.items) (λ why. StoresAll (H.stores host.old) (H.stores host.new)) }
+    ensures ready { IfErr result IsBeforeReading }
+    ensures why { IfErr result (HandingEnds (host_told H.fault_count host.old host.new)) }
     ensures never_falls { H.fault_count host.old ≤ H.fault_count host.new }
     ensures disks { HoldsAll (H.holds host.old) (H.holds host.new) }
     ensures asked { H.drive_count host.new ≡ raised (H.drive_count host.old) }
@@ -234,7 +254,7 @@ fn ask_for_drives<H: Host>(
         settings.volumes(),
         settings.capacity(),
     ) {
-        Ok(drives) => (Ok(()), ListOf::from(drives)),
-        Err(refusal) => (Err(Cause::from(refusal)), ListOf::from(Vec::new(alloc))),
+        Ok(drives) => Ok(drives),
+        Err(refusal) => Err(Cause::from(refusal)),
     }
 }

@@ -1,5 +1,5 @@
 -- What an event of a line comes to.
-use Rattle.std.proofs.Common.{◌≡◌, ◌≢◌, ◌∙◌, ◌⊎◌, ◌∷◌, ◌++◌, [], ℕ, List, Option, Some, None, IfSome, Result, Ok, Err, OnOk, OnErr, IfErr, inl, inr, refl, sym, ap, subst, append-nil}
+use Rattle.std.proofs.Common.{◌≡◌, ◌≢◌, ◌∙◌, ◌⊎◌, ◌∷◌, ◌++◌, [], ℕ, List, Option, None, IfSome, Result, Ok, Err, OnOk, IfErr, inl, inr, refl, sym, ap, subst}
 use Rattle.disk_model.specs.declared.device.Disk as disk
 use Rattle.media_model.specs.declared.drive.Drive as drive
 use Rattle.hsm_types.specs.declared.calls.CallRefusal.TheVariants as refusal
@@ -16,9 +16,9 @@ use Rattle.plain_model.specs.declared.entries.Actor.{Actor}
 use Rattle.plain_model.specs.declared.entries.Actor.TheVariants.{Session}
 use Rattle.plain_model.specs.declared.entries.Answer.{Answer}
 use Rattle.plain_model.specs.declared.entries.Answer.TheVariants.{Call as Replied, Dm as Told}
-use Rattle.plain_model.specs.declared.entries.Entry.{Entry}
 use Rattle.plain_model.specs.Faults.{Acts}
 use Rattle.hsm_types.specs.declared.keys.Sid.{Sid}
+use Rattle.script_text.specs.Lines.{IsEvent}
 use Rattle.hsm_core.specs.Answers.{IsAnswer, entry_of}
 use Rattle.hsm_core.specs.Kept.{IsKept}
 use Rattle.hsm_core.specs.Store.{Store}
@@ -63,6 +63,17 @@ pub replied_off : (result : Result (Unit {0}) Stop) (reply : Reply) (action : Ac
 replied_off (Ok tt) reply action of stops = tt
 replied_off (Err why) reply action of stops = ap (λ (r : Reply). Replied r) stops ∙ sym (caller_stop why action of)
 
+told_goes : (reply : DmReply) (asked : DmCall) → IsServed reply → (why : Stop) → Told reply ≢ stop_answer why (Dm asked)
+told_goes reply asked served why is = let wrong : Told reply ≡ Told (reply_of why) = is ∙ sym (stop_told why asked) in served why (let same : reply ≡ reply_of why = cc wrong in same)
+
+pub told_on : (result : Result (Unit {0}) Stop) (reply : DmReply) (asked : DmCall) → OnOk result (IsServed reply) → OnOk result ((why : Stop) → Told reply ≢ stop_answer why (Dm asked))
+told_on (Ok tt) reply asked served = told_goes reply asked served
+told_on (Err why) reply asked served = tt
+
+pub told_off : (result : Result (Unit {0}) Stop) (reply : DmReply) (asked : DmCall) → IfErr result (λ why. reply ≡ reply_of why) → IfErr result (λ why. Told reply ≡ stop_answer why (Dm asked))
+told_off (Ok tt) reply asked stops = tt
+told_off (Err why) reply asked stops = ap (λ (r : DmReply). Told r) stops ∙ stop_told why asked
+
 -- ---- entries
 
 -- what names no fault
@@ -74,6 +85,13 @@ no_fault (Dm asked) none = refl
 no_fault (Issue call) none = refl
 no_fault Resume none = refl
 no_fault Commit none = refl
+
+-- no line of a script names a fault
+pub names_none : (sid : Sid) (asked : DmCall) (seed : Option ℕ) → IsEvent (Session sid) (Dm asked) seed → NamesNoFault (Dm asked)
+names_none sid (Respond t (Media fault)) seed is = absurd is.2.1.0
+names_none sid (Respond t Continue) seed is = tt
+names_none sid (Respond t (Abort error)) seed is = tt
+names_none sid other seed is = tt
 
 -- the entry of that event, whatever it was answered
 abbrev pub IsEventOf : Actor → Action → List Mark → Type 0

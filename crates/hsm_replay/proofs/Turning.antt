@@ -1,5 +1,5 @@
 -- Turns of daemons.
-use Rattle.std.proofs.Common.{◌≡◌, ◌≢◌, ◌∙◌, ◌⊎◌, ◌∷◌, ◌++◌, ◌&&◌, [], ℕ, Bool, true, false, List, Option, Some, None, IfSome, Result, Ok, Err, OnOk, inl, inr, refl, sym, ap, ap₂, subst, append-nil, append_assoc}
+use Rattle.std.proofs.Common.{◌≡◌, ◌∙◌, ◌∷◌, ◌++◌, ◌&&◌, [], Bool, true, false, List, Option, Some, None, IfSome, Result, Ok, Err, OnOk, inl, inr, refl, sym, ap, ap₂, subst, append-nil, append_assoc}
 use Rattle.std.specs.List.{list_all}
 use Rattle.std.specs.Prelude.{slice_set}
 use Rattle.disk_model.specs.declared.device.Disk as disk
@@ -22,7 +22,6 @@ use Rattle.plain_model.specs.declared.entries.Answer.TheVariants as answer
 use Rattle.plain_model.specs.declared.entries.Entry.{Entry}
 use Rattle.daemon_session.specs.Members.{IsRefusedOne}
 use Rattle.hsm_core.specs.Answers.{entry_of}
-use Rattle.hsm_core.specs.Ready.{ready}
 use Rattle.hsm_core.specs.Store.{Store}
 use Rattle.recall_daemon.specs.Known as recall
 use Rattle.recall_daemon.specs.Machine as recaller
@@ -275,3 +274,29 @@ module _ {D M : Type 0} (g : disk.Ghosts D) (h : drive.Ghosts M) where
   pub turned : (result : Result (Unit {0}) Stop) (daemon : Daemon) (a b c : System D M) → Rests daemon a → Steps g h daemon a b → OnOk result (GoesInTurn daemon b c) → OnOk result (Rests daemon c) → OnOk result (HasTurned daemon a c)
   turned (Ok tt) daemon a b c rests steps goes ends = has_turned daemon a b c rests steps goes ends
   turned (Err why) daemon a b c rests steps goes ends = tt
+
+  -- Entries before a turn are of it too.
+  turn_behind : (first entries : List Entry) → IsTurn entries → IsTurn (first ++ entries)
+  turn_behind first entries turn = (first ++ turn.0, turn.1, ap (λ (x : List Entry). first ++ x) turn.2 ∙ sym (append_assoc first turn.0 (turn.1 ∷ [])), turn.3)
+
+  turn_of_behind : (daemon : Daemon) (s : System D M) (first entries : List Entry) → IsTurnOf daemon s entries → IsTurnOf daemon s (first ++ entries)
+  turn_of_behind Recall s first entries turn = behind s.recall turn
+    where
+      behind : (o : Option Recalling) → IfSome o (λ (r : Recalling). IsTurn entries) → IfSome o (λ (r : Recalling). IsTurn (first ++ entries))
+      behind None is = tt
+      behind (Some r) is = turn_behind first entries is
+  turn_of_behind Migrate s first entries turn = behind s.migrate turn
+    where
+      behind : (o : Option Migrating) → IfSome o (λ (m : Migrating). IsTurn entries) → IfSome o (λ (m : Migrating). IsTurn (first ++ entries))
+      behind None is = tt
+      behind (Some m) is = turn_behind first entries is
+
+  pub turned_later : (result : Result (Unit {0}) Stop) (daemon : Daemon) (a b c : System D M) → GoesInTurn daemon a b → OnOk result (HasTurned daemon b c) → OnOk result (HasTurned daemon a c)
+  turned_later (Err why) daemon a b c goes turned = tt
+  turned_later (Ok tt) daemon a b c goes turned = record {
+    alone = alone_then daemon a b c goes.alone turned.alone;
+    calm = leaves_then a.store b.store c.store goes.calm turned.calm;
+    entries = goes.calm.0 ++ turned.entries;
+    history = turned.history ∙ ap (λ (x : List Entry). x ++ turned.entries) goes.calm.1 ∙ append_assoc a.store.history goes.calm.0 turned.entries;
+    turn = turn_of_behind daemon c goes.calm.0 turned.entries turned.turn;
+  }

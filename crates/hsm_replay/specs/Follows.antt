@@ -1,5 +1,6 @@
--- Which entries a step and settling add to a marked history.
-use Rattle.std.specs.Prelude.{◌≡◌, ◌⊎◌, ℕ, List, [], ◌∷◌}
+-- When a marked history is that of a script's lines.
+use Rattle.std.specs.Prelude.{◌≡◌, ◌⊎◌, ℕ, List, [], ◌∷◌, ◌++◌}
+use Rattle.std.specs.List.{AllByRecursion}
 use Rattle.hsm_types.specs.declared.daemons.Daemon.{Daemon}
 use Rattle.hsm_types.specs.declared.dm.DmCall.{DmCall}
 use Rattle.hsm_types.specs.declared.dm.DmReply.{DmReply}
@@ -7,6 +8,8 @@ use Rattle.hsm_types.specs.declared.keys.Sid.{Sid}
 use Rattle.plain_model.specs.declared.entries.Action.TheVariants.{Resume}
 use Rattle.plain_model.specs.declared.entries.Actor.TheVariants.{Caller}
 use Rattle.plain_model.specs.declared.entries.Answer.{Answer}
+use Rattle.script_text.specs.declared.lines.Line.{Line}
+use Rattle.script_text.specs.declared.lines.Line.TheVariants.{Event, Start, Kill, Step, Settle}
 use Rattle.hsm_core.specs.Answers.{entry_of}
 use Rattle.hsm_replay.specs.Marks.{Mark, no_daemons, made}
 
@@ -25,3 +28,16 @@ IsStepOf daemon marks = (marks ≡ []) ⊎ ((m : Mark) × (marks ≡ m ∷ []) �
 -- daemons settle by their calls, and callers by resumes
 abbrev pub IsOfSettling : Mark → Type 0
 IsOfSettling m = ((daemon : Daemon) × IsMadeBy daemon m) ⊎ IsResume m
+
+-- the entries are those of the line: of an event line one, with its actor and its action
+abbrev pub IsPartOf : Line → List Mark → Type 0
+IsPartOf (Event actor action seed) marks = (answer : Answer) × (marks ≡ no_daemons (entry_of actor action answer) ∷ [])
+IsPartOf (Start daemon) marks = marks ≡ []
+IsPartOf (Kill daemon) marks = marks ≡ []
+IsPartOf (Step daemon) marks = IsStepOf daemon marks
+IsPartOf Settle marks = AllByRecursion IsOfSettling marks
+
+-- The history falls into parts, one for each line, in order.
+abbrev pub Follows : List Line → List Mark → Type 0
+Follows [] marks = marks ≡ []
+Follows (line ∷ lines) marks = (part : List Mark) × ((rest : List Mark) × ((marks ≡ part ++ rest) × IsPartOf line part × Follows lines rest))

@@ -12,3 +12,4 @@ pub mod Settled
 pub mod Turns
 pub mod Keeping
 pub mod Follows
+pub mod Doing

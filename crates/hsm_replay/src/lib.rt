@@ -3,6 +3,7 @@
 
 mod daemons;
 mod laws;
+mod lines;
 mod quiet;
 mod replay;
 mod settling;

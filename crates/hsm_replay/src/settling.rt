@@ -19,14 +19,13 @@ use std::alloc::Global;
 impl<D: Disk, M: Drive> Replay<D, M> {
     /// Lets the daemons and the callers go on in rounds, until all events of a round are quiet ones of daemons. In a round recall goes on until it rests, then
     /// each caller whose access may go on resumes, in order of number, and where all that was quiet, migration goes on until it rests. It begins at most
-    /// one pass by `high`. A round that a step began ends before the first one. After an error the history may have the first of these events.
+    /// one pass by `high`. Where a step has begun a daemon's turn, that ends before its first one of these. After an error the history may have the first of
+    /// these events.
     pub fn settle(&mut self, alloc: Global) -> Result<(), Stop>
         ensures moves { Moves D.Disk M.Drive (AllByRecursion IsOfSettling) result self.old self.new }
         ensures settled { OnOk result (IsSettled self.old self.new) }
     {
         self.refresh();
-        self.rest(alloc, Daemon::Recall)?;
-        self.rest(alloc, Daemon::Migrate)?;
         loop {
             self.entries();
             if self.round(alloc)? {
@@ -37,11 +36,7 @@ impl<D: Disk, M: Drive> Replay<D, M> {
 
     /// One round. Whether all its events were quiet.
     fn round(&mut self, alloc: Global) -> Result<bool, Stop>
-        requires recall { Rests Daemon.Recall self.old }
-        requires migrate { Rests Daemon.Migrate self.old }
         ensures moves { Moves D.Disk M.Drive (AllByRecursion IsOfSettling) result self.old self.new }
-        ensures recall_rests { OnOk result (Rests Daemon.Recall self.new) }
-        ensures migrate_rests { OnOk result (Rests Daemon.Migrate self.new) }
         ensures quiet { IfOk result (λ quiet. quiet ≡ list_all is_quiet (drop (length self.old.store.history) self.new.store.history)) }
         ensures ends { IfOk result (λ quiet. quiet ≡ true → EndsQuietly self.old.store.history self.new) }
     {
@@ -55,11 +50,19 @@ impl<D: Disk, M: Drive> Replay<D, M> {
         Ok(self.is_quiet_since(before))
     }
 
-    /// A daemon's turn, from its next act on.
+    /// A daemon's turn. Where a step has begun one, that ends before it.
     fn turn(&mut self, alloc: Global, daemon: Daemon) -> Result<(), Stop>
+        ensures moves { Moves D.Disk M.Drive (AllByRecursion IsOfSettling) result self.old self.new }
+        ensures turned { OnOk result (HasTurned daemon self.old self.new) }
+    {
+        self.rest(alloc, daemon)?;
+        self.whole_turn(alloc, daemon)
+    }
+
+    /// A daemon's turn from its beginning to its end.
+    fn whole_turn(&mut self, alloc: Global, daemon: Daemon) -> Result<(), Stop>
         requires { Rests daemon self.old }
         ensures moves { Moves D.Disk M.Drive (AllByRecursion IsOfSettling) result self.old self.new }
-        ensures rests { OnOk result (Rests daemon self.new) }
         ensures turned { OnOk result (HasTurned daemon self.old self.new) }
     {
         self.step(alloc, daemon)?;

@@ -41,6 +41,18 @@ pub(crate) fn answered(reply: &Reply) -> Result<(), Stop>
     }
 }
 
+/// Whether it goes on after that answer to a session.
+pub(crate) fn told(reply: &DmReply) -> Result<(), Stop>
+    ensures served { OnOk result (IsServed reply.now) }
+    ensures stopped { IfErr result (λ stop. reply.now ≡ reply_of stop) }
+{
+    match reply {
+        DmReply::Refused(DmRefusal::Disk) => Err(Stop::Disk),
+        DmReply::Refused(DmRefusal::Memory) => Err(Stop::Memory),
+        _ => Ok(()),
+    }
+}
+
 /// What is heard of a session's call that the store itself answered. A fault of the disk and want of memory are not.
 pub(crate) fn served(reply: DmReply) -> Result<Heard, Stop>
     ensures served { IfOk result (λ heard. (heard ≡ Heard.Dm reply) × IsServed reply) }

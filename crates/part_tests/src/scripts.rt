@@ -1,10 +1,10 @@
 //! Scripts: what is printed is what was read, patterns by hand, and texts and limits of which no example tells.
-use hsm_types::Call;
+use hsm_types::{Call, Daemon};
 use plain_model::Action;
 use script_text::{Line, ParseRefusal, parse, print};
 use std::alloc::Global;
 
-static PRINTED: [&str; 23] = [
+static PRINTED: [&str; 24] = [
     "",
     "s0 session 0 a/b\ns0 sessions\ns0 query 0\ns0 query 18446744073709551615\n",
     "s1 handle a\ns0 handle a/b\ns0 space\ns7 space\n",
@@ -25,6 +25,7 @@ static PRINTED: [&str; 23] = [
     "c1 create a\nc1 write a 0 x:00ff\nc2 write a 2 p:3:255\nc2 write a 5 x:\nc2 write a 5 p:0:0\n",
     "c64 read a 1 2\nc1 truncate a 3\nc1 stat a\nc1 sync\nc1 remove a\nstore commit\n",
     "c1 resume\nc64 resume\nc1 resume\n",
+    "start recall\nstart migrate\nkill recall\nkill migrate\nstep recall\nstep migrate\nsettle\nsettle\n",
     "s1 readinvis 0 1.1.1 1 2\ns1 writeinvis 1 1.2.3 0 x:00ff\ns0 writeinvis 1 1.2.3 3 p:3:7\ns1 punch 1 1.2.3 65536 0\n",
     "s1 probe 0 1.1.1 0 18446744073709551615\ns1 alloc 0 1.1.1\ns1 table\ns1 restore 0 1.1.1 0 x:\ns1 restore 1 1.2.3 4294967295 p:65536:7\n",
     "s1 seal 1 1.2.3 4294967295 255 0 0 e3b0c44298fc1c149afbf4c8996fb92427ae41e4649b934ca495991b7852b855\n",
@@ -44,6 +45,35 @@ fn are_printed_as_they_were_read(rt: HostRuntime) {
     }
 }
 
+/// The lines that are no events.
+const NO_EVENTS: [(&str, Line); 7] = [
+    ("start recall", Line::Start(Daemon::Recall)),
+    ("start migrate", Line::Start(Daemon::Migrate)),
+    ("kill recall", Line::Kill(Daemon::Recall)),
+    ("kill migrate", Line::Kill(Daemon::Migrate)),
+    ("step recall", Line::Step(Daemon::Recall)),
+    ("step migrate", Line::Step(Daemon::Migrate)),
+    ("settle", Line::Settle),
+];
+
+/// Whether the text is that line.
+fn is_line(alloc: Global, text: &str, want: &Line) -> bool {
+    let Ok(script) = parse(alloc, text.as_bytes()) else {
+        return false;
+    };
+    match script.as_slice() {
+        [line] => line == want,
+        _ => false,
+    }
+}
+
+#[test]
+fn have_no_events(rt: HostRuntime) {
+    for (text, want) in &NO_EVENTS {
+        assert!(rt; is_line(rt.alloc(), text, want), "{text}");
+    }
+}
+
 /// A write, a place in its data, and the bytes from there on.
 static PATTERNS: [(&str, usize, &[u8]); 6] = [
     ("c1 write a 0 p:0:9", 0, &[]),
@@ -56,7 +86,9 @@ static PATTERNS: [(&str, usize, &[u8]); 6] = [
 
 /// Whether a line is a write whose data end in these bytes, from that place on.
 fn ends(line: &Line, from: usize, want: &[u8]) -> bool {
-    let Line::Event { action, .. } = line;
+    let Line::Event { action, .. } = line else {
+        return false;
+    };
     match action {
         Action::Issue(Call::Write { body, .. }) => body.as_slice().get(from..) == Some(want),
         _ => false,
@@ -90,7 +122,7 @@ fn bad_line(alloc: Global, text: &[u8]) -> u64 {
     }
 }
 
-static BAD: [&str; 127] = [
+static BAD: [&str; 154] = [
     "\n",
     "c1",
     " c1 sync",
@@ -122,6 +154,33 @@ static BAD: [&str; 127] = [
     "store  commit",
     "store commit x",
     "store space",
+    "start",
+    "start ",
+    "start both",
+    "start recal",
+    "start Recall",
+    "start recall ",
+    "start recall migrate",
+    "Start recall",
+    "start-recall",
+    "stop recall",
+    "restart recall",
+    "kill",
+    "kill store",
+    "kill migrates",
+    " kill migrate",
+    "step",
+    "step  recall",
+    "step recall 2",
+    "recall step",
+    "recall",
+    "c1 start recall",
+    "s1 step migrate",
+    "settle ",
+    " settle",
+    "settle recall",
+    "Settle",
+    "store settle",
     "S1 space",
     "s1 space ",
     "s1 spaces",
@@ -229,12 +288,14 @@ fn are_refused(rt: HostRuntime) {
 
 /// A line, how often it stands, the last line behind these, and the first bad one: at most 100,000 lines, and 536,870,912 bytes that are read,
 /// written and set.
-static LONG: [(&str, u32, &str, u64); 10] = [
+static LONG: [(&str, u32, &str, u64); 12] = [
     ("c1 sync\n", 99999, "c1 sync", 0),
     ("c1 sync\n", 100000, "c1 sync", 100001),
+    ("settle\n", 100000, "start recall", 100001),
     ("c1 read a 0 99999\n", 8192, "c1 write a 0 p:0:0", 0),
     ("c1 read a 0 99999\n", 8192, "c1 write a 0 p:1:0", 8193),
     ("c1 read a 0 99999\n", 8192, "c1 resume", 0),
+    ("c1 read a 0 99999\n", 8192, "step migrate", 0),
     (
         "c1 read a 0 99999\n",
         8192,

@@ -1,5 +1,6 @@
 mod Calling
 mod Cutting
+mod DaemonParts
 mod DataParts
 mod Going
 mod Handling

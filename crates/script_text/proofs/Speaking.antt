@@ -1,5 +1,5 @@
 -- Lines: an actor, and what it says.
-use Rattle.std.proofs.Common.{◌≡◌, ◌≢◌, ℕ, ◌-◌, ◌^◌, ◌<◌, List, ◌∷◌, ◌++◌, length, take, drop, refl, sym, ap, ◌∙◌, subst, Option, arith}
+use Rattle.std.proofs.Common.{◌≡◌, ◌≢◌, ℕ, ◌-◌, ◌^◌, ◌<◌, List, [], ◌∷◌, ◌++◌, length, take, drop, refl, sym, ap, ◌∙◌, subst, Option, Some, None, arith}
 use Rattle.std.specs.Prelude.{codes}
 use Rattle.std.specs.List.{AllByRecursion}
 use Rattle.std.specs.Fmt.{decimal}
@@ -14,13 +14,14 @@ use Rattle.plain_model.specs.declared.entries.Action.{Action}
 use Rattle.plain_model.specs.declared.entries.Action.TheVariants.{Issue, Resume, Dm, Commit}
 use Rattle.plain_model.specs.Render.{spaced, actor_word, action_words}
 use Rattle.script_text.specs.declared.lines.Line.{Line}
-use Rattle.script_text.specs.declared.lines.Line.TheVariants.{Event}
+use Rattle.script_text.specs.declared.lines.Line.TheVariants.{Event, Start, Kill, Step, Settle}
 use Rattle.script_text.specs.declared.requests.DmRequest.{DmRequest}
 use Rattle.script_text.specs.declared.requests.Request.{Request}
 use Rattle.script_text.specs.Lines.{data_word, line_words, line_text, access_length, IsAskedBy, IsEvent, IsLine}
 use Rattle.script_text.specs.Scripts.{GoesOn}
-use Rattle.script_text.specs.Reading.{Lacks, caller_word, sid_word, IsSid, request_text, IsRequest, dm_request_text, IsDmRequest, text_by}
+use Rattle.script_text.specs.Reading.{Reads, Lacks, IsNoEvent, caller_word, sid_word, IsSid, request_text, IsRequest, dm_request_text, IsDmRequest, text_by}
 use Rattle.script_text.proofs.Cutting.{Lacks-not, Lacks-join, cut_same}
+use Rattle.script_text.proofs.DaemonParts.{IsVerb, no_other_verb, one_no_event, no_event_lawful, Lacks-no_event, no_event_uncut, no_event_cut}
 use Rattle.script_text.proofs.Numerals.{Lacks-decimal}
 use Rattle.script_text.proofs.Spelling.{IsVisible, Lacks-visible, visible_decimal}
 use Rattle.script_text.proofs.Calling.{one_request, no_resume, Lacks-request, one_dm_request, Lacks-dm_request}
@@ -40,11 +41,14 @@ visible_actor Store h = refl
 Lacks-actor : (actor : Actor) → IsActor actor → Lacks 32 (actor_word actor)
 Lacks-actor actor h = Lacks-visible 32 (actor_word actor) refl (visible_actor actor h)
 
--- no session is spelled as the store
-session_no_store : (sid : Sid) → IsSid sid → actor_word (Session sid) ≢ actor_word Store
-session_no_store sid h same =
-    let digits : decimal sid.0 ≡ codes "tore" = cc same in
+-- no session is spelled as a word that begins with st
+session_no_word : (sid : Sid) (rest : List ℕ) → IsSid sid → actor_word (Session sid) ≢ codes "st" ++ rest
+session_no_word sid rest h same =
+    let digits : decimal sid.0 ≡ codes "t" ++ rest = cc same in
     absurd ((rw digits at (Lacks-decimal 116 sid.0 (omega arith) h)).0 refl)
+
+session_no_store : (sid : Sid) → IsSid sid → actor_word (Session sid) ≢ actor_word Store
+session_no_store sid h same = session_no_word sid (codes "ore") h same
 
 one_actor : (a b : Actor) → IsActor a → IsActor b → actor_word a ≡ actor_word b → a ≡ b
 one_actor (Caller c) (Caller d) h k e = ap Caller (decimal_injective c d (omega (arith, h.1)) (omega (arith, k.1)) (cc e))
@@ -56,6 +60,29 @@ one_actor (Session sid) Store h k e = absurd (session_no_store sid h e)
 one_actor Store (Caller c) h k e = let wrong : ◌≡◌ {A = ℕ} 115 99 = cc e in absurd (omega (arith, wrong))
 one_actor Store (Session sid) h k e = absurd (session_no_store sid k (sym e))
 one_actor Store Store h k e = refl
+
+-- no actor is spelled as a verb of a line of a daemon
+no_start : (actor : Actor) → IsActor actor → actor_word actor ≢ codes "start"
+no_start (Caller c) h same = let wrong : ◌≡◌ {A = ℕ} 99 115 = cc same in absurd (omega (arith, wrong))
+no_start (Session sid) h same = session_no_word sid (codes "art") h same
+no_start Store h same = let wrong : ◌≡◌ {A = ℕ} 111 97 = cc same in absurd (omega (arith, wrong))
+
+no_kill : (actor : Actor) → IsActor actor → actor_word actor ≢ codes "kill"
+no_kill (Caller c) h same = let wrong : ◌≡◌ {A = ℕ} 99 107 = cc same in absurd (omega (arith, wrong))
+no_kill (Session sid) h same = let wrong : ◌≡◌ {A = ℕ} 115 107 = cc same in absurd (omega (arith, wrong))
+no_kill Store h same = let wrong : ◌≡◌ {A = ℕ} 115 107 = cc same in absurd (omega (arith, wrong))
+
+no_step : (actor : Actor) → IsActor actor → actor_word actor ≢ codes "step"
+no_step (Caller c) h same = let wrong : ◌≡◌ {A = ℕ} 99 115 = cc same in absurd (omega (arith, wrong))
+no_step (Session sid) h same = session_no_word sid (codes "ep") h same
+no_step Store h same = let wrong : ◌≡◌ {A = ℕ} 111 101 = cc same in absurd (omega (arith, wrong))
+
+no_verb : (actor : Actor) → IsActor actor → ¬ (IsVerb (actor_word actor))
+no_verb actor h = no_other_verb (actor_word actor) (no_start actor h) (no_kill actor h) (no_step actor h)
+
+-- what an actor says is spelled as no line without an event
+no_event_said : (actor : Actor) (text : List ℕ) (line : Line) → IsActor actor → IsNoEvent line → actor_word actor ++ 32 ∷ text ≢ line_text line
+no_event_said actor text line k h same = no_verb actor k (no_event_cut (actor_word actor) text line h (Lacks-actor actor k) same).is_verb
 
 -- the number that a caller's word has
 pub caller_number : (word : List ℕ) (n x : ℕ) → take (length word - 1) (drop 1 word) ≡ decimal n → n < 2 ^ 64 → IsCallerNumber x → word ≡ caller_word x → IsCallerNumber n
@@ -96,6 +123,10 @@ said actor text (Event other action seed) k h same =
     let cut = said_by (actor_word actor) text other action seed (Lacks-actor actor k) h same in
     let who : actor ≡ other = one_actor actor other k (event_actor other action seed h) cut.0 in
     record { action = action; seed = seed; lawful = subst (λ (a : Actor). IsEvent a action seed) (sym who) h; spelled = cut.1 }
+said actor text (Start daemon) k h same = absurd (no_event_said actor text (Start daemon) k tt same)
+said actor text (Kill daemon) k h same = absurd (no_event_said actor text (Kill daemon) k tt same)
+said actor text (Step daemon) k h same = absurd (no_event_said actor text (Step daemon) k tt same)
+said actor text Settle k h same = absurd (no_event_said actor text Settle k tt same)
 
 -- a caller's call
 pub record IsCalled (text : List ℕ) : Type 0 where
@@ -131,10 +162,11 @@ may_ask sid text r a h same = subst (λ call. IsAskedBy sid (scope_of call)) (on
 
 -- ---- lines
 
-pub line_uncut : (text : List ℕ) (line : Line) → Lacks 32 text → text ≡ line_text line → ⊥
-line_uncut text (Event actor action seed) h same = Lacks-not 32 (actor_word actor) (spaced (action_words (data_word seed) action)) (rw (same ∙ said_text actor action seed) at h)
+pub line_uncut : (text : List ℕ) (line : Line) → Lacks 32 text → text ≢ codes "settle" → text ≡ line_text line → ⊥
+line_uncut text (Event actor action seed) h other same = Lacks-not 32 (actor_word actor) (spaced (action_words (data_word seed) action)) (rw (same ∙ said_text actor action seed) at h)
+line_uncut text line h other same = no_event_uncut text line tt h other same
 
--- what is said neither by a caller nor by a session is said by the store
+-- what is said neither by a caller nor by a session, and is of no daemon, is said by the store
 unnamed : (who text : List ℕ) (actor : Actor) (action : Action) (seed : Option ℕ) → IsEvent actor action seed → who ≡ actor_word actor → text ≡ spaced (action_words (data_word seed) action)
     → ((x : ℕ) → IsCallerNumber x → who ≢ caller_word x) → ((x : Sid) → IsSid x → who ≢ sid_word x) → who ++ 32 ∷ text ≡ codes "store commit"
 unnamed who text (Caller c) action seed h same behind no_caller no_session = absurd (no_caller c (event_actor (Caller c) action seed h) same)
@@ -142,11 +174,19 @@ unnamed who text (Session sid) action seed h same behind no_caller no_session = 
 unnamed who text Store Commit seed h same behind no_caller no_session = rw (same, behind) refl
 unnamed who text Store other seed h same behind no_caller no_session = absurd h
 
-pub line_unnamed : (text who rest : List ℕ) (line : Line) → IsLine line → text ≡ line_text line → text ≡ who ++ 32 ∷ rest → Lacks 32 who
-    → ((x : ℕ) → IsCallerNumber x → who ≢ caller_word x) → ((x : Sid) → IsSid x → who ≢ sid_word x) → text ≡ codes "store commit"
-line_unnamed text who rest (Event actor action seed) h same cut lacks no_caller no_session =
+line_unnamed : (text who rest : List ℕ) (line : Line) → IsLine line → text ≡ line_text line → text ≡ who ++ 32 ∷ rest → Lacks 32 who
+    → ((x : ℕ) → IsCallerNumber x → who ≢ caller_word x) → ((x : Sid) → IsSid x → who ≢ sid_word x)
+    → ((x : Line) → IsNoEvent x → spaced (who ∷ rest ∷ []) ≢ line_text x) → text ≡ codes "store commit"
+line_unnamed text who rest (Event actor action seed) h same cut lacks no_caller no_session no_daemon =
     let is = said_by who rest actor action seed lacks h (sym cut ∙ same) in
     cut ∙ unnamed who rest actor action seed h is.0 is.1 no_caller no_session
+line_unnamed text who rest line h same cut lacks no_caller no_session no_daemon = absurd (no_daemon line tt (sym cut ∙ same))
+
+pub read_unnamed : (text who rest : List ℕ) (read : Option Line) → text ≢ codes "store commit" → text ≡ who ++ 32 ∷ rest → Lacks 32 who
+    → ((x : ℕ) → IsCallerNumber x → who ≢ caller_word x) → ((x : Sid) → IsSid x → who ≢ sid_word x)
+    → Reads line_text IsNoEvent (spaced (who ∷ rest ∷ [])) read → Reads line_text IsLine text read
+read_unnamed text who rest None other cut lacks no_caller no_session no_daemon = λ line h same. other (line_unnamed text who rest line h same cut lacks no_caller no_session no_daemon)
+read_unnamed text who rest (Some line) other cut lacks no_caller no_session of_daemon = (no_event_lawful line of_daemon.0, cut ∙ of_daemon.1)
 
 -- an actor says one action with one text
 one_action : (actor : Actor) (x y : Action) (s t : Option ℕ) → IsEvent actor x s → IsEvent actor y t → spaced (action_words (data_word s) x) ≡ spaced (action_words (data_word t) y) → (x ≡ y) × (s ≡ t)
@@ -166,6 +206,11 @@ one_action Store Commit Commit s t h k e = (refl, h ∙ sym k)
 one_action Store Commit other s t h k e = absurd k
 one_action Store x y s t h k e = absurd h
 
+-- no event is spelled as another line
+event_no_other : (actor : Actor) (action : Action) (seed : Option ℕ) (line : Line) → IsEvent actor action seed → IsNoEvent line → line_text (Event actor action seed) ≢ line_text line
+event_no_other actor action seed line h k same =
+    no_event_said actor (spaced (action_words (data_word seed) action)) line (event_actor actor action seed h) k (sym (said_text actor action seed) ∙ same)
+
 pub line_text-injective : (x y : Line) → IsLine x → IsLine y → line_text x ≡ line_text y → x ≡ y
 line_text-injective (Event a action s) (Event b other t) h k e =
     let cut = said_by (actor_word a) (spaced (action_words (data_word s) action)) b other t (Lacks-actor a (event_actor a action s h)) k (sym (said_text a action s) ∙ e) in
@@ -174,6 +219,9 @@ line_text-injective (Event a action s) (Event b other t) h k e =
     let what : action ≡ other = one.0 in
     let seeds : s ≡ t = one.1 in
     cc (who, what, seeds)
+line_text-injective (Event a action s) y h k e = absurd (event_no_other a action s y h tt e)
+line_text-injective x (Event b action t) h k e = absurd (event_no_other b action t x k tt (sym e))
+line_text-injective x y h k e = one_no_event x y tt tt e
 
 -- a line that goes on is the one that was read
 pub same_access : (before : List Line) (text : List ℕ) (read line : Line) → IsLine read → text ≡ line_text read → GoesOn before text line → access_length line ≡ access_length read
@@ -192,6 +240,7 @@ Lacks-action Store other seed h = absurd h
 
 Lacks-line : (line : Line) → IsLine line → AllByRecursion (Lacks 10) (line_words line)
 Lacks-line (Event actor action seed) h = (Lacks-visible 10 (actor_word actor) refl (visible_actor actor (event_actor actor action seed h)), Lacks-action actor action seed h)
+Lacks-line line h = Lacks-no_event line tt
 
 pub Lacks-newline : (line : Line) → IsLine line → Lacks 10 (line_text line)
 Lacks-newline line h = Lacks-join 10 32 (line_words line) (λ same. absurd (omega arith)) (Lacks-line line h)

@@ -4,6 +4,8 @@ use Rattle.std.specs.List.{join_with_byte, list_all, range_with_len, AllByRecurs
 use Rattle.std.specs.Fmt.{decimal}
 use Rattle.hex.specs.Hex.{encode_lower, IsBytes}
 use Rattle.hsm_types.specs.declared.attributes.AttrName.{AttrName}
+use Rattle.hsm_types.specs.declared.daemons.Daemon.{Daemon}
+use Rattle.hsm_types.specs.declared.daemons.Daemon.TheVariants.{Recall, Migrate}
 use Rattle.hsm_types.specs.declared.dm.Response.{Response}
 use Rattle.hsm_types.specs.declared.dm.Response.TheVariants.{Continue, Abort, Media}
 use Rattle.hsm_types.specs.declared.dm.Right.{Right}
@@ -26,7 +28,7 @@ use Rattle.plain_model.specs.declared.entries.Action.{Action}
 use Rattle.plain_model.specs.declared.entries.Action.TheVariants.{Issue, Resume, Dm, Commit}
 use Rattle.plain_model.specs.Render.{spaced, actor_word, action_words}
 use Rattle.script_text.specs.declared.lines.Line.{Line}
-use Rattle.script_text.specs.declared.lines.Line.TheVariants.{Event}
+use Rattle.script_text.specs.declared.lines.Line.TheVariants.{Event, Start, Kill, Step, Settle}
 
 -- the byte of a pattern at i
 abbrev pub pattern_byte : ℕ → ℕ → ℕ
@@ -45,8 +47,17 @@ abbrev pub data_word : Option ℕ → List ℕ → List ℕ
 data_word None bytes = coloned (codes "x" ∷ encode_lower bytes ∷ [])
 data_word (Some seed) bytes = coloned (codes "p" ∷ decimal (length bytes) ∷ decimal seed ∷ [])
 
+-- a daemon as a word of a line
+abbrev pub daemon_word : Daemon → List ℕ
+daemon_word Recall = codes "recall"
+daemon_word Migrate = codes "migrate"
+
 abbrev pub line_words : Line → List (List ℕ)
 line_words (Event actor action seed) = actor_word actor ∷ action_words (data_word seed) action
+line_words (Start daemon) = codes "start" ∷ daemon_word daemon ∷ []
+line_words (Kill daemon) = codes "kill" ∷ daemon_word daemon ∷ []
+line_words (Step daemon) = codes "step" ∷ daemon_word daemon ∷ []
+line_words Settle = codes "settle" ∷ []
 
 -- the one spelling of a line
 abbrev pub line_text : Line → List ℕ
@@ -143,8 +154,13 @@ IsEvent Store Resume seed = ⊥
 IsEvent Store (Dm call) seed = ⊥
 IsEvent Store Commit seed = seed ≡ None
 
+-- an event is judged; of the other lines each one is lawful
 abbrev pub IsLine : Line → Type 0
 IsLine (Event actor action seed) = IsEvent actor action seed
+IsLine (Start daemon) = Unit {0}
+IsLine (Kill daemon) = Unit {0}
+IsLine (Step daemon) = Unit {0}
+IsLine Settle = Unit {0}
 
 -- ---- what a line weighs
 
@@ -157,3 +173,7 @@ action_access Commit = 0
 
 abbrev pub access_length : Line → ℕ
 access_length (Event actor action seed) = action_access action
+access_length (Start daemon) = 0
+access_length (Kill daemon) = 0
+access_length (Step daemon) = 0
+access_length Settle = 0

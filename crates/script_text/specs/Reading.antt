@@ -4,6 +4,7 @@ use Rattle.std.specs.List.{AllByRecursion, slice_split}
 use Rattle.std.specs.Fmt.{decimal}
 use Rattle.std.specs.Str.{bytes_eq}
 use Rattle.hex.specs.Hex.{encode_lower}
+use Rattle.hsm_types.specs.declared.daemons.Daemon.{Daemon}
 use Rattle.hsm_types.specs.declared.dm.Kinds.{Kinds}
 use Rattle.hsm_types.specs.declared.keys.FileKey.{FileKey}
 use Rattle.hsm_types.specs.declared.keys.Sid.{Sid}
@@ -20,6 +21,7 @@ use Rattle.plain_model.specs.Render.{spaced, actor_word, part_word, form_words}
 use Rattle.script_text.specs.declared.bodies.Body.{Body}
 use Rattle.script_text.specs.declared.bodies.Pattern.{Pattern}
 use Rattle.script_text.specs.declared.lines.Line.{Line}
+use Rattle.script_text.specs.declared.lines.Line.TheVariants.{Event, Start, Kill, Step, Settle}
 use Rattle.script_text.specs.declared.parts.ReadPart.{ReadPart}
 use Rattle.script_text.specs.declared.parts.ReadParts.{ReadParts}
 use Rattle.script_text.specs.declared.requests.DmRequest.{DmRequest}
@@ -94,6 +96,10 @@ taken word (first ∷ more) = if bytes_eq first word then (true, more) else (fal
 abbrev pub AreKinds : Kinds → Type 0
 AreKinds taken = Unit {0}
 
+-- any daemon
+abbrev pub IsDaemon : Daemon → Type 0
+IsDaemon daemon = Unit {0}
+
 -- regions that are not none
 abbrev pub AreSomeRegions : List Region → Type 0
 AreSomeRegions regions = IsRegions regions × (0 < length regions)
@@ -165,6 +171,14 @@ IsDmRequest r = AreParts r.seed (dm_form r.call).1
 -- what an actor and a text behind it are together
 abbrev pub text_by : Actor → List ℕ → List ℕ
 text_by actor text = spaced (actor_word actor ∷ text ∷ [])
+
+-- a line that starts, kills or steps a daemon, or settles
+abbrev pub IsNoEvent : Line → Type 0
+IsNoEvent (Event actor action seed) = ⊥
+IsNoEvent (Start daemon) = Unit {0}
+IsNoEvent (Kill daemon) = Unit {0}
+IsNoEvent (Step daemon) = Unit {0}
+IsNoEvent Settle = Unit {0}
 
 -- the line of the text that goes on after the lines before it, or none where none does
 abbrev pub GoesOnAs : List Line → List ℕ → Option Line → Type 0

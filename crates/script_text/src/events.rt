@@ -1,4 +1,4 @@
-//! The lines of callers, of sessions and of the store.
+//! The line that a text is: of a caller, of a session, of the store or of a daemon.
 ghost use Rattle.std.specs.Prelude.{◌↔◌, ◌<◌, ◌^◌, length, IfOk, IsTrue};
 ghost use Rattle.hsm_types.specs.Callers.{IsCallerNumber};
 ghost use Rattle.hsm_types.specs.Calls.{scope_of};
@@ -6,6 +6,7 @@ ghost use Rattle.plain_model.specs.declared.entries.Actor.{Actor};
 ghost use Rattle.script_text.specs.Lines.{line_text, IsLine, IsAskedBy};
 ghost use Rattle.script_text.specs.Reading.{Reads, IsSid, text_by};
 
+use crate::daemons::daemon_line;
 use crate::lines::Line;
 use crate::requests::{DmRequest, Request, dm_request_of, request_of};
 use crate::words::{caller, cut, session};
@@ -26,6 +27,9 @@ pub fn line(alloc: Global, text: &[u8]) -> Result<Option<Line>, AllocError>
             seed: None,
         }));
     }
+    if text == b"settle".as_slice() {
+        return Ok(Some(Line::Settle));
+    }
     let Some((who, rest)) = cut(text, b' ') else {
         return Ok(None);
     };
@@ -34,7 +38,7 @@ pub fn line(alloc: Global, text: &[u8]) -> Result<Option<Line>, AllocError>
     }
     match session(who) {
         Some(sid) => session_line(alloc, sid, rest),
-        None => Ok(None),
+        None => Ok(daemon_line(who, rest)),
     }
 }
 

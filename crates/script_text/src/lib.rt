@@ -3,6 +3,7 @@
 
 mod attributes;
 mod bodies;
+mod daemons;
 mod digests;
 mod events;
 mod handles;

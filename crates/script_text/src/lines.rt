@@ -2,6 +2,7 @@
 ghost use Rattle.std.specs.Prelude.{◌≡◌};
 ghost use Rattle.script_text.specs.Scripts.{AreLawful};
 
+use hsm_types::Daemon;
 use plain_model::{Action, Actor};
 use std::marker::Model;
 
@@ -15,6 +16,14 @@ pub enum Line {
         action: Action,
         seed: Option<u8>,
     },
+    /// Starts the daemon.
+    Start(Daemon),
+    /// Drops the daemon's machine.
+    Kill(Daemon),
+    /// Lets the daemon do one act, and nothing where it isn't running.
+    Step(Daemon),
+    /// Lets the daemons act, and callers resume whose accesses may go on, until all of them rest.
+    Settle,
 }
 
 /// The lines of a script, in order, each lawful after those before it. Contracts see them as a list.

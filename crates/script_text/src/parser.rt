@@ -103,7 +103,9 @@ fn next_line(
 fn access_bytes(line: &Line) -> u64
     ensures { result ≡ access_length line.now }
 {
-    let Line::Event { action, .. } = line;
+    let Line::Event { action, .. } = line else {
+        return 0;
+    };
     match action {
         Action::Issue(call) => call.access_bytes(),
         Action::Dm(call) => call.access_bytes(),

@@ -2,11 +2,12 @@
 ghost use Rattle.std.specs.Prelude.{◌≡◌, ◌∷◌, ◌++◌, [], IfOk, OnOk, codes};
 ghost use Rattle.std.specs.Fmt.{decimal};
 ghost use Rattle.hex.specs.Hex.{encode_lower};
-ghost use Rattle.script_text.specs.Lines.{coloned, data_word, line_text};
+ghost use Rattle.script_text.specs.Lines.{coloned, daemon_word, data_word, line_text};
 ghost use Rattle.script_text.specs.Scripts.{script_text, IsScript};
 
+use crate::daemons::name_of;
 use crate::lines::{Line, Script};
-use hsm_types::Bytes;
+use hsm_types::{Bytes, Daemon};
 use plain_model::{Spelling, push_event};
 use std::alloc::{AllocError, Global};
 
@@ -32,13 +33,26 @@ fn text_of(alloc: Global, lines: &[Line]) -> Result<Vec<u8>, AllocError>
 fn push_line(alloc: Global, out: &mut Vec<u8>, line: &Line) -> Result<(), AllocError>
     ensures { OnOk result (out.new.items ≡ out.old.items ++ line_text line.now ++ 10 ∷ []) }
 {
-    let Line::Event {
-        actor,
-        action,
-        seed,
-    } = line;
-    push_event(alloc, out, actor, action, &Given { seed: *seed })?;
+    match line {
+        Line::Event {
+            actor,
+            action,
+            seed,
+        } => push_event(alloc, out, actor, action, &Given { seed: *seed })?,
+        Line::Start(daemon) => push_verb(out, b"start ", *daemon)?,
+        Line::Kill(daemon) => push_verb(out, b"kill ", *daemon)?,
+        Line::Step(daemon) => push_verb(out, b"step ", *daemon)?,
+        Line::Settle => push(out, b"settle")?,
+    }
     push(out, b"\n")
+}
+
+/// The verb of a line of a daemon with the space behind it, and the daemon.
+fn push_verb(out: &mut Vec<u8>, verb: &[u8], daemon: Daemon) -> Result<(), AllocError>
+    ensures { OnOk result (out.new.items ≡ out.old.items ++ verb.now ++ daemon_word daemon) }
+{
+    push(out, verb)?;
+    push(out, name_of(daemon))
 }
 
 /// Data as scripts have them: as hex digits, or, where they were given by a seed, by it.

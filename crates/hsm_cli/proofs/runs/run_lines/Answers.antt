@@ -1,23 +1,53 @@
-use Rattle.std.proofs.Common.{◌≡◌, ◌∷◌, rules, append_assoc}
+use Rattle.std.proofs.Common.{◌≡◌, ◌∙◌, ◌∷◌, refl, rules, append_assoc}
 use Rattle.std.specs.Vec.Iter.{into_iter_items}
-use Rattle.hsm_cli.proofs.Following.{follows_more, first_on}
-use Rattle.hsm_cli.proofs.Running.{goes_then}
+use Rattle.std.proofs.lemmas.Result.{err_from_is_err_and}
+use Rattle.hsm_replay.proofs.Going.{goes_itself, goes_then, stopped_then}
+use Rattle.hsm_replay.proofs.Growing.{have_grown_itself, have_grown_on}
+use Rattle.hsm_cli.proofs.Following.{run_to_none, run_more, first_run}
 use Rattle.hsm_cli.proofs.runs.run_lines.Goals as goal
+
+pub loop-line-init : goal.loop-line-init
+loop-line-init g c = record {
+  can = search rules;
+  ends = search rules;
+  limits = refl;
+  drives = have_grown_itself g.M.Drive _;
+  goes_on = goes_itself g.D.Disk _;
+  working = c.requires.ready.store.working;
+  run = run_to_none g.D.Disk g.M.Drive _ c.requires.ready;
+  lawful = search rules;
+  left = search rules;
+}
 
 pub loop-line-preserved : goal.loop-line-preserved
 loop-line-preserved g c =
     let step : into_iter_items c.loop-line.line-iterator ≡ c.in-Some.line ∷ into_iter_items c.next.new.self = search (rules, c.in-Some.ensures.steps) in
+    let moves = c.in_ok-line.ensures.moves in
     record {
       can = tt;
       ends = tt;
-      goes_on = goes_then g.D.Disk _ _ _ c.loop-line.invariant.goes_on c.in_ok-run_line.ensures.goes_on;
-      working = c.in_ok-run_line.ensures.working;
-      follows = follows_more c.loop-line.yielded c.in-Some.line _ _ c.in_ok-run_line.ensures.ok c.loop-line.invariant.follows;
+      limits = moves.limits ∙ c.loop-line.invariant.limits;
+      drives = have_grown_on g.M.Drive _ _ _ c.loop-line.invariant.drives moves.drives;
+      goes_on = goes_then g.D.Disk _ _ _ c.loop-line.invariant.goes_on moves.runs.goes_on;
+      working = moves.runs.works c.loop-line.invariant.working;
+      run = run_more g.D.Disk g.M.Drive _ c.loop-line.yielded c.in-Some.line _ _ c.loop-line.invariant.run moves;
       lawful = (rw step at c.loop-line.invariant.lawful).1;
       left = rw (append_assoc, ← step) c.loop-line.invariant.left;
     }
 
-pub returns-in_err-run_line-clause-first : goal.returns-in_err-run_line-clause-first
-returns-in_err-run_line-clause-first g c =
+pub returns-in_err-line-clause-limits : goal.returns-in_err-line-clause-limits
+returns-in_err-line-clause-limits g c = c.in_err-line.ensures.moves.limits ∙ c.loop-line.invariant.limits
+
+pub returns-in_err-line-clause-drives : goal.returns-in_err-line-clause-drives
+returns-in_err-line-clause-drives g c = have_grown_on g.M.Drive _ _ _ c.loop-line.invariant.drives c.in_err-line.ensures.moves.drives
+
+pub returns-in_err-line-clause-runs : goal.returns-in_err-line-clause-runs
+returns-in_err-line-clause-runs g c =
+    let p = err_from_is_err_and c.from_residual.result c.from_residual.ensures.1 in
+    let runs = c.in_err-line.ensures.moves.runs in
+    rw (p.1, p.2) (record { goes_on = goes_then g.D.Disk _ _ _ c.loop-line.invariant.goes_on runs.goes_on; works = λ working. stopped_then g.D.Disk c.args.replay.now.store c.loop-line.replay.store c.line.new.self.store _ c.loop-line.invariant.goes_on (runs.works c.loop-line.invariant.working) })
+
+pub returns-in_err-line-clause-first : goal.returns-in_err-line-clause-first
+returns-in_err-line-clause-first g c =
     let step : into_iter_items c.loop-line.line-iterator ≡ c.in-Some.line ∷ into_iter_items c.next.new.self = search (rules, c.in-Some.ensures.steps) in
-    first_on c.args.lines.items c.loop-line.yielded c.in-Some.line (into_iter_items c.next.new.self) _ _ (rw step at c.loop-line.invariant.left) c.loop-line.invariant.follows c.in_err-run_line.ensures.err
+    first_run g.D.Disk g.M.Drive _ c.args.lines.items c.loop-line.yielded c.in-Some.line (into_iter_items c.next.new.self) _ _ (rw step at c.loop-line.invariant.left) c.loop-line.invariant.run c.in_err-line.ensures.moves

@@ -32,29 +32,29 @@ returns-in-Err-open-clause-legality g c = legal_as g.H.Disk.Disk c.unopened-in-E
 -- the drives, and what the host has left
 
 module _ (g : Over) (c : After-serve-served g) where
-  back : GivesBack g.H.Drive.Drive (g.H.Host.stores c.args.host.now c.args.dir.now) (Some c.in-Ok-open.hsm.opened) c.serve-served.result.cause c.ask_for_drives-ready.result.1
+  back : GivesBack g.H.Drive.Drive (g.H.Host.stores c.args.host.now c.args.dir.now) (Some c.in-Ok-open.hsm.opened) c.serve-served.result.cause c.serve-served.result.drives.items
   back =
-      gives_back g.H.Drive.Drive (g.H.Host.stores c.args.host.now c.args.dir.now) (g.H.Host.stores c.disk.new.self c.args.dir.now) (c.disk.ensures.folders c.args.dir.now) c.in-Ok-open.hsm.opened c.ask_for_drives-ready.result.0 c.serve-served.result.cause
-      c.ask_for_drives-ready.result.1 c.ask_for_drives-ready.ensures.given c.ask_for_drives-ready.ensures.none c.ask_for_drives-ready.ensures.ready c.serve-served.ensures.unready
+      gives_back g.H.Drive.Drive (g.H.Host.stores c.args.host.now c.args.dir.now) (g.H.Host.stores c.disk.new.self c.args.dir.now) (c.disk.ensures.folders c.args.dir.now) c.in-Ok-open.hsm.opened (λ ds. ds.items) c.ask_for_drives-drives.result c.serve-served.result.cause
+      c.serve-served.result.drives.items c.ask_for_drives-drives.ensures.given c.serve-served.ensures.drives c.ask_for_drives-drives.ensures.ready c.serve-served.ensures.unready
       (host_failed _ _ (source_told g.I.Source.left g.I.Source.fault_count c.args.source.now c.serve-served.new.source) (sink_told g.O.Sink.taken g.O.Sink.fault_count c.args.sink.now c.serve-served.new.sink) c.serve-served.result.cause c.serve-served.ensures.ends)
 
 pub returns-in-Ok-open-clause-drives : goal.returns-in-Ok-open-clause-drives
 returns-in-Ok-open-clause-drives g c =
-    subst (λ (s : Store g.row.H-Disk.Denot). GivesBack g.H.Drive.Drive (g.H.Host.stores c.args.host.now c.args.dir.now) (Some s) c.serve-served.result.cause c.ask_for_drives-ready.result.1) (sym c.serve-served.ensures.opening)
-    (back g (goal.at.returns-in-Ok-open-clause-drives g c).After-serve-served)
+    rw c.from-in-Ok-open.ensures (subst (λ (s : Store g.row.H-Disk.Denot). GivesBack g.H.Drive.Drive (g.H.Host.stores c.args.host.now c.args.dir.now) (Some s) c.serve-served.result.cause c.serve-served.result.drives.items) (sym c.serve-served.ensures.opening)
+    (back g (goal.at.returns-in-Ok-open-clause-drives g c).After-serve-served))
 
 pub returns-in-Ok-open-clause-lent : goal.returns-in-Ok-open-clause-lent
-returns-in-Ok-open-clause-lent g c = λ is. inr (refl, none_at_fault g.H.Drive.Drive (g.H.Host.stores c.args.host.now c.args.dir.now) (g.H.Host.stores c.disk.new.self c.args.dir.now) (c.disk.ensures.folders c.args.dir.now) c.in-Ok-open.hsm.opened c.serve-served.result.cause c.ask_for_drives-ready.result.1 (back g (goal.at.returns-in-Ok-open-clause-lent g c).After-serve-served) is)
+returns-in-Ok-open-clause-lent g c = λ is. inr (refl, rw c.from-in-Ok-open.ensures (none_at_fault g.H.Drive.Drive (g.H.Host.stores c.args.host.now c.args.dir.now) (g.H.Host.stores c.disk.new.self c.args.dir.now) (c.disk.ensures.folders c.args.dir.now) c.in-Ok-open.hsm.opened c.serve-served.result.cause c.serve-served.result.drives.items (back g (goal.at.returns-in-Ok-open-clause-lent g c).After-serve-served) is))
 
 pub returns-in-Ok-open-clause-folders : goal.returns-in-Ok-open-clause-folders
-returns-in-Ok-open-clause-folders g c = drives_came c.args.dir.now (g.H.Host.stores c.args.host.now) (g.H.Host.stores c.disk.new.self) (g.H.Host.stores c.ask_for_drives-ready.new.host) c.ask_for_drives-ready.result.1 c.disk.ensures.folders c.ask_for_drives-ready.ensures.folders
+returns-in-Ok-open-clause-folders g c = rw c.from-in-Ok-open.ensures (drives_came g.H.Drive.Drive (λ ds. ds.items) c.args.dir.now (g.H.Host.stores c.args.host.now) (g.H.Host.stores c.disk.new.self) (g.H.Host.stores c.ask_for_drives-drives.new.host) c.ask_for_drives-drives.result c.serve-served.result.drives.items c.disk.ensures.folders c.ask_for_drives-drives.ensures.folders c.serve-served.ensures.drives)
 
 pub returns-in-Ok-open-clause-host : goal.returns-in-Ok-open-clause-host
-returns-in-Ok-open-clause-host g c = disk_came c.args.path.now (g.H.Host.holds c.args.host.now) (g.H.Host.holds c.disk.new.self) (g.H.Host.holds c.ask_for_drives-ready.new.host) c.serve-served.result.disk c.in-Ok.ensures.gone c.disk.ensures.others c.ask_for_drives-ready.ensures.disks
+returns-in-Ok-open-clause-host g c = disk_came c.args.path.now (g.H.Host.holds c.args.host.now) (g.H.Host.holds c.disk.new.self) (g.H.Host.holds c.ask_for_drives-drives.new.host) c.serve-served.result.disk c.in-Ok.ensures.gone c.disk.ensures.others c.ask_for_drives-drives.ensures.disks
 
 pub returns-in-Ok-open-clause-why : goal.returns-in-Ok-open-clause-why
 returns-in-Ok-open-clause-why g c =
     why_served g.H.Disk.Disk (g.H.Host.holds c.args.host.now c.args.path.now) (source_told g.I.Source.left g.I.Source.fault_count c.args.source.now c.serve-served.new.source) (sink_told g.O.Sink.taken g.O.Sink.fault_count c.args.sink.now c.serve-served.new.sink)
-    (host_told g.H.Host.fault_count c.args.host.now c.ask_for_drives-ready.new.host) (Some c.serve-served.result.disk) (host_told g.H.Host.fault_count c.disk.new.self c.ask_for_drives-ready.new.host) c.ask_for_drives-ready.result.0 _ c.serve-served.result.cause
-    c.disk.ensures.cause.never_falls refl c.ask_for_drives-ready.ensures.why
+    (host_told g.H.Host.fault_count c.args.host.now c.ask_for_drives-drives.new.host) (Some c.serve-served.result.disk) (host_told g.H.Host.fault_count c.disk.new.self c.ask_for_drives-drives.new.host) c.ask_for_drives-drives.result _ c.serve-served.result.cause
+    c.disk.ensures.cause.never_falls refl c.ask_for_drives-drives.ensures.why
     (λ rose. record { disk = c.serve-served.result.disk; back = refl; rose = rose_from 0 (g.H.Disk.Disk.fault_count c.in-Ok-open.hsm.opened.disk) (g.H.Disk.Disk.fault_count c.serve-served.result.disk) (omega arith) rose }) c.serve-served.ensures.ends

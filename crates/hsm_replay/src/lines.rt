@@ -1,0 +1,69 @@
+// Lines of scripts, run on a store with its drives and its daemons.
+ghost use Rattle.std.specs.Prelude.{ℕ, Option, OnOk};
+ghost use Rattle.script_text.specs.Lines.{IsLine, IsEvent};
+ghost use Rattle.script_text.specs.declared.lines.Line.TheVariants.{Event};
+ghost use Rattle.hsm_replay.specs.Follows.{IsPartOf};
+ghost use Rattle.hsm_replay.specs.Keeping.{Moves};
+ghost use Rattle.hsm_replay.specs.Doing.{Does};
+ghost use Rattle.hsm_replay.specs.Running.{commit_line, IsAllDurable};
+
+use crate::replay::Replay;
+use crate::stops::{Stop, answered, told};
+use disk_model::Disk;
+use media_model::Drive;
+use plain_model::{Action, Actor, synced_grows};
+use script_text::Line;
+use std::alloc::Global;
+
+impl<D: Disk, M: Drive> Replay<D, M> {
+    /// Runs the line: an event line as one event, `start` and `kill` as none, `step` as at most one act of the daemon, and `settle` as the events of
+    /// [`settle`](Replay::settle). After an error the history may have the first of the line's events.
+    pub fn line(&mut self, alloc: Global, line: Line) -> Result<(), Stop>
+        requires { IsLine line }
+        ensures moves { Moves D.Disk M.Drive (IsPartOf line) result self.old self.new }
+        ensures does { Does D.Disk M.Drive line result self.old self.new }
+    {
+        match line {
+            Line::Event { actor, action, .. } => self.event(alloc, actor, action),
+            Line::Start(daemon) => {
+                self.start(alloc, daemon);
+                Ok(())
+            }
+            Line::Kill(daemon) => {
+                self.kill(daemon);
+                Ok(())
+            }
+            Line::Step(daemon) => self.step(alloc, daemon),
+            Line::Settle => self.settle(alloc),
+        }
+    }
+
+    /// Makes the event.
+    fn event(&mut self, alloc: Global, actor: Actor, action: Action) -> Result<(), Stop>
+        requires { (seed : Option ℕ) × IsEvent actor action seed }
+        ensures moves { (seed : Option ℕ) → Moves D.Disk M.Drive (IsPartOf (Event actor action seed)) result self.old self.new }
+        ensures does { (seed : Option ℕ) → Does D.Disk M.Drive (Event actor action seed) result self.old self.new }
+    {
+        self.kept();
+        match (&actor, action) {
+            (Actor::Caller(caller), Action::Issue(call)) => {
+                answered(&self.hsm.issue(alloc, *caller, call))
+            }
+            (Actor::Caller(caller), Action::Resume) => answered(&self.hsm.resume(alloc, *caller)),
+            (Actor::Session(sid), Action::Dm(call)) => told(&self.hsm.dm(alloc, *sid, call)),
+            (Actor::Store, Action::Commit) => self.commit(alloc),
+            _ => unreachable!(),
+        }
+    }
+
+    /// Makes all durable that is held, as one event.
+    pub fn commit(&mut self, alloc: Global) -> Result<(), Stop>
+        ensures moves { Moves D.Disk M.Drive (IsPartOf commit_line) result self.old self.new }
+        ensures does { Does D.Disk M.Drive commit_line result self.old self.new }
+        ensures durable { OnOk result (IsAllDurable self.new.store) }
+    {
+        synced_grows();
+        self.kept();
+        answered(&self.hsm.commit(alloc))
+    }
+}
