@@ -1,5 +1,5 @@
 -- What starts and ends of daemons keep.
-use Rattle.std.proofs.Common.{◌≡◌, ◌⊎◌, ◌++◌, [], List, Option, Some, None, IfSome, Result, Ok, Err, true, inl, inr, refl, sym, ap, subst, append-nil, ◌∙◌}
+use Rattle.std.proofs.Common.{◌≡◌, ◌++◌, [], ℕ, List, Option, Some, None, IfSome, Result, Ok, Err, true, inl, inr, refl, sym, ap, subst, append-nil, ◌∙◌}
 use Rattle.std.specs.Option.{option_map, option_or}
 use Rattle.disk_model.specs.declared.device.Disk as disk
 use Rattle.media_model.specs.declared.drive.Drive as drive
@@ -9,8 +9,12 @@ use Rattle.hsm_types.specs.declared.daemons.Daemon.{Daemon}
 use Rattle.hsm_types.specs.declared.daemons.Daemon.TheVariants.{Recall, Migrate}
 use Rattle.hsm_types.specs.declared.daemons.Heard.{Heard}
 use Rattle.hsm_types.specs.declared.daemons.Heard.TheVariants as heard
+use Rattle.hsm_types.specs.declared.dm.DmCall.{DmCall}
+use Rattle.hsm_types.specs.declared.dm.DmCall.TheVariants as dm_call
+use Rattle.hsm_types.specs.declared.dm.DmReply.TheVariants as dm_reply
 use Rattle.hsm_types.specs.declared.media.Fault.{Fault}
 use Rattle.hsm_policy.specs.Settings.{Numbers}
+use Rattle.daemon_session.specs.Seats.{Seat, seat_hears}
 use Rattle.recall_daemon.specs.Known as recall
 use Rattle.recall_daemon.specs.Machine as recaller
 use Rattle.migrate_daemon.specs.Known as migrate
@@ -21,7 +25,7 @@ use Rattle.hsm_replay.specs.declared.stops.Stop.{Stop}
 use Rattle.hsm_replay.specs.Faults.{faults_in}
 use Rattle.hsm_replay.specs.Keeping.{IsShownAs, RecallKnows, MigrateKnows, IsMarked, Shows, Moves}
 use Rattle.hsm_replay.specs.Marks.{Mark}
-use Rattle.hsm_replay.specs.Quiet.{refreshed}
+use Rattle.hsm_replay.specs.Quiet.{untold, refreshed}
 use Rattle.hsm_replay.specs.Served.{shown, nothing_shown}
 use Rattle.hsm_replay.specs.Systems.{System, started, killed}
 use Rattle.hsm_replay.proofs.Growing.{have_grown_itself}
@@ -54,11 +58,42 @@ module _ (k : migrate.Known) where
   fresh_knows limits known (Fetch entry) told = fresh_same known
   fresh_knows limits known Idle told = fresh_same known
 
-  migrate_refreshes : (m : Migrating) → MigrateKnows k m → MigrateKnows k (record m { machine = migrator.freshened m.machine })
-  migrate_refreshes m (inl start) = inl start
-  migrate_refreshes m (inr known) = let same = fresh_knows m.machine.limits m.machine.known m.machine.asked m.heard in inr (record { seat = same.seat ∙ known.seat; punched = same.punched ∙ known.punched })
+  -- and one that isn't told of the space knows as much of all else
+  seat_untold : (s : Seat) (c : DmCall) (used total : ℕ) → s ≡ seat_hears Migrate s c (dm_reply.Space used total)
+  seat_untold s dm_call.GetAllSessions used total = refl
+  seat_untold s (dm_call.QuerySession target) used total = refl
+  seat_untold s (dm_call.CreateSession old info) used total = refl
+  seat_untold s (dm_call.SetDisp kinds) used total = refl
+  seat_untold s dm_call.GetAllTokens used total = refl
+  seat_untold s (dm_call.FindEventMsg t room) used total = refl
+  seat_untold s (dm_call.GetEvents max room) used total = refl
+  seat_untold s (dm_call.Respond t response) used total = refl
+  seat_untold s c used total = refl
 
-  migrate_refreshes_if : (o : Option Migrating) → IfSome o (MigrateKnows k) → IfSome (option_map (λ (m : Migrating). record m { machine = migrator.freshened m.machine }) o) (MigrateKnows k)
+  space_same : (limits : Numbers) (known : migrate.Known) (c : DmCall) (used total : ℕ) → IsShownAs known (migrate.hears limits known c (dm_reply.Space used total))
+  space_same limits known dm_call.GetSpace used total = record { seat = refl; punched = refl }
+  space_same limits known dm_call.GetTable used total = record { seat = seat_untold known.seat dm_call.GetTable used total; punched = refl }
+  space_same limits known (dm_call.PunchHole t handle offset len) used total = record { seat = seat_untold known.seat (dm_call.PunchHole t handle offset len) used total; punched = refl }
+  space_same limits known c used total = record { seat = seat_untold known.seat c used total; punched = refl }
+
+  untold_space : (limits : Numbers) (known : migrate.Known) (asked : Act) (used total : ℕ) → IsShownAs (migrate.knows_by limits known asked heard.Nothing) (migrate.knows_by limits known asked (heard.Dm (dm_reply.Space used total)))
+  untold_space limits known (Dm sid c) used total = space_same limits known c used total
+  untold_space limits known (Copy volume handle segment bytes) used total = record { seat = refl; punched = refl }
+  untold_space limits known (Fetch entry) used total = record { seat = refl; punched = refl }
+  untold_space limits known Idle used total = record { seat = refl; punched = refl }
+
+  untold_knows : (limits : Numbers) (known : migrate.Known) (asked : Act) (told : Heard) → IsShownAs (migrate.knows_by limits known asked (untold told)) (migrate.knows_by limits known asked told)
+  untold_knows limits known asked (heard.Dm (dm_reply.Space used total)) = untold_space limits known asked used total
+  untold_knows limits known asked told = record { seat = refl; punched = refl }
+
+  migrate_refreshes : (m : Migrating) → MigrateKnows k m → MigrateKnows k (record m { machine = migrator.freshened m.machine; heard = untold m.heard })
+  migrate_refreshes m (inl start) = inl (start.0, start.1, ap untold start.2)
+  migrate_refreshes m (inr known) =
+      let same = fresh_knows m.machine.limits m.machine.known m.machine.asked (untold m.heard) in
+      let told = untold_knows m.machine.limits m.machine.known m.machine.asked m.heard in
+      inr (record { seat = same.seat ∙ told.seat ∙ known.seat; punched = same.punched ∙ told.punched ∙ known.punched })
+
+  migrate_refreshes_if : (o : Option Migrating) → IfSome o (MigrateKnows k) → IfSome (option_map (λ (m : Migrating). record m { machine = migrator.freshened m.machine; heard = untold m.heard }) o) (MigrateKnows k)
   migrate_refreshes_if None knows = tt
   migrate_refreshes_if (Some m) knows = migrate_refreshes m knows
 

@@ -3,9 +3,10 @@ ghost use Rattle.std.specs.Prelude.{◌≡◌, IfOk, OnErr};
 ghost use Rattle.hsm_types.specs.declared.daemons.Heard.TheVariants.{Nothing};
 ghost use Rattle.recall_daemon.specs.Machine as recall;
 ghost use Rattle.migrate_daemon.specs.Machine as migrate;
+ghost use Rattle.hsm_replay.specs.Quiet.{untold};
 
 use hsm_policy::Settings;
-use hsm_types::{Act, Heard};
+use hsm_types::{Act, DmReply, Heard};
 use migrate_daemon::Migrator;
 use recall_daemon::Recaller;
 use std::alloc::{AllocError, Global};
@@ -55,6 +56,18 @@ impl Migrating {
         Migrating {
             machine: Migrator::start(alloc, settings),
             heard: Heard::Nothing,
+        }
+    }
+
+    /// A pass by `high` may begin again. What it would hear of the space it doesn't hear, and asks again.
+    pub(crate) fn refresh(&mut self)
+        ensures machine { self.new.machine ≡ migrate.freshened self.old.machine }
+        ensures heard { self.new.heard ≡ untold self.old.heard }
+        ensures within { migrate.IsWithin self.old.heard → migrate.IsWithin self.new.heard }
+    {
+        self.machine.fresh();
+        if matches!(self.heard, Heard::Dm(DmReply::Space { .. })) {
+            self.heard = Heard::Nothing;
         }
     }
 

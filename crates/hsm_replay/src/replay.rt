@@ -198,12 +198,12 @@ impl<D: Disk, M: Drive> Replay<D, M> {
         }
     }
 
-    /// Migration may begin one pass by `high` from here on.
+    /// Migration may begin one pass by `high` from here on, by what it is told of the space from here on.
     pub(crate) fn refresh(&mut self)
         ensures { self.new ≡ refreshed self.old }
     {
         if let Some(migrating) = &mut self.migrate {
-            migrating.machine.fresh();
+            migrating.refresh();
         }
     }
 
