@@ -6,9 +6,12 @@ use Rattle.media_model.specs.declared.drive.Drive as drive
 use Rattle.media_model.specs.Objects.{Objects, Alike}
 use Rattle.hsm_policy.specs.Settings.{standard}
 use Rattle.hsm_replay.specs.Drives.{HaveGrown}
+use Rattle.marked_history.specs.Marks.{Mark}
+use Rattle.hsm_replay.specs.Sealed.{Tallies}
 use Rattle.hsm_cli.specs.declared.causes.Cause.{Cause}
 use Rattle.hsm_cli.specs.declared.causes.Cause.TheVariants.{ScriptRefused, WordsRefused, NotStore, Corrupt, ReadFault, WriteFault, DiskFault, HostFault, NoMemory}
 use Rattle.hsm_cli.specs.Hosts.{AreHanded, HoldsNothing, HoldsOthers, HoldsAll, StoresAll}
+use Rattle.hsm_cli.specs.Sealing.{TalliesSince}
 use Rattle.hsm_cli.specs.Told.{SourceTold, SinkTold, HostTold}
 use Rattle.hsm_cli.specs.Endings.{RunEnds, HandingEnds, IsBeforeReading}
 use Rattle.hsm_cli.specs.Clauses.{Why, HasFailed, GivesBack, HandsOut, HandsDrives}
@@ -19,6 +22,11 @@ module _ {S M : Type 0} (g : drive.Ghosts M) (old mid : ℕ → Objects → Type
   -- what was handed out of a folder since it had the same objects
   handed_from : (given : List M) → AreHanded g mid standard.drives standard.volumes standard.capacity given → AreHanded g old standard.drives standard.volumes standard.capacity given
   handed_from given h = record { count = h.count; counted = h.counted; room = h.room; has = h.has; there = λ v o within stored. h.there v o within ((same v).1 o stored) }
+
+  -- what marks tell with the drives that came
+  pub tallies_since : {V : Type 0} (items : V → List M) (ready : Result V Cause) (left : List M) → IfOk ready (λ ds. AreHanded g mid standard.drives standard.volumes standard.capacity (items ds)) → IfOk ready (λ ds. (marks : List Mark) → Tallies g (items ds) left standard marks → TalliesSince g old left marks)
+  tallies_since items (Ok ds) left handed = λ marks tallies. (items ds, handed_from (items ds) handed, tallies)
+  tallies_since items (Err why) left handed = tt
 
   came : (cause : Option Cause) (handed given : List M) → AreHanded g mid standard.drives standard.volumes standard.capacity handed → HaveGrown g handed given → (cause ≡ Some HostFault → ⊥) → GivesBack g old (Some opened) cause given
   came None handed given h grown works = (handed, handed_from handed h, grown)

@@ -1,32 +1,31 @@
 -- How a run ends, from how its parts end.
-use Rattle.std.proofs.Common.{inl, inr, ℕ, Bool, List, [], Option, Some, None, IfSome, IfErr, Result, Ok, Err, sym, append-nil}
+use Rattle.std.proofs.Common.{inl, inr, refl, ℕ, Bool, List, [], Option, Some, None, IfSome, IfErr, Result, Ok, Err, sym, append-nil}
 use Rattle.plain_model.specs.declared.entries.Entry.{Entry}
+use Rattle.script_text.specs.declared.lines.Line.{Line}
 use Rattle.hsm_cli.specs.declared.causes.Cause.{Cause}
 use Rattle.hsm_cli.specs.declared.causes.Cause.TheVariants.{ScriptRefused, WordsRefused, NotStore, Corrupt, ReadFault, WriteFault, DiskFault, HostFault, NoMemory}
-use Rattle.hsm_cli.specs.Follows.{RunsAll, RunsFirst, lines_run}
+use Rattle.marked_history.specs.Marks.{Mark}
+use Rattle.hsm_cli.specs.Follows.{RunsBy, FollowsFirst, IsOfScript, RunsAll, RunsFirst, lines_run}
 use Rattle.hsm_cli.specs.Told.{SourceTold, SinkTold}
 use Rattle.hsm_cli.specs.Clauses.{HasRun, IsBeforeRun}
 use Rattle.hsm_cli.specs.Endings.{cause_in, WritingEnds, first_of}
 
-module _ (commits : Bool) (source : SourceTold) (history : List Entry) where
-  all_is_first : (bytes : List ℕ) → RunsAll commits bytes history → RunsFirst commits bytes history
-  all_is_first bytes all = record {
+module _ (Settles : List Line → List Mark → Type 0) (Tells : List Mark → Type 0) (commits : Bool) (source : SourceTold) (history : List Entry) where
+  first_of_script : (given : Option (List ℕ)) (marks : List Mark) → IfSome given (λ bytes. IsOfScript (λ ls ms. RunsBy Settles (lines_run commits ls) ms) bytes marks) → IfSome given (λ bytes. IsOfScript (λ ls ms. FollowsFirst Settles (lines_run commits ls) ms) bytes marks)
+  first_of_script None marks all = tt
+  first_of_script (Some bytes) marks all = record {
     lines = all.lines;
     script = all.script;
-    marks = all.marks;
-    entries = all.entries;
-    follows = record { done = lines_run commits all.lines; rest = []; split = sym (append-nil (lines_run commits all.lines)); follows = all.follows };
-    served = all.served;
+    follows = record { done = lines_run commits all.lines; rest = []; split = sym (append-nil (lines_run commits all.lines)); ended = marks; begun = []; parted = sym (append-nil marks); runs = all.follows; next = inl refl; by = tt };
   }
 
-  if_all_is_first : (given : Option (List ℕ)) → IfSome given (λ bytes. RunsAll commits bytes history) → IfSome given (λ bytes. RunsFirst commits bytes history)
-  if_all_is_first None all = tt
-  if_all_is_first (Some bytes) all = all_is_first bytes all
+  all_is_first : RunsAll Settles Tells commits source.given history → RunsFirst Settles Tells commits source.given history
+  all_is_first all = record { marks = all.marks; entries = all.entries; script = first_of_script source.given all.marks all.script; served = all.served; tells = all.tells }
 
   -- told for want of memory
-  wants : (cause : Option Cause) → HasRun commits source cause history → HasRun commits source (Some NoMemory) history
-  wants None ran = inr (if_all_is_first source.given ran.0)
-  wants (Some WriteFault) ran = inr (if_all_is_first source.given ran.0)
+  wants : (cause : Option Cause) → HasRun Settles Tells commits source cause history → HasRun Settles Tells commits source (Some NoMemory) history
+  wants None ran = inr (all_is_first ran.0)
+  wants (Some WriteFault) ran = inr (all_is_first ran.0)
   wants (Some DiskFault) ran = ran
   wants (Some NoMemory) ran = ran
   wants (Some (ScriptRefused line)) ran = inl ran
@@ -36,8 +35,8 @@ module _ (commits : Bool) (source : SourceTold) (history : List Entry) where
   wants (Some ReadFault) ran = inl ran
   wants (Some HostFault) ran = inl ran
 
-  pub has_run : (sink : SinkTold) (ran written : Result (Unit {0}) Cause) → IfErr written (WritingEnds sink) → HasRun commits source (cause_in ran) history
-      → HasRun commits source (first_of (cause_in ran) (cause_in written)) history
+  pub has_run : (sink : SinkTold) (ran written : Result (Unit {0}) Cause) → IfErr written (WritingEnds sink) → HasRun Settles Tells commits source (cause_in ran) history
+      → HasRun Settles Tells commits source (first_of (cause_in ran) (cause_in written)) history
   has_run sink (Ok x) (Ok y) writes runs = runs
   has_run sink (Err why) (Ok y) writes runs = runs
   has_run sink ran (Err NoMemory) writes runs = wants (cause_in ran) runs

@@ -13,8 +13,8 @@ use Rattle.disk_model.specs.declared.device.Disk as disk
 use Rattle.hsm_core.specs.Kept.{IsKept}
 use Rattle.hsm_core.specs.Store.{Store as HsmStore}
 use Rattle.hsm_policy.specs.Settings.{Numbers, standard}
-use Rattle.hsm_replay.specs.Caused.{Caused, ArePackedSince, ServedIsCaused}
-use Rattle.hsm_replay.specs.Marks.{Mark}
+use Rattle.marked_history.specs.Caused.{Caused, ArePackedSince, ServedIsCaused}
+use Rattle.marked_history.specs.Marks.{Mark}
 use Rattle.hsm_replay.specs.Running.{GoesOn}
 use Rattle.hsm_replay.specs.Drives.{HaveGrown}
 use Rattle.hsm_replay.specs.Faults.{faults_in, TellsFault, IsTrue, AreTrue}
@@ -70,7 +70,7 @@ caused_new s history superblock held number caused =
 
 module _ {D : Type 0} (g : disk.Ghosts D) where
   -- a store without entries has no buffers
-  none_packed : (s : HsmStore D) → s.history ≡ [] → ArePackedSince s
+  pub none_packed : (s : HsmStore D) → s.history ≡ [] → ArePackedSince s
   none_packed s none before sid asked reply rest is = absurd (no_entry before _ rest (sym none ∙ is))
 
   -- what the history of a run on an opened store says of faults

@@ -14,3 +14,4 @@ pub mod Files
 pub mod Noted
 pub mod Committing
 pub mod Drives
+pub mod Sealing

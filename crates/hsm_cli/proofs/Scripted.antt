@@ -1,21 +1,29 @@
 -- A script that is read and run.
-use Rattle.std.proofs.Common.{◌≡◌, ◌∙◌, inl, ℕ, Bool, List, [], Option, Some, None, IfSome, Result, Ok, Err, IfErr, OnErr, sym, ap, subst}
-use Rattle.disk_model.specs.declared.device.Disk as disk
+use Rattle.std.proofs.Common.{◌≡◌, ◌∙◌, ◌⊎◌, inl, inr, ℕ, Bool, List, [], Option, Some, None, IfSome, Result, Ok, Err, IfOk, IfErr, OnErr, sym, ap, subst}
 use Rattle.media_model.specs.declared.drive.Drive as drive
+use Rattle.hsm_types.specs.declared.stores.Superblock.{Superblock}
 use Rattle.plain_model.specs.declared.entries.Entry.{Entry}
+use Rattle.plain_model.specs.State.{Held, nothing_held, just_opened}
 use Rattle.hsm_policy.specs.Settings.{Numbers, standard}
 use Rattle.script_text.specs.declared.lines.Line.{Line}
 use Rattle.script_text.specs.Scripts.{IsScript}
 use Rattle.hsm_replay.specs.Faults.{faults_in, AreTrue}
-use Rattle.hsm_replay.specs.Follows.{Follows}
-use Rattle.hsm_replay.specs.Marks.{Mark}
-use Rattle.hsm_replay.specs.Served.{Served}
+use Rattle.file_store.specs.Stores.{Store, superblock_of}
+use Rattle.marked_history.specs.Marks.{Mark}
+use Rattle.marked_history.specs.Passing.{AllPassed}
+use Rattle.hsm_replay.specs.Passes.{CopyEnds}
+use Rattle.hsm_replay.specs.Sealed.{Tallies}
+use Rattle.marked_history.specs.Served.{Served}
+use Rattle.marked_history.specs.Settling.{none_run as no_daemon, EachSettles}
+use Rattle.hsm_replay.specs.Resting.{first_of}
 use Rattle.hsm_replay.specs.Systems.{System}
 use Rattle.hsm_cli.specs.declared.causes.Cause.{Cause}
 use Rattle.hsm_cli.specs.declared.causes.Cause.TheVariants.{ScriptRefused, WordsRefused, NotStore, Corrupt, ReadFault, WriteFault, DiskFault, HostFault, NoMemory}
 use Rattle.hsm_cli.specs.Clauses.{HasRun}
-use Rattle.hsm_cli.specs.Endings.{ScriptEnds}
-use Rattle.hsm_cli.specs.Follows.{FollowsFirst, HasRunOn, IsServed, IsRunOf, RunsAll, RunsFirst, lines_run}
+use Rattle.hsm_cli.specs.Endings.{ScriptEnds, IsBeforeReading}
+use Rattle.hsm_cli.specs.Follows.{RunsBy, FollowsFirst, HasRunOn, IsServed, IsOfScript, IsRunOf, RunsAll, RunsFirst, SettlesOn, SettlesSince, lines_run}
+use Rattle.hsm_cli.specs.Openings.{replay_store}
+use Rattle.hsm_cli.specs.Sealing.{TellsOf}
 use Rattle.hsm_cli.specs.Sources.{script_bytes}
 use Rattle.hsm_cli.specs.Told.{SourceTold}
 
@@ -28,39 +36,95 @@ pub none_true : {M : Type 0} (h : drive.Ghosts M) (drives : List M) (history : L
 none_true h drives history none = subst (λ (es : List Entry). AreTrue h drives (faults_in es)) (sym none) (record { each = tt; apart = tt })
 
 -- the script was not read to its end, or refused
-pub none_run : (HostFails DiskFails : Type 0) (commits : Bool) (source : SourceTold) (why : Cause) (history : List Entry) → history ≡ [] → ScriptEnds HostFails DiskFails source why → HasRun commits source (Some why) history
-none_run HostFails DiskFails commits source (ScriptRefused line) history none ends = none
-none_run HostFails DiskFails commits source ReadFault history none ends = none
-none_run HostFails DiskFails commits source DiskFault history none ends = inl none
-none_run HostFails DiskFails commits source HostFault history none ends = none
-none_run HostFails DiskFails commits source NoMemory history none ends = inl none
-none_run HostFails DiskFails commits source WordsRefused history none ends = absurd ends
-none_run HostFails DiskFails commits source NotStore history none ends = absurd ends
-none_run HostFails DiskFails commits source (Corrupt place) history none ends = absurd ends
-none_run HostFails DiskFails commits source WriteFault history none ends = absurd ends
+pub none_run : (Settles : List Line → List Mark → Type 0) (Tells : List Mark → Type 0) (HostFails DiskFails : Type 0) (commits : Bool) (source : SourceTold) (why : Cause) (history : List Entry) → history ≡ [] → ScriptEnds HostFails DiskFails source why → HasRun Settles Tells commits source (Some why) history
+none_run Settles Tells HostFails DiskFails commits source (ScriptRefused line) history none ends = none
+none_run Settles Tells HostFails DiskFails commits source ReadFault history none ends = none
+none_run Settles Tells HostFails DiskFails commits source DiskFault history none ends = inl none
+none_run Settles Tells HostFails DiskFails commits source HostFault history none ends = none
+none_run Settles Tells HostFails DiskFails commits source NoMemory history none ends = inl none
+none_run Settles Tells HostFails DiskFails commits source WordsRefused history none ends = absurd ends
+none_run Settles Tells HostFails DiskFails commits source NotStore history none ends = absurd ends
+none_run Settles Tells HostFails DiskFails commits source (Corrupt place) history none ends = absurd ends
+none_run Settles Tells HostFails DiskFails commits source WriteFault history none ends = absurd ends
 
 -- ---- lines were run
 
-module _ {D M : Type 0} (h : drive.Ghosts M) (s : System D M) (limits : s.limits ≡ standard) where
-  run_of : (FollowsSo : List Line → List Mark → Type 0) (given : Option (List ℕ)) (lines : List Line) → IfSome given (λ bytes. IsScript (script_bytes bytes) lines) → HasRunOn h (FollowsSo lines) s → IfSome given (λ bytes. IsRunOf FollowsSo bytes s.store.history)
-  run_of FollowsSo None lines script run = tt
-  run_of FollowsSo (Some bytes) lines script run = record {
-    lines = lines;
-    script = script;
+script_of : (FollowsSo : List Line → List Mark → Type 0) (given : Option (List ℕ)) (lines : List Line) (marks : List Mark) → IfSome given (λ bytes. IsScript (script_bytes bytes) lines) → FollowsSo lines marks → IfSome given (λ bytes. IsOfScript FollowsSo bytes marks)
+script_of FollowsSo None lines marks script follows = tt
+script_of FollowsSo (Some bytes) lines marks script follows = record { lines = lines; script = script; follows = follows }
+
+module _ {D M : Type 0} {opened : List M} (h : drive.Ghosts M) (s : System D M) (limits : s.limits ≡ standard) where
+  run_of : (FollowsSo : List Line → List Mark → Type 0) (given : Option (List ℕ)) (lines : List Line) → IfSome given (λ bytes. IsScript (script_bytes bytes) lines) → HasRunOn h opened (FollowsSo lines) s → IsRunOf FollowsSo (TellsOf h opened s.drives) given s.store.history
+  run_of FollowsSo given lines script run = record {
     marks = run.marks;
     entries = run.marked.entries;
-    follows = run.follows;
+    script = script_of FollowsSo given lines run.marks script run.follows;
     served = subst (λ (n : Numbers). Served n run.marks) limits run.marked.served;
+    tells = record {
+      sealed = subst (λ (n : Numbers). Tallies h opened s.drives n run.marks) limits run.marked.sealed;
+      passes = subst (λ (n : Numbers). AllPassed (CopyEnds h s.drives n) n run.marks) limits run.marked.passes;
+    };
   }
 
-  pub all_run : (commits : Bool) (given : Option (List ℕ)) (lines : List Line) → IfSome given (λ bytes. IsScript (script_bytes bytes) lines) → HasRunOn h (Follows (lines_run commits lines)) s → IfSome given (λ bytes. RunsAll commits bytes s.store.history)
-  all_run commits given lines script run = run_of (λ ls marks. Follows (lines_run commits ls) marks) given lines script run
-
-  pub first_run : (commits : Bool) (given : Option (List ℕ)) (lines : List Line) → IfSome given (λ bytes. IsScript (script_bytes bytes) lines) → HasRunOn h (FollowsFirst (lines_run commits lines)) s → IfSome given (λ bytes. RunsFirst commits bytes s.store.history)
-  first_run commits given lines script run = run_of (λ ls marks. FollowsFirst (lines_run commits ls) marks) given lines script run
-
-  pub is_served : (FollowsSo : List Mark → Type 0) → HasRunOn h FollowsSo s → IsServed s.store.history
+  pub is_served : (FollowsSo : List Mark → Type 0) → HasRunOn h opened FollowsSo s → IsServed s.store.history
   is_served FollowsSo run = (run.marks, run.marked.entries, subst (λ (n : Numbers). Served n run.marks) limits run.marked.served)
+
+-- ---- by the default settings
+
+-- whose settles are those of the store that was opened
+module _ {D M : Type 0} {opened : List M} (h : drive.Ghosts M) (from s : System D M) (since : from.limits ≡ standard) (limits : s.limits ≡ standard) where
+  by_default : (FollowsSo : (List Line → List Mark → Type 0) → List Mark → Type 0) → HasRunOn h opened (FollowsSo (SettlesSince from)) s → HasRunOn h opened (FollowsSo (SettlesOn (Some from.store.opened))) s
+  by_default FollowsSo run = subst (λ (n : Numbers). HasRunOn h opened (FollowsSo (EachSettles n (superblock_of from.store.opened) (first_of from) no_daemon [])) s) since run
+
+  pub all_run : (commits : Bool) (given : Option (List ℕ)) (lines : List Line) → IfSome given (λ bytes. IsScript (script_bytes bytes) lines) → HasRunOn h opened (RunsBy (SettlesSince from) (lines_run commits lines)) s → RunsAll (SettlesOn (Some from.store.opened)) (TellsOf h opened s.drives) commits given s.store.history
+  all_run commits given lines script run = run_of h s limits (λ ls marks. RunsBy (SettlesOn (Some from.store.opened)) (lines_run commits ls) marks) given lines script (by_default (λ so marks. RunsBy so (lines_run commits lines) marks) run)
+
+  pub first_run : (commits : Bool) (given : Option (List ℕ)) (lines : List Line) → IfSome given (λ bytes. IsScript (script_bytes bytes) lines) → HasRunOn h opened (FollowsFirst (SettlesSince from) (lines_run commits lines)) s → RunsFirst (SettlesOn (Some from.store.opened)) (TellsOf h opened s.drives) commits given s.store.history
+  first_run commits given lines script run = run_of h s limits (λ ls marks. FollowsFirst (SettlesOn (Some from.store.opened)) (lines_run commits ls) marks) given lines script (by_default (λ so marks. FollowsFirst so (lines_run commits lines) marks) run)
+
+-- ---- what is told of what was sealed
+
+module _ (Settles : List Line → List Mark → Type 0) (Tells Says : List Mark → Type 0) (says : (marks : List Mark) → Tells marks → Says marks) where
+  run_says : (FollowsSo : List Line → List Mark → Type 0) (given : Option (List ℕ)) (history : List Entry) → IsRunOf FollowsSo Tells given history → IsRunOf FollowsSo Says given history
+  run_says FollowsSo given history run = record { marks = run.marks; entries = run.entries; script = run.script; served = run.served; tells = says run.marks run.tells }
+
+  first_says : (commits : Bool) (source : SourceTold) (history : List Entry) → (history ≡ []) ⊎ RunsFirst Settles Tells commits source.given history → (history ≡ []) ⊎ RunsFirst Settles Says commits source.given history
+  first_says commits source history (inl none) = inl none
+  first_says commits source history (inr run) = inr (run_says (λ ls marks. FollowsFirst Settles (lines_run commits ls) marks) source.given history run)
+
+  has_run_says : (commits : Bool) (source : SourceTold) (cause : Option Cause) (history : List Entry) → HasRun Settles Tells commits source cause history → HasRun Settles Says commits source cause history
+  has_run_says commits source None history ran = (run_says (λ ls marks. RunsBy Settles (lines_run commits ls) marks) source.given history ran.0, ran.1)
+  has_run_says commits source (Some WriteFault) history ran = (run_says (λ ls marks. RunsBy Settles (lines_run commits ls) marks) source.given history ran.0, ran.1)
+  has_run_says commits source (Some DiskFault) history ran = first_says commits source history ran
+  has_run_says commits source (Some NoMemory) history ran = first_says commits source history ran
+  has_run_says commits source (Some (ScriptRefused line)) history ran = ran
+  has_run_says commits source (Some WordsRefused) history ran = ran
+  has_run_says commits source (Some NotStore) history ran = ran
+  has_run_says commits source (Some (Corrupt place)) history ran = ran
+  has_run_says commits source (Some ReadFault) history ran = ran
+  has_run_says commits source (Some HostFault) history ran = ran
+
+-- a run that ended before its script was read
+none_read : (Settles : List Line → List Mark → Type 0) (Says : List Mark → Type 0) (commits : Bool) (source : SourceTold) (why : Cause) (history : List Entry) → IsBeforeReading why → history ≡ [] → HasRun Settles Says commits source (Some why) history
+none_read Settles Says commits source HostFault history before none = none
+none_read Settles Says commits source NoMemory history before none = inl none
+none_read Settles Says commits source (ScriptRefused line) history before none = absurd before
+none_read Settles Says commits source WordsRefused history before none = absurd before
+none_read Settles Says commits source NotStore history before none = absurd before
+none_read Settles Says commits source (Corrupt place) history before none = absurd before
+none_read Settles Says commits source ReadFault history before none = absurd before
+none_read Settles Says commits source WriteFault history before none = absurd before
+none_read Settles Says commits source DiskFault history before none = absurd before
+
+none_told : (Settles : List Line → List Mark → Type 0) (Says : List Mark → Type 0) (commits : Bool) (source : SourceTold) (why : Cause) (cause : Option Cause) (history : List Entry) → IsBeforeReading why → history ≡ [] → (cause ≡ Some why) ⊎ (cause ≡ Some NoMemory) → HasRun Settles Says commits source cause history
+none_told Settles Says commits source why cause history before none (inl is) = subst (λ (c : Option Cause). HasRun Settles Says commits source c history) (sym is) (none_read Settles Says commits source why history before none)
+none_told Settles Says commits source why cause history before none (inr is) = subst (λ (c : Option Cause). HasRun Settles Says commits source c history) (sym is) (inl none)
+
+-- a run with the drives that came, if any did
+pub ran_with : {V : Type 0} (Settles : List Line → List Mark → Type 0) (Tells : V → List Mark → Type 0) (Says : List Mark → Type 0) (ready : Result V Cause) (commits : Bool) (source : SourceTold) (cause : Option Cause) (history : List Entry) → IfOk ready (λ ds. (marks : List Mark) → Tells ds marks → Says marks) → IfErr ready IsBeforeReading
+    → IfErr ready (λ why. (cause ≡ Some why) ⊎ (cause ≡ Some NoMemory)) → OnErr ready (history ≡ []) → HasRun Settles (λ marks. IfOk ready (λ ds. Tells ds marks)) commits source cause history → HasRun Settles Says commits source cause history
+ran_with Settles Tells Says (Ok ds) commits source cause history says before unready idle ran = has_run_says Settles (Tells ds) Says says commits source cause history ran
+ran_with Settles Tells Says (Err why) commits source cause history says before unready idle ran = none_told Settles Says commits source why cause history before idle unready
 
 -- ---- how it ended
 
@@ -81,3 +145,10 @@ ends_for HostFails DiskFails source (Err WriteFault) ends = absurd ends
 pub idle_none : {S V : Type 0} (history : S → List Entry) (old new : S) (ready : Result V Cause) → history old ≡ [] → OnErr ready (new ≡ old) → OnErr ready (history new ≡ [])
 idle_none history old new (Ok x) none same = tt
 idle_none history old new (Err why) none same = ap history same ∙ none
+
+-- the settles of a store of that superblock that holds nothing are those of a new one
+pub settles_new : {D : Type 0} (E : Type 0) (s : Store D) (IsSo : (List Line → List Mark → Type 0) → Type 0) → superblock_of s ≡ replay_store → s.held ≡ nothing_held → s.meta.number ≡ 0 → IsSo (SettlesOn (Some s)) → IsSo (SettlesOn {D = E} None)
+settles_new E s IsSo superblock held number so =
+    subst (λ (x : Held). IsSo (EachSettles standard replay_store (just_opened 0 x) no_daemon [])) held
+    (subst (λ (n : ℕ). IsSo (EachSettles standard replay_store (just_opened n s.held) no_daemon [])) number
+    (subst (λ (x : Superblock). IsSo (EachSettles standard x (just_opened s.meta.number s.held) no_daemon [])) superblock so))

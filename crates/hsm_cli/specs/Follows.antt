@@ -1,24 +1,43 @@
 -- When a history is that of a script's lines.
-use Rattle.std.specs.Prelude.{ℕ, ◌≡◌, List, [], ◌∷◌, ◌++◌, Bool, true, false}
+use Rattle.std.specs.Prelude.{ℕ, ◌≡◌, ◌⊎◌, List, [], ◌∷◌, ◌++◌, Bool, true, false, Option, IfSome}
 use Rattle.media_model.specs.declared.drive.Drive as drive
 use Rattle.plain_model.specs.declared.entries.Entry.{Entry}
+use Rattle.plain_model.specs.State.{just_opened}
 use Rattle.hsm_policy.specs.Settings.{standard}
 use Rattle.script_text.specs.declared.lines.Line.{Line}
 use Rattle.script_text.specs.Scripts.{IsScript}
-use Rattle.hsm_replay.specs.Follows.{Follows}
+use Rattle.file_store.specs.Stores.{Store, superblock_of}
+use Rattle.marked_history.specs.Follows.{IsPartOf, Follows}
 use Rattle.hsm_replay.specs.Keeping.{IsMarked, Shows}
-use Rattle.hsm_replay.specs.Marks.{Mark, entries_of}
+use Rattle.marked_history.specs.Marks.{Mark, entries_of}
 use Rattle.hsm_replay.specs.Running.{commit_line}
-use Rattle.hsm_replay.specs.Served.{Served}
-use Rattle.hsm_replay.specs.Systems.{System}
+use Rattle.marked_history.specs.Served.{Served}
+use Rattle.marked_history.specs.Settling.{none_run, running_behind, AreByRunning, EachSettles}
+use Rattle.hsm_replay.specs.Resting.{first_of}
+use Rattle.hsm_replay.specs.Systems.{System, running}
+use Rattle.hsm_cli.specs.Openings.{superblock_at, held_at, base_of}
 use Rattle.hsm_cli.specs.Sources.{script_bytes}
 
--- the history is that of the first lines
-pub record FollowsFirst (lines : List Line) (marks : List Mark) : Type 0 where
+-- the marks follow the lines, and each settle of these has come to its end so
+pub record RunsBy (Settles : List Line → List Mark → Type 0) (lines : List Line) (marks : List Mark) : Type 0 where
+  pub follows : Follows lines marks
+  pub settles : Settles lines marks
+
+-- the marks are a part of the first line's, or none
+abbrev pub IsBegun : List Line → List Mark → Type 0
+IsBegun lines marks = (marks ≡ []) ⊎ ((line : Line) × (later : List Line) × (lines ≡ line ∷ later) × IsPartOf line marks)
+
+-- The first lines were run, and perhaps the next one was begun, by daemons that run.
+pub record FollowsFirst (Settles : List Line → List Mark → Type 0) (lines : List Line) (marks : List Mark) : Type 0 where
   pub done : List Line
   pub rest : List Line
   pub split : lines ≡ done ++ rest
-  pub follows : Follows done marks
+  pub ended : List Mark
+  pub begun : List Mark
+  pub parted : marks ≡ ended ++ begun
+  pub runs : RunsBy Settles done ended
+  pub next : IsBegun rest begun
+  pub by : AreByRunning (running_behind done none_run) begun
 
 -- what is run of a script: its lines, and a commit at the end where that is wanted
 abbrev pub lines_run : Bool → List Line → List Line
@@ -27,38 +46,52 @@ lines_run true lines = lines ++ commit_line ∷ []
 
 -- ---- of a run
 
--- the marked history of the store that lines are run on follows them so
-pub record HasRunOn {D M : Type 0} (g : drive.Ghosts M) (FollowsSo : List Mark → Type 0) (s : System D M) : Type 0 where
+-- each settle of the lines has come to its end so, since no daemon ran on this store
+abbrev pub SettlesSince : {D M : Type 0} → System D M → List Line → List Mark → Type 0
+SettlesSince s = EachSettles s.limits (superblock_of s.store.opened) (first_of s) none_run []
+
+-- on the store that was opened, by the default settings
+abbrev pub SettlesOn : {D : Type 0} → Option (Store D) → List Line → List Mark → Type 0
+SettlesOn opened = EachSettles standard (superblock_at opened) (just_opened (base_of opened) (held_at opened)) none_run []
+
+-- the marked history of the store that lines are run on follows them so, since the drives were opened as these
+pub record HasRunOn {D M : Type 0} (g : drive.Ghosts M) (opened : List M) (FollowsSo : List Mark → Type 0) (s : System D M) : Type 0 where
   pub marks : List Mark
   pub follows : FollowsSo marks
-  pub marked : IsMarked g marks s
+  pub marked : IsMarked g opened marks s
 
--- it follows the lines, and shows what the daemons know
-pub record IsRunTo {D M : Type 0} (g : drive.Ghosts M) (lines : List Line) (s : System D M) : Type 0 where
+-- The lines were run from there on. It shows what the daemons know, and which run.
+pub record IsRunTo {D M : Type 0} (g : drive.Ghosts M) (from : System D M) (lines : List Line) (s : System D M) : Type 0 where
   pub marks : List Mark
-  pub follows : Follows lines marks
-  pub shows : Shows g marks s
+  pub runs : RunsBy (SettlesSince from) lines marks
+  pub shows : Shows g from.drives marks s
+  pub running : running s ≡ running_behind lines none_run
 
 -- ---- of an outcome
 
--- The bytes are a script, and its lines are followed so by the history, in which each call of a daemon is one that it may make, by what the entries before
--- have told it.
-pub record IsRunOf (FollowsSo : List Line → List Mark → Type 0) (bytes : List ℕ) (history : List Entry) : Type 0 where
+-- the bytes are a script, whose lines are followed so
+pub record IsOfScript (FollowsSo : List Line → List Mark → Type 0) (bytes : List ℕ) (marks : List Mark) : Type 0 where
   pub lines : List Line
   pub script : IsScript (script_bytes bytes) lines
+  pub follows : FollowsSo lines marks
+
+-- Some marks of the history: where the source tells its bytes, they are a script whose lines the marks follow so; each call of a daemon is one that it may
+-- make, by what the entries before have told it; and of what was sealed the marks tell so.
+pub record IsRunOf (FollowsSo : List Line → List Mark → Type 0) (Tells : List Mark → Type 0) (given : Option (List ℕ)) (history : List Entry) : Type 0 where
   pub marks : List Mark
   pub entries : entries_of marks ≡ history
-  pub follows : FollowsSo lines marks
+  pub script : IfSome given (λ bytes. IsOfScript FollowsSo bytes marks)
   pub served : Served standard marks
+  pub tells : Tells marks
 
 -- some marks of the history show that it is served
 abbrev pub IsServed : List Entry → Type 0
 IsServed history = (marks : List Mark) × (entries_of marks ≡ history) × Served standard marks
 
--- the bytes are a script, and the history is that of all its lines
-abbrev pub RunsAll : Bool → List ℕ → List Entry → Type 0
-RunsAll commits bytes history = IsRunOf (λ lines marks. Follows (lines_run commits lines) marks) bytes history
+-- the history is that of all lines
+abbrev pub RunsAll : (List Line → List Mark → Type 0) → (List Mark → Type 0) → Bool → Option (List ℕ) → List Entry → Type 0
+RunsAll Settles Tells commits given history = IsRunOf (λ lines marks. RunsBy Settles (lines_run commits lines) marks) Tells given history
 
 -- or that of the first ones
-abbrev pub RunsFirst : Bool → List ℕ → List Entry → Type 0
-RunsFirst commits bytes history = IsRunOf (λ lines marks. FollowsFirst (lines_run commits lines) marks) bytes history
+abbrev pub RunsFirst : (List Line → List Mark → Type 0) → (List Mark → Type 0) → Bool → Option (List ℕ) → List Entry → Type 0
+RunsFirst Settles Tells commits given history = IsRunOf (λ lines marks. FollowsFirst Settles (lines_run commits lines) marks) Tells given history

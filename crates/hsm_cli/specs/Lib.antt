@@ -9,6 +9,7 @@ pub mod Commands
 pub mod Sources
 pub mod Openings
 pub mod Follows
+pub mod Sealing
 pub mod Told
 pub mod Clauses
 pub mod Endings

@@ -3,9 +3,8 @@ ghost use Rattle.std.specs.Prelude.{◌≡◌, true, OnOk};
 ghost use Rattle.std.specs.List.{AllByRecursion};
 ghost use Rattle.script_text.specs.Lines.{IsLine};
 ghost use Rattle.hsm_replay.specs.Drives.{HaveGrown};
-ghost use Rattle.hsm_replay.specs.Follows.{Follows};
 ghost use Rattle.hsm_replay.specs.Running.{Runs, IsAllDurable};
-ghost use Rattle.hsm_cli.specs.Follows.{FollowsFirst, HasRunOn, IsRunTo, lines_run};
+ghost use Rattle.hsm_cli.specs.Follows.{FollowsFirst, HasRunOn, IsRunTo, RunsBy, SettlesSince, lines_run};
 ghost use Rattle.hsm_cli.specs.Runs.{IsReady};
 
 use disk_model::Disk;
@@ -25,8 +24,8 @@ pub(crate) fn run<D: Disk, M: Drive>(
     ensures limits { replay.new.limits ≡ replay.old.limits }
     ensures drives { HaveGrown M.Drive replay.old.drives replay.new.drives }
     ensures runs { Runs D.Disk result replay.old.store replay.new.store }
-    ensures all { OnOk result (HasRunOn M.Drive (Follows (lines_run commits script)) replay.new) }
-    ensures first { HasRunOn M.Drive (FollowsFirst (lines_run commits script)) replay.new }
+    ensures all { OnOk result (HasRunOn M.Drive replay.old.drives (RunsBy (SettlesSince replay.old) (lines_run commits script)) replay.new) }
+    ensures first { HasRunOn M.Drive replay.old.drives (FollowsFirst (SettlesSince replay.old) (lines_run commits script)) replay.new }
     ensures durable { commits ≡ true → OnOk result (IsAllDurable replay.new.store) }
 {
     run_lines(alloc, replay, script.into_vec())?;
@@ -47,8 +46,8 @@ fn run_lines<D: Disk, M: Drive>(
     ensures limits { replay.new.limits ≡ replay.old.limits }
     ensures drives { HaveGrown M.Drive replay.old.drives replay.new.drives }
     ensures runs { Runs D.Disk result replay.old.store replay.new.store }
-    ensures all { OnOk result (IsRunTo M.Drive lines.items replay.new) }
-    ensures first { HasRunOn M.Drive (FollowsFirst lines.items) replay.new }
+    ensures all { OnOk result (IsRunTo M.Drive replay.old lines.items replay.new) }
+    ensures first { HasRunOn M.Drive replay.old.drives (FollowsFirst (SettlesSince replay.old) lines.items) replay.new }
 {
     for line in lines {
         replay.line(alloc, line)?;

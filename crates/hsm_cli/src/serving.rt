@@ -12,8 +12,9 @@ ghost use Rattle.hsm_policy.specs.Settings.{standard};
 ghost use Rattle.hsm_replay.specs.Drives.{HaveGrown};
 ghost use Rattle.hsm_replay.specs.Faults.{faults_in, AreTrue};
 ghost use Rattle.hsm_replay.specs.Running.{GoesOn, IsAllDurable};
+ghost use Rattle.hsm_cli.specs.Sealing.{TellsOf};
 ghost use Rattle.hsm_cli.specs.Sources.{script_bytes, GivesFirst};
-ghost use Rattle.hsm_cli.specs.Follows.{IsServed};
+ghost use Rattle.hsm_cli.specs.Follows.{IsServed, SettlesOn};
 ghost use Rattle.hsm_cli.specs.Clauses.{HasRun, HasRead, IsGoodOver, IsPlainOver, IsCausedOver, IsWhole, IsBeforeRun, RanToItsEnd};
 ghost use Rattle.hsm_cli.specs.Endings.{cause_in, IsBeforeReading, ScriptEnds, WritingEnds, RunEnds, first_of};
 ghost use Rattle.hsm_cli.specs.Told.{source_told, sink_told};
@@ -26,7 +27,8 @@ use disk_model::Disk;
 use file_store::{FileStore, one_recovery};
 use hsm_core::Hsm;
 use hsm_policy::Settings;
-use hsm_replay::{Replay, Stop, served_is_caused};
+use hsm_replay::{Replay, Stop};
+use marked_history::served_is_caused;
 use media_model::Drive;
 use plain_model::{History, render};
 use script_text::{Failed, ParseRefusal, Script, Sink, Source, parse};
@@ -66,7 +68,7 @@ pub(crate) fn serve<D: Disk, M: Drive, I: Source, O: Sink>(
     requires ready { IfErr drives IsBeforeReading }
     ensures opening { result.opening.value ≡ hsm.opened }
     ensures base { result.base ≡ hsm.opened.meta.number }
-    ensures script { HasRun commits (source_told I.left I.fault_count source.old source.new) result.cause result.history }
+    ensures script { HasRun (SettlesOn (Some hsm.opened)) (λ marks. IfOk drives (λ ds. TellsOf M.Drive ds.items result.drives.items marks)) commits (source_told I.left I.fault_count source.old source.new) result.cause result.history }
     ensures reading { HasRead (source_told I.left I.fault_count source.old source.new) result.cause }
     ensures legality { IsGoodOver (Some hsm.opened) result.history }
     ensures caused { has_fault result.history ≡ true → Rose (D.fault_count hsm.opened.disk) (D.fault_count result.disk) }
@@ -123,7 +125,7 @@ fn run_with<D: Disk, M: Drive, I: Source>(
     requires count { IfOk drives (λ ds. length ds.items ≡ standard.drives) }
     requires ready { IfErr drives IsBeforeReading }
     ensures goes_on { GoesOn D.Disk hsm result.hsm }
-    ensures ran { HasRun commits (source_told I.left I.fault_count source.old source.new) (cause_in result.ended) result.hsm.history }
+    ensures ran { HasRun (SettlesOn (Some hsm.opened)) (λ marks. IfOk drives (λ ds. TellsOf M.Drive ds.items result.drives.items marks)) commits (source_told I.left I.fault_count source.old source.new) (cause_in result.ended) result.hsm.history }
     ensures reading { HasRead (source_told I.left I.fault_count source.old source.new) (cause_in result.ended) }
     ensures part { GivesFirst (I.left source.old) (I.left source.new) }
     ensures unready { IfErr drives (λ why. cause_in result.ended ≡ Some why) }
@@ -163,7 +165,7 @@ fn run_script<D: Disk, M: Drive, I: Source>(
     requires ready { IsReady replay.old }
     requires limits { replay.old.limits ≡ standard }
     ensures goes_on { GoesOn D.Disk replay.old.store replay.new.store }
-    ensures ran { HasRun commits (source_told I.left I.fault_count source.old source.new) (cause_in result) replay.new.store.history }
+    ensures ran { HasRun (SettlesOn (Some replay.old.store.opened)) (TellsOf M.Drive replay.old.drives replay.new.drives) commits (source_told I.left I.fault_count source.old source.new) (cause_in result) replay.new.store.history }
     ensures reading { HasRead (source_told I.left I.fault_count source.old source.new) (cause_in result) }
     ensures part { GivesFirst (I.left source.old) (I.left source.new) }
     ensures ends { IfErr result (λ why. ScriptEnds ⊥ (Rose (D.fault_count replay.old.store.files.disk) (D.fault_count replay.new.store.files.disk)) (source_told I.left I.fault_count source.old source.new) why) }

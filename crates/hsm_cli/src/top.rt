@@ -10,9 +10,11 @@ ghost use Rattle.hsm_replay.specs.Faults.{faults_in, AreTrue};
 ghost use Rattle.hsm_cli.specs.Commands.{form_of, fsid_of, geometry_number};
 ghost use Rattle.hsm_cli.specs.Statuses.{status_of, place_of};
 ghost use Rattle.hsm_cli.specs.Openings.{opened_in, base_of, replay_store};
+ghost use Rattle.hsm_cli.specs.Follows.{SettlesOn};
 ghost use Rattle.hsm_cli.specs.Clauses.{ScriptClause, ReadingClause, LegalityClause, PlainClause, MediaClause, NoneFailed, IsCausedOver, CrashClause, FormatClause, HostClause, OutputClause, StatusClause, HasRun, HasRead, HasReadOn, IsGoodOver, IsPlainOver, LeavesSafe, IsFormatted, HandsOut, HasFailed, HasBegun, Why, Lacks, DrivesClause, GivesBack, HandsDrives, asked_by};
 ghost use Rattle.hsm_cli.specs.Endings.{RunEnds, FormatEnds, HandingEnds, IsBeforeReading};
 ghost use Rattle.hsm_cli.specs.Hosts.{AreHanded, HoldsAll, StoresAll};
+ghost use Rattle.hsm_cli.specs.Sealing.{IsRightInMemory, IsRightInFolder};
 ghost use Rattle.hsm_cli.specs.Told.{source_told, sink_told, host_told};
 ghost use Rattle.hsm_cli.specs.Runs.{IsOpenedAnew};
 
@@ -27,6 +29,7 @@ use disk_model::{Disk, Failed, SureDisk};
 use file_store::{formatted_is_empty, one_recovery};
 use hsm_core::Hsm;
 use hsm_policy::Settings;
+use hsm_replay::seals_are_whole;
 use hsm_types::ListOf;
 use media_model::{SureDrive, sure_drives};
 use script_text::{Sink, Source, one_script};
@@ -46,7 +49,7 @@ pub fn hsm_main<H: Host, I: Source, O: Sink>(
     source: &mut I,
     sink: &mut O,
 ) -> Outcome<H::Disk, H::Drive>
-    ensures script { ScriptClause (form_of (map string_bytes words.now)) (source_told I.left I.fault_count source.old source.new) result }
+    ensures script { ScriptClause H.Drive.Drive (H.stores host.old) (form_of (map string_bytes words.now)) (source_told I.left I.fault_count source.old source.new) result }
     ensures reading { ReadingClause (form_of (map string_bytes words.now)) (source_told I.left I.fault_count source.old source.new) result }
     ensures legality { LegalityClause H.Disk.Disk result }
     ensures plain { PlainClause result }
@@ -116,7 +119,7 @@ fn replay<D: Disk, M, I: Source, O: Sink>(
 ) -> Outcome<D, M>
     ensures new { (result.opening ≡ None) × (result.disk ≡ None) × (result.base ≡ 0) × (result.drives ≡ []) }
     ensures told { (result.status ≡ status_of result.cause) × (result.at ≡ place_of result.cause) }
-    ensures script { HasRun false (source_told I.left I.fault_count source.old source.new) result.cause result.history }
+    ensures script { HasRun (SettlesOn (opened_in result)) IsRightInMemory false (source_told I.left I.fault_count source.old source.new) result.cause result.history }
     ensures reading { HasRead (source_told I.left I.fault_count source.old source.new) result.cause }
     ensures legality { IsGoodOver {D = D} None result.history }
     ensures faultless { has_fault result.history ≡ false }
@@ -126,6 +129,7 @@ fn replay<D: Disk, M, I: Source, O: Sink>(
     ensures output { OutputClause result (sink_told O.taken O.fault_count sink.old sink.new) }
     ensures ends { RunEnds ⊥ ⊥ (source_told I.left I.fault_count source.old source.new) (sink_told O.taken O.fault_count sink.old sink.new) result.cause }
 {
+    seals_are_whole::<SureDrive>();
     match new_store(alloc) {
         Ok(hsm) => {
             let drives = new_drives(alloc);
@@ -175,7 +179,7 @@ fn replay_store<H: Host, I: Source, O: Sink>(
 ) -> Outcome<H::Disk, H::Drive>
     ensures told { (result.status ≡ status_of result.cause) × (result.at ≡ place_of result.cause) × (result.base ≡ base_of (opened_in result)) }
     ensures command { result.cause ≢ Some Cause.WordsRefused }
-    ensures script { HasRun true (source_told I.left I.fault_count source.old source.new) result.cause result.history }
+    ensures script { HasRun (SettlesOn (opened_in result)) (IsRightInFolder H.Drive.Drive (H.stores host.old dir.now) result.drives) true (source_told I.left I.fault_count source.old source.new) result.cause result.history }
     ensures reading { HasReadOn (opened_in result) (source_told I.left I.fault_count source.old source.new) result.cause }
     ensures legality { LegalityClause H.Disk.Disk result }
     ensures plain { PlainClause result }

@@ -1,5 +1,5 @@
 -- What starts and ends of daemons keep.
-use Rattle.std.proofs.Common.{◌≡◌, ◌++◌, [], ℕ, List, Option, Some, None, IfSome, Result, Ok, Err, true, inl, inr, refl, sym, ap, subst, append-nil, ◌∙◌}
+use Rattle.std.proofs.Common.{◌≡◌, ◌++◌, [], ℕ, List, Option, Some, None, IfSome, Ok, true, inl, inr, refl, sym, ap, subst, append-nil, ◌∙◌}
 use Rattle.std.specs.Option.{option_map, option_or}
 use Rattle.disk_model.specs.declared.device.Disk as disk
 use Rattle.media_model.specs.declared.drive.Drive as drive
@@ -21,16 +21,21 @@ use Rattle.migrate_daemon.specs.Known as migrate
 use Rattle.migrate_daemon.specs.Machine as migrator
 use Rattle.hsm_replay.specs.declared.daemons.Migrating.{Migrating}
 use Rattle.hsm_replay.specs.declared.daemons.Recalling.{Recalling}
-use Rattle.hsm_replay.specs.declared.stops.Stop.{Stop}
 use Rattle.hsm_replay.specs.Faults.{faults_in}
-use Rattle.hsm_replay.specs.Keeping.{IsShownAs, RecallKnows, MigrateKnows, IsMarked, Shows, Moves}
-use Rattle.hsm_replay.specs.Marks.{Mark}
-use Rattle.hsm_replay.specs.Quiet.{untold, refreshed}
-use Rattle.hsm_replay.specs.Served.{shown, nothing_shown}
+use Rattle.hsm_replay.specs.Keeping.{IsShownAs, RecallKnows, MigrateKnows, Shows, Moves}
+use Rattle.marked_history.specs.Marks.{Mark}
+use Rattle.hsm_replay.specs.Passes.{PassStands}
+use Rattle.hsm_replay.specs.Rests.{untold, refreshed}
+use Rattle.hsm_replay.specs.Sealed.{HearsLost, HearsStored}
+use Rattle.hsm_replay.specs.Filling.{FindsFull}
+use Rattle.marked_history.specs.Served.{shown, nothing_shown}
 use Rattle.hsm_replay.specs.Systems.{System, started, killed}
+use Rattle.hsm_replay.proofs.Adding.{adds_none}
+use Rattle.hsm_replay.proofs.Filling.{full_started, full_refreshed}
 use Rattle.hsm_replay.proofs.Growing.{have_grown_itself}
 use Rattle.hsm_replay.proofs.Joining.{Settles, runs_itself}
 use Rattle.hsm_replay.proofs.MigrateShown.{hears_same}
+use Rattle.hsm_replay.proofs.Passing.{started_stands, refreshed_stands}
 
 module _ {M : Type 0} (h : drive.Ghosts M) (k : recall.Known) (drives : List M) (faults : List Fault) where
   recall_starts : (o : Option Recalling) → IfSome o (RecallKnows h k drives faults) → IfSome (option_or o (Some (record { machine = recaller.started; heard = heard.Nothing }))) (RecallKnows h k drives faults)
@@ -97,33 +102,90 @@ module _ (k : migrate.Known) where
   migrate_refreshes_if None knows = tt
   migrate_refreshes_if (Some m) knows = migrate_refreshes m knows
 
+begun : {A : Type 0} (P : A → Type 0) (o : Option A) (x : A) → IfSome o P → P x → IfSome (option_or o (Some x)) P
+begun P None x has is = is
+begun P (Some y) x has is = has
+
 module _ {D M : Type 0} (g : disk.Ghosts D) (h : drive.Ghosts M) where
-  shows_started : (marks : List Mark) (daemon : Daemon) (s : System D M) → Shows h marks s → Shows h marks (started daemon s)
-  shows_started marks Recall s shows = record { marked = record { entries = shows.marked.entries; served = shows.marked.served; faults = shows.marked.faults }; recall = recall_starts h (shown s.limits nothing_shown marks).recall s.drives (faults_in s.store.history) s.recall shows.recall; migrate = shows.migrate }
-  shows_started marks Migrate s shows = record { marked = record { entries = shows.marked.entries; served = shows.marked.served; faults = shows.marked.faults }; recall = shows.recall; migrate = migrate_starts (shown s.limits nothing_shown marks).migrate s.limits s.migrate shows.migrate }
+  stored_untold : (drives : List M) (asked : Act) (told : Heard) → HearsStored h drives asked told → HearsStored h drives asked (untold told)
+  stored_untold drives (Dm sid (dm_call.Seal t handle segment entry)) (heard.Dm (dm_reply.Space used total)) stored = stored
+  stored_untold drives asked (heard.Dm (dm_reply.Space used total)) stored = tt
+  stored_untold drives asked told stored = stored
 
-  shows_killed : (marks : List Mark) (daemon : Daemon) (s : System D M) → Shows h marks s → Shows h marks (killed daemon s)
-  shows_killed marks Recall s shows = record { marked = record { entries = shows.marked.entries; served = shows.marked.served; faults = shows.marked.faults }; recall = tt; migrate = shows.migrate }
-  shows_killed marks Migrate s shows = record { marked = record { entries = shows.marked.entries; served = shows.marked.served; faults = shows.marked.faults }; recall = shows.recall; migrate = tt }
+  stored_refreshes : (drives : List M) (o : Option Migrating) → IfSome o (λ (m : Migrating). HearsStored h drives m.machine.asked m.heard) → IfSome (option_map (λ (m : Migrating). record m { machine = migrator.freshened m.machine; heard = untold m.heard }) o) (λ (m : Migrating). HearsStored h drives m.machine.asked m.heard)
+  stored_refreshes drives None stored = tt
+  stored_refreshes drives (Some m) stored = stored_untold drives m.machine.asked m.heard stored
 
-  shows_refreshed : (marks : List Mark) (s : System D M) → Shows h marks s → Shows h marks (refreshed s)
-  shows_refreshed marks s shows = record { marked = record { entries = shows.marked.entries; served = shows.marked.served; faults = shows.marked.faults }; recall = shows.recall; migrate = migrate_refreshes_if (shown s.limits nothing_shown marks).migrate s.migrate shows.migrate }
+  stands_refreshes : (limits : Numbers) (marks : List Mark) (o : Option Migrating) → IfSome o (PassStands limits marks) → IfSome (option_map (λ (m : Migrating). record m { machine = migrator.freshened m.machine; heard = untold m.heard }) o) (PassStands limits marks)
+  stands_refreshes limits marks None stands = tt
+  stands_refreshes limits marks (Some m) stands = refreshed_stands limits marks m stands
+
+  shows_started : (opened : List M) (marks : List Mark) (daemon : Daemon) (s : System D M) → Shows h opened marks s → Shows h opened marks (started daemon s)
+  shows_started opened marks Recall s shows = record {
+    marked = record { entries = shows.marked.entries; served = shows.marked.served; faults = shows.marked.faults; sealed = shows.marked.sealed; passes = shows.marked.passes };
+    recall = recall_starts h (shown s.limits nothing_shown marks).recall s.drives (faults_in s.store.history) s.recall shows.recall;
+    migrate = shows.migrate;
+    lost = begun (λ (r : Recalling). HearsLost h opened s.drives marks r.machine.asked r.heard) s.recall (record { machine = recaller.started; heard = heard.Nothing }) shows.lost tt;
+    stored = shows.stored;
+    full = shows.full;
+    passing = shows.passing;
+  }
+  shows_started opened marks Migrate s shows = record {
+    marked = record { entries = shows.marked.entries; served = shows.marked.served; faults = shows.marked.faults; sealed = shows.marked.sealed; passes = shows.marked.passes };
+    recall = shows.recall;
+    migrate = migrate_starts (shown s.limits nothing_shown marks).migrate s.limits s.migrate shows.migrate;
+    lost = shows.lost;
+    stored = begun (λ (m : Migrating). HearsStored h s.drives m.machine.asked m.heard) s.migrate (record { machine = migrator.started s.limits; heard = heard.Nothing }) shows.stored tt;
+    full = begun (FindsFull h s.drives s.limits) s.migrate (record { machine = migrator.started s.limits; heard = heard.Nothing }) shows.full (full_started h s.drives s.limits);
+    passing = begun (PassStands s.limits marks) s.migrate (record { machine = migrator.started s.limits; heard = heard.Nothing }) shows.passing (started_stands s.limits marks);
+  }
+
+  shows_killed : (opened : List M) (marks : List Mark) (daemon : Daemon) (s : System D M) → Shows h opened marks s → Shows h opened marks (killed daemon s)
+  shows_killed opened marks Recall s shows = record {
+    marked = record { entries = shows.marked.entries; served = shows.marked.served; faults = shows.marked.faults; sealed = shows.marked.sealed; passes = shows.marked.passes };
+    recall = tt;
+    migrate = shows.migrate;
+    lost = tt;
+    stored = shows.stored;
+    full = shows.full;
+    passing = shows.passing;
+  }
+  shows_killed opened marks Migrate s shows = record {
+    marked = record { entries = shows.marked.entries; served = shows.marked.served; faults = shows.marked.faults; sealed = shows.marked.sealed; passes = shows.marked.passes };
+    recall = shows.recall;
+    migrate = tt;
+    lost = shows.lost;
+    stored = tt;
+    full = tt;
+    passing = tt;
+  }
+
+  shows_refreshed : (opened : List M) (marks : List Mark) (s : System D M) → Shows h opened marks s → Shows h opened marks (refreshed s)
+  shows_refreshed opened marks s shows = record {
+    marked = record { entries = shows.marked.entries; served = shows.marked.served; faults = shows.marked.faults; sealed = shows.marked.sealed; passes = shows.marked.passes };
+    recall = shows.recall;
+    migrate = migrate_refreshes_if (shown s.limits nothing_shown marks).migrate s.migrate shows.migrate;
+    lost = shows.lost;
+    stored = stored_refreshes s.drives s.migrate shows.stored;
+    full = full_refreshed h s.drives s.limits s.migrate shows.full;
+    passing = stands_refreshes s.limits marks s.migrate shows.passing;
+  }
 
   -- ---- no events
 
   abbrev IsNone : List Mark → Type 0
   IsNone marks = marks ≡ []
 
-  still : (marks : List Mark) (s : System D M) → Shows h marks s → Shows h (marks ++ []) s
-  still marks s shows = subst (λ (ms : List Mark). Shows h ms s) (sym (append-nil marks)) shows
+  still : (opened : List M) (marks : List Mark) (s : System D M) → Shows h opened marks s → Shows h opened (marks ++ []) s
+  still opened marks s shows = subst (λ (ms : List Mark). Shows h opened ms s) (sym (append-nil marks)) shows
 
   pub starts_moves : (daemon : Daemon) (s : System D M) → Moves {T = Unit {0}} g h IsNone (Ok tt) s (started daemon s)
-  starts_moves Recall s = record { limits = refl; drives = have_grown_itself h s.drives; runs = runs_itself g h tt s.store; keeps = λ marks shows. ([], refl, still marks (started Recall s) (shows_started marks Recall s shows)); ends = tt }
-  starts_moves Migrate s = record { limits = refl; drives = have_grown_itself h s.drives; runs = runs_itself g h tt s.store; keeps = λ marks shows. ([], refl, still marks (started Migrate s) (shows_started marks Migrate s shows)); ends = tt }
+  starts_moves Recall s = record { limits = refl; drives = have_grown_itself h s.drives; runs = runs_itself g h tt s.store; adds = adds_none IsNone s (started Recall s) refl refl; adds_first = tt; keeps = λ opened marks shows. ([], refl, still opened marks (started Recall s) (shows_started opened marks Recall s shows), tt); ends = tt }
+  starts_moves Migrate s = record { limits = refl; drives = have_grown_itself h s.drives; runs = runs_itself g h tt s.store; adds = adds_none IsNone s (started Migrate s) refl refl; adds_first = tt; keeps = λ opened marks shows. ([], refl, still opened marks (started Migrate s) (shows_started opened marks Migrate s shows), tt); ends = tt }
 
   pub kills_moves : (daemon : Daemon) (s : System D M) → Moves {T = Unit {0}} g h IsNone (Ok tt) s (killed daemon s)
-  kills_moves Recall s = record { limits = refl; drives = have_grown_itself h s.drives; runs = runs_itself g h tt s.store; keeps = λ marks shows. ([], refl, still marks (killed Recall s) (shows_killed marks Recall s shows)); ends = tt }
-  kills_moves Migrate s = record { limits = refl; drives = have_grown_itself h s.drives; runs = runs_itself g h tt s.store; keeps = λ marks shows. ([], refl, still marks (killed Migrate s) (shows_killed marks Migrate s shows)); ends = tt }
+  kills_moves Recall s = record { limits = refl; drives = have_grown_itself h s.drives; runs = runs_itself g h tt s.store; adds = adds_none IsNone s (killed Recall s) refl refl; adds_first = tt; keeps = λ opened marks shows. ([], refl, still opened marks (killed Recall s) (shows_killed opened marks Recall s shows), tt); ends = tt }
+  kills_moves Migrate s = record { limits = refl; drives = have_grown_itself h s.drives; runs = runs_itself g h tt s.store; adds = adds_none IsNone s (killed Migrate s) refl refl; adds_first = tt; keeps = λ opened marks shows. ([], refl, still opened marks (killed Migrate s) (shows_killed opened marks Migrate s shows), tt); ends = tt }
 
   pub refresh_moves : (s : System D M) → Moves {T = Unit {0}} g h (Settles g h) (Ok tt) s (refreshed s)
-  refresh_moves s = record { limits = refl; drives = have_grown_itself h s.drives; runs = runs_itself g h tt s.store; keeps = λ marks shows. ([], tt, still marks (refreshed s) (shows_refreshed marks s shows)); ends = tt }
+  refresh_moves s = record { limits = refl; drives = have_grown_itself h s.drives; runs = runs_itself g h tt s.store; adds = adds_none (Settles g h) s (refreshed s) tt refl; adds_first = tt; keeps = λ opened marks shows. ([], tt, still opened marks (refreshed s) (shows_refreshed opened marks s shows), tt); ends = tt }

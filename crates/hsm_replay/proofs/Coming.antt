@@ -8,7 +8,7 @@ use Rattle.hsm_types.specs.declared.dm.DmCall.{DmCall}
 use Rattle.hsm_types.specs.declared.dm.DmCall.TheVariants.{CreateSession, GetAllSessions, QuerySession, SetDisp, GetAllTokens, FindEventMsg}
 use Rattle.hsm_types.specs.declared.keys.Sid.{Sid}
 use Rattle.daemon_session.specs.Seats.{Seat, no_seat, first_id, IsSeated, MayMake, MayEnter}
-use Rattle.hsm_replay.specs.Served.{MayCome}
+use Rattle.marked_history.specs.Served.{MayCome}
 
 -- no call of a session
 abbrev pub IsNoCall : Act → Type 0

@@ -1,10 +1,11 @@
 -- What an event of a line comes to.
-use Rattle.std.proofs.Common.{◌≡◌, ◌≢◌, ◌∙◌, ◌⊎◌, ◌∷◌, ◌++◌, [], ℕ, List, Option, None, IfSome, Result, Ok, Err, OnOk, IfErr, inl, inr, refl, sym, ap, subst}
+use Rattle.std.proofs.Common.{◌≡◌, ◌≢◌, ◌∙◌, ◌⊎◌, ◌∷◌, ◌++◌, [], ℕ, List, Option, Some, None, IfSome, Result, Ok, Err, OnOk, IfErr, inl, inr, refl, sym, ap, subst}
 use Rattle.disk_model.specs.declared.device.Disk as disk
 use Rattle.media_model.specs.declared.drive.Drive as drive
 use Rattle.hsm_types.specs.declared.calls.CallRefusal.TheVariants as refusal
 use Rattle.hsm_types.specs.declared.calls.Reply.{Reply}
 use Rattle.hsm_types.specs.declared.calls.Reply.TheVariants as calls
+use Rattle.hsm_types.specs.declared.daemons.Daemon.TheVariants.{Recall, Migrate}
 use Rattle.hsm_types.specs.declared.dm.DmCall.{DmCall}
 use Rattle.hsm_types.specs.declared.dm.DmReply.{DmReply}
 use Rattle.hsm_types.specs.declared.dm.DmCall.TheVariants.{Respond}
@@ -26,14 +27,22 @@ use Rattle.hsm_replay.specs.declared.stops.Stop.{Stop}
 use Rattle.hsm_replay.specs.declared.stops.Stop.TheVariants as stop
 use Rattle.hsm_replay.specs.Acts.{reply_of, call_reply_of, IsServed}
 use Rattle.hsm_replay.specs.Faults.{fault_in, faults_in, AreTrue}
-use Rattle.hsm_replay.specs.Keeping.{RecallKnows, MigrateKnows, IsMarked, Shows, Moves}
-use Rattle.hsm_replay.specs.Marks.{Mark, no_daemons}
-use Rattle.hsm_replay.specs.Served.{Shown, shown, nothing_shown, NamesNoFault}
-use Rattle.hsm_replay.specs.Systems.{System}
+use Rattle.hsm_replay.specs.Keeping.{RecallKnows, MigrateKnows, IsMarked, Shows, AddsFirst, Moves}
+use Rattle.marked_history.specs.Marks.{Mark, no_daemons}
+use Rattle.marked_history.specs.Served.{Shown, shown, nothing_shown, NamesNoFault}
+use Rattle.hsm_replay.specs.Passes.{CopyEnds}
+use Rattle.script_text.specs.declared.lines.Line.TheVariants.{Event}
+use Rattle.marked_history.specs.Settling.{AreByRunning}
+use Rattle.hsm_replay.specs.Doing.{Does}
+use Rattle.hsm_replay.specs.Systems.{System, running}
+use Rattle.hsm_replay.proofs.Adding.{adds_none, adds_one}
 use Rattle.hsm_replay.proofs.Going.{Hands, event_runs, event_kept, event_kept_or_not, stop_answer}
 use Rattle.hsm_replay.proofs.Growing.{have_grown_itself}
 use Rattle.hsm_replay.proofs.Moves.{stop_told}
 use Rattle.hsm_replay.proofs.Marked.{shown_more, marked_more, marked_still, no_fault_more}
+use Rattle.hsm_replay.proofs.PassMarks.{all_passed_by_other}
+use Rattle.hsm_replay.proofs.Passing.{other_stands_if}
+use Rattle.hsm_replay.proofs.Sealing.{tallies_by_other, lost_more_if}
 
 -- a caller's, or the store's own
 abbrev pub IsOfCaller : Action → Type 0
@@ -104,37 +113,63 @@ module _ {D M : Type 0} (g : disk.Ghosts D) (h : drive.Ghosts M) (old : System D
   abbrev pub mark : Mark
   mark = no_daemons (entry_of actor action given)
 
-  module _ (marks : List Mark) (shows : Shows h marks old) (kept : store.history ≡ old.store.history ++ entry_of actor action given ∷ []) where
+  module _ (opened : List M) (marks : List Mark) (shows : Shows h opened marks old) (kept : store.history ≡ old.store.history ++ entry_of actor action given ∷ []) where
     same_faults : faults_in store.history ≡ faults_in old.store.history
     same_faults = ap faults_in kept ∙ no_fault_more old.store.history (entry_of actor action given) (no_fault action none)
 
-    marked : IsMarked h (marks ++ mark ∷ []) after
-    marked = marked_more h marks mark old after shows.marked refl kept none (subst (λ (fs : List Fault). AreTrue h old.drives fs) (sym same_faults) shows.marked.faults)
+    not_recall : mark.by ≢ Some Recall
+    not_recall is = let wrong : None ≡ Some Recall = is in cc wrong
 
-    shows_on : Shows h (marks ++ mark ∷ []) after
+    not_migrate : mark.by ≢ Some Migrate
+    not_migrate is = let wrong : None ≡ Some Migrate = is in cc wrong
+
+    marked : IsMarked h opened (marks ++ mark ∷ []) after
+    marked = marked_more h opened marks mark old after shows.marked refl kept none (subst (λ (fs : List Fault). AreTrue h old.drives fs) (sym same_faults) shows.marked.faults) (tallies_by_other h opened old.drives old.limits marks shows.marked.sealed mark not_recall tt)
+        (all_passed_by_other (CopyEnds h old.drives old.limits) old.limits marks mark shows.marked.passes not_migrate)
+
+    shows_on : Shows h opened (marks ++ mark ∷ []) after
     shows_on = record {
       marked = marked;
       recall = subst (λ (fs : List Fault). IfSome old.recall (RecallKnows h (shown old.limits nothing_shown (marks ++ mark ∷ [])).recall old.drives fs)) (sym same_faults)
           (subst (λ (k : Shown). IfSome old.recall (RecallKnows h k.recall old.drives (faults_in old.store.history))) (sym (shown_more old.limits nothing_shown marks mark)) shows.recall);
       migrate = subst (λ (k : Shown). IfSome old.migrate (MigrateKnows k.migrate)) (sym (shown_more old.limits nothing_shown marks mark)) shows.migrate;
+      lost = lost_more_if h opened old.drives marks mark old.recall not_recall shows.lost;
+      stored = shows.stored;
+      full = shows.full;
+      passing = other_stands_if old.limits marks old.migrate mark not_migrate shows.passing;
     }
 
-  ended : (marks : List Mark) → Shows h marks old → (store.history ≡ old.store.history) ⊎ (store.history ≡ old.store.history ++ entry_of actor action given ∷ []) → (more : List Mark) × (IsEventOf actor action more ⊎ (more ≡ [])) × IsMarked h (marks ++ more) after
-  ended marks shows (inl same) = ([], inr refl, marked_still h marks old after shows.marked refl same (have_grown_itself h old.drives))
-  ended marks shows (inr kept) = (mark ∷ [], inl (given, refl), marked marks shows kept)
+  ended : (opened : List M) (marks : List Mark) → Shows h opened marks old → (store.history ≡ old.store.history) ⊎ (store.history ≡ old.store.history ++ entry_of actor action given ∷ []) → (more : List Mark) × (IsEventOf actor action more ⊎ (more ≡ [])) × IsMarked h opened (marks ++ more) after × AreByRunning (running old) more
+  ended opened marks shows (inl same) = ([], inr refl, marked_still h opened marks old after shows.marked refl same (have_grown_itself h old.drives), tt)
+  ended opened marks shows (inr kept) = (mark ∷ [], inl (given, refl), marked opened marks shows kept, (tt, tt))
+
+  added : (store.history ≡ old.store.history) ⊎ (store.history ≡ old.store.history ++ entry_of actor action given ∷ []) → AddsFirst (IsEventOf actor action) old after
+  added (inl same) = adds_none (λ (more : List Mark). IsEventOf actor action more ⊎ (more ≡ [])) old after (inr refl) same
+  added (inr kept) = adds_one (λ (more : List Mark). IsEventOf actor action more ⊎ (more ≡ [])) mark old after (inl (given, refl)) kept tt
 
   pub event_moves : (result : Result (Unit {0}) Stop) → OnOk result ((why : Stop) → given ≢ stop_answer why action) → IfErr result (λ why. given ≡ stop_answer why action) → Moves g h (IsEventOf actor action) result old after
   event_moves (Ok tt) ok err = record {
     limits = refl;
     drives = have_grown_itself h old.drives;
     runs = event_runs g old.store actor action given store acts is_kept hands (Ok tt) answers ok err;
-    keeps = λ marks shows. (mark ∷ [], (given, refl), shows_on marks shows (event_kept g old.store actor action given store acts is_kept hands answers ok));
+    adds = adds_one (IsEventOf actor action) mark old after (given, refl) (event_kept g old.store actor action given store acts is_kept hands answers ok) tt;
+    adds_first = tt;
+    keeps = λ opened marks shows. (mark ∷ [], (given, refl), shows_on opened marks shows (event_kept g old.store actor action given store acts is_kept hands answers ok), (tt, tt));
     ends = tt;
   }
   event_moves (Err why) ok err = record {
     limits = refl;
     drives = have_grown_itself h old.drives;
     runs = event_runs g old.store actor action given store acts is_kept hands (Err why) answers ok err;
+    adds = tt;
+    adds_first = added (event_kept_or_not g old.store actor action given store acts is_kept hands answers);
     keeps = tt;
-    ends = λ marks shows. ended marks shows (event_kept_or_not g old.store actor action given store acts is_kept hands answers);
+    ends = λ opened marks shows. ended opened marks shows (event_kept_or_not g old.store actor action given store acts is_kept hands answers);
   }
+
+  entry_kept : (result : Result (Unit {0}) Stop) → OnOk result ((why : Stop) → given ≢ stop_answer why action) → OnOk result (store.history ≡ old.store.history ++ entry_of actor action given ∷ [])
+  entry_kept (Ok tt) ok = event_kept g old.store actor action given store acts is_kept hands answers ok
+  entry_kept (Err why) ok = tt
+
+  pub event_does : (seed : Option ℕ) (result : Result (Unit {0}) Stop) → OnOk result ((why : Stop) → given ≢ stop_answer why action) → Does g h (Event actor action seed) result old after
+  event_does seed result ok = (given, answers, refl, entry_kept result ok)

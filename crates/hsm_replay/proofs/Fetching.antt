@@ -1,7 +1,7 @@
 -- What is heard of a fetch, and what a copy or a fetch leaves of the drives.
-use Rattle.std.proofs.Common.{◌≡◌, ◌∙◌, ◌∷◌, ◌%◌, [], ℕ, zero, suc, List, length, Option, Some, None, IfSome, Result, Ok, Err, refl, sym, ap, subst, length-set, arith}
+use Rattle.std.proofs.Common.{◌≡◌, ◌∙◌, ◌∷◌, ◌%◌, [], ℕ, zero, suc, true, List, length, Option, Some, None, IfSome, Result, Ok, Err, refl, sym, ap, subst, length-set, arith}
 use Rattle.std.specs.List.{AllByRecursion}
-use Rattle.std.specs.Prelude.{slice_get, slice_set, ◌≤◌}
+use Rattle.std.specs.Prelude.{slice_get, slice_set}
 use Rattle.media_model.specs.declared.drive.Drive as drive
 use Rattle.hsm_types.specs.declared.daemons.Act.TheVariants.{Fetch}
 use Rattle.hsm_types.specs.declared.daemons.Heard.TheVariants as heard
@@ -11,15 +11,14 @@ use Rattle.hsm_types.specs.declared.media.FetchRefusal.{FetchRefusal}
 use Rattle.hsm_types.specs.declared.media.FetchRefusal.TheVariants as fetching
 use Rattle.hsm_types.specs.declared.stubs.StubEntry.{StubEntry}
 use Rattle.volume_shelf.specs.Shelf.{IsCause, HasPrint}
-use Rattle.hsm_replay.specs.Acts.{FetchesFrom, CopiesTo, OnDriveOf}
+use Rattle.hsm_replay.specs.Acts.{FetchesFrom, OnDriveOf}
 use Rattle.hsm_replay.specs.Drives.{HasGrown, HaveGrown}
 use Rattle.hsm_replay.specs.Faults.{IsApart, TellsFault, IsTrue, volume_of}
 use Rattle.hsm_replay.specs.Keeping.{IsHeardOf}
-use Rattle.hsm_replay.specs.Served.{IsOf}
 use Rattle.hsm_replay.specs.Systems.{System, drive_of}
 use Rattle.hsm_replay.proofs.Growing.{reads_grow, still_tells, grown_at, all_ended, all_apart_damage}
 
-set_there : {M : Type 0} (n : ℕ) (ds : List M) (d e : M) → slice_get ds n ≡ Some d → slice_get (slice_set ds n e) n ≡ Some e
+pub set_there : {M : Type 0} (n : ℕ) (ds : List M) (d e : M) → slice_get ds n ≡ Some d → slice_get (slice_set ds n e) n ≡ Some e
 set_there n [] d e is = let wrong : None ≡ Some d = is in cc wrong
 set_there zero (x ∷ ds) d e is = refl
 set_there (suc n) (x ∷ ds) d e is = set_there n ds d e is
@@ -49,7 +48,8 @@ module _ {M : Type 0} (g : drive.Ghosts M) (ds : List M) (entry : StubEntry) (d 
       ((cause.0, cause.1), true_now (Failed volume object before after) cause.0 tells, subst (λ (n : ℕ). AllByRecursion (λ earlier. IsApart n earlier (Failed volume object before after)) faults) (sym same_count) apart_now)
   heard_of_fault faults each grown (Damaged volume object want got) cause =
       let print : HasPrint (g.gives d volume) object got = subst (λ (v : ℕ). HasPrint (g.gives d v) object got) (sym cause.0) (subst (λ (o : ℕ). HasPrint (g.gives d entry.volume) o got) (sym cause.1) cause.5) in
-      let tells : TellsFault g e (Damaged volume object want got) = still_tells g d e grown (Damaged volume object want got) (cause.3, print) in
+      let has : g.has d volume ≡ true = subst (λ (v : ℕ). g.has d v ≡ true) (sym cause.0) cause.4 in
+      let tells : TellsFault g e (Damaged volume object want got) = still_tells g d e grown (Damaged volume object want got) (cause.3, has, print) in
       ((cause.0, cause.1, cause.2), true_now (Damaged volume object want got) cause.0 tells, all_apart_damage g (length left) volume object want got faults)
 
   pub heard_of_fetch : (faults : List Fault) → AllByRecursion (IsTrue g ds) faults → (fetched : Result (List ℕ) FetchRefusal) → FetchesFrom g entry fetched d e → IsHeardOf g left faults (Fetch entry) (heard.Fetched fetched)

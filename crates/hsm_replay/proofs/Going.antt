@@ -1,9 +1,8 @@
 -- How a store goes on after an event, and why it is stopped.
-use Rattle.std.proofs.Common.{◌≡◌, ◌≢◌, ◌∙◌, ◌≤◌, ◌⊎◌, ℕ, subst, ◌∷◌, ◌++◌, [], Bool, true, false, ◌||◌, List, Result, Ok, Err, OnOk, OnErr, IfErr, inl, inr, refl, sym, ap, append-nil, append_assoc, arith}
+use Rattle.std.proofs.Common.{◌≡◌, ◌≢◌, ◌∙◌, ◌⊎◌, ℕ, subst, ◌∷◌, ◌++◌, [], Bool, true, false, ◌||◌, List, Result, Ok, Err, OnOk, IfErr, inl, inr, refl, sym, ap, append-nil, append_assoc, arith}
 use Rattle.disk_model.specs.declared.device.Disk as disk
 use Rattle.disk_model.specs.Calls.{Rose}
 use Rattle.hsm_types.specs.declared.calls.CallRefusal.TheVariants as refusal
-use Rattle.hsm_types.specs.declared.calls.Reply.{Reply}
 use Rattle.hsm_types.specs.declared.calls.Reply.TheVariants as calls
 use Rattle.hsm_types.specs.declared.dm.DmRefusal.TheVariants as dm
 use Rattle.hsm_types.specs.declared.dm.DmCall.{DmCall}
@@ -26,7 +25,7 @@ use Rattle.hsm_core.specs.Store.{Store, state_of}
 use Rattle.dm_service.specs.Handing.{HandsOut}
 use Rattle.hsm_replay.specs.declared.stops.Stop.{Stop}
 use Rattle.hsm_replay.specs.declared.stops.Stop.TheVariants as stop
-use Rattle.hsm_replay.specs.Caused.{ArePackedSince}
+use Rattle.marked_history.specs.Caused.{ArePackedSince}
 use Rattle.hsm_replay.proofs.Packing.{answer_packed}
 use Rattle.hsm_replay.specs.Running.{GoesOn, IsStoppedFor, Runs}
 

@@ -1,10 +1,10 @@
 -- Drives that are used.
-use Rattle.std.proofs.Common.{◌≡◌, ◌∙◌, ◌+◌, ◌%◌, ◌<◌, ◌≤◌, ◌∷◌, ◌++◌, [], ℕ, zero, suc, Bool, true, false, List, length, get_or, drop, Option, Some, None, IfSome, inl, inr, refl, sym, ap, subst, append_assoc, append-nil, length-append, arith}
+use Rattle.std.proofs.Common.{◌≡◌, ◌∙◌, ◌+◌, ◌%◌, ◌∷◌, ◌++◌, [], ℕ, zero, suc, Bool, true, false, List, length, get_or, drop, Option, Some, IfSome, inl, inr, refl, sym, ap, subst, append_assoc, append-nil, length-append, arith}
 use Rattle.std.specs.List.{AllByRecursion}
 use Rattle.std.specs.Prelude.{slice_get, slice_set, ◌==◌}
 use Rattle.std.proofs.lemmas.Bool.{eqb-true, eqb-false}
 use Rattle.std.proofs.lemmas.List.{get_or_append_left}
-use Rattle.media_model.specs.Objects.{Objects, Follows, Alike, KeepsVolumes}
+use Rattle.media_model.specs.Objects.{Objects, Follows}
 use Rattle.media_model.specs.declared.drive.Drive as drive
 use Rattle.hsm_types.specs.Stubs.{print_of}
 use Rattle.hsm_types.specs.declared.media.Fault.{Fault}
@@ -80,7 +80,7 @@ module _ {M : Type 0} (g : drive.Ghosts M) where
 
   pub still_tells : (old new : M) → HasGrown g old new → (fault : Fault) → TellsFault g old fault → TellsFault g new fault
   still_tells old new grown (Failed volume object before after) tells = (tells.0, omega (arith, tells.1, grown.faults))
-  still_tells old new grown (Damaged volume object want got) tells = (tells.0, later_print volume object got old new grown tells.1)
+  still_tells old new grown (Damaged volume object want got) tells = (tells.0, grown.volumes.has volume ∙ tells.1, later_print volume object got old new grown tells.2)
 
   -- ---- all drives
 

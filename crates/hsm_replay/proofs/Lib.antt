@@ -4,22 +4,37 @@ mod Within
 mod Moving
 pub mod Growing
 mod Fetching
+pub mod Sealing
+pub mod Filling
+pub mod PassMarks
+mod Passing
+mod PassCopies
 pub mod Going
 mod Marked
 mod Coming
 mod RecallShown
 mod MigrateShown
 mod Stepping
+mod Adding
 mod Moves
 mod Events
 pub mod Joining
 mod Working
 mod Beginning
-mod QuietEvents
+mod Asked
+mod Refusals
+mod Kept
+pub mod ByRunning
+mod HeldUp
+mod Due
+mod Freshness
+mod Longer
 mod Turning
+mod WhichRun
 mod Rounds
 pub mod Sending
-mod Carrying
-mod Handing
 mod Packing
-mod Causing
+mod TurnedAway
+mod Begun
+mod Calling
+mod Resting

@@ -1,5 +1,6 @@
 -- What a history shows of the migration daemon, through each of its acts.
-use Rattle.std.proofs.Common.{◌≡◌, ⊎_elim, true, false, [], refl, sym, ap, ap₂, subst, inr, ◌∙◌}
+use Rattle.std.proofs.Common.{◌≡◌, ⊎_elim, ℕ, List, true, false, [], refl, sym, ap, ap₂, subst, inl, inr, ◌∙◌}
+use Rattle.media_model.specs.declared.drive.Drive as drive
 use Rattle.hsm_types.specs.declared.daemons.Act.{Act}
 use Rattle.hsm_types.specs.declared.daemons.Act.TheVariants.{Dm, Copy, Fetch, Idle}
 use Rattle.hsm_types.specs.declared.daemons.Daemon.TheVariants.{Migrate}
@@ -9,17 +10,21 @@ use Rattle.hsm_types.specs.declared.dm.DmCall.{DmCall}
 use Rattle.hsm_types.specs.declared.dm.DmCall.TheVariants.{CreateSession, GetAllSessions, GetEvents, Respond, GetSpace, GetTable, GetRegion, SetRegion, ReadInvis, Seal, PunchHole}
 use Rattle.hsm_types.specs.declared.dm.DmReply.{DmReply}
 use Rattle.hsm_types.specs.declared.dm.DmReply.TheVariants as reply
+use Rattle.hsm_types.specs.declared.keys.Handle.{Handle}
 use Rattle.hsm_types.specs.declared.keys.Sid.{Sid}
+use Rattle.hsm_types.specs.declared.keys.Token.{Token}
 use Rattle.hsm_types.specs.declared.stubs.StubEntry.{StubEntry}
 use Rattle.hsm_policy.specs.Settings.{Numbers}
+use Rattle.hsm_policy.specs.declared.picking.Picked.{Picked}
 use Rattle.daemon_session.specs.Members.{IsRefusedOne}
 use Rattle.daemon_session.specs.Seats.{Seat, no_seat, all_marked, seat_asks, seat_hears, IsSeated}
 use Rattle.migrate_daemon.specs.Known.{Known, is_due, asks, hears, asks_by, knows_by}
-use Rattle.migrate_daemon.specs.Machine.{Machine, GoesOn, IsServed, WantsSpace, HasAll, answer_of, MayGive}
-use Rattle.migrate_daemon.specs.Passes.{Pass, IsOver}
+use Rattle.migrate_daemon.specs.Machine.{Machine, GoesOn, IsServed, WantsSpace, HasAll, answer_of, MaySeal, MayGive}
+use Rattle.migrate_daemon.specs.Passes.{Pass, IsOver, copies}
 use Rattle.hsm_replay.specs.declared.daemons.Migrating.{Migrating}
 use Rattle.hsm_replay.specs.Keeping.{IsShownAs, IsAtStart, MigrateKnows}
-use Rattle.hsm_replay.specs.Served.{MayCome, MigrateMay}
+use Rattle.hsm_replay.specs.Sealed.{IsStored, HearsStored}
+use Rattle.marked_history.specs.Served.{MayCome, MigrateMay}
 use Rattle.hsm_replay.proofs.Coming.{IsNoCall, IsBegin, may_come, unseated, only_begins}
 
 -- ---- what is known
@@ -69,7 +74,7 @@ may_call limits k l old new asked told sid call same may = come_as k.seat l.seat
 
 -- ---- at its start
 
-begins_at_once : (limits : Numbers) (k : Known) (old new : Pass) (asked : Act) (told : Heard) (sid : Sid) (call : DmCall) → k.seat ≡ no_seat → MayGive limits k old new asked told (Dm sid call) → IsBegin sid call
+pub begins_at_once : (limits : Numbers) (k : Known) (old new : Pass) (asked : Act) (told : Heard) (sid : Sid) (call : DmCall) → k.seat ≡ no_seat → MayGive limits k old new asked told (Dm sid call) → IsBegin sid call
 begins_at_once limits k old new asked told sid (GetRegion t h) none may = absurd (unseated k.seat new.sid none may.1.seated)
 begins_at_once limits k old new asked told sid (SetRegion t h regions) none may = absurd (unseated k.seat new.sid none may.1.seated)
 begins_at_once limits k old new asked told sid (ReadInvis t h offset len) none may = absurd (unseated k.seat new.sid none may.1.seated)
@@ -81,7 +86,7 @@ begins_at_once limits k old new asked told sid (GetEvents most room) none may = 
 begins_at_once limits k old new asked told sid (Respond t response) none may = absurd (unseated k.seat sid none may.0)
 begins_at_once limits k old new asked told sid call none may = only_begins Migrate k.seat asked told sid call none may
 
-no_rest : (limits : Numbers) (k : Known) (old new : Pass) (asked : Act) (told : Heard) (act : Act) → IsNoCall act → asked ≡ Idle → k.seat ≡ no_seat → MayGive limits k old new asked told act → ⊥
+pub no_rest : (limits : Numbers) (k : Known) (old new : Pass) (asked : Act) (told : Heard) (act : Act) → IsNoCall act → asked ≡ Idle → k.seat ≡ no_seat → MayGive limits k old new asked told act → ⊥
 no_rest limits k old new asked told (Dm sid call) no_call idle none may = absurd no_call
 no_rest limits k old new asked told (Copy volume h segment bytes) no_call idle none may = unseated k.seat new.sid none may.1.seated
 no_rest limits k old new asked told (Fetch entry) no_call idle none may = may
@@ -89,7 +94,7 @@ no_rest limits k old new asked told Idle no_call idle none may = ⊎_elim
     (λ (all : HasAll asked told × IsOver new × (k.seat.kept ≡ []) × (is_due limits k ≡ false) × (WantsSpace k → ⊥)). let has = all.0 in let wrong : ⊥ = rw idle at has in wrong)
     (λ (one : IsRefusedOne asked told). let is = one.3 in cc) may
 
-starts : (limits : Numbers) (k : Known) (asked : Act) (told : Heard) → asked ≡ Idle → knows_by limits k asked told ≡ k
+pub starts : (limits : Numbers) (k : Known) (asked : Act) (told : Heard) → asked ≡ Idle → knows_by limits k asked told ≡ k
 starts limits k asked told idle = subst (λ (a : Act). knows_by limits k a told ≡ k) (sym idle) refl
 
 -- ---- an act that is no call
@@ -101,6 +106,14 @@ rests limits k act told no_call = record { seat = refl; punched = refl }
 
 as_shown : (k l shown : Known) → IsShownAs k l → IsShownAs l shown → IsShownAs k shown
 as_shown k l shown first second = record { seat = first.seat ∙ second.seat; punched = first.punched ∙ second.punched }
+
+-- ---- what it seals
+
+sealed_as : {M : Type 0} (g : drive.Ghosts M) (drives : List M) (volumes : ℕ) (sid : Sid) (p : Picked) (entry : StubEntry) (asked : Act) (told : Heard) → HearsStored g drives asked told → MaySeal volumes sid p entry asked told → IsStored g drives entry
+sealed_as g drives volumes sid p entry asked told hears (inl copied) =
+    let copy = copied.0 in
+    subst (λ (x : Heard). HearsStored g drives (copies p copy.0 copy.1.0) x) copied.1 (subst (λ (a : Act). HearsStored g drives a told) copy.1.1 hears)
+sealed_as g drives volumes sid p entry asked told hears (inr again) = subst (λ (a : Act). HearsStored g drives a told) again.0 hears
 
 -- ---- what the history shows
 
@@ -132,6 +145,10 @@ module _ (k : Known) (m : Migrating) (machine : Machine) (shows : MigrateKnows k
       let as_asked : IsShownAs (asks (now m) asked) (asks k asked) = ⊎_elim (λ (start : Starts m). begins (now m) k asked (begins_only sid asked start goes).0) (λ (same : IsShownAs (now m) k). asks_same (now m) k asked same) shows in
       subst (λ (x : Known). IsShownAs x (hears limits (asks k asked) asked answer)) (sym (knows_now (Dm sid asked) (heard.Dm answer) goes))
       (hears_same machine.limits limits (asks (now m) asked) (asks k asked) asked answer as_asked)
+
+  -- it seals with what it heard of its copy
+  pub migrate_seals : {M : Type 0} (g : drive.Ghosts M) (drives : List M) → HearsStored g drives m.machine.asked m.heard → (sid : Sid) (t : Token) (h : Handle) (segment : ℕ) (entry : StubEntry) → GoesOn m.machine m.heard (Dm sid (Seal t h segment entry)) machine → IsStored g drives entry
+  migrate_seals g drives hears sid t h segment entry goes = let may = goes.may.2 in sealed_as g drives m.machine.limits.volumes machine.pass.sid goes.may.0 entry m.machine.asked m.heard hears may.2
 
   -- it fetches nothing
   pub migrate_fetches_nothing : (entry : StubEntry) → GoesOn m.machine m.heard (Fetch entry) machine → ⊥

@@ -22,8 +22,8 @@ use Rattle.dm_service.specs.Handing.{HandsOut}
 use Rattle.file_store.specs.Stores.{superblock_of}
 use Rattle.hsm_core.specs.Answers.{entry_of, own_answer, IsAnswer}
 use Rattle.hsm_core.specs.Store.{Store, state_of}
-use Rattle.hsm_replay.specs.Caused.{ArePackedSince}
-use Rattle.hsm_replay.proofs.Handing.{packed_push}
+use Rattle.marked_history.specs.Caused.{ArePackedSince}
+use Rattle.marked_history.proofs.Handing.{packed_push}
 
 -- a refusal hands out nothing
 refused_out : (t : SessionTable) (sid : Sid) (call : DmCall) (reply : DmReply) → reply ≡ Refused dm.Disk → HandsOut t sid call reply

@@ -1,5 +1,5 @@
 -- What a history shows of the recall daemon, through each of its acts.
-use Rattle.std.proofs.Common.{◌≡◌, ℕ, ◌<◌, ◌⊎◌, ⊎_elim, Bool, true, false, not, cond, List, [], ◌∷◌, ◌++◌, length, drop, if◌then◌else◌, option_map, Some, None, Ok, Err, Contains, slice_index_or, refl, sym, ap, ap₂, subst, inl, inr, ◌∙◌}
+use Rattle.std.proofs.Common.{◌≡◌, ℕ, ◌<◌, ◌⊎◌, ⊎_elim, Bool, true, false, not, cond, List, [], ◌∷◌, ◌++◌, length, drop, if◌then◌else◌, option_map, Some, None, Ok, Err, Contains, slice_index_or, refl, sym, ap, ap₂, subst, inl, inr, ◌∙◌, arith}
 use Rattle.std.proofs.lemmas.List.{get_or-map, get_or_default, length-map}
 use Rattle.std.specs.Str.{bytes_eq}
 use Rattle.media_model.specs.declared.drive.Drive as drive
@@ -30,12 +30,12 @@ use Rattle.daemon_session.specs.Members.{IsRefusedOne}
 use Rattle.daemon_session.specs.Seats.{Seat, no_seat, found_one, has_kept_token, forgot, marked_at, all_marked, seat_hears, IsSeated}
 use Rattle.daemon_session.specs.Tellings.{events_in}
 use Rattle.recall_daemon.specs.declared.away.Away.{Away}
-use Rattle.recall_daemon.specs.Known.{Known, Hand, with_hand, with_kept, handling, put_off, dropped, refused, failed, unrestored, unanswered, asks, hears, asks_by, knows_by, away_in, back_in, IsKept, IsInHand, IsNeeded, IsReady, IsFetched, IsLost, Holds, HasAll, ArePutOff, MayCall, MayGive}
+use Rattle.recall_daemon.specs.Known.{Known, Hand, with_hand, with_kept, handling, put_off, dropped, refused, failed, unrestored, unanswered, asks, hears, asks_by, knows_by, away_in, back_in, IsKept, IsInHand, IsNeeded, IsReady, IsLost, Holds, HasAll, ArePutOff, MayCall, MayGive}
 use Rattle.recall_daemon.specs.Known as recall
 use Rattle.recall_daemon.specs.Machine.{Machine, GoesOn}
 use Rattle.hsm_replay.specs.declared.daemons.Recalling.{Recalling}
 use Rattle.hsm_replay.specs.Keeping.{unmarked, IsKnownAs, IsAtStart, IsHeardOf, RecallKnows}
-use Rattle.hsm_replay.specs.Served.{IsOf, IsReason, MayCome, RecallMay}
+use Rattle.marked_history.specs.Served.{IsOf, IsReason, MayCome, RecallMay}
 use Rattle.hsm_replay.proofs.Coming.{IsNoCall, IsBegin, may_come, unseated, only_begins}
 
 -- ---- events that are put off
@@ -333,6 +333,16 @@ as_shown k l shown first second = record { seat = first.seat ∙ second.seat; ha
 abbrev now : Recalling → Known
 now r = knows_by r.machine.known r.machine.asked r.heard
 
+-- the access in hand needs a segment by whose entry the fetch found no object
+abbrev pub IsLostBy : Known → Act → Heard → Type 0
+IsLostBy k asked told = (hand : Hand) × (a : Away) × (volume : ℕ) × (object : ℕ) × (k.hand ≡ Some hand) × IsNeeded k.seat.kept hand a × (asked ≡ Fetch a.entry) × (told ≡ heard.Fetched (Err (fetching.NoObject volume object)))
+
+lost_as : (k shown : Known) (asked : Act) (told : Heard) (hand : Hand) → IsKnownAs k shown → k.hand ≡ Some hand → recall.IsReason k.seat.kept hand asked told (Abort 2) → IsLostBy shown asked told
+lost_as k shown asked told hand same held (inl lost) =
+    let of = lost.1.2 in
+    (hand, of.0, lost.1.0, lost.1.1, sym same.hand ∙ held, needed_as k.seat.kept shown.seat.kept hand of.0 (ap (λ (s : Seat). s.kept) same.seat) of.3, of.1, of.2)
+lost_as k shown asked told hand same held (inr short) = let wrong : ◌≡◌ {A = ℕ} 2 28 = short.0 in absurd (omega (arith, wrong))
+
 abbrev Starts : Recalling → Type 0
 Starts r = IsAtStart r.machine.known.seat r.machine.asked r.heard × (r.machine.known.hand ≡ None)
 
@@ -356,6 +366,13 @@ module _ {M : Type 0} (g : drive.Ghosts M) (k : Known) (drives : List M) (faults
       (λ (start : Starts r). begins (now r) k asked answer (begins_only sid asked start goes).0)
       (λ (same : IsKnownAs (now r) k). tells (now r) k asked answer same)
       shows.known)
+
+  -- it answers that there is no such object after a fetch by the entry of a needed segment
+  pub recall_lost : (sid : Sid) (t : Token) → GoesOn r.machine r.heard (Dm sid (Respond t (Abort 2))) machine → IsLostBy k r.machine.asked r.heard
+  recall_lost sid t goes = ⊎_elim
+      (λ (start : Starts r). let only : Respond t (Abort 2) ≡ GetAllSessions = (begins_only sid (Respond t (Abort 2)) start goes).0 in cc only)
+      (λ (same : IsKnownAs (now r) k). let may = goes.may.1 in lost_as (now r) k r.machine.asked r.heard may.0 same may.1 may.3)
+      shows.known
 
   -- it copies nothing
   pub recall_copies_nothing : (volume : ℕ) (handle : Handle) (segment : ℕ) (bytes : List ℕ) → GoesOn r.machine r.heard (Copy volume handle segment bytes) machine → ⊥

@@ -1,5 +1,5 @@
 -- Turns of daemons.
-use Rattle.std.proofs.Common.{◌≡◌, ◌∙◌, ◌∷◌, ◌++◌, ◌&&◌, [], Bool, true, false, List, Option, Some, None, IfSome, Result, Ok, Err, OnOk, inl, inr, refl, sym, ap, ap₂, subst, append-nil, append_assoc}
+use Rattle.std.proofs.Common.{◌≡◌, ◌∙◌, ◌∷◌, ◌++◌, ◌&&◌, [], Bool, true, false, List, Option, Some, None, IfSome, is_some, Result, Ok, Err, OnOk, inl, inr, refl, sym, ap, ap₂, subst, append-nil, append_assoc}
 use Rattle.std.specs.List.{list_all}
 use Rattle.std.specs.Prelude.{slice_set}
 use Rattle.disk_model.specs.declared.device.Disk as disk
@@ -16,28 +16,48 @@ use Rattle.hsm_types.specs.declared.dm.DmReply.{DmReply}
 use Rattle.hsm_types.specs.declared.dm.DmReply.TheVariants.{Refused}
 use Rattle.hsm_types.specs.declared.dm.DmRefusal.TheVariants.{Again, TooMany}
 use Rattle.hsm_types.specs.declared.keys.Sid.{Sid}
+use Rattle.hsm_types.specs.Rights.{Rights}
 use Rattle.plain_model.specs.declared.entries.Action.TheVariants as action
 use Rattle.plain_model.specs.declared.entries.Actor.TheVariants.{Session}
 use Rattle.plain_model.specs.declared.entries.Answer.TheVariants as answer
 use Rattle.plain_model.specs.declared.entries.Entry.{Entry}
+use Rattle.hsm_types.specs.declared.stores.Superblock.{Superblock}
+use Rattle.hsm_types.specs.declared.stubs.StubEntry.{StubEntry}
+use Rattle.plain_model.specs.Services.{dm_reply_to}
+use Rattle.plain_model.specs.State.{State}
+use Rattle.file_store.specs.Stores.{superblock_of}
 use Rattle.daemon_session.specs.Members.{IsRefusedOne}
+use Rattle.daemon_session.specs.Seats.{Seat, no_seat, all_marked, IsSeated}
 use Rattle.hsm_core.specs.Answers.{entry_of}
-use Rattle.hsm_core.specs.Store.{Store}
+use Rattle.hsm_core.specs.Store.{Store, state_of}
 use Rattle.recall_daemon.specs.Known as recall
 use Rattle.recall_daemon.specs.Machine as recaller
 use Rattle.migrate_daemon.specs.Known as migrate
 use Rattle.migrate_daemon.specs.Machine as migrator
+use Rattle.migrate_daemon.specs.Passes.{Pass}
+use Rattle.hsm_policy.specs.Settings.{Numbers}
 use Rattle.hsm_replay.specs.declared.daemons.Recalling.{Recalling}
 use Rattle.hsm_replay.specs.declared.daemons.Migrating.{Migrating}
 use Rattle.hsm_replay.specs.declared.stops.Stop.{Stop}
 use Rattle.hsm_replay.specs.Acts.{Performs, Serves}
-use Rattle.hsm_replay.specs.Quiet.{Rests, is_quiet}
-use Rattle.hsm_replay.specs.Settled.{IsTurn, IsTurnOf}
+use Rattle.hsm_replay.specs.Asking.{AsksFrom, RecallAsks, MigrateAsks}
+use Rattle.hsm_replay.specs.Rests.{Rests}
+use Rattle.marked_history.specs.Quiet.{is_quiet, is_quiet_event}
+use Rattle.marked_history.specs.Waiting.{Running}
+use Rattle.hsm_replay.specs.Settled.{IsTurn, RecallRests, IsToldSpace, NoneDue, MigrateRests, AreHeldUp}
 use Rattle.hsm_replay.specs.Steps.{IsDown, Steps, hearing}
-use Rattle.hsm_replay.specs.Systems.{System, drive_of}
-use Rattle.hsm_replay.specs.Turns.{Stands, StandsIn, IsInTurn, IsAlone, LeavesReady, GoesInTurn, HasTurned}
+use Rattle.hsm_replay.specs.Systems.{System, RecallIsRight, MigrateIsRight, drive_of, running}
+use Rattle.hsm_replay.specs.Freshness.{StaysFresh}
+use Rattle.hsm_replay.specs.Turns.{Stands, IsKeptBack, RecallStands, MigrateStands, StandsIn, IsOver, IsInTurn, IsAlone, LeavesAlike, GoesInTurn, HasTurned}
+use Rattle.hsm_replay.proofs.Asked.{recall_rest_knows, recall_asks_on, recall_rest_seated, migrate_asks_on, all_told, refusal_told}
+use Rattle.hsm_replay.proofs.Coming.{unseated as no_session}
+use Rattle.hsm_replay.proofs.Due.{space_then, space_first, none_due}
+use Rattle.hsm_replay.proofs.Freshness.{fresh_now, fresh_called, fresh_went, fresh_alone, fresh_itself, fresh_on}
+use Rattle.hsm_replay.proofs.HeldUp.{after_call, after_fetch, after_rest, held_up_at_rest, kept_back_first}
+use Rattle.hsm_replay.proofs.Longer.{over_longer}
+use Rattle.hsm_replay.proofs.Refusals.{own_reply}
 use Rattle.hsm_replay.proofs.Stepping.{recall_left, migrate_left}
-use Rattle.hsm_replay.proofs.QuietEvents.{quiet_ready}
+use Rattle.marked_history.proofs.QuietEvents.{all_quiet_append, quiet_ready, quiet_rights}
 
 -- ---- what a turn ends with
 
@@ -45,36 +65,65 @@ use Rattle.hsm_replay.proofs.QuietEvents.{quiet_ready}
 waits_so : (entries : List Entry) (asked : Act) (told : Heard) (sid : Sid) (c : DmCall) (reply : DmReply) → asked ≡ Dm sid c → told ≡ heard.Dm reply → Stands entries asked told → Stands entries (Dm sid c) (heard.Dm reply)
 waits_so entries asked told sid c reply is says stands = subst (λ (t : Heard). Stands entries (Dm sid c) t) says (subst (λ (a : Act). Stands entries a told) is stands)
 
-refused_turn : (entries : List Entry) (asked : Act) (told : Heard) → Stands entries asked told → IsRefusedOne asked told → IsTurn entries
-refused_turn entries asked told stands refused =
+refused_turn : (seat : Seat) (entries : List Entry) (asked : Act) (told : Heard) → seat ≡ no_seat → Stands entries asked told → IsRefusedOne asked told → IsTurn seat entries
+refused_turn seat entries asked told none stands refused =
     let last = waits_so entries asked told _ (CreateSession refused.0 refused.1) (Refused (TooMany refused.2)) refused.3 refused.4 stands in
-    (last.0, _, last.1, tt)
+    (last.0, _, last.1, none)
 
-recall_turn : (k : recall.Known) (entries : List Entry) (asked : Act) (told : Heard) → Stands entries asked told → recall.MayRest k asked told → IsTurn entries
-recall_turn k entries asked told stands (inl all) =
-    let last = waits_so entries asked told all.0.0 (GetEvents 0 65536) (Refused Again) all.0.1 all.0.2 stands in
-    (last.0, _, last.1, (refl, refl))
-recall_turn k entries asked told stands (inr refused) = refused_turn entries asked told stands refused
+-- a seat without its marks is set up as before
+seated_at_rest : (seat : Seat) (sid : Sid) → IsSeated seat sid → IsSeated (record seat { kept = all_marked false seat.kept }) sid
+seated_at_rest seat sid seated = record { session = seated.session; set = seated.set; found = seated.found }
 
-all_turn : (entries : List Entry) (asked : Act) (told : Heard) → Stands entries asked told → migrator.HasAll asked told → IsTurn entries
-all_turn entries (Dm sid (GetEvents most room)) (heard.Dm (Refused Again)) stands all = (stands.0, _, stands.1, all)
-all_turn entries asked told stands all = absurd all
+module _ (old : recaller.Machine) (told : Heard) (asks : RecallAsks old) where
+  abbrev recall_now : recall.Known
+  recall_now = recall.knows_by old.known old.asked told
 
-migrate_turn : (limits : _) (k : _) (pass : _) (entries : List Entry) (asked : Act) (told : Heard) → Stands entries asked told → migrator.MayRest limits k pass asked told → IsTurn entries
-migrate_turn limits k pass entries asked told stands (inl all) = all_turn entries asked told stands all.0
-migrate_turn limits k pass entries asked told stands (inr refused) = refused_turn entries asked told stands refused
+  abbrev at_rest : Seat
+  at_rest = record (recall_now.seat) { kept = all_marked false recall_now.seat.kept }
 
--- a turn has an event: no machine rests again at once
-recall_stirs : (k : recall.Known) (asked : Act) (told : Heard) → asked ≡ Idle → recall.MayRest k asked told → ⊥
-recall_stirs k asked told idle (inl all) = let wrong : Idle ≡ Dm all.0.0 (GetEvents 0 65536) = sym idle ∙ all.0.1 in cc wrong
-recall_stirs k asked told idle (inr refused) = let wrong : Idle ≡ Dm _ _ = sym idle ∙ refused.3 in cc wrong
+  same_seat : recall.MayRest recall_now old.asked told → recall_now.seat ≡ old.known.seat
+  same_seat may = ap (λ (k : recall.Known). k.seat) (recall_rest_knows old.known old.asked told may)
 
-no_all : (asked : Act) (told : Heard) → asked ≡ Idle → migrator.HasAll asked told → ⊥
-no_all asked told idle all = subst (λ (a : Act). migrator.HasAll a told) idle all
+  -- it was refused a session, and has none
+  unseated : recall.MayRest recall_now old.asked told → IsRefusedOne old.asked told → recall_now.seat ≡ no_seat
+  unseated may refused = same_seat may ∙ subst (λ (a : Act). AsksFrom old.known.seat a) refused.3 asks.seat
 
-migrate_stirs : (limits : _) (k : _) (pass : _) (asked : Act) (told : Heard) → asked ≡ Idle → migrator.MayRest limits k pass asked told → ⊥
-migrate_stirs limits k pass asked told idle (inl all) = no_all asked told idle all.0
-migrate_stirs limits k pass asked told idle (inr refused) = let wrong : Idle ≡ Dm _ _ = sym idle ∙ refused.3 in cc wrong
+  recall_turn : (entries : List Entry) → Stands entries old.asked told → recall.MayRest recall_now old.asked told → IsTurn at_rest entries
+  recall_turn entries stands (inl all) =
+      let last = waits_so entries old.asked told all.0.0 (GetEvents 0 65536) (Refused Again) all.0.1 all.0.2 stands in
+      let seated : IsSeated recall_now.seat all.0.0 = subst (λ (s : Seat). IsSeated s all.0.0) (sym (same_seat (inl all))) (recall_rest_seated old told asks all.0) in
+      (last.0, _, last.1, (refl, refl, seated_at_rest recall_now.seat all.0.0 seated))
+  recall_turn entries stands (inr refused) =
+      refused_turn at_rest entries old.asked told (ap (λ (s : Seat). record s { kept = all_marked false s.kept }) (unseated (inr refused) refused)) stands refused
+
+  recall_held_up : (entries : List Entry) (rights : Rights) → IsKeptBack entries rights recall_now old.asked → recall.MayRest recall_now old.asked told → AreHeldUp entries rights at_rest
+  recall_held_up entries rights back (inl all) = held_up_at_rest entries rights recall_now old.asked told back all.1
+  recall_held_up entries rights back (inr refused) = subst (λ (s : Seat). AreHeldUp entries rights (record s { kept = all_marked false s.kept })) (sym (unseated (inr refused) refused)) tt
+
+all_turn : (seat : Seat) (entries : List Entry) (asked : Act) (told : Heard) → AsksFrom seat asked → Stands entries asked told → migrator.HasAll asked told → IsTurn seat entries
+all_turn seat entries (Dm sid (GetEvents most room)) (heard.Dm (Refused Again)) asks stands all = (stands.0, _, stands.1, (all.0, all.1, asks))
+all_turn seat entries asked told asks stands all = absurd all
+
+module _ (limits : Numbers) (old : migrator.Machine) (told : Heard) (asks : MigrateAsks limits old) (pass : Pass) where
+  abbrev migrate_now : migrate.Known
+  migrate_now = migrate.knows_by old.limits old.known old.asked told
+
+  -- it was refused a session, and has none
+  migrate_unseated : IsRefusedOne old.asked told → migrate_now.seat ≡ no_seat
+  migrate_unseated refused = refusal_told old.limits old.known old.asked told refused ∙ subst (λ (a : Act). AsksFrom old.known.seat a) refused.3 asks.seat
+
+  migrate_turn : (entries : List Entry) → Stands entries old.asked told → IfSome migrate_now.space (IsToldSpace entries) → migrator.MayRest old.limits migrate_now pass old.asked told
+      → IsTurn migrate_now.seat entries × (migrate_now.seat.kept ≡ []) × ((sid : Sid) → IsSeated migrate_now.seat sid → NoneDue limits entries migrate_now.fresh)
+  migrate_turn entries stands space (inl all) = (
+    subst (λ (s : Seat). IsTurn s entries) (sym (all_told old.limits old.known old.asked told all.0)) (all_turn old.known.seat entries old.asked told asks.seat stands all.0),
+    all.2,
+    λ sid seated. subst (λ (ls : Numbers). NoneDue ls entries migrate_now.fresh) asks.counts (none_due old.limits entries migrate_now space all.3 all.4),
+  )
+  migrate_turn entries stands space (inr refused) = (
+    refused_turn migrate_now.seat entries old.asked told (migrate_unseated refused) stands refused,
+    ap (λ (s : Seat). s.kept) (migrate_unseated refused),
+    λ sid seated. absurd (no_session migrate_now.seat sid (migrate_unseated refused) seated),
+  )
 
 -- ---- quiet entries
 
@@ -82,54 +131,97 @@ one_quiet : (b : Bool) → (b && true) ≡ true → b ≡ true
 one_quiet true is = refl
 one_quiet false is = is
 
-both : (a b : Bool) → (a && b) ≡ true → (a ≡ true) × (b ≡ true)
-both true b is = (refl, is)
-both false b is = let wrong : false ≡ true = is in cc wrong
-
-pub both_quiet : (xs ys : List Entry) → list_all is_quiet (xs ++ ys) ≡ true → (list_all is_quiet xs ≡ true) × (list_all is_quiet ys ≡ true)
-both_quiet [] ys is = (refl, is)
-both_quiet (x ∷ xs) ys is =
-    let parts = both (is_quiet x) (list_all is_quiet (xs ++ ys)) is in
-    let rest = both_quiet xs ys parts.1 in
-    (ap₂ (λ (a b : Bool). a && b) parts.0 rest.0, rest.1)
-
 module _ {D : Type 0} where
-  pub leaves_itself : (s : Store D) → LeavesReady s s
-  leaves_itself s = ([], sym (append-nil s.history), λ quiet caller. refl)
+  pub leaves_itself : (s : Store D) → LeavesAlike s s
+  leaves_itself s = ([], sym (append-nil s.history), λ quiet. record { ready = λ caller. refl; rights = refl })
 
-  pub leaves_then : (a b c : Store D) → LeavesReady a b → LeavesReady b c → LeavesReady a c
+  pub leaves_then : (a b c : Store D) → LeavesAlike a b → LeavesAlike b c → LeavesAlike a c
   leaves_then a b c first then = (
     first.0 ++ then.0,
     then.1 ∙ ap (λ (h : List Entry). h ++ then.0) first.1 ∙ append_assoc a.history first.0 then.0,
-    λ quiet caller. let parts = both_quiet first.0 then.0 quiet in then.2 parts.1 caller ∙ first.2 parts.0 caller,
+    λ quiet. let parts = all_quiet_append first.0 then.0 quiet in let one = first.2 parts.0 in let two = then.2 parts.1 in record { ready = λ caller. two.ready caller ∙ one.ready caller; rights = two.rights ∙ one.rights },
   )
 
 module _ {D M : Type 0} (g : disk.Ghosts D) (h : drive.Ghosts M) where
   -- what a served call leaves
-  call_leaves : (sid : Sid) (c : DmCall) (reply : DmReply) (old left : System D M) → Serves g sid c reply old left → LeavesReady old.store left.store
+  call_leaves : (sid : Sid) (c : DmCall) (reply : DmReply) (old left : System D M) → Serves g sid c reply old left → LeavesAlike old.store left.store
   call_leaves sid c reply old left serves = (
     entry_of (Session sid) (action.Dm c) (answer.Dm reply) ∷ [],
     serves.added,
-    λ quiet caller. quiet_ready g old.store left.store sid c reply serves.event.told serves.still (one_quiet _ quiet) caller,
+    λ quiet. record { ready = quiet_ready g old.store left.store sid c reply serves.event.told serves.still (one_quiet _ quiet); rights = quiet_rights g old.store left.store sid c reply serves.event.told serves.still (one_quiet _ quiet) },
   )
 
   -- an entry more in a turn
   more_entries : (from entries old new : List Entry) (e : Entry) → old ≡ from ++ entries → new ≡ old ++ e ∷ [] → new ≡ from ++ (entries ++ e ∷ [])
   more_entries from entries old new e so is = is ∙ ap (λ (x : List Entry). x ++ e ∷ []) so ∙ append_assoc from entries (e ∷ [])
 
-  -- a step of a turn, and one that begins it
+  -- a step of a turn
   record StepGoes (daemon : Daemon) (old new : System D M) : Type 0 where
-    goes : GoesInTurn daemon old new
-    begins : Rests daemon old → IsInTurn daemon old.store.history new
+    alone : IsAlone daemon old new
+    runs : running new ≡ running old
+    calm : LeavesAlike old.store new.store
+    fresh : StaysFresh old new
+    on : (from entries : List Entry) → old.store.history ≡ from ++ entries → StandsIn daemon entries old → IsInTurn daemon from new
 
   -- ---- recall
 
-  module _ (old : System D M) (r : Recalling) (machine : recaller.Machine) (runs : old.recall ≡ Some r) (told : Heard) (left new : System D M) (keeps : new ≡ hearing Recall told left) where
-    stood : (entries : List Entry) → StandsIn Recall entries old → Stands entries r.machine.asked r.heard
-    stood entries stands = subst (λ (o : Option Recalling). IfSome o (λ (x : Recalling). Stands entries x.machine.asked x.heard)) runs stands
+  module _ (entries : List Entry) (rights : Rights) (r : Recalling) (machine : recaller.Machine) (stands : RecallStands entries rights r) where
+    abbrev now : recall.Known
+    now = recall.knows_by r.machine.known r.machine.asked r.heard
 
-    rested : Rests Recall old → r.machine.asked ≡ Idle
-    rested rests = subst (λ (o : Option Recalling). IfSome o (λ (x : Recalling). x.machine.asked ≡ Idle)) runs rests
+    -- what it knows next, by its act
+    back_then : (es : List Entry) (left : Rights) (act : Act) (told : Heard) → recaller.GoesOn r.machine r.heard act machine → IsKeptBack es left (recall.knows_by (recall.asks_by now act) act told) act → IsKeptBack es left (recall.knows_by machine.known machine.asked told) machine.asked
+    back_then es left act told goes back = subst (λ (k : recall.Known). IsKeptBack es left (recall.knows_by k machine.asked told) machine.asked) (sym goes.known) (subst (λ (a : Act). IsKeptBack es left (recall.knows_by (recall.asks_by now act) a told) a) (sym goes.asked) back)
+
+    stands_then : (es : List Entry) (left : Rights) (act : Act) (told : Heard) → recaller.GoesOn r.machine r.heard act machine → Stands es act told → (list_all is_quiet es ≡ true → IsKeptBack es left (recall.knows_by (recall.asks_by now act) act told) act) → RecallStands es left (record { machine = machine; heard = told })
+    stands_then es left act told goes at back = record {
+      asks = recall_asks_on r.machine r.heard stands.asks act machine goes;
+      stands = subst (λ (a : Act). Stands es a told) (sym goes.asked) at;
+      back = λ quiet. back_then es left act told goes (back quiet);
+    }
+
+    fetch_stands : (entry : StubEntry) (told : Heard) → recaller.GoesOn r.machine r.heard (Fetch entry) machine → RecallStands entries rights (record { machine = machine; heard = told })
+    fetch_stands entry told goes = stands_then entries rights (Fetch entry) told goes tt (λ quiet. absurd (after_fetch entries rights now r.machine.asked r.heard (stands.back quiet) entry goes.may))
+
+    rest_stands : recaller.GoesOn r.machine r.heard Idle machine → RecallStands entries rights (record { machine = machine; heard = heard.Nothing })
+    rest_stands goes = stands_then entries rights Idle heard.Nothing goes tt (λ quiet. after_rest entries rights now r.machine.asked r.heard (stands.back quiet))
+
+    rest_ends : recaller.GoesOn r.machine r.heard Idle machine → IsTurn machine.known.seat entries × (list_all is_quiet entries ≡ true → AreHeldUp entries rights machine.known.seat)
+    rest_ends goes = subst (λ (k : recall.Known). IsTurn k.seat entries × (list_all is_quiet entries ≡ true → AreHeldUp entries rights k.seat)) (sym goes.known)
+        (recall_turn r.machine r.heard stands.asks entries stands.stands goes.may, λ quiet. recall_held_up r.machine r.heard stands.asks entries rights (stands.back quiet) goes.may)
+
+  -- its call was answered by the store itself
+  call_stands : (entries : List Entry) (s : Superblock) (st : State) (left : Rights) (r : Recalling) (machine : recaller.Machine) (sid : Sid) (c : DmCall) (reply : DmReply) → RecallStands entries st.rights r → recaller.GoesOn r.machine r.heard (Dm sid c) machine → reply ≡ dm_reply_to s st sid c → (is_quiet_event (action.Dm c) (answer.Dm reply) ≡ true → left ≡ st.rights)
+      → RecallStands (entries ++ entry_of (Session sid) (action.Dm c) (answer.Dm reply) ∷ []) left (record { machine = machine; heard = heard.Dm reply })
+  call_stands entries s st left r machine sid c reply stands goes own same =
+      let e : Entry = entry_of (Session sid) (action.Dm c) (answer.Dm reply) in
+      stands_then entries st.rights r machine stands (entries ++ e ∷ []) left (Dm sid c) (heard.Dm reply) goes (entries, refl) (λ quiet. back quiet)
+    where
+      es : List Entry
+      es = entries ++ entry_of (Session sid) (action.Dm c) (answer.Dm reply) ∷ []
+
+      back : list_all is_quiet es ≡ true → IsKeptBack es left (recall.knows_by (recall.asks_by (recall.knows_by r.machine.known r.machine.asked r.heard) (Dm sid c)) (Dm sid c) (heard.Dm reply)) (Dm sid c)
+      back quiet =
+          let parts = all_quiet_append entries (entry_of (Session sid) (action.Dm c) (answer.Dm reply) ∷ []) quiet in
+          let one : is_quiet_event (action.Dm c) (answer.Dm reply) ≡ true = one_quiet _ parts.1 in
+          subst (λ (rights : Rights). IsKeptBack es rights (recall.knows_by (recall.asks_by (recall.knows_by r.machine.known r.machine.asked r.heard) (Dm sid c)) (Dm sid c) (heard.Dm reply)) (Dm sid c)) (sym (same one))
+          (after_call entries (recall.knows_by r.machine.known r.machine.asked r.heard) r.machine.asked r.heard s st (stands.back parts.0) stands.stands sid c reply goes.may own parts.0 one)
+
+  module _ (old : System D M) (r : Recalling) (machine : recaller.Machine) (runs : old.recall ≡ Some r) (told : Heard) (left new : System D M) (keeps : new ≡ hearing Recall told left) where
+    abbrev held : Rights
+    held = (state_of old.store).rights
+
+    abbrev with_recall : Option Recalling → Running
+    with_recall o = record { recall = is_some o; migrate = is_some old.migrate }
+
+    runs_on : with_recall (Some r) ≡ with_recall old.recall
+    runs_on = ap with_recall (sym runs)
+
+    stood : (entries : List Entry) → StandsIn Recall entries old → RecallStands entries held r
+    stood entries stands = subst (λ (o : Option Recalling). IfSome o (RecallStands entries held)) runs stands
+
+    no_rest : (act : Act) (entries : List Entry) (then : Heard) (store : Store D) (drives : List M) → (act ≡ Idle → ⊥) → recaller.GoesOn r.machine r.heard act machine → Rests Recall (recall_left old machine then store drives) → IsOver Recall entries (recall_left old machine then store drives)
+    no_rest act entries then store drives works goes idle = absurd (works (sym goes.asked ∙ idle))
 
     recall_goes : (act : Act) → recaller.GoesOn r.machine r.heard act machine → Performs g h (recall_left old machine heard.Nothing old.store old.drives) act told left → StepGoes Recall old new
     recall_goes (Dm sid c) goes performs =
@@ -137,44 +229,76 @@ module _ {D M : Type 0} (g : disk.Ghosts D) (h : drive.Ghosts M) where
         let serves = performs.2 in
         let e : Entry = entry_of (Session sid) (action.Dm c) (answer.Dm reply) in
         let is : new ≡ recall_left old machine (heard.Dm reply) left.store old.drives = keeps ∙ ap (λ (s : System D M). hearing Recall told s) serves.event.rest ∙ ap (λ (t : Heard). recall_left old machine t left.store old.drives) performs.1 in
-        let standing : (first : List Entry) → Stands (first ++ e ∷ []) machine.asked (heard.Dm reply) = λ first. subst (λ (a : Act). Stands (first ++ e ∷ []) a (heard.Dm reply)) (sym goes.asked) (first, refl) in
+        let own : reply ≡ dm_reply_to (superblock_of old.store.opened) (state_of old.store) sid c = own_reply g old.store left.store sid c reply serves.event.told serves.added serves.still in
         subst (λ (s : System D M). StepGoes Recall old s) (sym is) (record {
-          goes = record {
-            alone = refl;
-            calm = call_leaves sid c reply (recall_left old machine heard.Nothing old.store old.drives) left serves;
-            on = λ from at. (at.0 ++ e ∷ [], more_entries from at.0 old.store.history left.store.history e at.1 serves.added, standing at.0);
-          };
-          begins = λ rests. (e ∷ [], serves.added, standing []);
+          alone = refl;
+          runs = runs_on;
+          calm = call_leaves sid c reply (recall_left old machine heard.Nothing old.store old.drives) left serves;
+          fresh = fresh_alone old (recall_left old machine (heard.Dm reply) left.store old.drives) (e ∷ []) serves.added refl;
+          on = λ from entries so stands. (
+            entries ++ e ∷ [],
+            more_entries from entries old.store.history left.store.history e so serves.added,
+            call_stands entries (superblock_of old.store.opened) (state_of old.store) (state_of left.store).rights r machine sid c reply (stood entries stands) goes own (quiet_rights g old.store left.store sid c reply serves.event.told serves.still),
+            no_rest (Dm sid c) (entries ++ e ∷ []) (heard.Dm reply) left.store old.drives (λ idle. cc idle) goes,
+          );
         })
     recall_goes (Copy volume handle segment bytes) goes performs = absurd goes.may
     recall_goes (Fetch entry) goes performs =
         let on = performs.3 in
         let drives : List M = slice_set old.drives (drive_of entry.volume old.drives) on.1 in
         let is : new ≡ recall_left old machine told old.store drives = keeps ∙ ap (λ (s : System D M). hearing Recall told s) on.4 in
-        let standing : (entries : List Entry) → Stands entries machine.asked told = λ entries. subst (λ (a : Act). Stands entries a told) (sym goes.asked) tt in
         subst (λ (s : System D M). StepGoes Recall old s) (sym is) (record {
-          goes = record { alone = refl; calm = leaves_itself old.store; on = λ from at. (at.0, at.1, standing at.0) };
-          begins = λ rests. ([], sym (append-nil old.store.history), standing []);
+          alone = refl;
+          runs = runs_on;
+          calm = leaves_itself old.store;
+          fresh = fresh_alone old (recall_left old machine told old.store drives) [] (sym (append-nil old.store.history)) refl;
+          on = λ from entries so stands. (entries, so, fetch_stands entries held r machine (stood entries stands) entry told goes, no_rest (Fetch entry) entries told old.store drives (λ idle. cc idle) goes);
         })
     recall_goes Idle goes performs =
         let is : new ≡ recall_left old machine heard.Nothing old.store old.drives = keeps ∙ ap₂ (λ (t : Heard) (s : System D M). hearing Recall t s) performs.0 performs.1 in
         subst (λ (s : System D M). StepGoes Recall old s) (sym is) (record {
-          goes = record {
-            alone = refl;
-            calm = leaves_itself old.store;
-            on = λ from at. (at.0, at.1, subst (λ (a : Act). Stands at.0 a heard.Nothing) (sym goes.asked) (recall_turn (recall.knows_by r.machine.known r.machine.asked r.heard) at.0 r.machine.asked r.heard (stood at.0 at.2) goes.may));
-          };
-          begins = λ rests. absurd (recall_stirs (recall.knows_by r.machine.known r.machine.asked r.heard) r.machine.asked r.heard (rested rests) goes.may);
+          alone = refl;
+          runs = runs_on;
+          calm = leaves_itself old.store;
+          fresh = fresh_alone old (recall_left old machine heard.Nothing old.store old.drives) [] (sym (append-nil old.store.history)) refl;
+          on = λ from entries so stands. let ends = rest_ends entries held r machine (stood entries stands) goes in (entries, so, rest_stands entries held r machine (stood entries stands) goes, λ idle. record { turn = record { rests = idle; turn = ends.0 }; held_up = ends.1 });
         })
 
   -- ---- migration
 
-  module _ (old : System D M) (m : Migrating) (machine : migrator.Machine) (runs : old.migrate ≡ Some m) (told : Heard) (left new : System D M) (keeps : new ≡ hearing Migrate told left) where
-    stood_so : (entries : List Entry) → StandsIn Migrate entries old → Stands entries m.machine.asked m.heard
-    stood_so entries stands = subst (λ (o : Option Migrating). IfSome o (λ (x : Migrating). Stands entries x.machine.asked x.heard)) runs stands
+  module _ (limits : Numbers) (entries : List Entry) (m : Migrating) (machine : migrator.Machine) (stands : MigrateStands limits entries m) where
+    abbrev then_knows : migrate.Known
+    then_knows = migrate.knows_by m.machine.limits m.machine.known m.machine.asked m.heard
 
-    rested_so : Rests Migrate old → m.machine.asked ≡ Idle
-    rested_so rests = subst (λ (o : Option Migrating). IfSome o (λ (x : Migrating). x.machine.asked ≡ Idle)) runs rests
+    migrate_then : (es : List Entry) (act : Act) (told : Heard) → migrator.GoesOn m.machine m.heard act machine → Stands es act told → IfSome (migrate.knows_by machine.limits (migrate.asks_by then_knows act) act told).space (IsToldSpace es) → MigrateStands limits es (record { machine = machine; heard = told })
+    migrate_then es act told goes at space = record {
+      asks = migrate_asks_on m.machine m.heard limits act machine stands.asks goes;
+      stands = subst (λ (a : Act). Stands es a told) (sym goes.asked) at;
+      space = subst (λ (k : migrate.Known). IfSome (migrate.knows_by machine.limits k machine.asked told).space (IsToldSpace es)) (sym goes.known) (subst (λ (a : Act). IfSome (migrate.knows_by machine.limits (migrate.asks_by then_knows act) a told).space (IsToldSpace es)) (sym goes.asked) space);
+    }
+
+    migrate_ends : migrator.GoesOn m.machine m.heard Idle machine → MigrateRests limits entries machine
+    migrate_ends goes =
+        let ends = migrate_turn limits m.machine m.heard stands.asks machine.pass entries stands.stands stands.space goes.may in
+        record {
+          rests = goes.asked;
+          turn = subst (λ (k : migrate.Known). IsTurn k.seat entries) (sym goes.known) ends.0;
+          none = subst (λ (k : migrate.Known). k.seat.kept ≡ []) (sym goes.known) ends.1;
+          none_due = subst (λ (k : migrate.Known). (sid : Sid) → IsSeated k.seat sid → NoneDue limits entries k.fresh) (sym goes.known) ends.2;
+        }
+
+  module _ (old : System D M) (m : Migrating) (machine : migrator.Machine) (runs : old.migrate ≡ Some m) (told : Heard) (left new : System D M) (keeps : new ≡ hearing Migrate told left) where
+    abbrev with_migrate : Option Migrating → Running
+    with_migrate o = record { recall = is_some old.recall; migrate = is_some o }
+
+    runs_so : with_migrate (Some m) ≡ with_migrate old.migrate
+    runs_so = ap with_migrate (sym runs)
+
+    stood_so : (entries : List Entry) → StandsIn Migrate entries old → MigrateStands old.limits entries m
+    stood_so entries stands = subst (λ (o : Option Migrating). IfSome o (MigrateStands old.limits entries)) runs stands
+
+    no_rest_so : (act : Act) (entries : List Entry) (then : Heard) (store : Store D) (drives : List M) → (act ≡ Idle → ⊥) → migrator.GoesOn m.machine m.heard act machine → Rests Migrate (migrate_left old machine then store drives) → IsOver Migrate entries (migrate_left old machine then store drives)
+    no_rest_so act entries then store drives works goes idle = absurd (works (sym goes.asked ∙ idle))
 
     migrate_goes : (act : Act) → migrator.GoesOn m.machine m.heard act machine → Performs g h (migrate_left old machine heard.Nothing old.store old.drives) act told left → StepGoes Migrate old new
     migrate_goes (Dm sid c) goes performs =
@@ -182,41 +306,55 @@ module _ {D M : Type 0} (g : disk.Ghosts D) (h : drive.Ghosts M) where
         let serves = performs.2 in
         let e : Entry = entry_of (Session sid) (action.Dm c) (answer.Dm reply) in
         let is : new ≡ migrate_left old machine (heard.Dm reply) left.store old.drives = keeps ∙ ap (λ (s : System D M). hearing Migrate told s) serves.event.rest ∙ ap (λ (t : Heard). migrate_left old machine t left.store old.drives) performs.1 in
-        let standing : (first : List Entry) → Stands (first ++ e ∷ []) machine.asked (heard.Dm reply) = λ first. subst (λ (a : Act). Stands (first ++ e ∷ []) a (heard.Dm reply)) (sym goes.asked) (first, refl) in
         subst (λ (s : System D M). StepGoes Migrate old s) (sym is) (record {
-          goes = record {
-            alone = refl;
-            calm = call_leaves sid c reply (migrate_left old machine heard.Nothing old.store old.drives) left serves;
-            on = λ from at. (at.0 ++ e ∷ [], more_entries from at.0 old.store.history left.store.history e at.1 serves.added, standing at.0);
-          };
-          begins = λ rests. (e ∷ [], serves.added, standing []);
+          alone = refl;
+          runs = runs_so;
+          calm = call_leaves sid c reply (migrate_left old machine heard.Nothing old.store old.drives) left serves;
+          fresh = (e ∷ [], serves.added, λ fresh. fresh_called m machine (fresh_now old m runs fresh) sid c reply goes);
+          on = λ from entries so stands. (
+            entries ++ e ∷ [],
+            more_entries from entries old.store.history left.store.history e so serves.added,
+            migrate_then old.limits entries m machine (stood_so entries stands) (entries ++ e ∷ []) (Dm sid c) (heard.Dm reply) goes (entries, refl) (space_then machine.limits entries (then_knows old.limits entries m machine (stood_so entries stands)) sid c reply (stood_so entries stands).space),
+            no_rest_so (Dm sid c) (entries ++ e ∷ []) (heard.Dm reply) left.store old.drives (λ idle. cc idle) goes,
+          );
         })
     migrate_goes (Copy volume handle segment bytes) goes performs =
         let on = performs.3 in
         let drives : List M = slice_set old.drives (drive_of volume old.drives) on.1 in
         let is : new ≡ migrate_left old machine told old.store drives = keeps ∙ ap (λ (s : System D M). hearing Migrate told s) on.4 in
-        let standing : (entries : List Entry) → Stands entries machine.asked told = λ entries. subst (λ (a : Act). Stands entries a told) (sym goes.asked) tt in
         subst (λ (s : System D M). StepGoes Migrate old s) (sym is) (record {
-          goes = record { alone = refl; calm = leaves_itself old.store; on = λ from at. (at.0, at.1, standing at.0) };
-          begins = λ rests. ([], sym (append-nil old.store.history), standing []);
+          alone = refl;
+          runs = runs_so;
+          calm = leaves_itself old.store;
+          fresh = ([], sym (append-nil old.store.history), λ fresh. inl (fresh_went m machine (fresh_now old m runs fresh) (Copy volume handle segment bytes) told tt goes));
+          on = λ from entries so stands. (entries, so, migrate_then old.limits entries m machine (stood_so entries stands) entries (Copy volume handle segment bytes) told goes tt (stood_so entries stands).space, no_rest_so (Copy volume handle segment bytes) entries told old.store drives (λ idle. cc idle) goes);
         })
     migrate_goes (Fetch entry) goes performs = absurd goes.may
     migrate_goes Idle goes performs =
         let is : new ≡ migrate_left old machine heard.Nothing old.store old.drives = keeps ∙ ap₂ (λ (t : Heard) (s : System D M). hearing Migrate t s) performs.0 performs.1 in
         subst (λ (s : System D M). StepGoes Migrate old s) (sym is) (record {
-          goes = record {
-            alone = refl;
-            calm = leaves_itself old.store;
-            on = λ from at. (at.0, at.1, subst (λ (a : Act). Stands at.0 a heard.Nothing) (sym goes.asked) (migrate_turn m.machine.limits (migrate.knows_by m.machine.limits m.machine.known m.machine.asked m.heard) machine.pass at.0 m.machine.asked m.heard (stood_so at.0 at.2) goes.may));
-          };
-          begins = λ rests. absurd (migrate_stirs m.machine.limits (migrate.knows_by m.machine.limits m.machine.known m.machine.asked m.heard) machine.pass m.machine.asked m.heard (rested_so rests) goes.may);
+          alone = refl;
+          runs = runs_so;
+          calm = leaves_itself old.store;
+          fresh = ([], sym (append-nil old.store.history), λ fresh. inl (fresh_went m machine (fresh_now old m runs fresh) Idle heard.Nothing tt goes));
+          on = λ from entries so stands. (entries, so, migrate_then old.limits entries m machine (stood_so entries stands) entries Idle heard.Nothing goes tt tt, λ idle. record { turn = migrate_ends old.limits entries m machine (stood_so entries stands) goes; held_up = λ quiet. tt });
         })
 
   -- ---- a step
 
   stands_down : (daemon : Daemon) (entries : List Entry) (s : System D M) → IsDown daemon s → StandsIn daemon entries s
-  stands_down Recall entries s down = subst (λ (o : Option Recalling). IfSome o (λ (r : Recalling). Stands entries r.machine.asked r.heard)) (sym down) tt
-  stands_down Migrate entries s down = subst (λ (o : Option Migrating). IfSome o (λ (m : Migrating). Stands entries m.machine.asked m.heard)) (sym down) tt
+  stands_down Recall entries s down = subst (λ (o : Option Recalling). IfSome o (RecallStands entries (state_of s.store).rights)) (sym down) tt
+  stands_down Migrate entries s down = subst (λ (o : Option Migrating). IfSome o (MigrateStands s.limits entries)) (sym down) tt
+
+  over_down : (daemon : Daemon) (entries : List Entry) (s : System D M) → IsDown daemon s → IsOver daemon entries s
+  over_down Recall entries s down = record {
+    turn = subst (λ (o : Option Recalling). IfSome o (λ (r : Recalling). RecallRests entries r.machine)) (sym down) tt;
+    held_up = λ quiet. subst (λ (o : Option Recalling). IfSome o (λ (r : Recalling). AreHeldUp entries (state_of s.store).rights r.machine.known.seat)) (sym down) tt;
+  }
+  over_down Migrate entries s down = record {
+    turn = subst (λ (o : Option Migrating). IfSome o (λ (m : Migrating). MigrateRests s.limits entries m.machine)) (sym down) tt;
+    held_up = λ quiet. tt;
+  }
 
   alone_itself : (daemon : Daemon) (s : System D M) → IsAlone daemon s s
   alone_itself Recall s = refl
@@ -227,13 +365,13 @@ module _ {D M : Type 0} (g : disk.Ghosts D) (h : drive.Ghosts M) where
   alone_then Migrate a b c first then = then ∙ first
 
   pub turn_itself : (daemon : Daemon) (s : System D M) → GoesInTurn daemon s s
-  turn_itself daemon s = record { alone = alone_itself daemon s; calm = leaves_itself s.store; on = λ from at. at }
+  turn_itself daemon s = record { alone = alone_itself daemon s; runs = refl; calm = leaves_itself s.store; fresh = fresh_itself s; on = λ from at. at }
 
   pub turn_then : (daemon : Daemon) (a b c : System D M) → GoesInTurn daemon a b → GoesInTurn daemon b c → GoesInTurn daemon a c
-  turn_then daemon a b c first then = record { alone = alone_then daemon a b c first.alone then.alone; calm = leaves_then a.store b.store c.store first.calm then.calm; on = λ from at. then.on from (first.on from at) }
+  turn_then daemon a b c first then = record { alone = alone_then daemon a b c first.alone then.alone; runs = then.runs ∙ first.runs; calm = leaves_then a.store b.store c.store first.calm then.calm; fresh = fresh_on a b c first.fresh then.fresh; on = λ from at. then.on from (first.on from at) }
 
   steps_go : (daemon : Daemon) (old new : System D M) → Steps g h daemon old new → StepGoes daemon old new
-  steps_go daemon old new (inl down) = subst (λ (s : System D M). StepGoes daemon old s) (sym down.1) (record { goes = turn_itself daemon old; begins = λ rests. ([], sym (append-nil old.store.history), stands_down daemon [] old down.0) })
+  steps_go daemon old new (inl down) = subst (λ (s : System D M). StepGoes daemon old s) (sym down.1) (record { alone = alone_itself daemon old; runs = refl; calm = leaves_itself old.store; fresh = fresh_itself old; on = λ from entries so stands. (entries, so, stands, λ rests. over_down daemon entries old down.0) })
   steps_go Recall old new (inr acts) =
       let moves = acts.moves in
       recall_goes old moves.0 moves.1 moves.2 acts.told acts.left new acts.keeps acts.act moves.3 (subst (λ (s : System D M). Performs g h s acts.act acts.told acts.left) moves.4 acts.performs)
@@ -242,61 +380,50 @@ module _ {D M : Type 0} (g : disk.Ghosts D) (h : drive.Ghosts M) where
       migrate_goes old moves.0 moves.1 moves.2 acts.told acts.left new acts.keeps acts.act moves.3 (subst (λ (s : System D M). Performs g h s acts.act acts.told acts.left) moves.4 acts.performs)
 
   pub step_goes : (daemon : Daemon) (old new : System D M) → Steps g h daemon old new → GoesInTurn daemon old new
-  step_goes daemon old new steps = (steps_go daemon old new steps).goes
+  step_goes daemon old new steps = let step = steps_go daemon old new steps in record { alone = step.alone; runs = step.runs; calm = step.calm; fresh = step.fresh; on = λ from at. step.on from at.0 at.1 at.2 }
 
   -- ---- a turn
 
-  turn_ends : (daemon : Daemon) (entries : List Entry) (s : System D M) → Rests daemon s → StandsIn daemon entries s → IsTurnOf daemon s entries
-  turn_ends Recall entries s rests stands = recall_ends s.recall rests stands
+  -- a rest stands before all entries of the turn that it begins
+  begins : (daemon : Daemon) (s : System D M) → RecallIsRight s.recall → MigrateIsRight s.limits s.migrate → Rests daemon s → StandsIn daemon [] s
+  begins Recall s asks counts rests = recall_begins s.recall asks rests
     where
-      recall_ends : (o : Option Recalling) → IfSome o (λ (r : Recalling). r.machine.asked ≡ Idle) → IfSome o (λ (r : Recalling). Stands entries r.machine.asked r.heard) → IfSome o (λ (r : Recalling). IsTurn entries)
-      recall_ends None idle at = tt
-      recall_ends (Some r) idle at = subst (λ (a : Act). Stands entries a r.heard) idle at
-  turn_ends Migrate entries s rests stands = migrate_ends s.migrate rests stands
+      recall_begins : (o : Option Recalling) → RecallIsRight o → IfSome o (λ (r : Recalling). r.machine.asked ≡ Idle) → IfSome o (RecallStands [] (state_of s.store).rights)
+      recall_begins None asks idle = tt
+      recall_begins (Some r) asks idle = record { asks = asks; stands = subst (λ (a : Act). Stands [] a r.heard) (sym idle) tt; back = λ quiet. kept_back_first (state_of s.store).rights r.machine.known r.machine.asked r.heard idle asks.free }
+  begins Migrate s asks counts rests = migrate_begins s.migrate counts rests
     where
-      migrate_ends : (o : Option Migrating) → IfSome o (λ (m : Migrating). m.machine.asked ≡ Idle) → IfSome o (λ (m : Migrating). Stands entries m.machine.asked m.heard) → IfSome o (λ (m : Migrating). IsTurn entries)
-      migrate_ends None idle at = tt
-      migrate_ends (Some m) idle at = subst (λ (a : Act). Stands entries a m.heard) idle at
+      migrate_begins : (o : Option Migrating) → MigrateIsRight s.limits o → IfSome o (λ (m : Migrating). m.machine.asked ≡ Idle) → IfSome o (MigrateStands s.limits [])
+      migrate_begins None counts idle = tt
+      migrate_begins (Some m) counts idle = record { asks = counts; stands = subst (λ (a : Act). Stands [] a m.heard) (sym idle) tt; space = space_first m.machine.limits m.machine.known m.machine.asked m.heard idle (counts.space idle) }
 
   -- a step from a rest, and then the steps to the next one
-  pub has_turned : (daemon : Daemon) (a b c : System D M) → Rests daemon a → Steps g h daemon a b → GoesInTurn daemon b c → Rests daemon c → HasTurned daemon a c
-  has_turned daemon a b c rests steps goes ends =
+  pub has_turned : (daemon : Daemon) (a b c : System D M) → RecallIsRight a.recall → MigrateIsRight a.limits a.migrate → Rests daemon a → Steps g h daemon a b → GoesInTurn daemon b c → Rests daemon c → HasTurned daemon a c
+  has_turned daemon a b c asks counts rests steps goes ends =
       let first = steps_go daemon a b steps in
-      let at = goes.on a.store.history (first.begins rests) in
+      let at = goes.on a.store.history (first.on a.store.history [] (sym (append-nil a.store.history)) (begins daemon a asks counts rests)) in
       record {
-        alone = alone_then daemon a b c first.goes.alone goes.alone;
-        calm = leaves_then a.store b.store c.store first.goes.calm goes.calm;
+        alone = alone_then daemon a b c first.alone goes.alone;
+        runs = goes.runs ∙ first.runs;
+        calm = leaves_then a.store b.store c.store first.calm goes.calm;
+        fresh = fresh_on a b c first.fresh goes.fresh;
         entries = at.0;
         history = at.1;
-        turn = turn_ends daemon at.0 c ends at.2;
+        over = at.3 ends;
       }
 
-  pub turned : (result : Result (Unit {0}) Stop) (daemon : Daemon) (a b c : System D M) → Rests daemon a → Steps g h daemon a b → OnOk result (GoesInTurn daemon b c) → OnOk result (Rests daemon c) → OnOk result (HasTurned daemon a c)
-  turned (Ok tt) daemon a b c rests steps goes ends = has_turned daemon a b c rests steps goes ends
-  turned (Err why) daemon a b c rests steps goes ends = tt
-
-  -- Entries before a turn are of it too.
-  turn_behind : (first entries : List Entry) → IsTurn entries → IsTurn (first ++ entries)
-  turn_behind first entries turn = (first ++ turn.0, turn.1, ap (λ (x : List Entry). first ++ x) turn.2 ∙ sym (append_assoc first turn.0 (turn.1 ∷ [])), turn.3)
-
-  turn_of_behind : (daemon : Daemon) (s : System D M) (first entries : List Entry) → IsTurnOf daemon s entries → IsTurnOf daemon s (first ++ entries)
-  turn_of_behind Recall s first entries turn = behind s.recall turn
-    where
-      behind : (o : Option Recalling) → IfSome o (λ (r : Recalling). IsTurn entries) → IfSome o (λ (r : Recalling). IsTurn (first ++ entries))
-      behind None is = tt
-      behind (Some r) is = turn_behind first entries is
-  turn_of_behind Migrate s first entries turn = behind s.migrate turn
-    where
-      behind : (o : Option Migrating) → IfSome o (λ (m : Migrating). IsTurn entries) → IfSome o (λ (m : Migrating). IsTurn (first ++ entries))
-      behind None is = tt
-      behind (Some m) is = turn_behind first entries is
+  pub turned : (result : Result (Unit {0}) Stop) (daemon : Daemon) (a b c : System D M) → RecallIsRight a.recall → MigrateIsRight a.limits a.migrate → Rests daemon a → Steps g h daemon a b → OnOk result (GoesInTurn daemon b c) → OnOk result (Rests daemon c) → OnOk result (HasTurned daemon a c)
+  turned (Ok tt) daemon a b c asks counts rests steps goes ends = has_turned daemon a b c asks counts rests steps goes ends
+  turned (Err why) daemon a b c asks counts rests steps goes ends = tt
 
   pub turned_later : (result : Result (Unit {0}) Stop) (daemon : Daemon) (a b c : System D M) → GoesInTurn daemon a b → OnOk result (HasTurned daemon b c) → OnOk result (HasTurned daemon a c)
   turned_later (Err why) daemon a b c goes turned = tt
   turned_later (Ok tt) daemon a b c goes turned = record {
     alone = alone_then daemon a b c goes.alone turned.alone;
+    runs = turned.runs ∙ goes.runs;
     calm = leaves_then a.store b.store c.store goes.calm turned.calm;
+    fresh = fresh_on a b c goes.fresh turned.fresh;
     entries = goes.calm.0 ++ turned.entries;
     history = turned.history ∙ ap (λ (x : List Entry). x ++ turned.entries) goes.calm.1 ∙ append_assoc a.store.history goes.calm.0 turned.entries;
-    turn = turn_of_behind daemon c goes.calm.0 turned.entries turned.turn;
+    over = over_longer goes.calm.0 turned.entries daemon c turned.over;
   }

@@ -1,5 +1,5 @@
 -- The faults of media that a history answers events for, and what the drives say of them.
-use Rattle.std.specs.Prelude.{◌≡◌, ◌≢◌, ℕ, ◌%◌, ◌≤◌, List, [], ◌∷◌, length, slice_get, Option, None, Some, IfSome}
+use Rattle.std.specs.Prelude.{◌≡◌, ◌≢◌, ℕ, ◌%◌, ◌≤◌, List, [], ◌∷◌, length, slice_get, true, Option, None, Some, IfSome}
 use Rattle.std.specs.List.{filter_map, AllByRecursion}
 use Rattle.disk_model.specs.Calls.{Rose}
 use Rattle.media_model.specs.declared.drive.Drive as drive
@@ -34,11 +34,11 @@ AreApart count [] = Unit {0}
 AreApart count (fault ∷ faults) = AllByRecursion (IsApart count fault) faults × AreApart count faults
 
 module _ {M : Type 0} (g : drive.Ghosts M) where
-  -- The drive's count rose from the one number to the other, which is no more than it counts; or the payload that the medium gives has the one
-  -- fingerprint, and another is wanted.
+  -- The drive's count rose from the one number to the other, which is no more than it counts; or the volume is there, the payload that the medium gives has
+  -- the one fingerprint, and another is wanted.
   abbrev pub TellsFault : M → Fault → Type 0
   TellsFault d (Failed volume object before after) = Rose before after × (after ≤ g.fault_count d)
-  TellsFault d (Damaged volume object want got) = (want ≢ got) × HasPrint (g.gives d volume) object got
+  TellsFault d (Damaged volume object want got) = (want ≢ got) × (g.has d volume ≡ true) × HasPrint (g.gives d volume) object got
 
   -- the drive that has the volume tells the fault
   abbrev pub IsTrue : List M → Fault → Type 0

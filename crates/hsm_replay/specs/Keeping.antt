@@ -18,10 +18,15 @@ use Rattle.hsm_replay.specs.declared.daemons.Migrating.{Migrating}
 use Rattle.hsm_replay.specs.declared.stops.Stop.{Stop}
 use Rattle.hsm_replay.specs.Drives.{HaveGrown}
 use Rattle.hsm_replay.specs.Faults.{faults_in, IsApart, IsTrue, AreTrue}
-use Rattle.hsm_replay.specs.Marks.{Mark, entries_of}
+use Rattle.marked_history.specs.Marks.{Mark, entries_of}
 use Rattle.hsm_replay.specs.Running.{Runs}
-use Rattle.hsm_replay.specs.Served.{Served, IsOf, shown, nothing_shown}
-use Rattle.hsm_replay.specs.Systems.{System}
+use Rattle.hsm_replay.specs.Passes.{CopyEnds, PassStands}
+use Rattle.hsm_replay.specs.Sealed.{Tallies, HearsLost, HearsStored}
+use Rattle.hsm_replay.specs.Filling.{FindsFull}
+use Rattle.marked_history.specs.Passing.{AllPassed}
+use Rattle.marked_history.specs.Served.{Served, IsOf, shown, nothing_shown}
+use Rattle.marked_history.specs.Settling.{AreByRunning}
+use Rattle.hsm_replay.specs.Systems.{System, running}
 
 -- ---- what machines know
 
@@ -62,30 +67,50 @@ MigrateKnows k m = IsAtStart m.machine.known.seat m.machine.asked m.heard ⊎ Is
 -- ---- what a history shows
 
 module _ {D M : Type 0} (g : drive.Ghosts M) where
-  -- The marked entries are those of the store. They are served, and the faults that events were answered for are true.
-  pub record IsMarked (marks : List Mark) (s : System D M) : Type 0 where
+  -- The marked entries are those of the store. They are served, the faults that events were answered for are true, what was sealed is on the drives, which
+  -- were opened as these, and each pass of migration that is over is as it should be.
+  pub record IsMarked (opened : List M) (marks : List Mark) (s : System D M) : Type 0 where
     pub entries : entries_of marks ≡ s.store.history
     pub served : Served s.limits marks
     pub faults : AreTrue g s.drives (faults_in s.store.history)
+    pub sealed : Tallies g opened s.drives s.limits marks
+    pub passes : AllPassed (CopyEnds g s.drives s.limits) s.limits marks
 
-  -- They show what the daemons know, too.
-  pub record Shows (marks : List Mark) (s : System D M) : Type 0 where
-    pub marked : IsMarked marks s
+  -- They show what the daemons know, too. What these heard last of a fetch and a copy is so, the volumes that migration found full are, and the pass that
+  -- is under way is that of the last table.
+  pub record Shows (opened : List M) (marks : List Mark) (s : System D M) : Type 0 where
+    pub marked : IsMarked opened marks s
     pub recall : IfSome s.recall (RecallKnows g (shown s.limits nothing_shown marks).recall s.drives (faults_in s.store.history))
     pub migrate : IfSome s.migrate (MigrateKnows (shown s.limits nothing_shown marks).migrate)
+    pub lost : IfSome s.recall (λ (r : Recalling). HearsLost g opened s.drives marks r.machine.asked r.heard)
+    pub stored : IfSome s.migrate (λ (m : Migrating). HearsStored g s.drives m.machine.asked m.heard)
+    pub full : IfSome s.migrate (FindsFull g s.drives s.limits)
+    pub passing : IfSome s.migrate (PassStands s.limits marks)
 
-  -- From each marked history that shows it, entries of that kind lead on to one that shows what is left.
+  -- From each marked history that shows it, entries of that kind lead on to one that shows what is left. Calls among them are made by daemons that run.
   abbrev pub Keeps : (List Mark → Type 0) → System D M → System D M → Type 0
-  Keeps IsPart old new = (marks : List Mark) → Shows marks old → (more : List Mark) × IsPart more × Shows (marks ++ more) new
+  Keeps IsPart old new = (opened : List M) (marks : List Mark) → Shows opened marks old → (more : List Mark) × IsPart more × Shows opened (marks ++ more) new × AreByRunning (running old) more
 
   -- Where a run was stopped there may be no such entry, and nothing is said of what the daemons know.
   abbrev pub Ends : (List Mark → Type 0) → System D M → System D M → Type 0
-  Ends IsPart old new = (marks : List Mark) → Shows marks old → (more : List Mark) × (IsPart more ⊎ (more ≡ [])) × IsMarked (marks ++ more) new
+  Ends IsPart old new = (opened : List M) (marks : List Mark) → Shows opened marks old → (more : List Mark) × (IsPart more ⊎ (more ≡ [])) × IsMarked opened (marks ++ more) new × AreByRunning (running old) more
 
--- What is run comes to such entries. The settings stay, and the drives are the same, used.
+-- ---- what is added
+
+-- The history has more entries, those of marks of that kind. Calls among them are made by daemons that run.
+abbrev pub Adds : {D M : Type 0} → (List Mark → Type 0) → System D M → System D M → Type 0
+Adds IsPart old new = (more : List Mark) × IsPart more × (new.store.history ≡ old.store.history ++ entries_of more) × AreByRunning (running old) more
+
+-- Of a run that was stopped there may be none.
+abbrev pub AddsFirst : {D M : Type 0} → (List Mark → Type 0) → System D M → System D M → Type 0
+AddsFirst IsPart old new = Adds (λ (more : List Mark). IsPart more ⊎ (more ≡ [])) old new
+
+-- What is run adds such entries to any history, and what marked histories show it leads on. The settings stay, and the drives are the same, used.
 pub record Moves {D M T : Type 0} (g : disk.Ghosts D) (h : drive.Ghosts M) (IsPart : List Mark → Type 0) (result : Result T Stop) (old new : System D M) : Type 0 where
   pub limits : new.limits ≡ old.limits
   pub drives : HaveGrown h old.drives new.drives
   pub runs : Runs g result old.store new.store
+  pub adds : OnOk result (Adds IsPart old new)
+  pub adds_first : OnErr result (AddsFirst IsPart old new)
   pub keeps : OnOk result (Keeps h IsPart old new)
   pub ends : OnErr result (Ends h IsPart old new)

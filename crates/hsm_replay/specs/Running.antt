@@ -11,7 +11,7 @@ use Rattle.script_text.specs.declared.lines.Line.{Line}
 use Rattle.script_text.specs.declared.lines.Line.TheVariants.{Event}
 use Rattle.hsm_core.specs.Store.{Store}
 use Rattle.hsm_replay.specs.declared.stops.Stop.{Stop}
-use Rattle.hsm_replay.specs.Caused.{ArePackedSince}
+use Rattle.marked_history.specs.Caused.{ArePackedSince}
 use Rattle.hsm_replay.specs.declared.stops.Stop.TheVariants.{Disk, Memory}
 
 module _ {D : Type 0} (g : disk.Ghosts D) where

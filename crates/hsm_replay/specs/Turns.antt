@@ -1,12 +1,14 @@
 -- A daemon's turn, while it goes on.
-use Rattle.std.specs.Prelude.{◌≡◌, ◌≢◌, ◌⊎◌, ℕ, List, [], ◌∷◌, ◌++◌, true, IfSome}
-use Rattle.std.specs.List.{list_all}
+use Rattle.std.specs.Prelude.{◌≡◌, ◌≢◌, ◌⊎◌, ℕ, List, [], ◌∷◌, ◌++◌, true, None, IfSome}
+use Rattle.std.specs.List.{AllByRecursion, list_all}
 use Rattle.hsm_types.specs.declared.daemons.Act.{Act}
-use Rattle.hsm_types.specs.declared.daemons.Act.TheVariants.{Dm, Idle}
+use Rattle.hsm_types.specs.declared.daemons.Act.TheVariants.{Dm, Fetch}
 use Rattle.hsm_types.specs.declared.daemons.Daemon.{Daemon}
 use Rattle.hsm_types.specs.declared.daemons.Daemon.TheVariants.{Recall, Migrate}
 use Rattle.hsm_types.specs.declared.daemons.Heard.{Heard}
 use Rattle.hsm_types.specs.declared.daemons.Heard.TheVariants as heard
+use Rattle.hsm_types.specs.declared.dm.DmCall.TheVariants.{GetFileAttr, GetAllocInfo, Restore}
+use Rattle.hsm_types.specs.Rights.{Rights}
 use Rattle.plain_model.specs.declared.entries.Action.TheVariants as action
 use Rattle.plain_model.specs.declared.entries.Actor.TheVariants.{Session, Caller}
 use Rattle.plain_model.specs.declared.entries.Answer.{Answer}
@@ -14,48 +16,105 @@ use Rattle.plain_model.specs.declared.entries.Answer.TheVariants as answer
 use Rattle.plain_model.specs.declared.entries.Entry.{Entry}
 use Rattle.hsm_core.specs.Answers.{entry_of}
 use Rattle.hsm_core.specs.Ready.{ready}
-use Rattle.hsm_core.specs.Store.{Store}
+use Rattle.hsm_core.specs.Store.{Store, state_of}
 use Rattle.hsm_core.specs.declared.store.Ready.TheVariants.{Now}
-use Rattle.hsm_replay.specs.Quiet.{is_quiet}
-use Rattle.hsm_replay.specs.Settled.{IsTurn, IsTurnOf, NoneReady}
-use Rattle.hsm_replay.specs.Systems.{System}
+use Rattle.daemon_session.specs.declared.events.Kept.{Kept}
+use Rattle.hsm_policy.specs.Settings.{Numbers}
+use Rattle.recall_daemon.specs.Known as recall
+use Rattle.migrate_daemon.specs.Known as migrate
+use Rattle.hsm_replay.specs.declared.daemons.Recalling.{Recalling}
+use Rattle.hsm_replay.specs.declared.daemons.Migrating.{Migrating}
+use Rattle.hsm_replay.specs.Asking.{RecallAsks, MigrateAsks}
+use Rattle.hsm_replay.specs.Rests.{Rests}
+use Rattle.hsm_replay.specs.Freshness.{StaysFresh}
+use Rattle.marked_history.specs.Quiet.{is_quiet}
+use Rattle.hsm_replay.specs.Settled.{IsTurnOf, IsToldSpace, IsHeldUp, AreHeldUp, NoneReady}
+use Rattle.hsm_replay.specs.Systems.{System, running}
 
--- It hears the answer of the last entry next, or rests at the turn's end, or waits for a copy or a fetch.
+-- It hears the answer of the last entry next, or what came of a copy or a fetch, or it rests.
 abbrev pub Stands : List Entry → Act → Heard → Type 0
 Stands entries (Dm sid call) (heard.Dm reply) = (first : List Entry) × (entries ≡ first ++ entry_of (Session sid) (action.Dm call) (answer.Dm reply) ∷ [])
-Stands entries Idle told = IsTurn entries
+Stands entries (Dm sid call) told = ⊥
 Stands entries asked told = Unit {0}
 
-abbrev pub StandsIn : {D M : Type 0} → Daemon → List Entry → System D M → Type 0
-StandsIn Recall entries s = IfSome s.recall (λ r. Stands entries r.machine.asked r.heard)
-StandsIn Migrate entries s = IfSome s.migrate (λ m. Stands entries m.machine.asked m.heard)
+-- ---- recall in a turn
 
--- the daemon is in a turn that began behind these entries
+-- no act that only a right leads to
+abbrev pub IsEarly : Act → Type 0
+IsEarly (Dm sid (GetFileAttr t h)) = ⊥
+IsEarly (Dm sid (GetAllocInfo t h)) = ⊥
+IsEarly (Dm sid (Restore t h segment bytes)) = ⊥
+IsEarly (Fetch entry) = ⊥
+IsEarly act = Unit {0}
+
+-- It was given no right so far: of the file in hand it doesn't know the size, and each event that it has put off was held up.
+pub record IsKeptBack (entries : List Entry) (rights : Rights) (k : recall.Known) (asked : Act) : Type 0 where
+  pub early : IsEarly asked
+  pub unsized : IfSome k.hand (λ (hand : recall.Hand). hand.size ≡ None)
+  pub held_up : AllByRecursion (λ (x : Kept). x.marked ≡ true → IsHeldUp entries rights k.seat x.event.token) k.seat.kept
+
+pub record RecallStands (entries : List Entry) (rights : Rights) (r : Recalling) : Type 0 where
+  pub asks : RecallAsks r.machine
+  pub stands : Stands entries r.machine.asked r.heard
+  pub back : list_all is_quiet entries ≡ true → IsKeptBack entries rights (recall.knows_by r.machine.known r.machine.asked r.heard) r.machine.asked
+
+-- ---- either daemon in a turn
+
+-- what it knows of the space it was told in this turn
+pub record MigrateStands (limits : Numbers) (entries : List Entry) (m : Migrating) : Type 0 where
+  pub asks : MigrateAsks limits m.machine
+  pub stands : Stands entries m.machine.asked m.heard
+  pub space : IfSome (migrate.knows_by m.machine.limits m.machine.known m.machine.asked m.heard).space (IsToldSpace entries)
+
+abbrev pub StandsIn : {D M : Type 0} → Daemon → List Entry → System D M → Type 0
+StandsIn Recall entries s = IfSome s.recall (RecallStands entries (state_of s.store).rights)
+StandsIn Migrate entries s = IfSome s.migrate (MigrateStands s.limits entries)
+
+-- what recall keeps is held up
+abbrev pub LeavesHeldUp : {D M : Type 0} → Daemon → List Entry → System D M → Type 0
+LeavesHeldUp Recall entries s = IfSome s.recall (λ r. AreHeldUp entries (state_of s.store).rights r.machine.known.seat)
+LeavesHeldUp Migrate entries s = Unit {0}
+
+-- a turn is over, and where it was quiet recall keeps only what was held up
+pub record IsOver {D M : Type 0} (daemon : Daemon) (entries : List Entry) (s : System D M) : Type 0 where
+  pub turn : IsTurnOf daemon s entries
+  pub held_up : list_all is_quiet entries ≡ true → LeavesHeldUp daemon entries s
+
+-- The daemon is in a turn that began behind these entries. Where it rests the turn is over.
 abbrev pub IsInTurn : {D M : Type 0} → Daemon → List Entry → System D M → Type 0
-IsInTurn daemon from s = (entries : List Entry) × (s.store.history ≡ from ++ entries) × StandsIn daemon entries s
+IsInTurn daemon from s = (entries : List Entry) × (s.store.history ≡ from ++ entries) × StandsIn daemon entries s × (Rests daemon s → IsOver daemon entries s)
 
 -- the other daemon stays as it is
 abbrev pub IsAlone : {D M : Type 0} → Daemon → System D M → System D M → Type 0
 IsAlone Recall old new = new.migrate ≡ old.migrate
 IsAlone Migrate old new = new.recall ≡ old.recall
 
--- Where all entries since are quiet the same accesses may go on.
-abbrev pub LeavesReady : {D : Type 0} → Store D → Store D → Type 0
-LeavesReady old new = (more : List Entry) × (new.history ≡ old.history ++ more) × (list_all is_quiet more ≡ true → (caller : ℕ) → ready new caller ≡ ready old caller)
+-- the same accesses may go on, and the same tokens hold files
+pub record IsAlike {D : Type 0} (old new : Store D) : Type 0 where
+  pub ready : (caller : ℕ) → ready new caller ≡ ready old caller
+  pub rights : (state_of new).rights ≡ (state_of old).rights
+
+-- so it is where all entries since are quiet
+abbrev pub LeavesAlike : {D : Type 0} → Store D → Store D → Type 0
+LeavesAlike old new = (more : List Entry) × (new.history ≡ old.history ++ more) × (list_all is_quiet more ≡ true → IsAlike old new)
 
 -- steps of one daemon
 pub record GoesInTurn {D M : Type 0} (daemon : Daemon) (old new : System D M) : Type 0 where
   pub alone : IsAlone daemon old new
-  pub calm : LeavesReady old.store new.store
+  pub runs : running new ≡ running old
+  pub calm : LeavesAlike old.store new.store
+  pub fresh : StaysFresh old new
   pub on : (from : List Entry) → IsInTurn daemon from old → IsInTurn daemon from new
 
 -- a turn from its beginning to its end
 pub record HasTurned {D M : Type 0} (daemon : Daemon) (old new : System D M) : Type 0 where
   pub alone : IsAlone daemon old new
-  pub calm : LeavesReady old.store new.store
+  pub runs : running new ≡ running old
+  pub calm : LeavesAlike old.store new.store
+  pub fresh : StaysFresh old new
   pub entries : List Entry
   pub history : new.store.history ≡ old.store.history ++ entries
-  pub turn : IsTurnOf daemon new entries
+  pub over : IsOver daemon entries new
 
 -- ---- resumes
 

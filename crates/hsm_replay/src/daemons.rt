@@ -3,7 +3,7 @@ ghost use Rattle.std.specs.Prelude.{◌≡◌, IfOk, OnErr};
 ghost use Rattle.hsm_types.specs.declared.daemons.Heard.TheVariants.{Nothing};
 ghost use Rattle.recall_daemon.specs.Machine as recall;
 ghost use Rattle.migrate_daemon.specs.Machine as migrate;
-ghost use Rattle.hsm_replay.specs.Quiet.{untold};
+ghost use Rattle.hsm_replay.specs.Rests.{untold};
 
 use hsm_policy::Settings;
 use hsm_types::{Act, DmReply, Heard};
@@ -38,6 +38,13 @@ impl Recalling {
     {
         let last = mem::replace(&mut self.heard, Heard::Nothing);
         self.machine.next(last)
+    }
+
+    /// Keeps what it hears next.
+    pub(crate) fn hear(&mut self, heard: Heard)
+        ensures { self.new ≡ record self.old { heard = heard } }
+    {
+        self.heard = heard;
     }
 }
 
@@ -80,5 +87,12 @@ impl Migrating {
     {
         let last = mem::replace(&mut self.heard, Heard::Nothing);
         self.machine.next(last)
+    }
+
+    /// Keeps what it hears next.
+    pub(crate) fn hear(&mut self, heard: Heard)
+        ensures { self.new ≡ record self.old { heard = heard } }
+    {
+        self.heard = heard;
     }
 }

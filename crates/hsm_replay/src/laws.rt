@@ -1,13 +1,12 @@
-//! Laws over all histories, each the contract of a function that does nothing. A caller gets the law by a call.
-ghost use Rattle.std.specs.Prelude.{ℕ, List};
-ghost use Rattle.hsm_types.specs.declared.stores.Superblock.{Superblock};
-ghost use Rattle.plain_model.specs.declared.entries.Entry.{Entry};
-ghost use Rattle.plain_model.specs.State.{Held};
+//! A law over all histories, the contract of a function that does nothing. A caller gets the law by a call.
+ghost use Rattle.std.specs.Prelude.{List};
 ghost use Rattle.hsm_policy.specs.Settings.{Numbers};
-ghost use Rattle.hsm_replay.specs.Marks.{Mark};
-ghost use Rattle.hsm_replay.specs.Caused.{ServedIsCaused};
+ghost use Rattle.marked_history.specs.Marks.{Mark};
+ghost use Rattle.hsm_replay.specs.Sealed.{Tallies, SealsAreWhole};
 
-/// In each served run an answer names a fault of a medium only where its session was told that bytes of the parked file are away in that object.
-pub fn served_is_caused()
-    ensures { (limits : Numbers) (s : Superblock) (base : ℕ) (opening : Held) (marks : List Mark) (history : List Entry) → ServedIsCaused limits s base opening marks history }
+use media_model::Drive;
+
+/// Over drives of a sure type no answer says that an object is damaged that a daemon has sealed with the wanted fingerprint.
+pub fn seals_are_whole<M: Drive>()
+    ensures { (opened drives : List M) (limits : Numbers) (marks : List Mark) → Tallies M.Drive opened drives limits marks → SealsAreWhole M.Drive marks }
 {}

@@ -1,4 +1,4 @@
-//! A store with its drives and its daemons: what a daemon asks for is performed on them.
+//! A store with its drives and its daemons: the lines of a script are run on them, and what a daemon asks for is performed.
 #![tactic(auto)]
 
 mod daemons;
@@ -10,6 +10,6 @@ mod settling;
 mod stops;
 mod threads;
 
-pub use laws::served_is_caused;
+pub use laws::seals_are_whole;
 pub use replay::Replay;
 pub use stops::Stop;

@@ -1,10 +1,13 @@
 // Lines of scripts, run on a store with its drives and its daemons.
-ghost use Rattle.std.specs.Prelude.{ℕ, Option, OnOk};
+ghost use Rattle.std.specs.Prelude.{◌≡◌, ℕ, Option, OnOk};
 ghost use Rattle.script_text.specs.Lines.{IsLine, IsEvent};
 ghost use Rattle.script_text.specs.declared.lines.Line.TheVariants.{Event};
-ghost use Rattle.hsm_replay.specs.Follows.{IsPartOf};
+ghost use Rattle.marked_history.specs.Follows.{IsPartOf};
 ghost use Rattle.hsm_replay.specs.Keeping.{Moves};
 ghost use Rattle.hsm_replay.specs.Doing.{Does};
+ghost use Rattle.hsm_replay.specs.Resting.{IsLeftBy, LeadsOn};
+ghost use Rattle.hsm_replay.specs.Systems.{running};
+ghost use Rattle.marked_history.specs.Settling.{running_by};
 ghost use Rattle.hsm_replay.specs.Running.{commit_line, IsAllDurable};
 
 use crate::replay::Replay;
@@ -22,6 +25,8 @@ impl<D: Disk, M: Drive> Replay<D, M> {
         requires { IsLine line }
         ensures moves { Moves D.Disk M.Drive (IsPartOf line) result self.old self.new }
         ensures does { Does D.Disk M.Drive line result self.old self.new }
+        ensures runs { running self.new ≡ running_by line (running self.old) }
+        ensures left { LeadsOn M.Drive (IsPartOf line) (IsLeftBy line self.new) result self.old self.new }
     {
         match line {
             Line::Event { actor, action, .. } => self.event(alloc, actor, action),

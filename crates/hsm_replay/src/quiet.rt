@@ -1,7 +1,7 @@
 //! Which events of daemons are quiet.
 ghost use Rattle.std.specs.Prelude.{◌≡◌};
 ghost use Rattle.std.specs.List.{list_all};
-ghost use Rattle.hsm_replay.specs.Quiet.{is_question, is_refusal, is_quiet};
+ghost use Rattle.marked_history.specs.Quiet.{is_question, is_refusal, is_quiet};
 
 use hsm_types::{DmCall, DmReply};
 use plain_model::{Action, Answer, Entry};

@@ -5,12 +5,13 @@ ghost use Rattle.hsm_core.specs.Kept.{IsKept};
 ghost use Rattle.hsm_core.specs.Ready.{ready};
 ghost use Rattle.hsm_core.specs.declared.store.Ready.TheVariants.{Now};
 ghost use Rattle.migrate_daemon.specs.Machine.{IsWithin};
-ghost use Rattle.hsm_replay.specs.Systems.{drive_of, started, killed};
+ghost use Rattle.hsm_replay.specs.Systems.{MigrateIsRight, RecallIsRight, drive_of, running, started, killed};
+ghost use Rattle.hsm_types.specs.Callers.{IsCallerNumber};
 ghost use Rattle.hsm_types.specs.Daemons.{MayPerform};
 ghost use Rattle.hsm_replay.specs.Acts.{Performs, Stops};
-ghost use Rattle.hsm_replay.specs.Follows.{IsOfSettling, IsStepOf};
+ghost use Rattle.marked_history.specs.Follows.{IsOfSettling, IsStepOf};
 ghost use Rattle.hsm_replay.specs.Keeping.{Moves};
-ghost use Rattle.hsm_replay.specs.Quiet.{Rests, refreshed};
+ghost use Rattle.hsm_replay.specs.Rests.{Rests, refreshed};
 ghost use Rattle.hsm_replay.specs.Steps.{Steps, Halts, hearing};
 ghost use Rattle.hsm_replay.specs.Turns.{MayResume};
 
@@ -111,6 +112,7 @@ impl<D: Disk, M: Drive> Replay<D, M> {
         ensures stepped { OnOk result (Steps D.Disk M.Drive daemon self.old self.new) }
         ensures stopped { IfErr result (λ why. Halts D.Disk M.Drive daemon self.old why self.new) }
         ensures moves { Moves D.Disk M.Drive (IsStepOf daemon) result self.old self.new }
+        ensures runs { running self.new ≡ running self.old }
     {
         self.step_of(alloc, daemon)
     }
@@ -156,7 +158,7 @@ impl<D: Disk, M: Drive> Replay<D, M> {
         ensures { self.new ≡ hearing Daemon.Recall heard self.old }
     {
         if let Some(recalling) = &mut self.recall {
-            recalling.heard = heard;
+            recalling.hear(heard);
         }
     }
 
@@ -166,7 +168,7 @@ impl<D: Disk, M: Drive> Replay<D, M> {
         ensures { self.new ≡ hearing Daemon.Migrate heard self.old }
     {
         if let Some(migrating) = &mut self.migrate {
-            migrating.heard = heard;
+            migrating.hear(heard);
         }
     }
 
@@ -214,6 +216,14 @@ impl<D: Disk, M: Drive> Replay<D, M> {
         let _ = self.hsm.history();
     }
 
+    /// What a daemon knows goes with the act that it gave last.
+    pub(crate) fn asks(&self)
+        ensures recall { RecallIsRight self.now.recall }
+        ensures migrate { MigrateIsRight self.now.limits self.now.migrate }
+    {
+        let _ = &self.recall;
+    }
+
     /// How many entries the history has.
     pub(crate) fn entries(&self) -> usize
         ensures count { result ≡ length self.now.store.history }
@@ -224,8 +234,10 @@ impl<D: Disk, M: Drive> Replay<D, M> {
 
     /// The caller resumes where its access may go on.
     pub(crate) fn resume(&mut self, alloc: Global, caller: CallerId) -> Result<(), Stop>
+        requires { IsCallerNumber caller }
         ensures moves { Moves D.Disk M.Drive (AllByRecursion IsOfSettling) result self.old self.new }
         ensures resumed { OnOk result (MayResume caller self.old self.new) }
+        ensures runs { running self.new ≡ running self.old }
     {
         if !self.is_ready(caller) {
             return Ok(());

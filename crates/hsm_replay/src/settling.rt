@@ -2,10 +2,14 @@
 ghost use Rattle.std.specs.Prelude.{◌≡◌, ◌≤◌, length, drop, true, IfOk, OnOk};
 ghost use Rattle.std.specs.List.{AllByRecursion, list_all};
 ghost use Rattle.hsm_types.specs.Callers.{IsCallerNumber};
-ghost use Rattle.hsm_replay.specs.Follows.{IsOfSettling};
+ghost use Rattle.marked_history.specs.Follows.{IsMadeBy, IsOfSettling};
+ghost use Rattle.hsm_replay.specs.Freshness.{StaysFresh};
 ghost use Rattle.hsm_replay.specs.Keeping.{Moves};
-ghost use Rattle.hsm_replay.specs.Quiet.{Rests, is_quiet};
-ghost use Rattle.hsm_replay.specs.Settled.{EndsQuietly, IsSettled};
+ghost use Rattle.hsm_replay.specs.Rests.{Rests};
+ghost use Rattle.marked_history.specs.Quiet.{is_quiet};
+ghost use Rattle.hsm_replay.specs.Resting.{EndsMarked, IsSettledIn, LeadsOn};
+ghost use Rattle.hsm_replay.specs.Settled.{IsSettled};
+ghost use Rattle.hsm_replay.specs.Systems.{running};
 ghost use Rattle.hsm_replay.specs.Turns.{GoesInTurn, HasTurned, HaveResumed, MayResume};
 
 use crate::quiet::all_quiet;
@@ -24,11 +28,14 @@ impl<D: Disk, M: Drive> Replay<D, M> {
     pub fn settle(&mut self, alloc: Global) -> Result<(), Stop>
         ensures moves { Moves D.Disk M.Drive (AllByRecursion IsOfSettling) result self.old self.new }
         ensures settled { OnOk result (IsSettled self.old self.new) }
+        ensures settles { LeadsOn M.Drive (AllByRecursion IsOfSettling) (IsSettledIn self.new) result self.old self.new }
+        ensures runs { running self.new ≡ running self.old }
     {
         self.refresh();
         loop {
             self.entries();
             if self.round(alloc)? {
+                self.kept();
                 return Ok(());
             }
         }
@@ -37,8 +44,10 @@ impl<D: Disk, M: Drive> Replay<D, M> {
     /// One round. Whether all its events were quiet.
     fn round(&mut self, alloc: Global) -> Result<bool, Stop>
         ensures moves { Moves D.Disk M.Drive (AllByRecursion IsOfSettling) result self.old self.new }
+        ensures fresh { OnOk result (StaysFresh self.old self.new) }
         ensures quiet { IfOk result (λ quiet. quiet ≡ list_all is_quiet (drop (length self.old.store.history) self.new.store.history)) }
-        ensures ends { IfOk result (λ quiet. quiet ≡ true → EndsQuietly self.old.store.history self.new) }
+        ensures ends { IfOk result (λ quiet. quiet ≡ true → EndsMarked M.Drive self.old self.new) }
+        ensures runs { running self.new ≡ running self.old }
     {
         let before = self.entries();
         self.turn(alloc, Daemon::Recall)?;
@@ -52,8 +61,9 @@ impl<D: Disk, M: Drive> Replay<D, M> {
 
     /// A daemon's turn. Where a step has begun one, that ends before it.
     fn turn(&mut self, alloc: Global, daemon: Daemon) -> Result<(), Stop>
-        ensures moves { Moves D.Disk M.Drive (AllByRecursion IsOfSettling) result self.old self.new }
+        ensures moves { Moves D.Disk M.Drive (AllByRecursion (IsMadeBy daemon)) result self.old self.new }
         ensures turned { OnOk result (HasTurned daemon self.old self.new) }
+        ensures runs { running self.new ≡ running self.old }
     {
         self.rest(alloc, daemon)?;
         self.whole_turn(alloc, daemon)
@@ -62,18 +72,21 @@ impl<D: Disk, M: Drive> Replay<D, M> {
     /// A daemon's turn from its beginning to its end.
     fn whole_turn(&mut self, alloc: Global, daemon: Daemon) -> Result<(), Stop>
         requires { Rests daemon self.old }
-        ensures moves { Moves D.Disk M.Drive (AllByRecursion IsOfSettling) result self.old self.new }
+        ensures moves { Moves D.Disk M.Drive (AllByRecursion (IsMadeBy daemon)) result self.old self.new }
         ensures turned { OnOk result (HasTurned daemon self.old self.new) }
+        ensures runs { running self.new ≡ running self.old }
     {
+        self.asks();
         self.step(alloc, daemon)?;
         self.rest(alloc, daemon)
     }
 
     /// The rest of a daemon's turn: steps until it rests.
     fn rest(&mut self, alloc: Global, daemon: Daemon) -> Result<(), Stop>
-        ensures moves { Moves D.Disk M.Drive (AllByRecursion IsOfSettling) result self.old self.new }
+        ensures moves { Moves D.Disk M.Drive (AllByRecursion (IsMadeBy daemon)) result self.old self.new }
         ensures rests { OnOk result (Rests daemon self.new) }
         ensures goes { OnOk result (GoesInTurn daemon self.old self.new) }
+        ensures runs { running self.new ≡ running self.old }
     {
         while !self.rests(daemon) {
             self.entries();
@@ -86,6 +99,7 @@ impl<D: Disk, M: Drive> Replay<D, M> {
     fn resume_all(&mut self, alloc: Global) -> Result<(), Stop>
         ensures moves { Moves D.Disk M.Drive (AllByRecursion IsOfSettling) result self.old self.new }
         ensures resumed { OnOk result (HaveResumed self.old self.new) }
+        ensures runs { running self.new ≡ running self.old }
     {
         for number in 1..u64::from(CALLERS) + 1 {
             self.resume_at(alloc, number)?;
@@ -98,6 +112,7 @@ impl<D: Disk, M: Drive> Replay<D, M> {
         requires { IsCallerNumber number }
         ensures moves { Moves D.Disk M.Drive (AllByRecursion IsOfSettling) result self.old self.new }
         ensures resumed { OnOk result (MayResume number self.old self.new) }
+        ensures runs { running self.new ≡ running self.old }
     {
         let Some(caller) = CallerId::new(number) else {
             unreachable!()

@@ -3,6 +3,9 @@ use Rattle.hsm_cli.specs.Told.{source_told}
 use Rattle.hsm_cli.proofs.Scripted.{ends_for}
 use Rattle.hsm_cli.proofs.serving.run_with.Goals as goal
 
+pub returns-in-Ok-clause-ran : goal.returns-in-Ok-clause-ran
+returns-in-Ok-clause-ran g c = rw (c.in-Ok.is, c.close-hsm.ensures.store, c.close-hsm.ensures.drives) (rw c.new-replay.ensures at c.run_script-ended.ensures.ran)
+
 pub returns-in-Ok-clause-ends : goal.returns-in-Ok-clause-ends
 returns-in-Ok-clause-ends g c =
     rw c.close-hsm.ensures.store

@@ -1,10 +1,14 @@
-use Rattle.std.proofs.Common.{Some, None, refl, inr, sym, subst, arith}
+use Rattle.std.proofs.Common.{Some, None, true, refl, inr, sym, subst, arith}
 use Rattle.file_store.specs.Stores.{Store}
 use Rattle.hsm_cli.specs.Clauses.{GivesBack}
+use Rattle.hsm_cli.specs.Follows.{SettlesOn}
+use Rattle.hsm_cli.specs.Sealing.{TellsOf, IsRightInFolder}
 use Rattle.hsm_cli.specs.Told.{source_told, sink_told, host_told}
 use Rattle.hsm_cli.proofs.Crashes.{crash_safe, why_unopened}
 use Rattle.hsm_cli.proofs.Legality.{legal_as}
-use Rattle.hsm_cli.proofs.Drives.{rose_from, gives_back, none_at_fault, host_failed, why_served, disk_came, drives_came}
+use Rattle.hsm_cli.proofs.Drives.{rose_from, gives_back, none_at_fault, host_failed, why_served, disk_came, drives_came, tallies_since}
+use Rattle.hsm_cli.proofs.Scripted.{ran_with}
+use Rattle.hsm_cli.proofs.Sealing.{right_since}
 use Rattle.hsm_cli.proofs.top.replay_store.Given.{Over}
 use Rattle.hsm_cli.proofs.top.replay_store.Goals.{After-serve-served}
 use Rattle.hsm_cli.proofs.top.replay_store.Goals as goal
@@ -28,6 +32,15 @@ returns-in-Err-clause-legality g c = legal_as g.H.Disk.Disk c.unopened.result _ 
 
 pub returns-in-Err-open-clause-legality : goal.returns-in-Err-open-clause-legality
 returns-in-Err-open-clause-legality g c = legal_as g.H.Disk.Disk c.unopened-in-Err-open.result _ (Some c.in-Err-open.disk) c.unopened-in-Err-open.ensures
+
+pub returns-in-Ok-open-clause-script : goal.returns-in-Ok-open-clause-script
+returns-in-Ok-open-clause-script g c =
+    rw (c.from-in-Ok-open.ensures, c.serve-served.ensures.opening)
+    (ran_with (SettlesOn (Some c.in-Ok-open.hsm.opened)) (λ ds marks. TellsOf g.H.Drive.Drive ds.items c.serve-served.result.drives.items marks) (IsRightInFolder g.H.Drive.Drive (g.H.Host.stores c.args.host.now c.args.dir.now) c.serve-served.result.drives.items) c.ask_for_drives-drives.result true
+    (source_told g.I.Source.left g.I.Source.fault_count c.args.source.now c.serve-served.new.source) c.serve-served.result.cause c.serve-served.result.history
+    (right_since g.H.Drive.Drive (g.H.Host.stores c.args.host.now c.args.dir.now) (λ ds. ds.items) c.ask_for_drives-drives.result c.serve-served.result.drives.items
+    (tallies_since g.H.Drive.Drive (g.H.Host.stores c.args.host.now c.args.dir.now) (g.H.Host.stores c.disk.new.self c.args.dir.now) (c.disk.ensures.folders c.args.dir.now) c.in-Ok-open.hsm.opened (λ ds. ds.items) c.ask_for_drives-drives.result c.serve-served.result.drives.items c.ask_for_drives-drives.ensures.given))
+    c.ask_for_drives-drives.ensures.ready c.serve-served.ensures.unready c.serve-served.ensures.idle c.serve-served.ensures.script)
 
 -- the drives, and what the host has left
 

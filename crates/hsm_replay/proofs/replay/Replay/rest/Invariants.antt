@@ -1,15 +1,17 @@
-use Rattle.std.proofs.Common.{Ok}
+use Rattle.std.proofs.Common.{◌≡◌, Ok}
 use Rattle.std.specs.List.{AllByRecursion}
-use Rattle.hsm_replay.specs.Follows.{IsOfSettling}
+use Rattle.marked_history.specs.Follows.{IsMadeBy}
 use Rattle.hsm_replay.specs.Keeping.{Moves}
+use Rattle.hsm_replay.specs.Systems.{running}
 use Rattle.hsm_replay.specs.Turns.{GoesInTurn}
 use Rattle.hsm_replay.proofs.Working.{round_left}
 use Rattle.hsm_replay.proofs.replay.Replay.rest.Given as goal
 
 abbrev pub invariant-loop-alloc : goal.invariant-loop-alloc
 invariant-loop-alloc g l = record {
-  moves : Moves {T = Unit {0}} g.D.Disk g.M.Drive (AllByRecursion IsOfSettling) (Ok tt) l.fn.self l.self;
+  moves : Moves {T = Unit {0}} g.D.Disk g.M.Drive (AllByRecursion (IsMadeBy l.daemon)) (Ok tt) l.fn.self l.self;
   goes : GoesInTurn l.daemon l.fn.self l.self;
+  runs : running l.self ≡ running l.fn.self;
 }
 
 abbrev pub decreases-loop-alloc : goal.decreases-loop-alloc

@@ -1,12 +1,12 @@
-use Rattle.std.proofs.Common.{◌≡◌, sym, subst}
+use Rattle.std.proofs.Common.{sym, ap, subst}
 use Rattle.std.specs.List.{AllByRecursion}
 use Rattle.plain_model.specs.declared.entries.Action.TheVariants.{Resume}
 use Rattle.plain_model.specs.declared.entries.Actor.TheVariants.{Caller}
 use Rattle.plain_model.specs.declared.entries.Answer.TheVariants.{Call as Replied}
 use Rattle.hsm_core.specs.Kept.{IsKept}
-use Rattle.hsm_replay.specs.Follows.{IsOfSettling}
+use Rattle.marked_history.specs.Follows.{IsOfSettling}
 use Rattle.hsm_replay.specs.Keeping.{Moves}
-use Rattle.hsm_replay.specs.Systems.{System}
+use Rattle.hsm_replay.specs.Systems.{System, running}
 use Rattle.hsm_replay.proofs.Events.{event_moves, replied_on, replied_off}
 use Rattle.hsm_replay.proofs.Going.{caller_hands}
 use Rattle.hsm_replay.proofs.Joining.{resume_is_settling, moves_itself}
@@ -23,9 +23,12 @@ left g c = record { store = c.resume.new.self; drives = c.self.inside.drives.ite
 pub returns-clause-moves : goal.returns-clause-moves
 returns-clause-moves g c =
     subst (λ (old : System g.row.D.Denot g.row.M.Denot). Moves g.D.Disk g.M.Drive (AllByRecursion IsOfSettling) c.answered.result old (left g c)) c.self.view_is
-    (resume_is_settling g.D.Disk g.M.Drive c.args.caller c.answered.result (before g c) (left g c)
+    (resume_is_settling g.D.Disk g.M.Drive c.args.caller c.answered.result (before g c) (left g c) c.requires
     (event_moves g.D.Disk g.M.Drive (before g c) c.resume.new.self (Caller c.args.caller) Resume (Replied c.resume.result) tt tt (subst (λ (s : System g.row.D.Denot g.row.M.Denot). IsKept s.store) (sym c.self.view_is) c.kept.ensures) (caller_hands c.self.inside.hsm c.args.caller Resume (Replied c.resume.result)) c.resume.ensures.resumed
     c.answered.result (replied_on c.answered.result c.resume.result Resume tt c.answered.ensures.served) (replied_off c.answered.result c.resume.result Resume tt c.answered.ensures.stopped)))
 
 pub returns-then-not-is_ready-clause-moves : goal.returns-then-not-is_ready-clause-moves
 returns-then-not-is_ready-clause-moves g c = moves_itself g.D.Disk g.M.Drive tt c.args.self.now
+
+pub returns-clause-runs : goal.returns-clause-runs
+returns-clause-runs g c = ap (λ (s : System g.row.D.Denot g.row.M.Denot). running s) c.self.view_is

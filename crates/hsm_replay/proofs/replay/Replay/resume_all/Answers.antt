@@ -1,22 +1,23 @@
-use Rattle.std.proofs.Common.{◌≡◌, Ok, Err, rules}
+use Rattle.std.proofs.Common.{◌≡◌, ◌∙◌, Ok, Err, refl, rules}
 use Rattle.std.proofs.lemmas.Result.{err_from_is_err_and}
 use Rattle.hsm_replay.proofs.Joining.{moves_itself, moves_then}
 use Rattle.hsm_replay.proofs.Rounds.{resumed_none, resumed_on, resumed_all}
 use Rattle.hsm_replay.proofs.replay.Replay.resume_all.Goals as goal
 
 pub loop-number-init : goal.loop-number-init
-loop-number-init g c = record { moves = moves_itself g.D.Disk g.M.Drive tt c.args.self.now; resumed = resumed_none c.args.self.now }
+loop-number-init g c = record { moves = moves_itself g.D.Disk g.M.Drive tt c.args.self.now; resumed = resumed_none c.args.self.now; runs = refl }
 
 pub loop-number-preserved : goal.loop-number-preserved
 loop-number-preserved g c = record {
-  moves = moves_then g.D.Disk g.M.Drive tt (Ok tt) _ _ _ c.loop-number.invariant.moves c.in_ok-resume_at.ensures.moves;
+  moves = moves_then g.D.Disk g.M.Drive tt (Ok tt) _ _ _ c.loop-number.invariant.runs c.loop-number.invariant.moves c.in_ok-resume_at.ensures.moves;
   resumed = resumed_on c.loop-number.number _ _ _ c.loop-number.invariant.resumed c.in_ok-resume_at.ensures.resumed;
+  runs = c.in_ok-resume_at.ensures.runs ∙ c.loop-number.invariant.runs;
 }
 
 pub returns-in_err-resume_at-clause-moves : goal.returns-in_err-resume_at-clause-moves
 returns-in_err-resume_at-clause-moves g c =
     let p = err_from_is_err_and c.from_residual.result c.from_residual.ensures.1 in
-    rw (p.1, p.2) (moves_then g.D.Disk g.M.Drive tt (Err _) _ _ _ c.loop-number.invariant.moves c.in_err-resume_at.ensures.moves)
+    rw (p.1, p.2) (moves_then g.D.Disk g.M.Drive tt (Err _) _ _ _ c.loop-number.invariant.runs c.loop-number.invariant.moves c.in_err-resume_at.ensures.moves)
 
 pub returns-clause-moves : goal.returns-clause-moves
 returns-clause-moves g c = c.loop-number.invariant.moves
@@ -25,3 +26,9 @@ pub returns-clause-resumed : goal.returns-clause-resumed
 returns-clause-resumed g c =
     let ends : c.loop-number.number ≡ 65 = search rules in
     resumed_all _ _ (rw ends at c.loop-number.invariant.resumed)
+
+pub returns-in_err-resume_at-clause-runs : goal.returns-in_err-resume_at-clause-runs
+returns-in_err-resume_at-clause-runs g c = c.in_err-resume_at.ensures.runs ∙ c.loop-number.invariant.runs
+
+pub returns-clause-runs : goal.returns-clause-runs
+returns-clause-runs g c = c.loop-number.invariant.runs

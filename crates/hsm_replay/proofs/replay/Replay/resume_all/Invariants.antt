@@ -1,7 +1,8 @@
-use Rattle.std.proofs.Common.{Ok}
+use Rattle.std.proofs.Common.{◌≡◌, Ok}
 use Rattle.std.specs.List.{AllByRecursion}
-use Rattle.hsm_replay.specs.Follows.{IsOfSettling}
+use Rattle.marked_history.specs.Follows.{IsOfSettling}
 use Rattle.hsm_replay.specs.Keeping.{Moves}
+use Rattle.hsm_replay.specs.Systems.{running}
 use Rattle.hsm_replay.proofs.Rounds.{ResumedTo}
 use Rattle.hsm_replay.proofs.replay.Replay.resume_all.Given as goal
 
@@ -9,4 +10,5 @@ abbrev pub invariant-loop-number : goal.invariant-loop-number
 invariant-loop-number g l = record {
   moves : Moves {T = Unit {0}} g.D.Disk g.M.Drive (AllByRecursion IsOfSettling) (Ok tt) l.fn.self l.self;
   resumed : ResumedTo l.number l.fn.self l.self;
+  runs : running l.self ≡ running l.fn.self;
 }

@@ -1,30 +1,62 @@
-use Rattle.std.proofs.Common.{◌∙◌, ◌<◌, length, Ok, Err, sym, subst, arith}
+use Rattle.std.proofs.Common.{◌≡◌, ◌∙◌, ◌<◌, List, length, Ok, Err, sym, subst, arith}
 use Rattle.std.specs.List.{AllByRecursion}
 use Rattle.std.proofs.lemmas.Result.{err_from_is_err_and}
-use Rattle.hsm_replay.specs.Follows.{IsOfSettling}
+use Rattle.plain_model.specs.declared.entries.Entry.{Entry}
+use Rattle.marked_history.specs.Follows.{IsOfSettling}
+use Rattle.hsm_replay.specs.Freshness.{StaysFresh}
 use Rattle.hsm_replay.specs.Keeping.{Moves}
-use Rattle.hsm_replay.specs.Systems.{System}
+use Rattle.hsm_replay.specs.Rests.{refreshed}
+use Rattle.hsm_replay.specs.Settled.{EndsQuietly}
+use Rattle.hsm_replay.specs.Systems.{System, running}
 use Rattle.hsm_replay.proofs.Beginning.{refresh_moves}
+use Rattle.hsm_replay.proofs.WhichRun.{refreshed_runs}
+use Rattle.hsm_replay.proofs.Freshness.{fresh_itself, fresh_on}
 use Rattle.hsm_replay.proofs.Joining.{moves_then, moves_with, stops_with}
+use Rattle.hsm_replay.proofs.Resting.{settles_rightly}
 use Rattle.hsm_replay.proofs.Working.{some_event}
 use Rattle.hsm_replay.proofs.replay.Replay.settle.Goals as goal
 
-pub loop-init : goal.loop-init
-loop-init g c = subst (λ (s : System g.row.D.Denot g.row.M.Denot). Moves {T = Unit {0}} g.D.Disk g.M.Drive (AllByRecursion IsOfSettling) (Ok tt) c.args.self.now s) (sym c.refresh.ensures) (refresh_moves g.D.Disk g.M.Drive c.args.self.now)
+pub loop-self-init : goal.loop-self-init
+loop-self-init g c = record {
+  moves = subst (λ (s : System g.row.D.Denot g.row.M.Denot). Moves {T = Unit {0}} g.D.Disk g.M.Drive (AllByRecursion IsOfSettling) (Ok tt) c.args.self.now s) (sym c.refresh.ensures) (refresh_moves g.D.Disk g.M.Drive c.args.self.now);
+  fresh = subst (λ (s : System g.row.D.Denot g.row.M.Denot). StaysFresh (refreshed c.args.self.now) s) (sym c.refresh.ensures) (fresh_itself (refreshed c.args.self.now));
+  runs = subst (λ (s : System g.row.D.Denot g.row.M.Denot). running s ≡ running c.args.self.now) (sym c.refresh.ensures) (refreshed_runs c.args.self.now);
+}
 
-pub loop-preserved : goal.loop-preserved
-loop-preserved g c = moves_then g.D.Disk g.M.Drive tt (Ok tt) _ _ _ c.loop.invariant (moves_with g.D.Disk g.M.Drive c.in_ok-round.field-0 tt _ _ c.in_ok-round.ensures.moves)
+pub loop-self-preserved : goal.loop-self-preserved
+loop-self-preserved g c = record {
+  moves = moves_then g.D.Disk g.M.Drive tt (Ok tt) _ _ _ c.loop-self.invariant.runs c.loop-self.invariant.moves (moves_with g.D.Disk g.M.Drive c.in_ok-round.field-0 tt _ _ c.in_ok-round.ensures.moves);
+  fresh = fresh_on (refreshed c.args.self.now) c.loop-self.self c.round.new.self c.loop-self.invariant.fresh c.in_ok-round.ensures.fresh;
+  runs = c.in_ok-round.ensures.runs ∙ c.loop-self.invariant.runs;
+}
 
-pub loop-smaller : goal.loop-smaller
-loop-smaller g c =
+pub loop-self-smaller : goal.loop-self-smaller
+loop-self-smaller g c =
     let goes = c.in_ok-round.ensures.moves.runs.goes_on in
-    let longer : length c.loop.self.store.history < length c.round.new.self.store.history = some_event g.D.Disk g.M.Drive _ _ goes.more goes.history (sym c.in_ok-round.ensures.quiet ∙ c.if-branch.false) in
+    let longer : length c.loop-self.self.store.history < length c.round.new.self.store.history = some_event g.D.Disk g.M.Drive _ _ goes.more goes.history (sym c.in_ok-round.ensures.quiet ∙ c.if-branch.false) in
     omega (arith, longer, c.entries.ensures.few)
 
 pub returns-in_err-round-clause-moves : goal.returns-in_err-round-clause-moves
 returns-in_err-round-clause-moves g c =
     let p = err_from_is_err_and c.from_residual.result c.from_residual.ensures.1 in
-    rw (p.1, p.2) (moves_then g.D.Disk g.M.Drive tt (Err _) _ _ _ c.loop.invariant (stops_with g.D.Disk g.M.Drive _ _ _ c.in_err-round.ensures.moves))
+    rw (p.1, p.2) (moves_then g.D.Disk g.M.Drive tt (Err _) _ _ _ c.loop-self.invariant.runs c.loop-self.invariant.moves (stops_with g.D.Disk g.M.Drive _ _ _ c.in_err-round.ensures.moves))
 
 pub returns-then-branch-clause-moves : goal.returns-then-branch-clause-moves
-returns-then-branch-clause-moves g c = moves_then g.D.Disk g.M.Drive tt (Ok tt) _ _ _ c.loop.invariant (moves_with g.D.Disk g.M.Drive c.in_ok-round.field-0 tt _ _ c.in_ok-round.ensures.moves)
+returns-then-branch-clause-moves g c = moves_then g.D.Disk g.M.Drive tt (Ok tt) _ _ _ c.loop-self.invariant.runs c.loop-self.invariant.moves (moves_with g.D.Disk g.M.Drive c.in_ok-round.field-0 tt _ _ c.in_ok-round.ensures.moves)
+
+pub returns-then-branch-clause-settled : goal.returns-then-branch-clause-settled
+returns-then-branch-clause-settled g c =
+    let goes = c.loop-self.invariant.moves.runs.goes_on in
+    (goes.more, subst (λ (from : List Entry). EndsQuietly from c.round.new.self) goes.history (c.in_ok-round.ensures.ends c.if-branch.true).0)
+
+pub returns-then-branch-clause-settles : goal.returns-then-branch-clause-settles
+returns-then-branch-clause-settles g c = λ working packed.
+    let goes = c.in_ok-round.ensures.moves.runs in
+    settles_rightly g.M.Drive _ _ _ c.loop-self.invariant.runs c.loop-self.invariant.moves.keeps (c.in_ok-round.ensures.ends c.if-branch.true) (fresh_on (refreshed c.args.self.now) c.loop-self.self c.round.new.self c.loop-self.invariant.fresh c.in_ok-round.ensures.fresh) c.kept.ensures
+    (goes.works (c.loop-self.invariant.moves.runs.works working)) (goes.goes_on.packed (c.loop-self.invariant.moves.runs.goes_on.packed packed))
+
+pub returns-then-branch-clause-runs : goal.returns-then-branch-clause-runs
+returns-then-branch-clause-runs g c = c.in_ok-round.ensures.runs ∙ c.loop-self.invariant.runs
+
+pub returns-in_err-round-clause-runs : goal.returns-in_err-round-clause-runs
+returns-in_err-round-clause-runs g c = c.in_err-round.ensures.runs ∙ c.loop-self.invariant.runs

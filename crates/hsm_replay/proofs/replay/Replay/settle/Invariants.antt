@@ -1,11 +1,18 @@
-use Rattle.std.proofs.Common.{◌-◌, ◌^◌, length, Ok}
+use Rattle.std.proofs.Common.{◌≡◌, ◌-◌, ◌^◌, length, Ok}
 use Rattle.std.specs.List.{AllByRecursion}
-use Rattle.hsm_replay.specs.Follows.{IsOfSettling}
+use Rattle.marked_history.specs.Follows.{IsOfSettling}
+use Rattle.hsm_replay.specs.Freshness.{StaysFresh}
 use Rattle.hsm_replay.specs.Keeping.{Moves}
+use Rattle.hsm_replay.specs.Rests.{refreshed}
+use Rattle.hsm_replay.specs.Systems.{running}
 use Rattle.hsm_replay.proofs.replay.Replay.settle.Given as goal
 
-abbrev pub invariant-loop : goal.invariant-loop
-invariant-loop g l = Moves {T = Unit {0}} g.D.Disk g.M.Drive (AllByRecursion IsOfSettling) (Ok tt) l.fn.self l.self
+abbrev pub invariant-loop-self : goal.invariant-loop-self
+invariant-loop-self g l = record {
+  moves : Moves {T = Unit {0}} g.D.Disk g.M.Drive (AllByRecursion IsOfSettling) (Ok tt) l.fn.self l.self;
+  fresh : StaysFresh (refreshed l.fn.self) l.self;
+  runs : running l.self ≡ running l.fn.self;
+}
 
-abbrev pub decreases-loop : goal.decreases-loop
-decreases-loop g l = 2 ^ 64 - length l.self.store.history
+abbrev pub decreases-loop-self : goal.decreases-loop-self
+decreases-loop-self g l = 2 ^ 64 - length l.self.store.history

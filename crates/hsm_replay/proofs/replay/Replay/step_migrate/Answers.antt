@@ -1,5 +1,9 @@
-use Rattle.std.proofs.Common.{inr}
+use Rattle.std.proofs.Common.{inr, sym, subst}
 use Rattle.std.proofs.lemmas.Result.{err_from_is_err_and}
+use Rattle.hsm_types.specs.declared.daemons.Heard.{Heard}
+use Rattle.migrate_daemon.specs.Machine.{IsWithin}
+use Rattle.hsm_replay.specs.Systems.{MigrateIsRight}
+use Rattle.hsm_replay.proofs.Asked.{migrate_asks_on}
 use Rattle.hsm_replay.proofs.Moving.{migrate_stops, migrate_acts, migrate_hears}
 use Rattle.hsm_replay.proofs.replay.Replay.step_migrate.Goals as goal
 
@@ -13,3 +17,11 @@ returns-clause-stepped g c = inr (migrate_acts g.D.Disk g.M.Drive c.self.view_is
 
 pub keep_migrate-requires : goal.keep_migrate-requires
 keep_migrate-requires g c = migrate_hears g.D.Disk g.M.Drive c.self.view_is c.in_ok-act.act c.in-Some.migrating c.next.new.self c.in-Some.is c.next.ensures.heard c.in_ok-act.ensures.ok c.in_ok-heard.heard c.act.new.self c.in_ok-heard.ensures.performed
+
+pub invariant_of-self-2 : goal.invariant_of-self-2
+invariant_of-self-2 g c = record {
+  drives = c.self.invariant.drives;
+  within = subst (λ (told : Heard). IsWithin told) (sym c.next.ensures.heard) tt;
+  recall = c.self.invariant.recall;
+  migrate = migrate_asks_on c.in-Some.migrating.machine c.in-Some.migrating.heard c.self.inside.settings c.in_ok-act.act c.next.new.self.machine (subst (MigrateIsRight c.self.inside.settings) c.in-Some.is c.self.invariant.migrate) c.in_ok-act.ensures.ok;
+}

@@ -1,5 +1,7 @@
-use Rattle.std.proofs.Common.{inr}
+use Rattle.std.proofs.Common.{inr, subst}
 use Rattle.std.proofs.lemmas.Result.{err_from_is_err_and}
+use Rattle.hsm_replay.specs.Systems.{RecallIsRight}
+use Rattle.hsm_replay.proofs.Asked.{recall_asks_on}
 use Rattle.hsm_replay.proofs.Moving.{recall_stops, recall_acts}
 use Rattle.hsm_replay.proofs.replay.Replay.step_recall.Goals as goal
 
@@ -10,3 +12,11 @@ returns-in_err-heard-clause-stopped g c =
 
 pub returns-clause-stepped : goal.returns-clause-stepped
 returns-clause-stepped g c = inr (recall_acts g.D.Disk g.M.Drive c.self.view_is c.in_ok-act.act c.in-Some.recalling c.next.new.self c.in-Some.is c.next.ensures.heard c.in_ok-act.ensures.ok c.in_ok-heard.heard c.act.new.self c.keep_recall.new.self c.in_ok-heard.ensures.performed c.keep_recall.ensures)
+
+pub invariant_of-self-2 : goal.invariant_of-self-2
+invariant_of-self-2 g c = record {
+  drives = c.self.invariant.drives;
+  within = c.self.invariant.within;
+  migrate = c.self.invariant.migrate;
+  recall = recall_asks_on c.in-Some.recalling.machine c.in-Some.recalling.heard (subst RecallIsRight c.in-Some.is c.self.invariant.recall) c.in_ok-act.act c.next.new.self.machine c.in_ok-act.ensures.ok;
+}

@@ -1,6 +1,7 @@
 -- When a marked history is that of a script's lines.
 use Rattle.std.specs.Prelude.{◌≡◌, ◌⊎◌, ℕ, List, [], ◌∷◌, ◌++◌}
 use Rattle.std.specs.List.{AllByRecursion}
+use Rattle.hsm_types.specs.Callers.{IsCallerNumber}
 use Rattle.hsm_types.specs.declared.daemons.Daemon.{Daemon}
 use Rattle.hsm_types.specs.declared.dm.DmCall.{DmCall}
 use Rattle.hsm_types.specs.declared.dm.DmReply.{DmReply}
@@ -11,7 +12,7 @@ use Rattle.plain_model.specs.declared.entries.Answer.{Answer}
 use Rattle.script_text.specs.declared.lines.Line.{Line}
 use Rattle.script_text.specs.declared.lines.Line.TheVariants.{Event, Start, Kill, Step, Settle}
 use Rattle.hsm_core.specs.Answers.{entry_of}
-use Rattle.hsm_replay.specs.Marks.{Mark, no_daemons, made}
+use Rattle.marked_history.specs.Marks.{Mark, no_daemons, made}
 
 -- a call that the daemon made
 abbrev pub IsMadeBy : Daemon → Mark → Type 0
@@ -19,7 +20,7 @@ IsMadeBy daemon m = (sid : Sid) × (call : DmCall) × (reply : DmReply) × (m �
 
 -- a caller's resume
 abbrev pub IsResume : Mark → Type 0
-IsResume m = (caller : ℕ) × (answer : Answer) × (m ≡ no_daemons (entry_of (Caller caller) Resume answer))
+IsResume m = (caller : ℕ) × (answer : Answer) × IsCallerNumber caller × (m ≡ no_daemons (entry_of (Caller caller) Resume answer))
 
 -- a step is at most one call
 abbrev pub IsStepOf : Daemon → List Mark → Type 0

@@ -37,7 +37,7 @@ use Rattle.hsm_core.specs.Ready.{ready_by, ready}
 use Rattle.hsm_core.specs.Store.{Store, state_of}
 use Rattle.hsm_core.specs.declared.store.Ready.{Ready}
 use Rattle.hsm_core.specs.declared.store.Ready.TheVariants.{Idle, Waits, Now}
-use Rattle.hsm_replay.specs.Quiet.{is_question, is_refusal, is_quiet_event, is_quiet}
+use Rattle.marked_history.specs.Quiet.{is_question, is_refusal, is_quiet_event, is_quiet}
 
 -- ---- which entries are not quiet
 
@@ -85,7 +85,7 @@ all_quiet_append xs ys quiet = and_parts (list_all is_quiet xs) (list_all is_qui
 -- ---- what a quiet event leaves of the model's state
 
 -- what is served is no refusal
-served_plainly : (s : Superblock) (st : State) (sid : Sid) (call : DmCall) → is_refusal (service s st sid call).reply ≡ false
+pub served_plainly : (s : Superblock) (st : State) (sid : Sid) (call : DmCall) → is_refusal (service s st sid call).reply ≡ false
 served_plainly s st sid dm.GetSpace = refl
 served_plainly s st sid call = refl
 
@@ -115,7 +115,7 @@ module _ (s : Superblock) (st : State) (sid : Sid) (call : DmCall) where
 -- ---- what a resume would come to after it
 
 -- by what waits as users see it
-abbrev ready_seen : Option Pending → Reply → Ready
+abbrev pub ready_seen : Option Pending → Reply → Ready
 ready_seen None reply = Idle
 ready_seen (Some a) (Still t) = Waits t
 ready_seen (Some a) (Blocked t) = Waits t
@@ -128,7 +128,7 @@ seen_alike (Some a) (Blocked t) = refl
 seen_alike (Some a) reply = refl
 
 -- by the model's state
-abbrev ready_in : Superblock → State → ℕ → Ready
+abbrev pub ready_in : Superblock → State → ℕ → Ready
 ready_in s st c = ready_seen (st.ledger.pending c) (reply_to s st c Resume)
 
 -- it doesn't go by the number of the last entry
@@ -136,7 +136,7 @@ noted_ready : (s : Superblock) (st : State) (c : ℕ) → ready_in s (noted st) 
 noted_ready s st c = refl
 
 module _ {D : Type 0} where
-  ready_by_state : (s : Store D) (c : ℕ) → s.files.failed ≡ false → ready s c ≡ ready_in (superblock_of s.opened) (state_of s) c
+  pub ready_by_state : (s : Store D) (c : ℕ) → s.files.failed ≡ false → ready s c ≡ ready_in (superblock_of s.opened) (state_of s) c
   ready_by_state s c working =
       ap (λ (failed : Bool). ready_by (waiting s.tables c) (if failed then Refused Disk else reply_to (superblock_of s.opened) (state_of s) c Resume)) working
       ∙ sym (seen_alike (waiting s.tables c) (reply_to (superblock_of s.opened) (state_of s) c Resume))
@@ -154,3 +154,13 @@ module _ {D : Type 0} where
       let own : is_quiet_event (Dm call) (Told (dm_reply_to (superblock_of old.opened) (state_of old) sid call)) ≡ true = ap (is_quiet_event (Dm call)) (sym done.answer) ∙ quiet in
       let left : state_of new ≡ noted (state_of old) = done.leaves ∙ quiet_noted (superblock_of old.opened) (state_of old) sid call own in
       same_ready old new c done.goes.working still done.goes.opened (ap (λ (st : State). ready_in (superblock_of old.opened) st c) left ∙ noted_ready (superblock_of old.opened) (state_of old) c)
+
+  -- It leaves the rights as they were.
+  pub quiet_rights : (g : disk.Ghosts D) (old new : Store D) (sid : Sid) (call : DmCall) (reply : DmReply) → IsTold g old sid call reply new → new.files.failed ≡ false → is_quiet_event (Dm call) (Told reply) ≡ true → (state_of new).rights ≡ (state_of old).rights
+  quiet_rights g old new sid call reply (inl closed) still quiet = absurd (false≢true (sym still ∙ ap (λ (s : Store D). s.files.failed) closed.same ∙ closed.failed))
+  quiet_rights g old new sid call reply (inr (inl lacks)) still quiet = ap (λ (st : State). st.rights) lacks.state
+  quiet_rights g old new sid call reply (inr (inr (inl failed))) still quiet = absurd (false≢true (sym still ∙ failed.failed))
+  quiet_rights g old new sid call reply (inr (inr (inr done))) still quiet =
+      let own : is_quiet_event (Dm call) (Told (dm_reply_to (superblock_of old.opened) (state_of old) sid call)) ≡ true = ap (is_quiet_event (Dm call)) (sym done.answer) ∙ quiet in
+      let left : state_of new ≡ noted (state_of old) = done.leaves ∙ quiet_noted (superblock_of old.opened) (state_of old) sid call own in
+      ap (λ (st : State). st.rights) left

@@ -1,12 +1,9 @@
 -- In a served history each answer that names a fault of a medium is caused: what the recall daemon knows was told after the access was parked.
-use Rattle.std.proofs.Common.{◌≡◌, ℕ, Bool, true, false, not, ◌==◌, List, [], ◌∷◌, ◌++◌, drop, Option, None, Some, refl, sym, ◌∙◌, ap, subst, append_assoc, append-nil}
-use Rattle.std.proofs.lemmas.List.Elements.{All-nil, All-cons, All-head, All-tail, All-weaker, All-append, All-filter, All-map, All-contains, All-contains_itself}
+use Rattle.std.proofs.Common.{◌≡◌, ℕ, Bool, true, false, not, ◌==◌, List, [], ◌∷◌, ◌++◌, Option, None, Some, refl, sym, ◌∙◌, ap, subst, append_assoc, append-nil}
+use Rattle.std.proofs.lemmas.List.Elements.{All-nil, All-head, All-tail, All-weaker, All-filter, All-contains, All-contains_itself}
 use Rattle.std.specs.Prelude.{◌^◌, IfSome, if◌then◌else◌, nat_lt, Contains}
-use Rattle.std.specs.List.{All, filter_map, cons_option, enumerate_from}
+use Rattle.std.specs.List.{All, filter_map, enumerate_from}
 use Rattle.std.specs.Option.{option_map}
-use Rattle.std.specs.Str.{bytes_eq}
-use Rattle.hsm_types.specs.Daemons.{information, kinds_of}
-use Rattle.hsm_types.specs.Messages.{takes}
 use Rattle.hsm_types.specs.Sessions.{no_sessions}
 use Rattle.hsm_types.specs.declared.daemons.Daemon.{Daemon}
 use Rattle.hsm_types.specs.declared.daemons.Daemon.TheVariants.{Recall, Migrate}
@@ -16,15 +13,12 @@ use Rattle.hsm_types.specs.declared.dm.DmRefusal.{DmRefusal}
 use Rattle.hsm_types.specs.declared.dm.DmRefusal.TheVariants as why
 use Rattle.hsm_types.specs.declared.dm.DmReply.{DmReply}
 use Rattle.hsm_types.specs.declared.dm.DmReply.TheVariants as reply
-use Rattle.hsm_types.specs.declared.dm.Kinds.{Kinds}
-use Rattle.hsm_types.specs.declared.dm.Response.{Response}
 use Rattle.hsm_types.specs.declared.dm.Response.TheVariants.{Media}
 use Rattle.hsm_types.specs.declared.dm.Right.{Right}
 use Rattle.hsm_types.specs.declared.keys.Handle.{Handle}
 use Rattle.hsm_types.specs.declared.keys.Sid.{Sid}
 use Rattle.hsm_types.specs.declared.keys.Token.{Token}
 use Rattle.hsm_types.specs.declared.media.Fault.{Fault}
-use Rattle.hsm_types.specs.declared.messages.Message.{Message}
 use Rattle.hsm_types.specs.declared.stores.Superblock.{Superblock}
 use Rattle.hsm_types.specs.declared.stubs.Segment.{Segment}
 use Rattle.hsm_types.specs.declared.stubs.Segment.TheVariants.{Resident, Sealed, Offline}
@@ -36,20 +30,21 @@ use Rattle.plain_model.specs.declared.entries.Answer.{Answer}
 use Rattle.plain_model.specs.declared.entries.Answer.TheVariants.{Dm as Told}
 use Rattle.plain_model.specs.declared.entries.Entry.{Entry}
 use Rattle.plain_model.specs.State.{Held, State, just_opened}
-use Rattle.plain_model.specs.Exact.{Exact}
+use Rattle.plain_model.specs.Exact.{Exact, state_by}
 use Rattle.event_msgs.specs.Reading.{told}
 use Rattle.hsm_policy.specs.Settings.{Numbers}
+use Rattle.daemon_session.specs.declared.events.Event.{Event}
 use Rattle.daemon_session.specs.declared.events.Kept.{Kept}
-use Rattle.daemon_session.specs.Seats.{Seat, no_seat, has_kept_token, forgot, marked_at, told_info, seat_hears}
-use Rattle.daemon_session.specs.Tellings.{event_on, own_event, events_in}
-use Rattle.recall_daemon.specs.Known.{Known, Hand, nothing_known, taken, handling, put_off, dropped, asks, back_in, refused, failed, unrestored, unanswered, hears, away_at, away_in}
+use Rattle.daemon_session.specs.Seats.{Seat}
+use Rattle.recall_daemon.specs.Known.{Known, Hand, nothing_known, taken, handling, asks, back_in, refused, failed, unrestored, unanswered, hears, away_at, away_in}
 use Rattle.recall_daemon.specs.declared.away.Away.{Away}
 use Rattle.migrate_daemon.specs.Machine.{answer_of}
 use Rattle.hsm_core.specs.Answers.{entry_of}
-use Rattle.hsm_replay.specs.Marks.{Mark, entries_of, Exchange, exchange_by}
-use Rattle.hsm_replay.specs.Served.{Shown, nothing_shown, with_entry, learned, IsTold, RecallMay, IsServedBy, ServedFrom}
-use Rattle.hsm_replay.specs.Caused.{WasParked, IsCausedBy, ArePacked, ServedIsCaused}
-use Rattle.hsm_replay.proofs.Handing.{IsOfParked, parked_more, of_parked_more, told_parked}
+use Rattle.marked_history.specs.Marks.{Mark, entries_of, Exchange, exchange_by}
+use Rattle.marked_history.specs.Served.{Shown, nothing_shown, with_entry, learned, IsTold, RecallMay, IsServedBy, ServedFrom}
+use Rattle.marked_history.specs.Caused.{WasParked, IsCausedBy, ArePacked, ServedIsCaused}
+use Rattle.marked_history.proofs.Handing.{IsOfParked, parked_more, each_parked}
+use Rattle.marked_history.proofs.Remembering.{stays, cons_each, TellsOnly, recall_kept, tells_each}
 
 -- ---- segments that are away
 
@@ -57,10 +52,6 @@ away_one : (whole : List Segment) (n : ℕ) (x : Segment) → Contains whole x �
 away_one whole n (Resident blocks) is = tt
 away_one whole n (Sealed blocks entry) is = tt
 away_one whole n (Offline entry) is = elim (nat_lt n (2 ^ 32)) as (λ (b : Bool). IfSome (if b then Some (record { segment = n; entry = entry }) else None) (λ (a : Away). Contains whole (Offline a.entry))) [ true ↦ is | false ↦ tt ]
-
-cons_each : {X : Type 0} (P : X → Type 0) (first : Option X) (rest : List X) → IfSome first P → All P rest → All P (cons_option first rest)
-cons_each P None rest is each = each
-cons_each P (Some x) rest is each = All-cons P x rest is each
 
 away_each : (whole l : List Segment) (n : ℕ) → All (Contains whole) l → All (λ (a : Away). Contains whole (Offline a.entry)) (filter_map away_at (enumerate_from n l))
 away_each whole [] n each = All-nil (λ (a : Away). Contains whole (Offline a.entry))
@@ -83,9 +74,12 @@ module _ (s : Superblock) (st : State) where
     pub parked : WasParked s st before t h
     pub away : Contains segments (Offline a.entry)
 
-  -- the kept event is that of an access that was parked
+  -- the event is that of an access that was parked
+  abbrev EventOf : List Entry → Event → Type 0
+  EventOf es e = WasParked s st es e.token e.handle
+
   abbrev IsKeptOf : List Entry → Kept → Type 0
-  IsKeptOf es k = WasParked s st es k.event.token k.event.handle
+  IsKeptOf es k = EventOf es k.event
 
   abbrev AreTold : List Entry → Sid → Token → Handle → Option (List Away) → Type 0
   AreTold es sid t h None = Unit {0}
@@ -127,136 +121,56 @@ module _ (s : Superblock) (st : State) where
     told = λ x same. all_told_more es more x hand.token hand.handle hand.away (is.told x same);
   }
 
+  kept_more : (es more : List Entry) (kept : List Kept) → All (IsKeptOf es) kept → All (IsKeptOf (es ++ more)) kept
+  kept_more es more kept each = All-weaker (IsKeptOf es) (IsKeptOf (es ++ more)) (λ x. parked_more s st es more x.event.token x.event.handle) kept each
+
   known_more : (es more : List Entry) (k : Known) → IsKnownBy es k → IsKnownBy (es ++ more) k
-  known_more es more k is = record {
-    kept = All-weaker (IsKeptOf es) (IsKeptOf (es ++ more)) (λ x. parked_more s st es more x.event.token x.event.handle) k.seat.kept is.kept;
-    hand = hand_more es more k.seat.sid k.hand is.hand;
-  }
+  known_more es more k is = record { kept = kept_more es more k.seat.kept is.kept; hand = hand_more es more k.seat.sid k.hand is.hand }
 
-  -- ---- events that are kept
+  -- ---- what is heard of the event in hand
 
-  event_kept : (es : List Entry) (m : Message) (own : Bool) (found : Option Handle) → IfSome found (λ h. WasParked s st es m.token h)
-      → IfSome (if own then option_map (λ (h : Handle). record { event = event_on m h; marked = false }) found else None) (IsKeptOf es)
-  event_kept es m false found is = tt
-  event_kept es m true None is = tt
-  event_kept es m true (Some h) is = is
+  abbrev HandOf : List Entry → Known → Type 0
+  HandOf es k = IfSome k.hand (IsHandOf es k.seat.sid)
 
-  events_each : (es : List Entry) (d : Daemon) (messages : List Message) → All (IsOfParked s st es) messages → All (IsKeptOf es) (filter_map (own_event d) messages)
-  events_each es d [] each = All-nil (IsKeptOf es)
-  events_each es d (m ∷ more) each =
-      cons_each (IsKeptOf es) (own_event d m) _ (event_kept es m (takes (kinds_of d) m.kind) m.handle (All-head (IsOfParked s st es) m more each)) (events_each es d more (All-tail (IsOfParked s st es) m more each))
-
-  marked_one : (es : List Entry) (t : Token) (k : Kept) → IsKeptOf es k → IsKeptOf es (if has_kept_token t k then record k { marked = true } else k)
-  marked_one es t k is = elim (has_kept_token t k) as (λ (b : Bool). IsKeptOf es (if b then record k { marked = true } else k)) [ true ↦ is | false ↦ is ]
-
-  marked_each : (es : List Entry) (t : Token) (kept : List Kept) → All (IsKeptOf es) kept → All (IsKeptOf es) (marked_at t kept)
-  marked_each es t kept each = All-map (IsKeptOf es) (λ (k : Kept). if has_kept_token t k then record k { marked = true } else k) kept
-      (All-weaker (IsKeptOf es) (λ (k : Kept). IsKeptOf es (if has_kept_token t k then record k { marked = true } else k)) (marked_one es t) kept each)
-
-  forgot_each : (es : List Entry) (t : Token) (kept : List Kept) → All (IsKeptOf es) kept → All (IsKeptOf es) (forgot t kept)
-  forgot_each es t kept each = All-filter (λ (k : Kept). not (has_kept_token t k)) (IsKeptOf es) kept each
-
-  -- ---- what is heard
-
-  module _ (es : List Entry) (k : Known) (is : IsKnownBy es k) where
-    put_off_by : (t : Token) → IsKnownBy es (put_off t k)
-    put_off_by t = record { kept = marked_each es t k.seat.kept is.kept; hand = tt }
-
-    dropped_by : (t : Token) → IsKnownBy es (dropped t k)
-    dropped_by t = record { kept = forgot_each es t k.seat.kept is.kept; hand = tt }
-
-    -- what is heard of the file of the event in hand
+  module _ (es : List Entry) (k : Known) (is : HandOf es k) where
     handled : (f : Hand → Hand) (found : Option Hand) → ((hand : Hand) → IsHandOf es k.seat.sid hand → IsHandOf es k.seat.sid (f hand)) → IfSome found (IsHandOf es k.seat.sid) → IfSome (option_map f found) (IsHandOf es k.seat.sid)
     handled f None keeps h = tt
     handled f (Some hand) keeps h = keeps hand h
 
-    handling_by : (f : Hand → Hand) → ((hand : Hand) → IsHandOf es k.seat.sid hand → IsHandOf es k.seat.sid (f hand)) → IsKnownBy es (handling f k)
-    handling_by f keeps = record { kept = is.kept; hand = handled f k.hand keeps is.hand }
+    handling_by : (f : Hand → Hand) → ((hand : Hand) → IsHandOf es k.seat.sid hand → IsHandOf es k.seat.sid (f hand)) → HandOf es (handling f k)
+    handling_by f keeps = handled f k.hand keeps is
 
-    refused_by : (t : Token) (w : DmRefusal) → IsKnownBy es (refused t w k)
+    refused_by : (t : Token) (w : DmRefusal) → HandOf es (refused t w k)
     refused_by t why.NoObject = handling_by (λ hand. record hand { gone = true }) (λ hand h. record { parked = h.parked; told = h.told })
-    refused_by t why.NoToken = dropped_by t
-    refused_by t (why.NotYours owner) = dropped_by t
+    refused_by t why.NoToken = tt
+    refused_by t (why.NotYours owner) = tt
     refused_by t why.NoSession = is
-    refused_by t w = put_off_by t
+    refused_by t w = tt
 
-    failed_by : (t : Token) (answer : DmReply) → IsKnownBy es (failed t answer k)
+    failed_by : (t : Token) (answer : DmReply) → HandOf es (failed t answer k)
     failed_by t (reply.Refused w) = refused_by t w
-    failed_by t answer = put_off_by t
+    failed_by t answer = tt
 
-    unrestored_by : (t : Token) (w : DmRefusal) → IsKnownBy es (unrestored t w k)
+    unrestored_by : (t : Token) (w : DmRefusal) → HandOf es (unrestored t w k)
     unrestored_by t (why.NoSpace need free) = handling_by (λ hand. record hand { short = true }) (λ hand h. record { parked = h.parked; told = h.told })
     unrestored_by t w = refused_by t w
-
-    unanswered_by : (t : Token) (w : DmRefusal) → IsKnownBy es (unanswered t w k)
-    unanswered_by t why.NoToken = dropped_by t
-    unanswered_by t (why.NotYours owner) = dropped_by t
-    unanswered_by t why.NoSession = is
-    unanswered_by t w = put_off_by t
 
     back_told : (sid : Sid) (t : Token) (h : Handle) (j : ℕ) (away : Option (List Away)) → AreTold es sid t h away → AreTold es sid t h (back_in j away)
     back_told sid t h j None are = tt
     back_told sid t h j (Some away) are = All-filter (λ (a : Away). not (a.segment == j)) (WasTold es sid t h) away are
 
-    restored_by : (j : ℕ) → IsKnownBy es (handling (λ (hand : Hand). record hand { away = back_in j hand.away }) k)
+    restored_by : (j : ℕ) → HandOf es (handling (λ (hand : Hand). record hand { away = back_in j hand.away }) k)
     restored_by j = handling_by (λ hand. record hand { away = back_in j hand.away }) (λ hand h. record { parked = h.parked; told = λ x same. back_told x hand.token hand.handle j hand.away (h.told x same) })
 
-    sized_by : (size : ℕ) → IsKnownBy es (handling (λ (hand : Hand). record hand { size = Some size }) k)
+    sized_by : (size : ℕ) → HandOf es (handling (λ (hand : Hand). record hand { size = Some size }) k)
     sized_by size = handling_by (λ hand. record hand { size = Some size }) (λ hand h. record { parked = h.parked; told = h.told })
 
-  -- ---- the daemon's seat
-
-  -- where the answer is a buffer, each message that it tells is of an access that was parked
-  abbrev Tells : List Entry → DmReply → Type 0
-  Tells es answer = (bytes : List ℕ) (tokens : List Token) → answer ≡ reply.Packed bytes tokens → All (IsOfParked s st es) (told bytes)
-
-  module _ (es : List Entry) where
-    with_events : (kept : List Kept) (answer : DmReply) (bytes : List ℕ) (tokens : List Token) → All (IsKeptOf es) kept → Tells es answer → answer ≡ reply.Packed bytes tokens → All (IsKeptOf es) (kept ++ events_in Recall bytes)
-    with_events kept answer bytes tokens each tells same = All-append (IsKeptOf es) kept (events_in Recall bytes) each (events_each es Recall (told bytes) (tells bytes tokens same))
-
-    info_kept : (seat : Seat) (target : Sid) (info : List ℕ) → All (IsKeptOf es) seat.kept → All (IsKeptOf es) (told_info Recall target info seat).kept
-    info_kept seat target info each = elim (bytes_eq info (information Recall)) as (λ (b : Bool). All (IsKeptOf es) (if b then record seat { found = Some target } else record seat { others = option_map (λ (ids : List Sid). drop 1 ids) seat.others }).kept) [ true ↦ each | false ↦ each ]
-
-    seat_kept : (seat : Seat) (c : DmCall) (answer : DmReply) → All (IsKeptOf es) seat.kept → Tells es answer → All (IsKeptOf es) (seat_hears Recall seat c answer).kept
-    seat_kept seat (call.GetEvents most room) (reply.Packed bytes tokens) each tells = with_events seat.kept (reply.Packed bytes tokens) bytes tokens each tells refl
-    seat_kept seat (call.FindEventMsg t room) (reply.Packed bytes tokens) each tells = with_events seat.kept (reply.Packed bytes tokens) bytes tokens each tells refl
-    seat_kept seat (call.FindEventMsg t room) (reply.Refused why.NoToken) each tells = each
-    seat_kept seat (call.FindEventMsg t room) (reply.Refused (why.NotYours owner)) each tells = each
-    seat_kept seat (call.Respond t response) reply.Done each tells = forgot_each es t seat.kept each
-    seat_kept seat (call.Respond t response) (reply.Refused why.NoToken) each tells = forgot_each es t seat.kept each
-    seat_kept seat (call.Respond t response) (reply.Refused (why.NotYours owner)) each tells = forgot_each es t seat.kept each
-    seat_kept seat (call.QuerySession target) (reply.Info info) each tells = info_kept seat target info each
-    seat_kept seat (call.CreateSession old info) (reply.Session sid) each tells = All-nil (IsKeptOf es)
-    seat_kept seat call.GetAllSessions (reply.Sids ids) each tells = each
-    seat_kept seat (call.SetDisp kinds) reply.Done each tells = each
-    seat_kept seat call.GetAllTokens (reply.Tokens tokens) each tells = each
-    seat_kept seat c answer each tells = each
-
-  info_sid : (seat : Seat) (target : Sid) (info : List ℕ) → (told_info Recall target info seat).sid ≡ seat.sid
-  info_sid seat target info = elim (bytes_eq info (information Recall)) as (λ (b : Bool). (if b then record seat { found = Some target } else record seat { others = option_map (λ (ids : List Sid). drop 1 ids) seat.others }).sid ≡ seat.sid) [ true ↦ refl | false ↦ refl ]
-
-  -- the calls that lead to no other session
-  query_sid : (seat : Seat) (target : Sid) (answer : DmReply) → (seat_hears Recall seat (call.QuerySession target) answer).sid ≡ seat.sid
-  query_sid seat target (reply.Info info) = info_sid seat target info
-  query_sid seat target answer = refl
-
-  set_sid : (seat : Seat) (kinds : Kinds) (answer : DmReply) → (seat_hears Recall seat (call.SetDisp kinds) answer).sid ≡ seat.sid
-  set_sid seat kinds reply.Done = refl
-  set_sid seat kinds answer = refl
-
-  tokens_sid : (seat : Seat) (answer : DmReply) → (seat_hears Recall seat call.GetAllTokens answer).sid ≡ seat.sid
-  tokens_sid seat (reply.Tokens tokens) = refl
-  tokens_sid seat answer = refl
-
-  find_sid : (seat : Seat) (t : Token) (room : ℕ) (answer : DmReply) → (seat_hears Recall seat (call.FindEventMsg t room) answer).sid ≡ seat.sid
-  find_sid seat t room (reply.Packed bytes tokens) = refl
-  find_sid seat t room (reply.Refused why.NoToken) = refl
-  find_sid seat t room (reply.Refused (why.NotYours owner)) = refl
-  find_sid seat t room answer = refl
-
-  events_sid : (seat : Seat) (most room : ℕ) (answer : DmReply) → (seat_hears Recall seat (call.GetEvents most room) answer).sid ≡ seat.sid
-  events_sid seat most room (reply.Packed bytes tokens) = refl
-  events_sid seat most room answer = refl
+  -- a response leaves none in hand
+  unanswered_by : (es : List Entry) (seat : Seat) (t : Token) (w : DmRefusal) → HandOf es (unanswered t w (record { seat = seat; hand = None }))
+  unanswered_by es seat t why.NoToken = tt
+  unanswered_by es seat t (why.NotYours owner) = tt
+  unanswered_by es seat t why.NoSession = tt
+  unanswered_by es seat t w = tt
 
   -- ---- its calls
 
@@ -265,9 +179,6 @@ module _ (s : Superblock) (st : State) where
   asked_parked es kept t h each is =
       let own : WasParked s st es is.0.token is.0.handle = All-contains (IsKeptOf es) kept (record { event = is.0; marked = is.1.0 }) each is.1.1 in
       subst (λ (x : Handle). WasParked s st es t x) is.3 (subst (λ (x : Token). WasParked s st es x is.0.handle) is.2 own)
-
-  tells_more : (es more : List Entry) (answer : DmReply) → Tells es answer → Tells (es ++ more) answer
-  tells_more es more answer tells bytes tokens same = All-weaker (IsOfParked s st es) (IsOfParked s st (es ++ more)) (λ m. of_parked_more s st es more m.token m.handle) (told bytes) (tells bytes tokens same)
 
   module _ (before : List Entry) (sid : Sid) where
     abbrev after : DmCall → DmReply → List Entry
@@ -298,58 +209,37 @@ module _ (s : Superblock) (st : State) where
     listed t h segments seat (Some x) hand own held same is = let one : x ≡ hand = cc in listed_hand t h segments seat x own (ap (λ (y : Hand). y.handle) one ∙ same) is
 
     module _ (k : Known) (is : IsKnownBy before k) where
-      -- a call that tells nothing of the event in hand
-      others_by : (c : DmCall) (answer : DmReply) → Tells before answer → (seat_hears Recall k.seat c answer).sid ≡ k.seat.sid → IsKnownBy (after c answer) (record { seat = seat_hears Recall k.seat c answer; hand = k.hand })
-      others_by c answer tells same =
-          let on : IsKnownBy (after c answer) k = known_more before _ k is in
-          record {
-            kept = seat_kept (after c answer) k.seat c answer on.kept (tells_more before _ answer tells);
-            hand = subst (λ (x : Option Sid). IfSome k.hand (IsHandOf (after c answer) x)) (sym same) on.hand;
-          }
+      taken_by : (t : Token) (h : Handle) (right : Right) (answer : DmReply) → IsTold k.seat.kept t h → HandOf (after (call.RequestRight t h right) answer) (record { seat = k.seat; hand = Some (taken t h) })
+      taken_by t h right answer told = record { parked = parked_more s st before _ t h (asked_parked before k.seat.kept t h is.kept told); told = λ x same. tt }
 
-      -- it begins anew
-      anew_by : (c : DmCall) (answer : DmReply) → Tells before answer → IsKnownBy (after c answer) (record { seat = seat_hears Recall no_seat c answer; hand = None })
-      anew_by c answer tells = record { kept = seat_kept (after c answer) no_seat c answer (All-nil (IsKeptOf (after c answer))) (tells_more before _ answer tells); hand = tt }
+      on : (c : DmCall) (answer : DmReply) → HandOf (after c answer) k
+      on c answer = hand_more before (entry_of (Session sid) (Dm c) (Told answer) ∷ []) k.seat.sid k.hand is.hand
 
-      taken_by : (t : Token) (h : Handle) (right : Right) (answer : DmReply) → IsTold k.seat.kept t h → IsKnownBy (after (call.RequestRight t h right) answer) (record { seat = k.seat; hand = Some (taken t h) })
-      taken_by t h right answer told = record {
-        kept = (known_more before _ k is).kept;
-        hand = record { parked = parked_more s st before _ t h (asked_parked before k.seat.kept t h is.kept told); told = λ x same. tt };
-      }
+      hand_by : (c : DmCall) (answer : DmReply) → RecallMay k sid c → HandOf (after c answer) (hears (asks k c) c answer)
+      hand_by call.GetAllSessions answer may = tt
+      hand_by (call.CreateSession old info) answer may = tt
+      hand_by (call.RequestRight t h right) reply.Done may = taken_by t h right reply.Done may.2
+      hand_by (call.RequestRight t h right) answer may = failed_by (after (call.RequestRight t h right) answer) (record { seat = k.seat; hand = Some (taken t h) }) (taken_by t h right answer may.2) t answer
+      hand_by (call.GetFileAttr t h) (reply.Attr size stamp blocks) may = sized_by (after (call.GetFileAttr t h) (reply.Attr size stamp blocks)) k (on (call.GetFileAttr t h) (reply.Attr size stamp blocks)) size
+      hand_by (call.GetFileAttr t h) answer may = failed_by (after (call.GetFileAttr t h) answer) k (on (call.GetFileAttr t h) answer) t answer
+      hand_by (call.GetAllocInfo t h) (reply.Alloc segments) may = listed t h segments k.seat.sid k.hand may.1.0 may.0.session may.1.1.0 may.1.1.2 is.hand
+      hand_by (call.GetAllocInfo t h) answer may = failed_by (after (call.GetAllocInfo t h) answer) k (on (call.GetAllocInfo t h) answer) t answer
+      hand_by (call.Restore t h j bytes) reply.Done may = restored_by (after (call.Restore t h j bytes) reply.Done) k (on (call.Restore t h j bytes) reply.Done) j
+      hand_by (call.Restore t h j bytes) (reply.Refused w) may = unrestored_by (after (call.Restore t h j bytes) (reply.Refused w)) k (on (call.Restore t h j bytes) (reply.Refused w)) t w
+      hand_by (call.Restore t h j bytes) answer may = tt
+      hand_by (call.Respond t response) reply.Done may = tt
+      hand_by (call.Respond t response) (reply.Refused w) may = unanswered_by (after (call.Respond t response) (reply.Refused w)) k.seat t w
+      hand_by (call.Respond t response) answer may = tt
+      hand_by c answer may = subst (λ (x : Option Sid). IfSome k.hand (IsHandOf (after c answer) x)) (sym (stays Recall k.seat c answer refl)) (on c answer)
 
-      answered_by : (t : Token) (response : Response) (answer : DmReply) → IsKnownBy (after (call.Respond t response) answer) (record { seat = k.seat; hand = None })
-      answered_by t response answer = record { kept = (known_more before _ k is).kept; hand = tt }
-
-      call_by : (c : DmCall) (answer : DmReply) → Tells before answer → RecallMay k sid c → IsKnownBy (after c answer) (hears (asks k c) c answer)
-      call_by call.GetAllSessions answer tells may = anew_by call.GetAllSessions answer tells
-      call_by (call.CreateSession old info) answer tells may = anew_by (call.CreateSession old info) answer tells
-      call_by (call.QuerySession target) answer tells may = others_by (call.QuerySession target) answer tells (query_sid k.seat target answer)
-      call_by (call.SetDisp kinds) answer tells may = others_by (call.SetDisp kinds) answer tells (set_sid k.seat kinds answer)
-      call_by call.GetAllTokens answer tells may = others_by call.GetAllTokens answer tells (tokens_sid k.seat answer)
-      call_by (call.FindEventMsg t room) answer tells may = others_by (call.FindEventMsg t room) answer tells (find_sid k.seat t room answer)
-      call_by (call.GetEvents most room) answer tells may = others_by (call.GetEvents most room) answer tells (events_sid k.seat most room answer)
-      call_by (call.RequestRight t h right) reply.Done tells may = taken_by t h right reply.Done may.2
-      call_by (call.RequestRight t h right) answer tells may = failed_by _ _ (taken_by t h right answer may.2) t answer
-      call_by (call.GetFileAttr t h) (reply.Attr size stamp blocks) tells may = sized_by _ k (known_more before _ k is) size
-      call_by (call.GetFileAttr t h) answer tells may = failed_by _ k (known_more before _ k is) t answer
-      call_by (call.GetAllocInfo t h) (reply.Alloc segments) tells may = record {
-        kept = (known_more before _ k is).kept;
-        hand = listed t h segments k.seat.sid k.hand may.1.0 may.0.session may.1.1.0 may.1.1.2 is.hand;
-      }
-      call_by (call.GetAllocInfo t h) answer tells may = failed_by _ k (known_more before _ k is) t answer
-      call_by (call.Restore t h j bytes) reply.Done tells may = restored_by _ k (known_more before _ k is) j
-      call_by (call.Restore t h j bytes) (reply.Refused w) tells may = unrestored_by _ k (known_more before _ k is) t w
-      call_by (call.Restore t h j bytes) answer tells may = put_off_by _ k (known_more before _ k is) t
-      call_by (call.Respond t response) reply.Done tells may = dropped_by _ _ (answered_by t response reply.Done) t
-      call_by (call.Respond t response) (reply.Refused w) tells may = unanswered_by _ _ (answered_by t response (reply.Refused w)) t w
-      call_by (call.Respond t response) answer tells may = put_off_by _ _ (answered_by t response answer) t
-      call_by c answer tells may = others_by c answer tells refl
+      call_by : (c : DmCall) (answer : DmReply) → TellsOnly (EventOf before) Recall c answer → RecallMay k sid c → IsKnownBy (after c answer) (hears (asks k c) c answer)
+      call_by c answer tells may = record { kept = kept_more before _ _ (recall_kept (EventOf before) k c answer is.kept tells); hand = hand_by c answer may }
 
   -- ---- any entry
 
   -- what the store gives
   abbrev GivenBy : List Entry → Actor → Action → Answer → Type 0
-  GivenBy before (Session sid) (Dm c) (Told answer) = Tells before answer
+  GivenBy before (Session sid) (Dm c) (Told answer) = TellsOnly (EventOf before) Recall c answer
   GivenBy before who what answer = Unit {0}
 
   module _ (limits : Numbers) (before : List Entry) (k : Shown) (is : IsKnownBy before k.recall) where
@@ -400,8 +290,9 @@ module _ (s : Superblock) (st : State) where
 
   module _ (limits : Numbers) (es : List Entry) (none : st.sessions ≡ no_sessions) (exact : Exact s st es) (packed : ArePacked s st es) where
     given_by : (before : List Entry) (who : Actor) (what : Action) (answer : Answer) (rest : List Entry) → es ≡ before ++ entry_of who what answer ∷ rest → GivenBy before who what answer
-    given_by before (Session sid) (Dm c) (Told answer) rest is = λ bytes tokens same.
-        told_parked s st es none exact packed before sid c bytes tokens rest (is ∙ ap (λ (x : DmReply). before ++ entry_of (Session sid) (Dm c) (Told x) ∷ rest) same)
+    given_by before (Session sid) (Dm c) (Told answer) rest is =
+        tells_each (EventOf before) Recall (IsOfParked s st before) (λ m h of own has. subst (λ (found : Option Handle). IfSome found (λ x. WasParked s st before m.token x)) has of) (state_by s st before).sessions sid c answer
+        (each_parked s st es none exact before (entry_of (Session sid) (Dm c) (Told answer)) rest is) (packed before sid c answer rest is)
     given_by before who what answer rest is = tt
 
     caused_on : (done : List Entry) (k : Shown) (marks : List Mark) → es ≡ done ++ entries_of marks → IsKnownBy done k.recall → ServedFrom limits k marks

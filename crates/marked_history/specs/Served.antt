@@ -26,7 +26,7 @@ use Rattle.recall_daemon.specs.declared.away.Away.{Away}
 use Rattle.migrate_daemon.specs.Known as migrate
 use Rattle.migrate_daemon.specs.Machine.{IsServed, answer_of}
 use Rattle.migrate_daemon.specs.Passes.{whole_file}
-use Rattle.hsm_replay.specs.Marks.{Mark, Exchange, exchange_in}
+use Rattle.marked_history.specs.Marks.{Mark, Exchange, exchange_in}
 
 -- ---- what is told
 

@@ -28,8 +28,8 @@ use Rattle.hsm_policy.specs.Settings.{Numbers}
 use Rattle.file_store.specs.Stores.{superblock_of}
 use Rattle.hsm_core.specs.Answers.{entry_of}
 use Rattle.hsm_core.specs.Store.{Store}
-use Rattle.hsm_replay.specs.Marks.{Mark, entries_of}
-use Rattle.hsm_replay.specs.Served.{IsOf, Served}
+use Rattle.marked_history.specs.Marks.{Mark, entries_of}
+use Rattle.marked_history.specs.Served.{IsOf, Served}
 
 -- ---- accesses that were parked
 

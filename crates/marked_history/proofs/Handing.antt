@@ -1,19 +1,17 @@
 -- Each message that an exact history hands out is a session's own, or tells of an access that was parked before.
-use Rattle.std.proofs.Common.{◌≡◌, ℕ, Bool, true, false, List, [], ◌∷◌, ◌++◌, Option, None, Some, inl, inr, refl, sym, ◌∙◌, ap, subst, append_assoc, append-nil}
+use Rattle.std.proofs.Common.{◌≡◌, ℕ, ◌<◌, Bool, true, false, List, [], ◌∷◌, ◌++◌, Option, None, Some, inl, inr, refl, sym, ◌∙◌, ap, subst, append_assoc, append-nil, arith}
 use Rattle.std.proofs.lemmas.Bool.{eq-eqb}
 use Rattle.std.specs.Prelude.{◌⊎◌, IfSome, if◌then◌else◌}
-use Rattle.std.specs.List.{All}
-use Rattle.hsm_types.specs.Messages.{user_message}
+use Rattle.hsm_types.specs.Messages.{no_token, user_message}
 use Rattle.hsm_types.specs.Sessions.{SessionTable, no_sessions, posted}
 use Rattle.hsm_types.specs.declared.calls.Call.{Call}
 use Rattle.hsm_types.specs.declared.calls.CallRefusal.{CallRefusal}
 use Rattle.hsm_types.specs.declared.calls.Reply.{Reply}
 use Rattle.hsm_types.specs.declared.calls.Reply.TheVariants.{Parked}
 use Rattle.hsm_types.specs.declared.dm.DmCall.{DmCall}
-use Rattle.hsm_types.specs.declared.dm.DmCall.TheVariants.{CreateSession, DestroySession, SetDisp, GetEvents, FindEventMsg, Respond, CreateUserEvent, SendMsg}
+use Rattle.hsm_types.specs.declared.dm.DmCall.TheVariants.{CreateSession, DestroySession, SetDisp, GetEvents, Respond, CreateUserEvent, SendMsg}
 use Rattle.hsm_types.specs.declared.dm.DmRefusal.{DmRefusal}
 use Rattle.hsm_types.specs.declared.dm.DmReply.{DmReply}
-use Rattle.hsm_types.specs.declared.dm.DmReply.TheVariants.{Packed}
 use Rattle.hsm_types.specs.declared.keys.FileKey.{FileKey}
 use Rattle.hsm_types.specs.declared.keys.Handle.{Handle}
 use Rattle.hsm_types.specs.declared.keys.Sid.{Sid}
@@ -31,34 +29,47 @@ use Rattle.plain_model.specs.Effects.{change_of}
 use Rattle.plain_model.specs.Ledger.{Meant, Fixed, Means, next_token}
 use Rattle.plain_model.specs.State.{Flags, State, noted, changed}
 use Rattle.plain_model.specs.Verdict.{Blocks, Posts, Lacks, Verdict, verdict, reply_by, message_of, flags_now, objection_in, meant_in, reply_where, left_by_verdict, state_where}
-use Rattle.plain_model.specs.Services.{dm_judged, dm_reply_where, dm_state_where}
-use Rattle.plain_model.specs.Faults.{is_fault, fault_of}
+use Rattle.plain_model.specs.Services.{dm_judged, dm_state_where}
+use Rattle.plain_model.specs.Faults.{is_fault}
 use Rattle.plain_model.specs.Exact.{IsOwn, IsAnswer, left_own, left_by, Exact, state_by}
 use Rattle.plain_model.proofs.Faultless.{fault_is}
 use Rattle.plain_model.proofs.Histories.{state_by-push}
-use Rattle.event_msgs.specs.Reading.{told}
-use Rattle.event_msgs.proofs.ToldMessages.{packed_told}
 use Rattle.dm_service.specs.Handing.{HandsOut}
 use Rattle.hsm_core.specs.Answers.{entry_of}
-use Rattle.hsm_replay.specs.Caused.{WaitsOn, WasParked, ArePacked}
-use Rattle.hsm_replay.proofs.Carrying.{Each, each_weaker, none_each, handed_each, one_each, queue_of_each, outstanding_message_each, posted_each, created_each, ended_each, disposed_each, delivered_each, responded_each, made_each, sent_each}
+use Rattle.marked_history.specs.Caused.{WaitsOn, WasParked, ArePacked}
+use Rattle.marked_history.proofs.Carrying.{Each, each_weaker, none_each, posted_each, created_each, ended_each, disposed_each, delivered_each, responded_each, made_each, sent_each}
 
 -- ---- a session's call
 
-module _ (P : Message → Type 0) (own : (t : Token) (body : List ℕ) → P (user_message t body)) (st : State) (each : Each P st.sessions) where
-  call_each : (sid : Sid) (call : DmCall) → Each P (changed (change_of sid call) st).sessions
-  call_each sid (CreateSession old info) = created_each P old info st.sessions each
-  call_each sid DestroySession = ended_each P sid st.sessions each
-  call_each sid (SetDisp kinds) = disposed_each P sid kinds st.sessions each
-  call_each sid (GetEvents most room) = delivered_each P sid _ st.sessions each
-  call_each sid (Respond token response) = responded_each P sid token st.sessions each
-  call_each sid (CreateUserEvent body) = made_each P sid (next_token st.ledger) body st.sessions each (own (next_token st.ledger) body)
-  call_each sid (SendMsg target body) = sent_each P target body st.sessions each (own _ body)
-  call_each sid call = each
+-- the message of its own that a call makes, if it makes one, is so
+abbrev pub Makes : (Message → Type 0) → State → DmCall → Type 0
+Makes P st (CreateUserEvent body) = P (user_message (next_token st.ledger) body)
+Makes P st (SendMsg target body) = P (user_message no_token body)
+Makes P st call = Unit {0}
 
-  told_each : (why : Option DmRefusal) (s : Superblock) (sid : Sid) (call : DmCall) → Each P (dm_state_where why s st sid call).sessions
-  told_each None s sid call = call_each sid call
-  told_each (Some why) s sid call = each
+module _ (P : Message → Type 0) (st : State) (each : Each P st.sessions) where
+  call_each : (sid : Sid) (call : DmCall) → Makes P st call → Each P (changed (change_of sid call) st).sessions
+  call_each sid (CreateSession old info) makes = created_each P old info st.sessions each
+  call_each sid DestroySession makes = ended_each P sid st.sessions each
+  call_each sid (SetDisp kinds) makes = disposed_each P sid kinds st.sessions each
+  call_each sid (GetEvents most room) makes = delivered_each P sid _ st.sessions each
+  call_each sid (Respond token response) makes = responded_each P sid token st.sessions each
+  call_each sid (CreateUserEvent body) makes = made_each P sid (next_token st.ledger) body st.sessions each makes
+  call_each sid (SendMsg target body) makes = sent_each P target body st.sessions each makes
+  call_each sid call makes = each
+
+  pub made_told : (why : Option DmRefusal) (s : Superblock) (sid : Sid) (call : DmCall) → (why ≡ None → Makes P st call) → Each P (dm_state_where why s st sid call).sessions
+  made_told None s sid call makes = call_each sid call (makes refl)
+  made_told (Some why) s sid call makes = each
+
+module _ (P : Message → Type 0) (own : (t : Token) (body : List ℕ) → P (user_message t body)) (st : State) where
+  makes_any : (call : DmCall) → Makes P st call
+  makes_any (CreateUserEvent body) = own (next_token st.ledger) body
+  makes_any (SendMsg target body) = own no_token body
+  makes_any call = tt
+
+  pub told_each : Each P st.sessions → (why : Option DmRefusal) (s : Superblock) (sid : Sid) (call : DmCall) → Each P (dm_state_where why s st sid call).sessions
+  told_each each why s sid call = made_told P st each why s sid call (λ none. makes_any call)
 
 -- ---- a caller's event
 
@@ -68,11 +79,12 @@ pub record HasParked (s : Superblock) (st after : State) (c : ℕ) (reply : Repl
   pub handle : Handle
   pub posts : after.sessions ≡ posted message st.sessions
   pub has : message.handle ≡ Some handle
+  pub real : 0 < message.token.0
   pub parks : reply ≡ Parked message.token
   pub waits : WaitsOn s after c message.token handle
 
 -- or none is
-abbrev PostsParked : Superblock → State → State → ℕ → Reply → Type 0
+abbrev pub PostsParked : Superblock → State → State → ℕ → Reply → Type 0
 PostsParked s st after c reply = (after.sessions ≡ st.sessions) ⊎ HasParked s st after c reply
 
 module _ (s : Superblock) (st : State) (c : ℕ) (fl : Flags) where
@@ -85,6 +97,7 @@ module _ (s : Superblock) (st : State) (c : ℕ) (fl : Flags) where
     handle = record { fsid = s.fsid; key = k };
     posts = refl;
     has = refl;
+    real = omega arith;
     parks = refl;
     waits = record {
       access = record { key = k; call = call; token = Some (next_token st.ledger); answer = None };
@@ -94,17 +107,10 @@ module _ (s : Superblock) (st : State) (c : ℕ) (fl : Flags) where
     };
   })
 
-  posts_where : (why : Option CallRefusal) (m : Meant) → PostsParked s st (state_where s st c fl why m) c (reply_where s st fl why m)
+  pub posts_where : (why : Option CallRefusal) (m : Meant) → PostsParked s st (state_where s st c fl why m) c (reply_where s st fl why m)
   posts_where why (Fixed reply) = inl refl
   posts_where (Some why) (Means k call) = inl refl
   posts_where None (Means k call) = posts_verdict k call (verdict s st fl k call)
-
--- ---- calls that hand out messages
-
-abbrev IsHanding : DmCall → Type 0
-IsHanding (GetEvents most room) = Unit {0}
-IsHanding (FindEventMsg token room) = Unit {0}
-IsHanding call = ⊥
 
 -- ---- any event
 
@@ -188,51 +194,30 @@ module _ (s : Superblock) (st : State) where
       subst (λ (l : List Entry). EachAt l × IsAnswer s (state_by s st l) e.actor e.action e.answer) (append_assoc done (x ∷ []) more)
       (each_at (done ++ x ∷ []) more e rest (subst (λ (y : State). Exact s y (more ++ e ∷ rest)) (sym (state_by-push s st done x)) exact.2) (next_each done x exact.0 each))
 
-  -- no other call is answered by a buffer
-  unpacked : (now : State) (sid : Sid) (call : DmCall) (bytes : List ℕ) (tokens : List Token) (why : Option DmRefusal) → Packed bytes tokens ≡ dm_reply_where why s now sid call → IsHanding call
-  unpacked now sid call bytes tokens (Some why) is = cc
-  unpacked now sid (GetEvents most room) bytes tokens None is = tt
-  unpacked now sid (FindEventMsg token room) bytes tokens None is = tt
-  unpacked now sid call bytes tokens None is = cc
-
-  handing : (now : State) (sid : Sid) (call : DmCall) (bytes : List ℕ) (tokens : List Token) → IsAnswer s now (Session sid) (Dm call) (Told (Packed bytes tokens)) → IsHanding call
-  handing now sid call bytes tokens (inl is) = let wrong : Told (Packed bytes tokens) ≡ fault_of (Dm call) = is.1 in cc
-  handing now sid call bytes tokens (inr is) =
-      let same : Told (Packed bytes tokens) ≡ Told (dm_reply_where (dm_judged s now sid call) s now sid call) = is.1 in
-      unpacked now sid call bytes tokens (dm_judged s now sid call) cc
-
-  handed_of : (es : List Entry) (sid : Sid) (call : DmCall) (bytes : List ℕ) (tokens : List Token) → IsHanding call → HandsOut (state_by s st es).sessions sid call (Packed bytes tokens) → EachAt es → All (IsOfParked es) (told bytes)
-  handed_of es sid (GetEvents most room) bytes tokens is packed each =
-      subst (λ (l : List Message). All (IsOfParked es) l) (packed_told bytes _ packed) (handed_each (IsOfParked es) most room _ (queue_of_each (IsOfParked es) sid (state_by s st es).sessions each))
-  handed_of es sid (FindEventMsg token room) bytes tokens is packed each =
-      subst (λ (l : List Message). All (IsOfParked es) l) (packed_told bytes _ packed) (one_each (IsOfParked es) _ (outstanding_message_each (IsOfParked es) token (state_by s st es).sessions each))
-  handed_of es sid call bytes tokens is packed each = absurd is
-
-  -- each message that a buffer tells
-  pub told_parked : (es : List Entry) → st.sessions ≡ no_sessions → Exact s st es → ArePacked s st es → (before : List Entry) (sid : Sid) (call : DmCall) (bytes : List ℕ) (tokens : List Token) (rest : List Entry)
-      → es ≡ before ++ entry_of (Session sid) (Dm call) (Told (Packed bytes tokens)) ∷ rest → All (IsOfParked before) (told bytes)
-  told_parked es none exact packed before sid call bytes tokens rest is =
+  -- each message of the sessions before an entry
+  pub each_parked : (es : List Entry) → st.sessions ≡ no_sessions → Exact s st es → (before : List Entry) (e : Entry) (rest : List Entry) → es ≡ before ++ e ∷ rest → EachAt before
+  each_parked es none exact before e rest is =
       let first : EachAt [] = subst (λ (t : SessionTable). Each (IsOfParked []) t) (sym none) (none_each (IsOfParked [])) in
-      let own = each_at [] before (entry_of (Session sid) (Dm call) (Told (Packed bytes tokens))) rest (subst (λ (l : List Entry). Exact s st l) is exact) first in
-      handed_of before sid call bytes tokens (handing (state_by s st before) sid call bytes tokens own.1) (packed before sid call (Packed bytes tokens) rest is) own.0
+      (each_at [] before e rest (subst (λ (l : List Entry). Exact s st l) is exact) first).0
 
 -- ---- an entry more
 
-none_before : (before rest : List Entry) (x : Entry) → [] ≡ before ++ x ∷ rest → ⊥
-none_before [] rest x is = cc
-none_before (b ∷ before) rest x is = cc
+module _ {X : Type 0} where
+  pub none_before : (before rest : List X) (x : X) → [] ≡ before ++ x ∷ rest → ⊥
+  none_before [] rest x is = cc
+  none_before (b ∷ before) rest x is = cc
 
--- an entry of a list with one more is one of the list, or the last
-parted_push : (es before rest : List Entry) (e x : Entry) → es ++ e ∷ [] ≡ before ++ x ∷ rest → ((es ≡ before) × (e ≡ x)) ⊎ ((more : List Entry) × (es ≡ before ++ x ∷ more))
-parted_push [] [] rest e x is = inl (refl, cc)
-parted_push [] (b ∷ before) rest e x is = absurd (none_before before rest x cc)
-parted_push (y ∷ es) [] rest e x is = inr (es, let same : y ≡ x = cc in ap (λ (z : Entry). z ∷ es) same)
-parted_push (y ∷ es) (b ∷ before) rest e x is =
-    let same : y ≡ b = cc in
-    elim (parted_push es before rest e x cc) [
-      | inl last ↦ inl ((λ i. same i ∷ last.0 i), last.1)
-      | inr own ↦ inr (own.0, λ i. same i ∷ own.1 i)
-    ]
+  -- an element of a list with one more is one of the list, or the last
+  pub parted_push : (es before rest : List X) (e x : X) → es ++ e ∷ [] ≡ before ++ x ∷ rest → ((es ≡ before) × (e ≡ x)) ⊎ ((more : List X) × (es ≡ before ++ x ∷ more))
+  parted_push [] [] rest e x is = inl (refl, cc)
+  parted_push [] (b ∷ before) rest e x is = absurd (none_before before rest x cc)
+  parted_push (y ∷ es) [] rest e x is = inr (es, let same : y ≡ x = cc in ap (λ (z : X). z ∷ es) same)
+  parted_push (y ∷ es) (b ∷ before) rest e x is =
+      let same : y ≡ b = cc in
+      elim (parted_push es before rest e x cc) [
+        | inl last ↦ inl ((λ i. same i ∷ last.0 i), last.1)
+        | inr own ↦ inr (own.0, λ i. same i ∷ own.1 i)
+      ]
 
 -- buffers stay packed with an entry more
 pub packed_push : (s : Superblock) (st : State) (es : List Entry) (e : Entry) → ArePacked s st es

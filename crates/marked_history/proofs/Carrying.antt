@@ -6,7 +6,7 @@ use Rattle.std.specs.List.{All, find}
 use Rattle.std.specs.Map.{lookup, remove_entry}
 use Rattle.std.specs.Option.{option_map}
 use Rattle.hsm_types.specs.Messages.{message_bytes, has_token, no_token, takes, user_message, fitting, first_or_all, handed_out}
-use Rattle.hsm_types.specs.Sessions.{LiveSession, SessionTable, no_sessions, same_sid, session_of, queue_or_none, outstanding_or_none, queue_of, holds, outstanding_message, taker, heir, next_sid, with_session, without_session, change_live, change_session, loses, queued, with_kinds, posted_to, posted, put_message, put_messages, with_tokens, hands_out, delivered, without_token, responded, user_event, sent}
+use Rattle.hsm_types.specs.Sessions.{LiveSession, SessionTable, no_sessions, same_sid, session_of, queue_or_none, outstanding_or_none, queue_of, outstanding_of, holds, outstanding_message, taker, heir, next_sid, with_session, without_session, change_live, change_session, loses, queued, with_kinds, posted_to, posted, put_message, put_messages, with_tokens, hands_out, delivered, without_token, responded, user_event, sent}
 use Rattle.hsm_types.specs.declared.dm.Kinds.{Kinds}
 use Rattle.hsm_types.specs.declared.keys.Sid.{Sid}
 use Rattle.hsm_types.specs.declared.keys.Token.{Token}
@@ -42,14 +42,14 @@ module _ (P : Message → Type 0) where
 
   -- ---- lists of messages
 
-  put_each : (l : List Message) (m : Message) → All P l → P m → All P (put_message l m)
+  pub put_each : (l : List Message) (m : Message) → All P l → P m → All P (put_message l m)
   put_each [] m each is = All-cons P m [] is each
   put_each (n ∷ more) m each is = elim (nat_lt m.token.0 n.token.0) as (λ (b : Bool). All P (cond b (m ∷ n ∷ more) (n ∷ put_message more m))) [
     | true ↦ All-cons P m (n ∷ more) is each
     | false ↦ All-cons P n (put_message more m) (All-head P n more each) (put_each more m (All-tail P n more each) is)
   ]
 
-  puts_each : (l messages : List Message) → All P l → All P messages → All P (put_messages l messages)
+  pub puts_each : (l messages : List Message) → All P l → All P messages → All P (put_messages l messages)
   puts_each l [] each are = each
   puts_each l (m ∷ more) each are = puts_each (put_message l m) more (put_each l m each (All-head P m more are)) (All-tail P m more are)
 
@@ -130,6 +130,9 @@ module _ (P : Message → Type 0) where
 
   pub queue_of_each : (sid : Sid) (t : SessionTable) → Each P t → All P (queue_of sid t)
   queue_of_each sid t each = queue_each (session_of sid t) (looked_each sid t.live each.live)
+
+  pub outstanding_of_each : (sid : Sid) (t : SessionTable) → Each P t → All P (outstanding_of sid t)
+  outstanding_of_each sid t each = outstanding_each (session_of sid t) (looked_each sid t.live each.live)
 
   pub outstanding_message_each : (token : Token) (t : SessionTable) → Each P t → IfSome (outstanding_message token t) P
   outstanding_message_each token t each = found_each (has_token token) _ (outstanding_each _ (holder_each token t.live each.live))

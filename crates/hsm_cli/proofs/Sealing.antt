@@ -1,0 +1,91 @@
+-- What marks tell of what was sealed, over drives of a sure type.
+use Rattle.std.proofs.Common.{◌≡◌, ◌⊎◌, ◌++◌, ◌∷◌, [], ℕ, Bool, true, List, Option, Some, Result, Ok, Err, IfOk, IfErr, OnErr, sym, subst}
+use Rattle.std.specs.List.{AllByRecursion}
+use Rattle.std.proofs.lemmas.List.Elements.{filter_map-append}
+use Rattle.media_model.specs.Objects.{Objects}
+use Rattle.media_model.specs.declared.drive.Drive as drive
+use Rattle.hsm_types.specs.declared.daemons.Daemon.TheVariants.{Recall}
+use Rattle.hsm_types.specs.declared.dm.DmCall.TheVariants.{Respond}
+use Rattle.hsm_types.specs.declared.dm.Response.TheVariants.{Abort}
+use Rattle.hsm_types.specs.declared.stubs.StubEntry.{StubEntry}
+use Rattle.plain_model.specs.declared.entries.Entry.{Entry}
+use Rattle.hsm_policy.specs.Settings.{Numbers, standard}
+use Rattle.recall_daemon.specs.Known.{Known}
+use Rattle.marked_history.specs.Marks.{Mark, made}
+use Rattle.hsm_replay.specs.Passes.{CopyEnds}
+use Rattle.hsm_replay.specs.Sealed.{seal_by, sealed_in, IsUnnamed, Gives, IsThere, IsStored, IsLost, NeedsLost, Tallies, SealsAreWhole}
+use Rattle.marked_history.specs.Served.{shown, nothing_shown}
+use Rattle.hsm_cli.specs.declared.causes.Cause.{Cause}
+use Rattle.hsm_cli.specs.declared.causes.Cause.TheVariants.{NoMemory}
+use Rattle.script_text.specs.declared.lines.Line.{Line}
+use Rattle.hsm_cli.specs.Clauses.{HasRun}
+use Rattle.hsm_cli.specs.Endings.{IsBeforeReading}
+use Rattle.hsm_cli.specs.Sealing.{IsUnknown, NeedsUnknown, LosesNothing, TellsOf, IsRightInMemory, IsRightInFolder, TalliesSince}
+use Rattle.hsm_cli.specs.Told.{SourceTold}
+use Rattle.hsm_replay.proofs.PassMarks.{all_passed_as}
+use Rattle.hsm_cli.proofs.Scripted.{ran_with}
+
+all_first : {A : Type 0} (P : A → Type 0) (xs ys : List A) → AllByRecursion P (xs ++ ys) → AllByRecursion P xs
+all_first P [] ys each = tt
+all_first P (x ∷ xs) ys each = (each.0, all_first P xs ys each.1)
+
+-- of the entries that are sealed, those of a beginning
+sealed_first : (P : StubEntry → Type 0) (marks first rest : List Mark) → marks ≡ first ++ rest → AllByRecursion P (sealed_in marks) → AllByRecursion P (sealed_in first)
+sealed_first P marks first rest is each =
+    let parted : AllByRecursion P (sealed_in (first ++ rest)) = subst (λ (l : List Mark). AllByRecursion P (sealed_in l)) is each in
+    all_first P (sealed_in first) (sealed_in rest) (subst (λ (l : List StubEntry). AllByRecursion P l) (filter_map-append (λ (m : Mark). seal_by m.by m.entry.action) first rest) parted)
+
+module _ {M : Type 0} (g : drive.Ghosts M) (opened ds : List M) (law : (d : M) (v : ℕ) → g.has d v ≡ true → (o : Objects) × g.gives d v o) where
+  -- a volume with what is stored tells its objects
+  none_named : (entry : StubEntry) (xs : List StubEntry) → AllByRecursion (IsStored g ds) xs → ((o : Objects) → Gives g ds entry.volume o → IsUnnamed xs entry) → IsUnnamed xs entry
+  none_named entry [] each told = tt
+  none_named entry (x ∷ xs) each told = (unlike, none_named entry xs each.1 (λ o gives. (told o gives).1))
+    where
+      unlike : (x.volume ≡ entry.volume) × (x.object ≡ entry.object) → ⊥
+      unlike same =
+          let there : IsThere g ds entry.volume = subst (λ (v : ℕ). IsThere g ds v) same.0 each.0.there in
+          let tells = law there.0 entry.volume there.2 in
+          (told tells.0 (there.0, there.1, tells.1)).0 same
+
+  unknown : (marks : List Mark) (entry : StubEntry) → AllByRecursion (IsStored g ds) (sealed_in marks) → IsLost g opened ds marks entry → IsUnknown marks entry
+  unknown marks entry stored lost = record {
+    first = lost.first;
+    since = lost.since;
+    parted = lost.parted;
+    others = lost.others;
+    unnamed = none_named entry (sealed_in lost.first) (sealed_first (IsStored g ds) marks lost.first lost.since lost.parted stored) lost.unnamed;
+  }
+
+  needs_unknown : (k : Known) (marks : List Mark) → AllByRecursion (IsStored g ds) (sealed_in marks) → NeedsLost g opened ds k marks → NeedsUnknown k marks
+  needs_unknown k marks stored needs = (needs.0, needs.1, needs.2, needs.3, unknown marks needs.1.entry stored needs.4)
+
+  loses_nothing : (marks : List Mark) → SealsAreWhole g marks → g.sure ≡ true → Tallies g opened ds standard marks → LosesNothing marks
+  loses_nothing marks whole sure tallies = record {
+    aborts = λ before sid t reply rest is. needs_unknown (shown standard nothing_shown before).recall before (sealed_first (IsStored g ds) marks before (made Recall sid (Respond t (Abort 2)) reply ∷ rest) is tallies.stored) (tallies.aborts before sid t reply rest is);
+    damages = whole sure;
+  }
+
+-- what marks tell with drives in memory, if any came
+right_with : {M V : Type 0} (g : drive.Ghosts M) (items : V → List M) (ready : Result V Cause) (left : List M) → ((opened drives : List M) (limits : Numbers) (marks : List Mark) → Tallies g opened drives limits marks → SealsAreWhole g marks) → g.sure ≡ true
+    → ((d : M) (v : ℕ) → g.has d v ≡ true → (o : Objects) × g.gives d v o) → IfOk ready (λ ds. (marks : List Mark) → TellsOf g (items ds) left marks → IsRightInMemory marks)
+right_with g items (Ok ds) left whole sure law = λ marks tells. record {
+  loses = loses_nothing g (items ds) left law marks (whole (items ds) left standard marks tells.sealed) sure tells.sealed;
+  passes = all_passed_as (CopyEnds g left standard) (Unit {0}) standard marks (λ ends. tt) tells.passes;
+}
+right_with g items (Err why) left whole sure law = tt
+
+wants_memory : {V : Type 0} (ready : Result V Cause) → IfErr ready (λ why. why ≡ NoMemory) → IfErr ready IsBeforeReading
+wants_memory (Ok ds) why = tt
+wants_memory (Err why) is = subst IsBeforeReading (sym is) tt
+
+pub right_run : {M V : Type 0} (Settles : List Line → List Mark → Type 0) (g : drive.Ghosts M) (items : V → List M) (left : List M) (ready : Result V Cause) (commits : Bool) (source : SourceTold) (cause : Option Cause) (history : List Entry)
+    → ((opened drives : List M) (limits : Numbers) (marks : List Mark) → Tallies g opened drives limits marks → SealsAreWhole g marks) → g.sure ≡ true → ((d : M) (v : ℕ) → g.has d v ≡ true → (o : Objects) × g.gives d v o)
+    → IfErr ready (λ why. why ≡ NoMemory) → IfErr ready (λ why. (cause ≡ Some why) ⊎ (cause ≡ Some NoMemory)) → OnErr ready (history ≡ []) → HasRun Settles (λ marks. IfOk ready (λ ds. TellsOf g (items ds) left marks)) commits source cause history → HasRun Settles IsRightInMemory commits source cause history
+right_run Settles g items left ready commits source cause history whole sure law why unready idle ran =
+    ran_with Settles (λ ds marks. TellsOf g (items ds) left marks) IsRightInMemory ready commits source cause history (right_with g items ready left whole sure law) (wants_memory ready why) unready idle ran
+
+-- and with drives of the host
+pub right_since : {M V : Type 0} (g : drive.Ghosts M) (stored : ℕ → Objects → Type 0) (items : V → List M) (ready : Result V Cause) (left : List M) → IfOk ready (λ ds. (marks : List Mark) → Tallies g (items ds) left standard marks → TalliesSince g stored left marks)
+    → IfOk ready (λ ds. (marks : List Mark) → TellsOf g (items ds) left marks → IsRightInFolder g stored left marks)
+right_since g stored items (Ok ds) left since = λ marks tells. record { tallies = since marks tells.sealed; passes = tells.passes }
+right_since g stored items (Err why) left since = tt

@@ -1,0 +1,296 @@
+-- Passes in a history, while it goes on.
+use Rattle.std.proofs.Common.{◌≡◌, ◌≢◌, ◌∙◌, ◌⊎◌, ◌∷◌, ◌++◌, [], ℕ, zero, suc, ◌+◌, ◌<◌, List, length, Some, Contains, slice_index_or, inl, inr, refl, sym, ap, subst, append-nil, length-append, arith}
+use Rattle.std.specs.List.{AllByRecursion}
+use Rattle.std.specs.Prelude.{slice_get}
+use Rattle.std.proofs.Math.Seq.{get_or-append_seam}
+use Rattle.std.proofs.lemmas.List.Elements.{Contains-append_left}
+use Rattle.hsm_types.specs.declared.daemons.Act.TheVariants.{Dm}
+use Rattle.hsm_types.specs.declared.daemons.Daemon.TheVariants.{Migrate}
+use Rattle.hsm_types.specs.declared.dm.DmCall.{DmCall}
+use Rattle.hsm_types.specs.declared.dm.DmCall.TheVariants.{GetTable, PunchHole}
+use Rattle.hsm_types.specs.declared.dm.DmRefusal.TheVariants.{NoSession}
+use Rattle.hsm_types.specs.declared.dm.DmReply.{DmReply}
+use Rattle.hsm_types.specs.declared.dm.DmReply.TheVariants as reply
+use Rattle.hsm_types.specs.declared.keys.Handle.{Handle}
+use Rattle.hsm_types.specs.declared.keys.Sid.{Sid}
+use Rattle.hsm_types.specs.declared.keys.Token.{Token}
+use Rattle.hsm_types.specs.declared.tables.Table.{Table}
+use Rattle.hsm_policy.specs.Settings.{Numbers}
+use Rattle.hsm_policy.specs.declared.picking.Picked.{Picked}
+use Rattle.plain_model.specs.declared.entries.Action.TheVariants as action
+use Rattle.plain_model.specs.declared.entries.Actor.TheVariants.{Session}
+use Rattle.plain_model.specs.declared.entries.Answer.TheVariants as answer
+use Rattle.migrate_daemon.specs.Machine.{IsOfPass}
+use Rattle.marked_history.specs.Marks.{Mark, made}
+use Rattle.marked_history.specs.Passing.{IsOfPassBy, AreOfPass, table_told, IsBetween, IsBehindPass, GoesOn, IsRefusedAtLast, IsPassOver, IsDoneIn, IsEndedIn, IsPunchOf, ArePunched, IsPassed, AllPassed}
+
+-- ---- lists
+
+all_first : {A : Type 0} (P : A → Type 0) (xs ys : List A) → AllByRecursion P (xs ++ ys) → AllByRecursion P xs
+all_first P [] ys each = tt
+all_first P (x ∷ xs) ys each = (each.0, all_first P xs ys each.1)
+
+all_last : {A : Type 0} (P : A → Type 0) (xs : List A) (x : A) → AllByRecursion P (xs ++ x ∷ []) → P x
+all_last P [] x each = each.0
+all_last P (y ∷ xs) x each = all_last P xs x each.1
+
+all_has : {A : Type 0} (P : A → Type 0) (xs : List A) (x : A) (i : ℕ) → AllByRecursion P xs → i < length xs → slice_index_or xs i x ≡ x → P x
+all_has P [] x i each within is = absurd (omega (arith, within))
+all_has P (y ∷ xs) x zero each within is = subst P is each.0
+all_has P (y ∷ xs) x (suc i) each within is = all_has P xs x i each.1 (omega (arith, within)) is
+
+none_there : {A : Type 0} (before : List A) (y : A) (rest : List A) → [] ≡ before ++ y ∷ rest → ⊥
+none_there [] y rest is = let wrong : [] ≡ y ∷ rest = is in cc wrong
+none_there (b ∷ before) y rest is = let wrong : [] ≡ b ∷ (before ++ y ∷ rest) = is in cc wrong
+
+-- what is in a list with one element more is that one, with nothing behind it, or it is in the list
+abbrev Place : {A : Type 0} → List A → A → List A → A → List A → Type 0
+Place {A = A} xs x before y after = ((before ≡ xs) × (y ≡ x) × (after ≡ [])) ⊎ ((more : List A) × (after ≡ more ++ x ∷ []) × (xs ≡ before ++ y ∷ more))
+
+place_behind : {A : Type 0} (a b : A) (xs before : List A) (x y : A) (after : List A) → a ≡ b → Place xs x before y after → Place (a ∷ xs) x (b ∷ before) y after
+place_behind a b xs before x y after same (inl last) = inl (let is : b ∷ before ≡ a ∷ xs = cc (same, last.0) in is, last.1, last.2)
+place_behind a b xs before x y after same (inr within) = let is : a ∷ xs ≡ b ∷ (before ++ y ∷ within.0) = cc (same, within.2) in inr (within.0, within.1, is)
+
+place : {A : Type 0} (xs : List A) (x : A) (before : List A) (y : A) (after : List A) → xs ++ x ∷ [] ≡ before ++ y ∷ after → Place xs x before y after
+place [] x [] y after is =
+    let both : x ∷ [] ≡ y ∷ after = is in
+    let same : y ≡ x = cc both in
+    let none : after ≡ [] = cc both in
+    inl (refl, same, none)
+place [] x (b ∷ before) y after is =
+    let both : x ∷ [] ≡ b ∷ (before ++ y ∷ after) = is in
+    let none : [] ≡ before ++ y ∷ after = cc both in
+    absurd (none_there before y after none)
+place (a ∷ xs) x [] y after is =
+    let both : a ∷ (xs ++ x ∷ []) ≡ y ∷ after = is in
+    let same : a ≡ y = cc both in
+    let rest : after ≡ xs ++ x ∷ [] = cc both in
+    let parted : a ∷ xs ≡ y ∷ xs = cc same in
+    inr (xs, rest, parted)
+place (a ∷ xs) x (b ∷ before) y after is =
+    let both : a ∷ (xs ++ x ∷ []) ≡ b ∷ (before ++ y ∷ after) = is in
+    let same : a ≡ b = cc both in
+    let tail : xs ++ x ∷ [] ≡ before ++ y ∷ after = cc both in
+    place_behind a b xs before x y after same (place xs x before y after tail)
+
+-- the last element of two lists is that of the second, or of the first
+abbrev Last : {A : Type 0} → List A → List A → List A → A → Type 0
+Last {A = A} first second more x = ((second ≡ []) × (first ≡ more ++ x ∷ [])) ⊎ ((less : List A) × (second ≡ less ++ x ∷ []) × (more ≡ first ++ less))
+
+last_behind : {A : Type 0} (a b : A) (first second more : List A) (x : A) → a ≡ b → Last first second more x → Last (a ∷ first) second (b ∷ more) x
+last_behind a b first second more x same (inl none) = let is : a ∷ first ≡ b ∷ (more ++ x ∷ []) = cc (same, none.1) in inl (none.0, is)
+last_behind a b first second more x same (inr some) = let is : b ∷ more ≡ a ∷ (first ++ some.0) = cc (same, some.2) in inr (some.0, some.1, is)
+
+both_none : {A : Type 0} (first second : List A) → [] ≡ first ++ second → (first ≡ []) × (second ≡ [])
+both_none [] second is = (refl, sym is)
+both_none (a ∷ first) second is = let wrong : [] ≡ a ∷ (first ++ second) = is in cc wrong
+
+last_of : {A : Type 0} (first second more : List A) (x : A) → first ++ second ≡ more ++ x ∷ [] → Last first second more x
+last_of [] second more x is = inr (more, is, refl)
+last_of (a ∷ first) second [] x is =
+    let both : a ∷ (first ++ second) ≡ x ∷ [] = is in
+    let same : a ≡ x = cc both in
+    let rest : [] ≡ first ++ second = cc both in
+    let none = both_none first second rest in
+    let only : a ∷ first ≡ x ∷ [] = cc (same, none.0) in
+    inl (none.1, only)
+last_of (a ∷ first) second (b ∷ more) x is =
+    let both : a ∷ (first ++ second) ≡ b ∷ (more ++ x ∷ []) = is in
+    let same : a ≡ b = cc both in
+    let tail : first ++ second ≡ more ++ x ∷ [] = cc both in
+    last_behind a b first second more x same (last_of first second more x tail)
+
+-- ---- marks that daemons made
+
+pub same_sid : (s t : Sid) (c d : DmCall) (q r : DmReply) → made Migrate s c q ≡ made Migrate t d r → s ≡ t
+same_sid s t c d q r is = let actors : Session s ≡ Session t = ap (λ (m : Mark). m.entry.actor) is in let one : s ≡ t = cc actors in one
+
+pub same_call : (s t : Sid) (c d : DmCall) (q r : DmReply) → made Migrate s c q ≡ made Migrate t d r → c ≡ d
+same_call s t c d q r is = let actions : action.Dm c ≡ action.Dm d = ap (λ (m : Mark). m.entry.action) is in let one : c ≡ d = cc actions in one
+
+pub same_answer : (s t : Sid) (c d : DmCall) (q r : DmReply) → made Migrate s c q ≡ made Migrate t d r → q ≡ r
+same_answer s t c d q r is = let answers : answer.Dm q ≡ answer.Dm r = ap (λ (m : Mark). m.entry.answer) is in let one : q ≡ r = cc answers in one
+
+pub by_migration : (m : Mark) (s : Sid) (c : DmCall) (q : DmReply) → m ≡ made Migrate s c q → m.by ≡ Some Migrate
+by_migration m s c q is = ap (λ (x : Mark). x.by) is
+
+-- ---- what is of a pass
+
+abbrev pub IsOther : Mark → Type 0
+IsOther m = m.by ≢ Some Migrate
+
+abbrev pub IsOne : Mark → Type 0
+IsOne m = IsOther m ⊎ IsOfPassBy m
+
+pub of_first : (during more : List Mark) → AreOfPass (during ++ more) → AreOfPass during
+of_first during more of = all_first IsOne during more of
+
+call_of : (s : Sid) (c : DmCall) (q : DmReply) → IsOne (made Migrate s c q) → IsOfPass (Dm s c)
+call_of s c q (inl other) = absurd (other refl)
+call_of s c q (inr by) =
+    let sid : by.0 ≡ s = sym (same_sid s by.0 c by.1 q by.2 by.3) in
+    let call : by.1 ≡ c = sym (same_call s by.0 c by.1 q by.2 by.3) in
+    subst (λ (x : DmCall). IsOfPass (Dm s x)) call (subst (λ (x : Sid). IsOfPass (Dm x by.1)) sid by.4)
+
+pub last_of_pass : (during : List Mark) (s : Sid) (c : DmCall) (q : DmReply) → AreOfPass (during ++ made Migrate s c q ∷ []) → IsOfPass (Dm s c)
+last_of_pass during s c q of = call_of s c q (all_last IsOne during (made Migrate s c q) of)
+
+-- a table is told in none
+pub no_table : (during : List Mark) (s : Sid) (table : Table) → AreOfPass during → Contains during (table_told s table) → ⊥
+no_table during s table of has = call_of s GetTable (reply.Table table) (all_has IsOne during (table_told s table) has.0 of has.1 has.2)
+
+pub between_of : (s : Sid) (c : DmCall) (q : DmReply) → IsBehindPass (made Migrate s c q) → IsBetween c
+between_of s c q by = subst IsBetween (sym (same_call s by.0 c by.1 q by.2 by.3)) by.4
+
+-- ---- the last call was refused
+
+refused_never : IsRefusedAtLast [] → ⊥
+refused_never refused = none_there refused.0 _ refused.3 refused.4
+
+pub refused_before : (during : List Mark) (m : Mark) → IsOther m → IsRefusedAtLast (during ++ m ∷ []) → IsRefusedAtLast during
+refused_before during m other refused = by (place during m refused.0 one refused.3 refused.4)
+  where
+    one : Mark
+    one = made Migrate refused.1 refused.2 (reply.Refused NoSession)
+
+    by : Place during m refused.0 one refused.3 → IsRefusedAtLast during
+    by (inl last) = absurd (other (by_migration m refused.1 refused.2 (reply.Refused NoSession) (sym last.1)))
+    by (inr within) = (refused.0, refused.1, refused.2, within.0, within.2, all_first IsOther within.0 (m ∷ []) (subst (λ (l : List Mark). AllByRecursion IsOther l) within.1 refused.5))
+
+-- where that is the daemon's, it is the one
+pub refused_now : (during : List Mark) (s : Sid) (c : DmCall) (q : DmReply) → IsRefusedAtLast (during ++ made Migrate s c q ∷ []) → q ≡ reply.Refused NoSession
+refused_now during s c q refused = by (place during (made Migrate s c q) refused.0 (made Migrate refused.1 refused.2 (reply.Refused NoSession)) refused.3 refused.4)
+  where
+    by : Place during (made Migrate s c q) refused.0 (made Migrate refused.1 refused.2 (reply.Refused NoSession)) refused.3 → q ≡ reply.Refused NoSession
+    by (inl last) = sym (same_answer refused.1 s refused.2 c (reply.Refused NoSession) q last.1)
+    by (inr within) = absurd (all_last IsOther within.0 (made Migrate s c q) (subst (λ (l : List Mark). AllByRecursion IsOther l) within.1 refused.5) refl)
+
+-- ---- what was punched
+
+-- with an entry more: where that punches, it is of such a segment
+pub punched_more : (picks : List Picked) (sid : Sid) (during : List Mark) (m : Mark) → ArePunched picks sid during
+    → ((s : Sid) (t : Token) (h : Handle) (offset len : ℕ) (q : DmReply) → m ≡ made Migrate s (PunchHole t h offset len) q → IsPunchOf picks during sid (PunchHole t h offset len)) → ArePunched picks sid (during ++ m ∷ [])
+punched_more picks sid during m punched now first s t h offset len q rest is = by (place during m first (made Migrate s (PunchHole t h offset len) q) rest is)
+  where
+    by : Place during m first (made Migrate s (PunchHole t h offset len) q) rest → IsPunchOf picks first sid (PunchHole t h offset len)
+    by (inl last) = subst (λ (l : List Mark). IsPunchOf picks l sid (PunchHole t h offset len)) (sym last.0) (now s t h offset len q (sym last.1))
+    by (inr within) = punched first s t h offset len q within.0 within.2
+
+pub punched_by_other : (picks : List Picked) (sid : Sid) (during : List Mark) (m : Mark) → IsOther m → ArePunched picks sid during → ArePunched picks sid (during ++ m ∷ [])
+punched_by_other picks sid during m other punched = punched_more picks sid during m punched (λ s t h offset len q is. absurd (other (by_migration m s (PunchHole t h offset len) q is)))
+
+-- nothing was, where the daemon did nothing
+pub punched_none : (picks : List Picked) (sid : Sid) (during : List Mark) → AllByRecursion IsOther during → ArePunched picks sid during
+punched_none picks sid during others first s t h offset len q rest is = absurd (all_has IsOther during one (length first) others within at refl)
+  where
+    one : Mark
+    one = made Migrate s (PunchHole t h offset len) q
+
+    within : length first < length during
+    within = let long : length during ≡ length first + length (one ∷ rest) = ap (λ (l : List Mark). length l) is ∙ length-append first (one ∷ rest) in omega (arith, long)
+
+    at : slice_index_or during (length first) one ≡ one
+    at = ap (λ (l : List Mark). slice_index_or l (length first) one) is ∙ get_or-append_seam first one rest one
+
+-- ---- one pass
+
+module _ (C : Type 0) (limits : Numbers) (sid : Sid) (table : Table) where
+  done_longer : (during : List Mark) (m : Mark) (s : Sid) (p : Picked) → IsDoneIn during s p → IsDoneIn (during ++ m ∷ []) s p
+  done_longer during m s p (inl has) = inl (Contains-append_left during (m ∷ []) _ has)
+  done_longer during m s p (inr skips) = inr (skips.0, skips.1, skips.2, Contains-append_left during (m ∷ []) _ skips.3)
+
+  ended_longer : (during : List Mark) (m : Mark) (s : Sid) (p : Picked) → IsEndedIn limits.volumes C during s p → IsEndedIn limits.volumes C (during ++ m ∷ []) s p
+  ended_longer during m s p (inl ends) = inl (ends.0, ends.1, ends.2, Contains-append_left during (m ∷ []) _ ends.3)
+  ended_longer during m s p (inr ends) = inr ends
+
+  pub passed_longer : (during : List Mark) (m : Mark) → IsOther m → IsPassed C limits sid table during → IsPassed C limits sid table (during ++ m ∷ [])
+  passed_longer during m other passed = record {
+    picks = passed.picks;
+    pick = passed.pick;
+    at = passed.at;
+    done = λ k p below is. done_longer during m sid p (passed.done k p below is);
+    punched = punched_by_other passed.picks sid during m other passed.punched;
+    over = over passed.over;
+  }
+    where
+      over : (passed.at ≡ length passed.picks) ⊎ ((p : Picked) × (slice_get passed.picks passed.at ≡ Some p) × IsEndedIn limits.volumes C during sid p)
+          → (passed.at ≡ length passed.picks) ⊎ ((p : Picked) × (slice_get passed.picks passed.at ≡ Some p) × IsEndedIn limits.volumes C (during ++ m ∷ []) sid p)
+      over (inl all) = inl all
+      over (inr early) = inr (early.0, early.1, ended_longer during m sid early.0 early.2)
+
+  passed_as : (E : Type 0) → (C → E) → (during : List Mark) → IsPassed C limits sid table during → IsPassed E limits sid table during
+  passed_as E so during passed = record { picks = passed.picks; pick = passed.pick; at = passed.at; done = passed.done; punched = passed.punched; over = over passed.over }
+    where
+      ended : (p : Picked) → IsEndedIn limits.volumes C during sid p → IsEndedIn limits.volumes E during sid p
+      ended p (inl ends) = inl ends
+      ended p (inr ends) = inr (so ends)
+
+      over : (passed.at ≡ length passed.picks) ⊎ ((p : Picked) × (slice_get passed.picks passed.at ≡ Some p) × IsEndedIn limits.volumes C during sid p)
+          → (passed.at ≡ length passed.picks) ⊎ ((p : Picked) × (slice_get passed.picks passed.at ≡ Some p) × IsEndedIn limits.volumes E during sid p)
+      over (inl all) = inl all
+      over (inr early) = inr (early.0, early.1, ended early.0 early.2)
+
+-- ---- all passes
+
+pub no_passes : (C : Type 0) (limits : Numbers) → AllPassed C limits []
+no_passes C limits before sid table during rest is = absurd (none_there before (table_told sid table) (during ++ rest) is)
+
+pub all_passed_as : (C E : Type 0) (limits : Numbers) (marks : List Mark) → (C → E) → AllPassed C limits marks → AllPassed E limits marks
+all_passed_as C E limits marks so passed before sid table during rest is of over = passed_as C limits sid table E so during (passed before sid table during rest is of over)
+
+-- the history is of a pass from that table on
+abbrev pub Opens : List Mark → List Mark → Sid → Table → List Mark → Type 0
+Opens marks before sid table during = marks ≡ before ++ table_told sid table ∷ during
+
+module _ (C : Type 0) (limits : Numbers) (marks : List Mark) (m : Mark) (passed : AllPassed C limits marks) where
+  -- with an entry more
+  pub all_passed_more :
+      ((before : List Mark) (sid : Sid) (table : Table) (during : List Mark) → Opens marks before sid table during → AreOfPass during → IsBehindPass m → IsPassed C limits sid table during)
+      → ((before : List Mark) (sid : Sid) (table : Table) (during : List Mark) → Opens marks before sid table during → AreOfPass (during ++ m ∷ []) → IsRefusedAtLast (during ++ m ∷ []) → IsPassed C limits sid table (during ++ m ∷ []))
+      → AllPassed C limits (marks ++ m ∷ [])
+  all_passed_more behind refused before sid table during rest is of over = by (place marks m before (table_told sid table) (during ++ rest) is)
+    where
+      goes_never : rest ≡ [] → GoesOn rest → ⊥
+      goes_never none goes = subst GoesOn none goes
+
+      none_over : (during ≡ []) × (rest ≡ []) → IsPassOver during rest → ⊥
+      none_over none (inl goes) = goes_never none.1 goes
+      none_over none (inr last) = refused_never (subst IsRefusedAtLast none.0 last)
+
+      ends : (more : List Mark) → Opens marks before sid table more → (rest ≡ []) × (during ≡ more ++ m ∷ []) → IsPassOver during rest → IsPassed C limits sid table during
+      ends more opens last (inl goes) = absurd (goes_never last.0 goes)
+      ends more opens last (inr now) = subst (λ (l : List Mark). IsPassed C limits sid table l) (sym last.1) (refused before sid table more opens (subst AreOfPass last.1 of) (subst IsRefusedAtLast last.1 now))
+
+      on : (less : List Mark) → Opens marks before sid table (during ++ less) → GoesOn (less ++ m ∷ []) → IsPassed C limits sid table during
+      on [] opens goes = behind before sid table during (opens ∙ ap (λ (l : List Mark). before ++ table_told sid table ∷ l) (append-nil during)) of goes
+      on (next ∷ less) opens goes = passed before sid table during (next ∷ less) opens of (inl goes)
+
+      goes_or_refused : (less : List Mark) → rest ≡ less ++ m ∷ [] → Opens marks before sid table (during ++ less) → IsPassOver during rest → IsPassed C limits sid table during
+      goes_or_refused less is_rest opens (inl goes) = on less opens (subst GoesOn is_rest goes)
+      goes_or_refused less is_rest opens (inr last) = passed before sid table during less opens of (inr last)
+
+      within : (more : List Mark) → Opens marks before sid table more → Last during rest more m → IsPassed C limits sid table during
+      within more opens (inl last) = ends more opens last over
+      within more opens (inr some) = goes_or_refused some.0 some.1 (opens ∙ ap (λ (l : List Mark). before ++ table_told sid table ∷ l) some.2) over
+
+      by : Place marks m before (table_told sid table) (during ++ rest) → IsPassed C limits sid table during
+      by (inl last) = absurd (none_over (both_none during rest (sym last.2)) over)
+      by (inr some) = within some.0 some.2 (last_of during rest some.0 m some.1)
+
+  -- with one that migration didn't make
+  pub all_passed_by_other : IsOther m → AllPassed C limits (marks ++ m ∷ [])
+  all_passed_by_other other = all_passed_more
+      (λ before sid table during opens of by. absurd (other (by_migration m by.0 by.1 by.2 by.3)))
+      (λ before sid table during opens of refused. passed_longer C limits sid table during m other
+      (passed before sid table during [] (opens ∙ ap (λ (l : List Mark). before ++ table_told sid table ∷ l) (sym (append-nil during))) (of_first during (m ∷ []) of) (inr (refused_before during m other refused))))
+
+-- ---- from which table it is of a pass
+
+-- with an entry more: that is the table, or of the pass
+pub opens_more : (marks : List Mark) (m : Mark) (before : List Mark) (sid : Sid) (table : Table) (during : List Mark) → Opens (marks ++ m ∷ []) before sid table during
+    → ((table_told sid table ≡ m) × (during ≡ [])) ⊎ ((less : List Mark) × (during ≡ less ++ m ∷ []) × Opens marks before sid table less)
+opens_more marks m before sid table during opens = by (place marks m before (table_told sid table) during opens)
+  where
+    by : Place marks m before (table_told sid table) during → ((table_told sid table ≡ m) × (during ≡ [])) ⊎ ((less : List Mark) × (during ≡ less ++ m ∷ []) × Opens marks before sid table less)
+    by (inl last) = inl (last.1, last.2)
+    by (inr within) = inr (within.0, within.1, within.2)

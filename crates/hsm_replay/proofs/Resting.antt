@@ -1,0 +1,377 @@
+-- A store that has settled is at rest by what its marked history tells, and its daemons are at work or were turned away.
+use Rattle.std.specs.Prelude.{Result, Ok, Err, OnOk}
+use Rattle.std.proofs.Common.{◌≡◌, ◌∙◌, ◌⊎◌, ◌++◌, ◌∷◌, [], Bool, true, false, ℕ, List, Option, None, Some, IfSome, is_some, inl, inr, refl, sym, ap, ap₂, subst, append_assoc, arith, Contains}
+use Rattle.std.proofs.lemmas.Bool.{false≢true}
+use Rattle.std.proofs.lemmas.List.Elements.{All-contains, All-from_recursion, Contains-append_left, Contains-append_right, Contains-push}
+use Rattle.std.specs.List.{AllByRecursion}
+use Rattle.media_model.specs.declared.drive.Drive as drive
+use Rattle.hsm_types.specs.Rights.{Rights}
+use Rattle.hsm_types.specs.Sessions.{lives}
+use Rattle.hsm_types.specs.declared.daemons.Act.{Act}
+use Rattle.hsm_types.specs.declared.daemons.Daemon.{Daemon}
+use Rattle.hsm_types.specs.declared.daemons.Daemon.TheVariants.{Recall, Migrate}
+use Rattle.hsm_types.specs.declared.dm.DmCall.TheVariants.{CreateSession, GetEvents}
+use Rattle.hsm_types.specs.declared.dm.DmRefusal.{DmRefusal}
+use Rattle.hsm_types.specs.declared.dm.DmRefusal.TheVariants.{Again, Busy, TooMany}
+use Rattle.hsm_types.specs.declared.dm.DmReply.TheVariants.{Refused}
+use Rattle.hsm_types.specs.declared.keys.Handle.{Handle}
+use Rattle.hsm_types.specs.declared.keys.Sid.{Sid}
+use Rattle.hsm_types.specs.declared.keys.Token.{Token}
+use Rattle.hsm_types.specs.declared.media.Fault.{Fault}
+use Rattle.plain_model.specs.declared.entries.Action.{Action}
+use Rattle.plain_model.specs.declared.entries.Action.TheVariants.{Dm}
+use Rattle.plain_model.specs.declared.entries.Actor.{Actor}
+use Rattle.plain_model.specs.declared.entries.Actor.TheVariants.{Session}
+use Rattle.plain_model.specs.declared.entries.Answer.{Answer}
+use Rattle.plain_model.specs.declared.entries.Answer.TheVariants.{Dm as Told}
+use Rattle.plain_model.specs.declared.entries.Entry.{Entry}
+use Rattle.plain_model.specs.Exact.{state_by}
+use Rattle.plain_model.specs.State.{State, just_opened}
+use Rattle.file_store.specs.Stores.{superblock_of}
+use Rattle.hsm_policy.specs.Settings.{Numbers}
+use Rattle.daemon_session.specs.declared.events.Event.{Event}
+use Rattle.daemon_session.specs.declared.events.Kept.{Kept}
+use Rattle.daemon_session.specs.Seats.{Seat, all_marked, IsSeated}
+use Rattle.hsm_core.specs.Answers.{entry_of}
+use Rattle.hsm_core.specs.Kept.{IsKept}
+use Rattle.hsm_core.specs.Store.{state_of}
+use Rattle.recall_daemon.specs.Known as recall
+use Rattle.migrate_daemon.specs.Known as migrate
+use Rattle.migrate_daemon.specs.declared.shares.Space.{Space}
+use Rattle.migrate_daemon.specs.Shares.{is_above}
+use Rattle.hsm_replay.specs.declared.daemons.Recalling.{Recalling}
+use Rattle.hsm_replay.specs.declared.daemons.Migrating.{Migrating}
+use Rattle.hsm_replay.specs.declared.stops.Stop.{Stop}
+use Rattle.marked_history.specs.Caused.{ArePackedSince}
+use Rattle.marked_history.specs.Follows.{IsMadeBy, IsOfSettling}
+use Rattle.hsm_replay.specs.Faults.{faults_in}
+use Rattle.hsm_replay.specs.Freshness.{IsFresh, IsToldTable, StaysFresh}
+use Rattle.hsm_replay.specs.Keeping.{unmarked, IsAtStart, IsKnownAs, IsShownAs, RecallKnows, MigrateKnows, Shows, Keeps}
+use Rattle.marked_history.specs.Marks.{Mark, entries_of}
+use Rattle.hsm_replay.specs.Resting.{EndsInTurns, first_of, IsSettledIn, LeadsTo, EndsMarked, LeadsOn}
+use Rattle.hsm_replay.specs.Rests.{refreshed}
+use Rattle.marked_history.specs.Served.{Shown, nothing_shown, learned, shown, IsTold}
+use Rattle.hsm_replay.specs.Settled as settled
+use Rattle.marked_history.specs.Settling.{IsAtWork, IsTurnedAway, BeginsPass, IsCrowded}
+use Rattle.hsm_replay.specs.Systems.{System, running}
+use Rattle.marked_history.specs.Waiting.{runs, no_more, unserved, PutsOff, RecallRests, MigrateRests, IsAtRest, AllMayWait}
+use Rattle.hsm_replay.proofs.Begun.{begins_pass}
+use Rattle.hsm_replay.proofs.ByRunning.{by_running_then}
+use Rattle.hsm_replay.proofs.Calling.{each_calls}
+use Rattle.hsm_replay.proofs.Coming.{unseated as no_session}
+use Rattle.hsm_replay.proofs.Freshness.{refreshed_fresh}
+use Rattle.hsm_replay.proofs.Kept.{here, there, first_or_rest, all_then, told_unmarked}
+use Rattle.hsm_replay.proofs.Rounds.{marked_since}
+use Rattle.hsm_replay.proofs.TurnedAway.{IsRefusedOne, EndsRefused, ends_away, shown_append, recall_away, migrate_away, recall_turned_away, migrate_turned_away}
+use Rattle.marked_history.proofs.StillSo.{lives_still, spacious_still}
+use Rattle.marked_history.proofs.Waiting.{ready_waits, settled_waits}
+
+-- ---- what marks tell
+
+-- migration's calls tell recall nothing
+recall_same : (limits : Numbers) (k : Shown) (marks : List Mark) → AllByRecursion (IsMadeBy Migrate) marks → (shown limits k marks).recall ≡ k.recall
+recall_same limits k [] all = refl
+recall_same limits k (m ∷ marks) all = recall_same limits (learned limits k m) marks all.1 ∙ ap (λ (x : Mark). (learned limits k x).recall) all.0.3
+
+-- ---- how a turn ends
+
+abbrev EndsSo : Seat → Entry → Type 0
+EndsSo seat e = ((sid : Sid) × (e ≡ no_more sid) × IsSeated seat sid) ⊎ IsRefusedOne e
+
+ends_so : (seat : Seat) (who : Actor) (what : Action) (answer : Answer) → settled.EndsTurn seat who what answer → EndsSo seat (entry_of who what answer)
+ends_so seat (Session sid) (Dm (GetEvents most room)) (Told (Refused Again)) is = inl (sid, ap₂ (λ (n m : ℕ). entry_of (Session sid) (Dm (GetEvents n m)) (Told (Refused Again))) is.0 is.1, is.2)
+ends_so seat (Session sid) (Dm (CreateSession old info)) (Told (Refused (TooMany count))) is = inr (sid, old, info, count, refl)
+ends_so seat who what answer is = absurd is
+
+-- a daemon that was refused a session has none, and any other rests
+unseated_or : (seat : Seat) (entries : List Entry) (Rests : Type 0) → (EndsRefused entries → seat.sid ≡ None) → EndsRefused entries ⊎ Rests → (seat.sid ≡ None) ⊎ Rests
+unseated_or seat entries Rests none (inl refused) = inl (none refused)
+unseated_or seat entries Rests none (inr rests) = inr rests
+
+-- ---- what is kept, but for which events are put off
+
+module _ (P : Token → Type 0) where
+  abbrev OfEach : List Kept → Type 0
+  OfEach kept = AllByRecursion (λ (x : Kept). P x.event.token) kept
+
+  each_unmarked : (kept : List Kept) → OfEach kept → OfEach (all_marked false kept)
+  each_unmarked [] all = tt
+  each_unmarked (x ∷ kept) all = (all.0, each_unmarked kept all.1)
+
+  each_marked : (kept : List Kept) → OfEach (all_marked false kept) → OfEach kept
+  each_marked [] all = tt
+  each_marked (x ∷ kept) all = (all.0, each_marked kept all.1)
+
+kept_marked : (kept : List Kept) (e : Event) (m : Bool) → Contains (all_marked false kept) (record { event = e; marked = m }) → recall.IsKept e kept
+kept_marked [] e m at = let within = at.1 in absurd (omega (arith, within))
+kept_marked (x ∷ kept) e m at = elim (first_or_rest (record x { marked = false }) (all_marked false kept) (record { event = e; marked = m }) at.0 at.1 at.2) [
+  | inl same ↦ (x.marked, subst (λ (y : Event). Contains (x ∷ kept) (record { event = y; marked = x.marked })) (ap (λ (y : Kept). y.event) same) (here x kept))
+  | inr behind ↦ let later = kept_marked kept e m behind in (later.0, there x kept (record { event = e; marked = later.0 }) later.1)
+]
+
+told_back : (kept : List Kept) (t : Token) (h : Handle) → IsTold (all_marked false kept) t h → IsTold kept t h
+told_back kept t h told = (told.0, kept_marked kept told.0 told.1.0 told.1.1, told.2, told.3)
+
+-- ---- recall at rest
+
+module _ {M : Type 0} (g : drive.Ghosts M) (entries : List Entry) (rights : Rights) (k : recall.Known) (drives : List M) (faults : List Fault) where
+  module _ (r : Recalling) (rests : settled.RecallRests entries r.machine) (up : settled.AreHeldUp entries rights r.machine.known.seat) (knows : RecallKnows g k drives faults r) where
+    abbrev seat : Seat
+    seat = r.machine.known.seat
+
+    same_seat : (sid : Sid) → IsSeated seat sid → (IsAtStart seat r.machine.asked r.heard × (r.machine.known.hand ≡ None)) ⊎ IsKnownAs (recall.knows_by r.machine.known r.machine.asked r.heard) k → unmarked seat ≡ unmarked k.seat
+    same_seat sid seated (inl start) = absurd (no_session seat sid start.0.0 seated)
+    same_seat sid seated (inr same) = subst (λ (a : Act). unmarked (recall.knows_by r.machine.known a r.heard).seat ≡ unmarked k.seat) rests.rests same.seat
+
+    module _ (sid : Sid) (seated : IsSeated seat sid) (same : unmarked seat ≡ unmarked k.seat) where
+      same_kept : all_marked false seat.kept ≡ all_marked false k.seat.kept
+      same_kept = ap (λ (s : Seat). s.kept) same
+
+      seated_so : IsSeated k.seat sid
+      seated_so = record { session = sym (ap (λ (s : Seat). s.sid) same) ∙ seated.session; set = sym (ap (λ (s : Seat). s.set) same) ∙ seated.set; found = sym (ap (λ (s : Seat). s.unfound) same) ∙ seated.found }
+
+      abbrev IsUp : Token → Type 0
+      IsUp t = settled.IsHeldUp entries rights seat t
+
+      all_up : AllByRecursion (λ (x : Kept). IsUp x.event.token) k.seat.kept
+      all_up = each_marked IsUp k.seat.kept (subst (λ (l : List Kept). AllByRecursion (λ (x : Kept). IsUp x.event.token) l) same_kept (each_unmarked IsUp seat.kept up))
+
+      refused : (x : Kept) → Contains k.seat.kept x → (h : Handle) × (cause : DmRefusal) × IsTold k.seat.kept x.event.token h × Contains entries (unserved sid x.event.token h cause) × PutsOff cause
+      refused x kept =
+          let one : IsUp x.event.token = All-contains (λ (y : Kept). IsUp y.event.token) k.seat.kept x (All-from_recursion (λ (y : Kept). IsUp y.event.token) k.seat.kept all_up) kept in
+          let session : Some one.sid ≡ Some sid = sym one.session ∙ seated.session in
+          let own : one.sid ≡ sid = cc in (
+            one.handle,
+            Busy one.holder,
+            told_back k.seat.kept x.event.token one.handle (subst (λ (l : List Kept). IsTold l x.event.token one.handle) same_kept (told_unmarked seat.kept x.event.token one.handle one.told)),
+            subst (λ (y : Sid). Contains entries (unserved y x.event.token one.handle (Busy one.holder))) own one.refused,
+            tt,
+          )
+
+    recall_by : EndsSo seat rests.turn.1 → EndsRefused entries ⊎ RecallRests k.seat entries
+    recall_by (inl more) =
+        let same = same_seat more.0 more.2 knows.known in
+        inr (record {
+          sid = more.0;
+          seated = seated_so more.0 more.2 same;
+          first = rests.turn.0;
+          ends = rests.turn.2 ∙ ap (λ (e : Entry). rests.turn.0 ++ e ∷ []) more.1;
+          refused = refused more.0 more.2 same;
+        })
+    recall_by (inr one) = inl (rests.turn.0, rests.turn.1, rests.turn.2, one)
+
+  recall_ends : (o : Option Recalling) → IfSome o (λ (r : Recalling). settled.RecallRests entries r.machine) → IfSome o (λ (r : Recalling). settled.AreHeldUp entries rights r.machine.known.seat) → IfSome o (RecallKnows g k drives faults)
+      → is_some o ≡ true → EndsRefused entries ⊎ RecallRests k.seat entries
+  recall_ends None rests up knows runs = absurd (false≢true runs)
+  recall_ends (Some r) rests up knows runs = recall_by r rests up knows (ends_so r.machine.known.seat rests.turn.1.actor rests.turn.1.action rests.turn.1.answer rests.turn.3)
+
+-- ---- migration at rest
+
+-- the space that it was told was enough
+abbrev HadSpace : Numbers → List Entry → Type 0
+HadSpace limits entries = (space : Space) × settled.IsToldSpace entries space × (is_above limits.high (Some space) ≡ false)
+
+module _ (limits : Numbers) (entries : List Entry) (k : migrate.Known) where
+  module _ (m : Migrating) (rests : settled.MigrateRests limits entries m.machine) (knows : MigrateKnows k m) where
+    abbrev own_seat : Seat
+    own_seat = m.machine.known.seat
+
+    migrate_seat : (sid : Sid) → IsSeated own_seat sid → IsAtStart own_seat m.machine.asked m.heard ⊎ IsShownAs (migrate.knows_by m.machine.limits m.machine.known m.machine.asked m.heard) k → own_seat ≡ k.seat
+    migrate_seat sid seated (inl start) = absurd (no_session own_seat sid start.0 seated)
+    migrate_seat sid seated (inr same) = subst (λ (a : Act). (migrate.knows_by m.machine.limits m.machine.known a m.heard).seat ≡ k.seat) rests.rests same.seat
+
+    migrate_by : EndsSo own_seat rests.turn.1 → EndsRefused entries ⊎ MigrateRests k.seat entries
+    migrate_by (inl more) =
+        let same = migrate_seat more.0 more.2 knows in
+        inr (record {
+          sid = more.0;
+          seated = subst (λ (s : Seat). IsSeated s more.0) same more.2;
+          none = sym (ap (λ (s : Seat). s.kept) same) ∙ rests.none;
+          ends = subst (λ (l : List Entry). Contains l (no_more more.0)) (sym (rests.turn.2 ∙ ap (λ (e : Entry). rests.turn.0 ++ e ∷ []) more.1)) (Contains-push rests.turn.0 (no_more more.0));
+        })
+    migrate_by (inr one) = inl (rests.turn.0, rests.turn.1, rests.turn.2, one)
+
+    -- no pass was due, as one has begun or there was enough space
+    module _ (Began : Type 0) where
+      spares_now : ((migrate.knows_by m.machine.limits m.machine.known m.machine.asked m.heard).fresh ≡ true) ⊎ Began → settled.NoneDue limits entries m.machine.known.fresh → Began ⊎ HadSpace limits entries
+      spares_now (inr began) none = inl began
+      spares_now (inl fresh) (inr space) = inr space
+      spares_now (inl fresh) (inl spent) = absurd (false≢true (sym spent ∙ subst (λ (a : Act). (migrate.knows_by m.machine.limits m.machine.known a m.heard).fresh ≡ true) rests.rests fresh))
+
+      spares_by : ((migrate.knows_by m.machine.limits m.machine.known m.machine.asked m.heard).fresh ≡ true) ⊎ Began → EndsSo own_seat rests.turn.1 → EndsRefused entries ⊎ ((sid : Sid) → IsSeated k.seat sid → Began ⊎ HadSpace limits entries)
+      spares_by fresh (inl more) = inr (λ sid seated. spares_now fresh (rests.none_due sid (subst (λ (s : Seat). IsSeated s sid) (sym (migrate_seat more.0 more.2 knows)) seated)))
+      spares_by fresh (inr one) = inl (rests.turn.0, rests.turn.1, rests.turn.2, one)
+
+  migrate_ends : (o : Option Migrating) → IfSome o (λ (m : Migrating). settled.MigrateRests limits entries m.machine) → IfSome o (MigrateKnows k) → is_some o ≡ true → EndsRefused entries ⊎ MigrateRests k.seat entries
+  migrate_ends None rests knows runs = absurd (false≢true runs)
+  migrate_ends (Some m) rests knows runs = migrate_by m rests knows (ends_so m.machine.known.seat rests.turn.1.actor rests.turn.1.action rests.turn.1.answer rests.turn.3)
+
+  migrate_spares : (Began : Type 0) (o : Option Migrating) → IfSome o (λ (m : Migrating). settled.MigrateRests limits entries m.machine) → IfSome o (MigrateKnows k) → is_some o ≡ true
+      → IfSome o (λ (m : Migrating). (migrate.knows_by m.machine.limits m.machine.known m.machine.asked m.heard).fresh ≡ true) ⊎ Began → EndsRefused entries ⊎ ((sid : Sid) → IsSeated k.seat sid → Began ⊎ HadSpace limits entries)
+  migrate_spares Began None rests knows runs fresh = absurd (false≢true runs)
+  migrate_spares Began (Some m) rests knows runs fresh = spares_by m rests knows Began fresh (ends_so m.machine.known.seat rests.turn.1.actor rests.turn.1.action rests.turn.1.answer rests.turn.3)
+
+-- ---- the store at rest
+
+-- the last of more marks are those of the same turns
+ends_later : (before part : List Mark) (recall_turn migrate_turn : List Entry) → EndsInTurns part recall_turn migrate_turn → EndsInTurns (before ++ part) recall_turn migrate_turn
+ends_later before part recall_turn migrate_turn ends = record {
+  before = before ++ ends.before;
+  recalls = ends.recalls;
+  migrates = ends.migrates;
+  parted = ap (λ (ms : List Mark). before ++ ms) ends.parted ∙ sym (append_assoc before ends.before (ends.recalls ++ ends.migrates));
+  by_recall = ends.by_recall;
+  by_migrate = ends.by_migrate;
+  recalled = ends.recalled;
+  migrated = ends.migrated;
+}
+
+module _ {D M : Type 0} (h : drive.Ghosts M) (opened : List M) (marks : List Mark) (s : System D M) (shows : Shows h opened marks s) (from : List Entry) (turns : settled.EndsQuietly from s) (ends : EndsInTurns marks turns.recall_turn turns.migrate_turn) where
+  abbrev k : Shown
+  k = shown s.limits nothing_shown marks
+
+  abbrev first : Shown
+  first = shown s.limits nothing_shown ends.before
+
+  abbrev then : Shown
+  then = shown s.limits first ends.recalls
+
+  in_turns : k ≡ shown s.limits then ends.migrates
+  in_turns = ap (λ (ms : List Mark). shown s.limits nothing_shown ms) ends.parted ∙ shown_append s.limits nothing_shown ends.before (ends.recalls ++ ends.migrates) ∙ shown_append s.limits first ends.recalls ends.migrates
+
+  recall_none : EndsRefused turns.recall_turn → k.recall.seat.sid ≡ None
+  recall_none refused =
+      ap (λ (x : Shown). x.recall.seat.sid) in_turns ∙ ap (λ (x : recall.Known). x.seat.sid) (recall_same s.limits then ends.migrates ends.by_migrate)
+      ∙ recall_away s.limits first ends.recalls (ends_away Recall ends.recalls turns.recall_turn ends.by_recall ends.recalled refused)
+
+  migrate_none : EndsRefused turns.migrate_turn → k.migrate.seat.sid ≡ None
+  migrate_none refused = ap (λ (x : Shown). x.migrate.seat.sid) in_turns ∙ migrate_away s.limits then ends.migrates (ends_away Migrate ends.migrates turns.migrate_turn ends.by_migrate ends.migrated refused)
+
+  recall_rests : is_some s.recall ≡ true → EndsRefused turns.recall_turn ⊎ RecallRests k.recall.seat turns.recall_turn
+  recall_rests = recall_ends h turns.recall_turn (state_of s.store).rights k.recall s.drives (faults_in s.store.history) s.recall turns.recall turns.held_up shows.recall
+
+  migrate_rests : is_some s.migrate ≡ true → EndsRefused turns.migrate_turn ⊎ MigrateRests k.migrate.seat turns.migrate_turn
+  migrate_rests = migrate_ends s.limits turns.migrate_turn k.migrate s.migrate turns.migrate shows.migrate
+
+  module _ (kept : IsKept s.store) (working : s.store.files.failed ≡ false) where
+    at_rest : IsAtRest (running s) k (superblock_of s.store.opened) (just_opened s.store.opened.meta.number s.store.opened.held) s.store.history
+    at_rest = record {
+      before = from;
+      recall_turn = turns.recall_turn;
+      migrate_turn = turns.migrate_turn;
+      history = turns.history;
+      quiet = turns.quiet;
+      recall = λ runs. unseated_or k.recall.seat turns.recall_turn (RecallRests k.recall.seat turns.recall_turn) recall_none (recall_rests runs);
+      migrate = λ runs. unseated_or k.migrate.seat turns.migrate_turn (MigrateRests k.migrate.seat turns.migrate_turn) migrate_none (migrate_rests runs);
+      waits = λ c a caller waits. ready_waits s.store kept working c a waits (turns.ready c caller);
+    }
+
+    wait_rightly : ArePackedSince s.store → AllMayWait (running s) k marks (superblock_of s.store.opened) (state_by (superblock_of s.store.opened) (first_of s) (entries_of marks))
+    wait_rightly packed =
+        subst (λ (es : List Entry). AllMayWait (running s) k marks (superblock_of s.store.opened) (state_by (superblock_of s.store.opened) (first_of s) es)) (sym shows.marked.entries)
+        (settled_waits (running s) s.limits (superblock_of s.store.opened) s.store.opened.meta.number s.store.opened.held marks s.store.history shows.marked.entries shows.marked.served kept.good.run packed at_rest)
+
+    -- ---- what was told in the turns
+
+    abbrev behind : List Entry → State
+    behind es = state_by (superblock_of s.store.opened) (first_of s) es
+
+    abbrev both : List Entry
+    both = turns.recall_turn ++ turns.migrate_turn
+
+    ends_with_both : s.store.history ≡ from ++ both
+    ends_with_both = turns.history ∙ append_assoc from turns.recall_turn turns.migrate_turn
+
+    -- a session that was told of no more events lives
+    still_lives : (sid : Sid) → Contains both (no_more sid) → lives sid (behind (entries_of marks)).sessions ≡ true
+    still_lives sid there = subst (λ (es : List Entry). lives sid (behind es).sessions ≡ true) (sym shows.marked.entries) (lives_still (superblock_of s.store.opened) (first_of s) s.store.history from both kept.good.run.exact ends_with_both turns.quiet sid there)
+
+    recall_works : RecallRests k.recall.seat turns.recall_turn → IsAtWork Recall k (behind (entries_of marks))
+    recall_works rests =
+        let there : Contains turns.recall_turn (no_more rests.sid) = subst (λ (l : List Entry). Contains l (no_more rests.sid)) (sym rests.ends) (Contains-push rests.first (no_more rests.sid)) in
+        record { sid = rests.sid; seated = rests.seated; live = still_lives rests.sid (Contains-append_left turns.recall_turn turns.migrate_turn (no_more rests.sid) there) }
+
+    migrate_works : MigrateRests k.migrate.seat turns.migrate_turn → IsAtWork Migrate k (behind (entries_of marks))
+    migrate_works rests = record { sid = rests.sid; seated = rests.seated; live = still_lives rests.sid (Contains-append_right turns.recall_turn turns.migrate_turn (no_more rests.sid) rests.ends) }
+
+    -- with enough space the store isn't crowded
+    not_crowded : HadSpace s.limits turns.migrate_turn → IsCrowded s.limits (superblock_of s.store.opened) (behind (entries_of marks)) → ⊥
+    not_crowded had crowded =
+        spacious_still (superblock_of s.store.opened) (first_of s) s.store.history from both kept.good.run.exact ends_with_both turns.quiet s.limits had.1.0 had.0 (Contains-append_right turns.recall_turn turns.migrate_turn _ had.1.1) had.2
+        (subst (λ (es : List Entry). IsCrowded s.limits (superblock_of s.store.opened) (behind es)) shows.marked.entries crowded)
+
+    module _ (Began : Type 0) (fresh : IsFresh s ⊎ Began) (runs : is_some s.migrate ≡ true) (sid : Sid) (seated : IsSeated k.migrate.seat sid) (crowded : IsCrowded s.limits (superblock_of s.store.opened) (behind (entries_of marks))) where
+      began_or : Began ⊎ HadSpace s.limits turns.migrate_turn → Began
+      began_or (inl began) = began
+      began_or (inr had) = absurd (not_crowded had crowded)
+
+      began_by : EndsRefused turns.migrate_turn ⊎ ((x : Sid) → IsSeated k.migrate.seat x → Began ⊎ HadSpace s.limits turns.migrate_turn) → Began
+      began_by (inl refused) = absurd (let wrong : None ≡ Some sid = sym (migrate_none refused) ∙ seated.session in cc)
+      began_by (inr spares) = began_or (spares sid seated)
+
+      -- a pass by `high` was due, so one has begun
+      has_begun : Began
+      has_begun = began_by (migrate_spares s.limits turns.migrate_turn k.migrate Began s.migrate turns.migrate shows.migrate runs fresh)
+
+-- ---- the end of a settling
+
+module _ {D M : Type 0} (h : drive.Ghosts M) (opened : List M) (before part : List Mark) (old s : System D M) (was : entries_of before ≡ old.store.history) (shows : Shows h opened (before ++ part) s) (from : List Entry) (turns : settled.EndsQuietly from s) (ends : EndsInTurns part turns.recall_turn turns.migrate_turn) where
+  abbrev whole : List Mark
+  whole = before ++ part
+
+  all_ends : EndsInTurns whole turns.recall_turn turns.migrate_turn
+  all_ends = ends_later before part turns.recall_turn turns.migrate_turn ends
+
+  abbrev known : Shown
+  known = shown s.limits nothing_shown whole
+
+  abbrev left : State
+  left = state_by (superblock_of s.store.opened) (first_of s) (entries_of whole)
+
+  module _ (kept : IsKept s.store) (working : s.store.files.failed ≡ false) where
+    recall_has : EndsRefused turns.recall_turn ⊎ RecallRests known.recall.seat turns.recall_turn → IsAtWork Recall known left ⊎ IsTurnedAway Recall part
+    recall_has (inl refused) = inr (recall_turned_away s.limits before part shows.marked.served turns.recall_turn turns.migrate_turn ends refused)
+    recall_has (inr rests) = inl (recall_works h opened whole s shows from turns all_ends kept working rests)
+
+    migrate_has : EndsRefused turns.migrate_turn ⊎ MigrateRests known.migrate.seat turns.migrate_turn → IsAtWork Migrate known left ⊎ IsTurnedAway Migrate part
+    migrate_has (inl refused) = inr (migrate_turned_away s.limits before part shows.marked.served turns.recall_turn turns.migrate_turn ends refused)
+    migrate_has (inr rests) = inl (migrate_works h opened whole s shows from turns all_ends kept working rests)
+
+    each_works : (daemon : Daemon) → runs daemon (running s) ≡ true → IsAtWork daemon known left ⊎ IsTurnedAway daemon part
+    each_works Recall runs = recall_has (recall_rests h opened whole s shows from turns all_ends runs)
+    each_works Migrate runs = migrate_has (migrate_rests h opened whole s shows from turns all_ends runs)
+
+    module _ (settles : AllByRecursion IsOfSettling part) (fresh : StaysFresh (refreshed old) s) where
+      may_or_began : IsFresh s ⊎ IsToldTable fresh.0 → IsFresh s ⊎ BeginsPass part
+      may_or_began (inl may) = inl may
+      may_or_began (inr told) =
+          let same : entries_of part ≡ fresh.0 = marked_since before part old.store.history s.store.history fresh.0 was shows.marked.entries fresh.1 in
+          inr (begins_pass s.limits before part shows.marked.served settles (subst IsToldTable (sym same) told))
+
+      has_settled : ArePackedSince s.store → IsSettledIn s before part
+      has_settled packed = record {
+        waits = wait_rightly h opened whole s shows from turns all_ends kept working packed;
+        acts = each_calls s from turns part ends;
+        works = each_works;
+        spares = has_begun h opened whole s shows from turns all_ends kept working (BeginsPass part) (may_or_began (fresh.2 (refreshed_fresh old)));
+      }
+
+-- a settling that came to rest
+pub settles_rightly : {D M : Type 0} (h : drive.Ghosts M) (old mid new : System D M) → running mid ≡ running old → Keeps h (AllByRecursion IsOfSettling) old mid → EndsMarked h mid new → StaysFresh (refreshed old) new → IsKept new.store → new.store.files.failed ≡ false → ArePackedSince new.store → LeadsTo h (AllByRecursion IsOfSettling) (IsSettledIn new) old new
+settles_rightly h old mid new runs keeps ends fresh kept working packed opened marks shows =
+    let one = keeps opened marks shows in
+    let two = ends.1 opened (marks ++ one.0) one.2 in
+    let settles : AllByRecursion IsOfSettling (one.0 ++ two.0) = all_then IsOfSettling one.0 two.0 one.1 two.1 in
+    let then : Shows h opened (marks ++ (one.0 ++ two.0)) new = subst (λ (ms : List Mark). Shows h opened ms new) (append_assoc marks one.0 two.0) two.2 in (
+      one.0 ++ two.0,
+      settles,
+      then,
+      has_settled h opened marks (one.0 ++ two.0) old new shows.marked.entries then mid.store.history ends.0 (ends_later one.0 two.0 ends.0.recall_turn ends.0.migrate_turn two.3) kept working settles fresh packed,
+      by_running_then (running old) (running mid) one.0 two.0 runs one.3 two.4,
+    )
+
+-- what a line leads to that leaves nothing to be said
+pub keeps_leads : {D M T : Type 0} (h : drive.Ghosts M) (IsPart : List Mark → Type 0) (IsSo : List Mark → List Mark → Type 0) (result : Result T Stop) (old new : System D M) → OnOk result (Keeps h IsPart old new) → ((before part : List Mark) → IsSo before part) → LeadsOn h IsPart IsSo result old new
+keeps_leads h IsPart IsSo (Ok done) old new keeps so = λ working packed opened marks shows.
+    let one = keeps opened marks shows in (one.0, one.1, one.2, so marks one.0, one.3)
+keeps_leads h IsPart IsSo (Err why) old new keeps so = λ working packed. tt

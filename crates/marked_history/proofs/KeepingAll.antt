@@ -1,0 +1,428 @@
+-- In a served history a daemon with a session keeps each event of its kinds that is outstanding to that session, but for those that lines of the script took.
+use Rattle.std.proofs.Common.{◌≡◌, ℕ, ◌+◌, ◌≤◌, Bool, true, false, List, [], ◌∷◌, ◌++◌, Option, None, Some, inl, inr, refl, sym, ap, subst, ◌∙◌, arith}
+use Rattle.std.proofs.lemmas.List.Elements.{All-weaker}
+use Rattle.std.specs.Prelude.{◌⊎◌, if◌then◌else◌, Contains}
+use Rattle.std.specs.List.{All}
+use Rattle.hsm_types.specs.Messages.{handed_out}
+use Rattle.hsm_types.specs.Sessions.{SessionTable, next_sid, outstanding_of, queue_of, tokens_of}
+use Rattle.hsm_types.specs.declared.calls.Reply.{Reply}
+use Rattle.hsm_types.specs.declared.daemons.Daemon.{Daemon}
+use Rattle.hsm_types.specs.declared.daemons.Daemon.TheVariants.{Recall, Migrate}
+use Rattle.hsm_types.specs.declared.dm.DmCall.{DmCall}
+use Rattle.hsm_types.specs.declared.dm.DmCall.TheVariants as call
+use Rattle.hsm_types.specs.declared.dm.DmRefusal.{DmRefusal}
+use Rattle.hsm_types.specs.declared.dm.DmRefusal.TheVariants as why
+use Rattle.hsm_types.specs.declared.dm.DmReply.{DmReply}
+use Rattle.hsm_types.specs.declared.dm.DmReply.TheVariants as reply
+use Rattle.hsm_types.specs.declared.dm.Response.{Response}
+use Rattle.hsm_types.specs.declared.dm.Right.{Right}
+use Rattle.hsm_types.specs.declared.keys.Handle.{Handle}
+use Rattle.hsm_types.specs.declared.keys.Sid.{Sid}
+use Rattle.hsm_types.specs.declared.keys.Token.{Token}
+use Rattle.hsm_types.specs.declared.messages.Message.{Message}
+use Rattle.hsm_types.specs.declared.stores.Superblock.{Superblock}
+use Rattle.plain_model.specs.declared.entries.Action.{Action}
+use Rattle.plain_model.specs.declared.entries.Action.TheVariants.{Issue, Resume, Dm}
+use Rattle.plain_model.specs.declared.entries.Actor.{Actor}
+use Rattle.plain_model.specs.declared.entries.Actor.TheVariants.{Caller, Session}
+use Rattle.plain_model.specs.declared.entries.Answer.{Answer}
+use Rattle.plain_model.specs.declared.entries.Answer.TheVariants.{Dm as Told}
+use Rattle.plain_model.specs.declared.entries.Entry.{Entry}
+use Rattle.plain_model.specs.State.{Held, State, just_opened, noted}
+use Rattle.plain_model.specs.Verdict.{flags_now, objection_in, meant_in, reply_to}
+use Rattle.plain_model.specs.Services.{dm_judged}
+use Rattle.plain_model.specs.Stands.{InOrder}
+use Rattle.plain_model.specs.Faults.{is_fault}
+use Rattle.plain_model.specs.Exact.{IsAnswer, left_own, left_by, state_by}
+use Rattle.dm_service.specs.Handing.{HandsOut}
+use Rattle.hsm_policy.specs.Settings.{Numbers}
+use Rattle.daemon_session.specs.declared.events.Kept.{Kept}
+use Rattle.daemon_session.specs.Seats.{Seat, has_kept_token, seat_asks, seat_hears}
+use Rattle.recall_daemon.specs.Known as recall
+use Rattle.migrate_daemon.specs.Known as migrate
+use Rattle.hsm_core.specs.Answers.{entry_of}
+use Rattle.marked_history.specs.Marks.{Mark, entries_of, exchange_by, no_daemons, made}
+use Rattle.marked_history.specs.Served.{Shown, nothing_shown, with_entry, shown, RecallMay, MigrateMay, IsServedBy}
+use Rattle.marked_history.specs.Tokens.{IsTaken, KeepsAll, ServedKeepsAll}
+use Rattle.marked_history.proofs.Carrying.{Each, none_each, posted_each}
+use Rattle.marked_history.proofs.Handing.{told_each, PostsParked, posts_where}
+use Rattle.marked_history.proofs.Walking.{HandsBy, KeptBy, kept_behind}
+use Rattle.marked_history.proofs.Remembering.{stays, same_event}
+use Rattle.marked_history.proofs.Leaving.{left_given, Hands, told_gone, own_reply, done_left}
+use Rattle.marked_history.proofs.Accounting.{mapped_in, not_by, taken_by, Accounted, AllAccounted, IsApart, none_accounted, marks_more, changed_on, forgot_on, seated_keeps}
+use Rattle.marked_history.proofs.OwnSeats.{HasToken, user_has, IsGiven, SeatMay, tables_on, gone_after, own_seat}
+
+-- ---- which session a daemon has
+
+-- its session stays, or it has none, or one that was made then
+abbrev Moves : SessionTable → SessionTable → Seat → Seat → Type 0
+Moves t after seat next = (next.sid ≡ seat.sid) ⊎ ((next.sid ≡ None) ⊎ ((next.sid ≡ Some (next_sid t)) × (after.given ≡ t.given + 1)))
+
+-- two daemons have different sessions
+abbrev AreApart : Seat → Seat → Type 0
+AreApart seat other = (a b : Sid) → seat.sid ≡ Some a → other.sid ≡ Some b → a.0 ≡ b.0 → ⊥
+
+moves_given : (t after : SessionTable) (seat next : Seat) → t.given ≤ after.given → Moves t after seat next → IsGiven t seat → IsGiven after next
+moves_given t after seat next more (inl same) given sid own = let low = given sid (sym same ∙ own) in omega arith
+moves_given t after seat next more (inr (inl none)) given sid own = let wrong : None ≡ Some sid = sym none ∙ own in absurd cc
+moves_given t after seat next more (inr (inr is)) given sid own =
+    let same : Some (next_sid t) ≡ Some sid = sym is.0 ∙ own in
+    let one : next_sid t ≡ sid = cc in
+    let number : t.given + 1 ≡ sid.0 = ap (λ (y : Sid). y.0) one in
+    let top = is.1 in
+    omega arith
+
+moves_apart : (t after : SessionTable) (seat next other : Seat) → Moves t after seat next → IsGiven t other → AreApart seat other → AreApart next other
+moves_apart t after seat next other (inl same) given apart a b mine theirs = apart a b (sym same ∙ mine) theirs
+moves_apart t after seat next other (inr (inl none)) given apart a b mine theirs = let wrong : None ≡ Some a = sym none ∙ mine in absurd cc
+moves_apart t after seat next other (inr (inr is)) given apart a b mine theirs =
+    let same : Some (next_sid t) ≡ Some a = sym is.0 ∙ mine in
+    let one : next_sid t ≡ a = cc in
+    let number : t.given + 1 ≡ a.0 = ap (λ (y : Sid). y.0) one in
+    let low = given b theirs in
+    λ equal. omega arith
+
+later_given : (t after : SessionTable) (seat : Seat) → t.given ≤ after.given → IsGiven t seat → IsGiven after seat
+later_given t after seat more given sid own = let low = given sid own in omega arith
+
+module _ (s : Superblock) (st : State) (x : Sid) where
+  abbrev after : DmCall → DmReply → SessionTable
+  after c a = (left_by s st (Session x) (Dm c) (Told a)).sessions
+
+  creates : (d : Daemon) (seat : Seat) (old : Sid) (info : List ℕ) (a : DmReply) → IsAnswer s st (Session x) (Dm (call.CreateSession old info)) (Told a)
+      → Moves st.sessions (after (call.CreateSession old info) a) seat (seat_hears d (seat_asks seat (call.CreateSession old info)) (call.CreateSession old info) a)
+  creates d seat old info (reply.Session new) is =
+      let given : reply.Session new ≡ reply.Session (next_sid st.sessions) = (own_reply s st x (call.CreateSession old info) (reply.Session new) is refl).1 in
+      let one : new ≡ next_sid st.sessions = cc given in
+      inr (inr (ap (λ (y : Sid). Some y) one, ap (λ (t : SessionTable). t.given) (done_left s st x (call.CreateSession old info) (reply.Session new) is refl)))
+  creates d seat old info a is = inr (inl refl)
+
+  begins : (d : Daemon) (seat : Seat) (a : DmReply) → Moves st.sessions (after call.GetAllSessions a) seat (seat_hears d (seat_asks seat call.GetAllSessions) call.GetAllSessions a)
+  begins d seat (reply.Sids ids) = inr (inl refl)
+  begins d seat a = inr (inl refl)
+
+  seat_moves : (d : Daemon) (seat : Seat) (c : DmCall) (a : DmReply) → IsAnswer s st (Session x) (Dm c) (Told a) → Moves st.sessions (after c a) seat (seat_hears d (seat_asks seat c) c a)
+  seat_moves d seat call.GetAllSessions a is = begins d seat a
+  seat_moves d seat (call.CreateSession old info) a is = creates d seat old info a is
+  seat_moves d seat c a is = inl (stays d seat c a refl)
+
+-- ---- what the recall daemon makes of refusals
+
+module _ (marks : List Mark) (t : SessionTable) (x : Sid) (u : Token) (k : recall.Known) (at : k.seat.sid ≡ Some x) (is : AllAccounted Recall marks t k.seat) where
+  put_off : AllAccounted Recall marks t (recall.put_off u k).seat
+  put_off = changed_on Recall t marks k.seat is (λ (x : Kept). if has_kept_token u x then record x { marked = true } else x) (same_event u)
+
+  dropped : All (IsApart Recall u) (outstanding_of x t) → AllAccounted Recall marks t (recall.dropped u k).seat
+  dropped apart = forgot_on Recall t marks k.seat is x u at apart
+
+  refused : (w : DmRefusal) → (told_gone (reply.Refused w) ≡ true → All (IsApart Recall u) (outstanding_of x t)) → AllAccounted Recall marks t (recall.refused u w k).seat
+  refused why.NoObject apart = is
+  refused why.NoToken apart = dropped (apart refl)
+  refused (why.NotYours owner) apart = dropped (apart refl)
+  refused why.NoSession apart = is
+  refused w apart = put_off
+
+  failed : (a : DmReply) → (told_gone a ≡ true → All (IsApart Recall u) (outstanding_of x t)) → AllAccounted Recall marks t (recall.failed u a k).seat
+  failed (reply.Refused w) apart = refused w apart
+  failed a apart = put_off
+
+  unrestored : (w : DmRefusal) → (told_gone (reply.Refused w) ≡ true → All (IsApart Recall u) (outstanding_of x t)) → AllAccounted Recall marks t (recall.unrestored u w k).seat
+  unrestored (why.NoSpace need free) apart = is
+  unrestored w apart = refused w apart
+
+refused_sid : (u : Token) (w : DmRefusal) (k : recall.Known) → (recall.refused u w k).seat.sid ≡ k.seat.sid
+refused_sid u why.NoObject k = refl
+refused_sid u why.NoToken k = refl
+refused_sid u (why.NotYours owner) k = refl
+refused_sid u why.NoSession k = refl
+refused_sid u w k = refl
+
+failed_sid : (u : Token) (a : DmReply) (k : recall.Known) → (recall.failed u a k).seat.sid ≡ k.seat.sid
+failed_sid u (reply.Refused w) k = refused_sid u w k
+failed_sid u a k = refl
+
+unrestored_sid : (u : Token) (w : DmRefusal) (k : recall.Known) → (recall.unrestored u w k).seat.sid ≡ k.seat.sid
+unrestored_sid u (why.NoSpace need free) k = refl
+unrestored_sid u w k = refused_sid u w k
+
+unanswered_sid : (u : Token) (w : DmRefusal) (k : recall.Known) → (recall.unanswered u w k).seat.sid ≡ k.seat.sid
+unanswered_sid u why.NoToken k = refl
+unanswered_sid u (why.NotYours owner) k = refl
+unanswered_sid u why.NoSession k = refl
+unanswered_sid u w k = refl
+
+-- ---- a call of either daemon
+
+recall_rests : (k : recall.Known) (x : Sid) (c : DmCall) → RecallMay k x c → SeatMay k.seat x c
+recall_rests k x call.GetAllTokens may = may.0
+recall_rests k x (call.FindEventMsg t room) may = (may.0, may.3)
+recall_rests k x (call.GetEvents most room) may = may.0.session
+recall_rests k x (call.Respond t response) may = may.0.session
+recall_rests k x c may = tt
+
+migrate_rests : (k : migrate.Known) (x : Sid) (c : DmCall) → MigrateMay k x c → SeatMay k.seat x c
+migrate_rests k x call.GetAllTokens may = may.0
+migrate_rests k x (call.FindEventMsg t room) may = (may.0, may.3)
+migrate_rests k x (call.GetEvents most room) may = may.0.session
+migrate_rests k x (call.Respond t response) may = may.0.session
+migrate_rests k x c may = tt
+
+module _ (s : Superblock) (st : State) (ordered : InOrder st) (tokened : Each HasToken st.sessions) (done : List Mark) (x : Sid) where
+  module _ (k : recall.Known) (given : IsGiven st.sessions k.seat) (each : AllAccounted Recall done st.sessions k.seat) where
+    abbrev RecallNext : DmCall → DmReply → Type 0
+    RecallNext c a = AllAccounted Recall (done ++ made Recall x c a ∷ []) (after s st x c a) (recall.hears (recall.asks k c) c a).seat
+
+    -- it leaves its seat
+    recall_still : (c : DmCall) (a : DmReply) → SeatMay k.seat x c → HandsOut st.sessions x c a → IsAnswer s st (Session x) (Dm c) (Told a)
+        → AllAccounted Recall (done ++ made Recall x c a ∷ []) (after s st x c a) (seat_hears Recall (seat_asks k.seat c) c a)
+    recall_still c a may hands is = own_seat s st ordered Recall tokened done x k.seat given each c a may hands is
+
+    right : (u : Token) (h : Handle) (r : Right) (a : DmReply) → k.seat.sid ≡ Some x → IsAnswer s st (Session x) (Dm (call.RequestRight u h r)) (Told a) → RecallNext (call.RequestRight u h r) a
+    right u h r reply.Done at is = recall_still (call.RequestRight u h r) reply.Done tt tt is
+    right u h r a at is =
+        failed (done ++ made Recall x (call.RequestRight u h r) a ∷ []) (after s st x (call.RequestRight u h r) a) x u (recall.asks k (call.RequestRight u h r)) at (recall_still (call.RequestRight u h r) a tt tt is) a
+        (gone_after s st ordered Recall tokened done x (call.RequestRight u h r) a u refl refl is)
+
+    sized : (u : Token) (h : Handle) (a : DmReply) → k.seat.sid ≡ Some x → IsAnswer s st (Session x) (Dm (call.GetFileAttr u h)) (Told a) → RecallNext (call.GetFileAttr u h) a
+    sized u h (reply.Attr size stamp blocks) at is = recall_still (call.GetFileAttr u h) (reply.Attr size stamp blocks) tt tt is
+    sized u h a at is =
+        failed (done ++ made Recall x (call.GetFileAttr u h) a ∷ []) (after s st x (call.GetFileAttr u h) a) x u k at (recall_still (call.GetFileAttr u h) a tt tt is) a
+        (gone_after s st ordered Recall tokened done x (call.GetFileAttr u h) a u refl refl is)
+
+    listed : (u : Token) (h : Handle) (a : DmReply) → k.seat.sid ≡ Some x → IsAnswer s st (Session x) (Dm (call.GetAllocInfo u h)) (Told a) → RecallNext (call.GetAllocInfo u h) a
+    listed u h (reply.Alloc segments) at is = recall_still (call.GetAllocInfo u h) (reply.Alloc segments) tt tt is
+    listed u h a at is =
+        failed (done ++ made Recall x (call.GetAllocInfo u h) a ∷ []) (after s st x (call.GetAllocInfo u h) a) x u k at (recall_still (call.GetAllocInfo u h) a tt tt is) a
+        (gone_after s st ordered Recall tokened done x (call.GetAllocInfo u h) a u refl refl is)
+
+    restored : (u : Token) (h : Handle) (j : ℕ) (bytes : List ℕ) (a : DmReply) → k.seat.sid ≡ Some x → IsAnswer s st (Session x) (Dm (call.Restore u h j bytes)) (Told a) → RecallNext (call.Restore u h j bytes) a
+    restored u h j bytes reply.Done at is = recall_still (call.Restore u h j bytes) reply.Done tt tt is
+    restored u h j bytes (reply.Refused w) at is =
+        unrestored (done ++ made Recall x (call.Restore u h j bytes) (reply.Refused w) ∷ []) (after s st x (call.Restore u h j bytes) (reply.Refused w)) x u k at (recall_still (call.Restore u h j bytes) (reply.Refused w) tt tt is) w
+        (gone_after s st ordered Recall tokened done x (call.Restore u h j bytes) (reply.Refused w) u refl refl is)
+    restored u h j bytes a at is =
+        put_off (done ++ made Recall x (call.Restore u h j bytes) a ∷ []) (after s st x (call.Restore u h j bytes) a) x u k at (recall_still (call.Restore u h j bytes) a tt tt is)
+
+    unanswered : (u : Token) (response : Response) (w : DmRefusal) → k.seat.sid ≡ Some x → IsAnswer s st (Session x) (Dm (call.Respond u response)) (Told (reply.Refused w)) → RecallNext (call.Respond u response) (reply.Refused w)
+    unanswered u response why.NoToken at is = recall_still (call.Respond u response) (reply.Refused why.NoToken) at tt is
+    unanswered u response (why.NotYours owner) at is = recall_still (call.Respond u response) (reply.Refused (why.NotYours owner)) at tt is
+    unanswered u response why.NoSession at is = recall_still (call.Respond u response) (reply.Refused why.NoSession) at tt is
+    unanswered u response w at is =
+        put_off (done ++ made Recall x (call.Respond u response) (reply.Refused w) ∷ []) (after s st x (call.Respond u response) (reply.Refused w)) x u (recall.asks k (call.Respond u response)) at
+        (recall_still (call.Respond u response) (reply.Refused w) at tt is)
+
+    responded : (u : Token) (response : Response) (a : DmReply) → k.seat.sid ≡ Some x → IsAnswer s st (Session x) (Dm (call.Respond u response)) (Told a) → RecallNext (call.Respond u response) a
+    responded u response reply.Done at is = recall_still (call.Respond u response) reply.Done at tt is
+    responded u response (reply.Refused w) at is = unanswered u response w at is
+    responded u response a at is =
+        put_off (done ++ made Recall x (call.Respond u response) a ∷ []) (after s st x (call.Respond u response) a) x u (recall.asks k (call.Respond u response)) at (recall_still (call.Respond u response) a at tt is)
+
+    recall_call : (c : DmCall) (a : DmReply) → RecallMay k x c → HandsOut st.sessions x c a → IsAnswer s st (Session x) (Dm c) (Told a) → RecallNext c a
+    recall_call (call.RequestRight u h r) a may hands is = right u h r a may.0.session is
+    recall_call (call.GetFileAttr u h) a may hands is = sized u h a may.0.session is
+    recall_call (call.GetAllocInfo u h) a may hands is = listed u h a may.0.session is
+    recall_call (call.Restore u h j bytes) a may hands is = restored u h j bytes a may.0.session is
+    recall_call (call.Respond u response) a may hands is = responded u response a may.0.session is
+    recall_call c a may hands is = recall_still c a (recall_rests k x c may) hands is
+
+    right_moves : (u : Token) (h : Handle) (r : Right) (a : DmReply) → (recall.hears (recall.asks k (call.RequestRight u h r)) (call.RequestRight u h r) a).seat.sid ≡ k.seat.sid
+    right_moves u h r reply.Done = refl
+    right_moves u h r a = failed_sid u a (recall.asks k (call.RequestRight u h r))
+
+    sized_moves : (u : Token) (h : Handle) (a : DmReply) → (recall.hears k (call.GetFileAttr u h) a).seat.sid ≡ k.seat.sid
+    sized_moves u h (reply.Attr size stamp blocks) = refl
+    sized_moves u h a = failed_sid u a k
+
+    listed_moves : (u : Token) (h : Handle) (a : DmReply) → (recall.hears k (call.GetAllocInfo u h) a).seat.sid ≡ k.seat.sid
+    listed_moves u h (reply.Alloc segments) = refl
+    listed_moves u h a = failed_sid u a k
+
+    restored_moves : (u : Token) (h : Handle) (j : ℕ) (bytes : List ℕ) (a : DmReply) → (recall.hears k (call.Restore u h j bytes) a).seat.sid ≡ k.seat.sid
+    restored_moves u h j bytes reply.Done = refl
+    restored_moves u h j bytes (reply.Refused w) = unrestored_sid u w k
+    restored_moves u h j bytes a = refl
+
+    responded_moves : (u : Token) (response : Response) (a : DmReply) → (recall.hears (recall.asks k (call.Respond u response)) (call.Respond u response) a).seat.sid ≡ k.seat.sid
+    responded_moves u response reply.Done = refl
+    responded_moves u response (reply.Refused w) = unanswered_sid u w (recall.asks k (call.Respond u response))
+    responded_moves u response a = refl
+
+    recall_moves : (c : DmCall) (a : DmReply) → IsAnswer s st (Session x) (Dm c) (Told a) → Moves st.sessions (after s st x c a) k.seat (recall.hears (recall.asks k c) c a).seat
+    recall_moves (call.RequestRight u h r) a is = inl (right_moves u h r a)
+    recall_moves (call.GetFileAttr u h) a is = inl (sized_moves u h a)
+    recall_moves (call.GetAllocInfo u h) a is = inl (listed_moves u h a)
+    recall_moves (call.Restore u h j bytes) a is = inl (restored_moves u h j bytes a)
+    recall_moves (call.Respond u response) a is = inl (responded_moves u response a)
+    recall_moves call.GetAllSessions a is = seat_moves s st x Recall k.seat call.GetAllSessions a is
+    recall_moves (call.CreateSession old info) a is = seat_moves s st x Recall k.seat (call.CreateSession old info) a is
+    recall_moves c a is = seat_moves s st x Recall k.seat c a is
+
+  module _ (limits : Numbers) (k : migrate.Known) (given : IsGiven st.sessions k.seat) (each : AllAccounted Migrate done st.sessions k.seat) where
+    abbrev MigrateNext : DmCall → DmReply → Type 0
+    MigrateNext c a = AllAccounted Migrate (done ++ made Migrate x c a ∷ []) (after s st x c a) (migrate.hears limits (migrate.asks k c) c a).seat
+
+    migrate_still : (c : DmCall) (a : DmReply) → SeatMay k.seat x c → HandsOut st.sessions x c a → IsAnswer s st (Session x) (Dm c) (Told a)
+        → AllAccounted Migrate (done ++ made Migrate x c a ∷ []) (after s st x c a) (seat_hears Migrate (seat_asks k.seat c) c a)
+    migrate_still c a may hands is = own_seat s st ordered Migrate tokened done x k.seat given each c a may hands is
+
+    spaces : (a : DmReply) → IsAnswer s st (Session x) (Dm call.GetSpace) (Told a) → MigrateNext call.GetSpace a
+    spaces (reply.Space used total) is = migrate_still call.GetSpace (reply.Space used total) tt tt is
+    spaces a is = migrate_still call.GetSpace a tt tt is
+
+    tables : (a : DmReply) → IsAnswer s st (Session x) (Dm call.GetTable) (Told a) → MigrateNext call.GetTable a
+    tables (reply.Table table) is =
+        changed_on Migrate (after s st x call.GetTable (reply.Table table)) (done ++ made Migrate x call.GetTable (reply.Table table) ∷ []) k.seat (migrate_still call.GetTable (reply.Table table) tt tt is) (λ (x : Kept). record x { marked = true }) (λ x. refl)
+    tables a is = migrate_still call.GetTable a tt tt is
+
+    punches : (t : Token) (h : Handle) (offset len : ℕ) (a : DmReply) → IsAnswer s st (Session x) (Dm (call.PunchHole t h offset len)) (Told a) → MigrateNext (call.PunchHole t h offset len) a
+    punches t h offset len reply.Done is = migrate_still (call.PunchHole t h offset len) reply.Done tt tt is
+    punches t h offset len a is = migrate_still (call.PunchHole t h offset len) a tt tt is
+
+    migrate_call : (c : DmCall) (a : DmReply) → MigrateMay k x c → HandsOut st.sessions x c a → IsAnswer s st (Session x) (Dm c) (Told a) → MigrateNext c a
+    migrate_call call.GetSpace a may hands is = spaces a is
+    migrate_call call.GetTable a may hands is = tables a is
+    migrate_call (call.PunchHole t h offset len) a may hands is = punches t h offset len a is
+    migrate_call call.GetAllSessions a may hands is = migrate_still call.GetAllSessions a tt hands is
+    migrate_call (call.CreateSession old info) a may hands is = migrate_still (call.CreateSession old info) a tt hands is
+    migrate_call c a may hands is = migrate_still c a (migrate_rests k x c may) hands is
+
+    space_moves : (a : DmReply) → (migrate.hears limits (migrate.asks k call.GetSpace) call.GetSpace a).seat.sid ≡ k.seat.sid
+    space_moves (reply.Space used total) = refl
+    space_moves a = refl
+
+    table_moves : (a : DmReply) → (migrate.hears limits (migrate.asks k call.GetTable) call.GetTable a).seat.sid ≡ k.seat.sid
+    table_moves (reply.Table table) = refl
+    table_moves a = refl
+
+    punch_moves : (t : Token) (h : Handle) (offset len : ℕ) (a : DmReply) → (migrate.hears limits (migrate.asks k (call.PunchHole t h offset len)) (call.PunchHole t h offset len) a).seat.sid ≡ k.seat.sid
+    punch_moves t h offset len reply.Done = refl
+    punch_moves t h offset len a = refl
+
+    migrate_moves : (c : DmCall) (a : DmReply) → IsAnswer s st (Session x) (Dm c) (Told a) → Moves st.sessions (after s st x c a) k.seat (migrate.hears limits (migrate.asks k c) c a).seat
+    migrate_moves call.GetSpace a is = inl (space_moves a)
+    migrate_moves call.GetTable a is = inl (table_moves a)
+    migrate_moves (call.PunchHole t h offset len) a is = inl (punch_moves t h offset len a)
+    migrate_moves call.GetAllSessions a is = seat_moves s st x Migrate k.seat call.GetAllSessions a is
+    migrate_moves (call.CreateSession old info) a is = seat_moves s st x Migrate k.seat (call.CreateSession old info) a is
+    migrate_moves c a is = seat_moves s st x Migrate k.seat c a is
+
+-- ---- any entry
+
+-- what is known of both daemons
+record Follows (marks : List Mark) (t : SessionTable) (k : Shown) : Type 0 where
+  pub recall : AllAccounted Recall marks t k.recall.seat
+  pub migrate : AllAccounted Migrate marks t k.migrate.seat
+  pub recall_given : IsGiven t k.recall.seat
+  pub migrate_given : IsGiven t k.migrate.seat
+  pub apart : AreApart k.recall.seat k.migrate.seat
+
+other_way : (seat other : Seat) → AreApart seat other → AreApart other seat
+other_way seat other apart a b mine theirs equal = apart b a theirs mine (sym equal)
+
+module _ (s : Superblock) (st : State) (ordered : InOrder st) (done : List Mark) where
+  -- an entry of a line
+  line_on : (d : Daemon) (seat : Seat) (who : Actor) (what : Action) (answer : Answer) → IsAnswer s st who what answer → IsGiven st.sessions seat → AllAccounted d done st.sessions seat
+      → AllAccounted d (done ++ no_daemons (entry_of who what answer) ∷ []) (left_by s st who what answer).sessions seat
+  line_on d seat who what answer is given each =
+      tables_on s st ordered d (done ++ no_daemons (entry_of who what answer) ∷ []) seat who what answer is given (λ sid unfound own left. handed sid unfound)
+      (marks_more d st.sessions done (no_daemons (entry_of who what answer)) seat (λ u. not_by d u (no_daemons (entry_of who what answer)) (λ by. cc)) each)
+    where
+      handed : (sid : Sid) (unfound : List Token) → Hands (Accounted d (done ++ no_daemons (entry_of who what answer) ∷ []) seat.kept unfound) st sid who what answer
+      handed sid unfound most room bytes tokens who_is what_is answer_is these =
+          All-weaker (λ m. Contains (tokens_of (handed_out most room (queue_of sid st.sessions))) m.token) (Accounted d (done ++ no_daemons (entry_of who what answer) ∷ []) seat.kept unfound)
+          (λ m there own. inr (inr (subst (λ (e : Entry). IsTaken d (done ++ no_daemons e ∷ []) m.token) (λ i. entry_of (sym who_is i) (sym what_is i) (sym answer_is i))
+          (taken_by d done sid most room bytes tokens m.token (subst (λ (l : List Token). Contains l m.token) (sym these) there)))))
+          (handed_out most room (queue_of sid st.sessions)) (mapped_in (λ (m : Message). m.token) (handed_out most room (queue_of sid st.sessions)))
+
+  -- one of the other daemon
+  other_on : (d e : Daemon) (seat other : Seat) (x : Sid) (c : DmCall) (a : DmReply) → (Some e ≡ Some d → ⊥) → AreApart seat other → SeatMay other x c → IsAnswer s st (Session x) (Dm c) (Told a) → IsGiven st.sessions seat
+      → AllAccounted d done st.sessions seat → AllAccounted d (done ++ made e x c a ∷ []) (left_by s st (Session x) (Dm c) (Told a)).sessions seat
+  other_on d e seat other x c a differ apart may is given each =
+      tables_on s st ordered d (done ++ made e x c a ∷ []) seat (Session x) (Dm c) (Told a) is given (λ sid unfound own left. handed sid unfound own)
+      (marks_more d st.sessions done (made e x c a) seat (λ u. not_by d u (made e x c a) differ) each)
+    where
+      handed : (sid : Sid) (unfound : List Token) → seat.sid ≡ Some sid → Hands (Accounted d (done ++ made e x c a ∷ []) seat.kept unfound) st sid (Session x) (Dm c) (Told a)
+      handed sid unfound own most room bytes tokens who_is what_is answer_is these =
+          let asked : c ≡ call.GetEvents most room = cc what_is in
+          let theirs : other.sid ≡ Some x = subst (SeatMay other x) asked may in
+          let one : x ≡ sid = cc who_is in
+          absurd (apart sid x own theirs (ap (λ (y : Sid). y.0) (sym one)))
+
+  module _ (tokened : Each HasToken st.sessions) (limits : Numbers) (k : Shown) (f : Follows done st.sessions k) where
+    step : (by : Option Daemon) (who : Actor) (what : Action) (answer : Answer) → IsAnswer s st who what answer → HandsBy st who what answer → IsServedBy by k (record { entry = entry_of who what answer; by = by })
+        → Follows (done ++ (record { entry = entry_of who what answer; by = by }) ∷ []) (left_by s st who what answer).sessions (with_entry limits by (exchange_by who what answer) k)
+    step None who what answer is hands served = record {
+      recall = line_on Recall k.recall.seat who what answer is f.recall_given f.recall;
+      migrate = line_on Migrate k.migrate.seat who what answer is f.migrate_given f.migrate;
+      recall_given = later_given st.sessions (left_by s st who what answer).sessions k.recall.seat (left_given s st who what answer) f.recall_given;
+      migrate_given = later_given st.sessions (left_by s st who what answer).sessions k.migrate.seat (left_given s st who what answer) f.migrate_given;
+      apart = f.apart;
+    }
+    step (Some Recall) (Session x) (Dm c) (Told a) is hands served =
+        let moves = recall_moves s st ordered tokened done x k.recall f.recall_given f.recall c a is in
+        record {
+          recall = recall_call s st ordered tokened done x k.recall f.recall_given f.recall c a served hands is;
+          migrate = other_on Migrate Recall k.migrate.seat k.recall.seat x c a (λ same. cc) (other_way k.recall.seat k.migrate.seat f.apart) (recall_rests k.recall x c served) is f.migrate_given f.migrate;
+          recall_given = moves_given st.sessions (after s st x c a) k.recall.seat (recall.hears (recall.asks k.recall c) c a).seat (left_given s st (Session x) (Dm c) (Told a)) moves f.recall_given;
+          migrate_given = later_given st.sessions (after s st x c a) k.migrate.seat (left_given s st (Session x) (Dm c) (Told a)) f.migrate_given;
+          apart = moves_apart st.sessions (after s st x c a) k.recall.seat (recall.hears (recall.asks k.recall c) c a).seat k.migrate.seat moves f.migrate_given f.apart;
+        }
+    step (Some Migrate) (Session x) (Dm c) (Told a) is hands served =
+        let moves = migrate_moves s st ordered tokened done x limits k.migrate f.migrate_given f.migrate c a is in
+        record {
+          recall = other_on Recall Migrate k.recall.seat k.migrate.seat x c a (λ same. cc) f.apart (migrate_rests k.migrate x c served) is f.recall_given f.recall;
+          migrate = migrate_call s st ordered tokened done x limits k.migrate f.migrate_given f.migrate c a served hands is;
+          recall_given = later_given st.sessions (after s st x c a) k.recall.seat (left_given s st (Session x) (Dm c) (Told a)) f.recall_given;
+          migrate_given = moves_given st.sessions (after s st x c a) k.migrate.seat (migrate.hears limits (migrate.asks k.migrate c) c a).seat (left_given s st (Session x) (Dm c) (Told a)) moves f.migrate_given;
+          apart = other_way (migrate.hears limits (migrate.asks k.migrate c) c a).seat k.recall.seat
+              (moves_apart st.sessions (after s st x c a) k.migrate.seat (migrate.hears limits (migrate.asks k.migrate c) c a).seat k.recall.seat moves f.recall_given (other_way k.recall.seat k.migrate.seat f.apart));
+        }
+    step (Some d) who what answer is hands served = absurd served
+
+-- ---- messages have tokens
+
+module _ (s : Superblock) (st : State) (each : Each HasToken st.sessions) where
+  parked_tokened : (after : State) (c : ℕ) (answer : Reply) → PostsParked s st after c answer → Each HasToken after.sessions
+  parked_tokened after c answer (inl same) = subst (λ (t : SessionTable). Each HasToken t) (sym same) each
+  parked_tokened after c answer (inr p) = subst (λ (t : SessionTable). Each HasToken t) (sym p.posts) (posted_each HasToken p.message st.sessions each (λ d own. p.real))
+
+  own_tokened : (who : Actor) (what : Action) → Each HasToken (left_own s st who what).sessions
+  own_tokened (Caller c) (Issue call) = parked_tokened (left_own s st (Caller c) (Issue call)) c (reply_to s st c (Issue call)) (posts_where s st c (flags_now st c (Issue call)) (objection_in s st c (Issue call)) (meant_in st c (Issue call)))
+  own_tokened (Caller c) Resume = parked_tokened (left_own s st (Caller c) Resume) c (reply_to s st c Resume) (posts_where s st c (flags_now st c Resume) (objection_in s st c Resume) (meant_in st c Resume))
+  own_tokened (Session x) (Dm c) = told_each HasToken user_has st each (dm_judged s st x c) s x c
+  own_tokened who what = each
+
+  if_tokened : (fault : Bool) (own : State) → Each HasToken own.sessions → Each HasToken (if fault then noted st else own).sessions
+  if_tokened true own are = each
+  if_tokened false own are = are
+
+  left_tokened : (who : Actor) (what : Action) (answer : Answer) → Each HasToken (left_by s st who what answer).sessions
+  left_tokened who what answer = if_tokened (is_fault answer) (left_own s st who what) (own_tokened who what)
+
+-- ---- whole histories
+
+-- with tokens of all messages
+abbrev AllFollow : List Mark → State → Shown → Type 0
+AllFollow done now k = Each HasToken now.sessions × Follows done now.sessions k
+
+all_follow : (limits : Numbers) (s : Superblock) → KeptBy limits s AllFollow
+all_follow limits s done now k m ordered answer hands served is =
+    (left_tokened s now is.0 m.entry.actor m.entry.action m.entry.answer, step s now ordered done is.0 limits k is.1 m.by m.entry.actor m.entry.action m.entry.answer answer hands served)
+
+first_follows : (t : SessionTable) → Follows [] t nothing_shown
+first_follows t = record {
+  recall = none_accounted Recall t [] nothing_shown.recall.seat refl;
+  migrate = none_accounted Migrate t [] nothing_shown.migrate.seat refl;
+  recall_given = λ sid own. absurd cc;
+  migrate_given = λ sid own. absurd cc;
+  apart = λ a b mine theirs equal. absurd cc;
+}
+
+follows_keeps : (daemon : Daemon) (limits : Numbers) (s : Superblock) (st : State) (marks : List Mark) → Follows marks (state_by s st (entries_of marks)).sessions (shown limits nothing_shown marks) → KeepsAll daemon limits s st marks
+follows_keeps Recall limits s st marks f sid m seated there own = seated_keeps Recall (state_by s st (entries_of marks)).sessions marks (shown limits nothing_shown marks).recall.seat f.recall sid m seated there own
+follows_keeps Migrate limits s st marks f sid m seated there own = seated_keeps Migrate (state_by s st (entries_of marks)).sessions marks (shown limits nothing_shown marks).migrate.seat f.migrate sid m seated there own
+
+pub served_keeps_all : (daemon : Daemon) (limits : Numbers) (s : Superblock) (base : ℕ) (h : Held) (marks : List Mark) (es : List Entry) → ServedKeepsAll daemon limits s base h marks es
+served_keeps_all daemon limits s base h marks es same served run packed =
+    follows_keeps daemon limits s (just_opened base h) marks
+    (kept_behind limits s AllFollow (all_follow limits s) base h marks es same served run packed (none_each HasToken, first_follows (just_opened base h).sessions)).1

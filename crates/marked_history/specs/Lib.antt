@@ -1,0 +1,11 @@
+pub mod Marks
+pub mod Quiet
+pub mod Served
+pub mod Passing
+pub mod Caused
+pub mod Follows
+pub mod Tokens
+pub mod Freeing
+pub mod Waiting
+pub mod Settling
+pub mod Coming
