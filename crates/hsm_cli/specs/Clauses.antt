@@ -136,8 +136,8 @@ TellsFaults g None drives faults = faults ≡ []
 abbrev pub IsCausedOver : {D : Type 0} → Option (Store D) → List Entry → Type 0
 IsCausedOver opened history = Caused (superblock_at opened) (just_opened (base_of opened) (held_at opened)) history
 
--- An event is answered for a fault of a medium only by a session that was told, after the access was parked, that bytes of its file are away in that object;
--- and the drives tell the fault.
+-- An event is answered for a fault of a medium only by a session that was told, after the access was parked, that bytes of its file are away in that object.
+-- And what is told of the fault is so, as far as drives come back or never fail.
 pub record MediaClause {D M : Type 0} (g : drive.Ghosts M) (form : Option Form) (o : Outcome D M) : Type 0 where
   pub caused : IsCausedOver (opened_in o) o.history
   pub faults : TellsFaults g form o.drives (faults_in o.history)
@@ -221,7 +221,7 @@ HostClause holds makes openings (Some (ReplayStore path dir)) old new o = HandsO
 
 -- ---- the drives clause
 
--- Drives as the host handed them out, used by copies and fetches: each volume has the objects that it had, and perhaps more.
+-- Drives as the host handed them out, used: each volume has the objects that it had, and perhaps more.
 abbrev pub AreUsed : {M : Type 0} → drive.Ghosts M → (ℕ → Objects → Type 0) → List M → Type 0
 AreUsed {M = M} g stored drives = (handed : List M) × AreHanded g stored standard.drives standard.volumes standard.capacity handed × HaveGrown g handed drives
 

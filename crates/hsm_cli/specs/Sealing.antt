@@ -28,7 +28,7 @@ pub record TellsOf {M : Type 0} (g : drive.Ghosts M) (opened drives : List M) (m
 
 -- ---- on new drives that never fail
 
--- Behind those first entries a fetch found no such object, and no Seal of theirs names it. Recall has made no entry since.
+-- No Seal of those first entries names the object. They have all that recall was told, as it has made none since.
 pub record IsUnknown (marks : List Mark) (entry : StubEntry) : Type 0 where
   pub first : List Mark
   pub since : List Mark

@@ -36,5 +36,4 @@ pub mod Sending
 mod Packing
 mod TurnedAway
 mod Begun
-mod Calling
 mod Resting

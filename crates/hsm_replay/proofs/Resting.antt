@@ -57,12 +57,11 @@ use Rattle.hsm_replay.specs.Systems.{System, running}
 use Rattle.marked_history.specs.Waiting.{runs, no_more, unserved, PutsOff, RecallRests, MigrateRests, IsAtRest, AllMayWait}
 use Rattle.hsm_replay.proofs.Begun.{begins_pass}
 use Rattle.hsm_replay.proofs.ByRunning.{by_running_then}
-use Rattle.hsm_replay.proofs.Calling.{each_calls}
 use Rattle.hsm_replay.proofs.Coming.{unseated as no_session}
 use Rattle.hsm_replay.proofs.Freshness.{refreshed_fresh}
 use Rattle.hsm_replay.proofs.Kept.{here, there, first_or_rest, all_then, told_unmarked}
 use Rattle.hsm_replay.proofs.Rounds.{marked_since}
-use Rattle.hsm_replay.proofs.TurnedAway.{IsRefusedOne, EndsRefused, ends_away, shown_append, recall_away, migrate_away, recall_turned_away, migrate_turned_away}
+use Rattle.hsm_replay.proofs.TurnedAway.{IsRefusedOne, EndsRefused, ends_away, shown_append, recall_away, migrate_away, recall_turned_away, migrate_turned_away, recall_told, migrate_told}
 use Rattle.marked_history.proofs.StillSo.{lives_still, spacious_still}
 use Rattle.marked_history.proofs.Waiting.{ready_waits, settled_waits}
 
@@ -187,7 +186,8 @@ module _ (limits : Numbers) (entries : List Entry) (k : migrate.Known) where
           sid = more.0;
           seated = subst (λ (s : Seat). IsSeated s more.0) same more.2;
           none = sym (ap (λ (s : Seat). s.kept) same) ∙ rests.none;
-          ends = subst (λ (l : List Entry). Contains l (no_more more.0)) (sym (rests.turn.2 ∙ ap (λ (e : Entry). rests.turn.0 ++ e ∷ []) more.1)) (Contains-push rests.turn.0 (no_more more.0));
+          first = rests.turn.0;
+          ends = rests.turn.2 ∙ ap (λ (e : Entry). rests.turn.0 ++ e ∷ []) more.1;
         })
     migrate_by (inr one) = inl (rests.turn.0, rests.turn.1, rests.turn.2, one)
 
@@ -212,6 +212,10 @@ module _ (limits : Numbers) (entries : List Entry) (k : migrate.Known) where
   migrate_spares Began (Some m) rests knows runs fresh = spares_by m rests knows Began fresh (ends_so m.machine.known.seat rests.turn.1.actor rests.turn.1.action rests.turn.1.answer rests.turn.3)
 
 -- ---- the store at rest
+
+-- what it ends with is in it
+ends_with : (entries first : List Entry) (sid : Sid) → entries ≡ first ++ no_more sid ∷ [] → Contains entries (no_more sid)
+ends_with entries first sid is = subst (λ (l : List Entry). Contains l (no_more sid)) (sym is) (Contains-push first (no_more sid))
 
 -- the last of more marks are those of the same turns
 ends_later : (before part : List Mark) (recall_turn migrate_turn : List Entry) → EndsInTurns part recall_turn migrate_turn → EndsInTurns (before ++ part) recall_turn migrate_turn
@@ -286,13 +290,11 @@ module _ {D M : Type 0} (h : drive.Ghosts M) (opened : List M) (marks : List Mar
     still_lives : (sid : Sid) → Contains both (no_more sid) → lives sid (behind (entries_of marks)).sessions ≡ true
     still_lives sid there = subst (λ (es : List Entry). lives sid (behind es).sessions ≡ true) (sym shows.marked.entries) (lives_still (superblock_of s.store.opened) (first_of s) s.store.history from both kept.good.run.exact ends_with_both turns.quiet sid there)
 
-    recall_works : RecallRests k.recall.seat turns.recall_turn → IsAtWork Recall k (behind (entries_of marks))
-    recall_works rests =
-        let there : Contains turns.recall_turn (no_more rests.sid) = subst (λ (l : List Entry). Contains l (no_more rests.sid)) (sym rests.ends) (Contains-push rests.first (no_more rests.sid)) in
-        record { sid = rests.sid; seated = rests.seated; live = still_lives rests.sid (Contains-append_left turns.recall_turn turns.migrate_turn (no_more rests.sid) there) }
+    recall_lives : (rests : RecallRests k.recall.seat turns.recall_turn) → lives rests.sid (behind (entries_of marks)).sessions ≡ true
+    recall_lives rests = still_lives rests.sid (Contains-append_left turns.recall_turn turns.migrate_turn (no_more rests.sid) (ends_with turns.recall_turn rests.first rests.sid rests.ends))
 
-    migrate_works : MigrateRests k.migrate.seat turns.migrate_turn → IsAtWork Migrate k (behind (entries_of marks))
-    migrate_works rests = record { sid = rests.sid; seated = rests.seated; live = still_lives rests.sid (Contains-append_right turns.recall_turn turns.migrate_turn (no_more rests.sid) rests.ends) }
+    migrate_lives : (rests : MigrateRests k.migrate.seat turns.migrate_turn) → lives rests.sid (behind (entries_of marks)).sessions ≡ true
+    migrate_lives rests = still_lives rests.sid (Contains-append_right turns.recall_turn turns.migrate_turn (no_more rests.sid) (ends_with turns.migrate_turn rests.first rests.sid rests.ends))
 
     -- with enough space the store isn't crowded
     not_crowded : HadSpace s.limits turns.migrate_turn → IsCrowded s.limits (superblock_of s.store.opened) (behind (entries_of marks)) → ⊥
@@ -329,15 +331,15 @@ module _ {D M : Type 0} (h : drive.Ghosts M) (opened : List M) (before part : Li
   left = state_by (superblock_of s.store.opened) (first_of s) (entries_of whole)
 
   module _ (kept : IsKept s.store) (working : s.store.files.failed ≡ false) where
-    recall_has : EndsRefused turns.recall_turn ⊎ RecallRests known.recall.seat turns.recall_turn → IsAtWork Recall known left ⊎ IsTurnedAway Recall part
+    recall_has : EndsRefused turns.recall_turn ⊎ RecallRests known.recall.seat turns.recall_turn → IsAtWork Recall known left part ⊎ IsTurnedAway Recall part
     recall_has (inl refused) = inr (recall_turned_away s.limits before part shows.marked.served turns.recall_turn turns.migrate_turn ends refused)
-    recall_has (inr rests) = inl (recall_works h opened whole s shows from turns all_ends kept working rests)
+    recall_has (inr rests) = inl (record { sid = rests.sid; seated = rests.seated; live = recall_lives h opened whole s shows from turns all_ends kept working rests; told = recall_told part turns.recall_turn turns.migrate_turn ends rests.sid rests.first rests.ends })
 
-    migrate_has : EndsRefused turns.migrate_turn ⊎ MigrateRests known.migrate.seat turns.migrate_turn → IsAtWork Migrate known left ⊎ IsTurnedAway Migrate part
+    migrate_has : EndsRefused turns.migrate_turn ⊎ MigrateRests known.migrate.seat turns.migrate_turn → IsAtWork Migrate known left part ⊎ IsTurnedAway Migrate part
     migrate_has (inl refused) = inr (migrate_turned_away s.limits before part shows.marked.served turns.recall_turn turns.migrate_turn ends refused)
-    migrate_has (inr rests) = inl (migrate_works h opened whole s shows from turns all_ends kept working rests)
+    migrate_has (inr rests) = inl (record { sid = rests.sid; seated = rests.seated; live = migrate_lives h opened whole s shows from turns all_ends kept working rests; told = migrate_told part turns.recall_turn turns.migrate_turn ends rests.sid rests.first rests.ends })
 
-    each_works : (daemon : Daemon) → runs daemon (running s) ≡ true → IsAtWork daemon known left ⊎ IsTurnedAway daemon part
+    each_works : (daemon : Daemon) → runs daemon (running s) ≡ true → IsAtWork daemon known left part ⊎ IsTurnedAway daemon part
     each_works Recall runs = recall_has (recall_rests h opened whole s shows from turns all_ends runs)
     each_works Migrate runs = migrate_has (migrate_rests h opened whole s shows from turns all_ends runs)
 
@@ -351,7 +353,6 @@ module _ {D M : Type 0} (h : drive.Ghosts M) (opened : List M) (before part : Li
       has_settled : ArePackedSince s.store → IsSettledIn s before part
       has_settled packed = record {
         waits = wait_rightly h opened whole s shows from turns all_ends kept working packed;
-        acts = each_calls s from turns part ends;
         works = each_works;
         spares = has_begun h opened whole s shows from turns all_ends kept working (BeginsPass part) (may_or_began (fresh.2 (refreshed_fresh old)));
       }

@@ -1,11 +1,11 @@
--- A daemon whose last call was refused, as too many sessions live.
+-- A daemon whose last call was refused, as too many sessions live, or was told that there are no more events.
 use Rattle.std.proofs.Common.{◌≡◌, ◌≢◌, ◌∙◌, ◌++◌, ◌∷◌, [], ℕ, List, None, Some, refl, sym, ap, ap₂, subst, append_assoc, append-nil}
 use Rattle.std.specs.List.{AllByRecursion}
 use Rattle.hsm_types.specs.declared.daemons.Daemon.{Daemon}
 use Rattle.hsm_types.specs.declared.daemons.Daemon.TheVariants.{Recall, Migrate}
 use Rattle.hsm_types.specs.declared.dm.DmCall.{DmCall}
-use Rattle.hsm_types.specs.declared.dm.DmCall.TheVariants.{CreateSession}
-use Rattle.hsm_types.specs.declared.dm.DmRefusal.TheVariants.{TooMany}
+use Rattle.hsm_types.specs.declared.dm.DmCall.TheVariants.{CreateSession, GetEvents}
+use Rattle.hsm_types.specs.declared.dm.DmRefusal.TheVariants.{Again, TooMany}
 use Rattle.hsm_types.specs.declared.dm.DmReply.{DmReply}
 use Rattle.hsm_types.specs.declared.dm.DmReply.TheVariants.{Refused}
 use Rattle.hsm_types.specs.declared.keys.Sid.{Sid}
@@ -19,7 +19,8 @@ use Rattle.hsm_core.specs.Answers.{entry_of}
 use Rattle.marked_history.specs.Follows.{IsMadeBy}
 use Rattle.marked_history.specs.Marks.{Mark, entries_of, made}
 use Rattle.marked_history.specs.Served.{Shown, nothing_shown, learned, shown, MayCall, IsServedBy, ServedFrom, Served}
-use Rattle.marked_history.specs.Settling.{IsTurnedAway}
+use Rattle.marked_history.specs.Settling.{IsToldNoMore, IsTurnedAway}
+use Rattle.marked_history.specs.Waiting.{no_more}
 use Rattle.hsm_replay.specs.Resting.{EndsInTurns}
 use Rattle.hsm_replay.proofs.Kept.{all_weaker}
 
@@ -122,3 +123,49 @@ module _ (limits : Numbers) (before part : List Mark) (served : Served limits (b
     migrate_turned_away refused = last_since Migrate (ends.before ++ ends.recalls) ends.migrates []
         (ends.parted ∙ sym (append_assoc ends.before ends.recalls ends.migrates) ∙ ap (λ (ms : List Mark). (ends.before ++ ends.recalls) ++ ms) (sym (append-nil ends.migrates)))
         (ends_away Migrate ends.migrates migrate_turn ends.by_migrate ends.migrated refused) tt
+
+-- ---- the daemon was told that there are no more events
+
+-- the daemon's call, as it is marked
+abbrev pub told_no_more : Daemon → Sid → Mark
+told_no_more daemon sid = made daemon sid (GetEvents 0 65536) (Refused Again)
+
+last_told : (daemon : Daemon) (marks : List Mark) (first : List Entry) (sid : Sid) → AllByRecursion (IsMadeBy daemon) marks → entries_of marks ≡ first ++ no_more sid ∷ [] → (calls : List Mark) × (marks ≡ calls ++ told_no_more daemon sid ∷ [])
+last_told daemon [] [] sid all is = absurd cc
+last_told daemon [] (x ∷ first) sid all is = absurd cc
+last_told daemon (m ∷ []) [] sid all is =
+    let entry : m.entry ≡ no_more sid = cc in
+    let by = all.0 in
+    let same : entry_of (Session by.0) (Dm by.1) (Told by.2) ≡ no_more sid = sym (ap (λ (x : Mark). x.entry) by.3) ∙ entry in
+    let who : Session by.0 ≡ Session sid = ap (λ (x : Entry). x.actor) same in
+    let what : Dm by.1 ≡ Dm (GetEvents 0 65536) = ap (λ (x : Entry). x.action) same in
+    let answer : Told by.2 ≡ Told (Refused Again) = ap (λ (x : Entry). x.answer) same in
+    let own : by.0 ≡ sid = cc in
+    let asked : by.1 ≡ GetEvents 0 65536 = cc in
+    let told : by.2 ≡ Refused Again = cc in
+    ([], ap (λ (x : Mark). x ∷ []) (by.3 ∙ ap (λ (x : Sid). made daemon x by.1 by.2) own ∙ ap₂ (λ (c : DmCall) (r : DmReply). made daemon sid c r) asked told))
+last_told daemon (m ∷ n ∷ marks) [] sid all is = absurd cc
+last_told daemon (m ∷ marks) (x ∷ first) sid all is =
+    let later : entries_of marks ≡ first ++ no_more sid ∷ [] = cc in
+    let found = last_told daemon marks first sid all.1 later in
+    (m ∷ found.0, ap (λ (ms : List Mark). m ∷ ms) found.1)
+
+told_since : (daemon : Daemon) (sid : Sid) (part first calls since : List Mark) → part ≡ first ++ (calls ++ since) → (own : List Mark) × (calls ≡ own ++ told_no_more daemon sid ∷ []) → AllByRecursion (λ (m : Mark). m.by ≢ Some daemon) since → IsToldNoMore daemon sid part
+told_since daemon sid part first calls since parted told others =
+    let m : Mark = told_no_more daemon sid in
+    record {
+      first = first ++ told.0;
+      since = since;
+      parted = parted ∙ ap (λ (ms : List Mark). first ++ (ms ++ since)) told.1 ∙ ap (λ (ms : List Mark). first ++ ms) (append_assoc told.0 (m ∷ []) since) ∙ sym (append_assoc first told.0 (m ∷ since));
+      last = others;
+    }
+
+module _ (part : List Mark) (recall_turn migrate_turn : List Entry) (ends : EndsInTurns part recall_turn migrate_turn) (sid : Sid) (first : List Entry) where
+  pub recall_told : recall_turn ≡ first ++ no_more sid ∷ [] → IsToldNoMore Recall sid part
+  recall_told is = told_since Recall sid part ends.before ends.recalls ends.migrates ends.parted (last_told Recall ends.recalls first sid ends.by_recall (ends.recalled ∙ is))
+      (all_weaker (IsMadeBy Migrate) (λ (m : Mark). m.by ≢ Some Recall) ends.migrates not_recalls ends.by_migrate)
+
+  pub migrate_told : migrate_turn ≡ first ++ no_more sid ∷ [] → IsToldNoMore Migrate sid part
+  migrate_told is = told_since Migrate sid part (ends.before ++ ends.recalls) ends.migrates []
+      (ends.parted ∙ sym (append_assoc ends.before ends.recalls ends.migrates) ∙ ap (λ (ms : List Mark). (ends.before ++ ends.recalls) ++ ms) (sym (append-nil ends.migrates)))
+      (last_told Migrate ends.migrates first sid ends.by_migrate (ends.migrated ∙ is)) tt

@@ -34,7 +34,7 @@ AreApart count [] = Unit {0}
 AreApart count (fault ∷ faults) = AllByRecursion (IsApart count fault) faults × AreApart count faults
 
 module _ {M : Type 0} (g : drive.Ghosts M) where
-  -- The drive's count rose from the one number to the other, which is no more than it counts; or the volume is there, the payload that the medium gives has
+  -- The second number is above the first, and no more than the drive counts; or the volume is there, the payload that the medium gives has
   -- the one fingerprint, and another is wanted.
   abbrev pub TellsFault : M → Fault → Type 0
   TellsFault d (Failed volume object before after) = Rose before after × (after ≤ g.fault_count d)

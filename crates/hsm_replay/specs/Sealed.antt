@@ -73,8 +73,8 @@ module _ {M : Type 0} (g : drive.Ghosts M) where
   abbrev pub MayLack : List M → StubEntry → Type 0
   MayLack drives entry = (o : Objects) × Gives drives entry.volume o × (length o ≤ entry.object)
 
-  -- Behind those first entries a fetch found no such object. Recall has made no entry since, so these have all that it was told, of the segments too.
-  -- Where the volume's objects are told, no Seal of theirs names the object, and by what the opened drives tell the volume may have been without it.
+  -- Those first entries have all that recall was told, of the segments too, as it has made none since. Where the volume's objects are told, no Seal of
+  -- theirs names the object, and by what the opened drives tell the volume may have been without it.
   pub record IsLost (opened drives : List M) (marks : List Mark) (entry : StubEntry) : Type 0 where
     pub first : List Mark
     pub since : List Mark

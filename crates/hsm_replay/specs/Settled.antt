@@ -93,7 +93,8 @@ AreHeldUp entries rights seat = AllByRecursion (λ (k : Kept). IsHeldUp entries 
 abbrev pub NoneReady : {D : Type 0} → Store D → Type 0
 NoneReady s = (caller : ℕ) → IsCallerNumber caller → ready s caller ≢ Now
 
--- Behind these entries there was a turn of recall, and one of migration, all of it quiet. What recall keeps is held up. No access may go on now.
+-- Behind these entries there are some of recall and then some of migration, all quiet, with which a turn of each has ended. What recall keeps is held up. No
+-- access may go on now.
 pub record EndsQuietly {D M : Type 0} (from : List Entry) (s : System D M) : Type 0 where
   pub recall_turn : List Entry
   pub migrate_turn : List Entry

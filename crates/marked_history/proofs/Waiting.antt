@@ -357,7 +357,8 @@ module _ (r : Running) (limits : Numbers) (s : Superblock) (base : ℕ) (h : Hel
         subst (λ (y : Sid). Contains turns (no_more y)) rests.1 (Contains-append_left rest.recall_turn rest.migrate_turn (no_more rests.0.sid) there)
     ends_in Migrate m is =
         let rests = migrate_rests m is in
-        subst (λ (y : Sid). Contains turns (no_more y)) rests.1 (Contains-append_right rest.recall_turn rest.migrate_turn (no_more rests.0.sid) rests.0.ends)
+        let there : Contains rest.migrate_turn (no_more rests.0.sid) = subst (λ (l : List Entry). Contains l (no_more rests.0.sid)) (sym rests.0.ends) (Contains-push rests.0.first (no_more rests.0.sid)) in
+        subst (λ (y : Sid). Contains turns (no_more y)) rests.1 (Contains-append_right rest.recall_turn rest.migrate_turn (no_more rests.0.sid) there)
 
     -- ---- messages that are outstanding
 

@@ -95,7 +95,7 @@ abbrev pub ArePunched : List Picked → Sid → List Mark → Type 0
 ArePunched picks sid during = (first : List Mark) (s : Sid) (t : Token) (h : Handle) (offset len : ℕ) (answer : DmReply) (rest : List Mark) → during ≡ first ++ made Migrate s (PunchHole t h offset len) answer ∷ rest
     → IsPunchOf picks first sid (PunchHole t h offset len)
 
--- The table's picks are done in order, up to the last or to the one at which the pass ended. None is punched before it is covered and sealed.
+-- Each of the table's picks is done, up to the last or to the one at which the pass ended. None is punched before it is covered and sealed.
 pub record IsPassed (CopyEnds : Type 0) (limits : Numbers) (sid : Sid) (table : Table) (during : List Mark) : Type 0 where
   pub picks : List Picked
   pub pick : IsPick table (share limits.low table.total) picks

@@ -4,8 +4,8 @@ use Rattle.std.specs.List.{AllByRecursion}
 use Rattle.hsm_types.specs.Sessions.{lives}
 use Rattle.hsm_types.specs.declared.daemons.Daemon.{Daemon}
 use Rattle.hsm_types.specs.declared.daemons.Daemon.TheVariants.{Recall, Migrate}
-use Rattle.hsm_types.specs.declared.dm.DmCall.TheVariants.{CreateSession, GetTable}
-use Rattle.hsm_types.specs.declared.dm.DmRefusal.TheVariants.{TooMany}
+use Rattle.hsm_types.specs.declared.dm.DmCall.TheVariants.{CreateSession, GetEvents, GetTable}
+use Rattle.hsm_types.specs.declared.dm.DmRefusal.TheVariants.{Again, TooMany}
 use Rattle.hsm_types.specs.declared.dm.DmReply.TheVariants.{Refused, Table as TheTable}
 use Rattle.hsm_types.specs.declared.keys.Sid.{Sid}
 use Rattle.hsm_types.specs.declared.stores.Superblock.{Superblock}
@@ -51,11 +51,19 @@ AreByRunning r marks = AllByRecursion (IsByRunning r) marks
 
 -- ---- what daemons have come to
 
--- The daemon has a session in which it set its kinds, and the session lives.
-pub record IsAtWork (daemon : Daemon) (k : Shown) (st : State) : Type 0 where
+-- Its last call asked for events, and there are no more.
+pub record IsToldNoMore (daemon : Daemon) (sid : Sid) (part : List Mark) : Type 0 where
+  pub first : List Mark
+  pub since : List Mark
+  pub parted : part ≡ first ++ made daemon sid (GetEvents 0 65536) (Refused Again) ∷ since
+  pub last : AllByRecursion (λ (m : Mark). m.by ≢ Some daemon) since
+
+-- The daemon has a session in which it set its kinds. The session lives, and was told at last that there are no more events.
+pub record IsAtWork (daemon : Daemon) (k : Shown) (st : State) (part : List Mark) : Type 0 where
   pub sid : Sid
   pub seated : IsSeated (seat_of daemon k) sid
   pub live : lives sid st.sessions ≡ true
+  pub told : IsToldNoMore daemon sid part
 
 -- Its last call was refused, as too many sessions live.
 pub record IsTurnedAway (daemon : Daemon) (part : List Mark) : Type 0 where
@@ -66,10 +74,6 @@ pub record IsTurnedAway (daemon : Daemon) (part : List Mark) : Type 0 where
   pub since : List Mark
   pub parted : part ≡ first ++ made daemon first_id (CreateSession old info) (Refused (TooMany count)) ∷ since
   pub last : AllByRecursion (λ (m : Mark). m.by ≢ Some daemon) since
-
--- it has made a call
-abbrev pub HasCalled : Daemon → List Mark → Type 0
-HasCalled daemon part = (m : Mark) × Contains part m × (m.by ≡ Some daemon)
 
 -- a pass of migration began
 abbrev pub BeginsPass : List Mark → Type 0
@@ -86,8 +90,7 @@ module _ (limits : Numbers) (s : Superblock) (first : State) where
   -- and is at work or was turned away. Where migration has a session and the store is crowded still, a pass began in the settle.
   pub record HasSettled (r : Running) (before part : List Mark) : Type 0 where
     pub waits : AllMayWait r (shown limits nothing_shown (before ++ part)) (before ++ part) s (state_by s first (entries_of (before ++ part)))
-    pub acts : (daemon : Daemon) → runs daemon r ≡ true → HasCalled daemon part
-    pub works : (daemon : Daemon) → runs daemon r ≡ true → IsAtWork daemon (shown limits nothing_shown (before ++ part)) (state_by s first (entries_of (before ++ part))) ⊎ IsTurnedAway daemon part
+    pub works : (daemon : Daemon) → runs daemon r ≡ true → IsAtWork daemon (shown limits nothing_shown (before ++ part)) (state_by s first (entries_of (before ++ part))) part ⊎ IsTurnedAway daemon part
     pub spares : r.migrate ≡ true → (sid : Sid) → IsSeated (shown limits nothing_shown (before ++ part)).migrate.seat sid → IsCrowded limits s (state_by s first (entries_of (before ++ part))) → BeginsPass part
 
   -- so it is where the line settles

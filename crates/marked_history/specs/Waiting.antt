@@ -111,12 +111,13 @@ pub record RecallRests (seat : Seat) (turn : List Entry) : Type 0 where
   pub ends : turn ≡ first ++ no_more sid ∷ []
   pub refused : (x : Kept) → Contains seat.kept x → (h : Handle) × (cause : DmRefusal) × IsTold seat.kept x.event.token h × Contains turn (unserved sid x.event.token h cause) × PutsOff cause
 
--- It keeps no event, and in its last turn it was told that there are no more.
+-- It keeps no event, and was told at the end of its last turn that there are no more.
 pub record MigrateRests (seat : Seat) (turn : List Entry) : Type 0 where
   pub sid : Sid
   pub seated : IsSeated seat sid
   pub none : seat.kept ≡ []
-  pub ends : Contains turn (no_more sid)
+  pub first : List Entry
+  pub ends : turn ≡ first ++ no_more sid ∷ []
 
 -- The last entries are a turn of recall and one of migration, all of it quiet. Each daemon that runs rests or has no session, and no access may go on.
 pub record IsAtRest (r : Running) (k : Shown) (s : Superblock) (st : State) (es : List Entry) : Type 0 where
