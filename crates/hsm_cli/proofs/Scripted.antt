@@ -74,7 +74,7 @@ module _ {D M : Type 0} {opened : List M} (h : drive.Ghosts M) (s : System D M) 
 -- whose settles are those of the store that was opened
 module _ {D M : Type 0} {opened : List M} (h : drive.Ghosts M) (from s : System D M) (since : from.limits ≡ standard) (limits : s.limits ≡ standard) where
   by_default : (FollowsSo : (List Line → List Mark → Type 0) → List Mark → Type 0) → HasRunOn h opened (FollowsSo (SettlesSince from)) s → HasRunOn h opened (FollowsSo (SettlesOn (Some from.store.opened))) s
-  by_default FollowsSo run = subst (λ (n : Numbers). HasRunOn h opened (FollowsSo (EachSettles n (superblock_of from.store.opened) (first_of from) no_daemon [])) s) since run
+  by_default FollowsSo run = subst (λ (n : Numbers). HasRunOn h opened (FollowsSo (EachSettles n (superblock_of from.store.opened) (first_of from) no_daemon no_daemon [])) s) since run
 
   pub all_run : (commits : Bool) (given : Option (List ℕ)) (lines : List Line) → IfSome given (λ bytes. IsScript (script_bytes bytes) lines) → HasRunOn h opened (RunsBy (SettlesSince from) (lines_run commits lines)) s → RunsAll (SettlesOn (Some from.store.opened)) (TellsOf h opened s.drives) commits given s.store.history
   all_run commits given lines script run = run_of h s limits (λ ls marks. RunsBy (SettlesOn (Some from.store.opened)) (lines_run commits ls) marks) given lines script (by_default (λ so marks. RunsBy so (lines_run commits lines) marks) run)
@@ -149,6 +149,6 @@ idle_none history old new (Err why) none same = ap history same ∙ none
 -- the settles of a store of that superblock that holds nothing are those of a new one
 pub settles_new : {D : Type 0} (E : Type 0) (s : Store D) (IsSo : (List Line → List Mark → Type 0) → Type 0) → superblock_of s ≡ replay_store → s.held ≡ nothing_held → s.meta.number ≡ 0 → IsSo (SettlesOn (Some s)) → IsSo (SettlesOn {D = E} None)
 settles_new E s IsSo superblock held number so =
-    subst (λ (x : Held). IsSo (EachSettles standard replay_store (just_opened 0 x) no_daemon [])) held
-    (subst (λ (n : ℕ). IsSo (EachSettles standard replay_store (just_opened n s.held) no_daemon [])) number
-    (subst (λ (x : Superblock). IsSo (EachSettles standard x (just_opened s.meta.number s.held) no_daemon [])) superblock so))
+    subst (λ (x : Held). IsSo (EachSettles standard replay_store (just_opened 0 x) no_daemon no_daemon [])) held
+    (subst (λ (n : ℕ). IsSo (EachSettles standard replay_store (just_opened n s.held) no_daemon no_daemon [])) number
+    (subst (λ (x : Superblock). IsSo (EachSettles standard x (just_opened s.meta.number s.held) no_daemon no_daemon [])) superblock so))

@@ -1,5 +1,5 @@
 -- What starts and ends of daemons keep.
-use Rattle.std.proofs.Common.{◌≡◌, ◌++◌, [], ℕ, List, Option, Some, None, IfSome, Ok, true, inl, inr, refl, sym, ap, subst, append-nil, ◌∙◌}
+use Rattle.std.proofs.Common.{◌≡◌, ◌++◌, [], ℕ, Bool, List, Option, Some, None, IfSome, Ok, true, inl, inr, refl, sym, ap, subst, append-nil, ◌∙◌}
 use Rattle.std.specs.Option.{option_map, option_or}
 use Rattle.disk_model.specs.declared.device.Disk as disk
 use Rattle.media_model.specs.declared.drive.Drive as drive
@@ -11,6 +11,7 @@ use Rattle.hsm_types.specs.declared.daemons.Heard.{Heard}
 use Rattle.hsm_types.specs.declared.daemons.Heard.TheVariants as heard
 use Rattle.hsm_types.specs.declared.dm.DmCall.{DmCall}
 use Rattle.hsm_types.specs.declared.dm.DmCall.TheVariants as dm_call
+use Rattle.hsm_types.specs.declared.dm.DmReply.{DmReply}
 use Rattle.hsm_types.specs.declared.dm.DmReply.TheVariants as dm_reply
 use Rattle.hsm_types.specs.declared.media.Fault.{Fault}
 use Rattle.hsm_policy.specs.Settings.{Numbers}
@@ -22,7 +23,7 @@ use Rattle.migrate_daemon.specs.Machine as migrator
 use Rattle.hsm_replay.specs.declared.daemons.Migrating.{Migrating}
 use Rattle.hsm_replay.specs.declared.daemons.Recalling.{Recalling}
 use Rattle.hsm_replay.specs.Faults.{faults_in}
-use Rattle.hsm_replay.specs.Keeping.{IsShownAs, RecallKnows, MigrateKnows, Shows, Moves}
+use Rattle.hsm_replay.specs.Keeping.{IsShownAs, RecallKnows, MigrateKnows, MigrateLives, LivesIf, LiveOn, Shows, Moves}
 use Rattle.marked_history.specs.Marks.{Mark}
 use Rattle.hsm_replay.specs.Passes.{PassStands}
 use Rattle.hsm_replay.specs.Rests.{untold, refreshed}
@@ -34,6 +35,7 @@ use Rattle.hsm_replay.proofs.Adding.{adds_none}
 use Rattle.hsm_replay.proofs.Filling.{full_started, full_refreshed}
 use Rattle.hsm_replay.proofs.Growing.{have_grown_itself}
 use Rattle.hsm_replay.proofs.Joining.{Settles, runs_itself}
+use Rattle.hsm_replay.proofs.Living.{live_still, starts_live, kills_live}
 use Rattle.hsm_replay.proofs.MigrateShown.{hears_same}
 use Rattle.hsm_replay.proofs.Passing.{started_stands, refreshed_stands}
 
@@ -91,16 +93,39 @@ module _ (k : migrate.Known) where
   untold_knows limits known asked (heard.Dm (dm_reply.Space used total)) = untold_space limits known asked used total
   untold_knows limits known asked told = record { seat = refl; punched = refl }
 
-  migrate_refreshes : (m : Migrating) → MigrateKnows k m → MigrateKnows k (record m { machine = migrator.freshened m.machine; heard = untold m.heard })
-  migrate_refreshes m (inl start) = inl (start.0, start.1, ap untold start.2)
-  migrate_refreshes m (inr known) =
+  refreshed_known : (m : Migrating) → IsShownAs (migrate.knows_by m.machine.limits m.machine.known m.machine.asked m.heard) k → IsShownAs (migrate.knows_by m.machine.limits (fresh m.machine.known) m.machine.asked (untold m.heard)) k
+  refreshed_known m known =
       let same = fresh_knows m.machine.limits m.machine.known m.machine.asked (untold m.heard) in
       let told = untold_knows m.machine.limits m.machine.known m.machine.asked m.heard in
-      inr (record { seat = same.seat ∙ told.seat ∙ known.seat; punched = same.punched ∙ told.punched ∙ known.punched })
+      record { seat = same.seat ∙ told.seat ∙ known.seat; punched = same.punched ∙ told.punched ∙ known.punched }
+
+  migrate_refreshes : (m : Migrating) → MigrateKnows k m → MigrateKnows k (record m { machine = migrator.freshened m.machine; heard = untold m.heard })
+  migrate_refreshes m (inl start) = inl (start.0, start.1, ap untold start.2)
+  migrate_refreshes m (inr known) = inr (refreshed_known m known)
 
   migrate_refreshes_if : (o : Option Migrating) → IfSome o (MigrateKnows k) → IfSome (option_map (λ (m : Migrating). record m { machine = migrator.freshened m.machine; heard = untold m.heard }) o) (MigrateKnows k)
   migrate_refreshes_if None knows = tt
   migrate_refreshes_if (Some m) knows = migrate_refreshes m knows
+
+-- it hears that as its last mark's answer, too
+heard_untold : (told : Heard) (reply : DmReply) → untold told ≡ heard.Dm reply → told ≡ heard.Dm reply
+heard_untold (heard.Dm (dm_reply.Space used total)) reply is = let wrong : heard.Nothing ≡ heard.Dm reply = is in absurd (cc wrong)
+heard_untold told reply is = is
+
+lives_refreshed : (marks : List Mark) (k : migrate.Known) (called : Bool) (m : Migrating) → MigrateLives marks k called m → MigrateLives marks k called (record m { machine = migrator.freshened m.machine; heard = untold m.heard })
+lives_refreshed marks k called m lives = record {
+  starts = λ new. let start = lives.starts new in (start.0, start.1, ap untold start.2);
+  knows = λ has. refreshed_known k m (lives.knows has);
+  hears = λ sid call reply by is. lives.hears sid call reply by (heard_untold m.heard reply is);
+  outside = lives.outside;
+}
+
+lives_refreshed_if : (marks : List Mark) (k : migrate.Known) (called : Bool) (o : Option Migrating) → LivesIf (MigrateLives marks k) called o → LivesIf (MigrateLives marks k) called (option_map (λ (m : Migrating). record m { machine = migrator.freshened m.machine; heard = untold m.heard }) o)
+lives_refreshed_if marks k called None lives = lives
+lives_refreshed_if marks k called (Some m) lives = lives_refreshed marks k called m lives
+
+refresh_live : {D M : Type 0} (s : System D M) (marks : List Mark) → LiveOn s (refreshed s) marks []
+refresh_live s marks = live_still s (refreshed s) marks (λ limits called same live. record { recall = live.recall; migrate = lives_refreshed_if marks (shown limits nothing_shown marks).migrate called.migrate s.migrate live.migrate })
 
 begun : {A : Type 0} (P : A → Type 0) (o : Option A) (x : A) → IfSome o P → P x → IfSome (option_or o (Some x)) P
 begun P None x has is = is
@@ -180,12 +205,12 @@ module _ {D M : Type 0} (g : disk.Ghosts D) (h : drive.Ghosts M) where
   still opened marks s shows = subst (λ (ms : List Mark). Shows h opened ms s) (sym (append-nil marks)) shows
 
   pub starts_moves : (daemon : Daemon) (s : System D M) → Moves {T = Unit {0}} g h IsNone (Ok tt) s (started daemon s)
-  starts_moves Recall s = record { limits = refl; drives = have_grown_itself h s.drives; runs = runs_itself g h tt s.store; adds = adds_none IsNone s (started Recall s) refl refl; adds_first = tt; keeps = λ opened marks shows. ([], refl, still opened marks (started Recall s) (shows_started opened marks Recall s shows), tt); ends = tt }
-  starts_moves Migrate s = record { limits = refl; drives = have_grown_itself h s.drives; runs = runs_itself g h tt s.store; adds = adds_none IsNone s (started Migrate s) refl refl; adds_first = tt; keeps = λ opened marks shows. ([], refl, still opened marks (started Migrate s) (shows_started opened marks Migrate s shows), tt); ends = tt }
+  starts_moves Recall s = record { limits = refl; drives = have_grown_itself h s.drives; runs = runs_itself g h tt s.store; adds = adds_none IsNone s (started Recall s) refl refl; adds_first = tt; keeps = λ opened marks shows. ([], refl, still opened marks (started Recall s) (shows_started opened marks Recall s shows), tt, starts_live Recall s marks); ends = tt }
+  starts_moves Migrate s = record { limits = refl; drives = have_grown_itself h s.drives; runs = runs_itself g h tt s.store; adds = adds_none IsNone s (started Migrate s) refl refl; adds_first = tt; keeps = λ opened marks shows. ([], refl, still opened marks (started Migrate s) (shows_started opened marks Migrate s shows), tt, starts_live Migrate s marks); ends = tt }
 
   pub kills_moves : (daemon : Daemon) (s : System D M) → Moves {T = Unit {0}} g h IsNone (Ok tt) s (killed daemon s)
-  kills_moves Recall s = record { limits = refl; drives = have_grown_itself h s.drives; runs = runs_itself g h tt s.store; adds = adds_none IsNone s (killed Recall s) refl refl; adds_first = tt; keeps = λ opened marks shows. ([], refl, still opened marks (killed Recall s) (shows_killed opened marks Recall s shows), tt); ends = tt }
-  kills_moves Migrate s = record { limits = refl; drives = have_grown_itself h s.drives; runs = runs_itself g h tt s.store; adds = adds_none IsNone s (killed Migrate s) refl refl; adds_first = tt; keeps = λ opened marks shows. ([], refl, still opened marks (killed Migrate s) (shows_killed opened marks Migrate s shows), tt); ends = tt }
+  kills_moves Recall s = record { limits = refl; drives = have_grown_itself h s.drives; runs = runs_itself g h tt s.store; adds = adds_none IsNone s (killed Recall s) refl refl; adds_first = tt; keeps = λ opened marks shows. ([], refl, still opened marks (killed Recall s) (shows_killed opened marks Recall s shows), tt, kills_live Recall s marks); ends = tt }
+  kills_moves Migrate s = record { limits = refl; drives = have_grown_itself h s.drives; runs = runs_itself g h tt s.store; adds = adds_none IsNone s (killed Migrate s) refl refl; adds_first = tt; keeps = λ opened marks shows. ([], refl, still opened marks (killed Migrate s) (shows_killed opened marks Migrate s shows), tt, kills_live Migrate s marks); ends = tt }
 
   pub refresh_moves : (s : System D M) → Moves {T = Unit {0}} g h (Settles g h) (Ok tt) s (refreshed s)
-  refresh_moves s = record { limits = refl; drives = have_grown_itself h s.drives; runs = runs_itself g h tt s.store; adds = adds_none (Settles g h) s (refreshed s) tt refl; adds_first = tt; keeps = λ opened marks shows. ([], tt, still opened marks (refreshed s) (shows_refreshed opened marks s shows), tt); ends = tt }
+  refresh_moves s = record { limits = refl; drives = have_grown_itself h s.drives; runs = runs_itself g h tt s.store; adds = adds_none (Settles g h) s (refreshed s) tt refl; adds_first = tt; keeps = λ opened marks shows. ([], tt, still opened marks (refreshed s) (shows_refreshed opened marks s shows), tt, refresh_live s marks); ends = tt }

@@ -27,7 +27,7 @@ use Rattle.hsm_replay.specs.declared.stops.Stop.{Stop}
 use Rattle.hsm_replay.specs.declared.stops.Stop.TheVariants as stop
 use Rattle.hsm_replay.specs.Acts.{reply_of, call_reply_of, IsServed}
 use Rattle.hsm_replay.specs.Faults.{fault_in, faults_in, AreTrue}
-use Rattle.hsm_replay.specs.Keeping.{RecallKnows, MigrateKnows, IsMarked, Shows, AddsFirst, Moves}
+use Rattle.hsm_replay.specs.Keeping.{RecallKnows, MigrateKnows, IsMarked, Shows, AddsFirst, Moves, LiveUntil}
 use Rattle.marked_history.specs.Marks.{Mark, no_daemons}
 use Rattle.marked_history.specs.Served.{Shown, shown, nothing_shown, NamesNoFault}
 use Rattle.hsm_replay.specs.Passes.{CopyEnds}
@@ -38,6 +38,7 @@ use Rattle.hsm_replay.specs.Systems.{System, running}
 use Rattle.hsm_replay.proofs.Adding.{adds_none, adds_one}
 use Rattle.hsm_replay.proofs.Going.{Hands, event_runs, event_kept, event_kept_or_not, stop_answer}
 use Rattle.hsm_replay.proofs.Growing.{have_grown_itself}
+use Rattle.hsm_replay.proofs.Living.{none_until, no_call_until, event_lives}
 use Rattle.hsm_replay.proofs.Moves.{stop_told}
 use Rattle.hsm_replay.proofs.Marked.{shown_more, marked_more, marked_still, no_fault_more}
 use Rattle.hsm_replay.proofs.PassMarks.{all_passed_by_other}
@@ -139,9 +140,9 @@ module _ {D M : Type 0} (g : disk.Ghosts D) (h : drive.Ghosts M) (old : System D
       passing = other_stands_if old.limits marks old.migrate mark not_migrate shows.passing;
     }
 
-  ended : (opened : List M) (marks : List Mark) → Shows h opened marks old → (store.history ≡ old.store.history) ⊎ (store.history ≡ old.store.history ++ entry_of actor action given ∷ []) → (more : List Mark) × (IsEventOf actor action more ⊎ (more ≡ [])) × IsMarked h opened (marks ++ more) after × AreByRunning (running old) more
-  ended opened marks shows (inl same) = ([], inr refl, marked_still h opened marks old after shows.marked refl same (have_grown_itself h old.drives), tt)
-  ended opened marks shows (inr kept) = (mark ∷ [], inl (given, refl), marked opened marks shows kept, (tt, tt))
+  ended : (opened : List M) (marks : List Mark) → Shows h opened marks old → (store.history ≡ old.store.history) ⊎ (store.history ≡ old.store.history ++ entry_of actor action given ∷ []) → (more : List Mark) × (IsEventOf actor action more ⊎ (more ≡ [])) × IsMarked h opened (marks ++ more) after × AreByRunning (running old) more × LiveUntil old marks more
+  ended opened marks shows (inl same) = ([], inr refl, marked_still h opened marks old after shows.marked refl same (have_grown_itself h old.drives), tt, none_until old marks)
+  ended opened marks shows (inr kept) = (mark ∷ [], inl (given, refl), marked opened marks shows kept, (tt, tt), no_call_until old marks mark refl)
 
   added : (store.history ≡ old.store.history) ⊎ (store.history ≡ old.store.history ++ entry_of actor action given ∷ []) → AddsFirst (IsEventOf actor action) old after
   added (inl same) = adds_none (λ (more : List Mark). IsEventOf actor action more ⊎ (more ≡ [])) old after (inr refl) same
@@ -154,7 +155,7 @@ module _ {D M : Type 0} (g : disk.Ghosts D) (h : drive.Ghosts M) (old : System D
     runs = event_runs g old.store actor action given store acts is_kept hands (Ok tt) answers ok err;
     adds = adds_one (IsEventOf actor action) mark old after (given, refl) (event_kept g old.store actor action given store acts is_kept hands answers ok) tt;
     adds_first = tt;
-    keeps = λ opened marks shows. (mark ∷ [], (given, refl), shows_on opened marks shows (event_kept g old.store actor action given store acts is_kept hands answers ok), (tt, tt));
+    keeps = λ opened marks shows. (mark ∷ [], (given, refl), shows_on opened marks shows (event_kept g old.store actor action given store acts is_kept hands answers ok), (tt, tt), event_lives old store marks mark refl (λ limits k. refl));
     ends = tt;
   }
   event_moves (Err why) ok err = record {

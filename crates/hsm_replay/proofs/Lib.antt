@@ -14,8 +14,11 @@ mod Marked
 mod Coming
 mod RecallShown
 mod MigrateShown
+mod OneWay
 mod Stepping
 mod Adding
+mod RightCalls
+mod Living
 mod Moves
 mod Events
 pub mod Joining

@@ -99,12 +99,12 @@ starts limits k asked told idle = subst (λ (a : Act). knows_by limits k a told 
 
 -- ---- an act that is no call
 
-rests : (limits : Numbers) (k : Known) (act : Act) (told : Heard) → IsNoCall act → IsShownAs (knows_by limits (asks_by k act) act told) k
+pub rests : (limits : Numbers) (k : Known) (act : Act) (told : Heard) → IsNoCall act → IsShownAs (knows_by limits (asks_by k act) act told) k
 rests limits k (Dm sid call) told no_call = absurd no_call
 rests limits k Idle told no_call = record { seat = refl; punched = refl }
 rests limits k act told no_call = record { seat = refl; punched = refl }
 
-as_shown : (k l shown : Known) → IsShownAs k l → IsShownAs l shown → IsShownAs k shown
+pub as_shown : (k l shown : Known) → IsShownAs k l → IsShownAs l shown → IsShownAs k shown
 as_shown k l shown first second = record { seat = first.seat ∙ second.seat; punched = first.punched ∙ second.punched }
 
 -- ---- what it seals

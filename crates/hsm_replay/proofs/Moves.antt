@@ -29,7 +29,7 @@ use Rattle.hsm_replay.specs.Acts.{Performs, Stops, Serves, StopsCall, FetchesFro
 use Rattle.hsm_replay.specs.Drives.{HasGrown, HaveGrown}
 use Rattle.marked_history.specs.Follows.{IsStepOf}
 use Rattle.hsm_replay.specs.Faults.{faults_in}
-use Rattle.hsm_replay.specs.Keeping.{IsMarked, Shows, AddsFirst, Moves}
+use Rattle.hsm_replay.specs.Keeping.{IsMarked, Shows, AddsFirst, Moves, LiveUntil}
 use Rattle.marked_history.specs.Marks.{Mark, made}
 use Rattle.hsm_replay.specs.Running.{Runs}
 use Rattle.hsm_replay.specs.Steps.{Steps, Halts, hearing}
@@ -41,6 +41,7 @@ use Rattle.hsm_replay.proofs.Fetching.{heard_of_fetch}
 use Rattle.hsm_replay.proofs.Filling.{full_of_copy}
 use Rattle.hsm_replay.proofs.Going.{goes_itself, event_goes, stopped_for, stop_answer, session_hands}
 use Rattle.hsm_replay.proofs.Growing.{have_grown_itself, grown_at, reads_grow, grows_grow}
+use Rattle.hsm_replay.proofs.Living.{live_itself, none_until, recall_calls_live, recall_calls_until, recall_went_live, migrate_calls_live, migrate_calls_until, migrate_went_live}
 use Rattle.hsm_replay.proofs.Marked.{marked_still}
 use Rattle.hsm_replay.proofs.Sealing.{heard_of_missing, heard_of_copy}
 use Rattle.hsm_replay.proofs.Stepping.{recall_left, recall_marked, recall_called, recall_went, migrate_left, migrate_marked, migrate_called, migrate_went}
@@ -65,8 +66,8 @@ module _ {D M : Type 0} (g : disk.Ghosts D) (h : drive.Ghosts M) where
   Stopped daemon why old new = Moves {T = Unit {0}} g h (IsStepOf daemon) (Err why) old new
 
   -- where no entry came the history is marked as before
-  no_more : (IsPart : List Mark → Type 0) (opened : List M) (marks : List Mark) (old new : System D M) → Shows h opened marks old → new.limits ≡ old.limits → new.store.history ≡ old.store.history → HaveGrown h old.drives new.drives → (more : List Mark) × (IsPart more ⊎ (more ≡ [])) × IsMarked h opened (marks ++ more) new × AreByRunning (running old) more
-  no_more IsPart opened marks old new shows limits history grown = ([], inr refl, marked_still h opened marks old new shows.marked limits history grown, tt)
+  no_more : (IsPart : List Mark → Type 0) (opened : List M) (marks : List Mark) (old new : System D M) → Shows h opened marks old → new.limits ≡ old.limits → new.store.history ≡ old.store.history → HaveGrown h old.drives new.drives → (more : List Mark) × (IsPart more ⊎ (more ≡ [])) × IsMarked h opened (marks ++ more) new × AreByRunning (running old) more × LiveUntil old marks more
+  no_more IsPart opened marks old new shows limits history grown = ([], inr refl, marked_still h opened marks old new shows.marked limits history grown, tt, none_until old marks)
 
   -- the call of a daemon that the store answered
   served_runs : {T : Type 0} (x : T) (daemon : Daemon) (sid : Sid) (asked : DmCall) (reply : DmReply) (old left : System D M) → Serves g sid asked reply old left → Runs g (Ok x) old.store left.store
@@ -90,7 +91,7 @@ module _ {D M : Type 0} (g : disk.Ghosts D) (h : drive.Ghosts M) where
           runs = served_runs tt Recall sid asked reply (recall_left old machine heard.Nothing old.store old.drives) left serves;
           adds = adds_one (IsStepOf Recall) (made Recall sid asked reply) old (recall_left old machine (heard.Dm reply) left.store old.drives) (inr (made Recall sid asked reply, refl, (sid, asked, reply, refl))) serves.added (ap (λ (o : Option Recalling). is_some o) runs);
           adds_first = tt;
-          keeps = λ opened marks shows. (made Recall sid asked reply ∷ [], inr (made Recall sid asked reply, refl, (sid, asked, reply, refl)), recall_called h opened marks old shows r machine runs sid asked reply goes left.store serves.added, (ap (λ (o : Option Recalling). is_some o) runs, tt));
+          keeps = λ opened marks shows. (made Recall sid asked reply ∷ [], inr (made Recall sid asked reply, refl, (sid, asked, reply, refl)), recall_called h opened marks old shows r machine runs sid asked reply goes left.store serves.added, (ap (λ (o : Option Recalling). is_some o) runs, tt), recall_calls_live h opened marks old shows r machine runs sid asked reply goes left.store);
           ends = tt;
         })
     recall_by (Copy volume handle segment bytes) goes performs = absurd goes.may
@@ -105,7 +106,7 @@ module _ {D M : Type 0} (g : disk.Ghosts D) (h : drive.Ghosts M) where
           runs = rest_runs tt old.store;
           adds = adds_none (IsStepOf Recall) old (recall_left old machine (heard.Fetched performs.0) old.store drives) (inl refl) refl;
           adds_first = tt;
-          keeps = λ opened marks shows. ([], inl refl, recall_went h opened marks old shows r machine runs (Fetch entry) (heard.Fetched performs.0) tt goes drives grown (heard_of_fetch h old.drives entry on.0 on.1 on.2 (faults_in old.store.history) shows.marked.faults.each performs.0 on.3) (heard_of_missing h opened old.drives old.limits marks shows.marked.sealed entry on.0 on.1 on.2 performs.0 on.3), tt);
+          keeps = λ opened marks shows. ([], inl refl, recall_went h opened marks old shows r machine runs (Fetch entry) (heard.Fetched performs.0) tt goes drives grown (heard_of_fetch h old.drives entry on.0 on.1 on.2 (faults_in old.store.history) shows.marked.faults.each performs.0 on.3) (heard_of_missing h opened old.drives old.limits marks shows.marked.sealed entry on.0 on.1 on.2 performs.0 on.3), tt, recall_went_live h opened marks old shows r machine runs (Fetch entry) (heard.Fetched performs.0) tt goes drives);
           ends = tt;
         })
     recall_by Idle goes performs =
@@ -116,7 +117,7 @@ module _ {D M : Type 0} (g : disk.Ghosts D) (h : drive.Ghosts M) where
           runs = rest_runs tt old.store;
           adds = adds_none (IsStepOf Recall) old (recall_left old machine heard.Nothing old.store old.drives) (inl refl) refl;
           adds_first = tt;
-          keeps = λ opened marks shows. ([], inl refl, recall_went h opened marks old shows r machine runs Idle heard.Nothing tt goes old.drives (have_grown_itself h old.drives) tt tt, tt);
+          keeps = λ opened marks shows. ([], inl refl, recall_went h opened marks old shows r machine runs Idle heard.Nothing tt goes old.drives (have_grown_itself h old.drives) tt tt, tt, recall_went_live h opened marks old shows r machine runs Idle heard.Nothing tt goes old.drives);
           ends = tt;
         })
 
@@ -134,7 +135,7 @@ module _ {D M : Type 0} (g : disk.Ghosts D) (h : drive.Ghosts M) where
           runs = served_runs tt Migrate sid asked reply (migrate_left old machine heard.Nothing old.store old.drives) left serves;
           adds = adds_one (IsStepOf Migrate) (made Migrate sid asked reply) old (migrate_left old machine (heard.Dm reply) left.store old.drives) (inr (made Migrate sid asked reply, refl, (sid, asked, reply, refl))) serves.added (ap (λ (o : Option Migrating). is_some o) runs);
           adds_first = tt;
-          keeps = λ opened marks shows. (made Migrate sid asked reply ∷ [], inr (made Migrate sid asked reply, refl, (sid, asked, reply, refl)), migrate_called h opened marks old shows m machine runs sid asked reply goes left.store serves.added, (ap (λ (o : Option Migrating). is_some o) runs, tt));
+          keeps = λ opened marks shows. (made Migrate sid asked reply ∷ [], inr (made Migrate sid asked reply, refl, (sid, asked, reply, refl)), migrate_called h opened marks old shows m machine runs sid asked reply goes left.store serves.added, (ap (λ (o : Option Migrating). is_some o) runs, tt), migrate_calls_live marks old m machine runs sid asked reply goes left.store);
           ends = tt;
         })
     migrate_by (Copy volume handle segment bytes) goes performs =
@@ -148,7 +149,7 @@ module _ {D M : Type 0} (g : disk.Ghosts D) (h : drive.Ghosts M) where
           runs = rest_runs tt old.store;
           adds = adds_none (IsStepOf Migrate) old (migrate_left old machine (heard.Copied performs.0) old.store drives) (inl refl) refl;
           adds_first = tt;
-          keeps = λ opened marks shows. ([], inl refl, migrate_went h opened marks old shows m machine runs (Copy volume handle segment bytes) (heard.Copied performs.0) tt goes drives grown (heard_of_copy h old.drives volume segment handle bytes on.0 on.1 on.2 performs.0 on.3) (full_of_copy h law old.drives volume segment handle bytes goes.may.2.5 on.0 on.1 on.2 performs.0 on.3), tt);
+          keeps = λ opened marks shows. ([], inl refl, migrate_went h opened marks old shows m machine runs (Copy volume handle segment bytes) (heard.Copied performs.0) tt goes drives grown (heard_of_copy h old.drives volume segment handle bytes on.0 on.1 on.2 performs.0 on.3) (full_of_copy h law old.drives volume segment handle bytes goes.may.2.5 on.0 on.1 on.2 performs.0 on.3), tt, migrate_went_live marks old m machine runs (Copy volume handle segment bytes) (heard.Copied performs.0) tt goes drives);
           ends = tt;
         })
     migrate_by (Fetch entry) goes performs = absurd goes.may
@@ -160,7 +161,7 @@ module _ {D M : Type 0} (g : disk.Ghosts D) (h : drive.Ghosts M) where
           runs = rest_runs tt old.store;
           adds = adds_none (IsStepOf Migrate) old (migrate_left old machine heard.Nothing old.store old.drives) (inl refl) refl;
           adds_first = tt;
-          keeps = λ opened marks shows. ([], inl refl, migrate_went h opened marks old shows m machine runs Idle heard.Nothing tt goes old.drives (have_grown_itself h old.drives) tt tt, tt);
+          keeps = λ opened marks shows. ([], inl refl, migrate_went h opened marks old shows m machine runs Idle heard.Nothing tt goes old.drives (have_grown_itself h old.drives) tt tt, tt, migrate_went_live marks old m machine runs Idle heard.Nothing tt goes old.drives);
           ends = tt;
         })
 
@@ -173,7 +174,7 @@ module _ {D M : Type 0} (g : disk.Ghosts D) (h : drive.Ghosts M) where
     runs = rest_runs tt old.store;
     adds = adds_none (IsStepOf daemon) old old (inl refl) refl;
     adds_first = tt;
-    keeps = λ opened marks shows. ([], inl refl, subst (λ (ms : List Mark). Shows h opened ms old) (sym (append-nil marks)) shows, tt);
+    keeps = λ opened marks shows. ([], inl refl, subst (λ (ms : List Mark). Shows h opened ms old) (sym (append-nil marks)) shows, tt, live_itself old marks);
     ends = tt;
   })
   step_moved law Recall old new (inr acts) =
@@ -227,15 +228,15 @@ module _ {D M : Type 0} (g : disk.Ghosts D) (h : drive.Ghosts M) where
         adds = tt;
         adds_first = stop_adds Recall sid asked old new (ap (λ (o : Option Recalling). is_some o) runs) why stops.kept;
         keeps = tt;
-        ends = λ opened marks shows. subst (λ (s : System D M). (more : List Mark) × (IsStepOf Recall more ⊎ (more ≡ [])) × IsMarked h opened (marks ++ more) s × AreByRunning (running old) more) (sym is) (kept opened marks shows why stops.kept);
+        ends = λ opened marks shows. subst (λ (s : System D M). (more : List Mark) × (IsStepOf Recall more ⊎ (more ≡ [])) × IsMarked h opened (marks ++ more) s × AreByRunning (running old) more × LiveUntil old marks more) (sym is) (kept opened marks shows why stops.kept);
       }
     where
-      kept : (opened : List M) (marks : List Mark) → Shows h opened marks old → (why : Stop) → KeepsStop sid asked why old.store new.store → (more : List Mark) × (IsStepOf Recall more ⊎ (more ≡ [])) × IsMarked h opened (marks ++ more) (recall_left old machine heard.Nothing new.store old.drives) × AreByRunning (running old) more
+      kept : (opened : List M) (marks : List Mark) → Shows h opened marks old → (why : Stop) → KeepsStop sid asked why old.store new.store → (more : List Mark) × (IsStepOf Recall more ⊎ (more ≡ [])) × IsMarked h opened (marks ++ more) (recall_left old machine heard.Nothing new.store old.drives) × AreByRunning (running old) more × LiveUntil old marks more
       kept opened marks shows stop.Memory keeps = no_more (IsStepOf Recall) opened marks old (recall_left old machine heard.Nothing new.store old.drives) shows refl keeps.1 (have_grown_itself h old.drives)
       kept opened marks shows stop.Disk (failed, inl closed) = no_more (IsStepOf Recall) opened marks old (recall_left old machine heard.Nothing new.store old.drives) shows refl closed.1 (have_grown_itself h old.drives)
       kept opened marks shows stop.Disk (failed, inr working) =
           let m : Mark = made Recall sid asked (reply_of stop.Disk) in
-          (m ∷ [], inl (inr (m, refl, (sid, asked, reply_of stop.Disk, refl))), recall_marked h opened marks old shows r machine runs sid asked (reply_of stop.Disk) goes heard.Nothing new.store working.1, (ap (λ (o : Option Recalling). is_some o) runs, tt))
+          (m ∷ [], inl (inr (m, refl, (sid, asked, reply_of stop.Disk, refl))), recall_marked h opened marks old shows r machine runs sid asked (reply_of stop.Disk) goes heard.Nothing new.store working.1, (ap (λ (o : Option Recalling). is_some o) runs, tt), recall_calls_until h opened marks old shows r machine runs sid asked (reply_of stop.Disk) goes)
   recall_stopped old new r machine runs why (Copy volume handle segment bytes) goes stops = absurd goes.may
   recall_stopped old new r machine runs why (Fetch entry) goes stops =
       let on = stops.1 in
@@ -254,15 +255,15 @@ module _ {D M : Type 0} (g : disk.Ghosts D) (h : drive.Ghosts M) where
         adds = tt;
         adds_first = stop_adds Migrate sid asked old new (ap (λ (o : Option Migrating). is_some o) runs) why stops.kept;
         keeps = tt;
-        ends = λ opened marks shows. subst (λ (s : System D M). (more : List Mark) × (IsStepOf Migrate more ⊎ (more ≡ [])) × IsMarked h opened (marks ++ more) s × AreByRunning (running old) more) (sym is) (kept opened marks shows why stops.kept);
+        ends = λ opened marks shows. subst (λ (s : System D M). (more : List Mark) × (IsStepOf Migrate more ⊎ (more ≡ [])) × IsMarked h opened (marks ++ more) s × AreByRunning (running old) more × LiveUntil old marks more) (sym is) (kept opened marks shows why stops.kept);
       }
     where
-      kept : (opened : List M) (marks : List Mark) → Shows h opened marks old → (why : Stop) → KeepsStop sid asked why old.store new.store → (more : List Mark) × (IsStepOf Migrate more ⊎ (more ≡ [])) × IsMarked h opened (marks ++ more) (migrate_left old machine heard.Nothing new.store old.drives) × AreByRunning (running old) more
+      kept : (opened : List M) (marks : List Mark) → Shows h opened marks old → (why : Stop) → KeepsStop sid asked why old.store new.store → (more : List Mark) × (IsStepOf Migrate more ⊎ (more ≡ [])) × IsMarked h opened (marks ++ more) (migrate_left old machine heard.Nothing new.store old.drives) × AreByRunning (running old) more × LiveUntil old marks more
       kept opened marks shows stop.Memory keeps = no_more (IsStepOf Migrate) opened marks old (migrate_left old machine heard.Nothing new.store old.drives) shows refl keeps.1 (have_grown_itself h old.drives)
       kept opened marks shows stop.Disk (failed, inl closed) = no_more (IsStepOf Migrate) opened marks old (migrate_left old machine heard.Nothing new.store old.drives) shows refl closed.1 (have_grown_itself h old.drives)
       kept opened marks shows stop.Disk (failed, inr working) =
           let one : Mark = made Migrate sid asked (reply_of stop.Disk) in
-          (one ∷ [], inl (inr (one, refl, (sid, asked, reply_of stop.Disk, refl))), migrate_marked h opened marks old shows m machine runs sid asked (reply_of stop.Disk) goes heard.Nothing new.store working.1, (ap (λ (o : Option Migrating). is_some o) runs, tt))
+          (one ∷ [], inl (inr (one, refl, (sid, asked, reply_of stop.Disk, refl))), migrate_marked h opened marks old shows m machine runs sid asked (reply_of stop.Disk) goes heard.Nothing new.store working.1, (ap (λ (o : Option Migrating). is_some o) runs, tt), migrate_calls_until marks old m machine runs sid asked (reply_of stop.Disk) goes)
   migrate_stopped old new m machine runs why (Copy volume handle segment bytes) goes stops =
       let on = stops.1 in
       let is = on.4 in

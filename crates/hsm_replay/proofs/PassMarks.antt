@@ -21,8 +21,9 @@ use Rattle.plain_model.specs.declared.entries.Action.TheVariants as action
 use Rattle.plain_model.specs.declared.entries.Actor.TheVariants.{Session}
 use Rattle.plain_model.specs.declared.entries.Answer.TheVariants as answer
 use Rattle.migrate_daemon.specs.Machine.{IsOfPass}
+use Rattle.marked_history.specs.Lives.{IsLast, HasLostSession}
 use Rattle.marked_history.specs.Marks.{Mark, made}
-use Rattle.marked_history.specs.Passing.{IsOfPassBy, AreOfPass, table_told, IsBetween, IsBehindPass, GoesOn, IsRefusedAtLast, IsPassOver, IsDoneIn, IsEndedIn, IsPunchOf, ArePunched, IsPassed, AllPassed}
+use Rattle.marked_history.specs.Passing.{IsOfPassBy, AreOfPass, table_told, IsBetween, IsBehindPass, GoesOn, IsPassOver, IsDoneIn, IsEndedIn, IsPunchOf, ArePunched, IsPassed, AllPassed}
 
 -- ---- lists
 
@@ -144,26 +145,32 @@ between_of s c q by = subst IsBetween (sym (same_call s by.0 c by.1 q by.2 by.3)
 
 -- ---- the last call was refused
 
-refused_never : IsRefusedAtLast [] → ⊥
-refused_never refused = none_there refused.0 _ refused.3 refused.4
+refused_never : HasLostSession Migrate [] → ⊥
+refused_never refused = let last = refused.2 in none_there last.0 _ last.1 last.2
 
-pub refused_before : (during : List Mark) (m : Mark) → IsOther m → IsRefusedAtLast (during ++ m ∷ []) → IsRefusedAtLast during
-refused_before during m other refused = by (place during m refused.0 one refused.3 refused.4)
+pub refused_before : (during : List Mark) (m : Mark) → IsOther m → HasLostSession Migrate (during ++ m ∷ []) → HasLostSession Migrate during
+refused_before during m other refused = by (place during m last.0 one last.1 last.2)
   where
     one : Mark
-    one = made Migrate refused.1 refused.2 (reply.Refused NoSession)
+    one = made Migrate refused.0 refused.1 (reply.Refused NoSession)
 
-    by : Place during m refused.0 one refused.3 → IsRefusedAtLast during
-    by (inl last) = absurd (other (by_migration m refused.1 refused.2 (reply.Refused NoSession) (sym last.1)))
-    by (inr within) = (refused.0, refused.1, refused.2, within.0, within.2, all_first IsOther within.0 (m ∷ []) (subst (λ (l : List Mark). AllByRecursion IsOther l) within.1 refused.5))
+    last : IsLast Migrate refused.0 refused.1 (reply.Refused NoSession) (during ++ m ∷ [])
+    last = refused.2
+
+    by : Place during m last.0 one last.1 → HasLostSession Migrate during
+    by (inl at) = absurd (other (by_migration m refused.0 refused.1 (reply.Refused NoSession) (sym at.1)))
+    by (inr within) = (refused.0, refused.1, (last.0, within.0, within.2, all_first IsOther within.0 (m ∷ []) (subst (λ (l : List Mark). AllByRecursion IsOther l) within.1 last.3)))
 
 -- where that is the daemon's, it is the one
-pub refused_now : (during : List Mark) (s : Sid) (c : DmCall) (q : DmReply) → IsRefusedAtLast (during ++ made Migrate s c q ∷ []) → q ≡ reply.Refused NoSession
-refused_now during s c q refused = by (place during (made Migrate s c q) refused.0 (made Migrate refused.1 refused.2 (reply.Refused NoSession)) refused.3 refused.4)
+pub refused_now : (during : List Mark) (s : Sid) (c : DmCall) (q : DmReply) → HasLostSession Migrate (during ++ made Migrate s c q ∷ []) → q ≡ reply.Refused NoSession
+refused_now during s c q refused = by (place during (made Migrate s c q) last.0 (made Migrate refused.0 refused.1 (reply.Refused NoSession)) last.1 last.2)
   where
-    by : Place during (made Migrate s c q) refused.0 (made Migrate refused.1 refused.2 (reply.Refused NoSession)) refused.3 → q ≡ reply.Refused NoSession
-    by (inl last) = sym (same_answer refused.1 s refused.2 c (reply.Refused NoSession) q last.1)
-    by (inr within) = absurd (all_last IsOther within.0 (made Migrate s c q) (subst (λ (l : List Mark). AllByRecursion IsOther l) within.1 refused.5) refl)
+    last : IsLast Migrate refused.0 refused.1 (reply.Refused NoSession) (during ++ made Migrate s c q ∷ [])
+    last = refused.2
+
+    by : Place during (made Migrate s c q) last.0 (made Migrate refused.0 refused.1 (reply.Refused NoSession)) last.1 → q ≡ reply.Refused NoSession
+    by (inl at) = sym (same_answer refused.0 s refused.1 c (reply.Refused NoSession) q at.1)
+    by (inr within) = absurd (all_last IsOther within.0 (made Migrate s c q) (subst (λ (l : List Mark). AllByRecursion IsOther l) within.1 last.3) refl)
 
 -- ---- what was punched
 
@@ -246,7 +253,7 @@ module _ (C : Type 0) (limits : Numbers) (marks : List Mark) (m : Mark) (passed 
   -- with an entry more
   pub all_passed_more :
       ((before : List Mark) (sid : Sid) (table : Table) (during : List Mark) → Opens marks before sid table during → AreOfPass during → IsBehindPass m → IsPassed C limits sid table during)
-      → ((before : List Mark) (sid : Sid) (table : Table) (during : List Mark) → Opens marks before sid table during → AreOfPass (during ++ m ∷ []) → IsRefusedAtLast (during ++ m ∷ []) → IsPassed C limits sid table (during ++ m ∷ []))
+      → ((before : List Mark) (sid : Sid) (table : Table) (during : List Mark) → Opens marks before sid table during → AreOfPass (during ++ m ∷ []) → HasLostSession Migrate (during ++ m ∷ []) → IsPassed C limits sid table (during ++ m ∷ []))
       → AllPassed C limits (marks ++ m ∷ [])
   all_passed_more behind refused before sid table during rest is of over = by (place marks m before (table_told sid table) (during ++ rest) is)
     where
@@ -255,11 +262,11 @@ module _ (C : Type 0) (limits : Numbers) (marks : List Mark) (m : Mark) (passed 
 
       none_over : (during ≡ []) × (rest ≡ []) → IsPassOver during rest → ⊥
       none_over none (inl goes) = goes_never none.1 goes
-      none_over none (inr last) = refused_never (subst IsRefusedAtLast none.0 last)
+      none_over none (inr last) = refused_never (subst (HasLostSession Migrate) none.0 last)
 
       ends : (more : List Mark) → Opens marks before sid table more → (rest ≡ []) × (during ≡ more ++ m ∷ []) → IsPassOver during rest → IsPassed C limits sid table during
       ends more opens last (inl goes) = absurd (goes_never last.0 goes)
-      ends more opens last (inr now) = subst (λ (l : List Mark). IsPassed C limits sid table l) (sym last.1) (refused before sid table more opens (subst AreOfPass last.1 of) (subst IsRefusedAtLast last.1 now))
+      ends more opens last (inr now) = subst (λ (l : List Mark). IsPassed C limits sid table l) (sym last.1) (refused before sid table more opens (subst AreOfPass last.1 of) (subst (HasLostSession Migrate) last.1 now))
 
       on : (less : List Mark) → Opens marks before sid table (during ++ less) → GoesOn (less ++ m ∷ []) → IsPassed C limits sid table during
       on [] opens goes = behind before sid table during (opens ∙ ap (λ (l : List Mark). before ++ table_told sid table ∷ l) (append-nil during)) of goes

@@ -30,8 +30,9 @@ use Rattle.migrate_daemon.specs.Machine.{Machine, started, freshened, IsOfPass, 
 use Rattle.migrate_daemon.specs.Passes.{Exchange, Pass, Passed, begun_pass, IsCallOf, IsSeal, IsCopy, IsSkip, IsEnd, IsDone, IsEndedBy, IsOver, start_of, whole_file, reads, seals, punches, copies, told_since}
 use Rattle.migrate_daemon.specs.Shares.{share}
 use Rattle.migrate_daemon.specs.declared.skips.Skip.{Skip}
+use Rattle.marked_history.specs.Lives.{HasLostSession}
 use Rattle.marked_history.specs.Marks.{Mark, made}
-use Rattle.marked_history.specs.Passing.{AreOfPass, table_told, IsBetween, IsBehindPass, IsRefusedAtLast, IsDoneIn, IsEndedIn, IsCoveredIn, IsSealedIn, IsPunchOf, ArePunched, IsPassed, AllPassed}
+use Rattle.marked_history.specs.Passing.{AreOfPass, table_told, IsBetween, IsBehindPass, IsDoneIn, IsEndedIn, IsCoveredIn, IsSealedIn, IsPunchOf, ArePunched, IsPassed, AllPassed}
 use Rattle.hsm_replay.specs.declared.daemons.Migrating.{Migrating}
 use Rattle.hsm_replay.specs.Passes.{AreThere, IsPassOf, IsThere, IsReady, IsInPass, HasNotBegun, HearsTable, PassStands}
 use Rattle.hsm_replay.specs.Rests.{untold}
@@ -413,7 +414,7 @@ module _ (limits : Numbers) (marks : List Mark) (m : Migrating) (machine : Machi
             passed_over C limits s table during machine.pass (in_pass (Dm sid call) goes before s table during opens of (begun_for_more between))
             (between_over m.machine.limits k m.machine.pass machine.pass m.machine.asked m.heard sid call between goes.may) copies
 
-        refused : (before : List Mark) (s : Sid) (table : Table) (during : List Mark) → Opens marks before s table during → AreOfPass (during ++ one ∷ []) → IsRefusedAtLast (during ++ one ∷ []) → IsPassed C limits s table (during ++ one ∷ [])
+        refused : (before : List Mark) (s : Sid) (table : Table) (during : List Mark) → Opens marks before s table during → AreOfPass (during ++ one ∷ []) → HasLostSession Migrate (during ++ one ∷ []) → IsPassed C limits s table (during ++ one ∷ [])
         refused before s table during opens of last =
             let is : IsOfPass (Dm sid call) = last_of_pass during sid call answer of in
             let at = calls_at m.machine.limits k m.machine.pass machine.pass m.machine.asked m.heard sid call is goes.may in

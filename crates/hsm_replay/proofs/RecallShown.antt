@@ -297,7 +297,7 @@ module _ {M : Type 0} (g : drive.Ghosts M) (drives : List M) (faults : List Faul
 
 -- ---- at its start
 
-begins_at_once : (k : Known) (asked : Act) (told : Heard) (sid : Sid) (call : DmCall) → k.seat ≡ no_seat → MayCall k asked told sid call → IsBegin sid call
+pub begins_at_once : (k : Known) (asked : Act) (told : Heard) (sid : Sid) (call : DmCall) → k.seat ≡ no_seat → MayCall k asked told sid call → IsBegin sid call
 begins_at_once k asked told sid (GetEvents most room) none may = absurd (unseated k.seat sid none may.0)
 begins_at_once k asked told sid (RequestRight t h right) none may = absurd (unseated k.seat sid none may.0)
 begins_at_once k asked told sid (GetFileAttr t h) none may = absurd (unseated k.seat sid none may.0)
@@ -306,7 +306,7 @@ begins_at_once k asked told sid (Restore t h segment bytes) none may = absurd (u
 begins_at_once k asked told sid (Respond t response) none may = absurd (unseated k.seat sid none may.0)
 begins_at_once k asked told sid call none may = only_begins Recall k.seat asked told sid call none may
 
-no_rest : (k : Known) (asked : Act) (told : Heard) (act : Act) → IsNoCall act → asked ≡ Idle → k.hand ≡ None → MayGive k asked told act → ⊥
+pub no_rest : (k : Known) (asked : Act) (told : Heard) (act : Act) → IsNoCall act → asked ≡ Idle → k.hand ≡ None → MayGive k asked told act → ⊥
 no_rest k asked told (Dm sid call) no_call idle none may = absurd no_call
 no_rest k asked told (Copy volume handle segment bytes) no_call idle none may = may
 no_rest k asked told (Fetch entry) no_call idle none may = let hand = may.1.2 in let both = rw none at hand in cc
@@ -314,18 +314,18 @@ no_rest k asked told Idle no_call idle none may = ⊎_elim
     (λ (all : HasAll asked told × ArePutOff k.seat.kept). let is = all.0.1 in cc)
     (λ (one : IsRefusedOne asked told). let is = one.3 in cc) may
 
-starts : (k : Known) (asked : Act) (told : Heard) → asked ≡ Idle → knows_by k asked told ≡ k
+pub starts : (k : Known) (asked : Act) (told : Heard) → asked ≡ Idle → knows_by k asked told ≡ k
 starts k asked told idle = subst (λ (a : Act). knows_by k a told ≡ k) (sym idle) refl
 
 -- ---- an act that is no call
 
-rests : (k : Known) (act : Act) (told : Heard) → IsNoCall act → IsKnownAs (knows_by (asks_by k act) act told) k
+pub rests : (k : Known) (act : Act) (told : Heard) → IsNoCall act → IsKnownAs (knows_by (asks_by k act) act told) k
 rests k (Dm sid call) told no_call = absurd no_call
 rests k (Copy volume handle segment bytes) told no_call = record { seat = refl; hand = refl }
 rests k (Fetch entry) told no_call = record { seat = refl; hand = refl }
 rests k Idle told no_call = record { seat = sym (again k.seat); hand = refl }
 
-as_shown : (k l shown : Known) → IsKnownAs k l → IsKnownAs l shown → IsKnownAs k shown
+pub as_shown : (k l shown : Known) → IsKnownAs k l → IsKnownAs l shown → IsKnownAs k shown
 as_shown k l shown first second = record { seat = first.seat ∙ second.seat; hand = first.hand ∙ second.hand }
 
 -- ---- what the history shows

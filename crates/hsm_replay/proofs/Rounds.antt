@@ -19,7 +19,7 @@ use Rattle.hsm_replay.specs.declared.daemons.Recalling.{Recalling}
 use Rattle.hsm_replay.specs.declared.daemons.Migrating.{Migrating}
 use Rattle.marked_history.specs.Waiting.{Running}
 use Rattle.marked_history.specs.Follows.{IsMadeBy, IsOfSettling}
-use Rattle.hsm_replay.specs.Keeping.{Shows, Keeps}
+use Rattle.hsm_replay.specs.Keeping.{Shows, Keeps, LiveOn}
 use Rattle.marked_history.specs.Marks.{Mark, entries_of}
 use Rattle.marked_history.specs.Quiet.{is_quiet}
 use Rattle.hsm_replay.specs.Freshness.{StaysFresh}
@@ -31,6 +31,7 @@ use Rattle.hsm_replay.specs.Turns.{HasTurned, MayResume, IsResumeOf, HaveResumed
 use Rattle.hsm_replay.proofs.Freshness.{fresh_alone, fresh_on}
 use Rattle.hsm_replay.proofs.Joining.{made_settles}
 use Rattle.hsm_replay.proofs.Kept.{all_then}
+use Rattle.hsm_replay.proofs.Living.{live_then}
 use Rattle.marked_history.proofs.QuietEvents.{all_quiet_append}
 
 -- what stands behind the first entries
@@ -169,6 +170,7 @@ module _ {D M : Type 0} (g : disk.Ghosts D) (h : drive.Ghosts M) where
               migrated = marked_since ((marks ++ one.0) ++ two.0) three.0 b.store.history c.store.history migrated.entries two.2.marked.entries three.2.marked.entries migrated.history;
             },
             by_running_then (running old) (running b) one.0 three.0 (begun_runs old a b recalled resumed) one.3 three.3,
+            subst (λ (ms : List Mark). LiveOn old c marks (one.0 ++ (ms ++ three.0))) empty (live_then old a c marks one.0 (two.0 ++ three.0) recalled.runs one.4 (live_then a b c (marks ++ one.0) two.0 three.0 (resumed_runs a b resumed) two.4 three.4)),
           )
 
       by : (b.store ≡ a.store) × NoneReady b.store ⊎ ((first : Entry) × (more : List Entry) × IsResumeOf first × (b.store.history ≡ a.store.history ++ first ∷ more)) → EndsMarked h old c

@@ -1,16 +1,23 @@
 -- What a marked history shows of a store with its drives and its daemons, and how lines keep that.
-use Rattle.std.specs.Prelude.{◌≡◌, ◌⊎◌, List, [], ◌++◌, length, false, None, Result, Ok, Err, OnOk, OnErr, IfSome}
+use Rattle.std.specs.Prelude.{◌≡◌, ◌⊎◌, List, [], ◌++◌, length, Bool, true, false, Option, None, Some, Result, Ok, Err, OnOk, OnErr, IfSome}
 use Rattle.std.specs.List.{AllByRecursion}
 use Rattle.disk_model.specs.declared.device.Disk as disk
 use Rattle.media_model.specs.declared.drive.Drive as drive
 use Rattle.hsm_types.specs.Stubs.{print_of}
 use Rattle.hsm_types.specs.declared.daemons.Act.{Act}
-use Rattle.hsm_types.specs.declared.daemons.Act.TheVariants.{Fetch, Idle}
+use Rattle.hsm_types.specs.declared.daemons.Act.TheVariants.{Dm, Fetch, Idle}
+use Rattle.hsm_types.specs.declared.daemons.Daemon.{Daemon}
+use Rattle.hsm_types.specs.declared.daemons.Daemon.TheVariants.{Recall, Migrate}
 use Rattle.hsm_types.specs.declared.daemons.Heard.{Heard}
+use Rattle.hsm_types.specs.declared.daemons.Heard.TheVariants as heard
 use Rattle.hsm_types.specs.declared.daemons.Heard.TheVariants.{Nothing, Fetched}
+use Rattle.hsm_types.specs.declared.dm.DmCall.{DmCall}
+use Rattle.hsm_types.specs.declared.dm.DmReply.{DmReply}
+use Rattle.hsm_types.specs.declared.keys.Sid.{Sid}
 use Rattle.hsm_types.specs.declared.media.Fault.{Fault}
 use Rattle.hsm_types.specs.declared.media.FetchRefusal.TheVariants as fetching
-use Rattle.daemon_session.specs.Seats.{Seat, no_seat, all_marked}
+use Rattle.hsm_policy.specs.Settings.{Numbers}
+use Rattle.daemon_session.specs.Seats.{Seat, no_seat, all_marked, NeedsNone}
 use Rattle.recall_daemon.specs.Known as recall
 use Rattle.migrate_daemon.specs.Known as migrate
 use Rattle.hsm_replay.specs.declared.daemons.Recalling.{Recalling}
@@ -23,9 +30,12 @@ use Rattle.hsm_replay.specs.Running.{Runs}
 use Rattle.hsm_replay.specs.Passes.{CopyEnds, PassStands}
 use Rattle.hsm_replay.specs.Sealed.{Tallies, HearsLost, HearsStored}
 use Rattle.hsm_replay.specs.Filling.{FindsFull}
+use Rattle.marked_history.specs.Lives.{called_in, called_by, IsLast, BeginsRight}
 use Rattle.marked_history.specs.Passing.{AllPassed}
 use Rattle.marked_history.specs.Served.{Served, IsOf, shown, nothing_shown}
 use Rattle.marked_history.specs.Settling.{AreByRunning}
+use Rattle.marked_history.specs.Waiting.{Running}
+use Rattle.script_text.specs.declared.lines.Line.{Line}
 use Rattle.hsm_replay.specs.Systems.{System, running}
 
 -- ---- what machines know
@@ -64,6 +74,50 @@ module _ {M : Type 0} (g : drive.Ghosts M) where
 abbrev pub MigrateKnows : migrate.Known → Migrating → Type 0
 MigrateKnows k m = IsAtStart m.machine.known.seat m.machine.asked m.heard ⊎ IsShownAs (migrate.knows_by m.machine.limits m.machine.known m.machine.asked m.heard) k
 
+-- ---- the lives of daemons
+
+-- what the daemon asked last, and hears next, is its last mark
+abbrev pub HearsLast : Daemon → List Mark → Act → Heard → Type 0
+HearsLast daemon marks asked told = (sid : Sid) (call : DmCall) (reply : DmReply) → asked ≡ Dm sid call → told ≡ heard.Dm reply → IsLast daemon sid call reply marks
+
+-- The recall daemon is at its start until it has called, and then it knows what the history shows. It has no session while it waits for what is told
+-- without one.
+pub record RecallLives (marks : List Mark) (k : recall.Known) (called : Bool) (r : Recalling) : Type 0 where
+  pub starts : called ≡ false → IsAtStart r.machine.known.seat r.machine.asked r.heard × (r.machine.known.hand ≡ None)
+  pub knows : called ≡ true → IsKnownAs (recall.knows_by r.machine.known r.machine.asked r.heard) k
+  pub hears : HearsLast Recall marks r.machine.asked r.heard
+  pub outside : NeedsNone r.machine.asked → r.machine.known.seat.sid ≡ None
+
+-- So does the migration daemon.
+pub record MigrateLives (marks : List Mark) (k : migrate.Known) (called : Bool) (m : Migrating) : Type 0 where
+  pub starts : called ≡ false → IsAtStart m.machine.known.seat m.machine.asked m.heard
+  pub knows : called ≡ true → IsShownAs (migrate.knows_by m.machine.limits m.machine.known m.machine.asked m.heard) k
+  pub hears : HearsLast Migrate marks m.machine.asked m.heard
+  pub outside : NeedsNone m.machine.asked → m.machine.known.seat.sid ≡ None
+
+-- one that doesn't run has made no call since it was started
+abbrev pub LivesIf : {R : Type 0} → (Bool → R → Type 0) → Bool → Option R → Type 0
+LivesIf Lives called None = called ≡ false
+LivesIf Lives called (Some r) = Lives called r
+
+-- so behind these marks either daemon lives, where these have called
+pub record Live {D M : Type 0} (limits : Numbers) (called : Running) (marks : List Mark) (s : System D M) : Type 0 where
+  pub recall : LivesIf (RecallLives marks (shown limits nothing_shown marks).recall) called.recall s.recall
+  pub migrate : LivesIf (MigrateLives marks (shown limits nothing_shown marks).migrate) called.migrate s.migrate
+
+module _ {D M : Type 0} (old new : System D M) where
+  -- Of more marks each call is right. Where the same daemons run on, they live on by them.
+  abbrev pub LiveOn : (marks more : List Mark) → Type 0
+  LiveOn marks more = (limits : Numbers) (called : Running) → Live limits called marks old → (running new ≡ running old → Live limits (called_in more called) (marks ++ more) new) × BeginsRight limits called marks more
+
+  -- so do they by a line's marks, whichever daemons run behind it
+  abbrev pub LiveThrough : Line → (marks more : List Mark) → Type 0
+  LiveThrough line marks more = (limits : Numbers) (called : Running) → Live limits called marks old → Live limits (called_by line (called_in more called)) (marks ++ more) new × BeginsRight limits called marks more
+
+-- Where a run was stopped each call is right.
+abbrev pub LiveUntil : {D M : Type 0} → System D M → (marks more : List Mark) → Type 0
+LiveUntil old marks more = (limits : Numbers) (called : Running) → Live limits called marks old → BeginsRight limits called marks more
+
 -- ---- what a history shows
 
 module _ {D M : Type 0} (g : drive.Ghosts M) where
@@ -87,13 +141,14 @@ module _ {D M : Type 0} (g : drive.Ghosts M) where
     pub full : IfSome s.migrate (FindsFull g s.drives s.limits)
     pub passing : IfSome s.migrate (PassStands s.limits marks)
 
-  -- From each marked history that shows it, entries of that kind lead on to one that shows what is left. Calls among them are made by daemons that run.
+  -- From each marked history that shows it, entries of that kind lead on to one that shows what is left. Calls among them are made by daemons that run,
+  -- which live on so.
   abbrev pub Keeps : (List Mark → Type 0) → System D M → System D M → Type 0
-  Keeps IsPart old new = (opened : List M) (marks : List Mark) → Shows opened marks old → (more : List Mark) × IsPart more × Shows opened (marks ++ more) new × AreByRunning (running old) more
+  Keeps IsPart old new = (opened : List M) (marks : List Mark) → Shows opened marks old → (more : List Mark) × IsPart more × Shows opened (marks ++ more) new × AreByRunning (running old) more × LiveOn old new marks more
 
   -- Where a run was stopped there may be no such entry, and nothing is said of what the daemons know.
   abbrev pub Ends : (List Mark → Type 0) → System D M → System D M → Type 0
-  Ends IsPart old new = (opened : List M) (marks : List Mark) → Shows opened marks old → (more : List Mark) × (IsPart more ⊎ (more ≡ [])) × IsMarked opened (marks ++ more) new × AreByRunning (running old) more
+  Ends IsPart old new = (opened : List M) (marks : List Mark) → Shows opened marks old → (more : List Mark) × (IsPart more ⊎ (more ≡ [])) × IsMarked opened (marks ++ more) new × AreByRunning (running old) more × LiveUntil old marks more
 
 -- ---- what is added
 

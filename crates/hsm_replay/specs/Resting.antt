@@ -10,7 +10,7 @@ use Rattle.plain_model.specs.State.{State, just_opened}
 use Rattle.hsm_replay.specs.declared.stops.Stop.{Stop}
 use Rattle.marked_history.specs.Caused.{ArePackedSince}
 use Rattle.marked_history.specs.Follows.{IsMadeBy, IsOfSettling}
-use Rattle.hsm_replay.specs.Keeping.{Shows}
+use Rattle.hsm_replay.specs.Keeping.{Shows, LiveOn, LiveThrough}
 use Rattle.marked_history.specs.Marks.{Mark, entries_of}
 use Rattle.hsm_replay.specs.Settled.{EndsQuietly}
 use Rattle.hsm_replay.specs.Systems.{System, running}
@@ -31,9 +31,9 @@ pub record EndsInTurns (marks : List Mark) (recall_turn migrate_turn : List Entr
 
 module _ {D M : Type 0} (g : drive.Ghosts M) where
   -- From each marked history that shows the store, marks of that kind lead on to one that shows what is left, and of which that is so. Calls among them are
-  -- made by daemons that run.
+  -- made by daemons that run, which live on so.
   abbrev pub LeadsTo : (List Mark → Type 0) → (List Mark → List Mark → Type 0) → System D M → System D M → Type 0
-  LeadsTo IsPart IsSo old new = (opened : List M) (marks : List Mark) → Shows g opened marks old → (part : List Mark) × IsPart part × Shows g opened (marks ++ part) new × IsSo marks part × AreByRunning (running old) part
+  LeadsTo IsPart IsSo old new = (opened : List M) (marks : List Mark) → Shows g opened marks old → (part : List Mark) × IsPart part × Shows g opened (marks ++ part) new × IsSo marks part × AreByRunning (running old) part × LiveOn old new marks part
 
   -- It has come to rest, in turns that are marked so.
   abbrev pub EndsMarked : System D M → System D M → Type 0
@@ -51,6 +51,6 @@ first_of s = just_opened s.store.opened.meta.number s.store.opened.held
 abbrev pub IsSettledIn : {D M : Type 0} → System D M → (before part : List Mark) → Type 0
 IsSettledIn s before part = HasSettled s.limits (superblock_of s.store.opened) (first_of s) (running s) before part
 
--- the line's part, with what it has come to where it settles
-abbrev pub IsLeftBy : {D M : Type 0} → Line → System D M → (before part : List Mark) → Type 0
-IsLeftBy line s before part = LeavesSettled s.limits (superblock_of s.store.opened) (first_of s) line (running s) before part
+-- the line's part, with what it has come to where it settles, and with how daemons live through it
+abbrev pub IsLeftBy : {D M : Type 0} → Line → System D M → System D M → (before part : List Mark) → Type 0
+IsLeftBy line old new before part = LeavesSettled new.limits (superblock_of new.store.opened) (first_of new) line (running new) before part × LiveThrough old new line before part

@@ -7,5 +7,6 @@ pub mod Follows
 pub mod Tokens
 pub mod Freeing
 pub mod Waiting
+pub mod Lives
 pub mod Settling
 pub mod Coming

@@ -8,7 +8,6 @@ use Rattle.hsm_types.specs.declared.daemons.Daemon.TheVariants.{Migrate}
 use Rattle.hsm_types.specs.declared.daemons.Heard.TheVariants as heard
 use Rattle.hsm_types.specs.declared.dm.DmCall.{DmCall}
 use Rattle.hsm_types.specs.declared.dm.DmCall.TheVariants.{GetSpace, GetTable, GetEvents, Respond, GetRegion, SetRegion, Seal, PunchHole}
-use Rattle.hsm_types.specs.declared.dm.DmRefusal.TheVariants.{NoSession}
 use Rattle.hsm_types.specs.declared.dm.DmReply.{DmReply}
 use Rattle.hsm_types.specs.declared.dm.DmReply.TheVariants as reply
 use Rattle.hsm_types.specs.declared.keys.Handle.{Handle}
@@ -23,6 +22,7 @@ use Rattle.hsm_policy.specs.declared.picking.Picked.{Picked}
 use Rattle.migrate_daemon.specs.Machine.{IsOfPass}
 use Rattle.migrate_daemon.specs.Passes.{IsSkip, IsEnd, start_of, whole_file}
 use Rattle.migrate_daemon.specs.Shares.{share}
+use Rattle.marked_history.specs.Lives.{HasLostSession}
 use Rattle.marked_history.specs.Marks.{Mark, made}
 
 -- ---- which entries are of a pass
@@ -56,14 +56,9 @@ abbrev pub GoesOn : List Mark → Type 0
 GoesOn [] = ⊥
 GoesOn (next ∷ rest) = IsBehindPass next
 
--- the last call of the daemon there was refused, as its session is gone
-abbrev pub IsRefusedAtLast : List Mark → Type 0
-IsRefusedAtLast during = (first : List Mark) × (sid : Sid) × (call : DmCall) × (since : List Mark)
-    × (during ≡ first ++ made Migrate sid call (reply.Refused NoSession) ∷ since) × AllByRecursion (λ (m : Mark). m.by ≢ Some Migrate) since
-
--- The pass is over. One whose daemon was killed within it need not be.
+-- The pass is over: the daemon goes on behind it, or its session is gone. One whose daemon was killed within it need not be.
 abbrev pub IsPassOver : (during rest : List Mark) → Type 0
-IsPassOver during rest = GoesOn rest ⊎ IsRefusedAtLast during
+IsPassOver during rest = GoesOn rest ⊎ HasLostSession Migrate during
 
 -- ---- what a pass comes to
 
