@@ -36,7 +36,7 @@ use Rattle.migrate_daemon.specs.Hearing.{is_gone, has_no_more, is_settled, space
 use Rattle.migrate_daemon.specs.Standing.{Standing, resting, serving}
 use Rattle.migrate_daemon.specs.Stages.{rests, looks}
 use Rattle.migrate_daemon.specs.Turns.{Gives, Turns}
-use Rattle.migrate_daemon.proofs.Turning.{HasTable, turns_out}
+use Rattle.migrate_daemon.proofs.Turning.{HasTable, over_outside, turns_out}
 
 pub gives_rest : (s : Standing) (pass before : Pass) (asked : Act) (told : Heard) (sid : Sid) → IsFree s.known pass sid → HasAll asked told
     → (s.known.seat.kept ≡ []) → (is_due s.limits s.known ≡ false) → (WantsSpace s.known → ⊥) → Gives s.limits s.known before pass asked told (resting s) (rests sid)
@@ -187,6 +187,7 @@ turns_table s before sid table picks turn picked gives = record {
     asked = refl;
     pass = (picks, picked, refl);
     may = gives.may;
+    over = over_outside turn.stage (serving s) (begun_pass sid picks) turn.act gives.stands;
     begins = λ lost. cc;
     passes = λ talk passed. record {
       done = λ k p below is. absurd (let none : k < 0 = below in omega arith);

@@ -304,7 +304,7 @@ turns_read s pass p bytes holds sealed some within =
     turns_work s pass p Reading (heard.Dm (reply.Data bytes)) s pass _ (λ gone. cc) (moves_same s.limits.volumes pass _ _ (λ full. full) (λ ends. ends.2)) (record {
       limits = refl;
       known = refl;
-      may = (p, holds.at, (refl, sealed, refl, refl, some, within));
+      may = (p, holds.at, (refl, sealed, refl, refl, some, within, holds.room));
       stands = ((bytes, refl), holds, sealed);
     })
 

@@ -141,7 +141,7 @@ goes volumes old new p asked told (Dm sid (PunchHole t h offset len)) same of sa
 goes volumes old new p asked told (Dm sid (PunchHole t h offset len)) same of says again (is, inl (s, inr set)) = inl (before asked 2 6 (ap step_of set.0) (omega arith))
 goes volumes old new p asked told (Dm sid (PunchHole t h offset len)) same of says again (is, inr (inl sealed)) = inl (before asked 5 6 (ap step_of sealed.0.1) (omega arith))
 goes volumes old new p asked told (Dm sid (PunchHole t h offset len)) same of says again (is, inr (inr nothing)) = absurd (says (inr (inr (inr (inr nothing.0)))) nothing.1)
-goes volumes old new p asked told (Copy volume h segment bytes) same of says again (is, s, read, t, some, few) = inl (before asked 3 4 (ap step_of read) (omega arith))
+goes volumes old new p asked told (Copy volume h segment bytes) same of says again (is, s, read, t, some, few, room) = inl (before asked 3 4 (ap step_of read) (omega arith))
 goes volumes old new p asked told act same of says again take = absurd take
 
 -- ---- the measure

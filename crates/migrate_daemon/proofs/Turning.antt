@@ -14,10 +14,15 @@ use Rattle.hsm_policy.specs.Settings.{Numbers}
 use Rattle.hsm_policy.specs.declared.picking.Picked.{Picked}
 use Rattle.daemon_session.specs.Seats.{first_id, Refuses}
 use Rattle.migrate_daemon.specs.declared.skips.Skip.{Skip}
+use Rattle.migrate_daemon.specs.declared.stages.Stage.{Stage}
+use Rattle.migrate_daemon.specs.declared.stages.Stage.TheVariants.{Outside, Entering, Resting, Measuring, Asking, Looking, Working, Copying, Answering}
 use Rattle.migrate_daemon.specs.declared.stages.Turn.{Turn}
+use Rattle.migrate_daemon.specs.declared.stages.Work.{Work}
+use Rattle.migrate_daemon.specs.declared.stages.Work.TheVariants.{Covering, Setting, Reading, Sealing, Punching}
 use Rattle.migrate_daemon.specs.Known.{knows_by}
-use Rattle.migrate_daemon.specs.Passes.{Pass, Exchange, Passed, IsDone, IsListed, IsCallOf, IsCopy, IsEnd, IsEndedBy, IsFull, told_since}
+use Rattle.migrate_daemon.specs.Passes.{Pass, Exchange, Passed, IsDone, IsListed, IsCallOf, IsCopy, IsEnd, IsEndedBy, IsFull, IsOver, told_since}
 use Rattle.migrate_daemon.specs.Machine.{IsOfPass, Stays, ComesTo}
+use Rattle.migrate_daemon.specs.Stages.{Stands, asked_for}
 use Rattle.migrate_daemon.specs.Standing.{Standing}
 use Rattle.migrate_daemon.specs.Turns.{Moves, Gives, Turns}
 
@@ -104,6 +109,27 @@ since : (talk : List Exchange) (asked : Act) (told : Heard) → (HasTable asked 
 since talk (Dm sid call.GetTable) (heard.Dm (reply.Table table)) none = absurd (none tt)
 since talk asked told none = refl
 
+-- ---- where a pass is over
+
+work_of_pass : (sid : Sid) (p : Picked) (work : Work) → IsOfPass (asked_for sid p work)
+work_of_pass sid p Covering = tt
+work_of_pass sid p Setting = tt
+work_of_pass sid p Reading = tt
+work_of_pass sid p (Sealing entry) = tt
+work_of_pass sid p Punching = tt
+
+-- where it waits for no answer of a pass
+pub over_outside : (stage : Stage) (s : Standing) (pass : Pass) (asked : Act) → Stands stage s pass asked → (IsOfPass asked → ⊥) → IsOver pass
+over_outside Outside s pass asked stands out = stands.2
+over_outside Entering s pass asked stands out = stands.1.over
+over_outside (Resting sid) s pass asked stands out = stands.1.over
+over_outside (Measuring sid) s pass asked stands out = stands.1.over
+over_outside (Asking sid) s pass asked stands out = stands.1.over
+over_outside (Looking sid) s pass asked stands out = stands.1.over
+over_outside (Working p work) s pass asked stands out = absurd (out (along asked _ stands.0 (work_of_pass pass.sid p work)))
+over_outside (Copying p) s pass asked stands out = absurd (out (copy_of_pass p pass.volume asked stands.0))
+over_outside (Answering sid t) s pass asked stands out = stands.2
+
 -- ---- what comes of an answer
 
 pub turns : (old : Standing) (before : Pass) (asked : Act) (told : Heard) (new : Standing) (after : Pass) (turn : Turn)
@@ -116,6 +142,7 @@ turns old before asked told new after turn none begins moves gives = record {
     asked = refl;
     pass = comes old.limits before asked told after none moves.stays;
     may = gives.may;
+    over = over_outside turn.stage new after turn.act gives.stands;
     begins = begins;
     passes = λ talk passed. rw (since talk asked told none) (moves.passes talk passed);
   };

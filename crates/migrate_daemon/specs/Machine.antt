@@ -1,5 +1,5 @@
 -- The migration machine as contracts see it, and what it may do.
-use Rattle.std.specs.Prelude.{◌≡◌, ◌≢◌, ℕ, ◌+◌, ◌≤◌, ◌⊎◌, List, [], ◌∷◌, ◌++◌, length, slice_get, Bool, true, false, if◌then◌else◌, Some, None, Ok, Contains}
+use Rattle.std.specs.Prelude.{◌≡◌, ◌≢◌, ℕ, ◌+◌, ◌<◌, ◌≤◌, ◌⊎◌, List, [], ◌∷◌, ◌++◌, length, slice_get, Bool, true, false, if◌then◌else◌, Some, None, Ok, Contains}
 use Rattle.std.specs.List.{All}
 use Rattle.hsm_types.specs.Regions.{covers}
 use Rattle.hsm_types.specs.declared.daemons.Act.{Act}
@@ -158,7 +158,7 @@ MayTake volumes old new p asked told (Dm sid (ReadInvis t h offset len)) = (Dm s
 MayTake volumes old new p asked told (Dm sid (Seal t h segment entry)) = (Dm sid (Seal t h segment entry) ≡ seals new.sid p entry) × (p.sealed ≡ false) × MaySeal volumes new.sid p entry asked told
 MayTake volumes old new p asked told (Dm sid (PunchHole t h offset len)) = (Dm sid (PunchHole t h offset len) ≡ punches new.sid p) × MayPunch volumes new.sid p asked told
 -- the bytes just read of the segment, to the lowest volume that wasn't found full
-MayTake volumes old new p asked told (Copy volume h segment bytes) = (Copy volume h segment bytes ≡ copies p new.volume bytes) × (p.sealed ≡ false) × (asked ≡ reads new.sid p) × (told ≡ heard.Dm (reply.Data bytes)) × (bytes ≢ []) × (length bytes ≤ 65536)
+MayTake volumes old new p asked told (Copy volume h segment bytes) = (Copy volume h segment bytes ≡ copies p new.volume bytes) × (p.sealed ≡ false) × (asked ≡ reads new.sid p) × (told ≡ heard.Dm (reply.Data bytes)) × (bytes ≢ []) × (length bytes ≤ 65536) × (new.volume < volumes)
 MayTake volumes old new p asked told act = ⊥
 
 -- the segment at which the pass stands
@@ -223,13 +223,15 @@ abbrev pub ComesTo : Numbers → Pass → Act → Heard → Pass → Type 0
 ComesTo limits old (Dm sid GetTable) (heard.Dm (reply.Table table)) new = Begins limits sid table new
 ComesTo limits old asked told new = Stays limits.volumes old asked told new
 
--- It has heard the answer to what it asked, and gives an act that it may give. Where its session is gone it begins as at its start.
+-- It has heard the answer to what it asked, and gives an act that it may give. Where that isn't one of a pass, the last pass is over. Where its session is
+-- gone it begins as at its start.
 pub record GoesOn (old : Machine) (told : Heard) (act : Act) (new : Machine) : Type 0 where
   pub limits : new.limits ≡ old.limits
   pub known : new.known ≡ asks_by (knows_by old.limits old.known old.asked told) act
   pub asked : new.asked ≡ act
   pub pass : ComesTo old.limits old.pass old.asked told new.pass
   pub may : MayGive old.limits (knows_by old.limits old.known old.asked told) old.pass new.pass old.asked told act
+  pub over : (IsOfPass act → ⊥) → IsOver new.pass
   pub begins : Refuses old.asked told → act ≡ Dm first_id GetAllSessions
   pub passes : (talk : List Exchange) → Passed old.limits.volumes talk old.pass → Passed old.limits.volumes (told_since talk old.asked told) new.pass
 
