@@ -1,6 +1,7 @@
 pub mod Bytes
 pub mod Following
 pub mod Faults
+pub mod Daemons
 pub mod Scripted
 pub mod Running
 pub mod Endings

@@ -9,7 +9,7 @@ use Rattle.script_text.specs.declared.lines.Line.{Line}
 use Rattle.script_text.specs.Scripts.{IsScript}
 use Rattle.hsm_replay.specs.Faults.{faults_in, AreTrue}
 use Rattle.file_store.specs.Stores.{Store, superblock_of}
-use Rattle.marked_history.specs.Marks.{Mark}
+use Rattle.marked_history.specs.Marks.{Mark, entries_of}
 use Rattle.marked_history.specs.Passing.{AllPassed}
 use Rattle.hsm_replay.specs.Passes.{CopyEnds}
 use Rattle.hsm_replay.specs.Sealed.{Tallies}
@@ -20,6 +20,7 @@ use Rattle.hsm_replay.specs.Systems.{System}
 use Rattle.hsm_cli.specs.declared.causes.Cause.{Cause}
 use Rattle.hsm_cli.specs.declared.causes.Cause.TheVariants.{ScriptRefused, WordsRefused, NotStore, Corrupt, ReadFault, WriteFault, DiskFault, HostFault, NoMemory}
 use Rattle.hsm_cli.specs.Clauses.{HasRun}
+use Rattle.hsm_cli.specs.Daemons.{IsWellServed, IsWellServedOver, ServedIsWell}
 use Rattle.hsm_cli.specs.Endings.{ScriptEnds, IsBeforeReading}
 use Rattle.hsm_cli.specs.Follows.{RunsBy, FollowsFirst, HasRunOn, IsServed, IsOfScript, IsRunOf, RunsAll, RunsFirst, SettlesOn, SettlesSince, lines_run}
 use Rattle.hsm_cli.specs.Openings.{replay_store}
@@ -82,27 +83,32 @@ module _ {D M : Type 0} {opened : List M} (h : drive.Ghosts M) (from s : System 
   pub first_run : (commits : Bool) (given : Option (List ℕ)) (lines : List Line) → IfSome given (λ bytes. IsScript (script_bytes bytes) lines) → HasRunOn h opened (FollowsFirst (SettlesSince from) (lines_run commits lines)) s → RunsFirst (SettlesOn (Some from.store.opened)) (TellsOf h opened s.drives) commits given s.store.history
   first_run commits given lines script run = run_of h s limits (λ ls marks. FollowsFirst (SettlesOn (Some from.store.opened)) (lines_run commits ls) marks) given lines script (by_default (λ so marks. FollowsFirst so (lines_run commits lines) marks) run)
 
--- ---- what is told of what was sealed
+-- ---- what marks tell
 
-module _ (Settles : List Line → List Mark → Type 0) (Tells Says : List Mark → Type 0) (says : (marks : List Mark) → Tells marks → Says marks) where
-  run_says : (FollowsSo : List Line → List Mark → Type 0) (given : Option (List ℕ)) (history : List Entry) → IsRunOf FollowsSo Tells given history → IsRunOf FollowsSo Says given history
-  run_says FollowsSo given history run = record { marks = run.marks; entries = run.entries; script = run.script; served = run.served; tells = says run.marks run.tells }
+module _ (Settles : List Line → List Mark → Type 0) (Tells Says : List Mark → Type 0) (history : List Entry) (says : (marks : List Mark) → entries_of marks ≡ history → Served standard marks → Tells marks → Says marks) where
+  run_says : (FollowsSo : List Line → List Mark → Type 0) (given : Option (List ℕ)) → IsRunOf FollowsSo Tells given history → IsRunOf FollowsSo Says given history
+  run_says FollowsSo given run = record { marks = run.marks; entries = run.entries; script = run.script; served = run.served; tells = says run.marks run.entries run.served run.tells }
 
-  first_says : (commits : Bool) (source : SourceTold) (history : List Entry) → (history ≡ []) ⊎ RunsFirst Settles Tells commits source.given history → (history ≡ []) ⊎ RunsFirst Settles Says commits source.given history
-  first_says commits source history (inl none) = inl none
-  first_says commits source history (inr run) = inr (run_says (λ ls marks. FollowsFirst Settles (lines_run commits ls) marks) source.given history run)
+  first_says : (commits : Bool) (source : SourceTold) → (history ≡ []) ⊎ RunsFirst Settles Tells commits source.given history → (history ≡ []) ⊎ RunsFirst Settles Says commits source.given history
+  first_says commits source (inl none) = inl none
+  first_says commits source (inr run) = inr (run_says (λ ls marks. FollowsFirst Settles (lines_run commits ls) marks) source.given run)
 
-  has_run_says : (commits : Bool) (source : SourceTold) (cause : Option Cause) (history : List Entry) → HasRun Settles Tells commits source cause history → HasRun Settles Says commits source cause history
-  has_run_says commits source None history ran = (run_says (λ ls marks. RunsBy Settles (lines_run commits ls) marks) source.given history ran.0, ran.1)
-  has_run_says commits source (Some WriteFault) history ran = (run_says (λ ls marks. RunsBy Settles (lines_run commits ls) marks) source.given history ran.0, ran.1)
-  has_run_says commits source (Some DiskFault) history ran = first_says commits source history ran
-  has_run_says commits source (Some NoMemory) history ran = first_says commits source history ran
-  has_run_says commits source (Some (ScriptRefused line)) history ran = ran
-  has_run_says commits source (Some WordsRefused) history ran = ran
-  has_run_says commits source (Some NotStore) history ran = ran
-  has_run_says commits source (Some (Corrupt place)) history ran = ran
-  has_run_says commits source (Some ReadFault) history ran = ran
-  has_run_says commits source (Some HostFault) history ran = ran
+  has_run_says : (commits : Bool) (source : SourceTold) (cause : Option Cause) → HasRun Settles Tells commits source cause history → HasRun Settles Says commits source cause history
+  has_run_says commits source None ran = (run_says (λ ls marks. RunsBy Settles (lines_run commits ls) marks) source.given ran.0, ran.1)
+  has_run_says commits source (Some WriteFault) ran = (run_says (λ ls marks. RunsBy Settles (lines_run commits ls) marks) source.given ran.0, ran.1)
+  has_run_says commits source (Some DiskFault) ran = first_says commits source ran
+  has_run_says commits source (Some NoMemory) ran = first_says commits source ran
+  has_run_says commits source (Some (ScriptRefused line)) ran = ran
+  has_run_says commits source (Some WordsRefused) ran = ran
+  has_run_says commits source (Some NotStore) ran = ran
+  has_run_says commits source (Some (Corrupt place)) ran = ran
+  has_run_says commits source (Some ReadFault) ran = ran
+  has_run_says commits source (Some HostFault) ran = ran
+
+-- and the run is well served
+pub also_well : {D : Type 0} (opened : Option (Store D)) (Settles : List Line → List Mark → Type 0) (Tells : List Mark → Type 0) (commits : Bool) (source : SourceTold) (cause : Option Cause) (history : List Entry) → ServedIsWell opened history
+    → HasRun Settles Tells commits source cause history → HasRun Settles (λ marks. IsWellServedOver opened marks × Tells marks) commits source cause history
+also_well opened Settles Tells commits source cause history well ran = has_run_says Settles Tells (λ marks. IsWellServedOver opened marks × Tells marks) history (λ marks entries served tells. (well marks entries served, tells)) commits source cause ran
 
 -- a run that ended before its script was read
 none_read : (Settles : List Line → List Mark → Type 0) (Says : List Mark → Type 0) (commits : Bool) (source : SourceTold) (why : Cause) (history : List Entry) → IsBeforeReading why → history ≡ [] → HasRun Settles Says commits source (Some why) history
@@ -123,7 +129,7 @@ none_told Settles Says commits source why cause history before none (inr is) = s
 -- a run with the drives that came, if any did
 pub ran_with : {V : Type 0} (Settles : List Line → List Mark → Type 0) (Tells : V → List Mark → Type 0) (Says : List Mark → Type 0) (ready : Result V Cause) (commits : Bool) (source : SourceTold) (cause : Option Cause) (history : List Entry) → IfOk ready (λ ds. (marks : List Mark) → Tells ds marks → Says marks) → IfErr ready IsBeforeReading
     → IfErr ready (λ why. (cause ≡ Some why) ⊎ (cause ≡ Some NoMemory)) → OnErr ready (history ≡ []) → HasRun Settles (λ marks. IfOk ready (λ ds. Tells ds marks)) commits source cause history → HasRun Settles Says commits source cause history
-ran_with Settles Tells Says (Ok ds) commits source cause history says before unready idle ran = has_run_says Settles (Tells ds) Says says commits source cause history ran
+ran_with Settles Tells Says (Ok ds) commits source cause history says before unready idle ran = has_run_says Settles (Tells ds) Says history (λ marks entries served tells. says marks tells) commits source cause ran
 ran_with Settles Tells Says (Err why) commits source cause history says before unready idle ran = none_told Settles Says commits source why cause history before idle unready
 
 -- ---- how it ended
@@ -146,9 +152,10 @@ pub idle_none : {S V : Type 0} (history : S → List Entry) (old new : S) (ready
 idle_none history old new (Ok x) none same = tt
 idle_none history old new (Err why) none same = ap history same ∙ none
 
--- the settles of a store of that superblock that holds nothing are those of a new one
-pub settles_new : {D : Type 0} (E : Type 0) (s : Store D) (IsSo : (List Line → List Mark → Type 0) → Type 0) → superblock_of s ≡ replay_store → s.held ≡ nothing_held → s.meta.number ≡ 0 → IsSo (SettlesOn (Some s)) → IsSo (SettlesOn {D = E} None)
+-- what settles come to, and what is well served, on a store of that superblock that holds nothing is so on a new one
+pub settles_new : {D : Type 0} (E : Type 0) (s : Store D) (IsSo : (List Line → List Mark → Type 0) → (List Mark → Type 0) → Type 0) → superblock_of s ≡ replay_store → s.held ≡ nothing_held → s.meta.number ≡ 0
+    → IsSo (SettlesOn (Some s)) (IsWellServedOver (Some s)) → IsSo (SettlesOn {D = E} None) (IsWellServedOver {D = E} None)
 settles_new E s IsSo superblock held number so =
-    subst (λ (x : Held). IsSo (EachSettles standard replay_store (just_opened 0 x) no_daemon no_daemon [])) held
-    (subst (λ (n : ℕ). IsSo (EachSettles standard replay_store (just_opened n s.held) no_daemon no_daemon [])) number
-    (subst (λ (x : Superblock). IsSo (EachSettles standard x (just_opened s.meta.number s.held) no_daemon no_daemon [])) superblock so))
+    subst (λ (x : Held). IsSo (EachSettles standard replay_store (just_opened 0 x) no_daemon no_daemon []) (IsWellServed replay_store 0 x)) held
+    (subst (λ (n : ℕ). IsSo (EachSettles standard replay_store (just_opened n s.held) no_daemon no_daemon []) (IsWellServed replay_store n s.held)) number
+    (subst (λ (x : Superblock). IsSo (EachSettles standard x (just_opened s.meta.number s.held) no_daemon no_daemon []) (IsWellServed x s.meta.number s.held)) superblock so))

@@ -36,6 +36,7 @@ use Rattle.hsm_cli.specs.Commands.{Form, Format, Replay, ReplayStore, geometry_n
 use Rattle.hsm_cli.specs.Statuses.{status_of, place_of}
 use Rattle.hsm_cli.specs.Sources.{script_bytes, GivesFirst, GivesWhole}
 use Rattle.hsm_cli.specs.Openings.{opened_in, superblock_at, held_at, base_of}
+use Rattle.hsm_cli.specs.Daemons.{IsWellServedOver}
 use Rattle.hsm_cli.specs.Follows.{SettlesOn, RunsAll, RunsFirst}
 use Rattle.hsm_cli.specs.Hosts.{IsHanded, AreHanded, HoldsNothing, HoldsOthers, HoldsAll, StoresNothing, StoresOthers, StoresAll}
 use Rattle.hsm_cli.specs.Sealing.{IsRightInMemory, IsRightInFolder}
@@ -43,7 +44,7 @@ use Rattle.hsm_cli.specs.Told.{SourceTold, SinkTold, HostTold}
 
 -- ---- the script clause
 
--- The history that a run of a script has, by what went wrong first, what its settles have come to, and what it tells of what was sealed. A run that ends well,
+-- The history that a run of a script has, by what went wrong first, what its settles have come to, and what its marks tell beside. A run that ends well,
 -- or fails only in writing, has read the script to its end and runs all lines; one that lacks memory, or whose disk fails, runs the first ones.
 abbrev pub HasRun : (List Line → List Mark → Type 0) → (List Mark → Type 0) → Bool → SourceTold → Option Cause → List Entry → Type 0
 HasRun Settles Tells commits source None history = RunsAll Settles Tells commits source.given history × IsAtEnd source.left
@@ -53,12 +54,12 @@ HasRun Settles Tells commits source (Some NoMemory) history = (history ≡ []) �
 HasRun Settles Tells commits source (Some why) history = history ≡ []
 
 -- Only the forms of `replay` run a script. `replay PATH DIR` ends with a commit, and its marks tally with the drives that come back; those of plain `replay`,
--- whose drives in memory never fail, lose nothing that was sealed. In both passes are as they should be.
+-- whose drives in memory never fail, lose nothing that was sealed. Both are well served, and passes in them are as they should be.
 abbrev pub ScriptClause : {D M : Type 0} → drive.Ghosts M → (List ℕ → ℕ → Objects → Type 0) → Option Form → SourceTold → Outcome D M → Type 0
 ScriptClause g stores None source o = o.history ≡ []
 ScriptClause g stores (Some (Format path size)) source o = o.history ≡ []
-ScriptClause g stores (Some Replay) source o = HasRun (SettlesOn (opened_in o)) IsRightInMemory false source o.cause o.history
-ScriptClause g stores (Some (ReplayStore path dir)) source o = HasRun (SettlesOn (opened_in o)) (IsRightInFolder g (stores dir) o.drives) true source o.cause o.history
+ScriptClause g stores (Some Replay) source o = HasRun (SettlesOn (opened_in o)) (λ marks. IsWellServedOver (opened_in o) marks × IsRightInMemory marks) false source o.cause o.history
+ScriptClause g stores (Some (ReplayStore path dir)) source o = HasRun (SettlesOn (opened_in o)) (λ marks. IsWellServedOver (opened_in o) marks × IsRightInFolder g (stores dir) o.drives marks) true source o.cause o.history
 
 -- ---- the reading clause
 

@@ -86,7 +86,7 @@ pub record IsOfScript (FollowsSo : List Line → List Mark → Type 0) (bytes : 
   pub follows : FollowsSo lines marks
 
 -- Some marks of the history: where the source tells its bytes, they are a script whose lines the marks follow so; each call of a daemon is one that it may
--- make, by what the entries before have told it; and of what was sealed the marks tell so.
+-- make, by what the entries before have told it; and of the rest the marks tell so.
 pub record IsRunOf (FollowsSo : List Line → List Mark → Type 0) (Tells : List Mark → Type 0) (given : Option (List ℕ)) (history : List Entry) : Type 0 where
   pub marks : List Mark
   pub entries : entries_of marks ≡ history

@@ -8,6 +8,7 @@ pub mod Statuses
 pub mod Commands
 pub mod Sources
 pub mod Openings
+pub mod Daemons
 pub mod Follows
 pub mod Sealing
 pub mod Told

@@ -46,7 +46,8 @@ pub record LosesNothing (marks : List Mark) : Type 0 where
   pub aborts : (before : List Mark) (sid : Sid) (t : Token) (reply : DmReply) (rest : List Mark) → marks ≡ before ++ made Recall sid (Respond t (Abort 2)) reply ∷ rest → NeedsUnknown (shown standard nothing_shown before).recall before
   pub damages : (before : List Mark) (sid : Sid) (t : Token) (volume object : ℕ) (want got : Fingerprint) (reply : DmReply) (rest : List Mark) → marks ≡ before ++ made Recall sid (Respond t (Media (Damaged volume object want got))) reply ∷ rest → IsUnsealed (sealed_in before) volume object want
 
--- It lost nothing, and its passes are as they should be. Of the copy that ended one early nothing is said, as nobody sees these drives.
+-- It lost nothing, and its passes are as they should be. Of the copy that ended one early no more is said than that its segment was read, as nobody sees these
+-- drives.
 pub record IsRightInMemory (marks : List Mark) : Type 0 where
   pub loses : LosesNothing marks
   pub passes : AllPassed (Unit {0}) standard marks

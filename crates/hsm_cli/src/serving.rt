@@ -15,6 +15,7 @@ ghost use Rattle.hsm_replay.specs.Running.{GoesOn, IsAllDurable};
 ghost use Rattle.hsm_cli.specs.Sealing.{TellsOf};
 ghost use Rattle.hsm_cli.specs.Sources.{script_bytes, GivesFirst};
 ghost use Rattle.hsm_cli.specs.Follows.{IsServed, SettlesOn};
+ghost use Rattle.hsm_cli.specs.Daemons.{ServedIsWell};
 ghost use Rattle.hsm_cli.specs.Clauses.{HasRun, HasRead, IsGoodOver, IsPlainOver, IsCausedOver, IsWhole, IsBeforeRun, RanToItsEnd};
 ghost use Rattle.hsm_cli.specs.Endings.{cause_in, IsBeforeReading, ScriptEnds, WritingEnds, RunEnds, first_of};
 ghost use Rattle.hsm_cli.specs.Told.{source_told, sink_told};
@@ -28,7 +29,9 @@ use file_store::{FileStore, one_recovery};
 use hsm_core::Hsm;
 use hsm_policy::Settings;
 use hsm_replay::{Replay, Stop};
-use marked_history::served_is_caused;
+use marked_history::{
+    punch_frees, served_is_caused, served_keeps_all, served_makes_anew, served_takes_over,
+};
 use media_model::Drive;
 use plain_model::{History, render};
 use script_text::{Failed, ParseRefusal, Script, Sink, Source, parse};
@@ -69,6 +72,7 @@ pub(crate) fn serve<D: Disk, M: Drive, I: Source, O: Sink>(
     ensures opening { result.opening.value ≡ hsm.opened }
     ensures base { result.base ≡ hsm.opened.meta.number }
     ensures script { HasRun (SettlesOn (Some hsm.opened)) (λ marks. IfOk drives (λ ds. TellsOf M.Drive ds.items result.drives.items marks)) commits (source_told I.left I.fault_count source.old source.new) result.cause result.history }
+    ensures well { ServedIsWell (Some hsm.opened) result.history }
     ensures reading { HasRead (source_told I.left I.fault_count source.old source.new) result.cause }
     ensures legality { IsGoodOver (Some hsm.opened) result.history }
     ensures caused { has_fault result.history ≡ true → Rose (D.fault_count hsm.opened.disk) (D.fault_count result.disk) }
@@ -91,6 +95,10 @@ pub(crate) fn serve<D: Disk, M: Drive, I: Source, O: Sink>(
 {
     one_recovery();
     served_is_caused();
+    served_makes_anew();
+    served_takes_over();
+    served_keeps_all();
+    punch_frees();
     let base = hsm.base();
     let Ran { ended, hsm, drives } = run_with(alloc, hsm, drives, commits, source);
     let (disk, history, opening) = hsm.close();

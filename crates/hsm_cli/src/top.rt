@@ -14,6 +14,7 @@ ghost use Rattle.hsm_cli.specs.Follows.{SettlesOn};
 ghost use Rattle.hsm_cli.specs.Clauses.{ScriptClause, ReadingClause, LegalityClause, PlainClause, MediaClause, NoneFailed, IsCausedOver, CrashClause, FormatClause, HostClause, OutputClause, StatusClause, HasRun, HasRead, HasReadOn, IsGoodOver, IsPlainOver, LeavesSafe, IsFormatted, HandsOut, HasFailed, HasBegun, Why, Lacks, DrivesClause, GivesBack, HandsDrives, asked_by};
 ghost use Rattle.hsm_cli.specs.Endings.{RunEnds, FormatEnds, HandingEnds, IsBeforeReading};
 ghost use Rattle.hsm_cli.specs.Hosts.{AreHanded, HoldsAll, StoresAll};
+ghost use Rattle.hsm_cli.specs.Daemons.{IsWellServedOver};
 ghost use Rattle.hsm_cli.specs.Sealing.{IsRightInMemory, IsRightInFolder};
 ghost use Rattle.hsm_cli.specs.Told.{source_told, sink_told, host_told};
 ghost use Rattle.hsm_cli.specs.Runs.{IsOpenedAnew};
@@ -119,7 +120,7 @@ fn replay<D: Disk, M, I: Source, O: Sink>(
 ) -> Outcome<D, M>
     ensures new { (result.opening ≡ None) × (result.disk ≡ None) × (result.base ≡ 0) × (result.drives ≡ []) }
     ensures told { (result.status ≡ status_of result.cause) × (result.at ≡ place_of result.cause) }
-    ensures script { HasRun (SettlesOn (opened_in result)) IsRightInMemory false (source_told I.left I.fault_count source.old source.new) result.cause result.history }
+    ensures script { HasRun (SettlesOn (opened_in result)) (λ marks. IsWellServedOver (opened_in result) marks × IsRightInMemory marks) false (source_told I.left I.fault_count source.old source.new) result.cause result.history }
     ensures reading { HasRead (source_told I.left I.fault_count source.old source.new) result.cause }
     ensures legality { IsGoodOver {D = D} None result.history }
     ensures faultless { has_fault result.history ≡ false }
@@ -179,7 +180,7 @@ fn replay_store<H: Host, I: Source, O: Sink>(
 ) -> Outcome<H::Disk, H::Drive>
     ensures told { (result.status ≡ status_of result.cause) × (result.at ≡ place_of result.cause) × (result.base ≡ base_of (opened_in result)) }
     ensures command { result.cause ≢ Some Cause.WordsRefused }
-    ensures script { HasRun (SettlesOn (opened_in result)) (IsRightInFolder H.Drive.Drive (H.stores host.old dir.now) result.drives) true (source_told I.left I.fault_count source.old source.new) result.cause result.history }
+    ensures script { HasRun (SettlesOn (opened_in result)) (λ marks. IsWellServedOver (opened_in result) marks × IsRightInFolder H.Drive.Drive (H.stores host.old dir.now) result.drives marks) true (source_told I.left I.fault_count source.old source.new) result.cause result.history }
     ensures reading { HasReadOn (opened_in result) (source_told I.left I.fault_count source.old source.new) result.cause }
     ensures legality { LegalityClause H.Disk.Disk result }
     ensures plain { PlainClause result }

@@ -19,7 +19,7 @@ use Rattle.hsm_policy.specs.declared.picking.Picked.{Picked}
 use Rattle.daemon_session.specs.Members.{IsRefusedOne}
 use Rattle.daemon_session.specs.Seats.{Seat, no_seat, all_marked, seat_asks, seat_hears, IsSeated}
 use Rattle.migrate_daemon.specs.Known.{Known, is_due, asks, hears, asks_by, knows_by}
-use Rattle.migrate_daemon.specs.Machine.{Machine, GoesOn, IsServed, WantsSpace, HasAll, answer_of, MaySeal, MayGive}
+use Rattle.migrate_daemon.specs.Machine.{Machine, GoesOn, IsServed, NoneServed, WantsSpace, HasAll, answer_of, MaySeal, MayGive}
 use Rattle.migrate_daemon.specs.Passes.{Pass, IsOver, copies}
 use Rattle.hsm_replay.specs.declared.daemons.Migrating.{Migrating}
 use Rattle.hsm_replay.specs.Keeping.{IsShownAs, IsAtStart, MigrateKnows}
@@ -66,7 +66,7 @@ may_call limits k l old new asked told sid (ReadInvis t h offset len) same may =
 may_call limits k l old new asked told sid (Seal t h segment entry) same may = let is = may.2.0 in (of_pass k.seat l.seat sid new.sid _ _ same.seat may.1.seated is, cc)
 may_call limits k l old new asked told sid (PunchHole t h offset len) same may = let is = may.2.0 in (of_pass k.seat l.seat sid new.sid _ _ same.seat may.1.seated is, cc)
 may_call limits k l old new asked told sid GetSpace same may = seated_as k.seat l.seat sid same.seat may.0.seated
-may_call limits k l old new asked told sid GetTable same may = seated_as k.seat l.seat sid same.seat may.0.seated
+may_call limits k l old new asked told sid GetTable same may = (seated_as k.seat l.seat sid same.seat may.0.seated, subst (λ (s : Seat). NoneServed s.kept) same.seat may.0.answered)
 may_call limits k l old new asked told sid (GetEvents most room) same may = (seated_as k.seat l.seat sid same.seat may.0.seated, may.1, may.2)
 may_call limits k l old new asked told sid (Respond t response) same may =
     (seated_as k.seat l.seat sid same.seat may.0, subst (λ (s : Seat). IsServed s.kept t) same.seat may.2, may.3 ∙ ap answer_of same.punched)

@@ -39,6 +39,7 @@ use Rattle.hsm_replay.specs.Systems.{System, drive_of, running}
 use Rattle.hsm_replay.proofs.Adding.{adds_none, adds_one}
 use Rattle.hsm_replay.proofs.Fetching.{heard_of_fetch}
 use Rattle.hsm_replay.proofs.Filling.{full_of_copy}
+use Rattle.hsm_replay.proofs.PassCopies.{names_copy}
 use Rattle.hsm_replay.proofs.Going.{goes_itself, event_goes, stopped_for, stop_answer, session_hands}
 use Rattle.hsm_replay.proofs.Growing.{have_grown_itself, grown_at, reads_grow, grows_grow}
 use Rattle.hsm_replay.proofs.Living.{live_itself, none_until, recall_calls_live, recall_calls_until, recall_went_live, migrate_calls_live, migrate_calls_until, migrate_went_live}
@@ -149,7 +150,7 @@ module _ {D M : Type 0} (g : disk.Ghosts D) (h : drive.Ghosts M) where
           runs = rest_runs tt old.store;
           adds = adds_none (IsStepOf Migrate) old (migrate_left old machine (heard.Copied performs.0) old.store drives) (inl refl) refl;
           adds_first = tt;
-          keeps = λ opened marks shows. ([], inl refl, migrate_went h opened marks old shows m machine runs (Copy volume handle segment bytes) (heard.Copied performs.0) tt goes drives grown (heard_of_copy h old.drives volume segment handle bytes on.0 on.1 on.2 performs.0 on.3) (full_of_copy h law old.drives volume segment handle bytes goes.may.2.5 on.0 on.1 on.2 performs.0 on.3), tt, migrate_went_live marks old m machine runs (Copy volume handle segment bytes) (heard.Copied performs.0) tt goes drives);
+          keeps = λ opened marks shows. ([], inl refl, migrate_went h opened marks old shows m machine runs (Copy volume handle segment bytes) (heard.Copied performs.0) tt (names_copy h volume handle segment bytes performs.0 on.0 on.1 on.3) goes drives grown (heard_of_copy h old.drives volume segment handle bytes on.0 on.1 on.2 performs.0 on.3) (full_of_copy h law old.drives volume segment handle bytes goes.may.2.5 on.0 on.1 on.2 performs.0 on.3), tt, migrate_went_live marks old m machine runs (Copy volume handle segment bytes) (heard.Copied performs.0) tt goes drives);
           ends = tt;
         })
     migrate_by (Fetch entry) goes performs = absurd goes.may
@@ -161,7 +162,7 @@ module _ {D M : Type 0} (g : disk.Ghosts D) (h : drive.Ghosts M) where
           runs = rest_runs tt old.store;
           adds = adds_none (IsStepOf Migrate) old (migrate_left old machine heard.Nothing old.store old.drives) (inl refl) refl;
           adds_first = tt;
-          keeps = λ opened marks shows. ([], inl refl, migrate_went h opened marks old shows m machine runs Idle heard.Nothing tt goes old.drives (have_grown_itself h old.drives) tt tt, tt, migrate_went_live marks old m machine runs Idle heard.Nothing tt goes old.drives);
+          keeps = λ opened marks shows. ([], inl refl, migrate_went h opened marks old shows m machine runs Idle heard.Nothing tt tt goes old.drives (have_grown_itself h old.drives) tt tt, tt, migrate_went_live marks old m machine runs Idle heard.Nothing tt goes old.drives);
           ends = tt;
         })
 

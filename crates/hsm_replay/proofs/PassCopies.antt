@@ -1,16 +1,21 @@
 -- What copies tell of passes, while drives are used.
-use Rattle.std.proofs.Common.{◌≡◌, ◌∙◌, ◌⊎◌, ◌+◌, ◌%◌, ◌<◌, ℕ, false, List, length, Some, Err, inl, inr, sym, ap, subst, arith}
+use Rattle.std.proofs.Common.{◌≡◌, ◌∙◌, ◌⊎◌, ◌+◌, ◌%◌, ◌<◌, ℕ, false, List, length, Some, Result, Ok, Err, inl, inr, sym, ap, subst, arith}
 use Rattle.std.specs.Prelude.{slice_get}
 use Rattle.std.proofs.lemmas.List.Sums.{sum_by-append}
 use Rattle.media_model.specs.Objects.{Objects, size_of}
 use Rattle.media_model.specs.declared.drive.Drive as drive
+use Rattle.hsm_types.specs.declared.daemons.Act.TheVariants.{Copy}
 use Rattle.hsm_types.specs.declared.daemons.Heard.{Heard}
 use Rattle.hsm_types.specs.declared.daemons.Heard.TheVariants as heard
+use Rattle.hsm_types.specs.declared.keys.Handle.{Handle}
+use Rattle.hsm_types.specs.declared.media.CopyRefusal.{CopyRefusal}
 use Rattle.hsm_types.specs.declared.media.CopyRefusal.TheVariants as copying
+use Rattle.hsm_types.specs.declared.stubs.StubEntry.{StubEntry}
 use Rattle.hsm_policy.specs.Settings.{Numbers}
+use Rattle.hsm_replay.specs.Acts.{CopiesTo}
 use Rattle.hsm_replay.specs.Drives.{HasGrown, HaveGrown}
 use Rattle.hsm_replay.specs.Filling.{IsFullVolume, AllFull, EndsCopy}
-use Rattle.hsm_replay.specs.Passes.{CopyEnds}
+use Rattle.hsm_replay.specs.Passes.{CopyEnds, HearsCopy}
 use Rattle.marked_history.specs.Marks.{Mark}
 use Rattle.marked_history.specs.Passing.{AllPassed}
 use Rattle.hsm_replay.proofs.Growing.{grown_count}
@@ -44,6 +49,11 @@ module _ {M : Type 0} (g : drive.Ghosts M) where
 
   pub all_passed_still : (ds es : List M) (limits : Numbers) (marks : List Mark) → HaveGrown g ds es → AllPassed (CopyEnds g ds limits) limits marks → AllPassed (CopyEnds g es limits) limits marks
   all_passed_still ds es limits marks grown passed = all_passed_as (CopyEnds g ds limits) (CopyEnds g es limits) limits marks (ends_still ds es limits grown) passed
+
+  -- what is heard of a copy
+  pub names_copy : (volume : ℕ) (handle : Handle) (segment : ℕ) (bytes : List ℕ) (told : Result StubEntry CopyRefusal) (old new : M) → CopiesTo g volume handle segment bytes told old new → HearsCopy (Copy volume handle segment bytes) (heard.Copied told)
+  names_copy volume handle segment bytes (Ok entry) old new copies = (copies.0.print, copies.0.on)
+  names_copy volume handle segment bytes (Err why) old new copies = tt
 
   -- a copy's answer that ends a pass
   pub copy_ends : (drives : List M) (limits : Numbers) (told : Heard) → EndsCopy g drives limits told → EndsWith (CopyEnds g drives limits) told

@@ -1,19 +1,16 @@
 -- Passes in a history, while it goes on.
-use Rattle.std.proofs.Common.{◌≡◌, ◌≢◌, ◌∙◌, ◌⊎◌, ◌∷◌, ◌++◌, [], ℕ, zero, suc, ◌+◌, ◌<◌, List, length, Some, Contains, slice_index_or, inl, inr, refl, sym, ap, subst, append-nil, length-append, arith}
+use Rattle.std.proofs.Common.{◌≡◌, ◌≢◌, ◌∙◌, ◌⊎◌, ◌∷◌, ◌++◌, [], ℕ, zero, suc, ◌<◌, List, length, Some, Contains, slice_index_or, inl, inr, refl, sym, ap, subst, append-nil, append_assoc, arith}
 use Rattle.std.specs.List.{AllByRecursion}
 use Rattle.std.specs.Prelude.{slice_get}
-use Rattle.std.proofs.Math.Seq.{get_or-append_seam}
 use Rattle.std.proofs.lemmas.List.Elements.{Contains-append_left}
 use Rattle.hsm_types.specs.declared.daemons.Act.TheVariants.{Dm}
 use Rattle.hsm_types.specs.declared.daemons.Daemon.TheVariants.{Migrate}
 use Rattle.hsm_types.specs.declared.dm.DmCall.{DmCall}
-use Rattle.hsm_types.specs.declared.dm.DmCall.TheVariants.{GetTable, PunchHole}
+use Rattle.hsm_types.specs.declared.dm.DmCall.TheVariants.{GetTable}
 use Rattle.hsm_types.specs.declared.dm.DmRefusal.TheVariants.{NoSession}
 use Rattle.hsm_types.specs.declared.dm.DmReply.{DmReply}
 use Rattle.hsm_types.specs.declared.dm.DmReply.TheVariants as reply
-use Rattle.hsm_types.specs.declared.keys.Handle.{Handle}
 use Rattle.hsm_types.specs.declared.keys.Sid.{Sid}
-use Rattle.hsm_types.specs.declared.keys.Token.{Token}
 use Rattle.hsm_types.specs.declared.tables.Table.{Table}
 use Rattle.hsm_policy.specs.Settings.{Numbers}
 use Rattle.hsm_policy.specs.declared.picking.Picked.{Picked}
@@ -23,7 +20,8 @@ use Rattle.plain_model.specs.declared.entries.Answer.TheVariants as answer
 use Rattle.migrate_daemon.specs.Machine.{IsOfPass}
 use Rattle.marked_history.specs.Lives.{IsLast, HasLostSession}
 use Rattle.marked_history.specs.Marks.{Mark, made}
-use Rattle.marked_history.specs.Passing.{IsOfPassBy, AreOfPass, table_told, IsBetween, IsBehindPass, GoesOn, IsPassOver, IsDoneIn, IsEndedIn, IsPunchOf, ArePunched, IsPassed, AllPassed}
+use Rattle.marked_history.specs.Passing.{IsOfPassBy, AreOfPass, table_told, IsBetween, IsBehindPass, GoesOn, IsPassOver, IsCoveredIn, read_call, IsReadAtLast, IsWithinPass, AllWithin, IsDoneIn, IsEndedIn, IsPassed, EachPassed, AllPassed}
+use Rattle.hsm_replay.proofs.Growing.{all_and}
 
 -- ---- lists
 
@@ -172,32 +170,27 @@ refused_now during s c q refused = by (place during (made Migrate s c q) last.0 
     by (inl at) = sym (same_answer refused.0 s refused.1 c (reply.Refused NoSession) q at.1)
     by (inr within) = absurd (all_last IsOther within.0 (made Migrate s c q) (subst (λ (l : List Mark). AllByRecursion IsOther l) within.1 last.3) refl)
 
--- ---- what was punched
+-- ---- what a longer pass has
 
--- with an entry more: where that punches, it is of such a segment
-pub punched_more : (picks : List Picked) (sid : Sid) (during : List Mark) (m : Mark) → ArePunched picks sid during
-    → ((s : Sid) (t : Token) (h : Handle) (offset len : ℕ) (q : DmReply) → m ≡ made Migrate s (PunchHole t h offset len) q → IsPunchOf picks during sid (PunchHole t h offset len)) → ArePunched picks sid (during ++ m ∷ [])
-punched_more picks sid during m punched now first s t h offset len q rest is = by (place during m first (made Migrate s (PunchHole t h offset len) q) rest is)
+pub covered_longer : (during : List Mark) (m : Mark) (sid : Sid) (p : Picked) → IsCoveredIn during sid p → IsCoveredIn (during ++ m ∷ []) sid p
+covered_longer during m sid p (inl told) = inl (told.0, Contains-append_left during (m ∷ []) _ told.1, told.2)
+covered_longer during m sid p (inr set) = inr (Contains-append_left during (m ∷ []) _ set)
+
+pub last_longer : (during : List Mark) (m : Mark) → IsOther m → (s : Sid) (c : DmCall) (a : DmReply) → IsLast Migrate s c a during → IsLast Migrate s c a (during ++ m ∷ [])
+last_longer during m other s c a last = (last.0, last.1 ++ m ∷ [], ap (λ (l : List Mark). l ++ m ∷ []) last.2 ∙ append_assoc last.0 (made Migrate s c a ∷ last.1) (m ∷ []), all_and IsOther last.1 m last.3 other)
+
+pub read_longer : (during : List Mark) (m : Mark) → IsOther m → (sid : Sid) (p : Picked) (bytes : List ℕ) → IsReadAtLast during sid p bytes → IsReadAtLast (during ++ m ∷ []) sid p bytes
+read_longer during m other sid p bytes read = record { covered = covered_longer during m sid p read.covered; read = last_longer during m other sid (read_call p) (reply.Data bytes) read.read; some = read.some }
+
+-- ---- calls of passes
+
+-- with an entry more: where that is a call of a pass, it is within one
+within_more : (limits : Numbers) (marks : List Mark) (m : Mark) → AllWithin limits marks → ((s : Sid) (c : DmCall) (q : DmReply) → m ≡ made Migrate s c q → IsOfPass (Dm s c) → IsWithinPass limits marks (Dm s c)) → AllWithin limits (marks ++ m ∷ [])
+within_more limits marks m within now before s c q rest is of = by (place marks m before (made Migrate s c q) rest is)
   where
-    by : Place during m first (made Migrate s (PunchHole t h offset len) q) rest → IsPunchOf picks first sid (PunchHole t h offset len)
-    by (inl last) = subst (λ (l : List Mark). IsPunchOf picks l sid (PunchHole t h offset len)) (sym last.0) (now s t h offset len q (sym last.1))
-    by (inr within) = punched first s t h offset len q within.0 within.2
-
-pub punched_by_other : (picks : List Picked) (sid : Sid) (during : List Mark) (m : Mark) → IsOther m → ArePunched picks sid during → ArePunched picks sid (during ++ m ∷ [])
-punched_by_other picks sid during m other punched = punched_more picks sid during m punched (λ s t h offset len q is. absurd (other (by_migration m s (PunchHole t h offset len) q is)))
-
--- nothing was, where the daemon did nothing
-pub punched_none : (picks : List Picked) (sid : Sid) (during : List Mark) → AllByRecursion IsOther during → ArePunched picks sid during
-punched_none picks sid during others first s t h offset len q rest is = absurd (all_has IsOther during one (length first) others within at refl)
-  where
-    one : Mark
-    one = made Migrate s (PunchHole t h offset len) q
-
-    within : length first < length during
-    within = let long : length during ≡ length first + length (one ∷ rest) = ap (λ (l : List Mark). length l) is ∙ length-append first (one ∷ rest) in omega (arith, long)
-
-    at : slice_index_or during (length first) one ≡ one
-    at = ap (λ (l : List Mark). slice_index_or l (length first) one) is ∙ get_or-append_seam first one rest one
+    by : Place marks m before (made Migrate s c q) rest → IsWithinPass limits before (Dm s c)
+    by (inl last) = subst (λ (l : List Mark). IsWithinPass limits l (Dm s c)) (sym last.0) (now s c q (sym last.1) of)
+    by (inr later) = within before s c q later.0 later.2 of
 
 -- ---- one pass
 
@@ -206,9 +199,9 @@ module _ (C : Type 0) (limits : Numbers) (sid : Sid) (table : Table) where
   done_longer during m s p (inl has) = inl (Contains-append_left during (m ∷ []) _ has)
   done_longer during m s p (inr skips) = inr (skips.0, skips.1, skips.2, Contains-append_left during (m ∷ []) _ skips.3)
 
-  ended_longer : (during : List Mark) (m : Mark) (s : Sid) (p : Picked) → IsEndedIn limits.volumes C during s p → IsEndedIn limits.volumes C (during ++ m ∷ []) s p
-  ended_longer during m s p (inl ends) = inl (ends.0, ends.1, ends.2, Contains-append_left during (m ∷ []) _ ends.3)
-  ended_longer during m s p (inr ends) = inr ends
+  ended_longer : (during : List Mark) (m : Mark) → IsOther m → (s : Sid) (p : Picked) → IsEndedIn limits.volumes C during s p → IsEndedIn limits.volumes C (during ++ m ∷ []) s p
+  ended_longer during m other s p (inl ends) = inl (ends.0, ends.1, ends.2, last_longer during m other s ends.0 ends.1 ends.3)
+  ended_longer during m other s p (inr ends) = inr (ends.0, read_longer during m other s p ends.0 ends.1, ends.2)
 
   pub passed_longer : (during : List Mark) (m : Mark) → IsOther m → IsPassed C limits sid table during → IsPassed C limits sid table (during ++ m ∷ [])
   passed_longer during m other passed = record {
@@ -216,21 +209,20 @@ module _ (C : Type 0) (limits : Numbers) (sid : Sid) (table : Table) where
     pick = passed.pick;
     at = passed.at;
     done = λ k p below is. done_longer during m sid p (passed.done k p below is);
-    punched = punched_by_other passed.picks sid during m other passed.punched;
     over = over passed.over;
   }
     where
       over : (passed.at ≡ length passed.picks) ⊎ ((p : Picked) × (slice_get passed.picks passed.at ≡ Some p) × IsEndedIn limits.volumes C during sid p)
           → (passed.at ≡ length passed.picks) ⊎ ((p : Picked) × (slice_get passed.picks passed.at ≡ Some p) × IsEndedIn limits.volumes C (during ++ m ∷ []) sid p)
       over (inl all) = inl all
-      over (inr early) = inr (early.0, early.1, ended_longer during m sid early.0 early.2)
+      over (inr early) = inr (early.0, early.1, ended_longer during m other sid early.0 early.2)
 
   passed_as : (E : Type 0) → (C → E) → (during : List Mark) → IsPassed C limits sid table during → IsPassed E limits sid table during
-  passed_as E so during passed = record { picks = passed.picks; pick = passed.pick; at = passed.at; done = passed.done; punched = passed.punched; over = over passed.over }
+  passed_as E so during passed = record { picks = passed.picks; pick = passed.pick; at = passed.at; done = passed.done; over = over passed.over }
     where
       ended : (p : Picked) → IsEndedIn limits.volumes C during sid p → IsEndedIn limits.volumes E during sid p
       ended p (inl ends) = inl ends
-      ended p (inr ends) = inr (so ends)
+      ended p (inr ends) = inr (ends.0, ends.1, so ends.2)
 
       over : (passed.at ≡ length passed.picks) ⊎ ((p : Picked) × (slice_get passed.picks passed.at ≡ Some p) × IsEndedIn limits.volumes C during sid p)
           → (passed.at ≡ length passed.picks) ⊎ ((p : Picked) × (slice_get passed.picks passed.at ≡ Some p) × IsEndedIn limits.volumes E during sid p)
@@ -240,10 +232,16 @@ module _ (C : Type 0) (limits : Numbers) (sid : Sid) (table : Table) where
 -- ---- all passes
 
 pub no_passes : (C : Type 0) (limits : Numbers) → AllPassed C limits []
-no_passes C limits before sid table during rest is = absurd (none_there before (table_told sid table) (during ++ rest) is)
+no_passes C limits = record {
+  within = λ before sid call answer rest is of. absurd (none_there before (made Migrate sid call answer) rest is);
+  over = λ before sid table during rest is of last. absurd (none_there before (table_told sid table) (during ++ rest) is);
+}
 
 pub all_passed_as : (C E : Type 0) (limits : Numbers) (marks : List Mark) → (C → E) → AllPassed C limits marks → AllPassed E limits marks
-all_passed_as C E limits marks so passed before sid table during rest is of over = passed_as C limits sid table E so during (passed before sid table during rest is of over)
+all_passed_as C E limits marks so passed = record {
+  within = passed.within;
+  over = λ before sid table during rest is of last. passed_as C limits sid table E so during (passed.over before sid table during rest is of last);
+}
 
 -- the history is of a pass from that table on
 abbrev pub Opens : List Mark → List Mark → Sid → Table → List Mark → Type 0
@@ -251,11 +249,11 @@ Opens marks before sid table during = marks ≡ before ++ table_told sid table �
 
 module _ (C : Type 0) (limits : Numbers) (marks : List Mark) (m : Mark) (passed : AllPassed C limits marks) where
   -- with an entry more
-  pub all_passed_more :
+  each_passed_more :
       ((before : List Mark) (sid : Sid) (table : Table) (during : List Mark) → Opens marks before sid table during → AreOfPass during → IsBehindPass m → IsPassed C limits sid table during)
       → ((before : List Mark) (sid : Sid) (table : Table) (during : List Mark) → Opens marks before sid table during → AreOfPass (during ++ m ∷ []) → HasLostSession Migrate (during ++ m ∷ []) → IsPassed C limits sid table (during ++ m ∷ []))
-      → AllPassed C limits (marks ++ m ∷ [])
-  all_passed_more behind refused before sid table during rest is of over = by (place marks m before (table_told sid table) (during ++ rest) is)
+      → EachPassed C limits (marks ++ m ∷ [])
+  each_passed_more behind refused before sid table during rest is of over = by (place marks m before (table_told sid table) (during ++ rest) is)
     where
       goes_never : rest ≡ [] → GoesOn rest → ⊥
       goes_never none goes = subst GoesOn none goes
@@ -270,11 +268,11 @@ module _ (C : Type 0) (limits : Numbers) (marks : List Mark) (m : Mark) (passed 
 
       on : (less : List Mark) → Opens marks before sid table (during ++ less) → GoesOn (less ++ m ∷ []) → IsPassed C limits sid table during
       on [] opens goes = behind before sid table during (opens ∙ ap (λ (l : List Mark). before ++ table_told sid table ∷ l) (append-nil during)) of goes
-      on (next ∷ less) opens goes = passed before sid table during (next ∷ less) opens of (inl goes)
+      on (next ∷ less) opens goes = passed.over before sid table during (next ∷ less) opens of (inl goes)
 
       goes_or_refused : (less : List Mark) → rest ≡ less ++ m ∷ [] → Opens marks before sid table (during ++ less) → IsPassOver during rest → IsPassed C limits sid table during
       goes_or_refused less is_rest opens (inl goes) = on less opens (subst GoesOn is_rest goes)
-      goes_or_refused less is_rest opens (inr last) = passed before sid table during less opens of (inr last)
+      goes_or_refused less is_rest opens (inr last) = passed.over before sid table during less opens of (inr last)
 
       within : (more : List Mark) → Opens marks before sid table more → Last during rest more m → IsPassed C limits sid table during
       within more opens (inl last) = ends more opens last over
@@ -284,12 +282,18 @@ module _ (C : Type 0) (limits : Numbers) (marks : List Mark) (m : Mark) (passed 
       by (inl last) = absurd (none_over (both_none during rest (sym last.2)) over)
       by (inr some) = within some.0 some.2 (last_of during rest some.0 m some.1)
 
+  pub all_passed_more : ((s : Sid) (c : DmCall) (q : DmReply) → m ≡ made Migrate s c q → IsOfPass (Dm s c) → IsWithinPass limits marks (Dm s c))
+      → ((before : List Mark) (sid : Sid) (table : Table) (during : List Mark) → Opens marks before sid table during → AreOfPass during → IsBehindPass m → IsPassed C limits sid table during)
+      → ((before : List Mark) (sid : Sid) (table : Table) (during : List Mark) → Opens marks before sid table during → AreOfPass (during ++ m ∷ []) → HasLostSession Migrate (during ++ m ∷ []) → IsPassed C limits sid table (during ++ m ∷ []))
+      → AllPassed C limits (marks ++ m ∷ [])
+  all_passed_more now behind refused = record { within = within_more limits marks m passed.within now; over = each_passed_more behind refused }
+
   -- with one that migration didn't make
   pub all_passed_by_other : IsOther m → AllPassed C limits (marks ++ m ∷ [])
-  all_passed_by_other other = all_passed_more
+  all_passed_by_other other = all_passed_more (λ s c q is of. absurd (other (by_migration m s c q is)))
       (λ before sid table during opens of by. absurd (other (by_migration m by.0 by.1 by.2 by.3)))
       (λ before sid table during opens of refused. passed_longer C limits sid table during m other
-      (passed before sid table during [] (opens ∙ ap (λ (l : List Mark). before ++ table_told sid table ∷ l) (sym (append-nil during))) (of_first during (m ∷ []) of) (inr (refused_before during m other refused))))
+      (passed.over before sid table during [] (opens ∙ ap (λ (l : List Mark). before ++ table_told sid table ∷ l) (sym (append-nil during))) (of_first during (m ∷ []) of) (inr (refused_before during m other refused))))
 
 -- ---- from which table it is of a pass
 

@@ -33,7 +33,7 @@ use Rattle.hsm_replay.specs.Faults.{fault_in, faults_in, IsApart, IsTrue, AreTru
 use Rattle.hsm_replay.specs.Keeping.{IsHeardOf, IsKnownAs, IsShownAs, RecallKnows, MigrateKnows, IsMarked, Shows}
 use Rattle.marked_history.specs.Marks.{Mark, made}
 use Rattle.marked_history.specs.Passing.{AllPassed}
-use Rattle.hsm_replay.specs.Passes.{CopyEnds, PassStands}
+use Rattle.hsm_replay.specs.Passes.{CopyEnds, HearsCopy, PassStands}
 use Rattle.hsm_replay.specs.Sealed.{seal_by, IsStored, HearsLost, HearsStored, NeedsLost, Tallies}
 use Rattle.hsm_replay.specs.Filling.{HearsFull, FindsFull}
 use Rattle.marked_history.specs.Served.{Shown, shown, nothing_shown, MigrateMay}
@@ -232,13 +232,14 @@ module _ {D M : Type 0} (h : drive.Ghosts M) (opened : List M) (marks : List Mar
       }
 
     -- a rest, or what is heard of a copy
-    pub migrate_went : (act : Act) (told : Heard) → IsNoCall act → migrator.GoesOn m.machine m.heard act machine → (drives : List M) → HaveGrown h old.drives drives → HearsStored h drives act told → HearsFull h drives act told → Shows h opened (marks ++ []) (migrate_left old machine told old.store drives)
-    migrate_went act told no_call goes drives grown about about_full = record {
+    pub migrate_went : (act : Act) (told : Heard) → IsNoCall act → HearsCopy act told → migrator.GoesOn m.machine m.heard act machine → (drives : List M) → HaveGrown h old.drives drives → HearsStored h drives act told → HearsFull h drives act told
+        → Shows h opened (marks ++ []) (migrate_left old machine told old.store drives)
+    migrate_went act told no_call copied goes drives grown about about_full = record {
       marked = marked_still h opened marks old (migrate_left old machine told old.store drives) shows.marked refl refl grown;
       recall = subst (λ (ms : List Mark). IfSome old.recall (RecallKnows h (shown old.limits nothing_shown ms).recall drives told_faults)) (sym (append-nil marks)) (still_known_if h before.recall old.drives drives told_faults old.recall grown shows.recall);
       migrate = subst (λ (ms : List Mark). MigrateKnows (shown old.limits nothing_shown ms).migrate (record { machine = machine; heard = told })) (sym (append-nil marks)) (migrate_rests before.migrate m machine knew act told no_call goes);
       lost = subst (λ (ms : List Mark). IfSome old.recall (λ (x : Recalling). HearsLost h opened drives ms x.machine.asked x.heard)) (sym (append-nil marks)) (lost_still_if h opened old.drives drives marks old.recall grown shows.lost);
       stored = subst (λ (a : Act). HearsStored h drives a told) (sym goes.asked) about;
       full = full_on h old.limits old.drives drives m machine act told grown found_then goes about_full;
-      passing = subst (λ (ms : List Mark). PassStands old.limits ms (record { machine = machine; heard = told })) (sym (append-nil marks)) (went_stands old.limits marks m machine stood act told no_call goes);
+      passing = subst (λ (ms : List Mark). PassStands old.limits ms (record { machine = machine; heard = told })) (sym (append-nil marks)) (went_stands old.limits marks m machine stood act told no_call copied goes);
     }

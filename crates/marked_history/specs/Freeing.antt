@@ -24,9 +24,12 @@ freed from to mapped = count_by (λ b. b) (slice_range mapped (16 * from) (16 * 
 abbrev pub punch_done : Sid → Token → Handle → ℕ → ℕ → Entry
 punch_done sid t handle offset len = entry_of (Session sid) (Dm (PunchHole t handle offset len)) (Told Done)
 
--- Each such punch of a run frees just the blocks of its segments that were mapped before it.
-abbrev pub PunchFrees : Superblock → ℕ → Held → List Entry → Type 0
-PunchFrees s base h es = IsRun s base h es
-    → (before : List Entry) (sid : Sid) (t : Token) (handle : Handle) (offset len : ℕ) (rest : List Entry) → es ≡ before ++ punch_done sid t handle offset len ∷ rest
+-- each such punch frees just the blocks of its segments that were mapped before it
+abbrev pub PunchesFree : Superblock → ℕ → Held → List Entry → Type 0
+PunchesFree s base h es = (before : List Entry) (sid : Sid) (t : Token) (handle : Handle) (offset len : ℕ) (rest : List Entry) → es ≡ before ++ punch_done sid t handle offset len ∷ rest
     → used (held_by s base h before).files
     ≡ used (held_by s base h (before ++ punch_done sid t handle offset len ∷ [])).files + freed (punch_from offset) (punch_to offset len) (file_at handle.key (held_by s base h before).files).mapped
+
+-- so it is in each run
+abbrev pub PunchFrees : Superblock → ℕ → Held → List Entry → Type 0
+PunchFrees s base h es = IsRun s base h es → PunchesFree s base h es

@@ -24,7 +24,7 @@ use Rattle.daemon_session.specs.Seats.{Seat, first_id, IsSeated, MayGoOn}
 use Rattle.recall_daemon.specs.Known as recall
 use Rattle.recall_daemon.specs.declared.away.Away.{Away}
 use Rattle.migrate_daemon.specs.Known as migrate
-use Rattle.migrate_daemon.specs.Machine.{IsServed, answer_of}
+use Rattle.migrate_daemon.specs.Machine.{IsServed, NoneServed, answer_of}
 use Rattle.migrate_daemon.specs.Passes.{whole_file}
 use Rattle.marked_history.specs.Marks.{Mark, Exchange, exchange_in}
 
@@ -84,10 +84,10 @@ RecallMay k sid (call.Restore t h segment bytes) = IsSeated k.seat sid × ((hand
 RecallMay k sid (call.Respond t response) = IsSeated k.seat sid × ((hand : recall.Hand) × (k.hand ≡ Some hand) × (hand.token ≡ t) × IsReason k.seat.kept hand response)
 RecallMay k sid other = MayCome Recall k.seat sid other
 
--- It answers an event after a pass that began when it had the event's message, by what that pass has punched.
+-- It answers an event after a pass that began when it had the event's message, by what that pass has punched, and begins no other before.
 abbrev pub MigrateMay : migrate.Known → Sid → DmCall → Type 0
 MigrateMay k sid call.GetSpace = IsSeated k.seat sid
-MigrateMay k sid call.GetTable = IsSeated k.seat sid
+MigrateMay k sid call.GetTable = IsSeated k.seat sid × NoneServed k.seat.kept
 MigrateMay k sid (call.GetEvents most room) = IsSeated k.seat sid × (most ≡ 0) × (room ≡ 65536)
 MigrateMay k sid (call.GetRegion t h) = IsSeated k.seat sid × (t ≡ no_token)
 MigrateMay k sid (call.SetRegion t h regions) = IsSeated k.seat sid × (t ≡ no_token) × (regions ≡ whole_file)

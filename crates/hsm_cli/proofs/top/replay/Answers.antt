@@ -6,15 +6,19 @@ use Rattle.hsm_cli.specs.Sealing.{IsRightInMemory}
 use Rattle.hsm_cli.specs.Told.{source_told}
 use Rattle.hsm_cli.proofs.Faults.{none_failed}
 use Rattle.hsm_cli.proofs.Legality.{good_new, good_unopened}
-use Rattle.hsm_cli.proofs.Scripted.{settles_new}
+use Rattle.hsm_cli.proofs.Scripted.{settles_new, also_well}
 use Rattle.hsm_cli.proofs.Sealing.{right_run}
 use Rattle.hsm_cli.proofs.top.replay.Goals as goal
 
 pub returns-in-Ok-clause-script : goal.returns-in-Ok-clause-script
 returns-in-Ok-clause-script g c =
-    settles_new g.row.D.Denot c.in-Ok.hsm.opened (λ so. HasRun so IsRightInMemory false (source_told g.I.Source.left g.I.Source.fault_count c.args.source.now c.serve-served.new.source) c.serve-served.result.cause c.serve-served.result.history) c.in-Ok.ensures.empty.0 c.in-Ok.ensures.empty.1 c.in-Ok.ensures.empty.2
-    (right_run (SettlesOn (Some c.in-Ok.hsm.opened)) _ (λ ds. ds.items) c.serve-served.result.drives.items c.new_drives-drives.result false (source_told g.I.Source.left g.I.Source.fault_count c.args.source.now c.serve-served.new.source) c.serve-served.result.cause c.serve-served.result.history
-    c.seals_are_whole.ensures refl (λ d v there. has_gives d v there) c.new_drives-drives.ensures.why c.serve-served.ensures.unready c.serve-served.ensures.idle c.serve-served.ensures.script)
+    let source = source_told g.I.Source.left g.I.Source.fault_count c.args.source.now c.serve-served.new.source in
+    let cause = c.serve-served.result.cause in
+    let history = c.serve-served.result.history in
+    settles_new g.row.D.Denot c.in-Ok.hsm.opened (λ so well. HasRun so (λ marks. well marks × IsRightInMemory marks) false source cause history) c.in-Ok.ensures.empty.0 c.in-Ok.ensures.empty.1 c.in-Ok.ensures.empty.2
+    (also_well (Some c.in-Ok.hsm.opened) (SettlesOn (Some c.in-Ok.hsm.opened)) IsRightInMemory false source cause history c.serve-served.ensures.well
+    (right_run (SettlesOn (Some c.in-Ok.hsm.opened)) _ (λ ds. ds.items) c.serve-served.result.drives.items c.new_drives-drives.result false source cause history
+    c.seals_are_whole.ensures refl (λ d v there. has_gives d v there) c.new_drives-drives.ensures.why c.serve-served.ensures.unready c.serve-served.ensures.idle c.serve-served.ensures.script))
 
 pub returns-in-Ok-clause-legality : goal.returns-in-Ok-clause-legality
 returns-in-Ok-clause-legality g c = good_new c.in-Ok.hsm.opened c.serve-served.result.history c.in-Ok.ensures.empty.0 c.in-Ok.ensures.empty.1 c.in-Ok.ensures.empty.2 c.serve-served.ensures.legality

@@ -7,7 +7,7 @@ use Rattle.hsm_cli.specs.Told.{source_told, sink_told, host_told}
 use Rattle.hsm_cli.proofs.Crashes.{crash_safe, why_unopened}
 use Rattle.hsm_cli.proofs.Legality.{legal_as}
 use Rattle.hsm_cli.proofs.Drives.{rose_from, gives_back, none_at_fault, host_failed, why_served, disk_came, drives_came, tallies_since}
-use Rattle.hsm_cli.proofs.Scripted.{ran_with}
+use Rattle.hsm_cli.proofs.Scripted.{also_well, ran_with}
 use Rattle.hsm_cli.proofs.Sealing.{right_since}
 use Rattle.hsm_cli.proofs.top.replay_store.Given.{Over}
 use Rattle.hsm_cli.proofs.top.replay_store.Goals.{After-serve-served}
@@ -35,12 +35,14 @@ returns-in-Err-open-clause-legality g c = legal_as g.H.Disk.Disk c.unopened-in-E
 
 pub returns-in-Ok-open-clause-script : goal.returns-in-Ok-open-clause-script
 returns-in-Ok-open-clause-script g c =
+    let source = source_told g.I.Source.left g.I.Source.fault_count c.args.source.now c.serve-served.new.source in
+    let right = IsRightInFolder g.H.Drive.Drive (g.H.Host.stores c.args.host.now c.args.dir.now) c.serve-served.result.drives.items in
     rw (c.from-in-Ok-open.ensures, c.serve-served.ensures.opening)
-    (ran_with (SettlesOn (Some c.in-Ok-open.hsm.opened)) (λ ds marks. TellsOf g.H.Drive.Drive ds.items c.serve-served.result.drives.items marks) (IsRightInFolder g.H.Drive.Drive (g.H.Host.stores c.args.host.now c.args.dir.now) c.serve-served.result.drives.items) c.ask_for_drives-drives.result true
-    (source_told g.I.Source.left g.I.Source.fault_count c.args.source.now c.serve-served.new.source) c.serve-served.result.cause c.serve-served.result.history
+    (also_well (Some c.in-Ok-open.hsm.opened) (SettlesOn (Some c.in-Ok-open.hsm.opened)) right true source c.serve-served.result.cause c.serve-served.result.history c.serve-served.ensures.well
+    (ran_with (SettlesOn (Some c.in-Ok-open.hsm.opened)) (λ ds marks. TellsOf g.H.Drive.Drive ds.items c.serve-served.result.drives.items marks) right c.ask_for_drives-drives.result true source c.serve-served.result.cause c.serve-served.result.history
     (right_since g.H.Drive.Drive (g.H.Host.stores c.args.host.now c.args.dir.now) (λ ds. ds.items) c.ask_for_drives-drives.result c.serve-served.result.drives.items
     (tallies_since g.H.Drive.Drive (g.H.Host.stores c.args.host.now c.args.dir.now) (g.H.Host.stores c.disk.new.self c.args.dir.now) (c.disk.ensures.folders c.args.dir.now) c.in-Ok-open.hsm.opened (λ ds. ds.items) c.ask_for_drives-drives.result c.serve-served.result.drives.items c.ask_for_drives-drives.ensures.given))
-    c.ask_for_drives-drives.ensures.ready c.serve-served.ensures.unready c.serve-served.ensures.idle c.serve-served.ensures.script)
+    c.ask_for_drives-drives.ensures.ready c.serve-served.ensures.unready c.serve-served.ensures.idle c.serve-served.ensures.script))
 
 -- the drives, and what the host has left
 
