@@ -67,11 +67,11 @@ impl MetaStore {
         let Ok(()) = sync_all(disk) else {
             return Err(OpenRefusal::Disk);
         };
-        MetaStore::read_in(alloc, disk)
+        MetaStore::inspect(alloc, disk)
     }
 
-    /// Reads what a disk holds.
-    fn read_in<D: Disk>(alloc: Global, disk: &mut D) -> Result<MetaStore, OpenRefusal>
+    /// Reads what a disk holds, as `open` does, without a sync: what reads gave need not be durable.
+    pub fn inspect<D: Disk>(alloc: Global, disk: &mut D) -> Result<MetaStore, OpenRefusal>
         ensures keeps { Keeps D.Disk disk.old disk.new Same }
         ensures given { Alike (D.gives disk.old) (D.gives disk.new) }
         ensures length { IfOk result (λ m. D.length_of disk.old ≡ (layout_of m.durable.geometry).whole) }

@@ -10,7 +10,7 @@ use hsm_types::Bytes;
 use std::alloc::{AllocError, Global};
 
 /// The most bytes that a number and a seed may stand for.
-const PATTERN_BYTES: u64 = 131072;
+pub const PATTERN_BYTES: u64 = 131072;
 
 /// The greatest seed.
 const GREATEST_SEED: u64 = 255;
@@ -134,8 +134,8 @@ fn pattern_of(text: &[u8]) -> Option<Pattern>
     Some(Pattern { len, seed })
 }
 
-/// The bytes of a pattern.
-fn pattern_bytes(alloc: Global, len: u64, seed: u8) -> Result<Bytes, AllocError>
+/// The bytes that their number and a seed stand for.
+pub fn pattern_bytes(alloc: Global, len: u64, seed: u8) -> Result<Bytes, AllocError>
     requires { len ≤ PATTERN_BYTES }
     ensures { IfOk result (λ bytes. bytes ≡ pattern len seed) }
 {

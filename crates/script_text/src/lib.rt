@@ -21,9 +21,11 @@ mod rights;
 mod streams;
 mod words;
 
+pub use bodies::{PATTERN_BYTES, pattern_bytes};
 pub use laws::{one_script, printed_is_read};
 pub use lines::{Line, Script};
 pub use memory::{MemorySink, MemorySource};
 pub use parser::{ParseRefusal, parse};
 pub use printing::print;
 pub use streams::{Failed, Sink, Source};
+pub use words::number;

@@ -3,7 +3,7 @@ use Rattle.std.specs.Prelude.{Err}
 use Rattle.disk_model.proofs.Steps.{sames_on}
 use Rattle.meta_store.specs.declared.snapshot.ReadRefusal.{ReadRefusal}
 use Rattle.meta_store.proofs.OpenedImages.{err_on, place_is, gate_fits, snapshot_corrupt, gate_corrupt, image_found}
-use Rattle.meta_store.proofs.store.MetaStore.read_in.Goals as goal
+use Rattle.meta_store.proofs.store.MetaStore.inspect.Goals as goal
 
 pub returns-in-Err-clause-not_store : goal.returns-in-Err-clause-not_store
 returns-in-Err-clause-not_store g c = λ is. c.in-Err.ensures.not_store (err_on is)
