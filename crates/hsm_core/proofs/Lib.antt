@@ -19,3 +19,4 @@ pub mod Safety
 pub mod Events
 pub mod Readiness
 pub mod Sending
+pub mod Summaries

@@ -8,3 +8,4 @@ pub mod Outcomes
 pub mod Answers
 pub mod Ready
 pub mod Kept
+pub mod Summaries

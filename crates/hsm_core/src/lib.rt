@@ -2,6 +2,7 @@
 #![tactic(auto)]
 
 mod answering;
+mod inspecting;
 mod judging;
 mod lookups;
 mod needs;
@@ -13,5 +14,7 @@ mod services;
 mod stamps;
 mod store;
 mod threads;
+mod totals;
 
+pub use inspecting::inspect;
 pub use store::{Hsm, Ready};

@@ -32,6 +32,7 @@ use indexmap::IndexMap;
 use replies::refused;
 use scope::judge_scope;
 use std::alloc::{AllocError, Global};
+pub(crate) use tables::table_of;
 
 /// Answers a session's call. The number is that of the last entry before it.
 pub(crate) fn serve<D: Disk>(

@@ -13,6 +13,7 @@ ghost use Rattle.hsm_types.specs.Messages.{no_token};
 ghost use Rattle.hsm_types.specs.Rights.{conflict};
 ghost use Rattle.plain_model.specs.Accesses.{need_of};
 ghost use Rattle.plain_model.specs.Keyed.{find_key};
+ghost use Rattle.plain_model.specs.State.{used};
 ghost use Rattle.dm_service.specs.Handing.{HandsOut};
 ghost use Rattle.dm_service.specs.Services.{entries_for, is_due, wants_entry_alone};
 ghost use Rattle.dm_service.specs.Tables.{AreNew, waiting};
@@ -22,12 +23,14 @@ ghost use Rattle.hsm_core.specs.Kept.{IsKept};
 ghost use Rattle.hsm_core.specs.Outcomes.{is_aborted, is_fresh, IfAborted};
 ghost use Rattle.hsm_core.specs.Store.{KeepsRoom};
 ghost use Rattle.hsm_core.specs.Ready.{blocked_by, ready, told_ready};
+ghost use Rattle.hsm_core.specs.Summaries.{offline_of};
 
 use crate::answering::{answer, answer_again};
 use crate::lookups::is_live;
 use crate::performing::commit;
 use crate::services::serve;
 use crate::stamps::make_room;
+use crate::totals::offline_of;
 use commit_slots::CommitSlots;
 use disk_model::{Disk, Failed, OpenRefusal};
 use dm_service::{Access, DmService};
@@ -491,6 +494,16 @@ impl<D: Disk> Hsm<D> {
     {
         run_is_good();
         self.history.as_slice()
+    }
+
+    /// How many blocks are used, and how many segments are offline. It is no event, and takes no memory. It costs a step for each file and each stub
+    /// entry.
+    pub fn totals(&self) -> (u64, u64)
+        ensures used { result.0 ≡ used self.now.files.held.files }
+        ensures offline { result.1 ≡ offline_of self.now.files.held.files }
+    {
+        let catalog = self.files.meta().catalog();
+        (catalog.used(), offline_of(catalog))
     }
 
     /// Ends the store, and hands out its disk, its history and the store as it was opened. What wasn't made durable is lost.

@@ -6,6 +6,8 @@ mod answers;
 #[cfg(test)]
 mod disks;
 #[cfg(test)]
+mod drills;
+#[cfg(test)]
 mod entering;
 #[cfg(test)]
 mod folders;
@@ -31,3 +33,5 @@ mod sessions;
 mod shelf;
 #[cfg(test)]
 mod streams;
+#[cfg(test)]
+mod summaries;

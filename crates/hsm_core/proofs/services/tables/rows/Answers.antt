@@ -1,31 +1,24 @@
-use Rattle.std.proofs.Common.{◌≡◌, ℕ, List, Option, refl, sym, ◌∙◌, ap, subst}
+use Rattle.std.proofs.Common.{ℕ, List, Option, refl, sym, subst}
 use Rattle.hsm_types.specs.declared.keys.FileKey.{FileKey}
 use Rattle.hsm_types.specs.declared.stores.Superblock.{Superblock}
 use Rattle.hsm_types.specs.declared.tables.FileRow.{FileRow}
 use Rattle.plain_model.specs.Segments.{row_of}
-use Rattle.meta_store.specs.Catalogs.{Catalog, CatalogFile}
+use Rattle.meta_store.specs.Catalogs.{CatalogFile}
 use Rattle.meta_store.specs.InMemory.{file_of}
-use Rattle.meta_store.specs.Meta.{Meta}
-use Rattle.file_store.specs.Stores.{Shows, superblock_of}
 use Rattle.hsm_core.specs.Services.{IsMadeOf}
 use Rattle.hsm_core.specs.Stamps.{stamp_in}
 use Rattle.hsm_core.proofs.Told.{made_of_row, row_at, row_more, row_same}
 use Rattle.hsm_core.proofs.services.tables.rows.Goals as goal
 
 pub loop-index-preserved : goal.loop-index-preserved
-loop-index-preserved g c =
-    let held = c.args.files.now.held in
-    let super : Superblock = superblock_of c.args.files.now in
-    let catalog : Catalog = c.catalog-catalog.result.now in
-    let shows : Shows catalog held = subst (λ (x : Catalog). Shows x held) (sym (c.catalog-catalog.ensures.catalog ∙ ap (λ (m : Meta). m.current) c.meta.ensures.meta)) c.meta.ensures.shows in
+loop-index-preserved c = λ held shown.
+    let super : Superblock = c.args.superblock in
     let stamps : FileKey → ℕ = stamp_in c.args.stamps.now.entries in
     let lent = c.unwrap-size.result in
     let row : FileRow = record { handle = c.make.result; size = lent.2; stamp = c.stamp.result; segments = c.in_ok-segments_of.field-0 } in
     let file : CatalogFile = file_of lent.0 lent.1.now lent.2 lent.3.now in
-    let found = row_at catalog.files held.files c.loop-index.index file shows.rows (sym (rw c.unwrap-size.ensures at c.file.ensures)) in
+    let found = row_at c.args.catalog.now.files held.files c.loop-index.index file shown.rows (sym (rw c.unwrap-size.ensures at c.file.ensures)) in
     let made = made_of_row file found.0 found.1 in
     let told = c.in_ok-segments_of.ensures found.0 (subst (λ (ps : List (Option ℕ)). IsMadeOf lent.2 ps c.stubs.result.now found.0) (sym c.places.ensures) (rw (c.stubs.ensures) made)) in
-    let fsid : c.superblock-fsid.result.fsid ≡ super.fsid = ap (λ (s : Superblock). s.fsid) c.superblock-fsid.ensures.superblock in
-    let handle : c.make.result ≡ record { fsid = super.fsid; key = lent.0 } = c.make.ensures ∙ (λ i. record { fsid = fsid i; key = lent.0 }) in
-    row_more (row_of super stamps) held.files c.loop-index.index found.0 c.loop-index.rows.items c.push.new.self.items row c.in_ok-push.ensures.items c.loop-index.invariant
-    (row_same super stamps file found.0 row found.1 handle refl c.stamp.ensures told) found.2
+    row_more (row_of super stamps) held.files c.loop-index.index found.0 c.loop-index.rows.items c.push.new.self.items row c.in_ok-push.ensures.items (c.loop-index.invariant held shown)
+    (row_same super stamps file found.0 row found.1 c.make.ensures refl c.stamp.ensures told) found.2

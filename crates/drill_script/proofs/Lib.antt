@@ -1,0 +1,4 @@
+mod Lawful
+mod Telling
+mod Turning
+mod Values

@@ -1,0 +1,4 @@
+pub mod Drives
+pub mod Found
+pub mod Sums
+pub mod Walked
