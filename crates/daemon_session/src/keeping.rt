@@ -1,4 +1,4 @@
-// The events that a daemon keeps, as a list.
+//! The events that a daemon keeps, as a list.
 ghost use Rattle.std.specs.Prelude.{◌≡◌, ◌++◌, IfOk, OnOk, OnErr};
 ghost use Rattle.event_msgs.specs.Views.{seen};
 ghost use Rattle.daemon_session.specs.Tellings.{events_in};

@@ -1,4 +1,4 @@
-// A daemon's steps on its way to a session.
+//! A daemon's steps on its way to a session.
 ghost use Rattle.std.specs.Prelude.{◌≡◌, List, drop, IfOk, OnErr};
 ghost use Rattle.hsm_types.specs.declared.keys.Sid.{Sid};
 ghost use Rattle.hsm_types.specs.declared.keys.Token.{Token};

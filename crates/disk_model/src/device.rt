@@ -1,4 +1,4 @@
-// A disk: what a read gives, and what a crash may leave.
+//! A disk: what a read gives, and what a crash may leave.
 ghost use Rattle.std.specs.Prelude.{◌≡◌, ◌+◌, ◌≤◌, ℕ, List, length, OnOk};
 ghost use Rattle.disk_model.specs.Images.{part, IsFreed, IsWritten, Follows, Within, Alike};
 ghost use Rattle.disk_model.specs.Calls.{Elapses, HasCause};

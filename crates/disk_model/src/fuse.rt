@@ -1,4 +1,4 @@
-// A disk behind a fuse: it passes so many calls on, and fails each one after.
+//! A disk behind a fuse: it passes so many calls on, and fails each one after.
 ghost use Rattle.std.specs.Prelude.{◌≡◌, Some, None, OnOk, IsErr};
 ghost use Rattle.disk_model.specs.Calls.{HasCause, raised};
 ghost use Rattle.disk_model.specs.Fuse.{burnt};

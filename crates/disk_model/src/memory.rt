@@ -1,4 +1,4 @@
-// A disk in memory, which fails at chosen calls, keeps a record of all, and tells what a crash may leave.
+//! A disk in memory, which fails at chosen calls, keeps a record of all, and tells what a crash may leave.
 ghost use Rattle.std.specs.Prelude.{◌≡◌, ◌↔◌, [], All, Any, Contains, IsTrue, IfOk, count_by};
 ghost use Rattle.disk_model.specs.Medium.{medium_of, IsGiven, MayLeave};
 ghost use Rattle.disk_model.specs.Images.{Within};

@@ -1,4 +1,4 @@
-// A disk in memory that never fails. It tells what a read gives, and tells no crash images.
+//! A disk in memory that never fails. It tells what a read gives, and tells no crash images.
 ghost use Rattle.std.specs.Prelude.{◌≡◌};
 
 use crate::bytes::overwrite;

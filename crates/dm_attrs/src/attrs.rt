@@ -57,7 +57,7 @@ impl DmAttrs {
         ensures refused { IfErr result (λ why. MatchOption (setting_refusal name value others limit self.old) (why ≡ Memory) (λ cause. why ≡ cause)) }
         ensures err { OnErr result (self.new ≡ self.old) }
     {
-        let after = self.judge(name, &value, others, limit)?;
+        let after = self.check_attribute(name, &value, others, limit)?;
         let _old = self
             .by_name
             .insert(name, value)
@@ -67,7 +67,7 @@ impl DmAttrs {
     }
 
     /// What the attributes count once that one is set, or what refuses to set it. It takes no memory.
-    fn judge(
+    fn check_attribute(
         &self,
         name: AttrName,
         value: &Bytes,

@@ -18,7 +18,7 @@ pub(crate) fn create(
 ) -> Result<(DmReply, DmReply), AllocError>
     ensures { (sid : Sid) → IsTold sessions.old sid (CreateSession old info.now) (own_refusal sessions.old sid (CreateSession old info.now)) result sessions.new }
 {
-    if let Err(why) = sessions.judge(old, info) {
+    if let Err(why) = sessions.judge_creation(old, info) {
         return Ok(refused(why));
     }
     match sessions.create(old, info.clone()?) {

@@ -57,7 +57,7 @@ impl Sessions {
         ensures refused { IfErr result (λ why. MatchOption (creation_refusal old info self.old) (why ≡ Memory) (λ cause. why ≡ cause)) }
         ensures err { OnErr result (self.new ≡ self.old) }
     {
-        self.judge(old, &info)?;
+        self.judge_creation(old, &info)?;
         let next = self.given.checked_add(1).ok_or(DmRefusal::Memory)?;
         self.live.reserve(1).map_err(|_| DmRefusal::Memory)?;
         let alloc = *self.live.allocator();
@@ -71,7 +71,7 @@ impl Sessions {
     }
 
     /// What refuses the creation of a session, if anything does. It takes no memory.
-    pub fn judge(&self, old: Sid, info: &Word) -> Result<(), DmRefusal>
+    pub fn judge_creation(&self, old: Sid, info: &Word) -> Result<(), DmRefusal>
         ensures { MatchResult result (λ _. creation_refusal old info.now self.now ≡ None) (λ why. creation_refusal old info.now self.now ≡ Some why) }
     {
         if old.0 != 0 && !self.live.contains_key(&old) {

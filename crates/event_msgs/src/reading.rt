@@ -1,4 +1,4 @@
-// Reading a message from the front of some bytes.
+//! Reading a message from the front of some bytes.
 ghost use Rattle.std.specs.Prelude.{◌≡◌, ◌<◌, ◌≤◌, ◌^◌, length};
 ghost use Rattle.std.specs.Option.{option_map};
 ghost use Rattle.event_msgs.specs.Reading.{kind_of, header_at, next_before, is_zeros, holds_message, frame_at, is_payload, own_message, access_message, message_of, message_at};

@@ -1,4 +1,4 @@
-// Writing the bytes of messages.
+//! Writing the bytes of messages.
 ghost use Rattle.std.specs.Prelude.{◌≡◌, ◌≢◌, ◌≤◌, ◌<◌, ◌^◌, [], ◌∷◌, ◌++◌, All, IfSome, IfOk, OnOk};
 ghost use Rattle.byteorder.specs.Endian.{big_bytes};
 ghost use Rattle.hsm_types.specs.Handles.{handle_bytes, IsHandle};

@@ -1,4 +1,4 @@
-// What changes the files of a store: each event is records, blocks that they take and free, and bytes.
+//! What changes the files of a store: each event is records, blocks that they take and free, and bytes.
 ghost use Rattle.std.specs.Prelude.{◌≡◌, ◌≢◌, ◌+◌, ◌*◌, ◌<◌, ◌≤◌, [], ◌∷◌, min, true, false, None, Some, Err, length, OnOk, IfOk, IfSome, IsErrOf, IsSome};
 ghost use Rattle.hsm_types.specs.Names.{is_name};
 ghost use Rattle.hsm_types.specs.Regions.{regions_refusal};
@@ -17,10 +17,11 @@ ghost use Rattle.plain_model.specs.Services.{kept_of, other_attributes, other_st
 ghost use Rattle.meta_store.specs.Catalogs.{geometry_of};
 ghost use Rattle.file_store.specs.Stores.{superblock_of, Proceeds, TellsFaults};
 
+use crate::punches;
 use crate::refusal::StoreRefusal;
 use crate::rewrites::Rewrite;
+use crate::seals::check_seal;
 use crate::store::FileStore;
-use crate::{punches, seals};
 use disk_model::Disk;
 use hsm_types::{
     AttrName, Bytes, DmRefusal, FileKey, Regions, Stub, StubEntry, Verified, Word, segments_in,
@@ -222,7 +223,7 @@ impl<D: Disk> FileStore<D> {
             entry,
             offline: false,
         });
-        seals::judge(self.meta.catalog(), key, segment)?;
+        check_seal(self.meta.catalog(), key, segment)?;
         self.record(alloc, key, Record::Stub { ino, segment, stub }, number)
     }
 

@@ -1,4 +1,4 @@
-// Reading the bodies of a store that was just opened.
+//! Reading the bodies of a store that was just opened.
 ghost use Rattle.std.specs.Prelude.{◌≡◌, ◌+◌, ◌-◌, ◌*◌, ◌/◌, ◌%◌, ◌<◌, ◌≤◌, ◌==◌, ◌++◌, if◌then◌else◌, List, ℕ, None, true, min, length, take, get_or, replicate, IfOk, OnOk, IsErrOf};
 ghost use Rattle.std.specs.List.{AllByRecursion};
 ghost use Rattle.plain_model.specs.Plain.{written};

@@ -1,4 +1,4 @@
-// Opening what a crash may have left.
+//! Opening what a crash may have left.
 ghost use Rattle.std.specs.Prelude.{◌≡◌, List, ℕ, length, IfOk, IfErr, IsErrOf};
 ghost use Rattle.disk_model.specs.Calls.{Counts};
 ghost use Rattle.disk_model.specs.Moments.{MayBe};

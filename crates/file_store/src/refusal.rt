@@ -1,4 +1,4 @@
-// Why a call wasn't done.
+//! Why a call wasn't done.
 ghost use Rattle.std.specs.Prelude.{◌≡◌};
 ghost use Rattle.file_store.specs.Refusals.{refused_as, refused_part, no_memory};
 

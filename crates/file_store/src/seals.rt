@@ -8,7 +8,7 @@ use hsm_types::{DmRefusal, FileKey};
 use meta_store::Catalog;
 
 /// A segment of a live file can't be sealed whose bytes are away.
-pub(crate) fn judge(catalog: &Catalog, key: FileKey, segment: u32) -> Result<(), DmRefusal>
+pub(crate) fn check_seal(catalog: &Catalog, key: FileKey, segment: u32) -> Result<(), DmRefusal>
     requires { IsSome (find_key (λ f. f.key) key catalog.now.files) }
     ensures { MatchResult result (λ _. already_offline segment (stub_at segment (kept_at key catalog.now).stubs) ≡ None) (λ why. already_offline segment (stub_at segment (kept_at key catalog.now).stubs) ≡ Some why) }
 {

@@ -1,4 +1,4 @@
-// A store of files on its disk.
+//! A store of files on its disk.
 ghost use Rattle.std.specs.Prelude.{◌≡◌, true, false, List, ℕ, length, ◌+◌, ◌*◌, ◌<◌, ◌≤◌, IfOk, IfErr, IfSome, OnOk, IsErrOf, IsSome};
 ghost use Rattle.disk_model.specs.Calls.{Counts};
 ghost use Rattle.disk_model.specs.Images.{Alike};

@@ -1,4 +1,4 @@
-// Blocks of bodies, written to the disk.
+//! Blocks of bodies, written to the disk.
 ghost use Rattle.std.specs.Prelude.{◌≡◌, ◌+◌, ◌*◌, ◌^◌, ◌<◌, ◌≤◌, length, OnOk};
 ghost use Rattle.std.specs.List.{AllByRecursion};
 ghost use Rattle.disk_model.specs.Calls.{HasCause};

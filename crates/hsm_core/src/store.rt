@@ -242,15 +242,15 @@ fn note(history: &mut Vec<Entry>, actor: Actor, action: Action, answer: Answer)
         .unwrap();
 }
 
-/// Keeps a caller's event, or the store's, in the history, which has room for it, and answers it. Nothing is kept of one that lacked memory.
-fn keep(
+/// Records a caller's event, or the store's, in the history, which has room for it, and answers it. Nothing is recorded of one that lacked memory.
+fn record_event(
     history: &mut Vec<Entry>,
     actor: Actor,
     action: Action,
     done: Result<(Reply, Reply), StoreRefusal>,
 ) -> Reply
     requires { vec_len history.old < vec_capacity history.old }
-    ensures kept { IfOk done (λ r. (result ≡ r.0) × (history.new.items ≡ history.old.items ++ entry_of actor action (Answer.Call r.1) ∷ [])) }
+    ensures recorded { IfOk done (λ r. (result ≡ r.0) × (history.new.items ≡ history.old.items ++ entry_of actor action (Answer.Call r.1) ∷ [])) }
     ensures room { vec_capacity history.old ≤ vec_capacity history.new }
     ensures memory { IsErrOf done StoreRefusal.Memory → (result ≡ Reply.Refused CallRefusal.Memory) × (history.new.items ≡ history.old.items) }
     ensures failed { IsErrOf done StoreRefusal.Disk → (result ≡ Reply.Refused CallRefusal.Disk) × (history.new.items ≡ history.old.items ++ entry_of actor action (Answer.Call (Reply.Refused CallRefusal.Disk)) ∷ []) }
@@ -267,15 +267,15 @@ fn keep(
     reply
 }
 
-/// Keeps a session's call in the history, which has room for it, and answers it. Nothing is kept of one that lacked memory.
-fn keep_dm(
+/// Records a session's call in the history, which has room for it, and answers it. Nothing is recorded of one that lacked memory.
+fn record_dm(
     history: &mut Vec<Entry>,
     sid: Sid,
     call: DmCall,
     done: Result<(DmReply, DmReply), StoreRefusal>,
 ) -> DmReply
     requires { vec_len history.old < vec_capacity history.old }
-    ensures kept { IfOk done (λ r. (result ≡ r.0) × (history.new.items ≡ history.old.items ++ entry_of (Actor.Session sid) (Action.Dm call) (Answer.Dm r.1) ∷ [])) }
+    ensures recorded { IfOk done (λ r. (result ≡ r.0) × (history.new.items ≡ history.old.items ++ entry_of (Actor.Session sid) (Action.Dm call) (Answer.Dm r.1) ∷ [])) }
     ensures room { vec_capacity history.old ≤ vec_capacity history.new }
     ensures memory { IsErrOf done StoreRefusal.Memory → (result ≡ DmReply.Refused DmRefusal.Memory) × (history.new.items ≡ history.old.items) }
     ensures failed { IsErrOf done StoreRefusal.Disk → (result ≡ DmReply.Refused DmRefusal.Disk) × (history.new.items ≡ history.old.items ++ entry_of (Actor.Session sid) (Action.Dm call) (Answer.Dm (DmReply.Refused DmRefusal.Disk)) ∷ []) }
@@ -372,7 +372,7 @@ impl<D: Disk> Hsm<D> {
             &access,
             number,
         );
-        keep(
+        record_event(
             &mut self.history,
             Actor::Caller(caller),
             Action::Issue(access.call),
@@ -410,7 +410,7 @@ impl<D: Disk> Hsm<D> {
             number,
         );
         let actor = Actor::Caller(caller);
-        keep(&mut self.history, actor, Action::Resume, done)
+        record_event(&mut self.history, actor, Action::Resume, done)
     }
 
     /// What a resume of the caller would come to now. It is no event, and takes no memory.
@@ -450,10 +450,10 @@ impl<D: Disk> Hsm<D> {
             &call,
             number,
         );
-        keep_dm(&mut self.history, sid, call, done)
+        record_dm(&mut self.history, sid, call, done)
     }
 
-    /// Makes durable all that is held, and keeps that in the history. It is refused as calls are.
+    /// Makes durable all that is held, and records that in the history. It is refused as calls are.
     pub fn commit(&mut self, alloc: Global) -> Reply
         ensures committed { IsCommitted D.Disk self.old result self.new }
         ensures safe { IsSafeNow D.Disk self.new }
@@ -466,7 +466,7 @@ impl<D: Disk> Hsm<D> {
         }
         let number = self.base + self.history.len() as u64;
         let done = commit(&mut self.files, alloc, number);
-        keep(&mut self.history, Actor::Store, Action::Commit, done)
+        record_event(&mut self.history, Actor::Store, Action::Commit, done)
     }
 
     /// Makes room in the history for `n` entries beside those that are set apart for the responses and the resumes that may come. It is no event, and

@@ -1,4 +1,4 @@
-// Lines of scripts, run on a store with its drives and its daemons.
+//! Lines of scripts, run on a store with its drives and its daemons.
 ghost use Rattle.std.specs.Prelude.{◌≡◌, ℕ, Option, OnOk};
 ghost use Rattle.script_text.specs.Lines.{IsLine, IsEvent};
 ghost use Rattle.script_text.specs.declared.lines.Line.TheVariants.{Event};

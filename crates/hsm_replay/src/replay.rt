@@ -136,7 +136,7 @@ impl<D: Disk, M: Drive> Replay<D, M> {
         };
         let act = recalling.next()?;
         let heard = self.act(alloc, act)?;
-        self.keep_recall(heard);
+        self.tell_recall(heard);
         Ok(())
     }
 
@@ -149,12 +149,12 @@ impl<D: Disk, M: Drive> Replay<D, M> {
         };
         let act = migrating.next()?;
         let heard = self.act(alloc, act)?;
-        self.keep_migrate(heard);
+        self.tell_migrate(heard);
         Ok(())
     }
 
-    /// Keeps what recall hears next.
-    fn keep_recall(&mut self, heard: Heard)
+    /// Tells recall what it hears next.
+    fn tell_recall(&mut self, heard: Heard)
         ensures { self.new ≡ hearing Daemon.Recall heard self.old }
     {
         if let Some(recalling) = &mut self.recall {
@@ -162,8 +162,8 @@ impl<D: Disk, M: Drive> Replay<D, M> {
         }
     }
 
-    /// Keeps what migration hears next.
-    fn keep_migrate(&mut self, heard: Heard)
+    /// Tells migration what it hears next.
+    fn tell_migrate(&mut self, heard: Heard)
         requires { IsWithin heard }
         ensures { self.new ≡ hearing Daemon.Migrate heard self.old }
     {

@@ -1,4 +1,4 @@
-// Settling: the daemons and the callers whose accesses may go on do so in turns, until all that is left is quiet.
+//! Settling: the daemons and the callers whose accesses may go on do so in turns, until all that is left is quiet.
 ghost use Rattle.std.specs.Prelude.{◌≡◌, ◌≤◌, length, drop, true, IfOk, OnOk};
 ghost use Rattle.std.specs.List.{AllByRecursion, list_all};
 ghost use Rattle.hsm_types.specs.Callers.{IsCallerNumber};

@@ -6,7 +6,7 @@ use crate::meeting::{ALL_FLAGS, end};
 use hsm_types::{DmRefusal, FILE_BYTES, REGIONS, Region};
 
 /// What refuses the list, if anything does.
-pub fn judge(regions: &[Region]) -> Result<(), DmRefusal>
+pub fn check_regions(regions: &[Region]) -> Result<(), DmRefusal>
     ensures { MatchResult result (λ _. regions_refusal regions.now ≡ None) (λ why. regions_refusal regions.now ≡ Some why) }
 {
     if regions.len() > REGIONS {

@@ -2,7 +2,7 @@
 ghost use Rattle.std.specs.Prelude.{◌≡◌, [], None, Some, OnOk, OnErr, MatchResult};
 ghost use Rattle.hsm_types.specs.Regions.{regions_refusal, touches, covers};
 
-use crate::lawful::judge;
+use crate::lawful::check_regions;
 use crate::meeting::{contains, is_flagged, meets};
 use hsm_types::{DmRefusal, Kind, Range, Regions};
 use std::alloc::Global;
@@ -42,7 +42,7 @@ impl ManagedRegions {
         ensures ok { OnOk result (self.new ≡ regions) }
         ensures err { OnErr result (self.new ≡ self.old) }
     {
-        judge(regions.as_slice())?;
+        check_regions(regions.as_slice())?;
         self.regions = regions;
         Ok(())
     }

@@ -1,4 +1,4 @@
-// A drive: which objects its volumes have.
+//! A drive: which objects its volumes have.
 ghost use Rattle.std.specs.Prelude.{◌≡◌, ◌+◌, ◌<◌, ◌≤◌, ◌++◌, ℕ, List, Bool, true, Err, [], length, get_or, take, drop, OnOk, IfOk, IsErr, IsErrOf};
 ghost use Rattle.media_model.specs.Objects.{Objects, size_of, read_from, Adds, AddsOne, MayAdd, Follows, Alike, HasCause, IsAsked, KeepsVolumes};
 ghost use Rattle.media_model.specs.declared.drive.DriveRefusal.TheVariants.{Failed, Full, NoObject, Memory};

@@ -1,4 +1,4 @@
-// A drive in memory, of which chosen calls fail and chosen objects are damaged.
+//! A drive in memory, of which chosen calls fail and chosen objects are damaged.
 ghost use Rattle.std.specs.Prelude.{◌≡◌, ◌↔◌, ◌<◌, ◌≤◌, ◌^◌, ℕ, [], length, take, reverse, find, nat_eq, true, IsTrue, IsErrOf, Err, if◌then◌else◌, None, Some, is_some, IfOk, OnOk, OnErr, MatchResult, MatchOption};
 ghost use Rattle.std.specs.List.{list_any};
 ghost use Rattle.std.specs.Option.{option_map_or};
@@ -138,7 +138,12 @@ impl MemDrive {
     }
 
     /// Puts what a failing append puts of an object.
-    fn keep(&mut self, volume: u32, bytes: &[u8], kept: Option<u32>) -> Result<(), AllocError>
+    fn put_beginning(
+        &mut self,
+        volume: u32,
+        bytes: &[u8],
+        kept: Option<u32>,
+    ) -> Result<(), AllocError>
         requires { length bytes.now < 2 ^ 32 }
         ensures ok { OnOk result (self.new ≡ record self.old { held = kept_in volume bytes.now kept self.old.held }) }
         ensures err { OnErr result (self.new ≡ self.old) }
@@ -160,7 +165,7 @@ impl MemDrive {
         ensures after { FailsAppend result volume bytes.now kept self.old self.new }
         ensures rises { IsErrOf result Failed → self.old.faults ≤ raised self.old.faults }
     {
-        self.keep(volume, bytes, kept)?;
+        self.put_beginning(volume, bytes, kept)?;
         self.count_failure();
         Err(DriveRefusal::Failed)
     }

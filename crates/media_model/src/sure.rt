@@ -1,4 +1,4 @@
-// A drive in memory that never fails.
+//! A drive in memory that never fails.
 ghost use Rattle.std.specs.Prelude.{◌≡◌, ◌+◌, ◌<◌, ◌≤◌, ◌^◌, ℕ, [], length, nat_eq, is_some, if◌then◌else◌, true, Ok, Err, Some, None, IfOk, IfSome, OnOk, OnErr, MatchResult, MatchOption, slice_set, take, drop};
 ghost use Rattle.std.specs.List.{list_any};
 ghost use Rattle.std.specs.Map.{lookup};

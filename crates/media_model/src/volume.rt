@@ -1,4 +1,4 @@
-// A volume in memory.
+//! A volume in memory.
 ghost use Rattle.std.specs.Prelude.{◌≡◌, ◌+◌, ◌<◌, ◌≤◌, ◌^◌, length, IfOk, IfSome, OnOk, OnErr, MatchOption, slice_get, slice_set, Some, None};
 ghost use Rattle.media_model.specs.Objects.{size_of};
 ghost use Rattle.media_model.specs.Memory.{no_objects, with_object, synced};

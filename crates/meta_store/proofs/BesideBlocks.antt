@@ -1,7 +1,8 @@
 -- When an image holds a catalog: where its parts do, and where another image does.
-use Rattle.std.proofs.Common.{◌≡◌, ℕ, ◌+◌, ◌-◌, ◌≤◌, ◌^◌, false, List, ◌++◌, length, refl, ◌∙◌, ap, arith}
+use Rattle.std.proofs.Common.{◌≡◌, ℕ, ◌+◌, ◌-◌, ◌≤◌, ◌^◌, List, ◌++◌, length, refl, ◌∙◌, ap, arith}
 use Rattle.disk_model.specs.Images.{part}
 use Rattle.disk_model.proofs.Parts.{part_split}
+use Rattle.commit_slots.specs.declared.places.Slot.TheVariants.{First}
 use Rattle.commit_slots.specs.Places.{layout_of, snapshot_at, select_at, superblock_len}
 use Rattle.commit_slots.specs.Images.{slot_of, gate_closed, IsStore}
 use Rattle.commit_slots.proofs.Laid.{laid, IsSlot, slot_laid}
@@ -39,7 +40,7 @@ abbrev pub IsSameBelow : ℕ → List ℕ → List ℕ → Type 0
 IsSameBelow blocks d c = (a k : ℕ) → a + k ≤ blocks → part c a k ≡ part d a k
 
 pub slot_below : (geometry : ℕ) (d c : List ℕ) → IsSameBelow (layout_of geometry).blocks d c → slot_of c ≡ slot_of d
-slot_below geometry d c same = let h : IsSlot (layout_of geometry) false = slot_laid (layout_of geometry) (laid geometry) false in slot_from c d (same select_at 1 (omega arith))
+slot_below geometry d c same = let h : IsSlot (layout_of geometry) First = slot_laid (layout_of geometry) (laid geometry) First in slot_from c d (same select_at 1 (omega arith))
 
 -- Recovery finds the same where only data blocks differ.
 pub image_below : (geometry fsid n : ℕ) (x : Catalog) (d c : List ℕ) → x.geometry ≡ geometry → length c ≡ length d → IsSameBelow (layout_of geometry).blocks d c → IsImage fsid n x d → IsImage fsid n x c

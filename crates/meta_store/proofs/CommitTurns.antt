@@ -1,11 +1,12 @@
 -- A switch of slots, in the words of what recovery finds.
-use Rattle.std.proofs.Common.{◌≡◌, inl, inr, ℕ, ◌≤◌, ◌^◌, Bool, not, List, length, refl, sym, ◌∙◌, ap, arith}
+use Rattle.std.proofs.Common.{◌≡◌, inl, inr, ℕ, ◌≤◌, ◌^◌, List, length, refl, sym, ◌∙◌, ap, arith}
 use Rattle.disk_model.specs.declared.device.Disk as disk
 use Rattle.disk_model.specs.Images.{part}
 use Rattle.disk_model.specs.Moments.{MayBe, Turns}
 use Rattle.disk_model.proofs.Parts.{part_part}
 use Rattle.disk_model.proofs.Steps.{started, turned_where}
-use Rattle.commit_slots.specs.Places.{layout_of}
+use Rattle.commit_slots.specs.declared.places.Slot.{Slot}
+use Rattle.commit_slots.specs.Places.{other, layout_of}
 use Rattle.commit_slots.specs.Images.{slot_of, IsStore}
 use Rattle.commit_slots.specs.Steps.{Selects, KeepsSlot, IsSwitched}
 use Rattle.commit_slots.proofs.Laid.{laid}
@@ -35,7 +36,7 @@ same_image z n fsid number x d c there fits is k =
 
 -- what is recovered from the new slot
 new_image : (z fsid number : ℕ) (x : Catalog) (image d c : List ℕ) → x.geometry ≡ z → length image ≤ (layout_of z).snapshot_len → image ≡ spelling (snapshot_of number x) → IsCatalog x → AreLengths x → number ≤ 2 ^ 62
-    → IsStore z fsid d → IsSwitched (layout_of z) (not (slot_of d)) image d c → Recovers fsid number x d c
+    → IsStore z fsid d → IsSwitched (layout_of z) (other (slot_of d)) image d c → Recovers fsid number x d c
 unfolding blocks_in_image area_of gate_of
 new_image z fsid number x image d c there short is lawful lengths bound was s =
     let kept : KeepsParts (layout_of z) (slot_of d) d c = parts_kept (layout_of z) (laid z) (slot_of d) (length image) short d c s.outside in
@@ -58,21 +59,21 @@ stores_nothing g d m n backs only_now = record {
     here c may = record { found = backs.image c may; data_blocks = refl }
 
 -- the slots have stored the image
-abbrev pub HasSwitched : {D : Type 0} → disk.Ghosts D → D → D → ℕ → Bool → List ℕ → Type 0
-HasSwitched g old new z second image = (c : List ℕ) → MayBe g new c → (d : List ℕ) × g.gives old d × IsSwitched (layout_of z) (not second) image d c
+abbrev pub HasSwitched : {D : Type 0} → disk.Ghosts D → D → D → ℕ → Slot → List ℕ → Type 0
+HasSwitched g old new z slot image = (c : List ℕ) → MayBe g new c → (d : List ℕ) × g.gives old d × IsSwitched (layout_of z) (other slot) image d c
 
 -- what a commit of m is, and once its slots are done
 pub record Commits {D : Type 0} (g : disk.Ghosts D) (old new : D) (m : Meta) (number : ℕ) (Done : Type 0) : Type 0 where
   pub turns : StoresOrKeeps g old new m number
   pub stores : Done → HasStored g old new m number
-  pub backs : Done → (after : Meta) → after.second ≡ not m.second → after.fsid ≡ m.fsid → after.number ≡ number → after.durable ≡ m.current → Backs g new after
+  pub backs : Done → (after : Meta) → after.slot ≡ other m.slot → after.fsid ≡ m.fsid → after.number ≡ number → after.durable ≡ m.current → Backs g new after
 
 -- A commit of the current catalog, from a disk that backs m. The slots know the geometry as z.
 module _ {D : Type 0} (g : disk.Ghosts D) (old new : D) (m : Meta) (lawful : IsMeta m) (backs : Backs g old m) (number : ℕ) (bound : number ≤ 2 ^ 62) (z : ℕ) (geometry : z ≡ m.current.geometry) (image : List ℕ)
     (is : image ≡ spelling (snapshot_of number m.current)) (short : length image ≤ (layout_of m.current.geometry).snapshot_len) where
   -- what is known of each old image
   record Was (d : List ℕ) : Type 0 where
-    slot : slot_of d ≡ m.second
+    slot : slot_of d ≡ m.slot
     holds : IsImage m.fsid m.number m.durable d
 
   fits : length image ≤ (layout_of z).snapshot_len
@@ -81,16 +82,16 @@ module _ {D : Type 0} (g : disk.Ghosts D) (old new : D) (m : Meta) (lawful : IsM
   durable_as : m.durable.geometry ≡ z
   durable_as = sym (geometry ∙ lawful.stored.geometry)
 
-  found_as : (d c : List ℕ) → Was d → IsSwitched (layout_of z) (not m.second) image d c → Recovers m.fsid number m.current d c
+  found_as : (d c : List ℕ) → Was d → IsSwitched (layout_of z) (other m.slot) image d c → Recovers m.fsid number m.current d c
   found_as d c known s = new_image z m.fsid number m.current image d c (sym geometry) fits is lawful.current lawful.stored.now bound (rw durable_as at known.holds.found) (rw known.slot s)
 
-  pub commits : (Selects g old m.second → Turns g old new (KeepsSlot (layout_of z) m.second (length image)) (IsSwitched (layout_of z) (not m.second) image)) → Commits g old new m number (HasSwitched g old new z m.second image)
+  pub commits : (Selects g old m.slot → Turns g old new (KeepsSlot (layout_of z) m.slot (length image)) (IsSwitched (layout_of z) (other m.slot) image)) → Commits g old new m number (HasSwitched g old new z m.slot image)
   commits turned = record {
     turns = turned_where g old new Was _ _ _ _ was (λ d c known k. same_image z (length image) m.fsid m.number m.durable d c durable_as fits known.holds (rw known.slot k)) found_as (turned backs.slot);
     stores = stored;
-    backs = λ done after second fsid named durable. record {
+    backs = λ done after slot fsid named durable. record {
       length = (turned backs.slot).moments.length ∙ backs.length ∙ ap (λ (y : ℕ). (layout_of y).whole) (sym (ap (λ (c : Catalog). c.geometry) durable ∙ lawful.stored.geometry));
-      slot = λ c may. (done c may).2.select ∙ sym second;
+      slot = λ c may. (done c may).2.select ∙ sym slot;
       image = λ c may. rw (fsid, named, durable) (stored done c may).2.found;
     };
   }
@@ -98,5 +99,5 @@ module _ {D : Type 0} (g : disk.Ghosts D) (old new : D) (m : Meta) (lawful : IsM
       was : (d : List ℕ) → MayBe g old d → Was d
       was d may = record { slot = backs.slot d may; holds = backs.image d may }
 
-      stored : HasSwitched g old new z m.second image → HasStored g old new m number
+      stored : HasSwitched g old new z m.slot image → HasStored g old new m number
       stored done c may = let d = done c may in (d.0, d.1, found_as d.0 c (was d.0 (inr d.1)) d.2)

@@ -1,11 +1,12 @@
 -- What an image holds, by what was read of it.
-use Rattle.std.proofs.Common.{◌≡◌, inl, inr, ℕ, ◌+◌, ◌≤◌, Bool, List, sym, ◌∙◌, ap, subst, arith}
+use Rattle.std.proofs.Common.{◌≡◌, inl, inr, ℕ, ◌+◌, ◌≤◌, List, sym, ◌∙◌, ap, subst, arith}
 use Rattle.std.specs.Prelude.{Result, Ok, Err, IfOk, OnOk, IsErrOf}
 use Rattle.disk_model.specs.Images.{part, Alike}
 use Rattle.disk_model.specs.declared.refusal.OpenRefusal.{OpenRefusal}
 use Rattle.disk_model.specs.declared.refusal.OpenRefusal.TheVariants.{Corrupt}
 use Rattle.disk_model.specs.Moments.{MayBe, Keeps, Same}
 use Rattle.disk_model.specs.declared.device.Disk as disk
+use Rattle.commit_slots.specs.declared.places.Slot.{Slot}
 use Rattle.commit_slots.specs.Places.{layout_of, snapshot_at, journal_at}
 use Rattle.commit_slots.specs.Images.{slot_of, IsStore}
 use Rattle.commit_slots.proofs.Laid.{laid, slot_laid, IsSlot}
@@ -26,20 +27,20 @@ pub place_is : {T : Type 0} (p q : ℕ) → IsErrOf {T = T} (Err (Corrupt p)) (C
 place_is p q is = cc
 
 -- what loading says of an image that reads give
-pub record Says (geometry fsid : ℕ) (second : Bool) (area image : List ℕ) : Type 0 where
+pub record Says (geometry fsid : ℕ) (slot : Slot) (area image : List ℕ) : Type 0 where
   pub store : IsStore geometry fsid image
-  pub select : slot_of image ≡ second
-  pub holds : area ≡ part image (snapshot_at (layout_of geometry) second) (layout_of geometry).snapshot_len
+  pub select : slot_of image ≡ slot
+  pub holds : area ≡ part image (snapshot_at (layout_of geometry) slot) (layout_of geometry).snapshot_len
 
-pub gate_fits : (geometry : ℕ) (second : Bool) → journal_at (layout_of geometry) second + 1 ≤ (layout_of geometry).whole
-gate_fits geometry second = let here : IsSlot (layout_of geometry) second = slot_laid (layout_of geometry) (laid geometry) second in omega arith
+pub gate_fits : (geometry : ℕ) (slot : Slot) → journal_at (layout_of geometry) slot + 1 ≤ (layout_of geometry).whole
+gate_fits geometry slot = let here : IsSlot (layout_of geometry) slot = slot_laid (layout_of geometry) (laid geometry) slot in omega arith
 
-module _ {geometry fsid : ℕ} {second : Bool} {area image : List ℕ} (s : Says geometry fsid second area image) (place : ℕ) where
-  pub snapshot_corrupt : place ≡ snapshot_at (layout_of geometry) second → ((n : ℕ) (c : Catalog) → c.geometry ≡ geometry → IsSnapshot area n c → ⊥) → IsCorruptAt place image
+module _ {geometry fsid : ℕ} {slot : Slot} {area image : List ℕ} (s : Says geometry fsid slot area image) (place : ℕ) where
+  pub snapshot_corrupt : place ≡ snapshot_at (layout_of geometry) slot → ((n : ℕ) (c : Catalog) → c.geometry ≡ geometry → IsSnapshot area n c → ⊥) → IsCorruptAt place image
   unfolding area_of
   snapshot_corrupt at invalid = record { geometry = geometry; fsid = fsid; found = s.store; fault = inl (rw s.select at, λ n c same is. invalid n c same (rw (s.holds, ← s.select) is)) }
 
-  module _ (at : place ≡ journal_at (layout_of geometry) second) (n : ℕ) (c : Catalog) (same : c.geometry ≡ geometry) (is : IsSnapshot area n c) where
+  module _ (at : place ≡ journal_at (layout_of geometry) slot) (n : ℕ) (c : Catalog) (same : c.geometry ≡ geometry) (is : IsSnapshot area n c) where
     pub gate_corrupt : (IsClosed (part image place 1) → ⊥) → IsCorruptAt place image
     unfolding area_of gate_of
     gate_corrupt gate = record {
@@ -58,7 +59,7 @@ module _ {D : Type 0} (g : disk.Ghosts D) (mid new : D) (durable : (c : List ℕ
   before : (c : List ℕ) → MayBe g new c → g.gives mid c
   before c may = let d = keeps.now c may in rw d.2 (durable d.0 d.1)
 
-  pub backs_read : (r : Result Meta OpenRefusal) → IfOk r (λ m. g.length_of mid ≡ (layout_of m.durable.geometry).whole) → IfOk r (λ m. (c : List ℕ) → g.gives mid c → (slot_of c ≡ m.second) × IsImage m.fsid m.number m.durable c)
+  pub backs_read : (r : Result Meta OpenRefusal) → IfOk r (λ m. g.length_of mid ≡ (layout_of m.durable.geometry).whole) → IfOk r (λ m. (c : List ℕ) → g.gives mid c → (slot_of c ≡ m.slot) × IsImage m.fsid m.number m.durable c)
       → IfOk r (λ m. Backs g new m)
   backs_read (Ok m) length found = record { length = keeps.moments.length ∙ length; slot = λ c may. (found c (before c may)).0; image = λ c may. (found c (before c may)).1 }
   backs_read (Err e) length found = tt

@@ -1,4 +1,4 @@
-// The catalog of a store's files in memory.
+//! The catalog of a store's files in memory.
 ghost use Rattle.std.specs.Prelude.{◌≡◌, ◌↔◌, ◌++◌, ◌+◌, ◌^◌, ◌<◌, ◌≤◌, [], length, map, false, None, Some, Err, IsSome, IsOk, IfOk, IsErrOf, OnOk, OnErr, slice_get};
 ghost use Rattle.std.specs.Option.{option_map};
 ghost use Rattle.hsm_types.specs.Attributes.{bytes_of_attributes};

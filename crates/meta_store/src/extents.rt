@@ -1,4 +1,4 @@
-// Extents of a file in a snapshot, and flags of the disk's blocks that are in use.
+//! Extents of a file in a snapshot, and flags of the disk's blocks that are in use.
 
 ghost use Rattle.std.specs.Prelude.{◌≡◌, ◌<◌, length};
 ghost use Rattle.std.specs.Bool.{OnTrue};

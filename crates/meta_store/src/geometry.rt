@@ -1,4 +1,4 @@
-// How much a store can hold.
+//! How much a store can hold.
 
 ghost use Rattle.std.specs.Prelude.{◌≡◌};
 ghost use Rattle.meta_store.specs.Catalogs.{geometry_of};

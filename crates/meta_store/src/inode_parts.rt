@@ -1,4 +1,4 @@
-// What is kept of a store's files beside the table, by inode.
+//! What is kept of a store's files beside the table, by inode.
 ghost use Rattle.std.specs.Prelude.{◌≡◌, ◌-◌, replicate, IfOk};
 ghost use Rattle.meta_store.specs.InMemory.{no_parts};
 

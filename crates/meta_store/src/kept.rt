@@ -1,4 +1,4 @@
-// What sessions keep with a file, as a snapshot has it.
+//! What sessions keep with a file, as a snapshot has it.
 ghost use Rattle.std.specs.Prelude.{◌≡◌, ◌↔◌, ◌≤◌, ◌^◌, None, IfOk, OnOk, true, false, length};
 ghost use Rattle.std.specs.Result.{IsErrOf};
 ghost use Rattle.std.specs.List.{AllByRecursion};

@@ -1,4 +1,4 @@
-// Stub entries of a file, as a snapshot has them.
+//! Stub entries of a file, as a snapshot has them.
 ghost use Rattle.std.specs.Prelude.{◌≡◌, ◌↔◌, ◌++◌, ◌<◌, [], ◌∷◌, ◌≤◌, length, IfOk, IsErrOf, IsTrue, OnOk};
 ghost use Rattle.std.specs.List.{AllByRecursion};
 ghost use Rattle.hsm_types.specs.Segments.{segment_len};

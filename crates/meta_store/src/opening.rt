@@ -1,4 +1,4 @@
-// What an opening judges: the area of a snapshot, and the gate of a journal.
+//! What an opening judges: the area of a snapshot, and the gate of a journal.
 ghost use Rattle.std.specs.Prelude.{◌≡◌, ◌≤◌, ◌^◌, ◌+◌, List, ℕ, length, IfOk, IsErrOf, true, false};
 ghost use Rattle.disk_model.specs.Calls.{HasCause};
 ghost use Rattle.disk_model.specs.Images.{part, Alike};
@@ -16,7 +16,7 @@ use disk_model::{Disk, Failed, read_at};
 use std::alloc::Global;
 
 /// The number and the catalog that an area says, if it holds a valid snapshot of that geometry.
-pub(crate) fn judge(
+pub(crate) fn catalog_in(
     alloc: Global,
     geometry: u32,
     area: &[u8],

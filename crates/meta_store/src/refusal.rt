@@ -1,4 +1,4 @@
-// Why a call of the store wasn't done.
+//! Why a call of the store wasn't done.
 ghost use Rattle.std.specs.Prelude.{◌≡◌};
 ghost use Rattle.meta_store.specs.Refusals.{refused_as, no_memory};
 

@@ -1,4 +1,4 @@
-// A snapshot as its bytes say it, before its validity is judged.
+//! A snapshot as its bytes say it, before its validity is judged.
 ghost use Rattle.std.specs.Prelude.{◌≡◌};
 ghost use Rattle.meta_store.specs.declared.snapshot.ReadRefusal.TheVariants.{Memory};
 

@@ -1,11 +1,11 @@
-// A store's files in memory, over the snapshots of its disk.
-ghost use Rattle.std.specs.Prelude.{◌≡◌, ◌≤◌, ◌^◌, ◌↔◌, List, ℕ, true, false, Some, Err, OnOk, OnErr, IfOk, if◌then◌else◌};
+//! A store's files in memory, over the snapshots of its disk.
+ghost use Rattle.std.specs.Prelude.{◌≡◌, ◌≤◌, ◌^◌, ◌↔◌, List, ℕ, true, false, Some, Err, OnOk, OnErr, IfOk};
 ghost use Rattle.std.specs.Result.{IsErrOf};
 ghost use Rattle.hsm_types.specs.declared.dm.DmRefusal.{DmRefusal};
 ghost use Rattle.disk_model.specs.Calls.{Counts};
 ghost use Rattle.disk_model.specs.Images.{Alike};
 ghost use Rattle.disk_model.specs.Moments.{MayBe, Keeps, Same};
-ghost use Rattle.commit_slots.specs.Places.{layout_of, snapshot_at, journal_at};
+ghost use Rattle.commit_slots.specs.Places.{slot_number, layout_of, snapshot_at, journal_at};
 ghost use Rattle.commit_slots.specs.Images.{slot_of, IsStore};
 ghost use Rattle.meta_store.specs.Images.{IsImage, IsCorruptAt};
 ghost use Rattle.meta_store.specs.Records.{after_all, refusal_of_all, CanStandAll, IsEvent};
@@ -13,12 +13,12 @@ ghost use Rattle.meta_store.specs.Catalogs.{AreLengths};
 ghost use Rattle.meta_store.specs.Meta.{Meta, IsMeta, Backs, StoresOrKeeps, HasStored, IsStoredNow, IsTaken};
 
 use crate::catalog::Catalog;
-use crate::opening::{is_closed, judge};
+use crate::opening::{catalog_in, is_closed};
 use crate::records::Records;
 use crate::refusal::MetaRefusal;
 use crate::snapshot::ReadRefusal;
 use crate::spelling::spell;
-use commit_slots::{CommitSlots, Layout, Loaded};
+use commit_slots::{CommitSlots, Layout, Loaded, Slot};
 use disk_model::{Disk, Failed, OpenRefusal, sync_all};
 use std::alloc::Global;
 use std::marker::Model;
@@ -40,9 +40,9 @@ impl Model for MetaStore {
 
     ghost Value = { Meta };
 
-    ghost view = { λ m. record { second = m.slots.second; fsid = m.fsid; number = m.number; durable = m.durable.value; current = m.catalog } };
+    ghost view = { λ m. record { slot = m.slots.slot; fsid = m.fsid; number = m.number; durable = m.durable.value; current = m.catalog } };
 
-    ghost invariant = { λ m. IsStored (record { second = m.slots.second; fsid = m.fsid; number = m.number; durable = m.durable.value; current = m.catalog }) × (m.slots.geometry ≡ m.catalog.geometry) };
+    ghost invariant = { λ m. IsStored (record { slot = m.slots.slot; fsid = m.fsid; number = m.number; durable = m.durable.value; current = m.catalog }) × (m.slots.geometry ≡ m.catalog.geometry) };
 }
 
 impl MetaStore {
@@ -75,7 +75,7 @@ impl MetaStore {
         ensures keeps { Keeps D.Disk disk.old disk.new Same }
         ensures given { Alike (D.gives disk.old) (D.gives disk.new) }
         ensures length { IfOk result (λ m. D.length_of disk.old ≡ (layout_of m.durable.geometry).whole) }
-        ensures found { IfOk result (λ m. (c : List ℕ) → D.gives disk.old c → (slot_of c ≡ m.second) × IsImage m.fsid m.number m.durable c) }
+        ensures found { IfOk result (λ m. (c : List ℕ) → D.gives disk.old c → (slot_of c ≡ m.slot) × IsImage m.fsid m.number m.durable c) }
         ensures same { IfOk result (λ m. m.current ≡ m.durable) }
         ensures lawful { IfOk result (λ m. IsMeta m) }
         ensures not_store { IsErrOf result OpenRefusal.NotStore → (c : List ℕ) → D.gives disk.old c → (geometry fsid : ℕ) → IsStore geometry fsid c → ⊥ }
@@ -87,7 +87,7 @@ impl MetaStore {
             Err(refusal) => return Err(refusal),
         };
         let (snapshot, journal) = selected(&loaded);
-        let (number, catalog) = match judge(alloc, loaded.geometry, &loaded.image) {
+        let (number, catalog) = match catalog_in(alloc, loaded.geometry, &loaded.image) {
             Ok(found) => found,
             Err(ReadRefusal::Memory) => return Err(OpenRefusal::Memory),
             Err(ReadRefusal::Corrupt) => return Err(OpenRefusal::Corrupt { place: snapshot }),
@@ -207,11 +207,11 @@ impl MetaStore {
 
 /// Where the selected slot's snapshot and its journal lie.
 fn selected(loaded: &Loaded) -> (u64, u64)
-    requires { loaded.now.slot ≡ (if loaded.now.slots.second then 1 else 0) }
-    ensures snapshot { result.0 ≡ snapshot_at (layout_of loaded.now.geometry) loaded.now.slots.second }
-    ensures journal { result.1 ≡ journal_at (layout_of loaded.now.geometry) loaded.now.slots.second }
+    requires { loaded.now.slot ≡ slot_number loaded.now.slots.slot }
+    ensures snapshot { result.0 ≡ snapshot_at (layout_of loaded.now.geometry) loaded.now.slots.slot }
+    ensures journal { result.1 ≡ journal_at (layout_of loaded.now.geometry) loaded.now.slots.slot }
 {
     let layout = Layout::of_geometry(loaded.geometry);
-    let second = loaded.slot == 1;
-    (layout.snapshot(second), layout.journal(second))
+    let slot = Slot::from_number(loaded.slot);
+    (layout.snapshot(slot), layout.journal(slot))
 }

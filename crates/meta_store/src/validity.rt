@@ -1,4 +1,4 @@
-// The judgement of a snapshot that was read: the catalog that it says, if it is a valid one.
+//! The judgement of a snapshot that was read: the catalog that it says, if it is a valid one.
 
 ghost use Rattle.std.specs.Prelude.{◌≡◌, ℕ, ◌^◌, ◌≤◌, ◌++◌, [], ◌∷◌, map, is_some, IfOk, OnOk};
 ghost use Rattle.plain_model.specs.Plain.{named};

@@ -33,7 +33,7 @@ use Rattle.migrate_daemon.specs.Passes.{Pass, begun_pass}
 use Rattle.migrate_daemon.specs.Shares.{share}
 use Rattle.migrate_daemon.specs.Machine.{IsTable, HasAll, IsFree, WantsSpace, NoneServed}
 use Rattle.migrate_daemon.specs.Hearing.{is_gone, has_no_more, is_settled, space_in, messages_in, table_in}
-use Rattle.migrate_daemon.specs.Standing.{Standing, resting, serving}
+use Rattle.migrate_daemon.specs.Standing.{Standing, resting, taking_up}
 use Rattle.migrate_daemon.specs.Stages.{rests, looks}
 use Rattle.migrate_daemon.specs.Turns.{Gives, Turns}
 use Rattle.migrate_daemon.proofs.Turning.{HasTable, over_outside, turns_out}
@@ -178,8 +178,8 @@ none_contained x has = absurd (omega (arith, has.1))
 
 -- a pass begins
 pub turns_table : (s : Standing) (before : Pass) (sid : Sid) (table : Table) (picks : List Picked) (turn : Turn) → IsPick table (share s.limits.low table.total) picks
-    → Gives s.limits (serving s).known before (begun_pass sid picks) (Dm sid call.GetTable) (heard.Dm (reply.Table table)) (serving s) turn
-    → Turns s before (Dm sid call.GetTable) (heard.Dm (reply.Table table)) (serving s) (begun_pass sid picks) turn
+    → Gives s.limits (taking_up s).known before (begun_pass sid picks) (Dm sid call.GetTable) (heard.Dm (reply.Table table)) (taking_up s) turn
+    → Turns s before (Dm sid call.GetTable) (heard.Dm (reply.Table table)) (taking_up s) (begun_pass sid picks) turn
 turns_table s before sid table picks turn picked gives = record {
   goes = record {
     limits = gives.limits;
@@ -187,7 +187,7 @@ turns_table s before sid table picks turn picked gives = record {
     asked = refl;
     pass = (picks, picked, refl);
     may = gives.may;
-    over = over_outside turn.stage (serving s) (begun_pass sid picks) turn.act gives.stands;
+    over = over_outside turn.stage (taking_up s) (begun_pass sid picks) turn.act gives.stands;
     begins = λ lost. cc;
     passes = λ talk passed. record {
       done = λ k p below is. absurd (let none : k < 0 = below in omega arith);

@@ -29,8 +29,8 @@ abbrev pub begun : Standing → Standing
 begun s = record { limits = s.limits; known = nothing_known s.known.fresh; way = Dm first_id GetAllSessions }
 
 -- a pass begins, for each event that it keeps
-abbrev pub serving : Standing → Standing
-serving s = with_known (record { seat = record (s.known.seat) { kept = all_marked true s.known.seat.kept }; space = None; fresh = s.known.fresh && not (is_due s.limits s.known); punched = false }) s
+abbrev pub taking_up : Standing → Standing
+taking_up s = with_known (record { seat = record (s.known.seat) { kept = all_marked true s.known.seat.kept }; space = None; fresh = s.known.fresh && not (is_due s.limits s.known); punched = false }) s
 
 abbrev pub resting : Standing → Standing
 resting s = with_known (record (s.known) { space = None }) s

@@ -8,8 +8,8 @@ use Rattle.hsm_types.specs.declared.dm.DmReply.TheVariants as reply
 use Rattle.hsm_types.specs.declared.keys.Sid.{Sid}
 use Rattle.hsm_policy.specs.Settings.{Numbers}
 use Rattle.hsm_policy.specs.declared.picking.Picked.{Picked}
-use Rattle.migrate_daemon.specs.declared.judging.Verdict.{Verdict}
-use Rattle.migrate_daemon.specs.declared.judging.Verdict.TheVariants.{Skips, Ends, Again}
+use Rattle.migrate_daemon.specs.declared.verdicts.Verdict.{Verdict}
+use Rattle.migrate_daemon.specs.declared.verdicts.Verdict.TheVariants.{Skips, Ends, Again}
 use Rattle.migrate_daemon.specs.declared.stages.Turn.{Turn}
 use Rattle.migrate_daemon.specs.declared.stages.Work.{Work}
 use Rattle.migrate_daemon.specs.Known.{Known, asks_by}

@@ -9,7 +9,7 @@ ghost use Rattle.hsm_types.specs.declared.dm.DmCall.TheVariants.{GetAllSessions}
 ghost use Rattle.migrate_daemon.specs.Known.{nothing_known, is_due};
 ghost use Rattle.migrate_daemon.specs.Machine.{WantsSpace, IsServed, NoneServed, answer_of};
 ghost use Rattle.migrate_daemon.specs.Shares.{share};
-ghost use Rattle.migrate_daemon.specs.Standing.{begun, resting, serving, with_known, with_kept, membership};
+ghost use Rattle.migrate_daemon.specs.Standing.{begun, resting, taking_up, with_known, with_kept, membership};
 
 use crate::shares::{Space, is_above, share};
 use daemon_session::{Member, Step};
@@ -87,8 +87,8 @@ impl Knowledge {
     }
 
     /// A pass begins, for each event that it keeps. Where one by `high` was due, it is this one.
-    pub(crate) fn serve(&mut self)
-        ensures { self.new ≡ serving self.old }
+    pub(crate) fn take_up(&mut self)
+        ensures { self.new ≡ taking_up self.old }
     {
         self.fresh = self.fresh && !self.is_due();
         self.space = None;

@@ -4,7 +4,6 @@
 mod copying;
 mod entering;
 mod hearing;
-mod judging;
 mod knowledge;
 mod laws;
 mod machine;
@@ -14,6 +13,7 @@ mod rounds;
 mod shares;
 mod skips;
 mod stages;
+mod verdicts;
 mod working;
 
 pub use laws::{pass_begins, pass_comes_nearer};

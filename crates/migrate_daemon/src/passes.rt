@@ -75,7 +75,7 @@ fn begin(
     let picks = pick(pass.allocator(), table, knowledge.low(table.total))?;
     let _volumes = knowledge.volumes();
     pass.begin(sid, picks);
-    knowledge.serve();
+    knowledge.take_up();
     Ok(take(knowledge, pass))
 }
 

@@ -6,11 +6,11 @@ ghost use Rattle.migrate_daemon.specs.Stages.{Holds, Suits, asked_for, works};
 ghost use Rattle.migrate_daemon.specs.Turns.{Turns};
 
 use crate::hearing::{covers, data_of, is_done, refusal_of, regions_of, reply_of};
-use crate::judging::{Verdict, judge};
 use crate::knowledge::Knowledge;
 use crate::passes::{end, skip, take};
 use crate::progress::Progress;
 use crate::stages::{Turn, Work, again, copy, punch, read, set_regions};
+use crate::verdicts::{Verdict, verdict_on};
 use hsm_policy::Picked;
 use hsm_types::{Bytes, DmRefusal, DmReply, Heard, StubEntry};
 use std::alloc::AllocError;
@@ -40,7 +40,7 @@ fn refused(
     ensures ok { IfOk result (λ turn. Turns knowledge.now pass.old (asked_for pass.old.sid pick work) (Heard.Dm (DmReply.Refused why)) knowledge.now pass.new turn) }
     ensures err { OnErr result (pass.new ≡ pass.old) }
 {
-    match judge(work, why) {
+    match verdict_on(work, why) {
         Verdict::Skips => skip(knowledge, pass, pick, DmReply::Refused(why)),
         Verdict::Ends => Ok(end(knowledge, pass, Heard::Dm(DmReply::Refused(why)))),
         Verdict::Again => again(pass, pick, work),

@@ -112,7 +112,7 @@ impl Worker {
             return Ok(self.on_failed(sid, event, last));
         };
         self.away = away_in(*self.away.allocator(), segments.as_slice())?;
-        Ok(self.serve(sid, event, size))
+        Ok(self.work_on(sid, event, size))
     }
 
     /// The bytes of a segment were to be fetched.
@@ -199,7 +199,7 @@ impl Worker {
     {
         if tells_done(last) {
             self.away.retain(|one| one.segment != away.segment);
-            return self.serve(sid, event, size);
+            return self.work_on(sid, event, size);
         }
         match refusal_told(last) {
             Some(why) => self.on_unrestored(sid, event, why),

@@ -159,7 +159,7 @@ impl Worker {
     }
 
     /// Fetches the first segment that the access needs, or lets it go on where there is none.
-    pub(crate) fn serve(&mut self, sid: Sid, event: &Event, size: u64) -> Act
+    pub(crate) fn work_on(&mut self, sid: Sid, event: &Event, size: u64) -> Act
         requires daemon { self.old.member.daemon ≡ Recall }
         requires serving { IsServing self.old.member sid event.now }
         ensures { (asked : Act) (told : Heard) → IsCalm asked told → Gives (with_hand (Some (mapped event.now size self.old.away.items)) self.old.member.seat) asked told result self.new }

@@ -9,27 +9,27 @@ use Rattle.hsm_core.specs.Store.{Store, KeepsRoom, state_with}
 use Rattle.hsm_core.specs.Answers.{IsCommitted}
 use Rattle.hsm_core.proofs.Events.{event, always, not_begun, one_more, IsNext, Keeps}
 use Rattle.hsm_core.proofs.store.Hsm.commit.Given.{Over}
-use Rattle.hsm_core.proofs.store.Hsm.commit.Goals.{After-keep}
+use Rattle.hsm_core.proofs.store.Hsm.commit.Goals.{After-record_event}
 use Rattle.hsm_core.proofs.store.Hsm.commit.Goals as goal
 
 -- the store before the commit, and after it
-abbrev before : (g : Over) → After-keep g → Store g.row.D.Denot
+abbrev before : (g : Over) → After-record_event g → Store g.row.D.Denot
 before g c = record { opened = c.self.inside.opened.value; files = c.self.inside.files; stamps = c.self.inside.stamps.entries; tables = c.self.inside.service; history = c.self.inside.history.items; spare = vec_capacity c.self.inside.history - (vec_len c.self.inside.history + awaited_in c.self.inside.service) }
 
-abbrev after : (g : Over) → After-keep g → Store g.row.D.Denot
-after g c = record { opened = c.self.inside.opened.value; files = c.commit-done.new.files; stamps = c.self.inside.stamps.entries; tables = c.self.inside.service; history = c.keep.new.history.items; spare = vec_capacity c.keep.new.history - (vec_len c.keep.new.history + awaited_in c.self.inside.service) }
+abbrev after : (g : Over) → After-record_event g → Store g.row.D.Denot
+after g c = record { opened = c.self.inside.opened.value; files = c.commit-done.new.files; stamps = c.self.inside.stamps.entries; tables = c.self.inside.service; history = c.record_event.new.history.items; spare = vec_capacity c.record_event.new.history - (vec_len c.record_event.new.history + awaited_in c.self.inside.service) }
 
-keeps : (g : Over) (c : After-keep g) → Keeps c.make_ready.new.history.items TheStore Commit (λ (r : Reply). Replied r) c.commit-done.result c.keep.result c.keep.new.history.items
+keeps : (g : Over) (c : After-record_event g) → Keeps c.make_ready.new.history.items TheStore Commit (λ (r : Reply). Replied r) c.commit-done.result c.record_event.result c.record_event.new.history.items
 keeps g c = record {
-  kept = c.keep.ensures.kept;
-  memory = λ lacks. (ap (λ (r : Reply). Replied r) (c.keep.ensures.memory lacks).0, (c.keep.ensures.memory lacks).1);
-  failed = λ fails. (ap (λ (r : Reply). Replied r) (c.keep.ensures.failed fails).0, (c.keep.ensures.failed fails).1);
+  kept = c.record_event.ensures.recorded;
+  memory = λ lacks. (ap (λ (r : Reply). Replied r) (c.record_event.ensures.memory lacks).0, (c.record_event.ensures.memory lacks).1);
+  failed = λ fails. (ap (λ (r : Reply). Replied r) (c.record_event.ensures.failed fails).0, (c.record_event.ensures.failed fails).1);
 }
 
-next : (g : Over) (c : After-keep g) → IsNext g.D.Disk (before g c) TheStore Commit (Replied c.keep.result) (after g c)
+next : (g : Over) (c : After-record_event g) → IsNext g.D.Disk (before g c) TheStore Commit (Replied c.record_event.result) (after g c)
 next g c =
     event g.D.Disk (before g c) c.self.invariant.0 c.self.invariant.1 c.self.inside.stamps.entries c.make_ready.new.history.items refl c.make_ready.ensures.same (after g c) c.in_default.ensures.working refl
-    TheStore Commit tt (λ (r : Reply). Replied r) _ c.keep.result _ (omega (arith, c.self.invariant.2, c.len.ensures)) c.commit-done.result
+    TheStore Commit tt (λ (r : Reply). Replied r) _ c.record_event.result _ (omega (arith, c.self.invariant.2, c.len.ensures)) c.commit-done.result
     (record {
       exact = refl;
       replies = c.commit-done.ensures.reply;
@@ -51,26 +51,26 @@ returns-in-Err-clause-committed g c =
 
 pub invariant_of-self-2 : goal.invariant_of-self-2
 invariant_of-self-2 g c =
-    let at = (goal.at.invariant_of-self-2 g c).After-keep in
+    let at = (goal.at.invariant_of-self-2 g c).After-record_event in
     let is = next g at in
-    let more = one_more c.make_ready.new.history.items c.keep.new.history.items TheStore Commit (λ (r : Reply). Replied r) c.commit-done.result c.keep.result c.commit-done.ensures.ends.no_part (keeps g at) in
-    (is.0, is.1, c.self.invariant.2, c.self.invariant.3, omega (arith, more, c.in_default.ensures.room.0, c.keep.ensures.room, c.awaited-awaited.ensures.count), c.self.invariant.5)
+    let more = one_more c.make_ready.new.history.items c.record_event.new.history.items TheStore Commit (λ (r : Reply). Replied r) c.commit-done.result c.record_event.result c.commit-done.ensures.ends.no_part (keeps g at) in
+    (is.0, is.1, c.self.invariant.2, c.self.invariant.3, omega (arith, more, c.in_default.ensures.room.0, c.record_event.ensures.room, c.awaited-awaited.ensures.count), c.self.invariant.5)
 
 pub returns-clause-committed : goal.returns-clause-committed
-returns-clause-committed g c = subst (λ (old : Store g.row.D.Denot). IsCommitted g.D.Disk old c.keep.result (after g (goal.at.returns-clause-committed g c).After-keep)) c.self.view_is (next g (goal.at.returns-clause-committed g c).After-keep).2
+returns-clause-committed g c = subst (λ (old : Store g.row.D.Denot). IsCommitted g.D.Disk old c.record_event.result (after g (goal.at.returns-clause-committed g c).After-record_event)) c.self.view_is (next g (goal.at.returns-clause-committed g c).After-record_event).2
 
 pub returns-clause-safe : goal.returns-clause-safe
-returns-clause-safe g c = (next g (goal.at.returns-clause-safe g c).After-keep).1.now
+returns-clause-safe g c = (next g (goal.at.returns-clause-safe g c).After-record_event).1.now
 
 pub returns-in-Err-clause-safe : goal.returns-in-Err-clause-safe
 returns-in-Err-clause-safe g c = rw (c.make_ready.ensures.same) c.self.invariant.1.now
 
 pub returns-clause-room : goal.returns-clause-room
 returns-clause-room g c =
-    let at = (goal.at.returns-clause-room g c).After-keep in
-    let more = one_more c.make_ready.new.history.items c.keep.new.history.items TheStore Commit (λ (r : Reply). Replied r) c.commit-done.result c.keep.result c.commit-done.ensures.ends.no_part (keeps g at) in
+    let at = (goal.at.returns-clause-room g c).After-record_event in
+    let more = one_more c.make_ready.new.history.items c.record_event.new.history.items TheStore Commit (λ (r : Reply). Replied r) c.commit-done.result c.record_event.result c.commit-done.ensures.ends.no_part (keeps g at) in
     let noted = ap length c.make_ready.ensures.same in
-    subst (λ (old : Store g.row.D.Denot). old.spare ≤ (after g at).spare + 1) c.self.view_is (omega (arith, more, noted, c.make_ready.ensures.keeps, c.keep.ensures.room, c.self.invariant.4))
+    subst (λ (old : Store g.row.D.Denot). old.spare ≤ (after g at).spare + 1) c.self.view_is (omega (arith, more, noted, c.make_ready.ensures.keeps, c.record_event.ensures.room, c.self.invariant.4))
 
 pub returns-in-Err-clause-room : goal.returns-in-Err-clause-room
 returns-in-Err-clause-room g c =
@@ -80,8 +80,8 @@ returns-in-Err-clause-room g c =
 
 pub returns-clause-keeps : goal.returns-clause-keeps
 returns-clause-keeps g c =
-    let at = (goal.at.returns-clause-keeps g c).After-keep in
-    subst (λ (old : Store g.row.D.Denot). KeepsRoom old (after g at)) c.self.view_is (omega (arith, c.make_ready.ensures.keeps, c.keep.ensures.room, c.self.invariant.4))
+    let at = (goal.at.returns-clause-keeps g c).After-record_event in
+    subst (λ (old : Store g.row.D.Denot). KeepsRoom old (after g at)) c.self.view_is (omega (arith, c.make_ready.ensures.keeps, c.record_event.ensures.room, c.self.invariant.4))
 
 pub returns-in-Err-clause-keeps : goal.returns-in-Err-clause-keeps
 returns-in-Err-clause-keeps g c =

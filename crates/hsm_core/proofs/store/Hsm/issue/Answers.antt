@@ -12,27 +12,27 @@ use Rattle.hsm_core.specs.Store.{Store, KeepsRoom}
 use Rattle.hsm_core.specs.Answers.{IsAnswered}
 use Rattle.hsm_core.proofs.Events.{event, lasting, room_after, not_begun, one_more, IsNext, Keeps}
 use Rattle.hsm_core.proofs.store.Hsm.issue.Given.{Over}
-use Rattle.hsm_core.proofs.store.Hsm.issue.Goals.{After-keep}
+use Rattle.hsm_core.proofs.store.Hsm.issue.Goals.{After-record_event}
 use Rattle.hsm_core.proofs.store.Hsm.issue.Goals as goal
 
 -- the store before the event, and after it
-abbrev before : (g : Over) → After-keep g → Store g.row.D.Denot
+abbrev before : (g : Over) → After-record_event g → Store g.row.D.Denot
 before g c = record { opened = c.self.inside.opened.value; files = c.self.inside.files; stamps = c.self.inside.stamps.entries; tables = c.self.inside.service; history = c.self.inside.history.items; spare = vec_capacity c.self.inside.history - (vec_len c.self.inside.history + awaited_in c.self.inside.service) }
 
-abbrev after : (g : Over) → After-keep g → Store g.row.D.Denot
-after g c = record { opened = c.self.inside.opened.value; files = c.answer-done.new.files; stamps = c.answer-done.new.stamps.entries; tables = c.answer-done.new.service; history = c.keep.new.history.items; spare = vec_capacity c.keep.new.history - (vec_len c.keep.new.history + awaited_in c.answer-done.new.service) }
+abbrev after : (g : Over) → After-record_event g → Store g.row.D.Denot
+after g c = record { opened = c.self.inside.opened.value; files = c.answer-done.new.files; stamps = c.answer-done.new.stamps.entries; tables = c.answer-done.new.service; history = c.record_event.new.history.items; spare = vec_capacity c.record_event.new.history - (vec_len c.record_event.new.history + awaited_in c.answer-done.new.service) }
 
-keeps : (g : Over) (c : After-keep g) → Keeps c.make_ready_for_access.new.history.items (Caller c.args.caller) (Issue c.issued-access.result.call) (λ (r : Reply). Replied r) c.answer-done.result c.keep.result c.keep.new.history.items
+keeps : (g : Over) (c : After-record_event g) → Keeps c.make_ready_for_access.new.history.items (Caller c.args.caller) (Issue c.issued-access.result.call) (λ (r : Reply). Replied r) c.answer-done.result c.record_event.result c.record_event.new.history.items
 keeps g c = record {
-  kept = c.keep.ensures.kept;
-  memory = λ lacks. (ap (λ (r : Reply). Replied r) (c.keep.ensures.memory lacks).0, (c.keep.ensures.memory lacks).1);
-  failed = λ fails. (ap (λ (r : Reply). Replied r) (c.keep.ensures.failed fails).0, (c.keep.ensures.failed fails).1);
+  kept = c.record_event.ensures.recorded;
+  memory = λ lacks. (ap (λ (r : Reply). Replied r) (c.record_event.ensures.memory lacks).0, (c.record_event.ensures.memory lacks).1);
+  failed = λ fails. (ap (λ (r : Reply). Replied r) (c.record_event.ensures.failed fails).0, (c.record_event.ensures.failed fails).1);
 }
 
-next : (g : Over) (c : After-keep g) → IsNext g.D.Disk (before g c) (Caller c.args.caller) (Issue c.issued-access.result.call) (Replied c.keep.result) (after g c)
+next : (g : Over) (c : After-record_event g) → IsNext g.D.Disk (before g c) (Caller c.args.caller) (Issue c.issued-access.result.call) (Replied c.record_event.result) (after g c)
 next g c =
     event g.D.Disk (before g c) c.self.invariant.0 c.self.invariant.1 c.make_ready_for_access.new.stamps.entries c.make_ready_for_access.new.history.items c.make_ready_for_access.ensures.stamps c.make_ready_for_access.ensures.same (after g c) c.in_default.ensures.working refl
-    (Caller c.args.caller) (Issue c.issued-access.result.call) tt (λ (r : Reply). Replied r) _ c.keep.result _ (omega (arith, c.self.invariant.2, c.len.ensures)) c.answer-done.result
+    (Caller c.args.caller) (Issue c.issued-access.result.call) tt (λ (r : Reply). Replied r) _ c.record_event.result _ (omega (arith, c.self.invariant.2, c.len.ensures)) c.answer-done.result
     (record {
       exact = refl;
       replies = c.answer-done.ensures.replied.replies;
@@ -60,39 +60,39 @@ answer-done-requires-clause-ordered g c = ordered_in c.self.inside.service _ c.s
 
 pub invariant_of-self-2 : goal.invariant_of-self-2
 invariant_of-self-2 g c =
-    let at = (goal.at.invariant_of-self-2 g c).After-keep in
+    let at = (goal.at.invariant_of-self-2 g c).After-record_event in
     let is = next g at in
-    let more = one_more c.make_ready_for_access.new.history.items c.keep.new.history.items (Caller c.args.caller) (Issue c.issued-access.result.call) (λ (r : Reply). Replied r) c.answer-done.result c.keep.result c.answer-done.ensures.replied.ends.no_part (keeps g at) in (
+    let more = one_more c.make_ready_for_access.new.history.items c.record_event.new.history.items (Caller c.args.caller) (Issue c.issued-access.result.call) (λ (r : Reply). Replied r) c.answer-done.result c.record_event.result c.answer-done.ensures.replied.ends.no_part (keeps g at) in (
       is.0,
       is.1,
       c.self.invariant.2,
       c.self.invariant.3,
       (
           let fewer = room_after c.self.inside.service c.answer-done.new.service 2 c.answer-done.result c.answer-done.ensures.room c.answer-done.ensures.replied.err in
-          omega (arith, more, fewer, c.awaited-awaited.ensures.count, c.in_default.ensures.room.0, c.keep.ensures.room)
+          omega (arith, more, fewer, c.awaited-awaited.ensures.count, c.in_default.ensures.room.0, c.record_event.ensures.room)
           ),
       lasting (superblock_of c.self.inside.files) c.self.inside.files.held _ _ _ _ c.self.inside.service c.answer-done.new.service (Caller c.args.caller) (Issue c.issued-access.result.call) c.answer-done.result c.answer-done.ensures.replied.left c.answer-done.ensures.replied.err c.self.invariant.5,
     )
 
 pub returns-clause-answered : goal.returns-clause-answered
 returns-clause-answered g c =
-    subst (λ (old : Store g.row.D.Denot). IsAnswered g.D.Disk old c.args.caller c.args.call c.keep.result (after g (goal.at.returns-clause-answered g c).After-keep)) c.self.view_is
-    (subst (λ (call : Call). IsAnswered g.D.Disk (before g (goal.at.returns-clause-answered g c).After-keep) c.args.caller call c.keep.result (after g (goal.at.returns-clause-answered g c).After-keep)) c.issued-access.ensures.call
-    (next g (goal.at.returns-clause-answered g c).After-keep).2)
+    subst (λ (old : Store g.row.D.Denot). IsAnswered g.D.Disk old c.args.caller c.args.call c.record_event.result (after g (goal.at.returns-clause-answered g c).After-record_event)) c.self.view_is
+    (subst (λ (call : Call). IsAnswered g.D.Disk (before g (goal.at.returns-clause-answered g c).After-record_event) c.args.caller call c.record_event.result (after g (goal.at.returns-clause-answered g c).After-record_event)) c.issued-access.ensures.call
+    (next g (goal.at.returns-clause-answered g c).After-record_event).2)
 
 pub returns-clause-safe : goal.returns-clause-safe
-returns-clause-safe g c = (next g (goal.at.returns-clause-safe g c).After-keep).1.now
+returns-clause-safe g c = (next g (goal.at.returns-clause-safe g c).After-record_event).1.now
 
 pub returns-in-Err-clause-safe : goal.returns-in-Err-clause-safe
 returns-in-Err-clause-safe g c = rw (c.make_ready_for_access.ensures.same) c.self.invariant.1.now
 
 pub returns-clause-room : goal.returns-clause-room
 returns-clause-room g c =
-    let at = (goal.at.returns-clause-room g c).After-keep in
-    let more = one_more c.make_ready_for_access.new.history.items c.keep.new.history.items (Caller c.args.caller) (Issue c.issued-access.result.call) (λ (r : Reply). Replied r) c.answer-done.result c.keep.result c.answer-done.ensures.replied.ends.no_part (keeps g at) in
+    let at = (goal.at.returns-clause-room g c).After-record_event in
+    let more = one_more c.make_ready_for_access.new.history.items c.record_event.new.history.items (Caller c.args.caller) (Issue c.issued-access.result.call) (λ (r : Reply). Replied r) c.answer-done.result c.record_event.result c.answer-done.ensures.replied.ends.no_part (keeps g at) in
     let fewer = room_after c.self.inside.service c.answer-done.new.service 2 c.answer-done.result c.answer-done.ensures.room c.answer-done.ensures.replied.err in
     let noted = ap length c.make_ready_for_access.ensures.same in
-    subst (λ (old : Store g.row.D.Denot). old.spare ≤ (after g at).spare + 3) c.self.view_is (omega (arith, more, fewer, noted, c.make_ready_for_access.ensures.keeps, c.keep.ensures.room, c.self.invariant.4))
+    subst (λ (old : Store g.row.D.Denot). old.spare ≤ (after g at).spare + 3) c.self.view_is (omega (arith, more, fewer, noted, c.make_ready_for_access.ensures.keeps, c.record_event.ensures.room, c.self.invariant.4))
 
 pub returns-in-Err-clause-room : goal.returns-in-Err-clause-room
 returns-in-Err-clause-room g c =
@@ -102,8 +102,8 @@ returns-in-Err-clause-room g c =
 
 pub returns-clause-keeps : goal.returns-clause-keeps
 returns-clause-keeps g c =
-    let at = (goal.at.returns-clause-keeps g c).After-keep in
-    subst (λ (old : Store g.row.D.Denot). KeepsRoom old (after g at)) c.self.view_is (omega (arith, c.make_ready_for_access.ensures.keeps, c.keep.ensures.room, c.self.invariant.4))
+    let at = (goal.at.returns-clause-keeps g c).After-record_event in
+    subst (λ (old : Store g.row.D.Denot). KeepsRoom old (after g at)) c.self.view_is (omega (arith, c.make_ready_for_access.ensures.keeps, c.record_event.ensures.room, c.self.invariant.4))
 
 pub returns-in-Err-clause-keeps : goal.returns-in-Err-clause-keeps
 returns-in-Err-clause-keeps g c =

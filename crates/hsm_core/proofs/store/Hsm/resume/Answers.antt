@@ -12,27 +12,27 @@ use Rattle.hsm_core.specs.Store.{Store, KeepsRoom}
 use Rattle.hsm_core.specs.Answers.{IsResumed}
 use Rattle.hsm_core.proofs.Events.{event, lasting, room_again, not_begun, one_more, IsNext, Keeps}
 use Rattle.hsm_core.proofs.store.Hsm.resume.Given.{Over}
-use Rattle.hsm_core.proofs.store.Hsm.resume.Goals.{After-keep}
+use Rattle.hsm_core.proofs.store.Hsm.resume.Goals.{After-record_event}
 use Rattle.hsm_core.proofs.store.Hsm.resume.Goals as goal
 
 -- the store before the event, and after it
-abbrev before : (g : Over) → After-keep g → Store g.row.D.Denot
+abbrev before : (g : Over) → After-record_event g → Store g.row.D.Denot
 before g c = record { opened = c.self.inside.opened.value; files = c.self.inside.files; stamps = c.self.inside.stamps.entries; tables = c.self.inside.service; history = c.self.inside.history.items; spare = vec_capacity c.self.inside.history - (vec_len c.self.inside.history + awaited_in c.self.inside.service) }
 
-abbrev after : (g : Over) → After-keep g → Store g.row.D.Denot
-after g c = record { opened = c.self.inside.opened.value; files = c.answer_again-done.new.files; stamps = c.answer_again-done.new.stamps.entries; tables = c.answer_again-done.new.service; history = c.keep.new.history.items; spare = vec_capacity c.keep.new.history - (vec_len c.keep.new.history + awaited_in c.answer_again-done.new.service) }
+abbrev after : (g : Over) → After-record_event g → Store g.row.D.Denot
+after g c = record { opened = c.self.inside.opened.value; files = c.answer_again-done.new.files; stamps = c.answer_again-done.new.stamps.entries; tables = c.answer_again-done.new.service; history = c.record_event.new.history.items; spare = vec_capacity c.record_event.new.history - (vec_len c.record_event.new.history + awaited_in c.answer_again-done.new.service) }
 
-keeps : (g : Over) (c : After-keep g) → Keeps c.make_ready_to_resume.new.history.items (Caller c.args.caller) Resume (λ (r : Reply). Replied r) c.answer_again-done.result c.keep.result c.keep.new.history.items
+keeps : (g : Over) (c : After-record_event g) → Keeps c.make_ready_to_resume.new.history.items (Caller c.args.caller) Resume (λ (r : Reply). Replied r) c.answer_again-done.result c.record_event.result c.record_event.new.history.items
 keeps g c = record {
-  kept = c.keep.ensures.kept;
-  memory = λ lacks. (ap (λ (r : Reply). Replied r) (c.keep.ensures.memory lacks).0, (c.keep.ensures.memory lacks).1);
-  failed = λ fails. (ap (λ (r : Reply). Replied r) (c.keep.ensures.failed fails).0, (c.keep.ensures.failed fails).1);
+  kept = c.record_event.ensures.recorded;
+  memory = λ lacks. (ap (λ (r : Reply). Replied r) (c.record_event.ensures.memory lacks).0, (c.record_event.ensures.memory lacks).1);
+  failed = λ fails. (ap (λ (r : Reply). Replied r) (c.record_event.ensures.failed fails).0, (c.record_event.ensures.failed fails).1);
 }
 
-next : (g : Over) (c : After-keep g) → IsNext g.D.Disk (before g c) (Caller c.args.caller) Resume (Replied c.keep.result) (after g c)
+next : (g : Over) (c : After-record_event g) → IsNext g.D.Disk (before g c) (Caller c.args.caller) Resume (Replied c.record_event.result) (after g c)
 next g c =
     event g.D.Disk (before g c) c.self.invariant.0 c.self.invariant.1 c.make_ready_to_resume.new.stamps.entries c.make_ready_to_resume.new.history.items c.make_ready_to_resume.ensures.stamps c.make_ready_to_resume.ensures.same (after g c) c.in_default.ensures.working refl
-    (Caller c.args.caller) Resume tt (λ (r : Reply). Replied r) _ c.keep.result _ (omega (arith, c.self.invariant.2, c.len.ensures)) c.answer_again-done.result
+    (Caller c.args.caller) Resume tt (λ (r : Reply). Replied r) _ c.record_event.result _ (omega (arith, c.self.invariant.2, c.len.ensures)) c.answer_again-done.result
     (record {
       exact = refl;
       replies = c.answer_again-done.ensures.replied.replies;
@@ -60,9 +60,9 @@ answer_again-done-requires-clause-ordered g c = ordered_in c.self.inside.service
 
 pub invariant_of-self-2 : goal.invariant_of-self-2
 invariant_of-self-2 g c =
-    let at = (goal.at.invariant_of-self-2 g c).After-keep in
+    let at = (goal.at.invariant_of-self-2 g c).After-record_event in
     let is = next g at in
-    let more = one_more c.make_ready_to_resume.new.history.items c.keep.new.history.items (Caller c.args.caller) Resume (λ (r : Reply). Replied r) c.answer_again-done.result c.keep.result c.answer_again-done.ensures.replied.ends.no_part (keeps g at) in (
+    let more = one_more c.make_ready_to_resume.new.history.items c.record_event.new.history.items (Caller c.args.caller) Resume (λ (r : Reply). Replied r) c.answer_again-done.result c.record_event.result c.answer_again-done.ensures.replied.ends.no_part (keeps g at) in (
       is.0,
       is.1,
       c.self.invariant.2,
@@ -70,28 +70,28 @@ invariant_of-self-2 g c =
       (
           let fewer = room_again c.self.inside.service c.answer_again-done.new.service (is_aborted (waiting c.self.inside.service c.args.caller)) c.answer_again-done.result c.answer_again-done.ensures.room c.answer_again-done.ensures.replied.err c.answer_again-done.ensures.aborts in
           let there = subst (λ (b : Bool). vec_len c.make_ready_to_resume.new.history + c.awaited-awaited.result + (if b then 0 else 2) ≤ vec_capacity c.make_ready_to_resume.new.history) c.is_aborted-aborted.ensures c.in_default.ensures.room in
-          omega (arith, more, fewer, there, c.awaited-awaited.ensures.count, c.keep.ensures.room)
+          omega (arith, more, fewer, there, c.awaited-awaited.ensures.count, c.record_event.ensures.room)
           ),
       lasting (superblock_of c.self.inside.files) c.self.inside.files.held _ _ _ _ c.self.inside.service c.answer_again-done.new.service (Caller c.args.caller) Resume c.answer_again-done.result c.answer_again-done.ensures.replied.left c.answer_again-done.ensures.replied.err c.self.invariant.5,
     )
 
 pub returns-clause-resumed : goal.returns-clause-resumed
-returns-clause-resumed g c = subst (λ (old : Store g.row.D.Denot). IsResumed g.D.Disk old c.args.caller c.keep.result (after g (goal.at.returns-clause-resumed g c).After-keep)) c.self.view_is (next g (goal.at.returns-clause-resumed g c).After-keep).2
+returns-clause-resumed g c = subst (λ (old : Store g.row.D.Denot). IsResumed g.D.Disk old c.args.caller c.record_event.result (after g (goal.at.returns-clause-resumed g c).After-record_event)) c.self.view_is (next g (goal.at.returns-clause-resumed g c).After-record_event).2
 
 pub returns-clause-safe : goal.returns-clause-safe
-returns-clause-safe g c = (next g (goal.at.returns-clause-safe g c).After-keep).1.now
+returns-clause-safe g c = (next g (goal.at.returns-clause-safe g c).After-record_event).1.now
 
 pub returns-in-Err-clause-safe : goal.returns-in-Err-clause-safe
 returns-in-Err-clause-safe g c = rw (c.make_ready_to_resume.ensures.same) c.self.invariant.1.now
 
 pub returns-clause-room : goal.returns-clause-room
 returns-clause-room g c =
-    let at = (goal.at.returns-clause-room g c).After-keep in
-    let more = one_more c.make_ready_to_resume.new.history.items c.keep.new.history.items (Caller c.args.caller) Resume (λ (r : Reply). Replied r) c.answer_again-done.result c.keep.result c.answer_again-done.ensures.replied.ends.no_part (keeps g at) in
+    let at = (goal.at.returns-clause-room g c).After-record_event in
+    let more = one_more c.make_ready_to_resume.new.history.items c.record_event.new.history.items (Caller c.args.caller) Resume (λ (r : Reply). Replied r) c.answer_again-done.result c.record_event.result c.answer_again-done.ensures.replied.ends.no_part (keeps g at) in
     let fewer = room_again c.self.inside.service c.answer_again-done.new.service (is_aborted (waiting c.self.inside.service c.args.caller)) c.answer_again-done.result c.answer_again-done.ensures.room c.answer_again-done.ensures.replied.err c.answer_again-done.ensures.aborts in
     let noted = ap length c.make_ready_to_resume.ensures.same in
     subst (λ (old : Store g.row.D.Denot). old.spare ≤ (after g at).spare + (if is_aborted (waiting old.tables c.args.caller) then 0 else 2)) c.self.view_is
-    (omega (arith, more, fewer, noted, c.make_ready_to_resume.ensures.keeps, c.keep.ensures.room, c.self.invariant.4))
+    (omega (arith, more, fewer, noted, c.make_ready_to_resume.ensures.keeps, c.record_event.ensures.room, c.self.invariant.4))
 
 pub returns-in-Err-clause-room : goal.returns-in-Err-clause-room
 returns-in-Err-clause-room g c =
@@ -101,8 +101,8 @@ returns-in-Err-clause-room g c =
 
 pub returns-clause-keeps : goal.returns-clause-keeps
 returns-clause-keeps g c =
-    let at = (goal.at.returns-clause-keeps g c).After-keep in
-    subst (λ (old : Store g.row.D.Denot). KeepsRoom old (after g at)) c.self.view_is (omega (arith, c.make_ready_to_resume.ensures.keeps, c.keep.ensures.room, c.self.invariant.4))
+    let at = (goal.at.returns-clause-keeps g c).After-record_event in
+    subst (λ (old : Store g.row.D.Denot). KeepsRoom old (after g at)) c.self.view_is (omega (arith, c.make_ready_to_resume.ensures.keeps, c.record_event.ensures.room, c.self.invariant.4))
 
 pub returns-in-Err-clause-keeps : goal.returns-in-Err-clause-keeps
 returns-in-Err-clause-keeps g c =

@@ -13,10 +13,10 @@ returns-in_err-heard-clause-stopped g c =
     rw (p.1, p.2) (inr (migrate_stops g.D.Disk g.M.Drive c.self.view_is c.in_ok-act.act c.in-Some.migrating c.next.new.self c.in-Some.is c.next.ensures.heard c.in_ok-act.ensures.ok c.in_err-heard.field-0.0 c.act.new.self c.in_err-heard.ensures.stopped))
 
 pub returns-clause-stepped : goal.returns-clause-stepped
-returns-clause-stepped g c = inr (migrate_acts g.D.Disk g.M.Drive c.self.view_is c.in_ok-act.act c.in-Some.migrating c.next.new.self c.in-Some.is c.next.ensures.heard c.in_ok-act.ensures.ok c.in_ok-heard.heard c.act.new.self c.keep_migrate.new.self c.in_ok-heard.ensures.performed c.keep_migrate.ensures)
+returns-clause-stepped g c = inr (migrate_acts g.D.Disk g.M.Drive c.self.view_is c.in_ok-act.act c.in-Some.migrating c.next.new.self c.in-Some.is c.next.ensures.heard c.in_ok-act.ensures.ok c.in_ok-heard.heard c.act.new.self c.tell_migrate.new.self c.in_ok-heard.ensures.performed c.tell_migrate.ensures)
 
-pub keep_migrate-requires : goal.keep_migrate-requires
-keep_migrate-requires g c = migrate_hears g.D.Disk g.M.Drive c.self.view_is c.in_ok-act.act c.in-Some.migrating c.next.new.self c.in-Some.is c.next.ensures.heard c.in_ok-act.ensures.ok c.in_ok-heard.heard c.act.new.self c.in_ok-heard.ensures.performed
+pub tell_migrate-requires : goal.tell_migrate-requires
+tell_migrate-requires g c = migrate_hears g.D.Disk g.M.Drive c.self.view_is c.in_ok-act.act c.in-Some.migrating c.next.new.self c.in-Some.is c.next.ensures.heard c.in_ok-act.ensures.ok c.in_ok-heard.heard c.act.new.self c.in_ok-heard.ensures.performed
 
 pub invariant_of-self-2 : goal.invariant_of-self-2
 invariant_of-self-2 g c = record {

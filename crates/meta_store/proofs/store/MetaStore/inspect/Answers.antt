@@ -14,18 +14,18 @@ returns-in-Err-Corrupt-clause-corrupt g c = λ place is image given.
     (rw (← place_is _ _ is) c.selected-snapshot.ensures.snapshot) (c.in-Err-Corrupt.ensures.corrupt (ap (λ (e : ReadRefusal). Err e) c.in-Err-Corrupt.field-0-is))
 
 pub is_closed-requires : goal.is_closed-requires
-is_closed-requires g c = omega (arith, gate_fits c.in-Ok.loaded.geometry c.in-Ok.loaded.slots.second, c.selected-snapshot.ensures.journal, c.load.ensures.keeps.moments.length, c.in-Ok.ensures.length)
+is_closed-requires g c = omega (arith, gate_fits c.in-Ok.loaded.geometry c.in-Ok.loaded.slots.slot, c.selected-snapshot.ensures.journal, c.load.ensures.keeps.moments.length, c.in-Ok.ensures.length)
 
 pub returns-in-Ok-false-clause-corrupt : goal.returns-in-Ok-false-clause-corrupt
 returns-in-Ok-false-clause-corrupt g c = λ place is image given.
     rw (← place_is _ _ is) (gate_corrupt (record { store = c.in-Ok.ensures.found image given; select = c.in-Ok.ensures.selected image given; holds = c.deref.ensures.value ∙ c.in-Ok.ensures.image image given })
-    _ c.selected-snapshot.ensures.journal _ _ c.in-Ok-judge.ensures.geometry c.in-Ok-judge.ensures.found ((c.in-Ok-false.ensures.closed image (c.load.ensures.given.1 image given)).1 c.in-Ok-false.field-0-test))
+    _ c.selected-snapshot.ensures.journal _ _ c.in-Ok-catalog_in.ensures.geometry c.in-Ok-catalog_in.ensures.found ((c.in-Ok-false.ensures.closed image (c.load.ensures.given.1 image given)).1 c.in-Ok-false.field-0-test))
 
 pub returns-clause-found : goal.returns-clause-found
 returns-clause-found g c = λ image given. (
   c.in-Ok.ensures.selected image given,
   rw c.of.ensures (image_found (record { store = c.in-Ok.ensures.found image given; select = c.in-Ok.ensures.selected image given; holds = c.deref.ensures.value ∙ c.in-Ok.ensures.image image given })
-      _ c.selected-snapshot.ensures.journal _ _ c.in-Ok-judge.ensures.geometry c.in-Ok-judge.ensures.found ((c.in-Ok-true.ensures.closed image (c.load.ensures.given.1 image given)).0 c.in-Ok-true.field-0-test)),
+      _ c.selected-snapshot.ensures.journal _ _ c.in-Ok-catalog_in.ensures.geometry c.in-Ok-catalog_in.ensures.found ((c.in-Ok-true.ensures.closed image (c.load.ensures.given.1 image given)).0 c.in-Ok-true.field-0-test)),
 )
 
 pub returns-in-Ok-false-clause-keeps : goal.returns-in-Ok-false-clause-keeps

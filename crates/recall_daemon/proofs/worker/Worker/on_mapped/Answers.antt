@@ -17,4 +17,4 @@ pub returns-clause-ok : goal.returns-clause-ok
 returns-clause-ok c =
     let w = rw c.requires.serving at c.requires.worker.waits in
     let away : c.in_ok-self.field-0.items ≡ away_in c.in-Some.segments.now = c.in_ok-self.ensures ∙ ap away_in c.as_slice.ensures in
-    rw (w.1, mapped_done _ _ _ _ _ _ c.in-Some.ensures, c.requires.serving, ← away) (c.serve.ensures _ _ tt)
+    rw (w.1, mapped_done _ _ _ _ _ _ c.in-Some.ensures, c.requires.serving, ← away) (c.work_on.ensures _ _ tt)

@@ -11,7 +11,7 @@ pub returns-then-tells_done : goal.returns-then-tells_done
 returns-then-tells_done c =
     let w = rw c.requires.serving at c.requires.worker.waits in
     let left : c.retain.new.self.items ≡ filter (λ (a : Away). not (a.segment == c.args.away.segment)) c.args.self.now.away.items = filter_same _ _ _ (λ x b f' k. search rules) _ _ c.retain.ensures.filtered in
-    rw (w.1.1, is_done _ (sym c.tells_done.ensures ∙ c.if-tells_done.true), c.requires.serving, ← left) (c.serve.ensures _ _ tt)
+    rw (w.1.1, is_done _ (sym c.tells_done.ensures ∙ c.if-tells_done.true), c.requires.serving, ← left) (c.work_on.ensures _ _ tt)
 
 pub on_unrestored-requires-clause-hand : goal.on_unrestored-requires-clause-hand
 on_unrestored-requires-clause-hand c = (mapped c.args.event.now c.args.size c.args.self.now.away.items, rw c.requires.serving refl, refl)

@@ -17,7 +17,7 @@ pub(crate) enum Verdict {
 }
 
 /// What the refusal of a call comes to.
-pub(crate) fn judge(work: Work, why: DmRefusal) -> Verdict
+pub(crate) fn verdict_on(work: Work, why: DmRefusal) -> Verdict
     ensures { Judges work why result }
 {
     match why {

@@ -2,7 +2,7 @@ use Rattle.std.proofs.Common.{refl, inr, Some}
 use Rattle.recall_daemon.specs.Known.{with_hand}
 use Rattle.recall_daemon.specs.Workers.{mapped}
 use Rattle.recall_daemon.proofs.Ready.{ready}
-use Rattle.recall_daemon.proofs.worker.Worker.serve.Goals as goal
+use Rattle.recall_daemon.proofs.worker.Worker.work_on.Goals as goal
 
 pub returns-in-None : goal.returns-in-None
 returns-in-None c =
