@@ -1,5 +1,6 @@
 //! `hsm format PATH small` makes a store in a file. `hsm replay PATH DIR` runs a script from standard input on it, and writes what
-//! happened to standard output; `hsm replay` does so on a new store in memory.
+//! happened to standard output; `hsm replay` does so on a new store in memory. `hsm show PATH DIR` tells what the store and its volumes have, and
+//! `hsm drill N` runs the script that it draws from a number.
 #![tactic(auto)]
 
 ghost use Rattle.std.specs.Prelude.{◌≡◌};

@@ -1,7 +1,9 @@
 -- A run in which nothing fails ends well, or for want of memory.
 use Rattle.std.proofs.Common.{ℕ, ◌≡◌, ◌≢◌, ◌⊎◌, inl, inr, ⊎_elim, List, [], Option, Some, None, IfSome, IsSome, refl, sym, ◌∙◌, subst}
+use Rattle.command_words.specs.Commands.{Replay, ReplayStore}
 use Rattle.disk_model.specs.declared.device.Disk as disk
 use Rattle.disk_model.specs.Calls.{Rose}
+use Rattle.media_model.specs.declared.drive.Drive as drive
 use Rattle.meta_store.specs.Catalogs.{Catalog}
 use Rattle.meta_store.specs.Snapshots.{IsSnapshot}
 use Rattle.meta_store.specs.Images.{IsImage, IsCorruptAt, IsClosed, area_of, gate_of}
@@ -13,7 +15,6 @@ use Rattle.script_text.specs.declared.lines.Line.{Line}
 use Rattle.hsm_cli.specs.declared.causes.Cause.{Cause}
 use Rattle.hsm_cli.specs.declared.causes.Cause.TheVariants.{ScriptRefused, WordsRefused, NotStore, Corrupt, ReadFault, WriteFault, DiskFault, HostFault, NoMemory}
 use Rattle.hsm_cli.specs.declared.outcomes.Outcome.{Outcome}
-use Rattle.hsm_cli.specs.Commands.{Replay, ReplayStore}
 use Rattle.hsm_cli.specs.Statuses.{status_of, place_of}
 use Rattle.hsm_cli.specs.Openings.{opened_in, base_of}
 use Rattle.hsm_cli.specs.Sources.{script_bytes}
@@ -22,15 +23,15 @@ use Rattle.hsm_cli.specs.Endings.{RunEnds}
 use Rattle.hsm_cli.specs.Clauses.{Why, GivesScript, NothingFails, HasFailed, HasBegun, CanEnd, FindsNothing, TellsStore, Lacks, StatusClause}
 
 -- an image on which recovery finds something isn't corrupt
-not_corrupt : (place fsid n : ℕ) (c : Catalog) (image : List ℕ) → IsImage fsid n c image → IsCorruptAt place image → ⊥
+pub not_corrupt : (place fsid n : ℕ) (c : Catalog) (image : List ℕ) → IsImage fsid n c image → IsCorruptAt place image → ⊥
 not_corrupt place fsid n c image found corrupt =
     let same : c.geometry ≡ corrupt.geometry = sym found.found.superblock.says_geometry ∙ corrupt.found.superblock.says_geometry in
     let snapshot : IsSnapshot (area_of corrupt.geometry image) n c = subst (λ (geometry : ℕ). IsSnapshot (area_of geometry image) n c) same found.snapshot in
     let gate : IsClosed (gate_of corrupt.geometry image) = subst (λ (geometry : ℕ). IsClosed (gate_of geometry image)) same found.gate in
     ⊎_elim (λ fault. fault.1 n c same snapshot) (λ fault. fault.1 gate) corrupt.fault
 
-module _ (law : (bytes : List ℕ) (lines : List Line) → IsScript bytes lines → IsOneScript bytes lines) {D : Type 0} (g : disk.Ghosts D) (source : SourceTold) (sink : SinkTold) (host : HostTold) (disk : Option D)
-    (script : GivesScript source.given) (works : NothingFails g source sink host disk) where
+module _ (law : (bytes : List ℕ) (lines : List Line) → IsScript bytes lines → IsOneScript bytes lines) {D : Type 0} (g : disk.Ghosts D) (Fails : Type 0) (source : SourceTold) (sink : SinkTold) (disk : Option D)
+    (script : GivesScript source.given) (works : NothingFails g Fails source sink disk) where
   -- a script isn't refused
   accepted : (line : ℕ) → IfSome source.given (λ bytes. IsFirstBad (script_bytes bytes) line) → ⊥
   accepted line bad =
@@ -50,7 +51,7 @@ module _ (law : (bytes : List ℕ) (lines : List Line) → IsScript bytes lines 
   complete_new (Some HostFault) ends = absurd ends
 
   pub complete_store : (named : List ℕ → Type 0) (image : List ℕ) (geometry fsid n : ℕ) (h : Held) (cause : Option Cause) → named image → IsRecovered geometry fsid n h image
-      → cause ≢ Some WordsRefused → Why g named source sink host disk cause → (cause ≡ None) ⊎ (cause ≡ Some NoMemory)
+      → cause ≢ Some WordsRefused → Why g named Fails source sink disk cause → (cause ≡ None) ⊎ (cause ≡ Some NoMemory)
   complete_store named image geometry fsid n h None is found words why = inl refl
   complete_store named image geometry fsid n h (Some NoMemory) is found words why = inr refl
   complete_store named image geometry fsid n h (Some (ScriptRefused line)) is found words why = absurd (accepted line why)
@@ -62,8 +63,8 @@ module _ (law : (bytes : List ℕ) (lines : List Line) → IsScript bytes lines 
   complete_store named image geometry fsid n h (Some NotStore) is found words why = absurd (why image is found.catalog.geometry fsid found.is.found)
   complete_store named image geometry fsid n h (Some (Corrupt place)) is found words why = absurd (not_corrupt place fsid n found.catalog image found.is (why image is))
 
-module _ {D : Type 0} (g : disk.Ghosts D) (named : List ℕ → Type 0) (source : SourceTold) (sink : SinkTold) (host : HostTold) (disk : Option D) where
-  why_new : (cause : Option Cause) → RunEnds ⊥ ⊥ source sink cause → Why g named source sink host disk cause
+module _ {D : Type 0} (g : disk.Ghosts D) (named : List ℕ → Type 0) (Fails : Type 0) (source : SourceTold) (sink : SinkTold) (disk : Option D) where
+  why_new : (cause : Option Cause) → RunEnds ⊥ ⊥ source sink cause → Why g named Fails source sink disk cause
   why_new None ends = tt
   why_new (Some NoMemory) ends = tt
   why_new (Some (ScriptRefused line)) ends = ends
@@ -101,59 +102,66 @@ can_end_store path dir (Some NotStore) = tt
 can_end_store path dir (Some (Corrupt place)) = tt
 can_end_store path dir (Some HostFault) = tt
 
+-- a disk that came is there
+pub came_not : {D : Type 0} (disk : Option D) → disk ≡ None → IsSome disk → ⊥
+came_not None none came = absurd cc
+came_not (Some d) none came = absurd cc
+
 module _ {D : Type 0} (g : disk.Ghosts D) (named : List ℕ → Type 0) (image : List ℕ) (is : named image) (nothing : FindsNothing image) where
   -- a store on whose image recovery finds nothing wasn't opened
   not_opened : (opened : Option (Store D)) → IfSome opened (λ s. (s.held ≡ s.durable) × ((i : List ℕ) → named i → IsDurable s i)) → IsSome opened → ⊥
   not_opened None durable some = absurd cc
   not_opened (Some s) durable some = nothing s.meta.durable.geometry s.meta.fsid s.meta.number s.durable (durable.1 image is)
 
-  refused_store : (host : HostTold) (disk : Option D) (opened : Option (Store D)) (cause : Option Cause) → HasBegun opened cause → IfSome opened (λ s. (s.held ≡ s.durable) × ((i : List ℕ) → named i → IsDurable s i))
-      → (source : SourceTold) (sink : SinkTold) → Why g named source sink host disk cause → cause ≢ Some WordsRefused → ¬ (Rose host.before host.now) → ¬ (HasFailed g disk) → TellsStore cause ⊎ (cause ≡ Some NoMemory)
-  refused_store host disk opened None begun durable source sink why words host_works disk_works = absurd (not_opened opened durable begun)
-  refused_store host disk opened (Some (ScriptRefused line)) begun durable source sink why words host_works disk_works = absurd (not_opened opened durable begun)
-  refused_store host disk opened (Some ReadFault) begun durable source sink why words host_works disk_works = absurd (not_opened opened durable begun)
-  refused_store host disk opened (Some WriteFault) begun durable source sink why words host_works disk_works = absurd (not_opened opened durable begun)
-  refused_store host disk opened (Some DiskFault) begun durable source sink why words host_works disk_works = absurd (disk_works why)
-  refused_store host disk opened (Some HostFault) begun durable source sink why words host_works disk_works = absurd (host_works why)
-  refused_store host disk opened (Some WordsRefused) begun durable source sink why words host_works disk_works = absurd (words refl)
-  refused_store host disk opened (Some NotStore) begun durable source sink why words host_works disk_works = inl tt
-  refused_store host disk opened (Some (Corrupt place)) begun durable source sink why words host_works disk_works = inl tt
-  refused_store host disk opened (Some NoMemory) begun durable source sink why words host_works disk_works = inr refl
+  refused_store : (host : HostTold) (disk : Option D) (opened : Option (Store D)) (A : Type 0) (cause : Option Cause) → HasBegun opened cause → IfSome opened (λ s. (s.held ≡ s.durable) × ((i : List ℕ) → named i → IsDurable s i))
+      → (source : SourceTold) (sink : SinkTold) → Why g named (Rose host.before host.now) source sink disk cause → cause ≢ Some WordsRefused → (cause ≡ Some HostFault → (disk ≡ None) ⊎ (IsSome opened × A)) → IsSome disk → ¬ (HasFailed g disk) → TellsStore cause ⊎ (cause ≡ Some NoMemory)
+  refused_store host disk opened A None begun durable source sink why words lent came disk_works = absurd (not_opened opened durable begun)
+  refused_store host disk opened A (Some (ScriptRefused line)) begun durable source sink why words lent came disk_works = absurd (not_opened opened durable begun)
+  refused_store host disk opened A (Some ReadFault) begun durable source sink why words lent came disk_works = absurd (not_opened opened durable begun)
+  refused_store host disk opened A (Some WriteFault) begun durable source sink why words lent came disk_works = absurd (not_opened opened durable begun)
+  refused_store host disk opened A (Some DiskFault) begun durable source sink why words lent came disk_works = absurd (disk_works why)
+  refused_store host disk opened A (Some HostFault) begun durable source sink why words lent came disk_works = absurd (⊎_elim (λ none. came_not disk none came) (λ lacks. not_opened opened durable lacks.0) (lent refl))
+  refused_store host disk opened A (Some WordsRefused) begun durable source sink why words lent came disk_works = absurd (words refl)
+  refused_store host disk opened A (Some NotStore) begun durable source sink why words lent came disk_works = inl tt
+  refused_store host disk opened A (Some (Corrupt place)) begun durable source sink why words lent came disk_works = inl tt
+  refused_store host disk opened A (Some NoMemory) begun durable source sink why words lent came disk_works = inr refl
 
 words_given : (source : SourceTold) (sink : SinkTold) (cause : Option Cause) → RunEnds ⊥ ⊥ source sink cause → cause ≡ Some WordsRefused → ⊥
 words_given source sink cause ends is = subst (λ (c : Option Cause). RunEnds ⊥ ⊥ source sink c) is ends
 
-module _ (law : (bytes : List ℕ) (lines : List Line) → IsScript bytes lines → IsOneScript bytes lines) {D M : Type 0} (g : disk.Ghosts D) (holds : List ℕ → List ℕ → Type 0) (source : SourceTold) (sink : SinkTold) (host : HostTold) (o : Outcome D M)
+module _ (law : (bytes : List ℕ) (lines : List Line) → IsScript bytes lines → IsOneScript bytes lines) {D M : Type 0} (g : disk.Ghosts D) (h : drive.Ghosts M) (holds : List ℕ → List ℕ → Type 0) (source : SourceTold) (sink : SinkTold) (host : HostTold) (o : Outcome D M)
     (told : (o.status ≡ status_of o.cause) × (o.at ≡ place_of o.cause)) where
-  pub status_new : (o.opening ≡ None) × (o.disk ≡ None) × (o.base ≡ 0) × (o.drives ≡ []) → RunEnds ⊥ ⊥ source sink o.cause → StatusClause g (Some Replay) holds source sink host o
+  pub status_new : (o.opening ≡ None) × (o.disk ≡ None) × (o.base ≡ 0) × (o.drives ≡ []) → RunEnds ⊥ ⊥ source sink o.cause → StatusClause g h (Some Replay) holds source sink host o
   status_new new ends = record {
     status = told.0;
     place = told.1;
     base = rw new.0 new.2;
-    words = ((λ is. absurd (words_given source sink o.cause ends is)), (λ is. absurd cc));
-    why = why_new g (λ _. ⊥) source sink host o.disk o.cause ends;
+    words = λ is. absurd (words_given source sink o.cause ends is);
+    no_words = λ is. absurd cc;
+    why = why_new g (λ _. ⊥) (Rose host.before host.now) source sink o.disk o.cause ends;
     forms = can_end_new source sink o.cause ends;
     begun = λ opens. absurd opens;
     lent = λ is. inl new.1;
     back = λ names. absurd names;
     opened = rw new.0 tt;
     refused = λ image is. absurd is;
-    complete = λ store script works. complete_new law g source sink host o.disk script works o.cause ends;
+    complete = λ store script works. complete_new law g (Rose host.before host.now) source sink o.disk script works o.cause ends;
   }
 
   pub status_store : (path dir : List ℕ) → o.base ≡ base_of (opened_in o) → o.cause ≢ Some WordsRefused → HasBegun (opened_in o) o.cause → IfSome (opened_in o) (λ s. (s.held ≡ s.durable) × ((image : List ℕ) → holds path image → IsDurable s image))
-      → (o.cause ≡ Some HostFault → Lacks o) → (o.disk ≡ None → (o.cause ≡ Some HostFault) ⊎ (o.cause ≡ Some NoMemory)) → Why g (holds path) source sink host o.disk o.cause → StatusClause g (Some (ReplayStore path dir)) holds source sink host o
+      → (o.cause ≡ Some HostFault → Lacks o) → (o.disk ≡ None → (o.cause ≡ Some HostFault) ⊎ (o.cause ≡ Some NoMemory)) → Why g (holds path) (Rose host.before host.now) source sink o.disk o.cause → StatusClause g h (Some (ReplayStore path dir)) holds source sink host o
   status_store path dir base words begun opened lent back why = record {
     status = told.0;
     place = told.1;
     base = base;
-    words = ((λ is. absurd (words is)), (λ is. absurd cc));
+    words = λ is. absurd (words is);
+    no_words = λ is. absurd cc;
     why = why;
     forms = can_end_store path dir o.cause;
     begun = λ opens. begun;
     lent = lent;
     back = λ names. back;
     opened = opened;
-    refused = λ image is nothing. refused_store g (holds path) image is nothing host o.disk (opened_in o) o.cause begun opened source sink why words;
-    complete = λ store script works. complete_store law g source sink host o.disk script works (holds path) store.0 store.2 store.3 store.4 store.5 o.cause store.1 store.6 words why;
+    refused = λ image is nothing. refused_store g (holds path) image is nothing host o.disk (opened_in o) (o.drives ≡ []) o.cause begun opened source sink why words lent;
+    complete = λ store script works. complete_store law g (Rose host.before host.now) source sink o.disk script works (holds path) store.0 store.2 store.3 store.4 store.5 o.cause store.1 store.6 words why;
   }

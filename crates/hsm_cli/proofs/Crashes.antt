@@ -16,7 +16,7 @@ use Rattle.file_store.specs.Stores.{Store, IsRecovered, IsDurable}
 use Rattle.hsm_core.specs.Crashes.{IsPrefix}
 use Rattle.hsm_cli.specs.Hosts.{IsHanded}
 use Rattle.hsm_cli.specs.Statuses.{cause_of_refusal}
-use Rattle.hsm_cli.specs.Told.{SourceTold, SinkTold, HostTold}
+use Rattle.hsm_cli.specs.Told.{SourceTold, SinkTold}
 use Rattle.hsm_cli.specs.declared.causes.Cause.{Cause}
 use Rattle.hsm_cli.specs.Clauses.{IsCrashSafe, IsWhole, IsBeforeRun, RanToItsEnd, Why}
 use Rattle.hsm_cli.proofs.Running.{rose_later}
@@ -66,12 +66,12 @@ module _ {D : Type 0} (g : disk.Ghosts D) (held : List ℕ → Type 0) (handed :
       (λ since now whole. safe_from files history cause disk keeps alike durable same since now whole untouched) since now whole
 
   -- why the disk isn't opened
-  pub why_unopened : (source : SourceTold) (sink : SinkTold) (host : HostTold) (disk : D) (refusal : OpenRefusal)
+  pub why_unopened : (Fails : Type 0) (source : SourceTold) (sink : SinkTold) (disk : D) (refusal : OpenRefusal)
       → (refusal ≡ opening.NotStore → (c : List ℕ) → g.gives handed c → (geometry fsid : ℕ) → IsStore geometry fsid c → ⊥)
       → ((place : ℕ) → refusal ≡ opening.Corrupt place → (c : List ℕ) → g.gives handed c → IsCorruptAt place c)
       → (refusal ≡ opening.Disk → Rose (g.fault_count handed) (g.fault_count disk))
-      → Why g held source sink host (Some disk) (Some (cause_of_refusal refusal))
-  why_unopened source sink host disk opening.NotStore not_store corrupt failed = λ c holds. not_store refl c (by_host.given c holds)
-  why_unopened source sink host disk (opening.Corrupt place) not_store corrupt failed = λ c holds. corrupt place refl c (by_host.given c holds)
-  why_unopened source sink host disk opening.Disk not_store corrupt failed = record { disk = disk; back = refl; rose = rose_later 0 (g.fault_count handed) (g.fault_count disk) (omega arith) (failed refl) }
-  why_unopened source sink host disk opening.Memory not_store corrupt failed = tt
+      → Why g held Fails source sink (Some disk) (Some (cause_of_refusal refusal))
+  why_unopened Fails source sink disk opening.NotStore not_store corrupt failed = λ c holds. not_store refl c (by_host.given c holds)
+  why_unopened Fails source sink disk (opening.Corrupt place) not_store corrupt failed = λ c holds. corrupt place refl c (by_host.given c holds)
+  why_unopened Fails source sink disk opening.Disk not_store corrupt failed = record { disk = disk; back = refl; rose = rose_later 0 (g.fault_count handed) (g.fault_count disk) (omega arith) (failed refl) }
+  why_unopened Fails source sink disk opening.Memory not_store corrupt failed = tt

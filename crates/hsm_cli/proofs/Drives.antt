@@ -18,10 +18,14 @@ use Rattle.hsm_cli.specs.Clauses.{Why, HasFailed, GivesBack, HandsOut, HandsDriv
 
 -- ---- the drives that come back
 
-module _ {S M : Type 0} (g : drive.Ghosts M) (old mid : ℕ → Objects → Type 0) (same : (v : ℕ) → Alike (old v) (mid v)) (opened : S) where
+module _ {M : Type 0} (g : drive.Ghosts M) (old mid : ℕ → Objects → Type 0) (same : (v : ℕ) → Alike (old v) (mid v)) where
   -- what was handed out of a folder since it had the same objects
+  pub handed_since : (drives volumes capacity : ℕ) (given : List M) → AreHanded g mid drives volumes capacity given → AreHanded g old drives volumes capacity given
+  handed_since drives volumes capacity given h = record { count = h.count; counted = h.counted; room = h.room; has = h.has; there = λ v o within stored. h.there v o within ((same v).1 o stored) }
+
+module _ {S M : Type 0} (g : drive.Ghosts M) (old mid : ℕ → Objects → Type 0) (same : (v : ℕ) → Alike (old v) (mid v)) (opened : S) where
   handed_from : (given : List M) → AreHanded g mid standard.drives standard.volumes standard.capacity given → AreHanded g old standard.drives standard.volumes standard.capacity given
-  handed_from given h = record { count = h.count; counted = h.counted; room = h.room; has = h.has; there = λ v o within stored. h.there v o within ((same v).1 o stored) }
+  handed_from given h = handed_since g old mid same standard.drives standard.volumes standard.capacity given h
 
   -- what marks tell with the drives that came
   pub tallies_since : {V : Type 0} (items : V → List M) (ready : Result V Cause) (left : List M) → IfOk ready (λ ds. AreHanded g mid standard.drives standard.volumes standard.capacity (items ds)) → IfOk ready (λ ds. (marks : List Mark) → Tallies g (items ds) left standard marks → TalliesSince g old left marks)
@@ -82,7 +86,7 @@ fault_told before host (Ok x) le why fails = cc
 fault_told before host (Err why) le ends fails = let is : why ≡ HostFault = cc in rose_from before host.before host.now le (subst (HandingEnds host) is ends)
 
 module _ {D : Type 0} (g : disk.Ghosts D) (named : List ℕ → Type 0) (source : SourceTold) (sink : SinkTold) (host : HostTold) (disk : Option D) where
-  why_run : (HostFails DiskFails : Type 0) → (HostFails → Rose host.before host.now) → (DiskFails → HasFailed g disk) → (cause : Option Cause) → RunEnds HostFails DiskFails source sink cause → Why g named source sink host disk cause
+  why_run : (HostFails DiskFails : Type 0) → (HostFails → Rose host.before host.now) → (DiskFails → HasFailed g disk) → (cause : Option Cause) → RunEnds HostFails DiskFails source sink cause → Why g named (Rose host.before host.now) source sink disk cause
   why_run HostFails DiskFails by_host by_disk None ends = tt
   why_run HostFails DiskFails by_host by_disk (Some (ScriptRefused line)) ends = ends
   why_run HostFails DiskFails by_host by_disk (Some WordsRefused) ends = tt
@@ -96,7 +100,7 @@ module _ {D : Type 0} (g : disk.Ghosts D) (named : List ℕ → Type 0) (source 
 
   -- of a run on an opened store, since that count of the host
   pub why_served : {V : Type 0} (asked : HostTold) (ready : Result V Cause) (DiskFails : Type 0) (cause : Option Cause) → host.before ≤ asked.before → asked.now ≡ host.now → IfErr ready (HandingEnds asked)
-      → (DiskFails → HasFailed g disk) → RunEnds (IsErrOf ready HostFault) DiskFails source sink cause → Why g named source sink host disk cause
+      → (DiskFails → HasFailed g disk) → RunEnds (IsErrOf ready HostFault) DiskFails source sink cause → Why g named (Rose host.before host.now) source sink disk cause
   why_served asked ready DiskFails cause le same why by_disk ends = why_run (IsErrOf ready HostFault) DiskFails (λ fails. subst (Rose host.before) same (fault_told host.before asked ready le why fails)) by_disk cause ends
 
 -- ---- what the host has left
@@ -106,10 +110,10 @@ pub disk_came : {D : Type 0} (path : List ℕ) (old mid new : List ℕ → List 
 disk_came path old mid new d gone others all = (λ c holds. gone c ((all path).0 c holds), λ other differs. (λ c holds. (others other differs).0 c ((all other).0 c holds), λ c holds. (all other).1 c ((others other differs).1 c holds)))
 
 -- the folders stayed, and then drives came or not
-stayed : (old mid new : List ℕ → ℕ → Objects → Type 0) → StoresAll old mid → StoresAll mid new → StoresAll old new
+pub stayed : (old mid new : List ℕ → ℕ → Objects → Type 0) → StoresAll old mid → StoresAll mid new → StoresAll old new
 stayed old mid new same hands = λ name v. (λ o has. (same name v).0 o ((hands name v).0 o has), λ o has. (hands name v).1 o ((same name v).1 o has))
 
-all_came : {M : Type 0} (dir : List ℕ) (old mid new : List ℕ → ℕ → Objects → Type 0) (given : List M) → StoresAll old mid → HandsDrives dir mid new given → HandsDrives dir old new given
+pub all_came : {M : Type 0} (dir : List ℕ) (old mid new : List ℕ → ℕ → Objects → Type 0) (given : List M) → StoresAll old mid → HandsDrives dir mid new given → HandsDrives dir old new given
 all_came dir old mid new [] same hands = stayed old mid new same hands
 all_came dir old mid new (d ∷ ds) same hands = (hands.0, λ other differs v. (λ o has. (same other v).0 o ((hands.1 other differs v).0 o has), λ o has. (hands.1 other differs v).1 o ((same other v).1 o has)))
 

@@ -10,17 +10,17 @@ use Rattle.hsm_cli.specs.Told.{SourceTold, SinkTold}
 use Rattle.hsm_cli.specs.Clauses.{HasRun, IsBeforeRun}
 use Rattle.hsm_cli.specs.Endings.{cause_in, WritingEnds, first_of}
 
+-- all lines are the first ones
+first_of_lines : (Settles : List Line → List Mark → Type 0) (lines : List Line) (marks : List Mark) → RunsBy Settles lines marks → FollowsFirst Settles lines marks
+first_of_lines Settles lines marks runs = record { done = lines; rest = []; split = sym (append-nil lines); ended = marks; begun = []; parted = sym (append-nil marks); runs = runs; next = inl refl; by = tt }
+
 module _ (Settles : List Line → List Mark → Type 0) (Tells : List Mark → Type 0) (commits : Bool) (source : SourceTold) (history : List Entry) where
   first_of_script : (given : Option (List ℕ)) (marks : List Mark) → IfSome given (λ bytes. IsOfScript (λ ls ms. RunsBy Settles (lines_run commits ls) ms) bytes marks) → IfSome given (λ bytes. IsOfScript (λ ls ms. FollowsFirst Settles (lines_run commits ls) ms) bytes marks)
   first_of_script None marks all = tt
-  first_of_script (Some bytes) marks all = record {
-    lines = all.lines;
-    script = all.script;
-    follows = record { done = lines_run commits all.lines; rest = []; split = sym (append-nil (lines_run commits all.lines)); ended = marks; begun = []; parted = sym (append-nil marks); runs = all.follows; next = inl refl; by = tt };
-  }
+  first_of_script (Some bytes) marks all = record { lines = all.lines; script = all.script; follows = first_of_lines Settles (lines_run commits all.lines) marks all.follows }
 
   all_is_first : RunsAll Settles Tells commits source.given history → RunsFirst Settles Tells commits source.given history
-  all_is_first all = record { marks = all.marks; entries = all.entries; script = first_of_script source.given all.marks all.script; served = all.served; tells = all.tells }
+  all_is_first all = record { marks = all.marks; entries = all.entries; follows = first_of_script source.given all.marks all.follows; served = all.served; tells = all.tells }
 
   -- told for want of memory
   wants : (cause : Option Cause) → HasRun Settles Tells commits source cause history → HasRun Settles Tells commits source (Some NoMemory) history

@@ -24,8 +24,11 @@ good_new s history superblock held number good =
 pub good_unopened : (D : Type 0) → IsGoodOver {D = D} None []
 good_unopened D = run_is_good replay_store 0 nothing_held [] (record { opening = omega arith; exact = tt })
 
-pub legal_unopened : {D M : Type 0} (g : disk.Ghosts D) (cause : Option Cause) (given : Option D) → LegalityClause {M = M} g (record { status = status_of cause; at = place_of cause; cause = cause; base = 0; opening = None; history = []; disk = given; drives = [] })
-legal_unopened {D} {M} g cause given = record { from = good_unopened D; caused = λ is. absurd (false≢true is); told = λ is some. absurd (false≢true some); faultless = λ sound ample. refl }
+legal_unopened : {D M : Type 0} (g : disk.Ghosts D) (cause : Option Cause) (given : Option D) (drives : List M) → LegalityClause g (record { status = status_of cause; at = place_of cause; cause = cause; base = 0; opening = None; history = []; disk = given; drives = drives })
+legal_unopened {D} {M} g cause given drives = record { from = good_unopened D; caused = λ is. absurd (false≢true is); told = λ is some. absurd (false≢true some); faultless = λ sound ample. refl }
+
+pub legal_with : {D M : Type 0} (g : disk.Ghosts D) (o : Outcome D M) (cause : Option Cause) (given : Option D) (drives : List M) → o ≡ record { status = status_of cause; at = place_of cause; cause = cause; base = 0; opening = None; history = []; disk = given; drives = drives } → LegalityClause g o
+legal_with {D} {M} g o cause given drives is = subst (λ (x : Outcome D M). LegalityClause g x) (sym is) (legal_unopened g cause given drives)
 
 pub legal_as : {D M : Type 0} (g : disk.Ghosts D) (o : Outcome D M) (cause : Option Cause) (given : Option D) → o ≡ record { status = status_of cause; at = place_of cause; cause = cause; base = 0; opening = None; history = []; disk = given; drives = [] } → LegalityClause g o
-legal_as {D} {M} g o cause given is = subst (λ (x : Outcome D M). LegalityClause g x) (sym is) (legal_unopened g cause given)
+legal_as g o cause given is = legal_with g o cause given [] is

@@ -9,6 +9,10 @@ pub mod Telling
 pub mod Legality
 pub mod Crashes
 pub mod Completeness
+pub mod ByCause
+pub mod Showings
+pub mod Wanting
+pub mod Drills
 pub mod NamedThings
 pub mod HandingOut
 pub mod Files

@@ -22,7 +22,7 @@ use Rattle.hsm_cli.specs.declared.causes.Cause.TheVariants.{ScriptRefused, Words
 use Rattle.hsm_cli.specs.Clauses.{HasRun}
 use Rattle.hsm_cli.specs.Daemons.{IsWellServed, IsWellServedOver, ServedIsWell}
 use Rattle.hsm_cli.specs.Endings.{ScriptEnds, IsBeforeReading}
-use Rattle.hsm_cli.specs.Follows.{RunsBy, FollowsFirst, HasRunOn, IsServed, IsOfScript, IsRunOf, RunsAll, RunsFirst, SettlesOn, SettlesSince, lines_run}
+use Rattle.hsm_cli.specs.Follows.{RunsBy, FollowsFirst, HasRunOn, IsServed, IsOfScript, IsRunOf, FollowsScript, RunsAll, RunsFirst, SettlesOn, SettlesSince, lines_run}
 use Rattle.hsm_cli.specs.Openings.{replay_store}
 use Rattle.hsm_cli.specs.Sealing.{TellsOf}
 use Rattle.hsm_cli.specs.Sources.{script_bytes}
@@ -55,17 +55,20 @@ script_of FollowsSo None lines marks script follows = tt
 script_of FollowsSo (Some bytes) lines marks script follows = record { lines = lines; script = script; follows = follows }
 
 module _ {D M : Type 0} {opened : List M} (h : drive.Ghosts M) (s : System D M) (limits : s.limits ≡ standard) where
-  run_of : (FollowsSo : List Line → List Mark → Type 0) (given : Option (List ℕ)) (lines : List Line) → IfSome given (λ bytes. IsScript (script_bytes bytes) lines) → HasRunOn h opened (FollowsSo lines) s → IsRunOf FollowsSo (TellsOf h opened s.drives) given s.store.history
-  run_of FollowsSo given lines script run = record {
+  run_of : (FollowsSo : List Mark → Type 0) → HasRunOn h opened FollowsSo s → IsRunOf FollowsSo (TellsOf h opened s.drives) s.store.history
+  run_of FollowsSo run = record {
     marks = run.marks;
     entries = run.marked.entries;
-    script = script_of FollowsSo given lines run.marks script run.follows;
+    follows = run.follows;
     served = subst (λ (n : Numbers). Served n run.marks) limits run.marked.served;
     tells = record {
       sealed = subst (λ (n : Numbers). Tallies h opened s.drives n run.marks) limits run.marked.sealed;
       passes = subst (λ (n : Numbers). AllPassed (CopyEnds h s.drives n) n run.marks) limits run.marked.passes;
     };
   }
+
+  script_run : (FollowsSo : List Line → List Mark → Type 0) (given : Option (List ℕ)) (lines : List Line) → IfSome given (λ bytes. IsScript (script_bytes bytes) lines) → HasRunOn h opened (FollowsSo lines) s → IsRunOf (FollowsScript FollowsSo given) (TellsOf h opened s.drives) s.store.history
+  script_run FollowsSo given lines script run = run_of (FollowsScript FollowsSo given) (record { marks = run.marks; follows = script_of FollowsSo given lines run.marks script run.follows; marked = run.marked })
 
   pub is_served : (FollowsSo : List Mark → Type 0) → HasRunOn h opened FollowsSo s → IsServed s.store.history
   is_served FollowsSo run = (run.marks, run.marked.entries, subst (λ (n : Numbers). Served n run.marks) limits run.marked.served)
@@ -77,25 +80,31 @@ module _ {D M : Type 0} {opened : List M} (h : drive.Ghosts M) (from s : System 
   by_default : (FollowsSo : (List Line → List Mark → Type 0) → List Mark → Type 0) → HasRunOn h opened (FollowsSo (SettlesSince from)) s → HasRunOn h opened (FollowsSo (SettlesOn (Some from.store.opened))) s
   by_default FollowsSo run = subst (λ (n : Numbers). HasRunOn h opened (FollowsSo (EachSettles n (superblock_of from.store.opened) (first_of from) no_daemon no_daemon [])) s) since run
 
+  pub lines_run_all : (lines : List Line) → HasRunOn h opened (RunsBy (SettlesSince from) lines) s → IsRunOf (RunsBy (SettlesOn (Some from.store.opened)) lines) (TellsOf h opened s.drives) s.store.history
+  lines_run_all lines run = run_of h s limits (RunsBy (SettlesOn (Some from.store.opened)) lines) (by_default (λ so marks. RunsBy so lines marks) run)
+
+  pub lines_run_first : (lines : List Line) → HasRunOn h opened (FollowsFirst (SettlesSince from) lines) s → IsRunOf (FollowsFirst (SettlesOn (Some from.store.opened)) lines) (TellsOf h opened s.drives) s.store.history
+  lines_run_first lines run = run_of h s limits (FollowsFirst (SettlesOn (Some from.store.opened)) lines) (by_default (λ so marks. FollowsFirst so lines marks) run)
+
   pub all_run : (commits : Bool) (given : Option (List ℕ)) (lines : List Line) → IfSome given (λ bytes. IsScript (script_bytes bytes) lines) → HasRunOn h opened (RunsBy (SettlesSince from) (lines_run commits lines)) s → RunsAll (SettlesOn (Some from.store.opened)) (TellsOf h opened s.drives) commits given s.store.history
-  all_run commits given lines script run = run_of h s limits (λ ls marks. RunsBy (SettlesOn (Some from.store.opened)) (lines_run commits ls) marks) given lines script (by_default (λ so marks. RunsBy so (lines_run commits lines) marks) run)
+  all_run commits given lines script run = script_run h s limits (λ ls marks. RunsBy (SettlesOn (Some from.store.opened)) (lines_run commits ls) marks) given lines script (by_default (λ so marks. RunsBy so (lines_run commits lines) marks) run)
 
   pub first_run : (commits : Bool) (given : Option (List ℕ)) (lines : List Line) → IfSome given (λ bytes. IsScript (script_bytes bytes) lines) → HasRunOn h opened (FollowsFirst (SettlesSince from) (lines_run commits lines)) s → RunsFirst (SettlesOn (Some from.store.opened)) (TellsOf h opened s.drives) commits given s.store.history
-  first_run commits given lines script run = run_of h s limits (λ ls marks. FollowsFirst (SettlesOn (Some from.store.opened)) (lines_run commits ls) marks) given lines script (by_default (λ so marks. FollowsFirst so (lines_run commits lines) marks) run)
+  first_run commits given lines script run = script_run h s limits (λ ls marks. FollowsFirst (SettlesOn (Some from.store.opened)) (lines_run commits ls) marks) given lines script (by_default (λ so marks. FollowsFirst so (lines_run commits lines) marks) run)
 
 -- ---- what marks tell
 
 module _ (Settles : List Line → List Mark → Type 0) (Tells Says : List Mark → Type 0) (history : List Entry) (says : (marks : List Mark) → entries_of marks ≡ history → Served standard marks → Tells marks → Says marks) where
-  run_says : (FollowsSo : List Line → List Mark → Type 0) (given : Option (List ℕ)) → IsRunOf FollowsSo Tells given history → IsRunOf FollowsSo Says given history
-  run_says FollowsSo given run = record { marks = run.marks; entries = run.entries; script = run.script; served = run.served; tells = says run.marks run.entries run.served run.tells }
+  pub run_says : (FollowsSo : List Mark → Type 0) → IsRunOf FollowsSo Tells history → IsRunOf FollowsSo Says history
+  run_says FollowsSo run = record { marks = run.marks; entries = run.entries; follows = run.follows; served = run.served; tells = says run.marks run.entries run.served run.tells }
 
   first_says : (commits : Bool) (source : SourceTold) → (history ≡ []) ⊎ RunsFirst Settles Tells commits source.given history → (history ≡ []) ⊎ RunsFirst Settles Says commits source.given history
   first_says commits source (inl none) = inl none
-  first_says commits source (inr run) = inr (run_says (λ ls marks. FollowsFirst Settles (lines_run commits ls) marks) source.given run)
+  first_says commits source (inr run) = inr (run_says (FollowsScript (λ ls marks. FollowsFirst Settles (lines_run commits ls) marks) source.given) run)
 
   has_run_says : (commits : Bool) (source : SourceTold) (cause : Option Cause) → HasRun Settles Tells commits source cause history → HasRun Settles Says commits source cause history
-  has_run_says commits source None ran = (run_says (λ ls marks. RunsBy Settles (lines_run commits ls) marks) source.given ran.0, ran.1)
-  has_run_says commits source (Some WriteFault) ran = (run_says (λ ls marks. RunsBy Settles (lines_run commits ls) marks) source.given ran.0, ran.1)
+  has_run_says commits source None ran = (run_says (FollowsScript (λ ls marks. RunsBy Settles (lines_run commits ls) marks) source.given) ran.0, ran.1)
+  has_run_says commits source (Some WriteFault) ran = (run_says (FollowsScript (λ ls marks. RunsBy Settles (lines_run commits ls) marks) source.given) ran.0, ran.1)
   has_run_says commits source (Some DiskFault) ran = first_says commits source ran
   has_run_says commits source (Some NoMemory) ran = first_says commits source ran
   has_run_says commits source (Some (ScriptRefused line)) ran = ran

@@ -65,13 +65,18 @@ module _ {M : Type 0} (g : drive.Ghosts M) (opened ds : List M) (law : (d : M) (
     damages = whole sure;
   }
 
--- what marks tell with drives in memory, if any came
-right_with : {M V : Type 0} (g : drive.Ghosts M) (items : V → List M) (ready : Result V Cause) (left : List M) → ((opened drives : List M) (limits : Numbers) (marks : List Mark) → Tallies g opened drives limits marks → SealsAreWhole g marks) → g.sure ≡ true
-    → ((d : M) (v : ℕ) → g.has d v ≡ true → (o : Objects) × g.gives d v o) → IfOk ready (λ ds. (marks : List Mark) → TellsOf g (items ds) left marks → IsRightInMemory marks)
-right_with g items (Ok ds) left whole sure law = λ marks tells. record {
-  loses = loses_nothing g (items ds) left law marks (whole (items ds) left standard marks tells.sealed) sure tells.sealed;
+-- what marks tell with drives in memory
+pub right_of : {M : Type 0} (g : drive.Ghosts M) (opened left : List M) → ((opened drives : List M) (limits : Numbers) (marks : List Mark) → Tallies g opened drives limits marks → SealsAreWhole g marks) → g.sure ≡ true
+    → ((d : M) (v : ℕ) → g.has d v ≡ true → (o : Objects) × g.gives d v o) → (marks : List Mark) → TellsOf g opened left marks → IsRightInMemory marks
+right_of g opened left whole sure law marks tells = record {
+  loses = loses_nothing g opened left law marks (whole opened left standard marks tells.sealed) sure tells.sealed;
   passes = all_passed_as (CopyEnds g left standard) (Unit {0}) standard marks (λ ends. tt) tells.passes;
 }
+
+-- if any came
+right_with : {M V : Type 0} (g : drive.Ghosts M) (items : V → List M) (ready : Result V Cause) (left : List M) → ((opened drives : List M) (limits : Numbers) (marks : List Mark) → Tallies g opened drives limits marks → SealsAreWhole g marks) → g.sure ≡ true
+    → ((d : M) (v : ℕ) → g.has d v ≡ true → (o : Objects) × g.gives d v o) → IfOk ready (λ ds. (marks : List Mark) → TellsOf g (items ds) left marks → IsRightInMemory marks)
+right_with g items (Ok ds) left whole sure law = right_of g (items ds) left whole sure law
 right_with g items (Err why) left whole sure law = tt
 
 wants_memory : {V : Type 0} (ready : Result V Cause) → IfErr ready (λ why. why ≡ NoMemory) → IfErr ready IsBeforeReading

@@ -31,7 +31,7 @@ error_of (Err w) why is = cc
 pub told_fault : (faulty : Bool) (sink : SinkTold) (ran written : Result (Unit {0}) Cause) → IfErr written (WritingEnds sink) → (IsErrOf ran DiskFault → faulty ≡ true) → first_of (cause_in ran) (cause_in written) ≡ Some DiskFault → faulty ≡ true
 told_fault faulty sink ran written writes fault = first_by (λ c. c ≡ Some DiskFault → faulty ≡ true) sink ran written writes (λ is. fault (error_of ran DiskFault is)) (λ is. absurd cc) (λ rose before is. absurd cc)
 
-not_failed : (failed : Bool) (ran : Result (Unit {0}) Cause) → (failed ≡ true → IsErrOf ran DiskFault) → cause_in ran ≢ Some DiskFault → failed ≡ false
+pub not_failed : (failed : Bool) (ran : Result (Unit {0}) Cause) → (failed ≡ true → IsErrOf ran DiskFault) → cause_in ran ≢ Some DiskFault → failed ≡ false
 not_failed true ran fails sound = absurd (sound (ap cause_in (fails refl)))
 not_failed false ran fails sound = refl
 

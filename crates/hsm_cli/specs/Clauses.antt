@@ -1,14 +1,16 @@
 -- What is promised of a run: each clause over the words, the outcome, and what the objects tell.
-use Rattle.std.specs.Prelude.{ℕ, ◌≡◌, ◌≢◌, ◌+◌, ◌⊎◌, ◌↔◌, List, [], ◌∷◌, take, Bool, true, false, Option, Some, None, IfSome, IsSome}
+use Rattle.std.specs.Prelude.{ℕ, ◌≡◌, ◌≢◌, ◌+◌, ◌⊎◌, List, [], ◌∷◌, take, slice_get, Bool, true, false, Option, Some, None, IfSome, IsSome}
 use Rattle.std.specs.Io.KnownBytes.{Appends, IsAtEnd}
 use Rattle.std.specs.List.{AllByRecursion}
 use Rattle.disk_model.specs.declared.device.Disk as disk
 use Rattle.disk_model.specs.Calls.{Rose, raised}
 use Rattle.media_model.specs.declared.drive.Drive as drive
 use Rattle.media_model.specs.Objects.{Objects}
+use Rattle.disk_model.specs.Images.{Alike}
 use Rattle.disk_model.specs.Moments.{MayBe, LeavesOnly, Keeps, Same}
 use Rattle.hsm_types.specs.declared.media.Fault.{Fault}
 use Rattle.hsm_types.specs.declared.media.Fault.TheVariants.{Failed, Damaged}
+use Rattle.command_words.specs.Commands.{Form, Format, Replay, ReplayStore, Show, ShowVolumes, Drill, geometry_number, fsid_of}
 use Rattle.commit_slots.specs.Images.{IsStore, IsEmptyStore}
 use Rattle.meta_store.specs.Images.{IsCorruptAt}
 use Rattle.plain_model.specs.declared.entries.Entry.{Entry}
@@ -27,19 +29,20 @@ use Rattle.marked_history.specs.Caused.{Caused}
 use Rattle.hsm_replay.specs.Drives.{HaveGrown}
 use Rattle.hsm_replay.specs.Faults.{faults_in, AreTrue}
 use Rattle.marked_history.specs.Marks.{Mark}
+use Rattle.reconcile.specs.Classes.{AreRead}
 use Rattle.script_text.specs.Scripts.{IsScript, IsFirstBad}
 use Rattle.script_text.specs.declared.lines.Line.{Line}
 use Rattle.hsm_cli.specs.declared.causes.Cause.{Cause}
 use Rattle.hsm_cli.specs.declared.causes.Cause.TheVariants.{ScriptRefused, WordsRefused, NotStore, Corrupt, ReadFault, WriteFault, DiskFault, HostFault, NoMemory}
 use Rattle.hsm_cli.specs.declared.outcomes.Outcome.{Outcome}
-use Rattle.hsm_cli.specs.Commands.{Form, Format, Replay, ReplayStore, geometry_number, fsid_of}
 use Rattle.hsm_cli.specs.Statuses.{status_of, place_of}
 use Rattle.hsm_cli.specs.Sources.{script_bytes, GivesFirst, GivesWhole}
 use Rattle.hsm_cli.specs.Openings.{opened_in, superblock_at, held_at, base_of}
 use Rattle.hsm_cli.specs.Daemons.{IsWellServedOver}
-use Rattle.hsm_cli.specs.Follows.{SettlesOn, RunsAll, RunsFirst}
+use Rattle.hsm_cli.specs.Follows.{SettlesOn, RunsAll, RunsFirst, DrillsAll, DrillsFirst}
 use Rattle.hsm_cli.specs.Hosts.{IsHanded, AreHanded, HoldsNothing, HoldsOthers, HoldsAll, StoresNothing, StoresOthers, StoresAll}
 use Rattle.hsm_cli.specs.Sealing.{IsRightInMemory, IsRightInFolder}
+use Rattle.hsm_cli.specs.Texts.{TakesText, IsShown, AreUntold, AreCounted, shown_drives, shown_volumes, drill_text}
 use Rattle.hsm_cli.specs.Told.{SourceTold, SinkTold, HostTold}
 
 -- ---- the script clause
@@ -53,13 +56,24 @@ HasRun Settles Tells commits source (Some DiskFault) history = (history ≡ []) 
 HasRun Settles Tells commits source (Some NoMemory) history = (history ≡ []) ⊎ RunsFirst Settles Tells commits source.given history
 HasRun Settles Tells commits source (Some why) history = history ≡ []
 
--- Only the forms of `replay` run a script. `replay PATH DIR` ends with a commit, and its marks tally with the drives that come back; those of plain `replay`,
--- whose drives in memory never fail, lose nothing that was sealed. Both are well served, and passes in them are as they should be.
+-- The history of a drill: it has run all its lines where it ended well, or failed only in writing, and the first ones where memory was wanting.
+abbrev pub HasDrilled : (List Line → List Mark → Type 0) → (List Mark → Type 0) → ℕ → Option Cause → List Entry → Type 0
+HasDrilled Settles Tells number None history = DrillsAll Settles Tells number history
+HasDrilled Settles Tells number (Some WriteFault) history = DrillsAll Settles Tells number history
+HasDrilled Settles Tells number (Some NoMemory) history = (history ≡ []) ⊎ DrillsFirst Settles Tells number history
+HasDrilled Settles Tells number (Some why) history = history ≡ []
+
+-- Only the forms of `replay` run a script, and `drill` the one that it makes of its number. `replay PATH DIR` ends with a commit, and its marks tally with the
+-- drives that come back; those of plain `replay` and of `drill`, whose drives in memory never fail, lose nothing that was sealed. All are well served, and
+-- passes in them are as they should be.
 abbrev pub ScriptClause : {D M : Type 0} → drive.Ghosts M → (List ℕ → ℕ → Objects → Type 0) → Option Form → SourceTold → Outcome D M → Type 0
 ScriptClause g stores None source o = o.history ≡ []
 ScriptClause g stores (Some (Format path size)) source o = o.history ≡ []
 ScriptClause g stores (Some Replay) source o = HasRun (SettlesOn (opened_in o)) (λ marks. IsWellServedOver (opened_in o) marks × IsRightInMemory marks) false source o.cause o.history
 ScriptClause g stores (Some (ReplayStore path dir)) source o = HasRun (SettlesOn (opened_in o)) (λ marks. IsWellServedOver (opened_in o) marks × IsRightInFolder g (stores dir) o.drives marks) true source o.cause o.history
+ScriptClause g stores (Some (Show path)) source o = o.history ≡ []
+ScriptClause g stores (Some (ShowVolumes path dir)) source o = o.history ≡ []
+ScriptClause g stores (Some (Drill number)) source o = HasDrilled (SettlesOn (opened_in o)) (λ marks. IsWellServedOver (opened_in o) marks × IsRightInMemory marks) number o.cause o.history
 
 -- ---- the reading clause
 
@@ -85,6 +99,9 @@ ReadingClause None source o = IsUnread source
 ReadingClause (Some (Format path size)) source o = IsUnread source
 ReadingClause (Some Replay) source o = HasRead source o.cause
 ReadingClause (Some (ReplayStore path dir)) source o = HasReadOn (opened_in o) source o.cause
+ReadingClause (Some (Show path)) source o = IsUnread source
+ReadingClause (Some (ShowVolumes path dir)) source o = IsUnread source
+ReadingClause (Some (Drill number)) source o = IsUnread source
 
 -- ---- the legality clause and the plain clause
 
@@ -130,7 +147,10 @@ NoneFailed faults = AllByRecursion IsDamage faults
 abbrev pub TellsFaults : {M : Type 0} → drive.Ghosts M → Option Form → List M → List Fault → Type 0
 TellsFaults g (Some Replay) drives faults = NoneFailed faults
 TellsFaults g (Some (ReplayStore path dir)) drives faults = AreTrue g drives faults
+TellsFaults g (Some (Drill number)) drives faults = NoneFailed faults
 TellsFaults g (Some (Format path size)) drives faults = faults ≡ []
+TellsFaults g (Some (Show path)) drives faults = faults ≡ []
+TellsFaults g (Some (ShowVolumes path dir)) drives faults = faults ≡ []
 TellsFaults g None drives faults = faults ≡ []
 
 -- of a run on that store
@@ -185,11 +205,30 @@ LeavesSafe g held None history cause (Some disk) = IsUntouched g held disk × (h
 LeavesSafe g held (Some opened) history cause None = ⊥
 LeavesSafe g held None history cause None = history ≡ []
 
--- Only `replay PATH DIR` opens a store of the host.
+-- A disk that was only read gives what it gave, a crash leaves nothing new of it, and it has failed only where that is told.
+pub record IsOnlyRead {D : Type 0} (g : disk.Ghosts D) (held : List ℕ → Type 0) (cause : Option Cause) (disk : D) : Type 0 where
+  pub handed : D
+  pub by_host : IsHanded g held handed
+  pub keeps : Keeps g handed disk Same
+  pub gives : Alike (g.gives handed) (g.gives disk)
+  pub quiet : cause ≢ Some DiskFault → g.fault_count disk ≡ 0
+
+abbrev pub ComesBackRead : {D : Type 0} → disk.Ghosts D → (List ℕ → Type 0) → Option Cause → Option D → Type 0
+ComesBackRead g held cause (Some disk) = IsOnlyRead g held cause disk
+ComesBackRead g held cause None = Unit {0}
+
+-- a form that only reads a store runs nothing on it, and gives its disk back only read
+abbrev pub OnlyReads : {D M : Type 0} → disk.Ghosts D → (List ℕ → Type 0) → Outcome D M → Type 0
+OnlyReads g held o = (opened_in o ≡ None) × (o.history ≡ []) × ComesBackRead g held o.cause o.disk
+
+-- Only `replay PATH DIR` opens a store of the host to run on it.
 abbrev pub CrashClause : {D M : Type 0} → disk.Ghosts D → Option Form → (List ℕ → List ℕ → Type 0) → Outcome D M → Type 0
 CrashClause g (Some (ReplayStore path dir)) holds o = LeavesSafe g (holds path) (opened_in o) o.history o.cause o.disk
 CrashClause g (Some (Format path size)) holds o = opened_in o ≡ None
+CrashClause g (Some (Show path)) holds o = OnlyReads g (holds path) o
+CrashClause g (Some (ShowVolumes path dir)) holds o = OnlyReads g (holds path) o
 CrashClause g (Some Replay) holds o = opened_in o ≡ None
+CrashClause g (Some (Drill number)) holds o = opened_in o ≡ None
 CrashClause g None holds o = opened_in o ≡ None
 
 -- The disk that `format` gives back is one whose every image, also after a crash, is the empty store of that size and of the path's file system id.
@@ -203,6 +242,9 @@ abbrev pub FormatClause : {D M : Type 0} → disk.Ghosts D → Option Form → O
 FormatClause g (Some (Format path size)) o = o.cause ≡ None → IsFormatted g (geometry_number size) (fsid_of path) o.disk
 FormatClause g (Some Replay) o = Unit {0}
 FormatClause g (Some (ReplayStore path dir)) o = Unit {0}
+FormatClause g (Some (Show path)) o = Unit {0}
+FormatClause g (Some (ShowVolumes path dir)) o = Unit {0}
+FormatClause g (Some (Drill number)) o = Unit {0}
 FormatClause g None o = Unit {0}
 
 -- ---- the host clause
@@ -212,13 +254,28 @@ abbrev pub HandsOut : {D : Type 0} → List ℕ → (List ℕ → List ℕ → T
 HandsOut path old new (Some disk) = HoldsNothing (new path) × HoldsOthers path old new
 HandsOut path old new None = HoldsAll old new
 
--- `format` asks the host once to make a disk, and `replay PATH DIR` once for one that is there. They change nothing else of the disks that it holds; what came of
--- it is given back. Words that name no disk leave the host alone.
+-- memory was wanting for the words, and the host wasn't asked
+abbrev pub IsUnasked : {H D M : Type 0} → H → H → Outcome D M → Type 0
+IsUnasked old new o = (o.cause ≡ Some NoMemory) × (o.disk ≡ None) × (new ≡ old)
+
+-- the host was asked once for a disk that it holds, and never to make one; or memory was wanting before
+abbrev pub OpensOnce : {H D M : Type 0} → (H → ℕ) → (H → ℕ) → H → H → Outcome D M → Type 0
+OpensOnce makes openings old new o = ((openings new ≡ raised (openings old)) × (makes new ≡ makes old)) ⊎ IsUnasked old new o
+
+-- and the other way round
+abbrev pub MakesOnce : {H D M : Type 0} → (H → ℕ) → (H → ℕ) → H → H → Outcome D M → Type 0
+MakesOnce makes openings old new o = ((makes new ≡ raised (makes old)) × (openings new ≡ openings old)) ⊎ IsUnasked old new o
+
+-- `format` asks the host once to make a disk, and `replay PATH DIR` and `show` once for one that it holds, unless memory was wanting for the words. They
+-- change nothing else of the disks that it holds; what came of it is given back. Words that name no disk leave the host alone.
 abbrev pub HostClause : {H D M : Type 0} → (H → List ℕ → List ℕ → Type 0) → (H → ℕ) → (H → ℕ) → Option Form → H → H → Outcome D M → Type 0
 HostClause holds makes openings None old new o = (new ≡ old) × (o.disk ≡ None)
 HostClause holds makes openings (Some Replay) old new o = (new ≡ old) × (o.disk ≡ None)
-HostClause holds makes openings (Some (Format path size)) old new o = HandsOut path (holds old) (holds new) o.disk × (makes new ≡ raised (makes old)) × (openings new ≡ openings old)
-HostClause holds makes openings (Some (ReplayStore path dir)) old new o = HandsOut path (holds old) (holds new) o.disk × (openings new ≡ raised (openings old)) × (makes new ≡ makes old)
+HostClause holds makes openings (Some (Drill number)) old new o = (new ≡ old) × (o.disk ≡ None)
+HostClause holds makes openings (Some (Format path size)) old new o = HandsOut path (holds old) (holds new) o.disk × MakesOnce makes openings old new o
+HostClause holds makes openings (Some (ReplayStore path dir)) old new o = HandsOut path (holds old) (holds new) o.disk × OpensOnce makes openings old new o
+HostClause holds makes openings (Some (Show path)) old new o = HandsOut path (holds old) (holds new) o.disk × OpensOnce makes openings old new o
+HostClause holds makes openings (Some (ShowVolumes path dir)) old new o = HandsOut path (holds old) (holds new) o.disk × OpensOnce makes openings old new o
 
 -- ---- the drives clause
 
@@ -244,71 +301,156 @@ abbrev pub asked_by : {S : Type 0} → Option S → ℕ → ℕ
 asked_by None count = count
 asked_by (Some opened) count = raised count
 
--- Only `replay PATH DIR` asks for drives, and for those of its folder.
-abbrev pub DrivesClause : {H D M : Type 0} → drive.Ghosts M → (H → List ℕ → ℕ → Objects → Type 0) → (H → ℕ) → Option Form → H → H → Outcome D M → Type 0
-DrivesClause g stores askings (Some (ReplayStore path dir)) old new o = GivesBack g (stores old dir) (opened_in o) o.cause o.drives × HandsDrives dir (stores old) (stores new) o.drives × (askings new ≡ asked_by (opened_in o) (askings old))
-DrivesClause g stores askings (Some (Format path size)) old new o = (o.drives ≡ []) × StoresAll (stores old) (stores new) × (askings new ≡ askings old)
-DrivesClause g stores askings (Some Replay) old new o = o.drives ≡ []
-DrivesClause g stores askings None old new o = o.drives ≡ []
+-- Drives as the host handed them out, over the volumes that are shown, of the default capacity. No volume of them was changed.
+abbrev pub AreShown : {M : Type 0} → drive.Ghosts M → (ℕ → Objects → Type 0) → List M → Type 0
+AreShown {M = M} g stored drives = (handed : List M) × AreHanded g stored shown_drives shown_volumes standard.capacity handed × AreRead g handed drives
+
+-- the store that the host holds can't be opened
+abbrev pub FindsNothing : List ℕ → Type 0
+FindsNothing image = (geometry fsid n : ℕ) → (h : Held) → IsRecovered geometry fsid n h image → ⊥
+
+-- `show PATH DIR` gives back the drives that came. None came where its store couldn't be read or the host failed; a drive that failed is given back.
+abbrev pub GivesShown : {D M : Type 0} → drive.Ghosts M → (ℕ → Objects → Type 0) → Option D → Option Cause → List M → Type 0
+GivesShown g stored None cause drives = drives ≡ []
+GivesShown g stored (Some disk) None drives = AreShown g stored drives
+GivesShown g stored (Some disk) (Some WriteFault) drives = AreShown g stored drives
+GivesShown g stored (Some disk) (Some HostFault) drives = (drives ≡ []) ⊎ AreShown g stored drives
+GivesShown g stored (Some disk) (Some NoMemory) drives = (drives ≡ []) ⊎ AreShown g stored drives
+GivesShown g stored (Some disk) (Some other) drives = drives ≡ []
+
+-- how often it asks for them: once, but where its store couldn't be read, and perhaps where memory was wanting
+abbrev pub AsksShown : {D : Type 0} → Option D → Option Cause → ℕ → ℕ → Type 0
+AsksShown None cause old new = new ≡ old
+AsksShown (Some disk) None old new = new ≡ raised old
+AsksShown (Some disk) (Some WriteFault) old new = new ≡ raised old
+AsksShown (Some disk) (Some HostFault) old new = new ≡ raised old
+AsksShown (Some disk) (Some NoMemory) old new = (new ≡ old) ⊎ (new ≡ raised old)
+AsksShown (Some disk) (Some other) old new = new ≡ old
+
+-- Only `replay PATH DIR` and `show PATH DIR` ask for drives, and for those of their folder; the latter doesn't where no store is found.
+abbrev pub DrivesClause : {H D M : Type 0} → drive.Ghosts M → (H → List ℕ → List ℕ → Type 0) → (H → List ℕ → ℕ → Objects → Type 0) → (H → ℕ) → Option Form → H → H → Outcome D M → Type 0
+DrivesClause g holds stores askings (Some (ReplayStore path dir)) old new o = GivesBack g (stores old dir) (opened_in o) o.cause o.drives × HandsDrives dir (stores old) (stores new) o.drives × (askings new ≡ asked_by (opened_in o) (askings old))
+DrivesClause g holds stores askings (Some (ShowVolumes path dir)) old new o = GivesShown g (stores old dir) o.disk o.cause o.drives × HandsDrives dir (stores old) (stores new) o.drives × AsksShown o.disk o.cause (askings old) (askings new)
+    × ((image : List ℕ) → holds old path image → FindsNothing image → askings new ≡ askings old)
+DrivesClause g holds stores askings (Some (Format path size)) old new o = (o.drives ≡ []) × StoresAll (stores old) (stores new) × (askings new ≡ askings old)
+DrivesClause g holds stores askings (Some (Show path)) old new o = (o.drives ≡ []) × StoresAll (stores old) (stores new) × (askings new ≡ askings old)
+DrivesClause g holds stores askings (Some Replay) old new o = o.drives ≡ []
+DrivesClause g holds stores askings (Some (Drill number)) old new o = o.drives ≡ []
+DrivesClause g holds stores askings None old new o = o.drives ≡ []
 
 -- ---- the output clause
 
 -- The sink took a beginning of the history's text; all of it, where the run ended well, and where the sink did not fail and there was memory.
-pub record OutputClause {D M : Type 0} (o : Outcome D M) (sink : SinkTold) : Type 0 where
+pub record TakesTranscript {D M : Type 0} (o : Outcome D M) (sink : SinkTold) : Type 0 where
   pub first : (n : ℕ) × Appends sink.old sink.new (take n (text_of o.history))
   pub done : o.cause ≡ None → Appends sink.old sink.new (text_of o.history)
   pub all : ¬ (Rose sink.before sink.now) → o.cause ≢ Some NoMemory → Appends sink.old sink.new (text_of o.history)
+
+-- `show` tells of the store that the host held, and with DIR of the classes over the objects that the host had in its volumes. `drill` tells of its history and
+-- of what that has left in the new store. All others write the history, which is empty where they run nothing.
+abbrev pub OutputClause : {D M : Type 0} → Option Form → (List ℕ → List ℕ → Type 0) → (List ℕ → ℕ → Objects → Type 0) → Outcome D M → SinkTold → Type 0
+OutputClause (Some (Show path)) holds stores o sink = TakesText (IsShown (holds path) AreUntold) sink o.cause
+OutputClause (Some (ShowVolumes path dir)) holds stores o sink = TakesText (IsShown (holds path) (AreCounted (stores dir))) sink o.cause
+OutputClause (Some (Drill number)) holds stores o sink = TakesText (λ text. text ≡ drill_text number o.history) sink o.cause
+OutputClause (Some Replay) holds stores o sink = TakesTranscript o sink
+OutputClause (Some (ReplayStore path dir)) holds stores o sink = TakesTranscript o sink
+OutputClause (Some (Format path size)) holds stores o sink = TakesTranscript o sink
+OutputClause None holds stores o sink = TakesTranscript o sink
 
 -- ---- the status clause
 
 -- the images that the host held for the store that the words name
 abbrev pub IsNamed : Option Form → (List ℕ → List ℕ → Type 0) → List ℕ → Type 0
 IsNamed (Some (ReplayStore path dir)) holds image = holds path image
+IsNamed (Some (Show path)) holds image = holds path image
+IsNamed (Some (ShowVolumes path dir)) holds image = holds path image
 IsNamed (Some (Format path size)) holds image = ⊥
 IsNamed (Some Replay) holds image = ⊥
+IsNamed (Some (Drill number)) holds image = ⊥
 IsNamed None holds image = ⊥
 
--- Why a run ends as it does. Want of memory is free.
-abbrev pub Why : {D : Type 0} → disk.Ghosts D → (List ℕ → Type 0) → SourceTold → SinkTold → HostTold → Option D → Option Cause → Type 0
-Why g named source sink host disk None = Unit {0}
-Why g named source sink host disk (Some (ScriptRefused line)) = IfSome source.given (λ bytes. IsFirstBad (script_bytes bytes) line)
-Why g named source sink host disk (Some WordsRefused) = Unit {0}
-Why g named source sink host disk (Some NotStore) = (image : List ℕ) → named image → (geometry fsid : ℕ) → IsStore geometry fsid image → ⊥
-Why g named source sink host disk (Some (Corrupt place)) = (image : List ℕ) → named image → IsCorruptAt place image
-Why g named source sink host disk (Some ReadFault) = Rose source.before source.now
-Why g named source sink host disk (Some WriteFault) = Rose sink.before sink.now
-Why g named source sink host disk (Some DiskFault) = HasFailed g disk
-Why g named source sink host disk (Some HostFault) = Rose host.before host.now
-Why g named source sink host disk (Some NoMemory) = Unit {0}
+-- a drive that is given back has failed
+pub record HasDriveFailed {M : Type 0} (g : drive.Ghosts M) (given : List M) : Type 0 where
+  pub number : ℕ
+  pub drive : M
+  pub back : slice_get given number ≡ Some drive
+  pub rose : Rose 0 (g.fault_count drive)
+
+-- What is told as a fault of the host: its count rose, or in `show PATH DIR` that of a drive. A drive's fault in a run changes no status.
+abbrev pub HostFails : {M : Type 0} → drive.Ghosts M → Option Form → HostTold → List M → Type 0
+HostFails g (Some (ShowVolumes path dir)) host drives = Rose host.before host.now ⊎ HasDriveFailed g drives
+HostFails g other host drives = Rose host.before host.now
+
+-- Why a run ends as it does, given what a fault of the host means. Want of memory is free.
+abbrev pub Why : {D : Type 0} → disk.Ghosts D → (List ℕ → Type 0) → Type 0 → SourceTold → SinkTold → Option D → Option Cause → Type 0
+Why g named Fails source sink disk None = Unit {0}
+Why g named Fails source sink disk (Some (ScriptRefused line)) = IfSome source.given (λ bytes. IsFirstBad (script_bytes bytes) line)
+Why g named Fails source sink disk (Some WordsRefused) = Unit {0}
+Why g named Fails source sink disk (Some NotStore) = (image : List ℕ) → named image → (geometry fsid : ℕ) → IsStore geometry fsid image → ⊥
+Why g named Fails source sink disk (Some (Corrupt place)) = (image : List ℕ) → named image → IsCorruptAt place image
+Why g named Fails source sink disk (Some ReadFault) = Rose source.before source.now
+Why g named Fails source sink disk (Some WriteFault) = Rose sink.before sink.now
+Why g named Fails source sink disk (Some DiskFault) = HasFailed g disk
+Why g named Fails source sink disk (Some HostFault) = Fails
+Why g named Fails source sink disk (Some NoMemory) = Unit {0}
 
 -- the words ask for a script to be read
 abbrev pub ReadsScript : Option Form → Type 0
 ReadsScript (Some Replay) = Unit {0}
 ReadsScript (Some (ReplayStore path dir)) = Unit {0}
 ReadsScript (Some (Format path size)) = ⊥
+ReadsScript (Some (Show path)) = ⊥
+ReadsScript (Some (ShowVolumes path dir)) = ⊥
+ReadsScript (Some (Drill number)) = ⊥
 ReadsScript None = ⊥
 
--- the words ask for a store of the host to be opened
+-- the words ask for a text to be written
+abbrev pub WritesText : Option Form → Type 0
+WritesText (Some Replay) = Unit {0}
+WritesText (Some (ReplayStore path dir)) = Unit {0}
+WritesText (Some (Show path)) = Unit {0}
+WritesText (Some (ShowVolumes path dir)) = Unit {0}
+WritesText (Some (Drill number)) = Unit {0}
+WritesText (Some (Format path size)) = ⊥
+WritesText None = ⊥
+
+-- the words ask for a store of the host to be opened and run on
 abbrev pub OpensStore : Option Form → Type 0
 OpensStore (Some (ReplayStore path dir)) = Unit {0}
 OpensStore (Some (Format path size)) = ⊥
 OpensStore (Some Replay) = ⊥
+OpensStore (Some (Show path)) = ⊥
+OpensStore (Some (ShowVolumes path dir)) = ⊥
+OpensStore (Some (Drill number)) = ⊥
 OpensStore None = ⊥
+
+-- the words ask for a store of the host to be read
+abbrev pub ReadsStore : Option Form → Type 0
+ReadsStore (Some (ReplayStore path dir)) = Unit {0}
+ReadsStore (Some (Show path)) = Unit {0}
+ReadsStore (Some (ShowVolumes path dir)) = Unit {0}
+ReadsStore (Some (Format path size)) = ⊥
+ReadsStore (Some Replay) = ⊥
+ReadsStore (Some (Drill number)) = ⊥
+ReadsStore None = ⊥
 
 -- the words name a disk
 abbrev pub NamesDisk : Option Form → Type 0
 NamesDisk (Some (Format path size)) = Unit {0}
 NamesDisk (Some (ReplayStore path dir)) = Unit {0}
+NamesDisk (Some (Show path)) = Unit {0}
+NamesDisk (Some (ShowVolumes path dir)) = Unit {0}
 NamesDisk (Some Replay) = ⊥
+NamesDisk (Some (Drill number)) = ⊥
 NamesDisk None = ⊥
 
 -- the forms that can end for a cause
 abbrev pub CanEnd : Option Form → Option Cause → Type 0
 CanEnd form (Some (ScriptRefused line)) = ReadsScript form
 CanEnd form (Some ReadFault) = ReadsScript form
-CanEnd form (Some WriteFault) = ReadsScript form
-CanEnd form (Some NotStore) = OpensStore form
-CanEnd form (Some (Corrupt place)) = OpensStore form
+CanEnd form (Some WriteFault) = WritesText form
+CanEnd form (Some NotStore) = ReadsStore form
+CanEnd form (Some (Corrupt place)) = ReadsStore form
 CanEnd form (Some DiskFault) = NamesDisk form
 CanEnd form (Some HostFault) = NamesDisk form
 CanEnd form other = Unit {0}
@@ -324,21 +466,24 @@ HasBegun opened (Some DiskFault) = Unit {0}
 HasBegun opened (Some NoMemory) = Unit {0}
 HasBegun opened other = IsSome opened
 
--- the store that the host holds can't be opened
-abbrev pub FindsNothing : List ℕ → Type 0
-FindsNothing image = (geometry fsid n : ℕ) → (h : Held) → IsRecovered geometry fsid n h image → ⊥
-
--- and the cause says why: it is no store, or corrupt at a place
+-- the cause says why a store wasn't read: it is none, or corrupt at a place
 abbrev pub TellsStore : Option Cause → Type 0
 TellsStore (Some NotStore) = Unit {0}
 TellsStore (Some (Corrupt place)) = Unit {0}
 TellsStore other = ⊥
 
--- The host holds a store under the name, where the words name one.
+-- the host holds an image on which recovery finds a store
+abbrev pub HoldsStore : (List ℕ → Type 0) → Type 0
+HoldsStore held = (image : List ℕ) × held image × (geometry : ℕ) × (fsid : ℕ) × (n : ℕ) × (h : Held) × IsRecovered geometry fsid n h image
+
+-- the host holds a store under the name, where the words name one, and the words have a form
 abbrev pub FindsStore : Option Form → (List ℕ → List ℕ → Type 0) → Type 0
-FindsStore (Some (ReplayStore path dir)) holds = (image : List ℕ) × holds path image × (geometry : ℕ) × (fsid : ℕ) × (n : ℕ) × (h : Held) × IsRecovered geometry fsid n h image
+FindsStore (Some (ReplayStore path dir)) holds = HoldsStore (holds path)
+FindsStore (Some (Show path)) holds = HoldsStore (holds path)
+FindsStore (Some (ShowVolumes path dir)) holds = HoldsStore (holds path)
 FindsStore (Some (Format path size)) holds = Unit {0}
 FindsStore (Some Replay) holds = Unit {0}
+FindsStore (Some (Drill number)) holds = Unit {0}
 FindsStore None holds = ⊥
 
 -- the source gives a script
@@ -350,31 +495,47 @@ pub record GivesScript (given : Option (List ℕ)) : Type 0 where
 
 abbrev pub FindsScript : Option Form → Option (List ℕ) → Type 0
 FindsScript (Some (Format path size)) given = Unit {0}
+FindsScript (Some (Show path)) given = Unit {0}
+FindsScript (Some (ShowVolumes path dir)) given = Unit {0}
+FindsScript (Some (Drill number)) given = Unit {0}
 FindsScript (Some Replay) given = GivesScript given
 FindsScript (Some (ReplayStore path dir)) given = GivesScript given
 FindsScript None given = ⊥
 
-pub record NothingFails {D : Type 0} (g : disk.Ghosts D) (source : SourceTold) (sink : SinkTold) (host : HostTold) (disk : Option D) : Type 0 where
+pub record NothingFails {D : Type 0} (g : disk.Ghosts D) (Fails : Type 0) (source : SourceTold) (sink : SinkTold) (disk : Option D) : Type 0 where
   pub source_works : ¬ (Rose source.before source.now)
   pub sink_works : ¬ (Rose sink.before sink.now)
-  pub host_works : ¬ (Rose host.before host.now)
+  pub host_works : ¬ Fails
   pub disk_works : ¬ (HasFailed g disk)
 
 -- The host has failed: it handed out no disk, or, for a store that was opened, no drives.
 abbrev pub Lacks : {D M : Type 0} → Outcome D M → Type 0
 Lacks o = (o.disk ≡ None) ⊎ (IsSome (opened_in o) × (o.drives ≡ []))
 
--- When each status comes. A disk that the host handed out is given back, and the host has failed only where it didn't hand out one, or drives. A run of a command that finds its store and its script, and in which nothing fails, ends with status 0, or 8.
-pub record StatusClause {D M : Type 0} (g : disk.Ghosts D) (form : Option Form) (holds : List ℕ → List ℕ → Type 0) (source : SourceTold) (sink : SinkTold) (host : HostTold) (o : Outcome D M) : Type 0 where
+-- The same of a store that is shown with its classes; or a drive has failed that is given back.
+abbrev pub LacksShown : {D M : Type 0} → drive.Ghosts M → Outcome D M → Type 0
+LacksShown g o = (o.disk ≡ None) ⊎ ((o.drives ≡ []) ⊎ HasDriveFailed g o.drives)
+
+-- what is wanting where the host has failed
+abbrev pub LacksFor : {D M : Type 0} → drive.Ghosts M → Option Form → Outcome D M → Type 0
+LacksFor g (Some (ShowVolumes path dir)) o = LacksShown g o
+LacksFor g other o = Lacks o
+
+-- When each status comes. Words that have no form are refused, and no others, but for want of memory. A disk that the host handed out is given back, and the host
+-- has failed only where it didn't hand out one, or drives, or where a drive failed whose objects are counted. A store that was opened is the one that recovery finds
+-- on what the host held. Where recovery finds nothing, the disk came and hasn't failed, that is told, or want of memory. And a run of a command that finds its
+-- store and its script, and in which nothing fails, ends with status 0, or 8.
+pub record StatusClause {D M : Type 0} (g : disk.Ghosts D) (h : drive.Ghosts M) (form : Option Form) (holds : List ℕ → List ℕ → Type 0) (source : SourceTold) (sink : SinkTold) (host : HostTold) (o : Outcome D M) : Type 0 where
   pub status : o.status ≡ status_of o.cause
   pub place : o.at ≡ place_of o.cause
   pub base : o.base ≡ base_of (opened_in o)
-  pub words : (o.cause ≡ Some WordsRefused) ↔ (form ≡ None)
-  pub why : Why g (IsNamed form holds) source sink host o.disk o.cause
+  pub words : o.cause ≡ Some WordsRefused → form ≡ None
+  pub no_words : form ≡ None → (o.cause ≡ Some WordsRefused) ⊎ (o.cause ≡ Some NoMemory)
+  pub why : Why g (IsNamed form holds) (HostFails h form host o.drives) source sink o.disk o.cause
   pub forms : CanEnd form o.cause
   pub begun : OpensStore form → HasBegun (opened_in o) o.cause
-  pub lent : o.cause ≡ Some HostFault → Lacks o
+  pub lent : o.cause ≡ Some HostFault → LacksFor h form o
   pub back : NamesDisk form → o.disk ≡ None → (o.cause ≡ Some HostFault) ⊎ (o.cause ≡ Some NoMemory)
   pub opened : IfSome (opened_in o) (λ s. (s.held ≡ s.durable) × ((image : List ℕ) → IsNamed form holds image → IsDurable s image))
-  pub refused : (image : List ℕ) → IsNamed form holds image → FindsNothing image → ¬ (Rose host.before host.now) → ¬ (HasFailed g o.disk) → TellsStore o.cause ⊎ (o.cause ≡ Some NoMemory)
-  pub complete : FindsStore form holds → FindsScript form source.given → NothingFails g source sink host o.disk → (o.cause ≡ None) ⊎ (o.cause ≡ Some NoMemory)
+  pub refused : (image : List ℕ) → IsNamed form holds image → FindsNothing image → IsSome o.disk → ¬ (HasFailed g o.disk) → TellsStore o.cause ⊎ (o.cause ≡ Some NoMemory)
+  pub complete : FindsStore form holds → FindsScript form source.given → NothingFails g (HostFails h form host o.drives) source sink o.disk → (o.cause ≡ None) ⊎ (o.cause ≡ Some NoMemory)

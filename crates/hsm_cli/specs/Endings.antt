@@ -1,16 +1,18 @@
 -- How the parts of a run end.
-use Rattle.std.specs.Prelude.{Option, Some, None, Result, Ok, Err, IfSome}
+use Rattle.std.specs.Prelude.{ℕ, List, Option, Some, None, Result, IfSome}
+use Rattle.std.specs.Result.{result_err}
 use Rattle.disk_model.specs.Calls.{Rose}
+use Rattle.commit_slots.specs.Images.{IsStore}
+use Rattle.meta_store.specs.Images.{IsCorruptAt}
 use Rattle.script_text.specs.Scripts.{IsFirstBad}
 use Rattle.hsm_cli.specs.declared.causes.Cause.{Cause}
-use Rattle.hsm_cli.specs.declared.causes.Cause.TheVariants.{ScriptRefused, ReadFault, WriteFault, DiskFault, HostFault, NoMemory}
+use Rattle.hsm_cli.specs.declared.causes.Cause.TheVariants.{ScriptRefused, NotStore, Corrupt, ReadFault, WriteFault, DiskFault, HostFault, NoMemory}
 use Rattle.hsm_cli.specs.Sources.{script_bytes}
 use Rattle.hsm_cli.specs.Told.{SourceTold, SinkTold, HostTold}
 
 -- what went wrong, if anything did
 abbrev pub cause_in : {T : Type 0} → Result T Cause → Option Cause
-cause_in (Ok x) = None
-cause_in (Err why) = Some why
+cause_in result = result_err result
 
 -- what can end a run before its script is read
 abbrev pub IsBeforeReading : Cause → Type 0
@@ -58,3 +60,27 @@ abbrev pub HandingEnds : HostTold → Cause → Type 0
 HandingEnds host HostFault = Rose host.before host.now
 HandingEnds host NoMemory = Unit {0}
 HandingEnds host other = ⊥
+
+-- why a store was not shown, given what a fault of the host and one of the disk mean
+abbrev pub ShowEnds : (List ℕ → Type 0) → Type 0 → Type 0 → SinkTold → Option Cause → Type 0
+ShowEnds named HostFails DiskFails sink None = Unit {0}
+ShowEnds named HostFails DiskFails sink (Some NotStore) = (image : List ℕ) → named image → (geometry fsid : ℕ) → IsStore geometry fsid image → ⊥
+ShowEnds named HostFails DiskFails sink (Some (Corrupt place)) = (image : List ℕ) → named image → IsCorruptAt place image
+ShowEnds named HostFails DiskFails sink (Some WriteFault) = Rose sink.before sink.now
+ShowEnds named HostFails DiskFails sink (Some DiskFault) = DiskFails
+ShowEnds named HostFails DiskFails sink (Some HostFault) = HostFails
+ShowEnds named HostFails DiskFails sink (Some NoMemory) = Unit {0}
+ShowEnds named HostFails DiskFails sink (Some other) = ⊥
+
+-- why classes were not shown, given what a fault of a drive means
+abbrev pub CountingEnds : Type 0 → SinkTold → Cause → Type 0
+CountingEnds DriveFails sink HostFault = DriveFails
+CountingEnds DriveFails sink WriteFault = Rose sink.before sink.now
+CountingEnds DriveFails sink NoMemory = Unit {0}
+CountingEnds DriveFails sink other = ⊥
+
+-- why the lines of a drill were not run to their end, given what a fault of the disk means
+abbrev pub LinesEnd : Type 0 → Cause → Type 0
+LinesEnd DiskFails DiskFault = DiskFails
+LinesEnd DiskFails NoMemory = Unit {0}
+LinesEnd DiskFails other = ⊥

@@ -1,4 +1,4 @@
--- When a history is that of a script's lines.
+-- When a history is that of lines, which a script or a drill has.
 use Rattle.std.specs.Prelude.{ℕ, ◌≡◌, ◌⊎◌, List, [], ◌∷◌, ◌++◌, Bool, true, false, Option, IfSome}
 use Rattle.media_model.specs.declared.drive.Drive as drive
 use Rattle.plain_model.specs.declared.entries.Entry.{Entry}
@@ -7,6 +7,7 @@ use Rattle.plain_model.specs.State.{State, just_opened}
 use Rattle.hsm_policy.specs.Settings.{Numbers, standard}
 use Rattle.script_text.specs.declared.lines.Line.{Line}
 use Rattle.script_text.specs.Scripts.{IsScript}
+use Rattle.drill_script.specs.Drill.{drill_lines}
 use Rattle.file_store.specs.Stores.{Store, superblock_of}
 use Rattle.marked_history.specs.Follows.{IsPartOf, Follows}
 use Rattle.hsm_replay.specs.Keeping.{IsMarked, Shows, Live}
@@ -85,12 +86,12 @@ pub record IsOfScript (FollowsSo : List Line → List Mark → Type 0) (bytes : 
   pub script : IsScript (script_bytes bytes) lines
   pub follows : FollowsSo lines marks
 
--- Some marks of the history: where the source tells its bytes, they are a script whose lines the marks follow so; each call of a daemon is one that it may
--- make, by what the entries before have told it; and of the rest the marks tell so.
-pub record IsRunOf (FollowsSo : List Line → List Mark → Type 0) (Tells : List Mark → Type 0) (given : Option (List ℕ)) (history : List Entry) : Type 0 where
+-- Some marks of the history: they follow lines so; each call of a daemon is one that it may make, by what the entries before have told it; and of the rest
+-- the marks tell so.
+pub record IsRunOf (FollowsSo Tells : List Mark → Type 0) (history : List Entry) : Type 0 where
   pub marks : List Mark
   pub entries : entries_of marks ≡ history
-  pub script : IfSome given (λ bytes. IsOfScript FollowsSo bytes marks)
+  pub follows : FollowsSo marks
   pub served : Served standard marks
   pub tells : Tells marks
 
@@ -98,10 +99,26 @@ pub record IsRunOf (FollowsSo : List Line → List Mark → Type 0) (Tells : Lis
 abbrev pub IsServed : List Entry → Type 0
 IsServed history = (marks : List Mark) × (entries_of marks ≡ history) × Served standard marks
 
+-- ---- of a script
+
+-- where the source tells its bytes, they are a script whose lines the marks follow so
+abbrev pub FollowsScript : (List Line → List Mark → Type 0) → Option (List ℕ) → List Mark → Type 0
+FollowsScript FollowsSo given marks = IfSome given (λ bytes. IsOfScript FollowsSo bytes marks)
+
 -- the history is that of all lines
 abbrev pub RunsAll : (List Line → List Mark → Type 0) → (List Mark → Type 0) → Bool → Option (List ℕ) → List Entry → Type 0
-RunsAll Settles Tells commits given history = IsRunOf (λ lines marks. RunsBy Settles (lines_run commits lines) marks) Tells given history
+RunsAll Settles Tells commits given history = IsRunOf (FollowsScript (λ lines marks. RunsBy Settles (lines_run commits lines) marks) given) Tells history
 
 -- or that of the first ones
 abbrev pub RunsFirst : (List Line → List Mark → Type 0) → (List Mark → Type 0) → Bool → Option (List ℕ) → List Entry → Type 0
-RunsFirst Settles Tells commits given history = IsRunOf (λ lines marks. FollowsFirst Settles (lines_run commits lines) marks) Tells given history
+RunsFirst Settles Tells commits given history = IsRunOf (FollowsScript (λ lines marks. FollowsFirst Settles (lines_run commits lines) marks) given) Tells history
+
+-- ---- of a drill
+
+-- the history is that of all its lines
+abbrev pub DrillsAll : (List Line → List Mark → Type 0) → (List Mark → Type 0) → ℕ → List Entry → Type 0
+DrillsAll Settles Tells number history = IsRunOf (RunsBy Settles (drill_lines number)) Tells history
+
+-- or that of the first ones
+abbrev pub DrillsFirst : (List Line → List Mark → Type 0) → (List Mark → Type 0) → ℕ → List Entry → Type 0
+DrillsFirst Settles Tells number history = IsRunOf (FollowsFirst Settles (drill_lines number)) Tells history

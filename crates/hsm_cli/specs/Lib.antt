@@ -5,13 +5,13 @@ pub mod HostCode
 pub mod Files
 pub mod FileCalls
 pub mod Statuses
-pub mod Commands
 pub mod Sources
 pub mod Openings
 pub mod Daemons
 pub mod Follows
 pub mod Sealing
 pub mod Told
+pub mod Texts
 pub mod Clauses
 pub mod Endings
 pub mod Runs

@@ -2,6 +2,8 @@
 use Rattle.std.specs.Prelude.{ℕ, Option, Some, None}
 use Rattle.disk_model.specs.declared.refusal.OpenRefusal.{OpenRefusal}
 use Rattle.disk_model.specs.declared.refusal.OpenRefusal.TheVariants as opening
+use Rattle.reconcile.specs.declared.refusals.ReconcileRefusal.{ReconcileRefusal}
+use Rattle.reconcile.specs.declared.refusals.ReconcileRefusal.TheVariants as counting
 use Rattle.hsm_cli.specs.declared.hosts.HostRefusal.{HostRefusal}
 use Rattle.hsm_cli.specs.declared.hosts.HostRefusal.TheVariants as handing
 use Rattle.hsm_cli.specs.declared.causes.Cause.{Cause}
@@ -36,3 +38,8 @@ cause_of_refusal opening.Memory = NoMemory
 abbrev pub cause_of_host : HostRefusal → Cause
 cause_of_host handing.Failed = HostFault
 cause_of_host handing.Memory = NoMemory
+
+-- why classes weren't counted: a drive of the host failed, or memory was wanting
+abbrev pub cause_of_classes : ReconcileRefusal → Cause
+cause_of_classes (counting.Failed volume) = HostFault
+cause_of_classes counting.Memory = NoMemory

@@ -1,9 +1,11 @@
 //! Why a run did not end well.
 ghost use Rattle.std.specs.Prelude.{◌≡◌};
-ghost use Rattle.hsm_cli.specs.Statuses.{status_of, place_of, cause_of_refusal, cause_of_host};
+ghost use Rattle.hsm_cli.specs.Statuses.{status_of, place_of, cause_of_refusal, cause_of_host, cause_of_classes};
 
 use crate::hosts::HostRefusal;
 use disk_model::OpenRefusal;
+use reconcile::ReconcileRefusal;
+use std::alloc::AllocError;
 use thiserror::Error;
 
 /// Why a run did not end well. Its text is what standard error says of it.
@@ -82,5 +84,26 @@ impl From<HostRefusal> for Cause {
             HostRefusal::Failed => Cause::HostFault,
             HostRefusal::Memory => Cause::NoMemory,
         }
+    }
+}
+
+impl From<ReconcileRefusal> for Cause {
+    ghost from_gives = { λ refusal cause. cause ≡ cause_of_classes refusal };
+
+    fn from(refusal: ReconcileRefusal) -> Cause {
+        match refusal {
+            ReconcileRefusal::Failed { volume: _ } => Cause::HostFault,
+            ReconcileRefusal::Memory => Cause::NoMemory,
+        }
+    }
+}
+
+impl From<AllocError> for Cause {
+    ghost use Rattle.hsm_cli.specs.declared.causes.Cause.TheVariants.{NoMemory};
+
+    ghost from_gives = { λ error cause. cause ≡ NoMemory };
+
+    fn from(_error: AllocError) -> Cause {
+        Cause::NoMemory
     }
 }

@@ -3,22 +3,23 @@
 
 mod adapters;
 mod causes;
-mod commands;
+mod drilling;
 mod file_disk;
 mod file_host;
 mod hosts;
+mod in_memory;
 mod mem_file;
 mod mem_host;
 mod outcomes;
 mod positioned;
 mod runs;
-mod serving;
+mod scripts;
+mod showing;
 mod streams;
 mod top;
 
 pub use adapters::{Reading, Writing};
 pub use causes::Cause;
-pub use commands::{Command, StoreSize};
 pub use file_disk::FileDisk;
 pub use file_host::FileHost;
 pub use hosts::{Host, HostRefusal};

@@ -3,6 +3,9 @@ ghost use Rattle.std.specs.Prelude.{◌≡◌, ◌<◌, ◌≤◌, ◌++◌, ◌
 ghost use Rattle.std.specs.Io.KnownBytes.{Consumes, Appends, IsAtEnd};
 ghost use Rattle.script_text.specs.Causes.{Rose};
 ghost use Rattle.hsm_cli.specs.Sources.{script_bytes, ReadsMore, GivesMore, GivesFirst};
+ghost use Rattle.hsm_cli.specs.Texts.{TakesText};
+ghost use Rattle.hsm_cli.specs.Told.{sink_told};
+ghost use Rattle.hsm_cli.specs.Endings.{cause_in, WritingEnds};
 
 use crate::causes::Cause;
 use script_text::{Failed, Sink, Source};
@@ -78,4 +81,15 @@ pub fn write_all<O: Sink>(sink: &mut O, bytes: &[u8]) -> Result<(), Failed>
         done += count;
     }
     Ok(())
+}
+
+/// Writes a text. It is refused `WriteFault`, and then the sink took the first bytes.
+pub(crate) fn write_text<O: Sink>(sink: &mut O, text: &[u8]) -> Result<(), Cause>
+    ensures took { TakesText (λ bytes. bytes ≡ text.now) (sink_told O.taken O.fault_count sink.old sink.new) (cause_in result) }
+    ensures ends { IfErr result (WritingEnds (sink_told O.taken O.fault_count sink.old sink.new)) }
+{
+    match write_all(sink, text) {
+        Ok(()) => Ok(()),
+        Err(Failed) => Err(Cause::WriteFault),
+    }
 }

@@ -1,48 +1,48 @@
 //! The top call.
 ghost use Rattle.std.specs.Prelude.{◌≡◌, ◌≢◌, ◌≤◌, ◌⊎◌, ℕ, List, [], map, length, true, false, Some, None, IfOk, IfErr, IfSome, MatchResult};
 ghost use Rattle.std.specs.String.{string_bytes};
-ghost use Rattle.disk_model.specs.Calls.{raised};
+ghost use Rattle.disk_model.specs.Calls.{Rose, raised};
+ghost use Rattle.command_words.specs.Commands.{form_of, fsid_of, geometry_number};
 ghost use Rattle.plain_model.specs.Faults.{has_fault};
-ghost use Rattle.plain_model.specs.State.{nothing_held};
 ghost use Rattle.hsm_policy.specs.Settings.{standard};
-ghost use Rattle.file_store.specs.Stores.{superblock_of, IsDurable};
+ghost use Rattle.file_store.specs.Stores.{IsDurable};
 ghost use Rattle.hsm_replay.specs.Faults.{faults_in, AreTrue};
-ghost use Rattle.hsm_cli.specs.Commands.{form_of, fsid_of, geometry_number};
 ghost use Rattle.hsm_cli.specs.Statuses.{status_of, place_of};
-ghost use Rattle.hsm_cli.specs.Openings.{opened_in, base_of, replay_store};
+ghost use Rattle.hsm_cli.specs.Openings.{opened_in, base_of};
 ghost use Rattle.hsm_cli.specs.Follows.{SettlesOn};
-ghost use Rattle.hsm_cli.specs.Clauses.{ScriptClause, ReadingClause, LegalityClause, PlainClause, MediaClause, NoneFailed, IsCausedOver, CrashClause, FormatClause, HostClause, OutputClause, StatusClause, HasRun, HasRead, HasReadOn, IsGoodOver, IsPlainOver, LeavesSafe, IsFormatted, HandsOut, HasFailed, HasBegun, Why, Lacks, DrivesClause, GivesBack, HandsDrives, asked_by};
+ghost use Rattle.hsm_cli.specs.Clauses.{ScriptClause, ReadingClause, LegalityClause, PlainClause, MediaClause, NoneFailed, IsCausedOver, CrashClause, FormatClause, HostClause, OutputClause, TakesTranscript, StatusClause, HasRun, HasRead, HasReadOn, IsGoodOver, IsPlainOver, LeavesSafe, IsFormatted, HandsOut, HasFailed, HasBegun, Why, Lacks, DrivesClause, GivesBack, HandsDrives, asked_by};
 ghost use Rattle.hsm_cli.specs.Endings.{RunEnds, FormatEnds, HandingEnds, IsBeforeReading};
 ghost use Rattle.hsm_cli.specs.Hosts.{AreHanded, HoldsAll, StoresAll};
 ghost use Rattle.hsm_cli.specs.Daemons.{IsWellServedOver};
 ghost use Rattle.hsm_cli.specs.Sealing.{IsRightInMemory, IsRightInFolder};
 ghost use Rattle.hsm_cli.specs.Told.{source_told, sink_told, host_told};
-ghost use Rattle.hsm_cli.specs.Runs.{IsOpenedAnew};
 
 use crate::causes::Cause;
-use crate::commands::{Command, StoreSize};
+use crate::drilling::drill;
 use crate::hosts::Host;
+use crate::in_memory::{new_drives, new_store};
 use crate::outcomes::Outcome;
-use crate::serving::serve;
+use crate::scripts::run_opened;
+use crate::showing::{show, show_volumes};
 use byteorder::{BigEndian, ByteOrder};
+use command_words::{Command, StoreSize};
 use commit_slots::Layout;
-use disk_model::{Disk, Failed, SureDisk};
-use file_store::{formatted_is_empty, one_recovery};
+use disk_model::{Disk, Failed};
+use file_store::formatted_is_empty;
 use hsm_core::Hsm;
 use hsm_policy::Settings;
 use hsm_replay::seals_are_whole;
 use hsm_types::ListOf;
-use media_model::{SureDrive, sure_drives};
+use media_model::SureDrive;
 use script_text::{Sink, Source, one_script};
 use sha2::{Digest, Sha256};
 use std::alloc::{AllocError, Global};
 
-/// The file system id of the store that plain `replay` makes.
-const REPLAY_FSID: u64 = 1;
-
 /// Does what the words say. `format` makes an empty store on a disk of the host. `replay` runs the script from the source on a new small
-/// store in memory, or on the store of a disk of the host with the volumes of a folder, and writes the transcript to the sink. The words are judged
-/// first, then come the opening, the drives, the script, its events and the writing.
+/// store in memory, or on the store of a disk of the host with the volumes of a folder, and writes the transcript to the sink. `show` writes what the
+/// store of a disk of the host is, and with a folder what its volumes have of the store's objects. `drill` runs the script that it makes of a number on
+/// a new small store in memory, and writes one line on that. The words are judged first, then come the opening, the drives, the script, its events and
+/// the writing.
 pub fn hsm_main<H: Host, I: Source, O: Sink>(
     alloc: Global,
     words: &[String],
@@ -58,18 +58,22 @@ pub fn hsm_main<H: Host, I: Source, O: Sink>(
     ensures crash { CrashClause H.Disk.Disk (form_of (map string_bytes words.now)) (H.holds host.old) result }
     ensures format { FormatClause H.Disk.Disk (form_of (map string_bytes words.now)) result }
     ensures host { HostClause H.holds H.make_count H.open_count (form_of (map string_bytes words.now)) host.old host.new result }
-    ensures drives { DrivesClause H.Drive.Drive H.stores H.drive_count (form_of (map string_bytes words.now)) host.old host.new result }
-    ensures output { OutputClause result (sink_told O.taken O.fault_count sink.old sink.new) }
-    ensures status { StatusClause H.Disk.Disk (form_of (map string_bytes words.now)) (H.holds host.old) (source_told I.left I.fault_count source.old source.new) (sink_told O.taken O.fault_count sink.old sink.new) (host_told H.fault_count host.old host.new) result }
+    ensures drives { DrivesClause H.Drive.Drive H.holds H.stores H.drive_count (form_of (map string_bytes words.now)) host.old host.new result }
+    ensures output { OutputClause (form_of (map string_bytes words.now)) (H.holds host.old) (H.stores host.old) result (sink_told O.taken O.fault_count sink.old sink.new) }
+    ensures status { StatusClause H.Disk.Disk H.Drive.Drive (form_of (map string_bytes words.now)) (H.holds host.old) (source_told I.left I.fault_count source.old source.new) (sink_told O.taken O.fault_count sink.old sink.new) (host_told H.fault_count host.old host.new) result }
 {
     one_script();
-    match Command::of(words) {
-        Some(Command::Format { path, size }) => format(alloc, host, path, size),
-        Some(Command::Replay) => replay(alloc, source, sink),
-        Some(Command::ReplayStore { path, dir }) => {
+    match Command::of(alloc, words) {
+        Ok(Some(Command::Format { path, size })) => format(alloc, host, path, size),
+        Ok(Some(Command::Replay)) => replay(alloc, source, sink),
+        Ok(Some(Command::ReplayStore { path, dir })) => {
             replay_store(alloc, host, path, dir, source, sink)
         }
-        None => Outcome::unopened(alloc, Some(Cause::WordsRefused), None),
+        Ok(Some(Command::Show { path })) => show(alloc, host, path, sink),
+        Ok(Some(Command::ShowVolumes { path, dir })) => show_volumes(alloc, host, path, dir, sink),
+        Ok(Some(Command::Drill { number })) => drill(alloc, number, sink),
+        Ok(None) => Outcome::unopened(alloc, Some(Cause::WordsRefused), None),
+        Err(AllocError) => Outcome::unopened(alloc, Some(Cause::NoMemory), None),
     }
 }
 
@@ -127,45 +131,26 @@ fn replay<D: Disk, M, I: Source, O: Sink>(
     ensures plain { IsPlainOver {D = D} None result.history }
     ensures media { NoneFailed (faults_in result.history) }
     ensures caused_by { IsCausedOver {D = D} None result.history }
-    ensures output { OutputClause result (sink_told O.taken O.fault_count sink.old sink.new) }
+    ensures output { TakesTranscript result (sink_told O.taken O.fault_count sink.old sink.new) }
     ensures ends { RunEnds ⊥ ⊥ (source_told I.left I.fault_count source.old source.new) (sink_told O.taken O.fault_count sink.old sink.new) result.cause }
 {
     seals_are_whole::<SureDrive>();
     match new_store(alloc) {
         Ok(hsm) => {
             let drives = new_drives(alloc);
-            let served = serve(alloc, hsm, drives, false, source, sink);
+            let finished = run_opened(alloc, hsm, drives, false, source, sink);
             Outcome {
-                status: Cause::status(served.cause),
-                at: Cause::place(served.cause),
-                cause: served.cause,
+                status: Cause::status(finished.cause),
+                at: Cause::place(finished.cause),
+                cause: finished.cause,
                 base: 0,
                 opening: None,
-                history: served.history,
+                history: finished.history,
                 disk: None,
                 drives: ListOf::from(Vec::new(alloc)),
             }
         }
         Err(AllocError) => Outcome::unopened(alloc, Some(Cause::NoMemory), None),
-    }
-}
-
-/// A small store in memory, formatted and opened.
-fn new_store(alloc: Global) -> Result<Hsm<SureDisk>, AllocError>
-    ensures anew { IfOk result (λ s. IsOpenedAnew s) }
-    ensures empty { IfOk result (λ s. (superblock_of s.opened ≡ replay_store) × (s.opened.held ≡ nothing_held) × (s.opened.meta.number ≡ 0)) }
-{
-    formatted_is_empty();
-    one_recovery();
-    let whole = Layout::of_geometry(StoreSize::Small.geometry()).whole;
-    let mut disk = SureDisk::new(vec![in alloc; 0; whole as usize]?);
-    let Ok(()) = Hsm::format(&mut disk, StoreSize::Small.geometry(), REPLAY_FSID) else {
-        unreachable!()
-    };
-    match Hsm::open(alloc, disk) {
-        Ok(hsm) => Ok(hsm),
-        // A disk that never fails was just formatted, so this is want of memory.
-        Err(_) => Err(AllocError),
     }
 }
 
@@ -187,7 +172,7 @@ fn replay_store<H: Host, I: Source, O: Sink>(
     ensures media { AreTrue H.Drive.Drive result.drives (faults_in result.history) }
     ensures caused_by { IsCausedOver (opened_in result) result.history }
     ensures crash { LeavesSafe H.Disk.Disk (H.holds host.old path.now) (opened_in result) result.history result.cause result.disk }
-    ensures output { OutputClause result (sink_told O.taken O.fault_count sink.old sink.new) }
+    ensures output { TakesTranscript result (sink_told O.taken O.fault_count sink.old sink.new) }
     ensures host { HandsOut path.now (H.holds host.old) (H.holds host.new) result.disk }
     ensures asked { H.open_count host.new ≡ raised (H.open_count host.old) }
     ensures unmade { H.make_count host.new ≡ H.make_count host.old }
@@ -198,7 +183,7 @@ fn replay_store<H: Host, I: Source, O: Sink>(
     ensures begun { HasBegun (opened_in result) result.cause }
     ensures opened { IfSome (opened_in result) (λ s. (s.held ≡ s.durable) × ((image : List ℕ) → H.holds host.old path.now image → IsDurable s image)) }
     ensures back { result.disk ≡ None → (result.cause ≡ Some Cause.HostFault) ⊎ (result.cause ≡ Some Cause.NoMemory) }
-    ensures why { Why H.Disk.Disk (H.holds host.old path.now) (source_told I.left I.fault_count source.old source.new) (sink_told O.taken O.fault_count sink.old sink.new) (host_told H.fault_count host.old host.new) result.disk result.cause }
+    ensures why { Why H.Disk.Disk (H.holds host.old path.now) (Rose (H.fault_count host.old) (H.fault_count host.new)) (source_told I.left I.fault_count source.old source.new) (sink_told O.taken O.fault_count sink.old sink.new) result.disk result.cause }
 {
     let disk = match host.disk(path) {
         Ok(disk) => disk,
@@ -207,36 +192,19 @@ fn replay_store<H: Host, I: Source, O: Sink>(
     match Hsm::open(alloc, disk) {
         Ok(hsm) => {
             let drives = ask_for_drives(host, dir);
-            let served = serve(alloc, hsm, drives, true, source, sink);
+            let finished = run_opened(alloc, hsm, drives, true, source, sink);
             Outcome {
-                status: Cause::status(served.cause),
-                at: Cause::place(served.cause),
-                cause: served.cause,
-                base: served.base,
-                opening: Some(served.opening),
-                history: served.history,
-                disk: Some(served.disk),
-                drives: ListOf::from(served.drives),
+                status: Cause::status(finished.cause),
+                at: Cause::place(finished.cause),
+                cause: finished.cause,
+                base: finished.base,
+                opening: Some(finished.opening),
+                history: finished.history,
+                disk: Some(finished.disk),
+                drives: ListOf::from(finished.drives),
             }
         }
         Err((refusal, disk)) => Outcome::unopened(alloc, Some(Cause::from(refusal)), Some(disk)),
-    }
-}
-
-/// Drives in memory over new volumes, as the default settings have them.
-fn new_drives(alloc: Global) -> Result<Vec<SureDrive>, Cause>
-    ensures count { IfOk result (λ ds. length ds.items ≡ standard.drives) }
-    ensures why { IfErr result (λ why. why ≡ Cause.NoMemory) }
-{
-    let settings = Settings::default();
-    match sure_drives(
-        alloc,
-        settings.drives(),
-        settings.volumes(),
-        settings.capacity(),
-    ) {
-        Ok(drives) => Ok(drives),
-        Err(AllocError) => Err(Cause::NoMemory),
     }
 }
 

@@ -35,3 +35,5 @@ mod shelf;
 mod streams;
 #[cfg(test)]
 mod summaries;
+#[cfg(test)]
+mod words;

@@ -2,7 +2,7 @@ use Rattle.std.proofs.Common.{◌≡◌, ℕ, List, Some, None, sym, ◌∙◌, 
 use Rattle.disk_model.specs.Moments.{MayBe}
 use Rattle.commit_slots.specs.Images.{IsEmptyStore}
 use Rattle.hsm_cli.specs.declared.causes.Cause.TheVariants.{DiskFault}
-use Rattle.hsm_cli.specs.Commands.{geometry_number, fsid_of}
+use Rattle.command_words.specs.Commands.{geometry_number, fsid_of}
 use Rattle.hsm_cli.proofs.top.format.Goals as goal
 use Rattle.hsm_cli.proofs.top.format.Goals.{in-Ok-format, in-Err-format}
 

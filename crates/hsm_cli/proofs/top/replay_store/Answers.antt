@@ -10,21 +10,21 @@ use Rattle.hsm_cli.proofs.Drives.{rose_from, gives_back, none_at_fault, host_fai
 use Rattle.hsm_cli.proofs.Scripted.{also_well, ran_with}
 use Rattle.hsm_cli.proofs.Sealing.{right_since}
 use Rattle.hsm_cli.proofs.top.replay_store.Given.{Over}
-use Rattle.hsm_cli.proofs.top.replay_store.Goals.{After-serve-served}
+use Rattle.hsm_cli.proofs.top.replay_store.Goals.{After-run_opened-finished}
 use Rattle.hsm_cli.proofs.top.replay_store.Goals as goal
 
 pub returns-in-Ok-open-clause-crash : goal.returns-in-Ok-open-clause-crash
 returns-in-Ok-open-clause-crash g c =
-    rw c.serve-served.ensures.opening
+    rw c.run_opened-finished.ensures.opening
     (crash_safe g.H.Disk.Disk (g.H.Host.holds c.args.host.now c.args.path.now) c.in-Ok.disk record { given = c.in-Ok.ensures.given; settled = c.in-Ok.ensures.settled; counted = c.in-Ok.ensures.counted }
-    c.in-Ok-open.hsm.opened c.in-Ok-open.hsm.files c.serve-served.result.history c.serve-served.result.cause c.serve-served.result.disk c.in-Ok-open.ensures.opened.0
-    c.in-Ok-open.ensures.opening.0 c.in-Ok-open.ensures.opening.1 c.in-Ok-open.ensures.durable c.in-Ok-open.ensures.found.0 c.serve-served.ensures.since c.serve-served.ensures.now (c.serve-served.ensures.whole refl) c.serve-served.ensures.untouched)
+    c.in-Ok-open.hsm.opened c.in-Ok-open.hsm.files c.run_opened-finished.result.history c.run_opened-finished.result.cause c.run_opened-finished.result.disk c.in-Ok-open.ensures.opened.0
+    c.in-Ok-open.ensures.opening.0 c.in-Ok-open.ensures.opening.1 c.in-Ok-open.ensures.durable c.in-Ok-open.ensures.found.0 c.run_opened-finished.ensures.since c.run_opened-finished.ensures.now (c.run_opened-finished.ensures.whole refl) c.run_opened-finished.ensures.untouched)
 
 pub returns-in-Err-open-clause-why : goal.returns-in-Err-open-clause-why
 returns-in-Err-open-clause-why g c =
     rw (c.unopened-in-Err-open.ensures, c.from-in-Err-open.ensures)
-    (why_unopened g.H.Disk.Disk (g.H.Host.holds c.args.host.now c.args.path.now) c.in-Ok.disk record { given = c.in-Ok.ensures.given; settled = c.in-Ok.ensures.settled; counted = c.in-Ok.ensures.counted }
-    (source_told g.I.Source.left g.I.Source.fault_count c.args.source.now c.args.source.now) (sink_told g.O.Sink.taken g.O.Sink.fault_count c.args.sink.now c.args.sink.now) (host_told g.H.Host.fault_count c.args.host.now c.disk.new.self)
+    (why_unopened g.H.Disk.Disk (g.H.Host.holds c.args.host.now c.args.path.now) c.in-Ok.disk record { given = c.in-Ok.ensures.given; settled = c.in-Ok.ensures.settled; counted = c.in-Ok.ensures.counted } _
+    (source_told g.I.Source.left g.I.Source.fault_count c.args.source.now c.args.source.now) (sink_told g.O.Sink.taken g.O.Sink.fault_count c.args.sink.now c.args.sink.now)
     c.in-Err-open.disk c.in-Err-open.refusal c.in-Err-open.ensures.not_store c.in-Err-open.ensures.corrupt c.in-Err-open.ensures.faults.rose)
 
 pub returns-in-Err-clause-legality : goal.returns-in-Err-clause-legality
@@ -35,41 +35,41 @@ returns-in-Err-open-clause-legality g c = legal_as g.H.Disk.Disk c.unopened-in-E
 
 pub returns-in-Ok-open-clause-script : goal.returns-in-Ok-open-clause-script
 returns-in-Ok-open-clause-script g c =
-    let source = source_told g.I.Source.left g.I.Source.fault_count c.args.source.now c.serve-served.new.source in
-    let right = IsRightInFolder g.H.Drive.Drive (g.H.Host.stores c.args.host.now c.args.dir.now) c.serve-served.result.drives.items in
-    rw (c.from-in-Ok-open.ensures, c.serve-served.ensures.opening)
-    (also_well (Some c.in-Ok-open.hsm.opened) (SettlesOn (Some c.in-Ok-open.hsm.opened)) right true source c.serve-served.result.cause c.serve-served.result.history c.serve-served.ensures.well
-    (ran_with (SettlesOn (Some c.in-Ok-open.hsm.opened)) (λ ds marks. TellsOf g.H.Drive.Drive ds.items c.serve-served.result.drives.items marks) right c.ask_for_drives-drives.result true source c.serve-served.result.cause c.serve-served.result.history
-    (right_since g.H.Drive.Drive (g.H.Host.stores c.args.host.now c.args.dir.now) (λ ds. ds.items) c.ask_for_drives-drives.result c.serve-served.result.drives.items
-    (tallies_since g.H.Drive.Drive (g.H.Host.stores c.args.host.now c.args.dir.now) (g.H.Host.stores c.disk.new.self c.args.dir.now) (c.disk.ensures.folders c.args.dir.now) c.in-Ok-open.hsm.opened (λ ds. ds.items) c.ask_for_drives-drives.result c.serve-served.result.drives.items c.ask_for_drives-drives.ensures.given))
-    c.ask_for_drives-drives.ensures.ready c.serve-served.ensures.unready c.serve-served.ensures.idle c.serve-served.ensures.script))
+    let source = source_told g.I.Source.left g.I.Source.fault_count c.args.source.now c.run_opened-finished.new.source in
+    let right = IsRightInFolder g.H.Drive.Drive (g.H.Host.stores c.args.host.now c.args.dir.now) c.run_opened-finished.result.drives.items in
+    rw (c.from-in-Ok-open.ensures, c.run_opened-finished.ensures.opening)
+    (also_well (Some c.in-Ok-open.hsm.opened) (SettlesOn (Some c.in-Ok-open.hsm.opened)) right true source c.run_opened-finished.result.cause c.run_opened-finished.result.history c.run_opened-finished.ensures.well
+    (ran_with (SettlesOn (Some c.in-Ok-open.hsm.opened)) (λ ds marks. TellsOf g.H.Drive.Drive ds.items c.run_opened-finished.result.drives.items marks) right c.ask_for_drives-drives.result true source c.run_opened-finished.result.cause c.run_opened-finished.result.history
+    (right_since g.H.Drive.Drive (g.H.Host.stores c.args.host.now c.args.dir.now) (λ ds. ds.items) c.ask_for_drives-drives.result c.run_opened-finished.result.drives.items
+    (tallies_since g.H.Drive.Drive (g.H.Host.stores c.args.host.now c.args.dir.now) (g.H.Host.stores c.disk.new.self c.args.dir.now) (c.disk.ensures.folders c.args.dir.now) c.in-Ok-open.hsm.opened (λ ds. ds.items) c.ask_for_drives-drives.result c.run_opened-finished.result.drives.items c.ask_for_drives-drives.ensures.given))
+    c.ask_for_drives-drives.ensures.ready c.run_opened-finished.ensures.unready c.run_opened-finished.ensures.idle c.run_opened-finished.ensures.script))
 
 -- the drives, and what the host has left
 
-module _ (g : Over) (c : After-serve-served g) where
-  back : GivesBack g.H.Drive.Drive (g.H.Host.stores c.args.host.now c.args.dir.now) (Some c.in-Ok-open.hsm.opened) c.serve-served.result.cause c.serve-served.result.drives.items
+module _ (g : Over) (c : After-run_opened-finished g) where
+  back : GivesBack g.H.Drive.Drive (g.H.Host.stores c.args.host.now c.args.dir.now) (Some c.in-Ok-open.hsm.opened) c.run_opened-finished.result.cause c.run_opened-finished.result.drives.items
   back =
-      gives_back g.H.Drive.Drive (g.H.Host.stores c.args.host.now c.args.dir.now) (g.H.Host.stores c.disk.new.self c.args.dir.now) (c.disk.ensures.folders c.args.dir.now) c.in-Ok-open.hsm.opened (λ ds. ds.items) c.ask_for_drives-drives.result c.serve-served.result.cause
-      c.serve-served.result.drives.items c.ask_for_drives-drives.ensures.given c.serve-served.ensures.drives c.ask_for_drives-drives.ensures.ready c.serve-served.ensures.unready
-      (host_failed _ _ (source_told g.I.Source.left g.I.Source.fault_count c.args.source.now c.serve-served.new.source) (sink_told g.O.Sink.taken g.O.Sink.fault_count c.args.sink.now c.serve-served.new.sink) c.serve-served.result.cause c.serve-served.ensures.ends)
+      gives_back g.H.Drive.Drive (g.H.Host.stores c.args.host.now c.args.dir.now) (g.H.Host.stores c.disk.new.self c.args.dir.now) (c.disk.ensures.folders c.args.dir.now) c.in-Ok-open.hsm.opened (λ ds. ds.items) c.ask_for_drives-drives.result c.run_opened-finished.result.cause
+      c.run_opened-finished.result.drives.items c.ask_for_drives-drives.ensures.given c.run_opened-finished.ensures.drives c.ask_for_drives-drives.ensures.ready c.run_opened-finished.ensures.unready
+      (host_failed _ _ (source_told g.I.Source.left g.I.Source.fault_count c.args.source.now c.run_opened-finished.new.source) (sink_told g.O.Sink.taken g.O.Sink.fault_count c.args.sink.now c.run_opened-finished.new.sink) c.run_opened-finished.result.cause c.run_opened-finished.ensures.ends)
 
 pub returns-in-Ok-open-clause-drives : goal.returns-in-Ok-open-clause-drives
 returns-in-Ok-open-clause-drives g c =
-    rw c.from-in-Ok-open.ensures (subst (λ (s : Store g.row.H-Disk.Denot). GivesBack g.H.Drive.Drive (g.H.Host.stores c.args.host.now c.args.dir.now) (Some s) c.serve-served.result.cause c.serve-served.result.drives.items) (sym c.serve-served.ensures.opening)
-    (back g (goal.at.returns-in-Ok-open-clause-drives g c).After-serve-served))
+    rw c.from-in-Ok-open.ensures (subst (λ (s : Store g.row.H-Disk.Denot). GivesBack g.H.Drive.Drive (g.H.Host.stores c.args.host.now c.args.dir.now) (Some s) c.run_opened-finished.result.cause c.run_opened-finished.result.drives.items) (sym c.run_opened-finished.ensures.opening)
+    (back g (goal.at.returns-in-Ok-open-clause-drives g c).After-run_opened-finished))
 
 pub returns-in-Ok-open-clause-lent : goal.returns-in-Ok-open-clause-lent
-returns-in-Ok-open-clause-lent g c = λ is. inr (refl, rw c.from-in-Ok-open.ensures (none_at_fault g.H.Drive.Drive (g.H.Host.stores c.args.host.now c.args.dir.now) (g.H.Host.stores c.disk.new.self c.args.dir.now) (c.disk.ensures.folders c.args.dir.now) c.in-Ok-open.hsm.opened c.serve-served.result.cause c.serve-served.result.drives.items (back g (goal.at.returns-in-Ok-open-clause-lent g c).After-serve-served) is))
+returns-in-Ok-open-clause-lent g c = λ is. inr (refl, rw c.from-in-Ok-open.ensures (none_at_fault g.H.Drive.Drive (g.H.Host.stores c.args.host.now c.args.dir.now) (g.H.Host.stores c.disk.new.self c.args.dir.now) (c.disk.ensures.folders c.args.dir.now) c.in-Ok-open.hsm.opened c.run_opened-finished.result.cause c.run_opened-finished.result.drives.items (back g (goal.at.returns-in-Ok-open-clause-lent g c).After-run_opened-finished) is))
 
 pub returns-in-Ok-open-clause-folders : goal.returns-in-Ok-open-clause-folders
-returns-in-Ok-open-clause-folders g c = rw c.from-in-Ok-open.ensures (drives_came g.H.Drive.Drive (λ ds. ds.items) c.args.dir.now (g.H.Host.stores c.args.host.now) (g.H.Host.stores c.disk.new.self) (g.H.Host.stores c.ask_for_drives-drives.new.host) c.ask_for_drives-drives.result c.serve-served.result.drives.items c.disk.ensures.folders c.ask_for_drives-drives.ensures.folders c.serve-served.ensures.drives)
+returns-in-Ok-open-clause-folders g c = rw c.from-in-Ok-open.ensures (drives_came g.H.Drive.Drive (λ ds. ds.items) c.args.dir.now (g.H.Host.stores c.args.host.now) (g.H.Host.stores c.disk.new.self) (g.H.Host.stores c.ask_for_drives-drives.new.host) c.ask_for_drives-drives.result c.run_opened-finished.result.drives.items c.disk.ensures.folders c.ask_for_drives-drives.ensures.folders c.run_opened-finished.ensures.drives)
 
 pub returns-in-Ok-open-clause-host : goal.returns-in-Ok-open-clause-host
-returns-in-Ok-open-clause-host g c = disk_came c.args.path.now (g.H.Host.holds c.args.host.now) (g.H.Host.holds c.disk.new.self) (g.H.Host.holds c.ask_for_drives-drives.new.host) c.serve-served.result.disk c.in-Ok.ensures.gone c.disk.ensures.others c.ask_for_drives-drives.ensures.disks
+returns-in-Ok-open-clause-host g c = disk_came c.args.path.now (g.H.Host.holds c.args.host.now) (g.H.Host.holds c.disk.new.self) (g.H.Host.holds c.ask_for_drives-drives.new.host) c.run_opened-finished.result.disk c.in-Ok.ensures.gone c.disk.ensures.others c.ask_for_drives-drives.ensures.disks
 
 pub returns-in-Ok-open-clause-why : goal.returns-in-Ok-open-clause-why
 returns-in-Ok-open-clause-why g c =
-    why_served g.H.Disk.Disk (g.H.Host.holds c.args.host.now c.args.path.now) (source_told g.I.Source.left g.I.Source.fault_count c.args.source.now c.serve-served.new.source) (sink_told g.O.Sink.taken g.O.Sink.fault_count c.args.sink.now c.serve-served.new.sink)
-    (host_told g.H.Host.fault_count c.args.host.now c.ask_for_drives-drives.new.host) (Some c.serve-served.result.disk) (host_told g.H.Host.fault_count c.disk.new.self c.ask_for_drives-drives.new.host) c.ask_for_drives-drives.result _ c.serve-served.result.cause
+    why_served g.H.Disk.Disk (g.H.Host.holds c.args.host.now c.args.path.now) (source_told g.I.Source.left g.I.Source.fault_count c.args.source.now c.run_opened-finished.new.source) (sink_told g.O.Sink.taken g.O.Sink.fault_count c.args.sink.now c.run_opened-finished.new.sink)
+    (host_told g.H.Host.fault_count c.args.host.now c.ask_for_drives-drives.new.host) (Some c.run_opened-finished.result.disk) (host_told g.H.Host.fault_count c.disk.new.self c.ask_for_drives-drives.new.host) c.ask_for_drives-drives.result _ c.run_opened-finished.result.cause
     c.disk.ensures.cause.never_falls refl c.ask_for_drives-drives.ensures.why
-    (λ rose. record { disk = c.serve-served.result.disk; back = refl; rose = rose_from 0 (g.H.Disk.Disk.fault_count c.in-Ok-open.hsm.opened.disk) (g.H.Disk.Disk.fault_count c.serve-served.result.disk) (omega arith) rose }) c.serve-served.ensures.ends
+    (λ rose. record { disk = c.run_opened-finished.result.disk; back = refl; rose = rose_from 0 (g.H.Disk.Disk.fault_count c.in-Ok-open.hsm.opened.disk) (g.H.Disk.Disk.fault_count c.run_opened-finished.result.disk) (omega arith) rose }) c.run_opened-finished.ensures.ends

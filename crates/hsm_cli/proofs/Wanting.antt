@@ -1,0 +1,133 @@
+-- Want of memory for the words: nothing was done, whatever they say.
+use Rattle.std.proofs.Common.{inl, inr, ℕ, List, [], Option, Some, None, refl, arith}
+use Rattle.std.proofs.KnownBytes.{Appends-nil, Consumes-nil}
+use Rattle.disk_model.specs.declared.device.Disk as disk
+use Rattle.media_model.specs.declared.drive.Drive as drive
+use Rattle.media_model.specs.Objects.{Objects}
+use Rattle.command_words.specs.Commands.{Form, Format, Replay, ReplayStore, Show, ShowVolumes, Drill}
+use Rattle.plain_model.specs.State.{nothing_held}
+use Rattle.hsm_replay.specs.Faults.{faults_in}
+use Rattle.hsm_cli.specs.declared.causes.Cause.TheVariants.{NoMemory}
+use Rattle.hsm_cli.specs.declared.outcomes.Outcome.{Outcome}
+use Rattle.hsm_cli.specs.Openings.{replay_store}
+use Rattle.hsm_cli.specs.Sources.{GivesFirst}
+use Rattle.hsm_cli.specs.Hosts.{HoldsAll, StoresAll}
+use Rattle.hsm_cli.specs.Told.{SourceTold, SinkTold, HostTold}
+use Rattle.hsm_cli.specs.Clauses.{ScriptClause, ReadingClause, MediaClause, TellsFaults, CrashClause, FormatClause, HostClause, DrivesClause, OutputClause, TakesTranscript, StatusClause}
+use Rattle.hsm_cli.proofs.Faults.{caused_none}
+
+-- the outcome
+abbrev pub wanting : {D M : Type 0} → Outcome D M
+wanting = record { status = 8; at = 0; cause = Some NoMemory; base = 0; opening = None; history = []; disk = None; drives = [] }
+
+-- what was left, and is
+abbrev unread : Option (List ℕ) → ℕ → SourceTold
+unread given faults = record { given = given; left = given; before = faults; now = faults }
+
+abbrev untaken : Option (List ℕ) → ℕ → SinkTold
+untaken taken faults = record { old = taken; new = taken; before = faults; now = faults }
+
+gives_none : (given : Option (List ℕ)) → GivesFirst given given
+gives_none given = record { bytes = []; consumed = Consumes-nil given; within = omega arith }
+
+module _ {D M : Type 0} (g : disk.Ghosts D) (h : drive.Ghosts M) where
+  pub script_wanting : (stores : List ℕ → ℕ → Objects → Type 0) (form : Option Form) (source : SourceTold) → ScriptClause h stores form source (wanting {D = D} {M = M})
+  script_wanting stores None source = refl
+  script_wanting stores (Some (Format path size)) source = refl
+  script_wanting stores (Some Replay) source = inl refl
+  script_wanting stores (Some (ReplayStore path dir)) source = inl refl
+  script_wanting stores (Some (Show path)) source = refl
+  script_wanting stores (Some (ShowVolumes path dir)) source = refl
+  script_wanting stores (Some (Drill number)) source = inl refl
+
+  pub reading_wanting : (form : Option Form) (given : Option (List ℕ)) (faults : ℕ) → ReadingClause form (unread given faults) (wanting {D = D} {M = M})
+  reading_wanting None given faults = record { left = refl; faults = refl }
+  reading_wanting (Some (Format path size)) given faults = record { left = refl; faults = refl }
+  reading_wanting (Some Replay) given faults = gives_none given
+  reading_wanting (Some (ReplayStore path dir)) given faults = record { left = refl; faults = refl }
+  reading_wanting (Some (Show path)) given faults = record { left = refl; faults = refl }
+  reading_wanting (Some (ShowVolumes path dir)) given faults = record { left = refl; faults = refl }
+  reading_wanting (Some (Drill number)) given faults = record { left = refl; faults = refl }
+
+  no_faults : (form : Option Form) → TellsFaults h form [] (faults_in [])
+  no_faults None = refl
+  no_faults (Some (Format path size)) = refl
+  no_faults (Some Replay) = tt
+  no_faults (Some (ReplayStore path dir)) = record { each = tt; apart = tt }
+  no_faults (Some (Show path)) = refl
+  no_faults (Some (ShowVolumes path dir)) = refl
+  no_faults (Some (Drill number)) = tt
+
+  pub media_wanting : (form : Option Form) → MediaClause h form (wanting {D = D} {M = M})
+  media_wanting form = record { caused = caused_none replay_store 0 nothing_held [] refl; faults = no_faults form }
+
+  pub crash_wanting : (form : Option Form) (holds : List ℕ → List ℕ → Type 0) → CrashClause g form holds (wanting {D = D} {M = M})
+  crash_wanting None holds = refl
+  crash_wanting (Some (Format path size)) holds = refl
+  crash_wanting (Some Replay) holds = refl
+  crash_wanting (Some (ReplayStore path dir)) holds = refl
+  crash_wanting (Some (Show path)) holds = (refl, refl, tt)
+  crash_wanting (Some (ShowVolumes path dir)) holds = (refl, refl, tt)
+  crash_wanting (Some (Drill number)) holds = refl
+
+  pub format_wanting : (form : Option Form) → FormatClause g form (wanting {D = D} {M = M})
+  format_wanting None = tt
+  format_wanting (Some (Format path size)) = λ none. absurd cc
+  format_wanting (Some Replay) = tt
+  format_wanting (Some (ReplayStore path dir)) = tt
+  format_wanting (Some (Show path)) = tt
+  format_wanting (Some (ShowVolumes path dir)) = tt
+  format_wanting (Some (Drill number)) = tt
+
+  holds_all : (holds : List ℕ → List ℕ → Type 0) → HoldsAll holds holds
+  holds_all holds name = (λ c is. is, λ c is. is)
+
+  pub host_wanting : {H : Type 0} (holds : H → List ℕ → List ℕ → Type 0) (makes openings : H → ℕ) (form : Option Form) (host : H) → HostClause holds makes openings form host host (wanting {D = D} {M = M})
+  host_wanting holds makes openings None host = (refl, refl)
+  host_wanting holds makes openings (Some Replay) host = (refl, refl)
+  host_wanting holds makes openings (Some (Drill number)) host = (refl, refl)
+  host_wanting holds makes openings (Some (Format path size)) host = (holds_all (holds host), inr (refl, refl, refl))
+  host_wanting holds makes openings (Some (ReplayStore path dir)) host = (holds_all (holds host), inr (refl, refl, refl))
+  host_wanting holds makes openings (Some (Show path)) host = (holds_all (holds host), inr (refl, refl, refl))
+  host_wanting holds makes openings (Some (ShowVolumes path dir)) host = (holds_all (holds host), inr (refl, refl, refl))
+
+  stores_all : (stores : List ℕ → ℕ → Objects → Type 0) → StoresAll stores stores
+  stores_all stores name v = (λ o is. is, λ o is. is)
+
+  pub drives_wanting : {H : Type 0} (holds : H → List ℕ → List ℕ → Type 0) (stores : H → List ℕ → ℕ → Objects → Type 0) (askings : H → ℕ) (form : Option Form) (host : H) → DrivesClause h holds stores askings form host host (wanting {D = D} {M = M})
+  drives_wanting holds stores askings None host = refl
+  drives_wanting holds stores askings (Some Replay) host = refl
+  drives_wanting holds stores askings (Some (Drill number)) host = refl
+  drives_wanting holds stores askings (Some (Format path size)) host = (refl, stores_all (stores host), refl)
+  drives_wanting holds stores askings (Some (Show path)) host = (refl, stores_all (stores host), refl)
+  drives_wanting holds stores askings (Some (ReplayStore path dir)) host = (refl, stores_all (stores host), refl)
+  drives_wanting holds stores askings (Some (ShowVolumes path dir)) host = (refl, stores_all (stores host), refl, λ image is nothing. refl)
+
+  transcript_wanting : (taken : Option (List ℕ)) (faults : ℕ) → TakesTranscript (wanting {D = D} {M = M}) (untaken taken faults)
+  transcript_wanting taken faults = record { first = (0, Appends-nil taken); done = λ none. absurd cc; all = λ works ample. absurd (ample refl) }
+
+  pub output_wanting : (form : Option Form) (holds : List ℕ → List ℕ → Type 0) (stores : List ℕ → ℕ → Objects → Type 0) (taken : Option (List ℕ)) (faults : ℕ) → OutputClause form holds stores (wanting {D = D} {M = M}) (untaken taken faults)
+  output_wanting None holds stores taken faults = transcript_wanting taken faults
+  output_wanting (Some (Format path size)) holds stores taken faults = transcript_wanting taken faults
+  output_wanting (Some Replay) holds stores taken faults = transcript_wanting taken faults
+  output_wanting (Some (ReplayStore path dir)) holds stores taken faults = transcript_wanting taken faults
+  output_wanting (Some (Show path)) holds stores taken faults = Appends-nil taken
+  output_wanting (Some (ShowVolumes path dir)) holds stores taken faults = Appends-nil taken
+  output_wanting (Some (Drill number)) holds stores taken faults = Appends-nil taken
+
+  pub status_wanting : (form : Option Form) (holds : List ℕ → List ℕ → Type 0) (source : SourceTold) (sink : SinkTold) (host : HostTold) → StatusClause g h form holds source sink host (wanting {D = D} {M = M})
+  status_wanting form holds source sink host = record {
+    status = refl;
+    place = refl;
+    base = refl;
+    words = λ is. absurd cc;
+    no_words = λ none. inr refl;
+    why = tt;
+    forms = tt;
+    begun = λ opens. tt;
+    lent = λ is. absurd cc;
+    back = λ names none. inr refl;
+    opened = tt;
+    refused = λ image is nothing came disk_works. inr refl;
+    complete = λ store script works. inr refl;
+  }

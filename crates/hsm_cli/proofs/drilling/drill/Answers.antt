@@ -1,0 +1,81 @@
+use Rattle.std.proofs.Common.{◌≡◌, ◌≢◌, Some, Ok, IfErr, refl, sym, subst, arith}
+use Rattle.disk_model.specs.Calls.{Rose}
+use Rattle.media_model.specs.Memory.{has_gives}
+use Rattle.plain_model.specs.State.{Held}
+use Rattle.plain_model.specs.Stands.{Stands}
+use Rattle.drill_script.specs.Summary.{summary_line}
+use Rattle.hsm_cli.specs.declared.causes.Cause.TheVariants.{DiskFault, NoMemory}
+use Rattle.hsm_cli.specs.Clauses.{HasDrilled}
+use Rattle.hsm_cli.specs.Daemons.{IsWellServedOver}
+use Rattle.hsm_cli.specs.Endings.{cause_in, WritingEnds}
+use Rattle.hsm_cli.specs.Follows.{SettlesOn}
+use Rattle.hsm_cli.specs.Sealing.{IsRightInMemory}
+use Rattle.hsm_cli.specs.Texts.{drill_text}
+use Rattle.hsm_cli.specs.Told.{sink_told}
+use Rattle.hsm_cli.proofs.ByCause.{if_told}
+use Rattle.hsm_cli.proofs.Drills.{for_memory, no_fault, left_new, tells_left, has_drilled, drills_all, drills_first}
+use Rattle.hsm_cli.proofs.Faults.{caused_new, none_failed}
+use Rattle.hsm_cli.proofs.Legality.{good_new, good_unopened}
+use Rattle.hsm_cli.proofs.Scripted.{settles_new}
+use Rattle.hsm_cli.proofs.Showings.{takes_as}
+use Rattle.hsm_cli.proofs.drilling.drill.Given.{Over}
+use Rattle.hsm_cli.proofs.drilling.drill.Goals.{After-run_on-drilled}
+use Rattle.hsm_cli.proofs.drilling.drill.Goals as goal
+
+-- lines are cut short for want of memory alone
+module _ (g : Over) (c : After-run_on-drilled g) where
+  memory : IfErr c.run_on-drilled.result.ended (λ why. why ≡ NoMemory)
+  memory = for_memory (Rose 0 0) c.run_on-drilled.result.ended (λ rose. omega (arith, rose)) c.run_on-drilled.ensures.ends
+
+  sound : cause_in c.run_on-drilled.result.ended ≢ Some DiskFault
+  sound = no_fault c.run_on-drilled.result.ended memory
+
+pub tell-requires : goal.tell-requires
+tell-requires g c = memory g (goal.at.tell-requires g c).After-run_on-drilled
+
+pub returns-in-Ok-clause-script : goal.returns-in-Ok-clause-script
+returns-in-Ok-clause-script g c =
+    let opened = c.in-Ok.prepared.hsm.opened in
+    let empty = c.in-Ok.ensures.empty in
+    let ran = c.run_on-drilled.ensures in
+    let ended = c.run_on-drilled.result.ended in
+    let history = c.run_on-drilled.result.history in
+    let given = c.in-Ok.prepared.drives.items in
+    let left = c.run_on-drilled.result.drives.items in
+    rw c.err-cause.ensures.value
+    (settles_new g.row.D.Denot opened (λ so well. HasDrilled so (λ marks. well marks × IsRightInMemory marks) c.args.number (cause_in c.tell.result) history) empty.0 empty.1 empty.2
+    (has_drilled (SettlesOn (Some opened)) (λ marks. IsWellServedOver (Some opened) marks × IsRightInMemory marks) c.args.number history (sink_told g.O.Sink.taken g.O.Sink.fault_count c.args.sink.now c.tell.new.sink) ended c.tell.result
+    (drills_all _ opened given left c.seals_are_whole.ensures refl (λ d v there. has_gives d v there) c.args.number c.in-Ok.prepared.script history c.in-Ok.ensures.script ran.well ended ran.all)
+    (drills_first _ opened given left c.seals_are_whole.ensures refl (λ d v there. has_gives d v there) c.args.number c.in-Ok.prepared.script history c.in-Ok.ensures.script ran.well ran.first) c.tell.ensures.ends c.tell.ensures.ended))
+
+pub returns-in-Ok-clause-legality : goal.returns-in-Ok-clause-legality
+returns-in-Ok-clause-legality g c = good_new c.in-Ok.prepared.hsm.opened c.run_on-drilled.result.history c.in-Ok.ensures.empty.0 c.in-Ok.ensures.empty.1 c.in-Ok.ensures.empty.2 c.run_on-drilled.ensures.legality
+
+pub returns-in-Ok-clause-faultless : goal.returns-in-Ok-clause-faultless
+returns-in-Ok-clause-faultless g c = c.run_on-drilled.ensures.faultless (sound g (goal.at.returns-in-Ok-clause-faultless g c).After-run_on-drilled)
+
+pub returns-in-Ok-clause-plain : goal.returns-in-Ok-clause-plain
+returns-in-Ok-clause-plain g c = λ P stands. c.run_on-drilled.ensures.plain P (subst (λ (h : Held). Stands h.files P) (sym c.in-Ok.ensures.empty.1) stands)
+
+pub returns-in-Ok-clause-media : goal.returns-in-Ok-clause-media
+returns-in-Ok-clause-media g c = none_failed _ (λ d. refl) (λ ds. ds.items) (Ok c.in-Ok.prepared.drives) c.run_on-drilled.result.drives.items c.run_on-drilled.result.history c.in-Ok.ensures.count c.run_on-drilled.ensures.drives tt c.run_on-drilled.ensures.media
+
+pub returns-in-Ok-clause-caused_by : goal.returns-in-Ok-clause-caused_by
+returns-in-Ok-clause-caused_by g c = caused_new c.in-Ok.prepared.hsm.opened c.run_on-drilled.result.history c.in-Ok.ensures.empty.0 c.in-Ok.ensures.empty.1 c.in-Ok.ensures.empty.2 c.run_on-drilled.ensures.caused_by
+
+pub returns-in-Ok-clause-output : goal.returns-in-Ok-clause-output
+returns-in-Ok-clause-output g c =
+    let opened = c.in-Ok.prepared.hsm.opened in
+    let empty = c.in-Ok.ensures.empty in
+    let number = c.args.number in
+    let d = c.run_on-drilled.result in
+    let left = left_new opened d.history d.used d.offline empty.0 empty.1 empty.2 (c.run_on-drilled.ensures.totals (sound g (goal.at.returns-in-Ok-clause-output g c).After-run_on-drilled)) in
+    rw c.err-cause.ensures.value
+    (takes_as (λ text. text ≡ summary_line number d.history d.used d.offline) (λ text. text ≡ drill_text number d.history) (sink_told g.O.Sink.taken g.O.Sink.fault_count c.args.sink.now c.tell.new.sink) (cause_in c.tell.result)
+    (λ text is. tells_left number d.history d.used d.offline text left is) c.tell.ensures.text)
+
+pub returns-in-Ok-clause-ends : goal.returns-in-Ok-clause-ends
+returns-in-Ok-clause-ends g c = rw c.err-cause.ensures.value (if_told (WritingEnds (sink_told g.O.Sink.taken g.O.Sink.fault_count c.args.sink.now c.tell.new.sink)) c.tell.result c.tell.ensures.ends)
+
+pub returns-in-Err-clause-legality : goal.returns-in-Err-clause-legality
+returns-in-Err-clause-legality g c = rw c.unopened.ensures (good_unopened g.row.D.Denot)

@@ -1,0 +1,53 @@
+use Rattle.std.proofs.Common.{◌≡◌, false}
+use Rattle.hsm_replay.specs.Running.{GoesOn}
+use Rattle.hsm_cli.specs.Follows.{IsServed}
+use Rattle.hsm_cli.proofs.Daemons.{run_is_well}
+use Rattle.hsm_cli.proofs.Drills.{has_left}
+use Rattle.hsm_cli.proofs.Faults.{caused_served}
+use Rattle.hsm_cli.proofs.Telling.{not_failed}
+use Rattle.hsm_cli.proofs.drilling.run_on.Given.{Over}
+use Rattle.hsm_cli.proofs.drilling.run_on.Goals.{After-close-disk}
+use Rattle.hsm_cli.proofs.drilling.run_on.Goals as goal
+
+module _ (g : Over) (c : After-close-disk g) where
+  goes_on : GoesOn g.D.Disk c.args.hsm c.close-hsm.result.0
+  goes_on = rw c.close-hsm.ensures.store (rw c.new-replay.ensures at c.run_all-ended.ensures.goes_on)
+
+  served : IsServed c.close-hsm.result.0.history
+  served = rw c.close-hsm.ensures.store c.run_all-ended.ensures.served
+
+pub returns-clause-all : goal.returns-clause-all
+returns-clause-all g c = rw (c.close-disk.ensures.entries, c.close-hsm.ensures.store, c.close-hsm.ensures.drives) (rw c.new-replay.ensures at c.run_all-ended.ensures.all)
+
+pub returns-clause-first : goal.returns-clause-first
+returns-clause-first g c = rw (c.close-disk.ensures.entries, c.close-hsm.ensures.store, c.close-hsm.ensures.drives) (rw c.new-replay.ensures at c.run_all-ended.ensures.first)
+
+pub returns-clause-well : goal.returns-clause-well
+returns-clause-well g c = rw c.close-disk.ensures.entries (run_is_well (record { anew = c.served_makes_anew.ensures; over = c.served_takes_over.ensures; keeps = c.served_keeps_all.ensures; frees = c.punch_frees.ensures }) g.D.Disk c.args.hsm c.close-hsm.result.0 c.requires.anew (goes_on g (goal.at.returns-clause-well g c).After-close-disk) c.close-disk.ensures.kept)
+
+pub returns-clause-plain : goal.returns-clause-plain
+returns-clause-plain g c = rw (c.close-disk.ensures.entries, ← (goes_on g (goal.at.returns-clause-plain g c).After-close-disk).opened) (λ P stands. (c.close-disk.ensures.kept.good.good P stands).plain)
+
+pub returns-clause-caused_by : goal.returns-clause-caused_by
+returns-clause-caused_by g c =
+    let after = (goal.at.returns-clause-caused_by g c).After-close-disk in
+    rw c.close-disk.ensures.entries (caused_served g.D.Disk c.served_is_caused.ensures c.args.hsm c.close-hsm.result.0 c.requires.anew (goes_on g after) (served g after) c.close-disk.ensures.kept)
+
+pub returns-clause-media : goal.returns-clause-media
+returns-clause-media g c = rw (c.close-disk.ensures.entries, c.close-hsm.ensures.store, c.close-hsm.ensures.drives) c.run_all-ended.ensures.media
+
+pub returns-clause-drives : goal.returns-clause-drives
+returns-clause-drives g c = rw c.close-hsm.ensures.drives (rw c.new-replay.ensures at c.run_all-ended.ensures.drives)
+
+pub returns-clause-ends : goal.returns-clause-ends
+returns-clause-ends g c = rw (c.close-disk.ensures.disk, c.close-hsm.ensures.store, c.requires.anew.opened) (rw c.new-replay.ensures at c.run_all-ended.ensures.ends)
+
+pub returns-clause-faultless : goal.returns-clause-faultless
+returns-clause-faultless g c = rw c.close-disk.ensures.entries (λ sound. c.close-disk.ensures.kept.faultless (not_failed c.close-hsm.result.0.files.failed c.run_all-ended.result (rw c.close-hsm.ensures.store c.run_all-ended.ensures.failed) sound))
+
+pub returns-clause-totals : goal.returns-clause-totals
+returns-clause-totals g c =
+    let s = c.close-hsm.result.0 in
+    rw c.close-disk.ensures.entries (λ sound.
+    let working : s.files.failed ≡ false = not_failed s.files.failed c.run_all-ended.result (rw c.close-hsm.ensures.store c.run_all-ended.ensures.failed) sound in
+    has_left s c.args.hsm.opened _ _ (goes_on g (goal.at.returns-clause-totals g c).After-close-disk).opened c.close-disk.ensures.kept working c.totals-used.ensures.used c.totals-used.ensures.offline)

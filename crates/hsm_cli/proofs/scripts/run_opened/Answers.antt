@@ -1,0 +1,77 @@
+use Rattle.std.proofs.Common.{◌≡◌, None, false, ap, subst}
+use Rattle.file_store.specs.Stores.{Store as FileStore}
+use Rattle.hsm_cli.specs.Clauses.{HasRead, IsWhole}
+use Rattle.hsm_cli.proofs.Committing.{ran_well, on_none, whole}
+use Rattle.hsm_cli.proofs.Daemons.{run_is_well}
+use Rattle.hsm_cli.proofs.Faults.{caused_served}
+use Rattle.hsm_cli.proofs.Scripted.{idle_none}
+use Rattle.hsm_cli.proofs.Telling.{told_fault, faultless_unless, fault_caused, read_by, written_if_none, written_if_works, told_unready, run_ends}
+use Rattle.hsm_cli.specs.Endings.{cause_in}
+use Rattle.hsm_replay.specs.Running.{IsAllDurable}
+use Rattle.hsm_cli.proofs.Endings.{has_run, before_run}
+use Rattle.hsm_cli.specs.Told.{source_told, sink_told}
+use Rattle.hsm_cli.proofs.scripts.run_opened.Goals as goal
+
+pub returns-clause-script : goal.returns-clause-script
+returns-clause-script g c =
+    rw (c.first_cause.ensures, c.close-disk.ensures.entries)
+    (has_run _ _ c.args.commits (source_told g.I.Source.left g.I.Source.fault_count c.args.source.now c.run_with-ended.new.source) _ (sink_told g.O.Sink.taken g.O.Sink.fault_count c.args.sink.now c.write_transcript-written.new.sink) c.run_with-ended.result.ended c.write_transcript-written.result c.write_transcript-written.ensures.refused c.run_with-ended.ensures.ran)
+
+pub returns-clause-well : goal.returns-clause-well
+returns-clause-well g c = rw c.close-disk.ensures.entries (run_is_well (record { anew = c.served_makes_anew.ensures; over = c.served_takes_over.ensures; keeps = c.served_keeps_all.ensures; frees = c.punch_frees.ensures }) g.D.Disk c.args.hsm c.run_with-ended.result.hsm c.requires.anew c.run_with-ended.ensures.goes_on c.close-disk.ensures.kept)
+
+pub returns-clause-now : goal.returns-clause-now
+returns-clause-now g c = rw (c.close-disk.ensures.disk, c.close-disk.ensures.entries, ← c.run_with-ended.ensures.goes_on.opened) c.close-disk.ensures.now
+
+pub returns-clause-whole : goal.returns-clause-whole
+returns-clause-whole g c =
+    let s = c.run_with-ended.result.hsm in
+    rw (c.close-disk.ensures.disk, c.close-disk.ensures.entries, c.first_cause.ensures) (λ commits to_end image may.
+    let ran : cause_in c.run_with-ended.result.ended ≡ None = ran_well _ _ (source_told g.I.Source.left g.I.Source.fault_count c.args.source.now c.run_with-ended.new.source) c.run_with-ended.result.ended (cause_in c.write_transcript-written.result) c.run_with-ended.ensures.ends to_end in
+    let working : s.files.failed ≡ false = on_none (s.files.failed ≡ false) c.run_with-ended.result.ended ran c.run_with-ended.ensures.working in
+    let all : IsAllDurable s = on_none (IsAllDurable s) c.run_with-ended.result.ended ran (c.run_with-ended.ensures.durable commits) in
+    subst (λ (opened : FileStore g.row.D.Denot). IsWhole opened s.history image) c.run_with-ended.ensures.goes_on.opened
+    (whole s image (c.one_recovery.ensures image) all (ap (λ st. st.held) (c.close-disk.ensures.kept.state working)) (c.close-disk.ensures.now image may) (c.close-disk.ensures.durable working image may)))
+
+pub returns-clause-untouched : goal.returns-clause-untouched
+returns-clause-untouched g c =
+    rw (c.close-disk.ensures.disk, c.first_cause.ensures) (λ before.
+    ap (λ s. s.files.disk) (c.run_with-ended.ensures.untouched (before_run (sink_told g.O.Sink.taken g.O.Sink.fault_count c.args.sink.now c.write_transcript-written.new.sink) (cause_in c.run_with-ended.result.ended) c.write_transcript-written.result c.write_transcript-written.ensures.refused before)))
+
+pub returns-clause-caused_by : goal.returns-clause-caused_by
+returns-clause-caused_by g c =
+    rw c.close-disk.ensures.entries
+    (caused_served g.D.Disk c.served_is_caused.ensures c.args.hsm c.run_with-ended.result.hsm c.requires.anew c.run_with-ended.ensures.goes_on c.run_with-ended.ensures.served c.close-disk.ensures.kept)
+
+pub returns-clause-media : goal.returns-clause-media
+returns-clause-media g c = rw c.close-disk.ensures.entries c.run_with-ended.ensures.media
+
+pub returns-clause-idle : goal.returns-clause-idle
+returns-clause-idle g c = rw c.close-disk.ensures.entries (idle_none (λ s. s.history) c.args.hsm c.run_with-ended.result.hsm c.args.drives c.requires.anew.history c.run_with-ended.ensures.idle)
+
+pub returns-clause-reading : goal.returns-clause-reading
+returns-clause-reading g c = rw c.first_cause.ensures (read_by (HasRead (source_told g.I.Source.left g.I.Source.fault_count c.args.source.now c.run_with-ended.new.source)) (sink_told g.O.Sink.taken g.O.Sink.fault_count c.args.sink.now c.write_transcript-written.new.sink) c.run_with-ended.result.ended c.write_transcript-written.result c.write_transcript-written.ensures.refused c.run_with-ended.ensures.reading c.run_with-ended.ensures.part (λ whole. whole))
+
+pub returns-clause-caused : goal.returns-clause-caused
+returns-clause-caused g c = rw (c.close-disk.ensures.disk, c.close-disk.ensures.entries, c.requires.anew.opened) (fault_caused _ _ (source_told g.I.Source.left g.I.Source.fault_count c.args.source.now c.run_with-ended.new.source) c.run_with-ended.result.hsm.files.failed _ c.run_with-ended.result.ended c.run_with-ended.ensures.failed c.close-disk.ensures.kept.faultless c.run_with-ended.ensures.ends)
+
+pub returns-clause-told : goal.returns-clause-told
+returns-clause-told g c = rw (c.close-disk.ensures.entries, c.first_cause.ensures) (told_fault _ (sink_told g.O.Sink.taken g.O.Sink.fault_count c.args.sink.now c.write_transcript-written.new.sink) c.run_with-ended.result.ended c.write_transcript-written.result c.write_transcript-written.ensures.refused c.run_with-ended.ensures.fault)
+
+pub returns-clause-faultless : goal.returns-clause-faultless
+returns-clause-faultless g c = rw (c.close-disk.ensures.entries, c.first_cause.ensures) (faultless_unless c.run_with-ended.result.hsm.files.failed _ (sink_told g.O.Sink.taken g.O.Sink.fault_count c.args.sink.now c.write_transcript-written.new.sink) c.run_with-ended.result.ended c.write_transcript-written.result c.write_transcript-written.ensures.refused c.run_with-ended.ensures.failed c.close-disk.ensures.kept.faultless)
+
+pub returns-clause-plain : goal.returns-clause-plain
+returns-clause-plain g c = rw (c.close-disk.ensures.entries, ← c.run_with-ended.ensures.goes_on.opened) (λ P stands. (c.close-disk.ensures.kept.good.good P stands).plain)
+
+pub returns-clause-done : goal.returns-clause-done
+returns-clause-done g c = rw (c.close-disk.ensures.entries, c.first_cause.ensures) (written_if_none _ (sink_told g.O.Sink.taken g.O.Sink.fault_count c.args.sink.now c.write_transcript-written.new.sink) c.run_with-ended.result.ended c.write_transcript-written.result c.write_transcript-written.ensures.refused (rw c.close-disk.ensures.entries at c.write_transcript-written.ensures.all))
+
+pub returns-clause-all : goal.returns-clause-all
+returns-clause-all g c = rw (c.close-disk.ensures.entries, c.first_cause.ensures) (written_if_works _ (sink_told g.O.Sink.taken g.O.Sink.fault_count c.args.sink.now c.write_transcript-written.new.sink) c.run_with-ended.result.ended c.write_transcript-written.result c.write_transcript-written.ensures.refused (rw c.close-disk.ensures.entries at c.write_transcript-written.ensures.all))
+
+pub returns-clause-unready : goal.returns-clause-unready
+returns-clause-unready g c = rw c.first_cause.ensures (told_unready c.args.drives (sink_told g.O.Sink.taken g.O.Sink.fault_count c.args.sink.now c.write_transcript-written.new.sink) c.run_with-ended.result.ended c.write_transcript-written.result c.write_transcript-written.ensures.refused c.run_with-ended.ensures.unready)
+
+pub returns-clause-ends : goal.returns-clause-ends
+returns-clause-ends g c = rw (c.close-disk.ensures.disk, c.first_cause.ensures, c.requires.anew.opened) (run_ends _ _ (source_told g.I.Source.left g.I.Source.fault_count c.args.source.now c.run_with-ended.new.source) (sink_told g.O.Sink.taken g.O.Sink.fault_count c.args.sink.now c.write_transcript-written.new.sink) c.run_with-ended.result.ended c.write_transcript-written.result c.write_transcript-written.ensures.refused c.run_with-ended.ensures.ends)

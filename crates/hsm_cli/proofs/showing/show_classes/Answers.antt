@@ -1,0 +1,28 @@
+use Rattle.std.proofs.Common.{Some, refl}
+use Rattle.std.proofs.lemmas.Result.{err_from_is_err_and}
+use Rattle.store_summary.specs.Shown.{ShowsText}
+use Rattle.hsm_cli.specs.Clauses.{HasDriveFailed}
+use Rattle.hsm_cli.specs.Endings.{cause_in}
+use Rattle.hsm_cli.specs.Texts.{ShowsStore, AreCounted, GivesVolume}
+use Rattle.hsm_cli.specs.Told.{sink_told}
+use Rattle.hsm_cli.proofs.Showings.{takes_as, ends_uncounted, counting_written}
+use Rattle.hsm_cli.proofs.showing.show_classes.Goals as goal
+
+pub returns-in_err-counts-clause-ends : goal.returns-in_err-counts-clause-ends
+returns-in_err-counts-clause-ends g c =
+    let p = err_from_is_err_and c.from_residual.result c.from_residual.ensures.1 in
+    rw (p.1, p.2) (ends_uncounted g.M.Drive 256 c.args.drives.now c.classes.new.drives (sink_told g.O.Sink.taken g.O.Sink.fault_count c.args.sink.now c.args.sink.now) c.in_err-counts.field-0.0 c.in_err-counts.ensures.refused)
+
+pub returns-clause-text : goal.returns-clause-text
+returns-clause-text g c =
+    let summary = c.args.summary.now in
+    let counted = AreCounted (GivesVolume g.M.Drive c.args.drives.now) in
+    takes_as (ShowsText summary (Some c.in_ok-counts.counts)) (ShowsStore summary counted) (sink_told g.O.Sink.taken g.O.Sink.fault_count c.args.sink.now c.write_summary.new.sink) (cause_in c.write_summary.result)
+    (λ text shows. record {
+      classes = Some c.in_ok-counts.counts;
+      counted = record { counts = c.in_ok-counts.counts; told = refl; are = λ objects is. c.in_ok-counts.ensures.counts objects (record { each = is }); each = c.in_ok-counts.ensures.entries };
+      shows = shows;
+    }) c.write_summary.ensures.text
+
+pub returns-clause-ends : goal.returns-clause-ends
+returns-clause-ends g c = counting_written (HasDriveFailed g.M.Drive c.classes.new.drives) (sink_told g.O.Sink.taken g.O.Sink.fault_count c.args.sink.now c.write_summary.new.sink) c.write_summary.result c.write_summary.ensures.ends
