@@ -1,5 +1,5 @@
 #!/usr/bin/env python3
-"""The replay as a plain Python program: the baseline of bench/run, and what its transcripts and those of examples/plain are compared with.
+"""The replay as a plain Python program: the baseline of bench/run, and what its transcripts and those of checks/plain are compared with.
 
 plain_replay.py < SCRIPT             writes the transcript of a script of callers' lines
 plain_replay.py SCRIPT TRANSCRIPT    tells the first line of a transcript that isn't as on files that were never moved
