@@ -1,6 +1,5 @@
 -- A store that is shown: what is told of it, and how that ends.
 use Rattle.std.proofs.Common.{◌≡◌, ◌≢◌, ◌⊎◌, inl, inr, ℕ, ◌%◌, List, [], ◌∷◌, length, Option, Some, None, IfSome, IsSome, Result, Ok, Err, IfErr, refl, sym, ◌∙◌, subst, arith}
-use Rattle.std.specs.Io.KnownBytes.{Appends}
 use Rattle.std.specs.Prelude.{slice_get, IsErrOf}
 use Rattle.disk_model.specs.declared.device.Disk as disk
 use Rattle.disk_model.specs.declared.refusal.OpenRefusal.{OpenRefusal}
@@ -53,22 +52,6 @@ takes_as A B sink (Some NoMemory) so took = took
 -- images that were held are given
 pub shown_of : (A : Table → Option ClassCounts → Type 0) (given held : List ℕ → Type 0) (text : List ℕ) → ((c : List ℕ) → held c → given c) → IsShown given A text → IsShown held A text
 shown_of A given held text gives shown = record { summary = shown.summary; told = λ c is. shown.told c (gives c is); shows = shown.shows }
-
--- nothing was written
-module _ (A : List ℕ → Type 0) (sink : SinkTold) (none : Appends sink.old sink.new []) where
-  pub none_by_host : (refusal : HostRefusal) → TakesText A sink (Some (cause_of_host refusal))
-  none_by_host handing.Failed = none
-  none_by_host handing.Memory = none
-
-  pub none_by_opening : (refusal : OpenRefusal) → TakesText A sink (Some (cause_of_refusal refusal))
-  none_by_opening opening.NotStore = none
-  none_by_opening (opening.Corrupt place) = none
-  none_by_opening opening.Disk = none
-  none_by_opening opening.Memory = none
-
-  pub none_by_classes : (refusal : ReconcileRefusal) → TakesText A sink (Some (cause_of_classes refusal))
-  none_by_classes (counting.Failed volume) = none
-  none_by_classes counting.Memory = none
 
 -- ---- where it ends
 
@@ -124,6 +107,12 @@ unread_is_no_host opening.NotStore is = cc
 unread_is_no_host (opening.Corrupt place) is = cc
 unread_is_no_host opening.Disk is = cc
 unread_is_no_host opening.Memory is = cc
+
+pub unopened_quiet : (refusal : OpenRefusal) → Some (cause_of_refusal refusal) ≢ Some DiskFault → refusal ≢ opening.Disk
+unopened_quiet opening.NotStore works is = cc
+unopened_quiet (opening.Corrupt place) works is = cc
+unopened_quiet opening.Disk works is = works refl
+unopened_quiet opening.Memory works is = cc
 
 pub unread_quiet : {T : Type 0} (refusal : OpenRefusal) → Some (cause_of_refusal refusal) ≢ Some DiskFault → IsErrOf {T = T} (Err refusal) opening.Disk → ⊥
 unread_quiet opening.NotStore works is = cc

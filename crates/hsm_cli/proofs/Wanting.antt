@@ -12,6 +12,7 @@ use Rattle.hsm_cli.specs.declared.outcomes.Outcome.{Outcome}
 use Rattle.hsm_cli.specs.Openings.{replay_store}
 use Rattle.hsm_cli.specs.Sources.{GivesFirst}
 use Rattle.hsm_cli.specs.Hosts.{HoldsAll, StoresAll}
+use Rattle.hsm_cli.specs.Texts.{IsUnwritten}
 use Rattle.hsm_cli.specs.Told.{SourceTold, SinkTold, HostTold}
 use Rattle.hsm_cli.specs.Clauses.{ScriptClause, ReadingClause, MediaClause, TellsFaults, CrashClause, FormatClause, HostClause, DrivesClause, OutputClause, TakesTranscript, StatusClause}
 use Rattle.hsm_cli.proofs.Faults.{caused_none}
@@ -106,14 +107,17 @@ module _ {D M : Type 0} (g : disk.Ghosts D) (h : drive.Ghosts M) where
   transcript_wanting : (taken : Option (List ℕ)) (faults : ℕ) → TakesTranscript (wanting {D = D} {M = M}) (untaken taken faults)
   transcript_wanting taken faults = record { first = (0, Appends-nil taken); done = λ none. absurd cc; all = λ works ample. absurd (ample refl) }
 
+  unwritten : (taken : Option (List ℕ)) (faults : ℕ) → IsUnwritten (untaken taken faults)
+  unwritten taken faults = record { taken = refl; faults = refl }
+
   pub output_wanting : (form : Option Form) (holds : List ℕ → List ℕ → Type 0) (stores : List ℕ → ℕ → Objects → Type 0) (taken : Option (List ℕ)) (faults : ℕ) → OutputClause form holds stores (wanting {D = D} {M = M}) (untaken taken faults)
-  output_wanting None holds stores taken faults = transcript_wanting taken faults
-  output_wanting (Some (Format path size)) holds stores taken faults = transcript_wanting taken faults
+  output_wanting None holds stores taken faults = unwritten taken faults
+  output_wanting (Some (Format path size)) holds stores taken faults = unwritten taken faults
   output_wanting (Some Replay) holds stores taken faults = transcript_wanting taken faults
   output_wanting (Some (ReplayStore path dir)) holds stores taken faults = transcript_wanting taken faults
-  output_wanting (Some (Show path)) holds stores taken faults = Appends-nil taken
-  output_wanting (Some (ShowVolumes path dir)) holds stores taken faults = Appends-nil taken
-  output_wanting (Some (Drill number)) holds stores taken faults = Appends-nil taken
+  output_wanting (Some (Show path)) holds stores taken faults = unwritten taken faults
+  output_wanting (Some (ShowVolumes path dir)) holds stores taken faults = unwritten taken faults
+  output_wanting (Some (Drill number)) holds stores taken faults = unwritten taken faults
 
   pub status_wanting : (form : Option Form) (holds : List ℕ → List ℕ → Type 0) (source : SourceTold) (sink : SinkTold) (host : HostTold) → StatusClause g h form holds source sink host (wanting {D = D} {M = M})
   status_wanting form holds source sink host = record {

@@ -42,7 +42,7 @@ use Rattle.hsm_cli.specs.Daemons.{IsWellServedOver}
 use Rattle.hsm_cli.specs.Follows.{SettlesOn, RunsAll, RunsFirst, DrillsAll, DrillsFirst}
 use Rattle.hsm_cli.specs.Hosts.{IsHanded, AreHanded, HoldsNothing, HoldsOthers, HoldsAll, StoresNothing, StoresOthers, StoresAll}
 use Rattle.hsm_cli.specs.Sealing.{IsRightInMemory, IsRightInFolder}
-use Rattle.hsm_cli.specs.Texts.{TakesText, IsShown, AreUntold, AreCounted, shown_drives, shown_volumes, drill_text}
+use Rattle.hsm_cli.specs.Texts.{IsUnwritten, TakesText, IsShown, AreUntold, AreCounted, shown_drives, shown_volumes, drill_text}
 use Rattle.hsm_cli.specs.Told.{SourceTold, SinkTold, HostTold}
 
 -- ---- the script clause
@@ -193,15 +193,16 @@ pub record IsCrashSafe {D : Type 0} (g : disk.Ghosts D) (held : List ℕ → Typ
   pub whole : RanToItsEnd cause → (c : List ℕ) → MayBe g disk c → IsWhole opened history c
   pub untouched : IsBeforeRun cause → Keeps g handed disk Same
 
--- a disk that wasn't opened as a store stays as it was
-pub record IsUntouched {D : Type 0} (g : disk.Ghosts D) (held : List ℕ → Type 0) (disk : D) : Type 0 where
+-- a disk that wasn't opened as a store stays as it was, and has failed only where that is told
+pub record IsUntouched {D : Type 0} (g : disk.Ghosts D) (held : List ℕ → Type 0) (cause : Option Cause) (disk : D) : Type 0 where
   pub handed : D
   pub by_host : IsHanded g held handed
   pub keeps : Keeps g handed disk Same
+  pub quiet : cause ≢ Some DiskFault → g.fault_count disk ≡ 0
 
 abbrev pub LeavesSafe : {D : Type 0} → disk.Ghosts D → (List ℕ → Type 0) → Option (Store D) → List Entry → Option Cause → Option D → Type 0
 LeavesSafe g held (Some opened) history cause (Some disk) = IsCrashSafe g held opened history cause disk
-LeavesSafe g held None history cause (Some disk) = IsUntouched g held disk × (history ≡ [])
+LeavesSafe g held None history cause (Some disk) = IsUntouched g held cause disk × (history ≡ [])
 LeavesSafe g held (Some opened) history cause None = ⊥
 LeavesSafe g held None history cause None = history ≡ []
 
@@ -347,15 +348,15 @@ pub record TakesTranscript {D M : Type 0} (o : Outcome D M) (sink : SinkTold) : 
   pub all : ¬ (Rose sink.before sink.now) → o.cause ≢ Some NoMemory → Appends sink.old sink.new (text_of o.history)
 
 -- `show` tells of the store that the host held, and with DIR of the classes over the objects that the host had in its volumes. `drill` tells of its history and
--- of what that has left in the new store. All others write the history, which is empty where they run nothing.
+-- of what that has left in the new store. Either `replay` writes the history. Words that ask for no text leave the sink alone.
 abbrev pub OutputClause : {D M : Type 0} → Option Form → (List ℕ → List ℕ → Type 0) → (List ℕ → ℕ → Objects → Type 0) → Outcome D M → SinkTold → Type 0
 OutputClause (Some (Show path)) holds stores o sink = TakesText (IsShown (holds path) AreUntold) sink o.cause
 OutputClause (Some (ShowVolumes path dir)) holds stores o sink = TakesText (IsShown (holds path) (AreCounted (stores dir))) sink o.cause
 OutputClause (Some (Drill number)) holds stores o sink = TakesText (λ text. text ≡ drill_text number o.history) sink o.cause
 OutputClause (Some Replay) holds stores o sink = TakesTranscript o sink
 OutputClause (Some (ReplayStore path dir)) holds stores o sink = TakesTranscript o sink
-OutputClause (Some (Format path size)) holds stores o sink = TakesTranscript o sink
-OutputClause None holds stores o sink = TakesTranscript o sink
+OutputClause (Some (Format path size)) holds stores o sink = IsUnwritten sink
+OutputClause None holds stores o sink = IsUnwritten sink
 
 -- ---- the status clause
 

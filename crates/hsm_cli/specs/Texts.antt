@@ -1,5 +1,5 @@
 -- The texts of the programs that tell of a store, or of a drill.
-use Rattle.std.specs.Prelude.{ℕ, ◌≡◌, ◌+◌, ◌<◌, ◌%◌, List, [], length, take, slice_get, Option, Some, None, IfSome}
+use Rattle.std.specs.Prelude.{ℕ, ◌≡◌, ◌+◌, ◌<◌, ◌%◌, List, length, take, slice_get, Option, Some, None, IfSome}
 use Rattle.std.specs.Io.KnownBytes.{Appends}
 use Rattle.hsm_types.specs.declared.tables.Table.{Table}
 use Rattle.media_model.specs.Objects.{Objects}
@@ -18,11 +18,16 @@ use Rattle.hsm_cli.specs.declared.causes.Cause.TheVariants.{WriteFault}
 use Rattle.hsm_cli.specs.Openings.{replay_store}
 use Rattle.hsm_cli.specs.Told.{SinkTold}
 
--- What a sink took of a text that is written last: all of it where the run ended well, a beginning of it where writing failed, and else nothing.
+-- nothing was asked of the sink
+pub record IsUnwritten (sink : SinkTold) : Type 0 where
+  pub taken : sink.new ≡ sink.old
+  pub faults : sink.now ≡ sink.before
+
+-- What a sink took of a text that is written last: all of it where the run ended well, a prefix of it where writing failed. Else the sink was left alone.
 abbrev pub TakesText : (List ℕ → Type 0) → SinkTold → Option Cause → Type 0
 TakesText IsText sink None = (text : List ℕ) × IsText text × Appends sink.old sink.new text
 TakesText IsText sink (Some WriteFault) = (text : List ℕ) × IsText text × (n : ℕ) × Appends sink.old sink.new (take n text)
-TakesText IsText sink (Some other) = Appends sink.old sink.new []
+TakesText IsText sink (Some other) = IsUnwritten sink
 
 -- ---- show
 

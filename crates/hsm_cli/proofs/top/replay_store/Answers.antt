@@ -1,4 +1,4 @@
-use Rattle.std.proofs.Common.{Some, None, true, refl, inr, sym, subst, arith}
+use Rattle.std.proofs.Common.{Some, None, true, refl, inr, sym, ◌∙◌, subst, arith}
 use Rattle.file_store.specs.Stores.{Store}
 use Rattle.hsm_cli.specs.Clauses.{GivesBack}
 use Rattle.hsm_cli.specs.Follows.{SettlesOn}
@@ -9,6 +9,7 @@ use Rattle.hsm_cli.proofs.Legality.{legal_as}
 use Rattle.hsm_cli.proofs.Drives.{rose_from, gives_back, none_at_fault, host_failed, why_served, disk_came, drives_came, tallies_since}
 use Rattle.hsm_cli.proofs.Scripted.{also_well, ran_with}
 use Rattle.hsm_cli.proofs.Sealing.{right_since}
+use Rattle.hsm_cli.proofs.Showings.{unopened_quiet}
 use Rattle.hsm_cli.proofs.top.replay_store.Given.{Over}
 use Rattle.hsm_cli.proofs.top.replay_store.Goals.{After-run_opened-finished}
 use Rattle.hsm_cli.proofs.top.replay_store.Goals as goal
@@ -19,6 +20,18 @@ returns-in-Ok-open-clause-crash g c =
     (crash_safe g.H.Disk.Disk (g.H.Host.holds c.args.host.now c.args.path.now) c.in-Ok.disk record { given = c.in-Ok.ensures.given; settled = c.in-Ok.ensures.settled; counted = c.in-Ok.ensures.counted }
     c.in-Ok-open.hsm.opened c.in-Ok-open.hsm.files c.run_opened-finished.result.history c.run_opened-finished.result.cause c.run_opened-finished.result.disk c.in-Ok-open.ensures.opened.0
     c.in-Ok-open.ensures.opening.0 c.in-Ok-open.ensures.opening.1 c.in-Ok-open.ensures.durable c.in-Ok-open.ensures.found.0 c.run_opened-finished.ensures.since c.run_opened-finished.ensures.now (c.run_opened-finished.ensures.whole refl) c.run_opened-finished.ensures.untouched)
+
+pub returns-in-Err-open-clause-crash : goal.returns-in-Err-open-clause-crash
+returns-in-Err-open-clause-crash g c =
+    rw (c.unopened-in-Err-open.ensures, c.from-in-Err-open.ensures) (
+      record {
+        handed = c.in-Ok.disk;
+        by_host = record { given = c.in-Ok.ensures.given; settled = c.in-Ok.ensures.settled; counted = c.in-Ok.ensures.counted };
+        keeps = c.in-Err-open.ensures.refused;
+        quiet = λ works. c.in-Err-open.ensures.faults.quiet (unopened_quiet c.in-Err-open.refusal works) ∙ c.in-Ok.ensures.counted;
+      },
+      refl,
+    )
 
 pub returns-in-Err-open-clause-why : goal.returns-in-Err-open-clause-why
 returns-in-Err-open-clause-why g c =
