@@ -30,7 +30,7 @@ use Rattle.hsm_cli.specs.Told.{SourceTold, SinkTold, HostTold}
 use Rattle.hsm_cli.specs.Hosts.{IsHanded, AreHanded, StoresNothing, StoresOthers}
 use Rattle.hsm_cli.specs.Endings.{cause_in, WritingEnds, ShowEnds, CountingEnds}
 use Rattle.hsm_cli.specs.Clauses.{Why, HasFailed, HasDriveFailed, FindsNothing, TellsStore, HoldsStore, WritesText, ReadsStore, NamesDisk, CanEnd, IsOnlyRead, HandsDrives, AreShown, GivesShown, AsksShown, LacksShown, StatusClause}
-use Rattle.hsm_cli.proofs.ByCause.{written_by, if_told, counted_by, shown_by}
+use Rattle.hsm_cli.proofs.ByCause.{written_by, counted_by, shown_by}
 use Rattle.hsm_cli.proofs.Completeness.{came_not, not_corrupt}
 use Rattle.hsm_cli.proofs.Running.{rose_later}
 
@@ -69,11 +69,7 @@ module _ (held : List ℕ → Type 0) (HostFails DiskFails : Type 0) (sink : Sin
   ends_unhanded handing.Failed fails = fails refl
   ends_unhanded handing.Memory fails = tt
 
-  -- it was read, and then its text was to be written
-  pub ends_written : {T : Type 0} (ended : Result T Cause) → IfErr ended (WritingEnds sink) → ShowEnds held HostFails DiskFails sink (cause_in ended)
-  ends_written ended ends = written_by (ShowEnds held HostFails DiskFails sink) sink (cause_in ended) tt (λ rose. rose) tt (if_told (WritingEnds sink) ended ends)
-
-  -- and before that its classes were to be counted
+  -- it was read, and its classes were to be counted
   pub ends_counted : {T : Type 0} (DriveFails : Type 0) (ended : Result T Cause) → (DriveFails → HostFails) → IfErr ended (CountingEnds DriveFails sink) → ShowEnds held HostFails DiskFails sink (cause_in ended)
   ends_counted DriveFails ended by ends = counted_by (ShowEnds held HostFails DiskFails sink) DriveFails sink ended tt (λ rose. rose) by tt ends
 
