@@ -1,5 +1,5 @@
 //! Numbers of blocks that were taken together.
-ghost use Rattle.std.specs.Prelude.{◌≡◌, length};
+ghost use Rattle.std.specs.Prelude.{◌≡◌};
 ghost use Rattle.std.specs.List.Sorted.{IsStrictlyIncreasing};
 
 use std::marker::Model;
@@ -28,13 +28,6 @@ impl Blocks {
         ensures { result ≡ numbers.items }
     {
         Blocks { numbers }
-    }
-
-    /// How many there are.
-    pub fn len(&self) -> usize
-        ensures { result ≡ length self.now }
-    {
-        self.numbers.len()
     }
 
     /// The numbers, the lowest first.

@@ -55,14 +55,6 @@ impl BlockSpace {
         })
     }
 
-    /// How many blocks there are.
-    pub fn total(&self) -> u32
-        ensures current { result ≡ length self.now.current }
-        ensures durable { result ≡ length self.now.durable }
-    {
-        self.current.len() as u32
-    }
-
     /// Whether so many blocks are free, which neither map uses. It costs a walk from the lowest block that may be free up to the last that is counted.
     pub fn has_free(&self, count: u32) -> bool
         ensures { result ≡ nat_le count (length (free self.now)) }
@@ -99,14 +91,19 @@ impl BlockSpace {
         }
     }
 
-    /// The current map uses the block no more. The durable one may still, and then the block isn't free before the next `committed`.
+    /// The current map uses the block no more. The durable one may still, and then the block isn't free before the next `committed`, and no walk turns back
+    /// to it.
     pub fn release(&mut self, block: u32)
         requires { block < length self.old.current }
         ensures { self.new ≡ record self.old { current = slice_set self.old.current block false } }
     {
-        self.current[block as usize] = false;
-        self.low = self.low.min(block as usize);
-        self.released = self.released.min(block as usize);
+        let block = block as usize;
+        self.current[block] = false;
+        if self.durable[block] {
+            self.released = self.released.min(block);
+        } else {
+            self.low = self.low.min(block);
+        }
     }
 
     /// The current map uses these blocks no more, as `release` of each.
