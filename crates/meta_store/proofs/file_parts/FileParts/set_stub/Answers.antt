@@ -1,6 +1,7 @@
-use Rattle.std.proofs.Common.{◌≡◌, true, Bool, false, Option, Some, None, refl, sym, ap, ◌∙◌}
+use Rattle.std.proofs.Common.{◌≡◌, true, Bool, false, Option, Some, None, refl, sym, ap, ◌∙◌, arith}
 use Rattle.std.specs.Prelude.{Result, Ok, Err, if◌then◌else◌}
 use Rattle.std.specs.Result.{OnOk}
+use Rattle.std.proofs.lemmas.Result.{on_ok_weaker}
 use Rattle.hsm_types.specs.declared.stubs.Stub.{Stub}
 use Rattle.hsm_types.specs.declared.stubs.StubEntry.{StubEntry}
 use Rattle.hsm_types.specs.Stubs.{Stubs, is_offline}
@@ -10,17 +11,8 @@ use Rattle.meta_store.specs.Records.{places_without}
 use Rattle.meta_store.proofs.StubLists.{punched-with, restored-with}
 use Rattle.meta_store.proofs.file_parts.FileParts.set_stub.Goals as goal
 
-on_ok : {T E : Type 0} (r : Result T E) (P Q : Type 0) → (P → Q) → OnOk r P → OnOk r Q
-on_ok (Ok x) P Q to h = to h
-on_ok (Err e) P Q to h = h
-
 away : (o : Option Stub) (entry : StubEntry) → state_of o ≡ Offline entry → is_offline o ≡ true
-away None entry is = cc
-away (Some stub) entry is = by stub.offline is
-  where
-    by : (b : Bool) → (if b then Offline stub.entry else Sealed stub.entry) ≡ Offline entry → b ≡ true
-    by true is = refl
-    by false is = cc
+away o entry is = grind arith
 
 pub returns-then-stub-clause-taken : goal.returns-then-stub-clause-taken
 returns-then-stub-clause-taken c =
@@ -31,4 +23,4 @@ returns-in-Offline-clause-taken c =
     let off = away _ c.in-Offline.field-0 (sym c.state.ensures ∙ c.in-Offline.is) in
     let same = restored-with c.args.segment c.args.stub c.args.self.now.stubs c.len-count.ensures.ascend c.if-stub.false (c.requires.fits.comes c.if-stub.false off) in
     let stay : (if c.args.stub.offline then places_without c.args.segment c.args.self.now.places else c.args.self.now.places) ≡ c.args.self.now.places = ap (λ (b : Bool). if b then places_without c.args.segment c.args.self.now.places else c.args.self.now.places) c.if-stub.false in
-    on_ok c.restore.result _ _ (λ is. rw stay (ap (λ (stubs : Stubs). record c.args.self.now { stubs = stubs }) (is ∙ same))) c.restore.ensures.after
+    on_ok_weaker c.restore.result (λ is. rw stay (ap (λ (stubs : Stubs). record c.args.self.now { stubs = stubs }) (is ∙ same))) c.restore.ensures.after
