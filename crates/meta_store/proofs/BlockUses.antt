@@ -1,6 +1,6 @@
 -- How often a number stands in a list, and lists in which none stands twice.
 use Rattle.std.proofs.Common.{◌≡◌, ℕ, ◌+◌, ◌≤◌, List, [], ◌∷◌, ◌++◌, false, cond, eqb, refl, arith}
-use Rattle.std.specs.List.{list_any}
+use Rattle.std.specs.List.{list_any, AllByRecursion}
 use Rattle.plain_model.specs.Distinct.{Distinct}
 
 -- 1 where the numbers are one
@@ -31,3 +31,12 @@ distinct-uses (m ∷ ms) d n = grind (arith, distinct-uses ms d.1 n, uses-absent
 pub uses-distinct : (ms : List ℕ) → ((n : ℕ) → uses n ms ≤ 1) → Distinct ms
 uses-distinct [] h = tt
 uses-distinct (m ∷ ms) h = (absent-unused m ms (grind (arith, h m)), uses-distinct ms (λ n. omega (arith, h n)))
+
+-- what is true of each is true of each number that stands there, and back
+pub each-used : (P : ℕ → Type 0) (ms : List ℕ) → AllByRecursion P ms → (n : ℕ) → 1 ≤ uses n ms → P n
+each-used P [] each n used = absurd (omega arith)
+each-used P (m ∷ ms) each n used = grind (arith, each.0, each-used P ms each.1 n)
+
+pub used-each : (P : ℕ → Type 0) (ms : List ℕ) → ((n : ℕ) → 1 ≤ uses n ms → P n) → AllByRecursion P ms
+used-each P [] at = tt
+used-each P (m ∷ ms) at = (at m (grind arith), used-each P ms (λ n used. at n (omega arith)))

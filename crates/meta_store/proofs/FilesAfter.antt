@@ -1,21 +1,19 @@
 -- The file that a record is about, after it.
-use Rattle.std.proofs.Common.{◌≡◌, ℕ, ◌+◌, ◌<◌, ◌≤◌, Some, None, refl, ◌∙◌, arith}
-use Rattle.std.specs.List.Sorted.{IsStrictlySortedBy}
-use Rattle.std.specs.Map.{keys_of}
-use Rattle.std.specs.Ordering.{nat_cmp}
+use Rattle.std.proofs.Common.{◌≡◌, ℕ, ◌+◌, ◌<◌, ◌≤◌, length, Some, None, refl, ◌∙◌, arith}
 use Rattle.hsm_types.specs.declared.stores.Geometry.{Geometry}
 use Rattle.plain_model.specs.Keyed.{find_key}
+use Rattle.plain_model.specs.Blocks.{blocks_in}
 use Rattle.meta_store.specs.declared.file_parts.FileParts.{FileParts}
 use Rattle.meta_store.specs.declared.file_parts.Others.{Others}
 use Rattle.meta_store.specs.declared.records.Record.{Record}
 use Rattle.meta_store.specs.declared.records.Record.TheVariants.{Make, Drop, Size, Map, Stub}
-use Rattle.meta_store.specs.Catalogs.{CatalogFile, Catalog, IsLawfulKept, IsCatalogFile, IsCatalog, geometry_of, blocks_of}
-use Rattle.meta_store.specs.Records.{mappings_from, file_after, part_refusal, inode_of, key_on, CanStandOn, CanStand, IsAboutOne}
-use Rattle.meta_store.specs.InMemory.{parts_of, file_of, parts_after, FitsParts, IsNumbered}
-use Rattle.meta_store.proofs.BlockUses.{uses, distinct-uses}
-use Rattle.meta_store.proofs.MappedPlaces.{length-fitted, uses-fitted, within-fitted, length-places_set, uses-mapped, within-places_set, places-within, new_or_used}
-use Rattle.meta_store.proofs.ClearedPlaces.{length-gone_if, uses-gone_if, each-gone_if}
-use Rattle.meta_store.proofs.StubsAfter.{stubs-after}
+use Rattle.meta_store.specs.Catalogs.{CatalogFile, Catalog, IsCatalogFile, IsCatalog, geometry_of, present, blocks_of}
+use Rattle.meta_store.specs.Records.{mappings_from, file_after, inode_of, key_on, CanStandOn, CanStand, IsAboutOne}
+use Rattle.meta_store.specs.InMemory.{parts_of, file_of, parts_after, FitsParts}
+use Rattle.meta_store.proofs.BlockUses.{uses, distinct-uses, each-used, used-each}
+use Rattle.meta_store.proofs.MappedPlaces.{length-fitted, uses-fitted, length-places_set, uses-mapped, new_or_used}
+use Rattle.meta_store.proofs.ClearedPlaces.{length-gone_if, uses-gone_if}
+use Rattle.meta_store.proofs.StubsAfter.{IsTakenOn, stubs-after}
 use Rattle.meta_store.proofs.FileEdits.{name_of, uses_of}
 
 -- ---- what is known of a record that can stand
@@ -35,79 +33,42 @@ fits r f c stands = tt
 -- ---- its name and its parts
 
 pub named-after : (r : Record) (g : CatalogFile) → name_of (file_after r g) ≡ name_of g
-named-after (Size ino size) g = refl
-named-after (Stub ino j None) g = refl
-named-after (Stub ino j (Some stub)) g = refl
-named-after r g = refl
+named-after r g = grind arith
 
 pub file-after : (r : Record) (f : CatalogFile) (x : FileParts) (size : ℕ) → x ≡ parts_after r (parts_of f) → size ≡ (file_after r f).size → file_after r f ≡ file_of f.key f.name size x
-file-after (Size ino n) f x size is sized = rw (is, sized) refl
-file-after (Stub ino j None) f x size is sized = rw (is, sized) refl
-file-after (Stub ino j (Some stub)) f x size is sized = rw (is, sized) refl
-file-after r f x size is sized = rw (is, sized) refl
+file-after r f x size is sized = grind arith
 
 -- ---- what stays true
 
-pub IsCatalogFile-after : (blocks : ℕ) (r : Record) (f : CatalogFile) (c : Catalog) (others : Others) (limits : Geometry) → IsCatalogFile blocks f → blocks ≡ (geometry_of c.geometry).blocks → CanStandOn r f c → part_refusal r others limits f.kept ≡ None → IsNumbered r
-    → IsLawfulKept (file_after r f).kept → IsStrictlySortedBy nat_cmp (keys_of (file_after r f).kept.stubs) → IsCatalogFile blocks (file_after r f)
-IsCatalogFile-after blocks (Size ino size) f c others limits is same stands none numbers kept sorted = record {
-  generation = is.generation;
-  name = is.name;
-  size = stands;
-  places = length-fitted size f.places;
-  within = within-fitted blocks size f.places is.within;
-  kept = kept;
-  ascend = sorted;
-  stubs = stubs-after (Size ino size) f c others limits stands none numbers sorted is.stubs;
-}
-IsCatalogFile-after blocks (Map ino block places) f c others limits is same stands none numbers kept sorted =
-    let new = mappings_from block places.items in
-    record {
-      generation = is.generation;
-      name = is.name;
-      size = is.size;
-      places = length-places_set new f.places ∙ is.places;
-      within = within-places_set blocks new f.places (places-within blocks block places.items (rw same stands.within)) is.within;
-      kept = kept;
-      ascend = sorted;
-      stubs = stubs-after (Map ino block places) f c others limits stands none numbers sorted is.stubs;
-    }
-IsCatalogFile-after blocks (Stub ino j None) f c others limits is same stands none numbers kept sorted = record {
-  generation = is.generation;
-  name = is.name;
-  size = is.size;
-  places = is.places;
-  within = is.within;
-  kept = kept;
-  ascend = sorted;
-  stubs = stubs-after (Stub ino j None) f c others limits stands none numbers sorted is.stubs;
-}
-IsCatalogFile-after blocks (Stub ino j (Some stub)) f c others limits is same stands none numbers kept sorted = record {
-  generation = is.generation;
-  name = is.name;
-  size = is.size;
-  places = length-gone_if stub.offline j f.places ∙ is.places;
-  within = each-gone_if (λ b. b < blocks) stub.offline j f.places is.within;
-  kept = kept;
-  ascend = sorted;
-  stubs = stubs-after (Stub ino j (Some stub)) f c others limits stands none numbers sorted is.stubs;
-}
-IsCatalogFile-after blocks r f c others limits is same stands none numbers kept sorted = record {
-  generation = is.generation;
-  name = is.name;
-  size = is.size;
-  places = is.places;
-  within = is.within;
-  kept = kept;
-  ascend = sorted;
-  stubs = stubs-after r f c others limits stands none numbers sorted is.stubs;
-}
+sized-after : (r : Record) (f : CatalogFile) (c : Catalog) → CanStandOn r f c → f.size ≤ 16777216 → length f.places ≡ blocks_in f.size → ((file_after r f).size ≤ 16777216) × (length (file_after r f).places ≡ blocks_in (file_after r f).size)
+sized-after (Size ino size) f c stands few count = (stands, length-fitted size f.places)
+sized-after (Map ino block places) f c stands few count = (few, length-places_set (mappings_from block places.items) f.places ∙ count)
+sized-after (Stub ino j None) f c stands few count = (few, count)
+sized-after (Stub ino j (Some stub)) f c stands few count = (few, length-gone_if stub.offline j f.places ∙ count)
+sized-after r f c stands few count = (few, count)
 
--- the file's blocks are some of those before, and new ones that no file used
-pub uses-after : (n : ℕ) (r : Record) (f : CatalogFile) (c : Catalog) → IsCatalog c → CanStandOn r f c → (new : ℕ) × (uses_of n (file_after r f) ≤ new + uses_of n f) × (new + uses n (blocks_of c.files) ≤ 1)
-uses-after n (Map ino block places) f c is stands =
-    (uses n places.items, uses-mapped n block places.items f.places, grind (arith, new_or_used n places.items (blocks_of c.files) stands.unused, distinct-uses (blocks_of c.files) is.distinct n, distinct-uses places.items stands.distinct n))
-uses-after n (Size ino size) f c is stands = (0, omega (arith, uses-fitted n size f.places), omega (arith, distinct-uses (blocks_of c.files) is.distinct n))
-uses-after n (Stub ino j None) f c is stands = (0, omega arith, omega (arith, distinct-uses (blocks_of c.files) is.distinct n))
-uses-after n (Stub ino j (Some stub)) f c is stands = (0, omega (arith, uses-gone_if n stub.offline j f.places), omega (arith, distinct-uses (blocks_of c.files) is.distinct n))
-uses-after n r f c is stands = (0, omega arith, omega (arith, distinct-uses (blocks_of c.files) is.distinct n))
+-- the file's blocks are some of those before, and new ones of the disk that no file used
+pub uses-after : (n : ℕ) (r : Record) (f : CatalogFile) (c : Catalog) → IsCatalog c → CanStandOn r f c → (new : ℕ) × (uses_of n (file_after r f) ≤ new + uses_of n f) × (new + uses n (blocks_of c.files) ≤ 1) × (1 ≤ new → n < (geometry_of c.geometry).blocks)
+uses-after n r f c is stands = by r stands (distinct-uses (blocks_of c.files) is.distinct n)
+  where
+    by : (r : Record) → CanStandOn r f c → uses n (blocks_of c.files) ≤ 1 → (new : ℕ) × (uses_of n (file_after r f) ≤ new + uses_of n f) × (new + uses n (blocks_of c.files) ≤ 1) × (1 ≤ new → n < (geometry_of c.geometry).blocks)
+    by (Map ino block places) stands once = (uses n places.items, uses-mapped n block places.items f.places, grind (arith, new_or_used n places.items (blocks_of c.files) stands.unused, distinct-uses places.items stands.distinct n), each-used (λ b. b < (geometry_of c.geometry).blocks) places.items stands.within n)
+    by (Size ino size) stands once = (0, omega (arith, uses-fitted n size f.places), omega arith, λ some. absurd (omega arith))
+    by (Stub ino j None) stands once = (0, omega arith, omega arith, λ some. absurd (omega arith))
+    by (Stub ino j (Some stub)) stands once = (0, omega (arith, uses-gone_if n stub.offline j f.places), omega arith, λ some. absurd (omega arith))
+    by r stands once = (0, omega arith, omega arith, λ some. absurd (omega arith))
+
+pub IsCatalogFile-after : (r : Record) (f : CatalogFile) (c : Catalog) (others : Others) (limits : Geometry) → IsCatalog c → IsTakenOn r f c others limits → IsCatalogFile (geometry_of c.geometry).blocks f → IsCatalogFile (geometry_of c.geometry).blocks (file_after r f)
+IsCatalogFile-after r f c others limits is t old =
+    let named = named-after r f in
+    let sized = sized-after r f c t.stands old.size old.places in
+    record {
+      generation = grind (arith, named, old.generation);
+      name = grind (arith, named, old.name);
+      size = sized.0;
+      places = sized.1;
+      within = used-each _ _ (λ n used. let more = uses-after n r f c is t.stands in let before = each-used (λ b. b < (geometry_of c.geometry).blocks) (present f.places) old.within n in grind (arith, more.1, more.3));
+      kept = t.kept;
+      ascend = t.ascend;
+      stubs = stubs-after r f c others limits t old.stubs;
+    }

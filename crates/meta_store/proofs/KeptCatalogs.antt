@@ -1,9 +1,6 @@
 -- What is true of each catalog stays true.
-use Rattle.std.proofs.Common.{◌≡◌, ℕ, ◌+◌, ◌<◌, ◌≤◌, ◌^◌, List, [], ◌++◌, Some, None, false, refl, arith}
+use Rattle.std.proofs.Common.{◌≡◌, ◌+◌, ◌<◌, ◌≤◌, ◌^◌, ℕ, List, [], ◌++◌, Some, None, false, arith}
 use Rattle.hsm_types.specs.declared.keys.FileKey.{FileKey}
-use Rattle.std.specs.List.Sorted.{IsStrictlySortedBy}
-use Rattle.std.specs.Map.{keys_of}
-use Rattle.std.specs.Ordering.{nat_cmp}
 use Rattle.hsm_types.specs.declared.stores.Geometry.{Geometry}
 use Rattle.hsm_types.specs.Kept.{nothing_kept}
 use Rattle.plain_model.specs.Keyed.{find_key, put_key, drop_key}
@@ -14,10 +11,10 @@ use Rattle.inode_table.proofs.Orders.{ascend-put, ascend-drop, within-put, withi
 use Rattle.inode_table.proofs.Names.{differ-put, differ-drop}
 use Rattle.meta_store.specs.declared.file_parts.Others.{Others}
 use Rattle.meta_store.specs.declared.records.Record.{Record}
-use Rattle.meta_store.specs.InMemory.{IsNumbered}
-use Rattle.meta_store.specs.Catalogs.{CatalogFile, Catalog, IsLawfulKept, IsCatalogFile, IsCatalog, geometry_of, names_of, present, blocks_of, attribute_total, stub_total}
-use Rattle.meta_store.specs.Records.{file_after, part_refusal, with_put, without_file, with_changed, CanStandOn}
+use Rattle.meta_store.specs.Catalogs.{CatalogFile, Catalog, IsCatalogFile, IsCatalog, geometry_of, names_of, present, blocks_of, attribute_total, stub_total}
+use Rattle.meta_store.specs.Records.{file_after, with_put, without_file, with_changed}
 use Rattle.meta_store.proofs.BlockUses.{uses-append, distinct-uses, uses-distinct}
+use Rattle.meta_store.proofs.StubsAfter.{IsTakenOn}
 use Rattle.meta_store.proofs.FilesAfter.{named-after, IsCatalogFile-after, uses-after}
 use Rattle.meta_store.proofs.FileEdits.{name_of, count_of, stubs_of, uses_of, uses-sum, map-put, names_of-drop, names_of-change, sum-put, sum-drop, sum-change, each-put, each-drop, each-changed}
 
@@ -66,20 +63,17 @@ IsCatalog-without_file key f c is found = record {
 
 -- ---- one changed
 
-pub IsCatalog-after : (r : Record) (key : FileKey) (f : CatalogFile) (c : Catalog) (others : Others) (limits : Geometry) → IsCatalog c → find_key (λ g. g.key) key c.files ≡ Some f → CanStandOn r f c → part_refusal r others limits f.kept ≡ None → IsNumbered r
-    → IsLawfulKept (file_after r f).kept → IsStrictlySortedBy nat_cmp (keys_of (file_after r f).kept.stubs) → attribute_total (with_changed key (file_after r) c).files ≤ (geometry_of c.geometry).attributes
-    → stub_total (with_changed key (file_after r) c).files ≤ (geometry_of c.geometry).stubs → IsCatalog (with_changed key (file_after r) c)
-IsCatalog-after r key f c others limits is found stands none numbers kept sorted few few_stubs =
-    let blocks = (geometry_of c.geometry).blocks in
-    record {
-      known = is.known;
-      first = is.first;
-      next = is.next;
-      table = rw (names_of-change key (file_after r) c.files (named-after r)) is.table;
-      each = each-changed (IsCatalogFile blocks) key (file_after r) c.files (λ g there old. let it : g ≡ f = cc in rw it (IsCatalogFile-after blocks r f c others limits (rw it at old) refl stands none numbers kept sorted)) is.each;
-      distinct = uses-distinct (blocks_of (with_changed key (file_after r) c).files) (λ n.
-          let more = uses-after n r f c is stands in
-          omega (arith, more.1, more.2, sum-change (uses_of n) key (file_after r) f c.files found, uses-sum n (with_changed key (file_after r) c).files, uses-sum n c.files));
-      few = few;
-      few_stubs = few_stubs;
-    }
+pub IsCatalog-after : (r : Record) (key : FileKey) (f : CatalogFile) (c : Catalog) (others : Others) (limits : Geometry) → IsCatalog c → find_key (λ g. g.key) key c.files ≡ Some f → IsTakenOn r f c others limits
+    → attribute_total (with_changed key (file_after r) c).files ≤ (geometry_of c.geometry).attributes → stub_total (with_changed key (file_after r) c).files ≤ (geometry_of c.geometry).stubs → IsCatalog (with_changed key (file_after r) c)
+IsCatalog-after r key f c others limits is found t few few_stubs = record {
+  known = is.known;
+  first = is.first;
+  next = is.next;
+  table = rw (names_of-change key (file_after r) c.files (named-after r)) is.table;
+  each = each-changed (IsCatalogFile (geometry_of c.geometry).blocks) key (file_after r) c.files (λ g there old. let it : g ≡ f = cc in rw it (IsCatalogFile-after r f c others limits is t (rw it at old))) is.each;
+  distinct = uses-distinct (blocks_of (with_changed key (file_after r) c).files) (λ n.
+      let more = uses-after n r f c is t.stands in
+      omega (arith, more.1, more.2, sum-change (uses_of n) key (file_after r) f c.files found, uses-sum n (with_changed key (file_after r) c).files, uses-sum n c.files));
+  few = few;
+  few_stubs = few_stubs;
+}

@@ -39,9 +39,6 @@ pub all-parts : {X : Type 0} (P : X → Type 0) (xs ys : List X) → AllByRecurs
 all-parts P [] ys all = (tt, all)
 all-parts P (x ∷ xs) ys all = let more = all-parts P xs ys all.1 in ((all.0, more.0), more.1)
 
-pub within-fitted : (blocks size : ℕ) (ps : List (Option ℕ)) → AllByRecursion (λ b. b < blocks) (present ps) → AllByRecursion (λ b. b < blocks) (present (places_fitted size ps))
-within-fitted blocks size ps w = (all-parts (λ b. b < blocks) (present (places_fitted size ps)) (present (drop (blocks_in size) ps)) (rw present-fitted w)).0
-
 -- ---- mappings
 
 pub length-places_set : (ms : List Mapping) (ps : List (Option ℕ)) → length (places_set ms ps) ≡ length ps
@@ -62,19 +59,6 @@ present-set (suc i) at d (p ∷ ps) within = grind (arith, present-set i at d ps
 pub uses-mapped : (n block : ℕ) (new : List ℕ) (ps : List (Option ℕ)) → uses n (present (places_set (mappings_from block new) ps)) ≤ uses n new + uses n (present ps)
 uses-mapped n block [] ps = omega arith
 uses-mapped n block (p ∷ new) ps = omega (arith, uses-set n block p ps, uses-mapped n (block + 1) new (set ps block (Some p)))
-
-within-set : (blocks i at : ℕ) (ps : List (Option ℕ)) → at < blocks → AllByRecursion (λ b. b < blocks) (present ps) → AllByRecursion (λ b. b < blocks) (present (set ps i (Some at)))
-within-set blocks i at [] lt w = tt
-within-set blocks zero at (p ∷ ps) lt w = grind (arith, lt, w)
-within-set blocks (suc i) at (p ∷ ps) lt w = grind (arith, w, within-set blocks i at ps lt)
-
-pub within-places_set : (blocks : ℕ) (ms : List Mapping) (ps : List (Option ℕ)) → AllByRecursion (λ m. m.place < blocks) ms → AllByRecursion (λ b. b < blocks) (present ps) → AllByRecursion (λ b. b < blocks) (present (places_set ms ps))
-within-places_set blocks [] ps lt w = w
-within-places_set blocks (m ∷ ms) ps lt w = within-places_set blocks ms (set ps m.block (Some m.place)) lt.1 (within-set blocks m.block m.place ps lt.0 w)
-
-pub places-within : (blocks block : ℕ) (new : List ℕ) → AllByRecursion (λ p. p < blocks) new → AllByRecursion (λ m. m.place < blocks) (mappings_from block new)
-places-within blocks block [] w = tt
-places-within blocks block (p ∷ new) w = (w.0, places-within blocks (block + 1) new w.1)
 
 -- a number that is a new place wasn't in use
 pub new_or_used : (n : ℕ) (new used : List ℕ) → AllByRecursion (λ p. list_any (λ b. eqb b p) used ≡ false) new → (uses n new ≡ 0) ⊎ (uses n used ≡ 0)

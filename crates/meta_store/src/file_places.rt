@@ -1,5 +1,5 @@
 //! Where the blocks of one file lie.
-ghost use Rattle.std.specs.Prelude.{◌≡◌, ◌+◌, ◌-◌, ◌<◌, ◌≤◌, ◌++◌, [], ◌∷◌, length, take, drop, replicate, slice_set, None, Some, IfOk, OnOk, OnErr};
+ghost use Rattle.std.specs.Prelude.{◌≡◌, ◌+◌, ◌-◌, ◌*◌, ◌<◌, ◌≤◌, ◌^◌, ◌++◌, [], ◌∷◌, length, min, take, drop, replicate, slice_set, None, Some, IfOk, OnOk, OnErr};
 ghost use Rattle.std.specs.List.{AllByRecursion};
 ghost use Rattle.plain_model.specs.Blocks.{blocks_in};
 ghost use Rattle.meta_store.specs.Catalogs.{present, places_in_segment};
@@ -104,9 +104,17 @@ impl FilePlaces {
 pub fn segment_places(places: &[Option<u32>], segment: u32) -> &[Option<u32>]
     ensures { result.now ≡ places_in_segment segment places.now }
 {
-    let from = places.len().min(segment as usize * SEGMENT_BLOCKS as usize);
-    let to = places.len().min(from + SEGMENT_BLOCKS as usize);
+    let (from, to) = segment_range(places.len(), segment);
     &places[from..to]
+}
+
+/// From which block of a file of so many on the segment has its blocks, and up to which.
+fn segment_range(count: usize, segment: u32) -> (usize, usize)
+    requires { count < 2 ^ 63 }
+    ensures { result ≡ (min count (16 * segment), min count (min count (16 * segment) + 16)) }
+{
+    let from = count.min(segment as usize * SEGMENT_BLOCKS as usize);
+    (from, count.min(from + SEGMENT_BLOCKS as usize))
 }
 
 /// How many of a file's places aren't holes.
@@ -187,19 +195,14 @@ fn put(places: &mut Vec<Option<u32>>, block: usize, place: u32) -> u32
 }
 
 /// Makes holes of the blocks of the segment, and tells how many holes there are more.
-#[tactic(auto, using(crate::proofs::ClearedPlaces::clear_steps))]
 fn clear_segment(places: &mut Vec<Option<u32>>, segment: u32) -> u32
     requires few { length places.old.items ≤ 4096 }
     ensures places { places.new.items ≡ places_without segment places.old.items }
     ensures cleared { result + length (present places.new.items) ≡ length (present places.old.items) }
 {
-    let from = segment as usize * SEGMENT_BLOCKS as usize;
-    let end = places.len().min(from + SEGMENT_BLOCKS as usize);
-    let mut cleared = 0;
-    for block in from..end {
-        cleared += 1 - hole(places[block]);
-        places[block] = None;
-    }
+    let cleared = count_present(segment_places(places, segment));
+    let (from, to) = segment_range(places.len(), segment);
+    places[from..to].fill(None);
     cleared
 }
 

@@ -108,7 +108,7 @@ module _ (s : Inside) (v : Catalog) (is : catalog_held s.geometry s.table s.part
             let all-blocks : used' ≡ length (blocks_of w.files) =
             omega (arith, sum-change mapped_of key (file_after r) file v.files one.1, sum-drop mapped_of key file v.files one.1, used-sum (without_file key v).files, used-sum w.files, ap mapped_of changed) in
             let most : limits ≡ geometry_of v.geometry = bound ∙ limits-are in
-            let good = IsCatalog-after r key file v rest limits (lawful s v is i) one.1 one.2 (rw same at none) numbers (rw changed kept) (rw changed sorted) (omega (arith, few, all-bytes, ap (λ (g : Geometry). g.attributes) most)) (omega (arith, stubs-few none, all-stubs, ap (λ (g : Geometry). g.stubs) most)) in
+            let good = IsCatalog-after r key file v rest limits (lawful s v is i) one.1 (record { stands = one.2; judged = rw same at none; numbers = numbers; kept = rw changed kept; ascend = rw changed sorted }) (omega (arith, few, all-bytes, ap (λ (g : Geometry). g.attributes) most)) (omega (arith, stubs-few none, all-stubs, ap (λ (g : Geometry). g.stubs) most)) in
             after s v is i resized (set s.parts.items place new) w total' stubs' used' new-held refl (length-set s.parts.items place new) good all-bytes all-stubs all-blocks
 
 -- ---- the goals
