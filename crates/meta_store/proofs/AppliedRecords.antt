@@ -14,26 +14,12 @@ use Rattle.meta_store.specs.Records.{after, after_all, refusal_of, refusal_of_al
 same_geometry : (r : Record) (c : Catalog) → (after r c).geometry ≡ c.geometry
 same_geometry r c = search rules
 
-found-kept : (key : FileKey) (f : CatalogFile) (c : Catalog) → find_key (λ g. g.key) key c.files ≡ Some f → kept_at key c ≡ f.kept
-found-kept key f c found = rw found refl
-
--- a segment that goes away has an entry before
-goes_stands : (j others limit : ℕ) (stub : StubOf) (stubs : Stubs) → stub_at j stubs ≡ Some stub → too_many_stubs j others limit stubs ≡ None
-goes_stands j others limit stub stubs has = rw has refl
-
--- no part refuses what is sure
+-- no part refuses what is sure: a segment that goes away has an entry before
 sure_stands : (r : Record) (c : Catalog) → IsSure r → CanStand r c → refusal_of r c ≡ None
-sure_stands (Make key name) c sure can = absurd sure
-sure_stands (Drop ino) c sure can = absurd sure
-sure_stands (Size ino size) c sure can = absurd sure
 sure_stands (Map ino block places) c sure can = refl
-sure_stands (Regions ino regions) c sure can = absurd sure
-sure_stands (SetAttr ino name value) c sure can = absurd sure
-sure_stands (DropAttr ino name) c sure can = absurd sure
 sure_stands (Stub ino j None) c sure can = refl
-sure_stands (Stub ino j (Some stub)) c sure can =
-    let key = key_on ino c in
-    rw (found-kept key can.0 c can.1) (goes_stands j (others_stubs key c) (geometry_of c.geometry).stubs (record stub { offline = false }) can.0.kept.stubs (can.2.turns.goes sure))
+sure_stands (Stub ino j (Some stub)) c sure can = rw (can.1, can.2.turns.goes sure) refl
+sure_stands r c sure can = absurd sure
 
 all_stand : (rs : List Record) (c : Catalog) → AllByRecursion IsSure rs → CanStandAll rs c → refusal_of_all rs c ≡ None
 all_stand [] c sure can = refl

@@ -19,7 +19,7 @@ use Rattle.meta_store.specs.declared.catalog.Catalog.TheInside.{Inside}
 use Rattle.meta_store.specs.Catalogs.{CatalogFile, Catalog, IsCatalogFile, IsCatalog, geometry_of, names_of, present, blocks_of, attribute_total, stub_total}
 use Rattle.meta_store.specs.Records.{with_put, without_file, others_total, others_stubs, key_on}
 use Rattle.meta_store.specs.InMemory.{no_parts, parts_of, file_of, catalog_held, file_held, files_held, IsHeld}
-use Rattle.meta_store.proofs.SnapshotFits.{blocks-few, geometry-bounded}
+use Rattle.meta_store.proofs.SnapshotFits.{blocks-few, geometry-bounded, few-stubs}
 use Rattle.meta_store.proofs.FileEdits.{count_of, stubs_of, mapped_of, used-sum, sum-put, sum-drop, map-find, map-drop}
 use Rattle.meta_store.proofs.HeldFiles.{names_of-held, entries-held, held-put_at, found-within}
 use Rattle.meta_store.proofs.KeptCatalogs.{IsCatalog-with_put, IsCatalog-without_file}
@@ -62,10 +62,6 @@ read-live t ps k f one at x here read =
 
 pub held-live : (t : Table) (ps : List FileParts) (k : FileKey) (f : CatalogFile) → IsLive t ps k f → file_held ps (entry_of f.key f.name f.size) ≡ f
 held-live t ps k f one = rw (one.key, one.parts) refl
-
-few-stubs : (geometry : ℕ) → (geometry_of geometry).stubs ≤ 65536
-unfolding geometry_of
-few-stubs geometry = grind arith
 
 module _ (s : Inside) (v : Catalog) (is : catalog_held s.geometry s.table s.parts.items ≡ v) (i : IsCounted s.geometry s.table s.parts.items s.attribute_total s.stub_total s.used) where
   pub lawful : IsCatalog v

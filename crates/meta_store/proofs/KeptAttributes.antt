@@ -1,16 +1,19 @@
 -- Attributes of a snapshot, one after the other.
-use Rattle.std.proofs.Common.{◌≡◌, ℕ, ◌≤◌, List, [], ◌∷◌, ◌++◌, length, Option, Some, None, true, false, refl, le-leb, arith}
+use Rattle.std.proofs.Common.{◌≡◌, ℕ, ◌≤◌, List, [], ◌∷◌, ◌++◌, length, Option, Some, None, true, false, refl, arith}
 use Rattle.std.specs.List.{AllByRecursion}
 use Rattle.std.specs.List.Sorted.{IsStrictlySortedBy}
 use Rattle.std.specs.Map.{keys_of, values_of}
 use Rattle.std.specs.declared.cmp.Ordering.TheVariants.{Less}
 use Rattle.std.specs.Cmp.{IsTotalOrder}
 use Rattle.std.proofs.lemmas.Cmp.{nat_list_cmp_total, on_total}
-use Rattle.std.proofs.lemmas.List.Sums.{sum_by-cons}
+use Rattle.std.proofs.lemmas.List.Sums.{sum_by-cons, sum_by-append}
+use Rattle.std.proofs.lemmas.List.{map-append}
+use Rattle.std.proofs.lemmas.List.Elements.{recursion_from_All}
 use Rattle.hsm_types.specs.declared.attributes.AttrName.{AttrName}
 use Rattle.hsm_types.specs.Attributes.{Attributes, AreAttributes, name_cmp, is_reserved, with_value, cost_of_value, bytes_of_attributes, setting_refusal}
 use Rattle.meta_store.specs.Validity.{stands_behind, are_attributes}
-use Rattle.meta_store.proofs.KeptBounds.{each_of, values-short}
+use Rattle.meta_store.proofs.EachOf.{each-as}
+use Rattle.meta_store.proofs.KeptBounds.{values-short}
 
 name_cmp-total : IsTotalOrder name_cmp
 name_cmp-total = on_total (λ (name : AttrName). name.0) nat_list_cmp_total
@@ -33,8 +36,7 @@ all-below name later value [] less below = (less, tt)
 all-below name later value (a ∷ attrs) less below = (name_cmp-total.trans a.0 name later below.0 less, all-below name later value attrs less below.1)
 
 bytes-front : (attrs : Attributes) (a : AttrName × List ℕ) (rest : Attributes) → bytes_of_attributes (attrs ++ a ∷ []) ≤ bytes_of_attributes (attrs ++ a ∷ rest)
-bytes-front [] a rest = omega (arith, sum_by-cons cost_of_value a.1 [], sum_by-cons cost_of_value a.1 (values_of rest))
-bytes-front (f ∷ attrs) a rest = omega (arith, sum_by-cons cost_of_value f.1 (values_of (attrs ++ a ∷ [])), sum_by-cons cost_of_value f.1 (values_of (attrs ++ a ∷ rest)), bytes-front attrs a rest)
+bytes-front attrs a rest = simp (map-append, sum_by-append) (omega (arith, sum_by-cons cost_of_value a.1 [], sum_by-cons cost_of_value a.1 (values_of rest)))
 
 -- ---- one that stands behind the others is set, where it is lawful
 
@@ -50,16 +52,15 @@ module _ (before : Option AttrName) (attrs : Attributes) (name : AttrName) (valu
 
 -- ---- lawful attributes pass
 
-pass-behind : (b : AttrName) (attrs : Attributes) → AllByRecursion (λ k. name_cmp b k ≡ Less) (keys_of attrs) → IsStrictlySortedBy name_cmp (keys_of attrs) → AllByRecursion (λ a. is_reserved a.0 ≡ false) attrs → AllByRecursion (λ a. length a.1 ≤ 4096) attrs
-    → are_attributes (Some b) attrs ≡ true
+pass-behind : (before : Option AttrName) (attrs : Attributes) → AllByRecursion (λ k. stands_behind before k ≡ true) (keys_of attrs) → IsStrictlySortedBy name_cmp (keys_of attrs) → AllByRecursion (λ k. is_reserved k ≡ false) (keys_of attrs) → AllByRecursion (λ a. length a.1 ≤ 4096) attrs
+    → are_attributes before attrs ≡ true
 unfolding IsStrictlySortedBy
-pass-behind b [] behind ascend named short = refl
-pass-behind b (a ∷ attrs) behind ascend named short = rw (behind.0, named.0, le-leb (length a.1) 4096 short.0, pass-behind a.0 attrs ascend.0 ascend.1 named.1 short.1) refl
+pass-behind before [] behind ascend named short = refl
+pass-behind before (a ∷ attrs) behind ascend named short =
+    let next = pass-behind (Some a.0) attrs (each-as (λ k. name_cmp a.0 k ≡ Less) (λ k. stands_behind (Some a.0) k ≡ true) (keys_of attrs) (λ k less. grind arith) ascend.0) ascend.1 named.1 short.1 in
+    grind (arith, behind.0, named.0, short.0)
 
 pub attributes-pass : (attrs : Attributes) → AreAttributes attrs → are_attributes None attrs ≡ true
-unfolding IsStrictlySortedBy
-attributes-pass [] are = refl
-attributes-pass (a ∷ attrs) are =
-    let named = each_of (λ name. is_reserved name ≡ false) (λ b. b.0) (a ∷ attrs) are.unreserved in
-    let short = values-short (a ∷ attrs) are in
-    rw (named.0, le-leb (length a.1) 4096 short.0, pass-behind a.0 attrs are.ascend.0 are.ascend.1 named.1 short.1) refl
+attributes-pass attrs are =
+    let named = recursion_from_All (λ name. is_reserved name ≡ false) (keys_of attrs) are.unreserved in
+    pass-behind None attrs (each-as (λ name. is_reserved name ≡ false) (λ k. true ≡ true) (keys_of attrs) (λ k _. refl) named) are.ascend named (values-short attrs are)

@@ -1,12 +1,14 @@
 -- What bounds the regions and the attributes of a lawful file.
-use Rattle.std.proofs.Common.{◌≡◌, ℕ, suc, ◌+◌, ◌*◌, ◌≤◌, List, [], ◌∷◌, length, map, Option, None, Some, length-append, arith}
-use Rattle.std.specs.List.{flat_map, All, AllByRecursion}
+use Rattle.std.proofs.Common.{◌≡◌, ℕ, ◌+◌, ◌*◌, ◌≤◌, List, [], ◌∷◌, length, Option, None, Some, length-append, arith}
+use Rattle.std.specs.List.{flat_map, AllByRecursion}
 use Rattle.std.specs.Map.{values_of}
 use Rattle.std.proofs.lemmas.List.Sums.{sum_by-cons}
 use Rattle.hsm_types.specs.declared.regions.Region.{Region}
 use Rattle.hsm_types.specs.declared.attributes.AttrName.{AttrName}
 use Rattle.hsm_types.specs.Regions.{first_bad, regions_refusal}
 use Rattle.hsm_types.specs.Attributes.{Attributes, AreAttributes, setting_refusal, with_value, without_value, cost_of_value, bytes_of_attributes}
+use Rattle.std.proofs.lemmas.List.Elements.{recursion_from_All}
+use Rattle.meta_store.proofs.EachOf.{each-as, each-and}
 use Rattle.meta_store.specs.Snapshots.{attribute_bytes, RegionFits, AttributeFits}
 
 -- ---- regions
@@ -23,17 +25,16 @@ regions-fit rs none = each_fits 0 None rs (grind arith)
 
 -- ---- attributes
 
-pub each_of : {X Y : Type 0} (P : Y → Type 0) (f : X → Y) (xs : List X) → All P (map f xs) → AllByRecursion (λ x. P (f x)) xs
-each_of P f [] all = tt
-each_of P f (x ∷ xs) all = (all 0 (f x) (omega arith), each_of P f xs (λ k d within. all (suc k) d (omega arith)))
-
 -- values are short
 pub values-short : (attrs : Attributes) → AreAttributes attrs → AllByRecursion (λ a. length a.1 ≤ 4096) attrs
-values-short attrs are = each_of (λ value. length value ≤ 4096) (λ a. a.1) attrs are.short
+values-short attrs are = by attrs (recursion_from_All (λ value. length value ≤ 4096) (values_of attrs) are.short)
+  where
+    by : (attrs : Attributes) → AllByRecursion (λ value. length value ≤ 4096) (values_of attrs) → AllByRecursion (λ a. length a.1 ≤ 4096) attrs
+    by [] all = tt
+    by (a ∷ attrs) all = (all.0, by attrs all.1)
 
-pub attributes-fit : (attrs : Attributes) → AllByRecursion (λ a. length a.0.0 ≡ 8) attrs → AllByRecursion (λ a. length a.1 ≤ 4096) attrs → AllByRecursion AttributeFits attrs
-attributes-fit [] eight short = tt
-attributes-fit (a ∷ attrs) eight short = ((eight.0, grind arith), attributes-fit attrs eight.1 short.1)
+pub attributes-fit : (attrs : Attributes) → AllByRecursion (λ a. length a.0.0 ≡ 8) attrs → AreAttributes attrs → AllByRecursion AttributeFits attrs
+attributes-fit attrs eight are = each-as _ AttributeFits attrs (λ a is. (is.0, omega (arith, is.1))) (each-and (λ a. length a.0.0 ≡ 8) (λ a. length a.1 ≤ 4096) attrs eight (values-short attrs are))
 
 -- one more name of eight bytes
 pub eight-with : (name : AttrName) (value : List ℕ) (attrs : Attributes) → AllByRecursion (λ a. length a.0.0 ≡ 8) attrs → length name.0 ≡ 8 → AllByRecursion (λ a. length a.0.0 ≡ 8) (with_value name value attrs)

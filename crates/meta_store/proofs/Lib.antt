@@ -1,3 +1,4 @@
+pub mod EachOf
 pub mod ReadValues
 pub mod Readers
 pub mod ReadSnapshots

@@ -34,11 +34,6 @@ count-fitted size ps = simp length-append at (ap (λ (bs : List ℕ). length bs)
 pub uses-fitted : (n size : ℕ) (ps : List (Option ℕ)) → uses n (present (places_fitted size ps)) ≤ uses n (present ps)
 uses-fitted n size ps = omega (arith, simp uses-append at (ap (uses n) (present-fitted size ps)))
 
--- what is true of each of a list is true of each of its front, and of its end
-pub all-parts : {X : Type 0} (P : X → Type 0) (xs ys : List X) → AllByRecursion P (xs ++ ys) → AllByRecursion P xs × AllByRecursion P ys
-all-parts P [] ys all = (tt, all)
-all-parts P (x ∷ xs) ys all = let more = all-parts P xs ys all.1 in ((all.0, more.0), more.1)
-
 -- ---- mappings
 
 pub length-places_set : (ms : List Mapping) (ps : List (Option ℕ)) → length (places_set ms ps) ≡ length ps

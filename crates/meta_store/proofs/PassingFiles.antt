@@ -14,7 +14,7 @@ use Rattle.meta_store.specs.Snapshots.{SnapshotFile, snapshot_file}
 use Rattle.meta_store.specs.Validity.{listed_in, names_in, places_of, places_in, is_file, places_by, AreLawfulStubs, is_kept, can_follow, attribute_total_in, stub_total_in, Follows, IsNext}
 use Rattle.meta_store.proofs.KeptAttributes.{attributes-pass}
 use Rattle.meta_store.proofs.LawfulStubs.{stubs-pass}
-use Rattle.meta_store.proofs.MappedPlaces.{all-parts}
+use Rattle.meta_store.proofs.EachOf.{all-parts}
 use Rattle.meta_store.proofs.SpreadPlaces.{places_of-extents, are_extents-from, places-again}
 use Rattle.meta_store.proofs.StandOnce.{above-last, nameless, unused-from}
 

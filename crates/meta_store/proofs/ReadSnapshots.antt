@@ -10,7 +10,7 @@ use Rattle.meta_store.specs.declared.snapshot.ReadRefusal.TheVariants.{Memory, C
 use Rattle.meta_store.specs.Catalogs.{StubFits}
 use Rattle.meta_store.specs.Snapshots.{Snapshot, key_bytes, region_bytes, attribute_bytes, extent_bytes, state_of, stub_bytes, counted_bytes, file_bytes, spelling, RegionFits, AttributeFits, ExtentFits, FileFits, Fits, IsSpelled}
 use Rattle.meta_store.specs.Reading.{Fails, number_at, several, counted, key_at, region_at, attr_name_at, attribute_at, extent_at, offline_in, state_at, print_at, stub_in, file_at, snapshot_at}
-use Rattle.meta_store.proofs.Readers.{IsBytes, IsReader, IsWide, refit, wide1, wide2, wide4, wide8, number_reads, only_reads, bytes_read, several_read, both_read, made_reads, picked_reads, counted_reads}
+use Rattle.meta_store.proofs.Readers.{IsBytes, IsReader, IsWide, refit, wide1, wide2, wide4, wide8, number_reads, only_reads, bytes_read, several_read, both_read, made_reads, counted_reads}
 
 long_reads : IsReader (number_at 8) (big_bytes 8) (λ x. x < 2 ^ 64)
 long_reads = number_reads wide8
@@ -43,18 +43,10 @@ extent_reads = made_reads (both_read (number_reads wide4) (number_reads wide4)) 
 
 state_reads : IsReader state_at (λ offline. big_bytes 1 (state_of offline)) (λ _. Unit {0})
 unfolding state_at
-state_reads = picked_reads (number_reads wide1) offline_in state_of offline-back state-back (λ offline fit. small offline)
-  where
-    offline-back : (n : ℕ) (offline : Bool) → offline_in n ≡ Some offline → state_of offline ≡ n
-    offline-back n offline is = grind arith
-
-    state-back : (offline : Bool) → offline_in (state_of offline) ≡ Some offline
-    state-back true = refl
-    state-back false = refl
-
-    small : (offline : Bool) → state_of offline < 256 ^ 1
-    small true = omega arith
-    small false = omega arith
+state_reads = record {
+  takes = λ bytes ok. grind (arith, (number_reads wide1).takes bytes ok);
+  again = λ offline rest fit. grind (arith, (number_reads wide1).again (state_of offline) rest);
+}
 
 print_reads : IsReader print_at (λ p. big_bytes 4 p.len ++ p.digest.0) (λ p. (p.len < 2 ^ 32) × (length p.digest.0 ≡ 32))
 unfolding print_at
@@ -87,7 +79,7 @@ snapshot_reads =
 -- ---- what is read of an area
 
 pub is_read : (area : List ℕ) (x : Snapshot × List ℕ) → IsBytes area → snapshot_at area ≡ Some x → IsSpelled area x.0
-is_read area x ok e = let t = (snapshot_reads.takes area ok).is x e in record { fits = t.fit; rest = x.1; spelled = t.parts }
+is_read area x ok e = let t = rw e at (snapshot_reads.takes area ok) in record { fits = t.fit; rest = x.1; spelled = t.parts }
 
 again : (area : List ℕ) (s : Snapshot) (is : IsSpelled area s) → snapshot_at area ≡ Some (s, is.rest)
 again area s is = ap snapshot_at is.spelled ∙ snapshot_reads.again s is.rest is.fits

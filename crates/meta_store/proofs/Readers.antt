@@ -1,7 +1,8 @@
 -- What is read is spelled so, and what is spelled so is read: for each reader of any format.
-use Rattle.std.proofs.Common.{◌≡◌, ℕ, zero, suc, ◌+◌, ◌^◌, ◌<◌, false, eqb, eq-eqb, ltb, List, [], ◌∷◌, ◌++◌, length, get_or, take, drop, Option, Some, None, refl, sym, ap, subst, ◌∙◌, append_assoc, arith}
+use Rattle.std.proofs.Common.{◌≡◌, ℕ, zero, suc, ◌+◌, ◌^◌, ◌<◌, ◌≤◌, false, eqb, eq-eqb, ltb, List, [], ◌∷◌, ◌++◌, length, get_or, take, drop, Option, Some, None, refl, sym, ap, subst, ◌∙◌, append_assoc, arith}
 use Rattle.std.specs.List.{flat_map, AllByRecursion}
-use Rattle.std.proofs.lemmas.Bool.{cond_both, eqb-true, ltb-false, le-ltb}
+use Rattle.std.specs.Option.{IfSome}
+use Rattle.std.proofs.lemmas.Bool.{le-ltb}
 use Rattle.std.proofs.lemmas.List.{take_at, drop_at, take-append-drop, length-append, length-take, get_or-drop, get_or_past}
 use Rattle.std.proofs.lemmas.Grind.{common_steps}
 use Rattle.std.proofs.lemmas.Nat.{be_bytes_2, be_bytes_4, be_bytes_8}
@@ -18,24 +19,6 @@ IsBytes-drop n bytes h i = rw get_or-drop (h (n + i))
 IsBytes-take : (n : ℕ) (bytes : List ℕ) → IsBytes bytes → IsBytes (take n bytes)
 IsBytes-take n bytes h i = grind (arith, common_steps, h i, get_or_past (take n bytes) i 0, length-take n bytes)
 
--- ---- what is true of what a step gave, if it gave something
-
-pub record IfGiven {A : Type 0} (read : Option A) (P : A → Type 0) : Type 0 where
-  pub is : (x : A) → read ≡ Some x → P x
-
-nothing : {A : Type 0} {P : A → Type 0} → IfGiven None P
-nothing = record { is = λ x e. absurd cc }
-
-given : {A : Type 0} {P : A → Type 0} (x : A) → P x → IfGiven (Some x) P
-given {P} x p = record { is = λ y e. let it : x ≡ y = cc in subst P it p }
-
-bind : {A B : Type 0} {P : A → Type 0} {Q : B → Type 0} (r : Option A) (f : A → Option B) → IfGiven r P → ((x : A) → P x → IfGiven (f x) Q) → IfGiven (r >>= f) Q
-bind (Some x) f p q = q x (p.is x refl)
-bind None f p q = nothing
-
-weaken : {A : Type 0} {r : Option A} {P Q : A → Type 0} → IfGiven r P → ((x : A) → P x → Q x) → IfGiven r Q
-weaken h to = record { is = λ x e. to x (h.is x e) }
-
 -- a value that fits, of its text, and the bytes after it
 pub record Takes {X : Type 0} (text : X → List ℕ) (Fit : X → Type 0) (bytes : List ℕ) (x : X × List ℕ) : Type 0 where
   pub parts : bytes ≡ text x.0 ++ x.1
@@ -44,28 +27,20 @@ pub record Takes {X : Type 0} (text : X → List ℕ) (Fit : X → Type 0) (byte
 
 -- The reader reads just the values that fit, each of its text.
 pub record IsReader {X : Type 0} (reader : List ℕ → Option (X × List ℕ)) (text : X → List ℕ) (Fit : X → Type 0) : Type 0 where
-  pub takes : (bytes : List ℕ) → IsBytes bytes → IfGiven (reader bytes) (Takes text Fit bytes)
+  pub takes : (bytes : List ℕ) → IsBytes bytes → IfSome (reader bytes) (Takes text Fit bytes)
   pub again : (x : X) (rest : List ℕ) → Fit x → reader (text x ++ rest) ≡ Some (x, rest)
 
 -- values that fit are described in another way
 pub refit : {X : Type 0} {reader : List ℕ → Option (X × List ℕ)} {text : X → List ℕ} {F G : X → Type 0} → IsReader reader text F → ((x : X) → F x → G x) → ((x : X) → G x → F x) → IsReader reader text G
 refit p to back = record {
-  takes = λ bytes ok. weaken (p.takes bytes ok) (λ x t. record { parts = t.parts; fit = to x.0 t.fit; rest = t.rest });
+  takes = λ bytes ok. grind (arith, p.takes bytes ok, to);
   again = λ x rest fit. p.again x rest (back x fit);
 }
 
 -- ---- bytes and numbers
 
 pub bytes_read : (n : ℕ) → IsReader (bytes_at n) (λ bytes. bytes) (λ bytes. (length bytes ≡ n) × Unit {0})
-bytes_read n = record {
-  takes = λ bytes ok.
-      cond_both (ltb (length bytes) n) None (Some (take n bytes, drop n bytes)) (λ r. IfGiven r (Takes (λ b. b) (λ b. (length b ≡ n) × Unit {0}) bytes)) (λ short. nothing) (λ long.
-      let enough = ltb-false (length bytes) n long in
-      given (take n bytes, drop n bytes) (record { parts = sym (take-append-drop n bytes); fit = (omega (arith, length-take n bytes), tt); rest = IsBytes-drop n bytes ok }));
-  again = λ x rest fit.
-      let long : ltb (length (x ++ rest)) n ≡ false = le-ltb _ _ (omega (arith, length-append x rest)) in
-      rw (long, take_at x rest n fit.0, drop_at x rest n fit.0) refl;
-}
+bytes_read n = record { takes = λ bytes ok. grind (arith, common_steps, IsBytes-drop n bytes ok, take-append-drop n bytes); again = λ x rest fit. grind (arith, take_at, drop_at, length-append x rest) }
 
 -- the bytes of the number in n bytes are these
 abbrev pub IsWide : ℕ → Type 0
@@ -88,10 +63,8 @@ wide8 bytes len fits = be_bytes_8 bytes _ len fits (omega arith)
 pub number_reads : {n : ℕ} → IsWide n → IsReader (number_at n) (big_bytes n) (λ x. x < 256 ^ n)
 number_reads {n} wide = record {
   takes = λ bytes ok.
-      cond_both (ltb (length bytes) n) None (Some (big_number n bytes, drop n bytes)) (λ r. IfGiven r (Takes (big_bytes n) (λ x. x < 256 ^ n) bytes)) (λ short. nothing) (λ long.
-      let enough = ltb-false (length bytes) n long in
-      let front = ap (big_bytes n) (sym (big_from-take 0 n n bytes (omega arith))) ∙ wide (take n bytes) (omega (arith, length-take n bytes)) (IsBytes-take n bytes ok) in
-      given (big_number n bytes, drop n bytes) (record { parts = rw front (sym (take-append-drop n bytes)); fit = big_from-lt 0 n bytes ok; rest = IsBytes-drop n bytes ok }));
+      let front = λ (long : n ≤ length bytes). ap (big_bytes n) (sym (big_from-take 0 n n bytes (omega arith))) ∙ wide (take n bytes) (omega (arith, length-take n bytes)) (IsBytes-take n bytes ok) in
+      grind (arith, front, IsBytes-drop n bytes ok, take-append-drop n bytes, big_from-lt 0 n bytes ok);
   again = λ x rest fit.
       let len = length-bytes_high_first n x in
       let long : ltb (length (big_bytes n x ++ rest)) n ≡ false = le-ltb _ _ (omega (arith, length-append (big_bytes n x) rest)) in
@@ -104,9 +77,8 @@ module _ {A B : Type 0} {ra : List ℕ → Option (A × List ℕ)} {ta : A → L
   pub both_read : {rb : List ℕ → Option (B × List ℕ)} {tb : B → List ℕ} {FB : B → Type 0} → IsReader rb tb FB → IsReader (both ra rb) (λ x. ta x.0 ++ tb x.1) (λ x. FA x.0 × FB x.1)
   unfolding both
   both_read {rb} {tb} {FB} q = record {
-    takes = λ bytes ok. bind (ra bytes) _ (p.takes bytes ok) (λ a t. bind (rb a.1) _ (q.takes a.1 t.rest) (λ b u.
-        given ((a.0, b.0), b.1) (record { parts = t.parts ∙ ap (λ (l : List ℕ). ta a.0 ++ l) u.parts ∙ sym (append_assoc (ta a.0) (tb b.0) b.1); fit = (t.fit, u.fit); rest = u.rest })));
-    again = λ x rest fit. ap (both ra rb) (append_assoc (ta x.0) (tb x.1) rest) ∙ rw (p.again x.0 (tb x.1 ++ rest) fit.0, q.again x.1 rest fit.1) refl;
+    takes = λ bytes ok. grind (arith, append_assoc, p.takes bytes ok, q.takes);
+    again = λ x rest fit. grind (arith, append_assoc, p.again x.0 (tb x.1 ++ rest) fit.0, q.again x.1 rest fit.1);
   }
 
   -- a value made of what is read, which can be taken apart again
@@ -114,28 +86,15 @@ module _ {A B : Type 0} {ra : List ℕ → Option (A × List ℕ)} {ta : A → L
       → ((a : A) → FA a → Fit (make a)) → ((b : B) → Fit b → FA (parts b)) → IsReader (made make ra) text Fit
   unfolding made
   made_reads {make} {text} {Fit} parts whole apart spelled fits fits_back = record {
-    takes = λ bytes ok. bind (ra bytes) _ (p.takes bytes ok) (λ a t. given (make a.0, a.1) (record { parts = rw (spelled (make a.0), apart a.0) t.parts; fit = fits a.0 t.fit; rest = t.rest }));
-    again = λ x rest fit. rw (spelled x, p.again (parts x) rest (fits_back x fit), whole x) refl;
+    takes = λ bytes ok. grind (arith, p.takes bytes ok, whole, apart, spelled, fits);
+    again = λ x rest fit. grind (arith, p.again (parts x) rest (fits_back x fit), spelled x, whole x);
   }
-
--- a value that stands for what is read, where anything does
-pub picked_reads : {A B : Type 0} {reader : List ℕ → Option (A × List ℕ)} {text : A → List ℕ} {Fit : A → Type 0} → IsReader reader text Fit → (pick : A → Option B) (back : B → A) → ((a : A) (b : B) → pick a ≡ Some b → back b ≡ a) → ((b : B) → pick (back b) ≡ Some b) → ((b : B) → Unit {0} → Fit (back b))
-    → IsReader (λ bytes. reader bytes >>= λ a. pick a.0 >>= λ b. Some (b, a.1)) (λ b. text (back b)) (λ _. Unit {0})
-picked_reads {reader} {text} p pick back is again_is fits = record {
-  takes = λ bytes ok. bind (reader bytes) _ (p.takes bytes ok) (λ a t. bind (pick a.0) _ (picked (pick a.0)) (λ b same. given (b, a.1) (record { parts = rw (is a.0 b same) t.parts; fit = tt; rest = t.rest })));
-  again = λ b rest fit. rw (p.again (back b) rest (fits b tt), again_is b) refl;
-}
-  where
-    picked : {B : Type 0} (o : Option B) → IfGiven o (λ b. o ≡ Some b)
-    picked o = record { is = λ x e. e }
 
 pub only_reads : {n wanted : ℕ} → IsWide n → wanted < 256 ^ n → IsReader (only_at n wanted) (λ _. big_bytes n wanted) (λ _. Unit {0})
 unfolding only_at
 only_reads {n} {wanted} wide small = record {
-  takes = λ bytes ok. bind (number_at n bytes) _ ((number_reads wide).takes bytes ok) (λ a t.
-      cond_both (eqb a.0 wanted) (Some (tt, a.1)) None (λ r. IfGiven r (Takes (λ _. big_bytes n wanted) (λ _. Unit {0}) bytes))
-      (λ same. given (tt, a.1) (record { parts = rw (← eqb-true a.0 wanted same) t.parts; fit = tt; rest = t.rest })) (λ other. nothing));
-  again = λ x rest fit. rw ((number_reads wide).again wanted rest small, eq-eqb wanted wanted refl) refl;
+  takes = λ bytes ok. grind (arith, (number_reads wide).takes bytes ok);
+  again = λ x rest fit. grind (arith, (number_reads wide).again wanted rest small);
 }
 
 module _ {X : Type 0} {reader : List ℕ → Option (X × List ℕ)} {text : X → List ℕ} {Fit : X → Type 0} (p : IsReader reader text Fit) where
@@ -143,27 +102,20 @@ module _ {X : Type 0} {reader : List ℕ → Option (X × List ℕ)} {text : X �
   unfolding several
   several_read n = record { takes = taken n; again = again_all n }
     where
-      taken : (k : ℕ) (bytes : List ℕ) → IsBytes bytes → IfGiven (several reader k bytes) (Takes (flat_map text) (λ xs. (length xs ≡ k) × AllByRecursion Fit xs) bytes)
-      taken zero bytes ok = given ([], bytes) (record { parts = refl; fit = (refl, tt); rest = ok })
-      taken (suc k) bytes ok = bind (reader bytes) _ (p.takes bytes ok) (λ a t. bind (several reader k a.1) _ (taken k a.1 t.rest) (λ b u.
-          given (a.0 ∷ b.0, b.1) (record { parts = t.parts ∙ ap (λ (l : List ℕ). text a.0 ++ l) u.parts ∙ sym (append_assoc (text a.0) (flat_map text b.0) b.1); fit = (ap suc u.fit.0, (t.fit, u.fit.1)); rest = u.rest })))
+      taken : (k : ℕ) (bytes : List ℕ) → IsBytes bytes → IfSome (several reader k bytes) (Takes (flat_map text) (λ xs. (length xs ≡ k) × AllByRecursion Fit xs) bytes)
+      taken zero bytes ok = record { parts = refl; fit = (refl, tt); rest = ok }
+      taken (suc k) bytes ok = grind (arith, append_assoc, p.takes bytes ok, taken k)
 
       again_all : (k : ℕ) (xs : List X) (rest : List ℕ) → (length xs ≡ k) × AllByRecursion Fit xs → several reader k (flat_map text xs ++ rest) ≡ Some (xs, rest)
       again_all zero [] rest fit = refl
-      again_all zero (x ∷ xs) rest fit = absurd (omega arith)
-      again_all (suc k) [] rest fit = absurd (omega arith)
-      again_all (suc k) (x ∷ xs) rest fit =
-          ap (several reader (suc k)) (append_assoc (text x) (flat_map text xs) rest)
-          ∙ rw (p.again x (flat_map text xs ++ rest) fit.1.0, again_all k xs rest (omega arith, fit.1.1)) refl
+      again_all (suc k) (x ∷ xs) rest fit = rw (append_assoc (text x) (flat_map text xs) rest, p.again x (flat_map text xs ++ rest) fit.1.0, again_all k xs rest (omega arith, fit.1.1)) refl
+      again_all k xs rest fit = absurd (omega arith)
 
 -- a number, and as much as it says, which tells the number again
 pub counted_reads : {X : Type 0} {reader : ℕ → List ℕ → Option (X × List ℕ)} {text : X → List ℕ} {Fit : X → Type 0} {n : ℕ} (count : X → ℕ) → IsWide n
     → ((k : ℕ) → IsReader (reader k) text (λ x. (count x ≡ k) × Fit x)) → IsReader (counted n reader) (λ x. big_bytes n (count x) ++ text x) (λ x. (count x < 256 ^ n) × Fit x)
 unfolding counted
 counted_reads {X} {reader} {text} {Fit} {n} count wide p = record {
-  takes = λ bytes ok. bind (number_at n bytes) _ ((number_reads wide).takes bytes ok) (λ a t. weaken ((p a.0).takes a.1 t.rest) (λ b u.
-      record { parts = rw u.fit.0 (t.parts ∙ ap (λ (l : List ℕ). big_bytes n a.0 ++ l) u.parts ∙ sym (append_assoc (big_bytes n a.0) (text b.0) b.1)); fit = (rw u.fit.0 t.fit, u.fit.1); rest = u.rest }));
-  again = λ x rest fit.
-      ap (counted n reader) (append_assoc (big_bytes n (count x)) (text x) rest)
-      ∙ rw ((number_reads wide).again (count x) (text x ++ rest) fit.0, (p (count x)).again x rest (refl, fit.1)) refl;
+  takes = λ bytes ok. let number = (number_reads wide).takes bytes ok in let value = λ (k : ℕ) (rest : List ℕ) (good : IsBytes rest). (p k).takes rest good in grind (arith, append_assoc, number, value);
+  again = λ x rest fit. rw (append_assoc, (number_reads wide).again (count x) (text x ++ rest) fit.0, (p (count x)).again x rest (refl, fit.1)) refl;
 }

@@ -14,11 +14,11 @@ use Rattle.inode_table.proofs.Orders.{few}
 use Rattle.commit_slots.specs.Places.{layout_of}
 use Rattle.commit_slots.specs.Images.{empty_snapshot}
 use Rattle.meta_store.specs.declared.snapshot.Mapping.{Mapping}
-use Rattle.meta_store.specs.Catalogs.{CatalogFile, Catalog, StubFits, IsCatalog, IsCatalogFile, geometry_of, present, blocks_of, names_of, attribute_total, stub_total}
+use Rattle.meta_store.specs.Catalogs.{CatalogFile, Catalog, StubFits, IsCatalogStub, IsCatalog, IsCatalogFile, geometry_of, present, blocks_of, names_of, attribute_total, stub_total}
 use Rattle.meta_store.specs.Snapshots.{region_bytes, extent_bytes, stub_bytes, file_bytes, extents_from, spelling, snapshot_file, snapshot_of, ExtentFits, FileFits, Fits}
 use Rattle.meta_store.proofs.SpreadPlaces.{present-few, length-extents}
-use Rattle.meta_store.proofs.KeptBounds.{regions-few, regions-fit, attributes-few, attributes-fit, attributes-short, values-short}
-use Rattle.meta_store.proofs.LawfulStubs.{stubs-fit}
+use Rattle.meta_store.proofs.KeptBounds.{regions-few, regions-fit, attributes-few, attributes-fit, attributes-short}
+use Rattle.meta_store.proofs.EachOf.{all-both, each-as}
 
 -- ---- numbers that differ, below a bound
 
@@ -41,16 +41,12 @@ pub geometry-bounded : (geometry : ℕ) → ((geometry_of geometry).files ≤ 40
 unfolding geometry_of
 geometry-bounded geometry = grind arith
 
-stubs-bounded : (geometry : ℕ) → (geometry_of geometry).stubs ≤ 65536
+pub few-stubs : (geometry : ℕ) → (geometry_of geometry).stubs ≤ 65536
 unfolding geometry_of
-stubs-bounded geometry = grind arith
+few-stubs geometry = grind arith
 
 pub name-short : (name : List ℕ) → is_name name ≡ true → length name ≤ 64
 name-short name is = grind arith
-
-pub all-both : {X : Type 0} (P : X → Type 0) (xs ys : List X) → AllByRecursion P xs → AllByRecursion P ys → AllByRecursion P (xs ++ ys)
-all-both P [] ys p q = q
-all-both P (x ∷ xs) ys p q = (p.0, all-both P xs ys p.1 q)
 
 pub blocks-within : (blocks : ℕ) (fs : List CatalogFile) → AllByRecursion (IsCatalogFile blocks) fs → AllByRecursion (λ b. b < blocks) (blocks_of fs)
 blocks-within blocks [] each = tt
@@ -84,11 +80,11 @@ file-fits blocks limit next f few_blocks few_files old ino igen few few_stubs is
   regions = omega (arith, regions-few f.kept.regions is.kept.regions);
   each_region = regions-fit f.kept.regions is.kept.regions;
   attributes = omega (arith, attributes-few f.kept.attributes);
-  each_attribute = attributes-fit f.kept.attributes is.kept.eight (values-short f.kept.attributes is.kept.attributes);
+  each_attribute = attributes-fit f.kept.attributes is.kept.eight is.kept.attributes;
   extents = omega (arith, length-extents 0 f.places, present-few f.places);
   each_extent = extents-fit blocks 0 f.places (omega arith) (omega arith) is.within;
   stubs = omega arith;
-  each_stub = stubs-fit f f.kept.stubs is.stubs;
+  each_stub = each-as (IsCatalogStub f) StubFits f.kept.stubs (λ x stub. stub.numbers) is.stubs;
 }
 
 files-fit : (blocks limit next : ℕ) (fs : List CatalogFile) → blocks ≤ 65536 → limit ≤ 4096 → next ≤ 2 ^ 62 → Within limit next (names_of fs) → attribute_total fs ≤ 1048576 → stub_total fs ≤ 65536 → AllByRecursion (IsCatalogFile blocks) fs
@@ -107,7 +103,7 @@ fits_of n c low is =
       number = omega arith;
       next = omega (arith, is.next);
       count = omega (arith, length-map c.files snapshot_file, files-few c is);
-      each = files-fit (geometry_of c.geometry).blocks (geometry_of c.geometry).files c.next c.files g.1 g.0 is.next is.table.within (omega (arith, is.few)) (omega (arith, is.few_stubs, stubs-bounded c.geometry)) is.each;
+      each = files-fit (geometry_of c.geometry).blocks (geometry_of c.geometry).files c.next c.files g.1 g.0 is.next is.table.within (omega (arith, is.few)) (omega (arith, is.few_stubs, few-stubs c.geometry)) is.each;
     }
 
 -- ---- the area
@@ -128,7 +124,7 @@ file-short : (blocks : ℕ) (f : CatalogFile) → IsCatalogFile blocks f → len
 unfolding file_bytes
 file-short blocks f is =
     let k = is.kept in
-    let stubs = length-stubs f.kept.stubs (stubs-fit f f.kept.stubs is.stubs) in
+    let stubs = length-stubs f.kept.stubs (each-as (IsCatalogStub f) StubFits f.kept.stubs (λ x stub. stub.numbers) is.stubs) in
     simp length-append (omega (arith, stubs, length-regions f.kept.regions, length-mappings (extents_from 0 f.places), length-extents 0 f.places, name-short f.name is.name, regions-few f.kept.regions k.regions, attributes-short f.kept.attributes k.eight))
 
 files-short : (blocks : ℕ) (fs : List CatalogFile) → AllByRecursion (IsCatalogFile blocks) fs

@@ -5,6 +5,7 @@ use Rattle.std.specs.Option.{is_some, option_map}
 use Rattle.std.proofs.lemmas.List.{map-append, length-replicate}
 use Rattle.std.proofs.lemmas.List.Concat.{flat_map-append}
 use Rattle.hsm_types.specs.declared.stores.Geometry.{Geometry}
+use Rattle.hsm_types.specs.Stubs.{FitsFile}
 use Rattle.plain_model.specs.Plain.{Listed, named}
 use Rattle.plain_model.specs.Blocks.{blocks_in, with_mapped}
 use Rattle.plain_model.specs.Distinct.{Distinct}
@@ -18,8 +19,8 @@ use Rattle.meta_store.proofs.MappedPlaces.{length-places_set}
 use Rattle.meta_store.proofs.SpreadPlaces.{filled, spread-holes, present-spread, extents-tell, all-places}
 use Rattle.meta_store.proofs.StandOnce.{put-behind, unused-joins, free-is, length-mapped}
 use Rattle.meta_store.proofs.PassingFiles.{names_in-snapshot, places_in-snapshot}
-use Rattle.meta_store.proofs.SnapshotFits.{all-both}
-use Rattle.meta_store.proofs.LawfulStubs.{stubs-tell, stubs-long}
+use Rattle.meta_store.proofs.EachOf.{all-both, each-as}
+use Rattle.meta_store.proofs.LawfulStubs.{stubs-tell}
 
 same_variant : {X Y : Type 0} (to : X → Y) (o : Option X) → is_some (option_map to o) ≡ is_some o
 same_variant to None = refl
@@ -74,7 +75,7 @@ module _ {g : Geometry} {next : ℕ} {c : Catalog} {flags : List Bool} {f : Snap
     geometry = refl;
     next = omega (arith, t.next, follows.old);
     taken = rw (put-behind 0 (filled f) c.files a is-above, map-append snapshot_file c.files (filled f ∷ []), extents-again) refl;
-    lengths = rw (put-behind 0 (filled f) c.files a is-above) (all-both HasLengths c.files (filled f ∷ []) t.lengths (stubs-long f.size f.kept.regions f.kept.stubs stubs.fit.each, tt));
+    lengths = rw (put-behind 0 (filled f) c.files a is-above) (all-both HasLengths c.files (filled f ∷ []) t.lengths (each-as (FitsFile f.size f.kept.regions) _ f.kept.stubs (λ x fit. fit.len) stubs.fit.each, tt));
     count = length-mapped (places_of f.extents) flags ∙ t.count;
     flagged = rw (flat_map-append (λ (s : SnapshotFile). places_of s.extents) (map snapshot_file c.files) (f ∷ []), append-nil (places_of f.extents)) flags-tell.1;
   }

@@ -7,6 +7,7 @@ use Rattle.std.proofs.lemmas.Option.{slice_get_within, slice_get_cases, get_or_f
 use Rattle.byteorder.specs.Endian.{big_bytes}
 use Rattle.meta_store.specs.Catalogs.{CatalogFile, Catalog, IsCatalog, IsCatalogFile, geometry_of}
 use Rattle.meta_store.specs.Snapshots.{file_bytes, snapshot_file, snapshot_of, spelling}
+use Rattle.meta_store.proofs.EachOf.{each-got}
 use Rattle.meta_store.proofs.SpreadPlaces.{length-extents}
 use Rattle.meta_store.proofs.KeptBounds.{regions-few}
 use Rattle.meta_store.proofs.SnapshotFits.{name-short}
@@ -20,14 +21,9 @@ pub ruleset written = (append_assoc, length-extents)
 
 -- ---- the file at a place of the catalog
 
-each-at : {X : Type 0} (P : X → Type 0) (xs : List X) (i : ℕ) (x : X) → AllByRecursion P xs → slice_get xs i ≡ Some x → P x
-each-at P [] i x each at = cc
-each-at P (y ∷ xs) zero x each at = let it : y ≡ x = cc in subst P it each.0
-each-at P (y ∷ xs) (suc i) x each at = each-at P xs i x each.1 at
-
 pub bounds-at : (c : Catalog) (i : ℕ) (f : CatalogFile) → IsCatalog c → slice_get c.files i ≡ Some f → (length f.name ≤ 64) × (length f.places ≤ 4096) × (length f.kept.regions ≤ 4)
 bounds-at c i f is at =
-    let one : IsCatalogFile (geometry_of c.geometry).blocks f = each-at (IsCatalogFile (geometry_of c.geometry).blocks) c.files i f is.each at in
+    let one : IsCatalogFile (geometry_of c.geometry).blocks f = each-got (IsCatalogFile (geometry_of c.geometry).blocks) c.files i f is.each at in
     (name-short f.name one.name, omega arith, regions-few f.kept.regions one.kept.regions)
 
 -- Below the end there is a file.

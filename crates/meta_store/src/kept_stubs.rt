@@ -45,6 +45,7 @@ pub(crate) fn stubs_of(
 }
 
 /// Puts an entry behind those of lower segments, which with it may be at most so many.
+#[tactic(auto, using(crate::proofs::LawfulStubs::last_steps))]
 fn put(kept: &mut StubMap, segment: u32, stub: Stub, limit: u32) -> Result<(), ReadRefusal>
     requires { AllByRecursion (λ x. x.0 < segment) kept.old }
     ensures ok { OnOk result (kept.new ≡ kept.old ++ (segment, stub) ∷ []) }

@@ -2,7 +2,7 @@ use Rattle.std.proofs.Common.{◌≡◌, ◌≤◌, ◌++◌, drop, length}
 use Rattle.std.specs.List.{AllByRecursion}
 use Rattle.hsm_types.specs.Stubs.{FitsFile}
 use Rattle.meta_store.specs.Catalogs.{StubFits, HasNoBlocks}
-use Rattle.meta_store.proofs.LawfulStubs.{EndBelow, IsTop}
+use Rattle.meta_store.proofs.LawfulStubs.{IsEnd}
 use Rattle.meta_store.proofs.kept_stubs.stubs_of.Given as goal
 
 abbrev pub invariant-loop-entry : goal.invariant-loop-entry
@@ -10,8 +10,7 @@ invariant-loop-entry l = record {
   put : l.kept ++ drop l.entry-index l.stubs ≡ l.stubs;
   fit : AllByRecursion (FitsFile l.size l.regions) l.kept;
   away : AllByRecursion (HasNoBlocks l.places) l.kept;
-  ends : EndBelow l.before l.kept;
-  top : IsTop l.before l.kept;
+  ends : IsEnd l.before l.kept;
   within : length l.kept ≤ l.limit;
   fits : AllByRecursion StubFits l.kept;
 }
