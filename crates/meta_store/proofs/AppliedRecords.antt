@@ -38,15 +38,6 @@ module _ (records : List Record) (old : Catalog) (r : Record) (left : List Recor
   sure_left : AllByRecursion IsSure left
   sure_left = ⊎_elim (λ h. h.1) (λ sure. sure.1) taking.begun
 
-  pub taking-goes_on : (next : Catalog) → refusal_of r now ≡ None → next ≡ after r now → IsTaking records old left next
-  taking-goes_on next judged is = record {
-    stand = rw is taking.stand.1;
-    geometry = ap (λ (c : Catalog). c.geometry) is ∙ same_geometry r now ∙ taking.geometry;
-    ends = rw is taking.ends;
-    judged = rw is (grind (arith, judged, taking.judged));
-    begun = inr sure_left;
-  }
-
   -- a record that isn't taken is the first
   pub taking-stops : (IsSure r → ⊥) → now ≡ old
   taking-stops other = ⊎_elim (λ h. h.0) (λ sure. absurd (other sure.0)) taking.begun

@@ -45,9 +45,6 @@ new_image z fsid number x image d c there short is lawful lengths bound was s =
       data_blocks = rw there kept.blocks;
     }
 
-pub meta_of : (m : Meta) → IsStored m → IsCatalog m.current → IsMeta m
-meta_of m stored current = record { stored = stored; current = current }
-
 -- no call of the disk
 pub stores_nothing : {D : Type 0} (g : disk.Ghosts D) (d : D) (m : Meta) (n : ℕ) → Backs g d m → ((c : List ℕ) → g.left_since d (g.moment d) c → g.may_leave d c) → StoresOrKeeps g d d m n
 stores_nothing g d m n backs only_now = record {

@@ -40,12 +40,10 @@ some_mapped to None y is = cc
 some_mapped to (Some x) y is = (x, refl, cc)
 
 there : {X : Type 0} (o : Option X) → IsSome o → (x : X) × (o ≡ Some x)
-there None some = cc
-there (Some x) some = (x, refl)
+there o some = grind arith
 
 inode_at : (ino : ℕ) (o : Option FileKey) → ((k : FileKey) → o ≡ Some k → k.ino ≡ ino) → (unwrap_or o (record { ino = ino; igen = 0 })).ino ≡ ino
-inode_at ino None is = refl
-inode_at ino (Some k) is = is k refl
+inode_at ino o is = grind (arith, is)
 
 -- where the entry of a live file is, and its parts
 pub record IsLive (t : Table) (ps : List FileParts) (k : FileKey) (f : CatalogFile) : Type 0 where
@@ -152,16 +150,7 @@ module _ (s : Inside) (v : Catalog) (is : catalog_held s.geometry s.table s.part
 
   pub after : (t' : Table) (ps' : List FileParts) (w : Catalog) (total' stubs' used' : ℕ) → catalog_held s.geometry t' ps' ≡ w → t'.limit ≡ s.table.limit → length ps' ≡ length s.parts.items → IsCatalog w → total' ≡ attribute_total w.files → stubs' ≡ stub_total w.files
       → used' ≡ length (blocks_of w.files) → IsCounted s.geometry t' ps' total' stubs' used'
-  after t' ps' w total' stubs' used' held limit len good bytes entries blocks = (
-    record {
-      limit = limit ∙ i.0.limit;
-      count = len ∙ i.0.count;
-      counted = bytes ∙ ap (λ (c : Catalog). attribute_total c.files) (sym held);
-      stubbed = entries ∙ ap (λ (c : Catalog). stub_total c.files) (sym held);
-      catalog = subst IsCatalog (sym held) good;
-    },
-    blocks ∙ ap (λ (c : Catalog). length (blocks_of c.files)) (sym held),
-  )
+  after t' ps' w total' stubs' used' held limit len good bytes entries blocks = (record { limit = limit ∙ i.0.limit; count = len ∙ i.0.count; counted = grind arith; stubbed = grind arith; catalog = subst IsCatalog (sym held) good }, grind arith)
 
   module _ (key : FileKey) (name : List ℕ) (size : ℕ) (x : FileParts) (low : 1 ≤ key.ino) (high : key.ino ≤ (geometry_of v.geometry).files) (free : has_inode key.ino (names_of v.files) ≡ false) where
     pub put-held : catalog_held s.geometry (with_entry (entry_of key name size) s.table) (set s.parts.items (key.ino - 1) x) ≡ with_put (file_of key name size x) v
@@ -189,11 +178,11 @@ module _ (s : Inside) (v : Catalog) (is : catalog_held s.geometry s.table s.part
 -- ---- a part of the file that a key has, if it has one
 
 pub part_none : {X : Type 0} (g : CatalogFile → X) (o : Option CatalogFile) → None ≡ option_map parts_of o → None ≡ option_map g o
-part_none g None is = refl
-part_none g (Some f) is = cc
+part_none g o is = grind arith
 
 pub part_some : {X : Type 0} (g : FileParts → X) (o : Option CatalogFile) (p : FileParts) → Some p ≡ option_map parts_of o → Some (g p) ≡ option_map (λ f. g (parts_of f)) o
-part_some g None p is = cc
-part_some g (Some f) p is = grind arith
+part_some g o p is = grind arith
 
 pub ruleset table_held = (table-held)
+
+pub ruleset put_steps = (names_of-held, geometry-bounded, few-stubs)

@@ -3,6 +3,7 @@ use Rattle.std.proofs.lemmas.List.Sums.{sum_by-cons, sum_by-append}
 use Rattle.std.proofs.lemmas.List.Folds.{fold-map}
 use Rattle.std.proofs.Common.{◌≡◌, ℕ, ◌+◌, ◌-◌, ◌≤◌, List, [], ◌∷◌, ◌++◌, length, map, true, Result, Err, leb, refl, ap, sym, ◌∙◌, arith}
 use Rattle.std.specs.List.{AllByRecursion}
+use Rattle.std.specs.Result.{IsErrAnd}
 use Rattle.std.proofs.lemmas.List.{map-append}
 use Rattle.std.proofs.lemmas.List.Concat.{flat_map-append}
 use Rattle.hsm_types.specs.declared.stores.Geometry.{Geometry}
@@ -66,9 +67,9 @@ pub not-next : (geometry : Geometry) (next : ℕ) (before : List SnapshotFile) (
     → (AreLawfulStubs f.size f.kept.regions (places_by f) f.kept.stubs → length f.kept.stubs ≤ geometry.stubs - total → ⊥) → IsNext geometry next before f → ⊥
 not-next geometry next before f total counted refused is = let judged = is.judged in refused is.stubs (grind (arith, counted))
 
--- one error, told twice
-pub same_err : {T E : Type 0} (r : Result T E) (e why from : E) → r ≡ Err e → r ≡ Err why → e ≡ from → from ≡ why
-same_err r e why from a b is = cc
+-- the error of a part is the one that is told
+pub told_err : {T U E : Type 0} (r : Result T E) (from why : E) → IsErrAnd r (λ e. e ≡ from) → r ≡ Err why → ◌≡◌ {A = Result U E} (Err from) (Err why)
+told_err r from why and is = grind arith
 
 -- what the judgement tells
 pub follows : (geometry : Geometry) (next : ℕ) (before : List SnapshotFile) (f : SnapshotFile) → can_follow geometry next before f ≡ true → Follows geometry next before f

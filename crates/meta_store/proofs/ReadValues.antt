@@ -7,21 +7,12 @@ use Rattle.meta_store.specs.Reading.{◌>>=◌, several}
 abbrev pub with_front : {A : Type 0} → List A → Option (List A × List ℕ) → Option (List A × List ℕ)
 with_front front read = read >>= λ x. Some (front ++ x.0, x.1)
 
-behind : {A : Type 0} (front : List A) (n : A) (read : Option (List A × List ℕ)) → with_front front (read >>= λ x. Some (n ∷ x.0, x.1)) ≡ with_front (front ++ n ∷ []) read
-behind {A} front n (Some x) = ap (λ (ns : List A). Some (ns, x.1)) (simp append_assoc)
-behind front n None = refl
-
-first : {A : Type 0} (front : List A) (read : Option (A × List ℕ)) (others : List ℕ → Option (List A × List ℕ))
-    → with_front front (read >>= λ x. others x.1 >>= λ y. Some (x.0 ∷ y.0, y.1)) ≡ (read >>= λ x. with_front (front ++ x.0 ∷ []) (others x.1))
-first front (Some x) others = behind front x.0 (others x.1)
-first front None others = refl
-
 pub several_more : {A : Type 0} (front : List A) (reader : List ℕ → Option (A × List ℕ)) (count i : ℕ) (bytes : List ℕ) → i < count
     → with_front front (several reader (count - i) bytes) ≡ (reader bytes >>= λ x. with_front (front ++ x.0 ∷ []) (several reader (count - (i + 1)) x.1))
 unfolding several
 several_more front reader count i bytes lt =
     let k : count - i ≡ suc (count - (i + 1)) = omega arith in
-    rw k (first front (reader bytes) (several reader (count - (i + 1))))
+    rw k (grind (arith, append_assoc))
 
 pub several_done : {A : Type 0} (front : List A) (reader : List ℕ → Option (A × List ℕ)) (count i : ℕ) (bytes : List ℕ) → count ≤ i → with_front front (several reader (count - i) bytes) ≡ Some (front, bytes)
 unfolding several

@@ -166,6 +166,7 @@ impl Catalog {
     }
 
     /// Adds a file as a snapshot or a record has it. At an `Err` nothing has changed.
+    #[tactic(auto, using(crate::proofs::HeldCatalogs::put_steps))]
     pub(crate) fn put(
         &mut self,
         alloc: Global,

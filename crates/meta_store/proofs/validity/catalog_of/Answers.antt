@@ -10,7 +10,7 @@ use Rattle.meta_store.specs.declared.snapshot.RawSnapshot.{RawSnapshot}
 use Rattle.meta_store.specs.Catalogs.{Catalog, IsCatalog, AreLengths, geometry_of}
 use Rattle.meta_store.specs.Validity.{listed_in, names_in, last_inode, IsNext}
 use Rattle.meta_store.proofs.StandOnce.{last_inode-push}
-use Rattle.meta_store.proofs.PassingFiles.{passes, same_err}
+use Rattle.meta_store.proofs.PassingFiles.{passes, told_err}
 use Rattle.meta_store.proofs.validity.catalog_of.Goals as goal
 
 -- ---- what a snapshot that was read says
@@ -43,10 +43,7 @@ pub returns-in_err-take_in-clause-corrupt : goal.returns-in_err-take_in-clause-c
 returns-in_err-take_in-clause-corrupt c = λ is n d kind small valid long same.
     let cut = sym (ap (λ (fs : List RawFile). c.loop-file.yielded ++ fs) c.in-Some.ensures.steps.0) ∙ c.loop-file.invariant.walked in
     let passes = each-passes c.args.snapshot n d c.loop-file.yielded c.in-Some.file (into_iter_items c.next.new.self) valid long same cut in
-    let p = err_from_is_err_and c.from_residual-in_err-take_in.result c.from_residual-in_err-take_in.ensures.1 in
-    let why : c.in_err-take_in.field-0.0 ≡ Corrupt = same_err c.from_residual-in_err-take_in.result p.0 Corrupt c.in_err-take_in.field-0.0 p.1 is p.2 in
-    let fails = c.in_err-take_in.ensures.corrupt (ap (λ (e : ReadRefusal). Err e) why) in
-    fails (rw (kind, ← c.geometry_of-limits.ensures, ← c.loop-file.invariant.taken.taken) at passes)
+    c.in_err-take_in.ensures.corrupt (told_err c.from_residual-in_err-take_in.result c.in_err-take_in.field-0.0 Corrupt c.from_residual-in_err-take_in.ensures.1 is) (rw (kind, ← c.geometry_of-limits.ensures, ← c.loop-file.invariant.taken.taken) at passes)
 
 pub loop-file-preserved : goal.loop-file-preserved
 loop-file-preserved c =

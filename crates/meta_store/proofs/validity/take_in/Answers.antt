@@ -6,7 +6,7 @@ use Rattle.meta_store.specs.declared.snapshot.ReadRefusal.TheVariants.{Corrupt}
 use Rattle.meta_store.specs.Snapshots.{raw_file, snapshot_file}
 use Rattle.meta_store.proofs.SpreadPlaces.{extents-tell}
 use Rattle.meta_store.proofs.StandOnce.{absent}
-use Rattle.meta_store.proofs.PassingFiles.{names_in-snapshot, stub_total_in-snapshot, not-next, same_err}
+use Rattle.meta_store.proofs.PassingFiles.{names_in-snapshot, stub_total_in-snapshot, not-next, told_err}
 use Rattle.meta_store.proofs.TakenFiles.{is-above, within, flags-tell, is-lawful, once-each, taken-more}
 use Rattle.meta_store.proofs.validity.take_in.Goals as goal
 use Rattle.meta_store.proofs.validity.take_in.Goals.{then-not-can_follow-via-then-not-can_follow, then-not-can_follow-via-else-not-can_follow+then-not-claim}
@@ -17,10 +17,8 @@ claim-requires c = rw c.as_slice.ensures.value (within c.requires.taken c.if-not
 pub returns-then-not-can_follow-clause-corrupt : goal.returns-then-not-can_follow-clause-corrupt
 returns-then-not-can_follow-clause-corrupt c = λ is next.
     let judged = next.judged in
-    let before = map snapshot_file c.args.catalog.now.files in
-    let file = raw_file c.args.file in
     elim c.then-not-can_follow.branch [
-      | then-not-can_follow-via-then-not-can_follow w ↦ let no = sym c.can_follow.ensures.judged ∙ w.if-not-can_follow.true in grind arith
+      | then-not-can_follow-via-then-not-can_follow w ↦ grind (arith, c.can_follow.ensures.judged, w.if-not-can_follow.true)
       | then-not-can_follow-via-else-not-can_follow+then-not-claim w ↦
           let free = flags-tell c.requires.taken w.if-not-can_follow.ensures.follows in
           let no = sym free.0 ∙ rw w.as_slice.ensures.value at (sym w.claim.ensures.free ∙ w.if-not-claim.true) in
@@ -32,12 +30,9 @@ of-requires-clause-blocks c = rw c.as_slice-2.ensures.value (extents-tell 0 (blo
 
 pub returns-in_err-stubs-clause-corrupt : goal.returns-in_err-stubs-clause-corrupt
 returns-in_err-stubs-clause-corrupt c = λ is next.
-    let p = err_from_is_err_and c.from_residual-in_err-stubs.result c.from_residual-in_err-stubs.ensures.1 in
-    let why : c.in_err-stubs.field-0.0 ≡ Corrupt = same_err c.from_residual-in_err-stubs.result p.0 Corrupt c.in_err-stubs.field-0.0 p.1 is p.2 in
     not-next c.args.limits c.args.next (map snapshot_file c.args.catalog.now.files) (raw_file c.args.file) c.stub_total.result (c.stub_total.ensures ∙ stub_total_in-snapshot c.args.catalog.now.files) (λ are few.
-    c.in_err-stubs.ensures.corrupt (ap (λ (e : ReadRefusal). Err e) why)
-    (rw (c.in_ok-places.ensures, c.as_slice-2.ensures.value, c.in_ok-regions.ensures.ok, c.as_slice-entries.ensures.value) are) (rw c.as_slice-entries.ensures.value few))
-    next
+    c.in_err-stubs.ensures.corrupt (told_err c.from_residual-in_err-stubs.result c.in_err-stubs.field-0.0 Corrupt c.from_residual-in_err-stubs.ensures.1 is)
+    (rw (c.in_ok-places.ensures, c.as_slice-2.ensures.value, c.in_ok-regions.ensures.ok, c.as_slice-entries.ensures.value) are) (rw c.as_slice-entries.ensures.value few)) next
 
 pub put-requires-clause-inode : goal.put-requires-clause-inode
 put-requires-clause-inode c = absent 0 c.args.file.key.ino _ c.geometry-geometry.ensures.valid.table.ascend (is-above c.requires.taken c.if-not-can_follow.ensures.follows)

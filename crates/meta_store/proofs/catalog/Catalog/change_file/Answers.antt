@@ -24,149 +24,143 @@ use Rattle.meta_store.proofs.FilesAfter.{stood, fits, file-after}
 use Rattle.meta_store.proofs.HeldFiles.{held-change}
 use Rattle.meta_store.proofs.StubsAfter.{room-after}
 use Rattle.meta_store.proofs.KeptCatalogs.{IsCatalog-after}
+use Rattle.meta_store.proofs.catalog.Catalog.change_file.Goals.{After-index_mut-parts}
 use Rattle.meta_store.proofs.catalog.Catalog.change_file.Goals as goal
 
--- ---- a catalog in memory, after a record about one of its files
+-- what is known of the file that a record is about, and of its parts, once they are lent
+record IsLent (s : Inside) (v : Catalog) (r : Record) (k : FileKey) (place old : ℕ) (x : FileParts) (rest : Others) (limits : Geometry) : Type 0 where
+  view : catalog_held s.geometry s.table s.parts.items ≡ v
+  held : IsCounted s.geometry s.table s.parts.items s.attribute_total s.stub_total s.used
+  key : k ≡ key_on (inode_of r) v
+  file : CatalogFile
+  found : find_key (λ g. g.key) (key_on (inode_of r) v) v.files ≡ Some file
+  stands : CanStandOn r file v
+  live : IsLive s.table s.parts.items k file
+  size : file.size ≡ old
+  here : place ≡ k.ino - 1
+  same : x ≡ parts_of file
+  others : rest ≡ others_of (key_on (inode_of r) v) v
+  bound : limits ≡ geometry_of v.geometry
 
-module _ (s : Inside) (v : Catalog) (is : catalog_held s.geometry s.table s.parts.items ≡ v) (i : IsCounted s.geometry s.table s.parts.items s.attribute_total s.stub_total s.used) (r : Record) (about : IsAboutOne r) (stands : CanStand r v) (k : FileKey) (is-key : k ≡ key_on (inode_of r) v) where
-  abbrev one : (f : CatalogFile) × (find_key (λ g. g.key) (key_on (inode_of r) v) v.files ≡ Some f) × CanStandOn r f v
-  one = stood r v about stands
+module _ {s : Inside} {v : Catalog} {r : Record} {k : FileKey} {place old : ℕ} {x : FileParts} {rest : Others} {limits : Geometry} (t : IsLent s v r k place old x rest limits) where
+  lawful-file : IsCatalogFile (geometry_of v.geometry).blocks t.file
+  lawful-file = each-found (IsCatalogFile (geometry_of v.geometry).blocks) (key_on (inode_of r) v) t.file v.files (lawful s v t.view t.held).each t.found
 
-  abbrev file : CatalogFile
-  file = one.0
+  room : (rest.attributes + bytes_of_attributes x.attributes ≤ limits.attributes) × (rest.stubs + length x.stubs ≤ limits.stubs) × (limits.attributes ≤ 1048576) × (limits.stubs ≤ 65536) × (length (blocks_of (without_file (key_on (inode_of r) v) v).files) ≤ 65536)
+  room =
+      let sums = others s v t.view t.held (key_on (inode_of r) v) t.file t.found in
+      let most = bounded s v t.view t.held in
+      let stubs = stubs-bounded s v t.view t.held in
+      rw (t.others, t.same, t.bound) (omega arith, omega arith, most.1, stubs.1, omega arith)
 
-  found : find_key (λ g. g.key) k v.files ≡ Some file
-  found = rw is-key one.1
+  refusal : refusal_of r v ≡ part_refusal r rest limits (kept_in x)
+  refusal = rw (t.bound, t.others, t.same, t.found) refl
 
-  there : IsLive s.table s.parts.items k file
-  there = live s v is i k file found
+  -- the parts and the size after it
+  module _ (new : FileParts) (size : ℕ) (taken : new ≡ parts_after r x) (sized : (f : CatalogFile) → f.size ≡ old → size ≡ (file_after r f).size) where
+    changed : file_after r t.file ≡ file_of t.file.key t.file.name size new
+    changed = file-after r t.file new size (taken ∙ ap (parts_after r) t.same) (sized t.file t.size)
 
-  size-is : (o : Option ℕ) (n : ℕ) → o ≡ option_map (λ e. e.size) (find_key (λ e. e.key) k s.table.files) → o ≡ Some n → file.size ≡ n
-  size-is o n sized taken = let here : o ≡ Some file.size = rw there.entry at sized in cc
+    stubs-few : part_refusal r rest limits (kept_in x) ≡ None → rest.stubs + length new.stubs ≤ limits.stubs
+    stubs-few none = rw taken (room-after r x rest limits (rw t.same lawful-file.ascend) none room.1)
 
-  limits-are : geometry_of s.geometry ≡ geometry_of v.geometry
-  limits-are = ap (λ (c : Catalog). geometry_of c.geometry) is
+    abbrev resized : Table
+    resized = record s.table { files = change_key (λ e. e.key) k (λ e. record e { size = size }) s.table.files }
 
-  rest-few : (others_total (key_on (inode_of r) v) v ≤ (geometry_of s.geometry).attributes) × (others_stubs (key_on (inode_of r) v) v ≤ (geometry_of s.geometry).stubs) × (length (blocks_of (without_file (key_on (inode_of r) v) v).files) ≤ s.used)
-  rest-few =
-      let sums = others s v is i (key_on (inode_of r) v) file one.1 in
-      (omega (arith, (bounded s v is i).1, sums.0, ap (λ (g : Geometry). g.attributes) limits-are), omega (arith, (stubs-bounded s v is i).0, sums.1, ap (λ (g : Geometry). g.stubs) limits-are), omega (arith, sums.2))
+    new-held : catalog_held s.geometry resized (set s.parts.items place new) ≡ with_changed (key_on (inode_of r) v) (file_after r) v
+    new-held =
+        let order = table s v t.view t.held in
+        let files = held-change s.parts.items 1 (geometry_of s.geometry).files s.table.next k (file_after r) (entry_of t.file.key t.file.name t.file.size) new size s.table.files (omega arith) (omega (arith, t.held.0.count)) order.ascend order.within t.live.entry (ap (file_after r) (held-live s.table s.parts.items k t.file t.live) ∙ changed) in
+        rw t.here (ap (λ (fs : List CatalogFile). record { geometry = s.geometry; next = s.table.next; files = fs }) files ∙ ap (λ (c : Catalog). with_changed k (file_after r) c) t.view ∙ ap (λ (j : FileKey). with_changed j (file_after r) v) t.key)
 
-  -- the parts that are read at its inode
-  module _ (place : ℕ) (x : FileParts) (here : place ≡ k.ino - 1) (read : x ≡ get_or s.parts.items place x) where
-    same : x ≡ parts_of file
-    same = read-live s.table s.parts.items k file there place x here read
+    new-counted : (total' stubs' used' : ℕ) → part_refusal r rest limits (kept_in x) ≡ None → IsNumbered r → IsStrictlySortedBy nat_cmp (keys_of new.stubs) → rest.attributes + bytes_of_attributes new.attributes ≤ limits.attributes → IsLawfulKept (kept_in new)
+        → total' ≡ rest.attributes + bytes_of_attributes new.attributes → stubs' ≡ rest.stubs + length new.stubs → used' ≡ length (blocks_of (without_file (key_on (inode_of r) v) v).files) + length (present new.places)
+        → IsCounted s.geometry resized (set s.parts.items place new) total' stubs' used'
+    new-counted total' stubs' used' none numbers sorted few kept bytes entries blocks =
+        let key = key_on (inode_of r) v in
+        let w : Catalog = with_changed key (file_after r) v in
+        let all-bytes : total' ≡ attribute_total w.files = grind (arith, sum-change count_of key (file_after r) t.file v.files t.found, sum-drop count_of key t.file v.files t.found, changed, t.others) in
+        let all-stubs : stubs' ≡ stub_total w.files = grind (arith, sum-change stubs_of key (file_after r) t.file v.files t.found, sum-drop stubs_of key t.file v.files t.found, changed, t.others) in
+        let all-blocks : used' ≡ length (blocks_of w.files) = omega (arith, sum-change mapped_of key (file_after r) t.file v.files t.found, sum-drop mapped_of key t.file v.files t.found, used-sum (without_file key v).files, used-sum w.files, ap mapped_of changed) in
+        let good = IsCatalog-after r key t.file v rest limits (lawful s v t.view t.held) t.found (record { stands = t.stands; judged = rw t.same at none; numbers = numbers; kept = rw changed kept; ascend = rw changed sorted }) (rw (← all-bytes, bytes, ← t.bound) few) (rw (← all-stubs, entries, ← t.bound) (stubs-few none)) in
+        after s v t.view t.held resized (set s.parts.items place new) w total' stubs' used' new-held refl (length-set s.parts.items place new) good all-bytes all-stubs all-blocks
 
-    fits-parts : FitsParts r x
-    fits-parts = subst (FitsParts r) (sym same) (fits r file v one.2)
+-- the file, where its key is known
+file-at : (s : Inside) (v : Catalog) (is : catalog_held s.geometry s.table s.parts.items ≡ v) (i : IsCounted s.geometry s.table s.parts.items s.attribute_total s.stub_total s.used) (r : Record) (about : IsAboutOne r) (stands : CanStand r v) (k : FileKey) → k ≡ key_on (inode_of r) v
+    → (f : CatalogFile) × (find_key (λ g. g.key) (key_on (inode_of r) v) v.files ≡ Some f) × CanStandOn r f v × IsLive s.table s.parts.items k f
+file-at s v is i r about stands k key = let one = stood r v about stands in (one.0, one.1, one.2, live s v is i k one.0 (rw key one.1))
 
-    old-file : IsCatalogFile (geometry_of v.geometry).blocks file
-    old-file = each-found (IsCatalogFile (geometry_of v.geometry).blocks) (key_on (inode_of r) v) file v.files (lawful s v is i).each one.1
-
-    old-kept : IsLawfulKept (kept_in x)
-    old-kept = rw same old-file.kept
-
-    module _ (rest : Others) (limits : Geometry) (sum : rest ≡ others_of (key_on (inode_of r) v) v) (bound : limits ≡ geometry_of s.geometry) where
-      refusal : refusal_of r v ≡ part_refusal r rest limits (kept_in x)
-      refusal = rw (bound, limits-are, sum, same, one.1) refl
-
-      room : rest.attributes + bytes_of_attributes x.attributes ≤ limits.attributes
-      room =
-          let sums = others s v is i (key_on (inode_of r) v) file one.1 in
-          omega (arith, (bounded s v is i).0, sums.0, ap (λ (o : Others). o.attributes) sum, ap (λ (g : Geometry). g.attributes) bound, ap (λ (g : Geometry). g.attributes) limits-are, ap (λ (p : FileParts). bytes_of_attributes p.attributes) same)
-
-      stub-room : rest.stubs + length x.stubs ≤ limits.stubs
-      stub-room =
-          let sums = others s v is i (key_on (inode_of r) v) file one.1 in
-          omega (arith, (stubs-bounded s v is i).0, sums.1, ap (λ (o : Others). o.stubs) sum, ap (λ (g : Geometry). g.stubs) bound, ap (λ (g : Geometry). g.stubs) limits-are, ap (λ (p : FileParts). length p.stubs) same)
-
-      -- the parts and the size after it
-      module _ (new : FileParts) (size : ℕ) (taken : new ≡ parts_after r x) (sized : size ≡ (file_after r file).size) where
-        changed : file_after r file ≡ file_of file.key file.name size new
-        changed = file-after r file new size (taken ∙ ap (parts_after r) same) sized
-
-        stubs-few : part_refusal r rest limits (kept_in x) ≡ None → rest.stubs + length new.stubs ≤ limits.stubs
-        stubs-few none = rw taken (room-after r x rest limits (rw same old-file.ascend) none stub-room)
-
-        abbrev resized : Table
-        resized = record s.table { files = change_key (λ e. e.key) k (λ e. record e { size = size }) s.table.files }
-
-        new-held : catalog_held s.geometry resized (set s.parts.items place new) ≡ with_changed (key_on (inode_of r) v) (file_after r) v
-        new-held =
-            let e : FileEntry = entry_of file.key file.name file.size in
-            let files = held-change s.parts.items 1 (geometry_of s.geometry).files s.table.next k (file_after r) e new size s.table.files (omega arith) (omega (arith, i.0.count)) (table s v is i).ascend (table s v is i).within there.entry (ap (file_after r) (held-live s.table s.parts.items k file there) ∙ changed) in
-            rw here (ap (λ (fs : List CatalogFile). record { geometry = s.geometry; next = s.table.next; files = fs }) files ∙ ap (λ (c : Catalog). with_changed k (file_after r) c) is ∙ ap (λ (j : FileKey). with_changed j (file_after r) v) is-key)
-
-        new-counted : (total' stubs' used' : ℕ) → part_refusal r rest limits (kept_in x) ≡ None → IsNumbered r → IsStrictlySortedBy nat_cmp (keys_of new.stubs) → rest.attributes + bytes_of_attributes new.attributes ≤ limits.attributes → IsLawfulKept (kept_in new)
-            → total' ≡ rest.attributes + bytes_of_attributes new.attributes → stubs' ≡ rest.stubs + length new.stubs → used' ≡ length (blocks_of (without_file (key_on (inode_of r) v) v).files) + length (present new.places)
-            → IsCounted s.geometry resized (set s.parts.items place new) total' stubs' used'
-        new-counted total' stubs' used' none numbers sorted few kept bytes entries blocks =
-            let key = key_on (inode_of r) v in
-            let w : Catalog = with_changed key (file_after r) v in
-            let all-bytes : total' ≡ attribute_total w.files = omega (arith, sum-change count_of key (file_after r) file v.files one.1, sum-drop count_of key file v.files one.1, ap count_of changed, ap (λ (o : Others). o.attributes) sum) in
-            let all-stubs : stubs' ≡ stub_total w.files = omega (arith, sum-change stubs_of key (file_after r) file v.files one.1, sum-drop stubs_of key file v.files one.1, ap stubs_of changed, ap (λ (o : Others). o.stubs) sum) in
-            let all-blocks : used' ≡ length (blocks_of w.files) =
-            omega (arith, sum-change mapped_of key (file_after r) file v.files one.1, sum-drop mapped_of key file v.files one.1, used-sum (without_file key v).files, used-sum w.files, ap mapped_of changed) in
-            let most : limits ≡ geometry_of v.geometry = bound ∙ limits-are in
-            let good = IsCatalog-after r key file v rest limits (lawful s v is i) one.1 (record { stands = one.2; judged = rw same at none; numbers = numbers; kept = rw changed kept; ascend = rw changed sorted }) (omega (arith, few, all-bytes, ap (λ (g : Geometry). g.attributes) most)) (omega (arith, stubs-few none, all-stubs, ap (λ (g : Geometry). g.stubs) most)) in
-            after s v is i resized (set s.parts.items place new) w total' stubs' used' new-held refl (length-set s.parts.items place new) good all-bytes all-stubs all-blocks
+lent : (c : After-index_mut-parts) → IsLent c.self.inside c.args.self.now c.args.change c.others-blocks.result.0 c.slot.result c.unwrap.result c.index_mut-parts.result.now c.others-blocks.result.1 c.geometry_of-limits.result
+lent c =
+    let key = rw c.ino.ensures at c.others-blocks.ensures.key in
+    let f = file-at c.self.inside _ c.self.view_is c.self.invariant c.args.change c.requires.about c.requires.stands c.others-blocks.result.0 key in
+    record {
+      view = c.self.view_is;
+      held = c.self.invariant;
+      key = key;
+      file = f.0;
+      found = f.1;
+      stands = f.2;
+      live = f.3;
+      size = let at = rw f.3.entry at c.size.ensures in let taken = c.unwrap.ensures in cc;
+      here = c.slot.ensures;
+      same = read-live _ _ _ f.0 f.3 c.slot.result c.index_mut-parts.result.now c.slot.ensures c.index_mut-parts.ensures.value;
+      others = rw c.ino.ensures at c.others-blocks.ensures.others;
+      bound = c.geometry_of-limits.ensures ∙ ap (λ (x : Catalog). geometry_of x.geometry) c.self.view_is;
+    }
 
 -- ---- the goals
 
 pub unwrap-requires : goal.unwrap-requires
-unwrap-requires c = rw (c.size.ensures, (there c.self.inside _ c.self.view_is c.self.invariant c.args.change c.requires.about c.requires.stands c.others-blocks.result.0 (rw c.ino.ensures at c.others-blocks.ensures.key)).entry) refl
+unwrap-requires c = rw (c.size.ensures, (file-at c.self.inside _ c.self.view_is c.self.invariant c.args.change c.requires.about c.requires.stands c.others-blocks.result.0 (rw c.ino.ensures at c.others-blocks.ensures.key)).3.entry) refl
 
 pub index_mut-parts-requires : goal.index_mut-parts-requires
 index_mut-parts-requires c =
-    let one = there c.self.inside _ c.self.view_is c.self.invariant c.args.change c.requires.about c.requires.stands c.others-blocks.result.0 (rw c.ino.ensures at c.others-blocks.ensures.key) in
-    omega (arith, one.low, one.high, c.slot.ensures)
+    let f = file-at c.self.inside _ c.self.view_is c.self.invariant c.args.change c.requires.about c.requires.stands c.others-blocks.result.0 (rw c.ino.ensures at c.others-blocks.ensures.key) in
+    omega (arith, f.3.low, f.3.high, c.slot.ensures)
 
 pub apply-requires-clause-fits : goal.apply-requires-clause-fits
-apply-requires-clause-fits c = fits-parts c.self.inside _ c.self.view_is c.self.invariant c.args.change c.requires.about c.requires.stands c.others-blocks.result.0 (rw c.ino.ensures at c.others-blocks.ensures.key) c.slot.result c.index_mut-parts.result.now c.slot.ensures c.index_mut-parts.ensures.value
+apply-requires-clause-fits c = let t = lent (goal.at.apply-requires-clause-fits c).After-index_mut-parts in rw t.same (fits c.args.change t.file _ t.stands)
 
 pub apply-requires-clause-attributes : goal.apply-requires-clause-attributes
-apply-requires-clause-attributes c =
-    omega (arith, ap (λ (o : Others). o.attributes) (rw c.ino.ensures at c.others-blocks.ensures.others), (rest-few c.self.inside _ c.self.view_is c.self.invariant c.args.change c.requires.about c.requires.stands c.others-blocks.result.0 (rw c.ino.ensures at c.others-blocks.ensures.key)).0, ap (λ (g : Geometry). g.attributes) c.geometry_of-limits.ensures)
+apply-requires-clause-attributes c = omega (arith, (room (lent (goal.at.apply-requires-clause-attributes c).After-index_mut-parts)).0)
 
 pub apply-requires-clause-stubs : goal.apply-requires-clause-stubs
-apply-requires-clause-stubs c =
-    omega (arith, ap (λ (o : Others). o.stubs) (rw c.ino.ensures at c.others-blocks.ensures.others), (rest-few c.self.inside _ c.self.view_is c.self.invariant c.args.change c.requires.about c.requires.stands c.others-blocks.result.0 (rw c.ino.ensures at c.others-blocks.ensures.key)).1, ap (λ (g : Geometry). g.stubs) c.geometry_of-limits.ensures)
+apply-requires-clause-stubs c = omega (arith, (room (lent (goal.at.apply-requires-clause-stubs c).After-index_mut-parts)).1)
 
 pub returns-in_err-apply-clause-refused : goal.returns-in_err-apply-clause-refused
 returns-in_err-apply-clause-refused c =
     let p = err_from_is_err_and c.from_residual.result c.from_residual.ensures.1 in
-    rw (p.1, p.2, refusal c.self.inside _ c.self.view_is c.self.invariant c.args.change c.requires.about c.requires.stands c.others-blocks.result.0 (rw c.ino.ensures at c.others-blocks.ensures.key) c.slot.result c.index_mut-parts.result.now c.slot.ensures c.index_mut-parts.ensures.value c.others-blocks.result.1 c.geometry_of-limits.result (rw c.ino.ensures at c.others-blocks.ensures.others) c.geometry_of-limits.ensures) c.in_err-apply.ensures.refused
+    rw (p.1, p.2, refusal (lent (goal.at.returns-in_err-apply-clause-refused c).After-index_mut-parts)) c.in_err-apply.ensures.refused
 
 pub overflow_add-self : goal.overflow_add-self
-overflow_add-self c =
-    let few = c.in_ok-apply.ensures.within (room c.self.inside _ c.self.view_is c.self.invariant c.args.change c.requires.about c.requires.stands c.others-blocks.result.0 (rw c.ino.ensures at c.others-blocks.ensures.key) c.slot.result c.index_mut-parts.result.now c.slot.ensures c.index_mut-parts.ensures.value c.others-blocks.result.1 c.geometry_of-limits.result (rw c.ino.ensures at c.others-blocks.ensures.others) c.geometry_of-limits.ensures) in
-    omega (arith, (bounded c.self.inside _ c.self.view_is c.self.invariant).1, few, c.bytes.ensures.count, ap (λ (g : Geometry). g.attributes) (c.geometry_of-limits.ensures ∙ ap (λ (x : Catalog). geometry_of x.geometry) c.self.view_is))
+overflow_add-self c = let few = room (lent (goal.at.overflow_add-self c).After-index_mut-parts) in omega (arith, few.0, few.2, c.in_ok-apply.ensures.within few.0, c.bytes.ensures.count)
 
 pub overflow_add-self-2 : goal.overflow_add-self-2
 overflow_add-self-2 c =
-    let few = stubs-few c.self.inside _ c.self.view_is c.self.invariant c.args.change c.requires.about c.requires.stands c.others-blocks.result.0 (rw c.ino.ensures at c.others-blocks.ensures.key) c.slot.result c.index_mut-parts.result.now c.slot.ensures c.index_mut-parts.ensures.value c.others-blocks.result.1 c.geometry_of-limits.result (rw c.ino.ensures at c.others-blocks.ensures.others) c.geometry_of-limits.ensures c.apply.new.self c.size_after-size.result c.in_ok-apply.ensures.taken (c.size_after-size.ensures _ (size-is c.self.inside _ c.self.view_is c.self.invariant c.args.change c.requires.about c.requires.stands c.others-blocks.result.0 (rw c.ino.ensures at c.others-blocks.ensures.key) c.size.result c.unwrap.result c.size.ensures c.unwrap.ensures)) c.in_ok-apply.ensures.judged in
-    omega (arith, (stubs-bounded c.self.inside _ c.self.view_is c.self.invariant).1, few, c.len.ensures.count, ap (λ (g : Geometry). g.stubs) (c.geometry_of-limits.ensures ∙ ap (λ (x : Catalog). geometry_of x.geometry) c.self.view_is))
+    let t = lent (goal.at.overflow_add-self-2 c).After-index_mut-parts in
+    omega (arith, (room t).3, stubs-few t c.apply.new.self c.size_after-size.result c.in_ok-apply.ensures.taken c.size_after-size.ensures c.in_ok-apply.ensures.judged, c.len.ensures.count)
 
 pub overflow_add-self-3 : goal.overflow_add-self-3
-overflow_add-self-3 c =
-    omega (arith, (bounded c.self.inside _ c.self.view_is c.self.invariant).2, c.from.ensures, rw c.ino.ensures at c.others-blocks.ensures.used, (rest-few c.self.inside _ c.self.view_is c.self.invariant c.args.change c.requires.about c.requires.stands c.others-blocks.result.0 (rw c.ino.ensures at c.others-blocks.ensures.key)).2)
+overflow_add-self-3 c = omega (arith, (room (lent (goal.at.overflow_add-self-3 c).After-index_mut-parts)).4, c.from.ensures, rw c.ino.ensures at c.others-blocks.ensures.used)
 
 pub invariant_of-self-2 : goal.invariant_of-self-2
 invariant_of-self-2 c =
+    let t = lent (goal.at.invariant_of-self-2 c).After-index_mut-parts in
     let used = rw c.ino.ensures at c.others-blocks.ensures.used in
     rw c.set_size.ensures
-    (new-counted c.self.inside _ c.self.view_is c.self.invariant c.args.change c.requires.about c.requires.stands c.others-blocks.result.0 (rw c.ino.ensures at c.others-blocks.ensures.key) c.slot.result c.index_mut-parts.result.now c.slot.ensures c.index_mut-parts.ensures.value c.others-blocks.result.1 c.geometry_of-limits.result (rw c.ino.ensures at c.others-blocks.ensures.others) c.geometry_of-limits.ensures c.apply.new.self c.size_after-size.result c.in_ok-apply.ensures.taken (c.size_after-size.ensures _ (size-is c.self.inside _ c.self.view_is c.self.invariant c.args.change c.requires.about c.requires.stands c.others-blocks.result.0 (rw c.ino.ensures at c.others-blocks.ensures.key) c.size.result c.unwrap.result c.size.ensures c.unwrap.ensures)) (c.others-blocks.result.1.attributes + c.bytes.result) (c.others-blocks.result.1.stubs + c.len.result) (c.others-blocks.result.2 + c.from.result)
-    c.in_ok-apply.ensures.judged c.in_ok-apply.ensures.numbers c.len.ensures.ascend
-    (c.in_ok-apply.ensures.within (room c.self.inside _ c.self.view_is c.self.invariant c.args.change c.requires.about c.requires.stands c.others-blocks.result.0 (rw c.ino.ensures at c.others-blocks.ensures.key) c.slot.result c.index_mut-parts.result.now c.slot.ensures c.index_mut-parts.ensures.value c.others-blocks.result.1 c.geometry_of-limits.result (rw c.ino.ensures at c.others-blocks.ensures.others) c.geometry_of-limits.ensures))
-    (let old = old-kept c.self.inside _ c.self.view_is c.self.invariant c.args.change c.requires.about c.requires.stands c.others-blocks.result.0 (rw c.ino.ensures at c.others-blocks.ensures.key) c.slot.result c.index_mut-parts.result.now c.slot.ensures c.index_mut-parts.ensures.value in record { regions = c.in_ok-apply.ensures.regions old.regions; attributes = c.bytes.ensures.attributes; eight = c.in_ok-apply.ensures.eight old.eight })
+    (new-counted t c.apply.new.self c.size_after-size.result c.in_ok-apply.ensures.taken c.size_after-size.ensures (c.others-blocks.result.1.attributes + c.bytes.result) (c.others-blocks.result.1.stubs + c.len.result) (c.others-blocks.result.2 + c.from.result)
+    c.in_ok-apply.ensures.judged c.in_ok-apply.ensures.numbers c.len.ensures.ascend (c.in_ok-apply.ensures.within (room t).0)
+    (record { regions = c.in_ok-apply.ensures.regions (rw t.same (lawful-file t).kept.regions); attributes = c.bytes.ensures.attributes; eight = c.in_ok-apply.ensures.eight (rw t.same (lawful-file t).kept.eight) })
     (omega (arith, c.bytes.ensures.count)) (omega (arith, c.len.ensures.count)) (omega (arith, c.from.ensures, c.mapped.ensures)))
 
 pub returns : goal.returns
 returns c =
-    let none : refusal_of c.args.change c.args.self.now ≡ None = refusal c.self.inside _ c.self.view_is c.self.invariant c.args.change c.requires.about c.requires.stands c.others-blocks.result.0 (rw c.ino.ensures at c.others-blocks.ensures.key) c.slot.result c.index_mut-parts.result.now c.slot.ensures c.index_mut-parts.ensures.value c.others-blocks.result.1 c.geometry_of-limits.result (rw c.ino.ensures at c.others-blocks.ensures.others) c.geometry_of-limits.ensures ∙ c.in_ok-apply.ensures.judged in
+    let t = lent (goal.at.returns c).After-index_mut-parts in
+    let none = refusal t ∙ c.in_ok-apply.ensures.judged in
     record {
       judged = none;
-      taken = rw c.set_size.ensures (new-held c.self.inside _ c.self.view_is c.self.invariant c.args.change c.requires.about c.requires.stands c.others-blocks.result.0 (rw c.ino.ensures at c.others-blocks.ensures.key) c.slot.result c.index_mut-parts.result.now c.slot.ensures c.index_mut-parts.ensures.value c.others-blocks.result.1 c.geometry_of-limits.result (rw c.ino.ensures at c.others-blocks.ensures.others) c.geometry_of-limits.ensures c.apply.new.self c.size_after-size.result c.in_ok-apply.ensures.taken (c.size_after-size.ensures _ (size-is c.self.inside _ c.self.view_is c.self.invariant c.args.change c.requires.about c.requires.stands c.others-blocks.result.0 (rw c.ino.ensures at c.others-blocks.ensures.key) c.size.result c.unwrap.result c.size.ensures c.unwrap.ensures)));
+      taken = rw c.set_size.ensures (new-held t c.apply.new.self c.size_after-size.result c.in_ok-apply.ensures.taken c.size_after-size.ensures);
       refused = λ why. (λ done. cc, λ some. cc);
       no_disk = λ is. cc;
       sure = λ is. refl;

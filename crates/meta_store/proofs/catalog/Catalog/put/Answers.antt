@@ -1,18 +1,6 @@
 use Rattle.std.proofs.Common.{◌+◌, arith}
-use Rattle.meta_store.proofs.HeldCatalogs.{names, counted, bounded, stubs-counted, stubs-bounded, put-held, put-counted}
+use Rattle.meta_store.proofs.HeldCatalogs.{bounded, put-held, put-counted}
 use Rattle.meta_store.proofs.catalog.Catalog.put.Goals as goal
-
-pub put-requires-clause-inode : goal.put-requires-clause-inode
-put-requires-clause-inode c = rw (names c.self.inside _ c.self.view_is c.self.invariant) at c.requires.inode
-
-pub put-requires-clause-name : goal.put-requires-clause-name
-put-requires-clause-name c = rw (names c.self.inside _ c.self.view_is c.self.invariant) at c.requires.name
-
-pub overflow_add-self : goal.overflow_add-self
-overflow_add-self c = omega (arith, (bounded c.self.inside _ c.self.view_is c.self.invariant).1, counted c.self.inside _ c.self.view_is c.self.invariant, c.requires.room, c.bytes.ensures.count)
-
-pub overflow_add-self-2 : goal.overflow_add-self-2
-overflow_add-self-2 c = omega (arith, stubs-bounded c.self.inside _ c.self.view_is c.self.invariant, stubs-counted c.self.inside _ c.self.view_is c.self.invariant, c.requires.stub_room, c.len.ensures.count)
 
 pub overflow_add-self-3 : goal.overflow_add-self-3
 overflow_add-self-3 c = omega (arith, (bounded c.self.inside _ c.self.view_is c.self.invariant).2, c.from.ensures)

@@ -4,7 +4,6 @@ use Rattle.std.specs.Vec.Iter.{into_iter_items}
 use Rattle.meta_store.specs.Records.{after_all, refusal_of_all}
 use Rattle.meta_store.specs.Catalogs.{AreLengths}
 use Rattle.meta_store.specs.Meta.{Meta}
-use Rattle.meta_store.proofs.CommitTurns.{meta_of}
 use Rattle.meta_store.proofs.AppliedRecords.{IsTaking, taking-stops, taking-judged, told_on}
 use Rattle.meta_store.proofs.store.MetaStore.apply.Given.{Over}
 use Rattle.meta_store.proofs.store.MetaStore.apply.Goals.{After-drop-record-iterator, After-geometry-geometry}
@@ -36,4 +35,4 @@ invariant_of-self-2 g c =
     rw c.loop-record.invariant.others (record { number = c.self.invariant.0.number; catalog = c.self.invariant.0.catalog; geometry = geometry ∙ c.self.invariant.0.geometry; lengths = c.self.invariant.0.lengths; now = now }, c.self.invariant.1 ∙ sym geometry)
 
 pub returns-clause-lawful : goal.returns-clause-lawful
-returns-clause-lawful g c = meta_of _ (invariant_of-self-2 g (goal.at.returns-clause-lawful g c).After-geometry-geometry).0 c.geometry-geometry.ensures.valid
+returns-clause-lawful g c = record { stored = (invariant_of-self-2 g (goal.at.returns-clause-lawful g c).After-geometry-geometry).0; current = c.geometry-geometry.ensures.valid }

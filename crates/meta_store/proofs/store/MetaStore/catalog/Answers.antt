@@ -1,7 +1,6 @@
 use Rattle.std.proofs.Common.{subst}
 use Rattle.meta_store.specs.Meta.{IsMeta}
-use Rattle.meta_store.proofs.CommitTurns.{meta_of}
 use Rattle.meta_store.proofs.store.MetaStore.catalog.Goals as goal
 
 pub returns-clause-lawful : goal.returns-clause-lawful
-returns-clause-lawful c = subst IsMeta c.self.view_is (meta_of _ c.self.invariant.0 c.geometry-geometry.ensures.valid)
+returns-clause-lawful c = rw (← c.self.view_is) (record { stored = c.self.invariant.0; current = c.geometry-geometry.ensures.valid })

@@ -1,14 +1,14 @@
 use Rattle.std.proofs.Common.{refl, sym, ◌∙◌, ap, subst}
 use Rattle.commit_slots.specs.Places.{other}
 use Rattle.meta_store.specs.Meta.{Meta, Backs}
-use Rattle.meta_store.proofs.CommitTurns.{meta_of, stores_nothing, HasSwitched, Commits, commits}
+use Rattle.meta_store.proofs.CommitTurns.{stores_nothing, HasSwitched, Commits, commits}
 use Rattle.meta_store.proofs.store.MetaStore.commit.Given.{Over}
 use Rattle.meta_store.proofs.store.MetaStore.commit.Goals.{After-store}
 use Rattle.meta_store.proofs.store.MetaStore.commit.Goals as goal
 
 done : (g : Over) (c : After-store g) → Commits g.D.Disk c.args.disk.now c.store.new.disk c.args.self.now c.args.number (HasSwitched g.D.Disk c.args.disk.now c.store.new.disk c.self.inside.slots.geometry c.self.inside.slots.slot c.deref.result.now)
 done g c = subst (λ (m : Meta). Commits g.D.Disk c.args.disk.now c.store.new.disk m c.args.number (HasSwitched g.D.Disk c.args.disk.now c.store.new.disk c.self.inside.slots.geometry c.self.inside.slots.slot c.deref.result.now)) c.self.view_is
-    (commits g.D.Disk _ _ _ (meta_of _ c.self.invariant.0 c.in-Ok.ensures.lawful) (subst (Backs g.D.Disk c.args.disk.now) (sym c.self.view_is) c.requires.backs) c.args.number c.requires.number _ c.self.invariant.1 _
+    (commits g.D.Disk _ _ _ (record { stored = c.self.invariant.0; current = c.in-Ok.ensures.lawful }) (subst (Backs g.D.Disk c.args.disk.now) (sym c.self.view_is) c.requires.backs) c.args.number c.requires.number _ c.self.invariant.1 _
     (c.deref.ensures.value ∙ c.in-Ok.ensures.spelled) (rw c.deref.ensures.value c.in-Ok.ensures.short) c.store.ensures.any_moment)
 
 pub returns-in-Ok-store-clause-any_moment : goal.returns-in-Ok-store-clause-any_moment
