@@ -170,6 +170,7 @@ module _ (result : Result ℕ DriveRefusal) (v len : ℕ) (stored : List ℕ) (o
   pub appends-cause : HasCause result (has_volume v old) 0 0
   appends-cause = record {
     never_falls = omega arith;
+    quiet = λ well. refl;
     failed = λ is. absurd (⊎_elim (λ (m : (result ≡ Err Memory) × IsOk (told v len old)). other Failed m.0 is (λ e. absurd cc)) (λ (e : result ≡ told v len old). kinds.0 (sym e ∙ is)) a.answer);
     missing = λ none. ⊎_elim (λ (m : (result ≡ Err Memory) × IsOk (told v len old)). absurd (true≢false (sym (kinds.3 m.1) ∙ none))) (λ (e : result ≡ told v len old). inl (e ∙ kinds.1 none)) a.answer;
     no_volume = λ is. ⊎_elim (λ (m : (result ≡ Err Memory) × IsOk (told v len old)). absurd (other NoVolume m.0 is (λ e. absurd cc))) (λ (e : result ≡ told v len old). kinds.2 (sym e ∙ is)) a.answer;

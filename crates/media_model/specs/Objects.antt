@@ -35,10 +35,11 @@ Follows step old new = (now : Objects) → new now → (before : Objects) × old
 abbrev pub Alike : (Objects → Type 0) → (Objects → Type 0) → Type 0
 Alike old new = ((o : Objects) → new o → old o) × ((o : Objects) → old o → new o)
 
--- The count never falls, and rose where the call failed; the volume isn't there exactly where that is told.
+-- The count never falls, rose where the call failed, and else is as it was; the volume isn't there exactly where that is told.
 pub record HasCause {T : Type 0} (result : Result T DriveRefusal) (has : Bool) (before after : ℕ) : Type 0 where
   pub never_falls : before ≤ after
   pub failed : IsErrOf result Failed → Rose before after
+  pub quiet : (IsErrOf result Failed → ⊥) → after ≡ before
   pub missing : has ≡ false → IsErrOf result NoVolume ⊎ IsErrOf result Failed
   pub no_volume : IsErrOf result NoVolume → has ≡ false
 

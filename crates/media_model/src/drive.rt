@@ -12,7 +12,7 @@ pub const OBJECT_BYTES: usize = 65608;
 /// Why a drive refused a call.
 #[derive(Clone, Copy, Debug, PartialEq, Eq, Error)]
 pub enum DriveRefusal {
-    /// The drive's count of faults rose.
+    /// The drive's count of faults rose, as it does with no other answer.
     #[error("the drive failed")]
     Failed,
     /// The volume's objects have so many bytes, and with the new one more than it may have.
@@ -53,7 +53,7 @@ pub trait Drive {
     /// How many bytes the objects of each volume may have together.
     ghost capacity_of: { Self → ℕ };
 
-    /// How often a call has failed. The count stops at the greatest u64.
+    /// How often a call has failed. A call that isn't answered `Failed` leaves the count as it was. The count stops at the greatest u64.
     ghost fault_count: { Self → ℕ };
 
     /// Whether no drive of this type fails or damages an object, and each tells its objects.
