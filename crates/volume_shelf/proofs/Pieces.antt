@@ -27,18 +27,20 @@ module _ {D : Type 0} (g : drive.Ghosts D) where
   -- the pieces so far, of an object's payload that has so many bytes
   pub record SoFar (volume object len : ℕ) (old now : D) (pieces : Pieces) : Type 0 where
     pub reads : Reads g old now
+    pub quiet : g.fault_count now ≡ g.fault_count old
     pub within : pieces.len ≤ len
     pub bytes : List ℕ
     pub so_far : AreSoFar pieces bytes
     pub told : (o : Objects) → g.gives old volume o → object < length o → len ≡ length (payload_in object o) → bytes ≡ take pieces.len (payload_in object o)
 
   -- one piece more
-  pub next_piece : (volume object len : ℕ) (old mid new : D) (before after : Pieces) (n : ℕ) → SoFar volume object len old mid before → Reads g mid new → Reads g old new → after.len ≡ before.len + n → after.len ≤ len
+  pub next_piece : (volume object len : ℕ) (old mid new : D) (before after : Pieces) (n : ℕ) → SoFar volume object len old mid before → Reads g mid new → Reads g old new → g.fault_count new ≡ g.fault_count mid → after.len ≡ before.len + n → after.len ≤ len
       → ((bytes : List ℕ) → AreSoFar before bytes → (piece : List ℕ) × AreSoFar after (bytes ++ piece) × ((o : Objects) → g.gives mid volume o → object < length o → piece ≡ take n (drop before.len (payload_in object o))))
       → SoFar volume object len old new after
-  next_piece volume object len old mid new before after n s r both counted within adds =
+  next_piece volume object len old mid new before after n s r both well counted within adds =
       let more = adds s.bytes s.so_far in record {
         reads = both;
+        quiet = well ∙ s.quiet;
         within = within;
         bytes = s.bytes ++ more.0;
         so_far = more.1;

@@ -1,5 +1,5 @@
 -- Copies of segments on volumes: what a copy leaves, and what a fetch tells.
-use Rattle.std.specs.Prelude.{◌≡◌, ◌≢◌, ◌⊎◌, ℕ, ◌+◌, ◌<◌, ◌≤◌, true, false, List, [], length, drop, get_or}
+use Rattle.std.specs.Prelude.{◌≡◌, ◌≢◌, ◌⊎◌, ℕ, ◌+◌, ◌<◌, ◌≤◌, true, false, List, [], length, drop, get_or, Result, Err}
 use Rattle.disk_model.specs.Calls.{Rose}
 use Rattle.hsm_types.specs.Stubs.{print_of}
 use Rattle.hsm_types.specs.declared.keys.Handle.{Handle}
@@ -30,6 +30,16 @@ AddsPrint print old new = (object : List ℕ) × Adds object old new × (print �
 -- as before, or with one object more
 abbrev pub MayGrow : Objects → Objects → Type 0
 MayGrow old new = (new ≡ old) ⊎ AddsOne old new
+
+-- the answer of a copy says that the drive failed
+abbrev pub IsFailedCopy : {T : Type 0} → Result T CopyRefusal → Type 0
+IsFailedCopy (Err (refusal.Failed before after)) = Unit {0}
+IsFailedCopy other = ⊥
+
+-- that of a fetch does
+abbrev pub IsFailedFetch : {T : Type 0} → Result T FetchRefusal → Type 0
+IsFailedFetch (Err (missing.Media (fault.Failed volume object before after))) = Unit {0}
+IsFailedFetch other = ⊥
 
 module _ {D : Type 0} (g : drive.Ghosts D) where
   -- calls that change no volume

@@ -4,7 +4,7 @@ ghost use Rattle.disk_model.specs.Calls.{Rose};
 ghost use Rattle.hsm_types.specs.Stubs.{print_of};
 ghost use Rattle.hsm_types.specs.declared.media.CopyRefusal.TheVariants.{Failed};
 ghost use Rattle.media_model.specs.Objects.{Objects, Alike};
-ghost use Rattle.volume_shelf.specs.Shelf.{payload_in, Reads, Grows, Copied, CopyRefused};
+ghost use Rattle.volume_shelf.specs.Shelf.{payload_in, Reads, Grows, Copied, CopyRefused, IsFailedCopy};
 ghost use Rattle.volume_shelf.specs.Steps.{IsPut, NotPut, Prints, IsUnlike};
 
 use crate::reading::{payload_len, print_payload};
@@ -15,7 +15,7 @@ use volume_format::{payload_follows, write_object};
 
 /// Copies the bytes of the segment to the volume: puts their object there, reads its payload back, compares the fingerprints, and makes the volume last. The bytes
 /// are copied once, into the object, whose memory is the only memory that is taken; what is read back is digested once. After `Failed` and `Damaged` the volume may
-/// have one object more.
+/// have one object more. With `Failed` the drive's count of faults rose, and with each other answer it is as it was.
 pub fn copy<M: Drive>(
     alloc: Global,
     drive: &mut M,
@@ -28,6 +28,7 @@ pub fn copy<M: Drive>(
     requires most { length bytes.now ≤ 65536 }
     ensures answer { MatchResult result (Copied M.Drive volume handle.now segment bytes.now drive.old drive.new) (CopyRefused M.Drive volume (72 + length bytes.now) (print_of bytes.now) drive.old drive.new) }
     ensures grows { Grows M.Drive volume drive.old drive.new }
+    ensures quiet { (IsFailedCopy result → ⊥) → M.fault_count drive.new ≡ M.fault_count drive.old }
 {
     let Ok(object) = write_object(alloc, handle, segment, bytes) else {
         return Err(CopyRefusal::Memory);
@@ -51,6 +52,7 @@ fn put<M: Drive>(drive: &mut M, volume: u32, object: &[u8], begun: u64) -> Resul
     requires begun { begun ≡ M.fault_count drive.old }
     ensures answer { MatchResult result (IsPut M.Drive volume object.now drive.old drive.new) (NotPut M.Drive volume (length object.now) drive.old drive.new) }
     ensures grows { Grows M.Drive volume drive.old drive.new }
+    ensures quiet { (IsFailedCopy result → ⊥) → M.fault_count drive.new ≡ M.fault_count drive.old }
 {
     match drive.append(volume, object) {
         Ok(number) => Ok(number),
@@ -85,6 +87,7 @@ fn compare<M: Drive>(
     ensures same { OnOk result (Prints M.Drive volume object drive.old want) }
     ensures unlike { IfErr result (IsUnlike M.Drive volume object want begun drive.old drive.new) }
     ensures reads { Reads M.Drive drive.old drive.new }
+    ensures quiet { (IsFailedCopy result → ⊥) → M.fault_count drive.new ≡ M.fault_count drive.old }
 {
     let Ok(got) = read_back(drive, volume, object, buf) else {
         return Err(failed(drive, begun));
@@ -106,6 +109,7 @@ fn read_back<M: Drive>(
     ensures prints { IfOk result (Prints M.Drive volume object drive.old) }
     ensures rose { IfErr result (λ why. Rose (M.fault_count drive.old) (M.fault_count drive.new)) }
     ensures reads { Reads M.Drive drive.old drive.new }
+    ensures quiet { OnOk result (M.fault_count drive.new ≡ M.fault_count drive.old) }
 {
     let len = len_or_none(drive, volume, object)?;
     print_payload(drive, volume, object, len, buf)
@@ -117,6 +121,7 @@ fn len_or_none<M: Drive>(drive: &mut M, volume: u32, object: u32) -> Result<u32,
     ensures short { IfOk result (λ n. 72 + n < 2 ^ 32) }
     ensures rose { IfErr result (λ why. Rose (M.fault_count drive.old) (M.fault_count drive.new)) }
     ensures reads { Reads M.Drive drive.old drive.new }
+    ensures quiet { OnOk result (M.fault_count drive.new ≡ M.fault_count drive.old) }
 {
     match payload_len(drive, volume, object) {
         Ok(len) => Ok(len),
@@ -131,6 +136,7 @@ fn make_last<M: Drive>(drive: &mut M, volume: u32, begun: u64) -> Result<(), Cop
     ensures lasts { OnOk result ((o : Objects) → M.gives drive.new volume o → length o ≤ M.lasting drive.new volume) }
     ensures failed { IfErr result (λ why. (why ≡ Failed begun (M.fault_count drive.new)) × Rose (M.fault_count drive.old) (M.fault_count drive.new)) }
     ensures reads { Reads M.Drive drive.old drive.new }
+    ensures quiet { OnOk result (M.fault_count drive.new ≡ M.fault_count drive.old) }
 {
     if drive.sync(volume).is_err() {
         return Err(failed(drive, begun));

@@ -5,7 +5,7 @@ ghost use Rattle.hsm_types.specs.Stubs.{print_of};
 ghost use Rattle.hsm_types.specs.declared.media.FetchRefusal.TheVariants.{Media};
 ghost use Rattle.hsm_types.specs.declared.media.Fault.TheVariants.{Failed, Damaged};
 ghost use Rattle.media_model.specs.Objects.{Objects};
-ghost use Rattle.volume_shelf.specs.Shelf.{payload_in, Reads, Fetched, FetchRefused};
+ghost use Rattle.volume_shelf.specs.Shelf.{payload_in, Reads, Fetched, FetchRefused, IsFailedFetch};
 ghost use Rattle.volume_shelf.specs.Steps.{IsPayload, StepRefused};
 
 use crate::reading::{payload_len, print_payload, read_piece};
@@ -14,7 +14,7 @@ use media_model::{Drive, DriveRefusal};
 use std::alloc::Global;
 
 /// The payload of the entry's object, if it has the entry's fingerprint. It is read into memory, and digested, once. A payload of another length is read by
-/// small pieces, and takes no memory.
+/// small pieces, and takes no memory. Where the drive fails, that is told, and with each other answer its count of faults is as it was.
 pub fn fetch<M: Drive>(
     alloc: Global,
     drive: &mut M,
@@ -22,6 +22,7 @@ pub fn fetch<M: Drive>(
 ) -> Result<Verified, FetchRefusal>
     ensures answer { MatchResult result (Fetched M.Drive entry.now drive.old) (FetchRefused M.Drive entry.now drive.old drive.new) }
     ensures reads { Reads M.Drive drive.old drive.new }
+    ensures quiet { (IsFailedFetch result → ⊥) → M.fault_count drive.new ≡ M.fault_count drive.old }
 {
     let begun = drive.faults();
     let len = match payload_len(drive, entry.volume, entry.object) {
@@ -50,6 +51,7 @@ fn compare<M: Drive>(
     ensures alike { OnOk result ((o : Objects) → M.gives drive.old entry.now.volume o → entry.now.object < length o → len ≡ length (payload_in entry.now.object o) → len ≡ entry.now.print.len) }
     ensures refused { IfErr result (StepRefused M.Drive entry.now len begun drive.old drive.new) }
     ensures reads { Reads M.Drive drive.old drive.new }
+    ensures quiet { (IsFailedFetch result → ⊥) → M.fault_count drive.new ≡ M.fault_count drive.old }
 {
     if len == entry.print.len {
         return Ok(());
@@ -76,6 +78,7 @@ fn read_whole<M: Drive>(
     ensures bytes { IfOk result (IsPayload M.Drive entry.now.volume entry.now.object entry.now.print.len drive.old) }
     ensures refused { IfErr result (StepRefused M.Drive entry.now entry.now.print.len begun drive.old drive.new) }
     ensures reads { Reads M.Drive drive.old drive.new }
+    ensures quiet { (IsFailedFetch result → ⊥) → M.fault_count drive.new ≡ M.fault_count drive.old }
 {
     let Ok(mut bytes) = vec![in alloc; 0u8; entry.print.len as usize] else {
         return Err(FetchRefusal::Memory);

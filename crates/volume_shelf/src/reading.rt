@@ -45,6 +45,7 @@ pub(crate) fn read_piece<M: Drive>(
     ensures refused { IfErr result (λ why. why ≡ Failed) }
     ensures reads { Reads M.Drive drive.old drive.new }
     ensures rose { OnErr result (Rose (M.fault_count drive.old) (M.fault_count drive.new)) }
+    ensures quiet { OnOk result (M.fault_count drive.new ≡ M.fault_count drive.old) }
 {
     match drive.read(volume, object, FRAME + at, buf) {
         Ok(count) => Ok(count as usize),
@@ -73,6 +74,7 @@ fn add_piece<M: Drive>(
     ensures refused { IfErr result (λ why. why ≡ Failed) }
     ensures reads { Reads M.Drive drive.old drive.new }
     ensures rose { OnErr result (Rose (M.fault_count drive.old) (M.fault_count drive.new)) }
+    ensures quiet { OnOk result (M.fault_count drive.new ≡ M.fault_count drive.old) }
 {
     let at = pieces.len();
     let count = read_piece(drive, volume, object, at, buf)?.min((len - at) as usize);
@@ -95,6 +97,7 @@ pub(crate) fn print_payload<M: Drive>(
     ensures refused { IfErr result (λ why. why ≡ Failed) }
     ensures reads { Reads M.Drive drive.old drive.new }
     ensures rose { OnErr result (Rose (M.fault_count drive.old) (M.fault_count drive.new)) }
+    ensures quiet { OnOk result (M.fault_count drive.new ≡ M.fault_count drive.old) }
 {
     let mut pieces = Pieces::none();
     'pieces: loop {

@@ -15,7 +15,7 @@ pub returns-then-branch-eq0-clause-told : goal.returns-then-branch-eq0-clause-to
 returns-then-branch-eq0-clause-told g c =
     let done = c.in_ok-add_piece.ensures in
     let both = reads_on g.M.Drive c.args.drive.now c.pieces.drive c.add_piece.new.drive c.pieces.invariant.reads done.reads in
-    let after = next_piece g.M.Drive c.args.volume c.args.object c.args.len c.args.drive.now c.pieces.drive c.add_piece.new.drive c.pieces.pieces c.add_piece.new.pieces c.in_ok-add_piece.field-0 c.pieces.invariant done.reads both done.counted done.within done.adds in
+    let after = next_piece g.M.Drive c.args.volume c.args.object c.args.len c.args.drive.now c.pieces.drive c.add_piece.new.drive c.pieces.pieces c.add_piece.new.pieces c.in_ok-add_piece.field-0 c.pieces.invariant done.reads both done.quiet done.counted done.within done.adds in
     all_pieces g.M.Drive c.args.volume c.args.object c.args.len c.args.drive.now c.add_piece.new.drive c.add_piece.new.pieces c.fingerprint-then-branch-eq0.result after c.fingerprint-then-branch-eq0.ensures
     (λ o given there is. done.ends c.if-branch-eq0.true o ((c.pieces.invariant.reads.same c.args.volume).1 o given) there is)
 
@@ -23,4 +23,4 @@ pub pieces-preserved : goal.pieces-preserved
 pieces-preserved g c =
     let done = c.in_ok-add_piece.ensures in
     let both = reads_on g.M.Drive c.args.drive.now c.pieces.drive c.add_piece.new.drive c.pieces.invariant.reads done.reads in
-    next_piece g.M.Drive c.args.volume c.args.object c.args.len c.args.drive.now c.pieces.drive c.add_piece.new.drive c.pieces.pieces c.add_piece.new.pieces c.in_ok-add_piece.field-0 c.pieces.invariant done.reads both done.counted done.within done.adds
+    next_piece g.M.Drive c.args.volume c.args.object c.args.len c.args.drive.now c.pieces.drive c.add_piece.new.drive c.pieces.pieces c.add_piece.new.pieces c.in_ok-add_piece.field-0 c.pieces.invariant done.reads both done.quiet done.counted done.within done.adds
