@@ -1,13 +1,13 @@
 -- Drives one of which is asked at a time.
 use Rattle.std.proofs.Common.{◌≡◌, inl, inr, ℕ, zero, suc, ◌<◌, ◌%◌, List, [], ◌∷◌, length, get_or, Option, Some, IfSome, refl, sym, ap, subst, ◌∙◌, arith}
 use Rattle.std.proofs.lemmas.Option.{slice_get-get_or}
-use Rattle.std.specs.Prelude.{slice_get, slice_set}
+use Rattle.std.specs.Prelude.{slice_get, slice_set, map}
 use Rattle.media_model.specs.Objects.{Objects}
 use Rattle.media_model.specs.declared.drive.Drive as drive
 use Rattle.volume_shelf.specs.Shelf.{Reads}
 use Rattle.volume_shelf.proofs.Rising.{rose_since}
 use Rattle.volume_shelf.proofs.Running.{idle, reads_on}
-use Rattle.reconcile.specs.Classes.{Tells, AreTold, AreRead, ClassesRefused}
+use Rattle.reconcile.specs.Classes.{Tells, AreTold, AreRead, AreQuiet, ClassesRefused}
 use Rattle.reconcile.specs.Steps.{DriveRefused}
 use Rattle.reconcile.specs.declared.refusals.ReconcileRefusal.{ReconcileRefusal}
 use Rattle.reconcile.specs.declared.refusals.ReconcileRefusal.TheVariants.{Failed, Memory}
@@ -43,6 +43,14 @@ module _ {D : Type 0} (g : drive.Ghosts D) where
       same : (d x : D) → Some d ≡ Some x → d ≡ x
       same d x e = cc
   read_one (d ∷ ds) (suc k) x y is reads = (idle g d, read_one ds k x y is reads)
+
+  quiet_one : (ds : List D) (k : ℕ) (x y : D) → slice_get ds k ≡ Some x → g.fault_count y ≡ g.fault_count x → AreQuiet g ds (slice_set ds k y)
+  quiet_one [] k x y is quiet = refl
+  quiet_one (d ∷ ds) zero x y is quiet = ap (λ (n : ℕ). n ∷ map g.fault_count ds) (quiet ∙ ap g.fault_count (sym (same d x is)))
+    where
+      same : (d x : D) → Some d ≡ Some x → d ≡ x
+      same d x e = cc
+  quiet_one (d ∷ ds) (suc k) x y is quiet = ap (λ (l : List ℕ). g.fault_count d ∷ l) (quiet_one ds k x y is quiet)
 
   -- what was true of the drive of that number, before more was read
   read_at : (a b : List D) (k : ℕ) (y : D) → AreRead g a b → slice_get b k ≡ Some y → (x : D) × (slice_get a k ≡ Some x) × Reads g x y
@@ -84,6 +92,9 @@ module _ {D : Type 0} (g : drive.Ghosts D) where
 
     pub one_read : Reads g (get_or ds (v % length ds) d) y → AreRead g ds (slice_set ds (v % length ds) y)
     one_read reads = read_one ds (v % length ds) (get_or ds (v % length ds) d) y there reads
+
+    pub one_quiet : g.fault_count y ≡ g.fault_count (get_or ds (v % length ds) d) → AreQuiet g ds (slice_set ds (v % length ds) y)
+    one_quiet quiet = quiet_one ds (v % length ds) (get_or ds (v % length ds) d) y there quiet
 
     pub one_tells : (volumes : ℕ) (told : ℕ → Objects) → v < volumes → AreTold g volumes ds told → Tells g (get_or ds (v % length ds) d) v (told v)
     one_tells volumes told below are = subst (λ (o : Option D). IfSome o (λ x. Tells g x v (told v))) there (are.each v below)

@@ -1,5 +1,5 @@
 -- Classes: which objects of volumes are live, and which stub entries of a table are held.
-use Rattle.std.specs.Prelude.{◌≡◌, ◌⊎◌, ℕ, ◌<◌, ◌%◌, Bool, false, not, ◌&&◌, nat_eq, nat_lt, List, [], length, count_by, sum_by, filter_map, flat_map, slice_get, if◌then◌else◌, Option, Some, None, is_none, IfSome}
+use Rattle.std.specs.Prelude.{◌≡◌, ◌⊎◌, ℕ, ◌<◌, ◌%◌, Bool, false, not, ◌&&◌, nat_eq, nat_lt, List, [], length, count_by, sum_by, filter_map, flat_map, map, slice_get, if◌then◌else◌, Option, Some, None, is_none, IfSome, Result, Err}
 use Rattle.std.specs.List.{AllZip, list_any, range_with_len}
 use Rattle.std.specs.Option.{option_map_or}
 use Rattle.disk_model.specs.Calls.{Rose}
@@ -80,6 +80,11 @@ class_counts volumes told entries = record {
 
 -- ---- what drives tell. Volume v is in the drive v mod their number
 
+-- the answer says that a drive failed
+abbrev pub TellsFailed : {T : Type 0} → Result T ReconcileRefusal → Type 0
+TellsFailed (Err (Failed volume)) = Unit {0}
+TellsFailed other = ⊥
+
 module _ {D : Type 0} (g : drive.Ghosts D) where
   -- these are the objects of the volume: none where the drive doesn't have it
   abbrev pub Tells : D → ℕ → Objects → Type 0
@@ -92,6 +97,10 @@ module _ {D : Type 0} (g : drive.Ghosts D) where
   -- only reads were made
   abbrev pub AreRead : List D → List D → Type 0
   AreRead old new = AllZip (Reads g) old new
+
+  -- each drive has counted as many faults as before
+  abbrev pub AreQuiet : List D → List D → Type 0
+  AreQuiet old new = map g.fault_count new ≡ map g.fault_count old
 
   -- the count of faults rose of the drive that the volume is in
   pub record FailsAt (volume : ℕ) (old new : List D) : Type 0 where

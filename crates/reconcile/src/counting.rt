@@ -1,7 +1,7 @@
 //! How many objects and entries are of each class.
 ghost use Rattle.std.specs.Prelude.{◌≡◌, ◌+◌, ◌<◌, ℕ, length, IfOk, IfErr};
 ghost use Rattle.media_model.specs.Objects.{Objects};
-ghost use Rattle.reconcile.specs.Classes.{class_counts, entries_of, AreRead, AreTold, ClassesRefused};
+ghost use Rattle.reconcile.specs.Classes.{class_counts, entries_of, AreRead, AreTold, AreQuiet, TellsFailed, ClassesRefused};
 
 use crate::entries::in_order;
 use crate::objects::count_all;
@@ -16,7 +16,8 @@ use store_summary::ClassCounts;
 /// Volume v is in the drive v mod their number; one that the drive doesn't have has no objects. An entry that names a volume from `volumes` on is missing.
 ///
 /// Each object that entries name is read once, however many name it, and its bytes are in memory while it is read, those of no other beside them. The
-/// other objects are not read. The entries are sorted, in memory of the call's own.
+/// other objects are not read. The entries are sorted, in memory of the call's own. Where a drive fails, that is told, and with each other answer all
+/// counts of faults are as they were.
 pub fn classes<M: Drive>(
     alloc: Global,
     table: &Table,
@@ -28,6 +29,7 @@ pub fn classes<M: Drive>(
     ensures entries { IfOk result (λ counts. counts.held + counts.missing + counts.altered ≡ length (entries_of table.now)) }
     ensures refused { IfErr result (ClassesRefused M.Drive volumes drives.old drives.new) }
     ensures reads { AreRead M.Drive drives.old drives.new }
+    ensures quiet { (TellsFailed result → ⊥) → AreQuiet M.Drive drives.old drives.new }
 {
     let entries = in_order(alloc, table)?;
     let objects = count_all(drives, volumes)?;

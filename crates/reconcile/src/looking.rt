@@ -2,7 +2,7 @@
 ghost use Rattle.std.specs.Prelude.{◌≡◌, ◌<◌, length, IfOk, IfErr};
 ghost use Rattle.media_model.specs.Objects.{Objects};
 ghost use Rattle.volume_shelf.specs.Shelf.{Reads};
-ghost use Rattle.reconcile.specs.Classes.{Tells, AreRead, ClassesRefused};
+ghost use Rattle.reconcile.specs.Classes.{Tells, AreRead, AreQuiet, TellsFailed, ClassesRefused};
 ghost use Rattle.reconcile.specs.Steps.{print_at, told_by, IsFound, DriveRefused};
 
 use crate::refusals::ReconcileRefusal;
@@ -22,6 +22,7 @@ pub(crate) fn look<M: Drive>(
     ensures found { IfOk result (IsFound M.Drive volumes drives.old entry.now) }
     ensures refused { IfErr result (ClassesRefused M.Drive volumes drives.old drives.new) }
     ensures reads { AreRead M.Drive drives.old drives.new }
+    ensures quiet { (TellsFailed result → ⊥) → AreQuiet M.Drive drives.old drives.new }
 {
     if entry.volume >= volumes {
         return Ok(None);
@@ -39,6 +40,7 @@ fn look_on<M: Drive>(
     ensures found { IfOk result (λ found. (o : Objects) → Tells M.Drive drive.old entry.now.volume o → found ≡ print_at entry.now o) }
     ensures refused { IfErr result (DriveRefused M.Drive entry.now.volume drive.old drive.new) }
     ensures reads { Reads M.Drive drive.old drive.new }
+    ensures quiet { (TellsFailed result → ⊥) → M.fault_count drive.new ≡ M.fault_count drive.old }
 {
     match fetch(alloc, drive, entry) {
         Ok(bytes) => Ok(Some(bytes.fingerprint())),

@@ -3,7 +3,7 @@ ghost use Rattle.std.specs.Prelude.{◌≡◌, ◌<◌, ℕ, length, sum_by, IfO
 ghost use Rattle.std.specs.List.{range_with_len};
 ghost use Rattle.media_model.specs.Objects.{Objects};
 ghost use Rattle.volume_shelf.specs.Shelf.{Reads};
-ghost use Rattle.reconcile.specs.Classes.{Tells, AreRead, AreTold, ClassesRefused};
+ghost use Rattle.reconcile.specs.Classes.{Tells, AreRead, AreTold, AreQuiet, TellsFailed, ClassesRefused};
 ghost use Rattle.reconcile.specs.Steps.{DriveRefused};
 
 use crate::refusals::ReconcileRefusal;
@@ -15,6 +15,7 @@ pub(crate) fn count_all<M: Drive>(drives: &mut [M], volumes: u32) -> Result<u64,
     ensures count { IfOk result (λ n. (told : ℕ → Objects) → AreTold M.Drive volumes drives.old told → n ≡ sum_by (λ v. length (told v)) (range_with_len 0 volumes)) }
     ensures refused { IfErr result (ClassesRefused M.Drive volumes drives.old drives.new) }
     ensures reads { AreRead M.Drive drives.old drives.new }
+    ensures quiet { (TellsFailed result → ⊥) → AreQuiet M.Drive drives.old drives.new }
 {
     let mut count: u64 = 0;
     for volume in 0..volumes {
@@ -29,6 +30,7 @@ fn count_on<M: Drive>(drive: &mut M, volume: u32) -> Result<u32, ReconcileRefusa
     ensures count { IfOk result (λ n. (o : Objects) → Tells M.Drive drive.old volume o → n ≡ length o) }
     ensures refused { IfErr result (DriveRefused M.Drive volume drive.old drive.new) }
     ensures reads { Reads M.Drive drive.old drive.new }
+    ensures quiet { (TellsFailed result → ⊥) → M.fault_count drive.new ≡ M.fault_count drive.old }
 {
     match drive.objects(volume) {
         Ok(count) => Ok(count),

@@ -2,7 +2,7 @@
 ghost use Rattle.std.specs.Prelude.{◌≡◌, ◌+◌, ◌<◌, ◌^◌, ℕ, length, IfOk, IfErr};
 ghost use Rattle.std.specs.List.Sorted.{IsNonDecreasingBy};
 ghost use Rattle.media_model.specs.Objects.{Objects};
-ghost use Rattle.reconcile.specs.Classes.{class_counts, AreRead, AreTold, ClassesRefused};
+ghost use Rattle.reconcile.specs.Classes.{class_counts, AreRead, AreTold, AreQuiet, TellsFailed, ClassesRefused};
 ghost use Rattle.reconcile.specs.Steps.{place, counted, Finds};
 
 use crate::entries::place;
@@ -58,6 +58,7 @@ impl Walk {
         ensures short { entry.now.object < 2 ^ 32 }
         ensures refused { IfErr result (ClassesRefused M.Drive volumes drives.old drives.new) }
         ensures reads { AreRead M.Drive drives.old drives.new }
+        ensures quiet { (TellsFailed result → ⊥) → AreQuiet M.Drive drives.old drives.new }
     {
         let place = place(entry);
         if let Some(last) = self.last
@@ -97,6 +98,7 @@ pub(crate) fn class_entries<M: Drive>(
     ensures entries { IfOk result (λ counts. counts.held + counts.missing + counts.altered ≡ length entries.now) }
     ensures refused { IfErr result (ClassesRefused M.Drive volumes drives.old drives.new) }
     ensures reads { AreRead M.Drive drives.old drives.new }
+    ensures quiet { (TellsFailed result → ⊥) → AreQuiet M.Drive drives.old drives.new }
 {
     let mut walk = Walk::start();
     for entry in entries {

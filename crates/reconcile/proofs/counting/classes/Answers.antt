@@ -29,3 +29,11 @@ returns-clause-entries g c = c.in_ok-counts.ensures.entries ∙ ap (λ (l : List
 
 pub returns-clause-reads : goal.returns-clause-reads
 returns-clause-reads g c = read_on g.M.Drive c.args.drives.now c.count_all.new.drives c.class_entries.new.drives c.in_ok-objects.ensures.reads c.in_ok-counts.ensures.reads
+
+pub returns-in_err-counts-clause-quiet : goal.returns-in_err-counts-clause-quiet
+returns-in_err-counts-clause-quiet g c =
+    let p = err_from_is_err_and c.from_residual-in_err-counts.result c.from_residual-in_err-counts.ensures.1 in
+    rw (p.1, p.2) (λ well. c.in_err-counts.ensures.quiet well ∙ c.in_ok-objects.ensures.quiet (λ e. e))
+
+pub returns-clause-quiet : goal.returns-clause-quiet
+returns-clause-quiet g c = λ well. c.in_ok-counts.ensures.quiet (λ e. e) ∙ c.in_ok-objects.ensures.quiet (λ e. e)

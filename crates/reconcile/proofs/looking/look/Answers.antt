@@ -1,4 +1,4 @@
-use Rattle.reconcile.proofs.Drives.{none_read, one_read}
+use Rattle.reconcile.proofs.Drives.{none_read, one_read, one_quiet}
 use Rattle.reconcile.proofs.Found.{is_found, is_refused}
 use Rattle.reconcile.proofs.looking.look.Goals as goal
 
@@ -15,3 +15,6 @@ returns-clause-refused g c =
 
 pub returns-clause-reads : goal.returns-clause-reads
 returns-clause-reads g c = one_read g.M.Drive c.args.entry.now.volume c.args.drives.now c.index-drives-number.result c.look_on.new.drive c.requires c.look_on.ensures.reads
+
+pub returns-clause-quiet : goal.returns-clause-quiet
+returns-clause-quiet g c = λ well. one_quiet g.M.Drive c.args.entry.now.volume c.args.drives.now c.index-drives-number.result c.look_on.new.drive c.requires (c.look_on.ensures.quiet well)

@@ -1,4 +1,4 @@
-use Rattle.std.proofs.Common.{◌<◌, ◌^◌, ℕ, [], get_or, arith, below_more}
+use Rattle.std.proofs.Common.{◌<◌, ◌^◌, ◌∙◌, ℕ, [], get_or, refl, arith, below_more}
 use Rattle.std.proofs.lemmas.List.{get_or_default}
 use Rattle.std.proofs.lemmas.Result.{err_from_is_err_and}
 use Rattle.hsm_types.specs.declared.stubs.StubEntry.{StubEntry}
@@ -17,6 +17,7 @@ loop-entry-init g c = rw (c.start-walk.ensures) (record {
   short = λ k below d. absurd (omega arith);
   counts = λ told are. walk_starts c.args.volumes told c.args.entries.now;
   reads = none_read g.M.Drive c.args.drives.now;
+  quiet = refl;
 })
 
 pub returns-in_err-found-clause-refused : goal.returns-in_err-found-clause-refused
@@ -26,6 +27,11 @@ returns-in_err-found-clause-refused g c =
 
 pub returns-in_err-found-clause-reads : goal.returns-in_err-found-clause-reads
 returns-in_err-found-clause-reads g c = read_on g.M.Drive c.args.drives.now c.loop-entry.drives c.find.new.drives c.loop-entry.invariant.reads c.in_err-found.ensures.reads
+
+pub returns-in_err-found-clause-quiet : goal.returns-in_err-found-clause-quiet
+returns-in_err-found-clause-quiet g c =
+    let p = err_from_is_err_and c.from_residual.result c.from_residual.ensures.1 in
+    rw (p.1, p.2) (λ well. c.in_err-found.ensures.quiet well ∙ c.loop-entry.invariant.quiet)
 
 pub loop-entry-preserved : goal.loop-entry-preserved
 loop-entry-preserved g c =
@@ -42,6 +48,7 @@ loop-entry-preserved g c =
           walk_on g.M.Drive c.args.volumes told c.loop-entry.drives (told_on g.M.Drive c.args.volumes c.args.drives.now c.loop-entry.drives told was.reads are) xs i e c.loop-entry-test.true (λ d. get_or_default xs i d nowhere c.loop-entry-test.true) c.requires.ascending was.short c.in_ok-found.ensures.short
           c.loop-entry.walk c.find.new.self c.in_ok-found.found (was.counts told are) c.in_ok-found.ensures.finds;
       reads = read_on g.M.Drive c.args.drives.now c.loop-entry.drives c.find.new.drives was.reads c.in_ok-found.ensures.reads;
+      quiet = c.in_ok-found.ensures.quiet (λ e. e) ∙ was.quiet;
     })
 
 pub returns-clause-counts : goal.returns-clause-counts
