@@ -1,5 +1,5 @@
 -- What a call of a host does to what its names hold, and why it is refused.
-use Rattle.std.specs.Prelude.{◌≡◌, ◌≢◌, true, ℕ, ◌≤◌, ◌<◌, ◌%◌, List, [], length, slice_get, Result, IfErr, IfSome}
+use Rattle.std.specs.Prelude.{◌≡◌, ◌≢◌, true, ℕ, ◌≤◌, ◌<◌, ◌%◌, List, [], length, slice_get, Result, IfErr, IsErrOf, IfSome}
 use Rattle.std.specs.List.{AllByRecursion}
 use Rattle.disk_model.specs.declared.device.Disk as disk
 use Rattle.disk_model.specs.Images.{Within, Alike}
@@ -21,10 +21,11 @@ HoldsOthers name old new = (other : List ℕ) → other ≢ name → Alike (old 
 abbrev pub HoldsAll : (List ℕ → List ℕ → Type 0) → (List ℕ → List ℕ → Type 0) → Type 0
 HoldsAll old new = (name : List ℕ) → Alike (old name) (new name)
 
--- the count of faults doesn't fall, and a call fails only where it rose
+-- the count of faults doesn't fall, rose where a call failed, and is as it was after each other call
 pub record HasHostCause {T : Type 0} (result : Result T HostRefusal) (before after : ℕ) : Type 0 where
   pub never_falls : before ≤ after
   pub rose : IfErr result (λ refusal. refusal ≡ Failed → Rose before after)
+  pub quiet : (IsErrOf result Failed → ⊥) → after ≡ before
 
 -- A disk as the host handed it out: it gives the images that the host held, a crash leaves what it gives, and it has never failed.
 pub record IsHanded {D : Type 0} (g : disk.Ghosts D) (held : List ℕ → Type 0) (d : D) : Type 0 where

@@ -1,8 +1,5 @@
 //! Readers and writers as sources and sinks. What they hold is trusted to be what the program is given and gives.
-ghost use Rattle.std.specs.Prelude.{◌≡◌, ◌<◌, IfOk, OnOk};
-ghost use Rattle.std.specs.Io.{ReadsAtMost, WritesAtMost};
-ghost use Rattle.std.specs.Io.KnownBytes.{ReadConsumes, WriteAppends};
-ghost use Rattle.script_text.specs.Causes.{HasCause, IsToldWhereNoneTaken};
+ghost use Rattle.std.specs.Prelude.{◌≡◌};
 
 use script_text::{Failed, Sink, Source};
 use std::io::{Read, Write};
@@ -41,13 +38,7 @@ impl<R: Read> Source for Reading<R> {
         self.faults
     }
 
-    /// A read that succeeds counts no fault.
-    fn read(&mut self, buf: &mut [u8]) -> Result<usize, Failed>
-        ensures bound { ReadsAtMost result buf.new }
-        ensures bytes { ReadConsumes (R.remaining self.old.inner) (R.remaining self.new.inner) result buf.new }
-        ensures cause { HasCause self.old.faults self.new.faults result }
-        ensures ok { OnOk result (self.new.faults ≡ self.old.faults) }
-    {
+    fn read(&mut self, buf: &mut [u8]) -> Result<usize, Failed> {
         match self.reader.read(buf) {
             Ok(count) => Ok(count),
             Err(_) => {
@@ -91,14 +82,7 @@ impl<W: Write> Sink for Writing<W> {
         self.faults
     }
 
-    /// A write that takes something counts no fault.
-    fn write(&mut self, bytes: &[u8]) -> Result<usize, Failed>
-        ensures bound { WritesAtMost result bytes.now }
-        ensures bytes { WriteAppends (W.contents self.old.inner) (W.contents self.new.inner) result bytes.now }
-        ensures cause { HasCause self.old.faults self.new.faults result }
-        ensures told { IsToldWhereNoneTaken self.old.faults self.new.faults result bytes.now }
-        ensures ok { IfOk result (λ n. 0 < n → self.new.faults ≡ self.old.faults) }
-    {
+    fn write(&mut self, bytes: &[u8]) -> Result<usize, Failed> {
         match self.writer.write(bytes) {
             Ok(count) => {
                 if count == 0 && !bytes.is_empty() {

@@ -32,7 +32,7 @@ pub trait Host {
     /// Whether the folder of this name, as bytes, has in the volume of this number these objects. One that isn't there has none in any.
     ghost stores: { Self → List ℕ → ℕ → Objects → Type 0 };
 
-    /// How often the host has failed. The count stops at the greatest u64.
+    /// How often the host has failed. A call that isn't answered `Failed` leaves the count as it was. The count stops at the greatest u64.
     ghost fault_count: { Self → ℕ };
 
     /// How often it was asked to make a disk, as far as a u64 counts.

@@ -1,8 +1,8 @@
 //! Where bytes come from and go to.
-ghost use Rattle.std.specs.Prelude.{◌≡◌, ℕ, Option, List};
+ghost use Rattle.std.specs.Prelude.{◌≡◌, ℕ, Option, List, OnOk};
 ghost use Rattle.std.specs.Io.{ReadsAtMost, WritesAtMost};
 ghost use Rattle.std.specs.Io.KnownBytes.{ReadConsumes, WriteAppends};
-ghost use Rattle.script_text.specs.Causes.{HasCause, IsToldWhereNoneTaken};
+ghost use Rattle.script_text.specs.Causes.{HasCause, IsToldWhereNoneTaken, IsQuietWhereTaken};
 
 use thiserror::Error;
 
@@ -23,11 +23,12 @@ pub trait Source {
     fn faults(&self) -> u64
         ensures { result ≡ fault_count self.now };
 
-    /// Fills the front of `buf`, and says how much of it. At an `Err` nothing was taken.
+    /// Fills the front of `buf`, and says how much of it. At an `Err` nothing was taken, and the count of faults rises only there.
     fn read(&mut self, buf: &mut [u8]) -> Result<usize, Failed>
         ensures bound { ReadsAtMost result buf.new }
         ensures bytes { ReadConsumes (left self.old) (left self.new) result buf.new }
-        ensures cause { HasCause (fault_count self.old) (fault_count self.new) result };
+        ensures cause { HasCause (fault_count self.old) (fault_count self.new) result }
+        ensures quiet { OnOk result (fault_count self.new ≡ fault_count self.old) };
 }
 
 /// Where a transcript goes.
@@ -42,10 +43,11 @@ pub trait Sink {
     fn faults(&self) -> u64
         ensures { result ≡ fault_count self.now };
 
-    /// Takes the front of `bytes`, and says how much of it. To take nothing of bytes is a fault. At an `Err` nothing was taken.
+    /// Takes the front of `bytes`, and says how much of it. To take nothing of bytes is a fault. At an `Err` nothing was taken. There is no other fault.
     fn write(&mut self, bytes: &[u8]) -> Result<usize, Failed>
         ensures bound { WritesAtMost result bytes.now }
         ensures bytes { WriteAppends (taken self.old) (taken self.new) result bytes.now }
         ensures cause { HasCause (fault_count self.old) (fault_count self.new) result }
-        ensures told { IsToldWhereNoneTaken (fault_count self.old) (fault_count self.new) result bytes.now };
+        ensures told { IsToldWhereNoneTaken (fault_count self.old) (fault_count self.new) result bytes.now }
+        ensures quiet { IsQuietWhereTaken (fault_count self.old) (fault_count self.new) result bytes.now };
 }
