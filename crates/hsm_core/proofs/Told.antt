@@ -1,5 +1,6 @@
 -- What is told of the segments of a file, and of all files.
-use Rattle.std.proofs.Common.{◌≡◌, ◌+◌, ◌-◌, ◌*◌, ℕ, zero, suc, min, List, [], ◌∷◌, ◌++◌, length, take, drop, map, Bool, true, false, Option, Some, None, refl, sym, ◌∙◌, ap, subst, arith}
+use Rattle.std.proofs.Common.{◌≡◌, ◌+◌, ◌-◌, ◌*◌, ℕ, zero, suc, List, [], ◌∷◌, ◌++◌, length, take, drop, map, Bool, true, false, Option, Some, None, cond, refl, sym, ◌∙◌, ap, subst, arith}
+use Rattle.std.specs.List.{fold}
 use Rattle.std.specs.Prelude.{count_by, is_some, if◌then◌else◌, slice_get}
 use Rattle.std.specs.Option.{option_map}
 use Rattle.hsm_types.specs.Segments.{from_on, segments_in}
@@ -13,8 +14,7 @@ use Rattle.plain_model.specs.Segments.{segment_as, segments_told}
 use Rattle.plain_model.specs.Segments.{row_of as row_told}
 use Rattle.plain_model.specs.State.{FileState, Held, file_or_new, file_at}
 use Rattle.std.proofs.lemmas.List.{take-map, drop-map, map-append}
-use Rattle.meta_store.specs.Catalogs.{CatalogFile, Catalog}
-use Rattle.meta_store.proofs.LawfulStubs.{segment-window}
+use Rattle.meta_store.specs.Catalogs.{CatalogFile, Catalog, present, places_in_segment}
 use Rattle.file_store.specs.Stores.{Row, row_of, row_held, Shows}
 use Rattle.hsm_core.specs.Services.{IsMadeOf}
 
@@ -97,12 +97,18 @@ row_at (x ∷ cs) (f ∷ fs) (suc i) c same is =
 
 -- ---- the blocks of a segment
 
--- its window of the places, cut at their end
-pub mapped_window : (j from to : ℕ) (places : List (Option ℕ)) → from ≡ min (16 * j) (length places) → to ≡ min (from + 16) (length places)
-    → count_by (λ b. b) (map is_some (take (to - from) (drop from places))) ≡ count_by (λ b. b) (take 16 (drop (16 * j) (map is_some places)))
-mapped_window j from to places first last =
-    let window : take (to - from) (drop from places) ≡ take 16 (drop (16 * j) places) = segment-window j from to places (omega (arith, first)) (omega (arith, last)) in
-    ap (λ ps. count_by (λ b. b) (map is_some ps)) window
+-- as many have a place as are mapped
+length-present : (places : List (Option ℕ)) → length (present places) ≡ count_by (λ b. b) (map is_some places)
+length-present places = omega (arith, from 0 places)
+  where
+    from : (n : ℕ) (places : List (Option ℕ)) → fold (λ a x. a + cond x 1 0) n (map is_some places) ≡ n + length (present places)
+    from n [] = omega arith
+    from n (None ∷ places) = let more = from (n + 0) places in omega arith
+    from n (Some at ∷ places) = let more = from (n + 1) places in omega arith
+
+pub mapped_places : (j : ℕ) (places : List (Option ℕ)) → length (present (places_in_segment j places)) ≡ count_by (λ b. b) (take 16 (drop (16 * j) (map is_some places)))
+mapped_places j places =
+    length-present (places_in_segment j places)
     ∙ ap (λ bs. count_by (λ b. b) bs) (sym (take-map is_some 16 (drop (16 * j) places)) ∙ ap (take 16) (sym (drop-map is_some (16 * j) places)))
 
 -- with the row of that file after those of the files before it

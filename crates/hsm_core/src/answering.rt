@@ -1,6 +1,6 @@
 //! Answers to callers: to the calls that they issue, and to their resumes of accesses that wait. Each reply comes twice, for the caller and for the
 //! history.
-ghost use Rattle.std.specs.Prelude.{◌≡◌, ◌≢◌, ◌<◌, ◌≤◌, ◌+◌, ◌^◌, false, true, ℕ, Some, None, if◌then◌else◌, IfSome, IsSomeAnd, MatchOption, OnOk, IsOk};
+ghost use Rattle.std.specs.Prelude.{◌≡◌, ◌<◌, ◌≤◌, ◌+◌, ◌^◌, false, true, Some, None, if◌then◌else◌, IfSome, IsSomeAnd, MatchOption, OnOk, IsOk};
 ghost use Rattle.hsm_types.specs.declared.calls.Call.TheVariants.{Sync};
 ghost use Rattle.hsm_types.specs.declared.dm.Response.{Response};
 ghost use Rattle.plain_model.specs.declared.entries.Action.TheVariants.{Issue, Resume};

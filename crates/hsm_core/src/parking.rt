@@ -1,5 +1,5 @@
 //! Accesses that begin to wait, or wait again. Each reply comes twice, for the caller and for the history.
-ghost use Rattle.std.specs.Prelude.{◌≡◌, ◌≢◌, ◌+◌, false, None, Some, IfOk, IfErr, IfSome, IsSome, OnOk, OnErr};
+ghost use Rattle.std.specs.Prelude.{◌≡◌, ◌+◌, None, Some, IfOk, IfErr, IfSome, IsSome, OnOk, OnErr};
 ghost use Rattle.hsm_types.specs.declared.calls.Reply.TheVariants.{Parked, Blocked};
 ghost use Rattle.plain_model.specs.Accesses.{span, told_span};
 ghost use Rattle.plain_model.specs.Ledger.{next_token};
@@ -12,7 +12,7 @@ ghost use Rattle.hsm_core.specs.Outcomes.{MayAsk};
 use disk_model::Disk;
 use dm_service::{Access, DmService, Facts, NoRoom};
 use file_store::{FileStore, StoreRefusal};
-use hsm_types::{Call, CallerId, FileKey, Handle, Kind, Range, Reply, Token};
+use hsm_types::{Call, CallerId, FileKey, Kind, Range, Reply, Token};
 use std::alloc::{AllocError, Global};
 
 /// Posts an event of that kind for a new access to the file with that key, which parks on its token.

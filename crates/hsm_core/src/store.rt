@@ -1,5 +1,5 @@
 //! The store with its history.
-ghost use Rattle.std.specs.Prelude.{◌≡◌, ◌⊎◌, ◌<◌, ◌≤◌, ◌+◌, ◌^◌, ◌++◌, [], ◌∷◌, true, false, if◌then◌else◌, List, ℕ, is_some, vec_len, vec_capacity, IfOk, IfErr, OnOk, OnErr, IsOk, IsErrOf};
+ghost use Rattle.std.specs.Prelude.{◌≡◌, ◌⊎◌, ◌<◌, ◌≤◌, ◌+◌, ◌^◌, ◌++◌, [], ◌∷◌, true, false, if◌then◌else◌, List, ℕ, is_some, vec_len, vec_capacity, IfOk, IfErr, OnOk, IsOk, IsErrOf};
 ghost use Rattle.disk_model.specs.Calls.{Counts, HasCause};
 ghost use Rattle.disk_model.specs.Images.{Alike};
 ghost use Rattle.disk_model.specs.Moments.{MayBe, LeavesOnly, Keeps, Same};

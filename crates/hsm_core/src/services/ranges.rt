@@ -1,9 +1,8 @@
 //! What refuses a call on segments: its range, bytes that are offline or have another fingerprint, and too few free blocks. Judging takes no memory.
-ghost use Rattle.std.specs.Prelude.{◌≡◌, ◌+◌, ◌-◌, ◌*◌, ◌<◌, ◌≤◌, None, Some, OnOk, IsSome, IfSome, length, map, if◌then◌else◌};
+ghost use Rattle.std.specs.Prelude.{◌≡◌, ◌+◌, ◌-◌, ◌*◌, ◌<◌, ◌≤◌, None, Some, OnOk, IsSome, IfSome, length, if◌then◌else◌};
 ghost use Rattle.std.specs.Option.{option_map};
-ghost use Rattle.hsm_types.specs.Refusals.{first_refusal};
-ghost use Rattle.hsm_types.specs.Segments.{segment_len, segments_in, segments_met};
-ghost use Rattle.hsm_types.specs.Stubs.{stub_at, already_offline};
+ghost use Rattle.hsm_types.specs.Segments.{segment_len};
+ghost use Rattle.hsm_types.specs.Stubs.{stub_at};
 ghost use Rattle.hsm_types.specs.declared.limits.TheConstants.{FILE_BYTES};
 ghost use Rattle.plain_model.specs.declared.facts.NoRoom.{NoRoom};
 ghost use Rattle.plain_model.specs.Keyed.{find_key};
@@ -20,8 +19,8 @@ use crate::room::short_of;
 use disk_model::Disk;
 use dm_service::NoRoom;
 use file_store::FileStore;
-use hsm_types::{ACCESS_BYTES, DmRefusal, FileKey, Fingerprint, SEGMENT_BYTES, segments_in};
-use stub_map::{State, StubMap};
+use hsm_types::{ACCESS_BYTES, DmRefusal, FileKey, Fingerprint, SEGMENT_BYTES};
+use stub_map::State;
 
 /// An invisible access has from 1 to 65,536 bytes.
 pub(crate) fn judge_access(len: u64) -> Result<(), DmRefusal>

@@ -1,5 +1,5 @@
 //! What refuses a session's call on files by its scope.
-ghost use Rattle.std.specs.Prelude.{◌≡◌, ℕ, List, OnOk, IsSome};
+ghost use Rattle.std.specs.Prelude.{ℕ, List, OnOk, IsSome};
 ghost use Rattle.hsm_types.specs.Refusals.{first_refusal};
 ghost use Rattle.hsm_types.specs.Rights.{too_low};
 ghost use Rattle.hsm_types.specs.declared.keys.FileKey.{FileKey};

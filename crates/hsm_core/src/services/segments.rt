@@ -1,5 +1,5 @@
 //! What sessions are told of the segments of a live file.
-ghost use Rattle.std.specs.Prelude.{◌≡◌, ◌-◌, ◌*◌, ◌≤◌, None, Some, IsSome, IfOk, MatchOption, length, map, take, drop, count_by, is_some};
+ghost use Rattle.std.specs.Prelude.{◌≡◌, ◌-◌, ◌*◌, ◌≤◌, None, Some, IsSome, IfOk, MatchOption, map, take, drop, count_by, is_some};
 ghost use Rattle.hsm_types.specs.Messages.{no_token};
 ghost use Rattle.hsm_types.specs.Stubs.{stub_at};
 ghost use Rattle.hsm_types.specs.declared.limits.TheConstants.{FILE_BYTES};
@@ -12,10 +12,8 @@ ghost use Rattle.hsm_core.specs.Services.{AreOf, IsMadeOf, service_on};
 use crate::services::replies::{refused, twice};
 use disk_model::Disk;
 use file_store::FileStore;
-use hsm_types::{
-    DmRefusal, DmReply, Handle, Range, SEGMENT_BLOCKS, SEGMENT_BYTES, Segment, Segments,
-    segments_in,
-};
+use hsm_types::{DmRefusal, DmReply, Handle, Range, SEGMENT_BYTES, Segment, Segments, segments_in};
+use meta_store::{count_present, segment_places};
 use std::alloc::{AllocError, Global};
 use stub_map::{State, StubMap};
 
@@ -108,26 +106,10 @@ fn segment_of(segment: u32, places: &[Option<u32>], stubs: &StubMap) -> Segment
     }
 }
 
-/// How many blocks of the segment have a place.
+/// How many blocks of the segment are mapped.
+#[tactic(auto, using(crate::proofs::Told::mapped_places))]
 fn mapped_in(segment: u32, places: &[Option<u32>]) -> u32
     ensures { result ≡ count_by (λ b. b) (take 16 (drop (16 * segment) (map is_some places.now))) }
 {
-    let from = (segment as usize * SEGMENT_BLOCKS as usize).min(places.len());
-    let to = (from + SEGMENT_BLOCKS as usize).min(places.len());
-    count_mapped(&places[from..to])
-}
-
-/// How many of a segment's blocks have a place.
-#[tactic(auto, using(std::proofs::lemmas::List::drop_more))]
-fn count_mapped(places: &[Option<u32>]) -> u32
-    requires { length places.now ≤ 16 }
-    ensures { result ≡ count_by (λ b. b) (map is_some places.now) }
-{
-    let mut count = 0;
-    for place in places {
-        if place.is_some() {
-            count += 1;
-        }
-    }
-    count
+    count_present(segment_places(places, segment))
 }
