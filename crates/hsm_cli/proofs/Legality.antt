@@ -9,8 +9,8 @@ use Rattle.std.proofs.lemmas.Bool.{false≢true}
 use Rattle.disk_model.specs.declared.device.Disk as disk
 use Rattle.file_store.specs.Stores.{Store, superblock_of}
 use Rattle.hsm_cli.specs.Openings.{replay_store}
+use Rattle.hsm_cli.specs.Outcomes.{ended_with}
 use Rattle.hsm_cli.specs.declared.causes.Cause.{Cause}
-use Rattle.hsm_cli.specs.Statuses.{status_of, place_of}
 use Rattle.hsm_cli.specs.declared.outcomes.Outcome.{Outcome}
 use Rattle.hsm_cli.specs.Clauses.{IsGoodOver, LegalityClause}
 
@@ -24,11 +24,11 @@ good_new s history superblock held number good =
 pub good_unopened : (D : Type 0) → IsGoodOver {D = D} None []
 good_unopened D = run_is_good replay_store 0 nothing_held [] (record { opening = omega arith; exact = tt })
 
-legal_unopened : {D M : Type 0} (g : disk.Ghosts D) (cause : Option Cause) (given : Option D) (drives : List M) → LegalityClause g (record { status = status_of cause; at = place_of cause; cause = cause; base = 0; opening = None; history = []; disk = given; drives = drives })
+legal_unopened : {D M : Type 0} (g : disk.Ghosts D) (cause : Option Cause) (given : Option D) (drives : List M) → LegalityClause g (record (ended_with cause [] given) { drives = drives })
 legal_unopened {D} {M} g cause given drives = record { from = good_unopened D; caused = λ is. absurd (false≢true is); told = λ is some. absurd (false≢true some); faultless = λ sound ample. refl }
 
-pub legal_with : {D M : Type 0} (g : disk.Ghosts D) (o : Outcome D M) (cause : Option Cause) (given : Option D) (drives : List M) → o ≡ record { status = status_of cause; at = place_of cause; cause = cause; base = 0; opening = None; history = []; disk = given; drives = drives } → LegalityClause g o
+pub legal_with : {D M : Type 0} (g : disk.Ghosts D) (o : Outcome D M) (cause : Option Cause) (given : Option D) (drives : List M) → o ≡ record (ended_with cause [] given) { drives = drives } → LegalityClause g o
 legal_with {D} {M} g o cause given drives is = subst (λ (x : Outcome D M). LegalityClause g x) (sym is) (legal_unopened g cause given drives)
 
-pub legal_as : {D M : Type 0} (g : disk.Ghosts D) (o : Outcome D M) (cause : Option Cause) (given : Option D) → o ≡ record { status = status_of cause; at = place_of cause; cause = cause; base = 0; opening = None; history = []; disk = given; drives = [] } → LegalityClause g o
+pub legal_as : {D M : Type 0} (g : disk.Ghosts D) (o : Outcome D M) (cause : Option Cause) (given : Option D) → o ≡ ended_with cause [] given → LegalityClause g o
 legal_as g o cause given is = legal_with g o cause given [] is

@@ -13,6 +13,8 @@ pub mod ByCause
 pub mod Showings
 pub mod Wanting
 pub mod Drills
+pub mod Formats
+pub mod Promises
 pub mod NamedThings
 pub mod HandingOut
 pub mod Files

@@ -34,6 +34,7 @@ use Rattle.script_text.specs.Scripts.{IsScript, IsFirstBad}
 use Rattle.script_text.specs.declared.lines.Line.{Line}
 use Rattle.hsm_cli.specs.declared.causes.Cause.{Cause}
 use Rattle.hsm_cli.specs.declared.causes.Cause.TheVariants.{ScriptRefused, WordsRefused, NotStore, Corrupt, ReadFault, WriteFault, DiskFault, HostFault, NoMemory}
+use Rattle.hsm_cli.specs.declared.hosts.Host as host
 use Rattle.hsm_cli.specs.declared.outcomes.Outcome.{Outcome}
 use Rattle.hsm_cli.specs.Statuses.{status_of, place_of}
 use Rattle.hsm_cli.specs.Sources.{script_bytes, GivesFirst, GivesWhole}
@@ -43,7 +44,7 @@ use Rattle.hsm_cli.specs.Follows.{SettlesOn, RunsAll, RunsFirst, DrillsAll, Dril
 use Rattle.hsm_cli.specs.Hosts.{IsHanded, AreHanded, HoldsNothing, HoldsOthers, HoldsAll, StoresNothing, StoresOthers, StoresAll}
 use Rattle.hsm_cli.specs.Sealing.{IsRightInMemory, IsRightInFolder}
 use Rattle.hsm_cli.specs.Texts.{IsUnwritten, TakesText, IsShown, AreUntold, AreCounted, shown_drives, shown_volumes, drill_text}
-use Rattle.hsm_cli.specs.Told.{SourceTold, SinkTold, HostTold}
+use Rattle.hsm_cli.specs.Told.{SourceTold, SinkTold, HostTold, host_told}
 
 -- ---- the script clause
 
@@ -540,3 +541,19 @@ pub record StatusClause {D M : Type 0} (g : disk.Ghosts D) (h : drive.Ghosts M) 
   pub opened : IfSome (opened_in o) (λ s. (s.held ≡ s.durable) × ((image : List ℕ) → IsNamed form holds image → IsDurable s image))
   pub refused : (image : List ℕ) → IsNamed form holds image → FindsNothing image → IsSome o.disk → ¬ (HasFailed g o.disk) → TellsStore o.cause ⊎ (o.cause ≡ Some NoMemory)
   pub complete : FindsStore form holds → FindsScript form source.given → NothingFails g (HostFails h form host o.drives) source sink o.disk → (o.cause ≡ None) ⊎ (o.cause ≡ Some NoMemory)
+
+-- ---- all of them
+
+-- All that is promised of a run whose words have that form, by what the host, the source and the sink tell before it and after it.
+pub record KeepsPromises {H D M : Type 0} (t : host.Ghosts H D M) (g : disk.Ghosts D) (h : drive.Ghosts M) (form : Option Form) (old new : H) (source : SourceTold) (sink : SinkTold) (o : Outcome D M) : Type 0 where
+  pub script : ScriptClause h (t.stores old) form source o
+  pub reading : ReadingClause form source o
+  pub legality : LegalityClause g o
+  pub plain : PlainClause o
+  pub media : MediaClause h form o
+  pub crash : CrashClause g form (t.holds old) o
+  pub format : FormatClause g form o
+  pub host : HostClause t.holds t.make_count t.open_count form old new o
+  pub drives : DrivesClause h t.holds t.stores t.drive_count form old new o
+  pub output : OutputClause form (t.holds old) (t.stores old) o sink
+  pub status : StatusClause g h form (t.holds old) source sink (host_told t.fault_count old new) o

@@ -7,6 +7,7 @@ pub mod FileCalls
 pub mod Statuses
 pub mod Sources
 pub mod Openings
+pub mod Outcomes
 pub mod Daemons
 pub mod Follows
 pub mod Sealing

@@ -11,8 +11,8 @@ ghost use Rattle.drill_script.specs.Summary.{summary_line};
 ghost use Rattle.hsm_replay.specs.Drives.{HaveGrown};
 ghost use Rattle.hsm_replay.specs.Faults.{faults_in, AreTrue};
 ghost use Rattle.hsm_replay.specs.Running.{GoesOn};
-ghost use Rattle.hsm_cli.specs.Statuses.{status_of, place_of};
 ghost use Rattle.hsm_cli.specs.Openings.{opened_in, replay_store};
+ghost use Rattle.hsm_cli.specs.Outcomes.{ended_with};
 ghost use Rattle.hsm_cli.specs.Follows.{RunsBy, FollowsFirst, IsRunOf, IsServed, SettlesOn};
 ghost use Rattle.hsm_cli.specs.Daemons.{IsWellServedOver, ServedIsWell};
 ghost use Rattle.hsm_cli.specs.Sealing.{TellsOf, IsRightInMemory};
@@ -32,7 +32,6 @@ use drill_script::{drill_script, summary_text};
 use hsm_core::Hsm;
 use hsm_policy::Settings;
 use hsm_replay::{Replay, Stop, seals_are_whole};
-use hsm_types::ListOf;
 use marked_history::{
     punch_frees, served_is_caused, served_keeps_all, served_makes_anew, served_takes_over,
 };
@@ -72,8 +71,7 @@ struct Drilled<D, M> {
 
 /// Runs the script that is made of that number on a new small store in memory, and writes one line on its run.
 pub(crate) fn drill<D: Disk, M, O: Sink>(alloc: Global, number: u64, sink: &mut O) -> Outcome<D, M>
-    ensures new { (result.opening ≡ None) × (result.disk ≡ None) × (result.base ≡ 0) × (result.drives ≡ []) }
-    ensures told { (result.status ≡ status_of result.cause) × (result.at ≡ place_of result.cause) }
+    ensures ended { result ≡ ended_with result.cause result.history None }
     ensures script { HasDrilled (SettlesOn (opened_in result)) (λ marks. IsWellServedOver (opened_in result) marks × IsRightInMemory marks) number result.cause result.history }
     ensures legality { IsGoodOver {D = D} None result.history }
     ensures faultless { has_fault result.history ≡ false }
@@ -88,16 +86,7 @@ pub(crate) fn drill<D: Disk, M, O: Sink>(alloc: Global, number: u64, sink: &mut 
         Ok(prepared) => {
             let drilled = run_on(alloc, prepared.hsm, prepared.drives, prepared.script);
             let cause = tell(alloc, number, &drilled, sink).err();
-            Outcome {
-                status: Cause::status(cause),
-                at: Cause::place(cause),
-                cause,
-                base: 0,
-                opening: None,
-                history: drilled.history,
-                disk: None,
-                drives: ListOf::from(Vec::new(alloc)),
-            }
+            Outcome::ended(alloc, cause, drilled.history, None)
         }
         Err(AllocError) => Outcome::unopened(alloc, Some(Cause::NoMemory), None),
     }

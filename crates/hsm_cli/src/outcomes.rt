@@ -1,6 +1,6 @@
 //! What a run of the program gives.
-ghost use Rattle.std.specs.Prelude.{◌≡◌, [], None};
-ghost use Rattle.hsm_cli.specs.Statuses.{status_of, place_of};
+ghost use Rattle.std.specs.Prelude.{◌≡◌, []};
+ghost use Rattle.hsm_cli.specs.Outcomes.{ended_with};
 
 use crate::causes::Cause;
 use disk_model::Disk;
@@ -39,9 +39,14 @@ pub struct Outcome<D: Disk, M> {
 }
 
 impl<D: Disk, M> Outcome<D, M> {
-    /// A run in which no store was opened.
-    pub(crate) fn unopened(alloc: Global, cause: Option<Cause>, disk: Option<D>) -> Outcome<D, M>
-        ensures { result ≡ record { status = status_of cause; at = place_of cause; cause = cause; base = 0; opening = None; history = []; disk = disk; drives = [] } }
+    /// The end of a run that opened no store of the host.
+    pub(crate) fn ended(
+        alloc: Global,
+        cause: Option<Cause>,
+        history: History,
+        disk: Option<D>,
+    ) -> Outcome<D, M>
+        ensures { result ≡ ended_with cause history disk }
     {
         Outcome {
             status: Cause::status(cause),
@@ -49,9 +54,16 @@ impl<D: Disk, M> Outcome<D, M> {
             cause,
             base: 0,
             opening: None,
-            history: History::from(Vec::new(alloc)),
+            history,
             disk,
             drives: ListOf::from(Vec::new(alloc)),
         }
+    }
+
+    /// The end of one that has no events.
+    pub(crate) fn unopened(alloc: Global, cause: Option<Cause>, disk: Option<D>) -> Outcome<D, M>
+        ensures { result ≡ ended_with cause [] disk }
+    {
+        Outcome::ended(alloc, cause, History::from(Vec::new(alloc)), disk)
     }
 }

@@ -5,7 +5,7 @@ ghost use Rattle.disk_model.specs.Images.{Alike};
 ghost use Rattle.disk_model.specs.Moments.{Keeps, Same};
 ghost use Rattle.store_summary.specs.Shown.{ShowsText};
 ghost use Rattle.reconcile.specs.Classes.{AreRead};
-ghost use Rattle.hsm_cli.specs.Statuses.{status_of, place_of};
+ghost use Rattle.hsm_cli.specs.Outcomes.{ended_with};
 ghost use Rattle.hsm_cli.specs.Texts.{TakesText, IsShown, ShowsStore, AreUntold, AreCounted, GivesVolume};
 ghost use Rattle.hsm_cli.specs.Hosts.{StoresAll};
 ghost use Rattle.hsm_cli.specs.Told.{sink_told};
@@ -39,7 +39,7 @@ pub(crate) fn show<H: Host, O: Sink>(
     path: &str,
     sink: &mut O,
 ) -> Outcome<H::Disk, H::Drive>
-    ensures unopened { result ≡ record { status = status_of result.cause; at = place_of result.cause; cause = result.cause; base = 0; opening = None; history = []; disk = result.disk; drives = [] } }
+    ensures unopened { result ≡ ended_with result.cause [] result.disk }
     ensures reads { OnlyReads H.Disk.Disk (H.holds host.old path.now) result }
     ensures host { HandsOut path.now (H.holds host.old) (H.holds host.new) result.disk }
     ensures asked { H.open_count host.new ≡ raised (H.open_count host.old) }
@@ -80,7 +80,7 @@ pub(crate) fn show_volumes<H: Host, O: Sink>(
     dir: &str,
     sink: &mut O,
 ) -> Outcome<H::Disk, H::Drive>
-    ensures shown { result ≡ record { status = status_of result.cause; at = place_of result.cause; cause = result.cause; base = 0; opening = None; history = []; disk = result.disk; drives = result.drives } }
+    ensures shown { result ≡ record (ended_with result.cause [] result.disk) { drives = result.drives } }
     ensures reads { OnlyReads H.Disk.Disk (H.holds host.old path.now) result }
     ensures host { HandsOut path.now (H.holds host.old) (H.holds host.new) result.disk }
     ensures asked { H.open_count host.new ≡ raised (H.open_count host.old) }

@@ -2,15 +2,16 @@
 ghost use Rattle.std.specs.Prelude.{◌≡◌, ◌≢◌, ◌≤◌, ◌⊎◌, ℕ, List, [], map, length, true, false, Some, None, IfOk, IfErr, IfSome, MatchResult};
 ghost use Rattle.std.specs.String.{string_bytes};
 ghost use Rattle.disk_model.specs.Calls.{Rose, raised};
-ghost use Rattle.command_words.specs.Commands.{form_of, fsid_of, geometry_number};
+ghost use Rattle.command_words.specs.Commands.{form_in, form_of, fsid_of, geometry_number};
 ghost use Rattle.plain_model.specs.Faults.{has_fault};
 ghost use Rattle.hsm_policy.specs.Settings.{standard};
 ghost use Rattle.file_store.specs.Stores.{IsDurable};
 ghost use Rattle.hsm_replay.specs.Faults.{faults_in, AreTrue};
 ghost use Rattle.hsm_cli.specs.Statuses.{status_of, place_of};
 ghost use Rattle.hsm_cli.specs.Openings.{opened_in, base_of};
+ghost use Rattle.hsm_cli.specs.Outcomes.{ended_with};
 ghost use Rattle.hsm_cli.specs.Follows.{SettlesOn};
-ghost use Rattle.hsm_cli.specs.Clauses.{ScriptClause, ReadingClause, LegalityClause, PlainClause, MediaClause, NoneFailed, IsCausedOver, CrashClause, FormatClause, HostClause, OutputClause, TakesTranscript, StatusClause, HasRun, HasRead, HasReadOn, IsGoodOver, IsPlainOver, LeavesSafe, IsFormatted, HandsOut, HasFailed, HasBegun, Why, Lacks, DrivesClause, GivesBack, HandsDrives, asked_by};
+ghost use Rattle.hsm_cli.specs.Clauses.{ScriptClause, ReadingClause, LegalityClause, PlainClause, MediaClause, NoneFailed, IsCausedOver, CrashClause, FormatClause, HostClause, OutputClause, TakesTranscript, StatusClause, HasRun, HasRead, HasReadOn, IsGoodOver, IsPlainOver, LeavesSafe, IsFormatted, HandsOut, HasFailed, HasBegun, Why, Lacks, DrivesClause, GivesBack, HandsDrives, KeepsPromises, asked_by};
 ghost use Rattle.hsm_cli.specs.Endings.{RunEnds, FormatEnds, HandingEnds, IsBeforeReading};
 ghost use Rattle.hsm_cli.specs.Hosts.{AreHanded, HoldsAll, StoresAll};
 ghost use Rattle.hsm_cli.specs.Daemons.{IsWellServedOver};
@@ -62,18 +63,31 @@ pub fn hsm_main<H: Host, I: Source, O: Sink>(
     ensures output { OutputClause (form_of (map string_bytes words.now)) (H.holds host.old) (H.stores host.old) result (sink_told O.taken O.fault_count sink.old sink.new) }
     ensures status { StatusClause H.Disk.Disk H.Drive.Drive (form_of (map string_bytes words.now)) (H.holds host.old) (source_told I.left I.fault_count source.old source.new) (sink_told O.taken O.fault_count sink.old sink.new) (host_told H.fault_count host.old host.new) result }
 {
-    one_script();
     match Command::of(alloc, words) {
-        Ok(Some(Command::Format { path, size })) => format(alloc, host, path, size),
-        Ok(Some(Command::Replay)) => replay(alloc, source, sink),
-        Ok(Some(Command::ReplayStore { path, dir })) => {
-            replay_store(alloc, host, path, dir, source, sink)
-        }
-        Ok(Some(Command::Show { path })) => show(alloc, host, path, sink),
-        Ok(Some(Command::ShowVolumes { path, dir })) => show_volumes(alloc, host, path, dir, sink),
-        Ok(Some(Command::Drill { number })) => drill(alloc, number, sink),
+        Ok(Some(command)) => run_command(alloc, command, host, source, sink),
         Ok(None) => Outcome::unopened(alloc, Some(Cause::WordsRefused), None),
         Err(AllocError) => Outcome::unopened(alloc, Some(Cause::NoMemory), None),
+    }
+}
+
+/// Does what the command says.
+fn run_command<H: Host, I: Source, O: Sink>(
+    alloc: Global,
+    command: Command,
+    host: &mut H,
+    source: &mut I,
+    sink: &mut O,
+) -> Outcome<H::Disk, H::Drive>
+    ensures { KeepsPromises H.Host H.Disk.Disk H.Drive.Drive (Some (form_in command.entry)) host.old host.new (source_told I.left I.fault_count source.old source.new) (sink_told O.taken O.fault_count sink.old sink.new) result }
+{
+    one_script();
+    match command {
+        Command::Format { path, size } => format(alloc, host, path, size),
+        Command::Replay => replay(alloc, source, sink),
+        Command::ReplayStore { path, dir } => { replay_store(alloc, host, path, dir, source, sink) }
+        Command::Show { path } => show(alloc, host, path, sink),
+        Command::ShowVolumes { path, dir } => show_volumes(alloc, host, path, dir, sink),
+        Command::Drill { number } => drill(alloc, number, sink),
     }
 }
 
@@ -84,7 +98,7 @@ fn format<H: Host>(
     path: &str,
     size: StoreSize,
 ) -> Outcome<H::Disk, H::Drive>
-    ensures unopened { result ≡ record { status = status_of result.cause; at = place_of result.cause; cause = result.cause; base = 0; opening = None; history = []; disk = result.disk; drives = [] } }
+    ensures unopened { result ≡ ended_with result.cause [] result.disk }
     ensures formatted { result.cause ≡ None → IsFormatted H.Disk.Disk (geometry_number size) (fsid_of path.now) result.disk }
     ensures host { HandsOut path.now (H.holds host.old) (H.holds host.new) result.disk }
     ensures made { H.make_count host.new ≡ raised (H.make_count host.old) }
@@ -122,8 +136,7 @@ fn replay<D: Disk, M, I: Source, O: Sink>(
     source: &mut I,
     sink: &mut O,
 ) -> Outcome<D, M>
-    ensures new { (result.opening ≡ None) × (result.disk ≡ None) × (result.base ≡ 0) × (result.drives ≡ []) }
-    ensures told { (result.status ≡ status_of result.cause) × (result.at ≡ place_of result.cause) }
+    ensures ended { result ≡ ended_with result.cause result.history None }
     ensures script { HasRun (SettlesOn (opened_in result)) (λ marks. IsWellServedOver (opened_in result) marks × IsRightInMemory marks) false (source_told I.left I.fault_count source.old source.new) result.cause result.history }
     ensures reading { HasRead (source_told I.left I.fault_count source.old source.new) result.cause }
     ensures legality { IsGoodOver {D = D} None result.history }
@@ -139,16 +152,7 @@ fn replay<D: Disk, M, I: Source, O: Sink>(
         Ok(hsm) => {
             let drives = new_drives(alloc);
             let finished = run_opened(alloc, hsm, drives, false, source, sink);
-            Outcome {
-                status: Cause::status(finished.cause),
-                at: Cause::place(finished.cause),
-                cause: finished.cause,
-                base: 0,
-                opening: None,
-                history: finished.history,
-                disk: None,
-                drives: ListOf::from(Vec::new(alloc)),
-            }
+            Outcome::ended(alloc, finished.cause, finished.history, None)
         }
         Err(AllocError) => Outcome::unopened(alloc, Some(Cause::NoMemory), None),
     }

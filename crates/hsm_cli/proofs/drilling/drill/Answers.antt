@@ -42,26 +42,26 @@ returns-in-Ok-clause-script g c =
     let history = c.run_on-drilled.result.history in
     let given = c.in-Ok.prepared.drives.items in
     let left = c.run_on-drilled.result.drives.items in
-    rw c.err-cause.ensures.value
+    rw (c.ended.ensures, c.err-cause.ensures.value)
     (settles_new g.row.D.Denot opened (λ so well. HasDrilled so (λ marks. well marks × IsRightInMemory marks) c.args.number (cause_in c.tell.result) history) empty.0 empty.1 empty.2
     (has_drilled (SettlesOn (Some opened)) (λ marks. IsWellServedOver (Some opened) marks × IsRightInMemory marks) c.args.number history (sink_told g.O.Sink.taken g.O.Sink.fault_count c.args.sink.now c.tell.new.sink) ended c.tell.result
     (drills_all _ opened given left c.seals_are_whole.ensures refl (λ d v there. has_gives d v there) c.args.number c.in-Ok.prepared.script history c.in-Ok.ensures.script ran.well ended ran.all)
     (drills_first _ opened given left c.seals_are_whole.ensures refl (λ d v there. has_gives d v there) c.args.number c.in-Ok.prepared.script history c.in-Ok.ensures.script ran.well ran.first) c.tell.ensures.ends c.tell.ensures.ended))
 
 pub returns-in-Ok-clause-legality : goal.returns-in-Ok-clause-legality
-returns-in-Ok-clause-legality g c = good_new c.in-Ok.prepared.hsm.opened c.run_on-drilled.result.history c.in-Ok.ensures.empty.0 c.in-Ok.ensures.empty.1 c.in-Ok.ensures.empty.2 c.run_on-drilled.ensures.legality
+returns-in-Ok-clause-legality g c = rw c.ended.ensures (good_new c.in-Ok.prepared.hsm.opened c.run_on-drilled.result.history c.in-Ok.ensures.empty.0 c.in-Ok.ensures.empty.1 c.in-Ok.ensures.empty.2 c.run_on-drilled.ensures.legality)
 
 pub returns-in-Ok-clause-faultless : goal.returns-in-Ok-clause-faultless
-returns-in-Ok-clause-faultless g c = c.run_on-drilled.ensures.faultless (sound g (goal.at.returns-in-Ok-clause-faultless g c).After-run_on-drilled)
+returns-in-Ok-clause-faultless g c = rw c.ended.ensures (c.run_on-drilled.ensures.faultless (sound g (goal.at.returns-in-Ok-clause-faultless g c).After-run_on-drilled))
 
 pub returns-in-Ok-clause-plain : goal.returns-in-Ok-clause-plain
-returns-in-Ok-clause-plain g c = λ P stands. c.run_on-drilled.ensures.plain P (subst (λ (h : Held). Stands h.files P) (sym c.in-Ok.ensures.empty.1) stands)
+returns-in-Ok-clause-plain g c = rw c.ended.ensures (λ P stands. c.run_on-drilled.ensures.plain P (subst (λ (h : Held). Stands h.files P) (sym c.in-Ok.ensures.empty.1) stands))
 
 pub returns-in-Ok-clause-media : goal.returns-in-Ok-clause-media
-returns-in-Ok-clause-media g c = none_failed _ (λ d. refl) (λ ds. ds.items) (Ok c.in-Ok.prepared.drives) c.run_on-drilled.result.drives.items c.run_on-drilled.result.history c.in-Ok.ensures.count c.run_on-drilled.ensures.drives tt c.run_on-drilled.ensures.media
+returns-in-Ok-clause-media g c = rw c.ended.ensures (none_failed _ (λ d. refl) (λ ds. ds.items) (Ok c.in-Ok.prepared.drives) c.run_on-drilled.result.drives.items c.run_on-drilled.result.history c.in-Ok.ensures.count c.run_on-drilled.ensures.drives tt c.run_on-drilled.ensures.media)
 
 pub returns-in-Ok-clause-caused_by : goal.returns-in-Ok-clause-caused_by
-returns-in-Ok-clause-caused_by g c = caused_new c.in-Ok.prepared.hsm.opened c.run_on-drilled.result.history c.in-Ok.ensures.empty.0 c.in-Ok.ensures.empty.1 c.in-Ok.ensures.empty.2 c.run_on-drilled.ensures.caused_by
+returns-in-Ok-clause-caused_by g c = rw c.ended.ensures (caused_new c.in-Ok.prepared.hsm.opened c.run_on-drilled.result.history c.in-Ok.ensures.empty.0 c.in-Ok.ensures.empty.1 c.in-Ok.ensures.empty.2 c.run_on-drilled.ensures.caused_by)
 
 pub returns-in-Ok-clause-output : goal.returns-in-Ok-clause-output
 returns-in-Ok-clause-output g c =
@@ -70,12 +70,12 @@ returns-in-Ok-clause-output g c =
     let number = c.args.number in
     let d = c.run_on-drilled.result in
     let left = left_new opened d.history d.used d.offline empty.0 empty.1 empty.2 (c.run_on-drilled.ensures.totals (sound g (goal.at.returns-in-Ok-clause-output g c).After-run_on-drilled)) in
-    rw c.err-cause.ensures.value
+    rw (c.ended.ensures, c.err-cause.ensures.value)
     (takes_as (λ text. text ≡ summary_line number d.history d.used d.offline) (λ text. text ≡ drill_text number d.history) (sink_told g.O.Sink.taken g.O.Sink.fault_count c.args.sink.now c.tell.new.sink) (cause_in c.tell.result)
     (λ text is. tells_left number d.history d.used d.offline text left is) c.tell.ensures.text)
 
 pub returns-in-Ok-clause-ends : goal.returns-in-Ok-clause-ends
-returns-in-Ok-clause-ends g c = rw c.err-cause.ensures.value (if_told (WritingEnds (sink_told g.O.Sink.taken g.O.Sink.fault_count c.args.sink.now c.tell.new.sink)) c.tell.result c.tell.ensures.ends)
+returns-in-Ok-clause-ends g c = rw (c.ended.ensures, c.err-cause.ensures.value) (if_told (WritingEnds (sink_told g.O.Sink.taken g.O.Sink.fault_count c.args.sink.now c.tell.new.sink)) c.tell.result c.tell.ensures.ends)
 
 pub returns-in-Err-clause-legality : goal.returns-in-Err-clause-legality
 returns-in-Err-clause-legality g c = rw c.unopened.ensures (good_unopened g.row.D.Denot)
