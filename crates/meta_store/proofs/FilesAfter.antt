@@ -16,8 +16,6 @@ use Rattle.meta_store.proofs.ClearedPlaces.{length-gone_if, uses-gone_if}
 use Rattle.meta_store.proofs.StubsAfter.{IsTakenOn, stubs-after}
 use Rattle.meta_store.proofs.FileEdits.{name_of, uses_of}
 
--- ---- what is known of a record that can stand
-
 pub stood : (r : Record) (c : Catalog) → IsAboutOne r → CanStand r c → (f : CatalogFile) × (find_key (λ g. g.key) (key_on (inode_of r) c) c.files ≡ Some f) × CanStandOn r f c
 stood (Make key name) c about stands = absurd about
 stood (Drop ino) c about stands = absurd about
@@ -30,15 +28,11 @@ fits (Stub ino j None) f c stands = stands
 fits (Stub ino j (Some stub)) f c stands = stands.turns
 fits r f c stands = tt
 
--- ---- its name and its parts
-
 pub named-after : (r : Record) (g : CatalogFile) → name_of (file_after r g) ≡ name_of g
 named-after r g = grind arith
 
 pub file-after : (r : Record) (f : CatalogFile) (x : FileParts) (size : ℕ) → x ≡ parts_after r (parts_of f) → size ≡ (file_after r f).size → file_after r f ≡ file_of f.key f.name size x
 file-after r f x size is sized = grind arith
-
--- ---- what stays true
 
 sized-after : (r : Record) (f : CatalogFile) (c : Catalog) → CanStandOn r f c → f.size ≤ 16777216 → length f.places ≡ blocks_in f.size → ((file_after r f).size ≤ 16777216) × (length (file_after r f).places ≡ blocks_in (file_after r f).size)
 sized-after (Size ino size) f c stands few count = (stands, length-fitted size f.places)

@@ -14,8 +14,6 @@ same-catalog n n' c c' geometry h h' is =
     let files = sym (filled-again (geometry_of c.geometry).blocks c.files h.each) ∙ ap (λ (s : Snapshot). map filled s.files) is ∙ filled-again (geometry_of c'.geometry).blocks c'.files h'.each in
     (ap (λ (s : Snapshot). s.number) is, λ i. record { geometry = geometry i; next = next i; files = files i })
 
--- ---- what recovery finds
-
 pub found-one : (image : List ℕ) → FindsOne image
 found-one image fsid n c fsid' n' c' found found' =
     let head = found.found.superblock in

@@ -75,22 +75,13 @@ module _ (s : Inside) (v : Catalog) (is : catalog_held s.geometry s.table s.part
   pub table-held : s.table ≡ record { limit = (geometry_of v.geometry).files; next = v.next; files = map (λ f. entry_of f.key f.name f.size) v.files }
   table-held = rw (← is, entries-held s.parts.items s.table.files, ← i.0.limit) refl
 
-  pub counted : s.attribute_total ≡ attribute_total v.files
-  counted = rw (← is) i.0.counted
+  counts : (s.attribute_total ≡ attribute_total v.files) × (s.stub_total ≡ stub_total v.files) × (s.used ≡ length (blocks_of v.files))
+  counts = rw (← is) (i.0.counted, i.0.stubbed, i.1)
 
-  pub stubs-counted : s.stub_total ≡ stub_total v.files
-  stubs-counted = rw (← is) i.0.stubbed
-
-  pub stubs-bounded : (s.stub_total ≤ (geometry_of v.geometry).stubs) × ((geometry_of v.geometry).stubs ≤ 65536)
-  stubs-bounded = (omega (arith, stubs-counted, lawful.few_stubs), few-stubs v.geometry)
-
-  blocks-counted : s.used ≡ length (blocks_of v.files)
-  blocks-counted = rw (← is) i.1
-
-  pub bounded : (s.attribute_total ≤ (geometry_of v.geometry).attributes) × ((geometry_of v.geometry).attributes ≤ 1048576) × (s.used ≤ 65536)
+  pub bounded : (s.attribute_total ≤ (geometry_of v.geometry).attributes) × ((geometry_of v.geometry).attributes ≤ 1048576) × (s.used ≤ 65536) × (s.stub_total ≤ (geometry_of v.geometry).stubs) × ((geometry_of v.geometry).stubs ≤ 65536)
   bounded =
       let most = geometry-bounded v.geometry in
-      (omega (arith, counted, lawful.few), most.2, omega (arith, most.1, blocks-counted, blocks-few v lawful))
+      (omega (arith, counts.0, lawful.few), most.2, omega (arith, most.1, counts.2, blocks-few v lawful), omega (arith, counts.1, lawful.few_stubs), few-stubs v.geometry)
 
   pub slot-within : (at : ℕ) (e : FileEntry) → slice_get s.table.files at ≡ Some e → (1 ≤ e.key.ino) × (e.key.ino ≤ length s.parts.items)
   slot-within at e there = rw i.0.count (within_get 1 (geometry_of s.geometry).files s.table.next at e s.table.files table.ascend table.within there)
@@ -114,9 +105,9 @@ module _ (s : Inside) (v : Catalog) (is : catalog_held s.geometry s.table s.part
   -- what is counted of one file and of the others
   pub others : (k : FileKey) (f : CatalogFile) → find_key (λ g. g.key) k v.files ≡ Some f → (others_total k v + count_of f ≡ s.attribute_total) × (others_stubs k v + stubs_of f ≡ s.stub_total) × (length (blocks_of (without_file k v).files) + mapped_of f ≡ s.used)
   others k f found = (
-    omega (arith, sum-drop count_of k f v.files found, counted),
-    omega (arith, sum-drop stubs_of k f v.files found, stubs-counted),
-    omega (arith, sum-drop mapped_of k f v.files found, used-sum v.files, used-sum (without_file k v).files, blocks-counted),
+    omega (arith, sum-drop count_of k f v.files found, counts.0),
+    omega (arith, sum-drop stubs_of k f v.files found, counts.1),
+    omega (arith, sum-drop mapped_of k f v.files found, used-sum v.files, used-sum (without_file k v).files, counts.2),
   )
 
   -- ---- the file of an inode
@@ -164,7 +155,7 @@ module _ (s : Inside) (v : Catalog) (is : catalog_held s.geometry s.table s.part
     put-counted total' stubs' used' new early good apart room stub_room bytes entries blocks =
         let f : CatalogFile = file_of key name size x in
         after (with_entry (entry_of key name size) s.table) (set s.parts.items (key.ino - 1) x) (with_put f v) total' stubs' used' put-held refl (length-set s.parts.items (key.ino - 1) x) (IsCatalog-with_put f v lawful low high free new early good apart room stub_room)
-        (omega (arith, sum-put count_of f v.files, counted)) (omega (arith, sum-put stubs_of f v.files, stubs-counted)) (omega (arith, sum-put mapped_of f v.files, used-sum v.files, used-sum (with_put f v).files, blocks-counted))
+        (omega (arith, sum-put count_of f v.files, counts.0)) (omega (arith, sum-put stubs_of f v.files, counts.1)) (omega (arith, sum-put mapped_of f v.files, used-sum v.files, used-sum (with_put f v).files, counts.2))
 
   pub drop-held : (key : FileKey) → catalog_held s.geometry (record s.table { files = drop_key (λ e. e.key) key s.table.files }) s.parts.items ≡ without_file key v
   drop-held key = rw (← is, map-drop (λ (f : CatalogFile). f.key) (file_held s.parts.items) key s.table.files) refl

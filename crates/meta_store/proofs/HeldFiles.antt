@@ -1,9 +1,7 @@
 -- Edits of the table and of the array of parts are edits of the catalog.
-use Rattle.std.proofs.Common.{◌≡◌, ℕ, ◌+◌, ◌-◌, ◌≤◌, List, [], ◌∷◌, length, map, get_or, set, false, Some, inl, inr, refl, sym, ◌∙◌, ap, arith, get_or-set_same, get_or-set_other}
-use Rattle.std.proofs.lemmas.Bool.{cases_Bool}
-use Rattle.std.proofs.lemmas.Option.{same_Some}
+use Rattle.std.proofs.Common.{◌≡◌, ℕ, ◌+◌, ◌-◌, ◌≤◌, List, [], ◌∷◌, length, map, get_or, set, false, Some, refl, ◌∙◌, arith, get_or-set_same, get_or-set_other}
 use Rattle.hsm_types.specs.declared.keys.FileKey.{FileKey}
-use Rattle.plain_model.specs.Keyed.{same_key, find_key, change_key, put_key}
+use Rattle.plain_model.specs.Keyed.{find_key, change_key, put_key}
 use Rattle.inode_table.specs.declared.entries.FileEntry.{FileEntry}
 use Rattle.inode_table.specs.Listing.{listing, has_inode, Ascend, Within}
 use Rattle.inode_table.specs.Table.{entry_of}
@@ -14,8 +12,6 @@ use Rattle.meta_store.specs.InMemory.{no_parts, file_of, file_held, files_held}
 use Rattle.meta_store.proofs.FileEdits.{map-put}
 use Rattle.meta_store.proofs.FoundFiles.{same_keys}
 
--- ---- names, and back to the table
-
 pub names_of-held : (ps : List FileParts) (es : List FileEntry) → names_of (files_held ps es) ≡ listing es
 names_of-held ps [] = refl
 names_of-held ps (e ∷ es) = rw (names_of-held ps es) refl
@@ -23,8 +19,6 @@ names_of-held ps (e ∷ es) = rw (names_of-held ps es) refl
 pub entries-held : (ps : List FileParts) (es : List FileEntry) → map (λ f. entry_of f.key f.name f.size) (files_held ps es) ≡ es
 entries-held ps [] = refl
 entries-held ps (e ∷ es) = rw (entries-held ps es) refl
-
--- ---- edits of the parts of one inode
 
 -- The parts of the other inodes stay.
 held-other : (ps : List FileParts) (n ino : ℕ) (x : FileParts) (es : List FileEntry) → 1 ≤ ino → 1 ≤ n → Ascend n (listing es) → has_inode ino (listing es) ≡ false → files_held (set ps (ino - 1) x) es ≡ files_held ps es
@@ -40,8 +34,6 @@ held-put_at ps e x es low high a free =
     let here : get_or (set ps (e.key.ino - 1) x) (e.key.ino - 1) no_parts ≡ x = get_or-set_same ps (e.key.ino - 1) x no_parts (omega arith) in
     map-put (λ (f : CatalogFile). f.key) (file_held (set ps (e.key.ino - 1) x)) e es ∙ rw (here, held-other ps 1 e.key.ino x es low (omega arith) a free) refl
 
--- ---- a file that is found
-
 -- its key, and the bounds of its inode
 pub found-within : (n limit next : ℕ) (k : FileKey) (e : FileEntry) (es : List FileEntry) → Ascend n (listing es) → Within limit next (listing es) → find_key (λ x. x.key) k es ≡ Some e → (e.key ≡ k) × (n ≤ k.ino) × (k.ino ≤ limit)
 found-within n limit next k e [] a w found = cc
@@ -53,17 +45,9 @@ pub held-change : (ps : List FileParts) (n limit next : ℕ) (k : FileKey) (to :
     → files_held (set ps (k.ino - 1) x) (change_key (λ f. f.key) k (λ f. record f { size = size }) es) ≡ change_key (λ f. f.key) k to (files_held ps es)
 held-change ps n limit next k to e x size [] from high a w found is = cc
 held-change ps n limit next k to e x size (f ∷ es) from high a w found is =
-    let new : List FileParts = set ps (k.ino - 1) x in
-    elim (cases_Bool (same_key f.key k)) [
-      | inl same ↦
-          let it : e ≡ f = same_Some e f (sym (rw same at found)) in
-          let ino = ap (λ (j : FileKey). j.ino) (same_keys f.key k same) in
-          let here : get_or new (f.key.ino - 1) no_parts ≡ x = rw ino (get_or-set_same ps (k.ino - 1) x no_parts (omega (arith, a.0, w.0))) in
-          let others = held-other ps (f.key.ino + 1) k.ino x es (omega (arith, a.0)) (omega arith) a.1 (absent-low k.ino (f.key.ino + 1) (listing es) a.1 (omega arith)) in
-          rw (same, here, rw it at is, others) refl
-      | inr other ↦
-          let there = rw other at found in
-          let above = (found-within (f.key.ino + 1) limit next k e es a.1 w.2 there).1 in
-          let here : get_or new (f.key.ino - 1) no_parts ≡ get_or ps (f.key.ino - 1) no_parts = get_or-set_other ps (k.ino - 1) (f.key.ino - 1) x no_parts (λ same. absurd (omega (arith, a.0, above))) in
-          rw (other, here, held-change ps (f.key.ino + 1) limit next k to e x size es (omega arith) high a.1 w.2 there is) refl
-    ]
+    let keys = same_keys f.key k in
+    let own = λ (mine : f.key.ino ≡ k.ino). get_or-set_same ps (k.ino - 1) x no_parts (omega (arith, a.0, w.0)) in
+    let stay = λ (mine : f.key.ino ≡ k.ino). held-other ps (f.key.ino + 1) k.ino x es (omega (arith, a.0)) (omega arith) a.1 (absent-low k.ino (f.key.ino + 1) (listing es) a.1 (omega arith)) in
+    let later = λ (there : find_key (λ g. g.key) k es ≡ Some e). held-change ps (f.key.ino + 1) limit next k to e x size es (omega arith) high a.1 w.2 there is in
+    let apart = λ (there : find_key (λ g. g.key) k es ≡ Some e). let above = (found-within (f.key.ino + 1) limit next k e es a.1 w.2 there).1 in get_or-set_other ps (k.ino - 1) (f.key.ino - 1) x no_parts (λ same. absurd (omega (arith, a.0, above))) in
+    grind (arith, keys, own, stay, later, apart)

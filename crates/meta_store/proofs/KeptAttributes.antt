@@ -18,8 +18,6 @@ use Rattle.meta_store.proofs.KeptBounds.{values-short}
 name_cmp-total : IsTotalOrder name_cmp
 name_cmp-total = on_total (λ (name : AttrName). name.0) nat_list_cmp_total
 
--- ---- a name above all others goes last
-
 abbrev AreBelow : AttrName → Attributes → Type 0
 AreBelow name attrs = AllByRecursion (λ k. name_cmp k name ≡ Less) (keys_of attrs)
 
@@ -38,8 +36,6 @@ all-below name later value (a ∷ attrs) less below = (name_cmp-total.trans a.0 
 bytes-front : (attrs : Attributes) (a : AttrName × List ℕ) (rest : Attributes) → bytes_of_attributes (attrs ++ a ∷ []) ≤ bytes_of_attributes (attrs ++ a ∷ rest)
 bytes-front attrs a rest = simp (map-append, sum_by-append) (omega (arith, sum_by-cons cost_of_value a.1 [], sum_by-cons cost_of_value a.1 (values_of rest)))
 
--- ---- one that stands behind the others is set, where it is lawful
-
 module _ (before : Option AttrName) (attrs : Attributes) (name : AttrName) (value : List ℕ) (ends : EndWith before attrs) where
   pub at-end : stands_behind before name ≡ true → with_value name value attrs ≡ attrs ++ (name, value) ∷ []
   at-end behind = goes-last name value attrs (ends name behind)
@@ -49,8 +45,6 @@ module _ (before : Option AttrName) (attrs : Attributes) (name : AttrName) (valu
 
   pub accepted : (rest : Attributes) (limit : ℕ) → are_attributes before ((name, value) ∷ rest) ≡ true → bytes_of_attributes (attrs ++ (name, value) ∷ rest) ≤ limit → setting_refusal name value 0 limit attrs ≡ None
   accepted rest limit are few = grind (arith, at-end, bytes-front attrs (name, value) rest)
-
--- ---- lawful attributes pass
 
 pass-behind : (before : Option AttrName) (attrs : Attributes) → AllByRecursion (λ k. stands_behind before k ≡ true) (keys_of attrs) → IsStrictlySortedBy name_cmp (keys_of attrs) → AllByRecursion (λ k. is_reserved k ≡ false) (keys_of attrs) → AllByRecursion (λ a. length a.1 ≤ 4096) attrs
     → are_attributes before attrs ≡ true

@@ -8,10 +8,8 @@ use Rattle.hsm_types.specs.declared.attributes.AttrName.{AttrName}
 use Rattle.hsm_types.specs.Regions.{first_bad, regions_refusal}
 use Rattle.hsm_types.specs.Attributes.{Attributes, AreAttributes, setting_refusal, with_value, without_value, cost_of_value, bytes_of_attributes}
 use Rattle.std.proofs.lemmas.List.Elements.{recursion_from_All}
-use Rattle.meta_store.proofs.EachOf.{each-as, each-and}
+use Rattle.meta_store.proofs.EachOf.{each-as, each-and, map-each}
 use Rattle.meta_store.specs.Snapshots.{attribute_bytes, RegionFits, AttributeFits}
-
--- ---- regions
 
 pub regions-few : (rs : List Region) → regions_refusal rs ≡ None → length rs ≤ 4
 regions-few rs none = grind arith
@@ -23,15 +21,9 @@ each_fits index before (r ∷ rs) h = (grind arith, each_fits (index + 1) (Some 
 pub regions-fit : (rs : List Region) → regions_refusal rs ≡ None → AllByRecursion RegionFits rs
 regions-fit rs none = each_fits 0 None rs (grind arith)
 
--- ---- attributes
-
 -- values are short
 pub values-short : (attrs : Attributes) → AreAttributes attrs → AllByRecursion (λ a. length a.1 ≤ 4096) attrs
-values-short attrs are = by attrs (recursion_from_All (λ value. length value ≤ 4096) (values_of attrs) are.short)
-  where
-    by : (attrs : Attributes) → AllByRecursion (λ value. length value ≤ 4096) (values_of attrs) → AllByRecursion (λ a. length a.1 ≤ 4096) attrs
-    by [] all = tt
-    by (a ∷ attrs) all = (all.0, by attrs all.1)
+values-short attrs are = map-each (λ value. length value ≤ 4096) (λ a. a.1) attrs (recursion_from_All (λ value. length value ≤ 4096) (values_of attrs) are.short)
 
 pub attributes-fit : (attrs : Attributes) → AllByRecursion (λ a. length a.0.0 ≡ 8) attrs → AreAttributes attrs → AllByRecursion AttributeFits attrs
 attributes-fit attrs eight are = each-as _ AttributeFits attrs (λ a is. (is.0, omega (arith, is.1))) (each-and (λ a. length a.0.0 ≡ 8) (λ a. length a.1 ≤ 4096) attrs eight (values-short attrs are))

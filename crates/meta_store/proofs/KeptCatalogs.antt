@@ -22,8 +22,6 @@ use Rattle.meta_store.proofs.FileEdits.{name_of, count_of, stubs_of, uses_of, us
 abbrev pub empty_file : FileKey → List ℕ → CatalogFile
 empty_file key name = record { key = key; name = name; size = 0; places = []; kept = nothing_kept }
 
--- ---- one file more
-
 pub IsCatalog-with_put : (g : CatalogFile) (c : Catalog) → IsCatalog c → 1 ≤ g.key.ino → g.key.ino ≤ (geometry_of c.geometry).files → has_inode g.key.ino (names_of c.files) ≡ false → named g.name (names_of c.files) ≡ None → g.key.igen < 2 ^ 62
     → IsCatalogFile (geometry_of c.geometry).blocks g → Distinct (present g.places ++ blocks_of c.files) → attribute_total c.files + count_of g ≤ (geometry_of c.geometry).attributes
     → stub_total c.files + stubs_of g ≤ (geometry_of c.geometry).stubs → IsCatalog (with_put g c)
@@ -43,8 +41,6 @@ IsCatalog-with_put g c is low high free new early lawful apart room stub_room = 
   few_stubs = omega (arith, sum-put stubs_of g c.files);
 }
 
--- ---- one less
-
 pub IsCatalog-without_file : (key : FileKey) (f : CatalogFile) (c : Catalog) → IsCatalog c → find_key (λ g. g.key) key c.files ≡ Some f → IsCatalog (without_file key c)
 IsCatalog-without_file key f c is found = record {
   known = is.known;
@@ -60,8 +56,6 @@ IsCatalog-without_file key f c is found = record {
   few = omega (arith, is.few, sum-drop count_of key f c.files found);
   few_stubs = omega (arith, is.few_stubs, sum-drop stubs_of key f c.files found);
 }
-
--- ---- one changed
 
 pub IsCatalog-after : (r : Record) (key : FileKey) (f : CatalogFile) (c : Catalog) (others : Others) (limits : Geometry) → IsCatalog c → find_key (λ g. g.key) key c.files ≡ Some f → IsTakenOn r f c others limits
     → attribute_total (with_changed key (file_after r) c).files ≤ (geometry_of c.geometry).attributes → stub_total (with_changed key (file_after r) c).files ≤ (geometry_of c.geometry).stubs → IsCatalog (with_changed key (file_after r) c)

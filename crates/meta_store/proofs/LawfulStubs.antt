@@ -14,8 +14,6 @@ use Rattle.meta_store.specs.Catalogs.{CatalogFile, StubFits, HasNoBlocks, IsCata
 use Rattle.meta_store.specs.Validity.{is_above, AreLawfulStubs}
 use Rattle.meta_store.proofs.EachOf.{all-both, all-parts, each-as, each-and}
 
--- ---- a segment above all others goes last
-
 abbrev pub AreBelow : ℕ → Stubs → Type 0
 AreBelow j stubs = AllByRecursion (λ x. x.0 < j) stubs
 
@@ -47,8 +45,6 @@ ends-more j stub stubs below k = (
   λ all. let last = (all-parts (λ x. x.0 < k) stubs ((j, stub) ∷ []) all).1.0 in grind arith,
 )
 
--- ---- the blocks of a segment
-
 -- the places of the segment, cut at the end of the places
 pub segment-window : (j from to : ℕ) (places : List (Option ℕ)) → from ≡ min (length places) (16 * j) → to ≡ min (length places) (from + 16) → take (to - from) (drop from places) ≡ places_in_segment j places
 segment-window j from to places first last =
@@ -57,8 +53,6 @@ segment-window j from to places first last =
     let at : from ≡ min (16 * j) (length places) = omega arith in
     let size : to - from ≡ min 16 (length (drop (16 * j) places)) = omega (arith, length-drop (16 * j) places) in
     rw (size, at, front) back
-
--- ---- lawful entries, of which some stand in front of one
 
 key-at : (P : ℕ → Type 0) (front : Stubs) (x : ℕ × Stub) (rest : Stubs) → AllByRecursion P (keys_of (front ++ x ∷ rest)) → P x.0
 key-at P [] x rest all = all.0
@@ -74,8 +68,6 @@ pub lawful-at : (size : ℕ) (regions : List Region) (places : List (Option ℕ)
     → (FitsFile size regions x × HasNoBlocks places x) × (is_above before x.0 ≡ true)
 lawful-at size regions places front x rest before are ends =
     (((all-parts (FitsFile size regions) front (x ∷ rest) are.fit.each).1.0, (all-parts (HasNoBlocks places) front (x ∷ rest) are.away).1.0), (ends x.0).1 (front-below front x rest are.fit.ascend))
-
--- ---- the entries of a file of a catalog
 
 pub stubs-tell : (f : CatalogFile) (stubs : Stubs) → AllByRecursion (FitsFile f.size f.kept.regions) stubs → AllByRecursion (HasNoBlocks f.places) stubs → AllByRecursion StubFits stubs → AllByRecursion (IsCatalogStub f) stubs
 stubs-tell f [] fit away numbers = tt

@@ -10,8 +10,6 @@ use Rattle.meta_store.specs.declared.snapshot.Mapping.{Mapping}
 use Rattle.meta_store.proofs.SpreadPlaces.{present-few}
 use Rattle.meta_store.proofs.BlockUses.{is_one, uses, uses-append, uses-absent}
 
--- ---- a new size
-
 pub present-holes : (n : ℕ) → present (replicate n None) ≡ []
 present-holes zero = refl
 present-holes (suc n) = present-holes n
@@ -33,8 +31,6 @@ count-fitted size ps = simp length-append at (ap (λ (bs : List ℕ). length bs)
 
 pub uses-fitted : (n size : ℕ) (ps : List (Option ℕ)) → uses n (present (places_fitted size ps)) ≤ uses n (present ps)
 uses-fitted n size ps = omega (arith, simp uses-append at (ap (uses n) (present-fitted size ps)))
-
--- ---- mappings
 
 pub length-places_set : (ms : List Mapping) (ps : List (Option ℕ)) → length (places_set ms ps) ≡ length ps
 length-places_set [] ps = refl
@@ -59,8 +55,6 @@ uses-mapped n block (p ∷ new) ps = omega (arith, uses-set n block p ps, uses-m
 pub new_or_used : (n : ℕ) (new used : List ℕ) → AllByRecursion (λ p. list_any (λ b. eqb b p) used ≡ false) new → (uses n new ≡ 0) ⊎ (uses n used ≡ 0)
 new_or_used n [] used unused = inl refl
 new_or_used n (p ∷ new) used unused = grind (arith, uses-absent p used unused.0, new_or_used n new used unused.1)
-
--- ---- one place after the other
 
 -- the places of the blocks that follow
 pub run-more : (first i : ℕ) (new : List ℕ) (d : ℕ) (ps : List (Option ℕ)) → i < length new

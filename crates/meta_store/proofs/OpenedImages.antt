@@ -15,13 +15,9 @@ use Rattle.meta_store.specs.Snapshots.{IsSnapshot}
 use Rattle.meta_store.specs.Images.{area_of, gate_of, IsClosed, IsImage, IsCorruptAt}
 use Rattle.meta_store.specs.Meta.{Meta, Backs}
 
--- which error it was
-pub err_is : {T E : Type 0} (e v : E) → IsErrOf {T = T} {E = E} (Err e) v → e ≡ v
-err_is e v is = cc
-
 -- the same error, of another function
 pub err_on : {T U E : Type 0} {e v : E} → IsErrOf {T = T} {E = E} (Err e) v → IsErrOf {T = U} {E = E} (Err e) v
-err_on {T} {U} {E} {e} {v} is = ap (λ (x : E). Err x) (err_is e v is)
+err_on {E} {e} {v} is = let same : e ≡ v = cc in ap (λ (x : E). Err x) same
 
 pub place_is : {T : Type 0} (p q : ℕ) → IsErrOf {T = T} (Err (Corrupt p)) (Corrupt q) → p ≡ q
 place_is p q is = cc

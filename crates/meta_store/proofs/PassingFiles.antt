@@ -19,8 +19,6 @@ use Rattle.meta_store.proofs.EachOf.{all-parts}
 use Rattle.meta_store.proofs.SpreadPlaces.{places_of-extents, are_extents-from, places-again}
 use Rattle.meta_store.proofs.StandOnce.{above-last, nameless, unused-from}
 
--- ---- the names and places of a snapshot are those of its catalog
-
 pub names_in-snapshot : (fs : List CatalogFile) → names_in (map snapshot_file fs) ≡ names_of fs
 names_in-snapshot [] = refl
 names_in-snapshot (f ∷ fs) = rw (names_in-snapshot fs) refl
@@ -31,8 +29,6 @@ places_in-snapshot (f ∷ fs) = rw (places_of-extents 0 f.places, places_in-snap
 
 pub stub_total_in-snapshot : (fs : List CatalogFile) → stub_total fs ≡ stub_total_in (map snapshot_file fs)
 stub_total_in-snapshot fs = sym (fold-map (λ (sum : ℕ) (s : SnapshotFile). sum + length s.kept.stubs) snapshot_file 0 fs)
-
--- ---- a file of a valid catalog passes
 
 -- what is judged of a file alone
 abbrev Passes : ℕ → ℕ → ℕ → SnapshotFile → Type 0

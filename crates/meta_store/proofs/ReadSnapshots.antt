@@ -76,8 +76,6 @@ snapshot_reads =
     (λ s. (((s.number, s.next), tt), s.files)) (λ s. refl) (λ p. refl) (λ s. refl)
     (λ p fit. search) (λ s fit. search)
 
--- ---- what is read of an area
-
 pub is_read : (area : List ℕ) (x : Snapshot × List ℕ) → IsBytes area → snapshot_at area ≡ Some x → IsSpelled area x.0
 is_read area x ok e = let t = rw e at (snapshot_reads.takes area ok) in record { fits = t.fit; rest = x.1; spelled = t.parts }
 

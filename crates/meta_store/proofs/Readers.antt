@@ -48,8 +48,7 @@ IsWide n = (bytes : List ℕ) → length bytes ≡ n → IsBytes bytes → big_b
 
 pub wide1 : IsWide 1
 wide1 (a ∷ []) len fits = ap (λ (x : ℕ). x ∷ []) (omega (arith, fits 0))
-wide1 (a ∷ b ∷ bytes) len fits = absurd (omega arith)
-wide1 [] len fits = absurd (omega arith)
+wide1 bytes len fits = absurd (omega arith)
 
 pub wide2 : IsWide 2
 wide2 bytes len fits = be_bytes_2 bytes _ len fits (omega arith)

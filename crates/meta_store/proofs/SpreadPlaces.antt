@@ -10,8 +10,6 @@ use Rattle.meta_store.specs.Records.{places_set}
 use Rattle.meta_store.specs.Snapshots.{SnapshotFile, extents_from, snapshot_file}
 use Rattle.meta_store.specs.Validity.{are_extents, places_of, places_by}
 
--- ---- the places, from their extents
-
 -- behind a front
 again : (ps front : List (Option ℕ)) → places_set (extents_from (length front) ps) (front ++ replicate (length ps) None) ≡ front ++ ps
 again [] front = refl
@@ -21,8 +19,6 @@ again (Some at ∷ ps) front =
     let none : length front - length front ≡ 0 = omega arith in
     let here : set (front ++ None ∷ holes) (length front) (Some at) ≡ front ++ Some at ∷ holes = set-append_right front (None ∷ holes) (length front) (length front) (Some at) refl (omega arith) ∙ rw none refl in
     ap (places_set (extents_from (length front + 1) ps)) here ∙ simp (length_push, append_assoc) at (again ps (front ++ Some at ∷ []))
-
--- ---- the extents, from their places
 
 -- the places of so many blocks that these extents say
 laid : (count low n blocks : ℕ) (ms : List Mapping) → low + count ≡ n → are_extents low n blocks ms ≡ true → (places : List (Option ℕ)) × (length places ≡ count) × (extents_from low places ≡ ms)
@@ -44,8 +40,6 @@ spread-holes ms n blocks h =
     let l = laid n 0 n blocks ms (omega arith) h in
     rw (rw (l.2, l.1) at (again l.0 [])) l.2
 
--- ---- a file from its snapshot
-
 -- the file of a catalog that a snapshot says
 abbrev pub filled : SnapshotFile → CatalogFile
 filled f = record { key = f.key; name = f.name; size = f.size; places = places_by f; kept = f.kept }
@@ -57,8 +51,6 @@ pub filled-again : (blocks : ℕ) (fs : List CatalogFile) → AllByRecursion (Is
 filled-again blocks [] each = refl
 filled-again blocks (f ∷ fs) each =
     rw (places-again f each.0.places, filled-again blocks fs each.1) refl
-
--- ---- what extents tell
 
 pub present-few : (places : List (Option ℕ)) → length (present places) ≤ length places
 present-few [] = omega arith
@@ -85,8 +77,3 @@ are_extents-from k low n blocks (Some at ∷ places) le e all = grind (arith, al
 pub extents-tell : (low n blocks : ℕ) (ms : List Mapping) → are_extents low n blocks ms ≡ true → AllByRecursion (λ m. m.block < n) ms × AllByRecursion (λ m. m.place < blocks) ms
 extents-tell low n blocks [] h = (tt, tt)
 extents-tell low n blocks (x ∷ ms) h = let rest = extents-tell (x.block + 1) n blocks ms (grind arith) in ((grind arith, rest.0), (grind arith, rest.1))
-
--- what is true of the places is true of each extent's
-pub all-places : (P : ℕ → Type 0) (ms : List Mapping) → AllByRecursion (λ m. P m.place) ms → AllByRecursion P (places_of ms)
-all-places P [] all = tt
-all-places P (m ∷ ms) all = (all.0, all-places P ms all.1)

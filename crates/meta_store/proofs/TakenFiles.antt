@@ -16,15 +16,14 @@ use Rattle.meta_store.specs.Records.{with_put}
 use Rattle.meta_store.specs.Snapshots.{SnapshotFile, snapshot_file, extents_from}
 use Rattle.meta_store.specs.Validity.{names_in, places_of, places_in, last_inode, are_unused, are_free, places_by, AreLawfulStubs, Follows, Flags, HasTaken}
 use Rattle.meta_store.proofs.MappedPlaces.{length-places_set}
-use Rattle.meta_store.proofs.SpreadPlaces.{filled, spread-holes, present-spread, extents-tell, all-places}
+use Rattle.meta_store.proofs.SpreadPlaces.{filled, spread-holes, present-spread, extents-tell}
 use Rattle.meta_store.proofs.StandOnce.{put-behind, unused-joins, free-is, length-mapped}
 use Rattle.meta_store.proofs.PassingFiles.{names_in-snapshot, places_in-snapshot}
-use Rattle.meta_store.proofs.EachOf.{all-both, each-as}
+use Rattle.meta_store.proofs.EachOf.{all-both, each-as, each-map}
 use Rattle.meta_store.proofs.LawfulStubs.{stubs-tell}
 
 same_variant : {X Y : Type 0} (to : X → Y) (o : Option X) → is_some (option_map to o) ≡ is_some o
-same_variant to None = refl
-same_variant to (Some x) = refl
+same_variant to o = grind arith
 
 -- whether a catalog's table has a name
 pub table-has : (fs : List CatalogFile) (name : List ℕ) (t : Table) → t.files ≡ map (λ f. entry_of f.key f.name f.size) fs → is_some (key_named name (listing t.files)) ≡ is_some (named name (names_in (map snapshot_file fs)))
@@ -33,8 +32,6 @@ table-has fs name t is = same_variant (λ (l : Listed). l.key) (named name (list
     listing-names : (fs : List CatalogFile) → listing (map (λ f. entry_of f.key f.name f.size) fs) ≡ names_in (map snapshot_file fs)
     listing-names [] = refl
     listing-names (f ∷ fs) = ap (λ (ls : List Listed). (record { key = f.key; name = f.name }) ∷ ls) (listing-names fs)
-
--- ---- a file that can follow, behind those of a catalog
 
 -- its entries were judged by the places of its blocks
 abbrev pub AreJudged : SnapshotFile → Type 0
@@ -52,7 +49,7 @@ module _ {g : Geometry} {next : ℕ} {c : Catalog} {flags : List Bool} {f : Snap
   within = rw t.count (extents-tell 0 (blocks_in f.size) g.blocks f.extents follows.extents).1
 
   pub flags-tell : (are_free (places_of f.extents) flags ≡ are_unused (places_in (map snapshot_file c.files)) (places_of f.extents)) × Flags (with_mapped (places_of f.extents) flags) (places_in (map snapshot_file c.files) ++ places_of f.extents)
-  flags-tell = free-is (places_of f.extents) flags (places_in (map snapshot_file c.files)) (all-places (λ p. p < length flags) f.extents within) t.flagged
+  flags-tell = free-is (places_of f.extents) flags (places_in (map snapshot_file c.files)) (each-map (λ p. p < length flags) (λ e. e.place) f.extents within) t.flagged
 
   pub is-lawful : IsLawfulKept f.kept → AreJudged f → AllByRecursion StubFits f.kept.stubs → IsCatalogFile g.blocks (filled f)
   is-lawful kept stubs fit = record {
@@ -60,7 +57,7 @@ module _ {g : Geometry} {next : ℕ} {c : Catalog} {flags : List Bool} {f : Snap
     name = follows.name;
     size = follows.size;
     places = length-places_set f.extents (replicate (blocks_in f.size) None) ∙ length-replicate (blocks_in f.size) None;
-    within = rw (present-spread f.extents (blocks_in f.size) g.blocks follows.extents) (all-places (λ b. b < g.blocks) f.extents (extents-tell 0 (blocks_in f.size) g.blocks f.extents follows.extents).1);
+    within = rw (present-spread f.extents (blocks_in f.size) g.blocks follows.extents) (each-map (λ b. b < g.blocks) (λ e. e.place) f.extents (extents-tell 0 (blocks_in f.size) g.blocks f.extents follows.extents).1);
     kept = kept;
     ascend = stubs.fit.ascend;
     stubs = stubs-tell (filled f) f.kept.stubs stubs.fit.each stubs.away fit;

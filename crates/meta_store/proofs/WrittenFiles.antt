@@ -12,14 +12,10 @@ use Rattle.meta_store.proofs.SpreadPlaces.{length-extents}
 use Rattle.meta_store.proofs.KeptBounds.{regions-few}
 use Rattle.meta_store.proofs.SnapshotFits.{name-short}
 
--- ---- values that are written one after the other
-
 pub each-written : {X : Type 0} (text : X → List ℕ) (out : List ℕ) (xs : List X) (i : ℕ) (d : X) → i < length xs → (out ++ text (get_or xs i d)) ++ flat_map text (drop (i + 1) xs) ≡ out ++ flat_map text (drop i xs)
 each-written text out xs i d within = rw (drop_more xs i d, append_assoc) refl
 
 pub ruleset written = (append_assoc, length-extents)
-
--- ---- the file at a place of the catalog
 
 pub bounds-at : (c : Catalog) (i : ℕ) (f : CatalogFile) → IsCatalog c → slice_get c.files i ≡ Some f → (length f.name ≤ 64) × (length f.places ≤ 4096) × (length f.kept.regions ≤ 4)
 bounds-at c i f is at =
@@ -30,8 +26,6 @@ bounds-at c i f is at =
 pub some-at : {X Y : Type 0} (v : X → Y) (o : Option X) (ys : List Y) (i : ℕ) → option_map v o ≡ slice_get ys i → i < length ys → IsSome o
 some-at v (Some x) ys i at within = refl
 some-at v None ys i at within = absurd (grind (arith, slice_get_cases ys i))
-
--- ---- what is written, and what is still to come
 
 -- the bytes of these files
 abbrev pub files_bytes : List CatalogFile → List ℕ

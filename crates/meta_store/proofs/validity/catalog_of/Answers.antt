@@ -13,31 +13,24 @@ use Rattle.meta_store.proofs.StandOnce.{last_inode-push}
 use Rattle.meta_store.proofs.PassingFiles.{passes, told_err}
 use Rattle.meta_store.proofs.validity.catalog_of.Goals as goal
 
--- ---- what a snapshot that was read says
-
-said : (s : RawSnapshot) (n : ℕ) (c : Catalog) → raw_snapshot s ≡ snapshot_of n c → (s.number ≡ n) × (s.next ≡ c.next) × (map raw_file s.files.items ≡ map snapshot_file c.files)
+unfolded : (n : ℕ) (c : Catalog) → snapshot_of n c ≡ record { number = n; next = c.next; files = map snapshot_file c.files }
 unfolding snapshot_of
-said s n c e = (ap (λ (x : Snapshot). x.number) e, ap (λ (x : Snapshot). x.next) e, ap (λ (x : Snapshot). x.files) e)
-
-saying : (s : RawSnapshot) (c : Catalog) → c.next ≡ s.next → map snapshot_file c.files ≡ map raw_file s.files.items → raw_snapshot s ≡ snapshot_of s.number c
-unfolding snapshot_of
-saying s c next files = rw (next, files) refl
+unfolded n c = refl
 
 -- a valid catalog's snapshot has no file that can't stand behind those before it
 each-passes : (s : RawSnapshot) (n : ℕ) (c : Catalog) (before : List RawFile) (f : RawFile) (rest : List RawFile) → IsCatalog c → AreLengths c → raw_snapshot s ≡ snapshot_of n c → before ++ f ∷ rest ≡ s.files.items
     → IsNext (geometry_of c.geometry) s.next (map raw_file before) (raw_file f)
 each-passes s n c before f rest valid long e cut =
-    let says = said s n c e in
-    rw says.1 (passes c (map raw_file before) (raw_file f) (map raw_file rest) valid long (sym says.2 ∙ sym (ap (λ (fs : List RawFile). map raw_file fs) cut) ∙ map-append raw_file before (f ∷ rest)))
+    let says = e ∙ unfolded n c in
+    rw (ap (λ (x : Snapshot). x.next) says) (passes c (map raw_file before) (raw_file f) (map raw_file rest) valid long (sym (ap (λ (x : Snapshot). x.files) says) ∙ sym (ap (λ (fs : List RawFile). map raw_file fs) cut) ∙ map-append raw_file before (f ∷ rest)))
 
 last-taken : (before : List SnapshotFile) (f : SnapshotFile) → f.key.ino ≡ last_inode 0 (names_in (before ++ f ∷ []))
 last-taken before f = rw (map-append listed_in before (f ∷ []), last_inode-push 0 (names_in before) (listed_in f)) refl
 
--- ---- the goals
-
 pub returns-then-snapshot-most-clause-corrupt : goal.returns-then-snapshot-most-clause-corrupt
 returns-then-snapshot-most-clause-corrupt c = λ is n d kind small valid long same.
-    grind (arith, said c.args.snapshot n d same, valid.first, valid.next, c.then-snapshot-most.either)
+    let says = same ∙ unfolded n d in
+    grind (arith, valid.first, valid.next, c.then-snapshot-most.either)
 
 pub returns-in_err-take_in-clause-corrupt : goal.returns-in_err-take_in-clause-corrupt
 returns-in_err-take_in-clause-corrupt c = λ is n d kind small valid long same.
@@ -63,7 +56,6 @@ loop-file-preserved c =
 pub returns-clause-found : goal.returns-clause-found
 returns-clause-found c =
     let so_far = c.loop-file.invariant in
-    let rest = into_iter_items c.loop-file.file-iterator in
-    let none : rest ≡ [] = nil_from_length rest (omega (arith, so_far.left, c.in-None.ensures.steps.0)) in
-    let all = sym (append-nil c.loop-file.yielded) ∙ sym (ap (λ (fs : List RawFile). c.loop-file.yielded ++ fs) none) ∙ so_far.walked in
-    (so_far.taken.geometry, saying c.args.snapshot c.loop-file.catalog so_far.taken.next (so_far.taken.taken ∙ ap (λ (fs : List RawFile). map raw_file fs) all), c.geometry-geometry.ensures.valid)
+    let none : into_iter_items c.loop-file.file-iterator ≡ [] = nil_from_length _ (omega (arith, so_far.left, c.in-None.ensures.steps.0)) in
+    let all = rw (none, append-nil c.loop-file.yielded) at so_far.walked in
+    (so_far.taken.geometry, rw (unfolded c.args.snapshot.number c.loop-file.catalog, so_far.taken.next, so_far.taken.taken, all) refl, c.geometry-geometry.ensures.valid)

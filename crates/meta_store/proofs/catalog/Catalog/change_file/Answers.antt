@@ -3,7 +3,7 @@ use Rattle.std.proofs.lemmas.Result.{err_from_is_err_and}
 use Rattle.hsm_types.specs.declared.stores.Geometry.{Geometry}
 use Rattle.meta_store.specs.Records.{refusal_of, file_after, without_file, with_changed, key_on, inode_of, others_total, others_stubs, others_of, part_refusal, CanStandOn, CanStand, IsAboutOne}
 use Rattle.meta_store.specs.Catalogs.{Catalog, geometry_of, CatalogFile, IsLawfulKept, IsCatalogFile, present, blocks_of, attribute_total, stub_total}
-use Rattle.meta_store.proofs.HeldCatalogs.{bounded, stubs-bounded, IsCounted, IsLive, lawful, table, live, read-live, held-live, others, after}
+use Rattle.meta_store.proofs.HeldCatalogs.{bounded, IsCounted, IsLive, lawful, table, live, read-live, held-live, others, after}
 use Rattle.std.specs.Option.{option_map}
 use Rattle.std.specs.List.Sorted.{IsStrictlySortedBy}
 use Rattle.std.specs.Map.{keys_of}
@@ -50,8 +50,7 @@ module _ {s : Inside} {v : Catalog} {r : Record} {k : FileKey} {place old : ℕ}
   room =
       let sums = others s v t.view t.held (key_on (inode_of r) v) t.file t.found in
       let most = bounded s v t.view t.held in
-      let stubs = stubs-bounded s v t.view t.held in
-      rw (t.others, t.same, t.bound) (omega arith, omega arith, most.1, stubs.1, omega arith)
+      rw (t.others, t.same, t.bound) (omega arith, omega arith, most.1, most.4, omega arith)
 
   refusal : refusal_of r v ≡ part_refusal r rest limits (kept_in x)
   refusal = rw (t.bound, t.others, t.same, t.found) refl
@@ -108,8 +107,6 @@ lent c =
       others = rw c.ino.ensures at c.others-blocks.ensures.others;
       bound = c.geometry_of-limits.ensures ∙ ap (λ (x : Catalog). geometry_of x.geometry) c.self.view_is;
     }
-
--- ---- the goals
 
 pub unwrap-requires : goal.unwrap-requires
 unwrap-requires c = rw (c.size.ensures, (file-at c.self.inside _ c.self.view_is c.self.invariant c.args.change c.requires.about c.requires.stands c.others-blocks.result.0 (rw c.ino.ensures at c.others-blocks.ensures.key)).3.entry) refl
