@@ -8,7 +8,7 @@ use Rattle.disk_model.proofs.Steps.{started, turned_where}
 use Rattle.commit_slots.specs.declared.places.Slot.{Slot}
 use Rattle.commit_slots.specs.Places.{other, layout_of}
 use Rattle.commit_slots.specs.Images.{slot_of, IsStore}
-use Rattle.commit_slots.specs.Steps.{Selects, KeepsSlot, IsSwitched}
+use Rattle.commit_slots.specs.Steps.{Selects, IsOutside, KeepsSlot, IsSwitched}
 use Rattle.commit_slots.proofs.Laid.{laid}
 use Rattle.commit_slots.proofs.Kept.{KeepsParts, parts_kept}
 use Rattle.meta_store.specs.Catalogs.{Catalog, IsCatalog, AreLengths}
@@ -23,27 +23,6 @@ gate_from at n d c long same = sym (front c) ∙ ap (λ (l : List ℕ). part l 0
   where
     front : (image : List ℕ) → part (part image at n) 0 1 ≡ part image at 1
     front image = part_part image at n 0 1 (omega arith) ∙ ap (λ (k : ℕ). part image k 1) (omega arith)
-
--- what was recovered from the old slot, where that is kept
-same_image : (z n fsid number : ℕ) (x : Catalog) (d c : List ℕ) → x.geometry ≡ z → n ≤ (layout_of z).snapshot_len → IsImage fsid number x d → KeepsSlot (layout_of z) (slot_of d) n d c → Recovers fsid number x d c
-unfolding blocks_in_image area_of gate_of
-same_image z n fsid number x d c there fits is k =
-    let kept : KeepsParts (layout_of z) (slot_of d) d c = parts_kept (layout_of z) (laid z) (slot_of d) n fits d c k.outside in
-    record {
-      found = image_same fsid number x d c k.outside.size kept.superblock (rw (there, k.select) kept.snapshot) (rw (there, k.select) (gate_from _ _ d c (laid z).journal_len kept.journal)) is;
-      data_blocks = rw there kept.blocks;
-    }
-
--- what is recovered from the new slot
-new_image : (z fsid number : ℕ) (x : Catalog) (image d c : List ℕ) → x.geometry ≡ z → length image ≤ (layout_of z).snapshot_len → image ≡ spelling (snapshot_of number x) → IsCatalog x → AreLengths x → number ≤ 2 ^ 62
-    → IsStore z fsid d → IsSwitched (layout_of z) (other (slot_of d)) image d c → Recovers fsid number x d c
-unfolding blocks_in_image area_of gate_of
-new_image z fsid number x image d c there short is lawful lengths bound was s =
-    let kept : KeepsParts (layout_of z) (slot_of d) d c = parts_kept (layout_of z) (laid z) (slot_of d) (length image) short d c s.outside in
-    record {
-      found = image_from fsid number x image c (rw there (record { superblock = rw kept.superblock was.superblock; size = s.outside.size ∙ was.size })) is (rw there short) (rw (there, s.select) s.holds) (rw (there, s.select) s.gate) lawful lengths bound;
-      data_blocks = rw there kept.blocks;
-    }
 
 -- no call of the disk
 pub stores_nothing : {D : Type 0} (g : disk.Ghosts D) (d : D) (m : Meta) (n : ℕ) → Backs g d m → ((c : List ℕ) → g.left_since d (g.moment d) c → g.may_leave d c) → StoresOrKeeps g d d m n
@@ -73,18 +52,36 @@ module _ {D : Type 0} (g : disk.Ghosts D) (old new : D) (m : Meta) (lawful : IsM
     slot : slot_of d ≡ m.slot
     holds : IsImage m.fsid m.number m.durable d
 
-  fits : length image ≤ (layout_of z).snapshot_len
-  fits = rw geometry short
-
   durable_as : m.durable.geometry ≡ z
   durable_as = sym (geometry ∙ lawful.stored.geometry)
 
-  found_as : (d c : List ℕ) → Was d → IsSwitched (layout_of z) (other m.slot) image d c → Recovers m.fsid number m.current d c
-  found_as d c known s = new_image z m.fsid number m.current image d c (sym geometry) fits is lawful.current lawful.stored.now bound (rw durable_as at known.holds.found) (rw known.slot s)
+  kept : (d c : List ℕ) → IsOutside (layout_of z) (other m.slot) (length image) d c → KeepsParts (layout_of z) m.slot d c
+  kept d c outside = parts_kept (layout_of z) (laid z) m.slot (length image) (rw geometry short) d c outside
+
+  -- what was recovered from the old slot, where that is kept
+  found_old : (d c : List ℕ) → Was d → KeepsSlot (layout_of z) m.slot (length image) d c → Recovers m.fsid m.number m.durable d c
+  unfolding blocks_in_image area_of gate_of
+  found_old d c known k =
+      let same = kept d c k.outside in
+      record {
+        found = image_same m.fsid m.number m.durable d c k.outside.size same.superblock (rw (durable_as, k.select, known.slot) same.snapshot) (rw (durable_as, k.select, known.slot) (gate_from _ _ d c (laid z).journal_len same.journal)) known.holds;
+        data_blocks = rw durable_as same.blocks;
+      }
+
+  -- what is recovered from the new slot
+  found_new : (d c : List ℕ) → Was d → IsSwitched (layout_of z) (other m.slot) image d c → Recovers m.fsid number m.current d c
+  unfolding blocks_in_image area_of gate_of
+  found_new d c known s =
+      let same = kept d c s.outside in
+      let was : IsStore z m.fsid d = rw durable_as at known.holds.found in
+      record {
+        found = image_from m.fsid number m.current image c (rw (← geometry) (record { superblock = rw same.superblock was.superblock; size = s.outside.size ∙ was.size })) is short (rw (← geometry, s.select) s.holds) (rw (← geometry, s.select) s.gate) lawful.current lawful.stored.now bound;
+        data_blocks = rw (← geometry) same.blocks;
+      }
 
   pub commits : (Selects g old m.slot → Turns g old new (KeepsSlot (layout_of z) m.slot (length image)) (IsSwitched (layout_of z) (other m.slot) image)) → Commits g old new m number (HasSwitched g old new z m.slot image)
   commits turned = record {
-    turns = turned_where g old new Was _ _ _ _ was (λ d c known k. same_image z (length image) m.fsid m.number m.durable d c durable_as fits known.holds (rw known.slot k)) found_as (turned backs.slot);
+    turns = turned_where g old new Was _ _ _ _ was found_old found_new (turned backs.slot);
     stores = stored;
     backs = λ done after slot fsid named durable. record {
       length = (turned backs.slot).moments.length ∙ backs.length ∙ ap (λ (y : ℕ). (layout_of y).whole) (sym (ap (λ (c : Catalog). c.geometry) durable ∙ lawful.stored.geometry));
@@ -97,4 +94,4 @@ module _ {D : Type 0} (g : disk.Ghosts D) (old new : D) (m : Meta) (lawful : IsM
       was d may = record { slot = backs.slot d may; holds = backs.image d may }
 
       stored : HasSwitched g old new z m.slot image → HasStored g old new m number
-      stored done c may = let d = done c may in (d.0, d.1, found_as d.0 c (was d.0 (inr d.1)) d.2)
+      stored done c may = let d = done c may in (d.0, d.1, found_new d.0 c (was d.0 (inr d.1)) d.2)

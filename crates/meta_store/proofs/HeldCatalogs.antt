@@ -61,6 +61,12 @@ read-live t ps k f one at x here read =
 pub held-live : (t : Table) (ps : List FileParts) (k : FileKey) (f : CatalogFile) → IsLive t ps k f → file_held ps (entry_of f.key f.name f.size) ≡ f
 held-live t ps k f one = rw (one.key, one.parts) refl
 
+-- how much a file with these parts leaves to the others
+pub record IsLeft (s : Inside) (v : Catalog) (k : FileKey) (x : FileParts) : Type 0 where
+  pub attributes : others_total k v + bytes_of_attributes x.attributes ≡ s.attribute_total
+  pub stubs : others_stubs k v + length x.stubs ≡ s.stub_total
+  pub used : length (blocks_of (without_file k v).files) + length (present x.places) ≡ s.used
+
 module _ (s : Inside) (v : Catalog) (is : catalog_held s.geometry s.table s.parts.items ≡ v) (i : IsCounted s.geometry s.table s.parts.items s.attribute_total s.stub_total s.used) where
   pub lawful : IsCatalog v
   lawful = rw (← is) i.0.catalog
@@ -103,12 +109,12 @@ module _ (s : Inside) (v : Catalog) (is : catalog_held s.geometry s.table s.part
       (file_held s.parts.items one.0, found, live k (file_held s.parts.items one.0) found)
 
   -- what is counted of one file and of the others
-  pub others : (k : FileKey) (f : CatalogFile) → find_key (λ g. g.key) k v.files ≡ Some f → (others_total k v + count_of f ≡ s.attribute_total) × (others_stubs k v + stubs_of f ≡ s.stub_total) × (length (blocks_of (without_file k v).files) + mapped_of f ≡ s.used)
-  others k f found = (
-    omega (arith, sum-drop count_of k f v.files found, counts.0),
-    omega (arith, sum-drop stubs_of k f v.files found, counts.1),
-    omega (arith, sum-drop mapped_of k f v.files found, used-sum v.files, used-sum (without_file k v).files, counts.2),
-  )
+  pub others : (k : FileKey) (f : CatalogFile) → find_key (λ g. g.key) k v.files ≡ Some f → IsLeft s v k (parts_of f)
+  others k f found = record {
+    attributes = omega (arith, sum-drop count_of k f v.files found, counts.0);
+    stubs = omega (arith, sum-drop stubs_of k f v.files found, counts.1);
+    used = omega (arith, sum-drop mapped_of k f v.files found, used-sum v.files, used-sum (without_file k v).files, counts.2);
+  }
 
   -- ---- the file of an inode
 
@@ -123,19 +129,18 @@ module _ (s : Inside) (v : Catalog) (is : catalog_held s.geometry s.table s.part
         let listed = found-listed k (entry_of file.0.key file.0.name file.0.size) s.table.files (live k file.0 file.1).entry in
         subst (λ (n : ℕ). key_at n (listing s.table.files) ≡ Some k) at (found-key_at 1 k _ (listing s.table.files) table.ascend listed)
 
-    pub key-at : (o : Option FileKey) (k : FileKey) → o ≡ key_at ino (listing s.table.files) → o ≡ Some k → k ≡ key_on ino v
-    key-at o k here taken = let at = live-at in cc
+    module _ (o : Option FileKey) (k : FileKey) (here : o ≡ key_at ino (listing s.table.files)) (taken : o ≡ Some k) where
+      pub key-at : k ≡ key_on ino v
+      key-at = let at = live-at in cc
 
-    pub some-at : (o : Option FileKey) (k : FileKey) → o ≡ key_at ino (listing s.table.files) → o ≡ Some k → IsSome (find_key (λ g. g.key) k v.files)
-    some-at o k here taken = rw (key-at o k here taken) some
+      pub some-at : IsSome (find_key (λ g. g.key) k v.files)
+      some-at = rw key-at some
 
-    pub left : (o : Option FileKey) (k : FileKey) → o ≡ key_at ino (listing s.table.files) → o ≡ Some k → (x : FileParts) → Some x ≡ option_map parts_of (find_key (λ g. g.key) k v.files)
-        → (others_total (key_on ino v) v + bytes_of_attributes x.attributes ≡ s.attribute_total) × (others_stubs (key_on ino v) v + length x.stubs ≡ s.stub_total)
-        × (length (blocks_of (without_file (key_on ino v) v).files) + length (present x.places) ≡ s.used)
-    left o k here taken x parts =
-        let found = rw (key-at o k here taken, file.1) at parts in
-        let same : x ≡ parts_of file.0 = cc in
-        rw same (others (key_on ino v) file.0 file.1)
+      pub left : (x : FileParts) → Some x ≡ option_map parts_of (find_key (λ g. g.key) k v.files) → IsLeft s v (key_on ino v) x
+      left x parts =
+          let found = rw (key-at, file.1) at parts in
+          let same : x ≡ parts_of file.0 = cc in
+          rw same (others (key_on ino v) file.0 file.1)
 
   -- ---- after a change
 

@@ -54,6 +54,8 @@ segment-window j from to places first last =
     let size : to - from ≡ min 16 (length (drop (16 * j) places)) = omega (arith, length-drop (16 * j) places) in
     rw (size, at, front) back
 
+pub ruleset window = (segment-window)
+
 key-at : (P : ℕ → Type 0) (front : Stubs) (x : ℕ × Stub) (rest : Stubs) → AllByRecursion P (keys_of (front ++ x ∷ rest)) → P x.0
 key-at P [] x rest all = all.0
 key-at P (y ∷ front) x rest all = key-at P front x rest all.1

@@ -21,17 +21,16 @@ listed_read wide p = counted_reads (λ xs. length xs) wide (several_read p)
 
 key_reads : IsReader key_at key_bytes (λ k. (k.ino < 2 ^ 64) × (k.igen < 2 ^ 64))
 unfolding key_at
-key_reads = made_reads (both_read long_reads long_reads) (λ k. (k.ino, k.igen)) (λ k. refl) (λ n. refl) (λ k. refl) (λ n fit. fit) (λ k fit. fit)
+key_reads = made_reads (both_read long_reads long_reads) (λ k. (k.ino, k.igen)) (λ k. refl) (λ n. refl) (λ n fit. fit) (λ k fit. fit)
 
 region_reads : IsReader region_at region_bytes RegionFits
 unfolding region_at
 region_reads =
-    made_reads (both_read (both_read long_reads long_reads) (number_reads wide1)) (λ r. ((r.offset, r.size), r.flags)) (λ r. refl) (λ n. refl) (λ r. refl)
-    (λ n fit. (fit.0.0, fit.0.1, fit.1)) (λ r fit. ((fit.0, fit.1), fit.2))
+    made_reads (both_read (both_read long_reads long_reads) (number_reads wide1)) (λ r. ((r.offset, r.size), r.flags)) (λ r. refl) (λ n. refl) (λ n fit. (fit.0.0, fit.0.1, fit.1)) (λ r fit. ((fit.0, fit.1), fit.2))
 
 attr_name_reads : IsReader attr_name_at (λ a. a.0) (λ a. length a.0 ≡ 8)
 unfolding attr_name_at
-attr_name_reads = made_reads (bytes_read 8) (λ a. a.0) (λ a. refl) (λ bytes. refl) (λ a. refl) (λ bytes fit. fit.0) (λ a fit. (fit, tt))
+attr_name_reads = made_reads (bytes_read 8) (λ a. a.0) (λ a. refl) (λ bytes. refl) (λ bytes fit. fit.0) (λ a fit. (fit, tt))
 
 attribute_reads : IsReader attribute_at attribute_bytes AttributeFits
 unfolding attribute_at
@@ -39,7 +38,7 @@ attribute_reads = refit (both_read attr_name_reads (counted_reads (λ value. len
 
 extent_reads : IsReader extent_at extent_bytes ExtentFits
 unfolding extent_at
-extent_reads = made_reads (both_read (number_reads wide4) (number_reads wide4)) (λ e. (e.block, e.place)) (λ e. refl) (λ n. refl) (λ e. refl) (λ n fit. fit) (λ e fit. fit)
+extent_reads = made_reads (both_read (number_reads wide4) (number_reads wide4)) (λ e. (e.block, e.place)) (λ e. refl) (λ n. refl) (λ n fit. fit) (λ e fit. fit)
 
 state_reads : IsReader state_at (λ offline. big_bytes 1 (state_of offline)) (λ _. Unit {0})
 unfolding state_at
@@ -50,14 +49,13 @@ state_reads = record {
 
 print_reads : IsReader print_at (λ p. big_bytes 4 p.len ++ p.digest.0) (λ p. (p.len < 2 ^ 32) × (length p.digest.0 ≡ 32))
 unfolding print_at
-print_reads = made_reads (both_read (number_reads wide4) (bytes_read 32)) (λ p. (p.len, p.digest.0)) (λ p. refl) (λ n. refl) (λ p. refl) (λ n fit. (fit.0, fit.1.0)) (λ p fit. (fit.0, (fit.1, tt)))
+print_reads = made_reads (both_read (number_reads wide4) (bytes_read 32)) (λ p. (p.len, p.digest.0)) (λ p. refl) (λ n. refl) (λ n fit. (fit.0, fit.1.0)) (λ p fit. (fit.0, (fit.1, tt)))
 
 stub_reads : IsReader stub_in stub_bytes StubFits
 unfolding stub_in
 stub_reads =
     made_reads (both_read (both_read (both_read (both_read (number_reads wide4) state_reads) (number_reads wide4)) (number_reads wide4)) print_reads)
-    (λ x. ((((x.0, x.1.offline), x.1.entry.volume), x.1.entry.object), x.1.entry.print)) (λ x. refl) (λ p. refl) (λ x. refl)
-    (λ p fit. record { segment = fit.0.0.0.0; volume = fit.0.0.1; object = fit.0.1; len = fit.1.0; digest = fit.1.1 })
+    (λ x. ((((x.0, x.1.offline), x.1.entry.volume), x.1.entry.object), x.1.entry.print)) (λ x. refl) (λ p. refl) (λ p fit. record { segment = fit.0.0.0.0; volume = fit.0.0.1; object = fit.0.1; len = fit.1.0; digest = fit.1.1 })
     (λ x fit. ((((fit.segment, tt), fit.volume), fit.object), (fit.len, fit.digest)))
 
 file_reads : IsReader file_at file_bytes FileFits
@@ -66,15 +64,13 @@ file_reads =
     let named = both_read (both_read key_reads long_reads) (counted_reads (λ name. length name) wide1 bytes_read) in
     let kept = both_read (both_read named (listed_read wide1 region_reads)) (listed_read wide4 attribute_reads) in
     made_reads (both_read (both_read kept (listed_read wide4 extent_reads)) (listed_read wide4 stub_reads))
-    (λ f. ((((((f.key, f.size), f.name), f.kept.regions), f.kept.attributes), f.extents), f.kept.stubs)) (λ f. refl) (λ p. refl) (λ f. refl)
-    (λ p fit. search) (λ f fit. search)
+    (λ f. ((((((f.key, f.size), f.name), f.kept.regions), f.kept.attributes), f.extents), f.kept.stubs)) (λ f. refl) (λ p. refl) (λ p fit. search) (λ f fit. search)
 
 snapshot_reads : IsReader snapshot_at spelling Fits
 unfolding snapshot_at spelling
 snapshot_reads =
     made_reads (both_read (both_read (both_read long_reads long_reads) (only_reads wide4 (omega arith))) (listed_read wide4 file_reads))
-    (λ s. (((s.number, s.next), tt), s.files)) (λ s. refl) (λ p. refl) (λ s. refl)
-    (λ p fit. search) (λ s fit. search)
+    (λ s. (((s.number, s.next), tt), s.files)) (λ s. refl) (λ p. refl) (λ p fit. search) (λ s fit. search)
 
 pub is_read : (area : List ℕ) (x : Snapshot × List ℕ) → IsBytes area → snapshot_at area ≡ Some x → IsSpelled area x.0
 is_read area x ok e = let t = rw e at (snapshot_reads.takes area ok) in record { fits = t.fit; rest = x.1; spelled = t.parts }

@@ -81,12 +81,11 @@ module _ {A B : Type 0} {ra : List ℕ → Option (A × List ℕ)} {ta : A → L
   }
 
   -- a value made of what is read, which can be taken apart again
-  pub made_reads : {make : A → B} {text : B → List ℕ} {Fit : B → Type 0} (parts : B → A) → ((b : B) → make (parts b) ≡ b) → ((a : A) → parts (make a) ≡ a) → ((b : B) → text b ≡ ta (parts b))
-      → ((a : A) → FA a → Fit (make a)) → ((b : B) → Fit b → FA (parts b)) → IsReader (made make ra) text Fit
+  pub made_reads : {make : A → B} {Fit : B → Type 0} (parts : B → A) → ((b : B) → make (parts b) ≡ b) → ((a : A) → parts (make a) ≡ a) → ((a : A) → FA a → Fit (make a)) → ((b : B) → Fit b → FA (parts b)) → IsReader (made make ra) (λ b. ta (parts b)) Fit
   unfolding made
-  made_reads {make} {text} {Fit} parts whole apart spelled fits fits_back = record {
-    takes = λ bytes ok. grind (arith, p.takes bytes ok, whole, apart, spelled, fits);
-    again = λ x rest fit. grind (arith, p.again (parts x) rest (fits_back x fit), spelled x, whole x);
+  made_reads {make} {Fit} parts whole apart fits fits_back = record {
+    takes = λ bytes ok. grind (arith, p.takes bytes ok, apart, fits);
+    again = λ x rest fit. grind (arith, p.again (parts x) rest (fits_back x fit), whole x);
   }
 
 pub only_reads : {n wanted : ℕ} → IsWide n → wanted < 256 ^ n → IsReader (only_at n wanted) (λ _. big_bytes n wanted) (λ _. Unit {0})

@@ -28,10 +28,7 @@ laid (suc count) low n blocks [] all h = let l = laid count (low + 1) n blocks [
 laid (suc count) low n blocks (x ∷ ms) all h =
     elim (cases_lt low x.block) [
       | inl later ↦ let l = laid count (low + 1) n blocks (x ∷ ms) (omega arith) (grind arith) in (None ∷ l.0, omega (arith, l.1), l.2)
-      | inr past ↦
-          let l = laid count (low + 1) n blocks ms (omega arith) (grind arith) in
-          let at : low ≡ x.block = grind arith in
-          (Some x.place ∷ l.0, omega (arith, l.1), ap (λ (es : List Mapping). (record { block = low; place = x.place }) ∷ es) l.2 ∙ ap (λ (b : ℕ). (record { block = b; place = x.place }) ∷ ms) at)
+      | inr past ↦ let l = laid count (low + 1) n blocks ms (omega arith) (grind arith) in (Some x.place ∷ l.0, omega (arith, l.1), grind (arith, l.2))
     ]
 
 -- the blocks of these extents say them again

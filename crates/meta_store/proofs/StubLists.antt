@@ -54,6 +54,8 @@ absent-without j (x ∷ rest) none = grind (arith, absent-without j rest)
 pub unsealed-without : (j : ℕ) (stubs : Stubs) → offline_at stubs j ≡ false → (if is_sealed (stub_at j stubs) then without_stub j stubs else stubs) ≡ without_stub j stubs
 unsealed-without j stubs here = grind (arith, absent-without j stubs)
 
+pub ruleset unsealed = (unsealed-without)
+
 -- an entry that is moved is set
 pub moved-with : (j : ℕ) (b : Bool) (stub : Stub) (stubs : Stubs) → IsStrictlySortedBy nat_cmp (keys_of stubs) → stub_at j stubs ≡ Some (record stub { offline = b }) → moved stub.offline j (j + 1) stubs ≡ with_stub j stub stubs
 unfolding IsStrictlySortedBy

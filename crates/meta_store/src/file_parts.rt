@@ -145,6 +145,7 @@ impl FileParts {
     }
 
     /// The segment has no entry. It takes no memory.
+    #[tactic(auto, using(crate::proofs::StubLists::unsealed))]
     fn drop_stub(&mut self, segment: u32)
         requires { offline_at self.old.stubs segment ≡ false }
         ensures { self.new ≡ record self.old { stubs = without_stub segment self.old.stubs } }

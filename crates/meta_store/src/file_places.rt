@@ -101,6 +101,7 @@ impl FilePlaces {
 }
 
 /// Which of the places of a file's blocks are those of the segment: none of a segment past the last block.
+#[tactic(auto, using(crate::proofs::LawfulStubs::window))]
 pub fn segment_places(places: &[Option<u32>], segment: u32) -> &[Option<u32>]
     ensures { result.now ≡ places_in_segment segment places.now }
 {

@@ -1,6 +1,6 @@
 use Rattle.std.proofs.Common.{◌≡◌, ℕ, ◌+◌, length, rules, refl, arith}
 use Rattle.meta_store.specs.declared.file_parts.Others.{Others}
-use Rattle.meta_store.proofs.HeldCatalogs.{live-at, key-at, some-at, left}
+use Rattle.meta_store.proofs.HeldCatalogs.{IsLeft, live-at, key-at, some-at, left}
 use Rattle.hsm_types.specs.Attributes.{bytes_of_attributes}
 use Rattle.meta_store.specs.Catalogs.{present, blocks_of}
 use Rattle.meta_store.specs.Records.{without_file, others_total, others_stubs, key_on}
@@ -16,24 +16,23 @@ unwrap-key-requires c = rw (c.key_at.ensures, live-at c.self.inside _ c.self.vie
 pub unwrap-parts-requires : goal.unwrap-parts-requires
 unwrap-parts-requires c = let some = some-at c.self.inside _ c.self.view_is c.self.invariant c.args.ino c.requires c.key_at.result c.unwrap-key.result c.key_at.ensures c.unwrap-key.ensures in search rules
 
-left-of : (c : After-unwrap-parts) → (others_total (key_on c.args.ino c.args.self.now) c.args.self.now + bytes_of_attributes c.unwrap-parts.result.now.attributes ≡ c.self.inside.attribute_total) × (others_stubs (key_on c.args.ino c.args.self.now) c.args.self.now + length c.unwrap-parts.result.now.stubs ≡ c.self.inside.stub_total)
-    × (length (blocks_of (without_file (key_on c.args.ino c.args.self.now) c.args.self.now).files) + length (present c.unwrap-parts.result.now.places) ≡ c.self.inside.used)
+left-of : (c : After-unwrap-parts) → IsLeft c.self.inside c.args.self.now (key_on c.args.ino c.args.self.now) c.unwrap-parts.result.now
 left-of c = left c.self.inside _ c.self.view_is c.self.invariant c.args.ino c.requires c.key_at.result c.unwrap-key.result c.key_at.ensures c.unwrap-key.ensures c.unwrap-parts.result.now (rw c.unwrap-parts.ensures at c.parts.ensures)
 
 pub overflow_sub-others : goal.overflow_sub-others
-overflow_sub-others c = omega (arith, (left-of (goal.at.overflow_sub-others c).After-unwrap-parts).0, c.bytes.ensures.count)
+overflow_sub-others c = omega (arith, (left-of (goal.at.overflow_sub-others c).After-unwrap-parts).attributes, c.bytes.ensures.count)
 
 pub overflow_sub-others-2 : goal.overflow_sub-others-2
-overflow_sub-others-2 c = omega (arith, (left-of (goal.at.overflow_sub-others-2 c).After-unwrap-parts).1, c.len.ensures.count)
+overflow_sub-others-2 c = omega (arith, (left-of (goal.at.overflow_sub-others-2 c).After-unwrap-parts).stubs, c.len.ensures.count)
 
 pub overflow_sub-blocks : goal.overflow_sub-blocks
-overflow_sub-blocks c = omega (arith, (left-of (goal.at.overflow_sub-blocks c).After-unwrap-parts).2, c.from.ensures, c.mapped.ensures)
+overflow_sub-blocks c = omega (arith, (left-of (goal.at.overflow_sub-blocks c).After-unwrap-parts).used, c.from.ensures, c.mapped.ensures)
 
 pub returns : goal.returns
 returns c =
     let sum = left-of (goal.at.returns c).After-unwrap-parts in
     record {
       key = key-at c.self.inside _ c.self.view_is c.self.invariant c.args.ino c.requires c.key_at.result c.unwrap-key.result c.key_at.ensures c.unwrap-key.ensures;
-      others = both _ _ _ _ (omega (arith, sum.0, c.bytes.ensures.count)) (omega (arith, sum.1, c.len.ensures.count));
-      used = omega (arith, sum.2, c.from.ensures, c.mapped.ensures);
+      others = both _ _ _ _ (omega (arith, sum.attributes, c.bytes.ensures.count)) (omega (arith, sum.stubs, c.len.ensures.count));
+      used = omega (arith, sum.used, c.from.ensures, c.mapped.ensures);
     }
