@@ -1,10 +1,9 @@
 -- Places of blocks, one by one, and those of a segment that is cleared.
-use Rattle.std.proofs.Common.{◌≡◌, ℕ, zero, suc, ◌+◌, ◌-◌, ◌*◌, ◌<◌, ◌≤◌, List, [], ◌∷◌, ◌++◌, length, take, drop, set, get_or, Bool, true, false, Option, Some, None, ◌⊎◌, refl, ◌∙◌, ap, arith, append_assoc, length-set, get_or-set_other}
+use Rattle.std.proofs.Common.{◌≡◌, ℕ, zero, suc, ◌+◌, ◌-◌, ◌*◌, ◌<◌, ◌≤◌, List, [], ◌∷◌, ◌++◌, length, take, drop, set, get_or, Bool, Option, Some, None, ◌⊎◌, refl, ◌∙◌, ap, arith, append_assoc, get_or-set_other}
 use Rattle.std.specs.Prelude.{replicate, min, if◌then◌else◌}
 use Rattle.std.proofs.lemmas.Grind.{common_steps}
 use Rattle.meta_store.specs.Catalogs.{present, places_in_segment}
 use Rattle.meta_store.specs.Records.{places_fitted, places_set, mappings_from, places_without}
-use Rattle.plain_model.specs.Blocks.{blocks_in}
 use Rattle.meta_store.proofs.BlockUses.{uses}
 
 -- ---- no block of a stretch has a place

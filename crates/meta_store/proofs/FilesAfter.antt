@@ -1,5 +1,5 @@
 -- The file that a record is about, after it.
-use Rattle.std.proofs.Common.{◌≡◌, ℕ, ◌+◌, ◌<◌, ◌≤◌, length, Some, None, refl, ◌∙◌, arith}
+use Rattle.std.proofs.Common.{◌≡◌, ℕ, ◌+◌, ◌<◌, ◌≤◌, length, Some, None, ◌∙◌, arith}
 use Rattle.hsm_types.specs.declared.stores.Geometry.{Geometry}
 use Rattle.plain_model.specs.Keyed.{find_key}
 use Rattle.plain_model.specs.Blocks.{blocks_in}

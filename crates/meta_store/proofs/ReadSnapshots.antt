@@ -1,5 +1,5 @@
 -- What is read is spelled so, and what is spelled so is read: for the parts of a snapshot.
-use Rattle.std.proofs.Common.{◌≡◌, ℕ, ◌^◌, ◌<◌, ◌++◌, List, length, Bool, true, false, Option, Some, Err, refl, sym, ap, ◌∙◌, arith}
+use Rattle.std.proofs.Common.{◌≡◌, ℕ, ◌^◌, ◌<◌, ◌++◌, List, length, Option, Some, Err, refl, sym, ap, ◌∙◌, arith}
 use Rattle.std.specs.Prelude.{IsErrOf}
 use Rattle.std.specs.List.{AllByRecursion}
 use Rattle.std.proofs.lemmas.Option.{same_Some}
@@ -9,7 +9,7 @@ use Rattle.meta_store.specs.declared.snapshot.ReadRefusal.{ReadRefusal}
 use Rattle.meta_store.specs.declared.snapshot.ReadRefusal.TheVariants.{Memory, Corrupt}
 use Rattle.meta_store.specs.Catalogs.{StubFits}
 use Rattle.meta_store.specs.Snapshots.{Snapshot, key_bytes, region_bytes, attribute_bytes, extent_bytes, state_of, stub_bytes, counted_bytes, file_bytes, spelling, RegionFits, AttributeFits, ExtentFits, FileFits, Fits, IsSpelled}
-use Rattle.meta_store.specs.Reading.{Fails, number_at, several, counted, key_at, region_at, attr_name_at, attribute_at, extent_at, offline_in, state_at, print_at, stub_in, file_at, snapshot_at}
+use Rattle.meta_store.specs.Reading.{Fails, number_at, several, counted, key_at, region_at, attr_name_at, attribute_at, extent_at, state_at, print_at, stub_in, file_at, snapshot_at}
 use Rattle.meta_store.proofs.Readers.{IsBytes, IsReader, IsWide, refit, wide1, wide2, wide4, wide8, number_reads, only_reads, bytes_read, several_read, both_read, made_reads, counted_reads}
 
 long_reads : IsReader (number_at 8) (big_bytes 8) (λ x. x < 2 ^ 64)

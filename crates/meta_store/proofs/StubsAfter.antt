@@ -1,6 +1,5 @@
 -- The stub entries of a file after a record about it.
 use Rattle.std.proofs.Common.{◌≡◌, ℕ, ◌+◌, ◌*◌, ◌/◌, ◌<◌, ◌≤◌, length, true, Some, None, ◌⊎◌, inl, inr, refl, ap, ◌∙◌, arith, get_or}
-use Rattle.std.specs.Prelude.{List, ◌==◌, not, nat_lt, if◌then◌else◌}
 use Rattle.std.specs.List.{AllByRecursion}
 use Rattle.std.specs.List.Sorted.{IsStrictlySortedBy}
 use Rattle.std.specs.Map.{keys_of}

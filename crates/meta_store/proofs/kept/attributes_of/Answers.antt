@@ -1,7 +1,6 @@
-use Rattle.std.proofs.Common.{◌≡◌, ◌++◌, [], ◌∷◌, length, sym, ap, ◌∙◌, append_assoc, arith}
+use Rattle.std.proofs.Common.{length, sym, ap, ◌∙◌, append_assoc, arith}
 use Rattle.std.specs.Vec.Iter.{into_iter_items}
 use Rattle.hsm_types.specs.Attributes.{Attributes}
-use Rattle.meta_store.specs.declared.snapshot.ReadRefusal.TheVariants.{Memory}
 use Rattle.meta_store.specs.Validity.{are_attributes}
 use Rattle.meta_store.proofs.KeptBounds.{eight-with, setting-fits}
 use Rattle.meta_store.proofs.KeptAttributes.{at-end, ends-more, accepted}

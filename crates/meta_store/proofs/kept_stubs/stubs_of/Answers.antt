@@ -1,10 +1,10 @@
-use Rattle.std.proofs.Common.{◌≡◌, ℕ, ◌+◌, ◌++◌, [], ◌∷◌, drop, get_or, true, false, sym, ap, subst, ◌∙◌, append_assoc, length-append, arith}
+use Rattle.std.proofs.Common.{ℕ, ◌+◌, ◌++◌, [], ◌∷◌, get_or, true, false, sym, ap, ◌∙◌, append_assoc, length-append, arith}
 use Rattle.std.specs.List.{AllByRecursion}
 use Rattle.std.proofs.lemmas.List.{drop_more}
 use Rattle.hsm_types.specs.Stubs.{Stubs, FitsFile}
 use Rattle.hsm_types.specs.declared.stubs.Stub.{Stub}
 use Rattle.meta_store.specs.Catalogs.{StubFits, HasNoBlocks}
-use Rattle.meta_store.specs.Validity.{is_above, AreLawfulStubs}
+use Rattle.meta_store.specs.Validity.{is_above}
 use Rattle.meta_store.proofs.EachOf.{all-both}
 use Rattle.meta_store.proofs.LawfulStubs.{ends-more, lawful-at}
 use Rattle.meta_store.proofs.kept_stubs.stubs_of.Goals as goal

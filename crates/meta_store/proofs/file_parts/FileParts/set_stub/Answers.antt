@@ -1,6 +1,5 @@
-use Rattle.std.proofs.Common.{◌≡◌, true, Bool, false, Option, Some, None, refl, sym, ap, ◌∙◌, arith}
-use Rattle.std.specs.Prelude.{Result, Ok, Err, if◌then◌else◌}
-use Rattle.std.specs.Result.{OnOk}
+use Rattle.std.proofs.Common.{◌≡◌, true, Bool, false, Option, refl, sym, ap, ◌∙◌, arith}
+use Rattle.std.specs.Prelude.{if◌then◌else◌}
 use Rattle.std.proofs.lemmas.Result.{on_ok_weaker}
 use Rattle.hsm_types.specs.declared.stubs.Stub.{Stub}
 use Rattle.hsm_types.specs.declared.stubs.StubEntry.{StubEntry}
