@@ -10,9 +10,6 @@ use Rattle.meta_store.specs.declared.records.Record.TheVariants.{Make, Drop, Siz
 use Rattle.meta_store.specs.Catalogs.{CatalogFile, Catalog, geometry_of}
 use Rattle.meta_store.specs.Records.{after, after_all, refusal_of, refusal_of_all, kept_at, key_on, others_stubs, CanStand, CanStandAll, IsSure, IsEvent}
 
-same_geometry : (r : Record) (c : Catalog) → (after r c).geometry ≡ c.geometry
-same_geometry r c = search rules
-
 -- no part refuses what is sure: a segment that goes away has an entry before
 sure_stands : (r : Record) (c : Catalog) → IsSure r → CanStand r c → refusal_of r c ≡ None
 sure_stands (Map ino block places) c sure can = refl

@@ -102,7 +102,3 @@ none-without j ps i is = rw without-cleared (none-cleared (16 * j) 16 ps i is)
 
 pub count-without : (j : ℕ) (ps : List (Option ℕ)) → length (present (places_in_segment j ps)) + length (present (places_without j ps)) ≡ length (present ps)
 count-without j ps = rw without-cleared (count-cleared (16 * j) 16 ps)
-
--- as they are filled
-pub segment-filled : (j from to : ℕ) (ps : List (Option ℕ)) → from ≡ min (length ps) (16 * j) → to ≡ min (length ps) (from + 16) → take from ps ++ (replicate (to - from) None ++ drop to ps) ≡ places_without j ps
-segment-filled j from to ps first last = grind (arith, common_steps)

@@ -90,11 +90,11 @@ blocks-change k to (f ∷ fs) same = grind (arith, same f, blocks-change k to fs
 module _ (P : CatalogFile → Type 0) where
   pub each-put : (g : CatalogFile) (fs : List CatalogFile) → P g → AllByRecursion P fs → AllByRecursion P (put_key (λ f. f.key) g fs)
   each-put g [] p h = (p, tt)
-  each-put g (f ∷ fs) p h = cond_both (ltb g.key.ino f.key.ino) (g ∷ f ∷ fs) (f ∷ put_key (λ x. x.key) g fs) (AllByRecursion P) (λ before. (p, h)) (λ after. (h.0, each-put g fs p h.1))
+  each-put g (f ∷ fs) p h = grind (arith, p, h.0, h.1, each-put g fs p h.1)
 
   pub each-drop : (k : FileKey) (fs : List CatalogFile) → AllByRecursion P fs → AllByRecursion P (drop_key (λ f. f.key) k fs)
   each-drop k [] h = tt
-  each-drop k (f ∷ fs) h = cond_both (same_key f.key k) fs (f ∷ drop_key (λ x. x.key) k fs) (AllByRecursion P) (λ same. h.1) (λ other. (h.0, each-drop k fs h.1))
+  each-drop k (f ∷ fs) h = grind (arith, h.0, h.1, each-drop k fs h.1)
 
   -- where it stays true of the file that is found
   pub each-changed : (k : FileKey) (to : CatalogFile → CatalogFile) (fs : List CatalogFile) → ((f : CatalogFile) → find_key (λ g. g.key) k fs ≡ Some f → P f → P (to f)) → AllByRecursion P fs → AllByRecursion P (change_key (λ f. f.key) k to fs)

@@ -39,7 +39,7 @@ some_mapped : {X Y : Type 0} (to : X → Y) (o : Option X) (y : Y) → option_ma
 some_mapped to None y is = cc
 some_mapped to (Some x) y is = (x, refl, cc)
 
-there : {X : Type 0} (o : Option X) → IsSome o → (x : X) × (o ≡ Some x)
+pub there : {X : Type 0} (o : Option X) → IsSome o → (x : X) × (o ≡ Some x)
 there o some = grind arith
 
 inode_at : (ino : ℕ) (o : Option FileKey) → ((k : FileKey) → o ≡ Some k → k.ino ≡ ino) → (unwrap_or o (record { ino = ino; igen = 0 })).ino ≡ ino
@@ -81,7 +81,7 @@ module _ (s : Inside) (v : Catalog) (is : catalog_held s.geometry s.table s.part
   pub table-held : s.table ≡ record { limit = (geometry_of v.geometry).files; next = v.next; files = map (λ f. entry_of f.key f.name f.size) v.files }
   table-held = rw (← is, entries-held s.parts.items s.table.files, ← i.0.limit) refl
 
-  counts : (s.attribute_total ≡ attribute_total v.files) × (s.stub_total ≡ stub_total v.files) × (s.used ≡ length (blocks_of v.files))
+  pub counts : (s.attribute_total ≡ attribute_total v.files) × (s.stub_total ≡ stub_total v.files) × (s.used ≡ length (blocks_of v.files))
   counts = rw (← is) (i.0.counted, i.0.stubbed, i.1)
 
   pub bounded : (s.attribute_total ≤ (geometry_of v.geometry).attributes) × ((geometry_of v.geometry).attributes ≤ 1048576) × (s.used ≤ 65536) × (s.stub_total ≤ (geometry_of v.geometry).stubs) × ((geometry_of v.geometry).stubs ≤ 65536)
@@ -148,28 +148,14 @@ module _ (s : Inside) (v : Catalog) (is : catalog_held s.geometry s.table s.part
       → used' ≡ length (blocks_of w.files) → IsCounted s.geometry t' ps' total' stubs' used'
   after t' ps' w total' stubs' used' held limit len good bytes entries blocks = (record { limit = limit ∙ i.0.limit; count = len ∙ i.0.count; counted = grind arith; stubbed = grind arith; catalog = subst IsCatalog (sym held) good }, grind arith)
 
-  module _ (key : FileKey) (name : List ℕ) (size : ℕ) (x : FileParts) (low : 1 ≤ key.ino) (high : key.ino ≤ (geometry_of v.geometry).files) (free : has_inode key.ino (names_of v.files) ≡ false) where
-    pub put-held : catalog_held s.geometry (with_entry (entry_of key name size) s.table) (set s.parts.items (key.ino - 1) x) ≡ with_put (file_of key name size x) v
-    put-held =
-        let kind = ap (λ (c : Catalog). (geometry_of c.geometry).files) is in
-        rw (← is, held-put_at s.parts.items (entry_of key name size) x s.table.files low (omega (arith, i.0.count)) table.ascend (rw names at free)) refl
-
-    pub put-counted : (total' stubs' used' : ℕ) → named name (names_of v.files) ≡ None → key.igen < 2 ^ 62 → IsCatalogFile (geometry_of v.geometry).blocks (file_of key name size x) → Distinct (present x.places ++ blocks_of v.files)
-        → attribute_total v.files + bytes_of_attributes x.attributes ≤ (geometry_of v.geometry).attributes → stub_total v.files + length x.stubs ≤ (geometry_of v.geometry).stubs → total' ≡ s.attribute_total + bytes_of_attributes x.attributes
-        → stubs' ≡ s.stub_total + length x.stubs → used' ≡ s.used + length (present x.places) → IsCounted s.geometry (with_entry (entry_of key name size) s.table) (set s.parts.items (key.ino - 1) x) total' stubs' used'
-    put-counted total' stubs' used' new early good apart room stub_room bytes entries blocks =
-        let f : CatalogFile = file_of key name size x in
-        after (with_entry (entry_of key name size) s.table) (set s.parts.items (key.ino - 1) x) (with_put f v) total' stubs' used' put-held refl (length-set s.parts.items (key.ino - 1) x) (IsCatalog-with_put f v lawful low high free new early good apart room stub_room)
-        (omega (arith, sum-put count_of f v.files, counts.0)) (omega (arith, sum-put stubs_of f v.files, counts.1)) (omega (arith, sum-put mapped_of f v.files, used-sum v.files, used-sum (with_put f v).files, counts.2))
+  pub put-held : (key : FileKey) (name : List ℕ) (size : ℕ) (x : FileParts) → 1 ≤ key.ino → key.ino ≤ (geometry_of v.geometry).files → has_inode key.ino (names_of v.files) ≡ false
+      → catalog_held s.geometry (with_entry (entry_of key name size) s.table) (set s.parts.items (key.ino - 1) x) ≡ with_put (file_of key name size x) v
+  put-held key name size x low high free =
+      let kind = ap (λ (c : Catalog). (geometry_of c.geometry).files) is in
+      rw (← is, held-put_at s.parts.items (entry_of key name size) x s.table.files low (omega (arith, i.0.count)) table.ascend (rw names at free)) refl
 
   pub drop-held : (key : FileKey) → catalog_held s.geometry (record s.table { files = drop_key (λ e. e.key) key s.table.files }) s.parts.items ≡ without_file key v
   drop-held key = rw (← is, map-drop (λ (f : CatalogFile). f.key) (file_held s.parts.items) key s.table.files) refl
-
-  pub drop-counted : (ino : ℕ) → IsSome (find_key (λ g. g.key) (key_on ino v) v.files) → (total' stubs' used' : ℕ) → total' ≡ others_total (key_on ino v) v → stubs' ≡ others_stubs (key_on ino v) v → used' ≡ length (blocks_of (without_file (key_on ino v) v).files)
-      → IsCounted s.geometry (record s.table { files = drop_key (λ e. e.key) (key_on ino v) s.table.files }) s.parts.items total' stubs' used'
-  drop-counted ino some total' stubs' used' bytes entries blocks =
-      let f = there (find_key (λ g. g.key) (key_on ino v) v.files) some in
-      after (record s.table { files = drop_key (λ e. e.key) (key_on ino v) s.table.files }) s.parts.items (without_file (key_on ino v) v) total' stubs' used' (drop-held (key_on ino v)) refl refl (IsCatalog-without_file (key_on ino v) f.0 v lawful f.1) bytes entries blocks
 
 -- ---- a part of the file that a key has, if it has one
 

@@ -66,34 +66,34 @@ files-few c is =
 
 -- ---- the fields
 
-extents-fit : (blocks n : ℕ) (places : List (Option ℕ)) → blocks ≤ 2 ^ 32 → n + length places ≤ 2 ^ 32 → AllByRecursion (λ b. b < blocks) (present places) → AllByRecursion ExtentFits (extents_from n places)
-extents-fit blocks n [] few_blocks fit below = tt
-extents-fit blocks n (None ∷ places) few_blocks fit below = extents-fit blocks (n + 1) places few_blocks (omega arith) below
-extents-fit blocks n (Some at ∷ places) few_blocks fit below = let low = below.0 in ((omega arith, omega arith), extents-fit blocks (n + 1) places few_blocks (omega arith) below.1)
+module _ (blocks limit next : ℕ) (few_blocks : blocks ≤ 65536) (few_files : limit ≤ 4096) (old : next ≤ 2 ^ 62) where
+  extents-fit : (n : ℕ) (places : List (Option ℕ)) → n + length places ≤ 2 ^ 32 → AllByRecursion (λ b. b < blocks) (present places) → AllByRecursion ExtentFits (extents_from n places)
+  extents-fit n [] fit below = tt
+  extents-fit n (None ∷ places) fit below = extents-fit (n + 1) places (omega arith) below
+  extents-fit n (Some at ∷ places) fit below = ((omega arith, omega (arith, below.0)), extents-fit (n + 1) places (omega arith) below.1)
 
-file-fits : (blocks limit next : ℕ) (f : CatalogFile) → blocks ≤ 65536 → limit ≤ 4096 → next ≤ 2 ^ 62 → f.key.ino ≤ limit → f.key.igen < next → bytes_of_attributes f.kept.attributes ≤ 1048576 → length f.kept.stubs ≤ 65536 → IsCatalogFile blocks f → FileFits (snapshot_file f)
-file-fits blocks limit next f few_blocks few_files old ino igen few few_stubs is = record {
-  ino = omega arith;
-  igen = omega arith;
-  size = omega arith;
-  name = omega (arith, name-short f.name is.name);
-  regions = omega (arith, regions-few f.kept.regions is.kept.regions);
-  each_region = regions-fit f.kept.regions is.kept.regions;
-  attributes = omega (arith, attributes-few f.kept.attributes);
-  each_attribute = attributes-fit f.kept.attributes is.kept.eight is.kept.attributes;
-  extents = omega (arith, length-extents 0 f.places, present-few f.places);
-  each_extent = extents-fit blocks 0 f.places (omega arith) (omega arith) is.within;
-  stubs = omega arith;
-  each_stub = each-as (IsCatalogStub f) StubFits f.kept.stubs (λ x stub. stub.numbers) is.stubs;
-}
+  file-fits : (f : CatalogFile) → f.key.ino ≤ limit → f.key.igen < next → bytes_of_attributes f.kept.attributes ≤ 1048576 → length f.kept.stubs ≤ 65536 → IsCatalogFile blocks f → FileFits (snapshot_file f)
+  file-fits f ino igen few few_stubs is = record {
+    ino = omega arith;
+    igen = omega arith;
+    size = omega arith;
+    name = omega (arith, name-short f.name is.name);
+    regions = omega (arith, regions-few f.kept.regions is.kept.regions);
+    each_region = regions-fit f.kept.regions is.kept.regions;
+    attributes = omega (arith, attributes-few f.kept.attributes);
+    each_attribute = attributes-fit f.kept.attributes is.kept.eight is.kept.attributes;
+    extents = omega (arith, length-extents 0 f.places, present-few f.places);
+    each_extent = extents-fit 0 f.places (omega arith) is.within;
+    stubs = omega arith;
+    each_stub = each-as (IsCatalogStub f) StubFits f.kept.stubs (λ x stub. stub.numbers) is.stubs;
+  }
 
-files-fit : (blocks limit next : ℕ) (fs : List CatalogFile) → blocks ≤ 65536 → limit ≤ 4096 → next ≤ 2 ^ 62 → Within limit next (names_of fs) → attribute_total fs ≤ 1048576 → stub_total fs ≤ 65536 → AllByRecursion (IsCatalogFile blocks) fs
-    → AllByRecursion FileFits (map snapshot_file fs)
-files-fit blocks limit next [] few_blocks few_files old w few few_stubs each = tt
-files-fit blocks limit next (f ∷ fs) few_blocks few_files old w few few_stubs each =
-    let sum = sum_by-cons (λ (g : CatalogFile). bytes_of_attributes g.kept.attributes) f fs in
-    let stubs = sum_by-cons (λ (g : CatalogFile). length g.kept.stubs) f fs in
-    (file-fits blocks limit next f few_blocks few_files old w.0 w.1 (omega arith) (omega arith) each.0, files-fit blocks limit next fs few_blocks few_files old w.2 (omega arith) (omega arith) each.1)
+  files-fit : (fs : List CatalogFile) → Within limit next (names_of fs) → attribute_total fs ≤ 1048576 → stub_total fs ≤ 65536 → AllByRecursion (IsCatalogFile blocks) fs → AllByRecursion FileFits (map snapshot_file fs)
+  files-fit [] w few few_stubs each = tt
+  files-fit (f ∷ fs) w few few_stubs each =
+      let sum = sum_by-cons (λ (g : CatalogFile). bytes_of_attributes g.kept.attributes) f fs in
+      let stubs = sum_by-cons (λ (g : CatalogFile). length g.kept.stubs) f fs in
+      (file-fits f w.0 w.1 (omega arith) (omega arith) each.0, files-fit fs w.2 (omega arith) (omega arith) each.1)
 
 pub fits_of : (n : ℕ) (c : Catalog) → n ≤ 2 ^ 62 → IsCatalog c → Fits (snapshot_of n c)
 unfolding snapshot_of
@@ -103,7 +103,7 @@ fits_of n c low is =
       number = omega arith;
       next = omega (arith, is.next);
       count = omega (arith, length-map c.files snapshot_file, files-few c is);
-      each = files-fit (geometry_of c.geometry).blocks (geometry_of c.geometry).files c.next c.files g.1 g.0 is.next is.table.within (omega (arith, is.few)) (omega (arith, is.few_stubs, few-stubs c.geometry)) is.each;
+      each = files-fit _ _ _ g.1 g.0 is.next c.files is.table.within (omega (arith, is.few)) (omega (arith, is.few_stubs, few-stubs c.geometry)) is.each;
     }
 
 -- ---- the area

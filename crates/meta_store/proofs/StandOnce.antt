@@ -11,7 +11,7 @@ use Rattle.plain_model.specs.Blocks.{with_mapped}
 use Rattle.plain_model.specs.Distinct.{Distinct}
 use Rattle.inode_table.specs.Listing.{Differ, has_inode, Ascend}
 use Rattle.meta_store.specs.Validity.{are_unused, are_free, Flags, last_inode}
-use Rattle.meta_store.proofs.BlockUses.{uses, uses-append, absent-unused, distinct-uses, uses-distinct}
+use Rattle.meta_store.proofs.BlockUses.{uses, uses-append, uses-absent, absent-unused, distinct-uses, uses-distinct}
 use Rattle.plain_model.specs.Keyed.{put_key}
 use Rattle.meta_store.specs.Catalogs.{CatalogFile, names_of}
 
@@ -37,15 +37,13 @@ pub unused-from : (used ps rest : List ℕ) → Distinct (used ++ (ps ++ rest)) 
 unused-from used [] rest d = refl
 unused-from used (p ∷ ps) rest d = grind (arith, once used p (ps ++ rest) d, unused-from (used ++ p ∷ []) ps rest (rw append_assoc d))
 
-distinct-as : (a b : List ℕ) → ((n : ℕ) → uses n b ≡ uses n a) → Distinct a → Distinct b
-distinct-as a b same d = uses-distinct b (λ n. omega (arith, same n, distinct-uses a d n))
+joined-once : (n : ℕ) (used ps : List ℕ) → are_unused used ps ≡ true → uses n used ≤ 1 → uses n ps + uses n used ≤ 1
+joined-once n used [] e few = omega arith
+joined-once n used (p ∷ ps) e few = grind (arith, uses-absent p used, uses-append n used (p ∷ []), joined-once n (used ++ p ∷ []) ps)
 
 -- with those that are used, no place stands twice
 pub unused-joins : (used ps : List ℕ) → are_unused used ps ≡ true → Distinct used → Distinct (ps ++ used)
-unused-joins used [] e d = d
-unused-joins used (p ∷ ps) e d =
-    let more = distinct-as (p ∷ used) (used ++ p ∷ []) (λ n. omega (arith, uses-append n used (p ∷ []))) (grind arith, d) in
-    distinct-as (ps ++ (used ++ p ∷ [])) (p ∷ (ps ++ used)) (λ n. omega (arith, uses-append n ps (used ++ p ∷ []), uses-append n used (p ∷ []), uses-append n ps used)) (unused-joins (used ++ p ∷ []) ps (grind arith) more)
+unused-joins used ps e d = uses-distinct (ps ++ used) (λ n. omega (arith, uses-append n ps used, joined-once n used ps e (distinct-uses used d n)))
 
 -- ---- flags
 

@@ -71,18 +71,6 @@ module _ {s : Inside} {v : Catalog} {r : Record} {k : FileKey} {place old : ℕ}
         let files = held-change s.parts.items 1 (geometry_of s.geometry).files s.table.next k (file_after r) (entry_of t.file.key t.file.name t.file.size) new size s.table.files (omega arith) (omega (arith, t.held.0.count)) order.ascend order.within t.live.entry (ap (file_after r) (held-live s.table s.parts.items k t.file t.live) ∙ changed) in
         rw t.here (ap (λ (fs : List CatalogFile). record { geometry = s.geometry; next = s.table.next; files = fs }) files ∙ ap (λ (c : Catalog). with_changed k (file_after r) c) t.view ∙ ap (λ (j : FileKey). with_changed j (file_after r) v) t.key)
 
-    new-counted : (total' stubs' used' : ℕ) → part_refusal r rest limits (kept_in x) ≡ None → IsNumbered r → IsStrictlySortedBy nat_cmp (keys_of new.stubs) → rest.attributes + bytes_of_attributes new.attributes ≤ limits.attributes → IsLawfulKept (kept_in new)
-        → total' ≡ rest.attributes + bytes_of_attributes new.attributes → stubs' ≡ rest.stubs + length new.stubs → used' ≡ length (blocks_of (without_file (key_on (inode_of r) v) v).files) + length (present new.places)
-        → IsCounted s.geometry resized (set s.parts.items place new) total' stubs' used'
-    new-counted total' stubs' used' none numbers sorted few kept bytes entries blocks =
-        let key = key_on (inode_of r) v in
-        let w : Catalog = with_changed key (file_after r) v in
-        let all-bytes : total' ≡ attribute_total w.files = grind (arith, sum-change count_of key (file_after r) t.file v.files t.found, sum-drop count_of key t.file v.files t.found, changed, t.others) in
-        let all-stubs : stubs' ≡ stub_total w.files = grind (arith, sum-change stubs_of key (file_after r) t.file v.files t.found, sum-drop stubs_of key t.file v.files t.found, changed, t.others) in
-        let all-blocks : used' ≡ length (blocks_of w.files) = omega (arith, sum-change mapped_of key (file_after r) t.file v.files t.found, sum-drop mapped_of key t.file v.files t.found, used-sum (without_file key v).files, used-sum w.files, ap mapped_of changed) in
-        let good = IsCatalog-after r key t.file v rest limits (lawful s v t.view t.held) t.found (record { stands = t.stands; judged = rw t.same at none; numbers = numbers; kept = rw changed kept; ascend = rw changed sorted }) (rw (← all-bytes, bytes, ← t.bound) few) (rw (← all-stubs, entries, ← t.bound) (stubs-few none)) in
-        after s v t.view t.held resized (set s.parts.items place new) w total' stubs' used' new-held refl (length-set s.parts.items place new) good all-bytes all-stubs all-blocks
-
 -- the file, where its key is known
 file-at : (s : Inside) (v : Catalog) (is : catalog_held s.geometry s.table s.parts.items ≡ v) (i : IsCounted s.geometry s.table s.parts.items s.attribute_total s.stub_total s.used) (r : Record) (about : IsAboutOne r) (stands : CanStand r v) (k : FileKey) → k ≡ key_on (inode_of r) v
     → (f : CatalogFile) × (find_key (λ g. g.key) (key_on (inode_of r) v) v.files ≡ Some f) × CanStandOn r f v × IsLive s.table s.parts.items k f
@@ -143,12 +131,20 @@ overflow_add-self-3 c = omega (arith, (room (lent (goal.at.overflow_add-self-3 c
 pub invariant_of-self-2 : goal.invariant_of-self-2
 invariant_of-self-2 c =
     let t = lent (goal.at.invariant_of-self-2 c).After-index_mut-parts in
-    let used = rw c.ino.ensures at c.others-blocks.ensures.used in
-    rw c.set_size.ensures
-    (new-counted t c.apply.new.self c.size_after-size.result c.in_ok-apply.ensures.taken c.size_after-size.ensures (c.others-blocks.result.1.attributes + c.bytes.result) (c.others-blocks.result.1.stubs + c.len.result) (c.others-blocks.result.2 + c.from.result)
-    c.in_ok-apply.ensures.judged c.in_ok-apply.ensures.numbers c.len.ensures.ascend (c.in_ok-apply.ensures.within (room t).0)
-    (record { regions = c.in_ok-apply.ensures.regions (rw t.same (lawful-file t).kept.regions); attributes = c.bytes.ensures.attributes; eight = c.in_ok-apply.ensures.eight (rw t.same (lawful-file t).kept.eight) })
-    (omega (arith, c.bytes.ensures.count)) (omega (arith, c.len.ensures.count)) (omega (arith, c.from.ensures, c.mapped.ensures)))
+    let v = c.args.self.now in
+    let r = c.args.change in
+    let key = key_on (inode_of r) v in
+    let w : Catalog = with_changed key (file_after r) v in
+    let new = changed t c.apply.new.self c.size_after-size.result c.in_ok-apply.ensures.taken c.size_after-size.ensures in
+    let few = stubs-few t c.apply.new.self c.size_after-size.result c.in_ok-apply.ensures.taken c.size_after-size.ensures c.in_ok-apply.ensures.judged in
+    let held = new-held t c.apply.new.self c.size_after-size.result c.in_ok-apply.ensures.taken c.size_after-size.ensures in
+    let kept : IsLawfulKept (kept_in c.apply.new.self) = record { regions = c.in_ok-apply.ensures.regions (rw t.same (lawful-file t).kept.regions); attributes = c.bytes.ensures.attributes; eight = c.in_ok-apply.ensures.eight (rw t.same (lawful-file t).kept.eight) } in
+    let bytes : c.others-blocks.result.1.attributes + c.bytes.result ≡ attribute_total w.files = grind (arith, sum-change count_of key (file_after r) t.file v.files t.found, sum-drop count_of key t.file v.files t.found, new, t.others, c.bytes.ensures.count) in
+    let entries : c.others-blocks.result.1.stubs + c.len.result ≡ stub_total w.files = grind (arith, sum-change stubs_of key (file_after r) t.file v.files t.found, sum-drop stubs_of key t.file v.files t.found, new, t.others, c.len.ensures.count) in
+    let blocks : c.others-blocks.result.2 + c.from.result ≡ length (blocks_of w.files) = omega (arith, rw c.ino.ensures at c.others-blocks.ensures.used, sum-change mapped_of key (file_after r) t.file v.files t.found, sum-drop mapped_of key t.file v.files t.found, used-sum (without_file key v).files, used-sum w.files, ap mapped_of new, c.from.ensures, c.mapped.ensures) in
+    let good = IsCatalog-after r key t.file v _ _ (lawful c.self.inside _ c.self.view_is c.self.invariant) t.found (record { stands = t.stands; judged = rw t.same at c.in_ok-apply.ensures.judged; numbers = c.in_ok-apply.ensures.numbers; kept = rw new kept; ascend = rw new c.len.ensures.ascend })
+        (rw (← bytes, c.bytes.ensures.count, ← t.bound) (c.in_ok-apply.ensures.within (room t).0)) (rw (← entries, c.len.ensures.count, ← t.bound) few) in
+    rw c.set_size.ensures (after c.self.inside _ c.self.view_is c.self.invariant _ _ w _ _ _ held refl (length-set c.self.inside.parts.items c.slot.result c.apply.new.self) good bytes entries blocks)
 
 pub returns : goal.returns
 returns c =
