@@ -6,8 +6,6 @@ use Rattle.meta_store.specs.Catalogs.{present, places_in_segment}
 use Rattle.meta_store.specs.Records.{places_fitted, places_set, mappings_from, places_without}
 use Rattle.meta_store.proofs.BlockUses.{uses}
 
--- ---- no block of a stretch has a place
-
 hole-at : (ps : List (Option ℕ)) → present ps ≡ [] → (i : ℕ) → get_or ps i None ≡ None
 hole-at [] none i = refl
 hole-at (p ∷ ps) none zero = grind arith
@@ -23,8 +21,6 @@ holes-at (p ∷ ps) at = grind (arith, at 0, holes-at ps (λ i. at (suc i)))
 pub at-away : (n m : ℕ) (ps : List (Option ℕ)) → ((i : ℕ) → m ≤ i → i < m + n → get_or ps i None ≡ None) → present (take n (drop m ps)) ≡ []
 at-away n m ps at = holes-at (take n (drop m ps)) (λ i. grind (arith, common_steps, at (m + i)))
 
--- ---- a new size, and mappings elsewhere
-
 none-holes : (n i : ℕ) → get_or {A = Option ℕ} (replicate n None) i None ≡ None
 none-holes n i = grind (arith, common_steps)
 
@@ -35,8 +31,6 @@ pub get_or-mapped : (block : ℕ) (new : List ℕ) (ps : List (Option ℕ)) (i :
 get_or-mapped block [] ps i out = refl
 get_or-mapped block (p ∷ new) ps i out =
     get_or-mapped (block + 1) new (set ps block (Some p)) i (λ from to. out (omega arith) (omega arith)) ∙ get_or-set_other ps block i (Some p) None (λ same. out (omega arith) (omega arith))
-
--- ---- a stretch is cleared
 
 -- n blocks from the first number on are holes
 abbrev pub cleared : ℕ → ℕ → List (Option ℕ) → List (Option ℕ)
@@ -80,8 +74,6 @@ cleared-nothing zero (suc n) (p ∷ ps) none = absurd (omega arith)
 cleared-nothing (suc m) n (p ∷ ps) none = ap (λ (qs : List (Option ℕ)). p ∷ qs) (cleared-nothing m n ps none)
 cleared-nothing zero zero (p ∷ ps) none = refl
 cleared-nothing m n ps none = refl
-
--- ---- a segment is
 
 pub without-cleared : (j : ℕ) (ps : List (Option ℕ)) → places_without j ps ≡ cleared (16 * j) 16 ps
 without-cleared j ps = append_assoc (take (16 * j) ps) (replicate (min 16 (length ps - 16 * j)) None) (drop (16 * j + 16) ps) ∙ cleared-is (16 * j) 16 (16 * j + 16) (min 16 (length ps - 16 * j)) ps refl refl

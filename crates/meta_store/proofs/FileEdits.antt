@@ -12,8 +12,6 @@ use Rattle.plain_model.specs.Plain.{Listed}
 use Rattle.meta_store.specs.Catalogs.{CatalogFile, names_of, present, blocks_of, attribute_total}
 use Rattle.meta_store.proofs.BlockUses.{uses, uses-append}
 
--- ---- edits of a list whose items are seen otherwise, by the same keys
-
 module _ {F G : Type 0} (key : G → FileKey) (v : F → G) where
   pub map-put : (g : F) (fs : List F) → map v (put_key (λ f. key (v f)) g fs) ≡ put_key key (v g) (map v fs)
   map-put g [] = refl
@@ -41,8 +39,6 @@ names_of-drop k fs = map-drop (λ (l : Listed). l.key) name_of k fs
 pub names_of-change : (k : FileKey) (to : CatalogFile → CatalogFile) (fs : List CatalogFile) → ((f : CatalogFile) → name_of (to f) ≡ name_of f) → names_of (change_key (λ f. f.key) k to fs) ≡ names_of fs
 names_of-change k to fs same = map-change (λ (l : Listed). l.key) name_of k to fs same
 
--- ---- a sum over them
-
 module _ (m : CatalogFile → ℕ) where
   pub sum-put : (g : CatalogFile) (fs : List CatalogFile) → sum_by m (put_key (λ f. f.key) g fs) ≡ m g + sum_by m fs
   sum-put g [] = sum_by-cons m g []
@@ -55,8 +51,6 @@ module _ (m : CatalogFile → ℕ) where
   pub sum-change : (k : FileKey) (to : CatalogFile → CatalogFile) (g : CatalogFile) (fs : List CatalogFile) → find_key (λ f. f.key) k fs ≡ Some g → sum_by m (change_key (λ f. f.key) k to fs) + m g ≡ sum_by m fs + m (to g)
   sum-change k to g [] found = cc
   sum-change k to g (f ∷ fs) found = grind (arith, sum_by-cons m f fs, sum_by-cons m (to f) fs, sum_by-cons m f (change_key (λ x. x.key) k to fs), sum-change k to g fs)
-
--- ---- what is summed: bytes of attributes, stub entries, blocks, and how often a block of the disk is used
 
 abbrev pub count_of : CatalogFile → ℕ
 count_of f = bytes_of_attributes f.kept.attributes
@@ -84,8 +78,6 @@ total-drop k g fs found = sum-drop count_of k g fs found
 pub blocks-change : (k : FileKey) (to : CatalogFile → CatalogFile) (fs : List CatalogFile) → ((f : CatalogFile) → (to f).places ≡ f.places) → blocks_of (change_key (λ f. f.key) k to fs) ≡ blocks_of fs
 blocks-change k to [] same = refl
 blocks-change k to (f ∷ fs) same = grind (arith, same f, blocks-change k to fs same)
-
--- ---- what is true of each
 
 module _ (P : CatalogFile → Type 0) where
   pub each-put : (g : CatalogFile) (fs : List CatalogFile) → P g → AllByRecursion P fs → AllByRecursion P (put_key (λ f. f.key) g fs)

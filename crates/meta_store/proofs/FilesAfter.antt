@@ -42,15 +42,13 @@ sized-after (Stub ino j (Some stub)) f c stands few count = (few, length-gone_if
 sized-after r f c stands few count = (few, count)
 
 -- the file's blocks are some of those before, and new ones of the disk that no file used
-pub uses-after : (n : ℕ) (r : Record) (f : CatalogFile) (c : Catalog) → IsCatalog c → CanStandOn r f c → (new : ℕ) × (uses_of n (file_after r f) ≤ new + uses_of n f) × (new + uses n (blocks_of c.files) ≤ 1) × (1 ≤ new → n < (geometry_of c.geometry).blocks)
-uses-after n r f c is stands = by r stands (distinct-uses (blocks_of c.files) is.distinct n)
-  where
-    by : (r : Record) → CanStandOn r f c → uses n (blocks_of c.files) ≤ 1 → (new : ℕ) × (uses_of n (file_after r f) ≤ new + uses_of n f) × (new + uses n (blocks_of c.files) ≤ 1) × (1 ≤ new → n < (geometry_of c.geometry).blocks)
-    by (Map ino block places) stands once = (uses n places.items, uses-mapped n block places.items f.places, grind (arith, new_or_used n places.items (blocks_of c.files) stands.unused, distinct-uses places.items stands.distinct n), each-used (λ b. b < (geometry_of c.geometry).blocks) places.items stands.within n)
-    by (Size ino size) stands once = (0, omega (arith, uses-fitted n size f.places), omega arith, λ some. absurd (omega arith))
-    by (Stub ino j None) stands once = (0, omega arith, omega arith, λ some. absurd (omega arith))
-    by (Stub ino j (Some stub)) stands once = (0, omega (arith, uses-gone_if n stub.offline j f.places), omega arith, λ some. absurd (omega arith))
-    by r stands once = (0, omega arith, omega arith, λ some. absurd (omega arith))
+pub uses-after : (n : ℕ) (r : Record) (f : CatalogFile) (c : Catalog) → CanStandOn r f c → uses n (blocks_of c.files) ≤ 1 → (new : ℕ) × (uses_of n (file_after r f) ≤ new + uses_of n f) × (new + uses n (blocks_of c.files) ≤ 1) × (1 ≤ new → n < (geometry_of c.geometry).blocks)
+uses-after n (Map ino block places) f c stands once =
+    (uses n places.items, uses-mapped n block places.items f.places, grind (arith, new_or_used n places.items (blocks_of c.files) stands.unused, distinct-uses places.items stands.distinct n), each-used (λ b. b < (geometry_of c.geometry).blocks) places.items stands.within n)
+uses-after n (Size ino size) f c stands once = (0, omega (arith, uses-fitted n size f.places), omega arith, λ some. absurd (omega arith))
+uses-after n (Stub ino j None) f c stands once = (0, omega arith, omega arith, λ some. absurd (omega arith))
+uses-after n (Stub ino j (Some stub)) f c stands once = (0, omega (arith, uses-gone_if n stub.offline j f.places), omega arith, λ some. absurd (omega arith))
+uses-after n r f c stands once = (0, omega arith, omega arith, λ some. absurd (omega arith))
 
 pub IsCatalogFile-after : (r : Record) (f : CatalogFile) (c : Catalog) (others : Others) (limits : Geometry) → IsCatalog c → IsTakenOn r f c others limits → IsCatalogFile (geometry_of c.geometry).blocks f → IsCatalogFile (geometry_of c.geometry).blocks (file_after r f)
 IsCatalogFile-after r f c others limits is t old =
@@ -61,7 +59,7 @@ IsCatalogFile-after r f c others limits is t old =
       name = grind (arith, named, old.name);
       size = sized.0;
       places = sized.1;
-      within = used-each _ _ (λ n used. let more = uses-after n r f c is t.stands in let before = each-used (λ b. b < (geometry_of c.geometry).blocks) (present f.places) old.within n in grind (arith, more.1, more.3));
+      within = used-each _ _ (λ n used. let more = uses-after n r f c t.stands (distinct-uses (blocks_of c.files) is.distinct n) in let before = each-used (λ b. b < (geometry_of c.geometry).blocks) (present f.places) old.within n in grind (arith, more.1, more.3));
       kept = t.kept;
       ascend = t.ascend;
       stubs = stubs-after r f c others limits t old.stubs;

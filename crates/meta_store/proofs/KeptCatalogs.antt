@@ -66,7 +66,7 @@ IsCatalog-after r key f c others limits is found t few few_stubs = record {
   table = rw (names_of-change key (file_after r) c.files (named-after r)) is.table;
   each = each-changed (IsCatalogFile (geometry_of c.geometry).blocks) key (file_after r) c.files (λ g there old. let it : g ≡ f = cc in rw it (IsCatalogFile-after r f c others limits is t (rw it at old))) is.each;
   distinct = uses-distinct (blocks_of (with_changed key (file_after r) c).files) (λ n.
-      let more = uses-after n r f c is t.stands in
+      let more = uses-after n r f c t.stands (distinct-uses (blocks_of c.files) is.distinct n) in
       omega (arith, more.1, more.2, sum-change (uses_of n) key (file_after r) f c.files found, uses-sum n (with_changed key (file_after r) c).files, uses-sum n c.files));
   few = few;
   few_stubs = few_stubs;

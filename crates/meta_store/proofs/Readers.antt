@@ -37,8 +37,6 @@ refit p to back = record {
   again = λ x rest fit. p.again x rest (back x fit);
 }
 
--- ---- bytes and numbers
-
 pub bytes_read : (n : ℕ) → IsReader (bytes_at n) (λ bytes. bytes) (λ bytes. (length bytes ≡ n) × Unit {0})
 bytes_read n = record { takes = λ bytes ok. grind (arith, common_steps, IsBytes-drop n bytes ok, take-append-drop n bytes); again = λ x rest fit. grind (arith, take_at, drop_at, length-append x rest) }
 
@@ -69,8 +67,6 @@ number_reads {n} wide = record {
       let long : ltb (length (big_bytes n x ++ rest)) n ≡ false = le-ltb _ _ (omega (arith, length-append (big_bytes n x) rest)) in
       rw (long, big_number-reads_back n x rest fit, drop_at (big_bytes n x) rest n len) refl;
 }
-
--- ---- one reader from others
 
 module _ {A B : Type 0} {ra : List ℕ → Option (A × List ℕ)} {ta : A → List ℕ} {FA : A → Type 0} (p : IsReader ra ta FA) where
   pub both_read : {rb : List ℕ → Option (B × List ℕ)} {tb : B → List ℕ} {FB : B → Type 0} → IsReader rb tb FB → IsReader (both ra rb) (λ x. ta x.0 ++ tb x.1) (λ x. FA x.0 × FB x.1)

@@ -15,8 +15,6 @@ use Rattle.meta_store.proofs.BlockUses.{uses, uses-append, uses-absent, absent-u
 use Rattle.plain_model.specs.Keyed.{put_key}
 use Rattle.meta_store.specs.Catalogs.{CatalogFile, names_of}
 
--- ---- names
-
 turned : (x y : List ℕ) → bytes_eq x y ≡ false → bytes_eq y x ≡ false
 turned x y differs = false_from_ne_true (bytes_eq y x) (λ yes. let is = (bytes_eq-Decides x y).1 (sym ((bytes_eq-Decides y x).0 yes)) in cc)
 
@@ -27,8 +25,6 @@ unlike name (k ∷ ls) l rest none = unlike name ls l rest (grind arith)
 pub nameless : (ls : List Listed) (l : Listed) (rest : List Listed) → Differ (ls ++ l ∷ rest) → named l.name ls ≡ None
 nameless [] l rest d = refl
 nameless (k ∷ ls) l rest d = rw (turned l.name k.name (unlike k.name ls l rest d.0)) (nameless ls l rest d.1)
-
--- ---- places
 
 once : (used : List ℕ) (p : ℕ) (rest : List ℕ) → Distinct (used ++ p ∷ rest) → list_any (λ q. eqb q p) used ≡ false
 once used p rest d = absent-unused p used (grind (arith, uses-append p used (p ∷ rest), distinct-uses (used ++ p ∷ rest) d p))
@@ -45,8 +41,6 @@ joined-once n used (p ∷ ps) e few = grind (arith, uses-absent p used, uses-app
 pub unused-joins : (used ps : List ℕ) → are_unused used ps ≡ true → Distinct used → Distinct (ps ++ used)
 unused-joins used ps e d = uses-distinct (ps ++ used) (λ n. omega (arith, uses-append n ps used, joined-once n used ps e (distinct-uses used d n)))
 
--- ---- flags
-
 flags-more : (flags : List Bool) (used : List ℕ) (p : ℕ) → p < length flags → Flags flags used → Flags (set flags p true) (used ++ p ∷ [])
 flags-more flags used p within f = λ b below. grind (arith, common_steps, f b, list_any-append (λ q. eqb q b) used (p ∷ []))
 
@@ -60,8 +54,6 @@ free-is (p ∷ ps) flags used within f =
 pub length-mapped : (ps : List ℕ) (flags : List Bool) → length (with_mapped ps flags) ≡ length flags
 length-mapped [] flags = refl
 length-mapped (p ∷ ps) flags = length-mapped ps (set flags p true) ∙ length-set flags p true
-
--- ---- inodes
 
 last_inode-ge : (n : ℕ) (ls : List Listed) → Ascend (n + 1) ls → n ≤ last_inode n ls
 last_inode-ge n [] a = omega arith

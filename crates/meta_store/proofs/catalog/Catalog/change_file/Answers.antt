@@ -143,7 +143,7 @@ invariant_of-self-2 c =
     let entries : c.others-blocks.result.1.stubs + c.len.result ≡ stub_total w.files = grind (arith, sum-change stubs_of key (file_after r) t.file v.files t.found, sum-drop stubs_of key t.file v.files t.found, new, t.others, c.len.ensures.count) in
     let blocks : c.others-blocks.result.2 + c.from.result ≡ length (blocks_of w.files) = omega (arith, rw c.ino.ensures at c.others-blocks.ensures.used, sum-change mapped_of key (file_after r) t.file v.files t.found, sum-drop mapped_of key t.file v.files t.found, used-sum (without_file key v).files, used-sum w.files, ap mapped_of new, c.from.ensures, c.mapped.ensures) in
     let good = IsCatalog-after r key t.file v _ _ (lawful c.self.inside _ c.self.view_is c.self.invariant) t.found (record { stands = t.stands; judged = rw t.same at c.in_ok-apply.ensures.judged; numbers = c.in_ok-apply.ensures.numbers; kept = rw new kept; ascend = rw new c.len.ensures.ascend })
-        (rw (← bytes, c.bytes.ensures.count, ← t.bound) (c.in_ok-apply.ensures.within (room t).0)) (rw (← entries, c.len.ensures.count, ← t.bound) few) in
+    (rw (← bytes, c.bytes.ensures.count, ← t.bound) (c.in_ok-apply.ensures.within (room t).0)) (rw (← entries, c.len.ensures.count, ← t.bound) few) in
     rw c.set_size.ensures (after c.self.inside _ c.self.view_is c.self.invariant _ _ w _ _ _ held refl (length-set c.self.inside.parts.items c.slot.result c.apply.new.self) good bytes entries blocks)
 
 pub returns : goal.returns

@@ -21,5 +21,4 @@ pub returns-in-Offline-clause-taken : goal.returns-in-Offline-clause-taken
 returns-in-Offline-clause-taken c =
     let off = away _ c.in-Offline.field-0 (sym c.state.ensures ∙ c.in-Offline.is) in
     let same = restored-with c.args.segment c.args.stub c.args.self.now.stubs c.len-count.ensures.ascend c.if-stub.false (c.requires.fits.comes c.if-stub.false off) in
-    let stay : (if c.args.stub.offline then places_without c.args.segment c.args.self.now.places else c.args.self.now.places) ≡ c.args.self.now.places = ap (λ (b : Bool). if b then places_without c.args.segment c.args.self.now.places else c.args.self.now.places) c.if-stub.false in
-    on_ok_weaker c.restore.result (λ is. rw stay (ap (λ (stubs : Stubs). record c.args.self.now { stubs = stubs }) (is ∙ same))) c.restore.ensures.after
+    on_ok_weaker c.restore.result (λ is. grind (arith, is, same, c.if-stub.false)) c.restore.ensures.after
