@@ -2,7 +2,7 @@
 use Rattle.std.proofs.lemmas.List.Sums.{sum_by-cons, sum_by-append}
 use Rattle.std.proofs.lemmas.List.Folds.{fold-map}
 use Rattle.std.proofs.Common.{◌≡◌, ℕ, ◌+◌, ◌-◌, ◌≤◌, List, [], ◌∷◌, ◌++◌, length, map, true, Result, Err, leb, refl, ap, sym, ◌∙◌, arith}
-use Rattle.std.specs.List.{AllByRecursion}
+use Rattle.std.specs.List.{sum_by, AllByRecursion}
 use Rattle.std.specs.Result.{IsErrAnd}
 use Rattle.std.proofs.lemmas.List.{map-append}
 use Rattle.std.proofs.lemmas.List.Concat.{flat_map-append}
@@ -42,21 +42,22 @@ each-alone limit next blocks (f ∷ fs) within each long =
     let stubs : AreLawfulStubs f.size f.kept.regions (places_by (snapshot_file f)) f.kept.stubs = rw (places-again f each.0.places) (stubs-pass f each.0.ascend each.0.stubs long.0) in
     ((grind arith, grind (arith, each.0), kept, stubs), each-alone limit next blocks fs within.2 each.1 long.1)
 
+-- of what is summed, the files up to one have no more than all
+total-before : (m : SnapshotFile → ℕ) (fs : List CatalogFile) (before : List SnapshotFile) (f : SnapshotFile) (rest : List SnapshotFile) → map snapshot_file fs ≡ before ++ f ∷ rest → sum_by m before + m f ≤ sum_by (λ g. m (snapshot_file g)) fs
+total-before m fs before f rest e = omega (arith, sum_by-append m before (f ∷ rest), sum_by-cons m f rest, ap (sum_by m) e, fold-map (λ (sum : ℕ) (s : SnapshotFile). sum + m s) snapshot_file 0 fs)
+
 pub passes : (c : Catalog) (before : List SnapshotFile) (f : SnapshotFile) (rest : List SnapshotFile) → IsCatalog c → AreLengths c → map snapshot_file c.files ≡ before ++ f ∷ rest → IsNext (geometry_of c.geometry) c.next before f
 passes c before f rest is long e =
     let g : Geometry = geometry_of c.geometry in
     let names : names_of c.files ≡ names_in before ++ listed_in f ∷ names_in rest = sym (names_in-snapshot c.files) ∙ ap names_in e ∙ map-append listed_in before (f ∷ rest) in
     let places : blocks_of c.files ≡ places_in before ++ (places_of f.extents ++ places_in rest) = sym (places_in-snapshot c.files) ∙ ap places_in e ∙ flat_map-append (λ (s : SnapshotFile). places_of s.extents) before (f ∷ rest) in
     let alone = (all-parts (Passes g.files c.next g.blocks) before (f ∷ rest) (rw e at (each-alone g.files c.next g.blocks c.files is.table.within is.each long))).1.0 in
-    let count = λ (s : SnapshotFile). bytes_of_attributes s.kept.attributes in
-    let few : attribute_total_in before + count f ≤ g.attributes = omega (arith, sum_by-append count before (f ∷ rest), sum_by-cons count f rest, ap attribute_total_in e, fold-map (λ (sum : ℕ) (s : SnapshotFile). sum + count s) snapshot_file 0 c.files, is.few) in
-    let entries = λ (s : SnapshotFile). length s.kept.stubs in
-    let few_stubs : stub_total_in before + entries f ≤ g.stubs =
-    omega (arith, sum_by-append entries before (f ∷ rest), sum_by-cons entries f rest, ap stub_total_in e, stub_total_in-snapshot c.files, is.few_stubs) in
+    let few = total-before (λ s. bytes_of_attributes s.kept.attributes) c.files before f rest e in
+    let few_stubs = total-before (λ s. length s.kept.stubs) c.files before f rest e in
     let fresh = nameless (names_in before) (listed_in f) (names_in rest) (rw names at is.table.differ) in
     let above = above-last 0 (names_in before) (listed_in f) (names_in rest) (rw names at is.table.ascend) in
     let unused = unused-from (places_in before) (places_of f.extents) (places_in rest) (rw places at is.distinct) in
-    record { judged = grind (arith, alone.0, alone.1, alone.2); stubs = alone.3 }
+    record { judged = grind (arith, alone.0, alone.1, alone.2, is.few, is.few_stubs); stubs = alone.3 }
 
 -- behind others, which have so many, no file can stand whose entries aren't lawful, or too many
 pub not-next : (geometry : Geometry) (next : ℕ) (before : List SnapshotFile) (f : SnapshotFile) (total : ℕ) → total ≡ stub_total_in before
