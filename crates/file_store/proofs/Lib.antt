@@ -13,6 +13,7 @@ pub mod Rooms
 pub mod FilesBy
 pub mod ShownFiles
 pub mod WithBodies
+pub mod Ended
 pub mod StoreEvents
 pub mod Beside
 pub mod SealedFiles

@@ -25,9 +25,10 @@ here_then j stub none = by (is_offline stub) refl none
     by true is some = cc
     by false is some = is
 
-alone : (o : Option DmRefusal) → first_refusal (o ∷ []) ≡ o
-alone None = refl
-alone (Some why) = refl
+-- where it isn't, nothing but their number refuses an entry
+pub counted : {first : Option DmRefusal} (many : Option DmRefusal) → first ≡ None → first_refusal (first ∷ many ∷ []) ≡ many
+counted None none = rw none refl
+counted (Some why) none = rw none refl
 
 abbrev sealing : ℕ → StubEntry → FileKey → Record
 sealing j entry k = Stub k.ino j (Some (record { entry = entry; offline = false }))
@@ -46,10 +47,6 @@ module _ (bs : List HeldBody) (m : Meta) (is : IsHeldFiles bs m) (k : FileKey) (
     here : offline_at at.file.kept.stubs j ≡ false
     here = ap (λ (x : Kept). offline_at x.stubs j) (sym kept) ∙ here_then j (stub_at j (kept_at k m.current).stubs) none
 
-    -- nothing but their number refuses it
-    pub refused_so : IsMeta m → sealing_refusal j (other_stubs k (held_with bs m.current).files) (geometry_of m.durable.geometry).stubs (kept_of k (held_with bs m.current).files).stubs ≡ refusal_of (sealing j entry k) m.current
-    refused_so lawful = rw (stubs-others (bytes_with bs) m.current k at.file at.found, kept-held (bytes_with bs) m.current k, none, key, ← lawful.stored.geometry) (alone _)
-
     module _ (start : 65536 * j < length (bytes_of k (held_with bs m.current).files)) (volume : entry.volume ≤ 255) (print : offline_at (kept_of k (held_with bs m.current).files).stubs j ≡ false → entry.print ≡ print_of (segment j (bytes_of k (held_with bs m.current).files))) where
       size : length (bytes_of k (held_with bs m.current).files) ≡ at.file.size
       size = ap length (body-held bs m.current k at.file at.found) ∙ (is-body bs m is k at).size
@@ -65,7 +62,3 @@ module _ (bs : List HeldBody) (m : Meta) (is : IsHeldFiles bs m) (k : FileKey) (
 
       pub can_seal : CanStand (sealing j entry k) m.current
       can_seal = (at.file, ap (λ (i : FileKey). find_key (λ f. f.key) i m.current.files) key ∙ at.found, record { fits = record { start = rw (← size) start; len = refl; volume = volume; covered = λ off. absurd cc }; turns = record { goes = λ off. absurd cc; comes = λ stays off. absurd (false≢true (sym here ∙ off)) } })
-
-  -- or that it is offline
-  pub refused_offline : (why : DmRefusal) → already_offline j (stub_at j (kept_at k m.current).stubs) ≡ Some why → sealing_refusal j (other_stubs k (held_with bs m.current).files) (geometry_of m.durable.geometry).stubs (kept_of k (held_with bs m.current).files).stubs ≡ Some why
-  refused_offline why some = rw (kept-held (bytes_with bs) m.current k, some) refl

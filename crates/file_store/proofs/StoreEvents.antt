@@ -4,7 +4,7 @@ use Rattle.hsm_types.specs.declared.dm.DmRefusal.{DmRefusal}
 use Rattle.meta_store.specs.declared.refusal.MetaRefusal.{MetaRefusal}
 use Rattle.meta_store.specs.declared.refusal.MetaRefusal.TheVariants.{Part, Disk, Memory}
 use Rattle.file_store.specs.Effects.{IsFreed}
-use Rattle.file_store.specs.Refusals.{is_disk, refused_as}
+use Rattle.file_store.specs.Refusals.{is_disk}
 use Rattle.file_store.proofs.Durable.{Parts, store_of, Tells, IsDone, after_event, done, proceeds_on, kept_proceeds}
 use Rattle.file_store.proofs.Marks.{others_free, marks-after, freed-within, marks_there, length-marks, marks-moved, ArePlaces, are_places}
 use Rattle.file_store.proofs.WithBodies.{IsHeldFiles-back, held_with-back, each-changed, is-body, bytes-of, live-held, body-held, bodies_after, held_at-after, held_with-after, IsHeldFiles-after, IsFound, bytes-held, held_with-rewritten, IsHeldFiles-rewritten}
@@ -20,7 +20,6 @@ use Rattle.hsm_types.specs.Stubs.{Stubs, offline_at}
 use Rattle.plain_model.specs.Sound.{IsSound as IsAllowed}
 use Rattle.meta_store.specs.Catalogs.{AreLengths, HasLengths}
 use Rattle.std.specs.List.{All}
-use Rattle.file_store.specs.declared.refusal.StoreRefusal.TheVariants as store
 
 module _ {D : Type 0} (g : Ghosts D) (k : FileKey) (r : Record) (freed : List ℕ) (p : Parts D) (held : IsHeldFiles p.bodies p.meta) (sound : IsSound g (store_of p)) (working : p.failed ≡ false) (bodiless : IsBodiless k r p.meta.current) (stands : CanStand r p.meta.current)
     (free : IsFreed k r p.meta.current freed) where
@@ -50,13 +49,8 @@ refused_sound g s new space (Part why) sound working part memory = rw ((part why
 refused_sound g s new space Disk sound working part memory = record { meta = sound.meta; live = λ still. absurd cc }
 refused_sound g s new space Memory sound working part memory = rw ((memory refl).0, (memory refl).1) (subst (λ b. IsSound g (record s { failed = b })) working sound)
 
-pub refused_as_is : (refusal : MetaRefusal) → ((why : DmRefusal) → refused_as refusal ≡ store.Part why → refusal ≡ Part why) × (refused_as refusal ≡ store.Memory → refusal ≡ Memory)
-refused_as_is (Part w) = (λ why is. cc, λ is. cc)
-refused_as_is Disk = (λ why is. cc, λ is. cc)
-refused_as_is Memory = (λ why is. cc, λ is. refl)
-
-pub refusal_alone : (r : Record) (c : Catalog) → refusal_of_all (r ∷ []) c ≡ refusal_of r c
-refusal_alone r c = grind arith
+pub refusal_alone : (rs : List Record) (r : Record) (c : Catalog) → rs ≡ r ∷ [] → refusal_of r c ≡ refusal_of_all rs c
+refusal_alone rs r c is = rw is (grind arith)
 
 -- ---- blocks that a file frees
 

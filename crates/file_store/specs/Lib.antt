@@ -6,4 +6,5 @@ pub mod Punches
 pub mod Refusals
 pub mod Effects
 pub mod Stores
+pub mod Changes
 pub mod Laws

@@ -15,7 +15,8 @@ ghost use Rattle.plain_model.specs.Blocks.{touched};
 ghost use Rattle.plain_model.specs.State.{names_of, file_at, bytes_of, next_key, affected_held, used};
 ghost use Rattle.plain_model.specs.Services.{kept_of, other_attributes, other_stubs};
 ghost use Rattle.meta_store.specs.Catalogs.{geometry_of};
-ghost use Rattle.file_store.specs.Stores.{superblock_of, Proceeds, TellsFaults};
+ghost use Rattle.file_store.specs.Stores.{superblock_of};
+ghost use Rattle.file_store.specs.Changes.{Ends, Changes};
 
 use crate::punches;
 use crate::refusal::StoreRefusal;
@@ -41,12 +42,11 @@ impl<D: Disk> FileStore<D> {
         requires left { length self.old.held.files ≢ (geometry_of self.old.meta.durable.geometry).files }
         ensures key { IfOk result (λ key. key ≡ next_key self.old.held) }
         ensures held { OnOk result (self.new.held ≡ record { files = affected_held (Makes name.now) (next_key self.old.held) self.old.held.files; next = self.old.held.next + 1 }) }
-        ensures working { OnOk result (self.new.failed ≡ false) }
+        ensures ends { Ends D.Disk self.old number None result self.new }
         ensures memory { IsErrOf result StoreRefusal.Memory → self.new ≡ self.old }
-        ensures faults { TellsFaults D.Disk result self.old self.new }
-        ensures no_part { (why : DmRefusal) → IsErrOf result (StoreRefusal.Part why) → ⊥ }
-        ensures proceeds { Proceeds D.Disk self.old number self.new }
     {
+        // Asked for what is true of the disk.
+        let _failed = self.has_failed();
         let key = self.meta.catalog().names().next_key();
         if key.igen >= LAST_GENERATION {
             return Err(StoreRefusal::Memory);
@@ -60,12 +60,7 @@ impl<D: Disk> FileStore<D> {
     pub fn remove(&mut self, alloc: Global, key: FileKey, number: u64) -> Result<(), StoreRefusal>
         requires working { self.old.failed ≡ false }
         requires live { IsSome (find_key (λ f. f.key) key self.old.held.files) }
-        ensures held { OnOk result (self.new.held ≡ record self.old.held { files = affected_held Drops key self.old.held.files }) }
-        ensures working { OnOk result (self.new.failed ≡ false) }
-        ensures memory { IsErrOf result StoreRefusal.Memory → (self.new.held ≡ self.old.held) × (self.new.failed ≡ false) }
-        ensures faults { TellsFaults D.Disk result self.old self.new }
-        ensures no_part { (why : DmRefusal) → IsErrOf result (StoreRefusal.Part why) → ⊥ }
-        ensures proceeds { Proceeds D.Disk self.old number self.new }
+        ensures changed { Changes D.Disk self.old number key Drops None result self.new }
     {
         let ino = self.inode(key);
         self.record(alloc, key, Record::Drop { ino }, number)
@@ -86,12 +81,7 @@ impl<D: Disk> FileStore<D> {
         requires end { offset + length bytes.now ≤ 16777216 }
         requires here { IsSound (Writes offset bytes.now) (file_at key self.old.held.files) }
         requires room { length (touched (Writes offset bytes.now) (length (bytes_of key self.old.held.files))) + used self.old.held.files ≤ (geometry_of self.old.meta.durable.geometry).blocks }
-        ensures held { OnOk result (self.new.held ≡ record self.old.held { files = affected_held (Writes offset bytes.now) key self.old.held.files }) }
-        ensures working { OnOk result (self.new.failed ≡ false) }
-        ensures memory { IsErrOf result StoreRefusal.Memory → (self.new.held ≡ self.old.held) × (self.new.failed ≡ false) }
-        ensures faults { TellsFaults D.Disk result self.old self.new }
-        ensures no_part { (why : DmRefusal) → IsErrOf result (StoreRefusal.Part why) → ⊥ }
-        ensures proceeds { Proceeds D.Disk self.old number self.new }
+        ensures changed { Changes D.Disk self.old number key (Writes offset bytes.now) None result self.new }
     {
         let change = Rewrite::Write { offset, bytes };
         self.make_room(alloc, key, change, number)?;
@@ -111,12 +101,7 @@ impl<D: Disk> FileStore<D> {
         requires end { size ≤ 16777216 }
         requires here { IsSound (Resizes size) (file_at key self.old.held.files) }
         requires room { length (touched (Resizes size) (length (bytes_of key self.old.held.files))) + used self.old.held.files ≤ (geometry_of self.old.meta.durable.geometry).blocks }
-        ensures held { OnOk result (self.new.held ≡ record self.old.held { files = affected_held (Resizes size) key self.old.held.files }) }
-        ensures working { OnOk result (self.new.failed ≡ false) }
-        ensures memory { IsErrOf result StoreRefusal.Memory → (self.new.held ≡ self.old.held) × (self.new.failed ≡ false) }
-        ensures faults { TellsFaults D.Disk result self.old self.new }
-        ensures no_part { (why : DmRefusal) → IsErrOf result (StoreRefusal.Part why) → ⊥ }
-        ensures proceeds { Proceeds D.Disk self.old number self.new }
+        ensures changed { Changes D.Disk self.old number key (Resizes size) None result self.new }
     {
         let change = Rewrite::Resize { size };
         self.make_room(alloc, key, change, number)?;
@@ -133,14 +118,8 @@ impl<D: Disk> FileStore<D> {
     ) -> Result<(), StoreRefusal>
         requires working { self.old.failed ≡ false }
         requires live { IsSome (find_key (λ f. f.key) key self.old.held.files) }
-        ensures judged { OnOk result (first_refusal (regions_refusal regions ∷ uncovered regions (kept_of key self.old.held.files).stubs ∷ []) ≡ None) }
-        ensures refused { (why : DmRefusal) → (result ≡ Err (StoreRefusal.Part why)) → (first_refusal (regions_refusal regions ∷ uncovered regions (kept_of key self.old.held.files).stubs ∷ []) ≡ Some why) }
-        ensures held { OnOk result (self.new.held ≡ record self.old.held { files = affected_held (Manages regions) key self.old.held.files }) }
-        ensures working { OnOk result (self.new.failed ≡ false) }
-        ensures unchanged { (why : DmRefusal) → IsErrOf result (StoreRefusal.Part why) → self.new ≡ self.old }
+        ensures changed { Changes D.Disk self.old number key (Manages regions) (first_refusal (regions_refusal regions ∷ uncovered regions (kept_of key self.old.held.files).stubs ∷ [])) result self.new }
         ensures memory { IsErrOf result StoreRefusal.Memory → self.new ≡ self.old }
-        ensures faults { TellsFaults D.Disk result self.old self.new }
-        ensures proceeds { Proceeds D.Disk self.old number self.new }
     {
         let ino = self.inode(key);
         self.record(alloc, key, Record::Regions { ino, regions }, number)
@@ -157,14 +136,8 @@ impl<D: Disk> FileStore<D> {
     ) -> Result<(), StoreRefusal>
         requires working { self.old.failed ≡ false }
         requires live { IsSome (find_key (λ f. f.key) key self.old.held.files) }
-        ensures judged { OnOk result (setting_refusal name value (other_attributes key self.old.held.files) (superblock_of self.old).geometry.attributes (kept_of key self.old.held.files).attributes ≡ None) }
-        ensures refused { (why : DmRefusal) → (result ≡ Err (StoreRefusal.Part why)) → (setting_refusal name value (other_attributes key self.old.held.files) (superblock_of self.old).geometry.attributes (kept_of key self.old.held.files).attributes ≡ Some why) }
-        ensures held { OnOk result (self.new.held ≡ record self.old.held { files = affected_held (Attaches name value) key self.old.held.files }) }
-        ensures working { OnOk result (self.new.failed ≡ false) }
-        ensures unchanged { (why : DmRefusal) → IsErrOf result (StoreRefusal.Part why) → self.new ≡ self.old }
+        ensures changed { Changes D.Disk self.old number key (Attaches name value) (setting_refusal name value (other_attributes key self.old.held.files) (superblock_of self.old).geometry.attributes (kept_of key self.old.held.files).attributes) result self.new }
         ensures memory { IsErrOf result StoreRefusal.Memory → self.new ≡ self.old }
-        ensures faults { TellsFaults D.Disk result self.old self.new }
-        ensures proceeds { Proceeds D.Disk self.old number self.new }
     {
         let ino = self.inode(key);
         self.record(alloc, key, Record::SetAttr { ino, name, value }, number)
@@ -180,14 +153,8 @@ impl<D: Disk> FileStore<D> {
     ) -> Result<(), StoreRefusal>
         requires working { self.old.failed ≡ false }
         requires live { IsSome (find_key (λ f. f.key) key self.old.held.files) }
-        ensures judged { OnOk result (removal_refusal name (kept_of key self.old.held.files).attributes ≡ None) }
-        ensures refused { (why : DmRefusal) → (result ≡ Err (StoreRefusal.Part why)) → (removal_refusal name (kept_of key self.old.held.files).attributes ≡ Some why) }
-        ensures held { OnOk result (self.new.held ≡ record self.old.held { files = affected_held (Detaches name) key self.old.held.files }) }
-        ensures working { OnOk result (self.new.failed ≡ false) }
-        ensures unchanged { (why : DmRefusal) → IsErrOf result (StoreRefusal.Part why) → self.new ≡ self.old }
+        ensures changed { Changes D.Disk self.old number key (Detaches name) (removal_refusal name (kept_of key self.old.held.files).attributes) result self.new }
         ensures memory { IsErrOf result StoreRefusal.Memory → self.new ≡ self.old }
-        ensures faults { TellsFaults D.Disk result self.old self.new }
-        ensures proceeds { Proceeds D.Disk self.old number self.new }
     {
         let ino = self.inode(key);
         self.record(alloc, key, Record::DropAttr { ino, name }, number)
@@ -207,14 +174,8 @@ impl<D: Disk> FileStore<D> {
         requires start { 65536 * segment < length (bytes_of key self.old.held.files) }
         requires volume { entry.volume ≤ 255 }
         requires print { offline_at (kept_of key self.old.held.files).stubs segment ≡ false → entry.print ≡ print_of (segment_of segment (bytes_of key self.old.held.files)) }
-        ensures judged { OnOk result (sealing_refusal segment (other_stubs key self.old.held.files) (superblock_of self.old).geometry.stubs (kept_of key self.old.held.files).stubs ≡ None) }
-        ensures refused { (why : DmRefusal) → (result ≡ Err (StoreRefusal.Part why)) → (sealing_refusal segment (other_stubs key self.old.held.files) (superblock_of self.old).geometry.stubs (kept_of key self.old.held.files).stubs ≡ Some why) }
-        ensures held { OnOk result (self.new.held ≡ record self.old.held { files = affected_held (Seals segment entry) key self.old.held.files }) }
-        ensures working { OnOk result (self.new.failed ≡ false) }
-        ensures unchanged { (why : DmRefusal) → IsErrOf result (StoreRefusal.Part why) → self.new ≡ self.old }
+        ensures changed { Changes D.Disk self.old number key (Seals segment entry) (sealing_refusal segment (other_stubs key self.old.held.files) (superblock_of self.old).geometry.stubs (kept_of key self.old.held.files).stubs) result self.new }
         ensures memory { IsErrOf result StoreRefusal.Memory → self.new ≡ self.old }
-        ensures faults { TellsFaults D.Disk result self.old self.new }
-        ensures proceeds { Proceeds D.Disk self.old number self.new }
     {
         // Asked for what is true of the disk.
         let _failed = self.has_failed();
@@ -240,14 +201,7 @@ impl<D: Disk> FileStore<D> {
         requires working { self.old.failed ≡ false }
         requires live { IsSome (find_key (λ f. f.key) key self.old.held.files) }
         requires start { 65536 * from < length (bytes_of key self.old.held.files) }
-        ensures judged { OnOk result (any_unpunched (kept_of key self.old.held.files).regions (kept_of key self.old.held.files).stubs from (min to (segments_in (length (bytes_of key self.old.held.files)))) ≡ None) }
-        ensures refused { (why : DmRefusal) → (result ≡ Err (StoreRefusal.Part why)) → (any_unpunched (kept_of key self.old.held.files).regions (kept_of key self.old.held.files).stubs from (min to (segments_in (length (bytes_of key self.old.held.files)))) ≡ Some why) }
-        ensures held { OnOk result (self.new.held ≡ record self.old.held { files = affected_held (Punches from to) key self.old.held.files }) }
-        ensures working { OnOk result (self.new.failed ≡ false) }
-        ensures unchanged { (why : DmRefusal) → IsErrOf result (StoreRefusal.Part why) → self.new ≡ self.old }
-        ensures memory { IsErrOf result StoreRefusal.Memory → (self.new.held ≡ self.old.held) × (self.new.failed ≡ false) }
-        ensures faults { TellsFaults D.Disk result self.old self.new }
-        ensures proceeds { Proceeds D.Disk self.old number self.new }
+        ensures changed { Changes D.Disk self.old number key (Punches from to) (any_unpunched (kept_of key self.old.held.files).regions (kept_of key self.old.held.files).stubs from (min to (segments_in (length (bytes_of key self.old.held.files))))) result self.new }
     {
         let last = to.min(segments_in(self.body(key).len()));
         let end = last.max(from);
@@ -271,14 +225,7 @@ impl<D: Disk> FileStore<D> {
         requires start { 65536 * segment < length (bytes_of key self.old.held.files) }
         requires print { offline_at (kept_of key self.old.held.files).stubs segment ≡ true → IfSome (stub_at segment (kept_of key self.old.held.files).stubs) (λ stub. stub.entry.print ≡ print_of bytes.now) }
         requires room { length (touched (Restores segment bytes.now) (length (bytes_of key self.old.held.files))) + used self.old.held.files ≤ (geometry_of self.old.meta.durable.geometry).blocks }
-        ensures judged { OnOk result (restoring_refusal segment (kept_of key self.old.held.files).stubs ≡ None) }
-        ensures refused { (why : DmRefusal) → (result ≡ Err (StoreRefusal.Part why)) → (restoring_refusal segment (kept_of key self.old.held.files).stubs ≡ Some why) }
-        ensures held { OnOk result (self.new.held ≡ record self.old.held { files = affected_held (Restores segment bytes.now) key self.old.held.files }) }
-        ensures working { OnOk result (self.new.failed ≡ false) }
-        ensures unchanged { (why : DmRefusal) → IsErrOf result (StoreRefusal.Part why) → self.new ≡ self.old }
-        ensures memory { IsErrOf result StoreRefusal.Memory → (self.new.held ≡ self.old.held) × (self.new.failed ≡ false) }
-        ensures faults { TellsFaults D.Disk result self.old self.new }
-        ensures proceeds { Proceeds D.Disk self.old number self.new }
+        ensures changed { Changes D.Disk self.old number key (Restores segment bytes.now) (restoring_refusal segment (kept_of key self.old.held.files).stubs) result self.new }
     {
         // Asked for what is true of the disk.
         let _failed = self.has_failed();

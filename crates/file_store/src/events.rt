@@ -1,5 +1,5 @@
 //! The two ways of an event: records that concern no bytes, and bytes with their records. Each takes the records by one call.
-ghost use Rattle.std.specs.Prelude.{◌≡◌, ◌+◌, ◌-◌, ◌*◌, ◌≤◌, ◌<◌, ◌^◌, true, false, if◌then◌else◌, None, Some, Err, [], length, take, slice_set, IfOk, OnOk, OnErr, IsErrOf, IsSome};
+ghost use Rattle.std.specs.Prelude.{◌≡◌, ◌+◌, ◌-◌, ◌*◌, ◌≤◌, ◌<◌, ◌^◌, true, false, if◌then◌else◌, None, Some, Err, length, take, slice_set, IfOk, OnOk, OnErr, IsErrOf, IsSome};
 ghost use Rattle.std.specs.List.{AllByRecursion};
 ghost use Rattle.disk_model.specs.Calls.{Counts};
 ghost use Rattle.disk_model.specs.Moments.{Keeps};
@@ -9,7 +9,7 @@ ghost use Rattle.plain_model.specs.Keyed.{find_key};
 ghost use Rattle.plain_model.specs.Blocks.{touched};
 ghost use Rattle.plain_model.specs.Services.{kept_of};
 ghost use Rattle.plain_model.specs.Sound.{IsSound};
-ghost use Rattle.plain_model.specs.State.{file_at, bytes_of, affected_held, used};
+ghost use Rattle.plain_model.specs.State.{file_at, bytes_of, used};
 ghost use Rattle.block_space.specs.Space.{marked, free};
 ghost use Rattle.file_body.specs.HeldBodies.{no_body};
 ghost use Rattle.meta_store.specs.Catalogs.{CatalogFile, geometry_of};
@@ -18,7 +18,7 @@ ghost use Rattle.file_store.specs.Rewrites.{effect_of, IsRewrite, IsWithin, HasE
 ghost use Rattle.file_store.specs.Bodies.{IsAlike};
 ghost use Rattle.file_store.specs.Refusals.{is_disk, refused_as};
 ghost use Rattle.file_store.specs.Steps.{IsBesideBlocks, IsStaged};
-ghost use Rattle.file_store.specs.Stores.{Store, Proceeds, TellsFaults};
+ghost use Rattle.file_store.specs.Changes.{Ends, Changes};
 ghost use Rattle.file_store.specs.Effects.{IsBodiless, IsFreed, held_after, empties};
 
 use crate::loading::slot;
@@ -76,12 +76,8 @@ impl<D: Disk> FileStore<D> {
         requires room { length (touched (effect_of change) (length (bytes_of key self.old.held.files))) + used self.old.held.files ≤ (geometry_of self.old.meta.durable.geometry).blocks }
         ensures enough { OnOk result (length (touched (effect_of change.entry) (length (bytes_of key self.old.held.files))) ≤ length (free self.new.space)) }
         ensures held { self.new.held ≡ self.old.held }
-        ensures proceeds { Proceeds D.Disk self.old number self.new }
-        ensures goes_on { (later : Store D) → Proceeds D.Disk self.new number later → Proceeds D.Disk self.old number later }
-        ensures working { OnOk result (self.new.failed ≡ false) }
+        ensures ends { Ends D.Disk self.old number None result self.new }
         ensures memory { IsErrOf result StoreRefusal.Memory → self.new ≡ self.old }
-        ensures faults { TellsFaults D.Disk result self.old self.new }
-        ensures no_part { (why : DmRefusal) → IsErrOf result (StoreRefusal.Part why) → ⊥ }
     {
         // Asked for what is true of the disk.
         let _failed = self.has_failed();
@@ -103,14 +99,9 @@ impl<D: Disk> FileStore<D> {
         requires working { self.old.failed ≡ false }
         requires bodiless { IsBodiless key change self.old.meta.current }
         requires stands { CanStand change self.old.meta.current }
-        ensures judged { OnOk result (refusal_of change self.old.meta.current ≡ None) }
-        ensures refused { (why : DmRefusal) → (result ≡ Err (StoreRefusal.Part why)) → (refusal_of change self.old.meta.current ≡ Some why) }
+        ensures ends { Ends D.Disk self.old number (refusal_of change self.old.meta.current) result self.new }
         ensures held { OnOk result (self.new.held ≡ held_after key change self.old.held) }
-        ensures working { OnOk result (self.new.failed ≡ false) }
-        ensures unchanged { (why : DmRefusal) → IsErrOf result (StoreRefusal.Part why) → self.new ≡ self.old }
         ensures memory { IsErrOf result StoreRefusal.Memory → self.new ≡ self.old }
-        ensures faults { TellsFaults D.Disk result self.old self.new }
-        ensures proceeds { Proceeds D.Disk self.old number self.new }
     {
         let empty = empties(&change);
         // Asked for what is true of the disk.
@@ -151,12 +142,7 @@ impl<D: Disk> FileStore<D> {
         requires offline { BringsOffline change (kept_of key self.old.held.files).stubs }
         requires room { length (touched (effect_of change) (length (bytes_of key self.old.held.files))) + used self.old.held.files ≤ (geometry_of self.old.meta.durable.geometry).blocks }
         requires enough { length (touched (effect_of change) (length (bytes_of key self.old.held.files))) ≤ length (free self.old.space) }
-        ensures held { OnOk result (self.new.held ≡ record self.old.held { files = affected_held (effect_of change.entry) key self.old.held.files }) }
-        ensures working { OnOk result (self.new.failed ≡ false) }
-        ensures memory { IsErrOf result StoreRefusal.Memory → (self.new.held ≡ self.old.held) × (self.new.failed ≡ false) }
-        ensures faults { TellsFaults D.Disk result self.old self.new }
-        ensures no_part { (why : DmRefusal) → IsErrOf result (StoreRefusal.Part why) → ⊥ }
-        ensures proceeds { Proceeds D.Disk self.old number self.new }
+        ensures changed { Changes D.Disk self.old number key (effect_of change.entry) None result self.new }
     {
         // Asked for what is true of the disk.
         let _failed = self.has_failed();

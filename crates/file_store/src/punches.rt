@@ -5,12 +5,11 @@ ghost use Rattle.hsm_types.specs.Stubs.{any_unpunched, not_punched, stub_at};
 ghost use Rattle.hsm_types.specs.declared.dm.DmRefusal.{DmRefusal};
 ghost use Rattle.plain_model.specs.Effects.{Punches};
 ghost use Rattle.plain_model.specs.Keyed.{find_key};
-ghost use Rattle.plain_model.specs.Services.{kept_of};
-ghost use Rattle.plain_model.specs.State.{affected_held, bytes_of};
+ghost use Rattle.plain_model.specs.State.{bytes_of};
 ghost use Rattle.meta_store.specs.Catalogs.{CatalogFile, present};
 ghost use Rattle.meta_store.specs.Records.{kept_at};
 ghost use Rattle.file_store.specs.Punches.{away_by, places_between, punch_records};
-ghost use Rattle.file_store.specs.Stores.{Proceeds, TellsFaults};
+ghost use Rattle.file_store.specs.Changes.{Changes};
 
 use crate::events::make_durable;
 use crate::loading::slot;
@@ -143,12 +142,7 @@ impl<D: Disk> FileStore<D> {
         requires judged { any_unpunched (kept_at key self.old.meta.current).regions (kept_at key self.old.meta.current).stubs from to ≡ None }
         requires records { punch.records ≡ punch_records key.ino (kept_at key self.old.meta.current).stubs (from_on from (to - from)) }
         requires freed { (f : CatalogFile) → find_key (λ f. f.key) key self.old.meta.current.files ≡ Some f → punch.freed.items ≡ present (places_between from to f.places) }
-        ensures held { OnOk result (self.new.held ≡ record self.old.held { files = affected_held (Punches from to) key self.old.held.files }) }
-        ensures working { OnOk result (self.new.failed ≡ false) }
-        ensures memory { IsErrOf result StoreRefusal.Memory → (self.new.held ≡ self.old.held) × (self.new.failed ≡ false) }
-        ensures faults { TellsFaults D.Disk result self.old self.new }
-        ensures no_part { (why : DmRefusal) → IsErrOf result (StoreRefusal.Part why) → ⊥ }
-        ensures proceeds { Proceeds D.Disk self.old number self.new }
+        ensures changed { Changes D.Disk self.old number key (Punches from to) None result self.new }
     {
         // Asked for what is true of the disk.
         let _failed = self.has_failed();

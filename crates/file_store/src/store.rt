@@ -4,7 +4,6 @@ ghost use Rattle.disk_model.specs.Calls.{Counts};
 ghost use Rattle.disk_model.specs.Images.{Alike};
 ghost use Rattle.disk_model.specs.Moments.{MayBe, Keeps, Same};
 ghost use Rattle.commit_slots.specs.Images.{IsStore};
-ghost use Rattle.hsm_types.specs.declared.dm.DmRefusal.{DmRefusal};
 ghost use Rattle.plain_model.specs.Keyed.{find_key};
 ghost use Rattle.hsm_types.specs.Segments.{segment_len};
 ghost use Rattle.hsm_types.specs.Stubs.{print_of, stub_at, offline_at};
@@ -16,9 +15,11 @@ ghost use Rattle.plain_model.specs.Services.{kept_of, other_attributes, other_st
 ghost use Rattle.meta_store.specs.Catalogs.{geometry_of};
 ghost use Rattle.meta_store.specs.Images.{IsCorruptAt};
 ghost use Rattle.meta_store.specs.Meta.{IsMeta};
-ghost use Rattle.meta_store.specs.Records.{key_on, kept_at, others_total, others_stubs};
+ghost use Rattle.meta_store.specs.Records.{key_on, kept_at, inode_of, part_refusal, refusal_of};
+ghost use Rattle.meta_store.specs.declared.records.Record.{Record};
 ghost use Rattle.file_store.specs.Effects.{HasInode};
-ghost use Rattle.file_store.specs.Stores.{superblock_of, IsLawful, IsDurable, Proceeds, TellsFaults, Shows};
+ghost use Rattle.file_store.specs.Stores.{superblock_of, IsLawful, IsDurable, Proceeds, Shows};
+ghost use Rattle.file_store.specs.Changes.{Ends};
 
 use crate::loading::slot;
 use crate::opening::read_in;
@@ -99,12 +100,9 @@ impl<D: Disk> FileStore<D> {
         ensures current { self.new.meta.current ≡ self.old.meta.current }
         ensures done { OnOk result ((self.new.durable ≡ self.old.held) × (self.new.meta.number ≡ number)) }
         ensures durable { OnOk result ((c : List ℕ) → MayBe D.Disk self.new.disk c → IsDurable self.new c) }
-        ensures proceeds { Proceeds D.Disk self.old number self.new }
-        ensures working { OnOk result (self.new.failed ≡ false) }
+        ensures ends { Ends D.Disk self.old number None result self.new }
         ensures room { OnOk result (length (free self.new.space) + used self.new.held.files ≡ (geometry_of self.new.meta.durable.geometry).blocks) }
         ensures memory { IsErrOf result StoreRefusal.Memory → self.new ≡ self.old }
-        ensures faults { TellsFaults D.Disk result self.old self.new }
-        ensures no_part { (why : DmRefusal) → IsErrOf result (StoreRefusal.Part why) → ⊥ }
     {
         // Asked for what is true of the disk.
         let _failed = self.has_failed();
@@ -172,9 +170,7 @@ impl<D: Disk> FileStore<D> {
         ensures key { key_on result self.now.meta.current ≡ key }
         ensures stands { HasInode result self.now.meta.current }
         ensures kept { kept_of key self.now.held.files ≡ kept_at key self.now.meta.current }
-        ensures others { other_attributes key self.now.held.files ≡ others_total key self.now.meta.current }
-        ensures other_stubs { other_stubs key self.now.held.files ≡ others_stubs key self.now.meta.current }
-        ensures lawful { IsMeta self.now.meta }
+        ensures refusal { (r : Record) → inode_of r ≡ key.ino → refusal_of r self.now.meta.current ≡ part_refusal r (record { attributes = other_attributes key self.now.held.files; stubs = other_stubs key self.now.held.files }) (superblock_of self.now).geometry (kept_of key self.now.held.files) }
     {
         // Read for what is true of it.
         let _meta = &self.meta;

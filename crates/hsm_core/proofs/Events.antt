@@ -1,5 +1,5 @@
 -- An event more: what becomes of a store by what became of its parts.
-use Rattle.std.proofs.Common.{◌≡◌, ◌⊎◌, ℕ, ◌+◌, ◌≤◌, List, [], ◌∷◌, ◌++◌, length, true, false, inl, inr, refl, sym, ◌∙◌, ap, subst, arith, length-append}
+use Rattle.std.proofs.Common.{◌≡◌, ◌⊎◌, ℕ, ◌+◌, ◌≤◌, List, [], ◌∷◌, ◌++◌, length, true, false, Some, None, inl, inr, refl, sym, ◌∙◌, ap, subst, arith, length-append}
 use Rattle.std.specs.Prelude.{Bool, if◌then◌else◌, Result, Ok, Err, IfOk, OnOk, OnErr, IsOk, IsErrOf}
 use Rattle.disk_model.specs.declared.device.Disk as disk
 use Rattle.disk_model.specs.Calls.{Rose}
@@ -26,7 +26,7 @@ use Rattle.hsm_core.specs.Store.{Store, last_number, state_with, state_of, HasRu
 use Rattle.hsm_core.specs.Crashes.{IsSafe, IsSynced}
 use Rattle.dm_service.specs.Services.{AreBoth, is_due, entries_for}
 use Rattle.dm_service.specs.Tables.{Tables, ledger_of, awaited_in}
-use Rattle.hsm_core.specs.Ends.{Ends}
+use Rattle.file_store.specs.Changes.{Ends}
 use Rattle.hsm_core.specs.Targets.{EachLasts}
 use Rattle.hsm_core.specs.Answers.{entry_of, memory_of, own_answer, own_state, IsAnswer}
 use Rattle.hsm_core.proofs.Lasting.{event_lasts}
@@ -115,7 +115,7 @@ pub record Becomes {D R : Type 0} (g : disk.Ghosts D) (super : Superblock) (n : 
   pub stamps : OnErr done (t.stamps ≡ s.stamps)
   pub tables : OnErr done (t.tables ≡ s.tables)
   pub synced : is_sync (entry_of actor action (answer_to super (state_with s.files.held s.stamps s.tables n) actor action)) ≡ true → OnOk done (IsSynced g n s.files t.files)
-  pub ends : Ends g s.files n done t.files
+  pub ends : Ends g s.files n None done t.files
 
 -- What is kept of it, and told.
 pub record Keeps {R : Type 0} (old : List Entry) (actor : Actor) (action : Action) (say : R → Answer) (done : Result (R × R) StoreRefusal) (reply : R) (new : List Entry) : Type 0 where
@@ -124,11 +124,11 @@ pub record Keeps {R : Type 0} (old : List Entry) (actor : Actor) (action : Actio
   pub failed : IsErrOf done Failed → (say reply ≡ fault_of action) × (new ≡ old ++ entry_of actor action (fault_of action) ∷ [])
 
 -- so there is at most one entry more
-pub one_more : {R : Type 0} (old new : List Entry) (actor : Actor) (action : Action) (say : R → Answer) (d : Result (R × R) StoreRefusal) (reply : R) → ((why : DmRefusal) → IsErrOf d (Part why) → ⊥) → Keeps old actor action say d reply new → length new ≤ length old + 1
+pub one_more : {R : Type 0} (old new : List Entry) (actor : Actor) (action : Action) (say : R → Answer) (d : Result (R × R) StoreRefusal) (reply : R) → ((why : DmRefusal) → IsErrOf d (Part why) → None ≡ Some why) → Keeps old actor action say d reply new → length new ≤ length old + 1
 one_more old new actor action say (Ok r) reply whole keeps = rw keeps.kept.1 (omega (arith, length-append old (entry_of actor action (say r.1) ∷ [])))
 one_more old new actor action say (Err NoMemory) reply whole keeps = rw (keeps.memory refl).1 (omega arith)
 one_more old new actor action say (Err Failed) reply whole keeps = rw (keeps.failed refl).1 (omega (arith, length-append old (entry_of actor action (fault_of action) ∷ [])))
-one_more old new actor action say (Err (Part why)) reply whole keeps = absurd (whole why refl)
+one_more old new actor action say (Err (Part why)) reply whole keeps = let none = whole why refl in absurd cc
 
 -- what is so in any case
 pub always : {T E P : Type 0} (r : Result T E) → P → OnOk r P × OnErr r P
@@ -147,7 +147,7 @@ module _ {D R : Type 0} (g : disk.Ghosts D) (s t : Store D) (has : HasRun s) (sa
       lacking g s t has safe working opened became.ends.proceeds actor action acts (say reply) (keeps.memory refl).0 (keeps.memory refl).1 became.stamps became.tables
       (λ i. state_with ((became.ends.memory refl).0 i) (became.stamps i) (became.tables i) (uncounted s t opened (keeps.memory refl).1 i)) (became.ends.memory refl).1 (became.ends.faults.counts.quiet (λ is. cc))
   ended (Err Failed) became keeps = faulted g s t has safe working opened became.ends.proceeds actor action acts (say reply) (keeps.failed refl).0 (keeps.failed refl).1 became.stamps became.tables (became.ends.faults.closes refl) (became.ends.faults.counts.rose refl)
-  ended (Err (Part why)) became keeps = absurd (became.ends.no_part why refl)
+  ended (Err (Part why)) became keeps = let none = became.ends.refused why refl in absurd cc
 
 -- ---- an event of a store that was made ready for it
 

@@ -1,5 +1,5 @@
 -- What a session is told of the messages that its call hands out.
-use Rattle.std.proofs.Common.{◌≡◌, ◌⊎◌, false, Result, Ok, Err, IfOk, inl, inr, refl, sym, subst}
+use Rattle.std.proofs.Common.{◌≡◌, ◌⊎◌, false, Some, None, Result, Ok, Err, IfOk, inl, inr, refl, sym, subst}
 use Rattle.std.specs.Result.{IsErrOf}
 use Rattle.hsm_types.specs.Sessions.{SessionTable}
 use Rattle.hsm_types.specs.declared.dm.DmCall.{DmCall}
@@ -32,11 +32,11 @@ unhanded_refused t sid call why told is = tt
 
 -- what is told of a call that was served, or that has failed
 pub told_handed : (t : SessionTable) (sid : Sid) (call : DmCall) (P : DmReply × DmReply → Type 0) (A B : Type 0) (done : Result (DmReply × DmReply) StoreRefusal) (told : DmReply) → IfOk done (λ r. HandsOut t sid call r.0)
-    → IfOk done (λ r. (told ≡ r.0) × P r) → (IsErrOf done Memory → (told ≡ Refused dm.Memory) × A) → (IsErrOf done Disk → (told ≡ Refused dm.Disk) × B) → ((why : DmRefusal) → IsErrOf done (Part why) → ⊥) → HandsOut t sid call told
+    → IfOk done (λ r. (told ≡ r.0) × P r) → (IsErrOf done Memory → (told ≡ Refused dm.Memory) × A) → (IsErrOf done Disk → (told ≡ Refused dm.Disk) × B) → ((why : DmRefusal) → IsErrOf done (Part why) → None ≡ Some why) → HandsOut t sid call told
 told_handed t sid call P A B (Ok r) told handed kept memory failed none = subst (HandsOut t sid call) (sym kept.0) handed
 told_handed t sid call P A B (Err Memory) told handed kept memory failed none = unhanded_refused t sid call dm.Memory told (memory refl).0
 told_handed t sid call P A B (Err Disk) told handed kept memory failed none = unhanded_refused t sid call dm.Disk told (failed refl).0
-told_handed t sid call P A B (Err (Part why)) told handed kept memory failed none = absurd (none why refl)
+told_handed t sid call P A B (Err (Part why)) told handed kept memory failed none = let wrong = none why refl in absurd cc
 
 -- and of one that wasn't begun
 pub unserved_handed : (t : SessionTable) (sid : Sid) (call : DmCall) (A B : Type 0) (why : StoreRefusal) (told : DmReply) → (why ≡ Memory → told ≡ Refused dm.Memory) → (why ≡ Disk → told ≡ Refused dm.Disk) → ((why ≡ Disk) × A) ⊎ ((why ≡ Memory) × B) → HandsOut t sid call told

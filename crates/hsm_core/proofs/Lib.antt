@@ -1,5 +1,4 @@
 pub mod Refusing
-pub mod Faults
 pub mod ListedFiles
 pub mod NamedFiles
 pub mod Accesses

@@ -16,6 +16,7 @@ use Rattle.hsm_types.specs.declared.stubs.Stub.{Stub}
 use Rattle.hsm_types.specs.declared.stubs.StubEntry.{StubEntry}
 use Rattle.hsm_types.specs.declared.dm.DmCall.{DmCall}
 use Rattle.hsm_types.specs.declared.dm.DmRefusal.{DmRefusal}
+use Rattle.hsm_types.specs.declared.dm.DmReply.{DmReply}
 use Rattle.hsm_types.specs.declared.dm.DmReply.TheVariants as reply
 use Rattle.plain_model.specs.Effects.{Effect, Restores, OfFile, change_of, punch_from, punch_to}
 use Rattle.plain_model.specs.Keyed.{find_key}
@@ -29,9 +30,10 @@ use Rattle.stub_map.specs.States.{state_of}
 use Rattle.stub_map.specs.declared.stubs.State.TheVariants.{Sealed, Offline as Away}
 use Rattle.file_store.specs.declared.refusal.StoreRefusal.{StoreRefusal}
 use Rattle.file_store.specs.declared.refusal.StoreRefusal.TheVariants.{Part, Disk, Memory}
-use Rattle.file_store.specs.Stores.{Store as FileStore, IsLawful, IsStubbed, Proceeds, TellsFaults}
+use Rattle.file_store.specs.Changes.{Changes}
+use Rattle.file_store.specs.Stores.{Store as FileStore, IsLawful, IsStubbed}
+use Rattle.file_store.proofs.Ended.{ends_done, ends_err}
 use Rattle.hsm_core.specs.Services.{anybody, service_on, told_where, held_where, replies_to, IsServed}
-use Rattle.hsm_core.proofs.Faults.{tells_none}
 use Rattle.hsm_core.proofs.Refusing.{passes, alone}
 
 -- ---- fingerprints
@@ -83,46 +85,28 @@ restored_len (Some x) entry bytes n is len print = by x.offline is
 
 -- ---- the answer to a change of a file
 
--- the change is done, or its part refuses as the service does, or it fails
-pub record HasEnded {D : Type 0} (g : disk.Ghosts D) (old : FileStore D) (n : ℕ) (k : FileKey) (effect : Effect) (own : Option DmRefusal) (ended : Result Unit StoreRefusal) (new : FileStore D) : Type 0 where
-  pub judged : OnOk ended (own ≡ None)
-  pub refused : (why : DmRefusal) → ended ≡ Err (Part why) → own ≡ Some why
-  pub held : OnOk ended (new.held ≡ record old.held { files = affected_held effect k old.held.files })
-  pub working : OnOk ended (new.failed ≡ false)
-  pub unchanged : (why : DmRefusal) → IsErrOf ended (Part why) → new ≡ old
-  pub memory : IsErrOf ended Memory → (new.held ≡ old.held) × (new.failed ≡ false)
-  pub faults : TellsFaults g ended old new
-  pub proceeds : Proceeds g old n new
+served : {D : Type 0} (g : disk.Ghosts D) (old new : FileStore D) (n : ℕ) (call : DmCall) (k : FileKey) (effect : Effect) (own : Option DmRefusal) (ended : Result Unit StoreRefusal) → Changes g old n k effect own ended new → own ≡ (service_on old call).refusal
+    → change_of anybody call ≡ OfFile k effect → (service_on old call).reply ≡ reply.Done → old.failed ≡ false → IsServed g old n call (replies_to ended) new
+served g old new n call k effect own (Ok x) is own_is changes is_done works =
+    let none = sym own_is ∙ is.ends.judged in
+    let told = sym (ap (λ why. told_where why (service_on old call).reply) none ∙ is_done) in
+    record { replies = (told, told); held = is.held ∙ (λ i. held_where (sym changes i) (sym none i) old.held); ends = ends_done g old new n None is.ends.proceeds _ refl is.ends.working (is.ends.faults.counts.quiet (λ e. cc)) }
+served g old new n call k effect own (Err (Part why)) is own_is changes is_done works =
+    let some = sym own_is ∙ is.ends.refused why refl in
+    let told = sym (ap (λ why. told_where why (service_on old call).reply) some) in
+    let same = is.ends.unchanged why refl in
+    record {
+      replies = (told, told);
+      held = ap (λ f. f.held) same ∙ (λ i. held_where (sym changes i) (sym some i) old.held);
+      ends = ends_done g old new n None is.ends.proceeds _ refl (ap (λ f. f.failed) same ∙ works) (ap (λ f. g.fault_count f.disk) same);
+    }
+served g old new n call k effect own (Err Memory) is own_is changes is_done works = record { replies = tt; held = tt; ends = ends_err g old new n own (Err Memory) Memory refl (λ part e. cc) is.ends }
+served g old new n call k effect own (Err Disk) is own_is changes is_done works = record { replies = tt; held = tt; ends = ends_err g old new n own (Err Disk) Disk refl (λ part e. cc) is.ends }
 
-pub change_served : {D : Type 0} (g : disk.Ghosts D) (old new : FileStore D) (n : ℕ) (call : DmCall) (k : FileKey) (effect : Effect) (ended : Result Unit StoreRefusal) → change_of anybody call ≡ OfFile k effect → (service_on old call).reply ≡ reply.Done
-    → old.failed ≡ false → HasEnded g old n k effect (service_on old call).refusal ended new → IsServed g old n call (replies_to ended) new
-change_served g old new n call k effect (Ok x) changes is_done works is = record {
-  replies = (sym (ap (λ why. told_where why (service_on old call).reply) is.judged ∙ is_done), sym (ap (λ why. told_where why (service_on old call).reply) is.judged ∙ is_done));
-  held = is.held ∙ (λ i. held_where (sym changes i) (sym is.judged i) old.held);
-  ends = record { working = is.working; memory = λ e. absurd cc; faults = tells_none g old new _ (λ e. cc) (is.faults.counts.quiet (λ e. cc)); no_part = λ why e. cc; proceeds = is.proceeds };
-}
-change_served g old new n call k effect (Err (Part why)) changes is_done works is =
-    let refuses = is.refused why refl in
-    let same = is.unchanged why refl in
-    record {
-      replies = (sym (ap (λ why. told_where why (service_on old call).reply) refuses), sym (ap (λ why. told_where why (service_on old call).reply) refuses));
-      held = ap (λ f. f.held) same ∙ (λ i. held_where (sym changes i) (sym refuses i) old.held);
-      ends = record { working = ap (λ f. f.failed) same ∙ works; memory = λ e. absurd cc; faults = tells_none g old new _ (λ e. cc) (ap (λ f. g.fault_count f.disk) same); no_part = λ why e. cc; proceeds = is.proceeds };
-    }
-change_served g old new n call k effect (Err Memory) changes is_done works is =
-    record { replies = tt; held = tt; ends = record { working = tt; memory = λ e. is.memory refl; faults = tells_none g old new _ (λ e. cc) (is.faults.counts.quiet (λ e. cc)); no_part = λ why e. cc; proceeds = is.proceeds } }
-change_served g old new n call k effect (Err Disk) changes is_done works is =
-    record {
-      replies = tt;
-      held = tt;
-      ends = record {
-        working = tt;
-        memory = λ e. absurd cc;
-        faults = record { closes = λ e. is.faults.closes refl; counts = record { rose = λ e. is.faults.counts.rose refl; quiet = λ other. absurd (other refl) } };
-        no_part = λ why e. cc;
-        proceeds = is.proceeds;
-      };
-    }
+-- the change is done, or its part refuses as the service does, or it fails
+pub change_served : {D : Type 0} {g : disk.Ghosts D} {old new : FileStore D} {n : ℕ} {call : DmCall} {k : FileKey} {effect : Effect} {own : Option DmRefusal} {ended : Result Unit StoreRefusal} {result : Result (DmReply × DmReply) StoreRefusal} → Changes g old n k effect own ended new
+    → own ≡ (service_on old call).refusal → change_of anybody call ≡ OfFile k effect → (service_on old call).reply ≡ reply.Done → old.failed ≡ false → result ≡ replies_to ended → IsServed g old n call result new
+change_served {D} {g} {old} {new} {n} {call} is own changes is_done works told = subst (λ r. IsServed g old n call r new) (sym told) (served g old new n call _ _ _ _ is own changes is_done works)
 
 -- ---- what is left to its part
 

@@ -32,13 +32,13 @@ use Rattle.dm_service.proofs.Anywhere.{still_idle}
 use Rattle.file_store.specs.declared.refusal.StoreRefusal.{StoreRefusal}
 use Rattle.file_store.specs.declared.refusal.StoreRefusal.TheVariants.{Memory as NoMemory}
 use Rattle.file_store.specs.Stores.{Store as FileStore, superblock_of, Proceeds}
-use Rattle.hsm_core.specs.Ends.{Ends}
+use Rattle.file_store.specs.Changes.{Ends}
 use Rattle.hsm_core.specs.Outcomes.{ends, ended_reply, held_said, stamps_said, is_fresh, IsFinished, IsReplied}
 use Rattle.hsm_core.specs.Stamps.{stamp_in}
 use Rattle.hsm_core.specs.Targets.{IsTarget, IsMeant, AreKnown, IsOnFile, MayLast, MayComplete, key_in}
 use Rattle.hsm_core.specs.declared.judging.Target.{Target}
 use Rattle.hsm_core.proofs.Accesses.{reply_said, left_said, said_reply, said_left, parked_left, blocked_left, ended_left, fresh_ended}
-use Rattle.hsm_core.proofs.Faults.{tells_none}
+use Rattle.file_store.proofs.Ended.{ends_done, unbegun}
 use Rattle.hsm_core.proofs.Lasting.{never_ruled}
 use Rattle.hsm_core.proofs.Targets.{key_of_meant, on_own, on_file, still_on, bounded, complete, posted}
 use Rattle.hsm_core.proofs.Unstopped.{unstopped_sound}
@@ -54,15 +54,9 @@ every (Ok x) p = p
 every (Err e) p = tt
 
 -- an event that nothing was done to the files for, and that may have lacked memory
-pub same_ends : {D T : Type 0} (g : disk.Ghosts D) (f : FileStore D) (n : ℕ) (r : Result T StoreRefusal) → f.failed ≡ false → Proceeds g f n f → IfErr r (λ why. why ≡ NoMemory) → Ends g f n r f
-same_ends g f n (Ok x) working idle memory = record { working = working; memory = λ is. absurd cc; faults = tells_none g f f _ (λ is. cc) refl; no_part = λ why is. cc; proceeds = idle }
-same_ends g f n (Err e) working idle memory = record {
-  working = tt;
-  memory = λ is. (refl, working);
-  faults = tells_none g f f _ (λ is. let lack : e ≡ NoMemory = memory in cc) refl;
-  no_part = λ why is. let lack : e ≡ NoMemory = memory in cc;
-  proceeds = idle;
-}
+pub same_ends : {D T : Type 0} (g : disk.Ghosts D) (f : FileStore D) (n : ℕ) (r : Result T StoreRefusal) → f.failed ≡ false → Proceeds g f n f → IfErr r (λ why. why ≡ NoMemory) → Ends g f n None r f
+same_ends g f n (Ok x) working idle memory = ends_done g f f n None idle x refl working refl
+same_ends g f n (Err e) working idle memory = let lacks : e ≡ NoMemory = memory in rw lacks (unbegun g f n None NoMemory working idle (λ is. cc) (λ part is. absurd cc))
 
 -- ---- verdicts
 
@@ -408,7 +402,7 @@ module _ {D : Type 0} (g : disk.Ghosts D) (f : FileStore D) (n : ℕ) (stamps : 
       (λ i. state_in (done_held f.held key call) (unstamped_by call key meant i) (n + 1) t)
       ∙ fresh_ended (superblock_of f) f.held (stamp_in stamps) n t c no_flags key call Complete refl idle
 
-  pub alone_replied : (r : Result (Reply × Reply) StoreRefusal) (new : FileStore D) → IfOk r (λ x. AreBoth (done_reply f.held (key_in None) call) x) → OnOk r (new.held ≡ done_held f.held (key_in None) call) → Ends g f n r new
+  pub alone_replied : (r : Result (Reply × Reply) StoreRefusal) (new : FileStore D) → IfOk r (λ x. AreBoth (done_reply f.held (key_in None) call) x) → OnOk r (new.held ≡ done_held f.held (key_in None) call) → Ends g f n None r new
       → IsReplied g f n stamps t c (Issue call) r new stamps t
   alone_replied r new replies held over = record {
     replies = both_as r (done_reply f.held (key_in None) call) (reply_to (superblock_of f) here c (Issue call)) (same_reply call key meant ∙ alone_reply) replies;

@@ -2,7 +2,6 @@ pub mod Targets
 pub mod Stamps
 pub mod Store
 pub mod Crashes
-pub mod Ends
 pub mod Services
 pub mod Outcomes
 pub mod Answers

@@ -24,7 +24,7 @@ use Rattle.dm_service.specs.Services.{AreBoth}
 use Rattle.dm_service.specs.Tables.{Tables}
 use Rattle.file_store.specs.declared.refusal.StoreRefusal.{StoreRefusal}
 use Rattle.file_store.specs.Stores.{Store as FileStore, superblock_of}
-use Rattle.hsm_core.specs.Ends.{Ends}
+use Rattle.file_store.specs.Changes.{Ends}
 use Rattle.hsm_core.specs.Stamps.{stamp_in}
 use Rattle.hsm_core.specs.Store.{state_with}
 
@@ -92,7 +92,7 @@ pub record IsFinished {D : Type 0} (g : disk.Ghosts D) (old : FileStore D) (n : 
   pub stamps : OnOk result (stamp_in after ≡ stamps_said (n + 1) k call said (stamp_in before))
   pub unstamped : OnErr result (after ≡ before)
   pub answered : said ≢ Complete → IsOk result
-  pub ended : Ends g old n result new
+  pub ended : Ends g old n None result new
 
 -- The event of that caller was answered, under that number: both replies are the store's, and the state is the one that it leaves. What isn't answered
 -- leaves stamps and tables.
@@ -101,4 +101,4 @@ pub record IsReplied {D : Type 0} (g : disk.Ghosts D) (old : FileStore D) (n : �
   pub left : OnOk result (state_with new.held stamps' u (n + 1) ≡ state_after (superblock_of old) (state_with old.held stamps t n) c action)
   pub unstamped : OnErr result (stamps' ≡ stamps)
   pub err : OnErr result (u ≡ t)
-  pub ends : Ends g old n result new
+  pub ends : Ends g old n None result new

@@ -22,7 +22,7 @@ use Rattle.dm_service.specs.Tables.{Tables}
 use Rattle.file_store.specs.declared.refusal.StoreRefusal.{StoreRefusal}
 use Rattle.file_store.specs.declared.refusal.StoreRefusal.TheVariants.{Part}
 use Rattle.file_store.specs.Stores.{Store as FileStore, superblock_of}
-use Rattle.hsm_core.specs.Ends.{Ends}
+use Rattle.file_store.specs.Changes.{Ends}
 use Rattle.hsm_core.specs.Store.{state_with}
 
 -- What a scope that doesn't refuse says of files: its file lives
@@ -98,13 +98,13 @@ service_on f call = service (superblock_of f) (record (just_opened 0 nothing_hel
 pub record IsPerformed {D : Type 0} (g : disk.Ghosts D) (old : FileStore D) (n : ℕ) (stamps : List (FileKey × ℕ)) (t : Tables) (sid : Sid) (call : DmCall) (result : Result (DmReply × DmReply) StoreRefusal) (new : FileStore D) : Type 0 where
   pub replies : IfOk result (λ r. AreOf (asked (superblock_of old) old.held stamps t sid call) r)
   pub held : OnOk result (new.held ≡ held_where (change_of sid call) (asked (superblock_of old) old.held stamps t sid call).refusal old.held)
-  pub ends : Ends g old n result new
+  pub ends : Ends g old n None result new
 
 -- The same of a call that asks of the files alone.
 pub record IsServed {D : Type 0} (g : disk.Ghosts D) (old : FileStore D) (n : ℕ) (call : DmCall) (result : Result (DmReply × DmReply) StoreRefusal) (new : FileStore D) : Type 0 where
   pub replies : IfOk result (λ r. AreOf (service_on old call) r)
   pub held : OnOk result (new.held ≡ held_where (change_of anybody call) (service_on old call).refusal old.held)
-  pub ends : Ends g old n result new
+  pub ends : Ends g old n None result new
 
 -- the service of a call that asks of rights alone
 abbrev pub service_with : Rights → DmCall → Service

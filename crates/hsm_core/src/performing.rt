@@ -11,7 +11,7 @@ ghost use Rattle.plain_model.specs.State.{names_of, next_key, file_at, bytes_of,
 ghost use Rattle.plain_model.specs.Verdict.{shortage, done_reply, done_held};
 ghost use Rattle.file_store.specs.Stores.{superblock_of, Proceeds};
 ghost use Rattle.dm_service.specs.Services.{AreBoth};
-ghost use Rattle.hsm_core.specs.Ends.{Ends};
+ghost use Rattle.file_store.specs.Changes.{Ends, Changes};
 ghost use Rattle.hsm_core.specs.Targets.{IsBounded, IsOn, MayDo, key_in};
 ghost use Rattle.hsm_core.specs.Crashes.{IsSynced};
 
@@ -38,7 +38,7 @@ pub(crate) fn perform<D: Disk>(
     requires sound { IsSound (effect_of call.now) (file_at target.key files.old.held.files) }
     ensures reply { IfOk result (λ r. AreBoth (done_reply files.old.held target.key call.now) r) }
     ensures held { OnOk result (files.new.held ≡ done_held files.old.held target.key call.now) }
-    ensures ends { Ends D.Disk files.old number result files.new }
+    ensures ends { Ends D.Disk files.old number None result files.new }
 {
     match call {
         Call::Read { offset, len, .. } => { Ok(read(files, alloc, target.key, *offset, *len)?) }
@@ -69,7 +69,7 @@ pub(crate) fn perform_alone<D: Disk>(
     ensures reply { IfOk result (λ r. AreBoth (done_reply files.old.held (key_in None) call.now) r) }
     ensures held { OnOk result (files.new.held ≡ done_held files.old.held (key_in None) call.now) }
     ensures synced { call.now ≡ Sync → OnOk result (IsSynced D.Disk number files.old files.new) }
-    ensures ends { Ends D.Disk files.old number result files.new }
+    ensures ends { Ends D.Disk files.old number None result files.new }
 {
     match call {
         Call::Create { name } => create(files, alloc, name, number),
@@ -89,7 +89,7 @@ fn create<D: Disk>(
     requires lawful { refusal_of (superblock_of files.old) (names_of files.old.held.files) (Create name.now) ≡ None }
     ensures reply { IfOk result (λ r. AreBoth (Made (next_key files.old.held)) r) }
     ensures held { OnOk result (files.new.held ≡ record { files = affected_held (Makes name.now) (next_key files.old.held) files.old.held.files; next = files.old.held.next + 1 }) }
-    ensures ends { Ends D.Disk files.old number result files.new }
+    ensures ends { Ends D.Disk files.old number None result files.new }
 {
     let key = files.make(alloc, name, number)?;
     Ok((Reply::Made(key), Reply::Made(key)))
@@ -127,8 +127,7 @@ fn write<D: Disk>(
     requires here { IsSound (Writes offset body.now) (file_at key files.old.held.files) }
     requires room { length (touched (Writes offset body.now) (length (bytes_of key files.old.held.files))) + used files.old.held.files ≤ (superblock_of files.old).geometry.blocks }
     ensures reply { IfOk result (λ r. AreBoth Reply.Done r) }
-    ensures held { OnOk result (files.new.held ≡ record files.old.held { files = affected_held (Writes offset body.now) key files.old.held.files }) }
-    ensures ends { Ends D.Disk files.old number result files.new }
+    ensures changed { Changes D.Disk files.old number key (Writes offset body.now) None result files.new }
 {
     files.write(alloc, key, offset, body.as_slice(), number)?;
     Ok((Reply::Done, Reply::Done))
@@ -148,8 +147,7 @@ fn truncate<D: Disk>(
     requires here { IsSound (Resizes size) (file_at key files.old.held.files) }
     requires room { length (touched (Resizes size) (length (bytes_of key files.old.held.files))) + used files.old.held.files ≤ (superblock_of files.old).geometry.blocks }
     ensures reply { IfOk result (λ r. AreBoth Reply.Done r) }
-    ensures held { OnOk result (files.new.held ≡ record files.old.held { files = affected_held (Resizes size) key files.old.held.files }) }
-    ensures ends { Ends D.Disk files.old number result files.new }
+    ensures changed { Changes D.Disk files.old number key (Resizes size) None result files.new }
 {
     files.truncate(alloc, key, size, number)?;
     Ok((Reply::Done, Reply::Done))
@@ -165,8 +163,7 @@ fn remove<D: Disk>(
     requires working { files.old.failed ≡ false }
     requires live { IsSome (find_key (λ f. f.key) key files.old.held.files) }
     ensures reply { IfOk result (λ r. AreBoth Reply.Done r) }
-    ensures held { OnOk result (files.new.held ≡ record files.old.held { files = affected_held Drops key files.old.held.files }) }
-    ensures ends { Ends D.Disk files.old number result files.new }
+    ensures changed { Changes D.Disk files.old number key Drops None result files.new }
 {
     files.remove(alloc, key, number)?;
     Ok((Reply::Done, Reply::Done))
@@ -182,7 +179,7 @@ pub(crate) fn commit<D: Disk>(
     ensures reply { IfOk result (λ r. AreBoth Reply.Done r) }
     ensures held { files.new.held ≡ files.old.held }
     ensures synced { OnOk result (IsSynced D.Disk number files.old files.new) }
-    ensures ends { Ends D.Disk files.old number result files.new }
+    ensures ends { Ends D.Disk files.old number None result files.new }
 {
     files.sync(alloc, number)?;
     Ok((Reply::Done, Reply::Done))

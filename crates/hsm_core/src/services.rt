@@ -1,5 +1,5 @@
 //! Answers to sessions: a call is judged by its scope, and then by itself. Each reply comes twice, for the session and for the history.
-ghost use Rattle.std.specs.Prelude.{◌≡◌, ◌≤◌, ◌+◌, ℕ, false, true, IfOk, IsOk, OnOk, OnErr};
+ghost use Rattle.std.specs.Prelude.{◌≡◌, ◌≤◌, ◌+◌, ℕ, false, true, None, IfOk, IsOk, OnOk, OnErr};
 ghost use Rattle.hsm_types.specs.Calls.{scope_of};
 ghost use Rattle.plain_model.specs.Services.{dm_reply_to, dm_state_after};
 ghost use Rattle.plain_model.specs.Stands.{InOrder};
@@ -7,7 +7,7 @@ ghost use Rattle.dm_service.specs.Handing.{HandsOut};
 ghost use Rattle.dm_service.specs.Services.{AreBoth, asks_rights, asks_tables, entries_for, is_due, wants_entry_alone};
 ghost use Rattle.dm_service.specs.Tables.{Tables, awaited_in, ledger_of};
 ghost use Rattle.file_store.specs.Stores.{superblock_of, Proceeds};
-ghost use Rattle.hsm_core.specs.Ends.{Ends};
+ghost use Rattle.file_store.specs.Changes.{Ends};
 ghost use Rattle.hsm_core.specs.Store.{state_with};
 ghost use Rattle.hsm_core.specs.Services.{AreOf, IsInScope, IsPerformed, IsServed, asked, changes_file};
 
@@ -54,7 +54,7 @@ pub(crate) fn serve<D: Disk>(
     ensures responds { is_due service.old.sessions sid call.now ≡ true → IsOk result }
     ensures alone { wants_entry_alone call.now ≡ true → IsOk result }
     ensures room { OnOk result (awaited_in service.new + 1 ≤ awaited_in service.old + entries_for service.old.sessions sid call.now) }
-    ensures ends { Ends D.Disk files.old number result files.new }
+    ensures ends { Ends D.Disk files.old number None result files.new }
 {
     if asks_tables(call) {
         return Ok(service.dm(alloc, sid, call)?);

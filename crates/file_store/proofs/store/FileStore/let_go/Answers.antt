@@ -1,13 +1,14 @@
-use Rattle.file_store.proofs.Names.{Err, ◌≡◌, ◌-◌, ◌+◌, ◌*◌, ◌&&◌, ◌||◌, ℕ, refl, sym, ◌∙◌, ap, subst, arith, set, length, take, drop, unmarked, after_all, refusal_of_all, CanStandAll, IsEvent, held_with, affected_held, present, HeldBody, no_body, is_away, get_or, get_or_read, Kept}
+use Rattle.file_store.proofs.Names.{None, rules, ◌≡◌, ◌-◌, ◌+◌, ◌*◌, ◌&&◌, ◌||◌, ℕ, refl, sym, ◌∙◌, ap, subst, arith, set, length, take, drop, unmarked, after_all, refusal_of_all, CanStandAll, IsEvent, held_with, affected_held, present, HeldBody, no_body, is_away, get_or, get_or_read, Kept}
 use Rattle.std.specs.Prelude.{nat_le, nat_lt}
 use Rattle.plain_model.specs.Effects.{Punches}
 use Rattle.hsm_types.specs.Segments.{from_on}
 use Rattle.meta_store.specs.Catalogs.{AreLengths}
 use Rattle.file_store.specs.Punches.{punch_records}
-use Rattle.file_store.proofs.Durable.{Parts, IsDone, after_event, kept_proceeds}
+use Rattle.file_store.specs.Refusals.{is_disk}
+use Rattle.file_store.proofs.Durable.{Parts, IsDone, after_event}
 use Rattle.file_store.proofs.PunchedBodies.{zeroed}
 use Rattle.file_store.proofs.PunchEvents.{IsGoing, ready, are_going, event, lengths, freed_within, gone, kept_is}
-use Rattle.file_store.proofs.StoreEvents.{refused_as_is}
+use Rattle.file_store.proofs.Ended.{ends_done, kept_ends}
 use Rattle.file_store.proofs.WithBodies.{is-body}
 use Rattle.file_store.proofs.store.FileStore.let_go.Given.{Over}
 use Rattle.file_store.proofs.store.FileStore.let_go.Goals.{After-of-before, After-index_mut, After-leave}
@@ -87,24 +88,22 @@ invariant_of-self g c =
     let is = taken g (goal.at.invariant_of-self g c).After-leave in
     rw (c.release_all.ensures, c.deref.ensures.value, c.make_durable.ensures.blocks, c.make_durable.ensures.bodies, c.of-before.ensures) (is.files, is.sound)
 
-pub returns-in-Ok-clause-held : goal.returns-in-Ok-clause-held
-returns-in-Ok-clause-held g c = rw (← c.self.view_is) (taken g (goal.at.returns-in-Ok-clause-held g c).After-leave).held
-
-pub returns-in-Ok-clause-proceeds : goal.returns-in-Ok-clause-proceeds
-returns-in-Ok-clause-proceeds g c =
-    rw (c.release_all.ensures, c.deref.ensures.value, c.make_durable.ensures.blocks, c.make_durable.ensures.bodies, c.of-before.ensures, ← c.self.view_is) (taken g (goal.at.returns-in-Ok-clause-proceeds g c).After-leave).proceeds
+pub returns-in-Ok : goal.returns-in-Ok
+returns-in-Ok g c =
+    let working = ap (λ s. s.failed) c.self.view_is ∙ c.requires.working in
+    let is = taken g (goal.at.returns-in-Ok g c).After-leave in
+    rw (c.release_all.ensures, c.deref.ensures.value, c.make_durable.ensures.blocks, c.make_durable.ensures.bodies, c.of-before.ensures, ← c.self.view_is)
+    record { changed = record { held = is.held; ends = ends_done g.D.Disk _ _ c.args.number None is.proceeds tt refl working (c.apply.ensures.faults.quiet (λ e. cc)) } }
 
 -- ---- where they aren't
 
-pub returns-in-Err-clause-no_part : goal.returns-in-Err-clause-no_part
-returns-in-Err-clause-no_part g c = λ why is.
-    let at = (goal.at.returns-in-Err-clause-no_part g c).After-of-before in
-    let part = (refused_as_is c.in-Err.refusal).0 why (sym c.from.ensures ∙ cc) in
-    let some = (c.in-Err.ensures.refused why).0 (ap (λ e. Err e) part) in
-    let none = ap (λ rs. refusal_of_all rs c.self.inside.meta.current) (records_are g at) ∙ (are_going g.D.Disk _ _ _ _ _ (given g at) (last g at)).passed in
-    cc
-
-pub returns-in-Err-clause-proceeds : goal.returns-in-Err-clause-proceeds
-returns-in-Err-clause-proceeds g c =
+pub returns-in-Err : goal.returns-in-Err
+returns-in-Err g c =
     let working = ap (λ s. s.failed) c.self.view_is ∙ c.requires.working in
-    rw (c.in-Err.ensures.err, ← c.self.view_is) (kept_proceeds g.D.Disk _ c.self.invariant.1.meta (c.self.invariant.1.live working) c.args.number _ c.apply.ensures.any_moment refl refl)
+    let at = (goal.at.returns-in-Err g c).After-of-before in
+    let failed : c.eq-self-inside.result ≡ is_disk c.in-Err.refusal = search rules in
+    let none = ap (λ rs. refusal_of_all rs c.self.inside.meta.current) (records_are g at) ∙ (are_going g.D.Disk _ _ _ _ _ (given g at) (last g at)).passed in
+    rw (c.in-Err.ensures.err, failed, c.from.ensures, ← c.self.view_is) record { changed = record {
+      held = tt;
+      ends = kept_ends g.D.Disk (parts g at) c.apply.new.disk c.args.number None c.apply.result c.in-Err.refusal c.self.invariant.1 working c.in-Err.is c.apply.ensures.any_moment (λ part is. absurd (let some = (c.apply.ensures.refused part).0 is in cc)) c.apply.ensures.faults;
+    } }

@@ -1,5 +1,4 @@
 use Rattle.file_store.proofs.Names.{◌≡◌, ◌+◌, ◌∙◌, ap, arith, length, free, used, geometry_of, touched, effect_of, bytes_of, geometry-bounded}
-use Rattle.file_store.proofs.Durable.{proceeds_on}
 use Rattle.file_store.proofs.PunchRuns.{so_ok}
 use Rattle.file_store.proofs.store.FileStore.make_room.Goals as goal
 
@@ -12,7 +11,4 @@ overflow_cast-count g c =
 pub returns-clause-enough : goal.returns-clause-enough
 returns-clause-enough g c =
     let new = c.sync.new.self in
-    so_ok c.sync.result _ _ c.sync.ensures.room (λ (is : length (free new.space) + used new.held.files ≡ (geometry_of new.meta.durable.geometry).blocks). let left = rw (c.sync.ensures.held, c.sync.ensures.proceeds.geometry) at is in omega (arith, left, c.requires.room))
-
-pub returns-clause-goes_on : goal.returns-clause-goes_on
-returns-clause-goes_on g c = λ later more. proceeds_on g.D.Disk c.args.self.now c.sync.new.self later c.args.number c.sync.ensures.proceeds c.sync.ensures.held more
+    so_ok c.sync.result _ _ c.sync.ensures.room (λ (is : length (free new.space) + used new.held.files ≡ (geometry_of new.meta.durable.geometry).blocks). let left = rw (c.sync.ensures.held, c.sync.ensures.ends.proceeds.geometry) at is in omega (arith, left, c.requires.room))

@@ -1,7 +1,9 @@
 use Rattle.file_store.proofs.Names.{rules, Err, ◌≡◌, refl, sym, ◌∙◌, ap, unmarked, after_all, refusal_of_all, held_with, held_after}
-use Rattle.file_store.specs.Refusals.{is_disk}
-use Rattle.file_store.proofs.Durable.{Parts, IsDone, after_event, kept_proceeds}
-use Rattle.file_store.proofs.StoreEvents.{freed_low, recorded, refused_sound, refused_as_is, refusal_alone}
+use Rattle.file_store.specs.Refusals.{is_disk, no_memory}
+use Rattle.file_store.proofs.Durable.{Parts, IsDone, after_event}
+use Rattle.file_store.proofs.StoreEvents.{freed_low, recorded, refused_sound, refusal_alone}
+use Rattle.std.proofs.lemmas.Result.{err_from_is_err_and}
+use Rattle.file_store.proofs.Ended.{ends_done, kept_ends, unbegun}
 use Rattle.file_store.proofs.WithBodies.{bodies_after, slot-there}
 use Rattle.file_store.proofs.SealedFiles.{lengths-after}
 use Rattle.file_store.proofs.store.FileStore.record.Given.{Over}
@@ -37,10 +39,11 @@ invariant_of-self g c =
 pub returns-in-Ok-clause-held : goal.returns-in-Ok-clause-held
 returns-in-Ok-clause-held g c = rw (c.clear.ensures, c.empties-empty.ensures, ← c.self.view_is) (taken g (goal.at.returns-in-Ok-clause-held g c).In-Ok).held
 
-pub returns-in-Ok-clause-proceeds : goal.returns-in-Ok-clause-proceeds
-returns-in-Ok-clause-proceeds g c =
+pub returns-in-Ok-clause-ends : goal.returns-in-Ok-clause-ends
+returns-in-Ok-clause-ends g c =
+    let working = ap (λ s. s.failed) c.self.view_is ∙ c.requires.working in
     rw (c.release_all.ensures, c.deref.ensures.value, c.clear.ensures, c.empties-empty.ensures, c.make_durable.ensures.bodies, c.of-before.ensures, c.make_durable.ensures.blocks, ← c.self.view_is)
-    (taken g (goal.at.returns-in-Ok-clause-proceeds g c).In-Ok).proceeds
+    (ends_done g.D.Disk _ _ c.args.number _ (taken g (goal.at.returns-in-Ok-clause-ends g c).In-Ok).proceeds tt (refusal_alone _ c.args.change c.self.inside.meta.current c.in_ok-records.ensures ∙ c.in-Ok.ensures.taken.judged) working (c.apply.ensures.faults.quiet (λ e. cc)))
 
 -- ---- it wasn't taken
 
@@ -54,22 +57,26 @@ invariant_of-self-in-Err g c =
           (λ why is. (refl, c.in-Err.ensures.unwritten why (ap (λ e. Err e) is))) (λ is. (refl, c.in-Err.ensures.memory (ap (λ e. Err e) is))),
     )
 
-pub returns-clause-refused : goal.returns-clause-refused
-returns-clause-refused g c = λ why is.
-    let part = (refused_as_is c.in-Err.refusal).0 why (sym c.from.ensures ∙ cc) in
-    rw (← c.self.view_is) (sym (refusal_alone c.args.change c.self.inside.meta.current) ∙ ap (λ rs. refusal_of_all rs c.self.inside.meta.current) (sym c.in_ok-records.ensures) ∙ (c.in-Err.ensures.refused why).0 (ap (λ e. Err e) part))
-
-pub returns-clause-proceeds : goal.returns-clause-proceeds
-returns-clause-proceeds g c =
+pub returns-clause-ends : goal.returns-clause-ends
+returns-clause-ends g c =
     let working = ap (λ s. s.failed) c.self.view_is ∙ c.requires.working in
-    rw (c.in-Err.ensures.err, ← c.self.view_is) (kept_proceeds g.D.Disk _ c.self.invariant.1.meta (c.self.invariant.1.live working) c.args.number _ c.apply.ensures.any_moment refl refl)
+    let failed : c.eq-self-inside.result ≡ is_disk c.in-Err.refusal = search rules in
+    let alone = refusal_alone _ c.args.change c.self.inside.meta.current c.in_ok-records.ensures in
+    rw (c.in-Err.ensures.err, failed, c.from.ensures, ← c.self.view_is)
+    (kept_ends g.D.Disk (parts g (goal.at.returns-clause-ends g c).After-apply) c.apply.new.disk c.args.number _ c.apply.result c.in-Err.refusal c.self.invariant.1 working c.in-Err.is c.apply.ensures.any_moment
+    (λ part is. (alone ∙ (c.apply.ensures.refused part).0 is, c.apply.ensures.unwritten part is)) c.apply.ensures.faults)
 
 pub apply-requires-clause-lengths : goal.apply-requires-clause-lengths
 apply-requires-clause-lengths g c =
     rw c.in_ok-records.ensures (lengths-after c.args.key c.args.change c.self.inside.meta.current (rw (← c.self.view_is) at c.requires.bodiless) (rw (← c.self.view_is) at c.requires.stands) c.self.invariant.1.meta.stored.now)
 
-pub returns-in_err-freed-clause-proceeds : goal.returns-in_err-freed-clause-proceeds
-returns-in_err-freed-clause-proceeds g c = c.has_failed-failed.ensures.idle c.requires.working c.args.number
+pub returns-in_err-freed-clause-ends : goal.returns-in_err-freed-clause-ends
+returns-in_err-freed-clause-ends g c =
+    let p = err_from_is_err_and c.from_residual.result c.from_residual.ensures.1 in rw (p.1, p.2) (unbegun g.D.Disk _ c.args.number _ no_memory c.requires.working (c.has_failed-failed.ensures.idle c.requires.working c.args.number) (λ is. cc) (λ part is. absurd cc))
 
-pub returns-in_err-records-clause-proceeds : goal.returns-in_err-records-clause-proceeds
-returns-in_err-records-clause-proceeds g c = c.has_failed-failed.ensures.idle c.requires.working c.args.number
+pub returns-then-number-gt-LAST_NUMBER-clause-ends : goal.returns-then-number-gt-LAST_NUMBER-clause-ends
+returns-then-number-gt-LAST_NUMBER-clause-ends g c = unbegun g.D.Disk _ c.args.number _ no_memory c.requires.working (c.has_failed-failed.ensures.idle c.requires.working c.args.number) (λ is. cc) (λ part is. absurd cc)
+
+pub returns-in_err-records-clause-ends : goal.returns-in_err-records-clause-ends
+returns-in_err-records-clause-ends g c =
+    let p = err_from_is_err_and c.from_residual-in_err-records.result c.from_residual-in_err-records.ensures.1 in rw (p.1, p.2) (unbegun g.D.Disk _ c.args.number _ no_memory c.requires.working (c.has_failed-failed.ensures.idle c.requires.working c.args.number) (λ is. cc) (λ part is. absurd cc))

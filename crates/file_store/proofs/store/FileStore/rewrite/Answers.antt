@@ -1,4 +1,4 @@
-use Rattle.file_store.proofs.Names.{mappings_of, subst, List, Mapping, CatalogFile, HeldBody, no_body, IsHere, IsAlike, HasEntry, BringsAway, HasRoom, remapped, bytes_with, ◌≡◌, ◌-◌, refl, sym, ◌∙◌, ap, arith, Err, length, set, marked, unmarked, affected_held, rebody, effect_of, new_size, touched_of, places_for, layout_of, IsBesideBlocks, IsStaged, Keeps, held_with, geometry-bounded, get_or_read}
+use Rattle.file_store.proofs.Names.{None, mappings_of, subst, List, Mapping, CatalogFile, HeldBody, no_body, IsHere, IsAlike, HasEntry, BringsAway, HasRoom, remapped, bytes_with, ◌≡◌, ◌-◌, refl, sym, ◌∙◌, ap, arith, Err, length, set, marked, unmarked, affected_held, rebody, effect_of, new_size, touched_of, places_for, layout_of, IsBesideBlocks, IsStaged, Keeps, held_with, geometry-bounded, get_or_read}
 use Rattle.file_store.proofs.Durable.{Parts, IsDone, after_event}
 use Rattle.file_store.proofs.ByteChanges.{within-grown, length-grown, changed-grown, grown-enough}
 use Rattle.file_store.proofs.RewriteRecords.{is_event}
@@ -7,7 +7,8 @@ use Rattle.file_store.proofs.FilesBy.{kept-found}
 use Rattle.file_store.specs.Refusals.{is_disk}
 use Rattle.file_store.proofs.WithBodies.{is-body}
 use Rattle.std.proofs.lemmas.Option.{same_Some}
-use Rattle.file_store.proofs.StoreEvents.{Given, known, body_of, bytes_in, IsBack, bodies_back, within, lengths_then, passes, fits, stand, places_within, freed_within, undone, written_proceeds, written_live, refused_proceeds, rewritten, refused_sound, refused_as_is}
+use Rattle.file_store.proofs.StoreEvents.{Given, known, body_of, bytes_in, IsBack, bodies_back, within, lengths_then, passes, fits, stand, places_within, freed_within, undone, written_proceeds, written_live, refused_proceeds, rewritten, refused_sound}
+use Rattle.file_store.proofs.Ended.{ends_done, ends_refused}
 use Rattle.file_store.proofs.store.FileStore.rewrite.Given.{Over}
 use Rattle.file_store.proofs.store.FileStore.rewrite.Goals.{After-of-before, After-stage, In-Ok, After-apply-in-Ok-apply, After-undo}
 use Rattle.file_store.proofs.store.FileStore.rewrite.Goals as goal
@@ -90,16 +91,14 @@ invariant_of-self g c =
           (λ is. c.in-Err.ensures.memory (ap (λ e. Err e) is)),
     )
 
-pub returns-in-Err-clause-memory : goal.returns-in-Err-clause-memory
-returns-in-Err-clause-memory g c = λ is.
-    let memory = (refused_as_is c.in-Err.refusal).1 (sym c.refused.ensures.refusal ∙ cc) in
-    let failed = c.refused.ensures.failed in
-    ((back g (goal.at.returns-in-Err-clause-memory g c).After-stage c.in-Err.ensures.err).1 ∙ ap (λ s. s.held) c.self.view_is, failed ∙ ap is_disk memory)
-
-pub returns-in-Err-clause-proceeds : goal.returns-in-Err-clause-proceeds
-returns-in-Err-clause-proceeds g c =
-    let at = goal.at.returns-in-Err-clause-proceeds g c in
-    rw (← c.self.view_is) (written_proceeds g.D.Disk _ _ _ (given g at.After-of-before) _ (moments g at.After-stage) c.args.number _ _ _)
+pub returns-in-Err : goal.returns-in-Err
+returns-in-Err g c =
+    let at = goal.at.returns-in-Err g c in
+    rw (c.refused.ensures.refusal, ← c.self.view_is) record { changed = record {
+      held = tt;
+      ends = ends_refused g.D.Disk _ _ c.args.number None (written_proceeds g.D.Disk _ _ _ (given g at.After-of-before) _ (moments g at.After-stage) c.args.number _ _ _) c.stage.result c.in-Err.refusal c.in-Err.is c.refused.ensures.failed
+          (λ part is. absurd (c.stage.ensures.no_part part is)) (λ is. (back g at.After-stage c.in-Err.ensures.err).1) c.stage.ensures.faults;
+    } }
 
 pub apply-requires-clause-backs : goal.apply-requires-clause-backs
 apply-requires-clause-backs g c = let at = goal.at.apply-requires-clause-backs g c in (written_live g.D.Disk _ _ _ (given g at.After-of-before) _ (moments g at.After-stage) _ _ (staged g at.In-Ok)).backs
@@ -176,13 +175,13 @@ invariant_of-self-in-Ok-apply g c =
     let is = taken g at.After-apply-in-Ok-apply in
     rw (c.release_all.ensures, c.deref.ensures.value, c.make_durable.ensures.blocks, space_is g at.In-Ok, c.make_durable.ensures.bodies, c.of-before.ensures) (is.files, is.sound)
 
-pub returns-in-Ok-apply-clause-held : goal.returns-in-Ok-apply-clause-held
-returns-in-Ok-apply-clause-held g c = rw (← c.self.view_is) (taken g (goal.at.returns-in-Ok-apply-clause-held g c).After-apply-in-Ok-apply).held
-
-pub returns-in-Ok-apply-clause-proceeds : goal.returns-in-Ok-apply-clause-proceeds
-returns-in-Ok-apply-clause-proceeds g c =
-    let at = goal.at.returns-in-Ok-apply-clause-proceeds g c in
-    rw (c.release_all.ensures, c.deref.ensures.value, c.make_durable.ensures.blocks, space_is g at.In-Ok, c.make_durable.ensures.bodies, c.of-before.ensures, ← c.self.view_is) (taken g at.After-apply-in-Ok-apply).proceeds
+pub returns-in-Ok-apply : goal.returns-in-Ok-apply
+returns-in-Ok-apply g c =
+    let at = goal.at.returns-in-Ok-apply g c in
+    let working = ap (λ s. s.failed) c.self.view_is ∙ c.requires.working in
+    let is = taken g at.After-apply-in-Ok-apply in
+    rw (c.release_all.ensures, c.deref.ensures.value, c.make_durable.ensures.blocks, space_is g at.In-Ok, c.make_durable.ensures.bodies, c.of-before.ensures, ← c.self.view_is)
+    record { changed = record { held = is.held; ends = ends_done g.D.Disk _ _ c.args.number None is.proceeds tt refl working (c.apply.ensures.faults.quiet (λ e. cc) ∙ c.stage.ensures.faults.quiet (λ e. cc)) } }
 
 -- ---- where they aren't taken
 
@@ -204,12 +203,6 @@ undo-requires g c =
       within = rw (c.len-old.ensures.len, bytes_are g at.After-stage) (within g.D.Disk _ _ _ (given g at.After-of-before));
     }
 
-pub returns-in-Err-apply-clause-memory : goal.returns-in-Err-apply-clause-memory
-returns-in-Err-apply-clause-memory g c = λ is.
-    let memory = (refused_as_is c.in-Err-apply.refusal).1 (sym c.refused-in-Err-apply.ensures.refusal ∙ cc) in
-    let failed = c.refused-in-Err-apply.ensures.failed in
-    (rw c.in-Err-apply.ensures.err ((back_again g (goal.at.returns-in-Err-apply-clause-memory g c).After-undo).1 ∙ ap (λ s. s.held) c.self.view_is), failed ∙ ap is_disk memory)
-
 pub release_all-requires-in-Err-apply : goal.release_all-requires-in-Err-apply
 release_all-requires-in-Err-apply g c =
     let at = goal.at.release_all-requires-in-Err-apply g c in
@@ -230,16 +223,13 @@ invariant_of-self-in-Err-apply g c =
           (ap (λ s. s.failed) c.self.view_is ∙ c.requires.working) (λ why is. (refl, c.in-Err-apply.ensures.unwritten why (ap (λ e. Err e) is))) (λ is. (refl, c.in-Err-apply.ensures.memory (ap (λ e. Err e) is))),
     )
 
-pub returns-in-Err-apply-clause-no_part : goal.returns-in-Err-apply-clause-no_part
-returns-in-Err-apply-clause-no_part g c = λ why is.
-    let part = (refused_as_is c.in-Err-apply.refusal).0 why (sym c.refused-in-Err-apply.ensures.refusal ∙ cc) in
-    let some = (c.in-Err-apply.ensures.refused why).0 (ap (λ e. Err e) part) in
-    let at = goal.at.returns-in-Err-apply-clause-no_part g c in
+pub returns-in-Err-apply : goal.returns-in-Err-apply
+returns-in-Err-apply g c =
+    let at = goal.at.returns-in-Err-apply g c in
     let x = given g at.After-of-before in
     let none = passes g.D.Disk _ _ _ x _ ((staged g at.In-Ok).rewriting x.at.file x.at.found) in
-    cc
-
-pub returns-in-Err-apply-clause-proceeds : goal.returns-in-Err-apply-clause-proceeds
-returns-in-Err-apply-clause-proceeds g c =
-    let at = goal.at.returns-in-Err-apply-clause-proceeds g c in
-    rw (c.in-Err-apply.ensures.err, ← c.self.view_is) (refused_proceeds g.D.Disk _ _ _ (given g at.After-of-before) _ (moments g at.After-stage) _ _ (staged g at.In-Ok) c.args.number _ c.apply.ensures.any_moment refl refl)
+    rw (c.in-Err-apply.ensures.err, c.refused-in-Err-apply.ensures.refusal, ← c.self.view_is) record { changed = record {
+      held = tt;
+      ends = ends_refused g.D.Disk _ _ c.args.number None (refused_proceeds g.D.Disk _ _ _ x _ (moments g at.After-stage) _ _ (staged g at.In-Ok) c.args.number _ c.apply.ensures.any_moment refl refl) c.apply.result c.in-Err-apply.refusal c.in-Err-apply.is
+          c.refused-in-Err-apply.ensures.failed (λ part is. absurd (let some = (c.apply.ensures.refused part).0 is in cc)) (λ is. (back_again g at.After-undo).1) (rw (c.stage.ensures.faults.quiet (λ e. cc)) at c.apply.ensures.faults);
+    } }

@@ -1,5 +1,7 @@
-use Rattle.file_store.proofs.Names.{true, refl, sym, ◌∙◌, ap, arith, held_at, held_with, marks_of}
-use Rattle.file_store.proofs.Durable.{Parts, IsDone, after_event, done, stored_meta, kept_proceeds}
+use Rattle.file_store.proofs.Names.{◌≡◌, None, rules, true, refl, sym, ◌∙◌, ap, arith, held_at, held_with, marks_of}
+use Rattle.file_store.specs.Refusals.{is_disk}
+use Rattle.file_store.proofs.Durable.{Parts, IsDone, after_event, done, stored_meta}
+use Rattle.file_store.proofs.Ended.{ends_done, kept_ends}
 use Rattle.file_store.proofs.Marks.{marks_there}
 use Rattle.file_store.proofs.StoreEvents.{all_free}
 use Rattle.file_store.proofs.WithBodies.{same-files}
@@ -23,15 +25,20 @@ stored g c =
 pub invariant_of-self : goal.invariant_of-self
 invariant_of-self g c = let is = stored g (goal.at.invariant_of-self g c).In-Ok in rw (c.of.ensures, c.committed.ensures) (is.files, is.sound)
 
-pub returns-in-Ok-clause-proceeds : goal.returns-in-Ok-clause-proceeds
-returns-in-Ok-clause-proceeds g c = rw (c.of.ensures, c.committed.ensures, ← c.self.view_is) (stored g (goal.at.returns-in-Ok-clause-proceeds g c).In-Ok).proceeds
+pub returns-in-Ok-clause-ends : goal.returns-in-Ok-clause-ends
+returns-in-Ok-clause-ends g c =
+    let working = ap (λ s. s.failed) c.self.view_is ∙ c.requires.working in
+    rw (c.of.ensures, c.committed.ensures, ← c.self.view_is) (ends_done g.D.Disk _ _ c.args.number None (stored g (goal.at.returns-in-Ok-clause-ends g c).In-Ok).proceeds tt refl working (c.commit.ensures.faults.quiet (λ e. cc)))
 
 pub returns-in-Ok-clause-room : goal.returns-in-Ok-clause-room
 returns-in-Ok-clause-room g c =
     let working = ap (λ s. s.failed) c.self.view_is ∙ c.requires.working in
     rw c.committed.ensures (all_free g.D.Disk _ (stored g (goal.at.returns-in-Ok-clause-room g c).In-Ok).sound working refl)
 
-pub returns-in-Err-clause-proceeds : goal.returns-in-Err-clause-proceeds
-returns-in-Err-clause-proceeds g c =
-    let sound = c.self.invariant.1 in
-    rw (c.in-Err.ensures.err, ← c.self.view_is) (kept_proceeds g.D.Disk _ sound.meta (sound.live (ap (λ s. s.failed) c.self.view_is ∙ c.requires.working)) c.args.number _ c.commit.ensures.any_moment refl refl)
+pub returns-in-Err-clause-ends : goal.returns-in-Err-clause-ends
+returns-in-Err-clause-ends g c =
+    let working = ap (λ s. s.failed) c.self.view_is ∙ c.requires.working in
+    let failed : c.eq-self-inside.result ≡ is_disk c.in-Err.refusal = search rules in
+    rw (c.in-Err.ensures.err, failed, c.from.ensures, ← c.self.view_is)
+    (kept_ends g.D.Disk (parts g (goal.at.returns-in-Err-clause-ends g c).After-commit) c.commit.new.disk c.args.number None c.commit.result c.in-Err.refusal c.self.invariant.1 working c.in-Err.is c.commit.ensures.any_moment
+    (λ part is. absurd (c.commit.ensures.no_part part is)) c.commit.ensures.faults)

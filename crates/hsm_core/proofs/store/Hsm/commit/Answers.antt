@@ -53,7 +53,7 @@ pub invariant_of-self-2 : goal.invariant_of-self-2
 invariant_of-self-2 g c =
     let at = (goal.at.invariant_of-self-2 g c).After-record_event in
     let is = next g at in
-    let more = one_more c.make_ready.new.history.items c.record_event.new.history.items TheStore Commit (λ (r : Reply). Replied r) c.commit-done.result c.record_event.result c.commit-done.ensures.ends.no_part (keeps g at) in
+    let more = one_more c.make_ready.new.history.items c.record_event.new.history.items TheStore Commit (λ (r : Reply). Replied r) c.commit-done.result c.record_event.result c.commit-done.ensures.ends.refused (keeps g at) in
     (is.0, is.1, c.self.invariant.2, c.self.invariant.3, omega (arith, more, c.in_default.ensures.room.0, c.record_event.ensures.room, c.awaited-awaited.ensures.count), c.self.invariant.5)
 
 pub returns-clause-committed : goal.returns-clause-committed
@@ -68,7 +68,7 @@ returns-in-Err-clause-safe g c = rw (c.make_ready.ensures.same) c.self.invariant
 pub returns-clause-room : goal.returns-clause-room
 returns-clause-room g c =
     let at = (goal.at.returns-clause-room g c).After-record_event in
-    let more = one_more c.make_ready.new.history.items c.record_event.new.history.items TheStore Commit (λ (r : Reply). Replied r) c.commit-done.result c.record_event.result c.commit-done.ensures.ends.no_part (keeps g at) in
+    let more = one_more c.make_ready.new.history.items c.record_event.new.history.items TheStore Commit (λ (r : Reply). Replied r) c.commit-done.result c.record_event.result c.commit-done.ensures.ends.refused (keeps g at) in
     let noted = ap length c.make_ready.ensures.same in
     subst (λ (old : Store g.row.D.Denot). old.spare ≤ (after g at).spare + 1) c.self.view_is (omega (arith, more, noted, c.make_ready.ensures.keeps, c.record_event.ensures.room, c.self.invariant.4))
 

@@ -68,7 +68,7 @@ pub invariant_of-self-2 : goal.invariant_of-self-2
 invariant_of-self-2 g c =
     let at = (goal.at.invariant_of-self-2 g c).After-record_dm in
     let is = next g at in
-    let more = one_more c.make_ready.new.history.items c.record_dm.new.history.items (Session c.args.sid) (Dm c.args.call) (λ (r : DmReply). Told r) c.serve-done.result c.record_dm.result c.serve-done.ensures.ends.no_part (keeps g at) in (
+    let more = one_more c.make_ready.new.history.items c.record_dm.new.history.items (Session c.args.sid) (Dm c.args.call) (λ (r : DmReply). Told r) c.serve-done.result c.record_dm.result c.serve-done.ensures.ends.refused (keeps g at) in (
       is.0,
       is.1,
       c.self.invariant.2,
@@ -86,7 +86,7 @@ returns-clause-told g c = subst (λ (old : Store g.row.D.Denot). IsTold g.D.Disk
 pub returns-clause-packed : goal.returns-clause-packed
 returns-clause-packed g c =
     subst (λ (old : Store g.row.D.Denot). HandsOut old.tables.sessions c.args.sid c.args.call c.record_dm.result) c.self.view_is
-    (told_handed c.self.inside.service.sessions c.args.sid c.args.call _ _ _ c.serve-done.result c.record_dm.result c.serve-done.ensures.packed c.record_dm.ensures.recorded c.record_dm.ensures.memory c.record_dm.ensures.failed c.serve-done.ensures.ends.no_part)
+    (told_handed c.self.inside.service.sessions c.args.sid c.args.call _ _ _ c.serve-done.result c.record_dm.result c.serve-done.ensures.packed c.record_dm.ensures.recorded c.record_dm.ensures.memory c.record_dm.ensures.failed c.serve-done.ensures.ends.refused)
 
 pub returns-in-Err-clause-packed : goal.returns-in-Err-clause-packed
 returns-in-Err-clause-packed g c =
@@ -110,7 +110,7 @@ returns-clause-responds g c =
 pub returns-clause-room : goal.returns-clause-room
 returns-clause-room g c =
     let at = (goal.at.returns-clause-room g c).After-record_dm in
-    let more = one_more c.make_ready.new.history.items c.record_dm.new.history.items (Session c.args.sid) (Dm c.args.call) (λ (r : DmReply). Told r) c.serve-done.result c.record_dm.result c.serve-done.ensures.ends.no_part (keeps g at) in
+    let more = one_more c.make_ready.new.history.items c.record_dm.new.history.items (Session c.args.sid) (Dm c.args.call) (λ (r : DmReply). Told r) c.serve-done.result c.record_dm.result c.serve-done.ensures.ends.refused (keeps g at) in
     let fewer = room_served c.self.inside.service c.serve-done.new.service c.args.sid c.args.call c.serve-done.result c.serve-done.ensures.room c.serve-done.ensures.err c.serve-done.ensures.responds in
     let noted = ap length c.make_ready.ensures.same in
     subst (λ (old : Store g.row.D.Denot). old.spare ≤ (after g at).spare + entries_for old.tables.sessions c.args.sid c.args.call) c.self.view_is

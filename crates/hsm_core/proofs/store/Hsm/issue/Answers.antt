@@ -62,7 +62,7 @@ pub invariant_of-self-2 : goal.invariant_of-self-2
 invariant_of-self-2 g c =
     let at = (goal.at.invariant_of-self-2 g c).After-record_event in
     let is = next g at in
-    let more = one_more c.make_ready_for_access.new.history.items c.record_event.new.history.items (Caller c.args.caller) (Issue c.issued-access.result.call) (λ (r : Reply). Replied r) c.answer-done.result c.record_event.result c.answer-done.ensures.replied.ends.no_part (keeps g at) in (
+    let more = one_more c.make_ready_for_access.new.history.items c.record_event.new.history.items (Caller c.args.caller) (Issue c.issued-access.result.call) (λ (r : Reply). Replied r) c.answer-done.result c.record_event.result c.answer-done.ensures.replied.ends.refused (keeps g at) in (
       is.0,
       is.1,
       c.self.invariant.2,
@@ -89,7 +89,7 @@ returns-in-Err-clause-safe g c = rw (c.make_ready_for_access.ensures.same) c.sel
 pub returns-clause-room : goal.returns-clause-room
 returns-clause-room g c =
     let at = (goal.at.returns-clause-room g c).After-record_event in
-    let more = one_more c.make_ready_for_access.new.history.items c.record_event.new.history.items (Caller c.args.caller) (Issue c.issued-access.result.call) (λ (r : Reply). Replied r) c.answer-done.result c.record_event.result c.answer-done.ensures.replied.ends.no_part (keeps g at) in
+    let more = one_more c.make_ready_for_access.new.history.items c.record_event.new.history.items (Caller c.args.caller) (Issue c.issued-access.result.call) (λ (r : Reply). Replied r) c.answer-done.result c.record_event.result c.answer-done.ensures.replied.ends.refused (keeps g at) in
     let fewer = room_after c.self.inside.service c.answer-done.new.service 2 c.answer-done.result c.answer-done.ensures.room c.answer-done.ensures.replied.err in
     let noted = ap length c.make_ready_for_access.ensures.same in
     subst (λ (old : Store g.row.D.Denot). old.spare ≤ (after g at).spare + 3) c.self.view_is (omega (arith, more, fewer, noted, c.make_ready_for_access.ensures.keeps, c.record_event.ensures.room, c.self.invariant.4))

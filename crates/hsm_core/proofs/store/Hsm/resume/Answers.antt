@@ -62,7 +62,7 @@ pub invariant_of-self-2 : goal.invariant_of-self-2
 invariant_of-self-2 g c =
     let at = (goal.at.invariant_of-self-2 g c).After-record_event in
     let is = next g at in
-    let more = one_more c.make_ready_to_resume.new.history.items c.record_event.new.history.items (Caller c.args.caller) Resume (λ (r : Reply). Replied r) c.answer_again-done.result c.record_event.result c.answer_again-done.ensures.replied.ends.no_part (keeps g at) in (
+    let more = one_more c.make_ready_to_resume.new.history.items c.record_event.new.history.items (Caller c.args.caller) Resume (λ (r : Reply). Replied r) c.answer_again-done.result c.record_event.result c.answer_again-done.ensures.replied.ends.refused (keeps g at) in (
       is.0,
       is.1,
       c.self.invariant.2,
@@ -87,7 +87,7 @@ returns-in-Err-clause-safe g c = rw (c.make_ready_to_resume.ensures.same) c.self
 pub returns-clause-room : goal.returns-clause-room
 returns-clause-room g c =
     let at = (goal.at.returns-clause-room g c).After-record_event in
-    let more = one_more c.make_ready_to_resume.new.history.items c.record_event.new.history.items (Caller c.args.caller) Resume (λ (r : Reply). Replied r) c.answer_again-done.result c.record_event.result c.answer_again-done.ensures.replied.ends.no_part (keeps g at) in
+    let more = one_more c.make_ready_to_resume.new.history.items c.record_event.new.history.items (Caller c.args.caller) Resume (λ (r : Reply). Replied r) c.answer_again-done.result c.record_event.result c.answer_again-done.ensures.replied.ends.refused (keeps g at) in
     let fewer = room_again c.self.inside.service c.answer_again-done.new.service (is_aborted (waiting c.self.inside.service c.args.caller)) c.answer_again-done.result c.answer_again-done.ensures.room c.answer_again-done.ensures.replied.err c.answer_again-done.ensures.aborts in
     let noted = ap length c.make_ready_to_resume.ensures.same in
     subst (λ (old : Store g.row.D.Denot). old.spare ≤ (after g at).spare + (if is_aborted (waiting old.tables c.args.caller) then 0 else 2)) c.self.view_is

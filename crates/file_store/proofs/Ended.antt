@@ -1,0 +1,101 @@
+-- How calls end, by their results.
+use Rattle.file_store.proofs.Names.{◌≡◌, ℕ, false, Option, Some, None, refl, sym, ◌∙◌, ap, subst, FileKey, Effect, Held, affected_held, Store, Proceeds, IsSound, StoresOrKeeps, Ghosts}
+use Rattle.std.specs.Prelude.{Result, Ok, Err, OnOk}
+use Rattle.std.specs.Result.{IsErrOf}
+use Rattle.disk_model.specs.Calls.{Counts}
+use Rattle.hsm_types.specs.declared.dm.DmRefusal.{DmRefusal}
+use Rattle.meta_store.specs.declared.refusal.MetaRefusal.{MetaRefusal}
+use Rattle.meta_store.specs.declared.refusal.MetaRefusal.TheVariants.{Part, Disk, Memory}
+use Rattle.file_store.specs.declared.refusal.StoreRefusal.{StoreRefusal}
+use Rattle.file_store.specs.declared.refusal.StoreRefusal.TheVariants as store
+use Rattle.file_store.specs.Changes.{Ends, Changes}
+use Rattle.file_store.specs.Refusals.{is_disk, refused_as}
+use Rattle.file_store.proofs.Durable.{Parts, store_of, kept_proceeds, proceeds_on}
+
+pub refused_as_is : (why : MetaRefusal) → ((part : DmRefusal) → refused_as why ≡ store.Part part → why ≡ Part part) × (refused_as why ≡ store.Memory → why ≡ Memory) × (refused_as why ≡ store.Disk → why ≡ Disk)
+refused_as_is (Part w) = (λ part is. cc, λ is. cc, λ is. cc)
+refused_as_is Disk = (λ part is. cc, λ is. cc, λ is. refl)
+refused_as_is Memory = (λ part is. cc, λ is. refl, λ is. cc)
+
+module _ {D T : Type 0} (g : Ghosts D) (old new : Store D) (n : ℕ) (refusal : Option DmRefusal) (proceeds : Proceeds g old n new) where
+  pub ends_done : (x : T) → refusal ≡ None → new.failed ≡ false → g.fault_count new.disk ≡ g.fault_count old.disk → Ends g old n refusal (Ok x) new
+  ends_done x none working quiet = record {
+    judged = none;
+    refused = λ part is. absurd cc;
+    unchanged = λ part is. absurd cc;
+    working = working;
+    memory = λ is. absurd cc;
+    faults = record { closes = λ is. absurd cc; counts = record { rose = λ is. absurd cc; quiet = λ other. quiet } };
+    proceeds = proceeds;
+  }
+
+  -- the layer below has refused it
+  pub ends_refused : {S : Type 0} (r : Result S MetaRefusal) (why : MetaRefusal) → r ≡ Err why → new.failed ≡ is_disk why → ((part : DmRefusal) → IsErrOf r (Part part) → (refusal ≡ Some part) × (new ≡ old)) → (IsErrOf r Memory → new.held ≡ old.held)
+      → Counts (IsErrOf r Disk) (g.fault_count old.disk) (g.fault_count new.disk) → Ends {T = T} g old n refusal (Err (refused_as why)) new
+  ends_refused r why at failed part memory counts =
+      let of = refused_as_is why in
+      record {
+        judged = tt;
+        refused = λ p is. (part p (at ∙ ap (λ w. Err w) (of.0 p cc))).0;
+        unchanged = λ p is. (part p (at ∙ ap (λ w. Err w) (of.0 p cc))).1;
+        working = tt;
+        memory = λ is. let lacks : why ≡ Memory = of.1 cc in (memory (at ∙ ap (λ w. Err w) lacks), failed ∙ ap is_disk lacks);
+        faults = record {
+          closes = λ is. failed ∙ ap is_disk (of.2 cc);
+          counts = record { rose = λ is. counts.rose (at ∙ ap (λ w. Err w) (of.2 cc)); quiet = λ other. counts.quiet (λ is. let same : why ≡ Disk = cc in other (ap (λ w. Err (refused_as w)) same)) };
+        };
+        proceeds = proceeds;
+      }
+
+-- it has, and no more than the disk has changed
+pub kept_ends : {D S T : Type 0} (g : Ghosts D) (p : Parts D) (new : D) (n : ℕ) (refusal : Option DmRefusal) (r : Result S MetaRefusal) (why : MetaRefusal) → IsSound g (store_of p) → p.failed ≡ false → r ≡ Err why → StoresOrKeeps g p.disk new p.meta n
+    → ((part : DmRefusal) → IsErrOf r (Part part) → (refusal ≡ Some part) × (new ≡ p.disk)) → Counts (IsErrOf r Disk) (g.fault_count p.disk) (g.fault_count new) → Ends {T = T} g (store_of p) n refusal (Err (refused_as why)) (store_of (record p { disk = new; failed = is_disk why }))
+kept_ends g p new n refusal r why sound working at turns part counts =
+    ends_refused g _ _ n refusal (kept_proceeds g (store_of p) sound.meta (sound.live working) n _ turns refl refl) r why at refl
+    (λ some is. let kept = part some is in let still : is_disk why ≡ p.failed = ap is_disk (let same : why ≡ Part some = cc in same) ∙ sym working in (kept.0, λ i. record (store_of p) { disk = kept.1 i; failed = still i })) (λ is. refl) counts
+
+-- it was refused before it began, and no call of the disk failed
+pub unbegun : {D T : Type 0} (g : Ghosts D) (s : Store D) (n : ℕ) (refusal : Option DmRefusal) (why : StoreRefusal) → s.failed ≡ false → Proceeds g s n s → (why ≡ store.Disk → ⊥) → ((part : DmRefusal) → why ≡ store.Part part → refusal ≡ Some part)
+    → Ends {T = T} g s n refusal (Err why) s
+unbegun g s n refusal why works proceeds whole part = record {
+  judged = tt;
+  refused = λ p is. part p cc;
+  unchanged = λ p is. refl;
+  working = tt;
+  memory = λ is. (refl, works);
+  faults = record { closes = λ is. absurd (whole cc); counts = record { rose = λ is. absurd (whole cc); quiet = λ other. refl } };
+  proceeds = proceeds;
+}
+
+-- what refuses it, in other words
+pub ends_as : {D T : Type 0} {g : Ghosts D} {old new : Store D} {n : ℕ} {own refusal : Option DmRefusal} {r : Result T StoreRefusal} → own ≡ refusal → Ends g old n own r new → Ends g old n refusal r new
+ends_as {D} {T} {g} {old} {new} {n} {own} {refusal} {r} same is = subst (λ x. Ends g old n x r new) same is
+
+-- where no part has refused it, it ends so for any result of that error
+pub ends_err : {D S T : Type 0} (g : Ghosts D) (old new : Store D) (n : ℕ) (refusal : Option DmRefusal) (r : Result S StoreRefusal) (why : StoreRefusal) → r ≡ Err why → ((part : DmRefusal) → IsErrOf r (store.Part part) → ⊥) → Ends g old n refusal r new
+    → Ends {T = T} g old n None (Err why) new
+ends_err g old new n refusal r why at whole is = record {
+  judged = tt;
+  refused = λ part e. absurd (whole part cc);
+  unchanged = λ part e. absurd (whole part cc);
+  working = tt;
+  memory = λ e. is.memory cc;
+  faults = record { closes = λ e. is.faults.closes cc; counts = record { rose = λ e. is.faults.counts.rose cc; quiet = λ other. is.faults.counts.quiet (λ e. other (let same : why ≡ store.Disk = cc in ap (λ w. Err w) same)) } };
+  proceeds = is.proceeds;
+}
+
+-- a change after a call that was done, and by which all is held as before
+pub changes_on : {D S T : Type 0} {g : Ghosts D} {old mid new : Store D} {n : ℕ} {key : FileKey} {effect : Effect} {first : Result S StoreRefusal} {r : Result T StoreRefusal} (x : S) → first ≡ Ok x → Ends g old n None first mid → mid.held ≡ old.held
+    → Changes g mid n key effect None r new → Changes g old n key effect None r new
+changes_on {D} {S} {T} {g} {old} {mid} {new} {n} {key} {effect} {first} {r} x done before same is = record {
+  held = subst (λ (h : Held). OnOk r (new.held ≡ record h { files = affected_held effect key h.files })) same is.held;
+  ends = record {
+    judged = is.ends.judged;
+    refused = is.ends.refused;
+    unchanged = λ part e. absurd (let some = is.ends.refused part e in cc);
+    working = is.ends.working;
+    memory = λ e. ((is.ends.memory e).0 ∙ same, (is.ends.memory e).1);
+    faults = record { closes = is.ends.faults.closes; counts = rw (before.faults.counts.quiet (λ e. cc)) at is.ends.faults.counts };
+    proceeds = proceeds_on g old mid new n before.proceeds same is.ends.proceeds;
+  };
+}

@@ -1,0 +1,6 @@
+use Rattle.meta_store.specs.declared.records.Record.TheVariants.{Regions}
+use Rattle.file_store.proofs.Ended.{ends_as}
+use Rattle.file_store.proofs.store.FileStore.set_regions.Goals as goal
+
+pub returns-clause-changed : goal.returns-clause-changed
+returns-clause-changed g c = record { held = c.record.ensures.held; ends = ends_as (c.inode-ino.ensures.refusal (Regions c.inode-ino.result c.args.regions) c.inode-ino.ensures.inode) c.record.ensures.ends }
