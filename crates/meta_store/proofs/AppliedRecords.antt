@@ -2,7 +2,6 @@
 use Rattle.std.proofs.Common.{◌≡◌, Some, ◌↔◌, ◌⊎◌, ⊎_elim, Err, List, [], ◌∷◌, rules, refl, arith}
 use Rattle.std.specs.Prelude.{None, Result}
 use Rattle.std.specs.List.{AllByRecursion}
-use Rattle.hsm_types.specs.declared.stubs.Stub.{Stub as StubOf}
 use Rattle.hsm_types.specs.Stubs.{Stubs, stub_at, too_many_stubs}
 use Rattle.plain_model.specs.Keyed.{find_key}
 use Rattle.meta_store.specs.declared.records.Record.{Record}

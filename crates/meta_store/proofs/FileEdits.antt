@@ -1,5 +1,5 @@
 -- Lists of files after one more, one less and one changed: their names, sums over them, and what is true of each.
-use Rattle.std.proofs.Common.{◌≡◌, ℕ, ◌+◌, List, [], ◌∷◌, length, map, Some, ltb, refl, arith}
+use Rattle.std.proofs.Common.{◌≡◌, ℕ, ◌+◌, List, [], ◌∷◌, length, map, Some, refl, arith}
 use Rattle.std.specs.List.{AllByRecursion, sum_by}
 use Rattle.std.specs.Option.{option_map}
 use Rattle.std.proofs.lemmas.Bool.{cond_both}
@@ -96,3 +96,5 @@ module _ (P : CatalogFile → Type 0) where
 
   pub each-change : (k : FileKey) (to : CatalogFile → CatalogFile) (fs : List CatalogFile) → ((f : CatalogFile) → P f → P (to f)) → AllByRecursion P fs → AllByRecursion P (change_key (λ f. f.key) k to fs)
   each-change k to fs keeps h = each-changed k to fs (λ f is. keeps f) h
+
+pub ruleset found_steps = (map-find)

@@ -1,12 +1,11 @@
 -- A catalog in memory, after one file more, one less and one changed.
-use Rattle.std.proofs.Common.{◌≡◌, ℕ, zero, suc, ◌+◌, ◌-◌, ◌<◌, ◌≤◌, ◌^◌, List, [], ◌∷◌, ◌++◌, length, map, get_or, set, false, Option, Some, None, refl, sym, ◌∙◌, ap, subst, arith, length-set}
+use Rattle.std.proofs.Common.{◌≡◌, ℕ, zero, suc, ◌+◌, ◌-◌, ◌≤◌, List, [], ◌∷◌, length, map, get_or, set, false, Option, Some, None, refl, sym, ◌∙◌, ap, subst, arith}
 use Rattle.std.specs.List.{slice_get}
 use Rattle.std.specs.Option.{IsSome, option_map, unwrap_or}
 use Rattle.std.proofs.lemmas.List.{get_or_read}
 use Rattle.hsm_types.specs.declared.keys.FileKey.{FileKey}
 use Rattle.hsm_types.specs.Attributes.{bytes_of_attributes}
 use Rattle.plain_model.specs.Keyed.{find_key, drop_key}
-use Rattle.plain_model.specs.Plain.{named}
 use Rattle.plain_model.specs.Distinct.{Distinct}
 use Rattle.inode_table.specs.declared.entries.FileEntry.{FileEntry}
 use Rattle.inode_table.specs.Listing.{listing, key_at, has_inode, Ascend, Within}

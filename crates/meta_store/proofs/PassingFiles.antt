@@ -12,7 +12,7 @@ use Rattle.inode_table.specs.Listing.{Within}
 use Rattle.hsm_types.specs.Attributes.{bytes_of_attributes}
 use Rattle.meta_store.specs.Catalogs.{CatalogFile, Catalog, IsCatalogFile, IsCatalog, HasLengths, AreLengths, geometry_of, names_of, blocks_of, stub_total}
 use Rattle.meta_store.specs.Snapshots.{SnapshotFile, snapshot_file}
-use Rattle.meta_store.specs.Validity.{listed_in, names_in, places_of, places_in, is_file, places_by, AreLawfulStubs, is_kept, can_follow, attribute_total_in, stub_total_in, Follows, IsNext}
+use Rattle.meta_store.specs.Validity.{listed_in, names_in, places_of, places_in, is_file, places_by, AreLawfulStubs, is_kept, can_follow, stub_total_in, Follows, IsNext}
 use Rattle.meta_store.proofs.KeptAttributes.{attributes-pass}
 use Rattle.meta_store.proofs.LawfulStubs.{stubs-pass}
 use Rattle.meta_store.proofs.EachOf.{all-parts}

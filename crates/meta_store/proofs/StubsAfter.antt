@@ -8,7 +8,7 @@ use Rattle.std.proofs.lemmas.List.Sums.{length-filter, count_by-le-length}
 use Rattle.hsm_types.specs.declared.stores.Geometry.{Geometry}
 use Rattle.hsm_types.specs.declared.stubs.Stub.{Stub as StubOf}
 use Rattle.hsm_types.specs.Segments.{segments_in}
-use Rattle.hsm_types.specs.Stubs.{stub_at, is_offline, offline_at, uncovered}
+use Rattle.hsm_types.specs.Stubs.{stub_at, is_offline, uncovered}
 use Rattle.hsm_types.proofs.Stubbing.{stub_at-without, stub_at-below, all_covered}
 use Rattle.meta_store.specs.declared.file_parts.Others.{Others}
 use Rattle.meta_store.specs.declared.file_parts.FileParts.{FileParts}

@@ -10,7 +10,7 @@ use Rattle.meta_store.specs.Snapshots.{file_bytes, snapshot_file, snapshot_of, s
 use Rattle.meta_store.proofs.EachOf.{each-got}
 use Rattle.meta_store.proofs.SpreadPlaces.{length-extents}
 use Rattle.meta_store.proofs.KeptBounds.{regions-few}
-use Rattle.meta_store.proofs.SnapshotFits.{name-short}
+use Rattle.meta_store.proofs.SnapshotFits.{name-short, snapshot-short}
 
 pub each-written : {X : Type 0} (text : X → List ℕ) (out : List ℕ) (xs : List X) (i : ℕ) (d : X) → i < length xs → (out ++ text (get_or xs i d)) ++ flat_map text (drop (i + 1) xs) ≡ out ++ flat_map text (drop i xs)
 each-written text out xs i d within = rw (drop_more xs i d, append_assoc) refl
@@ -41,3 +41,5 @@ file-more files i f out at = rw (drop_more files i f (slice_get_within files i f
 
 pub files-all : (files : List CatalogFile) (i : ℕ) (out : List ℕ) → length files ≤ i → out ++ files_bytes (drop i files) ≡ out
 files-all files i out all = rw (drop_all i files all) (append-nil out)
+
+pub ruleset spell_steps = (files-all, snapshot-short, length-map)

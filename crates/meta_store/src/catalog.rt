@@ -158,6 +158,7 @@ impl Catalog {
     }
 
     /// What is kept of a live file beside its key, its name and its size.
+    #[tactic(auto, using(crate::proofs::FileEdits::found_steps))]
     fn parts(&self, key: FileKey) -> Option<&FileParts>
         ensures { option_map (λ r. r.now) result ≡ option_map parts_of (find_key (λ f. f.key) key self.now.files) }
     {

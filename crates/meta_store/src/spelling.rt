@@ -12,6 +12,7 @@ use std::alloc::{AllocError, Global};
 const FILE_ROOM: usize = 64;
 
 /// The bytes of a snapshot of the catalog, under that number.
+#[tactic(auto, using(crate::proofs::WrittenFiles::spell_steps))]
 pub(crate) fn spell(alloc: Global, number: u64, catalog: &Catalog) -> Result<Vec<u8>, AllocError>
     requires { number ≤ 2 ^ 62 }
     ensures spelled { IfOk result (λ v. v.items ≡ spelling (snapshot_of number catalog.now)) }

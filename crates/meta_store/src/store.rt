@@ -206,6 +206,7 @@ impl MetaStore {
 }
 
 /// Where the selected slot's snapshot and its journal lie.
+#[tactic(auto, using(commit_slots::proofs::Switches::number_names))]
 fn selected(loaded: &Loaded) -> (u64, u64)
     requires { loaded.now.slot ≡ slot_number loaded.now.slots.slot }
     ensures snapshot { result.0 ≡ snapshot_at (layout_of loaded.now.geometry) loaded.now.slots.slot }

@@ -1,7 +1,6 @@
 use Rattle.std.proofs.Common.{◌≡◌, length, sym, ◌∙◌, ap, arith}
 use Rattle.std.proofs.lemmas.List.{length-map}
 use Rattle.inode_table.specs.Table.{Table, entry_of}
-use Rattle.meta_store.proofs.SnapshotFits.{snapshot-short}
 use Rattle.meta_store.proofs.WrittenFiles.{some-at, bounds-at, header-first, file-more, files-all}
 use Rattle.meta_store.proofs.spelling.spell.Goals.{After-len-count}
 use Rattle.meta_store.proofs.spelling.spell.Goals as goal
@@ -23,13 +22,3 @@ put_file-requires c =
 
 pub loop-index-preserved : goal.loop-index-preserved
 loop-index-preserved c = rw (c.in_ok-put_file.ensures, file-more _ _ _ _ (sym (rw c.unwrap-size.ensures at c.file.ensures))) c.loop-index.invariant
-
-pub returns : goal.returns
-returns c =
-    let all = files-all c.args.catalog.now.files c.loop-index.index c.loop-index.out.items (omega (arith, counted (goal.at.returns c).After-len-count)) in
-    let valid = c.geometry-geometry.ensures.valid in
-    record {
-      spelled = sym all ∙ c.loop-index.invariant;
-      short = rw (← all, c.loop-index.invariant) (snapshot-short c.args.number c.args.catalog.now valid);
-      lawful = valid;
-    }

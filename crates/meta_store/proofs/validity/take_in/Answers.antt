@@ -1,6 +1,5 @@
 use Rattle.std.proofs.Common.{map, sym, ◌∙◌, arith}
 use Rattle.plain_model.specs.Blocks.{blocks_in}
-use Rattle.meta_store.specs.declared.snapshot.ReadRefusal.{ReadRefusal}
 use Rattle.meta_store.specs.declared.snapshot.ReadRefusal.TheVariants.{Corrupt}
 use Rattle.meta_store.specs.Snapshots.{raw_file, snapshot_file}
 use Rattle.meta_store.proofs.SpreadPlaces.{extents-tell}

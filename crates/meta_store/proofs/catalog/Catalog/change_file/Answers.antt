@@ -2,9 +2,8 @@ use Rattle.std.proofs.Common.{◌≡◌, ◌+◌, None, refl, ◌∙◌, ap, ari
 use Rattle.std.proofs.lemmas.Result.{err_from_is_err_and}
 use Rattle.hsm_types.specs.declared.stores.Geometry.{Geometry}
 use Rattle.meta_store.specs.Records.{refusal_of, file_after, without_file, with_changed, key_on, inode_of, others_of, part_refusal, CanStandOn, CanStand, IsAboutOne}
-use Rattle.meta_store.specs.Catalogs.{Catalog, geometry_of, CatalogFile, IsLawfulKept, IsCatalogFile, present, blocks_of, attribute_total, stub_total}
+use Rattle.meta_store.specs.Catalogs.{Catalog, geometry_of, CatalogFile, IsLawfulKept, IsCatalogFile, blocks_of, attribute_total, stub_total}
 use Rattle.meta_store.proofs.HeldCatalogs.{bounded, IsCounted, IsLive, lawful, table, live, read-live, held-live, others, after}
-use Rattle.std.specs.List.Sorted.{IsStrictlySortedBy}
 use Rattle.std.specs.Map.{keys_of}
 use Rattle.std.specs.Ordering.{nat_cmp}
 use Rattle.hsm_types.specs.declared.keys.FileKey.{FileKey}

@@ -1,9 +1,6 @@
 use Rattle.std.proofs.Common.{refl, arith}
-use Rattle.meta_store.proofs.HeldCatalogs.{found-held, sized-live, read-live}
+use Rattle.meta_store.proofs.HeldCatalogs.{sized-live, read-live}
 use Rattle.meta_store.proofs.catalog.Catalog.parts.Goals as goal
-
-pub returns-in_err-_size : goal.returns-in_err-_size
-returns-in_err-_size c = grind (arith, found-held c.self.inside _ c.self.view_is c.self.invariant c.args.key)
 
 pub index-requires : goal.index-requires
 index-requires c = let f = sized-live c.self.inside _ c.self.view_is c.self.invariant c.args.key c.in_ok-_size._size c.in_ok-_size.ensures in omega (arith, f.2.low, f.2.high, c.slot.ensures)

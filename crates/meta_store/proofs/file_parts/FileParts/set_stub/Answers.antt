@@ -1,12 +1,11 @@
-use Rattle.std.proofs.Common.{◌≡◌, true, Bool, false, Option, refl, sym, ap, ◌∙◌, arith}
+use Rattle.std.proofs.Common.{◌≡◌, true, false, Option, refl, sym, ◌∙◌, arith}
 use Rattle.std.specs.Prelude.{if◌then◌else◌}
 use Rattle.std.proofs.lemmas.Result.{on_ok_weaker}
 use Rattle.hsm_types.specs.declared.stubs.Stub.{Stub}
 use Rattle.hsm_types.specs.declared.stubs.StubEntry.{StubEntry}
-use Rattle.hsm_types.specs.Stubs.{Stubs, is_offline}
+use Rattle.hsm_types.specs.Stubs.{is_offline}
 use Rattle.stub_map.specs.States.{state_of}
-use Rattle.stub_map.specs.declared.stubs.State.TheVariants.{Sealed, Offline}
-use Rattle.meta_store.specs.Records.{places_without}
+use Rattle.stub_map.specs.declared.stubs.State.TheVariants.{Offline}
 use Rattle.meta_store.proofs.StubLists.{punched-with, restored-with}
 use Rattle.meta_store.proofs.file_parts.FileParts.set_stub.Goals as goal
 

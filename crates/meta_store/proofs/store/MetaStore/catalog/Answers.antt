@@ -1,4 +1,3 @@
-use Rattle.meta_store.specs.Meta.{IsMeta}
 use Rattle.meta_store.proofs.store.MetaStore.catalog.Goals as goal
 
 pub returns-clause-lawful : goal.returns-clause-lawful
