@@ -2,12 +2,10 @@
 use Rattle.std.proofs.Common.{◌≡◌, Some, ◌↔◌, ◌⊎◌, ⊎_elim, Err, List, [], ◌∷◌, rules, refl, arith}
 use Rattle.std.specs.Prelude.{None, Result}
 use Rattle.std.specs.List.{AllByRecursion}
-use Rattle.hsm_types.specs.Stubs.{Stubs, stub_at, too_many_stubs}
-use Rattle.plain_model.specs.Keyed.{find_key}
 use Rattle.meta_store.specs.declared.records.Record.{Record}
-use Rattle.meta_store.specs.declared.records.Record.TheVariants.{Make, Drop, Size, Map, Regions, SetAttr, DropAttr, Stub}
-use Rattle.meta_store.specs.Catalogs.{CatalogFile, Catalog, geometry_of}
-use Rattle.meta_store.specs.Records.{after, after_all, refusal_of, refusal_of_all, kept_at, key_on, others_stubs, CanStand, CanStandAll, IsSure, IsEvent}
+use Rattle.meta_store.specs.declared.records.Record.TheVariants.{Map, Stub}
+use Rattle.meta_store.specs.Catalogs.{Catalog}
+use Rattle.meta_store.specs.Records.{after, after_all, refusal_of, refusal_of_all, CanStand, CanStandAll, IsSure, IsEvent}
 
 -- no part refuses what is sure: a segment that goes away has an entry before
 sure_stands : (r : Record) (c : Catalog) → IsSure r → CanStand r c → refusal_of r c ≡ None

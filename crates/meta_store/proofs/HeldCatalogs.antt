@@ -6,7 +6,6 @@ use Rattle.std.proofs.lemmas.List.{get_or_read}
 use Rattle.hsm_types.specs.declared.keys.FileKey.{FileKey}
 use Rattle.hsm_types.specs.Attributes.{bytes_of_attributes}
 use Rattle.plain_model.specs.Keyed.{find_key, drop_key}
-use Rattle.plain_model.specs.Distinct.{Distinct}
 use Rattle.inode_table.specs.declared.entries.FileEntry.{FileEntry}
 use Rattle.inode_table.specs.Listing.{listing, key_at, has_inode, Ascend, Within}
 use Rattle.inode_table.specs.Table.{Table, IsTable, entry_of}
@@ -15,13 +14,12 @@ use Rattle.inode_table.proofs.KeysAt.{found-key_at, key_at-found}
 use Rattle.inode_table.proofs.Listings.{found-listed}
 use Rattle.meta_store.specs.declared.file_parts.FileParts.{FileParts}
 use Rattle.meta_store.specs.declared.catalog.Catalog.TheInside.{Inside}
-use Rattle.meta_store.specs.Catalogs.{CatalogFile, Catalog, IsCatalogFile, IsCatalog, geometry_of, names_of, present, blocks_of, attribute_total, stub_total}
+use Rattle.meta_store.specs.Catalogs.{CatalogFile, Catalog, IsCatalog, geometry_of, names_of, present, blocks_of, attribute_total, stub_total}
 use Rattle.meta_store.specs.Records.{with_put, without_file, others_total, others_stubs, key_on}
 use Rattle.meta_store.specs.InMemory.{no_parts, parts_of, file_of, catalog_held, file_held, files_held, IsHeld}
 use Rattle.meta_store.proofs.SnapshotFits.{blocks-few, geometry-bounded, few-stubs}
-use Rattle.meta_store.proofs.FileEdits.{count_of, stubs_of, mapped_of, used-sum, sum-put, sum-drop, map-find, map-drop}
+use Rattle.meta_store.proofs.FileEdits.{count_of, stubs_of, mapped_of, used-sum, sum-drop, map-find, map-drop}
 use Rattle.meta_store.proofs.HeldFiles.{names_of-held, entries-held, held-put_at, found-within}
-use Rattle.meta_store.proofs.KeptCatalogs.{IsCatalog-with_put, IsCatalog-without_file}
 
 -- what is true of each catalog in memory
 abbrev pub IsCounted : ℕ → Table → List FileParts → ℕ → ℕ → ℕ → Type 0

@@ -5,8 +5,7 @@ use Rattle.std.specs.List.{AllByRecursion}
 use Rattle.std.specs.List.Sorted.{IsStrictlySortedBy}
 use Rattle.std.specs.Map.{keys_of}
 use Rattle.std.specs.Ordering.{nat_cmp}
-use Rattle.std.proofs.lemmas.Option.{same_Some}
-use Rattle.hsm_types.specs.Stubs.{Stubs, stub_at, is_offline, is_sealed, offline_at, moved, punched, restored, with_stub, without_stub, too_many_stubs}
+use Rattle.hsm_types.specs.Stubs.{Stubs, stub_at, is_sealed, offline_at, moved, punched, restored, with_stub, without_stub, too_many_stubs}
 use Rattle.hsm_types.specs.declared.stubs.Stub.{Stub}
 use Rattle.stub_map.proofs.Entries.{absent-moved}
 

@@ -1,7 +1,7 @@
 use Rattle.std.proofs.Common.{◌≡◌, length, sym, ◌∙◌, ap, arith}
 use Rattle.std.proofs.lemmas.List.{length-map}
 use Rattle.inode_table.specs.Table.{Table, entry_of}
-use Rattle.meta_store.proofs.WrittenFiles.{some-at, bounds-at, header-first, file-more, files-all}
+use Rattle.meta_store.proofs.WrittenFiles.{some-at, bounds-at, header-first, file-more}
 use Rattle.meta_store.proofs.spelling.spell.Goals.{After-len-count}
 use Rattle.meta_store.proofs.spelling.spell.Goals as goal
 

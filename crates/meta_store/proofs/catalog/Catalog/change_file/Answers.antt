@@ -4,18 +4,15 @@ use Rattle.hsm_types.specs.declared.stores.Geometry.{Geometry}
 use Rattle.meta_store.specs.Records.{refusal_of, file_after, without_file, with_changed, key_on, inode_of, others_of, part_refusal, CanStandOn, CanStand, IsAboutOne}
 use Rattle.meta_store.specs.Catalogs.{Catalog, geometry_of, CatalogFile, IsLawfulKept, IsCatalogFile, blocks_of, attribute_total, stub_total}
 use Rattle.meta_store.proofs.HeldCatalogs.{bounded, IsCounted, IsLive, lawful, table, live, read-live, held-live, others, after}
-use Rattle.std.specs.Map.{keys_of}
-use Rattle.std.specs.Ordering.{nat_cmp}
 use Rattle.hsm_types.specs.declared.keys.FileKey.{FileKey}
 use Rattle.hsm_types.specs.Attributes.{bytes_of_attributes}
 use Rattle.plain_model.specs.Keyed.{find_key, change_key}
-use Rattle.inode_table.specs.declared.entries.FileEntry.{FileEntry}
 use Rattle.inode_table.specs.Table.{Table, entry_of}
 use Rattle.meta_store.specs.declared.file_parts.FileParts.{FileParts}
 use Rattle.meta_store.specs.declared.file_parts.Others.{Others}
 use Rattle.meta_store.specs.declared.records.Record.{Record}
 use Rattle.meta_store.specs.declared.catalog.Catalog.TheInside.{Inside}
-use Rattle.meta_store.specs.InMemory.{kept_in, parts_of, parts_after, file_of, catalog_held, FitsParts, IsNumbered}
+use Rattle.meta_store.specs.InMemory.{kept_in, parts_of, parts_after, file_of, catalog_held}
 use Rattle.meta_store.proofs.FileEdits.{count_of, stubs_of, mapped_of, used-sum, sum-drop, sum-change}
 use Rattle.meta_store.proofs.FoundFiles.{each-found}
 use Rattle.meta_store.proofs.FilesAfter.{stood, fits, file-after}

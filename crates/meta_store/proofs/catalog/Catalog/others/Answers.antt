@@ -1,7 +1,7 @@
 use Rattle.std.proofs.Common.{◌≡◌, ℕ, rules, refl, arith}
 use Rattle.meta_store.specs.declared.file_parts.Others.{Others}
 use Rattle.meta_store.proofs.HeldCatalogs.{IsLeft, live-at, key-at, some-at, left}
-use Rattle.meta_store.specs.Records.{without_file, others_total, others_stubs, key_on}
+use Rattle.meta_store.specs.Records.{key_on}
 use Rattle.meta_store.proofs.catalog.Catalog.others.Goals.{After-unwrap-parts}
 use Rattle.meta_store.proofs.catalog.Catalog.others.Goals as goal
 
