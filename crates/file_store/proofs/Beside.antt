@@ -1,6 +1,5 @@
 -- Blocks written to their places, one after the other, and what that leaves of what recovery finds, and of the other data blocks.
-use Rattle.std.proofs.lemmas.Bool.Decides.{nat_tests}
-use Rattle.file_store.proofs.Names.{◌≡◌, inl, inr, ⊎_elim, ℕ, ◌+◌, ◌*◌, ◌<◌, ◌≤◌, ◌^◌, ◌==◌, true, false, List, length, sym, ◌∙◌, ap, subst, arith, zero, suc, [], ◌∷◌, ◌++◌, map, get_or, take, refl, AllByRecursion, list_any, false≢true, false_from_ne_true, cases_lt, All-from_recursion, part, IsFreed, IsWritten, Keeps, All-has, Layout, IsApart, Catalog, blocks_of, IsCatalog, IsImage, Meta, Backs, held_at, block_of, IsBesideBlocks, places_of, HasBlocks, length-map, map-append, Mapping, mappings_of, Distinct, Ghosts}
+use Rattle.file_store.proofs.Names.{◌≡◌, ⊎_elim, ℕ, ◌+◌, ◌*◌, ◌<◌, ◌≤◌, ◌^◌, ◌==◌, true, false, List, length, sym, ◌∙◌, ap, subst, arith, zero, suc, [], ◌∷◌, ◌++◌, map, get_or, take, refl, AllByRecursion, list_any, false≢true, false_from_ne_true, All-from_recursion, part, IsFreed, IsWritten, Keeps, All-has, Layout, IsApart, Catalog, blocks_of, IsCatalog, IsImage, Meta, Backs, held_at, block_of, IsBesideBlocks, places_of, HasBlocks, length-map, map-append, Mapping, mappings_of, Distinct, Ghosts}
 use Rattle.disk_model.proofs.Parts.{part_part, length-part}
 use Rattle.commit_slots.specs.Places.{layout_of}
 use Rattle.meta_store.specs.Catalogs.{geometry_of}
@@ -19,7 +18,7 @@ pub record IsRoom (l : Layout) (blocks : ℕ) : Type 0 where
 
 pub room : (geometry : ℕ) → IsRoom (layout_of geometry) (geometry_of geometry).blocks
 unfolding layout_of geometry_of
-room geometry = record { len = grind (arith, nat_tests); fits = grind (arith, nat_tests); short = grind (arith, nat_tests) }
+room geometry = grind arith
 
 -- a data block lies on the disk
 pub block_fits : (geometry place : ℕ) → place < (geometry_of geometry).blocks → ((layout_of geometry).blocks + 4096 * place + 4096 ≤ (layout_of geometry).whole) × ((layout_of geometry).whole ≤ 287318016)
@@ -33,13 +32,13 @@ blocks_fit geometry len whole = each-weaker (λ p. p < (geometry_of geometry).bl
 
 -- different blocks are apart
 pub blocks_apart : (base p q : ℕ) → (p ≡ q → ⊥) → IsApart (base + 4096 * p) 4096 (base + 4096 * q) 4096
-blocks_apart base p q other = ⊎_elim (λ (l : p < q). inl (omega arith)) (λ (g : q ≤ p). inr (omega (arith, other))) (cases_lt p q)
+blocks_apart base p q other = grind arith
 
 -- ---- a block among the data blocks
 
 pub block_in : (geometry : ℕ) (c : List ℕ) (p : ℕ) → p < (geometry_of geometry).blocks → part (blocks_in_image geometry c) (4096 * p) 4096 ≡ part c ((layout_of geometry).blocks + 4096 * p) 4096
 unfolding blocks_in_image
-block_in geometry c p h = let r = room geometry in part_part c (layout_of geometry).blocks (layout_of geometry).blocks_len (4096 * p) 4096 (omega arith)
+block_in geometry c p h = grind (arith, room, part_part)
 
 pub length-block : (geometry : ℕ) (c : List ℕ) (p : ℕ) → p < (geometry_of geometry).blocks → length c ≡ (layout_of geometry).whole → length (part (blocks_in_image geometry c) (4096 * p) 4096) ≡ 4096
 length-block geometry c p h whole = ap length (block_in geometry c p h) ∙ length-part c ((layout_of geometry).blocks + 4096 * p) 4096 (omega (arith, (block_fits geometry p h).0))
@@ -52,7 +51,7 @@ apart_of places blocks p none used = false_from_ne_true _ (λ there. false≢tru
 
 module _ (geometry : ℕ) (places : List ℕ) (d c : List ℕ) (beside : IsBesideBlocks (layout_of geometry).blocks places d c) where
   below : IsSameBelow (layout_of geometry).blocks d c
-  below a k h = beside.same a k (each-all (λ p. IsApart a k ((layout_of geometry).blocks + 4096 * p) 4096) (λ p. inl (omega arith)) places)
+  below a k h = grind (arith, each-all)
 
   pub image_beside : (m : Meta) → m.durable.geometry ≡ geometry → IsImage m.fsid m.number m.durable d → IsImage m.fsid m.number m.durable c
   image_beside m same is = image_below geometry m.fsid m.number m.durable d c same beside.size below is
@@ -82,7 +81,7 @@ pub mapped : (bs ps : List ℕ) → length ps ≡ length bs → (map (λ m. m.bl
 mapped [] [] long = (refl, refl)
 mapped [] (p ∷ ps) long = absurd (omega arith)
 mapped (b ∷ bs) [] long = absurd (omega arith)
-mapped (b ∷ bs) (p ∷ ps) long = let rest = mapped bs ps (omega arith) in (ap (λ (xs : List ℕ). b ∷ xs) rest.0, ap (λ (xs : List ℕ). p ∷ xs) rest.1)
+mapped (b ∷ bs) (p ∷ ps) long = grind (arith, mapped bs ps (omega arith))
 
 pub length-mapped : (bs ps : List ℕ) → length ps ≡ length bs → length (mappings_of bs ps) ≡ length bs
 length-mapped bs ps long = sym (length-map (mappings_of bs ps) (λ m. m.block)) ∙ ap length (mapped bs ps long).0
@@ -107,7 +106,7 @@ before (m ∷ ms) (suc k) d apart h = (
 
 -- what a write to one of the places keeps
 pub beside_freed : (base : ℕ) (places : List ℕ) (k : ℕ) → k < length places → (old new : List ℕ) → IsFreed (base + 4096 * get_or places k 0) 4096 old new → IsBesideBlocks base places old new
-beside_freed base places k h old new f = record { size = f.size; same = λ a n all. ⊎_elim (f.below a n) (f.above a n) (each-at (λ p. IsApart a n (base + 4096 * p) 4096) places k 0 h all) }
+beside_freed base places k h old new f = grind (arith, each-at)
 
 -- a block of the body lies there
 abbrev IsThere : ℕ → List ℕ → List ℕ → Mapping → Type 0

@@ -83,12 +83,11 @@ module _ (blocks : List ℕ) where
   -- and so is a body that they are
   pub has_bytes : (size : ℕ) (ps : List (Option ℕ)) (body : List ℕ) → AllByRecursion Whole (present ps) → length ps ≡ blocks_in size → body_at blocks size ps ≡ body → HasBytes size ps body
   unfolding body_at
-  has_bytes size ps body whole count was q r l h =
-      sym (sym (byte-blocks ps (λ i g. full ps whole i) q r (omega arith) l) ∙ sym (get_or-take size (flat_map (block_at blocks) ps) (4096 * q + r) 0 h) ∙ ap (λ b. get_or b (4096 * q + r) 0) was)
+  has_bytes size ps body whole count was q r l h = grind (arith, byte-blocks, full, get_or-take)
 
   pub length-body : (size : ℕ) (ps : List (Option ℕ)) → AllByRecursion Whole (present ps) → length ps ≡ blocks_in size → length (body_at blocks size ps) ≡ size
   unfolding body_at
-  length-body size ps whole count = omega (arith, length-blocks ps (λ q h. full ps whole q), length-take size (flat_map (block_at blocks) ps))
+  length-body size ps whole count = grind (arith, length-blocks, full, length-take)
 
 -- ---- one block of a body
 

@@ -1,5 +1,5 @@
 -- What data blocks hold of files: those whose blocks stay, and one whose touched blocks are written to new places.
-use Rattle.file_store.proofs.Names.{◌≡◌, ⊎_elim, inl, inr, ℕ, zero, suc, ◌+◌, ◌-◌, ◌*◌, ◌/◌, ◌%◌, ◌<◌, ◌≤◌, List, [], ◌∷◌, ◌++◌, length, map, get_or, take, drop, Option, Some, None, Bool, true, eqb, ltb, ◌&&◌, refl, sym, ◌∙◌, ap, subst, arith, if◌then◌else◌, flat_map, list_any, AllByRecursion, cases_lt, cond_both, and_from, lt-ltb, eqb-true, get_or-replicate, get_or_past, places, FileKey, part, find_key, rebody, from_on, blocks_in, met, old_end, touched, size_after, affected_held, Mapping, CatalogFile, Catalog, IsCatalogFile, IsCatalog, geometry_of, present, blocks_of, with_changed, places_fitted, places_set, each-drop, each-found, Rewrite, Write, Resize, Restore, IsWithin, block_at, bytes_at, held_at, effect_of, IsRewrite, remapped, length-fitted, length-places_set}
+use Rattle.file_store.proofs.Names.{◌≡◌, ⊎_elim, inl, inr, ℕ, zero, suc, ◌+◌, ◌-◌, ◌*◌, ◌/◌, ◌<◌, ◌≤◌, List, [], ◌∷◌, ◌++◌, length, map, get_or, take, drop, Option, Some, None, Bool, true, eqb, ltb, ◌&&◌, refl, sym, ◌∙◌, ap, subst, arith, if◌then◌else◌, flat_map, list_any, AllByRecursion, cases_lt, cond_both, and_from, lt-ltb, get_or-replicate, get_or_past, places, FileKey, part, find_key, rebody, from_on, blocks_in, met, old_end, touched, size_after, affected_held, Mapping, CatalogFile, Catalog, IsCatalogFile, IsCatalog, geometry_of, present, blocks_of, with_changed, places_fitted, places_set, each-drop, each-found, Rewrite, Write, Resize, Restore, IsWithin, block_at, bytes_at, held_at, effect_of, IsRewrite, remapped, length-fitted, length-places_set}
 use Rattle.file_store.specs.Bodies.{block_of, body_at}
 use Rattle.file_store.proofs.ByBlocks.{Whole, full, has_bytes, same_body, length-body, length-block, byte-block, at_place, after_set, get_or-fitted, written-beside}
 use Rattle.file_store.proofs.EachOf.{each-weaker, each-parts, each_member}
@@ -15,13 +15,10 @@ Others q blocks = AllByRecursion (λ b. b ≡ q → ⊥) blocks
 
 others_run : (q a n : ℕ) → a ≤ q → Others q (from_on a n) → a + n ≤ q
 others_run q a zero from all = omega arith
-others_run q a (suc n) from all = let differ : a ≡ q → ⊥ = all.0 in let more = others_run q (a + 1) n (omega arith) all.1 in omega arith
+others_run q a (suc n) from all = grind (arith, others_run q (a + 1) n (omega arith) all.1)
 
 others_end : (q size : ℕ) → size / 4096 ≤ q → Others q (old_end size) → blocks_in size ≤ q
-others_end q size from =
-    cond_both (eqb (size % 4096) 0) [] ((size / 4096) ∷ []) (λ bs. Others q bs → blocks_in size ≤ q)
-    (λ whole none. let even : size % 4096 ≡ 0 = eqb-true (size % 4096) 0 whole in omega arith)
-    (λ cut others. let differ : size / 4096 ≡ q → ⊥ = others.0 in omega arith)
+others_end q size from = grind arith
 
 -- a byte that lies in no touched block is as it was, and in an old block or a new one
 beside_touched : (change : Rewrite) (body : List ℕ) (q r : ℕ) → IsRewrite change → r < 4096 → 4096 * q + r < size_after (effect_of change) (length body) → Others q (touched (effect_of change) (length body))
@@ -119,14 +116,14 @@ each_file P (f ∷ fs) all = let sides = each-parts P (present f.places) (blocks
 
 module _ (old new : List ℕ) (c : Catalog) (stays : (p : ℕ) → list_any (λ q. eqb q p) (blocks_of c.files) ≡ true → Stays old new p) where
   each-stays : AllByRecursion (λ f. AllByRecursion (Stays old new) (present f.places)) c.files
-  each-stays = each_file (Stays old new) c.files (each_member (Stays old new) (blocks_of c.files) stays)
+  each-stays = grind (arith, each_file, each_member, stays)
 
   same_bytes : (f : CatalogFile) → AllByRecursion (Stays old new) (present f.places) → SameBytes (bytes_at old) (bytes_at new) f
   unfolding body_at
   same_bytes f there = ap (take f.size) (same_blocks old new f.places there)
 
   all-same : AllByRecursion (SameBytes (bytes_at old) (bytes_at new)) c.files
-  all-same = each-weaker (λ f. AllByRecursion (Stays old new) (present f.places)) (SameBytes (bytes_at old) (bytes_at new)) same_bytes c.files each-stays
+  all-same = grind (arith, each-weaker, same_bytes, each-stays)
 
   -- so does what is held
   pub held-stays : held_at new c ≡ held_at old c

@@ -1,5 +1,5 @@
 -- What is true of each of a list.
-use Rattle.file_store.proofs.Names.{◌≡◌, ◌<◌, ℕ, zero, suc, List, [], ◌∷◌, ◌++◌, length, map, get_or, Some, true, false, eqb, sym, ◌∙◌, subst, arith, AllByRecursion, list_any, false≢true, recursion_from_All, All-from_has, slice_get_within, get_or_from_slice_get}
+use Rattle.file_store.proofs.Names.{◌≡◌, ◌<◌, ℕ, zero, suc, List, [], ◌∷◌, ◌++◌, length, map, get_or, Some, true, false, eqb, subst, arith, AllByRecursion, list_any, recursion_from_All, All-from_has, slice_get_within, get_or_from_slice_get}
 use Rattle.std.specs.List.{slice_get}
 
 module _ {X : Type 0} where
@@ -39,4 +39,4 @@ pub each_member : (P : ℕ → Type 0) (ns : List ℕ) → ((n : ℕ) → list_a
 each_member P ns all = recursion_from_All P ns (All-from_has P ns all)
 
 pub each_other : (n : ℕ) (ns : List ℕ) → list_any (λ m. eqb m n) ns ≡ false → AllByRecursion (λ m. n ≡ m → ⊥) ns
-each_other n ns none = each_member (λ m. n ≡ m → ⊥) ns (λ m there same. false≢true (sym none ∙ subst (λ (k : ℕ). list_any (λ x. eqb x k) ns ≡ true) (sym same) there))
+each_other n ns none = grind (arith, each_member)

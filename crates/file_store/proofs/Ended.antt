@@ -1,7 +1,8 @@
 -- How calls end, by their results.
 use Rattle.file_store.proofs.Names.{◌≡◌, ℕ, false, Option, Some, None, refl, sym, ◌∙◌, ap, subst, FileKey, Effect, Held, affected_held, Store, Proceeds, IsSound, StoresOrKeeps, Ghosts}
 use Rattle.std.specs.Prelude.{Result, Ok, Err, OnOk}
-use Rattle.std.specs.Result.{IsErrOf}
+use Rattle.std.specs.Result.{IsErrOf, IsErrAnd}
+use Rattle.std.proofs.lemmas.Result.{err_from_is_err_and}
 use Rattle.disk_model.specs.Calls.{Counts}
 use Rattle.hsm_types.specs.declared.dm.DmRefusal.{DmRefusal}
 use Rattle.meta_store.specs.declared.refusal.MetaRefusal.{MetaRefusal}
@@ -9,7 +10,7 @@ use Rattle.meta_store.specs.declared.refusal.MetaRefusal.TheVariants.{Part, Disk
 use Rattle.file_store.specs.declared.refusal.StoreRefusal.{StoreRefusal}
 use Rattle.file_store.specs.declared.refusal.StoreRefusal.TheVariants as store
 use Rattle.file_store.specs.Changes.{Ends, Changes}
-use Rattle.file_store.specs.Refusals.{is_disk, refused_as}
+use Rattle.file_store.specs.Refusals.{is_disk, refused_as, no_memory}
 use Rattle.file_store.proofs.Durable.{Parts, store_of, kept_proceeds, proceeds_on}
 
 pub refused_as_is : (why : MetaRefusal) → ((part : DmRefusal) → refused_as why ≡ store.Part part → why ≡ Part part) × (refused_as why ≡ store.Memory → why ≡ Memory) × (refused_as why ≡ store.Disk → why ≡ Disk)
@@ -66,6 +67,14 @@ unbegun g s n refusal why works proceeds whole part = record {
   faults = record { closes = λ is. absurd (whole cc); counts = record { rose = λ is. absurd (whole cc); quiet = λ other. refl } };
   proceeds = proceeds;
 }
+
+pub refused_first : {D T : Type 0} {g : Ghosts D} {s : Store D} {n : ℕ} {refusal : Option DmRefusal} → (s.failed ≡ false → (n : ℕ) → Proceeds g s n s) → s.failed ≡ false → (r : Result T StoreRefusal) (why : StoreRefusal) → r ≡ Err why → (why ≡ store.Disk → ⊥)
+    → ((part : DmRefusal) → why ≡ store.Part part → refusal ≡ Some part) → Ends g s n refusal r s
+refused_first {D} {T} {g} {s} {n} {refusal} idle works r why at whole part = rw at (unbegun g s n refusal why works (idle works n) whole part)
+
+-- there was no memory
+pub lacking : {D T : Type 0} {g : Ghosts D} {s : Store D} {n : ℕ} {refusal : Option DmRefusal} → (s.failed ≡ false → (n : ℕ) → Proceeds g s n s) → s.failed ≡ false → (r : Result T StoreRefusal) → IsErrAnd r (λ why. why ≡ no_memory) → Ends g s n refusal r s
+lacking idle works r is = let p = err_from_is_err_and r is in refused_first idle works r no_memory (p.1 ∙ ap (λ e. Err e) p.2) (λ is. cc) (λ part is. absurd cc)
 
 -- what refuses it, in other words
 pub ends_as : {D T : Type 0} {g : Ghosts D} {old new : Store D} {n : ℕ} {own refusal : Option DmRefusal} {r : Result T StoreRefusal} → own ≡ refusal → Ends g old n own r new → Ends g old n refusal r new

@@ -1,14 +1,11 @@
 -- A catalog's files as they are held, however their bytes are found: what the catalog tells of them, their keys, one that is found, one more, one less and one changed.
-use Rattle.file_store.proofs.Names.{map-find, map-put, map-drop, ◌≡◌, ℕ, ◌<◌, ◌≤◌, ◌+◌, List, [], ◌∷◌, length, map, true, cond, Option, Some, None, refl, sym, ◌∙◌, ap, subst, arith, is_some, IsSome, option_map, unwrap_or, ◌^◌, max, AllByRecursion, fold, sum, sum_by, length-map, FileKey, find_key, same_key, cond_both, change_key, put_key, drop_key, Listed, greatest, named, free_inode, FileState, Held, used, used_by, next_key, affected_held, CatalogFile, Catalog, IsCatalog, geometry_of, present, blocks_of, attribute_total, names_in, kept_at, others_total, key_on, IsNewFile, total-drop, used-sum, name_of, each-found, files-few, blocks-few, file_by, told_of, told_held, Shows, IsLawful, Make, held_after, sum-map, Kept, Within, Makes, entry_of, next_listed, free-ge, free-le, free-absent}
+use Rattle.file_store.proofs.Names.{map-find, map-put, map-drop, ◌≡◌, ℕ, ◌<◌, ◌≤◌, ◌+◌, List, [], ◌∷◌, length, map, true, cond, Option, Some, None, refl, sym, ◌∙◌, ap, arith, is_some, IsSome, option_map, unwrap_or, ◌^◌, AllByRecursion, fold, sum, sum_by, length-map, FileKey, find_key, change_key, put_key, drop_key, Listed, greatest, named, free_inode, FileState, Held, used, used_by, next_key, affected_held, CatalogFile, Catalog, IsCatalog, geometry_of, present, blocks_of, names_in, kept_at, others_total, key_on, with_changed, IsNewFile, total-drop, used-sum, name_of, each-found, files-few, blocks-few, file_by, told_of, told_held, Shows, IsLawful, Make, held_after, sum-map, Within, Makes, entry_of, next_listed, free-ge, free-le, free-absent}
 use Rattle.std.proofs.lemmas.Simd.{map-map}
-use Rattle.hsm_types.specs.Attributes.{bytes_of_attributes}
-use Rattle.plain_model.specs.Services.{kept_of, other_attributes, attribute_total as held_total}
+use Rattle.plain_model.specs.Services.{kept_of, other_attributes}
 use Rattle.plain_model.specs.State.{names_of}
-use Rattle.hsm_types.specs.Segments.{segment_len}
-use Rattle.hsm_types.specs.Stubs.{FitsFile}
-use Rattle.meta_store.specs.Catalogs.{IsCatalogFile, IsCatalogStub, HasLengths, AreLengths, stub_total}
+use Rattle.meta_store.specs.Catalogs.{IsCatalogFile, HasLengths, AreLengths}
 use Rattle.meta_store.specs.Records.{others_stubs}
-use Rattle.plain_model.specs.Services.{other_stubs, stub_total as held_stubs}
+use Rattle.plain_model.specs.Services.{other_stubs}
 use Rattle.file_store.specs.Bodies.{held_by}
 use Rattle.file_store.specs.Stores.{IsStubbed, row_of, row_held}
 use Rattle.file_store.proofs.EachOf.{each-both}
@@ -53,7 +50,7 @@ module _ (B : CatalogFile → List ℕ) where
   mapped-by f = omega (arith, present-flags 0 f.places)
 
   pub used-held : (c : Catalog) → used (held_by B c).files ≡ length (blocks_of c.files)
-  used-held c = sum-held used_by c ∙ ap (λ (m : CatalogFile → ℕ). sum_by m c.files) (λ i f. mapped-by f i) ∙ sym (used-sum c.files)
+  used-held c = grind (arith, sum-held, mapped-by, used-sum)
 
   -- ---- a file that is found
 
@@ -66,7 +63,7 @@ module _ (B : CatalogFile → List ℕ) where
   some_by (Some f) live = (f, refl)
 
   pub live-by : (k : FileKey) (c : Catalog) → IsSome (find_key (λ f. f.key) k (held_by B c).files) → (f : CatalogFile) × (find_key (λ x. x.key) k c.files ≡ Some f)
-  live-by k c live = some_by (find_key (λ f. f.key) k c.files) (subst (λ (o : Option FileState). IsSome o) (find-held k c) live)
+  live-by k c live = grind (arith, some_by, find-held)
 
   -- ---- what is kept with a file
 
@@ -78,20 +75,11 @@ module _ (B : CatalogFile → List ℕ) where
 
   -- what the attributes of the other files count
   pub others-held : (c : Catalog) (k : FileKey) (f : CatalogFile) → find_key (λ x. x.key) k c.files ≡ Some f → other_attributes k (held_by B c).files ≡ others_total k c
-  others-held c k f found =
-      let all : held_total (held_by B c).files ≡ attribute_total c.files = sum-held (λ (s : FileState). bytes_of_attributes s.kept.attributes) c in
-      let kept : kept_of k (held_by B c).files ≡ f.kept = kept-held c k ∙ rw found refl in
-      let own = ap (λ (x : Kept). bytes_of_attributes x.attributes) kept in
-      let rest = total-drop k f c.files found in
-      omega arith
+  others-held c k f found = grind (arith, sum-held, kept-held, total-drop)
 
   -- how many stub entries they have
   pub stubs-others : (c : Catalog) (k : FileKey) (f : CatalogFile) → find_key (λ x. x.key) k c.files ≡ Some f → other_stubs k (held_by B c).files ≡ others_stubs k c
-  stubs-others c k f found =
-      let all : held_stubs (held_by B c).files ≡ stub_total c.files = sum-held (λ (s : FileState). length s.kept.stubs) c in
-      let own = ap (λ (x : Kept). length x.stubs) (kept-found c k f found) in
-      let rest = sum-drop (λ (g : CatalogFile). length g.kept.stubs) k f c.files found in
-      omega arith
+  stubs-others c k f found = grind (arith, sum-held, kept-found, sum-drop)
 
   -- ---- what is true of them all
 
@@ -108,20 +96,10 @@ module _ (B : CatalogFile → List ℕ) where
   rows-held c sizes = rows c.files sizes
 
   pub shows : (c : Catalog) → AllByRecursion (λ f. length (B f) ≡ f.size) c.files → Shows c (held_by B c)
-  shows c sizes = record {
-    next = sym (next-held c);
-    names = sym (names-held c);
-    found = λ k. told-found (find_key (λ f. f.key) k c.files) (λ f found. each-found (λ g. length (B g) ≡ g.size) k f c.files sizes found) ∙ ap (option_map told_held) (sym (find-held k c));
-    rows = rows-held c sizes;
-    used = sym (used-held c);
-  }
+  shows c sizes = grind (arith, next-held, names-held, told-found, each-found, option_map, find-held, rows, rows-held, used-held)
 
   stubbed : (blocks : ℕ) (f : CatalogFile) → IsCatalogFile blocks f → HasLengths f → length (B f) ≡ f.size → IsStubbed (file_by B f)
-  stubbed blocks f is has size =
-      rw size record {
-        ascend = is.ascend;
-        each = each-both (IsCatalogStub f) (λ x. x.1.entry.print.len ≡ segment_len f.size x.0) (FitsFile f.size f.kept.regions) (λ x it len. record { start = it.fits.start; len = len; volume = it.fits.volume; covered = it.fits.covered }) f.kept.stubs is.stubs has;
-      }
+  stubbed blocks f is has size = grind (arith, each-both)
 
   all-stubbed : (blocks : ℕ) (fs : List CatalogFile) → AllByRecursion (IsCatalogFile blocks) fs → AllByRecursion HasLengths fs → AllByRecursion (λ f. length (B f) ≡ f.size) fs → AllByRecursion IsStubbed (map (file_by B) fs)
   all-stubbed blocks [] are has sizes = tt
@@ -132,13 +110,7 @@ module _ (B : CatalogFile → List ℕ) where
   stubs-held c is has sizes = all-stubbed (geometry_of c.geometry).blocks c.files is.each has sizes
 
   pub held_lawful : (c : Catalog) → IsCatalog c → AreLengths c → AllByRecursion (λ f. length (B f) ≡ f.size) c.files → IsLawful (geometry_of c.geometry).files (held_by B c)
-  held_lawful c is has sizes = record {
-    table = rw (names-held c, next-held c) is.table;
-    opening = rw (names-held c, next-held c) (greatest-below (geometry_of c.geometry).files c.next _ is.first is.table.within);
-    next = rw (next-held c) is.next;
-    few = rw (length-held c) (files-few c is);
-    stubs = stubs-held c is has sizes;
-  }
+  held_lawful c is has sizes = grind (arith, names-held, next-held, greatest-below, length-held, files-few, stubs-held)
 
   -- no more blocks are used than there are
   pub used_few : (c : Catalog) → IsCatalog c → used (held_by B c).files ≤ (geometry_of c.geometry).blocks
@@ -147,7 +119,28 @@ module _ (B : CatalogFile → List ℕ) where
 -- a change of a file to itself
 pub change-none : {F : Type 0} (key : F → FileKey) (k : FileKey) (fs : List F) → change_key key k (λ f. f) fs ≡ fs
 change-none key k [] = refl
-change-none key k (f ∷ fs) = cond_both (same_key (key f) k) (f ∷ fs) (f ∷ change_key key k (λ x. x) fs) (λ gs. gs ≡ f ∷ fs) (λ same. refl) (λ other. ap (λ gs. f ∷ gs) (change-none key k fs))
+change-none key k (f ∷ fs) = grind (arith, change-none key k fs)
+
+-- one that goes by what it makes of the file that is found
+pub change-found : {F : Type 0} (key : F → FileKey) (k : FileKey) (a b : F → F) (f : F) (fs : List F) → find_key key k fs ≡ Some f → a f ≡ b f → change_key key k a fs ≡ change_key key k b fs
+change-found key k a b f [] found same = refl
+change-found key k a b f (x ∷ fs) found same = grind (arith, same, change-found key k a b f fs)
+
+change-twice : (k : FileKey) (f g h : CatalogFile → CatalogFile) (fs : List CatalogFile) → ((x : CatalogFile) → (f x).key ≡ x.key) → ((x : CatalogFile) → g (f x) ≡ h x)
+    → change_key (λ x. x.key) k g (change_key (λ x. x.key) k f fs) ≡ change_key (λ x. x.key) k h fs
+change-twice k f g h [] key is = refl
+change-twice k f g h (x ∷ fs) key is = grind (arith, key x, is x, change-twice k f g h fs key is)
+
+-- the same of a catalog
+module _ (k : FileKey) where
+  pub changed-none : (c : Catalog) → with_changed k (λ f. f) c ≡ c
+  changed-none c = grind (arith, change-none)
+
+  pub changed-found : (a b : CatalogFile → CatalogFile) (f : CatalogFile) (c : Catalog) → find_key (λ x. x.key) k c.files ≡ Some f → a f ≡ b f → with_changed k a c ≡ with_changed k b c
+  changed-found a b f c found same = grind (arith, change-found)
+
+  pub changed-twice : (f g h : CatalogFile → CatalogFile) (c : Catalog) → ((x : CatalogFile) → (f x).key ≡ x.key) → ((x : CatalogFile) → g (f x) ≡ h x) → with_changed k g (with_changed k f c) ≡ with_changed k h c
+  changed-twice f g h c key is = grind (arith, change-twice)
 
 -- ---- edits, after which the bytes are found otherwise, but not those of the other files
 
@@ -195,29 +188,15 @@ abbrev pub key_next : Catalog → FileKey
 key_next c = record { ino = free_inode 1 (names_in c.files); igen = c.next }
 
 pub next-listed : (limit : ℕ) (c : Catalog) (k : FileKey) → k ≡ next_listed (record { limit = limit; next = c.next; files = map (λ f. entry_of f.key f.name f.size) c.files }) → k ≡ key_next c
-next-listed limit c k is = is ∙ ap (λ (ls : List Listed). record { ino = free_inode 1 ls; igen = c.next }) (map-map _ (λ (f : CatalogFile). entry_of f.key f.name f.size) c.files)
+next-listed limit c k is = grind (arith, map-map)
 
 module _ (B : CatalogFile → List ℕ) (c : Catalog) where
   pub next-key_held : key_next c ≡ next_key (held_by B c)
   next-key_held = rw (names-held B c, next-held B c) refl
 
   pub new-file : (name : List ℕ) → IsCatalog c → is_name name ≡ true → named name (names_of (held_by B c).files) ≡ None → (length (held_by B c).files ≡ (geometry_of c.geometry).files → ⊥) → c.next < 2 ^ 62 → IsNewFile (key_next c) name c
-  new-file name is lawful free left early =
-      let few = files-few c is in
-      let count : length (names_in c.files) ≡ length c.files = length-map c.files _ in
-      let most = free-le 1 (names_in c.files) in
-      record {
-        lawful = lawful;
-        free = rw (names-held B c) at free;
-        low = free-ge 1 (names_in c.files);
-        high = omega (arith, rw (length-held B c) at left);
-        inode = free-absent 1 (names_in c.files) is.table.ascend;
-        generation = omega arith;
-        last = early;
-      }
+  new-file name is lawful free left early = grind (arith, files-few, length-map, free-le, names-held, free-ge, length-held, free-absent)
 
 -- what is held after a new file
 pub held-made : (h : Held) (k : FileKey) (name : List ℕ) → k ≡ next_key h → held_after k (Make k name) h ≡ record { files = affected_held (Makes name) (next_key h) h.files; next = h.next + 1 }
-held-made h k name is =
-    let next : max h.next (h.next + 1) ≡ h.next + 1 = omega arith in
-    rw (is, next) refl
+held-made h k name is = grind arith

@@ -1,10 +1,8 @@
 -- Bodies that are made segment by segment, read block by block, and put by inode, one after the other in the order of the files.
-use Rattle.file_store.proofs.Names.{Bool, false, if◌then◌else◌, replicate, ◌/◌, refl, true, false≢true, ◌≡◌, ◌⊎◌, inl, inr, ⊎_elim, ℕ, ◌+◌, ◌-◌, ◌*◌, ◌<◌, ◌≤◌, List, [], length, get_or, take, Option, Some, None, sym, ◌∙◌, ap, subst, arith, zero, suc, ◌∷◌, ◌++◌, map, set, get_or-set_same, get_or-set_other, AllByRecursion, cases_lt, cases_eq, places, length-replicate, min, get_or-replicate, get_or-take, take_more, length-map, written, blocks_in, part, sames_on, layout_of, geometry_of, present, CatalogFile, Catalog, IsCatalog, IsCatalogFile, names_of, blocks_in_image, OnlyReads, block_at, body_at, body_with, HeldBody, no_body, is_away, slice_get_within, get_or_from_slice_get, Table, entry_of, Ghosts}
+use Rattle.file_store.proofs.Names.{Bool, false, if◌then◌else◌, replicate, ◌/◌, refl, true, false≢true, ◌≡◌, ◌⊎◌, inl, inr, ⊎_elim, ℕ, ◌+◌, ◌-◌, ◌*◌, ◌<◌, ◌≤◌, List, [], length, get_or, take, Option, Some, None, sym, ◌∙◌, ap, subst, arith, zero, suc, ◌∷◌, ◌++◌, map, set, get_or-set_same, get_or-set_other, AllByRecursion, cases_lt, cases_eq, places, length-replicate, min, get_or-replicate, get_or-take, take_more, length-map, written, blocks_in, part, layout_of, geometry_of, present, CatalogFile, Catalog, IsCatalog, IsCatalogFile, names_of, blocks_in_image, OnlyReads, block_at, body_at, body_with, HeldBody, is_away, slice_get_within, get_or_from_slice_get, Table, entry_of, Ghosts}
 use Rattle.std.specs.List.{slice_get}
 use Rattle.std.specs.Prelude.{◌==◌, ◌&&◌, nat_lt, IfSome}
-use Rattle.std.proofs.Math.Bool.{and-true, and-false}
-use Rattle.std.proofs.lemmas.Bool.{lt-ltb, le-ltb, eq-eqb, ne_eqb}
-use Rattle.std.proofs.lemmas.Bool.Decides.{nat_tests}
+use Rattle.std.proofs.lemmas.Bool.{lt-ltb}
 use Rattle.std.proofs.lemmas.List.{replicate-append-replicate}
 use Rattle.hsm_types.specs.Stubs.{Stubs, stub_at, is_offline, offline_at}
 use Rattle.hsm_types.specs.declared.stubs.Stub.{Stub as StubOf}
@@ -19,7 +17,7 @@ use Rattle.inode_table.specs.Listing.{Ascend}
 
 -- one read after another
 pub reads_on : {D : Type 0} (g : Ghosts D) (a b c : D) → OnlyReads g a b → OnlyReads g b c → OnlyReads g a c
-reads_on g a b c first second = (sames_on g a b c first.0 second.0, (λ d gives. first.1.0 d (second.1.0 d gives), λ d gives. second.1.1 d (first.1.1 d gives)))
+reads_on g a b c first second = grind arith
 
 pub present-at : (P : ℕ → Type 0) (ps : List (Option ℕ)) (i p : ℕ) → AllByRecursion P (present ps) → get_or ps i None ≡ Some p → P p
 present-at P ps i p all at = at_place P (λ o. (q : ℕ) → o ≡ Some q → P q) (λ q none. absurd cc) (λ n here q is. let it : n ≡ q = cc in subst P it here) ps i all p at
@@ -63,7 +61,7 @@ all-filled geometry size c ps body whole within count long has =
 
 -- the segments of a lawful file's entries begin within it
 pub stub-starts : (blocks : ℕ) (f : CatalogFile) → IsCatalogFile blocks f → AllByRecursion (λ x. 65536 * x.0 < f.size) f.kept.stubs
-stub-starts blocks f is = each-weaker (IsCatalogStub f) (λ x. 65536 * x.0 < f.size) (λ x lawful. lawful.fits.start) f.kept.stubs is.stubs
+stub-starts blocks f is = grind (arith, each-weaker)
 
 pub offline-some : (o : Option StubOf) → is_offline o ≡ true → (stub : StubOf) × (o ≡ Some stub) × (stub.offline ≡ true)
 offline-some None off = absurd (false≢true off)
@@ -79,27 +77,18 @@ entry-has P j stubs all = by (stub_at j stubs) (λ stub is. stub-each P stubs j 
 
 -- what is offline begins within the file
 pub offline-start : (size j : ℕ) (stubs : Stubs) → AllByRecursion (λ x. 65536 * x.0 < size) stubs → offline_at stubs j ≡ true → 65536 * j < size
-offline-start size j stubs starts off = let at = offline-some (stub_at j stubs) off in stub-each (λ x. 65536 * x.0 < size) stubs j at.0 starts at.1
+offline-start size j stubs starts off = grind (arith, offline-some, stub-each)
 
 -- ---- segments that come one after the other, in memory or away
 
 -- one more of them
 pub shaped-more : (stubs : Stubs) (old new : HeldBody) (n i : ℕ) → n ≡ i → ((j : ℕ) → is_away old j ≡ (offline_at stubs j && nat_lt j i)) → ((j : ℕ) → is_away new j ≡ (if j == n then offline_at stubs i else is_away old j))
     → (j : ℕ) → is_away new j ≡ (offline_at stubs j && nat_lt j (i + 1))
-shaped-more stubs old new n i at was is j =
-    is j
-    ∙ ⊎_elim
-    (λ (q : j ≡ n).
-    rw (q, eq-eqb n n refl) (ap (offline_at stubs) (sym at) ∙ sym (rw (lt-ltb n (i + 1) (omega arith)) (and-true (offline_at stubs n)))))
-    (λ (q : j ≡ n → ⊥). rw (ne_eqb j n q) (was j ∙ ap (λ (b : Bool). offline_at stubs j && b) (grind (arith, nat_tests))))
-    (cases_eq j n)
+shaped-more stubs old new n i at was is j = grind arith
 
 -- of so many zeros
 pub zeros-more : (size i end : ℕ) (old new : List ℕ) → 65536 * i < size → end ≡ min size (65536 * (i + 1)) → old ≡ replicate (min size (65536 * i)) 0 → new ≡ old ++ replicate (end - length old) 0 → new ≡ replicate (min size (65536 * (i + 1))) 0
-zeros-more size i end old new more at was is =
-    let count : length old ≡ 65536 * i = omega (arith, ap length was, length-replicate {A = ℕ} (min size (65536 * i)) 0) in
-    let zeros : ℕ → List ℕ = λ n. replicate n 0 in
-    is ∙ (ap (λ (b : List ℕ). b ++ zeros (end - length old)) was ∙ (replicate-append-replicate (min size (65536 * i)) (end - length old) 0 ∙ ap zeros (omega arith)))
+zeros-more size i end old new more at was is = grind (arith, length-replicate, replicate-append-replicate)
 
 -- all of them
 pub shaped-all : (stubs : Stubs) (size i j : ℕ) → AllByRecursion (λ x. 65536 * x.0 < size) stubs → size ≤ 65536 * i → (offline_at stubs j && nat_lt j i) ≡ offline_at stubs j
@@ -108,10 +97,6 @@ shaped-all stubs size i j starts end = by (offline_at stubs j) (λ off. lt-ltb j
     by : (b : Bool) → (b ≡ true → nat_lt j i ≡ true) → (b && nat_lt j i) ≡ b
     by true within = within refl
     by false within = refl
-
--- none yet
-pub shaped-none : (b : Bool) (j : ℕ) → false ≡ (b && nat_lt j 0)
-shaped-none b j = sym (rw (le-ltb j 0 (omega arith)) (and-false b))
 
 -- a segment that is resized with all before
 pub within-all : (away : Bool) (j size : ℕ) → (away ≡ true → 65536 * j < size) → (away && nat_lt (65536 * j) size) ≡ away
@@ -128,7 +113,7 @@ offline-holes blocks f is i off =
 
 -- the table of a catalog has as many names
 pub listed-count : (n : ℕ) (limit : ℕ) (c : Catalog) (t : Table) → t ≡ record { limit = limit; next = c.next; files = map (λ f. entry_of f.key f.name f.size) c.files } → n ≡ length t.files → n ≡ length c.files
-listed-count n limit c t is count = count ∙ ap (λ (x : Table). length x.files) is ∙ length-map c.files (λ f. entry_of f.key f.name f.size)
+listed-count n limit c t is count = grind (arith, length-map)
 
 -- the inodes of these files are from 1 on and below that one
 abbrev pub AreBelow : ℕ → List CatalogFile → Type 0
@@ -162,10 +147,4 @@ next-file c i f is at = record {
 -- What is true of each file and its body stays so, since the bodies of lower inodes stay, and is true of one file more.
 pub each-more : (P : CatalogFile → HeldBody → Type 0) (c : Catalog) (i : ℕ) (f : CatalogFile) (bodies : List HeldBody) (body : HeldBody) → IsNext c i f → length bodies ≡ (geometry_of c.geometry).files → P f body → AllByRecursion (λ g. P g (body_with bodies g)) (take i c.files)
     → AllByRecursion (λ g. P g (body_with (set bodies (f.key.ino - 1) body) g)) (take (i + 1) c.files)
-each-more P c i f bodies body is count here are =
-    let new = set bodies (f.key.ino - 1) body in
-    let Q : CatalogFile → Type 0 = λ g. P g (body_with new g) in
-    let there : get_or new (f.key.ino - 1) no_body ≡ body = get_or-set_same bodies (f.key.ino - 1) body no_body (omega arith) in
-    let stay : (g : CatalogFile) → (1 ≤ g.key.ino) × (g.key.ino < f.key.ino) → P g (body_with bodies g) → Q g =
-    λ g below p. let from = below.0 in let to = below.1 in subst (λ (b : HeldBody). P g b) (sym (get_or-set_other bodies (f.key.ino - 1) (g.key.ino - 1) body no_body (λ same. absurd (omega arith)))) p in
-    subst (λ (fs : List CatalogFile). AllByRecursion Q fs) (sym is.more) (each-join Q (take i c.files) (f ∷ []) (each-both _ _ Q stay (take i c.files) is.before are) (subst (λ (b : HeldBody). P f b) (sym there) here, tt))
+each-more P c i f bodies body is count here are = grind (arith, get_or-set_same, get_or-set_other, each-join, each-both)

@@ -1,5 +1,5 @@
 -- The marks of the blocks that files use: places that may be taken, and what is left where a file frees blocks.
-use Rattle.file_store.proofs.Names.{Stub, Rewrite, effect_of, size_after, places, ◌≡◌, ℕ, ◌+◌, ◌<◌, ◌≤◌, List, [], ◌∷◌, ◌++◌, length, take, drop, set, get_or, Option, Some, None, Bool, true, false, eqb, ltb, refl, sym, ◌∙◌, ap, subst, arith, length-set, get_or-set_other, replicate, AllByRecursion, list_any, sum_by, false≢true, false_from_ne_true, length-replicate, All-from_recursion, All-weaker, recursion_from_All, FileKey, find_key, change_key, put_key, drop_key, blocks_in, Space, free, marked, unmarked, All-has, Ascend, Ascend-low, Record, Make, Drop, Size, Map, CatalogFile, Catalog, IsCatalogFile, IsCatalog, geometry_of, present, blocks_of, file_after, inode_of, key_on, after, CanStand, places_fitted, places_set, with_changed, uses_of, uses-sum, sum-put, sum-drop, sum-change, blocks-change, each-found, blocks-within, IsBodiless, mappings_of, remapped, places_under, freed_by, marks_of, sum_by-cons, sum_by-set, Distinct, IsFree, length-marked, others_are_free, taken_are_free, take_adds_others, marks_are_members, marks_join, releases-leave, uses, uses-append, distinct-uses, empty_file, length-fitted, present-fitted}
+use Rattle.file_store.proofs.Names.{Stub, Rewrite, effect_of, size_after, places, ◌≡◌, ℕ, ◌+◌, ◌<◌, ◌≤◌, List, [], ◌∷◌, ◌++◌, length, take, drop, set, get_or, Option, Some, None, Bool, true, false, eqb, ltb, refl, sym, ◌∙◌, ap, subst, arith, length-set, get_or-set_other, replicate, AllByRecursion, list_any, sum_by, false≢true, false_from_ne_true, length-replicate, All-from_recursion, All-weaker, recursion_from_All, FileKey, find_key, change_key, blocks_in, Space, free, marked, unmarked, All-has, Ascend, Ascend-low, Record, Make, Drop, Size, Map, CatalogFile, Catalog, IsCatalog, geometry_of, present, blocks_of, after, CanStand, places_fitted, places_set, with_changed, uses_of, uses-sum, sum-put, sum-drop, sum-change, blocks-change, each-found, blocks-within, IsBodiless, mappings_of, remapped, places_under, freed_by, marks_of, sum_by-cons, sum_by-set, Distinct, IsFree, length-marked, others_are_free, taken_are_free, take_adds_others, marks_are_members, marks_join, releases-leave, uses, uses-append, distinct-uses, empty_file, length-fitted, present-fitted}
 use Rattle.std.specs.List.{All}
 use Rattle.std.proofs.lemmas.Bool.Decides.{nat_tests}
 use Rattle.file_store.specs.Effects.{IsFreed}
@@ -12,7 +12,7 @@ abbrev pub NoneOf : List ℕ → List ℕ → Type 0
 NoneOf places blocks = AllByRecursion (λ p. list_any (λ b. eqb b p) blocks ≡ false) places
 
 pub length-marks : (c : Catalog) → length (marks_of c) ≡ (geometry_of c.geometry).blocks
-length-marks c = length-marked (blocks_of c.files) (replicate (geometry_of c.geometry).blocks false) ∙ length-replicate (geometry_of c.geometry).blocks false
+length-marks c = grind (arith, length-marked, length-replicate)
 
 -- ---- blocks that are taken
 
@@ -32,20 +32,18 @@ module _ (c : Catalog) (is : IsCatalog c) where
   total = (geometry_of c.geometry).blocks
 
   pub all-within : All (λ b. b < total) (blocks_of c.files)
-  all-within = All-from_recursion (λ b. b < total) (blocks_of c.files) (blocks-within total c.files is.each)
+  all-within = grind (arith, All-from_recursion, blocks-within)
 
   pub used-within : (b : ℕ) → list_any (λ m. eqb m b) (blocks_of c.files) ≡ true → b < total
   used-within b used = All-has (λ m. m < total) (blocks_of c.files) b all-within used
 
   -- each block that is used has a mark
   pub marks_there : AllByRecursion (λ b. get_or (marks_of c) b false ≡ true) (blocks_of c.files)
-  marks_there = each_member _ (blocks_of c.files) (λ b used. marks_are_members total (blocks_of c.files) b (used-within b used) ∙ used)
+  marks_there = grind (arith, each_member, marks_are_members, used-within)
 
   -- where both maps have just these, all others are free
   pub others_free : (space : Space) → space.current ≡ marks_of c → space.durable ≡ space.current → length (free space) + length (blocks_of c.files) ≡ total
-  others_free space marks same =
-      let is_space : space ≡ record { current = marks_of c; durable = marks_of c } = rw (same, marks) refl in
-      rw is_space (others_are_free total (blocks_of c.files) is.distinct all-within)
+  others_free space marks same = grind (arith, others_are_free, all-within)
 
   pub are_places : (d : Catalog) (space : Space) (n : ℕ) → space.current ≡ marks_of c → AllByRecursion (λ b. get_or space.durable b false ≡ true) (blocks_of d.files) → ArePlaces c d (take n (free space))
   are_places d space n marks marked =
@@ -82,31 +80,21 @@ geometry-after r c = refl
 -- by a record that concerns no bytes of a file that stays
 module _ (k : FileKey) (c : Catalog) (lawful : IsCatalog c) (freed : List ℕ) where
   uses-freed : (r : Record) → IsBodiless k r c → CanStand r c → IsFreed k r c freed → (n : ℕ) → uses n (blocks_of c.files) ≡ uses n freed + uses n (blocks_of (after r c).files)
-  uses-freed (Make key name) is stands free n =
-      let put : List CatalogFile = put_key (λ f. f.key) (empty_file key name) c.files in
-      omega (arith, ap (uses n) free, uses-sum n c.files, uses-sum n put, sum-put (uses_of n) (empty_file key name) c.files)
-  uses-freed (Drop ino) is stands free n =
-      let j : FileKey = key_on ino c in
-      omega (arith, ap (uses n) (free stands.0 (rw is at stands.1)), uses-sum n c.files, uses-sum n (drop_key (λ f. f.key) j c.files), sum-drop (uses_of n) j stands.0 c.files stands.1)
+  uses-freed (Make key name) is stands free n = grind (arith, empty_file, uses-sum, sum-put, uses_of)
+  uses-freed (Drop ino) is stands free n = grind (arith, uses-sum, sum-drop, uses_of)
   uses-freed (Size ino size) is stands free n = absurd is
   uses-freed (Map ino block places) is stands free n = absurd is
   uses-freed (Stub ino j None) is stands free n = absurd is
-  uses-freed (Stub ino j (Some stub)) is stands free n =
-      let at : FileKey = key_on ino c in
-      let seal = is.1 stands.0 (ap (λ (i : FileKey). find_key (λ x. x.key) i c.files) (sym is.0) ∙ stands.1) in
-      rw (free, blocks-change at (file_after (Stub ino j (Some stub))) c.files (λ f. seal-places ino j stub f seal.stays)) (omega arith)
-  uses-freed r is stands free n = rw (free, blocks-change (key_on (inode_of r) c) (file_after r) c.files (λ f. refl)) (omega arith)
+  uses-freed (Stub ino j (Some stub)) is stands free n = grind (arith, blocks-change, seal-places)
+  uses-freed r is stands free n = grind (arith, blocks-change)
 
   -- the marks that are left are those of the catalog after it
   pub marks-after : (r : Record) → IsBodiless k r c → CanStand r c → IsFreed k r c freed → unmarked freed (marks_of c) ≡ marks_of (after r c)
-  marks-after r is stands free =
-      rw (geometry-after r c) (marks-left (geometry_of c.geometry).blocks (blocks_of c.files) freed (blocks_of (after r c).files) (distinct-uses (blocks_of c.files) lawful.distinct) (uses-freed r is stands free))
+  marks-after r is stands free = grind (arith, geometry-after, marks-left, distinct-uses, uses-freed)
 
   -- they are blocks of the disk
   pub freed-within : (r : Record) → IsBodiless k r c → CanStand r c → IsFreed k r c freed → All (λ b. b < length (marks_of c)) freed
-  freed-within (Drop ino) is stands free =
-      let found = rw is at stands.1 in
-      rw (free stands.0 found, length-marks c) (All-from_recursion (λ b. b < (geometry_of c.geometry).blocks) (present stands.0.places) (each-found (IsCatalogFile (geometry_of c.geometry).blocks) k stands.0 c.files lawful.each found).within)
+  freed-within (Drop ino) is stands free = grind (arith, length-marks, All-from_recursion, each-found)
   freed-within r is stands free = rw free (All-from_recursion (λ b. b < length (marks_of c)) [] tt)
 
 -- ---- blocks of a file at new places: each number stands as often in the new blocks and the freed ones together as in the old ones and the new places
@@ -122,9 +110,7 @@ present-sum n (Some at ∷ ps) = omega (arith, present-sum n ps, sum_by-cons (is
 
 under-set : (i : ℕ) (v : Option ℕ) (bs : List ℕ) (ps : List (Option ℕ)) → Ascend (i + 1) bs → places_under bs (set ps i v) ≡ places_under bs ps
 under-set i v [] ps a = refl
-under-set i v (b ∷ bs) ps a =
-    let low = a.0 in
-    rw (get_or-set_other ps i b v None (λ e. absurd (omega arith)), under-set i v bs ps (Ascend-low (i + 1) (b + 1) bs (omega arith) a.1)) refl
+under-set i v (b ∷ bs) ps a = grind (arith, get_or-set_other, Ascend-low, under-set i v bs ps (Ascend-low (i + 1) (b + 1) bs (omega arith) a.1))
 
 moved : (n low m : ℕ) (bs places : List ℕ) (ps : List (Option ℕ)) → Ascend low bs → AllByRecursion (λ b. b < m) bs → m ≡ length ps → length places ≡ length bs
     → uses n (present (places_set (mappings_of bs places) ps)) + uses n (present (places_under bs ps)) ≡ uses n places + uses n (present ps)
@@ -155,7 +141,7 @@ file-moved n size bs places f a below long =
 
 pub uses-changed : (n : ℕ) (k : FileKey) (to : CatalogFile → CatalogFile) (f : CatalogFile) (fs : List CatalogFile) → find_key (λ g. g.key) k fs ≡ Some f
     → uses n (blocks_of (change_key (λ g. g.key) k to fs)) + uses n (present f.places) ≡ uses n (blocks_of fs) + uses n (present (to f).places)
-uses-changed n k to f fs found = omega (arith, uses-sum n fs, uses-sum n (change_key (λ g. g.key) k to fs), sum-change (uses_of n) k to f fs found)
+uses-changed n k to f fs found = grind (arith, uses-sum, sum-change, uses_of)
 
 -- Once the new places are marked and those that the file leaves are released, the marks are those of the new catalog.
 pub marks-moved : (c : Catalog) (change : Rewrite) (was : ℕ) (bs places : List ℕ) (k : FileKey) (f : CatalogFile) → find_key (λ g. g.key) k c.files ≡ Some f → Ascend 0 bs → AllByRecursion (λ b. b < blocks_in (size_after (effect_of change) was)) bs → length places ≡ length bs

@@ -1,5 +1,5 @@
 -- Segments of a live file that go away: which ones may, and the store after it.
-use Rattle.file_store.proofs.Names.{◌≡◌, ℕ, zero, suc, ◌+◌, ◌-◌, ◌*◌, ◌<◌, ◌≤◌, List, [], ◌∷◌, length, map, get_or, set, take, drop, Bool, true, false, ◌&&◌, ◌||◌, if◌then◌else◌, Option, Some, None, refl, sym, ◌∙◌, ap, subst, arith, All, AllByRecursion, All-from_recursion, FileKey, find_key, Held, affected_held, bytes_of, Record, CatalogFile, Catalog, IsCatalogFile, geometry_of, present, blocks_of, with_changed, after_all, IsEvent, kept_at, blocks_in_image, Meta, IsMeta, Backs, StoresOrKeeps, held_at, held_with, body_with, HeldBody, no_body, is_away, IsBody, IsLive, IsSound, marks_of, unmarked, each-found, distinct-uses, IsHeldFiles, IsSome, Ghosts, inr, ⊎_elim, cases_lt, lt-ltb}
+use Rattle.file_store.proofs.Names.{◌≡◌, ℕ, zero, suc, ◌+◌, ◌-◌, ◌*◌, ◌<◌, ◌≤◌, List, [], ◌∷◌, length, map, get_or, set, take, drop, Bool, true, false, ◌&&◌, ◌||◌, if◌then◌else◌, Option, Some, None, refl, sym, ◌∙◌, ap, subst, arith, All, AllByRecursion, All-from_recursion, FileKey, find_key, Held, affected_held, bytes_of, Record, CatalogFile, Catalog, IsCatalogFile, geometry_of, present, with_changed, after_all, IsEvent, kept_at, blocks_in_image, Meta, IsMeta, Backs, StoresOrKeeps, held_at, held_with, body_with, HeldBody, no_body, is_away, IsBody, IsLive, IsSound, marks_of, unmarked, each-found, distinct-uses, IsHeldFiles, IsSome, Ghosts, ⊎_elim, cases_lt, lt-ltb}
 use Rattle.std.specs.Prelude.{nat_le, nat_lt}
 use Rattle.std.proofs.Math.Bool.{or-true, or-false}
 use Rattle.hsm_types.specs.Refusals.{first_refusal}
@@ -92,8 +92,8 @@ kept_is c k f found = rw found refl
 pub ready : {D : Type 0} (g : Ghosts D) (p : Parts D) (k : FileKey) (from to : ℕ) → IsHeldFiles p.bodies p.meta → IsSound g (store_of p) → p.failed ≡ false → IsSome (find_key (λ f. f.key) k (store_of p).held.files)
     → 65536 * from ≤ length (bytes_of k (store_of p).held.files) → from ≤ to → to ≤ segments_in (length (bytes_of k (store_of p).held.files)) → any_unpunched (kept_at k p.meta.current).regions (kept_at k p.meta.current).stubs from to ≡ None → IsGoing g p k from (to - from)
 ready g p k from to files sound working there start order end none =
-    let at = live-held p.bodies p.meta files k there in
-    let own = is-body p.bodies p.meta files k at in
+    let at = live-held files k there in
+    let own = is-body files at in
     let file = each-found (IsCatalogFile (geometry_of p.meta.current.geometry).blocks) k at.file p.meta.current.files sound.meta.current.each at.found in
     let size : length (bytes_of k (store_of p).held.files) ≡ at.file.size = ap length (body-held p.bodies p.meta.current k at.file at.found) ∙ own.size in
     let last : from + (to - from) ≡ to = omega arith in
@@ -106,7 +106,7 @@ ready g p k from to files sound working there start order end none =
       start = rw (← size) start;
     }
 
-module _ {D : Type 0} (g : Ghosts D) (p : Parts D) (k : FileKey) (from to n : ℕ) (x : IsGoing g p k from n) (end : to ≡ from + n) where
+module _ {D : Type 0} {g : Ghosts D} {p : Parts D} {k : FileKey} {from to n : ℕ} (x : IsGoing g p k from n) (end : to ≡ from + n) where
   abbrev file : CatalogFile
   file = x.at.file
 
@@ -117,7 +117,7 @@ module _ {D : Type 0} (g : Ghosts D) (p : Parts D) (k : FileKey) (from to n : �
   next = with_changed k (without_segments from n) p.meta.current
 
   lawful_file : IsCatalogFile (geometry_of p.meta.current.geometry).blocks file
-  lawful_file = each-found (IsCatalogFile (geometry_of p.meta.current.geometry).blocks) k file p.meta.current.files x.lawful.current.each x.at.found
+  lawful_file = grind (arith, each-found)
 
   pub are_going : AreGoing k.ino k file.kept.stubs from n p.meta.current
   are_going = going k.ino k file.kept.stubs from n p.meta.current file (key_on-live p.meta.current k file x.lawful.current x.at.found) x.at.found lawful_file.ascend (λ j above. refl) x.can
@@ -126,7 +126,7 @@ module _ {D : Type 0} (g : Ghosts D) (p : Parts D) (k : FileKey) (from to n : �
   event = are_event k.ino file file.kept.stubs from n x.can
 
   pub lengths : AreLengths (after_all records p.meta.current)
-  lengths = rw are_going.become (lengths_gone k from n p.meta.current x.lawful.stored.now)
+  lengths = grind (arith, are_going, lengths_gone)
 
   -- ---- the blocks that go
 
@@ -139,11 +139,7 @@ module _ {D : Type 0} (g : Ghosts D) (p : Parts D) (k : FileKey) (from to n : �
       rw (ap length x.live.marks ∙ length-marks p.meta.current) (All-from_recursion (λ b. b < total) freed (each-freed (λ b. b < total) (16 * from) (16 * n) file.places lawful_file.within))
 
   marks : unmarked freed p.space.current ≡ marks_of next
-  marks =
-      let total : ℕ = (geometry_of p.meta.current.geometry).blocks in
-      ap (unmarked freed) x.live.marks
-      ∙ marks-left total (blocks_of p.meta.current.files) freed (blocks_of next.files) (distinct-uses (blocks_of p.meta.current.files) x.lawful.current.distinct)
-      (λ b. omega (arith, uses-changed b k (without_segments from n) file p.meta.current.files x.at.found, uses-freed b (16 * from) (16 * n) file.places))
+  marks = grind (arith, marks-left, distinct-uses, uses-changed, without_segments, uses-freed)
 
   -- ---- what is held
 
@@ -151,11 +147,7 @@ module _ {D : Type 0} (g : Ghosts D) (p : Parts D) (k : FileKey) (from to n : �
   held_next = record (store_of p).held { files = affected_held (Punches from to) k (store_of p).held.files }
 
   holds_next : (c : List ℕ) → g.gives p.disk c → held_at (blocks_in_image p.meta.durable.geometry c) next ≡ held_next
-  holds_next c gives =
-      let blocks : List ℕ = blocks_in_image p.meta.durable.geometry c in
-      held_at-punched blocks k from to n p.meta.current file x.lawful.current
-      (λ b low. length-block p.meta.durable.geometry c b (subst (λ z. b < (geometry_of z).blocks) x.lawful.stored.geometry low) (x.live.backs.image c (inr gives)).found.size) x.at.found end x.start
-      ∙ ap (λ (h : Held). record h { files = affected_held (Punches from to) k h.files }) (x.live.current c gives)
+  holds_next c gives = grind (arith, held_at-punched, length-block)
 
   abbrev old_body : HeldBody
   old_body = get_or p.bodies (k.ino - 1) no_body
@@ -163,7 +155,7 @@ module _ {D : Type 0} (g : Ghosts D) (p : Parts D) (k : FileKey) (from to n : �
   -- the body without them
   module _ (b : HeldBody) (bytes : b.bytes ≡ zeroed from to old_body.bytes) (away : (j : ℕ) → is_away b j ≡ (is_away old_body j || (nat_le from j && nat_lt j to && nat_lt (65536 * j) (length old_body.bytes)))) where
     own : IsBody old_body file
-    own = is-body p.bodies p.meta x.files k x.at
+    own = is-body x.files x.at
 
     new_own : IsBody b (without_segments from n file)
     new_own = record {
@@ -177,14 +169,14 @@ module _ {D : Type 0} (g : Ghosts D) (p : Parts D) (k : FileKey) (from to n : �
     becomes : held_with (set p.bodies (k.ino - 1) b) next ≡ held_next
     becomes =
         held-punched (λ f. (body_with p.bodies f).bytes) (λ f. (body_with (set p.bodies (k.ino - 1) b) f).bytes) k from to n p.meta.current file x.at.found end
-        (ap (λ (y : HeldBody). y.bytes) (put-there p.bodies p.meta x.files k x.at b (without_segments from n file) refl) ∙ bytes ∙ ap (zeroed from to) (sym (bytes-of p.bodies p.meta x.files k x.at)))
-        (same-bytes p.bodies (set p.bodies (k.ino - 1) b) _ (others p.bodies p.meta x.files k x.at b))
+        (ap (λ (y : HeldBody). y.bytes) (put-there x.files x.at b (without_segments from n file) refl) ∙ bytes ∙ ap (zeroed from to) (sym (bytes-of x.files x.at)))
+        (same-bytes p.bodies (set p.bodies (k.ino - 1) b) _ (others x.files x.at b))
 
     files_next : (m : Meta) → m.current ≡ next → IsMeta m → IsHeldFiles (set p.bodies (k.ino - 1) b) m
     files_next m current lawful = record {
       catalog = lawful.current;
-      sizes = rw current (put-bodies p.bodies p.meta x.files k x.at b (without_segments from n) refl new_own);
-      count = count-put p.bodies p.meta x.files k x.at b ∙ ap (λ (c : Catalog). (geometry_of c.geometry).files) (sym current);
+      sizes = rw current (put-bodies x.files x.at b (without_segments from n) refl new_own);
+      count = count-put x.files x.at b ∙ ap (λ (c : Catalog). (geometry_of c.geometry).files) (sym current);
     }
 
     pub gone : (new : D) (m : Meta) (number : ℕ) (wrote : Bool) → Tells g p.disk p.meta number wrote new m → m.current ≡ after_all records p.meta.current → IsMeta m → Backs g new m → StoresOrKeeps g p.disk new p.meta number

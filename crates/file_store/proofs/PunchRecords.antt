@@ -1,6 +1,5 @@
 -- The records of a punch: that they can come, that nothing refuses them, and the catalog after them.
-use Rattle.std.proofs.Common.{◌≡◌, ℕ, zero, suc, ◌+◌, ◌*◌, ◌<◌, ◌≤◌, List, [], ◌∷◌, true, false, Option, Some, None, refl, sym, ◌∙◌, ap, subst, arith}
-use Rattle.std.specs.Prelude.{nat_le, nat_lt, ◌&&◌}
+use Rattle.std.proofs.Common.{◌≡◌, ℕ, zero, suc, ◌+◌, ◌*◌, ◌<◌, ◌≤◌, List, ◌∷◌, true, false, Option, Some, None, refl, sym, ◌∙◌, ap, subst, arith}
 use Rattle.std.specs.List.{AllByRecursion}
 use Rattle.std.specs.List.Sorted.{IsStrictlySortedBy}
 use Rattle.std.specs.Map.{keys_of}
@@ -12,7 +11,7 @@ use Rattle.hsm_types.specs.declared.keys.FileKey.{FileKey}
 use Rattle.hsm_types.specs.declared.stubs.Stub.{Stub as StubOf}
 use Rattle.hsm_types.specs.declared.stubs.StubEntry.{StubEntry}
 use Rattle.hsm_types.proofs.Stubbing.{stub_at-punched}
-use Rattle.plain_model.specs.Keyed.{find_key, change_key}
+use Rattle.plain_model.specs.Keyed.{find_key}
 use Rattle.meta_store.specs.Catalogs.{CatalogFile, Catalog, HasLengths, AreLengths}
 use Rattle.meta_store.specs.Records.{file_after, with_changed, key_on, after, after_all, refusal_of_all, refusal_of, CanStandAll, CanStand, IsSure, IsEvent}
 use Rattle.meta_store.specs.declared.records.Record.{Record}
@@ -21,19 +20,9 @@ use Rattle.meta_store.proofs.ClearedPlaces.{without-cleared, cleared-nothing}
 use Rattle.meta_store.proofs.FileEdits.{each-changed}
 use Rattle.meta_store.proofs.StubLists.{punched-with}
 use Rattle.file_store.specs.Punches.{away_by, punch_records}
+use Rattle.file_store.proofs.FilesBy.{changed-none, changed-found, changed-twice}
 use Rattle.file_store.proofs.RewriteRecords.{find-changed, key_on-changed}
 use Rattle.file_store.proofs.PunchedFiles.{cleared-on, keys-moved, moved-nothing, moved-on, each-moved, without_segments}
-
--- ---- the file that is found changes twice, or not at all
-
-change-found : (k : FileKey) (f : CatalogFile) (a b t : CatalogFile → CatalogFile) (fs : List CatalogFile) → find_key (λ x. x.key) k fs ≡ Some f → ((x : CatalogFile) → (a x).key ≡ x.key) → b (a f) ≡ t f
-    → change_key (λ x. x.key) k b (change_key (λ x. x.key) k a fs) ≡ change_key (λ x. x.key) k t fs
-change-found k f a b t [] found key is = refl
-change-found k f a b t (x ∷ fs) found key is = grind (arith, key x, is, change-found k f a b t fs)
-
-change-nothing : (k : FileKey) (f : CatalogFile) (t : CatalogFile → CatalogFile) (fs : List CatalogFile) → find_key (λ x. x.key) k fs ≡ Some f → t f ≡ f → change_key (λ x. x.key) k t fs ≡ fs
-change-nothing k f t [] found is = refl
-change-nothing k f t (x ∷ fs) found is = grind (arith, is, change-nothing k f t fs)
 
 -- ---- one segment after the other
 
@@ -58,23 +47,21 @@ pub record AreGoing (ino : ℕ) (k : FileKey) (stubs : Stubs) (from n : ℕ) (c 
   pub passed : refusal_of_all (punch_records ino stubs (from_on from n)) c ≡ None
 
 one_gone : (ino j : ℕ) (entry : StubEntry) (f : CatalogFile) → IsStrictlySortedBy nat_cmp (keys_of f.kept.stubs) → stub_at j f.kept.stubs ≡ Some (sealed_by entry) → file_after (Stub ino j (Some (gone_by entry))) f ≡ without_segments j 1 f
-one_gone ino j entry f sorted is = rw (without-cleared j f.places, punched-with j (gone_by entry) f.kept.stubs sorted refl is) refl
+one_gone ino j entry f sorted is = grind (arith, without-cleared, punched-with)
 
 more_gone : (from n : ℕ) (f : CatalogFile) → without_segments (from + 1) n (without_segments from 1 f) ≡ without_segments from (suc n) f
-more_gone from n f =
-    let end : from + 1 + n ≡ from + suc n = omega arith in
-    rw (cleared-on (16 * from) 16 (16 * n) (16 * (from + 1)) (16 * suc n) f.places (omega arith) (omega arith), end, moved-on true from (from + suc n) f.kept.stubs (omega arith)) refl
+more_gone from n f = grind (arith, cleared-on, moved-on)
 
 none_gone : (from : ℕ) (f : CatalogFile) → without_segments from 0 f ≡ f
-none_gone from f = rw (cleared-nothing (16 * from) (16 * 0) f.places refl, moved-nothing true from (from + 0) f.kept.stubs (omega arith)) refl
+none_gone from f = grind (arith, cleared-nothing, moved-nothing)
 
 later_same : (from : ℕ) (stubs : Stubs) (j : ℕ) → from + 1 ≤ j → stub_at j (punched from (from + 1) stubs) ≡ stub_at j stubs
-later_same from stubs j later = let out : (nat_le from j && nat_lt j (from + 1)) ≡ false = grind arith in stub_at-punched from (from + 1) stubs j ∙ rw out refl
+later_same from stubs j later = grind (arith, stub_at-punched)
 
 pub going : (ino : ℕ) (k : FileKey) (stubs : Stubs) (from n : ℕ) (c : Catalog) (f : CatalogFile) → key_on ino c ≡ k → find_key (λ x. x.key) k c.files ≡ Some f → IsStrictlySortedBy nat_cmp (keys_of f.kept.stubs)
     → ((j : ℕ) → from ≤ j → stub_at j f.kept.stubs ≡ stub_at j stubs) → ((j : ℕ) → from ≤ j → j < from + n → CanGo f stubs j) → AreGoing ino k stubs from n c
 going ino k stubs from zero c f on found sorted same can =
-    record { become = ap (λ (fs : List CatalogFile). record c { files = fs }) (sym (change-nothing k f (without_segments from 0) c.files found (none_gone from f))); stand = tt; passed = refl }
+    record { become = sym (changed-found k (without_segments from 0) (λ x. x) f c found (none_gone from f) ∙ changed-none k c); stand = tt; passed = refl }
 going ino k stubs from (suc n) c f on found sorted same can =
     let it = can from (omega arith) (omega arith) in
     let r : Record = Stub ino from (Some (gone_by it.entry)) in
@@ -90,7 +77,8 @@ going ino k stubs from (suc n) c f on found sorted same can =
     (λ j above below. let go = can j (omega arith) (omega arith) in record { entry = go.entry; is = go.is; start = go.start; volume = go.volume; covered = go.covered }) in
     let first : Stub ino from (away_by (stub_at from stubs)) ≡ r = ap (λ (o : Option StubOf). Stub ino from (away_by o)) it.is in
     let twice : with_changed k (without_segments (from + 1) n) next ≡ with_changed k (without_segments from (suc n)) c =
-    ap (λ (fs : List CatalogFile). record c { files = fs }) (change-found k f (file_after r) (without_segments (from + 1) n) (without_segments from (suc n)) c.files found (λ x. refl) (ap (without_segments (from + 1) n) one ∙ more_gone from n f)) in
+    changed-twice k (file_after r) (without_segments (from + 1) n) (λ x. without_segments (from + 1) n (file_after r x)) c (λ x. refl) (λ x. refl)
+    ∙ changed-found k (λ x. without_segments (from + 1) n (file_after r x)) (without_segments from (suc n)) f c found (ap (without_segments (from + 1) n) one ∙ more_gone from n f) in
     let can_stand : CanStand r c = (f, ap (λ (j : FileKey). find_key (λ x. x.key) j c.files) on ∙ found, record { fits = record { start = it.start; len = refl; volume = it.volume; covered = λ off. it.covered }; turns = record { goes = λ off. here; comes = λ off. absurd cc } }) in
     let not_refused : refusal_of r c ≡ None = rw (on, found, here) refl in
     record {
@@ -103,7 +91,7 @@ going ino k stubs from (suc n) c f on found sorted same can =
 
 each_sure : (ino : ℕ) (f : CatalogFile) (stubs : Stubs) (from n : ℕ) → ((j : ℕ) → from ≤ j → j < from + n → CanGo f stubs j) → AllByRecursion IsSure (punch_records ino stubs (from_on from n))
 each_sure ino f stubs from zero can = tt
-each_sure ino f stubs from (suc n) can = (subst (λ (o : Option StubOf). IsSure (Stub ino from (away_by o))) (sym (can from (omega arith) (omega arith)).is) refl, each_sure ino f stubs (from + 1) n (λ j above below. can j (omega arith) (omega arith)))
+each_sure ino f stubs from (suc n) can = grind (arith, each_sure ino f stubs (from + 1) n (λ j above below. can j (omega arith) (omega arith)))
 
 pub are_event : (ino : ℕ) (f : CatalogFile) (stubs : Stubs) (from n : ℕ) → ((j : ℕ) → from ≤ j → j < from + n → CanGo f stubs j) → IsEvent (punch_records ino stubs (from_on from n))
 are_event ino f stubs from zero can = tt

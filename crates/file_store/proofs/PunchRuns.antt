@@ -9,7 +9,7 @@ use Rattle.hsm_types.specs.declared.regions.Region.{Region}
 use Rattle.hsm_types.specs.declared.stubs.Stub.{Stub as StubOf}
 use Rattle.meta_store.specs.declared.records.Record.{Record}
 use Rattle.meta_store.specs.declared.records.Record.TheVariants.{Stub}
-use Rattle.std.specs.Prelude.{Result, Ok, Err, OnOk}
+use Rattle.std.specs.Prelude.{Result, Ok, Err}
 use Rattle.std.specs.Result.{IsErrAnd, IsErrOf}
 use Rattle.file_store.specs.Refusals.{refused_part}
 use Rattle.file_store.specs.declared.refusal.StoreRefusal.{StoreRefusal}
@@ -17,9 +17,9 @@ use Rattle.file_store.specs.declared.refusal.StoreRefusal.TheVariants as store
 use Rattle.file_store.specs.Punches.{away_by, punch_records}
 
 run_joins : (a m n k : ℕ) → k ≡ m + n → from_on a k ≡ from_on a m ++ from_on (a + m) n
-run_joins a zero n k all = let same : k ≡ n = omega arith in let start : a ≡ a + 0 = omega arith in rw (same, ← start) refl
+run_joins a zero n k all = grind arith
 run_joins a (suc m) n zero all = absurd (omega arith)
-run_joins a (suc m) n (suc k) all = let start : a + 1 + m ≡ a + suc m = omega arith in ap (λ (ns : List ℕ). a ∷ ns) (run_joins (a + 1) m n k (omega arith) ∙ ap (λ s. from_on (a + 1) m ++ from_on s n) start)
+run_joins a (suc m) n (suc k) all = grind (arith, run_joins (a + 1) m n k (omega arith))
 
 -- up to i, then i and those behind it
 run_at : (from i to : ℕ) → from ≤ i → i < to → from_on from (to - from) ≡ from_on from (i - from) ++ i ∷ from_on (i + 1) (to - (i + 1))
@@ -47,7 +47,7 @@ pub refused_at : (regions : List Region) (stubs : Stubs) (from i to : ℕ) (why 
 refused_at regions stubs from i to why above below none is = refused_by regions stubs from i to above below none ∙ rw is refl
 
 pub judged_more : (regions : List Region) (stubs : Stubs) (from i : ℕ) → from ≤ i → any_unpunched regions stubs from i ≡ None → not_punched regions stubs i ≡ None → any_unpunched regions stubs from (i + 1) ≡ None
-judged_more regions stubs from i above none is = refused_by regions stubs from i (i + 1) above (omega arith) none ∙ rw (is, nothing_behind i) refl
+judged_more regions stubs from i above none is = grind (arith, refused_by, nothing_behind)
 
 pub records_more : (ino : ℕ) (stubs : Stubs) (from i : ℕ) (stub : StubOf) (items : List Record) → from ≤ i → items ≡ punch_records ino stubs (from_on from (i - from)) → away_by (stub_at i stubs) ≡ Some stub
     → items ++ Stub ino i (Some stub) ∷ [] ≡ punch_records ino stubs (from_on from (i + 1 - from))
@@ -55,21 +55,7 @@ records_more ino stubs from i stub items above are is =
     let what : ℕ → Record = λ j. Stub ino j (away_by (stub_at j stubs)) in
     sym (ap (map what) (run_at from i (i + 1) above (omega arith)) ∙ map-append what (from_on from (i - from)) (i ∷ from_on (i + 1) (i + 1 - (i + 1))) ∙ rw (nothing_behind i, is, ← are) refl)
 
-pub none_yet : (regions : List Region) (stubs : Stubs) (from : ℕ) → any_unpunched regions stubs from from ≡ None
-none_yet regions stubs from = let none : from - from ≡ 0 = omega arith in rw none refl
-
-pub no_records : (ino : ℕ) (stubs : Stubs) (from : ℕ) → punch_records ino stubs (from_on from (from - from)) ≡ []
-no_records ino stubs from = let none : from - from ≡ 0 = omega arith in rw none refl
-
 -- the cause that was told is the one that was found
 pub told_part : {T : Type 0} (r : Result T StoreRefusal) (found why : DmRefusal) → IsErrAnd r (λ e. e ≡ refused_part found) → IsErrOf r (store.Part why) → found ≡ why
 told_part (Ok x) found why told is = cc
 told_part (Err e) found why told is = cc
-
-pub on_ok : {T E : Type 0} (r : Result T E) (P : Type 0) → P → OnOk r P
-on_ok (Ok x) P is = is
-on_ok (Err e) P is = tt
-
-pub so_ok : {T E : Type 0} (r : Result T E) (P Q : Type 0) → OnOk r P → (P → Q) → OnOk r Q
-so_ok (Ok x) P Q is so = so is
-so_ok (Err e) P Q is so = tt

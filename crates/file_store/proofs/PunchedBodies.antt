@@ -1,5 +1,5 @@
 -- What is held of a file once some of its segments are away.
-use Rattle.file_store.proofs.Names.{◌≡◌, inl, inr, ⊎_elim, ℕ, ◌+◌, ◌-◌, ◌*◌, ◌<◌, ◌≤◌, min, List, length, get_or, replicate, Option, Some, None, refl, sym, ◌∙◌, ap, subst, arith, AllByRecursion, cases_lt, length-replicate, get_or-replicate, written, length-written, blocks_in, FileKey, find_key, drop_key, affected_held, remade, CatalogFile, Catalog, IsCatalog, IsCatalogFile, geometry_of, present, with_changed, each-found, file_by, bytes_at, block_at, body_at, held_at}
+use Rattle.file_store.proofs.Names.{◌≡◌, inl, inr, ⊎_elim, ℕ, ◌+◌, ◌-◌, ◌*◌, ◌<◌, ◌≤◌, min, List, length, get_or, replicate, Option, Some, None, refl, sym, ◌∙◌, ap, subst, arith, AllByRecursion, cases_lt, length-replicate, get_or-replicate, written, length-written, blocks_in, FileKey, find_key, drop_key, affected_held, CatalogFile, Catalog, IsCatalog, IsCatalogFile, geometry_of, present, with_changed, each-found, bytes_at, block_at, body_at, held_at}
 use Rattle.plain_model.specs.Effects.{Punches}
 use Rattle.meta_store.proofs.ClearedPlaces.{cleared, length-cleared}
 use Rattle.file_store.specs.Bodies.{held_by}
@@ -15,14 +15,14 @@ abbrev pub zeroed : ℕ → ℕ → List ℕ → List ℕ
 zeroed from to body = written (65536 * from) (replicate (min (65536 * to) (length body) - 65536 * from) 0) body
 
 pub length-zeroed : (from to : ℕ) (body : List ℕ) → 65536 * from ≤ length body → length (zeroed from to body) ≡ length body
-length-zeroed from to body start = omega (arith, length-written (65536 * from) (replicate (min (65536 * to) (length body) - 65536 * from) 0) body, length-replicate {A = ℕ} (min (65536 * to) (length body) - 65536 * from) 0)
+length-zeroed from to body start = grind (arith, length-written, length-replicate)
 
 module _ (blocks : List ℕ) (from to n : ℕ) (ps : List (Option ℕ)) (body : List ℕ) (end : to ≡ from + n) (start : 65536 * from ≤ length body) (whole : AllByRecursion (Whole blocks) (present ps)) (count : length ps ≡ blocks_in (length body)) (was : body_at blocks (length body) ps ≡ body) where
   abbrev zeros : List ℕ
   zeros = replicate (min (65536 * to) (length body) - 65536 * from) 0
 
   many : length zeros ≡ min (65536 * to) (length body) - 65536 * from
-  many = length-replicate {A = ℕ} (min (65536 * to) (length body) - 65536 * from) 0
+  many = grind (arith, length-replicate)
 
   -- the block lies there, as far as the body goes
   abbrev Lies : ℕ → Option ℕ → Type 0
@@ -62,9 +62,7 @@ module _ (blocks : List ℕ) (from to n : ℕ) (ps : List (Option ℕ)) (body : 
 pub held-punched : (B C : CatalogFile → List ℕ) (k : FileKey) (from to n : ℕ) (c : Catalog) (f : CatalogFile) → find_key (λ g. g.key) k c.files ≡ Some f → to ≡ from + n → C (without_segments from n f) ≡ zeroed from to (B f)
     → AllByRecursion (SameBytes B C) (drop_key (λ g. g.key) k c.files) → held_by C (with_changed k (without_segments from n) c) ≡ record (held_by B c) { files = affected_held (Punches from to) k (held_by B c).files }
 unfolding held_by
-held-punched B C k from to n c f found end becomes others =
-    let one : file_by C (without_segments from n f) ≡ remade (Punches from to) (file_by B f) = rw (becomes, flags-punched from to n f.places end, end) refl in
-    same_held _ _ _ _ (by-change B C k (without_segments from n) (remade (Punches from to)) f c.files found one others) refl
+held-punched B C k from to n c f found end becomes others = grind (arith, without_segments, flags-punched, same_held, by-change)
 
 -- ---- among data blocks
 

@@ -1,6 +1,6 @@
 -- A file without some of its segments: its places, and its stub entries.
 use Rattle.std.proofs.Common.{◌≡◌, ℕ, zero, suc, ◌+◌, ◌-◌, ◌*◌, ◌<◌, ◌≤◌, List, [], ◌∷◌, ◌++◌, length, take, drop, map, get_or, Bool, true, false, Option, Some, None, refl, sym, ◌∙◌, ap, arith, append_assoc}
-use Rattle.std.specs.Prelude.{replicate, min, max, is_some, nat_le, nat_lt, ◌&&◌, if◌then◌else◌}
+use Rattle.std.specs.Prelude.{replicate, min, is_some, nat_le, nat_lt, ◌&&◌, if◌then◌else◌}
 use Rattle.std.specs.List.{AllByRecursion}
 use Rattle.std.specs.Map.{keys_of}
 use Rattle.std.proofs.lemmas.List.{length-map}
@@ -17,12 +17,12 @@ use Rattle.meta_store.proofs.ClearedPlaces.{cleared}
 -- blocks that are cleared one stretch after the other
 pub cleared-on : (m a n k b : ℕ) (ps : List (Option ℕ)) → k ≡ m + a → b ≡ a + n → cleared k n (cleared m a ps) ≡ cleared m b ps
 cleared-on m a n k b [] at all = refl
-cleared-on zero zero n k b (p ∷ ps) at all = let start : k ≡ 0 = omega arith in let same : b ≡ n = omega arith in rw (start, same) refl
+cleared-on zero zero n k b (p ∷ ps) at all = grind arith
 cleared-on zero (suc a) n zero b (p ∷ ps) at all = absurd (omega arith)
 cleared-on zero (suc a) n (suc k) zero (p ∷ ps) at all = absurd (omega arith)
-cleared-on zero (suc a) n (suc k) (suc b) (p ∷ ps) at all = ap (λ (qs : List (Option ℕ)). None ∷ qs) (cleared-on zero a n k b ps (omega arith) (omega arith))
+cleared-on zero (suc a) n (suc k) (suc b) (p ∷ ps) at all = grind (arith, cleared-on zero a n k b ps (omega arith) (omega arith))
 cleared-on (suc m) a n zero b (p ∷ ps) at all = absurd (omega arith)
-cleared-on (suc m) a n (suc k) b (p ∷ ps) at all = ap (λ (qs : List (Option ℕ)). p ∷ qs) (cleared-on m a n k b ps (omega arith) all)
+cleared-on (suc m) a n (suc k) b (p ∷ ps) at all = grind (arith, cleared-on m a n k b ps (omega arith) all)
 
 -- each place stays or is freed
 pub uses-freed : (b m n : ℕ) (ps : List (Option ℕ)) → uses b (present ps) ≡ uses b (present (take n (drop m ps))) + uses b (present (cleared m n ps))
@@ -75,19 +75,15 @@ flags-cleared zero n (suc k) zero [] end is = refl
 flags-cleared (suc m) n zero zero [] end is = refl
 flags-cleared (suc m) n (suc k) zero [] end is = refl
 flags-cleared m n k (suc holes) [] end is = absurd (omega arith)
-flags-cleared zero zero k holes (p ∷ ps) end is = let none : k ≡ 0 = omega arith in let no : holes ≡ 0 = omega arith in rw (none, no) refl
+flags-cleared zero zero k holes (p ∷ ps) end is = grind arith
 flags-cleared zero (suc n) zero holes (p ∷ ps) end is = absurd (omega arith)
 flags-cleared zero (suc n) (suc k) zero (p ∷ ps) end is = absurd (omega arith)
-flags-cleared zero (suc n) (suc k) (suc holes) (p ∷ ps) end is = ap (λ (bs : List Bool). false ∷ bs) (flags-cleared zero n k holes ps (omega arith) (omega arith))
+flags-cleared zero (suc n) (suc k) (suc holes) (p ∷ ps) end is = grind (arith, flags-cleared zero n k holes ps (omega arith) (omega arith))
 flags-cleared (suc m) n zero holes (p ∷ ps) end is = absurd (omega arith)
-flags-cleared (suc m) n (suc k) holes (p ∷ ps) end is = ap (λ (bs : List Bool). is_some p ∷ bs) (flags-cleared m n k holes ps (omega arith) (omega arith))
+flags-cleared (suc m) n (suc k) holes (p ∷ ps) end is = grind (arith, flags-cleared m n k holes ps (omega arith) (omega arith))
 
 pub flags-punched : (from to n : ℕ) (ps : List (Option ℕ)) → to ≡ from + n → map is_some (cleared (16 * from) (16 * n) ps) ≡ with_holes from to (map is_some ps)
-flags-punched from to n ps end =
-    let flags : List Bool = map is_some ps in
-    let holes : ℕ = min (16 * to) (length flags) - 16 * from in
-    let last : max from to ≡ to = omega arith in
-    rw last (flags-cleared (16 * from) (16 * n) (16 * to) holes ps (omega arith) (omega (arith, length-map ps is_some)) ∙ sym (append_assoc (take (16 * from) flags) (replicate holes false) (drop (16 * to) flags)))
+flags-punched from to n ps end = grind (arith, flags-cleared, length-map, append_assoc)
 
 -- ---- entries
 
@@ -101,7 +97,7 @@ keys-moved offline from to (x ∷ rest) = by (nat_le from x.0 && nat_lt x.0 to) 
 
 pub moved-nothing : (offline : Bool) (from to : ℕ) (stubs : Stubs) → to ≤ from → moved offline from to stubs ≡ stubs
 moved-nothing offline from to [] none = refl
-moved-nothing offline from to (x ∷ rest) none = let out : (nat_le from x.0 && nat_lt x.0 to) ≡ false = grind arith in rw (out, moved-nothing offline from to rest none) refl
+moved-nothing offline from to (x ∷ rest) none = grind (arith, moved-nothing offline from to rest none)
 
 -- segments that are moved one after the other
 pub moved-on : (offline : Bool) (from to : ℕ) (stubs : Stubs) → from + 1 ≤ to → moved offline (from + 1) to (moved offline from (from + 1) stubs) ≡ moved offline from to stubs

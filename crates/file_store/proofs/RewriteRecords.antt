@@ -1,19 +1,18 @@
 -- The records of a change of a file's bytes: that they are its places, the catalog after them, and that they can come.
-use Rattle.file_store.proofs.Names.{◌||◌, true, Bool, ◌*◌, max, map, ◌&&◌, ltb, and_parts, and_from, lt-ltb, cases_eq, ◌/◌, false≢true, is_some, IsSure, Stub, Rewrite, Write, Resize, Restore, effect_of, size_after, rekept, unseals, unsealing, IsHead, AreUnsealed, IsCatalogFile, places_fitted, CanStand, refusal_of, rules, ◌≡◌, ⊎_elim, ◌<◌, ℕ, zero, suc, ◌+◌, ◌-◌, ◌≤◌, min, List, [], ◌∷◌, ◌++◌, length, take, drop, get_or, Option, Some, None, refl, sym, ◌∙◌, ap, arith, length-append, take_all, set, false, eqb, subst, cases_lt, ltb-true, drop_more, drop_all, get_or_past, map-append, same_lists, places, from_on, blocks_in, Mapping, Record, Map, present, CatalogFile, Catalog, geometry_of, blocks_of, mappings_from, places_set, file_after, with_changed, key_on, after, after_all, refusal_of_all, IsMappable, CanStandAll, IsEvent, mappings_of, mappings_in, IsMapOn, IsRewriting, places_under, freed_by, remapped, flat_map, list_any, AllByRecursion, FileKey, find_key, change_key, names_of-change, places_of, uses, uses-append, absent-unused, uses-distinct, length-fitted, length-places_set, uses-fitted, uses-mapped}
+use Rattle.file_store.proofs.Names.{◌||◌, true, Bool, max, map, ◌&&◌, ltb, and_parts, and_from, lt-ltb, cases_eq, ◌/◌, false≢true, is_some, IsSure, Stub, Rewrite, Write, Resize, Restore, effect_of, size_after, rekept, unseals, unsealing, IsHead, AreUnsealed, IsCatalogFile, places_fitted, CanStand, refusal_of, rules, ◌≡◌, ⊎_elim, ◌<◌, ℕ, zero, suc, ◌+◌, ◌-◌, ◌≤◌, min, List, [], ◌∷◌, ◌++◌, length, take, drop, Option, Some, None, refl, sym, ◌∙◌, ap, arith, length-append, take_all, set, false, eqb, subst, cases_lt, ltb-true, drop_more, drop_all, get_or_past, map-append, same_lists, places, from_on, blocks_in, Mapping, Record, Map, present, CatalogFile, Catalog, geometry_of, blocks_of, mappings_from, places_set, file_after, with_changed, key_on, after, after_all, refusal_of_all, IsMappable, CanStandAll, IsEvent, mappings_of, mappings_in, IsMapOn, IsRewriting, places_under, freed_by, remapped, flat_map, list_any, AllByRecursion, FileKey, find_key, change_key, names_of-change, places_of, uses, uses-append, absent-unused, uses-distinct, length-fitted, length-places_set, uses-fitted, uses-mapped}
 use Rattle.std.proofs.lemmas.List.{append_assoc, append-nil}
 use Rattle.file_body.proofs.Runs.{length_blocks}
 use Rattle.file_store.proofs.EachOf.{each-parts, each-join, each-weaker, each_member}
 use Rattle.file_store.proofs.Marks.{has-uses, uses-changed}
-use Rattle.file_store.proofs.FilesBy.{change-none}
+use Rattle.file_store.proofs.FilesBy.{changed-none, changed-found, changed-twice}
+use Rattle.file_store.proofs.Loaded.{stub-starts}
 use Rattle.file_store.proofs.UnsealedEntries.{without_all, here-without, here-below, none-unsealed, left-written, left-resized}
 use Rattle.std.specs.Prelude.{nat_le}
 use Rattle.std.proofs.lemmas.Bool.{le-leb, leb-true, eq-eqb}
 use Rattle.std.proofs.lemmas.List.Folds.{list_any-append}
 use Rattle.stub_map.specs.States.{NoneBetween}
-use Rattle.hsm_types.specs.Segments.{segments_in}
-use Rattle.hsm_types.specs.Stubs.{Stubs, stub_at, is_offline, offline_at, with_stub, without_stub, restored}
+use Rattle.hsm_types.specs.Stubs.{Stubs, stub_at, offline_at, with_stub, without_stub, restored}
 use Rattle.hsm_types.specs.declared.stubs.Stub.{Stub as StubOf}
-use Rattle.meta_store.specs.Catalogs.{IsCatalogStub}
 use Rattle.meta_store.specs.Records.{IsStubbable}
 use Rattle.meta_store.proofs.StubLists.{moved-with, each-at as stub-each}
 
@@ -23,15 +22,15 @@ mappings-run : (a n : ℕ) (ps : List ℕ) → length ps ≡ length (from_on a n
 mappings-run a zero [] is = refl
 mappings-run a zero (p ∷ ps) is = absurd (omega arith)
 mappings-run a (suc n) [] is = absurd (omega arith)
-mappings-run a (suc n) (p ∷ ps) is = ap (λ (ms : List Mapping). (record { block = a; place = p }) ∷ ms) (mappings-run (a + 1) n ps (omega arith))
+mappings-run a (suc n) (p ∷ ps) is = grind (arith, mappings-run (a + 1) n ps (omega arith))
 
 mappings-two : (a m b n : ℕ) (ps : List ℕ) → length ps ≡ length (from_on a m ++ from_on b n) → mappings_from a (take m ps) ++ mappings_from b (drop m ps) ≡ mappings_of (from_on a m ++ from_on b n) ps
 mappings-two a zero b n ps is = sym (mappings-run b n ps is)
 mappings-two a (suc m) b n [] is = absurd (omega arith)
-mappings-two a (suc m) b n (p ∷ ps) is = ap (λ (ms : List Mapping). (record { block = a; place = p }) ∷ ms) (mappings-two (a + 1) m b n ps (omega arith))
+mappings-two a (suc m) b n (p ∷ ps) is = grind (arith, mappings-two (a + 1) m b n ps (omega arith))
 
 pub mappings-runs : (a m b n : ℕ) (blocks ps : List ℕ) → from_on a m ++ from_on b n ≡ blocks → length ps ≡ length blocks → mappings_from a (take m ps) ++ mappings_from b (drop m ps) ≡ mappings_of blocks ps
-mappings-runs a m b n blocks ps is long = mappings-two a m b n ps (long ∙ ap length (sym is)) ∙ ap (λ (bs : List ℕ). mappings_of bs ps) is
+mappings-runs a m b n blocks ps is long = grind (arith, mappings-two)
 
 pub run-within : (a m b n : ℕ) (blocks : List ℕ) → from_on a m ++ from_on b n ≡ blocks → m ≤ length blocks
 run-within a m b n blocks is = omega (arith, ap length is, length-append (from_on a m) (from_on b n), length_blocks None a m)
@@ -39,22 +38,9 @@ run-within a m b n blocks is = omega (arith, ap length is, length-append (from_o
 -- the first record, and then those that drop entries
 pub unseals_first : (ino : ℕ) (change : Rewrite) (size from to : ℕ) (stubs : Stubs) (first : Record) (records : List Record) → IsHead ino change size stubs first → ((j : ℕ) → unseals change size j ≡ (nat_le from j && ltb j to))
     → AreUnsealed ino from to stubs (first ∷ []) records → IsRewriting ino change size stubs [] records
-unseals_first ino change size from to stubs first records head range is = record {
-  first = first;
-  segments = is.segments;
-  maps = [];
-  are = is.are ∙ ap (λ (rs : List Record). first ∷ rs) (sym (append-nil (map (unsealing ino) is.segments)));
-  head = head;
-  only = each-weaker (λ j. (from ≤ j) × (j < to)) (λ j. unseals change size j ≡ true) (λ j within. range j ∙ and_from (nat_le from j) (ltb j to) (le-leb from j within.0) (lt-ltb j to within.1)) is.segments is.only;
-  every = λ j drops some. let parts = and_parts (nat_le from j) (ltb j to) (sym (range j) ∙ drops) in is.every j (leb-true from j parts.0) (ltb-true j to parts.1) some;
-  each = tt;
-  all = refl;
-}
+unseals_first ino change size from to stubs first records head range is = grind (arith, append-nil, each-weaker, and_from, le-leb, lt-ltb, and_parts, leb-true, ltb-true)
 
 -- ---- entries that go, of one segment after another
-
-pub none_unsealed : (ino from : ℕ) (stubs : Stubs) (before : List Record) → AreUnsealed ino from from stubs before before
-none_unsealed ino from stubs before = record { segments = []; are = sym (append-nil before); only = tt; every = λ j low high some. absurd (omega arith) }
 
 or-left : (a b : Bool) → a ≡ true → (a || b) ≡ true
 or-left true b is = refl
@@ -89,12 +75,7 @@ more_unsealed ino from start segment stubs before mid after begun low none pushe
 
 -- and no more
 pub all_unsealed : (ino from start to : ℕ) (stubs : Stubs) (before after : List Record) → start ≤ max from to → ((j : ℕ) → start ≤ j → j < to → stub_at j stubs ≡ None) → AreUnsealed ino from start stubs before after → AreUnsealed ino from to stubs before after
-all_unsealed ino from start to stubs before after most none is = record {
-  segments = is.segments;
-  are = is.are;
-  only = each-weaker (λ j. (from ≤ j) × (j < start)) (λ j. (from ≤ j) × (j < to)) (λ j in_it. (in_it.0, let low = in_it.0 in let high = in_it.1 in omega arith)) is.segments is.only;
-  every = λ j above below some. ⊎_elim (λ (early : j < start). is.every j above early some) (λ (late : start ≤ j). absurd (not-some (stub_at j stubs) (none j late below) some)) (cases_lt j start);
-}
+all_unsealed ino from start to stubs before after most none is = grind (arith, each-weaker, not-some, cases_lt)
 
 -- ---- places that a run of blocks had
 
@@ -109,37 +90,23 @@ present-more (Some at) ps qs same = ap (λ (bs : List ℕ). at ∷ bs) same
 
 present-run : (a n : ℕ) (ps : List (Option ℕ)) → present (take n (drop a ps)) ≡ present (places_under (from_on a n) ps)
 present-run a zero ps = refl
-present-run a (suc n) ps =
-    let rest = present-run (a + 1) n ps in
-    ⊎_elim
-    (λ (there : a < length ps). rw (drop_more ps a None there) (present-more (get_or ps a None) (take n (drop (a + 1) ps)) (places_under (from_on (a + 1) n) ps) rest))
-    (λ (past : length ps ≤ a). rw (get_or_past ps a None past, drop_all a ps past) (rw (drop_all (a + 1) ps (omega arith), take_all {A = Option ℕ} n [] (omega arith)) at rest))
-    (cases_lt a (length ps))
+present-run a (suc n) ps = grind (arith, drop_more, present-more, get_or_past, drop_all, take_all, cases_lt, present-run (a + 1) n ps)
 
 past-end : (n k : ℕ) (ps : List (Option ℕ)) → k ≡ min (length ps) n → take (length ps - k) (drop k ps) ≡ drop n ps
 past-end n k ps is = same_lists _ _ (search (rules, places)) (λ i d h. grind (arith, places))
 
 pub freed_runs : (a m b n size k : ℕ) (blocks : List ℕ) (ps : List (Option ℕ)) → from_on a m ++ from_on b n ≡ blocks → k ≡ min (length ps) (blocks_in size)
     → [] ++ present (take (length ps - k) (drop k ps)) ++ present (take m (drop a ps)) ++ present (take n (drop b ps)) ≡ freed_by size blocks ps
-freed_runs a m b n size k blocks ps is kept =
-    let under : present (take m (drop a ps)) ++ present (take n (drop b ps)) ≡ present (places_under blocks ps) =
-    rw (present-run a m ps, present-run b n ps, ← is) (sym (ap present (map-append (λ i. get_or ps i None) (from_on a m) (from_on b n)) ∙ present-append (places_under (from_on a m) ps) (places_under (from_on b n) ps))) in
-    append_assoc (present (take (length ps - k) (drop k ps))) (present (take m (drop a ps))) (present (take n (drop b ps)))
-    ∙ rw (past-end (blocks_in size) k ps kept, under) refl
+freed_runs a m b n size k blocks ps is kept = grind (arith, present-run, map-append, present-append, append_assoc, past-end)
 
 -- ---- a file that changes twice
-
-change-twice : (k : FileKey) (f g h : CatalogFile → CatalogFile) (fs : List CatalogFile) → ((x : CatalogFile) → (f x).key ≡ x.key) → ((x : CatalogFile) → g (f x) ≡ h x)
-    → change_key (λ x. x.key) k g (change_key (λ x. x.key) k f fs) ≡ change_key (λ x. x.key) k h fs
-change-twice k f g h [] key is = refl
-change-twice k f g h (x ∷ fs) key is = grind (arith, key x, is x, change-twice k f g h fs key is)
 
 pub find-changed : (k : FileKey) (to : CatalogFile → CatalogFile) (f : CatalogFile) (fs : List CatalogFile) → ((x : CatalogFile) → (to x).key ≡ x.key) → find_key (λ x. x.key) k fs ≡ Some f → find_key (λ x. x.key) k (change_key (λ x. x.key) k to fs) ≡ Some (to f)
 find-changed k to f [] key found = cc
 find-changed k to f (x ∷ fs) key found = grind (arith, key x, find-changed k to f fs key)
 
 pub key_on-changed : (ino : ℕ) (k : FileKey) (to : CatalogFile → CatalogFile) (c : Catalog) → ((x : CatalogFile) → ((to x).key ≡ x.key) × ((to x).name ≡ x.name)) → key_on ino (with_changed k to c) ≡ key_on ino c
-key_on-changed ino k to c same = rw (names_of-change k to c.files (λ x. rw ((same x).0, (same x).1) refl)) refl
+key_on-changed ino k to c same = grind (arith, names_of-change)
 
 places_set-append : (ms ns : List Mapping) (ps : List (Option ℕ)) → places_set ns (places_set ms ps) ≡ places_set (ms ++ ns) ps
 places_set-append [] ns ps = refl
@@ -151,7 +118,7 @@ abbrev mapped_by : List Mapping → CatalogFile → CatalogFile
 mapped_by ms f = record f { places = places_set ms f.places }
 
 after-maps : (ino : ℕ) (maps : List Record) (c : Catalog) → AllByRecursion (IsMapOn ino) maps → after_all maps c ≡ with_changed (key_on ino c) (mapped_by (flat_map mappings_in maps)) c
-after-maps ino [] c each = ap (λ (fs : List CatalogFile). record c { files = fs }) (sym (change-none (λ (f : CatalogFile). f.key) (key_on ino c) c.files))
+after-maps ino [] c each = sym (changed-none (key_on ino c) c)
 after-maps ino (Map i block places ∷ maps) c each =
     let ms : List Mapping = mappings_from block places.items in
     let rest : List Mapping = flat_map mappings_in maps in
@@ -159,7 +126,7 @@ after-maps ino (Map i block places ∷ maps) c each =
     ap (λ (j : ℕ). after_all maps (with_changed (key_on j c) (mapped_by ms) c)) each.0.0
     ∙ after-maps ino maps next each.1
     ∙ ap (λ (k : FileKey). with_changed k (mapped_by rest) next) (key_on-changed ino (key_on ino c) (mapped_by ms) c (λ x. (refl, refl)))
-    ∙ ap (λ (fs : List CatalogFile). record c { files = fs }) (change-twice (key_on ino c) (mapped_by ms) (mapped_by rest) (mapped_by (ms ++ rest)) c.files (λ x. refl) (λ x. ap (λ (ps : List (Option ℕ)). record x { places = ps }) (places_set-append ms rest x.places)))
+    ∙ changed-twice (key_on ino c) (mapped_by ms) (mapped_by rest) (mapped_by (ms ++ rest)) c (λ x. refl) (λ x. ap (λ (ps : List (Option ℕ)). record x { places = ps }) (places_set-append ms rest x.places))
 after-maps ino (r ∷ maps) c each = absurd each.0
 
 -- entries go one by one
@@ -167,18 +134,13 @@ abbrev unsealed_by : List ℕ → CatalogFile → CatalogFile
 unsealed_by js f = record f { kept = record f.kept { stubs = without_all js f.kept.stubs } }
 
 after-unseals : (ino : ℕ) (js : List ℕ) (rest : List Record) (c : Catalog) → after_all (map (unsealing ino) js ++ rest) c ≡ after_all rest (with_changed (key_on ino c) (unsealed_by js) c)
-after-unseals ino [] rest c = ap (λ (fs : List CatalogFile). after_all rest (record c { files = fs })) (sym (change-none (λ (f : CatalogFile). f.key) (key_on ino c) c.files))
+after-unseals ino [] rest c = ap (after_all rest) (sym (changed-none (key_on ino c) c))
 after-unseals ino (j ∷ js) rest c =
     let k : FileKey = key_on ino c in
     let one : CatalogFile → CatalogFile = unsealed_by (j ∷ []) in
     after-unseals ino js rest (with_changed k one c)
     ∙ ap (λ (x : FileKey). after_all rest (with_changed x (unsealed_by js) (with_changed k one c))) (key_on-changed ino k one c (λ x. (refl, refl)))
-    ∙ ap (λ (fs : List CatalogFile). after_all rest (record c { files = fs })) (change-twice k one (unsealed_by js) (unsealed_by (j ∷ js)) c.files (λ x. refl) (λ x. refl))
-
--- a change goes by what it makes of the file that is found
-change-found : (k : FileKey) (to into : CatalogFile → CatalogFile) (f : CatalogFile) (fs : List CatalogFile) → find_key (λ x. x.key) k fs ≡ Some f → to f ≡ into f → change_key (λ x. x.key) k to fs ≡ change_key (λ x. x.key) k into fs
-change-found k to into f [] found same = cc
-change-found k to into f (x ∷ fs) found same = grind (arith, same, change-found k to into f fs)
+    ∙ ap (after_all rest) (changed-twice k one (unsealed_by js) (unsealed_by (j ∷ js)) c (λ x. refl) (λ x. refl))
 
 -- ---- what the file becomes before its blocks lie elsewhere
 
@@ -188,17 +150,14 @@ reshaped change size f = record f { size = size_after (effect_of change) size; p
 fitted-same : (n : ℕ) (ps : List (Option ℕ)) → length ps ≡ blocks_in n → places_fitted n ps ≡ ps
 fitted-same n ps count = same_lists _ _ (search (rules, places)) (λ i d h. grind (arith, places))
 
-pub starts-in : (blocks : ℕ) (f : CatalogFile) → IsCatalogFile blocks f → AllByRecursion (λ x. 65536 * x.0 < f.size) f.kept.stubs
-starts-in blocks f is = each-weaker (IsCatalogStub f) (λ x. 65536 * x.0 < f.size) (λ x lawful. lawful.fits.start) f.kept.stubs is.stubs
-
 reshapes : (ino : ℕ) (change : Rewrite) (f : CatalogFile) (blocks : ℕ) → IsCatalogFile blocks f → (first : Record) (js : List ℕ) → IsHead ino change f.size f.kept.stubs first
     → AllByRecursion (λ j. unseals change f.size j ≡ true) js → ((j : ℕ) → unseals change f.size j ≡ true → is_some (stub_at j f.kept.stubs) ≡ true → list_any (λ s. eqb s j) js ≡ true)
     → unsealed_by js (file_after first f) ≡ reshaped change f.size f
 reshapes ino (Write offset bytes) f blocks lawful first js head only every =
-    let stubs = left-written f.size offset bytes.now js f.kept.stubs (starts-in blocks f lawful) only every in
+    let stubs = left-written f.size offset bytes.now js f.kept.stubs (stub-starts blocks f lawful) only every in
     ap (λ (r : Record). unsealed_by js (file_after r f)) head ∙ ap (λ (s : Stubs). record (reshaped (Write offset bytes) f.size f) { kept = record f.kept { stubs = s } }) stubs
 reshapes ino (Resize to) f blocks lawful first js head only every =
-    let stubs = left-resized f.size to js f.kept.stubs (starts-in blocks f lawful) only every in
+    let stubs = left-resized f.size to js f.kept.stubs (stub-starts blocks f lawful) only every in
     ap (λ (r : Record). unsealed_by js (file_after r f)) head ∙ ap (λ (s : Stubs). record (reshaped (Resize to) f.size f) { kept = record f.kept { stubs = s } }) stubs
 reshapes ino (Restore segment bytes) f blocks lawful first js head only every =
     let stubs : with_stub segment (record head.0 { offline = false }) f.kept.stubs ≡ restored segment f.kept.stubs = sym (moved-with segment head.0.offline (record head.0 { offline = false }) f.kept.stubs lawful.ascend head.1) in
@@ -237,9 +196,8 @@ module _ (ino : ℕ) (change : Rewrite) (ms : List Mapping) (rs : List Record) (
   -- once the entries are dropped
   bare-is : with_changed k (unsealed_by is.segments) begun ≡ bare
   bare-is =
-      ap (λ (fs : List CatalogFile). record c { files = fs })
-      (change-twice k (file_after is.first) (unsealed_by is.segments) (λ x. unsealed_by is.segments (file_after is.first x)) c.files (λ x. (name-kept x).0) (λ x. refl)
-      ∙ change-found k (λ x. unsealed_by is.segments (file_after is.first x)) (reshaped change f.size) f c.files found (reshapes ino change f (geometry_of c.geometry).blocks lawful is.first is.segments is.head is.only is.every))
+      changed-twice k (file_after is.first) (unsealed_by is.segments) (λ x. unsealed_by is.segments (file_after is.first x)) c (λ x. (name-kept x).0) (λ x. refl)
+      ∙ changed-found k (λ x. unsealed_by is.segments (file_after is.first x)) (reshaped change f.size) f c found (reshapes ino change f (geometry_of c.geometry).blocks lawful is.first is.segments is.head is.only is.every)
 
   pub after_rewriting : after_all rs c ≡ with_changed k (remapped change f.size ms) c
   after_rewriting =
@@ -249,7 +207,7 @@ module _ (ino : ℕ) (change : Rewrite) (ms : List Mapping) (rs : List Record) (
       ∙ ap (λ (x : FileKey). after_all is.maps (with_changed x (unsealed_by is.segments) begun)) key-begun
       ∙ ap (after_all is.maps) bare-is
       ∙ after-maps ino is.maps bare is.each
-      ∙ rw (key_on-changed ino k (reshaped change f.size) c (λ x. (refl, refl)), is.all) (ap (λ (fs : List CatalogFile). record c { files = fs }) (change-twice k (reshaped change f.size) (mapped_by ms) (remapped change f.size ms) c.files (λ x. refl) (λ x. refl)))
+      ∙ rw (key_on-changed ino k (reshaped change f.size) c (λ x. (refl, refl)), is.all) (changed-twice k (reshaped change f.size) (mapped_by ms) (remapped change f.size ms) c (λ x. refl) (λ x. refl))
 
 -- ---- they are an event, which nothing refuses
 
@@ -280,8 +238,7 @@ first-passes ino (Resize to) f first c found head = rw head refl
 first-passes ino (Restore segment bytes) f first c found head = rw head.2 (rw found (rw head.1 refl))
 
 pub not_refused : (ino : ℕ) (change : Rewrite) (ms : List Mapping) (rs : List Record) (c : Catalog) (f : CatalogFile) → find_key (λ x. x.key) (key_on ino c) c.files ≡ Some f → IsRewriting ino change f.size f.kept.stubs ms rs → refusal_of_all rs c ≡ None
-not_refused ino change ms rs c f found is =
-    rw (is.are, first-passes ino change f is.first c found is.head, all-pass ino is.segments is.maps (after is.first c) is.each) refl
+not_refused ino change ms rs c f found is = grind (arith, first-passes, all-pass)
 
 -- ---- they can stand
 
@@ -294,7 +251,7 @@ Fit stubs n total ms = AllByRecursion (IsFit stubs n total) ms
 
 run-fits : (stubs : Stubs) (n total block : ℕ) (p : ℕ) (ps : List ℕ) → Fit stubs n total (mappings_from block (p ∷ ps)) → (block + length (p ∷ ps) ≤ n) × AllByRecursion (λ q. q < total) (p ∷ ps)
 run-fits stubs n total block p [] fit = let low = fit.0.0 in (omega arith, (fit.0.1, tt))
-run-fits stubs n total block p (q ∷ ps) fit = let more = run-fits stubs n total (block + 1) q ps fit.1 in let most = more.0 in (omega arith, (fit.0.1, more.1))
+run-fits stubs n total block p (q ∷ ps) fit = grind (arith, run-fits stubs n total (block + 1) q ps fit.1)
 
 run-here : (stubs : Stubs) (n total block : ℕ) (ps : List ℕ) → Fit stubs n total (mappings_from block ps) → (b : ℕ) → block ≤ b → b < block + length ps → offline_at stubs (b / 16) ≡ false
 run-here stubs n total block [] fit b low high = absurd (omega arith)
@@ -310,7 +267,7 @@ abbrev Once : List ℕ → List ℕ → Type 0
 Once places blocks = (n : ℕ) → uses n places + uses n blocks ≤ 1
 
 each-unused : (ps bs : List ℕ) → Once ps bs → AllByRecursion (λ p. list_any (λ b. eqb b p) bs ≡ false) ps
-each-unused ps bs once = each_member (λ p. list_any (λ b. eqb b p) bs ≡ false) ps (λ p there. let some = ltb-true 0 (uses p ps) (sym (has-uses p ps) ∙ there) in let most = once p in absent-unused p bs (omega arith))
+each-unused ps bs once = grind (arith, each_member, ltb-true, has-uses, absent-unused)
 
 mappable : (n total block : ℕ) (ps : List ℕ) (f : CatalogFile) (c : Catalog) → length f.places ≡ n → (geometry_of c.geometry).blocks ≡ total → 1 ≤ length ps → Fit f.kept.stubs n total (mappings_from block ps) → Once ps (blocks_of c.files) → IsMappable block ps f c
 mappable n total block [] f c long blocks some fit once = absurd (omega arith)
@@ -348,13 +305,13 @@ maps-stand ino n total k (r ∷ maps) c f found on long blocks each fit once = a
 -- entries of segments that are here can go
 unseals-stand : (ino : ℕ) (k : FileKey) (js : List ℕ) (rest : List Record) (c : Catalog) (f : CatalogFile) → find_key (λ x. x.key) k c.files ≡ Some f → key_on ino c ≡ k → AllByRecursion (λ j. offline_at f.kept.stubs j ≡ false) js
     → CanStandAll rest (with_changed k (unsealed_by js) c) → CanStandAll (map (unsealing ino) js ++ rest) c
-unseals-stand ino k [] rest c f found on here last = subst (λ (fs : List CatalogFile). CanStandAll rest (record c { files = fs })) (change-none (λ (x : CatalogFile). x.key) k c.files) last
+unseals-stand ino k [] rest c f found on here last = subst (CanStandAll rest) (changed-none k c) last
 unseals-stand ino k (j ∷ js) rest c f found on here last =
     let one : CatalogFile → CatalogFile = unsealed_by (j ∷ []) in
-    let twice = change-twice k one (unsealed_by js) (unsealed_by (j ∷ js)) c.files (λ x. refl) (λ x. refl) in
+    let twice = changed-twice k one (unsealed_by js) (unsealed_by (j ∷ js)) c (λ x. refl) (λ x. refl) in
     let more =
     unseals-stand ino k js rest (with_changed k one c) (one f) (find-changed k one f c.files (λ x. refl) found) (key_on-changed ino k one c (λ x. (refl, refl)) ∙ on)
-    (each-weaker (λ i. offline_at f.kept.stubs i ≡ false) (λ i. offline_at (without_stub j f.kept.stubs) i ≡ false) (λ i. here-without j f.kept.stubs i) js here.1) (subst (λ (fs : List CatalogFile). CanStandAll rest (record c { files = fs })) (sym twice) last) in
+    (each-weaker (λ i. offline_at f.kept.stubs i ≡ false) (λ i. offline_at (without_stub j f.kept.stubs) i ≡ false) (λ i. here-without j f.kept.stubs i) js here.1) (subst (CanStandAll rest) (sym twice) last) in
     ((f, rw on found, here.0), rw on more)
 
 -- what has to be true of the file
@@ -363,12 +320,7 @@ pub record MayChange (change : Rewrite) (f : CatalogFile) : Type 0 where
   pub free : (j : ℕ) → unseals change f.size j ≡ true → offline_at f.kept.stubs j ≡ false
 
 restores-stand : (segment : ℕ) (stub : StubOf) (blocks : ℕ) (f : CatalogFile) → IsCatalogFile blocks f → stub_at segment f.kept.stubs ≡ Some stub → IsStubbable segment (record stub { offline = false }) f
-restores-stand segment stub blocks f lawful at =
-    let is = stub-each (IsCatalogStub f) f.kept.stubs segment stub lawful.stubs at in
-    record {
-      fits = record { start = is.fits.start; len = refl; volume = is.fits.volume; covered = λ away. absurd (false≢true away) };
-      turns = record { goes = λ away. absurd (false≢true away); comes = λ here off. at ∙ ap (λ (b : Bool). Some (record stub { offline = b })) (sym (ap is_offline at) ∙ off) };
-    }
+restores-stand segment stub blocks f lawful at = grind (arith, stub-each)
 
 first-stands : (ino : ℕ) (change : Rewrite) (f : CatalogFile) (first : Record) (c : Catalog) → find_key (λ x. x.key) (key_on ino c) c.files ≡ Some f → IsCatalogFile (geometry_of c.geometry).blocks f → MayChange change f → IsHead ino change f.size f.kept.stubs first → CanStand first c
 first-stands ino (Write offset bytes) f first c found lawful may head = rw head (f, found, may.few)
@@ -378,8 +330,8 @@ first-stands ino (Restore segment bytes) f first c found lawful may head = rw he
 -- after the first record segments that were here are
 here-first : (ino : ℕ) (change : Rewrite) (f : CatalogFile) (first : Record) (js : List ℕ) → MayChange change f → IsHead ino change f.size f.kept.stubs first → AllByRecursion (λ j. unseals change f.size j ≡ true) js
     → AllByRecursion (λ j. offline_at (file_after first f).kept.stubs j ≡ false) js
-here-first ino (Write offset bytes) f first js may head only = rw head (each-weaker _ _ (λ j drops. here-below (segments_in (max f.size (offset + length bytes.now))) f.kept.stubs j (may.free j drops)) js only)
-here-first ino (Resize to) f first js may head only = rw head (each-weaker _ _ (λ j drops. here-below (segments_in to) f.kept.stubs j (may.free j drops)) js only)
+here-first ino (Write offset bytes) f first js may head only = grind (arith, each-weaker, here-below)
+here-first ino (Resize to) f first js may head only = grind (arith, each-weaker, here-below)
 here-first ino (Restore segment bytes) f first js may head only = subst (AllByRecursion (λ j. offline_at (file_after first f).kept.stubs j ≡ false)) (sym (none-unsealed js only)) tt
 
 module _ (ino : ℕ) (change : Rewrite) (ms : List Mapping) (rs : List Record) (c : Catalog) (f : CatalogFile) (found : find_key (λ x. x.key) (key_on ino c) c.files ≡ Some f) (lawful : IsCatalogFile (geometry_of c.geometry).blocks f)

@@ -1,5 +1,5 @@
 -- The memory that a body takes for a change, and gives back.
-use Rattle.file_store.proofs.Names.{◌≡◌, ℕ, ◌+◌, ◌-◌, ◌*◌, ◌<◌, ◌≤◌, ◌==◌, ◌&&◌, ◌||◌, min, max, List, length, take, drop, replicate, Bool, true, false, refl, sym, ◌∙◌, ap, subst, false≢true, ⊎_elim, arith, rules, same_lists, places, length-take, lt-ltb, and_from, written, resized, Rewrite, Write, Resize, Restore, new_size, grown, brings, HasRoom, HeldBody, is_away, AreZeros, IsAlike}
+use Rattle.file_store.proofs.Names.{◌≡◌, ℕ, ◌+◌, ◌-◌, ◌*◌, ◌<◌, ◌≤◌, ◌==◌, ◌&&◌, ◌||◌, min, max, List, length, take, drop, replicate, Bool, true, false, refl, sym, ◌∙◌, ap, false≢true, ⊎_elim, arith, rules, same_lists, places, length-take, lt-ltb, and_from, written, resized, Rewrite, Write, Resize, Restore, new_size, grown, brings, HasRoom, HeldBody, is_away, AreZeros, IsAlike}
 use Rattle.std.specs.Prelude.{nat_le, nat_lt, Result, Ok, Err, OnOk, IsOk}
 use Rattle.std.proofs.Math.Bool.{and-true, and-false, or-false}
 use Rattle.std.proofs.lemmas.Bool.{cases_eq, eqb-true, eq-eqb, ne_eqb, le-leb, or_right}
@@ -35,26 +35,12 @@ module _ (old new : HeldBody) (starts : (j : ℕ) → is_away old j ≡ true →
   -- zeros up to the new size
   pub grown-room : (change : Rewrite) (size : ℕ) → ((j : ℕ) → brings change j ≡ false) → size ≡ max (length old.bytes) (new_size change old.bytes) → new.bytes ≡ resized size old.bytes
       → ((j : ℕ) → is_away new j ≡ (is_away old j && nat_lt (65536 * j) size)) → HasRoom change old new
-  grown-room change size none is bytes away = record {
-    bytes = bytes ∙ (ap (λ (n : ℕ). resized n old.bytes) is ∙ resized-grown (new_size change old.bytes) old.bytes);
-    away = λ j. away j ∙ (within-all (is_away old j) j size (λ gone. let start = starts j gone in omega (arith, start, is)) ∙ sym (rw (none j) (and-true (is_away old j))));
-    starts = starts;
-    zeros = λ j some. absurd (let never = none j in cc);
-  }
+  grown-room change size none is bytes away = grind (arith, resized-grown, within-all, and-true)
 
   -- the segment that comes back
   pub brought-room : (segment : ℕ) (change : Rewrite) → ((j : ℕ) → brings change j ≡ (j == segment)) → new_size change old.bytes ≡ length old.bytes → (new.bytes ≡ old.bytes) × (is_away new segment ≡ false)
       → ((j : ℕ) → (j ≡ segment → ⊥) → is_away new j ≡ is_away old j) → (is_away old segment ≡ true → AreZeros (segment_of segment old.bytes)) → HasRoom change old new
-  brought-room segment change one size it others zeros = record {
-    bytes = it.0 ∙ sym (ap (λ (n : ℕ). grown n old.bytes) size ∙ grown-none old.bytes);
-    away = λ j.
-        ⊎_elim
-        (λ (q : j ≡ segment). rw (one j, q, eq-eqb segment segment refl) (it.1 ∙ sym (and-false (is_away old segment))))
-        (λ (q : j ≡ segment → ⊥). rw (one j, ne_eqb j segment q) (others j q ∙ sym (and-true (is_away old j))))
-        (cases_eq j segment);
-    starts = starts;
-    zeros = λ j some gone. let same : j ≡ segment = eqb-true j segment (sym (one j) ∙ some) in subst (λ (i : ℕ). AreZeros (segment_of i old.bytes)) (sym same) (zeros (subst (λ (i : ℕ). is_away old i ≡ true) same gone));
-  }
+  brought-room segment change one size it others zeros = grind (arith, grown-none, eq-eqb, and-false, ne_eqb, and-true, cases_eq, eqb-true)
 
 -- ---- it is given back
 
@@ -76,12 +62,7 @@ apart s j low other = grind (arith, nat_tests)
 module _ (change : Rewrite) (old room new : HeldBody) (has : HasRoom change old room) where
   -- a cut takes the zeros away
   pub cut-alike : (size : ℕ) → ((j : ℕ) → brings change j ≡ false) → length old.bytes ≡ size → new.bytes ≡ resized size room.bytes → ((j : ℕ) → is_away new j ≡ (is_away room j && nat_lt (65536 * j) size)) → IsAlike old new
-  cut-alike size none long bytes away = record {
-    bytes = bytes ∙ (ap (λ (n : ℕ). resized n room.bytes) (sym long) ∙ (ap (resized (length old.bytes)) has.bytes ∙ grown-back (new_size change old.bytes) old.bytes));
-    away = λ j.
-        let was : is_away room j ≡ is_away old j = has.away j ∙ rw (none j) (and-true (is_away old j)) in
-        away j ∙ (ap (λ (b : Bool). b && nat_lt (65536 * j) size) was ∙ within-all (is_away old j) j size (λ gone. let start = has.starts j gone in omega (arith, start, long)));
-  }
+  cut-alike size none long bytes away = grind (arith, grown-back, and-true, within-all)
 
   -- the segment that came leaves again
   pub left-alike : (segment : ℕ) → ((j : ℕ) → brings change j ≡ (j == segment)) → new_size change old.bytes ≡ length old.bytes → is_away old segment ≡ true

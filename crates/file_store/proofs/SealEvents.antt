@@ -1,10 +1,10 @@
 -- Sealing a segment of a live file: that its record can come, and what refuses it.
-use Rattle.file_store.proofs.Names.{◌≡◌, ◌*◌, ◌<◌, ◌≤◌, ℕ, List, [], ◌∷◌, length, Bool, true, false, Option, Some, None, refl, sym, ◌∙◌, ap, subst, IsSome, FileKey, find_key, bytes_of, Record, Stub, geometry_of, key_on, kept_at, CanStand, refusal_of, Meta, IsMeta, IsHeldFiles, HeldBody, held_with, bytes_with, IsBodiless, Kept, if◌then◌else◌}
+use Rattle.file_store.proofs.Names.{◌≡◌, ◌*◌, ◌<◌, ◌≤◌, ℕ, List, [], ◌∷◌, length, Bool, true, false, Option, Some, None, refl, sym, ◌∙◌, ap, subst, IsSome, FileKey, find_key, bytes_of, Record, Stub, key_on, kept_at, CanStand, Meta, IsHeldFiles, HeldBody, held_with, bytes_with, IsBodiless, Kept, if◌then◌else◌}
 use Rattle.std.proofs.lemmas.Bool.{false≢true}
 use Rattle.std.proofs.lemmas.Option.{same_Some}
 use Rattle.hsm_types.specs.Refusals.{first_refusal}
 use Rattle.hsm_types.specs.Segments.{segment_len}
-use Rattle.hsm_types.specs.Stubs.{stub_at, is_offline, offline_at, already_offline, sealing_refusal, print_of}
+use Rattle.hsm_types.specs.Stubs.{stub_at, is_offline, offline_at, already_offline, print_of}
 use Rattle.hsm_types.specs.declared.dm.DmRefusal.{DmRefusal}
 use Rattle.hsm_types.specs.declared.dm.DmRefusal.TheVariants.{Offline}
 use Rattle.hsm_types.specs.declared.stubs.Fingerprint.{Fingerprint}
@@ -12,9 +12,9 @@ use Rattle.hsm_types.specs.declared.stubs.Stub.{Stub as StubOf}
 use Rattle.hsm_types.specs.declared.stubs.StubEntry.{StubEntry}
 use Rattle.plain_model.proofs.Bodies.{length-read}
 use Rattle.plain_model.specs.Plain.{segment}
-use Rattle.plain_model.specs.Services.{kept_of, other_stubs}
+use Rattle.plain_model.specs.Services.{kept_of}
 use Rattle.file_store.specs.Effects.{IsSeal}
-use Rattle.file_store.proofs.FilesBy.{kept-held, kept-found, stubs-others, key_on-live}
+use Rattle.file_store.proofs.FilesBy.{kept-found, key_on-live}
 use Rattle.file_store.proofs.WithBodies.{IsFound, live-held, body-held, is-body}
 
 -- a segment that isn't refused as offline has its bytes
@@ -33,9 +33,9 @@ counted (Some why) none = rw none refl
 abbrev sealing : ℕ → StubEntry → FileKey → Record
 sealing j entry k = Stub k.ino j (Some (record { entry = entry; offline = false }))
 
-module _ (bs : List HeldBody) (m : Meta) (is : IsHeldFiles bs m) (k : FileKey) (live : IsSome (find_key (λ f. f.key) k (held_with bs m.current).files)) (j : ℕ) (entry : StubEntry) where
+module _ {bs : List HeldBody} {m : Meta} (is : IsHeldFiles bs m) (k : FileKey) (live : IsSome (find_key (λ f. f.key) k (held_with bs m.current).files)) (j : ℕ) (entry : StubEntry) where
   at : IsFound (length bs) m.current k
-  at = live-held bs m is k live
+  at = live-held is k live
 
   key : key_on k.ino m.current ≡ k
   key = key_on-live m.current k at.file is.catalog at.found
@@ -49,7 +49,7 @@ module _ (bs : List HeldBody) (m : Meta) (is : IsHeldFiles bs m) (k : FileKey) (
 
     module _ (start : 65536 * j < length (bytes_of k (held_with bs m.current).files)) (volume : entry.volume ≤ 255) (print : offline_at (kept_of k (held_with bs m.current).files).stubs j ≡ false → entry.print ≡ print_of (segment j (bytes_of k (held_with bs m.current).files))) where
       size : length (bytes_of k (held_with bs m.current).files) ≡ at.file.size
-      size = ap length (body-held bs m.current k at.file at.found) ∙ (is-body bs m is k at).size
+      size = ap length (body-held bs m.current k at.file at.found) ∙ (is-body is at).size
 
       of_length : entry.print.len ≡ segment_len at.file.size j
       of_length =
@@ -58,7 +58,7 @@ module _ (bs : List HeldBody) (m : Meta) (is : IsHeldFiles bs m) (k : FileKey) (
           ap (λ (p : Fingerprint). p.len) same ∙ length-read (65536 * j) 65536 body ∙ ap (λ n. segment_len n j) size
 
       pub seals : IsBodiless k (sealing j entry k) m.current
-      seals = (key, λ f found. let same : at.file ≡ f = same_Some at.file f (sym at.found ∙ found) in subst (IsSeal j (record { entry = entry; offline = false })) same (record { stays = refl; here = here; len = of_length }))
+      seals = (key, λ f found. let same : at.file ≡ f = same_Some at.file f (sym at.found ∙ (rw key at found)) in subst (IsSeal j (record { entry = entry; offline = false })) same (record { stays = refl; here = here; len = of_length }))
 
       pub can_seal : CanStand (sealing j entry k) m.current
       can_seal = (at.file, ap (λ (i : FileKey). find_key (λ f. f.key) i m.current.files) key ∙ at.found, record { fits = record { start = rw (← size) start; len = refl; volume = volume; covered = λ off. absurd cc }; turns = record { goes = λ off. absurd cc; comes = λ stays off. absurd (false≢true (sym here ∙ off)) } })

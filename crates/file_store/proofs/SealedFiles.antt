@@ -5,13 +5,11 @@ use Rattle.std.specs.BTreeMap.{insert_entry}
 use Rattle.std.specs.List.{AllByRecursion}
 use Rattle.std.specs.Ordering.{nat_cmp, match_ordering}
 use Rattle.std.proofs.lemmas.Bool.{eqb-true}
-use Rattle.hsm_types.specs.Segments.{segment_len}
 use Rattle.hsm_types.specs.Stubs.{Stubs, stub_at, is_offline, offline_at, with_stub}
 use Rattle.hsm_types.specs.declared.keys.FileKey.{FileKey}
 use Rattle.hsm_types.specs.declared.stubs.Stub.{Stub as StubOf}
-use Rattle.plain_model.specs.Keyed.{find_key}
 use Rattle.meta_store.specs.Catalogs.{CatalogFile, Catalog, HasLengths, AreLengths}
-use Rattle.meta_store.specs.Records.{file_after, inode_of, key_on, after, CanStand}
+use Rattle.meta_store.specs.Records.{file_after, key_on, after, CanStand}
 use Rattle.meta_store.specs.declared.records.Record.{Record}
 use Rattle.meta_store.specs.declared.records.Record.TheVariants.{Make, Drop, Size, Map, Stub}
 use Rattle.meta_store.proofs.FileEdits.{each-put, each-drop, each-change, each-changed}
@@ -45,8 +43,7 @@ each-with P j stub (x ∷ rest) new same each = by (nat_cmp j x.0) refl (each-wi
     by Greater is later = (each.0, later)
 
 sealed-lengths : (ino j : ℕ) (stub : StubOf) (f : CatalogFile) → IsSeal j stub f → HasLengths f → HasLengths (file_after (Stub ino j (Some stub)) f)
-sealed-lengths ino j stub f is has =
-    each-with (λ x. x.1.entry.print.len ≡ segment_len f.size x.0) j stub f.kept.stubs is.len (λ x same. let at : j ≡ x.0 = grind arith in is.len ∙ ap (segment_len f.size) at) has
+sealed-lengths ino j stub f is has = grind (arith, each-with)
 
 -- a record that concerns no bytes keeps them
 pub lengths-after : (k : FileKey) (r : Record) (c : Catalog) → IsBodiless k r c → CanStand r c → AreLengths c → AreLengths (after r c)
@@ -56,5 +53,5 @@ lengths-after k (Size ino size) c is stands are = absurd is
 lengths-after k (Map ino block places) c is stands are = absurd is
 lengths-after k (Stub ino j None) c is stands are = absurd is
 lengths-after k (Stub ino j (Some stub)) c is stands are =
-    each-changed HasLengths (key_on ino c) (file_after (Stub ino j (Some stub))) c.files (λ f found has. sealed-lengths ino j stub f (is.1 f (ap (λ (at : FileKey). find_key (λ x. x.key) at c.files) (sym is.0) ∙ found)) has) are
-lengths-after k r c is stands are = each-change HasLengths (key_on (inode_of r) c) (file_after r) c.files (λ f has. has) are
+    each-changed HasLengths (key_on ino c) (file_after (Stub ino j (Some stub))) c.files (λ f found has. sealed-lengths ino j stub f (is.1 f found) has) are
+lengths-after k r c is stands are = grind (arith, each-change)

@@ -1,10 +1,10 @@
 -- What readers of the catalog tell of the files in memory.
-use Rattle.file_store.proofs.Names.{ℕ, ◌*◌, ◌<◌, take, drop, arith, ap, length-take, ◌≡◌, List, length, AllByRecursion, HeldBody, CatalogFile, geometry_of, Meta, IsMeta, IsHeldFiles, IsBody, AreBodies, body_with, bytes_with, held_with, Shows, IsLawful}
+use Rattle.file_store.proofs.Names.{ℕ, ◌*◌, ◌<◌, take, drop, arith, ap, length-take, ◌≡◌, List, length, AllByRecursion, HeldBody, CatalogFile, geometry_of, Meta, IsMeta, IsHeldFiles, AreBodies, bytes_with, held_with, Shows, IsLawful}
 use Rattle.file_store.proofs.EachOf.{each-weaker}
 use Rattle.file_store.proofs.FilesBy.{shows, held_lawful}
 
 pub sizes_with : (bs : List HeldBody) (fs : List CatalogFile) → AreBodies bs fs → AllByRecursion (λ f. length (bytes_with bs f) ≡ f.size) fs
-sizes_with bs fs are = each-weaker (λ f. IsBody (body_with bs f) f) (λ f. length (bytes_with bs f) ≡ f.size) (λ f is. is.size) fs are
+sizes_with bs fs are = grind (arith, each-weaker)
 
 pub shown_with : (bs : List HeldBody) (m : Meta) → IsHeldFiles bs m → Shows m.current (held_with bs m.current)
 shown_with bs m is = shows (bytes_with bs) m.current (sizes_with bs m.current.files is.sizes)

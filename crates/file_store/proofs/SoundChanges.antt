@@ -1,5 +1,5 @@
 -- A change of the bytes of a file that is sound: which of its segments are here, before it and after it, and that its entries keep their lengths.
-use Rattle.file_store.proofs.Names.{◌≡◌, ℕ, zero, suc, ◌+◌, ◌-◌, ◌*◌, ◌/◌, ◌%◌, ◌<◌, ◌≤◌, min, max, List, [], ◌∷◌, ◌++◌, length, Bool, true, false, ◌&&◌, Option, Some, None, refl, sym, ◌∙◌, ap, subst, ⊎_elim, arith, cond_both, eqb, ltb, ◌==◌, if◌then◌else◌, AllByRecursion, false≢true, and_parts, ltb-true, lt-ltb, and_from, Rewrite, Write, Resize, Restore, effect_of, unseals, IsRewrite, IsWithin, HasEntry, BringsOffline, BringsAway, HasRoom, HasRange, brings, spares, touched, from_on, met, old_end, blocks_in, rekept, remapped, Mapping, CatalogFile, IsCatalogFile, file_by, HeldBody, is_away, IsHere}
+use Rattle.file_store.proofs.Names.{◌≡◌, ℕ, ◌+◌, ◌-◌, ◌*◌, ◌/◌, ◌<◌, ◌≤◌, min, max, List, [], ◌∷◌, length, Bool, true, false, ◌&&◌, Option, Some, None, refl, sym, ◌∙◌, ap, subst, ⊎_elim, arith, ltb, ◌==◌, if◌then◌else◌, AllByRecursion, false≢true, and_parts, ltb-true, and_from, Rewrite, Write, Resize, Restore, effect_of, unseals, IsRewrite, IsWithin, HasEntry, BringsOffline, BringsAway, HasRoom, HasRange, brings, spares, touched, rekept, remapped, Mapping, CatalogFile, IsCatalogFile, file_by, HeldBody, is_away, IsHere}
 use Rattle.std.specs.Prelude.{not, nat_le, nat_lt, IfSome}
 use Rattle.std.specs.Option.{option_map}
 use Rattle.std.proofs.lemmas.Bool.Decides.{nat_tests}
@@ -11,8 +11,9 @@ use Rattle.hsm_types.specs.declared.stubs.Fingerprint.{Fingerprint}
 use Rattle.hsm_types.specs.declared.stubs.Stub.{Stub as StubOf}
 use Rattle.hsm_types.proofs.Stubbing.{stub_at-unsealed, stub_at-restored}
 use Rattle.plain_model.specs.Sound.{IsSound}
-use Rattle.meta_store.specs.Catalogs.{IsCatalogStub, HasLengths}
+use Rattle.meta_store.specs.Catalogs.{HasLengths}
 use Rattle.meta_store.proofs.StubLists.{each-at as stub-each}
+use Rattle.file_store.proofs.ByteChanges.{touched-each}
 use Rattle.file_store.proofs.Loaded.{offline-some}
 use Rattle.file_store.proofs.UnsealedEntries.{each-filter}
 
@@ -26,20 +27,17 @@ pub record Allowed (change : Rewrite) (f : CatalogFile) : Type 0 where
 
 -- a segment with an entry begins within the file
 offline-starts : (blocks : ℕ) (f : CatalogFile) → IsCatalogFile blocks f → (j : ℕ) → offline_at f.kept.stubs j ≡ true → 65536 * j < f.size
-offline-starts blocks f lawful j off = let at = offline-some (stub_at j f.kept.stubs) off in (stub-each (IsCatalogStub f) f.kept.stubs j at.0 lawful.stubs at.1).fits.start
+offline-starts blocks f lawful j off = grind (arith, offline-some, stub-each)
 
 unless : (b : Bool) → (b ≡ true → b ≡ false) → b ≡ false
 unless true step = step refl
 unless false step = refl
 
 meets-parts : (from to j : ℕ) → meets_segment from to j ≡ true → (from < to) × (from < 65536 * j + 65536) × (65536 * j < to)
-meets-parts from to j meets =
-    let first = and_parts (ltb from to && ltb from (65536 * j + 65536)) (ltb (65536 * j) to) meets in
-    let second = and_parts (ltb from to) (ltb from (65536 * j + 65536)) first.0 in
-    (ltb-true from to second.0, ltb-true from (65536 * j + 65536) second.1, ltb-true (65536 * j) to first.1)
+meets-parts from to j meets = grind arith
 
 meets-from : (from to j : ℕ) → from < to → from < 65536 * j + 65536 → 65536 * j < to → meets_segment from to j ≡ true
-meets-from from to j some low high = and_from (ltb from to && ltb from (65536 * j + 65536)) (ltb (65536 * j) to) (and_from (ltb from to) (ltb from (65536 * j + 65536)) (lt-ltb from to some) (lt-ltb from (65536 * j + 65536) low)) (lt-ltb (65536 * j) to high)
+meets-from from to j some low high = grind arith
 
 module _ (B : CatalogFile → List ℕ) (f : CatalogFile) (blocks : ℕ) (lawful : IsCatalogFile blocks f) (lengths : HasLengths f) (size : length (B f) ≡ f.size) where
   pub allowed : (change : Rewrite) → IsSound (effect_of change) (file_by B f) → Allowed change f
@@ -55,12 +53,7 @@ module _ (B : CatalogFile → List ℕ) (f : CatalogFile) (blocks : ℕ) (lawful
         unless (offline_at f.kept.stubs j) (λ off. let start = offline-starts blocks f lawful j off in let some = meets.0 in let inside = meets.1 in around (λ same. absurd (omega arith)) j (omega arith) inside);
     starts = offline-starts blocks f lawful;
   }
-  allowed (Restore segment bytes) sound =
-      let at = sound.1 in
-      let len = stub-each (λ x. x.1.entry.print.len ≡ segment_len f.size x.0) f.kept.stubs segment at.0 lengths at.1 in
-      let own = ap (λ (p : Fingerprint). p.len) at.2 in
-      let start = rw size at sound.0 in
-      record { within = omega (arith, len, own, start); entry = (at.0, at.1); free = λ j drops. absurd (false≢true drops); starts = offline-starts blocks f lawful }
+  allowed (Restore segment bytes) sound = grind (arith, stub-each, offline-starts)
 
 -- bytes that come back: some, no more than a segment has, and within the longest file
 pub restores-lawful : (size segment len : ℕ) → len ≡ segment_len size segment → 65536 * segment < size → size ≤ 16777216 → (1 ≤ len) × (len ≤ 65536) × (65536 * segment + len ≤ 16777216)
@@ -77,9 +70,6 @@ of-length None bytes len off print is = absurd (false≢true off)
 of-length (Some stub) bytes len off print is = sym (ap (λ (p : Fingerprint). p.len) print) ∙ is
 
 -- ---- entries keep their lengths
-
-print-len : StubOf → ℕ
-print-len stub = stub.entry.print.len
 
 abbrev HasLen : ℕ → ℕ × StubOf → Type 0
 HasLen size x = x.1.entry.print.len ≡ segment_len size x.0
@@ -108,10 +98,6 @@ lengths-after (Resize to) ms f may lengths =
 lengths-after (Restore segment bytes) ms f may lengths = moved-lens false segment (segment + 1) f.size f.kept.stubs lengths
 
 -- ---- touched blocks are of segments that are here then
-
-run-each : (P : ℕ → Type 0) (a n : ℕ) → ((b : ℕ) → a ≤ b → b < a + n → P b) → AllByRecursion P (from_on a n)
-run-each P a zero all = tt
-run-each P a (suc n) all = (all a (omega arith) (omega arith), run-each P (a + 1) n (λ b low high. all b (omega arith) (omega arith)))
 
 unsealed-here : (from to : ℕ) (stubs : Stubs) (j : ℕ) → meets_segment from to j ≡ true → offline_at (unsealed from to stubs) j ≡ false
 unsealed-here from to stubs j meets = ap is_offline (stub_at-unsealed from to stubs j) ∙ rw meets refl
@@ -149,10 +135,10 @@ never-offline None = refl
 never-offline (Some stub) = refl
 
 restored-here : (k : ℕ) (stubs : Stubs) → offline_at (restored k stubs) k ≡ false
-restored-here k stubs = ap is_offline (stub_at-restored k stubs k) ∙ rw (eq-eqb k k refl) (never-offline (stub_at k stubs))
+restored-here k stubs = grind (arith, stub_at-restored, eq-eqb, never-offline)
 
 restored-stays : (k : ℕ) (stubs : Stubs) (j : ℕ) → (j ≡ k → ⊥) → offline_at (restored k stubs) j ≡ offline_at stubs j
-restored-stays k stubs j other = ap is_offline (stub_at-restored k stubs j) ∙ rw (ne_eqb j k other) refl
+restored-stays k stubs j other = grind (arith, stub_at-restored, ne_eqb)
 
 -- a block of it
 abbrev HereThen : Rewrite → CatalogFile → ℕ → Type 0
@@ -160,34 +146,14 @@ HereThen change f b = offline_at (rekept (effect_of change) f.size f.kept).stubs
 
 pub touched-here : (change : Rewrite) (f : CatalogFile) → IsRewrite change → AllByRecursion (HereThen change f) (touched (effect_of change) f.size)
 touched-here (Write offset bytes) f may =
-    let size : ℕ = f.size in
-    let end : ℕ = offset + length bytes.now in
-    let P : ℕ → Type 0 = HereThen (Write offset bytes) f in
     let some = may.0 in
-    let run : AllByRecursion P (met offset end) =
-    run-each P (offset / 4096) (blocks_in end - offset / 4096) (λ b low high. unsealed-here (min offset size) end f.kept.stubs (b / 16) (meets-from (min offset size) end (b / 16) (omega arith) (omega arith) (omega arith))) in
-    cond_both (ltb size end && ltb (size / 4096) (offset / 4096)) (old_end size ++ met offset end) (met offset end) (AllByRecursion P)
-    (λ far.
-    let parts = and_parts (ltb size end) (ltb (size / 4096) (offset / 4096)) far in
-    let grows = ltb-true size end parts.0 in
-    let apart = ltb-true (size / 4096) (offset / 4096) parts.1 in
-    cond_both (eqb (size % 4096) 0) [] ((size / 4096) ∷ []) (λ bs. AllByRecursion P (bs ++ met offset end)) (λ whole. run)
-    (λ cut. (unsealed-here (min offset size) end f.kept.stubs (size / 4096 / 16) (meets-from (min offset size) end (size / 4096 / 16) (omega arith) (omega arith) (omega arith)), run)))
-    (λ near. run)
-touched-here (Resize to) f may =
-    let size : ℕ = f.size in
-    let P : ℕ → Type 0 = HereThen (Resize to) f in
-    cond_both (ltb size to) (old_end size) [] (AllByRecursion P)
-    (λ grows.
-    let lt = ltb-true size to grows in
-    cond_both (eqb (size % 4096) 0) [] ((size / 4096) ∷ []) (AllByRecursion P) (λ whole. tt)
-    (λ cut. (unsealed-here (min to size) (max to size) f.kept.stubs (size / 4096 / 16) (meets-from (min to size) (max to size) (size / 4096 / 16) (omega arith) (omega arith) (omega arith)), tt)))
-    (λ other. tt)
+    touched-each _ (Write offset bytes) f.size
+    (λ b is. let low = is.0 in let high = is.1 in unsealed-here (min offset f.size) (offset + length bytes.now) f.kept.stubs (b / 16) (meets-from (min offset f.size) (offset + length bytes.now) (b / 16) (omega arith) (omega arith) (omega arith)))
+touched-here (Resize to) f may = grind (arith, touched-each, unsealed-here, meets-from)
 touched-here (Restore segment bytes) f may =
-    let P : ℕ → Type 0 = HereThen (Restore segment bytes) f in
     let most = may.1 in
-    run-each P (65536 * segment / 4096) (blocks_in (65536 * segment + length bytes.now) - 65536 * segment / 4096)
-    (λ b low high. let same : b / 16 ≡ segment = omega arith in subst (λ (j : ℕ). offline_at (restored segment f.kept.stubs) j ≡ false) (sym same) (restored-here segment f.kept.stubs))
+    touched-each _ (Restore segment bytes) f.size
+    (λ b is. let low = is.0 in let high = is.1 in let same : b / 16 ≡ segment = omega arith in subst (λ (j : ℕ). offline_at (restored segment f.kept.stubs) j ≡ false) (sym same) (restored-here segment f.kept.stubs))
 
 -- ---- bodies
 

@@ -1,5 +1,5 @@
 -- Events of a live store: a record that concerns no bytes of a file that stays, and bytes with their records.
-use Rattle.file_store.proofs.Names.{IsAlike, HeldBody, no_body, IsHere, IsWithin, ◌/◌, held_file, file_or_new, file_by, option_map, rekept, touched, Restore, each-drop, ◌+◌, IsSome, find_key, used, bytes_with, new_size, touched_of, places_for, IsStaged, get_or, ◌≡◌, ℕ, ◌<◌, List, [], ◌∷◌, length, Bool, true, false, Option, Some, None, refl, sym, ◌∙◌, ap, subst, All, inl, inr, zero, suc, ◌-◌, ◌*◌, ◌≤◌, take, drop, set, arith, length-take, FileKey, Space, unmarked, free, marked, Record, Catalog, IsCatalogFile, geometry_of, present, blocks_of, after, CanStand, refusal_of, refusal_of_all, with_changed, after_all, CanStandAll, key_on, blocks_in_image, IsImage, Meta, IsMeta, Backs, StoresOrKeeps, held_at, held_with, block_of, bytes_at, IsBodiless, held_after, Store, IsLive, IsSound, marks_of, IsEither, Proceeds, AllByRecursion, All-from_recursion, All-weaker, part, Follows, MayBe, Keeps, holds_on, holds_now, layout_of, rebody, blocks_in, size_after, Held, bytes_of, affected_held, Mapping, each-found, Rewrite, Write, Resize, IsBesideBlocks, HasBlocks, effect_of, IsRewrite, IsRewriting, mappings_of, remapped, freed_by, places_under, IsHeldFiles, IsFree, length-marked, marked_keeps, taken_are_free, release_undoes_take, uses, uses-append, Ghosts}
+use Rattle.file_store.proofs.Names.{IsAlike, HeldBody, no_body, IsHere, IsWithin, ◌/◌, held_file, file_or_new, file_by, option_map, rekept, touched, Restore, each-drop, ◌+◌, IsSome, find_key, used, bytes_with, new_size, touched_of, places_for, IsStaged, get_or, ◌≡◌, ℕ, ◌<◌, List, [], ◌∷◌, length, Bool, true, false, Option, Some, None, refl, sym, ◌∙◌, ap, subst, All, inl, inr, zero, suc, ◌-◌, ◌*◌, ◌≤◌, take, drop, set, arith, length-take, FileKey, Space, unmarked, free, marked, Record, Catalog, IsCatalogFile, geometry_of, present, blocks_of, after, CanStand, refusal_of, refusal_of_all, with_changed, after_all, CanStandAll, key_on, blocks_in_image, IsImage, Meta, IsMeta, Backs, StoresOrKeeps, held_at, held_with, block_of, bytes_at, IsBodiless, held_after, Store, IsLive, IsSound, marks_of, IsEither, Proceeds, AllByRecursion, All-from_recursion, All-weaker, part, Follows, MayBe, Keeps, holds_on, holds_now, layout_of, rebody, blocks_in, size_after, Held, bytes_of, affected_held, Mapping, each-found, Rewrite, Write, Resize, IsBesideBlocks, HasBlocks, effect_of, IsRewrite, IsRewriting, mappings_of, remapped, freed_by, places_under, IsHeldFiles, length-marked, marked_keeps, taken_are_free, release_undoes_take, uses, uses-append, Ghosts}
 use Rattle.hsm_types.specs.declared.dm.DmRefusal.{DmRefusal}
 use Rattle.meta_store.specs.declared.refusal.MetaRefusal.{MetaRefusal}
 use Rattle.meta_store.specs.declared.refusal.MetaRefusal.TheVariants.{Part, Disk, Memory}
@@ -27,27 +27,27 @@ module _ {D : Type 0} (g : Ghosts D) (k : FileKey) (r : Record) (freed : List �
   live = sound.live working
 
   pub freed_low : All (λ b. b < length p.space.current) freed
-  freed_low = rw live.marks (freed-within k p.meta.current sound.meta.current freed r bodiless stands free)
+  freed_low = grind (arith, live, freed-within)
 
   pub recorded : (new : D) (m : Meta) (n : ℕ) (wrote : Bool) (tells : Tells g p.disk p.meta n wrote new m) → m.current ≡ after r p.meta.current → IsMeta m → Backs g new m → StoresOrKeeps g p.disk new p.meta n
       → IsDone g p n (held_after k r (store_of p).held) (after_event p new m wrote (bodies_after k r p.bodies) (unmarked freed p.space.current) p.space.current)
   recorded new m n wrote tells current lawful backs turns =
-      done g p sound.meta live n new m _ _ p.space.current backs _ (ap (held_with (bodies_after k r p.bodies)) current ∙ held_with-after p.bodies p.meta held k r bodiless stands)
+      done g p sound.meta live n new m _ _ p.space.current backs _ (ap (held_with (bodies_after k r p.bodies)) current ∙ held_with-after held k r bodiless stands)
       (λ c gives. let blocks = blocks_in_image p.meta.durable.geometry c in ap (held_at blocks) current ∙ held_at-after blocks k r p.meta.current bodiless stands ∙ ap (held_after k r) (live.current c gives))
       (ap (unmarked freed) live.marks ∙ marks-after k p.meta.current sound.meta.current freed r bodiless stands free ∙ ap marks_of (sym current)) (rw live.marks (marks_there p.meta.current sound.meta.current)) wrote tells lawful turns
-      (IsHeldFiles-after p.bodies p.meta held k r m bodiless stands current lawful.current)
+      (IsHeldFiles-after held k r m bodiless stands current lawful.current)
 
 -- where both maps have just the blocks that files use, all others are free
 pub all_free : {D : Type 0} (g : Ghosts D) (p : Parts D) → IsSound g (store_of p) → p.failed ≡ false → p.space.durable ≡ p.space.current → length (free p.space) + used (store_of p).held.files ≡ (geometry_of p.meta.durable.geometry).blocks
-all_free g p sound working same = rw (used-held (bytes_with p.bodies) p.meta.current, ← sound.meta.stored.geometry) (others_free p.meta.current sound.meta.current p.space (sound.live working).marks same)
+all_free g p sound working same = grind (arith, used-held, others_free)
 
 -- ---- it wasn't taken
 
 pub refused_sound : {D : Type 0} (g : Ghosts D) (s : Store D) (new : D) (space : Space) (refusal : MetaRefusal) → IsSound g s → s.failed ≡ false → ((why : DmRefusal) → refusal ≡ Part why → (space ≡ s.space) × (new ≡ s.disk)) → (refusal ≡ Memory → (space ≡ s.space) × (new ≡ s.disk))
     → IsSound g (record s { disk = new; space = space; failed = is_disk refusal })
-refused_sound g s new space (Part why) sound working part memory = rw ((part why refl).0, (part why refl).1) (subst (λ b. IsSound g (record s { failed = b })) working sound)
+refused_sound g s new space (Part why) sound working part memory = grind arith
 refused_sound g s new space Disk sound working part memory = record { meta = sound.meta; live = λ still. absurd cc }
-refused_sound g s new space Memory sound working part memory = rw ((memory refl).0, (memory refl).1) (subst (λ b. IsSound g (record s { failed = b })) working sound)
+refused_sound g s new space Memory sound working part memory = grind arith
 
 pub refusal_alone : (rs : List Record) (r : Record) (c : Catalog) → rs ≡ r ∷ [] → refusal_of r c ≡ refusal_of_all rs c
 refusal_alone rs r c is = rw is (grind arith)
@@ -78,10 +78,10 @@ fit stubs n total bs ps long low within here =
 -- places that are taken can be given back, which undoes it
 module _ (space : Space) (n : ℕ) where
   pub places_within : All (λ b. b < length (marked (take n (free space)) space.current)) (take n (free space))
-  places_within = rw (length-marked (take n (free space)) space.current) (All-weaker (IsFree space) (λ b. b < length space.current) (λ b f. f.within) (take n (free space)) (taken_are_free space n).each)
+  places_within = grind (arith, length-marked, All-weaker, taken_are_free)
 
   pub undone : unmarked (take n (free space)) (marked (take n (free space)) space.current) ≡ space.current
-  undone = release_undoes_take space.current (take n (free space)) (All-weaker (IsFree space) (λ b. get_or space.current b true ≡ false) (λ b f. f.current) (take n (free space)) (taken_are_free space n).each)
+  undone = grind (arith, release_undoes_take, All-weaker, taken_are_free)
 
 -- the body of that file, and its bytes
 abbrev pub body_of : List HeldBody → FileKey → HeldBody
@@ -114,9 +114,9 @@ size-few (Restore segment bytes) n may few = few
 pub known : {D : Type 0} (g : Ghosts D) (p : Parts D) (k : FileKey) (change : Rewrite) → IsHeldFiles p.bodies p.meta → IsSound g (store_of p) → p.failed ≡ false → IsSome (find_key (λ f. f.key) k (store_of p).held.files) → IsRewrite change
     → IsAllowed (effect_of change) (held_file k (store_of p).held.files) → length (touched_of change (bytes_of k (store_of p).held.files)) + used (store_of p).held.files ≤ (geometry_of p.meta.durable.geometry).blocks → length (touched_of change (bytes_of k (store_of p).held.files)) ≤ length (free p.space) → Given g p k change
 known g p k change files sound working there may allows left many =
-    let at = live-held p.bodies p.meta files k there in
+    let at = live-held files k there in
     let live = sound.live working in
-    let body = is-body p.bodies p.meta files k at in
+    let body = is-body files at in
     let file = each-found (IsCatalogFile (geometry_of p.meta.current.geometry).blocks) k at.file p.meta.current.files sound.meta.current.each at.found in
     let lengths = each-found HasLengths k at.file p.meta.current.files sound.meta.stored.now at.found in
     let is : held_file k (store_of p).held.files ≡ file_by (bytes_with p.bodies) at.file = ap (file_or_new k) (find-held (bytes_with p.bodies) k p.meta.current ∙ ap (option_map (file_by (bytes_with p.bodies))) at.found) in
@@ -128,13 +128,13 @@ known g p k change files sound working there may allows left many =
       live = live;
       at = at;
       may = may;
-      allowed = allowed (bytes_with p.bodies) at.file (geometry_of p.meta.current.geometry).blocks file lengths (ap length (bytes-of p.bodies p.meta files k at) ∙ body.size) change (subst (IsAllowed (effect_of change)) is allows);
+      allowed = allowed (bytes_with p.bodies) at.file (geometry_of p.meta.current.geometry).blocks file lengths (ap length (bytes-of files at) ∙ body.size) change (subst (IsAllowed (effect_of change)) is allows);
       few = size-few change _ may (let most = file.size in let own = body.size in omega arith);
       room = room;
       enough = rw (body-held p.bodies p.meta.current k at.file at.found) at many;
     }
 
-module _ {D : Type 0} (g : Ghosts D) (p : Parts D) (k : FileKey) (change : Rewrite) (x : Given g p k change) where
+module _ {D : Type 0} {g : Ghosts D} {p : Parts D} {k : FileKey} {change : Rewrite} (x : Given g p k change) where
   abbrev body : List ℕ
   body = bytes_in p.bodies k
 
@@ -154,13 +154,13 @@ module _ {D : Type 0} (g : Ghosts D) (p : Parts D) (k : FileKey) (change : Rewri
   next = with_changed k (remapped change (length body) ms) p.meta.current
 
   own : length body ≡ x.at.file.size
-  own = (is-body p.bodies p.meta x.files k x.at).size
+  own = (is-body x.files x.at).size
 
   pub within : IsWithin change (length body)
   within = rw own x.allowed.within
 
   file : IsCatalogFile (geometry_of p.meta.current.geometry).blocks x.at.file
-  file = each-found (IsCatalogFile (geometry_of p.meta.current.geometry).blocks) k x.at.file p.meta.current.files x.lawful.current.each x.at.found
+  file = grind (arith, each-found)
 
   -- what the file becomes
   pub becomes_is : remapped change (length body) ms x.at.file ≡ remapped change x.at.file.size ms x.at.file
@@ -177,15 +177,15 @@ module _ {D : Type 0} (g : Ghosts D) (p : Parts D) (k : FileKey) (change : Rewri
 
   -- the body is as it was
   pub bodies_back : (b : HeldBody) → IsAlike (body_of p.bodies k) b → IsBack p (set p.bodies (k.ino - 1) b)
-  bodies_back b alike = (IsHeldFiles-back p.bodies p.meta x.files k x.at b alike, held_with-back p.bodies p.meta x.files k x.at b alike)
+  bodies_back b alike = (IsHeldFiles-back x.files x.at b alike, held_with-back x.files x.at b alike)
 
   -- the disk has them
   pub fits : AllByRecursion (λ q. (layout_of p.meta.current.geometry).blocks + 4096 * q + 4096 ≤ g.length_of p.disk) places
-  fits = blocks_fit p.meta.current.geometry _ (x.live.backs.length ∙ ap (λ (z : ℕ). (layout_of z).whole) (sym x.lawful.stored.geometry)) _ are.within
+  fits = grind (arith, blocks_fit, are)
 
   -- ---- the records
 
-  module _ (records : List Record) (is : IsRewriting k.ino change (length body) x.at.file.kept.stubs ms records) where
+  module _ {records : List Record} (is : IsRewriting k.ino change (length body) x.at.file.kept.stubs ms records) where
     key : key_on k.ino p.meta.current ≡ k
     key = key_on-live p.meta.current k x.at.file x.lawful.current x.at.found
 
@@ -193,7 +193,7 @@ module _ {D : Type 0} (g : Ghosts D) (p : Parts D) (k : FileKey) (change : Rewri
     found_on = rw key x.at.found
 
     rewriting : IsRewriting k.ino change x.at.file.size x.at.file.kept.stubs ms records
-    rewriting = subst (λ (n : ℕ). IsRewriting k.ino change n x.at.file.kept.stubs ms records) own is
+    rewriting = grind (arith, own)
 
     pub stand : CanStandAll records p.meta.current
     stand =
@@ -204,10 +204,7 @@ module _ {D : Type 0} (g : Ghosts D) (p : Parts D) (k : FileKey) (change : Rewri
         (λ n. let once = are.once n in omega (arith, uses-append n (blocks_of p.meta.current.files) places, ap (uses n) (mapped blocks places long).1))
 
     become : after_all records p.meta.current ≡ next
-    become =
-        after_rewriting k.ino change ms records p.meta.current x.at.file found_on file rewriting
-        ∙ ap (λ (j : FileKey). with_changed j (remapped change x.at.file.size ms) p.meta.current) key
-        ∙ ap (λ (n : ℕ). with_changed k (remapped change n ms) p.meta.current) (sym own)
+    become = grind (arith, after_rewriting, found_on, file, rewriting, key, own)
 
     pub passes : refusal_of_all records p.meta.current ≡ None
     passes = not_refused k.ino change ms records p.meta.current x.at.file found_on rewriting
@@ -222,7 +219,7 @@ module _ {D : Type 0} (g : Ghosts D) (p : Parts D) (k : FileKey) (change : Rewri
 
   -- ---- the marks
 
-  module _ (freed : List ℕ) (freed_are : freed ≡ freed_by size blocks x.at.file.places) where
+  module _ {freed : List ℕ} (freed_are : freed ≡ freed_by size blocks x.at.file.places) where
     pub freed_within : All (λ b. b < length (marked places p.space.current)) freed
     freed_within =
         let file = each-found (IsCatalogFile (geometry_of p.meta.current.geometry).blocks) k x.at.file p.meta.current.files x.lawful.current.each x.at.found in
@@ -231,10 +228,7 @@ module _ {D : Type 0} (g : Ghosts D) (p : Parts D) (k : FileKey) (change : Rewri
         rw (length-marked places p.space.current ∙ ap length x.live.marks ∙ length-marks p.meta.current, freed_are) (All-from_recursion P (freed_by size blocks x.at.file.places) all)
 
     marks : unmarked freed (marked places p.space.current) ≡ marks_of next
-    marks =
-        ap (λ (fs : List ℕ). unmarked fs (marked places p.space.current)) freed_are
-        ∙ ap (λ (flags : List Bool). unmarked (freed_by size blocks x.at.file.places) (marked places flags)) x.live.marks
-        ∙ (marks-moved p.meta.current change (length body) blocks places k x.at.file x.at.found (touched-ascends change (length body) within) low long are.once)
+    marks = grind (arith, marks-moved, touched-ascends, low, long, are)
 
   -- ---- the writes, and then the records
 
@@ -243,11 +237,11 @@ module _ {D : Type 0} (g : Ghosts D) (p : Parts D) (k : FileKey) (change : Rewri
 
   bytes : (was : List ℕ) → held_at was p.meta.current ≡ (store_of p).held → bytes_at was x.at.file ≡ body
   bytes was holds =
-      sym (bytes-held (bytes_at was) p.meta.current k x.at.file x.at.found) ∙ ap (λ (h : Held). bytes_of k h.files) holds ∙ bytes-held (bytes_with p.bodies) p.meta.current k x.at.file x.at.found ∙ bytes-of p.bodies p.meta x.files k x.at
+      sym (bytes-held (bytes_at was) p.meta.current k x.at.file x.at.found) ∙ ap (λ (h : Held). bytes_of k h.files) holds ∙ bytes-held (bytes_with p.bodies) p.meta.current k x.at.file x.at.found ∙ bytes-of x.files x.at
 
-  module _ (mid : D) (moments : Keeps g p.disk mid (IsBesideBlocks (layout_of p.meta.current.geometry).blocks places)) where
+  module _ {mid : D} (moments : Keeps g p.disk mid (IsBesideBlocks (layout_of p.meta.current.geometry).blocks places)) where
     keeps : Keeps g p.disk mid (IsBesideBlocks (layout_of p.meta.durable.geometry).blocks places)
-    keeps = subst (λ (z : ℕ). Keeps g p.disk mid (IsBesideBlocks (layout_of z).blocks places)) x.lawful.stored.geometry moments
+    keeps = grind arith
 
     -- what recovery finds is what was durable
     abbrev Was : List ℕ → Type 0
@@ -263,7 +257,7 @@ module _ {D : Type 0} (g : Ghosts D) (p : Parts D) (k : FileKey) (change : Rewri
     )
 
     found : (n : ℕ) (c : List ℕ) → Was c → IsEither (store_of p) n c
-    found n c w = inl (record { catalog = p.meta.durable; same = refl; is = w.0; holds = w.1 })
+    found n c w = grind arith
 
     pub written_proceeds : (n : ℕ) (held : Held) (space : Space) (failed : Bool) → Proceeds g (store_of p) n (record (store_of p) { disk = mid; held = held; space = space; failed = failed })
     written_proceeds n held space failed = record {
@@ -274,7 +268,7 @@ module _ {D : Type 0} (g : Ghosts D) (p : Parts D) (k : FileKey) (change : Rewri
       durable = inl (refl, refl);
     }
 
-    module _ (records : List Record) (freed : List ℕ) (staged : IsStaged g p.disk mid p.meta.current k change body p.space records freed) where
+    module _ {records : List Record} {freed : List ℕ} (staged : IsStaged g p.disk mid p.meta.current k change body p.space records freed) where
       abbrev changed : List ℕ
       changed = rebody (effect_of change) body
 
@@ -282,7 +276,7 @@ module _ {D : Type 0} (g : Ghosts D) (p : Parts D) (k : FileKey) (change : Rewri
       base = (layout_of p.meta.durable.geometry).blocks
 
       has_blocks : Follows (HasBlocks base changed ms) (g.gives p.disk) (g.gives mid)
-      has_blocks = subst (λ (z : ℕ). Follows (HasBlocks (layout_of z).blocks changed ms) (g.gives p.disk) (g.gives mid)) x.lawful.stored.geometry staged.written
+      has_blocks = grind arith
 
       beside : (d c : List ℕ) → HasBlocks base changed ms d c → IsBesideBlocks base places d c
       beside d c step = subst (λ (ps : List ℕ). IsBesideBlocks base ps d c) (mapped blocks places long).1 step.beside
@@ -325,12 +319,12 @@ module _ {D : Type 0} (g : Ghosts D) (p : Parts D) (k : FileKey) (change : Rewri
       pub rewritten : (b : HeldBody) → b.bytes ≡ changed → IsHere b (remapped change x.at.file.size ms x.at.file) → (n : ℕ) (new : D) (m : Meta) (wrote : Bool) → Tells g mid p.meta n wrote new m → m.current ≡ after_all records p.meta.current → IsMeta m → Backs g new m → StoresOrKeeps g mid new p.meta n
           → IsDone g p n held_next (after_event p new m wrote (set p.bodies (k.ino - 1) b) (unmarked freed (marked places p.space.current)) (marked places p.space.current))
       rewritten b bytes_are here n new m wrote tells taken lawful backs turns =
-          let current = taken ∙ become records (staged.rewriting x.at.file x.at.found) in
+          let current = taken ∙ become (staged.rewriting x.at.file x.at.found) in
           let touched_are = (mapped blocks places long).0 in
           let has_marks = each-weaker (λ b. get_or p.space.current b false ≡ true) (λ b. get_or (marked places p.space.current) b false ≡ true) (λ b. marked_keeps places p.space.current b) (blocks_of p.meta.current.files) (rw x.live.marks (marks_there p.meta.current x.lawful.current)) in
           let it =
           done g (record p { disk = mid }) x.lawful written_live n new m _ (unmarked freed (marked places p.space.current)) (marked places p.space.current) backs held_next
-          (ap (held_with (set p.bodies (k.ino - 1) b)) current ∙ held_with-rewritten p.bodies p.meta x.files k x.at b change ms touched_are bytes_are)
-          (λ c gives. ap (held_at (blocks_in_image p.meta.durable.geometry c)) current ∙ holds_next c gives) (marks freed (staged.frees x.at.file x.at.found) ∙ ap marks_of (sym current)) has_marks wrote tells lawful turns
-          (IsHeldFiles-rewritten p.bodies p.meta x.files k x.at b change ms touched_are bytes_are m current lawful.current within (subst (IsHere b) (sym becomes_is) here)) in
+          (ap (held_with (set p.bodies (k.ino - 1) b)) current ∙ held_with-rewritten x.files x.at b change ms touched_are bytes_are)
+          (λ c gives. ap (held_at (blocks_in_image p.meta.durable.geometry c)) current ∙ holds_next c gives) (marks (staged.frees x.at.file x.at.found) ∙ ap marks_of (sym current)) has_marks wrote tells lawful turns
+          (IsHeldFiles-rewritten x.files x.at b change ms touched_are bytes_are m current lawful.current within (subst (IsHere b) (sym becomes_is) here)) in
           record { files = it.files; sound = it.sound; held = it.held; proceeds = joined n _ it.proceeds }

@@ -1,12 +1,13 @@
 -- Stub entries after a change of the bytes of their file: those of segments that it touches go, first by the new size, and then one by one.
-use Rattle.file_store.proofs.Names.{◌≡◌, ℕ, ◌+◌, ◌*◌, ◌<◌, min, max, List, [], ◌∷◌, length, Bool, true, false, ◌&&◌, ◌||◌, Some, None, refl, sym, ◌∙◌, ap, subst, arith, cond, cond_both, eqb, list_any, AllByRecursion, false≢true, eqb-true, is_some}
-use Rattle.std.specs.Prelude.{filter, not, nat_eq, nat_lt}
+use Rattle.file_store.proofs.Names.{◌≡◌, ℕ, ◌+◌, ◌*◌, ◌<◌, min, max, List, [], ◌∷◌, length, Bool, true, false, ◌&&◌, ◌||◌, refl, sym, ◌∙◌, ap, subst, arith, cond, cond_both, eqb, list_any, AllByRecursion, false≢true, eqb-true, is_some}
+use Rattle.std.specs.Prelude.{filter, not, nat_lt}
 use Rattle.std.proofs.lemmas.Bool.Decides.{nat_tests}
 use Rattle.std.proofs.lemmas.Bool.{eq-eqb}
 use Rattle.hsm_types.specs.Segments.{segments_in, meets_segment}
-use Rattle.hsm_types.specs.Stubs.{Stubs, stub_at, is_offline, offline_at, without_stub, stubs_below, unsealed}
+use Rattle.hsm_types.specs.Stubs.{Stubs, stub_at, offline_at, without_stub, stubs_below, unsealed}
 use Rattle.hsm_types.specs.declared.stubs.Stub.{Stub as StubOf}
 use Rattle.hsm_types.proofs.Stubbing.{stub_at-without, stub_at-below}
+use Rattle.file_store.proofs.EachOf.{each-both}
 
 -- ---- lists of which some are left
 
@@ -59,10 +60,10 @@ without-is (j ∷ js) p stubs =
 
 -- an entry that goes leaves others as they are
 pub here-without : (k : ℕ) (stubs : Stubs) (j : ℕ) → offline_at stubs j ≡ false → offline_at (without_stub k stubs) j ≡ false
-here-without k stubs j here = rw (stub_at-without k stubs j) (cond_both (eqb j k) None (stub_at j stubs) (λ s. is_offline s ≡ false) (λ same. refl) (λ other. here))
+here-without k stubs j here = grind (arith, stub_at-without, cond_both)
 
 pub here-below : (n : ℕ) (stubs : Stubs) (j : ℕ) → offline_at stubs j ≡ false → offline_at (stubs_below n stubs) j ≡ false
-here-below n stubs j here = rw (stub_at-below n stubs j) (cond_both (nat_lt j n) (stub_at j stubs) None (λ s. is_offline s ≡ false) (λ low. here) (λ past. refl))
+here-below n stubs j here = grind (arith, stub_at-below, cond_both)
 
 -- ---- what is left by a change
 
@@ -88,16 +89,13 @@ own-entry : (x : ℕ × StubOf) (rest : Stubs) → is_some (stub_at x.0 (x ∷ r
 own-entry x rest = rw (eq-eqb x.0 x.0 refl) refl
 
 more-entry : (x : ℕ × StubOf) (rest : Stubs) (j : ℕ) → is_some (stub_at j rest) ≡ true → is_some (stub_at j (x ∷ rest)) ≡ true
-more-entry x rest j is = cond_both (nat_eq j x.0) (Some x.1) (stub_at j rest) (λ s. is_some s ≡ true) (λ same. refl) (λ other. is)
+more-entry x rest j is = grind arith
 
 -- these segments are just those that pass the test, of those with an entry
 dropped : (P : ℕ → Bool) (js : List ℕ) (stubs xs : Stubs) → AllByRecursion (λ j. P j ≡ true) js → ((j : ℕ) → P j ≡ true → is_some (stub_at j stubs) ≡ true → has js j ≡ true) → ((j : ℕ) → is_some (stub_at j xs) ≡ true → is_some (stub_at j stubs) ≡ true)
     → AllByRecursion (λ x. has js x.0 ≡ P x.0) xs
 dropped P js stubs [] only every there = tt
-dropped P js stubs (x ∷ xs) only every there = (
-  both (has js x.0) (P x.0) (λ is. has-only P js x.0 only is) (λ is. every x.0 is (there x.0 (own-entry x xs))),
-  dropped P js stubs xs only every (λ j is. there j (more-entry x xs j is)),
-)
+dropped P js stubs (x ∷ xs) only every there = grind (arith, both, has-only, own-entry, more-entry, dropped P js stubs xs only every (λ j is. there j (more-entry x xs j is)))
 
 abbrev Starts : ℕ → ℕ × StubOf → Type 0
 Starts size x = 65536 * x.0 < size
@@ -108,10 +106,6 @@ resized-left size to j start = grind (arith, nat_tests)
 written-left : (size from end j : ℕ) → 65536 * j < size → (nat_lt j (segments_in (max size end)) && not (meets_segment from end j)) ≡ not (meets_segment from end j)
 written-left size from end j start = grind (arith, nat_tests)
 
-each-two : (P Q R : ℕ × StubOf → Type 0) → ((x : ℕ × StubOf) → P x → Q x → R x) → (xs : Stubs) → AllByRecursion P xs → AllByRecursion Q xs → AllByRecursion R xs
-each-two P Q R step [] p q = tt
-each-two P Q R step (x ∷ xs) p q = (step x p.0 q.0, each-two P Q R step xs p.1 q.1)
-
 -- a new size, and then the others
 pub left-written : (size offset : ℕ) (bytes : List ℕ) (js : List ℕ) (stubs : Stubs) → AllByRecursion (Starts size) stubs → AllByRecursion (λ j. meets_segment (min offset size) (offset + length bytes) j ≡ true) js
     → ((j : ℕ) → meets_segment (min offset size) (offset + length bytes) j ≡ true → is_some (stub_at j stubs) ≡ true → has js j ≡ true)
@@ -121,7 +115,7 @@ left-written size offset bytes js stubs starts only every =
     let end : ℕ = offset + length bytes in
     without-is js (λ q. nat_lt q (segments_in (max size end))) stubs
     ∙ filter-same _ _ stubs
-    (each-two (Starts size) (λ x. has js x.0 ≡ meets_segment from end x.0) (λ x. (nat_lt x.0 (segments_in (max size end)) && not (has js x.0)) ≡ not (meets_segment from end x.0))
+    (each-both (Starts size) (λ x. has js x.0 ≡ meets_segment from end x.0) (λ x. (nat_lt x.0 (segments_in (max size end)) && not (has js x.0)) ≡ not (meets_segment from end x.0))
     (λ x start same. rw same (written-left size from end x.0 start)) stubs starts (dropped (meets_segment from end) js stubs stubs only every (λ j is. is)))
 
 pub left-resized : (size to : ℕ) (js : List ℕ) (stubs : Stubs) → AllByRecursion (Starts size) stubs → AllByRecursion (λ j. (meets_segment (min to size) (max to size) j && nat_lt (65536 * j) to) ≡ true) js
@@ -131,5 +125,5 @@ left-resized size to js stubs starts only every =
     let P : ℕ → Bool = λ j. meets_segment (min to size) (max to size) j && nat_lt (65536 * j) to in
     without-is js (λ q. nat_lt q (segments_in to)) stubs
     ∙ filter-same _ _ stubs
-    (each-two (Starts size) (λ x. has js x.0 ≡ P x.0) (λ x. (nat_lt x.0 (segments_in to) && not (has js x.0)) ≡ not (meets_segment (min to size) (max to size) x.0))
+    (each-both (Starts size) (λ x. has js x.0 ≡ P x.0) (λ x. (nat_lt x.0 (segments_in to) && not (has js x.0)) ≡ not (meets_segment (min to size) (max to size) x.0))
     (λ x start same. rw same (resized-left size to x.0 start)) stubs starts (dropped P js stubs stubs only every (λ j is. is)))

@@ -1,15 +1,12 @@
 -- Files after a record, and after a change of the bytes of one, however bytes are found, and with their bodies in memory.
 use Rattle.std.proofs.lemmas.Bool.Decides.{nat_tests}
-use Rattle.file_store.proofs.Names.{◌≡◌, ℕ, List, [], length, map, Some, None, refl, ◌∙◌, sym, ap, subst, ◌+◌, ◌-◌, ◌≤◌, ◌∷◌, get_or, set, true, false, cond, Option, eqb, arith, length-set, get_or_past, get_or-set_same, get_or-set_other, IsSome, option_map, AllByRecursion, FileKey, find_key, change_key, put_key, drop_key, rebody, touched, size_after, mapped_after, FileState, new_file, remade, affected_held, file_or_new, bytes_of, Mapping, Record, Make, Drop, Size, Map, CatalogFile, Catalog, IsCatalog, geometry_of, names_of, file_after, with_file, with_changed, inode_of, key_on, after, CanStand, each-put, each-drop, each-change, names_of-drop, Rewrite, Write, Resize, file_by, bytes_at, body_with, bytes_with, held_at, held_with, HeldBody, no_body, IsAlike, IsHere, IsBody, AreBodies, IsWithin, rekept, Stub, Restore, IsBodiless, effect_in, held_after, empties, effect_of, remapped, eqb-false, Meta, each-found, key-found, Kept, empty_file, has_inode, Within, absent-low, ascend-drop, IsHeldFiles}
+use Rattle.file_store.proofs.Names.{◌≡◌, ℕ, List, [], length, map, Some, None, refl, ◌∙◌, sym, ap, subst, ◌+◌, ◌-◌, ◌≤◌, ◌∷◌, get_or, set, true, false, cond, eqb, arith, length-set, get_or-set_same, get_or-set_other, IsSome, option_map, AllByRecursion, FileKey, find_key, change_key, drop_key, rebody, touched, mapped_after, FileState, affected_held, bytes_of, Mapping, Record, Make, Drop, Size, Map, CatalogFile, Catalog, IsCatalog, geometry_of, names_of, file_after, with_changed, inode_of, key_on, after, CanStand, each-put, each-drop, each-change, names_of-drop, Rewrite, Write, Resize, file_by, bytes_at, body_with, bytes_with, held_at, held_with, HeldBody, no_body, IsAlike, IsHere, IsBody, AreBodies, IsWithin, rekept, Stub, Restore, IsBodiless, held_after, empties, effect_of, remapped, eqb-false, Meta, each-found, key-found, Kept, empty_file, has_inode, Within, absent-low, ascend-drop, IsHeldFiles}
 use Rattle.file_store.specs.Bodies.{held_by, body_at}
 use Rattle.file_store.proofs.EachOf.{each-all, each-both, each-weaker}
 use Rattle.file_store.proofs.FilesBy.{SameBytes, same_held, by-put, by-drop, by-change, change-none, find-held, live-by}
 use Rattle.file_store.proofs.ByteChanges.{flags-mapped, length-changed}
 use Rattle.file_store.proofs.Marks.{geometry-after}
 use Rattle.file_store.proofs.SealedFiles.{seal_is, seal-same}
-use Rattle.hsm_types.specs.Stubs.{sealed}
-use Rattle.hsm_types.specs.declared.stubs.Stub.{Stub as StubOf}
-use Rattle.plain_model.specs.Effects.{Seals}
 use Rattle.meta_store.proofs.FileEdits.{each-changed as each-known}
 use Rattle.inode_table.specs.Listing.{Ascend}
 use Rattle.inode_table.proofs.Choices.{neither}
@@ -30,25 +27,13 @@ module _ (B C : CatalogFile → List ℕ) (sees : SeesNoKept B) where
 
   pub held-after : (k : FileKey) (r : Record) (c : Catalog) → IsBodiless k r c → CanStand r c → KeepsBytes B C k r c → held_by C (after r c) ≡ held_after k r (held_by B c)
   unfolding held_by
-  held-after k (Make key name) c is stands keeps =
-      subst (λ (j : FileKey). held_by C (with_file key name c) ≡ held_after j (Make key name) (held_by B c)) is
-      (same_held _ _ _ _ (by-put B C (empty_file key name) c.files keeps.0 ∙ ap (λ (b : List ℕ). put_key (λ f. f.key) (record (new_file key name) { body = b }) (map (file_by B) c.files)) keeps.1) refl)
+  held-after k (Make key name) c is stands keeps = grind (arith, same_held, by-put, empty_file)
   held-after k (Drop ino) c is stands keeps = rw is (same_held _ _ _ _ (by-drop B C k c.files keeps) refl)
   held-after k (Size ino size) c is stands keeps = absurd is
   held-after k (Map ino block places) c is stands keeps = absurd is
   held-after k (Stub ino j None) c is stands keeps = absurd is
-  held-after k (Stub ino j (Some stub)) c is stands keeps =
-      let at : FileKey = key_on ino c in
-      let seal = is.1 stands.0 (ap (λ (i : FileKey). find_key (λ x. x.key) i c.files) (sym is.0) ∙ stands.1) in
-      let r : Record = Stub ino j (Some stub) in
-      let one : file_by C (file_after r stands.0) ≡ remade (Seals j stub.entry) (file_by B stands.0) =
-      rw (keeps (file_after r stands.0)) (subst (λ (s : StubOf). file_by B (file_after (Stub ino j (Some s)) stands.0) ≡ remade (Seals j s.entry) (file_by B stands.0)) (seal_is stub seal.stays)
-      (of_kept (record stands.0.kept { stubs = sealed j stub.entry stands.0.kept.stubs }) stands.0)) in
-      rw (← is.0) (same_held _ _ _ _ (by-change B C at (file_after r) (remade (Seals j stub.entry)) stands.0 c.files stands.1 one (each-all (SameBytes B C) keeps (drop_key (λ g. g.key) at c.files))) refl)
-  held-after k r c is stands keeps =
-      let j : FileKey = key_on (inode_of r) c in
-      let one : file_by C (file_after r stands.0) ≡ remade (effect_in r) (file_by B stands.0) = rw (keeps (file_after r stands.0)) (of_kept (file_after r stands.0).kept stands.0) in
-      rw (← is) (same_held _ _ _ _ (by-change B C j (file_after r) (remade (effect_in r)) stands.0 c.files stands.1 one (each-all (SameBytes B C) keeps (drop_key (λ g. g.key) j c.files))) refl)
+  held-after k (Stub ino j (Some stub)) c is stands keeps = grind (arith, seal_is, of_kept, same_held, by-change, each-all)
+  held-after k r c is stands keeps = grind (arith, of_kept, same_held, by-change, each-all)
 
 -- ---- bytes that change, and touched blocks that get new places
 
@@ -65,23 +50,20 @@ pub held-rewritten : (B C : CatalogFile → List ℕ) (k : FileKey) (change : Re
     → size ≡ length (B f) → map (λ m. m.block) ms ≡ touched (effect_of change) size → C (remapped change size ms f) ≡ rebody (effect_of change) (B f)
     → AllByRecursion (SameBytes B C) (drop_key (λ g. g.key) k c.files) → held_by C (with_changed k (remapped change size ms) c) ≡ record (held_by B c) { files = affected_held (effect_of change) k (held_by B c).files }
 unfolding held_by
-held-rewritten B C k change size ms c f found was blocks becomes others =
-    let flags = flags-mapped (effect_of change) size (size_after (effect_of change) size) ms f.places blocks refl in
-    let one : file_by C (remapped change size ms f) ≡ rewritten change (file_by B f) = rw (becomes, flags, was) refl in
-    same_held _ _ _ _ (by-change B C k (remapped change size ms) (rewritten change) f c.files found one others ∙ sym (affected-rewritten change k (map (file_by B) c.files))) refl
+held-rewritten B C k change size ms c f found was blocks becomes others = grind (arith, flags-mapped, same_held, by-change, others, affected-rewritten)
 
 -- ---- the inode of a file that is found
 
 pub each-above : (n : ℕ) (fs : List CatalogFile) → Ascend n (names_of fs) → AllByRecursion (λ f. n ≤ f.key.ino) fs
 each-above n [] a = tt
-each-above n (f ∷ fs) a = let low = a.0 in (low, each-weaker (λ g. f.key.ino + 1 ≤ g.key.ino) (λ g. n ≤ g.key.ino) (λ g above. omega arith) fs (each-above (f.key.ino + 1) fs a.1))
+each-above n (f ∷ fs) a = grind (arith, each-weaker, each-above (f.key.ino + 1) fs a.1)
 
 pub each-within : (limit next : ℕ) (fs : List CatalogFile) → Within limit next (names_of fs) → AllByRecursion (λ f. f.key.ino ≤ limit) fs
 each-within limit next [] w = tt
 each-within limit next (f ∷ fs) w = (w.0, each-within limit next fs w.2)
 
 found-by : (P : ℕ → Type 0) (k : FileKey) (f : CatalogFile) (fs : List CatalogFile) → AllByRecursion (λ f. P f.key.ino) fs → find_key (λ x. x.key) k fs ≡ Some f → P k.ino
-found-by P k f fs each found = subst (λ (j : FileKey). P j.ino) (key-found k f fs found) (each-found (λ g. P g.key.ino) k f fs each found)
+found-by P k f fs each found = grind (arith, key-found, each-found)
 
 found-above : (n : ℕ) (k : FileKey) (f : CatalogFile) (fs : List CatalogFile) → Ascend n (names_of fs) → find_key (λ x. x.key) k fs ≡ Some f → n ≤ k.ino
 found-above n k f fs a found = found-by (λ ino. n ≤ ino) k f fs (each-above n fs a) found
@@ -100,14 +82,14 @@ abbrev pub SameBody : List HeldBody → List HeldBody → CatalogFile → Type 0
 SameBody bs cs f = body_with cs f ≡ body_with bs f
 
 pub same-bytes : (bs cs : List HeldBody) (fs : List CatalogFile) → AllByRecursion (SameBody bs cs) fs → AllByRecursion (SameBytes (bytes_with bs) (bytes_with cs)) fs
-same-bytes bs cs = each-weaker (SameBody bs cs) (SameBytes (bytes_with bs) (bytes_with cs)) (λ f same. ap (λ (b : HeldBody). b.bytes) same)
+same-bytes bs cs = grind (arith, each-weaker)
 
 -- what is true of each file and its body
 abbrev Bodied : List HeldBody → CatalogFile → Type 0
 Bodied bs f = IsBody (body_with bs f) f
 
 same-bodies : (bs cs : List HeldBody) (fs : List CatalogFile) → AllByRecursion (SameBody bs cs) fs → AreBodies bs fs → AreBodies cs fs
-same-bodies bs cs = each-both (SameBody bs cs) (Bodied bs) (Bodied cs) (λ f same is. subst (λ (b : HeldBody). IsBody b f) (sym same) is)
+same-bodies bs cs = grind (arith, each-both)
 
 -- where no file has the inode
 stay-unused : (bs : List HeldBody) (n ino : ℕ) (x : HeldBody) (fs : List CatalogFile) → 1 ≤ ino → 1 ≤ n → Ascend n (names_of fs) → has_inode ino (names_of fs) ≡ false → AllByRecursion (SameBody bs (set bs (ino - 1) x)) fs
@@ -121,8 +103,7 @@ stay-unused bs n ino x (f ∷ fs) low from a free =
 -- where a file has it, those beside that one
 stay-beside : (bs : List HeldBody) (k : FileKey) (x : HeldBody) (f : CatalogFile) (fs : List CatalogFile) → Ascend 1 (names_of fs) → find_key (λ y. y.key) k fs ≡ Some f
     → AllByRecursion (SameBody bs (set bs (k.ino - 1) x)) (drop_key (λ y. y.key) k fs)
-stay-beside bs k x f fs a found =
-    stay-unused bs 1 k.ino x (drop_key (λ y. y.key) k fs) (found-above 1 k f fs a found) (omega arith) (rw (names_of-drop k fs) (ascend-drop 1 k (names_of fs) a)) (dropped-inode 1 k f fs a found)
+stay-beside bs k x f fs a found = grind (arith, stay-unused, found-above, names_of-drop, ascend-drop, dropped-inode)
 
 -- ---- a record that concerns no bytes, among data blocks
 
@@ -131,8 +112,8 @@ unfolding body_at
 empty_at blocks = refl
 
 keeps-at : (blocks : List ℕ) (k : FileKey) (r : Record) (c : Catalog) → KeepsBytes (bytes_at blocks) (bytes_at blocks) k r c
-keeps-at blocks k (Make key name) c = (each-all (SameBytes (bytes_at blocks) (bytes_at blocks)) (λ f. refl) c.files, empty_at blocks)
-keeps-at blocks k (Drop ino) c = each-all (SameBytes (bytes_at blocks) (bytes_at blocks)) (λ f. refl) _
+keeps-at blocks k (Make key name) c = grind (arith, each-all, empty_at)
+keeps-at blocks k (Drop ino) c = grind (arith, each-all)
 keeps-at blocks k r c = λ f. refl
 
 pub held_at-after : (blocks : List ℕ) (k : FileKey) (r : Record) (c : Catalog) → IsBodiless k r c → CanStand r c → held_at blocks (after r c) ≡ held_after k r (held_at blocks c)
@@ -144,14 +125,14 @@ abbrev pub bodies_after : FileKey → Record → List HeldBody → List HeldBody
 bodies_after k r bs = cond (empties r) (set bs (k.ino - 1) no_body) bs
 
 pub bytes-held : (B : CatalogFile → List ℕ) (c : Catalog) (k : FileKey) (f : CatalogFile) → find_key (λ x. x.key) k c.files ≡ Some f → bytes_of k (held_by B c).files ≡ B f
-bytes-held B c k f found = ap (λ (o : Option FileState). (file_or_new k o).body) (find-held B k c ∙ ap (option_map (file_by B)) found)
+bytes-held B c k f found = grind (arith, find-held, option_map)
 
 pub body-held : (bs : List HeldBody) (c : Catalog) (k : FileKey) (f : CatalogFile) → find_key (λ x. x.key) k c.files ≡ Some f → bytes_of k (held_with bs c).files ≡ (get_or bs (k.ino - 1) no_body).bytes
-body-held bs c k f found = bytes-held (bytes_with bs) c k f found ∙ ap (λ (j : FileKey). (get_or bs (j.ino - 1) no_body).bytes) (key-found k f c.files found)
+body-held bs c k f found = grind (arith, bytes-held, key-found)
 
 -- the same files, whatever is durable
 pub same-files : (bs : List HeldBody) (m n : Meta) → n.current ≡ m.current → IsHeldFiles bs m → IsHeldFiles bs n
-same-files bs m n same is = record { catalog = rw same is.catalog; sizes = rw same is.sizes; count = rw same is.count }
+same-files bs m n same is = grind arith
 
 -- The bodies of files after a record that concerns no bytes: a new file has none, and all files that stay have the same.
 abbrev KeepsBodies : List HeldBody → List HeldBody → FileKey → Record → Catalog → Type 0
@@ -160,24 +141,23 @@ KeepsBodies bs cs k (Drop ino) c = AllByRecursion (SameBody bs cs) (drop_key (λ
 KeepsBodies bs cs k r c = (f : CatalogFile) → body_with cs f ≡ body_with bs f
 
 keeps-bytes : (bs cs : List HeldBody) (k : FileKey) (r : Record) (c : Catalog) → KeepsBodies bs cs k r c → KeepsBytes (bytes_with bs) (bytes_with cs) k r c
-keeps-bytes bs cs k (Make key name) c keeps = (same-bytes bs cs c.files keeps.0, ap (λ (b : HeldBody). b.bytes) keeps.1)
+keeps-bytes bs cs k (Make key name) c keeps = grind (arith, same-bytes)
 keeps-bytes bs cs k (Drop ino) c keeps = same-bytes bs cs (drop_key (λ f. f.key) k c.files) keeps
 keeps-bytes bs cs k r c keeps = λ f. ap (λ (b : HeldBody). b.bytes) (keeps f)
 
 no-body : (key : FileKey) (name : List ℕ) → IsBody no_body (empty_file key name)
-no-body key name = record { size = refl; here = λ j. get_or_past [] j false (omega arith) }
+no-body key name = grind arith
 
 bodies-after : (bs cs : List HeldBody) (k : FileKey) (r : Record) (c : Catalog) → IsBodiless k r c → KeepsBodies bs cs k r c → AreBodies bs c.files → AreBodies cs (after r c).files
-bodies-after bs cs k (Make key name) c is keeps are = each-put (Bodied cs) (empty_file key name) c.files (subst (λ (b : HeldBody). IsBody b (empty_file key name)) (sym keeps.1) (no-body key name)) (same-bodies bs cs c.files keeps.0 are)
-bodies-after bs cs k (Drop ino) c is keeps are = rw is (same-bodies bs cs (drop_key (λ f. f.key) k c.files) keeps (each-drop (Bodied bs) k c.files are))
+bodies-after bs cs k (Make key name) c is keeps are = grind (arith, each-put, empty_file, no-body, same-bodies)
+bodies-after bs cs k (Drop ino) c is keeps are = grind (arith, same-bodies, each-drop)
 bodies-after bs cs k (Size ino size) c is keeps are = absurd is
 bodies-after bs cs k (Map ino block places) c is keeps are = absurd is
 bodies-after bs cs k (Stub ino j None) c is keeps are = absurd is
 bodies-after bs cs k (Stub ino j (Some stub)) c is keeps are =
     each-known (Bodied cs) (key_on ino c) (file_after (Stub ino j (Some stub))) c.files
     (λ f found was.
-    let seal = is.1 f (ap (λ (at : FileKey). find_key (λ x. x.key) at c.files) (sym is.0) ∙ found) in
-    record { size = was.size; here = λ i. was.here i ∙ sym (seal-same j i stub f.kept.stubs seal.here seal.stays) })
+    let seal = is.1 f found in record { size = was.size; here = λ i. was.here i ∙ sym (seal-same j i stub f.kept.stubs seal.here seal.stays) })
     (same-bodies bs cs c.files (each-all (SameBody bs cs) keeps c.files) are)
 bodies-after bs cs k r c is keeps are =
     each-change (Bodied cs) (key_on (inode_of r) c) (file_after r) c.files (λ f was. record { size = was.size; here = was.here }) (same-bodies bs cs c.files (each-all (SameBody bs cs) keeps c.files) are)
@@ -189,7 +169,7 @@ pub record IsFound (limit : ℕ) (c : Catalog) (k : FileKey) : Type 0 where
   pub low : 1 ≤ k.ino
   pub high : k.ino ≤ limit
 
-module _ (bs : List HeldBody) (m : Meta) (is : IsHeldFiles bs m) where
+module _ {bs : List HeldBody} {m : Meta} (is : IsHeldFiles bs m) where
   found-there : (k : FileKey) (f : CatalogFile) → find_key (λ x. x.key) k m.current.files ≡ Some f → IsFound (length bs) m.current k
   found-there k f found =
       let files = m.current.files in
@@ -198,18 +178,16 @@ module _ (bs : List HeldBody) (m : Meta) (is : IsHeldFiles bs m) where
       record { file = f; found = found; low = found-above 1 k f files table.ascend found; high = rw is.count within }
 
   pub live-held : (k : FileKey) → IsSome (find_key (λ f. f.key) k (held_with bs m.current).files) → IsFound (length bs) m.current k
-  live-held k live = let f = live-by (bytes_with bs) k m.current live in found-there k f.0 f.1
+  live-held k live = grind (arith, live-by, found-there)
 
   -- the inode is one of those that there are
   pub slot-there : (k : FileKey) (r : Record) → empties r ≡ true → IsBodiless k r m.current → CanStand r m.current → (1 ≤ k.ino) × (k.ino ≤ length bs)
-  slot-there k (Make key name) new same stands = subst (λ (j : FileKey). (1 ≤ j.ino) × (j.ino ≤ length bs)) same (stands.low, rw is.count stands.high)
-  slot-there k (Drop ino) gone same stands = let at = found-there k stands.0 (rw (← same) stands.1) in (at.low, at.high)
+  slot-there k (Make key name) new same stands = grind arith
+  slot-there k (Drop ino) gone same stands = grind (arith, found-there)
   slot-there k r never same stands = cc
 
   keeps-with : (k : FileKey) (r : Record) → IsBodiless k r m.current → CanStand r m.current → KeepsBodies bs (bodies_after k r bs) k r m.current
-  keeps-with k (Make key name) same stands =
-      subst (λ (j : FileKey). KeepsBodies bs (set bs (j.ino - 1) no_body) j (Make key name) m.current) same
-      (stay-unused bs 1 key.ino no_body m.current.files stands.low (omega arith) is.catalog.table.ascend stands.inode, get_or-set_same bs (key.ino - 1) no_body no_body (omega arith))
+  keeps-with k (Make key name) same stands = grind (arith, stay-unused, get_or-set_same)
   keeps-with k (Drop ino) same stands = stay-beside bs k no_body stands.0 m.current.files is.catalog.table.ascend (rw (← same) stands.1)
   keeps-with k (Size ino size) same stands = absurd same
   keeps-with k (Map ino block places) same stands = absurd same
@@ -224,11 +202,7 @@ module _ (bs : List HeldBody) (m : Meta) (is : IsHeldFiles bs m) where
   held_with-after k r same stands = held-after (bytes_with bs) (bytes_with (bodies_after k r bs)) (λ f kept. refl) k r m.current same stands (keeps-bytes bs (bodies_after k r bs) k r m.current (keeps-with k r same stands))
 
   pub IsHeldFiles-after : (k : FileKey) (r : Record) (n : Meta) → IsBodiless k r m.current → CanStand r m.current → n.current ≡ after r m.current → IsCatalog n.current → IsHeldFiles (bodies_after k r bs) n
-  IsHeldFiles-after k r n same stands current lawful = record {
-    catalog = lawful;
-    sizes = rw current (bodies-after bs (bodies_after k r bs) k r m.current same (keeps-with k r same stands) is.sizes);
-    count = count-after k r ∙ is.count ∙ ap (λ (g : ℕ). (geometry_of g).files) (sym (ap (λ (c : Catalog). c.geometry) current ∙ geometry-after r m.current));
-  }
+  IsHeldFiles-after k r n same stands current lawful = grind (arith, bodies-after, keeps-with, count-after, geometry-after)
 
 -- ---- and after a change of the bytes of one file
 
@@ -237,7 +211,7 @@ pub each-changed : (P : CatalogFile → Type 0) (k : FileKey) (to : CatalogFile 
 each-changed P k to f [] found here others = cc
 each-changed P k to f (e ∷ fs) found here others = grind (arith, each-changed P k to f fs)
 
-module _ (bs : List HeldBody) (m : Meta) (is : IsHeldFiles bs m) (k : FileKey) (at : IsFound (length bs) m.current k) where
+module _ {bs : List HeldBody} {m : Meta} (is : IsHeldFiles bs m) {k : FileKey} (at : IsFound (length bs) m.current k) where
   ino_is : at.file.key ≡ k
   ino_is = key-found k at.file m.current.files at.found
 
@@ -251,14 +225,14 @@ module _ (bs : List HeldBody) (m : Meta) (is : IsHeldFiles bs m) (k : FileKey) (
   bytes-of = ap (λ (b : HeldBody). b.bytes) body-of
 
   pub is-body : IsBody old at.file
-  is-body = subst (λ (b : HeldBody). IsBody b at.file) body-of (each-found (Bodied bs) k at.file m.current.files is.sizes at.found)
+  is-body = grind (arith, body-of, each-found)
 
   module _ (b : HeldBody) where
     abbrev new : List HeldBody
     new = set bs (k.ino - 1) b
 
     pub put-there : (f : CatalogFile) → f.key ≡ at.file.key → body_with new f ≡ b
-    put-there f same = ap (λ (j : FileKey). get_or new (j.ino - 1) no_body) (same ∙ ino_is) ∙ get_or-set_same bs (k.ino - 1) b no_body (omega arith)
+    put-there f same = grind (arith, ino_is, get_or-set_same)
 
     pub others : AllByRecursion (SameBody bs new) (drop_key (λ g. g.key) k m.current.files)
     others = stay-beside bs k b at.file m.current.files is.catalog.table.ascend at.found
@@ -279,11 +253,7 @@ module _ (bs : List HeldBody) (m : Meta) (is : IsHeldFiles bs m) (k : FileKey) (
           (ap (λ (x : HeldBody). x.bytes) (put-there (remapped change (length old.bytes) ms at.file) refl) ∙ becomes ∙ ap (rebody (effect_of change)) (sym bytes-of)) (same-bytes bs new (drop_key (λ g. g.key) k m.current.files) others)
 
       pub IsHeldFiles-rewritten : (t : Meta) → t.current ≡ with_changed k (remapped change (length old.bytes) ms) m.current → IsCatalog t.current → IsWithin change (length old.bytes) → IsHere b (remapped change (length old.bytes) ms at.file) → IsHeldFiles new t
-      IsHeldFiles-rewritten t current lawful within here = record {
-        catalog = lawful;
-        sizes = rw current (put-bodies (remapped change (length old.bytes) ms) refl (record { size = ap length becomes ∙ length-changed change old.bytes within; here = here }));
-        count = count-put ∙ ap (λ (c : Catalog). (geometry_of c.geometry).files) (sym current);
-      }
+      IsHeldFiles-rewritten t current lawful within here = grind (arith, put-bodies, length-changed, count-put)
 
     -- where it is alike
     module _ (alike : IsAlike old b) where

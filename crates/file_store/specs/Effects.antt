@@ -24,7 +24,7 @@ IsBodiless k (Make key name) c = key ≡ k
 IsBodiless k (Size ino size) c = ⊥
 IsBodiless k (Map ino block places) c = ⊥
 IsBodiless k (Stub ino j None) c = ⊥
-IsBodiless k (Stub ino j (Some stub)) c = (key_on ino c ≡ k) × ((f : CatalogFile) → find_key (λ f. f.key) k c.files ≡ Some f → IsSeal j stub f)
+IsBodiless k (Stub ino j (Some stub)) c = (key_on ino c ≡ k) × ((f : CatalogFile) → find_key (λ f. f.key) (key_on ino c) c.files ≡ Some f → IsSeal j stub f)
 IsBodiless k r c = key_on (inode_of r) c ≡ k
 
 -- a file of the catalog has the inode

@@ -8,7 +8,7 @@ pub returns : goal.returns
 returns g c =
     let bs = c.self.inside.bodies.items in
     let now = c.self.inside.meta.current in
-    let live = live-held bs c.self.inside.meta c.self.invariant.0 c.args.key (rw (← c.self.view_is) at c.requires) in
+    let live = live-held c.self.invariant.0 c.args.key (rw (← c.self.view_is) at c.requires) in
     let key = key_on-live now c.args.key live.file c.self.invariant.0.catalog live.found in
     let kept = kept-held (bytes_with bs) now c.args.key in
     let others = others-held (bytes_with bs) now c.args.key live.file live.found in

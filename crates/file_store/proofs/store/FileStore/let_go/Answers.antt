@@ -36,15 +36,15 @@ freed_are : (g : Over) (c : After-of-before g) → c.args.punch.freed.items ≡ 
 freed_are g c = let at = (given g c).at in (rw (← c.self.view_is) at c.requires.freed) at.file at.found
 
 pub apply-requires-clause-event : goal.apply-requires-clause-event
-apply-requires-clause-event g c = let at = (goal.at.apply-requires-clause-event g c).After-of-before in subst IsEvent (sym (records_are g at)) (event g.D.Disk _ _ _ _ _ (given g at) (last g at))
+apply-requires-clause-event g c = let at = (goal.at.apply-requires-clause-event g c).After-of-before in subst IsEvent (sym (records_are g at)) (event (given g at) (last g at))
 
 pub apply-requires-clause-stand : goal.apply-requires-clause-stand
 apply-requires-clause-stand g c =
-    let at = (goal.at.apply-requires-clause-stand g c).After-of-before in subst (λ rs. CanStandAll rs c.self.inside.meta.current) (sym (records_are g at)) (are_going g.D.Disk _ _ _ _ _ (given g at) (last g at)).stand
+    let at = (goal.at.apply-requires-clause-stand g c).After-of-before in subst (λ rs. CanStandAll rs c.self.inside.meta.current) (sym (records_are g at)) (are_going (given g at) (last g at)).stand
 
 pub apply-requires-clause-lengths : goal.apply-requires-clause-lengths
 apply-requires-clause-lengths g c =
-    let at = (goal.at.apply-requires-clause-lengths g c).After-of-before in subst (λ rs. AreLengths (after_all rs c.self.inside.meta.current)) (sym (records_are g at)) (lengths g.D.Disk _ _ _ _ _ (given g at) (last g at))
+    let at = (goal.at.apply-requires-clause-lengths g c).After-of-before in subst (λ rs. AreLengths (after_all rs c.self.inside.meta.current)) (sym (records_are g at)) (lengths (given g at) (last g at))
 
 -- ---- once they are taken
 
@@ -63,7 +63,7 @@ pub leave-requires-clause-within : goal.leave-requires-clause-within
 leave-requires-clause-within g c =
     let at = goal.at.leave-requires-clause-within g c in
     let x = given g at.After-of-before in
-    rw (body_is g at.After-index_mut, (is-body _ _ x.files c.args.key x.at).size) x.start
+    rw (body_is g at.After-index_mut, (is-body x.files x.at).size) x.start
 
 taken : (g : Over) (c : After-leave g) → IsDone g.D.Disk (parts g (goal.at.After-leave g c).After-of-before) c.args.number (record (held_with c.self.inside.bodies.items c.self.inside.meta.current) { files = affected_held (Punches c.args.from c.args.to) c.args.key (held_with c.self.inside.bodies.items c.self.inside.meta.current).files })
     (after_event (parts g (goal.at.After-leave g c).After-of-before) c.apply.new.disk c.apply.new.self c.in-Ok.wrote (set c.self.inside.bodies.items c.slot.result c.leave.new.self) (unmarked c.args.punch.freed.items c.self.inside.space.current) c.self.inside.space.current)
@@ -75,13 +75,13 @@ taken g c =
     let away : (j : ℕ) → is_away c.leave.new.self j ≡ (is_away old j || (nat_le c.args.from j && nat_lt j c.args.to && nat_lt (65536 * j) (length old.bytes))) =
     λ j. rw (body_is g at.After-index_mut) at c.leave.ensures.away j in
     let it =
-    gone g.D.Disk _ _ _ _ _ x (last g at.After-of-before) c.leave.new.self bytes away c.apply.new.disk c.apply.new.self c.args.number c.in-Ok.wrote (λ e. c.in-Ok.ensures.wrote e, λ e. c.in-Ok.ensures.staged e) (c.in-Ok.ensures.taken.current ∙ ap (λ rs. after_all rs c.self.inside.meta.current) (records_are g at.After-of-before))
+    gone x (last g at.After-of-before) c.leave.new.self bytes away c.apply.new.disk c.apply.new.self c.args.number c.in-Ok.wrote (λ e. c.in-Ok.ensures.wrote e, λ e. c.in-Ok.ensures.staged e) (c.in-Ok.ensures.taken.current ∙ ap (λ rs. after_all rs c.self.inside.meta.current) (records_are g at.After-of-before))
     c.in-Ok.ensures.lawful c.in-Ok.ensures.backs c.apply.ensures.any_moment in
     rw (c.slot.ensures, freed_are g at.After-of-before) it
 
 pub release_all-requires : goal.release_all-requires
 release_all-requires g c =
-    let at = (goal.at.release_all-requires g c).After-of-before in rw (c.deref.ensures.value, c.make_durable.ensures.blocks, freed_are g at) (freed_within g.D.Disk _ _ _ _ _ (given g at) (last g at))
+    let at = (goal.at.release_all-requires g c).After-of-before in rw (c.deref.ensures.value, c.make_durable.ensures.blocks, freed_are g at) (freed_within (given g at) (last g at))
 
 pub invariant_of-self : goal.invariant_of-self
 invariant_of-self g c =
@@ -102,7 +102,7 @@ returns-in-Err g c =
     let working = ap (λ s. s.failed) c.self.view_is ∙ c.requires.working in
     let at = (goal.at.returns-in-Err g c).After-of-before in
     let failed : c.eq-self-inside.result ≡ is_disk c.in-Err.refusal = search rules in
-    let none = ap (λ rs. refusal_of_all rs c.self.inside.meta.current) (records_are g at) ∙ (are_going g.D.Disk _ _ _ _ _ (given g at) (last g at)).passed in
+    let none = ap (λ rs. refusal_of_all rs c.self.inside.meta.current) (records_are g at) ∙ (are_going (given g at) (last g at)).passed in
     rw (c.in-Err.ensures.err, failed, c.from.ensures, ← c.self.view_is) record { changed = record {
       held = tt;
       ends = kept_ends g.D.Disk (parts g at) c.apply.new.disk c.args.number None c.apply.result c.in-Err.refusal c.self.invariant.1 working c.in-Err.is c.apply.ensures.any_moment (λ part is. absurd (let some = (c.apply.ensures.refused part).0 is in cc)) c.apply.ensures.faults;

@@ -1,7 +1,7 @@
-use Rattle.file_store.proofs.Names.{None, ◌≡◌, ◌<◌, ◌^◌, refl, ◌∙◌, ap, subst, arith, geometry_of, FileKey, next_held, Store, bytes_with}
+use Rattle.file_store.proofs.Names.{Err, None, ◌≡◌, ◌<◌, ◌^◌, refl, ◌∙◌, ap, subst, arith, geometry_of, FileKey, next_held, Store, bytes_with}
 use Rattle.std.proofs.lemmas.Result.{err_from_is_err_and}
 use Rattle.file_store.specs.Refusals.{no_memory}
-use Rattle.file_store.proofs.Ended.{ends_done, ends_err, unbegun}
+use Rattle.file_store.proofs.Ended.{ends_done, ends_err, lacking}
 use Rattle.inode_table.specs.Table.{next_key}
 use Rattle.file_store.proofs.FilesBy.{key_next, next-listed, next-key_held, new-file, held-made}
 use Rattle.file_store.proofs.store.FileStore.make.Given.{Over}
@@ -42,9 +42,7 @@ returns-in_err-record-clause-ends g c =
     rw (p.1, p.2) (ends_err g.D.Disk _ _ c.args.number _ c.record.result c.in_err-record.field-0.0 c.in_err-record.was (λ part is. absurd (let some = ends.refused part is in cc)) ends)
 
 pub returns-then-key-ge-LAST_GENERATION-clause-ends : goal.returns-then-key-ge-LAST_GENERATION-clause-ends
-returns-then-key-ge-LAST_GENERATION-clause-ends g c = unbegun g.D.Disk _ c.args.number None no_memory c.requires.working (c.has_failed-failed.ensures.idle c.requires.working c.args.number) (λ is. cc) (λ part is. absurd cc)
+returns-then-key-ge-LAST_GENERATION-clause-ends g c = lacking c.has_failed-failed.ensures.idle c.requires.working (Err no_memory) refl
 
 pub returns-in_err-name-clause-ends : goal.returns-in_err-name-clause-ends
-returns-in_err-name-clause-ends g c =
-    let p = err_from_is_err_and c.from_residual.result c.from_residual.ensures.1 in
-    rw (p.1, p.2) (unbegun g.D.Disk _ c.args.number None no_memory c.requires.working (c.has_failed-failed.ensures.idle c.requires.working c.args.number) (λ is. cc) (λ part is. absurd cc))
+returns-in_err-name-clause-ends g c = lacking c.has_failed-failed.ensures.idle c.requires.working c.from_residual.result c.from_residual.ensures.1

@@ -1,5 +1,5 @@
 use Rattle.file_store.proofs.Names.{◌≡◌, ◌+◌, ◌∙◌, ap, arith, length, free, used, geometry_of, touched, effect_of, bytes_of, geometry-bounded}
-use Rattle.file_store.proofs.PunchRuns.{so_ok}
+use Rattle.std.proofs.lemmas.Result.{on_ok_weaker}
 use Rattle.file_store.proofs.store.FileStore.make_room.Goals as goal
 
 pub overflow_cast-count : goal.overflow_cast-count
@@ -11,4 +11,4 @@ overflow_cast-count g c =
 pub returns-clause-enough : goal.returns-clause-enough
 returns-clause-enough g c =
     let new = c.sync.new.self in
-    so_ok c.sync.result _ _ c.sync.ensures.room (λ (is : length (free new.space) + used new.held.files ≡ (geometry_of new.meta.durable.geometry).blocks). let left = rw (c.sync.ensures.held, c.sync.ensures.ends.proceeds.geometry) at is in omega (arith, left, c.requires.room))
+    on_ok_weaker c.sync.result (λ (is : length (free new.space) + used new.held.files ≡ (geometry_of new.meta.durable.geometry).blocks). let left = rw (c.sync.ensures.held, c.sync.ensures.ends.proceeds.geometry) at is in omega (arith, left, c.requires.room)) c.sync.ensures.room

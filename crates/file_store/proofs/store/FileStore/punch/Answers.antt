@@ -1,4 +1,4 @@
-use Rattle.file_store.proofs.Names.{rules, ◌≡◌, ◌-◌, ℕ, refl, arith, sym, ◌∙◌, ap, min, length, bytes_of, affected_held, Err, None, Some, FileState, List, Kept}
+use Rattle.file_store.proofs.Names.{rules, ◌≡◌, ◌-◌, ℕ, refl, arith, sym, ◌∙◌, ap, min, length, bytes_of, affected_held, Err, None, Some, Kept}
 use Rattle.std.specs.Prelude.{max}
 use Rattle.hsm_types.specs.Segments.{segments_in}
 use Rattle.hsm_types.specs.declared.dm.DmRefusal.{DmRefusal}
@@ -8,7 +8,7 @@ use Rattle.plain_model.specs.Services.{kept_of}
 use Rattle.file_store.specs.declared.refusal.StoreRefusal.TheVariants as store
 use Rattle.file_store.proofs.PunchEnds.{punch_end}
 use Rattle.std.proofs.lemmas.Result.{err_from_is_err_and}
-use Rattle.file_store.proofs.Ended.{ends_as, unbegun}
+use Rattle.file_store.proofs.Ended.{ends_as, refused_first}
 use Rattle.file_store.proofs.WithBodies.{live-held}
 use Rattle.file_store.proofs.store.FileStore.punch.Given.{Over}
 use Rattle.file_store.proofs.store.FileStore.punch.Goals.{After-min-last, After-max-end}
@@ -33,7 +33,7 @@ returns-in_err-punch g c =
     let p = err_from_is_err_and c.from_residual.result c.from_residual.ensures.1 in
     rw (p.1, p.2) record { changed = record {
       held = tt;
-      ends = unbegun g.D.Disk _ c.args.number _ c.in_err-punch.field-0.0 c.requires.working (c.has_failed-failed.ensures.idle c.requires.working c.args.number) (λ is. c.in_err-punch.ensures.no_disk (ap (λ e. Err e) is))
+      ends = refused_first c.has_failed-failed.ensures.idle c.requires.working _ c.in_err-punch.field-0.0 refl (λ is. c.in_err-punch.ensures.no_disk (ap (λ e. Err e) is))
           (λ why is. sym (same_judged kept c.args.from _ c.max-end.result (end_is g at)) ∙ refused why is);
     } }
 
@@ -41,7 +41,7 @@ pub returns : goal.returns
 returns g c =
     let at = (goal.at.returns g c).After-max-end in
     let kept = kept_of c.args.key c.args.self.now.held.files in
-    let live = live-held c.self.inside.bodies.items c.self.inside.meta c.self.invariant.0 c.args.key (rw (← c.self.view_is) at c.requires.live) in
+    let live = live-held c.self.invariant.0 c.args.key (rw (← c.self.view_is) at c.requires.live) in
     let judged : any_unpunched kept.regions kept.stubs c.args.from c.max-end.result ≡ None = rw (c.inode-ino.ensures.kept, ← c.self.view_is, ← c.catalog.ensures.catalog) c.in_ok-punch.ensures.judged in
     let ends : affected_held (Punches c.args.from c.max-end.result) c.args.key c.args.self.now.held.files ≡ affected_held (Punches c.args.from c.args.to) c.args.key c.args.self.now.held.files =
     rw (← c.self.view_is) (punch_end c.self.inside.bodies.items c.self.inside.meta c.self.invariant.0 c.args.key live c.args.from c.args.to c.max-end.result (rw (← c.self.view_is) at c.requires.start) (rw (← c.self.view_is) at (end_is g at))) in

@@ -1,9 +1,8 @@
-use Rattle.file_store.proofs.Names.{rules, Err, ◌≡◌, refl, sym, ◌∙◌, ap, unmarked, after_all, refusal_of_all, held_with, held_after}
+use Rattle.file_store.proofs.Names.{rules, Err, ◌≡◌, refl, sym, ◌∙◌, ap, unmarked, after_all, held_with, held_after}
 use Rattle.file_store.specs.Refusals.{is_disk, no_memory}
 use Rattle.file_store.proofs.Durable.{Parts, IsDone, after_event}
 use Rattle.file_store.proofs.StoreEvents.{freed_low, recorded, refused_sound, refusal_alone}
-use Rattle.std.proofs.lemmas.Result.{err_from_is_err_and}
-use Rattle.file_store.proofs.Ended.{ends_done, kept_ends, unbegun}
+use Rattle.file_store.proofs.Ended.{ends_done, kept_ends, lacking}
 use Rattle.file_store.proofs.WithBodies.{bodies_after, slot-there}
 use Rattle.file_store.proofs.SealedFiles.{lengths-after}
 use Rattle.file_store.proofs.store.FileStore.record.Given.{Over}
@@ -11,7 +10,7 @@ use Rattle.file_store.proofs.store.FileStore.record.Goals.{After-apply, In-Ok}
 use Rattle.file_store.proofs.store.FileStore.record.Goals as goal
 
 pub clear-requires : goal.clear-requires
-clear-requires g c = λ is. slot-there _ _ c.self.invariant.0 c.args.key c.args.change (sym c.empties-empty.ensures ∙ is) (rw (← c.self.view_is) at c.requires.bodiless) (rw (← c.self.view_is) at c.requires.stands)
+clear-requires g c = λ is. slot-there c.self.invariant.0 c.args.key c.args.change (sym c.empties-empty.ensures ∙ is) (rw (← c.self.view_is) at c.requires.bodiless) (rw (← c.self.view_is) at c.requires.stands)
 
 -- ---- it was taken
 
@@ -71,12 +70,10 @@ apply-requires-clause-lengths g c =
     rw c.in_ok-records.ensures (lengths-after c.args.key c.args.change c.self.inside.meta.current (rw (← c.self.view_is) at c.requires.bodiless) (rw (← c.self.view_is) at c.requires.stands) c.self.invariant.1.meta.stored.now)
 
 pub returns-in_err-freed-clause-ends : goal.returns-in_err-freed-clause-ends
-returns-in_err-freed-clause-ends g c =
-    let p = err_from_is_err_and c.from_residual.result c.from_residual.ensures.1 in rw (p.1, p.2) (unbegun g.D.Disk _ c.args.number _ no_memory c.requires.working (c.has_failed-failed.ensures.idle c.requires.working c.args.number) (λ is. cc) (λ part is. absurd cc))
+returns-in_err-freed-clause-ends g c = lacking c.has_failed-failed.ensures.idle c.requires.working c.from_residual.result c.from_residual.ensures.1
 
 pub returns-then-number-gt-LAST_NUMBER-clause-ends : goal.returns-then-number-gt-LAST_NUMBER-clause-ends
-returns-then-number-gt-LAST_NUMBER-clause-ends g c = unbegun g.D.Disk _ c.args.number _ no_memory c.requires.working (c.has_failed-failed.ensures.idle c.requires.working c.args.number) (λ is. cc) (λ part is. absurd cc)
+returns-then-number-gt-LAST_NUMBER-clause-ends g c = lacking c.has_failed-failed.ensures.idle c.requires.working (Err no_memory) refl
 
 pub returns-in_err-records-clause-ends : goal.returns-in_err-records-clause-ends
-returns-in_err-records-clause-ends g c =
-    let p = err_from_is_err_and c.from_residual-in_err-records.result c.from_residual-in_err-records.ensures.1 in rw (p.1, p.2) (unbegun g.D.Disk _ c.args.number _ no_memory c.requires.working (c.has_failed-failed.ensures.idle c.requires.working c.args.number) (λ is. cc) (λ part is. absurd cc))
+returns-in_err-records-clause-ends g c = lacking c.has_failed-failed.ensures.idle c.requires.working c.from_residual-in_err-records.result c.from_residual-in_err-records.ensures.1

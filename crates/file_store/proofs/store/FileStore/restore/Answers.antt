@@ -3,7 +3,7 @@ use Rattle.hsm_types.specs.Stubs.{print_of, stub_at, offline_at, restoring_refus
 use Rattle.plain_model.specs.Services.{kept_of}
 use Rattle.plain_model.specs.State.{bytes_of}
 use Rattle.std.proofs.lemmas.Result.{err_from_is_err_and}
-use Rattle.file_store.proofs.Ended.{unbegun, changes_on, ends_as}
+use Rattle.file_store.proofs.Ended.{refused_first, changes_on, ends_as}
 use Rattle.file_store.proofs.SoundChanges.{restores-lawful, of-entry, of-length}
 use Rattle.file_store.proofs.store.FileStore.restore.Given.{Over}
 use Rattle.file_store.proofs.store.FileStore.restore.Goals.{After-make_room}
@@ -12,7 +12,7 @@ use Rattle.file_store.proofs.store.FileStore.restore.Goals as goal
 pub returns-then-not-is_offline : goal.returns-then-not-is_offline
 returns-then-not-is_offline g c =
     let here : offline_at (kept_of c.args.key c.args.self.now.held.files).stubs c.args.segment ≡ false = sym c.is_offline.ensures.offline ∙ c.if-not-is_offline.true in
-    record { changed = record { held = tt; ends = unbegun g.D.Disk _ c.args.number _ _ c.requires.working (c.has_failed-failed.ensures.idle c.requires.working c.args.number) (λ is. cc) (λ part is. rw here (ap (λ w. Some w) cc)) } }
+    record { changed = record { held = tt; ends = refused_first c.has_failed-failed.ensures.idle c.requires.working _ _ refl (λ is. cc) (λ part is. rw here (ap (λ w. Some w) cc)) } }
 
 none : (g : Over) (c : After-make_room g) → restoring_refusal c.args.segment (kept_of c.args.key c.args.self.now.held.files).stubs ≡ None
 none g c = rw (sym c.is_offline.ensures.offline ∙ c.if-not-is_offline.false) refl

@@ -4,7 +4,6 @@ use Rattle.file_store.proofs.ByteChanges.{within-grown, length-grown, changed-gr
 use Rattle.file_store.proofs.RewriteRecords.{is_event}
 use Rattle.file_store.proofs.SoundChanges.{brings-away, has-range, here-after}
 use Rattle.file_store.proofs.FilesBy.{kept-found}
-use Rattle.file_store.specs.Refusals.{is_disk}
 use Rattle.file_store.proofs.WithBodies.{is-body}
 use Rattle.std.proofs.lemmas.Option.{same_Some}
 use Rattle.file_store.proofs.StoreEvents.{Given, known, body_of, bytes_in, IsBack, bodies_back, within, lengths_then, passes, fits, stand, places_within, freed_within, undone, written_proceeds, written_live, refused_proceeds, rewritten, refused_sound}
@@ -36,7 +35,7 @@ away g c =
     let bodies = c.self.inside.bodies.items in
     let meta = c.self.inside.meta in
     let kept = kept-found (bytes_with bodies) meta.current c.args.key x.at.file x.at.found in
-    brings-away c.args.change x.at.file (body_of bodies c.args.key) (is-body bodies meta x.files c.args.key x.at).here (rw kept at (rw (← c.self.view_is) at c.requires.offline))
+    brings-away c.args.change x.at.file (body_of bodies c.args.key) (is-body x.files x.at).here (rw kept at (rw (← c.self.view_is) at c.requires.offline))
 
 body_is : (g : Over) (c : After-stage g) → c.index_mut-body.result.now ≡ body_of c.self.inside.bodies.items c.args.key
 body_is g c =
@@ -57,10 +56,10 @@ stage-requires g c =
       lawful = x.may;
       entry = λ f found. subst (λ (e : CatalogFile). HasEntry c.args.change e.kept.stubs) (same_Some _ _ (sym x.at.found ∙ found)) x.allowed.entry;
       away = away g (goal.at.stage-requires g c).After-of-before;
-      within = within g.D.Disk _ _ _ x;
+      within = within x;
       few = omega (arith, x.room, (geometry-bounded c.self.inside.meta.current.geometry).1);
       enough = x.enough;
-      fits = fits g.D.Disk _ _ _ x;
+      fits = fits x;
     }
 
 -- ---- once the blocks are written
@@ -78,7 +77,7 @@ space_is g c = rw (bytes_are g (goal.at.In-Ok g c).After-stage) at c.in-Ok.ensur
 back : (g : Over) (c : After-stage g) → IsAlike c.index_mut-body.result.now c.stage.new.body → IsBack (parts g (goal.at.After-stage g c).After-of-before) (set c.self.inside.bodies.items c.slot.result c.stage.new.body)
 back g c alike =
     let x = given g (goal.at.After-stage g c).After-of-before in
-    rw c.slot.ensures (bodies_back g.D.Disk (parts g (goal.at.After-stage g c).After-of-before) c.args.key c.args.change x c.stage.new.body (subst (λ (b : HeldBody). IsAlike b c.stage.new.body) (body_is g c) alike))
+    rw c.slot.ensures (bodies_back x c.stage.new.body (subst (λ (b : HeldBody). IsAlike b c.stage.new.body) (body_is g c) alike))
 
 pub invariant_of-self : goal.invariant_of-self
 invariant_of-self g c =
@@ -96,12 +95,12 @@ returns-in-Err g c =
     let at = goal.at.returns-in-Err g c in
     rw (c.refused.ensures.refusal, ← c.self.view_is) record { changed = record {
       held = tt;
-      ends = ends_refused g.D.Disk _ _ c.args.number None (written_proceeds g.D.Disk _ _ _ (given g at.After-of-before) _ (moments g at.After-stage) c.args.number _ _ _) c.stage.result c.in-Err.refusal c.in-Err.is c.refused.ensures.failed
+      ends = ends_refused g.D.Disk _ _ c.args.number None (written_proceeds (given g at.After-of-before) (moments g at.After-stage) c.args.number _ _ _) c.stage.result c.in-Err.refusal c.in-Err.is c.refused.ensures.failed
           (λ part is. absurd (c.stage.ensures.no_part part is)) (λ is. (back g at.After-stage c.in-Err.ensures.err).1) c.stage.ensures.faults;
     } }
 
 pub apply-requires-clause-backs : goal.apply-requires-clause-backs
-apply-requires-clause-backs g c = let at = goal.at.apply-requires-clause-backs g c in (written_live g.D.Disk _ _ _ (given g at.After-of-before) _ (moments g at.After-stage) _ _ (staged g at.In-Ok)).backs
+apply-requires-clause-backs g c = let at = goal.at.apply-requires-clause-backs g c in (written_live (given g at.After-of-before) (moments g at.After-stage) (staged g at.In-Ok)).backs
 
 pub apply-requires-clause-event : goal.apply-requires-clause-event
 apply-requires-clause-event g c =
@@ -113,13 +112,13 @@ pub apply-requires-clause-stand : goal.apply-requires-clause-stand
 apply-requires-clause-stand g c =
     let at = goal.at.apply-requires-clause-stand g c in
     let x = given g at.After-of-before in
-    stand g.D.Disk _ _ _ x _ ((staged g at.In-Ok).rewriting x.at.file x.at.found)
+    stand x ((staged g at.In-Ok).rewriting x.at.file x.at.found)
 
 pub apply-requires-clause-lengths : goal.apply-requires-clause-lengths
 apply-requires-clause-lengths g c =
     let at = goal.at.apply-requires-clause-lengths g c in
     let x = given g at.After-of-before in
-    lengths_then g.D.Disk _ _ _ x _ ((staged g at.In-Ok).rewriting x.at.file x.at.found)
+    lengths_then x ((staged g at.In-Ok).rewriting x.at.file x.at.found)
 
 -- ---- once the records are taken
 
@@ -138,7 +137,7 @@ new_here : (g : Over) (c : After-apply-in-Ok-apply g) (ms : List Mapping) → le
 new_here g c ms =
     let at = goal.at.After-apply-in-Ok-apply g c in
     let x = given g at.After-of-before in
-    here-after c.args.change x.at.file x.allowed (body_of c.self.inside.bodies.items c.args.key) c.stage.new.body (is-body c.self.inside.bodies.items c.self.inside.meta x.files c.args.key x.at).here (room g at.In-Ok)
+    here-after c.args.change x.at.file x.allowed (body_of c.self.inside.bodies.items c.args.key) c.stage.new.body (is-body x.files x.at).here (room g at.In-Ok)
     c.apply-in-Ok-apply.new.body ms c.apply-in-Ok-apply.ensures.away
 
 taken : (g : Over) (c : After-apply-in-Ok-apply g) → IsDone g.D.Disk (parts g (goal.at.After-apply-in-Ok-apply g c).After-of-before) c.args.number (record (held_with c.self.inside.bodies.items c.self.inside.meta.current) { files = affected_held (effect_of c.args.change) c.args.key (held_with c.self.inside.bodies.items c.self.inside.meta.current).files })
@@ -147,7 +146,7 @@ taken : (g : Over) (c : After-apply-in-Ok-apply g) → IsDone g.D.Disk (parts g 
 taken g c =
     let at = goal.at.After-apply-in-Ok-apply g c in
     rw c.slot.ensures
-    (rewritten g.D.Disk _ _ _ (given g at.After-of-before) _ (moments g at.After-stage) _ _ (staged g at.In-Ok) c.apply-in-Ok-apply.new.body (new_bytes g c) (new_here g c (mappings_of (touched_of c.args.change (bytes_in c.self.inside.bodies.items c.args.key)) (places_for c.args.change (bytes_in c.self.inside.bodies.items c.args.key) c.self.inside.space))) c.args.number _ _ c.in-Ok-apply.wrote (λ e. c.in-Ok-apply.ensures.wrote e, λ e. c.in-Ok-apply.ensures.staged e)
+    (rewritten (given g at.After-of-before) (moments g at.After-stage) (staged g at.In-Ok) c.apply-in-Ok-apply.new.body (new_bytes g c) (new_here g c (mappings_of (touched_of c.args.change (bytes_in c.self.inside.bodies.items c.args.key)) (places_for c.args.change (bytes_in c.self.inside.bodies.items c.args.key) c.self.inside.space))) c.args.number _ _ c.in-Ok-apply.wrote (λ e. c.in-Ok-apply.ensures.wrote e, λ e. c.in-Ok-apply.ensures.staged e)
     c.in-Ok-apply.ensures.taken.current c.in-Ok-apply.ensures.lawful c.in-Ok-apply.ensures.backs c.apply.ensures.any_moment)
 
 pub apply-requires-in-Ok-apply : goal.apply-requires-in-Ok-apply
@@ -155,19 +154,19 @@ apply-requires-in-Ok-apply g c =
     let at = goal.at.apply-requires-in-Ok-apply g c in
     let x = given g at.After-of-before in
     let body = c.index_mut-body.result.now.bytes in
-    let own = ap length (bytes_are g at.After-stage) ∙ (is-body c.self.inside.bodies.items c.self.inside.meta x.files c.args.key x.at).size in
+    let own = ap length (bytes_are g at.After-stage) ∙ (is-body x.files x.at).size in
     record {
       lawful = c.requires.lawful;
       in_place = rw c.in-Ok.ensures.room.bytes (grown-enough c.args.change body);
       within = rw c.in-Ok.ensures.room.bytes (within-grown c.args.change (new_size c.args.change body) body (rw own x.allowed.within));
-      here = has-range c.args.change x.at.file x.allowed (body_of c.self.inside.bodies.items c.args.key) c.stage.new.body (is-body c.self.inside.bodies.items c.self.inside.meta x.files c.args.key x.at).here (room g at.In-Ok) c.requires.lawful;
+      here = has-range c.args.change x.at.file x.allowed (body_of c.self.inside.bodies.items c.args.key) c.stage.new.body (is-body x.files x.at).here (room g at.In-Ok) c.requires.lawful;
     }
 
 pub release_all-requires : goal.release_all-requires
 release_all-requires g c =
     let at = goal.at.release_all-requires g c in
     let x = given g at.After-of-before in
-    rw (c.deref.ensures.value, c.make_durable.ensures.blocks, space_is g at.In-Ok) (freed_within g.D.Disk _ _ _ x _ ((staged g at.In-Ok).frees x.at.file x.at.found))
+    rw (c.deref.ensures.value, c.make_durable.ensures.blocks, space_is g at.In-Ok) (freed_within x ((staged g at.In-Ok).frees x.at.file x.at.found))
 
 pub invariant_of-self-in-Ok-apply : goal.invariant_of-self-in-Ok-apply
 invariant_of-self-in-Ok-apply g c =
@@ -190,7 +189,7 @@ back_again g c =
     let at = goal.at.After-undo g c in
     let x = given g at.After-of-before in
     let long = ap (λ (b : HeldBody). length b.bytes) (sym (body_is g at.After-stage)) ∙ sym c.len-old.ensures.len in
-    rw c.slot.ensures (bodies_back g.D.Disk (parts g at.After-of-before) c.args.key c.args.change x c.undo.new.body (c.undo.ensures (body_of c.self.inside.bodies.items c.args.key) (room g at.In-Ok) long (away g at.After-of-before)))
+    rw c.slot.ensures (bodies_back x c.undo.new.body (c.undo.ensures (body_of c.self.inside.bodies.items c.args.key) (room g at.In-Ok) long (away g at.After-of-before)))
 
 pub undo-requires : goal.undo-requires
 undo-requires g c =
@@ -200,7 +199,7 @@ undo-requires g c =
       lawful = c.requires.lawful;
       file = c.len-old.ensures.limit;
       size = rw (c.in-Ok.ensures.room.bytes, c.len-old.ensures.len) (omega (arith, length-grown (new_size c.args.change body) body));
-      within = rw (c.len-old.ensures.len, bytes_are g at.After-stage) (within g.D.Disk _ _ _ (given g at.After-of-before));
+      within = rw (c.len-old.ensures.len, bytes_are g at.After-stage) (within (given g at.After-of-before));
     }
 
 pub release_all-requires-in-Err-apply : goal.release_all-requires-in-Err-apply
@@ -219,7 +218,7 @@ invariant_of-self-in-Err-apply g c =
     rw (c.in-Err-apply.ensures.err, same.1, c.release_all-in-Err-apply.ensures, c.as_slice.ensures.value, c.in-Ok.ensures.places, space_is g at.In-Ok, bytes_are g at.After-stage, undone c.self.inside.space (length (touched_of c.args.change body)), failed) (
       same.0,
       refused_sound g.D.Disk _ c.apply.new.disk _ c.in-Err-apply.refusal
-          (record { meta = sound.meta; live = λ still. written_live g.D.Disk _ _ _ (given g at.After-of-before) _ (moments g at.After-stage) _ _ (staged g at.In-Ok) })
+          (record { meta = sound.meta; live = λ still. written_live (given g at.After-of-before) (moments g at.After-stage) (staged g at.In-Ok) })
           (ap (λ s. s.failed) c.self.view_is ∙ c.requires.working) (λ why is. (refl, c.in-Err-apply.ensures.unwritten why (ap (λ e. Err e) is))) (λ is. (refl, c.in-Err-apply.ensures.memory (ap (λ e. Err e) is))),
     )
 
@@ -227,9 +226,9 @@ pub returns-in-Err-apply : goal.returns-in-Err-apply
 returns-in-Err-apply g c =
     let at = goal.at.returns-in-Err-apply g c in
     let x = given g at.After-of-before in
-    let none = passes g.D.Disk _ _ _ x _ ((staged g at.In-Ok).rewriting x.at.file x.at.found) in
+    let none = passes x ((staged g at.In-Ok).rewriting x.at.file x.at.found) in
     rw (c.in-Err-apply.ensures.err, c.refused-in-Err-apply.ensures.refusal, ← c.self.view_is) record { changed = record {
       held = tt;
-      ends = ends_refused g.D.Disk _ _ c.args.number None (refused_proceeds g.D.Disk _ _ _ x _ (moments g at.After-stage) _ _ (staged g at.In-Ok) c.args.number _ c.apply.ensures.any_moment refl refl) c.apply.result c.in-Err-apply.refusal c.in-Err-apply.is
+      ends = ends_refused g.D.Disk _ _ c.args.number None (refused_proceeds x (moments g at.After-stage) (staged g at.In-Ok) c.args.number _ c.apply.ensures.any_moment refl refl) c.apply.result c.in-Err-apply.refusal c.in-Err-apply.is
           c.refused-in-Err-apply.ensures.failed (λ part is. absurd (let some = (c.apply.ensures.refused part).0 is in cc)) (λ is. (back_again g at.After-undo).1) (rw (c.stage.ensures.faults.quiet (λ e. cc)) at c.apply.ensures.faults);
     } }
