@@ -77,6 +77,10 @@ stubs-tell f (x ∷ stubs) fit away numbers = (record { fits = record { start = 
 
 pub stubs-pass : (f : CatalogFile) → IsStrictlySortedBy nat_cmp (keys_of f.kept.stubs) → AllByRecursion (IsCatalogStub f) f.kept.stubs → HasLengths f → AreLawfulStubs f.size f.kept.regions f.places f.kept.stubs
 stubs-pass f ascend each long = record {
-  fit = record { ascend = ascend; each = each-as _ (FitsFile f.size f.kept.regions) f.kept.stubs (λ x is. record { start = is.0.fits.start; len = is.1; volume = is.0.fits.volume; covered = is.0.fits.covered }) (each-and (IsCatalogStub f) (λ x. x.1.entry.print.len ≡ segment_len f.size x.0) f.kept.stubs each long) };
+  fit = record {
+    ascend = ascend;
+    each = each-as _ (FitsFile f.size f.kept.regions) f.kept.stubs (λ x is.
+        record { start = is.0.fits.start; len = is.1; volume = is.0.fits.volume; covered = is.0.fits.covered }) (each-and (IsCatalogStub f) (λ x. x.1.entry.print.len ≡ segment_len f.size x.0) f.kept.stubs each long);
+  };
   away = each-as (IsCatalogStub f) (HasNoBlocks f.places) f.kept.stubs (λ x is. is.away) each;
 }

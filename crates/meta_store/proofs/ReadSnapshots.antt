@@ -55,8 +55,7 @@ stub_reads : IsReader stub_in stub_bytes StubFits
 unfolding stub_in
 stub_reads =
     made_reads (both_read (both_read (both_read (both_read (number_reads wide4) state_reads) (number_reads wide4)) (number_reads wide4)) print_reads)
-    (λ x. ((((x.0, x.1.offline), x.1.entry.volume), x.1.entry.object), x.1.entry.print)) (λ x. refl) (λ p. refl) (λ p fit. record { segment = fit.0.0.0.0; volume = fit.0.0.1; object = fit.0.1; len = fit.1.0; digest = fit.1.1 })
-    (λ x fit. ((((fit.segment, tt), fit.volume), fit.object), (fit.len, fit.digest)))
+    (λ x. ((((x.0, x.1.offline), x.1.entry.volume), x.1.entry.object), x.1.entry.print)) (λ x. refl) (λ p. refl) (λ p fit. search) (λ x fit. search)
 
 file_reads : IsReader file_at file_bytes FileFits
 unfolding file_at file_bytes

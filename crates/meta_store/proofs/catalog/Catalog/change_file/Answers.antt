@@ -64,7 +64,8 @@ module _ {s : Inside} {v : Catalog} {r : Record} {k : FileKey} {place old : ℕ}
     new-held : catalog_held s.geometry resized (set s.parts.items place new) ≡ with_changed (key_on (inode_of r) v) (file_after r) v
     new-held =
         let order = table s v t.view t.held in
-        let files = held-change s.parts.items 1 (geometry_of s.geometry).files s.table.next k (file_after r) (entry_of t.file.key t.file.name t.file.size) new size s.table.files (omega arith) (omega (arith, t.held.0.count)) order.ascend order.within t.live.entry (ap (file_after r) (held-live s.table s.parts.items k t.file t.live) ∙ changed) in
+        let files = held-change s.parts.items 1 (geometry_of s.geometry).files s.table.next k (file_after r) (entry_of t.file.key t.file.name t.file.size) new size s.table.files (omega arith) (omega (arith, t.held.0.count))
+        order.ascend order.within t.live.entry (ap (file_after r) (held-live s.table s.parts.items k t.file t.live) ∙ changed) in
         rw t.here (ap (λ (fs : List CatalogFile). record { geometry = s.geometry; next = s.table.next; files = fs }) files ∙ ap (λ (c : Catalog). with_changed k (file_after r) c) t.view ∙ ap (λ (j : FileKey). with_changed j (file_after r) v) t.key)
 
 -- the file, where its key is known
@@ -137,8 +138,10 @@ invariant_of-self-2 c =
     let kept : IsLawfulKept (kept_in c.apply.new.self) = record { regions = c.in_ok-apply.ensures.regions (rw t.same (lawful-file t).kept.regions); attributes = c.bytes.ensures.attributes; eight = c.in_ok-apply.ensures.eight (rw t.same (lawful-file t).kept.eight) } in
     let bytes : c.others-blocks.result.1.attributes + c.bytes.result ≡ attribute_total w.files = grind (arith, sum-change count_of key (file_after r) t.file v.files t.found, sum-drop count_of key t.file v.files t.found, new, t.others, c.bytes.ensures.count) in
     let entries : c.others-blocks.result.1.stubs + c.len.result ≡ stub_total w.files = grind (arith, sum-change stubs_of key (file_after r) t.file v.files t.found, sum-drop stubs_of key t.file v.files t.found, new, t.others, c.len.ensures.count) in
-    let blocks : c.others-blocks.result.2 + c.from.result ≡ length (blocks_of w.files) = omega (arith, rw c.ino.ensures at c.others-blocks.ensures.used, sum-change mapped_of key (file_after r) t.file v.files t.found, sum-drop mapped_of key t.file v.files t.found, used-sum (without_file key v).files, used-sum w.files, ap mapped_of new, c.from.ensures, c.mapped.ensures) in
-    let good = IsCatalog-after r key t.file v _ _ (lawful c.self.inside _ c.self.view_is c.self.invariant) t.found (record { stands = t.stands; judged = rw t.same at c.in_ok-apply.ensures.judged; numbers = c.in_ok-apply.ensures.numbers; kept = rw new kept; ascend = rw new c.len.ensures.ascend })
+    let blocks : c.others-blocks.result.2 + c.from.result ≡ length (blocks_of w.files) =
+    omega (arith, rw c.ino.ensures at c.others-blocks.ensures.used, sum-change mapped_of key (file_after r) t.file v.files t.found, sum-drop mapped_of key t.file v.files t.found, used-sum (without_file key v).files, used-sum w.files, ap mapped_of new, c.from.ensures, c.mapped.ensures) in
+    let good = IsCatalog-after r key t.file v _ _ (lawful c.self.inside _ c.self.view_is c.self.invariant) t.found
+    (record { stands = t.stands; judged = rw t.same at c.in_ok-apply.ensures.judged; numbers = c.in_ok-apply.ensures.numbers; kept = rw new kept; ascend = rw new c.len.ensures.ascend })
     (rw (← bytes, c.bytes.ensures.count, ← t.bound) (c.in_ok-apply.ensures.within (room t).0)) (rw (← entries, c.len.ensures.count, ← t.bound) few) in
     rw c.set_size.ensures (after c.self.inside _ c.self.view_is c.self.invariant _ _ w _ _ _ held refl (length-set c.self.inside.parts.items c.slot.result c.apply.new.self) good bytes entries blocks)
 

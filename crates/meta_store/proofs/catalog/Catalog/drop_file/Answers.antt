@@ -9,7 +9,9 @@ pub invariant_of-self : goal.invariant_of-self
 invariant_of-self c =
     let f = there _ c.requires in
     let good = IsCatalog-without_file (key_on c.args.ino c.args.self.now) f.0 c.args.self.now (lawful c.self.inside _ c.self.view_is c.self.invariant) f.1 in
-    rw (c.drop_file.ensures.rest, c.others-blocks.ensures.key) (after c.self.inside _ c.self.view_is c.self.invariant _ _ (without_file (key_on c.args.ino c.args.self.now) c.args.self.now) _ _ _ (drop-held c.self.inside _ c.self.view_is c.self.invariant _) refl refl good (ap (λ (o : Others). o.attributes) c.others-blocks.ensures.others) (ap (λ (o : Others). o.stubs) c.others-blocks.ensures.others) c.others-blocks.ensures.used)
+    rw (c.drop_file.ensures.rest, c.others-blocks.ensures.key)
+    (after c.self.inside _ c.self.view_is c.self.invariant _ _ (without_file (key_on c.args.ino c.args.self.now) c.args.self.now) _ _ _ (drop-held c.self.inside _ c.self.view_is c.self.invariant _) refl refl good
+    (ap (λ (o : Others). o.attributes) c.others-blocks.ensures.others) (ap (λ (o : Others). o.stubs) c.others-blocks.ensures.others) c.others-blocks.ensures.used)
 
 pub returns : goal.returns
 returns c = rw (c.drop_file.ensures.rest, c.others-blocks.ensures.key) (drop-held c.self.inside _ c.self.view_is c.self.invariant _)
