@@ -3,11 +3,10 @@ ghost use Rattle.std.specs.Prelude.{◌≡◌, ◌≢◌, ◌+◌, ◌*◌, ◌<
 ghost use Rattle.hsm_types.specs.Names.{is_name};
 ghost use Rattle.hsm_types.specs.Regions.{regions_refusal};
 ghost use Rattle.hsm_types.specs.Attributes.{setting_refusal, removal_refusal};
-ghost use Rattle.hsm_types.specs.declared.dm.DmRefusal.{DmRefusal};
 ghost use Rattle.plain_model.specs.Keyed.{find_key};
 ghost use Rattle.hsm_types.specs.Refusals.{first_refusal};
 ghost use Rattle.hsm_types.specs.Segments.{segments_in};
-ghost use Rattle.hsm_types.specs.Stubs.{print_of, stub_at, offline_at, uncovered, sealing_refusal, restoring_refusal, any_unpunched};
+ghost use Rattle.hsm_types.specs.Stubs.{print_of, stub_at, offline_at, uncovered, too_many_stubs, any_unpunched};
 ghost use Rattle.plain_model.specs.Effects.{Makes, Drops, Writes, Resizes, Manages, Attaches, Detaches, Seals, Punches, Restores};
 ghost use Rattle.plain_model.specs.Plain.{named, segment as segment_of};
 ghost use Rattle.plain_model.specs.Sound.{IsSound};
@@ -21,12 +20,9 @@ ghost use Rattle.file_store.specs.Changes.{Ends, Changes};
 use crate::punches;
 use crate::refusal::StoreRefusal;
 use crate::rewrites::Rewrite;
-use crate::seals::check_seal;
 use crate::store::FileStore;
 use disk_model::Disk;
-use hsm_types::{
-    AttrName, Bytes, DmRefusal, FileKey, Regions, Stub, StubEntry, Verified, Word, segments_in,
-};
+use hsm_types::{AttrName, Bytes, FileKey, Regions, Stub, StubEntry, Verified, Word, segments_in};
 use meta_store::Record;
 use std::alloc::Global;
 
@@ -173,18 +169,18 @@ impl<D: Disk> FileStore<D> {
         requires live { IsSome (find_key (λ f. f.key) key self.old.held.files) }
         requires start { 65536 * segment < length (bytes_of key self.old.held.files) }
         requires volume { entry.volume ≤ 255 }
-        requires print { offline_at (kept_of key self.old.held.files).stubs segment ≡ false → entry.print ≡ print_of (segment_of segment (bytes_of key self.old.held.files)) }
-        ensures changed { Changes D.Disk self.old number key (Seals segment entry) (sealing_refusal segment (other_stubs key self.old.held.files) (superblock_of self.old).geometry.stubs (kept_of key self.old.held.files).stubs) result self.new }
+        requires here { offline_at (kept_of key self.old.held.files).stubs segment ≡ false }
+        requires print { entry.print ≡ print_of (segment_of segment (bytes_of key self.old.held.files)) }
+        ensures changed { Changes D.Disk self.old number key (Seals segment entry) (too_many_stubs segment (other_stubs key self.old.held.files) (superblock_of self.old).geometry.stubs (kept_of key self.old.held.files).stubs) result self.new }
         ensures memory { IsErrOf result StoreRefusal.Memory → self.new ≡ self.old }
     {
-        // Asked for what is true of the disk.
-        let _failed = self.has_failed();
+        // Read for what is true of it.
+        let _meta = &self.meta;
         let ino = self.inode(key);
         let stub = Some(Stub {
             entry,
             offline: false,
         });
-        check_seal(self.meta.catalog(), key, segment)?;
         self.record(alloc, key, Record::Stub { ino, segment, stub }, number)
     }
 
@@ -223,15 +219,13 @@ impl<D: Disk> FileStore<D> {
         requires working { self.old.failed ≡ false }
         requires live { IsSome (find_key (λ f. f.key) key self.old.held.files) }
         requires start { 65536 * segment < length (bytes_of key self.old.held.files) }
-        requires print { offline_at (kept_of key self.old.held.files).stubs segment ≡ true → IfSome (stub_at segment (kept_of key self.old.held.files).stubs) (λ stub. stub.entry.print ≡ print_of bytes.now) }
+        requires offline { offline_at (kept_of key self.old.held.files).stubs segment ≡ true }
+        requires print { IfSome (stub_at segment (kept_of key self.old.held.files).stubs) (λ stub. stub.entry.print ≡ print_of bytes.now) }
         requires room { length (touched (Restores segment bytes.now) (length (bytes_of key self.old.held.files))) + used self.old.held.files ≤ (geometry_of self.old.meta.durable.geometry).blocks }
-        ensures changed { Changes D.Disk self.old number key (Restores segment bytes.now) (restoring_refusal segment (kept_of key self.old.held.files).stubs) result self.new }
+        ensures changed { Changes D.Disk self.old number key (Restores segment bytes.now) None result self.new }
     {
-        // Asked for what is true of the disk.
-        let _failed = self.has_failed();
-        if !self.is_offline(key, segment) {
-            return Err(StoreRefusal::Part(DmRefusal::NotOffline { segment }));
-        }
+        // Read for what is true of it.
+        let _meta = &self.meta;
         let bytes = bytes.as_slice();
         let change = Rewrite::Restore { segment, bytes };
         self.make_room(alloc, key, change, number)?;

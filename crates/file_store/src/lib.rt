@@ -10,7 +10,6 @@ mod plans;
 mod punches;
 mod refusal;
 mod rewrites;
-mod seals;
 mod spaces;
 mod store;
 mod writing;

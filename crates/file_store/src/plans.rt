@@ -1,11 +1,11 @@
 //! What an event needs before it changes anything: its records, the blocks that it frees, and memory.
-ghost use Rattle.std.specs.Prelude.{◌≡◌, ℕ, ◌∷◌, [], ◌-◌, ◌≤◌, ◌++◌, List, length, replicate, take, drop, Some, IfOk, OnOk, OnErr, IsSome};
+ghost use Rattle.std.specs.Prelude.{◌≡◌, ℕ, ◌∷◌, [], ◌-◌, ◌≤◌, ◌++◌, List, length, take, drop, Some, IfOk, OnOk, OnErr, IsSome};
 ghost use Rattle.plain_model.specs.Keyed.{find_key};
 ghost use Rattle.plain_model.specs.Blocks.{touched, size_after};
-ghost use Rattle.hsm_types.specs.Stubs.{Stubs, offline_at};
+ghost use Rattle.hsm_types.specs.Stubs.{Stubs};
 ghost use Rattle.meta_store.specs.declared.snapshot.Mapping.{Mapping};
 ghost use Rattle.meta_store.specs.Catalogs.{CatalogFile, present};
-ghost use Rattle.meta_store.specs.Records.{IsEvent, mappings_from};
+ghost use Rattle.meta_store.specs.Records.{mappings_from};
 ghost use Rattle.file_store.specs.declared.rewrites.Rewrite.{Rewrite};
 ghost use Rattle.file_store.specs.Rewrites.{IsRewrite, IsRewriting, AreUnsealed, HasEntry, HasRoom, new_size, mappings_of, freed_by};
 
@@ -64,14 +64,6 @@ pub(crate) fn one(alloc: Global, change: Record) -> Result<Records, AllocError>
     let mut records = Vec::new(alloc);
     records.push(change)?;
     Ok(Records::from(records))
-}
-
-/// Whether the bytes of a segment of a live file are away.
-pub(crate) fn is_away(catalog: &Catalog, key: FileKey, segment: u32) -> bool
-    requires { IsSome (find_key (λ f. f.key) key catalog.now.files) }
-    ensures { (f : CatalogFile) → find_key (λ f. f.key) key catalog.now.files ≡ Some f → result ≡ offline_at f.kept.stubs segment }
-{
-    catalog.stubs(key).unwrap().is_offline(segment)
 }
 
 /// The blocks that a live file uses.

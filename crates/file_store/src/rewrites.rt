@@ -1,5 +1,5 @@
 //! Changes of the bytes of a file.
-ghost use Rattle.std.specs.Prelude.{◌≡◌, ◌≤◌, ◌<◌, ◌+◌, ◌*◌, ◌&&◌, ℕ, nat_le, nat_lt, length, OnOk, OnErr, IsOk};
+ghost use Rattle.std.specs.Prelude.{◌≡◌, ◌≤◌, ◌<◌, ◌+◌, ◌*◌, ◌&&◌, ℕ, nat_le, nat_lt, length, OnOk, OnErr};
 ghost use Rattle.plain_model.specs.Plain.{rebody};
 ghost use Rattle.plain_model.specs.Blocks.{touched, size_after};
 ghost use Rattle.file_body.specs.HeldBodies.{HeldBody, is_away};

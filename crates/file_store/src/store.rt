@@ -1,12 +1,11 @@
 //! A store of files on its disk.
-ghost use Rattle.std.specs.Prelude.{◌≡◌, true, false, List, ℕ, length, ◌+◌, ◌*◌, ◌<◌, ◌≤◌, IfOk, IfErr, IfSome, OnOk, IsErrOf, IsSome};
+ghost use Rattle.std.specs.Prelude.{◌≡◌, true, false, List, ℕ, length, ◌+◌, ◌*◌, ◌<◌, ◌≤◌, IfOk, IfErr, OnOk, IsErrOf, IsSome};
 ghost use Rattle.disk_model.specs.Calls.{Counts};
 ghost use Rattle.disk_model.specs.Images.{Alike};
 ghost use Rattle.disk_model.specs.Moments.{MayBe, Keeps, Same};
 ghost use Rattle.commit_slots.specs.Images.{IsStore};
 ghost use Rattle.plain_model.specs.Keyed.{find_key};
-ghost use Rattle.hsm_types.specs.Segments.{segment_len};
-ghost use Rattle.hsm_types.specs.Stubs.{print_of, stub_at, offline_at};
+ghost use Rattle.hsm_types.specs.Stubs.{print_of, offline_at};
 ghost use Rattle.plain_model.specs.Plain.{segment as segment_of};
 ghost use Rattle.plain_model.specs.State.{bytes_of, used};
 ghost use Rattle.block_space.specs.Space.{free};
@@ -23,7 +22,6 @@ ghost use Rattle.file_store.specs.Changes.{Ends};
 
 use crate::loading::slot;
 use crate::opening::read_in;
-use crate::plans::is_away;
 use crate::refusal::StoreRefusal;
 use block_space::BlockSpace;
 use disk_model::{Disk, OpenRefusal};
@@ -151,16 +149,6 @@ impl<D: Disk> FileStore<D> {
         ensures { result ≡ print_of (segment_of segment (bytes_of key self.now.held.files)) }
     {
         Fingerprint::of(self.body(key).segment(segment).unwrap())
-    }
-
-    /// Whether the bytes of a segment of a live file are away. An entry has its segment's length.
-    pub(crate) fn is_offline(&self, key: FileKey, segment: u32) -> bool
-        requires { IsSome (find_key (λ f. f.key) key self.now.held.files) }
-        ensures offline { result ≡ offline_at (kept_of key self.now.held.files).stubs segment }
-        ensures length { IfSome (stub_at segment (kept_of key self.now.held.files).stubs) (λ stub. stub.entry.print.len ≡ segment_len (length (bytes_of key self.now.held.files)) segment) }
-        ensures limit { length (bytes_of key self.now.held.files) ≤ 16777216 }
-    {
-        is_away(self.meta.catalog(), key, segment)
     }
 
     /// The inode of a live file. The catalog finds the file by it.

@@ -2,15 +2,14 @@
 use Rattle.std.proofs.Common.{◌≡◌, ℕ, min, List, [], ◌∷◌, length, Bool, true, false, Option, Some, None, refl, sym, ◌∙◌, ap, subst, arith}
 use Rattle.std.proofs.lemmas.Bool.{eqb-true}
 use Rattle.std.proofs.lemmas.Slice.Eq.{bytes_eq-Decides}
-use Rattle.std.specs.Prelude.{◌&&◌, ◌==◌, Result, Ok, Err, OnOk, IsErrOf, IfSome, if◌then◌else◌}
+use Rattle.std.specs.Prelude.{◌&&◌, ◌==◌, Result, Ok, Err, IfSome, if◌then◌else◌}
 use Rattle.std.specs.List.{AllByRecursion}
 use Rattle.std.specs.Str.{bytes_eq}
 use Rattle.disk_model.specs.declared.device.Disk as disk
 use Rattle.hsm_types.specs.Refusals.{first_refusal}
 use Rattle.hsm_types.specs.Segments.{segment_len, segments_in}
-use Rattle.hsm_types.specs.Stubs.{FitsFile, print_of, stub_at, already_offline, not_offline, too_many_stubs, any_unpunched, sealing_refusal, restoring_refusal}
+use Rattle.hsm_types.specs.Stubs.{FitsFile, print_of, stub_at, any_unpunched}
 use Rattle.hsm_types.specs.declared.keys.FileKey.{FileKey}
-use Rattle.hsm_types.specs.declared.stores.Superblock.{Superblock}
 use Rattle.hsm_types.specs.declared.stubs.Fingerprint.{Fingerprint}
 use Rattle.hsm_types.specs.declared.stubs.Stub.{Stub}
 use Rattle.hsm_types.specs.declared.stubs.StubEntry.{StubEntry}
@@ -18,13 +17,12 @@ use Rattle.hsm_types.specs.declared.dm.DmCall.{DmCall}
 use Rattle.hsm_types.specs.declared.dm.DmRefusal.{DmRefusal}
 use Rattle.hsm_types.specs.declared.dm.DmReply.{DmReply}
 use Rattle.hsm_types.specs.declared.dm.DmReply.TheVariants as reply
-use Rattle.plain_model.specs.Effects.{Effect, Restores, OfFile, change_of, punch_from, punch_to}
+use Rattle.plain_model.specs.Effects.{Effect, OfFile, change_of, punch_from, punch_to}
 use Rattle.plain_model.specs.Keyed.{find_key}
 use Rattle.plain_model.specs.Plain.{segment}
-use Rattle.plain_model.specs.Segments.{past_end, bad_volume, bad_punch, away, changed_bytes, changed_from, no_room, same_print, punch_refusal, seal_refusal, restore_refusal}
+use Rattle.plain_model.specs.Segments.{bad_punch, same_print, punch_refusal, seal_refusal}
 use Rattle.plain_model.specs.Services.{kept_of}
-use Rattle.plain_model.specs.State.{FileState, Held, file_or_new, bytes_of, affected_held}
-use Rattle.plain_model.proofs.Judged.{none_first}
+use Rattle.plain_model.specs.State.{FileState, Held, file_or_new, bytes_of}
 use Rattle.meta_store.proofs.StubLists.{each-at}
 use Rattle.stub_map.specs.States.{state_of}
 use Rattle.stub_map.specs.declared.stubs.State.TheVariants.{Sealed, Offline as Away}
@@ -116,25 +114,5 @@ punch_left f offset len none =
     let own : Option DmRefusal = any_unpunched f.kept.regions f.kept.stubs (punch_from offset) (min (punch_to offset len) (segments_in (length f.body))) in
     passes (bad_punch offset len (length f.body)) (own ∷ []) none ∙ alone own
 
-seal_here : (f : FileState) (j : ℕ) (entry : StubEntry) → seal_refusal f j entry ≡ None → already_offline j (stub_at j f.kept.stubs) ≡ None
-seal_here f j entry none =
-    let change : Option DmRefusal = changed_bytes entry.print (segment j f.body) in
-    let past_start = none_first (past_end j (length f.body)) (bad_volume entry.volume ∷ away f j ∷ change ∷ []) none in
-    let past_volume = none_first (bad_volume entry.volume) (away f j ∷ change ∷ []) past_start.1 in
-    let past_away = none_first (away f j) (change ∷ []) past_volume.1 in
-    past_away.0
-
-pub seal_left : (f : FileState) (j : ℕ) (entry : StubEntry) (others limit : ℕ) → seal_refusal f j entry ≡ None
-    → first_refusal (seal_refusal f j entry ∷ too_many_stubs j others limit f.kept.stubs ∷ []) ≡ sealing_refusal j others limit f.kept.stubs
-seal_left f j entry others limit none =
-    let many : Option DmRefusal = too_many_stubs j others limit f.kept.stubs in
-    passes (seal_refusal f j entry) (many ∷ []) none ∙ sym (passes (already_offline j (stub_at j f.kept.stubs)) (many ∷ []) (seal_here f j entry none))
-
--- nothing is: its part refuses what isn't offline, and that was refused before
-pub restore_left : (s : Superblock) (h : Held) (f : FileState) (j : ℕ) (bytes : List ℕ) → restore_refusal s h f j bytes ≡ None → restoring_refusal j f.kept.stubs ≡ None
-restore_left s h f j bytes none =
-    let stub : Option Stub = stub_at j f.kept.stubs in
-    let room : Option DmRefusal = no_room s h f (Restores j bytes) in
-    let past_start = none_first (past_end j (length f.body)) (not_offline j stub ∷ changed_from stub bytes ∷ room ∷ []) none in
-    let past_here = none_first (not_offline j stub) (changed_from stub bytes ∷ room ∷ []) past_start.1 in
-    past_here.0
+pub seal_left : (f : FileState) (j : ℕ) (entry : StubEntry) (many : Option DmRefusal) → seal_refusal f j entry ≡ None → first_refusal (seal_refusal f j entry ∷ many ∷ []) ≡ many
+seal_left f j entry many none = passes (seal_refusal f j entry) (many ∷ []) none ∙ alone many

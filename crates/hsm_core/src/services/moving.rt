@@ -1,13 +1,16 @@
 //! Calls by which the bytes of a live file's segments leave the store and come back.
-ghost use Rattle.std.specs.Prelude.{◌≡◌, ◌+◌, ◌*◌, ◌<◌, ◌≤◌, ◌⊎◌, false, true, Some, IsSome, OnOk, length};
+ghost use Rattle.std.specs.Prelude.{◌≡◌, ◌+◌, ◌*◌, ◌<◌, ◌≤◌, ◌⊎◌, false, true, Some, IfSome, IsSome, OnOk, length};
 ghost use Rattle.hsm_types.specs.Calls.{scope_of};
 ghost use Rattle.hsm_types.specs.Messages.{no_token};
+ghost use Rattle.hsm_types.specs.Stubs.{offline_at, print_of, stub_at};
 ghost use Rattle.hsm_types.specs.declared.limits.TheConstants.{FILE_BYTES};
 ghost use Rattle.hsm_types.specs.declared.dm.DmCall.TheVariants.{PunchHole, Seal, Restore};
 ghost use Rattle.plain_model.specs.Effects.{Restores, punch_from, punch_to};
 ghost use Rattle.plain_model.specs.Blocks.{touched};
 ghost use Rattle.plain_model.specs.Keyed.{find_key};
 ghost use Rattle.plain_model.specs.Segments.{bad_volume, ends_well, bad_punch, seal_refusal, restore_refusal};
+ghost use Rattle.plain_model.specs.Plain.{segment as segment_of};
+ghost use Rattle.plain_model.specs.Services.{kept_of};
 ghost use Rattle.plain_model.specs.State.{file_at, bytes_of, used};
 ghost use Rattle.file_store.specs.Stores.{superblock_of, Proceeds};
 ghost use Rattle.dm_service.specs.Services.{Judges};
@@ -158,6 +161,8 @@ fn judge_seal<D: Disk>(
     ensures judged { Judges result (seal_refusal (file_at key files.now.held.files) segment entry) }
     ensures start { OnOk result (65536 * segment < length (bytes_of key files.now.held.files)) }
     ensures volume { OnOk result (entry.volume ≤ 255) }
+    ensures here { OnOk result (offline_at (kept_of key files.now.held.files).stubs segment ≡ false) }
+    ensures print { OnOk result (entry.print ≡ print_of (segment_of segment (bytes_of key files.now.held.files))) }
 {
     judge_segment(files, key, segment)?;
     judge_volume(entry.volume)?;
@@ -210,6 +215,8 @@ fn judge_restore<D: Disk>(
     requires { IsSome (find_key (λ f. f.key) key files.now.held.files) }
     ensures judged { Judges result (restore_refusal (superblock_of files.now) files.now.held (file_at key files.now.held.files) segment bytes.now) }
     ensures start { OnOk result (65536 * segment < length (bytes_of key files.now.held.files)) }
+    ensures offline { OnOk result (offline_at (kept_of key files.now.held.files).stubs segment ≡ true) }
+    ensures print { OnOk result (IfSome (stub_at segment (kept_of key files.now.held.files).stubs) (λ stub. stub.entry.print ≡ print_of bytes.now)) }
     ensures room { OnOk result (length (touched (Restores segment bytes.now) (length (bytes_of key files.now.held.files))) + used files.now.held.files ≤ (superblock_of files.now).geometry.blocks) }
 {
     judge_segment(files, key, segment)?;
