@@ -22,3 +22,4 @@ pub mod Noted
 pub mod Committing
 pub mod Drives
 pub mod Sealing
+pub mod Quiet

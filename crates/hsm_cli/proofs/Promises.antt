@@ -26,12 +26,13 @@ use Rattle.hsm_cli.specs.Sealing.{IsRightInMemory, IsRightInFolder}
 use Rattle.hsm_cli.specs.Texts.{IsUnwritten, TakesText, IsShown, AreUntold, AreCounted, drill_text}
 use Rattle.hsm_cli.specs.Told.{SourceTold, SinkTold, HostTold, host_told}
 use Rattle.hsm_cli.specs.Endings.{WritingEnds, RunEnds, FormatEnds, ShowEnds}
-use Rattle.hsm_cli.specs.Clauses.{HasRun, HasDrilled, HasRead, HasReadOn, IsUnread, IsGoodOver, IsPlainOver, IsCausedOver, NoneFailed, TellsFaults, LegalityClause, PlainClause, MediaClause, LeavesSafe, OnlyReads, IsFormatted, HandsOut, HasFailed, HasDriveFailed, GivesBack, HandsDrives, GivesShown, AsksShown, asked_by, FindsNothing, TakesTranscript, Why, HasBegun, Lacks, LacksShown, StatusClause, KeepsPromises}
+use Rattle.hsm_cli.specs.Clauses.{HasRun, HasDrilled, HasRead, HasReadOn, IsUnread, IsGoodOver, IsPlainOver, IsCausedOver, NoneFailed, TellsFaults, LegalityClause, PlainClause, MediaClause, LeavesSafe, OnlyReads, IsFormatted, HandsOut, HasFailed, HasDriveFailed, GivesBack, HandsDrives, GivesShown, AsksShown, asked_by, FindsNothing, TakesTranscript, Why, HasBegun, Lacks, LacksShown, StatusClause, ReadsQuietly, WritesQuietly, KeepsQuietly, HandsQuietly, NeverFailed, KeepsPromises}
 use Rattle.hsm_cli.proofs.Completeness.{status_new, status_store}
 use Rattle.hsm_cli.proofs.Drills.{status_drill}
 use Rattle.hsm_cli.proofs.Faults.{caused_none, none_named}
 use Rattle.hsm_cli.proofs.Formats.{status_format}
 use Rattle.hsm_cli.proofs.Legality.{legal_with}
+use Rattle.hsm_cli.proofs.Quiet.{read_quietly, text_quietly}
 use Rattle.hsm_cli.proofs.Showings.{status_show, status_volumes}
 
 module _ {H D M : Type 0} (t : host.Ghosts H D M) (g : disk.Ghosts D) (h : drive.Ghosts M) (old new : H) (source : SourceTold) (sink : SinkTold) (o : Outcome D M) where
@@ -66,9 +67,11 @@ module _ {H D M : Type 0} (t : host.Ghosts H D M) (g : disk.Ghosts D) (h : drive
       → StoresAll (t.stores old) (t.stores new)
       → (o.cause ≡ Some HostFault → o.disk ≡ None)
       → (o.disk ≡ None → (o.cause ≡ Some HostFault) ⊎ (o.cause ≡ Some NoMemory))
+      → (o.cause ≢ Some HostFault → t.fault_count new ≡ t.fault_count old)
+      → KeepsQuietly g o.history o.cause o.disk
       → FormatEnds (HasFailed g o.disk) (host_told t.fault_count old new) o.cause
       → IsUnread source → IsUnwritten sink → KeepsPromises t g h (Some (Format path size)) old new source sink o
-  format_keeps path size is formatted hands made unasked undriven folders lent back ends unread unwritten = record {
+  format_keeps path size is formatted hands made unasked undriven folders lent back quiet sound ends unread unwritten = record {
     script = idle [] is;
     reading = unread;
     legality = idle_legal [] is;
@@ -80,6 +83,7 @@ module _ {H D M : Type 0} (t : host.Ghosts H D M) (g : disk.Ghosts D) (h : drive
     drives = (ap (λ (x : Outcome D M). x.drives) is, folders, undriven);
     output = unwritten;
     status = status_format g h (t.holds old) source sink (host_told t.fault_count old new) o path size (idle_told [] is) (idle_new [] is) lent back ends;
+    faults = record { reads = λ sound ample. unread.faults; writes = λ sound working ample. unwritten.faults; keeps = sound; hands = λ sound ample. quiet sound; counts = tt };
   }
 
   pub show_keeps : (path : List ℕ)
@@ -93,9 +97,10 @@ module _ {H D M : Type 0} (t : host.Ghosts H D M) (g : disk.Ghosts D) (h : drive
       → (o.cause ≡ Some HostFault → o.disk ≡ None)
       → (o.disk ≡ None → (o.cause ≡ Some HostFault) ⊎ (o.cause ≡ Some NoMemory))
       → TakesText (IsShown (t.holds old path) AreUntold) sink o.cause
+      → (o.cause ≢ Some HostFault → t.fault_count new ≡ t.fault_count old)
       → ShowEnds (t.holds old path) (Rose (t.fault_count old) (t.fault_count new)) (HasFailed g o.disk) sink o.cause
       → IsUnread source → KeepsPromises t g h (Some (Show path)) old new source sink o
-  show_keeps path is reads hands asked unmade undriven folders lent back output ends unread = record {
+  show_keeps path is reads hands asked unmade undriven folders lent back output quiet ends unread = record {
     script = idle [] is;
     reading = unread;
     legality = idle_legal [] is;
@@ -107,6 +112,7 @@ module _ {H D M : Type 0} (t : host.Ghosts H D M) (g : disk.Ghosts D) (h : drive
     drives = (ap (λ (x : Outcome D M). x.drives) is, folders, undriven);
     output = output;
     status = status_show g h (t.holds old) source sink (host_told t.fault_count old new) o (idle_told [] is) (idle_new [] is) path AreUntold output back lent ends;
+    faults = record { reads = λ sound ample. unread.faults; writes = text_quietly (IsShown (t.holds old path) AreUntold) sink o.cause output; keeps = λ works none. read_quietly g (t.holds old path) o.cause o.disk reads.2 works; hands = λ sound ample. quiet sound; counts = tt };
   }
 
   pub volumes_keep : (path dir : List ℕ)
@@ -123,9 +129,11 @@ module _ {H D M : Type 0} (t : host.Ghosts H D M) (g : disk.Ghosts D) (h : drive
       → ((image : List ℕ) → t.holds old path image → FindsNothing image → t.drive_count new ≡ t.drive_count old)
       → ((image : List ℕ) → t.holds old path image → FindsNothing image → IsSome o.disk → o.cause ≢ Some HostFault)
       → TakesText (IsShown (t.holds old path) (AreCounted (t.stores old dir))) sink o.cause
+      → (o.cause ≢ Some HostFault → t.fault_count new ≡ t.fault_count old)
+      → (o.cause ≢ Some HostFault → NeverFailed h o.drives)
       → ShowEnds (t.holds old path) (Rose (t.fault_count old) (t.fault_count new) ⊎ HasDriveFailed h o.drives) (HasFailed g o.disk) sink o.cause
       → IsUnread source → KeepsPromises t g h (Some (ShowVolumes path dir)) old new source sink o
-  volumes_keep path dir is reads hands asked unmade drives folders driven lent back unasked first output ends unread = record {
+  volumes_keep path dir is reads hands asked unmade drives folders driven lent back unasked first output quiet well ends unread = record {
     script = idle o.drives is;
     reading = unread;
     legality = idle_legal o.drives is;
@@ -137,6 +145,7 @@ module _ {H D M : Type 0} (t : host.Ghosts H D M) (g : disk.Ghosts D) (h : drive
     drives = (drives, folders, driven, unasked);
     output = output;
     status = status_volumes g h (t.holds old) source sink (host_told t.fault_count old new) o (idle_told o.drives is) (idle_new o.drives is) path (AreCounted (t.stores old dir)) output back dir lent first ends;
+    faults = record { reads = λ sound ample. unread.faults; writes = text_quietly (IsShown (t.holds old path) (AreCounted (t.stores old dir))) sink o.cause output; keeps = λ works none. read_quietly g (t.holds old path) o.cause o.disk reads.2 works; hands = λ sound ample. quiet sound; counts = well };
   }
 
   -- ---- forms that run lines on a new store
@@ -148,6 +157,9 @@ module _ {H D M : Type 0} (t : host.Ghosts H D M) (g : disk.Ghosts D) (h : drive
 
     nothing_left : (o.opening ≡ None) × (o.disk ≡ None) × (o.base ≡ 0) × (o.drives ≡ [])
     nothing_left = (ap (λ (x : Outcome D M). x.opening) is, ap (λ (x : Outcome D M). x.disk) is, ap (λ (x : Outcome D M). x.base) is, ap (λ (x : Outcome D M). x.drives) is)
+
+    no_disk : KeepsQuietly g o.history o.cause o.disk
+    no_disk works none = subst (λ (d : Option D). IfSome d (λ x. g.fault_count x ≡ 0)) (sym nothing_left.1) tt
 
     not_opened : opened_in o ≡ None
     not_opened = ap (λ (x : Outcome D M). opened_in x) is
@@ -170,9 +182,11 @@ module _ {H D M : Type 0} (t : host.Ghosts H D M) (g : disk.Ghosts D) (h : drive
         → HasRun (SettlesOn (opened_in o)) (λ marks. IsWellServedOver (opened_in o) marks × IsRightInMemory marks) false source o.cause o.history
         → HasRead source o.cause
         → TakesTranscript o sink
+        → ReadsQuietly source o.cause
+        → WritesQuietly sink o.cause
         → RunEnds ⊥ ⊥ source sink o.cause
         → KeepsPromises t g h (Some Replay) old old source sink o
-    replay_keeps law script reading output ends = record {
+    replay_keeps law script reading output reads writes ends = record {
       script = script;
       reading = reading;
       legality = new_legal;
@@ -184,6 +198,7 @@ module _ {H D M : Type 0} (t : host.Ghosts H D M) (g : disk.Ghosts D) (h : drive
       drives = nothing_left.3;
       output = output;
       status = status_new law g h (t.holds old) source sink (host_told t.fault_count old old) o told nothing_left ends;
+      faults = record { reads = reads; writes = writes; keeps = no_disk; hands = λ sound ample. refl; counts = tt };
     }
 
     pub drill_keeps : (number : ℕ)
@@ -203,6 +218,7 @@ module _ {H D M : Type 0} (t : host.Ghosts H D M) (g : disk.Ghosts D) (h : drive
       drives = nothing_left.3;
       output = output;
       status = status_drill g h (t.holds old) source sink (host_told t.fault_count old old) o number told nothing_left ends;
+      faults = record { reads = λ sound ample. unread.faults; writes = text_quietly (λ text. text ≡ drill_text number o.history) sink o.cause output; keeps = no_disk; hands = λ sound ample. refl; counts = tt };
     }
 
   -- ---- one that runs them on a store of the host
@@ -228,9 +244,13 @@ module _ {H D M : Type 0} (t : host.Ghosts H D M) (g : disk.Ghosts D) (h : drive
       → HasBegun (opened_in o) o.cause
       → IfSome (opened_in o) (λ s. (s.held ≡ s.durable) × ((image : List ℕ) → t.holds old path image → IsDurable s image))
       → (o.disk ≡ None → (o.cause ≡ Some HostFault) ⊎ (o.cause ≡ Some NoMemory))
+      → KeepsQuietly g o.history o.cause o.disk
+      → ReadsQuietly source o.cause
+      → WritesQuietly sink o.cause
+      → HandsQuietly (opened_in o) (host_told t.fault_count old new) o.cause
       → Why g (t.holds old path) (Rose (t.fault_count old) (t.fault_count new)) source sink o.disk o.cause
       → KeepsPromises t g h (Some (ReplayStore path dir)) old new source sink o
-  store_keeps path dir law told command script reading legality plain media caused crash output hands asked unmade lent drives folders driven begun opened back why = record {
+  store_keeps path dir law told command script reading legality plain media caused crash output hands asked unmade lent drives folders driven begun opened back sound reads writes quiet why = record {
     script = script;
     reading = reading;
     legality = legality;
@@ -242,4 +262,5 @@ module _ {H D M : Type 0} (t : host.Ghosts H D M) (g : disk.Ghosts D) (h : drive
     drives = (drives, folders, driven);
     output = output;
     status = status_store law g h (t.holds old) source sink (host_told t.fault_count old new) o (told.0, told.1) path dir told.2 command begun opened lent back why;
+    faults = record { reads = reads; writes = writes; keeps = sound; hands = quiet; counts = tt };
   }

@@ -38,7 +38,7 @@ use Rattle.hsm_cli.proofs.Running.{rose_later}
 
 -- a text that is so is so in another way
 pub takes_as : (A B : List ℕ → Type 0) (sink : SinkTold) (cause : Option Cause) → ((text : List ℕ) → A text → B text) → TakesText A sink cause → TakesText B sink cause
-takes_as A B sink None so took = (took.0, so took.0 took.1, took.2)
+takes_as A B sink None so took = (took.0, so took.0 took.1, took.2, took.3)
 takes_as A B sink (Some WriteFault) so took = (took.0, so took.0 took.1, took.2, took.3)
 takes_as A B sink (Some (ScriptRefused line)) so took = took
 takes_as A B sink (Some WordsRefused) so took = took

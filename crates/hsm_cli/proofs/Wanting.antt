@@ -15,10 +15,11 @@ use Rattle.hsm_cli.specs.Outcomes.{ended_with}
 use Rattle.hsm_cli.specs.Sources.{GivesFirst}
 use Rattle.hsm_cli.specs.Hosts.{HoldsAll, StoresAll}
 use Rattle.hsm_cli.specs.Texts.{IsUnwritten}
-use Rattle.hsm_cli.specs.Told.{SourceTold, SinkTold, HostTold}
+use Rattle.hsm_cli.specs.Told.{SourceTold, SinkTold, HostTold, host_told}
 use Rattle.hsm_cli.specs.Clauses.{ScriptClause, ReadingClause, MediaClause, TellsFaults, CrashClause, FormatClause, HostClause, DrivesClause, OutputClause, TakesTranscript, LegalityClause, PlainClause, StatusClause, KeepsPromises}
 use Rattle.hsm_cli.proofs.Faults.{caused_none}
 use Rattle.hsm_cli.proofs.Legality.{legal_as}
+use Rattle.hsm_cli.proofs.Quiet.{faults_idle}
 
 -- the outcomes
 abbrev pub refused : {D M : Type 0} → Outcome D M
@@ -181,6 +182,7 @@ module _ {D M : Type 0} (g : disk.Ghosts D) (h : drive.Ghosts M) where
           drives = refl;
           output = unwritten taken written;
           status = status_refused (t.holds host) _ _ _;
+          faults = faults_idle g h (Some WordsRefused) None (unread given read) (untaken taken written) (host_told t.fault_count host host) refl refl refl;
         }
         )
 
@@ -200,5 +202,6 @@ module _ {D M : Type 0} (g : disk.Ghosts D) (h : drive.Ghosts M) where
           drives = drives_wanting t.holds t.stores t.drive_count form host;
           output = output_wanting form (t.holds host) (t.stores host) taken written;
           status = status_wanting form (t.holds host) _ _ _;
+          faults = faults_idle g h (Some NoMemory) form (unread given read) (untaken taken written) (host_told t.fault_count host host) refl refl refl;
         }
         )

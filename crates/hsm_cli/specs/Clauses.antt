@@ -542,6 +542,41 @@ pub record StatusClause {D M : Type 0} (g : disk.Ghosts D) (h : drive.Ghosts M) 
   pub refused : (image : List ℕ) → IsNamed form holds image → FindsNothing image → IsSome o.disk → ¬ (HasFailed g o.disk) → TellsStore o.cause ⊎ (o.cause ≡ Some NoMemory)
   pub complete : FindsStore form holds → FindsScript form source.given → NothingFails g (HostFails h form host o.drives) source sink o.disk → (o.cause ≡ None) ⊎ (o.cause ≡ Some NoMemory)
 
+-- ---- the faults clause
+
+-- a source has failed only where that is told, or want of memory
+abbrev pub ReadsQuietly : SourceTold → Option Cause → Type 0
+ReadsQuietly source cause = cause ≢ Some ReadFault → cause ≢ Some NoMemory → source.now ≡ source.before
+
+-- a sink has failed only where that is told, or a fault of the disk or want of memory, which came before
+abbrev pub WritesQuietly : SinkTold → Option Cause → Type 0
+WritesQuietly sink cause = cause ≢ Some WriteFault → cause ≢ Some DiskFault → cause ≢ Some NoMemory → sink.now ≡ sink.before
+
+-- a disk that the host handed out has failed only where that is told, by the cause or by an entry
+abbrev pub KeepsQuietly : {D : Type 0} → disk.Ghosts D → List Entry → Option Cause → Option D → Type 0
+KeepsQuietly g history cause disk = cause ≢ Some DiskFault → has_fault history ≡ false → IfSome disk (λ d. g.fault_count d ≡ 0)
+
+-- a host has failed only where that is told, or, in a run on a store that was opened, want of memory
+abbrev pub HandsQuietly : {S : Type 0} → Option S → HostTold → Option Cause → Type 0
+HandsQuietly opened host cause = cause ≢ Some HostFault → (IsSome opened → cause ≢ Some NoMemory) → host.now ≡ host.before
+
+-- no drive has failed
+abbrev pub NeverFailed : {M : Type 0} → drive.Ghosts M → List M → Type 0
+NeverFailed g drives = AllByRecursion (λ d. g.fault_count d ≡ 0) drives
+
+-- a drive that `show PATH DIR` gives back has failed only where that is told
+abbrev pub CountsQuietly : {M : Type 0} → drive.Ghosts M → Option Form → Option Cause → List M → Type 0
+CountsQuietly g (Some (ShowVolumes path dir)) cause drives = cause ≢ Some HostFault → NeverFailed g drives
+CountsQuietly g other cause drives = Unit {0}
+
+-- No fault is passed over: what has failed in a run is told, or something that is told before it.
+pub record FaultsClause {D M : Type 0} (g : disk.Ghosts D) (h : drive.Ghosts M) (form : Option Form) (source : SourceTold) (sink : SinkTold) (host : HostTold) (o : Outcome D M) : Type 0 where
+  pub reads : ReadsQuietly source o.cause
+  pub writes : WritesQuietly sink o.cause
+  pub keeps : KeepsQuietly g o.history o.cause o.disk
+  pub hands : HandsQuietly (opened_in o) host o.cause
+  pub counts : CountsQuietly h form o.cause o.drives
+
 -- ---- all of them
 
 -- All that is promised of a run whose words have that form, by what the host, the source and the sink tell before it and after it.
@@ -557,3 +592,4 @@ pub record KeepsPromises {H D M : Type 0} (t : host.Ghosts H D M) (g : disk.Ghos
   pub drives : DrivesClause h t.holds t.stores t.drive_count form old new o
   pub output : OutputClause form (t.holds old) (t.stores old) o sink
   pub status : StatusClause g h form (t.holds old) source sink (host_told t.fault_count old new) o
+  pub faults : FaultsClause g h form source sink (host_told t.fault_count old new) o

@@ -23,9 +23,10 @@ pub record IsUnwritten (sink : SinkTold) : Type 0 where
   pub taken : sink.new ≡ sink.old
   pub faults : sink.now ≡ sink.before
 
--- What a sink took of a text that is written last: all of it where the run ended well, a prefix of it where writing failed. Else the sink was left alone.
+-- What a sink took of a text that is written last: all of it, without a fault, where the run ended well, a prefix of it where writing failed. Else the sink
+-- was left alone.
 abbrev pub TakesText : (List ℕ → Type 0) → SinkTold → Option Cause → Type 0
-TakesText IsText sink None = (text : List ℕ) × IsText text × Appends sink.old sink.new text
+TakesText IsText sink None = (text : List ℕ) × IsText text × Appends sink.old sink.new text × (sink.now ≡ sink.before)
 TakesText IsText sink (Some WriteFault) = (text : List ℕ) × IsText text × (n : ℕ) × Appends sink.old sink.new (take n text)
 TakesText IsText sink (Some other) = IsUnwritten sink
 

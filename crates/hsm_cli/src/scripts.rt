@@ -16,7 +16,7 @@ ghost use Rattle.hsm_cli.specs.Sealing.{TellsOf};
 ghost use Rattle.hsm_cli.specs.Sources.{script_bytes, GivesFirst};
 ghost use Rattle.hsm_cli.specs.Follows.{IsServed, SettlesOn};
 ghost use Rattle.hsm_cli.specs.Daemons.{ServedIsWell};
-ghost use Rattle.hsm_cli.specs.Clauses.{HasRun, HasRead, IsGoodOver, IsPlainOver, IsCausedOver, IsWhole, IsBeforeRun, RanToItsEnd};
+ghost use Rattle.hsm_cli.specs.Clauses.{HasRun, HasRead, IsGoodOver, IsPlainOver, IsCausedOver, IsWhole, IsBeforeRun, RanToItsEnd, ReadsQuietly, WritesQuietly};
 ghost use Rattle.hsm_cli.specs.Endings.{cause_in, IsBeforeReading, ScriptEnds, WritingEnds, RunEnds, first_of};
 ghost use Rattle.hsm_cli.specs.Told.{source_told, sink_told};
 ghost use Rattle.hsm_cli.specs.Runs.{IsOpenedAnew, IsReady};
@@ -91,6 +91,9 @@ pub(crate) fn run_opened<D: Disk, M: Drive, I: Source, O: Sink>(
     ensures done { result.cause ≡ None → Appends (O.taken sink.old) (O.taken sink.new) (text_of result.history) }
     ensures all { result.cause ≢ Some Cause.NoMemory → (Rose (O.fault_count sink.old) (O.fault_count sink.new) → ⊥) → Appends (O.taken sink.old) (O.taken sink.new) (text_of result.history) }
     ensures unready { IfErr drives (λ why. (result.cause ≡ Some why) ⊎ (result.cause ≡ Some Cause.NoMemory)) }
+    ensures sound { has_fault result.history ≡ false → D.fault_count result.disk ≡ D.fault_count hsm.opened.disk }
+    ensures reads { ReadsQuietly (source_told I.left I.fault_count source.old source.new) result.cause }
+    ensures writes { WritesQuietly (sink_told O.taken O.fault_count sink.old sink.new) result.cause }
     ensures ends { RunEnds (IsErrOf drives Cause.HostFault) (Rose (D.fault_count hsm.opened.disk) (D.fault_count result.disk)) (source_told I.left I.fault_count source.old source.new) (sink_told O.taken O.fault_count sink.old sink.new) result.cause }
 {
     one_recovery();
@@ -146,6 +149,7 @@ fn run_with<D: Disk, M: Drive, I: Source>(
     ensures media { AreTrue M.Drive result.drives.items (faults_in result.hsm.history) }
     ensures served { IsServed result.hsm.history }
     ensures idle { OnErr drives (result.hsm ≡ hsm) }
+    ensures quiet { (IsErrOf result.ended Cause.ReadFault → ⊥) → I.fault_count source.new ≡ I.fault_count source.old }
     ensures drives { MatchResult drives (λ ds. HaveGrown M.Drive ds.items result.drives.items) (λ why. result.drives.items ≡ []) }
 {
     match drives {
@@ -185,6 +189,7 @@ fn run_script<D: Disk, M: Drive, I: Source>(
     ensures media { AreTrue M.Drive replay.new.drives (faults_in replay.new.store.history) }
     ensures served { IsServed replay.new.store.history }
     ensures drives { HaveGrown M.Drive replay.old.drives replay.new.drives }
+    ensures quiet { (IsErrOf result Cause.ReadFault → ⊥) → I.fault_count source.new ≡ I.fault_count source.old }
 {
     let script = read_script(alloc, source)?;
     match run(alloc, replay, script, commits) {
@@ -201,6 +206,7 @@ fn read_script<I: Source>(alloc: Global, source: &mut I) -> Result<Script, Cause
     ensures reading { HasRead (source_told I.left I.fault_count source.old source.new) (cause_in result) }
     ensures part { GivesFirst (I.left source.old) (I.left source.new) }
     ensures refused { IfErr result (λ why. ScriptEnds ⊥ ⊥ (source_told I.left I.fault_count source.old source.new) why) }
+    ensures quiet { (IsErrOf result Cause.ReadFault → ⊥) → I.fault_count source.new ≡ I.fault_count source.old }
 {
     let bytes = read_all(alloc, source)?;
     match parse(alloc, bytes.as_slice()) {
@@ -210,11 +216,13 @@ fn read_script<I: Source>(alloc: Global, source: &mut I) -> Result<Script, Cause
     }
 }
 
-/// Writes the text of a history.
+/// Writes the text of a history, which is empty where nothing happened: then the sink is left alone.
 fn write_transcript<O: Sink>(alloc: Global, sink: &mut O, history: &History) -> Result<(), Cause>
     ensures first { (n : ℕ) × Appends (O.taken sink.old) (O.taken sink.new) (take n (text_of history.now)) }
     ensures all { OnOk result (Appends (O.taken sink.old) (O.taken sink.new) (text_of history.now)) }
     ensures refused { IfErr result (λ why. WritingEnds (sink_told O.taken O.fault_count sink.old sink.new) why) }
+    ensures quiet { (IsErrOf result Cause.WriteFault → ⊥) → O.fault_count sink.new ≡ O.fault_count sink.old }
+    ensures idle { history.now ≡ [] → sink.new ≡ sink.old }
 {
     let Ok(text) = render(alloc, history.as_slice()) else {
         return Err(Cause::NoMemory);

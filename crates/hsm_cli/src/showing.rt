@@ -1,16 +1,16 @@
 //! A store of the host, shown.
-ghost use Rattle.std.specs.Prelude.{◌≡◌, ◌≢◌, ◌<◌, ◌⊎◌, ℕ, List, [], length, None, Some, IfErr, IsSome, option_copied};
+ghost use Rattle.std.specs.Prelude.{◌≡◌, ◌≢◌, ◌<◌, ◌⊎◌, ℕ, List, [], length, None, Some, IfErr, IsErrOf, IsSome, option_copied};
 ghost use Rattle.disk_model.specs.Calls.{Rose, raised};
 ghost use Rattle.disk_model.specs.Images.{Alike};
 ghost use Rattle.disk_model.specs.Moments.{Keeps, Same};
 ghost use Rattle.store_summary.specs.Shown.{ShowsText};
-ghost use Rattle.reconcile.specs.Classes.{AreRead};
+ghost use Rattle.reconcile.specs.Classes.{AreRead, AreQuiet};
 ghost use Rattle.hsm_cli.specs.Outcomes.{ended_with};
 ghost use Rattle.hsm_cli.specs.Texts.{TakesText, IsShown, ShowsStore, AreUntold, AreCounted, GivesVolume};
 ghost use Rattle.hsm_cli.specs.Hosts.{StoresAll};
 ghost use Rattle.hsm_cli.specs.Told.{sink_told};
 ghost use Rattle.hsm_cli.specs.Endings.{cause_in, WritingEnds, ShowEnds, CountingEnds};
-ghost use Rattle.hsm_cli.specs.Clauses.{OnlyReads, HandsOut, HandsDrives, HasFailed, HasDriveFailed, FindsNothing, GivesShown, AsksShown, LacksShown};
+ghost use Rattle.hsm_cli.specs.Clauses.{OnlyReads, HandsOut, HandsDrives, HasFailed, HasDriveFailed, FindsNothing, GivesShown, AsksShown, LacksShown, NeverFailed};
 
 use crate::causes::Cause;
 use crate::hosts::Host;
@@ -49,6 +49,7 @@ pub(crate) fn show<H: Host, O: Sink>(
     ensures lent { result.cause ≡ Some Cause.HostFault → result.disk ≡ None }
     ensures back { result.disk ≡ None → (result.cause ≡ Some Cause.HostFault) ⊎ (result.cause ≡ Some Cause.NoMemory) }
     ensures output { TakesText (IsShown (H.holds host.old path.now) AreUntold) (sink_told O.taken O.fault_count sink.old sink.new) result.cause }
+    ensures quiet { result.cause ≢ Some Cause.HostFault → H.fault_count host.new ≡ H.fault_count host.old }
     ensures ends { ShowEnds (H.holds host.old path.now) (Rose (H.fault_count host.old) (H.fault_count host.new)) (HasFailed H.Disk.Disk result.disk) (sink_told O.taken O.fault_count sink.old sink.new) result.cause }
 {
     let mut disk = match host.disk(path) {
@@ -93,6 +94,8 @@ pub(crate) fn show_volumes<H: Host, O: Sink>(
     ensures unasked { (image : List ℕ) → H.holds host.old path.now image → FindsNothing image → H.drive_count host.new ≡ H.drive_count host.old }
     ensures first { (image : List ℕ) → H.holds host.old path.now image → FindsNothing image → IsSome result.disk → result.cause ≢ Some Cause.HostFault }
     ensures output { TakesText (IsShown (H.holds host.old path.now) (AreCounted (H.stores host.old dir.now))) (sink_told O.taken O.fault_count sink.old sink.new) result.cause }
+    ensures quiet { result.cause ≢ Some Cause.HostFault → H.fault_count host.new ≡ H.fault_count host.old }
+    ensures well { result.cause ≢ Some Cause.HostFault → NeverFailed H.Drive.Drive result.drives }
     ensures ends { ShowEnds (H.holds host.old path.now) (Rose (H.fault_count host.old) (H.fault_count host.new) ⊎ HasDriveFailed H.Drive.Drive result.drives) (HasFailed H.Disk.Disk result.disk) (sink_told O.taken O.fault_count sink.old sink.new) result.cause }
 {
     let mut disk = match host.disk(path) {
@@ -125,6 +128,7 @@ fn show_classes<M: Drive, O: Sink>(
     requires { 0 < length drives.old }
     ensures read { AreRead M.Drive drives.old drives.new }
     ensures text { TakesText (ShowsStore summary.now (AreCounted (GivesVolume M.Drive drives.old))) (sink_told O.taken O.fault_count sink.old sink.new) (cause_in result) }
+    ensures quiet { (IsErrOf result Cause.HostFault → ⊥) → AreQuiet M.Drive drives.old drives.new }
     ensures ends { IfErr result (CountingEnds (HasDriveFailed M.Drive drives.new) (sink_told O.taken O.fault_count sink.old sink.new)) }
 {
     let counts = classes(alloc, &summary.table, drives, VOLUMES)?;

@@ -1,5 +1,5 @@
 //! Whole inputs and outputs over sources and sinks.
-ghost use Rattle.std.specs.Prelude.{◌≡◌, ◌<◌, ◌≤◌, ◌++◌, ◌⊎◌, take, length, ℕ, IfOk, IfSome, OnOk, OnErr, IsErrOf, IfErr};
+ghost use Rattle.std.specs.Prelude.{◌≡◌, ◌<◌, ◌≤◌, ◌++◌, ◌⊎◌, take, length, ℕ, [], IfOk, IfSome, OnOk, OnErr, IsErrOf, IfErr};
 ghost use Rattle.std.specs.Io.KnownBytes.{Consumes, Appends, IsAtEnd};
 ghost use Rattle.script_text.specs.Causes.{Rose};
 ghost use Rattle.hsm_cli.specs.Sources.{script_bytes, ReadsMore, GivesMore, GivesFirst};
@@ -17,7 +17,7 @@ const SCRIPT_BYTES: usize = 409700001;
 /// How much is asked of a source at a time.
 const PIECE_BYTES: usize = 16384;
 
-/// Reads a source to its end, or as far as a script may go. It is refused `ReadFault` or `NoMemory`.
+/// Reads a source to its end, or as far as a script may go. It is refused `ReadFault` or `NoMemory`, and has no fault but the one that it tells.
 pub fn read_all<I: Source>(alloc: Global, source: &mut I) -> Result<Vec<u8>, Cause>
     ensures bytes { IfOk result (λ bytes. IfSome (I.left source.old) (λ all. bytes.items ≡ script_bytes all)) }
     ensures ended { IfOk result (λ bytes. length bytes.items ≤ 409700000 → IsAtEnd (I.left source.new)) }
@@ -25,6 +25,7 @@ pub fn read_all<I: Source>(alloc: Global, source: &mut I) -> Result<Vec<u8>, Cau
     ensures part { GivesFirst (I.left source.old) (I.left source.new) }
     ensures causes { IfErr result (λ why. (why ≡ Cause.ReadFault) ⊎ (why ≡ Cause.NoMemory)) }
     ensures fault { IsErrOf result Cause.ReadFault → Rose (I.fault_count source.old) (I.fault_count source.new) }
+    ensures quiet { (IsErrOf result Cause.ReadFault → ⊥) → I.fault_count source.new ≡ I.fault_count source.old }
 {
     let mut bytes = Vec::new(alloc);
     while bytes.len() < SCRIPT_BYTES {
@@ -43,7 +44,7 @@ fn read_some<I: Source>(source: &mut I, bytes: &mut Vec<u8>) -> Result<usize, Ca
     ensures taken { OnErr result (GivesMore (I.left source.old) (I.left source.new) bytes.old.items) }
     ensures causes { IfErr result (λ why. (why ≡ Cause.ReadFault) ⊎ (why ≡ Cause.NoMemory)) }
     ensures fault { IsErrOf result Cause.ReadFault → Rose (I.fault_count source.old) (I.fault_count source.new) }
-    ensures later { I.fault_count source.old ≤ I.fault_count source.new }
+    ensures quiet { (IsErrOf result Cause.ReadFault → ⊥) → I.fault_count source.new ≡ I.fault_count source.old }
 {
     let mut piece = [0u8; PIECE_BYTES];
     let room = PIECE_BYTES.min(SCRIPT_BYTES - bytes.len());
@@ -66,11 +67,13 @@ fn push(bytes: &mut Vec<u8>, more: &[u8]) -> Result<(), Cause>
     }
 }
 
-/// Writes all the bytes. At an `Err` the sink took the first ones.
+/// Writes all the bytes. At an `Err` the sink took the first ones, and else it had no fault.
 pub fn write_all<O: Sink>(sink: &mut O, bytes: &[u8]) -> Result<(), Failed>
     ensures first { (n : ℕ) × Appends (O.taken sink.old) (O.taken sink.new) (take n bytes.now) }
     ensures all { OnOk result (Appends (O.taken sink.old) (O.taken sink.new) bytes.now) }
     ensures fault { OnErr result (Rose (O.fault_count sink.old) (O.fault_count sink.new)) }
+    ensures quiet { OnOk result (O.fault_count sink.new ≡ O.fault_count sink.old) }
+    ensures idle { bytes.now ≡ [] → sink.new ≡ sink.old }
 {
     let mut done = 0;
     while done < bytes.len() {

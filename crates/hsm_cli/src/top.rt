@@ -1,5 +1,5 @@
 //! The top call.
-ghost use Rattle.std.specs.Prelude.{◌≡◌, ◌≢◌, ◌≤◌, ◌⊎◌, ℕ, List, [], map, length, true, false, Some, None, IfOk, IfErr, IfSome, MatchResult};
+ghost use Rattle.std.specs.Prelude.{◌≡◌, ◌≢◌, ◌≤◌, ◌⊎◌, ℕ, List, [], map, length, true, false, Some, None, IfOk, IfErr, IfSome, IsErrOf, MatchResult};
 ghost use Rattle.std.specs.String.{string_bytes};
 ghost use Rattle.disk_model.specs.Calls.{Rose, raised};
 ghost use Rattle.command_words.specs.Commands.{form_in, form_of, fsid_of, geometry_number};
@@ -11,7 +11,7 @@ ghost use Rattle.hsm_cli.specs.Statuses.{status_of, place_of};
 ghost use Rattle.hsm_cli.specs.Openings.{opened_in, base_of};
 ghost use Rattle.hsm_cli.specs.Outcomes.{ended_with};
 ghost use Rattle.hsm_cli.specs.Follows.{SettlesOn};
-ghost use Rattle.hsm_cli.specs.Clauses.{ScriptClause, ReadingClause, LegalityClause, PlainClause, MediaClause, NoneFailed, IsCausedOver, CrashClause, FormatClause, HostClause, OutputClause, TakesTranscript, StatusClause, HasRun, HasRead, HasReadOn, IsGoodOver, IsPlainOver, LeavesSafe, IsFormatted, HandsOut, HasFailed, HasBegun, Why, Lacks, DrivesClause, GivesBack, HandsDrives, KeepsPromises, asked_by};
+ghost use Rattle.hsm_cli.specs.Clauses.{ScriptClause, ReadingClause, LegalityClause, PlainClause, MediaClause, NoneFailed, IsCausedOver, CrashClause, FormatClause, HostClause, OutputClause, TakesTranscript, StatusClause, HasRun, HasRead, HasReadOn, IsGoodOver, IsPlainOver, LeavesSafe, IsFormatted, HandsOut, HasFailed, HasBegun, Why, Lacks, DrivesClause, GivesBack, HandsDrives, KeepsPromises, asked_by, FaultsClause, ReadsQuietly, WritesQuietly, KeepsQuietly, HandsQuietly};
 ghost use Rattle.hsm_cli.specs.Endings.{RunEnds, FormatEnds, HandingEnds, IsBeforeReading};
 ghost use Rattle.hsm_cli.specs.Hosts.{AreHanded, HoldsAll, StoresAll};
 ghost use Rattle.hsm_cli.specs.Daemons.{IsWellServedOver};
@@ -62,6 +62,7 @@ pub fn hsm_main<H: Host, I: Source, O: Sink>(
     ensures drives { DrivesClause H.Drive.Drive H.holds H.stores H.drive_count (form_of (map string_bytes words.now)) host.old host.new result }
     ensures output { OutputClause (form_of (map string_bytes words.now)) (H.holds host.old) (H.stores host.old) result (sink_told O.taken O.fault_count sink.old sink.new) }
     ensures status { StatusClause H.Disk.Disk H.Drive.Drive (form_of (map string_bytes words.now)) (H.holds host.old) (source_told I.left I.fault_count source.old source.new) (sink_told O.taken O.fault_count sink.old sink.new) (host_told H.fault_count host.old host.new) result }
+    ensures faults { FaultsClause H.Disk.Disk H.Drive.Drive (form_of (map string_bytes words.now)) (source_told I.left I.fault_count source.old source.new) (sink_told O.taken O.fault_count sink.old sink.new) (host_told H.fault_count host.old host.new) result }
 {
     match Command::of(alloc, words) {
         Ok(Some(command)) => run_command(alloc, command, host, source, sink),
@@ -107,6 +108,8 @@ fn format<H: Host>(
     ensures folders { StoresAll (H.stores host.old) (H.stores host.new) }
     ensures lent { result.cause ≡ Some Cause.HostFault → result.disk ≡ None }
     ensures back { result.disk ≡ None → (result.cause ≡ Some Cause.HostFault) ⊎ (result.cause ≡ Some Cause.NoMemory) }
+    ensures quiet { result.cause ≢ Some Cause.HostFault → H.fault_count host.new ≡ H.fault_count host.old }
+    ensures sound { KeepsQuietly H.Disk.Disk result.history result.cause result.disk }
     ensures ends { FormatEnds (HasFailed H.Disk.Disk result.disk) (host_told H.fault_count host.old host.new) result.cause }
 {
     formatted_is_empty();
@@ -145,6 +148,8 @@ fn replay<D: Disk, M, I: Source, O: Sink>(
     ensures media { NoneFailed (faults_in result.history) }
     ensures caused_by { IsCausedOver {D = D} None result.history }
     ensures output { TakesTranscript result (sink_told O.taken O.fault_count sink.old sink.new) }
+    ensures reads { ReadsQuietly (source_told I.left I.fault_count source.old source.new) result.cause }
+    ensures writes { WritesQuietly (sink_told O.taken O.fault_count sink.old sink.new) result.cause }
     ensures ends { RunEnds ⊥ ⊥ (source_told I.left I.fault_count source.old source.new) (sink_told O.taken O.fault_count sink.old sink.new) result.cause }
 {
     seals_are_whole::<SureDrive>();
@@ -187,6 +192,10 @@ fn replay_store<H: Host, I: Source, O: Sink>(
     ensures begun { HasBegun (opened_in result) result.cause }
     ensures opened { IfSome (opened_in result) (λ s. (s.held ≡ s.durable) × ((image : List ℕ) → H.holds host.old path.now image → IsDurable s image)) }
     ensures back { result.disk ≡ None → (result.cause ≡ Some Cause.HostFault) ⊎ (result.cause ≡ Some Cause.NoMemory) }
+    ensures reads { ReadsQuietly (source_told I.left I.fault_count source.old source.new) result.cause }
+    ensures writes { WritesQuietly (sink_told O.taken O.fault_count sink.old sink.new) result.cause }
+    ensures sound { KeepsQuietly H.Disk.Disk result.history result.cause result.disk }
+    ensures quiet { HandsQuietly (opened_in result) (host_told H.fault_count host.old host.new) result.cause }
     ensures why { Why H.Disk.Disk (H.holds host.old path.now) (Rose (H.fault_count host.old) (H.fault_count host.new)) (source_told I.left I.fault_count source.old source.new) (sink_told O.taken O.fault_count sink.old sink.new) result.disk result.cause }
 {
     let disk = match host.disk(path) {
@@ -218,6 +227,7 @@ fn ask_for_drives<H: Host>(host: &mut H, dir: &str) -> Result<Vec<H::Drive>, Cau
     ensures folders { MatchResult result (λ ds. HandsDrives dir.now (H.stores host.old) (H.stores host.new) ds.items) (λ why. StoresAll (H.stores host.old) (H.stores host.new)) }
     ensures ready { IfErr result IsBeforeReading }
     ensures why { IfErr result (HandingEnds (host_told H.fault_count host.old host.new)) }
+    ensures quiet { (IsErrOf result Cause.HostFault → ⊥) → H.fault_count host.new ≡ H.fault_count host.old }
     ensures never_falls { H.fault_count host.old ≤ H.fault_count host.new }
     ensures disks { HoldsAll (H.holds host.old) (H.holds host.new) }
     ensures asked { H.drive_count host.new ≡ raised (H.drive_count host.old) }

@@ -83,7 +83,7 @@ session_hands old sid asked reply hands sid2 asked2 reply2 is =
 
 module _ {D : Type 0} (g : disk.Ghosts D) where
   pub goes_itself : (s : Store D) → GoesOn g s s
-  goes_itself s = record { more = []; history = sym (append-nil s.history); opened = refl; packed = λ packed. packed; faults = omega arith }
+  goes_itself s = record { more = []; history = sym (append-nil s.history); opened = refl; packed = λ packed. packed; faults = omega arith; quiet = λ works. (works, refl) }
 
   pub goes_then : (a b c : Store D) → GoesOn g a b → GoesOn g b c → GoesOn g a c
   goes_then a b c first then = record {
@@ -92,6 +92,7 @@ module _ {D : Type 0} (g : disk.Ghosts D) where
     opened = then.opened ∙ first.opened;
     packed = λ packed. then.packed (first.packed packed);
     faults = omega (arith, first.faults, then.faults);
+    quiet = λ works. let later = then.quiet works in let before = first.quiet later.0 in (before.0, later.1 ∙ before.1);
   }
 
   -- a rise later is one since then
@@ -112,10 +113,10 @@ module _ {D : Type 0} (g : disk.Ghosts D) where
     stays_packed = answer_packed g old new actor action given kept.state hands
 
     pub event_goes : IsAnswer g old actor action given new → GoesOn g old new
-    event_goes (inl closed) = let same = closed.same in record { more = []; history = ap (λ s. s.history) same ∙ sym (append-nil old.history); opened = ap (λ s. s.opened) same; packed = stays_packed (inl closed); faults = let e = ap (λ s. g.fault_count s.files.disk) same in omega (arith, e) }
-    event_goes (inr (inl lacks)) = record { more = []; history = lacks.history ∙ sym (append-nil old.history); opened = lacks.goes.opened; packed = stays_packed (inr (inl lacks)); faults = lacks.goes.within.faults }
-    event_goes (inr (inr (inl failed))) = record { more = entry_of actor action (fault_of action) ∷ []; history = failed.history; opened = failed.goes.opened; packed = stays_packed (inr (inr (inl failed))); faults = failed.goes.within.faults }
-    event_goes (inr (inr (inr done))) = record { more = entry_of actor action (own_answer old actor action) ∷ []; history = done.history; opened = done.goes.opened; packed = stays_packed (inr (inr (inr done))); faults = done.goes.within.faults }
+    event_goes (inl closed) = let same = closed.same in record { more = []; history = ap (λ s. s.history) same ∙ sym (append-nil old.history); opened = ap (λ s. s.opened) same; packed = stays_packed (inl closed); faults = let e = ap (λ s. g.fault_count s.files.disk) same in omega (arith, e); quiet = λ works. let wrong : true ≡ false = sym closed.failed ∙ sym (ap (λ s. s.files.failed) same) ∙ works in cc wrong }
+    event_goes (inr (inl lacks)) = record { more = []; history = lacks.history ∙ sym (append-nil old.history); opened = lacks.goes.opened; packed = stays_packed (inr (inl lacks)); faults = lacks.goes.within.faults; quiet = λ works. (lacks.goes.working, lacks.quiet) }
+    event_goes (inr (inr (inl failed))) = record { more = entry_of actor action (fault_of action) ∷ []; history = failed.history; opened = failed.goes.opened; packed = stays_packed (inr (inr (inl failed))); faults = failed.goes.within.faults; quiet = λ works. let wrong : true ≡ false = sym failed.failed ∙ works in cc wrong }
+    event_goes (inr (inr (inr done))) = record { more = entry_of actor action (own_answer old actor action) ∷ []; history = done.history; opened = done.goes.opened; packed = stays_packed (inr (inr (inr done))); faults = done.goes.within.faults; quiet = λ works. (done.goes.working, done.quiet) }
 
     -- what is kept of an event at which the run goes on
     pub event_kept : IsAnswer g old actor action given new → ((why : Stop) → given ≢ stop_answer why action) → new.history ≡ old.history ++ entry_of actor action given ∷ []

@@ -16,13 +16,14 @@ use Rattle.hsm_replay.specs.declared.stops.Stop.TheVariants.{Disk, Memory}
 
 module _ {D : Type 0} (g : disk.Ghosts D) where
   -- The store is the one that was opened, and its history has grown. Buffers of messages are of their grammar, as they were, and the disk's count of faults
-  -- never falls.
+  -- never falls. One that works has worked since, and its disk has counted no fault.
   pub record GoesOn (old new : Store D) : Type 0 where
     pub more : List Entry
     pub history : new.history ≡ old.history ++ more
     pub opened : new.opened ≡ old.opened
     pub packed : ArePackedSince old → ArePackedSince new
     pub faults : g.fault_count old.files.disk ≤ g.fault_count new.files.disk
+    pub quiet : new.files.failed ≡ false → (old.files.failed ≡ false) × (g.fault_count new.files.disk ≡ g.fault_count old.files.disk)
 
   -- why a working store was stopped: for want of memory, or as its disk has failed, and an entry says so
   abbrev pub IsStoppedFor : Store D → Store D → Stop → Type 0

@@ -1,9 +1,10 @@
-use Rattle.std.proofs.Common.{◌≡◌, None, false, ap, subst}
+use Rattle.std.proofs.Common.{◌≡◌, ◌∙◌, None, false, ap, subst}
 use Rattle.file_store.specs.Stores.{Store as FileStore}
 use Rattle.hsm_cli.specs.Clauses.{HasRead, IsWhole}
 use Rattle.hsm_cli.proofs.Committing.{ran_well, on_none, whole}
 use Rattle.hsm_cli.proofs.Daemons.{run_is_well}
 use Rattle.hsm_cli.proofs.Faults.{caused_served}
+use Rattle.hsm_cli.proofs.Quiet.{works_still, reads_quietly, writes_quietly}
 use Rattle.hsm_cli.proofs.Scripted.{idle_none}
 use Rattle.hsm_cli.proofs.Telling.{told_fault, faultless_unless, fault_caused, read_by, written_if_none, written_if_works, told_unready, run_ends}
 use Rattle.hsm_cli.specs.Endings.{cause_in}
@@ -75,3 +76,19 @@ returns-clause-unready g c = rw c.first_cause.ensures (told_unready c.args.drive
 
 pub returns-clause-ends : goal.returns-clause-ends
 returns-clause-ends g c = rw (c.close-disk.ensures.disk, c.first_cause.ensures, c.requires.anew.opened) (run_ends _ _ (source_told g.I.Source.left g.I.Source.fault_count c.args.source.now c.run_with-ended.new.source) (sink_told g.O.Sink.taken g.O.Sink.fault_count c.args.sink.now c.write_transcript-written.new.sink) c.run_with-ended.result.ended c.write_transcript-written.result c.write_transcript-written.ensures.refused c.run_with-ended.ensures.ends)
+
+pub returns-clause-reads : goal.returns-clause-reads
+returns-clause-reads g c =
+    rw c.first_cause.ensures
+    (reads_quietly (source_told g.I.Source.left g.I.Source.fault_count c.args.source.now c.run_with-ended.new.source) (sink_told g.O.Sink.taken g.O.Sink.fault_count c.args.sink.now c.write_transcript-written.new.sink) c.run_with-ended.result.ended c.write_transcript-written.result c.write_transcript-written.ensures.refused c.run_with-ended.ensures.quiet)
+
+pub returns-clause-writes : goal.returns-clause-writes
+returns-clause-writes g c =
+    rw c.first_cause.ensures
+    (writes_quietly _ _ c.args.commits (source_told g.I.Source.left g.I.Source.fault_count c.args.source.now c.run_with-ended.new.source) _ (sink_told g.O.Sink.taken g.O.Sink.fault_count c.args.sink.now c.write_transcript-written.new.sink) c.run_with-ended.result.ended c.write_transcript-written.result c.write_transcript-written.ensures.refused
+    c.run_with-ended.ensures.ran c.write_transcript-written.ensures.quiet (λ none. ap g.O.Sink.fault_count (c.write_transcript-written.ensures.idle (c.close-disk.ensures.entries ∙ none))))
+
+pub returns-clause-sound : goal.returns-clause-sound
+returns-clause-sound g c =
+    rw (c.close-disk.ensures.disk, c.close-disk.ensures.entries, c.requires.anew.opened)
+    (λ none. (c.run_with-ended.ensures.goes_on.quiet (works_still c.run_with-ended.result.hsm.files.failed _ c.run_with-ended.result.ended c.run_with-ended.ensures.failed c.run_with-ended.ensures.fault none)).1)

@@ -4,6 +4,7 @@ use Rattle.hsm_cli.specs.Clauses.{HasFailed}
 use Rattle.hsm_cli.specs.Endings.{cause_in}
 use Rattle.hsm_cli.specs.Texts.{IsShown, AreUntold}
 use Rattle.hsm_cli.specs.Told.{sink_told}
+use Rattle.hsm_cli.proofs.Quiet.{unhanded_quiet}
 use Rattle.hsm_cli.proofs.Running.{rose_later}
 use Rattle.hsm_cli.proofs.Showings.{takes_as, shown_of, ends_as, only_read}
 use Rattle.hsm_cli.proofs.showing.show.Goals as goal
@@ -28,3 +29,9 @@ returns-clause-ends g c =
 pub returns-clause-reads : goal.returns-clause-reads
 returns-clause-reads g c =
     rw (c.unopened-2.ensures, c.err.ensures.value) (refl, refl, only_read g.H.Disk.Disk (g.H.Host.holds c.args.host.now c.args.path.now) _ c.in-Ok.disk c.show_disk-ended.new.disk (record { given = c.in-Ok.ensures.given; settled = c.in-Ok.ensures.settled; counted = c.in-Ok.ensures.counted }) c.show_disk-ended.ensures.keeps c.show_disk-ended.ensures.given (λ works. c.show_disk-ended.ensures.quiet works))
+
+pub returns-in-Err-clause-quiet : goal.returns-in-Err-clause-quiet
+returns-in-Err-clause-quiet g c = rw (c.unopened.ensures, c.from.ensures) (λ sound. c.in-Err.ensures.cause.quiet (unhanded_quiet c.in-Err.refusal sound))
+
+pub returns-clause-quiet : goal.returns-clause-quiet
+returns-clause-quiet g c = λ sound. c.in-Ok.ensures.cause.quiet (λ is. cc)

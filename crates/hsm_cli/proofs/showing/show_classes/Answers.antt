@@ -1,10 +1,12 @@
 use Rattle.std.proofs.Common.{Some, refl}
 use Rattle.std.proofs.lemmas.Result.{err_from_is_err_and}
 use Rattle.store_summary.specs.Shown.{ShowsText}
+use Rattle.store_summary.specs.declared.summaries.ClassCounts.{ClassCounts}
 use Rattle.hsm_cli.specs.Clauses.{HasDriveFailed}
 use Rattle.hsm_cli.specs.Endings.{cause_in}
 use Rattle.hsm_cli.specs.Texts.{ShowsStore, AreCounted, GivesVolume}
 use Rattle.hsm_cli.specs.Told.{sink_told}
+use Rattle.hsm_cli.proofs.Quiet.{uncounted_quiet}
 use Rattle.hsm_cli.proofs.Showings.{takes_as, ends_uncounted, counting_written}
 use Rattle.hsm_cli.proofs.showing.show_classes.Goals as goal
 
@@ -26,3 +28,11 @@ returns-clause-text g c =
 
 pub returns-clause-ends : goal.returns-clause-ends
 returns-clause-ends g c = counting_written (HasDriveFailed g.M.Drive c.classes.new.drives) (sink_told g.O.Sink.taken g.O.Sink.fault_count c.args.sink.now c.write_summary.new.sink) c.write_summary.result c.write_summary.ensures.ends
+
+pub returns-in_err-counts-clause-quiet : goal.returns-in_err-counts-clause-quiet
+returns-in_err-counts-clause-quiet g c =
+    let p = err_from_is_err_and c.from_residual.result c.from_residual.ensures.1 in
+    rw (p.1, p.2) (λ sound. c.in_err-counts.ensures.quiet (uncounted_quiet ClassCounts c.in_err-counts.field-0.0 sound))
+
+pub returns-clause-quiet : goal.returns-clause-quiet
+returns-clause-quiet g c = λ sound. c.in_ok-counts.ensures.quiet (λ e. e)

@@ -9,6 +9,7 @@ use Rattle.hsm_cli.specs.Hosts.{AreHanded}
 use Rattle.hsm_cli.specs.Texts.{ShowsStore, IsShown, AreCounted, GivesVolume}
 use Rattle.hsm_cli.specs.Told.{SinkTold, sink_told}
 use Rattle.hsm_cli.proofs.Drives.{rose_from, handed_since, disk_came, stayed, all_came}
+use Rattle.hsm_cli.proofs.Quiet.{unhanded_quiet, never_yet}
 use Rattle.hsm_cli.proofs.Running.{rose_later}
 use Rattle.hsm_cli.proofs.Showings.{takes_as, ends_unread, ends_unhanded, ends_counted, gives_counted, asks_counted, drive_failed, only_read, unread_is_no_host, unread_quiet, is_found, as_many_read, some_came, counted_of}
 use Rattle.hsm_cli.proofs.showing.show_volumes.Given.{Over}
@@ -156,3 +157,21 @@ returns-clause-ends g c =
     let disk_fails = HasFailed g.H.Disk.Disk (Some c.inspect.new.disk) in
     rw (c.unopened-2.ensures, left g after, c.err.ensures.value)
     (ends_counted (g.H.Host.holds c.args.host.now c.args.path.now) host_fails disk_fails (sink g after) (drive_fails g after) c.show_classes-ended.result (λ failed. inr failed) c.show_classes-ended.ensures.ends)
+
+-- what has failed is told
+
+pub returns-in-Err-inspect-clause-quiet : goal.returns-in-Err-inspect-clause-quiet
+returns-in-Err-inspect-clause-quiet g c = λ sound. c.in-Ok.ensures.cause.quiet (λ is. cc)
+
+pub returns-in-Err-drives-clause-quiet : goal.returns-in-Err-drives-clause-quiet
+returns-in-Err-drives-clause-quiet g c = rw (c.unopened-in-Err-drives.ensures, c.from-in-Err-drives.ensures) (λ sound. c.in-Err-drives.ensures.cause.quiet (unhanded_quiet c.in-Err-drives.refusal sound) ∙ c.in-Ok.ensures.cause.quiet (λ is. cc))
+
+pub returns-clause-quiet : goal.returns-clause-quiet
+returns-clause-quiet g c = λ sound. c.in-Ok-drives.ensures.cause.quiet (λ is. cc) ∙ c.in-Ok.ensures.cause.quiet (λ is. cc)
+
+pub returns-clause-well : goal.returns-clause-well
+returns-clause-well g c =
+    let after = (goal.at.returns-clause-well g c).After-drop-summary-3 in
+    let quiet = rw c.deref_mut.ensures.value at c.show_classes-ended.ensures.quiet in
+    rw (c.unopened-2.ensures, left g after, c.err.ensures.value)
+    (λ sound. never_yet g.H.Drive.Drive c.in-Ok-drives.drives.items c.show_classes-ended.new.drives (handed g after).counted (quiet (λ is. sound (ap cause_in is))))

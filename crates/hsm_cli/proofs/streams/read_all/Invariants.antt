@@ -1,4 +1,4 @@
-use Rattle.std.proofs.Common.{◌≤◌, ◌-◌, length}
+use Rattle.std.proofs.Common.{◌≡◌, ◌≤◌, ◌-◌, length}
 use Rattle.std.specs.Io.KnownBytes.{Consumes}
 use Rattle.hsm_cli.proofs.streams.read_all.Given as goal
 
@@ -6,7 +6,7 @@ abbrev pub invariant-loop-source : goal.invariant-loop-source
 invariant-loop-source g l = record {
   taken : Consumes (g.I.Source.left l.fn.source) (g.I.Source.left l.source) l.bytes.items;
   within : length l.bytes.items ≤ 409700001;
-  later : g.I.Source.fault_count l.fn.source ≤ g.I.Source.fault_count l.source;
+  quiet : g.I.Source.fault_count l.source ≡ g.I.Source.fault_count l.fn.source;
 }
 
 abbrev pub decreases-loop-source : goal.decreases-loop-source

@@ -1,4 +1,4 @@
-use Rattle.std.proofs.Common.{arith, length-drop, length-take}
+use Rattle.std.proofs.Common.{◌∙◌, inl, ap, length, arith, length-drop, length-take}
 use Rattle.hsm_cli.proofs.Bytes.{written_more}
 use Rattle.hsm_cli.proofs.streams.write_all.Goals as goal
 
@@ -8,5 +8,6 @@ loop-done-preserved g c =
     record {
       taken = written_more _ _ _ c.args.bytes.now c.loop-done.done c.in_ok-count.count c.loop-done.invariant.within (omega (arith, fits)) c.loop-done.invariant.taken c.in_ok-count.ensures.bytes;
       within = omega (arith, fits);
-      later = omega arith;
+      quiet = c.in_ok-count.ensures.quiet (inl (omega arith)) ∙ c.loop-done.invariant.quiet;
+      idle = λ none. let wrong : ⊥ = omega (arith, ap length none) in absurd wrong;
     }

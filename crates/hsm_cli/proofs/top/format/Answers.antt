@@ -1,8 +1,9 @@
-use Rattle.std.proofs.Common.{◌≡◌, ℕ, List, Some, None, sym, ◌∙◌, ap, subst}
+use Rattle.std.proofs.Common.{◌≡◌, ℕ, List, Some, None, refl, sym, ◌∙◌, ap, subst}
 use Rattle.disk_model.specs.Moments.{MayBe}
 use Rattle.commit_slots.specs.Images.{IsEmptyStore}
 use Rattle.hsm_cli.specs.declared.causes.Cause.TheVariants.{DiskFault}
 use Rattle.command_words.specs.Commands.{geometry_number, fsid_of}
+use Rattle.hsm_cli.proofs.Quiet.{unhanded_quiet}
 use Rattle.hsm_cli.proofs.top.format.Goals as goal
 use Rattle.hsm_cli.proofs.top.format.Goals.{in-Ok-format, in-Err-format}
 
@@ -19,3 +20,18 @@ returns-after-format-clause-formatted g c = λ none.
           let isnt : None ≡ Some DiskFault = sym none ∙ ap (λ o. o.cause) c.unopened.ensures ∙ w.cause-is in
           absurd cc
     ]
+
+pub returns-after-format-clause-sound : goal.returns-after-format-clause-sound
+returns-after-format-clause-sound g c =
+    rw c.unopened.ensures
+    (λ works none.
+    elim c.match-format.branch [
+      | in-Ok-format w ↦ w.in-Ok-format.ensures.cause.quiet refl ∙ c.in-Ok.ensures.counted
+      | in-Err-format w ↦ absurd (works w.cause-is)
+    ])
+
+pub returns-after-format-clause-quiet : goal.returns-after-format-clause-quiet
+returns-after-format-clause-quiet g c = λ sound. c.in-Ok.ensures.cause.quiet (λ is. cc)
+
+pub returns-in-Err-clause-quiet : goal.returns-in-Err-clause-quiet
+returns-in-Err-clause-quiet g c = rw (c.unopened-in-Err.ensures, c.from.ensures) (λ sound. c.in-Err.ensures.cause.quiet (unhanded_quiet c.in-Err.refusal sound))

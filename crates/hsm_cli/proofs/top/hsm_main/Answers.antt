@@ -31,6 +31,7 @@ returns-in-Ok-Some g c =
       drives = kept.drives;
       output = kept.output;
       status = kept.status;
+      faults = kept.faults;
     }
 
 pub returns-in-Ok-None : goal.returns-in-Ok-None
@@ -53,6 +54,7 @@ returns-in-Ok-None g c =
       drives = kept.drives;
       output = kept.output;
       status = kept.status;
+      faults = kept.faults;
     }
 
 pub returns-in-Err : goal.returns-in-Err
@@ -74,4 +76,5 @@ returns-in-Err g c =
       drives = kept.drives;
       output = kept.output;
       status = kept.status;
+      faults = kept.faults;
     }

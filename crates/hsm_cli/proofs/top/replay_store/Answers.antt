@@ -1,4 +1,4 @@
-use Rattle.std.proofs.Common.{Some, None, true, refl, inr, sym, ◌∙◌, subst, arith}
+use Rattle.std.proofs.Common.{Some, None, true, refl, inr, sym, ap, ◌∙◌, subst, arith}
 use Rattle.file_store.specs.Stores.{Store}
 use Rattle.hsm_cli.specs.Clauses.{GivesBack}
 use Rattle.hsm_cli.specs.Follows.{SettlesOn}
@@ -7,6 +7,7 @@ use Rattle.hsm_cli.specs.Told.{source_told, sink_told, host_told}
 use Rattle.hsm_cli.proofs.Crashes.{crash_safe, why_unopened}
 use Rattle.hsm_cli.proofs.Legality.{legal_as}
 use Rattle.hsm_cli.proofs.Drives.{rose_from, gives_back, none_at_fault, host_failed, why_served, disk_came, drives_came, tallies_since}
+use Rattle.hsm_cli.proofs.Quiet.{unhanded_quiet, unready_told}
 use Rattle.hsm_cli.proofs.Scripted.{also_well, ran_with}
 use Rattle.hsm_cli.proofs.Sealing.{right_since}
 use Rattle.hsm_cli.proofs.Showings.{unopened_quiet}
@@ -86,3 +87,20 @@ returns-in-Ok-open-clause-why g c =
     (host_told g.H.Host.fault_count c.args.host.now c.ask_for_drives-drives.new.host) (Some c.run_opened-finished.result.disk) (host_told g.H.Host.fault_count c.disk.new.self c.ask_for_drives-drives.new.host) c.ask_for_drives-drives.result _ c.run_opened-finished.result.cause
     c.disk.ensures.cause.never_falls refl c.ask_for_drives-drives.ensures.why
     (λ rose. record { disk = c.run_opened-finished.result.disk; back = refl; rose = rose_from 0 (g.H.Disk.Disk.fault_count c.in-Ok-open.hsm.opened.disk) (g.H.Disk.Disk.fault_count c.run_opened-finished.result.disk) (omega arith) rose }) c.run_opened-finished.ensures.ends
+
+-- what has failed is told
+
+pub returns-in-Ok-open-clause-sound : goal.returns-in-Ok-open-clause-sound
+returns-in-Ok-open-clause-sound g c = λ works none. c.run_opened-finished.ensures.sound none ∙ ap (λ (s : Store g.row.H-Disk.Denot). g.H.Disk.Disk.fault_count s.disk) c.in-Ok-open.ensures.opened.0 ∙ c.in-Ok-open.ensures.quiet ∙ c.in-Ok.ensures.counted
+
+pub returns-in-Err-open-clause-sound : goal.returns-in-Err-open-clause-sound
+returns-in-Err-open-clause-sound g c = rw (c.unopened-in-Err-open.ensures, c.from-in-Err-open.ensures) (λ works none. c.in-Err-open.ensures.faults.quiet (unopened_quiet c.in-Err-open.refusal works) ∙ c.in-Ok.ensures.counted)
+
+pub returns-in-Ok-open-clause-quiet : goal.returns-in-Ok-open-clause-quiet
+returns-in-Ok-open-clause-quiet g c = λ sound ample. c.ask_for_drives-drives.ensures.quiet (unready_told c.ask_for_drives-drives.result c.run_opened-finished.result.cause c.run_opened-finished.ensures.unready sound (ample refl)) ∙ c.in-Ok.ensures.cause.quiet (λ is. cc)
+
+pub returns-in-Err-open-clause-quiet : goal.returns-in-Err-open-clause-quiet
+returns-in-Err-open-clause-quiet g c = λ sound ample. c.in-Ok.ensures.cause.quiet (λ is. cc)
+
+pub returns-in-Err-clause-quiet : goal.returns-in-Err-clause-quiet
+returns-in-Err-clause-quiet g c = rw (c.unopened.ensures, c.from.ensures) (λ sound ample. c.in-Err.ensures.cause.quiet (unhanded_quiet c.in-Err.refusal sound))

@@ -1,0 +1,122 @@
+-- Counts of faults that stay as they were where no fault is told.
+use Rattle.std.proofs.Common.{◌≡◌, ◌≢◌, ◌∙◌, ◌⊎◌, ⊎_elim, ℕ, Bool, true, false, List, [], ◌∷◌, Option, Some, None, Result, Ok, Err, IfErr, IsErrOf, IfSome, refl, sym, ap}
+use Rattle.std.proofs.lemmas.Bool.{false≢true}
+use Rattle.std.specs.Prelude.{map}
+use Rattle.disk_model.specs.declared.device.Disk as disk
+use Rattle.media_model.specs.declared.drive.Drive as drive
+use Rattle.plain_model.specs.declared.entries.Entry.{Entry}
+use Rattle.marked_history.specs.Marks.{Mark}
+use Rattle.command_words.specs.Commands.{Form, Format, Replay, ReplayStore, Show, ShowVolumes, Drill}
+use Rattle.reconcile.specs.Classes.{AreQuiet, TellsFailed}
+use Rattle.reconcile.specs.declared.refusals.ReconcileRefusal.{ReconcileRefusal}
+use Rattle.reconcile.specs.declared.refusals.ReconcileRefusal.TheVariants as counting
+use Rattle.script_text.specs.declared.lines.Line.{Line}
+use Rattle.hsm_cli.specs.declared.causes.Cause.{Cause}
+use Rattle.hsm_cli.specs.declared.causes.Cause.TheVariants.{ScriptRefused, WordsRefused, NotStore, Corrupt, ReadFault, WriteFault, DiskFault, HostFault, NoMemory}
+use Rattle.hsm_cli.specs.declared.hosts.HostRefusal.{HostRefusal}
+use Rattle.hsm_cli.specs.declared.hosts.HostRefusal.TheVariants as handing
+use Rattle.hsm_cli.specs.Outcomes.{ended_with}
+use Rattle.hsm_cli.specs.Statuses.{cause_of_host, cause_of_classes}
+use Rattle.hsm_cli.specs.Texts.{TakesText}
+use Rattle.hsm_cli.specs.Told.{SourceTold, SinkTold, HostTold}
+use Rattle.hsm_cli.specs.Endings.{cause_in, WritingEnds, first_of}
+use Rattle.hsm_cli.specs.Clauses.{HasRun, ComesBackRead, ReadsQuietly, WritesQuietly, NeverFailed, CountsQuietly, FaultsClause}
+use Rattle.hsm_cli.proofs.Telling.{read_by}
+
+-- ---- what a run reads and writes
+
+pub reads_quietly : (source : SourceTold) (sink : SinkTold) (ran written : Result (Unit {0}) Cause) → IfErr written (WritingEnds sink) → ((IsErrOf ran ReadFault → ⊥) → source.now ≡ source.before) → ReadsQuietly source (first_of (cause_in ran) (cause_in written))
+reads_quietly source sink ran written writes quiet = read_by (ReadsQuietly source) sink ran written writes (λ sound ample. quiet (λ is. sound (ap cause_in is))) (λ sound ample. absurd (ample refl)) (λ before sound ample. before (λ is. absurd cc) (λ is. absurd cc))
+
+-- a run that tells no fault of the disk leaves a store that works
+pub works_still : (failed faulty : Bool) (ran : Result (Unit {0}) Cause) → (failed ≡ true → IsErrOf ran DiskFault) → (IsErrOf ran DiskFault → faulty ≡ true) → faulty ≡ false → failed ≡ false
+works_still true faulty ran fails tells none = absurd (false≢true (sym none ∙ tells (fails refl)))
+works_still false faulty ran fails tells none = refl
+
+module _ (Settles : List Line → List Mark → Type 0) (Tells : List Mark → Type 0) (commits : Bool) (source : SourceTold) (history : List Entry) where
+  -- nothing was run
+  unrun : (why : Cause) → HasRun Settles Tells commits source (Some why) history → why ≢ WriteFault → why ≢ DiskFault → why ≢ NoMemory → history ≡ []
+  unrun WriteFault run sound working ample = absurd (sound refl)
+  unrun DiskFault run sound working ample = absurd (working refl)
+  unrun NoMemory run sound working ample = absurd (ample refl)
+  unrun (ScriptRefused line) run sound working ample = run
+  unrun WordsRefused run sound working ample = run
+  unrun NotStore run sound working ample = run
+  unrun (Corrupt place) run sound working ample = run
+  unrun ReadFault run sound working ample = run
+  unrun HostFault run sound working ample = run
+
+  -- the transcript of a run that ran nothing is empty
+  pub writes_quietly : (sink : SinkTold) (ran written : Result (Unit {0}) Cause) → IfErr written (WritingEnds sink) → HasRun Settles Tells commits source (cause_in ran) history → ((IsErrOf written WriteFault → ⊥) → sink.now ≡ sink.before) → (history ≡ [] → sink.now ≡ sink.before)
+      → WritesQuietly sink (first_of (cause_in ran) (cause_in written))
+  writes_quietly sink ran (Ok y) writes runs quiet idle = λ sound working ample. quiet (λ is. absurd cc)
+  writes_quietly sink ran (Err NoMemory) writes runs quiet idle = λ sound working ample. quiet (λ is. absurd cc)
+  writes_quietly sink (Ok x) (Err WriteFault) writes runs quiet idle = λ sound working ample. absurd (sound refl)
+  writes_quietly sink (Err why) (Err WriteFault) writes runs quiet idle = λ sound working ample. idle (unrun why runs (λ is. sound (ap Some is)) (λ is. working (ap Some is)) (λ is. ample (ap Some is)))
+  writes_quietly sink ran (Err (ScriptRefused line)) writes runs quiet idle = absurd writes
+  writes_quietly sink ran (Err WordsRefused) writes runs quiet idle = absurd writes
+  writes_quietly sink ran (Err NotStore) writes runs quiet idle = absurd writes
+  writes_quietly sink ran (Err (Corrupt place)) writes runs quiet idle = absurd writes
+  writes_quietly sink ran (Err ReadFault) writes runs quiet idle = absurd writes
+  writes_quietly sink ran (Err DiskFault) writes runs quiet idle = absurd writes
+  writes_quietly sink ran (Err HostFault) writes runs quiet idle = absurd writes
+
+-- a text that is written last
+pub text_quietly : (IsText : List ℕ → Type 0) (sink : SinkTold) (cause : Option Cause) → TakesText IsText sink cause → WritesQuietly sink cause
+text_quietly IsText sink None took = λ sound working ample. took.3
+text_quietly IsText sink (Some WriteFault) took = λ sound working ample. absurd (sound refl)
+text_quietly IsText sink (Some (ScriptRefused line)) took = λ sound working ample. took.faults
+text_quietly IsText sink (Some WordsRefused) took = λ sound working ample. took.faults
+text_quietly IsText sink (Some NotStore) took = λ sound working ample. took.faults
+text_quietly IsText sink (Some (Corrupt place)) took = λ sound working ample. took.faults
+text_quietly IsText sink (Some ReadFault) took = λ sound working ample. took.faults
+text_quietly IsText sink (Some DiskFault) took = λ sound working ample. took.faults
+text_quietly IsText sink (Some HostFault) took = λ sound working ample. took.faults
+text_quietly IsText sink (Some NoMemory) took = λ sound working ample. took.faults
+
+-- ---- what the host hands out
+
+-- a disk that is only read
+pub read_quietly : {D : Type 0} (g : disk.Ghosts D) (held : List ℕ → Type 0) (cause : Option Cause) (given : Option D) → ComesBackRead g held cause given → cause ≢ Some DiskFault → IfSome given (λ d. g.fault_count d ≡ 0)
+read_quietly g held cause (Some d) back sound = back.quiet sound
+read_quietly g held cause None back sound = tt
+
+-- where no disk came, or no drives, and that isn't told as a fault of the host
+pub unhanded_quiet : {T : Type 0} (refusal : HostRefusal) → Some (cause_of_host refusal) ≢ Some HostFault → IsErrOf {T = T} (Err refusal) handing.Failed → ⊥
+unhanded_quiet handing.Failed sound is = sound refl
+unhanded_quiet handing.Memory sound is = cc
+
+-- a fault of the host in asking for drives is told, or want of memory
+pub unready_told : {V : Type 0} (ready : Result V Cause) (cause : Option Cause) → IfErr ready (λ why. (cause ≡ Some why) ⊎ (cause ≡ Some NoMemory)) → cause ≢ Some HostFault → cause ≢ Some NoMemory → IsErrOf ready HostFault → ⊥
+unready_told (Ok ds) cause told sound ample is = cc
+unready_told (Err why) cause told sound ample is = let same : why ≡ HostFault = cc in ⊎_elim (λ e. sound (e ∙ ap Some same)) ample told
+
+-- and where classes weren't counted
+pub uncounted_quiet : {T : Type 0} (S : Type 0) (refusal : ReconcileRefusal) → (IsErrOf {T = T} (Err (cause_of_classes refusal)) HostFault → ⊥) → TellsFailed {T = S} (Err refusal) → ⊥
+uncounted_quiet S (counting.Failed volume) sound told = sound refl
+uncounted_quiet S counting.Memory sound told = told
+
+-- drives that had not failed, and were read without a fault
+pub never_yet : {M : Type 0} (g : drive.Ghosts M) (old new : List M) → NeverFailed g old → AreQuiet g old new → NeverFailed g new
+never_yet g [] [] never quiet = tt
+never_yet g [] (y ∷ ys) never quiet = absurd cc
+never_yet g (x ∷ xs) [] never quiet = absurd cc
+never_yet g (x ∷ xs) (y ∷ ys) never quiet =
+    let first : g.fault_count y ≡ g.fault_count x = cc in
+    let rest : map g.fault_count ys ≡ map g.fault_count xs = cc in
+    (first ∙ never.0, never_yet g xs ys never.1 rest)
+
+-- ---- where nothing was done
+
+counts_none : {M : Type 0} (h : drive.Ghosts M) (form : Option Form) (cause : Option Cause) → CountsQuietly h form cause []
+counts_none h None cause = tt
+counts_none h (Some (Format path size)) cause = tt
+counts_none h (Some Replay) cause = tt
+counts_none h (Some (ReplayStore path dir)) cause = tt
+counts_none h (Some (Show path)) cause = tt
+counts_none h (Some (ShowVolumes path dir)) cause = λ sound. tt
+counts_none h (Some (Drill number)) cause = tt
+
+pub faults_idle : {D M : Type 0} (g : disk.Ghosts D) (h : drive.Ghosts M) (cause : Option Cause) (form : Option Form) (source : SourceTold) (sink : SinkTold) (host : HostTold) → source.now ≡ source.before → sink.now ≡ sink.before → host.now ≡ host.before
+    → FaultsClause g h form source sink host (ended_with {D = D} {M = M} cause [] None)
+faults_idle g h cause form source sink host unread unwritten unasked = record { reads = λ sound ample. unread; writes = λ sound working ample. unwritten; keeps = λ works none. tt; hands = λ sound ample. unasked; counts = counts_none h form cause }
