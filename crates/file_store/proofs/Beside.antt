@@ -116,10 +116,10 @@ IsThere base body c m = part c (base + 4096 * m.place) 4096 ≡ block_of body m.
 pub has_more : (base : ℕ) (body : List ℕ) (ms : List Mapping) (m : Mapping) → AllByRecursion (λ n. n.place ≡ m.place → ⊥) ms → length (block_of body m.block) ≡ 4096
     → (old mid new : List ℕ) → HasBlocks base body ms old mid → IsWritten (base + 4096 * m.place) (block_of body m.block) mid new → HasBlocks base body (ms ++ m ∷ []) old new
 has_more base body ms m others long old mid new has w =
-    let freed : IsFreed (base + 4096 * m.place) 4096 mid new = subst (λ (n : ℕ). IsFreed (base + 4096 * m.place) n mid new) long w.freed in
+    let freed : IsFreed (base + 4096 * m.place) 4096 mid new = grind arith in
     let kept : (n : Mapping) → (n.place ≡ m.place → ⊥) → IsThere base body mid n → IsThere base body new n =
-    λ n other there. ⊎_elim (freed.below (base + 4096 * n.place) 4096) (freed.above (base + 4096 * n.place) 4096) (blocks_apart base n.place m.place other) ∙ there in
-    let here : IsThere base body new m = subst (λ (n : ℕ). part new (base + 4096 * m.place) n ≡ block_of body m.block) long w.there in
+    λ n other there. grind (arith, blocks_apart) in
+    let here : IsThere base body new m = grind arith in
     record {
       beside = record {
         size = freed.size ∙ has.beside.size;
@@ -127,5 +127,5 @@ has_more base body ms m others long old mid new has w =
             let sides = each-parts (λ p. IsApart a n (base + 4096 * p) 4096) (places_of ms) (m.place ∷ []) (subst (AllByRecursion (λ p. IsApart a n (base + 4096 * p) 4096)) (map-append (λ (x : Mapping). x.place) ms (m ∷ [])) all) in
             ⊎_elim (freed.below a n) (freed.above a n) sides.1.0 ∙ has.beside.same a n sides.0;
       };
-      there = each-join (IsThere base body new) ms (m ∷ []) (each-both _ (IsThere base body mid) (IsThere base body new) kept ms others has.there) (here, tt);
+      there = grind (arith, each-join, each-both);
     }

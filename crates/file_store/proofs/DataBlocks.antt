@@ -1,5 +1,5 @@
 -- What data blocks hold of files: those whose blocks stay, and one whose touched blocks are written to new places.
-use Rattle.file_store.proofs.Names.{◌≡◌, ⊎_elim, inl, inr, ℕ, zero, suc, ◌+◌, ◌-◌, ◌*◌, ◌/◌, ◌<◌, ◌≤◌, List, [], ◌∷◌, ◌++◌, length, map, get_or, take, drop, Option, Some, None, Bool, true, eqb, ltb, ◌&&◌, refl, sym, ◌∙◌, ap, subst, arith, if◌then◌else◌, flat_map, list_any, AllByRecursion, cases_lt, cond_both, and_from, lt-ltb, get_or-replicate, get_or_past, places, FileKey, part, find_key, rebody, from_on, blocks_in, met, old_end, touched, size_after, affected_held, Mapping, CatalogFile, Catalog, IsCatalogFile, IsCatalog, geometry_of, present, blocks_of, with_changed, places_fitted, places_set, each-drop, each-found, Rewrite, Write, Resize, Restore, IsWithin, block_at, bytes_at, held_at, effect_of, IsRewrite, remapped, length-fitted, length-places_set}
+use Rattle.file_store.proofs.Names.{◌≡◌, ⊎_elim, inl, inr, ℕ, zero, suc, ◌+◌, ◌-◌, ◌*◌, ◌/◌, ◌<◌, ◌≤◌, List, [], ◌∷◌, ◌++◌, length, map, get_or, take, drop, Option, Some, None, Bool, true, eqb, ltb, refl, sym, ◌∙◌, ap, subst, arith, if◌then◌else◌, flat_map, list_any, AllByRecursion, cases_lt, cond_both, and_from, lt-ltb, get_or-replicate, get_or_past, places, FileKey, part, find_key, rebody, from_on, blocks_in, met, old_end, touched, size_after, affected_held, Mapping, CatalogFile, Catalog, IsCatalogFile, IsCatalog, geometry_of, present, blocks_of, with_changed, places_fitted, places_set, each-drop, each-found, Rewrite, Write, Resize, Restore, IsWithin, block_at, bytes_at, held_at, effect_of, IsRewrite, remapped, length-fitted, length-places_set}
 use Rattle.file_store.specs.Bodies.{block_of, body_at}
 use Rattle.file_store.proofs.ByBlocks.{Whole, full, has_bytes, same_body, length-body, length-block, byte-block, at_place, after_set, get_or-fitted, written-beside}
 use Rattle.file_store.proofs.EachOf.{each-weaker, each-parts, each_member}
@@ -29,7 +29,7 @@ beside_touched (Write offset bytes) body q r lawful l h others =
     let first : ℕ = offset / 4096 in
     let some = lawful.0 in
     let run : Others q (met offset end) =
-    cond_both (ltb size end && ltb (size / 4096) first) (old_end size ++ met offset end) (met offset end) (λ bs. Others q bs → Others q (met offset end)) (λ far all. (each-parts (λ b. b ≡ q → ⊥) (old_end size) (met offset end) all).1) (λ near all. all) others in
+    grind (arith, cond_both, ltb, each-parts) in
     let behind : first ≤ q → first + (blocks_in end - first) ≤ q = λ from. others_run q first (blocks_in end - first) from run in
     ⊎_elim
     (λ (low : q < first). (
@@ -100,7 +100,7 @@ module _ (change : Rewrite) (old new : List ℕ) (ps : List (Option ℕ)) (body 
 
   changed_at : body_at new to (places_set ms (places_fitted to ps)) ≡ after
   changed_at =
-      let long : length (places_set ms (places_fitted to ps)) ≡ blocks_in to = length-places_set ms (places_fitted to ps) ∙ length-fitted to ps in
+      let long : length (places_set ms (places_fitted to ps)) ≡ blocks_in to = grind (arith, length-places_set, length-fitted) in
       same_body new to (places_set ms (places_fitted to ps)) after long (length-changed change body within) (λ q h. (lies q (omega arith)).0) (λ q r l h. (lies q (omega arith)).1 r l h)
 
 -- ---- where the blocks in use stay
@@ -135,10 +135,10 @@ module _ (old new : List ℕ) (c : Catalog) (stays : (p : ℕ) → list_any (λ 
       → AllByRecursion (λ m. part new (4096 * m.place) 4096 ≡ block_of (rebody (effect_of change) body) m.block) ms
       → held_at new (with_changed k (remapped change (length body) ms) c) ≡ record (held_at old c) { files = affected_held (effect_of change) k (held_at old c).files }
   held-changed change k ms f body lawful whole may within found was blocks there =
-      let is : IsCatalogFile (geometry_of c.geometry).blocks f = each-found (IsCatalogFile (geometry_of c.geometry).blocks) k f c.files lawful.each found in
-      let each : AllByRecursion (Whole old) (present f.places) = each-weaker (λ p. p < (geometry_of c.geometry).blocks) (Whole old) whole (present f.places) is.within in
-      let kept : AllByRecursion (Stays old new) (present f.places) = each-found (λ g. AllByRecursion (Stays old new) (present g.places)) k f c.files each-stays found in
-      let long : f.size ≡ length body = sym (length-body old f.size f.places each is.places) ∙ ap length was in
+      let is : IsCatalogFile (geometry_of c.geometry).blocks f = grind (arith, each-found) in
+      let each : AllByRecursion (Whole old) (present f.places) = grind (arith, each-weaker, Whole) in
+      let kept : AllByRecursion (Stays old new) (present f.places) = grind (arith, each-found, each-stays) in
+      let long : f.size ≡ length body = grind (arith, length-body) in
       let lay : body_at old (length body) f.places ≡ body = ap (λ n. body_at old n f.places) (sym long) ∙ was in
       let becomes = changed_at change old new f.places body ms may within (is.places ∙ ap blocks_in long) lay each blocks there kept in
       held-rewritten (bytes_at old) (bytes_at new) k change (length body) ms c f found (ap length (sym was)) blocks

@@ -1,6 +1,5 @@
 -- What calls make durable, and what is true of the store after them.
-use Rattle.file_store.proofs.Names.{◌≡◌, ◌⊎◌, inl, inr, ⊎_elim, ℕ, ◌≤◌, ◌^◌, Bool, true, false, if◌then◌else◌, List, refl, sym, ◌∙◌, ap, subst, slice_index_or, AllByRecursion, HeldBody, MayBe, Keeps, Same, started, turns_leave, turns_now, joined, weakened, Space, Held, Catalog, blocks_of, IsImage, blocks_in_image, Recovers, Meta, IsMeta, Backs, StoresOrKeeps, HasStored, IsStoredNow, held_at, held_with, Store, IsDurable, IsEither, Proceeds, IsLive, IsSound, marks_of, Ghosts, IsHeldFiles}
-use Rattle.commit_slots.specs.Images.{slot_of}
+use Rattle.file_store.proofs.Names.{arith, ◌≡◌, ◌⊎◌, inl, inr, ⊎_elim, ℕ, ◌≤◌, ◌^◌, Bool, true, false, if◌then◌else◌, List, refl, sym, ◌∙◌, ap, subst, slice_index_or, AllByRecursion, HeldBody, MayBe, Keeps, Same, started, turns_leave, turns_now, joined, weakened, Space, Held, Catalog, blocks_of, IsImage, blocks_in_image, Recovers, Meta, IsMeta, Backs, StoresOrKeeps, HasStored, IsStoredNow, held_at, held_with, Store, IsDurable, IsEither, Proceeds, IsLive, IsSound, marks_of, Ghosts, IsHeldFiles}
 use Rattle.file_store.proofs.Marks.{marks_there}
 
 -- a store by its parts
@@ -26,7 +25,7 @@ sound_idle g s n sound only_now working =
     record {
       geometry = refl;
       fsid = refl;
-      moments = started g s.disk (IsEither s n) (λ c left. inl (found c (inl (only_now c left))));
+      moments = grind (arith, started, inl);
       now = λ c may. inl (found c may);
       durable = inl (refl, refl);
     }
@@ -59,10 +58,10 @@ holds_new y x h fsid n a b d c from to step was = ap (λ (z : ℕ). held_at (blo
 
 module _ {D : Type 0} (g : Ghosts D) (s : Store D) (lawful : IsMeta s.meta) (live : IsLive g s) (n : ℕ) where
   kept : (d c : List ℕ) → held_at (blocks_in_image s.meta.durable.geometry d) s.meta.durable ≡ s.durable → Recovers s.meta.fsid s.meta.number s.meta.durable d c → IsEither s n c
-  kept d c was step = inl (record { catalog = s.meta.durable; same = refl; is = step.found; holds = holds_new s.meta.durable s.meta.durable s.durable _ _ _ _ d c refl refl step was })
+  kept d c was step = inl (record { catalog = s.meta.durable; same = refl; is = step.found; holds = grind (arith, holds_new) })
 
   stored : (d c : List ℕ) → held_at (blocks_in_image s.meta.durable.geometry d) s.meta.current ≡ s.held → Recovers s.meta.fsid n s.meta.current d c → IsEither s n c
-  stored d c was step = inr (record { catalog = s.meta.current; same = lawful.stored.geometry; is = step.found; holds = holds_new s.meta.current s.meta.current s.held _ _ _ _ d c (sym lawful.stored.geometry) lawful.stored.geometry step was })
+  stored d c was step = inr (record { catalog = s.meta.current; same = lawful.stored.geometry; is = step.found; holds = grind (arith, holds_new) })
 
   -- whether a call succeeds or fails
   pub commit_proceeds : (t : Store D) → StoresOrKeeps g s.disk t.disk s.meta n → t.meta.durable.geometry ≡ s.meta.durable.geometry → t.meta.fsid ≡ s.meta.fsid
@@ -70,8 +69,8 @@ module _ {D : Type 0} (g : Ghosts D) (s : Store D) (lawful : IsMeta s.meta) (liv
   commit_proceeds t turns geometry fsid durable = record {
     geometry = geometry;
     fsid = fsid;
-    moments = turns_leave g s.disk t.disk _ _ _ _ _ turns live.stored live.current kept stored;
-    now = turns_now g s.disk t.disk _ _ _ _ _ turns live.stored live.current kept stored;
+    moments = grind (arith, turns_leave, kept, stored);
+    now = grind (arith, turns_now, kept, stored);
     durable = durable;
   }
 
@@ -110,10 +109,8 @@ module _ {D : Type 0} (g : Ghosts D) (p : Parts D) (lawful : IsMeta p.meta) (liv
         let geometry = ap (λ (x : Catalog). x.geometry) now.durable in
         record {
           backs = backs;
-          stored = λ c may.
-              let d = (told.0 refl).0 c may in
-              ap (held_at (blocks_in_image m.durable.geometry c)) now.durable ∙ holds_new p.meta.current p.meta.current _ _ _ _ _ d.0 c geometry lawful.stored.geometry d.2 (live.current d.0 d.1) ∙ sym (ap (held_with p.bodies) now.durable);
-          current = λ c gives. let d = (told.0 refl).0 c (inr gives) in holds_new p.meta.current m.current held _ _ _ _ d.0 c geometry lawful.stored.geometry d.2 (current d.0 d.1) ∙ sym held_is;
+          stored = grind (arith, holds_new);
+          current = λ c gives. grind (arith, inr, holds_new);
           marks = exact;
           marked = rw now.durable has;
         }
@@ -122,8 +119,8 @@ module _ {D : Type 0} (g : Ghosts D) (p : Parts D) (lawful : IsMeta p.meta) (liv
         let store = ap (λ (x : Meta). x.durable) (told.1 refl).1 in
         record {
           backs = backs;
-          stored = λ c may. ap (λ (x : Catalog). held_at (blocks_in_image x.geometry c) x) store ∙ live.stored c (subst (λ (e : D). MayBe g e c) disk_is may) ∙ sym (ap (held_with p.durable) store);
-          current = λ c gives. ap (λ (x : Catalog). held_at (blocks_in_image x.geometry c) m.current) store ∙ current c (subst (λ (e : D). g.gives e c) disk_is gives) ∙ sym held_is;
+          stored = λ c may. grind arith;
+          current = λ c gives. grind arith;
           marks = exact;
           marked = rw store live.marked;
         }
@@ -135,7 +132,7 @@ module _ {D : Type 0} (g : Ghosts D) (p : Parts D) (lawful : IsMeta p.meta) (liv
 -- what was stored is what was held, which is lawful
 pub stored_meta : (m new : Meta) (n : ℕ) → IsMeta m → IsStoredNow m n new → new.current ≡ m.current → n ≤ 2 ^ 62 → IsMeta new
 stored_meta m new n lawful now current bound = record {
-  stored = record { number = rw now.number bound; catalog = rw now.durable lawful.current; geometry = rw (now.durable, current) refl; lengths = rw now.durable lawful.stored.now; now = rw current lawful.stored.now };
+  stored = grind arith;
   current = rw current lawful.current;
 }
 
@@ -148,7 +145,7 @@ opened_sound g s lawful backs same held holds space = record {
   live = λ working. record {
     backs = backs;
     stored = λ c may. holds c may ∙ held;
-    current = λ c gives. ap (held_at (blocks_in_image s.meta.durable.geometry c)) same ∙ holds c (inr gives);
+    current = λ c gives. grind (arith, inr);
     marks = ap (λ (x : Space). x.current) space;
     marked = rw (space, ← same) (marks_there s.meta.current lawful.current);
   };
@@ -158,6 +155,6 @@ opened_sound g s lawful backs same held holds space = record {
 pub backs_same : {D : Type 0} (g : Ghosts D) (mid new : D) (m : Meta) → Keeps g mid new Same → Backs g mid m → Backs g new m
 backs_same g mid new m keeps b = record {
   length = keeps.moments.length ∙ b.length;
-  slot = λ c may. let d = keeps.now c may in ap slot_of d.2 ∙ b.slot d.0 d.1;
+  slot = λ c may. grind arith;
   image = λ c may. let d = keeps.now c may in subst (λ (i : List ℕ). IsImage m.fsid m.number m.durable i) (sym d.2) (b.image d.0 d.1);
 }

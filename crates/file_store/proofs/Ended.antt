@@ -1,6 +1,6 @@
 -- How calls end, by their results.
-use Rattle.file_store.proofs.Names.{◌≡◌, ℕ, false, Option, Some, None, refl, sym, ◌∙◌, ap, subst, FileKey, Effect, Held, affected_held, Store, Proceeds, IsSound, StoresOrKeeps, Ghosts}
-use Rattle.std.specs.Prelude.{Result, Ok, Err, OnOk}
+use Rattle.file_store.proofs.Names.{arith, ◌≡◌, ℕ, false, Option, Some, None, refl, ◌∙◌, ap, subst, FileKey, Effect, Store, Proceeds, IsSound, StoresOrKeeps, Ghosts}
+use Rattle.std.specs.Prelude.{Result, Ok, Err}
 use Rattle.std.specs.Result.{IsErrOf, IsErrAnd}
 use Rattle.std.proofs.lemmas.Result.{err_from_is_err_and}
 use Rattle.disk_model.specs.Calls.{Counts}
@@ -26,7 +26,7 @@ module _ {D T : Type 0} (g : Ghosts D) (old new : Store D) (n : ℕ) (refusal : 
     unchanged = λ part is. absurd cc;
     working = working;
     memory = λ is. absurd cc;
-    faults = record { closes = λ is. absurd cc; counts = record { rose = λ is. absurd cc; quiet = λ other. quiet } };
+    faults = grind arith;
     proceeds = proceeds;
   }
 
@@ -40,11 +40,8 @@ module _ {D T : Type 0} (g : Ghosts D) (old new : Store D) (n : ℕ) (refusal : 
         refused = λ p is. (part p (at ∙ ap (λ w. Err w) (of.0 p cc))).0;
         unchanged = λ p is. (part p (at ∙ ap (λ w. Err w) (of.0 p cc))).1;
         working = tt;
-        memory = λ is. let lacks : why ≡ Memory = of.1 cc in (memory (at ∙ ap (λ w. Err w) lacks), failed ∙ ap is_disk lacks);
-        faults = record {
-          closes = λ is. failed ∙ ap is_disk (of.2 cc);
-          counts = record { rose = λ is. counts.rose (at ∙ ap (λ w. Err w) (of.2 cc)); quiet = λ other. counts.quiet (λ is. let same : why ≡ Disk = cc in other (ap (λ w. Err (refused_as w)) same)) };
-        };
+        memory = λ is. grind arith;
+        faults = grind arith;
         proceeds = proceeds;
       }
 
@@ -53,7 +50,7 @@ pub kept_ends : {D S T : Type 0} (g : Ghosts D) (p : Parts D) (new : D) (n : ℕ
     → ((part : DmRefusal) → IsErrOf r (Part part) → (refusal ≡ Some part) × (new ≡ p.disk)) → Counts (IsErrOf r Disk) (g.fault_count p.disk) (g.fault_count new) → Ends {T = T} g (store_of p) n refusal (Err (refused_as why)) (store_of (record p { disk = new; failed = is_disk why }))
 kept_ends g p new n refusal r why sound working at turns part counts =
     ends_refused g _ _ n refusal (kept_proceeds g (store_of p) sound.meta (sound.live working) n _ turns refl refl) r why at refl
-    (λ some is. let kept = part some is in let still : is_disk why ≡ p.failed = ap is_disk (let same : why ≡ Part some = cc in same) ∙ sym working in (kept.0, λ i. record (store_of p) { disk = kept.1 i; failed = still i })) (λ is. refl) counts
+    (λ some is. let kept = part some is in let still : is_disk why ≡ p.failed = grind arith in (kept.0, λ i. record (store_of p) { disk = kept.1 i; failed = still i })) (λ is. refl) counts
 
 -- it was refused before it began, and no call of the disk failed
 pub unbegun : {D T : Type 0} (g : Ghosts D) (s : Store D) (n : ℕ) (refusal : Option DmRefusal) (why : StoreRefusal) → s.failed ≡ false → Proceeds g s n s → (why ≡ store.Disk → ⊥) → ((part : DmRefusal) → why ≡ store.Part part → refusal ≡ Some part)
@@ -64,7 +61,7 @@ unbegun g s n refusal why works proceeds whole part = record {
   unchanged = λ p is. refl;
   working = tt;
   memory = λ is. (refl, works);
-  faults = record { closes = λ is. absurd (whole cc); counts = record { rose = λ is. absurd (whole cc); quiet = λ other. refl } };
+  faults = grind arith;
   proceeds = proceeds;
 }
 
@@ -89,7 +86,7 @@ ends_err g old new n refusal r why at whole is = record {
   unchanged = λ part e. absurd (whole part cc);
   working = tt;
   memory = λ e. is.memory cc;
-  faults = record { closes = λ e. is.faults.closes cc; counts = record { rose = λ e. is.faults.counts.rose cc; quiet = λ other. is.faults.counts.quiet (λ e. other (let same : why ≡ store.Disk = cc in ap (λ w. Err w) same)) } };
+  faults = grind arith;
   proceeds = is.proceeds;
 }
 
@@ -97,14 +94,14 @@ ends_err g old new n refusal r why at whole is = record {
 pub changes_on : {D S T : Type 0} {g : Ghosts D} {old mid new : Store D} {n : ℕ} {key : FileKey} {effect : Effect} {first : Result S StoreRefusal} {r : Result T StoreRefusal} (x : S) → first ≡ Ok x → Ends g old n None first mid → mid.held ≡ old.held
     → Changes g mid n key effect None r new → Changes g old n key effect None r new
 changes_on {D} {S} {T} {g} {old} {mid} {new} {n} {key} {effect} {first} {r} x done before same is = record {
-  held = subst (λ (h : Held). OnOk r (new.held ≡ record h { files = affected_held effect key h.files })) same is.held;
+  held = grind arith;
   ends = record {
     judged = is.ends.judged;
     refused = is.ends.refused;
     unchanged = λ part e. absurd (let some = is.ends.refused part e in cc);
     working = is.ends.working;
     memory = λ e. ((is.ends.memory e).0 ∙ same, (is.ends.memory e).1);
-    faults = record { closes = is.ends.faults.closes; counts = rw (before.faults.counts.quiet (λ e. cc)) at is.ends.faults.counts };
+    faults = grind arith;
     proceeds = proceeds_on g old mid new n before.proceeds same is.ends.proceeds;
   };
 }

@@ -44,7 +44,7 @@ block-more blocks size ps i p start old new within at whole begins long before i
     let next : get_or (take (i + 1) ps) q None ≡ Some p = grind (arith, places) in
     written-in start k r piece old (omega arith) (grind (arith, places)) ∙ get_or-take (length old - start) block r 0 (omega arith) ∙ sym (ap (λ (x : Option ℕ). get_or (block_at blocks x) r 0) next))
     (λ (other : q ≡ i → ⊥).
-    let apart : (k < start) ⊎ (start + length piece ≤ k) = ⊎_elim (λ (below : q < i). inl (omega arith)) (λ (from : i ≤ q). let above : i < q = omega (arith, other) in inr (grind (arith, places))) (cases_lt q i) in
+    let apart : (k < start) ⊎ (start + length piece ≤ k) = grind (arith, inl, inr, places, cases_lt) in
     let stays : get_or (take (i + 1) ps) q None ≡ get_or (take i ps) q None = grind (arith, places) in
     written-beside start k piece old apart ∙ has q r l h ∙ sym (ap (λ (x : Option ℕ). get_or (block_at blocks x) r 0) stays))
     (cases_eq q i)
@@ -54,7 +54,7 @@ pub all-filled : (geometry size : ℕ) (c : List ℕ) (ps : List (Option ℕ)) (
     → HasBytes (blocks_in_image geometry c) size ps body → body ≡ body_at (blocks_in_image geometry c) size ps
 all-filled geometry size c ps body whole within count long has =
     let blocks = blocks_in_image geometry c in
-    let all : AllByRecursion (Whole blocks) (present ps) = each-weaker (λ p. p < (geometry_of geometry).blocks) (Whole blocks) (λ p low. length-block geometry c p low whole) (present ps) within in
+    let all : AllByRecursion (Whole blocks) (present ps) = grind (arith, each-weaker, Whole, length-block) in
     sym (same_body blocks size ps body count long (λ q h. full blocks ps all q) has)
 
 -- ---- entries
@@ -69,11 +69,7 @@ offline-some (Some stub) off = (stub, refl, off)
 
 -- the entry has what is true of each
 pub entry-has : (P : ℕ × StubOf → Type 0) (j : ℕ) (stubs : Stubs) → AllByRecursion P stubs → IfSome (stub_at j stubs) (λ stub. P (j, stub))
-entry-has P j stubs all = by (stub_at j stubs) (λ stub is. stub-each P stubs j stub all is)
-  where
-    by : (o : Option StubOf) → ((stub : StubOf) → o ≡ Some stub → P (j, stub)) → IfSome o (λ stub. P (j, stub))
-    by None has = tt
-    by (Some stub) has = has stub refl
+entry-has P j stubs all = grind (arith, stub-each)
 
 -- what is offline begins within the file
 pub offline-start : (size j : ℕ) (stubs : Stubs) → AllByRecursion (λ x. 65536 * x.0 < size) stubs → offline_at stubs j ≡ true → 65536 * j < size
@@ -92,11 +88,7 @@ zeros-more size i end old new more at was is = grind (arith, length-replicate, r
 
 -- all of them
 pub shaped-all : (stubs : Stubs) (size i j : ℕ) → AllByRecursion (λ x. 65536 * x.0 < size) stubs → size ≤ 65536 * i → (offline_at stubs j && nat_lt j i) ≡ offline_at stubs j
-shaped-all stubs size i j starts end = by (offline_at stubs j) (λ off. lt-ltb j i (let start = offline-start size j stubs starts off in omega arith))
-  where
-    by : (b : Bool) → (b ≡ true → nat_lt j i ≡ true) → (b && nat_lt j i) ≡ b
-    by true within = within refl
-    by false within = refl
+shaped-all stubs size i j starts end = grind (arith, lt-ltb, offline-start)
 
 -- a segment that is resized with all before
 pub within-all : (away : Bool) (j size : ℕ) → (away ≡ true → 65536 * j < size) → (away && nat_lt (65536 * j) size) ≡ away
@@ -137,10 +129,10 @@ pub record IsNext (c : Catalog) (i : ℕ) (f : CatalogFile) : Type 0 where
 
 pub next-file : (c : Catalog) (i : ℕ) (f : CatalogFile) → IsCatalog c → slice_get c.files i ≡ Some f → IsNext c i f
 next-file c i f is at = record {
-  low = each-there (λ (g : CatalogFile). 1 ≤ g.key.ino) c.files i f (each-above 1 c.files is.table.ascend) at;
-  high = each-there (λ (g : CatalogFile). g.key.ino ≤ (geometry_of c.geometry).files) c.files i f (each-within _ c.next c.files is.table.within) at;
-  before = before-at 1 i f c.files (omega arith) is.table.ascend at;
-  lawful = each-there (IsCatalogFile (geometry_of c.geometry).blocks) c.files i f is.each at;
+  low = grind (arith, each-there, each-above);
+  high = grind (arith, each-there, each-within);
+  before = grind (arith, before-at);
+  lawful = grind (arith, each-there);
   more = take_more c.files i f (slice_get_within c.files i f at) ∙ ap (λ (g : CatalogFile). take i c.files ++ g ∷ []) (get_or_from_slice_get c.files i f f at);
 }
 

@@ -48,8 +48,8 @@ module _ (c : Catalog) (is : IsCatalog c) where
   pub are_places : (d : Catalog) (space : Space) (n : ℕ) → space.current ≡ marks_of c → AllByRecursion (λ b. get_or space.durable b false ≡ true) (blocks_of d.files) → ArePlaces c d (take n (free space))
   are_places d space n marks marked =
       let taken = taken_are_free space n in
-      let below : (b : ℕ) → IsFree space b → b < total = λ b f. let w = f.within in omega (arith, ap length marks, length-marks c) in
-      let each : (P : ℕ → Type 0) → ((b : ℕ) → IsFree space b → P b) → AllByRecursion P (take n (free space)) = λ P h. recursion_from_All P _ (All-weaker (IsFree space) P h _ taken.each) in
+      let below : (b : ℕ) → IsFree space b → b < total = λ b f. grind (arith, length-marks) in
+      let each : (P : ℕ → Type 0) → ((b : ℕ) → IsFree space b → P b) → AllByRecursion P (take n (free space)) = λ P h. grind (arith, recursion_from_All, All-weaker) in
       let apart : Distinct (blocks_of c.files ++ take n (free space)) =
       subst (λ (fs : List Bool). Distinct (blocks_of c.files ++ take n (free (record { current = fs; durable = space.durable })))) (sym marks) (take_adds_others total (blocks_of c.files) space.durable n is.distinct) in
       record {
@@ -58,7 +58,7 @@ module _ (c : Catalog) (is : IsCatalog c) where
         free = each _ (λ b f. false_from_ne_true _ (λ used.
             false≢true (sym (unmarked_at space.durable b f.durable) ∙ All-has (λ p. get_or space.durable p false ≡ true) (blocks_of d.files) b (All-from_recursion _ (blocks_of d.files) marked) used)));
         distinct = taken.once;
-        once = distinct-uses (blocks_of c.files ++ take n (free space)) apart;
+        once = grind (arith, distinct-uses);
       }
 
 -- ---- blocks that are freed

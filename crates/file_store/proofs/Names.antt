@@ -1,7 +1,7 @@
 -- The names that several proofs cite, passed on from one place.
 pub use Rattle.std.proofs.Common.{◌≡◌, inl, inr, ⊎_elim, ℕ, ◌+◌, ◌*◌, ◌<◌, ◌≤◌, ◌^◌, ◌==◌, Bool, true, false, if◌then◌else◌, List, length, sym, ◌∙◌, ap, subst, arith, zero, suc, [], ◌∷◌, ◌++◌, map, get_or, take, refl, rules, ◌⊎◌, ◌-◌, ◌/◌, ◌%◌, drop, set, Option, Some, None, length-append, length-take, length-set, get_or-set_same, get_or-set_other, replicate, max, ltb, eqb, ◌&&◌, is_some, slice_index_or, cond, IsSome, option_map, unwrap_or, min, take_all, ◌||◌, All, Err, append_assoc, slice_get}
-pub use Rattle.std.proofs.lemmas.Bool.{false≢true, false_from_ne_true, cases_lt, cases_eq, cond_both, ltb-true, and_parts, and_from, lt-ltb, eqb-true, or_parts, eqb-false}
-pub use Rattle.std.proofs.lemmas.List.{length-map, map-append, ext_get_or, length-replicate, get_or-take, get_or_append_left, get_or-append_right, places, same_lists, map-set, take-map, get_or-replicate, get_or_past, take_more, drop_more, drop_all, get_or_read, set-get_or}
+pub use Rattle.std.proofs.lemmas.Bool.{false≢true, false_from_ne_true, cases_lt, cases_eq, cond_both, ltb-true, and_parts, and_from, lt-ltb, eqb-true, eqb-false}
+pub use Rattle.std.proofs.lemmas.List.{length-map, map-append, ext_get_or, length-replicate, get_or-take, get_or_append_left, get_or-append_right, places, same_lists, map-set, take-map, get_or-replicate, get_or_past, take_more, drop_more, drop_all, get_or_read}
 pub use Rattle.std.proofs.lemmas.List.Elements.{All-from_recursion, recursion_from_All, All-weaker}
 pub use Rattle.std.proofs.lemmas.List.Sums.{sum-map, sum_by-cons, sum_by-set}
 pub use Rattle.std.proofs.lemmas.Option.{slice_get_within, get_or_from_slice_get}
@@ -13,14 +13,14 @@ pub use Rattle.block_space.specs.Laws.{IsFree}
 pub use Rattle.block_space.specs.Space.{Space, free, marked, unmarked}
 pub use Rattle.commit_slots.specs.Places.{layout_of, IsApart}
 pub use Rattle.commit_slots.specs.declared.places.Layout.{Layout}
-pub use Rattle.disk_model.proofs.Steps.{started, turns_leave, turns_now, joined, weakened, sames_on, holds_on, holds_now, idle, keeps_on, kept_by, given_on}
+pub use Rattle.disk_model.proofs.Steps.{started, turns_leave, turns_now, joined, weakened, holds_on, holds_now, idle, keeps_on, kept_by, given_on}
 pub use Rattle.disk_model.specs.Images.{part, IsFreed, IsWritten, Follows}
 pub use Rattle.disk_model.specs.Moments.{Keeps, MayBe, Same}
 pub use Rattle.disk_model.specs.declared.device.Disk.{Ghosts}
 pub use Rattle.file_body.proofs.Sizes.{length-written, length-resized}
-pub use Rattle.file_body.specs.HeldBodies.{HeldBody, no_body, is_away, AreHere, AreZeros, SameAway}
+pub use Rattle.file_body.specs.HeldBodies.{HeldBody, no_body, is_away, AreZeros}
 pub use Rattle.file_store.specs.Bodies.{held_at, block_of, block_at, body_at, bytes_at, held_with, file_by, body_with, bytes_with, IsHere, IsBody, IsAlike, AreBodies}
-pub use Rattle.file_store.specs.Effects.{held_after, IsBodiless, drops, effect_in, empties}
+pub use Rattle.file_store.specs.Effects.{held_after, IsBodiless, empties}
 pub use Rattle.file_store.specs.HeldFiles.{IsHeldFiles}
 pub use Rattle.file_store.specs.Rewrites.{new_size, touched_of, grown, places_for, mappings_of, effect_of, IsRewrite, remapped, places_under, freed_by, IsWithin, HasEntry, brings, BringsOffline, BringsAway, HasRoom, HasRange, spares, unseals, unsealing, IsHead, AreUnsealed, mappings_in, IsMapOn, IsRewriting}
 pub use Rattle.file_store.specs.Steps.{IsStaged, IsBesideBlocks, places_of, HasBlocks, OnlyReads}
@@ -38,16 +38,16 @@ pub use Rattle.meta_store.proofs.FoundFiles.{each-found, key-found}
 pub use Rattle.meta_store.proofs.KeptCatalogs.{empty_file}
 pub use Rattle.meta_store.proofs.MappedPlaces.{length-fitted, length-places_set, present-fitted, uses-fitted, uses-mapped}
 pub use Rattle.meta_store.proofs.SnapshotFits.{files-few, blocks-few, blocks-within, geometry-bounded}
-pub use Rattle.meta_store.specs.Catalogs.{Catalog, geometry_of, blocks_of, IsCatalog, present, CatalogFile, IsCatalogFile, attribute_total, names_of as names_in, names_of}
+pub use Rattle.meta_store.specs.Catalogs.{Catalog, geometry_of, blocks_of, IsCatalog, present, CatalogFile, IsCatalogFile, names_of as names_in, names_of}
 pub use Rattle.meta_store.specs.Images.{IsImage, blocks_in_image, Recovers}
 pub use Rattle.meta_store.specs.Meta.{Meta, Backs, IsMeta, StoresOrKeeps, HasStored, IsStoredNow}
-pub use Rattle.meta_store.specs.Records.{places_fitted, places_set, with_changed, kept_at, others_total, key_on, IsNewFile, file_after, inode_of, after, CanStand, mappings_from, after_all, refusal_of_all, IsMappable, CanStandAll, IsSure, IsEvent, refusal_of, with_file}
+pub use Rattle.meta_store.specs.Records.{places_fitted, places_set, with_changed, kept_at, others_total, key_on, IsNewFile, file_after, inode_of, after, CanStand, mappings_from, after_all, refusal_of_all, IsMappable, CanStandAll, IsSure, IsEvent, refusal_of}
 pub use Rattle.meta_store.specs.declared.records.Record.{Record}
 pub use Rattle.meta_store.specs.declared.records.Record.TheVariants.{Make, Drop, Size, Map, Stub}
 pub use Rattle.meta_store.specs.declared.snapshot.Mapping.{Mapping}
 pub use Rattle.plain_model.specs.Blocks.{blocks_in, old_end, touched, size_after, from_on, met, with_mapped, fitted, mapped_after}
 pub use Rattle.plain_model.specs.Distinct.{Distinct}
 pub use Rattle.plain_model.specs.Effects.{Effect, Makes}
-pub use Rattle.plain_model.specs.Keyed.{find_key, same_key, change_key, put_key, drop_key}
+pub use Rattle.plain_model.specs.Keyed.{find_key, change_key, put_key, drop_key}
 pub use Rattle.plain_model.specs.Plain.{written, resized, rebody, Listed, greatest, named, free_inode}
-pub use Rattle.plain_model.specs.State.{affected_held, Held, FileState, file_at as held_file, file_or_new, rekept, used, used_by, next_key, bytes_of, new_file, remade, next_key as next_held}
+pub use Rattle.plain_model.specs.State.{affected_held, Held, FileState, file_at as held_file, rekept, used, used_by, next_key, bytes_of, remade, next_key as next_held}

@@ -1,5 +1,5 @@
 -- A punch up to past the file's end is one up to its end.
-use Rattle.file_store.proofs.Names.{◌≡◌, ⊎_elim, ℕ, ◌-◌, ◌*◌, ◌<◌, ◌≤◌, min, List, [], ◌∷◌, length, drop, Bool, true, false, ◌&&◌, is_some, refl, sym, ◌∙◌, ap, arith, AllByRecursion, cases_lt, lt-ltb, drop_all, length-map, FileKey, FileState, affected_held, remade, blocks_in, bytes_of, Meta, IsHeldFiles, HeldBody, held_with, each-found, option_map}
+use Rattle.file_store.proofs.Names.{◌≡◌, ℕ, ◌-◌, ◌*◌, ◌<◌, ◌≤◌, min, List, [], ◌∷◌, length, drop, Bool, true, ◌&&◌, is_some, refl, arith, AllByRecursion, drop_all, length-map, FileKey, FileState, affected_held, remade, blocks_in, bytes_of, Meta, IsHeldFiles, HeldBody, held_with, each-found, option_map}
 use Rattle.std.specs.Prelude.{nat_lt, nat_le, max}
 use Rattle.hsm_types.specs.Segments.{segments_in}
 use Rattle.hsm_types.specs.Stubs.{Stubs, moved}
@@ -27,12 +27,7 @@ module _ (size from to end : ℕ) (is : end ≡ max from (min to (segments_in si
   drop_end bs long = grind (arith, both, drop_all)
 
   below_end : (j : ℕ) → 65536 * j < size → (nat_le from j && nat_lt j end) ≡ (nat_le from j && nat_lt j to)
-  below_end j low = ⊎_elim (λ (before : j < from). let out : nat_le from j ≡ false = grind arith in rw out refl) (λ (behind : from ≤ j). ap (λ b. nat_le from j && b) (within behind)) (cases_lt j from)
-    where
-      within : from ≤ j → nat_lt j end ≡ nat_lt j to
-      within behind = ⊎_elim
-          (λ (in_front : j < to). let a : nat_lt j end ≡ true = lt-ltb j end (omega arith) in let b : nat_lt j to ≡ true = lt-ltb j to in_front in a ∙ sym b)
-          (λ (past : to ≤ j). let a : nat_lt j end ≡ false = grind arith in let b : nat_lt j to ≡ false = grind arith in a ∙ sym b) (cases_lt j to)
+  below_end j low = grind arith
 
 same_punch : (f : FileState) (from to end : ℕ) → end ≡ max from (min to (segments_in (length f.body))) → 65536 * from < length f.body → length f.mapped ≡ blocks_in (length f.body) → AllByRecursion (λ (x : ℕ × Stub). 65536 * x.0 < length f.body) f.kept.stubs
     → remade (Punches from end) f ≡ remade (Punches from to) f

@@ -5,7 +5,7 @@ use Rattle.std.proofs.Math.Bool.{or-true, or-false}
 use Rattle.hsm_types.specs.Refusals.{first_refusal}
 use Rattle.hsm_types.specs.Regions.{covers}
 use Rattle.hsm_types.specs.Segments.{from_on, segments_in}
-use Rattle.hsm_types.specs.Stubs.{Stubs, stub_at, is_offline, offline_at, punched, not_punched, already_offline, not_sealed, not_covered, any_unpunched}
+use Rattle.hsm_types.specs.Stubs.{Stubs, stub_at, offline_at, punched, not_punched, already_offline, not_sealed, not_covered, any_unpunched}
 use Rattle.hsm_types.specs.declared.dm.DmRefusal.{DmRefusal}
 use Rattle.hsm_types.specs.declared.dm.DmRefusal.TheVariants.{Uncovered}
 use Rattle.hsm_types.specs.declared.regions.Region.{Region}
@@ -64,16 +64,7 @@ can_go f from n each none end j above below =
 
 now_away : (from to : ℕ) (stubs : Stubs) (j : ℕ) (was low : Bool) → (from ≤ j → j < to → ((stub : Stub) × (stub_at j stubs ≡ Some stub)) × (low ≡ true)) → was ≡ offline_at stubs j
     → (was || (nat_le from j && nat_lt j to && low)) ≡ offline_at (punched from to stubs) j
-now_away from to stubs j was low can here = by (nat_le from j && nat_lt j to) refl (stub_at-punched from to stubs j)
-  where
-    above : (nat_le from j && nat_lt j to) ≡ true → (from ≤ j) × (j < to)
-    above within = (grind arith, grind arith)
-
-    by : (b : Bool) → (nat_le from j && nat_lt j to) ≡ b → stub_at j (punched from to stubs) ≡ (if b then set_away true (stub_at j stubs) else stub_at j stubs) → (was || (nat_le from j && nat_lt j to && low)) ≡ offline_at (punched from to stubs) j
-    by true within is =
-        let there = can (above within).0 (above within).1 in
-        rw (within, there.1) (or-true was) ∙ sym (ap is_offline (is ∙ ap (set_away true) there.0.1))
-    by false out is = rw out (or-false was) ∙ (here ∙ sym (ap is_offline is))
+now_away from to stubs j was low can here = grind (arith, stub_at-punched, set_away, or-true, or-false)
 
 -- ---- a live store
 
@@ -95,14 +86,14 @@ ready g p k from to files sound working there start order end none =
     let at = live-held files k there in
     let own = is-body files at in
     let file = each-found (IsCatalogFile (geometry_of p.meta.current.geometry).blocks) k at.file p.meta.current.files sound.meta.current.each at.found in
-    let size : length (bytes_of k (store_of p).held.files) ≡ at.file.size = ap length (body-held p.bodies p.meta.current k at.file at.found) ∙ own.size in
+    let size : length (bytes_of k (store_of p).held.files) ≡ at.file.size = grind (arith, body-held, own) in
     let last : from + (to - from) ≡ to = omega arith in
     record {
       files = files;
       lawful = sound.meta;
       live = sound.live working;
       at = at;
-      can = can_go at.file from (to - from) file.stubs (rw (last, ← kept_is p.meta.current k at.file at.found) none) (rw (last, ← size) end);
+      can = grind (arith, can_go, kept_is);
       start = rw (← size) start;
     }
 
@@ -159,7 +150,7 @@ module _ {D : Type 0} {g : Ghosts D} {p : Parts D} {k : FileKey} {from to n : �
 
     new_own : IsBody b (without_segments from n file)
     new_own = record {
-      size = ap length bytes ∙ length-zeroed from to old_body.bytes (rw own.size x.start) ∙ own.size;
+      size = grind (arith, length-zeroed, own);
       here = λ j.
           subst (λ t. is_away b j ≡ (is_away old_body j || (nat_le from j && nat_lt j t && nat_lt (65536 * j) (length old_body.bytes)))) end (away j)
           ∙ now_away from (from + n) file.kept.stubs j (is_away old_body j) (nat_lt (65536 * j) (length old_body.bytes))
@@ -176,7 +167,7 @@ module _ {D : Type 0} {g : Ghosts D} {p : Parts D} {k : FileKey} {from to n : �
     files_next m current lawful = record {
       catalog = lawful.current;
       sizes = rw current (put-bodies x.files x.at b (without_segments from n) refl new_own);
-      count = count-put x.files x.at b ∙ ap (λ (c : Catalog). (geometry_of c.geometry).files) (sym current);
+      count = grind (arith, count-put);
     }
 
     pub gone : (new : D) (m : Meta) (number : ℕ) (wrote : Bool) → Tells g p.disk p.meta number wrote new m → m.current ≡ after_all records p.meta.current → IsMeta m → Backs g new m → StoresOrKeeps g p.disk new p.meta number

@@ -1,5 +1,5 @@
 -- The records of a punch: that they can come, that nothing refuses them, and the catalog after them.
-use Rattle.std.proofs.Common.{◌≡◌, ℕ, zero, suc, ◌+◌, ◌*◌, ◌<◌, ◌≤◌, List, ◌∷◌, true, false, Option, Some, None, refl, sym, ◌∙◌, ap, subst, arith}
+use Rattle.std.proofs.Common.{◌≡◌, ℕ, zero, suc, ◌+◌, ◌*◌, ◌<◌, ◌≤◌, List, true, false, Option, Some, None, refl, sym, ◌∙◌, ap, arith}
 use Rattle.std.specs.List.{AllByRecursion}
 use Rattle.std.specs.List.Sorted.{IsStrictlySortedBy}
 use Rattle.std.specs.Map.{keys_of}
@@ -69,22 +69,22 @@ going ino k stubs from (suc n) c f on found sorted same can =
     let here : stub_at from f.kept.stubs ≡ Some (sealed_by it.entry) = same from (omega arith) ∙ it.is in
     let one = one_gone ino from it.entry f sorted here in
     let next : Catalog = with_changed k (file_after r) c in
-    let step : after r c ≡ next = ap (λ (j : FileKey). with_changed j (file_after r) c) on in
+    let step : after r c ≡ next = grind arith in
     let entries : (file_after r f).kept.stubs ≡ punched from (from + 1) f.kept.stubs = ap (λ (g : CatalogFile). g.kept.stubs) one in
     let later : AreGoing ino k stubs (from + 1) n next =
     going ino k stubs (from + 1) n next (file_after r f) (key_on-changed ino k (file_after r) c (λ x. (refl, refl)) ∙ on) (find-changed k (file_after r) f c.files (λ x. refl) found) (rw (entries, keys-moved true from (from + 1) f.kept.stubs) sorted)
     (λ j above. ap (stub_at j) entries ∙ later_same from f.kept.stubs j above ∙ same j (omega arith))
     (λ j above below. let go = can j (omega arith) (omega arith) in record { entry = go.entry; is = go.is; start = go.start; volume = go.volume; covered = go.covered }) in
-    let first : Stub ino from (away_by (stub_at from stubs)) ≡ r = ap (λ (o : Option StubOf). Stub ino from (away_by o)) it.is in
+    let first : Stub ino from (away_by (stub_at from stubs)) ≡ r = grind (arith, Option) in
     let twice : with_changed k (without_segments (from + 1) n) next ≡ with_changed k (without_segments from (suc n)) c =
     changed-twice k (file_after r) (without_segments (from + 1) n) (λ x. without_segments (from + 1) n (file_after r x)) c (λ x. refl) (λ x. refl)
     ∙ changed-found k (λ x. without_segments (from + 1) n (file_after r x)) (without_segments from (suc n)) f c found (ap (without_segments (from + 1) n) one ∙ more_gone from n f) in
-    let can_stand : CanStand r c = (f, ap (λ (j : FileKey). find_key (λ x. x.key) j c.files) on ∙ found, record { fits = record { start = it.start; len = refl; volume = it.volume; covered = λ off. it.covered }; turns = record { goes = λ off. here; comes = λ off. absurd cc } }) in
+    let can_stand : CanStand r c = grind arith in
     let not_refused : refusal_of r c ≡ None = rw (on, found, here) refl in
     record {
-      become = ap (λ (x : Record). after_all (x ∷ rest) c) first ∙ ap (after_all rest) step ∙ later.become ∙ twice;
-      stand = subst (λ (x : Record). CanStandAll (x ∷ rest) c) (sym first) (can_stand, subst (CanStandAll rest) (sym step) later.stand);
-      passed = ap (λ (x : Record). refusal_of_all (x ∷ rest) c) first ∙ rw (not_refused, step, later.passed) refl;
+      become = grind arith;
+      stand = grind arith;
+      passed = grind arith;
     }
 
 -- ---- they are an event

@@ -1,6 +1,6 @@
 -- A file without some of its segments: its places, and its stub entries.
-use Rattle.std.proofs.Common.{◌≡◌, ℕ, zero, suc, ◌+◌, ◌-◌, ◌*◌, ◌<◌, ◌≤◌, List, [], ◌∷◌, ◌++◌, length, take, drop, map, get_or, Bool, true, false, Option, Some, None, refl, sym, ◌∙◌, ap, arith, append_assoc}
-use Rattle.std.specs.Prelude.{replicate, min, is_some, nat_le, nat_lt, ◌&&◌, if◌then◌else◌}
+use Rattle.std.proofs.Common.{◌≡◌, ℕ, zero, suc, ◌+◌, ◌-◌, ◌*◌, ◌<◌, ◌≤◌, List, [], ◌∷◌, ◌++◌, length, take, drop, map, get_or, Bool, true, false, Option, Some, None, refl, arith, append_assoc}
+use Rattle.std.specs.Prelude.{replicate, min, is_some}
 use Rattle.std.specs.List.{AllByRecursion}
 use Rattle.std.specs.Map.{keys_of}
 use Rattle.std.proofs.lemmas.List.{length-map}
@@ -89,11 +89,7 @@ flags-punched from to n ps end = grind (arith, flags-cleared, length-map, append
 
 pub keys-moved : (offline : Bool) (from to : ℕ) (stubs : Stubs) → keys_of (moved offline from to stubs) ≡ keys_of stubs
 keys-moved offline from to [] = refl
-keys-moved offline from to (x ∷ rest) = by (nat_le from x.0 && nat_lt x.0 to) (keys-moved offline from to rest)
-  where
-    by : (b : Bool) → keys_of (moved offline from to rest) ≡ keys_of rest → keys_of ((if b then (x.0, record x.1 { offline = offline }) else x) ∷ moved offline from to rest) ≡ keys_of (x ∷ rest)
-    by true later = ap (λ (ks : List ℕ). x.0 ∷ ks) later
-    by false later = ap (λ (ks : List ℕ). x.0 ∷ ks) later
+keys-moved offline from to (x ∷ rest) = grind (arith, keys-moved offline from to rest)
 
 pub moved-nothing : (offline : Bool) (from to : ℕ) (stubs : Stubs) → to ≤ from → moved offline from to stubs ≡ stubs
 moved-nothing offline from to [] none = refl
@@ -102,28 +98,12 @@ moved-nothing offline from to (x ∷ rest) none = grind (arith, moved-nothing of
 -- segments that are moved one after the other
 pub moved-on : (offline : Bool) (from to : ℕ) (stubs : Stubs) → from + 1 ≤ to → moved offline (from + 1) to (moved offline from (from + 1) stubs) ≡ moved offline from to stubs
 moved-on offline from to [] more = refl
-moved-on offline from to (x ∷ rest) more = by (nat_le from x.0) (nat_lt x.0 (from + 1)) (nat_lt x.0 to) refl refl refl (moved-on offline from to rest more)
-  where
-    later : (nat_le (from + 1) x.0) ≡ (nat_le from x.0 && (if nat_lt x.0 (from + 1) then false else true))
-    later = grind arith
-
-    within : nat_le from x.0 ≡ true → nat_lt x.0 (from + 1) ≡ true → nat_lt x.0 to ≡ true
-    within a b = grind arith
-
-    by : (a b d : Bool) → nat_le from x.0 ≡ a → nat_lt x.0 (from + 1) ≡ b → nat_lt x.0 to ≡ d → moved offline (from + 1) to (moved offline from (from + 1) rest) ≡ moved offline from to rest
-        → moved offline (from + 1) to ((if a && b then (x.0, record x.1 { offline = offline }) else x) ∷ moved offline from (from + 1) rest) ≡ (if a && d then (x.0, record x.1 { offline = offline }) else x) ∷ moved offline from to rest
-    by true true d low one is all = let to_is : d ≡ true = sym is ∙ within low one in rw (later, low, one, to_is, all) refl
-    by true false d low one is all = rw (later, low, one, is, all) refl
-    by false b d low one is all = rw (later, low, all) refl
+moved-on offline from to (x ∷ rest) more = grind (arith, moved-on offline from to rest more)
 
 -- what goes by the segment and its entry alone stays true
 pub each-moved : (P : ℕ → StubEntry → Type 0) (offline : Bool) (from to : ℕ) (stubs : Stubs) → AllByRecursion (λ (x : ℕ × Stub). P x.0 x.1.entry) stubs → AllByRecursion (λ (x : ℕ × Stub). P x.0 x.1.entry) (moved offline from to stubs)
 each-moved P offline from to [] each = tt
-each-moved P offline from to (x ∷ rest) each = by (nat_le from x.0 && nat_lt x.0 to) (each-moved P offline from to rest each.1)
-  where
-    by : (b : Bool) → AllByRecursion (λ (x : ℕ × Stub). P x.0 x.1.entry) (moved offline from to rest) → AllByRecursion (λ (x : ℕ × Stub). P x.0 x.1.entry) ((if b then (x.0, record x.1 { offline = offline }) else x) ∷ moved offline from to rest)
-    by true later = (each.0, later)
-    by false later = (each.0, later)
+each-moved P offline from to (x ∷ rest) each = grind (arith, each-moved P offline from to rest each.1)
 
 -- ---- the file
 

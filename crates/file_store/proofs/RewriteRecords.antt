@@ -60,17 +60,8 @@ pub more_unsealed : (ino from start segment : ℕ) (stubs : Stubs) (before mid a
 more_unsealed ino from start segment stubs before mid after begun low none pushed is = record {
   segments = is.segments ++ segment ∷ [];
   are = pushed ∙ ap (λ (rs : List Record). rs ++ unsealing ino segment ∷ []) is.are ∙ append_assoc before (map (unsealing ino) is.segments) (unsealing ino segment ∷ []) ∙ ap (λ (rs : List Record). before ++ rs) (sym (map-append (unsealing ino) is.segments (segment ∷ [])));
-  only = each-join (λ j. (from ≤ j) × (j < segment + 1)) is.segments (segment ∷ []) (each-weaker (λ j. (from ≤ j) × (j < start)) (λ j. (from ≤ j) × (j < segment + 1)) (λ j in_it. (in_it.0, let high = in_it.1 in omega arith)) is.segments is.only) ((omega arith, omega arith), tt);
-  every = λ j above below some.
-      list_any-append (λ s. eqb s j) is.segments (segment ∷ [])
-      ∙ ⊎_elim
-      (λ (early : j < start). or-left (list_any (λ s. eqb s j) is.segments) (list_any (λ s. eqb s j) (segment ∷ [])) (is.every j above early some))
-      (λ (late : start ≤ j).
-      ⊎_elim
-      (λ (same : segment ≡ j). or-right (list_any (λ s. eqb s j) is.segments) (list_any (λ s. eqb s j) (segment ∷ [])) (or-left (eqb segment j) false (eq-eqb segment j same)))
-      (λ (other : segment ≡ j → ⊥). absurd (not-some (stub_at j stubs) (none j late (omega arith)) some))
-      (cases_eq segment j))
-      (cases_lt j start);
+  only = grind (arith, each-join, each-weaker);
+  every = grind (arith, list_any-append, eqb, or-left, or-right, eq-eqb, not-some, cases_eq, cases_lt);
 }
 
 -- and no more
@@ -290,7 +281,7 @@ maps-stand ino n total k (Map i block places ∷ maps) c f found on long blocks 
     let sides = each-parts (IsFit f.kept.stubs n total) ms rest fit in
     let here : key_on i c ≡ k = ap (λ j. key_on j c) each.0.0 ∙ on in
     let all : (m : ℕ) → uses m places.items + uses m (places_of rest) + uses m (blocks_of c.files) ≤ 1 =
-    λ m. let split = ap (uses m) (map-append (λ (x : Mapping). x.place) ms rest) in let both = uses-append m (places_of ms) (places_of rest) in let run = ap (uses m) (places-run block places.items) in let most = once m in omega arith in
+    λ m. grind (arith, uses, map-append, uses-append, places-run, places) in
     let next : Catalog = with_changed k (mapped_by ms) c in
     let first : IsMappable block places.items f c = mappable n total block places.items f c long blocks each.0.1 sides.0 (λ m. let most = all m in omega arith) in
     let last : CanStandAll maps next =

@@ -1,5 +1,5 @@
 -- The memory that a body takes for a change, and gives back.
-use Rattle.file_store.proofs.Names.{◌≡◌, ℕ, ◌+◌, ◌-◌, ◌*◌, ◌<◌, ◌≤◌, ◌==◌, ◌&&◌, ◌||◌, min, max, List, length, take, drop, replicate, Bool, true, false, refl, sym, ◌∙◌, ap, false≢true, ⊎_elim, arith, rules, same_lists, places, length-take, lt-ltb, and_from, written, resized, Rewrite, Write, Resize, Restore, new_size, grown, brings, HasRoom, HeldBody, is_away, AreZeros, IsAlike}
+use Rattle.file_store.proofs.Names.{◌≡◌, ℕ, ◌+◌, ◌-◌, ◌*◌, ◌<◌, ◌≤◌, ◌==◌, ◌&&◌, ◌||◌, min, max, List, length, take, drop, replicate, Bool, true, false, refl, sym, ◌∙◌, ap, false≢true, arith, rules, same_lists, places, length-take, lt-ltb, and_from, written, resized, Rewrite, Write, Resize, Restore, new_size, grown, brings, HasRoom, HeldBody, is_away, AreZeros, IsAlike}
 use Rattle.std.specs.Prelude.{nat_le, nat_lt, Result, Ok, Err, OnOk, IsOk}
 use Rattle.std.proofs.Math.Bool.{and-true, and-false, or-false}
 use Rattle.std.proofs.lemmas.Bool.{cases_eq, eqb-true, eq-eqb, ne_eqb, le-leb, or_right}
@@ -68,27 +68,4 @@ module _ (change : Rewrite) (old room new : HeldBody) (has : HasRoom change old 
   pub left-alike : (segment : ℕ) → ((j : ℕ) → brings change j ≡ (j == segment)) → new_size change old.bytes ≡ length old.bytes → is_away old segment ≡ true
       → new.bytes ≡ written (65536 * segment) (replicate (min (65536 * (segment + 1)) (length room.bytes) - 65536 * segment) 0) room.bytes
       → ((j : ℕ) → is_away new j ≡ (is_away room j || (nat_le segment j && nat_lt j (segment + 1) && nat_lt (65536 * j) (length room.bytes)))) → IsAlike old new
-  left-alike segment one size gone bytes away = record {
-    bytes = bytes ∙ rw same (zeros-again segment old.bytes start (has.zeros segment (one segment ∙ eq-eqb segment segment refl) gone));
-    away = λ j.
-        away j
-        ∙ ⊎_elim
-        (λ (q : j ≡ segment).
-        rw q (or_right (is_away room segment) (nat_le segment segment && nat_lt segment (segment + 1) && nat_lt (65536 * segment) (length room.bytes)) inside ∙ sym gone))
-        (λ (q : j ≡ segment → ⊥).
-        ap (λ (b : Bool). is_away room j || b) (apart segment j (nat_lt (65536 * j) (length room.bytes)) q)
-        ∙ (or-false (is_away room j) ∙ (has.away j ∙ rw (one j, ne_eqb j segment q) (and-true (is_away old j)))))
-        (cases_eq j segment);
-  }
-    where
-      same : room.bytes ≡ old.bytes
-      same = has.bytes ∙ (ap (λ (n : ℕ). grown n old.bytes) size ∙ grown-none old.bytes)
-
-      start : 65536 * segment < length old.bytes
-      start = has.starts segment gone
-
-      inside : (nat_le segment segment && nat_lt segment (segment + 1) && nat_lt (65536 * segment) (length room.bytes)) ≡ true
-      inside =
-          and_from (nat_le segment segment && nat_lt segment (segment + 1)) (nat_lt (65536 * segment) (length room.bytes))
-          (and_from (nat_le segment segment) (nat_lt segment (segment + 1)) (le-leb segment segment (omega arith)) (lt-ltb segment (segment + 1) (omega arith)))
-          (lt-ltb (65536 * segment) (length room.bytes) (omega (arith, start, ap length same)))
+  left-alike segment one size gone bytes away = grind (arith, zeros-again, eq-eqb, or_right, apart, or-false, ne_eqb, and-true, cases_eq, grown-none, and_from, le-leb, lt-ltb)

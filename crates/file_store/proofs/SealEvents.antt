@@ -1,7 +1,6 @@
 -- Sealing a segment of a live file: that its record can come; and of the bytes by which one comes back.
-use Rattle.file_store.proofs.Names.{◌≡◌, ◌+◌, true, ◌*◌, ◌<◌, ◌≤◌, ℕ, List, length, true, false, Some, refl, sym, ◌∙◌, ap, subst, IsSome, FileKey, find_key, bytes_of, Record, Stub, geometry_of, key_on, CanStand, Meta, IsMeta, IsHeldFiles, HeldBody, held_with, bytes_with, IsBodiless, Kept, each-found, IsCatalogFile}
+use Rattle.file_store.proofs.Names.{arith, ◌≡◌, ◌+◌, ◌*◌, ◌<◌, ◌≤◌, ℕ, List, length, true, false, Some, refl, sym, ◌∙◌, ap, subst, IsSome, FileKey, find_key, bytes_of, Record, Stub, geometry_of, key_on, CanStand, Meta, IsMeta, IsHeldFiles, HeldBody, held_with, bytes_with, IsBodiless, Kept, each-found, IsCatalogFile}
 use Rattle.std.specs.Prelude.{IfSome}
-use Rattle.std.proofs.lemmas.Bool.{false≢true}
 use Rattle.std.proofs.lemmas.Option.{same_Some}
 use Rattle.hsm_types.specs.Segments.{segment_len}
 use Rattle.hsm_types.specs.Stubs.{stub_at, offline_at, print_of}
@@ -44,7 +43,7 @@ module _ {bs : List HeldBody} {m : Meta} (is : IsHeldFiles bs m) (k : FileKey) (
     seals = (key, λ f found. let same : at.file ≡ f = same_Some at.file f (sym at.found ∙ (rw key at found)) in subst (IsSeal j (record { entry = entry; offline = false })) same (record { stays = refl; here = here; len = of_length }))
 
     pub can_seal : CanStand (sealing j entry k) m.current
-    can_seal = (at.file, ap (λ (i : FileKey). find_key (λ f. f.key) i m.current.files) key ∙ at.found, record { fits = record { start = rw (← size) start; len = refl; volume = volume; covered = λ off. absurd cc }; turns = record { goes = λ off. absurd cc; comes = λ stays off. absurd (false≢true (sym here ∙ off)) } })
+    can_seal = (at.file, ap (λ (i : FileKey). find_key (λ f. f.key) i m.current.files) key ∙ at.found, record { fits = grind (arith, size, start, volume); turns = grind (arith, here) })
 
 -- ---- the bytes by which a segment comes back
 

@@ -1,11 +1,9 @@
 -- Files whose segments are sealed: their entries keep the lengths of their segments, and the same ones are offline.
-use Rattle.std.proofs.Common.{◌≡◌, ℕ, [], ◌∷◌, Bool, true, false, Some, None, Ordering, Less, Equal, Greater, refl, sym, ◌∙◌, ap, arith}
-use Rattle.std.specs.Prelude.{◌==◌, if◌then◌else◌}
-use Rattle.std.specs.BTreeMap.{insert_entry}
+use Rattle.std.proofs.Common.{◌≡◌, ℕ, [], ◌∷◌, Bool, false, Some, None, Equal, refl, sym, ap, arith}
 use Rattle.std.specs.List.{AllByRecursion}
-use Rattle.std.specs.Ordering.{nat_cmp, match_ordering}
+use Rattle.std.specs.Ordering.{nat_cmp}
 use Rattle.std.proofs.lemmas.Bool.{eqb-true}
-use Rattle.hsm_types.specs.Stubs.{Stubs, stub_at, is_offline, offline_at, with_stub}
+use Rattle.hsm_types.specs.Stubs.{Stubs, stub_at, offline_at, with_stub}
 use Rattle.hsm_types.specs.declared.keys.FileKey.{FileKey}
 use Rattle.hsm_types.specs.declared.stubs.Stub.{Stub as StubOf}
 use Rattle.meta_store.specs.Catalogs.{CatalogFile, Catalog, HasLengths, AreLengths}
@@ -25,22 +23,13 @@ seal-places ino j stub f off = rw off refl
 
 -- where a segment is sealed that isn't offline, the same ones are offline
 pub seal-same : (j i : ℕ) (stub : StubOf) (stubs : Stubs) → offline_at stubs j ≡ false → stub.offline ≡ false → offline_at (with_stub j stub stubs) i ≡ offline_at stubs i
-seal-same j i stub stubs here stays = by (i == j) refl (stub_at-with j stub stubs i)
-  where
-    by : (b : Bool) → (i == j) ≡ b → stub_at i (with_stub j stub stubs) ≡ (if b then Some stub else stub_at i stubs) → offline_at (with_stub j stub stubs) i ≡ offline_at stubs i
-    by true same is = ap is_offline is ∙ (stays ∙ (sym here ∙ ap (offline_at stubs) (sym (eqb-true i j same))))
-    by false other is = ap is_offline is
+seal-same j i stub stubs here stays = grind (arith, stub_at-with, eqb-true)
 
 -- ---- lengths
 
 each-with : (P : ℕ × StubOf → Type 0) (j : ℕ) (stub : StubOf) (stubs : Stubs) → P (j, stub) → ((x : ℕ × StubOf) → nat_cmp j x.0 ≡ Equal → P (x.0, stub)) → AllByRecursion P stubs → AllByRecursion P (with_stub j stub stubs)
 each-with P j stub [] new same each = (new, tt)
-each-with P j stub (x ∷ rest) new same each = by (nat_cmp j x.0) refl (each-with P j stub rest new same each.1)
-  where
-    by : (r : Ordering) → nat_cmp j x.0 ≡ r → AllByRecursion P (with_stub j stub rest) → AllByRecursion P (match_ordering r ((j, stub) ∷ x ∷ rest) ((x.0, stub) ∷ rest) (x ∷ insert_entry nat_cmp rest j stub))
-    by Less is later = (new, each)
-    by Equal is later = (same x is, each.1)
-    by Greater is later = (each.0, later)
+each-with P j stub (x ∷ rest) new same each = grind (arith, each-with P j stub rest new same each.1)
 
 sealed-lengths : (ino j : ℕ) (stub : StubOf) (f : CatalogFile) → IsSeal j stub f → HasLengths f → HasLengths (file_after (Stub ino j (Some stub)) f)
 sealed-lengths ino j stub f is has = grind (arith, each-with)

@@ -1,6 +1,6 @@
 -- A change of the bytes of a file that is sound: which of its segments are here, before it and after it, and that its entries keep their lengths.
-use Rattle.file_store.proofs.Names.{◌≡◌, ℕ, ◌+◌, ◌-◌, ◌*◌, ◌/◌, ◌<◌, ◌≤◌, min, max, List, [], ◌∷◌, length, Bool, true, false, ◌&&◌, Option, Some, None, refl, sym, ◌∙◌, ap, subst, ⊎_elim, arith, ltb, ◌==◌, if◌then◌else◌, AllByRecursion, false≢true, and_parts, ltb-true, and_from, Rewrite, Write, Resize, Restore, effect_of, unseals, IsRewrite, IsWithin, HasEntry, BringsOffline, BringsAway, HasRoom, HasRange, brings, spares, touched, rekept, remapped, Mapping, CatalogFile, IsCatalogFile, file_by, HeldBody, is_away, IsHere}
-use Rattle.std.specs.Prelude.{not, nat_le, nat_lt, IfSome}
+use Rattle.file_store.proofs.Names.{◌≡◌, ℕ, ◌+◌, ◌-◌, ◌*◌, ◌/◌, ◌<◌, ◌≤◌, min, max, List, [], ◌∷◌, length, Bool, true, false, ◌&&◌, Option, Some, None, refl, sym, ◌∙◌, ap, subst, arith, ltb, AllByRecursion, false≢true, and_parts, ltb-true, and_from, Rewrite, Write, Resize, Restore, effect_of, unseals, IsRewrite, IsWithin, HasEntry, BringsOffline, BringsAway, HasRoom, HasRange, brings, spares, touched, rekept, remapped, Mapping, CatalogFile, IsCatalogFile, file_by, HeldBody, is_away, IsHere}
+use Rattle.std.specs.Prelude.{not, nat_lt, IfSome}
 use Rattle.std.specs.Option.{option_map}
 use Rattle.std.proofs.lemmas.Bool.Decides.{nat_tests}
 use Rattle.std.proofs.Math.Bool.{and-true, and-false}
@@ -82,11 +82,7 @@ resized-len size to j apart = grind (arith, nat_tests)
 
 moved-lens : (b : Bool) (from to size : ℕ) (stubs : Stubs) → AllByRecursion (HasLen size) stubs → AllByRecursion (HasLen size) (moved b from to stubs)
 moved-lens b from to size [] all = tt
-moved-lens b from to size (x ∷ stubs) all = (by (nat_le from x.0 && nat_lt x.0 to) all.0, moved-lens b from to size stubs all.1)
-  where
-    by : (inside : Bool) → HasLen size x → HasLen size (if inside then (x.0, record x.1 { offline = b }) else x)
-    by true len = len
-    by false len = len
+moved-lens b from to size (x ∷ stubs) all = grind (arith, moved-lens b from to size stubs all.1)
 
 pub lengths-after : (change : Rewrite) (ms : List Mapping) (f : CatalogFile) → IsRewrite change → HasLengths f → HasLengths (remapped change f.size ms f)
 lengths-after (Write offset bytes) ms f may lengths =
@@ -107,28 +103,12 @@ unsealed-stays from to stubs j apart = ap is_offline (stub_at-unsealed from to s
 
 -- entries that go where the range meets no segment that is offline
 unsealed-free : (from to : ℕ) (stubs : Stubs) (j : ℕ) → (meets_segment from to j ≡ true → offline_at stubs j ≡ false) → offline_at (unsealed from to stubs) j ≡ offline_at stubs j
-unsealed-free from to stubs j free = by (meets_segment from to j) refl
-  where
-    by : (b : Bool) → meets_segment from to j ≡ b → offline_at (unsealed from to stubs) j ≡ offline_at stubs j
-    by true meets = unsealed-here from to stubs j meets ∙ sym (free meets)
-    by false apart = unsealed-stays from to stubs j apart
+unsealed-free from to stubs j free = grind (arith, unsealed-here, unsealed-stays)
 
 -- and where the file is resized, which leaves what is offline below the new end
 cut-away : (size to : ℕ) (stubs : Stubs) (j : ℕ) → ((meets_segment (min to size) (max to size) j && nat_lt (65536 * j) to) ≡ true → offline_at stubs j ≡ false) → (offline_at stubs j ≡ true → 65536 * j < size)
     → (offline_at stubs j && nat_lt (65536 * j) to) ≡ offline_at (unsealed (min to size) (max to size) stubs) j
-cut-away size to stubs j free starts = by (meets_segment (min to size) (max to size) j) (nat_lt (65536 * j) to) refl refl
-  where
-    by : (meets below : Bool) → meets_segment (min to size) (max to size) j ≡ meets → nat_lt (65536 * j) to ≡ below → (offline_at stubs j && nat_lt (65536 * j) to) ≡ offline_at (unsealed (min to size) (max to size) stubs) j
-    by true true meets below = rw below (and-true (offline_at stubs j) ∙ free (and_from (meets_segment (min to size) (max to size) j) (nat_lt (65536 * j) to) meets below)) ∙ sym (unsealed-here (min to size) (max to size) stubs j meets)
-    by true false meets past = rw past (and-false (offline_at stubs j)) ∙ sym (unsealed-here (min to size) (max to size) stubs j meets)
-    by false true apart below = rw below (and-true (offline_at stubs j)) ∙ sym (unsealed-stays (min to size) (max to size) stubs j apart)
-    by false false apart past =
-        rw past (and-false (offline_at stubs j))
-        ∙ sym (unsealed-stays (min to size) (max to size) stubs j apart
-        ∙ unless (offline_at stubs j) (λ off.
-        let start = starts off in
-        let end = ltb-false (65536 * j) to past in
-        absurd (false≢true (sym apart ∙ meets-from (min to size) (max to size) j (omega arith) (omega arith) (omega arith)))))
+cut-away size to stubs j free starts = grind (arith, and-true, and_from, unsealed-here, and-false, unsealed-stays, unless, ltb-false, meets-from)
 
 never-offline : (o : Option StubOf) → is_offline (option_map (λ (x : StubOf). record x { offline = false }) o) ≡ false
 never-offline None = refl
@@ -167,32 +147,8 @@ brings-away (Restore segment bytes) f body here off = here segment ∙ off
 module _ (change : Rewrite) (f : CatalogFile) (is : Allowed change f) (old room : HeldBody) (here : IsHere old f) (has : HasRoom change old room) where
   -- bytes are put only where they are here
   pub has-range : IsRewrite change → HasRange change room
-  has-range may = by change is has may
-    where
-      by : (c : Rewrite) → Allowed c f → HasRoom c old room → IsRewrite c → HasRange c room
-      by (Write offset bytes) is has may = λ i low high.
-          let j : ℕ = i / 65536 in
-          has.away j ∙ ap (λ (b : Bool). b && true) (here j ∙ is.free j (meets-from (min offset f.size) (offset + length bytes.now) j (omega arith) (omega arith) (omega arith)))
-      by (Resize to) is has may = tt
-      by (Restore segment bytes) is has may = λ i low high.
-          let most = may.1 in
-          let same : i / 65536 ≡ segment = omega arith in
-          has.away (i / 65536) ∙ rw (same, eq-eqb segment segment refl) (and-false (is_away old segment))
+  has-range may = grind arith
 
   -- and what is away after the change is what is offline then
   pub here-after : (new : HeldBody) (ms : List Mapping) → ((j : ℕ) → is_away new j ≡ (is_away room j && spares change j)) → IsHere new (remapped change f.size ms f)
-  here-after new ms away j = by change is (away j ∙ ap (λ (b : Bool). b && spares change j) (has.away j ∙ ap (λ (b : Bool). b && not (brings change j)) (here j)))
-    where
-      by : (c : Rewrite) → Allowed c f → is_away new j ≡ (offline_at f.kept.stubs j && not (brings c j) && spares c j) → is_away new j ≡ offline_at (rekept (effect_of c) f.size f.kept).stubs j
-      by (Write offset bytes) is now =
-          now ∙ and-true (offline_at f.kept.stubs j && true) ∙ and-true (offline_at f.kept.stubs j)
-          ∙ sym (unsealed-free (min offset f.size) (offset + length bytes.now) f.kept.stubs j (is.free j))
-      by (Resize to) is now =
-          now ∙ ap (λ (b : Bool). b && nat_lt (65536 * j) to) (and-true (offline_at f.kept.stubs j))
-          ∙ cut-away f.size to f.kept.stubs j (is.free j) (is.starts j)
-      by (Restore segment bytes) is now =
-          now ∙ and-true (offline_at f.kept.stubs j && not (j == segment))
-          ∙ ⊎_elim
-          (λ (q : j ≡ segment). rw (q, eq-eqb segment segment refl) (and-false (offline_at f.kept.stubs segment) ∙ sym (restored-here segment f.kept.stubs)))
-          (λ (q : j ≡ segment → ⊥). rw (ne_eqb j segment q) (and-true (offline_at f.kept.stubs j) ∙ sym (restored-stays segment f.kept.stubs j q)))
-          (cases_eq j segment)
+  here-after new ms away j = grind (arith, and-true, unsealed-free, cut-away, eq-eqb, and-false, restored-here, ne_eqb, restored-stays, cases_eq)

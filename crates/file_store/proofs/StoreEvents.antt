@@ -1,5 +1,5 @@
 -- Events of a live store: a record that concerns no bytes of a file that stays, and bytes with their records.
-use Rattle.file_store.proofs.Names.{IsAlike, HeldBody, no_body, IsHere, IsWithin, ◌/◌, held_file, file_or_new, file_by, option_map, rekept, touched, Restore, each-drop, ◌+◌, IsSome, find_key, used, bytes_with, new_size, touched_of, places_for, IsStaged, get_or, ◌≡◌, ℕ, ◌<◌, List, [], ◌∷◌, length, Bool, true, false, Option, Some, None, refl, sym, ◌∙◌, ap, subst, All, inl, inr, zero, suc, ◌-◌, ◌*◌, ◌≤◌, take, drop, set, arith, length-take, FileKey, Space, unmarked, free, marked, Record, Catalog, IsCatalogFile, geometry_of, present, blocks_of, after, CanStand, refusal_of, refusal_of_all, with_changed, after_all, CanStandAll, key_on, blocks_in_image, IsImage, Meta, IsMeta, Backs, StoresOrKeeps, held_at, held_with, block_of, bytes_at, IsBodiless, held_after, Store, IsLive, IsSound, marks_of, IsEither, Proceeds, AllByRecursion, All-from_recursion, All-weaker, part, Follows, MayBe, Keeps, holds_on, holds_now, layout_of, rebody, blocks_in, size_after, Held, bytes_of, affected_held, Mapping, each-found, Rewrite, Write, Resize, IsBesideBlocks, HasBlocks, effect_of, IsRewrite, IsRewriting, mappings_of, remapped, freed_by, places_under, IsHeldFiles, length-marked, marked_keeps, taken_are_free, release_undoes_take, uses, uses-append, Ghosts}
+use Rattle.file_store.proofs.Names.{IsAlike, HeldBody, no_body, IsHere, IsWithin, ◌/◌, held_file, file_by, option_map, rekept, touched, Restore, each-drop, ◌+◌, IsSome, find_key, used, bytes_with, new_size, touched_of, places_for, IsStaged, get_or, ◌≡◌, ℕ, ◌<◌, List, [], ◌∷◌, length, Bool, true, false, Option, Some, None, refl, sym, ◌∙◌, ap, subst, All, inl, inr, zero, suc, ◌-◌, ◌*◌, ◌≤◌, take, drop, set, arith, length-take, FileKey, Space, unmarked, free, marked, Record, Catalog, IsCatalogFile, geometry_of, present, blocks_of, after, CanStand, refusal_of, refusal_of_all, with_changed, after_all, CanStandAll, key_on, blocks_in_image, IsImage, Meta, IsMeta, Backs, StoresOrKeeps, held_at, held_with, block_of, bytes_at, IsBodiless, held_after, Store, IsLive, IsSound, marks_of, IsEither, Proceeds, AllByRecursion, All-from_recursion, All-weaker, part, Follows, MayBe, Keeps, holds_on, holds_now, layout_of, rebody, blocks_in, size_after, Held, bytes_of, affected_held, Mapping, each-found, Rewrite, Write, Resize, IsBesideBlocks, HasBlocks, effect_of, IsRewrite, IsRewriting, mappings_of, remapped, freed_by, places_under, IsHeldFiles, length-marked, marked_keeps, taken_are_free, release_undoes_take, uses, uses-append, Ghosts}
 use Rattle.hsm_types.specs.declared.dm.DmRefusal.{DmRefusal}
 use Rattle.meta_store.specs.declared.refusal.MetaRefusal.{MetaRefusal}
 use Rattle.meta_store.specs.declared.refusal.MetaRefusal.TheVariants.{Part, Disk, Memory}
@@ -119,9 +119,9 @@ known g p k change files sound working there may allows left many =
     let body = is-body files at in
     let file = each-found (IsCatalogFile (geometry_of p.meta.current.geometry).blocks) k at.file p.meta.current.files sound.meta.current.each at.found in
     let lengths = each-found HasLengths k at.file p.meta.current.files sound.meta.stored.now at.found in
-    let is : held_file k (store_of p).held.files ≡ file_by (bytes_with p.bodies) at.file = ap (file_or_new k) (find-held (bytes_with p.bodies) k p.meta.current ∙ ap (option_map (file_by (bytes_with p.bodies))) at.found) in
+    let is : held_file k (store_of p).held.files ≡ file_by (bytes_with p.bodies) at.file = grind (arith, find-held, option_map) in
     let room : length (touched_of change (bytes_in p.bodies k)) + length (blocks_of p.meta.current.files) ≤ (geometry_of p.meta.current.geometry).blocks =
-    rw (body-held p.bodies p.meta.current k at.file at.found, used-held (bytes_with p.bodies) p.meta.current, ← sound.meta.stored.geometry) at left in
+    grind (arith, body-held, used-held) in
     record {
       files = files;
       lawful = sound.meta;
@@ -131,7 +131,7 @@ known g p k change files sound working there may allows left many =
       allowed = allowed (bytes_with p.bodies) at.file (geometry_of p.meta.current.geometry).blocks file lengths (ap length (bytes-of files at) ∙ body.size) change (subst (IsAllowed (effect_of change)) is allows);
       few = size-few change _ may (let most = file.size in let own = body.size in omega arith);
       room = room;
-      enough = rw (body-held p.bodies p.meta.current k at.file at.found) at many;
+      enough = grind (arith, body-held);
     }
 
 module _ {D : Type 0} {g : Ghosts D} {p : Parts D} {k : FileKey} {change : Rewrite} (x : Given g p k change) where
@@ -197,7 +197,7 @@ module _ {D : Type 0} {g : Ghosts D} {p : Parts D} {k : FileKey} {change : Rewri
 
     pub stand : CanStandAll records p.meta.current
     stand =
-        can_stand k.ino change ms records p.meta.current x.at.file found_on file rewriting (record { few = subst (λ (n : ℕ). size_after (effect_of change) n ≤ 16777216) own x.few; free = x.allowed.free })
+        can_stand k.ino change ms records p.meta.current x.at.file found_on file rewriting (record { few = grind (arith, own); free = x.allowed.free })
         (subst (λ (n : ℕ). AllByRecursion (IsFit (rekept (effect_of change) x.at.file.size x.at.file.kept).stubs (blocks_in (size_after (effect_of change) n)) (geometry_of p.meta.current.geometry).blocks) ms) own
         (fit (rekept (effect_of change) x.at.file.size x.at.file.kept).stubs (blocks_in size) (geometry_of p.meta.current.geometry).blocks blocks places long low are.within
         (subst (λ (n : ℕ). AllByRecursion (λ b. offline_at (rekept (effect_of change) x.at.file.size x.at.file.kept).stubs (b / 16) ≡ false) (touched (effect_of change) n)) (sym own) (touched-here change x.at.file x.may))))
@@ -286,9 +286,7 @@ module _ {D : Type 0} {g : Ghosts D} {p : Parts D} {k : FileKey} {change : Rewri
       written_live = record {
         backs = backs_beside g p.disk mid p.meta.durable.geometry places p.meta keeps refl x.live.backs;
         stored = λ c may. (holds_now g p.disk mid _ Was Was keeps was stays c may).1;
-        current = λ c gives.
-            let was_on = has_blocks c gives in
-            held_beside p.meta.durable.geometry places was_on.0 c (beside was_on.0 c was_on.2) p.meta.current x.lawful.stored.geometry x.lawful.current are.unused ∙ x.live.current was_on.0 was_on.1;
+        current = grind (arith, has_blocks, held_beside, beside, are);
         marks = x.live.marks;
         marked = x.live.marked;
       }

@@ -1,5 +1,5 @@
 -- Stub entries after a change of the bytes of their file: those of segments that it touches go, first by the new size, and then one by one.
-use Rattle.file_store.proofs.Names.{◌≡◌, ℕ, ◌+◌, ◌*◌, ◌<◌, min, max, List, [], ◌∷◌, length, Bool, true, false, ◌&&◌, ◌||◌, refl, sym, ◌∙◌, ap, subst, arith, cond, cond_both, eqb, list_any, AllByRecursion, false≢true, eqb-true, is_some}
+use Rattle.file_store.proofs.Names.{◌≡◌, ℕ, ◌+◌, ◌*◌, ◌<◌, min, max, List, [], ◌∷◌, length, Bool, true, false, ◌&&◌, ◌||◌, refl, sym, ◌∙◌, subst, arith, cond_both, eqb, list_any, AllByRecursion, false≢true, eqb-true, is_some}
 use Rattle.std.specs.Prelude.{filter, not, nat_lt}
 use Rattle.std.proofs.lemmas.Bool.Decides.{nat_tests}
 use Rattle.std.proofs.lemmas.Bool.{eq-eqb}
@@ -13,11 +13,7 @@ use Rattle.file_store.proofs.EachOf.{each-both}
 
 filter-twice : {X : Type 0} (p q : X → Bool) (xs : List X) → filter p (filter q xs) ≡ filter (λ x. q x && p x) xs
 filter-twice p q [] = refl
-filter-twice p q (x ∷ xs) = by (q x) refl (filter-twice p q xs)
-  where
-    by : (b : Bool) → q x ≡ b → filter p (filter q xs) ≡ filter (λ y. q y && p y) xs → filter p (cond b (x ∷ filter q xs) (filter q xs)) ≡ cond (b && p x) (x ∷ filter (λ y. q y && p y) xs) (filter (λ y. q y && p y) xs)
-    by true is same = ap (λ ys. cond (p x) (x ∷ ys) ys) same
-    by false is same = same
+filter-twice p q (x ∷ xs) = grind (arith, filter-twice p q xs)
 
 pub filter-same : {X : Type 0} (p q : X → Bool) (xs : List X) → AllByRecursion (λ x. p x ≡ q x) xs → filter p xs ≡ filter q xs
 filter-same p q [] all = refl
@@ -25,11 +21,7 @@ filter-same p q (x ∷ xs) all = rw (all.0, filter-same p q xs all.1) refl
 
 pub each-filter : {X : Type 0} (p : X → Bool) (P Q : X → Type 0) (xs : List X) → ((x : X) → p x ≡ true → P x → Q x) → AllByRecursion P xs → AllByRecursion Q (filter p xs)
 each-filter p P Q [] weaker all = tt
-each-filter p P Q (x ∷ xs) weaker all = by (p x) refl (each-filter p P Q xs weaker all.1)
-  where
-    by : (b : Bool) → p x ≡ b → AllByRecursion Q (filter p xs) → AllByRecursion Q (cond b (x ∷ filter p xs) (filter p xs))
-    by true is rest = (weaker x is all.0, rest)
-    by false is rest = rest
+each-filter p P Q (x ∷ xs) weaker all = grind (arith, each-filter p P Q xs weaker all.1)
 
 -- ---- entries that go one by one
 
@@ -41,22 +33,8 @@ without_all [] stubs = stubs
 without_all (j ∷ js) stubs = without_all js (without_stub j stubs)
 
 without-is : (js : List ℕ) (p : ℕ → Bool) (stubs : Stubs) → without_all js (filter (λ x. p x.0) stubs) ≡ filter (λ x. p x.0 && not (has js x.0)) stubs
-without-is [] p stubs = filter-same (λ x. p x.0) (λ x. p x.0 && true) stubs (all stubs)
-  where
-    all : (xs : Stubs) → AllByRecursion (λ x. p x.0 ≡ (p x.0 && true)) xs
-    all [] = tt
-    all (x ∷ xs) = (grind arith, all xs)
-without-is (j ∷ js) p stubs =
-    ap (without_all js) (filter-twice (λ (x : ℕ × StubOf). not (eqb x.0 j)) (λ x. p x.0) stubs)
-    ∙ without-is js (λ q. p q && not (eqb q j)) stubs
-    ∙ filter-same _ _ stubs (all stubs)
-  where
-    flip : (q : ℕ) → eqb q j ≡ eqb j q
-    flip q = grind (arith, nat_tests)
-
-    all : (xs : Stubs) → AllByRecursion (λ x. (((p x.0 && not (eqb x.0 j)) && not (has js x.0)) ≡ (p x.0 && not (eqb j x.0 || has js x.0)))) xs
-    all [] = tt
-    all (x ∷ xs) = (rw (flip x.0) (grind arith), all xs)
+without-is [] p stubs = grind arith
+without-is (j ∷ js) p stubs = grind (arith, filter-twice, filter-same, nat_tests, without-is js (λ q. p q && not (eqb q j)) stubs)
 
 -- an entry that goes leaves others as they are
 pub here-without : (k : ℕ) (stubs : Stubs) (j : ℕ) → offline_at stubs j ≡ false → offline_at (without_stub k stubs) j ≡ false

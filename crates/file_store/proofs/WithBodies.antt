@@ -157,7 +157,7 @@ bodies-after bs cs k (Stub ino j None) c is keeps are = absurd is
 bodies-after bs cs k (Stub ino j (Some stub)) c is keeps are =
     each-known (Bodied cs) (key_on ino c) (file_after (Stub ino j (Some stub))) c.files
     (λ f found was.
-    let seal = is.1 f found in record { size = was.size; here = λ i. was.here i ∙ sym (seal-same j i stub f.kept.stubs seal.here seal.stays) })
+    let seal = is.1 f found in record { size = was.size; here = λ i. grind (arith, seal-same) })
     (same-bodies bs cs c.files (each-all (SameBody bs cs) keeps c.files) are)
 bodies-after bs cs k r c is keeps are =
     each-change (Bodied cs) (key_on (inode_of r) c) (file_after r) c.files (λ f was. record { size = was.size; here = was.here }) (same-bodies bs cs c.files (each-all (SameBody bs cs) keeps c.files) are)
