@@ -1,5 +1,5 @@
 -- A store on a disk of the host: what a crash leaves, and why it isn't opened.
-use Rattle.std.proofs.Common.{ℕ, ◌≡◌, ◌+◌, inl, inr, List, Option, Some, refl, sym, subst, arith}
+use Rattle.std.proofs.Common.{ℕ, ◌≡◌, ◌≢◌, ◌+◌, ◌⊎◌, inl, inr, List, Option, Some, None, refl, sym, subst, arith}
 use Rattle.disk_model.specs.declared.device.Disk as disk
 use Rattle.disk_model.specs.declared.refusal.OpenRefusal.{OpenRefusal}
 use Rattle.disk_model.specs.declared.refusal.OpenRefusal.TheVariants as opening
@@ -15,10 +15,13 @@ use Rattle.plain_model.specs.Synced.{synced}
 use Rattle.file_store.specs.Stores.{Store, IsRecovered, IsDurable}
 use Rattle.hsm_core.specs.Crashes.{IsPrefix}
 use Rattle.hsm_cli.specs.Hosts.{IsHanded}
-use Rattle.hsm_cli.specs.Statuses.{cause_of_refusal}
+use Rattle.hsm_cli.specs.Statuses.{cause_of_refusal, cause_of_host}
 use Rattle.hsm_cli.specs.Told.{SourceTold, SinkTold}
 use Rattle.hsm_cli.specs.declared.causes.Cause.{Cause}
-use Rattle.hsm_cli.specs.Clauses.{IsCrashSafe, IsWhole, IsBeforeRun, RanToItsEnd, Why}
+use Rattle.hsm_cli.specs.declared.causes.Cause.TheVariants.{WordsRefused, HostFault, NoMemory}
+use Rattle.hsm_cli.specs.declared.hosts.HostRefusal.{HostRefusal}
+use Rattle.hsm_cli.specs.declared.hosts.HostRefusal.TheVariants as handing
+use Rattle.hsm_cli.specs.Clauses.{IsCrashSafe, IsWhole, IsBeforeRun, RanToItsEnd, HasBegun, Why}
 use Rattle.hsm_cli.proofs.Running.{rose_later}
 
 plus_nothing : (n : ℕ) → n ≡ n + 0
@@ -75,3 +78,33 @@ module _ {D : Type 0} (g : disk.Ghosts D) (held : List ℕ → Type 0) (handed :
   why_unopened Fails source sink disk (opening.Corrupt place) not_store corrupt failed = λ c holds. corrupt place refl c (by_host.given c holds)
   why_unopened Fails source sink disk opening.Disk not_store corrupt failed = record { disk = disk; back = refl; rose = rose_later 0 (g.fault_count handed) (g.fault_count disk) (omega arith) (failed refl) }
   why_unopened Fails source sink disk opening.Memory not_store corrupt failed = tt
+
+-- why it isn't handed out
+pub why_unhanded : {D : Type 0} (g : disk.Ghosts D) (held : List ℕ → Type 0) (Fails : Type 0) (source : SourceTold) (sink : SinkTold) (disk : Option D) (refusal : HostRefusal) → (refusal ≡ handing.Failed → Fails)
+    → Why g held Fails source sink disk (Some (cause_of_host refusal))
+why_unhanded g held Fails source sink disk handing.Failed fails = fails refl
+why_unhanded g held Fails source sink disk handing.Memory fails = tt
+
+pub back_unhanded : (refusal : HostRefusal) → (Some (cause_of_host refusal) ≡ Some HostFault) ⊎ (Some (cause_of_host refusal) ≡ Some NoMemory)
+back_unhanded handing.Failed = inl refl
+back_unhanded handing.Memory = inr refl
+
+pub words_unhanded : (refusal : HostRefusal) → Some (cause_of_host refusal) ≢ Some WordsRefused
+words_unhanded handing.Failed is = cc
+words_unhanded handing.Memory is = cc
+
+pub begun_unhanded : (S : Type 0) (refusal : HostRefusal) → HasBegun {S = S} None (Some (cause_of_host refusal))
+begun_unhanded S handing.Failed = tt
+begun_unhanded S handing.Memory = tt
+
+pub words_unopened : (refusal : OpenRefusal) → Some (cause_of_refusal refusal) ≢ Some WordsRefused
+words_unopened opening.NotStore is = cc
+words_unopened (opening.Corrupt place) is = cc
+words_unopened opening.Disk is = cc
+words_unopened opening.Memory is = cc
+
+pub begun_unopened : (S : Type 0) (refusal : OpenRefusal) → HasBegun {S = S} None (Some (cause_of_refusal refusal))
+begun_unopened S opening.NotStore = refl
+begun_unopened S (opening.Corrupt place) = refl
+begun_unopened S opening.Disk = tt
+begun_unopened S opening.Memory = tt

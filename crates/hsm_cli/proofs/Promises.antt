@@ -1,5 +1,5 @@
 -- Each form of the words keeps what is promised of a run, by what its function promises.
-use Rattle.std.proofs.Common.{ℕ, ◌≡◌, ◌≢◌, ◌⊎◌, inl, inr, List, [], Option, Some, None, IfSome, IsSome, false, true, refl, sym, ◌∙◌, ap, subst}
+use Rattle.std.proofs.Common.{ℕ, ◌≡◌, ◌≢◌, ◌⊎◌, inl, List, [], Option, Some, None, IfSome, IsSome, false, true, refl, sym, ◌∙◌, ap, subst}
 use Rattle.std.proofs.lemmas.Bool.{false≢true}
 use Rattle.disk_model.specs.declared.device.Disk as disk
 use Rattle.disk_model.specs.Calls.{Rose, raised}
@@ -12,7 +12,6 @@ use Rattle.hsm_replay.specs.Faults.{faults_in, AreTrue}
 use Rattle.script_text.specs.Scripts.{IsScript}
 use Rattle.script_text.specs.Laws.{IsOneScript}
 use Rattle.script_text.specs.declared.lines.Line.{Line}
-use Rattle.hsm_cli.specs.declared.causes.Cause.{Cause}
 use Rattle.hsm_cli.specs.declared.causes.Cause.TheVariants.{WordsRefused, HostFault, NoMemory}
 use Rattle.hsm_cli.specs.declared.hosts.Host as host
 use Rattle.hsm_cli.specs.declared.outcomes.Outcome.{Outcome}
@@ -24,9 +23,9 @@ use Rattle.hsm_cli.specs.Follows.{SettlesOn}
 use Rattle.hsm_cli.specs.Hosts.{StoresAll}
 use Rattle.hsm_cli.specs.Sealing.{IsRightInMemory, IsRightInFolder}
 use Rattle.hsm_cli.specs.Texts.{IsUnwritten, TakesText, IsShown, AreUntold, AreCounted, drill_text}
-use Rattle.hsm_cli.specs.Told.{SourceTold, SinkTold, HostTold, host_told}
+use Rattle.hsm_cli.specs.Told.{SourceTold, SinkTold, host_told}
 use Rattle.hsm_cli.specs.Endings.{WritingEnds, RunEnds, FormatEnds, ShowEnds}
-use Rattle.hsm_cli.specs.Clauses.{HasRun, HasDrilled, HasRead, HasReadOn, IsUnread, IsGoodOver, IsPlainOver, IsCausedOver, NoneFailed, TellsFaults, LegalityClause, PlainClause, MediaClause, LeavesSafe, OnlyReads, IsFormatted, HandsOut, HasFailed, HasDriveFailed, GivesBack, HandsDrives, GivesShown, AsksShown, asked_by, FindsNothing, TakesTranscript, Why, HasBegun, Lacks, LacksShown, StatusClause, ReadsQuietly, WritesQuietly, KeepsQuietly, HandsQuietly, NeverFailed, KeepsPromises}
+use Rattle.hsm_cli.specs.Clauses.{HasRun, HasDrilled, HasRead, HasReadOn, IsUnread, IsGoodOver, IsPlainOver, IsCausedOver, NoneFailed, TellsFaults, LegalityClause, PlainClause, MediaClause, LeavesSafe, OnlyReads, IsFormatted, HandsOut, HasFailed, HasDriveFailed, GivesBack, HandsDrives, GivesShown, AsksShown, asked_by, FindsNothing, TakesTranscript, Why, HasBegun, Lacks, LacksShown, ReadsQuietly, WritesQuietly, KeepsQuietly, HandsQuietly, NeverFailed, KeepsPromises}
 use Rattle.hsm_cli.proofs.Completeness.{status_new, status_store}
 use Rattle.hsm_cli.proofs.Drills.{status_drill}
 use Rattle.hsm_cli.proofs.Faults.{caused_none, none_named}

@@ -35,7 +35,7 @@ unread given faults = record { given = given; left = given; before = faults; now
 abbrev untaken : Option (List ℕ) → ℕ → SinkTold
 untaken taken faults = record { old = taken; new = taken; before = faults; now = faults }
 
-gives_none : (given : Option (List ℕ)) → GivesFirst given given
+pub gives_none : (given : Option (List ℕ)) → GivesFirst given given
 gives_none given = record { bytes = []; consumed = Consumes-nil given; within = omega arith }
 
 module _ {D M : Type 0} (g : disk.Ghosts D) (h : drive.Ghosts M) where

@@ -4,7 +4,8 @@ use Rattle.hsm_cli.specs.Clauses.{GivesBack}
 use Rattle.hsm_cli.specs.Follows.{SettlesOn}
 use Rattle.hsm_cli.specs.Sealing.{TellsOf, IsRightInFolder}
 use Rattle.hsm_cli.specs.Told.{source_told, sink_told, host_told}
-use Rattle.hsm_cli.proofs.Crashes.{crash_safe, why_unopened}
+use Rattle.hsm_cli.proofs.Crashes.{crash_safe, why_unopened, why_unhanded, back_unhanded, words_unhanded, begun_unhanded, words_unopened, begun_unopened}
+use Rattle.hsm_cli.proofs.Running.{served_words, served_begun}
 use Rattle.hsm_cli.proofs.Legality.{legal_as}
 use Rattle.hsm_cli.proofs.Drives.{rose_from, gives_back, none_at_fault, host_failed, why_served, disk_came, drives_came, tallies_since}
 use Rattle.hsm_cli.proofs.Quiet.{unhanded_quiet, unready_told}
@@ -104,3 +105,70 @@ returns-in-Err-open-clause-quiet g c = λ sound ample. c.in-Ok.ensures.cause.qui
 
 pub returns-in-Err-clause-quiet : goal.returns-in-Err-clause-quiet
 returns-in-Err-clause-quiet g c = rw (c.unopened.ensures, c.from.ensures) (λ sound ample. c.in-Err.ensures.cause.quiet (unhanded_quiet c.in-Err.refusal sound))
+
+-- the parts of the record
+
+pub returns-in-Ok-open-clause-reading : goal.returns-in-Ok-open-clause-reading
+returns-in-Ok-open-clause-reading g c = c.run_opened-finished.ensures.reading
+
+pub returns-in-Ok-open-clause-legality : goal.returns-in-Ok-open-clause-legality
+returns-in-Ok-open-clause-legality g c =
+    let old = g.H.Disk.Disk.fault_count c.in-Ok-open.hsm.opened.disk in
+    let new = g.H.Disk.Disk.fault_count c.run_opened-finished.result.disk in
+    record {
+      from = rw c.run_opened-finished.ensures.opening c.run_opened-finished.ensures.legality;
+      caused = λ is. record { disk = c.run_opened-finished.result.disk; back = refl; rose = rose_from 0 old new (omega arith) (c.run_opened-finished.ensures.caused is) };
+      told = λ is some. c.run_opened-finished.ensures.told is;
+      faultless = c.run_opened-finished.ensures.faultless;
+    }
+
+pub returns-in-Ok-open-clause-opened : goal.returns-in-Ok-open-clause-opened
+returns-in-Ok-open-clause-opened g c =
+    rw (c.run_opened-finished.ensures.opening, c.in-Ok-open.ensures.opened.0)
+    (c.in-Ok-open.ensures.found.0, λ image held. c.in-Ok-open.ensures.durable image (inr (c.in-Ok-open.ensures.opening.1.1 image (c.in-Ok.ensures.given image held))))
+
+pub returns-in-Ok-open-clause-back : goal.returns-in-Ok-open-clause-back
+returns-in-Ok-open-clause-back g c = λ none. absurd cc
+
+pub returns-in-Ok-open-clause-output : goal.returns-in-Ok-open-clause-output
+returns-in-Ok-open-clause-output g c = record { first = c.run_opened-finished.ensures.first; done = c.run_opened-finished.ensures.done; all = λ works ample. c.run_opened-finished.ensures.all ample works }
+
+pub returns-in-Err-clause-reading : goal.returns-in-Err-clause-reading
+returns-in-Err-clause-reading g c = rw c.unopened.ensures (record { left = refl; faults = refl })
+
+pub returns-in-Err-clause-back : goal.returns-in-Err-clause-back
+returns-in-Err-clause-back g c = rw (c.unopened.ensures, c.from.ensures) (λ none. back_unhanded c.in-Err.refusal)
+
+pub returns-in-Err-clause-why : goal.returns-in-Err-clause-why
+returns-in-Err-clause-why g c =
+    let named = g.H.Host.holds c.args.host.now c.args.path.now in
+    let source = source_told g.I.Source.left g.I.Source.fault_count c.args.source.now c.args.source.now in
+    let sink = sink_told g.O.Sink.taken g.O.Sink.fault_count c.args.sink.now c.args.sink.now in
+    rw (c.unopened.ensures, c.from.ensures) (why_unhanded g.H.Disk.Disk named _ source sink None c.in-Err.refusal c.in-Err.ensures.cause.rose)
+
+pub returns-in-Err-open-clause-reading : goal.returns-in-Err-open-clause-reading
+returns-in-Err-open-clause-reading g c = rw c.unopened-in-Err-open.ensures (record { left = refl; faults = refl })
+
+pub returns-in-Ok-open-clause-command : goal.returns-in-Ok-open-clause-command
+returns-in-Ok-open-clause-command g c =
+    let source = source_told g.I.Source.left g.I.Source.fault_count c.args.source.now c.run_opened-finished.new.source in
+    let sink = sink_told g.O.Sink.taken g.O.Sink.fault_count c.args.sink.now c.run_opened-finished.new.sink in
+    served_words _ _ source sink c.run_opened-finished.result.cause c.run_opened-finished.ensures.ends
+
+pub returns-in-Ok-open-clause-begun : goal.returns-in-Ok-open-clause-begun
+returns-in-Ok-open-clause-begun g c =
+    let source = source_told g.I.Source.left g.I.Source.fault_count c.args.source.now c.run_opened-finished.new.source in
+    let sink = sink_told g.O.Sink.taken g.O.Sink.fault_count c.args.sink.now c.run_opened-finished.new.sink in
+    served_begun _ _ source sink c.run_opened-finished.result.opening.value c.run_opened-finished.result.cause c.run_opened-finished.ensures.ends
+
+pub returns-in-Err-clause-command : goal.returns-in-Err-clause-command
+returns-in-Err-clause-command g c = rw (c.unopened.ensures, c.from.ensures) (words_unhanded c.in-Err.refusal)
+
+pub returns-in-Err-clause-begun : goal.returns-in-Err-clause-begun
+returns-in-Err-clause-begun g c = rw (c.unopened.ensures, c.from.ensures) (begun_unhanded (Store g.row.H-Disk.Denot) c.in-Err.refusal)
+
+pub returns-in-Err-open-clause-command : goal.returns-in-Err-open-clause-command
+returns-in-Err-open-clause-command g c = rw (c.unopened-in-Err-open.ensures, c.from-in-Err-open.ensures) (words_unopened c.in-Err-open.refusal)
+
+pub returns-in-Err-open-clause-begun : goal.returns-in-Err-open-clause-begun
+returns-in-Err-open-clause-begun g c = rw (c.unopened-in-Err-open.ensures, c.from-in-Err-open.ensures) (begun_unopened (Store g.row.H-Disk.Denot) c.in-Err-open.refusal)
