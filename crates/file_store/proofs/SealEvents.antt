@@ -8,12 +8,12 @@ use Rattle.hsm_types.specs.declared.stubs.Fingerprint.{Fingerprint}
 use Rattle.hsm_types.specs.declared.stubs.StubEntry.{StubEntry}
 use Rattle.plain_model.proofs.Bodies.{length-read}
 use Rattle.plain_model.specs.Plain.{segment}
-use Rattle.plain_model.specs.Services.{kept_of, other_stubs}
+use Rattle.plain_model.specs.Services.{kept_of}
 use Rattle.meta_store.specs.Catalogs.{HasLengths}
 use Rattle.file_store.specs.Effects.{IsSeal}
 use Rattle.file_store.proofs.Loaded.{entry-has}
 use Rattle.file_store.proofs.SoundChanges.{restores-lawful, of-length}
-use Rattle.file_store.proofs.FilesBy.{kept-held, kept-found, stubs-others, key_on-live}
+use Rattle.file_store.proofs.FilesBy.{kept-found, key_on-live}
 use Rattle.file_store.proofs.WithBodies.{IsFound, live-held, body-held, is-body}
 
 abbrev sealing : ℕ → StubEntry → FileKey → Record

@@ -43,9 +43,6 @@ body_with bodies f = get_or bodies (f.key.ino - 1) no_body
 abbrev pub bytes_with : List HeldBody → CatalogFile → List ℕ
 bytes_with bodies f = (body_with bodies f).bytes
 
-abbrev pub file_with : List HeldBody → CatalogFile → FileState
-file_with bodies = file_by (bytes_with bodies)
-
 abbrev pub held_with : List HeldBody → Catalog → Held
 held_with bodies = held_by (bytes_with bodies)
 

@@ -1,18 +1,9 @@
 -- The files of a store in memory: what is kept of them beside their bytes, and the bytes.
 use Rattle.std.specs.Prelude.{◌≡◌, List, length}
-use Rattle.plain_model.specs.State.{Held}
 use Rattle.meta_store.specs.Catalogs.{IsCatalog, geometry_of}
 use Rattle.meta_store.specs.Meta.{Meta}
 use Rattle.file_body.specs.HeldBodies.{HeldBody}
-use Rattle.file_store.specs.Bodies.{AreBodies, held_with}
-
-pub record HeldFiles : Type 0 where
-  pub meta : Meta
-  pub held : Held
-
--- with these bodies in memory
-abbrev pub files_with : List HeldBody → Meta → HeldFiles
-files_with bodies m = record { meta = m; held = held_with bodies m.current }
+use Rattle.file_store.specs.Bodies.{AreBodies}
 
 -- the catalog is lawful, each file has a body of its size, whose segments are here exactly where they aren't offline, and there is a body for each inode
 pub record IsHeldFiles (bodies : List HeldBody) (m : Meta) : Type 0 where

@@ -1,4 +1,4 @@
-//! The two ways of an event: records that concern no bytes, and bytes with their records. Each takes the records by one call.
+//! Two of the three ways of an event: a record that concerns no bytes, and bytes with their records. Each hands its records to one call.
 ghost use Rattle.std.specs.Prelude.{◌≡◌, ◌+◌, ◌-◌, ◌*◌, ◌≤◌, ◌<◌, ◌^◌, true, false, if◌then◌else◌, None, Some, Err, length, take, slice_set, IfOk, OnOk, OnErr, IsErrOf, IsSome};
 ghost use Rattle.std.specs.List.{AllByRecursion};
 ghost use Rattle.disk_model.specs.Calls.{Counts};
@@ -32,7 +32,7 @@ use commit_slots::Layout;
 use disk_model::Disk;
 use file_body::Body;
 use hsm_types::FileKey;
-use meta_store::{Catalog, MetaRefusal, Record, Records};
+use meta_store::{Catalog, MetaRefusal, Record};
 use std::alloc::{AllocError, Global};
 use std::snapshot::Snapshot;
 

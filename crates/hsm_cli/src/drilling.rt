@@ -1,5 +1,5 @@
 //! A drill: the script that is made of a number, run on a new small store in memory.
-ghost use Rattle.std.specs.Prelude.{◌≡◌, ◌≢◌, ◌⊎◌, [], length, true, false, None, Some, IfOk, IfErr, IfSome, IsOk, OnOk, IsErrOf};
+ghost use Rattle.std.specs.Prelude.{◌≡◌, ◌≢◌, ◌⊎◌, length, true, false, None, Some, IfOk, IfErr, IfSome, IsOk, OnOk, IsErrOf};
 ghost use Rattle.disk_model.specs.Calls.{Rose};
 ghost use Rattle.plain_model.specs.Faults.{has_fault};
 ghost use Rattle.plain_model.specs.State.{nothing_held};

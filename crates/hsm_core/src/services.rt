@@ -1,11 +1,11 @@
 //! Answers to sessions: a call is judged by its scope, and then by itself. Each reply comes twice, for the session and for the history.
-ghost use Rattle.std.specs.Prelude.{◌≡◌, ◌≤◌, ◌+◌, ℕ, false, true, None, IfOk, IsOk, OnOk, OnErr};
+ghost use Rattle.std.specs.Prelude.{◌≡◌, ◌≤◌, ◌+◌, false, true, None, IfOk, IsOk, OnOk, OnErr};
 ghost use Rattle.hsm_types.specs.Calls.{scope_of};
 ghost use Rattle.plain_model.specs.Services.{dm_reply_to, dm_state_after};
 ghost use Rattle.plain_model.specs.Stands.{InOrder};
 ghost use Rattle.dm_service.specs.Handing.{HandsOut};
 ghost use Rattle.dm_service.specs.Services.{AreBoth, asks_rights, asks_tables, entries_for, is_due, wants_entry_alone};
-ghost use Rattle.dm_service.specs.Tables.{Tables, awaited_in, ledger_of};
+ghost use Rattle.dm_service.specs.Tables.{Tables, awaited_in};
 ghost use Rattle.file_store.specs.Stores.{superblock_of, Proceeds};
 ghost use Rattle.file_store.specs.Changes.{Ends};
 ghost use Rattle.hsm_core.specs.Store.{state_with};

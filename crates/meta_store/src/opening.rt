@@ -1,10 +1,9 @@
 //! What an opening judges: the area of a snapshot, and the gate of a journal.
-ghost use Rattle.std.specs.Prelude.{◌≡◌, ◌≤◌, ◌^◌, ◌+◌, List, ℕ, length, IfOk, IsErrOf, true, false};
+ghost use Rattle.std.specs.Prelude.{◌≡◌, ◌≤◌, ◌+◌, List, ℕ, IfOk, IsErrOf, true, false};
 ghost use Rattle.disk_model.specs.Calls.{HasCause};
 ghost use Rattle.disk_model.specs.Images.{part, Alike};
-ghost use Rattle.disk_model.specs.Moments.{MayBe, Keeps, Same};
-ghost use Rattle.commit_slots.specs.Places.{layout_of, journal_at};
-ghost use Rattle.meta_store.specs.Catalogs.{Catalog, IsCatalog};
+ghost use Rattle.disk_model.specs.Moments.{Keeps, Same};
+ghost use Rattle.meta_store.specs.Catalogs.{Catalog};
 ghost use Rattle.meta_store.specs.Snapshots.{IsSnapshot};
 ghost use Rattle.meta_store.specs.Images.{IsClosed};
 

@@ -1,5 +1,5 @@
 //! Reading a snapshot's bytes.
-ghost use Rattle.std.specs.Prelude.{◌≡◌, List, ℕ, map, IfOk, IsErrOf};
+ghost use Rattle.std.specs.Prelude.{◌≡◌, map, IfOk, IsErrOf};
 ghost use Rattle.meta_store.specs.Snapshots.{Snapshot, IsSpelled, raw_file, raw_snapshot};
 ghost use Rattle.meta_store.specs.Reading.{Gives, both, number_at, bytes_at, several, counted, key_at, region_at, attribute_at, extent_at, stub_in, file_at, snapshot_at};
 

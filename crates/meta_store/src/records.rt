@@ -1,5 +1,5 @@
 //! What events change of what is kept of a store's files beside their bytes, as a journal has it.
-ghost use Rattle.std.specs.Prelude.{◌≡◌, ℕ};
+ghost use Rattle.std.specs.Prelude.{◌≡◌};
 ghost use Rattle.meta_store.specs.Catalogs.{CatalogFile};
 ghost use Rattle.meta_store.specs.Records.{inode_of, file_after};
 

@@ -103,7 +103,9 @@ returns-in-Err g c =
     let at = (goal.at.returns-in-Err g c).After-of-before in
     let failed : c.eq-self-inside.result ≡ is_disk c.in-Err.refusal = search rules in
     let none = ap (λ rs. refusal_of_all rs c.self.inside.meta.current) (records_are g at) ∙ (are_going (given g at) (last g at)).passed in
-    rw (c.in-Err.ensures.err, failed, c.from.ensures, ← c.self.view_is) record { changed = record {
-      held = tt;
-      ends = kept_ends g.D.Disk (parts g at) c.apply.new.disk c.args.number None c.apply.result c.in-Err.refusal c.self.invariant.1 working c.in-Err.is c.apply.ensures.any_moment (λ part is. absurd (let some = (c.apply.ensures.refused part).0 is in cc)) c.apply.ensures.faults;
-    } }
+    rw (c.in-Err.ensures.err, failed, c.from.ensures, ← c.self.view_is) record {
+      changed = record {
+        held = tt;
+        ends = kept_ends g.D.Disk (parts g at) c.apply.new.disk c.args.number None c.apply.result c.in-Err.refusal c.self.invariant.1 working c.in-Err.is c.apply.ensures.any_moment (λ part is. absurd (let some = (c.apply.ensures.refused part).0 is in cc)) c.apply.ensures.faults;
+      };
+    }

@@ -31,11 +31,13 @@ returns-in_err-punch g c =
     let refused : (why : DmRefusal) → c.in_err-punch.field-0.0 ≡ store.Part why → any_unpunched kept.regions kept.stubs c.args.from c.max-end.result ≡ Some why =
     λ why is. rw (c.inode-ino.ensures.kept, ← c.self.view_is, ← c.catalog.ensures.catalog) (c.in_err-punch.ensures.refused why (ap (λ e. Err e) is)) in
     let p = err_from_is_err_and c.from_residual.result c.from_residual.ensures.1 in
-    rw (p.1, p.2) record { changed = record {
-      held = tt;
-      ends = refused_first c.has_failed-failed.ensures.idle c.requires.working _ c.in_err-punch.field-0.0 refl (λ is. c.in_err-punch.ensures.no_disk (ap (λ e. Err e) is))
-          (λ why is. sym (same_judged kept c.args.from _ c.max-end.result (end_is g at)) ∙ refused why is);
-    } }
+    rw (p.1, p.2) record {
+      changed = record {
+        held = tt;
+        ends = refused_first c.has_failed-failed.ensures.idle c.requires.working _ c.in_err-punch.field-0.0 refl (λ is. c.in_err-punch.ensures.no_disk (ap (λ e. Err e) is))
+            (λ why is. sym (same_judged kept c.args.from _ c.max-end.result (end_is g at)) ∙ refused why is);
+      };
+    }
 
 pub returns : goal.returns
 returns g c =

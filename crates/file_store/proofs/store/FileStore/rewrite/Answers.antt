@@ -93,11 +93,13 @@ invariant_of-self g c =
 pub returns-in-Err : goal.returns-in-Err
 returns-in-Err g c =
     let at = goal.at.returns-in-Err g c in
-    rw (c.refused.ensures.refusal, ← c.self.view_is) record { changed = record {
-      held = tt;
-      ends = ends_refused g.D.Disk _ _ c.args.number None (written_proceeds (given g at.After-of-before) (moments g at.After-stage) c.args.number _ _ _) c.stage.result c.in-Err.refusal c.in-Err.is c.refused.ensures.failed
-          (λ part is. absurd (c.stage.ensures.no_part part is)) (λ is. (back g at.After-stage c.in-Err.ensures.err).1) c.stage.ensures.faults;
-    } }
+    rw (c.refused.ensures.refusal, ← c.self.view_is) record {
+      changed = record {
+        held = tt;
+        ends = ends_refused g.D.Disk _ _ c.args.number None (written_proceeds (given g at.After-of-before) (moments g at.After-stage) c.args.number _ _ _) c.stage.result c.in-Err.refusal c.in-Err.is c.refused.ensures.failed
+            (λ part is. absurd (c.stage.ensures.no_part part is)) (λ is. (back g at.After-stage c.in-Err.ensures.err).1) c.stage.ensures.faults;
+      };
+    }
 
 pub apply-requires-clause-backs : goal.apply-requires-clause-backs
 apply-requires-clause-backs g c = let at = goal.at.apply-requires-clause-backs g c in (written_live (given g at.After-of-before) (moments g at.After-stage) (staged g at.In-Ok)).backs
@@ -227,8 +229,10 @@ returns-in-Err-apply g c =
     let at = goal.at.returns-in-Err-apply g c in
     let x = given g at.After-of-before in
     let none = passes x ((staged g at.In-Ok).rewriting x.at.file x.at.found) in
-    rw (c.in-Err-apply.ensures.err, c.refused-in-Err-apply.ensures.refusal, ← c.self.view_is) record { changed = record {
-      held = tt;
-      ends = ends_refused g.D.Disk _ _ c.args.number None (refused_proceeds x (moments g at.After-stage) (staged g at.In-Ok) c.args.number _ c.apply.ensures.any_moment refl refl) c.apply.result c.in-Err-apply.refusal c.in-Err-apply.is
-          c.refused-in-Err-apply.ensures.failed (λ part is. absurd (let some = (c.apply.ensures.refused part).0 is in cc)) (λ is. (back_again g at.After-undo).1) (rw (c.stage.ensures.faults.quiet (λ e. cc)) at c.apply.ensures.faults);
-    } }
+    rw (c.in-Err-apply.ensures.err, c.refused-in-Err-apply.ensures.refusal, ← c.self.view_is) record {
+      changed = record {
+        held = tt;
+        ends = ends_refused g.D.Disk _ _ c.args.number None (refused_proceeds x (moments g at.After-stage) (staged g at.In-Ok) c.args.number _ c.apply.ensures.any_moment refl refl) c.apply.result c.in-Err-apply.refusal c.in-Err-apply.is
+            c.refused-in-Err-apply.ensures.failed (λ part is. absurd (let some = (c.apply.ensures.refused part).0 is in cc)) (λ is. (back_again g at.After-undo).1) (rw (c.stage.ensures.faults.quiet (λ e. cc)) at c.apply.ensures.faults);
+      };
+    }
