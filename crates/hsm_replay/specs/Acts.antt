@@ -30,7 +30,7 @@ use Rattle.hsm_core.specs.Answers.{entry_of, own_answer, IsTold}
 use Rattle.hsm_core.specs.Crashes.{IsSafeNow}
 use Rattle.hsm_core.specs.Kept.{IsKept}
 use Rattle.hsm_core.specs.Store.{Store, KeepsRoom}
-use Rattle.volume_shelf.specs.Shelf.{Reads, Grows, Copied, CopyRefused, Fetched, FetchRefused}
+use Rattle.volume_shelf.specs.Shelf.{Reads, Grows, Copied, CopyRefused, Fetched, FetchRefused, IsFailedCopy, IsFailedFetch}
 use Rattle.hsm_replay.specs.declared.stops.Stop.{Stop}
 use Rattle.hsm_replay.specs.declared.stops.Stop.TheVariants as stop
 use Rattle.hsm_replay.specs.Systems.{System, drive_of}
@@ -92,13 +92,13 @@ OnDriveOf {M = M} volume changes old new = let number : ℕ = drive_of volume ol
     (before : M) × (after : M) × (slice_get old.drives number ≡ Some before) × changes before after × (new ≡ record old { drives = slice_set old.drives number after })
 
 module _ {M : Type 0} (g : drive.Ghosts M) where
-  -- a copy to the drive was answered so
+  -- a copy to the drive was answered so; where that isn't that the drive failed, the drive has counted no fault
   abbrev pub CopiesTo : ℕ → Handle → ℕ → List ℕ → Result StubEntry CopyRefusal → M → M → Type 0
-  CopiesTo volume handle segment bytes told old new = MatchResult told (Copied g volume handle segment bytes old new) (CopyRefused g volume (72 + length bytes) (print_of bytes) old new) × Grows g volume old new
+  CopiesTo volume handle segment bytes told old new = MatchResult told (Copied g volume handle segment bytes old new) (CopyRefused g volume (72 + length bytes) (print_of bytes) old new) × Grows g volume old new × ((IsFailedCopy told → ⊥) → g.fault_count new ≡ g.fault_count old)
 
   -- so was a fetch from it
   abbrev pub FetchesFrom : StubEntry → Result (List ℕ) FetchRefusal → M → M → Type 0
-  FetchesFrom entry told old new = MatchResult told (Fetched g entry old) (FetchRefused g entry old new) × Reads g old new
+  FetchesFrom entry told old new = MatchResult told (Fetched g entry old) (FetchRefused g entry old new) × Reads g old new × ((IsFailedFetch told → ⊥) → g.fault_count new ≡ g.fault_count old)
 
 -- ---- any act
 

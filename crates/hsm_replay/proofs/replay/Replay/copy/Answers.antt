@@ -15,7 +15,7 @@ left g c = record (inside g c) { drives = slice_set (inside g c).drives c.drive_
 on : (g : Over) (c : After-copied g) → OnDriveOf c.args.volume (CopiesTo g.M.Drive c.args.volume c.args.handle.now c.args.segment c.args.bytes.now c.copy.result) c.args.self.now (left g c)
 on g c =
     changed c.args.volume c.drive_of-number.result (CopiesTo g.M.Drive c.args.volume c.args.handle.now c.args.segment c.args.bytes.now c.copy.result) (inside g c) c.args.self.now c.index_mut-drive.result.now c.copy.new.drive c.self.view_is
-    c.drive_of-number.ensures.number c.drive_of-number.ensures.there c.index_mut-drive.ensures.value (c.copy.ensures.answer, c.copy.ensures.grows)
+    c.drive_of-number.ensures.number c.drive_of-number.ensures.there c.index_mut-drive.ensures.value (c.copy.ensures.answer, c.copy.ensures.grows, c.copy.ensures.quiet)
 
 pub returns-clause-performed : goal.returns-clause-performed
 returns-clause-performed g c =

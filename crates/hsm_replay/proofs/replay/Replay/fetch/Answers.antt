@@ -15,7 +15,7 @@ left g c = record (inside g c) { drives = slice_set (inside g c).drives c.drive_
 on : (g : Over) (c : After-fetched g) → OnDriveOf c.args.entry.now.volume (FetchesFrom g.M.Drive c.args.entry.now c.fetch.result) c.args.self.now (left g c)
 on g c =
     changed c.args.entry.now.volume c.drive_of-number.result (FetchesFrom g.M.Drive c.args.entry.now c.fetch.result) (inside g c) c.args.self.now c.index_mut.result.now c.fetch.new.drive c.self.view_is c.drive_of-number.ensures.number
-    c.drive_of-number.ensures.there c.index_mut.ensures.value (c.fetch.ensures.answer, c.fetch.ensures.reads)
+    c.drive_of-number.ensures.there c.index_mut.ensures.value (c.fetch.ensures.answer, c.fetch.ensures.reads, c.fetch.ensures.quiet)
 
 pub returns-clause-performed : goal.returns-clause-performed
 returns-clause-performed g c = fetches g.D.Disk g.M.Drive c.args.self.now (left g c) c.args.entry.now c.fetch.result (on g c) c.fetched.result c.fetched.ensures.fetched
