@@ -10,8 +10,8 @@ use Rattle.file_store.specs.declared.refusal.StoreRefusal.{StoreRefusal}
 use Rattle.file_store.specs.declared.refusal.StoreRefusal.TheVariants.{Part, Memory}
 use Rattle.file_store.specs.Stores.{Store, Proceeds, TellsFaults}
 
--- By what refuses it, if anything does: just that is told then, and all is as before. Without memory all is held as before, and the store works; a fault
--- of the disk closes it. However it ends, it proceeds under that number.
+-- By what refuses it, if anything does: then it isn't done, no other refusal is told, and where that one is told all is as before. Without memory all is
+-- held as before, and the store works; a fault of the disk closes it. However it ends, it proceeds under that number.
 pub record Ends {D T : Type 0} (g : disk.Ghosts D) (old : Store D) (n : ℕ) (refusal : Option DmRefusal) (result : Result T StoreRefusal) (new : Store D) : Type 0 where
   pub judged : OnOk result (refusal ≡ None)
   pub refused : (why : DmRefusal) → IsErrOf result (Part why) → refusal ≡ Some why

@@ -82,7 +82,7 @@ module _ {H D M : Type 0} (t : host.Ghosts H D M) (g : disk.Ghosts D) (h : drive
     drives = (ap (λ (x : Outcome D M). x.drives) is, folders, undriven);
     output = unwritten;
     status = status_format g h (t.holds old) source sink (host_told t.fault_count old new) o path size (idle_told [] is) (idle_new [] is) lent back ends;
-    faults = record { reads = λ sound ample. unread.faults; writes = λ sound working ample. unwritten.faults; keeps = sound; hands = λ sound ample. quiet sound; counts = tt };
+    faults = record { reads = λ sound. unread.faults; writes = λ sound working ample. unwritten.faults; keeps = sound; hands = quiet; counts = tt };
   }
 
   pub show_keeps : (path : List ℕ)
@@ -111,7 +111,7 @@ module _ {H D M : Type 0} (t : host.Ghosts H D M) (g : disk.Ghosts D) (h : drive
     drives = (ap (λ (x : Outcome D M). x.drives) is, folders, undriven);
     output = output;
     status = status_show g h (t.holds old) source sink (host_told t.fault_count old new) o (idle_told [] is) (idle_new [] is) path AreUntold output back lent ends;
-    faults = record { reads = λ sound ample. unread.faults; writes = text_quietly (IsShown (t.holds old path) AreUntold) sink o.cause output; keeps = λ works none. read_quietly g (t.holds old path) o.cause o.disk reads.2 works; hands = λ sound ample. quiet sound; counts = tt };
+    faults = record { reads = λ sound. unread.faults; writes = text_quietly (IsShown (t.holds old path) AreUntold) sink o.cause output; keeps = λ works none. read_quietly g (t.holds old path) o.cause o.disk reads.2 works; hands = quiet; counts = tt };
   }
 
   pub volumes_keep : (path dir : List ℕ)
@@ -144,7 +144,7 @@ module _ {H D M : Type 0} (t : host.Ghosts H D M) (g : disk.Ghosts D) (h : drive
     drives = (drives, folders, driven, unasked);
     output = output;
     status = status_volumes g h (t.holds old) source sink (host_told t.fault_count old new) o (idle_told o.drives is) (idle_new o.drives is) path (AreCounted (t.stores old dir)) output back dir lent first ends;
-    faults = record { reads = λ sound ample. unread.faults; writes = text_quietly (IsShown (t.holds old path) (AreCounted (t.stores old dir))) sink o.cause output; keeps = λ works none. read_quietly g (t.holds old path) o.cause o.disk reads.2 works; hands = λ sound ample. quiet sound; counts = well };
+    faults = record { reads = λ sound. unread.faults; writes = text_quietly (IsShown (t.holds old path) (AreCounted (t.stores old dir))) sink o.cause output; keeps = λ works none. read_quietly g (t.holds old path) o.cause o.disk reads.2 works; hands = quiet; counts = well };
   }
 
   -- ---- forms that run lines on a new store
@@ -197,7 +197,7 @@ module _ {H D M : Type 0} (t : host.Ghosts H D M) (g : disk.Ghosts D) (h : drive
       drives = nothing_left.3;
       output = output;
       status = status_new law g h (t.holds old) source sink (host_told t.fault_count old old) o told nothing_left ends;
-      faults = record { reads = reads; writes = writes; keeps = no_disk; hands = λ sound ample. refl; counts = tt };
+      faults = record { reads = reads; writes = writes; keeps = no_disk; hands = λ sound. refl; counts = tt };
     }
 
     pub drill_keeps : (number : ℕ)
@@ -217,7 +217,7 @@ module _ {H D M : Type 0} (t : host.Ghosts H D M) (g : disk.Ghosts D) (h : drive
       drives = nothing_left.3;
       output = output;
       status = status_drill g h (t.holds old) source sink (host_told t.fault_count old old) o number told nothing_left ends;
-      faults = record { reads = λ sound ample. unread.faults; writes = text_quietly (λ text. text ≡ drill_text number o.history) sink o.cause output; keeps = no_disk; hands = λ sound ample. refl; counts = tt };
+      faults = record { reads = λ sound. unread.faults; writes = text_quietly (λ text. text ≡ drill_text number o.history) sink o.cause output; keeps = no_disk; hands = λ sound. refl; counts = tt };
     }
 
   -- ---- one that runs them on a store of the host
@@ -246,7 +246,7 @@ module _ {H D M : Type 0} (t : host.Ghosts H D M) (g : disk.Ghosts D) (h : drive
       → KeepsQuietly g o.history o.cause o.disk
       → ReadsQuietly source o.cause
       → WritesQuietly sink o.cause
-      → HandsQuietly (opened_in o) (host_told t.fault_count old new) o.cause
+      → HandsQuietly (host_told t.fault_count old new) o.cause
       → Why g (t.holds old path) (Rose (t.fault_count old) (t.fault_count new)) source sink o.disk o.cause
       → KeepsPromises t g h (Some (ReplayStore path dir)) old new source sink o
   store_keeps path dir law told command script reading legality plain media caused crash output hands asked unmade lent drives folders driven begun opened back sound reads writes quiet why = record {

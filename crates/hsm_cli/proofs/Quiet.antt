@@ -1,5 +1,5 @@
 -- Counts of faults that stay as they were where no fault is told.
-use Rattle.std.proofs.Common.{◌≡◌, ◌≢◌, ◌∙◌, ◌⊎◌, ⊎_elim, ℕ, Bool, true, false, List, [], ◌∷◌, Option, Some, None, Result, Ok, Err, IfErr, IsErrOf, IfSome, refl, sym, ap}
+use Rattle.std.proofs.Common.{◌≡◌, ◌≢◌, ◌∙◌, ◌⊎◌, ⊎_elim, ℕ, Bool, true, false, List, [], ◌∷◌, Option, Some, None, Result, Ok, Err, IfErr, IsErrOf, IsOk, IfSome, refl, sym, ap, subst}
 use Rattle.std.proofs.lemmas.Bool.{false≢true}
 use Rattle.std.specs.Prelude.{map}
 use Rattle.disk_model.specs.declared.device.Disk as disk
@@ -21,12 +21,18 @@ use Rattle.hsm_cli.specs.Texts.{TakesText}
 use Rattle.hsm_cli.specs.Told.{SourceTold, SinkTold, HostTold}
 use Rattle.hsm_cli.specs.Endings.{cause_in, WritingEnds, first_of}
 use Rattle.hsm_cli.specs.Clauses.{HasRun, ComesBackRead, ReadsQuietly, WritesQuietly, NeverFailed, CountsQuietly, FaultsClause}
-use Rattle.hsm_cli.proofs.Telling.{read_by}
 
 -- ---- what a run reads and writes
 
-pub reads_quietly : (source : SourceTold) (sink : SinkTold) (ran written : Result (Unit {0}) Cause) → IfErr written (WritingEnds sink) → ((IsErrOf ran ReadFault → ⊥) → source.now ≡ source.before) → ReadsQuietly source (first_of (cause_in ran) (cause_in written))
-reads_quietly source sink ran written writes quiet = read_by (ReadsQuietly source) sink ran written writes (λ sound ample. quiet (λ is. sound (ap cause_in is))) (λ sound ample. absurd (ample refl)) (λ before sound ample. before (λ is. absurd cc) (λ is. absurd cc))
+-- where the transcript was written, what ended the run is told
+told_first : (ran written : Result (Unit {0}) Cause) (why : Cause) → cause_in ran ≡ Some why → IsOk written → first_of (cause_in ran) (cause_in written) ≡ Some why
+told_first ran (Ok x) why is written = ap (λ c. first_of c None) is
+told_first ran (Err e) why is written = absurd cc
+
+-- a fault of the host in asking for drives, after which nothing was run
+pub lent_first : {V : Type 0} (ready : Result V Cause) (ran written : Result (Unit {0}) Cause) → IfErr ready (λ why. cause_in ran ≡ Some why) → IsOk written → IsErrOf ready HostFault → first_of (cause_in ran) (cause_in written) ≡ Some HostFault
+lent_first (Ok ds) ran written told wrote is = absurd cc
+lent_first (Err why) ran written told wrote is = let same : why ≡ HostFault = cc in told_first ran written HostFault (told ∙ ap Some same) wrote
 
 -- a run that tells no fault of the disk leaves a store that works
 pub works_still : (failed faulty : Bool) (ran : Result (Unit {0}) Cause) → (failed ≡ true → IsErrOf ran DiskFault) → (IsErrOf ran DiskFault → faulty ≡ true) → faulty ≡ false → failed ≡ false
@@ -45,6 +51,12 @@ module _ (Settles : List Line → List Mark → Type 0) (Tells : List Mark → T
   unrun (Corrupt place) run sound working ample = run
   unrun ReadFault run sound working ample = run
   unrun HostFault run sound working ample = run
+
+  -- a fault of the source ends the run before its first line, and the transcript is empty
+  pub reads_quietly : (ran written : Result (Unit {0}) Cause) → HasRun Settles Tells commits source (cause_in ran) history → (history ≡ [] → IsOk written) → ((IsErrOf ran ReadFault → ⊥) → source.now ≡ source.before) → ReadsQuietly source (first_of (cause_in ran) (cause_in written))
+  reads_quietly ran written runs wrote quiet = λ sound. quiet (λ is.
+      let told : cause_in ran ≡ Some ReadFault = ap cause_in is in
+      sound (told_first ran written ReadFault told (wrote (subst (λ c. HasRun Settles Tells commits source c history) told runs))))
 
   -- the transcript of a run that ran nothing is empty
   pub writes_quietly : (sink : SinkTold) (ran written : Result (Unit {0}) Cause) → IfErr written (WritingEnds sink) → HasRun Settles Tells commits source (cause_in ran) history → ((IsErrOf written WriteFault → ⊥) → sink.now ≡ sink.before) → (history ≡ [] → sink.now ≡ sink.before)
@@ -86,11 +98,6 @@ pub unhanded_quiet : {T : Type 0} (refusal : HostRefusal) → Some (cause_of_hos
 unhanded_quiet handing.Failed sound is = sound refl
 unhanded_quiet handing.Memory sound is = cc
 
--- a fault of the host in asking for drives is told, or want of memory
-pub unready_told : {V : Type 0} (ready : Result V Cause) (cause : Option Cause) → IfErr ready (λ why. (cause ≡ Some why) ⊎ (cause ≡ Some NoMemory)) → cause ≢ Some HostFault → cause ≢ Some NoMemory → IsErrOf ready HostFault → ⊥
-unready_told (Ok ds) cause told sound ample is = cc
-unready_told (Err why) cause told sound ample is = let same : why ≡ HostFault = cc in ⊎_elim (λ e. sound (e ∙ ap Some same)) ample told
-
 -- and where classes weren't counted
 pub uncounted_quiet : {T : Type 0} (S : Type 0) (refusal : ReconcileRefusal) → (IsErrOf {T = T} (Err (cause_of_classes refusal)) HostFault → ⊥) → TellsFailed {T = S} (Err refusal) → ⊥
 uncounted_quiet S (counting.Failed volume) sound told = sound refl
@@ -119,4 +126,4 @@ counts_none h (Some (Drill number)) cause = tt
 
 pub faults_idle : {D M : Type 0} (g : disk.Ghosts D) (h : drive.Ghosts M) (cause : Option Cause) (form : Option Form) (source : SourceTold) (sink : SinkTold) (host : HostTold) → source.now ≡ source.before → sink.now ≡ sink.before → host.now ≡ host.before
     → FaultsClause g h form source sink host (ended_with {D = D} {M = M} cause [] None)
-faults_idle g h cause form source sink host unread unwritten unasked = record { reads = λ sound ample. unread; writes = λ sound working ample. unwritten; keeps = λ works none. tt; hands = λ sound ample. unasked; counts = counts_none h form cause }
+faults_idle g h cause form source sink host unread unwritten unasked = record { reads = λ sound. unread; writes = λ sound working ample. unwritten; keeps = λ works none. tt; hands = λ sound. unasked; counts = counts_none h form cause }

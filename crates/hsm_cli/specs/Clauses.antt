@@ -544,11 +544,11 @@ pub record StatusClause {D M : Type 0} (g : disk.Ghosts D) (h : drive.Ghosts M) 
 
 -- ---- the faults clause
 
--- a source has failed only where that is told, or want of memory
+-- a source has failed only where that is told
 abbrev pub ReadsQuietly : SourceTold → Option Cause → Type 0
-ReadsQuietly source cause = cause ≢ Some ReadFault → cause ≢ Some NoMemory → source.now ≡ source.before
+ReadsQuietly source cause = cause ≢ Some ReadFault → source.now ≡ source.before
 
--- a sink has failed only where that is told, or a fault of the disk or want of memory, which came before
+-- a sink has failed only where that is told, or a fault of the disk, or want of memory
 abbrev pub WritesQuietly : SinkTold → Option Cause → Type 0
 WritesQuietly sink cause = cause ≢ Some WriteFault → cause ≢ Some DiskFault → cause ≢ Some NoMemory → sink.now ≡ sink.before
 
@@ -556,9 +556,9 @@ WritesQuietly sink cause = cause ≢ Some WriteFault → cause ≢ Some DiskFaul
 abbrev pub KeepsQuietly : {D : Type 0} → disk.Ghosts D → List Entry → Option Cause → Option D → Type 0
 KeepsQuietly g history cause disk = cause ≢ Some DiskFault → has_fault history ≡ false → IfSome disk (λ d. g.fault_count d ≡ 0)
 
--- a host has failed only where that is told, or, in a run on a store that was opened, want of memory
-abbrev pub HandsQuietly : {S : Type 0} → Option S → HostTold → Option Cause → Type 0
-HandsQuietly opened host cause = cause ≢ Some HostFault → (IsSome opened → cause ≢ Some NoMemory) → host.now ≡ host.before
+-- a host has failed only where that is told
+abbrev pub HandsQuietly : HostTold → Option Cause → Type 0
+HandsQuietly host cause = cause ≢ Some HostFault → host.now ≡ host.before
 
 -- no drive has failed
 abbrev pub NeverFailed : {M : Type 0} → drive.Ghosts M → List M → Type 0
@@ -569,12 +569,12 @@ abbrev pub CountsQuietly : {M : Type 0} → drive.Ghosts M → Option Form → O
 CountsQuietly g (Some (ShowVolumes path dir)) cause drives = cause ≢ Some HostFault → NeverFailed g drives
 CountsQuietly g other cause drives = Unit {0}
 
--- No fault is passed over: what has failed in a run is told, or something that is told before it.
+-- No fault is passed over of a source, a host or a disk, nor, in `show PATH DIR`, of a drive, nor of a sink where nothing else is told: where it isn't told, none came.
 pub record FaultsClause {D M : Type 0} (g : disk.Ghosts D) (h : drive.Ghosts M) (form : Option Form) (source : SourceTold) (sink : SinkTold) (host : HostTold) (o : Outcome D M) : Type 0 where
   pub reads : ReadsQuietly source o.cause
   pub writes : WritesQuietly sink o.cause
   pub keeps : KeepsQuietly g o.history o.cause o.disk
-  pub hands : HandsQuietly (opened_in o) host o.cause
+  pub hands : HandsQuietly host o.cause
   pub counts : CountsQuietly h form o.cause o.drives
 
 -- ---- all of them

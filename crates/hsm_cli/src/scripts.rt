@@ -1,5 +1,5 @@
 //! A run of a script on an opened store, from the source to the sink.
-ghost use Rattle.std.specs.Prelude.{◌≡◌, ◌≢◌, ◌⊎◌, ℕ, List, [], length, true, false, take, None, Some, IfOk, IfErr, IfSome, OnOk, OnErr, IsErrOf, MatchResult};
+ghost use Rattle.std.specs.Prelude.{◌≡◌, ◌≢◌, ◌⊎◌, ℕ, List, [], length, true, false, take, None, Some, IfOk, IfErr, IfSome, OnOk, OnErr, IsOk, IsErrOf, MatchResult};
 ghost use Rattle.std.specs.Io.KnownBytes.{Appends, IsAtEnd};
 ghost use Rattle.disk_model.specs.Calls.{Rose};
 ghost use Rattle.disk_model.specs.Moments.{MayBe, LeavesOnly};
@@ -91,6 +91,7 @@ pub(crate) fn run_opened<D: Disk, M: Drive, I: Source, O: Sink>(
     ensures done { result.cause ≡ None → Appends (O.taken sink.old) (O.taken sink.new) (text_of result.history) }
     ensures all { result.cause ≢ Some Cause.NoMemory → (Rose (O.fault_count sink.old) (O.fault_count sink.new) → ⊥) → Appends (O.taken sink.old) (O.taken sink.new) (text_of result.history) }
     ensures unready { IfErr drives (λ why. (result.cause ≡ Some why) ⊎ (result.cause ≡ Some Cause.NoMemory)) }
+    ensures lent { IsErrOf drives Cause.HostFault → result.cause ≡ Some Cause.HostFault }
     ensures sound { has_fault result.history ≡ false → D.fault_count result.disk ≡ D.fault_count hsm.opened.disk }
     ensures reads { ReadsQuietly (source_told I.left I.fault_count source.old source.new) result.cause }
     ensures writes { WritesQuietly (sink_told O.taken O.fault_count sink.old sink.new) result.cause }
@@ -216,14 +217,17 @@ fn read_script<I: Source>(alloc: Global, source: &mut I) -> Result<Script, Cause
     }
 }
 
-/// Writes the text of a history, which is empty where nothing happened: then the sink is left alone.
+/// Writes the text of a history. Where nothing happened it is empty: then it takes no memory, and the sink is left alone.
 fn write_transcript<O: Sink>(alloc: Global, sink: &mut O, history: &History) -> Result<(), Cause>
     ensures first { (n : ℕ) × Appends (O.taken sink.old) (O.taken sink.new) (take n (text_of history.now)) }
     ensures all { OnOk result (Appends (O.taken sink.old) (O.taken sink.new) (text_of history.now)) }
     ensures refused { IfErr result (λ why. WritingEnds (sink_told O.taken O.fault_count sink.old sink.new) why) }
     ensures quiet { (IsErrOf result Cause.WriteFault → ⊥) → O.fault_count sink.new ≡ O.fault_count sink.old }
-    ensures idle { history.now ≡ [] → sink.new ≡ sink.old }
+    ensures idle { history.now ≡ [] → IsOk result × (sink.new ≡ sink.old) }
 {
+    if history.as_slice().is_empty() {
+        return Ok(());
+    }
     let Ok(text) = render(alloc, history.as_slice()) else {
         return Err(Cause::NoMemory);
     };

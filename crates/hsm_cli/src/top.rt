@@ -195,7 +195,7 @@ fn replay_store<H: Host, I: Source, O: Sink>(
     ensures reads { ReadsQuietly (source_told I.left I.fault_count source.old source.new) result.cause }
     ensures writes { WritesQuietly (sink_told O.taken O.fault_count sink.old sink.new) result.cause }
     ensures sound { KeepsQuietly H.Disk.Disk result.history result.cause result.disk }
-    ensures quiet { HandsQuietly (opened_in result) (host_told H.fault_count host.old host.new) result.cause }
+    ensures quiet { HandsQuietly (host_told H.fault_count host.old host.new) result.cause }
     ensures why { Why H.Disk.Disk (H.holds host.old path.now) (Rose (H.fault_count host.old) (H.fault_count host.new)) (source_told I.left I.fault_count source.old source.new) (sink_told O.taken O.fault_count sink.old sink.new) result.disk result.cause }
 {
     let disk = match host.disk(path) {

@@ -1,10 +1,10 @@
-use Rattle.std.proofs.Common.{◌≡◌, ◌∙◌, None, false, ap, subst}
+use Rattle.std.proofs.Common.{◌≡◌, ◌∙◌, [], None, OnErr, false, ap, subst}
 use Rattle.file_store.specs.Stores.{Store as FileStore}
 use Rattle.hsm_cli.specs.Clauses.{HasRead, IsWhole}
 use Rattle.hsm_cli.proofs.Committing.{ran_well, on_none, whole}
 use Rattle.hsm_cli.proofs.Daemons.{run_is_well}
 use Rattle.hsm_cli.proofs.Faults.{caused_served}
-use Rattle.hsm_cli.proofs.Quiet.{works_still, reads_quietly, writes_quietly}
+use Rattle.hsm_cli.proofs.Quiet.{works_still, reads_quietly, writes_quietly, lent_first}
 use Rattle.hsm_cli.proofs.Scripted.{idle_none}
 use Rattle.hsm_cli.proofs.Telling.{told_fault, faultless_unless, fault_caused, read_by, written_if_none, written_if_works, told_unready, run_ends}
 use Rattle.hsm_cli.specs.Endings.{cause_in}
@@ -80,13 +80,20 @@ returns-clause-ends g c = rw (c.close-disk.ensures.disk, c.first_cause.ensures, 
 pub returns-clause-reads : goal.returns-clause-reads
 returns-clause-reads g c =
     rw c.first_cause.ensures
-    (reads_quietly (source_told g.I.Source.left g.I.Source.fault_count c.args.source.now c.run_with-ended.new.source) (sink_told g.O.Sink.taken g.O.Sink.fault_count c.args.sink.now c.write_transcript-written.new.sink) c.run_with-ended.result.ended c.write_transcript-written.result c.write_transcript-written.ensures.refused c.run_with-ended.ensures.quiet)
+    (reads_quietly _ _ c.args.commits (source_told g.I.Source.left g.I.Source.fault_count c.args.source.now c.run_with-ended.new.source) _ c.run_with-ended.result.ended c.write_transcript-written.result c.run_with-ended.ensures.ran
+    (λ none. (c.write_transcript-written.ensures.idle (c.close-disk.ensures.entries ∙ none)).0) c.run_with-ended.ensures.quiet)
+
+pub returns-clause-lent : goal.returns-clause-lent
+returns-clause-lent g c =
+    let idle = idle_none (λ s. s.history) c.args.hsm c.run_with-ended.result.hsm c.args.drives c.requires.anew.history c.run_with-ended.ensures.idle in
+    rw c.first_cause.ensures
+    (λ is. lent_first c.args.drives c.run_with-ended.result.ended c.write_transcript-written.result c.run_with-ended.ensures.unready (c.write_transcript-written.ensures.idle (c.close-disk.ensures.entries ∙ subst (λ d. OnErr d (c.run_with-ended.result.hsm.history ≡ [])) is idle)).0 is)
 
 pub returns-clause-writes : goal.returns-clause-writes
 returns-clause-writes g c =
     rw c.first_cause.ensures
     (writes_quietly _ _ c.args.commits (source_told g.I.Source.left g.I.Source.fault_count c.args.source.now c.run_with-ended.new.source) _ (sink_told g.O.Sink.taken g.O.Sink.fault_count c.args.sink.now c.write_transcript-written.new.sink) c.run_with-ended.result.ended c.write_transcript-written.result c.write_transcript-written.ensures.refused
-    c.run_with-ended.ensures.ran c.write_transcript-written.ensures.quiet (λ none. ap g.O.Sink.fault_count (c.write_transcript-written.ensures.idle (c.close-disk.ensures.entries ∙ none))))
+    c.run_with-ended.ensures.ran c.write_transcript-written.ensures.quiet (λ none. ap g.O.Sink.fault_count (c.write_transcript-written.ensures.idle (c.close-disk.ensures.entries ∙ none)).1))
 
 pub returns-clause-sound : goal.returns-clause-sound
 returns-clause-sound g c =

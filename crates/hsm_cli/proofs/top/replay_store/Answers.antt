@@ -8,7 +8,7 @@ use Rattle.hsm_cli.proofs.Crashes.{crash_safe, why_unopened, why_unhanded, back_
 use Rattle.hsm_cli.proofs.Running.{served_words, served_begun}
 use Rattle.hsm_cli.proofs.Legality.{legal_as}
 use Rattle.hsm_cli.proofs.Drives.{rose_from, gives_back, none_at_fault, host_failed, why_served, disk_came, drives_came, tallies_since}
-use Rattle.hsm_cli.proofs.Quiet.{unhanded_quiet, unready_told}
+use Rattle.hsm_cli.proofs.Quiet.{unhanded_quiet}
 use Rattle.hsm_cli.proofs.Scripted.{also_well, ran_with}
 use Rattle.hsm_cli.proofs.Sealing.{right_since}
 use Rattle.hsm_cli.proofs.Showings.{unopened_quiet}
@@ -98,13 +98,13 @@ pub returns-in-Err-open-clause-sound : goal.returns-in-Err-open-clause-sound
 returns-in-Err-open-clause-sound g c = rw (c.unopened-in-Err-open.ensures, c.from-in-Err-open.ensures) (λ works none. c.in-Err-open.ensures.faults.quiet (unopened_quiet c.in-Err-open.refusal works) ∙ c.in-Ok.ensures.counted)
 
 pub returns-in-Ok-open-clause-quiet : goal.returns-in-Ok-open-clause-quiet
-returns-in-Ok-open-clause-quiet g c = λ sound ample. c.ask_for_drives-drives.ensures.quiet (unready_told c.ask_for_drives-drives.result c.run_opened-finished.result.cause c.run_opened-finished.ensures.unready sound (ample refl)) ∙ c.in-Ok.ensures.cause.quiet (λ is. cc)
+returns-in-Ok-open-clause-quiet g c = λ sound. c.ask_for_drives-drives.ensures.quiet (λ is. sound (c.run_opened-finished.ensures.lent is)) ∙ c.in-Ok.ensures.cause.quiet (λ is. cc)
 
 pub returns-in-Err-open-clause-quiet : goal.returns-in-Err-open-clause-quiet
-returns-in-Err-open-clause-quiet g c = λ sound ample. c.in-Ok.ensures.cause.quiet (λ is. cc)
+returns-in-Err-open-clause-quiet g c = λ sound. c.in-Ok.ensures.cause.quiet (λ is. cc)
 
 pub returns-in-Err-clause-quiet : goal.returns-in-Err-clause-quiet
-returns-in-Err-clause-quiet g c = rw (c.unopened.ensures, c.from.ensures) (λ sound ample. c.in-Err.ensures.cause.quiet (unhanded_quiet c.in-Err.refusal sound))
+returns-in-Err-clause-quiet g c = rw (c.unopened.ensures, c.from.ensures) (λ sound. c.in-Err.ensures.cause.quiet (unhanded_quiet c.in-Err.refusal sound))
 
 -- the parts of the record
 
