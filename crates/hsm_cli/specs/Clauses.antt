@@ -569,7 +569,7 @@ abbrev pub CountsQuietly : {M : Type 0} → drive.Ghosts M → Option Form → O
 CountsQuietly g (Some (ShowVolumes path dir)) cause drives = cause ≢ Some HostFault → NeverFailed g drives
 CountsQuietly g other cause drives = Unit {0}
 
--- No fault is passed over of a source, a host or a disk, nor, in `show PATH DIR`, of a drive, nor of a sink where nothing else is told: where it isn't told, none came.
+-- What has failed is told: a source, a host or a disk, a drive whose objects are counted, and a sink, unless something else is told.
 pub record FaultsClause {D M : Type 0} (g : disk.Ghosts D) (h : drive.Ghosts M) (form : Option Form) (source : SourceTold) (sink : SinkTold) (host : HostTold) (o : Outcome D M) : Type 0 where
   pub reads : ReadsQuietly source o.cause
   pub writes : WritesQuietly sink o.cause
