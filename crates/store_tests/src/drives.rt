@@ -9,7 +9,7 @@ use std::process::Abort;
 use std::test::Fail;
 
 /// How many bytes a volume may have by the default settings.
-const CAPACITY: u64 = 67_108_864;
+pub(crate) const CAPACITY: u64 = 67_108_864;
 
 /// What is told of a run with drives: its status, the entries of its history, and how many objects the volume 0 has where drives came back.
 #[derive(Clone, Copy, Debug, PartialEq, Eq)]
@@ -63,9 +63,9 @@ fn drives_with_object(alloc: Global, count: u32, capacity: u64) -> Result<ListOf
     }
 }
 
-/// Puts such drives into the folder `d`.
-fn put_object(alloc: Global, host: &mut MemHost, count: u32, capacity: u64) -> Result<(), Fail> {
-    match host.put_drives("d", drives_with_object(alloc, count, capacity)?) {
+/// Puts the drives into the folder `d`.
+pub(crate) fn put(host: &mut MemHost, drives: ListOf<MemDrive>) -> Result<(), Fail> {
+    match host.put_drives("d", drives) {
         Ok(()) => Ok(()),
         Err((refusal, _)) => Err(refusal.into()),
     }
@@ -143,7 +143,7 @@ static CASES: [Case; 5] = [
 fn told_in(alloc: Global, image: &[u8], case: &Case) -> Result<Told, Fail> {
     let mut host = host_of(alloc, image, None)?;
     if let Some((count, capacity)) = case.put {
-        put_object(alloc, &mut host, count, capacity)?;
+        put(&mut host, drives_with_object(alloc, count, capacity)?)?;
     }
     Ok(replayed(alloc, &mut host, case.script)?)
 }

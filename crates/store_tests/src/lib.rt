@@ -9,6 +9,8 @@ mod disk_faults;
 #[cfg(test)]
 mod drives;
 #[cfg(test)]
+mod fetches;
+#[cfg(test)]
 mod hosts;
 #[cfg(test)]
 mod media;

@@ -4,7 +4,7 @@
 use disk_model::{Disk, FuseDisk, MemDisk};
 use hsm_cli::{MemHost, Outcome, hsm_main};
 use hsm_types::ListOf;
-use media_model::MemDrive;
+use media_model::{Drive, MemDrive};
 use plain_model::History;
 use script_text::{MemorySink, MemorySource, Sink, Source};
 use std::alloc::{AllocError, Global};
@@ -43,7 +43,8 @@ pub(crate) struct Ran {
     sink: MemorySink,
 }
 
-/// The numbers that are told of a run. Faults of the disk are told where one came back.
+/// The numbers that are told of a run. Faults of the disk are told where one came back, and those of the drives that came
+/// back are added.
 #[derive(Clone, Copy, Debug, PartialEq, Eq)]
 pub(crate) struct Numbers {
     pub status: u8,
@@ -53,6 +54,7 @@ pub(crate) struct Numbers {
     pub source_faults: u64,
     pub sink_faults: u64,
     pub disk_faults: Option<u64>,
+    pub drive_faults: u64,
 }
 
 /// What is told of a run that did nothing and ended well.
@@ -64,6 +66,7 @@ pub(crate) const NOTHING: Numbers = Numbers {
     source_faults: 0,
     sink_faults: 0,
     disk_faults: None,
+    drive_faults: 0,
 };
 
 /// What is told of a run: its numbers, and what its sink took.
@@ -156,6 +159,14 @@ fn faults_of(disk: &FuseDisk<MemDisk>) -> u64 {
     disk.faults()
 }
 
+fn faults_in(drives: &[MemDrive]) -> u64 {
+    let mut faults: u64 = 0;
+    for drive in drives {
+        faults = faults.saturating_add(drive.faults());
+    }
+    faults
+}
+
 fn numbers_of(ran: &Ran) -> Numbers {
     Numbers {
         status: ran.ending.status,
@@ -165,6 +176,7 @@ fn numbers_of(ran: &Ran) -> Numbers {
         source_faults: ran.source.faults(),
         sink_faults: ran.sink.faults(),
         disk_faults: ran.ending.disk.as_ref().map(faults_of),
+        drive_faults: faults_in(ran.ending.drives.as_slice()),
     }
 }
 
