@@ -1,0 +1,431 @@
+"""What the tools have in common beside the reading of stores: their words, their progress, runs of the program, and what a transcript tells.
+"""
+
+import argparse
+import os
+import re
+import subprocess
+import sys
+import time
+from collections.abc import Callable, Iterable, Iterator
+from dataclasses import dataclass, field
+from pathlib import Path
+
+from stores import BLOCK, SEGMENT, Entry, File, Refused, Store, Volumes, open_store
+
+TOP = Path(__file__).resolve().parent.parent
+MOST_LINES = 100_000
+MOST_LINE = 4096
+MOST_ACCESSED = 536_870_912
+HIGH, LOW = 80, 60
+VOLUMES = 8
+CAPACITY = 67_108_864
+
+DONE, FOUND, REFUSED = 0, 1, 2
+
+
+# ---- words, progress and ends
+
+
+def words(about: str, statuses: str) -> argparse.ArgumentParser:
+    """A reader of words. The statuses stand behind the options in the help."""
+    parser = argparse.ArgumentParser(description=about, epilog=statuses, formatter_class=argparse.RawDescriptionHelpFormatter, allow_abbrev=False)
+    parser.add_argument("--progress", action="store_true", help="tell of long work on standard error, also where that is no terminal")
+    return parser
+
+
+def with_store(parser: argparse.ArgumentParser) -> None:
+    parser.add_argument("store", metavar="STORE", help="the file of the store")
+    parser.add_argument("volumes", metavar="VOLUMES", help="the folder of its volumes")
+
+
+def with_program(parser: argparse.ArgumentParser) -> None:
+    parser.add_argument("--program", metavar="PATH", help="the program hsm; else the launcher beside the repository's top")
+    parser.add_argument("--log", metavar="FILE", help="where the transcript goes; a file that is there is never written over")
+    parser.add_argument("--new-volumes", action="store_true", help="make the folder of volumes where it isn't there: for the first run of a store")
+
+
+class Progress:
+    """Tells on standard error how far long work has come."""
+
+    def __init__(self, what: str, total: int, unit: str, forced: bool) -> None:
+        self.what, self.total, self.unit = what, total, unit
+        self.done = 0
+        self.terminal = sys.stderr.isatty()
+        self.on = forced or self.terminal
+        self.told = time.monotonic() if self.terminal else 0.0
+
+    def __enter__(self) -> "Progress":
+        return self
+
+    def __exit__(self, *_: object) -> None:
+        if self.on and self.terminal:
+            sys.stderr.write("\r\x1b[K")
+
+    def add(self, count: int) -> None:
+        self.done += count
+        now = time.monotonic()
+        if self.on and now - self.told > 0.5:
+            self.told = now
+            text = f"{self.what}: {self.done:,} of {self.total:,} {self.unit}"
+            sys.stderr.write(f"\r{text}\x1b[K" if self.terminal else f"{text}\n")
+            sys.stderr.flush()
+
+
+def say(text: object) -> None:
+    """Tells on standard error."""
+    print(text, file=sys.stderr, flush=True)
+
+
+def ended(tool: str, main: Callable[[], int]) -> None:
+    """Ends a tool with its status. What is refused is told, each line with the tool's name in front."""
+    try:
+        status = main()
+        sys.stdout.flush()
+    except BrokenPipeError:
+        os.dup2(os.open(os.devnull, os.O_WRONLY), sys.stdout.fileno())
+        status = REFUSED
+    except KeyboardInterrupt:
+        status = 130
+    except (Refused, OSError) as refused:
+        for line in str(refused).splitlines():
+            say(f"{tool}: {line}")
+        status = REFUSED
+    sys.exit(status)
+
+
+# ---- what is tested before a run
+
+
+def count(number: int, what: str) -> str:
+    """A number with its noun."""
+    return f"{number:,} {what}{'' if number == 1 else 's'}"
+
+
+def bad_entries(entries: Iterable[tuple[File, Entry]], volumes: Volumes) -> Iterator[tuple[File, Entry, str]]:
+    """The entries of which the object isn't intact, and what it is."""
+    for file, entry in entries:
+        _, why = volumes.payload(entry)
+        if why != "intact":
+            yield file, entry, why
+
+
+def told_entry(file: File, entry: Entry, why: str) -> str:
+    return f"{file.name}: segment {entry.segment}: object {entry.volume}.{entry.object} is {why}"
+
+
+def check_words(store: str, volumes: str) -> None:
+    """Refuses what the program would not take for a path."""
+    for word in (store, volumes):
+        if not word or word.startswith("-"):
+            raise Refused(f"{word!r} can't name a store or a folder: write ./{word}" if word else "a path is empty")
+
+
+def check_folder(volumes: Volumes, new: bool) -> None:
+    """Refuses a folder of volumes that isn't there. A new one may be missing, but not the folder that it is to be in."""
+    if new and not volumes.folder.exists():
+        parent = volumes.folder.parent
+        if not parent.is_dir() or not os.access(parent, os.W_OK | os.X_OK):
+            raise Refused(f"{volumes.folder}: can't be made in {parent}")
+        return
+    try:
+        volumes.check()
+    except Refused as refused:
+        raise Refused(f"{refused}; --new-volumes makes one") from None
+    if not os.access(volumes.folder, os.R_OK | os.W_OK | os.X_OK):
+        raise Refused(f"{volumes.folder}: can't be read and written")
+
+
+def check_room(needs: list[tuple[Path, int]]) -> None:
+    """Refuses where a file system has less room than what is to be written into these folders takes."""
+    wanted: dict[int, int] = {}
+    for folder, size in needs:
+        device = os.stat(folder).st_dev
+        wanted[device] = wanted.get(device, 0) + size
+    for folder, _ in needs:
+        found = os.statvfs(folder)
+        free = found.f_bavail * found.f_frsize
+        if wanted[os.stat(folder).st_dev] > free:
+            raise Refused(f"{folder}: about {wanted[os.stat(folder).st_dev]:,} bytes of room are needed there, and {free:,} are free")
+
+
+def unwritten(store: Store) -> int:
+    """How many bytes a sparse store may still grow by in its file system."""
+    return max(0, store.geometry.length - os.fstat(store.file).st_blocks * 512)
+
+
+def folder_of(path: str | Path) -> Path:
+    """The folder that a file is in, or is to be in."""
+    return Path(os.path.abspath(path)).parent
+
+
+# ---- the program
+
+
+def program_of(chosen: str | None) -> str:
+    path = Path(chosen) if chosen else TOP / "hsm"
+    if not path.is_file() or not os.access(path, os.X_OK):
+        raise Refused(f"{path}: there is no such program")
+    return str(path.resolve())
+
+
+def dated(store: str) -> str:
+    """A name for a log beside the store that no file has."""
+    stem = f"{store}.{time.strftime('%Y%m%d-%H%M%S')}"
+    names = (f"{stem}{more}.log" for more in ("", *(f"-{number}" for number in range(2, 1000))))
+    return next(name for name in names if not os.path.lexists(name))
+
+
+def check_new(path: str | None) -> None:
+    """Refuses a file to be written that is there, or that can't be made."""
+    if path and os.path.lexists(path):
+        raise Refused(f"{path}: is there already, and isn't written over")
+    if path and not os.access(folder_of(path), os.W_OK | os.X_OK):
+        raise Refused(f"{path}: can't be made in {folder_of(path)}")
+
+
+def new_file(path: str | Path):
+    """A file that wasn't there."""
+    try:
+        return open(path, "xb")
+    except FileExistsError:
+        raise Refused(f"{path}: is there already, and isn't written over") from None
+    except OSError as error:
+        raise Refused(f"{path}: {error.strerror}") from None
+
+
+def replay(program: str, store: str, volumes: str, script: Iterable[bytes], log) -> int:
+    """Runs a script, piece by piece, and gives the program's status. Where the script can't be made to its end nothing of it is run."""
+    running = subprocess.Popen([program, "replay", store, volumes], stdin=subprocess.PIPE, stdout=log)
+    try:
+        for piece in script:
+            running.stdin.write(piece)
+    except BrokenPipeError:
+        pass
+    except BaseException:
+        running.kill()
+        running.wait()
+        raise
+    try:
+        running.stdin.close()
+    except BrokenPipeError:
+        pass
+    return status_of(running.wait())
+
+
+def status_of(code: int) -> int:
+    """The status that a shell would tell: 128 and the signal for what was killed."""
+    return code if code >= 0 else 128 - code
+
+
+# ---- the transcript
+
+ACCESS = re.compile(rb"(c\d+) (read|write|truncate|remove) ")
+WAITS = (b"parked ", b"blocked ", b"still ")
+MEMBER = re.compile(rb"s0 session \d+ HSMMIGRATE = session (\d+)")
+READ = re.compile(rb"s(\d+) readinvis 0 (\S+) (\d+) \d+ = (?!refused|-$)")
+SEAL = re.compile(rb"s\d+ seal 0 (\S+) (\d+) .* = (.*)")
+COMMITTED = b"store commit = done"
+
+
+@dataclass(frozen=True)
+class Finding:
+    line: int
+    kind: str
+    text: str
+
+    def __str__(self) -> str:
+        return f"{self.line}: {self.kind}: {self.text}"
+
+
+def text_of(line: bytes) -> str:
+    return line.decode("ascii", "backslashreplace")
+
+
+@dataclass
+class Judge:
+    """What a transcript says went wrong, as its lines come."""
+
+    lines: int = 0
+    last: bytes = b""
+    found: list[Finding] = field(default_factory=list)
+    waiting: dict[bytes, tuple[int, bytes]] = field(default_factory=dict)
+    copying: dict[tuple[bytes, int], tuple[int, bytes]] = field(default_factory=dict)
+    members: set[bytes] = field(default_factory=set)
+
+    def hear(self, line: bytes) -> None:
+        self.lines += 1
+        self.last = line
+        if line.startswith(b"c"):
+            self.hear_caller(line)
+        elif line.startswith(b"s"):
+            self.hear_session(line)
+
+    def tell(self, kind: str, line: bytes) -> None:
+        self.found.append(Finding(self.lines, kind, text_of(line)))
+
+    def hear_caller(self, line: bytes) -> None:
+        call, _, answer = line.partition(b" = ")
+        caller = call.partition(b" ")[0]
+        if answer.startswith(WAITS):
+            self.waiting.setdefault(caller, (self.lines, line))
+            return
+        begun = self.waiting.get(caller)
+        if answer.startswith(b"refused "):
+            which = f", of line {begun[0]}, {text_of(begun[1].partition(b' = ')[0])}" if begun and call.endswith(b" resume") else ""
+            self.found.append(Finding(self.lines, "refused", f"{text_of(line)}{which}"))
+        if call.endswith(b" resume"):
+            self.waiting.pop(caller, None)
+
+    def hear_session(self, line: bytes) -> None:
+        if b" readinvis " in line[:40]:
+            read = READ.match(line)
+            if read and read[1] in self.members:
+                self.copying[read[2], int(read[3]) // SEGMENT] = (self.lines, line)
+        elif b" seal " in line[:40]:
+            seal = SEAL.match(line)
+            if seal and seal[3] == b"done":
+                self.copying.pop((seal[1], int(seal[2])), None)
+            elif seal:
+                self.tell("seal refused", line)
+        elif line.startswith(b"s0 session"):
+            member = MEMBER.fullmatch(line)
+            if member:
+                self.members.add(member[1])
+
+    def end(self) -> list[Finding]:
+        """All that was found, by line."""
+        self.found += [Finding(number, "waits at the end", text_of(line)) for number, line in self.waiting.values()]
+        self.found += [Finding(number, "read, and not sealed", text_of(line)) for number, line in self.copying.values()]
+        if self.last != COMMITTED:
+            self.found.append(Finding(self.lines, "the last line isn't store commit = done", text_of(self.last)))
+        return sorted(self.found, key=lambda finding: finding.line)
+
+
+def judge(path: str) -> tuple[int, list[Finding]]:
+    """The lines of a transcript, and what they say went wrong."""
+    judge = Judge()
+    with open(path, "rb") as transcript:
+        for line in transcript:
+            judge.hear(line.rstrip(b"\n"))
+    return judge.lines, judge.end()
+
+
+def logged_run(program: str, store: str, volumes: str, script: Iterable[bytes], log: str) -> tuple[int, int, list[Finding]]:
+    """Runs a script with its transcript in a new file. Gives the status, the transcript's lines, and what it tells. One without a line is no file."""
+    with new_file(log) as out:
+        status = replay(program, store, volumes, script, out)
+    if status and not os.path.getsize(log):
+        os.unlink(log)
+        return status, 0, []
+    return status, *judge(log)
+
+
+def tell(path: str, lines: int, found: list[Finding]) -> None:
+    """Writes what was found in a transcript, and the sum."""
+    for finding in found:
+        print(f"{path}:{finding}")
+    print(f"{path}: {count(lines, 'line')}, {count(len(found), 'finding')}")
+
+
+# ---- migration
+
+
+@dataclass
+class Body:
+    """What migration goes by of a file: its key, when it was last used, whether a region covers its segments, and of each segment how many blocks are
+    mapped, and whether it is sealed, and what its last segment has in bytes."""
+
+    inode: int
+    generation: int
+    covered: bool
+    blocks: dict[int, int]
+    entries: set[int]
+    size: int
+    stamp: int = 0
+
+    def length(self, segment: int) -> int:
+        return min(SEGMENT, self.size - segment * SEGMENT)
+
+
+def body(file: File) -> Body:
+    """A file of a store as it is at a run's beginning."""
+    blocks: dict[int, int] = {}
+    for block, _ in file.extents:
+        segment = block * BLOCK // SEGMENT
+        blocks[segment] = blocks.get(segment, 0) + 1
+    covered = all(file.covers(segment) for segment in blocks)
+    return Body(file.inode, file.generation, covered, blocks, {entry.segment for entry in file.entries}, file.size)
+
+
+@dataclass
+class Space:
+    """The blocks, entries and volumes that migration finds in a run."""
+
+    total: int
+    used: int
+    most_entries: int
+    entries: int
+    free: list[int]
+    started: bool = False
+
+    @property
+    def above(self) -> bool:
+        return self.used > self.total * HIGH // 100
+
+    def copies(self, length: int) -> bool:
+        """Whether a segment of so many bytes finds an entry and a volume, which it takes."""
+        for volume, free in enumerate(self.free):
+            if free >= length and self.entries < self.most_entries:
+                self.free[volume] -= length
+                self.entries += 1
+                return True
+        return False
+
+
+def space(store: Store, volumes: Volumes) -> Space:
+    free = [CAPACITY] * VOLUMES
+    for volume, number in volumes.objects() if volumes.folder.is_dir() else []:
+        if volume < VOLUMES:
+            free[volume] -= volumes.size(volume, number)
+    return Space(store.geometry.blocks, store.used, store.geometry.most_entries, sum(len(file.entries) for file in store.files.values()), free)
+
+
+def candidates(bodies: Iterable[Body]) -> list[tuple[int, int, int, int, Body]]:
+    """The segments that may go, in the order of a pass."""
+    return sorted(((body.stamp, body.inode, body.generation, segment, body) for body in bodies for segment in body.blocks), key=lambda found: found[:4])
+
+
+MOST_STEPS = 6
+
+
+def steps_of(body: Body, segment: int) -> int:
+    """How many steps it takes to make this segment offline: to ask for the regions, to set one, to read, copy and seal, and to punch."""
+    return 1 + (0 if body.covered else 1) + (1 if segment in body.entries else 4)
+
+
+def passed(space: Space, bodies: Iterable[Body]) -> Iterator[int]:
+    """Does in the model what a pass does, and gives for each segment how many steps it takes."""
+    low = space.total * LOW // 100
+    for _, _, _, segment, body in candidates(bodies):
+        if space.used <= low:
+            return
+        if segment not in body.entries and not space.copies(72 + body.length(segment)):
+            return
+        yield steps_of(body, segment)
+        space.used -= body.blocks.pop(segment)
+        body.covered = True
+        body.entries.add(segment)
+
+
+def pass_lines(space: Space, bodies: Iterable[Body], each: int) -> list[str]:
+    """The lines of a pass in steps, with a commit after each so many segments, so that a kill leaves at most about as many copies to nobody."""
+    lines = [] if space.started else ["start migrate", *["step migrate"] * 3]
+    space.started = True
+    # It rests, asks for the space, for events and for the table.
+    lines += ["step migrate"] * 4
+    for number, steps in enumerate(passed(space, bodies), 1):
+        lines += ["step migrate"] * steps
+        if number % each == 0:
+            lines.append("store commit")
+    return [*lines, "settle", "store commit"]
