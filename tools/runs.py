@@ -121,19 +121,16 @@ def check_words(store: str, volumes: str) -> None:
             raise Refused(f"{word!r} can't name a store or a folder: write ./{word}" if word else "a path is empty")
 
 
-def check_folder(volumes: Volumes, new: bool) -> None:
-    """Refuses a folder of volumes that isn't there. A new one may be missing, but not the folder that it is to be in."""
-    if new and not volumes.folder.exists():
-        parent = volumes.folder.parent
-        if not parent.is_dir() or not os.access(parent, os.W_OK | os.X_OK):
-            raise Refused(f"{volumes.folder}: can't be made in {parent}")
-        return
-    try:
-        volumes.check()
-    except Refused as refused:
-        raise Refused(f"{refused}; --new-volumes makes one") from None
-    if not os.access(volumes.folder, os.R_OK | os.W_OK | os.X_OK):
-        raise Refused(f"{volumes.folder}: can't be read and written")
+def wrong_folder(volumes: Volumes, new: bool) -> list[str]:
+    """What is wrong with a folder of volumes. A new one may be missing, but not the folder that it is to be in."""
+    folder = volumes.folder
+    if folder.is_dir():
+        return [] if os.access(folder, os.R_OK | os.W_OK | os.X_OK) else [f"{folder}: can't be read and written"]
+    if os.path.lexists(folder):
+        return [f"{folder}: not a folder"]
+    if not new:
+        return [f"{folder}: there is no such folder of volumes; --new-volumes makes one"]
+    return [] if os.access(folder_of(folder), os.W_OK | os.X_OK) else [f"{folder}: can't be made in {folder_of(folder)}"]
 
 
 def check_room(needs: list[tuple[Path, int]]) -> None:
@@ -372,6 +369,9 @@ class Space:
     @property
     def above(self) -> bool:
         return self.used > self.total * HIGH // 100
+
+    def __str__(self) -> str:
+        return f"{self.used:,} of {self.total:,} blocks and {self.entries:,} of {self.most_entries:,} stub entries are used, and volumes have room for {sum(self.free):,} bytes"
 
     def copies(self, length: int) -> bool:
         """Whether a segment of so many bytes finds an entry and a volume, which it takes."""
