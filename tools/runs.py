@@ -11,9 +11,8 @@ from collections.abc import Callable, Iterable, Iterator
 from dataclasses import dataclass, field
 from pathlib import Path
 
-from stores import BLOCK, SEGMENT, Entry, File, Refused, Store, Volumes, open_store
+from stores import BLOCK, SEGMENT, Entry, File, Refused, Store, Volumes
 
-TOP = Path(__file__).resolve().parent.parent
 MOST_LINES = 100_000
 MOST_LINE = 4096
 MOST_ACCESSED = 536_870_912
@@ -102,16 +101,16 @@ def count(number: int, what: str) -> str:
     return f"{number:,} {what}{'' if number == 1 else 's'}"
 
 
-def bad_entries(entries: Iterable[tuple[File, Entry]], volumes: Volumes) -> Iterator[tuple[File, Entry, str]]:
-    """The entries of which the object isn't intact, and what it is."""
-    for file, entry in entries:
-        _, why = volumes.payload(entry)
-        if why != "intact":
-            yield file, entry, why
-
-
-def told_entry(file: File, entry: Entry, why: str) -> str:
-    return f"{file.name}: segment {entry.segment}: object {entry.volume}.{entry.object} is {why}"
+def told_bad(what: str, entries: Iterable[tuple[File, Entry]], volumes: Volumes, forced: bool) -> list[str]:
+    """What is wrong with the objects of these entries."""
+    listed, told = list(entries), []
+    with Progress(f"{what}: looking at objects", len(listed), "objects", forced) as progress:
+        for file, entry in listed:
+            _, why = volumes.payload(entry)
+            if why != "intact":
+                told.append(f"{file.name}: segment {entry.segment}: object {entry.volume}.{entry.object} is {why}")
+            progress.add(1)
+    return told
 
 
 def check_words(store: str, volumes: str) -> None:
@@ -160,10 +159,13 @@ def folder_of(path: str | Path) -> Path:
 
 
 def program_of(chosen: str | None) -> str:
-    path = Path(chosen) if chosen else TOP / "hsm"
-    if not path.is_file() or not os.access(path, os.X_OK):
-        raise Refused(f"{path}: there is no such program")
-    return str(path.resolve())
+    """The program that was chosen, or the launcher beside the folder of the tools, as that folder was called or as it is."""
+    called, own = Path(os.path.abspath(sys.argv[0])), Path(__file__).resolve()
+    paths = [Path(chosen)] if chosen else [called.parent.parent / "hsm", own.parent.parent / "hsm"]
+    for path in paths:
+        if path.is_file() and os.access(path, os.X_OK):
+            return os.path.abspath(path)
+    raise Refused(f"{paths[-1]}: there is no such program")
 
 
 def dated(store: str) -> str:
@@ -310,12 +312,14 @@ def judge(path: str) -> tuple[int, list[Finding]]:
 
 def logged_run(program: str, store: str, volumes: str, script: Iterable[bytes], log: str) -> tuple[int, int, list[Finding]]:
     """Runs a script with its transcript in a new file. Gives the status, the transcript's lines, and what it tells. One without a line is no file."""
-    with new_file(log) as out:
-        status = replay(program, store, volumes, script, out)
-    if status and not os.path.getsize(log):
-        os.unlink(log)
-        return status, 0, []
-    return status, *judge(log)
+    status = REFUSED
+    try:
+        with new_file(log) as out:
+            status = replay(program, store, volumes, script, out)
+    finally:
+        if status and not os.path.getsize(log):
+            os.unlink(log)
+    return status, *(judge(log) if os.path.exists(log) else (0, []))
 
 
 def tell(path: str, lines: int, found: list[Finding]) -> None:
@@ -371,7 +375,8 @@ class Space:
         return self.used > self.total * HIGH // 100
 
     def __str__(self) -> str:
-        return f"{self.used:,} of {self.total:,} blocks and {self.entries:,} of {self.most_entries:,} stub entries are used, and volumes have room for {sum(self.free):,} bytes"
+        used = f"{self.used:,} of {self.total:,} blocks and {self.entries:,} of {self.most_entries:,} stub entries are used"
+        return f"{used}, and volumes have room for {sum(self.free):,} bytes"
 
     def copies(self, length: int) -> bool:
         """Whether a segment of so many bytes finds an entry and a volume, which it takes."""
@@ -419,12 +424,16 @@ def passed(space: Space, bodies: Iterable[Body]) -> Iterator[int]:
 
 
 def pass_lines(space: Space, bodies: Iterable[Body], each: int) -> list[str]:
-    """The lines of a pass in steps, with a commit after each so many segments, so that a kill leaves at most about as many copies to nobody."""
+    """The lines of a pass in steps, with a commit after each so many segments, so that a kill leaves at most about as many copies to nobody. There are none
+    where nothing can go."""
+    segments = list(passed(space, bodies))
+    if not segments:
+        return []
     lines = [] if space.started else ["start migrate", *["step migrate"] * 3]
     space.started = True
     # It rests, asks for the space, for events and for the table.
     lines += ["step migrate"] * 4
-    for number, steps in enumerate(passed(space, bodies), 1):
+    for number, steps in enumerate(segments, 1):
         lines += ["step migrate"] * steps
         if number % each == 0:
             lines.append("store commit")
