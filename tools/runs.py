@@ -287,6 +287,9 @@ class Judge:
                 self.copying.pop((seal[1], int(seal[2])), None)
             elif seal:
                 self.tell("seal refused", line)
+        elif b" writeinvis " in line[:40]:
+            if line.partition(b" = ")[2].startswith(b"refused "):
+                self.tell("refused", line)
         elif line.startswith(b"s0 session"):
             member = MEMBER.fullmatch(line)
             if member:
