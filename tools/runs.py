@@ -6,6 +6,7 @@ import os
 import re
 import subprocess
 import sys
+import tempfile
 import time
 from collections.abc import Callable, Iterable, Iterator
 from dataclasses import dataclass, field
@@ -66,7 +67,7 @@ class Progress:
         now = time.monotonic()
         if self.on and now - self.told > 0.5:
             self.told = now
-            text = f"{self.what}: {self.done:,} of {self.total:,} {self.unit}"
+            text = f"{self.what}: {self.done:,} {f'of {self.total:,} ' if self.total else ''}{self.unit}"
             sys.stderr.write(f"\r{text}\x1b[K" if self.terminal else f"{text}\n")
             sys.stderr.flush()
 
@@ -193,23 +194,14 @@ def new_file(path: str | Path):
         raise Refused(f"{path}: {error.strerror}") from None
 
 
-def replay(program: str, store: str, volumes: str, script: Iterable[bytes], log) -> int:
-    """Runs a script, piece by piece, and gives the program's status. Where the script can't be made to its end nothing of it is run."""
-    running = subprocess.Popen([program, "replay", store, volumes], stdin=subprocess.PIPE, stdout=log)
-    try:
-        for piece in script:
-            running.stdin.write(piece)
-    except BrokenPipeError:
-        pass
-    except BaseException:
-        running.kill()
-        running.wait()
-        raise
-    try:
-        running.stdin.close()
-    except BrokenPipeError:
-        pass
-    return status_of(running.wait())
+def spooled(pieces: Iterable[bytes], log: str):
+    """A script as a file without a name, beside the log. So none is run in part where the tool is killed while it makes one."""
+    script = tempfile.TemporaryFile(dir=folder_of(log))
+    for piece in pieces:
+        script.write(piece)
+    script.flush()
+    script.seek(0)
+    return script
 
 
 def status_of(code: int) -> int:
@@ -313,12 +305,13 @@ def judge(path: str) -> tuple[int, list[Finding]]:
     return judge.lines, judge.end()
 
 
-def logged_run(program: str, store: str, volumes: str, script: Iterable[bytes], log: str) -> tuple[int, int, list[Finding]]:
-    """Runs a script with its transcript in a new file. Gives the status, the transcript's lines, and what it tells. One without a line is no file."""
+def logged_run(program: str, store: str, volumes: str, script, log: str) -> tuple[int, int, list[Finding]]:
+    """Runs a script from a file, with its transcript in a new one. Gives the status, the transcript's lines, and what it tells. One without a line is no file."""
     status = REFUSED
+    os.lseek(script.fileno(), 0, os.SEEK_SET)
     try:
         with new_file(log) as out:
-            status = replay(program, store, volumes, script, out)
+            status = status_of(subprocess.run([program, "replay", store, volumes], stdin=script, stdout=out).returncode)
     finally:
         if status and not os.path.getsize(log):
             os.unlink(log)
