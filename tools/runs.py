@@ -4,6 +4,7 @@
 import argparse
 import os
 import re
+import signal
 import subprocess
 import sys
 import tempfile
@@ -84,9 +85,9 @@ def ended(tool: str, main: Callable[[], int]) -> None:
         sys.stdout.flush()
     except BrokenPipeError:
         os.dup2(os.open(os.devnull, os.O_WRONLY), sys.stdout.fileno())
-        status = REFUSED
+        status = status_of(-signal.SIGPIPE)
     except KeyboardInterrupt:
-        status = 130
+        status = status_of(-signal.SIGINT)
     except (Refused, OSError) as refused:
         for line in str(refused).splitlines():
             say(f"{tool}: {line}")
