@@ -19,6 +19,9 @@ MOST_LINES = 100_000
 MOST_LINE = 4096
 MOST_ACCESSED = 536_870_912
 HIGH, LOW = 80, 60
+# The most steps that a segment takes, and how many lines of a pass are steps at most.
+MOST_STEPS = 6
+MOST_PASS_LINES = 40_000
 VOLUMES = 8
 CAPACITY = 67_108_864
 
@@ -398,9 +401,6 @@ def candidates(bodies: Iterable[Body]) -> list[tuple[int, int, int, int, Body]]:
     return sorted(((body.stamp, body.inode, body.generation, segment, body) for body in bodies for segment in body.blocks), key=lambda found: found[:4])
 
 
-MOST_STEPS = 6
-
-
 def steps_of(body: Body, segment: int) -> int:
     """How many steps it takes to make this segment offline: to ask for the regions, to set one, to read, copy and seal, and to punch."""
     return 1 + (0 if body.covered else 1) + (1 if segment in body.entries else 4)
@@ -431,6 +431,9 @@ def pass_lines(space: Space, bodies: Iterable[Body], each: int) -> list[str]:
     # It rests, asks for the space, for events and for the table.
     lines += ["step migrate"] * 4
     for number, steps in enumerate(segments, 1):
+        if len(lines) > MOST_PASS_LINES:
+            # What is left the settle does.
+            break
         lines += ["step migrate"] * steps
         if number % each == 0:
             lines.append("store commit")

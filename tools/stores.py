@@ -361,7 +361,7 @@ class Volumes:
 
     def objects(self) -> list[tuple[int, int]]:
         """The volume and the number of each object that has a file, also behind a gap."""
-        form = re.compile(r"(0|[1-9]\d{0,2})\.(0|[1-9]\d{0,9})")
+        form = re.compile(r"(0|[1-9][0-9]{0,2})\.(0|[1-9][0-9]{0,9})")
         found = [(int(match[1]), int(match[2])) for name in os.listdir(self.folder) if (match := form.fullmatch(name))]
         return sorted((volume, number) for volume, number in found if volume <= MOST_VOLUME and number < 2**32)
 
