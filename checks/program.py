@@ -25,5 +25,5 @@ def is_built():
     """Whether the program is there. Where it isn't, that is told."""
     there = os.access(PROGRAM, os.X_OK)
     if not there:
-        print(f"there is no program {PROGRAM}: build it by ./hsm, or by rt ci")
+        print(f"there is no program {PROGRAM}: build it by ./build, or by rt ci")
     return there
