@@ -44,7 +44,7 @@ def with_store(parser: argparse.ArgumentParser) -> None:
 
 
 def with_program(parser: argparse.ArgumentParser) -> None:
-    parser.add_argument("--program", metavar="PATH", help="the program hsm; else the launcher beside the repository's top")
+    parser.add_argument("--program", metavar="PATH", help="the program hsm, else the launcher beside the folder of the tools")
     parser.add_argument("--log", metavar="FILE", help="where the transcript goes; a file that is there is never written over")
     parser.add_argument("--new-volumes", action="store_true", help="make the folder of volumes where it isn't there: for the first run of a store")
 
