@@ -16,7 +16,6 @@ from pathlib import Path
 from stores import BLOCK, SEGMENT, Entry, File, Refused, Store, Volumes
 
 MOST_LINES = 100_000
-MOST_LINE = 4096
 MOST_ACCESSED = 536_870_912
 HIGH, LOW = 80, 60
 # The most steps that a segment takes, and how many lines of a pass are steps at most.
@@ -215,7 +214,6 @@ def status_of(code: int) -> int:
 
 # ---- the transcript
 
-ACCESS = re.compile(rb"(c\d+) (read|write|truncate|remove) ")
 WAITS = (b"parked ", b"blocked ", b"still ")
 MEMBER = re.compile(rb"s0 session \d+ HSMMIGRATE = session (\d+)")
 READ = re.compile(rb"s(\d+) readinvis 0 (\S+) (\d+) \d+ = (?!refused|-$)")
