@@ -13,9 +13,11 @@ BUILT = TOP / "crates" / "hsm" / "out" / "hsm"
 
 def chosen(words):
     """The program, and the words that are left."""
-    if len(words) > 1 and words[0] == "--program":
-        return Path(words[1]).resolve(), words[2:]
-    return BUILT, words
+    if words[:1] != ["--program"]:
+        return BUILT, words
+    if len(words) < 2:
+        sys.exit("--program takes a path")
+    return Path(words[1]).resolve(), words[2:]
 
 
 PROGRAM, WORDS = chosen(sys.argv[1:])
