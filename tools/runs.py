@@ -13,7 +13,7 @@ from collections.abc import Callable, Iterable, Iterator
 from dataclasses import dataclass, field
 from pathlib import Path
 
-from stores import BLOCK, SEGMENT, Entry, File, Refused, Store, Volumes
+from stores import BLOCK, SEGMENT, SERVED, Entry, File, Refused, Store, Volumes, open_store
 
 MOST_LINES = 100_000
 MOST_ACCESSED = 536_870_912
@@ -21,10 +21,11 @@ HIGH, LOW = 80, 60
 # The most steps that a segment takes, and how many lines of a pass are steps at most.
 MOST_STEPS = 6
 MOST_PASS_LINES = 40_000
-VOLUMES = 8
 CAPACITY = 67_108_864
 
 DONE, FOUND, REFUSED = 0, 1, 2
+# The program's status where it refused the script, and ran nothing of it.
+SCRIPT_REFUSED = 1
 
 
 # ---- words, progress and ends
@@ -105,16 +106,30 @@ def count(number: int, what: str) -> str:
     return f"{number:,} {what}{'' if number == 1 else 's'}"
 
 
-def told_bad(what: str, entries: Iterable[tuple[File, Entry]], volumes: Volumes, forced: bool) -> list[str]:
-    """What is wrong with the objects of these entries."""
+def named(entries: Iterable[tuple[File, Entry]]) -> Iterator[tuple[str, Entry]]:
+    """Entries, each with the segment that has it."""
+    return ((f"{file.name}: segment {entry.segment}", entry) for file, entry in entries)
+
+
+def told_bad(what: str, entries: Iterable[tuple[str, Entry]], volumes: Volumes, forced: bool) -> list[str]:
+    """What is wrong with the objects of these entries, each behind the text that is given with it."""
     listed, told = list(entries), []
     with Progress(f"{what}: looking at objects", len(listed), "objects", forced) as progress:
-        for file, entry in listed:
-            _, why = volumes.payload(entry)
+        for text, entry in listed:
+            why = volumes.state(entry)
             if why != "intact":
-                told.append(f"{file.name}: segment {entry.segment}: object {entry.volume}.{entry.object} is {why}")
+                told.append(f"{text}: object {entry.volume}.{entry.object} is {why}")
             progress.add(1)
     return told
+
+
+def bad_after(what: str, path: str, volumes: Volumes, forced: bool) -> list[str]:
+    """What is wrong with the objects of a store's entries after a run, or why nobody can tell."""
+    try:
+        with open_store(path) as store:
+            return told_bad(what, named(store.entries()), volumes, forced)
+    except (Refused, OSError) as refused:
+        return [f"its entries weren't looked at again: {refused}"]
 
 
 def check_words(store: str, volumes: str) -> None:
@@ -320,11 +335,11 @@ def logged_run(program: str, store: str, volumes: str, script, log: str) -> tupl
     return status, *(judge(log) if os.path.exists(log) else (0, []))
 
 
-def tell(path: str, lines: int, found: list[Finding]) -> None:
-    """Writes what was found in a transcript, and the sum."""
+def tell(path: str, lines: int, found: list[Finding], more: int = 0) -> None:
+    """Writes what was found in a transcript, and the sum, with so many findings more."""
     for finding in found:
         print(f"{path}:{finding}")
-    print(f"{path}: {count(lines, 'line')}, {count(len(found), 'finding')}")
+    print(f"{path}: {count(lines, 'line')}, {count(len(found) + more, 'finding')}")
 
 
 # ---- migration
@@ -387,9 +402,9 @@ class Space:
 
 
 def space(store: Store, volumes: Volumes) -> Space:
-    free = [CAPACITY] * VOLUMES
-    for volume, number in volumes.objects() if volumes.folder.is_dir() else []:
-        if volume < VOLUMES:
+    free = [CAPACITY] * SERVED
+    for volume, number in volumes.objects():
+        if volume < SERVED:
             free[volume] -= volumes.size(volume, number)
     return Space(store.geometry.blocks, store.used, store.geometry.most_entries, sum(len(file.entries) for file in store.files.values()), free)
 

@@ -21,6 +21,8 @@ MOST_NUMBER = 2**62
 MOST_VALUE = 4096
 MOST_REGIONS = 4
 MOST_VOLUME = 255
+# Recall and migration have the volumes below this one.
+SERVED = 8
 SUPERBLOCK = struct.Struct(">8sIIQ")
 SELECTING_BYTE = 4096
 FIRST_SNAPSHOT = 8192
@@ -326,10 +328,14 @@ class Volumes:
     def __init__(self, folder: str) -> None:
         self.folder = Path(folder)
 
-    def check(self) -> None:
-        """Refuses a folder that isn't there."""
-        if not self.folder.is_dir():
-            raise Refused(f"{self.folder}: {'not a folder' if self.folder.exists() else 'there is no such folder of volumes'}")
+    def check(self, store: Store) -> None:
+        """Refuses a folder that isn't there, but where the store has no stub entry, so that no object is needed."""
+        if self.folder.is_dir():
+            return
+        if self.folder.exists():
+            raise Refused(f"{self.folder}: not a folder")
+        if any(store.entries()):
+            raise Refused(f"{self.folder}: there is no such folder of volumes")
 
     def bytes_of(self, volume: int, number: int) -> bytes | None:
         """The bytes of an object, frame and all, or nothing where it isn't there."""
@@ -359,10 +365,16 @@ class Volumes:
             return memoryview(b""), "altered"
         return payload, "intact"
 
+    def state(self, entry: Entry) -> str:
+        """What the entry's object is: as payload tells, or not served where it is intact in a volume that recall doesn't have."""
+        _, why = self.payload(entry)
+        return "not served" if why == "intact" and entry.volume >= SERVED else why
+
     def objects(self) -> list[tuple[int, int]]:
-        """The volume and the number of each object that has a file, also behind a gap."""
+        """The volume and the number of each object that has a file, also behind a gap. A folder that isn't there has none."""
         form = re.compile(r"(0|[1-9][0-9]{0,2})\.(0|[1-9][0-9]{0,9})")
-        found = [(int(match[1]), int(match[2])) for name in os.listdir(self.folder) if (match := form.fullmatch(name))]
+        names = os.listdir(self.folder) if self.folder.is_dir() else []
+        found = [(int(match[1]), int(match[2])) for name in names if (match := form.fullmatch(name))]
         return sorted((volume, number) for volume, number in found if volume <= MOST_VOLUME and number < 2**32)
 
     def size(self, volume: int, number: int) -> int:
