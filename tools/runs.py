@@ -129,7 +129,7 @@ def bad_after(what: str, path: str, volumes: Volumes, forced: bool) -> list[str]
         with open_store(path) as store:
             return told_bad(what, named(store.entries()), volumes, forced)
     except (Refused, OSError) as refused:
-        return [f"its entries weren't looked at again: {refused}"]
+        return [f"the entries weren't looked at again: {refused}"]
 
 
 def check_words(store: str, volumes: str) -> None:
