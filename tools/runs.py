@@ -46,7 +46,7 @@ def with_store(parser: argparse.ArgumentParser) -> None:
 def with_program(parser: argparse.ArgumentParser) -> None:
     parser.add_argument("--program", metavar="PATH", help="the program hsm, else the launcher beside the folder of the tools")
     parser.add_argument("--log", metavar="FILE", help="where the transcript goes; a file that is there is never written over")
-    parser.add_argument("--new-volumes", action="store_true", help="make the folder of volumes where it isn't there: for the first run of a store")
+    parser.add_argument("--new-volumes", action="store_true", help="make the folder of volumes where it isn't there: for a store that has no copy yet")
 
 
 class Progress:
@@ -139,8 +139,8 @@ def check_words(store: str, volumes: str) -> None:
             raise Refused(f"{word!r} can't name a store or a folder: write ./{word}" if word else "a path is empty")
 
 
-def wrong_folder(volumes: Volumes, new: bool) -> list[str]:
-    """What is wrong with a folder of volumes. A new one may be missing, but not the folder that it is to be in."""
+def wrong_folder(volumes: Volumes, new: bool, store: Store) -> list[str]:
+    """What is wrong with a folder of volumes. A new one may be missing, but not the folder that it is to be in, and no store has copies in one."""
     folder = volumes.folder
     if folder.is_dir():
         return [] if os.access(folder, os.R_OK | os.W_OK | os.X_OK) else [f"{folder}: can't be read and written"]
@@ -148,6 +148,8 @@ def wrong_folder(volumes: Volumes, new: bool) -> list[str]:
         return [f"{folder}: not a folder"]
     if not new:
         return [f"{folder}: there is no such folder of volumes; --new-volumes makes one"]
+    if any(store.entries()):
+        return [f"{folder}: there is no such folder of volumes, and the store has copies in another one; --new-volumes is for a store without copies"]
     return [] if os.access(folder_of(folder), os.W_OK | os.X_OK) else [f"{folder}: can't be made in {folder_of(folder)}"]
 
 
