@@ -31,19 +31,26 @@ SCRIPT_REFUSED = 1
 # ---- words, progress and ends
 
 
-def words(about: str, statuses: str) -> argparse.ArgumentParser:
+class Words(argparse.ArgumentParser):
+    """A reader of words, in which options may stand between the others."""
+
+    def parse_args(self, args=None, namespace=None):
+        return self.parse_intermixed_args(args, namespace)
+
+
+def words(about: str, statuses: str) -> Words:
     """A reader of words. The statuses stand behind the options in the help."""
-    parser = argparse.ArgumentParser(description=about, epilog=statuses, formatter_class=argparse.RawDescriptionHelpFormatter, allow_abbrev=False)
+    parser = Words(description=about, epilog=statuses, formatter_class=argparse.RawDescriptionHelpFormatter, allow_abbrev=False)
     parser.add_argument("--progress", action="store_true", help="tell of long work on standard error, also where that is no terminal")
     return parser
 
 
-def with_store(parser: argparse.ArgumentParser) -> None:
+def with_store(parser: Words) -> None:
     parser.add_argument("store", metavar="STORE", help="the file of the store")
     parser.add_argument("volumes", metavar="VOLUMES", help="the folder of its volumes")
 
 
-def with_program(parser: argparse.ArgumentParser) -> None:
+def with_program(parser: Words) -> None:
     parser.add_argument("--program", metavar="PATH", help="the program hsm, else the launcher beside the folder of the tools")
     parser.add_argument("--log", metavar="FILE", help="where the transcript goes; a file that is there is never written over")
     parser.add_argument("--new-volumes", action="store_true", help="make the folder of volumes where it isn't there: for a store that has no copy yet")
