@@ -243,6 +243,8 @@ MEMBER = re.compile(rb"s0 session \d+ HSMMIGRATE = session (\d+)")
 READ = re.compile(rb"s(\d+) readinvis 0 (\S+) (\d+) \d+ = (?!refused|-$)")
 SEAL = re.compile(rb"s\d+ seal 0 (\S+) (\d+) .* = (.*)")
 COMMITTED = b"store commit = done"
+# Signals that end a tool.
+ENDING = (signal.SIGINT, signal.SIGTERM, signal.SIGHUP)
 
 
 @dataclass(frozen=True)
@@ -331,13 +333,36 @@ def judge(path: str) -> tuple[int, list[Finding]]:
     return judge.lines, judge.end()
 
 
+def run_to_end(command: list[str], script, out) -> int:
+    """The code of a run that has ended. A signal that would end the tool goes on to the run; where that ends well all the same, the tool ends by it."""
+    child, came = None, []
+
+    def pass_on(number: int, _: object) -> None:
+        came.append(number)
+        if child:
+            child.send_signal(number)
+
+    kept = {number: signal.signal(number, pass_on) for number in ENDING if signal.getsignal(number) is not signal.SIG_IGN}
+    try:
+        child = subprocess.Popen(command, stdin=script, stdout=out)
+        if came:
+            child.send_signal(came[0])
+        code = child.wait()
+    finally:
+        for number, handler in kept.items():
+            signal.signal(number, handler)
+    if came and not code:
+        signal.raise_signal(came[0])
+    return code
+
+
 def logged_run(program: str, store: str, volumes: str, script, log: str) -> tuple[int, int, list[Finding]]:
     """Runs a script from a file, with its transcript in a new one. Gives the status, the transcript's lines, and what it tells. One without a line is no file."""
     status = REFUSED
     os.lseek(script.fileno(), 0, os.SEEK_SET)
     try:
         with new_file(log) as out:
-            status = status_of(subprocess.run([program, "replay", store, volumes], stdin=script, stdout=out).returncode)
+            status = status_of(run_to_end([program, "replay", store, volumes], script, out))
     finally:
         if status and not os.path.getsize(log):
             os.unlink(log)
