@@ -334,7 +334,8 @@ def judge(path: str) -> tuple[int, list[Finding]]:
 
 
 def run_to_end(command: list[str], script, out) -> int:
-    """The code of a run that has ended. A signal that would end the tool goes on to the run; where that ends well all the same, the tool ends by it."""
+    """Runs the program to its end, and gives its code. A signal that would end the tool goes on to the run. Where that ends well all the same, the tool
+    ends by the signal."""
     child, came = None, []
 
     def pass_on(number: int, _: object) -> None:
