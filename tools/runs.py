@@ -54,6 +54,7 @@ def with_program(parser: Words) -> None:
     parser.add_argument("--program", metavar="PATH", help="the program hsm, else the launcher beside the folder of the tools")
     parser.add_argument("--log", metavar="FILE", help="where the transcript goes; a file that is there is never written over")
     parser.add_argument("--new-volumes", action="store_true", help="make the folder of volumes where it isn't there: for a store that has no copy yet")
+    parser.add_argument("--all-dead", action="store_true", help="take a folder of volumes that has objects, though the store names none of them")
 
 
 class Progress:
@@ -146,14 +147,21 @@ def check_words(store: str, volumes: str) -> None:
             raise Refused(f"{word!r} can't name a store or a folder: write ./{word}" if word else "a path is empty")
 
 
-def wrong_folder(volumes: Volumes, new: bool, store: Store) -> list[str]:
+def wrong_objects(words, volumes: Volumes, store: Store) -> list[str]:
+    """What is wrong where a folder has objects and the store names none: it may be another store's folder."""
+    objects = 0 if words.all_dead or any(store.entries()) else len(volumes.objects())
+    text = f"{volumes.folder} has {count(objects, 'object')}, and {store.path} names none: is it the right store? --all-dead takes it"
+    return [text] if objects else []
+
+
+def wrong_folder(words, volumes: Volumes, store: Store) -> list[str]:
     """What is wrong with a folder of volumes. A new one may be missing, but not the folder that it is to be in, and no store has copies in one."""
     folder = volumes.folder
     if folder.is_dir():
-        return [] if os.access(folder, os.R_OK | os.W_OK | os.X_OK) else [f"{folder}: can't be read and written"]
+        return wrong_objects(words, volumes, store) if os.access(folder, os.R_OK | os.W_OK | os.X_OK) else [f"{folder}: can't be read and written"]
     if os.path.lexists(folder):
         return [f"{folder}: not a folder"]
-    if not new:
+    if not words.new_volumes:
         return [f"{folder}: there is no such folder of volumes; --new-volumes makes one"]
     if any(store.entries()):
         return [f"{folder}: there is no such folder of volumes, and the store has copies in another one; --new-volumes is for a store without copies"]
