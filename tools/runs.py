@@ -219,6 +219,17 @@ def check_new(path: str | None) -> None:
         raise Refused(f"{path}: can't be made in {folder_of(path)}")
 
 
+def lies_in(path: str | Path, folder: str) -> bool:
+    """Whether a file lies below a folder, or would, all links followed."""
+    return Path(os.path.realpath(path)).is_relative_to(os.path.realpath(folder))
+
+
+def check_outside(path: str | None, folder: str) -> None:
+    """Refuses a file to be written that would lie among the objects."""
+    if path and lies_in(path, folder):
+        raise Refused(f"{path}: would lie in the folder of volumes")
+
+
 def new_file(path: str | Path):
     """A file that wasn't there."""
     try:
