@@ -6,7 +6,7 @@ use Rattle.std.proofs.lemmas.Bool.Decides.{nat_tests}
 use Rattle.hsm_types.specs.Messages.{is_lawful}
 use Rattle.hsm_types.specs.declared.dm.Response.{Response}
 use Rattle.hsm_types.specs.declared.keys.Token.{Token}
-use Rattle.plain_model.specs.Keyed.{set_at}
+use Rattle.hsm_types.specs.Keyed.{set_at}
 use Rattle.access_park.specs.declared.access.Access.{Access}
 use Rattle.access_park.specs.Laws.{AnswersOne}
 use Rattle.access_park.specs.Pending.{holds, has_lawful_answer, given, answered, NobodyHolds, HoldsAlone, IsPark}

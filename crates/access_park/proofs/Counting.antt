@@ -4,10 +4,11 @@ use Rattle.std.proofs.lemmas.Bool.{cases_eq}
 use Rattle.std.proofs.lemmas.Bool.Decides.{nat_tests}
 use Rattle.std.proofs.lemmas.List.Sums.{sum_by-cons, count_by-le-length}
 use Rattle.std.specs.List.{range_with_len}
+use Rattle.hsm_types.specs.Limits.{callers}
 use Rattle.hsm_types.specs.declared.dm.Response.{Response}
 use Rattle.hsm_types.specs.declared.keys.Token.{Token}
 use Rattle.hsm_types.specs.Callers.{IsCallerNumber}
-use Rattle.plain_model.specs.Keyed.{set_at}
+use Rattle.hsm_types.specs.Keyed.{set_at}
 use Rattle.access_park.specs.declared.access.Access.{Access}
 use Rattle.access_park.specs.Laws.{CountsWaiting}
 use Rattle.access_park.specs.Pending.{answered, nobody, waiting_in}
@@ -56,7 +57,7 @@ module _ (pending : ℕ → Option Access) (c : ℕ) (p : Option Access) where
 
   waiting-set_at : IsCallerNumber c → waiting_in (set_at c p pending) + cond (is_some (pending c)) 1 0 ≡ waiting_in pending + cond (is_some p) 1 0
   unfolding waiting_in one count
-  waiting-set_at is = count-at 1 64 is.0 (omega arith)
+  waiting-set_at is = count-at 1 callers is.0 (omega arith)
 
 pub waiting-nobody : waiting_in nobody ≡ 0
 unfolding waiting_in
@@ -64,11 +65,11 @@ waiting-nobody = refl
 
 waiting-answered : (t : Token) (r : Response) (pending : ℕ → Option Access) → waiting_in (λ c. answered t r (pending c)) ≡ waiting_in pending
 unfolding waiting_in
-waiting-answered t r pending = ap (λ (test : ℕ → Bool). count_by test (range_with_len 1 64)) (λ k c. some-answered t r (pending c) k)
+waiting-answered t r pending = ap (λ (test : ℕ → Bool). count_by test (range_with_len 1 callers)) (λ k c. some-answered t r (pending c) k)
 
-few : (pending : ℕ → Option Access) → waiting_in pending ≤ 64
+few : (pending : ℕ → Option Access) → waiting_in pending ≤ callers
 unfolding waiting_in
-few pending = count_by-le-length (λ c. is_some (pending c)) (range_with_len 1 64)
+few pending = count_by-le-length (λ c. is_some (pending c)) (range_with_len 1 callers)
 
 pub counts_waiting : (pending : ℕ → Option Access) → CountsWaiting pending
 counts_waiting pending = record {

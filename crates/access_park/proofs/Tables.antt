@@ -1,18 +1,21 @@
 -- What is true of the slots after each call.
-use Rattle.std.proofs.Common.{◌≡◌, ℕ, ◌+◌, ◌-◌, ◌<◌, ◌≤◌, true, false, cond, eqb, length, get_or, set, replicate, All, Option, None, Some, is_some, IsSome, MatchOption, refl, sym, ◌∙◌, arith}
+use Rattle.std.proofs.Common.{◌≡◌, ℕ, ◌+◌, ◌-◌, ◌<◌, ◌≤◌, true, false, cond, eqb, length, get_or, set, replicate, All, Option, None, Some, is_some}
+use Rattle.std.proofs.Common.{IsSome, MatchOption, refl, sym, ◌∙◌, arith}
 use Rattle.std.specs.Option.{option_map, SomeIff}
 use Rattle.std.proofs.lemmas.Bool.{eqb-true, false≢true, cond_both}
 use Rattle.std.proofs.lemmas.Bool.Decides.{nat_tests}
 use Rattle.std.proofs.lemmas.Grind.{common_steps}
 use Rattle.std.proofs.lemmas.List.{get_or_read, length-set, length-replicate}
 use Rattle.hsm_types.specs.Callers.{IsCallerNumber}
+use Rattle.hsm_types.specs.Limits.{callers}
 use Rattle.hsm_types.specs.Messages.{is_lawful}
 use Rattle.hsm_types.specs.declared.dm.Response.{Response}
 use Rattle.hsm_types.specs.declared.keys.Token.{Token}
-use Rattle.plain_model.specs.Keyed.{set_at}
+use Rattle.hsm_types.specs.Keyed.{set_at}
 use Rattle.access_park.specs.declared.access.Access.{Access}
 use Rattle.access_park.specs.Laws.{CountsWaiting}
-use Rattle.access_park.specs.Pending.{is_token, holds, has_lawful_answer, given, answered, nobody, waiting_in, NobodyHolds, HoldsAlone, IsNewToken, IsPark, Slots, access_of, IsTable}
+use Rattle.access_park.specs.Pending.{is_token, holds, has_lawful_answer, given, answered, nobody, waiting_in, NobodyHolds, HoldsAlone, IsNewToken}
+use Rattle.access_park.specs.Pending.{IsPark, Slots, access_of, IsTable}
 use Rattle.access_park.proofs.Answering.{park-answered, answered-alone}
 use Rattle.access_park.proofs.Counting.{waiting-nobody, counts_waiting}
 
@@ -80,7 +83,7 @@ module _ (slots : Slots) (waiting c : ℕ) (is : IsTable slots waiting) where
   counts : CountsWaiting (access_of slots)
   counts = counts_waiting (access_of slots)
 
-  pub few_wait : waiting ≤ 64
+  pub few_wait : waiting ≤ callers
   few_wait = rw is.counted counts.few
 
   there : IsCallerNumber c → c < length slots

@@ -3,6 +3,7 @@ use Rattle.std.specs.Prelude.{◌≡◌, ℕ, List, length, count_by, slice_inde
 use Rattle.std.specs.List.{range_with_len}
 use Rattle.std.specs.Option.{option_map}
 use Rattle.hsm_types.specs.Callers.{IsCallerNumber}
+use Rattle.hsm_types.specs.Limits.{callers}
 use Rattle.hsm_types.specs.Messages.{is_lawful}
 use Rattle.hsm_types.specs.declared.dm.Response.{Response}
 use Rattle.hsm_types.specs.declared.keys.Token.{Token}
@@ -55,7 +56,7 @@ IsNewToken (Some t) pending = NobodyHolds t pending
 
 -- how many callers have an access
 unfoldable pub waiting_in : (ℕ → Option Access) → ℕ
-waiting_in pending = count_by (λ c. is_some (pending c)) (range_with_len 1 64)
+waiting_in pending = count_by (λ c. is_some (pending c)) (range_with_len 1 callers)
 
 -- callers alone have accesses, no two accesses have one token, and each answer is lawful
 pub record IsPark (pending : ℕ → Option Access) : Type 0 where

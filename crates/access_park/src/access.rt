@@ -3,7 +3,7 @@
 use hsm_types::{Call, FileKey, Response, Token};
 
 /// An access that waits, or is judged anew.
-#[derive(Debug, PartialEq, Drop)]
+#[derive(Drop)]
 pub struct Access {
     /// Of the file that it is to.
     pub key: FileKey,

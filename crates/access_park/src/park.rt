@@ -2,7 +2,7 @@
 ghost use Rattle.std.specs.Prelude.{◌≡◌, None, Some, true, IfOk, MatchOption};
 ghost use Rattle.std.specs.Option.{option_copied};
 ghost use Rattle.hsm_types.specs.Messages.{is_lawful};
-ghost use Rattle.plain_model.specs.Keyed.{set_at};
+ghost use Rattle.hsm_types.specs.Keyed.{set_at};
 ghost use Rattle.access_park.specs.Pending.{access_of, answered, has_lawful_answer, nobody, waiting_in, HoldsAlone, IsNewToken, IsPark, NobodyHolds};
 
 use crate::access::Access;

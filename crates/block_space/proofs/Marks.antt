@@ -83,10 +83,6 @@ get_or-unmarked (x ∷ bs) fs b l =
     either true = refl
     either false = refl
 
-pub unmarked-append : (xs ys : List ℕ) (flags : List Bool) → unmarked (xs ++ ys) flags ≡ unmarked ys (unmarked xs flags)
-unmarked-append [] ys flags = refl
-unmarked-append (x ∷ xs) ys flags = unmarked-append xs ys (set flags x false)
-
 -- the marks of some blocks are taken away
 pub unmarked_others : (xs bs ys : List ℕ) (fs : List Bool) → ((b : ℕ) → b < length fs → get_or fs b false ≡ false) → ((b : ℕ) → has b ys ≡ (has b xs && not (has b bs))) → unmarked bs (marked xs fs) ≡ marked ys fs
 unmarked_others xs bs ys fs none others =

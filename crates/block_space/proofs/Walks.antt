@@ -1,7 +1,7 @@
 -- The free blocks from a place on.
-use Rattle.std.proofs.Common.{◌≡◌, ℕ, zero, suc, ◌+◌, ◌-◌, ◌<◌, ◌≤◌, List, [], ◌∷◌, ◌++◌, length, take, drop, get_or, Bool, true, false, cond, ◌||◌, refl, sym, ap, ◌∙◌, arith}
+use Rattle.std.proofs.Common.{◌≡◌, ℕ, zero, suc, ◌+◌, ◌-◌, ◌<◌, List, [], ◌∷◌, ◌++◌, length, take, drop, get_or, Bool, true, false, cond, ◌||◌, refl, sym, ap, ◌∙◌, arith}
 use Rattle.std.proofs.lemmas.Bool.{cond-true, cond-false}
-use Rattle.std.proofs.lemmas.List.{drop_more, drop_all, append_assoc}
+use Rattle.std.proofs.lemmas.List.{drop_more, append_assoc}
 use Rattle.block_space.specs.Space.{free_in, UsedBelow}
 
 -- what is free from a place on, by the flags at it
@@ -16,9 +16,6 @@ used_at k cs ds same l used = at k k cs ds l (omega arith) ∙ cond-true (get_or
 pub free_at : (k : ℕ) (cs ds : List Bool) → length ds ≡ length cs → k < length cs → (get_or cs k false || get_or ds k false) ≡ false
     → free_in k (drop k cs) (drop k ds) ≡ k ∷ free_in (k + 1) (drop (k + 1) cs) (drop (k + 1) ds)
 free_at k cs ds same l unused = at k k cs ds l (omega arith) ∙ cond-false (get_or cs k false || get_or ds k false) _ _ unused
-
-pub none_at_end : (n k : ℕ) (cs ds : List Bool) → length cs ≤ k → free_in n (drop k cs) (drop k ds) ≡ []
-none_at_end n k cs ds l = rw (drop_all k cs l) refl
 
 -- what is used below a place leaves the free blocks from there on
 from : (n low : ℕ) (cs ds : List Bool) → length ds ≡ length cs → UsedBelow low cs ds → free_in n cs ds ≡ free_in (n + low) (drop low cs) (drop low ds)

@@ -5,7 +5,7 @@ ghost use Rattle.std.specs.List.Sorted.{IsStrictlyIncreasing};
 use std::marker::Model;
 
 /// Numbers of blocks, ascending. Contracts see the list of them.
-#[derive(Debug, Drop)]
+#[derive(Drop)]
 pub struct Blocks {
     numbers: Vec<u32>,
 }

@@ -19,7 +19,7 @@ pub enum TakeRefusal {
 }
 
 /// For each block of a disk, whether the current map uses it, and whether the durable one does. It takes two bytes for a block.
-#[derive(Debug, Drop)]
+#[derive(Drop)]
 pub struct BlockSpace {
     current: Vec<bool>,
     durable: Vec<bool>,

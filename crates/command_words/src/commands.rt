@@ -14,7 +14,7 @@ use clap::{ArgMatches, Error};
 use std::alloc::{AllocError, Global};
 
 /// The size of a store.
-#[derive(Clone, Copy, Debug, PartialEq, Eq)]
+#[derive(Clone, Copy, PartialEq, Eq)]
 pub enum StoreSize {
     /// 64 files and 1,024 blocks.
     Small,
@@ -45,7 +45,7 @@ impl StoreSize {
 }
 
 /// What the program is asked to do.
-#[derive(Clone, Copy, Debug, PartialEq, Eq)]
+#[derive(Clone, Copy, PartialEq, Eq)]
 pub enum Command<'a> {
     /// Make an empty store on the disk of that name.
     Format { path: &'a str, size: StoreSize },

@@ -1,5 +1,6 @@
 -- The events of the daemon's kinds, of messages and of their views.
-use Rattle.std.proofs.Common.{◌≡◌, ℕ, suc, List, [], ◌∷◌, length, map, Bool, true, false, if◌then◌else◌, ◌==◌, ◌&&◌, Option, Some, None, refl, ap, arith, eq-eqb}
+use Rattle.std.proofs.Common.{◌≡◌, ℕ, suc, List, [], ◌∷◌, length, map, Bool, true, false, if◌then◌else◌, ◌==◌, ◌&&◌, Option, Some, None, refl, ap}
+use Rattle.std.proofs.Common.{arith, eq-eqb}
 use Rattle.std.specs.List.{All, filter_map, cons_option}
 use Rattle.std.specs.Option.{option_map, IfSome}
 use Rattle.hsm_types.specs.Handles.{handle_bytes, IsHandle}

@@ -1,5 +1,5 @@
 -- The steps on the way to a session are those that a daemon may take.
-use Rattle.std.proofs.Common.{◌≡◌, ℕ, true, false, List, [], ◌∷◌, ◌++◌, Some, None, refl, sym, ap, subst, ◌∙◌, inl, inr, ◌⊎◌}
+use Rattle.std.proofs.Common.{◌≡◌, ℕ, false, List, [], ◌∷◌, ◌++◌, Some, None, refl, sym, ap, subst, ◌∙◌, inl, inr, ◌⊎◌}
 use Rattle.std.specs.Str.{bytes_eq}
 use Rattle.std.specs.Prelude.{drop}
 use Rattle.hsm_types.specs.declared.daemons.Act.TheVariants.{Dm}
@@ -118,16 +118,6 @@ queried_all old now told target info rest next new was told_is other goes makes 
     let is_old : old ≡ member_in old.daemon (Querying target [] 0) old.seat.kept = was ∙ ap (λ (l : List Sid). member_in old.daemon (Querying target l 0) old.seat.kept) q.0 in
     told_as old told _ next new told_is (subst (λ (m : Membership). Enters m (heard.Dm (reply.Info info)) next new) (sym is_old)
     (enters_by _ _ next _ new _ (made_in old.daemon target old.seat.kept info other) made.0 made.1))
-
-assumed_in : (d : Daemon) (target : Sid) (rest : List Sid) (kept : List Kept) (info : List ℕ) → bytes_eq info (information d) ≡ true
-    → Enters (member_in d (Querying target rest 0) kept) (heard.Dm (reply.Info info)) (step.Asks (asked_in d (Making target))) (member_in d (Making target) [])
-assumed_in d target rest kept info own = record { daemon = refl; seat = refl; asked = refl; may = (λ e. cc, (refl, refl, inr (rw own refl))) }
-
-pub queried_own : (old : Membership) (told : Heard) (target : Sid) (info : List ℕ) (rest : List Sid) (next : Step) (new : Membership) → IsQuerying target rest old → told ≡ heard.Dm (reply.Info info)
-    → bytes_eq info (information old.daemon) ≡ true → Makes target old next new → Enters old told next new
-queried_own old told target info rest next new was told_is own made =
-    told_as old told _ next new told_is (subst (λ (m : Membership). Enters m (heard.Dm (reply.Info info)) next new) (sym was)
-    (enters_by _ _ next _ new _ (assumed_in old.daemon target rest old.seat.kept info own) made.0 made.1))
 
 -- ---- a session that is refused
 

@@ -1,5 +1,6 @@
 -- The states on the way to a session, and how one goes on to the next.
 use Rattle.std.specs.Prelude.{◌≡◌, List, [], ◌∷◌, Option, Some, None}
+use Rattle.hsm_types.specs.Limits.{buffer_bytes}
 use Rattle.hsm_types.specs.declared.daemons.Act.TheVariants.{Dm}
 use Rattle.hsm_types.specs.declared.dm.DmCall.TheVariants.{QuerySession, FindEventMsg}
 use Rattle.hsm_types.specs.declared.keys.Sid.{Sid}
@@ -32,7 +33,7 @@ QueriesNext rest old None new = (rest ≡ []) × (new ≡ old)
 -- it asks for the next message, where there is one, and else has the session
 abbrev pub FindsNext : Sid → List Token → Membership → Step → Membership → Type 0
 FindsNext sid [] old next new = (next ≡ step.Seated sid) × (new ≡ member_in old.daemon (Seated sid) old.seat.kept)
-FindsNext sid (token ∷ more) old next new = (next ≡ step.Asks (Dm sid (FindEventMsg token 65536))) × (new ≡ member_in old.daemon (Finding sid token more 0) old.seat.kept)
+FindsNext sid (token ∷ more) old next new = (next ≡ step.Asks (Dm sid (FindEventMsg token buffer_bytes))) × (new ≡ member_in old.daemon (Finding sid token more 0) old.seat.kept)
 
 -- it asks for a session, and keeps no events
 abbrev pub Makes : Sid → Membership → Step → Membership → Type 0

@@ -1,5 +1,6 @@
 -- A daemon on its way to a session, as contracts see it.
 use Rattle.std.specs.Prelude.{◌≡◌, ℕ, List, [], ◌∷◌, drop, Bool, true, false, Option, Some, None, if◌then◌else◌}
+use Rattle.hsm_types.specs.Limits.{buffer_bytes}
 use Rattle.hsm_types.specs.declared.daemons.Act.{Act}
 use Rattle.hsm_types.specs.declared.daemons.Act.TheVariants.{Dm, Idle}
 use Rattle.hsm_types.specs.declared.daemons.Heard.{Heard}
@@ -68,7 +69,7 @@ asked_in d (Querying target ids at) = Dm first_id (QuerySession target)
 asked_in d (Making old) = Dm first_id (CreateSession old (information d))
 asked_in d (Setting sid assumed) = Dm sid (SetDisp (kinds_of d))
 asked_in d (Recollecting sid) = Dm sid GetAllTokens
-asked_in d (Finding sid token tokens at) = Dm sid (FindEventMsg token 65536)
+asked_in d (Finding sid token tokens at) = Dm sid (FindEventMsg token buffer_bytes)
 asked_in d (Seated sid) = Idle
 
 abbrev pub act_of : Step → Act

@@ -3,6 +3,7 @@
 use Rattle.std.specs.Prelude.{◌≡◌, ℕ, ◌⊎◌, List, [], ◌∷◌, ◌++◌, map, filter, drop, Bool, true, false, not, ◌==◌, if◌then◌else◌, Option, Some, None}
 use Rattle.std.specs.Option.{option_map}
 use Rattle.std.specs.Str.{bytes_eq}
+use Rattle.hsm_types.specs.Limits.{buffer_bytes}
 use Rattle.hsm_types.specs.declared.daemons.Act.{Act}
 use Rattle.hsm_types.specs.declared.daemons.Act.TheVariants.{Dm, Idle}
 use Rattle.hsm_types.specs.declared.daemons.Heard.{Heard}
@@ -136,7 +137,7 @@ MayGoOn d s sid (QuerySession target) = (sid ≡ first_id) × (s.found ≡ None)
 MayGoOn d s sid (CreateSession old info) = (sid ≡ first_id) × (info ≡ information d) × MayMake s old
 MayGoOn d s sid (SetDisp kinds) = (s.sid ≡ Some sid) × (s.set ≡ false) × (kinds ≡ kinds_of d)
 MayGoOn d s sid GetAllTokens = (s.sid ≡ Some sid) × (s.set ≡ true) × (s.unfound ≡ None)
-MayGoOn d s sid (FindEventMsg t room) = (s.sid ≡ Some sid) × (s.set ≡ true) × (room ≡ 65536) × ((rest : List Token) × (s.unfound ≡ Some (t ∷ rest)))
+MayGoOn d s sid (FindEventMsg t room) = (s.sid ≡ Some sid) × (s.set ≡ true) × (room ≡ buffer_bytes) × ((rest : List Token) × (s.unfound ≡ Some (t ∷ rest)))
 MayGoOn d s sid call = ⊥
 
 -- where a call is refused for its session, it begins

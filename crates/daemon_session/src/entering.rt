@@ -3,7 +3,7 @@
 use hsm_types::{Sid, Sids, Token, Tokens};
 
 /// What a daemon asks, on its way to a session.
-#[derive(Debug, Drop)]
+#[derive(Drop)]
 pub enum Entering {
     /// Nothing, and it has no session.
     Outside,

@@ -3,7 +3,7 @@
 use hsm_types::{Handle, Kind, Token};
 
 /// An event of a file, as its message tells it.
-#[derive(Clone, Copy, Debug, PartialEq, Eq)]
+#[derive(Clone, Copy, PartialEq, Eq)]
 pub struct Event {
     pub token: Token,
     pub kind: Kind,
@@ -15,7 +15,7 @@ pub struct Event {
 }
 
 /// An event that a daemon keeps until it is answered.
-#[derive(Clone, Copy, Debug, PartialEq, Eq)]
+#[derive(Clone, Copy, PartialEq, Eq)]
 pub struct Kept {
     pub event: Event,
     /// Of recall whether it is put off to the next round, and of migration whether its message was there before the pass began.

@@ -10,4 +10,3 @@ mod steps;
 pub use entering::Entering;
 pub use events::{Event, Kept};
 pub use members::{Member, Step};
-pub use steps::ROOM;

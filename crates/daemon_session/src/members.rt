@@ -14,7 +14,7 @@ use std::alloc::{AllocError, Global};
 use std::marker::Model;
 
 /// What comes next on the way to a session.
-#[derive(Debug, Drop)]
+#[derive(Drop)]
 pub enum Step {
     /// A call.
     Asks(Act),
@@ -25,7 +25,7 @@ pub enum Step {
 }
 
 /// A daemon's way to a session, and the events that it keeps. Contracts see what it knows, and what it waits for.
-#[derive(Debug, Drop)]
+#[derive(Drop)]
 pub struct Member {
     pub(crate) daemon: Daemon,
     pub(crate) entering: Entering,

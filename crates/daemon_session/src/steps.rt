@@ -12,12 +12,11 @@ ghost use Rattle.daemon_session.specs.Members.{begun, asked_in, IsOnWay, Enters}
 
 use crate::entering::Entering;
 use crate::members::{Member, Step};
-use hsm_types::{Act, DmCall, DmRefusal, DmReply, Heard, Sid, Sids, Token, Tokens, Word};
+use hsm_types::{
+    Act, BUFFER_BYTES as ROOM, DmCall, DmRefusal, DmReply, Heard, Sid, Sids, Token, Tokens, Word,
+};
 use std::alloc::AllocError;
 use std::mem;
-
-/// For how many bytes of messages a daemon has room.
-pub const ROOM: u32 = 65_536;
 
 fn asks(sid: Sid, call: DmCall) -> Step
     ensures { result ≡ Asks (Dm sid call) }

@@ -5,7 +5,7 @@ ghost use Rattle.disk_model.specs.Calls.{Elapses, HasCause};
 
 use thiserror::Error;
 
-/// A call of the disk failed, and the disk's count of faults rose in it.
+/// A call of the disk failed, and the disk's count of faults rose by one in it.
 #[derive(Clone, Copy, Debug, PartialEq, Eq, Error)]
 #[error("the disk failed")]
 pub struct Failed;
@@ -17,6 +17,9 @@ pub struct Failed;
 pub trait Disk {
     /// Whether reads may give this content.
     ghost gives: { Self → List ℕ → Type 0 };
+
+    /// What reads give, where the disk tells it. Else it is some list, of any length.
+    ghost content: { Self → List ℕ };
 
     /// Whether a crash at this moment may leave this image.
     ghost may_leave: { Self → List ℕ → Type 0 };
@@ -74,6 +77,9 @@ pub trait Disk {
 
     /// Since this moment there is no other.
     ghost only_now: { (d : Self) (c : List ℕ) → left_since d (moment d) c → may_leave d c };
+
+    /// Reads give one content.
+    ghost one_content: { (d : Self) (c : List ℕ) → gives d c → c ≡ content d };
 
     /// What is given or left has the disk's length.
     ghost given_length: { (d : Self) (c : List ℕ) → gives d c → length c ≡ length_of d };

@@ -94,7 +94,7 @@ impl MemDisk {
     }
 
     /// The image that a crash leaves where it has kept so much of each of these writes, in the order of the calls, and
-    /// nothing of those past the list's end.
+    /// nothing of those past the list's end. For tests of one image: no crate calls it yet.
     pub fn crash_image(&self, kept: &[Kept]) -> Result<Vec<u8>, AllocError>
         ensures kept { IfOk result (λ image. image.items ≡ crashed (medium_of self.now).pending kept.now (medium_of self.now).synced) }
         ensures left { IfOk result (λ image. MayLeave self.now image.items) }
@@ -161,6 +161,8 @@ impl Disk for MemDisk {
 
     ghost gives = { IsGiven };
 
+    ghost content = { λ d. (medium_of d).now };
+
     ghost may_leave = { MayLeave };
 
     ghost moment = { λ d. length d.calls };
@@ -174,6 +176,8 @@ impl Disk for MemDisk {
     ghost counts_now = { λ d t c le left. left_now d.first d.calls t c le left };
 
     ghost only_now = { λ d c left. now_left d.first d.calls c left };
+
+    ghost one_content = { λ d c given. given };
 
     ghost given_length = { λ d c given. ap length given };
 

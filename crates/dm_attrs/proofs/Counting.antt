@@ -8,6 +8,7 @@ use Rattle.std.specs.BTreeMap.{is_at}
 use Rattle.std.specs.Cmp.{IsTotalOrder}
 use Rattle.std.specs.List.Sorted.{IsStrictlySortedBy}
 use Rattle.std.specs.Map.{keys_of, lookup, remove_entry}
+use Rattle.hsm_types.specs.Limits.{value_bytes}
 use Rattle.hsm_types.specs.declared.attributes.AttrName.{AttrName}
 use Rattle.hsm_types.specs.declared.dm.DmRefusal.TheVariants.{Reserved, AttrTooBig, TooMany}
 use Rattle.hsm_types.specs.Refusals.{first_refusal}
@@ -49,11 +50,11 @@ passes false true true len sum h = (refl, refl, refl)
 module _ (name : AttrName) (value : List ℕ) (others limit bytes count : ℕ) (attrs after : Attributes) (is : IsCounted bytes attrs) (bound : limit ≤ 2 ^ 32)
     (none : setting_refusal name value others limit attrs ≡ None) (counts : count ≡ bytes_of_attributes (with_value name value attrs))
     (made : after ≡ with_value name value attrs) (ascend : IsStrictlySortedBy name_cmp (keys_of after)) where
-  passed : (is_reserved name ≡ false) × (leb (length value) 4096 ≡ true) × (leb (others + bytes_of_attributes (with_value name value attrs)) limit ≡ true)
-  passed = passes (is_reserved name) (leb (length value) 4096) (leb (others + bytes_of_attributes (with_value name value attrs)) limit) (length value) (others + bytes_of_attributes (with_value name value attrs)) none
+  passed : (is_reserved name ≡ false) × (leb (length value) value_bytes ≡ true) × (leb (others + bytes_of_attributes (with_value name value attrs)) limit ≡ true)
+  passed = passes (is_reserved name) (leb (length value) value_bytes) (leb (others + bytes_of_attributes (with_value name value attrs)) limit) (length value) (others + bytes_of_attributes (with_value name value attrs)) none
 
-  short : length value ≤ 4096
-  short = leb-true (length value) 4096 passed.1
+  short : length value ≤ value_bytes
+  short = leb-true (length value) value_bytes passed.1
 
   fits : others + bytes_of_attributes (with_value name value attrs) ≤ limit
   fits = leb-true (others + bytes_of_attributes (with_value name value attrs)) limit passed.2
@@ -63,7 +64,7 @@ module _ (name : AttrName) (value : List ℕ) (others limit bytes count : ℕ) (
     attributes = record {
       ascend = ascend;
       unreserved = rw made (All-keys-insert_entry name_cmp name value (λ (other : AttrName). is_reserved other ≡ false) attrs is.attributes.unreserved passed.0);
-      short = rw made (All-values-insert_entry name_cmp name value (λ (other : List ℕ). length other ≤ 4096) attrs is.attributes.short short);
+      short = rw made (All-values-insert_entry name_cmp name value (λ (other : List ℕ). length other ≤ value_bytes) attrs is.attributes.short short);
     };
     sum = rw made counts;
     few = let limited = fits in omega arith;
@@ -78,7 +79,7 @@ module _ (name : AttrName) (value : List ℕ) (bytes : ℕ) (attrs : Attributes)
     attributes = record {
       ascend = ascend;
       unreserved = rw left (All-map-remove_entry (same_name name) (λ (a : AttrName × List ℕ). a.0) (λ (other : AttrName). is_reserved other ≡ false) attrs is.attributes.unreserved);
-      short = rw left (All-map-remove_entry (same_name name) (λ (a : AttrName × List ℕ). a.1) (λ (other : List ℕ). length other ≤ 4096) attrs is.attributes.short);
+      short = rw left (All-map-remove_entry (same_name name) (λ (a : AttrName × List ℕ). a.1) (λ (other : List ℕ). length other ≤ value_bytes) attrs is.attributes.short);
     };
     sum = let part = counted-part in rw left (omega arith);
     few = let few = is.few in omega arith;

@@ -7,7 +7,7 @@ ghost use Rattle.hsm_types.specs.Attributes.{AreAttributes, name_cmp, value_of, 
 ghost use Rattle.dm_attrs.specs.Counts.{cost_under};
 ghost use Rattle.hsm_types.specs.declared.dm.DmRefusal.TheVariants.{Memory};
 
-use hsm_types::{ATTRIBUTE_BYTES, ATTRIBUTE_COST, AttrName, Bytes, DmRefusal, Names};
+use hsm_types::{ATTRIBUTE_COST, AttrName, Bytes, DmRefusal, Names, VALUE_BYTES};
 use std::alloc::{AllocError, Global};
 use std::collections::BTreeMap;
 use std::collections::btree_map::Iter;
@@ -82,7 +82,7 @@ impl DmAttrs {
     {
         check_unreserved(name)?;
         let len = value.as_slice().len();
-        if len > ATTRIBUTE_BYTES {
+        if len > VALUE_BYTES {
             return Err(DmRefusal::AttrTooBig { len: len as u64 });
         }
         let after = self.bytes_with(name, value);
@@ -95,7 +95,7 @@ impl DmAttrs {
 
     /// What the attributes count once that one is set.
     fn bytes_with(&self, name: AttrName, value: &Bytes) -> u64
-        requires { length value.now ≤ 4096 }
+        requires { length value.now ≤ VALUE_BYTES }
         ensures sum { result ≡ bytes_of_attributes (with_value name value.now self.now) }
         ensures few { result ≤ 2 ^ 32 + cost_of_value value.now }
     {

@@ -11,16 +11,12 @@ use Rattle.hsm_types.specs.declared.dm.DmCall.{DmCall}
 use Rattle.hsm_types.specs.declared.dm.DmCall.TheVariants.{Respond, CreateUserEvent, GetSpace}
 use Rattle.hsm_types.specs.declared.dm.DmRefusal.{DmRefusal}
 use Rattle.hsm_types.specs.declared.dm.DmReply.TheVariants.{Done}
-use Rattle.hsm_types.specs.declared.dm.Kind.{Kind}
-use Rattle.plain_model.specs.Keyed.{set_at}
-use Rattle.plain_model.specs.Accesses.{told_span}
+use Rattle.hsm_types.specs.Keyed.{set_at}
 use Rattle.plain_model.specs.State.{Held, State, noted}
 use Rattle.plain_model.specs.Services.{dm_judged, dm_reply_where, dm_reply_to, dm_state_where, dm_state_after}
-use Rattle.plain_model.specs.Verdict.{Posts, shortage, left_by_verdict}
-use Rattle.access_park.specs.declared.access.Access.{Access}
-use Rattle.dm_service.specs.Tables.{Tables, waiting, pending_as, flags_in, flags_or_none, state_in, seen}
+use Rattle.dm_service.specs.Tables.{Tables, waiting, pending_as, flags_or_none, state_in, seen}
 use Rattle.dm_service.specs.Services.{asks_tables, any_superblock, is_due, entries_for}
-use Rattle.dm_service.specs.Parking.{with_access, parked_on}
+use Rattle.dm_service.specs.Parking.{with_access}
 use Rattle.dm_service.proofs.Served.{due_passes}
 
 module _ (s : Superblock) (held : Held) (stamps : FileKey → ℕ) (number : ℕ) (t : Tables) where
@@ -48,11 +44,6 @@ module _ (s : Superblock) (held : Held) (stamps : FileKey → ℕ) (number : ℕ
   left_anywhere u sid call asks left =
       ap (λ (st : State). record st { held = held; stamps = stamps; number = number + 1 }) (left ∙ (λ i. dm_state_where (judged_same sid call asks i) any_superblock (seen t) sid call))
       ∙ rest_same sid call (dm_judged s (state_in held stamps number t) sid call) asks
-
-  -- an access that parks on its event leaves what its verdict says
-  pub parked_anywhere : (u : Tables) (c : ℕ) (a : Access) (kind : Kind) → seen u ≡ parked_on c a kind (record { fsid = s.fsid; key = a.key }) (told_span a.call (shortage s held a.key a.call) kind) (seen t)
-      → state_in held stamps (number + 1) u ≡ left_by_verdict s (state_in held stamps number t) c (flags_in a) a.key a.call (Some (Posts kind))
-  parked_anywhere u c a kind left = ap (λ (st : State). record st { held = held; stamps = stamps; number = number + 1 }) left
 
 -- of a caller of whom none waits none is taken away
 unmoved : {V : Type 0} (c : ℕ) (v : V) (f : ℕ → V) → f c ≡ v → (n : ℕ) → set_at c v f n ≡ f n

@@ -9,7 +9,7 @@ use Rattle.hsm_types.specs.declared.dm.Kind.{Kind}
 use Rattle.hsm_types.specs.declared.keys.Handle.{Handle}
 use Rattle.hsm_types.specs.declared.keys.Token.{Token}
 use Rattle.hsm_types.specs.declared.regions.Range.{Range}
-use Rattle.plain_model.specs.Keyed.{set_at}
+use Rattle.hsm_types.specs.Keyed.{set_at}
 use Rattle.plain_model.specs.Accesses.{event_message}
 use Rattle.plain_model.specs.Ledger.{Ledger, next_token}
 use Rattle.plain_model.specs.State.{State}

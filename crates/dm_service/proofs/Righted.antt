@@ -16,7 +16,8 @@ use Rattle.hsm_types.specs.declared.dm.Right.TheVariants.{Null, Shared, Excl}
 use Rattle.hsm_types.specs.declared.keys.FileKey.{FileKey}
 use Rattle.hsm_types.specs.declared.keys.Holding.{Holding}
 use Rattle.hsm_types.specs.declared.keys.Token.{Token}
-use Rattle.hsm_types.proofs.Righted.{requested-rights, upgraded-rights, downgraded-rights, without-rights, keys-requested, keys-with_right, keys-without_right, right-held}
+use Rattle.hsm_types.proofs.Righted.{requested-rights, upgraded-rights, downgraded-rights, without-rights, keys-requested, keys-with_right}
+use Rattle.hsm_types.proofs.Righted.{keys-without_right, right-held}
 use Rattle.plain_model.proofs.Judged.{none_first, passes}
 use Rattle.plain_model.specs.Services.{bad_own_token}
 use Rattle.plain_model.specs.Stands.{InOrder}

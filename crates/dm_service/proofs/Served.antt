@@ -16,7 +16,7 @@ use Rattle.hsm_types.specs.declared.dm.DmCall.TheVariants.{Respond, CreateUserEv
 use Rattle.hsm_types.specs.declared.dm.DmRefusal.{DmRefusal}
 use Rattle.hsm_types.specs.declared.dm.DmReply.{DmReply}
 use Rattle.hsm_types.specs.declared.dm.DmReply.TheVariants as reply
-use Rattle.plain_model.specs.Keyed.{set_at}
+use Rattle.hsm_types.specs.Keyed.{set_at}
 use Rattle.plain_model.specs.Ledger.{next_token, waits_for, answered as reached}
 use Rattle.plain_model.specs.State.{State, noted}
 use Rattle.plain_model.specs.Services.{bad_own_token, scope_refusals, dm_judged, dm_reply_where, dm_reply_to, dm_state_where}
@@ -28,7 +28,8 @@ use Rattle.access_park.specs.Laws.{CountsWaiting}
 use Rattle.access_park.specs.declared.access.Access.{Access}
 use Rattle.access_park.proofs.Counting.{counts_waiting}
 use Rattle.dm_service.specs.Tables.{Tables, waiting, is_open, pending_as, flags_in, flags_or_none, ledger_of, seen, open_among, awaited_in, AreKept}
-use Rattle.dm_service.specs.Services.{asks_sessions, asks_tables, any_superblock, session_refusals, with_sessions, own_refusal, whole_refusal, AreBoth, IsServed, IsTold, Judges, JudgesOrLacks, is_due, entries_for}
+use Rattle.dm_service.specs.Services.{asks_sessions, asks_tables, any_superblock, session_refusals, with_sessions, own_refusal, whole_refusal}
+use Rattle.dm_service.specs.Services.{AreBoth, IsServed, IsTold, Judges, JudgesOrLacks, is_due, entries_for}
 use Rattle.dm_service.proofs.Refusing.{all_pass, one_stops, alone}
 use Rattle.dm_service.proofs.Ledgers.{shown, still_ordered, open_as}
 use Rattle.dm_service.proofs.Awaiting.{closed, opened, within_top}

@@ -1,7 +1,7 @@
 //! Events of accesses, and the accesses that wait for them.
 ghost use Rattle.std.specs.Prelude.{◌≡◌, ◌≢◌, ◌+◌, None, Some, is_some, if◌then◌else◌, IsSome, IfOk, IfSome, OnOk, OnErr};
 ghost use Rattle.hsm_types.specs.Sessions.{posted, IsNewToken};
-ghost use Rattle.plain_model.specs.Keyed.{set_at};
+ghost use Rattle.hsm_types.specs.Keyed.{set_at};
 ghost use Rattle.plain_model.specs.Accesses.{event_message};
 ghost use Rattle.plain_model.specs.Ledger.{next_token};
 ghost use Rattle.access_park.specs.declared.access.Access.{Access};

@@ -18,7 +18,8 @@ use std::alloc::{AllocError, Global};
 use std::marker::Model;
 use token_rights::Rights;
 
-/// The sessions with their messages and tokens, what tokens hold, and the accesses of callers that wait. Every token was given here. `seen` shows it as a store.
+/// The sessions with their messages and tokens, what tokens hold, and the accesses of callers that wait. Every token was given here. `seen` shows
+/// it as a store.
 #[derive(Drop)]
 pub struct DmService {
     pub(crate) sessions: Sessions,

@@ -43,7 +43,7 @@ impl DmService {
         }
     }
 
-    /// Makes a session in the place of the session `old`, or beside the others where that is 0.
+    /// Makes a session in the place of the session `old`, or beside the others where that is 0. For callers in threads: no crate calls it yet.
     pub fn assume(&mut self, old: Sid, info: Word) -> Result<Sid, DmRefusal>
         ensures judged { JudgesOrLacks result (creation_refusal old info self.old.sessions) }
         ensures made { IfOk result (λ sid. sid ≡ next_sid self.old.sessions) }

@@ -3,7 +3,7 @@
 use hsm_types::{Kind, Response, Token};
 
 /// What becomes of an access that is judged.
-#[derive(Clone, Copy, Debug, PartialEq, Eq)]
+#[derive(Clone, Copy, PartialEq, Eq)]
 pub enum Verdict {
     /// It ends by this response to its event, which is an abort.
     Answered(Response),

@@ -4,6 +4,7 @@ use Rattle.std.proofs.lemmas.Bool.Decides.{nat_tests}
 use Rattle.std.specs.List.Sorted.{IsStrictlyIncreasing}
 use Rattle.std.specs.Map.{keys_of, lookup, remove_entry}
 use Rattle.indexmap.specs.IndexMap.{insert_entry}
+use Rattle.hsm_types.specs.Limits.{live_sessions}
 use Rattle.hsm_types.specs.declared.keys.Sid.{Sid}
 use Rattle.hsm_types.specs.Refusals.{first_refusal}
 use Rattle.hsm_types.specs.Sessions.{LiveSession, SessionTable, Ascend, same_sid, change_live, creation_refusal, no_session, bad_info, too_many_sessions}
@@ -37,14 +38,6 @@ length-remove_entry test (s ∷ rest) =
 pub Ascend-push : (low high next : ℕ) (info : LiveSession) (live : Live) → Ascend low high live → low < next → high < next → Ascend low next (live ++ (record { 0 = next }, info) ∷ [])
 Ascend-push low high next info [] h above new = (above, omega arith, tt)
 Ascend-push low high next info (s ∷ rest) h above new = let within = h.1 in (h.0, omega arith, Ascend-push s.0.0 high next info rest h.2 (omega arith) new)
-
--- a session that isn't there
-pub lookup-absent : (sid : Sid) (low high : ℕ) (live : Live) → Ascend low high live → high < sid.0 → lookup (same_sid sid) live ≡ None
-lookup-absent sid low high [] h above = refl
-lookup-absent sid low high (s ∷ rest) h above =
-    let within = h.1 in
-    let other : eqb sid.0 s.0.0 ≡ false = grind (arith, nat_tests) in
-    rw other (lookup-absent sid s.0.0 high rest h.2 above)
 
 pub insert_entry-last : (sid : Sid) (info : LiveSession) (low high : ℕ) (live : Live) → Ascend low high live → high < sid.0 → insert_entry same_sid live sid info ≡ live ++ (sid, info) ∷ []
 insert_entry-last sid info low high [] h above = refl
@@ -85,18 +78,18 @@ module _ (old : Sid) (info : List ℕ) (t : SessionTable) (none : creation_refus
   old-known : (eqb old.0 0 || is_some (lookup (same_sid old) t.live)) ≡ true
   old-known = passed (eqb old.0 0 || is_some (lookup (same_sid old) t.live)) NoSession known.0
 
-  few-beside : (eqb old.0 0 && leb 64 (length t.live)) ≡ false
+  few-beside : (eqb old.0 0 && leb live_sessions (length t.live)) ≡ false
   few-beside =
       let fits = none-first (bad_info info) (too_many_sessions old t ∷ []) known.1 in
-      not_met (eqb old.0 0 && leb 64 (length t.live)) (TooMany 64) (none-first (too_many_sessions old t) [] fits.1).0
+      not_met (eqb old.0 0 && leb live_sessions (length t.live)) (TooMany live_sessions) (none-first (too_many_sessions old t) [] fits.1).0
 
 -- the new session makes no 65th
-pub room : (old : Sid) (info : List ℕ) (t : SessionTable) → length t.live ≤ 64 → creation_refusal old info t ≡ None → length (remove_entry (same_sid old) t.live) + 1 ≤ 64
+pub room : (old : Sid) (info : List ℕ) (t : SessionTable) → length t.live ≤ live_sessions → creation_refusal old info t ≡ None → length (remove_entry (same_sid old) t.live) + 1 ≤ live_sessions
 room old info t few none = go (eqb old.0 0) refl
   where
-    go : (b : Bool) → eqb old.0 0 ≡ b → length (remove_entry (same_sid old) t.live) + 1 ≤ 64
+    go : (b : Bool) → eqb old.0 0 ≡ b → length (remove_entry (same_sid old) t.live) + 1 ≤ live_sessions
     go true e =
-        let below : leb 64 (length t.live) ≡ false = rw e at (few-beside old info t none) in
+        let below : leb live_sessions (length t.live) ≡ false = rw e at (few-beside old info t none) in
         let shorter = length-remove_entry (same_sid old) t.live in
         grind (arith, nat_tests)
     go false e =

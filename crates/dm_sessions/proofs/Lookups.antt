@@ -1,6 +1,6 @@
 -- What is true of a table of sessions, after each call.
-use Rattle.std.proofs.Common.{◌≡◌, ℕ, zero, suc, ◌+◌, ◌-◌, ◌<◌, ◌≤◌, Bool, true, false, cond, not, List, [], ◌∷◌, ◌++◌, length, map, take, drop, filter, Option, None, Some, is_some, refl, sym, ap, subst, ◌∙◌, eqb, leb, length-append, arith}
-use Rattle.std.proofs.lemmas.Bool.{true≢false, ne_eqb, eq-eqb, eqb-true, leb-true, leb-false}
+use Rattle.std.proofs.Common.{◌≡◌, ℕ, zero, suc, ◌+◌, ◌-◌, ◌<◌, ◌≤◌, Bool, true, false, cond, not, List, [], ◌∷◌, ◌++◌, length, map, take, drop, filter, Option, None, Some, is_some, refl, sym, ap, subst, ◌∙◌, eqb, length-append, arith}
+use Rattle.std.proofs.lemmas.Bool.{true≢false, ne_eqb, eq-eqb, eqb-true}
 use Rattle.std.proofs.lemmas.List.{length-map}
 use Rattle.std.proofs.lemmas.List.Elements.{All-push, All-filter}
 use Rattle.std.proofs.lemmas.List.Sums.{sum_by-cons, sum_by-append, count_by-le-length}
@@ -11,9 +11,9 @@ use Rattle.std.specs.Map.{lookup, remove_entry, set_value, values_of}
 use Rattle.indexmap.specs.IndexMap.{set_value_at}
 use Rattle.hsm_types.specs.Refusals.{first_refusal}
 use Rattle.hsm_types.specs.Messages.{has_token, no_token, takes, user_message, IsMessage}
-use Rattle.hsm_types.specs.Sessions.{LiveSession, SessionTable, IsNewToken, same_sid, session_of, lives, heir, next_sid, with_session, without_session, change_live, change_session, queued, loses, with_kinds, posted, posted_to, taker, delivered, hands_out, user_event, put_message, responded, without_token, sent, is_of_user, user_tokens, places, places_in, holds, owner, message_in, outstanding_or_none, creation_refusal, dead_session, destruction_refusal, events_left, too_long, too_many_events, too_many_waiting, event_refusal, sending_refusal, queue_of, bad_token}
+use Rattle.hsm_types.specs.Sessions.{LiveSession, SessionTable, IsNewToken, same_sid, session_of, lives, heir, next_sid, with_session, without_session, change_live, change_session, queued, loses, with_kinds, posted, posted_to, taker, delivered, hands_out, user_event, put_message, responded, without_token, sent, is_of_user, user_tokens, places, places_in, holds, owner, message_in, outstanding_or_none, creation_refusal, dead_session, destruction_refusal, events_left, too_long, too_many_waiting, sending_refusal, queue_of, bad_token}
 use Rattle.hsm_types.specs.declared.dm.DmRefusal.{DmRefusal}
-use Rattle.hsm_types.specs.declared.dm.DmRefusal.TheVariants.{NoSession, NoToken, NotYours, EventsLeft, TooMany}
+use Rattle.hsm_types.specs.declared.dm.DmRefusal.TheVariants.{NoSession, NotYours, EventsLeft}
 use Rattle.hsm_types.specs.declared.dm.Kind.TheVariants.{Read, Write, Truncate, NoSpace, User}
 use Rattle.hsm_types.specs.declared.keys.Sid.{Sid}
 use Rattle.hsm_types.specs.declared.keys.Token.{Token}
@@ -21,9 +21,9 @@ use Rattle.hsm_types.specs.declared.dm.Kind.{Kind}
 use Rattle.hsm_types.specs.declared.dm.Kinds.{Kinds}
 use Rattle.hsm_types.specs.declared.messages.Message.{Message}
 use Rattle.hsm_types.proofs.Queues.{sum-change_live, sum-remove, sum-mapped, remove-absent, lookup-mapped, session-lives, found-lives, count-put_message, places-held, places-created, places-destroyed, places-disposed, places-posted, places-delivered, places-responded, places-responded-other, places-user_event, places-sent, owner-own, owner-holds}
-use Rattle.dm_sessions.specs.Tables.{IsEvent, IsQueued, IsTable, users_of}
+use Rattle.dm_sessions.specs.Tables.{IsEvent, IsTable, users_of}
 use Rattle.dm_sessions.proofs.InOrder.{any-found}
-use Rattle.dm_sessions.proofs.Ascending.{Ascend-remove, length-remove_entry, Ascend-push, Ascend-change, length-change, Ascend-map, room, none-first, passed, not_met}
+use Rattle.dm_sessions.proofs.Ascending.{Ascend-remove, length-remove_entry, Ascend-push, Ascend-change, length-change, Ascend-map, room, none-first, passed}
 
 abbrev pub Live : Type 0
 Live = List (Sid × LiveSession)
@@ -235,20 +235,6 @@ lost-all kinds (suc i) (e ∷ rest) le = ap (λ (l : Live). (e.0, loses kinds e.
 pub living : (sid : Sid) (t : SessionTable) (rest : List (Option DmRefusal)) → first_refusal (dead_session sid t ∷ rest) ≡ None → lives sid t ≡ true
 living sid t rest none = passed (lives sid t) NoSession (none-first (dead_session sid t) rest none).0
 
-pub short : (body : List ℕ) (rest : List (Option DmRefusal)) → first_refusal (too_long body ∷ rest) ≡ None → length body ≤ 4096
-short body rest none = leb-true (length body) 4096 (passed (leb (length body) 4096) (TooMany (length body)) (none-first (too_long body) rest none).0)
-
-pub few-users : (body : List ℕ) (t : SessionTable) → event_refusal body t ≡ None → user_tokens t < 960
-few-users body t none =
-    let later = (none-first (too_long body) (too_many_events t ∷ []) none).1 in
-    leb-false 960 (user_tokens t) (not_met (leb 960 (user_tokens t)) (TooMany 960) (none-first (too_many_events t) [] later).0)
-
-pub own-message : (token : Token) (body : List ℕ) → length body ≤ 4096 → IsMessage (user_message token body)
-own-message token body le = (refl, refl, refl, le)
-
-pub own-queued : (body : List ℕ) → length body ≤ 4096 → IsQueued (user_message no_token body)
-own-queued body le = (own-message no_token body le, refl)
-
 pub access-event : (m : Message) → IsMessage m → (m.kind ≡ User → ⊥) → IsEvent m
 access-event m message access = (message, by m.kind access)
   where
@@ -364,9 +350,6 @@ of-another sid other token t users s is there lacks has =
         let one : Some met.0 ≡ Some s = sym met.1 ∙ there in
         let same : met.0 ≡ s = cc in
         true≢false (sym met.2 ∙ ap (holds token) same ∙ lacks)
-
-pub of-none : (sid : Sid) (token : Token) (t : SessionTable) (s : LiveSession) → session_of sid t ≡ Some s → owner token t ≡ None → first_refusal (dead_session sid t ∷ bad_token sid token t ∷ []) ≡ Some NoToken
-of-none sid token t s there none = rw (there, none) refl
 
 -- ---- the first session that passes, one after the other
 

@@ -2,6 +2,7 @@
 use Rattle.std.specs.Prelude.{◌≡◌, ℕ, ◌<◌, ◌≤◌, List, [], ◌∷◌, length, count_by, false, Option, None, Some}
 use Rattle.std.specs.List.{All}
 use Rattle.std.specs.Map.{values_of}
+use Rattle.hsm_types.specs.Limits.{live_sessions}
 use Rattle.hsm_types.specs.Messages.{IsMessage, has_token, no_token}
 use Rattle.hsm_types.specs.Sessions.{LiveSession, SessionTable, Ascend, is_of_user, places, put_messages, user_tokens}
 use Rattle.hsm_types.specs.declared.dm.DmRefusal.{DmRefusal}
@@ -36,10 +37,10 @@ pub record IsSession (queue : List Message) (waiting : ℕ) (entries : List (Tok
   pub kept : All IsKept entries
   pub apart : (u : Token) → count_by (has_token u) (values_of entries) ≤ 1
 
--- a table: ids ascend, at most 64 sessions live, a token stands at one place, and so many tokens of user events are outstanding
+-- a table: ids ascend, at most `live_sessions` live, a token stands at one place, and so many tokens of user events are outstanding
 pub record IsTable (t : SessionTable) (users : ℕ) : Type 0 where
   pub ascend : Ascend 0 t.given t.live
-  pub few : length t.live ≤ 64
+  pub few : length t.live ≤ live_sessions
   pub events : All IsEvent t.unrouted
   pub once : (u : Token) → 0 < u.0 → places u t ≤ 1
   pub counted : users ≡ user_tokens t

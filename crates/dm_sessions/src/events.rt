@@ -13,8 +13,7 @@ use crate::changes;
 use crate::live_session::LiveSession;
 use crate::sessions::Sessions;
 use hsm_types::{
-    Bytes, DmRefusal, Kind, Kinds, MESSAGE_BYTES, Message, Sid, Token, USER_TOKENS,
-    WAITING_MESSAGES,
+    Bytes, DATA_BYTES, DmRefusal, Kind, Kinds, Message, Sid, Token, USER_EVENTS, WAITING_MESSAGES,
 };
 use std::alloc::AllocError;
 
@@ -89,8 +88,8 @@ impl Sessions {
             return Err(DmRefusal::NoSession);
         }
         check_length(body)?;
-        if self.user_tokens >= USER_TOKENS {
-            return Err(DmRefusal::TooMany { count: USER_TOKENS });
+        if self.user_tokens >= USER_EVENTS {
+            return Err(DmRefusal::TooMany { count: USER_EVENTS });
         }
         Ok(())
     }
@@ -160,7 +159,7 @@ fn check_length(body: &Bytes) -> Result<(), DmRefusal>
     ensures { MatchResult result (λ _. too_long body.now ≡ None) (λ why. too_long body.now ≡ Some why) }
 {
     let len = body.as_slice().len();
-    if len > MESSAGE_BYTES {
+    if len > DATA_BYTES {
         return Err(DmRefusal::TooMany { count: len as u64 });
     }
     Ok(())

@@ -10,19 +10,21 @@ use Rattle.std.proofs.lemmas.List.FromFn.{length-map-range_with_len}
 use Rattle.std.proofs.lemmas.List.Sums.{sum_by-cons}
 use Rattle.hsm_types.specs.declared.calls.Call.TheVariants.{Write}
 use Rattle.hsm_types.specs.declared.daemons.Daemon.TheVariants.{Recall, Migrate}
+use Rattle.script_text.specs.Limits.{line_bytes}
 use Rattle.script_text.specs.declared.lines.Line.{Line}
 use Rattle.script_text.specs.declared.lines.Line.TheVariants.{Start, Settle}
 use Rattle.script_text.specs.Lines.{pattern, pattern_byte, line_text, is_word, is_word_byte, IsLine, access_length}
 use Rattle.script_text.specs.Scripts.{AreLawful}
 use Rattle.drill_script.specs.declared.draws.Turn.{Turn}
-use Rattle.drill_script.specs.Drill.{file_name, line_of, create_line, write_line, read_line, truncate_line, turn_line, turn_from, next_turn, create_lines, turn_lines, drill_lines}
+use Rattle.drill_script.specs.Drill.{file_name, line_of, create_line, write_line, read_line, truncate_line, read_bytes, write_bytes, turn_line}
+use Rattle.drill_script.specs.Drill.{turn_from, next_turn, create_lines, turn_lines, drill_lines}
 
 -- ---- lines that are lawful in any number below 16,384
 
 pub record IsLight (line : Line) : Type 0 where
   pub lawful : IsLine line
-  pub short : length (line_text line) ≤ 4096
-  pub light : access_length line ≤ 32768
+  pub short : length (line_text line) ≤ line_bytes
+  pub light : access_length line ≤ write_bytes
 
 abbrev AreLight : List Line → Type 0
 AreLight lines = AllByRecursion IsLight lines
@@ -31,11 +33,11 @@ each_lawful : (lines : List Line) → AreLight lines → AllByRecursion IsLine l
 each_lawful [] h = tt
 each_lawful (line ∷ lines) h = (h.0.lawful, each_lawful lines h.1)
 
-each_short : (lines : List Line) → AreLight lines → AllByRecursion (λ line. length (line_text line) ≤ 4096) lines
+each_short : (lines : List Line) → AreLight lines → AllByRecursion (λ line. length (line_text line) ≤ line_bytes) lines
 each_short [] h = tt
 each_short (line ∷ lines) h = (h.0.short, each_short lines h.1)
 
-all_light : (lines : List Line) → AreLight lines → sum_by access_length lines ≤ 32768 * length lines
+all_light : (lines : List Line) → AreLight lines → sum_by access_length lines ≤ write_bytes * length lines
 all_light [] h = omega arith
 all_light (line ∷ lines) h =
     let first = h.0.light in
@@ -101,7 +103,7 @@ read_light t h =
     let one = length-decimal-le 1 1 (omega arith) (omega arith) (omega arith) in
     let digits = length-decimal-le 2 t.file (omega arith) (omega arith) (omega arith) in
     let places = length-decimal-le 6 t.offset (omega arith) (omega arith) (omega arith) in
-    let bytes = length-decimal-le 4 4096 (omega arith) (omega arith) (omega arith) in
+    let bytes = length-decimal-le 4 read_bytes (omega arith) (omega arith) (omega arith) in
     record {
       lawful = ((omega arith, omega arith), ((is_word-file_name t.file few, refl), ((omega arith, refl), (omega arith, refl))));
       short = simp length-append (omega arith);
@@ -123,7 +125,7 @@ truncate_light t h =
 length-pattern : (len seed : ℕ) → length (pattern len seed) ≡ len
 length-pattern len seed = length-map-range_with_len (pattern_byte seed) 0 len
 
-write_short : (t : Turn) (bytes : List ℕ) → IsTurn t → length bytes ≤ 32768 → length (line_text (line_of (Write (file_name t.file) t.offset bytes) (Some t.seed))) ≤ 4096
+write_short : (t : Turn) (bytes : List ℕ) → IsTurn t → length bytes ≤ write_bytes → length (line_text (line_of (Write (file_name t.file) t.offset bytes) (Some t.seed))) ≤ line_bytes
 write_short t bytes h few_bytes =
     let few = h.file in let near = h.offset in let low = h.seed in
     let one = length-decimal-le 1 1 (omega arith) (omega arith) (omega arith) in
@@ -133,15 +135,15 @@ write_short t bytes h few_bytes =
     let seed = length-decimal-le 3 t.seed (omega arith) (omega arith) (omega arith) in
     simp length-append (omega arith)
 
-write_access : (t : Turn) (bytes : List ℕ) → length bytes ≤ 32768 → access_length (line_of (Write (file_name t.file) t.offset bytes) (Some t.seed)) ≤ 32768
+write_access : (t : Turn) (bytes : List ℕ) → length bytes ≤ write_bytes → access_length (line_of (Write (file_name t.file) t.offset bytes) (Some t.seed)) ≤ write_bytes
 write_access t bytes few_bytes = omega arith
 
-write_light : (len : ℕ) (t : Turn) → len ≤ 32768 → IsTurn t → IsLight (write_line len t)
+write_light : (len : ℕ) (t : Turn) → len ≤ write_bytes → IsTurn t → IsLight (write_line len t)
 unfolding write_line
 write_light len t few_bytes h =
     let few = h.file in let near = h.offset in let low = h.seed in
     let many = length-pattern len t.seed in
-    let fits : length (pattern len t.seed) ≤ 32768 = omega arith in
+    let fits : length (pattern len t.seed) ≤ write_bytes = omega arith in
     record {
       lawful = (
         (omega arith, omega arith),
@@ -154,8 +156,8 @@ write_light len t few_bytes h =
 turn_light : (t : Turn) → IsTurn t → IsLight (turn_line t)
 unfolding turn_line
 turn_light t h =
-    elim (nat_lt t.action 5) as (λ writes. IsLight (if writes then write_line 32768 t else if nat_lt t.action 9 then read_line t else truncate_line t)) [
-      | true ↦ write_light 32768 t (omega arith) h
+    elim (nat_lt t.action 5) as (λ writes. IsLight (if writes then write_line write_bytes t else if nat_lt t.action 9 then read_line t else truncate_line t)) [
+      | true ↦ write_light write_bytes t (omega arith) h
       | false ↦ elim (nat_lt t.action 9) as (λ reads. IsLight (if reads then read_line t else truncate_line t)) [
         | true ↦ read_light t h
         | false ↦ truncate_light t h

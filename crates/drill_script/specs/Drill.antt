@@ -2,6 +2,7 @@
 use Rattle.std.specs.Prelude.{ℕ, zero, suc, ◌+◌, ◌*◌, ◌/◌, ◌%◌, ◌^◌, List, [], ◌∷◌, ◌++◌, map, codes, Option, Some, None, nat_lt, if◌then◌else◌}
 use Rattle.std.specs.List.{range_with_len}
 use Rattle.std.specs.Fmt.{decimal}
+use Rattle.hsm_types.specs.Limits.{block_bytes}
 use Rattle.hsm_types.specs.declared.calls.Call.{Call}
 use Rattle.hsm_types.specs.declared.calls.Call.TheVariants.{Create, Read, Write, Truncate}
 use Rattle.hsm_types.specs.declared.daemons.Daemon.TheVariants.{Recall, Migrate}
@@ -27,7 +28,7 @@ unfoldable pub turn_from : ℕ → Turn
 turn_from x = record {
   action = draw 10 x;
   file = draw 40 (next x);
-  offset = 4096 * draw 64 (next (next x));
+  offset = block_bytes * draw 64 (next (next x));
   seed = draw 256 (next (next (next x)));
 }
 
@@ -51,16 +52,24 @@ create_line file = line_of (Create (file_name file)) None
 unfoldable pub write_line : ℕ → Turn → Line
 write_line len turn = line_of (Write (file_name turn.file) turn.offset (pattern len turn.seed)) (Some turn.seed)
 
+-- how many bytes a turn reads
+abbrev pub read_bytes : ℕ
+read_bytes = 4096
+
 abbrev pub read_line : Turn → Line
-read_line turn = line_of (Read (file_name turn.file) turn.offset 4096) None
+read_line turn = line_of (Read (file_name turn.file) turn.offset read_bytes) None
 
 abbrev pub truncate_line : Turn → Line
 truncate_line turn = line_of (Truncate (file_name turn.file) turn.offset) None
 
+-- and how many it writes
+abbrev pub write_bytes : ℕ
+write_bytes = 32768
+
 -- of ten actions five write, four read and one truncates
 unfoldable pub turn_line : Turn → Line
 turn_line turn =
-    if nat_lt turn.action 5 then write_line 32768 turn
+    if nat_lt turn.action 5 then write_line write_bytes turn
     else if nat_lt turn.action 9 then read_line turn
     else truncate_line turn
 

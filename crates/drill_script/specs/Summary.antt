@@ -4,7 +4,7 @@ use Rattle.std.specs.Fmt.{decimal}
 use Rattle.hex.specs.Hex.{encode_lower}
 use Rattle.sha2.specs.Sha256.{sha256}
 use Rattle.plain_model.specs.declared.entries.Entry.{Entry}
-use Rattle.plain_model.specs.Render.{text_of}
+use Rattle.event_text.specs.Render.{text_of}
 
 -- the digest of a history's text
 abbrev pub digest_of : List Entry → List ℕ

@@ -3,8 +3,9 @@ ghost use Rattle.std.specs.Prelude.{◌≡◌, IfOk};
 ghost use Rattle.std.specs.String.{string_bytes};
 ghost use Rattle.drill_script.specs.Summary.{digest_of, summary_line};
 
+use event_text::render;
 use hsm_types::Bytes;
-use plain_model::{Entry, render};
+use plain_model::Entry;
 use sha2::{Digest, Sha256};
 use std::alloc::{AllocError, Global};
 

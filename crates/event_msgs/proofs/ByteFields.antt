@@ -32,9 +32,6 @@ number_at4 k bytes are long = spelled4 (drop k bytes) (IsBytes-drop k bytes are)
 pub number_at8 : (k : ℕ) (bytes : List ℕ) → IsBytes bytes → k + 8 ≤ length bytes → big_bytes 8 (big_number 8 (drop k bytes)) ≡ take 8 (drop k bytes)
 number_at8 k bytes are long = spelled8 (drop k bytes) (IsBytes-drop k bytes are) (omega (arith, length-drop k bytes))
 
-pub below4 : (k : ℕ) (bytes : List ℕ) → IsBytes bytes → big_number 4 (drop k bytes) < 2 ^ 32
-below4 k bytes are = omega (arith, big_from-lt 0 4 (drop k bytes) (IsBytes-drop k bytes are))
-
 pub below8 : (k : ℕ) (bytes : List ℕ) → IsBytes bytes → big_number 8 (drop k bytes) < 2 ^ 64
 below8 k bytes are = omega (arith, big_from-lt 0 8 (drop k bytes) (IsBytes-drop k bytes are))
 

@@ -1,62 +1,18 @@
 -- Messages that are packed one after the other.
-use Rattle.std.proofs.Common.{◌≡◌, ◌≢◌, ℕ, zero, suc, ◌+◌, ◌-◌, ◌<◌, ◌≤◌, List, [], ◌∷◌, ◌++◌, length, get_or, take, drop, refl, sym, ap, subst, ◌∙◌, append_assoc, append-nil, arith, inl, inr}
-use Rattle.std.proofs.lemmas.Bool.{cases_lt}
-use Rattle.std.proofs.lemmas.Bool.Decides.{nat_tests}
+use Rattle.std.proofs.Common.{◌≡◌, ℕ, ◌+◌, ◌<◌, ◌≤◌, List, [], ◌∷◌, ◌++◌, length, get_or, take, drop, refl, sym, ap, subst, ◌∙◌, append_assoc, arith}
 use Rattle.std.proofs.lemmas.List.{drop_more, take_more, take_all, drop_all, length-append, get_or_append_left}
 use Rattle.std.proofs.Math.Seq.{get_or-append_seam}
 use Rattle.std.proofs.lemmas.List.Elements.{All-same, All-push}
 use Rattle.std.specs.List.{All}
-use Rattle.hsm_types.specs.Messages.{IsMessage, message_bytes, header, payload, padding, message_text, packed, fitting, first_or_all}
+use Rattle.hsm_types.specs.Messages.{IsMessage, message_bytes, header, payload, padding, message_text, packed, fitting}
 use Rattle.hsm_types.specs.declared.messages.Message.{Message}
 use Rattle.event_msgs.specs.Buffers.{IsInGrammar}
-use Rattle.event_msgs.specs.Packing.{first_bytes}
 
 -- ---- which fit
-
-first_fits : (room : ℕ) (m : Message) (more : List Message) → message_bytes m ≤ room → fitting room (m ∷ more) ≡ m ∷ fitting (room - message_bytes m) more
-first_fits room m more fits = grind (arith, nat_tests)
-
-first_fails : (room : ℕ) (m : Message) (more : List Message) → room < message_bytes m → fitting room (m ∷ more) ≡ []
-first_fails room m more short = grind (arith, nat_tests)
 
 -- those before the place fit, and of the others those that fit into what is left
 abbrev pub FitBefore : ℕ → List Message → ℕ → ℕ → Type 0
 FitBefore room messages i left = take i messages ++ fitting left (drop i messages) ≡ fitting room messages
-
-pub one_more : (room : ℕ) (messages : List Message) (i left : ℕ) (m : Message) → i < length messages → m ≡ get_or messages i m → message_bytes m ≤ left
-    → FitBefore room messages i left → FitBefore room messages (i + 1) (left - message_bytes m)
-one_more room messages i left m within is fits before =
-    let others = drop (i + 1) messages in
-    let opened : drop i messages ≡ m ∷ others = drop_more messages i m within ∙ ap (λ (n : Message). n ∷ others) (sym is) in
-    let front : take (i + 1) messages ≡ take i messages ++ m ∷ [] = take_more messages i m within ∙ ap (λ (n : Message). take i messages ++ n ∷ []) (sym is) in
-    ap (λ (l : List Message). l ++ fitting (left - message_bytes m) others) front
-    ∙ append_assoc (take i messages) (m ∷ []) (fitting (left - message_bytes m) others)
-    ∙ ap (λ (l : List Message). take i messages ++ l) (sym (ap (fitting left) opened ∙ first_fits left m others fits))
-    ∙ before
-
-pub no_more : (room : ℕ) (messages : List Message) (i left : ℕ) (m : Message) → i < length messages → m ≡ get_or messages i m → left < message_bytes m
-    → FitBefore room messages i left → take i messages ≡ fitting room messages
-no_more room messages i left m within is short before =
-    let others = drop (i + 1) messages in
-    let opened : drop i messages ≡ m ∷ others = drop_more messages i m within ∙ ap (λ (n : Message). n ∷ others) (sym is) in
-    sym (append-nil (take i messages)) ∙ ap (λ (l : List Message). take i messages ++ l) (sym (ap (fitting left) opened ∙ first_fails left m others short)) ∙ before
-
-pub all_fit : (room : ℕ) (messages : List Message) (i left : ℕ) → length messages ≤ i → FitBefore room messages i left → messages ≡ fitting room messages
-all_fit room messages i left past before =
-    sym (append-nil messages) ∙ (λ k. sym (take_all i messages past) k ++ sym (ap (fitting left) (drop_all i messages past)) k) ∙ before
-
-first_some : (most : ℕ) (m : Message) (more : List Message) → first_or_all (suc most) (m ∷ more) ≡ m ∷ take most more
-first_some most m more = grind (arith, nat_tests)
-
--- what fits isn't nothing, so the first message does
-pub some_fit : (room most : ℕ) (messages : List Message) → fitting room (first_or_all most messages) ≢ [] → first_bytes messages ≤ room
-some_fit room most [] some = omega arith
-some_fit room zero (m ∷ more) some = elim (cases_lt room (message_bytes m)) [ inl short ↦ absurd (some (first_fails room m more short)) | inr fits ↦ fits ]
-some_fit room (suc most) (m ∷ more) some =
-    elim (cases_lt room (message_bytes m)) [
-      | inl short ↦ absurd (some (ap (fitting room) (first_some most m more) ∙ first_fails room m (take most more) short))
-      | inr fits ↦ fits
-    ]
 
 -- ---- how they are written
 

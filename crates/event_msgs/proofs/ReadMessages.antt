@@ -1,5 +1,6 @@
 -- What is read as a message is spelled so, and what is spelled so is read.
-use Rattle.std.proofs.Common.{◌≡◌, ◌≢◌, ℕ, zero, suc, ◌+◌, ◌-◌, ◌<◌, ◌≤◌, ◌^◌, Bool, true, false, not, cond, eqb, leb, ltb, eq-eqb, ◌&&◌, List, [], ◌∷◌, ◌++◌, length, take, drop, replicate, Option, Some, None, refl, sym, ap, subst, ◌∙◌, append_assoc, arith}
+use Rattle.std.proofs.Common.{◌≡◌, ◌≢◌, ℕ, zero, suc, ◌+◌, ◌-◌, ◌<◌, ◌≤◌, ◌^◌, Bool, true, false, not, cond, eqb, leb, ltb, eq-eqb, ◌&&◌, List, []}
+use Rattle.std.proofs.Common.{◌∷◌, ◌++◌, length, take, drop, replicate, Option, Some, None, refl, sym, ap, subst, ◌∙◌, append_assoc, arith}
 use Rattle.std.specs.Option.{option_map, option_and_then, IfSome, IsSome}
 use Rattle.std.proofs.lemmas.Bool.{eqb-true, ltb-false, le-ltb, le-leb, leb-true}
 use Rattle.std.proofs.lemmas.Bool.Decides.{nat_tests}
@@ -8,14 +9,17 @@ use Rattle.std.proofs.lemmas.Slice.Eq.{bytes_eq-Decides}
 use Rattle.byteorder.specs.Endian.{big_bytes, big_number}
 use Rattle.byteorder.specs.Numbers.{big_number-reads_back, big_from-take}
 use Rattle.hsm_types.specs.Handles.{handle_bytes, IsHandle}
-use Rattle.hsm_types.specs.Messages.{IsOf, IsMessage, handle_or_none, kind_number, payload, payload_of, payload_size, size_of, rounded_up, message_bytes, header, padding, message_text}
+use Rattle.hsm_types.specs.Limits.{data_bytes}
+use Rattle.hsm_types.specs.Messages.{IsOf, IsMessage, handle_or_none, kind_number, payload, payload_of, payload_size, size_of, rounded_up}
+use Rattle.hsm_types.specs.Messages.{message_bytes, header, padding, message_text}
 use Rattle.hsm_types.specs.declared.dm.Kind.{Kind}
 use Rattle.hsm_types.specs.declared.dm.Kind.TheVariants.{Read, Write, Truncate, NoSpace, User}
 use Rattle.hsm_types.specs.declared.keys.Handle.{Handle}
 use Rattle.hsm_types.specs.declared.keys.Token.{Token}
 use Rattle.hsm_types.specs.declared.messages.Message.{Message}
 use Rattle.event_msgs.specs.Buffers.{IsInGrammar, next_of, BeginsWith}
-use Rattle.event_msgs.specs.Reading.{kind_of, header_at, next_before, is_zeros, holds_message, frame_at, handle_in, is_payload, own_message, access_message, message_of, message_at}
+use Rattle.event_msgs.specs.Reading.{kind_of, header_at, next_before, is_zeros, holds_message, frame_at, handle_in, is_payload, own_message}
+use Rattle.event_msgs.specs.Reading.{access_message, message_of, message_at}
 use Rattle.event_msgs.specs.Views.{Shown, shown}
 use Rattle.event_msgs.specs.declared.reading.Header.{Header}
 use Rattle.event_msgs.proofs.ByteFields.{IsBytes, IsBytes-drop, IsBytes-take, number_at4, number_at8, below8, field, assoc3, header_fields, access_fields}
@@ -237,7 +241,7 @@ access_found kind token bytes m are small long is size spelled same =
 payload_found : (kind : Kind) (token : Token) (bytes : List ℕ) (m : Message) → IsBytes bytes → token.0 < 2 ^ 64 → message_of kind token bytes ≡ Some m → IsOfPayload kind token bytes m
 unfolding message_of
 payload_found User token bytes m are small e =
-    let a = passed_some (leb (length bytes) 4096) (Some (own_message token bytes)) m e in
+    let a = passed_some (leb (length bytes) data_bytes) (Some (own_message token bytes)) m e in
     subst (IsOfPayload User token bytes) (some_is (own_message token bytes) m a.1) (record {
       message = record { message = (refl, refl, refl, leb-true _ _ a.0); token = small; handle = tt; offset = omega arith; length = omega arith };
       kind_is = refl;
@@ -307,7 +311,7 @@ payload_again : (kind : Kind) (token : Token) (handle : Option Handle) (offset l
     → message_of kind token (payload_of kind (record { kind = kind; token = token; handle = handle; offset = offset; length = len; body = body }))
     ≡ Some (record { kind = kind; token = token; handle = handle; offset = offset; length = len; body = body })
 unfolding message_of access_text
-payload_again User token handle offset len body small small_offset small_len is = rw (is.0, is.1, is.2, le-leb (length body) 4096 is.3) refl
+payload_again User token handle offset len body small small_offset small_len is = rw (is.0, is.1, is.2, le-leb (length body) data_bytes is.3) refl
 payload_again Truncate token None offset len body small small_offset small_len is = absurd cc
 payload_again Truncate token (Some h) offset len body small small_offset small_len is =
     let r = access_read h offset len small small_offset small_len in
@@ -342,7 +346,7 @@ payload_length Read m is = access_length m.handle m.offset m.length is.1
 payload_length Write m is = access_length m.handle m.offset m.length is.1
 payload_length NoSpace m is = access_length m.handle m.offset m.length is.1
 
-size_small : (kind : Kind) (m : Message) → IsOf kind m → size_of kind m ≤ 4096
+size_small : (kind : Kind) (m : Message) → IsOf kind m → size_of kind m ≤ data_bytes
 size_small User m is = is.3
 size_small Truncate m is = omega arith
 size_small Read m is = omega arith

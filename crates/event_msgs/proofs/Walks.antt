@@ -1,5 +1,6 @@
 -- Walks over a buffer: that of its views, and the search for a bad message.
-use Rattle.std.proofs.Common.{◌≡◌, ◌≢◌, ℕ, ◌-◌, ◌<◌, List, [], ◌∷◌, ◌++◌, length, map, Option, Some, None, true, false, eqb, eq-eqb, refl, sym, ap, subst, ◌∙◌, append_assoc, append-nil, arith, inl, inr, ◌⊎◌}
+use Rattle.std.proofs.Common.{◌≡◌, ◌≢◌, ℕ, ◌-◌, ◌<◌, List, [], ◌∷◌, ◌++◌, length, map, Option, Some, None, true, false, eqb, eq-eqb, refl, sym, ap}
+use Rattle.std.proofs.Common.{subst, ◌∙◌, append_assoc, append-nil, arith, inr, ◌⊎◌}
 use Rattle.std.specs.Borrow.{Bor}
 use Rattle.std.specs.Option.{option_map}
 use Rattle.std.specs.List.{All}
@@ -46,9 +47,6 @@ pub record Passed (buf rest : List ℕ) : Type 0 where
   pub each : All IsInGrammar before
   pub bytes : buf ≡ linked before ++ rest
   pub follows : (before ≡ []) ⊎ (rest ≢ [])
-
-pub passed_none : (buf : List ℕ) → Passed buf buf
-passed_none buf = record { before = []; each = All-nil IsInGrammar; bytes = refl; follows = inl refl }
 
 linked_last : (before : List Message) (m : Message) → linked (before ++ m ∷ []) ≡ linked before ++ message_text (message_bytes m) m
 linked_last before m = flat_map-append (λ n. message_text (message_bytes n) n) before (m ∷ []) ∙ ap (λ (l : List ℕ). linked before ++ l) (append-nil (message_text (message_bytes m) m))

@@ -1,8 +1,10 @@
 -- Reading the bytes of messages from left to right.
-use Rattle.std.specs.Prelude.{ℕ, zero, suc, ◌+◌, List, [], ◌∷◌, length, take, drop, replicate, Bool, not, ◌==◌, ◌&&◌, nat_lt, nat_le, if◌then◌else◌, Option, Some, None}
+use Rattle.std.specs.Prelude.{ℕ, zero, suc, ◌+◌, List, [], ◌∷◌, length, take, drop, replicate, Bool, not, ◌==◌, ◌&&◌, nat_lt, nat_le, if◌then◌else◌}
+use Rattle.std.specs.Prelude.{Option, Some, None}
 use Rattle.std.specs.Option.{option_map, option_and_then}
 use Rattle.std.specs.Str.{bytes_eq}
 use Rattle.byteorder.specs.Endian.{big_number}
+use Rattle.hsm_types.specs.Limits.{data_bytes}
 use Rattle.hsm_types.specs.Messages.{rounded_up, packed}
 use Rattle.hsm_types.specs.declared.dm.Kind.{Kind}
 use Rattle.hsm_types.specs.declared.dm.Kind.TheVariants.{Read, Write, Truncate, NoSpace, User}
@@ -49,7 +51,7 @@ handle_in payload = record { fsid = big_number 8 payload; key = record { ino = b
 
 -- a payload that is one of that kind, the length of a truncate being 0
 abbrev pub is_payload : Kind → Token → List ℕ → Bool
-is_payload User token payload = nat_le (length payload) 4096
+is_payload User token payload = nat_le (length payload) data_bytes
 is_payload Truncate token payload = length payload == 40 && (not (token.0 == 0) && big_number 8 (drop 32 payload) == 0)
 is_payload kind token payload = length payload == 40 && not (token.0 == 0)
 

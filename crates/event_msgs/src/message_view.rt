@@ -3,7 +3,7 @@
 use hsm_types::{Kind, Token};
 
 /// A message in a buffer. Its bytes stay there.
-#[derive(Clone, Copy, Debug)]
+#[derive(Clone, Copy)]
 pub struct View<'a> {
     pub kind: Kind,
     /// 0 where no response is wanted.

@@ -66,7 +66,8 @@ fn tokens_of(alloc: Global, messages: &[Message]) -> Result<Vec<Token>, AllocErr
     messages.iter().map(|message| message.token).collect(alloc)
 }
 
-/// Packs the longest prefix of the messages that fits into `room` bytes, at most `max` of them, or without a bound where that is 0. It takes its memory in two pieces, and nothing where it refuses.
+/// Packs the longest prefix of the messages that fits into `room` bytes, at most `max` of them, or without a bound where that is 0. It takes its
+/// memory in two pieces, and nothing where it refuses.
 pub fn pack(alloc: Global, messages: &[Message], max: u32, room: u32) -> Result<Packed, PackRefusal>
     requires some { messages.now ≢ [] }
     requires each { All IsMessage messages.now }

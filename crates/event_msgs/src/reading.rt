@@ -1,13 +1,14 @@
 //! Reading a message from the front of some bytes.
 ghost use Rattle.std.specs.Prelude.{◌≡◌, ◌<◌, ◌≤◌, ◌^◌, length};
 ghost use Rattle.std.specs.Option.{option_map};
-ghost use Rattle.event_msgs.specs.Reading.{kind_of, header_at, next_before, is_zeros, holds_message, frame_at, is_payload, own_message, access_message, message_of, message_at};
+ghost use Rattle.event_msgs.specs.Reading.{kind_of, header_at, next_before, is_zeros, holds_message, frame_at, is_payload, own_message};
+ghost use Rattle.event_msgs.specs.Reading.{access_message, message_of, message_at};
 ghost use Rattle.event_msgs.specs.Views.{shown, seen, shown_before, seen_before, shown_frame};
 
 use crate::message_view::View;
 use crate::writing::{ACCESS_PAYLOAD, ALIGNMENT, HEADER_BYTES, rounded_up};
 use byteorder::{BigEndian, ByteOrder};
-use hsm_types::{HANDLE_BYTES, Kind, MESSAGE_BYTES, Token};
+use hsm_types::{DATA_BYTES, HANDLE_BYTES, Kind, Token};
 
 /// Where the length of an access stands in its payload.
 const LENGTH_PLACE: usize = 32;
@@ -96,7 +97,7 @@ fn is_payload(kind: Kind, token: Token, payload: &[u8]) -> bool
 {
     let is_access = payload.len() == ACCESS_PAYLOAD && token.0 != 0;
     match kind {
-        Kind::User => payload.len() <= MESSAGE_BYTES,
+        Kind::User => payload.len() <= DATA_BYTES,
         Kind::Truncate => is_access && BigEndian::read_u64(&payload[LENGTH_PLACE..]) == 0,
         _ => is_access,
     }

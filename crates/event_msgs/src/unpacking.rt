@@ -17,7 +17,7 @@ pub struct BadMessage {
 }
 
 /// Goes over the messages of a buffer in order, without memory. Contracts see it as the list of those that are left.
-#[derive(Debug, Drop)]
+#[derive(Drop)]
 pub struct MessageViews<'a> {
     left: &'a [u8],
 }

@@ -2,6 +2,7 @@
 ghost use Rattle.std.specs.Prelude.{◌≡◌, ◌≢◌, ◌≤◌, ◌<◌, ◌^◌, [], ◌∷◌, ◌++◌, All, IfSome, IfOk, OnOk};
 ghost use Rattle.byteorder.specs.Endian.{big_bytes};
 ghost use Rattle.hsm_types.specs.Handles.{handle_bytes, IsHandle};
+ghost use Rattle.hsm_types.specs.Limits.{data_bytes};
 ghost use Rattle.hsm_types.specs.Messages.{IsMessage, kind_number, payload, payload_size, rounded_up, message_bytes, header, message_text, packed};
 ghost use Rattle.event_msgs.specs.Buffers.{IsInGrammar};
 
@@ -33,7 +34,7 @@ fn kind_number(kind: Kind) -> u32
 fn payload_size(message: &Message) -> usize
     requires { IsMessage message.now }
     ensures size { result ≡ payload_size message.now }
-    ensures short { result ≤ 4096 }
+    ensures short { result ≤ data_bytes }
 {
     match message.kind {
         Kind::User => message.body.as_slice().len(),

@@ -3,6 +3,7 @@ use Rattle.std.proofs.Common.{◌≡◌, ⊎_elim, ℕ, ◌+◌, ◌-◌, ◌*�
 use Rattle.std.specs.Prelude.{replicate}
 use Rattle.std.proofs.lemmas.Bool.{cases_lt}
 use Rattle.std.proofs.lemmas.List.{same_lists, ext_get_or, get_or-take, get_or_append_left, places}
+use Rattle.hsm_types.specs.Limits.{block_bytes}
 use Rattle.plain_model.specs.Effects.{Resizes}
 use Rattle.plain_model.specs.Plain.{written, resized, rebody}
 use Rattle.file_body.specs.BodyBlocks.{block_of}
@@ -72,9 +73,9 @@ written_window start count offset bytes body =
     (cases_lt (start + i) offset))
 
 -- a block of a written body is that of the body with the bytes put over it
-pub written-block : (offset : ℕ) (bytes body : List ℕ) (block : ℕ) → overlaid (4096 * block) offset bytes (block_of body block) ≡ block_of (written offset bytes body) block
+pub written-block : (offset : ℕ) (bytes body : List ℕ) (block : ℕ) → overlaid (block_bytes * block) offset bytes (block_of body block) ≡ block_of (written offset bytes body) block
 unfolding block_of
-written-block offset bytes body block = written_window (4096 * block) 4096 offset bytes body
+written-block offset bytes body block = written_window (block_bytes * block) block_bytes offset bytes body
 
 -- ---- a body that is resized
 
@@ -84,4 +85,4 @@ resized_window start count to body longer = same_lists _ _ (search (rules, place
 -- zeros behind a body change none of its blocks
 pub resized-block : (body : List ℕ) (to k : ℕ) → length body ≤ to → block_of (rebody (Resizes to) body) k ≡ block_of body k
 unfolding block_of
-resized-block body to k longer = resized_window (4096 * k) 4096 to body longer
+resized-block body to k longer = resized_window (block_bytes * k) block_bytes to body longer

@@ -4,7 +4,8 @@ use Rattle.std.specs.Prelude.{replicate}
 use Rattle.std.specs.List.{concat}
 use Rattle.std.proofs.Math.Nat.{mul-le-mul_right}
 use Rattle.std.proofs.lemmas.Bool.{cases_lt, cases_eq}
-use Rattle.std.proofs.lemmas.List.{same_lists, places, take-append-drop, append-nil, drop_more, take_more, drop_all, take_all, take-take, set_split, set_past, get_or-take, get_or_append_left, get_or-append_right, get_or_default, length-drop, drop-drop, get_or_push, length-replicate, replicate-append-replicate, nil_from_length}
+use Rattle.std.proofs.lemmas.List.{same_lists, places, take-append-drop, append-nil, drop_more, take_more, drop_all, take_all, take-take, set_split, set_past, get_or-take, get_or_append_left, get_or-append_right, get_or_default, length-drop, get_or_push, length-replicate, replicate-append-replicate, nil_from_length}
+use Rattle.hsm_types.specs.Limits.{segment_bytes}
 use Rattle.plain_model.specs.Plain.{written}
 use Rattle.file_body.specs.Segments.{IsCut}
 
@@ -160,22 +161,10 @@ IsCut-overwritten size ss cut i p n place bs d new e some count border within is
 
 -- ---- one piece after the other
 
-taken_more : (s : List ℕ) (m n : ℕ) → take m s ++ take n (drop m s) ≡ take (m + n) s
-taken_more s m n = same_lists _ _ (search (rules, places)) (λ k d l. grind (arith, places))
-
--- the next piece of what is read from an offset
-pub read_more : (body out piece : List ℕ) (offset m : ℕ) → m ≡ length out → out ≡ take m (drop offset body) → piece ≡ take (length piece) (drop (offset + m) body) → out ++ piece ≡ take (m + length piece) (drop offset body)
-read_more body out piece offset m len is next =
-    let parts : out ++ piece ≡ take m (drop offset body) ++ take (length piece) (drop m (drop offset body)) = rw drop-drop (ap (λ o. o ++ piece) is ∙ ap (λ p. take m (drop offset body) ++ p) next) in
-    parts ∙ taken_more (drop offset body) m (length piece)
-
 -- the next piece of what is written at an offset
 pub written_more : (body now bytes : List ℕ) (offset m n : ℕ) → now ≡ take offset body ++ take m bytes ++ drop (offset + m) body → offset + length bytes ≤ length body → m + n ≤ length bytes
     → take (offset + m) now ++ take n (drop m bytes) ++ drop (offset + m + n) now ≡ take offset body ++ take (m + n) bytes ++ drop (offset + (m + n)) body
 written_more body now bytes offset m n is room within = same_lists _ _ (rw is (search (rules, places))) (λ k d l. rw is (grind (arith, places)))
-
-pub length_written : (body bytes : List ℕ) (offset m : ℕ) → offset + length bytes ≤ length body → m ≤ length bytes → length (take offset body ++ take m bytes ++ drop (offset + m) body) ≡ length body
-length_written body bytes offset m room within = grind (arith, places)
 
 -- ---- a whole segment
 
@@ -183,8 +172,8 @@ length_written body bytes offset m room within = grind (arith, places)
 pub starts_in : (size : ℕ) (ss : List (List ℕ)) → IsCut size ss → (i : ℕ) → i < length ss → i * size < length (concat ss)
 starts_in size ss cut i h = omega (arith, length_at size ss cut i h, cut.some i h)
 
-pub starts_most : (ss : List (List ℕ)) → IsCut 65536 ss → (i : ℕ) → 65536 * i ≤ length (concat ss) → i ≤ length ss
-starts_most ss cut i h = omega (arith, h, length_most 65536 ss cut)
+pub starts_most : (ss : List (List ℕ)) → IsCut segment_bytes ss → (i : ℕ) → segment_bytes * i ≤ length (concat ss) → i ≤ length ss
+starts_most ss cut i h = omega (arith, h, length_most segment_bytes ss cut)
 
 pub starts_past : (size : ℕ) (ss : List (List ℕ)) → IsCut size ss → (i : ℕ) → length ss ≤ i → length (concat ss) ≤ i * size
 starts_past size ss cut i h = omega (arith, length_most size ss cut, mul-le-mul_right size h)
@@ -198,8 +187,8 @@ behind : (a b : List ℕ) (n : ℕ) → length a ≡ n → drop n (a ++ b) ≡ b
 behind a b n is = same_lists _ _ (search (rules, places)) (λ k d l. grind (arith, places))
 
 -- the bytes of a segment
-pub segment_bytes : (size : ℕ) (ss : List (List ℕ)) → IsCut size ss → (i : ℕ) → i < length ss → get_or ss i [] ≡ take size (drop (i * size) (concat ss))
-segment_bytes size ss cut i h =
+pub segment_taken : (size : ℕ) (ss : List (List ℕ)) → IsCut size ss → (i : ℕ) → i < length ss → get_or ss i [] ≡ take size (drop (i * size) (concat ss))
+segment_taken size ss cut i h =
     let rest : List ℕ = concat (drop (i + 1) ss) in
     let before : length (concat (take i ss)) ≡ i * size = length_before size ss cut i h in
     let from : drop (i * size) (concat ss) ≡ get_or ss i [] ++ rest = ap (drop (i * size)) (concat_at ss i h) ∙ behind (concat (take i ss)) (get_or ss i [] ++ rest) (i * size) before in
@@ -211,28 +200,28 @@ segment_bytes size ss cut i h =
     ∙ ap (take size) (sym from)
 
 -- where the bytes are full segments, each is full
-pub all_full : (ss : List (List ℕ)) → IsCut 65536 ss → length (concat ss) % 65536 ≡ 0 → (i : ℕ) → i < length ss → length (get_or ss i []) ≡ 65536
+pub all_full : (ss : List (List ℕ)) → IsCut segment_bytes ss → length (concat ss) % segment_bytes ≡ 0 → (i : ℕ) → i < length ss → length (get_or ss i []) ≡ segment_bytes
 all_full ss cut whole i h =
     ⊎_elim (λ (l : i + 1 < length ss). cut.full i l)
-    (λ (g : length ss ≤ i + 1). omega (arith, whole, length_to_last 65536 ss cut i (omega arith), cut.some i h, cut.most i h))
+    (λ (g : length ss ≤ i + 1). omega (arith, whole, length_to_last segment_bytes ss cut i (omega arith), cut.some i h, cut.most i h))
     (cases_lt (i + 1) (length ss))
 
 -- and there are as many as the bytes fill
-pub count_full : (ss : List (List ℕ)) → IsCut 65536 ss → length (concat ss) % 65536 ≡ 0 → length (concat ss) / 65536 ≡ length ss
+pub count_full : (ss : List (List ℕ)) → IsCut segment_bytes ss → length (concat ss) % segment_bytes ≡ 0 → length (concat ss) / segment_bytes ≡ length ss
 count_full ss cut whole =
     ⊎_elim
-    (λ (some : 0 < length ss). let last : ℕ = length ss - 1 in omega (arith, length_to_last 65536 ss cut last (omega arith), all_full ss cut whole last (omega arith)))
-    (λ (no : length ss ≤ 0). omega (arith, length_most 65536 ss cut))
+    (λ (some : 0 < length ss). let last : ℕ = length ss - 1 in omega (arith, length_to_last segment_bytes ss cut last (omega arith), all_full ss cut whole last (omega arith)))
+    (λ (no : length ss ≤ 0). omega (arith, length_most segment_bytes ss cut))
     (cases_lt 0 (length ss))
 
 -- as many bytes are as many segments
-pub same_count : (a b : List (List ℕ)) → IsCut 65536 a → IsCut 65536 b → length (concat a) ≡ length (concat b) → length a ≡ length b
+pub same_count : (a b : List (List ℕ)) → IsCut segment_bytes a → IsCut segment_bytes b → length (concat a) ≡ length (concat b) → length a ≡ length b
 same_count a b is was same =
     ⊎_elim
-    (λ (l : length a < length b). absurd (omega (arith, same, starts_past 65536 a is (length a) (omega arith), starts_in 65536 b was (length a) l)))
+    (λ (l : length a < length b). absurd (omega (arith, same, starts_past segment_bytes a is (length a) (omega arith), starts_in segment_bytes b was (length a) l)))
     (λ (g : length b ≤ length a).
     ⊎_elim
-    (λ (l : length b < length a). absurd (omega (arith, same, starts_past 65536 b was (length b) (omega arith), starts_in 65536 a is (length b) l)))
+    (λ (l : length b < length a). absurd (omega (arith, same, starts_past segment_bytes b was (length b) (omega arith), starts_in segment_bytes a is (length b) l)))
     (λ (e : length a ≤ length b). omega arith)
     (cases_lt (length b) (length a)))
     (cases_lt (length a) (length b))
@@ -244,12 +233,12 @@ front_is a b n is = same_lists _ _ (search (rules, places)) (λ k d l. grind (ar
 
 -- so many bytes of a segment
 length_of : (size : ℕ) (ss : List (List ℕ)) → IsCut size ss → (i : ℕ) → i < length ss → length (get_or ss i []) ≡ min size (length (concat ss) - i * size)
-length_of size ss cut i h = omega (arith, ap length (segment_bytes size ss cut i h), length-take size (drop (i * size) (concat ss)), length-drop (i * size) (concat ss))
+length_of size ss cut i h = omega (arith, ap length (segment_taken size ss cut i h), length-take size (drop (i * size) (concat ss)), length-drop (i * size) (concat ss))
 
 zeros_for : (g : List ℕ) → replicate (length g) 0 ≡ take 0 g ++ replicate (length g) 0 ++ drop (0 + length (replicate {A = ℕ} (length g) 0)) g
 zeros_for g = same_lists _ _ (search (rules, places)) (λ k d l. grind (arith, places))
 
-zeros_next : (body now : List ℕ) (from at n next : ℕ) → from ≤ at → at < length body → next ≡ at + 65536 → n ≡ min 65536 (length body - at)
+zeros_next : (body now : List ℕ) (from at n next : ℕ) → from ≤ at → at < length body → next ≡ at + segment_bytes → n ≡ min segment_bytes (length body - at)
     → now ≡ take from body ++ replicate (min at (length body) - from) 0 ++ drop at body
     → take at now ++ replicate n 0 ++ drop (at + n) now ≡ take from body ++ replicate (min next (length body) - from) 0 ++ drop next body
 zeros_next body now from at n next order within after is now_is = same_lists _ _ (rw (now_is, is, after) (search (rules, places))) (λ k d l. rw (now_is, is, after) (grind (arith, places)))
@@ -258,16 +247,16 @@ pub zeros_none : (body : List ℕ) (from : ℕ) → from ≤ length body → bod
 zeros_none body from within = same_lists _ _ (search (rules, places)) (λ k d l. grind (arith, places))
 
 -- the next segment becomes zeros
-pub zeros_more_of : (ss : List (List ℕ)) → IsCut 65536 ss → (body new : List ℕ) (from i : ℕ) → from ≤ i → i < length ss → length (concat ss) ≡ length body → new ≡ replicate (length (get_or ss i [])) 0
-    → concat ss ≡ take (65536 * from) body ++ replicate (min (65536 * i) (length body) - 65536 * from) 0 ++ drop (65536 * i) body
-    → concat (set ss i new) ≡ take (65536 * from) body ++ replicate (min (65536 * (i + 1)) (length body) - 65536 * from) 0 ++ drop (65536 * (i + 1)) body
+pub zeros_more_of : (ss : List (List ℕ)) → IsCut segment_bytes ss → (body new : List ℕ) (from i : ℕ) → from ≤ i → i < length ss → length (concat ss) ≡ length body → new ≡ replicate (length (get_or ss i [])) 0
+    → concat ss ≡ take (segment_bytes * from) body ++ replicate (min (segment_bytes * i) (length body) - segment_bytes * from) 0 ++ drop (segment_bytes * i) body
+    → concat (set ss i new) ≡ take (segment_bytes * from) body ++ replicate (min (segment_bytes * (i + 1)) (length body) - segment_bytes * from) 0 ++ drop (segment_bytes * (i + 1)) body
 zeros_more_of ss cut body new from i order h same is now =
     let n : ℕ = length (get_or ss i []) in
     let count : length (replicate {A = ℕ} n 0) ≡ n = length-replicate n 0 in
-    let size : n ≡ min 65536 (length body - 65536 * i) = omega (arith, length_of 65536 ss cut i h, same) in
-    let start : 65536 * i < length body = omega (arith, starts_in 65536 ss cut i h, same) in
-    overwritten 65536 ss cut i 0 n (65536 * i) (replicate n 0) [] new (omega arith) (omega (arith, cut.some i h)) (sym count) (omega (arith, cut.most i h)) (omega (arith, size, start, same)) (is ∙ zeros_for (get_or ss i []))
-    ∙ zeros_next body (concat ss) (65536 * from) (65536 * i) n (65536 * (i + 1)) (omega arith) start (omega arith) size now
+    let size : n ≡ min segment_bytes (length body - segment_bytes * i) = omega (arith, length_of segment_bytes ss cut i h, same) in
+    let start : segment_bytes * i < length body = omega (arith, starts_in segment_bytes ss cut i h, same) in
+    overwritten segment_bytes ss cut i 0 n (segment_bytes * i) (replicate n 0) [] new (omega arith) (omega (arith, cut.some i h)) (sym count) (omega (arith, cut.most i h)) (omega (arith, size, start, same)) (is ∙ zeros_for (get_or ss i []))
+    ∙ zeros_next body (concat ss) (segment_bytes * from) (segment_bytes * i) n (segment_bytes * (i + 1)) (omega arith) start (omega arith) size now
 
 pub length_zeros : (body now : List ℕ) (from at : ℕ) → from ≤ at → from ≤ length body → now ≡ take from body ++ replicate (min at (length body) - from) 0 ++ drop at body → length now ≡ length body
 length_zeros body now from at order within is = ap length is ∙ grind (arith, places)

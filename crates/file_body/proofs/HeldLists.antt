@@ -7,9 +7,10 @@ use Rattle.std.proofs.lemmas.Bool.{true≢false, cases_lt, cases_eq, lt-ltb, le-
 use Rattle.std.proofs.lemmas.Bool.Decides.{nat_tests}
 use Rattle.std.proofs.lemmas.List.{length-map, map-set, map-append, take-map, get_or_default, get_or_past, get_or-take, get_or_append_left, get_or-append_right, get_or_push, ext_get_or}
 use Rattle.std.specs.List.{concat}
+use Rattle.hsm_types.specs.Limits.{segment_bytes}
 use Rattle.file_body.specs.Segments.{IsCut}
 use Rattle.plain_model.specs.Plain.{segment}
-use Rattle.file_body.proofs.Cuts.{starts_in, starts_past, segment_bytes, same_count, front_is}
+use Rattle.file_body.proofs.Cuts.{starts_in, starts_past, segment_taken, same_count, front_is}
 use Rattle.file_body.specs.HeldBodies.{AreZeros, HeldBody, HeldSegment, pieces, aways, stands_away}
 
 -- what stands past the last segment
@@ -50,10 +51,10 @@ pub stands_past : (ss : List HeldSegment) (i : ℕ) → length ss ≤ i → stan
 stands_past ss i h = get_or_past (aways ss) i false (omega (arith, length-aways ss))
 
 -- what is away begins within the bytes
-pub starts_away : (ss : List HeldSegment) → IsCut 65536 (pieces ss) → (j : ℕ) → stands_away ss j ≡ true → 65536 * j < length (concat (pieces ss))
+pub starts_away : (ss : List HeldSegment) → IsCut segment_bytes (pieces ss) → (j : ℕ) → stands_away ss j ≡ true → segment_bytes * j < length (concat (pieces ss))
 starts_away ss cut j gone =
     ⊎_elim
-    (λ (l : j < length ss). omega (arith, starts_in 65536 (pieces ss) cut j (omega (arith, length-pieces ss, l))))
+    (λ (l : j < length ss). omega (arith, starts_in segment_bytes (pieces ss) cut j (omega (arith, length-pieces ss, l))))
     (λ (g : length ss ≤ j). absurd (true≢false (sym gone ∙ stands_past ss j g)))
     (cases_lt j (length ss))
 
@@ -85,16 +86,16 @@ stands-take n j ss within =
     (cases_lt j n)
 
 -- the segments that a cut to a size leaves
-pub stands-cut : (ss kept : List HeldSegment) (i size j : ℕ) (s d : HeldSegment) → kept ≡ take (i + 1) ss → i < length ss → i ≡ (size - 1) / 65536 → 0 < size → s.away ≡ (get_or kept i d).away
-    → stands_away (set kept i s) j ≡ (stands_away ss j && nat_lt (65536 * j) size)
+pub stands-cut : (ss kept : List HeldSegment) (i size j : ℕ) (s d : HeldSegment) → kept ≡ take (i + 1) ss → i < length ss → i ≡ (size - 1) / segment_bytes → 0 < size → s.away ≡ (get_or kept i d).away
+    → stands_away (set kept i s) j ≡ (stands_away ss j && nat_lt (segment_bytes * j) size)
 stands-cut ss kept i size j s d front h at some same =
     ap (λ l. get_or l j false) (aways-kept kept i s d same)
     ∙ (ap (λ l. stands_away l j) front ∙ (stands-take (i + 1) j ss (omega arith) ∙ ap (λ b. stands_away ss j && b) same_test))
   where
-    same_test : nat_lt j (i + 1) ≡ nat_lt (65536 * j) size
+    same_test : nat_lt j (i + 1) ≡ nat_lt (segment_bytes * j) size
     same_test = ⊎_elim
-        (λ (l : j < i + 1). lt-ltb j (i + 1) l ∙ sym (lt-ltb (65536 * j) size (omega arith)))
-        (λ (g : i + 1 ≤ j). le-ltb j (i + 1) g ∙ sym (le-ltb (65536 * j) size (omega arith)))
+        (λ (l : j < i + 1). lt-ltb j (i + 1) l ∙ sym (lt-ltb (segment_bytes * j) size (omega arith)))
+        (λ (g : i + 1 ≤ j). le-ltb j (i + 1) g ∙ sym (le-ltb (segment_bytes * j) size (omega arith)))
         (cases_lt j (i + 1))
 
 -- ---- more segments
@@ -155,11 +156,11 @@ zeros-first ss from to d within first rest j low high gone =
     (cases_eq j from)
 
 -- the bytes of the whole that are its bytes
-pub zeros_of : (ss : List HeldSegment) → IsCut 65536 (pieces ss) → (j : ℕ) → stands_away ss j ≡ true → AreZeros (get_or (pieces ss) j []) → AreZeros (segment j (concat (pieces ss)))
+pub zeros_of : (ss : List HeldSegment) → IsCut segment_bytes (pieces ss) → (j : ℕ) → stands_away ss j ≡ true → AreZeros (get_or (pieces ss) j []) → AreZeros (segment j (concat (pieces ss)))
 zeros_of ss cut j gone zeros =
     let start = starts_away ss cut j gone in
-    let within : j < length (pieces ss) = ⊎_elim (λ (l : j < length (pieces ss)). l) (λ (g : length (pieces ss) ≤ j). absurd (omega (arith, start, starts_past 65536 (pieces ss) cut j g))) (cases_lt j (length (pieces ss))) in
-    subst AreZeros (segment_bytes 65536 (pieces ss) cut j within ∙ ap (λ n. take 65536 (drop n (concat (pieces ss)))) (omega arith)) zeros
+    let within : j < length (pieces ss) = ⊎_elim (λ (l : j < length (pieces ss)). l) (λ (g : length (pieces ss) ≤ j). absurd (omega (arith, start, starts_past segment_bytes (pieces ss) cut j g))) (cases_lt j (length (pieces ss))) in
+    subst AreZeros (segment_taken segment_bytes (pieces ss) cut j within ∙ ap (λ n. take segment_bytes (drop n (concat (pieces ss)))) (omega arith)) zeros
 
 -- ---- segments that go away, one after the other
 
@@ -191,9 +192,9 @@ held_of segments = record { bytes = concat (pieces segments); away = aways segme
 same_held : (a b : HeldBody) → a.bytes ≡ b.bytes → a.away ≡ b.away → a ≡ b
 same_held a b p q = ap (λ l. record { bytes = l; away = a.away }) p ∙ ap (λ l. record { bytes = b.bytes; away = l }) q
 
-pub taken_back : (old grown cut : List HeldSegment) (size : ℕ) (more : List ℕ) → IsCut 65536 (pieces old) → IsCut 65536 (pieces cut) → size ≡ length (concat (pieces old))
+pub taken_back : (old grown cut : List HeldSegment) (size : ℕ) (more : List ℕ) → IsCut segment_bytes (pieces old) → IsCut segment_bytes (pieces cut) → size ≡ length (concat (pieces old))
     → concat (pieces grown) ≡ concat (pieces old) ++ more → ((j : ℕ) → stands_away grown j ≡ stands_away old j)
-    → concat (pieces cut) ≡ take size (concat (pieces grown)) → ((j : ℕ) → stands_away cut j ≡ (stands_away grown j && nat_lt (65536 * j) size))
+    → concat (pieces cut) ≡ take size (concat (pieces grown)) → ((j : ℕ) → stands_away cut j ≡ (stands_away grown j && nat_lt (segment_bytes * j) size))
     → held_of cut ≡ held_of old
 taken_back old grown cut size more was is size_is longer grown_away front cut_away = same_held _ _ bytes (same_aways cut old count away)
   where
@@ -205,6 +206,6 @@ taken_back old grown cut size more was is size_is longer grown_away front cut_aw
 
     away : (j : ℕ) → stands_away cut j ≡ stands_away old j
     away j = cut_away j ∙ ⊎_elim
-        (λ (l : j < length old). rw (grown_away j, lt-ltb (65536 * j) size (omega (arith, size_is, starts_in 65536 (pieces old) was j (omega (arith, length-pieces old, l))))) (and-true (stands_away old j)))
+        (λ (l : j < length old). rw (grown_away j, lt-ltb (segment_bytes * j) size (omega (arith, size_is, starts_in segment_bytes (pieces old) was j (omega (arith, length-pieces old, l))))) (and-true (stands_away old j)))
         (λ (g : length old ≤ j). rw (grown_away j, stands_past old j g) refl)
         (cases_lt j (length old))

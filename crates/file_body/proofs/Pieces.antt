@@ -2,6 +2,7 @@
 use Rattle.std.proofs.Common.{◌≡◌, ℕ, ◌-◌, ◌*◌, ◌≤◌, List, [], ◌++◌, length, take, drop, ◌∙◌, ap, refl, arith, rules, length-append, length-take}
 use Rattle.std.specs.Prelude.{replicate, min}
 use Rattle.std.proofs.lemmas.List.{same_lists, places, length-drop, length-replicate}
+use Rattle.hsm_types.specs.Limits.{block_bytes}
 use Rattle.file_body.specs.BodyBlocks.{block_of}
 
 -- a front of a list, with zeros up to a length
@@ -9,20 +10,20 @@ filled : (n count : ℕ) (l : List ℕ) → count ≡ min n (length l) → take 
 filled n count l is = same_lists _ _ (search (rules, places)) (λ i d h. grind (arith, places))
 
 -- the bytes of a block that a body has, and zeros
-pub block_is : (body piece : List ℕ) (block at : ℕ) → at ≡ 4096 * block → length piece ≡ min (length body - at) 4096 → piece ≡ take (length piece) (drop at body) → piece ++ replicate (4096 - length piece) 0 ≡ block_of body block
+pub block_is : (body piece : List ℕ) (block at : ℕ) → at ≡ block_bytes * block → length piece ≡ min (length body - at) block_bytes → piece ≡ take (length piece) (drop at body) → piece ++ replicate (block_bytes - length piece) 0 ≡ block_of body block
 unfolding block_of
 block_is body piece block at there len is =
-    ap (λ (p : List ℕ). p ++ replicate (4096 - length piece) 0) is ∙ filled 4096 (length piece) (drop at body) (omega (arith, length-drop at body))
-    ∙ ap (λ (n : ℕ). take 4096 (drop n body ++ replicate 4096 0)) there
+    ap (λ (p : List ℕ). p ++ replicate (block_bytes - length piece) 0) is ∙ filled block_bytes (length piece) (drop at body) (omega (arith, length-drop at body))
+    ∙ ap (λ (n : ℕ). take block_bytes (drop n body ++ replicate block_bytes 0)) there
 
 -- a block past the body's end
-pub block_none : (body : List ℕ) (block : ℕ) → length body ≤ 4096 * block → replicate 4096 0 ≡ block_of body block
-block_none body block past = block_is body [] block (4096 * block) refl (omega arith) refl
+pub block_none : (body : List ℕ) (block : ℕ) → length body ≤ block_bytes * block → replicate block_bytes 0 ≡ block_of body block
+block_none body block past = block_is body [] block (block_bytes * block) refl (omega arith) refl
 
 -- each block has all its bytes
-pub length-block_of : (body : List ℕ) (block : ℕ) → length (block_of body block) ≡ 4096
+pub length-block_of : (body : List ℕ) (block : ℕ) → length (block_of body block) ≡ block_bytes
 unfolding block_of
-length-block_of body block = whole 4096 (drop (4096 * block) body)
+length-block_of body block = whole block_bytes (drop (block_bytes * block) body)
   where
     whole : (n : ℕ) (l : List ℕ) → length (take n (l ++ replicate n 0)) ≡ n
     whole n l = omega (arith, length-take n (l ++ replicate n 0), length-append l (replicate n 0), length-replicate {A = ℕ} n 0)

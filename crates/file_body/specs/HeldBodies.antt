@@ -1,5 +1,6 @@
 -- What is held of a body: its bytes, with zeros in the place of segments that are away, and which segments are away.
 use Rattle.std.specs.Prelude.{◌≡◌, ℕ, ◌/◌, ◌<◌, ◌≤◌, List, [], length, replicate, Bool, true, false, map, get_or}
+use Rattle.hsm_types.specs.Limits.{segment_bytes}
 
 pub record HeldBody : Type 0 where
   pub bytes : List ℕ
@@ -13,7 +14,7 @@ is_away b j = get_or b.away j false
 
 -- each byte of the range is here
 abbrev pub AreHere : ℕ → ℕ → HeldBody → Type 0
-AreHere from to b = (i : ℕ) → from ≤ i → i < to → is_away b (i / 65536) ≡ false
+AreHere from to b = (i : ℕ) → from ≤ i → i < to → is_away b (i / segment_bytes) ≡ false
 
 -- no segment goes away
 abbrev pub KeepsHere : HeldBody → HeldBody → Type 0
@@ -29,7 +30,7 @@ AreZeros bytes = bytes ≡ replicate (length bytes) 0
 
 -- no byte of the range is in the segment
 abbrev pub Misses : ℕ → ℕ → ℕ → Type 0
-Misses from to j = (i : ℕ) → from ≤ i → i < to → i / 65536 ≡ j → ⊥
+Misses from to j = (i : ℕ) → from ≤ i → i < to → i / segment_bytes ≡ j → ⊥
 
 -- ---- one segment
 

@@ -1,5 +1,6 @@
 //! The bytes of one file.
 ghost use Rattle.std.specs.Prelude.{◌≡◌, ℕ, ◌+◌, ◌-◌, ◌*◌, ◌/◌, ◌%◌, ◌^◌, ◌≤◌, ◌<◌, ◌++◌, ◌&&◌, ◌||◌, ◌↔◌, true, false, nat_lt, nat_le, min, length, take, drop, replicate, IfOk, IfSome, IsSome, OnOk, OnErr, IsOk};
+ghost use Rattle.hsm_types.specs.Limits.{segment_bytes};
 ghost use Rattle.plain_model.specs.Plain.{read_at, segment as segment_of, written, resized};
 ghost use Rattle.file_body.specs.BodyBlocks.{block_of};
 ghost use Rattle.file_body.specs.HeldBodies.{no_body, is_away, AreHere, AreZeros, KeepsHere, SameAway, Misses};
@@ -13,7 +14,7 @@ use std::marker::Model;
 /// The bytes of one file, at most [`FILE_BYTES`] of them, in segments of
 /// [`SEGMENT_BYTES`](hsm_types::SEGMENT_BYTES). A segment is here, or its bytes are away, on another medium, and it takes no memory.
 /// Contracts see the bytes, with zeros in the place of those that are away, and which segments are away.
-#[derive(Debug, Drop)]
+#[derive(Drop)]
 pub struct Body {
     segments: Vec<Segment>,
 }
@@ -21,7 +22,7 @@ pub struct Body {
 impl Model for Body {
     ghost use Rattle.std.specs.Prelude.{◌≤◌, length};
     ghost use Rattle.std.specs.List.{concat};
-    ghost use Rattle.hsm_types.specs.declared.limits.TheConstants.{FILE_BYTES, SEGMENT_BYTES};
+    ghost use Rattle.hsm_types.specs.Limits.{file_bytes, segment_bytes};
     ghost use Rattle.file_body.specs.Segments.{IsCut};
     ghost use Rattle.file_body.specs.HeldBodies.{HeldBody, pieces, aways};
 
@@ -29,7 +30,7 @@ impl Model for Body {
 
     ghost view = { λ b. record { bytes = concat (pieces b.segments.items); away = aways b.segments.items } };
 
-    ghost invariant = { λ b. IsCut SEGMENT_BYTES (pieces b.segments.items) × (length (concat (pieces b.segments.items)) ≤ FILE_BYTES) };
+    ghost invariant = { λ b. IsCut segment_bytes (pieces b.segments.items) × (length (concat (pieces b.segments.items)) ≤ file_bytes) };
 }
 
 impl Body {
@@ -46,7 +47,7 @@ impl Body {
     pub fn len(&self) -> u64
         ensures len { result ≡ length self.now.bytes }
         ensures limit { result ≤ FILE_BYTES }
-        ensures away { (j : ℕ) → is_away self.now j ≡ true → 65536 * j < result }
+        ensures away { (j : ℕ) → is_away self.now j ≡ true → segment_bytes * j < result }
     {
         segment_lists::len(self.segments.as_slice()) as u64
     }
@@ -69,15 +70,15 @@ impl Body {
 
     /// The bytes of a segment that is here, without a copy.
     pub fn segment(&self, segment: u32) -> Option<&[u8]>
-        ensures bytes { IfSome result (λ bytes. bytes.now ≡ read_at (65536 * segment) 65536 self.now.bytes) }
-        ensures here { IsSome result ↔ ((65536 * segment < length self.now.bytes) × (is_away self.now segment ≡ false)) }
+        ensures bytes { IfSome result (λ bytes. bytes.now ≡ read_at (segment_bytes * segment) segment_bytes self.now.bytes) }
+        ensures here { IsSome result ↔ ((segment_bytes * segment < length self.now.bytes) × (is_away self.now segment ≡ false)) }
     {
         segment_lists::here(self.segments.as_slice(), segment as usize)
     }
 
     /// Fills the buffer with a block of the body, and zeros past the body's end. It takes no memory and costs the block.
     pub fn fill_block(&self, block: u32, buffer: &mut [u8])
-        requires { length buffer.old ≡ 4096 }
+        requires { length buffer.old ≡ BLOCK_BYTES }
         ensures { buffer.new ≡ block_of self.now.bytes block }
     {
         segment_lists::fill_block(self.segments.as_slice(), block as usize, buffer);
@@ -86,7 +87,7 @@ impl Body {
     /// Fills the buffer with a block of the body as it will be once the bytes are written at the offset, and zeros past its end then. It takes no
     /// memory and costs the block.
     pub fn fill_written_block(&self, block: u32, offset: u64, bytes: &[u8], buffer: &mut [u8])
-        requires len { length buffer.old ≡ 4096 }
+        requires len { length buffer.old ≡ BLOCK_BYTES }
         requires end { offset + length bytes.now ≤ FILE_BYTES }
         ensures { buffer.new ≡ block_of (written offset bytes.now self.now.bytes) block }
     {
@@ -116,7 +117,7 @@ impl Body {
     pub fn resize(&mut self, alloc: Global, size: u64) -> Result<(), AllocError>
         requires { size ≤ FILE_BYTES }
         ensures ok { OnOk result (self.new.bytes ≡ resized size self.old.bytes) }
-        ensures away { OnOk result ((j : ℕ) → is_away self.new j ≡ (is_away self.old j && nat_lt (65536 * j) size)) }
+        ensures away { OnOk result ((j : ℕ) → is_away self.new j ≡ (is_away self.old j && nat_lt (segment_bytes * j) size)) }
         ensures err { OnErr result (self.new ≡ self.old) }
         ensures cut { size ≤ length self.old.bytes → IsOk result }
     {
@@ -128,13 +129,13 @@ impl Body {
 
     /// Adds a segment of so many bytes that is away, behind segments that are full. It takes no memory for these bytes.
     pub fn lengthen_away(&mut self, count: u64) -> Result<(), AllocError>
-        requires full { length self.old.bytes % 65536 ≡ 0 }
+        requires full { length self.old.bytes % segment_bytes ≡ 0 }
         requires some { 1 ≤ count }
-        requires most { count ≤ 65536 }
+        requires most { count ≤ segment_bytes }
         requires end { length self.old.bytes + count ≤ FILE_BYTES }
         ensures ok { OnOk result (self.new.bytes ≡ self.old.bytes ++ replicate count 0) }
-        ensures away { OnOk result (is_away self.new (length self.old.bytes / 65536) ≡ true) }
-        ensures others { (j : ℕ) → (j ≡ length self.old.bytes / 65536 → ⊥) → is_away self.new j ≡ is_away self.old j }
+        ensures away { OnOk result (is_away self.new (length self.old.bytes / segment_bytes) ≡ true) }
+        ensures others { (j : ℕ) → (j ≡ length self.old.bytes / segment_bytes → ⊥) → is_away self.new j ≡ is_away self.old j }
         ensures err { OnErr result (self.new ≡ self.old) }
     {
         segment_lists::lengthen_away(&mut self.segments, count as usize)
@@ -156,9 +157,9 @@ impl Body {
     /// The segments from the first up to the second go away, as far as there are any, and their memory is free. It takes none, and costs the segments.
     pub fn leave(&mut self, from: u32, to: u32)
         requires order { from ≤ to }
-        requires within { 65536 * from ≤ length self.old.bytes }
-        ensures bytes { self.new.bytes ≡ written (65536 * from) (replicate (min (65536 * to) (length self.old.bytes) - 65536 * from) 0) self.old.bytes }
-        ensures away { (j : ℕ) → is_away self.new j ≡ (is_away self.old j || (nat_le from j && nat_lt j to && nat_lt (65536 * j) (length self.old.bytes))) }
+        requires within { segment_bytes * from ≤ length self.old.bytes }
+        ensures bytes { self.new.bytes ≡ written (segment_bytes * from) (replicate (min (segment_bytes * to) (length self.old.bytes) - segment_bytes * from) 0) self.old.bytes }
+        ensures away { (j : ℕ) → is_away self.new j ≡ (is_away self.old j || (nat_le from j && nat_lt j to && nat_lt (segment_bytes * j) (length self.old.bytes))) }
     {
         segment_lists::leave(self.segments.as_mut_slice(), from as usize, to as usize);
     }

@@ -68,7 +68,7 @@ pub fn fill_block(segments: &[Segment], block: usize, buffer: &mut [u8])
     requires cut { IsCut FULL (pieces segments.now) }
     requires short { length (concat (pieces segments.now)) < 2 ^ 63 }
     requires low { block < 2 ^ 32 }
-    requires block { length buffer.old ≡ 4096 }
+    requires block { length buffer.old ≡ BLOCK_BYTES }
     ensures { buffer.new ≡ block_of (concat (pieces segments.now)) block }
 {
     let place = block * BLOCK;

@@ -13,12 +13,12 @@ pub const FULL: usize = SEGMENT_BYTES as usize;
 static ZEROS: [u8; FULL] = [0; FULL];
 
 /// A segment of a body, at most [`FULL`] bytes, which are here or away. Contracts see the bytes, with zeros in the place of those that are away.
-#[derive(Debug, Drop)]
+#[derive(Drop)]
 pub struct Segment {
     content: Content,
 }
 
-#[derive(Debug, Drop)]
+#[derive(Drop)]
 enum Content {
     /// Its bytes.
     Here(Vec<u8>),

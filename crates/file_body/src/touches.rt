@@ -1,6 +1,7 @@
 //! The blocks that changes of a file's bytes touch.
 ghost use Rattle.std.specs.Prelude.{◌≡◌, ℕ, ◌+◌, ◌*◌, ◌<◌, ◌≤◌, ◌++◌, List, length, slice_index_or, IfSome};
 ghost use Rattle.std.specs.Option.{option_to_list};
+ghost use Rattle.hsm_types.specs.Limits.{file_blocks};
 ghost use Rattle.plain_model.specs.Effects.{Writes, Resizes};
 ghost use Rattle.plain_model.specs.Blocks.{from_on, met, touched, blocks_in, old_end};
 
@@ -8,7 +9,7 @@ use hsm_types::{BLOCK_BYTES, FILE_BYTES, SEGMENT_BYTES};
 use std::marker::Model;
 
 /// The blocks that a change touches: perhaps that of the old end, and a run. Contracts see the list of them.
-#[derive(Debug, Drop)]
+#[derive(Drop)]
 pub struct TouchedBlocks {
     old_end: Option<u64>,
     first: u64,
@@ -18,17 +19,18 @@ pub struct TouchedBlocks {
 impl Model for TouchedBlocks {
     ghost use Rattle.std.specs.Prelude.{ℕ, List, ◌+◌, ◌<◌, ◌≤◌, ◌++◌, IfSome};
     ghost use Rattle.std.specs.Option.{option_to_list};
+    ghost use Rattle.hsm_types.specs.Limits.{file_blocks};
     ghost use Rattle.plain_model.specs.Blocks.{from_on};
 
     ghost Value = { List ℕ };
 
     ghost view = { λ t. option_to_list t.old_end ++ from_on t.first t.count };
 
-    ghost invariant = { λ t. (t.first + t.count ≤ 4096) × IfSome t.old_end (λ b. b < 4096) };
+    ghost invariant = { λ t. (t.first + t.count ≤ file_blocks) × IfSome t.old_end (λ b. b < file_blocks) };
 }
 
 /// Blocks of a body, one after the other.
-#[derive(Clone, Copy, Debug)]
+#[derive(Clone, Copy)]
 pub struct BlockRun {
     pub first: u32,
     pub count: u32,
@@ -38,8 +40,8 @@ impl TouchedBlocks {
     /// The block of the old end and the others, each a run, which may be empty.
     pub fn runs(&self) -> (BlockRun, BlockRun)
         ensures runs { from_on result.0.first result.0.count ++ from_on result.1.first result.1.count ≡ self.now }
-        ensures end { result.0.first + result.0.count ≤ 4096 }
-        ensures others { result.1.first + result.1.count ≤ 4096 }
+        ensures end { result.0.first + result.0.count ≤ file_blocks }
+        ensures others { result.1.first + result.1.count ≤ file_blocks }
     {
         let others = BlockRun {
             first: self.first as u32,
@@ -69,7 +71,7 @@ impl TouchedBlocks {
     pub fn block(&self, place: u64) -> u64
         requires { place < length self.now }
         ensures block { result ≡ slice_index_or self.now place 0 }
-        ensures small { result < 4096 }
+        ensures small { result < file_blocks }
     {
         match self.old_end {
             Some(block) if place == 0 => block,
@@ -109,8 +111,8 @@ pub fn touched_by_truncate(size: u64, new: u64) -> TouchedBlocks
 /// The blocks of so many bytes of a segment.
 pub fn touched_by_restore(segment: u32, len: u64) -> TouchedBlocks
     requires segment { len ≤ SEGMENT_BYTES }
-    requires end { 65536 * segment + len ≤ FILE_BYTES }
-    ensures { result ≡ met (65536 * segment) (65536 * segment + len) }
+    requires end { SEGMENT_BYTES * segment + len ≤ FILE_BYTES }
+    ensures { result ≡ met (SEGMENT_BYTES * segment) (SEGMENT_BYTES * segment + len) }
 {
     let start = u64::from(segment) * SEGMENT_BYTES;
     let first = start / BLOCK_BYTES;
@@ -124,7 +126,7 @@ pub fn touched_by_restore(segment: u32, len: u64) -> TouchedBlocks
 /// The block in which a body of that size ends, where it doesn't fill it.
 fn old_end(size: u64) -> Option<u64>
     ensures block { option_to_list result ≡ old_end size }
-    ensures within { IfSome result (λ block. 4096 * block ≤ size) }
+    ensures within { IfSome result (λ block. BLOCK_BYTES * block ≤ size) }
 {
     if size % BLOCK_BYTES == 0 {
         None

@@ -1,5 +1,9 @@
 -- Blocks written to their places, one after the other, and what that leaves of what recovery finds, and of the other data blocks.
-use Rattle.file_store.proofs.Names.{◌≡◌, ⊎_elim, ℕ, ◌+◌, ◌*◌, ◌<◌, ◌≤◌, ◌^◌, ◌==◌, true, false, List, length, sym, ◌∙◌, ap, subst, arith, zero, suc, [], ◌∷◌, ◌++◌, map, get_or, take, refl, AllByRecursion, list_any, false≢true, false_from_ne_true, All-from_recursion, part, IsFreed, IsWritten, Keeps, All-has, Layout, IsApart, Catalog, blocks_of, IsCatalog, IsImage, Meta, Backs, held_at, block_of, IsBesideBlocks, places_of, HasBlocks, length-map, map-append, Mapping, mappings_of, Distinct, Ghosts}
+use Rattle.file_store.proofs.Names.{◌≡◌, ⊎_elim, ℕ, ◌+◌, ◌*◌, ◌<◌, ◌≤◌, ◌^◌, ◌==◌, true, false, List, length, sym, ◌∙◌, ap, subst, arith, zero, suc}
+use Rattle.file_store.proofs.Names.{[], ◌∷◌, ◌++◌, map, get_or, take, refl, AllByRecursion, list_any, false≢true, false_from_ne_true}
+use Rattle.file_store.proofs.Names.{All-from_recursion, part, IsFreed, IsWritten, Keeps, All-has, Layout, IsApart, Catalog, blocks_of, IsCatalog}
+use Rattle.file_store.proofs.Names.{IsImage, Meta, Backs, held_at, block_of, IsBesideBlocks, places_of, HasBlocks, length-map, map-append, Mapping}
+use Rattle.file_store.proofs.Names.{mappings_of, Distinct, Ghosts}
 use Rattle.disk_model.proofs.Parts.{part_part, length-part}
 use Rattle.commit_slots.specs.Places.{layout_of}
 use Rattle.meta_store.specs.Catalogs.{geometry_of}
@@ -8,11 +12,12 @@ use Rattle.meta_store.proofs.BesideBlocks.{IsSameBelow, slot_below, image_below}
 use Rattle.file_store.proofs.DataBlocks.{Stays, held-stays}
 use Rattle.file_store.proofs.EachOf.{each-all, each-weaker, each_other, each-at, each-both, each-join, each-mapped, each-parts}
 use Rattle.file_store.proofs.Marks.{NoneOf, used-within}
+use Rattle.hsm_types.specs.Limits.{block_bytes}
 
 -- ---- where the data blocks lie, and how many there are
 
 pub record IsRoom (l : Layout) (blocks : ℕ) : Type 0 where
-  pub len : l.blocks_len ≡ 4096 * blocks
+  pub len : l.blocks_len ≡ block_bytes * blocks
   pub fits : l.blocks + l.blocks_len ≤ l.whole
   pub short : l.whole ≤ 287318016
 
@@ -21,27 +26,27 @@ unfolding layout_of geometry_of
 room geometry = grind arith
 
 -- a data block lies on the disk
-pub block_fits : (geometry place : ℕ) → place < (geometry_of geometry).blocks → ((layout_of geometry).blocks + 4096 * place + 4096 ≤ (layout_of geometry).whole) × ((layout_of geometry).whole ≤ 287318016)
+pub block_fits : (geometry place : ℕ) → place < (geometry_of geometry).blocks → ((layout_of geometry).blocks + block_bytes * place + block_bytes ≤ (layout_of geometry).whole) × ((layout_of geometry).whole ≤ 287318016)
 block_fits geometry place within = let h = room geometry in (omega arith, omega arith)
 
 pub blocks_low : (geometry : ℕ) → (layout_of geometry).blocks < 2 ^ 32
 blocks_low geometry = let h = room geometry in omega arith
 
-pub blocks_fit : (geometry len : ℕ) → len ≡ (layout_of geometry).whole → (ps : List ℕ) → AllByRecursion (λ p. p < (geometry_of geometry).blocks) ps → AllByRecursion (λ p. (layout_of geometry).blocks + 4096 * p + 4096 ≤ len) ps
-blocks_fit geometry len whole = each-weaker (λ p. p < (geometry_of geometry).blocks) (λ p. (layout_of geometry).blocks + 4096 * p + 4096 ≤ len) (λ p within. let fits = (block_fits geometry p within).0 in omega (arith, whole))
+pub blocks_fit : (geometry len : ℕ) → len ≡ (layout_of geometry).whole → (ps : List ℕ) → AllByRecursion (λ p. p < (geometry_of geometry).blocks) ps → AllByRecursion (λ p. (layout_of geometry).blocks + block_bytes * p + block_bytes ≤ len) ps
+blocks_fit geometry len whole = each-weaker (λ p. p < (geometry_of geometry).blocks) (λ p. (layout_of geometry).blocks + block_bytes * p + block_bytes ≤ len) (λ p within. let fits = (block_fits geometry p within).0 in omega (arith, whole))
 
 -- different blocks are apart
-pub blocks_apart : (base p q : ℕ) → (p ≡ q → ⊥) → IsApart (base + 4096 * p) 4096 (base + 4096 * q) 4096
+pub blocks_apart : (base p q : ℕ) → (p ≡ q → ⊥) → IsApart (base + block_bytes * p) block_bytes (base + block_bytes * q) block_bytes
 blocks_apart base p q other = grind arith
 
 -- ---- a block among the data blocks
 
-pub block_in : (geometry : ℕ) (c : List ℕ) (p : ℕ) → p < (geometry_of geometry).blocks → part (blocks_in_image geometry c) (4096 * p) 4096 ≡ part c ((layout_of geometry).blocks + 4096 * p) 4096
+pub block_in : (geometry : ℕ) (c : List ℕ) (p : ℕ) → p < (geometry_of geometry).blocks → part (blocks_in_image geometry c) (block_bytes * p) block_bytes ≡ part c ((layout_of geometry).blocks + block_bytes * p) block_bytes
 unfolding blocks_in_image
 block_in geometry c p h = grind (arith, room, part_part)
 
-pub length-block : (geometry : ℕ) (c : List ℕ) (p : ℕ) → p < (geometry_of geometry).blocks → length c ≡ (layout_of geometry).whole → length (part (blocks_in_image geometry c) (4096 * p) 4096) ≡ 4096
-length-block geometry c p h whole = ap length (block_in geometry c p h) ∙ length-part c ((layout_of geometry).blocks + 4096 * p) 4096 (omega (arith, (block_fits geometry p h).0))
+pub length-block : (geometry : ℕ) (c : List ℕ) (p : ℕ) → p < (geometry_of geometry).blocks → length c ≡ (layout_of geometry).whole → length (part (blocks_in_image geometry c) (block_bytes * p) block_bytes) ≡ block_bytes
+length-block geometry c p h whole = ap length (block_in geometry c p h) ∙ length-part c ((layout_of geometry).blocks + block_bytes * p) block_bytes (omega (arith, (block_fits geometry p h).0))
 
 -- a block in use is none of the places that no file uses
 apart_of : (places blocks : List ℕ) (p : ℕ) → NoneOf places blocks → list_any (λ q. q == p) blocks ≡ true → list_any (λ q. q == p) places ≡ false
@@ -61,8 +66,8 @@ module _ (geometry : ℕ) (places : List ℕ) (d c : List ℕ) (beside : IsBesid
   used_stay x same lawful none p used =
       let base = (layout_of geometry).blocks in
       let h : p < (geometry_of geometry).blocks = subst (λ (z : ℕ). p < (geometry_of z).blocks) same (used-within x lawful p used) in
-      let others = each-weaker (λ q. p ≡ q → ⊥) (λ q. IsApart (base + 4096 * p) 4096 (base + 4096 * q) 4096) (λ q other. blocks_apart base p q other) places (each_other p places (apart_of places (blocks_of x.files) p none used)) in
-      block_in geometry c p h ∙ beside.same (base + 4096 * p) 4096 others ∙ sym (block_in geometry d p h)
+      let others = each-weaker (λ q. p ≡ q → ⊥) (λ q. IsApart (base + block_bytes * p) block_bytes (base + block_bytes * q) block_bytes) (λ q other. blocks_apart base p q other) places (each_other p places (apart_of places (blocks_of x.files) p none used)) in
+      block_in geometry c p h ∙ beside.same (base + block_bytes * p) block_bytes others ∙ sym (block_in geometry d p h)
 
   pub held_beside : (x : Catalog) → x.geometry ≡ geometry → IsCatalog x → NoneOf places (blocks_of x.files) → held_at (blocks_in_image geometry c) x ≡ held_at (blocks_in_image geometry d) x
   held_beside x same lawful none = held-stays (blocks_in_image geometry d) (blocks_in_image geometry c) x (used_stay x same lawful none)
@@ -105,18 +110,18 @@ before (m ∷ ms) (suc k) d apart h = (
 -- ---- images
 
 -- what a write to one of the places keeps
-pub beside_freed : (base : ℕ) (places : List ℕ) (k : ℕ) → k < length places → (old new : List ℕ) → IsFreed (base + 4096 * get_or places k 0) 4096 old new → IsBesideBlocks base places old new
+pub beside_freed : (base : ℕ) (places : List ℕ) (k : ℕ) → k < length places → (old new : List ℕ) → IsFreed (base + block_bytes * get_or places k 0) block_bytes old new → IsBesideBlocks base places old new
 beside_freed base places k h old new f = grind (arith, each-at)
 
 -- a block of the body lies there
 abbrev IsThere : ℕ → List ℕ → List ℕ → Mapping → Type 0
-IsThere base body c m = part c (base + 4096 * m.place) 4096 ≡ block_of body m.block
+IsThere base body c m = part c (base + block_bytes * m.place) block_bytes ≡ block_of body m.block
 
 -- one block more
-pub has_more : (base : ℕ) (body : List ℕ) (ms : List Mapping) (m : Mapping) → AllByRecursion (λ n. n.place ≡ m.place → ⊥) ms → length (block_of body m.block) ≡ 4096
-    → (old mid new : List ℕ) → HasBlocks base body ms old mid → IsWritten (base + 4096 * m.place) (block_of body m.block) mid new → HasBlocks base body (ms ++ m ∷ []) old new
+pub has_more : (base : ℕ) (body : List ℕ) (ms : List Mapping) (m : Mapping) → AllByRecursion (λ n. n.place ≡ m.place → ⊥) ms → length (block_of body m.block) ≡ block_bytes
+    → (old mid new : List ℕ) → HasBlocks base body ms old mid → IsWritten (base + block_bytes * m.place) (block_of body m.block) mid new → HasBlocks base body (ms ++ m ∷ []) old new
 has_more base body ms m others long old mid new has w =
-    let freed : IsFreed (base + 4096 * m.place) 4096 mid new = grind arith in
+    let freed : IsFreed (base + block_bytes * m.place) block_bytes mid new = grind arith in
     let kept : (n : Mapping) → (n.place ≡ m.place → ⊥) → IsThere base body mid n → IsThere base body new n =
     λ n other there. grind (arith, blocks_apart) in
     let here : IsThere base body new m = grind arith in
@@ -124,7 +129,7 @@ has_more base body ms m others long old mid new has w =
       beside = record {
         size = freed.size ∙ has.beside.size;
         same = λ a n all.
-            let sides = each-parts (λ p. IsApart a n (base + 4096 * p) 4096) (places_of ms) (m.place ∷ []) (subst (AllByRecursion (λ p. IsApart a n (base + 4096 * p) 4096)) (map-append (λ (x : Mapping). x.place) ms (m ∷ [])) all) in
+            let sides = each-parts (λ p. IsApart a n (base + block_bytes * p) block_bytes) (places_of ms) (m.place ∷ []) (subst (AllByRecursion (λ p. IsApart a n (base + block_bytes * p) block_bytes)) (map-append (λ (x : Mapping). x.place) ms (m ∷ [])) all) in
             ⊎_elim (freed.below a n) (freed.above a n) sides.1.0 ∙ has.beside.same a n sides.0;
       };
       there = grind (arith, each-join, each-both);

@@ -1,6 +1,11 @@
 -- A body by its blocks: where each byte stands, and which body the blocks at other places give.
-use Rattle.file_store.proofs.Names.{rules, ◌≡◌, ◌⊎◌, inl, inr, ⊎_elim, ℕ, zero, suc, ◌+◌, ◌-◌, ◌*◌, ◌/◌, ◌%◌, ◌<◌, ◌≤◌, List, [], ◌∷◌, ◌++◌, length, map, get_or, take, drop, set, Option, Some, None, refl, sym, ◌∙◌, ap, subst, arith, length-append, length-take, length-set, get_or-set_same, get_or-set_other, replicate, flat_map, AllByRecursion, cases_eq, ext_get_or, length-replicate, get_or-take, get_or_append_left, get_or-append_right, places, part, written, blocks_in, Mapping, present, places_fitted, places_set, block_at}
+use Rattle.file_store.proofs.Names.{rules, ◌≡◌, ◌⊎◌, inl, inr, ⊎_elim, ℕ, zero, suc, ◌+◌, ◌-◌, ◌*◌, ◌/◌, ◌%◌, ◌<◌, ◌≤◌, List, [], ◌∷◌, ◌++◌, length}
+use Rattle.file_store.proofs.Names.{map, get_or, take, drop, set, Option, Some, None, refl, sym, ◌∙◌, ap, subst, arith, length-append, length-take}
+use Rattle.file_store.proofs.Names.{length-set, get_or-set_same, get_or-set_other, replicate, flat_map, AllByRecursion, cases_eq, ext_get_or}
+use Rattle.file_store.proofs.Names.{length-replicate, get_or-take, get_or_append_left, get_or-append_right, places, part, written, blocks_in}
+use Rattle.file_store.proofs.Names.{Mapping, present, places_fitted, places_set, block_at}
 use Rattle.file_store.specs.Bodies.{body_at}
+use Rattle.hsm_types.specs.Limits.{block_bytes}
 
 -- ---- places
 
@@ -33,19 +38,19 @@ get_or-fitted size q ps h = grind (arith, places)
 module _ (blocks : List ℕ) where
   -- as far as the body goes, its bytes are those of the blocks at these places, and zeros where there is none
   abbrev pub HasBytes : ℕ → List (Option ℕ) → List ℕ → Type 0
-  HasBytes size ps body = (q r : ℕ) → r < 4096 → 4096 * q + r < size → get_or body (4096 * q + r) 0 ≡ get_or (block_at blocks (get_or ps q None)) r 0
+  HasBytes size ps body = (q r : ℕ) → r < block_bytes → block_bytes * q + r < size → get_or body (block_bytes * q + r) 0 ≡ get_or (block_at blocks (get_or ps q None)) r 0
 
   -- the block has its bytes
   abbrev pub Whole : ℕ → Type 0
-  Whole p = length (part blocks (4096 * p) 4096) ≡ 4096
+  Whole p = length (part blocks (block_bytes * p) block_bytes) ≡ block_bytes
 
   abbrev Full : List (Option ℕ) → Type 0
-  Full ps = (q : ℕ) → q < length ps → length (block_at blocks (get_or ps q None)) ≡ 4096
+  Full ps = (q : ℕ) → q < length ps → length (block_at blocks (get_or ps q None)) ≡ block_bytes
 
-  pub full : (ps : List (Option ℕ)) → AllByRecursion Whole (present ps) → (q : ℕ) → length (block_at blocks (get_or ps q None)) ≡ 4096
-  full ps whole q = at_place Whole (λ p. length (block_at blocks p) ≡ 4096) (length-replicate {A = ℕ} 4096 0) (λ p is. is) ps q whole
+  pub full : (ps : List (Option ℕ)) → AllByRecursion Whole (present ps) → (q : ℕ) → length (block_at blocks (get_or ps q None)) ≡ block_bytes
+  full ps whole q = at_place Whole (λ p. length (block_at blocks p) ≡ block_bytes) (length-replicate {A = ℕ} block_bytes 0) (λ p is. is) ps q whole
 
-  length-blocks : (ps : List (Option ℕ)) → Full ps → length (flat_map (block_at blocks) ps) ≡ 4096 * length ps
+  length-blocks : (ps : List (Option ℕ)) → Full ps → length (flat_map (block_at blocks) ps) ≡ block_bytes * length ps
   length-blocks [] all = refl
   length-blocks (p ∷ ps) all =
       let first = all zero (omega arith) in
@@ -53,32 +58,32 @@ module _ (blocks : List ℕ) where
       omega (arith, length-append (block_at blocks p) (flat_map (block_at blocks) ps))
 
   -- byte r of block q
-  byte-blocks : (ps : List (Option ℕ)) → Full ps → (q r : ℕ) → q < length ps → r < 4096 → get_or (flat_map (block_at blocks) ps) (4096 * q + r) 0 ≡ get_or (block_at blocks (get_or ps q None)) r 0
+  byte-blocks : (ps : List (Option ℕ)) → Full ps → (q r : ℕ) → q < length ps → r < block_bytes → get_or (flat_map (block_at blocks) ps) (block_bytes * q + r) 0 ≡ get_or (block_at blocks (get_or ps q None)) r 0
   byte-blocks [] all q r h l = absurd (omega arith)
   byte-blocks (p ∷ ps) all zero r h l =
       let first = all zero (omega arith) in
-      let here : 4096 * zero + r ≡ r = omega arith in
+      let here : block_bytes * zero + r ≡ r = omega arith in
       ap (λ i. get_or (block_at blocks p ++ flat_map (block_at blocks) ps) i 0) here ∙ get_or_append_left (block_at blocks p) (flat_map (block_at blocks) ps) 0 r (omega arith)
   byte-blocks (p ∷ ps) all (suc q) r h l =
-      let there : 4096 * suc q + r - 4096 ≡ 4096 * q + r = omega arith in
-      get_or-append_right (block_at blocks p) (flat_map (block_at blocks) ps) 4096 (4096 * suc q + r) 0 (all zero (omega arith)) (omega arith)
+      let there : block_bytes * suc q + r - block_bytes ≡ block_bytes * q + r = omega arith in
+      get_or-append_right (block_at blocks p) (flat_map (block_at blocks) ps) block_bytes (block_bytes * suc q + r) 0 (all zero (omega arith)) (omega arith)
       ∙ ap (λ i. get_or (flat_map (block_at blocks) ps) i 0) there
       ∙ byte-blocks ps (λ i g. all (suc i) (omega arith)) q r (omega arith) l
 
   -- where each has its bytes, they are a body
   pub same_body : (size : ℕ) (ps : List (Option ℕ)) (body : List ℕ) → length ps ≡ blocks_in size → length body ≡ size → Full ps
-      → ((q r : ℕ) → r < 4096 → 4096 * q + r < size → get_or body (4096 * q + r) 0 ≡ get_or (block_at blocks (get_or ps q None)) r 0) → body_at blocks size ps ≡ body
+      → ((q r : ℕ) → r < block_bytes → block_bytes * q + r < size → get_or body (block_bytes * q + r) 0 ≡ get_or (block_at blocks (get_or ps q None)) r 0) → body_at blocks size ps ≡ body
   unfolding body_at
   same_body size ps body count long all has =
       let bytes : List ℕ = flat_map (block_at blocks) ps in
-      let whole : length bytes ≡ 4096 * length ps = length-blocks ps all in
+      let whole : length bytes ≡ block_bytes * length ps = length-blocks ps all in
       let same : length (take size bytes) ≡ size = omega (arith, length-take size bytes) in
       ext_get_or 0 (take size bytes) body (same ∙ sym long) (λ k h.
-      let is : k ≡ 4096 * (k / 4096) + k % 4096 = omega arith in
+      let is : k ≡ block_bytes * (k / block_bytes) + k % block_bytes = omega arith in
       get_or-take size bytes k 0 (omega arith)
       ∙ ap (λ i. get_or bytes i 0) is
-      ∙ byte-blocks ps all (k / 4096) (k % 4096) (omega arith) (omega arith)
-      ∙ sym (ap (λ i. get_or body i 0) is ∙ has (k / 4096) (k % 4096) (omega arith) (omega arith)))
+      ∙ byte-blocks ps all (k / block_bytes) (k % block_bytes) (omega arith) (omega arith)
+      ∙ sym (ap (λ i. get_or body i 0) is ∙ has (k / block_bytes) (k % block_bytes) (omega arith) (omega arith)))
 
   -- and so is a body that they are
   pub has_bytes : (size : ℕ) (ps : List (Option ℕ)) (body : List ℕ) → AllByRecursion Whole (present ps) → length ps ≡ blocks_in size → body_at blocks size ps ≡ body → HasBytes size ps body

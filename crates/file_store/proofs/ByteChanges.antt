@@ -1,5 +1,11 @@
 -- A change of the bytes of a file: of a body that was lengthened by zeros before it, and of the flags of the blocks that it touches.
-use Rattle.file_store.proofs.Names.{grown, new_size, rules, ◌≡◌, ℕ, ◌+◌, ◌-◌, ◌*◌, ◌<◌, ◌≤◌, min, max, List, [], length, ltb, refl, arith, length-append, replicate, zero, suc, ◌∷◌, map, take, set, false, eqb, Option, Some, None, ap, is_some, ◌/◌, ◌%◌, cond_both, ltb-true, length-replicate, same_lists, places, map-append, map-set, take-map, length-map, resized, rebody, old_end, touched, size_after, from_on, blocks_in, with_mapped, fitted, mapped_after, Rewrite, Write, Resize, Restore, IsWithin, written, effect_of, AllByRecursion, Ascend, places_fitted, places_set, Mapping, length-written, length-resized, Effect}
+use Rattle.file_store.proofs.Names.{grown, new_size, rules, ◌≡◌, ℕ, ◌+◌, ◌-◌, ◌*◌, ◌<◌, ◌≤◌, min, max, List, [], length, ltb, refl, arith}
+use Rattle.file_store.proofs.Names.{length-append, replicate, zero, suc, ◌∷◌, map, take, set, false, eqb, Option, Some, None, ap, is_some, ◌/◌, ◌%◌}
+use Rattle.file_store.proofs.Names.{cond_both, ltb-true, length-replicate, same_lists, places, map-append, map-set, take-map, length-map, resized}
+use Rattle.file_store.proofs.Names.{rebody, old_end, touched, size_after, from_on, blocks_in, with_mapped, fitted, mapped_after, Rewrite, Write}
+use Rattle.file_store.proofs.Names.{Resize, Restore, IsWithin, written, effect_of, AllByRecursion, Ascend, places_fitted, places_set, Mapping}
+use Rattle.file_store.proofs.Names.{length-written, length-resized, Effect}
+use Rattle.hsm_types.specs.Limits.{block_bytes, segment_bytes}
 
 pub length-grown : (size : ℕ) (body : List ℕ) → length (grown size body) ≡ max size (length body)
 length-grown size body = grind (arith, length-append, length-replicate)
@@ -18,7 +24,7 @@ grown-none body = search (rules, same_lists)
 pub changed-grown : (change : Rewrite) (body : List ℕ) → rebody (effect_of change) (grown (new_size change body) body) ≡ rebody (effect_of change) body
 changed-grown (Write offset bytes) body = same_lists _ _ (search (rules, places)) (λ i d h. grind (arith, places))
 changed-grown (Resize size) body = same_lists _ _ (search (rules, places)) (λ i d h. grind (arith, places))
-changed-grown (Restore segment bytes) body = ap (written (65536 * segment) bytes.now) (grown-none body)
+changed-grown (Restore segment bytes) body = ap (written (segment_bytes * segment) bytes.now) (grown-none body)
 
 -- the body is long enough for it
 pub grown-enough : (change : Rewrite) (body : List ℕ) → new_size change (grown (new_size change body) body) ≤ length (grown (new_size change body) body)
@@ -62,22 +68,22 @@ flags-mapped effect size to ms ps blocks after = grind (arith, flags-set, flags-
 
 -- bytes of the block are changed, or it was the last one of a file that grows
 abbrev pub IsTouched : Rewrite → ℕ → ℕ → Type 0
-IsTouched (Write offset bytes) size b = (min offset size < 4096 * b + 4096) × (4096 * b < offset + length bytes.now)
-IsTouched (Resize to) size b = (size < to) × (b ≡ size / 4096)
-IsTouched (Restore segment bytes) size b = (65536 * segment < 4096 * b + 4096) × (4096 * b < 65536 * segment + length bytes.now)
+IsTouched (Write offset bytes) size b = (min offset size < block_bytes * b + block_bytes) × (block_bytes * b < offset + length bytes.now)
+IsTouched (Resize to) size b = (size < to) × (b ≡ size / block_bytes)
+IsTouched (Restore segment bytes) size b = (segment_bytes * segment < block_bytes * b + block_bytes) × (block_bytes * b < segment_bytes * segment + length bytes.now)
 
 abbrev RunOf : Rewrite → ℕ → ℕ → ℕ → Type 0
 RunOf change size a n = (b : ℕ) → a ≤ b → b < a + n → IsTouched change size b
 
 -- of what is true of the run, and of the block of an old end before it
 touched_by : (P : List ℕ → Type 0) (change : Rewrite) (size : ℕ) → ((a n : ℕ) → RunOf change size a n → P (from_on a n))
-    → ((a n : ℕ) → size / 4096 < a → IsTouched change size (size / 4096) → RunOf change size a n → P ((size / 4096) ∷ from_on a n)) → P (touched (effect_of change) size)
+    → ((a n : ℕ) → size / block_bytes < a → IsTouched change size (size / block_bytes) → RunOf change size a n → P ((size / block_bytes) ∷ from_on a n)) → P (touched (effect_of change) size)
 touched_by P (Write offset bytes) size run behind = grind arith
 touched_by P (Resize to) size run behind =
     let none : P [] = run 0 0 (λ b low high. absurd (omega arith)) in
     cond_both (ltb size to) (old_end size) [] P
     (λ grows.
-    cond_both (eqb (size % 4096) 0) [] ((size / 4096) ∷ []) P (λ whole. none) (λ cut. behind (size / 4096 + 1) 0 (omega arith) (ltb-true size to grows, refl) (λ b low high. absurd (omega arith))))
+    cond_both (eqb (size % block_bytes) 0) [] ((size / block_bytes) ∷ []) P (λ whole. none) (λ cut. behind (size / block_bytes + 1) 0 (omega arith) (ltb-true size to grows, refl) (λ b low high. absurd (omega arith))))
     (λ other. none)
 touched_by P (Restore segment bytes) size run behind = grind arith
 
@@ -87,7 +93,7 @@ run-each P a (suc n) all = grind (arith, run-each P (a + 1) n (λ b low high. al
 
 pub touched-each : (P : ℕ → Type 0) (change : Rewrite) (size : ℕ) → ((b : ℕ) → IsTouched change size b → P b) → AllByRecursion P (touched (effect_of change) size)
 touched-each P change size step =
-    touched_by (AllByRecursion P) change size (λ a n all. run-each P a n (λ b low high. step b (all b low high))) (λ a n apart one all. (step (size / 4096) one, run-each P a n (λ b low high. step b (all b low high))))
+    touched_by (AllByRecursion P) change size (λ a n all. run-each P a n (λ b low high. step b (all b low high))) (λ a n apart one all. (step (size / block_bytes) one, run-each P a n (λ b low high. step b (all b low high))))
 
 is-below : (change : Rewrite) (size : ℕ) → IsWithin change size → (b : ℕ) → IsTouched change size b → b < blocks_in (size_after (effect_of change) size)
 is-below (Write offset bytes) size within b is = omega (arith, is.1)

@@ -1,5 +1,9 @@
 -- What calls make durable, and what is true of the store after them.
-use Rattle.file_store.proofs.Names.{arith, ◌≡◌, ◌⊎◌, inl, inr, ⊎_elim, ℕ, ◌≤◌, ◌^◌, Bool, true, false, if◌then◌else◌, List, refl, sym, ◌∙◌, ap, subst, slice_index_or, AllByRecursion, HeldBody, MayBe, Keeps, Same, started, turns_leave, turns_now, joined, weakened, Space, Held, Catalog, blocks_of, IsImage, blocks_in_image, Recovers, Meta, IsMeta, Backs, StoresOrKeeps, HasStored, IsStoredNow, held_at, held_with, Store, IsDurable, IsEither, Proceeds, IsLive, IsSound, marks_of, Ghosts, IsHeldFiles}
+use Rattle.file_store.proofs.Names.{arith, ◌≡◌, ◌⊎◌, inl, inr, ⊎_elim, ℕ, ◌≤◌, ◌^◌, Bool, true, false, if◌then◌else◌, List, refl, sym, ◌∙◌, ap}
+use Rattle.file_store.proofs.Names.{subst, slice_index_or, AllByRecursion, HeldBody, MayBe, Keeps, Same, started, turns_leave, turns_now, joined}
+use Rattle.file_store.proofs.Names.{weakened, Space, Held, Catalog, blocks_of, IsImage, blocks_in_image, Recovers, Meta, IsMeta, Backs}
+use Rattle.file_store.proofs.Names.{StoresOrKeeps, HasStored, IsStoredNow, held_at, held_with, Store, IsDurable, IsEither, Proceeds, IsLive, IsSound}
+use Rattle.file_store.proofs.Names.{marks_of, Ghosts, IsHeldFiles}
 use Rattle.file_store.proofs.Marks.{marks_there}
 
 -- a store by its parts

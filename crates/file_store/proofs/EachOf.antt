@@ -1,5 +1,6 @@
 -- What is true of each of a list.
-use Rattle.file_store.proofs.Names.{◌≡◌, ◌<◌, ℕ, zero, suc, List, [], ◌∷◌, ◌++◌, length, map, get_or, Some, true, false, eqb, subst, arith, AllByRecursion, list_any, recursion_from_All, All-from_has, slice_get_within, get_or_from_slice_get}
+use Rattle.file_store.proofs.Names.{◌≡◌, ◌<◌, ℕ, zero, suc, List, [], ◌∷◌, ◌++◌, length, map, get_or, Some, true, false, eqb, subst, arith}
+use Rattle.file_store.proofs.Names.{AllByRecursion, list_any, recursion_from_All, All-from_has, slice_get_within, get_or_from_slice_get}
 use Rattle.std.specs.List.{slice_get}
 
 module _ {X : Type 0} where

@@ -1,5 +1,6 @@
 -- How calls end, by their results.
-use Rattle.file_store.proofs.Names.{arith, ◌≡◌, ℕ, false, Option, Some, None, refl, ◌∙◌, ap, subst, FileKey, Effect, Store, Proceeds, IsSound, StoresOrKeeps, Ghosts}
+use Rattle.file_store.proofs.Names.{arith, ◌≡◌, ℕ, false, Option, Some, None, refl, ◌∙◌, ap, subst, FileKey, Effect, Store, Proceeds, IsSound}
+use Rattle.file_store.proofs.Names.{StoresOrKeeps, Ghosts}
 use Rattle.std.specs.Prelude.{Result, Ok, Err}
 use Rattle.std.specs.Result.{IsErrOf, IsErrAnd}
 use Rattle.std.proofs.lemmas.Result.{err_from_is_err_and}

@@ -1,5 +1,12 @@
--- A catalog's files as they are held, however their bytes are found: what the catalog tells of them, their keys, one that is found, one more, one less and one changed.
-use Rattle.file_store.proofs.Names.{map-find, map-put, map-drop, ◌≡◌, ℕ, ◌<◌, ◌≤◌, ◌+◌, List, [], ◌∷◌, length, map, true, cond, Option, Some, None, refl, sym, ◌∙◌, ap, arith, is_some, IsSome, option_map, unwrap_or, ◌^◌, AllByRecursion, fold, sum, sum_by, length-map, FileKey, find_key, change_key, put_key, drop_key, Listed, greatest, named, free_inode, FileState, Held, used, used_by, next_key, affected_held, CatalogFile, Catalog, IsCatalog, geometry_of, present, blocks_of, names_in, kept_at, others_total, key_on, with_changed, IsNewFile, total-drop, used-sum, name_of, each-found, files-few, blocks-few, file_by, told_of, told_held, Shows, IsLawful, Make, held_after, sum-map, Within, Makes, entry_of, next_listed, free-ge, free-le, free-absent}
+-- A catalog's files as they are held, however their bytes are found: what the catalog tells of them, their keys, one that is found, one more, one
+-- less and one changed.
+use Rattle.file_store.proofs.Names.{map-find, map-put, map-drop, ◌≡◌, ℕ, ◌<◌, ◌≤◌, ◌+◌, List, [], ◌∷◌, length, map, true, cond, Option, Some, None}
+use Rattle.file_store.proofs.Names.{refl, sym, ◌∙◌, ap, arith, is_some, IsSome, option_map, unwrap_or, ◌^◌, AllByRecursion, fold, sum, sum_by}
+use Rattle.file_store.proofs.Names.{length-map, FileKey, find_key, change_key, put_key, drop_key, Listed, greatest, named, free_inode, FileState}
+use Rattle.file_store.proofs.Names.{Held, used, used_by, next_key, affected_held, CatalogFile, Catalog, IsCatalog, geometry_of, present, blocks_of}
+use Rattle.file_store.proofs.Names.{names_in, kept_at, others_total, key_on, with_changed, IsNewFile, total-drop, used-sum, name_of, each-found}
+use Rattle.file_store.proofs.Names.{files-few, blocks-few, file_by, told_of, told_held, Shows, IsLawful, Make, held_after, sum-map, Within, Makes}
+use Rattle.file_store.proofs.Names.{entry_of, next_listed, free-ge, free-le, free-absent}
 use Rattle.std.proofs.lemmas.Simd.{map-map}
 use Rattle.plain_model.specs.Services.{kept_of, other_attributes}
 use Rattle.plain_model.specs.State.{names_of}

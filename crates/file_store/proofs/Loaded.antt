@@ -1,9 +1,15 @@
 -- Bodies that are made segment by segment, read block by block, and put by inode, one after the other in the order of the files.
-use Rattle.file_store.proofs.Names.{Bool, false, if◌then◌else◌, replicate, ◌/◌, refl, true, false≢true, ◌≡◌, ◌⊎◌, inl, inr, ⊎_elim, ℕ, ◌+◌, ◌-◌, ◌*◌, ◌<◌, ◌≤◌, List, [], length, get_or, take, Option, Some, None, sym, ◌∙◌, ap, subst, arith, zero, suc, ◌∷◌, ◌++◌, map, set, get_or-set_same, get_or-set_other, AllByRecursion, cases_lt, cases_eq, places, length-replicate, min, get_or-replicate, get_or-take, take_more, length-map, written, blocks_in, part, layout_of, geometry_of, present, CatalogFile, Catalog, IsCatalog, IsCatalogFile, names_of, blocks_in_image, OnlyReads, block_at, body_at, body_with, HeldBody, is_away, slice_get_within, get_or_from_slice_get, Table, entry_of, Ghosts}
+use Rattle.file_store.proofs.Names.{Bool, false, if◌then◌else◌, replicate, ◌/◌, refl, true, false≢true, ◌≡◌, ◌⊎◌, inl, inr, ⊎_elim, ℕ, ◌+◌, ◌-◌, ◌*◌}
+use Rattle.file_store.proofs.Names.{◌<◌, ◌≤◌, List, [], length, get_or, take, Option, Some, None, sym, ◌∙◌, ap, subst, arith, zero, suc, ◌∷◌, ◌++◌}
+use Rattle.file_store.proofs.Names.{map, set, get_or-set_same, get_or-set_other, AllByRecursion, cases_lt, cases_eq, places, length-replicate, min}
+use Rattle.file_store.proofs.Names.{get_or-replicate, get_or-take, take_more, length-map, written, blocks_in, part, layout_of, geometry_of, present}
+use Rattle.file_store.proofs.Names.{CatalogFile, Catalog, IsCatalog, IsCatalogFile, names_of, blocks_in_image, OnlyReads, block_at, body_at}
+use Rattle.file_store.proofs.Names.{body_with, HeldBody, is_away, slice_get_within, get_or_from_slice_get, Table, entry_of, Ghosts}
 use Rattle.std.specs.List.{slice_get}
 use Rattle.std.specs.Prelude.{◌==◌, ◌&&◌, nat_lt, IfSome}
 use Rattle.std.proofs.lemmas.Bool.{lt-ltb}
 use Rattle.std.proofs.lemmas.List.{replicate-append-replicate}
+use Rattle.hsm_types.specs.Limits.{block_bytes, segment_bytes, segment_blocks}
 use Rattle.hsm_types.specs.Stubs.{Stubs, stub_at, is_offline, offline_at}
 use Rattle.hsm_types.specs.declared.stubs.Stub.{Stub as StubOf}
 use Rattle.meta_store.specs.Catalogs.{IsCatalogStub}
@@ -23,7 +29,7 @@ pub present-at : (P : ℕ → Type 0) (ps : List (Option ℕ)) (i p : ℕ) → A
 present-at P ps i p all at = at_place P (λ o. (q : ℕ) → o ≡ Some q → P q) (λ q none. absurd cc) (λ n here q is. let it : n ≡ q = cc in subst P it here) ps i all p at
 
 pub no_bytes : (blocks : List ℕ) (size : ℕ) → HasBytes blocks size [] (replicate size 0)
-no_bytes blocks size q r l h = let none : get_or (replicate size 0) (4096 * q + r) 0 ≡ 0 = grind (arith, places) in none ∙ sym (get_or-replicate 4096 r 0 0 l)
+no_bytes blocks size q r l h = let none : get_or (replicate size 0) (block_bytes * q + r) 0 ≡ 0 = grind (arith, places) in none ∙ sym (get_or-replicate block_bytes r 0 0 l)
 
 -- a hole
 pub hole-more : (blocks : List ℕ) (size : ℕ) (ps : List (Option ℕ)) (i : ℕ) (body : List ℕ) → i < length ps → get_or ps i None ≡ None → HasBytes blocks size (take i ps) body → HasBytes blocks size (take (i + 1) ps) body
@@ -32,11 +38,11 @@ hole-more blocks size ps i body within hole has q r l h =
     has q r l h ∙ ap (λ (p : Option ℕ). get_or (block_at blocks p) r 0) same
 
 -- a block from the disk
-pub block-more : (blocks : List ℕ) (size : ℕ) (ps : List (Option ℕ)) (i p start : ℕ) (old new : List ℕ) → i < length ps → get_or ps i None ≡ Some p → length (part blocks (4096 * p) 4096) ≡ 4096 → start ≡ 4096 * i → length old ≡ size → start < size
-    → new ≡ written start (take (length old - start) (part blocks (4096 * p) 4096)) old → HasBytes blocks size (take i ps) old → HasBytes blocks size (take (i + 1) ps) new
+pub block-more : (blocks : List ℕ) (size : ℕ) (ps : List (Option ℕ)) (i p start : ℕ) (old new : List ℕ) → i < length ps → get_or ps i None ≡ Some p → length (part blocks (block_bytes * p) block_bytes) ≡ block_bytes → start ≡ block_bytes * i → length old ≡ size → start < size
+    → new ≡ written start (take (length old - start) (part blocks (block_bytes * p) block_bytes)) old → HasBytes blocks size (take i ps) old → HasBytes blocks size (take (i + 1) ps) new
 block-more blocks size ps i p start old new within at whole begins long before is has q r l h =
-    let k : ℕ = 4096 * q + r in
-    let block : List ℕ = part blocks (4096 * p) 4096 in
+    let k : ℕ = block_bytes * q + r in
+    let block : List ℕ = part blocks (block_bytes * p) block_bytes in
     let piece : List ℕ = take (length old - start) block in
     ap (λ (b : List ℕ). get_or b k 0) is
     ∙ ⊎_elim
@@ -60,7 +66,7 @@ all-filled geometry size c ps body whole within count long has =
 -- ---- entries
 
 -- the segments of a lawful file's entries begin within it
-pub stub-starts : (blocks : ℕ) (f : CatalogFile) → IsCatalogFile blocks f → AllByRecursion (λ x. 65536 * x.0 < f.size) f.kept.stubs
+pub stub-starts : (blocks : ℕ) (f : CatalogFile) → IsCatalogFile blocks f → AllByRecursion (λ x. segment_bytes * x.0 < f.size) f.kept.stubs
 stub-starts blocks f is = grind (arith, each-weaker)
 
 pub offline-some : (o : Option StubOf) → is_offline o ≡ true → (stub : StubOf) × (o ≡ Some stub) × (stub.offline ≡ true)
@@ -72,7 +78,7 @@ pub entry-has : (P : ℕ × StubOf → Type 0) (j : ℕ) (stubs : Stubs) → All
 entry-has P j stubs all = grind (arith, stub-each)
 
 -- what is offline begins within the file
-pub offline-start : (size j : ℕ) (stubs : Stubs) → AllByRecursion (λ x. 65536 * x.0 < size) stubs → offline_at stubs j ≡ true → 65536 * j < size
+pub offline-start : (size j : ℕ) (stubs : Stubs) → AllByRecursion (λ x. segment_bytes * x.0 < size) stubs → offline_at stubs j ≡ true → segment_bytes * j < size
 offline-start size j stubs starts off = grind (arith, offline-some, stub-each)
 
 -- ---- segments that come one after the other, in memory or away
@@ -83,23 +89,23 @@ pub shaped-more : (stubs : Stubs) (old new : HeldBody) (n i : ℕ) → n ≡ i �
 shaped-more stubs old new n i at was is j = grind arith
 
 -- of so many zeros
-pub zeros-more : (size i end : ℕ) (old new : List ℕ) → 65536 * i < size → end ≡ min size (65536 * (i + 1)) → old ≡ replicate (min size (65536 * i)) 0 → new ≡ old ++ replicate (end - length old) 0 → new ≡ replicate (min size (65536 * (i + 1))) 0
+pub zeros-more : (size i end : ℕ) (old new : List ℕ) → segment_bytes * i < size → end ≡ min size (segment_bytes * (i + 1)) → old ≡ replicate (min size (segment_bytes * i)) 0 → new ≡ old ++ replicate (end - length old) 0 → new ≡ replicate (min size (segment_bytes * (i + 1))) 0
 zeros-more size i end old new more at was is = grind (arith, length-replicate, replicate-append-replicate)
 
 -- all of them
-pub shaped-all : (stubs : Stubs) (size i j : ℕ) → AllByRecursion (λ x. 65536 * x.0 < size) stubs → size ≤ 65536 * i → (offline_at stubs j && nat_lt j i) ≡ offline_at stubs j
+pub shaped-all : (stubs : Stubs) (size i j : ℕ) → AllByRecursion (λ x. segment_bytes * x.0 < size) stubs → size ≤ segment_bytes * i → (offline_at stubs j && nat_lt j i) ≡ offline_at stubs j
 shaped-all stubs size i j starts end = grind (arith, lt-ltb, offline-start)
 
 -- a segment that is resized with all before
-pub within-all : (away : Bool) (j size : ℕ) → (away ≡ true → 65536 * j < size) → (away && nat_lt (65536 * j) size) ≡ away
-within-all true j size starts = lt-ltb (65536 * j) size (starts refl)
+pub within-all : (away : Bool) (j size : ℕ) → (away ≡ true → segment_bytes * j < size) → (away && nat_lt (segment_bytes * j) size) ≡ away
+within-all true j size starts = lt-ltb (segment_bytes * j) size (starts refl)
 within-all false j size starts = refl
 
 -- and those that are offline have no blocks
-pub offline-holes : (blocks : ℕ) (f : CatalogFile) → IsCatalogFile blocks f → (i : ℕ) → offline_at f.kept.stubs (i / 16) ≡ true → get_or f.places i None ≡ None
+pub offline-holes : (blocks : ℕ) (f : CatalogFile) → IsCatalogFile blocks f → (i : ℕ) → offline_at f.kept.stubs (i / segment_blocks) ≡ true → get_or f.places i None ≡ None
 offline-holes blocks f is i off =
-    let at = offline-some (stub_at (i / 16) f.kept.stubs) off in
-    away-at 16 (16 * (i / 16)) f.places ((stub-each (IsCatalogStub f) f.kept.stubs (i / 16) at.0 is.stubs at.1).away at.2) i (omega arith) (omega arith)
+    let at = offline-some (stub_at (i / segment_blocks) f.kept.stubs) off in
+    away-at segment_blocks (segment_blocks * (i / segment_blocks)) f.places ((stub-each (IsCatalogStub f) f.kept.stubs (i / segment_blocks) at.0 is.stubs at.1).away at.2) i (omega arith) (omega arith)
 
 -- ---- by inode
 

@@ -1,5 +1,14 @@
 -- The marks of the blocks that files use: places that may be taken, and what is left where a file frees blocks.
-use Rattle.file_store.proofs.Names.{Stub, Rewrite, effect_of, size_after, places, ◌≡◌, ℕ, ◌+◌, ◌<◌, ◌≤◌, List, [], ◌∷◌, ◌++◌, length, take, drop, set, get_or, Option, Some, None, Bool, true, false, eqb, ltb, refl, sym, ◌∙◌, ap, subst, arith, length-set, get_or-set_other, replicate, AllByRecursion, list_any, sum_by, false≢true, false_from_ne_true, length-replicate, All-from_recursion, All-weaker, recursion_from_All, FileKey, find_key, change_key, blocks_in, Space, free, marked, unmarked, All-has, Ascend, Ascend-low, Record, Make, Drop, Size, Map, CatalogFile, Catalog, IsCatalog, geometry_of, present, blocks_of, after, CanStand, places_fitted, places_set, with_changed, uses_of, uses-sum, sum-put, sum-drop, sum-change, blocks-change, each-found, blocks-within, IsBodiless, mappings_of, remapped, places_under, freed_by, marks_of, sum_by-cons, sum_by-set, Distinct, IsFree, length-marked, others_are_free, taken_are_free, take_adds_others, marks_are_members, marks_join, releases-leave, uses, uses-append, distinct-uses, empty_file, length-fitted, present-fitted}
+use Rattle.file_store.proofs.Names.{Stub, Rewrite, effect_of, size_after, places, ◌≡◌, ℕ, ◌+◌, ◌<◌, ◌≤◌, List, [], ◌∷◌, ◌++◌, length, take, drop}
+use Rattle.file_store.proofs.Names.{set, get_or, Option, Some, None, Bool, true, false, eqb, ltb, refl, sym, ◌∙◌, ap, subst, arith, length-set}
+use Rattle.file_store.proofs.Names.{get_or-set_other, replicate, AllByRecursion, list_any, sum_by, false≢true, false_from_ne_true, length-replicate}
+use Rattle.file_store.proofs.Names.{All-from_recursion, All-weaker, recursion_from_All, FileKey, find_key, change_key, blocks_in, Space, free}
+use Rattle.file_store.proofs.Names.{marked, unmarked, All-has, Ascend, Ascend-low, Record, Make, Drop, Size, Map, CatalogFile, Catalog, IsCatalog}
+use Rattle.file_store.proofs.Names.{geometry_of, present, blocks_of, after, CanStand, places_fitted, places_set, with_changed, uses_of, uses-sum}
+use Rattle.file_store.proofs.Names.{sum-put, sum-drop, sum-change, blocks-change, each-found, blocks-within, IsBodiless, mappings_of, remapped}
+use Rattle.file_store.proofs.Names.{places_under, freed_by, marks_of, sum_by-cons, sum_by-set, Distinct, IsFree, length-marked, others_are_free}
+use Rattle.file_store.proofs.Names.{taken_are_free, take_adds_others, marks_are_members, marks_join, releases-leave, uses, uses-append}
+use Rattle.file_store.proofs.Names.{distinct-uses, empty_file, length-fitted, present-fitted}
 use Rattle.std.specs.List.{All}
 use Rattle.std.proofs.lemmas.Bool.Decides.{nat_tests}
 use Rattle.file_store.specs.Effects.{IsFreed}

@@ -48,6 +48,6 @@ pub use Rattle.meta_store.specs.declared.snapshot.Mapping.{Mapping}
 pub use Rattle.plain_model.specs.Blocks.{blocks_in, old_end, touched, size_after, from_on, met, with_mapped, fitted, mapped_after}
 pub use Rattle.plain_model.specs.Distinct.{Distinct}
 pub use Rattle.plain_model.specs.Effects.{Effect, Makes}
-pub use Rattle.plain_model.specs.Keyed.{find_key, change_key, put_key, drop_key}
+pub use Rattle.hsm_types.specs.Keyed.{find_key, change_key, put_key, drop_key}
 pub use Rattle.plain_model.specs.Plain.{written, resized, rebody, Listed, greatest, named, free_inode}
 pub use Rattle.plain_model.specs.State.{affected_held, Held, FileState, file_at as held_file, rekept, used, used_by, next_key, bytes_of, remade, next_key as next_held}

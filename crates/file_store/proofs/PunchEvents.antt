@@ -1,7 +1,13 @@
 -- Segments of a live file that go away: which ones may, and the store after it.
-use Rattle.file_store.proofs.Names.{◌≡◌, ℕ, zero, suc, ◌+◌, ◌-◌, ◌*◌, ◌<◌, ◌≤◌, List, [], ◌∷◌, length, map, get_or, set, take, drop, Bool, true, false, ◌&&◌, ◌||◌, if◌then◌else◌, Option, Some, None, refl, sym, ◌∙◌, ap, subst, arith, All, AllByRecursion, All-from_recursion, FileKey, find_key, Held, affected_held, bytes_of, Record, CatalogFile, Catalog, IsCatalogFile, geometry_of, present, with_changed, after_all, IsEvent, kept_at, blocks_in_image, Meta, IsMeta, Backs, StoresOrKeeps, held_at, held_with, body_with, HeldBody, no_body, is_away, IsBody, IsLive, IsSound, marks_of, unmarked, each-found, distinct-uses, IsHeldFiles, IsSome, Ghosts, ⊎_elim, cases_lt, lt-ltb}
+use Rattle.file_store.proofs.Names.{◌≡◌, ℕ, zero, suc, ◌+◌, ◌-◌, ◌*◌, ◌<◌, ◌≤◌, List, [], ◌∷◌, length, map, get_or, set, take, drop, Bool, true}
+use Rattle.file_store.proofs.Names.{false, ◌&&◌, ◌||◌, if◌then◌else◌, Option, Some, None, refl, sym, ◌∙◌, ap, subst, arith, All, AllByRecursion}
+use Rattle.file_store.proofs.Names.{All-from_recursion, FileKey, find_key, Held, affected_held, bytes_of, Record, CatalogFile, Catalog}
+use Rattle.file_store.proofs.Names.{IsCatalogFile, geometry_of, present, with_changed, after_all, IsEvent, kept_at, blocks_in_image, Meta, IsMeta}
+use Rattle.file_store.proofs.Names.{Backs, StoresOrKeeps, held_at, held_with, body_with, HeldBody, no_body, is_away, IsBody, IsLive, IsSound}
+use Rattle.file_store.proofs.Names.{marks_of, unmarked, each-found, distinct-uses, IsHeldFiles, IsSome, Ghosts, ⊎_elim, cases_lt, lt-ltb}
 use Rattle.std.specs.Prelude.{nat_le, nat_lt}
 use Rattle.std.proofs.Math.Bool.{or-true, or-false}
+use Rattle.hsm_types.specs.Limits.{segment_bytes, segment_blocks}
 use Rattle.hsm_types.specs.Refusals.{first_refusal}
 use Rattle.hsm_types.specs.Regions.{covers}
 use Rattle.hsm_types.specs.Segments.{from_on, segments_in}
@@ -75,13 +81,13 @@ pub record IsGoing {D : Type 0} (g : Ghosts D) (p : Parts D) (k : FileKey) (from
   pub live : IsLive g (store_of p)
   pub at : IsFound (length p.bodies) p.meta.current k
   pub can : (j : ℕ) → from ≤ j → j < from + n → CanGo at.file at.file.kept.stubs j
-  pub start : 65536 * from ≤ at.file.size
+  pub start : segment_bytes * from ≤ at.file.size
 
 pub kept_is : (c : Catalog) (k : FileKey) (f : CatalogFile) → find_key (λ x. x.key) k c.files ≡ Some f → kept_at k c ≡ f.kept
 kept_is c k f found = rw found refl
 
 pub ready : {D : Type 0} (g : Ghosts D) (p : Parts D) (k : FileKey) (from to : ℕ) → IsHeldFiles p.bodies p.meta → IsSound g (store_of p) → p.failed ≡ false → IsSome (find_key (λ f. f.key) k (store_of p).held.files)
-    → 65536 * from ≤ length (bytes_of k (store_of p).held.files) → from ≤ to → to ≤ segments_in (length (bytes_of k (store_of p).held.files)) → any_unpunched (kept_at k p.meta.current).regions (kept_at k p.meta.current).stubs from to ≡ None → IsGoing g p k from (to - from)
+    → segment_bytes * from ≤ length (bytes_of k (store_of p).held.files) → from ≤ to → to ≤ segments_in (length (bytes_of k (store_of p).held.files)) → any_unpunched (kept_at k p.meta.current).regions (kept_at k p.meta.current).stubs from to ≡ None → IsGoing g p k from (to - from)
 ready g p k from to files sound working there start order end none =
     let at = live-held files k there in
     let own = is-body files at in
@@ -122,12 +128,12 @@ module _ {D : Type 0} {g : Ghosts D} {p : Parts D} {k : FileKey} {from to n : �
   -- ---- the blocks that go
 
   abbrev freed : List ℕ
-  freed = present (take (16 * n) (drop (16 * from) file.places))
+  freed = present (take (segment_blocks * n) (drop (segment_blocks * from) file.places))
 
   pub freed_within : All (λ b. b < length p.space.current) freed
   freed_within =
       let total : ℕ = (geometry_of p.meta.current.geometry).blocks in
-      rw (ap length x.live.marks ∙ length-marks p.meta.current) (All-from_recursion (λ b. b < total) freed (each-freed (λ b. b < total) (16 * from) (16 * n) file.places lawful_file.within))
+      rw (ap length x.live.marks ∙ length-marks p.meta.current) (All-from_recursion (λ b. b < total) freed (each-freed (λ b. b < total) (segment_blocks * from) (segment_blocks * n) file.places lawful_file.within))
 
   marks : unmarked freed p.space.current ≡ marks_of next
   marks = grind (arith, marks-left, distinct-uses, uses-changed, without_segments, uses-freed)
@@ -144,7 +150,7 @@ module _ {D : Type 0} {g : Ghosts D} {p : Parts D} {k : FileKey} {from to n : �
   old_body = get_or p.bodies (k.ino - 1) no_body
 
   -- the body without them
-  module _ (b : HeldBody) (bytes : b.bytes ≡ zeroed from to old_body.bytes) (away : (j : ℕ) → is_away b j ≡ (is_away old_body j || (nat_le from j && nat_lt j to && nat_lt (65536 * j) (length old_body.bytes)))) where
+  module _ (b : HeldBody) (bytes : b.bytes ≡ zeroed from to old_body.bytes) (away : (j : ℕ) → is_away b j ≡ (is_away old_body j || (nat_le from j && nat_lt j to && nat_lt (segment_bytes * j) (length old_body.bytes)))) where
     own : IsBody old_body file
     own = is-body x.files x.at
 
@@ -152,9 +158,9 @@ module _ {D : Type 0} {g : Ghosts D} {p : Parts D} {k : FileKey} {from to n : �
     new_own = record {
       size = grind (arith, length-zeroed, own);
       here = λ j.
-          subst (λ t. is_away b j ≡ (is_away old_body j || (nat_le from j && nat_lt j t && nat_lt (65536 * j) (length old_body.bytes)))) end (away j)
-          ∙ now_away from (from + n) file.kept.stubs j (is_away old_body j) (nat_lt (65536 * j) (length old_body.bytes))
-          (λ above below. let it = x.can j above below in ((sealed_by it.entry, it.is), lt-ltb (65536 * j) (length old_body.bytes) (let start = it.start in let size = own.size in omega arith))) (own.here j);
+          subst (λ t. is_away b j ≡ (is_away old_body j || (nat_le from j && nat_lt j t && nat_lt (segment_bytes * j) (length old_body.bytes)))) end (away j)
+          ∙ now_away from (from + n) file.kept.stubs j (is_away old_body j) (nat_lt (segment_bytes * j) (length old_body.bytes))
+          (λ above below. let it = x.can j above below in ((sealed_by it.entry, it.is), lt-ltb (segment_bytes * j) (length old_body.bytes) (let start = it.start in let size = own.size in omega arith))) (own.here j);
     }
 
     becomes : held_with (set p.bodies (k.ino - 1) b) next ≡ held_next

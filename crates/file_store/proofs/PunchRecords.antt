@@ -4,14 +4,15 @@ use Rattle.std.specs.List.{AllByRecursion}
 use Rattle.std.specs.List.Sorted.{IsStrictlySortedBy}
 use Rattle.std.specs.Map.{keys_of}
 use Rattle.std.specs.Ordering.{nat_cmp}
+use Rattle.hsm_types.specs.Limits.{segment_bytes, last_volume}
 use Rattle.hsm_types.specs.Regions.{covers}
 use Rattle.hsm_types.specs.Segments.{from_on, segment_len}
-use Rattle.hsm_types.specs.Stubs.{Stubs, stub_at, punched}
+use Rattle.hsm_types.specs.Stubs.{Stubs, stub_at, punched, entry_place, entry_print}
 use Rattle.hsm_types.specs.declared.keys.FileKey.{FileKey}
 use Rattle.hsm_types.specs.declared.stubs.Stub.{Stub as StubOf}
 use Rattle.hsm_types.specs.declared.stubs.StubEntry.{StubEntry}
 use Rattle.hsm_types.proofs.Stubbing.{stub_at-punched}
-use Rattle.plain_model.specs.Keyed.{find_key}
+use Rattle.hsm_types.specs.Keyed.{find_key}
 use Rattle.meta_store.specs.Catalogs.{CatalogFile, Catalog, HasLengths, AreLengths}
 use Rattle.meta_store.specs.Records.{file_after, with_changed, key_on, after, after_all, refusal_of_all, refusal_of, CanStandAll, CanStand, IsSure, IsEvent}
 use Rattle.meta_store.specs.declared.records.Record.{Record}
@@ -36,8 +37,8 @@ gone_by entry = record { entry = entry; offline = true }
 pub record CanGo (f : CatalogFile) (stubs : Stubs) (j : ℕ) : Type 0 where
   pub entry : StubEntry
   pub is : stub_at j stubs ≡ Some (sealed_by entry)
-  pub start : 65536 * j < f.size
-  pub volume : entry.volume ≤ 255
+  pub start : segment_bytes * j < f.size
+  pub volume : (entry_place entry).volume ≤ last_volume
   pub covered : covers f.kept.regions j ≡ true
 
 -- n segments from the first number on go away
@@ -100,4 +101,4 @@ are_event ino f stubs from (suc n) can = (each_sure ino f stubs from (suc n) can
 -- ---- entries keep their lengths
 
 pub lengths_gone : (k : FileKey) (from n : ℕ) (c : Catalog) → AreLengths c → AreLengths (with_changed k (without_segments from n) c)
-lengths_gone k from n c are = each-changed HasLengths k (without_segments from n) c.files (λ f found has. each-moved (λ j (entry : StubEntry). entry.print.len ≡ segment_len f.size j) true from (from + n) f.kept.stubs has) are
+lengths_gone k from n c are = each-changed HasLengths k (without_segments from n) c.files (λ f found has. each-moved (λ j (entry : StubEntry). (entry_print entry).len ≡ segment_len f.size j) true from (from + n) f.kept.stubs has) are

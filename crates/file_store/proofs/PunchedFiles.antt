@@ -1,9 +1,11 @@
 -- A file without some of its segments: its places, and its stub entries.
-use Rattle.std.proofs.Common.{◌≡◌, ℕ, zero, suc, ◌+◌, ◌-◌, ◌*◌, ◌<◌, ◌≤◌, List, [], ◌∷◌, ◌++◌, length, take, drop, map, get_or, Bool, true, false, Option, Some, None, refl, arith, append_assoc}
+use Rattle.std.proofs.Common.{◌≡◌, ℕ, zero, suc, ◌+◌, ◌-◌, ◌*◌, ◌<◌, ◌≤◌, List, [], ◌∷◌, ◌++◌, length, take, drop, map, get_or, Bool, true, false}
+use Rattle.std.proofs.Common.{Option, Some, None, refl, arith, append_assoc}
 use Rattle.std.specs.Prelude.{replicate, min, is_some}
 use Rattle.std.specs.List.{AllByRecursion}
 use Rattle.std.specs.Map.{keys_of}
 use Rattle.std.proofs.lemmas.List.{length-map}
+use Rattle.hsm_types.specs.Limits.{segment_blocks}
 use Rattle.hsm_types.specs.Stubs.{Stubs, moved, punched}
 use Rattle.hsm_types.specs.declared.stubs.Stub.{Stub}
 use Rattle.hsm_types.specs.declared.stubs.StubEntry.{StubEntry}
@@ -82,7 +84,7 @@ flags-cleared zero (suc n) (suc k) (suc holes) (p ∷ ps) end is = grind (arith,
 flags-cleared (suc m) n zero holes (p ∷ ps) end is = absurd (omega arith)
 flags-cleared (suc m) n (suc k) holes (p ∷ ps) end is = grind (arith, flags-cleared m n k holes ps (omega arith) (omega arith))
 
-pub flags-punched : (from to n : ℕ) (ps : List (Option ℕ)) → to ≡ from + n → map is_some (cleared (16 * from) (16 * n) ps) ≡ with_holes from to (map is_some ps)
+pub flags-punched : (from to n : ℕ) (ps : List (Option ℕ)) → to ≡ from + n → map is_some (cleared (segment_blocks * from) (segment_blocks * n) ps) ≡ with_holes from to (map is_some ps)
 flags-punched from to n ps end = grind (arith, flags-cleared, length-map, append_assoc)
 
 -- ---- entries
@@ -109,4 +111,4 @@ each-moved P offline from to (x ∷ rest) each = grind (arith, each-moved P offl
 
 -- n segments from the first number on are away
 abbrev pub without_segments : ℕ → ℕ → CatalogFile → CatalogFile
-without_segments from n f = record f { places = cleared (16 * from) (16 * n) f.places; kept = record f.kept { stubs = punched from (from + n) f.kept.stubs } }
+without_segments from n f = record f { places = cleared (segment_blocks * from) (segment_blocks * n) f.places; kept = record f.kept { stubs = punched from (from + n) f.kept.stubs } }

@@ -1,5 +1,14 @@
 -- The records of a change of a file's bytes: that they are its places, the catalog after them, and that they can come.
-use Rattle.file_store.proofs.Names.{◌||◌, true, Bool, max, map, ◌&&◌, ltb, and_parts, and_from, lt-ltb, cases_eq, ◌/◌, false≢true, is_some, IsSure, Stub, Rewrite, Write, Resize, Restore, effect_of, size_after, rekept, unseals, unsealing, IsHead, AreUnsealed, IsCatalogFile, places_fitted, CanStand, refusal_of, rules, ◌≡◌, ⊎_elim, ◌<◌, ℕ, zero, suc, ◌+◌, ◌-◌, ◌≤◌, min, List, [], ◌∷◌, ◌++◌, length, take, drop, Option, Some, None, refl, sym, ◌∙◌, ap, arith, length-append, take_all, set, false, eqb, subst, cases_lt, ltb-true, drop_more, drop_all, get_or_past, map-append, same_lists, places, from_on, blocks_in, Mapping, Record, Map, present, CatalogFile, Catalog, geometry_of, blocks_of, mappings_from, places_set, file_after, with_changed, key_on, after, after_all, refusal_of_all, IsMappable, CanStandAll, IsEvent, mappings_of, mappings_in, IsMapOn, IsRewriting, places_under, freed_by, remapped, flat_map, list_any, AllByRecursion, FileKey, find_key, change_key, names_of-change, places_of, uses, uses-append, absent-unused, uses-distinct, length-fitted, length-places_set, uses-fitted, uses-mapped}
+use Rattle.file_store.proofs.Names.{◌||◌, true, Bool, max, map, ◌&&◌, ltb, and_parts, and_from, lt-ltb, cases_eq, ◌/◌, false≢true, is_some, IsSure}
+use Rattle.file_store.proofs.Names.{Stub, Rewrite, Write, Resize, Restore, effect_of, size_after, rekept, unseals, unsealing, IsHead, AreUnsealed}
+use Rattle.file_store.proofs.Names.{IsCatalogFile, places_fitted, CanStand, refusal_of, rules, ◌≡◌, ⊎_elim, ◌<◌, ℕ, zero, suc, ◌+◌, ◌-◌, ◌≤◌, min}
+use Rattle.file_store.proofs.Names.{List, [], ◌∷◌, ◌++◌, length, take, drop, Option, Some, None, refl, sym, ◌∙◌, ap, arith, length-append, take_all}
+use Rattle.file_store.proofs.Names.{set, false, eqb, subst, cases_lt, ltb-true, drop_more, drop_all, get_or_past, map-append, same_lists, places}
+use Rattle.file_store.proofs.Names.{from_on, blocks_in, Mapping, Record, Map, present, CatalogFile, Catalog, geometry_of, blocks_of, mappings_from}
+use Rattle.file_store.proofs.Names.{places_set, file_after, with_changed, key_on, after, after_all, refusal_of_all, IsMappable, CanStandAll, IsEvent}
+use Rattle.file_store.proofs.Names.{mappings_of, mappings_in, IsMapOn, IsRewriting, places_under, freed_by, remapped, flat_map, list_any}
+use Rattle.file_store.proofs.Names.{AllByRecursion, FileKey, find_key, change_key, names_of-change, places_of, uses, uses-append, absent-unused}
+use Rattle.file_store.proofs.Names.{uses-distinct, length-fitted, length-places_set, uses-fitted, uses-mapped}
 use Rattle.std.proofs.lemmas.List.{append_assoc, append-nil}
 use Rattle.file_body.proofs.Runs.{length_blocks}
 use Rattle.file_store.proofs.EachOf.{each-parts, each-join, each-weaker, each_member}
@@ -11,6 +20,7 @@ use Rattle.std.specs.Prelude.{nat_le}
 use Rattle.std.proofs.lemmas.Bool.{le-leb, leb-true, eq-eqb}
 use Rattle.std.proofs.lemmas.List.Folds.{list_any-append}
 use Rattle.stub_map.specs.States.{NoneBetween}
+use Rattle.hsm_types.specs.Limits.{file_bytes, segment_blocks}
 use Rattle.hsm_types.specs.Stubs.{Stubs, stub_at, offline_at, with_stub, without_stub, restored}
 use Rattle.hsm_types.specs.declared.stubs.Stub.{Stub as StubOf}
 use Rattle.meta_store.specs.Records.{IsStubbable}
@@ -235,7 +245,7 @@ not_refused ino change ms rs c f found is = grind (arith, first-passes, all-pass
 
 -- each block is one that there is, and of a segment that is here, and each place one of the disk's
 abbrev pub IsFit : Stubs → ℕ → ℕ → Mapping → Type 0
-IsFit stubs n total m = (m.block < n) × (m.place < total) × (offline_at stubs (m.block / 16) ≡ false)
+IsFit stubs n total m = (m.block < n) × (m.place < total) × (offline_at stubs (m.block / segment_blocks) ≡ false)
 
 abbrev Fit : Stubs → ℕ → ℕ → List Mapping → Type 0
 Fit stubs n total ms = AllByRecursion (IsFit stubs n total) ms
@@ -244,10 +254,10 @@ run-fits : (stubs : Stubs) (n total block : ℕ) (p : ℕ) (ps : List ℕ) → F
 run-fits stubs n total block p [] fit = let low = fit.0.0 in (omega arith, (fit.0.1, tt))
 run-fits stubs n total block p (q ∷ ps) fit = grind (arith, run-fits stubs n total (block + 1) q ps fit.1)
 
-run-here : (stubs : Stubs) (n total block : ℕ) (ps : List ℕ) → Fit stubs n total (mappings_from block ps) → (b : ℕ) → block ≤ b → b < block + length ps → offline_at stubs (b / 16) ≡ false
+run-here : (stubs : Stubs) (n total block : ℕ) (ps : List ℕ) → Fit stubs n total (mappings_from block ps) → (b : ℕ) → block ≤ b → b < block + length ps → offline_at stubs (b / segment_blocks) ≡ false
 run-here stubs n total block [] fit b low high = absurd (omega arith)
 run-here stubs n total block (p ∷ ps) fit b low high =
-    ⊎_elim (λ (same : b ≡ block). subst (λ (x : ℕ). offline_at stubs (x / 16) ≡ false) (sym same) fit.0.2) (λ (other : b ≡ block → ⊥). run-here stubs n total (block + 1) ps fit.1 b (omega arith) (omega arith)) (cases_eq b block)
+    ⊎_elim (λ (same : b ≡ block). subst (λ (x : ℕ). offline_at stubs (x / segment_blocks) ≡ false) (sym same) fit.0.2) (λ (other : b ≡ block → ⊥). run-here stubs n total (block + 1) ps fit.1 b (omega arith) (omega arith)) (cases_eq b block)
 
 places-run : (block : ℕ) (ps : List ℕ) → places_of (mappings_from block ps) ≡ ps
 places-run block [] = refl
@@ -307,7 +317,7 @@ unseals-stand ino k (j ∷ js) rest c f found on here last =
 
 -- what has to be true of the file
 pub record MayChange (change : Rewrite) (f : CatalogFile) : Type 0 where
-  pub few : size_after (effect_of change) f.size ≤ 16777216
+  pub few : size_after (effect_of change) f.size ≤ file_bytes
   pub free : (j : ℕ) → unseals change f.size j ≡ true → offline_at f.kept.stubs j ≡ false
 
 restores-stand : (segment : ℕ) (stub : StubOf) (blocks : ℕ) (f : CatalogFile) → IsCatalogFile blocks f → stub_at segment f.kept.stubs ≡ Some stub → IsStubbable segment (record stub { offline = false }) f

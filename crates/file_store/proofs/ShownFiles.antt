@@ -1,7 +1,9 @@
 -- What readers of the catalog tell of the files in memory.
-use Rattle.file_store.proofs.Names.{ℕ, ◌*◌, ◌<◌, take, drop, arith, ap, length-take, ◌≡◌, List, length, AllByRecursion, HeldBody, CatalogFile, geometry_of, Meta, IsMeta, IsHeldFiles, AreBodies, bytes_with, held_with, Shows, IsLawful}
+use Rattle.file_store.proofs.Names.{ℕ, ◌*◌, ◌<◌, take, drop, arith, ap, length-take, ◌≡◌, List, length, AllByRecursion, HeldBody, CatalogFile}
+use Rattle.file_store.proofs.Names.{geometry_of, Meta, IsMeta, IsHeldFiles, AreBodies, bytes_with, held_with, Shows, IsLawful}
 use Rattle.file_store.proofs.EachOf.{each-weaker}
 use Rattle.file_store.proofs.FilesBy.{shows, held_lawful}
+use Rattle.hsm_types.specs.Limits.{segment_bytes}
 
 pub sizes_with : (bs : List HeldBody) (fs : List CatalogFile) → AreBodies bs fs → AllByRecursion (λ f. length (bytes_with bs f) ≡ f.size) fs
 sizes_with bs fs are = grind (arith, each-weaker)
@@ -13,5 +15,5 @@ pub lawful_with : (bs : List HeldBody) (m : Meta) → IsHeldFiles bs m → IsMet
 lawful_with bs m is lawful = held_lawful (bytes_with bs) m.current lawful.current lawful.stored.now (sizes_with bs m.current.files is.sizes)
 
 -- a segment has few bytes
-pub segment_short : (j : ℕ) (body bytes : List ℕ) → bytes ≡ take 65536 (drop (65536 * j) body) → length bytes < 4294967296
-segment_short j body bytes is = omega (arith, ap length is, length-take 65536 (drop (65536 * j) body))
+pub segment_short : (j : ℕ) (body bytes : List ℕ) → bytes ≡ take segment_bytes (drop (segment_bytes * j) body) → length bytes < 4294967296
+segment_short j body bytes is = omega (arith, ap length is, length-take segment_bytes (drop (segment_bytes * j) body))

@@ -1,5 +1,17 @@
 -- Events of a live store: a record that concerns no bytes of a file that stays, and bytes with their records.
-use Rattle.file_store.proofs.Names.{IsAlike, HeldBody, no_body, IsHere, IsWithin, ◌/◌, held_file, file_by, option_map, rekept, touched, Restore, each-drop, ◌+◌, IsSome, find_key, used, bytes_with, new_size, touched_of, places_for, IsStaged, get_or, ◌≡◌, ℕ, ◌<◌, List, [], ◌∷◌, length, Bool, true, false, Option, Some, None, refl, sym, ◌∙◌, ap, subst, All, inl, inr, zero, suc, ◌-◌, ◌*◌, ◌≤◌, take, drop, set, arith, length-take, FileKey, Space, unmarked, free, marked, Record, Catalog, IsCatalogFile, geometry_of, present, blocks_of, after, CanStand, refusal_of, refusal_of_all, with_changed, after_all, CanStandAll, key_on, blocks_in_image, IsImage, Meta, IsMeta, Backs, StoresOrKeeps, held_at, held_with, block_of, bytes_at, IsBodiless, held_after, Store, IsLive, IsSound, marks_of, IsEither, Proceeds, AllByRecursion, All-from_recursion, All-weaker, part, Follows, MayBe, Keeps, holds_on, holds_now, layout_of, rebody, blocks_in, size_after, Held, bytes_of, affected_held, Mapping, each-found, Rewrite, Write, Resize, IsBesideBlocks, HasBlocks, effect_of, IsRewrite, IsRewriting, mappings_of, remapped, freed_by, places_under, IsHeldFiles, length-marked, marked_keeps, taken_are_free, release_undoes_take, uses, uses-append, Ghosts}
+use Rattle.file_store.proofs.Names.{IsAlike, HeldBody, no_body, IsHere, IsWithin, ◌/◌, held_file, file_by, option_map, rekept, touched, Restore}
+use Rattle.file_store.proofs.Names.{each-drop, ◌+◌, IsSome, find_key, used, bytes_with, new_size, touched_of, places_for, IsStaged, get_or, ◌≡◌, ℕ}
+use Rattle.file_store.proofs.Names.{◌<◌, List, [], ◌∷◌, length, Bool, true, false, Option, Some, None, refl, sym, ◌∙◌, ap, subst, All, inl, inr}
+use Rattle.file_store.proofs.Names.{zero, suc, ◌-◌, ◌*◌, ◌≤◌, take, drop, set, arith, length-take, FileKey, Space, unmarked, free, marked, Record}
+use Rattle.file_store.proofs.Names.{Catalog, IsCatalogFile, geometry_of, present, blocks_of, after, CanStand, refusal_of, refusal_of_all}
+use Rattle.file_store.proofs.Names.{with_changed, after_all, CanStandAll, key_on, blocks_in_image, IsImage, Meta, IsMeta, Backs, StoresOrKeeps}
+use Rattle.file_store.proofs.Names.{held_at, held_with, block_of, bytes_at, IsBodiless, held_after, Store, IsLive, IsSound, marks_of, IsEither}
+use Rattle.file_store.proofs.Names.{Proceeds, AllByRecursion, All-from_recursion, All-weaker, part, Follows, MayBe, Keeps, holds_on, holds_now}
+use Rattle.file_store.proofs.Names.{layout_of, rebody, blocks_in, size_after, Held, bytes_of, affected_held, Mapping, each-found, Rewrite, Write}
+use Rattle.file_store.proofs.Names.{Resize, IsBesideBlocks, HasBlocks, effect_of, IsRewrite, IsRewriting, mappings_of, remapped, freed_by}
+use Rattle.file_store.proofs.Names.{places_under, IsHeldFiles, length-marked, marked_keeps, taken_are_free, release_undoes_take, uses, uses-append}
+use Rattle.file_store.proofs.Names.{Ghosts}
+use Rattle.hsm_types.specs.Limits.{file_bytes, block_bytes, segment_blocks}
 use Rattle.hsm_types.specs.declared.dm.DmRefusal.{DmRefusal}
 use Rattle.meta_store.specs.declared.refusal.MetaRefusal.{MetaRefusal}
 use Rattle.meta_store.specs.declared.refusal.MetaRefusal.TheVariants.{Part, Disk, Memory}
@@ -7,7 +19,9 @@ use Rattle.file_store.specs.Effects.{IsFreed}
 use Rattle.file_store.specs.Refusals.{is_disk}
 use Rattle.file_store.proofs.Durable.{Parts, store_of, Tells, IsDone, after_event, done, proceeds_on, kept_proceeds}
 use Rattle.file_store.proofs.Marks.{others_free, marks-after, freed-within, marks_there, length-marks, marks-moved, ArePlaces, are_places}
-use Rattle.file_store.proofs.WithBodies.{IsHeldFiles-back, held_with-back, each-changed, is-body, bytes-of, live-held, body-held, bodies_after, held_at-after, held_with-after, IsHeldFiles-after, IsFound, bytes-held, held_with-rewritten, IsHeldFiles-rewritten}
+use Rattle.file_store.proofs.WithBodies.{IsHeldFiles-back, held_with-back, each-changed, is-body, bytes-of, live-held, body-held, bodies_after}
+use Rattle.file_store.proofs.WithBodies.{held_at-after, held_with-after, IsHeldFiles-after, IsFound, bytes-held, held_with-rewritten}
+use Rattle.file_store.proofs.WithBodies.{IsHeldFiles-rewritten}
 use Rattle.file_store.proofs.Beside.{blocks_fit, block_in, length-block, image_beside, used_stay, held_beside, backs_beside, mapped}
 use Rattle.file_store.proofs.ByBlocks.{at_place}
 use Rattle.file_store.proofs.DataBlocks.{held-changed}
@@ -67,11 +81,11 @@ all-under P (b ∷ bs) ps all =
     at_place P Q (all-under P bs ps all) (λ p here. (here, all-under P bs ps all)) ps b all
 
 -- each block of a run below so many, of a segment that is here, at a place below so many
-fit : (stubs : Stubs) (n total : ℕ) (bs ps : List ℕ) → length ps ≡ length bs → AllByRecursion (λ b. b < n) bs → AllByRecursion (λ p. p < total) ps → AllByRecursion (λ b. offline_at stubs (b / 16) ≡ false) bs → AllByRecursion (IsFit stubs n total) (mappings_of bs ps)
+fit : (stubs : Stubs) (n total : ℕ) (bs ps : List ℕ) → length ps ≡ length bs → AllByRecursion (λ b. b < n) bs → AllByRecursion (λ p. p < total) ps → AllByRecursion (λ b. offline_at stubs (b / segment_blocks) ≡ false) bs → AllByRecursion (IsFit stubs n total) (mappings_of bs ps)
 fit stubs n total bs ps long low within here =
-    let P : Mapping → Type 0 = λ m. (m.block < n) × (offline_at stubs (m.block / 16) ≡ false) in
-    let Q : ℕ → Type 0 = λ b. (b < n) × (offline_at stubs (b / 16) ≡ false) in
-    let both = each-both (λ b. b < n) (λ b. offline_at stubs (b / 16) ≡ false) Q (λ b l h. (l, h)) bs low here in
+    let P : Mapping → Type 0 = λ m. (m.block < n) × (offline_at stubs (m.block / segment_blocks) ≡ false) in
+    let Q : ℕ → Type 0 = λ b. (b < n) × (offline_at stubs (b / segment_blocks) ≡ false) in
+    let both = each-both (λ b. b < n) (λ b. offline_at stubs (b / segment_blocks) ≡ false) Q (λ b l h. (l, h)) bs low here in
     each-both P (λ (m : Mapping). m.place < total) (IsFit stubs n total) (λ m a b. (a.0, b, a.1)) (mappings_of bs ps)
     (each-mapped Q (λ (m : Mapping). m.block) (mappings_of bs ps) (rw (mapped bs ps long).0 both)) (each-mapped (λ p. p < total) (λ (m : Mapping). m.place) (mappings_of bs ps) (rw (mapped bs ps long).1 within))
 
@@ -102,11 +116,11 @@ pub record Given {D : Type 0} (g : Ghosts D) (p : Parts D) (k : FileKey) (change
   pub at : IsFound (length p.bodies) p.meta.current k
   pub may : IsRewrite change
   pub allowed : Allowed change at.file
-  pub few : new_size change (bytes_in p.bodies k) ≤ 16777216
+  pub few : new_size change (bytes_in p.bodies k) ≤ file_bytes
   pub room : length (touched_of change (bytes_in p.bodies k)) + length (blocks_of p.meta.current.files) ≤ (geometry_of p.meta.current.geometry).blocks
   pub enough : length (touched_of change (bytes_in p.bodies k)) ≤ length (free p.space)
 
-size-few : (change : Rewrite) (n : ℕ) → IsRewrite change → n ≤ 16777216 → size_after (effect_of change) n ≤ 16777216
+size-few : (change : Rewrite) (n : ℕ) → IsRewrite change → n ≤ file_bytes → size_after (effect_of change) n ≤ file_bytes
 size-few (Write offset bytes) n may few = let end = may.1 in omega arith
 size-few (Resize to) n may few = may
 size-few (Restore segment bytes) n may few = few
@@ -180,7 +194,7 @@ module _ {D : Type 0} {g : Ghosts D} {p : Parts D} {k : FileKey} {change : Rewri
   bodies_back b alike = (IsHeldFiles-back x.files x.at b alike, held_with-back x.files x.at b alike)
 
   -- the disk has them
-  pub fits : AllByRecursion (λ q. (layout_of p.meta.current.geometry).blocks + 4096 * q + 4096 ≤ g.length_of p.disk) places
+  pub fits : AllByRecursion (λ q. (layout_of p.meta.current.geometry).blocks + block_bytes * q + block_bytes ≤ g.length_of p.disk) places
   fits = grind (arith, blocks_fit, are)
 
   -- ---- the records
@@ -200,7 +214,7 @@ module _ {D : Type 0} {g : Ghosts D} {p : Parts D} {k : FileKey} {change : Rewri
         can_stand k.ino change ms records p.meta.current x.at.file found_on file rewriting (record { few = grind (arith, own); free = x.allowed.free })
         (subst (λ (n : ℕ). AllByRecursion (IsFit (rekept (effect_of change) x.at.file.size x.at.file.kept).stubs (blocks_in (size_after (effect_of change) n)) (geometry_of p.meta.current.geometry).blocks) ms) own
         (fit (rekept (effect_of change) x.at.file.size x.at.file.kept).stubs (blocks_in size) (geometry_of p.meta.current.geometry).blocks blocks places long low are.within
-        (subst (λ (n : ℕ). AllByRecursion (λ b. offline_at (rekept (effect_of change) x.at.file.size x.at.file.kept).stubs (b / 16) ≡ false) (touched (effect_of change) n)) (sym own) (touched-here change x.at.file x.may))))
+        (subst (λ (n : ℕ). AllByRecursion (λ b. offline_at (rekept (effect_of change) x.at.file.size x.at.file.kept).stubs (b / segment_blocks) ≡ false) (touched (effect_of change) n)) (sym own) (touched-here change x.at.file x.may))))
         (λ n. let once = are.once n in omega (arith, uses-append n (blocks_of p.meta.current.files) places, ap (uses n) (mapped blocks places long).1))
 
     become : after_all records p.meta.current ≡ next
@@ -298,7 +312,7 @@ module _ {D : Type 0} {g : Ghosts D} {p : Parts D} {k : FileKey} {change : Rewri
           let was : List ℕ = blocks_in_image p.meta.durable.geometry was_on.0 in
           let now : List ℕ = blocks_in_image p.meta.durable.geometry c in
           let holds = x.live.current was_on.0 was_on.1 in
-          let there : AllByRecursion (λ (m : Mapping). part now (4096 * m.place) 4096 ≡ block_of changed m.block) ms =
+          let there : AllByRecursion (λ (m : Mapping). part now (block_bytes * m.place) block_bytes ≡ block_of changed m.block) ms =
           each-both (λ (m : Mapping). m.place < (geometry_of p.meta.durable.geometry).blocks) _ _ (λ m low is. block_in p.meta.durable.geometry c m.place low ∙ is) ms
           (each-mapped (λ q. q < (geometry_of p.meta.durable.geometry).blocks) (λ (m : Mapping). m.place) ms (rw ((mapped blocks places long).1, ← x.lawful.stored.geometry) are.within)) was_on.2.there in
           held-changed was now p.meta.current (used_stay p.meta.durable.geometry places was_on.0 c (beside was_on.0 c was_on.2) p.meta.current x.lawful.stored.geometry x.lawful.current are.unused) change k ms x.at.file body x.lawful.current

@@ -1,8 +1,10 @@
 -- Stub entries after a change of the bytes of their file: those of segments that it touches go, first by the new size, and then one by one.
-use Rattle.file_store.proofs.Names.{◌≡◌, ℕ, ◌+◌, ◌*◌, ◌<◌, min, max, List, [], ◌∷◌, length, Bool, true, false, ◌&&◌, ◌||◌, refl, sym, ◌∙◌, subst, arith, cond_both, eqb, list_any, AllByRecursion, false≢true, eqb-true, is_some}
+use Rattle.file_store.proofs.Names.{◌≡◌, ℕ, ◌+◌, ◌*◌, ◌<◌, min, max, List, [], ◌∷◌, length, Bool, true, false, ◌&&◌, ◌||◌, refl, sym, ◌∙◌, subst}
+use Rattle.file_store.proofs.Names.{arith, cond_both, eqb, list_any, AllByRecursion, false≢true, eqb-true, is_some}
 use Rattle.std.specs.Prelude.{filter, not, nat_lt}
 use Rattle.std.proofs.lemmas.Bool.Decides.{nat_tests}
 use Rattle.std.proofs.lemmas.Bool.{eq-eqb}
+use Rattle.hsm_types.specs.Limits.{segment_bytes}
 use Rattle.hsm_types.specs.Segments.{segments_in, meets_segment}
 use Rattle.hsm_types.specs.Stubs.{Stubs, stub_at, offline_at, without_stub, stubs_below, unsealed}
 use Rattle.hsm_types.specs.declared.stubs.Stub.{Stub as StubOf}
@@ -76,12 +78,12 @@ dropped P js stubs [] only every there = tt
 dropped P js stubs (x ∷ xs) only every there = grind (arith, both, has-only, own-entry, more-entry, dropped P js stubs xs only every (λ j is. there j (more-entry x xs j is)))
 
 abbrev Starts : ℕ → ℕ × StubOf → Type 0
-Starts size x = 65536 * x.0 < size
+Starts size x = segment_bytes * x.0 < size
 
-resized-left : (size to j : ℕ) → 65536 * j < size → (nat_lt j (segments_in to) && not (meets_segment (min to size) (max to size) j && nat_lt (65536 * j) to)) ≡ not (meets_segment (min to size) (max to size) j)
+resized-left : (size to j : ℕ) → segment_bytes * j < size → (nat_lt j (segments_in to) && not (meets_segment (min to size) (max to size) j && nat_lt (segment_bytes * j) to)) ≡ not (meets_segment (min to size) (max to size) j)
 resized-left size to j start = grind (arith, nat_tests)
 
-written-left : (size from end j : ℕ) → 65536 * j < size → (nat_lt j (segments_in (max size end)) && not (meets_segment from end j)) ≡ not (meets_segment from end j)
+written-left : (size from end j : ℕ) → segment_bytes * j < size → (nat_lt j (segments_in (max size end)) && not (meets_segment from end j)) ≡ not (meets_segment from end j)
 written-left size from end j start = grind (arith, nat_tests)
 
 -- a new size, and then the others
@@ -96,11 +98,11 @@ left-written size offset bytes js stubs starts only every =
     (each-both (Starts size) (λ x. has js x.0 ≡ meets_segment from end x.0) (λ x. (nat_lt x.0 (segments_in (max size end)) && not (has js x.0)) ≡ not (meets_segment from end x.0))
     (λ x start same. rw same (written-left size from end x.0 start)) stubs starts (dropped (meets_segment from end) js stubs stubs only every (λ j is. is)))
 
-pub left-resized : (size to : ℕ) (js : List ℕ) (stubs : Stubs) → AllByRecursion (Starts size) stubs → AllByRecursion (λ j. (meets_segment (min to size) (max to size) j && nat_lt (65536 * j) to) ≡ true) js
-    → ((j : ℕ) → (meets_segment (min to size) (max to size) j && nat_lt (65536 * j) to) ≡ true → is_some (stub_at j stubs) ≡ true → has js j ≡ true)
+pub left-resized : (size to : ℕ) (js : List ℕ) (stubs : Stubs) → AllByRecursion (Starts size) stubs → AllByRecursion (λ j. (meets_segment (min to size) (max to size) j && nat_lt (segment_bytes * j) to) ≡ true) js
+    → ((j : ℕ) → (meets_segment (min to size) (max to size) j && nat_lt (segment_bytes * j) to) ≡ true → is_some (stub_at j stubs) ≡ true → has js j ≡ true)
     → without_all js (stubs_below (segments_in to) stubs) ≡ unsealed (min to size) (max to size) stubs
 left-resized size to js stubs starts only every =
-    let P : ℕ → Bool = λ j. meets_segment (min to size) (max to size) j && nat_lt (65536 * j) to in
+    let P : ℕ → Bool = λ j. meets_segment (min to size) (max to size) j && nat_lt (segment_bytes * j) to in
     without-is js (λ q. nat_lt q (segments_in to)) stubs
     ∙ filter-same _ _ stubs
     (each-both (Starts size) (λ x. has js x.0 ≡ P x.0) (λ x. (nat_lt x.0 (segments_in to) && not (has js x.0)) ≡ not (meets_segment (min to size) (max to size) x.0))

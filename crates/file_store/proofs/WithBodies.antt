@@ -1,6 +1,13 @@
 -- Files after a record, and after a change of the bytes of one, however bytes are found, and with their bodies in memory.
 use Rattle.std.proofs.lemmas.Bool.Decides.{nat_tests}
-use Rattle.file_store.proofs.Names.{◌≡◌, ℕ, List, [], length, map, Some, None, refl, ◌∙◌, sym, ap, subst, ◌+◌, ◌-◌, ◌≤◌, ◌∷◌, get_or, set, true, false, cond, eqb, arith, length-set, get_or-set_same, get_or-set_other, IsSome, option_map, AllByRecursion, FileKey, find_key, change_key, drop_key, rebody, touched, mapped_after, FileState, affected_held, bytes_of, Mapping, Record, Make, Drop, Size, Map, CatalogFile, Catalog, IsCatalog, geometry_of, names_of, file_after, with_changed, inode_of, key_on, after, CanStand, each-put, each-drop, each-change, names_of-drop, Rewrite, Write, Resize, file_by, bytes_at, body_with, bytes_with, held_at, held_with, HeldBody, no_body, IsAlike, IsHere, IsBody, AreBodies, IsWithin, rekept, Stub, Restore, IsBodiless, held_after, empties, effect_of, remapped, eqb-false, Meta, each-found, key-found, Kept, empty_file, has_inode, Within, absent-low, ascend-drop, IsHeldFiles}
+use Rattle.file_store.proofs.Names.{◌≡◌, ℕ, List, [], length, map, Some, None, refl, ◌∙◌, sym, ap, subst, ◌+◌, ◌-◌, ◌≤◌, ◌∷◌, get_or, set, true}
+use Rattle.file_store.proofs.Names.{false, cond, eqb, arith, length-set, get_or-set_same, get_or-set_other, IsSome, option_map, AllByRecursion}
+use Rattle.file_store.proofs.Names.{FileKey, find_key, change_key, drop_key, rebody, touched, mapped_after, FileState, affected_held, bytes_of}
+use Rattle.file_store.proofs.Names.{Mapping, Record, Make, Drop, Size, Map, CatalogFile, Catalog, IsCatalog, geometry_of, names_of, file_after}
+use Rattle.file_store.proofs.Names.{with_changed, inode_of, key_on, after, CanStand, each-put, each-drop, each-change, names_of-drop, Rewrite, Write}
+use Rattle.file_store.proofs.Names.{Resize, file_by, bytes_at, body_with, bytes_with, held_at, held_with, HeldBody, no_body, IsAlike, IsHere, IsBody}
+use Rattle.file_store.proofs.Names.{AreBodies, IsWithin, rekept, Stub, Restore, IsBodiless, held_after, empties, effect_of, remapped, eqb-false}
+use Rattle.file_store.proofs.Names.{Meta, each-found, key-found, Kept, empty_file, has_inode, Within, absent-low, ascend-drop, IsHeldFiles}
 use Rattle.file_store.specs.Bodies.{held_by, body_at}
 use Rattle.file_store.proofs.EachOf.{each-all, each-both, each-weaker}
 use Rattle.file_store.proofs.FilesBy.{SameBytes, same_held, by-put, by-drop, by-change, change-none, find-held, live-by}

@@ -1,7 +1,8 @@
--- The bytes of files by blocks of 4,096 bytes.
+-- The bytes of files by blocks.
 use Rattle.std.specs.Prelude.{◌≡◌, ℕ, ◌*◌, ◌-◌, List, length, map, get_or, take, replicate, Option, Some, None, is_some}
 use Rattle.std.specs.List.{flat_map, AllByRecursion}
 use Rattle.disk_model.specs.Images.{part}
+use Rattle.hsm_types.specs.Limits.{block_bytes}
 use Rattle.hsm_types.specs.Stubs.{offline_at}
 use Rattle.plain_model.specs.State.{FileState, Held}
 use Rattle.file_body.specs.HeldBodies.{HeldBody, no_body, is_away, SameAway}
@@ -10,8 +11,8 @@ unfoldable pub use Rattle.file_body.specs.BodyBlocks.{block_of}
 
 -- a block of a file among the data blocks; a hole is zeros
 abbrev pub block_at : List ℕ → Option ℕ → List ℕ
-block_at blocks None = replicate 4096 0
-block_at blocks (Some place) = part blocks (4096 * place) 4096
+block_at blocks None = replicate block_bytes 0
+block_at blocks (Some place) = part blocks (block_bytes * place) block_bytes
 
 -- the body of that size whose blocks lie there
 unfoldable pub body_at : List ℕ → ℕ → List (Option ℕ) → List ℕ

@@ -1,10 +1,10 @@
 -- Records that concern no bytes of a file that stays, and what they do to what is held.
 use Rattle.std.specs.Prelude.{◌≡◌, ℕ, ◌+◌, max, List, [], Bool, true, false, Some, None}
 use Rattle.hsm_types.specs.Segments.{segment_len}
-use Rattle.hsm_types.specs.Stubs.{offline_at}
+use Rattle.hsm_types.specs.Stubs.{offline_at, entry_print}
 use Rattle.hsm_types.specs.declared.stubs.Stub.{Stub as StubOf}
 use Rattle.hsm_types.specs.declared.keys.FileKey.{FileKey}
-use Rattle.plain_model.specs.Keyed.{find_key}
+use Rattle.hsm_types.specs.Keyed.{find_key}
 use Rattle.plain_model.specs.Effects.{Effect, Leaves, Makes, Drops, Manages, Attaches, Detaches, Seals}
 use Rattle.plain_model.specs.State.{Held, affected_held}
 use Rattle.meta_store.specs.declared.records.Record.{Record}
@@ -16,7 +16,7 @@ use Rattle.meta_store.specs.Records.{inode_of, key_on}
 pub record IsSeal (j : ℕ) (stub : StubOf) (f : CatalogFile) : Type 0 where
   pub stays : stub.offline ≡ false
   pub here : offline_at f.kept.stubs j ≡ false
-  pub len : stub.entry.print.len ≡ segment_len f.size j
+  pub len : (entry_print stub.entry).len ≡ segment_len f.size j
 
 -- it concerns no bytes, and the file of the catalog that it is about has that key
 abbrev pub IsBodiless : FileKey → Record → Catalog → Type 0

@@ -1,6 +1,7 @@
 -- Segments of a file that go away, and the records that they are.
 use Rattle.std.specs.Prelude.{ℕ, ◌-◌, ◌*◌, List, map, take, drop, true, Option}
 use Rattle.std.specs.Option.{option_map}
+use Rattle.hsm_types.specs.Limits.{segment_blocks}
 use Rattle.hsm_types.specs.Stubs.{Stubs, stub_at}
 use Rattle.hsm_types.specs.declared.stubs.Stub.{Stub as StubOf}
 use Rattle.meta_store.specs.declared.records.Record.{Record}
@@ -16,4 +17,4 @@ punch_records ino stubs segments = map (λ j. Stub ino j (away_by (stub_at j stu
 
 -- where the blocks of the segments from the first up to the second lie, of a file whose blocks lie there
 abbrev pub places_between : ℕ → ℕ → List (Option ℕ) → List (Option ℕ)
-places_between from to places = take (16 * (to - from)) (drop (16 * from) places)
+places_between from to places = take (segment_blocks * (to - from)) (drop (segment_blocks * from) places)

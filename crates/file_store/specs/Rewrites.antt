@@ -1,6 +1,8 @@
 -- Changes of the bytes of a file, and the records that they are.
-use Rattle.std.specs.Prelude.{◌≡◌, ℕ, ◌+◌, ◌-◌, ◌*◌, ◌<◌, ◌≤◌, ◌==◌, ◌&&◌, nat_lt, not, min, max, Bool, true, false, List, [], ◌∷◌, ◌++◌, length, map, take, drop, replicate, get_or, Option, Some, None, is_some}
+use Rattle.std.specs.Prelude.{◌≡◌, ℕ, ◌+◌, ◌-◌, ◌*◌, ◌<◌, ◌≤◌, ◌==◌, ◌&&◌, nat_lt, not, min, max, Bool, true, false, List, [], ◌∷◌, ◌++◌, length}
+use Rattle.std.specs.Prelude.{map, take, drop, replicate, get_or, Option, Some, None, is_some}
 use Rattle.std.specs.List.{flat_map, list_any, AllByRecursion}
+use Rattle.hsm_types.specs.Limits.{file_bytes, segment_bytes}
 use Rattle.hsm_types.specs.Segments.{meets_segment}
 use Rattle.hsm_types.specs.Stubs.{Stubs, stub_at, offline_at}
 use Rattle.hsm_types.specs.declared.stubs.Stub.{Stub as StubOf}
@@ -23,15 +25,15 @@ effect_of (Write offset bytes) = Writes offset bytes.now
 effect_of (Resize size) = Resizes size
 effect_of (Restore segment bytes) = Restores segment bytes.now
 
--- what is written has bytes, and no file has more than 16,777,216 of them after it
+-- what is written has bytes, and no file has more than `file_bytes` after it
 abbrev pub IsRewrite : Rewrite → Type 0
-IsRewrite (Write offset bytes) = (1 ≤ length bytes.now) × (offset + length bytes.now ≤ 16777216)
-IsRewrite (Resize size) = size ≤ 16777216
-IsRewrite (Restore segment bytes) = (1 ≤ length bytes.now) × (length bytes.now ≤ 65536) × (65536 * segment + length bytes.now ≤ 16777216)
+IsRewrite (Write offset bytes) = (1 ≤ length bytes.now) × (offset + length bytes.now ≤ file_bytes)
+IsRewrite (Resize size) = size ≤ file_bytes
+IsRewrite (Restore segment bytes) = (1 ≤ length bytes.now) × (length bytes.now ≤ segment_bytes) × (segment_bytes * segment + length bytes.now ≤ file_bytes)
 
 -- a segment comes back within the file, which has that size
 abbrev pub IsWithin : Rewrite → ℕ → Type 0
-IsWithin (Restore segment bytes) size = 65536 * segment + length bytes.now ≤ size
+IsWithin (Restore segment bytes) size = segment_bytes * segment + length bytes.now ≤ size
 IsWithin change size = Unit {0}
 
 -- and by an entry that it has
@@ -76,18 +78,18 @@ pub record HasRoom (change : Rewrite) (old new : HeldBody) : Type 0 where
   pub bytes : new.bytes ≡ grown (new_size change old.bytes) old.bytes
   pub away : (j : ℕ) → is_away new j ≡ (is_away old j && not (brings change j))
   -- so it can be as it was again
-  pub starts : (j : ℕ) → is_away old j ≡ true → 65536 * j < length old.bytes
+  pub starts : (j : ℕ) → is_away old j ≡ true → segment_bytes * j < length old.bytes
   pub zeros : (j : ℕ) → brings change j ≡ true → is_away old j ≡ true → AreZeros (segment_of j old.bytes)
 
 -- those in which the change puts bytes
 abbrev pub HasRange : Rewrite → HeldBody → Type 0
 HasRange (Write offset bytes) body = AreHere offset (offset + length bytes.now) body
 HasRange (Resize size) body = Unit {0}
-HasRange (Restore segment bytes) body = AreHere (65536 * segment) (65536 * segment + length bytes.now) body
+HasRange (Restore segment bytes) body = AreHere (segment_bytes * segment) (segment_bytes * segment + length bytes.now) body
 
 -- a cut spares the segment
 abbrev pub spares : Rewrite → ℕ → Bool
-spares (Resize size) j = nat_lt (65536 * j) size
+spares (Resize size) j = nat_lt (segment_bytes * j) size
 spares change j = true
 
 -- ---- records
@@ -95,7 +97,7 @@ spares change j = true
 -- of a file of that size: the segment has bytes after the change, and its entry goes, since the change touches it
 abbrev pub unseals : Rewrite → ℕ → ℕ → Bool
 unseals (Write offset bytes) size j = meets_segment (min offset size) (offset + length bytes.now) j
-unseals (Resize to) size j = meets_segment (min to size) (max to size) j && nat_lt (65536 * j) to
+unseals (Resize to) size j = meets_segment (min to size) (max to size) j && nat_lt (segment_bytes * j) to
 unseals (Restore segment bytes) size j = false
 
 -- what the file becomes, which had that size, as these of its blocks lie at new places

@@ -5,8 +5,9 @@ use Rattle.disk_model.specs.declared.device.Disk as disk
 use Rattle.disk_model.specs.Images.{part, Alike, Follows}
 use Rattle.disk_model.specs.Moments.{Keeps, Same}
 use Rattle.commit_slots.specs.Places.{IsApart, layout_of}
+use Rattle.hsm_types.specs.Limits.{block_bytes}
 use Rattle.hsm_types.specs.declared.keys.FileKey.{FileKey}
-use Rattle.plain_model.specs.Keyed.{find_key}
+use Rattle.hsm_types.specs.Keyed.{find_key}
 use Rattle.plain_model.specs.Plain.{rebody}
 use Rattle.block_space.specs.Space.{Space}
 use Rattle.meta_store.specs.declared.records.Record.{Record}
@@ -27,12 +28,12 @@ places_of mappings = map (λ m. m.place) mappings
 -- all is the same but for the blocks at these places; block 0 begins at base
 pub record IsBesideBlocks (base : ℕ) (places : List ℕ) (old new : List ℕ) : Type 0 where
   pub size : length new ≡ length old
-  pub same : (a k : ℕ) → AllByRecursion (λ p. IsApart a k (base + 4096 * p) 4096) places → part new a k ≡ part old a k
+  pub same : (a k : ℕ) → AllByRecursion (λ p. IsApart a k (base + block_bytes * p) block_bytes) places → part new a k ≡ part old a k
 
 -- these blocks of the body lie at their places, and all else is the same
 pub record HasBlocks (base : ℕ) (body : List ℕ) (mappings : List Mapping) (old new : List ℕ) : Type 0 where
   pub beside : IsBesideBlocks base (places_of mappings) old new
-  pub there : AllByRecursion (λ m. part new (base + 4096 * m.place) 4096 ≡ block_of body m.block) mappings
+  pub there : AllByRecursion (λ m. part new (base + block_bytes * m.place) block_bytes ≡ block_of body m.block) mappings
 
 -- The blocks of a change of a file's bytes lie at the lowest free places: what its records are, what they free, and what reads give.
 pub record IsStaged {D : Type 0} (g : disk.Ghosts D) (old new : D) (c : Catalog) (k : FileKey) (change : Rewrite) (body : List ℕ) (space : Space) (records : List Record) (freed : List ℕ) : Type 0 where

@@ -10,7 +10,7 @@ use Rattle.hsm_types.specs.declared.stores.Superblock.{Superblock}
 use Rattle.hsm_types.specs.declared.keys.FileKey.{FileKey}
 use Rattle.hsm_types.specs.Kept.{Kept}
 use Rattle.hsm_types.specs.Stubs.{AreStubs}
-use Rattle.plain_model.specs.Keyed.{find_key}
+use Rattle.hsm_types.specs.Keyed.{find_key}
 use Rattle.plain_model.specs.State.{FileState, Held, names_of, used_by, used}
 use Rattle.plain_model.specs.Laws.{IsOpening}
 use Rattle.block_space.specs.Space.{Space, marked}

@@ -1,12 +1,13 @@
 //! What changes the files of a store: each event is records, blocks that they take and free, and bytes.
 ghost use Rattle.std.specs.Prelude.{◌≡◌, ◌≢◌, ◌+◌, ◌*◌, ◌<◌, ◌≤◌, [], ◌∷◌, min, true, false, None, Some, Err, length, OnOk, IfOk, IfSome, IsErrOf, IsSome};
+ghost use Rattle.hsm_types.specs.Limits.{file_bytes, segment_bytes, last_volume};
 ghost use Rattle.hsm_types.specs.Names.{is_name};
 ghost use Rattle.hsm_types.specs.Regions.{regions_refusal};
 ghost use Rattle.hsm_types.specs.Attributes.{setting_refusal, removal_refusal};
-ghost use Rattle.plain_model.specs.Keyed.{find_key};
+ghost use Rattle.hsm_types.specs.Keyed.{find_key};
 ghost use Rattle.hsm_types.specs.Refusals.{first_refusal};
 ghost use Rattle.hsm_types.specs.Segments.{segments_in};
-ghost use Rattle.hsm_types.specs.Stubs.{print_of, stub_at, offline_at, uncovered, too_many_stubs, any_unpunched};
+ghost use Rattle.hsm_types.specs.Stubs.{print_of, stub_at, offline_at, uncovered, too_many_stubs, any_unpunched, entry_place, entry_print};
 ghost use Rattle.plain_model.specs.Effects.{Makes, Drops, Writes, Resizes, Manages, Attaches, Detaches, Seals, Punches, Restores};
 ghost use Rattle.plain_model.specs.Plain.{named, segment as segment_of};
 ghost use Rattle.plain_model.specs.Sound.{IsSound};
@@ -74,7 +75,7 @@ impl<D: Disk> FileStore<D> {
         requires working { self.old.failed ≡ false }
         requires live { IsSome (find_key (λ f. f.key) key self.old.held.files) }
         requires some { 1 ≤ length bytes.now }
-        requires end { offset + length bytes.now ≤ 16777216 }
+        requires end { offset + length bytes.now ≤ file_bytes }
         requires here { IsSound (Writes offset bytes.now) (file_at key self.old.held.files) }
         requires room { length (touched (Writes offset bytes.now) (length (bytes_of key self.old.held.files))) + used self.old.held.files ≤ (geometry_of self.old.meta.durable.geometry).blocks }
         ensures changed { Changes D.Disk self.old number key (Writes offset bytes.now) None result self.new }
@@ -94,7 +95,7 @@ impl<D: Disk> FileStore<D> {
     ) -> Result<(), StoreRefusal>
         requires working { self.old.failed ≡ false }
         requires live { IsSome (find_key (λ f. f.key) key self.old.held.files) }
-        requires end { size ≤ 16777216 }
+        requires end { size ≤ file_bytes }
         requires here { IsSound (Resizes size) (file_at key self.old.held.files) }
         requires room { length (touched (Resizes size) (length (bytes_of key self.old.held.files))) + used self.old.held.files ≤ (geometry_of self.old.meta.durable.geometry).blocks }
         ensures changed { Changes D.Disk self.old number key (Resizes size) None result self.new }
@@ -167,10 +168,10 @@ impl<D: Disk> FileStore<D> {
     ) -> Result<(), StoreRefusal>
         requires working { self.old.failed ≡ false }
         requires live { IsSome (find_key (λ f. f.key) key self.old.held.files) }
-        requires start { 65536 * segment < length (bytes_of key self.old.held.files) }
-        requires volume { entry.volume ≤ 255 }
+        requires start { segment_bytes * segment < length (bytes_of key self.old.held.files) }
+        requires volume { (entry_place entry).volume ≤ last_volume }
         requires here { offline_at (kept_of key self.old.held.files).stubs segment ≡ false }
-        requires print { entry.print ≡ print_of (segment_of segment (bytes_of key self.old.held.files)) }
+        requires print { entry_print entry ≡ print_of (segment_of segment (bytes_of key self.old.held.files)) }
         ensures changed { Changes D.Disk self.old number key (Seals segment entry) (too_many_stubs segment (other_stubs key self.old.held.files) (superblock_of self.old).geometry.stubs (kept_of key self.old.held.files).stubs) result self.new }
         ensures memory { IsErrOf result StoreRefusal.Memory → self.new ≡ self.old }
     {
@@ -196,7 +197,7 @@ impl<D: Disk> FileStore<D> {
     ) -> Result<(), StoreRefusal>
         requires working { self.old.failed ≡ false }
         requires live { IsSome (find_key (λ f. f.key) key self.old.held.files) }
-        requires start { 65536 * from < length (bytes_of key self.old.held.files) }
+        requires start { segment_bytes * from < length (bytes_of key self.old.held.files) }
         ensures changed { Changes D.Disk self.old number key (Punches from to) (any_unpunched (kept_of key self.old.held.files).regions (kept_of key self.old.held.files).stubs from (min to (segments_in (length (bytes_of key self.old.held.files))))) result self.new }
     {
         let last = to.min(segments_in(self.body(key).len()));
@@ -218,9 +219,9 @@ impl<D: Disk> FileStore<D> {
     ) -> Result<(), StoreRefusal>
         requires working { self.old.failed ≡ false }
         requires live { IsSome (find_key (λ f. f.key) key self.old.held.files) }
-        requires start { 65536 * segment < length (bytes_of key self.old.held.files) }
+        requires start { segment_bytes * segment < length (bytes_of key self.old.held.files) }
         requires offline { offline_at (kept_of key self.old.held.files).stubs segment ≡ true }
-        requires print { IfSome (stub_at segment (kept_of key self.old.held.files).stubs) (λ stub. stub.entry.print ≡ print_of bytes.now) }
+        requires print { IfSome (stub_at segment (kept_of key self.old.held.files).stubs) (λ stub. entry_print stub.entry ≡ print_of bytes.now) }
         requires room { length (touched (Restores segment bytes.now) (length (bytes_of key self.old.held.files))) + used self.old.held.files ≤ (geometry_of self.old.meta.durable.geometry).blocks }
         ensures changed { Changes D.Disk self.old number key (Restores segment bytes.now) None result self.new }
     {

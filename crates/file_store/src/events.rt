@@ -1,11 +1,13 @@
 //! Two of the three ways of an event: a record that concerns no bytes, and bytes with their records. Each hands its records to one call.
-ghost use Rattle.std.specs.Prelude.{◌≡◌, ◌+◌, ◌-◌, ◌*◌, ◌≤◌, ◌<◌, ◌^◌, true, false, if◌then◌else◌, None, Some, Err, length, take, slice_set, IfOk, OnOk, OnErr, IsErrOf, IsSome};
+ghost use Rattle.std.specs.Prelude.{◌≡◌, ◌+◌, ◌-◌, ◌*◌, ◌≤◌, ◌<◌, ◌^◌, true, false, if◌then◌else◌, None, Some, Err, length, take, slice_set, IfOk};
+ghost use Rattle.std.specs.Prelude.{OnOk, OnErr, IsErrOf, IsSome};
 ghost use Rattle.std.specs.List.{AllByRecursion};
 ghost use Rattle.disk_model.specs.Calls.{Counts};
 ghost use Rattle.disk_model.specs.Moments.{Keeps};
 ghost use Rattle.commit_slots.specs.Places.{layout_of};
+ghost use Rattle.hsm_types.specs.Limits.{block_bytes};
 ghost use Rattle.hsm_types.specs.declared.dm.DmRefusal.{DmRefusal};
-ghost use Rattle.plain_model.specs.Keyed.{find_key};
+ghost use Rattle.hsm_types.specs.Keyed.{find_key};
 ghost use Rattle.plain_model.specs.Blocks.{touched};
 ghost use Rattle.plain_model.specs.Services.{kept_of};
 ghost use Rattle.plain_model.specs.Sound.{IsSound};
@@ -209,7 +211,7 @@ fn stage<D: Disk>(
     requires within { IsWithin change (length body.old.bytes) }
     requires few { length (touched_of change body.old.bytes) < 2 ^ 32 }
     requires enough { length (touched_of change body.old.bytes) ≤ length (free space.old) }
-    requires fits { AllByRecursion (λ p. (layout_of catalog.now.geometry).blocks + 4096 * p + 4096 ≤ D.length_of disk.old) (places_for change body.old.bytes space.old) }
+    requires fits { AllByRecursion (λ p. (layout_of catalog.now.geometry).blocks + block_bytes * p + block_bytes ≤ D.length_of disk.old) (places_for change body.old.bytes space.old) }
     ensures any_moment { Keeps D.Disk disk.old disk.new (IsBesideBlocks (layout_of catalog.now.geometry).blocks (places_for change.entry body.old.bytes space.old)) }
     ensures staged { IfOk result (λ s. IsStaged D.Disk disk.old disk.new catalog.now key change.entry body.old.bytes space.old s.plan.records s.plan.freed.items) }
     ensures places { IfOk result (λ s. s.places ≡ places_for change.entry body.old.bytes space.old) }

@@ -1,5 +1,6 @@
 //! Reading the bodies of a store that was just opened.
-ghost use Rattle.std.specs.Prelude.{◌≡◌, ◌+◌, ◌-◌, ◌*◌, ◌/◌, ◌%◌, ◌<◌, ◌≤◌, ◌==◌, ◌++◌, if◌then◌else◌, List, ℕ, None, true, min, length, take, get_or, replicate, IfOk, OnOk, IsErrOf};
+ghost use Rattle.std.specs.Prelude.{◌≡◌, ◌+◌, ◌-◌, ◌*◌, ◌/◌, ◌%◌, ◌<◌, ◌≤◌, ◌==◌, ◌++◌, if◌then◌else◌, List, ℕ, None, true, min, length, take};
+ghost use Rattle.std.specs.Prelude.{get_or, replicate, IfOk, OnOk, IsErrOf};
 ghost use Rattle.std.specs.List.{AllByRecursion};
 ghost use Rattle.plain_model.specs.Plain.{written};
 ghost use Rattle.plain_model.specs.Blocks.{blocks_in};
@@ -8,6 +9,7 @@ ghost use Rattle.disk_model.specs.Images.{part};
 ghost use Rattle.commit_slots.specs.Places.{layout_of};
 ghost use Rattle.meta_store.specs.Catalogs.{geometry_of, present};
 ghost use Rattle.meta_store.specs.Images.{blocks_in_image};
+ghost use Rattle.hsm_types.specs.Limits.{segment_blocks};
 ghost use Rattle.hsm_types.specs.Stubs.{offline_at};
 ghost use Rattle.file_body.specs.HeldBodies.{no_body, is_away, AreHere, SameAway};
 ghost use Rattle.file_store.specs.Steps.{OnlyReads};
@@ -81,9 +83,9 @@ fn load_body<D: Disk>(
     requires size { size ≤ FILE_BYTES }
     requires count { length places.now ≡ blocks_in size }
     requires within { AllByRecursion (λ place. place < (geometry_of geometry).blocks) (present places.now) }
-    requires starts { AllByRecursion (λ x. 65536 * x.0 < size) stubs.now }
+    requires starts { AllByRecursion (λ x. SEGMENT_BYTES * x.0 < size) stubs.now }
     // A segment that is offline has no blocks.
-    requires away { (i : ℕ) → offline_at stubs.now (i / 16) ≡ true → get_or places.now i None ≡ None }
+    requires away { (i : ℕ) → offline_at stubs.now (i / segment_blocks) ≡ true → get_or places.now i None ≡ None }
     ensures reads { OnlyReads D.Disk disk.old disk.new }
     ensures size { IfOk result (λ body. length body.bytes ≡ size) }
     ensures here { IfOk result (λ body. (j : ℕ) → is_away body j ≡ offline_at stubs.now j) }
@@ -108,7 +110,7 @@ fn load_body<D: Disk>(
 /// A body of so many zeros, from which the segments are away that are offline by these entries: they take no memory.
 fn zeros(alloc: Global, size: u64, stubs: &StubMap) -> Result<Body, AllocError>
     requires size { size ≤ FILE_BYTES }
-    requires starts { AllByRecursion (λ x. 65536 * x.0 < size) stubs.now }
+    requires starts { AllByRecursion (λ x. SEGMENT_BYTES * x.0 < size) stubs.now }
     ensures bytes { IfOk result (λ body. body.bytes ≡ replicate size 0) }
     ensures here { IfOk result (λ body. (j : ℕ) → is_away body j ≡ offline_at stubs.now j) }
 {
@@ -122,12 +124,12 @@ fn zeros(alloc: Global, size: u64, stubs: &StubMap) -> Result<Body, AllocError>
 
 /// Lengthens a body of full segments up to that end, by one that is away or here.
 fn lengthen(alloc: Global, body: &mut Body, end: u64, away: bool) -> Result<(), AllocError>
-    requires full { length body.old.bytes % 65536 ≡ 0 }
+    requires full { length body.old.bytes % SEGMENT_BYTES ≡ 0 }
     requires some { length body.old.bytes < end }
-    requires most { end ≤ length body.old.bytes + 65536 }
+    requires most { end ≤ length body.old.bytes + SEGMENT_BYTES }
     requires file { end ≤ FILE_BYTES }
     ensures bytes { OnOk result (body.new.bytes ≡ body.old.bytes ++ replicate (end - length body.old.bytes) 0) }
-    ensures away { OnOk result ((j : ℕ) → is_away body.new j ≡ (if j == length body.old.bytes / 65536 then away else is_away body.old j)) }
+    ensures away { OnOk result ((j : ℕ) → is_away body.new j ≡ (if j == length body.old.bytes / SEGMENT_BYTES then away else is_away body.old j)) }
 {
     let count = end - body.len();
     if away {
@@ -149,11 +151,11 @@ fn fill<D: Disk>(
     requires whole { D.length_of disk.old ≡ (layout_of geometry).whole }
     requires place { place < (geometry_of geometry).blocks }
     requires start { start < length body.old.bytes }
-    requires here { AreHere start (start + min 4096 (length body.old.bytes - start)) body.old }
+    requires here { AreHere start (start + min BLOCK_BYTES (length body.old.bytes - start)) body.old }
     ensures reads { OnlyReads D.Disk disk.old disk.new }
     ensures size { length body.new.bytes ≡ length body.old.bytes }
     ensures same { SameAway body.old body.new }
-    ensures filled { OnOk result ((c : List ℕ) → D.gives disk.old c → body.new.bytes ≡ written start (take (length body.old.bytes - start) (part (blocks_in_image geometry c) (4096 * place) 4096)) body.old.bytes) }
+    ensures filled { OnOk result ((c : List ℕ) → D.gives disk.old c → body.new.bytes ≡ written start (take (length body.old.bytes - start) (part (blocks_in_image geometry c) (BLOCK_BYTES * place) BLOCK_BYTES)) body.old.bytes) }
     ensures cause { HasCause result (D.fault_count disk.old) (D.fault_count disk.new) }
 {
     let mut block = [0; BLOCK_BYTES as usize];
@@ -172,9 +174,9 @@ fn load_block<D: Disk>(
 ) -> Result<(), Failed>
     requires whole { D.length_of disk.old ≡ (layout_of geometry).whole }
     requires place { place < (geometry_of geometry).blocks }
-    requires len { length block.old ≡ 4096 }
+    requires len { length block.old ≡ BLOCK_BYTES }
     ensures reads { OnlyReads D.Disk disk.old disk.new }
-    ensures bytes { OnOk result ((c : List ℕ) → D.gives disk.old c → block.new ≡ part (blocks_in_image geometry c) (4096 * place) 4096) }
+    ensures bytes { OnOk result ((c : List ℕ) → D.gives disk.old c → block.new ≡ part (blocks_in_image geometry c) (BLOCK_BYTES * place) BLOCK_BYTES) }
     ensures cause { HasCause result (D.fault_count disk.old) (D.fault_count disk.new) }
 {
     read_at(disk, offset_of(geometry, place), block)?;
@@ -184,8 +186,8 @@ fn load_block<D: Disk>(
 /// Where on the disk the data block at that place begins.
 fn offset_of(geometry: u32, place: u32) -> u64
     requires { place < (geometry_of geometry).blocks }
-    ensures begins { result ≡ (layout_of geometry).blocks + 4096 * place }
-    ensures fits { result + 4096 ≤ (layout_of geometry).whole }
+    ensures begins { result ≡ (layout_of geometry).blocks + BLOCK_BYTES * place }
+    ensures fits { result + BLOCK_BYTES ≤ (layout_of geometry).whole }
 {
     Layout::of_geometry(geometry).blocks + BLOCK_BYTES * u64::from(place)
 }

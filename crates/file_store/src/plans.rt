@@ -1,7 +1,8 @@
 //! What an event needs before it changes anything: its records, the blocks that it frees, and memory.
 ghost use Rattle.std.specs.Prelude.{◌≡◌, ℕ, ◌∷◌, [], ◌-◌, ◌≤◌, ◌++◌, List, length, take, drop, Some, IfOk, OnOk, OnErr, IsSome};
-ghost use Rattle.plain_model.specs.Keyed.{find_key};
+ghost use Rattle.hsm_types.specs.Keyed.{find_key};
 ghost use Rattle.plain_model.specs.Blocks.{touched, size_after};
+ghost use Rattle.hsm_types.specs.Limits.{file_bytes};
 ghost use Rattle.hsm_types.specs.Stubs.{Stubs};
 ghost use Rattle.meta_store.specs.declared.snapshot.Mapping.{Mapping};
 ghost use Rattle.meta_store.specs.Catalogs.{CatalogFile, present};
@@ -91,7 +92,7 @@ fn records_of(
     places: &[u32],
 ) -> Result<Records, AllocError>
     requires lawful { IsRewrite change }
-    requires size { size ≤ 16777216 }
+    requires size { size ≤ file_bytes }
     requires entry { HasEntry change stubs.now }
     requires count { length places.now ≡ length touched.now }
     ensures { IfOk result (IsRewriting ino change.entry size stubs.now (mappings_of touched.now places.now)) }
@@ -158,7 +159,7 @@ fn freed_by(
     size: u64,
     touched: &TouchedBlocks,
 ) -> Result<Vec<u32>, AllocError>
-    requires { size ≤ 16777216 }
+    requires { size ≤ file_bytes }
     ensures { IfOk result (λ v. v.items ≡ freed_by size touched.now places.now) }
 {
     let (end, others) = touched.runs();

@@ -1,10 +1,11 @@
 //! Segments of a file whose bytes go away.
 ghost use Rattle.std.specs.Prelude.{◌≡◌, ◌≤◌, ◌-◌, ◌*◌, true, false, Err, None, Some, length, IfOk, OnOk, MatchResult, IsErrOf, IsSome};
+ghost use Rattle.hsm_types.specs.Limits.{file_segments, segment_bytes};
 ghost use Rattle.hsm_types.specs.Segments.{from_on, segments_in};
 ghost use Rattle.hsm_types.specs.Stubs.{any_unpunched, not_punched, stub_at};
 ghost use Rattle.hsm_types.specs.declared.dm.DmRefusal.{DmRefusal};
 ghost use Rattle.plain_model.specs.Effects.{Punches};
-ghost use Rattle.plain_model.specs.Keyed.{find_key};
+ghost use Rattle.hsm_types.specs.Keyed.{find_key};
 ghost use Rattle.plain_model.specs.State.{bytes_of};
 ghost use Rattle.meta_store.specs.Catalogs.{CatalogFile, present};
 ghost use Rattle.meta_store.specs.Records.{kept_at};
@@ -43,7 +44,7 @@ pub(crate) fn plan(
 ) -> Result<Punch, StoreRefusal>
     requires live { IsSome (find_key (λ f. f.key) key catalog.now.files) }
     requires order { from ≤ to }
-    requires few { to ≤ 256 }
+    requires few { to ≤ file_segments }
     ensures judged { OnOk result (any_unpunched (kept_at key catalog.now).regions (kept_at key catalog.now).stubs from to ≡ None) }
     ensures records { IfOk result (λ p. p.records ≡ punch_records key.ino (kept_at key catalog.now).stubs (from_on from (to - from))) }
     ensures freed { IfOk result (λ p. (f : CatalogFile) → find_key (λ f. f.key) key catalog.now.files ≡ Some f → p.freed.items ≡ present (places_between from to f.places)) }
@@ -110,7 +111,7 @@ fn blocks_in(
     to: u32,
 ) -> Result<Vec<u32>, AllocError>
     requires order { from ≤ to }
-    requires few { to ≤ 256 }
+    requires few { to ≤ file_segments }
     ensures { IfOk result (λ v. v.items ≡ present (places_between from to places.now)) }
 {
     let run = BlockRun {
@@ -136,7 +137,7 @@ impl<D: Disk> FileStore<D> {
     ) -> Result<(), StoreRefusal>
         requires working { self.old.failed ≡ false }
         requires live { IsSome (find_key (λ f. f.key) key self.old.held.files) }
-        requires start { 65536 * from ≤ length (bytes_of key self.old.held.files) }
+        requires start { segment_bytes * from ≤ length (bytes_of key self.old.held.files) }
         requires order { from ≤ to }
         requires end { to ≤ segments_in (length (bytes_of key self.old.held.files)) }
         requires judged { any_unpunched (kept_at key self.old.meta.current).regions (kept_at key self.old.meta.current).stubs from to ≡ None }

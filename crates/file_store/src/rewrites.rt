@@ -1,5 +1,6 @@
 //! Changes of the bytes of a file.
 ghost use Rattle.std.specs.Prelude.{◌≡◌, ◌≤◌, ◌<◌, ◌+◌, ◌*◌, ◌&&◌, ℕ, nat_le, nat_lt, length, OnOk, OnErr};
+ghost use Rattle.hsm_types.specs.Limits.{file_bytes, block_bytes};
 ghost use Rattle.plain_model.specs.Plain.{rebody};
 ghost use Rattle.plain_model.specs.Blocks.{touched, size_after};
 ghost use Rattle.file_body.specs.HeldBodies.{HeldBody, is_away};
@@ -40,7 +41,7 @@ impl Rewrite<'_> {
     pub(crate) fn size_after(self, size: u64) -> u64
         requires { IsRewrite self }
         ensures size { result ≡ size_after (effect_of self.entry) size }
-        ensures limit { size ≤ 16777216 → result ≤ 16777216 }
+        ensures limit { size ≤ file_bytes → result ≤ file_bytes }
     {
         match self {
             Rewrite::Write { offset, bytes } => size.max(offset + bytes.len() as u64),
@@ -52,7 +53,7 @@ impl Rewrite<'_> {
     /// The segments of a file of that size whose entries it drops, from the first up to the second, as far as they begin below the new size.
     pub(crate) fn unsealed(self, size: u64) -> (u32, u32)
         requires lawful { IsRewrite self }
-        requires size { size ≤ 16777216 }
+        requires size { size ≤ file_bytes }
         ensures { (j : ℕ) → unseals self.entry size j ≡ (nat_le result.0 j && nat_lt j result.1) }
     {
         match self {
@@ -91,7 +92,7 @@ impl Rewrite<'_> {
     pub(crate) fn fill_block(self, body: &Body, block: u32, buffer: &mut [u8])
         requires lawful { IsRewrite self }
         requires grows { length body.now.bytes ≤ size_after (effect_of self) (length body.now.bytes) }
-        requires len { length buffer.old ≡ 4096 }
+        requires len { length buffer.old ≡ block_bytes }
         ensures { buffer.new ≡ block_of (rebody (effect_of self.entry) body.now.bytes) block }
     {
         match self {
@@ -124,7 +125,7 @@ impl Rewrite<'_> {
     /// Gives the memory back that `make_room` took, of a body that had that size. It takes none.
     pub(crate) fn undo(self, alloc: Global, body: &mut Body, size: u64)
         requires lawful { IsRewrite self }
-        requires file { size ≤ 16777216 }
+        requires file { size ≤ file_bytes }
         requires size { size ≤ length body.old.bytes }
         requires within { IsWithin self size }
         ensures { (old : HeldBody) → HasRoom self.entry old body.old → length old.bytes ≡ size → BringsAway self.entry old → IsAlike old body.new }
@@ -156,16 +157,16 @@ impl Rewrite<'_> {
 
 /// Where a segment begins.
 fn start_of(segment: u32) -> u64
-    ensures { result ≡ 65536 * segment }
+    ensures { result ≡ SEGMENT_BYTES * segment }
 {
     u64::from(segment) * SEGMENT_BYTES
 }
 
 /// The segments that have bytes of that range, from the first up to the second.
 fn segments(from: u64, to: u64) -> (u32, u32)
-    requires from { from ≤ 16777216 }
-    requires to { to ≤ 16777216 }
-    ensures { (j : ℕ) → (nat_le result.0 j && nat_lt j result.1) ≡ (nat_lt from (65536 * j + 65536) && nat_lt (65536 * j) to) }
+    requires from { from ≤ file_bytes }
+    requires to { to ≤ file_bytes }
+    ensures { (j : ℕ) → (nat_le result.0 j && nat_lt j result.1) ≡ (nat_lt from (SEGMENT_BYTES * j + SEGMENT_BYTES) && nat_lt (SEGMENT_BYTES * j) to) }
 {
     let last = (to + (SEGMENT_BYTES - 1)) / SEGMENT_BYTES;
     ((from / SEGMENT_BYTES) as u32, last as u32)

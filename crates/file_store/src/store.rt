@@ -4,7 +4,8 @@ ghost use Rattle.disk_model.specs.Calls.{Counts};
 ghost use Rattle.disk_model.specs.Images.{Alike};
 ghost use Rattle.disk_model.specs.Moments.{MayBe, Keeps, Same};
 ghost use Rattle.commit_slots.specs.Images.{IsStore};
-ghost use Rattle.plain_model.specs.Keyed.{find_key};
+ghost use Rattle.hsm_types.specs.Keyed.{find_key};
+ghost use Rattle.hsm_types.specs.Limits.{segment_bytes};
 ghost use Rattle.hsm_types.specs.Stubs.{print_of, offline_at};
 ghost use Rattle.plain_model.specs.Plain.{segment as segment_of};
 ghost use Rattle.plain_model.specs.State.{bytes_of, used};
@@ -144,7 +145,7 @@ impl<D: Disk> FileStore<D> {
     #[tactic(auto, using(crate::proofs::ShownFiles::segment_short))]
     pub fn digest_segment(&self, key: FileKey, segment: u32) -> Fingerprint
         requires live { IsSome (find_key (λ f. f.key) key self.now.held.files) }
-        requires start { 65536 * segment < length (bytes_of key self.now.held.files) }
+        requires start { segment_bytes * segment < length (bytes_of key self.now.held.files) }
         requires here { offline_at (kept_of key self.now.held.files).stubs segment ≡ false }
         ensures { result ≡ print_of (segment_of segment (bytes_of key self.now.held.files)) }
     {

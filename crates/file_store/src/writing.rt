@@ -29,7 +29,7 @@ pub(crate) fn put_blocks<D: Disk>(
     requires grows { 0 < length blocks.now → length body.now.bytes ≤ size_after (effect_of change) (length body.now.bytes) }
     requires count { length places.now ≡ length blocks.now }
     requires low { base < 2 ^ 32 }
-    requires fits { AllByRecursion (λ p. base + 4096 * p + 4096 ≤ D.length_of disk.old) places.now }
+    requires fits { AllByRecursion (λ p. base + BLOCK_BYTES * p + BLOCK_BYTES ≤ D.length_of disk.old) places.now }
     requires apart { Distinct places.now }
     ensures any_moment { Keeps D.Disk disk.old disk.new (IsBesideBlocks base places.now) }
     ensures written { OnOk result (Follows (HasBlocks base (rebody (effect_of change.entry) body.now.bytes) (mappings_of blocks.now places.now)) (D.gives disk.old) (D.gives disk.new)) }

@@ -130,13 +130,15 @@ impl<R: Files<File = File> + Drop> FolderDrive<R> {
 }
 
 impl<R: Files<File = File> + Drop> Drive for FolderDrive<R> {
-    ghost use Rattle.std.specs.Prelude.{false};
+    ghost use Rattle.std.specs.Prelude.{false, []};
     ghost use Rattle.std.proofs.lemmas.Bool.{false≢true};
     ghost use Rattle.folder_drive.specs.Folders.{has_volume};
 
     ghost has = { has_volume };
 
     ghost gives = { λ d v o. ⊥ };
+
+    ghost content = { λ d v. [] };
 
     ghost lasting = { λ d v. 0 };
 
@@ -147,6 +149,8 @@ impl<R: Files<File = File> + Drop> Drive for FolderDrive<R> {
     ghost sure = { false };
 
     ghost given_there = { λ d v o given. absurd given };
+
+    ghost one_content = { λ d v o given. absurd given };
 
     ghost sure_counts = { λ is d. absurd (false≢true is) };
 

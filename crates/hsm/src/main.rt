@@ -7,7 +7,8 @@ ghost use Rattle.std.specs.Prelude.{◌≡◌};
 ghost use Rattle.std.specs.Process.{exit_status};
 ghost use Rattle.hsm_cli.specs.Statuses.{status_of};
 
-use hsm_cli::{Cause, FileHost, Reading, Writing, hsm_main};
+use hosts::{FileHost, Reading, Writing};
+use hsm_cli::{Cause, hsm_main};
 use std::process::ExitCode;
 use std::rt::Env;
 use std::{env, io};

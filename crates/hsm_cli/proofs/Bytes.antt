@@ -1,9 +1,10 @@
 -- Bytes that are read and written in pieces.
-use Rattle.std.proofs.Common.{◌≡◌, ℕ, length-drop, length-append, ◌+◌, ◌-◌, ◌≤◌, List, ◌++◌, length, take, drop, Option, Some, None, IfSome, sym, ◌∙◌, ap, append_assoc, append-nil, arith, subst}
+use Rattle.std.proofs.Common.{◌≡◌, ℕ, length-drop, length-append, ◌+◌, ◌-◌, ◌≤◌, List, ◌++◌, length, take, drop, Option, Some, None, IfSome, sym}
+use Rattle.std.proofs.Common.{◌∙◌, ap, append_assoc, append-nil, arith, subst}
 use Rattle.std.proofs.lemmas.List.{take-append-le, take_all}
 use Rattle.std.proofs.Math.Seq.{take-add, take-length}
 use Rattle.std.specs.Io.KnownBytes.{Consumes, Appends, IsAtEnd}
-use Rattle.hsm_cli.specs.Sources.{script_bytes, ReadsMore, GivesMore, GivesFirst}
+use Rattle.hsm_cli.specs.Sources.{most_read, script_bytes, ReadsMore, GivesMore, GivesFirst}
 
 -- what was read so far, and then more
 pub read_on : (old mid new : Option (List ℕ)) (bytes more : List ℕ) → Consumes old mid bytes → Consumes mid new more → Consumes old new (bytes ++ more)
@@ -12,26 +13,29 @@ read_on (Some all) None new bytes more h k = absurd h
 read_on (Some all) (Some rest) None bytes more h k = absurd k
 read_on (Some all) (Some rest) (Some left) bytes more h k = rw append_assoc (rw k at h)
 
--- all was read
-whole : (old new : Option (List ℕ)) (bytes : List ℕ) → Consumes old new bytes → IsAtEnd new → length bytes ≤ 409700001 → IfSome old (λ all. bytes ≡ script_bytes all)
-whole None new bytes h e le = tt
-whole (Some all) None bytes h e le = absurd h
-whole (Some all) (Some left) bytes h e le =
+-- all was read, of at most n bytes
+whole : (n : ℕ) (old new : Option (List ℕ)) (bytes : List ℕ) → Consumes old new bytes → IsAtEnd new → length bytes ≤ n → IfSome old (λ all. bytes ≡ take n all)
+whole n None new bytes h e le = tt
+whole n (Some all) None bytes h e le = absurd h
+whole n (Some all) (Some left) bytes h e le =
     let is : all ≡ bytes = rw (h, e) (append-nil bytes) in
-    rw is (sym (take_all 409700001 bytes le))
+    rw is (sym (take_all n bytes le))
 
 pub read_whole : (old mid new : Option (List ℕ)) (bytes longer : List ℕ) (n : ℕ) → Consumes old mid bytes → ReadsMore mid new bytes longer n → n ≡ 0 → IfSome old (λ all. longer ≡ script_bytes all)
 read_whole old mid new bytes longer n h more none =
-    whole old new longer (rw more.longer_by (read_on old mid new bytes more.more h more.consumed)) (more.ended none) more.within
+    whole most_read old new longer (rw more.longer_by (read_on old mid new bytes more.more h more.consumed)) (more.ended none) more.within
 
--- or as much as is wanted
-pub read_enough : (old mid : Option (List ℕ)) (bytes : List ℕ) → Consumes old mid bytes → length bytes ≡ 409700001 → IfSome old (λ all. bytes ≡ script_bytes all)
-read_enough None mid bytes h is = tt
-read_enough (Some all) None bytes h is = absurd h
-read_enough (Some all) (Some rest) bytes h is =
-    let fits : 409700001 ≤ length bytes = omega arith in
-    let within : length bytes ≤ 409700001 = omega arith in
-    rw (h, take-append-le) (sym (take_all 409700001 bytes within))
+-- or n bytes
+enough : (n : ℕ) (old mid : Option (List ℕ)) (bytes : List ℕ) → Consumes old mid bytes → length bytes ≡ n → IfSome old (λ all. bytes ≡ take n all)
+enough n None mid bytes h is = tt
+enough n (Some all) None bytes h is = absurd h
+enough n (Some all) (Some rest) bytes h is =
+    let fits : n ≤ length bytes = omega (arith, is) in
+    let within : length bytes ≤ n = omega (arith, is) in
+    rw (h, take-append-le) (sym (take_all n bytes within))
+
+pub read_enough : (old mid : Option (List ℕ)) (bytes : List ℕ) → Consumes old mid bytes → length bytes ≡ most_read → IfSome old (λ all. bytes ≡ script_bytes all)
+read_enough old mid bytes h is = enough most_read old mid bytes h is
 
 -- what was read so far, and then more that wasn't kept
 pub gives_part : (old mid new : Option (List ℕ)) (bytes : List ℕ) → Consumes old mid bytes → GivesMore mid new bytes → GivesFirst old new

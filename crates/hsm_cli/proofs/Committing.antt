@@ -8,7 +8,8 @@ use Rattle.file_store.specs.Laws.{RecoversOne}
 use Rattle.hsm_core.specs.Store.{Store}
 use Rattle.hsm_core.specs.Crashes.{IsPrefix}
 use Rattle.hsm_cli.specs.declared.causes.Cause.{Cause}
-use Rattle.hsm_cli.specs.declared.causes.Cause.TheVariants.{ScriptRefused, WordsRefused, NotStore, Corrupt, ReadFault, WriteFault, DiskFault, HostFault, NoMemory}
+use Rattle.hsm_cli.specs.declared.causes.Cause.TheVariants.{ScriptRefused, WordsRefused, NotStore, Corrupt, ReadFault, WriteFault, DiskFault}
+use Rattle.hsm_cli.specs.declared.causes.Cause.TheVariants.{HostFault, NoMemory}
 use Rattle.hsm_replay.specs.Running.{IsAllDurable}
 use Rattle.hsm_cli.specs.Clauses.{IsWhole, RanToItsEnd}
 use Rattle.hsm_cli.specs.Endings.{cause_in, first_of, ScriptEnds}

@@ -14,13 +14,13 @@ use Rattle.plain_model.specs.State.{Held}
 use Rattle.plain_model.specs.Synced.{synced}
 use Rattle.file_store.specs.Stores.{Store, IsRecovered, IsDurable}
 use Rattle.hsm_core.specs.Crashes.{IsPrefix}
-use Rattle.hsm_cli.specs.Hosts.{IsHanded}
+use Rattle.hosts.specs.Hosts.{IsHanded}
 use Rattle.hsm_cli.specs.Statuses.{cause_of_refusal, cause_of_host}
 use Rattle.hsm_cli.specs.Told.{SourceTold, SinkTold}
 use Rattle.hsm_cli.specs.declared.causes.Cause.{Cause}
 use Rattle.hsm_cli.specs.declared.causes.Cause.TheVariants.{WordsRefused, HostFault, NoMemory}
-use Rattle.hsm_cli.specs.declared.hosts.HostRefusal.{HostRefusal}
-use Rattle.hsm_cli.specs.declared.hosts.HostRefusal.TheVariants as handing
+use Rattle.hosts.specs.declared.outside.HostRefusal.{HostRefusal}
+use Rattle.hosts.specs.declared.outside.HostRefusal.TheVariants as handing
 use Rattle.hsm_cli.specs.Clauses.{IsCrashSafe, IsWhole, IsBeforeRun, RanToItsEnd, HasBegun, Why}
 use Rattle.hsm_cli.proofs.Running.{rose_later}
 

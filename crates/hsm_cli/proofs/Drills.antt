@@ -1,5 +1,6 @@
 -- A drill on a new store.
-use Rattle.std.proofs.Common.{◌≡◌, ◌≢◌, ◌⊎◌, inl, inr, ℕ, true, false, List, [], Option, Some, None, Result, Ok, Err, OnOk, IfErr, IfSome, IsOk, refl, sym, ◌∙◌, ap, subst}
+use Rattle.std.proofs.Common.{◌≡◌, ◌≢◌, ◌⊎◌, inl, inr, ℕ, true, false, List, [], Option, Some, None, Result, Ok, Err, OnOk, IfErr, IfSome, IsOk}
+use Rattle.std.proofs.Common.{refl, sym, ◌∙◌, ap, subst}
 use Rattle.disk_model.specs.declared.device.Disk as disk
 use Rattle.disk_model.specs.Calls.{Rose}
 use Rattle.media_model.specs.declared.drive.Drive as drive
@@ -19,7 +20,8 @@ use Rattle.hsm_core.specs.Summaries.{offline_of}
 use Rattle.marked_history.specs.Marks.{Mark}
 use Rattle.hsm_replay.specs.Sealed.{Tallies, SealsAreWhole}
 use Rattle.hsm_cli.specs.declared.causes.Cause.{Cause}
-use Rattle.hsm_cli.specs.declared.causes.Cause.TheVariants.{ScriptRefused, WordsRefused, NotStore, Corrupt, ReadFault, WriteFault, DiskFault, HostFault, NoMemory}
+use Rattle.hsm_cli.specs.declared.causes.Cause.TheVariants.{ScriptRefused, WordsRefused, NotStore, Corrupt, ReadFault, WriteFault, DiskFault}
+use Rattle.hsm_cli.specs.declared.causes.Cause.TheVariants.{HostFault, NoMemory}
 use Rattle.hsm_cli.specs.declared.outcomes.Outcome.{Outcome}
 use Rattle.hsm_cli.specs.Statuses.{status_of, place_of}
 use Rattle.hsm_cli.specs.Told.{SourceTold, SinkTold, HostTold}

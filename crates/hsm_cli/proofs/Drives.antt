@@ -1,7 +1,8 @@
 -- What a run on a store of the host has of drives, and what it leaves of the host.
-use Rattle.std.proofs.Common.{◌≡◌, ◌⊎◌, inl, inr, ℕ, ◌≤◌, List, [], ◌∷◌, Option, Some, None, Result, Ok, Err, IfOk, IfErr, IsErrOf, MatchResult, refl, sym, subst, arith}
+use Rattle.std.proofs.Common.{◌≡◌, ◌⊎◌, inl, inr, ℕ, ◌≤◌, List, [], ◌∷◌, Option, Some, None, Result, Ok, Err, IfOk, IfErr, IsErrOf, MatchResult}
+use Rattle.std.proofs.Common.{refl, sym, subst, arith}
 use Rattle.disk_model.specs.declared.device.Disk as disk
-use Rattle.disk_model.specs.Calls.{Rose}
+use Rattle.disk_model.specs.Calls.{Rose, raised}
 use Rattle.media_model.specs.declared.drive.Drive as drive
 use Rattle.media_model.specs.Objects.{Objects, Alike}
 use Rattle.hsm_policy.specs.Settings.{standard}
@@ -9,8 +10,9 @@ use Rattle.hsm_replay.specs.Drives.{HaveGrown}
 use Rattle.marked_history.specs.Marks.{Mark}
 use Rattle.hsm_replay.specs.Sealed.{Tallies}
 use Rattle.hsm_cli.specs.declared.causes.Cause.{Cause}
-use Rattle.hsm_cli.specs.declared.causes.Cause.TheVariants.{ScriptRefused, WordsRefused, NotStore, Corrupt, ReadFault, WriteFault, DiskFault, HostFault, NoMemory}
-use Rattle.hsm_cli.specs.Hosts.{AreHanded, HoldsNothing, HoldsOthers, HoldsAll, StoresAll}
+use Rattle.hsm_cli.specs.declared.causes.Cause.TheVariants.{ScriptRefused, WordsRefused, NotStore, Corrupt, ReadFault, WriteFault, DiskFault}
+use Rattle.hsm_cli.specs.declared.causes.Cause.TheVariants.{HostFault, NoMemory}
+use Rattle.hosts.specs.Hosts.{AreHanded, HoldsNothing, HoldsOthers, HoldsAll, StoresAll}
 use Rattle.hsm_cli.specs.Sealing.{TalliesSince}
 use Rattle.hsm_cli.specs.Told.{SourceTold, SinkTold, HostTold}
 use Rattle.hsm_cli.specs.Endings.{RunEnds, HandingEnds, IsBeforeReading}
@@ -79,6 +81,10 @@ host_failed HostFails DiskFails source sink cause ends is = subst (RunEnds HostF
 
 pub rose_from : (a b c : ℕ) → a ≤ b → Rose b c → Rose a c
 rose_from a b c le rose = omega (arith, le, rose)
+
+-- the last of these calls failed, and so it is one more fault
+pub rose_once : (a b c : ℕ) → a ≤ b → c ≡ raised b → Rose a c
+rose_once a b c le is = omega (arith, le, is)
 
 -- the count of the host rose in the call for drives
 fault_told : {V : Type 0} (before : ℕ) (host : HostTold) (ready : Result V Cause) → before ≤ host.before → IfErr ready (HandingEnds host) → IsErrOf ready HostFault → Rose before host.now

@@ -3,7 +3,8 @@ use Rattle.std.proofs.Common.{inl, inr, refl, ℕ, Bool, List, [], Option, Some,
 use Rattle.plain_model.specs.declared.entries.Entry.{Entry}
 use Rattle.script_text.specs.declared.lines.Line.{Line}
 use Rattle.hsm_cli.specs.declared.causes.Cause.{Cause}
-use Rattle.hsm_cli.specs.declared.causes.Cause.TheVariants.{ScriptRefused, WordsRefused, NotStore, Corrupt, ReadFault, WriteFault, DiskFault, HostFault, NoMemory}
+use Rattle.hsm_cli.specs.declared.causes.Cause.TheVariants.{ScriptRefused, WordsRefused, NotStore, Corrupt, ReadFault, WriteFault, DiskFault}
+use Rattle.hsm_cli.specs.declared.causes.Cause.TheVariants.{HostFault, NoMemory}
 use Rattle.marked_history.specs.Marks.{Mark}
 use Rattle.hsm_cli.specs.Follows.{RunsBy, FollowsFirst, IsOfScript, RunsAll, RunsFirst, lines_run}
 use Rattle.hsm_cli.specs.Told.{SourceTold, SinkTold}

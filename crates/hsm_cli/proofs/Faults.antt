@@ -1,5 +1,6 @@
 -- Faults of media in a run.
-use Rattle.std.proofs.Common.{◌≡◌, ◌∙◌, ◌++◌, ◌∷◌, ◌<◌, ℕ, zero, suc, List, [], length, Some, IfSome, Result, Ok, Err, IfOk, OnErr, MatchResult, sym, ap, subst, mod-lt, arith}
+use Rattle.std.proofs.Common.{◌≡◌, ◌∙◌, ◌++◌, ◌∷◌, ◌<◌, ℕ, zero, suc, List, [], length, Some, IfSome, Result, Ok, Err, IfOk, OnErr, MatchResult, sym}
+use Rattle.std.proofs.Common.{ap, subst, mod-lt, arith}
 use Rattle.std.specs.List.{AllByRecursion}
 use Rattle.std.specs.Prelude.{slice_get}
 use Rattle.media_model.specs.declared.drive.Drive as drive
@@ -13,7 +14,7 @@ use Rattle.disk_model.specs.declared.device.Disk as disk
 use Rattle.hsm_core.specs.Kept.{IsKept}
 use Rattle.hsm_core.specs.Store.{Store as HsmStore}
 use Rattle.hsm_policy.specs.Settings.{Numbers, standard}
-use Rattle.marked_history.specs.Caused.{Caused, ArePackedSince, ServedIsCaused}
+use Rattle.marked_history.specs.Caused.{Caused, ServedIsCaused}
 use Rattle.marked_history.specs.Marks.{Mark}
 use Rattle.hsm_replay.specs.Running.{GoesOn}
 use Rattle.hsm_replay.specs.Drives.{HaveGrown}
@@ -22,7 +23,6 @@ use Rattle.hsm_replay.proofs.Growing.{grown_count}
 use Rattle.hsm_cli.specs.declared.causes.Cause.{Cause}
 use Rattle.hsm_cli.specs.Openings.{replay_store}
 use Rattle.hsm_cli.specs.Follows.{IsServed}
-use Rattle.hsm_cli.specs.Runs.{IsOpenedAnew}
 use Rattle.hsm_cli.specs.Clauses.{IsDamage, NoneFailed, IsCausedOver}
 
 -- a history without entries names none
@@ -69,13 +69,9 @@ caused_new s history superblock held number caused =
 -- ---- a served run
 
 module _ {D : Type 0} (g : disk.Ghosts D) where
-  -- a store without entries has no buffers
-  pub none_packed : (s : HsmStore D) → s.history ≡ [] → ArePackedSince s
-  none_packed s none before sid asked reply rest is = absurd (no_entry before _ rest (sym none ∙ is))
-
   -- what the history of a run on an opened store says of faults
   pub caused_served : ((limits : Numbers) (s : Superblock) (base : ℕ) (opening : Held) (marks : List Mark) (history : List Entry) → ServedIsCaused limits s base opening marks history)
-      → (old new : HsmStore D) → IsOpenedAnew old → GoesOn g old new → IsServed new.history → IsKept new → IsCausedOver (Some old.opened) new.history
-  caused_served law old new anew goes served kept =
+      → (old new : HsmStore D) → GoesOn g old new → IsServed new.history → IsKept new → IsCausedOver (Some old.opened) new.history
+  caused_served law old new goes served kept =
       subst (λ (o : Store D). IsCausedOver (Some o) new.history) goes.opened
-      (law standard (superblock_of new.opened) new.opened.meta.number new.opened.held served.0 new.history served.1 served.2 kept.good.run (goes.packed (none_packed old anew.history)))
+      (law standard (superblock_of new.opened) new.opened.meta.number new.opened.held served.0 new.history served.1 served.2 kept.good.run kept.packed)

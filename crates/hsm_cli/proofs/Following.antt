@@ -1,5 +1,6 @@
 -- Runs of lines.
-use Rattle.std.proofs.Common.{◌≡◌, ◌∙◌, ◌⊎◌, inl, inr, List, [], ◌∷◌, ◌++◌, Bool, true, false, Result, Ok, Err, OnOk, Option, IfSome, is_some, refl, sym, ap, ap₂, subst, append_assoc, append-nil}
+use Rattle.std.proofs.Common.{◌≡◌, ◌∙◌, ◌⊎◌, inl, inr, List, [], ◌∷◌, ◌++◌, Bool, true, false, Result, Ok, Err, OnOk, Option, IfSome, is_some, refl}
+use Rattle.std.proofs.Common.{sym, ap, ap₂, subst, append_assoc, append-nil}
 use Rattle.disk_model.specs.declared.device.Disk as disk
 use Rattle.media_model.specs.declared.drive.Drive as drive
 use Rattle.script_text.specs.declared.lines.Line.{Line}

@@ -15,10 +15,6 @@ pub mod Wanting
 pub mod Drills
 pub mod Formats
 pub mod Promises
-pub mod NamedThings
-pub mod HandingOut
-pub mod Files
-pub mod Noted
 pub mod Committing
 pub mod Drives
 pub mod Sealing

@@ -13,19 +13,22 @@ use Rattle.script_text.specs.Scripts.{IsScript}
 use Rattle.script_text.specs.Laws.{IsOneScript}
 use Rattle.script_text.specs.declared.lines.Line.{Line}
 use Rattle.hsm_cli.specs.declared.causes.Cause.TheVariants.{WordsRefused, HostFault, NoMemory}
-use Rattle.hsm_cli.specs.declared.hosts.Host as host
+use Rattle.hosts.specs.declared.outside.Host as host
 use Rattle.hsm_cli.specs.declared.outcomes.Outcome.{Outcome}
 use Rattle.hsm_cli.specs.Statuses.{status_of, place_of}
 use Rattle.hsm_cli.specs.Openings.{opened_in, superblock_at, held_at, base_of}
 use Rattle.hsm_cli.specs.Outcomes.{ended_with}
 use Rattle.hsm_cli.specs.Daemons.{IsWellServedOver}
 use Rattle.hsm_cli.specs.Follows.{SettlesOn}
-use Rattle.hsm_cli.specs.Hosts.{StoresAll}
+use Rattle.hosts.specs.Hosts.{StoresAll}
 use Rattle.hsm_cli.specs.Sealing.{IsRightInMemory, IsRightInFolder}
 use Rattle.hsm_cli.specs.Texts.{IsUnwritten, TakesText, IsShown, AreUntold, AreCounted, drill_text}
 use Rattle.hsm_cli.specs.Told.{SourceTold, SinkTold, host_told}
 use Rattle.hsm_cli.specs.Endings.{WritingEnds, RunEnds, FormatEnds, ShowEnds}
-use Rattle.hsm_cli.specs.Clauses.{HasRun, HasDrilled, HasRead, HasReadOn, IsUnread, IsGoodOver, IsPlainOver, IsCausedOver, NoneFailed, TellsFaults, LegalityClause, PlainClause, MediaClause, LeavesSafe, OnlyReads, IsFormatted, HandsOut, HasFailed, HasDriveFailed, GivesBack, HandsDrives, GivesShown, AsksShown, asked_by, FindsNothing, TakesTranscript, Why, HasBegun, Lacks, LacksShown, ReadsQuietly, WritesQuietly, KeepsQuietly, HandsQuietly, NeverFailed, KeepsPromises}
+use Rattle.hsm_cli.specs.Clauses.{HasRun, HasDrilled, HasRead, HasReadOn, IsUnread, IsGoodOver, IsPlainOver, IsCausedOver, NoneFailed, TellsFaults}
+use Rattle.hsm_cli.specs.Clauses.{LegalityClause, PlainClause, MediaClause, LeavesSafe, OnlyReads, IsFormatted, HandsOut, HasFailed, HasDriveFailed}
+use Rattle.hsm_cli.specs.Clauses.{GivesBack, HandsDrives, GivesShown, AsksShown, asked_by, FindsNothing, TakesTranscript, Why, HasBegun, Lacks}
+use Rattle.hsm_cli.specs.Clauses.{LacksShown, ReadsQuietly, WritesQuietly, KeepsQuietly, HandsQuietly, NeverFailed, KeepsPromises}
 use Rattle.hsm_cli.proofs.Completeness.{status_new, status_store}
 use Rattle.hsm_cli.proofs.Drills.{status_drill}
 use Rattle.hsm_cli.proofs.Faults.{caused_none, none_named}

@@ -18,11 +18,13 @@ use Rattle.marked_history.specs.Settling.{none_run as no_daemon, EachSettles}
 use Rattle.hsm_replay.specs.Resting.{first_of}
 use Rattle.hsm_replay.specs.Systems.{System}
 use Rattle.hsm_cli.specs.declared.causes.Cause.{Cause}
-use Rattle.hsm_cli.specs.declared.causes.Cause.TheVariants.{ScriptRefused, WordsRefused, NotStore, Corrupt, ReadFault, WriteFault, DiskFault, HostFault, NoMemory}
+use Rattle.hsm_cli.specs.declared.causes.Cause.TheVariants.{ScriptRefused, WordsRefused, NotStore, Corrupt, ReadFault, WriteFault, DiskFault}
+use Rattle.hsm_cli.specs.declared.causes.Cause.TheVariants.{HostFault, NoMemory}
 use Rattle.hsm_cli.specs.Clauses.{HasRun}
 use Rattle.hsm_cli.specs.Daemons.{IsWellServed, IsWellServedOver, ServedIsWell}
 use Rattle.hsm_cli.specs.Endings.{ScriptEnds, IsBeforeReading}
-use Rattle.hsm_cli.specs.Follows.{RunsBy, FollowsFirst, HasRunOn, IsServed, IsOfScript, IsRunOf, FollowsScript, RunsAll, RunsFirst, SettlesOn, SettlesSince, lines_run}
+use Rattle.hsm_cli.specs.Follows.{RunsBy, FollowsFirst, HasRunOn, IsServed, IsOfScript, IsRunOf, FollowsScript, RunsAll, RunsFirst, SettlesOn}
+use Rattle.hsm_cli.specs.Follows.{SettlesSince, lines_run}
 use Rattle.hsm_cli.specs.Openings.{replay_store}
 use Rattle.hsm_cli.specs.Sealing.{TellsOf}
 use Rattle.hsm_cli.specs.Sources.{script_bytes}

@@ -4,6 +4,7 @@ use Rattle.std.specs.List.{AllByRecursion}
 use Rattle.std.proofs.lemmas.List.Elements.{filter_map-append}
 use Rattle.media_model.specs.Objects.{Objects}
 use Rattle.media_model.specs.declared.drive.Drive as drive
+use Rattle.hsm_types.specs.Stubs.{entry_place}
 use Rattle.hsm_types.specs.declared.daemons.Daemon.TheVariants.{Recall}
 use Rattle.hsm_types.specs.declared.dm.DmCall.TheVariants.{Respond}
 use Rattle.hsm_types.specs.declared.dm.Response.TheVariants.{Abort}
@@ -37,14 +38,14 @@ sealed_first P marks first rest is each =
 
 module _ {M : Type 0} (g : drive.Ghosts M) (opened ds : List M) (law : (d : M) (v : ℕ) → g.has d v ≡ true → (o : Objects) × g.gives d v o) where
   -- a volume with what is stored tells its objects
-  none_named : (entry : StubEntry) (xs : List StubEntry) → AllByRecursion (IsStored g ds) xs → ((o : Objects) → Gives g ds entry.volume o → IsUnnamed xs entry) → IsUnnamed xs entry
+  none_named : (entry : StubEntry) (xs : List StubEntry) → AllByRecursion (IsStored g ds) xs → ((o : Objects) → Gives g ds (entry_place entry).volume o → IsUnnamed xs entry) → IsUnnamed xs entry
   none_named entry [] each told = tt
   none_named entry (x ∷ xs) each told = (unlike, none_named entry xs each.1 (λ o gives. (told o gives).1))
     where
-      unlike : (x.volume ≡ entry.volume) × (x.object ≡ entry.object) → ⊥
+      unlike : ((entry_place x).volume ≡ (entry_place entry).volume) × ((entry_place x).object ≡ (entry_place entry).object) → ⊥
       unlike same =
-          let there : IsThere g ds entry.volume = subst (λ (v : ℕ). IsThere g ds v) same.0 each.0.there in
-          let tells = law there.0 entry.volume there.2 in
+          let there : IsThere g ds (entry_place entry).volume = subst (λ (v : ℕ). IsThere g ds v) same.0 each.0.there in
+          let tells = law there.0 (entry_place entry).volume there.2 in
           (told tells.0 (there.0, there.1, tells.1)).0 same
 
   unknown : (marks : List Mark) (entry : StubEntry) → AllByRecursion (IsStored g ds) (sealed_in marks) → IsLost g opened ds marks entry → IsUnknown marks entry

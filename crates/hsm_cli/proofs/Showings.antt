@@ -1,5 +1,6 @@
 -- A store that is shown: what is told of it, and how that ends.
-use Rattle.std.proofs.Common.{◌≡◌, ◌≢◌, ◌⊎◌, inl, inr, ℕ, ◌%◌, List, [], ◌∷◌, length, Option, Some, None, IfSome, IsSome, Result, Ok, Err, IfErr, refl, sym, ◌∙◌, subst, arith}
+use Rattle.std.proofs.Common.{◌≡◌, ◌≢◌, ◌⊎◌, inl, inr, ℕ, ◌%◌, List, [], ◌∷◌, length, Option, Some, None, IfSome, IsSome, Result, Ok, Err, IfErr}
+use Rattle.std.proofs.Common.{refl, sym, ◌∙◌, subst, arith}
 use Rattle.std.specs.Prelude.{slice_get, IsErrOf}
 use Rattle.disk_model.specs.declared.device.Disk as disk
 use Rattle.disk_model.specs.declared.refusal.OpenRefusal.{OpenRefusal}
@@ -20,16 +21,18 @@ use Rattle.reconcile.specs.Classes.{Tells, AreRead, ClassesRefused}
 use Rattle.reconcile.specs.declared.refusals.ReconcileRefusal.{ReconcileRefusal}
 use Rattle.reconcile.specs.declared.refusals.ReconcileRefusal.TheVariants as counting
 use Rattle.hsm_cli.specs.declared.causes.Cause.{Cause}
-use Rattle.hsm_cli.specs.declared.causes.Cause.TheVariants.{ScriptRefused, WordsRefused, NotStore, Corrupt, ReadFault, WriteFault, DiskFault, HostFault, NoMemory}
-use Rattle.hsm_cli.specs.declared.hosts.HostRefusal.{HostRefusal}
-use Rattle.hsm_cli.specs.declared.hosts.HostRefusal.TheVariants as handing
+use Rattle.hsm_cli.specs.declared.causes.Cause.TheVariants.{ScriptRefused, WordsRefused, NotStore, Corrupt, ReadFault, WriteFault, DiskFault}
+use Rattle.hsm_cli.specs.declared.causes.Cause.TheVariants.{HostFault, NoMemory}
+use Rattle.hosts.specs.declared.outside.HostRefusal.{HostRefusal}
+use Rattle.hosts.specs.declared.outside.HostRefusal.TheVariants as handing
 use Rattle.hsm_cli.specs.declared.outcomes.Outcome.{Outcome}
 use Rattle.hsm_cli.specs.Statuses.{status_of, place_of, cause_of_refusal, cause_of_host, cause_of_classes}
-use Rattle.hsm_cli.specs.Texts.{TakesText, IsShown, AreCounted, GivesVolume}
+use Rattle.hsm_cli.specs.Texts.{TakesText, IsShown, shown_volumes, AreCounted, GivesVolume}
 use Rattle.hsm_cli.specs.Told.{SourceTold, SinkTold, HostTold}
-use Rattle.hsm_cli.specs.Hosts.{IsHanded, AreHanded, StoresNothing, StoresOthers}
+use Rattle.hosts.specs.Hosts.{IsHanded, AreHanded, StoresNothing, StoresOthers}
 use Rattle.hsm_cli.specs.Endings.{cause_in, WritingEnds, ShowEnds, CountingEnds}
-use Rattle.hsm_cli.specs.Clauses.{Why, HasFailed, HasDriveFailed, FindsNothing, TellsStore, HoldsStore, WritesText, ReadsStore, NamesDisk, CanEnd, IsOnlyRead, HandsDrives, AreShown, GivesShown, AsksShown, LacksShown, StatusClause}
+use Rattle.hsm_cli.specs.Clauses.{Why, HasFailed, HasDriveFailed, FindsNothing, TellsStore, HoldsStore, WritesText, ReadsStore, NamesDisk, CanEnd}
+use Rattle.hsm_cli.specs.Clauses.{IsOnlyRead, HandsDrives, AreShown, GivesShown, AsksShown, LacksShown, StatusClause}
 use Rattle.hsm_cli.proofs.ByCause.{written_by, counted_by, shown_by}
 use Rattle.hsm_cli.proofs.Completeness.{came_not, not_corrupt}
 use Rattle.hsm_cli.proofs.Running.{rose_later}
@@ -117,34 +120,12 @@ unread_quiet opening.Disk works is = works refl
 unread_quiet opening.Memory works is = cc
 
 module _ {D M : Type 0} (g : drive.Ghosts M) (stored : ℕ → Objects → Type 0) (disk : D) where
-  -- no drives were asked for
-  pub gives_unread : (refusal : OpenRefusal) → GivesShown g stored (Some disk) (Some (cause_of_refusal refusal)) []
-  gives_unread opening.NotStore = refl
-  gives_unread (opening.Corrupt place) = refl
-  gives_unread opening.Disk = refl
-  gives_unread opening.Memory = inl refl
-
-  -- none came
-  pub gives_unhanded : (refusal : HostRefusal) → GivesShown g stored (Some disk) (Some (cause_of_host refusal)) []
-  gives_unhanded handing.Failed = inl refl
-  gives_unhanded handing.Memory = inl refl
-
   -- they came, and were read
   pub gives_counted : {T : Type 0} (DriveFails : Type 0) (sink : SinkTold) (ended : Result T Cause) (drives : List M) → AreShown g stored drives → IfErr ended (CountingEnds DriveFails sink) → GivesShown g stored (Some disk) (cause_in ended) drives
   gives_counted DriveFails sink ended drives shown ends = counted_by (λ cause. GivesShown g stored (Some disk) cause drives) DriveFails sink ended shown (λ rose. shown) (λ failed. inr shown) (inr shown) ends
 
 -- how often they were asked for
 module _ {D : Type 0} (disk : D) (old new : ℕ) where
-  pub asks_unread : (refusal : OpenRefusal) → new ≡ old → AsksShown (Some disk) (Some (cause_of_refusal refusal)) old new
-  asks_unread opening.NotStore is = is
-  asks_unread (opening.Corrupt place) is = is
-  asks_unread opening.Disk is = is
-  asks_unread opening.Memory is = inl is
-
-  pub asks_unhanded : (refusal : HostRefusal) → new ≡ raised old → AsksShown (Some disk) (Some (cause_of_host refusal)) old new
-  asks_unhanded handing.Failed is = is
-  asks_unhanded handing.Memory is = inr is
-
   pub asks_counted : {T : Type 0} (DriveFails : Type 0) (sink : SinkTold) (ended : Result T Cause) → new ≡ raised old → IfErr ended (CountingEnds DriveFails sink) → AsksShown (Some disk) (cause_in ended) old new
   asks_counted DriveFails sink ended is ends = counted_by (λ cause. AsksShown (Some disk) cause old new) DriveFails sink ended is (λ rose. is) (λ failed. is) (inr is) ends
 
@@ -170,7 +151,7 @@ module _ {M : Type 0} (g : drive.Ghosts M) where
   gives_told v o (Some d) there = inl there
 
   -- classes by what drives give are those by what the host had, as they were handed out of it
-  pub counted_of : (stored : ℕ → Objects → Type 0) (capacity : ℕ) (handed : List M) → AreHanded g stored 2 256 capacity handed → (table : Table) (classes : Option ClassCounts) → AreCounted (GivesVolume g handed) table classes → AreCounted stored table classes
+  pub counted_of : (stored : ℕ → Objects → Type 0) (capacity : ℕ) (handed : List M) → AreHanded g stored 2 shown_volumes capacity handed → (table : Table) (classes : Option ClassCounts) → AreCounted (GivesVolume g handed) table classes → AreCounted stored table classes
   counted_of stored capacity handed h table classes counted = record {
     counts = counted.counts;
     told = counted.told;

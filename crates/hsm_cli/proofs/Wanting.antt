@@ -8,15 +8,16 @@ use Rattle.command_words.specs.Commands.{Form, Format, Replay, ReplayStore, Show
 use Rattle.plain_model.specs.State.{nothing_held}
 use Rattle.hsm_replay.specs.Faults.{faults_in}
 use Rattle.hsm_cli.specs.declared.causes.Cause.TheVariants.{WordsRefused, NoMemory}
-use Rattle.hsm_cli.specs.declared.hosts.Host as host
+use Rattle.hosts.specs.declared.outside.Host as host
 use Rattle.hsm_cli.specs.declared.outcomes.Outcome.{Outcome}
 use Rattle.hsm_cli.specs.Openings.{replay_store}
 use Rattle.hsm_cli.specs.Outcomes.{ended_with}
 use Rattle.hsm_cli.specs.Sources.{GivesFirst}
-use Rattle.hsm_cli.specs.Hosts.{HoldsAll, StoresAll}
+use Rattle.hosts.specs.Hosts.{HoldsAll, StoresAll}
 use Rattle.hsm_cli.specs.Texts.{IsUnwritten}
 use Rattle.hsm_cli.specs.Told.{SourceTold, SinkTold, HostTold, host_told}
-use Rattle.hsm_cli.specs.Clauses.{ScriptClause, ReadingClause, MediaClause, TellsFaults, CrashClause, FormatClause, HostClause, DrivesClause, OutputClause, TakesTranscript, LegalityClause, PlainClause, StatusClause, KeepsPromises}
+use Rattle.hsm_cli.specs.Clauses.{ScriptClause, ReadingClause, MediaClause, TellsFaults, CrashClause, FormatClause, HostClause, DrivesClause}
+use Rattle.hsm_cli.specs.Clauses.{OutputClause, TakesTranscript, LegalityClause, PlainClause, StatusClause, KeepsPromises}
 use Rattle.hsm_cli.proofs.Faults.{caused_none}
 use Rattle.hsm_cli.proofs.Legality.{legal_as}
 use Rattle.hsm_cli.proofs.Quiet.{faults_idle}

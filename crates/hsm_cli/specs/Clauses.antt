@@ -14,7 +14,7 @@ use Rattle.command_words.specs.Commands.{Form, Format, Replay, ReplayStore, Show
 use Rattle.commit_slots.specs.Images.{IsStore, IsEmptyStore}
 use Rattle.meta_store.specs.Images.{IsCorruptAt}
 use Rattle.plain_model.specs.declared.entries.Entry.{Entry}
-use Rattle.plain_model.specs.Render.{text_of}
+use Rattle.event_text.specs.Render.{text_of}
 use Rattle.plain_model.specs.Plain.{File}
 use Rattle.plain_model.specs.Faults.{has_fault}
 use Rattle.plain_model.specs.State.{Held, nothing_held, just_opened}
@@ -33,15 +33,16 @@ use Rattle.reconcile.specs.Classes.{AreRead}
 use Rattle.script_text.specs.Scripts.{IsScript, IsFirstBad}
 use Rattle.script_text.specs.declared.lines.Line.{Line}
 use Rattle.hsm_cli.specs.declared.causes.Cause.{Cause}
-use Rattle.hsm_cli.specs.declared.causes.Cause.TheVariants.{ScriptRefused, WordsRefused, NotStore, Corrupt, ReadFault, WriteFault, DiskFault, HostFault, NoMemory}
-use Rattle.hsm_cli.specs.declared.hosts.Host as host
+use Rattle.hsm_cli.specs.declared.causes.Cause.TheVariants.{ScriptRefused, WordsRefused, NotStore, Corrupt, ReadFault, WriteFault, DiskFault}
+use Rattle.hsm_cli.specs.declared.causes.Cause.TheVariants.{HostFault, NoMemory}
+use Rattle.hosts.specs.declared.outside.Host as host
 use Rattle.hsm_cli.specs.declared.outcomes.Outcome.{Outcome}
 use Rattle.hsm_cli.specs.Statuses.{status_of, place_of}
 use Rattle.hsm_cli.specs.Sources.{script_bytes, GivesFirst, GivesWhole}
 use Rattle.hsm_cli.specs.Openings.{opened_in, superblock_at, held_at, base_of}
 use Rattle.hsm_cli.specs.Daemons.{IsWellServedOver}
 use Rattle.hsm_cli.specs.Follows.{SettlesOn, RunsAll, RunsFirst, DrillsAll, DrillsFirst}
-use Rattle.hsm_cli.specs.Hosts.{IsHanded, AreHanded, HoldsNothing, HoldsOthers, HoldsAll, StoresNothing, StoresOthers, StoresAll}
+use Rattle.hosts.specs.Hosts.{IsHanded, AreHanded, HoldsNothing, HoldsOthers, HoldsAll, StoresNothing, StoresOthers, StoresAll}
 use Rattle.hsm_cli.specs.Sealing.{IsRightInMemory, IsRightInFolder}
 use Rattle.hsm_cli.specs.Texts.{IsUnwritten, TakesText, IsShown, AreUntold, AreCounted, shown_drives, shown_volumes, drill_text}
 use Rattle.hsm_cli.specs.Told.{SourceTold, SinkTold, HostTold, host_told}
@@ -118,8 +119,8 @@ pub record HasFailed {D : Type 0} (g : disk.Ghosts D) (given : Option D) : Type 
   pub back : given ≡ Some disk
   pub rose : Rose 0 (g.fault_count disk)
 
--- An answer for a fault of the disk comes only where the disk has failed, and then the run ends for that fault, or for want of memory. A run on a store that was opened ends
--- for a fault of the disk only where an entry says so.
+-- An answer for a fault of the disk comes only where the disk has failed, and then the run ends for that fault, or for want of memory. A run on a
+-- store that was opened ends for a fault of the disk only where an entry says so.
 pub record LegalityClause {D M : Type 0} (g : disk.Ghosts D) (o : Outcome D M) : Type 0 where
   pub from : IsGoodOver (opened_in o) o.history
   pub caused : has_fault o.history ≡ true → HasFailed g o.disk
@@ -143,8 +144,9 @@ IsDamage (Damaged volume object want got) = Unit {0}
 abbrev pub NoneFailed : List Fault → Type 0
 NoneFailed faults = AllByRecursion IsDamage faults
 
--- The faults of media that events were answered for. Drives in memory never fail. Of the drives of the host each has counted those of its volumes: their intervals
--- don't overlap, and end at or below what it counts in the end; it had counted none at first. And the payload that it gives of a damaged object is the one that was got.
+-- The faults of media that events were answered for. Drives in memory never fail. Of the drives of the host each has counted those of its volumes:
+-- their intervals don't overlap, and end at or below what it counts in the end; it had counted none at first. And the payload that it gives of a
+-- damaged object is the one that was got.
 abbrev pub TellsFaults : {M : Type 0} → drive.Ghosts M → Option Form → List M → List Fault → Type 0
 TellsFaults g (Some Replay) drives faults = NoneFailed faults
 TellsFaults g (Some (ReplayStore path dir)) drives faults = AreTrue g drives faults
@@ -523,10 +525,10 @@ abbrev pub LacksFor : {D M : Type 0} → drive.Ghosts M → Option Form → Outc
 LacksFor g (Some (ShowVolumes path dir)) o = LacksShown g o
 LacksFor g other o = Lacks o
 
--- When each status comes. Words that have no form are refused, and no others, but for want of memory. A disk that the host handed out is given back, and the host
--- has failed only where it didn't hand out one, or drives, or where a drive failed whose objects are counted. A store that was opened is the one that recovery finds
--- on what the host held. Where recovery finds nothing, the disk came and hasn't failed, that is told, or want of memory. And a run of a command that finds its
--- store and its script, and in which nothing fails, ends with status 0, or 8.
+-- When each status comes. Words that have no form are refused, and no others, but for want of memory. A disk that the host handed out is given
+-- back, and the host has failed only where it didn't hand out one, or drives, or where a drive failed whose objects are counted. A store that was
+-- opened is the one that recovery finds on what the host held. Where recovery finds nothing, the disk came and hasn't failed, that is told, or
+-- want of memory. And a run of a command that finds its store and its script, and in which nothing fails, ends with status 0, or 8.
 pub record StatusClause {D M : Type 0} (g : disk.Ghosts D) (h : drive.Ghosts M) (form : Option Form) (holds : List ℕ → List ℕ → Type 0) (source : SourceTold) (sink : SinkTold) (host : HostTold) (o : Outcome D M) : Type 0 where
   pub status : o.status ≡ status_of o.cause
   pub place : o.at ≡ place_of o.cause

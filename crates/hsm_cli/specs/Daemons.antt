@@ -13,10 +13,11 @@ use Rattle.marked_history.specs.Served.{Served}
 use Rattle.marked_history.specs.Tokens.{KeepsAll}
 use Rattle.hsm_cli.specs.Openings.{superblock_at, held_at, base_of}
 
--- Of a run on a store that held this when it was opened under that number. A daemon makes a session beside the others only where it was told all sessions, none
--- of which had its information then, and hasn't asked anew since; it takes the place of one only where it was told that this one has its information. At each
--- moment a daemon with a session keeps each event of its kinds that is outstanding to that session, but for those that lines of the script took: none is lost when
--- it is killed and started again. Each punch that is done frees just the mapped blocks of the segments that it names.
+-- Of a run on a store that held this when it was opened under that number. A daemon makes a session beside the others only where it was told all
+-- sessions, none of which had its information then, and hasn't asked anew since; it takes the place of one only where it was told that this one
+-- has its information. At each moment a daemon with a session keeps each event of its kinds that is outstanding to that session, but for those
+-- that lines of the script took: none is lost when it is killed and started again. Each punch that is done frees just the mapped blocks of the
+-- segments that it names.
 pub record IsWellServed (s : Superblock) (base : ℕ) (h : Held) (marks : List Mark) : Type 0 where
   pub anew : MakesAnew s (just_opened base h) marks
   pub over : TakesOver marks

@@ -1,9 +1,3 @@
-pub mod Counted
-pub mod Hosts
-pub mod MemHosts
-pub mod HostCode
-pub mod Files
-pub mod FileCalls
 pub mod Statuses
 pub mod Sources
 pub mod Openings

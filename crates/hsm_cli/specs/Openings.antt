@@ -1,6 +1,7 @@
 -- What a run begins with: the store that it opened, or a new one.
 use Rattle.std.specs.Prelude.{ℕ, Option, Some, None}
 use Rattle.std.specs.Option.{option_map}
+use Rattle.hsm_types.specs.Limits.{small_geometry}
 use Rattle.hsm_types.specs.declared.stores.Superblock.{Superblock}
 use Rattle.plain_model.specs.State.{Held, nothing_held}
 use Rattle.file_store.specs.Stores.{Store, superblock_of}
@@ -12,7 +13,7 @@ opened_in o = option_map (λ s. s.value) o.opening
 
 -- the store that `replay` makes in memory: small, with the file system id 1
 abbrev pub replay_store : Superblock
-replay_store = record { geometry = record { files = 64; blocks = 1024; attributes = 32768; stubs = 1024 }; fsid = 1 }
+replay_store = record { geometry = small_geometry; fsid = 1 }
 
 -- how that store was formatted
 abbrev pub superblock_at : {D : Type 0} → Option (Store D) → Superblock

@@ -19,7 +19,7 @@ use Rattle.marked_history.specs.Passing.{AllPassed}
 use Rattle.hsm_replay.specs.Passes.{CopyEnds}
 use Rattle.hsm_replay.specs.Sealed.{sealed_in, IsUnnamed, IsUnsealed, AreOfOthers, Tallies}
 use Rattle.marked_history.specs.Served.{shown, nothing_shown}
-use Rattle.hsm_cli.specs.Hosts.{AreHanded}
+use Rattle.hosts.specs.Hosts.{AreHanded}
 
 -- of drives that were opened as these, and are these now: what was sealed is on them, and passes are as they should be
 pub record TellsOf {M : Type 0} (g : drive.Ghosts M) (opened drives : List M) (marks : List Mark) : Type 0 where

@@ -4,10 +4,11 @@ use Rattle.disk_model.specs.declared.refusal.OpenRefusal.{OpenRefusal}
 use Rattle.disk_model.specs.declared.refusal.OpenRefusal.TheVariants as opening
 use Rattle.reconcile.specs.declared.refusals.ReconcileRefusal.{ReconcileRefusal}
 use Rattle.reconcile.specs.declared.refusals.ReconcileRefusal.TheVariants as counting
-use Rattle.hsm_cli.specs.declared.hosts.HostRefusal.{HostRefusal}
-use Rattle.hsm_cli.specs.declared.hosts.HostRefusal.TheVariants as handing
+use Rattle.hosts.specs.declared.outside.HostRefusal.{HostRefusal}
+use Rattle.hosts.specs.declared.outside.HostRefusal.TheVariants as handing
 use Rattle.hsm_cli.specs.declared.causes.Cause.{Cause}
-use Rattle.hsm_cli.specs.declared.causes.Cause.TheVariants.{ScriptRefused, WordsRefused, NotStore, Corrupt, ReadFault, WriteFault, DiskFault, HostFault, NoMemory}
+use Rattle.hsm_cli.specs.declared.causes.Cause.TheVariants.{ScriptRefused, WordsRefused, NotStore, Corrupt, ReadFault, WriteFault, DiskFault}
+use Rattle.hsm_cli.specs.declared.causes.Cause.TheVariants.{HostFault, NoMemory}
 
 abbrev pub status_of : Option Cause → ℕ
 status_of None = 0

@@ -1,6 +1,7 @@
 -- The texts of the programs that tell of a store, or of a drill.
 use Rattle.std.specs.Prelude.{ℕ, ◌≡◌, ◌+◌, ◌<◌, ◌%◌, List, length, take, slice_get, Option, Some, None, IfSome}
 use Rattle.std.specs.Io.KnownBytes.{Appends}
+use Rattle.hsm_types.specs.Limits.{most_volumes}
 use Rattle.hsm_types.specs.declared.tables.Table.{Table}
 use Rattle.media_model.specs.Objects.{Objects}
 use Rattle.media_model.specs.declared.drive.Drive as drive
@@ -50,7 +51,7 @@ AreUntold table classes = classes ≡ None
 
 -- how many volumes are looked at, from 0, and how many drives they are shared by
 abbrev pub shown_volumes : ℕ
-shown_volumes = 256
+shown_volumes = most_volumes
 
 abbrev pub shown_drives : ℕ
 shown_drives = 2

@@ -2,8 +2,8 @@
 ghost use Rattle.std.specs.Prelude.{◌≡◌};
 ghost use Rattle.hsm_cli.specs.Statuses.{status_of, place_of, cause_of_refusal, cause_of_host, cause_of_classes};
 
-use crate::hosts::HostRefusal;
 use disk_model::OpenRefusal;
+use hosts::HostRefusal;
 use reconcile::ReconcileRefusal;
 use std::alloc::AllocError;
 use thiserror::Error;

@@ -29,6 +29,7 @@ use crate::runs::run;
 use crate::streams::write_text;
 use disk_model::{Disk, SureDisk};
 use drill_script::{drill_script, summary_text};
+use hosts::Sink;
 use hsm_core::Hsm;
 use hsm_policy::Settings;
 use hsm_replay::{Replay, Stop, seals_are_whole};
@@ -37,7 +38,7 @@ use marked_history::{
 };
 use media_model::{Drive, SureDrive};
 use plain_model::History;
-use script_text::{Script, Sink};
+use script_text::Script;
 use std::alloc::{AllocError, Global};
 
 /// What a drill is run on.

@@ -1,10 +1,11 @@
 //! A run of a script on an opened store, from the source to the sink.
-ghost use Rattle.std.specs.Prelude.{◌≡◌, ◌≢◌, ◌⊎◌, ℕ, List, [], length, true, false, take, None, Some, IfOk, IfErr, IfSome, OnOk, OnErr, IsOk, IsErrOf, MatchResult};
+ghost use Rattle.std.specs.Prelude.{◌≡◌, ◌≢◌, ◌⊎◌, ℕ, List, [], length, true, false, take, None, Some, IfOk, IfErr, IfSome, OnOk, OnErr, IsOk};
+ghost use Rattle.std.specs.Prelude.{IsErrOf, MatchResult};
 ghost use Rattle.std.specs.Io.KnownBytes.{Appends, IsAtEnd};
 ghost use Rattle.disk_model.specs.Calls.{Rose};
 ghost use Rattle.disk_model.specs.Moments.{MayBe, LeavesOnly};
 ghost use Rattle.plain_model.specs.Faults.{has_fault};
-ghost use Rattle.plain_model.specs.Render.{text_of};
+ghost use Rattle.event_text.specs.Render.{text_of};
 ghost use Rattle.plain_model.specs.Synced.{synced};
 ghost use Rattle.hsm_core.specs.Crashes.{IsPrefix};
 ghost use Rattle.script_text.specs.Scripts.{IsScript};
@@ -25,7 +26,9 @@ use crate::causes::Cause;
 use crate::runs::run;
 use crate::streams::{read_all, write_all};
 use disk_model::Disk;
+use event_text::render;
 use file_store::{FileStore, one_recovery};
+use hosts::{Failed, Sink, Source};
 use hsm_core::Hsm;
 use hsm_policy::Settings;
 use hsm_replay::{Replay, Stop};
@@ -33,8 +36,8 @@ use marked_history::{
     punch_frees, served_is_caused, served_keeps_all, served_makes_anew, served_takes_over,
 };
 use media_model::Drive;
-use plain_model::{History, render};
-use script_text::{Failed, ParseRefusal, Script, Sink, Source, parse};
+use plain_model::History;
+use script_text::{ParseRefusal, Script, parse};
 use std::alloc::Global;
 use std::snapshot::Snapshot;
 

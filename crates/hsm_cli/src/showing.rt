@@ -7,30 +7,27 @@ ghost use Rattle.store_summary.specs.Shown.{ShowsText};
 ghost use Rattle.reconcile.specs.Classes.{AreRead, AreQuiet};
 ghost use Rattle.hsm_cli.specs.Outcomes.{ended_with};
 ghost use Rattle.hsm_cli.specs.Texts.{TakesText, IsShown, ShowsStore, AreUntold, AreCounted, GivesVolume};
-ghost use Rattle.hsm_cli.specs.Hosts.{StoresAll};
+ghost use Rattle.hosts.specs.Hosts.{StoresAll};
 ghost use Rattle.hsm_cli.specs.Told.{sink_told};
 ghost use Rattle.hsm_cli.specs.Endings.{cause_in, WritingEnds, ShowEnds, CountingEnds};
-ghost use Rattle.hsm_cli.specs.Clauses.{OnlyReads, HandsOut, HandsDrives, HasFailed, HasDriveFailed, FindsNothing, GivesShown, AsksShown, LacksShown, NeverFailed};
+ghost use Rattle.hsm_cli.specs.Clauses.{OnlyReads, HandsOut, HandsDrives, HasFailed, HasDriveFailed, FindsNothing, GivesShown, AsksShown, LacksShown};
+ghost use Rattle.hsm_cli.specs.Clauses.{NeverFailed};
 
 use crate::causes::Cause;
-use crate::hosts::Host;
 use crate::outcomes::Outcome;
 use crate::streams::write_text;
 use disk_model::Disk;
+use hosts::{Host, Sink};
 use hsm_core::inspect;
 use hsm_policy::Settings;
-use hsm_types::ListOf;
+use hsm_types::{ListOf, MOST_VOLUMES};
 use media_model::Drive;
 use reconcile::classes;
-use script_text::Sink;
 use std::alloc::Global;
 use store_summary::{ClassCounts, Summary, show_text};
 
 /// How many drives the volumes are shared by.
 const DRIVES: u32 = 2;
-
-/// How many volumes are looked at.
-const VOLUMES: u32 = 256;
 
 /// Writes what the store of a disk of the host is. The disk comes back as it was.
 pub(crate) fn show<H: Host, O: Sink>(
@@ -107,7 +104,7 @@ pub(crate) fn show_volumes<H: Host, O: Sink>(
         Err(refusal) => return Outcome::unopened(alloc, Some(Cause::from(refusal)), Some(disk)),
     };
     let capacity = Settings::default().capacity();
-    let mut drives = match host.drives(dir, DRIVES, VOLUMES, capacity) {
+    let mut drives = match host.drives(dir, DRIVES, MOST_VOLUMES, capacity) {
         Ok(drives) => drives,
         Err(refusal) => return Outcome::unopened(alloc, Some(Cause::from(refusal)), Some(disk)),
     };
@@ -131,7 +128,7 @@ fn show_classes<M: Drive, O: Sink>(
     ensures quiet { (IsErrOf result Cause.HostFault → ⊥) → AreQuiet M.Drive drives.old drives.new }
     ensures ends { IfErr result (CountingEnds (HasDriveFailed M.Drive drives.new) (sink_told O.taken O.fault_count sink.old sink.new)) }
 {
-    let counts = classes(alloc, &summary.table, drives, VOLUMES)?;
+    let counts = classes(alloc, &summary.table, drives, MOST_VOLUMES)?;
     write_summary(alloc, summary, Some(&counts), sink)
 }
 

@@ -1,18 +1,19 @@
 //! Whole inputs and outputs over sources and sinks.
 ghost use Rattle.std.specs.Prelude.{◌≡◌, ◌<◌, ◌≤◌, ◌++◌, ◌⊎◌, take, length, ℕ, [], IfOk, IfSome, OnOk, OnErr, IsErrOf, IfErr};
 ghost use Rattle.std.specs.Io.KnownBytes.{Consumes, Appends, IsAtEnd};
-ghost use Rattle.script_text.specs.Causes.{Rose};
+ghost use Rattle.hosts.specs.Causes.{Rose};
 ghost use Rattle.hsm_cli.specs.Sources.{script_bytes, ReadsMore, GivesMore, GivesFirst};
 ghost use Rattle.hsm_cli.specs.Texts.{TakesText};
 ghost use Rattle.hsm_cli.specs.Told.{sink_told};
 ghost use Rattle.hsm_cli.specs.Endings.{cause_in, WritingEnds};
 
 use crate::causes::Cause;
-use script_text::{Failed, Sink, Source};
+use hosts::{Failed, Sink, Source};
+use script_text::LONGEST_SCRIPT;
 use std::alloc::Global;
 
 /// One byte more than any script has.
-const SCRIPT_BYTES: usize = 409700001;
+const MOST_READ: usize = LONGEST_SCRIPT + 1;
 
 /// How much is asked of a source at a time.
 const PIECE_BYTES: usize = 16384;
@@ -20,7 +21,7 @@ const PIECE_BYTES: usize = 16384;
 /// Reads a source to its end, or as far as a script may go. It is refused `ReadFault` or `NoMemory`, and has no fault but the one that it tells.
 pub fn read_all<I: Source>(alloc: Global, source: &mut I) -> Result<Vec<u8>, Cause>
     ensures bytes { IfOk result (λ bytes. IfSome (I.left source.old) (λ all. bytes.items ≡ script_bytes all)) }
-    ensures ended { IfOk result (λ bytes. length bytes.items ≤ 409700000 → IsAtEnd (I.left source.new)) }
+    ensures ended { IfOk result (λ bytes. length bytes.items ≤ LONGEST_SCRIPT → IsAtEnd (I.left source.new)) }
     ensures taken { IfOk result (λ bytes. Consumes (I.left source.old) (I.left source.new) bytes.items) }
     ensures part { GivesFirst (I.left source.old) (I.left source.new) }
     ensures causes { IfErr result (λ why. (why ≡ Cause.ReadFault) ⊎ (why ≡ Cause.NoMemory)) }
@@ -28,7 +29,7 @@ pub fn read_all<I: Source>(alloc: Global, source: &mut I) -> Result<Vec<u8>, Cau
     ensures quiet { (IsErrOf result Cause.ReadFault → ⊥) → I.fault_count source.new ≡ I.fault_count source.old }
 {
     let mut bytes = Vec::new(alloc);
-    while bytes.len() < SCRIPT_BYTES {
+    while bytes.len() < MOST_READ {
         let count = read_some(source, &mut bytes)?;
         if count == 0 {
             return Ok(bytes);
@@ -39,7 +40,7 @@ pub fn read_all<I: Source>(alloc: Global, source: &mut I) -> Result<Vec<u8>, Cau
 
 /// Reads one piece more, and says how long it is.
 fn read_some<I: Source>(source: &mut I, bytes: &mut Vec<u8>) -> Result<usize, Cause>
-    requires { length bytes.old.items < 409700001 }
+    requires { length bytes.old.items < MOST_READ }
     ensures more { IfOk result (λ n. ReadsMore (I.left source.old) (I.left source.new) bytes.old.items bytes.new.items n) }
     ensures taken { OnErr result (GivesMore (I.left source.old) (I.left source.new) bytes.old.items) }
     ensures causes { IfErr result (λ why. (why ≡ Cause.ReadFault) ⊎ (why ≡ Cause.NoMemory)) }
@@ -47,7 +48,7 @@ fn read_some<I: Source>(source: &mut I, bytes: &mut Vec<u8>) -> Result<usize, Ca
     ensures quiet { (IsErrOf result Cause.ReadFault → ⊥) → I.fault_count source.new ≡ I.fault_count source.old }
 {
     let mut piece = [0u8; PIECE_BYTES];
-    let room = PIECE_BYTES.min(SCRIPT_BYTES - bytes.len());
+    let room = PIECE_BYTES.min(MOST_READ - bytes.len());
     match source.read(&mut piece[..room]) {
         Ok(count) => {
             push(bytes, &piece[..count])?;

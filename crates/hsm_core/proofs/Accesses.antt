@@ -1,8 +1,7 @@
 -- What is said of an access is what the model says of it.
-use Rattle.std.proofs.Common.{◌≡◌, ◌+◌, ℕ, [], ◌∷◌, Bool, true, false, Option, Some, None, refl, sym, ◌∙◌, ap, arith}
+use Rattle.std.proofs.Common.{◌≡◌, ◌+◌, ℕ, [], ◌∷◌, Bool, true, false, Option, Some, None, refl, sym, ◌∙◌, ap}
 use Rattle.std.proofs.lemmas.Bool.{eqb-true}
-use Rattle.std.proofs.lemmas.Bool.Decides.{nat_tests}
-use Rattle.std.specs.Prelude.{◌==◌, ◌||◌, nat_lt, if◌then◌else◌}
+use Rattle.std.specs.Prelude.{◌==◌, ◌||◌, if◌then◌else◌}
 use Rattle.std.specs.Option.{option_map}
 use Rattle.hsm_types.specs.Refusals.{first_refusal}
 use Rattle.hsm_types.specs.Sessions.{SessionTable, posted}
@@ -19,11 +18,13 @@ use Rattle.hsm_types.specs.declared.dm.Response.{Response}
 use Rattle.hsm_types.specs.declared.dm.Response.TheVariants.{Continue, Abort, Media}
 use Rattle.plain_model.specs.declared.facts.Facts.{Facts}
 use Rattle.plain_model.specs.declared.facts.NoRoom.{NoRoom}
-use Rattle.plain_model.specs.Keyed.{set_at}
+use Rattle.hsm_types.specs.Keyed.{set_at}
 use Rattle.plain_model.specs.Accesses.{told_span, event_message}
 use Rattle.plain_model.specs.Ledger.{Ledger, Means, next_token, aborted, gone, ledger_replied}
 use Rattle.plain_model.specs.State.{Held, Flags, no_flags, State, noted}
-use Rattle.plain_model.specs.Verdict.{Verdict as Ruled, Ruling, Blocks, Posts, done_held, stamps_by, Lacks, Ends, Rules, is_no_space, conflicting, touching, needing, lacking, rulings, facts_of, shortage, verdict, judgement, message_of, reply_by, reply_where, left_by_verdict, state_where}
+use Rattle.plain_model.specs.Verdict.{Verdict as Ruled, Ruling, Blocks, Posts, done_held, stamps_by, Lacks, Ends, Rules, is_no_space, conflicting}
+use Rattle.plain_model.specs.Verdict.{touching, needing, lacking, rulings, facts_of, shortage, verdict, judgement, message_of, reply_by, reply_where}
+use Rattle.plain_model.specs.Verdict.{left_by_verdict, state_where}
 use Rattle.access_park.specs.declared.access.Access.{Access}
 use Rattle.dm_service.specs.declared.verdict.Verdict.{Verdict}
 use Rattle.dm_service.specs.declared.verdict.Verdict.TheVariants.{Answered, Missing, Block, Post, NoSpace, Complete}
@@ -134,14 +135,6 @@ module _ (s : Superblock) (st : State) (c : ℕ) (fl : Flags) (k : FileKey) (cal
 
     pub said_left : left_said s st c fl k call said ≡ state_where s st c fl (opposed answer facts.live) (Means k call)
     said_left = (by_rules answer facts.live (conflicting st.rights k call) (touching fl facts call) (needing fl facts call) (lacking fl facts st.sessions)).left ∙ left_same (opposed answer facts.live) (rules facts) same_rules
-
--- ---- creates and syncs, which never wait
-
-abbrev no_room : ℕ → ℕ → NoRoom
-no_room need free = record { need = need; free = free }
-
-no_lack : (need free : ℕ) → need ≡ 0 → (if nat_lt free need then Some (no_room need free) else None) ≡ None
-no_lack need free none = let no_less : nat_lt free need ≡ false = grind (arith, nat_tests, none) in rw no_less refl
 
 -- ---- what is left of the tables
 

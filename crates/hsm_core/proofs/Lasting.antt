@@ -28,11 +28,12 @@ use Rattle.plain_model.specs.declared.entries.Actor.TheVariants.{Caller, Session
 use Rattle.plain_model.specs.declared.entries.Action.{Action}
 use Rattle.plain_model.specs.declared.entries.Action.TheVariants.{Issue, Resume, Dm}
 use Rattle.plain_model.specs.declared.facts.NoRoom.{NoRoom}
-use Rattle.plain_model.specs.Keyed.{set_at}
+use Rattle.hsm_types.specs.Keyed.{set_at}
 use Rattle.plain_model.specs.Ledger.{Access, Ledger, Meant, Fixed, Means, issued, goes_on, resumed, objection_again, kept, waits_for, answered, ledger_told}
 use Rattle.plain_model.specs.Plain.{refusal_of}
 use Rattle.plain_model.specs.State.{Flags, State, names_of}
-use Rattle.plain_model.specs.Verdict.{Ruling, Blocks, Posts, Lacks, Verdict, posts, without_room, short_of, is_taken, facts_of, shortage, verdict, flags_now, left_by_verdict, state_where}
+use Rattle.plain_model.specs.Verdict.{Ruling, Blocks, Posts, Lacks, Verdict, posts, without_room, short_of, is_taken, facts_of, shortage, verdict}
+use Rattle.plain_model.specs.Verdict.{flags_now, left_by_verdict, state_where}
 use Rattle.plain_model.specs.Services.{service, dm_judged, dm_state_where}
 use Rattle.plain_model.specs.Exact.{left_own}
 use Rattle.hsm_core.specs.Targets.{IsOnFile, MayLast, EachLasts}

@@ -16,6 +16,7 @@ pub mod Syncs
 pub mod Runs
 pub mod Safety
 pub mod Events
+pub mod Packing
 pub mod Readiness
 pub mod Sending
 pub mod Summaries

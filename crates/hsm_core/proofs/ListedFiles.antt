@@ -3,7 +3,7 @@ use Rattle.std.proofs.Common.{◌≡◌, List, [], ◌∷◌, Bool, true, false,
 use Rattle.std.specs.Prelude.{map, is_some, if◌then◌else◌}
 use Rattle.std.specs.Option.{option_map}
 use Rattle.hsm_types.specs.declared.keys.FileKey.{FileKey}
-use Rattle.plain_model.specs.Keyed.{same_key, find_key}
+use Rattle.hsm_types.specs.Keyed.{same_key, find_key}
 use Rattle.plain_model.specs.Plain.{Listed}
 use Rattle.plain_model.specs.State.{Held}
 use Rattle.inode_table.specs.declared.entries.FileEntry.{FileEntry}

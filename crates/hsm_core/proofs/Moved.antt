@@ -8,7 +8,7 @@ use Rattle.std.specs.Str.{bytes_eq}
 use Rattle.disk_model.specs.declared.device.Disk as disk
 use Rattle.hsm_types.specs.Refusals.{first_refusal}
 use Rattle.hsm_types.specs.Segments.{segment_len, segments_in}
-use Rattle.hsm_types.specs.Stubs.{FitsFile, print_of, stub_at, any_unpunched}
+use Rattle.hsm_types.specs.Stubs.{FitsFile, print_of, stub_at, any_unpunched, entry_print}
 use Rattle.hsm_types.specs.declared.keys.FileKey.{FileKey}
 use Rattle.hsm_types.specs.declared.stubs.Fingerprint.{Fingerprint}
 use Rattle.hsm_types.specs.declared.stubs.Stub.{Stub}
@@ -18,7 +18,7 @@ use Rattle.hsm_types.specs.declared.dm.DmRefusal.{DmRefusal}
 use Rattle.hsm_types.specs.declared.dm.DmReply.{DmReply}
 use Rattle.hsm_types.specs.declared.dm.DmReply.TheVariants as reply
 use Rattle.plain_model.specs.Effects.{Effect, OfFile, change_of, punch_from, punch_to}
-use Rattle.plain_model.specs.Keyed.{find_key}
+use Rattle.hsm_types.specs.Keyed.{find_key}
 use Rattle.plain_model.specs.Plain.{segment}
 use Rattle.plain_model.specs.Segments.{bad_punch, same_print, punch_refusal, seal_refusal}
 use Rattle.plain_model.specs.Services.{kept_of}
@@ -65,15 +65,15 @@ stubbed_file k fs j stub None is each at = absurd cc
 stubbed_file k fs j stub (Some f) is each at = each-at (FitsFile (length f.body) f.kept.regions) f.kept.stubs j stub (each_held IsStubbed k f fs each is).each at
 
 -- an entry has the length of its segment
-pub entry_len : (limit : ℕ) (h : Held) (k : FileKey) (j : ℕ) → IsLawful limit h → IfSome (stub_at j (kept_of k h.files).stubs) (λ stub. stub.entry.print.len ≡ segment_len (length (bytes_of k h.files)) j)
+pub entry_len : (limit : ℕ) (h : Held) (k : FileKey) (j : ℕ) → IsLawful limit h → IfSome (stub_at j (kept_of k h.files).stubs) (λ stub. (entry_print stub.entry).len ≡ segment_len (length (bytes_of k h.files)) j)
 entry_len limit h k j lawful = by (stub_at j (kept_of k h.files).stubs) refl
   where
-    by : (o : Option Stub) → stub_at j (kept_of k h.files).stubs ≡ o → IfSome o (λ stub. stub.entry.print.len ≡ segment_len (length (bytes_of k h.files)) j)
+    by : (o : Option Stub) → stub_at j (kept_of k h.files).stubs ≡ o → IfSome o (λ stub. (entry_print stub.entry).len ≡ segment_len (length (bytes_of k h.files)) j)
     by None at = tt
     by (Some stub) at = (stubbed_file k h.files j stub (find_key (λ x. x.key) k h.files) refl lawful.stubs at).len
 
 -- so have the bytes that come back
-pub restored_len : (stub : Option Stub) (entry : StubEntry) (bytes : List ℕ) (n : ℕ) → state_of stub ≡ Away entry → IfSome stub (λ stub. stub.entry.print.len ≡ n) → entry.print ≡ print_of bytes → length bytes ≡ n
+pub restored_len : (stub : Option Stub) (entry : StubEntry) (bytes : List ℕ) (n : ℕ) → state_of stub ≡ Away entry → IfSome stub (λ stub. (entry_print stub.entry).len ≡ n) → entry_print entry ≡ print_of bytes → length bytes ≡ n
 restored_len None entry bytes n is len print = absurd cc
 restored_len (Some x) entry bytes n is len print = by x.offline is
   where

@@ -18,7 +18,7 @@ use Rattle.hsm_types.specs.declared.dm.Response.{Response}
 use Rattle.hsm_types.specs.declared.dm.Response.TheVariants.{Continue, Abort, Media}
 use Rattle.plain_model.specs.declared.facts.Facts.{Facts}
 use Rattle.plain_model.specs.declared.facts.NoRoom.{NoRoom}
-use Rattle.plain_model.specs.Keyed.{find_key}
+use Rattle.hsm_types.specs.Keyed.{find_key}
 use Rattle.plain_model.specs.Accesses.{need_of, kind_of}
 use Rattle.plain_model.specs.Ledger.{Means, goes_on, resumed, aborted, gone, objection_again}
 use Rattle.plain_model.specs.Plain.{has_key}

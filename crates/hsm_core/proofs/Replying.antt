@@ -15,12 +15,13 @@ use Rattle.hsm_types.specs.declared.dm.Kind.{Kind}
 use Rattle.plain_model.specs.declared.entries.Action.{Action}
 use Rattle.plain_model.specs.declared.entries.Action.TheVariants.{Issue, Resume}
 use Rattle.plain_model.specs.declared.facts.Facts.{Facts}
-use Rattle.plain_model.specs.Keyed.{same_key, find_key}
+use Rattle.hsm_types.specs.Keyed.{same_key, find_key}
 use Rattle.plain_model.specs.Accesses.{told_span}
 use Rattle.plain_model.specs.Ledger.{Means, next_token, goes_on, aborted, gone, issued, resumed, objection_again}
 use Rattle.plain_model.specs.Plain.{Listed, has_key, refusal_of, key_meant}
 use Rattle.plain_model.specs.State.{FileState, Held, no_flags, State, names_of}
-use Rattle.plain_model.specs.Verdict.{facts_of, judgement, verdict, done_reply, done_held, stamps_by, reply_by, reply_where, reply_to, left_by_verdict, state_where, state_after}
+use Rattle.plain_model.specs.Verdict.{facts_of, judgement, verdict, done_reply, done_held, stamps_by, reply_by, reply_where, reply_to}
+use Rattle.plain_model.specs.Verdict.{left_by_verdict, state_where, state_after}
 use Rattle.access_park.specs.declared.access.Access.{Access}
 use Rattle.dm_service.specs.declared.verdict.Verdict.{Verdict}
 use Rattle.dm_service.specs.declared.verdict.Verdict.TheVariants.{Answered, Missing, Block, Post, NoSpace, Complete}

@@ -18,15 +18,17 @@ use Rattle.dm_service.specs.Tables.{Tables, waiting, is_open, pending_as, ledger
 use Rattle.hsm_core.specs.Targets.{MayLast, EachLasts}
 use Rattle.hsm_core.specs.Store.{Store, state_of, HasRun}
 use Rattle.hsm_core.specs.Kept.{IsKept}
+use Rattle.hsm_core.specs.Packed.{ArePacked}
 
 -- the store is formatted as it was
 pub formatted_as : {D : Type 0} (s : Store D) → HasRun s → superblock_of s.files ≡ superblock_of s.opened
 formatted_as s has = rw (has.geometry, has.fsid) refl
 
-pub kept : ((s : Superblock) (base : ℕ) (h : Held) (es : List Entry) → RunIsGood s base h es) → {D : Type 0} (s : Store D) → HasRun s → IsKept s
-kept good s has = record {
+pub kept : ((s : Superblock) (base : ℕ) (h : Held) (es : List Entry) → RunIsGood s base h es) → {D : Type 0} (s : Store D) → HasRun s → ArePacked (superblock_of s.opened) (just_opened s.opened.meta.number s.opened.held) s.history → IsKept s
+kept good s has packed = record {
   superblock = formatted_as s has;
   good = good (superblock_of s.opened) s.opened.meta.number s.opened.held s.history has.run;
+  packed = packed;
   faultless = has.faultless;
   state = has.state;
 }

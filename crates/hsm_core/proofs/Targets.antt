@@ -3,6 +3,7 @@ use Rattle.std.proofs.Common.{◌≡◌, ◌≤◌, ◌+◌, ◌-◌, ◌^◌, �
 use Rattle.std.proofs.lemmas.Bool.Decides.{nat_tests}
 use Rattle.std.specs.Prelude.{◌&&◌, not, nat_lt, nat_le, if◌then◌else◌, IsSomeAnd}
 use Rattle.std.specs.Option.{option_map}
+use Rattle.hsm_types.specs.Limits.{file_bytes, access_bytes, last_error}
 use Rattle.hsm_types.specs.Messages.{no_token, is_lawful}
 use Rattle.hsm_types.specs.Refusals.{first_refusal}
 use Rattle.hsm_types.specs.Rights.{Rights, conflict}
@@ -23,7 +24,8 @@ use Rattle.plain_model.specs.Accesses.{need_of, kind_of}
 use Rattle.plain_model.specs.Ledger.{aborted, gone}
 use Rattle.plain_model.specs.Plain.{Listed, bad_name, bad_length, missing, too_big, refusal_of, key_meant}
 use Rattle.plain_model.specs.State.{FileState, Flags, names_of}
-use Rattle.plain_model.specs.Verdict.{Verdict as Ruled, Blocks, Posts, Lacks, Ends, Rules, posts, conflicting, touching, needing, without_room, lacking, rulings, is_taken, judgement}
+use Rattle.plain_model.specs.Verdict.{Verdict as Ruled, Blocks, Posts, Lacks, Ends, Rules, posts, conflicting, touching, needing, without_room}
+use Rattle.plain_model.specs.Verdict.{lacking, rulings, is_taken, judgement}
 use Rattle.plain_model.proofs.Judged.{none_first, passes}
 use Rattle.access_park.specs.Pending.{is_lawful_answer}
 use Rattle.dm_service.specs.declared.verdict.Verdict.{Verdict}
@@ -31,7 +33,7 @@ use Rattle.dm_service.specs.declared.verdict.Verdict.TheVariants.{Answered, Post
 use Rattle.dm_service.specs.Judging.{verdict_of}
 use Rattle.hsm_core.specs.declared.judging.Target.{Target}
 use Rattle.hsm_core.specs.Outcomes.{is_abort, IsAbort, MayAsk}
-use Rattle.hsm_core.specs.Targets.{IsTarget, IsOn, IsMeant, IsBounded, MayDo, IsOnFile, MayLast, key_in}
+use Rattle.hsm_core.specs.Targets.{IsTarget, IsOn, IsMeant, IsBounded, IsOnFile, key_in}
 
 -- ---- the file of a call
 
@@ -72,10 +74,10 @@ both_of true b is = (refl, is)
 both_of false b is = cc
 
 some_bytes : (len : ℕ) → bad_length len ≡ None → 1 ≤ len
-some_bytes len none = let in_range = both_of (nat_le 1 len) (nat_le len 65536) (passes (nat_le 1 len && nat_le len 65536) (BadLength len) none) in let least = in_range.0 in grind (arith, nat_tests, least)
+some_bytes len none = let in_range = both_of (nat_le 1 len) (nat_le len access_bytes) (passes (nat_le 1 len && nat_le len access_bytes) (BadLength len) none) in let least = in_range.0 in grind (arith, nat_tests, least)
 
-within : (end : ℕ) → too_big end ≡ None → end ≤ 16777216
-within end none = elim (nat_lt 16777216 end) as (λ b. nat_lt 16777216 end ≡ b → (if b then Some (TooBig (min end (2 ^ 64 - 1))) else None) ≡ None → end ≤ 16777216) [
+within : (end : ℕ) → too_big end ≡ None → end ≤ file_bytes
+within end none = elim (nat_lt file_bytes end) as (λ b. nat_lt file_bytes end ≡ b → (if b then Some (TooBig (min end (2 ^ 64 - 1))) else None) ≡ None → end ≤ file_bytes) [
   | true ↦ λ past is. cc
   | false ↦ λ not_past is. grind (arith, nat_tests, not_past)
 ] refl none
@@ -95,14 +97,6 @@ bounded s files (Read name offset len) none = tt
 bounded s files (Remove name) none = tt
 bounded s files (Stat name) none = tt
 bounded s files Sync none = tt
-
-pub may_do : (s : Superblock) (files : List FileState) (call : Call) → refusal_of s (names_of files) call ≡ None → MayDo s files call
-may_do s files (Create name) none = none
-may_do s files call none = bounded s (names_of files) call none
-
-pub may_still : (s : Superblock) (files : List FileState) (call : Call) → MayLast call → MayDo s files call
-may_still s files (Create name) last = absurd last.0
-may_still s files call last = last.1
 
 -- ---- what a verdict says
 
@@ -153,8 +147,8 @@ no_lack false (Some room) is = cc
 
 -- ---- an access that was aborted
 
-lawful_abort : (error : ℕ) → is_lawful (Abort error) ≡ true → error ≤ 255
-lawful_abort error is = let most = (both_of (nat_le 1 error) (nat_le error 255) is).1 in grind (arith, nat_tests, most)
+lawful_abort : (error : ℕ) → is_lawful (Abort error) ≡ true → error ≤ last_error
+lawful_abort error is = let most = (both_of (nat_le 1 error) (nat_le error last_error) is).1 in grind (arith, nat_tests, most)
 
 never_answered : (v : Ruled) (response : Response) → verdict_of (first_refusal (option_map Rules v ∷ [])) ≡ Answered response → ⊥
 never_answered None response is = cc

@@ -1,13 +1,15 @@
 -- What is told of the segments of a file, and of all files.
-use Rattle.std.proofs.Common.{◌≡◌, ◌+◌, ◌-◌, ◌*◌, ℕ, zero, suc, List, [], ◌∷◌, ◌++◌, length, take, drop, map, Bool, true, false, Option, Some, None, cond, refl, sym, ◌∙◌, ap, subst, arith}
+use Rattle.std.proofs.Common.{◌≡◌, ◌+◌, ◌-◌, ◌*◌, ℕ, zero, suc, List, [], ◌∷◌, ◌++◌, length, take, drop, map, Bool, true, false, Option, Some, None}
+use Rattle.std.proofs.Common.{cond, refl, sym, ◌∙◌, ap, subst, arith}
 use Rattle.std.specs.List.{fold}
 use Rattle.std.specs.Prelude.{count_by, is_some, if◌then◌else◌, slice_get}
 use Rattle.std.specs.Option.{option_map}
-use Rattle.hsm_types.specs.Segments.{from_on, segments_in}
+use Rattle.hsm_types.specs.Limits.{segment_blocks}
+use Rattle.hsm_types.specs.Segments.{from_on}
 use Rattle.hsm_types.specs.Stubs.{Stubs, stub_at}
 use Rattle.hsm_types.specs.declared.keys.FileKey.{FileKey}
 use Rattle.hsm_types.specs.declared.stubs.Segment.{Segment}
-use Rattle.plain_model.specs.Keyed.{same_key, find_key}
+use Rattle.hsm_types.specs.Keyed.{same_key, find_key}
 use Rattle.hsm_types.specs.declared.stores.Superblock.{Superblock}
 use Rattle.hsm_types.specs.declared.tables.FileRow.{FileRow}
 use Rattle.plain_model.specs.Segments.{segment_as, segments_told}
@@ -22,7 +24,7 @@ use Rattle.hsm_core.specs.Services.{IsMadeOf}
 
 -- what is told of a segment, by the places of the file's blocks and its entries
 abbrev pub told_at : List (Option ℕ) → Stubs → ℕ → Segment
-told_at places stubs j = segment_as (count_by (λ b. b) (take 16 (drop (16 * j) (map is_some places)))) (stub_at j stubs)
+told_at places stubs j = segment_as (count_by (λ b. b) (take segment_blocks (drop (segment_blocks * j) (map is_some places)))) (stub_at j stubs)
 
 one_more : {A : Type 0} (to : ℕ → A) (a n : ℕ) → map to (from_on a (n + 1)) ≡ map to (from_on a n) ++ to (a + n) ∷ []
 one_more to a n = ap (λ m. map to (from_on a m)) (let is : n + 1 ≡ suc n = omega arith in is) ∙ by a n
@@ -35,15 +37,7 @@ one_more to a n = ap (λ m. map to (from_on a m)) (let is : n + 1 ≡ suc n = om
 pub next_told : {A : Type 0} (to : ℕ → A) (n : ℕ) → map to (from_on 0 (n + 1)) ≡ map to (from_on 0 n) ++ to n ∷ []
 next_told to n = one_more to 0 n ∙ ap (λ m. map to (from_on 0 n) ++ to m ∷ []) (let at : 0 + n ≡ n = omega arith in at)
 
-pub told_so : (size : ℕ) (places : List (Option ℕ)) (stubs : Stubs) (f : FileState) → IsMadeOf size places stubs f → map (told_at places stubs) (from_on 0 (segments_in size)) ≡ segments_told f
-told_so size places stubs f made =
-    λ i. map (λ j. segment_as (count_by (λ b. b) (take 16 (drop (16 * j) (sym made.mapped i)))) (stub_at j (sym made.stubs i))) (from_on 0 (segments_in (sym made.size i)))
-
 -- ---- a file that the catalog lists
-
--- rows that are alike stand for files alike
-abbrev pub IsRowOf : CatalogFile → FileState → Type 0
-IsRowOf c f = row_of c ≡ row_held f
 
 pub made_of_row : (c : CatalogFile) (f : FileState) → row_of c ≡ row_held f → IsMadeOf c.size c.places c.kept.stubs f
 made_of_row c f same = record { size = sym (ap (λ (r : Row). r.size) same); mapped = sym (ap (λ (r : Row). r.mapped) same); stubs = sym (ap (λ (r : Row). r.kept.stubs) same) }
@@ -106,10 +100,10 @@ length-present places = omega (arith, from 0 places)
     from n (None ∷ places) = let more = from (n + 0) places in omega arith
     from n (Some at ∷ places) = let more = from (n + 1) places in omega arith
 
-pub mapped_places : (j : ℕ) (places : List (Option ℕ)) → length (present (places_in_segment j places)) ≡ count_by (λ b. b) (take 16 (drop (16 * j) (map is_some places)))
+pub mapped_places : (j : ℕ) (places : List (Option ℕ)) → length (present (places_in_segment j places)) ≡ count_by (λ b. b) (take segment_blocks (drop (segment_blocks * j) (map is_some places)))
 mapped_places j places =
     length-present (places_in_segment j places)
-    ∙ ap (λ bs. count_by (λ b. b) bs) (sym (take-map is_some 16 (drop (16 * j) places)) ∙ ap (take 16) (sym (drop-map is_some (16 * j) places)))
+    ∙ ap (λ bs. count_by (λ b. b) bs) (sym (take-map is_some segment_blocks (drop (segment_blocks * j) places)) ∙ ap (take segment_blocks) (sym (drop-map is_some (segment_blocks * j) places)))
 
 -- with the row of that file after those of the files before it
 pub row_more : {A : Type 0} (to : FileState → A) (fs : List FileState) (i : ℕ) (f : FileState) (rows more : List A) (row : A) → more ≡ rows ++ row ∷ [] → rows ≡ map to (take i fs) → row ≡ to f → take (i + 1) fs ≡ take i fs ++ f ∷ []

@@ -9,7 +9,7 @@ use Rattle.hsm_types.specs.declared.stores.Superblock.{Superblock}
 use Rattle.hsm_types.proofs.Stubbing.{away_covered}
 use Rattle.plain_model.specs.declared.facts.Facts.{Facts}
 use Rattle.plain_model.specs.Effects.{effect_of}
-use Rattle.plain_model.specs.Keyed.{same_key, find_key}
+use Rattle.hsm_types.specs.Keyed.{same_key, find_key}
 use Rattle.plain_model.specs.Sound.{IsSound}
 use Rattle.plain_model.specs.State.{FileState, Held, Flags, file_or_new, file_at}
 use Rattle.plain_model.specs.Verdict.{touching, needing}

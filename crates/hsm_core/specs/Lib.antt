@@ -6,5 +6,6 @@ pub mod Services
 pub mod Outcomes
 pub mod Answers
 pub mod Ready
+pub mod Packed
 pub mod Kept
 pub mod Summaries

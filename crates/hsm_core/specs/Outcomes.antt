@@ -1,6 +1,7 @@
 -- What comes of an access by what was said of it, and how a caller's event is answered.
 use Rattle.std.specs.Prelude.{ℕ, ◌≡◌, ◌≢◌, ◌+◌, ◌≤◌, Bool, true, false, not, ◌&&◌, List, Option, Some, None, is_none, IfSome, Result, IfOk, OnOk, OnErr, IsOk}
 use Rattle.disk_model.specs.declared.device.Disk as disk
+use Rattle.hsm_types.specs.Limits.{last_error}
 use Rattle.hsm_types.specs.declared.keys.FileKey.{FileKey}
 use Rattle.hsm_types.specs.declared.calls.Call.{Call}
 use Rattle.hsm_types.specs.declared.calls.CallRefusal.{CallRefusal}
@@ -49,7 +50,7 @@ IfAborted waits P = IfSome waits (λ a. IfSome (aborted a.answer) P)
 -- an abort by an error that a caller can be told, or by a fault
 abbrev pub IsAbort : Response → Type 0
 IsAbort Continue = ⊥
-IsAbort (Abort error) = error ≤ 255
+IsAbort (Abort error) = error ≤ last_error
 IsAbort (Media fault) = Unit {0}
 
 -- An event of that kind may be posted for the call

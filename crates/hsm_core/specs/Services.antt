@@ -13,7 +13,7 @@ use Rattle.hsm_types.specs.declared.dm.DmCall.TheVariants.{SetRegion, SetDmAttr,
 use Rattle.hsm_types.specs.declared.dm.DmRefusal.{DmRefusal}
 use Rattle.hsm_types.specs.declared.dm.DmReply.{DmReply}
 use Rattle.hsm_types.specs.declared.dm.DmReply.TheVariants as reply
-use Rattle.plain_model.specs.Keyed.{find_key}
+use Rattle.hsm_types.specs.Keyed.{find_key}
 use Rattle.plain_model.specs.Effects.{Change, OfFile, OfRights, change_of}
 use Rattle.plain_model.specs.State.{FileState, Held, nothing_held, affected_held, just_opened}
 use Rattle.plain_model.specs.Services.{Service, service, bad_handle}

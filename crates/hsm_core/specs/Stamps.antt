@@ -2,7 +2,7 @@
 use Rattle.std.specs.Prelude.{ℕ, List, Option, Some, None}
 use Rattle.std.specs.Map.{lookup}
 use Rattle.hsm_types.specs.declared.keys.FileKey.{FileKey}
-use Rattle.plain_model.specs.Keyed.{same_key}
+use Rattle.hsm_types.specs.Keyed.{same_key}
 
 abbrev pub number_or_none : Option ℕ → ℕ
 number_or_none None = 0

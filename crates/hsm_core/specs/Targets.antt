@@ -1,12 +1,13 @@
 -- The file that a call means.
 use Rattle.std.specs.Prelude.{◌≡◌, ◌≤◌, ◌+◌, ℕ, List, length, Option, Some, None, IfSome, IsSome, IsSomeAnd}
 use Rattle.std.specs.List.{AllByRecursion}
+use Rattle.hsm_types.specs.Limits.{file_bytes}
 use Rattle.hsm_types.specs.declared.keys.FileKey.{FileKey}
 use Rattle.hsm_types.specs.declared.stores.Superblock.{Superblock}
 use Rattle.hsm_types.specs.declared.calls.Call.{Call}
 use Rattle.hsm_types.specs.declared.calls.Call.TheVariants.{Create, Write, Truncate, Sync}
 use Rattle.plain_model.specs.declared.facts.Facts.{Facts}
-use Rattle.plain_model.specs.Keyed.{find_key}
+use Rattle.hsm_types.specs.Keyed.{find_key}
 use Rattle.plain_model.specs.Effects.{effect_of}
 use Rattle.plain_model.specs.Plain.{key_meant, refusal_of}
 use Rattle.plain_model.specs.Ledger.{Ledger}
@@ -21,7 +22,7 @@ pub record IsTarget (files : List FileState) (k : FileKey) (t : Target) : Type 0
   pub key : t.key ≡ k
   pub live : IsSome (find_key (λ f. f.key) t.key files)
   pub size : t.size ≡ length (bytes_of t.key files)
-  pub limit : t.size ≤ 16777216
+  pub limit : t.size ≤ file_bytes
 
 -- a create and a sync are on no file, and each other call is on the live one with that key
 abbrev pub IsOn : List FileState → FileKey → Call → Option Target → Type 0
@@ -39,8 +40,8 @@ key_in (Some t) = t.key
 
 -- a write has bytes and ends within the limit of a file, and so does a truncate
 abbrev pub IsBounded : Call → Type 0
-IsBounded (Write name offset bytes) = (1 ≤ length bytes) × (offset + length bytes ≤ 16777216)
-IsBounded (Truncate name size) = size ≤ 16777216
+IsBounded (Write name offset bytes) = (1 ≤ length bytes) × (offset + length bytes ≤ file_bytes)
+IsBounded (Truncate name size) = size ≤ file_bytes
 IsBounded call = Unit {0}
 
 -- what was judged of a call that is done: of a create the names of the files, of any other what bounds it

@@ -1,7 +1,7 @@
 //! The file that a call means, what refuses the call by its words and the names of the files, and the facts by which it is judged then. This takes no
 //! memory.
 ghost use Rattle.std.specs.Prelude.{◌≡◌, ◌≤◌, false, None, IfOk, MatchOption};
-ghost use Rattle.plain_model.specs.Keyed.{find_key};
+ghost use Rattle.hsm_types.specs.Keyed.{find_key};
 ghost use Rattle.plain_model.specs.Plain.{named, key_or_none, missing, refusal_of};
 ghost use Rattle.plain_model.specs.Accesses.{kind_of, reach};
 ghost use Rattle.plain_model.specs.State.{names_of, file_at, used};

@@ -1,7 +1,7 @@
 //! Look-ups of files by name and by key.
 ghost use Rattle.std.specs.Prelude.{◌≡◌, is_some};
 ghost use Rattle.std.specs.Option.{option_map};
-ghost use Rattle.plain_model.specs.Keyed.{find_key};
+ghost use Rattle.hsm_types.specs.Keyed.{find_key};
 ghost use Rattle.plain_model.specs.Plain.{named};
 ghost use Rattle.plain_model.specs.State.{names_of};
 

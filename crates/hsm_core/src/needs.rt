@@ -5,7 +5,7 @@ ghost use Rattle.std.specs.Option.{option_map};
 ghost use Rattle.hsm_types.specs.Refusals.{first_refusal};
 ghost use Rattle.hsm_types.specs.Segments.{segments_met, segment_around};
 ghost use Rattle.hsm_types.specs.Stubs.{stub_at, already_offline, offline_at};
-ghost use Rattle.hsm_types.specs.declared.limits.TheConstants.{FILE_BYTES};
+ghost use Rattle.hsm_types.specs.Limits.{file_bytes};
 ghost use Rattle.plain_model.specs.Accesses.{needs};
 ghost use Rattle.plain_model.specs.State.{file_at, bytes_of};
 ghost use Rattle.file_store.specs.Stores.{IsStubbed};
@@ -30,7 +30,7 @@ pub(crate) fn needs_segment<D: Disk>(files: &FileStore<D>, target: Target, call:
 
 /// Whether the call, on a file of that size, needs a segment that is offline.
 fn needs(stubs: &StubMap, size: u64, call: &Call) -> bool
-    requires size { size ≤ 16777216 }
+    requires size { size ≤ file_bytes }
     requires bounded { IsBounded call.now }
     ensures { result ≡ needs stubs.now size call.now }
 {
@@ -50,7 +50,7 @@ fn needs(stubs: &StubMap, size: u64, call: &Call) -> bool
 /// The first offline segment that the bytes from the first place up to the second meet. It costs the stub entries of the segments that they meet.
 #[tactic(auto, using(crate::proofs::Needed::any_first, crate::proofs::Aways::first_is))]
 pub(crate) fn first_offline(stubs: &StubMap, from: u64, to: u64) -> Option<u32>
-    requires { to ≤ FILE_BYTES }
+    requires { to ≤ file_bytes }
     ensures any { is_some result ≡ list_any (offline_at stubs.now) (segments_met from to) }
     ensures refuses { first_refusal (map (λ j. already_offline j (stub_at j stubs.now)) (segments_met from to)) ≡ option_map (λ segment. DmRefusal.Offline segment) result }
 {
@@ -62,7 +62,7 @@ pub(crate) fn first_offline(stubs: &StubMap, from: u64, to: u64) -> Option<u32>
 
 /// Whether this place is strictly inside a segment that is offline.
 fn is_around(stubs: &StubMap, place: u64) -> bool
-    requires { place ≤ 16777216 }
+    requires { place ≤ file_bytes }
     ensures { result ≡ list_any (offline_at stubs.now) (segment_around place) }
 {
     place % SEGMENT_BYTES != 0 && stubs.is_offline((place / SEGMENT_BYTES) as u32)

@@ -1,8 +1,9 @@
 //! Calls that nothing refuses, done by the key of their file. Each reply comes twice, for the caller and for the history.
 ghost use Rattle.std.specs.Prelude.{◌≡◌, ◌≤◌, ◌+◌, false, Some, None, IsSome, IfOk, OnOk, length};
+ghost use Rattle.hsm_types.specs.Limits.{file_bytes};
 ghost use Rattle.hsm_types.specs.declared.calls.Call.TheVariants.{Create, Sync};
 ghost use Rattle.hsm_types.specs.declared.calls.Reply.TheVariants.{Made, Data};
-ghost use Rattle.plain_model.specs.Keyed.{find_key};
+ghost use Rattle.hsm_types.specs.Keyed.{find_key};
 ghost use Rattle.plain_model.specs.Plain.{read_at, refusal_of};
 ghost use Rattle.plain_model.specs.Effects.{effect_of, Makes, Writes, Resizes, Drops};
 ghost use Rattle.plain_model.specs.Blocks.{touched};
@@ -123,7 +124,7 @@ fn write<D: Disk>(
     requires working { files.old.failed ≡ false }
     requires live { IsSome (find_key (λ f. f.key) key files.old.held.files) }
     requires some { 1 ≤ length body.now }
-    requires end { offset + length body.now ≤ 16777216 }
+    requires end { offset + length body.now ≤ file_bytes }
     requires here { IsSound (Writes offset body.now) (file_at key files.old.held.files) }
     requires room { length (touched (Writes offset body.now) (length (bytes_of key files.old.held.files))) + used files.old.held.files ≤ (superblock_of files.old).geometry.blocks }
     ensures reply { IfOk result (λ r. AreBoth Reply.Done r) }
@@ -143,7 +144,7 @@ fn truncate<D: Disk>(
 ) -> Result<(Reply, Reply), StoreRefusal>
     requires working { files.old.failed ≡ false }
     requires live { IsSome (find_key (λ f. f.key) key files.old.held.files) }
-    requires end { size ≤ 16777216 }
+    requires end { size ≤ file_bytes }
     requires here { IsSound (Resizes size) (file_at key files.old.held.files) }
     requires room { length (touched (Resizes size) (length (bytes_of key files.old.held.files))) + used files.old.held.files ≤ (superblock_of files.old).geometry.blocks }
     ensures reply { IfOk result (λ r. AreBoth Reply.Done r) }

@@ -10,7 +10,7 @@ use disk_model::Disk;
 use file_store::FileStore;
 use hsm_types::{ACCESS_BYTES, CallRefusal, FILE_BYTES, Word, can_name};
 
-/// A name has from 1 to 64 visible bytes, none of them a slash.
+/// A name has from 1 to [`NAME_BYTES`](hsm_types::NAME_BYTES) visible bytes, none of them a slash.
 pub(crate) fn judge_name(name: &Word) -> Result<(), CallRefusal>
     ensures { Judges result (bad_name name.now) }
 {
@@ -21,7 +21,7 @@ pub(crate) fn judge_name(name: &Word) -> Result<(), CallRefusal>
     }
 }
 
-/// An access has from 1 to 65,536 bytes.
+/// An access has from 1 to [`ACCESS_BYTES`] bytes.
 pub(crate) fn judge_length(len: u64) -> Result<(), CallRefusal>
     ensures { Judges result (bad_length len) }
 {
@@ -56,7 +56,7 @@ pub(crate) fn judge_inodes<D: Disk>(files: &FileStore<D>) -> Result<(), CallRefu
     }
 }
 
-/// A write leaves a file of at most 16,777,216 bytes. An end that no u64 can tell is told as the largest.
+/// A write leaves a file of at most [`FILE_BYTES`]. An end that no u64 can tell is told as the largest.
 pub(crate) fn judge_written_size(offset: u64, len: u64) -> Result<(), CallRefusal>
     ensures { Judges result (too_big (offset + len)) }
 {
@@ -66,7 +66,7 @@ pub(crate) fn judge_written_size(offset: u64, len: u64) -> Result<(), CallRefusa
     }
 }
 
-/// A file has at most 16,777,216 bytes.
+/// A file has at most [`FILE_BYTES`].
 pub(crate) fn judge_size(size: u64) -> Result<(), CallRefusal>
     ensures { Judges result (too_big size) }
 {

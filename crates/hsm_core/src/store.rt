@@ -1,5 +1,6 @@
 //! The store with its history.
-ghost use Rattle.std.specs.Prelude.{◌≡◌, ◌⊎◌, ◌<◌, ◌≤◌, ◌+◌, ◌^◌, ◌++◌, [], ◌∷◌, true, false, if◌then◌else◌, List, ℕ, is_some, vec_len, vec_capacity, IfOk, IfErr, OnOk, IsOk, IsErrOf};
+ghost use Rattle.std.specs.Prelude.{◌≡◌, ◌⊎◌, ◌<◌, ◌≤◌, ◌+◌, ◌^◌, ◌++◌, [], ◌∷◌, true, false, if◌then◌else◌, List, ℕ, is_some, vec_len, vec_capacity};
+ghost use Rattle.std.specs.Prelude.{IfOk, IfErr, OnOk, IsOk, IsErrOf};
 ghost use Rattle.disk_model.specs.Calls.{Counts, HasCause};
 ghost use Rattle.disk_model.specs.Images.{Alike};
 ghost use Rattle.disk_model.specs.Moments.{MayBe, LeavesOnly, Keeps, Same};
@@ -12,7 +13,7 @@ ghost use Rattle.indexmap.specs.IndexMap.{spare};
 ghost use Rattle.hsm_types.specs.Messages.{no_token};
 ghost use Rattle.hsm_types.specs.Rights.{conflict};
 ghost use Rattle.plain_model.specs.Accesses.{need_of};
-ghost use Rattle.plain_model.specs.Keyed.{find_key};
+ghost use Rattle.hsm_types.specs.Keyed.{find_key};
 ghost use Rattle.plain_model.specs.State.{used};
 ghost use Rattle.dm_service.specs.Handing.{HandsOut};
 ghost use Rattle.dm_service.specs.Services.{entries_for, is_due, wants_entry_alone};
@@ -45,7 +46,7 @@ use std::marker::Model;
 use std::snapshot::Snapshot;
 
 /// What a resume of a caller would come to.
-#[derive(Clone, Copy, Debug, PartialEq, Eq)]
+#[derive(Clone, Copy, PartialEq, Eq)]
 pub enum Ready {
     /// No access of the caller waits.
     Idle,
@@ -71,7 +72,10 @@ pub struct Hsm<D: Disk> {
 impl<D: Disk> Model for Hsm<D> {
     ghost use Rattle.std.specs.Prelude.{◌≡◌, ◌≤◌, ◌+◌, ◌-◌, ◌^◌, vec_len, vec_capacity};
     ghost use Rattle.dm_service.specs.Tables.{awaited_in, ledger_of, waiting};
+    ghost use Rattle.plain_model.specs.State.{just_opened};
+    ghost use Rattle.file_store.specs.Stores.{superblock_of};
     ghost use Rattle.hsm_core.specs.Store.{Store, HasRun};
+    ghost use Rattle.hsm_core.specs.Packed.{ArePacked};
     ghost use Rattle.hsm_core.specs.Crashes.{IsSafe};
     ghost use Rattle.hsm_core.specs.Targets.{EachLasts};
 
@@ -82,7 +86,8 @@ impl<D: Disk> Model for Hsm<D> {
     ghost invariant = { λ h. HasRun (record { opened = h.opened.value; files = h.files; stamps = h.stamps.entries; tables = h.service; history = h.history.items; spare = vec_capacity h.history - (vec_len h.history + awaited_in h.service) })
         × IsSafe D.Disk (record { opened = h.opened.value; files = h.files; stamps = h.stamps.entries; tables = h.service; history = h.history.items; spare = vec_capacity h.history - (vec_len h.history + awaited_in h.service) })
         × (h.base ≡ h.opened.value.meta.number) × (h.base ≤ 2 ^ 62)
-        × (vec_len h.history + awaited_in h.service ≤ vec_capacity h.history) × EachLasts (ledger_of h.service) };
+        × (vec_len h.history + awaited_in h.service ≤ vec_capacity h.history) × EachLasts (ledger_of h.service)
+        × ArePacked (superblock_of h.opened.value) (just_opened h.opened.value.meta.number h.opened.value.held) h.history.items };
 }
 
 /// Makes room for `more` entries beside the awaited ones, which are set apart, unless a call of the disk has failed before.

@@ -1,5 +1,6 @@
 -- A document with names alone, entry by entry.
-use Rattle.std.proofs.Common.{◌≡◌, ◌↔◌, ℕ, List, Option, Some, IsSome, true, Contains, rules, Ordering, Less, Equal, Greater, nat_cmp, refl, sym, subst, ap, ◌∙◌, ◌⊎◌, inl, inr}
+use Rattle.std.proofs.Common.{◌≡◌, ◌↔◌, ℕ, List, Option, Some, IsSome, true, Contains, rules, Ordering, Less, Equal, Greater, nat_cmp, refl, sym}
+use Rattle.std.proofs.Common.{subst, ap, ◌∙◌, ◌⊎◌, inl, inr}
 use Rattle.std.proofs.lemmas.Cmp.{nat_list_cmp_total, nat_list_eq_equiv}
 use Rattle.std.specs.Cmp.{tied_itself}
 use Rattle.std.specs.Cmp.Lexicographic.{slice_cmp}

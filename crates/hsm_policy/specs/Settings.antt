@@ -1,5 +1,6 @@
 -- Settings: six numbers, each in its range.
 use Rattle.std.specs.Prelude.{ℕ, ◌≤◌, ◌<◌}
+use Rattle.hsm_types.specs.Limits.{most_volumes}
 
 pub record Numbers : Type 0 where
   pub drives : ℕ
@@ -23,7 +24,7 @@ pub record AreDrives (count threads : ℕ) : Type 0 where
   pub workers : IsWithin 1 8 threads
 
 pub record AreVolumes (count bytes : ℕ) : Type 0 where
-  pub volumes : IsWithin 1 256 count
+  pub volumes : IsWithin 1 most_volumes count
   pub capacity : IsWithin 1048576 1073741824 bytes
 
 pub record AreLimits (from to : ℕ) : Type 0 where

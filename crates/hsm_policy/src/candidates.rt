@@ -6,7 +6,7 @@ use hsm_types::{FileRow, Handle, Segment, Table};
 use std::alloc::{AllocError, Global};
 
 /// A segment that may be picked: one with a mapped block.
-#[derive(Clone, Copy, Debug)]
+#[derive(Clone, Copy)]
 pub(crate) struct Candidate {
     pub(crate) stamp: u64,
     pub(crate) handle: Handle,

@@ -7,7 +7,7 @@ use hsm_types::{Handle, ListOf, Table};
 use std::alloc::{AllocError, Global};
 
 /// A segment that was picked.
-#[derive(Clone, Copy, Debug, PartialEq, Eq)]
+#[derive(Clone, Copy, PartialEq, Eq)]
 pub struct Picked {
     pub handle: Handle,
     pub segment: u32,

@@ -8,6 +8,7 @@ ghost use Rattle.hsm_policy.specs.Settings.{Numbers, standard, IsWithin, AreDriv
 ghost use Rattle.hsm_policy.specs.Documents.{names, Says, HasNamesAlone, SaysSettings, IsTextOf};
 
 use crate::settings::{CAPACITY, DRIVES, HIGH, LOW, Settings, VOLUMES, WORKERS};
+use hsm_types::MOST_VOLUMES;
 use std::alloc::Global;
 use thiserror::Error;
 use toml::{Table, Value};
@@ -73,7 +74,7 @@ fn volumes(document: &Table) -> Option<(u32, u64)>
     ensures some { IfSome result (λ said. Says (table_view document.now) (codes "volumes") standard.volumes said.0 × Says (table_view document.now) (codes "capacity") standard.capacity said.1 × AreVolumes said.0 said.1) }
     ensures none { IfNone result ((volumes capacity : ℕ) → Says (table_view document.now) (codes "volumes") standard.volumes volumes → Says (table_view document.now) (codes "capacity") standard.capacity capacity → ¬ AreVolumes volumes capacity) }
 {
-    let volumes = number_at(document, "volumes", VOLUMES as u64, 1, 256)?;
+    let volumes = number_at(document, "volumes", VOLUMES as u64, 1, MOST_VOLUMES as u64)?;
     let capacity = number_at(document, "capacity", CAPACITY, 1_048_576, 1_073_741_824)?;
     Some((volumes as u32, capacity))
 }

@@ -18,7 +18,7 @@ pub(crate) const LOW: u64 = 60;
 pub(crate) const WORKERS: u32 = 2;
 
 /// The settings of a run. Contracts see the six numbers.
-#[derive(Clone, Copy, Debug, PartialEq, Eq)]
+#[derive(Clone, Copy, PartialEq, Eq)]
 pub struct Settings {
     pub(crate) drives: u32,
     pub(crate) volumes: u32,

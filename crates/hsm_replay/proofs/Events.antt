@@ -1,5 +1,6 @@
 -- What an event of a line comes to.
-use Rattle.std.proofs.Common.{◌≡◌, ◌≢◌, ◌∙◌, ◌⊎◌, ◌∷◌, ◌++◌, [], ℕ, List, Option, Some, None, IfSome, Result, Ok, Err, OnOk, IfErr, inl, inr, refl, sym, ap, subst}
+use Rattle.std.proofs.Common.{◌≡◌, ◌≢◌, ◌∙◌, ◌⊎◌, ◌∷◌, ◌++◌, [], ℕ, List, Option, Some, None, IfSome, Result, Ok, Err, OnOk, IfErr, inl, inr, refl}
+use Rattle.std.proofs.Common.{sym, ap, subst}
 use Rattle.disk_model.specs.declared.device.Disk as disk
 use Rattle.media_model.specs.declared.drive.Drive as drive
 use Rattle.hsm_types.specs.declared.calls.CallRefusal.TheVariants as refusal
@@ -21,7 +22,6 @@ use Rattle.plain_model.specs.Faults.{Acts}
 use Rattle.hsm_types.specs.declared.keys.Sid.{Sid}
 use Rattle.script_text.specs.Lines.{IsEvent}
 use Rattle.hsm_core.specs.Answers.{IsAnswer, entry_of}
-use Rattle.hsm_core.specs.Kept.{IsKept}
 use Rattle.hsm_core.specs.Store.{Store}
 use Rattle.hsm_replay.specs.declared.stops.Stop.{Stop}
 use Rattle.hsm_replay.specs.declared.stops.Stop.TheVariants as stop
@@ -36,7 +36,7 @@ use Rattle.marked_history.specs.Settling.{AreByRunning}
 use Rattle.hsm_replay.specs.Doing.{Does}
 use Rattle.hsm_replay.specs.Systems.{System, running}
 use Rattle.hsm_replay.proofs.Adding.{adds_none, adds_one}
-use Rattle.hsm_replay.proofs.Going.{Hands, event_runs, event_kept, event_kept_or_not, stop_answer}
+use Rattle.hsm_replay.proofs.Going.{event_runs, event_kept, event_kept_or_not, stop_answer}
 use Rattle.hsm_replay.proofs.Growing.{have_grown_itself}
 use Rattle.hsm_replay.proofs.Living.{none_until, no_call_until, event_lives}
 use Rattle.hsm_replay.proofs.Moves.{stop_told}
@@ -107,7 +107,7 @@ names_none sid other seed is = tt
 abbrev pub IsEventOf : Actor → Action → List Mark → Type 0
 IsEventOf actor action marks = (answer : Answer) × (marks ≡ no_daemons (entry_of actor action answer) ∷ [])
 
-module _ {D M : Type 0} (g : disk.Ghosts D) (h : drive.Ghosts M) (old : System D M) (store : Store D) (actor : Actor) (action : Action) (given : Answer) (acts : Acts actor action) (none : NamesNoFault action) (is_kept : IsKept old.store) (hands : Hands old.store actor action given) (answers : IsAnswer g old.store actor action given store) where
+module _ {D M : Type 0} (g : disk.Ghosts D) (h : drive.Ghosts M) (old : System D M) (store : Store D) (actor : Actor) (action : Action) (given : Answer) (acts : Acts actor action) (none : NamesNoFault action) (answers : IsAnswer g old.store actor action given store) where
   abbrev pub after : System D M
   after = record old { store = store }
 
@@ -152,24 +152,24 @@ module _ {D M : Type 0} (g : disk.Ghosts D) (h : drive.Ghosts M) (old : System D
   event_moves (Ok tt) ok err = record {
     limits = refl;
     drives = have_grown_itself h old.drives;
-    runs = event_runs g old.store actor action given store acts is_kept hands (Ok tt) answers ok err;
-    adds = adds_one (IsEventOf actor action) mark old after (given, refl) (event_kept g old.store actor action given store acts is_kept hands answers ok) tt;
+    runs = event_runs g old.store actor action given store acts (Ok tt) answers ok err;
+    adds = adds_one (IsEventOf actor action) mark old after (given, refl) (event_kept g old.store actor action given store acts answers ok) tt;
     adds_first = tt;
-    keeps = λ opened marks shows. (mark ∷ [], (given, refl), shows_on opened marks shows (event_kept g old.store actor action given store acts is_kept hands answers ok), (tt, tt), event_lives old store marks mark refl (λ limits k. refl));
+    keeps = λ opened marks shows. (mark ∷ [], (given, refl), shows_on opened marks shows (event_kept g old.store actor action given store acts answers ok), (tt, tt), event_lives old store marks mark refl (λ limits k. refl));
     ends = tt;
   }
   event_moves (Err why) ok err = record {
     limits = refl;
     drives = have_grown_itself h old.drives;
-    runs = event_runs g old.store actor action given store acts is_kept hands (Err why) answers ok err;
+    runs = event_runs g old.store actor action given store acts (Err why) answers ok err;
     adds = tt;
-    adds_first = added (event_kept_or_not g old.store actor action given store acts is_kept hands answers);
+    adds_first = added (event_kept_or_not g old.store actor action given store acts answers);
     keeps = tt;
-    ends = λ opened marks shows. ended opened marks shows (event_kept_or_not g old.store actor action given store acts is_kept hands answers);
+    ends = λ opened marks shows. ended opened marks shows (event_kept_or_not g old.store actor action given store acts answers);
   }
 
   entry_kept : (result : Result (Unit {0}) Stop) → OnOk result ((why : Stop) → given ≢ stop_answer why action) → OnOk result (store.history ≡ old.store.history ++ entry_of actor action given ∷ [])
-  entry_kept (Ok tt) ok = event_kept g old.store actor action given store acts is_kept hands answers ok
+  entry_kept (Ok tt) ok = event_kept g old.store actor action given store acts answers ok
   entry_kept (Err why) ok = tt
 
   pub event_does : (seed : Option ℕ) (result : Result (Unit {0}) Stop) → OnOk result ((why : Stop) → given ≢ stop_answer why action) → Does g h (Event actor action seed) result old after

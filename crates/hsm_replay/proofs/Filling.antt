@@ -1,5 +1,6 @@
 -- Full volumes, while drives are used and the migration daemon goes on.
-use Rattle.std.proofs.Common.{◌≡◌, ◌≢◌, ◌∙◌, ◌+◌, ◌%◌, ◌<◌, ◌≤◌, ◌⊎◌, ℕ, Bool, true, false, List, length, Option, Some, None, IfSome, Result, Err, inl, inr, refl, sym, ap, subst, length-set, arith}
+use Rattle.std.proofs.Common.{◌≡◌, ◌≢◌, ◌∙◌, ◌+◌, ◌%◌, ◌<◌, ◌≤◌, ◌⊎◌, ℕ, Bool, true, false, List, length, Option, Some, None, IfSome, Result, Err}
+use Rattle.std.proofs.Common.{inl, inr, refl, sym, ap, subst, length-set, arith}
 use Rattle.std.specs.Option.{option_map}
 use Rattle.std.specs.Prelude.{slice_get, slice_set, ◌==◌}
 use Rattle.std.proofs.lemmas.Bool.{eqb-true, eqb-false}
@@ -7,6 +8,7 @@ use Rattle.std.proofs.lemmas.List.Sums.{sum_by-append}
 use Rattle.disk_model.specs.Calls.{Rose}
 use Rattle.media_model.specs.Objects.{Objects, size_of}
 use Rattle.media_model.specs.declared.drive.Drive as drive
+use Rattle.hsm_types.specs.Limits.{segment_bytes}
 use Rattle.hsm_types.specs.Stubs.{print_of}
 use Rattle.hsm_types.specs.declared.daemons.Act.{Act}
 use Rattle.hsm_types.specs.declared.daemons.Act.TheVariants.{Dm, Copy}
@@ -40,7 +42,7 @@ use Rattle.hsm_replay.proofs.Sealing.{grown_to}
 sizes_grow : (old new : Objects) → Extends old new → size_of old ≤ size_of new
 sizes_grow old new more = let longer : size_of new ≡ size_of old + size_of more.0 = ap (λ (o : Objects). size_of o) more.1 ∙ sum_by-append length old more.0 in omega arith
 
-lacks_for : (capacity used len most size : ℕ) → capacity < used + len → len ≡ 72 + size → size ≤ 65536 → used ≡ most → capacity < most + 65608
+lacks_for : (capacity used len most size : ℕ) → capacity < used + len → len ≡ 72 + size → size ≤ segment_bytes → used ≡ most → capacity < most + 65608
 lacks_for capacity used len most size over long short same = omega arith
 
 not_true : (b : Bool) → (b ≡ true → ⊥) → b ≡ false
@@ -225,7 +227,7 @@ module _ {M : Type 0} (g : drive.Ghosts M) where
 
   -- ---- a copy
 
-  module _ (law : g.sure ≡ true → (d : M) → g.fault_count d ≡ 0) (ds : List M) (volume segment : ℕ) (handle : Handle) (bytes : List ℕ) (short : length bytes ≤ 65536) (d e : M) (at : slice_get ds (drive_of volume ds) ≡ Some d) where
+  module _ (law : g.sure ≡ true → (d : M) → g.fault_count d ≡ 0) (ds : List M) (volume segment : ℕ) (handle : Handle) (bytes : List ℕ) (short : length bytes ≤ segment_bytes) (d e : M) (at : slice_get ds (drive_of volume ds) ≡ Some d) where
     abbrev pub left : List M
     left = slice_set ds (drive_of volume ds) e
 

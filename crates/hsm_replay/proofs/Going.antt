@@ -1,18 +1,15 @@
 -- How a store goes on after an event, and why it is stopped.
-use Rattle.std.proofs.Common.{◌≡◌, ◌≢◌, ◌∙◌, ◌⊎◌, ℕ, subst, ◌∷◌, ◌++◌, [], Bool, true, false, ◌||◌, List, Result, Ok, Err, OnOk, IfErr, inl, inr, refl, sym, ap, append-nil, append_assoc, arith}
+use Rattle.std.proofs.Common.{◌≡◌, ◌≢◌, ◌∙◌, ◌⊎◌, ◌∷◌, ◌++◌, [], Bool, true, false, ◌||◌, List, Result, Ok, Err, OnOk, IfErr, inl, inr, refl, sym}
+use Rattle.std.proofs.Common.{ap, append-nil, append_assoc, arith}
 use Rattle.disk_model.specs.declared.device.Disk as disk
 use Rattle.disk_model.specs.Calls.{Rose}
 use Rattle.hsm_types.specs.declared.calls.CallRefusal.TheVariants as refusal
 use Rattle.hsm_types.specs.declared.calls.Reply.TheVariants as calls
 use Rattle.hsm_types.specs.declared.dm.DmRefusal.TheVariants as dm
-use Rattle.hsm_types.specs.declared.dm.DmCall.{DmCall}
-use Rattle.hsm_types.specs.declared.dm.DmReply.{DmReply}
-use Rattle.hsm_types.specs.declared.keys.Sid.{Sid}
 use Rattle.hsm_types.specs.declared.dm.DmReply.TheVariants as told
 use Rattle.plain_model.specs.declared.entries.Action.{Action}
 use Rattle.plain_model.specs.declared.entries.Action.TheVariants.{Issue, Resume, Dm, Commit}
 use Rattle.plain_model.specs.declared.entries.Actor.{Actor}
-use Rattle.plain_model.specs.declared.entries.Actor.TheVariants.{Caller, Session, Store as TheStore}
 use Rattle.plain_model.specs.declared.entries.Answer.{Answer}
 use Rattle.plain_model.specs.declared.entries.Answer.TheVariants.{Call as Replied, Dm as Told}
 use Rattle.plain_model.specs.declared.entries.Entry.{Entry}
@@ -20,13 +17,9 @@ use Rattle.plain_model.specs.Faults.{is_fault, fault_of, has_fault, Acts}
 use Rattle.plain_model.proofs.Faultless.{is_undone, own_done, fault_is}
 use Rattle.file_store.specs.Stores.{superblock_of}
 use Rattle.hsm_core.specs.Answers.{IsAnswer, entry_of, memory_of, own_answer}
-use Rattle.hsm_core.specs.Kept.{IsKept}
 use Rattle.hsm_core.specs.Store.{Store, state_of}
-use Rattle.dm_service.specs.Handing.{HandsOut}
 use Rattle.hsm_replay.specs.declared.stops.Stop.{Stop}
 use Rattle.hsm_replay.specs.declared.stops.Stop.TheVariants as stop
-use Rattle.marked_history.specs.Caused.{ArePackedSince}
-use Rattle.hsm_replay.proofs.Packing.{answer_packed}
 use Rattle.hsm_replay.specs.Running.{GoesOn, IsStoppedFor, Runs}
 
 -- the answer of an event at which a run is stopped
@@ -61,36 +54,15 @@ undone_at stop.Memory Resume = refl
 undone_at stop.Memory (Dm asked) = refl
 undone_at stop.Memory Commit = refl
 
--- the answer hands out the messages that it should
-abbrev pub Hands : {D : Type 0} → Store D → Actor → Action → Answer → Type 0
-Hands old actor action given = (sid : Sid) (asked : DmCall) (reply : DmReply) → entry_of actor action given ≡ entry_of (Session sid) (Dm asked) (Told reply) → HandsOut old.tables.sessions sid asked reply
-
-pub caller_hands : {D : Type 0} (old : Store D) (caller : ℕ) (action : Action) (given : Answer) → Hands old (Caller caller) action given
-caller_hands old caller action given sid asked reply is = let wrong : Caller caller ≡ Session sid = ap (λ (e : Entry). e.actor) is in cc wrong
-
-pub store_hands : {D : Type 0} (old : Store D) (action : Action) (given : Answer) → Hands old TheStore action given
-store_hands old action given sid asked reply is = let wrong : TheStore ≡ Session sid = ap (λ (e : Entry). e.actor) is in cc wrong
-
-pub session_hands : {D : Type 0} (old : Store D) (sid : Sid) (asked : DmCall) (reply : DmReply) → HandsOut old.tables.sessions sid asked reply → Hands old (Session sid) (Dm asked) (Told reply)
-session_hands old sid asked reply hands sid2 asked2 reply2 is =
-    let one : Session sid ≡ Session sid2 = ap (λ (e : Entry). e.actor) is in
-    let two : Dm asked ≡ Dm asked2 = ap (λ (e : Entry). e.action) is in
-    let three : Told reply ≡ Told reply2 = ap (λ (e : Entry). e.answer) is in
-    let sids : sid ≡ sid2 = cc one in
-    let calls : asked ≡ asked2 = cc two in
-    let replies : reply ≡ reply2 = cc three in
-    subst (λ (s : Sid). HandsOut old.tables.sessions s asked2 reply2) sids (subst (λ (c : DmCall). HandsOut old.tables.sessions sid c reply2) calls (subst (λ (r : DmReply). HandsOut old.tables.sessions sid asked r) replies hands))
-
 module _ {D : Type 0} (g : disk.Ghosts D) where
   pub goes_itself : (s : Store D) → GoesOn g s s
-  goes_itself s = record { more = []; history = sym (append-nil s.history); opened = refl; packed = λ packed. packed; faults = omega arith; quiet = λ works. (works, refl) }
+  goes_itself s = record { more = []; history = sym (append-nil s.history); opened = refl; faults = omega arith; quiet = λ works. (works, refl) }
 
   pub goes_then : (a b c : Store D) → GoesOn g a b → GoesOn g b c → GoesOn g a c
   goes_then a b c first then = record {
     more = first.more ++ then.more;
     history = then.history ∙ ap (λ (h : List Entry). h ++ then.more) first.history ∙ append_assoc a.history first.more then.more;
     opened = then.opened ∙ first.opened;
-    packed = λ packed. then.packed (first.packed packed);
     faults = omega (arith, first.faults, then.faults);
     quiet = λ works. let later = then.quiet works in let before = first.quiet later.0 in (before.0, later.1 ∙ before.1);
   }
@@ -102,21 +74,18 @@ module _ {D : Type 0} (g : disk.Ghosts D) where
 
   -- ---- an event
 
-  module _ (old : Store D) (actor : Actor) (action : Action) (given : Answer) (new : Store D) (acts : Acts actor action) (kept : IsKept old) (hands : Hands old actor action given) where
+  module _ (old : Store D) (actor : Actor) (action : Action) (given : Answer) (new : Store D) (acts : Acts actor action) where
     own_is_no_stop : (why : Stop) → given ≡ stop_answer why action → given ≡ own_answer old actor action → ⊥
     own_is_no_stop why stops own =
         let done : is_undone given ≡ false = own_done (superblock_of old.opened) (state_of old) actor action given (acts, own) in
         let wrong : true ≡ false = sym (undone_at why action) ∙ ap is_undone (sym stops) ∙ done in
         cc wrong
 
-    stays_packed : IsAnswer g old actor action given new → ArePackedSince old → ArePackedSince new
-    stays_packed = answer_packed g old new actor action given kept.state hands
-
     pub event_goes : IsAnswer g old actor action given new → GoesOn g old new
-    event_goes (inl closed) = let same = closed.same in record { more = []; history = ap (λ s. s.history) same ∙ sym (append-nil old.history); opened = ap (λ s. s.opened) same; packed = stays_packed (inl closed); faults = let e = ap (λ s. g.fault_count s.files.disk) same in omega (arith, e); quiet = λ works. let wrong : true ≡ false = sym closed.failed ∙ sym (ap (λ s. s.files.failed) same) ∙ works in cc wrong }
-    event_goes (inr (inl lacks)) = record { more = []; history = lacks.history ∙ sym (append-nil old.history); opened = lacks.goes.opened; packed = stays_packed (inr (inl lacks)); faults = lacks.goes.within.faults; quiet = λ works. (lacks.goes.working, lacks.quiet) }
-    event_goes (inr (inr (inl failed))) = record { more = entry_of actor action (fault_of action) ∷ []; history = failed.history; opened = failed.goes.opened; packed = stays_packed (inr (inr (inl failed))); faults = failed.goes.within.faults; quiet = λ works. let wrong : true ≡ false = sym failed.failed ∙ works in cc wrong }
-    event_goes (inr (inr (inr done))) = record { more = entry_of actor action (own_answer old actor action) ∷ []; history = done.history; opened = done.goes.opened; packed = stays_packed (inr (inr (inr done))); faults = done.goes.within.faults; quiet = λ works. (done.goes.working, done.quiet) }
+    event_goes (inl closed) = let same = closed.same in record { more = []; history = ap (λ s. s.history) same ∙ sym (append-nil old.history); opened = ap (λ s. s.opened) same; faults = let e = ap (λ s. g.fault_count s.files.disk) same in omega (arith, e); quiet = λ works. let wrong : true ≡ false = sym closed.failed ∙ sym (ap (λ s. s.files.failed) same) ∙ works in cc wrong }
+    event_goes (inr (inl lacks)) = record { more = []; history = lacks.history ∙ sym (append-nil old.history); opened = lacks.goes.opened; faults = lacks.goes.within.faults; quiet = λ works. (lacks.goes.working, lacks.quiet) }
+    event_goes (inr (inr (inl failed))) = record { more = entry_of actor action (fault_of action) ∷ []; history = failed.history; opened = failed.goes.opened; faults = failed.goes.within.faults; quiet = λ works. let wrong : true ≡ false = sym failed.failed ∙ works in cc wrong }
+    event_goes (inr (inr (inr done))) = record { more = entry_of actor action (own_answer old actor action) ∷ []; history = done.history; opened = done.goes.opened; faults = done.goes.within.faults; quiet = λ works. (done.goes.working, done.quiet) }
 
     -- what is kept of an event at which the run goes on
     pub event_kept : IsAnswer g old actor action given new → ((why : Stop) → given ≢ stop_answer why action) → new.history ≡ old.history ++ entry_of actor action given ∷ []

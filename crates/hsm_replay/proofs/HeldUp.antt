@@ -1,5 +1,6 @@
 -- Which events recall puts off in a quiet turn.
-use Rattle.std.proofs.Common.{◌≡◌, ◌∙◌, ◌++◌, ◌&&◌, ℕ, Bool, true, false, List, [], ◌∷◌, Option, Some, None, IfSome, option_map, inl, inr, refl, sym, ap, subst, append-nil, if◌then◌else◌, Contains, drop}
+use Rattle.std.proofs.Common.{◌≡◌, ◌∙◌, ◌++◌, ◌&&◌, ℕ, Bool, true, false, List, [], ◌∷◌, Option, Some, None, IfSome, option_map, inl, inr, refl, sym}
+use Rattle.std.proofs.Common.{ap, subst, append-nil, if◌then◌else◌, Contains, drop}
 use Rattle.std.specs.Prelude.{nat_le}
 use Rattle.std.specs.List.{AllByRecursion, cons_option, filter_map, list_all}
 use Rattle.std.specs.Str.{bytes_eq}
@@ -7,6 +8,7 @@ use Rattle.std.proofs.lemmas.Bool.{false≢true}
 use Rattle.std.proofs.lemmas.List.Elements.{Contains-append_left, Contains-push, recursion_from_All}
 use Rattle.event_msgs.specs.Reading.{told as told_messages}
 use Rattle.hsm_types.specs.Daemons.{information, kinds_of}
+use Rattle.hsm_types.specs.Limits.{last_error}
 use Rattle.hsm_types.specs.Messages.{is_lawful, takes}
 use Rattle.hsm_types.specs.Rights.{Rights, conflict}
 use Rattle.hsm_types.specs.declared.daemons.Act.{Act}
@@ -15,7 +17,8 @@ use Rattle.hsm_types.specs.declared.daemons.Daemon.TheVariants.{Recall}
 use Rattle.hsm_types.specs.declared.daemons.Heard.{Heard}
 use Rattle.hsm_types.specs.declared.daemons.Heard.TheVariants as heard
 use Rattle.hsm_types.specs.declared.dm.DmCall.{DmCall}
-use Rattle.hsm_types.specs.declared.dm.DmCall.TheVariants.{CreateSession, GetAllSessions, QuerySession, SetDisp, GetEvents, GetAllTokens, FindEventMsg, Respond, RequestRight, GetFileAttr, GetAllocInfo, Restore}
+use Rattle.hsm_types.specs.declared.dm.DmCall.TheVariants.{CreateSession, GetAllSessions, QuerySession, SetDisp, GetEvents, GetAllTokens}
+use Rattle.hsm_types.specs.declared.dm.DmCall.TheVariants.{FindEventMsg, Respond, RequestRight, GetFileAttr, GetAllocInfo, Restore}
 use Rattle.hsm_types.specs.declared.dm.DmRefusal.{DmRefusal}
 use Rattle.hsm_types.specs.declared.dm.DmRefusal.TheVariants as why
 use Rattle.hsm_types.specs.declared.dm.DmReply.{DmReply}
@@ -169,8 +172,8 @@ module _ (entries : List Entry) (rights : Rights) (e : Entry) where
 lawful : (kept : List Kept) (hand : Hand) (asked : Act) (told : Heard) (response : Response) → IsReason kept hand asked told response → is_lawful response ≡ true
 lawful kept hand asked told Continue is = refl
 lawful kept hand asked told (Media cause) is = refl
-lawful kept hand asked told (Abort error) (inl lost) = subst (λ (n : ℕ). (nat_le 1 n && nat_le n 255) ≡ true) (sym lost.0) refl
-lawful kept hand asked told (Abort error) (inr short) = subst (λ (n : ℕ). (nat_le 1 n && nat_le n 255) ≡ true) (sym short.0) refl
+lawful kept hand asked told (Abort error) (inl lost) = subst (λ (n : ℕ). (nat_le 1 n && nat_le n last_error) ≡ true) (sym lost.0) refl
+lawful kept hand asked told (Abort error) (inr short) = subst (λ (n : ℕ). (nat_le 1 n && nat_le n last_error) ≡ true) (sym short.0) refl
 
 -- a turn with a right isn't quiet
 no_right : (entries : List Entry) (asked : Act) (told : Heard) (sid : Sid) (t : Token) (h : Handle) → Stands entries asked told → asked ≡ Dm sid (RequestRight t h Excl) → told ≡ heard.Dm reply.Done → list_all is_quiet entries ≡ true → ⊥

@@ -1,5 +1,6 @@
 -- What holds of each event that a daemon keeps, as its list of them changes.
-use Rattle.std.proofs.Common.{◌≡◌, ◌∙◌, ◌⊎◌, ⊎_elim, ◌==◌, ℕ, zero, suc, ◌<◌, ◌++◌, Bool, true, false, not, cond, List, [], ◌∷◌, length, map, inl, inr, refl, sym, ap, subst, arith, if◌then◌else◌, slice_index_or, Contains}
+use Rattle.std.proofs.Common.{◌≡◌, ◌∙◌, ◌⊎◌, ⊎_elim, ◌==◌, ℕ, zero, suc, ◌<◌, ◌++◌, Bool, true, false, not, cond, List, [], ◌∷◌, length, map, inl}
+use Rattle.std.proofs.Common.{inr, refl, sym, ap, subst, arith, if◌then◌else◌, slice_index_or, Contains}
 use Rattle.std.specs.List.{AllByRecursion}
 use Rattle.std.proofs.lemmas.Bool.{eqb-true}
 use Rattle.std.proofs.lemmas.List.{get_or-map, length-map}

@@ -36,7 +36,6 @@ mod Turning
 mod WhichRun
 mod Rounds
 pub mod Sending
-mod Packing
 mod TurnedAway
 mod Begun
 mod Resting

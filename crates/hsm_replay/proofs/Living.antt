@@ -1,5 +1,6 @@
 -- The lives of daemons, through each of their acts.
-use Rattle.std.proofs.Common.{◌≡◌, ◌≢◌, ◌∙◌, ◌⊎◌, ◌∷◌, ◌++◌, [], Bool, true, false, List, Option, Some, None, IfSome, is_some, inl, inr, refl, sym, ap, ap₂, subst, append-nil, append_assoc}
+use Rattle.std.proofs.Common.{◌≡◌, ◌≢◌, ◌∙◌, ◌⊎◌, ◌∷◌, ◌++◌, [], Bool, true, false, List, Option, Some, None, IfSome, is_some, inl, inr, refl, sym}
+use Rattle.std.proofs.Common.{ap, ap₂, subst, append-nil, append_assoc}
 use Rattle.std.specs.Option.{option_or}
 use Rattle.std.proofs.lemmas.Bool.{false≢true}
 use Rattle.media_model.specs.declared.drive.Drive as drive
@@ -31,7 +32,8 @@ use Rattle.marked_history.specs.Waiting.{Running}
 use Rattle.hsm_replay.specs.declared.daemons.Recalling.{Recalling}
 use Rattle.hsm_replay.specs.declared.daemons.Migrating.{Migrating}
 use Rattle.hsm_replay.specs.Faults.{faults_in}
-use Rattle.hsm_replay.specs.Keeping.{IsKnownAs, IsShownAs, IsAtStart, IsHeardOf, RecallKnows, MigrateKnows, HearsLast, RecallLives, MigrateLives, LivesIf, Live, LiveOn, LiveUntil, LiveThrough, Shows}
+use Rattle.hsm_replay.specs.Keeping.{IsKnownAs, IsShownAs, IsAtStart, IsHeardOf, RecallKnows, MigrateKnows, HearsLast, RecallLives, MigrateLives}
+use Rattle.hsm_replay.specs.Keeping.{LivesIf, Live, LiveOn, LiveUntil, LiveThrough, Shows}
 use Rattle.hsm_replay.specs.Systems.{System, running, started, killed}
 use Rattle.hsm_replay.proofs.Coming.{IsNoCall}
 use Rattle.hsm_replay.proofs.Marked.{shown_more}

@@ -7,7 +7,8 @@ use Rattle.hsm_types.specs.declared.daemons.Daemon.TheVariants.{Migrate}
 use Rattle.hsm_types.specs.declared.daemons.Heard.{Heard}
 use Rattle.hsm_types.specs.declared.daemons.Heard.TheVariants as heard
 use Rattle.hsm_types.specs.declared.dm.DmCall.{DmCall}
-use Rattle.hsm_types.specs.declared.dm.DmCall.TheVariants.{CreateSession, GetAllSessions, GetEvents, Respond, GetSpace, GetTable, GetRegion, SetRegion, ReadInvis, Seal, PunchHole}
+use Rattle.hsm_types.specs.declared.dm.DmCall.TheVariants.{CreateSession, GetAllSessions, GetEvents, Respond, GetSpace, GetTable, GetRegion}
+use Rattle.hsm_types.specs.declared.dm.DmCall.TheVariants.{SetRegion, ReadInvis, Seal, PunchHole}
 use Rattle.hsm_types.specs.declared.dm.DmReply.{DmReply}
 use Rattle.hsm_types.specs.declared.dm.DmReply.TheVariants as reply
 use Rattle.hsm_types.specs.declared.keys.Handle.{Handle}

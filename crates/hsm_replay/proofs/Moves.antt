@@ -1,8 +1,10 @@
 -- What a step of a daemon comes to, and what stops it.
-use Rattle.std.proofs.Common.{◌≡◌, ◌∙◌, ◌⊎◌, ◌∷◌, ◌++◌, [], ℕ, true, List, Option, Some, is_some, Result, Ok, Err, OnOk, IfErr, inl, inr, refl, sym, ap, ap₂, subst, append-nil}
+use Rattle.std.proofs.Common.{◌≡◌, ◌∙◌, ◌⊎◌, ◌∷◌, ◌++◌, [], ℕ, true, List, Option, Some, is_some, Result, Ok, Err, OnOk, IfErr, inl, inr, refl, sym}
+use Rattle.std.proofs.Common.{ap, ap₂, subst, append-nil}
 use Rattle.std.specs.Prelude.{slice_set}
 use Rattle.disk_model.specs.declared.device.Disk as disk
 use Rattle.media_model.specs.declared.drive.Drive as drive
+use Rattle.hsm_types.specs.Stubs.{entry_place}
 use Rattle.hsm_types.specs.declared.daemons.Act.{Act}
 use Rattle.hsm_types.specs.declared.daemons.Act.TheVariants.{Dm, Copy, Fetch, Idle}
 use Rattle.hsm_types.specs.declared.daemons.Daemon.{Daemon}
@@ -40,9 +42,10 @@ use Rattle.hsm_replay.proofs.Adding.{adds_none, adds_one}
 use Rattle.hsm_replay.proofs.Fetching.{heard_of_fetch}
 use Rattle.hsm_replay.proofs.Filling.{full_of_copy}
 use Rattle.hsm_replay.proofs.PassCopies.{names_copy}
-use Rattle.hsm_replay.proofs.Going.{goes_itself, event_goes, stopped_for, stop_answer, session_hands}
+use Rattle.hsm_replay.proofs.Going.{goes_itself, event_goes, stopped_for, stop_answer}
 use Rattle.hsm_replay.proofs.Growing.{have_grown_itself, grown_at, reads_grow, grows_grow}
-use Rattle.hsm_replay.proofs.Living.{live_itself, none_until, recall_calls_live, recall_calls_until, recall_went_live, migrate_calls_live, migrate_calls_until, migrate_went_live}
+use Rattle.hsm_replay.proofs.Living.{live_itself, none_until, recall_calls_live, recall_calls_until, recall_went_live, migrate_calls_live}
+use Rattle.hsm_replay.proofs.Living.{migrate_calls_until, migrate_went_live}
 use Rattle.hsm_replay.proofs.Marked.{marked_still}
 use Rattle.hsm_replay.proofs.Sealing.{heard_of_missing, heard_of_copy}
 use Rattle.hsm_replay.proofs.Stepping.{recall_left, recall_marked, recall_called, recall_went, migrate_left, migrate_marked, migrate_called, migrate_went}
@@ -72,7 +75,7 @@ module _ {D M : Type 0} (g : disk.Ghosts D) (h : drive.Ghosts M) where
 
   -- the call of a daemon that the store answered
   served_runs : {T : Type 0} (x : T) (daemon : Daemon) (sid : Sid) (asked : DmCall) (reply : DmReply) (old left : System D M) → Serves g sid asked reply old left → Runs g (Ok x) old.store left.store
-  served_runs x daemon sid asked reply old left serves = record { goes_on = event_goes g old.store (Session sid) (action.Dm asked) (answer.Dm reply) left.store tt serves.event.kept (session_hands old.store sid asked reply serves.event.packed) serves.event.told; works = λ working. serves.still }
+  served_runs x daemon sid asked reply old left serves = record { goes_on = event_goes g old.store (Session sid) (action.Dm asked) (answer.Dm reply) left.store tt serves.event.told; works = λ working. serves.still }
 
   -- no event
   rest_runs : {T : Type 0} (x : T) (s : Store D) → Runs g (Ok x) s s
@@ -98,9 +101,9 @@ module _ {D M : Type 0} (g : disk.Ghosts D) (h : drive.Ghosts M) where
     recall_by (Copy volume handle segment bytes) goes performs = absurd goes.may
     recall_by (Fetch entry) goes performs =
         let on = performs.3 in
-        let drives : List M = slice_set old.drives (drive_of entry.volume old.drives) on.1 in
+        let drives : List M = slice_set old.drives (drive_of (entry_place entry).volume old.drives) on.1 in
         let is : new ≡ recall_left old machine (heard.Fetched performs.0) old.store drives = keeps ∙ ap (λ (s : System D M). hearing Recall told s) on.4 ∙ ap (λ (t : Heard). recall_left old machine t old.store drives) performs.1 in
-        let grown : HaveGrown h old.drives drives = grown_at h (drive_of entry.volume old.drives) old.drives on.0 on.1 on.2 (fetched_grown h entry performs.0 on.0 on.1 on.3) in
+        let grown : HaveGrown h old.drives drives = grown_at h (drive_of (entry_place entry).volume old.drives) old.drives on.0 on.1 on.2 (fetched_grown h entry performs.0 on.0 on.1 on.3) in
         subst (λ (s : System D M). Moved Recall old s) (sym is) (record {
           limits = refl;
           drives = grown;
@@ -192,8 +195,8 @@ module _ {D M : Type 0} (g : disk.Ghosts D) (h : drive.Ghosts M) where
   -- the call of a daemon that the store didn't answer itself
   stopped_runs : (why : Stop) (sid : Sid) (asked : DmCall) (old new : System D M) → StopsCall g sid asked why old new → Runs g {T = Unit {0}} (Err why) old.store new.store
   stopped_runs why sid asked old new stops = record {
-    goes_on = event_goes g old.store (Session sid) (action.Dm asked) (answer.Dm (reply_of why)) new.store tt stops.event.kept (session_hands old.store sid asked (reply_of why) stops.event.packed) stops.event.told;
-    works = stopped_for g old.store (Session sid) (action.Dm asked) (answer.Dm (reply_of why)) new.store tt stops.event.kept (session_hands old.store sid asked (reply_of why) stops.event.packed) why stops.event.told (stop_told why asked);
+    goes_on = event_goes g old.store (Session sid) (action.Dm asked) (answer.Dm (reply_of why)) new.store tt stops.event.told;
+    works = stopped_for g old.store (Session sid) (action.Dm asked) (answer.Dm (reply_of why)) new.store tt why stops.event.told (stop_told why asked);
   }
 
   -- the run lacked memory, and no event was made
@@ -243,7 +246,7 @@ module _ {D M : Type 0} (g : disk.Ghosts D) (h : drive.Ghosts M) where
       let on = stops.1 in
       let is = on.4 in
       lacked Recall why old new stops.0 (ap (λ (s : System D M). s.limits) is) (ap (λ (s : System D M). s.store) is)
-      (subst (λ (ds : List M). HaveGrown h old.drives ds) (sym (ap (λ (s : System D M). s.drives) is)) (grown_at h (drive_of entry.volume old.drives) old.drives on.0 on.1 on.2 (fetched_grown h entry (Err fetching.Memory) on.0 on.1 on.3)))
+      (subst (λ (ds : List M). HaveGrown h old.drives ds) (sym (ap (λ (s : System D M). s.drives) is)) (grown_at h (drive_of (entry_place entry).volume old.drives) old.drives on.0 on.1 on.2 (fetched_grown h entry (Err fetching.Memory) on.0 on.1 on.3)))
   recall_stopped old new r machine runs why Idle goes stops = absurd stops
 
   migrate_stopped : (old new : System D M) (m : Migrating) (machine : migrator.Machine) (runs : old.migrate ≡ Some m) (why : Stop) (act : Act) → migrator.GoesOn m.machine m.heard act machine → Stops g h (migrate_left old machine heard.Nothing old.store old.drives) act why new → Stopped Migrate why old new

@@ -12,6 +12,7 @@ use Rattle.hsm_types.specs.declared.media.CopyRefusal.{CopyRefusal}
 use Rattle.hsm_types.specs.declared.media.CopyRefusal.TheVariants as copying
 use Rattle.hsm_types.specs.declared.media.FetchRefusal.{FetchRefusal}
 use Rattle.hsm_types.specs.declared.media.FetchRefusal.TheVariants as fetching
+use Rattle.hsm_types.specs.Stubs.{entry_place}
 use Rattle.hsm_types.specs.declared.stubs.StubEntry.{StubEntry}
 use Rattle.hsm_replay.specs.declared.stops.Stop.{Stop}
 use Rattle.hsm_replay.specs.declared.stops.Stop.TheVariants as stop
@@ -35,11 +36,11 @@ module _ {D M : Type 0} (g : disk.Ghosts D) (h : drive.Ghosts M) (old new : Syst
     copy_stops (Ok told) is = tt
     copy_stops (Err why) is = (is.0, subst (λ a. OnDriveOf volume (CopiesTo h volume handle segment bytes a) old new) is.1 on)
 
-  module _ (entry : StubEntry) (answer : Result (List ℕ) FetchRefusal) (on : OnDriveOf entry.volume (FetchesFrom h entry answer) old new) where
+  module _ (entry : StubEntry) (answer : Result (List ℕ) FetchRefusal) (on : OnDriveOf (entry_place entry).volume (FetchesFrom h entry answer) old new) where
     pub fetches : (result : Result Heard Stop) → IfOk result (λ told. (told ≡ heard.Fetched answer) × (answer ≢ Err fetching.Memory)) → IfOk result (λ told. Performs g h old (act.Fetch entry) told new)
     fetches (Ok told) is = (answer, is.0, is.1, on)
     fetches (Err why) is = tt
 
     pub fetch_stops : (result : Result Heard Stop) → IfErr result (λ why. (why ≡ stop.Memory) × (answer ≡ Err fetching.Memory)) → IfErr result (λ why. Stops g h old (act.Fetch entry) why new)
     fetch_stops (Ok told) is = tt
-    fetch_stops (Err why) is = (is.0, subst (λ a. OnDriveOf entry.volume (FetchesFrom h entry a) old new) is.1 on)
+    fetch_stops (Err why) is = (is.0, subst (λ a. OnDriveOf (entry_place entry).volume (FetchesFrom h entry a) old new) is.1 on)

@@ -1,5 +1,6 @@
 -- Passes in a history, while it goes on.
-use Rattle.std.proofs.Common.{◌≡◌, ◌≢◌, ◌∙◌, ◌⊎◌, ◌∷◌, ◌++◌, [], ℕ, zero, suc, ◌<◌, List, length, Some, Contains, slice_index_or, inl, inr, refl, sym, ap, subst, append-nil, append_assoc, arith}
+use Rattle.std.proofs.Common.{◌≡◌, ◌≢◌, ◌∙◌, ◌⊎◌, ◌∷◌, ◌++◌, [], ℕ, zero, suc, ◌<◌, List, length, Some, Contains, slice_index_or, inl, inr, refl}
+use Rattle.std.proofs.Common.{sym, ap, subst, append-nil, append_assoc, arith}
 use Rattle.std.specs.List.{AllByRecursion}
 use Rattle.std.specs.Prelude.{slice_get}
 use Rattle.std.proofs.lemmas.List.Elements.{Contains-append_left}
@@ -20,7 +21,8 @@ use Rattle.plain_model.specs.declared.entries.Answer.TheVariants as answer
 use Rattle.migrate_daemon.specs.Machine.{IsOfPass}
 use Rattle.marked_history.specs.Lives.{IsLast, HasLostSession}
 use Rattle.marked_history.specs.Marks.{Mark, made}
-use Rattle.marked_history.specs.Passing.{IsOfPassBy, AreOfPass, table_told, IsBetween, IsBehindPass, GoesOn, IsPassOver, IsCoveredIn, read_call, IsReadAtLast, IsWithinPass, AllWithin, IsDoneIn, IsEndedIn, IsPassed, EachPassed, AllPassed}
+use Rattle.marked_history.specs.Passing.{IsOfPassBy, AreOfPass, table_told, IsBetween, IsBehindPass, GoesOn, IsPassOver, IsCoveredIn, read_call}
+use Rattle.marked_history.specs.Passing.{IsReadAtLast, IsWithinPass, AllWithin, IsDoneIn, IsEndedIn, IsPassed, EachPassed, AllPassed}
 use Rattle.hsm_replay.proofs.Growing.{all_and}
 
 -- ---- lists

@@ -1,8 +1,10 @@
 -- The pass of the migration daemon, through each of its acts, and what its marks tell of it.
-use Rattle.std.proofs.Common.{◌≡◌, ◌≢◌, ◌∙◌, ◌⊎◌, ◌*◌, ◌+◌, ◌<◌, ◌≤◌, ◌∷◌, ◌++◌, [], ℕ, zero, suc, true, false, List, length, Option, Some, None, Result, Ok, Err, Contains, IfSome, inl, inr, refl, sym, ap, subst, append_assoc, arith}
+use Rattle.std.proofs.Common.{◌≡◌, ◌≢◌, ◌∙◌, ◌⊎◌, ◌*◌, ◌+◌, ◌<◌, ◌≤◌, ◌∷◌, ◌++◌, [], ℕ, zero, suc, true, false, List, length, Option, Some, None}
+use Rattle.std.proofs.Common.{Result, Ok, Err, Contains, IfSome, inl, inr, refl, sym, ap, subst, append_assoc, arith}
 use Rattle.std.specs.List.{AllByRecursion}
 use Rattle.std.specs.Prelude.{slice_get}
 use Rattle.std.proofs.lemmas.List.Elements.{Contains-append_left, Contains-append_right, Contains-push_cases}
+use Rattle.hsm_types.specs.Limits.{segment_bytes}
 use Rattle.hsm_types.specs.Messages.{no_token}
 use Rattle.hsm_types.specs.Regions.{covers}
 use Rattle.hsm_types.specs.declared.daemons.Act.{Act}
@@ -26,21 +28,26 @@ use Rattle.hsm_policy.specs.Settings.{Numbers}
 use Rattle.hsm_policy.specs.declared.picking.Picked.{Picked}
 use Rattle.daemon_session.specs.Seats.{no_seat}
 use Rattle.migrate_daemon.specs.Known.{Known, knows_by}
-use Rattle.migrate_daemon.specs.Machine.{Machine, started, freshened, IsOfPass, ComesTo, Stays, IsCovered, MaySetRegions, MayRead, MaySeal, MayPunch, IsAt, MayGive, GoesOn as Goes}
-use Rattle.migrate_daemon.specs.Passes.{Exchange, Pass, Passed, begun_pass, IsCallOf, IsSeal, IsCopy, IsSkip, IsEnd, IsDone, EndsAt, IsOver, start_of, whole_file, sets_regions, reads, seals, punches, copies, told_since}
+use Rattle.migrate_daemon.specs.Machine.{Machine, started, freshened, IsOfPass, ComesTo, Stays, IsCovered, MaySetRegions, MayRead, MaySeal, MayPunch}
+use Rattle.migrate_daemon.specs.Machine.{IsAt, MayGive, GoesOn as Goes}
+use Rattle.migrate_daemon.specs.Passes.{Exchange, Pass, Passed, begun_pass, IsCallOf, IsSeal, IsCopy, IsSkip, IsEnd, IsDone, EndsAt, IsOver}
+use Rattle.migrate_daemon.specs.Passes.{start_of, whole_file, sets_regions, reads, seals, punches, copies, told_since}
 use Rattle.migrate_daemon.specs.Shares.{share}
 use Rattle.migrate_daemon.specs.declared.skips.Skip.{Skip}
 use Rattle.marked_history.specs.Lives.{IsLast, HasLostSession}
 use Rattle.marked_history.specs.Marks.{Mark, made}
-use Rattle.marked_history.specs.Passing.{AreOfPass, table_told, IsBetween, IsBehindPass, IsDoneIn, IsEndedIn, IsCoveredIn, read_call, read_told, IsReadAtLast, IsRead, IsLastRead, IsSealedIn, IsOfCopy, IsWithinPass, IsPassed, AllPassed}
+use Rattle.marked_history.specs.Passing.{AreOfPass, table_told, IsBetween, IsBehindPass, IsDoneIn, IsEndedIn, IsCoveredIn, read_call, read_told}
+use Rattle.marked_history.specs.Passing.{IsReadAtLast, IsRead, IsLastRead, IsSealedIn, IsOfCopy, IsWithinPass, IsPassed, AllPassed}
 use Rattle.hsm_replay.specs.declared.daemons.Migrating.{Migrating}
-use Rattle.hsm_replay.specs.Passes.{AreThere, EndsIn, IsPassOf, IsThere, IsReady, IsInPass, HasNotBegun, HearsTable, HearsCopy, IsOpened, IsBetweenPasses, PassStands}
+use Rattle.hsm_replay.specs.Passes.{AreThere, EndsIn, IsPassOf, IsThere, IsReady, IsInPass, HasNotBegun, HearsTable, HearsCopy, IsOpened}
+use Rattle.hsm_replay.specs.Passes.{IsBetweenPasses, PassStands}
 use Rattle.hsm_replay.specs.Rests.{untold}
 use Rattle.hsm_replay.proofs.Coming.{IsNoCall, IsBegin}
 use Rattle.hsm_replay.proofs.Growing.{all_and}
 use Rattle.hsm_replay.proofs.Kept.{there}
 use Rattle.hsm_replay.proofs.MigrateShown.{begins_at_once, no_rest, starts}
-use Rattle.hsm_replay.proofs.PassMarks.{IsOther, IsOne, Opens, same_sid, same_call, same_answer, by_migration, of_first, last_of_pass, no_table, between_of, refused_now, covered_longer, last_longer, read_longer, all_passed_more, opens_more}
+use Rattle.hsm_replay.proofs.PassMarks.{IsOther, IsOne, Opens, same_sid, same_call, same_answer, by_migration, of_first, last_of_pass, no_table}
+use Rattle.hsm_replay.proofs.PassMarks.{between_of, refused_now, covered_longer, last_longer, read_longer, all_passed_more, opens_more}
 
 -- ---- the calls of a pass
 
@@ -93,7 +100,7 @@ along talk asked sid call answer is has = subst (λ (a : Act). Contains talk (ex
 
 module _ (talk : List Exchange) (during : List Mark) (there : AreThere talk during) (sid : Sid) (p : Picked) where
   done_in : (pass : Pass) → pass.sid ≡ sid → IsDone talk pass p → IsDoneIn during sid p
-  done_in pass same (inl has) = inl (there sid (PunchHole no_token p.handle (start_of p) 65536) reply.Done (subst (λ (s : Sid). Contains talk (exchange (punches s p) (heard.Dm reply.Done))) same has))
+  done_in pass same (inl has) = inl (there sid (PunchHole no_token p.handle (start_of p) segment_bytes) reply.Done (subst (λ (s : Sid). Contains talk (exchange (punches s p) (heard.Dm reply.Done))) same has))
   done_in pass same (inr skips) =
       let by : IsSkip sid p skips.0 skips.1 = subst (λ (s : Sid). IsSkip s p skips.0 skips.1) same skips.3 in
       let call = skip_is sid p skips.0 skips.1 by in
@@ -195,7 +202,7 @@ read_as during sid p q bytes handle segment read = record {
 }
   where
     same : read_call p ≡ read_call q
-    same = ap (λ (h : Handle). ReadInvis no_token h (65536 * p.segment) 65536) handle ∙ ap (λ (n : ℕ). ReadInvis no_token q.handle (65536 * n) 65536) segment
+    same = ap (λ (h : Handle). ReadInvis no_token h (segment_bytes * p.segment) segment_bytes) handle ∙ ap (λ (n : ℕ). ReadInvis no_token q.handle (segment_bytes * n) segment_bytes) segment
 
 -- a copy is one of the bytes that were read at last
 read_of_copy : (volumes : ℕ) (picks : List Picked) (during : List Mark) (sid : Sid) (p : Picked) (volume : ℕ) (bytes : List ℕ) → IsReady volumes picks during sid (copies p volume bytes) → IsReadAtLast during sid p bytes
@@ -379,9 +386,9 @@ module _ (volumes : ℕ) (picks : List Picked) (during : List Mark) (sid : Sid) 
   covered_read : asked ≡ reads sid p → IsCoveredIn during sid p
   covered_read is =
       let was = ready_as (reads sid p) is in
-      let both : Dm sid (ReadInvis no_token p.handle (start_of p) 65536) ≡ Dm sid (ReadInvis no_token was.0.handle (start_of was.0) 65536) = was.2 in
+      let both : Dm sid (ReadInvis no_token p.handle (start_of p) segment_bytes) ≡ Dm sid (ReadInvis no_token was.0.handle (start_of was.0) segment_bytes) = was.2 in
       let handle : was.0.handle ≡ p.handle = cc both in
-      let start : 65536 * was.0.segment ≡ 65536 * p.segment = cc both in
+      let start : segment_bytes * was.0.segment ≡ segment_bytes * p.segment = cc both in
       covered_as during sid was.0 p handle (omega (arith, start)) was.4
 
   covered_copy : (volume : ℕ) → IsCopy p volume asked → IsCoveredIn during sid p

@@ -1,17 +1,19 @@
 -- What a history shows of the recall daemon, through each of its acts.
-use Rattle.std.proofs.Common.{◌≡◌, ℕ, ◌<◌, ◌⊎◌, ⊎_elim, Bool, true, false, not, cond, List, [], ◌∷◌, ◌++◌, length, drop, if◌then◌else◌, option_map, Some, None, Ok, Err, Contains, slice_index_or, refl, sym, ap, ap₂, subst, inl, inr, ◌∙◌, arith}
+use Rattle.std.proofs.Common.{◌≡◌, ℕ, ◌<◌, ◌⊎◌, ⊎_elim, Bool, true, false, not, cond, List, [], ◌∷◌, ◌++◌, length, drop, if◌then◌else◌, option_map}
+use Rattle.std.proofs.Common.{Some, None, Ok, Err, Contains, slice_index_or, refl, sym, ap, ap₂, subst, inl, inr, ◌∙◌, arith}
 use Rattle.std.proofs.lemmas.List.{get_or-map, get_or_default, length-map}
 use Rattle.std.specs.Str.{bytes_eq}
 use Rattle.media_model.specs.declared.drive.Drive as drive
 use Rattle.hsm_types.specs.Daemons.{information}
-use Rattle.hsm_types.specs.Stubs.{print_of}
+use Rattle.hsm_types.specs.Stubs.{print_of, entry_print}
 use Rattle.hsm_types.specs.declared.daemons.Act.{Act}
 use Rattle.hsm_types.specs.declared.daemons.Act.TheVariants.{Dm, Copy, Fetch, Idle}
 use Rattle.hsm_types.specs.declared.daemons.Daemon.TheVariants.{Recall}
 use Rattle.hsm_types.specs.declared.daemons.Heard.{Heard}
 use Rattle.hsm_types.specs.declared.daemons.Heard.TheVariants as heard
 use Rattle.hsm_types.specs.declared.dm.DmCall.{DmCall}
-use Rattle.hsm_types.specs.declared.dm.DmCall.TheVariants.{CreateSession, GetAllSessions, QuerySession, SetDisp, GetEvents, GetAllTokens, FindEventMsg, Respond, RequestRight, GetFileAttr, GetAllocInfo, Restore}
+use Rattle.hsm_types.specs.declared.dm.DmCall.TheVariants.{CreateSession, GetAllSessions, QuerySession, SetDisp, GetEvents, GetAllTokens}
+use Rattle.hsm_types.specs.declared.dm.DmCall.TheVariants.{FindEventMsg, Respond, RequestRight, GetFileAttr, GetAllocInfo, Restore}
 use Rattle.hsm_types.specs.declared.dm.DmRefusal.{DmRefusal}
 use Rattle.hsm_types.specs.declared.dm.DmRefusal.TheVariants as why
 use Rattle.hsm_types.specs.declared.dm.DmReply.{DmReply}
@@ -30,7 +32,9 @@ use Rattle.daemon_session.specs.Members.{IsRefusedOne}
 use Rattle.daemon_session.specs.Seats.{Seat, no_seat, found_one, has_kept_token, forgot, marked_at, all_marked, seat_hears, IsSeated}
 use Rattle.daemon_session.specs.Tellings.{events_in}
 use Rattle.recall_daemon.specs.declared.away.Away.{Away}
-use Rattle.recall_daemon.specs.Known.{Known, Hand, with_hand, with_kept, handling, put_off, dropped, refused, failed, unrestored, unanswered, asks, hears, asks_by, knows_by, away_in, back_in, IsKept, IsInHand, IsNeeded, IsReady, IsLost, Holds, HasAll, ArePutOff, MayCall, MayGive}
+use Rattle.recall_daemon.specs.Known.{Known, Hand, with_hand, with_kept, handling, put_off, dropped, refused, failed, unrestored, unanswered, asks}
+use Rattle.recall_daemon.specs.Known.{hears, asks_by, knows_by, away_in, back_in, IsKept, IsInHand, IsNeeded, IsReady, IsLost, Holds, HasAll}
+use Rattle.recall_daemon.specs.Known.{ArePutOff, MayCall, MayGive}
 use Rattle.recall_daemon.specs.Known as recall
 use Rattle.recall_daemon.specs.Machine.{Machine, GoesOn}
 use Rattle.hsm_replay.specs.declared.daemons.Recalling.{Recalling}
@@ -273,7 +277,7 @@ may_as k shown sid call same may = come_as k.seat shown.seat sid call same.seat 
 -- ---- what was heard of a fetch
 
 module _ {M : Type 0} (g : drive.Ghosts M) (drives : List M) (faults : List Fault) (asked : Act) (told : Heard) (hears_of : IsHeardOf g drives faults asked told) where
-  fetched : (entry : StubEntry) (bytes : List ℕ) → asked ≡ Fetch entry → told ≡ heard.Fetched (Ok bytes) → print_of bytes ≡ entry.print
+  fetched : (entry : StubEntry) (bytes : List ℕ) → asked ≡ Fetch entry → told ≡ heard.Fetched (Ok bytes) → print_of bytes ≡ entry_print entry
   fetched entry bytes is hears = rw (is, hears) at hears_of
 
   faulted : (entry : StubEntry) (fault : Fault) → asked ≡ Fetch entry → told ≡ heard.Fetched (Err (fetching.Media fault)) → IsOf entry fault

@@ -1,6 +1,7 @@
 -- A store that has settled is at rest by what its marked history tells, and its daemons are at work or were turned away.
 use Rattle.std.specs.Prelude.{Result, Ok, Err, OnOk}
-use Rattle.std.proofs.Common.{◌≡◌, ◌∙◌, ◌⊎◌, ◌++◌, ◌∷◌, [], Bool, true, false, ℕ, List, Option, None, Some, IfSome, is_some, inl, inr, refl, sym, ap, ap₂, subst, append_assoc, arith, Contains}
+use Rattle.std.proofs.Common.{◌≡◌, ◌∙◌, ◌⊎◌, ◌++◌, ◌∷◌, [], Bool, true, false, ℕ, List, Option, None, Some, IfSome, is_some, inl, inr, refl, sym, ap}
+use Rattle.std.proofs.Common.{ap₂, subst, append_assoc, arith, Contains}
 use Rattle.std.proofs.lemmas.Bool.{false≢true}
 use Rattle.std.proofs.lemmas.List.Elements.{All-contains, All-from_recursion, Contains-append_left, Contains-append_right, Contains-push}
 use Rattle.std.specs.List.{AllByRecursion}
@@ -42,7 +43,6 @@ use Rattle.migrate_daemon.specs.Shares.{is_above}
 use Rattle.hsm_replay.specs.declared.daemons.Recalling.{Recalling}
 use Rattle.hsm_replay.specs.declared.daemons.Migrating.{Migrating}
 use Rattle.hsm_replay.specs.declared.stops.Stop.{Stop}
-use Rattle.marked_history.specs.Caused.{ArePackedSince}
 use Rattle.marked_history.specs.Follows.{IsMadeBy, IsOfSettling, IsPartOf}
 use Rattle.script_text.specs.declared.lines.Line.TheVariants.{Settle}
 use Rattle.hsm_replay.specs.Faults.{faults_in}
@@ -63,7 +63,8 @@ use Rattle.hsm_replay.proofs.Coming.{unseated as no_session}
 use Rattle.hsm_replay.proofs.Freshness.{refreshed_fresh}
 use Rattle.hsm_replay.proofs.Kept.{here, there, first_or_rest, all_then, told_unmarked}
 use Rattle.hsm_replay.proofs.Rounds.{marked_since}
-use Rattle.hsm_replay.proofs.TurnedAway.{IsRefusedOne, EndsRefused, ends_away, shown_append, recall_away, migrate_away, recall_turned_away, migrate_turned_away, recall_told, migrate_told}
+use Rattle.hsm_replay.proofs.TurnedAway.{IsRefusedOne, EndsRefused, ends_away, shown_append, recall_away, migrate_away, recall_turned_away}
+use Rattle.hsm_replay.proofs.TurnedAway.{migrate_turned_away, recall_told, migrate_told}
 use Rattle.marked_history.proofs.StillSo.{lives_still, spacious_still}
 use Rattle.marked_history.proofs.Waiting.{ready_waits, settled_waits}
 
@@ -272,10 +273,10 @@ module _ {D M : Type 0} (h : drive.Ghosts M) (opened : List M) (marks : List Mar
       waits = λ c a caller waits. ready_waits s.store kept working c a waits (turns.ready c caller);
     }
 
-    wait_rightly : ArePackedSince s.store → AllMayWait (running s) k marks (superblock_of s.store.opened) (state_by (superblock_of s.store.opened) (first_of s) (entries_of marks))
-    wait_rightly packed =
+    wait_rightly : AllMayWait (running s) k marks (superblock_of s.store.opened) (state_by (superblock_of s.store.opened) (first_of s) (entries_of marks))
+    wait_rightly =
         subst (λ (es : List Entry). AllMayWait (running s) k marks (superblock_of s.store.opened) (state_by (superblock_of s.store.opened) (first_of s) es)) (sym shows.marked.entries)
-        (settled_waits (running s) s.limits (superblock_of s.store.opened) s.store.opened.meta.number s.store.opened.held marks s.store.history shows.marked.entries shows.marked.served kept.good.run packed at_rest)
+        (settled_waits (running s) s.limits (superblock_of s.store.opened) s.store.opened.meta.number s.store.opened.held marks s.store.history shows.marked.entries shows.marked.served kept.good.run kept.packed at_rest)
 
     -- ---- what was told in the turns
 
@@ -352,16 +353,16 @@ module _ {D M : Type 0} (h : drive.Ghosts M) (opened : List M) (before part : Li
           let same : entries_of part ≡ fresh.0 = marked_since before part old.store.history s.store.history fresh.0 was shows.marked.entries fresh.1 in
           inr (begins_pass s.limits before part shows.marked.served settles (subst IsToldTable (sym same) told))
 
-      has_settled : ArePackedSince s.store → IsSettledIn s before part
-      has_settled packed = record {
-        waits = wait_rightly h opened whole s shows from turns all_ends kept working packed;
+      has_settled : IsSettledIn s before part
+      has_settled = record {
+        waits = wait_rightly h opened whole s shows from turns all_ends kept working;
         works = each_works;
         spares = has_begun h opened whole s shows from turns all_ends kept working (BeginsPass part) (may_or_began (fresh.2 (refreshed_fresh old)));
       }
 
 -- a settling that came to rest
-pub settles_rightly : {D M : Type 0} (h : drive.Ghosts M) (old mid new : System D M) → running mid ≡ running old → Keeps h (AllByRecursion IsOfSettling) old mid → EndsMarked h mid new → StaysFresh (refreshed old) new → IsKept new.store → new.store.files.failed ≡ false → ArePackedSince new.store → LeadsTo h (AllByRecursion IsOfSettling) (IsSettledIn new) old new
-settles_rightly h old mid new runs keeps ends fresh kept working packed opened marks shows =
+pub settles_rightly : {D M : Type 0} (h : drive.Ghosts M) (old mid new : System D M) → running mid ≡ running old → Keeps h (AllByRecursion IsOfSettling) old mid → EndsMarked h mid new → StaysFresh (refreshed old) new → IsKept new.store → new.store.files.failed ≡ false → LeadsTo h (AllByRecursion IsOfSettling) (IsSettledIn new) old new
+settles_rightly h old mid new runs keeps ends fresh kept working opened marks shows =
     let one = keeps opened marks shows in
     let two = ends.1 opened (marks ++ one.0) one.2 in
     let settles : AllByRecursion IsOfSettling (one.0 ++ two.0) = all_then IsOfSettling one.0 two.0 one.1 two.1 in
@@ -369,7 +370,7 @@ settles_rightly h old mid new runs keeps ends fresh kept working packed opened m
       one.0 ++ two.0,
       settles,
       then,
-      has_settled h opened marks (one.0 ++ two.0) old new shows.marked.entries then mid.store.history ends.0 (ends_later one.0 two.0 ends.0.recall_turn ends.0.migrate_turn two.3) kept working settles fresh packed,
+      has_settled h opened marks (one.0 ++ two.0) old new shows.marked.entries then mid.store.history ends.0 (ends_later one.0 two.0 ends.0.recall_turn ends.0.migrate_turn two.3) kept working settles fresh,
       by_running_then (running old) (running mid) one.0 two.0 runs one.3 two.4,
       live_then old mid new marks one.0 two.0 runs one.4 two.5,
     )
@@ -377,12 +378,12 @@ settles_rightly h old mid new runs keeps ends fresh kept working packed opened m
 -- what else is so of the marks that a line leads to
 pub keeps_leads : {D M T : Type 0} (h : drive.Ghosts M) (IsPart : List Mark → Type 0) (IsSo : List Mark → List Mark → Type 0) (result : Result T Stop) (old new : System D M) → OnOk result (Keeps h IsPart old new)
     → ((before part : List Mark) → IsPart part → LiveOn old new before part → IsSo before part) → LeadsOn h IsPart IsSo result old new
-keeps_leads h IsPart IsSo (Ok done) old new keeps so = λ working packed opened marks shows.
+keeps_leads h IsPart IsSo (Ok done) old new keeps so = λ working opened marks shows.
     let one = keeps opened marks shows in (one.0, one.1, one.2, so marks one.0 one.1 one.4, one.3, one.4)
-keeps_leads h IsPart IsSo (Err why) old new keeps so = λ working packed. tt
+keeps_leads h IsPart IsSo (Err why) old new keeps so = λ working. tt
 
 -- the daemons live through a settle
 pub settle_leads : {D M T : Type 0} (h : drive.Ghosts M) (result : Result T Stop) (old new : System D M) → running new ≡ running old → LeadsOn h (AllByRecursion IsOfSettling) (IsSettledIn new) result old new → LeadsOn h (IsPartOf Settle) (IsLeftBy Settle old new) result old new
-settle_leads h (Ok done) old new same leads = λ working packed opened marks shows.
-    let one = leads working packed opened marks shows in (one.0, one.1, one.2, (one.3, λ limits called live. live_through old new marks one.0 same one.5 limits called live), one.4, one.5)
-settle_leads h (Err why) old new same leads = λ working packed. tt
+settle_leads h (Ok done) old new same leads = λ working opened marks shows.
+    let one = leads working opened marks shows in (one.0, one.1, one.2, (one.3, λ limits called live. live_through old new marks one.0 same one.5 limits called live), one.4, one.5)
+settle_leads h (Err why) old new same leads = λ working. tt

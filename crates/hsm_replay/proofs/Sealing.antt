@@ -1,5 +1,7 @@
 -- What is sealed, while drives are used and histories go on.
-use Rattle.std.proofs.Common.{◌≡◌, ◌≢◌, ◌∙◌, ◌+◌, ◌%◌, ◌<◌, ◌≤◌, ◌⊎◌, ◌∷◌, ◌++◌, [], ℕ, zero, suc, true, List, length, get_or, drop, Option, Some, None, IfSome, Result, Ok, Err, inl, inr, refl, sym, ap, subst, append_assoc, append-nil, length-append, length-set, arith}
+use Rattle.std.proofs.Common.{◌≡◌, ◌≢◌, ◌∙◌, ◌+◌, ◌%◌, ◌<◌, ◌≤◌, ◌⊎◌, ◌∷◌, ◌++◌, [], ℕ, zero, suc, true, List, length, get_or, drop, Option, Some}
+use Rattle.std.proofs.Common.{None, IfSome, Result, Ok, Err, inl, inr, refl, sym, ap, subst, append_assoc, append-nil, length-append, length-set}
+use Rattle.std.proofs.Common.{arith}
 use Rattle.std.specs.List.{AllByRecursion, cons_option}
 use Rattle.std.specs.Prelude.{slice_get, slice_set}
 use Rattle.std.proofs.Math.Seq.{get_or-append_seam}
@@ -7,7 +9,7 @@ use Rattle.std.proofs.lemmas.List.{get_or_append_left}
 use Rattle.std.proofs.lemmas.List.Elements.{filter_map-append}
 use Rattle.media_model.specs.Objects.{Objects}
 use Rattle.media_model.specs.declared.drive.Drive as drive
-use Rattle.hsm_types.specs.Stubs.{print_of}
+use Rattle.hsm_types.specs.Stubs.{print_of, entry_place, entry_at}
 use Rattle.hsm_types.specs.declared.daemons.Act.{Act}
 use Rattle.hsm_types.specs.declared.daemons.Act.TheVariants.{Dm, Copy, Fetch}
 use Rattle.hsm_types.specs.declared.daemons.Daemon.TheVariants.{Recall}
@@ -35,7 +37,8 @@ use Rattle.hsm_replay.specs.Acts.{CopiesTo, FetchesFrom}
 use Rattle.hsm_replay.specs.Drives.{Extends, HasGrown, HaveGrown}
 use Rattle.hsm_replay.specs.Faults.{TellsFault, IsTrue}
 use Rattle.marked_history.specs.Marks.{Mark, made}
-use Rattle.hsm_replay.specs.Sealed.{seal_by, sealed_in, IsUnsealed, Gives, IsThere, IsStored, MayLack, IsLost, HearsStored, HearsLost, NeedsLost, AbortsAreRight, DamagesAreRight, Tallies, SealsAreWhole}
+use Rattle.hsm_replay.specs.Sealed.{seal_by, sealed_in, IsUnsealed, Gives, IsThere, IsStored, MayLack, IsLost, HearsStored, HearsLost, NeedsLost}
+use Rattle.hsm_replay.specs.Sealed.{AbortsAreRight, DamagesAreRight, Tallies, SealsAreWhole}
 use Rattle.marked_history.specs.Served.{shown, nothing_shown}
 use Rattle.hsm_replay.specs.Systems.{drive_of}
 use Rattle.hsm_replay.proofs.Growing.{all_and, grown_count, have_grown_on, grown_at, reads_grow}
@@ -129,20 +132,20 @@ module _ {M : Type 0} (g : drive.Ghosts M) where
 
   pub stored_still : (ds es : List M) → HaveGrown g ds es → (entry : StubEntry) → IsStored g ds entry → IsStored g es entry
   stored_still ds es grown entry stored = record {
-    there = there_still entry.volume ds es grown stored.there;
+    there = there_still (entry_place entry).volume ds es grown stored.there;
     print = λ now given.
-        let before = gave entry.volume ds es now grown given in
+        let before = gave (entry_place entry).volume ds es now grown given in
         let had = stored.print before.0 before.1 in
         let more = before.2.0 in
         let longer : length now ≡ length before.0 + length more = ap (λ (o : Objects). length o) before.2.1 ∙ length-append before.0 more in
-        let same : get_or now entry.object [] ≡ get_or before.0 entry.object [] = ap (λ (o : Objects). get_or o entry.object []) before.2.1 ∙ get_or_append_left before.0 more [] entry.object had.0 in
+        let same : get_or now (entry_place entry).object [] ≡ get_or before.0 (entry_place entry).object [] = ap (λ (o : Objects). get_or o (entry_place entry).object []) before.2.1 ∙ get_or_append_left before.0 more [] (entry_place entry).object had.0 in
         (omega (arith, longer, had.0), had.1 ∙ ap (λ (o : List ℕ). print_of (drop 72 o)) (sym same));
     lasts = λ now given.
-        let at : slice_get es (entry.volume % length ds) ≡ Some given.0 = subst (λ (n : ℕ). slice_get es (entry.volume % n) ≡ Some given.0) (grown_count g ds es grown) given.1 in
-        let was = grown_from (entry.volume % length ds) ds es given.0 grown at in
-        let had = was.2.objects entry.volume now given.2 in
-        let lasted : entry.object < g.lasting was.0 entry.volume = stored.lasts had.0 (was.0, was.1, had.1) in
-        let kept : g.lasting was.0 entry.volume ≤ g.lasting given.0 entry.volume = was.2.volumes.lasting entry.volume in
+        let at : slice_get es ((entry_place entry).volume % length ds) ≡ Some given.0 = subst (λ (n : ℕ). slice_get es ((entry_place entry).volume % n) ≡ Some given.0) (grown_count g ds es grown) given.1 in
+        let was = grown_from ((entry_place entry).volume % length ds) ds es given.0 grown at in
+        let had = was.2.objects (entry_place entry).volume now given.2 in
+        let lasted : (entry_place entry).object < g.lasting was.0 (entry_place entry).volume = stored.lasts had.0 (was.0, was.1, had.1) in
+        let kept : g.lasting was.0 (entry_place entry).volume ≤ g.lasting given.0 (entry_place entry).volume = was.2.volumes.lasting (entry_place entry).volume in
         omega (arith, lasted, kept);
   }
 
@@ -152,8 +155,8 @@ module _ {M : Type 0} (g : drive.Ghosts M) where
     since = lost.since;
     parted = lost.parted;
     others = lost.others;
-    unnamed = λ o gives. let before = gave entry.volume ds es o grown gives in lost.unnamed before.0 before.1;
-    lacked = λ o gives. let before = gave entry.volume ds es o grown gives in lost.lacked before.0 before.1;
+    unnamed = λ o gives. let before = gave (entry_place entry).volume ds es o grown gives in lost.unnamed before.0 before.1;
+    lacked = λ o gives. let before = gave (entry_place entry).volume ds es o grown gives in lost.lacked before.0 before.1;
   }
 
   needs_still : (opened ds es : List M) (k : Known) (marks : List Mark) → HaveGrown g ds es → NeedsLost g opened ds k marks → NeedsLost g opened es k marks
@@ -254,11 +257,11 @@ module _ {M : Type 0} (g : drive.Ghosts M) where
     damage_unsealed volume object want got tells o gives = all_as (IsStored g ds) (λ (e : StubEntry). e ≢ entry) unlike (sealed_in marks) tallies.stored
       where
         entry : StubEntry
-        entry = record { volume = volume; object = object; print = want }
+        entry = entry_at (record { volume = volume; object = object }) want
 
         unlike : (e : StubEntry) → IsStored g ds e → e ≢ entry
         unlike e stored is =
-            let there : IsStored g ds (record { volume = volume; object = object; print = want }) = subst (λ (x : StubEntry). IsStored g ds x) is stored in
+            let there : IsStored g ds (entry_at (record { volume = volume; object = object }) want) = subst (λ (x : StubEntry). IsStored g ds x) is stored in
             let told : TellsFault g gives.0 (Damaged volume object want got) = subst (λ (x : Option M). IfSome x (λ (d : M). TellsFault g d (Damaged volume object want got))) gives.1 tells in
             let wanted = there.print o gives in
             let found = told.2 o gives.2 in
@@ -266,33 +269,33 @@ module _ {M : Type 0} (g : drive.Ghosts M) where
 
     -- ---- a fetch
 
-    module _ (entry : StubEntry) (d e : M) (at : slice_get ds (drive_of entry.volume ds) ≡ Some d) where
-      missing_now : ((o : Objects) → g.gives d entry.volume o → length o ≤ entry.object) → IsLost g opened ds marks entry
+    module _ (entry : StubEntry) (d e : M) (at : slice_get ds (drive_of (entry_place entry).volume ds) ≡ Some d) where
+      missing_now : ((o : Objects) → g.gives d (entry_place entry).volume o → length o ≤ (entry_place entry).object) → IsLost g opened ds marks entry
       missing_now missing = record {
         first = marks;
         since = [];
         parted = sym (append-nil marks);
         others = tt;
-        unnamed = λ o gives. all_as (IsStored g ds) (λ (s : StubEntry). (s.volume ≡ entry.volume) × (s.object ≡ entry.object) → ⊥) (unlike o gives) (sealed_in marks) tallies.stored;
+        unnamed = λ o gives. all_as (IsStored g ds) (λ (s : StubEntry). ((entry_place s).volume ≡ (entry_place entry).volume) × ((entry_place s).object ≡ (entry_place entry).object) → ⊥) (unlike o gives) (sealed_in marks) tallies.stored;
         lacked = λ o gives.
-            let had = gave entry.volume opened ds o tallies.grown gives in
+            let had = gave (entry_place entry).volume opened ds o tallies.grown gives in
             let longer : length o ≡ length had.0 + length had.2.0 = ap (λ (l : Objects). length l) had.2.1 ∙ length-append had.0 had.2.0 in
             (had.0, had.1, omega (arith, longer, short o gives));
       }
         where
-          short : (o : Objects) → Gives g ds entry.volume o → length o ≤ entry.object
+          short : (o : Objects) → Gives g ds (entry_place entry).volume o → length o ≤ (entry_place entry).object
           short o gives =
               let both : Some d ≡ Some gives.0 = sym at ∙ gives.1 in
               let same : gives.0 ≡ d = cc both in
-              missing o (subst (λ (x : M). g.gives x entry.volume o) same gives.2)
+              missing o (subst (λ (x : M). g.gives x (entry_place entry).volume o) same gives.2)
 
-          unlike : (o : Objects) → Gives g ds entry.volume o → (s : StubEntry) → IsStored g ds s → (s.volume ≡ entry.volume) × (s.object ≡ entry.object) → ⊥
+          unlike : (o : Objects) → Gives g ds (entry_place entry).volume o → (s : StubEntry) → IsStored g ds s → ((entry_place s).volume ≡ (entry_place entry).volume) × ((entry_place s).object ≡ (entry_place entry).object) → ⊥
           unlike o gives s stored same =
               let has = stored.print o (subst (λ (v : ℕ). Gives g ds v o) (sym same.0) gives) in
               omega (arith, has.0, same.1, short o gives)
 
-      pub heard_of_missing : (fetched : Result (List ℕ) FetchRefusal) → FetchesFrom g entry fetched d e → HearsLost g opened (slice_set ds (drive_of entry.volume ds) e) marks (Fetch entry) (heard.Fetched fetched)
-      heard_of_missing (Err (fetching.NoObject volume object)) fetches = lost_still opened ds (slice_set ds (drive_of entry.volume ds) e) marks entry (grown_at g (drive_of entry.volume ds) ds d e at (reads_grow g d e fetches.1)) (missing_now fetches.0.2)
+      pub heard_of_missing : (fetched : Result (List ℕ) FetchRefusal) → FetchesFrom g entry fetched d e → HearsLost g opened (slice_set ds (drive_of (entry_place entry).volume ds) e) marks (Fetch entry) (heard.Fetched fetched)
+      heard_of_missing (Err (fetching.NoObject volume object)) fetches = lost_still opened ds (slice_set ds (drive_of (entry_place entry).volume ds) e) marks entry (grown_at g (drive_of (entry_place entry).volume ds) ds d e at (reads_grow g d e fetches.1)) (missing_now fetches.0.2)
       heard_of_missing fetched fetches = tt
 
   -- ---- a copy
@@ -307,28 +310,28 @@ module _ {M : Type 0} (g : drive.Ghosts M) where
       print = λ o gives.
           let both : Some e ≡ Some gives.0 = sym there ∙ gives.1 in
           let same : gives.0 ≡ e = cc both in
-          let given : g.gives e volume o = subst (λ (v : ℕ). g.gives e v o) copied.on (subst (λ (x : M). g.gives x entry.volume o) same gives.2) in
+          let given : g.gives e volume o = subst (λ (v : ℕ). g.gives e v o) copied.on (subst (λ (x : M). g.gives x (entry_place entry).volume o) same gives.2) in
           let had = copied.given o given in
-          let number : entry.object ≡ length had.0 = copied.number had.0 had.1 in
+          let number : (entry_place entry).object ≡ length had.0 = copied.number had.0 had.1 in
           let object : List ℕ = had.2.0 in
           let is : o ≡ had.0 ++ object ∷ [] = had.2.1 in
           let longer : length o ≡ length had.0 + 1 = ap (λ (l : Objects). length l) is ∙ length-append had.0 (object ∷ []) in
-          let last : get_or o entry.object [] ≡ object = ap (λ (l : Objects). get_or l entry.object []) is ∙ ap (λ (n : ℕ). get_or (had.0 ++ object ∷ []) n []) number ∙ get_or-append_seam had.0 object [] [] in
+          let last : get_or o (entry_place entry).object [] ≡ object = ap (λ (l : Objects). get_or l (entry_place entry).object []) is ∙ ap (λ (n : ℕ). get_or (had.0 ++ object ∷ []) n []) number ∙ get_or-append_seam had.0 object [] [] in
           (omega (arith, longer, number), copied.print ∙ had.2.2 ∙ ap (λ (l : List ℕ). print_of (drop 72 l)) (sym last));
       lasts = λ o gives.
           let both : Some e ≡ Some gives.0 = sym there ∙ gives.1 in
           let same : gives.0 ≡ e = cc both in
-          let given : g.gives e volume o = subst (λ (v : ℕ). g.gives e v o) copied.on (subst (λ (x : M). g.gives x entry.volume o) same gives.2) in
-          subst (λ (x : M). entry.object < g.lasting x entry.volume) (sym same) (subst (λ (v : ℕ). entry.object < g.lasting e v) (sym copied.on) (copied.lasts o given));
+          let given : g.gives e volume o = subst (λ (v : ℕ). g.gives e v o) copied.on (subst (λ (x : M). g.gives x (entry_place entry).volume o) same gives.2) in
+          subst (λ (x : M). (entry_place entry).object < g.lasting x (entry_place entry).volume) (sym same) (subst (λ (v : ℕ). (entry_place entry).object < g.lasting e v) (sym copied.on) (copied.lasts o given));
     }
       where
         same_count : length left ≡ length ds
         same_count = length-set ds (drive_of volume ds) e
 
-        number_now : drive_of entry.volume left ≡ drive_of volume ds
-        number_now = ap (λ (n : ℕ). entry.volume % n) same_count ∙ ap (λ (v : ℕ). v % length ds) copied.on
+        number_now : drive_of (entry_place entry).volume left ≡ drive_of volume ds
+        number_now = ap (λ (n : ℕ). (entry_place entry).volume % n) same_count ∙ ap (λ (v : ℕ). v % length ds) copied.on
 
-        there : slice_get left (drive_of entry.volume left) ≡ Some e
+        there : slice_get left (drive_of (entry_place entry).volume left) ≡ Some e
         there = ap (λ (n : ℕ). slice_get left n) number_now ∙ set_there (drive_of volume ds) ds d e at
 
     pub heard_of_copy : (copied : Result StubEntry CopyRefusal) → CopiesTo g volume handle segment bytes copied d e → HearsStored g left (Copy volume handle segment bytes) (heard.Copied copied)
@@ -337,25 +340,25 @@ module _ {M : Type 0} (g : drive.Ghosts M) where
 
   -- ---- a volume of which one list is told
 
-  pub lacks : (drives : List M) (entry : StubEntry) → ((x y : Objects) → Gives g drives entry.volume x → Gives g drives entry.volume y → x ≡ y) → MayLack g drives entry → (o : Objects) → Gives g drives entry.volume o → length o ≤ entry.object
-  lacks drives entry one lack o gives = subst (λ (x : Objects). length x ≤ entry.object) (one lack.0 o lack.1 gives) lack.2
+  pub lacks : (drives : List M) (entry : StubEntry) → ((x y : Objects) → Gives g drives (entry_place entry).volume x → Gives g drives (entry_place entry).volume y → x ≡ y) → MayLack g drives entry → (o : Objects) → Gives g drives (entry_place entry).volume o → length o ≤ (entry_place entry).object
+  lacks drives entry one lack o gives = subst (λ (x : Objects). length x ≤ (entry_place entry).object) (one lack.0 o lack.1 gives) lack.2
 
   -- ---- drives of a sure type
 
   module _ (law : (d : M) (v : ℕ) → g.has d v ≡ true → (o : Objects) × g.gives d v o) (ds : List M) (x : StubEntry) where
     -- a volume with what is stored tells its objects
-    none_is : (xs : List StubEntry) → AllByRecursion (IsStored g ds) xs → ((o : Objects) → Gives g ds x.volume o → AllByRecursion (λ (e : StubEntry). e ≢ x) xs) → AllByRecursion (λ (e : StubEntry). e ≢ x) xs
+    none_is : (xs : List StubEntry) → AllByRecursion (IsStored g ds) xs → ((o : Objects) → Gives g ds (entry_place x).volume o → AllByRecursion (λ (e : StubEntry). e ≢ x) xs) → AllByRecursion (λ (e : StubEntry). e ≢ x) xs
     none_is [] each told = tt
     none_is (e ∷ xs) each told = (unlike, none_is xs each.1 (λ o gives. (told o gives).1))
       where
         unlike : e ≢ x
         unlike is =
-            let there : IsThere g ds x.volume = subst (λ (s : StubEntry). IsThere g ds s.volume) is each.0.there in
-            let tells = law there.0 x.volume there.2 in
+            let there : IsThere g ds (entry_place x).volume = subst (λ (s : StubEntry). IsThere g ds (entry_place s).volume) is each.0.there in
+            let tells = law there.0 (entry_place x).volume there.2 in
             (told tells.0 (there.0, there.1, tells.1)).0 is
 
   pub seals_are_whole : (g.sure ≡ true → (d : M) (v : ℕ) → g.has d v ≡ true → (o : Objects) × g.gives d v o) → (opened ds : List M) (limits : Numbers) (marks : List Mark) → Tallies g opened ds limits marks → SealsAreWhole g marks
   seals_are_whole law opened ds limits marks tallies sure before sid t volume object want got reply rest is =
-      none_is (law sure) ds (record { volume = volume; object = object; print = want }) (sealed_in before)
+      none_is (law sure) ds (entry_at (record { volume = volume; object = object }) want) (sealed_in before)
       (all_sealed_before (IsStored g ds) marks before (made Recall sid (Respond t (Media (Damaged volume object want got))) reply) rest is tallies.stored)
       (tallies.damages before sid t volume object want got reply rest is)

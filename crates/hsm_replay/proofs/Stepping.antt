@@ -1,5 +1,6 @@
 -- What a step of a daemon keeps.
-use Rattle.std.proofs.Common.{◌≡◌, ◌≢◌, ◌∙◌, ◌∷◌, ◌++◌, [], Bool, true, false, List, length, Option, Some, None, IfSome, Err, inr, refl, sym, ap, subst, append-nil}
+use Rattle.std.proofs.Common.{◌≡◌, ◌≢◌, ◌∙◌, ◌∷◌, ◌++◌, [], Bool, true, false, List, length, Option, Some, None, IfSome, Err, inr, refl, sym, ap}
+use Rattle.std.proofs.Common.{subst, append-nil}
 use Rattle.std.specs.List.{AllByRecursion}
 use Rattle.media_model.specs.declared.drive.Drive as drive
 use Rattle.hsm_types.specs.declared.daemons.Act.{Act}
@@ -47,7 +48,8 @@ use Rattle.hsm_replay.proofs.Filling.{full_still_if, full_on}
 use Rattle.hsm_replay.proofs.PassMarks.{all_passed_by_other}
 use Rattle.hsm_replay.proofs.PassCopies.{copy_ends}
 use Rattle.hsm_replay.proofs.Passing.{called_passed, called_stands, went_stands, other_stands_if}
-use Rattle.hsm_replay.proofs.Sealing.{AbortIsRight, DamageIsRight, tallies_more, tallies_by_other, damage_unsealed, lost_still_if, lost_more_if, stored_still_if}
+use Rattle.hsm_replay.proofs.Sealing.{AbortIsRight, DamageIsRight, tallies_more, tallies_by_other, damage_unsealed, lost_still_if, lost_more_if}
+use Rattle.hsm_replay.proofs.Sealing.{stored_still_if}
 
 -- migration continues, or aborts
 answers_none : (punched : Bool) (fault : Fault) → Media fault ≡ migrator.answer_of punched → ⊥

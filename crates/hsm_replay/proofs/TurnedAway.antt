@@ -1,6 +1,7 @@
 -- A daemon whose last call was refused, as too many sessions live, or was told that there are no more events.
 use Rattle.std.proofs.Common.{◌≡◌, ◌≢◌, ◌∙◌, ◌++◌, ◌∷◌, [], ℕ, List, None, Some, refl, sym, ap, ap₂, subst, append_assoc, append-nil}
 use Rattle.std.specs.List.{AllByRecursion}
+use Rattle.hsm_types.specs.Limits.{buffer_bytes}
 use Rattle.hsm_types.specs.declared.daemons.Daemon.{Daemon}
 use Rattle.hsm_types.specs.declared.daemons.Daemon.TheVariants.{Recall, Migrate}
 use Rattle.hsm_types.specs.declared.dm.DmCall.{DmCall}
@@ -128,7 +129,7 @@ module _ (limits : Numbers) (before part : List Mark) (served : Served limits (b
 
 -- the daemon's call, as it is marked
 abbrev pub told_no_more : Daemon → Sid → Mark
-told_no_more daemon sid = made daemon sid (GetEvents 0 65536) (Refused Again)
+told_no_more daemon sid = made daemon sid (GetEvents 0 buffer_bytes) (Refused Again)
 
 last_told : (daemon : Daemon) (marks : List Mark) (first : List Entry) (sid : Sid) → AllByRecursion (IsMadeBy daemon) marks → entries_of marks ≡ first ++ no_more sid ∷ [] → (calls : List Mark) × (marks ≡ calls ++ told_no_more daemon sid ∷ [])
 last_told daemon [] [] sid all is = absurd cc
@@ -138,10 +139,10 @@ last_told daemon (m ∷ []) [] sid all is =
     let by = all.0 in
     let same : entry_of (Session by.0) (Dm by.1) (Told by.2) ≡ no_more sid = sym (ap (λ (x : Mark). x.entry) by.3) ∙ entry in
     let who : Session by.0 ≡ Session sid = ap (λ (x : Entry). x.actor) same in
-    let what : Dm by.1 ≡ Dm (GetEvents 0 65536) = ap (λ (x : Entry). x.action) same in
+    let what : Dm by.1 ≡ Dm (GetEvents 0 buffer_bytes) = ap (λ (x : Entry). x.action) same in
     let answer : Told by.2 ≡ Told (Refused Again) = ap (λ (x : Entry). x.answer) same in
     let own : by.0 ≡ sid = cc in
-    let asked : by.1 ≡ GetEvents 0 65536 = cc in
+    let asked : by.1 ≡ GetEvents 0 buffer_bytes = cc in
     let told : by.2 ≡ Refused Again = cc in
     ([], ap (λ (x : Mark). x ∷ []) (by.3 ∙ ap (λ (x : Sid). made daemon x by.1 by.2) own ∙ ap₂ (λ (c : DmCall) (r : DmReply). made daemon sid c r) asked told))
 last_told daemon (m ∷ n ∷ marks) [] sid all is = absurd cc

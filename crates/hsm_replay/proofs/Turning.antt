@@ -1,9 +1,12 @@
 -- Turns of daemons.
-use Rattle.std.proofs.Common.{◌≡◌, ◌∙◌, ◌∷◌, ◌++◌, ◌&&◌, [], Bool, true, false, List, Option, Some, None, IfSome, is_some, Result, Ok, Err, OnOk, inl, inr, refl, sym, ap, ap₂, subst, append-nil, append_assoc}
+use Rattle.std.proofs.Common.{◌≡◌, ◌∙◌, ◌∷◌, ◌++◌, ◌&&◌, [], Bool, true, false, List, Option, Some, None, IfSome, is_some, Result, Ok, Err, OnOk}
+use Rattle.std.proofs.Common.{inl, inr, refl, sym, ap, ap₂, subst, append-nil, append_assoc}
 use Rattle.std.specs.List.{list_all}
 use Rattle.std.specs.Prelude.{slice_set}
 use Rattle.disk_model.specs.declared.device.Disk as disk
 use Rattle.media_model.specs.declared.drive.Drive as drive
+use Rattle.hsm_types.specs.Limits.{buffer_bytes}
+use Rattle.hsm_types.specs.Stubs.{entry_place}
 use Rattle.hsm_types.specs.declared.daemons.Act.{Act}
 use Rattle.hsm_types.specs.declared.daemons.Act.TheVariants.{Dm, Copy, Fetch, Idle}
 use Rattle.hsm_types.specs.declared.daemons.Daemon.{Daemon}
@@ -90,7 +93,7 @@ module _ (old : recaller.Machine) (told : Heard) (asks : RecallAsks old) where
 
   recall_turn : (entries : List Entry) → Stands entries old.asked told → recall.MayRest recall_now old.asked told → IsTurn at_rest entries
   recall_turn entries stands (inl all) =
-      let last = waits_so entries old.asked told all.0.0 (GetEvents 0 65536) (Refused Again) all.0.1 all.0.2 stands in
+      let last = waits_so entries old.asked told all.0.0 (GetEvents 0 buffer_bytes) (Refused Again) all.0.1 all.0.2 stands in
       let seated : IsSeated recall_now.seat all.0.0 = subst (λ (s : Seat). IsSeated s all.0.0) (sym (same_seat (inl all))) (recall_rest_seated old told asks all.0) in
       (last.0, _, last.1, (refl, refl, seated_at_rest recall_now.seat all.0.0 seated))
   recall_turn entries stands (inr refused) =
@@ -245,7 +248,7 @@ module _ {D M : Type 0} (g : disk.Ghosts D) (h : drive.Ghosts M) where
     recall_goes (Copy volume handle segment bytes) goes performs = absurd goes.may
     recall_goes (Fetch entry) goes performs =
         let on = performs.3 in
-        let drives : List M = slice_set old.drives (drive_of entry.volume old.drives) on.1 in
+        let drives : List M = slice_set old.drives (drive_of (entry_place entry).volume old.drives) on.1 in
         let is : new ≡ recall_left old machine told old.store drives = keeps ∙ ap (λ (s : System D M). hearing Recall told s) on.4 in
         subst (λ (s : System D M). StepGoes Recall old s) (sym is) (record {
           alone = refl;

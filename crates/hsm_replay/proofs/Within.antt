@@ -7,6 +7,7 @@ use Rattle.std.specs.Prelude.{nat_le, ◌&&◌}
 use Rattle.disk_model.specs.declared.device.Disk as disk
 use Rattle.media_model.specs.declared.drive.Drive as drive
 use Rattle.hsm_types.specs.Calls.{scope_of}
+use Rattle.hsm_types.specs.Limits.{segment_bytes, access_bytes}
 use Rattle.hsm_types.specs.Refusals.{first_refusal}
 use Rattle.hsm_types.specs.declared.daemons.Act.{Act}
 use Rattle.hsm_types.specs.declared.daemons.Act.TheVariants.{Dm, Copy, Fetch, Idle}
@@ -40,10 +41,10 @@ last_none [] own is = (none_first own [] is).0
 last_none (x ∷ rest) own is = last_none rest own (none_first x (rest ++ own ∷ []) is).1
 
 -- a read that nothing refuses asks for at most the bytes of a segment
-read_within : (f : FileState) (offset len : ℕ) → reading_refusal f offset len ≡ None → length (take len (drop offset f.body)) ≤ 65536
+read_within : (f : FileState) (offset len : ℕ) → reading_refusal f offset len ≡ None → length (take len (drop offset f.body)) ≤ segment_bytes
 read_within f offset len none =
-    let asked : nat_le len 65536 ≡ true = second_holds (nat_le 1 len) (nat_le len 65536) (passes (nat_le 1 len && nat_le len 65536) dm.BadRange (none_first (bad_access len) (any_away f offset (min (offset + len) (length f.body)) ∷ []) none).0) in
-    omega (arith, leb-true len 65536 asked, length-take len (drop offset f.body))
+    let asked : nat_le len access_bytes ≡ true = second_holds (nat_le 1 len) (nat_le len access_bytes) (passes (nat_le 1 len && nat_le len access_bytes) dm.BadRange (none_first (bad_access len) (any_away f offset (min (offset + len) (length f.body)) ∷ []) none).0) in
+    omega (arith, leb-true len access_bytes asked, length-take len (drop offset f.body))
 
 -- the calls that aren't answered with an attribute's value
 abbrev AsksNoValue : DmCall → Type 0

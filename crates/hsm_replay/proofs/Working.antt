@@ -1,9 +1,11 @@
 -- A daemon's round ends: each of its steps adds an event, or tells of a copy or a fetch behind which there is an event, or is its rest.
-use Rattle.std.proofs.Common.{◌≡◌, ◌≢◌, ◌∙◌, ◌∷◌, ◌++◌, ◌+◌, ◌-◌, ◌*◌, ◌^◌, ◌<◌, ◌≤◌, [], ℕ, Bool, true, false, List, length, Option, Some, None, Result, Ok, Err, inl, inr, refl, sym, ap, ap₂, subst, append-nil, length-append, arith, IfSome, drop}
+use Rattle.std.proofs.Common.{◌≡◌, ◌≢◌, ◌∙◌, ◌∷◌, ◌++◌, ◌+◌, ◌-◌, ◌*◌, ◌^◌, ◌<◌, ◌≤◌, [], ℕ, Bool, true, false, List, length, Option, Some, None}
+use Rattle.std.proofs.Common.{Result, Ok, Err, inl, inr, refl, sym, ap, ap₂, subst, append-nil, length-append, arith, IfSome, drop}
 use Rattle.std.specs.List.{list_all}
 use Rattle.std.specs.Prelude.{slice_set}
 use Rattle.disk_model.specs.declared.device.Disk as disk
 use Rattle.media_model.specs.declared.drive.Drive as drive
+use Rattle.hsm_types.specs.Stubs.{entry_place}
 use Rattle.hsm_types.specs.declared.daemons.Act.{Act}
 use Rattle.hsm_types.specs.declared.daemons.Act.TheVariants.{Dm, Copy, Fetch, Idle}
 use Rattle.hsm_types.specs.declared.daemons.Daemon.{Daemon}
@@ -159,7 +161,7 @@ module _ {D M : Type 0} (g : disk.Ghosts D) (h : drive.Ghosts M) where
     recall_nears (Copy volume handle segment bytes) goes performs = absurd goes.may
     recall_nears (Fetch entry) goes performs =
         let on = performs.3 in
-        let drives : List M = slice_set old.drives (drive_of entry.volume old.drives) on.1 in
+        let drives : List M = slice_set old.drives (drive_of (entry_place entry).volume old.drives) on.1 in
         let is : new ≡ recall_left old machine told old.store drives = keeps ∙ ap (λ (s : System D M). hearing Recall told s) on.4 in
         let hears : is_told machine.asked told ≡ true = rw (goes.asked, performs.1) (told_now entry performs.0 performs.2) in
         let now : round_left Recall new ≡ left_of (length old.store.history) true (is_idle machine.asked) = ap (λ (s : System D M). round_left Recall s) is ∙ ap (λ (b : Bool). left_of (length old.store.history) b (is_idle machine.asked)) hears in

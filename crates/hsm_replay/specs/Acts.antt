@@ -2,7 +2,7 @@
 use Rattle.std.specs.Prelude.{◌≡◌, ◌≢◌, ◌⊎◌, ℕ, ◌+◌, ◌≤◌, true, false, List, [], ◌∷◌, ◌++◌, length, Some, Result, Err, MatchResult, slice_get, slice_set}
 use Rattle.disk_model.specs.declared.device.Disk as disk
 use Rattle.media_model.specs.declared.drive.Drive as drive
-use Rattle.hsm_types.specs.Stubs.{print_of}
+use Rattle.hsm_types.specs.Stubs.{print_of, entry_place}
 use Rattle.hsm_types.specs.declared.calls.CallRefusal.TheVariants as call
 use Rattle.hsm_types.specs.declared.calls.Reply.{Reply}
 use Rattle.hsm_types.specs.declared.calls.Reply.TheVariants as calls
@@ -24,11 +24,9 @@ use Rattle.hsm_types.specs.declared.stubs.StubEntry.{StubEntry}
 use Rattle.plain_model.specs.declared.entries.Actor.TheVariants.{Session}
 use Rattle.plain_model.specs.declared.entries.Action.TheVariants as action
 use Rattle.plain_model.specs.declared.entries.Answer.TheVariants as answer
-use Rattle.dm_service.specs.Handing.{HandsOut}
 use Rattle.dm_service.specs.Services.{entries_for, is_due, wants_entry_alone}
 use Rattle.hsm_core.specs.Answers.{entry_of, own_answer, IsTold}
 use Rattle.hsm_core.specs.Crashes.{IsSafeNow}
-use Rattle.hsm_core.specs.Kept.{IsKept}
 use Rattle.hsm_core.specs.Store.{Store, KeepsRoom}
 use Rattle.volume_shelf.specs.Shelf.{Reads, Grows, Copied, CopyRefused, Fetched, FetchRefused, IsFailedCopy, IsFailedFetch}
 use Rattle.hsm_replay.specs.declared.stops.Stop.{Stop}
@@ -63,9 +61,7 @@ KeepsStop sid call stop.Memory old new = (new.files.failed ≡ false) × (new.hi
 module _ {D M : Type 0} (g : disk.Ghosts D) where
   -- The call was one event of the store, in which the session was told this. The rest is as before.
   pub record IsEvent (sid : Sid) (call : DmCall) (reply : DmReply) (old new : System D M) : Type 0 where
-    pub kept : IsKept old.store
     pub told : IsTold g old.store sid call reply new.store
-    pub packed : HandsOut old.store.tables.sessions sid call reply
     pub responds : is_due old.store.tables.sessions sid call ≡ true → old.store.files.failed ≡ false → reply ≡ Done
     pub spared : wants_entry_alone call ≡ true → 1 ≤ old.store.spare → old.store.files.failed ≡ false → answer.Dm reply ≡ own_answer old.store (Session sid) (action.Dm call)
     pub safe : IsSafeNow g new.store
@@ -107,12 +103,12 @@ module _ {D M : Type 0} (g : disk.Ghosts D) (h : drive.Ghosts M) where
   abbrev pub Performs : System D M → Act → Heard → System D M → Type 0
   Performs old (Dm sid call) told new = (reply : DmReply) × (told ≡ heard.Dm reply) × Serves g sid call reply old new
   Performs old (Copy volume handle segment bytes) told new = (copied : Result StubEntry CopyRefusal) × (told ≡ heard.Copied copied) × (copied ≢ Err copying.Memory) × OnDriveOf volume (CopiesTo h volume handle segment bytes copied) old new
-  Performs old (Fetch entry) told new = (fetched : Result (List ℕ) FetchRefusal) × (told ≡ heard.Fetched fetched) × (fetched ≢ Err fetching.Memory) × OnDriveOf entry.volume (FetchesFrom h entry fetched) old new
+  Performs old (Fetch entry) told new = (fetched : Result (List ℕ) FetchRefusal) × (told ≡ heard.Fetched fetched) × (fetched ≢ Err fetching.Memory) × OnDriveOf (entry_place entry).volume (FetchesFrom h entry fetched) old new
   Performs old Idle told new = (told ≡ heard.Nothing) × (new ≡ old)
 
   -- it stopped the run
   abbrev pub Stops : System D M → Act → Stop → System D M → Type 0
   Stops old (Dm sid call) why new = StopsCall g sid call why old new
   Stops old (Copy volume handle segment bytes) why new = (why ≡ stop.Memory) × OnDriveOf volume (CopiesTo h volume handle segment bytes (Err copying.Memory)) old new
-  Stops old (Fetch entry) why new = (why ≡ stop.Memory) × OnDriveOf entry.volume (FetchesFrom h entry (Err fetching.Memory)) old new
+  Stops old (Fetch entry) why new = (why ≡ stop.Memory) × OnDriveOf (entry_place entry).volume (FetchesFrom h entry (Err fetching.Memory)) old new
   Stops old Idle why new = ⊥

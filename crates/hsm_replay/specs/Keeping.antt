@@ -3,7 +3,7 @@ use Rattle.std.specs.Prelude.{◌≡◌, ◌⊎◌, List, [], ◌++◌, length, 
 use Rattle.std.specs.List.{AllByRecursion}
 use Rattle.disk_model.specs.declared.device.Disk as disk
 use Rattle.media_model.specs.declared.drive.Drive as drive
-use Rattle.hsm_types.specs.Stubs.{print_of}
+use Rattle.hsm_types.specs.Stubs.{print_of, entry_print}
 use Rattle.hsm_types.specs.declared.daemons.Act.{Act}
 use Rattle.hsm_types.specs.declared.daemons.Act.TheVariants.{Dm, Fetch, Idle}
 use Rattle.hsm_types.specs.declared.daemons.Daemon.{Daemon}
@@ -61,7 +61,7 @@ IsAtStart seat asked told = (seat ≡ no_seat) × (asked ≡ Idle) × (told ≡ 
 module _ {M : Type 0} (g : drive.Ghosts M) where
   -- What is heard of a fetch: bytes with the entry's fingerprint, or a fault of its object that is true, and apart from those that events were answered for.
   abbrev pub IsHeardOf : List M → List Fault → Act → Heard → Type 0
-  IsHeardOf drives faults (Fetch entry) (Fetched (Ok bytes)) = print_of bytes ≡ entry.print
+  IsHeardOf drives faults (Fetch entry) (Fetched (Ok bytes)) = print_of bytes ≡ entry_print entry
   IsHeardOf drives faults (Fetch entry) (Fetched (Err (fetching.Media fault))) = IsOf entry fault × IsTrue g drives fault × AllByRecursion (λ earlier. IsApart (length drives) earlier fault) faults
   IsHeardOf drives faults asked told = Unit {0}
 

@@ -2,7 +2,7 @@
 use Rattle.std.specs.Prelude.{◌≡◌, ◌≢◌, ◌⊎◌, ℕ, ◌<◌, ◌≤◌, List, ◌∷◌, ◌++◌, slice_get, false, Some, Ok, Contains}
 use Rattle.std.specs.List.{AllByRecursion}
 use Rattle.media_model.specs.declared.drive.Drive as drive
-use Rattle.hsm_types.specs.Stubs.{print_of}
+use Rattle.hsm_types.specs.Stubs.{print_of, entry_place, entry_print}
 use Rattle.hsm_types.specs.declared.daemons.Act.{Act}
 use Rattle.hsm_types.specs.declared.daemons.Act.TheVariants.{Dm, Copy, Fetch, Idle}
 use Rattle.hsm_types.specs.declared.daemons.Daemon.TheVariants.{Migrate}
@@ -81,7 +81,7 @@ HearsTable sid table during m = (m.machine.asked ≡ Dm sid GetTable) × (m.hear
 
 -- what is heard of a copy names its volume, and has its bytes' fingerprint
 abbrev pub HearsCopy : Act → Heard → Type 0
-HearsCopy (Copy volume h segment bytes) (heard.Copied (Ok entry)) = (entry.print ≡ print_of bytes) × (entry.volume ≡ volume)
+HearsCopy (Copy volume h segment bytes) (heard.Copied (Ok entry)) = (entry_print entry ≡ print_of bytes) × ((entry_place entry).volume ≡ volume)
 HearsCopy asked told = Unit {0}
 
 -- the history goes back to a table, with nothing but calls of a pass since

@@ -8,7 +8,6 @@ use Rattle.script_text.specs.declared.lines.Line.{Line}
 use Rattle.file_store.specs.Stores.{superblock_of}
 use Rattle.plain_model.specs.State.{State, just_opened}
 use Rattle.hsm_replay.specs.declared.stops.Stop.{Stop}
-use Rattle.marked_history.specs.Caused.{ArePackedSince}
 use Rattle.marked_history.specs.Follows.{IsMadeBy, IsOfSettling}
 use Rattle.hsm_replay.specs.Keeping.{Shows, LiveOn, LiveThrough}
 use Rattle.marked_history.specs.Marks.{Mark, entries_of}
@@ -39,9 +38,9 @@ module _ {D M : Type 0} (g : drive.Ghosts M) where
   abbrev pub EndsMarked : System D M → System D M → Type 0
   EndsMarked old new = (turns : EndsQuietly old.store.history new) × LeadsTo (AllByRecursion IsOfSettling) (λ before part. EndsInTurns part turns.recall_turn turns.migrate_turn) old new
 
-  -- where the store works and all its buffers are packed, what isn't stopped leads on so
+  -- where the store works, what isn't stopped leads on so
   abbrev pub LeadsOn : {T : Type 0} → (List Mark → Type 0) → (List Mark → List Mark → Type 0) → Result T Stop → System D M → System D M → Type 0
-  LeadsOn IsPart IsSo result old new = old.store.files.failed ≡ false → ArePackedSince old.store → OnOk result (LeadsTo IsPart IsSo old new)
+  LeadsOn IsPart IsSo result old new = old.store.files.failed ≡ false → OnOk result (LeadsTo IsPart IsSo old new)
 
 -- the state in which the store was opened
 abbrev pub first_of : {D M : Type 0} → System D M → State

@@ -11,17 +11,15 @@ use Rattle.script_text.specs.declared.lines.Line.{Line}
 use Rattle.script_text.specs.declared.lines.Line.TheVariants.{Event}
 use Rattle.hsm_core.specs.Store.{Store}
 use Rattle.hsm_replay.specs.declared.stops.Stop.{Stop}
-use Rattle.marked_history.specs.Caused.{ArePackedSince}
 use Rattle.hsm_replay.specs.declared.stops.Stop.TheVariants.{Disk, Memory}
 
 module _ {D : Type 0} (g : disk.Ghosts D) where
-  -- The store is the one that was opened, and its history has grown. Buffers of messages are of their grammar, as they were, and the disk's count of faults
-  -- never falls. One that works has worked since, and its disk has counted no fault.
+  -- The store is the one that was opened, its history has grown, and the disk's count of faults never falls. One that works has worked since, and its disk
+  -- has counted no fault.
   pub record GoesOn (old new : Store D) : Type 0 where
     pub more : List Entry
     pub history : new.history ≡ old.history ++ more
     pub opened : new.opened ≡ old.opened
-    pub packed : ArePackedSince old → ArePackedSince new
     pub faults : g.fault_count old.files.disk ≤ g.fault_count new.files.disk
     pub quiet : new.files.failed ≡ false → (old.files.failed ≡ false) × (g.fault_count new.files.disk ≡ g.fault_count old.files.disk)
 

@@ -18,6 +18,7 @@ use Rattle.hsm_types.specs.declared.media.Fault.TheVariants.{Damaged}
 use Rattle.hsm_types.specs.declared.media.FetchRefusal.TheVariants.{NoObject}
 use Rattle.hsm_types.specs.declared.stubs.Fingerprint.{Fingerprint}
 use Rattle.hsm_types.specs.declared.stubs.StubEntry.{StubEntry}
+use Rattle.hsm_types.specs.Stubs.{entry_place, entry_print, entry_at}
 use Rattle.plain_model.specs.declared.entries.Action.{Action}
 use Rattle.plain_model.specs.declared.entries.Action.TheVariants.{Dm}
 use Rattle.hsm_policy.specs.Settings.{Numbers}
@@ -42,11 +43,11 @@ sealed_in marks = filter_map (λ (m : Mark). seal_by m.by m.entry.action) marks
 
 -- none of the entries names the object that this one names
 abbrev pub IsUnnamed : List StubEntry → StubEntry → Type 0
-IsUnnamed sealed entry = AllByRecursion (λ (e : StubEntry). (e.volume ≡ entry.volume) × (e.object ≡ entry.object) → ⊥) sealed
+IsUnnamed sealed entry = AllByRecursion (λ (e : StubEntry). ((entry_place e).volume ≡ (entry_place entry).volume) × ((entry_place e).object ≡ (entry_place entry).object) → ⊥) sealed
 
 -- none of them names this object with this fingerprint
 abbrev pub IsUnsealed : List StubEntry → ℕ → ℕ → Fingerprint → Type 0
-IsUnsealed sealed volume object print = AllByRecursion (λ (e : StubEntry). e ≢ record { volume = volume; object = object; print = print }) sealed
+IsUnsealed sealed volume object print = AllByRecursion (λ (e : StubEntry). e ≢ entry_at (record { volume = volume; object = object }) print) sealed
 
 -- recall has made none of these entries
 abbrev pub AreOfOthers : List Mark → Type 0
@@ -65,23 +66,23 @@ module _ {M : Type 0} (g : drive.Ghosts M) where
 
   -- The volume is there, and where its objects are told it has this one, which lasts, with a payload of the entry's fingerprint.
   pub record IsStored (drives : List M) (entry : StubEntry) : Type 0 where
-    pub there : IsThere drives entry.volume
-    pub print : HasPrint (Gives drives entry.volume) entry.object entry.print
-    pub lasts : (o : Objects) (gives : Gives drives entry.volume o) → entry.object < g.lasting gives.0 entry.volume
+    pub there : IsThere drives (entry_place entry).volume
+    pub print : HasPrint (Gives drives (entry_place entry).volume) (entry_place entry).object (entry_print entry)
+    pub lasts : (o : Objects) (gives : Gives drives (entry_place entry).volume o) → (entry_place entry).object < g.lasting gives.0 (entry_place entry).volume
 
-  -- By a list that is told the volume is without the object. Where one list is told of it, it is.
+  -- The volume's objects are told, and it is without this one.
   abbrev pub MayLack : List M → StubEntry → Type 0
-  MayLack drives entry = (o : Objects) × Gives drives entry.volume o × (length o ≤ entry.object)
+  MayLack drives entry = (o : Objects) × Gives drives (entry_place entry).volume o × (length o ≤ (entry_place entry).object)
 
   -- Those first entries have all that recall was told, of the segments too, as it has made none since. Where the volume's objects are told, no Seal of
-  -- theirs names the object, and by what the opened drives tell the volume may have been without it.
+  -- theirs names the object, and by what the opened drives tell the volume was without it.
   pub record IsLost (opened drives : List M) (marks : List Mark) (entry : StubEntry) : Type 0 where
     pub first : List Mark
     pub since : List Mark
     pub parted : marks ≡ first ++ since
     pub others : AreOfOthers since
-    pub unnamed : (o : Objects) → Gives drives entry.volume o → IsUnnamed (sealed_in first) entry
-    pub lacked : (o : Objects) → Gives drives entry.volume o → MayLack opened entry
+    pub unnamed : (o : Objects) → Gives drives (entry_place entry).volume o → IsUnnamed (sealed_in first) entry
+    pub lacked : (o : Objects) → Gives drives (entry_place entry).volume o → MayLack opened entry
 
   -- ---- what daemons hear of it
 

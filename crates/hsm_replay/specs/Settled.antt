@@ -2,6 +2,7 @@
 use Rattle.std.specs.Prelude.{◌≡◌, ◌≢◌, ◌⊎◌, ℕ, List, [], ◌∷◌, ◌++◌, Bool, true, false, Some, IfSome, Contains}
 use Rattle.std.specs.List.{AllByRecursion, list_all}
 use Rattle.hsm_types.specs.Callers.{IsCallerNumber}
+use Rattle.hsm_types.specs.Limits.{buffer_bytes}
 use Rattle.hsm_types.specs.Rights.{Rights, conflict}
 use Rattle.hsm_types.specs.declared.daemons.Act.TheVariants.{Idle}
 use Rattle.hsm_types.specs.declared.daemons.Daemon.{Daemon}
@@ -39,7 +40,7 @@ use Rattle.hsm_replay.specs.Systems.{System}
 
 -- The daemon's session, which is set up, was told that there are no more events; or it was refused a session as too many live, and keeps nothing.
 abbrev pub EndsTurn : Seat → Actor → Action → Answer → Type 0
-EndsTurn seat (Session sid) (Dm (GetEvents most room)) (Told (Refused Again)) = (most ≡ 0) × (room ≡ 65536) × IsSeated seat sid
+EndsTurn seat (Session sid) (Dm (GetEvents most room)) (Told (Refused Again)) = (most ≡ 0) × (room ≡ buffer_bytes) × IsSeated seat sid
 EndsTurn seat (Session sid) (Dm (CreateSession old info)) (Told (Refused (TooMany count))) = seat ≡ no_seat
 EndsTurn seat actor action answer = ⊥
 

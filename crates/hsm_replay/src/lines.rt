@@ -68,7 +68,6 @@ impl<D: Disk, M: Drive> Replay<D, M> {
         ensures durable { OnOk result (IsAllDurable self.new.store) }
     {
         synced_grows();
-        self.kept();
         answered(&self.hsm.commit(alloc))
     }
 }

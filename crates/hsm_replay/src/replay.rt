@@ -8,6 +8,7 @@ ghost use Rattle.migrate_daemon.specs.Machine.{IsWithin};
 ghost use Rattle.hsm_replay.specs.Systems.{MigrateIsRight, RecallIsRight, drive_of, running, started, killed};
 ghost use Rattle.hsm_types.specs.Callers.{IsCallerNumber};
 ghost use Rattle.hsm_types.specs.Daemons.{MayPerform};
+ghost use Rattle.hsm_types.specs.Limits.{segment_bytes};
 ghost use Rattle.hsm_replay.specs.Acts.{Performs, Stops};
 ghost use Rattle.marked_history.specs.Follows.{IsOfSettling, IsStepOf};
 ghost use Rattle.hsm_replay.specs.Keeping.{Moves};
@@ -209,8 +210,8 @@ impl<D: Disk, M: Drive> Replay<D, M> {
         }
     }
 
-    /// The store has kept all that it answered.
-    pub(crate) fn kept(&self)
+    /// The store has kept all that it answered: its history is a good run that hands out messages as the rules say. It does nothing else, and costs nothing.
+    pub fn kept(&self)
         ensures { IsKept self.now.store }
     {
         let _ = self.hsm.history();
@@ -278,7 +279,6 @@ impl<D: Disk, M: Drive> Replay<D, M> {
         ensures performed { IfOk result (λ heard. Performs D.Disk M.Drive self.old (Act.Dm sid call) heard self.new) }
         ensures stopped { IfErr result (λ stop. Stops D.Disk M.Drive self.old (Act.Dm sid call) stop self.new) }
     {
-        self.kept();
         served(self.hsm.dm(alloc, sid, call))
     }
 
@@ -292,7 +292,7 @@ impl<D: Disk, M: Drive> Replay<D, M> {
         bytes: &Verified,
     ) -> Result<Heard, Stop>
         requires some { 1 ≤ length bytes.now }
-        requires most { length bytes.now ≤ 65536 }
+        requires most { length bytes.now ≤ segment_bytes }
         ensures performed { IfOk result (λ heard. Performs D.Disk M.Drive self.old (Act.Copy volume handle.now segment bytes.now) heard self.new) }
         ensures stopped { IfErr result (λ stop. Stops D.Disk M.Drive self.old (Act.Copy volume handle.now segment bytes.now) stop self.new) }
     {
@@ -306,7 +306,7 @@ impl<D: Disk, M: Drive> Replay<D, M> {
         ensures performed { IfOk result (λ heard. Performs D.Disk M.Drive self.old (Act.Fetch entry.now) heard self.new) }
         ensures stopped { IfErr result (λ stop. Stops D.Disk M.Drive self.old (Act.Fetch entry.now) stop self.new) }
     {
-        let number = self.drive_of(entry.volume);
+        let number = self.drive_of(entry.place().volume);
         fetched(fetch(alloc, &mut self.drives[number], entry))
     }
 

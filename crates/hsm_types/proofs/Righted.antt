@@ -84,9 +84,6 @@ pub lookup-with : (q h : Holding) (right : Right) (rights : Rights) → lookup (
 lookup-with q h right [] = refl
 lookup-with q h right (e ∷ rest) = by (holding_cmp h e.0) refl (lookup-with q h right rest)
   where
-    found : Holding → Option Right → Right → Option Right
-    found p o r = cond (same_holding q p) (Some r) o
-
     swapped : (b c : Bool) → same_holding q h ≡ b → same_holding q e.0 ≡ c → (b ≡ true → c ≡ false) → cond c (Some e.1) (cond b (Some right) (lookup (same_holding q) rest)) ≡ cond b (Some right) (cond c (Some e.1) (lookup (same_holding q) rest))
     swapped true true mine is apart = absurd (true≢false (apart refl))
     swapped true false mine is apart = refl

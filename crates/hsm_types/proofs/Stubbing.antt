@@ -48,9 +48,6 @@ stub_at-below n stubs j = lookup-filter-keys (nat_eq j) (λ (q : ℕ). nat_lt q 
 abbrev within : ℕ → ℕ → ℕ → Bool
 within from to j = nat_le from j && nat_lt j to
 
-abbrev moved_entry : Bool → ℕ → ℕ → ℕ × Stub → ℕ × Stub
-moved_entry offline from to x = if within from to x.0 then (x.0, record x.1 { offline = offline }) else x
-
 pub stub_at-moved : (offline : Bool) (from to : ℕ) (stubs : Stubs) (j : ℕ) → stub_at j (moved offline from to stubs) ≡ (if nat_le from j && nat_lt j to then set_away offline (stub_at j stubs) else stub_at j stubs)
 stub_at-moved offline from to [] j = nothing (within from to j)
   where

@@ -8,6 +8,7 @@ use Rattle.std.specs.Map.{keys_of, values_of, lookup, remove_entry}
 use Rattle.std.specs.Ordering.{nat_cmp}
 use Rattle.std.specs.declared.cmp.Ordering.{Ordering}
 use Rattle.std.specs.Str.{bytes_eq}
+use Rattle.hsm_types.specs.Limits.{value_bytes, attribute_cost}
 use Rattle.hsm_types.specs.Refusals.{first_refusal}
 use Rattle.hsm_types.specs.declared.attributes.AttrName.{AttrName}
 use Rattle.hsm_types.specs.declared.dm.DmRefusal.{DmRefusal}
@@ -31,7 +32,7 @@ is_reserved name = starts_with nat_eq name.0 (codes "HSM")
 pub record AreAttributes (attrs : Attributes) : Type 0 where
   pub ascend : IsStrictlySortedBy name_cmp (keys_of attrs)
   pub unreserved : All (λ name. is_reserved name ≡ false) (keys_of attrs)
-  pub short : All (λ value. length value ≤ 4096) (values_of attrs)
+  pub short : All (λ value. length value ≤ value_bytes) (values_of attrs)
 
 -- the value of the attribute with that name, if there is one
 abbrev pub value_of : AttrName → Attributes → Option (List ℕ)
@@ -48,9 +49,9 @@ without_value name attrs = remove_entry (same_name name) attrs
 
 -- ---- how much they count
 
--- what an attribute with that value counts: 16 bytes beside those of the value
+-- what an attribute with that value counts: `attribute_cost` beside the bytes of the value
 abbrev pub cost_of_value : List ℕ → ℕ
-cost_of_value value = 16 + length value
+cost_of_value value = attribute_cost + length value
 
 abbrev pub bytes_of_attributes : Attributes → ℕ
 bytes_of_attributes attrs = sum_by cost_of_value (values_of attrs)
@@ -61,7 +62,7 @@ abbrev pub reserved : AttrName → Option DmRefusal
 reserved name = if is_reserved name then Some Reserved else None
 
 abbrev pub too_big_value : List ℕ → Option DmRefusal
-too_big_value value = if nat_le (length value) 4096 then None else Some (AttrTooBig (length value))
+too_big_value value = if nat_le (length value) value_bytes then None else Some (AttrTooBig (length value))
 
 -- the attributes of all files together would count more than they may
 abbrev pub too_many_bytes : ℕ → ℕ → Option DmRefusal

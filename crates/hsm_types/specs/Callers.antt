@@ -1,6 +1,7 @@
 -- The numbers of callers.
 use Rattle.std.specs.Prelude.{ℕ, ◌≤◌}
+use Rattle.hsm_types.specs.Limits.{callers}
 
--- there are 64, from 1 on
+-- from 1 to `callers`
 abbrev pub IsCallerNumber : ℕ → Type 0
-IsCallerNumber n = (1 ≤ n) × (n ≤ 64)
+IsCallerNumber n = (1 ≤ n) × (n ≤ callers)

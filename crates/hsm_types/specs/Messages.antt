@@ -2,6 +2,7 @@
 use Rattle.std.specs.Prelude.{◌≡◌, ◌≢◌, ℕ, ◌+◌, ◌-◌, ◌*◌, ◌/◌, ◌≤◌, List, [], ◌∷◌, ◌++◌, length, take, replicate, Bool, true, false, not, ◌==◌, ◌&&◌, nat_le, if◌then◌else◌, Option, Some, None, IsSome}
 use Rattle.byteorder.specs.Endian.{big_bytes}
 use Rattle.hsm_types.specs.Handles.{handle_bytes}
+use Rattle.hsm_types.specs.Limits.{data_bytes, last_error}
 use Rattle.hsm_types.specs.declared.dm.Kind.{Kind}
 use Rattle.hsm_types.specs.declared.dm.Kind.TheVariants.{Read, Write, Truncate, NoSpace, User}
 use Rattle.hsm_types.specs.declared.dm.Kinds.{Kinds}
@@ -34,10 +35,10 @@ without_kinds others kinds = record {
 
 -- ---- responses
 
--- an abort's error is from 1 to 255
+-- an abort's error is from 1 to `last_error`
 abbrev pub is_lawful : Response → Bool
 is_lawful Continue = true
-is_lawful (Abort error) = nat_le 1 error && nat_le error 255
+is_lawful (Abort error) = nat_le 1 error && nat_le error last_error
 is_lawful (Media fault) = true
 
 -- ---- which messages there are
@@ -45,9 +46,9 @@ is_lawful (Media fault) = true
 abbrev pub has_token : Token → Message → Bool
 has_token t m = m.token.0 == t.0
 
--- a session's own message has at most 4,096 bytes and nothing else; any other has a token and a handle and no bytes, and that of a truncate no length
+-- a session's own message has at most `data_bytes` and nothing else; any other has a token and a handle and no bytes, and that of a truncate no length
 abbrev pub IsOf : Kind → Message → Type 0
-IsOf User m = (m.handle ≡ None) × (m.offset ≡ 0) × (m.length ≡ 0) × (length m.body ≤ 4096)
+IsOf User m = (m.handle ≡ None) × (m.offset ≡ 0) × (m.length ≡ 0) × (length m.body ≤ data_bytes)
 IsOf Truncate m = (m.token.0 ≢ 0) × IsSome m.handle × (m.length ≡ 0) × (m.body ≡ [])
 IsOf kind m = (m.token.0 ≢ 0) × IsSome m.handle × (m.body ≡ [])
 

@@ -1,7 +1,7 @@
 -- Managed regions of a file.
-use Rattle.std.specs.Prelude.{ℕ, ◌+◌, ◌*◌, ◌/◌, ◌%◌, List, [], ◌∷◌, length, Bool, true, false, not, ◌==◌, ◌&&◌, ◌||◌, nat_eq, nat_lt, nat_le, if◌then◌else◌, Option, Some, None}
+use Rattle.std.specs.Prelude.{ℕ, ◌+◌, ◌*◌, ◌/◌, ◌%◌, List, [], ◌∷◌, length, Bool, true, false, not, ◌==◌, ◌&&◌, ◌||◌, nat_lt, nat_le, if◌then◌else◌, Option, Some, None}
 use Rattle.std.specs.List.{list_any}
-use Rattle.std.specs.Ordering.{on, eq_of_both}
+use Rattle.hsm_types.specs.Limits.{file_bytes, file_regions, segment_bytes}
 use Rattle.hsm_types.specs.Refusals.{first_refusal}
 use Rattle.hsm_types.specs.declared.regions.Region.{Region}
 use Rattle.hsm_types.specs.declared.regions.Range.{Range}
@@ -9,10 +9,6 @@ use Rattle.hsm_types.specs.declared.dm.Kind.{Kind}
 use Rattle.hsm_types.specs.declared.dm.Kind.TheVariants.{Read, Write, Truncate}
 use Rattle.hsm_types.specs.declared.dm.DmRefusal.{DmRefusal}
 use Rattle.hsm_types.specs.declared.dm.DmRefusal.TheVariants.{TooMany, BadRegion}
-
--- all three numbers are the same
-abbrev pub same_region : Region → Region → Bool
-same_region = eq_of_both (on (λ r. r.offset) nat_eq) (eq_of_both (on (λ r. r.size) nat_eq) (on (λ r. r.flags) nat_eq))
 
 -- ---- which lists a file may have
 
@@ -23,7 +19,7 @@ is_behind (Some before) r = not (before.size == 0) && nat_le (before.offset + be
 
 -- flags are from 0 to 7, the region ends within the limit of a file, and it is behind the one before it
 abbrev pub is_region : Option Region → Region → Bool
-is_region before r = nat_le r.flags 7 && nat_le (r.offset + r.size) 16777216 && is_behind before r
+is_region before r = nat_le r.flags 7 && nat_le (r.offset + r.size) file_bytes && is_behind before r
 
 -- the index of the first that is bad behind the one before it, counted on from `index`
 abbrev pub first_bad : ℕ → Option Region → List Region → Option ℕ
@@ -31,7 +27,7 @@ first_bad index before [] = None
 first_bad index before (r ∷ rs) = if is_region before r then first_bad (index + 1) (Some r) rs else Some index
 
 abbrev pub too_many_regions : List Region → Option DmRefusal
-too_many_regions rs = if nat_le (length rs) 4 then None else Some (TooMany (length rs))
+too_many_regions rs = if nat_le (length rs) file_regions then None else Some (TooMany (length rs))
 
 abbrev pub bad_region : Option ℕ → Option DmRefusal
 bad_region None = None
@@ -60,7 +56,7 @@ touches rs reach kind = list_any (λ r. is_flagged kind r && meets reach.offset 
 
 -- the region has all three flags, and contains the whole range of the segment, also past the file's end
 abbrev pub contains : ℕ → Region → Bool
-contains segment r = (r.flags == 7) && nat_le r.offset (65536 * segment) && (r.size == 0 || nat_le (65536 * segment + 65536) (r.offset + r.size))
+contains segment r = (r.flags == 7) && nat_le r.offset (segment_bytes * segment) && (r.size == 0 || nat_le (segment_bytes * segment + segment_bytes) (r.offset + r.size))
 
 -- one region covers the segment
 abbrev pub covers : List Region → ℕ → Bool

@@ -3,6 +3,7 @@ use Rattle.std.specs.Prelude.{ℕ, ◌+◌, ◌<◌, ◌≤◌, List, [], ◌∷
 use Rattle.std.specs.List.{list_any, find}
 use Rattle.std.specs.Map.{lookup, remove_entry}
 use Rattle.std.specs.Option.{option_map}
+use Rattle.hsm_types.specs.Limits.{live_sessions, info_bytes, user_events, data_bytes, waiting_messages}
 use Rattle.hsm_types.specs.Refusals.{first_refusal}
 use Rattle.hsm_types.specs.Messages.{no_kinds, takes, without_kinds, is_lawful, has_token, no_token, user_message, message_bytes, handed_out}
 use Rattle.hsm_types.specs.declared.keys.Sid.{Sid}
@@ -100,13 +101,13 @@ outstanding_message token t = outstanding_to (option_map (λ s. s.1) (find (λ s
 abbrev pub no_session : Sid → SessionTable → Option DmRefusal
 no_session old t = if old.0 == 0 || lives old t then None else Some NoSession
 
--- information has from 1 to 256 bytes
+-- information has from 1 to `info_bytes` bytes
 abbrev pub bad_info : List ℕ → Option DmRefusal
-bad_info info = if nat_le 1 (length info) && nat_le (length info) 256 then None else Some (TooMany (length info))
+bad_info info = if nat_le 1 (length info) && nat_le (length info) info_bytes then None else Some (TooMany (length info))
 
--- at most 64 sessions live, and one beside the others would be too many
+-- at most `live_sessions` live, and one beside the others would be too many
 abbrev pub too_many_sessions : Sid → SessionTable → Option DmRefusal
-too_many_sessions old t = if old.0 == 0 && nat_le 64 (length t.live) then Some (TooMany 64) else None
+too_many_sessions old t = if old.0 == 0 && nat_le live_sessions (length t.live) then Some (TooMany live_sessions) else None
 
 abbrev pub creation_refusal : Sid → List ℕ → SessionTable → Option DmRefusal
 creation_refusal old info t = first_refusal (no_session old t ∷ bad_info info ∷ too_many_sessions old t ∷ [])
@@ -139,9 +140,9 @@ none_fits room (m ∷ more) = if nat_le (message_bytes m) room then None else So
 abbrev pub bad_response : Response → Option DmRefusal
 bad_response response = if is_lawful response then None else Some BadResponse
 
--- a message has at most 4,096 bytes
+-- a message has at most `data_bytes`
 abbrev pub too_long : List ℕ → Option DmRefusal
-too_long body = if nat_le (length body) 4096 then None else Some (TooMany (length body))
+too_long body = if nat_le (length body) data_bytes then None else Some (TooMany (length body))
 
 abbrev pub is_of_user : Kind → Bool
 is_of_user User = true
@@ -151,16 +152,16 @@ is_of_user kind = false
 abbrev pub user_tokens : SessionTable → ℕ
 user_tokens t = sum_by (λ s. count_by (λ m. is_of_user m.kind) s.1.outstanding) t.live
 
--- at most 960 of them
+-- at most `user_events` of them
 abbrev pub too_many_events : SessionTable → Option DmRefusal
-too_many_events t = if nat_le 960 (user_tokens t) then Some (TooMany 960) else None
+too_many_events t = if nat_le user_events (user_tokens t) then Some (TooMany user_events) else None
 
 abbrev pub event_refusal : List ℕ → SessionTable → Option DmRefusal
 event_refusal body t = first_refusal (too_long body ∷ too_many_events t ∷ [])
 
--- at most 1,024 messages without a token wait for a session
+-- at most `waiting_messages` without a token wait for a session
 abbrev pub too_many_waiting : List Message → Option DmRefusal
-too_many_waiting queue = if nat_le 1024 (count_by (has_token no_token) queue) then Some (TooMany 1024) else None
+too_many_waiting queue = if nat_le waiting_messages (count_by (has_token no_token) queue) then Some (TooMany waiting_messages) else None
 
 abbrev pub sending_refusal : Sid → List ℕ → SessionTable → Option DmRefusal
 sending_refusal target body t = first_refusal (dead_session target t ∷ too_long body ∷ too_many_waiting (queue_of target t) ∷ [])

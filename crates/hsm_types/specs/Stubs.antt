@@ -7,6 +7,7 @@ use Rattle.std.specs.Map.{keys_of, lookup}
 use Rattle.std.specs.Option.{option_map}
 use Rattle.std.specs.Ordering.{nat_cmp}
 use Rattle.sha2.specs.Sha256.{sha256}
+use Rattle.hsm_types.specs.Limits.{segment_bytes, last_volume}
 use Rattle.hsm_types.specs.Refusals.{first_refusal}
 use Rattle.hsm_types.specs.Regions.{covers}
 use Rattle.hsm_types.specs.Segments.{from_on, segment_len, meets_segment}
@@ -14,6 +15,7 @@ use Rattle.hsm_types.specs.declared.dm.DmRefusal.{DmRefusal}
 use Rattle.hsm_types.specs.declared.dm.DmRefusal.TheVariants.{Offline, NotSealed, NotOffline, Uncovered, TooMany}
 use Rattle.hsm_types.specs.declared.regions.Region.{Region}
 use Rattle.hsm_types.specs.declared.stubs.Fingerprint.{Fingerprint}
+use Rattle.hsm_types.specs.declared.stubs.Place.{Place}
 use Rattle.hsm_types.specs.declared.stubs.StubEntry.{StubEntry}
 use Rattle.hsm_types.specs.declared.stubs.Stub.{Stub}
 
@@ -22,6 +24,20 @@ Stubs = List (ℕ × Stub)
 
 abbrev pub print_of : List ℕ → Fingerprint
 print_of bytes = record { len = length bytes; digest = record { 0 = sha256 bytes } }
+
+-- ---- an entry
+
+-- that of a copy at the place, of bytes with the fingerprint
+abbrev pub entry_at : Place → Fingerprint → StubEntry
+entry_at place print = record { volume = place.volume; object = place.object; print = print }
+
+-- where the copy lies
+abbrev pub entry_place : StubEntry → Place
+entry_place entry = record { volume = entry.volume; object = entry.object }
+
+-- the fingerprint of the copied bytes
+abbrev pub entry_print : StubEntry → Fingerprint
+entry_print entry = entry.print
 
 -- ---- one segment
 
@@ -118,9 +134,9 @@ any_unpunched regions stubs from to = first_refusal (map (not_punched regions st
 
 -- The entry fits a file of that size with these regions: it has the length of its segment, and where that is offline it is covered.
 pub record FitsFile (size : ℕ) (regions : List Region) (x : ℕ × Stub) : Type 0 where
-  pub start : 65536 * x.0 < size
-  pub len : x.1.entry.print.len ≡ segment_len size x.0
-  pub volume : x.1.entry.volume ≤ 255
+  pub start : segment_bytes * x.0 < size
+  pub len : (entry_print x.1.entry).len ≡ segment_len size x.0
+  pub volume : (entry_place x.1.entry).volume ≤ last_volume
   pub covered : x.1.offline ≡ true → covers regions x.0 ≡ true
 
 -- at most one entry a segment, and each fits

@@ -2,14 +2,8 @@
 ghost use Rattle.std.specs.Prelude.{◌≡◌};
 ghost use Rattle.hsm_types.specs.Attributes.{is_reserved};
 
-/// The bytes of the longest value.
-pub const ATTRIBUTE_BYTES: usize = 4096;
-
-/// What an attribute counts beside the bytes of its value.
-pub const ATTRIBUTE_COST: u64 = 16;
-
 /// What an attribute is known by: any eight bytes. Names that begin with `HSM` are reserved.
-#[derive(Clone, Copy, Debug, PartialEq, Eq, PartialOrd, Ord)]
+#[derive(Clone, Copy, PartialEq, Eq, PartialOrd, Ord)]
 pub struct AttrName(pub [u8; 8]);
 
 impl AttrName {

@@ -1,12 +1,16 @@
 //! The calls of callers, and the replies to them.
+ghost use Rattle.std.specs.Prelude.{◌≡◌};
 
 use crate::keys::{FileKey, Token};
 use crate::lists::{Bytes, Word};
 use crate::media::MediaCause;
+use crate::texts::Told::{self, Blocks, Fault, Number, Words};
+use std::alloc::AllocError;
+use std::fmt;
 use thiserror::Error;
 
 /// What a caller asks of the store. Offsets and lengths are in bytes.
-#[derive(Clone, Debug, PartialEq, Drop)]
+#[derive(Drop)]
 pub enum Call {
     Create {
         name: Word,
@@ -35,8 +39,41 @@ pub enum Call {
     Sync,
 }
 
+impl Clone for Call {
+    ghost is_clone = { λ c d. d ≡ c };
+
+    fn clone(&self) -> Result<Call, AllocError> {
+        Ok(match self {
+            Call::Create { name } => Call::Create {
+                name: name.clone()?,
+            },
+            Call::Read { name, offset, len } => Call::Read {
+                name: name.clone()?,
+                offset: *offset,
+                len: *len,
+            },
+            Call::Write { name, offset, body } => Call::Write {
+                name: name.clone()?,
+                offset: *offset,
+                body: body.clone()?,
+            },
+            Call::Truncate { name, size } => Call::Truncate {
+                name: name.clone()?,
+                size: *size,
+            },
+            Call::Remove { name } => Call::Remove {
+                name: name.clone()?,
+            },
+            Call::Stat { name } => Call::Stat {
+                name: name.clone()?,
+            },
+            Call::Sync => Call::Sync,
+        })
+    }
+}
+
 /// What the store answers to a call, or to the caller who asks for the answer to one that waits.
-#[derive(Debug, PartialEq, Drop)]
+#[derive(Drop)]
 pub enum Reply {
     Done,
     Made(FileKey),
@@ -56,33 +93,51 @@ pub enum Reply {
 /// from a closed store. A fault of the disk in the event closes the store.
 #[derive(Clone, Copy, Debug, PartialEq, Eq, Error)]
 pub enum CallRefusal {
-    #[error("no file has the name")]
     Missing,
-    #[error("a file has the name")]
     Exists,
-    #[error("the word can not be a name")]
     BadName,
-    #[error("the file would end at {end}, past the limit")]
     TooBig { end: u64 },
-    #[error("the length {len} is not one of an access")]
     BadLength { len: u64 },
-    #[error("all {count} inodes are in use")]
     NoInodes { count: u64 },
-    #[error("{need} blocks are needed, and {free} are free")]
     NoSpace { need: u64, free: u64 },
     /// The response to the token for which the access waited.
-    #[error("the access was aborted with the error {errno}")]
     Aborted { errno: u8 },
     /// The response to the token for which the access waited.
-    #[error("a fault of a medium ended the access: {}", cause.fault())]
     Media { cause: MediaCause },
     /// A call of the disk failed in this event, or the store is closed by such a fault.
-    #[error("the disk failed")]
     Disk,
-    #[error("no memory")]
     Memory,
-    #[error("an access of the caller waits")]
     Waiting,
-    #[error("no access of the caller waits")]
     Idle,
+}
+
+impl fmt::Display for CallRefusal {
+    fn fmt<W: fmt::Write>(&self, f: &mut fmt::Formatter<W>) -> fmt::Result {
+        fmt::Display::fmt(&self.told(), f)
+    }
+}
+
+impl CallRefusal {
+    /// What it says.
+    fn told(&self) -> Told {
+        match *self {
+            Self::Missing => Words("no file has the name"),
+            Self::Exists => Words("a file has the name"),
+            Self::BadName => Words("the word can not be a name"),
+            Self::TooBig { end } => Number("the file would end at ", end, ", past the limit"),
+            Self::BadLength { len } => Number("the length ", len, " is not one of an access"),
+            Self::NoInodes { count } => Number("all ", count, " inodes are in use"),
+            Self::NoSpace { need, free } => Blocks { need, free },
+            Self::Aborted { errno } => Number(
+                "the access was aborted with the error ",
+                errno.into(),
+                "",
+            ),
+            Self::Media { cause } => Fault("a fault of a medium ended the access: ", cause.fault()),
+            Self::Disk => Words("the disk failed"),
+            Self::Memory => Words("no memory"),
+            Self::Waiting => Words("an access of the caller waits"),
+            Self::Idle => Words("no access of the caller waits"),
+        }
+    }
 }

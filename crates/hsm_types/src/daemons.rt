@@ -8,7 +8,7 @@ use crate::media::{CopyRefusal, FetchRefusal};
 use crate::stubs::{StubEntry, Verified};
 
 /// A daemon of the store.
-#[derive(Clone, Copy, Debug, PartialEq, Eq)]
+#[derive(Clone, Copy, PartialEq, Eq)]
 pub enum Daemon {
     /// Brings the bytes of offline segments back, where an access needs them.
     Recall,
@@ -49,11 +49,11 @@ impl Daemon {
 }
 
 /// What a daemon does next.
-#[derive(Debug, PartialEq, Drop)]
+#[derive(Drop)]
 pub enum Act {
     /// Makes a call of that session, or of none where its id is 0.
     Dm(Sid, DmCall),
-    /// Copies the bytes of a segment to a volume. They number from 1 to 65,536.
+    /// Copies the bytes of a segment to a volume. They number from 1 to [`SEGMENT_BYTES`](crate::SEGMENT_BYTES).
     Copy {
         volume: u32,
         handle: Handle,
@@ -69,7 +69,7 @@ pub enum Act {
 }
 
 /// What a daemon hears of what it did.
-#[derive(Debug, PartialEq, Drop)]
+#[derive(Drop)]
 pub enum Heard {
     /// That it was started, or may go on.
     Nothing,

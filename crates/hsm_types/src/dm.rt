@@ -7,14 +7,18 @@ ghost use Rattle.hsm_types.specs.declared.dm.Scope.TheVariants.{OnFile, OnRight}
 
 use crate::attributes::AttrName;
 use crate::keys::{Handle, Sid, Token};
+use crate::limits::LAST_ERROR;
 use crate::lists::{Bytes, Names, Regions, Segments, Sids, Tokens, Word};
 use crate::media::MediaCause;
 use crate::stubs::{Fingerprint, StubEntry, Verified};
 use crate::tables::Table;
+use crate::texts::Told::{self, Blocks, Number, Words};
+use std::alloc::AllocError;
+use std::fmt;
 use thiserror::Error;
 
 /// What a session asks of the store.
-#[derive(Debug, PartialEq, Drop)]
+#[derive(Drop)]
 pub enum DmCall {
     /// Makes a session: beside the others where `old` is 0, and else in the place of the session `old`.
     CreateSession {
@@ -171,7 +175,7 @@ pub enum DmCall {
 }
 
 /// The kinds of events, each of which is told by a message.
-#[derive(Clone, Copy, Debug, PartialEq, Eq)]
+#[derive(Clone, Copy, PartialEq, Eq)]
 pub enum Kind {
     Read,
     Write,
@@ -183,7 +187,7 @@ pub enum Kind {
 }
 
 /// Which kinds of events a session takes. Those of sessions themselves are taken by none.
-#[derive(Clone, Copy, Debug, PartialEq, Eq)]
+#[derive(Clone, Copy, PartialEq, Eq)]
 pub struct Kinds {
     pub read: bool,
     pub write: bool,
@@ -231,24 +235,24 @@ impl Kinds {
 }
 
 /// What becomes of the access whose event is responded to.
-#[derive(Clone, Copy, Debug, PartialEq, Eq)]
+#[derive(Clone, Copy, PartialEq, Eq)]
 pub enum Response {
     /// It goes on.
     Continue,
-    /// It ends with that error, from 1 to 255.
+    /// It ends with that error, from 1 to [`LAST_ERROR`](crate::LAST_ERROR).
     Abort(u32),
     /// It ends with that fault of a medium: an abort that tells its cause. No script can give it.
     Media(MediaCause),
 }
 
 impl Response {
-    /// Whether it is one that may be given: an abort's error is from 1 to 255.
+    /// Whether it is one that may be given: an abort's error is from 1 to [`LAST_ERROR`](crate::LAST_ERROR).
     pub fn is_lawful(self) -> bool
         ensures { result ≡ is_lawful self }
     {
         match self {
             Response::Continue => true,
-            Response::Abort(error) => 1 <= error && error <= 255,
+            Response::Abort(error) => 1 <= error && error <= LAST_ERROR,
             Response::Media(_) => true,
         }
     }
@@ -290,7 +294,7 @@ impl Right {
 }
 
 /// Who may make a call, and what it must name.
-#[derive(Clone, Copy, Debug, PartialEq, Eq)]
+#[derive(Clone, Copy, PartialEq, Eq)]
 pub enum Scope {
     /// No session is needed.
     Anyone,
@@ -381,7 +385,7 @@ impl DmCall {
 }
 
 /// What the store answers to a session's call.
-#[derive(Clone, Debug, PartialEq, Drop)]
+#[derive(Drop)]
 pub enum DmReply {
     Done,
     Session(Sid),
@@ -414,65 +418,144 @@ pub enum DmReply {
     Refused(DmRefusal),
 }
 
+impl Clone for DmReply {
+    ghost is_clone = { λ r s. s ≡ r };
+
+    fn clone(&self) -> Result<DmReply, AllocError> {
+        Ok(match self {
+            DmReply::Done => DmReply::Done,
+            DmReply::Session(sid) => DmReply::Session(*sid),
+            DmReply::Sids(sids) => DmReply::Sids(sids.clone()?),
+            DmReply::Info(info) => DmReply::Info(info.clone()?),
+            DmReply::Kinds(kinds) => DmReply::Kinds(*kinds),
+            DmReply::Packed { bytes, tokens } => DmReply::Packed {
+                bytes: bytes.clone()?,
+                tokens: tokens.clone()?,
+            },
+            DmReply::Tokens(tokens) => DmReply::Tokens(tokens.clone()?),
+            DmReply::Token(token) => DmReply::Token(*token),
+            DmReply::Right(right) => DmReply::Right(*right),
+            DmReply::Attr {
+                size,
+                stamp,
+                blocks,
+            } => DmReply::Attr {
+                size: *size,
+                stamp: *stamp,
+                blocks: *blocks,
+            },
+            DmReply::Data(bytes) => DmReply::Data(bytes.clone()?),
+            DmReply::Range { offset, len } => DmReply::Range {
+                offset: *offset,
+                len: *len,
+            },
+            DmReply::Alloc(segments) => DmReply::Alloc(segments.clone()?),
+            DmReply::Regions(regions) => DmReply::Regions(regions.clone()?),
+            DmReply::Names(names) => DmReply::Names(names.clone()?),
+            DmReply::Handle(handle) => DmReply::Handle(*handle),
+            DmReply::Space { used, total } => DmReply::Space {
+                used: *used,
+                total: *total,
+            },
+            DmReply::Table(table) => DmReply::Table(table.clone()?),
+            DmReply::Refused(why) => DmReply::Refused(*why),
+        })
+    }
+}
+
 /// Why a session's call was refused. Nothing has changed then but the history, and not even that after `Memory`, or after `Disk` from a closed store. A
 /// fault of the disk in the event closes the store.
 #[derive(Clone, Copy, Debug, PartialEq, Eq, Error)]
 pub enum DmRefusal {
-    #[error("no session has the id")]
     NoSession,
-    #[error("the token isn't outstanding")]
     NoToken,
-    #[error("the token is outstanding to the session {}", owner.0)]
     NotYours { owner: Sid },
-    #[error("the handle isn't that of a file here")]
     NoObject,
     /// What the token has on the file.
-    #[error("the token's right on the file is too small")]
     NeedRight { have: Right },
     /// The lowest other token whose right on the file excludes the one that is needed.
-    #[error("the token {} has a right on the file that excludes this", token.0)]
     Busy { token: Token },
-    #[error("{count} messages are undelivered or outstanding")]
     EventsLeft { count: u64 },
-    #[error("nothing is undelivered")]
     Again,
     /// The bytes of the first message.
-    #[error("the first message takes {need} bytes")]
     TooSmall { need: u64 },
     /// The first bad region, from 0.
-    #[error("the region {index} is bad")]
     BadRegion { index: u32 },
-    #[error("no attribute has the name")]
     NoAttr,
-    #[error("the name is reserved")]
     Reserved,
-    #[error("the value's length {len} is out of bounds")]
     AttrTooBig { len: u64 },
     /// The lowest segment that is meant and offline.
-    #[error("the segment {segment} is offline")]
     Offline { segment: u32 },
-    #[error("the segment {segment} is not sealed")]
     NotSealed { segment: u32 },
-    #[error("the segment {segment} is not offline")]
     NotOffline { segment: u32 },
     /// The fingerprint that the bytes should have, and the one that they have.
-    #[error("the bytes have another fingerprint")]
     Changed { want: Fingerprint, got: Fingerprint },
     /// The lowest segment that is meant and that no region with all flags contains.
-    #[error("the segment {segment} is not covered")]
     Uncovered { segment: u32 },
-    #[error("the range is out of bounds")]
     BadRange,
-    #[error("an abort's error is from 1 to 255")]
     BadResponse,
     /// More blocks are needed than are free.
-    #[error("{need} blocks are needed, and {free} are free")]
     NoSpace { need: u64, free: u64 },
-    #[error("the count {count} is out of bounds")]
     TooMany { count: u64 },
     /// A call of the disk failed in this event, or the store is closed by such a fault.
-    #[error("the disk failed")]
     Disk,
-    #[error("no memory")]
     Memory,
+}
+
+impl fmt::Display for DmRefusal {
+    fn fmt<W: fmt::Write>(&self, f: &mut fmt::Formatter<W>) -> fmt::Result {
+        fmt::Display::fmt(&self.told(), f)
+    }
+}
+
+impl DmRefusal {
+    /// What it says.
+    fn told(&self) -> Told {
+        match *self {
+            Self::NoSession => Words("no session has the id"),
+            Self::NoToken => Words("the token isn't outstanding"),
+            Self::NotYours { owner } => Number(
+                "the token is outstanding to the session ",
+                owner.0,
+                "",
+            ),
+            Self::NoObject => Words("the handle isn't that of a file here"),
+            Self::NeedRight { .. } => Words("the token's right on the file is too small"),
+            Self::Busy { token } => Number(
+                "the token ",
+                token.0,
+                " has a right on the file that excludes this",
+            ),
+            Self::EventsLeft { count } => Number(
+                "",
+                count,
+                " messages are undelivered or outstanding",
+            ),
+            Self::Again => Words("nothing is undelivered"),
+            Self::TooSmall { need } => Number("the first message takes ", need, " bytes"),
+            Self::BadRegion { index } => Number("the region ", index.into(), " is bad"),
+            Self::NoAttr => Words("no attribute has the name"),
+            Self::Reserved => Words("the name is reserved"),
+            Self::AttrTooBig { len } => Number("the value's length ", len, " is out of bounds"),
+            Self::Offline { segment } => Number("the segment ", segment.into(), " is offline"),
+            Self::NotSealed { segment } => Number("the segment ", segment.into(), " is not sealed"),
+            Self::NotOffline { segment } => Number(
+                "the segment ",
+                segment.into(),
+                " is not offline",
+            ),
+            Self::Changed { .. } => Words("the bytes have another fingerprint"),
+            Self::Uncovered { segment } => Number(
+                "the segment ",
+                segment.into(),
+                " is not covered",
+            ),
+            Self::BadRange => Words("the range is out of bounds"),
+            Self::BadResponse => Words("an abort's error is from 1 to 255"),
+            Self::NoSpace { need, free } => Blocks { need, free },
+            Self::TooMany { count } => Number("the count ", count, " is out of bounds"),
+            Self::Disk => Words("the disk failed"),
+            Self::Memory => Words("no memory"),
+        }
+    }
 }

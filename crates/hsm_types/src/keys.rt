@@ -5,7 +5,7 @@ use byteorder::{BigEndian, ByteOrder};
 use std::marker::Model;
 
 /// Who makes a call, from 1 to [`CALLERS`](crate::CALLERS). Contracts see the number.
-#[derive(Clone, Copy, Debug, PartialEq, Eq)]
+#[derive(Clone, Copy, PartialEq, Eq)]
 pub struct CallerId(u8);
 
 impl Model for CallerId {
@@ -47,7 +47,7 @@ impl CallerId {
 }
 
 /// Which file: its inode, from 1, and its generation, from 1. No two files ever have one generation.
-#[derive(Clone, Copy, Debug, PartialEq, Eq, PartialOrd, Ord, Hash)]
+#[derive(Clone, Copy, PartialEq, Eq, PartialOrd, Ord, Hash)]
 pub struct FileKey {
     pub ino: u64,
     pub igen: u64,
@@ -58,7 +58,7 @@ pub struct FileKey {
 pub struct Token(pub u64);
 
 /// Which token holds which file. They stand in the order of files, and on one file in that of tokens.
-#[derive(Clone, Copy, Debug, PartialEq, Eq, PartialOrd, Ord)]
+#[derive(Clone, Copy, PartialEq, Eq, PartialOrd, Ord)]
 pub struct Holding {
     pub key: FileKey,
     pub token: Token,
@@ -72,7 +72,7 @@ pub struct Sid(pub u64);
 pub const HANDLE_BYTES: usize = 24;
 
 /// What sessions know a file by, whatever its name: the file system id of its store, and its key.
-#[derive(Clone, Copy, Debug, PartialEq, Eq)]
+#[derive(Clone, Copy, PartialEq, Eq)]
 pub struct Handle {
     pub fsid: u64,
     pub key: FileKey,

@@ -5,35 +5,34 @@ mod attributes;
 mod calls;
 mod daemons;
 mod dm;
-mod forms;
 mod keys;
 mod limits;
 mod lists;
 mod media;
 mod messages;
 mod names;
-mod parts;
 mod regions;
 mod stores;
 mod stubs;
 mod tables;
+mod texts;
 
-pub use attributes::{ATTRIBUTE_BYTES, ATTRIBUTE_COST, AttrName};
+pub use attributes::AttrName;
 pub use calls::{Call, CallRefusal, Reply};
 pub use daemons::{Act, Daemon, Heard};
 pub use dm::{DmCall, DmRefusal, DmReply, Kind, Kinds, Response, Right, Scope};
-pub use forms::{CALL_PARTS, CallVerb, DmVerb};
 pub use keys::{CallerId, FileKey, HANDLE_BYTES, Handle, Holding, Sid, Token};
 pub use limits::{
-    ACCESS_BYTES, BLOCK_BYTES, CALLERS, FILE_BYTES, INFO_BYTES, LIVE_SESSIONS, MESSAGE_BYTES,
-    NAME_BYTES, SEGMENT_BLOCKS, SEGMENT_BYTES, USER_TOKENS, WAITING_MESSAGES, segments_in,
+    ACCESS_BYTES, ATTRIBUTE_COST, BLOCK_BYTES, BUFFER_BYTES, CALLERS, DATA_BYTES, FILE_BLOCKS,
+    FILE_BYTES, FILE_REGIONS, FILE_SEGMENTS, INFO_BYTES, LAST_ERROR, LAST_VOLUME, LIVE_SESSIONS,
+    MOST_VOLUMES, NAME_BYTES, SEGMENT_BLOCKS, SEGMENT_BYTES, USER_EVENTS, VALUE_BYTES,
+    WAITING_MESSAGES, segments_in,
 };
 pub use lists::{Bytes, FileRows, ListOf, Names, Regions, Segments, Sids, Tokens, Word};
 pub use media::{CopyRefusal, Fault, FetchRefusal, MediaCause};
 pub use messages::{Message, Packed};
 pub use names::can_name;
-pub use parts::{Part, PartKind, PartRef, Parts};
-pub use regions::{REGION_READ, REGION_TRUNCATE, REGION_WRITE, REGIONS, Range, Region};
-pub use stores::{Geometry, SMALL, Superblock};
-pub use stubs::{Changed, Digest, Fingerprint, LAST_VOLUME, Segment, Stub, StubEntry, Verified};
+pub use regions::{REGION_READ, REGION_TRUNCATE, REGION_WRITE, Range, Region};
+pub use stores::{Geometry, LARGE_GEOMETRY, SMALL_GEOMETRY, Superblock};
+pub use stubs::{Changed, Digest, Fingerprint, Place, Segment, Stub, StubEntry, Verified};
 pub use tables::{FileRow, Table};

@@ -11,7 +11,7 @@ use std::alloc::{AllocError, Global};
 use std::marker::{Model, PhantomData};
 
 /// A list of items. `As` is what they are used as, where two lists of such items are to be two types.
-#[derive(Debug, Drop)]
+#[derive(Drop)]
 pub struct ListOf<T, As = ()> {
     items: Vec<T>,
     used_as: PhantomData<As>,
@@ -24,7 +24,7 @@ pub type Bytes = ListOf<u8>;
 pub type Word = ListOf<u8, Spelled>;
 
 /// Marks the bytes of a word, which are no data.
-#[derive(Debug, Drop)]
+#[derive(Drop)]
 pub struct Spelled;
 
 /// Ids of sessions.

@@ -3,7 +3,8 @@ ghost use Rattle.std.specs.Prelude.{◌≡◌};
 ghost use Rattle.hsm_types.specs.Media.{IsFault};
 ghost use Rattle.hsm_types.specs.declared.media.Fault.TheVariants.{Damaged, Failed};
 
-use crate::stubs::Fingerprint;
+use crate::stubs::{Fingerprint, Place};
+use std::fmt;
 use std::marker::Model;
 use thiserror::Error;
 
@@ -48,30 +49,30 @@ impl Model for MediaCause {
 }
 
 impl MediaCause {
-    /// The drive failed in a fetch of that object.
-    pub fn failed(volume: u32, object: u32, before: u64, after: u64) -> MediaCause
-        requires { IsFault (Failed volume object before after) }
-        ensures { result ≡ Failed volume object before after }
+    /// The drive failed in a fetch of the object at that place.
+    pub fn failed(place: Place, before: u64, after: u64) -> MediaCause
+        requires { IsFault (Failed place.volume place.object before after) }
+        ensures { result ≡ Failed place.volume place.object before after }
     {
         MediaCause {
             fault: Fault::Failed {
-                volume,
-                object,
+                volume: place.volume,
+                object: place.object,
                 before,
                 after,
             },
         }
     }
 
-    /// That object's payload has other bytes than those that were wanted.
-    pub fn damaged(volume: u32, object: u32, want: Fingerprint, got: Fingerprint) -> MediaCause
-        requires { IsFault (Damaged volume object want got) }
-        ensures { result ≡ Damaged volume object want got }
+    /// The payload of the object at that place has other bytes than those that were wanted.
+    pub fn damaged(place: Place, want: Fingerprint, got: Fingerprint) -> MediaCause
+        requires { IsFault (Damaged place.volume place.object want got) }
+        ensures { result ≡ Damaged place.volume place.object want got }
     {
         MediaCause {
             fault: Fault::Damaged {
-                volume,
-                object,
+                volume: place.volume,
+                object: place.object,
                 want,
                 got,
             },
@@ -91,18 +92,36 @@ impl MediaCause {
 #[derive(Clone, Copy, Debug, PartialEq, Eq, Error)]
 pub enum CopyRefusal {
     /// The drive's count of faults rose from the one number to the other. It stops at the greatest `u64`.
-    #[error("the drive's count of faults was {before} and is {after}")]
     Failed { before: u64, after: u64 },
     /// The volume's objects have so many bytes, the new one's don't fit, and it may have no more than `capacity`.
-    #[error("volume full: {used} of {capacity} bytes are used, and the object has {len}")]
     Full { used: u64, len: u64, capacity: u64 },
     /// What was read back has another fingerprint.
-    #[error("what was read back isn't what was written")]
     Damaged { want: Fingerprint, got: Fingerprint },
-    #[error("no such volume")]
     NoVolume,
-    #[error("no memory")]
     Memory,
+}
+
+impl fmt::Display for CopyRefusal {
+    fn fmt<W: fmt::Write>(&self, f: &mut fmt::Formatter<W>) -> fmt::Result {
+        match self {
+            CopyRefusal::Failed { before, after } => {
+                write!(f, "the drive's count of faults was {before} and is {after}")
+            }
+            CopyRefusal::Full {
+                used,
+                len,
+                capacity,
+            } => {
+                write!(
+                    f,
+                    "volume full: {used} of {capacity} bytes are used, and the object has {len}"
+                )
+            }
+            CopyRefusal::Damaged { .. } => f.write_str("what was read back isn't what was written"),
+            CopyRefusal::NoVolume => f.write_str("no such volume"),
+            CopyRefusal::Memory => f.write_str("no memory"),
+        }
+    }
 }
 
 /// Why a segment was not fetched from a volume.

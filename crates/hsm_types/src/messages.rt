@@ -5,7 +5,7 @@ use crate::keys::{Handle, Token};
 use crate::lists::{Bytes, Tokens};
 
 /// A message. Whether a buffer can hold it is said by `IsMessage`.
-#[derive(Debug, PartialEq, Drop)]
+#[derive(Drop)]
 pub struct Message {
     pub kind: Kind,
     /// Of the event that is to be responded to, 0 where no response is wanted.
@@ -21,7 +21,7 @@ pub struct Message {
 }
 
 /// A buffer of messages, as sessions get it.
-#[derive(Debug, PartialEq, Drop)]
+#[derive(Drop)]
 pub struct Packed {
     pub bytes: Bytes,
     /// Those of its messages, in order, 0 for one that wants no response.

@@ -5,7 +5,7 @@ ghost use Rattle.hsm_types.specs.Names.{is_name_byte, is_name};
 
 use crate::limits::NAME_BYTES;
 
-/// Whether a word can be the name of a file: 1 to 64 visible ASCII bytes, none of them a slash.
+/// Whether a word can be the name of a file: 1 to [`NAME_BYTES`](crate::NAME_BYTES) visible ASCII bytes, none of them a slash.
 pub fn can_name(word: &[u8]) -> bool
     ensures { result ≡ is_name word.now }
 {

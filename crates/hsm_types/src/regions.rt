@@ -1,8 +1,5 @@
 //! Managed regions, and what touches them.
 
-/// The most regions of a file.
-pub const REGIONS: usize = 4;
-
 /// The flag of a region whose reads are managed.
 pub const REGION_READ: u8 = 1;
 
@@ -13,7 +10,7 @@ pub const REGION_WRITE: u8 = 2;
 pub const REGION_TRUNCATE: u8 = 4;
 
 /// A part of a file whose accesses sessions hear of. Offset and size are in bytes.
-#[derive(Clone, Copy, Debug, PartialEq, Eq)]
+#[derive(Clone, Copy, PartialEq, Eq)]
 pub struct Region {
     pub offset: u64,
 
@@ -25,7 +22,7 @@ pub struct Region {
 }
 
 /// Bytes of a file, from an offset on.
-#[derive(Clone, Copy, Debug, PartialEq, Eq)]
+#[derive(Clone, Copy, PartialEq, Eq)]
 pub struct Range {
     pub offset: u64,
     pub len: u64,

@@ -1,12 +1,12 @@
 //! What a store was formatted with.
 
 /// How much a store can hold.
-#[derive(Clone, Copy, Debug, PartialEq, Eq)]
+#[derive(Clone, Copy, PartialEq, Eq)]
 pub struct Geometry {
     /// How many files, and so the greatest inode.
     pub files: u32,
 
-    /// How many blocks of 4,096 bytes all bodies together may have mapped.
+    /// How many blocks all bodies together may have mapped.
     pub blocks: u32,
 
     /// How many bytes the attributes of all files together may count.
@@ -17,15 +17,23 @@ pub struct Geometry {
 }
 
 /// The geometry that the words call `small`.
-pub const SMALL: Geometry = Geometry {
+pub const SMALL_GEOMETRY: Geometry = Geometry {
     files: 64,
     blocks: 1024,
     attributes: 32_768,
     stubs: 1024,
 };
 
+/// The geometry that they call `large`.
+pub const LARGE_GEOMETRY: Geometry = Geometry {
+    files: 4096,
+    blocks: 65_536,
+    attributes: 1_048_576,
+    stubs: 65_536,
+};
+
 /// What formatting fixes of a store for all its life.
-#[derive(Clone, Copy, Debug, PartialEq, Eq)]
+#[derive(Clone, Copy, PartialEq, Eq)]
 pub struct Superblock {
     pub geometry: Geometry,
 

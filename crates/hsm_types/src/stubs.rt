@@ -1,14 +1,11 @@
 //! Stub entries: where the copy of a segment's bytes lies, and by which fingerprint it is known.
 ghost use Rattle.std.specs.Prelude.{◌≡◌, ◌<◌, ◌^◌, length, OnOk, IfOk, IfErr, MatchResult};
-ghost use Rattle.hsm_types.specs.Stubs.{print_of};
+ghost use Rattle.hsm_types.specs.Stubs.{print_of, entry_at, entry_place, entry_print};
 
 use crate::lists::Bytes;
 use sha2::Sha256;
 use std::marker::Model;
 use thiserror::Error;
-
-/// The greatest number of a volume.
-pub const LAST_VOLUME: u32 = 255;
 
 /// A SHA-256.
 #[derive(Clone, Copy, Debug, PartialEq, Eq)]
@@ -34,18 +31,55 @@ impl Fingerprint {
     }
 }
 
-/// Where the copy of a segment's bytes lies, and their fingerprint.
-#[derive(Clone, Copy, Debug, PartialEq, Eq)]
-pub struct StubEntry {
-    /// From 0 to [`LAST_VOLUME`].
+/// Where a copy of a segment's bytes lies.
+#[derive(Clone, Copy, PartialEq, Eq)]
+pub struct Place {
+    /// From 0 to [`LAST_VOLUME`](crate::LAST_VOLUME).
     pub volume: u32,
     /// Which object of the volume, from 0.
     pub object: u32,
-    pub print: Fingerprint,
+}
+
+/// Where the copy of a segment's bytes lies, and their fingerprint.
+#[derive(Clone, Copy, PartialEq, Eq)]
+pub struct StubEntry {
+    volume: u32,
+    object: u32,
+    print: Fingerprint,
+}
+
+impl StubEntry {
+    /// That of a copy at the place, of bytes with the fingerprint.
+    pub fn new(place: Place, print: Fingerprint) -> StubEntry
+        ensures { result ≡ entry_at place print }
+    {
+        StubEntry {
+            volume: place.volume,
+            object: place.object,
+            print,
+        }
+    }
+
+    /// Where the copy lies.
+    pub fn place(&self) -> Place
+        ensures { result ≡ entry_place self.now }
+    {
+        Place {
+            volume: self.volume,
+            object: self.object,
+        }
+    }
+
+    /// The fingerprint of the copied bytes.
+    pub fn print(&self) -> Fingerprint
+        ensures { result ≡ entry_print self.now }
+    {
+        self.print
+    }
 }
 
 /// What stands for the bytes of a segment: beside them, or, where they are away, in their place.
-#[derive(Clone, Copy, Debug, PartialEq, Eq)]
+#[derive(Clone, Copy, PartialEq, Eq)]
 pub struct Stub {
     pub entry: StubEntry,
     /// Whether the bytes are away.
@@ -53,7 +87,7 @@ pub struct Stub {
 }
 
 /// What is held of a segment. `blocks` counts its blocks that are mapped.
-#[derive(Clone, Copy, Debug, PartialEq, Eq)]
+#[derive(Clone, Copy, PartialEq, Eq)]
 pub enum Segment {
     /// Its bytes.
     Resident { blocks: u32 },
@@ -64,7 +98,7 @@ pub enum Segment {
 }
 
 /// Bytes with their fingerprint. Contracts see the bytes.
-#[derive(Debug, PartialEq, Drop)]
+#[derive(PartialEq, Drop)]
 pub struct Verified {
     bytes: Bytes,
     print: Fingerprint,

@@ -6,7 +6,7 @@ use crate::lists::{FileRows, Segments};
 use std::alloc::{AllocError, Global};
 
 /// A file as a table tells it.
-#[derive(Debug, PartialEq, Drop)]
+#[derive(Drop)]
 pub struct FileRow {
     pub handle: Handle,
     /// In bytes.
@@ -17,7 +17,7 @@ pub struct FileRow {
 }
 
 /// How many blocks are mapped, and how many there are; and the files in the order of their inodes.
-#[derive(Debug, PartialEq, Drop)]
+#[derive(Drop)]
 pub struct Table {
     pub used: u64,
     pub total: u64,

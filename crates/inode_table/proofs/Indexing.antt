@@ -8,8 +8,8 @@ use Rattle.std.specs.Map.{lookup, KeepsOthers}
 use Rattle.std.specs.Option.{option_map}
 use Rattle.std.specs.Str.{bytes_eq}
 use Rattle.hsm_types.specs.declared.keys.FileKey.{FileKey}
-use Rattle.plain_model.specs.Keyed.{find_key, put_key, drop_key}
-use Rattle.plain_model.specs.Plain.{Listed, named}
+use Rattle.hsm_types.specs.Keyed.{find_key, put_key, drop_key}
+use Rattle.hsm_types.specs.Listing.{Listed, named}
 use Rattle.inode_table.specs.declared.entries.FileEntry.{FileEntry}
 use Rattle.inode_table.specs.Listing.{listed, listing, key_named, Differ}
 use Rattle.inode_table.specs.Index.{Indexes}

@@ -2,8 +2,8 @@
 use Rattle.std.proofs.Common.{◌≡◌, ◌+◌, ◌≤◌, ℕ, List, Option, Some, None, max, length, false, refl, arith}
 use Rattle.std.specs.Option.{option_map, IfNone}
 use Rattle.hsm_types.specs.declared.keys.FileKey.{FileKey}
-use Rattle.plain_model.specs.Keyed.{put_key, drop_key, change_key}
-use Rattle.plain_model.specs.Plain.{named}
+use Rattle.hsm_types.specs.Keyed.{put_key, drop_key, change_key}
+use Rattle.hsm_types.specs.Listing.{named}
 use Rattle.inode_table.specs.declared.entries.FileEntry.{FileEntry}
 use Rattle.inode_table.specs.Listing.{listed, listing, has_inode}
 use Rattle.inode_table.specs.Table.{IsTable}

@@ -3,8 +3,8 @@ use Rattle.std.proofs.Common.{◌≡◌, ◌+◌, ◌<◌, ℕ, zero, suc, List,
 use Rattle.std.specs.Prelude.{IsSome}
 use Rattle.std.proofs.lemmas.Bool.{cond_both, and_from, and_parts, eqb-true, eq-eqb, ne_eqb, ltb-true, ltb-false}
 use Rattle.hsm_types.specs.declared.keys.FileKey.{FileKey}
-use Rattle.plain_model.specs.Keyed.{same_key, find_key}
-use Rattle.plain_model.specs.Plain.{Listed}
+use Rattle.hsm_types.specs.Keyed.{same_key, find_key}
+use Rattle.hsm_types.specs.Listing.{Listed}
 use Rattle.inode_table.specs.declared.entries.FileEntry.{FileEntry}
 use Rattle.inode_table.specs.Listing.{listing, key_at, Ascend}
 use Rattle.inode_table.specs.Places.{Cuts}

@@ -1,8 +1,8 @@
 -- What edits of entries are to their listing.
 use Rattle.std.proofs.Common.{◌≡◌, ℕ, suc, length, List, [], ◌∷◌, Bool, true, false, cond, Some, None, ltb, refl, ap}
 use Rattle.hsm_types.specs.declared.keys.FileKey.{FileKey}
-use Rattle.plain_model.specs.Keyed.{same_key, find_key, change_key, put_key, drop_key}
-use Rattle.plain_model.specs.Plain.{Listed}
+use Rattle.hsm_types.specs.Keyed.{same_key, find_key, change_key, put_key, drop_key}
+use Rattle.hsm_types.specs.Listing.{Listed}
 use Rattle.inode_table.specs.declared.entries.FileEntry.{FileEntry}
 use Rattle.inode_table.specs.Listing.{listed, listing}
 

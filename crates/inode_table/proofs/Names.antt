@@ -4,8 +4,8 @@ use Rattle.std.proofs.lemmas.Bool.{cond_both, cond-false, false_from_ne_true}
 use Rattle.std.proofs.lemmas.Slice.Eq.{bytes_eq-Decides}
 use Rattle.std.specs.Str.{bytes_eq}
 use Rattle.hsm_types.specs.declared.keys.FileKey.{FileKey}
-use Rattle.plain_model.specs.Keyed.{same_key, find_key, put_key, drop_key}
-use Rattle.plain_model.specs.Plain.{Listed, named}
+use Rattle.hsm_types.specs.Keyed.{same_key, find_key, put_key, drop_key}
+use Rattle.hsm_types.specs.Listing.{Listed, named}
 use Rattle.inode_table.specs.Listing.{Differ}
 use Rattle.inode_table.proofs.Choices.{none_of, other_order}
 

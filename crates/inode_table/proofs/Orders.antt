@@ -3,8 +3,8 @@ use Rattle.std.proofs.Common.{◌≡◌, ◌+◌, ◌-◌, ◌<◌, ◌≤◌, �
 use Rattle.std.proofs.lemmas.Bool.{cond_both, eqb-true, eqb-false, ltb-true, ltb-false, ne_eqb, lt-ltb}
 use Rattle.std.specs.List.Sorted.{IsPartitionedBy}
 use Rattle.hsm_types.specs.declared.keys.FileKey.{FileKey}
-use Rattle.plain_model.specs.Keyed.{same_key, put_key, drop_key}
-use Rattle.plain_model.specs.Plain.{Listed, free_inode}
+use Rattle.hsm_types.specs.Keyed.{same_key, put_key, drop_key}
+use Rattle.hsm_types.specs.Listing.{Listed, free_inode}
 use Rattle.inode_table.specs.declared.entries.FileEntry.{FileEntry}
 use Rattle.inode_table.specs.Listing.{listing, has_inode, Ascend, Within}
 use Rattle.inode_table.proofs.Choices.{neither}

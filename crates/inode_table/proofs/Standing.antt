@@ -4,7 +4,7 @@ use Rattle.std.proofs.lemmas.Bool.{ltb-true, ltb-false, ne_eqb, eqb-false, lt-lt
 use Rattle.std.specs.List.{insert, remove}
 use Rattle.std.specs.List.Sorted.{IsPartitionPoint}
 use Rattle.hsm_types.specs.declared.keys.FileKey.{FileKey}
-use Rattle.plain_model.specs.Keyed.{same_key, find_key, change_key, put_key, drop_key}
+use Rattle.hsm_types.specs.Keyed.{same_key, find_key, change_key, put_key, drop_key}
 use Rattle.inode_table.specs.declared.entries.FileEntry.{FileEntry}
 use Rattle.inode_table.specs.Listing.{listing, has_inode, Ascend}
 use Rattle.inode_table.specs.Places.{Cuts, StandsAt}
@@ -17,11 +17,6 @@ cuts-point ino [] (suc i) h le = absurd (omega arith)
 cuts-point ino (f ∷ es) (suc i) h le = (h.0 0 f (omega arith) (omega arith), cuts-point ino es i ((λ k d low high. h.0 (suc k) d (omega arith) (omega arith)), (λ k d low high. h.1 (suc k) d (omega arith) (omega arith))) (omega arith))
 
 -- ---- a file that stands
-
-pub stands-within : (k : FileKey) (i : ℕ) (es : List FileEntry) → StandsAt k i es → i < length es
-stands-within k i [] s = absurd s
-stands-within k zero (f ∷ es) s = omega arith
-stands-within k (suc i) (f ∷ es) s = let more = stands-within k i es s.1 in omega arith
 
 pub stands-found : (k : FileKey) (i : ℕ) (d : FileEntry) (es : List FileEntry) → StandsAt k i es → find_key (λ f. f.key) k es ≡ Some (get_or es i d)
 stands-found k i d [] s = absurd s
@@ -80,8 +75,3 @@ cuts-put e (suc i) (f ∷ es) c free =
     let rest = neither (eqb f.key.ino e.key.ino) (has_inode e.key.ino (listing es)) free in
     let after : ltb e.key.ino f.key.ino ≡ false = le-ltb e.key.ino f.key.ino (omega arith) in
     rw after (ap (λ fs. f ∷ fs) (cuts-put e i es c.1 rest.1))
-
-pub cuts-within : (ino i : ℕ) (es : List FileEntry) → Cuts ino i es → i ≤ length es
-cuts-within ino zero es c = omega arith
-cuts-within ino (suc i) [] c = absurd c
-cuts-within ino (suc i) (f ∷ es) c = let more = cuts-within ino i es c.1 in omega arith

@@ -4,7 +4,7 @@ use Rattle.std.specs.Map.{lookup}
 use Rattle.std.specs.Str.{bytes_eq}
 use Rattle.std.specs.Global.{Vec}
 use Rattle.hsm_types.specs.declared.keys.FileKey.{FileKey}
-use Rattle.plain_model.specs.Plain.{Listed}
+use Rattle.hsm_types.specs.Listing.{Listed}
 use Rattle.inode_table.specs.Listing.{key_named}
 
 -- the map has the key of each file under its name, and no other name

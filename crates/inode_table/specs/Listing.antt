@@ -2,7 +2,7 @@
 use Rattle.std.specs.Prelude.{◌≡◌, ℕ, ◌+◌, ◌<◌, ◌≤◌, List, [], ◌∷◌, map, Bool, true, false, ◌==◌, if◌then◌else◌, Option, Some, None}
 use Rattle.std.specs.Option.{option_map}
 use Rattle.hsm_types.specs.declared.keys.FileKey.{FileKey}
-use Rattle.plain_model.specs.Plain.{Listed, named}
+use Rattle.hsm_types.specs.Listing.{Listed, named}
 use Rattle.inode_table.specs.declared.entries.FileEntry.{FileEntry}
 
 abbrev pub listed : FileEntry → Listed

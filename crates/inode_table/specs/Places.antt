@@ -1,7 +1,7 @@
 -- Where files stand in the list.
 use Rattle.std.specs.Prelude.{◌≡◌, ℕ, zero, suc, List, [], ◌∷◌, true, false, nat_lt}
 use Rattle.hsm_types.specs.declared.keys.FileKey.{FileKey}
-use Rattle.plain_model.specs.Keyed.{same_key}
+use Rattle.hsm_types.specs.Keyed.{same_key}
 use Rattle.inode_table.specs.declared.entries.FileEntry.{FileEntry}
 
 -- so many files have inodes below that one, and the next file hasn't

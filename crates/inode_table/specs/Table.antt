@@ -1,8 +1,8 @@
 -- The files of a store by name, inode and size.
 use Rattle.std.specs.Prelude.{ℕ, ◌+◌, max, List}
 use Rattle.hsm_types.specs.declared.keys.FileKey.{FileKey}
-use Rattle.plain_model.specs.Keyed.{put_key}
-use Rattle.plain_model.specs.Plain.{Listed, free_inode}
+use Rattle.hsm_types.specs.Keyed.{put_key}
+use Rattle.hsm_types.specs.Listing.{Listed, free_inode}
 use Rattle.inode_table.specs.declared.entries.FileEntry.{FileEntry}
 use Rattle.inode_table.specs.Listing.{listing, Ascend, Within, Differ}
 

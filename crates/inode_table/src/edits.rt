@@ -3,8 +3,8 @@ ghost use Rattle.std.specs.Prelude.{◌≡◌, ◌+◌, ◌^◌, ◌<◌, None, 
 ghost use Rattle.std.specs.Map.{lookup};
 ghost use Rattle.std.specs.Option.{option_map};
 ghost use Rattle.std.specs.Str.{bytes_eq};
-ghost use Rattle.plain_model.specs.Keyed.{find_key, put_key, drop_key};
-ghost use Rattle.plain_model.specs.Plain.{named};
+ghost use Rattle.hsm_types.specs.Keyed.{find_key, put_key, drop_key};
+ghost use Rattle.hsm_types.specs.Listing.{named};
 ghost use Rattle.inode_table.specs.Listing.{listing, has_inode, Ascend, Differ};
 ghost use Rattle.inode_table.specs.Table.{entry_of};
 ghost use Rattle.inode_table.specs.Index.{Indexes};

@@ -1,15 +1,15 @@
 //! The files of a table, an entry for each, in the order of their inodes.
 ghost use Rattle.std.specs.Prelude.{◌≡◌, ◌+◌, ◌^◌, ◌<◌, ◌≤◌, None, false, IsSome, IfSome, MatchOption, length, insert, vec_len, vec_capacity};
 ghost use Rattle.std.specs.Option.{option_map};
-ghost use Rattle.plain_model.specs.Keyed.{find_key, change_key, put_key, drop_key};
-ghost use Rattle.plain_model.specs.Plain.{free_inode};
+ghost use Rattle.hsm_types.specs.Keyed.{find_key, change_key, put_key, drop_key};
+ghost use Rattle.hsm_types.specs.Listing.{free_inode};
 ghost use Rattle.inode_table.specs.Listing.{listing, key_at, has_inode, Ascend};
 ghost use Rattle.inode_table.specs.Places.{Cuts, StandsAt};
 
 use hsm_types::{FileKey, Word};
 
 /// A file, its size in bytes.
-#[derive(Debug, Drop)]
+#[derive(Drop)]
 pub struct FileEntry {
     pub key: FileKey,
     pub name: Word,

@@ -1,8 +1,8 @@
 //! The table of a store's files.
 ghost use Rattle.std.specs.Prelude.{◌≡◌, ◌↔◌, ◌+◌, ◌^◌, ◌<◌, ◌≤◌, [], length, None, Err, false, IsSome, IfNone, IfOk, OnOk, OnErr, slice_get};
 ghost use Rattle.std.specs.Option.{option_map};
-ghost use Rattle.plain_model.specs.Keyed.{find_key, change_key, drop_key};
-ghost use Rattle.plain_model.specs.Plain.{named};
+ghost use Rattle.hsm_types.specs.Keyed.{find_key, change_key, drop_key};
+ghost use Rattle.hsm_types.specs.Listing.{named};
 ghost use Rattle.inode_table.specs.declared.table.TableRefusal.TheVariants.{Exists, NoInodes};
 ghost use Rattle.inode_table.specs.Listing.{listing, key_named, key_at, has_inode};
 ghost use Rattle.inode_table.specs.Table.{entry_of, next_key, with_file, IsTable};

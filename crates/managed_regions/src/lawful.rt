@@ -3,13 +3,13 @@ ghost use Rattle.std.specs.Prelude.{◌≡◌, ◌≤◌, None, Some, length, Ma
 ghost use Rattle.hsm_types.specs.Regions.{first_bad, is_behind, is_region, regions_refusal};
 
 use crate::meeting::{ALL_FLAGS, end};
-use hsm_types::{DmRefusal, FILE_BYTES, REGIONS, Region};
+use hsm_types::{DmRefusal, FILE_BYTES, FILE_REGIONS, Region};
 
 /// What refuses the list, if anything does.
 pub fn check_regions(regions: &[Region]) -> Result<(), DmRefusal>
     ensures { MatchResult result (λ _. regions_refusal regions.now ≡ None) (λ why. regions_refusal regions.now ≡ Some why) }
 {
-    if regions.len() > REGIONS {
+    if regions.len() > FILE_REGIONS {
         return Err(DmRefusal::TooMany {
             count: regions.len() as u64,
         });
@@ -22,7 +22,7 @@ pub fn check_regions(regions: &[Region]) -> Result<(), DmRefusal>
 
 /// The index of the first region that is bad, if one is.
 fn first_bad(regions: &[Region]) -> Option<u32>
-    requires { length regions.now ≤ 4 }
+    requires { length regions.now ≤ FILE_REGIONS }
     ensures { result ≡ first_bad 0 None regions.now }
 {
     let mut before = None;

@@ -6,7 +6,10 @@ use Rattle.std.specs.List.{All, find}
 use Rattle.std.specs.Map.{lookup, remove_entry}
 use Rattle.std.specs.Option.{option_map}
 use Rattle.hsm_types.specs.Messages.{message_bytes, has_token, no_token, takes, user_message, fitting, first_or_all, handed_out}
-use Rattle.hsm_types.specs.Sessions.{LiveSession, SessionTable, no_sessions, same_sid, session_of, queue_or_none, outstanding_or_none, queue_of, outstanding_of, holds, outstanding_message, taker, heir, next_sid, with_session, without_session, change_live, change_session, loses, queued, with_kinds, posted_to, posted, put_message, put_messages, with_tokens, hands_out, delivered, without_token, responded, user_event, sent}
+use Rattle.hsm_types.specs.Sessions.{LiveSession, SessionTable, no_sessions, same_sid, session_of, queue_or_none, outstanding_or_none, queue_of}
+use Rattle.hsm_types.specs.Sessions.{outstanding_of, holds, outstanding_message, taker, heir, next_sid, with_session, without_session, change_live}
+use Rattle.hsm_types.specs.Sessions.{change_session, loses, queued, with_kinds, posted_to, posted, put_message, put_messages, with_tokens, hands_out}
+use Rattle.hsm_types.specs.Sessions.{delivered, without_token, responded, user_event, sent}
 use Rattle.hsm_types.specs.declared.dm.Kinds.{Kinds}
 use Rattle.hsm_types.specs.declared.keys.Sid.{Sid}
 use Rattle.hsm_types.specs.declared.keys.Token.{Token}

@@ -1,5 +1,6 @@
 -- In a served history each answer that names a fault of a medium is caused: what the recall daemon knows was told after the access was parked.
-use Rattle.std.proofs.Common.{◌≡◌, ℕ, Bool, true, false, not, ◌==◌, List, [], ◌∷◌, ◌++◌, Option, None, Some, refl, sym, ◌∙◌, ap, subst, append_assoc, append-nil}
+use Rattle.std.proofs.Common.{◌≡◌, ℕ, Bool, true, false, not, ◌==◌, List, [], ◌∷◌, ◌++◌, Option, None, Some, refl, sym, ◌∙◌, ap, subst, append_assoc}
+use Rattle.std.proofs.Common.{append-nil}
 use Rattle.std.proofs.lemmas.List.Elements.{All-nil, All-head, All-tail, All-weaker, All-filter, All-contains, All-contains_itself}
 use Rattle.std.specs.Prelude.{◌^◌, IfSome, if◌then◌else◌, nat_lt, Contains}
 use Rattle.std.specs.List.{All, filter_map, enumerate_from}
@@ -31,18 +32,21 @@ use Rattle.plain_model.specs.declared.entries.Answer.TheVariants.{Dm as Told}
 use Rattle.plain_model.specs.declared.entries.Entry.{Entry}
 use Rattle.plain_model.specs.State.{Held, State, just_opened}
 use Rattle.plain_model.specs.Exact.{Exact, state_by}
+use Rattle.plain_model.proofs.Histories.{state_by-push}
 use Rattle.event_msgs.specs.Reading.{told}
 use Rattle.hsm_policy.specs.Settings.{Numbers}
 use Rattle.daemon_session.specs.declared.events.Event.{Event}
 use Rattle.daemon_session.specs.declared.events.Kept.{Kept}
 use Rattle.daemon_session.specs.Seats.{Seat}
-use Rattle.recall_daemon.specs.Known.{Known, Hand, nothing_known, taken, handling, asks, back_in, refused, failed, unrestored, unanswered, hears, away_at, away_in}
+use Rattle.recall_daemon.specs.Known.{Known, Hand, nothing_known, taken, handling, asks, back_in, refused, failed, unrestored, unanswered, hears}
+use Rattle.recall_daemon.specs.Known.{away_at, away_in}
 use Rattle.recall_daemon.specs.declared.away.Away.{Away}
 use Rattle.migrate_daemon.specs.Machine.{answer_of}
 use Rattle.hsm_core.specs.Answers.{entry_of}
+use Rattle.hsm_core.specs.Packed.{HandsBy, ArePacked}
 use Rattle.marked_history.specs.Marks.{Mark, entries_of, Exchange, exchange_by}
 use Rattle.marked_history.specs.Served.{Shown, nothing_shown, with_entry, learned, IsTold, RecallMay, IsServedBy, ServedFrom}
-use Rattle.marked_history.specs.Caused.{WasParked, IsCausedBy, ArePacked, ServedIsCaused}
+use Rattle.marked_history.specs.Caused.{WasParked, IsCausedBy, ServedIsCaused}
 use Rattle.marked_history.proofs.Handing.{IsOfParked, parked_more, each_parked}
 use Rattle.marked_history.proofs.Remembering.{stays, cons_each, TellsOnly, recall_kept, tells_each}
 
@@ -288,29 +292,30 @@ module _ (s : Superblock) (st : State) where
 
   -- ---- whole histories
 
-  module _ (limits : Numbers) (es : List Entry) (none : st.sessions ≡ no_sessions) (exact : Exact s st es) (packed : ArePacked s st es) where
-    given_by : (before : List Entry) (who : Actor) (what : Action) (answer : Answer) (rest : List Entry) → es ≡ before ++ entry_of who what answer ∷ rest → GivenBy before who what answer
-    given_by before (Session sid) (Dm c) (Told answer) rest is =
+  module _ (limits : Numbers) (es : List Entry) (none : st.sessions ≡ no_sessions) (exact : Exact s st es) where
+    given_by : (before : List Entry) (who : Actor) (what : Action) (answer : Answer) (rest : List Entry) → es ≡ before ++ entry_of who what answer ∷ rest → HandsBy (state_by s st before) who what answer → GivenBy before who what answer
+    given_by before (Session sid) (Dm c) (Told answer) rest is hands =
         tells_each (EventOf before) Recall (IsOfParked s st before) (λ m h of own has. subst (λ (found : Option Handle). IfSome found (λ x. WasParked s st before m.token x)) has of) (state_by s st before).sessions sid c answer
-        (each_parked s st es none exact before (entry_of (Session sid) (Dm c) (Told answer)) rest is) (packed before sid c answer rest is)
-    given_by before who what answer rest is = tt
+        (each_parked s st es none exact before (entry_of (Session sid) (Dm c) (Told answer)) rest is) hands
+    given_by before who what answer rest is hands = tt
 
-    caused_on : (done : List Entry) (k : Shown) (marks : List Mark) → es ≡ done ++ entries_of marks → IsKnownBy done k.recall → ServedFrom limits k marks
+    caused_on : (done : List Entry) (k : Shown) (marks : List Mark) → es ≡ done ++ entries_of marks → ArePacked s (state_by s st done) (entries_of marks) → IsKnownBy done k.recall → ServedFrom limits k marks
         → (before : List Entry) (sid : Sid) (t : Token) (fault : Fault) (rest : List Entry) → entries_of marks ≡ before ++ entry_of (Session sid) (Dm (call.Respond t (Media fault))) (Told reply.Done) ∷ rest
         → IsCausedBy s st (done ++ before) sid t fault
-    caused_on done k [] whole known served [] sid t fault rest is = cc
-    caused_on done k [] whole known served (b ∷ before) sid t fault rest is = cc
-    caused_on done k (m ∷ marks) whole known served [] sid t fault rest is =
+    caused_on done k [] whole packed known served [] sid t fault rest is = cc
+    caused_on done k [] whole packed known served (b ∷ before) sid t fault rest is = cc
+    caused_on done k (m ∷ marks) whole packed known served [] sid t fault rest is =
         let same : m.entry ≡ entry_of (Session sid) (Dm (call.Respond t (Media fault))) (Told reply.Done) = cc in
         subst (λ (l : List Entry). IsCausedBy s st l sid t fault) (sym (append-nil done))
         (served_cause done k m.by sid t fault known (subst (λ (e : Entry). IsServedBy m.by k (record { entry = e; by = m.by })) same served.0))
-    caused_on done k (m ∷ marks) whole known served (b ∷ before) sid t fault rest is =
+    caused_on done k (m ∷ marks) whole packed known served (b ∷ before) sid t fault rest is =
         let same : m.entry ≡ b = cc in
         let later : entries_of marks ≡ before ++ entry_of (Session sid) (Dm (call.Respond t (Media fault))) (Told reply.Done) ∷ rest = cc in
-        let known_next : IsKnownBy (done ++ m.entry ∷ []) (learned limits k m).recall = entry_by limits done k known m.by m.entry.actor m.entry.action m.entry.answer (given_by done m.entry.actor m.entry.action m.entry.answer (entries_of marks) whole) served.0 in
+        let known_next : IsKnownBy (done ++ m.entry ∷ []) (learned limits k m).recall = entry_by limits done k known m.by m.entry.actor m.entry.action m.entry.answer (given_by done m.entry.actor m.entry.action m.entry.answer (entries_of marks) whole packed.0) served.0 in
         subst (λ (l : List Entry). IsCausedBy s st l sid t fault) (append_assoc done (m.entry ∷ []) before ∙ ap (λ (e : Entry). done ++ e ∷ before) same)
-        (caused_on (done ++ m.entry ∷ []) (learned limits k m) marks (whole ∙ sym (append_assoc done (m.entry ∷ []) (entries_of marks))) known_next served.1 before sid t fault rest later)
+        (caused_on (done ++ m.entry ∷ []) (learned limits k m) marks (whole ∙ sym (append_assoc done (m.entry ∷ []) (entries_of marks)))
+        (subst (λ (y : State). ArePacked s y (entries_of marks)) (sym (state_by-push s st done m.entry)) packed.1) known_next served.1 before sid t fault rest later)
 
 pub served_is_caused : (limits : Numbers) (s : Superblock) (base : ℕ) (h : Held) (marks : List Mark) (es : List Entry) → ServedIsCaused limits s base h marks es
 served_is_caused limits s base h marks es same served run packed before sid t fault rest is =
-    caused_on s (just_opened base h) limits es refl run.exact packed [] nothing_shown marks (sym same) (nothing_by s (just_opened base h) []) served before sid t fault rest (same ∙ is)
+    caused_on s (just_opened base h) limits es refl run.exact [] nothing_shown marks (sym same) (subst (λ (l : List Entry). ArePacked s (just_opened base h) l) (sym same) packed) (nothing_by s (just_opened base h) []) served before sid t fault rest (same ∙ is)

@@ -1,5 +1,6 @@
 -- In a served run a daemon makes a session beside the others only where none had its information, and takes the place only of one that has it.
-use Rattle.std.proofs.Common.{◌≡◌, ℕ, ◌<◌, ◌≤◌, Bool, true, false, List, [], ◌∷◌, ◌++◌, drop, Option, None, Some, is_some, inl, inr, refl, sym, ap, subst, ◌∙◌, append_assoc, arith}
+use Rattle.std.proofs.Common.{◌≡◌, ℕ, ◌<◌, ◌≤◌, Bool, true, false, List, [], ◌∷◌, ◌++◌, drop, Option, None, Some, is_some, inl, inr, refl, sym, ap}
+use Rattle.std.proofs.Common.{subst, ◌∙◌, append_assoc, arith}
 use Rattle.std.proofs.lemmas.Bool.{false≢true}
 use Rattle.std.proofs.lemmas.List.{map-append}
 use Rattle.std.proofs.lemmas.List.Elements.{All-nil, All-cons, All-contains, Contains-append_cases}
@@ -28,7 +29,7 @@ use Rattle.plain_model.specs.State.{Held, State, just_opened}
 use Rattle.plain_model.specs.Services.{bytes_or_none}
 use Rattle.plain_model.specs.Stands.{InOrder}
 use Rattle.plain_model.specs.Exact.{IsAnswer, left_by, Exact, state_by}
-use Rattle.plain_model.proofs.Histories.{state_by-push}
+use Rattle.plain_model.proofs.Histories.{state_by-push, Exact-first}
 use Rattle.plain_model.proofs.Judged.{none_first, passes}
 use Rattle.plain_model.proofs.Orders.{ordered_at_first, state_ordered}
 use Rattle.hsm_policy.specs.Settings.{Numbers}
@@ -149,15 +150,7 @@ first_or_later x y l is = elim (Contains-append_cases (x ∷ []) l y is) [
 entries_push : (marks : List Mark) (m : Mark) → entries_of (marks ++ m ∷ []) ≡ entries_of marks ++ m.entry ∷ []
 entries_push marks m = map-append (λ (x : Mark). x.entry) marks (m ∷ [])
 
-no_first : {X : Type 0} (before rest : List X) → before ++ rest ≡ [] → before ≡ []
-no_first [] rest none = refl
-no_first (x ∷ before) rest none = absurd cc
-
 module _ (s : Superblock) (st : State) where
-  exact_before : (now : State) (before rest : List Entry) → Exact s now (before ++ rest) → Exact s now before
-  exact_before now [] rest exact = tt
-  exact_before now (e ∷ before) rest exact = (exact.0, λ fault. no_first before rest (exact.1 fault), exact_before (left_by s now e.actor e.action e.answer) before rest exact.2)
-
   abbrev behind : List Mark → State
   behind marks = state_by s st (entries_of marks)
 
@@ -171,7 +164,7 @@ module _ (s : Superblock) (st : State) where
   pushed_exact done m exact = subst (Exact s st) (entries_push done m) exact
 
   exact_to : (done : List Mark) (m : Mark) → ExactTo (done ++ m ∷ []) → ExactTo done
-  exact_to done m exact = exact_before st (entries_of done) (m.entry ∷ []) (pushed_exact done m exact)
+  exact_to done m exact = Exact-first s st (entries_of done) (m.entry ∷ []) (pushed_exact done m exact)
 
   answer_at : (done : List Mark) (m : Mark) → ExactTo (done ++ m ∷ []) → IsAnswer s (behind done) m.entry.actor m.entry.action m.entry.answer
   answer_at done m exact = (exact_rest s st (entries_of done) (m.entry ∷ []) (pushed_exact done m exact)).0
@@ -341,7 +334,7 @@ module _ (s : Superblock) (st : State) where
     made_anew limits before sid info answer rest served exact =
         let m : Mark = made d sid (call.CreateSession first_id info) answer in
         let own = served_before limits nothing_shown before m rest served in
-        let comes = comes_at limits before own.0 (exact_before st (entries_of before) (entries_of (m ∷ rest)) (subst (Exact s st) (map-append (λ (x : Mark). x.entry) before (m ∷ rest)) exact)) in
+        let comes = comes_at limits before own.0 (Exact-first s st (entries_of before) (entries_of (m ∷ rest)) (subst (Exact s st) (map-append (λ (x : Mark). x.entry) before (m ∷ rest)) exact)) in
         elim (may_by d (shown limits nothing_shown before) sid (call.CreateSession first_id info) own.1) [
           | inl beside ↦ alone before (comes.asked [] beside.1 beside.2)
           | inr known ↦ let real = comes.real first_id known in absurd (omega arith)

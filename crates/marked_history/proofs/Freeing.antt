@@ -1,8 +1,10 @@
 -- A punch that is done frees just the mapped blocks of the segments that it names.
-use Rattle.std.proofs.Common.{◌≡◌, ℕ, ◌+◌, ◌-◌, ◌*◌, min, max, List, [], ◌∷◌, ◌++◌, length, take, drop, Bool, true, false, cond, Option, Some, None, inl, inr, sym, ◌∙◌, ap, subst, arith, drop-drop}
+use Rattle.std.proofs.Common.{◌≡◌, ℕ, ◌+◌, ◌-◌, ◌*◌, min, max, List, [], ◌∷◌, ◌++◌, length, take, drop, Bool, true, false, cond, Option, Some, None}
+use Rattle.std.proofs.Common.{inl, inr, sym, ◌∙◌, ap, subst, arith, drop-drop}
 use Rattle.std.specs.Prelude.{replicate, count_by, if◌then◌else◌}
 use Rattle.std.proofs.lemmas.List.Folds.{sum_by-replicate}
 use Rattle.std.proofs.lemmas.List.Sums.{sum_by-cons, sum_by-append, sum_by-take-drop}
+use Rattle.hsm_types.specs.Limits.{segment_blocks}
 use Rattle.hsm_types.specs.declared.dm.DmCall.{DmCall}
 use Rattle.hsm_types.specs.declared.dm.DmCall.TheVariants.{PunchHole}
 use Rattle.hsm_types.specs.declared.dm.DmRefusal.{DmRefusal}
@@ -20,7 +22,7 @@ use Rattle.plain_model.specs.declared.entries.Entry.{Entry}
 use Rattle.plain_model.specs.Blocks.{with_holes}
 use Rattle.plain_model.specs.Effects.{Punches, punch_from, punch_to}
 use Rattle.plain_model.specs.Exact.{IsAnswer, left_by, Exact, state_by}
-use Rattle.plain_model.specs.Keyed.{same_key, find_key}
+use Rattle.hsm_types.specs.Keyed.{same_key, find_key}
 use Rattle.plain_model.specs.Services.{dm_judged, dm_reply_where, dm_state_where}
 use Rattle.plain_model.specs.State.{FileState, Held, State, file_or_new, file_at, used_by, used, remade, affected_held, just_opened}
 use Rattle.plain_model.proofs.Histories.{state_by-push}
@@ -43,7 +45,7 @@ holed low high holes end mapped is =
 
 module _ (from to : ℕ) where
   holes_free : (mapped : List Bool) → count mapped ≡ count (with_holes from to mapped) + freed from to mapped
-  holes_free mapped = holed (16 * from) (16 * to) (min (16 * to) (length mapped) - 16 * from) (16 * max from to) mapped (omega arith)
+  holes_free mapped = holed (segment_blocks * from) (segment_blocks * to) (min (segment_blocks * to) (length mapped) - segment_blocks * from) (segment_blocks * max from to) mapped (omega arith)
 
   -- ---- files
 

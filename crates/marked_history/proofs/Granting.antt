@@ -1,5 +1,6 @@
 -- In a served history a token that no line has named holds just what recall was given for it.
-use Rattle.std.proofs.Common.{◌≡◌, ◌≢◌, ℕ, Bool, true, false, cond, not, ◌&&◌, ◌==◌, List, [], ◌∷◌, ◌++◌, Option, None, Some, is_some, inl, inr, refl, sym, ◌∙◌, ap, subst, append_assoc, append-nil}
+use Rattle.std.proofs.Common.{◌≡◌, ◌≢◌, ℕ, Bool, true, false, cond, not, ◌&&◌, ◌==◌, List, [], ◌∷◌, ◌++◌, Option, None, Some, is_some, inl, inr}
+use Rattle.std.proofs.Common.{refl, sym, ◌∙◌, ap, subst, append_assoc, append-nil}
 use Rattle.std.specs.Prelude.{◌⊎◌, IfSome, if◌then◌else◌}
 use Rattle.std.specs.List.{All, find}
 use Rattle.std.specs.Map.{keys_of, values_of, lookup}
@@ -10,7 +11,8 @@ use Rattle.std.proofs.lemmas.Map.Entries.{lookup-filter-keys}
 use Rattle.std.proofs.lemmas.Map.Views.{All-keys_from_lookup}
 use Rattle.hsm_types.specs.Handles.{same_key}
 use Rattle.hsm_types.specs.Refusals.{first_refusal}
-use Rattle.hsm_types.specs.Rights.{reaches, excludes, same_token, same_holding, Rights, holding, right_or_null, right_of, hinders, conflict, busy, too_low, with_right, requested, without_right, released, AreRights}
+use Rattle.hsm_types.specs.Rights.{reaches, excludes, same_token, same_holding, Rights, holding, right_or_null, right_of, hinders, conflict, busy}
+use Rattle.hsm_types.specs.Rights.{too_low, with_right, requested, without_right, released, AreRights}
 use Rattle.hsm_types.specs.Sessions.{lives, owner, same_sid, dead_session, not_yours}
 use Rattle.hsm_types.specs.declared.calls.CallRefusal.{CallRefusal}
 use Rattle.hsm_types.specs.declared.daemons.Daemon.{Daemon}

@@ -1,5 +1,6 @@
 -- Each message that an exact history hands out is a session's own, or tells of an access that was parked before.
-use Rattle.std.proofs.Common.{◌≡◌, ℕ, ◌<◌, Bool, true, false, List, [], ◌∷◌, ◌++◌, Option, None, Some, inl, inr, refl, sym, ◌∙◌, ap, subst, append_assoc, append-nil, arith}
+use Rattle.std.proofs.Common.{◌≡◌, ℕ, ◌<◌, Bool, true, false, List, [], ◌∷◌, ◌++◌, Option, None, Some, inl, inr, refl, sym, ◌∙◌, ap, subst}
+use Rattle.std.proofs.Common.{append_assoc, append-nil, arith}
 use Rattle.std.proofs.lemmas.Bool.{eq-eqb}
 use Rattle.std.specs.Prelude.{◌⊎◌, IfSome, if◌then◌else◌}
 use Rattle.hsm_types.specs.Messages.{no_token, user_message}
@@ -28,7 +29,8 @@ use Rattle.plain_model.specs.declared.entries.Entry.{Entry}
 use Rattle.plain_model.specs.Effects.{change_of}
 use Rattle.plain_model.specs.Ledger.{Meant, Fixed, Means, next_token}
 use Rattle.plain_model.specs.State.{Flags, State, noted, changed}
-use Rattle.plain_model.specs.Verdict.{Blocks, Posts, Lacks, Verdict, verdict, reply_by, message_of, flags_now, objection_in, meant_in, reply_where, left_by_verdict, state_where}
+use Rattle.plain_model.specs.Verdict.{Blocks, Posts, Lacks, Verdict, verdict, reply_by, message_of, flags_now, objection_in, meant_in, reply_where}
+use Rattle.plain_model.specs.Verdict.{left_by_verdict, state_where}
 use Rattle.plain_model.specs.Services.{dm_judged, dm_state_where}
 use Rattle.plain_model.specs.Faults.{is_fault}
 use Rattle.plain_model.specs.Exact.{IsOwn, IsAnswer, left_own, left_by, Exact, state_by}
@@ -36,8 +38,9 @@ use Rattle.plain_model.proofs.Faultless.{fault_is}
 use Rattle.plain_model.proofs.Histories.{state_by-push}
 use Rattle.dm_service.specs.Handing.{HandsOut}
 use Rattle.hsm_core.specs.Answers.{entry_of}
-use Rattle.marked_history.specs.Caused.{WaitsOn, WasParked, ArePacked}
-use Rattle.marked_history.proofs.Carrying.{Each, each_weaker, none_each, posted_each, created_each, ended_each, disposed_each, delivered_each, responded_each, made_each, sent_each}
+use Rattle.marked_history.specs.Caused.{WaitsOn, WasParked}
+use Rattle.marked_history.proofs.Carrying.{Each, each_weaker, none_each, posted_each, created_each, ended_each, disposed_each, delivered_each}
+use Rattle.marked_history.proofs.Carrying.{responded_each, made_each, sent_each}
 
 -- ---- a session's call
 
@@ -218,11 +221,3 @@ module _ {X : Type 0} where
         | inl last ↦ inl ((λ i. same i ∷ last.0 i), last.1)
         | inr own ↦ inr (own.0, λ i. same i ∷ own.1 i)
       ]
-
--- buffers stay packed with an entry more
-pub packed_push : (s : Superblock) (st : State) (es : List Entry) (e : Entry) → ArePacked s st es
-    → ((sid : Sid) (call : DmCall) (reply : DmReply) → e ≡ entry_of (Session sid) (Dm call) (Told reply) → HandsOut (state_by s st es).sessions sid call reply) → ArePacked s st (es ++ e ∷ [])
-packed_push s st es e packed last before sid call reply rest is = elim (parted_push es before rest e (entry_of (Session sid) (Dm call) (Told reply)) is) [
-  | inl here ↦ subst (λ (l : List Entry). HandsOut (state_by s st l).sessions sid call reply) here.0 (last sid call reply here.1)
-  | inr own ↦ packed before sid call reply own.0 own.1
-]

@@ -1,12 +1,15 @@
 -- What an event leaves of the information of a session: all of it, or the session is gone.
-use Rattle.std.proofs.Common.{◌≡◌, ℕ, ◌<◌, ◌≤◌, Bool, true, false, cond, List, [], ◌∷◌, length, map, filter, Option, None, Some, is_some, inl, inr, refl, sym, ap, subst, ◌∙◌, arith}
+use Rattle.std.proofs.Common.{◌≡◌, ℕ, ◌<◌, ◌≤◌, Bool, true, false, cond, List, [], ◌∷◌, length, map, filter, Option, None, Some, is_some, inl, inr}
+use Rattle.std.proofs.Common.{refl, sym, ap, subst, ◌∙◌, arith}
 use Rattle.std.proofs.lemmas.Bool.{false≢true, eqb-true}
 use Rattle.std.proofs.lemmas.Map.Views.{Contains-keys_from_lookup}
 use Rattle.std.specs.Prelude.{◌⊎◌, if◌then◌else◌, Contains}
 use Rattle.std.specs.Map.{lookup, remove_entry, keys_of}
 use Rattle.std.specs.Option.{option_map}
 use Rattle.hsm_types.specs.Messages.{no_token, takes, user_message, handed_out}
-use Rattle.hsm_types.specs.Sessions.{LiveSession, SessionTable, Ascend, same_sid, session_of, info_of, taker, queue_of, heir, next_sid, with_session, without_session, change_live, change_session, loses, queued, with_kinds, posted_to, put_message, hands_out, without_token}
+use Rattle.hsm_types.specs.Sessions.{LiveSession, SessionTable, Ascend, same_sid, session_of, info_of, taker, queue_of, heir, next_sid, with_session}
+use Rattle.hsm_types.specs.Sessions.{without_session, change_live, change_session, loses, queued, with_kinds, posted_to, put_message, hands_out}
+use Rattle.hsm_types.specs.Sessions.{without_token}
 use Rattle.hsm_types.specs.declared.calls.Reply.{Reply}
 use Rattle.hsm_types.specs.declared.dm.DmCall.{DmCall}
 use Rattle.hsm_types.specs.declared.dm.DmCall.TheVariants.{CreateSession, DestroySession, SetDisp, GetEvents, Respond, CreateUserEvent, SendMsg}

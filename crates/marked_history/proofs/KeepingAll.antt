@@ -41,15 +41,17 @@ use Rattle.daemon_session.specs.Seats.{Seat, has_kept_token, seat_asks, seat_hea
 use Rattle.recall_daemon.specs.Known as recall
 use Rattle.migrate_daemon.specs.Known as migrate
 use Rattle.hsm_core.specs.Answers.{entry_of}
+use Rattle.hsm_core.specs.Packed.{HandsBy}
 use Rattle.marked_history.specs.Marks.{Mark, entries_of, exchange_by, no_daemons, made}
 use Rattle.marked_history.specs.Served.{Shown, nothing_shown, with_entry, shown, RecallMay, MigrateMay, IsServedBy}
 use Rattle.marked_history.specs.Tokens.{IsTaken, KeepsAll, ServedKeepsAll}
 use Rattle.marked_history.proofs.Carrying.{Each, none_each, posted_each}
 use Rattle.marked_history.proofs.Handing.{told_each, PostsParked, posts_where}
-use Rattle.marked_history.proofs.Walking.{HandsBy, KeptBy, kept_behind}
+use Rattle.marked_history.proofs.Walking.{KeptBy, kept_behind}
 use Rattle.marked_history.proofs.Remembering.{stays, same_event}
 use Rattle.marked_history.proofs.Leaving.{left_given, Hands, told_gone, own_reply, done_left}
-use Rattle.marked_history.proofs.Accounting.{mapped_in, not_by, taken_by, Accounted, AllAccounted, IsApart, none_accounted, marks_more, changed_on, forgot_on, seated_keeps}
+use Rattle.marked_history.proofs.Accounting.{mapped_in, not_by, taken_by, Accounted, AllAccounted, IsApart, none_accounted, marks_more, changed_on}
+use Rattle.marked_history.proofs.Accounting.{forgot_on, seated_keeps}
 use Rattle.marked_history.proofs.OwnSeats.{HasToken, user_has, IsGiven, SeatMay, tables_on, gone_after, own_seat}
 
 -- ---- which session a daemon has

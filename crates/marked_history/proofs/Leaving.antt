@@ -7,11 +7,13 @@ use Rattle.std.specs.Option.{option_map}
 use Rattle.hsm_types.specs.Messages.{is_lawful, message_bytes, packed, handed_out, user_message}
 use Rattle.hsm_types.specs.Refusals.{first_refusal}
 use Rattle.hsm_types.specs.Rights.{right_of, conflict, reaches, busy, too_low, bad_right}
-use Rattle.hsm_types.specs.Sessions.{SessionTable, lives, owner, dead_session, not_yours, queue_of, outstanding_of, tokens_of, outstanding_message, none_fits, bad_response, posted_to, taker, places}
-use Rattle.hsm_types.specs.Stubs.{stub_at, not_offline, is_offline}
+use Rattle.hsm_types.specs.Sessions.{SessionTable, lives, owner, dead_session, not_yours, queue_of, outstanding_of, tokens_of, outstanding_message}
+use Rattle.hsm_types.specs.Sessions.{none_fits, bad_response, posted_to, taker, places}
+use Rattle.hsm_types.specs.Stubs.{stub_at, not_offline, is_offline, entry_print}
 use Rattle.hsm_types.specs.declared.calls.Reply.{Reply}
 use Rattle.hsm_types.specs.declared.dm.DmCall.{DmCall}
-use Rattle.hsm_types.specs.declared.dm.DmCall.TheVariants.{CreateSession, DestroySession, SetDisp, GetEvents, FindEventMsg, Respond, CreateUserEvent, SendMsg, RequestRight, GetFileAttr, GetAllocInfo, Restore}
+use Rattle.hsm_types.specs.declared.dm.DmCall.TheVariants.{CreateSession, DestroySession, SetDisp, GetEvents, FindEventMsg, Respond, CreateUserEvent}
+use Rattle.hsm_types.specs.declared.dm.DmCall.TheVariants.{SendMsg, RequestRight, GetFileAttr, GetAllocInfo, Restore}
 use Rattle.hsm_types.specs.declared.dm.DmRefusal.{DmRefusal}
 use Rattle.hsm_types.specs.declared.dm.DmRefusal.TheVariants as why
 use Rattle.hsm_types.specs.declared.dm.DmReply.{DmReply}
@@ -38,13 +40,15 @@ use Rattle.plain_model.specs.Segments.{past_end, changed_from, same_print, no_ro
 use Rattle.hsm_types.specs.Stubs.{print_of}
 use Rattle.plain_model.specs.State.{FileState, Held, State, noted, changed, file_at}
 use Rattle.plain_model.specs.Verdict.{flags_now, objection_in, meant_in, reply_to}
-use Rattle.plain_model.specs.Services.{bad_own_token, bad_given_token, bad_handle, is_live, service, handed, message_or_none, dm_judged, dm_reply_where, dm_state_where}
+use Rattle.plain_model.specs.Services.{bad_own_token, bad_given_token, bad_handle, is_live, service, handed, message_or_none, dm_judged}
+use Rattle.plain_model.specs.Services.{dm_reply_where, dm_state_where}
 use Rattle.plain_model.specs.Stands.{InOrder}
 use Rattle.plain_model.specs.Faults.{is_fault}
 use Rattle.plain_model.specs.Exact.{IsOwn, IsAnswer, left_own, left_by}
 use Rattle.plain_model.proofs.Faultless.{fault_is}
 use Rattle.marked_history.proofs.Handing.{PostsParked, posts_where}
-use Rattle.marked_history.proofs.Outstanding.{created_out, ended_out, disposed_out, posted_out, sent_out, delivered_out, responded_out, user_out, handed_first, owns_each}
+use Rattle.marked_history.proofs.Outstanding.{created_out, ended_out, disposed_out, posted_out, sent_out, delivered_out, responded_out, user_out}
+use Rattle.marked_history.proofs.Outstanding.{handed_first, owns_each}
 
 -- ---- how many ids are given
 
@@ -189,7 +193,7 @@ room_kept (Some room) = refl
 
 changed_kept : (found : Option Stub) (bytes : List ℕ) → gone (changed_from found bytes) ≡ false
 changed_kept None bytes = refl
-changed_kept (Some stub) bytes = elim (same_print stub.entry.print (print_of bytes)) as (λ (b : Bool). gone (if b then None else Some (why.Changed stub.entry.print (print_of bytes))) ≡ false) [ true ↦ refl | false ↦ refl ]
+changed_kept (Some stub) bytes = elim (same_print (entry_print stub.entry) (print_of bytes)) as (λ (b : Bool). gone (if b then None else Some (why.Changed (entry_print stub.entry) (print_of bytes))) ≡ false) [ true ↦ refl | false ↦ refl ]
 
 offline_kept : (j : ℕ) (found : Option Stub) → gone (not_offline j found) ≡ false
 offline_kept j found = elim (is_offline found) as (λ (b : Bool). gone (if b then None else Some (why.NotOffline j)) ≡ false) [ true ↦ refl | false ↦ refl ]

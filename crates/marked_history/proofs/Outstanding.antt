@@ -1,5 +1,6 @@
 -- What is outstanding to a session after each call, and what an owner's token stands for.
-use Rattle.std.proofs.Common.{◌≡◌, ℕ, zero, suc, ◌+◌, ◌-◌, ◌<◌, ◌≤◌, Bool, true, false, cond, not, List, [], ◌∷◌, ◌++◌, length, map, take, filter, Option, None, Some, refl, sym, ap, subst, ◌∙◌, eqb, arith}
+use Rattle.std.proofs.Common.{◌≡◌, ℕ, zero, suc, ◌+◌, ◌-◌, ◌<◌, ◌≤◌, Bool, true, false, cond, not, List, [], ◌∷◌, ◌++◌, length, map, take, filter}
+use Rattle.std.proofs.Common.{Option, None, Some, refl, sym, ap, subst, ◌∙◌, eqb, arith}
 use Rattle.std.proofs.lemmas.Bool.{false≢true, eqb-true, eqb-false, ne_eqb, eq-eqb}
 use Rattle.std.proofs.lemmas.List.Elements.{All-nil, All-cons, All-head, All-tail, All-weaker, All-filter, filter_passes}
 use Rattle.std.proofs.lemmas.List.Sums.{sum_by-cons}
@@ -8,7 +9,10 @@ use Rattle.std.specs.List.{All, find, list_any}
 use Rattle.std.specs.Map.{lookup, remove_entry}
 use Rattle.std.specs.Option.{option_map}
 use Rattle.hsm_types.specs.Messages.{message_bytes, has_token, no_token, takes, user_message, fitting, handed_out}
-use Rattle.hsm_types.specs.Sessions.{LiveSession, SessionTable, Ascend, same_sid, session_of, outstanding_or_none, outstanding_of, queue_or_none, queue_of, taker, holds, owner, message_in, outstanding_message, heir, next_sid, with_session, without_session, change_live, change_session, loses, queued, with_kinds, posted_to, posted, put_message, with_tokens, hands_out, delivered, without_token, responded, user_event, sent, places}
+use Rattle.hsm_types.specs.Sessions.{LiveSession, SessionTable, Ascend, same_sid, session_of, outstanding_or_none, outstanding_of, queue_or_none}
+use Rattle.hsm_types.specs.Sessions.{queue_of, taker, holds, owner, message_in, outstanding_message, heir, next_sid, with_session, without_session}
+use Rattle.hsm_types.specs.Sessions.{change_live, change_session, loses, queued, with_kinds, posted_to, posted, put_message, with_tokens, hands_out}
+use Rattle.hsm_types.specs.Sessions.{delivered, without_token, responded, user_event, sent, places}
 use Rattle.hsm_types.specs.declared.dm.Kinds.{Kinds}
 use Rattle.hsm_types.specs.declared.keys.Sid.{Sid}
 use Rattle.hsm_types.specs.declared.keys.Token.{Token}

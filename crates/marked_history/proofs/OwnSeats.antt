@@ -8,7 +8,8 @@ use Rattle.std.specs.Option.{option_map}
 use Rattle.std.specs.Str.{bytes_eq}
 use Rattle.hsm_types.specs.Daemons.{information, kinds_of}
 use Rattle.hsm_types.specs.Messages.{has_token, takes, handed_out, user_message}
-use Rattle.hsm_types.specs.Sessions.{SessionTable, owner, dead_session, message_in, outstanding_message, outstanding_of, queue_of, tokens_of, none_fits, next_sid}
+use Rattle.hsm_types.specs.Sessions.{SessionTable, owner, dead_session, message_in, outstanding_message, outstanding_of, queue_of, tokens_of}
+use Rattle.hsm_types.specs.Sessions.{none_fits, next_sid}
 use Rattle.hsm_types.specs.declared.daemons.Daemon.{Daemon}
 use Rattle.hsm_types.specs.declared.dm.DmCall.{DmCall}
 use Rattle.hsm_types.specs.declared.dm.DmCall.TheVariants as call
@@ -45,7 +46,8 @@ use Rattle.marked_history.specs.Tokens.{Keeps}
 use Rattle.marked_history.proofs.Carrying.{Each, outstanding_of_each}
 use Rattle.marked_history.proofs.Outstanding.{zip_each, created_empty, responded_gone, once_out, owned_message, found_one as one_found}
 use Rattle.marked_history.proofs.Leaving.{Hands, left_out, told_gone, IsOn, own_reply, done_left, same_left, once, told_apart}
-use Rattle.marked_history.proofs.Accounting.{keeps_last, packed_tell, finds_in, not_found, found_is, Accounted, AllAccounted, IsApart, none_accounted, marks_more, grown_on, forgot_on, passed_on, found_on, listed_on}
+use Rattle.marked_history.proofs.Accounting.{keeps_last, packed_tell, finds_in, not_found, found_is, Accounted, AllAccounted, IsApart}
+use Rattle.marked_history.proofs.Accounting.{none_accounted, marks_more, grown_on, forgot_on, passed_on, found_on, listed_on}
 
 -- a message of a daemon's kinds has a token
 abbrev pub HasToken : Message → Type 0

@@ -3,6 +3,7 @@ use Rattle.std.proofs.Common.{◌≡◌, ℕ, Bool, true, false, List, [], ◌�
 use Rattle.std.proofs.lemmas.Bool.{false≢true}
 use Rattle.std.specs.Prelude.{if◌then◌else◌, nat_lt, Contains}
 use Rattle.std.specs.List.{list_all}
+use Rattle.hsm_types.specs.Limits.{buffer_bytes}
 use Rattle.hsm_types.specs.Refusals.{first_refusal}
 use Rattle.hsm_types.specs.Sessions.{lives, none_fits, queue_of}
 use Rattle.hsm_types.specs.declared.dm.DmCall.TheVariants.{GetEvents, GetSpace}
@@ -37,11 +38,11 @@ judged_live false found is = absurd cc
 
 module _ (s : Superblock) (st : State) (sid : Sid) where
   -- a session that is told of no more events lives
-  told_live : IsAnswer s st (Session sid) (Dm (GetEvents 0 65536)) (Told (Refused Again)) → lives sid st.sessions ≡ true
-  told_live (inl is) = absurd (let wrong : Told (Refused Again) ≡ fault_of (Dm (GetEvents 0 65536)) = is.1 in cc)
+  told_live : IsAnswer s st (Session sid) (Dm (GetEvents 0 buffer_bytes)) (Told (Refused Again)) → lives sid st.sessions ≡ true
+  told_live (inl is) = absurd (let wrong : Told (Refused Again) ≡ fault_of (Dm (GetEvents 0 buffer_bytes)) = is.1 in cc)
   told_live (inr is) =
-      let own : Told (Refused Again) ≡ Told (dm_reply_to s st sid (GetEvents 0 65536)) = is.1 in
-      judged_live (lives sid st.sessions) (none_fits 65536 (queue_of sid st.sessions)) (refused_so (dm_judged s st sid (GetEvents 0 65536)) s st sid (GetEvents 0 65536) Again cc)
+      let own : Told (Refused Again) ≡ Told (dm_reply_to s st sid (GetEvents 0 buffer_bytes)) = is.1 in
+      judged_live (lives sid st.sessions) (none_fits buffer_bytes (queue_of sid st.sessions)) (refused_so (dm_judged s st sid (GetEvents 0 buffer_bytes)) s st sid (GetEvents 0 buffer_bytes) Again cc)
 
   -- so many blocks are used, of so many
   abbrev pub IsSpace : ℕ → ℕ → Type 0

@@ -29,7 +29,7 @@ use Rattle.plain_model.specs.declared.entries.Actor.TheVariants.{Caller, Session
 use Rattle.plain_model.specs.declared.entries.Answer.{Answer}
 use Rattle.plain_model.specs.declared.entries.Answer.TheVariants.{Call as Replied, Dm as Told}
 use Rattle.plain_model.specs.declared.entries.Entry.{Entry}
-use Rattle.plain_model.specs.Keyed.{set_at}
+use Rattle.hsm_types.specs.Keyed.{set_at}
 use Rattle.plain_model.specs.Once.{gives}
 use Rattle.plain_model.specs.State.{Held, State, just_opened, noted}
 use Rattle.plain_model.specs.Verdict.{flags_now, objection_in, meant_in, reply_to}
@@ -46,12 +46,13 @@ use Rattle.daemon_session.specs.declared.events.Event.{Event}
 use Rattle.daemon_session.specs.declared.events.Kept.{Kept}
 use Rattle.daemon_session.specs.Tellings.{event_on}
 use Rattle.hsm_core.specs.Answers.{entry_of}
+use Rattle.hsm_core.specs.Packed.{HandsBy}
 use Rattle.marked_history.specs.Marks.{Mark, entries_of, exchange_by, made}
 use Rattle.marked_history.specs.Served.{Shown, nothing_shown, with_entry, learned, shown, IsTold, IsServedBy}
 use Rattle.marked_history.specs.Tokens.{seat_of, IsGranted, IsPresent, Tells, TellsOn, ServedTellsOne}
 use Rattle.marked_history.proofs.Carrying.{Each, each_weaker, none_each, queue_of_each, outstanding_of_each, posted_each}
 use Rattle.marked_history.proofs.Handing.{Makes, made_told, PostsParked, posts_where, none_before, parted_push}
-use Rattle.marked_history.proofs.Walking.{HandsBy, KeptBy, kept_behind}
+use Rattle.marked_history.proofs.Walking.{KeptBy, kept_behind}
 use Rattle.marked_history.proofs.Remembering.{TellsOnly, recall_kept, migrate_kept, tells_each}
 
 -- ---- of each token its message

@@ -1,5 +1,6 @@
 -- Which accesses may still wait where a store is at rest.
-use Rattle.std.proofs.Common.{◌≡◌, ◌≢◌, ℕ, zero, suc, Bool, true, false, ◌&&◌, List, [], ◌∷◌, ◌++◌, Option, None, Some, inl, inr, refl, sym, ap, subst, ◌∙◌, append_assoc, arith}
+use Rattle.std.proofs.Common.{◌≡◌, ◌≢◌, ℕ, zero, suc, Bool, true, false, ◌&&◌, List, [], ◌∷◌, ◌++◌, Option, None, Some, inl, inr, refl, sym, ap}
+use Rattle.std.proofs.Common.{subst, ◌∙◌, append_assoc, arith}
 use Rattle.std.proofs.lemmas.Bool.{false≢true}
 use Rattle.std.proofs.lemmas.List.Elements.{Contains-append_left, Contains-append_right, Contains-append_cases, Contains-push, Contains-push_cases}
 use Rattle.std.specs.Prelude.{◌⊎◌, if◌then◌else◌, nat_le, Contains}
@@ -7,6 +8,7 @@ use Rattle.std.specs.List.{list_all}
 use Rattle.std.specs.Option.{option_map}
 use Rattle.hsm_types.specs.Callers.{IsCallerNumber}
 use Rattle.hsm_types.specs.Daemons.{kinds_of}
+use Rattle.hsm_types.specs.Limits.{buffer_bytes}
 use Rattle.hsm_types.specs.Messages.{message_bytes, no_token, takes}
 use Rattle.hsm_types.specs.Refusals.{first_refusal}
 use Rattle.hsm_types.specs.Rights.{right_of, conflict}
@@ -44,7 +46,8 @@ use Rattle.plain_model.specs.Accesses.{need_of}
 use Rattle.plain_model.specs.Plain.{reply_on}
 use Rattle.plain_model.specs.Ledger.{Access, Means, goes_on, resumed}
 use Rattle.plain_model.specs.State.{Held, Flags, State, just_opened, noted}
-use Rattle.plain_model.specs.Verdict.{Blocks, Posts, Lacks, Verdict, posts, touching, needing, without_room, lacking, facts_of, verdict, reply_by, flags_now, objection_in, reply_where, reply_to}
+use Rattle.plain_model.specs.Verdict.{Blocks, Posts, Lacks, Verdict, posts, touching, needing, without_room, lacking, facts_of, verdict, reply_by}
+use Rattle.plain_model.specs.Verdict.{flags_now, objection_in, reply_where, reply_to}
 use Rattle.plain_model.specs.Services.{dm_judged, dm_reply_to}
 use Rattle.plain_model.specs.Stands.{InOrder}
 use Rattle.plain_model.specs.Faults.{is_fault, fault_of, FaultIsLast}
@@ -58,15 +61,16 @@ use Rattle.daemon_session.specs.declared.events.Kept.{Kept}
 use Rattle.daemon_session.specs.Seats.{IsSeated}
 use Rattle.hsm_core.specs.Ready.{ready}
 use Rattle.hsm_core.specs.Kept.{IsKept}
+use Rattle.hsm_core.specs.Packed.{ArePacked}
 use Rattle.hsm_core.specs.Store.{Store, state_of}
 use Rattle.hsm_core.specs.declared.store.Ready.{Ready}
 use Rattle.hsm_core.specs.declared.store.Ready.TheVariants.{Now}
-use Rattle.marked_history.specs.Caused.{ArePacked}
 use Rattle.marked_history.specs.Marks.{Mark, entries_of}
 use Rattle.marked_history.specs.Quiet.{is_quiet_event, is_quiet}
 use Rattle.marked_history.specs.Served.{Shown, nothing_shown, shown, IsTold, Served}
 use Rattle.marked_history.specs.Tokens.{Keeps, IsGranted, IsHindered, IsPresent, TellsOne}
-use Rattle.marked_history.specs.Waiting.{Running, IsServable, IsForeign, IsHeldUp, MayWait, no_more, unserved, PutsOff, RecallRests, MigrateRests, IsAtRest, SettledWaits}
+use Rattle.marked_history.specs.Waiting.{Running, IsServable, IsForeign, IsHeldUp, MayWait, no_more, unserved, PutsOff, RecallRests, MigrateRests}
+use Rattle.marked_history.specs.Waiting.{IsAtRest, SettledWaits}
 use Rattle.marked_history.proofs.Accounting.{none_in}
 use Rattle.marked_history.proofs.Granting.{refused_so, judged_busy, hindered_by, exact_rest, served_holds_granted}
 use Rattle.marked_history.proofs.Handing.{none_before}
@@ -234,30 +238,30 @@ parts (y ∷ l) x (suc n, lt, same) = let later = parts l x (n, omega arith, sam
 -- ---- what refusals tell
 
 module _ (s : Superblock) (st : State) (sid : Sid) where
-  judged_again : (found : List Message) → first_refusal (dead_session sid st.sessions ∷ none_fits 65536 found ∷ []) ≡ Some Again → found ≡ []
+  judged_again : (found : List Message) → first_refusal (dead_session sid st.sessions ∷ none_fits buffer_bytes found ∷ []) ≡ Some Again → found ≡ []
   judged_again found is = past_dead (lives sid st.sessions) is
     where
       fits : (b : Bool) (m : Message) (more : List Message) → first_refusal ((if b then None else Some (TooSmall (message_bytes m))) ∷ []) ≡ Some Again → m ∷ more ≡ []
       fits true m more is = absurd cc
       fits false m more is = absurd cc
 
-      empty : (l : List Message) → first_refusal (none_fits 65536 l ∷ []) ≡ Some Again → l ≡ []
+      empty : (l : List Message) → first_refusal (none_fits buffer_bytes l ∷ []) ≡ Some Again → l ≡ []
       empty [] is = refl
-      empty (m ∷ more) is = fits (nat_le (message_bytes m) 65536) m more is
+      empty (m ∷ more) is = fits (nat_le (message_bytes m) buffer_bytes) m more is
 
-      past_dead : (b : Bool) → first_refusal ((if b then None else Some NoSession) ∷ none_fits 65536 found ∷ []) ≡ Some Again → found ≡ []
+      past_dead : (b : Bool) → first_refusal ((if b then None else Some NoSession) ∷ none_fits buffer_bytes found ∷ []) ≡ Some Again → found ≡ []
       past_dead true is = empty found is
       past_dead false is = absurd cc
 
   -- no message waits for the session
-  told_again : IsAnswer s st (Session sid) (Dm (GetEvents 0 65536)) (Told (Refused Again)) → queue_of sid st.sessions ≡ []
-  told_again (inl is) = absurd (let wrong : Told (Refused Again) ≡ fault_of (Dm (GetEvents 0 65536)) = is.1 in cc)
+  told_again : IsAnswer s st (Session sid) (Dm (GetEvents 0 buffer_bytes)) (Told (Refused Again)) → queue_of sid st.sessions ≡ []
+  told_again (inl is) = absurd (let wrong : Told (Refused Again) ≡ fault_of (Dm (GetEvents 0 buffer_bytes)) = is.1 in cc)
   told_again (inr is) =
-      let own : Told (Refused Again) ≡ Told (dm_reply_to s st sid (GetEvents 0 65536)) = is.1 in
-      judged_again (queue_of sid st.sessions) (refused_so (dm_judged s st sid (GetEvents 0 65536)) s st sid (GetEvents 0 65536) Again cc)
+      let own : Told (Refused Again) ≡ Told (dm_reply_to s st sid (GetEvents 0 buffer_bytes)) = is.1 in
+      judged_again (queue_of sid st.sessions) (refused_so (dm_judged s st sid (GetEvents 0 buffer_bytes)) s st sid (GetEvents 0 buffer_bytes) Again cc)
 
 no_request : (sid : Sid) (t : Token) (h : Handle) (cause : DmRefusal) → no_more sid ≡ unserved sid t h cause → ⊥
-no_request sid t h cause same = let action : Dm (GetEvents 0 65536) ≡ Dm (RequestRight t h Excl) = ap (λ (x : Entry). x.action) same in cc
+no_request sid t h cause same = let action : Dm (GetEvents 0 buffer_bytes) ≡ Dm (RequestRight t h Excl) = ap (λ (x : Entry). x.action) same in cc
 
 -- a kind is of one daemon
 kinds_apart : (k : Kind) → takes (kinds_of Recall) k ≡ true → takes (kinds_of Migrate) k ≡ true → ⊥

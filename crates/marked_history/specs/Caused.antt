@@ -1,8 +1,6 @@
 -- When answers that name a fault of a medium are caused: their session was told that bytes of the parked file are away in that object.
 use Rattle.std.specs.Prelude.{◌≡◌, ℕ, List, [], ◌∷◌, ◌++◌, Some, Contains}
-use Rattle.hsm_types.specs.declared.dm.DmCall.{DmCall}
 use Rattle.hsm_types.specs.declared.dm.DmCall.TheVariants.{Respond, GetAllocInfo}
-use Rattle.hsm_types.specs.declared.dm.DmReply.{DmReply}
 use Rattle.hsm_types.specs.declared.dm.DmReply.TheVariants.{Done, Alloc}
 use Rattle.hsm_types.specs.declared.dm.Response.TheVariants.{Media}
 use Rattle.hsm_types.specs.declared.calls.Reply.TheVariants.{Parked}
@@ -23,11 +21,9 @@ use Rattle.plain_model.specs.Ledger.{Access}
 use Rattle.plain_model.specs.State.{Held, State, just_opened}
 use Rattle.plain_model.specs.Exact.{state_by}
 use Rattle.plain_model.specs.Laws.{IsRun}
-use Rattle.dm_service.specs.Handing.{HandsOut}
 use Rattle.hsm_policy.specs.Settings.{Numbers}
-use Rattle.file_store.specs.Stores.{superblock_of}
 use Rattle.hsm_core.specs.Answers.{entry_of}
-use Rattle.hsm_core.specs.Store.{Store}
+use Rattle.hsm_core.specs.Packed.{ArePacked}
 use Rattle.marked_history.specs.Marks.{Mark, entries_of}
 use Rattle.marked_history.specs.Served.{IsOf, Served}
 
@@ -67,16 +63,6 @@ pub record IsCausedBy (s : Superblock) (st : State) (es : List Entry) (sid : Sid
 -- by the entries before it, each response with a fault of a medium that was done
 abbrev pub Caused : Superblock → State → List Entry → Type 0
 Caused s st es = (before : List Entry) (sid : Sid) (t : Token) (fault : Fault) (rest : List Entry) → es ≡ before ++ entry_of (Session sid) (Dm (Respond t (Media fault))) (Told Done) ∷ rest → IsCausedBy s st before sid t fault
-
--- ---- buffers
-
--- each buffer of the history is that of its messages, which are those of the sessions as they were before its entry
-abbrev pub ArePacked : Superblock → State → List Entry → Type 0
-ArePacked s st es = (before : List Entry) (sid : Sid) (call : DmCall) (reply : DmReply) (rest : List Entry) → es ≡ before ++ entry_of (Session sid) (Dm call) (Told reply) ∷ rest → HandsOut (state_by s st before).sessions sid call reply
-
--- so are those of a store since its opening
-abbrev pub ArePackedSince : {D : Type 0} → Store D → Type 0
-ArePackedSince s = ArePacked (superblock_of s.opened) (just_opened s.opened.meta.number s.opened.held) s.history
 
 -- ---- the law
 

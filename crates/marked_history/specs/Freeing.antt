@@ -1,5 +1,6 @@
 -- How much space a punch frees.
 use Rattle.std.specs.Prelude.{◌≡◌, ℕ, ◌+◌, ◌*◌, List, [], ◌∷◌, ◌++◌, slice_range, count_by, Bool}
+use Rattle.hsm_types.specs.Limits.{segment_blocks}
 use Rattle.hsm_types.specs.declared.dm.DmCall.TheVariants.{PunchHole}
 use Rattle.hsm_types.specs.declared.dm.DmReply.TheVariants.{Done}
 use Rattle.hsm_types.specs.declared.keys.Handle.{Handle}
@@ -18,7 +19,7 @@ use Rattle.hsm_core.specs.Answers.{entry_of}
 
 -- how many blocks of the segments from the first up to the second are mapped
 abbrev pub freed : ℕ → ℕ → List Bool → ℕ
-freed from to mapped = count_by (λ b. b) (slice_range mapped (16 * from) (16 * to))
+freed from to mapped = count_by (λ b. b) (slice_range mapped (segment_blocks * from) (segment_blocks * to))
 
 -- the session's punch was done
 abbrev pub punch_done : Sid → Token → Handle → ℕ → ℕ → Entry

@@ -1,9 +1,10 @@
 -- What a history says of each pass of the migration daemon, from the table with which it begins up to its end.
 use Rattle.std.specs.Prelude.{◌≡◌, ◌≢◌, ℕ, ◌<◌, ◌⊎◌, List, [], ◌∷◌, ◌++◌, length, slice_get, true, false, Some, Contains}
 use Rattle.std.specs.List.{AllByRecursion}
+use Rattle.hsm_types.specs.Limits.{segment_bytes}
 use Rattle.hsm_types.specs.Messages.{no_token}
 use Rattle.hsm_types.specs.Regions.{covers}
-use Rattle.hsm_types.specs.Stubs.{print_of}
+use Rattle.hsm_types.specs.Stubs.{print_of, entry_place, entry_print}
 use Rattle.hsm_types.specs.declared.daemons.Act.{Act}
 use Rattle.hsm_types.specs.declared.daemons.Act.TheVariants.{Dm}
 use Rattle.hsm_types.specs.declared.daemons.Daemon.TheVariants.{Migrate}
@@ -75,7 +76,7 @@ abbrev pub IsBareIn : List Mark → Sid → Picked → Type 0
 IsBareIn during sid p = (regions : List Region) × Contains during (made Migrate sid (GetRegion no_token p.handle) (reply.Regions regions)) × (covers regions p.segment ≡ false)
 
 abbrev pub read_call : Picked → DmCall
-read_call p = ReadInvis no_token p.handle (start_of p) 65536
+read_call p = ReadInvis no_token p.handle (start_of p) segment_bytes
 
 -- the session read the segment, and was told these bytes
 abbrev pub read_told : Sid → Picked → List ℕ → Mark
@@ -106,13 +107,13 @@ IsSealedIn during sid p = (p.sealed ≡ true) ⊎ ((entry : StubEntry) × Contai
 pub record IsOfCopy (volumes : ℕ) (during : List Mark) (sid : Sid) (p : Picked) (entry : StubEntry) : Type 0 where
   pub bytes : List ℕ
   pub read : IsLastRead during sid p bytes
-  pub print : entry.print ≡ print_of bytes
-  pub volume : entry.volume < volumes
+  pub print : entry_print entry ≡ print_of bytes
+  pub volume : (entry_place entry).volume < volumes
 
 -- ---- what comes before each call of a pass
 
--- Each is made by the session of the pass, on a picked segment. Regions are set once it was told that none covers that. It is read, sealed and punched once it is covered, and
--- punched once it is sealed. One that the table shows sealed is punched alone.
+-- Each is made by the session of the pass, on a picked segment. Regions are set once it was told that none covers that. It is read, sealed and
+-- punched once it is covered, and punched once it is sealed. One that the table shows sealed is punched alone.
 abbrev pub IsFit : ℕ → List Picked → List Mark → Sid → Act → Type 0
 IsFit volumes picks during sid (Dm s (GetRegion t h)) = (p : Picked) × Contains picks p × (Dm s (GetRegion t h) ≡ asks_regions sid p)
 IsFit volumes picks during sid (Dm s (SetRegion t h regions)) = (p : Picked) × Contains picks p × (Dm s (SetRegion t h regions) ≡ sets_regions sid p) × IsBareIn during sid p
@@ -142,7 +143,7 @@ AllWithin limits marks = (before : List Mark) (sid : Sid) (call : DmCall) (answe
 -- the segment was punched there, or an answer came for which it is skipped
 abbrev pub IsDoneIn : List Mark → Sid → Picked → Type 0
 IsDoneIn during sid p =
-    Contains during (made Migrate sid (PunchHole no_token p.handle (start_of p) 65536) reply.Done)
+    Contains during (made Migrate sid (PunchHole no_token p.handle (start_of p) segment_bytes) reply.Done)
     ⊎ ((call : DmCall) × (answer : DmReply) × IsSkip sid p (Dm sid call) answer × Contains during (made Migrate sid call answer))
 
 -- The daemon's last answer there is one that ends a pass at that segment; or its last call read the segment, and then the answer to a copy ended the pass, of

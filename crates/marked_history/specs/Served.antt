@@ -1,7 +1,8 @@
 -- What the entries of a history tell its daemons, and which calls a daemon may make by that.
 use Rattle.std.specs.Prelude.{◌≡◌, ◌⊎◌, List, [], ◌∷◌, true, Option, None, Some}
+use Rattle.hsm_types.specs.Limits.{buffer_bytes}
 use Rattle.hsm_types.specs.Messages.{no_token}
-use Rattle.hsm_types.specs.Stubs.{print_of}
+use Rattle.hsm_types.specs.Stubs.{print_of, entry_place, entry_print}
 use Rattle.hsm_types.specs.declared.daemons.Daemon.{Daemon}
 use Rattle.hsm_types.specs.declared.daemons.Daemon.TheVariants.{Recall, Migrate}
 use Rattle.hsm_types.specs.declared.dm.DmCall.{DmCall}
@@ -62,8 +63,8 @@ MayCome daemon seat sid other = MayGoOn daemon seat sid other
 
 -- the fault is one of the object that the entry names
 abbrev pub IsOf : StubEntry → Fault → Type 0
-IsOf entry (Failed volume object before after) = (volume ≡ entry.volume) × (object ≡ entry.object)
-IsOf entry (Damaged volume object want got) = (volume ≡ entry.volume) × (object ≡ entry.object) × (want ≡ entry.print)
+IsOf entry (Failed volume object before after) = (volume ≡ (entry_place entry).volume) × (object ≡ (entry_place entry).object)
+IsOf entry (Damaged volume object want got) = (volume ≡ (entry_place entry).volume) × (object ≡ (entry_place entry).object) × (want ≡ entry_print entry)
 
 -- A fault answers for a needed segment of the last segments that it was told. So does an object that isn't there.
 abbrev pub IsReason : List Kept → recall.Hand → Response → Type 0
@@ -76,11 +77,11 @@ abbrev pub IsTold : List Kept → Token → Handle → Type 0
 IsTold kept t h = (e : Event) × recall.IsKept e kept × (e.token ≡ t) × (e.handle ≡ h)
 
 abbrev pub RecallMay : recall.Known → Sid → DmCall → Type 0
-RecallMay k sid (call.GetEvents most room) = IsSeated k.seat sid × (most ≡ 0) × (room ≡ 65536)
+RecallMay k sid (call.GetEvents most room) = IsSeated k.seat sid × (most ≡ 0) × (room ≡ buffer_bytes)
 RecallMay k sid (call.RequestRight t h right) = IsSeated k.seat sid × (right ≡ Excl) × IsTold k.seat.kept t h
 RecallMay k sid (call.GetFileAttr t h) = IsSeated k.seat sid × ((hand : recall.Hand) × recall.Holds k t h hand)
 RecallMay k sid (call.GetAllocInfo t h) = IsSeated k.seat sid × ((hand : recall.Hand) × recall.Holds k t h hand)
-RecallMay k sid (call.Restore t h segment bytes) = IsSeated k.seat sid × ((hand : recall.Hand) × (a : Away) × recall.Holds k t h hand × recall.IsNeeded k.seat.kept hand a × (a.segment ≡ segment) × (print_of bytes ≡ a.entry.print))
+RecallMay k sid (call.Restore t h segment bytes) = IsSeated k.seat sid × ((hand : recall.Hand) × (a : Away) × recall.Holds k t h hand × recall.IsNeeded k.seat.kept hand a × (a.segment ≡ segment) × (print_of bytes ≡ entry_print a.entry))
 RecallMay k sid (call.Respond t response) = IsSeated k.seat sid × ((hand : recall.Hand) × (k.hand ≡ Some hand) × (hand.token ≡ t) × IsReason k.seat.kept hand response)
 RecallMay k sid other = MayCome Recall k.seat sid other
 
@@ -88,7 +89,7 @@ RecallMay k sid other = MayCome Recall k.seat sid other
 abbrev pub MigrateMay : migrate.Known → Sid → DmCall → Type 0
 MigrateMay k sid call.GetSpace = IsSeated k.seat sid
 MigrateMay k sid call.GetTable = IsSeated k.seat sid × NoneServed k.seat.kept
-MigrateMay k sid (call.GetEvents most room) = IsSeated k.seat sid × (most ≡ 0) × (room ≡ 65536)
+MigrateMay k sid (call.GetEvents most room) = IsSeated k.seat sid × (most ≡ 0) × (room ≡ buffer_bytes)
 MigrateMay k sid (call.GetRegion t h) = IsSeated k.seat sid × (t ≡ no_token)
 MigrateMay k sid (call.SetRegion t h regions) = IsSeated k.seat sid × (t ≡ no_token) × (regions ≡ whole_file)
 MigrateMay k sid (call.ReadInvis t h offset len) = IsSeated k.seat sid × (t ≡ no_token)

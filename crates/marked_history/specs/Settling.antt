@@ -1,6 +1,7 @@
 -- What the settles of a script have come to, over the marked history of its lines.
 use Rattle.std.specs.Prelude.{◌≡◌, ◌≢◌, ◌⊎◌, ℕ, List, [], ◌∷◌, ◌++◌, true, false, Some, IfSome, Contains}
 use Rattle.std.specs.List.{AllByRecursion}
+use Rattle.hsm_types.specs.Limits.{buffer_bytes}
 use Rattle.hsm_types.specs.Sessions.{lives}
 use Rattle.hsm_types.specs.declared.daemons.Daemon.{Daemon}
 use Rattle.hsm_types.specs.declared.daemons.Daemon.TheVariants.{Recall, Migrate}
@@ -56,7 +57,7 @@ AreByRunning r marks = AllByRecursion (IsByRunning r) marks
 pub record IsToldNoMore (daemon : Daemon) (sid : Sid) (part : List Mark) : Type 0 where
   pub first : List Mark
   pub since : List Mark
-  pub parted : part ≡ first ++ made daemon sid (GetEvents 0 65536) (Refused Again) ∷ since
+  pub parted : part ≡ first ++ made daemon sid (GetEvents 0 buffer_bytes) (Refused Again) ∷ since
   pub last : AllByRecursion (λ (m : Mark). m.by ≢ Some daemon) since
 
 -- The daemon has a session in which it set its kinds. The session lives, and was told at last that there are no more events.

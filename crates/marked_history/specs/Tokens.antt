@@ -32,7 +32,7 @@ use Rattle.daemon_session.specs.declared.events.Event.{Event}
 use Rattle.daemon_session.specs.declared.events.Kept.{Kept}
 use Rattle.daemon_session.specs.Seats.{Seat, IsSeated}
 use Rattle.hsm_core.specs.Answers.{entry_of}
-use Rattle.marked_history.specs.Caused.{ArePacked}
+use Rattle.hsm_core.specs.Packed.{ArePacked}
 use Rattle.marked_history.specs.Marks.{Mark, entries_of, no_daemons, made}
 use Rattle.marked_history.specs.Served.{Shown, nothing_shown, shown, Served}
 

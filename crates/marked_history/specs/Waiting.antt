@@ -3,6 +3,7 @@ use Rattle.std.specs.Prelude.{◌≡◌, ◌⊎◌, ℕ, List, [], ◌∷◌, �
 use Rattle.std.specs.List.{list_all}
 use Rattle.hsm_types.specs.Callers.{IsCallerNumber}
 use Rattle.hsm_types.specs.Daemons.{kinds_of}
+use Rattle.hsm_types.specs.Limits.{buffer_bytes}
 use Rattle.hsm_types.specs.Messages.{takes}
 use Rattle.hsm_types.specs.Rights.{conflict}
 use Rattle.hsm_types.specs.Sessions.{queue_of, outstanding_of}
@@ -32,7 +33,7 @@ use Rattle.hsm_policy.specs.Settings.{Numbers}
 use Rattle.daemon_session.specs.declared.events.Kept.{Kept}
 use Rattle.daemon_session.specs.Seats.{Seat, IsSeated}
 use Rattle.hsm_core.specs.Answers.{entry_of}
-use Rattle.marked_history.specs.Caused.{ArePacked}
+use Rattle.hsm_core.specs.Packed.{ArePacked}
 use Rattle.marked_history.specs.Marks.{Mark, entries_of}
 use Rattle.marked_history.specs.Quiet.{is_quiet}
 use Rattle.marked_history.specs.Served.{Shown, nothing_shown, shown, IsTold, Served}
@@ -89,7 +90,7 @@ module _ (r : Running) (k : Shown) (marks : List Mark) (st : State) where
 
 -- the session was told that there are no more events
 abbrev pub no_more : Sid → Entry
-no_more sid = entry_of (Session sid) (Dm (GetEvents 0 65536)) (Told (Refused Again))
+no_more sid = entry_of (Session sid) (Dm (GetEvents 0 buffer_bytes)) (Told (Refused Again))
 
 -- it was refused all of the file
 abbrev pub unserved : Sid → Token → Handle → DmRefusal → Entry

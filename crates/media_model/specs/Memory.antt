@@ -1,10 +1,11 @@
 -- Drives in memory: what they hold, and what their calls make of it.
 use Rattle.std.specs.Prelude.{Bool, true, is_some, refl, ◌≡◌, ◌⊎◌, ℕ, ◌+◌, ◌≤◌, ◌<◌, ◌^◌, List, [], ◌∷◌, ◌++◌, length, nat_eq, nat_lt, if◌then◌else◌, Option, None, Some, Result, Ok, Err, IsOk, OnOk, OnErr, slice_get}
+use Rattle.std.proofs.Common.{sym, ap}
 use Rattle.std.proofs.lemmas.Bool.{false≢true}
 use Rattle.std.proofs.lemmas.Option.{none-some}
 use Rattle.std.specs.List.{All}
 use Rattle.std.specs.Map.{lookup, set_value}
-use Rattle.std.specs.Option.{option_map, option_map_or}
+use Rattle.std.specs.Option.{option_map, option_map_or, unwrap_or}
 use Rattle.media_model.specs.Objects.{Objects, size_of}
 use Rattle.media_model.specs.declared.drive.DriveRefusal.{DriveRefusal}
 use Rattle.media_model.specs.declared.drive.DriveRefusal.TheVariants.{Full, NoVolume, NoObject, Memory}
@@ -47,6 +48,10 @@ AreObjects held v objects = objects_in v held ≡ Some objects
 
 abbrev pub lasting_in : ℕ → Held → ℕ
 lasting_in v held = option_map_or (λ x. x.lasting) (volume_in v held) 0
+
+-- the objects of the volume, or none where it isn't there
+abbrev pub content_in : ℕ → Held → Objects
+content_in v held = unwrap_or (objects_in v held) []
 
 -- ---- what is answered
 
@@ -102,3 +107,7 @@ has_gives held v there = by (volume_in v held) there
     by : (o : Option Volume) → is_some o ≡ true → (objects : Objects) × (option_map (λ x. x.objects) o ≡ Some objects)
     by None there = absurd (false≢true there)
     by (Some x) there = (x.objects, refl)
+
+-- objects that are told are the volume's
+pub gives_content : (held : Held) (v : ℕ) (objects : Objects) → AreObjects held v objects → objects ≡ content_in v held
+gives_content held v objects given = sym (ap (λ (o : Option Objects). unwrap_or o []) given)

@@ -1,6 +1,6 @@
 -- The objects of a volume, numbered from 0, and what calls make of them.
 use Rattle.std.specs.Prelude.{◌≡◌, ◌⊎◌, ⊤, ℕ, ◌≤◌, List, [], ◌∷◌, ◌++◌, length, take, drop, sum_by, Bool, false, Result, Ok, Err, IsErrOf}
-use Rattle.disk_model.specs.Calls.{Rose}
+use Rattle.disk_model.specs.Calls.{raised}
 use Rattle.media_model.specs.declared.drive.DriveRefusal.{DriveRefusal}
 use Rattle.media_model.specs.declared.drive.DriveRefusal.TheVariants.{Failed, NoVolume, NoObject}
 
@@ -35,10 +35,10 @@ Follows step old new = (now : Objects) → new now → (before : Objects) × old
 abbrev pub Alike : (Objects → Type 0) → (Objects → Type 0) → Type 0
 Alike old new = ((o : Objects) → new o → old o) × ((o : Objects) → old o → new o)
 
--- The count never falls, rose where the call failed, and else is as it was; the volume isn't there exactly where that is told.
+-- The count never falls, is one more where the call failed, and else is as it was; the volume isn't there exactly where that is told.
 pub record HasCause {T : Type 0} (result : Result T DriveRefusal) (has : Bool) (before after : ℕ) : Type 0 where
   pub never_falls : before ≤ after
-  pub failed : IsErrOf result Failed → Rose before after
+  pub failed : IsErrOf result Failed → after ≡ raised before
   pub quiet : (IsErrOf result Failed → ⊥) → after ≡ before
   pub missing : has ≡ false → IsErrOf result NoVolume ⊎ IsErrOf result Failed
   pub no_volume : IsErrOf result NoVolume → has ≡ false

@@ -12,7 +12,7 @@ pub const OBJECT_BYTES: usize = 65608;
 /// Why a drive refused a call.
 #[derive(Clone, Copy, Debug, PartialEq, Eq, Error)]
 pub enum DriveRefusal {
-    /// The drive's count of faults rose, as it does with no other answer.
+    /// The drive's count of faults rose by one, as it does with no other answer.
     #[error("the drive failed")]
     Failed,
     /// The volume's objects have so many bytes, and with the new one more than it may have.
@@ -46,6 +46,9 @@ pub trait Drive {
 
     /// Whether the volume may have these objects.
     ghost gives: { Self → ℕ → List (List ℕ) → Type 0 };
+
+    /// The objects of the volume, where the drive tells them. Else they are some list.
+    ghost content: { Self → ℕ → List (List ℕ) };
 
     /// How many objects of the volume last, the first ones. The number never falls.
     ghost lasting: { Self → ℕ → ℕ };
@@ -124,6 +127,9 @@ pub trait Drive {
 
     /// A volume with objects is one that the drive has.
     ghost given_there: { (d : Self) (v : ℕ) (o : Objects) → gives d v o → has d v ≡ true };
+
+    /// A volume has one list of objects.
+    ghost one_content: { (d : Self) (v : ℕ) (o : Objects) → gives d v o → o ≡ content d v };
 
     /// A drive of a sure type never failed,
     ghost sure_counts: { sure ≡ true → (d : Self) → fault_count d ≡ 0 };

@@ -13,7 +13,7 @@ use std::alloc::{AllocError, Global};
 use std::marker::Model;
 
 /// A call that is to fail.
-#[derive(Clone, Copy, Debug, PartialEq, Eq)]
+#[derive(Clone, Copy, PartialEq, Eq)]
 pub struct FailingCall {
     /// Which call of the drive it is, from 0. Its calls are `append`, `size`, `read`, `sync` and `objects`.
     pub number: u64,
@@ -189,12 +189,15 @@ impl Drive for MemDrive {
     ghost use Rattle.std.proofs.lemmas.Bool.{false≢true};
     ghost use Rattle.media_model.specs.Objects.{Objects, size_of, read_from, AddsOne, MayAdd, Follows, Alike, HasCause, IsAsked, KeepsVolumes};
     ghost use Rattle.media_model.specs.Memory.{volume_in, has_volume, lasting_in, AreObjects, of_volume, of_object, change_volume, synced, gives_has};
+    ghost use Rattle.media_model.specs.Memory.{content_in, gives_content};
     ghost use Rattle.media_model.specs.Faults.{failing_now, answered, after_call, AppendsAs};
     ghost use Rattle.media_model.specs.declared.drive.DriveRefusal.TheVariants.{Failed, Full, NoObject};
 
     ghost has = { λ d v. has_volume v d.held };
 
     ghost gives = { λ d v o. AreObjects d.held v o };
+
+    ghost content = { λ d v. content_in v d.held };
 
     ghost lasting = { λ d v. lasting_in v d.held };
 
@@ -205,6 +208,8 @@ impl Drive for MemDrive {
     ghost sure = { false };
 
     ghost given_there = { λ d v o given. gives_has d.held v o given };
+
+    ghost one_content = { λ d v o given. gives_content d.held v o given };
 
     ghost sure_counts = { λ is d. absurd (false≢true is) };
 

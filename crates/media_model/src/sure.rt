@@ -150,11 +150,14 @@ impl Drive for SureDrive {
     ghost use Rattle.std.specs.Prelude.{◌≡◌, ◌+◌, ◌<◌, ◌≤◌, ℕ, [], length, true, Ok, Err, get_or, take, drop, OnOk, IfOk, IsErr, IsErrOf, refl};
     ghost use Rattle.media_model.specs.Objects.{Objects, size_of, read_from, Adds, AddsOne, MayAdd, Follows, Alike, HasCause, IsAsked, KeepsVolumes};
     ghost use Rattle.media_model.specs.Memory.{volume_in, has_volume, lasting_in, AreObjects, of_volume, of_object, change_volume, synced, Appends, gives_has, has_gives};
+    ghost use Rattle.media_model.specs.Memory.{content_in, gives_content};
     ghost use Rattle.media_model.specs.declared.drive.DriveRefusal.TheVariants.{Failed, Full, NoObject};
 
     ghost has = { λ d v. has_volume v d };
 
     ghost gives = { λ d v o. AreObjects d v o };
+
+    ghost content = { λ d v. content_in v d };
 
     ghost lasting = { λ d v. lasting_in v d };
 
@@ -165,6 +168,8 @@ impl Drive for SureDrive {
     ghost sure = { true };
 
     ghost given_there = { λ d v o given. gives_has d v o given };
+
+    ghost one_content = { λ d v o given. gives_content d v o given };
 
     ghost sure_counts = { λ is d. refl };
 

@@ -2,6 +2,7 @@
 use Rattle.std.proofs.Common.{◌≡◌, ℕ, zero, suc, ◌+◌, ◌-◌, ◌*◌, ◌<◌, ◌≤◌, List, [], ◌∷◌, ◌++◌, length, take, drop, set, get_or, Bool, Option, Some, None, ◌⊎◌, refl, ◌∙◌, ap, arith, append_assoc, get_or-set_other}
 use Rattle.std.specs.Prelude.{replicate, min, if◌then◌else◌}
 use Rattle.std.proofs.lemmas.Grind.{common_steps}
+use Rattle.hsm_types.specs.Limits.{segment_blocks}
 use Rattle.meta_store.specs.Catalogs.{present, places_in_segment}
 use Rattle.meta_store.specs.Records.{places_fitted, places_set, mappings_from, places_without}
 use Rattle.meta_store.proofs.BlockUses.{uses}
@@ -75,8 +76,8 @@ cleared-nothing (suc m) n (p ∷ ps) none = ap (λ (qs : List (Option ℕ)). p �
 cleared-nothing zero zero (p ∷ ps) none = refl
 cleared-nothing m n ps none = refl
 
-pub without-cleared : (j : ℕ) (ps : List (Option ℕ)) → places_without j ps ≡ cleared (16 * j) 16 ps
-without-cleared j ps = append_assoc (take (16 * j) ps) (replicate (min 16 (length ps - 16 * j)) None) (drop (16 * j + 16) ps) ∙ cleared-is (16 * j) 16 (16 * j + 16) (min 16 (length ps - 16 * j)) ps refl refl
+pub without-cleared : (j : ℕ) (ps : List (Option ℕ)) → places_without j ps ≡ cleared (segment_blocks * j) segment_blocks ps
+without-cleared j ps = append_assoc (take (segment_blocks * j) ps) (replicate (min segment_blocks (length ps - segment_blocks * j)) None) (drop (segment_blocks * j + segment_blocks) ps) ∙ cleared-is (segment_blocks * j) segment_blocks (segment_blocks * j + segment_blocks) (min segment_blocks (length ps - segment_blocks * j)) ps refl refl
 
 -- where it may be one
 abbrev pub gone_if : Bool → ℕ → List (Option ℕ) → List (Option ℕ)
@@ -89,8 +90,8 @@ pub uses-gone_if : (n : ℕ) (b : Bool) (j : ℕ) (ps : List (Option ℕ)) → u
 uses-gone_if n b j ps = grind (arith, without-cleared, uses-cleared)
 
 -- a hole stays one, and the segment has holes alone
-pub none-without : (j : ℕ) (ps : List (Option ℕ)) (i : ℕ) → (get_or ps i None ≡ None) ⊎ (16 * j ≤ i) × (i < 16 * j + 16) → get_or (places_without j ps) i None ≡ None
-none-without j ps i is = rw without-cleared (none-cleared (16 * j) 16 ps i is)
+pub none-without : (j : ℕ) (ps : List (Option ℕ)) (i : ℕ) → (get_or ps i None ≡ None) ⊎ (segment_blocks * j ≤ i) × (i < segment_blocks * j + segment_blocks) → get_or (places_without j ps) i None ≡ None
+none-without j ps i is = rw without-cleared (none-cleared (segment_blocks * j) segment_blocks ps i is)
 
 pub count-without : (j : ℕ) (ps : List (Option ℕ)) → length (present (places_in_segment j ps)) + length (present (places_without j ps)) ≡ length (present ps)
-count-without j ps = rw without-cleared (count-cleared (16 * j) 16 ps)
+count-without j ps = rw without-cleared (count-cleared (segment_blocks * j) segment_blocks ps)

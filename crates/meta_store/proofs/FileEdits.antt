@@ -7,7 +7,7 @@ use Rattle.std.proofs.lemmas.List.Concat.{length-flat_map}
 use Rattle.std.proofs.lemmas.List.Sums.{sum_by-cons}
 use Rattle.hsm_types.specs.Attributes.{bytes_of_attributes}
 use Rattle.hsm_types.specs.declared.keys.FileKey.{FileKey}
-use Rattle.plain_model.specs.Keyed.{same_key, find_key, change_key, put_key, drop_key}
+use Rattle.hsm_types.specs.Keyed.{same_key, find_key, change_key, put_key, drop_key}
 use Rattle.plain_model.specs.Plain.{Listed}
 use Rattle.meta_store.specs.Catalogs.{CatalogFile, names_of, present, blocks_of, attribute_total}
 use Rattle.meta_store.proofs.BlockUses.{uses, uses-append}

@@ -1,7 +1,8 @@
 -- The file that a record is about, after it.
 use Rattle.std.proofs.Common.{◌≡◌, ℕ, ◌+◌, ◌<◌, ◌≤◌, length, Some, None, ◌∙◌, arith}
+use Rattle.hsm_types.specs.Limits.{file_bytes}
 use Rattle.hsm_types.specs.declared.stores.Geometry.{Geometry}
-use Rattle.plain_model.specs.Keyed.{find_key}
+use Rattle.hsm_types.specs.Keyed.{find_key}
 use Rattle.plain_model.specs.Blocks.{blocks_in}
 use Rattle.meta_store.specs.declared.file_parts.FileParts.{FileParts}
 use Rattle.meta_store.specs.declared.file_parts.Others.{Others}
@@ -34,7 +35,7 @@ named-after r g = grind arith
 pub file-after : (r : Record) (f : CatalogFile) (x : FileParts) (size : ℕ) → x ≡ parts_after r (parts_of f) → size ≡ (file_after r f).size → file_after r f ≡ file_of f.key f.name size x
 file-after r f x size is sized = grind arith
 
-sized-after : (r : Record) (f : CatalogFile) (c : Catalog) → CanStandOn r f c → f.size ≤ 16777216 → length f.places ≡ blocks_in f.size → ((file_after r f).size ≤ 16777216) × (length (file_after r f).places ≡ blocks_in (file_after r f).size)
+sized-after : (r : Record) (f : CatalogFile) (c : Catalog) → CanStandOn r f c → f.size ≤ file_bytes → length f.places ≡ blocks_in f.size → ((file_after r f).size ≤ file_bytes) × (length (file_after r f).places ≡ blocks_in (file_after r f).size)
 sized-after (Size ino size) f c stands few count = (stands, length-fitted size f.places)
 sized-after (Map ino block places) f c stands few count = (few, length-places_set (mappings_from block places.items) f.places ∙ count)
 sized-after (Stub ino j None) f c stands few count = (few, count)

@@ -2,7 +2,7 @@
 use Rattle.std.proofs.Common.{◌≡◌, List, [], ◌∷◌, true, Some, refl, arith}
 use Rattle.std.specs.List.{AllByRecursion}
 use Rattle.hsm_types.specs.declared.keys.FileKey.{FileKey}
-use Rattle.plain_model.specs.Keyed.{same_key, find_key}
+use Rattle.hsm_types.specs.Keyed.{same_key, find_key}
 use Rattle.meta_store.specs.Catalogs.{CatalogFile}
 
 -- what is true of each file is true of the one that is found

@@ -3,9 +3,10 @@ use Rattle.std.proofs.Common.{◌≡◌, ℕ, zero, suc, ◌+◌, ◌-◌, ◌�
 use Rattle.std.specs.List.{slice_get}
 use Rattle.std.specs.Option.{IsSome, option_map, unwrap_or}
 use Rattle.std.proofs.lemmas.List.{get_or_read}
+use Rattle.hsm_types.specs.Limits.{large_geometry}
 use Rattle.hsm_types.specs.declared.keys.FileKey.{FileKey}
 use Rattle.hsm_types.specs.Attributes.{bytes_of_attributes}
-use Rattle.plain_model.specs.Keyed.{find_key, drop_key}
+use Rattle.hsm_types.specs.Keyed.{find_key, drop_key}
 use Rattle.inode_table.specs.declared.entries.FileEntry.{FileEntry}
 use Rattle.inode_table.specs.Listing.{listing, key_at, has_inode, Ascend, Within}
 use Rattle.inode_table.specs.Table.{Table, IsTable, entry_of}
@@ -81,7 +82,7 @@ module _ (s : Inside) (v : Catalog) (is : catalog_held s.geometry s.table s.part
   pub counts : (s.attribute_total ≡ attribute_total v.files) × (s.stub_total ≡ stub_total v.files) × (s.used ≡ length (blocks_of v.files))
   counts = rw (← is) (i.0.counted, i.0.stubbed, i.1)
 
-  pub bounded : (s.attribute_total ≤ (geometry_of v.geometry).attributes) × ((geometry_of v.geometry).attributes ≤ 1048576) × (s.used ≤ 65536) × (s.stub_total ≤ (geometry_of v.geometry).stubs) × ((geometry_of v.geometry).stubs ≤ 65536)
+  pub bounded : (s.attribute_total ≤ (geometry_of v.geometry).attributes) × ((geometry_of v.geometry).attributes ≤ large_geometry.attributes) × (s.used ≤ large_geometry.blocks) × (s.stub_total ≤ (geometry_of v.geometry).stubs) × ((geometry_of v.geometry).stubs ≤ large_geometry.stubs)
   bounded =
       let most = geometry-bounded v.geometry in
       (omega (arith, counts.0, lawful.few), most.2, omega (arith, most.1, counts.2, blocks-few v lawful), omega (arith, counts.1, lawful.few_stubs), few-stubs v.geometry)

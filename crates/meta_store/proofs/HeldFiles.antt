@@ -1,7 +1,7 @@
 -- Edits of the table and of the array of parts are edits of the catalog.
 use Rattle.std.proofs.Common.{◌≡◌, ℕ, ◌+◌, ◌-◌, ◌≤◌, List, [], ◌∷◌, length, map, get_or, set, false, Some, refl, ◌∙◌, arith, get_or-set_same, get_or-set_other}
 use Rattle.hsm_types.specs.declared.keys.FileKey.{FileKey}
-use Rattle.plain_model.specs.Keyed.{find_key, change_key, put_key}
+use Rattle.hsm_types.specs.Keyed.{find_key, change_key, put_key}
 use Rattle.inode_table.specs.declared.entries.FileEntry.{FileEntry}
 use Rattle.inode_table.specs.Listing.{listing, has_inode, Ascend, Within}
 use Rattle.inode_table.specs.Table.{entry_of}

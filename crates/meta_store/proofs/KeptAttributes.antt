@@ -9,6 +9,7 @@ use Rattle.std.proofs.lemmas.Cmp.{nat_list_cmp_total, on_total}
 use Rattle.std.proofs.lemmas.List.Sums.{sum_by-cons, sum_by-append}
 use Rattle.std.proofs.lemmas.List.{map-append}
 use Rattle.std.proofs.lemmas.List.Elements.{recursion_from_All}
+use Rattle.hsm_types.specs.Limits.{value_bytes}
 use Rattle.hsm_types.specs.declared.attributes.AttrName.{AttrName}
 use Rattle.hsm_types.specs.Attributes.{Attributes, AreAttributes, name_cmp, is_reserved, with_value, cost_of_value, bytes_of_attributes, setting_refusal}
 use Rattle.meta_store.specs.Validity.{stands_behind, are_attributes}
@@ -46,7 +47,7 @@ module _ (before : Option AttrName) (attrs : Attributes) (name : AttrName) (valu
   pub accepted : (rest : Attributes) (limit : ℕ) → are_attributes before ((name, value) ∷ rest) ≡ true → bytes_of_attributes (attrs ++ (name, value) ∷ rest) ≤ limit → setting_refusal name value 0 limit attrs ≡ None
   accepted rest limit are few = grind (arith, at-end, bytes-front attrs (name, value) rest)
 
-pass-behind : (before : Option AttrName) (attrs : Attributes) → AllByRecursion (λ k. stands_behind before k ≡ true) (keys_of attrs) → IsStrictlySortedBy name_cmp (keys_of attrs) → AllByRecursion (λ k. is_reserved k ≡ false) (keys_of attrs) → AllByRecursion (λ a. length a.1 ≤ 4096) attrs
+pass-behind : (before : Option AttrName) (attrs : Attributes) → AllByRecursion (λ k. stands_behind before k ≡ true) (keys_of attrs) → IsStrictlySortedBy name_cmp (keys_of attrs) → AllByRecursion (λ k. is_reserved k ≡ false) (keys_of attrs) → AllByRecursion (λ a. length a.1 ≤ value_bytes) attrs
     → are_attributes before attrs ≡ true
 unfolding IsStrictlySortedBy
 pass-behind before [] behind ascend named short = refl

@@ -3,6 +3,7 @@ use Rattle.std.proofs.Common.{◌≡◌, ℕ, ◌+◌, ◌*◌, ◌≤◌, List,
 use Rattle.std.specs.List.{flat_map, AllByRecursion}
 use Rattle.std.specs.Map.{values_of}
 use Rattle.std.proofs.lemmas.List.Sums.{sum_by-cons}
+use Rattle.hsm_types.specs.Limits.{file_regions, value_bytes, attribute_cost}
 use Rattle.hsm_types.specs.declared.regions.Region.{Region}
 use Rattle.hsm_types.specs.declared.attributes.AttrName.{AttrName}
 use Rattle.hsm_types.specs.Regions.{first_bad, regions_refusal}
@@ -11,7 +12,7 @@ use Rattle.std.proofs.lemmas.List.Elements.{recursion_from_All}
 use Rattle.meta_store.proofs.EachOf.{each-as, each-and, map-each}
 use Rattle.meta_store.specs.Snapshots.{attribute_bytes, RegionFits, AttributeFits}
 
-pub regions-few : (rs : List Region) → regions_refusal rs ≡ None → length rs ≤ 4
+pub regions-few : (rs : List Region) → regions_refusal rs ≡ None → length rs ≤ file_regions
 regions-few rs none = grind arith
 
 each_fits : (index : ℕ) (before : Option Region) (rs : List Region) → first_bad index before rs ≡ None → AllByRecursion RegionFits rs
@@ -22,11 +23,11 @@ pub regions-fit : (rs : List Region) → regions_refusal rs ≡ None → AllByRe
 regions-fit rs none = each_fits 0 None rs (grind arith)
 
 -- values are short
-pub values-short : (attrs : Attributes) → AreAttributes attrs → AllByRecursion (λ a. length a.1 ≤ 4096) attrs
-values-short attrs are = map-each (λ value. length value ≤ 4096) (λ a. a.1) attrs (recursion_from_All (λ value. length value ≤ 4096) (values_of attrs) are.short)
+pub values-short : (attrs : Attributes) → AreAttributes attrs → AllByRecursion (λ a. length a.1 ≤ value_bytes) attrs
+values-short attrs are = map-each (λ value. length value ≤ value_bytes) (λ a. a.1) attrs (recursion_from_All (λ value. length value ≤ value_bytes) (values_of attrs) are.short)
 
 pub attributes-fit : (attrs : Attributes) → AllByRecursion (λ a. length a.0.0 ≡ 8) attrs → AreAttributes attrs → AllByRecursion AttributeFits attrs
-attributes-fit attrs eight are = each-as _ AttributeFits attrs (λ a is. (is.0, omega (arith, is.1))) (each-and (λ a. length a.0.0 ≡ 8) (λ a. length a.1 ≤ 4096) attrs eight (values-short attrs are))
+attributes-fit attrs eight are = each-as _ AttributeFits attrs (λ a is. (is.0, omega (arith, is.1))) (each-and (λ a. length a.0.0 ≡ 8) (λ a. length a.1 ≤ value_bytes) attrs eight (values-short attrs are))
 
 -- one more name of eight bytes
 pub eight-with : (name : AttrName) (value : List ℕ) (attrs : Attributes) → AllByRecursion (λ a. length a.0.0 ≡ 8) attrs → length name.0 ≡ 8 → AllByRecursion (λ a. length a.0.0 ≡ 8) (with_value name value attrs)
@@ -48,7 +49,7 @@ pub setting-fits : (name : AttrName) (value : List ℕ) (others limit : ℕ) (at
 setting-fits name value others limit attrs none = grind arith
 
 -- each counts 16 bytes at least
-pub attributes-few : (attrs : Attributes) → 16 * length attrs ≤ bytes_of_attributes attrs
+pub attributes-few : (attrs : Attributes) → attribute_cost * length attrs ≤ bytes_of_attributes attrs
 attributes-few [] = omega arith
 attributes-few (a ∷ attrs) = omega (arith, sum_by-cons cost_of_value a.1 (values_of attrs), attributes-few attrs)
 

@@ -3,7 +3,7 @@ use Rattle.std.proofs.Common.{◌≡◌, ◌+◌, ◌<◌, ◌≤◌, ◌^◌, �
 use Rattle.hsm_types.specs.declared.keys.FileKey.{FileKey}
 use Rattle.hsm_types.specs.declared.stores.Geometry.{Geometry}
 use Rattle.hsm_types.specs.Kept.{nothing_kept}
-use Rattle.plain_model.specs.Keyed.{find_key, put_key, drop_key}
+use Rattle.hsm_types.specs.Keyed.{find_key, put_key, drop_key}
 use Rattle.plain_model.specs.Plain.{Listed, named}
 use Rattle.plain_model.specs.Distinct.{Distinct}
 use Rattle.inode_table.specs.Listing.{has_inode}

@@ -6,10 +6,11 @@ use Rattle.std.specs.Map.{keys_of}
 use Rattle.std.specs.Ordering.{nat_cmp}
 use Rattle.std.specs.declared.cmp.Ordering.TheVariants.{Less}
 use Rattle.std.proofs.lemmas.List.{drop_min, take_min}
+use Rattle.hsm_types.specs.Limits.{segment_blocks}
 use Rattle.hsm_types.specs.declared.stubs.Stub.{Stub}
 use Rattle.hsm_types.specs.declared.regions.Region.{Region}
 use Rattle.hsm_types.specs.Segments.{segment_len}
-use Rattle.hsm_types.specs.Stubs.{Stubs, stub_at, with_stub, punched, FitsFile}
+use Rattle.hsm_types.specs.Stubs.{Stubs, stub_at, with_stub, punched, FitsFile, entry_print}
 use Rattle.meta_store.specs.Catalogs.{CatalogFile, StubFits, HasNoBlocks, IsCatalogStub, HasLengths, places_in_segment}
 use Rattle.meta_store.specs.Validity.{is_above, AreLawfulStubs}
 use Rattle.meta_store.proofs.EachOf.{all-both, all-parts, each-as, each-and}
@@ -46,12 +47,12 @@ ends-more j stub stubs below k = (
 )
 
 -- the places of the segment, cut at the end of the places
-pub segment-window : (j from to : ℕ) (places : List (Option ℕ)) → from ≡ min (length places) (16 * j) → to ≡ min (length places) (from + 16) → take (to - from) (drop from places) ≡ places_in_segment j places
+pub segment-window : (j from to : ℕ) (places : List (Option ℕ)) → from ≡ min (length places) (segment_blocks * j) → to ≡ min (length places) (from + segment_blocks) → take (to - from) (drop from places) ≡ places_in_segment j places
 segment-window j from to places first last =
-    let front = drop_min (16 * j) places in
-    let back = take_min 16 (drop (16 * j) places) in
-    let at : from ≡ min (16 * j) (length places) = omega arith in
-    let size : to - from ≡ min 16 (length (drop (16 * j) places)) = omega (arith, length-drop (16 * j) places) in
+    let front = drop_min (segment_blocks * j) places in
+    let back = take_min segment_blocks (drop (segment_blocks * j) places) in
+    let at : from ≡ min (segment_blocks * j) (length places) = omega arith in
+    let size : to - from ≡ min segment_blocks (length (drop (segment_blocks * j) places)) = omega (arith, length-drop (segment_blocks * j) places) in
     rw (size, at, front) back
 
 pub ruleset window = (segment-window)
@@ -80,7 +81,7 @@ stubs-pass f ascend each long = record {
   fit = record {
     ascend = ascend;
     each = each-as _ (FitsFile f.size f.kept.regions) f.kept.stubs (λ x is.
-        record { start = is.0.fits.start; len = is.1; volume = is.0.fits.volume; covered = is.0.fits.covered }) (each-and (IsCatalogStub f) (λ x. x.1.entry.print.len ≡ segment_len f.size x.0) f.kept.stubs each long);
+        record { start = is.0.fits.start; len = is.1; volume = is.0.fits.volume; covered = is.0.fits.covered }) (each-and (IsCatalogStub f) (λ x. (entry_print x.1.entry).len ≡ segment_len f.size x.0) f.kept.stubs each long);
   };
   away = each-as (IsCatalogStub f) (HasNoBlocks f.places) f.kept.stubs (λ x is. is.away) each;
 }

@@ -8,9 +8,10 @@ use Rattle.meta_store.specs.declared.snapshot.RawSnapshot.{RawSnapshot}
 use Rattle.meta_store.specs.declared.snapshot.ReadRefusal.{ReadRefusal}
 use Rattle.meta_store.specs.declared.snapshot.ReadRefusal.TheVariants.{Memory, Corrupt}
 use Rattle.meta_store.specs.Catalogs.{StubFits}
-use Rattle.meta_store.specs.Snapshots.{Snapshot, key_bytes, region_bytes, attribute_bytes, extent_bytes, state_of, stub_bytes, counted_bytes, file_bytes, spelling, RegionFits, AttributeFits, ExtentFits, FileFits, Fits, IsSpelled}
+use Rattle.meta_store.specs.Snapshots.{Snapshot, key_bytes, region_bytes, attribute_bytes, extent_bytes, state_of, stub_bytes, counted_bytes, bytes_of_file, spelling, RegionFits, AttributeFits, ExtentFits, FileFits, Fits, IsSpelled}
 use Rattle.meta_store.specs.Reading.{Fails, number_at, several, counted, key_at, region_at, attr_name_at, attribute_at, extent_at, state_at, print_at, stub_in, file_at, snapshot_at}
 use Rattle.meta_store.proofs.Readers.{IsBytes, IsReader, IsWide, refit, wide1, wide2, wide4, wide8, number_reads, only_reads, bytes_read, several_read, both_read, made_reads, counted_reads}
+use Rattle.hsm_types.specs.Stubs.{entry_place, entry_print}
 
 long_reads : IsReader (number_at 8) (big_bytes 8) (λ x. x < 2 ^ 64)
 long_reads = number_reads wide8
@@ -55,10 +56,10 @@ stub_reads : IsReader stub_in stub_bytes StubFits
 unfolding stub_in
 stub_reads =
     made_reads (both_read (both_read (both_read (both_read (number_reads wide4) state_reads) (number_reads wide4)) (number_reads wide4)) print_reads)
-    (λ x. ((((x.0, x.1.offline), x.1.entry.volume), x.1.entry.object), x.1.entry.print)) (λ x. refl) (λ p. refl) (λ p fit. search) (λ x fit. search)
+    (λ x. ((((x.0, x.1.offline), (entry_place x.1.entry).volume), (entry_place x.1.entry).object), (entry_print x.1.entry))) (λ x. refl) (λ p. refl) (λ p fit. search) (λ x fit. search)
 
-file_reads : IsReader file_at file_bytes FileFits
-unfolding file_at file_bytes
+file_reads : IsReader file_at bytes_of_file FileFits
+unfolding file_at bytes_of_file
 file_reads =
     let named = both_read (both_read key_reads long_reads) (counted_reads (λ name. length name) wide1 bytes_read) in
     let kept = both_read (both_read named (listed_read wide1 region_reads)) (listed_read wide4 attribute_reads) in

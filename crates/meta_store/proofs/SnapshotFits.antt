@@ -4,6 +4,7 @@ use Rattle.std.specs.List.{AllByRecursion, flat_map, list_any, IsDistinct}
 use Rattle.std.proofs.lemmas.List.{length-map}
 use Rattle.std.proofs.lemmas.List.Sums.{sum_by-cons}
 use Rattle.std.proofs.lemmas.Map.Steps.{length-le_from_distinct_below}
+use Rattle.hsm_types.specs.Limits.{large_geometry, name_bytes}
 use Rattle.hsm_types.specs.Names.{is_name}
 use Rattle.hsm_types.specs.declared.regions.Region.{Region}
 use Rattle.hsm_types.specs.Attributes.{bytes_of_attributes}
@@ -15,7 +16,7 @@ use Rattle.commit_slots.specs.Places.{layout_of}
 use Rattle.commit_slots.specs.Images.{empty_snapshot}
 use Rattle.meta_store.specs.declared.snapshot.Mapping.{Mapping}
 use Rattle.meta_store.specs.Catalogs.{CatalogFile, Catalog, StubFits, IsCatalogStub, IsCatalog, IsCatalogFile, geometry_of, present, blocks_of, names_of, attribute_total, stub_total}
-use Rattle.meta_store.specs.Snapshots.{region_bytes, extent_bytes, stub_bytes, file_bytes, extents_from, spelling, snapshot_file, snapshot_of, ExtentFits, FileFits, Fits}
+use Rattle.meta_store.specs.Snapshots.{region_bytes, extent_bytes, stub_bytes, bytes_of_file, extents_from, spelling, snapshot_file, snapshot_of, ExtentFits, FileFits, Fits}
 use Rattle.meta_store.proofs.SpreadPlaces.{present-few, length-extents}
 use Rattle.meta_store.proofs.KeptBounds.{regions-few, regions-fit, attributes-few, attributes-fit, attributes-short}
 use Rattle.meta_store.proofs.EachOf.{all-both, each-as}
@@ -37,15 +38,15 @@ one_below n (m ∷ ns) below q here = grind (arith, one_below n ns below.1 q)
 
 -- ---- what bounds a catalog
 
-pub geometry-bounded : (geometry : ℕ) → ((geometry_of geometry).files ≤ 4096) × ((geometry_of geometry).blocks ≤ 65536) × ((geometry_of geometry).attributes ≤ 1048576)
+pub geometry-bounded : (geometry : ℕ) → ((geometry_of geometry).files ≤ large_geometry.files) × ((geometry_of geometry).blocks ≤ large_geometry.blocks) × ((geometry_of geometry).attributes ≤ large_geometry.attributes)
 unfolding geometry_of
 geometry-bounded geometry = grind arith
 
-pub few-stubs : (geometry : ℕ) → (geometry_of geometry).stubs ≤ 65536
+pub few-stubs : (geometry : ℕ) → (geometry_of geometry).stubs ≤ large_geometry.stubs
 unfolding geometry_of
 few-stubs geometry = grind arith
 
-pub name-short : (name : List ℕ) → is_name name ≡ true → length name ≤ 64
+pub name-short : (name : List ℕ) → is_name name ≡ true → length name ≤ name_bytes
 name-short name is = grind arith
 
 pub blocks-within : (blocks : ℕ) (fs : List CatalogFile) → AllByRecursion (IsCatalogFile blocks) fs → AllByRecursion (λ b. b < blocks) (blocks_of fs)
@@ -66,13 +67,13 @@ files-few c is =
 
 -- ---- the fields
 
-module _ (blocks limit next : ℕ) (few_blocks : blocks ≤ 65536) (few_files : limit ≤ 4096) (old : next ≤ 2 ^ 62) where
+module _ (blocks limit next : ℕ) (few_blocks : blocks ≤ large_geometry.blocks) (few_files : limit ≤ large_geometry.files) (old : next ≤ 2 ^ 62) where
   extents-fit : (n : ℕ) (places : List (Option ℕ)) → n + length places ≤ 2 ^ 32 → AllByRecursion (λ b. b < blocks) (present places) → AllByRecursion ExtentFits (extents_from n places)
   extents-fit n [] fit below = tt
   extents-fit n (None ∷ places) fit below = extents-fit (n + 1) places (omega arith) below
   extents-fit n (Some at ∷ places) fit below = ((omega arith, omega (arith, below.0)), extents-fit (n + 1) places (omega arith) below.1)
 
-  file-fits : (f : CatalogFile) → f.key.ino ≤ limit → f.key.igen < next → bytes_of_attributes f.kept.attributes ≤ 1048576 → length f.kept.stubs ≤ 65536 → IsCatalogFile blocks f → FileFits (snapshot_file f)
+  file-fits : (f : CatalogFile) → f.key.ino ≤ limit → f.key.igen < next → bytes_of_attributes f.kept.attributes ≤ large_geometry.attributes → length f.kept.stubs ≤ large_geometry.stubs → IsCatalogFile blocks f → FileFits (snapshot_file f)
   file-fits f ino igen few few_stubs is = record {
     ino = omega arith;
     igen = omega arith;
@@ -88,7 +89,7 @@ module _ (blocks limit next : ℕ) (few_blocks : blocks ≤ 65536) (few_files : 
     each_stub = each-as (IsCatalogStub f) StubFits f.kept.stubs (λ x stub. stub.numbers) is.stubs;
   }
 
-  files-fit : (fs : List CatalogFile) → Within limit next (names_of fs) → attribute_total fs ≤ 1048576 → stub_total fs ≤ 65536 → AllByRecursion (IsCatalogFile blocks) fs → AllByRecursion FileFits (map snapshot_file fs)
+  files-fit : (fs : List CatalogFile) → Within limit next (names_of fs) → attribute_total fs ≤ large_geometry.attributes → stub_total fs ≤ large_geometry.stubs → AllByRecursion (IsCatalogFile blocks) fs → AllByRecursion FileFits (map snapshot_file fs)
   files-fit [] w few few_stubs each = tt
   files-fit (f ∷ fs) w few few_stubs each =
       let sum = sum_by-cons (λ (g : CatalogFile). bytes_of_attributes g.kept.attributes) f fs in
@@ -120,15 +121,15 @@ length-stubs : (stubs : Stubs) → AllByRecursion StubFits stubs → length (fla
 length-stubs [] fit = refl
 length-stubs (x ∷ stubs) fit = simp length-append (omega (arith, fit.0.digest, length-stubs stubs fit.1))
 
-file-short : (blocks : ℕ) (f : CatalogFile) → IsCatalogFile blocks f → length (file_bytes (snapshot_file f)) ≤ 170 + 8 * length (present f.places) + bytes_of_attributes f.kept.attributes + 49 * length f.kept.stubs
-unfolding file_bytes
+file-short : (blocks : ℕ) (f : CatalogFile) → IsCatalogFile blocks f → length (bytes_of_file (snapshot_file f)) ≤ 170 + 8 * length (present f.places) + bytes_of_attributes f.kept.attributes + 49 * length f.kept.stubs
+unfolding bytes_of_file
 file-short blocks f is =
     let k = is.kept in
     let stubs = length-stubs f.kept.stubs (each-as (IsCatalogStub f) StubFits f.kept.stubs (λ x stub. stub.numbers) is.stubs) in
     simp length-append (omega (arith, stubs, length-regions f.kept.regions, length-mappings (extents_from 0 f.places), length-extents 0 f.places, name-short f.name is.name, regions-few f.kept.regions k.regions, attributes-short f.kept.attributes k.eight))
 
 files-short : (blocks : ℕ) (fs : List CatalogFile) → AllByRecursion (IsCatalogFile blocks) fs
-    → length (flat_map file_bytes (map snapshot_file fs)) ≤ 170 * length fs + 8 * length (blocks_of fs) + attribute_total fs + 49 * stub_total fs
+    → length (flat_map bytes_of_file (map snapshot_file fs)) ≤ 170 * length fs + 8 * length (blocks_of fs) + attribute_total fs + 49 * stub_total fs
 files-short blocks [] each = omega arith
 files-short blocks (f ∷ fs) each =
     let attributes = sum_by-cons (λ (g : CatalogFile). bytes_of_attributes g.kept.attributes) f fs in

@@ -12,7 +12,7 @@ use Rattle.plain_model.specs.Distinct.{Distinct}
 use Rattle.inode_table.specs.Listing.{Differ, has_inode, Ascend}
 use Rattle.meta_store.specs.Validity.{are_unused, are_free, Flags, last_inode}
 use Rattle.meta_store.proofs.BlockUses.{uses, uses-append, uses-absent, absent-unused, distinct-uses, uses-distinct}
-use Rattle.plain_model.specs.Keyed.{put_key}
+use Rattle.hsm_types.specs.Keyed.{put_key}
 use Rattle.meta_store.specs.Catalogs.{CatalogFile, names_of}
 
 turned : (x y : List ℕ) → bytes_eq x y ≡ false → bytes_eq y x ≡ false

@@ -5,6 +5,7 @@ use Rattle.std.specs.List.Sorted.{IsStrictlySortedBy}
 use Rattle.std.specs.Map.{keys_of}
 use Rattle.std.specs.Ordering.{nat_cmp}
 use Rattle.std.proofs.lemmas.List.Sums.{length-filter, count_by-le-length}
+use Rattle.hsm_types.specs.Limits.{segment_bytes, segment_blocks}
 use Rattle.hsm_types.specs.declared.stores.Geometry.{Geometry}
 use Rattle.hsm_types.specs.declared.stubs.Stub.{Stub as StubOf}
 use Rattle.hsm_types.specs.Segments.{segments_in}
@@ -29,11 +30,11 @@ pub record IsTakenOn (r : Record) (f : CatalogFile) (c : Catalog) (others : Othe
   pub ascend : IsStrictlySortedBy nat_cmp (keys_of (file_after r f).kept.stubs)
 
 -- an entry stays what it was, where the file is as large, has the same regions and no place more in its segment
-same_stub : {f : CatalogFile} (g : CatalogFile) {j : ℕ} {stub : StubOf} → IsCatalogStub f (j, stub) → 65536 * j < g.size → g.kept.regions ≡ f.kept.regions
-    → (stub.offline ≡ true → (i : ℕ) → 16 * j ≤ i → i < 16 * j + 16 → get_or f.places i None ≡ None → get_or g.places i None ≡ None) → IsCatalogStub g (j, stub)
+same_stub : {f : CatalogFile} (g : CatalogFile) {j : ℕ} {stub : StubOf} → IsCatalogStub f (j, stub) → segment_bytes * j < g.size → g.kept.regions ≡ f.kept.regions
+    → (stub.offline ≡ true → (i : ℕ) → segment_blocks * j ≤ i → i < segment_blocks * j + segment_blocks → get_or f.places i None ≡ None → get_or g.places i None ≡ None) → IsCatalogStub g (j, stub)
 same_stub {f} g {j} is start regions places = record {
   fits = record { start = start; len = refl; volume = is.fits.volume; covered = λ off. rw regions (is.fits.covered off) };
-  away = λ off. at-away 16 (16 * j) g.places (λ i from to. places off i from to (away-at 16 (16 * j) f.places (is.away off) i from to));
+  away = λ off. at-away segment_blocks (segment_blocks * j) g.places (λ i from to. places off i from to (away-at segment_blocks (segment_blocks * j) f.places (is.away off) i from to));
   numbers = is.numbers;
 }
 
@@ -45,7 +46,7 @@ stub-after (Size ino size) f c others limits t old j stub is =
     same_stub (file_after (Size ino size) f) (each-at (IsCatalogStub f) f.kept.stubs j stub old (grind arith)) (omega arith) refl (λ off i from to. none-fitted size f.places i)
 stub-after (Map ino block places) f c others limits t old j stub is =
     let was = each-at (IsCatalogStub f) f.kept.stubs j stub old is in
-    let apart = λ (off : stub.offline ≡ true) (i : ℕ) (from : 16 * j ≤ i) (to : i < 16 * j + 16) (low : block ≤ i) (high : i < block + length places.items). let same : i / 16 ≡ j = omega arith in let here = rw same at (t.stands.here i low high) in let none : ⊥ = grind arith in none in
+    let apart = λ (off : stub.offline ≡ true) (i : ℕ) (from : segment_blocks * j ≤ i) (to : i < segment_blocks * j + segment_blocks) (low : block ≤ i) (high : i < block + length places.items). let same : i / segment_blocks ≡ j = omega arith in let here = rw same at (t.stands.here i low high) in let none : ⊥ = grind arith in none in
     same_stub (file_after (Map ino block places) f) was was.fits.start refl (λ off i from to none. get_or-mapped block places.items f.places i (apart off i from to) ∙ none)
 stub-after (Regions ino regions) f c others limits t old j stub is =
     let was = each-at (IsCatalogStub f) f.kept.stubs j stub old is in
@@ -58,7 +59,7 @@ stub-after (Stub ino k None) f c others limits t old j stub is =
 stub-after (Stub ino k (Some new)) f c others limits t old j stub is =
     let which : (j ≡ k) × (new ≡ stub) ⊎ (stub_at j f.kept.stubs ≡ Some stub) = grind (arith, stub_at-with k new f.kept.stubs j) in
     elim which [
-      | inl mine ↦ rw (mine.0, ← mine.1) (record { fits = t.stands.fits; away = λ off. at-away 16 (16 * k) _ (λ i from to. rw off (none-without k f.places i (inr (from, to)))); numbers = t.numbers })
+      | inl mine ↦ rw (mine.0, ← mine.1) (record { fits = t.stands.fits; away = λ off. at-away segment_blocks (segment_blocks * k) _ (λ i from to. rw off (none-without k f.places i (inr (from, to)))); numbers = t.numbers })
       | inr there ↦ let was = each-at (IsCatalogStub f) f.kept.stubs j stub old there in same_stub (file_after (Stub ino k (Some new)) f) was was.fits.start refl (λ off i from to none. grind (arith, none-without k f.places i))
     ]
 stub-after r f c others limits t old j stub is = let was = each-at (IsCatalogStub f) f.kept.stubs j stub old is in record { fits = was.fits; away = was.away; numbers = was.numbers }

@@ -5,8 +5,9 @@ use Rattle.std.specs.Option.{option_map, IsSome}
 use Rattle.std.proofs.lemmas.List.{length-map, drop_all, drop_more}
 use Rattle.std.proofs.lemmas.Option.{slice_get_within, slice_get_cases, get_or_from_slice_get}
 use Rattle.byteorder.specs.Endian.{big_bytes}
+use Rattle.hsm_types.specs.Limits.{file_regions, file_blocks, name_bytes}
 use Rattle.meta_store.specs.Catalogs.{CatalogFile, Catalog, IsCatalog, IsCatalogFile, geometry_of}
-use Rattle.meta_store.specs.Snapshots.{file_bytes, snapshot_file, snapshot_of, spelling}
+use Rattle.meta_store.specs.Snapshots.{bytes_of_file, snapshot_file, snapshot_of, spelling}
 use Rattle.meta_store.proofs.EachOf.{each-got}
 use Rattle.meta_store.proofs.SpreadPlaces.{length-extents}
 use Rattle.meta_store.proofs.KeptBounds.{regions-few}
@@ -17,7 +18,7 @@ each-written text out xs i d within = rw (drop_more xs i d, append_assoc) refl
 
 pub ruleset written = (append_assoc, length-extents)
 
-pub bounds-at : (c : Catalog) (i : ℕ) (f : CatalogFile) → IsCatalog c → slice_get c.files i ≡ Some f → (length f.name ≤ 64) × (length f.places ≤ 4096) × (length f.kept.regions ≤ 4)
+pub bounds-at : (c : Catalog) (i : ℕ) (f : CatalogFile) → IsCatalog c → slice_get c.files i ≡ Some f → (length f.name ≤ name_bytes) × (length f.places ≤ file_blocks) × (length f.kept.regions ≤ file_regions)
 bounds-at c i f is at =
     let one : IsCatalogFile (geometry_of c.geometry).blocks f = each-got (IsCatalogFile (geometry_of c.geometry).blocks) c.files i f is.each at in
     (name-short f.name one.name, omega arith, regions-few f.kept.regions one.kept.regions)
@@ -29,14 +30,14 @@ some-at v None ys i at within = absurd (grind (arith, slice_get_cases ys i))
 
 -- the bytes of these files
 abbrev pub files_bytes : List CatalogFile → List ℕ
-files_bytes fs = flat_map file_bytes (map snapshot_file fs)
+files_bytes fs = flat_map bytes_of_file (map snapshot_file fs)
 
 pub header-first : (n next count : ℕ) (c : Catalog) (out : List ℕ) → next ≡ c.next → count ≡ length c.files → out ≡ [] ++ (big_bytes 8 n ++ big_bytes 8 next ++ big_bytes 4 1 ++ big_bytes 4 count)
     → out ++ files_bytes c.files ≡ spelling (snapshot_of n c)
 unfolding spelling snapshot_of
 header-first n next count c out later counted written = rw (written, later, counted, ← length-map c.files snapshot_file) refl
 
-pub file-more : (files : List CatalogFile) (i : ℕ) (f : CatalogFile) (out : List ℕ) → slice_get files i ≡ Some f → (out ++ file_bytes (snapshot_file f)) ++ files_bytes (drop (i + 1) files) ≡ out ++ files_bytes (drop i files)
+pub file-more : (files : List CatalogFile) (i : ℕ) (f : CatalogFile) (out : List ℕ) → slice_get files i ≡ Some f → (out ++ bytes_of_file (snapshot_file f)) ++ files_bytes (drop (i + 1) files) ≡ out ++ files_bytes (drop i files)
 file-more files i f out at = rw (drop_more files i f (slice_get_within files i f at), get_or_from_slice_get files i f f at, append_assoc) refl
 
 pub files-all : (files : List CatalogFile) (i : ℕ) (out : List ℕ) → length files ≤ i → out ++ files_bytes (drop i files) ≡ out

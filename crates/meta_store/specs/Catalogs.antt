@@ -4,6 +4,7 @@ use Rattle.std.specs.List.{flat_map, AllByRecursion}
 use Rattle.std.specs.List.Sorted.{IsStrictlySortedBy}
 use Rattle.std.specs.Map.{keys_of}
 use Rattle.std.specs.Ordering.{nat_cmp}
+use Rattle.hsm_types.specs.Limits.{file_bytes, segment_blocks, small_geometry, large_geometry}
 use Rattle.hsm_types.specs.Names.{is_name}
 use Rattle.hsm_types.specs.declared.keys.FileKey.{FileKey}
 use Rattle.hsm_types.specs.declared.stores.Geometry.{Geometry}
@@ -11,7 +12,7 @@ use Rattle.hsm_types.specs.Regions.{regions_refusal}
 use Rattle.hsm_types.specs.Segments.{segment_len}
 use Rattle.hsm_types.specs.Attributes.{AreAttributes, bytes_of_attributes}
 use Rattle.hsm_types.specs.Kept.{Kept}
-use Rattle.hsm_types.specs.Stubs.{FitsFile}
+use Rattle.hsm_types.specs.Stubs.{FitsFile, entry_place, entry_print, entry_at}
 use Rattle.hsm_types.specs.declared.stubs.Stub.{Stub}
 use Rattle.plain_model.specs.Plain.{Listed}
 use Rattle.plain_model.specs.Blocks.{blocks_in}
@@ -34,7 +35,7 @@ pub record Catalog : Type 0 where
 
 -- how much a store of geometry 0 can hold, which is small, and one of any other, which is large
 unfoldable pub geometry_of : ℕ → Geometry
-geometry_of geometry = if geometry == 0 then record { files = 64; blocks = 1024; attributes = 32768; stubs = 1024 } else record { files = 4096; blocks = 65536; attributes = 1048576; stubs = 65536 }
+geometry_of geometry = if geometry == 0 then small_geometry else large_geometry
 
 -- the key and the name of each file
 abbrev pub names_of : List CatalogFile → List Listed
@@ -60,19 +61,19 @@ stub_total files = sum_by (λ f. length f.kept.stubs) files
 
 -- where the blocks of a segment lie, of a file whose blocks lie there
 abbrev pub places_in_segment : ℕ → List (Option ℕ) → List (Option ℕ)
-places_in_segment j places = take 16 (drop (16 * j) places)
+places_in_segment j places = take segment_blocks (drop (segment_blocks * j) places)
 
 -- each number of a stub entry is one that its field can hold, and its digest has 32 bytes
 pub record StubFits (x : ℕ × Stub) : Type 0 where
   pub segment : x.0 < 2 ^ 32
-  pub volume : x.1.entry.volume < 2 ^ 32
-  pub object : x.1.entry.object < 2 ^ 32
-  pub len : x.1.entry.print.len < 2 ^ 32
-  pub digest : length x.1.entry.print.digest.0 ≡ 32
+  pub volume : (entry_place x.1.entry).volume < 2 ^ 32
+  pub object : (entry_place x.1.entry).object < 2 ^ 32
+  pub len : (entry_print x.1.entry).len < 2 ^ 32
+  pub digest : length (entry_print x.1.entry).digest.0 ≡ 32
 
 -- the entry with the length of its segment of a file of that size
 abbrev pub with_length : ℕ → ℕ × Stub → ℕ × Stub
-with_length size x = (x.0, record x.1 { entry = record x.1.entry { print = record x.1.entry.print { len = segment_len size x.0 } } })
+with_length size x = (x.0, record x.1 { entry = entry_at (entry_place x.1.entry) (record (entry_print x.1.entry) { len = segment_len size x.0 }) })
 
 -- but for its length the entry fits the file
 abbrev pub FitsButLength : CatalogFile → ℕ × Stub → Type 0
@@ -90,7 +91,7 @@ pub record IsCatalogStub (f : CatalogFile) (x : ℕ × Stub) : Type 0 where
 
 -- each of the file's entries has the length of its segment
 abbrev pub HasLengths : CatalogFile → Type 0
-HasLengths f = AllByRecursion (λ x. x.1.entry.print.len ≡ segment_len f.size x.0) f.kept.stubs
+HasLengths f = AllByRecursion (λ x. (entry_print x.1.entry).len ≡ segment_len f.size x.0) f.kept.stubs
 
 -- what is true of what sessions keep with each file
 pub record IsLawfulKept (k : Kept) : Type 0 where
@@ -103,7 +104,7 @@ pub record IsLawfulKept (k : Kept) : Type 0 where
 pub record IsCatalogFile (blocks : ℕ) (f : CatalogFile) : Type 0 where
   pub generation : 1 ≤ f.key.igen
   pub name : is_name f.name ≡ true
-  pub size : f.size ≤ 16777216
+  pub size : f.size ≤ file_bytes
   pub places : length f.places ≡ blocks_in f.size
   pub within : AllByRecursion (λ b. b < blocks) (present f.places)
   pub kept : IsLawfulKept f.kept

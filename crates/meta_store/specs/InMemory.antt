@@ -1,5 +1,6 @@
 -- A catalog in memory: a table of its files, for each inode, from 1, what is kept of the file that has it beside them, and what all attributes count.
 use Rattle.std.specs.Prelude.{◌≡◌, ℕ, ◌+◌, ◌-◌, ◌≤◌, List, [], length, map, slice_index_or, false, Some, None}
+use Rattle.hsm_types.specs.Limits.{file_bytes}
 use Rattle.hsm_types.specs.declared.keys.FileKey.{FileKey}
 use Rattle.hsm_types.specs.Kept.{Kept}
 use Rattle.hsm_types.specs.Stubs.{offline_at}
@@ -32,7 +33,7 @@ parts_after r parts = parts_of (file_after r (file_of (record { ino = 0; igen = 
 
 -- the record is within what a file may have
 abbrev pub FitsParts : Record → FileParts → Type 0
-FitsParts (Size ino size) parts = size ≤ 16777216
+FitsParts (Size ino size) parts = size ≤ file_bytes
 FitsParts (Map ino block places) parts = block + length places.items ≤ length parts.places
 FitsParts (Stub ino j None) parts = offline_at parts.stubs j ≡ false
 FitsParts (Stub ino j (Some stub)) parts = FitsStub j stub parts.stubs

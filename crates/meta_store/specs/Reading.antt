@@ -1,6 +1,7 @@
 -- Reading the bytes of a snapshot from left to right. A reader takes a value from the front of some bytes, and gives it with the bytes after it.
 use Rattle.std.specs.Prelude.{◌≡◌, ℕ, zero, suc, List, [], ◌∷◌, length, take, drop, Bool, true, false, Option, Some, None, Result, Ok, Err, ◌==◌, nat_lt, if◌then◌else◌}
 use Rattle.byteorder.specs.Endian.{big_number}
+use Rattle.hsm_types.specs.Stubs.{entry_at}
 use Rattle.hsm_types.specs.declared.keys.FileKey.{FileKey}
 use Rattle.hsm_types.specs.declared.regions.Region.{Region}
 use Rattle.hsm_types.specs.declared.attributes.AttrName.{AttrName}
@@ -104,7 +105,7 @@ print_at = made (λ p. record { len = p.0; digest = record { 0 = p.1 } }) (both 
 
 -- a segment, its state and its entry
 unfoldable pub stub_in : List ℕ → Option ((ℕ × Stub) × List ℕ)
-stub_in = made (λ p. (p.0.0.0.0, record { entry = record { volume = p.0.0.1; object = p.0.1; print = p.1 }; offline = p.0.0.0.1 }))
+stub_in = made (λ p. (p.0.0.0.0, record { entry = entry_at (record { volume = p.0.0.1; object = p.0.1 }) p.1; offline = p.0.0.0.1 }))
     (both (both (both (both (number_at 4) state_at) (number_at 4)) (number_at 4)) print_at)
 
 unfoldable pub file_at : List ℕ → Option (SnapshotFile × List ℕ)

@@ -2,6 +2,7 @@
 use Rattle.std.specs.Prelude.{◌≡◌, ℕ, ◌+◌, ◌-◌, ◌*◌, ◌/◌, ◌≤◌, ◌<◌, ◌^◌, max, min, List, [], ◌∷◌, ◌++◌, length, take, drop, replicate, slice_set, true, false, if◌then◌else◌, ◌==◌, Option, Some, None}
 use Rattle.std.specs.List.{list_any, AllByRecursion}
 use Rattle.std.specs.Option.{option_map, unwrap_or}
+use Rattle.hsm_types.specs.Limits.{file_bytes, segment_blocks}
 use Rattle.hsm_types.specs.Names.{is_name}
 use Rattle.hsm_types.specs.declared.keys.FileKey.{FileKey}
 use Rattle.hsm_types.specs.declared.dm.DmRefusal.{DmRefusal}
@@ -13,7 +14,7 @@ use Rattle.hsm_types.specs.declared.stores.Geometry.{Geometry}
 use Rattle.hsm_types.specs.declared.stubs.Stub.{Stub as StubOf}
 use Rattle.hsm_types.specs.Attributes.{with_value, without_value, setting_refusal, removal_refusal}
 use Rattle.hsm_types.specs.Kept.{Kept, nothing_kept}
-use Rattle.plain_model.specs.Keyed.{find_key, change_key, put_key, drop_key}
+use Rattle.hsm_types.specs.Keyed.{find_key, change_key, put_key, drop_key}
 use Rattle.plain_model.specs.Plain.{named}
 use Rattle.plain_model.specs.Blocks.{blocks_in}
 use Rattle.plain_model.specs.Distinct.{Distinct}
@@ -42,7 +43,7 @@ mappings_from block (p ∷ ps) = (record { block = block; place = p }) ∷ mappi
 
 -- no block of the segment has a place
 abbrev pub places_without : ℕ → List (Option ℕ) → List (Option ℕ)
-places_without j places = take (16 * j) places ++ replicate (min 16 (length places - 16 * j)) None ++ drop (16 * j + 16) places
+places_without j places = take (segment_blocks * j) places ++ replicate (min segment_blocks (length places - segment_blocks * j)) None ++ drop (segment_blocks * j + segment_blocks) places
 
 -- the file that a record is about, after it
 abbrev pub file_after : Record → CatalogFile → CatalogFile
@@ -146,7 +147,7 @@ pub record IsNewFile (key : FileKey) (name : List ℕ) (c : Catalog) : Type 0 wh
 -- uses, each once.
 pub record IsMappable (block : ℕ) (places : List ℕ) (f : CatalogFile) (c : Catalog) : Type 0 where
   pub blocks : block + length places ≤ length f.places
-  pub here : (b : ℕ) → block ≤ b → b < block + length places → offline_at f.kept.stubs (b / 16) ≡ false
+  pub here : (b : ℕ) → block ≤ b → b < block + length places → offline_at f.kept.stubs (b / segment_blocks) ≡ false
   pub within : AllByRecursion (λ p. p < (geometry_of c.geometry).blocks) places
   pub unused : AllByRecursion (λ p. list_any (λ b. b == p) (blocks_of c.files) ≡ false) places
   pub distinct : Distinct places
@@ -163,7 +164,7 @@ pub record IsStubbable (j : ℕ) (stub : StubOf) (f : CatalogFile) : Type 0 wher
 
 -- What no part judges: a file has the inode, and the record fits it. A segment without an entry has its bytes.
 abbrev pub CanStandOn : Record → CatalogFile → Catalog → Type 0
-CanStandOn (Size ino size) f c = size ≤ 16777216
+CanStandOn (Size ino size) f c = size ≤ file_bytes
 CanStandOn (Map ino block places) f c = IsMappable block places.items f c
 CanStandOn (Stub ino j None) f c = offline_at f.kept.stubs j ≡ false
 CanStandOn (Stub ino j (Some stub)) f c = IsStubbable j stub f

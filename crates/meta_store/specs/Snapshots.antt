@@ -7,6 +7,7 @@ use Rattle.hsm_types.specs.declared.regions.Region.{Region}
 use Rattle.hsm_types.specs.declared.attributes.AttrName.{AttrName}
 use Rattle.hsm_types.specs.Kept.{Kept}
 use Rattle.hsm_types.specs.declared.stubs.Stub.{Stub}
+use Rattle.hsm_types.specs.Stubs.{entry_place, entry_print}
 use Rattle.meta_store.specs.declared.snapshot.Mapping.{Mapping}
 use Rattle.meta_store.specs.declared.snapshot.RawFile.{RawFile}
 use Rattle.meta_store.specs.declared.snapshot.RawSnapshot.{RawSnapshot}
@@ -54,14 +55,14 @@ state_of offline = if offline then 2 else 1
 
 -- a segment with its state and its entry, whose digest has 32 bytes
 abbrev pub stub_bytes : ℕ × Stub → List ℕ
-stub_bytes x = big_bytes 4 x.0 ++ big_bytes 1 (state_of x.1.offline) ++ big_bytes 4 x.1.entry.volume ++ big_bytes 4 x.1.entry.object ++ big_bytes 4 x.1.entry.print.len ++ x.1.entry.print.digest.0
+stub_bytes x = big_bytes 4 x.0 ++ big_bytes 1 (state_of x.1.offline) ++ big_bytes 4 (entry_place x.1.entry).volume ++ big_bytes 4 (entry_place x.1.entry).object ++ big_bytes 4 (entry_print x.1.entry).len ++ (entry_print x.1.entry).digest.0
 
 -- a number of n bytes that says how many there are, and each
 abbrev pub counted_bytes : {X : Type 0} → ℕ → (X → List ℕ) → List X → List ℕ
 counted_bytes n text xs = big_bytes n (length xs) ++ flat_map text xs
 
-unfoldable pub file_bytes : SnapshotFile → List ℕ
-file_bytes f =
+unfoldable pub bytes_of_file : SnapshotFile → List ℕ
+bytes_of_file f =
     key_bytes f.key ++ big_bytes 8 f.size
     ++ (big_bytes 1 (length f.name) ++ f.name)
     ++ counted_bytes 1 region_bytes f.kept.regions
@@ -71,7 +72,7 @@ file_bytes f =
 
 -- The format is 1.
 unfoldable pub spelling : Snapshot → List ℕ
-spelling s = big_bytes 8 s.number ++ big_bytes 8 s.next ++ big_bytes 4 1 ++ counted_bytes 4 file_bytes s.files
+spelling s = big_bytes 8 s.number ++ big_bytes 8 s.next ++ big_bytes 4 1 ++ counted_bytes 4 bytes_of_file s.files
 
 abbrev pub RegionFits : Region → Type 0
 RegionFits r = (r.offset < 2 ^ 64) × (r.size < 2 ^ 64) × (r.flags < 2 ^ 8)

@@ -2,6 +2,7 @@
 use Rattle.std.specs.Prelude.{◌≡◌, ℕ, ◌+◌, ◌<◌, ◌≤◌, List, [], ◌∷◌, ◌++◌, length, map, replicate, sum_by, get_or, slice_set, Bool, true, false, not, ◌==◌, ◌&&◌, nat_lt, nat_le, Option, Some, None, is_some}
 use Rattle.std.specs.List.{flat_map, list_any, AllByRecursion}
 use Rattle.std.specs.Ordering.{is_lt}
+use Rattle.hsm_types.specs.Limits.{file_bytes, value_bytes}
 use Rattle.hsm_types.specs.Names.{is_name}
 use Rattle.hsm_types.specs.declared.stores.Geometry.{Geometry}
 use Rattle.hsm_types.specs.declared.attributes.AttrName.{AttrName}
@@ -49,9 +50,9 @@ abbrev pub stands_behind : Option AttrName → AttrName → Bool
 stands_behind None name = true
 stands_behind (Some before) name = is_lt (name_cmp before name)
 
--- the attribute can stand behind one of that name: its own isn't reserved, and its value has at most 4,096 bytes
+-- the attribute can stand behind one of that name: its own isn't reserved, and its value has at most `value_bytes`
 abbrev pub is_attribute : Option AttrName → AttrName × List ℕ → Bool
-is_attribute before a = stands_behind before a.0 && not (is_reserved a.0) && nat_le (length a.1) 4096
+is_attribute before a = stands_behind before a.0 && not (is_reserved a.0) && nat_le (length a.1) value_bytes
 
 -- each attribute can stand behind the one before it
 abbrev pub are_attributes : Option AttrName → Attributes → Bool
@@ -71,7 +72,7 @@ pub record AreLawfulStubs (size : ℕ) (regions : List Region) (places : List (O
 
 -- what can be judged of a file by itself, what sessions keep with it aside
 abbrev pub is_file : ℕ → ℕ → SnapshotFile → Bool
-is_file next blocks f = nat_le 1 f.key.igen && nat_lt f.key.igen next && nat_le f.size 16777216 && is_name f.name && are_extents 0 (blocks_in f.size) blocks f.extents
+is_file next blocks f = nat_le 1 f.key.igen && nat_lt f.key.igen next && nat_le f.size file_bytes && is_name f.name && are_extents 0 (blocks_in f.size) blocks f.extents
 
 -- none of these places is used yet, and none of them stands twice
 abbrev pub are_unused : List ℕ → List ℕ → Bool
@@ -90,7 +91,7 @@ pub record Follows (geometry : Geometry) (next : ℕ) (before : List SnapshotFil
   pub high : f.key.ino ≤ geometry.files
   pub first : 1 ≤ f.key.igen
   pub old : f.key.igen < next
-  pub size : f.size ≤ 16777216
+  pub size : f.size ≤ file_bytes
   pub name : is_name f.name ≡ true
   pub extents : are_extents 0 (blocks_in f.size) geometry.blocks f.extents ≡ true
 

@@ -3,7 +3,7 @@ ghost use Rattle.std.specs.Prelude.{◌≡◌, ◌↔◌, ◌++◌, ◌+◌, ◌
 ghost use Rattle.std.specs.Option.{option_map};
 ghost use Rattle.hsm_types.specs.Attributes.{bytes_of_attributes};
 ghost use Rattle.hsm_types.specs.declared.dm.DmRefusal.{DmRefusal};
-ghost use Rattle.plain_model.specs.Keyed.{find_key};
+ghost use Rattle.hsm_types.specs.Keyed.{find_key};
 ghost use Rattle.plain_model.specs.Plain.{named};
 ghost use Rattle.plain_model.specs.Distinct.{Distinct};
 ghost use Rattle.inode_table.specs.Listing.{has_inode};

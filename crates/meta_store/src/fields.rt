@@ -3,7 +3,9 @@ ghost use Rattle.meta_store.specs.Reading.{Gives, number_at, only_at, bytes_at, 
 
 use crate::snapshot::{Mapping, OFFLINE, ReadRefusal, SEALED};
 use byteorder::{BigEndian, ByteOrder};
-use hsm_types::{AttrName, Bytes, Digest, FileKey, Fingerprint, Region, Stub, StubEntry, Word};
+use hsm_types::{
+    AttrName, Bytes, Digest, FileKey, Fingerprint, Place, Region, Stub, StubEntry, Word,
+};
 use std::alloc::Global;
 
 pub(crate) fn u8_at(bytes: &[u8]) -> Result<(u8, &[u8]), ReadRefusal>
@@ -182,10 +184,6 @@ pub(crate) fn stub_in(bytes: &[u8]) -> Result<((u32, Stub), &[u8]), ReadRefusal>
     let (volume, rest) = u32_at(rest)?;
     let (object, rest) = u32_at(rest)?;
     let (print, rest) = print_at(rest)?;
-    let entry = StubEntry {
-        volume,
-        object,
-        print,
-    };
+    let entry = StubEntry::new(Place { volume, object }, print);
     Ok(((segment, Stub { entry, offline }), rest))
 }

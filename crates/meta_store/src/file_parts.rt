@@ -33,7 +33,7 @@ pub struct FileParts {
 }
 
 /// What all other files have.
-#[derive(Clone, Copy, Debug)]
+#[derive(Clone, Copy)]
 pub struct Others {
     /// What their attributes count.
     pub attributes: u64,

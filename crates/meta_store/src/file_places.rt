@@ -1,6 +1,7 @@
 //! Where the blocks of one file lie.
 ghost use Rattle.std.specs.Prelude.{◌≡◌, ◌+◌, ◌-◌, ◌*◌, ◌<◌, ◌≤◌, ◌^◌, [], ◌∷◌, length, min, drop, replicate, slice_set, None, Some, IfOk, OnOk, OnErr};
 ghost use Rattle.std.specs.List.{AllByRecursion};
+ghost use Rattle.hsm_types.specs.Limits.{file_blocks};
 ghost use Rattle.plain_model.specs.Blocks.{blocks_in};
 ghost use Rattle.meta_store.specs.Catalogs.{present, places_in_segment};
 ghost use Rattle.meta_store.specs.Records.{places_fitted, places_set, places_without, mappings_from};
@@ -20,13 +21,14 @@ pub struct FilePlaces {
 
 impl Model for FilePlaces {
     ghost use Rattle.std.specs.Prelude.{◌≡◌, ◌≤◌, ℕ, List, Option, length};
+    ghost use Rattle.hsm_types.specs.Limits.{file_blocks};
     ghost use Rattle.meta_store.specs.Catalogs.{present};
 
     ghost Value = { List (Option ℕ) };
 
     ghost view = { λ p. p.places.items };
 
-    ghost invariant = { λ p. (length p.places.items ≤ 4096) × (p.mapped ≡ length (present p.places.items)) };
+    ghost invariant = { λ p. (length p.places.items ≤ file_blocks) × (p.mapped ≡ length (present p.places.items)) };
 }
 
 impl FilePlaces {
@@ -112,7 +114,7 @@ pub fn segment_places(places: &[Option<u32>], segment: u32) -> &[Option<u32>]
 /// From which block of a file of so many on the segment has its blocks, and up to which.
 fn segment_range(count: usize, segment: u32) -> (usize, usize)
     requires { count < 2 ^ 63 }
-    ensures { result ≡ (min count (16 * segment), min count (min count (16 * segment) + 16)) }
+    ensures { result ≡ (min count (SEGMENT_BLOCKS * segment), min count (min count (SEGMENT_BLOCKS * segment) + SEGMENT_BLOCKS)) }
 {
     let from = count.min(segment as usize * SEGMENT_BLOCKS as usize);
     (from, count.min(from + SEGMENT_BLOCKS as usize))
@@ -121,7 +123,7 @@ fn segment_range(count: usize, segment: u32) -> (usize, usize)
 /// How many of a file's places aren't holes.
 #[tactic(auto, using(crate::proofs::MappedPlaces::mapped_steps))]
 pub fn count_present(places: &[Option<u32>]) -> u32
-    requires { length places.now ≤ 4096 }
+    requires { length places.now ≤ file_blocks }
     ensures { result ≡ length (present places.now) }
 {
     let mut count = 0;
@@ -135,7 +137,7 @@ pub fn count_present(places: &[Option<u32>]) -> u32
 
 /// How many of a file's places from that block on aren't holes.
 fn count_from(places: &[Option<u32>], block: usize) -> u32
-    requires { length places.now ≤ 4096 }
+    requires { length places.now ≤ file_blocks }
     ensures { result ≡ length (present (drop block places.now)) }
 {
     if block < places.len() {
@@ -157,7 +159,7 @@ fn blocks_in(size: u64) -> usize
 #[tactic(auto, using(crate::proofs::MappedPlaces::mapped_steps))]
 fn set(places: &mut Vec<Option<u32>>, mappings: &[Mapping]) -> u32
     requires blocks { AllByRecursion (λ m. m.block < length places.old.items) mappings.now }
-    requires few { length places.old.items ≤ 4096 }
+    requires few { length places.old.items ≤ file_blocks }
     ensures places { places.new.items ≡ places_set mappings.now places.old.items }
     ensures added { result + length (present places.old.items) ≡ length (present places.new.items) }
 {
@@ -172,7 +174,7 @@ fn set(places: &mut Vec<Option<u32>>, mappings: &[Mapping]) -> u32
 #[tactic(auto, using(crate::proofs::MappedPlaces::mapped_steps))]
 fn set_from(places: &mut Vec<Option<u32>>, first: usize, new: &[u32]) -> u32
     requires blocks { first + length new.now ≤ length places.old.items }
-    requires few { length places.old.items ≤ 4096 }
+    requires few { length places.old.items ≤ file_blocks }
     ensures places { places.new.items ≡ places_set (mappings_from first new.now) places.old.items }
     ensures added { result + length (present places.old.items) ≡ length (present places.new.items) }
 {
@@ -197,7 +199,7 @@ fn put(places: &mut Vec<Option<u32>>, block: usize, place: u32) -> u32
 
 /// Makes holes of the blocks of the segment, and tells how many holes there are more.
 fn clear_segment(places: &mut Vec<Option<u32>>, segment: u32) -> u32
-    requires few { length places.old.items ≤ 4096 }
+    requires few { length places.old.items ≤ file_blocks }
     ensures places { places.new.items ≡ places_without segment places.old.items }
     ensures cleared { result + length (present places.new.items) ≡ length (present places.old.items) }
 {

@@ -3,7 +3,7 @@
 ghost use Rattle.std.specs.Prelude.{◌≡◌};
 ghost use Rattle.meta_store.specs.Catalogs.{geometry_of};
 
-use hsm_types::{Geometry, SMALL};
+use hsm_types::{Geometry, LARGE_GEOMETRY, SMALL_GEOMETRY};
 
 /// How much a store of geometry 0 can hold, which is small, or of any other, which is large.
 #[tactic(auto, unfolding(crate::specs::Catalogs::geometry_of))]
@@ -11,13 +11,8 @@ pub fn geometry_of(geometry: u32) -> Geometry
     ensures { result ≡ geometry_of geometry }
 {
     if geometry == 0 {
-        SMALL
+        SMALL_GEOMETRY
     } else {
-        Geometry {
-            files: 4_096,
-            blocks: 65_536,
-            attributes: 1_048_576,
-            stubs: 65_536,
-        }
+        LARGE_GEOMETRY
     }
 }

@@ -54,7 +54,7 @@ fn put(kept: &mut StubMap, segment: u32, stub: Stub, limit: u32) -> Result<(), R
     ensures corrupt { IsErrOf result ReadRefusal.Corrupt → length kept.old < limit → ⊥ }
 {
     // Read for the bytes of each digest.
-    let _len = stub.entry.print.digest.0.len();
+    let _len = stub.entry.print().digest.0.len();
     if let Err(why) = kept.seal(segment, stub.entry, 0, limit) {
         return Err(refusal_of(why));
     }
@@ -87,8 +87,8 @@ fn is_lawful(
     ensures { IsTrue result ↔ (FitsFile size regions.now (segment, stub) × HasNoBlocks places.now (segment, stub)) }
 {
     if size <= u64::from(segment) * SEGMENT_BYTES
-        || u64::from(stub.entry.print.len) != segment_len(size, segment)
-        || LAST_VOLUME < stub.entry.volume
+        || u64::from(stub.entry.print().len) != segment_len(size, segment)
+        || LAST_VOLUME < stub.entry.place().volume
     {
         return false;
     }

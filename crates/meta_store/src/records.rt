@@ -6,7 +6,7 @@ ghost use Rattle.meta_store.specs.Records.{inode_of, file_after};
 use hsm_types::{AttrName, Bytes, FileKey, ListOf, Regions, Stub, Word};
 
 /// One change. `ino` is the inode of the file that it is about.
-#[derive(Debug, Drop)]
+#[derive(Drop)]
 pub enum Record {
     /// A new file, empty.
     Make {

@@ -15,14 +15,14 @@ pub(crate) const SEALED: u8 = 1;
 pub(crate) const OFFLINE: u8 = 2;
 
 /// A block of a file, counted from 0 in the file, and the disk's block that has it, counted from 0 among the data blocks.
-#[derive(Clone, Copy, Debug, PartialEq, Eq)]
+#[derive(Clone, Copy, PartialEq, Eq)]
 pub struct Mapping {
     pub block: u32,
     pub place: u32,
 }
 
 /// A file as a snapshot spells it.
-#[derive(Debug, Drop)]
+#[derive(Drop)]
 pub(crate) struct RawFile {
     pub(crate) key: FileKey,
     pub(crate) size: u64,
@@ -34,7 +34,7 @@ pub(crate) struct RawFile {
 }
 
 /// A snapshot as it is spelled. It need not be valid.
-#[derive(Debug, Drop)]
+#[derive(Drop)]
 pub(crate) struct RawSnapshot {
     pub(crate) number: u64,
     pub(crate) next: u64,
@@ -42,7 +42,7 @@ pub(crate) struct RawSnapshot {
 }
 
 /// Why a snapshot couldn't be read.
-#[derive(Clone, Copy, Debug, PartialEq, Eq)]
+#[derive(Clone, Copy, PartialEq, Eq)]
 pub(crate) enum ReadRefusal {
     /// The bytes are no snapshot.
     Corrupt,

@@ -1,9 +1,11 @@
 //! Writing a snapshot's bytes.
 ghost use Rattle.std.specs.Prelude.{◌≡◌, ◌+◌, ◌≤◌, ◌<◌, ◌++◌, [], length, IsTrue, OnOk};
 ghost use Rattle.std.specs.List.{flat_map};
+ghost use Rattle.hsm_types.specs.Limits.{file_blocks, file_regions, name_bytes, value_bytes};
+ghost use Rattle.hsm_types.specs.Stubs.{entry_place, entry_print};
 ghost use Rattle.byteorder.specs.Endian.{big_bytes};
 ghost use Rattle.meta_store.specs.Catalogs.{present};
-ghost use Rattle.meta_store.specs.Snapshots.{region_bytes, attribute_bytes, extent_bytes, stub_bytes, state_of, extents_from, file_bytes, snapshot_file};
+ghost use Rattle.meta_store.specs.Snapshots.{region_bytes, attribute_bytes, extent_bytes, stub_bytes, state_of, extents_from, bytes_of_file, snapshot_file};
 ghost use Rattle.meta_store.specs.InMemory.{file_of};
 
 use crate::file_parts::FileParts;
@@ -119,7 +121,7 @@ pub(crate) fn put_header(
 }
 
 fn put_extents(out: &mut Vec<u8>, places: &[Option<u32>]) -> Result<(), AllocError>
-    requires { length places.now ≤ 4096 }
+    requires { length places.now ≤ file_blocks }
     ensures { OnOk result (out.new.items ≡ out.old.items ++ flat_map extent_bytes (extents_from 0 places.now)) }
 {
     let mut block = 0;
@@ -134,7 +136,7 @@ fn put_extents(out: &mut Vec<u8>, places: &[Option<u32>]) -> Result<(), AllocErr
 
 /// A file's key, its size and its name.
 fn put_head(out: &mut Vec<u8>, key: FileKey, size: u64, name: &Word) -> Result<(), AllocError>
-    requires { length name.now ≤ 64 }
+    requires { length name.now ≤ name_bytes }
     ensures { OnOk result (out.new.items ≡ out.old.items ++ (big_bytes 8 key.ino ++ big_bytes 8 key.igen ++ big_bytes 8 size ++ big_bytes 1 (length name.now) ++ name.now)) }
 {
     let name = name.as_slice();
@@ -153,7 +155,7 @@ fn put_regions(out: &mut Vec<u8>, regions: &[Region]) -> Result<(), AllocError>
 }
 
 fn put_attribute(out: &mut Vec<u8>, name: AttrName, value: &Bytes) -> Result<(), AllocError>
-    requires { length value.now ≤ 4096 }
+    requires { length value.now ≤ value_bytes }
     ensures { OnOk result (out.new.items ≡ out.old.items ++ attribute_bytes (name, value.now)) }
 {
     let value = value.as_slice();
@@ -174,14 +176,15 @@ fn put_attributes(out: &mut Vec<u8>, attributes: &DmAttrs) -> Result<(), AllocEr
 
 /// A segment and its entry, without the digest.
 fn spell_stub(segment: u32, stub: Stub) -> [u8; 17]
-    ensures { result ≡ big_bytes 4 segment ++ big_bytes 1 (state_of stub.offline) ++ big_bytes 4 stub.entry.volume ++ big_bytes 4 stub.entry.object ++ big_bytes 4 stub.entry.print.len }
+    ensures { result ≡ big_bytes 4 segment ++ big_bytes 1 (state_of stub.offline) ++ big_bytes 4 (entry_place stub.entry).volume ++ big_bytes 4 (entry_place stub.entry).object ++ big_bytes 4 (entry_print stub.entry).len }
 {
     let mut bytes = [0; 17];
     BigEndian::write_u32(&mut bytes, segment);
     bytes[4] = if stub.offline { OFFLINE } else { SEALED };
-    BigEndian::write_u32(&mut bytes[5..], stub.entry.volume);
-    BigEndian::write_u32(&mut bytes[9..], stub.entry.object);
-    BigEndian::write_u32(&mut bytes[13..], stub.entry.print.len);
+    let place = stub.entry.place();
+    BigEndian::write_u32(&mut bytes[5..], place.volume);
+    BigEndian::write_u32(&mut bytes[9..], place.object);
+    BigEndian::write_u32(&mut bytes[13..], stub.entry.print().len);
     bytes
 }
 
@@ -189,7 +192,7 @@ fn put_stub(out: &mut Vec<u8>, segment: u32, stub: Stub) -> Result<(), AllocErro
     ensures { OnOk result (out.new.items ≡ out.old.items ++ stub_bytes (segment, stub)) }
 {
     out.extend_from_slice(&spell_stub(segment, stub))?;
-    out.extend_from_slice(&stub.entry.print.digest.0)?;
+    out.extend_from_slice(&stub.entry.print().digest.0)?;
     Ok(())
 }
 
@@ -206,7 +209,7 @@ fn put_stubs(out: &mut Vec<u8>, stubs: &StubMap) -> Result<(), AllocError>
 
 /// What sessions keep with a file before its extents, which mostly is nothing, and how many extents it has.
 fn put_kept(out: &mut Vec<u8>, parts: &FileParts) -> Result<(), AllocError>
-    requires { length parts.now.regions ≤ 4 }
+    requires { length parts.now.regions ≤ file_regions }
     ensures { OnOk result (out.new.items ≡ out.old.items ++ (big_bytes 1 (length parts.now.regions) ++ flat_map region_bytes parts.now.regions ++ big_bytes 4 (length parts.now.attributes) ++ flat_map attribute_bytes parts.now.attributes ++ big_bytes 4 (length (present parts.now.places)))) }
 {
     let regions = parts.regions.list().as_slice();
@@ -233,8 +236,8 @@ fn is_plain(parts: &FileParts) -> bool
 
 /// What stands behind a file's name, at once where that is short.
 fn put_rest(out: &mut Vec<u8>, parts: &FileParts) -> Result<(), AllocError>
-    requires places { length parts.now.places ≤ 4096 }
-    requires regions { length parts.now.regions ≤ 4 }
+    requires places { length parts.now.places ≤ file_blocks }
+    requires regions { length parts.now.regions ≤ file_regions }
     ensures { OnOk result (out.new.items ≡ out.old.items ++ (big_bytes 1 (length parts.now.regions) ++ flat_map region_bytes parts.now.regions ++ big_bytes 4 (length parts.now.attributes) ++ flat_map attribute_bytes parts.now.attributes ++ big_bytes 4 (length (present parts.now.places)) ++ flat_map extent_bytes (extents_from 0 parts.now.places) ++ (big_bytes 4 (length parts.now.stubs) ++ flat_map stub_bytes parts.now.stubs))) }
 {
     let places = parts.places.as_slice();
@@ -252,7 +255,7 @@ fn put_rest(out: &mut Vec<u8>, parts: &FileParts) -> Result<(), AllocError>
 }
 
 /// A file, with an extent for each block of its body that the disk has.
-#[tactic(auto, using(crate::proofs::WrittenFiles::written), unfolding(crate::specs::Snapshots::file_bytes))]
+#[tactic(auto, using(crate::proofs::WrittenFiles::written), unfolding(crate::specs::Snapshots::bytes_of_file))]
 pub(crate) fn put_file(
     out: &mut Vec<u8>,
     key: FileKey,
@@ -260,10 +263,10 @@ pub(crate) fn put_file(
     size: u64,
     parts: &FileParts,
 ) -> Result<(), AllocError>
-    requires name { length name.now ≤ 64 }
-    requires places { length parts.now.places ≤ 4096 }
-    requires regions { length parts.now.regions ≤ 4 }
-    ensures { OnOk result (out.new.items ≡ out.old.items ++ file_bytes (snapshot_file (file_of key name.now size parts.now))) }
+    requires name { length name.now ≤ name_bytes }
+    requires places { length parts.now.places ≤ file_blocks }
+    requires regions { length parts.now.regions ≤ file_regions }
+    ensures { OnOk result (out.new.items ≡ out.old.items ++ bytes_of_file (snapshot_file (file_of key name.now size parts.now))) }
 {
     put_head(out, key, size, name)?;
     put_rest(out, parts)?;

@@ -1,10 +1,10 @@
 -- What comes next between passes.
-use Rattle.std.proofs.Common.{◌≡◌, ◌≢◌, ℕ, ◌<◌, Bool, true, false, List, [], ◌∷◌, ◌++◌, Option, Some, None, Contains, unwrap_or, refl, ap, inl, inr, arith}
+use Rattle.std.proofs.Common.{◌≡◌, ◌≢◌, ℕ, ◌<◌, Bool, true, false, List, [], ◌∷◌, ◌++◌, Option, Some, None, Contains, refl, ap, inl, inr, arith}
 use Rattle.std.specs.Prelude.{IfSome, IsTrue, if◌then◌else◌}
 use Rattle.std.specs.List.{filter_map, cons_option}
 use Rattle.std.specs.Option.{option_map}
-use Rattle.std.proofs.lemmas.Option.{same_Some}
 use Rattle.std.proofs.lemmas.List.Elements.{All-append, All-nil, All-cons}
+use Rattle.hsm_types.specs.Limits.{buffer_bytes}
 use Rattle.hsm_types.specs.declared.daemons.Act.{Act}
 use Rattle.hsm_types.specs.declared.daemons.Act.TheVariants.{Dm}
 use Rattle.hsm_types.specs.declared.daemons.Heard.{Heard}
@@ -25,14 +25,14 @@ use Rattle.daemon_session.specs.declared.events.Kept.{Kept}
 use Rattle.hsm_types.specs.declared.messages.Message.{Message}
 use Rattle.hsm_types.specs.declared.dm.DmCall.{DmCall}
 use Rattle.daemon_session.specs.Tellings.{event_on, own_event, events_in}
-use Rattle.daemon_session.specs.Seats.{IsSeated, forgot, Refuses}
+use Rattle.daemon_session.specs.Seats.{IsSeated, Refuses}
 use Rattle.migrate_daemon.specs.declared.shares.Space.{Space}
 use Rattle.migrate_daemon.specs.declared.stages.Turn.{Turn}
 use Rattle.migrate_daemon.specs.Known.{Known, is_due, knows_by}
 use Rattle.migrate_daemon.specs.Passes.{Pass, begun_pass}
 use Rattle.migrate_daemon.specs.Shares.{share}
 use Rattle.migrate_daemon.specs.Machine.{IsTable, HasAll, IsFree, WantsSpace, NoneServed}
-use Rattle.migrate_daemon.specs.Hearing.{is_gone, has_no_more, is_settled, space_in, messages_in, table_in}
+use Rattle.migrate_daemon.specs.Hearing.{is_gone, has_no_more, space_in, messages_in, table_in}
 use Rattle.migrate_daemon.specs.Standing.{Standing, resting, taking_up}
 use Rattle.migrate_daemon.specs.Stages.{rests, looks}
 use Rattle.migrate_daemon.specs.Turns.{Gives, Turns}
@@ -58,30 +58,10 @@ pub measured : (limits : Numbers) (k : Known) (sid : Sid) (told : Heard) (space 
 measured limits k sid (heard.Dm (reply.Space used total)) space some = ap (λ (s : Option Space). record k { space = s }) some
 measured limits k sid told space some = cc
 
-pub told_none : (limits : Numbers) (k : Known) (sid : Sid) (told : Heard) → messages_in told ≡ None → knows_by limits k (Dm sid (call.GetEvents 0 65536)) told ≡ k
+pub told_none : (limits : Numbers) (k : Known) (sid : Sid) (told : Heard) → messages_in told ≡ None → knows_by limits k (Dm sid (call.GetEvents 0 buffer_bytes)) told ≡ k
 told_none limits k sid (heard.Dm (reply.Packed bytes tokens)) none = cc
 told_none limits k sid (heard.Dm answer) none = refl
 told_none limits k sid told none = refl
-
-pub told_some : (limits : Numbers) (k : Known) (sid : Sid) (told : Heard) (bytes : List ℕ) → messages_in told ≡ Some bytes
-    → knows_by limits k (Dm sid (call.GetEvents 0 65536)) told ≡ record k { seat = record (k.seat) { kept = k.seat.kept ++ events_in Migrate bytes } }
-told_some limits k sid (heard.Dm (reply.Packed b tokens)) bytes some =
-    ap (λ (o : Option (List ℕ)). record k { seat = record (k.seat) { kept = k.seat.kept ++ events_in Migrate (unwrap_or o []) } }) some
-told_some limits k sid told bytes some = cc
-
-pub not_settled : (limits : Numbers) (k : Known) (sid : Sid) (t : Token) (response : Response) (told : Heard) → is_settled told ≡ false → knows_by limits k (Dm sid (call.Respond t response)) told ≡ k
-not_settled limits k sid t response (heard.Dm reply.Done) no_more = cc
-not_settled limits k sid t response (heard.Dm (reply.Refused why.NoToken)) no_more = cc
-not_settled limits k sid t response (heard.Dm (reply.Refused (why.NotYours owner))) no_more = cc
-not_settled limits k sid t response (heard.Dm answer) no_more = refl
-not_settled limits k sid t response told no_more = refl
-
-pub settled : (limits : Numbers) (k : Known) (sid : Sid) (t : Token) (response : Response) (told : Heard) → is_settled told ≡ true
-    → knows_by limits k (Dm sid (call.Respond t response)) told ≡ record k { seat = record (k.seat) { kept = forgot t k.seat.kept } }
-settled limits k sid t response (heard.Dm reply.Done) is = refl
-settled limits k sid t response (heard.Dm (reply.Refused why.NoToken)) is = refl
-settled limits k sid t response (heard.Dm (reply.Refused (why.NotYours owner))) is = refl
-settled limits k sid t response told is = cc
 
 -- ---- it goes on with what it knows then
 
@@ -111,7 +91,7 @@ free_space limits k pass sid s (heard.Dm (reply.Space used total)) free = record
 free_space limits k pass sid s (heard.Dm answer) free = free
 free_space limits k pass sid s told free = free
 
-pub free_events : (limits : Numbers) (k : Known) (pass : Pass) (sid s : Sid) (told : Heard) → IsFree k pass sid → IsFree (knows_by limits k (Dm s (call.GetEvents 0 65536)) told) pass sid
+pub free_events : (limits : Numbers) (k : Known) (pass : Pass) (sid s : Sid) (told : Heard) → IsFree k pass sid → IsFree (knows_by limits k (Dm s (call.GetEvents 0 buffer_bytes)) told) pass sid
 free_events limits k pass sid s (heard.Dm (reply.Packed bytes tokens)) free = record { seated = record { session = free.seated.session; set = free.seated.set; found = free.seated.found }; over = free.over; answered = none_served k.seat.kept bytes free.answered }
 free_events limits k pass sid s (heard.Dm answer) free = free
 free_events limits k pass sid s told free = free
@@ -127,12 +107,12 @@ pub lives : (sid : Sid) (c : DmCall) (told : Heard) → is_gone told ≡ false �
 lives sid c (heard.Dm (reply.Refused why.NoSession)) no_more gone = cc
 lives sid c told no_more gone = cc
 
-pub not_all : (sid : Sid) (told : Heard) → has_no_more told ≡ false → HasAll (Dm sid (call.GetEvents 0 65536)) told → ⊥
+pub not_all : (sid : Sid) (told : Heard) → has_no_more told ≡ false → HasAll (Dm sid (call.GetEvents 0 buffer_bytes)) told → ⊥
 not_all sid (heard.Dm (reply.Refused why.Again)) no_more all = cc
 not_all sid told no_more all = all
 
 -- there are no more events
-pub all_told : (sid : Sid) (told : Heard) → has_no_more told ≡ true → HasAll (Dm sid (call.GetEvents 0 65536)) told
+pub all_told : (sid : Sid) (told : Heard) → has_no_more told ≡ true → HasAll (Dm sid (call.GetEvents 0 buffer_bytes)) told
 all_told sid (heard.Dm (reply.Refused why.Again)) is = (refl, refl)
 all_told sid told is = cc
 
@@ -168,10 +148,6 @@ turns_look s pass sid told free living none =
       may = (free, inr (refl, no_table_told told none));
       stands = (refl, free);
     }))
-
-pub table_is : (told : Heard) (table : Table) → table_in told ≡ Some table → told ≡ heard.Dm (reply.Table table)
-table_is (heard.Dm (reply.Table table')) table is = ap (λ (t : Table). heard.Dm (reply.Table t)) (same_Some _ _ is)
-table_is told table is = cc
 
 none_contained : {X : Type 0} (x : X) → Contains [] x → ⊥
 none_contained x has = absurd (omega (arith, has.1))

@@ -1,10 +1,12 @@
 -- In a pass each answer keeps what the pass is.
-use Rattle.std.proofs.Common.{◌≡◌, ◌≢◌, ℕ, zero, suc, ◌+◌, ◌<◌, ◌≤◌, ◌⊎◌, Bool, true, false, List, [], ◌∷◌, ◌++◌, length, slice_get, Option, Some, None, Result, Ok, Err, refl, ap, sym, ◌∙◌, inl, inr, subst, arith}
+use Rattle.std.proofs.Common.{◌≡◌, ◌≢◌, ℕ, zero, suc, ◌+◌, ◌<◌, ◌≤◌, ◌⊎◌, Bool, true, false, List, [], ◌∷◌, ◌++◌, length, slice_get, Option, Some}
+use Rattle.std.proofs.Common.{None, Result, Ok, Err, refl, ap, sym, ◌∙◌, inl, inr, subst, arith}
 use Rattle.std.specs.Prelude.{IfOk, OnOk, if◌then◌else◌, ◌==◌}
 use Rattle.std.specs.declared.alloc.AllocError.{AllocError}
 use Rattle.std.proofs.lemmas.List.Elements.{Contains-append_left, Contains-push, Contains-push_cases}
 use Rattle.std.proofs.lemmas.Bool.Decides.{nat_tests}
 use Rattle.std.proofs.lemmas.Option.{same_Some}
+use Rattle.hsm_types.specs.Limits.{segment_bytes}
 use Rattle.hsm_types.specs.Regions.{covers}
 use Rattle.hsm_types.specs.declared.daemons.Act.{Act}
 use Rattle.hsm_types.specs.declared.daemons.Heard.{Heard}
@@ -27,7 +29,8 @@ use Rattle.migrate_daemon.specs.declared.stages.Turn.{Turn}
 use Rattle.migrate_daemon.specs.declared.stages.Work.{Work}
 use Rattle.migrate_daemon.specs.declared.stages.Work.TheVariants.{Covering, Setting, Reading, Sealing, Punching}
 use Rattle.migrate_daemon.specs.Known.{Known, knows_by}
-use Rattle.migrate_daemon.specs.Passes.{Pass, Exchange, Passed, IsDone, IsListed, IsEnd, EndsAt, IsEndedBy, IsCopy, IsFull, IsSkip, IsCallOf, skip_of, punches, copies}
+use Rattle.migrate_daemon.specs.Passes.{Pass, Exchange, Passed, IsDone, IsListed, IsEnd, EndsAt, IsEndedBy, IsCopy, IsFull, IsSkip, IsCallOf}
+use Rattle.migrate_daemon.specs.Passes.{skip_of, punches, copies}
 use Rattle.migrate_daemon.specs.Machine.{MayTake, SaysNothing, LeadsOn, SkipsAt, IsCovered, ComesAnew, HasAll}
 use Rattle.migrate_daemon.specs.Hearing.{is_gone, is_done, refusal_in, regions_in, reply_in, copied_in}
 use Rattle.migrate_daemon.specs.Standing.{Standing}
@@ -298,7 +301,7 @@ turns_punched old pass p answer new turn holds is gives =
     (gives pass (punches pass.sid p) (heard.Dm reply.Done) (inr refl) (λ all. all)))
 
 -- the bytes are copied
-pub turns_read : (s : Standing) (pass : Pass) (p : Picked) (bytes : List ℕ) → Holds s pass p → p.sealed ≡ false → bytes ≢ [] → length bytes ≤ 65536
+pub turns_read : (s : Standing) (pass : Pass) (p : Picked) (bytes : List ℕ) → Holds s pass p → p.sealed ≡ false → bytes ≢ [] → length bytes ≤ segment_bytes
     → Turns s pass (asked_for pass.sid p Reading) (heard.Dm (reply.Data bytes)) s pass (record { stage = Copying p; act = copies p pass.volume bytes })
 turns_read s pass p bytes holds sealed some within =
     turns_work s pass p Reading (heard.Dm (reply.Data bytes)) s pass _ (λ gone. cc) (moves_same s.limits.volumes pass _ _ (λ full. full) (λ ends. ends.2)) (record {

@@ -1,5 +1,6 @@
 -- With each answer that says something a pass comes nearer to its end.
-use Rattle.std.proofs.Common.{◌≡◌, ℕ, zero, suc, ◌+◌, ◌-◌, ◌*◌, ◌<◌, ◌≤◌, ◌⊎◌, List, [], ◌∷◌, length, slice_get, Option, Some, None, Err, ap, sym, ◌∙◌, inl, inr, subst, arith}
+use Rattle.std.proofs.Common.{◌≡◌, ℕ, zero, suc, ◌+◌, ◌-◌, ◌*◌, ◌<◌, ◌≤◌, ◌⊎◌, List, [], ◌∷◌, length, slice_get, Option, Some, None, Err, ap, sym}
+use Rattle.std.proofs.Common.{◌∙◌, inl, inr, subst, arith}
 use Rattle.std.proofs.lemmas.Option.{same_Some}
 use Rattle.hsm_types.specs.declared.daemons.Act.{Act}
 use Rattle.hsm_types.specs.declared.daemons.Act.TheVariants.{Dm, Copy}
@@ -15,7 +16,8 @@ use Rattle.hsm_policy.specs.Settings.{Numbers}
 use Rattle.hsm_policy.specs.declared.picking.Picked.{Picked}
 use Rattle.migrate_daemon.specs.Known.{Known, knows_by}
 use Rattle.migrate_daemon.specs.Passes.{Pass, begun_pass, IsCallOf, IsCopy, IsEnd, IsFull, IsSkip, EndsAt}
-use Rattle.migrate_daemon.specs.Machine.{Machine, GoesOn, MayGive, MayPass, MayTake, IsOfPass, IsTable, IsToCopyAgain, SaysNothing, LeadsOn, SkipsAt, VolumeStays, Stays, ComesTo}
+use Rattle.migrate_daemon.specs.Machine.{Machine, GoesOn, MayGive, MayPass, MayTake, IsOfPass, IsTable, IsToCopyAgain, SaysNothing, LeadsOn, SkipsAt}
+use Rattle.migrate_daemon.specs.Machine.{VolumeStays, Stays, ComesTo}
 use Rattle.migrate_daemon.specs.Bounds.{IsPassing, SaysSomething, step_of, acts_left, most_acts}
 use Rattle.migrate_daemon.proofs.Turning.{call_of_pass}
 

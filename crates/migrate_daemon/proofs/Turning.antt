@@ -58,9 +58,6 @@ full_of_pass volume Idle told is = absurd is
 
 -- ---- more is told
 
-exchange : Act → Heard → Exchange
-exchange asked told = record { asked = asked; heard = told }
-
 pub done_longer : (talk more : List Exchange) (pass : Pass) (p : Picked) → IsDone talk pass p → IsDone (talk ++ more) pass p
 done_longer talk more pass p (inl has) = inl (Contains-append_left talk more _ has)
 done_longer talk more pass p (inr d) = inr (d.0, d.1, d.2, d.3, Contains-append_left talk more _ d.4)

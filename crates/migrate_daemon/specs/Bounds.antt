@@ -22,7 +22,8 @@ step_of act = 0
 abbrev pub most_acts : ℕ → List Picked → ℕ
 most_acts volumes picks = 6 * length picks + 2 * (volumes - 1)
 
--- those to come at most: six for each pick that is not done, but for the steps taken, and a read and a copy again for each volume that may still be found full, but for the last
+-- those to come at most: six for each pick that is not done, but for the steps taken, and a read and a copy again for each volume that may still
+-- be found full, but for the last
 abbrev pub acts_left : Machine → ℕ
 acts_left m = 6 * (length m.pass.picks - m.pass.at) + 2 * (m.limits.volumes - (m.pass.volume + 1)) - step_of m.asked
 

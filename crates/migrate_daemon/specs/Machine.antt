@@ -1,13 +1,16 @@
 -- The migration machine as contracts see it, and what it may do.
-use Rattle.std.specs.Prelude.{◌≡◌, ◌≢◌, ℕ, ◌+◌, ◌<◌, ◌≤◌, ◌⊎◌, List, [], ◌∷◌, ◌++◌, length, slice_get, Bool, true, false, if◌then◌else◌, Some, None, Ok, Contains}
+use Rattle.std.specs.Prelude.{◌≡◌, ◌≢◌, ℕ, ◌+◌, ◌<◌, ◌≤◌, ◌⊎◌, List, [], ◌∷◌, ◌++◌, length, slice_get, Bool, true, false, if◌then◌else◌, Some, None}
+use Rattle.std.specs.Prelude.{Ok, Contains}
 use Rattle.std.specs.List.{All}
+use Rattle.hsm_types.specs.Limits.{segment_bytes, buffer_bytes}
 use Rattle.hsm_types.specs.Regions.{covers}
 use Rattle.hsm_types.specs.declared.daemons.Act.{Act}
 use Rattle.hsm_types.specs.declared.daemons.Act.TheVariants.{Dm, Copy, Fetch, Idle}
 use Rattle.hsm_types.specs.declared.daemons.Heard.{Heard}
 use Rattle.hsm_types.specs.declared.daemons.Heard.TheVariants as heard
 use Rattle.hsm_types.specs.declared.dm.DmCall.{DmCall}
-use Rattle.hsm_types.specs.declared.dm.DmCall.TheVariants.{GetAllSessions, GetEvents, GetSpace, GetTable, Respond, GetRegion, SetRegion, ReadInvis, Seal, PunchHole}
+use Rattle.hsm_types.specs.declared.dm.DmCall.TheVariants.{GetAllSessions, GetEvents, GetSpace, GetTable, Respond, GetRegion, SetRegion, ReadInvis}
+use Rattle.hsm_types.specs.declared.dm.DmCall.TheVariants.{Seal, PunchHole}
 use Rattle.hsm_types.specs.declared.dm.DmReply.{DmReply}
 use Rattle.hsm_types.specs.declared.dm.DmReply.TheVariants as reply
 use Rattle.hsm_types.specs.declared.dm.DmRefusal.TheVariants as why
@@ -27,7 +30,8 @@ use Rattle.daemon_session.specs.Seats.{first_id, Refuses, IsSeated, MayEnter}
 use Rattle.daemon_session.specs.Members.{IsRefusedOne}
 use Rattle.migrate_daemon.specs.Known.{Known, nothing_known, is_due, knows_by, asks_by}
 use Rattle.migrate_daemon.specs.Shares.{share}
-use Rattle.migrate_daemon.specs.Passes.{Pass, begun_pass, no_pass, Exchange, Passed, IsOver, IsSkip, IsEnd, EndsAt, IsFull, IsCopy, skip_of, told_since, asks_regions, sets_regions, reads, seals, punches, copies}
+use Rattle.migrate_daemon.specs.Passes.{Pass, begun_pass, no_pass, Exchange, Passed, IsOver, IsSkip, IsEnd, EndsAt, IsFull, IsCopy, skip_of}
+use Rattle.migrate_daemon.specs.Passes.{told_since, asks_regions, sets_regions, reads, seals, punches, copies}
 
 pub record Machine : Type 0 where
   pub limits : Numbers
@@ -63,7 +67,7 @@ NoneServed kept = All (λ (k : Kept). k.marked ≡ false) kept
 
 -- it asked for events, and there is none more
 abbrev pub HasAll : Act → Heard → Type 0
-HasAll (Dm sid (GetEvents most room)) (heard.Dm (reply.Refused why.Again)) = (most ≡ 0) × (room ≡ 65536)
+HasAll (Dm sid (GetEvents most room)) (heard.Dm (reply.Refused why.Again)) = (most ≡ 0) × (room ≡ buffer_bytes)
 HasAll asked told = ⊥
 
 -- no pass is under way, and each event that a pass served is answered
@@ -158,7 +162,7 @@ MayTake volumes old new p asked told (Dm sid (ReadInvis t h offset len)) = (Dm s
 MayTake volumes old new p asked told (Dm sid (Seal t h segment entry)) = (Dm sid (Seal t h segment entry) ≡ seals new.sid p entry) × (p.sealed ≡ false) × MaySeal volumes new.sid p entry asked told
 MayTake volumes old new p asked told (Dm sid (PunchHole t h offset len)) = (Dm sid (PunchHole t h offset len) ≡ punches new.sid p) × MayPunch volumes new.sid p asked told
 -- the bytes just read of the segment, to the lowest volume that wasn't found full
-MayTake volumes old new p asked told (Copy volume h segment bytes) = (Copy volume h segment bytes ≡ copies p new.volume bytes) × (p.sealed ≡ false) × (asked ≡ reads new.sid p) × (told ≡ heard.Dm (reply.Data bytes)) × (bytes ≢ []) × (length bytes ≤ 65536) × (new.volume < volumes)
+MayTake volumes old new p asked told (Copy volume h segment bytes) = (Copy volume h segment bytes ≡ copies p new.volume bytes) × (p.sealed ≡ false) × (asked ≡ reads new.sid p) × (told ≡ heard.Dm (reply.Data bytes)) × (bytes ≢ []) × (length bytes ≤ segment_bytes) × (new.volume < volumes)
 MayTake volumes old new p asked told act = ⊥
 
 -- the segment at which the pass stands
@@ -178,7 +182,7 @@ answer_of punched = if punched then Continue else Abort 28
 -- the calls outside of passes
 abbrev pub MayCall : Numbers → Known → Pass → Act → Heard → Sid → DmCall → Type 0
 MayCall limits k pass asked told sid GetSpace = IsFree k pass sid × WantsSpace k
-MayCall limits k pass asked told sid (GetEvents most room) = IsFree k pass sid × (most ≡ 0) × (room ≡ 65536) × (WantsSpace k → ⊥) × (HasAll asked told → ⊥)
+MayCall limits k pass asked told sid (GetEvents most room) = IsFree k pass sid × (most ≡ 0) × (room ≡ buffer_bytes) × (WantsSpace k → ⊥) × (HasAll asked told → ⊥)
 MayCall limits k pass asked told sid GetTable = IsFree k pass sid × MayLook limits k asked told sid
 MayCall limits k pass asked told sid (Respond t response) = IsSeated k.seat sid × IsOver pass × IsServed k.seat.kept t × (response ≡ answer_of k.punched)
 MayCall limits k pass asked told sid call = MayEnter Migrate k.seat asked told sid call
@@ -237,5 +241,5 @@ pub record GoesOn (old : Machine) (told : Heard) (act : Act) (new : Machine) : T
 
 -- the bytes that it hears are at most those of a segment
 abbrev pub IsWithin : Heard → Type 0
-IsWithin (heard.Dm (reply.Data bytes)) = length bytes ≤ 65536
+IsWithin (heard.Dm (reply.Data bytes)) = length bytes ≤ segment_bytes
 IsWithin told = Unit {0}

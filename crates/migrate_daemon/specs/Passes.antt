@@ -1,5 +1,6 @@
 -- A pass of migration, over what was asked and heard since its table.
 use Rattle.std.specs.Prelude.{◌≡◌, ℕ, ◌+◌, ◌*◌, ◌<◌, ◌⊎◌, List, [], ◌∷◌, ◌++◌, length, slice_get, Option, Some, None, Err, Contains}
+use Rattle.hsm_types.specs.Limits.{segment_bytes}
 use Rattle.hsm_types.specs.declared.daemons.Act.{Act}
 use Rattle.hsm_types.specs.declared.daemons.Act.TheVariants.{Dm, Copy}
 use Rattle.hsm_types.specs.declared.daemons.Heard.{Heard}
@@ -41,7 +42,7 @@ no_pass = begun_pass (record { 0 = 0 }) []
 -- ---- the calls of a pass
 
 abbrev pub start_of : Picked → ℕ
-start_of p = 65536 * p.segment
+start_of p = segment_bytes * p.segment
 
 abbrev pub whole_file : List Region
 whole_file = record { offset = 0; size = 0; flags = 7 } ∷ []
@@ -53,13 +54,13 @@ abbrev pub sets_regions : Sid → Picked → Act
 sets_regions sid p = Dm sid (SetRegion no_token p.handle whole_file)
 
 abbrev pub reads : Sid → Picked → Act
-reads sid p = Dm sid (ReadInvis no_token p.handle (start_of p) 65536)
+reads sid p = Dm sid (ReadInvis no_token p.handle (start_of p) segment_bytes)
 
 abbrev pub seals : Sid → Picked → StubEntry → Act
 seals sid p entry = Dm sid (Seal no_token p.handle p.segment entry)
 
 abbrev pub punches : Sid → Picked → Act
-punches sid p = Dm sid (PunchHole no_token p.handle (start_of p) 65536)
+punches sid p = Dm sid (PunchHole no_token p.handle (start_of p) segment_bytes)
 
 abbrev pub copies : Picked → ℕ → List ℕ → Act
 copies p volume bytes = Copy volume p.handle p.segment bytes

@@ -1,9 +1,11 @@
 -- What the machine waits for where it is.
 use Rattle.std.specs.Prelude.{◌≡◌, ◌<◌, Bool, false, None}
+use Rattle.hsm_types.specs.Limits.{buffer_bytes}
 use Rattle.hsm_types.specs.declared.daemons.Act.{Act}
 use Rattle.hsm_types.specs.declared.daemons.Act.TheVariants.{Dm, Idle}
 use Rattle.hsm_types.specs.declared.daemons.Heard.{Heard}
-use Rattle.hsm_types.specs.declared.dm.DmCall.TheVariants.{CreateSession, GetAllSessions, QuerySession, SetDisp, GetEvents, GetAllTokens, FindEventMsg, Respond, GetSpace, GetTable}
+use Rattle.hsm_types.specs.declared.dm.DmCall.TheVariants.{CreateSession, GetAllSessions, QuerySession, SetDisp, GetEvents, GetAllTokens}
+use Rattle.hsm_types.specs.declared.dm.DmCall.TheVariants.{FindEventMsg, Respond, GetSpace, GetTable}
 use Rattle.hsm_types.specs.declared.dm.Response.{Response}
 use Rattle.hsm_types.specs.declared.keys.Sid.{Sid}
 use Rattle.hsm_policy.specs.declared.picking.Picked.{Picked}
@@ -82,7 +84,7 @@ Stands Outside s pass asked = (asked ≡ Idle) × (s.known.seat.sid ≡ None) ×
 Stands Entering s pass asked = (asked ≡ s.way) × IsEntering s pass
 Stands (Resting sid) s pass asked = (asked ≡ Idle) × IsFree s.known pass sid
 Stands (Measuring sid) s pass asked = (asked ≡ Dm sid GetSpace) × IsFree s.known pass sid
-Stands (Asking sid) s pass asked = (asked ≡ Dm sid (GetEvents 0 65536)) × IsFree s.known pass sid
+Stands (Asking sid) s pass asked = (asked ≡ Dm sid (GetEvents 0 buffer_bytes)) × IsFree s.known pass sid
 Stands (Looking sid) s pass asked = (asked ≡ Dm sid GetTable) × IsFree s.known pass sid
 Stands (Working p work) s pass asked = (asked ≡ asked_for pass.sid p work) × Holds s pass p × Suits p work
 Stands (Copying p) s pass asked = IsCopy p pass.volume asked × Holds s pass p × (p.sealed ≡ false)

@@ -1,7 +1,8 @@
 //! What an answer says.
 ghost use Rattle.std.specs.Prelude.{◌≡◌, Some, None, MatchOption, IfOk, IfErr};
 ghost use Rattle.hsm_types.specs.Regions.{covers};
-ghost use Rattle.migrate_daemon.specs.Hearing.{is_gone, has_no_more, is_settled, space_in, messages_in, table_in, is_done, refusal_in, regions_in, data_in, reply_in, copied_in};
+ghost use Rattle.migrate_daemon.specs.Hearing.{is_gone, has_no_more, is_settled, space_in, messages_in, table_in, is_done, refusal_in, regions_in};
+ghost use Rattle.migrate_daemon.specs.Hearing.{data_in, reply_in, copied_in};
 
 use crate::shares::Space;
 use hsm_types::{Bytes, CopyRefusal, DmRefusal, DmReply, Heard, Region, StubEntry, Table};

@@ -3,6 +3,7 @@ ghost use Rattle.std.specs.Prelude.{◌≡◌, ◌≢◌, ◌++◌, ◌≤◌, [
 ghost use Rattle.daemon_session.specs.Tellings.{events_in};
 ghost use Rattle.daemon_session.specs.Members.{Enters, IsOnWay};
 ghost use Rattle.daemon_session.specs.Seats.{first_id, forgot, all_marked};
+ghost use Rattle.hsm_types.specs.Limits.{most_volumes};
 ghost use Rattle.hsm_types.specs.declared.daemons.Daemon.TheVariants.{Migrate};
 ghost use Rattle.hsm_types.specs.declared.daemons.Act.TheVariants.{Dm, Idle};
 ghost use Rattle.hsm_types.specs.declared.dm.DmCall.TheVariants.{GetAllSessions};
@@ -19,7 +20,7 @@ use std::alloc::{AllocError, Global};
 use std::marker::Model;
 
 /// What the daemon goes by, and what it knows.
-#[derive(Debug, Drop)]
+#[derive(Drop)]
 pub(crate) struct Knowledge {
     settings: Settings,
     member: Member,
@@ -179,7 +180,7 @@ impl Knowledge {
     pub(crate) fn volumes(&self) -> u32
         ensures volumes { result ≡ self.now.limits.volumes }
         ensures some { 1 ≤ result }
-        ensures few { result ≤ 256 }
+        ensures few { result ≤ most_volumes }
     {
         self.settings.volumes()
     }

@@ -1,5 +1,6 @@
 //! How far a pass is.
 ghost use Rattle.std.specs.Prelude.{◌≡◌, ◌+◌, ◌<◌, ◌++◌, ◌∷◌, [], length, slice_get, Some, OnOk, OnErr, MatchOption, None};
+ghost use Rattle.hsm_types.specs.Limits.{most_volumes};
 ghost use Rattle.migrate_daemon.specs.Passes.{no_pass, begun_pass, skip_of};
 
 use crate::skips::Skip;
@@ -9,7 +10,7 @@ use std::alloc::{AllocError, Global};
 use std::marker::Model;
 
 /// What a pass goes over, and how far it is.
-#[derive(Debug, Drop)]
+#[derive(Drop)]
 pub(crate) struct Progress {
     sid: Sid,
     picks: Picks,
@@ -131,7 +132,7 @@ impl Progress {
 
     /// Its volume is full, or not there.
     pub(crate) fn leave_volume(&mut self)
-        requires { self.old.volume < 256 }
+        requires { self.old.volume < most_volumes }
         ensures { self.new ≡ record self.old { volume = self.old.volume + 1 } }
     {
         self.volume += 1;

@@ -1,6 +1,7 @@
 //! What the machine does between passes.
 ghost use Rattle.std.specs.Prelude.{◌≡◌, false, IfOk, OnOk, OnErr};
 ghost use Rattle.daemon_session.specs.Seats.{IsSeated};
+ghost use Rattle.hsm_types.specs.Limits.{buffer_bytes};
 ghost use Rattle.hsm_types.specs.declared.daemons.Act.{Act as Acted};
 ghost use Rattle.hsm_types.specs.declared.daemons.Act.TheVariants.{Dm};
 ghost use Rattle.hsm_types.specs.declared.daemons.Heard.{Heard as Told};
@@ -18,8 +19,7 @@ ghost use Rattle.migrate_daemon.specs.Turns.{Gives, Turns};
 use crate::hearing::{has_no_more, is_settled, messages_of, space_of};
 use crate::knowledge::Knowledge;
 use crate::stages::{Stage, Turn};
-use daemon_session::ROOM;
-use hsm_types::{Act, DmCall, Heard, Sid, Token};
+use hsm_types::{Act, BUFFER_BYTES as ROOM, DmCall, Heard, Sid, Token};
 use std::alloc::AllocError;
 
 fn measure(sid: Sid) -> Turn
@@ -109,7 +109,7 @@ fn hear_space(knowledge: &mut Knowledge, told: &Heard)
 
 /// Takes in messages of events.
 fn hear_events(knowledge: &mut Knowledge, told: &Heard) -> Result<(), AllocError>
-    ensures ok { OnOk result ((sid : SessionId) → knowledge.new ≡ with_known (knows_by knowledge.old.limits knowledge.old.known (Dm sid (call.GetEvents 0 65536)) told.now) knowledge.old) }
+    ensures ok { OnOk result ((sid : SessionId) → knowledge.new ≡ with_known (knows_by knowledge.old.limits knowledge.old.known (Dm sid (call.GetEvents 0 buffer_bytes)) told.now) knowledge.old) }
     ensures err { OnErr result (knowledge.new ≡ knowledge.old) }
 {
     match messages_of(told) {
@@ -143,7 +143,7 @@ pub(crate) fn on_events(
     told: &Heard,
 ) -> Result<Turn, AllocError>
     requires { is_gone told.now ≡ false }
-    ensures ok { IfOk result (λ turn. (pass : Pass) → IsFree knowledge.old.known pass sid → Turns knowledge.old pass (Dm sid (call.GetEvents 0 65536)) told.now knowledge.new pass turn) }
+    ensures ok { IfOk result (λ turn. (pass : Pass) → IsFree knowledge.old.known pass sid → Turns knowledge.old pass (Dm sid (call.GetEvents 0 buffer_bytes)) told.now knowledge.new pass turn) }
     ensures err { OnErr result (knowledge.new ≡ knowledge.old) }
 {
     if has_no_more(told) {

@@ -3,7 +3,7 @@ ghost use Rattle.std.specs.Prelude.{◌≡◌, ◌<◌, ◌≤◌};
 ghost use Rattle.migrate_daemon.specs.Shares.{share, is_above};
 
 /// How many blocks are used, and how many there are.
-#[derive(Clone, Copy, Debug, PartialEq, Eq)]
+#[derive(Clone, Copy, PartialEq, Eq)]
 pub(crate) struct Space {
     pub(crate) used: u64,
     pub(crate) total: u64,

@@ -3,7 +3,7 @@
 use hsm_types::{DmReply, Handle};
 
 /// A segment that was skipped, and the answer for which it was.
-#[derive(Debug, PartialEq, Drop)]
+#[derive(Drop)]
 pub struct Skip {
     pub handle: Handle,
     pub segment: u32,

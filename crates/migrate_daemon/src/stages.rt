@@ -13,7 +13,7 @@ use std::alloc::{AllocError, Global};
 const NO_TOKEN: Token = Token(0);
 
 /// What the machine waits for.
-#[derive(Clone, Copy, Debug, PartialEq, Eq)]
+#[derive(Clone, Copy, PartialEq, Eq)]
 pub(crate) enum Stage {
     /// Nothing, and it has no session.
     Outside,
@@ -36,7 +36,7 @@ pub(crate) enum Stage {
 }
 
 /// The calls of a pass on a segment.
-#[derive(Clone, Copy, Debug, PartialEq, Eq)]
+#[derive(Clone, Copy, PartialEq, Eq)]
 pub(crate) enum Work {
     /// Which regions the file has.
     Covering,
@@ -48,14 +48,14 @@ pub(crate) enum Work {
 }
 
 /// What the machine does next, and waits for then.
-#[derive(Debug, Drop)]
+#[derive(Drop)]
 pub(crate) struct Turn {
     pub(crate) stage: Stage,
     pub(crate) act: Act,
 }
 
 fn start_of(pick: Picked) -> u64
-    ensures { result ≡ 65536 * pick.segment }
+    ensures { result ≡ SEGMENT_BYTES * pick.segment }
 {
     SEGMENT_BYTES * u64::from(pick.segment)
 }
@@ -119,7 +119,7 @@ pub(crate) fn read(pass: &Progress, pick: Picked) -> Turn
 
 /// Copies the segment's bytes to the lowest volume that wasn't found full.
 pub(crate) fn copy(pass: &Progress, pick: Picked, bytes: Bytes) -> Turn
-    requires { length bytes ≤ 65536 }
+    requires { length bytes ≤ SEGMENT_BYTES }
     ensures { result ≡ record { stage = Stage.Copying pick; act = copies pick pass.now.volume bytes } }
 {
     Turn {

@@ -6,7 +6,7 @@ use crate::stages::Work;
 use hsm_types::DmRefusal;
 
 /// What a refusal comes to.
-#[derive(Clone, Copy, Debug, PartialEq, Eq)]
+#[derive(Clone, Copy, PartialEq, Eq)]
 pub(crate) enum Verdict {
     /// The segment is left as it is.
     Skips,

@@ -1,5 +1,6 @@
 //! What the answers to the calls of a pass lead to.
 ghost use Rattle.std.specs.Prelude.{◌≡◌, ◌≤◌, length, true, false, IfOk, OnErr, if◌then◌else◌};
+ghost use Rattle.hsm_types.specs.Limits.{segment_bytes};
 ghost use Rattle.migrate_daemon.specs.Hearing.{is_gone};
 ghost use Rattle.migrate_daemon.specs.Machine.{IsWithin, LeadsOn};
 ghost use Rattle.migrate_daemon.specs.Stages.{Holds, Suits, asked_for, works};
@@ -136,7 +137,7 @@ fn on_data(
     pick: Picked,
     bytes: Bytes,
 ) -> Result<Turn, AllocError>
-    requires within { length bytes ≤ 65536 }
+    requires within { length bytes ≤ segment_bytes }
     requires holds { Holds knowledge.now pass.old pick }
     requires suits { pick.sealed ≡ false }
     ensures ok { IfOk result (Turns knowledge.now pass.old (asked_for pass.old.sid pick Work.Reading) (Heard.Dm (DmReply.Data bytes)) knowledge.now pass.new) }

@@ -4,7 +4,7 @@ ghost use Rattle.std.specs.Prelude.{◌≡◌, ◌≤◌, IfOk, length};
 use crate::objects::ABC;
 use crate::shelf::{FILE, fetches, tells};
 use folder_drive::FolderDrive;
-use hsm_types::{Bytes, CopyRefusal, Fault, FetchRefusal, Fingerprint, StubEntry, Verified};
+use hsm_types::{Bytes, CopyRefusal, Fault, FetchRefusal, Fingerprint, Place, StubEntry, Verified};
 use media_model::{Drive, DriveRefusal, MemDrive};
 use std::alloc::{AllocError, Global};
 use std::process::Abort;
@@ -143,11 +143,7 @@ fn copies<D: Drive>(
 }
 
 fn entry(volume: u32, object: u32) -> StubEntry {
-    StubEntry {
-        volume,
-        object,
-        print: Fingerprint::of(b"abc"),
-    }
+    StubEntry::new(Place { volume, object }, Fingerprint::of(b"abc"))
 }
 
 /// Whether a fetch tells that.

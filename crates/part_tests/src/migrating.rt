@@ -5,8 +5,8 @@ ghost use Rattle.migrate_daemon.specs.Machine.{IsWithin};
 use hsm_policy::read_settings;
 use hsm_types::{
     Act, Bytes, CopyRefusal, Digest, DmCall, DmRefusal, DmReply, FileKey, FileRow, FileRows,
-    Fingerprint, Handle, Heard, Kinds, Region, Regions, Response, Right, Segment, Segments, Sid,
-    Sids, StubEntry, Table, Token, Tokens,
+    Fingerprint, Handle, Heard, Kinds, Place, Region, Regions, Response, Right, Segment, Segments,
+    Sid, Sids, StubEntry, Table, Token, Tokens,
 };
 use migrate_daemon::{Migrator, Skip};
 use std::alloc::Global;
@@ -26,12 +26,13 @@ enum Told {
     /// A message that an access is short of space, by token 4.
     Event,
     /// The files that there are, by their segments.
-    Table(&'static [&'static [Segment]]),
+    Table(&'static [&'static [State]]),
     Regions(&'static [Region]),
     Data,
     /// No bytes.
     NoData,
-    Copied(Result<StubEntry, CopyRefusal>),
+    /// That the bytes were copied, or why they weren't.
+    Copied(Result<(), CopyRefusal>),
     Refused(DmRefusal),
 }
 
@@ -84,20 +85,19 @@ const PRINT: Fingerprint = Fingerprint {
     digest: Digest([0; 32]),
 };
 
-const ENTRY: StubEntry = StubEntry {
-    volume: 1,
-    object: 3,
-    print: PRINT,
-};
+/// What is held of a segment: 16 blocks of bytes, these and an entry, or the entry alone.
+#[derive(Clone, Copy)]
+enum State {
+    Resident,
+    Sealed,
+    Away,
+}
 
-const HELD: Segment = Segment::Resident { blocks: 16 };
+const HELD: State = State::Resident;
 
-const SEALED: Segment = Segment::Sealed {
-    blocks: 16,
-    entry: ENTRY,
-};
+const SEALED: State = State::Sealed;
 
-const AWAY: Segment = Segment::Offline { entry: ENTRY };
+const AWAY: State = State::Away;
 
 /// An access by token 4 to the file 1.1.1 is short of space.
 static NO_SPACE: [u8; 64] = [
@@ -145,7 +145,7 @@ const BELOW: Told = Told::Space(800);
 
 const AGAIN: Told = Told::Refused(DmRefusal::Again);
 
-const COPIED: Told = Told::Copied(Ok(ENTRY));
+const COPIED: Told = Told::Copied(Ok(()));
 
 const FULL: Told = Told::Copied(Err(CopyRefusal::Full {
     used: 1,
@@ -435,13 +435,39 @@ static OTHERWISE: [Told; 8] = [
     Told::NoData,
 ];
 
+/// The entry of each segment that has one.
+fn entry_of_all() -> StubEntry {
+    let place = Place {
+        volume: 1,
+        object: 3,
+    };
+    StubEntry::new(place, PRINT)
+}
+
+fn segment(state: State) -> Segment {
+    match state {
+        State::Resident => Segment::Resident { blocks: 16 },
+        State::Sealed => Segment::Sealed {
+            blocks: 16,
+            entry: entry_of_all(),
+        },
+        State::Away => Segment::Offline {
+            entry: entry_of_all(),
+        },
+    }
+}
+
 /// `None` for want of memory.
-fn row(alloc: Global, number: u64, segments: &[Segment]) -> Option<FileRow> {
+fn row(alloc: Global, number: u64, all: &[State]) -> Option<FileRow> {
+    let mut segments = Vec::new(alloc);
+    for state in all {
+        segments.push(segment(*state)).ok()?;
+    }
     Some(FileRow {
         handle: file(number),
         size: 0,
         stamp: number,
-        segments: Segments::from(segments.to_vec(alloc).ok()?),
+        segments: Segments::from(segments),
     })
 }
 
@@ -456,7 +482,7 @@ fn file(number: u64) -> Handle {
 }
 
 /// `None` for want of memory.
-fn table(alloc: Global, files: &[&[Segment]]) -> Option<Table> {
+fn table(alloc: Global, files: &[&[State]]) -> Option<Table> {
     let mut rows = Vec::with_capacity(alloc, files.len()).ok()?;
     for (place, segments) in files.iter().enumerate() {
         rows.push(row(alloc, place as u64 + 1, segments)?).ok()?;
@@ -502,7 +528,8 @@ fn heard(alloc: Global, told: Told) -> Option<Heard>
 {
     match told {
         Told::Nothing => Some(Heard::Nothing),
-        Told::Copied(copied) => Some(Heard::Copied(copied)),
+        Told::Copied(Ok(())) => Some(Heard::Copied(Ok(entry_of_all()))),
+        Told::Copied(Err(why)) => Some(Heard::Copied(Err(why))),
         _ => Some(Heard::Dm(reply(alloc, told)?)),
     }
 }
@@ -582,7 +609,7 @@ fn called_within(call: &DmCall) -> Next {
             handle,
             segment,
             entry,
-        } if *entry == ENTRY => Next::Seal(number(handle), *segment),
+        } if *entry == entry_of_all() => Next::Seal(number(handle), *segment),
         DmCall::PunchHole {
             token: Token(0),
             handle,
@@ -610,10 +637,28 @@ fn next_of(act: &Act) -> Next {
     }
 }
 
+/// Whether both are the same refusal, or the same data.
+fn is_same(reply: &DmReply, other: &DmReply) -> bool {
+    match (reply, other) {
+        (DmReply::Refused(why), DmReply::Refused(other)) => why == other,
+        (DmReply::Data(bytes), DmReply::Data(other)) => bytes.as_slice() == other.as_slice(),
+        _ => false,
+    }
+}
+
+/// Whether both tell of a call the same, or of a copy the same refusal.
+fn is_heard(told: &Heard, other: &Heard) -> bool {
+    match (told, other) {
+        (Heard::Dm(reply), Heard::Dm(other)) => is_same(reply, other),
+        (Heard::Copied(Err(why)), Heard::Copied(Err(other))) => why == other,
+        _ => false,
+    }
+}
+
 /// Whether it is the first segment of the first file, for that answer.
 fn is_first(skip: &Skip, told: &Heard) -> bool {
     match told {
-        Heard::Dm(why) => skip.handle == file(1) && skip.segment == 0 && skip.why == *why,
+        Heard::Dm(why) => skip.handle == file(1) && skip.segment == 0 && is_same(&skip.why, why),
         _ => false,
     }
 }
@@ -622,7 +667,7 @@ fn fate_of(machine: &Migrator, told: &Heard) -> Fate {
     match (machine.skipped(), machine.ended()) {
         ([], None) => Fate::Goes,
         ([skip], None) if is_first(skip, told) => Fate::Skips,
-        ([], Some(why)) if *why == *told => Fate::Ends,
+        ([], Some(why)) if is_heard(why, told) => Fate::Ends,
         _ => Fate::Other,
     }
 }

@@ -1,5 +1,6 @@
 //! Objects of volumes: the bytes that are written, and what is read in bytes that nobody wrote.
 ghost use Rattle.std.specs.Prelude.{◌<◌, ◌≤◌, length};
+ghost use Rattle.hsm_types.specs.Limits.{segment_bytes};
 
 use hsm_types::{Bytes, FileKey, Handle, Verified};
 use std::alloc::{AllocError, Global};
@@ -19,7 +20,7 @@ const FILE: Handle = Handle {
 
 fn written(alloc: Global, payload: &[u8]) -> Result<Bytes, AllocError>
     requires some { 1 ≤ length payload.now }
-    requires most { length payload.now ≤ 65536 }
+    requires most { length payload.now ≤ segment_bytes }
 {
     let bytes = Verified::of(Bytes::from(payload.to_vec(alloc)?));
     write_object(alloc, &FILE, 7, &bytes)

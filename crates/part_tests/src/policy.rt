@@ -2,7 +2,8 @@
 
 use hsm_policy::{Picked, Settings, SettingsRefusal, pick, read_settings};
 use hsm_types::{
-    Digest, FileKey, FileRow, FileRows, Fingerprint, Handle, Segment, Segments, StubEntry, Table,
+    Digest, FileKey, FileRow, FileRows, Fingerprint, Handle, Place, Segment, Segments, StubEntry,
+    Table,
 };
 use std::alloc::{AllocError, Global};
 
@@ -144,14 +145,17 @@ fn settings_are_those_of_no_text(rt: HostRuntime) {
 
 // ---- picks
 
-const ENTRY: StubEntry = StubEntry {
-    volume: 0,
-    object: 0,
-    print: Fingerprint {
+fn entry() -> StubEntry {
+    let place = Place {
+        volume: 0,
+        object: 0,
+    };
+    let print = Fingerprint {
         len: 65536,
         digest: Digest([0; 32]),
-    },
-};
+    };
+    StubEntry::new(place, print)
+}
 
 fn resident(blocks: u32) -> Segment {
     Segment::Resident { blocks }
@@ -160,12 +164,12 @@ fn resident(blocks: u32) -> Segment {
 fn sealed(blocks: u32) -> Segment {
     Segment::Sealed {
         blocks,
-        entry: ENTRY,
+        entry: entry(),
     }
 }
 
 fn offline() -> Segment {
-    Segment::Offline { entry: ENTRY }
+    Segment::Offline { entry: entry() }
 }
 
 fn handle(ino: u64, igen: u64) -> Handle {

@@ -3,8 +3,8 @@
 use crate::answers::{REFUSALS, packed};
 use hsm_types::{
     Act, Bytes, Digest, DmCall, DmRefusal, DmReply, Fault, FetchRefusal, FileKey, Fingerprint,
-    Handle, Heard, MediaCause, Response, Right, Segment, Segments, Sid, Sids, StubEntry, Token,
-    Verified,
+    Handle, Heard, MediaCause, Place, Response, Right, Segment, Segments, Sid, Sids, StubEntry,
+    Token, Verified,
 };
 use recall_daemon::Recaller;
 use std::alloc::Global;
@@ -23,7 +23,7 @@ enum Told {
     Packed(&'static [u8]),
     /// The size of the file.
     Size(u64),
-    Segments(&'static [Segment]),
+    Segments(&'static [Held]),
     Refused(DmRefusal),
     Fetched,
     /// A fetch was refused as the drive failed.
@@ -104,17 +104,17 @@ const OTHER_PRINT: Fingerprint = Fingerprint {
     digest: Digest([0; 32]),
 };
 
-const FIRST: StubEntry = StubEntry {
-    volume: 0,
-    object: 4,
-    print: PRINT,
-};
+/// What is held of a segment: its bytes in so many blocks, bytes and the entry of that object, or the entry alone.
+#[derive(Clone, Copy)]
+enum Held {
+    Resident(u32),
+    Sealed(u32),
+    Away(u32),
+}
 
-const SECOND: StubEntry = StubEntry {
-    volume: 0,
-    object: 5,
-    print: PRINT,
-};
+const FIRST: u32 = 4;
+
+const SECOND: u32 = 5;
 
 const READ_TOLD: Told = Told::Packed(READ);
 
@@ -128,14 +128,11 @@ const SMALL: Told = Told::Size(3);
 
 const BIG: Told = Told::Size(131_072);
 
-const AWAY: Told = Told::Segments(&[Segment::Offline { entry: FIRST }]);
+const AWAY: Told = Told::Segments(&[Held::Away(FIRST)]);
 
-const BOTH_AWAY: Told = Told::Segments(&[
-    Segment::Offline { entry: FIRST },
-    Segment::Offline { entry: SECOND },
-]);
+const BOTH_AWAY: Told = Told::Segments(&[Held::Away(FIRST), Held::Away(SECOND)]);
 
-const THERE: Told = Told::Segments(&[Segment::Resident { blocks: 1 }]);
+const THERE: Told = Told::Segments(&[Held::Resident(1)]);
 
 const NO_MORE: Told = Told::Refused(DmRefusal::Again);
 
@@ -293,13 +290,7 @@ static ROWS: [(&[Told], Told, Next); 63] = [
     (MAPPING, Told::Segments(&[]), Next::Continue(1)),
     (
         MAPPING,
-        Told::Segments(&[
-            Segment::Sealed {
-                blocks: 1,
-                entry: FIRST,
-            },
-            Segment::Offline { entry: SECOND },
-        ]),
+        Told::Segments(&[Held::Sealed(FIRST), Held::Away(SECOND)]),
         Next::Continue(1),
     ),
     (MAPPING, Told::Done, Next::PutOff),
@@ -310,10 +301,7 @@ static ROWS: [(&[Told], Told, Next); 63] = [
     (MAPPING_LONG, BOTH_AWAY, Next::Fetch(4)),
     (
         MAPPING_LONG,
-        Told::Segments(&[
-            Segment::Resident { blocks: 64 },
-            Segment::Offline { entry: SECOND },
-        ]),
+        Told::Segments(&[Held::Resident(64), Held::Away(SECOND)]),
         Next::Fetch(5),
     ),
     (FETCHING, Told::Fetched, Next::Restore(1, 0)),
@@ -426,9 +414,36 @@ static REFUSED: [(&[Told], [Next; 5]); 8] = [
     ),
 ];
 
+/// The place of that object.
+fn place(object: u32) -> Place {
+    Place { volume: 0, object }
+}
+
+/// The entry of that object.
+fn entry_of(object: u32) -> StubEntry {
+    StubEntry::new(place(object), PRINT)
+}
+
+fn segment(held: Held) -> Segment {
+    match held {
+        Held::Resident(blocks) => Segment::Resident { blocks },
+        Held::Sealed(object) => Segment::Sealed {
+            blocks: 1,
+            entry: entry_of(object),
+        },
+        Held::Away(object) => Segment::Offline {
+            entry: entry_of(object),
+        },
+    }
+}
+
 /// `None` for want of memory.
-fn allocated(alloc: Global, segments: &[Segment]) -> Option<DmReply> {
-    Some(DmReply::Alloc(Segments::from(segments.to_vec(alloc).ok()?)))
+fn allocated(alloc: Global, all: &[Held]) -> Option<DmReply> {
+    let mut segments = Vec::new(alloc);
+    for held in all {
+        segments.push(segment(*held)).ok()?;
+    }
+    Some(DmReply::Alloc(Segments::from(segments)))
 }
 
 /// What it hears of a call. `None` for want of memory, and of no call.
@@ -443,7 +458,7 @@ fn answered(alloc: Global, told: Told) -> Option<DmReply> {
             stamp: 1,
             blocks: 1,
         }),
-        Told::Segments(segments) => allocated(alloc, segments),
+        Told::Segments(all) => allocated(alloc, all),
         Told::Refused(why) => Some(DmReply::Refused(why)),
         _ => None,
     }
@@ -452,9 +467,9 @@ fn answered(alloc: Global, told: Told) -> Option<DmReply> {
 /// Why a fetch was refused, where it was.
 fn why_not_fetched(told: Told) -> Option<FetchRefusal> {
     match told {
-        Told::Failed => Some(FetchRefusal::Media(MediaCause::failed(0, 4, 0, 1))),
+        Told::Failed => Some(FetchRefusal::Media(MediaCause::failed(place(FIRST), 0, 1))),
         Told::Damaged => {
-            let cause = MediaCause::damaged(0, 4, PRINT, OTHER_PRINT);
+            let cause = MediaCause::damaged(place(FIRST), PRINT, OTHER_PRINT);
             Some(FetchRefusal::Media(cause))
         }
         Told::Lost => Some(FetchRefusal::NoObject {
@@ -531,7 +546,7 @@ fn next_of(act: &Act) -> Next {
         Act::Dm(Sid(0), DmCall::GetAllSessions) => Next::List,
         Act::Dm(Sid(0), DmCall::CreateSession { .. }) => Next::Make,
         Act::Dm(Sid(7), call) => called(call),
-        Act::Fetch { entry } => Next::Fetch(entry.object),
+        Act::Fetch { entry } => Next::Fetch(entry.place().object),
         Act::Idle => Next::Rest,
         _ => Next::Other,
     }

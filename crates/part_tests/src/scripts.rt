@@ -1,7 +1,7 @@
 //! Scripts: what is printed is what was read, patterns by hand, and texts and limits of which no example tells.
 use hsm_types::{Call, Daemon};
 use plain_model::Action;
-use script_text::{Line, ParseRefusal, parse, print};
+use script_text::{Allowed, Line, ParseRefusal, Script, parse, parse_allowed, print};
 use std::alloc::Global;
 
 static PRINTED: [&str; 24] = [
@@ -56,13 +56,24 @@ const NO_EVENTS: [(&str, Line); 7] = [
     ("settle", Line::Settle),
 ];
 
+/// Whether both are the same line, and no event.
+fn is_same(line: &Line, other: &Line) -> bool {
+    match (line, other) {
+        (Line::Start(daemon), Line::Start(other))
+        | (Line::Kill(daemon), Line::Kill(other))
+        | (Line::Step(daemon), Line::Step(other)) => daemon == other,
+        (Line::Settle, Line::Settle) => true,
+        _ => false,
+    }
+}
+
 /// Whether the text is that line.
 fn is_line(alloc: Global, text: &str, want: &Line) -> bool {
     let Ok(script) = parse(alloc, text.as_bytes()) else {
         return false;
     };
     match script.as_slice() {
-        [line] => line == want,
+        [line] => is_same(line, want),
         _ => false,
     }
 }
@@ -115,7 +126,17 @@ fn have_patterns(rt: HostRuntime) {
 
 /// The first bad line, 0 for a script.
 fn bad_line(alloc: Global, text: &[u8]) -> u64 {
-    match parse(alloc, text) {
+    told(parse(alloc, text))
+}
+
+/// The same where calls of callers alone are allowed.
+fn bad_call(alloc: Global, text: &[u8]) -> u64 {
+    told(parse_allowed(alloc, text, Allowed::Calls))
+}
+
+/// The line that a refusal tells, 0 where nothing is refused.
+fn told(read: Result<Script, ParseRefusal>) -> u64 {
+    match read {
         Ok(_) => 0,
         Err(ParseRefusal::BadLine { line }) => line,
         Err(ParseRefusal::Memory) => u64::MAX,
@@ -339,6 +360,62 @@ fn have_limits(rt: HostRuntime) {
         assert!(rt;
             bad_line_of_many(rt.alloc(), line, *count, last) == Some(*want),
             "row {place}"
+        );
+    }
+}
+
+/// Calls of callers, one of each kind.
+static CALLS: &str =
+    "c1 create a\nc64 write a 0 x:00ff\nc2 write a 2 p:3:255\nc1 read a 1 2\nc1 truncate a 3\nc1 stat a\nc3 sync\nc1 remove a";
+
+/// How many lines a list of calls has, `None` where it is none.
+fn count_of_calls(alloc: Global, text: &str) -> Option<usize> {
+    let script = parse_allowed(alloc, text.as_bytes(), Allowed::Calls).ok()?;
+    Some(script.as_slice().len())
+}
+
+#[test]
+fn are_calls(rt: HostRuntime) {
+    assert!(rt; count_of_calls(rt.alloc(), CALLS) == Some(8));
+    assert!(rt; count_of_calls(rt.alloc(), "") == Some(0));
+}
+
+/// Lines that are no calls of callers.
+static NO_CALLS: [&str; 7] = [
+    "c1 resume",
+    "store commit",
+    "s0 sessions",
+    "start recall",
+    "kill migrate",
+    "step recall",
+    "settle",
+];
+
+/// Two calls, that line, and one that is none.
+fn with_calls(alloc: Global, line: &str) -> Option<Vec<u8>> {
+    let mut text = Vec::new(alloc);
+    text.extend_from_slice(b"c1 create a\nc1 sync\n").ok()?;
+    text.extend_from_slice(line.as_bytes()).ok()?;
+    text.extend_from_slice(b"\nc1 commit\n").ok()?;
+    Some(text)
+}
+
+/// The first bad line of these, and where calls of callers alone are allowed.
+fn bad_lines_with_calls(alloc: Global, line: &str) -> Option<(u64, u64)> {
+    let text = with_calls(alloc, line)?;
+    Some((
+        bad_line(alloc, text.as_slice()),
+        bad_call(alloc, text.as_slice()),
+    ))
+}
+
+#[test]
+fn are_no_calls(rt: HostRuntime) {
+    assert!(rt; bad_lines_with_calls(rt.alloc(), "c1 stat a") == Some((4, 4)));
+    for line in &NO_CALLS {
+        assert!(rt;
+            bad_lines_with_calls(rt.alloc(), line) == Some((4, 3)),
+            "{line}"
         );
     }
 }

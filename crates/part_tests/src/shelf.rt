@@ -1,8 +1,10 @@
 //! Copies of segments on a drive in memory: what a volume has of them, what is fetched, and what is told of faults and of damage.
 ghost use Rattle.std.specs.Prelude.{◌≤◌, IfOk, length};
+ghost use Rattle.hsm_types.specs.Limits.{segment_bytes};
 
 use hsm_types::{
-    Bytes, CopyRefusal, Fault, FetchRefusal, FileKey, Fingerprint, Handle, StubEntry, Verified,
+    Bytes, CopyRefusal, Fault, FetchRefusal, FileKey, Fingerprint, Handle, Place, StubEntry,
+    Verified,
 };
 use media_model::{Drive, DriveRefusal, FailingCall, MemDrive};
 use std::alloc::{AllocError, Global};
@@ -28,7 +30,7 @@ fn drive(alloc: Global, failing: &[u64]) -> Result<MemDrive, AllocError> {
 /// A copy of the bytes as segment 7 of the file.
 fn copied(alloc: Global, drive: &mut MemDrive, bytes: &[u8]) -> Result<StubEntry, CopyRefusal>
     requires some { 1 ≤ length bytes.now }
-    requires most { length bytes.now ≤ 65536 }
+    requires most { length bytes.now ≤ segment_bytes }
 {
     let Ok(bytes) = bytes.to_vec(alloc) else {
         return Err(CopyRefusal::Memory);
@@ -38,13 +40,9 @@ fn copied(alloc: Global, drive: &mut MemDrive, bytes: &[u8]) -> Result<StubEntry
 
 /// The entry of an object of the volume 0 with these bytes.
 fn entry(object: u32, bytes: &[u8]) -> StubEntry
-    requires { length bytes.now ≤ 65536 }
+    requires { length bytes.now ≤ segment_bytes }
 {
-    StubEntry {
-        volume: 0,
-        object,
-        print: Fingerprint::of(bytes),
-    }
+    StubEntry::new(Place { volume: 0, object }, Fingerprint::of(bytes))
 }
 
 pub(crate) fn fetches(outcome: &Result<Verified, FetchRefusal>, bytes: &[u8]) -> bool {
@@ -121,7 +119,7 @@ fn are_refused_where_any_call_fails(rt: HostRuntime) -> Result<(), AllocError> {
 
 /// An object with a frame of zeros and that payload.
 fn framed(alloc: Global, payload: &[u8]) -> Result<Vec<u8>, AllocError>
-    requires { length payload.now ≤ 65536 }
+    requires { length payload.now ≤ segment_bytes }
     ensures { IfOk result (λ v. length v.items ≤ 65608) }
 {
     let mut object = vec![in alloc; 0u8; 72]?;
@@ -131,7 +129,7 @@ fn framed(alloc: Global, payload: &[u8]) -> Result<Vec<u8>, AllocError>
 
 /// What a fetch of `foo` tells where that payload stands in its place.
 fn damaged(payload: &[u8]) -> Fault
-    requires { length payload.now ≤ 65536 }
+    requires { length payload.now ≤ segment_bytes }
 {
     Fault::Damaged {
         volume: 0,

@@ -1,5 +1,5 @@
 //! Sources and sinks in memory: they fail at just the calls that they were told.
-use script_text::{MemorySink, MemorySource, Sink, Source};
+use hosts::{MemorySink, MemorySource, Sink, Source};
 use std::alloc::Global;
 
 /// The failing calls, what each of four calls gives or takes, `None` for one that fails, and the faults.

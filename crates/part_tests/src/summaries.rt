@@ -1,29 +1,34 @@
 //! What is shown of a store.
 use hsm_types::{
-    Digest, FileKey, FileRow, FileRows, Fingerprint, Handle, Segment, Segments, StubEntry, Table,
-    Word,
+    Digest, FileKey, FileRow, FileRows, Fingerprint, Handle, Place, Segment, Segments, StubEntry,
+    Table, Word,
 };
 use std::alloc::{AllocError, Global};
 use store_summary::{ClassCounts, Summary, Words, show_text};
 
-const ENTRY: StubEntry = StubEntry {
-    volume: 3,
-    object: 4,
-    print: Fingerprint {
+fn entry() -> StubEntry {
+    let place = Place {
+        volume: 3,
+        object: 4,
+    };
+    let print = Fingerprint {
         len: 65_536,
         digest: Digest([5; 32]),
-    },
-};
+    };
+    StubEntry::new(place, print)
+}
 
-static SEGMENTS: [Segment; 4] = [
-    Segment::Resident { blocks: 16 },
-    Segment::Offline { entry: ENTRY },
-    Segment::Sealed {
-        blocks: 16,
-        entry: ENTRY,
-    },
-    Segment::Offline { entry: ENTRY },
-];
+fn segments() -> [Segment; 4] {
+    [
+        Segment::Resident { blocks: 16 },
+        Segment::Offline { entry: entry() },
+        Segment::Sealed {
+            blocks: 16,
+            entry: entry(),
+        },
+        Segment::Offline { entry: entry() },
+    ]
+}
 
 /// A file: its name, its key, and how many of the segments it has, each of them whole.
 struct File {
@@ -67,7 +72,8 @@ static CLASSES: ClassCounts = ClassCounts {
 };
 
 fn row(alloc: Global, file: &File) -> Result<FileRow, AllocError> {
-    let segments = SEGMENTS.get(..file.count).unwrap_or(&SEGMENTS);
+    let all = segments();
+    let segments = all.get(..file.count).unwrap_or(&all);
     Ok(FileRow {
         handle: Handle {
             fsid: 9,

@@ -1,19 +1,23 @@
 //! Tables of files in the order of their inodes, with stamps in no order.
 
 use hsm_types::{
-    Digest, FileKey, FileRow, FileRows, Fingerprint, Handle, Segment, Segments, StubEntry, Table,
+    Digest, FileKey, FileRow, FileRows, Fingerprint, Handle, Place, Segment, Segments, StubEntry,
+    Table,
 };
 use std::alloc::{AllocError, Global};
 
 /// The entry of every segment that has one.
-const ENTRY: StubEntry = StubEntry {
-    volume: 0,
-    object: 0,
-    print: Fingerprint {
+fn entry() -> StubEntry {
+    let place = Place {
+        volume: 0,
+        object: 0,
+    };
+    let print = Fingerprint {
         len: 65536,
         digest: Digest([0; 32]),
-    },
-};
+    };
+    StubEntry::new(place, print)
+}
 
 /// A table of so many files of so many segments. All its blocks are told as used.
 pub(crate) fn table(alloc: Global, files: u64, segments: u64) -> Result<Table, AllocError> {
@@ -51,9 +55,9 @@ fn body(alloc: Global, segments: u64) -> Result<Segments, AllocError> {
             0..6 => Segment::Resident { blocks: 16 },
             6 => Segment::Sealed {
                 blocks: 16,
-                entry: ENTRY,
+                entry: entry(),
             },
-            _ => Segment::Offline { entry: ENTRY },
+            _ => Segment::Offline { entry: entry() },
         })?;
     }
     Ok(Segments::from(body))

@@ -3,8 +3,9 @@
 use Rattle.std.proofs.Common.{◌≡◌, ◌<◌, ◌-◌, ◌*◌, ℕ, min, List, [], ◌∷◌, length, take, true, false, inr, refl, sym, ◌∙◌, ap, arith}
 use Rattle.std.proofs.lemmas.Bool.{false≢true}
 use Rattle.std.specs.Prelude.{◌≢◌}
+use Rattle.hsm_types.specs.Limits.{segment_bytes}
 use Rattle.hsm_types.specs.Messages.{no_token}
-use Rattle.hsm_types.specs.Stubs.{print_of}
+use Rattle.hsm_types.specs.Stubs.{print_of, entry_at}
 use Rattle.hsm_types.specs.declared.dm.DmCall.{DmCall}
 use Rattle.hsm_types.specs.declared.dm.DmCall.TheVariants.{CreateSession, SetRegion, PunchHole, Seal, Restore}
 use Rattle.hsm_types.specs.declared.dm.DmReply.{DmReply}
@@ -53,7 +54,7 @@ module _ (s : Superblock) (name body back : List ℕ) where
   handle = record { fsid = s.fsid; key = one }
 
   abbrev stub : StubEntry
-  stub = record { volume = 0; object = 0; print = print_of (segment 0 body) }
+  stub = entry_at (record { volume = 0; object = 0 }) (print_of (segment 0 body))
 
   abbrev pub moved : List Entry
   moved =
@@ -65,7 +66,7 @@ module _ (s : Superblock) (name body back : List ℕ) where
       ∷ []
 
   module _ (some : 0 < length body) where
-    within : 65536 * 0 < length body
+    within : segment_bytes * 0 < length body
     within = omega (arith, some)
 
     pub moved_is_legal : print_of back ≡ print_of (segment 0 body) → Legal s (start files) moved
@@ -77,7 +78,7 @@ module _ (s : Superblock) (name body back : List ℕ) where
 
     pub clash_is_not_plain : print_of back ≡ print_of (segment 0 body) → back ≢ segment 0 body → (After (start files) moved).files ≢ plain_after files moved
     clash_is_not_plain same other is =
-        let len : length back ≡ min 65536 (length body - 65536 * 0) = ap (λ (p : Fingerprint). p.len) same ∙ length-read (65536 * 0) 65536 body in
+        let len : length back ≡ min segment_bytes (length body - segment_bytes * 0) = ap (λ (p : Fingerprint). p.len) same ∙ length-read (segment_bytes * 0) segment_bytes body in
         other (sym (restored_segment 0 back body len) ∙ ap (λ (P : List File). segment 0 (body_of one P)) is)
 
     -- its own

@@ -4,6 +4,7 @@ use Rattle.std.proofs.lemmas.List.Folds.{list_any-append}
 use Rattle.std.specs.Prelude.{ℕ, length, map, min, count_by, not, ◌+◌, ◌-◌, ◌*◌, ◌%◌, ◌==◌, ◌&&◌, ◌||◌, nat_lt, nat_le, is_some, if◌then◌else◌}
 use Rattle.std.specs.List.{find}
 use Rattle.std.specs.Option.{option_map}
+use Rattle.hsm_types.specs.Limits.{file_bytes, segment_bytes, access_bytes, live_sessions, info_bytes, user_events, data_bytes, waiting_messages, value_bytes, last_volume}
 use Rattle.hsm_types.specs.Names.{is_name}
 use Rattle.hsm_types.specs.Refusals.{first_refusal}
 use Rattle.hsm_types.specs.Calls.{scope_of}
@@ -12,7 +13,7 @@ use Rattle.hsm_types.specs.Sessions.{SessionTable, lives, queue_of, outstanding_
 use Rattle.hsm_types.specs.Attributes.{Attributes, is_reserved, reserved, too_big_value, too_many_bytes, bytes_of_attributes, with_value, value_of, setting_refusal, no_attribute}
 use Rattle.hsm_types.specs.Regions.{first_bad, too_many_regions, bad_region, regions_refusal, covers}
 use Rattle.hsm_types.specs.Segments.{from_on, segments_in, segments_met}
-use Rattle.hsm_types.specs.Stubs.{Stubs, print_of, stub_at, is_offline, is_sealed, not_offline, not_sealed, too_many_stubs, uncovered, not_covered, not_punched}
+use Rattle.hsm_types.specs.Stubs.{Stubs, print_of, stub_at, is_offline, is_sealed, not_offline, not_sealed, too_many_stubs, uncovered, not_covered, not_punched, entry_place, entry_print}
 use Rattle.hsm_types.specs.declared.stubs.Fingerprint.{Fingerprint}
 use Rattle.hsm_types.specs.declared.stubs.StubEntry.{StubEntry}
 use Rattle.hsm_types.specs.declared.stubs.Stub.{Stub}
@@ -97,7 +98,7 @@ module _ (files : List Listed) where
   of_name name = ordinary_if of_call (is_name name) _ _ tt refl
 
   of_length : (len : ℕ) → Ordinary (bad_length len)
-  of_length len = ordinary_if of_call (nat_le 1 len && nat_le len 65536) _ _ tt refl
+  of_length len = ordinary_if of_call (nat_le 1 len && nat_le len access_bytes) _ _ tt refl
 
   of_missing : (name : List ℕ) → Ordinary (missing name files)
   of_missing name = ordinary_if of_call (is_some (named name files)) _ _ tt refl
@@ -106,7 +107,7 @@ module _ (files : List Listed) where
   of_exists name = ordinary_if of_call (is_some (named name files)) _ _ refl tt
 
   of_end : (end : ℕ) → Ordinary (too_big end)
-  of_end end = ordinary_if of_call (nat_lt 16777216 end) _ _ refl tt
+  of_end end = ordinary_if of_call (nat_lt file_bytes end) _ _ refl tt
 
   of_inodes : (count : ℕ) → Ordinary (no_inodes count files)
   of_inodes count = ordinary_if of_call (length files == count) _ _ refl tt
@@ -181,8 +182,8 @@ Usual x = OrdinaryOf of_dm x
 usual_creation : (old : Sid) (info : List ℕ) (t : SessionTable) → Usual (creation_refusal old info t)
 usual_creation old info t =
     ordinary_first of_dm (no_session old t) _ (ordinary_if of_dm (old.0 == 0 || lives old t) _ _ tt refl)
-    (ordinary_first of_dm (bad_info info) _ (ordinary_if of_dm (nat_le 1 (length info) && nat_le (length info) 256) _ _ tt refl)
-    (ordinary_first of_dm (too_many_sessions old t) _ (ordinary_if of_dm (old.0 == 0 && nat_le 64 (length t.live)) _ _ refl tt) tt))
+    (ordinary_first of_dm (bad_info info) _ (ordinary_if of_dm (nat_le 1 (length info) && nat_le (length info) info_bytes) _ _ tt refl)
+    (ordinary_first of_dm (too_many_sessions old t) _ (ordinary_if of_dm (old.0 == 0 && nat_le live_sessions (length t.live)) _ _ refl tt) tt))
 
 usual_regions : (rs : List Region) → Usual (regions_refusal rs)
 usual_regions rs =
@@ -200,7 +201,7 @@ usual_setting : (name : AttrName) (value : List ℕ) (others limit : ℕ) (attrs
 usual_setting name value others limit attrs =
     let sum : ℕ = others + bytes_of_attributes (with_value name value attrs) in
     ordinary_first of_dm (reserved name) _ (usual_reserved name)
-    (ordinary_first of_dm (too_big_value value) _ (ordinary_if of_dm (nat_le (length value) 4096) _ _ tt refl)
+    (ordinary_first of_dm (too_big_value value) _ (ordinary_if of_dm (nat_le (length value) value_bytes) _ _ tt refl)
     (ordinary_first of_dm (too_many_bytes limit sum) _ (ordinary_if of_dm (nat_le sum limit) _ _ tt refl) tt))
 
 usual_absent : (name : AttrName) (attrs : Attributes) → Usual (no_attribute name attrs)
@@ -214,17 +215,17 @@ usual_fit room [] = refl
 usual_fit room (m ∷ more) = ordinary_if of_dm (nat_le (message_bytes m) room) _ _ tt refl
 
 usual_length : (body : List ℕ) → Usual (too_long body)
-usual_length body = ordinary_if of_dm (nat_le (length body) 4096) _ _ tt refl
+usual_length body = ordinary_if of_dm (nat_le (length body) data_bytes) _ _ tt refl
 
 usual_event : (body : List ℕ) (t : SessionTable) → Usual (event_refusal body t)
 usual_event body t =
-    ordinary_first of_dm (too_long body) _ (usual_length body) (ordinary_first of_dm (too_many_events t) _ (ordinary_if of_dm (nat_le 960 (user_tokens t)) _ _ refl tt) tt)
+    ordinary_first of_dm (too_long body) _ (usual_length body) (ordinary_first of_dm (too_many_events t) _ (ordinary_if of_dm (nat_le user_events (user_tokens t)) _ _ refl tt) tt)
 
 usual_sending : (target : Sid) (body : List ℕ) (t : SessionTable) → Usual (sending_refusal target body t)
 usual_sending target body t =
     ordinary_first of_dm (dead_session target t) _ (usual_dead target t)
     (ordinary_first of_dm (too_long body) _ (usual_length body)
-    (ordinary_first of_dm (too_many_waiting (queue_of target t)) _ (ordinary_if of_dm (nat_le 1024 (count_by (has_token no_token) (queue_of target t))) _ _ refl tt) tt))
+    (ordinary_first of_dm (too_many_waiting (queue_of target t)) _ (ordinary_if of_dm (nat_le waiting_messages (count_by (has_token no_token) (queue_of target t))) _ _ refl tt) tt))
 
 usual_busy : (other : Option Token) → Usual (busy other)
 usual_busy None = tt
@@ -249,19 +250,19 @@ usual_uncovered regions stubs = usual_found (find (λ (x : ℕ × Stub). x.1.off
 -- ---- what sessions ask of segments
 
 usual_access : (len : ℕ) → Usual (bad_access len)
-usual_access len = ordinary_if of_dm (nat_le 1 len && nat_le len 65536) _ _ tt refl
+usual_access len = ordinary_if of_dm (nat_le 1 len && nat_le len access_bytes) _ _ tt refl
 
 usual_size : (end size : ℕ) → Usual (past_size end size)
 usual_size end size = ordinary_if of_dm (nat_le end size) _ _ tt refl
 
 usual_end : (j size : ℕ) → Usual (past_end j size)
-usual_end j size = ordinary_if of_dm (nat_lt (65536 * j) size) _ _ tt refl
+usual_end j size = ordinary_if of_dm (nat_lt (segment_bytes * j) size) _ _ tt refl
 
 usual_volume : (volume : ℕ) → Usual (bad_volume volume)
-usual_volume volume = ordinary_if of_dm (nat_le volume 255) _ _ tt refl
+usual_volume volume = ordinary_if of_dm (nat_le volume last_volume) _ _ tt refl
 
 usual_bounds : (offset len size : ℕ) → Usual (bad_punch offset len size)
-usual_bounds offset len size = ordinary_if of_dm (offset % 65536 == 0 && nat_lt offset size && ends_well offset len size) _ _ tt refl
+usual_bounds offset len size = ordinary_if of_dm (offset % segment_bytes == 0 && nat_lt offset size && ends_well offset len size) _ _ tt refl
 
 usual_probe : (offset len size : ℕ) → Usual (nothing_to_punch offset len size)
 usual_probe offset len size = ordinary_if of_dm (nat_lt (probe_start offset) (probe_end offset len size)) _ _ tt refl
@@ -279,7 +280,7 @@ usual_bytes want bytes = ordinary_if of_dm (same_print want (print_of bytes)) _ 
 
 usual_from : (stub : Option Stub) (bytes : List ℕ) → Usual (changed_from stub bytes)
 usual_from None bytes = tt
-usual_from (Some stub) bytes = usual_bytes stub.entry.print bytes
+usual_from (Some stub) bytes = usual_bytes (entry_print stub.entry) bytes
 
 usual_entries : (j others limit : ℕ) (stubs : Stubs) → Usual (too_many_stubs j others limit stubs)
 usual_entries j others limit stubs = ordinary_if of_dm (is_some (stub_at j stubs) || nat_lt (others + length stubs) limit) _ _ tt refl
@@ -317,7 +318,7 @@ module _ (f : FileState) where
   usual_sealing : (j : ℕ) (entry : StubEntry) → Usual (seal_refusal f j entry)
   usual_sealing j entry =
       ordinary_first of_dm (past_end j (length f.body)) _ (usual_end j (length f.body))
-      (ordinary_first of_dm (bad_volume entry.volume) _ (usual_volume entry.volume)
+      (ordinary_first of_dm (bad_volume (entry_place entry).volume) _ (usual_volume (entry_place entry).volume)
       (ordinary_first of_dm (away f j) _ (usual_away j) (ordinary_first of_dm (changed_bytes entry.print (segment j f.body)) [] (usual_bytes entry.print (segment j f.body)) tt)))
 
   usual_restoring : (s : Superblock) (h : Held) (j : ℕ) (bytes : List ℕ) → Usual (restore_refusal s h f j bytes)

@@ -8,14 +8,17 @@ use Rattle.plain_model.specs.Legal.{Legal}
 use Rattle.plain_model.specs.State.{Held, just_opened}
 use Rattle.plain_model.specs.Stands.{Stands}
 use Rattle.plain_model.specs.Exact.{Exact}
-use Rattle.plain_model.specs.Laws.{IsRun, IsGoodFrom, RunIsGood}
-use Rattle.plain_model.proofs.Histories.{Exact-take}
+use Rattle.plain_model.specs.Laws.{BeginningIsRun, IsRun, IsGoodFrom, RunIsGood}
+use Rattle.plain_model.proofs.Histories.{Exact-first, Exact-take}
 use Rattle.plain_model.proofs.Onces.{exact_is_once}
 use Rattle.plain_model.proofs.Orders.{ordered_at_first, state_ordered}
 use Rattle.plain_model.proofs.Same.{transparent}
 use Rattle.plain_model.proofs.Sides.{exact_is_sided}
 use Rattle.plain_model.proofs.Stamping.{exact_is_stamped}
 use Rattle.plain_model.proofs.Steps.{exact_is_legal}
+
+pub beginning_is_run : (s : Superblock) (base : ℕ) (h : Held) (first rest : List Entry) → BeginningIsRun s base h first rest
+beginning_is_run s base h first rest run = record { opening = run.opening; exact = Exact-first s (just_opened base h) first rest run.exact }
 
 good_from : (s : Superblock) (base : ℕ) (h : Held) (es : List Entry) → IsRun s base h es → (P : List File) → Stands h.files P → IsGoodFrom s base h es P
 good_from s base h es run P stands = record {

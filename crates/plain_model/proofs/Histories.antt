@@ -1,5 +1,6 @@
 -- One more entry at the end of an exact history, beginnings of it, and its number.
-use Rattle.std.proofs.Common.{◌≡◌, ◌+◌, ℕ, zero, suc, List, [], ◌∷◌, ◌++◌, take, Bool, true, false, Option, Some, None, refl}
+use Rattle.std.proofs.Common.{◌≡◌, ◌+◌, ℕ, List, [], ◌∷◌, ◌++◌, take, drop, Bool, true, false, Option, Some, None, refl, sym, subst}
+use Rattle.std.proofs.lemmas.List.{take-append-drop}
 use Rattle.std.specs.Prelude.{if◌then◌else◌}
 use Rattle.hsm_types.specs.declared.stores.Superblock.{Superblock}
 use Rattle.hsm_types.specs.declared.calls.CallRefusal.{CallRefusal}
@@ -33,16 +34,17 @@ Exact-push s st (x ∷ es) e exact faultless is =
 
 -- ---- beginnings
 
-take_none : (i : ℕ) (es : List Entry) → es ≡ [] → take i es ≡ []
-take_none zero es none = refl
-take_none (suc i) es none = rw none refl
+no_first : (first rest : List Entry) → first ++ rest ≡ [] → first ≡ []
+no_first [] rest none = refl
+no_first (e ∷ first) rest none = absurd cc
 
 -- each beginning of an exact history is exact
+pub Exact-first : (s : Superblock) (st : State) (first rest : List Entry) → Exact s st (first ++ rest) → Exact s st first
+Exact-first s st [] rest exact = tt
+Exact-first s st (e ∷ first) rest exact = (exact.0, λ fault. no_first first rest (exact.1 fault), Exact-first s (left_by s st e.actor e.action e.answer) first rest exact.2)
+
 pub Exact-take : (s : Superblock) (st : State) (es : List Entry) (i : ℕ) → Exact s st es → Exact s st (take i es)
-Exact-take s st [] zero exact = tt
-Exact-take s st [] (suc i) exact = tt
-Exact-take s st (e ∷ es) zero exact = tt
-Exact-take s st (e ∷ es) (suc i) exact = (exact.0, (λ fault. take_none i es (exact.1 fault)), Exact-take s (left_by s st e.actor e.action e.answer) es i exact.2)
+Exact-take s st es i exact = Exact-first s st (take i es) (drop i es) (subst (Exact s st) (sym (take-append-drop i es)) exact)
 
 -- ---- numbers
 

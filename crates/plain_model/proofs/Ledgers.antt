@@ -28,7 +28,7 @@ use Rattle.plain_model.specs.declared.entries.Action.{Action}
 use Rattle.plain_model.specs.declared.entries.Action.TheVariants.{Issue, Resume, Dm, Commit}
 use Rattle.plain_model.specs.declared.entries.Answer.{Answer}
 use Rattle.plain_model.specs.declared.entries.Answer.TheVariants.{Call as Replied, Dm as Told}
-use Rattle.plain_model.specs.Keyed.{set_at}
+use Rattle.hsm_types.specs.Keyed.{set_at}
 use Rattle.plain_model.specs.Plain.{Listed, has_key, reply_on}
 use Rattle.plain_model.specs.Ledger.{Access, Ledger, Meant, Fixed, Means, next_token, issued, goes_on, resumed, aborted, gone, objection_again, left_waiting, waiting_after, top_by, open_by, ledger_replied, waits_for, answered}
 use Rattle.plain_model.specs.Once.{gives, takes, is_taken, MustWait, either, used_by, waits_by, on_taken}

@@ -7,7 +7,6 @@ pub mod Sound
 pub mod Unstopped
 pub mod Standing
 pub mod Syncing
-pub mod Listing
 pub mod Orders
 pub mod Moving
 pub mod Told
@@ -19,4 +18,5 @@ pub mod Examples
 pub mod Ledgers
 pub mod Onces
 pub mod Goods
+pub mod Owning
 pub mod Opened

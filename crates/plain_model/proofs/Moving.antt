@@ -5,10 +5,11 @@ use Rattle.std.proofs.lemmas.Slice.Eq.{bytes_eq-Decides}
 use Rattle.std.specs.Prelude.{◌%◌, ◌&&◌, ◌==◌, nat_lt, nat_le, map, if◌then◌else◌, is_some}
 use Rattle.std.specs.List.{list_any}
 use Rattle.std.specs.Str.{bytes_eq}
+use Rattle.hsm_types.specs.Limits.{segment_bytes}
 use Rattle.hsm_types.specs.Regions.{covers}
 use Rattle.hsm_types.specs.Segments.{from_on, segments_in, segments_met}
 use Rattle.hsm_types.specs.Refusals.{first_refusal}
-use Rattle.hsm_types.specs.Stubs.{print_of, stub_at, is_offline, offline_at, not_offline, not_sealed, not_covered, not_punched}
+use Rattle.hsm_types.specs.Stubs.{print_of, stub_at, is_offline, offline_at, not_offline, not_sealed, not_covered, not_punched, entry_place, entry_print}
 use Rattle.hsm_types.specs.declared.dm.DmRefusal.{DmRefusal}
 use Rattle.hsm_types.specs.declared.dm.DmRefusal.TheVariants.{Changed, Offline, NotOffline, Uncovered, BadRange}
 use Rattle.hsm_types.specs.declared.stores.Superblock.{Superblock}
@@ -45,9 +46,9 @@ print_same a b is =
 print_unchanged : (want : Fingerprint) (bytes : List ℕ) → changed_bytes want bytes ≡ None → want ≡ print_of bytes
 print_unchanged want bytes none = print_same want (print_of bytes) (passes (same_print want (print_of bytes)) (Changed want (print_of bytes)) none)
 
-entry_away : (stub : Option Stub) (bytes : List ℕ) → is_offline stub ≡ true → changed_from stub bytes ≡ None → (x : Stub) × (stub ≡ Some x) × (x.entry.print ≡ print_of bytes)
+entry_away : (stub : Option Stub) (bytes : List ℕ) → is_offline stub ≡ true → changed_from stub bytes ≡ None → (x : Stub) × (stub ≡ Some x) × (entry_print x.entry ≡ print_of bytes)
 entry_away None bytes is none = absurd (false≢true is)
-entry_away (Some x) bytes is none = (x, refl, print_unchanged x.entry.print bytes none)
+entry_away (Some x) bytes is none = (x, refl, print_unchanged (entry_print x.entry) bytes none)
 
 sealed_entry : (j : ℕ) (stub : Option Stub) → not_sealed j stub ≡ None → (x : Stub) × (stub ≡ Some x)
 sealed_entry j None none = cc
@@ -80,11 +81,11 @@ module _ (f : FileState) where
   pub seal_sound : (j : ℕ) (entry : StubEntry) → seal_refusal f j entry ≡ None → IsSound (Seals j entry) f
   seal_sound j entry none =
       let change : Option DmRefusal = changed_bytes entry.print (segment j f.body) in
-      let past_start = none_first (past_end j (length f.body)) (bad_volume entry.volume ∷ away f j ∷ change ∷ []) none in
-      let past_volume = none_first (bad_volume entry.volume) (away f j ∷ change ∷ []) past_start.1 in
+      let past_start = none_first (past_end j (length f.body)) (bad_volume (entry_place entry).volume ∷ away f j ∷ change ∷ []) none in
+      let past_volume = none_first (bad_volume (entry_place entry).volume) (away f j ∷ change ∷ []) past_start.1 in
       let past_away = none_first (away f j) (change ∷ []) past_volume.1 in
       let past_change = none_first change [] past_away.1 in (
-        ltb-true (65536 * j) (length f.body) (passes (nat_lt (65536 * j) (length f.body)) BadRange past_start.0),
+        ltb-true (segment_bytes * j) (length f.body) (passes (nat_lt (segment_bytes * j) (length f.body)) BadRange past_start.0),
         refuses (offline_at f.kept.stubs j) (Offline j) past_away.0,
         print_unchanged entry.print (segment j f.body) past_change.0,
       )
@@ -96,7 +97,7 @@ module _ (f : FileState) where
       let past_start = none_first (past_end j (length f.body)) (not_offline j stub ∷ changed_from stub bytes ∷ room ∷ []) none in
       let past_here = none_first (not_offline j stub) (changed_from stub bytes ∷ room ∷ []) past_start.1 in
       let past_change = none_first (changed_from stub bytes) (room ∷ []) past_here.1 in (
-        ltb-true (65536 * j) (length f.body) (passes (nat_lt (65536 * j) (length f.body)) BadRange past_start.0),
+        ltb-true (segment_bytes * j) (length f.body) (passes (nat_lt (segment_bytes * j) (length f.body)) BadRange past_start.0),
         entry_away stub bytes (passes (offline_at f.kept.stubs j) (NotOffline j) past_here.0) past_change.0,
       )
 
@@ -109,7 +110,7 @@ module _ (f : FileState) where
       (x.0, x.1, passes (covers f.kept.regions j) (Uncovered j) past_covered.0)
 
   -- a segment of the file from the first up to the second
-  each_punched : (from to : ℕ) → first_refusal (map (not_punched f.kept.regions f.kept.stubs) (from_on from (min to (segments_in (length f.body)) - from))) ≡ None → (j : ℕ) → from ≤ j → j < to → 65536 * j < length f.body → not_punched f.kept.regions f.kept.stubs j ≡ None
+  each_punched : (from to : ℕ) → first_refusal (map (not_punched f.kept.regions f.kept.stubs) (from_on from (min to (segments_in (length f.body)) - from))) ≡ None → (j : ℕ) → from ≤ j → j < to → segment_bytes * j < length f.body → not_punched f.kept.regions f.kept.stubs j ≡ None
   each_punched from to none j low high within =
       let count : ℕ = min to (segments_in (length f.body)) - from in
       nothing (not_punched f.kept.regions f.kept.stubs j) (none_from (λ i. is_some (not_punched f.kept.regions f.kept.stubs i)) from count j (none_refused (not_punched f.kept.regions f.kept.stubs) (λ i. is_some (not_punched f.kept.regions f.kept.stubs i)) (λ i is. ap is_some is) (from_on from count) none) low (omega (arith, low, high, within)))
@@ -121,7 +122,7 @@ module _ (f : FileState) where
       let segments : Option DmRefusal = first_refusal (map (not_punched f.kept.regions f.kept.stubs) (from_on from (min to (segments_in (length f.body)) - from))) in
       let past_bounds = none_first (bad_punch offset len (length f.body)) (segments ∷ []) none in
       let past_segments = none_first segments [] past_bounds.1 in
-      let bounds = and_parts (offset % 65536 == 0 && nat_lt offset (length f.body)) (ends_well offset len (length f.body)) (passes (offset % 65536 == 0 && nat_lt offset (length f.body) && ends_well offset len (length f.body)) BadRange past_bounds.0) in
-      let start = and_parts (offset % 65536 == 0) (nat_lt offset (length f.body)) bounds.0 in
+      let bounds = and_parts (offset % segment_bytes == 0 && nat_lt offset (length f.body)) (ends_well offset len (length f.body)) (passes (offset % segment_bytes == 0 && nat_lt offset (length f.body) && ends_well offset len (length f.body)) BadRange past_bounds.0) in
+      let start = and_parts (offset % segment_bytes == 0) (nat_lt offset (length f.body)) bounds.0 in
       let below : offset < length f.body = ltb-true offset (length f.body) start.1 in
       (omega (arith, below), λ j low high within. may_be_punched j (each_punched from to past_segments.0 j low high within))

@@ -5,9 +5,10 @@ use Rattle.std.proofs.lemmas.Bool.{false≢true, eqb-true, eqb-false}
 use Rattle.std.proofs.lemmas.List.{get_or_past}
 use Rattle.std.specs.Prelude.{◌/◌, nat_eq, IfSome}
 use Rattle.sha2.specs.Sha256.{first_words, schedule, rounds, compress, hash_after, digest_bytes, sha256}
+use Rattle.hsm_types.specs.Limits.{segment_bytes}
 use Rattle.hsm_types.specs.Messages.{packed}
 use Rattle.hsm_types.specs.Regions.{covers}
-use Rattle.hsm_types.specs.Stubs.{Stubs, print_of, stub_at, is_offline}
+use Rattle.hsm_types.specs.Stubs.{Stubs, print_of, stub_at, is_offline, entry_at, entry_print}
 use Rattle.hsm_types.specs.declared.calls.Call.TheVariants.{Read}
 use Rattle.hsm_types.specs.declared.calls.Reply.TheVariants.{Data, Parked}
 use Rattle.hsm_types.specs.declared.dm.DmCall.TheVariants.{CreateSession, SetDisp, GetEvents, RequestRight, ReadInvis, PunchHole, GetAllocInfo, Restore, Respond}
@@ -48,7 +49,7 @@ abbrev handle : Handle
 handle = record { fsid = 5; key = one }
 
 abbrev entry : StubEntry
-entry = record { volume = 0; object = 0; print = print_of abc }
+entry = entry_at (record { volume = 0; object = 0 }) (print_of abc)
 
 abbrev away : Stub
 away = record { entry = entry; offline = true }
@@ -75,16 +76,16 @@ at_each P j here there = if_it (nat_eq j 0) refl
     if_it true is = subst (λ n. P n (Some away)) (sym (eqb-true j 0 is)) here
     if_it false is = there (eqb-false j 0 is)
 
-far : (i j : ℕ) → i / 65536 ≡ j → (j ≡ 0 → ⊥) → 3 ≤ i
+far : (i j : ℕ) → i / segment_bytes ≡ j → (j ≡ 0 → ⊥) → 3 ≤ i
 far i j same other = omega (arith, same, other)
 
 has_body : HasBody held_away abc
 has_body = record {
   size = refl;
-  bytes = λ i. at_each (λ j stub. i / 65536 ≡ j → is_offline stub ≡ false → get_or (0 ∷ 0 ∷ 0 ∷ []) i 0 ≡ get_or abc i 0) (i / 65536) (λ same here. absurd (false≢true (sym here)))
-      (λ other same here. get_or_past (0 ∷ 0 ∷ 0 ∷ []) i 0 (far i (i / 65536) same other) ∙ sym (get_or_past abc i 0 (far i (i / 65536) same other))) refl;
-  prints = λ j. at_each (λ q stub. IfSome stub (λ (x : Stub). x.entry.print ≡ print_of (segment q abc))) j refl (λ other. tt);
-  within = λ j. at_each (λ q stub. 3 ≤ 65536 * q → stub ≡ None) j (λ past. absurd (omega (arith, past))) (λ other past. refl);
+  bytes = λ i. at_each (λ j stub. i / segment_bytes ≡ j → is_offline stub ≡ false → get_or (0 ∷ 0 ∷ 0 ∷ []) i 0 ≡ get_or abc i 0) (i / segment_bytes) (λ same here. absurd (false≢true (sym here)))
+      (λ other same here. get_or_past (0 ∷ 0 ∷ 0 ∷ []) i 0 (far i (i / segment_bytes) same other) ∙ sym (get_or_past abc i 0 (far i (i / segment_bytes) same other))) refl;
+  prints = λ j. at_each (λ q stub. IfSome stub (λ (x : Stub). (entry_print x.entry) ≡ print_of (segment q abc))) j refl (λ other. tt);
+  within = λ j. at_each (λ q stub. 3 ≤ segment_bytes * q → stub ≡ None) j (λ past. absurd (omega (arith, past))) (λ other past. refl);
   covered = λ j. at_each (λ q stub. is_offline stub ≡ true → covers all q ≡ true) j (λ gone. refl) (λ other gone. absurd (false≢true gone));
 }
 

@@ -42,7 +42,7 @@ use Rattle.plain_model.specs.declared.entries.Actor.TheVariants.{Caller, Session
 use Rattle.plain_model.specs.declared.entries.Action.{Action}
 use Rattle.plain_model.specs.declared.entries.Action.TheVariants.{Issue, Resume, Dm}
 use Rattle.plain_model.specs.Ledger.{Access, Ledger, no_ledger, Meant, Fixed, Means, next_token, ledger_replied, waits_for, answered, ledger_told}
-use Rattle.plain_model.specs.Keyed.{set_at}
+use Rattle.hsm_types.specs.Keyed.{set_at}
 use Rattle.plain_model.specs.State.{Held, Flags, State, names_of, just_opened, noted}
 use Rattle.plain_model.specs.Verdict.{Blocks, Posts, Lacks, Verdict, verdict, shortage, left_by_verdict, flags_now, objection_in, meant_in, state_where, state_after}
 use Rattle.plain_model.specs.Services.{bad_own_token, bad_handle, dm_judged, dm_state_where, dm_state_after}

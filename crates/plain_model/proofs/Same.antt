@@ -2,6 +2,7 @@
 use Rattle.std.proofs.Common.{◌≡◌, ◌<◌, ◌*◌, ℕ, zero, suc, List, [], ◌∷◌, length, take, Bool, true, false, Option, Some, None, inl, inr, refl, sym, ◌∙◌, ap, subst, arith}
 use Rattle.std.proofs.lemmas.Bool.{eqb-true, eq-eqb, false≢true}
 use Rattle.std.specs.Prelude.{◌==◌, if◌then◌else◌, MatchOption, IfSome}
+use Rattle.hsm_types.specs.Limits.{segment_bytes}
 use Rattle.hsm_types.specs.declared.calls.Call.{Call}
 use Rattle.hsm_types.specs.declared.calls.CallRefusal.{CallRefusal}
 use Rattle.hsm_types.specs.declared.calls.CallRefusal.TheVariants.{Disk, Waiting, Idle}
@@ -24,7 +25,7 @@ use Rattle.plain_model.specs.declared.entries.Action.{Action}
 use Rattle.plain_model.specs.declared.entries.Action.TheVariants.{Issue, Resume, Dm, Commit}
 use Rattle.plain_model.specs.declared.entries.Answer.{Answer}
 use Rattle.plain_model.specs.declared.entries.Answer.TheVariants.{Call as Replied, Dm as Told}
-use Rattle.plain_model.specs.Keyed.{same_key, find_key, change_key, set_at}
+use Rattle.hsm_types.specs.Keyed.{same_key, find_key, change_key, set_at}
 use Rattle.plain_model.specs.Effects.{Restores, change_of}
 use Rattle.plain_model.specs.Plain.{File, listing, key_meant, key_by, written, segment, body_or_none, body_of, affected, act}
 use Rattle.plain_model.specs.Ledger.{Access, Ledger, Meant, Fixed, Means, issued, goes_on, resumed, is_completion, kept, left_waiting, waiting_after, waits_for, answered, ledger_told}
@@ -62,12 +63,12 @@ if_either P false x y here there = there refl
 
 -- ---- bytes that are written where they stand
 
-found_same : (o : Option File) (j : ℕ) (bytes : List ℕ) → bytes ≡ segment j (body_or_none o) → 65536 * j < length (body_or_none o) → IfSome o (λ (f : File). record f { body = written (65536 * j) bytes f.body } ≡ f)
+found_same : (o : Option File) (j : ℕ) (bytes : List ℕ) → bytes ≡ segment j (body_or_none o) → segment_bytes * j < length (body_or_none o) → IfSome o (λ (f : File). record f { body = written (segment_bytes * j) bytes f.body } ≡ f)
 found_same None j bytes is some = tt
-found_same (Some f) j bytes is some = ap (λ (body : List ℕ). record f { body = body }) (rw is (rewritten (65536 * j) 65536 f.body (omega arith)))
+found_same (Some f) j bytes is some = ap (λ (body : List ℕ). record f { body = body }) (rw is (rewritten (segment_bytes * j) segment_bytes f.body (omega arith)))
 
-restored_same : (j : ℕ) (bytes : List ℕ) (k : FileKey) (P : List File) → bytes ≡ segment j (body_of k P) → 65536 * j < length (body_of k P) → affected (Restores j bytes) k P ≡ P
-restored_same j bytes k P is some = key_unchanged (λ (f : File). f.key) k (λ f. record f { body = written (65536 * j) bytes f.body }) P (found_same (find_key (λ f. f.key) k P) j bytes is some)
+restored_same : (j : ℕ) (bytes : List ℕ) (k : FileKey) (P : List File) → bytes ≡ segment j (body_of k P) → segment_bytes * j < length (body_of k P) → affected (Restores j bytes) k P ≡ P
+restored_same j bytes k P is some = key_unchanged (λ (f : File). f.key) k (λ f. record f { body = written (segment_bytes * j) bytes f.body }) P (found_same (find_key (λ f. f.key) k P) j bytes is some)
 
 -- ---- the walk follows the world
 

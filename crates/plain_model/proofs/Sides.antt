@@ -16,7 +16,7 @@ use Rattle.plain_model.specs.declared.entries.Actor.TheVariants.{Caller, Session
 use Rattle.plain_model.specs.declared.entries.Action.{Action}
 use Rattle.plain_model.specs.declared.entries.Action.TheVariants.{Issue, Resume, Dm, Commit}
 use Rattle.plain_model.specs.declared.entries.Answer.{Answer}
-use Rattle.plain_model.specs.Keyed.{same_key, find_key, change_key, put_key, drop_key}
+use Rattle.hsm_types.specs.Keyed.{same_key, find_key, change_key, put_key, drop_key}
 use Rattle.plain_model.specs.Effects.{Effect, Leaves, Makes, Drops, Writes, Resizes, Change, Nothing, OfFile, OfSessions, OfRights, Closes, change_of}
 use Rattle.plain_model.specs.Plain.{File, body_or_none, body_of}
 use Rattle.plain_model.specs.Ledger.{Meant, Fixed, Means}

@@ -2,7 +2,7 @@
 use Rattle.std.proofs.Common.{◌≡◌, List, [], ◌∷◌, Bool, true, false, Option, Some, None, refl, ap}
 use Rattle.std.specs.Prelude.{nat_lt, if◌then◌else◌, is_some, IfSome}
 use Rattle.hsm_types.specs.declared.keys.FileKey.{FileKey}
-use Rattle.plain_model.specs.Keyed.{same_key, find_key, change_key, put_key, drop_key}
+use Rattle.hsm_types.specs.Keyed.{same_key, find_key, change_key, put_key, drop_key}
 use Rattle.plain_model.specs.Effects.{Effect, Leaves, Makes, Drops, Writes, Resizes, Manages, Attaches, Detaches, Seals, Punches, Restores}
 use Rattle.plain_model.specs.Plain.{File, listing, rebody, body_or_none, body_of, affected}
 use Rattle.plain_model.specs.Sound.{IsSound}

@@ -1,6 +1,7 @@
 -- What a session is told may come in each world that the store stands for, and its change leaves the store standing for the world after it.
 use Rattle.std.proofs.Common.{◌≡◌, ◌≤◌, ◌<◌, ◌+◌, ◌-◌, ◌*◌, ℕ, min, length, subst, arith, List, [], ◌∷◌, Option, Some, None, refl, sym, ◌∙◌, ap}
 use Rattle.std.specs.Prelude.{◌/◌, ◌==◌, is_some}
+use Rattle.hsm_types.specs.Limits.{segment_bytes}
 use Rattle.hsm_types.specs.Refusals.{first_refusal}
 use Rattle.hsm_types.specs.Regions.{regions_refusal}
 use Rattle.hsm_types.specs.Rights.{bad_right}
@@ -52,7 +53,7 @@ IsSoundBy change files = Unit {0}
 pub same_read : (f : FileState) (body : List ℕ) → HasBody f body → (o n : ℕ) → IsFree f.kept.stubs o (min (o + n) (length f.body)) → read_at o n f.body ≡ read_at o n body
 same_read f body h o n free =
     read_same o n f.body body (ap (λ size. min n (size - o)) h.size)
-    (λ i from to within. h.bytes i (free (i / 65536) (meets_true o (min (o + n) (length f.body)) (i / 65536) (omega arith) (omega arith) (omega arith))))
+    (λ i from to within. h.bytes i (free (i / segment_bytes) (meets_true o (min (o + n) (length f.body)) (i / segment_bytes) (omega arith) (omega arith) (omega arith))))
 
 module _ (s : Superblock) (st : State) (W : World) (stands : StandsFor st W) (sid : Sid) where
   abbrev files : List FileState
@@ -100,12 +101,12 @@ module _ (s : Superblock) (st : State) (W : World) (stands : StandsFor st W) (si
       let f : FileState = file_at handle.key files in
       let past = on_file token handle Excl (sealing_refusal_of j handle entry) none in
       let sound = seal_sound f j entry (none_first (seal_refusal f j entry) (full j handle ∷ []) past.1).0 in
-      ((past.0, subst (λ n. 65536 * j < n) (bytes handle.key).size sound.0), sound.2 ∙ ap print_of (held_segment f (body_of handle.key W.files) (bytes handle.key) j sound.1))
+      ((past.0, subst (λ n. segment_bytes * j < n) (bytes handle.key).size sound.0), sound.2 ∙ ap print_of (held_segment f (body_of handle.key W.files) (bytes handle.key) j sound.1))
   told_step (Restore token handle j body) ordered none =
       let f : FileState = file_at handle.key files in
       let past = on_file token handle Excl (restore_refusal s st.held f j body) none in
       let sound = restore_sound f s st.held j body past.1 in
-      ((past.0, subst (λ n. 65536 * j < n) (bytes handle.key).size sound.0), print_length f (body_of handle.key W.files) (bytes handle.key) j body sound.1.0 sound.1.1 sound.1.2)
+      ((past.0, subst (λ n. segment_bytes * j < n) (bytes handle.key).size sound.0), print_length f (body_of handle.key W.files) (bytes handle.key) j body sound.1.0 sound.1.1 sound.1.2)
   told_step (PathToHandle name) ordered none =
       let own : Option DmRefusal = no_such_name (named name (names_of st.held.files)) in
       let past_session = none_first (dead_session sid st.sessions) (own ∷ []) none in

@@ -3,6 +3,7 @@ use Rattle.std.proofs.Common.{◌≡◌, ◌≤◌, ◌<◌, ◌+◌, ◌-◌, �
 use Rattle.std.proofs.lemmas.Bool.{eqb-true, ne_eqb, false≢true, cases_lt, lt-ltb, leb-true, and_parts, or_cases, or_parts, false_from_ne_true}
 use Rattle.std.specs.Prelude.{◌/◌, ◌%◌, ◌≢◌, ◌&&◌, ◌||◌, ◌==◌, nat_lt, nat_le, if◌then◌else◌}
 use Rattle.std.specs.List.{list_any}
+use Rattle.hsm_types.specs.Limits.{segment_bytes}
 use Rattle.hsm_types.specs.Regions.{meets, is_flagged, touches, contains, covers}
 use Rattle.hsm_types.specs.Segments.{from_on, segments_in, meets_segment, segments_met, segment_around}
 use Rattle.hsm_types.specs.Stubs.{Stubs, offline_at}
@@ -47,16 +48,16 @@ flagged kind r has is = absurd has
 abbrev range : ℕ → ℕ → Range
 range from to = record { offset = from; len = to - from }
 
-contained : (kind : Kind) (j from to : ℕ) (r : Region) → HasFlag kind → from < to → from < 65536 * j + 65536 → 65536 * j < to → contains j r ≡ true → (is_flagged kind r && meets from (to - from) r) ≡ true
+contained : (kind : Kind) (j from to : ℕ) (r : Region) → HasFlag kind → from < to → from < segment_bytes * j + segment_bytes → segment_bytes * j < to → contains j r ≡ true → (is_flagged kind r && meets from (to - from) r) ≡ true
 contained kind j from to r has some low high is =
-    let first_two = and_parts ((r.flags == 7) && nat_le r.offset (65536 * j)) (r.size == 0 || nat_le (65536 * j + 65536) (r.offset + r.size)) is in
-    let parts = and_parts (r.flags == 7) (nat_le r.offset (65536 * j)) first_two.0 in
-    let before : r.offset ≤ 65536 * j = leb-true r.offset (65536 * j) parts.1 in
+    let first_two = and_parts ((r.flags == 7) && nat_le r.offset (segment_bytes * j)) (r.size == 0 || nat_le (segment_bytes * j + segment_bytes) (r.offset + r.size)) is in
+    let parts = and_parts (r.flags == 7) (nat_le r.offset (segment_bytes * j)) first_two.0 in
+    let before : r.offset ≤ segment_bytes * j = leb-true r.offset (segment_bytes * j) parts.1 in
     rw (flagged kind r has (eqb-true r.flags 7 parts.0), lt-ltb 0 (to - from) (omega arith), lt-ltb r.offset (from + (to - from)) (omega arith))
     (⊎_elim (λ (endless : (r.size == 0) ≡ true). rw endless refl)
-    (λ (ends : nat_le (65536 * j + 65536) (r.offset + r.size) ≡ true).
-    let end : 65536 * j + 65536 ≤ r.offset + r.size = leb-true (65536 * j + 65536) (r.offset + r.size) ends in
-    or_right (r.size == 0) (nat_lt from (r.offset + r.size)) (lt-ltb from (r.offset + r.size) (omega arith))) (or_cases (r.size == 0) (nat_le (65536 * j + 65536) (r.offset + r.size)) first_two.1))
+    (λ (ends : nat_le (segment_bytes * j + segment_bytes) (r.offset + r.size) ≡ true).
+    let end : segment_bytes * j + segment_bytes ≤ r.offset + r.size = leb-true (segment_bytes * j + segment_bytes) (r.offset + r.size) ends in
+    or_right (r.size == 0) (nat_lt from (r.offset + r.size)) (lt-ltb from (r.offset + r.size) (omega arith))) (or_cases (r.size == 0) (nat_le (segment_bytes * j + segment_bytes) (r.offset + r.size)) first_two.1))
 
 -- ---- the lists of segments that an access needs
 
@@ -75,9 +76,9 @@ pub unmet : (stubs : Stubs) (from to : ℕ) → list_any (offline_at stubs) (seg
 unmet stubs from to none j is =
     let parts = meets_parts from to j is in
     let some : from < to = parts.0 in
-    let low : from < 65536 * j + 65536 = parts.1 in
-    let high : 65536 * j < to = parts.2 in
-    none_from (offline_at stubs) (from / 65536) (segments_in to - from / 65536) j (none_met_if stubs (nat_lt from to) (from / 65536) (segments_in to - from / 65536) (lt-ltb from to some) none) (omega arith) (omega arith)
+    let low : from < segment_bytes * j + segment_bytes = parts.1 in
+    let high : segment_bytes * j < to = parts.2 in
+    none_from (offline_at stubs) (from / segment_bytes) (segments_in to - from / segment_bytes) j (none_met_if stubs (nat_lt from to) (from / segment_bytes) (segments_in to - from / segment_bytes) (lt-ltb from to some) none) (omega arith) (omega arith)
 
 none_around_if : (stubs : Stubs) (b : Bool) (j : ℕ) → b ≡ false → list_any (offline_at stubs) (if b then [] else j ∷ []) ≡ false → offline_at stubs j ≡ false
 none_around_if stubs true j is none = cc
@@ -85,8 +86,8 @@ none_around_if stubs false j is none = (or_parts (offline_at stubs j) false none
 
 not_around : (stubs : Stubs) (n : ℕ) → list_any (offline_at stubs) (segment_around n) ≡ false → IsFreeAround stubs n
 not_around stubs n none j low high =
-    let at : n / 65536 ≡ j = omega arith in
-    subst (λ i. offline_at stubs i ≡ false) at (none_around_if stubs (n % 65536 == 0) (n / 65536) (ne_eqb (n % 65536) 0 (λ whole. absurd (omega arith))) none)
+    let at : n / segment_bytes ≡ j = omega arith in
+    subst (λ i. offline_at stubs i ≡ false) at (none_around_if stubs (n % segment_bytes == 0) (n / segment_bytes) (ne_eqb (n % segment_bytes) 0 (λ whole. absurd (omega arith))) none)
 
 -- ---- rule 4 is for one that was not cleared, rule 5 for one that was
 
@@ -104,7 +105,7 @@ around_if true touched stubs to size four five other untouched = not_around stub
 around_if false touched stubs to size four five other untouched = untouched four
 
 -- a truncate to another size meets the segment that has the lower end inside
-reached : (to size j : ℕ) → to ≢ size → 65536 * j < min to size → min to size < 65536 * j + 65536 → meets_segment (min to size) (max to size) j ≡ true
+reached : (to size j : ℕ) → to ≢ size → segment_bytes * j < min to size → min to size < segment_bytes * j + segment_bytes → meets_segment (min to size) (max to size) j ≡ true
 reached to size j other low high = meets_true (min to size) (max to size) j (omega arith) high (omega arith)
 
 -- ---- accesses that no rule stops

@@ -1,28 +1,29 @@
--- Blocks of 4,096 bytes, 16 to a segment: which of them an effect touches, and which are mapped after it.
+-- Blocks of `block_bytes`, `segment_blocks` to a segment: which of them an effect touches, and which are mapped after it.
 use Rattle.std.specs.Prelude.{ℕ, ◌+◌, ◌-◌, ◌*◌, ◌/◌, ◌%◌, max, min, List, [], ◌∷◌, ◌++◌, length, take, drop, replicate, slice_set, Bool, true, false, ◌==◌, ◌&&◌, nat_lt, if◌then◌else◌}
+use Rattle.hsm_types.specs.Limits.{block_bytes, segment_bytes, segment_blocks}
 pub use Rattle.hsm_types.specs.Segments.{from_on}
 use Rattle.plain_model.specs.Effects.{Effect, Writes, Resizes, Punches, Restores}
 
 -- how many blocks a body of that size has
 abbrev pub blocks_in : ℕ → ℕ
-blocks_in size = (size + 4095) / 4096
+blocks_in size = (size + (block_bytes - 1)) / block_bytes
 
 -- the blocks that the bytes from the offset to the end meet
 abbrev pub met : ℕ → ℕ → List ℕ
-met offset end = from_on (offset / 4096) (blocks_in end - offset / 4096)
+met offset end = from_on (offset / block_bytes) (blocks_in end - offset / block_bytes)
 
 -- the block in which a body of that size ends, where it doesn't fill it
 abbrev pub old_end : ℕ → List ℕ
-old_end size = if size % 4096 == 0 then [] else (size / 4096) ∷ []
+old_end size = if size % block_bytes == 0 then [] else (size / block_bytes) ∷ []
 
 -- the blocks that an effect touches of a file of that size: those that its bytes meet, and that of the old end where the file grows
 abbrev pub touched : Effect → ℕ → List ℕ
 touched (Writes offset bytes) size =
-    if nat_lt size (offset + length bytes) && nat_lt (size / 4096) (offset / 4096)
+    if nat_lt size (offset + length bytes) && nat_lt (size / block_bytes) (offset / block_bytes)
     then old_end size ++ met offset (offset + length bytes)
     else met offset (offset + length bytes)
 touched (Resizes to) size = if nat_lt size to then old_end size else []
-touched (Restores j bytes) size = met (65536 * j) (65536 * j + length bytes)
+touched (Restores j bytes) size = met (segment_bytes * j) (segment_bytes * j + length bytes)
 touched effect size = []
 
 -- the size after the effect
@@ -46,7 +47,7 @@ mapped_after effect size mapped = with_mapped (touched effect size) (fitted (siz
 
 -- the blocks of the segments from the first up to the second are holes
 abbrev pub with_holes : ℕ → ℕ → List Bool → List Bool
-with_holes from to mapped = take (16 * from) mapped ++ replicate (min (16 * to) (length mapped) - 16 * from) false ++ drop (16 * max from to) mapped
+with_holes from to mapped = take (segment_blocks * from) mapped ++ replicate (min (segment_blocks * to) (length mapped) - segment_blocks * from) false ++ drop (segment_blocks * max from to) mapped
 
 -- and after any effect
 abbrev pub remapped : Effect → ℕ → List Bool → List Bool

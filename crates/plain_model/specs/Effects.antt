@@ -1,6 +1,7 @@
 -- What an event does to one file, of callers and sessions alike. What becomes of files, and of what stands beside them, goes by the effect of a
 -- completed event, and not by its call.
 use Rattle.std.specs.Prelude.{ℕ, ◌+◌, ◌/◌, ◌==◌, List, if◌then◌else◌}
+use Rattle.hsm_types.specs.Limits.{file_segments, segment_bytes}
 use Rattle.hsm_types.specs.Segments.{segments_in}
 use Rattle.hsm_types.specs.Rights.{Rights, with_right, requested, without_right}
 use Rattle.hsm_types.specs.Sessions.{SessionTable, with_session, without_session, with_kinds, delivered_within, user_event, sent}
@@ -48,12 +49,12 @@ effect_of (Remove name) = Drops
 effect_of (Stat name) = Leaves
 effect_of Sync = Leaves
 
--- The segments that a punch is of: those from the first number up to the second, as far as the file has them. No file has more than 256
+-- The segments that a punch is of: those from the first number up to the second, as far as the file has them. No file has more than `file_segments`
 abbrev pub punch_from : ℕ → ℕ
-punch_from offset = offset / 65536
+punch_from offset = offset / segment_bytes
 
 abbrev pub punch_to : ℕ → ℕ → ℕ
-punch_to offset len = if len == 0 then 256 else segments_in (offset + len)
+punch_to offset len = if len == 0 then file_segments else segments_in (offset + len)
 
 -- what a call changes that is done: nothing, one file, the sessions, for which there is a token that was never given, or what tokens hold
 pub data Change : Type 0 where

@@ -1,5 +1,5 @@
 -- Laws over whole histories.
-use Rattle.std.specs.Prelude.{ℕ, ◌≡◌, ◌<◌, List, take}
+use Rattle.std.specs.Prelude.{ℕ, ◌≡◌, ◌<◌, List, ◌++◌, take}
 use Rattle.hsm_types.specs.declared.keys.FileKey.{FileKey}
 use Rattle.hsm_types.specs.declared.stores.Superblock.{Superblock}
 use Rattle.plain_model.specs.declared.entries.Entry.{Entry}
@@ -30,6 +30,10 @@ IsOpening h = greatest (names_of h.files) < h.next
 pub record IsRun (s : Superblock) (base : ℕ) (h : Held) (es : List Entry) : Type 0 where
   pub opening : IsOpening h
   pub exact : Exact s (just_opened base h) es
+
+-- each beginning of a run is one
+abbrev pub BeginningIsRun : Superblock → ℕ → Held → List Entry → List Entry → Type 0
+BeginningIsRun s base h first rest = IsRun s base h (first ++ rest) → IsRun s base h first
 
 -- the store after the first i entries
 abbrev pub state_at : Superblock → ℕ → Held → List Entry → ℕ → State

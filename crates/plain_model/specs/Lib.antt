@@ -1,4 +1,3 @@
-pub mod Keyed
 pub mod Effects
 pub mod Plain
 pub mod Accesses
@@ -20,5 +19,5 @@ pub mod Exact
 pub mod Synced
 pub mod Side
 pub mod Stamps
+pub mod Own
 pub mod Laws
-pub mod Render

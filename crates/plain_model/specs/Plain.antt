@@ -1,6 +1,6 @@
 -- A plain map of files, what refuses a call on it, and what calls and effects do to it.
 use Rattle.std.specs.Prelude.{ℕ, ◌+◌, ◌-◌, ◌*◌, ◌^◌, max, min, List, [], ◌∷◌, ◌++◌, length, map, take, drop, replicate, ◌==◌, ◌&&◌, nat_lt, nat_le, if◌then◌else◌, Bool, Option, Some, None, is_some}
-use Rattle.std.specs.Str.{bytes_eq}
+use Rattle.hsm_types.specs.Limits.{file_bytes, segment_bytes, access_bytes}
 use Rattle.hsm_types.specs.Names.{is_name}
 use Rattle.hsm_types.specs.Refusals.{first_refusal}
 use Rattle.hsm_types.specs.declared.keys.FileKey.{FileKey}
@@ -11,7 +11,8 @@ use Rattle.hsm_types.specs.declared.calls.Reply.{Reply}
 use Rattle.hsm_types.specs.declared.calls.Reply.TheVariants.{Done, Made, Data, Size}
 use Rattle.hsm_types.specs.declared.calls.CallRefusal.{CallRefusal}
 use Rattle.hsm_types.specs.declared.calls.CallRefusal.TheVariants.{Missing, Exists, BadName, TooBig, BadLength, NoInodes}
-use Rattle.plain_model.specs.Keyed.{find_key, change_key, put_key, drop_key}
+use Rattle.hsm_types.specs.Keyed.{find_key, change_key, put_key, drop_key}
+pub use Rattle.hsm_types.specs.Listing.{Listed, named, free_inode}
 use Rattle.plain_model.specs.Effects.{Effect, Makes, Drops, Writes, Resizes, Restores, effect_of}
 
 -- a file: its key, its name and its bytes. A plain map is a list of files in the order of their inodes
@@ -21,26 +22,12 @@ pub record File : Type 0 where
   pub body : List ℕ
 
 -- what a call is judged by: the key and the name of each file
-pub record Listed : Type 0 where
-  pub key : FileKey
-  pub name : List ℕ
-
 abbrev pub listing : List File → List Listed
 listing files = map (λ f. record { key = f.key; name = f.name }) files
-
--- the file of that name, if there is one
-abbrev pub named : List ℕ → List Listed → Option Listed
-named name [] = None
-named name (l ∷ ls) = if bytes_eq l.name name then Some l else named name ls
 
 -- a file has the key
 abbrev pub has_key : FileKey → List Listed → Bool
 has_key k files = is_some (find_key (λ l. l.key) k files)
-
--- the lowest inode from n on that no file has
-abbrev pub free_inode : ℕ → List Listed → ℕ
-free_inode n [] = n
-free_inode n (l ∷ ls) = if l.key.ino == n then free_inode (n + 1) ls else n
 
 -- the greatest generation of the files, 0 for no file
 abbrev pub greatest : List Listed → ℕ
@@ -53,9 +40,9 @@ greatest (l ∷ ls) = max l.key.igen (greatest ls)
 abbrev pub bad_name : List ℕ → Option CallRefusal
 bad_name name = if is_name name then None else Some BadName
 
--- an access has from 1 to 65,536 bytes
+-- an access has from 1 to `access_bytes`
 abbrev pub bad_length : ℕ → Option CallRefusal
-bad_length len = if nat_le 1 len && nat_le len 65536 then None else Some (BadLength len)
+bad_length len = if nat_le 1 len && nat_le len access_bytes then None else Some (BadLength len)
 
 abbrev pub missing : List ℕ → List Listed → Option CallRefusal
 missing name files = if is_some (named name files) then None else Some Missing
@@ -63,9 +50,9 @@ missing name files = if is_some (named name files) then None else Some Missing
 abbrev pub exists : List ℕ → List Listed → Option CallRefusal
 exists name files = if is_some (named name files) then Some Exists else None
 
--- a file has at most 16,777,216 bytes. The end is told as far as a u64 goes
+-- a file has at most `file_bytes`. The end is told as far as a u64 goes
 abbrev pub too_big : ℕ → Option CallRefusal
-too_big end = if nat_lt 16777216 end then Some (TooBig (min end (2 ^ 64 - 1))) else None
+too_big end = if nat_lt file_bytes end then Some (TooBig (min end (2 ^ 64 - 1))) else None
 
 -- each inode is in use
 abbrev pub no_inodes : ℕ → List Listed → Option CallRefusal
@@ -118,13 +105,13 @@ resized size body = take size body ++ replicate (size - length body) 0
 
 -- the bytes of a segment of the body
 abbrev pub segment : ℕ → List ℕ → List ℕ
-segment j body = read_at (65536 * j) 65536 body
+segment j body = read_at (segment_bytes * j) segment_bytes body
 
 -- the bytes after an effect
 abbrev pub rebody : Effect → List ℕ → List ℕ
 rebody (Writes offset bytes) body = written offset bytes body
 rebody (Resizes size) body = resized size body
-rebody (Restores j bytes) body = written (65536 * j) bytes body
+rebody (Restores j bytes) body = written (segment_bytes * j) bytes body
 rebody effect body = body
 
 abbrev pub body_or_none : Option File → List ℕ

@@ -2,9 +2,10 @@
 use Rattle.std.specs.Prelude.{ℕ, ◌+◌, ◌-◌, ◌*◌, ◌/◌, ◌%◌, min, List, [], ◌∷◌, length, map, take, drop, count_by, Bool, ◌==◌, ◌&&◌, ◌||◌, nat_lt, nat_le, if◌then◌else◌, Option, Some, None}
 use Rattle.std.specs.Option.{option_map}
 use Rattle.std.specs.Str.{bytes_eq}
+use Rattle.hsm_types.specs.Limits.{file_bytes, segment_bytes, segment_blocks, access_bytes, last_volume}
 use Rattle.hsm_types.specs.Refusals.{first_refusal}
 use Rattle.hsm_types.specs.Segments.{from_on, segments_in, segments_met}
-use Rattle.hsm_types.specs.Stubs.{print_of, stub_at, already_offline, not_offline, any_unpunched}
+use Rattle.hsm_types.specs.Stubs.{print_of, stub_at, already_offline, not_offline, any_unpunched, entry_place, entry_print}
 use Rattle.hsm_types.specs.declared.dm.DmRefusal.{DmRefusal}
 use Rattle.hsm_types.specs.declared.dm.DmRefusal.TheVariants.{Changed, BadRange, NoSpace}
 use Rattle.hsm_types.specs.declared.stubs.Fingerprint.{Fingerprint}
@@ -25,9 +26,9 @@ use Rattle.plain_model.specs.Verdict.{short_of}
 
 -- ---- ranges
 
--- an access without an event has from 1 to 65,536 bytes
+-- an access without an event has from 1 to `access_bytes`
 abbrev pub bad_access : ℕ → Option DmRefusal
-bad_access len = if nat_le 1 len && nat_le len 65536 then None else Some BadRange
+bad_access len = if nat_le 1 len && nat_le len access_bytes then None else Some BadRange
 
 -- it ends within the file
 abbrev pub past_size : ℕ → ℕ → Option DmRefusal
@@ -35,24 +36,24 @@ past_size end size = if nat_le end size then None else Some BadRange
 
 -- the segment starts below the size
 abbrev pub past_end : ℕ → ℕ → Option DmRefusal
-past_end j size = if nat_lt (65536 * j) size then None else Some BadRange
+past_end j size = if nat_lt (segment_bytes * j) size then None else Some BadRange
 
 abbrev pub bad_volume : ℕ → Option DmRefusal
-bad_volume volume = if nat_le volume 255 then None else Some BadRange
+bad_volume volume = if nat_le volume last_volume then None else Some BadRange
 
 -- A punch begins at a segment of the file. It ends at a segment too, or at the file's end, or with a length of 0 goes on to that
 abbrev pub ends_well : ℕ → ℕ → ℕ → Bool
-ends_well offset len size = len == 0 || (nat_le (offset + len) 16777216 && ((offset + len) % 65536 == 0 || offset + len == size))
+ends_well offset len size = len == 0 || (nat_le (offset + len) file_bytes && ((offset + len) % segment_bytes == 0 || offset + len == size))
 
 abbrev pub bad_punch : ℕ → ℕ → ℕ → Option DmRefusal
-bad_punch offset len size = if offset % 65536 == 0 && nat_lt offset size && ends_well offset len size then None else Some BadRange
+bad_punch offset len size = if offset % segment_bytes == 0 && nat_lt offset size && ends_well offset len size then None else Some BadRange
 
 -- what could be punched of a range: from the next segment on, and up to the end of a segment, or to that of the file
 abbrev pub probe_start : ℕ → ℕ
-probe_start offset = 65536 * segments_in offset
+probe_start offset = segment_bytes * segments_in offset
 
 abbrev pub probe_end : ℕ → ℕ → ℕ → ℕ
-probe_end offset len size = if len == 0 || nat_le size (offset + len) then size else 65536 * ((offset + len) / 65536)
+probe_end offset len size = if len == 0 || nat_le size (offset + len) then size else segment_bytes * ((offset + len) / segment_bytes)
 
 abbrev pub nothing_to_punch : ℕ → ℕ → ℕ → Option DmRefusal
 nothing_to_punch offset len size = if nat_lt (probe_start offset) (probe_end offset len size) then None else Some BadRange
@@ -80,7 +81,7 @@ changed_bytes want bytes = if same_print want (print_of bytes) then None else So
 
 abbrev pub changed_from : Option Stub → List ℕ → Option DmRefusal
 changed_from None bytes = None
-changed_from (Some stub) bytes = changed_bytes stub.entry.print bytes
+changed_from (Some stub) bytes = changed_bytes (entry_print stub.entry) bytes
 
 -- of each call by itself, in the order of judgement
 abbrev pub reading_refusal : FileState → ℕ → ℕ → Option DmRefusal
@@ -96,7 +97,7 @@ punch_refusal f offset len =
 
 -- but for the limit of entries, which is judged last
 abbrev pub seal_refusal : FileState → ℕ → StubEntry → Option DmRefusal
-seal_refusal f j entry = first_refusal (past_end j (length f.body) ∷ bad_volume entry.volume ∷ away f j ∷ changed_bytes entry.print (segment j f.body) ∷ [])
+seal_refusal f j entry = first_refusal (past_end j (length f.body) ∷ bad_volume (entry_place entry).volume ∷ away f j ∷ changed_bytes entry.print (segment j f.body) ∷ [])
 
 abbrev pub restore_refusal : Superblock → Held → FileState → ℕ → List ℕ → Option DmRefusal
 restore_refusal s h f j bytes =
@@ -106,7 +107,7 @@ restore_refusal s h f j bytes =
 
 -- how many blocks of the segment are mapped
 abbrev pub mapped_in : FileState → ℕ → ℕ
-mapped_in f j = count_by (λ b. b) (take 16 (drop (16 * j) f.mapped))
+mapped_in f j = count_by (λ b. b) (take segment_blocks (drop (segment_blocks * j) f.mapped))
 
 abbrev pub segment_as : ℕ → Option Stub → Segment
 segment_as blocks None = Resident blocks

@@ -25,7 +25,7 @@ use Rattle.hsm_types.specs.declared.dm.DmReply.TheVariants as reply
 use Rattle.hsm_types.specs.declared.dm.DmRefusal.{DmRefusal}
 use Rattle.hsm_types.specs.declared.dm.DmRefusal.TheVariants.{NoToken, NoObject}
 use Rattle.hsm_types.specs.declared.messages.Message.{Message}
-use Rattle.plain_model.specs.Keyed.{find_key}
+use Rattle.hsm_types.specs.Keyed.{find_key}
 use Rattle.plain_model.specs.Ledger.{next_token, ledger_told}
 use Rattle.plain_model.specs.Effects.{change_of}
 use Rattle.plain_model.specs.Plain.{Listed, named, key_or_none, read_at}

@@ -15,7 +15,7 @@ use Rattle.plain_model.specs.declared.entries.Action.{Action}
 use Rattle.plain_model.specs.declared.entries.Action.TheVariants.{Issue, Resume, Dm}
 use Rattle.plain_model.specs.declared.entries.Answer.{Answer}
 use Rattle.plain_model.specs.declared.entries.Answer.TheVariants.{Call as Replied, Dm as Told}
-use Rattle.plain_model.specs.Keyed.{change_key, put_key, drop_key}
+use Rattle.hsm_types.specs.Keyed.{change_key, put_key, drop_key}
 use Rattle.plain_model.specs.Effects.{Effect, Leaves, Makes, Drops, effect_of, Change, Nothing, OfFile, OfSessions, OfRights, Closes, change_of}
 use Rattle.plain_model.specs.Plain.{File, key_by, body_of}
 use Rattle.plain_model.specs.Ledger.{Meant, Fixed, Means, is_completion}

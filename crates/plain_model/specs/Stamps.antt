@@ -9,7 +9,7 @@ use Rattle.plain_model.specs.declared.entries.Action.{Action}
 use Rattle.plain_model.specs.declared.entries.Action.TheVariants.{Issue, Resume}
 use Rattle.plain_model.specs.declared.entries.Answer.{Answer}
 use Rattle.plain_model.specs.declared.entries.Answer.TheVariants.{Call as Replied}
-use Rattle.plain_model.specs.Keyed.{same_key}
+use Rattle.hsm_types.specs.Keyed.{same_key}
 use Rattle.plain_model.specs.Ledger.{Meant, Fixed, Means, is_completion}
 use Rattle.plain_model.specs.Accesses.{is_access}
 use Rattle.plain_model.specs.Step.{World, meant_for, after}

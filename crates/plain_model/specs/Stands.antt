@@ -2,10 +2,11 @@
 use Rattle.std.specs.Prelude.{ℕ, ◌≡◌, ◌*◌, ◌/◌, ◌<◌, ◌≤◌, List, [], ◌∷◌, length, get_or, true, false, if◌then◌else◌, Option, Some, None, is_none, IfSome}
 use Rattle.std.specs.List.{All}
 use Rattle.std.specs.Map.{keys_of}
+use Rattle.hsm_types.specs.Limits.{segment_bytes}
 use Rattle.hsm_types.specs.Rights.{AreRights}
 use Rattle.hsm_types.specs.Sessions.{Ascend, places}
 use Rattle.hsm_types.specs.Regions.{covers}
-use Rattle.hsm_types.specs.Stubs.{print_of, stub_at, offline_at}
+use Rattle.hsm_types.specs.Stubs.{print_of, stub_at, offline_at, entry_print}
 use Rattle.hsm_types.specs.declared.dm.Response.{Response}
 use Rattle.hsm_types.specs.declared.keys.Token.{Token}
 use Rattle.plain_model.specs.Plain.{File, segment}
@@ -17,9 +18,9 @@ use Rattle.plain_model.specs.State.{FileState, State}
 -- segment, and none is past the end; and each segment whose bytes are away is covered.
 pub record HasBody (f : FileState) (body : List ℕ) : Type 0 where
   pub size : length f.body ≡ length body
-  pub bytes : (i : ℕ) → offline_at f.kept.stubs (i / 65536) ≡ false → get_or f.body i 0 ≡ get_or body i 0
-  pub prints : (j : ℕ) → IfSome (stub_at j f.kept.stubs) (λ stub. stub.entry.print ≡ print_of (segment j body))
-  pub within : (j : ℕ) → length body ≤ 65536 * j → stub_at j f.kept.stubs ≡ None
+  pub bytes : (i : ℕ) → offline_at f.kept.stubs (i / segment_bytes) ≡ false → get_or f.body i 0 ≡ get_or body i 0
+  pub prints : (j : ℕ) → IfSome (stub_at j f.kept.stubs) (λ stub. entry_print stub.entry ≡ print_of (segment j body))
+  pub within : (j : ℕ) → length body ≤ segment_bytes * j → stub_at j f.kept.stubs ≡ None
   pub covered : (j : ℕ) → offline_at f.kept.stubs j ≡ true → covers f.kept.regions j ≡ true
 
 -- the held file is that of the map

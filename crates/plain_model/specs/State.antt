@@ -2,11 +2,12 @@
 use Rattle.std.specs.Prelude.{ℕ, ◌+◌, ◌-◌, ◌*◌, max, min, List, [], length, map, replicate, sum_by, count_by, Bool, false, Option, Some, None}
 use Rattle.hsm_types.specs.Attributes.{with_value, without_value}
 use Rattle.hsm_types.specs.Kept.{Kept, nothing_kept}
+use Rattle.hsm_types.specs.Limits.{segment_bytes}
 use Rattle.hsm_types.specs.Rights.{Rights, released}
 use Rattle.hsm_types.specs.Sessions.{SessionTable, no_sessions, responded}
 use Rattle.hsm_types.specs.Stubs.{sealed, punched, restored, unsealed}
 use Rattle.hsm_types.specs.declared.keys.FileKey.{FileKey}
-use Rattle.plain_model.specs.Keyed.{find_key, change_key, put_key, drop_key}
+use Rattle.hsm_types.specs.Keyed.{find_key, change_key, put_key, drop_key}
 use Rattle.plain_model.specs.Effects.{Effect, Leaves, Makes, Drops, Writes, Resizes, Manages, Attaches, Detaches, Seals, Punches, Restores, Change, Nothing, OfFile, OfSessions, OfRights, Closes}
 use Rattle.plain_model.specs.Plain.{Listed, free_inode, written, rebody}
 use Rattle.plain_model.specs.Ledger.{Ledger, no_ledger, next_token}
@@ -76,7 +77,7 @@ rekept effect size kept = kept
 
 -- what is held of the bytes after an effect: zeros of those that are away then, and else as in a plain map
 abbrev pub rebody_held : Effect → List ℕ → List ℕ
-rebody_held (Punches from to) body = written (65536 * from) (replicate (min (65536 * to) (length body) - 65536 * from) 0) body
+rebody_held (Punches from to) body = written (segment_bytes * from) (replicate (min (segment_bytes * to) (length body) - segment_bytes * from) 0) body
 rebody_held effect body = rebody effect body
 
 -- the file after an effect on it

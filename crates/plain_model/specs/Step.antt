@@ -1,9 +1,9 @@
 -- Which event may come in a world, and the world that it leaves.
 use Rattle.std.specs.Prelude.{ℕ, ◌≡◌, ◌+◌, ◌*◌, ◌<◌, ◌≤◌, ◌⊎◌, List, length, if◌then◌else◌, Option, is_some, IsTrue, MatchOption}
-use Rattle.hsm_types.specs.Answers.{reply_kind}
-use Rattle.hsm_types.specs.Forms.{answer_kind}
+use Rattle.hsm_types.specs.Answers.{reply_kind, answer_kind}
+use Rattle.hsm_types.specs.Limits.{segment_bytes}
 use Rattle.hsm_types.specs.Messages.{is_lawful}
-use Rattle.hsm_types.specs.Stubs.{print_of}
+use Rattle.hsm_types.specs.Stubs.{print_of, entry_print}
 use Rattle.hsm_types.specs.declared.keys.FileKey.{FileKey}
 use Rattle.hsm_types.specs.declared.keys.Sid.{Sid}
 use Rattle.hsm_types.specs.declared.stores.Superblock.{Superblock}
@@ -24,7 +24,7 @@ use Rattle.plain_model.specs.declared.entries.Action.{Action}
 use Rattle.plain_model.specs.declared.entries.Action.TheVariants.{Issue, Resume, Dm, Commit}
 use Rattle.plain_model.specs.declared.entries.Answer.{Answer}
 use Rattle.plain_model.specs.declared.entries.Answer.TheVariants.{Call as Replied, Dm as Told}
-use Rattle.plain_model.specs.Keyed.{find_key}
+use Rattle.hsm_types.specs.Keyed.{find_key}
 use Rattle.plain_model.specs.Effects.{Change, Nothing, OfFile, OfSessions, OfRights, Closes, change_of}
 use Rattle.plain_model.specs.Plain.{File, listing, named, key_or_none, body_of, free_inode, greatest, key_by, read_at, segment, affected, act}
 use Rattle.plain_model.specs.Accesses.{is_access, can_block, wants_space}
@@ -89,7 +89,7 @@ abbrev pub IsFileOf : World → FileKey → Type 0
 IsFileOf W k = IsTrue (is_some (find_key (λ f. f.key) k W.files))
 
 abbrev pub IsSegmentOf : World → FileKey → ℕ → Type 0
-IsSegmentOf W k j = IsFileOf W k × (65536 * j < length (body_of k W.files))
+IsSegmentOf W k j = IsFileOf W k × (segment_bytes * j < length (body_of k W.files))
 
 -- A session's call may get this reply: a refusal, or the answer of its kind. A response is lawful and its token is open, and a user's event has the
 -- next token; the size, the key and the bytes that are told are those of the plain map, and bytes are written within a file. A segment is sealed, and
@@ -101,7 +101,7 @@ MayTell s W (CreateUserEvent body) (told.Token t) = t ≡ next_token W.ledger
 MayTell s W (GetFileAttr token handle) (told.Attr size stamp blocks) = IsFileOf W handle.key × (size ≡ length (body_of handle.key W.files))
 MayTell s W (ReadInvis token handle offset len) (told.Data bytes) = IsFileOf W handle.key × (bytes ≡ read_at offset len (body_of handle.key W.files))
 MayTell s W (WriteInvis token handle offset bytes) told.Done = IsFileOf W handle.key × (offset + length bytes ≤ length (body_of handle.key W.files))
-MayTell s W (Seal token handle j entry) told.Done = IsSegmentOf W handle.key j × (entry.print ≡ print_of (segment j (body_of handle.key W.files)))
+MayTell s W (Seal token handle j entry) told.Done = IsSegmentOf W handle.key j × (entry_print entry ≡ print_of (segment j (body_of handle.key W.files)))
 MayTell s W (Restore token handle j bytes) told.Done = IsSegmentOf W handle.key j × (print_of bytes ≡ print_of (segment j (body_of handle.key W.files)))
 MayTell s W (PathToHandle name) (told.Handle handle) = IsTrue (is_some (named name (listing W.files))) × (handle ≡ record { fsid = s.fsid; key = key_or_none (named name (listing W.files)) })
 MayTell s W call reply = reply_kind reply ≡ answer_kind call
@@ -149,7 +149,3 @@ Allows s W e = MayGive s W e.actor e.action e.answer
 -- the world after the entry. A fault changes nothing
 abbrev pub after : World → Entry → World
 after W e = if is_fault e.answer then W else given W e.actor e.action e.answer
-
--- the step: from W the entry may come, and it leaves V
-abbrev pub Step : Superblock → World → Entry → World → Type 0
-Step s W e V = Allows s W e × (V ≡ after W e)

@@ -23,7 +23,7 @@ use Rattle.plain_model.specs.declared.entries.Action.{Action}
 use Rattle.plain_model.specs.declared.entries.Action.TheVariants.{Issue}
 use Rattle.plain_model.specs.declared.facts.Facts.{Facts}
 use Rattle.plain_model.specs.declared.facts.NoRoom.{NoRoom}
-use Rattle.plain_model.specs.Keyed.{same_key, find_key, set_at}
+use Rattle.hsm_types.specs.Keyed.{same_key, find_key, set_at}
 use Rattle.plain_model.specs.Effects.{effect_of}
 use Rattle.plain_model.specs.Plain.{reply_on}
 use Rattle.plain_model.specs.Accesses.{is_access, need_of, kind_of, reach, needs, told_span, event_message}

@@ -2,7 +2,7 @@
 use hsm_types::{Call, CallerId, DmCall, DmReply, ListOf, Reply, Sid};
 
 /// Who makes an event.
-#[derive(Clone, Copy, Debug, PartialEq, Eq)]
+#[derive(Clone, Copy, PartialEq, Eq)]
 pub enum Actor {
     Caller(CallerId),
     Session(Sid),
@@ -11,7 +11,7 @@ pub enum Actor {
 }
 
 /// What an event asks of the store.
-#[derive(Debug, PartialEq, Drop)]
+#[derive(Drop)]
 pub enum Action {
     Issue(Call),
     /// The caller asks for the answer to its access that waits.
@@ -21,7 +21,7 @@ pub enum Action {
 }
 
 /// What the store answered to an event.
-#[derive(Debug, PartialEq, Drop)]
+#[derive(Drop)]
 pub enum Answer {
     /// To a caller, or to the store itself.
     Call(Reply),
@@ -30,7 +30,7 @@ pub enum Answer {
 }
 
 /// An event with its answer.
-#[derive(Debug, PartialEq, Drop)]
+#[derive(Drop)]
 pub struct Entry {
     pub actor: Actor,
     pub action: Action,

@@ -1,7 +1,7 @@
 //! What a store knows of an access, by which the rules on waiting decide.
 
 /// What a store knows of an access.
-#[derive(Clone, Copy, Debug, PartialEq, Eq)]
+#[derive(Clone, Copy, PartialEq, Eq)]
 pub struct Facts {
     /// Its file lives.
     pub live: bool,
@@ -14,7 +14,7 @@ pub struct Facts {
 }
 
 /// How many blocks an access needs, and how many are free, which are fewer.
-#[derive(Clone, Copy, Debug, PartialEq, Eq)]
+#[derive(Clone, Copy, PartialEq, Eq)]
 pub struct NoRoom {
     pub need: u64,
     pub free: u64,

@@ -5,11 +5,17 @@ ghost use Rattle.plain_model.specs.declared.entries.Entry.{Entry};
 ghost use Rattle.plain_model.specs.Plain.{File};
 ghost use Rattle.plain_model.specs.State.{Held};
 ghost use Rattle.plain_model.specs.Synced.{SyncedLaws};
-ghost use Rattle.plain_model.specs.Laws.{IsTransparent, RunIsGood};
+ghost use Rattle.plain_model.specs.Own.{OwnGrows};
+ghost use Rattle.plain_model.specs.Laws.{BeginningIsRun, IsTransparent, RunIsGood};
 
 /// The files of every legal history without a clash are those that were never moved.
 pub fn transparent()
     ensures { (s : Superblock) (files : List File) (history : List Entry) → IsTransparent s files history }
+{}
+
+/// Every beginning of a run is a run.
+pub fn beginning_is_run()
+    ensures { (s : Superblock) (base : ℕ) (opening : Held) (first rest : List Entry) → BeginningIsRun s base opening first rest }
 {}
 
 /// Every run is a good one.
@@ -20,4 +26,9 @@ pub fn run_is_good()
 /// Of every history the synced entries come first, and a sync or a commit adds all before it.
 pub fn synced_grows()
     ensures { (history : List Entry) → SyncedLaws history }
+{}
+
+/// Of every history a caller's entries grow by those that are its own.
+pub fn own_grows()
+    ensures { (caller : ℕ) (history : List Entry) (entry : Entry) → OwnGrows caller history entry }
 {}

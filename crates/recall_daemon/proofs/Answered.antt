@@ -1,5 +1,6 @@
 -- What an answer leaves of the event in hand: it is behind the machine, or it is still in hand.
-use Rattle.std.proofs.Common.{◌≡◌, ℕ, suc, ◌+◌, ◌-◌, ◌*◌, ◌<◌, ◌≤◌, ◌⊎◌, true, false, List, length, filter, Contains, Some, None, refl, ap, subst, inl, inr, arith, mul-le-mul_right, suc-mul, true≢false, ◌∙◌}
+use Rattle.std.proofs.Common.{◌≡◌, ℕ, suc, ◌+◌, ◌-◌, ◌*◌, ◌<◌, ◌≤◌, ◌⊎◌, true, false, List, length, filter, Contains, Some, None, refl, ap, subst}
+use Rattle.std.proofs.Common.{inl, inr, arith, mul-le-mul_right, suc-mul, true≢false, ◌∙◌}
 use Rattle.hsm_types.specs.declared.daemons.Act.{Act}
 use Rattle.hsm_types.specs.declared.daemons.Act.TheVariants.{Dm, Fetch, Idle}
 use Rattle.hsm_types.specs.declared.daemons.Heard.{Heard}
@@ -20,7 +21,8 @@ use Rattle.daemon_session.specs.declared.events.Kept.{Kept}
 use Rattle.daemon_session.specs.Seats.{Seat, Refuses}
 use Rattle.recall_daemon.specs.declared.away.Away.{Away}
 use Rattle.recall_daemon.specs.Known.{Known, Hand, handling, put_off, dropped, refused, failed, unrestored, unanswered, knows_by, away_in, back_in, IsCalm}
-use Rattle.recall_daemon.specs.Bounds.{waiting, acts_of_one, acts_made, still_away, IsWaiting, IsBegun, IsBringing, IsOnEvent, IsSettled, TellsOfFew, MovesOn, IsLast}
+use Rattle.recall_daemon.specs.Bounds.{waiting, acts_of_one, acts_made, still_away, IsWaiting, IsBegun, IsBringing, IsOnEvent, IsSettled, TellsOfFew}
+use Rattle.recall_daemon.specs.Bounds.{MovesOn, IsLast}
 use Rattle.recall_daemon.proofs.Waiting.{put_off_waits_less, forgot_waits_less, back_less, not_of}
 
 -- ---- numbers

@@ -1,6 +1,7 @@
 -- The way to a session, as the whole of what it knows.
 use Rattle.std.proofs.Common.{◌≡◌, ℕ, List, Some, None, ◌⊎◌, ⊎_elim, refl, sym, subst, ◌∙◌}
 use Rattle.std.specs.Prelude.{◌++◌}
+use Rattle.hsm_types.specs.Limits.{buffer_bytes}
 use Rattle.hsm_types.specs.declared.daemons.Act.{Act}
 use Rattle.hsm_types.specs.declared.daemons.Act.TheVariants.{Dm, Idle}
 use Rattle.hsm_types.specs.declared.daemons.Heard.{Heard}
@@ -22,7 +23,8 @@ use Rattle.recall_daemon.specs.Tellings.{messages_told, TellsNoSession}
 use Rattle.recall_daemon.specs.Workers.{IsEntry, Waits, IsWorker, Gives, Works}
 use Rattle.recall_daemon.specs.declared.away.Away.{Away}
 use Rattle.recall_daemon.specs.declared.serving.Serving.{Serving}
-use Rattle.recall_daemon.specs.declared.serving.Serving.TheVariants.{Outside, Entering, Resting, Asking, Requesting, Measuring, Mapping, Fetching, Restoring, Responding}
+use Rattle.recall_daemon.specs.declared.serving.Serving.TheVariants.{Outside, Entering, Resting, Asking, Requesting, Measuring, Mapping, Fetching}
+use Rattle.recall_daemon.specs.declared.serving.Serving.TheVariants.{Restoring, Responding}
 use Rattle.recall_daemon.specs.declared.worker.Worker.{Worker}
 
 -- the seat is all that the answer changes
@@ -83,12 +85,12 @@ seats old told m sid act new works at enters_by gives =
 
 -- ---- events
 
-pub kept_more : (s : Seat) (sid : Sid) (told : Heard) (bytes : List ℕ) → messages_told told ≡ Some bytes → knows_by (with_hand None s) (Dm sid (GetEvents 0 65536)) told ≡ with_hand None (record s { kept = s.kept ++ events_in Recall bytes })
+pub kept_more : (s : Seat) (sid : Sid) (told : Heard) (bytes : List ℕ) → messages_told told ≡ Some bytes → knows_by (with_hand None s) (Dm sid (GetEvents 0 buffer_bytes)) told ≡ with_hand None (record s { kept = s.kept ++ events_in Recall bytes })
 kept_more s sid (heard.Dm (reply.Packed there tokens)) bytes is = let same : there ≡ bytes = cc in rw same refl
 kept_more s sid (heard.Dm answer) bytes is = cc
 kept_more s sid told bytes is = cc
 
-pub kept_none : (s : Seat) (sid : Sid) (told : Heard) → messages_told told ≡ None → knows_by (with_hand None s) (Dm sid (GetEvents 0 65536)) told ≡ with_hand None s
+pub kept_none : (s : Seat) (sid : Sid) (told : Heard) → messages_told told ≡ None → knows_by (with_hand None s) (Dm sid (GetEvents 0 buffer_bytes)) told ≡ with_hand None s
 kept_none s sid (heard.Dm (reply.Packed there tokens)) is = cc
 kept_none s sid (heard.Dm answer) is = refl
 kept_none s sid told is = refl

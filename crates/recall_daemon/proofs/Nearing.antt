@@ -1,11 +1,13 @@
 -- Each act on an event leaves fewer to come.
-use Rattle.std.proofs.Common.{◌≡◌, ℕ, zero, suc, ◌+◌, ◌-◌, ◌*◌, ◌<◌, ◌≤◌, ◌⊎◌, ⊎_elim, List, [], length, Some, None, refl, sym, ap₂, subst, arith, mul-le-mul_right, one-mul}
+use Rattle.std.proofs.Common.{◌≡◌, ℕ, zero, suc, ◌+◌, ◌-◌, ◌*◌, ◌<◌, ◌≤◌, ◌⊎◌, ⊎_elim, List, [], length, Some, None, refl, sym, ap₂, subst, arith}
+use Rattle.std.proofs.Common.{mul-le-mul_right, one-mul}
 use Rattle.hsm_types.specs.declared.daemons.Act.{Act}
 use Rattle.hsm_types.specs.declared.daemons.Act.TheVariants.{Dm, Copy, Fetch, Idle}
 use Rattle.hsm_types.specs.declared.daemons.Heard.{Heard}
 use Rattle.hsm_types.specs.declared.daemons.Heard.TheVariants as heard
 use Rattle.hsm_types.specs.declared.dm.DmCall.{DmCall}
-use Rattle.hsm_types.specs.declared.dm.DmCall.TheVariants.{CreateSession, GetAllSessions, QuerySession, SetDisp, GetAllTokens, FindEventMsg, GetEvents, Respond, RequestRight, GetFileAttr, GetAllocInfo, Restore}
+use Rattle.hsm_types.specs.declared.dm.DmCall.TheVariants.{CreateSession, GetAllSessions, QuerySession, SetDisp, GetAllTokens, FindEventMsg}
+use Rattle.hsm_types.specs.declared.dm.DmCall.TheVariants.{GetEvents, Respond, RequestRight, GetFileAttr, GetAllocInfo, Restore}
 use Rattle.hsm_types.specs.declared.dm.DmReply.TheVariants as reply
 use Rattle.hsm_types.specs.declared.dm.Response.{Response}
 use Rattle.hsm_types.specs.declared.dm.Right.{Right}
@@ -20,7 +22,8 @@ use Rattle.daemon_session.specs.Seats.{Seat, Refuses, NeedsNone, LeadsOn, MayMak
 use Rattle.recall_daemon.specs.declared.away.Away.{Away}
 use Rattle.recall_daemon.specs.Known.{Known, Hand, taken, asks_by, ArePutOff, HasAll, MayFetch, MayRest, MayCall, MayGive}
 use Rattle.recall_daemon.specs.Machine.{Machine, GoesOn}
-use Rattle.recall_daemon.specs.Bounds.{waiting, acts_of_one, acts_made, acts_left, still_away, IsWaiting, IsOnEvent, IsSettled, IsAtWork, TellsOfFew, MovesOn, IsLast, Nears, Goes}
+use Rattle.recall_daemon.specs.Bounds.{waiting, acts_of_one, acts_made, acts_left, still_away, IsWaiting, IsOnEvent, IsSettled, IsAtWork, TellsOfFew}
+use Rattle.recall_daemon.specs.Bounds.{MovesOn, IsLast, Nears, Goes}
 use Rattle.recall_daemon.proofs.Waiting.{put_off_waits_less}
 use Rattle.recall_daemon.proofs.Answered.{IsBehind, IsHolding, Leaves, left_of, leaves, settled_with, some_away, still}
 

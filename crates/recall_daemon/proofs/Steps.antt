@@ -70,9 +70,6 @@ pub no_events : (sid : Sid) (call : DmCall) (told : Heard) → IsOther call → 
 no_events sid (GetEvents most room) told other has = other
 no_events sid call told other has = let e = has.1 in cc
 
-pub no_events_fetched : (a : Away) (told : Heard) → HasAll (Fetch a.entry) told → ⊥
-no_events_fetched a told has = let e = has.1 in cc
-
 pub none_tells_nothing : (told : Heard) → fetched_told told ≡ None → TellsNothing told
 none_tells_nothing (heard.Fetched fetched) is = cc
 none_tells_nothing told is = tt

@@ -1,8 +1,10 @@
 -- What the recall daemon knows, and what it may do by that. What it knows is a fold over its acts and the answers to them. Over the entries of a history,
 -- which tell its calls and their answers, the same fold gives the same but for which events are put off: rests and calls with no answer leave no entry.
-use Rattle.std.specs.Prelude.{◌≡◌, ℕ, ◌+◌, ◌≤◌, ◌^◌, ◌⊎◌, min, List, [], filter, Bool, true, false, not, ◌==◌, nat_lt, if◌then◌else◌, Option, Some, None, Ok, Err, Contains, IsSome}
+use Rattle.std.specs.Prelude.{◌≡◌, ℕ, ◌+◌, ◌≤◌, ◌^◌, ◌⊎◌, min, List, [], filter, Bool, true, false, not, ◌==◌, nat_lt, if◌then◌else◌, Option, Some}
+use Rattle.std.specs.Prelude.{None, Ok, Err, Contains, IsSome}
 use Rattle.std.specs.List.{All, filter_map, enumerate_from}
 use Rattle.std.specs.Option.{option_map}
+use Rattle.hsm_types.specs.Limits.{buffer_bytes}
 use Rattle.hsm_types.specs.Segments.{segments_met, segment_around}
 use Rattle.hsm_types.specs.declared.daemons.Act.{Act}
 use Rattle.hsm_types.specs.declared.daemons.Act.TheVariants.{Dm, Copy, Fetch, Idle}
@@ -235,13 +237,13 @@ ArePutOff kept = All (λ (k : Kept). k.marked ≡ true) kept
 
 -- it asked for events, and there is none more
 abbrev pub HasAll : Act → Heard → Type 0
-HasAll asked told = (sid : Sid) × (asked ≡ Dm sid (GetEvents 0 65536)) × (told ≡ heard.Dm (reply.Refused why.Again))
+HasAll asked told = (sid : Sid) × (asked ≡ Dm sid (GetEvents 0 buffer_bytes)) × (told ≡ heard.Dm (reply.Refused why.Again))
 
 abbrev pub HasRight : Act → Heard → Sid → Token → Handle → Type 0
 HasRight asked told sid t h = (asked ≡ Dm sid (RequestRight t h Excl)) × (told ≡ heard.Dm reply.Done)
 
 abbrev pub MayCall : Known → Act → Heard → Sid → DmCall → Type 0
-MayCall k asked told sid (GetEvents most room) = IsSeated k.seat sid × (most ≡ 0) × (room ≡ 65536) × (k.hand ≡ None) × ArePutOff k.seat.kept × (HasAll asked told → ⊥)
+MayCall k asked told sid (GetEvents most room) = IsSeated k.seat sid × (most ≡ 0) × (room ≡ buffer_bytes) × (k.hand ≡ None) × ArePutOff k.seat.kept × (HasAll asked told → ⊥)
 MayCall k asked told sid (RequestRight t h right) = IsSeated k.seat sid × (right ≡ Excl) × (k.hand ≡ None) × IsNext k.seat.kept t h
 MayCall k asked told sid (GetFileAttr t h) = IsSeated k.seat sid × HasRight asked told sid t h × ((hand : Hand) × Holds k t h hand)
 MayCall k asked told sid (GetAllocInfo t h) = IsSeated k.seat sid × (asked ≡ Dm sid (GetFileAttr t h)) × ((hand : Hand) × Holds k t h hand × IsSome hand.size)

@@ -1,10 +1,12 @@
 -- The parts of the machine, what they show of what it knows, and what holds between them.
 use Rattle.std.specs.Prelude.{◌≡◌, ℕ, List, Option, Some, None}
+use Rattle.hsm_types.specs.Limits.{buffer_bytes}
 use Rattle.hsm_types.specs.declared.daemons.Act.{Act}
 use Rattle.hsm_types.specs.declared.daemons.Act.TheVariants.{Dm, Fetch, Idle}
 use Rattle.hsm_types.specs.declared.daemons.Heard.{Heard}
 use Rattle.hsm_types.specs.declared.daemons.Heard.TheVariants as heard
-use Rattle.hsm_types.specs.declared.dm.DmCall.TheVariants.{CreateSession, GetAllSessions, QuerySession, SetDisp, GetAllTokens, FindEventMsg, GetEvents, Respond, RequestRight, GetFileAttr, GetAllocInfo, Restore}
+use Rattle.hsm_types.specs.declared.dm.DmCall.TheVariants.{CreateSession, GetAllSessions, QuerySession, SetDisp, GetAllTokens, FindEventMsg}
+use Rattle.hsm_types.specs.declared.dm.DmCall.TheVariants.{GetEvents, Respond, RequestRight, GetFileAttr, GetAllocInfo, Restore}
 use Rattle.hsm_types.specs.declared.dm.Response.{Response}
 use Rattle.hsm_types.specs.declared.dm.Right.TheVariants.{Excl}
 use Rattle.hsm_types.specs.declared.keys.Sid.{Sid}
@@ -17,7 +19,8 @@ use Rattle.recall_daemon.specs.Known.{Known, Hand, taken, with_hand, failed, put
 use Rattle.recall_daemon.specs.Machine.{Machine}
 use Rattle.recall_daemon.specs.declared.away.Away.{Away}
 use Rattle.recall_daemon.specs.declared.serving.Serving.{Serving}
-use Rattle.recall_daemon.specs.declared.serving.Serving.TheVariants.{Outside, Entering, Resting, Asking, Requesting, Measuring, Mapping, Fetching, Restoring, Responding}
+use Rattle.recall_daemon.specs.declared.serving.Serving.TheVariants.{Outside, Entering, Resting, Asking, Requesting, Measuring, Mapping, Fetching}
+use Rattle.recall_daemon.specs.declared.serving.Serving.TheVariants.{Restoring, Responding}
 use Rattle.recall_daemon.specs.declared.worker.Worker.{Worker}
 
 -- ---- what they show
@@ -70,7 +73,7 @@ abbrev pub Waits : Serving → Membership → List Away → Act → Type 0
 Waits Outside m away asked = (m.seat.sid ≡ None) × (asked ≡ Idle)
 Waits Entering m away asked = IsEntry m.seat asked × (asked ≡ m.asked)
 Waits (Resting sid) m away asked = IsSeated m.seat sid × (asked ≡ Idle)
-Waits (Asking sid) m away asked = IsSeated m.seat sid × ArePutOff m.seat.kept × (asked ≡ Dm sid (GetEvents 0 65536))
+Waits (Asking sid) m away asked = IsSeated m.seat sid × ArePutOff m.seat.kept × (asked ≡ Dm sid (GetEvents 0 buffer_bytes))
 Waits (Requesting sid e) m away asked = IsServing m sid e × (asked ≡ Dm sid (RequestRight e.token e.handle Excl))
 Waits (Measuring sid e) m away asked = IsServing m sid e × (asked ≡ Dm sid (GetFileAttr e.token e.handle))
 Waits (Mapping sid e size) m away asked = IsServing m sid e × (asked ≡ Dm sid (GetAllocInfo e.token e.handle))

@@ -6,7 +6,7 @@ use hsm_types::{Segment, StubEntry};
 use std::alloc::{AllocError, Global};
 
 /// A segment whose bytes are away, and where their copy lies.
-#[derive(Clone, Copy, Debug, PartialEq, Eq)]
+#[derive(Clone, Copy, PartialEq, Eq)]
 pub struct Away {
     pub segment: u32,
     pub entry: StubEntry,

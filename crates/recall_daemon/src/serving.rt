@@ -5,7 +5,7 @@ use daemon_session::Event;
 use hsm_types::Sid;
 
 /// What the machine waits for.
-#[derive(Clone, Copy, Debug, Drop)]
+#[derive(Clone, Copy, Drop)]
 pub(crate) enum Serving {
     /// Nothing, and it has no session.
     Outside,

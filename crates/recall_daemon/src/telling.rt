@@ -1,6 +1,7 @@
 //! What an answer tells.
 ghost use Rattle.std.specs.Prelude.{◌≡◌, Some, None, Decides, MatchOption};
-ghost use Rattle.recall_daemon.specs.Tellings.{TellsNoSession, TellsNoMore, tells_done, size_told, refusal_told, segments_told, messages_told, fetched_told, response_to};
+ghost use Rattle.recall_daemon.specs.Tellings.{TellsNoSession, TellsNoMore, tells_done, size_told, refusal_told, segments_told, messages_told};
+ghost use Rattle.recall_daemon.specs.Tellings.{fetched_told, response_to};
 
 use hsm_types::{Bytes, DmRefusal, DmReply, FetchRefusal, Heard, Response, Segments, Verified};
 

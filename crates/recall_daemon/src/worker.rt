@@ -14,8 +14,8 @@ use crate::away::Away;
 use crate::choosing::first_event;
 use crate::needed::first_needed;
 use crate::serving::Serving;
-use daemon_session::{Event, Member, ROOM};
-use hsm_types::{Act, Daemon, DmCall, Response, Right, Sid};
+use daemon_session::{Event, Member};
+use hsm_types::{Act, BUFFER_BYTES as ROOM, Daemon, DmCall, Response, Right, Sid};
 use std::alloc::Global;
 use std::snapshot::Snapshot;
 

@@ -1,5 +1,6 @@
 -- Sums over numbers in a row, and counts of objects.
-use Rattle.std.proofs.Common.{◌≡◌, ◌⊎◌, inl, inr, ℕ, zero, suc, ◌+◌, ◌<◌, ◌≤◌, Bool, true, false, cond, not, List, [], ◌∷◌, length, sum_by, count_by, refl, sym, ap, ◌∙◌, arith, rules, add-zero, add-one, zero-add}
+use Rattle.std.proofs.Common.{◌≡◌, ◌⊎◌, inl, inr, ℕ, zero, suc, ◌+◌, ◌<◌, ◌≤◌, Bool, true, false, cond, not, List, [], ◌∷◌, length, sum_by, count_by}
+use Rattle.std.proofs.Common.{refl, sym, ap, ◌∙◌, arith, rules, add-zero, add-one, zero-add}
 use Rattle.std.proofs.lemmas.List.Sums.{sum_by-cons}
 use Rattle.std.specs.List.{range_with_len}
 use Rattle.media_model.specs.Objects.{Objects}

@@ -1,5 +1,7 @@
 -- A walk along entries that stand in the order of their objects.
-use Rattle.std.proofs.Common.{◌≡◌, ◌≢◌, ◌⊎◌, inl, inr, ℕ, zero, suc, ◌+◌, ◌^◌, ◌<◌, ◌≤◌, Bool, true, false, cond, not, ◌||◌, ◌-◌, nat_lt, if◌then◌else◌, List, [], length, get_or, take, sum_by, count_by, Option, Some, None, is_some, is_none, IfSome, option_map, refl, sym, ap, subst, ◌∙◌, arith, rules, add-zero, add-one, length-take}
+use Rattle.std.proofs.Common.{◌≡◌, ◌≢◌, ◌⊎◌, inl, inr, ℕ, zero, suc, ◌+◌, ◌^◌, ◌<◌, ◌≤◌, Bool, true, false, cond, not, ◌||◌, ◌-◌, nat_lt}
+use Rattle.std.proofs.Common.{if◌then◌else◌, List, [], length, get_or, take, sum_by, count_by, Option, Some, None, is_some, is_none, IfSome}
+use Rattle.std.proofs.Common.{option_map, refl, sym, ap, subst, ◌∙◌, arith, rules, add-zero, add-one, length-take}
 use Rattle.std.proofs.Math.Bool.{or-false}
 use Rattle.std.proofs.lemmas.Bool.{ltb-true, ltb-false}
 use Rattle.std.proofs.lemmas.List.{get_or-take, take_all}
@@ -10,7 +12,7 @@ use Rattle.std.specs.List.{range_with_len}
 use Rattle.std.proofs.lemmas.List.Sorted.{list_any-IsPermutation, sum_by-IsPermutation}
 use Rattle.std.specs.List.Sorted.{IsPermutation, IsNonDecreasingBy}
 use Rattle.std.specs.Option.{option_map_or}
-use Rattle.hsm_types.specs.Stubs.{print_of}
+use Rattle.hsm_types.specs.Stubs.{print_of, entry_place, entry_print}
 use Rattle.hsm_types.specs.declared.stubs.Fingerprint.{Fingerprint}
 use Rattle.hsm_types.specs.declared.stubs.StubEntry.{StubEntry}
 use Rattle.media_model.specs.Objects.{Objects}
@@ -57,32 +59,32 @@ at_most_one false n = omega arith
 
 -- whatever the drives tell
 pub tallies : {D : Type 0} (g : drive.Ghosts D) (volumes : ℕ) (drives : List D) (e : StubEntry) (found : Option Fingerprint) (old mid : Walk) (i : ℕ) → Finds g volumes drives e old mid found → old.counts.live ≤ i → old.counts.held + old.counts.missing + old.counts.altered ≡ i
-    → let n = counted e.print found mid.counts in (n.live ≤ i + 1) × (n.held + n.missing + n.altered ≡ i + 1)
+    → let n = counted (entry_print e) found mid.counts in (n.live ≤ i + 1) × (n.held + n.missing + n.altered ≡ i + 1)
 tallies g volumes drives e found old mid i (inl r) live classes =
-    let one = one_class e.print found mid.counts in
+    let one = one_class (entry_print e) found mid.counts in
     let same : mid.counts ≡ old.counts = ap (λ (w : Walk). w.counts) r.1 in
     (omega (arith, one.0, ap (λ (c : ClassCounts). c.live) same), omega (arith, one.1, ap (λ (c : ClassCounts). c.held + c.missing + c.altered) same))
 tallies g volumes drives e found old mid i (inr r) live classes =
-    let one = one_class e.print found mid.counts in
+    let one = one_class (entry_print e) found mid.counts in
     let same : mid.counts ≡ record old.counts { live = old.counts.live + (if is_some found then 1 else 0) } = ap (λ (w : Walk). w.counts) r.left in
     (omega (arith, one.0, ap (λ (c : ClassCounts). c.live) same, at_most_one (is_some found) old.counts.live), omega (arith, one.1, ap (λ (c : ClassCounts). c.held + c.missing + c.altered) same))
 
 -- ---- which objects are named
 
-named : (e : StubEntry) → names e.volume e.object e ≡ true
+named : (e : StubEntry) → names (entry_place e).volume (entry_place e).object e ≡ true
 named e = search rules
 
-names_alike : (v o : ℕ) (e : StubEntry) → names v o e ≡ true → (e.volume ≡ v) × (e.object ≡ o)
+names_alike : (v o : ℕ) (e : StubEntry) → names v o e ≡ true → ((entry_place e).volume ≡ v) × ((entry_place e).object ≡ o)
 names_alike v o e is = search rules
 
-named_alone : (v o : ℕ) (e : StubEntry) → (e.volume ≡ v → e.object ≡ o → ⊥) → names v o e ≡ false
+named_alone : (v o : ℕ) (e : StubEntry) → ((entry_place e).volume ≡ v → (entry_place e).object ≡ o → ⊥) → names v o e ≡ false
 named_alone v o e apart = by (names v o e) refl
   where
     by : (b : Bool) → names v o e ≡ b → b ≡ false
     by true is = let same = names_alike v o e is in absurd (apart same.0 same.1)
     by false is = refl
 
-same_place : (x e : StubEntry) → place x ≡ place e → x.object < 2 ^ 32 → e.object < 2 ^ 32 → (x.volume ≡ e.volume) × (x.object ≡ e.object)
+same_place : (x e : StubEntry) → place x ≡ place e → (entry_place x).object < 2 ^ 32 → (entry_place e).object < 2 ^ 32 → ((entry_place x).volume ≡ (entry_place e).volume) × ((entry_place x).object ≡ (entry_place e).object)
 same_place x e same small short = (omega arith, omega arith)
 
 module _ (xs : List StubEntry) (i : ℕ) (e : StubEntry) (within : i < length xs) (is : (d : StubEntry) → get_or xs i d ≡ e) where
@@ -91,20 +93,20 @@ module _ (xs : List StubEntry) (i : ℕ) (e : StubEntry) (within : i < length xs
   live_more v o = list_any_more (names v o) xs i e within ∙ ap (λ x. is_live (take i xs) v o || names v o x) (is e)
 
   -- as the entry before names the same object, it was live before
-  live_before : (k : ℕ) (d : StubEntry) → k + 1 ≡ i → ((get_or xs k d).volume ≡ e.volume) × ((get_or xs k d).object ≡ e.object) → is_live (take i xs) e.volume e.object ≡ true
+  live_before : (k : ℕ) (d : StubEntry) → k + 1 ≡ i → ((get_or xs k d).volume ≡ (entry_place e).volume) × ((get_or xs k d).object ≡ (entry_place e).object) → is_live (take i xs) (entry_place e).volume (entry_place e).object ≡ true
   live_before k d at same =
       let here : get_or (take i xs) k d ≡ get_or xs k d = get_or-take i xs k d (omega arith) in
-      let names_it : names e.volume e.object (get_or (take i xs) k d) ≡ true = rw (here, ← (same.0), ← (same.1)) (named (get_or xs k d)) in
-      list_any_at (names e.volume e.object) (take i xs) k d (omega (arith, length-take i xs)) names_it
+      let names_it : names (entry_place e).volume (entry_place e).object (get_or (take i xs) k d) ≡ true = rw (here, ← (same.0), ← (same.1)) (named (get_or xs k d)) in
+      list_any_at (names (entry_place e).volume (entry_place e).object) (take i xs) k d (omega (arith, length-take i xs)) names_it
 
   -- as it names another one, none did
-  not_before : IsNonDecreasingBy place xs → ((k : ℕ) (d : StubEntry) → k + 1 ≡ i → place (get_or xs k d) ≡ place e → ⊥) → is_live (take i xs) e.volume e.object ≡ false
+  not_before : IsNonDecreasingBy place xs → ((k : ℕ) (d : StubEntry) → k + 1 ≡ i → place (get_or xs k d) ≡ place e → ⊥) → is_live (take i xs) (entry_place e).volume (entry_place e).object ≡ false
   not_before ascending apart =
-      list_any_none (names e.volume e.object) (take i xs)
+      list_any_none (names (entry_place e).volume (entry_place e).object) (take i xs)
       (λ k d below.
       let low : k < i = omega (arith, length-take i xs) in
       let here : get_or (take i xs) k d ≡ get_or xs k d = get_or-take i xs k d low in
-      rw here (named_alone e.volume e.object (get_or xs k d)
+      rw here (named_alone (entry_place e).volume (entry_place e).object (get_or xs k d)
       (λ v o.
       let last : i - 1 + 1 ≡ i = omega arith in
       let up : place (get_or xs k d) ≤ place (get_or xs (i - 1) d) = ascending k (i - 1) d (omega arith) (omega arith) in
@@ -147,25 +149,25 @@ walk_ends volumes told xs i w all is =
 -- ---- one entry more
 
 module _ (volumes : ℕ) (told : ℕ → Objects) where
-  print_alike : (x e : StubEntry) → x.volume ≡ e.volume → x.object ≡ e.object → print_on volumes told x ≡ print_on volumes told e
+  print_alike : (x e : StubEntry) → (entry_place x).volume ≡ (entry_place e).volume → (entry_place x).object ≡ (entry_place e).object → print_on volumes told x ≡ print_on volumes told e
   print_alike x e volume object = ap (λ (v : ℕ). print_on volumes told (record x { volume = v })) volume ∙ ap (λ (o : ℕ). print_on volumes told (record e { object = o })) object
 
   -- the object is there, or not
-  there_or_not : (e : StubEntry) → ((e.volume < volumes) × (e.object < length (told e.volume)) × (is_some (print_on volumes told e) ≡ true)) ⊎ ((e.volume < volumes → e.object < length (told e.volume) → ⊥) × (is_some (print_on volumes told e) ≡ false))
-  there_or_not e = by (nat_lt e.volume volumes) (nat_lt e.object (length (told e.volume))) refl refl
+  there_or_not : (e : StubEntry) → (((entry_place e).volume < volumes) × ((entry_place e).object < length (told (entry_place e).volume)) × (is_some (print_on volumes told e) ≡ true)) ⊎ (((entry_place e).volume < volumes → (entry_place e).object < length (told (entry_place e).volume) → ⊥) × (is_some (print_on volumes told e) ≡ false))
+  there_or_not e = by (nat_lt (entry_place e).volume volumes) (nat_lt (entry_place e).object (length (told (entry_place e).volume))) refl refl
     where
-      by : (v o : Bool) → nat_lt e.volume volumes ≡ v → nat_lt e.object (length (told e.volume)) ≡ o
-          → ((e.volume < volumes) × (e.object < length (told e.volume)) × (is_some (print_on volumes told e) ≡ true)) ⊎ ((e.volume < volumes → e.object < length (told e.volume) → ⊥) × (is_some (print_on volumes told e) ≡ false))
-      by true true a b = inl (ltb-true e.volume volumes a, ltb-true e.object (length (told e.volume)) b, rw (a, b) refl)
-      by true false a b = inr (λ volume object. absurd (omega (arith, ltb-false e.object (length (told e.volume)) b)), rw (a, b) refl)
-      by false o a b = inr (λ volume object. absurd (omega (arith, ltb-false e.volume volumes a)), rw a refl)
+      by : (v o : Bool) → nat_lt (entry_place e).volume volumes ≡ v → nat_lt (entry_place e).object (length (told (entry_place e).volume)) ≡ o
+          → (((entry_place e).volume < volumes) × ((entry_place e).object < length (told (entry_place e).volume)) × (is_some (print_on volumes told e) ≡ true)) ⊎ (((entry_place e).volume < volumes → (entry_place e).object < length (told (entry_place e).volume) → ⊥) × (is_some (print_on volumes told e) ≡ false))
+      by true true a b = inl (ltb-true (entry_place e).volume volumes a, ltb-true (entry_place e).object (length (told (entry_place e).volume)) b, rw (a, b) refl)
+      by true false a b = inr (λ volume object. absurd (omega (arith, ltb-false (entry_place e).object (length (told (entry_place e).volume)) b)), rw (a, b) refl)
+      by false o a b = inr (λ volume object. absurd (omega (arith, ltb-false (entry_place e).volume volumes a)), rw a refl)
 
   module _ (xs : List StubEntry) (i : ℕ) (e : StubEntry) (within : i < length xs) (is : (d : StubEntry) → get_or xs i d ≡ e) where
     class_more : (p : StubEntry → Bool) → count_by p (take (i + 1) xs) ≡ count_by p (take i xs) + cond (p e) 1 0
     class_more p = sum_by_more (λ x. cond (p x) 1 0) xs i e within ∙ ap (λ x. count_by p (take i xs) + cond (p x) 1 0) (is e)
 
     -- an object that was live before
-    no_more_live : is_live (take i xs) e.volume e.object ≡ true → count_objects (is_live (take (i + 1) xs)) volumes told ≡ count_objects (is_live (take i xs)) volumes told
+    no_more_live : is_live (take i xs) (entry_place e).volume (entry_place e).object ≡ true → count_objects (is_live (take (i + 1) xs)) volumes told ≡ count_objects (is_live (take i xs)) volumes told
     no_more_live was = same_count (is_live (take i xs)) (is_live (take (i + 1) xs)) volumes told (λ v o there has. live_more xs i e within is v o ∙ by v o (names v o e) refl)
       where
         by : (v o : ℕ) (b : Bool) → names v o e ≡ b → (is_live (take i xs) v o || b) ≡ is_live (take i xs) v o
@@ -173,17 +175,17 @@ module _ (volumes : ℕ) (told : ℕ → Objects) where
         by v o false other = or-false (is_live (take i xs) v o)
 
     -- an object that wasn't
-    more_live : is_live (take i xs) e.volume e.object ≡ false → count_objects (is_live (take (i + 1) xs)) volumes told ≡ count_objects (is_live (take i xs)) volumes told + (if is_some (print_on volumes told e) then 1 else 0)
+    more_live : is_live (take i xs) (entry_place e).volume (entry_place e).object ≡ false → count_objects (is_live (take (i + 1) xs)) volumes told ≡ count_objects (is_live (take i xs)) volumes told + (if is_some (print_on volumes told e) then 1 else 0)
     more_live was =
         elim (there_or_not e) [
-          | inl there ↦ rw (there.2) (count_more (is_live (take i xs)) (is_live (take (i + 1) xs)) volumes told e.volume e.object there.0 there.1 was now others)
+          | inl there ↦ rw (there.2) (count_more (is_live (take i xs)) (is_live (take (i + 1) xs)) volumes told (entry_place e).volume (entry_place e).object there.0 there.1 was now others)
           | inr gone ↦ rw (gone.1) (same_count (is_live (take i xs)) (is_live (take (i + 1) xs)) volumes told (λ v o below has. others v o (λ at number. gone.0 (rw (← at) below) (rw (← at, ← number) has))) ∙ sym (add-zero _))
         ]
       where
-        now : is_live (take (i + 1) xs) e.volume e.object ≡ true
-        now = live_more xs i e within is e.volume e.object ∙ rw (was, named e) refl
+        now : is_live (take (i + 1) xs) (entry_place e).volume (entry_place e).object ≡ true
+        now = live_more xs i e within is (entry_place e).volume (entry_place e).object ∙ rw (was, named e) refl
 
-        others : (v o : ℕ) → (v ≡ e.volume → o ≡ e.object → ⊥) → is_live (take (i + 1) xs) v o ≡ is_live (take i xs) v o
+        others : (v o : ℕ) → (v ≡ (entry_place e).volume → o ≡ (entry_place e).object → ⊥) → is_live (take (i + 1) xs) v o ≡ is_live (take i xs) v o
         others v o apart = live_more xs i e within is v o ∙ rw (named_alone v o e (λ at number. apart (sym at) (sym number))) (or-false (is_live (take i xs) v o))
 
 none_or_last : (i : ℕ) → (i ≡ 0) ⊎ ((k : ℕ) × (k + 1 ≡ i))
@@ -191,13 +193,13 @@ none_or_last zero = inl refl
 none_or_last (suc k) = inr (k, add-one k)
 
 module _ {D : Type 0} (g : drive.Ghosts D) (volumes : ℕ) (told : ℕ → Objects) (drives : List D) (are : AreTold g volumes drives told) (xs : List StubEntry) (i : ℕ) (e : StubEntry) (within : i < length xs) (is : (d : StubEntry) → get_or xs i d ≡ e)
-    (ascending : IsNonDecreasingBy place xs) (small : (k : ℕ) → k < i → (d : StubEntry) → (get_or xs k d).object < 2 ^ 32) (short : e.object < 2 ^ 32) (old mid : Walk) (found : Option Fingerprint) (was : IsWalk volumes told xs i old) where
+    (ascending : IsNonDecreasingBy place xs) (small : (k : ℕ) → k < i → (d : StubEntry) → (get_or xs k d).object < 2 ^ 32) (short : (entry_place e).object < 2 ^ 32) (old mid : Walk) (found : Option Fingerprint) (was : IsWalk volumes told xs i old) where
   -- one entry more, where that is the number of live objects by it
   counts_on : found ≡ print_on volumes told e → mid.counts.live ≡ count_objects (is_live (take (i + 1) xs)) volumes told → mid ≡ record { counts = record old.counts { live = mid.counts.live }; last = Some (seen e found) }
-      → IsWalk volumes told xs (i + 1) (record mid { counts = counted e.print found mid.counts })
+      → IsWalk volumes told xs (i + 1) (record mid { counts = counted (entry_print e) found mid.counts })
   counts_on is_print live left =
-      let more : IsMore (is_held volumes told e) (is_missing volumes told e) (is_altered volumes told e) mid.counts (counted e.print found mid.counts) =
-      subst (λ (f : Option Fingerprint). IsMore (is_held volumes told e) (is_missing volumes told e) (is_altered volumes told e) mid.counts (counted e.print f mid.counts)) (sym is_print) (by_payload (payload_of volumes told e) e.print mid.counts) in
+      let more : IsMore (is_held volumes told e) (is_missing volumes told e) (is_altered volumes told e) mid.counts (counted (entry_print e) found mid.counts) =
+      subst (λ (f : Option Fingerprint). IsMore (is_held volumes told e) (is_missing volumes told e) (is_altered volumes told e) mid.counts (counted (entry_print e) f mid.counts)) (sym is_print) (by_payload (payload_of volumes told e) (entry_print e) mid.counts) in
       record {
         live = more.live ∙ live;
         dead = more.dead ∙ ap (λ (w : Walk). w.counts.dead) left ∙ was.dead;
@@ -211,7 +213,7 @@ module _ {D : Type 0} (g : drive.Ghosts D) (volumes : ℕ) (told : ℕ → Objec
       }
 
   -- the last entry names the same object
-  repeats : Repeats e found old mid → IsWalk volumes told xs (i + 1) (record mid { counts = counted e.print found mid.counts })
+  repeats : Repeats e found old mid → IsWalk volumes told xs (i + 1) (record mid { counts = counted (entry_print e) found mid.counts })
   repeats r =
       elim (none_or_last i) [
         | inl none ↦ absurd (none-some (seen e found) (sym (was.none none) ∙ r.0))
@@ -226,7 +228,7 @@ module _ {D : Type 0} (g : drive.Ghosts D) (volumes : ℕ) (told : ℕ → Objec
       ]
 
   -- none did
-  looks : Looks g volumes drives e old mid found → IsWalk volumes told xs (i + 1) (record mid { counts = counted e.print found mid.counts })
+  looks : Looks g volumes drives e old mid found → IsWalk volumes told xs (i + 1) (record mid { counts = counted (entry_print e) found mid.counts })
   looks r =
       let is_print : found ≡ print_on volumes told e = r.looked.told told are in
       let more : mid.counts.live ≡ old.counts.live + (if is_some found then 1 else 0) = ap (λ (w : Walk). w.counts.live) r.left in
@@ -234,7 +236,7 @@ module _ {D : Type 0} (g : drive.Ghosts D) (volumes : ℕ) (told : ℕ → Objec
       counts_on is_print (more ∙ ap (λ (n : ℕ). n + (if is_some found then 1 else 0)) was.live ∙ ap (λ (f : Option Fingerprint). count_objects (is_live (take i xs)) volumes told + (if is_some f then 1 else 0)) is_print ∙ sym (more_live volumes told xs i e within is lived))
       (r.left ∙ (λ j. record { counts = record old.counts { live = sym more j }; last = Some (seen e found) }))
 
-  pub walk_on : Finds g volumes drives e old mid found → IsWalk volumes told xs (i + 1) (record mid { counts = counted e.print found mid.counts })
+  pub walk_on : Finds g volumes drives e old mid found → IsWalk volumes told xs (i + 1) (record mid { counts = counted (entry_print e) found mid.counts })
   walk_on (inl r) = repeats r
   walk_on (inr r) = looks r
 

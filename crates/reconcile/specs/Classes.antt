@@ -1,9 +1,10 @@
 -- Classes: which objects of volumes are live, and which stub entries of a table are held.
-use Rattle.std.specs.Prelude.{◌≡◌, ◌⊎◌, ℕ, ◌<◌, ◌%◌, Bool, false, not, ◌&&◌, nat_eq, nat_lt, List, [], length, count_by, sum_by, filter_map, flat_map, map, slice_get, if◌then◌else◌, Option, Some, None, is_none, IfSome, Result, Err}
+use Rattle.std.specs.Prelude.{◌≡◌, ◌⊎◌, ℕ, ◌<◌, ◌%◌, Bool, false, not, ◌&&◌, nat_eq, nat_lt, List, [], length, count_by, sum_by, filter_map}
+use Rattle.std.specs.Prelude.{flat_map, map, slice_get, if◌then◌else◌, Option, Some, None, is_none, IfSome, Result, Err}
 use Rattle.std.specs.List.{AllZip, list_any, range_with_len}
 use Rattle.std.specs.Option.{option_map_or}
 use Rattle.disk_model.specs.Calls.{Rose}
-use Rattle.hsm_types.specs.Stubs.{print_of}
+use Rattle.hsm_types.specs.Stubs.{print_of, entry_place, entry_print}
 use Rattle.hsm_types.specs.declared.stubs.Segment.{Segment}
 use Rattle.hsm_types.specs.declared.stubs.Segment.TheVariants.{Resident, Sealed, Offline}
 use Rattle.hsm_types.specs.declared.stubs.StubEntry.{StubEntry}
@@ -35,7 +36,7 @@ entries_of table = flat_map entries_in table.files
 -- ---- objects. Each volume below a number has those that are told of it
 
 abbrev pub names : ℕ → ℕ → StubEntry → Bool
-names volume object e = nat_eq e.volume volume && nat_eq e.object object
+names volume object e = nat_eq (entry_place e).volume volume && nat_eq (entry_place e).object object
 
 -- some entry names the object, else it is dead
 abbrev pub is_live : List StubEntry → ℕ → ℕ → Bool
@@ -49,15 +50,15 @@ count_objects test volumes told = sum_by (λ v. count_by (test v) (range_with_le
 
 -- where the object is among these
 abbrev pub payload_at : StubEntry → Objects → Option (List ℕ)
-payload_at e objects = if nat_lt e.object (length objects) then Some (payload_in e.object objects) else None
+payload_at e objects = if nat_lt (entry_place e).object (length objects) then Some (payload_in (entry_place e).object objects) else None
 
 -- where it is on a volume below that number
 abbrev pub payload_of : ℕ → (ℕ → Objects) → StubEntry → Option (List ℕ)
-payload_of volumes told e = if nat_lt e.volume volumes then payload_at e (told e.volume) else None
+payload_of volumes told e = if nat_lt (entry_place e).volume volumes then payload_at e (told (entry_place e).volume) else None
 
 -- the payload has the entry's fingerprint
 abbrev pub is_held : ℕ → (ℕ → Objects) → StubEntry → Bool
-is_held volumes told e = option_map_or (λ payload. same_print (print_of payload) e.print) (payload_of volumes told e) false
+is_held volumes told e = option_map_or (λ payload. same_print (print_of payload) (entry_print e)) (payload_of volumes told e) false
 
 -- there is none
 abbrev pub is_missing : ℕ → (ℕ → Objects) → StubEntry → Bool
@@ -65,7 +66,7 @@ is_missing volumes told e = is_none (payload_of volumes told e)
 
 -- it has another one
 abbrev pub is_altered : ℕ → (ℕ → Objects) → StubEntry → Bool
-is_altered volumes told e = option_map_or (λ payload. not (same_print (print_of payload) e.print)) (payload_of volumes told e) false
+is_altered volumes told e = option_map_or (λ payload. not (same_print (print_of payload) (entry_print e))) (payload_of volumes told e) false
 
 -- ---- how many are of each class
 

@@ -2,7 +2,7 @@
 use Rattle.std.specs.Prelude.{◌≡◌, ◌≢◌, ◌⊎◌, ℕ, ◌+◌, ◌*◌, ◌^◌, List, if◌then◌else◌, Option, Some, None, is_some, IfSome, option_map, Result, Ok, Err}
 use Rattle.std.specs.List.Sorted.{IsPermutation, IsNonDecreasingBy}
 use Rattle.disk_model.specs.Calls.{Rose}
-use Rattle.hsm_types.specs.Stubs.{print_of}
+use Rattle.hsm_types.specs.Stubs.{print_of, entry_place}
 use Rattle.hsm_types.specs.declared.media.Fault.TheVariants as fault
 use Rattle.hsm_types.specs.declared.media.FetchRefusal.{FetchRefusal}
 use Rattle.hsm_types.specs.declared.media.FetchRefusal.TheVariants as missing
@@ -20,7 +20,7 @@ use Rattle.reconcile.specs.declared.walking.Walk.{Walk}
 
 -- where the entry's object stands among those of all volumes
 abbrev pub place : StubEntry → ℕ
-place e = e.volume * 2 ^ 32 + e.object
+place e = (entry_place e).volume * 2 ^ 32 + (entry_place e).object
 
 -- the second list has the entries of the first in the order of their objects
 pub record InOrder (given sorted : List StubEntry) : Type 0 where

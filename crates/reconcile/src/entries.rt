@@ -1,5 +1,6 @@
 //! The stub entries of a table.
 ghost use Rattle.std.specs.Prelude.{◌≡◌, ◌++◌, ◌<◌, ◌^◌, IfOk, OnOk};
+ghost use Rattle.hsm_types.specs.Stubs.{entry_place};
 ghost use Rattle.reconcile.specs.Classes.{entry_of, entries_in, entries_of};
 ghost use Rattle.reconcile.specs.Steps.{place, InOrder};
 
@@ -9,9 +10,10 @@ use std::alloc::{AllocError, Global};
 /// Where the entry's object stands among those of all volumes.
 pub(crate) fn place(entry: &StubEntry) -> u64
     ensures place { result ≡ place entry.now }
-    ensures short { entry.now.object < 2 ^ 32 }
+    ensures short { (entry_place entry.now).object < 2 ^ 32 }
 {
-    u64::from(entry.volume) * (1 << 32) + u64::from(entry.object)
+    let place = entry.place();
+    u64::from(place.volume) * (1 << 32) + u64::from(place.object)
 }
 
 /// The stub entries of all files, in the order of their objects.

@@ -1,5 +1,6 @@
 //! What drives have of the objects that entries name.
 ghost use Rattle.std.specs.Prelude.{◌≡◌, ◌<◌, length, IfOk, IfErr};
+ghost use Rattle.hsm_types.specs.Stubs.{entry_place};
 ghost use Rattle.media_model.specs.Objects.{Objects};
 ghost use Rattle.volume_shelf.specs.Shelf.{Reads};
 ghost use Rattle.reconcile.specs.Classes.{Tells, AreRead, AreQuiet, TellsFailed, ClassesRefused};
@@ -24,10 +25,11 @@ pub(crate) fn look<M: Drive>(
     ensures reads { AreRead M.Drive drives.old drives.new }
     ensures quiet { (TellsFailed result → ⊥) → AreQuiet M.Drive drives.old drives.new }
 {
-    if entry.volume >= volumes {
+    let volume = entry.place().volume;
+    if volume >= volumes {
         return Ok(None);
     }
-    let number = entry.volume as usize % drives.len();
+    let number = volume as usize % drives.len();
     look_on(alloc, &mut drives[number], entry)
 }
 
@@ -37,14 +39,14 @@ fn look_on<M: Drive>(
     drive: &mut M,
     entry: &StubEntry,
 ) -> Result<Option<Fingerprint>, ReconcileRefusal>
-    ensures found { IfOk result (λ found. (o : Objects) → Tells M.Drive drive.old entry.now.volume o → found ≡ print_at entry.now o) }
-    ensures refused { IfErr result (DriveRefused M.Drive entry.now.volume drive.old drive.new) }
+    ensures found { IfOk result (λ found. (o : Objects) → Tells M.Drive drive.old (entry_place entry.now).volume o → found ≡ print_at entry.now o) }
+    ensures refused { IfErr result (DriveRefused M.Drive (entry_place entry.now).volume drive.old drive.new) }
     ensures reads { Reads M.Drive drive.old drive.new }
     ensures quiet { (TellsFailed result → ⊥) → M.fault_count drive.new ≡ M.fault_count drive.old }
 {
     match fetch(alloc, drive, entry) {
         Ok(bytes) => Ok(Some(bytes.fingerprint())),
-        Err(why) => told_by(entry.volume, &why),
+        Err(why) => told_by(entry.place().volume, &why),
     }
 }
 

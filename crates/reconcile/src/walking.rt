@@ -1,6 +1,7 @@
 //! The classes of entries, one by one.
 ghost use Rattle.std.specs.Prelude.{◌≡◌, ◌+◌, ◌<◌, ◌^◌, ℕ, length, IfOk, IfErr};
 ghost use Rattle.std.specs.List.Sorted.{IsNonDecreasingBy};
+ghost use Rattle.hsm_types.specs.Stubs.{entry_place};
 ghost use Rattle.media_model.specs.Objects.{Objects};
 ghost use Rattle.reconcile.specs.Classes.{class_counts, AreRead, AreTold, AreQuiet, TellsFailed, ClassesRefused};
 ghost use Rattle.reconcile.specs.Steps.{place, counted, Finds};
@@ -55,7 +56,7 @@ impl Walk {
         requires drives { 0 < length drives.old }
         requires live { self.old.counts.live + 1 < 2 ^ 64 }
         ensures finds { IfOk result (Finds M.Drive volumes drives.old entry.now self.old self.new) }
-        ensures short { entry.now.object < 2 ^ 32 }
+        ensures short { (entry_place entry.now).object < 2 ^ 32 }
         ensures refused { IfErr result (ClassesRefused M.Drive volumes drives.old drives.new) }
         ensures reads { AreRead M.Drive drives.old drives.new }
         ensures quiet { (TellsFailed result → ⊥) → AreQuiet M.Drive drives.old drives.new }
@@ -103,7 +104,7 @@ pub(crate) fn class_entries<M: Drive>(
     let mut walk = Walk::start();
     for entry in entries {
         let found = walk.find(alloc, drives, volumes, entry)?;
-        walk.count(entry.print, found);
+        walk.count(entry.print(), found);
     }
     Ok(walk.counts)
 }

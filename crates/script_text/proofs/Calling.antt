@@ -1,25 +1,24 @@
 -- Calls: what a verb and the parts behind it spell, and why nothing else.
-use Rattle.std.proofs.Common.{◌≡◌, ◌≢◌, ℕ, ◌<◌, List, [], ◌∷◌, length, map, true, false, Option, Some, None, refl, sym, ap, ◌∙◌, subst, arith}
+use Rattle.std.proofs.Common.{◌≡◌, ◌≢◌, ℕ, List, [], ◌∷◌, map, true, false, Option, Some, None, refl, sym, ap, ◌∙◌, subst}
 use Rattle.std.specs.Prelude.{codes}
 use Rattle.std.specs.List.{AllByRecursion}
 use Rattle.std.specs.Str.{bytes_eq}
 use Rattle.hsm_types.specs.declared.calls.Call.{Call}
 use Rattle.hsm_types.specs.declared.dm.DmCall.{DmCall}
-use Rattle.hsm_types.specs.declared.forms.CallVerb.{CallVerb}
-use Rattle.hsm_types.specs.declared.forms.CallVerb.TheVariants as verbs
-use Rattle.hsm_types.specs.declared.forms.DmVerb.{DmVerb}
-use Rattle.hsm_types.specs.declared.forms.DmVerb.TheVariants as dm_verbs
-use Rattle.hsm_types.specs.declared.parts.Part.{Part}
-use Rattle.hsm_types.specs.declared.parts.PartKind.{PartKind}
-use Rattle.hsm_types.specs.Parts.{kind_of}
-use Rattle.hsm_types.specs.Forms.{verb_text, verb_kinds, call_form, call_of, dm_verb_text, dm_verb_kinds, dm_form, dm_call_of}
-use Rattle.hsm_types.proofs.Forming.{verb_text-injective, call_of-form, call_kinds, dm_verb_text-injective, dm_call_of-form, dm_kinds}
-use Rattle.plain_model.specs.Render.{spaced, part_word, form_words}
-use Rattle.script_text.specs.declared.parts.ReadParts.{ReadParts}
+use Rattle.call_forms.specs.declared.forms.CallVerb.{CallVerb}
+use Rattle.call_forms.specs.declared.forms.CallVerb.TheVariants as verbs
+use Rattle.call_forms.specs.declared.forms.DmVerb.{DmVerb}
+use Rattle.call_forms.specs.declared.forms.DmVerb.TheVariants as dm_verbs
+use Rattle.call_forms.specs.declared.parts.Part.{Part}
+use Rattle.call_forms.specs.declared.parts.PartKind.{PartKind}
+use Rattle.call_forms.specs.Parts.{kind_of}
+use Rattle.call_forms.specs.Forms.{verb_text, verb_kinds, call_form, call_of, dm_verb_text, dm_verb_kinds, dm_form, dm_call_of}
+use Rattle.call_forms.proofs.Forming.{verb_text-injective, call_of-form, call_kinds, dm_verb_text-injective, dm_call_of-form, dm_kinds}
+use Rattle.event_text.specs.Render.{spaced, part_word, form_words}
 use Rattle.script_text.specs.declared.requests.DmRequest.{DmRequest}
 use Rattle.script_text.specs.declared.requests.Request.{Request}
 use Rattle.script_text.specs.Lines.{data_word, AreParts}
-use Rattle.script_text.specs.Reading.{Reads, Lacks, parts_text, behind_verb, AreOfKinds, ReadsParts, is_signature, with_rest, form_text, request_text, IsRequest, dm_request_text, IsDmRequest}
+use Rattle.script_text.specs.Reading.{Lacks, behind_verb, AreOfKinds, is_signature, with_rest, form_text, request_text, IsRequest, dm_request_text, IsDmRequest}
 use Rattle.script_text.proofs.Cutting.{Lacks-not, cut_same}
 use Rattle.script_text.proofs.DataParts.{differ}
 use Rattle.script_text.proofs.Spelling.{IsVisible, Lacks-visible}
@@ -73,34 +72,6 @@ with_rest-same w v (Some r) (Some s) h k e =
 form_text-is : (seed : Option ℕ) (verb : List ℕ) (ps : List Part) → form_text seed verb ps ≡ with_rest verb (behind_verb seed ps)
 form_text-is seed verb [] = refl
 form_text-is seed verb (p ∷ ps) = refl
-
--- ---- the parts behind a verb
-
-no_parts : (seed : Option ℕ) (ps : List Part) → None ≡ behind_verb seed ps → ps ≡ []
-no_parts seed [] e = refl
-no_parts seed (p ∷ ps) e = cc e
-
-pub lacks_parts : (ks : List PartKind) (r : ReadParts) → 0 < length ks → AreOfKinds ks r → None ≢ behind_verb r.seed r.parts
-lacks_parts ks r some h e =
-    let none : map kind_of r.parts ≡ [] = ap (map kind_of) (no_parts r.seed r.parts e) in
-    let lengths = ap length (sym h.0 ∙ none) in
-    absurd (omega arith)
-
-too_many : (text : List ℕ) (seed : Option ℕ) (ps : List Part) → map kind_of ps ≡ [] → Some text ≢ behind_verb seed ps
-too_many text seed [] e same = cc same
-too_many text seed (p ∷ ps) e same = cc e
-
-pub has_parts : (ks : List PartKind) (text : List ℕ) (r : ReadParts) → length ks ≡ 0 → AreOfKinds ks r → Some text ≢ behind_verb r.seed r.parts
-has_parts [] text r none h same = too_many text r.seed r.parts h.0 same
-has_parts (k ∷ ks) text r none h same = absurd (omega arith)
-
-behind_verb-is : (ks : List PartKind) (seed : Option ℕ) (ps : List Part) → 0 < length ks → map kind_of ps ≡ ks → behind_verb seed ps ≡ Some (spaced (map (part_word (data_word seed)) ps))
-behind_verb-is ks seed [] some e = let lengths = ap length e in absurd (omega arith)
-behind_verb-is ks seed (p ∷ ps) some e = refl
-
-pub reads_parts : (ks : List PartKind) (text : List ℕ) (read : Option ReadParts) → 0 < length ks → Reads parts_text (AreOfKinds ks) text read → ReadsParts ks (Some text) read
-reads_parts ks text None some h = λ r k same. let is : Some text ≡ Some (parts_text r) = same ∙ behind_verb-is ks r.seed r.parts some k.0 in h r k (cc is)
-reads_parts ks text (Some r) some h = (h.0, ap Some h.1 ∙ sym (behind_verb-is ks r.seed r.parts some h.0.0))
 
 -- ---- forms
 

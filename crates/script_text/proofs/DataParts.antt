@@ -7,7 +7,7 @@ use Rattle.std.proofs.lemmas.Bool.{false≢true}
 use Rattle.std.proofs.lemmas.List.FromFn.{length-map-range_with_len}
 use Rattle.std.proofs.lemmas.Fmt.{decimal_injective}
 use Rattle.std.proofs.lemmas.Slice.Eq.{bytes_eq-Decides}
-use Rattle.hex.specs.Hex.{encode_lower, IsBytes}
+use Rattle.hex.specs.Hex.{encode_lower}
 use Rattle.script_text.specs.declared.bodies.Pattern.{Pattern}
 use Rattle.script_text.specs.Lines.{coloned, data_word, pattern, pattern_byte, IsData}
 use Rattle.script_text.specs.Reading.{Lacks, IsNumber, pattern_text, IsPattern}
@@ -34,20 +34,11 @@ pattern_numbers text len seed m n x cut h small is small' is' k same =
     let parts = pattern_cut text len seed x cut h k same in
     (decimal_injective m x.len small (omega (arith, k.0)) (sym is ∙ parts.0), decimal_injective n x.seed small' (omega (arith, k.1)) (sym is' ∙ parts.1))
 
--- what the first colon of data cuts
-pub data_uncut : (word : List ℕ) (seed : Option ℕ) (bytes : List ℕ) → Lacks 58 word → word ≡ data_word seed bytes → ⊥
-data_uncut word None bytes h same = Lacks-not 58 (codes "x") (encode_lower bytes) (rw same at h)
-data_uncut word (Some seed) bytes h same = Lacks-not 58 (codes "p") (coloned (decimal (length bytes) ∷ decimal seed ∷ [])) (rw same at h)
-
 pub data_kind : (word kind rest : List ℕ) (seed : Option ℕ) (bytes : List ℕ) → word ≡ kind ++ 58 ∷ rest → Lacks 58 kind → word ≡ data_word seed bytes → (kind ≡ codes "x") ⊎ (kind ≡ codes "p")
 data_kind word kind rest None bytes cut h same =
     inl (cut_same 58 kind rest (codes "x") (encode_lower bytes) h (Lacks-computed 58 (codes "x") refl) (sym cut ∙ same)).0
 data_kind word kind rest (Some seed) bytes cut h same =
     inr (cut_same 58 kind rest (codes "p") (coloned (decimal (length bytes) ∷ decimal seed ∷ [])) h (Lacks-computed 58 (codes "p") refl) (sym cut ∙ same)).0
-
-pub hex_data : (digits : List ℕ) (seed : Option ℕ) (bytes : List ℕ) → IsData seed bytes → codes "x:" ++ digits ≡ data_word seed bytes → IsBytes bytes × (digits ≡ encode_lower bytes)
-hex_data digits None bytes h same = (h, cc same)
-hex_data digits (Some seed) bytes h same = let wrong : ◌≡◌ {A = ℕ} 120 112 = cc same in absurd (omega (arith, wrong))
 
 pub pattern_data : (text : List ℕ) (seed : Option ℕ) (bytes : List ℕ) → IsData seed bytes → codes "p:" ++ text ≡ data_word seed bytes → (x : Pattern) × IsPattern x × (text ≡ pattern_text x)
 pattern_data text None bytes h same = let wrong : ◌≡◌ {A = ℕ} 112 120 = cc same in absurd (omega (arith, wrong))

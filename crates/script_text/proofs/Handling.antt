@@ -4,7 +4,7 @@ use Rattle.std.specs.Fmt.{decimal}
 use Rattle.hsm_types.specs.Handles.{IsHandle}
 use Rattle.hsm_types.specs.declared.keys.FileKey.{FileKey}
 use Rattle.hsm_types.specs.declared.keys.Handle.{Handle}
-use Rattle.plain_model.specs.Render.{key_word, handle_word}
+use Rattle.event_text.specs.Render.{key_word, handle_word}
 use Rattle.script_text.specs.Reading.{Lacks, IsKey}
 use Rattle.script_text.proofs.Cutting.{cut_same}
 use Rattle.script_text.proofs.Spelling.{Lacks-dot, key_word-is, handle_word-is}

@@ -7,7 +7,7 @@ use Rattle.std.specs.Str.{bytes_eq}
 use Rattle.std.proofs.lemmas.List.Splits.{join_with_byte-slice_split, length-slice_split}
 use Rattle.std.proofs.lemmas.Slice.Eq.{bytes_eq-Decides}
 use Rattle.hsm_types.specs.declared.dm.Kinds.{Kinds}
-use Rattle.plain_model.specs.Render.{listed, if_taken, kinds_word}
+use Rattle.event_text.specs.Render.{listed, if_taken, kinds_word}
 use Rattle.script_text.specs.Reading.{parts, taken}
 use Rattle.script_text.proofs.Spelling.{IsVisible}
 

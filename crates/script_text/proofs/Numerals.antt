@@ -22,16 +22,6 @@ pub record IsRead (digits : List ℕ) (value i : ℕ) : Type 0 where
   pub front : AllDigits 10 digits → AllDigits 10 (drop i digits)
   pub small : value < 2 ^ 64
 
-pub IsRead-more : (digits : List ℕ) (value i d x : ℕ) → i < length digits → d ≡ get_or digits i 0 → IsRead digits value i → (digit_value d < 10) × (value * 10 + digit_value d < 2 ^ 64) → x ≡ value * 10 + digit_value d → IsRead digits x (i + 1)
-IsRead-more digits value i d x lt is r fits same =
-    let at : drop i digits ≡ d ∷ drop (i + 1) digits = rw (is, add-one i) (drop-cons digits i 0 lt) in
-    record {
-      value_is = rw same (rw at at r.value_is);
-      back = λ h. r.back (rw at (fits.0, h));
-      front = λ h. (rw at at (r.front h)).1;
-      small = rw same fits.1;
-    }
-
 pub IsRead-stops : (digits : List ℕ) (value i d : ℕ) → i < length digits → d ≡ get_or digits i 0 → IsRead digits value i → ¬ ((digit_value d < 10) × (value * 10 + digit_value d < 2 ^ 64)) → ¬ (AllDigits 10 digits × (digits_value 10 digits < 2 ^ 64))
 IsRead-stops digits value i d lt is r unfit h =
     let at : drop i digits ≡ d ∷ drop (i + 1) digits = rw (is, add-one i) (drop-cons digits i 0 lt) in

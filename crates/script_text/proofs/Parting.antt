@@ -5,13 +5,13 @@ use Rattle.std.specs.Str.Parse.{digits_value}
 use Rattle.std.proofs.lemmas.Bool.{and_parts, false≢true}
 use Rattle.std.proofs.lemmas.Bool.Decides.{nat_tests}
 use Rattle.std.proofs.lemmas.List.{take_all}
-use Rattle.hsm_types.specs.declared.parts.Part.{Part}
-use Rattle.hsm_types.specs.declared.parts.Part.TheVariants as part
-use Rattle.hsm_types.specs.declared.parts.PartKind.{PartKind}
-use Rattle.hsm_types.specs.declared.parts.PartKind.TheVariants as kinds
-use Rattle.hsm_types.specs.Parts.{kind_of}
-use Rattle.hsm_types.proofs.Forming.{made, made-same}
-use Rattle.plain_model.specs.Render.{spaced, part_word}
+use Rattle.call_forms.specs.declared.parts.Part.{Part}
+use Rattle.call_forms.specs.declared.parts.Part.TheVariants as part
+use Rattle.call_forms.specs.declared.parts.PartKind.{PartKind}
+use Rattle.call_forms.specs.declared.parts.PartKind.TheVariants as kinds
+use Rattle.call_forms.specs.Parts.{kind_of}
+use Rattle.call_forms.proofs.Forming.{made, made-same}
+use Rattle.event_text.specs.Render.{spaced, part_word}
 use Rattle.script_text.specs.declared.parts.ReadPart.{ReadPart}
 use Rattle.script_text.specs.declared.parts.ReadParts.{ReadParts}
 use Rattle.script_text.specs.Lines.{data_word, IsPart, AreParts}
@@ -194,29 +194,6 @@ pub begins_at : (ks : List PartKind) (first : PartKind) (more : List PartKind) (
 begins_at ks first more text r is some signature h same =
     let both = signature_parts first more some (ap is_signature (sym is) ∙ signature) in
     begins first more text r some both.0 (h.0 ∙ is, h.1) same
-
--- a first part before others
-pub record IsMore (wanted : PartKind) (more : List PartKind) (text : List ℕ) (r : ReadParts) : Type 0 where
-  pub of_kinds : AreOfKinds (wanted ∷ more) r
-  pub spelled : text ≡ parts_text r
-
-more_with : (wanted : PartKind) (more : List PartKind) (text word rest : List ℕ) (first : ReadPart) (seed : Option ℕ) (ps : List Part) → 0 < length more → is_plain wanted ≡ true
-    → text ≡ word ++ 32 ∷ rest → IsOfKind wanted first → word ≡ read_text first → map kind_of ps ≡ more → AreParts seed ps → rest ≡ spaced (map (part_word (data_word seed)) ps)
-    → IsMore wanted more text (record { parts = first.part ∷ ps; seed = seed })
-more_with wanted more text word rest first seed [] some plain cut h same e k same' = let wrong = ap length e in absurd (omega arith)
-more_with wanted more text word rest first seed (q ∷ ps) some plain cut h same e k same' =
-    let is = plain_part first.seed seed first.part (ap is_plain h.0 ∙ plain) h.1 in
-    let kind_is : kind_of first.part ≡ wanted = h.0 in
-    record {
-      of_kinds = (cc (kind_is, e), (is.lawful, k));
-      spelled = cut ∙ ap (λ w. w ++ 32 ∷ rest) (same ∙ is.alike) ∙ ap (λ t. part_word (data_word seed) first.part ++ 32 ∷ t) same';
-    }
-
-pub more_parts : (wanted : PartKind) (more : List PartKind) (text word rest : List ℕ) (first : ReadPart) (others : ReadParts) → 0 < length more → is_plain wanted ≡ true
-    → text ≡ word ++ 32 ∷ rest → IsOfKind wanted first → word ≡ read_text first → AreOfKinds more others → rest ≡ parts_text others
-    → IsMore wanted more text (record { parts = first.part ∷ others.parts; seed = others.seed })
-more_parts wanted more text word rest first others some plain cut h same k same' =
-    more_with wanted more text word rest first others.seed others.parts some plain cut h same k.0 k.1 same'
 
 -- ---- parts are spelled as no others
 

@@ -6,7 +6,8 @@ use Rattle.std.specs.Fmt.{decimal}
 use Rattle.std.proofs.lemmas.List.{map-append, length-map}
 use Rattle.std.proofs.lemmas.List.Splits.{join_with_byte-slice_split, length-slice_split}
 use Rattle.hsm_types.specs.declared.regions.Region.{Region}
-use Rattle.plain_model.specs.Render.{region_word, regions_word}
+use Rattle.event_text.specs.Render.{region_word, regions_word}
+use Rattle.script_text.specs.Limits.{line_regions}
 use Rattle.script_text.specs.Lines.{IsRegion}
 use Rattle.script_text.specs.Reading.{Lacks, parts, AreSomeRegions}
 use Rattle.script_text.proofs.Cutting.{Lacks-not, cut_same}
@@ -59,7 +60,7 @@ some_joined : (rs : List Region) → 0 < length rs → regions_word rs ≡ join_
 some_joined [] h = absurd (omega arith)
 some_joined (r ∷ rs) h = refl
 
-pub read_last : (word rest : List ℕ) (regions : List Region) (r : Region) → IsReadTo word regions rest → parts rest ≡ region_word r ∷ [] → IsRegion r → length regions < 64
+pub read_last : (word rest : List ℕ) (regions : List Region) (r : Region) → IsReadTo word regions rest → parts rest ≡ region_word r ∷ [] → IsRegion r → length regions < line_regions
     → AreSomeRegions (regions ++ r ∷ []) × (word ≡ regions_word (regions ++ r ∷ []))
 read_last word rest regions r read first h few =
     let all : parts word ≡ map region_word (regions ++ r ∷ []) = with_region word rest [] regions r read first ∙ append-nil (map region_word (regions ++ r ∷ [])) in
@@ -87,7 +88,7 @@ read_other word rest first behind regions xs read cut none h same =
     none x.0 x.1 x.2
 
 -- no regions are more than 64
-pub read_many : (word rest : List ℕ) (regions xs : List Region) → IsReadTo word regions rest → 64 ≤ length regions → AreSomeRegions xs → word ≡ regions_word xs → ⊥
+pub read_many : (word rest : List ℕ) (regions xs : List Region) → IsReadTo word regions rest → line_regions ≤ length regions → AreSomeRegions xs → word ≡ regions_word xs → ⊥
 read_many word rest regions xs read many h same =
     let parts_are : map region_word xs ≡ map region_word regions ++ parts rest = sym (some_parts xs h) ∙ ap parts (sym same) ∙ read.split in
     let lengths = ap length parts_are in

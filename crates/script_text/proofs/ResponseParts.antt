@@ -5,7 +5,7 @@ use Rattle.std.specs.Fmt.{decimal}
 use Rattle.std.specs.Str.Parse.{digits_value}
 use Rattle.hsm_types.specs.declared.dm.Response.{Response}
 use Rattle.hsm_types.specs.declared.dm.Response.TheVariants.{Continue, Abort, Media}
-use Rattle.plain_model.specs.Render.{response_word}
+use Rattle.event_text.specs.Render.{response_word}
 use Rattle.script_text.specs.Lines.{IsResponse}
 use Rattle.script_text.specs.Reading.{Lacks}
 use Rattle.script_text.proofs.Cutting.{Lacks-append, Lacks-not, cut_same}

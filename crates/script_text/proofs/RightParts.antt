@@ -4,7 +4,7 @@ use Rattle.std.specs.Prelude.{codes, if◌then◌else◌}
 use Rattle.std.specs.Str.{bytes_eq}
 use Rattle.hsm_types.specs.declared.dm.Right.{Right}
 use Rattle.hsm_types.specs.declared.dm.Right.TheVariants.{Null, Shared, Excl}
-use Rattle.plain_model.specs.Render.{right_word}
+use Rattle.event_text.specs.Render.{right_word}
 use Rattle.script_text.specs.Lines.{IsAskedRight}
 use Rattle.script_text.proofs.Spelling.{IsVisible}
 

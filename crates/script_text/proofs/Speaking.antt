@@ -12,12 +12,13 @@ use Rattle.plain_model.specs.declared.entries.Actor.{Actor}
 use Rattle.plain_model.specs.declared.entries.Actor.TheVariants.{Caller, Session, Store}
 use Rattle.plain_model.specs.declared.entries.Action.{Action}
 use Rattle.plain_model.specs.declared.entries.Action.TheVariants.{Issue, Resume, Dm, Commit}
-use Rattle.plain_model.specs.Render.{spaced, actor_word, action_words}
+use Rattle.event_text.specs.Render.{spaced, actor_word, action_words}
+use Rattle.script_text.specs.declared.lines.Allowed.{Allowed}
 use Rattle.script_text.specs.declared.lines.Line.{Line}
 use Rattle.script_text.specs.declared.lines.Line.TheVariants.{Event, Start, Kill, Step, Settle}
 use Rattle.script_text.specs.declared.requests.DmRequest.{DmRequest}
 use Rattle.script_text.specs.declared.requests.Request.{Request}
-use Rattle.script_text.specs.Lines.{data_word, line_words, line_text, access_length, IsAskedBy, IsEvent, IsLine}
+use Rattle.script_text.specs.Lines.{data_word, line_words, line_text, IsAskedBy, IsEvent, IsLine}
 use Rattle.script_text.specs.Scripts.{GoesOn}
 use Rattle.script_text.specs.Reading.{Reads, Lacks, IsNoEvent, caller_word, sid_word, IsSid, request_text, IsRequest, dm_request_text, IsDmRequest, text_by}
 use Rattle.script_text.proofs.Cutting.{Lacks-not, Lacks-join, cut_same}
@@ -224,8 +225,8 @@ line_text-injective x (Event b action t) h k e = absurd (event_no_other b action
 line_text-injective x y h k e = one_no_event x y tt tt e
 
 -- a line that goes on is the one that was read
-pub same_access : (before : List Line) (text : List ℕ) (read line : Line) → IsLine read → text ≡ line_text read → GoesOn before text line → access_length line ≡ access_length read
-same_access before text read line h same g = ap access_length (line_text-injective line read g.lawful h (sym g.spelled ∙ same))
+pub same_line : (allowed : Allowed) (before : List Line) (text : List ℕ) (read line : Line) → IsLine read → text ≡ line_text read → GoesOn allowed before text line → line ≡ read
+same_line allowed before text read line h same g = line_text-injective line read g.lawful h (sym g.spelled ∙ same)
 
 -- ---- a line's text has no newline
 

@@ -16,7 +16,7 @@ use Rattle.hsm_types.specs.declared.keys.FileKey.{FileKey}
 use Rattle.hsm_types.specs.declared.keys.Handle.{Handle}
 use Rattle.hsm_types.specs.declared.regions.Region.{Region}
 use Rattle.hsm_types.specs.declared.stubs.Digest.{Digest}
-use Rattle.plain_model.specs.Render.{key_word, handle_word, region_word, regions_word, name_word}
+use Rattle.event_text.specs.Render.{key_word, handle_word, region_word, regions_word, name_word}
 use Rattle.script_text.specs.Lines.{pattern, coloned, data_word, is_word, is_word_byte, IsData, IsRegion, IsRegions, IsAttrName, IsDigest}
 use Rattle.script_text.specs.Reading.{Lacks, is_lower_hex, digest_word}
 use Rattle.script_text.proofs.Cutting.{slice_split-join, Lacks-join}

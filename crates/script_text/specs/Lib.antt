@@ -1,6 +1,5 @@
-pub mod Causes
+pub mod Limits
 pub mod Lines
 pub mod Scripts
 pub mod Laws
-pub mod Memory
 pub mod Reading

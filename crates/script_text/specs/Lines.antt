@@ -13,20 +13,23 @@ use Rattle.hsm_types.specs.declared.dm.Right.TheVariants.{Null, Shared, Excl}
 use Rattle.hsm_types.specs.declared.dm.Scope.{Scope}
 use Rattle.hsm_types.specs.declared.dm.Scope.TheVariants.{Anyone, InSession, OnToken, OnFile, OnRight}
 use Rattle.hsm_types.specs.declared.keys.Sid.{Sid}
-use Rattle.hsm_types.specs.declared.parts.Part.{Part}
-use Rattle.hsm_types.specs.declared.parts.Part.TheVariants as part
+use Rattle.call_forms.specs.declared.parts.Part.{Part}
+use Rattle.call_forms.specs.declared.parts.Part.TheVariants as part
 use Rattle.hsm_types.specs.declared.regions.Region.{Region}
 use Rattle.hsm_types.specs.declared.stubs.Digest.{Digest}
 use Rattle.hsm_types.specs.Callers.{IsCallerNumber}
 use Rattle.hsm_types.specs.Calls.{scope_of}
-use Rattle.hsm_types.specs.Forms.{call_form, dm_form}
+use Rattle.call_forms.specs.Forms.{call_form, dm_form}
 use Rattle.hsm_types.specs.Handles.{IsHandle}
-use Rattle.hsm_types.specs.Parts.{access_of}
+use Rattle.call_forms.specs.Parts.{access_of}
 use Rattle.plain_model.specs.declared.entries.Actor.{Actor}
 use Rattle.plain_model.specs.declared.entries.Actor.TheVariants.{Caller, Session, Store}
 use Rattle.plain_model.specs.declared.entries.Action.{Action}
 use Rattle.plain_model.specs.declared.entries.Action.TheVariants.{Issue, Resume, Dm, Commit}
-use Rattle.plain_model.specs.Render.{spaced, actor_word, action_words}
+use Rattle.event_text.specs.Render.{spaced, actor_word, action_words}
+use Rattle.script_text.specs.Limits.{line_regions, pattern_bytes, greatest_seed}
+use Rattle.script_text.specs.declared.lines.Allowed.{Allowed}
+use Rattle.script_text.specs.declared.lines.Allowed.TheVariants.{All, Calls}
 use Rattle.script_text.specs.declared.lines.Line.{Line}
 use Rattle.script_text.specs.declared.lines.Line.TheVariants.{Event, Start, Kill, Step, Settle}
 
@@ -73,10 +76,10 @@ is_word_byte b = nat_le 0x21 b && nat_le b 0x7e
 abbrev pub is_word : List ℕ → Bool
 is_word word = not (length word == 0) && list_all is_word_byte word
 
--- Data given by a seed are at most 131,072 bytes of its pattern.
+-- Data given by a seed are at most `pattern_bytes` of its pattern.
 abbrev pub IsData : Option ℕ → List ℕ → Type 0
 IsData None bytes = IsBytes bytes
-IsData (Some seed) bytes = (length bytes ≤ 131072) × (seed ≤ 255) × (bytes ≡ pattern (length bytes) seed)
+IsData (Some seed) bytes = (length bytes ≤ pattern_bytes) × (seed ≤ greatest_seed) × (bytes ≡ pattern (length bytes) seed)
 
 -- Data with their fingerprint are as many as it can count.
 abbrev pub IsVerified : Option ℕ → List ℕ → Type 0
@@ -85,9 +88,9 @@ IsVerified seed bytes = IsData seed bytes × (length bytes < 2 ^ 32)
 abbrev pub IsRegion : Region → Type 0
 IsRegion r = (r.offset < 2 ^ 64) × (r.size < 2 ^ 64) × (r.flags < 256)
 
--- A line has at most 64 regions.
+-- A line has at most `line_regions`.
 abbrev pub IsRegions : List Region → Type 0
-IsRegions regions = (length regions ≤ 64) × AllByRecursion IsRegion regions
+IsRegions regions = (length regions ≤ line_regions) × AllByRecursion IsRegion regions
 
 -- eight bytes
 abbrev pub IsAttrName : AttrName → Type 0
@@ -161,6 +164,16 @@ IsLine (Start daemon) = Unit {0}
 IsLine (Kill daemon) = Unit {0}
 IsLine (Step daemon) = Unit {0}
 IsLine Settle = Unit {0}
+
+-- a call that a caller issues
+abbrev pub IsCall : Line → Type 0
+IsCall (Event (Caller c) (Issue call) seed) = Unit {0}
+IsCall other = ⊥
+
+-- a line that a command takes
+abbrev pub IsAllowed : Allowed → Line → Type 0
+IsAllowed All line = Unit {0}
+IsAllowed Calls line = IsCall line
 
 -- ---- what a line weighs
 

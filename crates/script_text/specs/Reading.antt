@@ -8,18 +8,20 @@ use Rattle.hsm_types.specs.declared.daemons.Daemon.{Daemon}
 use Rattle.hsm_types.specs.declared.dm.Kinds.{Kinds}
 use Rattle.hsm_types.specs.declared.keys.FileKey.{FileKey}
 use Rattle.hsm_types.specs.declared.keys.Sid.{Sid}
-use Rattle.hsm_types.specs.declared.parts.Part.{Part}
-use Rattle.hsm_types.specs.declared.parts.PartKind.{PartKind}
-use Rattle.hsm_types.specs.declared.parts.PartKind.TheVariants as kinds
+use Rattle.call_forms.specs.declared.parts.Part.{Part}
+use Rattle.call_forms.specs.declared.parts.PartKind.{PartKind}
+use Rattle.call_forms.specs.declared.parts.PartKind.TheVariants as kinds
 use Rattle.hsm_types.specs.declared.regions.Region.{Region}
 use Rattle.hsm_types.specs.declared.stubs.Digest.{Digest}
-use Rattle.hsm_types.specs.Forms.{verb_text, call_form, dm_verb_text, dm_form}
-use Rattle.hsm_types.specs.Parts.{kind_of}
+use Rattle.call_forms.specs.Forms.{verb_text, call_form, dm_verb_text, dm_form}
+use Rattle.call_forms.specs.Parts.{kind_of}
 use Rattle.plain_model.specs.declared.entries.Actor.{Actor}
 use Rattle.plain_model.specs.declared.entries.Actor.TheVariants.{Caller, Session}
-use Rattle.plain_model.specs.Render.{spaced, actor_word, part_word, form_words}
+use Rattle.event_text.specs.Render.{spaced, actor_word, part_word, form_words}
+use Rattle.script_text.specs.Limits.{pattern_bytes, greatest_seed}
 use Rattle.script_text.specs.declared.bodies.Body.{Body}
 use Rattle.script_text.specs.declared.bodies.Pattern.{Pattern}
+use Rattle.script_text.specs.declared.lines.Allowed.{Allowed}
 use Rattle.script_text.specs.declared.lines.Line.{Line}
 use Rattle.script_text.specs.declared.lines.Line.TheVariants.{Event, Start, Kill, Step, Settle}
 use Rattle.script_text.specs.declared.parts.ReadPart.{ReadPart}
@@ -71,7 +73,7 @@ abbrev pub pattern_text : Pattern → List ℕ
 pattern_text p = coloned (decimal p.len ∷ decimal p.seed ∷ [])
 
 abbrev pub IsPattern : Pattern → Type 0
-IsPattern p = (p.len ≤ 131072) × (p.seed ≤ 255)
+IsPattern p = (p.len ≤ pattern_bytes) × (p.seed ≤ greatest_seed)
 
 abbrev pub body_text : Body → List ℕ
 body_text b = data_word b.seed b.bytes
@@ -180,7 +182,7 @@ IsNoEvent (Kill daemon) = Unit {0}
 IsNoEvent (Step daemon) = Unit {0}
 IsNoEvent Settle = Unit {0}
 
--- the line of the text that goes on after the lines before it, or none where none does
-abbrev pub GoesOnAs : List Line → List ℕ → Option Line → Type 0
-GoesOnAs before text None = (line : Line) → ¬ (GoesOn before text line)
-GoesOnAs before text (Some line) = GoesOn before text line
+-- the allowed line of the text that goes on after the lines before it, or none where none does
+abbrev pub GoesOnAs : Allowed → List Line → List ℕ → Option Line → Type 0
+GoesOnAs allowed before text None = (line : Line) → ¬ (GoesOn allowed before text line)
+GoesOnAs allowed before text (Some line) = GoesOn allowed before text line

@@ -1,5 +1,5 @@
 //! Names of attributes, as a word of a line.
-ghost use Rattle.plain_model.specs.Render.{name_word};
+ghost use Rattle.event_text.specs.Render.{name_word};
 ghost use Rattle.script_text.specs.Lines.{IsAttrName};
 ghost use Rattle.script_text.specs.Reading.{Reads};
 

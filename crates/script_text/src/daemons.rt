@@ -1,6 +1,6 @@
 //! The lines of daemons, and daemons as a word of a line.
 ghost use Rattle.std.specs.Prelude.{◌≡◌, ◌∷◌, []};
-ghost use Rattle.plain_model.specs.Render.{spaced};
+ghost use Rattle.event_text.specs.Render.{spaced};
 ghost use Rattle.script_text.specs.Lines.{daemon_word, line_text};
 ghost use Rattle.script_text.specs.Reading.{Reads, Lacks, IsDaemon, IsNoEvent};
 

@@ -1,6 +1,6 @@
 //! Handles, as a word of a line.
 ghost use Rattle.hsm_types.specs.Handles.{IsHandle};
-ghost use Rattle.plain_model.specs.Render.{key_word, handle_word};
+ghost use Rattle.event_text.specs.Render.{key_word, handle_word};
 ghost use Rattle.script_text.specs.Reading.{Reads, IsKey};
 
 use crate::words::{cut, number};

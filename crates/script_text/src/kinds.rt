@@ -1,7 +1,7 @@
 //! Kinds of events, as a word of a line.
 ghost use Rattle.std.specs.Prelude.{◌≡◌};
 ghost use Rattle.std.specs.Option.{option_map};
-ghost use Rattle.plain_model.specs.Render.{kinds_word};
+ghost use Rattle.event_text.specs.Render.{kinds_word};
 ghost use Rattle.script_text.specs.Reading.{Reads, AreKinds, parts_behind, taken};
 
 use crate::words::first_part;

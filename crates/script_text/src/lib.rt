@@ -1,4 +1,4 @@
-//! Scripts as bytes and as lines, and where scripts come from and transcripts go to.
+//! Scripts as bytes and as lines.
 #![tactic(auto)]
 
 mod attributes;
@@ -10,7 +10,6 @@ mod handles;
 mod kinds;
 mod laws;
 mod lines;
-mod memory;
 mod parser;
 mod parts;
 mod printing;
@@ -18,14 +17,11 @@ mod regions;
 mod requests;
 mod responses;
 mod rights;
-mod streams;
 mod words;
 
 pub use bodies::{PATTERN_BYTES, pattern_bytes};
-pub use laws::{one_script, printed_is_read};
-pub use lines::{Line, Script};
-pub use memory::{MemorySink, MemorySource};
-pub use parser::{ParseRefusal, parse};
+pub use laws::{one_script, one_script_of, printed_is_read, printed_is_read_of};
+pub use lines::{Allowed, Line, Script};
+pub use parser::{LONGEST_SCRIPT, ParseRefusal, parse, parse_allowed};
 pub use printing::print;
-pub use streams::{Failed, Sink, Source};
 pub use words::number;

@@ -7,7 +7,7 @@ use plain_model::{Action, Actor};
 use std::marker::Model;
 
 /// A line of a script.
-#[derive(Debug, PartialEq, Drop)]
+#[derive(Drop)]
 pub enum Line {
     /// An event, which the history will have with its answer. The seed is that of data that were given as `p:LEN:SEED`, and the action has
     /// their bytes.
@@ -26,8 +26,17 @@ pub enum Line {
     Settle,
 }
 
+/// Which lines a command takes.
+#[derive(Clone, Copy)]
+pub enum Allowed {
+    /// Lines of every kind.
+    All,
+    /// The calls that callers issue. A resume is none.
+    Calls,
+}
+
 /// The lines of a script, in order, each lawful after those before it. Contracts see them as a list.
-#[derive(Debug, Drop)]
+#[derive(Drop)]
 pub struct Script {
     items: Vec<Line>,
 }

@@ -1,7 +1,7 @@
 //! The parts of a call, read by the kinds that its verb has.
 ghost use Rattle.std.specs.Prelude.{◌≡◌, ◌<◌, ◌^◌, ◌∷◌, [], length, true, IfOk};
 ghost use Rattle.std.specs.Option.{option_map, ForSome};
-ghost use Rattle.hsm_types.specs.declared.parts.PartKind.TheVariants as kinds;
+ghost use Rattle.call_forms.specs.declared.parts.PartKind.TheVariants as kinds;
 ghost use Rattle.script_text.specs.Reading.{Reads, read_text, IsOfKind, parts_text, AreOfKinds, ReadsParts, is_signature};
 
 use crate::attributes::attr_name;
@@ -13,7 +13,8 @@ use crate::regions::regions_of;
 use crate::responses::response_of;
 use crate::rights::right_of;
 use crate::words::{count, cut, number, word};
-use hsm_types::{Part, PartKind, Parts, Verified};
+use call_forms::{Part, PartKind, Parts};
+use hsm_types::Verified;
 use std::alloc::{AllocError, Global};
 
 /// A part, and the seed if it is data that were given by one.

@@ -7,8 +7,8 @@ ghost use Rattle.script_text.specs.Scripts.{script_text, IsScript};
 
 use crate::daemons::name_of;
 use crate::lines::{Line, Script};
+use event_text::{Spelling, push_event};
 use hsm_types::{Bytes, Daemon};
-use plain_model::{Spelling, push_event};
 use std::alloc::{AllocError, Global};
 
 /// The text of a script: that of each line, with a newline behind it.

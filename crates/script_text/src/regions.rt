@@ -1,6 +1,6 @@
 //! Regions, as a word of a line.
 ghost use Rattle.std.specs.Prelude.{IfOk};
-ghost use Rattle.plain_model.specs.Render.{region_word, regions_word};
+ghost use Rattle.event_text.specs.Render.{region_word, regions_word};
 ghost use Rattle.script_text.specs.Lines.{IsRegion, IsRegions};
 ghost use Rattle.script_text.specs.Reading.{Reads, AreSomeRegions};
 

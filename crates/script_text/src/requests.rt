@@ -5,7 +5,8 @@ ghost use Rattle.script_text.specs.Reading.{Reads, Lacks, with_rest, request_tex
 
 use crate::parts::{ReadParts, parts_of};
 use crate::words::cut;
-use hsm_types::{Call, CallVerb, DmCall, DmVerb};
+use call_forms::{CallVerb, DmVerb, call_of, dm_call_of};
+use hsm_types::{Call, DmCall};
 use std::alloc::{AllocError, Global};
 
 /// A caller's call, and the seed of its data if they were given by one.
@@ -34,7 +35,7 @@ pub fn request_of(alloc: Global, text: &[u8]) -> Result<Option<Request>, AllocEr
     let Some(ReadParts { parts, seed }) = parts_of(alloc, verb.kinds(), rest)? else {
         return Ok(None);
     };
-    let call = Call::of(verb, parts);
+    let call = call_of(verb, parts);
     Ok(Some(Request { call, seed }))
 }
 
@@ -50,7 +51,7 @@ pub fn dm_request_of(alloc: Global, text: &[u8]) -> Result<Option<DmRequest>, Al
     let Some(ReadParts { parts, seed }) = parts_of(alloc, verb.kinds(), rest)? else {
         return Ok(None);
     };
-    let call = DmCall::of(verb, parts);
+    let call = dm_call_of(verb, parts);
     Ok(Some(DmRequest { call, seed }))
 }
 

@@ -1,5 +1,5 @@
 //! Responses to events, as the end of a line.
-ghost use Rattle.plain_model.specs.Render.{response_word};
+ghost use Rattle.event_text.specs.Render.{response_word};
 ghost use Rattle.script_text.specs.Lines.{IsResponse};
 ghost use Rattle.script_text.specs.Reading.{Reads};
 

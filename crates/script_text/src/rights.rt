@@ -1,5 +1,5 @@
 //! Rights, as a word of a line.
-ghost use Rattle.plain_model.specs.Render.{right_word};
+ghost use Rattle.event_text.specs.Render.{right_word};
 ghost use Rattle.script_text.specs.Lines.{IsAskedRight};
 ghost use Rattle.script_text.specs.Reading.{Reads};
 

@@ -91,7 +91,7 @@ fn fetch_all<D: Drive>(
 }
 
 fn fetched<D: Drive>(alloc: Global, drives: &mut [D], entry: &StubEntry) -> Result<(), Cause> {
-    match fetch(alloc, drive_of(drives, entry.volume)?, entry) {
+    match fetch(alloc, drive_of(drives, entry.place().volume)?, entry) {
         Ok(_bytes) => Ok(()),
         Err(why) => Err(Cause::NotFetched(why)),
     }
@@ -107,7 +107,7 @@ fn drive_of<D: Drive>(drives: &mut [D], volume: u32) -> Result<&mut D, Cause> {
 
 /// The bytes of a segment, which begin with its number.
 fn bytes_of(alloc: Global, segment: u32) -> Result<Verified, AllocError>
-    ensures { IfOk result (λ bytes. length bytes ≡ 65536) }
+    ensures { IfOk result (λ bytes. length bytes ≡ SEGMENT_BYTES) }
 {
     let mut bytes = vec![in alloc; (segment % 251) as u8; SEGMENT_BYTES as usize]?;
     bytes[..4].copy_from_slice(&segment.to_be_bytes());

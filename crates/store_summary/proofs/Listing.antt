@@ -2,7 +2,7 @@
 use Rattle.std.proofs.Common.{◌≡◌, ℕ, List, [], ◌∷◌, ◌++◌, map, ap, append_assoc, append-nil, rules}
 use Rattle.std.specs.Fmt.{decimal}
 use Rattle.std.specs.List.{flat_map}
-use Rattle.plain_model.specs.Render.{spaced}
+use Rattle.hsm_types.specs.Words.{spaced}
 
 -- a word, and numbers behind it with a space in front of each
 pub numbers_joined : (word : List ℕ) (ns : List ℕ) → word ++ flat_map (λ n. 32 ∷ decimal n) ns ≡ spaced (word ∷ map decimal ns)

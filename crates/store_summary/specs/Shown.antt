@@ -8,7 +8,7 @@ use Rattle.std.specs.Ordering.{nat_cmp}
 use Rattle.hsm_types.specs.declared.stubs.Segment.{Segment}
 use Rattle.hsm_types.specs.declared.stubs.Segment.TheVariants.{Resident, Sealed, Offline}
 use Rattle.hsm_types.specs.declared.tables.FileRow.{FileRow}
-use Rattle.plain_model.specs.Render.{spaced, key_word}
+use Rattle.hsm_types.specs.Words.{spaced, key_word}
 use Rattle.store_summary.specs.declared.states.StateCounts.{StateCounts}
 use Rattle.store_summary.specs.declared.summaries.ClassCounts.{ClassCounts}
 use Rattle.store_summary.specs.declared.summaries.Summary.{Summary}

@@ -2,7 +2,7 @@
 ghost use Rattle.std.specs.Prelude.{◌≡◌, ◌∷◌, ◌++◌, map, OnOk};
 ghost use Rattle.std.specs.Fmt.{decimal};
 ghost use Rattle.std.specs.List.{flat_map};
-ghost use Rattle.plain_model.specs.Render.{key_word};
+ghost use Rattle.hsm_types.specs.Words.{key_word};
 ghost use Rattle.store_summary.specs.Shown.{line};
 
 use hsm_types::FileKey;

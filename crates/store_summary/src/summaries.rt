@@ -5,7 +5,7 @@ use hsm_types::{ListOf, Table, Word};
 pub type Words = ListOf<Word>;
 
 /// What an image of a store stands for.
-#[derive(Debug, PartialEq, Drop)]
+#[derive(Drop)]
 pub struct Summary {
     /// How many entries of history came before its last commit.
     pub number: u64,
@@ -17,7 +17,7 @@ pub struct Summary {
 }
 
 /// How many objects and entries are of each class.
-#[derive(Clone, Copy, Debug, PartialEq, Eq)]
+#[derive(Clone, Copy)]
 pub struct ClassCounts {
     /// Objects that a stub entry names.
     pub live: u64,

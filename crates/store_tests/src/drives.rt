@@ -1,7 +1,7 @@
 //! The drives of a folder in a run: they are asked for once the store was opened, and come back as they were.
 
 use crate::running::{Ran, formatted, host_of, run};
-use hsm_cli::{Host, MemHost};
+use hosts::{Host, MemHost};
 use hsm_types::ListOf;
 use media_model::{Drive, MemDrive, mem_drives};
 use std::alloc::{AllocError, Global};

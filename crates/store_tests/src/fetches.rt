@@ -2,7 +2,7 @@
 
 use crate::drives::{CAPACITY, put};
 use crate::running::{Told, formatted, host_of, image_after, run, told_of};
-use hsm_cli::MemHost;
+use hosts::MemHost;
 use hsm_types::ListOf;
 use media_model::{Drive, FailingCall, MemDrive, volumes_of};
 use std::alloc::{AllocError, Global};

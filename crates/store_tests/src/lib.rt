@@ -11,7 +11,7 @@ mod drives;
 #[cfg(test)]
 mod fetches;
 #[cfg(test)]
-mod hosts;
+mod files;
 #[cfg(test)]
 mod media;
 #[cfg(test)]

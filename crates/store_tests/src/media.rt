@@ -2,9 +2,10 @@
 
 use crate::running::formatted;
 use disk_model::{Disk, SureDisk};
+use event_text::render;
 use hsm_core::Hsm;
-use hsm_types::{DmCall, Fingerprint, MediaCause, Response, Sid, Token};
-use plain_model::{Action, Actor, render};
+use hsm_types::{DmCall, Fingerprint, MediaCause, Place, Response, Sid, Token};
+use plain_model::{Action, Actor};
 use script_text::{Line, Script, parse};
 use std::alloc::Global;
 use std::process::Abort;
@@ -104,10 +105,18 @@ fn assert_told(rt: &(impl Abort + AllocGlobal), cause: MediaCause, end: &str) ->
 
 #[test]
 fn a_fault_of_a_medium_ends_the_access_by_its_cause(rt: HostRuntime) -> Result<(), Fail> {
-    assert_told(&rt, MediaCause::failed(0, 0, 0, 1), FAILED)?;
+    let place = Place {
+        volume: 0,
+        object: 0,
+    };
+    assert_told(&rt, MediaCause::failed(place, 0, 1), FAILED)?;
     let (want, got) = (Fingerprint::of(b"foo"), Fingerprint::of(b"bar"));
     if want == got {
         return Err("two digests are the same".into());
     }
-    assert_told(&rt, MediaCause::damaged(7, u32::MAX, want, got), DAMAGED)
+    let place = Place {
+        volume: 7,
+        object: u32::MAX,
+    };
+    assert_told(&rt, MediaCause::damaged(place, want, got), DAMAGED)
 }

@@ -2,11 +2,11 @@
 //! in a function that does nothing else, since proving costs much more where both are done.
 
 use disk_model::{Disk, FuseDisk, MemDisk};
-use hsm_cli::{MemHost, Outcome, hsm_main};
+use hosts::{MemHost, MemorySink, MemorySource, Sink, Source};
+use hsm_cli::{Outcome, hsm_main};
 use hsm_types::ListOf;
 use media_model::{Drive, MemDrive};
 use plain_model::History;
-use script_text::{MemorySink, MemorySource, Sink, Source};
 use std::alloc::{AllocError, Global};
 use std::process::Abort;
 use std::test::Fail;

@@ -1,18 +1,18 @@
 -- A segment has one entry at most, so what the map does at its key is done to all entries of the segment.
-use Rattle.std.proofs.Common.{◌≡◌, ℕ, ◌+◌, ◌^◌, ◌<◌, ◌≤◌, [], ◌∷◌, length, Bool, true, false, not, cond, Option, None, Some, is_some, Less, Equal, Greater, nat_cmp, is_gt, refl, sym, ap, subst, ⊎_elim, ◌∙◌, arith}
+use Rattle.std.proofs.Common.{◌≡◌, ℕ, ◌+◌, ◌^◌, ◌<◌, ◌≤◌, [], ◌∷◌, length, Bool, true, false, not, cond, Option, None, Some, is_some, Less, Equal, Greater, nat_cmp, is_gt, refl, sym, ap, ◌∙◌, arith}
 use Rattle.std.specs.Prelude.{◌&&◌, ◌==◌, nat_eq, nat_lt, nat_le, if◌then◌else◌}
 use Rattle.std.specs.BTreeMap.{is_at}
 use Rattle.std.specs.List.Sorted.{IsStrictlySortedBy}
 use Rattle.std.specs.Map.{keys_of, lookup, remove_entry, set_value}
-use Rattle.std.proofs.lemmas.Bool.{cases_lt, false≢true, eqb-true, eqb-false, eq-eqb, ltb-false}
+use Rattle.std.proofs.lemmas.Bool.{false≢true, eqb-true, eqb-false, eq-eqb, ltb-false}
 use Rattle.std.proofs.lemmas.Cmp.{nat_cmp_total, nat_eq_equiv, eq_by_cmp_equiv}
 use Rattle.std.proofs.lemmas.Map.{lookup-none}
 use Rattle.std.proofs.lemmas.Map.Entries.{none_past_head}
 use Rattle.std.proofs.lemmas.Map.Keys.{IsDistinct-from_sorted, sorted_tail}
-use Rattle.hsm_types.specs.Stubs.{Stubs, is_offline, offline_at, stub_at, moved, without_stub, stubs_below}
+use Rattle.hsm_types.specs.Stubs.{Stubs, stub_at, moved, without_stub, stubs_below}
 use Rattle.hsm_types.specs.declared.stubs.Stub.{Stub}
 use Rattle.hsm_types.proofs.Righted.{eq-nat_cmp}
-use Rattle.stub_map.specs.States.{HereBetween, NoneBetween, NoneFrom}
+use Rattle.stub_map.specs.States.{NoneBetween, NoneFrom}
 
 tests : (j : ℕ) → is_at (nat_cmp j) ≡ nat_eq j
 tests j = λ i k. eq-nat_cmp j k i
@@ -148,14 +148,3 @@ none_before from first stubs least k above below = by (stub_at k stubs) (least k
     by : (stub : Option Stub) → (is_some stub ≡ true → first ≤ k) → stub ≡ None
     by None later = refl
     by (Some stub) later = absurd (let behind = later refl in omega arith)
-
--- ---- the first segment whose bytes are away
-
--- where those before are here, so are those behind them that have no entry
-pub here_upto : (stubs : Stubs) (from start to : ℕ) → HereBetween from start stubs → NoneBetween start to stubs → HereBetween from to stubs
-here_upto stubs from start to before none k low high = ⊎_elim (λ (below : k < start). before k low below) (λ (behind : start ≤ k). ap is_offline (none k behind high)) (cases_lt k start)
-
--- and the next one, which has its bytes
-pub here_past : (stubs : Stubs) (from j : ℕ) → HereBetween from j stubs → offline_at stubs j ≡ false → HereBetween from (j + 1) stubs
-here_past stubs from j before here k low high =
-    ⊎_elim (λ (below : k < j). before k low below) (λ (last : j ≤ k). let same : j ≡ k = omega arith in subst (λ n. offline_at stubs n ≡ false) same here) (cases_lt k j)

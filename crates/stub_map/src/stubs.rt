@@ -14,7 +14,7 @@ use std::collections::btree_map::Iter;
 use std::marker::Model;
 
 /// What is held of a segment.
-#[derive(Clone, Copy, Debug, PartialEq, Eq)]
+#[derive(Clone, Copy, PartialEq, Eq)]
 pub enum State {
     /// Its bytes alone.
     Resident,

@@ -1,6 +1,7 @@
 -- The two orders have the same holdings after each change.
 use Rattle.std.specs.Prelude.{◌==◌, if◌then◌else◌}
-use Rattle.std.proofs.Common.{◌≡◌, ◌≢◌, ◌<◌, ◌^◌, List, [], ◌∷◌, Bool, true, false, cond, ◌&&◌, Option, None, Some, is_some, Ordering, Less, Equal, Greater, nat_cmp, is_eq, refl, sym, ap, subst, ◌∙◌}
+use Rattle.std.proofs.Common.{◌≡◌, ◌≢◌, ◌<◌, ◌^◌, List, [], ◌∷◌, Bool, true, false, cond, ◌&&◌, Option, None, Some, is_some, Ordering, Less, Equal}
+use Rattle.std.proofs.Common.{Greater, nat_cmp, is_eq, refl, sym, ap, subst, ◌∙◌}
 use Rattle.std.specs.BTreeMap.{insert_entry, is_at}
 use Rattle.std.specs.List.Sorted.{IsStrictlySortedBy}
 use Rattle.std.specs.Map.{keys_of, lookup, remove_entry, set_value}
@@ -9,14 +10,16 @@ use Rattle.std.proofs.lemmas.Bool.{false≢true}
 use Rattle.std.proofs.lemmas.Map.{lookup-none}
 use Rattle.std.proofs.lemmas.Map.Entries.{none_below_head}
 use Rattle.std.proofs.lemmas.Map.Keys.{sorted_tail}
-use Rattle.hsm_types.specs.Rights.{Rights, AreRights, holding_cmp, key_cmp, same_holding, holding, right_of, right_or_null, reaches, too_low, busy, conflict, with_right, without_right}
+use Rattle.hsm_types.specs.Rights.{Rights, AreRights, holding_cmp, key_cmp, same_holding, holding, right_of, right_or_null, reaches, too_low, busy}
+use Rattle.hsm_types.specs.Rights.{conflict, with_right, without_right}
 use Rattle.hsm_types.specs.declared.dm.DmRefusal.TheVariants.{NeedRight}
 use Rattle.hsm_types.specs.declared.dm.Right.{Right}
 use Rattle.hsm_types.specs.declared.dm.Right.TheVariants.{Null, Shared, Excl}
 use Rattle.hsm_types.specs.declared.keys.FileKey.{FileKey}
 use Rattle.hsm_types.specs.declared.keys.Holding.{Holding}
 use Rattle.hsm_types.specs.declared.keys.Token.{Token}
-use Rattle.hsm_types.proofs.Righted.{eq-then, eq-nat_cmp, holding-cmp, holding-same, holding-equiv, holding_cmp-total, lookup-with, lookup-without, requested-rights, without-rights, keys-with_right, keys-without_right}
+use Rattle.hsm_types.proofs.Righted.{eq-then, eq-nat_cmp, holding-cmp, holding-same, holding-equiv, holding_cmp-total, lookup-with, lookup-without}
+use Rattle.hsm_types.proofs.Righted.{requested-rights, without-rights, keys-with_right, keys-without_right}
 use Rattle.token_rights.specs.Indices.{held, held_cmp, stands, AreIndexed}
 use Rattle.token_rights.specs.declared.held.Held.{Held}
 

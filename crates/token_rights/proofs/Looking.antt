@@ -1,5 +1,6 @@
 -- What the walks over a part of the rights find.
-use Rattle.std.proofs.Common.{◌≡◌, ℕ, ◌<◌, ◌≤◌, ◌-◌, ◌^◌, List, [], ◌∷◌, length, Bool, true, false, not, cond, ◌&&◌, None, Some, is_some, Ordering, Less, Equal, Greater, nat_cmp, is_eq, is_lt, is_le, is_gt, refl, sym, ap, subst, ◌∙◌, arith}
+use Rattle.std.proofs.Common.{◌≡◌, ℕ, ◌<◌, ◌≤◌, ◌-◌, ◌^◌, List, [], ◌∷◌, length, Bool, true, false, not, cond, ◌&&◌, None, Some, is_some, Ordering}
+use Rattle.std.proofs.Common.{Less, Equal, Greater, nat_cmp, is_eq, is_lt, is_le, is_gt, refl, sym, ap, subst, ◌∙◌, arith}
 use Rattle.std.specs.Prelude.{filter, nat_lt, ◌==◌}
 use Rattle.std.specs.BTreeMap.Range.{range_contains}
 use Rattle.std.specs.List.{All, find}

@@ -3,7 +3,8 @@ ghost use Rattle.std.specs.Prelude.{◌≡◌, ◌≢◌, [], ◌∷◌, None, S
 ghost use Rattle.std.specs.Option.{IsSome};
 ghost use Rattle.std.specs.Map.{lookup};
 ghost use Rattle.hsm_types.specs.Refusals.{first_refusal};
-ghost use Rattle.hsm_types.specs.Rights.{AreRights, bad_right, busy, conflict, holding, reaches, released, requested, right_of, same_holding, too_low, with_right, without_right};
+ghost use Rattle.hsm_types.specs.Rights.{AreRights, bad_right, busy, conflict, holding, reaches, released, requested, right_of, same_holding};
+ghost use Rattle.hsm_types.specs.Rights.{too_low, with_right, without_right};
 ghost use Rattle.hsm_types.specs.declared.dm.DmRefusal.TheVariants.{Memory};
 ghost use Rattle.hsm_types.specs.declared.dm.Right.TheVariants.{Null, Shared, Excl};
 

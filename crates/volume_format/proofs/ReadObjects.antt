@@ -1,10 +1,12 @@
 -- What is written is read, and what is read was written.
-use Rattle.std.proofs.Common.{◌≡◌, ℕ, ◌+◌, ◌-◌, ◌<◌, ◌≤◌, ◌^◌, List, ◌++◌, length, get_or, take, drop, Bool, true, false, not, ◌&&◌, nat_eq, nat_le, if◌then◌else◌, Option, Some, None, refl, sym, ap, subst, ◌∙◌, append_assoc, arith, inl, inr}
+use Rattle.std.proofs.Common.{◌≡◌, ℕ, ◌+◌, ◌-◌, ◌<◌, ◌≤◌, ◌^◌, List, ◌++◌, length, get_or, take, drop, Bool, true, false, not, ◌&&◌, nat_eq, nat_le}
+use Rattle.std.proofs.Common.{if◌then◌else◌, Option, Some, None, refl, sym, ap, subst, ◌∙◌, append_assoc, arith, inl, inr}
 use Rattle.std.specs.List.{All, starts_with}
 use Rattle.std.specs.Str.{bytes_eq}
 use Rattle.std.proofs.lemmas.Bool.{cases_lt, le-leb, leb-true}
 use Rattle.std.proofs.lemmas.Bool.Decides.{Decides-eqb}
-use Rattle.std.proofs.lemmas.List.{take-append-drop, take_at, drop_at, length-append, length-take, length-drop, get_or-drop, get_or-take, get_or_past, drop-drop, take_all}
+use Rattle.std.proofs.lemmas.List.{take-append-drop, take_at, drop_at, length-append, length-take, length-drop, get_or-drop, get_or-take}
+use Rattle.std.proofs.lemmas.List.{get_or_past, drop-drop, take_all}
 use Rattle.std.proofs.lemmas.List.Elements.{All-get_or}
 use Rattle.std.proofs.lemmas.Nat.{be_bytes_4}
 use Rattle.std.proofs.lemmas.Slice.Eq.{bytes_eq-Decides, starts_is}
@@ -13,6 +15,7 @@ use Rattle.byteorder.specs.Numbers.{big_from-take, big_from-lt, big_number-reads
 use Rattle.sha2.specs.Sha256.{sha256}
 use Rattle.sha2.proofs.Facts256.{length-sha256}
 use Rattle.hsm_types.specs.Handles.{handle_bytes, IsHandle}
+use Rattle.hsm_types.specs.Limits.{segment_bytes}
 use Rattle.hsm_types.specs.declared.keys.Handle.{Handle}
 use Rattle.hsm_types.proofs.HandleBytes.{handle_bytes-read}
 use Rattle.volume_format.specs.Objects.{magic, object_bytes, IsObject, begins_well, says_length, says_digest, bad_place}
@@ -59,7 +62,7 @@ segment_there : (h : Handle) (j : ℕ) (p : List ℕ) → j < 2 ^ 32 → big_num
 unfolding object_bytes handle_bytes
 segment_there h j p fits = big_number-reads_back 4 j (big_bytes 4 (length p) ++ (sha256 p ++ p)) (omega (arith, fits))
 
-length_there : (h : Handle) (j : ℕ) (p : List ℕ) → length p ≤ 65536 → big_number 4 (drop 36 (object_bytes h j p)) ≡ length p
+length_there : (h : Handle) (j : ℕ) (p : List ℕ) → length p ≤ segment_bytes → big_number 4 (drop 36 (object_bytes h j p)) ≡ length p
 unfolding object_bytes handle_bytes
 length_there h j p most = big_number-reads_back 4 (length p) (sha256 p ++ p) (omega (arith, most))
 
@@ -104,12 +107,12 @@ three a b c x y = sym (λ i. x i && y i && c)
 begins : (h : Handle) (j : ℕ) (p : List ℕ) → begins_well (object_bytes h j p) ≡ true
 begins h j p = and_both _ _ (le-leb 72 (length (object_bytes h j p)) (omega (arith, size h j p))) (magic_first h j p)
 
-tells_length : (h : Handle) (j : ℕ) (p : List ℕ) → 1 ≤ length p → length p ≤ 65536 → says_length (object_bytes h j p) ≡ true
+tells_length : (h : Handle) (j : ℕ) (p : List ℕ) → 1 ≤ length p → length p ≤ segment_bytes → says_length (object_bytes h j p) ≡ true
 tells_length h j p some most =
     let there = length_there h j p most in
     let behind = payload h j p in
-    (λ i. nat_le 1 (there i) && nat_le (there i) 65536 && nat_eq (there i) (length (behind i)))
-    ∙ sym (three (nat_le 1 (length p)) (nat_le (length p) 65536) (nat_eq (length p) (length p)) (le-leb 1 (length p) some) (le-leb (length p) 65536 most))
+    (λ i. nat_le 1 (there i) && nat_le (there i) segment_bytes && nat_eq (there i) (length (behind i)))
+    ∙ sym (three (nat_le 1 (length p)) (nat_le (length p) segment_bytes) (nat_eq (length p) (length p)) (le-leb 1 (length p) some) (le-leb (length p) segment_bytes most))
     ∙ (Decides-eqb (length p) (length p)).1 refl
 
 tells_digest : (h : Handle) (j : ℕ) (p : List ℕ) → says_digest (object_bytes h j p) ≡ true
@@ -197,7 +200,7 @@ object_read bytes are none h is_h handle j segment =
     let front = both_pass (nat_le 72 (length bytes)) (starts_with nat_eq bytes magic) pass.0 in
     let long = long_enough bytes pass.0 in
     let len = big_number 4 (drop 36 bytes) in
-    let sized = three_pass (nat_le 1 len) (nat_le len 65536) (nat_eq len (length (drop 72 bytes))) pass.1 in
+    let sized = three_pass (nat_le 1 len) (nat_le len segment_bytes) (nat_eq len (length (drop 72 bytes))) pass.1 in
     let counts : len ≡ length (drop 72 bytes) = (Decides-eqb len (length (drop 72 bytes))).0 sized.2 in
     let magic_there : bytes ≡ magic ++ drop 8 bytes = (starts_is Decides-eqb bytes magic _ refl).0 front.1 in
     let digest : take 32 (drop 40 bytes) ≡ sha256 (drop 72 bytes) = (bytes_eq-Decides (take 32 (drop 40 bytes)) (sha256 (drop 72 bytes))).0 pass.2 in
@@ -207,7 +210,7 @@ object_read bytes are none h is_h handle j segment =
       handle = is_h;
       segment = omega (arith, segment, big_from-lt 0 4 (drop 32 bytes) (AreBytes-drop 32 bytes are));
       some = omega (arith, counts, leb-true 1 len sized.0);
-      most = omega (arith, counts, leb-true len 65536 sized.1);
+      most = omega (arith, counts, leb-true len segment_bytes sized.1);
       bytes = sym (fields magic bytes magic_there) ∙ sym (λ i. ((((magic ++ handle i) ++ segment_is i) ++ length_is i) ++ sym digest i) ++ drop 72 bytes);
     }
 
@@ -237,13 +240,13 @@ object_or_bad bytes small none =
 pub behind_frame : (bytes : List ℕ) (n : ℕ) → n ≡ length bytes - 72 → take n (drop 72 bytes) ≡ drop 72 bytes
 behind_frame bytes n all = take_all n (drop 72 bytes) (omega (arith, all, length-drop 72 bytes))
 
-pub length_judged : (bytes : List ℕ) (len m n : ℕ) → len ≡ big_number 4 (take m (drop 36 bytes)) → 4 ≤ m → n ≡ length bytes - 72 → 1 ≤ len → len ≤ 65536
+pub length_judged : (bytes : List ℕ) (len m n : ℕ) → len ≡ big_number 4 (take m (drop 36 bytes)) → 4 ≤ m → n ≡ length bytes - 72 → 1 ≤ len → len ≤ segment_bytes
     → nat_eq len (length (take n (drop 72 bytes))) ≡ says_length bytes
 length_judged bytes len m n is wide all some most =
     let same : len ≡ big_number 4 (drop 36 bytes) = is ∙ big_from-take 0 4 m (drop 36 bytes) wide in
     (λ i. nat_eq len (length (behind_frame bytes n all i)))
-    ∙ three (nat_le 1 len) (nat_le len 65536) (nat_eq len (length (drop 72 bytes))) (le-leb 1 len some) (le-leb len 65536 most)
-    ∙ (λ i. nat_le 1 (same i) && nat_le (same i) 65536 && nat_eq (same i) (length (drop 72 bytes)))
+    ∙ three (nat_le 1 len) (nat_le len segment_bytes) (nat_eq len (length (drop 72 bytes))) (le-leb 1 len some) (le-leb len segment_bytes most)
+    ∙ (λ i. nat_le 1 (same i) && nat_le (same i) segment_bytes && nat_eq (same i) (length (drop 72 bytes)))
 
 pub all_well : (bytes : List ℕ) → begins_well bytes ≡ true → says_length bytes ≡ true → says_digest bytes ≡ true → bad_place bytes ≡ None
 all_well bytes begins len digest = place_is bytes ∙ (λ i. place_of (begins i) (len i) (digest i))

@@ -25,7 +25,7 @@ const LENGTH_PLACE: usize = 36;
 const DIGEST_PLACE: usize = 40;
 
 /// What an object says. Its payload stays in the buffer.
-#[derive(Clone, Copy, Debug)]
+#[derive(Clone, Copy)]
 pub struct Object<'a> {
     /// Of the file. Any handle may stand there.
     pub handle: Handle,
@@ -53,7 +53,7 @@ pub fn write_object(
     bytes: &Verified,
 ) -> Result<Bytes, AllocError>
     requires some { 1 ≤ length bytes.now }
-    requires most { length bytes.now ≤ 65536 }
+    requires most { length bytes.now ≤ SEGMENT_BYTES }
     ensures bytes { IfOk result (λ object. object ≡ object_bytes handle.now segment bytes.now) }
     ensures grammar { IfOk result (IsObject handle.now segment bytes.now) }
     ensures size { IfOk result (λ object. length object ≡ 72 + length bytes.now) }

@@ -1,7 +1,7 @@
 -- How the steps of a copy and of a fetch make one.
 use Rattle.std.proofs.Common.{◌≡◌, ℕ, ◌+◌, ◌<◌, ◌≤◌, true, List, [], ◌∷◌, ◌++◌, length, get_or, drop, refl, sym, ap, subst, ◌∙◌, arith, length-append}
 use Rattle.std.proofs.Math.Seq.{get_or-append_seam}
-use Rattle.hsm_types.specs.Stubs.{print_of}
+use Rattle.hsm_types.specs.Stubs.{print_of, entry_place, entry_print, entry_at}
 use Rattle.hsm_types.specs.declared.keys.Handle.{Handle}
 use Rattle.hsm_types.specs.declared.media.CopyRefusal.{CopyRefusal}
 use Rattle.hsm_types.specs.declared.media.CopyRefusal.TheVariants.{Failed, Full, Damaged, NoVolume, Memory}
@@ -60,19 +60,19 @@ module _ {D : Type 0} (g : drive.Ghosts D) where
       (before.0, before.1, (x, is, told now given there ∙ ap (λ (l : List ℕ). print_of (drop 72 l)) last))
 
   -- The bytes were put, read back, and made to last.
-  pub copied : (volume number segment : ℕ) (handle : Handle) (bytes object : List ℕ) (old put read new : D) (entry : StubEntry) → object ≡ object_bytes handle segment bytes → length object ≡ 72 + length bytes → entry ≡ record { volume = volume; object = number; print = print_of bytes }
+  pub copied : (volume number segment : ℕ) (handle : Handle) (bytes object : List ℕ) (old put read new : D) (entry : StubEntry) → object ≡ object_bytes handle segment bytes → length object ≡ 72 + length bytes → entry ≡ entry_at (record { volume = volume; object = number }) (print_of bytes)
       → IsPut g volume object old put number → Reads g put read → Prints g volume number put (print_of bytes) → Reads g read new → ((o : Objects) → g.gives new volume o → length o ≤ g.lasting new volume) → Copied g volume handle segment bytes old new entry
   copied volume number segment handle bytes object old put read new entry is size names p a told b lasts = record {
     room = subst (λ (n : ℕ). HasRoom g volume n old) size p.room;
-    on = ap (λ (e : StubEntry). e.volume) names;
-    number = λ o given. ap (λ (e : StubEntry). e.object) names ∙ p.next o given;
-    print = ap (λ (e : StubEntry). e.print) names;
+    on = ap (λ (e : StubEntry). (entry_place e).volume) names;
+    number = λ o given. ap (λ (e : StubEntry). (entry_place e).object) names ∙ p.next o given;
+    print = ap (λ (e : StubEntry). entry_print e) names;
     given = follows_on (AddsPrint (print_of bytes)) volume old put new (adds_print volume number old put object (print_of bytes) p told) r;
     exact = λ sure. follows_on (Adds (object_bytes handle segment bytes)) volume old put new (subst (λ (x : List ℕ). Follows (Adds x) (g.gives old volume) (g.gives put volume)) is (p.exact sure)) r;
     lasts = λ o given.
         let before = p.added o ((r.same volume).0 o given) in
         let at : number ≡ length before.0 = p.next before.0 before.1 in
-        let named : entry.object ≡ number = ap (λ (e : StubEntry). e.object) names in
+        let named : (entry_place entry).object ≡ number = ap (λ (e : StubEntry). (entry_place e).object) names in
         let all : length o ≤ g.lasting new volume = lasts o given in
         omega (arith, ap length before.2.1, length-append before.0 (before.2.0 ∷ []), at, named, all);
   }

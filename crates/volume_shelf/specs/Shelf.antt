@@ -1,7 +1,7 @@
 -- Copies of segments on volumes: what a copy leaves, and what a fetch tells.
 use Rattle.std.specs.Prelude.{◌≡◌, ◌≢◌, ◌⊎◌, ℕ, ◌+◌, ◌<◌, ◌≤◌, true, false, List, [], length, drop, get_or, Result, Err}
 use Rattle.disk_model.specs.Calls.{Rose}
-use Rattle.hsm_types.specs.Stubs.{print_of}
+use Rattle.hsm_types.specs.Stubs.{print_of, entry_place, entry_print}
 use Rattle.hsm_types.specs.declared.keys.Handle.{Handle}
 use Rattle.hsm_types.specs.declared.media.CopyRefusal.{CopyRefusal}
 use Rattle.hsm_types.specs.declared.media.CopyRefusal.TheVariants as refusal
@@ -65,13 +65,13 @@ module _ {D : Type 0} (g : drive.Ghosts D) where
   -- What a copy of these bytes leaves, and names by its entry: one object more, whose payload, as the medium gives it, has their fingerprint, and which lasts.
   pub record Copied (volume : ℕ) (handle : Handle) (segment : ℕ) (bytes : List ℕ) (old new : D) (entry : StubEntry) : Type 0 where
     pub room : HasRoom volume (72 + length bytes) old
-    pub on : entry.volume ≡ volume
-    pub number : (o : Objects) → g.gives old volume o → entry.object ≡ length o
-    pub print : entry.print ≡ print_of bytes
+    pub on : (entry_place entry).volume ≡ volume
+    pub number : (o : Objects) → g.gives old volume o → (entry_place entry).object ≡ length o
+    pub print : entry_print entry ≡ print_of bytes
     pub given : Follows (AddsPrint (print_of bytes)) (g.gives old volume) (g.gives new volume)
     -- over drives of a sure type it is the object of that segment
     pub exact : g.sure ≡ true → Follows (Adds (object_bytes handle segment bytes)) (g.gives old volume) (g.gives new volume)
-    pub lasts : (o : Objects) → g.gives new volume o → entry.object < g.lasting new volume
+    pub lasts : (o : Objects) → g.gives new volume o → (entry_place entry).object < g.lasting new volume
 
   -- why there is no copy of bytes with that fingerprint, whose object has so many
   abbrev pub CopyRefused : ℕ → ℕ → Fingerprint → D → D → CopyRefusal → Type 0
@@ -85,18 +85,18 @@ module _ {D : Type 0} (g : drive.Ghosts D) where
 
   -- the bytes have the entry's fingerprint, and are what the medium gives of the object's payload
   pub record Fetched (entry : StubEntry) (old : D) (bytes : List ℕ) : Type 0 where
-    pub there : g.has old entry.volume ≡ true
-    pub print : print_of bytes ≡ entry.print
-    pub given : (o : Objects) → g.gives old entry.volume o → (entry.object < length o) × (bytes ≡ payload_in entry.object o)
+    pub there : g.has old (entry_place entry).volume ≡ true
+    pub print : print_of bytes ≡ entry_print entry
+    pub given : (o : Objects) → g.gives old (entry_place entry).volume o → ((entry_place entry).object < length o) × (bytes ≡ payload_in (entry_place entry).object o)
 
   -- The fault came in a fetch by that entry: the drive's count rose in it from the one number to the other, or the payload that the medium gives has another
   -- fingerprint than is wanted.
   abbrev pub IsCause : StubEntry → D → D → Fault → Type 0
-  IsCause entry old new (fault.Failed volume object before after) = (volume ≡ entry.volume) × (object ≡ entry.object) × (before ≡ g.fault_count old) × (after ≡ g.fault_count new) × Rose before after
-  IsCause entry old new (fault.Damaged volume object want got) = (volume ≡ entry.volume) × (object ≡ entry.object) × (want ≡ entry.print) × (want ≢ got) × (g.has old entry.volume ≡ true) × HasPrint (g.gives old entry.volume) entry.object got
+  IsCause entry old new (fault.Failed volume object before after) = (volume ≡ (entry_place entry).volume) × (object ≡ (entry_place entry).object) × (before ≡ g.fault_count old) × (after ≡ g.fault_count new) × Rose before after
+  IsCause entry old new (fault.Damaged volume object want got) = (volume ≡ (entry_place entry).volume) × (object ≡ (entry_place entry).object) × (want ≡ entry_print entry) × (want ≢ got) × (g.has old (entry_place entry).volume ≡ true) × HasPrint (g.gives old (entry_place entry).volume) (entry_place entry).object got
 
   -- why nothing was fetched
   abbrev pub FetchRefused : StubEntry → D → D → FetchRefusal → Type 0
   FetchRefused entry old new (missing.Media cause) = IsCause entry old new cause
-  FetchRefused entry old new (missing.NoObject volume object) = (volume ≡ entry.volume) × (object ≡ entry.object) × ((o : Objects) → g.gives old entry.volume o → length o ≤ entry.object)
+  FetchRefused entry old new (missing.NoObject volume object) = (volume ≡ (entry_place entry).volume) × (object ≡ (entry_place entry).object) × ((o : Objects) → g.gives old (entry_place entry).volume o → length o ≤ (entry_place entry).object)
   FetchRefused entry old new missing.Memory = Unit {0}

@@ -1,7 +1,7 @@
 -- What the steps of a copy and of a fetch leave and answer.
 use Rattle.std.specs.Prelude.{◌≡◌, ◌≢◌, ℕ, ◌<◌, true, List, length}
 use Rattle.disk_model.specs.Calls.{Rose}
-use Rattle.hsm_types.specs.Stubs.{print_of}
+use Rattle.hsm_types.specs.Stubs.{print_of, entry_place, entry_print}
 use Rattle.hsm_types.specs.declared.media.CopyRefusal.{CopyRefusal}
 use Rattle.hsm_types.specs.declared.media.CopyRefusal.TheVariants as refusal
 use Rattle.hsm_types.specs.declared.media.FetchRefusal.{FetchRefusal}
@@ -44,9 +44,9 @@ module _ {D : Type 0} (g : drive.Ghosts D) where
 
   -- a fault in a step of a fetch that began with that count of faults, where the object's payload has so many bytes
   abbrev pub IsFaultOf : StubEntry → ℕ → ℕ → D → D → Fault → Type 0
-  IsFaultOf entry len begun old new (fault.Failed volume object before after) = (volume ≡ entry.volume) × (object ≡ entry.object) × (before ≡ begun) × (after ≡ g.fault_count new) × Rose before after
-  IsFaultOf entry len begun old new (fault.Damaged volume object want got) = (volume ≡ entry.volume) × (object ≡ entry.object) × (want ≡ entry.print) × (want ≢ got)
-      × ((o : Objects) → g.gives old entry.volume o → entry.object < length o → len ≡ length (payload_in entry.object o) → got ≡ print_of (payload_in entry.object o))
+  IsFaultOf entry len begun old new (fault.Failed volume object before after) = (volume ≡ (entry_place entry).volume) × (object ≡ (entry_place entry).object) × (before ≡ begun) × (after ≡ g.fault_count new) × Rose before after
+  IsFaultOf entry len begun old new (fault.Damaged volume object want got) = (volume ≡ (entry_place entry).volume) × (object ≡ (entry_place entry).object) × (want ≡ entry_print entry) × (want ≢ got)
+      × ((o : Objects) → g.gives old (entry_place entry).volume o → (entry_place entry).object < length o → len ≡ length (payload_in (entry_place entry).object o) → got ≡ print_of (payload_in (entry_place entry).object o))
 
   abbrev pub StepRefused : StubEntry → ℕ → ℕ → D → D → FetchRefusal → Type 0
   StepRefused entry len begun old new (missing.Media cause) = IsFaultOf entry len begun old new cause

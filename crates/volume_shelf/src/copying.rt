@@ -1,6 +1,7 @@
 //! How the copy of a segment is put on a volume.
 ghost use Rattle.std.specs.Prelude.{◌≡◌, ◌+◌, ◌<◌, ◌≤◌, ◌^◌, ℕ, true, length, IfOk, IfErr, OnOk, MatchResult};
 ghost use Rattle.disk_model.specs.Calls.{Rose};
+ghost use Rattle.hsm_types.specs.Limits.{segment_bytes};
 ghost use Rattle.hsm_types.specs.Stubs.{print_of};
 ghost use Rattle.hsm_types.specs.declared.media.CopyRefusal.TheVariants.{Failed};
 ghost use Rattle.media_model.specs.Objects.{Objects, Alike};
@@ -8,14 +9,15 @@ ghost use Rattle.volume_shelf.specs.Shelf.{payload_in, Reads, Grows, Copied, Cop
 ghost use Rattle.volume_shelf.specs.Steps.{IsPut, NotPut, Prints, IsUnlike};
 
 use crate::reading::{payload_len, print_payload};
-use hsm_types::{CopyRefusal, Fingerprint, Handle, StubEntry, Verified};
+use hsm_types::{CopyRefusal, Fingerprint, Handle, Place, StubEntry, Verified};
 use media_model::{Drive, DriveRefusal};
 use std::alloc::Global;
 use volume_format::{payload_follows, write_object};
 
-/// Copies the bytes of the segment to the volume: puts their object there, reads its payload back, compares the fingerprints, and makes the volume last. The bytes
-/// are copied once, into the object, whose memory is the only memory that is taken; what is read back is digested once. After `Failed` and `Damaged` the volume may
-/// have one object more. With `Failed` the drive's count of faults rose, and with each other answer it is as it was.
+/// Copies the bytes of the segment to the volume: puts their object there, reads its payload back, compares the fingerprints, and makes the
+/// volume last. The bytes are copied once, into the object, whose memory is the only memory that is taken; what is read back is digested once.
+/// After `Failed` and `Damaged` the volume may have one object more. With `Failed` the drive's count of faults rose, and with each other answer
+/// it is as it was.
 pub fn copy<M: Drive>(
     alloc: Global,
     drive: &mut M,
@@ -25,7 +27,7 @@ pub fn copy<M: Drive>(
     bytes: &Verified,
 ) -> Result<StubEntry, CopyRefusal>
     requires some { 1 ≤ length bytes.now }
-    requires most { length bytes.now ≤ 65536 }
+    requires most { length bytes.now ≤ segment_bytes }
     ensures answer { MatchResult result (Copied M.Drive volume handle.now segment bytes.now drive.old drive.new) (CopyRefused M.Drive volume (72 + length bytes.now) (print_of bytes.now) drive.old drive.new) }
     ensures grows { Grows M.Drive volume drive.old drive.new }
     ensures quiet { (IsFailedCopy result → ⊥) → M.fault_count drive.new ≡ M.fault_count drive.old }
@@ -39,11 +41,11 @@ pub fn copy<M: Drive>(
     let print = bytes.fingerprint();
     compare(drive, volume, number, print, begun, &mut object.into_vec())?;
     make_last(drive, volume, begun)?;
-    Ok(StubEntry {
+    let place = Place {
         volume,
         object: number,
-        print,
-    })
+    };
+    Ok(StubEntry::new(place, print))
 }
 
 /// Puts the object on the volume, and tells its number.

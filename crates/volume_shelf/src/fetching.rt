@@ -1,7 +1,7 @@
 //! How the copy of a segment is fetched from its volume.
 ghost use Rattle.std.specs.Prelude.{◌≡◌, ◌≢◌, ◌+◌, ◌<◌, ◌≤◌, ◌^◌, ℕ, length, IfOk, IfErr, OnOk, MatchResult};
 ghost use Rattle.disk_model.specs.Calls.{Rose};
-ghost use Rattle.hsm_types.specs.Stubs.{print_of};
+ghost use Rattle.hsm_types.specs.Stubs.{print_of, entry_place, entry_print};
 ghost use Rattle.hsm_types.specs.declared.media.FetchRefusal.TheVariants.{Media};
 ghost use Rattle.hsm_types.specs.declared.media.Fault.TheVariants.{Failed, Damaged};
 ghost use Rattle.media_model.specs.Objects.{Objects};
@@ -25,13 +25,14 @@ pub fn fetch<M: Drive>(
     ensures quiet { (IsFailedFetch result → ⊥) → M.fault_count drive.new ≡ M.fault_count drive.old }
 {
     let begun = drive.faults();
-    let len = match payload_len(drive, entry.volume, entry.object) {
+    let place = entry.place();
+    let len = match payload_len(drive, place.volume, place.object) {
         Ok(len) => len,
         Err(DriveRefusal::Failed) => return Err(failed(drive, entry, begun)),
         Err(_) => {
             return Err(FetchRefusal::NoObject {
-                volume: entry.volume,
-                object: entry.object,
+                volume: place.volume,
+                object: place.object,
             });
         }
     };
@@ -48,19 +49,20 @@ fn compare<M: Drive>(
 ) -> Result<(), FetchRefusal>
     requires short { 72 + len < 2 ^ 32 }
     requires begun { begun ≤ M.fault_count drive.old }
-    ensures alike { OnOk result ((o : Objects) → M.gives drive.old entry.now.volume o → entry.now.object < length o → len ≡ length (payload_in entry.now.object o) → len ≡ entry.now.print.len) }
+    ensures alike { OnOk result ((o : Objects) → M.gives drive.old (entry_place entry.now).volume o → (entry_place entry.now).object < length o → len ≡ length (payload_in (entry_place entry.now).object o) → len ≡ (entry_print entry.now).len) }
     ensures refused { IfErr result (StepRefused M.Drive entry.now len begun drive.old drive.new) }
     ensures reads { Reads M.Drive drive.old drive.new }
     ensures quiet { (IsFailedFetch result → ⊥) → M.fault_count drive.new ≡ M.fault_count drive.old }
 {
-    if len == entry.print.len {
+    if len == entry.print().len {
         return Ok(());
     }
+    let place = entry.place();
     let mut buf = [0u8; 4096];
-    let Ok(got) = print_payload(drive, entry.volume, entry.object, len, &mut buf) else {
+    let Ok(got) = print_payload(drive, place.volume, place.object, len, &mut buf) else {
         return Err(failed(drive, entry, begun));
     };
-    if got != entry.print {
+    if got != entry.print() {
         return Err(damaged(entry, got));
     }
     Ok(())
@@ -74,20 +76,22 @@ fn read_whole<M: Drive>(
     begun: u64,
 ) -> Result<Verified, FetchRefusal>
     requires { begun ≤ M.fault_count drive.old }
-    ensures print { IfOk result (λ bytes. print_of bytes ≡ entry.now.print) }
-    ensures bytes { IfOk result (IsPayload M.Drive entry.now.volume entry.now.object entry.now.print.len drive.old) }
-    ensures refused { IfErr result (StepRefused M.Drive entry.now entry.now.print.len begun drive.old drive.new) }
+    ensures print { IfOk result (λ bytes. print_of bytes ≡ entry_print entry.now) }
+    ensures bytes { IfOk result (IsPayload M.Drive (entry_place entry.now).volume (entry_place entry.now).object (entry_print entry.now).len drive.old) }
+    ensures refused { IfErr result (StepRefused M.Drive entry.now (entry_print entry.now).len begun drive.old drive.new) }
     ensures reads { Reads M.Drive drive.old drive.new }
     ensures quiet { (IsFailedFetch result → ⊥) → M.fault_count drive.new ≡ M.fault_count drive.old }
 {
-    let Ok(mut bytes) = vec![in alloc; 0u8; entry.print.len as usize] else {
+    let want = entry.print();
+    let Ok(mut bytes) = vec![in alloc; 0u8; want.len as usize] else {
         return Err(FetchRefusal::Memory);
     };
-    let Ok(count) = read_piece(drive, entry.volume, entry.object, 0, &mut bytes) else {
+    let place = entry.place();
+    let Ok(count) = read_piece(drive, place.volume, place.object, 0, &mut bytes) else {
         return Err(failed(drive, entry, begun));
     };
     bytes.truncate(count);
-    match Verified::check(Bytes::from(bytes), entry.print) {
+    match Verified::check(Bytes::from(bytes), want) {
         Ok(verified) => Ok(verified),
         Err(changed) => Err(damaged(entry, changed.got)),
     }
@@ -96,15 +100,15 @@ fn read_whole<M: Drive>(
 /// That the drive failed in this fetch.
 fn failed<M: Drive>(drive: &M, entry: &StubEntry, begun: u64) -> FetchRefusal
     requires { Rose begun (M.fault_count drive.now) }
-    ensures { result ≡ Media (Failed entry.now.volume entry.now.object begun (M.fault_count drive.now)) }
+    ensures { result ≡ Media (Failed (entry_place entry.now).volume (entry_place entry.now).object begun (M.fault_count drive.now)) }
 {
-    FetchRefusal::Media(MediaCause::failed(entry.volume, entry.object, begun, drive.faults()))
+    FetchRefusal::Media(MediaCause::failed(entry.place(), begun, drive.faults()))
 }
 
 /// That the medium gives a payload with that fingerprint.
 fn damaged(entry: &StubEntry, got: Fingerprint) -> FetchRefusal
-    requires { entry.now.print ≢ got }
-    ensures { result ≡ Media (Damaged entry.now.volume entry.now.object entry.now.print got) }
+    requires { entry_print entry.now ≢ got }
+    ensures { result ≡ Media (Damaged (entry_place entry.now).volume (entry_place entry.now).object (entry_print entry.now) got) }
 {
-    FetchRefusal::Media(MediaCause::damaged(entry.volume, entry.object, entry.print, got))
+    FetchRefusal::Media(MediaCause::damaged(entry.place(), entry.print(), got))
 }

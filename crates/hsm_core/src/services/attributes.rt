@@ -2,7 +2,7 @@
 ghost use Rattle.std.specs.Prelude.{◌≡◌, false, IsSome, IfOk};
 ghost use Rattle.hsm_types.specs.Messages.{no_token};
 ghost use Rattle.hsm_types.specs.declared.dm.DmCall.TheVariants.{SetDmAttr, GetDmAttr, RemoveDmAttr, GetAllDmAttr};
-ghost use Rattle.plain_model.specs.Keyed.{find_key};
+ghost use Rattle.hsm_types.specs.Keyed.{find_key};
 ghost use Rattle.file_store.specs.Stores.{Proceeds};
 ghost use Rattle.hsm_core.specs.Services.{AreOf, service_on, IsServed};
 

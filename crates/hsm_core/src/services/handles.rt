@@ -2,7 +2,7 @@
 ghost use Rattle.std.specs.Prelude.{IsSome, IfOk};
 ghost use Rattle.hsm_types.specs.Messages.{no_token};
 ghost use Rattle.hsm_types.specs.declared.dm.DmCall.TheVariants.{PathToHandle, GetFileAttr};
-ghost use Rattle.plain_model.specs.Keyed.{find_key};
+ghost use Rattle.hsm_types.specs.Keyed.{find_key};
 ghost use Rattle.file_store.specs.Stores.{superblock_of};
 ghost use Rattle.dm_service.specs.Tables.{Tables};
 ghost use Rattle.hsm_core.specs.Services.{AreOf, anybody, asked, service_on};

@@ -2,12 +2,11 @@
 ghost use Rattle.std.specs.Prelude.{◌≡◌, ◌+◌, ◌*◌, ◌<◌, ◌≤◌, ◌⊎◌, false, true, Some, IfSome, IsSome, OnOk, length};
 ghost use Rattle.hsm_types.specs.Calls.{scope_of};
 ghost use Rattle.hsm_types.specs.Messages.{no_token};
-ghost use Rattle.hsm_types.specs.Stubs.{offline_at, print_of, stub_at};
-ghost use Rattle.hsm_types.specs.declared.limits.TheConstants.{FILE_BYTES};
+ghost use Rattle.hsm_types.specs.Stubs.{offline_at, print_of, stub_at, entry_place, entry_print};
 ghost use Rattle.hsm_types.specs.declared.dm.DmCall.TheVariants.{PunchHole, Seal, Restore};
 ghost use Rattle.plain_model.specs.Effects.{Restores, punch_from, punch_to};
 ghost use Rattle.plain_model.specs.Blocks.{touched};
-ghost use Rattle.plain_model.specs.Keyed.{find_key};
+ghost use Rattle.hsm_types.specs.Keyed.{find_key};
 ghost use Rattle.plain_model.specs.Segments.{bad_volume, ends_well, bad_punch, seal_refusal, restore_refusal};
 ghost use Rattle.plain_model.specs.Plain.{segment as segment_of};
 ghost use Rattle.plain_model.specs.Services.{kept_of};
@@ -91,7 +90,7 @@ fn punch<D: Disk>(
 fn judge_punch(offset: u64, len: u64, size: u64) -> Result<(), DmRefusal>
     requires { size ≤ FILE_BYTES }
     ensures judged { Judges result (bad_punch offset len size) }
-    ensures start { OnOk result (65536 * punch_from offset < size) }
+    ensures start { OnOk result (SEGMENT_BYTES * punch_from offset < size) }
     ensures end { OnOk result (len ≡ 0 ⊎ offset + len ≤ FILE_BYTES) }
 {
     let begins = offset % SEGMENT_BYTES == 0 && offset < size;
@@ -159,23 +158,23 @@ fn judge_seal<D: Disk>(
 ) -> Result<(), DmRefusal>
     requires { IsSome (find_key (λ f. f.key) key files.now.held.files) }
     ensures judged { Judges result (seal_refusal (file_at key files.now.held.files) segment entry) }
-    ensures start { OnOk result (65536 * segment < length (bytes_of key files.now.held.files)) }
-    ensures volume { OnOk result (entry.volume ≤ 255) }
+    ensures start { OnOk result (SEGMENT_BYTES * segment < length (bytes_of key files.now.held.files)) }
+    ensures volume { OnOk result ((entry_place entry).volume ≤ LAST_VOLUME) }
     ensures here { OnOk result (offline_at (kept_of key files.now.held.files).stubs segment ≡ false) }
-    ensures print { OnOk result (entry.print ≡ print_of (segment_of segment (bytes_of key files.now.held.files))) }
+    ensures print { OnOk result (entry_print entry ≡ print_of (segment_of segment (bytes_of key files.now.held.files))) }
 {
     judge_segment(files, key, segment)?;
-    judge_volume(entry.volume)?;
+    judge_volume(entry.place().volume)?;
     if let State::Offline(_) = state(files, key, segment) {
         return Err(DmRefusal::Offline { segment });
     }
-    judge_print(entry.print, files.digest_segment(key, segment))
+    judge_print(entry.print(), files.digest_segment(key, segment))
 }
 
-/// Volumes are numbered from 0 to 255.
+/// Volumes are numbered from 0 to [`LAST_VOLUME`].
 fn judge_volume(volume: u32) -> Result<(), DmRefusal>
     ensures judged { Judges result (bad_volume volume) }
-    ensures volume { OnOk result (volume ≤ 255) }
+    ensures volume { OnOk result (volume ≤ LAST_VOLUME) }
 {
     if volume <= LAST_VOLUME {
         Ok(())
@@ -214,16 +213,16 @@ fn judge_restore<D: Disk>(
 ) -> Result<(), DmRefusal>
     requires { IsSome (find_key (λ f. f.key) key files.now.held.files) }
     ensures judged { Judges result (restore_refusal (superblock_of files.now) files.now.held (file_at key files.now.held.files) segment bytes.now) }
-    ensures start { OnOk result (65536 * segment < length (bytes_of key files.now.held.files)) }
+    ensures start { OnOk result (SEGMENT_BYTES * segment < length (bytes_of key files.now.held.files)) }
     ensures offline { OnOk result (offline_at (kept_of key files.now.held.files).stubs segment ≡ true) }
-    ensures print { OnOk result (IfSome (stub_at segment (kept_of key files.now.held.files).stubs) (λ stub. stub.entry.print ≡ print_of bytes.now)) }
+    ensures print { OnOk result (IfSome (stub_at segment (kept_of key files.now.held.files).stubs) (λ stub. entry_print stub.entry ≡ print_of bytes.now)) }
     ensures room { OnOk result (length (touched (Restores segment bytes.now) (length (bytes_of key files.now.held.files))) + used files.now.held.files ≤ (superblock_of files.now).geometry.blocks) }
 {
     judge_segment(files, key, segment)?;
     let State::Offline(entry) = state(files, key, segment) else {
         return Err(DmRefusal::NotOffline { segment });
     };
-    judge_print(entry.print, bytes.fingerprint())?;
+    judge_print(entry.print(), bytes.fingerprint())?;
     let len = bytes.as_slice().len() as u64;
     judge_room(files, touched_by_restore(segment, len).count())
 }

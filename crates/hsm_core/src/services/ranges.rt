@@ -2,10 +2,10 @@
 ghost use Rattle.std.specs.Prelude.{◌≡◌, ◌+◌, ◌-◌, ◌*◌, ◌<◌, ◌≤◌, None, Some, OnOk, IsSome, IfSome, length, if◌then◌else◌};
 ghost use Rattle.std.specs.Option.{option_map};
 ghost use Rattle.hsm_types.specs.Segments.{segment_len};
-ghost use Rattle.hsm_types.specs.Stubs.{stub_at};
-ghost use Rattle.hsm_types.specs.declared.limits.TheConstants.{FILE_BYTES};
+ghost use Rattle.hsm_types.specs.Stubs.{stub_at, entry_print};
+ghost use Rattle.hsm_types.specs.Limits.{file_bytes};
 ghost use Rattle.plain_model.specs.declared.facts.NoRoom.{NoRoom};
-ghost use Rattle.plain_model.specs.Keyed.{find_key};
+ghost use Rattle.hsm_types.specs.Keyed.{find_key};
 ghost use Rattle.plain_model.specs.Segments.{bad_access, past_size, past_end, any_away, same_print};
 ghost use Rattle.plain_model.specs.Services.{kept_of};
 ghost use Rattle.plain_model.specs.State.{file_at, bytes_of, used};
@@ -22,7 +22,7 @@ use file_store::FileStore;
 use hsm_types::{ACCESS_BYTES, DmRefusal, FileKey, Fingerprint, SEGMENT_BYTES};
 use stub_map::State;
 
-/// An invisible access has from 1 to 65,536 bytes.
+/// An invisible access has from 1 to [`ACCESS_BYTES`] bytes.
 pub(crate) fn judge_access(len: u64) -> Result<(), DmRefusal>
     ensures { Judges result (bad_access len) }
 {
@@ -52,8 +52,8 @@ pub(crate) fn judge_segment<D: Disk>(
 ) -> Result<(), DmRefusal>
     requires live { IsSome (find_key (λ f. f.key) key files.now.held.files) }
     ensures judged { Judges result (past_end segment (length (bytes_of key files.now.held.files))) }
-    ensures start { OnOk result (65536 * segment < length (bytes_of key files.now.held.files)) }
-    ensures limit { length (bytes_of key files.now.held.files) ≤ FILE_BYTES }
+    ensures start { OnOk result (SEGMENT_BYTES * segment < length (bytes_of key files.now.held.files)) }
+    ensures limit { length (bytes_of key files.now.held.files) ≤ file_bytes }
 {
     if u64::from(segment) * SEGMENT_BYTES < files.body(key).len() {
         Ok(())
@@ -94,7 +94,7 @@ pub(crate) fn judge_here<D: Disk>(
     to: u64,
 ) -> Result<(), DmRefusal>
     requires live { IsSome (find_key (λ f. f.key) key files.now.held.files) }
-    requires end { to ≤ FILE_BYTES }
+    requires end { to ≤ file_bytes }
     ensures { Judges result (any_away (file_at key files.now.held.files) from to) }
 {
     let stubs = files.meta().catalog().stubs(key).unwrap();
@@ -108,7 +108,7 @@ pub(crate) fn judge_here<D: Disk>(
 pub(crate) fn state<D: Disk>(files: &FileStore<D>, key: FileKey, segment: u32) -> State
     requires { IsSome (find_key (λ f. f.key) key files.now.held.files) }
     ensures state { result ≡ state_of (stub_at segment (kept_of key files.now.held.files).stubs) }
-    ensures len { IfSome (stub_at segment (kept_of key files.now.held.files).stubs) (λ stub. stub.entry.print.len ≡ segment_len (length (bytes_of key files.now.held.files)) segment) }
+    ensures len { IfSome (stub_at segment (kept_of key files.now.held.files).stubs) (λ stub. (entry_print stub.entry).len ≡ segment_len (length (bytes_of key files.now.held.files)) segment) }
 {
     files.meta().catalog().stubs(key).unwrap().state(segment)
 }

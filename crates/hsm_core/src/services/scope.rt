@@ -3,7 +3,7 @@ ghost use Rattle.std.specs.Prelude.{ℕ, List, OnOk, IsSome};
 ghost use Rattle.hsm_types.specs.Refusals.{first_refusal};
 ghost use Rattle.hsm_types.specs.Rights.{too_low};
 ghost use Rattle.hsm_types.specs.declared.keys.FileKey.{FileKey};
-ghost use Rattle.plain_model.specs.Keyed.{find_key};
+ghost use Rattle.hsm_types.specs.Keyed.{find_key};
 ghost use Rattle.plain_model.specs.Services.{bad_handle, scope_refusals};
 ghost use Rattle.file_store.specs.Stores.{superblock_of};
 ghost use Rattle.dm_service.specs.Services.{HasOpenToken, Judges};

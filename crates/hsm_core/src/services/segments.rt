@@ -1,10 +1,10 @@
 //! What sessions are told of the segments of a live file.
 ghost use Rattle.std.specs.Prelude.{◌≡◌, ◌-◌, ◌*◌, ◌≤◌, None, Some, IsSome, IfOk, MatchOption, map, take, drop, count_by, is_some};
+ghost use Rattle.hsm_types.specs.Limits.{file_bytes, segment_blocks};
 ghost use Rattle.hsm_types.specs.Messages.{no_token};
 ghost use Rattle.hsm_types.specs.Stubs.{stub_at};
-ghost use Rattle.hsm_types.specs.declared.limits.TheConstants.{FILE_BYTES};
 ghost use Rattle.hsm_types.specs.declared.dm.DmCall.TheVariants.{ProbeHole, GetAllocInfo};
-ghost use Rattle.plain_model.specs.Keyed.{find_key};
+ghost use Rattle.hsm_types.specs.Keyed.{find_key};
 ghost use Rattle.plain_model.specs.Segments.{probe_start, probe_end, nothing_to_punch, segment_as, segments_told};
 ghost use Rattle.plain_model.specs.State.{FileState};
 ghost use Rattle.hsm_core.specs.Services.{AreOf, IsMadeOf, service_on};
@@ -38,7 +38,7 @@ pub(crate) fn probe<D: Disk>(
 
 /// The part of a range that a punch could give up, of a file of that size.
 fn hole(offset: u64, len: u64, size: u64) -> Option<Range>
-    requires { size ≤ FILE_BYTES }
+    requires { size ≤ file_bytes }
     ensures { MatchOption result (nothing_to_punch offset len size ≡ Some DmRefusal.BadRange) (λ hole. (nothing_to_punch offset len size ≡ None) × (hole.offset ≡ probe_start offset) × (hole.len ≡ probe_end offset len size - probe_start offset)) }
 {
     if size <= offset {
@@ -83,7 +83,7 @@ pub(crate) fn segments_of(
     places: &[Option<u32>],
     stubs: &StubMap,
 ) -> Result<Segments, AllocError>
-    requires { size ≤ FILE_BYTES }
+    requires { size ≤ file_bytes }
     ensures { (f : FileState) → IsMadeOf size places.now stubs.now f → IfOk result (λ told. told ≡ segments_told f) }
 {
     let count = segments_in(size);
@@ -96,7 +96,7 @@ pub(crate) fn segments_of(
 
 /// What is held of one segment.
 fn segment_of(segment: u32, places: &[Option<u32>], stubs: &StubMap) -> Segment
-    ensures { result ≡ segment_as (count_by (λ b. b) (take 16 (drop (16 * segment) (map is_some places.now)))) (stub_at segment stubs.now) }
+    ensures { result ≡ segment_as (count_by (λ b. b) (take segment_blocks (drop (segment_blocks * segment) (map is_some places.now)))) (stub_at segment stubs.now) }
 {
     let blocks = mapped_in(segment, places);
     match stubs.state(segment) {
@@ -109,7 +109,7 @@ fn segment_of(segment: u32, places: &[Option<u32>], stubs: &StubMap) -> Segment
 /// How many blocks of the segment are mapped.
 #[tactic(auto, using(crate::proofs::Told::mapped_places))]
 fn mapped_in(segment: u32, places: &[Option<u32>]) -> u32
-    ensures { result ≡ count_by (λ b. b) (take 16 (drop (16 * segment) (map is_some places.now))) }
+    ensures { result ≡ count_by (λ b. b) (take segment_blocks (drop (segment_blocks * segment) (map is_some places.now))) }
 {
     count_present(segment_places(places, segment))
 }

@@ -1,6 +1,7 @@
 use Rattle.std.proofs.Common.{◌≡◌, ◌-◌, ◌++◌, [], length, get_or, set, ◌∙◌, ap, arith}
 use Rattle.std.specs.Prelude.{replicate, false}
 use Rattle.std.proofs.lemmas.Grind.{common_steps}
+use Rattle.hsm_types.specs.Limits.{segment_bytes}
 use Rattle.file_body.specs.HeldBodies.{pieces, aways}
 use Rattle.file_body.proofs.Cuts.{lengthened, IsCut-lengthened}
 use Rattle.file_body.proofs.HeldLists.{length-pieces, pieces-append, stands-append}
@@ -20,13 +21,13 @@ pub returns-clause-ok : goal.returns-clause-ok
 returns-clause-ok c =
     let none = rw c.as_slice.ensures.value at c.room.ensures.none in
     let count = length-pieces c.args.segments.now.items in
-    rw (now_are c) (lengthened 65536 (pieces c.args.segments.now.items) (pieces c.in_ok-rest.rest.items) c.min-fill.result c.args.count (omega arith) (λ no. omega (arith, none (omega (arith, count, no)))) c.in_ok-rest.ensures.bytes)
+    rw (now_are c) (lengthened segment_bytes (pieces c.args.segments.now.items) (pieces c.in_ok-rest.rest.items) c.min-fill.result c.args.count (omega arith) (λ no. omega (arith, none (omega (arith, count, no)))) c.in_ok-rest.ensures.bytes)
 
 pub returns-clause-cut : goal.returns-clause-cut
 returns-clause-cut c =
     let count = length-pieces c.args.segments.now.items in
     let last = rw (c.as_slice.ensures.value, ← count) at c.room.ensures.last in
-    rw (now_are c) (IsCut-lengthened 65536 (pieces c.args.segments.now.items) (pieces c.in_ok-rest.rest.items) c.requires.cut c.in_ok-rest.ensures.cut c.min-fill.result c.args.count
+    rw (now_are c) (IsCut-lengthened segment_bytes (pieces c.args.segments.now.items) (pieces c.in_ok-rest.rest.items) c.requires.cut c.in_ok-rest.ensures.cut c.min-fill.result c.args.count
     (λ some. omega (arith, last some)) (λ some fewer. omega (arith, last some)) c.in_ok-rest.ensures.bytes)
 
 pub returns-clause-away : goal.returns-clause-away

@@ -2,13 +2,14 @@ use Rattle.std.proofs.Common.{◌+◌, ◌/◌, ◌≤◌, length, get_or, ◌�
 use Rattle.std.specs.Prelude.{false}
 use Rattle.std.specs.List.{concat}
 use Rattle.std.proofs.lemmas.List.{take_rest}
+use Rattle.hsm_types.specs.Limits.{segment_bytes}
 use Rattle.file_body.specs.HeldBodies.{pieces}
 use Rattle.file_body.proofs.Cuts.{written_more}
 use Rattle.file_body.proofs.segment_lists.overwrite.Goals as goal
 
 pub overwrite_piece-done-requires-clause-here : goal.overwrite_piece-done-requires-clause-here
 overwrite_piece-done-requires-clause-here c =
-    ap (λ a. get_or a ((c.args.offset + c.loop-done.done) / 65536) false) c.loop-done.invariant.away ∙ c.requires.here (c.args.offset + c.loop-done.done) (omega arith) (omega arith)
+    ap (λ a. get_or a ((c.args.offset + c.loop-done.done) / segment_bytes) false) c.loop-done.invariant.away ∙ c.requires.here (c.args.offset + c.loop-done.done) (omega arith) (omega arith)
 
 pub loop-done-preserved : goal.loop-done-preserved
 loop-done-preserved c =

@@ -1,5 +1,6 @@
 use Rattle.std.proofs.Common.{◌≡◌, ◌+◌, ◌-◌, ◌≤◌, ◌++◌, length, take, drop}
 use Rattle.std.specs.List.{concat}
+use Rattle.hsm_types.specs.Limits.{segment_bytes}
 use Rattle.file_body.specs.HeldBodies.{pieces, aways}
 use Rattle.file_body.specs.Segments.{IsCut}
 use Rattle.file_body.proofs.segment_lists.overwrite.Given as goal
@@ -8,7 +9,7 @@ abbrev pub invariant-loop-done : goal.invariant-loop-done
 invariant-loop-done l = record {
   within : l.done ≤ length l.bytes;
   written : concat (pieces l.segments) ≡ take l.offset (concat (pieces l.fn.segments)) ++ take l.done l.bytes ++ drop (l.offset + l.done) (concat (pieces l.fn.segments));
-  cut : IsCut 65536 (pieces l.segments);
+  cut : IsCut segment_bytes (pieces l.segments);
   away : aways l.segments ≡ aways l.fn.segments;
 }
 

@@ -1,4 +1,5 @@
-use Rattle.file_store.proofs.Names.{arith, new_size, ◌≡◌, refl, ◌∙◌, ap, length, marked, layout_of, Layout, touched, effect_of, touched_of, places_for, taken_are_free}
+use Rattle.file_store.proofs.Names.{arith, new_size, ◌≡◌, refl, ◌∙◌, ap, length, marked, layout_of, Layout, touched, effect_of, touched_of}
+use Rattle.file_store.proofs.Names.{places_for, taken_are_free}
 use Rattle.file_store.proofs.Beside.{blocks_low}
 use Rattle.file_store.proofs.ByteChanges.{length-grown, changed-grown, grown-no_more}
 use Rattle.file_store.proofs.StoreEvents.{places_within, undone}

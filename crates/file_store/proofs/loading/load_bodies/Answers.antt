@@ -1,4 +1,5 @@
-use Rattle.file_store.proofs.Names.{◌≡◌, ◌-◌, ℕ, List, sym, ◌∙◌, subst, arith, length-set, take_all, AllByRecursion, CatalogFile, IsBody, blocks_in_image, body_at, bytes_at, bytes_with}
+use Rattle.file_store.proofs.Names.{◌≡◌, ◌-◌, ℕ, List, sym, ◌∙◌, subst, arith, length-set, take_all, AllByRecursion, CatalogFile, IsBody}
+use Rattle.file_store.proofs.Names.{blocks_in_image, body_at, bytes_at, bytes_with}
 use Rattle.file_store.proofs.Loaded.{reads_on, next-file, each-more, listed-count, stub-starts, offline-holes}
 use Rattle.file_store.proofs.FilesBy.{held-same}
 use Rattle.file_store.proofs.loading.load_bodies.Goals as goal

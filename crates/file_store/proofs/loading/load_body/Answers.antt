@@ -1,4 +1,5 @@
-use Rattle.file_store.proofs.Names.{◌≡◌, ◌<◌, ℕ, List, length, refl, ◌∙◌, ap, subst, arith, take_all, Option, Same, idle, layout_of, geometry_of, blocks_in_image, length-replicate}
+use Rattle.file_store.proofs.Names.{◌≡◌, ◌<◌, ℕ, List, length, refl, ◌∙◌, ap, subst, arith, take_all, Option, Same, idle, layout_of, geometry_of}
+use Rattle.file_store.proofs.Names.{blocks_in_image, length-replicate}
 use Rattle.file_store.proofs.Beside.{length-block}
 use Rattle.file_store.proofs.ByBlocks.{HasBytes}
 use Rattle.file_store.proofs.Loaded.{reads_on, present-at, no_bytes, hole-more, block-more, all-filled}

@@ -1,11 +1,12 @@
 use Rattle.file_store.proofs.Names.{◌≡◌, ◌*◌, ℕ, List, length, take, is_away, blocks_in_image, OnlyReads}
+use Rattle.hsm_types.specs.Limits.{block_bytes}
 use Rattle.hsm_types.specs.Stubs.{offline_at}
 use Rattle.file_store.proofs.ByBlocks.{HasBytes}
 use Rattle.file_store.proofs.loading.load_body.Given as goal
 
 abbrev pub invariant-loop-place : goal.invariant-loop-place
 invariant-loop-place g l = record {
-  start : l.start ≡ 4096 * l.place-index;
+  start : l.start ≡ block_bytes * l.place-index;
   reads : OnlyReads g.D.Disk l.fn.disk l.disk;
   quiet : g.D.Disk.fault_count l.disk ≡ g.D.Disk.fault_count l.fn.disk;
   size : length l.body.bytes ≡ l.size;

@@ -1,4 +1,5 @@
-use Rattle.file_store.proofs.Names.{◌≡◌, ℕ, ◌+◌, ◌++◌, List, Some, drop, sym, arith, append_assoc, slice_get, drop_more, CatalogFile, present, blocks_of, slice_get_within, get_or_from_slice_get}
+use Rattle.file_store.proofs.Names.{◌≡◌, ℕ, ◌+◌, ◌++◌, List, Some, drop, sym, arith, append_assoc, slice_get, drop_more, CatalogFile, present}
+use Rattle.file_store.proofs.Names.{blocks_of, slice_get_within, get_or_from_slice_get}
 use Rattle.meta_store.proofs.WrittenFiles.{some-at}
 use Rattle.file_store.proofs.Loaded.{listed-count}
 use Rattle.file_store.proofs.spaces.data_blocks.Goals as goal

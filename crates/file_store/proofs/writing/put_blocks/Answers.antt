@@ -1,10 +1,13 @@
-use Rattle.file_store.proofs.Names.{◌≡◌, ◌+◌, ◌*◌, ◌<◌, ◌≤◌, ◌++◌, ◌∷◌, [], ℕ, List, length, get_or, take, refl, ◌∙◌, ap, subst, arith, take_all, take_more, IsFreed, IsWritten, Keeps, keeps_on, kept_by, given_on, rebody, Mapping, block_of, effect_of, mappings_of, IsBesideBlocks, HasBlocks}
+use Rattle.file_store.proofs.Names.{◌≡◌, ◌+◌, ◌*◌, ◌<◌, ◌≤◌, ◌++◌, ◌∷◌, [], ℕ, List, length, get_or, take, refl, ◌∙◌, ap, subst, arith, take_all}
+use Rattle.file_store.proofs.Names.{take_more, IsFreed, IsWritten, Keeps, keeps_on, kept_by, given_on, rebody, Mapping, block_of, effect_of}
+use Rattle.file_store.proofs.Names.{mappings_of, IsBesideBlocks, HasBlocks}
 use Rattle.file_body.proofs.Pieces.{length-block_of}
 use Rattle.file_store.proofs.EachOf.{each-at}
 use Rattle.file_store.proofs.Beside.{before, mapping_at, mapped, length-mapped, beside_freed, has_more}
 use Rattle.file_store.proofs.writing.put_blocks.Given.{Over}
 use Rattle.file_store.proofs.writing.put_blocks.Goals.{After-from, After-write_at}
 use Rattle.file_store.proofs.writing.put_blocks.Goals as goal
+use Rattle.hsm_types.specs.Limits.{block_bytes}
 
 abbrev mappings : (g : Over) → After-from g → List Mapping
 mappings g c = mappings_of c.args.blocks.now c.args.places.now
@@ -22,13 +25,13 @@ this_is g c = mapping_at c.args.blocks.now c.args.places.now c.loop-i.i _ c.requ
 block_is : (g : Over) (c : After-from g) → c.fill_block.new.buffer ≡ block_of (body g c) (this g c).block
 block_is g c = c.fill_block.ensures ∙ ap (block_of (body g c)) c.block.ensures.block
 
-long : (g : Over) (c : After-from g) → length c.fill_block.new.buffer ≡ 4096
+long : (g : Over) (c : After-from g) → length c.fill_block.new.buffer ≡ block_bytes
 long g c = ap length (block_is g c) ∙ length-block_of (body g c) (this g c).block
 
 pub write_at-requires : goal.write_at-requires
 write_at-requires g c =
     let at = (goal.at.write_at-requires g c).After-from in
-    let fits = each-at (λ p. c.args.base + 4096 * p + 4096 ≤ g.D.Disk.length_of c.args.disk.now) c.args.places.now c.loop-i.i 0 (omega arith) c.requires.fits in
+    let fits = each-at (λ p. c.args.base + block_bytes * p + block_bytes ≤ g.D.Disk.length_of c.args.disk.now) c.args.places.now c.loop-i.i 0 (omega arith) c.requires.fits in
     omega (arith, fits, c.from.ensures, long g at, c.loop-i.invariant.keeps.moments.length)
 
 -- what is kept after one more block, whether its write succeeded or failed
@@ -38,7 +41,7 @@ moments g c =
     keeps_on g.D.Disk _ _ _ _ (λ a b d first then_on. record { size = then_on.size ∙ first.size; same = λ i n all. then_on.same i n all ∙ first.same i n all }) c.loop-i.invariant.keeps
     (kept_by g.D.Disk _ _ _ _
     (λ d i f. beside_freed c.args.base c.args.places.now c.loop-i.i (omega arith) d i
-    (subst (λ (n : ℕ). IsFreed (c.args.base + 4096 * n) 4096 d i) c.from.ensures (subst (λ (n : ℕ). IsFreed (c.args.base + 4096 * c.from.result) n d i) (long g at) f)))
+    (subst (λ (n : ℕ). IsFreed (c.args.base + block_bytes * n) block_bytes d i) c.from.ensures (subst (λ (n : ℕ). IsFreed (c.args.base + block_bytes * c.from.result) n d i) (long g at) f)))
     c.write_at.ensures.keeps)
 
 pub returns-in_err-write_at-clause-any_moment : goal.returns-in_err-write_at-clause-any_moment
@@ -58,7 +61,7 @@ loop-i-preserved g c =
       quiet = c.in_ok-write_at.ensures.cause.quiet refl ∙ c.loop-i.invariant.quiet;
       written = rw more (given_on g.D.Disk _ _ _ _ _ _ c.loop-i.invariant.written c.in_ok-write_at.ensures.written
           (λ d n i has w. has_more c.args.base (body g at) (take c.loop-i.i ms) m others (length-block_of _ _) d n i has
-          (subst (λ (p : ℕ). IsWritten (c.args.base + 4096 * p) (block_of (body g at) m.block) n i) c.from.ensures (subst (λ (bytes : List ℕ). IsWritten (c.args.base + 4096 * c.from.result) bytes n i) (block_is g at) w))));
+          (subst (λ (p : ℕ). IsWritten (c.args.base + block_bytes * p) (block_of (body g at) m.block) n i) c.from.ensures (subst (λ (bytes : List ℕ). IsWritten (c.args.base + block_bytes * c.from.result) bytes n i) (block_is g at) w))));
     }
 
 pub returns-clause-written : goal.returns-clause-written

@@ -3,7 +3,6 @@ use Rattle.std.specs.Vec.Iter.{into_iter_items}
 use Rattle.std.proofs.lemmas.Result.{err_from_is_err_and}
 use Rattle.hsm_replay.proofs.Going.{goes_itself, goes_then, stopped_then}
 use Rattle.hsm_replay.proofs.Growing.{have_grown_itself, have_grown_on}
-use Rattle.hsm_cli.proofs.Faults.{none_packed}
 use Rattle.hsm_cli.proofs.Following.{run_to_none, run_more, first_run}
 use Rattle.hsm_cli.proofs.runs.run_lines.Goals as goal
 
@@ -15,7 +14,6 @@ loop-line-init g c = record {
   drives = have_grown_itself g.M.Drive _;
   goes_on = goes_itself g.D.Disk _;
   working = c.requires.ready.store.working;
-  packed = none_packed g.D.Disk c.args.replay.now.store c.requires.ready.store.history;
   run = run_to_none g.D.Disk g.M.Drive _ c.requires.ready;
   lawful = search rules;
   left = search rules;
@@ -32,8 +30,7 @@ loop-line-preserved g c =
       drives = have_grown_on g.M.Drive _ _ _ c.loop-line.invariant.drives moves.drives;
       goes_on = goes_then g.D.Disk _ _ _ c.loop-line.invariant.goes_on moves.runs.goes_on;
       working = moves.runs.works c.loop-line.invariant.working;
-      packed = moves.runs.goes_on.packed c.loop-line.invariant.packed;
-      run = run_more g.D.Disk g.M.Drive c.args.replay.now c.loop-line.yielded c.in-Some.line _ _ c.loop-line.invariant.run (c.in_ok-line.ensures.left c.loop-line.invariant.working c.loop-line.invariant.packed)
+      run = run_more g.D.Disk g.M.Drive c.args.replay.now c.loop-line.yielded c.in-Some.line _ _ c.loop-line.invariant.run (c.in_ok-line.ensures.left c.loop-line.invariant.working)
           (moves.limits ∙ c.loop-line.invariant.limits) (moves.runs.goes_on.opened ∙ c.loop-line.invariant.goes_on.opened) c.in_ok-line.ensures.runs;
       lawful = (rw step at c.loop-line.invariant.lawful).1;
       left = rw (append_assoc, ← step) c.loop-line.invariant.left;

@@ -1,4 +1,10 @@
-use Rattle.std.proofs.Common.{◌∙◌, ap}
+use Rattle.std.proofs.Common.{◌∙◌, ℕ, List, [], Option, Some, None, refl, ap, arith}
+use Rattle.std.specs.Io.KnownBytes.{Consumes}
+use Rattle.hsm_cli.specs.declared.causes.Cause.{Cause}
+use Rattle.hsm_cli.specs.declared.causes.Cause.TheVariants.{ScriptRefused, WordsRefused, NotStore, Corrupt, ReadFault, WriteFault, DiskFault}
+use Rattle.hsm_cli.specs.declared.causes.Cause.TheVariants.{HostFault, NoMemory}
+use Rattle.hsm_cli.specs.Clauses.{HasRead}
+use Rattle.hsm_cli.specs.Endings.{IsBeforeReading}
 use Rattle.hsm_cli.specs.Told.{source_told}
 use Rattle.hsm_cli.proofs.Scripted.{ends_for}
 use Rattle.hsm_cli.proofs.scripts.run_with.Goals as goal
@@ -22,3 +28,22 @@ returns-in-Ok-clause-durable g c = rw c.close-hsm.ensures.store c.run_script-end
 
 pub returns-in-Ok-clause-untouched : goal.returns-in-Ok-clause-untouched
 returns-in-Ok-clause-untouched g c = λ before. c.close-hsm.ensures.store ∙ ap (λ s. s.store) (c.run_script-ended.ensures.untouched before) ∙ ap (λ s. s.store) c.new-replay.ensures
+
+nothing_read : (left : Option (List ℕ)) → Consumes left left []
+nothing_read None = tt
+nothing_read (Some bytes) = refl
+
+-- where drives didn't come the source is as it was
+unread : {S : Type 0} (left : S → Option (List ℕ)) (faults : S → ℕ) (source : S) (why : Cause) → IsBeforeReading why → HasRead (source_told left faults source source) (Some why)
+unread left faults source HostFault before = record { left = refl; faults = refl }
+unread left faults source NoMemory before = record { bytes = []; consumed = nothing_read (left source); within = omega arith }
+unread left faults source (ScriptRefused line) before = absurd before
+unread left faults source WordsRefused before = absurd before
+unread left faults source NotStore before = absurd before
+unread left faults source (Corrupt place) before = absurd before
+unread left faults source ReadFault before = absurd before
+unread left faults source WriteFault before = absurd before
+unread left faults source DiskFault before = absurd before
+
+pub returns-in-Err-clause-reading : goal.returns-in-Err-clause-reading
+returns-in-Err-clause-reading g c = unread g.I.Source.left g.I.Source.fault_count c.args.source.now c.in-Err.why (rw c.in-Err.is at c.requires.ready)

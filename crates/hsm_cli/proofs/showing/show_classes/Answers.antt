@@ -4,7 +4,7 @@ use Rattle.store_summary.specs.Shown.{ShowsText}
 use Rattle.store_summary.specs.declared.summaries.ClassCounts.{ClassCounts}
 use Rattle.hsm_cli.specs.Clauses.{HasDriveFailed}
 use Rattle.hsm_cli.specs.Endings.{cause_in}
-use Rattle.hsm_cli.specs.Texts.{ShowsStore, AreCounted, GivesVolume}
+use Rattle.hsm_cli.specs.Texts.{ShowsStore, shown_volumes, AreCounted, GivesVolume}
 use Rattle.hsm_cli.specs.Told.{sink_told}
 use Rattle.hsm_cli.proofs.Quiet.{uncounted_quiet}
 use Rattle.hsm_cli.proofs.Showings.{takes_as, ends_uncounted, counting_written}
@@ -13,7 +13,7 @@ use Rattle.hsm_cli.proofs.showing.show_classes.Goals as goal
 pub returns-in_err-counts-clause-ends : goal.returns-in_err-counts-clause-ends
 returns-in_err-counts-clause-ends g c =
     let p = err_from_is_err_and c.from_residual.result c.from_residual.ensures.1 in
-    rw (p.1, p.2) (ends_uncounted g.M.Drive 256 c.args.drives.now c.classes.new.drives (sink_told g.O.Sink.taken g.O.Sink.fault_count c.args.sink.now c.args.sink.now) c.in_err-counts.field-0.0 c.in_err-counts.ensures.refused)
+    rw (p.1, p.2) (ends_uncounted g.M.Drive shown_volumes c.args.drives.now c.classes.new.drives (sink_told g.O.Sink.taken g.O.Sink.fault_count c.args.sink.now c.args.sink.now) c.in_err-counts.field-0.0 c.in_err-counts.ensures.refused)
 
 pub returns-clause-text : goal.returns-clause-text
 returns-clause-text g c =

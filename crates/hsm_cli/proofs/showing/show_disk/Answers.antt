@@ -1,7 +1,9 @@
-use Rattle.std.proofs.Common.{Err, ap}
+use Rattle.std.proofs.Common.{None, Err, refl, ap}
 use Rattle.std.proofs.lemmas.Result.{err_from_is_err_and}
+use Rattle.hsm_cli.specs.Endings.{cause_in}
+use Rattle.hsm_cli.specs.Texts.{IsShown, AreUntold}
 use Rattle.hsm_cli.specs.Told.{sink_told}
-use Rattle.hsm_cli.proofs.Showings.{ends_unread, unread_quiet}
+use Rattle.hsm_cli.proofs.Showings.{takes_as, ends_unread, unread_quiet}
 use Rattle.hsm_cli.proofs.showing.show_disk.Goals as goal
 
 pub returns-in_err-summary-clause-ends : goal.returns-in_err-summary-clause-ends
@@ -19,3 +21,8 @@ returns-in_err-summary-clause-quiet g c =
 
 pub returns-clause-quiet : goal.returns-clause-quiet
 returns-clause-quiet g c = λ works. c.in_ok-summary.ensures.faults.quiet (λ is. cc)
+
+pub returns-clause-text : goal.returns-clause-text
+returns-clause-text g c =
+    takes_as _ (IsShown (g.D.Disk.gives c.args.disk.now) AreUntold) (sink_told g.O.Sink.taken g.O.Sink.fault_count c.args.sink.now c.write_summary.new.sink) (cause_in c.write_summary.result)
+    (λ text shows. record { summary = c.in_ok-summary.summary; told = c.in_ok-summary.ensures.told; shows = record { classes = None; counted = refl; shows = shows } }) c.write_summary.ensures.text

@@ -5,13 +5,14 @@ use Rattle.hsm_policy.specs.Settings.{standard}
 use Rattle.reconcile.specs.Classes.{AreRead}
 use Rattle.hsm_cli.specs.Clauses.{HasFailed, HasDriveFailed, AreShown}
 use Rattle.hsm_cli.specs.Endings.{cause_in}
-use Rattle.hsm_cli.specs.Hosts.{AreHanded}
-use Rattle.hsm_cli.specs.Texts.{ShowsStore, IsShown, AreCounted, GivesVolume}
+use Rattle.hosts.specs.Hosts.{AreHanded}
+use Rattle.hsm_cli.specs.Texts.{ShowsStore, IsShown, shown_volumes, AreCounted, GivesVolume}
 use Rattle.hsm_cli.specs.Told.{SinkTold, sink_told}
-use Rattle.hsm_cli.proofs.Drives.{rose_from, handed_since, disk_came, stayed, all_came}
+use Rattle.hsm_cli.proofs.Drives.{rose_once, handed_since, disk_came, stayed, all_came}
 use Rattle.hsm_cli.proofs.Quiet.{unhanded_quiet, never_yet}
 use Rattle.hsm_cli.proofs.Running.{rose_later}
-use Rattle.hsm_cli.proofs.Showings.{takes_as, ends_unread, ends_unhanded, ends_counted, gives_counted, asks_counted, drive_failed, only_read, unread_is_no_host, unread_quiet, is_found, as_many_read, some_came, counted_of}
+use Rattle.hsm_cli.proofs.Showings.{takes_as, ends_unread, ends_unhanded, ends_counted, gives_counted, asks_counted, drive_failed, only_read}
+use Rattle.hsm_cli.proofs.Showings.{unread_is_no_host, unread_quiet, is_found, as_many_read, some_came, counted_of}
 use Rattle.hsm_cli.proofs.showing.show_volumes.Given.{Over}
 use Rattle.hsm_cli.proofs.showing.show_volumes.Goals.{After-drop-summary-3}
 use Rattle.hsm_cli.proofs.showing.show_volumes.Goals as goal
@@ -43,7 +44,7 @@ returns-in-Err-drives-clause-ends g c =
     let disk_fails = HasFailed g.H.Disk.Disk (Some c.inspect.new.disk) in
     rw (c.unopened-in-Err-drives.ensures, c.from-in-Err-drives.ensures)
     (ends_unhanded (g.H.Host.holds c.args.host.now c.args.path.now) host_fails disk_fails (sink_told g.O.Sink.taken g.O.Sink.fault_count c.args.sink.now c.args.sink.now) c.in-Err-drives.refusal
-    (λ is. inl (rose_from old (g.H.Host.fault_count c.disk.new.self) new c.disk.ensures.cause.never_falls (c.in-Err-drives.ensures.cause.rose is))))
+    (λ is. inl (rose_once old (g.H.Host.fault_count c.disk.new.self) new c.disk.ensures.cause.never_falls (c.in-Err-drives.ensures.cause.rose is))))
 
 pub returns-in-Err-drives-clause-host : goal.returns-in-Err-drives-clause-host
 returns-in-Err-drives-clause-host g c =
@@ -76,10 +77,10 @@ module _ (g : Over) (c : After-drop-summary-3 g) where
   capacity : c.capacity-capacity.result ≡ standard.capacity
   capacity = c.capacity-capacity.ensures.capacity ∙ ap (λ n. n.capacity) c.default.ensures
 
-  handed : AreHanded g.H.Drive.Drive (g.H.Host.stores c.args.host.now c.args.dir.now) 2 256 standard.capacity c.in-Ok-drives.drives.items
+  handed : AreHanded g.H.Drive.Drive (g.H.Host.stores c.args.host.now c.args.dir.now) 2 shown_volumes standard.capacity c.in-Ok-drives.drives.items
   handed =
-      handed_since g.H.Drive.Drive (g.H.Host.stores c.args.host.now c.args.dir.now) (g.H.Host.stores c.disk.new.self c.args.dir.now) (c.disk.ensures.folders c.args.dir.now) 2 256 standard.capacity c.in-Ok-drives.drives.items
-      (subst (λ (n : ℕ). AreHanded g.H.Drive.Drive (g.H.Host.stores c.disk.new.self c.args.dir.now) 2 256 n c.in-Ok-drives.drives.items) capacity c.in-Ok-drives.ensures.given)
+      handed_since g.H.Drive.Drive (g.H.Host.stores c.args.host.now c.args.dir.now) (g.H.Host.stores c.disk.new.self c.args.dir.now) (c.disk.ensures.folders c.args.dir.now) 2 shown_volumes standard.capacity c.in-Ok-drives.drives.items
+      (subst (λ (n : ℕ). AreHanded g.H.Drive.Drive (g.H.Host.stores c.disk.new.self c.args.dir.now) 2 shown_volumes n c.in-Ok-drives.drives.items) capacity c.in-Ok-drives.ensures.given)
 
   read : AreRead g.H.Drive.Drive c.in-Ok-drives.drives.items c.show_classes-ended.new.drives
   read = rw c.deref_mut.ensures.value at c.show_classes-ended.ensures.read

@@ -1,4 +1,5 @@
 use Rattle.std.proofs.Common.{Some, None, true, refl, inr, sym, ap, ◌∙◌, subst, arith}
+use Rattle.disk_model.specs.Calls.{Rose}
 use Rattle.file_store.specs.Stores.{Store}
 use Rattle.hsm_cli.specs.Clauses.{GivesBack}
 use Rattle.hsm_cli.specs.Follows.{SettlesOn}
@@ -7,7 +8,7 @@ use Rattle.hsm_cli.specs.Told.{source_told, sink_told, host_told}
 use Rattle.hsm_cli.proofs.Crashes.{crash_safe, why_unopened, why_unhanded, back_unhanded, words_unhanded, begun_unhanded, words_unopened, begun_unopened}
 use Rattle.hsm_cli.proofs.Running.{served_words, served_begun}
 use Rattle.hsm_cli.proofs.Legality.{legal_as}
-use Rattle.hsm_cli.proofs.Drives.{rose_from, gives_back, none_at_fault, host_failed, why_served, disk_came, drives_came, tallies_since}
+use Rattle.hsm_cli.proofs.Drives.{rose_from, rose_once, gives_back, none_at_fault, host_failed, why_served, disk_came, drives_came, tallies_since}
 use Rattle.hsm_cli.proofs.Quiet.{unhanded_quiet}
 use Rattle.hsm_cli.proofs.Scripted.{also_well, ran_with}
 use Rattle.hsm_cli.proofs.Sealing.{right_since}
@@ -144,7 +145,10 @@ returns-in-Err-clause-why g c =
     let named = g.H.Host.holds c.args.host.now c.args.path.now in
     let source = source_told g.I.Source.left g.I.Source.fault_count c.args.source.now c.args.source.now in
     let sink = sink_told g.O.Sink.taken g.O.Sink.fault_count c.args.sink.now c.args.sink.now in
-    rw (c.unopened.ensures, c.from.ensures) (why_unhanded g.H.Disk.Disk named _ source sink None c.in-Err.refusal c.in-Err.ensures.cause.rose)
+    let old = g.H.Host.fault_count c.args.host.now in
+    let new = g.H.Host.fault_count c.disk.new.self in
+    rw (c.unopened.ensures, c.from.ensures)
+    (why_unhanded g.H.Disk.Disk named (Rose old new) source sink None c.in-Err.refusal (λ is. rose_once old old new (omega arith) (c.in-Err.ensures.cause.rose is)))
 
 pub returns-in-Err-open-clause-reading : goal.returns-in-Err-open-clause-reading
 returns-in-Err-open-clause-reading g c = rw c.unopened-in-Err-open.ensures (record { left = refl; faults = refl })

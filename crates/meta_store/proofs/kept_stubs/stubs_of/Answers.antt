@@ -1,7 +1,7 @@
 use Rattle.std.proofs.Common.{ℕ, ◌+◌, ◌++◌, [], ◌∷◌, get_or, true, false, sym, ap, ◌∙◌, append_assoc, length-append, arith}
 use Rattle.std.specs.List.{AllByRecursion}
 use Rattle.std.proofs.lemmas.List.{drop_more}
-use Rattle.hsm_types.specs.Stubs.{Stubs, FitsFile}
+use Rattle.hsm_types.specs.Stubs.{Stubs, FitsFile, entry_at}
 use Rattle.hsm_types.specs.declared.stubs.Stub.{Stub}
 use Rattle.meta_store.specs.Catalogs.{StubFits, HasNoBlocks}
 use Rattle.meta_store.specs.Validity.{is_above}
@@ -11,7 +11,7 @@ use Rattle.meta_store.proofs.kept_stubs.stubs_of.Goals as goal
 use Rattle.meta_store.proofs.kept_stubs.stubs_of.Goals.{then-not-is_above-via-then-not-is_above, then-not-is_above-via-else-not-is_above+then-not-is_lawful}
 
 abbrev no_entry : ℕ × Stub
-no_entry = (0, record { entry = record { volume = 0; object = 0; print = record { len = 0; digest = record { 0 = [] } } }; offline = false })
+no_entry = (0, record { entry = entry_at (record { volume = 0; object = 0 }) (record { len = 0; digest = record { 0 = [] } }); offline = false })
 
 pub loop-entry-preserved : goal.loop-entry-preserved
 loop-entry-preserved c =

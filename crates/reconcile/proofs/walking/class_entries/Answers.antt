@@ -1,6 +1,7 @@
 use Rattle.std.proofs.Common.{◌<◌, ◌^◌, ◌∙◌, ℕ, [], get_or, refl, arith, below_more}
 use Rattle.std.proofs.lemmas.List.{get_or_default}
 use Rattle.std.proofs.lemmas.Result.{err_from_is_err_and}
+use Rattle.hsm_types.specs.Stubs.{entry_at}
 use Rattle.hsm_types.specs.declared.stubs.StubEntry.{StubEntry}
 use Rattle.reconcile.proofs.Drives.{none_read, read_on, told_on, refused_on}
 use Rattle.reconcile.proofs.Walked.{walk_starts, walk_on, walk_ends, tallies}
@@ -8,7 +9,7 @@ use Rattle.reconcile.proofs.walking.class_entries.Goals as goal
 
 -- an entry that names the first object of all volumes
 abbrev nowhere : StubEntry
-nowhere = record { volume = 0; object = 0; print = record { len = 0; digest = record { 0 = [] } } }
+nowhere = entry_at (record { volume = 0; object = 0 }) (record { len = 0; digest = record { 0 = [] } })
 
 pub loop-entry-init : goal.loop-entry-init
 loop-entry-init g c = rw (c.start-walk.ensures) (record {
@@ -40,7 +41,7 @@ loop-entry-preserved g c =
     let was = c.loop-entry.invariant in
     let e : StubEntry = get_or xs i nowhere in
     let one = tallies g.M.Drive c.args.volumes c.loop-entry.drives e c.in_ok-found.found c.loop-entry.walk c.find.new.self i c.in_ok-found.ensures.finds was.live was.classes in
-    rw (c.count.ensures) (record {
+    rw (c.count.ensures, c.print.ensures) (record {
       live = one.0;
       classes = one.1;
       short = below_more (λ (k : ℕ). (d : StubEntry) → (get_or xs k d).object < 2 ^ 32) i was.short (λ d. rw (get_or_default xs i d nowhere c.loop-entry-test.true) (c.in_ok-found.ensures.short));

@@ -1,6 +1,6 @@
 use Rattle.std.proofs.Common.{List, length, take, drop, get_or, ◌-◌, sym, ◌∙◌}
-use Rattle.hsm_types.specs.declared.parts.PartKind.{PartKind}
-use Rattle.hsm_types.specs.declared.parts.PartKind.TheVariants as kinds
+use Rattle.call_forms.specs.declared.parts.PartKind.{PartKind}
+use Rattle.call_forms.specs.declared.parts.PartKind.TheVariants as kinds
 use Rattle.script_text.specs.Reading.{read_text, parts_text}
 use Rattle.script_text.proofs.Cutting.{Lacks-not, cut_same}
 use Rattle.script_text.proofs.Parting.{split_kinds, some_more, begins_at}

@@ -1,5 +1,5 @@
-use Rattle.hsm_types.specs.declared.parts.PartKind.TheVariants as kinds
-use Rattle.hsm_types.specs.Parts.{verified_in}
+use Rattle.call_forms.specs.declared.parts.PartKind.TheVariants as kinds
+use Rattle.call_forms.specs.Parts.{verified_in}
 use Rattle.script_text.proofs.DataParts.{data_few}
 use Rattle.script_text.proofs.Parting.{none_made}
 use Rattle.script_text.proofs.parts.verified_of.Goals as goal

@@ -1,5 +1,5 @@
 use Rattle.std.proofs.Common.{◌≡◌, [], ◌∷◌, refl, arith, length-append}
-use Rattle.plain_model.specs.Render.{region_word}
+use Rattle.event_text.specs.Render.{region_word}
 use Rattle.script_text.specs.Reading.{parts}
 use Rattle.script_text.proofs.RegionParts.{read_first, read_more, read_last, read_other, read_many}
 use Rattle.script_text.proofs.regions.some_regions.Goals as goal

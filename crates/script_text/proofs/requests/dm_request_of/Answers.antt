@@ -1,8 +1,8 @@
 use Rattle.std.proofs.Common.{◌≡◌, ℕ, List, Option, sym, ap, ◌∙◌, subst}
 use Rattle.std.specs.Option.{option_map}
 use Rattle.hsm_types.specs.declared.dm.DmCall.{DmCall}
-use Rattle.hsm_types.specs.Forms.{dm_verb_text, dm_verb_kinds, dm_form, dm_call_of}
-use Rattle.hsm_types.proofs.Forming.{dm_verb_text-injective, dm_form-of, dm_kinds}
+use Rattle.call_forms.specs.Forms.{dm_verb_text, dm_verb_kinds, dm_form, dm_call_of}
+use Rattle.call_forms.proofs.Forming.{dm_verb_text-injective, dm_form-of, dm_kinds}
 use Rattle.script_text.specs.Reading.{dm_request_text, IsDmRequest}
 use Rattle.script_text.proofs.Calling.{session_verbs, form_cut, form_read}
 use Rattle.script_text.proofs.requests.dm_request_of.Goals as goal
@@ -29,4 +29,4 @@ returns c =
     let is = form_read dm_verb_text dm_verb_kinds c.args.text.now c.first_word.result.0.now rest c.in-Some.verb c.in-Some-2.field-0.parts seed (dm_form (dm_call_of c.in-Some.verb c.in-Some-2.field-0.parts))
     (dm_form-of c.in-Some.verb c.in-Some-2.field-0.parts (read.0.0 ∙ c.kinds.ensures)) c.first_word.ensures.whole c.in-Some.ensures (rw c.kinds.ensures at read.0) read.1 in
     let P : DmCall → Type 0 = λ call. IsDmRequest (record { call = call; seed = seed }) × (c.args.text.now ≡ dm_request_text (record { call = call; seed = seed })) in
-    subst P (sym c.of-call.ensures) is
+    subst P (sym c.dm_call_of-call.ensures) is

@@ -1,8 +1,8 @@
 use Rattle.std.proofs.Common.{◌≡◌, ℕ, List, Option, sym, ap, ◌∙◌, subst}
 use Rattle.std.specs.Option.{option_map}
 use Rattle.hsm_types.specs.declared.calls.Call.{Call}
-use Rattle.hsm_types.specs.Forms.{verb_text, verb_kinds, call_form, call_of}
-use Rattle.hsm_types.proofs.Forming.{verb_text-injective, call_form-of, call_kinds}
+use Rattle.call_forms.specs.Forms.{verb_text, verb_kinds, call_form, call_of}
+use Rattle.call_forms.proofs.Forming.{verb_text-injective, call_form-of, call_kinds}
 use Rattle.script_text.specs.Reading.{request_text, IsRequest}
 use Rattle.script_text.proofs.Calling.{call_verbs, form_cut, form_read}
 use Rattle.script_text.proofs.requests.request_of.Goals as goal
@@ -29,4 +29,4 @@ returns c =
     let is = form_read verb_text verb_kinds c.args.text.now c.first_word.result.0.now rest c.in-Some.verb c.in-Some-2.field-0.parts seed (call_form (call_of c.in-Some.verb c.in-Some-2.field-0.parts))
     (call_form-of c.in-Some.verb c.in-Some-2.field-0.parts (read.0.0 ∙ c.kinds.ensures)) c.first_word.ensures.whole c.in-Some.ensures (rw c.kinds.ensures at read.0) read.1 in
     let P : Call → Type 0 = λ call. IsRequest (record { call = call; seed = seed }) × (c.args.text.now ≡ request_text (record { call = call; seed = seed })) in
-    subst P (sym c.of-call.ensures) is
+    subst P (sym c.call_of-call.ensures) is

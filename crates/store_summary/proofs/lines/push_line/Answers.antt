@@ -2,7 +2,7 @@ use Rattle.std.proofs.Common.{◌≡◌, ℕ, List, ◌∷◌, ◌++◌, map, co
 use Rattle.std.proofs.lemmas.Result.{on_ok_weaker}
 use Rattle.std.specs.Fmt.{decimal}
 use Rattle.std.specs.List.{flat_map}
-use Rattle.plain_model.specs.Render.{spaced}
+use Rattle.hsm_types.specs.Words.{spaced}
 use Rattle.store_summary.proofs.Listing.{numbers_joined}
 use Rattle.store_summary.proofs.lines.push_line.Goals as goal
 

@@ -3,7 +3,7 @@ use Rattle.std.proofs.lemmas.Result.{on_ok_weaker}
 use Rattle.std.specs.Fmt.{decimal}
 use Rattle.std.specs.List.{flat_map}
 use Rattle.hsm_types.specs.declared.tables.FileRow.{FileRow}
-use Rattle.plain_model.specs.Render.{key_word}
+use Rattle.hsm_types.specs.Words.{key_word}
 use Rattle.store_summary.specs.Named.{named}
 use Rattle.store_summary.specs.Shown.{file_line, line, state_words, states_of}
 use Rattle.store_summary.specs.declared.states.StateCounts.{StateCounts}

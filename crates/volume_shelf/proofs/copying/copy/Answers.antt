@@ -1,6 +1,6 @@
 use Rattle.std.proofs.Common.{◌∙◌, ap, subst, ℕ, ◌+◌, length, drop}
 use Rattle.std.proofs.lemmas.Result.{err_from_is_err_and}
-use Rattle.hsm_types.specs.Stubs.{print_of}
+use Rattle.hsm_types.specs.Stubs.{print_of, entry_at}
 use Rattle.hsm_types.specs.declared.stubs.Fingerprint.{Fingerprint}
 use Rattle.hsm_types.specs.declared.stubs.StubEntry.{StubEntry}
 use Rattle.volume_shelf.specs.Shelf.{CopyRefused}
@@ -38,7 +38,7 @@ returns-clause-grows g c = grows_on g.M.Drive c.args.volume c.args.drive.now c.p
 pub returns-clause-answer : goal.returns-clause-answer
 returns-clause-answer g c =
     let told = subst (Prints g.M.Drive c.args.volume c.in_ok-number.number c.put.new.drive) c.fingerprint-print.ensures c.in_ok-compare.ensures.same in
-    let named : Fingerprint → StubEntry = λ p. record { volume = c.args.volume; object = c.in_ok-number.number; print = p } in
-    copied g.M.Drive c.args.volume c.in_ok-number.number c.args.segment c.args.handle.now c.args.bytes.now c.as_slice.result.now c.args.drive.now c.put.new.drive c.compare.new.drive c.make_last.new.drive (named c.fingerprint-print.result)
+    let named : Fingerprint → StubEntry = λ p. entry_at (record { volume = c.args.volume; object = c.in_ok-number.number }) p in
+    rw c.new.ensures (copied g.M.Drive c.args.volume c.in_ok-number.number c.args.segment c.args.handle.now c.args.bytes.now c.as_slice.result.now c.args.drive.now c.put.new.drive c.compare.new.drive c.make_last.new.drive (named c.fingerprint-print.result)
     (c.as_slice.ensures ∙ c.in-Ok.ensures.bytes) (ap length c.as_slice.ensures ∙ c.in-Ok.ensures.size) (ap named c.fingerprint-print.ensures)
-    c.in_ok-number.ensures.answer c.in_ok-compare.ensures.reads told c.in_ok-make_last.ensures.reads c.in_ok-make_last.ensures.lasts
+    c.in_ok-number.ensures.answer c.in_ok-compare.ensures.reads told c.in_ok-make_last.ensures.reads c.in_ok-make_last.ensures.lasts)

@@ -2,6 +2,7 @@ use Rattle.std.proofs.Common.{◌≡◌, ℕ, List, ◌-◌, ◌/◌, ◌++◌, 
 use Rattle.std.specs.Prelude.{replicate}
 use Rattle.std.specs.List.{concat}
 use Rattle.std.proofs.lemmas.Grind.{common_steps}
+use Rattle.hsm_types.specs.Limits.{segment_bytes}
 use Rattle.file_body.specs.HeldBodies.{pieces, is_away, stands_away}
 use Rattle.file_body.proofs.Outcomes.{on_ok, on_err}
 use Rattle.file_body.proofs.HeldLists.{taken_back}
@@ -50,4 +51,4 @@ returns-else-is_err-clause-others c =
 pub returns-else-is_err-clause-same : goal.returns-else-is_err-clause-same
 returns-else-is_err-clause-same c =
     let at = (goal.at.returns-else-is_err-clause-same c).After-bring_range-brought in
-    rw (whole at) (λ here j. ap (λ l. stands_away l j) (c.bring_range-brought.ensures.enough (λ i low high. was at (i / 65536) ∙ here i low high)).1 ∙ was at j)
+    rw (whole at) (λ here j. ap (λ l. stands_away l j) (c.bring_range-brought.ensures.enough (λ i low high. was at (i / segment_bytes) ∙ here i low high)).1 ∙ was at j)

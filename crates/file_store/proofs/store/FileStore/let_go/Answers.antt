@@ -1,6 +1,9 @@
-use Rattle.file_store.proofs.Names.{None, rules, ◌≡◌, ◌-◌, ◌+◌, ◌*◌, ◌&&◌, ◌||◌, ℕ, refl, sym, ◌∙◌, ap, subst, arith, set, length, take, drop, unmarked, after_all, refusal_of_all, CanStandAll, IsEvent, held_with, affected_held, present, HeldBody, no_body, is_away, get_or, get_or_read, Kept}
+use Rattle.file_store.proofs.Names.{None, rules, ◌≡◌, ◌-◌, ◌+◌, ◌*◌, ◌&&◌, ◌||◌, ℕ, refl, sym, ◌∙◌, ap, subst, arith, set, length, take, drop}
+use Rattle.file_store.proofs.Names.{unmarked, after_all, refusal_of_all, CanStandAll, IsEvent, held_with, affected_held, present, HeldBody, no_body}
+use Rattle.file_store.proofs.Names.{is_away, get_or, get_or_read, Kept}
 use Rattle.std.specs.Prelude.{nat_le, nat_lt}
 use Rattle.plain_model.specs.Effects.{Punches}
+use Rattle.hsm_types.specs.Limits.{segment_bytes, segment_blocks}
 use Rattle.hsm_types.specs.Segments.{from_on}
 use Rattle.meta_store.specs.Catalogs.{AreLengths}
 use Rattle.file_store.specs.Punches.{punch_records}
@@ -32,7 +35,7 @@ records_are g c =
     let at = (given g c).at in
     (rw (← c.self.view_is) at c.requires.records) ∙ ap (λ (kept : Kept). punch_records c.args.key.ino kept.stubs (from_on c.args.from (c.args.to - c.args.from))) (kept_is c.self.inside.meta.current c.args.key at.file at.found)
 
-freed_are : (g : Over) (c : After-of-before g) → c.args.punch.freed.items ≡ present (take (16 * (c.args.to - c.args.from)) (drop (16 * c.args.from) (given g c).at.file.places))
+freed_are : (g : Over) (c : After-of-before g) → c.args.punch.freed.items ≡ present (take (segment_blocks * (c.args.to - c.args.from)) (drop (segment_blocks * c.args.from) (given g c).at.file.places))
 freed_are g c = let at = (given g c).at in (rw (← c.self.view_is) at c.requires.freed) at.file at.found
 
 pub apply-requires-clause-event : goal.apply-requires-clause-event
@@ -72,7 +75,7 @@ taken g c =
     let x = given g at.After-of-before in
     let old : HeldBody = get_or c.self.inside.bodies.items (c.args.key.ino - 1) no_body in
     let bytes : c.leave.new.self.bytes ≡ zeroed c.args.from c.args.to old.bytes = rw (body_is g at.After-index_mut) at c.leave.ensures.bytes in
-    let away : (j : ℕ) → is_away c.leave.new.self j ≡ (is_away old j || (nat_le c.args.from j && nat_lt j c.args.to && nat_lt (65536 * j) (length old.bytes))) =
+    let away : (j : ℕ) → is_away c.leave.new.self j ≡ (is_away old j || (nat_le c.args.from j && nat_lt j c.args.to && nat_lt (segment_bytes * j) (length old.bytes))) =
     λ j. rw (body_is g at.After-index_mut) at c.leave.ensures.away j in
     let it =
     gone x (last g at.After-of-before) c.leave.new.self bytes away c.apply.new.disk c.apply.new.self c.args.number c.in-Ok.wrote (λ e. c.in-Ok.ensures.wrote e, λ e. c.in-Ok.ensures.staged e) (c.in-Ok.ensures.taken.current ∙ ap (λ rs. after_all rs c.self.inside.meta.current) (records_are g at.After-of-before))

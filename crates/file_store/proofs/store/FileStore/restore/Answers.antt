@@ -1,5 +1,5 @@
 use Rattle.file_store.proofs.Names.{◌≡◌}
-use Rattle.hsm_types.specs.Stubs.{print_of, stub_at}
+use Rattle.hsm_types.specs.Stubs.{print_of, stub_at, entry_print}
 use Rattle.plain_model.specs.Services.{kept_of}
 use Rattle.std.proofs.lemmas.Result.{err_from_is_err_and}
 use Rattle.file_store.proofs.Ended.{changes_on}
@@ -28,7 +28,7 @@ rewrite-requires-clause-lawful g c =
 
 pub rewrite-requires-clause-sound : goal.rewrite-requires-clause-sound
 rewrite-requires-clause-sound g c =
-    let at = of-entry (λ stub. stub.entry.print ≡ print_of c.args.bytes.now) (stub_at c.args.segment (kept_of c.args.key c.args.self.now.held.files).stubs) c.requires.offline c.requires.print in
+    let at = of-entry (λ stub. entry_print stub.entry ≡ print_of c.args.bytes.now) (stub_at c.args.segment (kept_of c.args.key c.args.self.now.held.files).stubs) c.requires.offline c.requires.print in
     rw (c.make_room.ensures.held, c.as_slice-bytes.ensures.bytes) (c.requires.start, at)
 
 pub rewrite-requires-clause-offline : goal.rewrite-requires-clause-offline

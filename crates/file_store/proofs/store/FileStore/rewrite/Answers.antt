@@ -1,4 +1,7 @@
-use Rattle.file_store.proofs.Names.{None, mappings_of, subst, List, Mapping, CatalogFile, HeldBody, no_body, IsHere, IsAlike, HasEntry, BringsAway, HasRoom, remapped, bytes_with, ◌≡◌, ◌-◌, refl, sym, ◌∙◌, ap, arith, Err, length, set, marked, unmarked, affected_held, rebody, effect_of, new_size, touched_of, places_for, layout_of, IsBesideBlocks, IsStaged, Keeps, held_with, geometry-bounded, get_or_read}
+use Rattle.file_store.proofs.Names.{None, mappings_of, subst, List, Mapping, CatalogFile, HeldBody, no_body, IsHere, IsAlike, HasEntry, BringsAway}
+use Rattle.file_store.proofs.Names.{HasRoom, remapped, bytes_with, ◌≡◌, ◌-◌, refl, sym, ◌∙◌, ap, arith, Err, length, set, marked, unmarked}
+use Rattle.file_store.proofs.Names.{affected_held, rebody, effect_of, new_size, touched_of, places_for, layout_of, IsBesideBlocks, IsStaged, Keeps}
+use Rattle.file_store.proofs.Names.{held_with, geometry-bounded, get_or_read}
 use Rattle.file_store.proofs.Durable.{Parts, IsDone, after_event}
 use Rattle.file_store.proofs.ByteChanges.{within-grown, length-grown, changed-grown, grown-enough}
 use Rattle.file_store.proofs.RewriteRecords.{is_event}
@@ -6,7 +9,9 @@ use Rattle.file_store.proofs.SoundChanges.{brings-away, has-range, here-after}
 use Rattle.file_store.proofs.FilesBy.{kept-found}
 use Rattle.file_store.proofs.WithBodies.{is-body}
 use Rattle.std.proofs.lemmas.Option.{same_Some}
-use Rattle.file_store.proofs.StoreEvents.{Given, known, body_of, bytes_in, IsBack, bodies_back, within, lengths_then, passes, fits, stand, places_within, freed_within, undone, written_proceeds, written_live, refused_proceeds, rewritten, refused_sound}
+use Rattle.file_store.proofs.StoreEvents.{Given, known, body_of, bytes_in, IsBack, bodies_back, within, lengths_then, passes, fits, stand}
+use Rattle.file_store.proofs.StoreEvents.{places_within, freed_within, undone, written_proceeds, written_live, refused_proceeds, rewritten}
+use Rattle.file_store.proofs.StoreEvents.{refused_sound}
 use Rattle.file_store.proofs.Ended.{ends_done, ends_refused}
 use Rattle.file_store.proofs.store.FileStore.rewrite.Given.{Over}
 use Rattle.file_store.proofs.store.FileStore.rewrite.Goals.{After-of-before, After-stage, In-Ok, After-apply-in-Ok-apply, After-undo}

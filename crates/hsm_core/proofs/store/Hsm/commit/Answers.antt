@@ -8,6 +8,7 @@ use Rattle.dm_service.specs.Tables.{awaited_in}
 use Rattle.hsm_core.specs.Store.{Store, KeepsRoom, state_with}
 use Rattle.hsm_core.specs.Answers.{IsCommitted}
 use Rattle.hsm_core.proofs.Events.{event, always, not_begun, one_more, IsNext, Keeps}
+use Rattle.hsm_core.proofs.Packing.{still_packed}
 use Rattle.hsm_core.proofs.store.Hsm.commit.Given.{Over}
 use Rattle.hsm_core.proofs.store.Hsm.commit.Goals.{After-record_event}
 use Rattle.hsm_core.proofs.store.Hsm.commit.Goals as goal
@@ -53,8 +54,15 @@ pub invariant_of-self-2 : goal.invariant_of-self-2
 invariant_of-self-2 g c =
     let at = (goal.at.invariant_of-self-2 g c).After-record_event in
     let is = next g at in
-    let more = one_more c.make_ready.new.history.items c.record_event.new.history.items TheStore Commit (λ (r : Reply). Replied r) c.commit-done.result c.record_event.result c.commit-done.ensures.ends.refused (keeps g at) in
-    (is.0, is.1, c.self.invariant.2, c.self.invariant.3, omega (arith, more, c.in_default.ensures.room.0, c.record_event.ensures.room, c.awaited-awaited.ensures.count), c.self.invariant.5)
+    let more = one_more c.make_ready.new.history.items c.record_event.new.history.items TheStore Commit (λ (r : Reply). Replied r) c.commit-done.result c.record_event.result c.commit-done.ensures.ends.refused (keeps g at) in (
+      is.0,
+      is.1,
+      c.self.invariant.2,
+      c.self.invariant.3,
+      omega (arith, more, c.in_default.ensures.room.0, c.record_event.ensures.room, c.awaited-awaited.ensures.count),
+      c.self.invariant.5,
+      still_packed g.D.Disk (before g at) (after g at) TheStore Commit (Replied c.record_event.result) c.self.invariant.0 tt is.2 c.self.invariant.6,
+    )
 
 pub returns-clause-committed : goal.returns-clause-committed
 returns-clause-committed g c = subst (λ (old : Store g.row.D.Denot). IsCommitted g.D.Disk old c.record_event.result (after g (goal.at.returns-clause-committed g c).After-record_event)) c.self.view_is (next g (goal.at.returns-clause-committed g c).After-record_event).2

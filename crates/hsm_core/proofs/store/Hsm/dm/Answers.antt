@@ -17,6 +17,7 @@ use Rattle.file_store.specs.Stores.{superblock_of}
 use Rattle.hsm_core.specs.Answers.{own_answer, IsTold}
 use Rattle.hsm_core.proofs.HandedOut.{told_handed, unserved_handed}
 use Rattle.hsm_core.proofs.Events.{event, always, lasting, room_served, told_done, not_begun, one_more, IsNext, Keeps}
+use Rattle.hsm_core.proofs.Packing.{still_packed}
 use Rattle.hsm_core.proofs.store.Hsm.dm.Given.{Over}
 use Rattle.hsm_core.proofs.store.Hsm.dm.Goals.{After-record_dm}
 use Rattle.hsm_core.proofs.store.Hsm.dm.Goals as goal
@@ -50,6 +51,10 @@ next g c =
     })
     (keeps g c)
 
+-- what the session is told of messages
+handed : (g : Over) (c : After-record_dm g) → HandsOut c.self.inside.service.sessions c.args.sid c.args.call c.record_dm.result
+handed g c = told_handed c.self.inside.service.sessions c.args.sid c.args.call _ _ _ c.serve-done.result c.record_dm.result c.serve-done.ensures.packed c.record_dm.ensures.recorded c.record_dm.ensures.memory c.record_dm.ensures.failed c.serve-done.ensures.ends.refused
+
 pub returns-in-Err-clause-told : goal.returns-in-Err-clause-told
 returns-in-Err-clause-told g c =
     let s : Store g.row.D.Denot = record { opened = c.self.inside.opened.value; files = c.self.inside.files; stamps = c.self.inside.stamps.entries; tables = c.self.inside.service; history = c.self.inside.history.items; spare = vec_capacity c.self.inside.history - (vec_len c.self.inside.history + awaited_in c.self.inside.service) } in
@@ -78,6 +83,7 @@ invariant_of-self-2 g c =
           omega (arith, more, fewer, c.awaited-awaited.ensures.count, c.in_default.ensures.room.0, c.record_dm.ensures.room, c.entries_for-more.ensures)
           ),
       lasting _ c.self.inside.files.held _ _ _ _ c.self.inside.service c.serve-done.new.service (Session c.args.sid) (Dm c.args.call) c.serve-done.result c.serve-done.ensures.left c.serve-done.ensures.err c.self.invariant.5,
+      still_packed g.D.Disk (before g at) (after g at) (Session c.args.sid) (Dm c.args.call) (Told c.record_dm.result) c.self.invariant.0 (handed g at) is.2 c.self.invariant.6,
     )
 
 pub returns-clause-told : goal.returns-clause-told
@@ -86,7 +92,7 @@ returns-clause-told g c = subst (λ (old : Store g.row.D.Denot). IsTold g.D.Disk
 pub returns-clause-packed : goal.returns-clause-packed
 returns-clause-packed g c =
     subst (λ (old : Store g.row.D.Denot). HandsOut old.tables.sessions c.args.sid c.args.call c.record_dm.result) c.self.view_is
-    (told_handed c.self.inside.service.sessions c.args.sid c.args.call _ _ _ c.serve-done.result c.record_dm.result c.serve-done.ensures.packed c.record_dm.ensures.recorded c.record_dm.ensures.memory c.record_dm.ensures.failed c.serve-done.ensures.ends.refused)
+    (handed g (goal.at.returns-clause-packed g c).After-record_dm)
 
 pub returns-in-Err-clause-packed : goal.returns-in-Err-clause-packed
 returns-in-Err-clause-packed g c =

@@ -4,6 +4,7 @@ use Rattle.std.specs.Prelude.{vec_len, vec_capacity}
 use Rattle.dm_service.specs.Tables.{awaited_in}
 use Rattle.hsm_core.specs.Store.{Store}
 use Rattle.hsm_core.proofs.Runs.{HasRun-opened, new_awaited, new_lasts}
+use Rattle.hsm_core.proofs.Packing.{none_packed}
 use Rattle.hsm_core.proofs.Safety.{safe_opened}
 use Rattle.hsm_core.proofs.store.Hsm.open.Goals as goal
 
@@ -16,4 +17,5 @@ invariant_of-result g c =
       c.number.ensures.within,
       omega (arith, new_awaited c.in-Ok.service c.in-Ok.ensures),
       new_lasts c.in-Ok.service c.in-Ok.ensures,
+      none_packed _ _ _ c.new-in-Ok-open-2.ensures.items,
     )

@@ -4,7 +4,7 @@ use Rattle.std.specs.Prelude.{is_some, vec_len, vec_capacity}
 use Rattle.hsm_types.specs.Messages.{no_token}
 use Rattle.hsm_types.specs.Rights.{conflict}
 use Rattle.plain_model.specs.Accesses.{need_of}
-use Rattle.plain_model.specs.Keyed.{find_key}
+use Rattle.hsm_types.specs.Keyed.{find_key}
 use Rattle.dm_service.specs.Tables.{awaited_in}
 use Rattle.hsm_core.specs.Store.{Store}
 use Rattle.hsm_core.specs.Ready.{ready, told_ready}

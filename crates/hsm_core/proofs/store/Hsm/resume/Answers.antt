@@ -11,6 +11,7 @@ use Rattle.file_store.specs.Stores.{superblock_of}
 use Rattle.hsm_core.specs.Store.{Store, KeepsRoom}
 use Rattle.hsm_core.specs.Answers.{IsResumed}
 use Rattle.hsm_core.proofs.Events.{event, lasting, room_again, not_begun, one_more, IsNext, Keeps}
+use Rattle.hsm_core.proofs.Packing.{still_packed}
 use Rattle.hsm_core.proofs.store.Hsm.resume.Given.{Over}
 use Rattle.hsm_core.proofs.store.Hsm.resume.Goals.{After-record_event}
 use Rattle.hsm_core.proofs.store.Hsm.resume.Goals as goal
@@ -73,6 +74,7 @@ invariant_of-self-2 g c =
           omega (arith, more, fewer, there, c.awaited-awaited.ensures.count, c.record_event.ensures.room)
           ),
       lasting (superblock_of c.self.inside.files) c.self.inside.files.held _ _ _ _ c.self.inside.service c.answer_again-done.new.service (Caller c.args.caller) Resume c.answer_again-done.result c.answer_again-done.ensures.replied.left c.answer_again-done.ensures.replied.err c.self.invariant.5,
+      still_packed g.D.Disk (before g at) (after g at) (Caller c.args.caller) Resume (Replied c.record_event.result) c.self.invariant.0 tt is.2 c.self.invariant.6,
     )
 
 pub returns-clause-resumed : goal.returns-clause-resumed

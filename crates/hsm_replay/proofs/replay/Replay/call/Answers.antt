@@ -1,5 +1,4 @@
-use Rattle.std.proofs.Common.{refl, sym, subst}
-use Rattle.hsm_core.specs.Kept.{IsKept}
+use Rattle.std.proofs.Common.{refl, subst}
 use Rattle.hsm_replay.specs.Systems.{System}
 use Rattle.hsm_replay.specs.Acts.{IsEvent}
 use Rattle.hsm_replay.proofs.Calls.{serves, stops}
@@ -14,7 +13,7 @@ event : (g : Over) (c : After-served g) → IsEvent g.D.Disk c.args.sid c.args.c
 event g c =
     let dm = c.dm.ensures in
     subst (λ old. IsEvent g.D.Disk c.args.sid c.args.call c.dm.result old (left g c)) c.self.view_is
-    (record { kept = subst (λ (s : System g.row.D.Denot g.row.M.Denot). IsKept s.store) (sym c.self.view_is) c.kept.ensures; told = dm.told; packed = dm.packed; responds = dm.responds; spared = dm.spared; safe = dm.safe; room = dm.room; keeps = dm.keeps; rest = refl })
+    (record { told = dm.told; responds = dm.responds; spared = dm.spared; safe = dm.safe; room = dm.room; keeps = dm.keeps; rest = refl })
 
 pub returns-clause-performed : goal.returns-clause-performed
 returns-clause-performed g c = serves g.D.Disk g.M.Drive c.args.sid c.args.call c.dm.result c.args.self.now (left g c) (event g c) c.served.result c.served.ensures.served

@@ -50,10 +50,10 @@ returns-then-branch-clause-settled g c =
     (goes.more, subst (λ (from : List Entry). EndsQuietly from c.round.new.self) goes.history (c.in_ok-round.ensures.ends c.if-branch.true).0)
 
 pub returns-then-branch-clause-settles : goal.returns-then-branch-clause-settles
-returns-then-branch-clause-settles g c = λ working packed.
+returns-then-branch-clause-settles g c = λ working.
     let goes = c.in_ok-round.ensures.moves.runs in
     settles_rightly g.M.Drive _ _ _ c.loop-self.invariant.runs c.loop-self.invariant.moves.keeps (c.in_ok-round.ensures.ends c.if-branch.true) (fresh_on (refreshed c.args.self.now) c.loop-self.self c.round.new.self c.loop-self.invariant.fresh c.in_ok-round.ensures.fresh) c.kept.ensures
-    (goes.works (c.loop-self.invariant.moves.runs.works working)) (goes.goes_on.packed (c.loop-self.invariant.moves.runs.goes_on.packed packed))
+    (goes.works (c.loop-self.invariant.moves.runs.works working))
 
 pub returns-then-branch-clause-runs : goal.returns-then-branch-clause-runs
 returns-then-branch-clause-runs g c = c.in_ok-round.ensures.runs ∙ c.loop-self.invariant.runs

@@ -1,4 +1,4 @@
-use Rattle.plain_model.specs.Keyed.{find_key}
+use Rattle.hsm_types.specs.Keyed.{find_key}
 use Rattle.inode_table.proofs.Keeping.{table-drop, none-had}
 use Rattle.inode_table.proofs.Listings.{drop-absent}
 use Rattle.inode_table.proofs.table.InodeTable.drop_file.Goals as goal

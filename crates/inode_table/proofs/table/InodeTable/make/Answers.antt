@@ -1,5 +1,5 @@
 use Rattle.std.proofs.Common.{◌≡◌, ap, arith}
-use Rattle.plain_model.specs.Plain.{free_inode}
+use Rattle.hsm_types.specs.Listing.{free_inode}
 use Rattle.inode_table.specs.Listing.{listing}
 use Rattle.inode_table.proofs.Listings.{length-listing}
 use Rattle.inode_table.proofs.Orders.{free-ge, free-le, free-absent}

@@ -1,12 +1,13 @@
 use Rattle.std.proofs.Common.{◌≡◌, ◌+◌, None, refl, ◌∙◌, ap, arith, ℕ, ◌-◌, ◌≤◌, List, length, set, Some, length-set}
 use Rattle.std.proofs.lemmas.Result.{err_from_is_err_and}
+use Rattle.hsm_types.specs.Limits.{large_geometry}
 use Rattle.hsm_types.specs.declared.stores.Geometry.{Geometry}
 use Rattle.meta_store.specs.Records.{refusal_of, file_after, without_file, with_changed, key_on, inode_of, others_of, part_refusal, CanStandOn, CanStand, IsAboutOne}
 use Rattle.meta_store.specs.Catalogs.{Catalog, geometry_of, CatalogFile, IsLawfulKept, IsCatalogFile, blocks_of, attribute_total, stub_total}
 use Rattle.meta_store.proofs.HeldCatalogs.{bounded, IsCounted, IsLive, lawful, table, live, read-live, held-live, others, after}
 use Rattle.hsm_types.specs.declared.keys.FileKey.{FileKey}
 use Rattle.hsm_types.specs.Attributes.{bytes_of_attributes}
-use Rattle.plain_model.specs.Keyed.{find_key, change_key}
+use Rattle.hsm_types.specs.Keyed.{find_key, change_key}
 use Rattle.inode_table.specs.Table.{Table, entry_of}
 use Rattle.meta_store.specs.declared.file_parts.FileParts.{FileParts}
 use Rattle.meta_store.specs.declared.file_parts.Others.{Others}
@@ -41,7 +42,7 @@ module _ {s : Inside} {v : Catalog} {r : Record} {k : FileKey} {place old : ℕ}
   lawful-file : IsCatalogFile (geometry_of v.geometry).blocks t.file
   lawful-file = each-found (IsCatalogFile (geometry_of v.geometry).blocks) (key_on (inode_of r) v) t.file v.files (lawful s v t.view t.held).each t.found
 
-  room : (rest.attributes + bytes_of_attributes x.attributes ≤ limits.attributes) × (rest.stubs + length x.stubs ≤ limits.stubs) × (limits.attributes ≤ 1048576) × (limits.stubs ≤ 65536) × (length (blocks_of (without_file (key_on (inode_of r) v) v).files) ≤ 65536)
+  room : (rest.attributes + bytes_of_attributes x.attributes ≤ limits.attributes) × (rest.stubs + length x.stubs ≤ limits.stubs) × (limits.attributes ≤ large_geometry.attributes) × (limits.stubs ≤ large_geometry.stubs) × (length (blocks_of (without_file (key_on (inode_of r) v) v).files) ≤ large_geometry.blocks)
   room =
       let sums = others s v t.view t.held (key_on (inode_of r) v) t.file t.found in
       let most = bounded s v t.view t.held in

@@ -1,3 +1,4 @@
+use Rattle.disk_model.proofs.Steps.{sames_on}
 use Rattle.meta_store.proofs.OpenedImages.{backs_read, synced_read}
 use Rattle.meta_store.proofs.store.MetaStore.open.Goals as goal
 
@@ -12,3 +13,6 @@ returns-clause-corrupt g c = λ place is image given. c.inspect.ensures.corrupt 
 
 pub returns-clause-synced : goal.returns-clause-synced
 returns-clause-synced g c = synced_read g.D.Disk _ _ c.in-Ok.ensures.durable c.inspect.ensures.keeps _ _ c.sync_all.ensures.given
+
+pub returns-clause-keeps : goal.returns-clause-keeps
+returns-clause-keeps g c = sames_on g.D.Disk _ _ _ c.sync_all.ensures.keeps c.inspect.ensures.keeps

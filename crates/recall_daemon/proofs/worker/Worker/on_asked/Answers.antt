@@ -1,3 +1,4 @@
+use Rattle.hsm_types.specs.Limits.{buffer_bytes}
 use Rattle.hsm_types.specs.declared.daemons.Act.TheVariants.{Dm}
 use Rattle.hsm_types.specs.declared.dm.DmCall.TheVariants.{GetEvents}
 use Rattle.recall_daemon.proofs.Entries.{kept_more, kept_none, some_more}
@@ -7,7 +8,7 @@ pub returns-in-Some-clause-ok : goal.returns-in-Some-clause-ok
 returns-in-Some-clause-ok c =
     let w = rw c.requires.serving at c.requires.worker.waits in
     let keeps = rw (c.requires.worker.daemon, c.as_slice.ensures) at c.in_ok-keep.ensures.ok in
-    rw (w.2, c.requires.serving, kept_more _ _ _ _ c.in-Some.ensures) (rw keeps at (c.turn.ensures (Dm c.args.sid (GetEvents 0 65536)) c.args.last.now (some_more _ _ _ c.in-Some.ensures)))
+    rw (w.2, c.requires.serving, kept_more _ _ _ _ c.in-Some.ensures) (rw keeps at (c.turn.ensures (Dm c.args.sid (GetEvents 0 buffer_bytes)) c.args.last.now (some_more _ _ _ c.in-Some.ensures)))
 
 pub returns-clause-ok : goal.returns-clause-ok
 returns-clause-ok c =

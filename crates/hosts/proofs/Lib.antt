@@ -1,0 +1,4 @@
+pub mod NamedThings
+pub mod HandingOut
+pub mod Files
+pub mod Noted

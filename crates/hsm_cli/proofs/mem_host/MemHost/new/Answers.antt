@@ -1,6 +1,0 @@
-use Rattle.hsm_cli.specs.MemHosts.{IsAtRest, AreUnfailed}
-use Rattle.hsm_cli.proofs.NamedThings.{EachIs-empty}
-use Rattle.hsm_cli.proofs.mem_host.MemHost.new.Goals as goal
-
-pub invariant_of-result : goal.invariant_of-result
-invariant_of-result c = (rw (c.new.ensures.empty) (EachIs-empty IsAtRest), rw (c.new-2.ensures.empty) (EachIs-empty AreUnfailed))

@@ -1,7 +1,0 @@
-use Rattle.std.proofs.Common.{◌≡◌, ◌++◌, ◌∷◌, drop}
-use Rattle.std.specs.List.{flat_map}
-use Rattle.plain_model.specs.Render.{region_word}
-use Rattle.plain_model.proofs.pieces.push_more_regions.Given as goal
-
-abbrev pub invariant-loop-region : goal.invariant-loop-region
-invariant-loop-region l = l.out.items ++ flat_map (λ r. 44 ∷ region_word r) (drop l.region-index l.regions) ≡ l.fn.out.items ++ flat_map (λ r. 44 ∷ region_word r) l.regions
