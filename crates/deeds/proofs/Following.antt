@@ -1,0 +1,158 @@
+-- What is so of deeds that follow lines: of their entries, and of each of them.
+use Rattle.std.proofs.Common.{◌≡◌, ◌∙◌, ℕ, ◌∷◌, ◌++◌, [], map, Bool, true, false, List, Option, Some, None, IfSome, inl, inr, refl, sym, ap, subst}
+use Rattle.std.proofs.Common.{append_assoc}
+use Rattle.std.specs.Prelude.{All, flat_map}
+use Rattle.std.specs.List.{cons_option}
+use Rattle.std.specs.Map.{keys_of}
+use Rattle.std.proofs.lemmas.List.Elements.{All-nil, All-cons, All-head, All-tail, All-append}
+use Rattle.hsm_types.specs.Callers.{IsCallerNumber}
+use Rattle.hsm_types.specs.declared.daemons.Act.{Act}
+use Rattle.hsm_types.specs.declared.daemons.Act.TheVariants as act
+use Rattle.hsm_types.specs.declared.daemons.Act.TheVariants.{Idle}
+use Rattle.hsm_types.specs.declared.daemons.Daemon.{Daemon}
+use Rattle.hsm_types.specs.declared.daemons.Daemon.TheVariants.{Recall, Migrate}
+use Rattle.hsm_types.specs.declared.daemons.Heard.{Heard}
+use Rattle.hsm_types.specs.declared.daemons.Heard.TheVariants as heard
+use Rattle.plain_model.specs.declared.entries.Action.TheVariants.{Resume}
+use Rattle.plain_model.specs.declared.entries.Actor.TheVariants.{Caller}
+use Rattle.plain_model.specs.declared.entries.Answer.{Answer}
+use Rattle.plain_model.specs.declared.entries.Entry.{Entry}
+use Rattle.script_text.specs.declared.lines.Line.{Line}
+use Rattle.script_text.specs.declared.lines.Line.TheVariants.{Event, Start, Kill, Step, Settle}
+use Rattle.deeds.specs.Deeds.{entry_of, Deed, Enters, Starts, Kills, Refreshes, Gives, Hears, call_told, entry_in, entries_of, Fits}
+use Rattle.deeds.specs.Given.{Given, given_of, given_behind}
+use Rattle.deeds.specs.Parts.{Exchange, resting, done_by, IsStepFrom, IsWork, IsUpToRest, IsTurnFrom, IsTurnIf, resume_of, joined, are_quiet, IsRound}
+use Rattle.deeds.specs.Parts.{AreBusy, IsSettle, IsPartOf, Follows, FollowsOn}
+use Rattle.deeds.specs.History as history
+use Rattle.deeds.proofs.Giving.{given_then}
+use Rattle.deeds.proofs.Living.{entries_then}
+
+-- ---- each deed of a step and of a settle
+
+-- Of such deeds P holds where it holds of acts that were done, of a refresh, and of resumes.
+module _ (quiet : Entry → Bool) (P : Deed → Type 0)
+    (acts : (daemon : Daemon) (asked : Act) (told : Heard) → Fits asked told → P (Gives daemon asked) × P (Hears daemon asked told))
+    (refreshes : P Refreshes)
+    (resumes : (caller : ℕ) (told : Answer) → IsCallerNumber caller → P (resume_of (caller, told))) where
+  done_all : (daemon : Daemon) (x : Exchange) → Fits x.asked x.told → All P (done_by daemon x)
+  done_all daemon x fits =
+      let both = acts daemon x.asked x.told fits in
+      All-cons P (Gives daemon x.asked) (Hears daemon x.asked x.told ∷ []) both.0 (All-cons P (Hears daemon x.asked x.told) [] both.1 (All-nil P))
+
+  pub step_all : (daemon : Daemon) (asked : Option Act) (deeds : List Deed) → IsStepFrom daemon asked deeds → All P deeds
+  step_all daemon None deeds is = subst (λ (ds : List Deed). All P ds) (sym is) (All-nil P)
+  step_all daemon (Some asked) deeds is = subst (λ (ds : List Deed). All P ds) (sym is.2) (done_all daemon is.0 is.1)
+
+  work_all : (daemon : Daemon) (work : List Exchange) → All IsWork work → All P (flat_map (done_by daemon) work)
+  work_all daemon [] all = All-nil P
+  work_all daemon (x ∷ work) all = All-append P (done_by daemon x) (flat_map (done_by daemon) work) (done_all daemon x (All-head IsWork x work all).1) (work_all daemon work (All-tail IsWork x work all))
+
+  rest_all : (daemon : Daemon) (deeds : List Deed) → IsUpToRest daemon deeds → All P deeds
+  rest_all daemon deeds is = subst (λ (ds : List Deed). All P ds) (sym is.2) (All-append P (flat_map (done_by daemon) is.0) (done_by daemon resting) (work_all daemon is.0 is.1) (done_all daemon resting tt))
+
+  turn_all : (daemon : Daemon) (asked : Option Act) (deeds : List Deed) → IsTurnFrom daemon asked deeds → All P deeds
+  turn_all daemon None deeds is = subst (λ (ds : List Deed). All P ds) (sym is) (All-nil P)
+  turn_all daemon (Some Idle) deeds is = rest_all daemon deeds is
+  turn_all daemon (Some asked) deeds is = subst (λ (ds : List Deed). All P ds) (sym is.2) (All-append P is.0 is.1 (rest_all daemon is.0 is.3) (rest_all daemon is.1 is.4))
+
+  turn_if_all : (own : Bool) (daemon : Daemon) (given : Given) (deeds : List Deed) → IsTurnIf own daemon given deeds → All P deeds
+  turn_if_all true daemon given deeds is = turn_all daemon (given_of daemon given) deeds is
+  turn_if_all false daemon given deeds is = subst (λ (ds : List Deed). All P ds) (sym is) (All-nil P)
+
+  resumes_all : (told : List (ℕ × Answer)) → All IsCallerNumber (keys_of told) → All P (map resume_of told)
+  resumes_all [] all = All-nil P
+  resumes_all (x ∷ told) all = All-cons P (resume_of x) (map resume_of told) (resumes x.0 x.1 (All-head IsCallerNumber x.0 (keys_of told) all)) (resumes_all told (All-tail IsCallerNumber x.0 (keys_of told) all))
+
+  round_all : (given : Given) (deeds : List Deed) → IsRound quiet given deeds → All P deeds
+  round_all given deeds r = subst (λ (ds : List Deed). All P ds) (sym r.parted) (All-append P r.recalls (r.resumes ++ r.migrates)
+      (turn_all Recall given.recall r.recalls r.recall_turn)
+      (All-append P r.resumes r.migrates
+      (subst (λ (ds : List Deed). All P ds) (sym r.resumed.parted) (resumes_all r.resumed.told r.resumed.numbers))
+      (turn_if_all (are_quiet quiet (r.recalls ++ r.resumes)) Migrate given r.migrates r.migrate_turn)))
+
+  busy_all : (given : Given) (rounds : List (List Deed)) → AreBusy quiet given rounds → All P (joined rounds)
+  busy_all given [] is = All-nil P
+  busy_all given (round ∷ rounds) is = All-append P round (joined rounds) (round_all given round is.0) (busy_all (given_behind round given) rounds is.2)
+
+  pub settle_all : (given : Given) (deeds : List Deed) → IsSettle quiet given deeds → All P deeds
+  settle_all given deeds s = subst (λ (ds : List Deed). All P ds) (sym s.parted) (All-cons P Refreshes (joined s.rounds ++ s.last) refreshes (All-append P (joined s.rounds) s.last
+      (busy_all given s.rounds s.busy)
+      (round_all (given_behind (joined s.rounds) given) s.last s.round)))
+
+-- ---- entries of lines
+
+-- its entry, where it has one, is one of a settle
+abbrev Settles : Deed → Type 0
+Settles deed = IfSome (entry_in deed) history.IsOfSettling
+
+told_settles : (asked : Act) (told : Heard) → IfSome (call_told asked told) history.IsOfSettling
+told_settles (act.Dm sid call) (heard.Dm reply) = inr (sid, call, reply, refl)
+told_settles asked told = tt
+
+entry_more : (o : Option Entry) (es : List Entry) → IfSome o history.IsOfSettling → All history.IsOfSettling es → All history.IsOfSettling (cons_option o es)
+entry_more None es is all = all
+entry_more (Some e) es is all = All-cons history.IsOfSettling e es is all
+
+entries_all : (deeds : List Deed) → All Settles deeds → All history.IsOfSettling (entries_of deeds)
+entries_all [] all = All-nil history.IsOfSettling
+entries_all (deed ∷ deeds) all = entry_more (entry_in deed) (entries_of deeds) (All-head Settles deed deeds all) (entries_all deeds (All-tail Settles deed deeds all))
+
+step_so : (daemon : Daemon) (asked : Act) (told : Heard) → history.IsPartOf (Step daemon) (cons_option (call_told asked told) [])
+step_so daemon (act.Dm sid call) (heard.Dm reply) = inr (_, refl, (sid, call, reply, refl))
+step_so daemon asked told = inl refl
+
+step_part : (daemon : Daemon) (asked : Option Act) (deeds : List Deed) → IsStepFrom daemon asked deeds → history.IsPartOf (Step daemon) (entries_of deeds)
+step_part daemon None deeds is = inl (ap entries_of is)
+step_part daemon (Some asked) deeds is = subst (λ (ds : List Deed). history.IsPartOf (Step daemon) (entries_of ds)) (sym is.2) (step_so daemon is.0.asked is.0.told)
+
+module _ (quiet : Entry → Bool) where
+  part_so : (given : Given) (line : Line) (deeds : List Deed) → IsPartOf quiet given line deeds → history.IsPartOf line (entries_of deeds)
+  part_so given (Event actor asked seed) deeds is = (is.0, ap entries_of is.1)
+  part_so given (Start daemon) deeds is = ap entries_of is
+  part_so given (Kill daemon) deeds is = ap entries_of is
+  part_so given (Step daemon) deeds is = step_part daemon (given_of daemon given) deeds is
+  part_so given Settle deeds is = entries_all deeds (settle_all quiet Settles
+      (λ daemon asked told fits. (tt, told_settles asked told))
+      tt
+      (λ caller told number. inl (caller, told, number, refl))
+      given deeds is)
+
+  pub follows_so : (lines : List Line) (deeds : List Deed) → history.FollowsSo quiet lines deeds
+  follows_so [] deeds given is = ap entries_of is
+  follows_so (line ∷ lines) deeds given is =
+      (entries_of is.0, entries_of is.1, ap entries_of is.2 ∙ entries_then is.0 is.1, part_so given line is.0 is.3, follows_so lines is.1 (given_behind is.0 given) is.4)
+
+  -- ---- lines behind others
+
+  pub follows_on : (given : Given) (lines more : List Line) → FollowsOn quiet given lines more
+  follows_on given [] more deeds then is later = subst (λ (ds : List Deed). Follows quiet given more (ds ++ then)) (sym is) (subst (λ (ds : List Deed). Follows quiet (given_behind ds given) more then) is later)
+  follows_on given (line ∷ lines) more deeds then is later = (
+    is.0,
+    is.1 ++ then,
+    ap (λ (ds : List Deed). ds ++ then) is.2 ∙ append_assoc is.0 is.1 then,
+    is.3,
+    follows_on (given_behind is.0 given) lines more is.1 then is.4 (subst (λ (g : Given). Follows quiet g more then) (ap (λ (ds : List Deed). given_behind ds given) is.2 ∙ given_then is.0 is.1 given) later),
+  )
+
+  -- ---- each deed of lines
+
+  -- Of deeds that follow lines P holds where it holds of those, and of events, starts and kills.
+  module _ (P : Deed → Type 0)
+      (acts : (daemon : Daemon) (asked : Act) (told : Heard) → Fits asked told → P (Gives daemon asked) × P (Hears daemon asked told))
+      (refreshes : P Refreshes) (enters : (e : Entry) → P (Enters e)) (starts : (daemon : Daemon) → P (Starts daemon)) (kills : (daemon : Daemon) → P (Kills daemon)) where
+    one_all : (deed : Deed) (deeds : List Deed) → deeds ≡ deed ∷ [] → P deed → All P deeds
+    one_all deed deeds is so = subst (λ (ds : List Deed). All P ds) (sym is) (All-cons P deed [] so (All-nil P))
+
+    part_all : (given : Given) (line : Line) (deeds : List Deed) → IsPartOf quiet given line deeds → All P deeds
+    part_all given (Event actor asked seed) deeds is = one_all (Enters (entry_of actor asked is.0)) deeds is.1 (enters (entry_of actor asked is.0))
+    part_all given (Start daemon) deeds is = one_all (Starts daemon) deeds is (starts daemon)
+    part_all given (Kill daemon) deeds is = one_all (Kills daemon) deeds is (kills daemon)
+    part_all given (Step daemon) deeds is = step_all quiet P acts refreshes (λ caller told number. enters (entry_of (Caller caller) Resume told)) daemon (given_of daemon given) deeds is
+    part_all given Settle deeds is = settle_all quiet P acts refreshes (λ caller told number. enters (entry_of (Caller caller) Resume told)) given deeds is
+
+    pub follows_all : (given : Given) (lines : List Line) (deeds : List Deed) → Follows quiet given lines deeds → All P deeds
+    follows_all given [] deeds is = subst (λ (ds : List Deed). All P ds) (sym is) (All-nil P)
+    follows_all given (line ∷ lines) deeds is = subst (λ (ds : List Deed). All P ds) (sym is.2) (All-append P is.0 is.1 (part_all given line is.0 is.3) (follows_all (given_behind is.0 given) lines is.1 is.4))
+
+  pub follows_whole : (lines : List Line) (deeds : List Deed) → history.FollowsWhole quiet lines deeds
+  follows_whole lines deeds given is = follows_all history.IsWhole (λ daemon asked told fits. (tt, tt)) tt (λ e. tt) (λ daemon. tt) (λ daemon. tt) given lines deeds is

@@ -1,0 +1,12 @@
+pub mod Lists
+pub mod Living
+pub mod Along
+pub mod Finding
+pub mod Walking
+pub mod Answering
+pub mod Leading
+pub mod Giving
+pub mod Following
+pub mod Running
+pub mod Faulting
+mod Examples

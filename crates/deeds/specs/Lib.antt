@@ -1,0 +1,9 @@
+pub mod Deeds
+pub mod Lives
+pub mod Standing
+pub mod Answers
+pub mod Leads
+pub mod Given
+pub mod Parts
+pub mod History
+pub mod Faults

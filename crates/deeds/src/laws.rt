@@ -1,0 +1,90 @@
+//! Laws over all deeds, each the contract of a function that does nothing. A caller gets the law by a call.
+ghost use Rattle.std.specs.Prelude.{ℕ, List, Bool};
+ghost use Rattle.hsm_types.specs.declared.daemons.Act.{Act};
+ghost use Rattle.hsm_types.specs.declared.daemons.Daemon.{Daemon};
+ghost use Rattle.hsm_types.specs.declared.daemons.Heard.{Heard};
+ghost use Rattle.plain_model.specs.declared.entries.Entry.{Entry};
+ghost use Rattle.script_text.specs.declared.lines.Line.{Line};
+ghost use Rattle.deeds.specs.Answers.{OnceAnswered, HearsLast};
+ghost use Rattle.deeds.specs.Deeds.{Deed};
+ghost use Rattle.deeds.specs.Faults.{HeardApart, AddsHeard, AddsBoth};
+ghost use Rattle.deeds.specs.Given.{Given, GivenExactly};
+ghost use Rattle.deeds.specs.History.{FollowsSo, FollowsWhole};
+ghost use Rattle.deeds.specs.Leads.{LeadsOn, LeadsThrough, ServedOnce};
+ghost use Rattle.deeds.specs.Lives.{Move, MovesAreDeeds};
+ghost use Rattle.deeds.specs.Parts.{FollowsOn, RunsByLines};
+ghost use Rattle.deeds.specs.Standing.{Knowing, StandsExactly};
+
+use crate::machines::Machine;
+
+/// Each move in the life of a daemon is that of one deed, with those before and behind it.
+pub fn moves_are_deeds()
+    ensures { (daemon : Daemon) (deeds : List Deed) → MovesAreDeeds daemon deeds }
+{}
+
+/// In each life of a daemon an answer is one to the act that was given last, and of each act there is one at most. What is heard next is the last that was
+/// told.
+pub fn once_answered<M: Machine>()
+    ensures once { (moves : List Move) → OnceAnswered M.workings moves }
+    ensures last { (moves : List Move) → HearsLast M.workings moves }
+{}
+
+/// So it is of either daemon in deeds by which both are served.
+pub fn served_once<R: Machine, M: Machine>()
+    ensures { (daemon : Daemon) (deeds : List Deed) → ServedOnce R.workings M.workings daemon deeds }
+{}
+
+/// What a daemon knows behind its moves is a fold over them, where its machine's knowledge goes on so with each step.
+pub fn stands_exactly<M: Machine, K>()
+    ensures { (view : M → K) (known : Knowing K) (moves : List Move) → StandsExactly M.workings view known moves }
+{}
+
+/// Which act each daemon gave last is told by deeds alone.
+pub fn given_exactly<R: Machine, M: Machine>()
+    ensures { (deeds : List Deed) → GivenExactly R.workings M.workings deeds }
+{}
+
+/// What holds behind deeds holds behind those that are done next.
+pub fn leads_on<R: Machine, M: Machine>()
+    ensures { (deeds more : List Deed) → LeadsOn R.workings M.workings deeds more }
+{}
+
+/// Deeds lead through what is behind the first of them.
+pub fn leads_through<R: Machine, M: Machine>()
+    ensures { (first rest : List Deed) → LeadsThrough R.workings M.workings first rest }
+{}
+
+/// Deeds that follow lines, and behind them deeds that follow more, follow all of these.
+pub fn follows_on()
+    ensures { (quiet : Entry → Bool) (given : Given) (lines more : List Line) → FollowsOn quiet given lines more }
+{}
+
+/// Where deeds follow the lines the history does.
+pub fn follows_so()
+    ensures { (quiet : Entry → Bool) (lines : List Line) (deeds : List Deed) → FollowsSo quiet lines deeds }
+{}
+
+/// In deeds that follow lines no call is broken, and nothing is lost.
+pub fn follows_whole()
+    ensures { (quiet : Entry → Bool) (lines : List Line) (deeds : List Deed) → FollowsWhole quiet lines deeds }
+{}
+
+/// Which daemons run behind deeds that follow lines is told by the lines alone.
+pub fn runs_by_lines()
+    ensures { (quiet : Entry → Bool) (daemon : Daemon) (lines : List Line) → RunsByLines quiet daemon lines }
+{}
+
+/// Where deeds add their faults so, from the first on, those that were heard are apart.
+pub fn faults_apart()
+    ensures { (drives : ℕ) (deeds : List Deed) → HeardApart drives deeds }
+{}
+
+/// What is heard of an act on drives adds its fault so.
+pub fn fault_added()
+    ensures { (drives : ℕ) (daemon : Daemon) (asked : Act) (told : Heard) → AddsHeard drives daemon asked told }
+{}
+
+/// Deeds behind others add their faults and those.
+pub fn faults_added()
+    ensures { (drives : ℕ) (deeds more : List Deed) → AddsBoth drives deeds more }
+{}
