@@ -1,5 +1,6 @@
 -- The free blocks of two maps.
-use Rattle.std.proofs.Common.{◌≡◌, ℕ, zero, suc, ◌+◌, ◌<◌, List, [], ◌∷◌, length, get_or, set, Bool, true, false, ◌||◌, eqb, ⊎_elim, refl, sym, ap, ◌∙◌, arith, get_or-set_other}
+use Rattle.std.proofs.Common.{◌≡◌, ℕ, zero, suc, ◌+◌, ◌<◌, List, [], ◌∷◌, length, get_or, set, Bool, true, false, ◌||◌, eqb, ⊎_elim, refl, sym, ap}
+use Rattle.std.proofs.Common.{◌∙◌, arith, get_or-set_other}
 use Rattle.std.specs.Prelude.{replicate}
 use Rattle.std.proofs.lemmas.Bool.{cond_both, false≢true, eqb-true, or_parts, eq-eqb, or_cases, or_left, or_right}
 use Rattle.plain_model.specs.Distinct.{Distinct}

@@ -7,8 +7,10 @@ use Rattle.std.proofs.lemmas.Bool.{false≢true, false_from_ne_true}
 use Rattle.std.proofs.lemmas.List.{get_or-replicate, get_or_default, length-replicate}
 use Rattle.std.proofs.lemmas.List.Elements.{All-take, All-weaker}
 use Rattle.block_space.specs.Space.{Space, marked, free}
-use Rattle.block_space.specs.Laws.{IsFree, OthersAreFree, TakenAreFree, ListedAreFree, MarksAreMembers, MarksForgetOrder, MarksJoin, TakeAddsOthers, ReleaseLeavesOthers, ReleaseLeaves, ReleaseUndoesTake}
-use Rattle.block_space.proofs.Members.{has, All-has, All-from_has, Distinct-apart, Distinct-without, Distinct-append, Ascend-take, Distinct-from_Ascend, Increasing-from_Ascend}
+use Rattle.block_space.specs.Laws.{IsFree, OthersAreFree, TakenAreFree, ListedAreFree, MarksAreMembers, MarksForgetOrder, MarksJoin, TakeAddsOthers}
+use Rattle.block_space.specs.Laws.{ReleaseLeavesOthers, ReleaseLeaves, ReleaseUndoesTake}
+use Rattle.block_space.proofs.Members.{has, All-has, All-from_has, Distinct-apart, Distinct-without, Distinct-append, Ascend-take}
+use Rattle.block_space.proofs.Members.{Distinct-from_Ascend, Increasing-from_Ascend}
 use Rattle.block_space.proofs.Marks.{length-marked, get_or-marked, marked-append, marked_same, release_marked, unmarked_others, unmarked-marked}
 use Rattle.block_space.proofs.Frees.{Ascend-free_in, unused, listed, count-marked, count-unused}
 

@@ -1,7 +1,8 @@
 //! Laws on the blocks that are used and free, each the contract of a function that does nothing. A caller gets the law by a call.
 ghost use Rattle.std.specs.Prelude.{ℕ, List, Bool};
 ghost use Rattle.block_space.specs.Space.{Space};
-ghost use Rattle.block_space.specs.Laws.{OthersAreFree, ListedAreFree, TakenAreFree, MarksAreMembers, MarksForgetOrder, MarksJoin, TakeAddsOthers, ReleaseLeavesOthers, ReleaseLeaves, ReleaseUndoesTake};
+ghost use Rattle.block_space.specs.Laws.{OthersAreFree, ListedAreFree, TakenAreFree, MarksAreMembers, MarksForgetOrder, MarksJoin, TakeAddsOthers};
+ghost use Rattle.block_space.specs.Laws.{ReleaseLeavesOthers, ReleaseLeaves, ReleaseUndoesTake};
 
 /// Where both maps use just these blocks, as many are free as are left of the total.
 pub fn others_are_free()

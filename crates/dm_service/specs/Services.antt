@@ -1,6 +1,7 @@
 -- Calls of sessions that ask for sessions, dispositions, messages and tokens alone.
 use Rattle.std.specs.Prelude.{◌≡◌, ℕ, List, [], ◌∷◌, Bool, true, false, not, ◌&&◌, if◌then◌else◌, is_some, Option, Some, None, Result, Ok, Err}
 use Rattle.std.specs.Prelude.{MatchOption, MatchResult, IfOk, OnOk, OnErr}
+use Rattle.hsm_types.specs.Limits.{first_limits}
 use Rattle.hsm_types.specs.Messages.{is_lawful}
 use Rattle.hsm_types.specs.Sessions.{SessionTable, lives, dead_session}
 use Rattle.hsm_types.specs.declared.keys.Sid.{Sid}
@@ -75,7 +76,7 @@ asks_rights call = false
 
 -- they are the same in every store
 abbrev pub any_superblock : Superblock
-any_superblock = record { geometry = record { files = 0; blocks = 0; attributes = 0; stubs = 0 }; fsid = 0 }
+any_superblock = record { geometry = record { files = 0; blocks = 0; attributes = 0; stubs = 0; limits = first_limits }; fsid = 0 }
 
 -- ---- how they are served
 

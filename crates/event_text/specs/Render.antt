@@ -40,9 +40,12 @@ use Rattle.plain_model.specs.declared.entries.Action.TheVariants.{Issue, Resume,
 use Rattle.plain_model.specs.declared.entries.Answer.{Answer}
 use Rattle.plain_model.specs.declared.entries.Answer.TheVariants.{Call as Replied, Dm as Told}
 
--- the number of bytes and their digest
+-- a number of bytes and their digest
+abbrev pub sum_text : ℕ → List ℕ → List ℕ
+sum_text len digest = codes "n=" ++ decimal len ++ codes " sha=" ++ encode_lower digest
+
 abbrev pub digest_text : List ℕ → List ℕ
-digest_text bytes = codes "n=" ++ decimal (length bytes) ++ codes " sha=" ++ encode_lower (sha256 bytes)
+digest_text bytes = sum_text (length bytes) (sha256 bytes)
 
 -- data: `-` for no bytes, hex for up to 32, else their number and their digest
 abbrev pub data_text : List ℕ → List ℕ

@@ -9,6 +9,7 @@ use crate::pieces::{
     right_text,
 };
 use call_forms::{PartRef, call_parts, call_verb, dm_parts, dm_verb};
+use hsm_types::Verified;
 use plain_model::{Action, Actor};
 use std::alloc::{AllocError, Global};
 
@@ -19,6 +20,15 @@ pub trait Spelling {
 
     /// Writes data behind what there is.
     fn push_data(&self, alloc: Global, out: &mut Vec<u8>, bytes: &[u8]) -> Result<(), AllocError>
+        ensures { OnOk result (out.new.items ≡ out.old.items ++ word self.now bytes.now) };
+
+    /// Writes data that have their fingerprint with them, by which they needn't be read for their digest.
+    fn push_verified(
+        &self,
+        alloc: Global,
+        out: &mut Vec<u8>,
+        bytes: &Verified,
+    ) -> Result<(), AllocError>
         ensures { OnOk result (out.new.items ≡ out.old.items ++ word self.now bytes.now) };
 }
 
@@ -129,6 +139,6 @@ fn push_part<S: Spelling>(
         PartRef::Right(right) => push(out, right_text(right)),
         PartRef::Digest(digest) => push_hex(alloc, out, &digest.0),
         PartRef::Data(bytes) => spelling.push_data(alloc, out, bytes.as_slice()),
-        PartRef::Verified(bytes) => spelling.push_data(alloc, out, bytes.as_slice()),
+        PartRef::Verified(bytes) => spelling.push_verified(alloc, out, bytes),
     }
 }

@@ -1,11 +1,11 @@
 //! The text of a history.
 ghost use Rattle.std.specs.Prelude.{◌≡◌, ◌++◌, IfOk, OnOk};
-ghost use Rattle.event_text.specs.Render.{spaced, data_text, digest_text, answer_words, entry_text, text_of};
+ghost use Rattle.event_text.specs.Render.{spaced, data_text, sum_text, answer_words, entry_text, text_of};
 
 use crate::actions::{Spelling, push_event};
 use crate::answers::push_answer;
 use crate::pieces::{HEX_BYTES, push, push_hex, push_number};
-use hsm_types::Bytes;
+use hsm_types::{Bytes, Verified};
 use plain_model::Entry;
 use sha2::{Digest, Sha256};
 use std::alloc::{AllocError, Global};
@@ -39,6 +39,24 @@ impl Spelling for Digested {
     fn push_data(&self, alloc: Global, out: &mut Vec<u8>, bytes: &[u8]) -> Result<(), AllocError> {
         push_data(alloc, out, bytes)
     }
+
+    fn push_verified(
+        &self,
+        alloc: Global,
+        out: &mut Vec<u8>,
+        bytes: &Verified,
+    ) -> Result<(), AllocError> {
+        let slice = bytes.as_slice();
+        if slice.len() <= HEX_BYTES {
+            return push_data(alloc, out, slice);
+        }
+        push_digest(
+            alloc,
+            out,
+            slice.len() as u64,
+            &bytes.fingerprint().digest.0,
+        )
+    }
 }
 
 pub(crate) fn push_data(alloc: Global, out: &mut Vec<u8>, bytes: &[u8]) -> Result<(), AllocError>
@@ -50,15 +68,19 @@ pub(crate) fn push_data(alloc: Global, out: &mut Vec<u8>, bytes: &[u8]) -> Resul
     if bytes.len() <= HEX_BYTES {
         return push_hex(alloc, out, bytes);
     }
-    push_digest(alloc, out, bytes)
+    push_digest(alloc, out, bytes.len() as u64, &Sha256::digest(bytes))
 }
 
-fn push_digest(alloc: Global, out: &mut Vec<u8>, bytes: &[u8]) -> Result<(), AllocError>
-    ensures { OnOk result (out.new.items ≡ out.old.items ++ digest_text bytes.now) }
+fn push_digest(
+    alloc: Global,
+    out: &mut Vec<u8>,
+    len: u64,
+    digest: &[u8; 32],
+) -> Result<(), AllocError>
+    ensures { OnOk result (out.new.items ≡ out.old.items ++ sum_text len digest.now) }
 {
     push(out, b"n=")?;
-    push_number(alloc, out, bytes.len() as u64)?;
+    push_number(alloc, out, len)?;
     push(out, b" sha=")?;
-    let digest = Sha256::digest(bytes);
-    push_hex(alloc, out, &digest)
+    push_hex(alloc, out, digest)
 }

@@ -1,10 +1,14 @@
 -- Segments, and the bytes that they are one after the other.
-use Rattle.std.proofs.Common.{◌≡◌, ℕ, min, ◌⊎◌, inl, inr, length-take, zero, suc, ◌+◌, ◌-◌, ◌*◌, ◌/◌, ◌%◌, ◌<◌, ◌≤◌, List, [], ◌∷◌, ◌++◌, length, take, drop, set, get_or, ⊎_elim, refl, sym, ◌∙◌, ap, arith, rules, add-one, append_assoc, length-append, length-set, length-take-le, get_or-set_same, get_or-set_other}
+use Rattle.std.proofs.Common.{◌≡◌, ℕ, min, ◌⊎◌, inl, inr, length-take, zero, suc, ◌+◌, ◌-◌, ◌*◌, ◌/◌, ◌%◌, ◌<◌, ◌≤◌, List, [], ◌∷◌, ◌++◌, length}
+use Rattle.std.proofs.Common.{take, drop, set, get_or, ⊎_elim, refl, sym, ◌∙◌, ap, arith, rules, add-one, append_assoc, length-append, length-set}
+use Rattle.std.proofs.Common.{length-take-le, get_or-set_same, get_or-set_other}
 use Rattle.std.specs.Prelude.{replicate}
 use Rattle.std.specs.List.{concat}
 use Rattle.std.proofs.Math.Nat.{mul-le-mul_right}
 use Rattle.std.proofs.lemmas.Bool.{cases_lt, cases_eq}
-use Rattle.std.proofs.lemmas.List.{same_lists, places, take-append-drop, append-nil, drop_more, take_more, drop_all, take_all, take-take, set_split, set_past, get_or-take, get_or_append_left, get_or-append_right, get_or_default, length-drop, get_or_push, length-replicate, replicate-append-replicate, nil_from_length}
+use Rattle.std.proofs.lemmas.List.{same_lists, places, take-append-drop, append-nil, drop_more, take_more, drop_all, take_all, take-take, set_split}
+use Rattle.std.proofs.lemmas.List.{set_past, get_or-take, get_or_append_left, get_or-append_right, get_or_default, length-drop, get_or_push}
+use Rattle.std.proofs.lemmas.List.{length-replicate, replicate-append-replicate, nil_from_length}
 use Rattle.hsm_types.specs.Limits.{segment_bytes}
 use Rattle.plain_model.specs.Plain.{written}
 use Rattle.file_body.specs.Segments.{IsCut}

@@ -1,5 +1,6 @@
 //! The bytes of one file.
-ghost use Rattle.std.specs.Prelude.{◌≡◌, ℕ, ◌+◌, ◌-◌, ◌*◌, ◌/◌, ◌%◌, ◌^◌, ◌≤◌, ◌<◌, ◌++◌, ◌&&◌, ◌||◌, ◌↔◌, true, false, nat_lt, nat_le, min, length, take, drop, replicate, IfOk, IfSome, IsSome, OnOk, OnErr, IsOk};
+ghost use Rattle.std.specs.Prelude.{◌≡◌, ℕ, ◌+◌, ◌-◌, ◌*◌, ◌/◌, ◌%◌, ◌^◌, ◌≤◌, ◌<◌, ◌++◌, ◌&&◌, ◌||◌, ◌↔◌, true, false, nat_lt, nat_le, min, length};
+ghost use Rattle.std.specs.Prelude.{take, drop, replicate, IfOk, IfSome, IsSome, OnOk, OnErr, IsOk};
 ghost use Rattle.hsm_types.specs.Limits.{segment_bytes};
 ghost use Rattle.plain_model.specs.Plain.{read_at, segment as segment_of, written, resized};
 ghost use Rattle.file_body.specs.BodyBlocks.{block_of};

@@ -1,5 +1,6 @@
 //! The bytes of segments, one after the other. All but the last segment are full, and none is empty.
-ghost use Rattle.std.specs.Prelude.{◌≡◌, ℕ, ◌+◌, ◌-◌, ◌*◌, ◌/◌, ◌%◌, ◌^◌, ◌<◌, ◌≤◌, ◌++◌, ◌&&◌, ◌||◌, ◌↔◌, true, false, nat_lt, nat_le, min, length, take, drop, replicate, slice_set, slice_index_or, IfOk, IfSome, IsSome, IsOk, OnOk, OnErr, [], vec_len};
+ghost use Rattle.std.specs.Prelude.{◌≡◌, ℕ, ◌+◌, ◌-◌, ◌*◌, ◌/◌, ◌%◌, ◌^◌, ◌<◌, ◌≤◌, ◌++◌, ◌&&◌, ◌||◌, ◌↔◌, true, false, nat_lt, nat_le, min, length};
+ghost use Rattle.std.specs.Prelude.{take, drop, replicate, slice_set, slice_index_or, IfOk, IfSome, IsSome, IsOk, OnOk, OnErr, [], vec_len};
 ghost use Rattle.std.specs.List.{concat};
 ghost use Rattle.plain_model.specs.Plain.{written};
 ghost use Rattle.file_body.specs.BodyBlocks.{block_of};

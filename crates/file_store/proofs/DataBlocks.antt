@@ -143,7 +143,7 @@ module _ (old new : List ℕ) (c : Catalog) (stays : (p : ℕ) → list_any (λ 
       → AllByRecursion (λ m. part new (block_bytes * m.place) block_bytes ≡ block_of (rebody (effect_of change) body) m.block) ms
       → held_at new (with_changed k (remapped change (length body) ms) c) ≡ record (held_at old c) { files = affected_held (effect_of change) k (held_at old c).files }
   held-changed change k ms f body lawful whole may within found was blocks there =
-      let is : IsCatalogFile (geometry_of c.geometry).blocks f = grind (arith, each-found) in
+      let is : IsCatalogFile (geometry_of c.geometry) f = grind (arith, each-found) in
       let each : AllByRecursion (Whole old) (present f.places) = grind (arith, each-weaker, Whole) in
       let kept : AllByRecursion (Stays old new) (present f.places) = grind (arith, each-found, each-stays) in
       let long : f.size ≡ length body = grind (arith, length-body) in

@@ -6,7 +6,7 @@ use Rattle.file_store.proofs.Names.{length-map, FileKey, find_key, change_key, p
 use Rattle.file_store.proofs.Names.{Held, used, used_by, next_key, affected_held, CatalogFile, Catalog, IsCatalog, geometry_of, present, blocks_of}
 use Rattle.file_store.proofs.Names.{names_in, kept_at, others_total, key_on, with_changed, IsNewFile, total-drop, used-sum, name_of, each-found}
 use Rattle.file_store.proofs.Names.{files-few, blocks-few, file_by, told_of, told_held, Shows, IsLawful, Make, held_after, sum-map, Within, Makes}
-use Rattle.file_store.proofs.Names.{entry_of, next_listed, free-ge, free-le, free-absent}
+use Rattle.file_store.proofs.Names.{entry_of, next_listed, free-ge, free-le, free-absent, Geometry}
 use Rattle.std.proofs.lemmas.Simd.{map-map}
 use Rattle.plain_model.specs.Services.{kept_of, other_attributes}
 use Rattle.plain_model.specs.State.{names_of}
@@ -105,16 +105,16 @@ module _ (B : CatalogFile → List ℕ) where
   pub shows : (c : Catalog) → AllByRecursion (λ f. length (B f) ≡ f.size) c.files → Shows c (held_by B c)
   shows c sizes = grind (arith, next-held, names-held, told-found, each-found, option_map, find-held, rows, rows-held, used-held)
 
-  stubbed : (blocks : ℕ) (f : CatalogFile) → IsCatalogFile blocks f → HasLengths f → length (B f) ≡ f.size → IsStubbed (file_by B f)
-  stubbed blocks f is has size = grind (arith, each-both)
+  stubbed : (geometry : Geometry) (f : CatalogFile) → IsCatalogFile geometry f → HasLengths f → length (B f) ≡ f.size → IsStubbed (file_by B f)
+  stubbed geometry f is has size = grind (arith, each-both)
 
-  all-stubbed : (blocks : ℕ) (fs : List CatalogFile) → AllByRecursion (IsCatalogFile blocks) fs → AllByRecursion HasLengths fs → AllByRecursion (λ f. length (B f) ≡ f.size) fs → AllByRecursion IsStubbed (map (file_by B) fs)
-  all-stubbed blocks [] are has sizes = tt
-  all-stubbed blocks (f ∷ fs) are has sizes = (stubbed blocks f are.0 has.0 sizes.0, all-stubbed blocks fs are.1 has.1 sizes.1)
+  all-stubbed : (geometry : Geometry) (fs : List CatalogFile) → AllByRecursion (IsCatalogFile geometry) fs → AllByRecursion HasLengths fs → AllByRecursion (λ f. length (B f) ≡ f.size) fs → AllByRecursion IsStubbed (map (file_by B) fs)
+  all-stubbed geometry [] are has sizes = tt
+  all-stubbed geometry (f ∷ fs) are has sizes = (stubbed geometry f are.0 has.0 sizes.0, all-stubbed geometry fs are.1 has.1 sizes.1)
 
   stubs-held : (c : Catalog) → IsCatalog c → AreLengths c → AllByRecursion (λ f. length (B f) ≡ f.size) c.files → AllByRecursion IsStubbed (held_by B c).files
   unfolding held_by
-  stubs-held c is has sizes = all-stubbed (geometry_of c.geometry).blocks c.files is.each has sizes
+  stubs-held c is has sizes = all-stubbed (geometry_of c.geometry) c.files is.each has sizes
 
   pub held_lawful : (c : Catalog) → IsCatalog c → AreLengths c → AllByRecursion (λ f. length (B f) ≡ f.size) c.files → IsLawful (geometry_of c.geometry).files (held_by B c)
   held_lawful c is has sizes = grind (arith, names-held, next-held, greatest-below, length-held, files-few, stubs-held)

@@ -3,7 +3,7 @@ use Rattle.file_store.proofs.Names.{Bool, false, if◌then◌else◌, replicate,
 use Rattle.file_store.proofs.Names.{◌<◌, ◌≤◌, List, [], length, get_or, take, Option, Some, None, sym, ◌∙◌, ap, subst, arith, zero, suc, ◌∷◌, ◌++◌}
 use Rattle.file_store.proofs.Names.{map, set, get_or-set_same, get_or-set_other, AllByRecursion, cases_lt, cases_eq, places, length-replicate, min}
 use Rattle.file_store.proofs.Names.{get_or-replicate, get_or-take, take_more, length-map, written, blocks_in, part, layout_of, geometry_of, present}
-use Rattle.file_store.proofs.Names.{CatalogFile, Catalog, IsCatalog, IsCatalogFile, names_of, blocks_in_image, OnlyReads, block_at, body_at}
+use Rattle.file_store.proofs.Names.{Geometry, CatalogFile, Catalog, IsCatalog, IsCatalogFile, names_of, blocks_in_image, OnlyReads, block_at, body_at}
 use Rattle.file_store.proofs.Names.{body_with, HeldBody, is_away, slice_get_within, get_or_from_slice_get, Table, entry_of, Ghosts}
 use Rattle.std.specs.List.{slice_get}
 use Rattle.std.specs.Prelude.{◌==◌, ◌&&◌, nat_lt, IfSome}
@@ -66,8 +66,8 @@ all-filled geometry size c ps body whole within count long has =
 -- ---- entries
 
 -- the segments of a lawful file's entries begin within it
-pub stub-starts : (blocks : ℕ) (f : CatalogFile) → IsCatalogFile blocks f → AllByRecursion (λ x. segment_bytes * x.0 < f.size) f.kept.stubs
-stub-starts blocks f is = grind (arith, each-weaker)
+pub stub-starts : (geometry : Geometry) (f : CatalogFile) → IsCatalogFile geometry f → AllByRecursion (λ x. segment_bytes * x.0 < f.size) f.kept.stubs
+stub-starts geometry f is = grind (arith, each-weaker)
 
 pub offline-some : (o : Option StubOf) → is_offline o ≡ true → (stub : StubOf) × (o ≡ Some stub) × (stub.offline ≡ true)
 offline-some None off = absurd (false≢true off)
@@ -102,8 +102,8 @@ within-all true j size starts = lt-ltb (segment_bytes * j) size (starts refl)
 within-all false j size starts = refl
 
 -- and those that are offline have no blocks
-pub offline-holes : (blocks : ℕ) (f : CatalogFile) → IsCatalogFile blocks f → (i : ℕ) → offline_at f.kept.stubs (i / segment_blocks) ≡ true → get_or f.places i None ≡ None
-offline-holes blocks f is i off =
+pub offline-holes : (geometry : Geometry) (f : CatalogFile) → IsCatalogFile geometry f → (i : ℕ) → offline_at f.kept.stubs (i / segment_blocks) ≡ true → get_or f.places i None ≡ None
+offline-holes geometry f is i off =
     let at = offline-some (stub_at (i / segment_blocks) f.kept.stubs) off in
     away-at segment_blocks (segment_blocks * (i / segment_blocks)) f.places ((stub-each (IsCatalogStub f) f.kept.stubs (i / segment_blocks) at.0 is.stubs at.1).away at.2) i (omega arith) (omega arith)
 
@@ -130,7 +130,7 @@ pub record IsNext (c : Catalog) (i : ℕ) (f : CatalogFile) : Type 0 where
   pub low : 1 ≤ f.key.ino
   pub high : f.key.ino ≤ (geometry_of c.geometry).files
   pub before : AreBelow f.key.ino (take i c.files)
-  pub lawful : IsCatalogFile (geometry_of c.geometry).blocks f
+  pub lawful : IsCatalogFile (geometry_of c.geometry) f
   pub more : take (i + 1) c.files ≡ take i c.files ++ f ∷ []
 
 pub next-file : (c : Catalog) (i : ℕ) (f : CatalogFile) → IsCatalog c → slice_get c.files i ≡ Some f → IsNext c i f

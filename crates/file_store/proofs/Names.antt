@@ -22,7 +22,7 @@ pub use Rattle.file_body.specs.HeldBodies.{HeldBody, no_body, is_away, AreZeros}
 pub use Rattle.file_store.specs.Bodies.{held_at, block_of, block_at, body_at, bytes_at, held_with, file_by, body_with, bytes_with, IsHere, IsBody, IsAlike, AreBodies}
 pub use Rattle.file_store.specs.Effects.{held_after, IsBodiless, empties}
 pub use Rattle.file_store.specs.HeldFiles.{IsHeldFiles}
-pub use Rattle.file_store.specs.Rewrites.{new_size, touched_of, grown, places_for, mappings_of, effect_of, IsRewrite, remapped, places_under, freed_by, IsWithin, HasEntry, brings, BringsOffline, BringsAway, HasRoom, HasRange, spares, unseals, unsealing, IsHead, AreUnsealed, mappings_in, IsMapOn, IsRewriting}
+pub use Rattle.file_store.specs.Rewrites.{new_size, touched_of, grown, places_for, mappings_of, effect_of, IsRewrite, IsAllowedBy, remapped, places_under, freed_by, IsWithin, HasEntry, brings, BringsOffline, BringsAway, HasRoom, HasRange, spares, unseals, unsealing, IsHead, AreUnsealed, mappings_in, IsMapOn, IsRewriting}
 pub use Rattle.file_store.specs.Steps.{IsStaged, IsBesideBlocks, places_of, HasBlocks, OnlyReads}
 pub use Rattle.file_store.specs.Stores.{Store, IsDurable, IsEither, Proceeds, IsLive, IsSound, marks_of, told_of, told_held, Shows, IsLawful}
 pub use Rattle.file_store.specs.declared.rewrites.Rewrite.{Rewrite}
@@ -37,7 +37,9 @@ pub use Rattle.meta_store.proofs.FileEdits.{map-find, map-put, map-drop, each-dr
 pub use Rattle.meta_store.proofs.FoundFiles.{each-found, key-found}
 pub use Rattle.meta_store.proofs.KeptCatalogs.{empty_file}
 pub use Rattle.meta_store.proofs.MappedPlaces.{length-fitted, length-places_set, present-fitted, uses-fitted, uses-mapped}
-pub use Rattle.meta_store.proofs.SnapshotFits.{files-few, blocks-few, blocks-within, geometry-bounded}
+pub use Rattle.meta_store.proofs.SnapshotFits.{files-few, blocks-few, blocks-within, geometry-bounded, limits_countable, size-few}
+pub use Rattle.hsm_types.specs.declared.stores.Geometry.{Geometry}
+pub use Rattle.hsm_types.specs.declared.stores.Limits.{Limits}
 pub use Rattle.meta_store.specs.Catalogs.{Catalog, geometry_of, blocks_of, IsCatalog, present, CatalogFile, IsCatalogFile, names_of as names_in, names_of}
 pub use Rattle.meta_store.specs.Images.{IsImage, blocks_in_image, Recovers}
 pub use Rattle.meta_store.specs.Meta.{Meta, Backs, IsMeta, StoresOrKeeps, HasStored, IsStoredNow}

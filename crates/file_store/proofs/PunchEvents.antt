@@ -91,7 +91,7 @@ pub ready : {D : Type 0} (g : Ghosts D) (p : Parts D) (k : FileKey) (from to : â
 ready g p k from to files sound working there start order end none =
     let at = live-held files k there in
     let own = is-body files at in
-    let file = each-found (IsCatalogFile (geometry_of p.meta.current.geometry).blocks) k at.file p.meta.current.files sound.meta.current.each at.found in
+    let file = each-found (IsCatalogFile (geometry_of p.meta.current.geometry)) k at.file p.meta.current.files sound.meta.current.each at.found in
     let size : length (bytes_of k (store_of p).held.files) â‰¡ at.file.size = grind (arith, body-held, own) in
     let last : from + (to - from) â‰¡ to = omega arith in
     record {
@@ -113,7 +113,7 @@ module _ {D : Type 0} {g : Ghosts D} {p : Parts D} {k : FileKey} {from to n : â„
   abbrev next : Catalog
   next = with_changed k (without_segments from n) p.meta.current
 
-  lawful_file : IsCatalogFile (geometry_of p.meta.current.geometry).blocks file
+  lawful_file : IsCatalogFile (geometry_of p.meta.current.geometry) file
   lawful_file = grind (arith, each-found)
 
   pub are_going : AreGoing k.ino k file.kept.stubs from n p.meta.current

@@ -73,7 +73,7 @@ held-punched B C k from to n c f found end becomes others = grind (arith, withou
 pub held_at-punched : (blocks : List ℕ) (k : FileKey) (from to n : ℕ) (c : Catalog) (f : CatalogFile) → IsCatalog c → ((p : ℕ) → p < (geometry_of c.geometry).blocks → Whole blocks p) → find_key (λ g. g.key) k c.files ≡ Some f → to ≡ from + n → segment_bytes * from ≤ f.size
     → held_at blocks (with_changed k (without_segments from n) c) ≡ record (held_at blocks c) { files = affected_held (Punches from to) k (held_at blocks c).files }
 held_at-punched blocks k from to n c f lawful whole found end start =
-    let is : IsCatalogFile (geometry_of c.geometry).blocks f = grind (arith, each-found) in
+    let is : IsCatalogFile (geometry_of c.geometry) f = grind (arith, each-found) in
     let each : AllByRecursion (Whole blocks) (present f.places) = grind (arith, each-weaker, Whole) in
     let body : List ℕ = bytes_at blocks f in
     let long : length body ≡ f.size = length-body blocks f.size f.places each is.places in

@@ -8,7 +8,7 @@ use Rattle.file_store.proofs.Names.{from_on, blocks_in, Mapping, Record, Map, pr
 use Rattle.file_store.proofs.Names.{places_set, file_after, with_changed, key_on, after, after_all, refusal_of_all, IsMappable, CanStandAll, IsEvent}
 use Rattle.file_store.proofs.Names.{mappings_of, mappings_in, IsMapOn, IsRewriting, places_under, freed_by, remapped, flat_map, list_any}
 use Rattle.file_store.proofs.Names.{AllByRecursion, FileKey, find_key, change_key, names_of-change, places_of, uses, uses-append, absent-unused}
-use Rattle.file_store.proofs.Names.{uses-distinct, length-fitted, length-places_set, uses-fitted, uses-mapped}
+use Rattle.file_store.proofs.Names.{uses-distinct, length-fitted, length-places_set, uses-fitted, uses-mapped, Geometry}
 use Rattle.std.proofs.lemmas.List.{append_assoc, append-nil}
 use Rattle.file_body.proofs.Runs.{length_blocks}
 use Rattle.file_store.proofs.EachOf.{each-parts, each-join, each-weaker, each_member}
@@ -20,7 +20,7 @@ use Rattle.std.specs.Prelude.{nat_le}
 use Rattle.std.proofs.lemmas.Bool.{le-leb, leb-true, eq-eqb}
 use Rattle.std.proofs.lemmas.List.Folds.{list_any-append}
 use Rattle.stub_map.specs.States.{NoneBetween}
-use Rattle.hsm_types.specs.Limits.{file_bytes, segment_blocks}
+use Rattle.hsm_types.specs.Limits.{segment_blocks}
 use Rattle.hsm_types.specs.Stubs.{Stubs, stub_at, offline_at, with_stub, without_stub, restored}
 use Rattle.hsm_types.specs.declared.stubs.Stub.{Stub as StubOf}
 use Rattle.meta_store.specs.Records.{IsStubbable}
@@ -151,16 +151,16 @@ reshaped change size f = record f { size = size_after (effect_of change) size; p
 fitted-same : (n : ℕ) (ps : List (Option ℕ)) → length ps ≡ blocks_in n → places_fitted n ps ≡ ps
 fitted-same n ps count = same_lists _ _ (search (rules, places)) (λ i d h. grind (arith, places))
 
-reshapes : (ino : ℕ) (change : Rewrite) (f : CatalogFile) (blocks : ℕ) → IsCatalogFile blocks f → (first : Record) (js : List ℕ) → IsHead ino change f.size f.kept.stubs first
+reshapes : (ino : ℕ) (change : Rewrite) (f : CatalogFile) (geometry : Geometry) → IsCatalogFile geometry f → (first : Record) (js : List ℕ) → IsHead ino change f.size f.kept.stubs first
     → AllByRecursion (λ j. unseals change f.size j ≡ true) js → ((j : ℕ) → unseals change f.size j ≡ true → is_some (stub_at j f.kept.stubs) ≡ true → list_any (λ s. eqb s j) js ≡ true)
     → unsealed_by js (file_after first f) ≡ reshaped change f.size f
-reshapes ino (Write offset bytes) f blocks lawful first js head only every =
-    let stubs = left-written f.size offset bytes.now js f.kept.stubs (stub-starts blocks f lawful) only every in
+reshapes ino (Write offset bytes) f geometry lawful first js head only every =
+    let stubs = left-written f.size offset bytes.now js f.kept.stubs (stub-starts geometry f lawful) only every in
     ap (λ (r : Record). unsealed_by js (file_after r f)) head ∙ ap (λ (s : Stubs). record (reshaped (Write offset bytes) f.size f) { kept = record f.kept { stubs = s } }) stubs
-reshapes ino (Resize to) f blocks lawful first js head only every =
-    let stubs = left-resized f.size to js f.kept.stubs (stub-starts blocks f lawful) only every in
+reshapes ino (Resize to) f geometry lawful first js head only every =
+    let stubs = left-resized f.size to js f.kept.stubs (stub-starts geometry f lawful) only every in
     ap (λ (r : Record). unsealed_by js (file_after r f)) head ∙ ap (λ (s : Stubs). record (reshaped (Resize to) f.size f) { kept = record f.kept { stubs = s } }) stubs
-reshapes ino (Restore segment bytes) f blocks lawful first js head only every =
+reshapes ino (Restore segment bytes) f geometry lawful first js head only every =
     let stubs : with_stub segment (record head.0 { offline = false }) f.kept.stubs ≡ restored segment f.kept.stubs = sym (moved-with segment head.0.offline (record head.0 { offline = false }) f.kept.stubs lawful.ascend head.1) in
     ap (λ (r : Record). unsealed_by js (file_after r f)) head.2
     ∙ ap (λ (ks : List ℕ). unsealed_by ks (file_after (Stub ino segment (Some (record head.0 { offline = false }))) f)) (none-unsealed js only)
@@ -177,7 +177,7 @@ keeps-name ino (Write offset bytes) size stubs first head x = rw head (refl, ref
 keeps-name ino (Resize to) size stubs first head x = rw head (refl, refl)
 keeps-name ino (Restore segment bytes) size stubs first head x = rw head.2 (refl, refl)
 
-module _ (ino : ℕ) (change : Rewrite) (ms : List Mapping) (rs : List Record) (c : Catalog) (f : CatalogFile) (found : find_key (λ x. x.key) (key_on ino c) c.files ≡ Some f) (lawful : IsCatalogFile (geometry_of c.geometry).blocks f)
+module _ (ino : ℕ) (change : Rewrite) (ms : List Mapping) (rs : List Record) (c : Catalog) (f : CatalogFile) (found : find_key (λ x. x.key) (key_on ino c) c.files ≡ Some f) (lawful : IsCatalogFile (geometry_of c.geometry) f)
     (is : IsRewriting ino change f.size f.kept.stubs ms rs) where
   abbrev k : FileKey
   k = key_on ino c
@@ -198,7 +198,7 @@ module _ (ino : ℕ) (change : Rewrite) (ms : List Mapping) (rs : List Record) (
   bare-is : with_changed k (unsealed_by is.segments) begun ≡ bare
   bare-is =
       changed-twice k (file_after is.first) (unsealed_by is.segments) (λ x. unsealed_by is.segments (file_after is.first x)) c (λ x. (name-kept x).0) (λ x. refl)
-      ∙ changed-found k (λ x. unsealed_by is.segments (file_after is.first x)) (reshaped change f.size) f c found (reshapes ino change f (geometry_of c.geometry).blocks lawful is.first is.segments is.head is.only is.every)
+      ∙ changed-found k (λ x. unsealed_by is.segments (file_after is.first x)) (reshaped change f.size) f c found (reshapes ino change f (geometry_of c.geometry) lawful is.first is.segments is.head is.only is.every)
 
   pub after_rewriting : after_all rs c ≡ with_changed k (remapped change f.size ms) c
   after_rewriting =
@@ -315,28 +315,28 @@ unseals-stand ino k (j ∷ js) rest c f found on here last =
     (each-weaker (λ i. offline_at f.kept.stubs i ≡ false) (λ i. offline_at (without_stub j f.kept.stubs) i ≡ false) (λ i. here-without j f.kept.stubs i) js here.1) (subst (CanStandAll rest) (sym twice) last) in
     ((f, rw on found, here.0), rw on more)
 
--- what has to be true of the file
-pub record MayChange (change : Rewrite) (f : CatalogFile) : Type 0 where
-  pub few : size_after (effect_of change) f.size ≤ file_bytes
+-- what has to be true of the file, which has at most so many bytes
+pub record MayChange (most : ℕ) (change : Rewrite) (f : CatalogFile) : Type 0 where
+  pub few : size_after (effect_of change) f.size ≤ most
   pub free : (j : ℕ) → unseals change f.size j ≡ true → offline_at f.kept.stubs j ≡ false
 
-restores-stand : (segment : ℕ) (stub : StubOf) (blocks : ℕ) (f : CatalogFile) → IsCatalogFile blocks f → stub_at segment f.kept.stubs ≡ Some stub → IsStubbable segment (record stub { offline = false }) f
-restores-stand segment stub blocks f lawful at = grind (arith, stub-each)
+restores-stand : (segment : ℕ) (stub : StubOf) (geometry : Geometry) (f : CatalogFile) → IsCatalogFile geometry f → stub_at segment f.kept.stubs ≡ Some stub → IsStubbable segment (record stub { offline = false }) f
+restores-stand segment stub geometry f lawful at = grind (arith, stub-each)
 
-first-stands : (ino : ℕ) (change : Rewrite) (f : CatalogFile) (first : Record) (c : Catalog) → find_key (λ x. x.key) (key_on ino c) c.files ≡ Some f → IsCatalogFile (geometry_of c.geometry).blocks f → MayChange change f → IsHead ino change f.size f.kept.stubs first → CanStand first c
+first-stands : (ino : ℕ) (change : Rewrite) (f : CatalogFile) (first : Record) (c : Catalog) → find_key (λ x. x.key) (key_on ino c) c.files ≡ Some f → IsCatalogFile (geometry_of c.geometry) f → MayChange (geometry_of c.geometry).limits.bytes change f → IsHead ino change f.size f.kept.stubs first → CanStand first c
 first-stands ino (Write offset bytes) f first c found lawful may head = rw head (f, found, may.few)
 first-stands ino (Resize to) f first c found lawful may head = rw head (f, found, may.few)
-first-stands ino (Restore segment bytes) f first c found lawful may head = rw head.2 (f, found, restores-stand segment head.0 (geometry_of c.geometry).blocks f lawful head.1)
+first-stands ino (Restore segment bytes) f first c found lawful may head = rw head.2 (f, found, restores-stand segment head.0 (geometry_of c.geometry) f lawful head.1)
 
 -- after the first record segments that were here are
-here-first : (ino : ℕ) (change : Rewrite) (f : CatalogFile) (first : Record) (js : List ℕ) → MayChange change f → IsHead ino change f.size f.kept.stubs first → AllByRecursion (λ j. unseals change f.size j ≡ true) js
+here-first : (ino most : ℕ) (change : Rewrite) (f : CatalogFile) (first : Record) (js : List ℕ) → MayChange most change f → IsHead ino change f.size f.kept.stubs first → AllByRecursion (λ j. unseals change f.size j ≡ true) js
     → AllByRecursion (λ j. offline_at (file_after first f).kept.stubs j ≡ false) js
-here-first ino (Write offset bytes) f first js may head only = grind (arith, each-weaker, here-below)
-here-first ino (Resize to) f first js may head only = grind (arith, each-weaker, here-below)
-here-first ino (Restore segment bytes) f first js may head only = subst (AllByRecursion (λ j. offline_at (file_after first f).kept.stubs j ≡ false)) (sym (none-unsealed js only)) tt
+here-first ino most (Write offset bytes) f first js may head only = grind (arith, each-weaker, here-below)
+here-first ino most (Resize to) f first js may head only = grind (arith, each-weaker, here-below)
+here-first ino most (Restore segment bytes) f first js may head only = subst (AllByRecursion (λ j. offline_at (file_after first f).kept.stubs j ≡ false)) (sym (none-unsealed js only)) tt
 
-module _ (ino : ℕ) (change : Rewrite) (ms : List Mapping) (rs : List Record) (c : Catalog) (f : CatalogFile) (found : find_key (λ x. x.key) (key_on ino c) c.files ≡ Some f) (lawful : IsCatalogFile (geometry_of c.geometry).blocks f)
-    (is : IsRewriting ino change f.size f.kept.stubs ms rs) (may : MayChange change f) where
+module _ (ino : ℕ) (change : Rewrite) (ms : List Mapping) (rs : List Record) (c : Catalog) (f : CatalogFile) (found : find_key (λ x. x.key) (key_on ino c) c.files ≡ Some f) (lawful : IsCatalogFile (geometry_of c.geometry) f)
+    (is : IsRewriting ino change f.size f.kept.stubs ms rs) (may : MayChange (geometry_of c.geometry).limits.bytes change f) where
   pub can_stand : Fit (rekept (effect_of change) f.size f.kept).stubs (blocks_in (size_after (effect_of change) f.size)) (geometry_of c.geometry).blocks ms → Once (places_of ms) (blocks_of c.files) → CanStandAll rs c
   can_stand fit once =
       let j : FileKey = key_on ino c in
@@ -349,6 +349,6 @@ module _ (ino : ℕ) (change : Rewrite) (ms : List Mapping) (rs : List Record) (
       let name = name-kept ino change ms rs c f found lawful is in
       let rest : CanStandAll (map (unsealing ino) is.segments ++ is.maps) (with_changed j (file_after is.first) c) =
       unseals-stand ino j is.segments is.maps (with_changed j (file_after is.first) c) (file_after is.first f) (find-changed j (file_after is.first) f c.files (λ x. (name x).0) found) (key_on-changed ino j (file_after is.first) c name)
-      (here-first ino change f is.first is.segments may is.head is.only) (subst (CanStandAll is.maps) (sym (bare-is ino change ms rs c f found lawful is)) maps) in
+      (here-first ino _ change f is.first is.segments may is.head is.only) (subst (CanStandAll is.maps) (sym (bare-is ino change ms rs c f found lawful is)) maps) in
       subst (λ (xs : List Record). CanStandAll xs c) (sym is.are)
       (first-stands ino change f is.first c found lawful may is.head, subst (CanStandAll (map (unsealing ino) is.segments ++ is.maps)) (sym (after-first ino change f.size f.kept.stubs is.first c is.head)) rest)

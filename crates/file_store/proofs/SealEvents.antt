@@ -1,7 +1,7 @@
 -- Sealing a segment of a live file: that its record can come; and of the bytes by which one comes back.
 use Rattle.file_store.proofs.Names.{arith, ◌≡◌, ◌+◌, ◌*◌, ◌<◌, ◌≤◌, ℕ, List, length, true, false, Some, refl, sym, ◌∙◌, ap, subst, IsSome, FileKey}
 use Rattle.file_store.proofs.Names.{find_key, bytes_of, Record, Stub, geometry_of, key_on, CanStand, Meta, IsMeta, IsHeldFiles, HeldBody, held_with}
-use Rattle.file_store.proofs.Names.{bytes_with, IsBodiless, Kept, each-found, IsCatalogFile}
+use Rattle.file_store.proofs.Names.{bytes_with, IsBodiless, Kept, each-found, IsCatalogFile, size-few}
 use Rattle.std.specs.Prelude.{IfSome}
 use Rattle.std.proofs.lemmas.Option.{same_Some}
 use Rattle.hsm_types.specs.Limits.{file_bytes, segment_bytes, last_volume}
@@ -57,8 +57,8 @@ pub comes_back : {bs : List HeldBody} {m : Meta} → IsHeldFiles bs m → IsMeta
 comes_back {bs} {m} is lawful k live j bytes off print start =
     let at = live-held is k live in
     let lengths = each-found HasLengths k at.file m.current.files lawful.stored.now at.found in
-    let file = each-found (IsCatalogFile (geometry_of m.current.geometry).blocks) k at.file m.current.files lawful.current.each at.found in
+    let file = each-found (IsCatalogFile (geometry_of m.current.geometry)) k at.file m.current.files lawful.current.each at.found in
     let kept = kept-found (bytes_with bs) m.current k at.file at.found in
     let size : length (bytes_of k (held_with bs m.current).files) ≡ at.file.size = ap length (body-held bs m.current k at.file at.found) ∙ (is-body is at).size in
     let long = of-length (stub_at j at.file.kept.stubs) bytes (segment_len at.file.size j) (rw kept at off) (rw kept at print) (entry-has (λ x. (entry_print x.1.entry).len ≡ segment_len at.file.size x.0) j at.file.kept.stubs lengths) in
-    restores-lawful at.file.size j (length bytes) long (rw size at start) file.size
+    restores-lawful at.file.size j (length bytes) long (rw size at start) (size-few m.current.geometry at.file file)

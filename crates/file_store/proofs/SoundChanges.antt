@@ -3,7 +3,7 @@ use Rattle.file_store.proofs.Names.{◌≡◌, ℕ, ◌+◌, ◌-◌, ◌*◌, �
 use Rattle.file_store.proofs.Names.{None, refl, sym, ◌∙◌, ap, subst, arith, ltb, AllByRecursion, false≢true, and_parts, ltb-true, and_from, Rewrite}
 use Rattle.file_store.proofs.Names.{Write, Resize, Restore, effect_of, unseals, IsRewrite, IsWithin, HasEntry, BringsOffline, BringsAway, HasRoom}
 use Rattle.file_store.proofs.Names.{HasRange, brings, spares, touched, rekept, remapped, Mapping, CatalogFile, IsCatalogFile, file_by, HeldBody}
-use Rattle.file_store.proofs.Names.{is_away, IsHere}
+use Rattle.file_store.proofs.Names.{is_away, IsHere, Geometry}
 use Rattle.std.specs.Prelude.{not, nat_lt, IfSome}
 use Rattle.std.specs.Option.{option_map}
 use Rattle.std.proofs.lemmas.Bool.Decides.{nat_tests}
@@ -31,8 +31,8 @@ pub record Allowed (change : Rewrite) (f : CatalogFile) : Type 0 where
   pub starts : (j : ℕ) → offline_at f.kept.stubs j ≡ true → segment_bytes * j < f.size
 
 -- a segment with an entry begins within the file
-offline-starts : (blocks : ℕ) (f : CatalogFile) → IsCatalogFile blocks f → (j : ℕ) → offline_at f.kept.stubs j ≡ true → segment_bytes * j < f.size
-offline-starts blocks f lawful j off = grind (arith, offline-some, stub-each)
+offline-starts : (geometry : Geometry) (f : CatalogFile) → IsCatalogFile geometry f → (j : ℕ) → offline_at f.kept.stubs j ≡ true → segment_bytes * j < f.size
+offline-starts geometry f lawful j off = grind (arith, offline-some, stub-each)
 
 unless : (b : Bool) → (b ≡ true → b ≡ false) → b ≡ false
 unless true step = step refl
@@ -44,9 +44,9 @@ meets-parts from to j meets = grind arith
 meets-from : (from to j : ℕ) → from < to → from < segment_bytes * j + segment_bytes → segment_bytes * j < to → meets_segment from to j ≡ true
 meets-from from to j some low high = grind arith
 
-module _ (B : CatalogFile → List ℕ) (f : CatalogFile) (blocks : ℕ) (lawful : IsCatalogFile blocks f) (lengths : HasLengths f) (size : length (B f) ≡ f.size) where
+module _ (B : CatalogFile → List ℕ) (f : CatalogFile) (geometry : Geometry) (lawful : IsCatalogFile geometry f) (lengths : HasLengths f) (size : length (B f) ≡ f.size) where
   pub allowed : (change : Rewrite) → IsSound (effect_of change) (file_by B f) → Allowed change f
-  allowed (Write offset bytes) sound = record { within = tt; entry = tt; free = λ j drops. sound j (rw size drops); starts = offline-starts blocks f lawful }
+  allowed (Write offset bytes) sound = record { within = tt; entry = tt; free = λ j drops. sound j (rw size drops); starts = offline-starts geometry f lawful }
   allowed (Resize to) sound = record {
     within = tt;
     entry = tt;
@@ -55,8 +55,8 @@ module _ (B : CatalogFile → List ℕ) (f : CatalogFile) (blocks : ℕ) (lawful
         let meets = meets-parts (min to f.size) (max to f.size) j parts.0 in
         let low = ltb-true (segment_bytes * j) to parts.1 in
         let around = rw size at sound in
-        unless (offline_at f.kept.stubs j) (λ off. let start = offline-starts blocks f lawful j off in let some = meets.0 in let inside = meets.1 in around (λ same. absurd (omega arith)) j (omega arith) inside);
-    starts = offline-starts blocks f lawful;
+        unless (offline_at f.kept.stubs j) (λ off. let start = offline-starts geometry f lawful j off in let some = meets.0 in let inside = meets.1 in around (λ same. absurd (omega arith)) j (omega arith) inside);
+    starts = offline-starts geometry f lawful;
   }
   allowed (Restore segment bytes) sound = grind (arith, stub-each, offline-starts)
 

@@ -8,10 +8,10 @@ use Rattle.file_store.proofs.Names.{with_changed, after_all, CanStandAll, key_on
 use Rattle.file_store.proofs.Names.{held_at, held_with, block_of, bytes_at, IsBodiless, held_after, Store, IsLive, IsSound, marks_of, IsEither}
 use Rattle.file_store.proofs.Names.{Proceeds, AllByRecursion, All-from_recursion, All-weaker, part, Follows, MayBe, Keeps, holds_on, holds_now}
 use Rattle.file_store.proofs.Names.{layout_of, rebody, blocks_in, size_after, Held, bytes_of, affected_held, Mapping, each-found, Rewrite, Write}
-use Rattle.file_store.proofs.Names.{Resize, IsBesideBlocks, HasBlocks, effect_of, IsRewrite, IsRewriting, mappings_of, remapped, freed_by}
+use Rattle.file_store.proofs.Names.{Resize, IsBesideBlocks, HasBlocks, effect_of, IsRewrite, IsAllowedBy, IsRewriting, mappings_of, remapped, freed_by}
 use Rattle.file_store.proofs.Names.{places_under, IsHeldFiles, length-marked, marked_keeps, taken_are_free, release_undoes_take, uses, uses-append}
-use Rattle.file_store.proofs.Names.{Ghosts}
-use Rattle.hsm_types.specs.Limits.{file_bytes, block_bytes, segment_blocks}
+use Rattle.file_store.proofs.Names.{Ghosts, Limits}
+use Rattle.hsm_types.specs.Limits.{block_bytes, segment_blocks}
 use Rattle.hsm_types.specs.declared.dm.DmRefusal.{DmRefusal}
 use Rattle.meta_store.specs.declared.refusal.MetaRefusal.{MetaRefusal}
 use Rattle.meta_store.specs.declared.refusal.MetaRefusal.TheVariants.{Part, Disk, Memory}
@@ -116,22 +116,22 @@ pub record Given {D : Type 0} (g : Ghosts D) (p : Parts D) (k : FileKey) (change
   pub at : IsFound (length p.bodies) p.meta.current k
   pub may : IsRewrite change
   pub allowed : Allowed change at.file
-  pub few : new_size change (bytes_in p.bodies k) ≤ file_bytes
+  pub few : new_size change (bytes_in p.bodies k) ≤ (geometry_of p.meta.current.geometry).limits.bytes
   pub room : length (touched_of change (bytes_in p.bodies k)) + length (blocks_of p.meta.current.files) ≤ (geometry_of p.meta.current.geometry).blocks
   pub enough : length (touched_of change (bytes_in p.bodies k)) ≤ length (free p.space)
 
-size-few : (change : Rewrite) (n : ℕ) → IsRewrite change → n ≤ file_bytes → size_after (effect_of change) n ≤ file_bytes
-size-few (Write offset bytes) n may few = let end = may.1 in omega arith
-size-few (Resize to) n may few = may
-size-few (Restore segment bytes) n may few = few
+size-allowed : (limits : Limits) (change : Rewrite) (n : ℕ) → IsAllowedBy limits change → n ≤ limits.bytes → size_after (effect_of change) n ≤ limits.bytes
+size-allowed limits (Write offset bytes) n allowed few = omega (arith, allowed, few)
+size-allowed limits (Resize to) n allowed few = allowed
+size-allowed limits (Restore segment bytes) n allowed few = few
 
 pub known : {D : Type 0} (g : Ghosts D) (p : Parts D) (k : FileKey) (change : Rewrite) → IsHeldFiles p.bodies p.meta → IsSound g (store_of p) → p.failed ≡ false → IsSome (find_key (λ f. f.key) k (store_of p).held.files) → IsRewrite change
-    → IsAllowed (effect_of change) (held_file k (store_of p).held.files) → length (touched_of change (bytes_of k (store_of p).held.files)) + used (store_of p).held.files ≤ (geometry_of p.meta.durable.geometry).blocks → length (touched_of change (bytes_of k (store_of p).held.files)) ≤ length (free p.space) → Given g p k change
-known g p k change files sound working there may allows left many =
+    → IsAllowedBy (geometry_of p.meta.durable.geometry).limits change → IsAllowed (effect_of change) (held_file k (store_of p).held.files) → length (touched_of change (bytes_of k (store_of p).held.files)) + used (store_of p).held.files ≤ (geometry_of p.meta.durable.geometry).blocks → length (touched_of change (bytes_of k (store_of p).held.files)) ≤ length (free p.space) → Given g p k change
+known g p k change files sound working there may limited allows left many =
     let at = live-held files k there in
     let live = sound.live working in
     let body = is-body files at in
-    let file = each-found (IsCatalogFile (geometry_of p.meta.current.geometry).blocks) k at.file p.meta.current.files sound.meta.current.each at.found in
+    let file = each-found (IsCatalogFile (geometry_of p.meta.current.geometry)) k at.file p.meta.current.files sound.meta.current.each at.found in
     let lengths = each-found HasLengths k at.file p.meta.current.files sound.meta.stored.now at.found in
     let is : held_file k (store_of p).held.files ≡ file_by (bytes_with p.bodies) at.file = grind (arith, find-held, option_map) in
     let room : length (touched_of change (bytes_in p.bodies k)) + length (blocks_of p.meta.current.files) ≤ (geometry_of p.meta.current.geometry).blocks =
@@ -142,8 +142,8 @@ known g p k change files sound working there may allows left many =
       live = live;
       at = at;
       may = may;
-      allowed = allowed (bytes_with p.bodies) at.file (geometry_of p.meta.current.geometry).blocks file lengths (ap length (bytes-of files at) ∙ body.size) change (subst (IsAllowed (effect_of change)) is allows);
-      few = size-few change _ may (let most = file.size in let own = body.size in omega arith);
+      allowed = allowed (bytes_with p.bodies) at.file (geometry_of p.meta.current.geometry) file lengths (ap length (bytes-of files at) ∙ body.size) change (subst (IsAllowed (effect_of change)) is allows);
+      few = size-allowed (geometry_of p.meta.current.geometry).limits change _ (subst (λ (n : ℕ). IsAllowedBy (geometry_of n).limits change) (sym sound.meta.stored.geometry) limited) (omega (arith, file.size, body.size));
       room = room;
       enough = grind (arith, body-held);
     }
@@ -173,7 +173,7 @@ module _ {D : Type 0} {g : Ghosts D} {p : Parts D} {k : FileKey} {change : Rewri
   pub within : IsWithin change (length body)
   within = rw own x.allowed.within
 
-  file : IsCatalogFile (geometry_of p.meta.current.geometry).blocks x.at.file
+  file : IsCatalogFile (geometry_of p.meta.current.geometry) x.at.file
   file = grind (arith, each-found)
 
   -- what the file becomes
@@ -236,7 +236,7 @@ module _ {D : Type 0} {g : Ghosts D} {p : Parts D} {k : FileKey} {change : Rewri
   module _ {freed : List ℕ} (freed_are : freed ≡ freed_by size blocks x.at.file.places) where
     pub freed_within : All (λ b. b < length (marked places p.space.current)) freed
     freed_within =
-        let file = each-found (IsCatalogFile (geometry_of p.meta.current.geometry).blocks) k x.at.file p.meta.current.files x.lawful.current.each x.at.found in
+        let file = each-found (IsCatalogFile (geometry_of p.meta.current.geometry)) k x.at.file p.meta.current.files x.lawful.current.each x.at.found in
         let P : ℕ → Type 0 = λ b. b < (geometry_of p.meta.current.geometry).blocks in
         let all = each-join P (present (drop (blocks_in size) x.at.file.places)) (present (places_under blocks x.at.file.places)) (all-present P (blocks_in size) x.at.file.places file.within) (all-under P blocks x.at.file.places file.within) in
         rw (length-marked places p.space.current ∙ ap length x.live.marks ∙ length-marks p.meta.current, freed_are) (All-from_recursion P (freed_by size blocks x.at.file.places) all)

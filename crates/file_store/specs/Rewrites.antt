@@ -4,6 +4,7 @@ use Rattle.std.specs.Prelude.{map, take, drop, replicate, get_or, Option, Some, 
 use Rattle.std.specs.List.{flat_map, list_any, AllByRecursion}
 use Rattle.hsm_types.specs.Limits.{file_bytes, segment_bytes}
 use Rattle.hsm_types.specs.Segments.{meets_segment}
+use Rattle.hsm_types.specs.declared.stores.Limits.{Limits}
 use Rattle.hsm_types.specs.Stubs.{Stubs, stub_at, offline_at}
 use Rattle.hsm_types.specs.declared.stubs.Stub.{Stub as StubOf}
 use Rattle.plain_model.specs.Effects.{Effect, Writes, Resizes, Restores}
@@ -25,11 +26,17 @@ effect_of (Write offset bytes) = Writes offset bytes.now
 effect_of (Resize size) = Resizes size
 effect_of (Restore segment bytes) = Restores segment bytes.now
 
--- what is written has bytes, and no file has more than `file_bytes` after it
+-- what is written has bytes, and no file has more than `file_bytes` after it, which the code can count
 abbrev pub IsRewrite : Rewrite → Type 0
 IsRewrite (Write offset bytes) = (1 ≤ length bytes.now) × (offset + length bytes.now ≤ file_bytes)
 IsRewrite (Resize size) = size ≤ file_bytes
 IsRewrite (Restore segment bytes) = (1 ≤ length bytes.now) × (length bytes.now ≤ segment_bytes) × (segment_bytes * segment + length bytes.now ≤ file_bytes)
+
+-- nor has it more than the limits allow: a restore leaves the size
+abbrev pub IsAllowedBy : Limits → Rewrite → Type 0
+IsAllowedBy limits (Write offset bytes) = offset + length bytes.now ≤ limits.bytes
+IsAllowedBy limits (Resize size) = size ≤ limits.bytes
+IsAllowedBy limits (Restore segment bytes) = Unit {0}
 
 -- a segment comes back within the file, which has that size
 abbrev pub IsWithin : Rewrite → ℕ → Type 0

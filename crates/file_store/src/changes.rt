@@ -1,6 +1,6 @@
 //! What changes the files of a store: each event is records, blocks that they take and free, and bytes.
 ghost use Rattle.std.specs.Prelude.{◌≡◌, ◌≢◌, ◌+◌, ◌*◌, ◌<◌, ◌≤◌, [], ◌∷◌, min, true, false, None, Some, Err, length, OnOk, IfOk, IfSome, IsErrOf, IsSome};
-ghost use Rattle.hsm_types.specs.Limits.{file_bytes, segment_bytes, last_volume};
+ghost use Rattle.hsm_types.specs.Limits.{segment_bytes, last_volume};
 ghost use Rattle.hsm_types.specs.Names.{is_name};
 ghost use Rattle.hsm_types.specs.Regions.{regions_refusal};
 ghost use Rattle.hsm_types.specs.Attributes.{setting_refusal, removal_refusal};
@@ -75,7 +75,7 @@ impl<D: Disk> FileStore<D> {
         requires working { self.old.failed ≡ false }
         requires live { IsSome (find_key (λ f. f.key) key self.old.held.files) }
         requires some { 1 ≤ length bytes.now }
-        requires end { offset + length bytes.now ≤ file_bytes }
+        requires end { offset + length bytes.now ≤ (geometry_of self.old.meta.durable.geometry).limits.bytes }
         requires here { IsSound (Writes offset bytes.now) (file_at key self.old.held.files) }
         requires room { length (touched (Writes offset bytes.now) (length (bytes_of key self.old.held.files))) + used self.old.held.files ≤ (geometry_of self.old.meta.durable.geometry).blocks }
         ensures changed { Changes D.Disk self.old number key (Writes offset bytes.now) None result self.new }
@@ -95,7 +95,7 @@ impl<D: Disk> FileStore<D> {
     ) -> Result<(), StoreRefusal>
         requires working { self.old.failed ≡ false }
         requires live { IsSome (find_key (λ f. f.key) key self.old.held.files) }
-        requires end { size ≤ file_bytes }
+        requires end { size ≤ (geometry_of self.old.meta.durable.geometry).limits.bytes }
         requires here { IsSound (Resizes size) (file_at key self.old.held.files) }
         requires room { length (touched (Resizes size) (length (bytes_of key self.old.held.files))) + used self.old.held.files ≤ (geometry_of self.old.meta.durable.geometry).blocks }
         ensures changed { Changes D.Disk self.old number key (Resizes size) None result self.new }
@@ -115,7 +115,7 @@ impl<D: Disk> FileStore<D> {
     ) -> Result<(), StoreRefusal>
         requires working { self.old.failed ≡ false }
         requires live { IsSome (find_key (λ f. f.key) key self.old.held.files) }
-        ensures changed { Changes D.Disk self.old number key (Manages regions) (first_refusal (regions_refusal regions ∷ uncovered regions (kept_of key self.old.held.files).stubs ∷ [])) result self.new }
+        ensures changed { Changes D.Disk self.old number key (Manages regions) (first_refusal (regions_refusal (superblock_of self.old).geometry.limits regions ∷ uncovered regions (kept_of key self.old.held.files).stubs ∷ [])) result self.new }
         ensures memory { IsErrOf result StoreRefusal.Memory → self.new ≡ self.old }
     {
         let ino = self.inode(key);

@@ -16,7 +16,8 @@ ghost use Rattle.block_space.specs.Space.{marked, free};
 ghost use Rattle.file_body.specs.HeldBodies.{no_body};
 ghost use Rattle.meta_store.specs.Catalogs.{CatalogFile, geometry_of};
 ghost use Rattle.meta_store.specs.Records.{CanStand, refusal_of};
-ghost use Rattle.file_store.specs.Rewrites.{effect_of, IsRewrite, IsWithin, HasEntry, BringsOffline, BringsAway, HasRoom, touched_of, places_for};
+ghost use Rattle.file_store.specs.Rewrites.{effect_of, IsRewrite, IsAllowedBy, IsWithin, HasEntry, BringsOffline, BringsAway, HasRoom, touched_of};
+ghost use Rattle.file_store.specs.Rewrites.{places_for};
 ghost use Rattle.file_store.specs.Bodies.{IsAlike};
 ghost use Rattle.file_store.specs.Refusals.{is_disk, refused_as};
 ghost use Rattle.file_store.specs.Steps.{IsBesideBlocks, IsStaged};
@@ -140,6 +141,7 @@ impl<D: Disk> FileStore<D> {
         requires working { self.old.failed ≡ false }
         requires live { IsSome (find_key (λ f. f.key) key self.old.held.files) }
         requires lawful { IsRewrite change }
+        requires limited { IsAllowedBy (geometry_of self.old.meta.durable.geometry).limits change }
         requires sound { IsSound (effect_of change) (file_at key self.old.held.files) }
         requires offline { BringsOffline change (kept_of key self.old.held.files).stubs }
         requires room { length (touched (effect_of change) (length (bytes_of key self.old.held.files))) + used self.old.held.files ≤ (geometry_of self.old.meta.durable.geometry).blocks }

@@ -5,7 +5,7 @@ ghost use Rattle.disk_model.specs.Images.{Alike};
 ghost use Rattle.disk_model.specs.Moments.{MayBe, Keeps, Same};
 ghost use Rattle.commit_slots.specs.Images.{IsStore};
 ghost use Rattle.hsm_types.specs.Keyed.{find_key};
-ghost use Rattle.hsm_types.specs.Limits.{segment_bytes};
+ghost use Rattle.hsm_types.specs.Limits.{segment_bytes, IsCountable};
 ghost use Rattle.hsm_types.specs.Stubs.{print_of, offline_at};
 ghost use Rattle.plain_model.specs.Plain.{segment as segment_of};
 ghost use Rattle.plain_model.specs.State.{bytes_of, used};
@@ -136,6 +136,7 @@ impl<D: Disk> FileStore<D> {
     pub fn body(&self, key: FileKey) -> &Body
         requires { IsSome (find_key (λ f. f.key) key self.now.held.files) }
         ensures bytes { result.now.bytes ≡ bytes_of key self.now.held.files }
+        ensures limit { length (bytes_of key self.now.held.files) ≤ (superblock_of self.now).geometry.limits.bytes }
         ensures here { (j : ℕ) → is_away result.now j ≡ offline_at (kept_of key self.now.held.files).stubs j }
     {
         &self.bodies[slot(key.ino)]
@@ -166,11 +167,12 @@ impl<D: Disk> FileStore<D> {
         key.ino
     }
 
-    /// How the store was formatted. No more blocks are mapped than it has.
-    #[tactic(auto, using(crate::proofs::FilesBy::used_few))]
+    /// How the store was formatted. No more blocks are mapped than it has, and the code can count what its format lets a file have.
+    #[tactic(auto, using(crate::proofs::FilesBy::used_few, meta_store::proofs::SnapshotFits::limits_countable))]
     pub fn superblock(&self) -> Superblock
         ensures superblock { result ≡ superblock_of self.now }
         ensures mapped { used self.now.held.files ≤ (superblock_of self.now).geometry.blocks }
+        ensures countable { IsCountable (superblock_of self.now).geometry.limits }
     {
         Superblock {
             geometry: geometry_of(self.meta.catalog().geometry()),

@@ -1,9 +1,9 @@
 -- What a call of a host in memory leaves of what its names hold.
-use Rattle.std.proofs.Common.{◌≡◌, ◌∙◌, ◌+◌, ◌<◌, ◌%◌, ⊎_elim, ℕ, zero, suc, Bool, true, false, ◌&&◌, ◌==◌, List, [], ◌∷◌, ◌++◌, length, Option}
+use Rattle.std.proofs.Common.{◌≡◌, ◌∙◌, ◌<◌, ◌%◌, ⊎_elim, ℕ, zero, suc, Bool, true, false, ◌&&◌, ◌==◌, List, [], ◌∷◌, length, Option}
 use Rattle.std.proofs.Common.{Some, None, IfSome, Result, Ok, Err, OnOk, IfOk, IfErr, option_map, refl, ap, sym, subst, arith}
 use Rattle.std.proofs.Math.Nat.{eq-or-lt_of_le}
 use Rattle.std.proofs.lemmas.Bool.Decides.{nat_tests}
-use Rattle.std.specs.Prelude.{slice_get, slice_set, slice_index_or, map, take, drop, is_some, if◌then◌else◌}
+use Rattle.std.specs.Prelude.{slice_get, is_some, if◌then◌else◌}
 use Rattle.std.specs.List.{AllByRecursion, list_all}
 use Rattle.std.specs.Option.{IsSomeAnd, option_map_or}
 use Rattle.std.specs.FinMap.{get, remove}
@@ -90,13 +90,6 @@ module _ (name : List ℕ) (old new : Hosted) where
   Gives-folders (Err Memory) gives = absurd gives
 
 -- ---- a call for drives
-
--- what holds of each item by its place, and of the next one, holds of the longer list
-pub each_more : {X : Type 0} (P : ℕ → X → Type 0) (xs : List X) (x : X) → ((i : ℕ) → IfSome (slice_get xs i) (P i)) → P (length xs) x → (i : ℕ) → IfSome (slice_get (xs ++ x ∷ []) i) (P i)
-each_more P [] x each next zero = next
-each_more P [] x each next (suc i) = tt
-each_more P (y ∷ xs) x each next zero = each zero
-each_more P (y ∷ xs) x each next (suc i) = each_more (λ j. P (suc j)) xs x (λ j. each (suc j)) next i
 
 both_of : (a b : Bool) → (a && b) ≡ true → (a ≡ true) × (b ≡ true)
 both_of true true is = (refl, refl)
@@ -208,19 +201,6 @@ new_unfailed drives volumes capacity (Err why) news = tt
 pub are_unfailed : (drives : List Faulty) → AreUnfailed (unfailed drives)
 are_unfailed [] = tt
 are_unfailed (d ∷ ds) = (refl, are_unfailed ds)
-
--- one item more is changed
-pub changed_more : {X : Type 0} (change : X → X) (xs : List X) (i : ℕ) (d : X) → i < length xs
-    → slice_set (map change (take i xs) ++ drop i xs) i (change (slice_index_or (map change (take i xs) ++ drop i xs) i d)) ≡ map change (take (suc i) xs) ++ drop (suc i) xs
-changed_more change [] i d within = absurd (omega (arith, within))
-changed_more change (x ∷ xs) zero d within = refl
-changed_more change (x ∷ xs) (suc i) d within = ap (λ ys. change x ∷ ys) (changed_more change xs i d (omega (arith, within)))
-
-pub changed_next : {X : Type 0} (change : X → X) (xs now : List X) (i : ℕ) (x y : X) → now ≡ map change (take i xs) ++ drop i xs → i < length xs → y ≡ change (slice_index_or now i x) → slice_set now i y ≡ map change (take (i + 1) xs) ++ drop (i + 1) xs
-changed_next change xs now i x y is within changed =
-    subst (λ n. slice_set now i y ≡ map change (take n xs) ++ drop n xs) (let next : suc i ≡ i + 1 = omega arith in next)
-    (subst (λ ys. slice_set ys i y ≡ map change (take (suc i) xs) ++ drop (suc i) xs) (sym is)
-    (subst (λ z. slice_set (map change (take i xs) ++ drop i xs) i z ≡ map change (take (suc i) xs) ++ drop (suc i) xs) (sym (changed ∙ ap (λ ys. change (slice_index_or ys i x)) is)) (changed_more change xs i x within)))
 
 pub always_ok : {T E A : Type 0} (r : Result T E) → A → OnOk r A
 always_ok (Ok x) a = a

@@ -1,7 +1,7 @@
 -- A call of a disk in memory that isn't a sync: what a crash might have left before it, it may leave still.
-use Rattle.std.proofs.Common.{◌≡◌, ⊎_elim, ℕ, Bool, true, false, List, [], ◌∷◌, ◌++◌, length, Result, Ok, Err, All, refl, sym, ◌∙◌, subst}
-use Rattle.std.proofs.lemmas.List.Elements.{All-nil, All-cons, All-head, All-tail}
+use Rattle.std.proofs.Common.{◌≡◌, ⊎_elim, ℕ, Bool, true, false, List, [], ◌∷◌, ◌++◌, length, Result, Ok, Err, refl, sym, ◌∙◌, subst}
 use Rattle.disk_model.specs.Images.{Within}
+use Rattle.disk_model.proofs.Recorded.{all_front, replay-push}
 use Rattle.disk_model.specs.Medium.{Medium, Recorded, Records, medium_of, fresh, after, replay, IsBeside, IsLeft, MayLeave}
 use Rattle.disk_model.specs.declared.record.Call.{Call}
 use Rattle.disk_model.specs.declared.record.Action.{Action}
@@ -11,14 +11,6 @@ abbrev pub IsNoSync : Action → Type 0
 IsNoSync (Read at len) = Unit {0}
 IsNoSync (Write at bytes) = Unit {0}
 IsNoSync Sync = ⊥
-
-all_front : {X : Type 0} (P : X → Type 0) → (xs ys : List X) → All P (xs ++ ys) → All P xs
-all_front P [] ys all = All-nil P
-all_front P (x ∷ xs) ys all = All-cons P x xs (All-head P x (xs ++ ys) all) (all_front P xs ys (All-tail P x (xs ++ ys) all))
-
-replay-push : (m : Medium) (calls : List Call) (call : Call) → replay m (calls ++ call ∷ []) ≡ after call call.action call.done (replay m calls)
-replay-push m [] call = refl
-replay-push m (x ∷ calls) call = replay-push (after x x.action x.done m) calls call
 
 still_one : (m : Medium) (action : Action) (done : Bool) (call : Call) (c : List ℕ) → IsNoSync action → length (after call action done m).now ≡ length m.now → IsLeft m c → IsLeft (after call action done m) c
 still_one m (Read at len) true call c quiet same left = record { size = left.size; others = λ k all. left.others k (all_front (λ (x : Call). IsBeside k x.action) m.pending (call ∷ []) all) }

@@ -2,10 +2,6 @@
 use Rattle.std.specs.Prelude.{ℕ, ◌<◌, ◌≤◌, ◌≡◌, ◌⊎◌, List, length, Result, IfOk, OnErr}
 use Rattle.disk_model.specs.Calls.{raised}
 
--- the count rose, or it stood at the greatest u64 before and after
-abbrev pub Rose : ℕ → ℕ → Type 0
-Rose before now = raised before ≤ now
-
 -- a count of faults never falls, and is one more at each failure
 pub record HasCause {T E : Type 0} (before now : ℕ) (result : Result T E) : Type 0 where
   pub later : before ≤ now

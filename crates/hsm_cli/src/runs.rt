@@ -10,7 +10,7 @@ ghost use Rattle.hsm_cli.specs.Runs.{IsReady};
 use disk_model::Disk;
 use hsm_replay::{Replay, Stop};
 use media_model::Drive;
-use script_text::{Line, Script};
+use script_text::{LinesLeft, Script};
 use std::alloc::Global;
 
 /// Runs the lines of a script on a store, and a commit after them where that is wanted.
@@ -28,7 +28,7 @@ pub(crate) fn run<D: Disk, M: Drive>(
     ensures first { HasRunOn M.Drive replay.old.drives (FollowsFirst (SettlesSince replay.old) (lines_run commits script)) replay.new }
     ensures durable { commits ≡ true → OnOk result (IsAllDurable replay.new.store) }
 {
-    run_lines(alloc, replay, script.into_vec())?;
+    run_lines(alloc, replay, script.into_lines())?;
     if commits {
         return replay.commit(alloc);
     }
@@ -39,15 +39,15 @@ pub(crate) fn run<D: Disk, M: Drive>(
 fn run_lines<D: Disk, M: Drive>(
     alloc: Global,
     replay: &mut Replay<D, M>,
-    lines: Vec<Line>,
+    lines: LinesLeft,
 ) -> Result<(), Stop>
-    requires lawful { AllByRecursion IsLine lines.items }
+    requires lawful { AllByRecursion IsLine lines }
     requires ready { IsReady replay.old }
     ensures limits { replay.new.limits ≡ replay.old.limits }
     ensures drives { HaveGrown M.Drive replay.old.drives replay.new.drives }
     ensures runs { Runs D.Disk result replay.old.store replay.new.store }
-    ensures all { OnOk result (IsRunTo M.Drive replay.old lines.items replay.new) }
-    ensures first { HasRunOn M.Drive replay.old.drives (FollowsFirst (SettlesSince replay.old) lines.items) replay.new }
+    ensures all { OnOk result (IsRunTo M.Drive replay.old lines replay.new) }
+    ensures first { HasRunOn M.Drive replay.old.drives (FollowsFirst (SettlesSince replay.old) lines) replay.new }
 {
     for line in lines {
         replay.line(alloc, line)?;

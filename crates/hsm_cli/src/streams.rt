@@ -1,7 +1,7 @@
 //! Whole inputs and outputs over sources and sinks.
 ghost use Rattle.std.specs.Prelude.{◌≡◌, ◌<◌, ◌≤◌, ◌++◌, ◌⊎◌, take, length, ℕ, [], IfOk, IfSome, OnOk, OnErr, IsErrOf, IfErr};
 ghost use Rattle.std.specs.Io.KnownBytes.{Consumes, Appends, IsAtEnd};
-ghost use Rattle.hosts.specs.Causes.{Rose};
+ghost use Rattle.disk_model.specs.Calls.{Rose};
 ghost use Rattle.hsm_cli.specs.Sources.{script_bytes, ReadsMore, GivesMore, GivesFirst};
 ghost use Rattle.hsm_cli.specs.Texts.{TakesText};
 ghost use Rattle.hsm_cli.specs.Told.{sink_told};

@@ -189,10 +189,13 @@ module _ {D : Type 0} (g : disk.Ghosts D) (s : Store D) (has : HasRun s) (safe :
       (lacking g s (record s { spare = spare }) has safe lacks.1 refl (idle lacks.1 (last_number s)) actor action acts answer (told.memory lacks.0) refl refl refl refl lacks.1 refl).2
 
 -- calls that wait are such as before
-pub lasting : {R : Type 0} (super : Superblock) (h h' : Held) (stamps stamps' : List (FileKey × ℕ)) (n : ℕ) (t u : Tables) (actor : Actor) (action : Action) (d : Result (R × R) StoreRefusal)
-    → OnOk d (state_with h' stamps' u (n + 1) ≡ left_own super (state_with h stamps t n) actor action) → OnErr d (u ≡ t) → EachLasts (ledger_of t) → EachLasts (ledger_of u)
-lasting super h h' stamps stamps' n t u actor action (Ok r) left _ is = subst EachLasts (ap (λ (st : State). st.ledger) (sym left)) (event_lasts super (state_with h stamps t n) actor action is)
-lasting super h h' stamps stamps' n t u actor action (Err why) left kept is = subst (λ (x : Tables). EachLasts (ledger_of x)) (sym kept) is
+pub lasting : {R : Type 0} (super opened : Superblock) → super ≡ opened → (h h' : Held) (stamps stamps' : List (FileKey × ℕ)) (n : ℕ) (t u : Tables) (actor : Actor) (action : Action) (d : Result (R × R) StoreRefusal)
+    → OnOk d (state_with h' stamps' u (n + 1) ≡ left_own super (state_with h stamps t n) actor action) → OnErr d (u ≡ t) → EachLasts opened.geometry.limits (ledger_of t) → EachLasts opened.geometry.limits (ledger_of u)
+lasting super opened formatted h h' stamps stamps' n t u actor action (Ok r) left _ is =
+    let before = subst (λ (s : Superblock). EachLasts s.geometry.limits (ledger_of t)) (sym formatted) is in
+    let after = subst (EachLasts super.geometry.limits) (ap (λ (st : State). st.ledger) (sym left)) (event_lasts super (state_with h stamps t n) actor action before) in
+    subst (λ (s : Superblock). EachLasts s.geometry.limits (ledger_of u)) formatted after
+lasting super opened formatted h h' stamps stamps' n t u actor action (Err why) left kept is = subst (λ (x : Tables). EachLasts opened.geometry.limits (ledger_of x)) (sym kept) is
 
 -- for how much there is room
 pub room_after : {T E : Type 0} (t u : Tables) (k : ℕ) (d : Result T E) → OnOk d (awaited_in u ≤ awaited_in t + k) → OnErr d (u ≡ t) → awaited_in u ≤ awaited_in t + k

@@ -9,6 +9,7 @@ use Rattle.hsm_types.specs.Rights.{conflict}
 use Rattle.hsm_types.specs.declared.dm.Right.TheVariants.{Null}
 use Rattle.hsm_types.specs.declared.keys.FileKey.{FileKey}
 use Rattle.hsm_types.specs.declared.keys.Token.{Token}
+use Rattle.hsm_types.specs.declared.stores.Limits.{Limits}
 use Rattle.hsm_types.specs.declared.stores.Superblock.{Superblock}
 use Rattle.hsm_types.specs.declared.calls.Call.{Call}
 use Rattle.hsm_types.specs.declared.calls.Call.TheVariants.{Create, Read, Stat, Sync}
@@ -40,34 +41,34 @@ use Rattle.hsm_core.specs.Targets.{IsOnFile, MayLast, EachLasts}
 use Rattle.plain_model.proofs.Steps.{unhindered}
 use Rattle.hsm_core.proofs.Targets.{bounded}
 
-abbrev Lasts : Option Access → Type 0
-Lasts waits = IfSome waits (λ a. MayLast a.call)
+abbrev Lasts : Limits → Option Access → Type 0
+Lasts limits waits = IfSome waits (λ a. MayLast limits a.call)
 
 -- of whoever waits then
-at_caller : (c d : ℕ) (left : Option Access) (pending : ℕ → Option Access) → Lasts left → Lasts (pending d) → Lasts (set_at c left pending d)
-at_caller c d left pending here there = elim (d == c) as (λ b. Lasts (if b then left else pending d)) [ true ↦ here | false ↦ there ]
+at_caller : (limits : Limits) (c d : ℕ) (left : Option Access) (pending : ℕ → Option Access) → Lasts limits left → Lasts limits (pending d) → Lasts limits (set_at c left pending d)
+at_caller limits c d left pending here there = elim (d == c) as (λ b. Lasts limits (if b then left else pending d)) [ true ↦ here | false ↦ there ]
 
-kept_lasts : (reply : Reply) (waits : Option Access) → Lasts waits → Lasts (kept reply waits)
-kept_lasts (Still t) waits is = is
-kept_lasts (Refused Waiting) waits is = is
-kept_lasts (Refused Idle) waits is = is
-kept_lasts reply waits is = tt
+kept_lasts : (limits : Limits) (reply : Reply) (waits : Option Access) → Lasts limits waits → Lasts limits (kept reply waits)
+kept_lasts limits (Still t) waits is = is
+kept_lasts limits (Refused Waiting) waits is = is
+kept_lasts limits (Refused Idle) waits is = is
+kept_lasts limits reply waits is = tt
 
 -- ---- a caller's event
 
-verdict_lasts : (s : Superblock) (st : State) (c : ℕ) (fl : Flags) (k : FileKey) (call : Call) (v : Verdict) → EachLasts st.ledger → ((ruling : Ruling) → v ≡ Some ruling → MayLast call) → EachLasts (left_by_verdict s st c fl k call v).ledger
-verdict_lasts s st c fl k call (Some (Blocks t)) is may d = at_caller c d _ st.ledger.pending (may (Blocks t) refl) (is d)
-verdict_lasts s st c fl k call (Some (Posts kind)) is may d = at_caller c d _ st.ledger.pending (may (Posts kind) refl) (is d)
-verdict_lasts s st c fl k call (Some (Lacks need free)) is may d = at_caller c d _ st.ledger.pending tt (is d)
-verdict_lasts s st c fl k (Create name) None is may d = at_caller c d _ st.ledger.pending tt (is d)
-verdict_lasts s st c fl k (Read name offset len) None is may d = at_caller c d _ st.ledger.pending tt (is d)
-verdict_lasts s st c fl k (Stat name) None is may d = at_caller c d _ st.ledger.pending tt (is d)
-verdict_lasts s st c fl k call None is may d = at_caller c d _ st.ledger.pending tt (is d)
+verdict_lasts : (s : Superblock) (st : State) (c : ℕ) (fl : Flags) (k : FileKey) (call : Call) (v : Verdict) → EachLasts s.geometry.limits st.ledger → ((ruling : Ruling) → v ≡ Some ruling → MayLast s.geometry.limits call) → EachLasts s.geometry.limits (left_by_verdict s st c fl k call v).ledger
+verdict_lasts s st c fl k call (Some (Blocks t)) is may d = at_caller s.geometry.limits c d _ st.ledger.pending (may (Blocks t) refl) (is d)
+verdict_lasts s st c fl k call (Some (Posts kind)) is may d = at_caller s.geometry.limits c d _ st.ledger.pending (may (Posts kind) refl) (is d)
+verdict_lasts s st c fl k call (Some (Lacks need free)) is may d = at_caller s.geometry.limits c d _ st.ledger.pending tt (is d)
+verdict_lasts s st c fl k (Create name) None is may d = at_caller s.geometry.limits c d _ st.ledger.pending tt (is d)
+verdict_lasts s st c fl k (Read name offset len) None is may d = at_caller s.geometry.limits c d _ st.ledger.pending tt (is d)
+verdict_lasts s st c fl k (Stat name) None is may d = at_caller s.geometry.limits c d _ st.ledger.pending tt (is d)
+verdict_lasts s st c fl k call None is may d = at_caller s.geometry.limits c d _ st.ledger.pending tt (is d)
 
-where_lasts : (s : Superblock) (st : State) (c : ℕ) (fl : Flags) (why : Option CallRefusal) (m : Meant) → EachLasts st.ledger
-    → ((k : FileKey) (call : Call) (ruling : Ruling) → m ≡ Means k call → why ≡ None → verdict s st fl k call ≡ Some ruling → MayLast call) → EachLasts (state_where s st c fl why m).ledger
-where_lasts s st c fl why (Fixed reply) is may d = at_caller c d _ st.ledger.pending (kept_lasts reply (st.ledger.pending c) (is c)) (is d)
-where_lasts s st c fl (Some why) (Means k call) is may d = at_caller c d _ st.ledger.pending tt (is d)
+where_lasts : (s : Superblock) (st : State) (c : ℕ) (fl : Flags) (why : Option CallRefusal) (m : Meant) → EachLasts s.geometry.limits st.ledger
+    → ((k : FileKey) (call : Call) (ruling : Ruling) → m ≡ Means k call → why ≡ None → verdict s st fl k call ≡ Some ruling → MayLast s.geometry.limits call) → EachLasts s.geometry.limits (state_where s st c fl why m).ledger
+where_lasts s st c fl why (Fixed reply) is may d = at_caller s.geometry.limits c d _ st.ledger.pending (kept_lasts s.geometry.limits reply (st.ledger.pending c) (is c)) (is d)
+where_lasts s st c fl (Some why) (Means k call) is may d = at_caller s.geometry.limits c d _ st.ledger.pending tt (is d)
 where_lasts s st c fl None (Means k call) is may d = verdict_lasts s st c fl k call (verdict s st fl k call) is (λ ruling rules. may k call ruling refl refl rules) d
 
 -- no rule applies to creates and syncs
@@ -89,52 +90,52 @@ never_ruled s st fl k Sync =
     inr (none_ruled (conflict k Null no_token st.rights) (not fl.cleared && (facts_of s st.held k Sync).touches) (fl.cleared && (facts_of s st.held k Sync).needs) (not fl.spaced && is_taken kinds.NoSpace st.sessions) (shortage s st.held k Sync) (unhindered k no_token st.rights) (no_shortage _))
 never_ruled s st fl k call = inl tt
 
-ruled_lasts : (s : Superblock) (st : State) (fl : Flags) (k : FileKey) (call : Call) (ruling : Ruling) → refusal_of s (names_of st.held.files) call ≡ None → verdict s st fl k call ≡ Some ruling → MayLast call
+ruled_lasts : (s : Superblock) (st : State) (fl : Flags) (k : FileKey) (call : Call) (ruling : Ruling) → refusal_of s (names_of st.held.files) call ≡ None → verdict s st fl k call ≡ Some ruling → MayLast s.geometry.limits call
 ruled_lasts s st fl k call ruling none is =
     ⊎_elim (λ (on : IsOnFile call). (on, bounded s (names_of st.held.files) call none)) (λ (never : verdict s st fl k call ≡ None). absurd (let wrong : None ≡ Some ruling = sym never ∙ is in cc)) (never_ruled s st fl k call)
 
 same_call : (k j : FileKey) (call other : Call) → Means k call ≡ Means j other → call ≡ other
 same_call k j call other is = cc
 
-issue_lasts : (s : Superblock) (st : State) (c : ℕ) (call : Call) (waits : Option Access) → EachLasts st.ledger → EachLasts (state_where s st c (flags_now st c (Issue call)) (refusal_of s (names_of st.held.files) call) (issued (names_of st.held.files) waits call)).ledger
+issue_lasts : (s : Superblock) (st : State) (c : ℕ) (call : Call) (waits : Option Access) → EachLasts s.geometry.limits st.ledger → EachLasts s.geometry.limits (state_where s st c (flags_now st c (Issue call)) (refusal_of s (names_of st.held.files) call) (issued (names_of st.held.files) waits call)).ledger
 issue_lasts s st c call None is =
     where_lasts s st c (flags_now st c (Issue call)) (refusal_of s (names_of st.held.files) call) (issued (names_of st.held.files) None call) is
     (λ k other ruling means none rules.
     let same = same_call _ k call other means in
-    subst MayLast same (ruled_lasts s st (flags_now st c (Issue call)) k call ruling none (subst (λ (x : Call). verdict s st (flags_now st c (Issue call)) k x ≡ Some ruling) (sym same) rules)))
+    subst (MayLast s.geometry.limits) same (ruled_lasts s st (flags_now st c (Issue call)) k call ruling none (subst (λ (x : Call). verdict s st (flags_now st c (Issue call)) k x ≡ Some ruling) (sym same) rules)))
 issue_lasts s st c call (Some a) is =
     where_lasts s st c (flags_now st c (Issue call)) (refusal_of s (names_of st.held.files) call) (issued (names_of st.held.files) (Some a) call) is (λ k other ruling means none rules. absurd cc)
 
-goes_on_lasts : (a : Access) (token : Option Token) (answer : Option Response) (k : FileKey) (call : Call) → goes_on a token answer ≡ Means k call → MayLast a.call → MayLast call
-goes_on_lasts a (Some t) None k call is last = absurd cc
-goes_on_lasts a None answer k call is last = subst MayLast (same_call a.key k a.call call is) last
-goes_on_lasts a (Some t) (Some response) k call is last = subst MayLast (same_call a.key k a.call call is) last
+goes_on_lasts : (limits : Limits) (a : Access) (token : Option Token) (answer : Option Response) (k : FileKey) (call : Call) → goes_on a token answer ≡ Means k call → MayLast limits a.call → MayLast limits call
+goes_on_lasts limits a (Some t) None k call is last = absurd cc
+goes_on_lasts limits a None answer k call is last = subst (MayLast limits) (same_call a.key k a.call call is) last
+goes_on_lasts limits a (Some t) (Some response) k call is last = subst (MayLast limits) (same_call a.key k a.call call is) last
 
-resumed_lasts : (waits : Option Access) (k : FileKey) (call : Call) → resumed waits ≡ Means k call → Lasts waits → MayLast call
-resumed_lasts None k call is last = absurd cc
-resumed_lasts (Some a) k call is last = goes_on_lasts a a.token a.answer k call is last
+resumed_lasts : (limits : Limits) (waits : Option Access) (k : FileKey) (call : Call) → resumed waits ≡ Means k call → Lasts limits waits → MayLast limits call
+resumed_lasts limits None k call is last = absurd cc
+resumed_lasts limits (Some a) k call is last = goes_on_lasts limits a a.token a.answer k call is last
 
 -- ---- a session's call
 
-answered_lasts : (t : Token) (response : Response) (waits : Option Access) → Lasts waits → Lasts (answered t response waits)
-answered_lasts t response None is = tt
-answered_lasts t response (Some a) is = elim (waits_for t a.token) as (λ b. Lasts (if b then Some (record a { answer = Some response }) else Some a)) [ true ↦ is | false ↦ is ]
+answered_lasts : (limits : Limits) (t : Token) (response : Response) (waits : Option Access) → Lasts limits waits → Lasts limits (answered t response waits)
+answered_lasts limits t response None is = tt
+answered_lasts limits t response (Some a) is = elim (waits_for t a.token) as (λ b. Lasts limits (if b then Some (record a { answer = Some response }) else Some a)) [ true ↦ is | false ↦ is ]
 
-told_lasts : (L : Ledger) (call : DmCall) (reply : DmReply) → EachLasts L → EachLasts (ledger_told L call reply)
-told_lasts L (Respond t response) told.Done is c = answered_lasts t response (L.pending c) (is c)
-told_lasts L (CreateUserEvent body) (told.Token t) is c = is c
-told_lasts L GetSpace reply is c = is c
-told_lasts L call reply is c = is c
+told_lasts : (limits : Limits) (L : Ledger) (call : DmCall) (reply : DmReply) → EachLasts limits L → EachLasts limits (ledger_told L call reply)
+told_lasts limits L (Respond t response) told.Done is c = answered_lasts limits t response (L.pending c) (is c)
+told_lasts limits L (CreateUserEvent body) (told.Token t) is c = is c
+told_lasts limits L GetSpace reply is c = is c
+told_lasts limits L call reply is c = is c
 
-dm_lasts : (s : Superblock) (st : State) (sid : _) (call : DmCall) (why : Option DmRefusal) → EachLasts st.ledger → EachLasts (dm_state_where why s st sid call).ledger
-dm_lasts s st sid call None is = told_lasts st.ledger call (service s st sid call).reply is
+dm_lasts : (s : Superblock) (st : State) (sid : _) (call : DmCall) (why : Option DmRefusal) → EachLasts s.geometry.limits st.ledger → EachLasts s.geometry.limits (dm_state_where why s st sid call).ledger
+dm_lasts s st sid call None is = told_lasts s.geometry.limits st.ledger call (service s st sid call).reply is
 dm_lasts s st sid call (Some why) is = is
 
 -- ---- any event
 
-pub event_lasts : (s : Superblock) (st : State) (actor : Actor) (action : Action) → EachLasts st.ledger → EachLasts (left_own s st actor action).ledger
+pub event_lasts : (s : Superblock) (st : State) (actor : Actor) (action : Action) → EachLasts s.geometry.limits st.ledger → EachLasts s.geometry.limits (left_own s st actor action).ledger
 event_lasts s st (Caller c) (Issue call) is = issue_lasts s st c call (st.ledger.pending c) is
 event_lasts s st (Caller c) Resume is =
-    where_lasts s st c (flags_now st c Resume) (objection_again (names_of st.held.files) (st.ledger.pending c)) (resumed (st.ledger.pending c)) is (λ k call kind means none posts. resumed_lasts (st.ledger.pending c) k call means (is c))
+    where_lasts s st c (flags_now st c Resume) (objection_again (names_of st.held.files) (st.ledger.pending c)) (resumed (st.ledger.pending c)) is (λ k call kind means none posts. resumed_lasts s.geometry.limits (st.ledger.pending c) k call means (is c))
 event_lasts s st (Session sid) (Dm call) is = dm_lasts s st sid call (dm_judged s st sid call) is
 event_lasts s st actor action is = is

@@ -10,6 +10,7 @@ use Rattle.hsm_types.specs.Refusals.{first_refusal}
 use Rattle.hsm_types.specs.Segments.{segment_len, segments_in}
 use Rattle.hsm_types.specs.Stubs.{FitsFile, print_of, stub_at, any_unpunched, entry_print}
 use Rattle.hsm_types.specs.declared.keys.FileKey.{FileKey}
+use Rattle.hsm_types.specs.declared.stores.Limits.{Limits}
 use Rattle.hsm_types.specs.declared.stubs.Fingerprint.{Fingerprint}
 use Rattle.hsm_types.specs.declared.stubs.Stub.{Stub}
 use Rattle.hsm_types.specs.declared.stubs.StubEntry.{StubEntry}
@@ -108,11 +109,11 @@ change_served {D} {g} {old} {new} {n} {call} is own changes is_done works told =
 
 -- ---- what is left to its part
 
-pub punch_left : (f : FileState) (offset len : ℕ) → bad_punch offset len (length f.body) ≡ None
-    → punch_refusal f offset len ≡ any_unpunched f.kept.regions f.kept.stubs (punch_from offset) (min (punch_to offset len) (segments_in (length f.body)))
-punch_left f offset len none =
+pub punch_left : (limits : Limits) (f : FileState) (offset len : ℕ) → bad_punch limits offset len (length f.body) ≡ None
+    → punch_refusal limits f offset len ≡ any_unpunched f.kept.regions f.kept.stubs (punch_from offset) (min (punch_to offset len) (segments_in (length f.body)))
+punch_left limits f offset len none =
     let own : Option DmRefusal = any_unpunched f.kept.regions f.kept.stubs (punch_from offset) (min (punch_to offset len) (segments_in (length f.body))) in
-    passes (bad_punch offset len (length f.body)) (own ∷ []) none ∙ alone own
+    passes (bad_punch limits offset len (length f.body)) (own ∷ []) none ∙ alone own
 
 pub seal_left : (f : FileState) (j : ℕ) (entry : StubEntry) (many : Option DmRefusal) → seal_refusal f j entry ≡ None → first_refusal (seal_refusal f j entry ∷ many ∷ []) ≡ many
 seal_left f j entry many none = passes (seal_refusal f j entry) (many ∷ []) none ∙ alone many

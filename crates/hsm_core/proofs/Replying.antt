@@ -279,7 +279,7 @@ module _ {D : Type 0} (g : disk.Ghosts D) (f : FileStore D) (n : ℕ) (stamps : 
         }
 
   -- ---- an access that goes on
-  module _ (target : Option Target) (waits : waiting t c ≡ Some a) (goes : goes_on (pending_as a) a.token a.answer ≡ Means a.key a.call) (last : MayLast a.call)
+  module _ (target : Option Target) (waits : waiting t c ≡ Some a) (goes : goes_on (pending_as a) a.token a.answer ≡ Means a.key a.call) (last : MayLast super.geometry.limits a.call)
       (found : MatchOption target (find_key (λ x. x.key) a.key f.held.files ≡ None) (λ x. IsTarget f.held.files a.key x))
       (known : MatchOption target (facts ≡ record { live = false; touches = false; needs = false; short = None }) (λ x. AreKnown super f.held x.key a.call facts)) where
     lives : facts.live ≡ is_some (find_key (λ x. x.key) a.key f.held.files)

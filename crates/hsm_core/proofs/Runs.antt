@@ -3,6 +3,7 @@ use Rattle.std.proofs.Common.{◌≡◌, ℕ, ◌+◌, List, [], ◌∷◌, ◌+
 use Rattle.std.specs.Prelude.{IfSome}
 use Rattle.std.specs.Option.{option_map}
 use Rattle.disk_model.specs.declared.device.Disk as disk
+use Rattle.hsm_types.specs.declared.stores.Limits.{Limits}
 use Rattle.hsm_types.specs.declared.stores.Superblock.{Superblock}
 use Rattle.plain_model.specs.declared.entries.Entry.{Entry}
 use Rattle.plain_model.specs.Faults.{is_fault}
@@ -60,8 +61,8 @@ new_awaited t new =
     let shut : open_among t.tokens (is_open t.sessions) ≡ 0 = ap (λ (st : State). open_among st.ledger.top (is_open t.sessions)) new in
     omega (arith, idle, shut)
 
-pub new_lasts : (t : Tables) → AreNew t → EachLasts (ledger_of t)
-new_lasts t new c = subst (λ x. IfSome x (λ a. MayLast a.call)) (sym (ap (λ (st : State). st.ledger.pending c) new)) tt
+pub new_lasts : (limits : Limits) (t : Tables) → AreNew t → EachLasts limits (ledger_of t)
+new_lasts limits t new c = subst (λ x. IfSome x (λ a. MayLast limits a.call)) (sym (ap (λ (st : State). st.ledger.pending c) new)) tt
 
 module _ {D : Type 0} (g : disk.Ghosts D) (s t : Store D) (has : HasRun s) (n : ℕ) (opened : t.opened ≡ s.opened) (proceeds : Proceeds g s.files n t.files) where
   -- an event that isn't kept

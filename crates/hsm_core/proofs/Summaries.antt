@@ -56,7 +56,7 @@ sizes_found : (c : Catalog) (image : List ℕ) → IsCatalog c → length image 
 sizes_found c image is whole =
     let blocks = blocks_in_image c.geometry image in
     let Low : ℕ → Type 0 = λ p. p < (geometry_of c.geometry).blocks in
-    each-weaker (IsCatalogFile (geometry_of c.geometry).blocks) (λ f. length (bytes_at blocks f) ≡ f.size)
+    each-weaker (IsCatalogFile (geometry_of c.geometry)) (λ f. length (bytes_at blocks f) ≡ f.size)
     (λ f lawful. length-body blocks f.size f.places (each-weaker Low (Whole blocks) (λ p low. length-block c.geometry image p low whole) (present f.places) lawful.within) lawful.places)
     c.files is.each
 

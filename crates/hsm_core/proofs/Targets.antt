@@ -3,13 +3,14 @@ use Rattle.std.proofs.Common.{◌≡◌, ◌≤◌, ◌+◌, ◌-◌, ◌^◌, �
 use Rattle.std.proofs.lemmas.Bool.Decides.{nat_tests}
 use Rattle.std.specs.Prelude.{◌&&◌, not, nat_lt, nat_le, if◌then◌else◌, IsSomeAnd}
 use Rattle.std.specs.Option.{option_map}
-use Rattle.hsm_types.specs.Limits.{file_bytes, access_bytes, last_error}
+use Rattle.hsm_types.specs.Limits.{access_bytes, last_error, widest_limits, IsCountable}
 use Rattle.hsm_types.specs.Messages.{no_token, is_lawful}
 use Rattle.hsm_types.specs.Refusals.{first_refusal}
 use Rattle.hsm_types.specs.Rights.{Rights, conflict}
 use Rattle.hsm_types.specs.Sessions.{SessionTable}
 use Rattle.hsm_types.specs.declared.keys.FileKey.{FileKey}
 use Rattle.hsm_types.specs.declared.keys.Token.{Token}
+use Rattle.hsm_types.specs.declared.stores.Limits.{Limits}
 use Rattle.hsm_types.specs.declared.stores.Superblock.{Superblock}
 use Rattle.hsm_types.specs.declared.calls.Call.{Call}
 use Rattle.hsm_types.specs.declared.calls.Call.TheVariants.{Create, Read, Write, Truncate, Remove, Stat, Sync}
@@ -76,27 +77,35 @@ both_of false b is = cc
 some_bytes : (len : ℕ) → bad_length len ≡ None → 1 ≤ len
 some_bytes len none = let in_range = both_of (nat_le 1 len) (nat_le len access_bytes) (passes (nat_le 1 len && nat_le len access_bytes) (BadLength len) none) in let least = in_range.0 in grind (arith, nat_tests, least)
 
-within : (end : ℕ) → too_big end ≡ None → end ≤ file_bytes
-within end none = elim (nat_lt file_bytes end) as (λ b. nat_lt file_bytes end ≡ b → (if b then Some (TooBig (min end (2 ^ 64 - 1))) else None) ≡ None → end ≤ file_bytes) [
+within : (limits : Limits) (end : ℕ) → too_big limits end ≡ None → end ≤ limits.bytes
+within limits end none = elim (nat_lt limits.bytes end) as (λ b. nat_lt limits.bytes end ≡ b → (if b then Some (TooBig (min end (2 ^ 64 - 1))) else None) ≡ None → end ≤ limits.bytes) [
   | true ↦ λ past is. cc
   | false ↦ λ not_past is. grind (arith, nat_tests, not_past)
 ] refl none
 
-pub bounded : (s : Superblock) (files : List Listed) (call : Call) → refusal_of s files call ≡ None → IsBounded call
+pub bounded : (s : Superblock) (files : List Listed) (call : Call) → refusal_of s files call ≡ None → IsBounded s.geometry.limits call
 bounded s files (Write name offset bytes) none =
-    let past_name = none_first (bad_name name) (bad_length (length bytes) ∷ missing name files ∷ too_big (offset + length bytes) ∷ []) none in
-    let past_length = none_first (bad_length (length bytes)) (missing name files ∷ too_big (offset + length bytes) ∷ []) past_name.1 in
-    let past_file = none_first (missing name files) (too_big (offset + length bytes) ∷ []) past_length.1 in
-    (some_bytes (length bytes) past_length.0, within (offset + length bytes) (none_first (too_big (offset + length bytes)) [] past_file.1).0)
+    let big = too_big s.geometry.limits (offset + length bytes) in
+    let past_name = none_first (bad_name name) (bad_length (length bytes) ∷ missing name files ∷ big ∷ []) none in
+    let past_length = none_first (bad_length (length bytes)) (missing name files ∷ big ∷ []) past_name.1 in
+    let past_file = none_first (missing name files) (big ∷ []) past_length.1 in
+    (some_bytes (length bytes) past_length.0, within s.geometry.limits (offset + length bytes) (none_first big [] past_file.1).0)
 bounded s files (Truncate name size) none =
-    let past_name = none_first (bad_name name) (missing name files ∷ too_big size ∷ []) none in
-    let past_file = none_first (missing name files) (too_big size ∷ []) past_name.1 in
-    within size (none_first (too_big size) [] past_file.1).0
+    let big = too_big s.geometry.limits size in
+    let past_name = none_first (bad_name name) (missing name files ∷ big ∷ []) none in
+    let past_file = none_first (missing name files) (big ∷ []) past_name.1 in
+    within s.geometry.limits size (none_first big [] past_file.1).0
 bounded s files (Create name) none = tt
 bounded s files (Read name offset len) none = tt
 bounded s files (Remove name) none = tt
 bounded s files (Stat name) none = tt
 bounded s files Sync none = tt
+
+-- what a format bounds the code can count
+pub widest_bounded : (limits : Limits) (call : Call) → IsCountable limits → IsBounded limits call → IsBounded widest_limits call
+widest_bounded limits (Write name offset bytes) countable is = (is.0, omega (arith, is.1, countable.0))
+widest_bounded limits (Truncate name size) countable is = omega (arith, is, countable.0)
+widest_bounded limits call countable is = tt
 
 -- ---- what a verdict says
 

@@ -3,6 +3,7 @@ use Rattle.std.specs.Prelude.{◌≡◌, ◌≤◌, ◌+◌, ℕ, List, length, 
 use Rattle.std.specs.List.{AllByRecursion}
 use Rattle.hsm_types.specs.Limits.{file_bytes}
 use Rattle.hsm_types.specs.declared.keys.FileKey.{FileKey}
+use Rattle.hsm_types.specs.declared.stores.Limits.{Limits}
 use Rattle.hsm_types.specs.declared.stores.Superblock.{Superblock}
 use Rattle.hsm_types.specs.declared.calls.Call.{Call}
 use Rattle.hsm_types.specs.declared.calls.Call.TheVariants.{Create, Write, Truncate, Sync}
@@ -39,15 +40,15 @@ key_in None = record { ino = 0; igen = 0 }
 key_in (Some t) = t.key
 
 -- a write has bytes and ends within the limit of a file, and so does a truncate
-abbrev pub IsBounded : Call → Type 0
-IsBounded (Write name offset bytes) = (1 ≤ length bytes) × (offset + length bytes ≤ file_bytes)
-IsBounded (Truncate name size) = size ≤ file_bytes
-IsBounded call = Unit {0}
+abbrev pub IsBounded : Limits → Call → Type 0
+IsBounded limits (Write name offset bytes) = (1 ≤ length bytes) × (offset + length bytes ≤ limits.bytes)
+IsBounded limits (Truncate name size) = size ≤ limits.bytes
+IsBounded limits call = Unit {0}
 
 -- what was judged of a call that is done: of a create the names of the files, of any other what bounds it
 abbrev pub MayDo : Superblock → List FileState → Call → Type 0
 MayDo s files (Create name) = refusal_of s (names_of files) (Create name) ≡ None
-MayDo s files call = IsBounded call
+MayDo s files call = IsBounded s.geometry.limits call
 
 -- What is known of a call on the file with that key, and of all files: no more blocks are mapped than there are, and stub entries are lawful.
 pub record AreKnown (s : Superblock) (h : Held) (k : FileKey) (call : Call) (facts : Facts) : Type 0 where
@@ -58,7 +59,7 @@ pub record AreKnown (s : Superblock) (h : Held) (k : FileKey) (call : Call) (fac
 -- what was judged of a call on a file that is done
 pub record MayComplete (s : Superblock) (h : Held) (call : Call) (target : Option Target) : Type 0 where
   pub on : IsSomeAnd target (λ t. IsOn h.files t.key call (Some t))
-  pub bounded : IsBounded call
+  pub bounded : IsBounded s.geometry.limits call
   pub fits : shortage s h (key_in target) call ≡ None
   pub mapped : used h.files ≤ s.geometry.blocks
   pub sound : IsSound (effect_of call) (file_at (key_in target) h.files)
@@ -70,9 +71,9 @@ IsOnFile Sync = ⊥
 IsOnFile call = Unit {0}
 
 -- a call that waits is on a file, and what bounds it was judged before
-abbrev pub MayLast : Call → Type 0
-MayLast call = IsOnFile call × IsBounded call
+abbrev pub MayLast : Limits → Call → Type 0
+MayLast limits call = IsOnFile call × IsBounded limits call
 
 -- each access that waits is such
-abbrev pub EachLasts : Ledger → Type 0
-EachLasts L = (c : ℕ) → IfSome (L.pending c) (λ a. MayLast a.call)
+abbrev pub EachLasts : Limits → Ledger → Type 0
+EachLasts limits L = (c : ℕ) → IfSome (L.pending c) (λ a. MayLast limits a.call)

@@ -115,7 +115,7 @@ pub(crate) fn answer_again<D: Disk>(
     requires number { number < 2 ^ 63 }
     requires idle { Proceeds D.Disk files.old number files.old }
     requires ordered { InOrder (state_with files.old.held stamps.old.entries service.old number) }
-    requires lasts { EachLasts (ledger_of service.old) }
+    requires lasts { EachLasts (superblock_of files.old).geometry.limits (ledger_of service.old) }
     ensures replied { IsReplied D.Disk files.old number stamps.old.entries service.old caller Resume result files.new stamps.new.entries service.new }
     ensures aborts { is_aborted (waiting service.old caller) ≡ true → IsOk result }
     ensures room { OnOk result (awaited_in service.new + 1 ≤ awaited_in service.old + (if is_aborted (waiting service.old caller) then 0 else 2)) }
@@ -142,7 +142,7 @@ fn go_on<D: Disk>(
     requires room { is_aborted (waiting service.old caller) ≡ false → 0 < spare stamps.old }
     requires number { number < 2 ^ 63 }
     requires idle { Proceeds D.Disk files.old number files.old }
-    requires lasts { EachLasts (ledger_of service.old) }
+    requires lasts { EachLasts (superblock_of files.old).geometry.limits (ledger_of service.old) }
     requires waits { IsSomeAnd (waiting service.old caller) (λ a. goes_on (pending_as a) a.token a.answer ≡ Means a.key a.call) }
     ensures replied { IsReplied D.Disk files.old number stamps.old.entries service.old caller Resume result files.new stamps.new.entries service.new }
     ensures aborts { is_aborted (waiting service.old caller) ≡ true → IsOk result }
@@ -165,7 +165,7 @@ fn go_on<D: Disk>(
 
 /// The facts of a call on that file, or on one that is gone.
 fn facts_again<D: Disk>(files: &FileStore<D>, target: Option<Target>, call: &Call) -> Facts
-    requires bounded { IsBounded call.now }
+    requires bounded { IsBounded (superblock_of files.now).geometry.limits call.now }
     requires target { IfSome target (λ t. IsTarget files.now.held.files t.key t) }
     ensures { MatchOption target (result ≡ record { live = false; touches = false; needs = false; short = None })
         (λ t. AreKnown (superblock_of files.now) files.now.held t.key call.now result) }

@@ -2,6 +2,7 @@
 //! memory.
 ghost use Rattle.std.specs.Prelude.{◌≡◌, ◌≤◌, false, None, IfOk, MatchOption};
 ghost use Rattle.hsm_types.specs.Keyed.{find_key};
+ghost use Rattle.hsm_types.specs.Limits.{widest_limits};
 ghost use Rattle.plain_model.specs.Plain.{named, key_or_none, missing, refusal_of};
 ghost use Rattle.plain_model.specs.Accesses.{kind_of, reach};
 ghost use Rattle.plain_model.specs.State.{names_of, file_at, used};
@@ -56,13 +57,13 @@ pub(crate) fn meant<D: Disk>(
             judge_name(name)?;
             judge_length(len)?;
             let target = find(files, name)?;
-            judge_written_size(*offset, len)?;
+            judge_written_size(files, *offset, len)?;
             Ok(Some(target))
         }
         Call::Truncate { name, size } => {
             judge_name(name)?;
             let target = find(files, name)?;
-            judge_size(*size)?;
+            judge_size(files, *size)?;
             Ok(Some(target))
         }
         Call::Remove { name } | Call::Stat { name } => {
@@ -104,9 +105,11 @@ pub(crate) fn find_again<D: Disk>(files: &FileStore<D>, key: FileKey) -> Option<
 /// The facts of a call on that file.
 pub(crate) fn facts<D: Disk>(files: &FileStore<D>, target: Target, call: &Call) -> Facts
     requires target { IsTarget files.now.held.files target.key target }
-    requires bounded { IsBounded call.now }
+    requires bounded { IsBounded (superblock_of files.now).geometry.limits call.now }
     ensures { AreKnown (superblock_of files.now) files.now.held target.key call.now result }
 {
+    // Read for what the code can count.
+    let _superblock = files.superblock();
     Facts {
         live: true,
         touches: touches_region(files, target, call),
@@ -130,7 +133,7 @@ pub(crate) fn no_facts() -> Facts
 /// Whether the call touches a region of the file with the flag of its kind.
 fn touches_region<D: Disk>(files: &FileStore<D>, target: Target, call: &Call) -> bool
     requires target { IsTarget files.now.held.files target.key target }
-    requires bounded { IsBounded call.now }
+    requires bounded { IsBounded widest_limits call.now }
     ensures { result ≡ touches_as (kind_of call.now) (file_at target.key files.now.held.files) call.now }
 {
     let Some(kind) = kind_of(call) else {
@@ -142,7 +145,7 @@ fn touches_region<D: Disk>(files: &FileStore<D>, target: Target, call: &Call) ->
 
 /// The bytes of a file of that size that the call reaches.
 fn reach(size: u64, call: &Call) -> Range
-    requires { IsBounded call.now }
+    requires { IsBounded widest_limits call.now }
     ensures { result ≡ reach size call.now }
 {
     match call {
@@ -174,7 +177,7 @@ fn reach(size: u64, call: &Call) -> Range
 /// The blocks that the call touches and those that are free, where these are fewer.
 fn shortage<D: Disk>(files: &FileStore<D>, target: Target, call: &Call) -> Option<NoRoom>
     requires target { IsTarget files.now.held.files target.key target }
-    requires bounded { IsBounded call.now }
+    requires bounded { IsBounded widest_limits call.now }
     ensures short { result ≡ shortage (superblock_of files.now) files.now.held target.key call.now }
     ensures mapped { used files.now.held.files ≤ (superblock_of files.now).geometry.blocks }
 {

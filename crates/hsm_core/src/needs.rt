@@ -5,7 +5,7 @@ ghost use Rattle.std.specs.Option.{option_map};
 ghost use Rattle.hsm_types.specs.Refusals.{first_refusal};
 ghost use Rattle.hsm_types.specs.Segments.{segments_met, segment_around};
 ghost use Rattle.hsm_types.specs.Stubs.{stub_at, already_offline, offline_at};
-ghost use Rattle.hsm_types.specs.Limits.{file_bytes};
+ghost use Rattle.hsm_types.specs.Limits.{file_bytes, widest_limits};
 ghost use Rattle.plain_model.specs.Accesses.{needs};
 ghost use Rattle.plain_model.specs.State.{file_at, bytes_of};
 ghost use Rattle.file_store.specs.Stores.{IsStubbed};
@@ -20,7 +20,7 @@ use stub_map::StubMap;
 /// Whether the call needs a segment that is offline. It costs the stub entries of the segments that it needs.
 pub(crate) fn needs_segment<D: Disk>(files: &FileStore<D>, target: Target, call: &Call) -> bool
     requires target { IsTarget files.now.held.files target.key target }
-    requires bounded { IsBounded call.now }
+    requires bounded { IsBounded widest_limits call.now }
     ensures needs { result ≡ needs (file_at target.key files.now.held.files).kept.stubs (length (bytes_of target.key files.now.held.files)) call.now }
     ensures stubbed { AllByRecursion IsStubbed files.now.held.files }
 {
@@ -31,7 +31,7 @@ pub(crate) fn needs_segment<D: Disk>(files: &FileStore<D>, target: Target, call:
 /// Whether the call, on a file of that size, needs a segment that is offline.
 fn needs(stubs: &StubMap, size: u64, call: &Call) -> bool
     requires size { size ≤ file_bytes }
-    requires bounded { IsBounded call.now }
+    requires bounded { IsBounded widest_limits call.now }
     ensures { result ≡ needs stubs.now size call.now }
 {
     match call {

@@ -1,6 +1,5 @@
 //! Calls that nothing refuses, done by the key of their file. Each reply comes twice, for the caller and for the history.
 ghost use Rattle.std.specs.Prelude.{◌≡◌, ◌≤◌, ◌+◌, false, Some, None, IsSome, IfOk, OnOk, length};
-ghost use Rattle.hsm_types.specs.Limits.{file_bytes};
 ghost use Rattle.hsm_types.specs.declared.calls.Call.TheVariants.{Create, Sync};
 ghost use Rattle.hsm_types.specs.declared.calls.Reply.TheVariants.{Made, Data};
 ghost use Rattle.hsm_types.specs.Keyed.{find_key};
@@ -32,7 +31,7 @@ pub(crate) fn perform<D: Disk>(
 ) -> Result<(Reply, Reply), StoreRefusal>
     requires working { files.old.failed ≡ false }
     requires idle { Proceeds D.Disk files.old number files.old }
-    requires bounded { IsBounded call.now }
+    requires bounded { IsBounded (superblock_of files.old).geometry.limits call.now }
     requires target { IsOn files.old.held.files target.key call.now (Some target) }
     requires fits { shortage (superblock_of files.old) files.old.held target.key call.now ≡ None }
     requires mapped { used files.old.held.files ≤ (superblock_of files.old).geometry.blocks }
@@ -124,7 +123,7 @@ fn write<D: Disk>(
     requires working { files.old.failed ≡ false }
     requires live { IsSome (find_key (λ f. f.key) key files.old.held.files) }
     requires some { 1 ≤ length body.now }
-    requires end { offset + length body.now ≤ file_bytes }
+    requires end { offset + length body.now ≤ (superblock_of files.old).geometry.limits.bytes }
     requires here { IsSound (Writes offset body.now) (file_at key files.old.held.files) }
     requires room { length (touched (Writes offset body.now) (length (bytes_of key files.old.held.files))) + used files.old.held.files ≤ (superblock_of files.old).geometry.blocks }
     ensures reply { IfOk result (λ r. AreBoth Reply.Done r) }
@@ -144,7 +143,7 @@ fn truncate<D: Disk>(
 ) -> Result<(Reply, Reply), StoreRefusal>
     requires working { files.old.failed ≡ false }
     requires live { IsSome (find_key (λ f. f.key) key files.old.held.files) }
-    requires end { size ≤ file_bytes }
+    requires end { size ≤ (superblock_of files.old).geometry.limits.bytes }
     requires here { IsSound (Resizes size) (file_at key files.old.held.files) }
     requires room { length (touched (Resizes size) (length (bytes_of key files.old.held.files))) + used files.old.held.files ≤ (superblock_of files.old).geometry.blocks }
     ensures reply { IfOk result (λ r. AreBoth Reply.Done r) }

@@ -8,7 +8,7 @@ ghost use Rattle.dm_service.specs.Services.{Judges};
 use crate::lookups::find;
 use disk_model::Disk;
 use file_store::FileStore;
-use hsm_types::{ACCESS_BYTES, CallRefusal, FILE_BYTES, Word, can_name};
+use hsm_types::{ACCESS_BYTES, CallRefusal, Limits, Word, can_name};
 
 /// A name has from 1 to [`NAME_BYTES`](hsm_types::NAME_BYTES) visible bytes, none of them a slash.
 pub(crate) fn judge_name(name: &Word) -> Result<(), CallRefusal>
@@ -56,22 +56,34 @@ pub(crate) fn judge_inodes<D: Disk>(files: &FileStore<D>) -> Result<(), CallRefu
     }
 }
 
-/// A write leaves a file of at most [`FILE_BYTES`]. An end that no u64 can tell is told as the largest.
-pub(crate) fn judge_written_size(offset: u64, len: u64) -> Result<(), CallRefusal>
-    ensures { Judges result (too_big (offset + len)) }
+/// A write leaves a file of at most the bytes that the store's format allows. An end that no u64 can tell is told as the largest.
+pub(crate) fn judge_written_size<D: Disk>(
+    files: &FileStore<D>,
+    offset: u64,
+    len: u64,
+) -> Result<(), CallRefusal>
+    ensures { Judges result (too_big (superblock_of files.now).geometry.limits (offset + len)) }
 {
+    let limits = files.superblock().geometry.limits;
     match offset.checked_add(len) {
-        Some(end) => judge_size(end),
+        Some(end) => judge_end(limits, end),
         None => Err(CallRefusal::TooBig { end: u64::MAX }),
     }
 }
 
-/// A file has at most [`FILE_BYTES`].
-pub(crate) fn judge_size(size: u64) -> Result<(), CallRefusal>
-    ensures { Judges result (too_big size) }
+/// A file has at most the bytes that the store's format allows.
+pub(crate) fn judge_size<D: Disk>(files: &FileStore<D>, size: u64) -> Result<(), CallRefusal>
+    ensures { Judges result (too_big (superblock_of files.now).geometry.limits size) }
 {
-    if FILE_BYTES < size {
-        Err(CallRefusal::TooBig { end: size })
+    judge_end(files.superblock().geometry.limits, size)
+}
+
+/// A file ends within the limits.
+fn judge_end(limits: Limits, end: u64) -> Result<(), CallRefusal>
+    ensures { Judges result (too_big limits end) }
+{
+    if limits.bytes < end {
+        Err(CallRefusal::TooBig { end })
     } else {
         Ok(())
     }

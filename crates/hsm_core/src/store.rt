@@ -86,7 +86,7 @@ impl<D: Disk> Model for Hsm<D> {
     ghost invariant = { λ h. HasRun (record { opened = h.opened.value; files = h.files; stamps = h.stamps.entries; tables = h.service; history = h.history.items; spare = vec_capacity h.history - (vec_len h.history + awaited_in h.service) })
         × IsSafe D.Disk (record { opened = h.opened.value; files = h.files; stamps = h.stamps.entries; tables = h.service; history = h.history.items; spare = vec_capacity h.history - (vec_len h.history + awaited_in h.service) })
         × (h.base ≡ h.opened.value.meta.number) × (h.base ≤ 2 ^ 62)
-        × (vec_len h.history + awaited_in h.service ≤ vec_capacity h.history) × EachLasts (ledger_of h.service)
+        × (vec_len h.history + awaited_in h.service ≤ vec_capacity h.history) × EachLasts (superblock_of h.opened.value).geometry.limits (ledger_of h.service)
         × ArePacked (superblock_of h.opened.value) (just_opened h.opened.value.meta.number h.opened.value.held) h.history.items };
 }
 

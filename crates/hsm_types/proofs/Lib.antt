@@ -3,3 +3,5 @@ pub mod AscendingIds
 pub mod Queues
 pub mod Righted
 pub mod Stubbing
+pub mod Changing
+pub mod Limiting

@@ -1,5 +1,6 @@
 -- At how many places tokens stand after each call, and who holds them.
-use Rattle.std.proofs.Common.{◌≡◌, ℕ, ◌+◌, ◌<◌, ◌≤◌, Bool, true, false, cond, not, List, [], ◌∷◌, ◌++◌, length, map, take, drop, filter, Option, None, Some, is_some, refl, sym, ap, ◌∙◌, eqb, arith}
+use Rattle.std.proofs.Common.{◌≡◌, ℕ, ◌+◌, ◌<◌, ◌≤◌, Bool, true, false, cond, not, List, [], ◌∷◌, ◌++◌, length, map, take, drop, filter, Option, None}
+use Rattle.std.proofs.Common.{Some, is_some, refl, sym, ap, ◌∙◌, eqb, arith}
 use Rattle.std.proofs.lemmas.Bool.{true≢false, false≢true, eqb-true, ne_eqb, eq-eqb}
 use Rattle.std.proofs.lemmas.List.Sums.{sum_by-cons, sum_by-append, sum_by-take-drop, count_by-le-length}
 use Rattle.std.proofs.lemmas.List.Filters.{sum_by-filter_both}
@@ -8,7 +9,10 @@ use Rattle.std.specs.List.{find, list_any}
 use Rattle.std.specs.Option.{option_map}
 use Rattle.std.specs.Map.{lookup, remove_entry}
 use Rattle.hsm_types.specs.Messages.{has_token, takes, no_token, user_message}
-use Rattle.hsm_types.specs.Sessions.{LiveSession, SessionTable, Ascend, same_sid, session_of, lives, outstanding_of, outstanding_or_none, taker, holds, owner, destruction_refusal, events_left, next_sid, heir, with_session, without_session, change_live, change_session, loses, queued, with_kinds, posted_to, posted, put_message, put_messages, with_tokens, hands_out, delivered, without_token, responded, user_event, sent, places_in, places}
+use Rattle.hsm_types.specs.Sessions.{LiveSession, SessionTable, Ascend, same_sid, session_of, lives, outstanding_of, outstanding_or_none, taker}
+use Rattle.hsm_types.specs.Sessions.{holds, owner, destruction_refusal, events_left, next_sid, heir, with_session, without_session, change_live}
+use Rattle.hsm_types.specs.Sessions.{change_session, loses, queued, with_kinds, posted_to, posted, put_message, put_messages, with_tokens, hands_out}
+use Rattle.hsm_types.specs.Sessions.{delivered, without_token, responded, user_event, sent, places_in, places}
 use Rattle.hsm_types.specs.declared.keys.Sid.{Sid}
 use Rattle.hsm_types.specs.declared.keys.Token.{Token}
 use Rattle.hsm_types.specs.declared.dm.Kinds.{Kinds}

@@ -1,5 +1,6 @@
 -- Rights after each call: in order, each more than nothing, and an exclusive one alone on its file.
-use Rattle.std.proofs.Common.{◌≡◌, ◌≢◌, ℕ, ◌<◌, arith, map, [], ◌∷◌, Bool, true, false, not, cond, Option, Some, None, Ordering, Less, Equal, Greater, inl, inr, refl, sym, ap, subst, ◌∙◌, ⊎_elim, nat_cmp, is_eq}
+use Rattle.std.proofs.Common.{◌≡◌, ◌≢◌, ℕ, ◌<◌, arith, map, [], ◌∷◌, Bool, true, false, not, cond, Option, Some, None, Ordering, Less, Equal, Greater}
+use Rattle.std.proofs.Common.{inl, inr, refl, sym, ap, subst, ◌∙◌, ⊎_elim, nat_cmp, is_eq}
 use Rattle.std.specs.Prelude.{◌⊎◌, ◌&&◌, ◌==◌, if◌then◌else◌, filter, nat_lt}
 use Rattle.std.specs.BTreeMap.{insert_entry}
 use Rattle.std.specs.Cmp.{IsTotalOrder, IsEquivalence}
@@ -16,7 +17,8 @@ use Rattle.std.proofs.lemmas.Map.Entries.{lookup-filter-keys}
 use Rattle.std.proofs.lemmas.Map.Keys.{IsDistinct-from_sorted}
 use Rattle.std.proofs.lemmas.Map.Views.{All-keys-insert_entry, All-values-insert_entry, All-map-remove_entry}
 use Rattle.hsm_types.specs.Handles.{same_key}
-use Rattle.hsm_types.specs.Rights.{reaches, excludes, same_token, same_holding, key_cmp, holding_cmp, Rights, holding, right_or_null, right_of, hinders, conflict, with_right, requested, without_right, released, AreRights}
+use Rattle.hsm_types.specs.Rights.{reaches, excludes, same_token, same_holding, key_cmp, holding_cmp, Rights, holding, right_or_null, right_of}
+use Rattle.hsm_types.specs.Rights.{hinders, conflict, with_right, requested, without_right, released, AreRights}
 use Rattle.hsm_types.specs.declared.dm.Right.{Right}
 use Rattle.hsm_types.specs.declared.dm.Right.TheVariants.{Null, Shared, Excl}
 use Rattle.hsm_types.specs.declared.keys.FileKey.{FileKey}

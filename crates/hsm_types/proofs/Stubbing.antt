@@ -1,5 +1,6 @@
 -- Which entry a segment has after each change of a file's stub entries, and what regions must cover.
-use Rattle.std.proofs.Common.{◌≡◌, ℕ, ◌+◌, [], ◌∷◌, arith, Bool, true, false, not, cond, Option, Some, None, Ordering, Less, Equal, Greater, refl, sym, ap, subst, ◌∙◌, nat_cmp, is_eq}
+use Rattle.std.proofs.Common.{◌≡◌, ℕ, ◌+◌, [], ◌∷◌, arith, Bool, true, false, not, cond, Option, Some, None, Ordering, Less, Equal, Greater, refl}
+use Rattle.std.proofs.Common.{sym, ap, subst, ◌∙◌, nat_cmp, is_eq}
 use Rattle.std.specs.Prelude.{List, ◌&&◌, ◌==◌, if◌then◌else◌, nat_eq, nat_lt, nat_le, IfSome}
 use Rattle.std.specs.BTreeMap.{insert_entry}
 use Rattle.std.specs.List.{AllByRecursion, find}
@@ -9,7 +10,8 @@ use Rattle.std.proofs.lemmas.Bool.{eqb-true, false≢true, true≢false}
 use Rattle.std.proofs.lemmas.Map.Entries.{lookup-filter-keys}
 use Rattle.hsm_types.specs.Regions.{covers}
 use Rattle.hsm_types.specs.Segments.{meets_segment}
-use Rattle.hsm_types.specs.Stubs.{Stubs, stub_at, is_offline, offline_at, moved, sealed, punched, restored, unsealed, without_stub, stubs_below, uncovered, FitsFile, AreStubs}
+use Rattle.hsm_types.specs.Stubs.{Stubs, stub_at, is_offline, offline_at, moved, sealed, punched, restored, unsealed, without_stub, stubs_below}
+use Rattle.hsm_types.specs.Stubs.{uncovered, FitsFile, AreStubs}
 use Rattle.hsm_types.specs.declared.dm.DmRefusal.TheVariants.{Uncovered}
 use Rattle.hsm_types.specs.declared.regions.Region.{Region}
 use Rattle.hsm_types.specs.declared.stubs.Stub.{Stub}

@@ -1,24 +1,37 @@
 -- The limits of files, accesses and sessions.
-use Rattle.std.specs.Prelude.{ℕ}
+use Rattle.std.specs.Prelude.{ℕ, ◌≤◌}
 use Rattle.hsm_types.specs.declared.stores.Geometry.{Geometry}
+use Rattle.hsm_types.specs.declared.stores.Limits.{Limits}
 
 -- ---- files
 
--- the bytes of the longest file
+-- what the first format lets a file have
+abbrev pub first_limits : Limits
+first_limits = record { bytes = 16777216; regions = 4 }
+
+-- The most that the code can count of a file, whatever its format allows: its bytes,
 abbrev pub file_bytes : ℕ
 file_bytes = 16777216
 
--- the segments of the longest file
+-- the segments of so many bytes,
 abbrev pub file_segments : ℕ
 file_segments = 256
 
--- the blocks of the longest file
+-- their blocks,
 abbrev pub file_blocks : ℕ
 file_blocks = 4096
 
--- the most regions of a file
+-- and its regions
 abbrev pub file_regions : ℕ
 file_regions = 4
+
+-- the same as limits
+abbrev pub widest_limits : Limits
+widest_limits = record { bytes = file_bytes; regions = file_regions }
+
+-- a format allows no more than the code can count
+abbrev pub IsCountable : Limits → Type 0
+IsCountable limits = (limits.bytes ≤ file_bytes) × (limits.regions ≤ file_regions)
 
 -- ---- segments and blocks
 
@@ -38,11 +51,11 @@ block_bytes = 4096
 
 -- how much a store can hold that the words call `small`
 abbrev pub small_geometry : Geometry
-small_geometry = record { files = 64; blocks = 1024; attributes = 32768; stubs = 1024 }
+small_geometry = record { files = 64; blocks = 1024; attributes = 32768; stubs = 1024; limits = first_limits }
 
 -- and one that they call `large`
 abbrev pub large_geometry : Geometry
-large_geometry = record { files = 4096; blocks = 65536; attributes = 1048576; stubs = 65536 }
+large_geometry = record { files = 4096; blocks = 65536; attributes = 1048576; stubs = 65536; limits = first_limits }
 
 -- ---- names and accesses
 

@@ -1,10 +1,12 @@
 -- Managed regions of a file.
-use Rattle.std.specs.Prelude.{ℕ, ◌+◌, ◌*◌, ◌/◌, ◌%◌, List, [], ◌∷◌, length, Bool, true, false, not, ◌==◌, ◌&&◌, ◌||◌, nat_lt, nat_le, if◌then◌else◌, Option, Some, None}
+use Rattle.std.specs.Prelude.{ℕ, ◌+◌, ◌*◌, ◌/◌, ◌%◌, List, [], ◌∷◌, length, Bool, true, false, not, ◌==◌, ◌&&◌, ◌||◌, nat_lt, nat_le, if◌then◌else◌}
+use Rattle.std.specs.Prelude.{Option, Some, None}
 use Rattle.std.specs.List.{list_any}
-use Rattle.hsm_types.specs.Limits.{file_bytes, file_regions, segment_bytes}
+use Rattle.hsm_types.specs.Limits.{segment_bytes}
 use Rattle.hsm_types.specs.Refusals.{first_refusal}
 use Rattle.hsm_types.specs.declared.regions.Region.{Region}
 use Rattle.hsm_types.specs.declared.regions.Range.{Range}
+use Rattle.hsm_types.specs.declared.stores.Limits.{Limits}
 use Rattle.hsm_types.specs.declared.dm.Kind.{Kind}
 use Rattle.hsm_types.specs.declared.dm.Kind.TheVariants.{Read, Write, Truncate}
 use Rattle.hsm_types.specs.declared.dm.DmRefusal.{DmRefusal}
@@ -18,24 +20,24 @@ is_behind None r = true
 is_behind (Some before) r = not (before.size == 0) && nat_le (before.offset + before.size) r.offset
 
 -- flags are from 0 to 7, the region ends within the limit of a file, and it is behind the one before it
-abbrev pub is_region : Option Region → Region → Bool
-is_region before r = nat_le r.flags 7 && nat_le (r.offset + r.size) file_bytes && is_behind before r
+abbrev pub is_region : Limits → Option Region → Region → Bool
+is_region limits before r = nat_le r.flags 7 && nat_le (r.offset + r.size) limits.bytes && is_behind before r
 
 -- the index of the first that is bad behind the one before it, counted on from `index`
-abbrev pub first_bad : ℕ → Option Region → List Region → Option ℕ
-first_bad index before [] = None
-first_bad index before (r ∷ rs) = if is_region before r then first_bad (index + 1) (Some r) rs else Some index
+abbrev pub first_bad : Limits → ℕ → Option Region → List Region → Option ℕ
+first_bad limits index before [] = None
+first_bad limits index before (r ∷ rs) = if is_region limits before r then first_bad limits (index + 1) (Some r) rs else Some index
 
-abbrev pub too_many_regions : List Region → Option DmRefusal
-too_many_regions rs = if nat_le (length rs) file_regions then None else Some (TooMany (length rs))
+abbrev pub too_many_regions : Limits → List Region → Option DmRefusal
+too_many_regions limits rs = if nat_le (length rs) limits.regions then None else Some (TooMany (length rs))
 
 abbrev pub bad_region : Option ℕ → Option DmRefusal
 bad_region None = None
 bad_region (Some index) = Some (BadRegion index)
 
 -- what refuses a list, in the order of judgement
-abbrev pub regions_refusal : List Region → Option DmRefusal
-regions_refusal rs = first_refusal (too_many_regions rs ∷ bad_region (first_bad 0 None rs) ∷ [])
+abbrev pub regions_refusal : Limits → List Region → Option DmRefusal
+regions_refusal limits rs = first_refusal (too_many_regions limits rs ∷ bad_region (first_bad limits 0 None rs) ∷ [])
 
 -- ---- what touches a region
 

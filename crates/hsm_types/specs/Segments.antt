@@ -1,5 +1,5 @@
--- Segments of a body, of `segment_bytes` each: segment j holds the bytes from j times as many on up to the next multiple, or to the body's end. A range is its first
--- byte and its end.
+-- Segments of a body, of `segment_bytes` each: segment j holds the bytes from j times as many on up to the next multiple, or to the
+-- body's end. A range is its first byte and its end.
 use Rattle.std.specs.Prelude.{ℕ, zero, suc, ◌+◌, ◌-◌, ◌*◌, ◌/◌, ◌%◌, min, List, [], ◌∷◌, Bool, ◌==◌, ◌&&◌, nat_lt, if◌then◌else◌}
 use Rattle.hsm_types.specs.Limits.{segment_bytes}
 

@@ -33,6 +33,6 @@ pub use media::{CopyRefusal, Fault, FetchRefusal, MediaCause};
 pub use messages::{Message, Packed};
 pub use names::can_name;
 pub use regions::{REGION_READ, REGION_TRUNCATE, REGION_WRITE, Range, Region};
-pub use stores::{Geometry, LARGE_GEOMETRY, SMALL_GEOMETRY, Superblock};
+pub use stores::{FIRST_LIMITS, Geometry, LARGE_GEOMETRY, Limits, SMALL_GEOMETRY, Superblock};
 pub use stubs::{Changed, Digest, Fingerprint, Place, Segment, Stub, StubEntry, Verified};
 pub use tables::{FileRow, Table};

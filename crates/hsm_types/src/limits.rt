@@ -2,18 +2,18 @@
 ghost use Rattle.std.specs.Prelude.{◌≡◌, ◌≤◌};
 ghost use Rattle.hsm_types.specs.Segments.{segments_in};
 
-// Files.
+// The most that the code can count of a file, whatever its format allows (`Limits`).
 
-/// The bytes of the longest file.
+/// The bytes of a file, at most.
 pub const FILE_BYTES: u64 = 16777216;
 
-/// The segments of the longest file.
+/// The segments of so many bytes.
 pub const FILE_SEGMENTS: u32 = 256;
 
-/// The blocks of the longest file.
+/// The blocks of so many bytes.
 pub const FILE_BLOCKS: u32 = 4096;
 
-/// The most regions of a file.
+/// The regions of a file, at most.
 pub const FILE_REGIONS: usize = 4;
 
 // Segments and blocks.

@@ -1,5 +1,21 @@
 //! What a store was formatted with.
 
+/// What a format lets a file have.
+#[derive(Clone, Copy, PartialEq, Eq)]
+pub struct Limits {
+    /// The bytes of the longest file.
+    pub bytes: u64,
+
+    /// The most regions of a file.
+    pub regions: u32,
+}
+
+/// The limits of the first format.
+pub const FIRST_LIMITS: Limits = Limits {
+    bytes: 16_777_216,
+    regions: 4,
+};
+
 /// How much a store can hold.
 #[derive(Clone, Copy, PartialEq, Eq)]
 pub struct Geometry {
@@ -14,6 +30,9 @@ pub struct Geometry {
 
     /// How many stub entries all files together may have.
     pub stubs: u32,
+
+    /// What one file may have.
+    pub limits: Limits,
 }
 
 /// The geometry that the words call `small`.
@@ -22,6 +41,7 @@ pub const SMALL_GEOMETRY: Geometry = Geometry {
     blocks: 1024,
     attributes: 32_768,
     stubs: 1024,
+    limits: FIRST_LIMITS,
 };
 
 /// The geometry that they call `large`.
@@ -30,6 +50,7 @@ pub const LARGE_GEOMETRY: Geometry = Geometry {
     blocks: 65_536,
     attributes: 1_048_576,
     stubs: 65_536,
+    limits: FIRST_LIMITS,
 };
 
 /// What formatting fixes of a store for all its life.

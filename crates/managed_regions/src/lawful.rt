@@ -3,32 +3,32 @@ ghost use Rattle.std.specs.Prelude.{◌≡◌, ◌≤◌, None, Some, length, Ma
 ghost use Rattle.hsm_types.specs.Regions.{first_bad, is_behind, is_region, regions_refusal};
 
 use crate::meeting::{ALL_FLAGS, end};
-use hsm_types::{DmRefusal, FILE_BYTES, FILE_REGIONS, Region};
+use hsm_types::{DmRefusal, Limits, Region};
 
 /// What refuses the list, if anything does.
-pub fn check_regions(regions: &[Region]) -> Result<(), DmRefusal>
-    ensures { MatchResult result (λ _. regions_refusal regions.now ≡ None) (λ why. regions_refusal regions.now ≡ Some why) }
+pub fn check_regions(limits: Limits, regions: &[Region]) -> Result<(), DmRefusal>
+    ensures { MatchResult result (λ _. regions_refusal limits regions.now ≡ None) (λ why. regions_refusal limits regions.now ≡ Some why) }
 {
-    if regions.len() > FILE_REGIONS {
+    if regions.len() > limits.regions as usize {
         return Err(DmRefusal::TooMany {
             count: regions.len() as u64,
         });
     }
-    match first_bad(regions) {
+    match first_bad(limits, regions) {
         Some(index) => Err(DmRefusal::BadRegion { index }),
         None => Ok(()),
     }
 }
 
 /// The index of the first region that is bad, if one is.
-fn first_bad(regions: &[Region]) -> Option<u32>
-    requires { length regions.now ≤ FILE_REGIONS }
-    ensures { result ≡ first_bad 0 None regions.now }
+fn first_bad(limits: Limits, regions: &[Region]) -> Option<u32>
+    requires { length regions.now ≤ limits.regions }
+    ensures { result ≡ first_bad limits 0 None regions.now }
 {
     let mut before = None;
     let mut index = 0;
     for region in regions {
-        if !is_lawful(before, *region) {
+        if !is_lawful(limits, before, *region) {
             return Some(index);
         }
         before = Some(*region);
@@ -38,11 +38,11 @@ fn first_bad(regions: &[Region]) -> Option<u32>
 }
 
 /// Whether a region may stand there, behind the one before it.
-fn is_lawful(before: Option<Region>, region: Region) -> bool
-    ensures { result ≡ is_region before region }
+fn is_lawful(limits: Limits, before: Option<Region>, region: Region) -> bool
+    ensures { result ≡ is_region limits before region }
 {
     region.flags <= ALL_FLAGS
-        && end(region.offset, region.size) <= u128::from(FILE_BYTES)
+        && end(region.offset, region.size) <= u128::from(limits.bytes)
         && starts_behind(before, region)
 }
 

@@ -1,10 +1,11 @@
 //! The list of a file's regions.
 ghost use Rattle.std.specs.Prelude.{◌≡◌, [], None, Some, OnOk, OnErr, MatchResult};
+ghost use Rattle.hsm_types.specs.Limits.{IsCountable};
 ghost use Rattle.hsm_types.specs.Regions.{regions_refusal, touches, covers};
 
 use crate::lawful::check_regions;
 use crate::meeting::{contains, is_flagged, meets};
-use hsm_types::{DmRefusal, Kind, Range, Regions};
+use hsm_types::{DmRefusal, Kind, Limits, Range, Regions};
 use std::alloc::Global;
 use std::marker::Model;
 
@@ -17,13 +18,14 @@ pub struct ManagedRegions {
 impl Model for ManagedRegions {
     ghost use Rattle.std.specs.Prelude.{◌≡◌, List, None};
     ghost use Rattle.hsm_types.specs.declared.regions.Region.{Region};
+    ghost use Rattle.hsm_types.specs.Limits.{widest_limits};
     ghost use Rattle.hsm_types.specs.Regions.{regions_refusal};
 
     ghost Value = { List Region };
 
     ghost view = { λ m. m.regions };
 
-    ghost invariant = { λ m. regions_refusal m.regions ≡ None };
+    ghost invariant = { λ m. regions_refusal widest_limits m.regions ≡ None };
 }
 
 impl ManagedRegions {
@@ -36,13 +38,15 @@ impl ManagedRegions {
         }
     }
 
-    /// Replaces the whole list. It takes no memory.
-    pub fn set(&mut self, regions: Regions) -> Result<(), DmRefusal>
-        ensures judged { MatchResult result (λ _. regions_refusal regions ≡ None) (λ why. regions_refusal regions ≡ Some why) }
+    /// Replaces the whole list by one that the limits allow. It takes no memory.
+    #[tactic(auto, using(hsm_types::proofs::Limiting::regions_countable))]
+    pub fn set(&mut self, limits: Limits, regions: Regions) -> Result<(), DmRefusal>
+        requires { IsCountable limits }
+        ensures judged { MatchResult result (λ _. regions_refusal limits regions ≡ None) (λ why. regions_refusal limits regions ≡ Some why) }
         ensures ok { OnOk result (self.new ≡ regions) }
         ensures err { OnErr result (self.new ≡ self.old) }
     {
-        check_regions(regions.as_slice())?;
+        check_regions(limits, regions.as_slice())?;
         self.regions = regions;
         Ok(())
     }

@@ -1,5 +1,6 @@
 -- What calls of drives in memory answer and leave.
-use Rattle.std.proofs.Common.{◌≡◌, inl, ⊎_elim, ℕ, ◌+◌, ◌<◌, ◌≤◌, Bool, true, false, cond, nat_eq, nat_lt, List, [], ◌∷◌, ◌++◌, length, get_or, Option, None, Some, Result, Ok, Err, OnOk, OnErr, IsOk, is_some, refl, sym, ap, subst, ◌∙◌, arith}
+use Rattle.std.proofs.Common.{◌≡◌, inl, ⊎_elim, ℕ, ◌+◌, ◌<◌, ◌≤◌, Bool, true, false, cond, nat_eq, nat_lt, List, [], ◌∷◌, ◌++◌, length, get_or}
+use Rattle.std.proofs.Common.{Option, None, Some, Result, Ok, Err, OnOk, OnErr, IsOk, is_some, refl, sym, ap, subst, ◌∙◌, arith}
 use Rattle.std.proofs.lemmas.Bool.{true≢false, false≢true, eqb-true, eq-eqb}
 use Rattle.std.proofs.lemmas.Result.{on_ok_weaker}
 use Rattle.std.proofs.lemmas.Option.{slice_get_within, get_or_from_slice_get, none-some}
@@ -7,7 +8,8 @@ use Rattle.std.specs.Option.{option_map, option_map_or}
 use Rattle.std.specs.List.{slice_get}
 use Rattle.std.specs.Map.{lookup, set_value}
 use Rattle.media_model.specs.Objects.{Objects, size_of, Adds, AddsOne, Follows, Alike, HasCause, KeepsVolumes}
-use Rattle.media_model.specs.Memory.{Volume, Held, volume_in, objects_in, has_volume, lasting_in, AreObjects, of_volume, of_bytes, of_object, number_in, with_object, synced, change_entry, change_volume, Appends}
+use Rattle.media_model.specs.Memory.{Volume, Held, volume_in, objects_in, has_volume, lasting_in, AreObjects, of_volume, of_bytes, of_object}
+use Rattle.media_model.specs.Memory.{number_in, with_object, synced, change_entry, change_volume, Appends}
 use Rattle.media_model.specs.declared.drive.DriveRefusal.{DriveRefusal}
 use Rattle.media_model.specs.declared.drive.DriveRefusal.TheVariants.{Failed, Full, NoVolume, Memory}
 

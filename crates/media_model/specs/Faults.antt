@@ -1,5 +1,6 @@
 -- A drive in memory some of whose calls fail, and some of whose objects are damaged.
-use Rattle.std.specs.Prelude.{◌≡◌, ◌⊎◌, ℕ, Bool, true, ◌&&◌, List, [], ◌∷◌, ◌++◌, length, take, reverse, find, nat_eq, if◌then◌else◌, Option, None, Some, is_some, Result, Err, slice_set}
+use Rattle.std.specs.Prelude.{◌≡◌, ◌⊎◌, ℕ, Bool, true, ◌&&◌, List, [], ◌∷◌, ◌++◌, length, take, reverse, find, nat_eq, if◌then◌else◌, Option, None}
+use Rattle.std.specs.Prelude.{Some, is_some, Result, Err, slice_set}
 use Rattle.std.specs.Option.{option_map_or}
 use Rattle.disk_model.specs.Calls.{raised}
 use Rattle.media_model.specs.Memory.{Held, volume_in, has_volume, with_object, change_volume, Appends}

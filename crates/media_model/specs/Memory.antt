@@ -1,5 +1,6 @@
 -- Drives in memory: what they hold, and what their calls make of it.
-use Rattle.std.specs.Prelude.{Bool, true, is_some, refl, ◌≡◌, ◌⊎◌, ℕ, ◌+◌, ◌≤◌, ◌<◌, ◌^◌, List, [], ◌∷◌, ◌++◌, length, nat_eq, nat_lt, if◌then◌else◌, Option, None, Some, Result, Ok, Err, IsOk, OnOk, OnErr, slice_get}
+use Rattle.std.specs.Prelude.{Bool, true, is_some, refl, ◌≡◌, ◌⊎◌, ℕ, ◌+◌, ◌≤◌, ◌<◌, ◌^◌, List, [], ◌∷◌, ◌++◌, length, nat_eq, nat_lt, if◌then◌else◌}
+use Rattle.std.specs.Prelude.{Option, None, Some, Result, Ok, Err, IsOk, OnOk, OnErr, slice_get}
 use Rattle.std.proofs.Common.{sym, ap}
 use Rattle.std.proofs.lemmas.Bool.{false≢true}
 use Rattle.std.proofs.lemmas.Option.{none-some}

@@ -1,5 +1,6 @@
 //! A drive in memory, of which chosen calls fail and chosen objects are damaged.
-ghost use Rattle.std.specs.Prelude.{◌≡◌, ◌↔◌, ◌<◌, ◌≤◌, ◌^◌, ℕ, [], length, take, reverse, find, nat_eq, true, IsTrue, IsErrOf, Err, if◌then◌else◌, None, Some, is_some, IfOk, OnOk, OnErr, MatchResult, MatchOption};
+ghost use Rattle.std.specs.Prelude.{◌≡◌, ◌↔◌, ◌<◌, ◌≤◌, ◌^◌, ℕ, [], length, take, reverse, find, nat_eq, true, IsTrue, IsErrOf, Err, if◌then◌else◌};
+ghost use Rattle.std.specs.Prelude.{None, Some, is_some, IfOk, OnOk, OnErr, MatchResult, MatchOption};
 ghost use Rattle.std.specs.List.{list_any};
 ghost use Rattle.std.specs.Option.{option_map_or};
 ghost use Rattle.disk_model.specs.Calls.{raised};

@@ -1,10 +1,12 @@
 //! A drive in memory that never fails.
-ghost use Rattle.std.specs.Prelude.{◌≡◌, ◌+◌, ◌<◌, ◌≤◌, ◌^◌, ℕ, [], length, nat_eq, is_some, if◌then◌else◌, true, Ok, Err, Some, None, IfOk, IfSome, OnOk, OnErr, MatchResult, MatchOption, slice_set, take, drop};
+ghost use Rattle.std.specs.Prelude.{◌≡◌, ◌+◌, ◌<◌, ◌≤◌, ◌^◌, ℕ, [], length, nat_eq, is_some, if◌then◌else◌, true, Ok, Err, Some, None, IfOk, IfSome};
+ghost use Rattle.std.specs.Prelude.{OnOk, OnErr, MatchResult, MatchOption, slice_set, take, drop};
 ghost use Rattle.std.specs.List.{list_any};
 ghost use Rattle.std.specs.Map.{lookup};
 ghost use Rattle.std.specs.Option.{option_map_or};
 ghost use Rattle.media_model.specs.Objects.{read_from};
-ghost use Rattle.media_model.specs.Memory.{no_objects, volume_in, has_volume, objects_in, of_volume, of_object, number_in, with_object, synced, change_entry, change_volume, Appends};
+ghost use Rattle.media_model.specs.Memory.{no_objects, volume_in, has_volume, objects_in, of_volume, of_object, number_in, with_object, synced};
+ghost use Rattle.media_model.specs.Memory.{change_entry, change_volume, Appends};
 ghost use Rattle.media_model.specs.declared.drive.DriveRefusal.TheVariants.{NoVolume};
 
 use crate::volume::{ObjectBytes, Volume};
@@ -149,7 +151,8 @@ impl SureDrive {
 impl Drive for SureDrive {
     ghost use Rattle.std.specs.Prelude.{◌≡◌, ◌+◌, ◌<◌, ◌≤◌, ℕ, [], length, true, Ok, Err, get_or, take, drop, OnOk, IfOk, IsErr, IsErrOf, refl};
     ghost use Rattle.media_model.specs.Objects.{Objects, size_of, read_from, Adds, AddsOne, MayAdd, Follows, Alike, HasCause, IsAsked, KeepsVolumes};
-    ghost use Rattle.media_model.specs.Memory.{volume_in, has_volume, lasting_in, AreObjects, of_volume, of_object, change_volume, synced, Appends, gives_has, has_gives};
+    ghost use Rattle.media_model.specs.Memory.{volume_in, has_volume, lasting_in, AreObjects, of_volume, of_object, change_volume, synced, Appends};
+    ghost use Rattle.media_model.specs.Memory.{gives_has, has_gives};
     ghost use Rattle.media_model.specs.Memory.{content_in, gives_content};
     ghost use Rattle.media_model.specs.declared.drive.DriveRefusal.TheVariants.{Failed, Full, NoObject};
 

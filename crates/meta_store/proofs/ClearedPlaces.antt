@@ -1,5 +1,6 @@
 -- Places of blocks, one by one, and those of a segment that is cleared.
-use Rattle.std.proofs.Common.{◌≡◌, ℕ, zero, suc, ◌+◌, ◌-◌, ◌*◌, ◌<◌, ◌≤◌, List, [], ◌∷◌, ◌++◌, length, take, drop, set, get_or, Bool, Option, Some, None, ◌⊎◌, refl, ◌∙◌, ap, arith, append_assoc, get_or-set_other}
+use Rattle.std.proofs.Common.{◌≡◌, ℕ, zero, suc, ◌+◌, ◌-◌, ◌*◌, ◌<◌, ◌≤◌, List, [], ◌∷◌, ◌++◌, length, take, drop, set, get_or, Bool, Option, Some}
+use Rattle.std.proofs.Common.{None, ◌⊎◌, refl, ◌∙◌, ap, arith, append_assoc, get_or-set_other}
 use Rattle.std.specs.Prelude.{replicate, min, if◌then◌else◌}
 use Rattle.std.proofs.lemmas.Grind.{common_steps}
 use Rattle.hsm_types.specs.Limits.{segment_blocks}

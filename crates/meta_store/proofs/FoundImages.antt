@@ -11,7 +11,7 @@ same-catalog : (n n' : ℕ) (c c' : Catalog) → c.geometry ≡ c'.geometry → 
 unfolding snapshot_of
 same-catalog n n' c c' geometry h h' is =
     let next = ap (λ (s : Snapshot). s.next) is in
-    let files = sym (filled-again (geometry_of c.geometry).blocks c.files h.each) ∙ ap (λ (s : Snapshot). map filled s.files) is ∙ filled-again (geometry_of c'.geometry).blocks c'.files h'.each in
+    let files = sym (filled-again (geometry_of c.geometry) c.files h.each) ∙ ap (λ (s : Snapshot). map filled s.files) is ∙ filled-again (geometry_of c'.geometry) c'.files h'.each in
     (ap (λ (s : Snapshot). s.number) is, λ i. record { geometry = geometry i; next = next i; files = files i })
 
 pub found-one : (image : List ℕ) → FindsOne image

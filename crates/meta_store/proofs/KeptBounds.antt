@@ -3,24 +3,26 @@ use Rattle.std.proofs.Common.{◌≡◌, ℕ, ◌+◌, ◌*◌, ◌≤◌, List,
 use Rattle.std.specs.List.{flat_map, AllByRecursion}
 use Rattle.std.specs.Map.{values_of}
 use Rattle.std.proofs.lemmas.List.Sums.{sum_by-cons}
-use Rattle.hsm_types.specs.Limits.{file_regions, value_bytes, attribute_cost}
+use Rattle.hsm_types.specs.Limits.{file_regions, value_bytes, attribute_cost, widest_limits, IsCountable}
 use Rattle.hsm_types.specs.declared.regions.Region.{Region}
+use Rattle.hsm_types.specs.declared.stores.Limits.{Limits}
 use Rattle.hsm_types.specs.declared.attributes.AttrName.{AttrName}
 use Rattle.hsm_types.specs.Regions.{first_bad, regions_refusal}
 use Rattle.hsm_types.specs.Attributes.{Attributes, AreAttributes, setting_refusal, with_value, without_value, cost_of_value, bytes_of_attributes}
 use Rattle.std.proofs.lemmas.List.Elements.{recursion_from_All}
+use Rattle.hsm_types.proofs.Limiting.{regions_countable}
 use Rattle.meta_store.proofs.EachOf.{each-as, each-and, map-each}
 use Rattle.meta_store.specs.Snapshots.{attribute_bytes, RegionFits, AttributeFits}
 
-pub regions-few : (rs : List Region) → regions_refusal rs ≡ None → length rs ≤ file_regions
-regions-few rs none = grind arith
+pub regions-few : (limits : Limits) → IsCountable limits → (rs : List Region) → regions_refusal limits rs ≡ None → length rs ≤ file_regions
+regions-few limits countable rs lawful = let none = regions_countable limits countable rs lawful in grind arith
 
-each_fits : (index : ℕ) (before : Option Region) (rs : List Region) → first_bad index before rs ≡ None → AllByRecursion RegionFits rs
+each_fits : (index : ℕ) (before : Option Region) (rs : List Region) → first_bad widest_limits index before rs ≡ None → AllByRecursion RegionFits rs
 each_fits index before [] h = tt
 each_fits index before (r ∷ rs) h = (grind arith, each_fits (index + 1) (Some r) rs (grind arith))
 
-pub regions-fit : (rs : List Region) → regions_refusal rs ≡ None → AllByRecursion RegionFits rs
-regions-fit rs none = each_fits 0 None rs (grind arith)
+pub regions-fit : (limits : Limits) → IsCountable limits → (rs : List Region) → regions_refusal limits rs ≡ None → AllByRecursion RegionFits rs
+regions-fit limits countable rs lawful = let none = regions_countable limits countable rs lawful in each_fits 0 None rs (grind arith)
 
 -- values are short
 pub values-short : (attrs : Attributes) → AreAttributes attrs → AllByRecursion (λ a. length a.1 ≤ value_bytes) attrs

@@ -1,5 +1,6 @@
 -- The places of one file's blocks, after a new size and after mappings.
-use Rattle.std.proofs.Common.{◌≡◌, ℕ, zero, suc, ◌+◌, ◌-◌, ◌<◌, ◌≤◌, List, [], ◌∷◌, ◌++◌, length, take, drop, set, get_or, Option, Some, None, false, eqb, inl, ◌⊎◌, refl, ◌∙◌, ap, arith, length-append, length-set, length-take}
+use Rattle.std.proofs.Common.{◌≡◌, ℕ, zero, suc, ◌+◌, ◌-◌, ◌<◌, ◌≤◌, List, [], ◌∷◌, ◌++◌, length, take, drop, set, get_or, Option, Some, None, false}
+use Rattle.std.proofs.Common.{eqb, inl, ◌⊎◌, refl, ◌∙◌, ap, arith, length-append, length-set, length-take}
 use Rattle.std.specs.Prelude.{replicate}
 use Rattle.std.specs.List.{list_any, AllByRecursion}
 use Rattle.std.proofs.lemmas.List.{length-replicate, drop_more}

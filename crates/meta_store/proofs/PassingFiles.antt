@@ -12,7 +12,8 @@ use Rattle.inode_table.specs.Listing.{Within}
 use Rattle.hsm_types.specs.Attributes.{bytes_of_attributes}
 use Rattle.meta_store.specs.Catalogs.{CatalogFile, Catalog, IsCatalogFile, IsCatalog, HasLengths, AreLengths, geometry_of, names_of, blocks_of, stub_total}
 use Rattle.meta_store.specs.Snapshots.{SnapshotFile, snapshot_file}
-use Rattle.meta_store.specs.Validity.{listed_in, names_in, places_of, places_in, is_file, places_by, AreLawfulStubs, is_kept, can_follow, stub_total_in, Follows, IsNext}
+use Rattle.meta_store.specs.Validity.{listed_in, names_in, places_of, places_in, is_file, places_by, AreLawfulStubs, is_kept, can_follow}
+use Rattle.meta_store.specs.Validity.{stub_total_in, Follows, IsNext}
 use Rattle.meta_store.proofs.KeptAttributes.{attributes-pass}
 use Rattle.meta_store.proofs.LawfulStubs.{stubs-pass}
 use Rattle.meta_store.proofs.EachOf.{all-parts}
@@ -31,16 +32,16 @@ pub stub_total_in-snapshot : (fs : List CatalogFile) → stub_total fs ≡ stub_
 stub_total_in-snapshot fs = sym (fold-map (λ (sum : ℕ) (s : SnapshotFile). sum + length s.kept.stubs) snapshot_file 0 fs)
 
 -- what is judged of a file alone
-abbrev Passes : ℕ → ℕ → ℕ → SnapshotFile → Type 0
-Passes limit next blocks f = (leb f.key.ino limit ≡ true) × (is_file next blocks f ≡ true) × (is_kept f ≡ true) × AreLawfulStubs f.size f.kept.regions (places_by f) f.kept.stubs
+abbrev Passes : Geometry → ℕ → SnapshotFile → Type 0
+Passes g next f = (leb f.key.ino g.files ≡ true) × (is_file g next f ≡ true) × (is_kept g.limits f ≡ true) × AreLawfulStubs f.size f.kept.regions (places_by f) f.kept.stubs
 
-each-alone : (limit next blocks : ℕ) (fs : List CatalogFile) → Within limit next (names_of fs) → AllByRecursion (IsCatalogFile blocks) fs → AllByRecursion HasLengths fs → AllByRecursion (Passes limit next blocks) (map snapshot_file fs)
-each-alone limit next blocks [] within each long = tt
-each-alone limit next blocks (f ∷ fs) within each long =
-    let extents = are_extents-from 0 0 (blocks_in f.size) blocks f.places (omega arith) (omega (arith, each.0.places)) each.0.within in
-    let kept : is_kept (snapshot_file f) ≡ true = rw (each.0.kept.regions, attributes-pass f.kept.attributes each.0.kept.attributes) refl in
+each-alone : (g : Geometry) (next : ℕ) (fs : List CatalogFile) → Within g.files next (names_of fs) → AllByRecursion (IsCatalogFile g) fs → AllByRecursion HasLengths fs → AllByRecursion (Passes g next) (map snapshot_file fs)
+each-alone g next [] within each long = tt
+each-alone g next (f ∷ fs) within each long =
+    let extents = are_extents-from 0 0 (blocks_in f.size) g.blocks f.places (omega arith) (omega (arith, each.0.places)) each.0.within in
+    let kept : is_kept g.limits (snapshot_file f) ≡ true = rw (each.0.kept.regions, attributes-pass f.kept.attributes each.0.kept.attributes) refl in
     let stubs : AreLawfulStubs f.size f.kept.regions (places_by (snapshot_file f)) f.kept.stubs = rw (places-again f each.0.places) (stubs-pass f each.0.ascend each.0.stubs long.0) in
-    ((grind arith, grind (arith, each.0), kept, stubs), each-alone limit next blocks fs within.2 each.1 long.1)
+    ((grind arith, grind (arith, each.0), kept, stubs), each-alone g next fs within.2 each.1 long.1)
 
 -- of what is summed, the files up to one have no more than all
 total-before : (m : SnapshotFile → ℕ) (fs : List CatalogFile) (before : List SnapshotFile) (f : SnapshotFile) (rest : List SnapshotFile) → map snapshot_file fs ≡ before ++ f ∷ rest → sum_by m before + m f ≤ sum_by (λ g. m (snapshot_file g)) fs
@@ -51,7 +52,7 @@ passes c before f rest is long e =
     let g : Geometry = geometry_of c.geometry in
     let names : names_of c.files ≡ names_in before ++ listed_in f ∷ names_in rest = sym (names_in-snapshot c.files) ∙ ap names_in e ∙ map-append listed_in before (f ∷ rest) in
     let places : blocks_of c.files ≡ places_in before ++ (places_of f.extents ++ places_in rest) = sym (places_in-snapshot c.files) ∙ ap places_in e ∙ flat_map-append (λ (s : SnapshotFile). places_of s.extents) before (f ∷ rest) in
-    let alone = (all-parts (Passes g.files c.next g.blocks) before (f ∷ rest) (rw e at (each-alone g.files c.next g.blocks c.files is.table.within is.each long))).1.0 in
+    let alone = (all-parts (Passes g c.next) before (f ∷ rest) (rw e at (each-alone g c.next c.files is.table.within is.each long))).1.0 in
     let few = total-before (λ s. bytes_of_attributes s.kept.attributes) c.files before f rest e in
     let few_stubs = total-before (λ s. length s.kept.stubs) c.files before f rest e in
     let fresh = nameless (names_in before) (listed_in f) (names_in rest) (rw names at is.table.differ) in

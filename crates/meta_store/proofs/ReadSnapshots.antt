@@ -8,9 +8,12 @@ use Rattle.meta_store.specs.declared.snapshot.RawSnapshot.{RawSnapshot}
 use Rattle.meta_store.specs.declared.snapshot.ReadRefusal.{ReadRefusal}
 use Rattle.meta_store.specs.declared.snapshot.ReadRefusal.TheVariants.{Memory, Corrupt}
 use Rattle.meta_store.specs.Catalogs.{StubFits}
-use Rattle.meta_store.specs.Snapshots.{Snapshot, key_bytes, region_bytes, attribute_bytes, extent_bytes, state_of, stub_bytes, counted_bytes, bytes_of_file, spelling, RegionFits, AttributeFits, ExtentFits, FileFits, Fits, IsSpelled}
-use Rattle.meta_store.specs.Reading.{Fails, number_at, several, counted, key_at, region_at, attr_name_at, attribute_at, extent_at, state_at, print_at, stub_in, file_at, snapshot_at}
-use Rattle.meta_store.proofs.Readers.{IsBytes, IsReader, IsWide, refit, wide1, wide2, wide4, wide8, number_reads, only_reads, bytes_read, several_read, both_read, made_reads, counted_reads}
+use Rattle.meta_store.specs.Snapshots.{Snapshot, key_bytes, region_bytes, attribute_bytes, extent_bytes, state_of, stub_bytes, counted_bytes}
+use Rattle.meta_store.specs.Snapshots.{bytes_of_file, spelling, RegionFits, AttributeFits, ExtentFits, FileFits, Fits, IsSpelled}
+use Rattle.meta_store.specs.Reading.{Fails, number_at, several, counted, key_at, region_at, attr_name_at, attribute_at, extent_at, state_at, print_at}
+use Rattle.meta_store.specs.Reading.{stub_in, file_at, snapshot_at}
+use Rattle.meta_store.proofs.Readers.{IsBytes, IsReader, IsWide, refit, wide1, wide2, wide4, wide8, number_reads, only_reads, bytes_read}
+use Rattle.meta_store.proofs.Readers.{several_read, both_read, made_reads, counted_reads}
 use Rattle.hsm_types.specs.Stubs.{entry_place, entry_print}
 
 long_reads : IsReader (number_at 8) (big_bytes 8) (λ x. x < 2 ^ 64)

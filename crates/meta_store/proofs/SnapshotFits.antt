@@ -4,9 +4,10 @@ use Rattle.std.specs.List.{AllByRecursion, flat_map, list_any, IsDistinct}
 use Rattle.std.proofs.lemmas.List.{length-map}
 use Rattle.std.proofs.lemmas.List.Sums.{sum_by-cons}
 use Rattle.std.proofs.lemmas.Map.Steps.{length-le_from_distinct_below}
-use Rattle.hsm_types.specs.Limits.{large_geometry, name_bytes}
+use Rattle.hsm_types.specs.Limits.{large_geometry, name_bytes, file_bytes, IsCountable}
 use Rattle.hsm_types.specs.Names.{is_name}
 use Rattle.hsm_types.specs.declared.regions.Region.{Region}
+use Rattle.hsm_types.specs.declared.stores.Geometry.{Geometry}
 use Rattle.hsm_types.specs.Attributes.{bytes_of_attributes}
 use Rattle.hsm_types.specs.Stubs.{Stubs}
 use Rattle.plain_model.specs.Distinct.{Distinct}
@@ -15,8 +16,10 @@ use Rattle.inode_table.proofs.Orders.{few}
 use Rattle.commit_slots.specs.Places.{layout_of}
 use Rattle.commit_slots.specs.Images.{empty_snapshot}
 use Rattle.meta_store.specs.declared.snapshot.Mapping.{Mapping}
-use Rattle.meta_store.specs.Catalogs.{CatalogFile, Catalog, StubFits, IsCatalogStub, IsCatalog, IsCatalogFile, geometry_of, present, blocks_of, names_of, attribute_total, stub_total}
-use Rattle.meta_store.specs.Snapshots.{region_bytes, extent_bytes, stub_bytes, bytes_of_file, extents_from, spelling, snapshot_file, snapshot_of, ExtentFits, FileFits, Fits}
+use Rattle.meta_store.specs.Catalogs.{CatalogFile, Catalog, StubFits, IsCatalogStub, IsCatalog, IsCatalogFile, geometry_of, present, blocks_of}
+use Rattle.meta_store.specs.Catalogs.{names_of, attribute_total, stub_total}
+use Rattle.meta_store.specs.Snapshots.{region_bytes, extent_bytes, stub_bytes, bytes_of_file, extents_from, spelling, snapshot_file, snapshot_of}
+use Rattle.meta_store.specs.Snapshots.{ExtentFits, FileFits, Fits}
 use Rattle.meta_store.proofs.SpreadPlaces.{present-few, length-extents}
 use Rattle.meta_store.proofs.KeptBounds.{regions-few, regions-fit, attributes-few, attributes-fit, attributes-short}
 use Rattle.meta_store.proofs.EachOf.{all-both, each-as}
@@ -46,18 +49,26 @@ pub few-stubs : (geometry : ℕ) → (geometry_of geometry).stubs ≤ large_geom
 unfolding geometry_of
 few-stubs geometry = grind arith
 
+-- the code can count what each format allows
+pub limits_countable : (geometry : ℕ) → IsCountable (geometry_of geometry).limits
+unfolding geometry_of
+limits_countable geometry = grind arith
+
+pub size-few : (geometry : ℕ) (f : CatalogFile) → IsCatalogFile (geometry_of geometry) f → f.size ≤ file_bytes
+size-few geometry f is = omega (arith, is.size, (limits_countable geometry).0)
+
 pub name-short : (name : List ℕ) → is_name name ≡ true → length name ≤ name_bytes
 name-short name is = grind arith
 
-pub blocks-within : (blocks : ℕ) (fs : List CatalogFile) → AllByRecursion (IsCatalogFile blocks) fs → AllByRecursion (λ b. b < blocks) (blocks_of fs)
-blocks-within blocks [] each = tt
-blocks-within blocks (f ∷ fs) each = all-both (λ b. b < blocks) (present f.places) (blocks_of fs) each.0.within (blocks-within blocks fs each.1)
+pub blocks-within : (g : Geometry) (fs : List CatalogFile) → AllByRecursion (IsCatalogFile g) fs → AllByRecursion (λ b. b < g.blocks) (blocks_of fs)
+blocks-within g [] each = tt
+blocks-within g (f ∷ fs) each = all-both (λ b. b < g.blocks) (present f.places) (blocks_of fs) each.0.within (blocks-within g fs each.1)
 
 -- the pigeonhole
 pub blocks-few : (c : Catalog) → IsCatalog c → length (blocks_of c.files) ≤ (geometry_of c.geometry).blocks
 blocks-few c is =
     let blocks = (geometry_of c.geometry).blocks in
-    length-le_from_distinct_below (blocks_of c.files) blocks (differ (blocks_of c.files) is.distinct) (one_below blocks (blocks_of c.files) (blocks-within blocks c.files is.each))
+    length-le_from_distinct_below (blocks_of c.files) blocks (differ (blocks_of c.files) is.distinct) (one_below blocks (blocks_of c.files) (blocks-within (geometry_of c.geometry) c.files is.each))
 
 pub files-few : (c : Catalog) → IsCatalog c → length c.files ≤ (geometry_of c.geometry).files
 files-few c is =
@@ -67,29 +78,29 @@ files-few c is =
 
 -- ---- the fields
 
-module _ (blocks limit next : ℕ) (few_blocks : blocks ≤ large_geometry.blocks) (few_files : limit ≤ large_geometry.files) (old : next ≤ 2 ^ 62) where
-  extents-fit : (n : ℕ) (places : List (Option ℕ)) → n + length places ≤ 2 ^ 32 → AllByRecursion (λ b. b < blocks) (present places) → AllByRecursion ExtentFits (extents_from n places)
+module _ (g : Geometry) (next : ℕ) (few_blocks : g.blocks ≤ large_geometry.blocks) (few_files : g.files ≤ large_geometry.files) (countable : IsCountable g.limits) (old : next ≤ 2 ^ 62) where
+  extents-fit : (n : ℕ) (places : List (Option ℕ)) → n + length places ≤ 2 ^ 32 → AllByRecursion (λ b. b < g.blocks) (present places) → AllByRecursion ExtentFits (extents_from n places)
   extents-fit n [] fit below = tt
   extents-fit n (None ∷ places) fit below = extents-fit (n + 1) places (omega arith) below
   extents-fit n (Some at ∷ places) fit below = ((omega arith, omega (arith, below.0)), extents-fit (n + 1) places (omega arith) below.1)
 
-  file-fits : (f : CatalogFile) → f.key.ino ≤ limit → f.key.igen < next → bytes_of_attributes f.kept.attributes ≤ large_geometry.attributes → length f.kept.stubs ≤ large_geometry.stubs → IsCatalogFile blocks f → FileFits (snapshot_file f)
+  file-fits : (f : CatalogFile) → f.key.ino ≤ g.files → f.key.igen < next → bytes_of_attributes f.kept.attributes ≤ large_geometry.attributes → length f.kept.stubs ≤ large_geometry.stubs → IsCatalogFile g f → FileFits (snapshot_file f)
   file-fits f ino igen few few_stubs is = record {
     ino = omega arith;
     igen = omega arith;
-    size = omega arith;
+    size = omega (arith, is.size, countable.0);
     name = omega (arith, name-short f.name is.name);
-    regions = omega (arith, regions-few f.kept.regions is.kept.regions);
-    each_region = regions-fit f.kept.regions is.kept.regions;
+    regions = omega (arith, regions-few g.limits countable f.kept.regions is.kept.regions);
+    each_region = regions-fit g.limits countable f.kept.regions is.kept.regions;
     attributes = omega (arith, attributes-few f.kept.attributes);
     each_attribute = attributes-fit f.kept.attributes is.kept.eight is.kept.attributes;
-    extents = omega (arith, length-extents 0 f.places, present-few f.places);
-    each_extent = extents-fit 0 f.places (omega arith) is.within;
+    extents = omega (arith, length-extents 0 f.places, present-few f.places, is.size, is.places, countable.0);
+    each_extent = extents-fit 0 f.places (omega (arith, is.size, is.places, countable.0)) is.within;
     stubs = omega arith;
     each_stub = each-as (IsCatalogStub f) StubFits f.kept.stubs (λ x stub. stub.numbers) is.stubs;
   }
 
-  files-fit : (fs : List CatalogFile) → Within limit next (names_of fs) → attribute_total fs ≤ large_geometry.attributes → stub_total fs ≤ large_geometry.stubs → AllByRecursion (IsCatalogFile blocks) fs → AllByRecursion FileFits (map snapshot_file fs)
+  files-fit : (fs : List CatalogFile) → Within g.files next (names_of fs) → attribute_total fs ≤ large_geometry.attributes → stub_total fs ≤ large_geometry.stubs → AllByRecursion (IsCatalogFile g) fs → AllByRecursion FileFits (map snapshot_file fs)
   files-fit [] w few few_stubs each = tt
   files-fit (f ∷ fs) w few few_stubs each =
       let sum = sum_by-cons (λ (g : CatalogFile). bytes_of_attributes g.kept.attributes) f fs in
@@ -104,7 +115,7 @@ fits_of n c low is =
       number = omega arith;
       next = omega (arith, is.next);
       count = omega (arith, length-map c.files snapshot_file, files-few c is);
-      each = files-fit _ _ _ g.1 g.0 is.next c.files is.table.within (omega (arith, is.few)) (omega (arith, is.few_stubs, few-stubs c.geometry)) is.each;
+      each = files-fit (geometry_of c.geometry) c.next g.1 g.0 (limits_countable c.geometry) is.next c.files is.table.within (omega (arith, is.few)) (omega (arith, is.few_stubs, few-stubs c.geometry)) is.each;
     }
 
 -- ---- the area
@@ -121,20 +132,20 @@ length-stubs : (stubs : Stubs) → AllByRecursion StubFits stubs → length (fla
 length-stubs [] fit = refl
 length-stubs (x ∷ stubs) fit = simp length-append (omega (arith, fit.0.digest, length-stubs stubs fit.1))
 
-file-short : (blocks : ℕ) (f : CatalogFile) → IsCatalogFile blocks f → length (bytes_of_file (snapshot_file f)) ≤ 170 + 8 * length (present f.places) + bytes_of_attributes f.kept.attributes + 49 * length f.kept.stubs
+file-short : (g : Geometry) (f : CatalogFile) → IsCountable g.limits → IsCatalogFile g f → length (bytes_of_file (snapshot_file f)) ≤ 170 + 8 * length (present f.places) + bytes_of_attributes f.kept.attributes + 49 * length f.kept.stubs
 unfolding bytes_of_file
-file-short blocks f is =
+file-short g f countable is =
     let k = is.kept in
     let stubs = length-stubs f.kept.stubs (each-as (IsCatalogStub f) StubFits f.kept.stubs (λ x stub. stub.numbers) is.stubs) in
-    simp length-append (omega (arith, stubs, length-regions f.kept.regions, length-mappings (extents_from 0 f.places), length-extents 0 f.places, name-short f.name is.name, regions-few f.kept.regions k.regions, attributes-short f.kept.attributes k.eight))
+    simp length-append (omega (arith, stubs, length-regions f.kept.regions, length-mappings (extents_from 0 f.places), length-extents 0 f.places, name-short f.name is.name, regions-few g.limits countable f.kept.regions k.regions, attributes-short f.kept.attributes k.eight))
 
-files-short : (blocks : ℕ) (fs : List CatalogFile) → AllByRecursion (IsCatalogFile blocks) fs
+files-short : (g : Geometry) (fs : List CatalogFile) → IsCountable g.limits → AllByRecursion (IsCatalogFile g) fs
     → length (flat_map bytes_of_file (map snapshot_file fs)) ≤ 170 * length fs + 8 * length (blocks_of fs) + attribute_total fs + 49 * stub_total fs
-files-short blocks [] each = omega arith
-files-short blocks (f ∷ fs) each =
+files-short g [] countable each = omega arith
+files-short g (f ∷ fs) countable each =
     let attributes = sum_by-cons (λ (g : CatalogFile). bytes_of_attributes g.kept.attributes) f fs in
     let stubs = sum_by-cons (λ (g : CatalogFile). length g.kept.stubs) f fs in
-    simp length-append (omega (arith, attributes, stubs, file-short blocks f each.0, files-short blocks fs each.1))
+    simp length-append (omega (arith, attributes, stubs, file-short g f countable each.0, files-short g fs countable each.1))
 
 area-bounded : (geometry : ℕ) → 24 + 170 * (geometry_of geometry).files + 8 * (geometry_of geometry).blocks + (geometry_of geometry).attributes + 49 * (geometry_of geometry).stubs ≤ (layout_of geometry).snapshot_len
 unfolding geometry_of layout_of
@@ -142,7 +153,7 @@ area-bounded geometry = grind arith
 
 pub snapshot-short : (n : ℕ) (c : Catalog) → IsCatalog c → length (spelling (snapshot_of n c)) ≤ (layout_of c.geometry).snapshot_len
 unfolding spelling snapshot_of
-snapshot-short n c is = omega (arith, files-short (geometry_of c.geometry).blocks c.files is.each, blocks-few c is, files-few c is, is.few, is.few_stubs, area-bounded c.geometry)
+snapshot-short n c is = omega (arith, files-short (geometry_of c.geometry) c.files (limits_countable c.geometry) is.each, blocks-few c is, files-few c is, is.few, is.few_stubs, area-bounded c.geometry)
 
 -- `format` writes the snapshot of no file
 pub spelling-empty : (geometry : ℕ) → spelling (snapshot_of 0 (record { geometry = geometry; next = 1; files = [] })) ≡ empty_snapshot

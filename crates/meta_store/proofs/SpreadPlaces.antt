@@ -1,8 +1,10 @@
 -- Places of blocks, and the extents that say them.
-use Rattle.std.proofs.Common.{◌≡◌, ℕ, zero, suc, ◌+◌, ◌-◌, ◌<◌, ◌≤◌, List, [], ◌∷◌, ◌++◌, length, map, set, replicate, true, Option, Some, None, inl, inr, refl, sym, ◌∙◌, ap, arith, append_assoc}
+use Rattle.std.proofs.Common.{◌≡◌, ℕ, zero, suc, ◌+◌, ◌-◌, ◌<◌, ◌≤◌, List, [], ◌∷◌, ◌++◌, length, map, set, replicate, true, Option, Some, None, inl}
+use Rattle.std.proofs.Common.{inr, refl, sym, ◌∙◌, ap, arith, append_assoc}
 use Rattle.std.specs.List.{AllByRecursion}
 use Rattle.std.proofs.lemmas.Bool.{cases_lt}
 use Rattle.std.proofs.lemmas.List.{length_push, set-append_right}
+use Rattle.hsm_types.specs.declared.stores.Geometry.{Geometry}
 use Rattle.meta_store.specs.declared.snapshot.Mapping.{Mapping}
 use Rattle.plain_model.specs.Blocks.{blocks_in}
 use Rattle.meta_store.specs.Catalogs.{CatalogFile, IsCatalogFile, present}
@@ -44,10 +46,10 @@ filled f = record { key = f.key; name = f.name; size = f.size; places = places_b
 pub places-again : (f : CatalogFile) → length f.places ≡ blocks_in f.size → places_by (snapshot_file f) ≡ f.places
 places-again f size = rw size at (again f.places [])
 
-pub filled-again : (blocks : ℕ) (fs : List CatalogFile) → AllByRecursion (IsCatalogFile blocks) fs → map filled (map snapshot_file fs) ≡ fs
-filled-again blocks [] each = refl
-filled-again blocks (f ∷ fs) each =
-    rw (places-again f each.0.places, filled-again blocks fs each.1) refl
+pub filled-again : (g : Geometry) (fs : List CatalogFile) → AllByRecursion (IsCatalogFile g) fs → map filled (map snapshot_file fs) ≡ fs
+filled-again g [] each = refl
+filled-again g (f ∷ fs) each =
+    rw (places-again f each.0.places, filled-again g fs each.1) refl
 
 pub present-few : (places : List (Option ℕ)) → length (present places) ≤ length places
 present-few [] = omega arith

@@ -1,5 +1,6 @@
 -- Names, inodes and places behind those before.
-use Rattle.std.proofs.Common.{◌≡◌, ℕ, ◌<◌, List, [], ◌∷◌, ◌++◌, length, set, Bool, true, false, None, eqb, refl, sym, ◌∙◌, append_assoc, append-nil, length-set, arith, ◌+◌, ◌≤◌}
+use Rattle.std.proofs.Common.{◌≡◌, ℕ, ◌<◌, List, [], ◌∷◌, ◌++◌, length, set, Bool, true, false, None, eqb, refl, sym, ◌∙◌, append_assoc, append-nil}
+use Rattle.std.proofs.Common.{length-set, arith, ◌+◌, ◌≤◌}
 use Rattle.std.specs.List.{AllByRecursion, list_any}
 use Rattle.std.specs.Str.{bytes_eq}
 use Rattle.std.proofs.lemmas.Bool.{false_from_ne_true}

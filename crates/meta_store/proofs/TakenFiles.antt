@@ -51,7 +51,7 @@ module _ {g : Geometry} {next : ℕ} {c : Catalog} {flags : List Bool} {f : Snap
   pub flags-tell : (are_free (places_of f.extents) flags ≡ are_unused (places_in (map snapshot_file c.files)) (places_of f.extents)) × Flags (with_mapped (places_of f.extents) flags) (places_in (map snapshot_file c.files) ++ places_of f.extents)
   flags-tell = free-is (places_of f.extents) flags (places_in (map snapshot_file c.files)) (each-map (λ p. p < length flags) (λ e. e.place) f.extents within) t.flagged
 
-  pub is-lawful : IsLawfulKept f.kept → AreJudged f → AllByRecursion StubFits f.kept.stubs → IsCatalogFile g.blocks (filled f)
+  pub is-lawful : IsLawfulKept g.limits f.kept → AreJudged f → AllByRecursion StubFits f.kept.stubs → IsCatalogFile g (filled f)
   is-lawful kept stubs fit = record {
     generation = follows.first;
     name = follows.name;

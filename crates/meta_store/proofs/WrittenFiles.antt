@@ -11,7 +11,7 @@ use Rattle.meta_store.specs.Snapshots.{bytes_of_file, snapshot_file, snapshot_of
 use Rattle.meta_store.proofs.EachOf.{each-got}
 use Rattle.meta_store.proofs.SpreadPlaces.{length-extents}
 use Rattle.meta_store.proofs.KeptBounds.{regions-few}
-use Rattle.meta_store.proofs.SnapshotFits.{name-short, snapshot-short}
+use Rattle.meta_store.proofs.SnapshotFits.{name-short, snapshot-short, limits_countable, size-few}
 
 pub each-written : {X : Type 0} (text : X → List ℕ) (out : List ℕ) (xs : List X) (i : ℕ) (d : X) → i < length xs → (out ++ text (get_or xs i d)) ++ flat_map text (drop (i + 1) xs) ≡ out ++ flat_map text (drop i xs)
 each-written text out xs i d within = rw (drop_more xs i d, append_assoc) refl
@@ -20,8 +20,8 @@ pub ruleset written = (append_assoc, length-extents)
 
 pub bounds-at : (c : Catalog) (i : ℕ) (f : CatalogFile) → IsCatalog c → slice_get c.files i ≡ Some f → (length f.name ≤ name_bytes) × (length f.places ≤ file_blocks) × (length f.kept.regions ≤ file_regions)
 bounds-at c i f is at =
-    let one : IsCatalogFile (geometry_of c.geometry).blocks f = each-got (IsCatalogFile (geometry_of c.geometry).blocks) c.files i f is.each at in
-    (name-short f.name one.name, omega arith, regions-few f.kept.regions one.kept.regions)
+    let one : IsCatalogFile (geometry_of c.geometry) f = each-got (IsCatalogFile (geometry_of c.geometry)) c.files i f is.each at in
+    (name-short f.name one.name, omega (arith, one.places, size-few c.geometry f one), regions-few (geometry_of c.geometry).limits (limits_countable c.geometry) f.kept.regions one.kept.regions)
 
 -- Below the end there is a file.
 pub some-at : {X Y : Type 0} (v : X → Y) (o : Option X) (ys : List Y) (i : ℕ) → option_map v o ≡ slice_get ys i → i < length ys → IsSome o

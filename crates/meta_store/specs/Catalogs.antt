@@ -4,10 +4,11 @@ use Rattle.std.specs.List.{flat_map, AllByRecursion}
 use Rattle.std.specs.List.Sorted.{IsStrictlySortedBy}
 use Rattle.std.specs.Map.{keys_of}
 use Rattle.std.specs.Ordering.{nat_cmp}
-use Rattle.hsm_types.specs.Limits.{file_bytes, segment_blocks, small_geometry, large_geometry}
+use Rattle.hsm_types.specs.Limits.{segment_blocks, small_geometry, large_geometry}
 use Rattle.hsm_types.specs.Names.{is_name}
 use Rattle.hsm_types.specs.declared.keys.FileKey.{FileKey}
 use Rattle.hsm_types.specs.declared.stores.Geometry.{Geometry}
+use Rattle.hsm_types.specs.declared.stores.Limits.{Limits}
 use Rattle.hsm_types.specs.Regions.{regions_refusal}
 use Rattle.hsm_types.specs.Segments.{segment_len}
 use Rattle.hsm_types.specs.Attributes.{AreAttributes, bytes_of_attributes}
@@ -94,20 +95,20 @@ abbrev pub HasLengths : CatalogFile → Type 0
 HasLengths f = AllByRecursion (λ x. (entry_print x.1.entry).len ≡ segment_len f.size x.0) f.kept.stubs
 
 -- what is true of what sessions keep with each file
-pub record IsLawfulKept (k : Kept) : Type 0 where
-  pub regions : regions_refusal k.regions ≡ None
+pub record IsLawfulKept (limits : Limits) (k : Kept) : Type 0 where
+  pub regions : regions_refusal limits k.regions ≡ None
   pub attributes : AreAttributes k.attributes
   -- a name of an attribute has eight bytes
   pub eight : AllByRecursion (λ a. length a.0.0 ≡ 8) k.attributes
 
--- what is true of each file in a store of so many blocks
-pub record IsCatalogFile (blocks : ℕ) (f : CatalogFile) : Type 0 where
+-- what is true of each file in a store of that geometry
+pub record IsCatalogFile (geometry : Geometry) (f : CatalogFile) : Type 0 where
   pub generation : 1 ≤ f.key.igen
   pub name : is_name f.name ≡ true
-  pub size : f.size ≤ file_bytes
+  pub size : f.size ≤ geometry.limits.bytes
   pub places : length f.places ≡ blocks_in f.size
-  pub within : AllByRecursion (λ b. b < blocks) (present f.places)
-  pub kept : IsLawfulKept f.kept
+  pub within : AllByRecursion (λ b. b < geometry.blocks) (present f.places)
+  pub kept : IsLawfulKept geometry.limits f.kept
   pub ascend : IsStrictlySortedBy nat_cmp (keys_of f.kept.stubs)
   pub stubs : AllByRecursion (IsCatalogStub f) f.kept.stubs
 
@@ -118,7 +119,7 @@ pub record IsCatalog (c : Catalog) : Type 0 where
   pub first : 1 ≤ c.next
   pub next : c.next ≤ 2 ^ 62
   pub table : IsTable (geometry_of c.geometry).files c.next (names_of c.files)
-  pub each : AllByRecursion (IsCatalogFile (geometry_of c.geometry).blocks) c.files
+  pub each : AllByRecursion (IsCatalogFile (geometry_of c.geometry)) c.files
   pub distinct : Distinct (blocks_of c.files)
   pub few : attribute_total c.files ≤ (geometry_of c.geometry).attributes
   pub few_stubs : stub_total c.files ≤ (geometry_of c.geometry).stubs

@@ -31,7 +31,7 @@ parts_of f = record { places = f.places; regions = f.kept.regions; attributes = 
 abbrev pub parts_after : Record → FileParts → FileParts
 parts_after r parts = parts_of (file_after r (file_of (record { ino = 0; igen = 0 }) [] 0 parts))
 
--- the record is within what a file may have
+-- the record is within what the code can count of a file, and what the parts have
 abbrev pub FitsParts : Record → FileParts → Type 0
 FitsParts (Size ino size) parts = size ≤ file_bytes
 FitsParts (Map ino block places) parts = block + length places.items ≤ length parts.places

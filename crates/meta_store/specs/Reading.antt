@@ -1,5 +1,6 @@
 -- Reading the bytes of a snapshot from left to right. A reader takes a value from the front of some bytes, and gives it with the bytes after it.
-use Rattle.std.specs.Prelude.{◌≡◌, ℕ, zero, suc, List, [], ◌∷◌, length, take, drop, Bool, true, false, Option, Some, None, Result, Ok, Err, ◌==◌, nat_lt, if◌then◌else◌}
+use Rattle.std.specs.Prelude.{◌≡◌, ℕ, zero, suc, List, [], ◌∷◌, length, take, drop, Bool, true, false, Option, Some, None, Result, Ok, Err, ◌==◌}
+use Rattle.std.specs.Prelude.{nat_lt, if◌then◌else◌}
 use Rattle.byteorder.specs.Endian.{big_number}
 use Rattle.hsm_types.specs.Stubs.{entry_at}
 use Rattle.hsm_types.specs.declared.keys.FileKey.{FileKey}

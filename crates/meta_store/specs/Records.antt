@@ -1,8 +1,9 @@
 -- What records change of a catalog. Those of one event are taken together.
-use Rattle.std.specs.Prelude.{◌≡◌, ℕ, ◌+◌, ◌-◌, ◌*◌, ◌/◌, ◌≤◌, ◌<◌, ◌^◌, max, min, List, [], ◌∷◌, ◌++◌, length, take, drop, replicate, slice_set, true, false, if◌then◌else◌, ◌==◌, Option, Some, None}
+use Rattle.std.specs.Prelude.{◌≡◌, ℕ, ◌+◌, ◌-◌, ◌*◌, ◌/◌, ◌≤◌, ◌<◌, ◌^◌, max, min, List, [], ◌∷◌, ◌++◌, length, take, drop, replicate, slice_set}
+use Rattle.std.specs.Prelude.{true, false, if◌then◌else◌, ◌==◌, Option, Some, None}
 use Rattle.std.specs.List.{list_any, AllByRecursion}
 use Rattle.std.specs.Option.{option_map, unwrap_or}
-use Rattle.hsm_types.specs.Limits.{file_bytes, segment_blocks}
+use Rattle.hsm_types.specs.Limits.{segment_blocks}
 use Rattle.hsm_types.specs.Names.{is_name}
 use Rattle.hsm_types.specs.declared.keys.FileKey.{FileKey}
 use Rattle.hsm_types.specs.declared.dm.DmRefusal.{DmRefusal}
@@ -117,11 +118,11 @@ others_of key c = record { attributes = others_total key c; stubs = others_stubs
 
 -- by the rules of the part that it is about, where all other files have so much, in a store of that geometry
 abbrev pub part_refusal : Record → Others → Geometry → Kept → Option DmRefusal
-part_refusal (Regions ino regions) others limits k = first_refusal (regions_refusal regions ∷ uncovered regions k.stubs ∷ [])
-part_refusal (SetAttr ino name value) others limits k = setting_refusal name value others.attributes limits.attributes k.attributes
-part_refusal (DropAttr ino name) others limits k = removal_refusal name k.attributes
-part_refusal (Stub ino j (Some stub)) others limits k = too_many_stubs j others.stubs limits.stubs k.stubs
-part_refusal r others limits k = None
+part_refusal (Regions ino regions) others geometry k = first_refusal (regions_refusal geometry.limits regions ∷ uncovered regions k.stubs ∷ [])
+part_refusal (SetAttr ino name value) others geometry k = setting_refusal name value others.attributes geometry.attributes k.attributes
+part_refusal (DropAttr ino name) others geometry k = removal_refusal name k.attributes
+part_refusal (Stub ino j (Some stub)) others geometry k = too_many_stubs j others.stubs geometry.stubs k.stubs
+part_refusal r others geometry k = None
 
 abbrev pub refusal_of : Record → Catalog → Option DmRefusal
 refusal_of r c = part_refusal r (others_of (key_on (inode_of r) c) c) (geometry_of c.geometry) (kept_at (key_on (inode_of r) c) c)
@@ -164,7 +165,7 @@ pub record IsStubbable (j : ℕ) (stub : StubOf) (f : CatalogFile) : Type 0 wher
 
 -- What no part judges: a file has the inode, and the record fits it. A segment without an entry has its bytes.
 abbrev pub CanStandOn : Record → CatalogFile → Catalog → Type 0
-CanStandOn (Size ino size) f c = size ≤ file_bytes
+CanStandOn (Size ino size) f c = size ≤ (geometry_of c.geometry).limits.bytes
 CanStandOn (Map ino block places) f c = IsMappable block places.items f c
 CanStandOn (Stub ino j None) f c = offline_at f.kept.stubs j ≡ false
 CanStandOn (Stub ino j (Some stub)) f c = IsStubbable j stub f

@@ -1,10 +1,12 @@
 -- What is judged of the files of a snapshot, one after the other.
-use Rattle.std.specs.Prelude.{◌≡◌, ℕ, ◌+◌, ◌<◌, ◌≤◌, List, [], ◌∷◌, ◌++◌, length, map, replicate, sum_by, get_or, slice_set, Bool, true, false, not, ◌==◌, ◌&&◌, nat_lt, nat_le, Option, Some, None, is_some}
+use Rattle.std.specs.Prelude.{◌≡◌, ℕ, ◌+◌, ◌<◌, ◌≤◌, List, [], ◌∷◌, ◌++◌, length, map, replicate, sum_by, get_or, slice_set, Bool, true, false, not}
+use Rattle.std.specs.Prelude.{◌==◌, ◌&&◌, nat_lt, nat_le, Option, Some, None, is_some}
 use Rattle.std.specs.List.{flat_map, list_any, AllByRecursion}
 use Rattle.std.specs.Ordering.{is_lt}
-use Rattle.hsm_types.specs.Limits.{file_bytes, value_bytes}
+use Rattle.hsm_types.specs.Limits.{value_bytes}
 use Rattle.hsm_types.specs.Names.{is_name}
 use Rattle.hsm_types.specs.declared.stores.Geometry.{Geometry}
+use Rattle.hsm_types.specs.declared.stores.Limits.{Limits}
 use Rattle.hsm_types.specs.declared.attributes.AttrName.{AttrName}
 use Rattle.hsm_types.specs.declared.regions.Region.{Region}
 use Rattle.hsm_types.specs.Regions.{regions_refusal}
@@ -42,8 +44,8 @@ are_extents low count blocks [] = true
 are_extents low count blocks (e ∷ es) = nat_le low e.block && nat_lt e.block count && nat_lt e.place blocks && are_extents (e.block + 1) count blocks es
 
 -- nothing refuses these regions
-abbrev pub are_regions : List Region → Bool
-are_regions regions = not (is_some (regions_refusal regions))
+abbrev pub are_regions : Limits → List Region → Bool
+are_regions limits regions = not (is_some (regions_refusal limits regions))
 
 -- the first name stands before the second, if there is one before it
 abbrev pub stands_behind : Option AttrName → AttrName → Bool
@@ -71,8 +73,9 @@ pub record AreLawfulStubs (size : ℕ) (regions : List Region) (places : List (O
   pub away : AllByRecursion (HasNoBlocks places) stubs
 
 -- what can be judged of a file by itself, what sessions keep with it aside
-abbrev pub is_file : ℕ → ℕ → SnapshotFile → Bool
-is_file next blocks f = nat_le 1 f.key.igen && nat_lt f.key.igen next && nat_le f.size file_bytes && is_name f.name && are_extents 0 (blocks_in f.size) blocks f.extents
+abbrev pub is_file : Geometry → ℕ → SnapshotFile → Bool
+is_file geometry next f =
+    nat_le 1 f.key.igen && nat_lt f.key.igen next && nat_le f.size geometry.limits.bytes && is_name f.name && are_extents 0 (blocks_in f.size) geometry.blocks f.extents
 
 -- none of these places is used yet, and none of them stands twice
 abbrev pub are_unused : List ℕ → List ℕ → Bool
@@ -82,7 +85,7 @@ are_unused used (p ∷ ps) = not (list_any (λ q. q == p) used) && are_unused (u
 -- the file can stand behind those by its inode and its name, and is one by itself
 abbrev pub can_follow : Geometry → ℕ → List SnapshotFile → SnapshotFile → Bool
 can_follow geometry next before f =
-    not (is_some (named f.name (names_in before))) && nat_lt (last_inode 0 (names_in before)) f.key.ino && nat_le f.key.ino geometry.files && is_file next geometry.blocks f
+    not (is_some (named f.name (names_in before))) && nat_lt (last_inode 0 (names_in before)) f.key.ino && nat_le f.key.ino geometry.files && is_file geometry next f
 
 -- what that says
 pub record Follows (geometry : Geometry) (next : ℕ) (before : List SnapshotFile) (f : SnapshotFile) : Type 0 where
@@ -91,7 +94,7 @@ pub record Follows (geometry : Geometry) (next : ℕ) (before : List SnapshotFil
   pub high : f.key.ino ≤ geometry.files
   pub first : 1 ≤ f.key.igen
   pub old : f.key.igen < next
-  pub size : f.size ≤ file_bytes
+  pub size : f.size ≤ geometry.limits.bytes
   pub name : is_name f.name ≡ true
   pub extents : are_extents 0 (blocks_in f.size) geometry.blocks f.extents ≡ true
 
@@ -112,12 +115,12 @@ abbrev pub are_few_stubs : Geometry → List SnapshotFile → SnapshotFile → B
 are_few_stubs geometry before f = nat_le (stub_total_in before + length f.kept.stubs) geometry.stubs
 
 -- its regions and its attributes are lawful
-abbrev pub is_kept : SnapshotFile → Bool
-is_kept f = are_regions f.kept.regions && are_attributes None f.kept.attributes
+abbrev pub is_kept : Limits → SnapshotFile → Bool
+is_kept limits f = are_regions limits f.kept.regions && are_attributes None f.kept.attributes
 
 -- the file can stand behind those, if its stub entries are lawful
 abbrev pub is_next : Geometry → ℕ → List SnapshotFile → SnapshotFile → Bool
-is_next geometry next before f = can_follow geometry next before f && is_kept f && are_few geometry before f && are_few_stubs geometry before f && are_unused (places_in before) (places_of f.extents)
+is_next geometry next before f = can_follow geometry next before f && is_kept geometry.limits f && are_few geometry before f && are_few_stubs geometry before f && are_unused (places_in before) (places_of f.extents)
 
 -- the places of the file's blocks
 abbrev pub places_by : SnapshotFile → List (Option ℕ)

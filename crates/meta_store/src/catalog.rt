@@ -1,5 +1,6 @@
 //! The catalog of a store's files in memory.
-ghost use Rattle.std.specs.Prelude.{◌≡◌, ◌↔◌, ◌++◌, ◌+◌, ◌^◌, ◌<◌, ◌≤◌, [], length, map, false, None, Some, Err, IsSome, IsOk, IfOk, IsErrOf, OnOk, OnErr, slice_get};
+ghost use Rattle.std.specs.Prelude.{◌≡◌, ◌↔◌, ◌++◌, ◌+◌, ◌^◌, ◌<◌, ◌≤◌, [], length, map, false, None, Some, Err, IsSome, IsOk, IfOk, IsErrOf, OnOk};
+ghost use Rattle.std.specs.Prelude.{OnErr, slice_get};
 ghost use Rattle.std.specs.Option.{option_map};
 ghost use Rattle.hsm_types.specs.Attributes.{bytes_of_attributes};
 ghost use Rattle.hsm_types.specs.declared.dm.DmRefusal.{DmRefusal};
@@ -9,7 +10,8 @@ ghost use Rattle.plain_model.specs.Distinct.{Distinct};
 ghost use Rattle.inode_table.specs.Listing.{has_inode};
 ghost use Rattle.inode_table.specs.Table.{entry_of};
 ghost use Rattle.meta_store.specs.Catalogs.{geometry_of, names_of, present, blocks_of, attribute_total, stub_total, IsCatalog, IsCatalogFile};
-ghost use Rattle.meta_store.specs.Records.{with_put, without_file, with_changed, key_on, inode_of, file_after, after, others_of, refusal_of, IsAboutOne, IsSure, CanStand};
+ghost use Rattle.meta_store.specs.Records.{with_put, without_file, with_changed, key_on, inode_of, file_after, after, others_of, refusal_of};
+ghost use Rattle.meta_store.specs.Records.{IsAboutOne, IsSure, CanStand};
 ghost use Rattle.meta_store.specs.InMemory.{file_of, parts_of};
 
 use crate::file_parts::{FileParts, Others};
@@ -181,7 +183,7 @@ impl Catalog {
         requires early { key.igen < 2 ^ 62 }
         requires inode { has_inode key.ino (names_of self.old.files) ≡ false }
         requires name { named name.now (names_of self.old.files) ≡ None }
-        requires lawful { IsCatalogFile (geometry_of self.old.geometry).blocks (file_of key name.now size parts) }
+        requires lawful { IsCatalogFile (geometry_of self.old.geometry) (file_of key name.now size parts) }
         requires distinct { Distinct (present parts.places ++ blocks_of self.old.files) }
         requires room { attribute_total self.old.files + bytes_of_attributes parts.attributes ≤ (geometry_of self.old.geometry).attributes }
         requires stub_room { stub_total self.old.files + length parts.stubs ≤ (geometry_of self.old.geometry).stubs }
@@ -263,11 +265,11 @@ impl Catalog {
         ensures sure { IsSure change → IsOk result }
         ensures err { OnErr result (self.new ≡ self.old) }
     {
-        let limits = geometry_of(self.geometry);
+        let geometry = geometry_of(self.geometry);
         let (key, others, blocks) = self.others(change.ino());
         let size = change.size_after(self.table.size(key).unwrap());
         let parts = &mut self.parts[slot(key.ino)];
-        parts.apply(alloc, change, others, limits)?;
+        parts.apply(alloc, change, others, geometry)?;
         self.attribute_total = others.attributes + parts.attributes.bytes();
         self.stub_total = others.stubs + parts.stubs.len();
         self.used = blocks + u64::from(parts.places.mapped());

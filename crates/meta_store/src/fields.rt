@@ -1,5 +1,6 @@
 //! The fields of a snapshot: each function reads one from the front of some bytes, and gives it with the bytes after it.
-ghost use Rattle.meta_store.specs.Reading.{Gives, number_at, only_at, bytes_at, counted, key_at, region_at, attr_name_at, attribute_at, extent_at, state_at, print_at, stub_in};
+ghost use Rattle.meta_store.specs.Reading.{Gives, number_at, only_at, bytes_at, counted, key_at, region_at, attr_name_at, attribute_at, extent_at};
+ghost use Rattle.meta_store.specs.Reading.{state_at, print_at, stub_in};
 
 use crate::snapshot::{Mapping, OFFLINE, ReadRefusal, SEALED};
 use byteorder::{BigEndian, ByteOrder};

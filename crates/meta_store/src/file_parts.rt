@@ -1,8 +1,10 @@
 //! What is kept of one file beside its key, its name and its size.
-ghost use Rattle.std.specs.Prelude.{◌≡◌, ◌↔◌, ◌+◌, ◌≤◌, ◌∷◌, [], length, Err, None, Some, true, false, if◌then◌else◌, IfErr, IsOk, IsErrOf, OnOk, OnErr, MatchOption, MatchResult};
+ghost use Rattle.std.specs.Prelude.{◌≡◌, ◌↔◌, ◌+◌, ◌≤◌, ◌∷◌, [], length, Err, None, Some, true, false, if◌then◌else◌, IfErr, IsOk, IsErrOf, OnOk};
+ghost use Rattle.std.specs.Prelude.{OnErr, MatchOption, MatchResult};
 ghost use Rattle.std.specs.List.{AllByRecursion};
 ghost use Rattle.std.specs.Option.{option_map};
 ghost use Rattle.hsm_types.specs.Attributes.{bytes_of_attributes};
+ghost use Rattle.hsm_types.specs.Limits.{IsCountable};
 ghost use Rattle.hsm_types.specs.Refusals.{first_refusal};
 ghost use Rattle.hsm_types.specs.Regions.{regions_refusal};
 ghost use Rattle.hsm_types.specs.Segments.{segments_in};
@@ -18,7 +20,7 @@ use crate::kept::name_len;
 use crate::records::Record;
 use crate::refusal::MetaRefusal;
 use dm_attrs::DmAttrs;
-use hsm_types::{DmRefusal, FILE_BYTES, Geometry, Regions, Stub, segments_in};
+use hsm_types::{DmRefusal, FILE_BYTES, Geometry, Limits, Regions, Stub, segments_in};
 use managed_regions::ManagedRegions;
 use std::alloc::{AllocError, Global};
 use stub_map::{State, StubMap};
@@ -54,26 +56,27 @@ impl FileParts {
         }
     }
 
-    /// Changes them as a record about their file says, where all other files have `others`.
+    /// Changes them as a record about their file says, where all other files have `others`, in a store of that geometry.
     #[tactic(auto, using(crate::proofs::KeptBounds::kept_steps))]
     pub(crate) fn apply(
         &mut self,
         alloc: Global,
         change: Record,
         others: Others,
-        limits: Geometry,
+        geometry: Geometry,
     ) -> Result<(), MetaRefusal>
         requires fits { FitsParts change self.old }
-        requires attributes { others.attributes ≤ limits.attributes }
-        requires stubs { others.stubs ≤ limits.stubs }
-        ensures judged { OnOk result (part_refusal change others limits (kept_in self.old) ≡ None) }
+        requires attributes { others.attributes ≤ geometry.attributes }
+        requires stubs { others.stubs ≤ geometry.stubs }
+        requires countable { IsCountable geometry.limits }
+        ensures judged { OnOk result (part_refusal change others geometry (kept_in self.old) ≡ None) }
         ensures taken { OnOk result (self.new ≡ parts_after change self.old) }
-        ensures refused { (why : DmRefusal) → (result ≡ Err (MetaRefusal.Part why)) ↔ (part_refusal change others limits (kept_in self.old) ≡ Some why) }
+        ensures refused { (why : DmRefusal) → (result ≡ Err (MetaRefusal.Part why)) ↔ (part_refusal change others geometry (kept_in self.old) ≡ Some why) }
         ensures no_disk { IsErrOf result MetaRefusal.Disk → ⊥ }
         ensures sure { IsSure change → IsOk result }
         // They count no more than what all may.
-        ensures within { OnOk result (others.attributes + bytes_of_attributes self.old.attributes ≤ limits.attributes → others.attributes + bytes_of_attributes self.new.attributes ≤ limits.attributes) }
-        ensures regions { OnOk result (regions_refusal self.old.regions ≡ None → regions_refusal self.new.regions ≡ None) }
+        ensures within { OnOk result (others.attributes + bytes_of_attributes self.old.attributes ≤ geometry.attributes → others.attributes + bytes_of_attributes self.new.attributes ≤ geometry.attributes) }
+        ensures regions { OnOk result (regions_refusal geometry.limits self.old.regions ≡ None → regions_refusal geometry.limits self.new.regions ≡ None) }
         // Names of attributes have eight bytes.
         ensures eight { AllByRecursion (λ a. length a.0.0 ≡ 8) self.old.attributes → AllByRecursion (λ a. length a.0.0 ≡ 8) self.new.attributes }
         ensures numbers { IsNumbered change }
@@ -87,16 +90,18 @@ impl FileParts {
                 self.places.map(block, places.as_slice());
                 Ok(())
             }
-            Record::Regions { regions, .. } => Ok(self.set_regions(alloc, regions)?),
+            Record::Regions { regions, .. } => {
+                Ok(self.set_regions(alloc, geometry.limits, regions)?)
+            }
             Record::SetAttr { name, value, .. } => {
                 // Read for the eight bytes of each name.
                 let _len = name_len(name);
-                let limit = u64::from(limits.attributes);
+                let limit = u64::from(geometry.attributes);
                 Ok(self.attributes.set(name, value, others.attributes, limit)?)
             }
             Record::DropAttr { name, .. } => Ok(self.attributes.remove(name)?),
             Record::Stub { segment, stub, .. } => match stub {
-                Some(stub) => Ok(self.set_stub(segment, stub, others.stubs, limits.stubs)?),
+                Some(stub) => Ok(self.set_stub(segment, stub, others.stubs, geometry.stubs)?),
                 None => {
                     self.drop_stub(segment);
                     Ok(())
@@ -117,14 +122,20 @@ impl FileParts {
     }
 
     /// Takes these regions in the place of the old ones, unless they aren't lawful or leave a segment uncovered that is offline.
-    fn set_regions(&mut self, alloc: Global, regions: Regions) -> Result<(), DmRefusal>
-        ensures judged { MatchResult result (λ _. first_refusal (regions_refusal regions ∷ uncovered regions self.old.stubs ∷ []) ≡ None) (λ why. first_refusal (regions_refusal regions ∷ uncovered regions self.old.stubs ∷ []) ≡ Some why) }
-        ensures lawful { OnOk result (regions_refusal regions ≡ None) }
+    fn set_regions(
+        &mut self,
+        alloc: Global,
+        limits: Limits,
+        regions: Regions,
+    ) -> Result<(), DmRefusal>
+        requires { IsCountable limits }
+        ensures judged { MatchResult result (λ _. first_refusal (regions_refusal limits regions ∷ uncovered regions self.old.stubs ∷ []) ≡ None) (λ why. first_refusal (regions_refusal limits regions ∷ uncovered regions self.old.stubs ∷ []) ≡ Some why) }
+        ensures lawful { OnOk result (regions_refusal limits regions ≡ None) }
         ensures taken { OnOk result (self.new ≡ record self.old { regions = regions }) }
         ensures err { OnErr result (self.new ≡ self.old) }
     {
         let mut new = ManagedRegions::new(alloc);
-        new.set(regions)?;
+        new.set(limits, regions)?;
         if let Some(segment) = self.first_uncovered(&new) {
             return Err(DmRefusal::Uncovered { segment });
         }

@@ -3,12 +3,13 @@ ghost use Rattle.std.specs.Prelude.{◌≡◌, ◌↔◌, ◌≤◌, ◌^◌, No
 ghost use Rattle.std.specs.Result.{IsErrOf};
 ghost use Rattle.std.specs.List.{AllByRecursion};
 ghost use Rattle.hsm_types.specs.Attributes.{AreAttributes, bytes_of_attributes};
+ghost use Rattle.hsm_types.specs.Limits.{IsCountable};
 ghost use Rattle.hsm_types.specs.declared.dm.DmRefusal.TheVariants.{Memory};
 ghost use Rattle.meta_store.specs.Validity.{are_regions, stands_behind, are_attributes};
 
 use crate::snapshot::ReadRefusal;
 use dm_attrs::DmAttrs;
-use hsm_types::{AttrName, Bytes, DmRefusal, Region, Regions};
+use hsm_types::{AttrName, Bytes, DmRefusal, Limits, Region, Regions};
 use managed_regions::ManagedRegions;
 use std::alloc::Global;
 use std::cmp::Ordering;
@@ -31,14 +32,19 @@ pub(crate) fn refusal_of(why: DmRefusal) -> ReadRefusal
     }
 }
 
-/// The regions of a file, if they are lawful.
-pub(crate) fn regions_of(alloc: Global, regions: Vec<Region>) -> Result<ManagedRegions, ReadRefusal>
-    ensures lawful { OnOk result (are_regions regions.items ≡ true) }
+/// The regions of a file, if the limits allow them.
+pub(crate) fn regions_of(
+    alloc: Global,
+    limits: Limits,
+    regions: Vec<Region>,
+) -> Result<ManagedRegions, ReadRefusal>
+    requires { IsCountable limits }
+    ensures lawful { OnOk result (are_regions limits regions.items ≡ true) }
     ensures ok { IfOk result (λ kept. kept ≡ regions.items) }
-    ensures corrupt { IsErrOf result ReadRefusal.Corrupt → are_regions regions.items ≡ false }
+    ensures corrupt { IsErrOf result ReadRefusal.Corrupt → are_regions limits regions.items ≡ false }
 {
     let mut kept = ManagedRegions::new(alloc);
-    match kept.set(Regions::from(regions)) {
+    match kept.set(limits, Regions::from(regions)) {
         Ok(()) => Ok(kept),
         Err(why) => Err(refusal_of(why)),
     }

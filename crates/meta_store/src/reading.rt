@@ -1,7 +1,8 @@
 //! Reading a snapshot's bytes.
 ghost use Rattle.std.specs.Prelude.{◌≡◌, map, IfOk, IsErrOf};
 ghost use Rattle.meta_store.specs.Snapshots.{Snapshot, IsSpelled, raw_file, raw_snapshot};
-ghost use Rattle.meta_store.specs.Reading.{Gives, both, number_at, bytes_at, several, counted, key_at, region_at, attribute_at, extent_at, stub_in, file_at, snapshot_at};
+ghost use Rattle.meta_store.specs.Reading.{Gives, both, number_at, bytes_at, several, counted, key_at, region_at, attribute_at, extent_at, stub_in};
+ghost use Rattle.meta_store.specs.Reading.{file_at, snapshot_at};
 
 use crate::fields::{
     attribute_at, extent_at, key_at, name_at, only_u32_at, region_at, stub_in, u8_at, u32_at,

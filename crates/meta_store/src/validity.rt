@@ -1,6 +1,7 @@
 //! The judgement of a snapshot that was read: the catalog that it says, if it is a valid one.
 
 ghost use Rattle.std.specs.Prelude.{◌≡◌, ℕ, ◌^◌, ◌≤◌, ◌++◌, [], ◌∷◌, map, is_some, IfOk, OnOk};
+ghost use Rattle.hsm_types.specs.Limits.{IsCountable};
 ghost use Rattle.plain_model.specs.Plain.{named};
 ghost use Rattle.std.specs.Bool.{OnTrue};
 ghost use Rattle.std.specs.Result.{IsErrOf};
@@ -16,7 +17,7 @@ use crate::geometry::geometry_of;
 use crate::kept::{attributes_of, regions_of};
 use crate::kept_stubs::stubs_of;
 use crate::snapshot::{RawFile, RawSnapshot, ReadRefusal};
-use hsm_types::{BLOCK_BYTES, FILE_BYTES, Geometry, Word, can_name};
+use hsm_types::{BLOCK_BYTES, Geometry, Word, can_name};
 use std::alloc::Global;
 
 /// The catalog that a snapshot says, if it is a valid one of that geometry. The files are walked once, with a flag for each block of the disk, and
@@ -37,14 +38,14 @@ pub(crate) fn catalog_of(
     if snapshot.number > most || next == 0 || next > most {
         return Err(ReadRefusal::Corrupt);
     }
-    let limits = geometry_of(geometry);
+    let bounds = geometry_of(geometry);
     let mut catalog = Catalog::new(alloc, geometry, next)?;
-    let mut blocks = vec![in alloc; false; limits.blocks as usize]?;
+    let mut blocks = vec![in alloc; false; bounds.blocks as usize]?;
     let flags = blocks.as_mut_slice();
     let mut last = 0;
     for file in snapshot.files {
         let ino = file.key.ino;
-        take_in(alloc, &mut catalog, flags, limits, next, last, file)?;
+        take_in(alloc, &mut catalog, flags, bounds, next, last, file)?;
         last = ino;
     }
     // Read for what is true of each catalog.
@@ -57,27 +58,28 @@ fn take_in(
     alloc: Global,
     catalog: &mut Catalog,
     flags: &mut [bool],
-    limits: Geometry,
+    geometry: Geometry,
     next: u64,
     last: u64,
     file: RawFile,
 ) -> Result<(), ReadRefusal>
-    requires limits { limits ≡ geometry_of catalog.old.geometry }
-    requires taken { HasTaken catalog.old.geometry next limits.blocks (map snapshot_file catalog.old.files) catalog.old flags.old }
+    requires geometry { geometry ≡ geometry_of catalog.old.geometry }
+    requires countable { IsCountable geometry.limits }
+    requires taken { HasTaken catalog.old.geometry next geometry.blocks (map snapshot_file catalog.old.files) catalog.old flags.old }
     requires last { last ≡ last_inode 0 (names_in (map snapshot_file catalog.old.files)) }
-    ensures taken { OnOk result (HasTaken catalog.old.geometry next limits.blocks (map snapshot_file catalog.old.files ++ raw_file file ∷ []) catalog.new flags.new) }
-    ensures corrupt { IsErrOf result ReadRefusal.Corrupt → IsNext limits next (map snapshot_file catalog.old.files) (raw_file file) → ⊥ }
+    ensures taken { OnOk result (HasTaken catalog.old.geometry next geometry.blocks (map snapshot_file catalog.old.files ++ raw_file file ∷ []) catalog.new flags.new) }
+    ensures corrupt { IsErrOf result ReadRefusal.Corrupt → IsNext geometry next (map snapshot_file catalog.old.files) (raw_file file) → ⊥ }
 {
     // Read for what is true of each catalog.
     let _geometry = catalog.geometry();
-    let room = u64::from(limits.attributes) - catalog.attribute_total();
-    let stub_room = limits.stubs - catalog.stub_total();
-    if !can_follow(catalog, limits, next, last, &file) || !claim(flags, file.extents.as_slice()) {
+    let room = u64::from(geometry.attributes) - catalog.attribute_total();
+    let stub_room = geometry.stubs - catalog.stub_total();
+    if !can_follow(catalog, geometry, next, last, &file) || !claim(flags, file.extents.as_slice()) {
         return Err(ReadRefusal::Corrupt);
     }
     let size = file.size;
     let places = FilePlaces::of(alloc, size, file.extents.as_slice())?;
-    let regions = regions_of(alloc, file.regions)?;
+    let regions = regions_of(alloc, geometry.limits, file.regions)?;
     let entries = file.stubs.as_slice();
     let stubs = stubs_of(alloc, size, &regions, &places, entries, stub_room)?;
     let parts = FileParts {
@@ -92,15 +94,16 @@ fn take_in(
 
 /// Whether a file can stand behind those of the catalog, what they use of the disk and what sessions keep with them aside.
 #[tactic(auto, using(crate::proofs::PassingFiles::follows))]
-fn can_follow(catalog: &Catalog, limits: Geometry, next: u64, last: u64, file: &RawFile) -> bool
-    requires { last ≡ last_inode 0 (names_in (map snapshot_file catalog.now.files)) }
-    ensures judged { result ≡ can_follow limits next (map snapshot_file catalog.now.files) (raw_file file.now) }
-    ensures follows { OnTrue result (Follows limits next (map snapshot_file catalog.now.files) (raw_file file.now)) }
+fn can_follow(catalog: &Catalog, geometry: Geometry, next: u64, last: u64, file: &RawFile) -> bool
+    requires last { last ≡ last_inode 0 (names_in (map snapshot_file catalog.now.files)) }
+    requires countable { IsCountable geometry.limits }
+    ensures judged { result ≡ can_follow geometry next (map snapshot_file catalog.now.files) (raw_file file.now) }
+    ensures follows { OnTrue result (Follows geometry next (map snapshot_file catalog.now.files) (raw_file file.now)) }
 {
     !has_name(catalog, &file.name)
         && last < file.key.ino
-        && file.key.ino <= u64::from(limits.files)
-        && is_file(file, next, limits.blocks)
+        && file.key.ino <= u64::from(geometry.files)
+        && is_file(file, geometry, next)
 }
 
 /// Whether a file of the catalog has that name.
@@ -110,13 +113,14 @@ fn has_name(catalog: &Catalog, name: &Word) -> bool
     catalog.names().find(name).is_some()
 }
 
-/// Whether what a file says of itself is lawful on a disk of so many blocks.
-fn is_file(file: &RawFile, next: u64, blocks: u32) -> bool
-    ensures { result ≡ is_file next blocks (raw_file file.now) }
+/// Whether what a file says of itself is lawful in a store of that geometry.
+fn is_file(file: &RawFile, geometry: Geometry, next: u64) -> bool
+    requires { IsCountable geometry.limits }
+    ensures { result ≡ is_file geometry next (raw_file file.now) }
 {
-    if file.key.igen == 0 || next <= file.key.igen || FILE_BYTES < file.size {
+    if file.key.igen == 0 || next <= file.key.igen || geometry.limits.bytes < file.size {
         return false;
     }
     let count = ((file.size + BLOCK_BYTES - 1) / BLOCK_BYTES) as u32;
-    can_name(file.name.as_slice()) && are_extents(file.extents.as_slice(), count, blocks)
+    can_name(file.name.as_slice()) && are_extents(file.extents.as_slice(), count, geometry.blocks)
 }

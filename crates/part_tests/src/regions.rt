@@ -1,5 +1,5 @@
 //! What touches the regions of a file, and which segments one of them covers.
-use hsm_types::{Kind, Range, Region, Regions};
+use hsm_types::{FIRST_LIMITS, Kind, Range, Region, Regions};
 use managed_regions::ManagedRegions;
 use std::alloc::Global;
 
@@ -65,7 +65,7 @@ fn managed(alloc: Global, all: &[Numbers]) -> Option<ManagedRegions> {
             .ok()?;
     }
     let mut managed = ManagedRegions::new(alloc);
-    managed.set(Regions::from(regions)).ok()?;
+    managed.set(FIRST_LIMITS, Regions::from(regions)).ok()?;
     Some(managed)
 }
 

@@ -4,16 +4,21 @@ use Rattle.std.proofs.lemmas.List.Folds.{list_any-append}
 use Rattle.std.specs.Prelude.{ℕ, length, map, min, count_by, not, ◌+◌, ◌-◌, ◌*◌, ◌%◌, ◌==◌, ◌&&◌, ◌||◌, nat_lt, nat_le, is_some, if◌then◌else◌}
 use Rattle.std.specs.List.{find}
 use Rattle.std.specs.Option.{option_map}
-use Rattle.hsm_types.specs.Limits.{file_bytes, segment_bytes, access_bytes, live_sessions, info_bytes, user_events, data_bytes, waiting_messages, value_bytes, last_volume}
+use Rattle.hsm_types.specs.Limits.{segment_bytes, access_bytes, live_sessions, info_bytes, user_events, data_bytes, waiting_messages}
+use Rattle.hsm_types.specs.Limits.{value_bytes, last_volume}
 use Rattle.hsm_types.specs.Names.{is_name}
 use Rattle.hsm_types.specs.Refusals.{first_refusal}
 use Rattle.hsm_types.specs.Calls.{scope_of}
 use Rattle.hsm_types.specs.Messages.{no_token, has_token, message_bytes, is_lawful}
-use Rattle.hsm_types.specs.Sessions.{SessionTable, lives, queue_of, outstanding_of, owner, user_tokens, outstanding_message, same_sid, no_session, bad_info, too_many_sessions, creation_refusal, dead_session, not_yours, none_fits, too_long, too_many_events, event_refusal, too_many_waiting, sending_refusal}
-use Rattle.hsm_types.specs.Attributes.{Attributes, is_reserved, reserved, too_big_value, too_many_bytes, bytes_of_attributes, with_value, value_of, setting_refusal, no_attribute}
+use Rattle.hsm_types.specs.Sessions.{SessionTable, lives, queue_of, outstanding_of, owner, user_tokens, outstanding_message, same_sid, no_session}
+use Rattle.hsm_types.specs.Sessions.{bad_info, too_many_sessions, creation_refusal, dead_session, not_yours, none_fits, too_long, too_many_events}
+use Rattle.hsm_types.specs.Sessions.{event_refusal, too_many_waiting, sending_refusal}
+use Rattle.hsm_types.specs.Attributes.{Attributes, is_reserved, reserved, too_big_value, too_many_bytes, bytes_of_attributes, with_value, value_of}
+use Rattle.hsm_types.specs.Attributes.{setting_refusal, no_attribute}
 use Rattle.hsm_types.specs.Regions.{first_bad, too_many_regions, bad_region, regions_refusal, covers}
 use Rattle.hsm_types.specs.Segments.{from_on, segments_in, segments_met}
-use Rattle.hsm_types.specs.Stubs.{Stubs, print_of, stub_at, is_offline, is_sealed, not_offline, not_sealed, too_many_stubs, uncovered, not_covered, not_punched, entry_place, entry_print}
+use Rattle.hsm_types.specs.Stubs.{Stubs, print_of, stub_at, is_offline, is_sealed, not_offline, not_sealed, too_many_stubs, uncovered, not_covered}
+use Rattle.hsm_types.specs.Stubs.{not_punched, entry_place, entry_print}
 use Rattle.hsm_types.specs.declared.stubs.Fingerprint.{Fingerprint}
 use Rattle.hsm_types.specs.declared.stubs.StubEntry.{StubEntry}
 use Rattle.hsm_types.specs.declared.stubs.Stub.{Stub}
@@ -24,7 +29,9 @@ use Rattle.hsm_types.specs.declared.keys.FileKey.{FileKey}
 use Rattle.hsm_types.specs.declared.regions.Region.{Region}
 use Rattle.hsm_types.specs.declared.keys.Sid.{Sid}
 use Rattle.hsm_types.specs.declared.dm.DmCall.{DmCall}
-use Rattle.hsm_types.specs.declared.dm.DmCall.TheVariants.{CreateSession, DestroySession, QuerySession, GetEvents, FindEventMsg, Respond, CreateUserEvent, SendMsg, RequestRight, UpgradeRight, SetRegion, SetDmAttr, GetDmAttr, RemoveDmAttr, ReadInvis, WriteInvis, PunchHole, ProbeHole, Seal, Restore, PathToHandle}
+use Rattle.hsm_types.specs.declared.dm.DmCall.TheVariants.{CreateSession, DestroySession, QuerySession, GetEvents, FindEventMsg, Respond}
+use Rattle.hsm_types.specs.declared.dm.DmCall.TheVariants.{CreateUserEvent, SendMsg, RequestRight, UpgradeRight, SetRegion, SetDmAttr, GetDmAttr}
+use Rattle.hsm_types.specs.declared.dm.DmCall.TheVariants.{RemoveDmAttr, ReadInvis, WriteInvis, PunchHole, ProbeHole, Seal, Restore, PathToHandle}
 use Rattle.hsm_types.specs.declared.dm.DmRefusal.{DmRefusal}
 use Rattle.hsm_types.specs.declared.dm.DmReply.TheVariants as told
 use Rattle.hsm_types.specs.Rights.{Rights, reaches, same_token, right_of, conflict, busy, too_low, bad_right}
@@ -37,6 +44,7 @@ use Rattle.hsm_types.specs.declared.keys.Token.{Token}
 use Rattle.hsm_types.specs.declared.messages.Message.{Message}
 use Rattle.hsm_types.specs.declared.dm.Scope.{Scope}
 use Rattle.hsm_types.specs.declared.dm.Scope.TheVariants.{Anyone, InSession, OnToken, OnFile, OnRight}
+use Rattle.hsm_types.specs.declared.stores.Limits.{Limits}
 use Rattle.hsm_types.specs.declared.stores.Superblock.{Superblock}
 use Rattle.hsm_types.specs.declared.calls.Call.{Call}
 use Rattle.hsm_types.specs.declared.calls.Call.TheVariants.{Create, Read, Write, Truncate, Remove, Stat, Sync}
@@ -53,13 +61,16 @@ use Rattle.plain_model.specs.declared.entries.Answer.TheVariants.{Call as Replie
 use Rattle.plain_model.specs.declared.facts.NoRoom.{NoRoom}
 use Rattle.plain_model.specs.Effects.{Writes, Restores, punch_from, punch_to}
 use Rattle.plain_model.specs.Blocks.{touched}
-use Rattle.plain_model.specs.Segments.{bad_access, past_size, past_end, bad_volume, ends_well, bad_punch, probe_start, probe_end, nothing_to_punch, away, any_away, no_room, same_print, changed_bytes, changed_from, reading_refusal, writing_refusal, punch_refusal, seal_refusal, restore_refusal}
+use Rattle.plain_model.specs.Segments.{bad_access, past_size, past_end, bad_volume, ends_well, bad_punch, probe_start, probe_end, nothing_to_punch}
+use Rattle.plain_model.specs.Segments.{away, any_away, no_room, same_print, changed_bytes, changed_from, reading_refusal, writing_refusal}
+use Rattle.plain_model.specs.Segments.{punch_refusal, seal_refusal, restore_refusal}
 use Rattle.plain_model.specs.Plain.{Listed, has_key, named, bad_name, bad_length, missing, exists, too_big, no_inodes, refusal_of, segment, reply_on}
 use Rattle.plain_model.specs.Ledger.{Access, Meant, Fixed, Means, aborted, gone, objection_again, objection}
 use Rattle.plain_model.specs.Faults.{is_fault, fault_of, FaultIsLast, has_fault}
 use Rattle.plain_model.specs.State.{FileState, Held, Flags, State, names_of, file_at, used}
 use Rattle.plain_model.specs.Verdict.{short_of, Blocks, Posts, Lacks, Verdict, verdict, reply_by, flags_now, reply_where, objection_in, meant_in, reply_to}
-use Rattle.plain_model.specs.Services.{bad_own_token, bad_given_token, is_live, bad_handle, scope_refusals, kept_of, other_attributes, other_stubs, message_or_none, service, dm_judged, dm_reply_where, dm_reply_to}
+use Rattle.plain_model.specs.Services.{bad_own_token, bad_given_token, is_live, bad_handle, scope_refusals, kept_of, other_attributes, other_stubs}
+use Rattle.plain_model.specs.Services.{message_or_none, service, dm_judged, dm_reply_where, dm_reply_to}
 use Rattle.plain_model.specs.Exact.{IsOwn}
 use Rattle.plain_model.proofs.Judged.{Says, meant_says}
 
@@ -106,8 +117,8 @@ module _ (files : List Listed) where
   of_exists : (name : List ℕ) → Ordinary (exists name files)
   of_exists name = ordinary_if of_call (is_some (named name files)) _ _ refl tt
 
-  of_end : (end : ℕ) → Ordinary (too_big end)
-  of_end end = ordinary_if of_call (nat_lt file_bytes end) _ _ refl tt
+  of_end : (limits : Limits) (end : ℕ) → Ordinary (too_big limits end)
+  of_end limits end = ordinary_if of_call (nat_lt limits.bytes end) _ _ refl tt
 
   of_inodes : (count : ℕ) → Ordinary (no_inodes count files)
   of_inodes count = ordinary_if of_call (length files == count) _ _ refl tt
@@ -123,9 +134,9 @@ module _ (files : List Listed) where
   ordinary_refusal s (Write name offset bytes) =
       ordinary_first of_call (bad_name name) _ (of_name name)
       (ordinary_first of_call (bad_length (length bytes)) _ (of_length (length bytes))
-      (ordinary_first of_call (missing name files) _ (of_missing name) (ordinary_first of_call (too_big (offset + length bytes)) _ (of_end (offset + length bytes)) tt)))
+      (ordinary_first of_call (missing name files) _ (of_missing name) (ordinary_first of_call (too_big s.geometry.limits (offset + length bytes)) _ (of_end s.geometry.limits (offset + length bytes)) tt)))
   ordinary_refusal s (Truncate name size) =
-      ordinary_first of_call (bad_name name) _ (of_name name) (ordinary_first of_call (missing name files) _ (of_missing name) (ordinary_first of_call (too_big size) _ (of_end size) tt))
+      ordinary_first of_call (bad_name name) _ (of_name name) (ordinary_first of_call (missing name files) _ (of_missing name) (ordinary_first of_call (too_big s.geometry.limits size) _ (of_end s.geometry.limits size) tt))
   ordinary_refusal s (Remove name) = named_one name
   ordinary_refusal s (Stat name) = named_one name
   ordinary_refusal s Sync = tt
@@ -185,10 +196,10 @@ usual_creation old info t =
     (ordinary_first of_dm (bad_info info) _ (ordinary_if of_dm (nat_le 1 (length info) && nat_le (length info) info_bytes) _ _ tt refl)
     (ordinary_first of_dm (too_many_sessions old t) _ (ordinary_if of_dm (old.0 == 0 && nat_le live_sessions (length t.live)) _ _ refl tt) tt))
 
-usual_regions : (rs : List Region) → Usual (regions_refusal rs)
-usual_regions rs =
-    ordinary_first of_dm (too_many_regions rs) _ (ordinary_if of_dm (nat_le (length rs) 4) _ _ tt refl)
-    (ordinary_first of_dm (bad_region (first_bad 0 None rs)) _ (at (first_bad 0 None rs)) tt)
+usual_regions : (limits : Limits) (rs : List Region) → Usual (regions_refusal limits rs)
+usual_regions limits rs =
+    ordinary_first of_dm (too_many_regions limits rs) _ (ordinary_if of_dm (nat_le (length rs) limits.regions) _ _ tt refl)
+    (ordinary_first of_dm (bad_region (first_bad limits 0 None rs)) _ (at (first_bad limits 0 None rs)) tt)
   where
     at : (index : Option ℕ) → Usual (bad_region index)
     at None = tt
@@ -261,8 +272,8 @@ usual_end j size = ordinary_if of_dm (nat_lt (segment_bytes * j) size) _ _ tt re
 usual_volume : (volume : ℕ) → Usual (bad_volume volume)
 usual_volume volume = ordinary_if of_dm (nat_le volume last_volume) _ _ tt refl
 
-usual_bounds : (offset len size : ℕ) → Usual (bad_punch offset len size)
-usual_bounds offset len size = ordinary_if of_dm (offset % segment_bytes == 0 && nat_lt offset size && ends_well offset len size) _ _ tt refl
+usual_bounds : (limits : Limits) (offset len size : ℕ) → Usual (bad_punch limits offset len size)
+usual_bounds limits offset len size = ordinary_if of_dm (offset % segment_bytes == 0 && nat_lt offset size && ends_well limits offset len size) _ _ tt refl
 
 usual_probe : (offset len size : ℕ) → Usual (nothing_to_punch offset len size)
 usual_probe offset len size = ordinary_if of_dm (nat_lt (probe_start offset) (probe_end offset len size)) _ _ tt refl
@@ -308,18 +319,18 @@ module _ (f : FileState) where
       (ordinary_first of_dm (any_away f offset end) _ (usual_any (away f) usual_away (segments_met offset end))
       (ordinary_first of_dm (no_room s h f (Writes offset bytes)) [] (usual_room (short_of (length (touched (Writes offset bytes) (length f.body))) (s.geometry.blocks - used h.files))) tt)))
 
-  usual_punching : (offset len : ℕ) → Usual (punch_refusal f offset len)
-  usual_punching offset len =
+  usual_punching : (limits : Limits) (offset len : ℕ) → Usual (punch_refusal limits f offset len)
+  usual_punching limits offset len =
       let from : ℕ = punch_from offset in
       let segments : List ℕ = from_on from (min (punch_to offset len) (segments_in (length f.body)) - from) in
-      ordinary_first of_dm (bad_punch offset len (length f.body)) _ (usual_bounds offset len (length f.body))
+      ordinary_first of_dm (bad_punch limits offset len (length f.body)) _ (usual_bounds limits offset len (length f.body))
       (ordinary_first of_dm (first_refusal (map (not_punched f.kept.regions f.kept.stubs) segments)) [] (usual_any (not_punched f.kept.regions f.kept.stubs) usual_punched segments) tt)
 
   usual_sealing : (j : ℕ) (entry : StubEntry) → Usual (seal_refusal f j entry)
   usual_sealing j entry =
       ordinary_first of_dm (past_end j (length f.body)) _ (usual_end j (length f.body))
       (ordinary_first of_dm (bad_volume (entry_place entry).volume) _ (usual_volume (entry_place entry).volume)
-      (ordinary_first of_dm (away f j) _ (usual_away j) (ordinary_first of_dm (changed_bytes entry.print (segment j f.body)) [] (usual_bytes entry.print (segment j f.body)) tt)))
+      (ordinary_first of_dm (away f j) _ (usual_away j) (ordinary_first of_dm (changed_bytes (entry_print entry) (segment j f.body)) [] (usual_bytes (entry_print entry) (segment j f.body)) tt)))
 
   usual_restoring : (s : Superblock) (h : Held) (j : ℕ) (bytes : List ℕ) → Usual (restore_refusal s h f j bytes)
   usual_restoring s h j bytes =
@@ -344,7 +355,7 @@ usual_service s st sid (RequestRight token handle right) = usual_busy (conflict 
 usual_service s st sid (UpgradeRight token handle) = usual_busy (conflict handle.key Excl token st.rights)
 usual_service s st sid (SetRegion token handle regions) =
     let stubs : Stubs = (kept_of handle.key st.held.files).stubs in
-    ordinary_first of_dm (regions_refusal regions) _ (usual_regions regions) (ordinary_first of_dm (uncovered regions stubs) [] (usual_uncovered regions stubs) tt)
+    ordinary_first of_dm (regions_refusal s.geometry.limits regions) _ (usual_regions s.geometry.limits regions) (ordinary_first of_dm (uncovered regions stubs) [] (usual_uncovered regions stubs) tt)
 usual_service s st sid (SetDmAttr token handle name value) = usual_setting name value (other_attributes handle.key st.held.files) s.geometry.attributes (kept_of handle.key st.held.files).attributes
 usual_service s st sid (GetDmAttr token handle name) = usual_absent name (kept_of handle.key st.held.files).attributes
 usual_service s st sid (RemoveDmAttr token handle name) =
@@ -352,7 +363,7 @@ usual_service s st sid (RemoveDmAttr token handle name) =
     ordinary_first of_dm (reserved name) _ (usual_reserved name) (ordinary_first of_dm (no_attribute name attributes) _ (usual_absent name attributes) tt)
 usual_service s st sid (ReadInvis token handle offset len) = usual_reading (file_at handle.key st.held.files) offset len
 usual_service s st sid (WriteInvis token handle offset body) = usual_writing (file_at handle.key st.held.files) s st.held offset body
-usual_service s st sid (PunchHole token handle offset len) = usual_punching (file_at handle.key st.held.files) offset len
+usual_service s st sid (PunchHole token handle offset len) = usual_punching (file_at handle.key st.held.files) s.geometry.limits offset len
 usual_service s st sid (ProbeHole token handle offset len) = usual_probe offset len (length (file_at handle.key st.held.files).body)
 usual_service s st sid (Seal token handle j entry) =
     let f : FileState = file_at handle.key st.held.files in

@@ -30,7 +30,8 @@ use Rattle.plain_model.specs.declared.entries.Answer.{Answer}
 use Rattle.plain_model.specs.declared.entries.Answer.TheVariants.{Call as Replied, Dm as Told}
 use Rattle.hsm_types.specs.Keyed.{set_at}
 use Rattle.plain_model.specs.Plain.{Listed, has_key, reply_on}
-use Rattle.plain_model.specs.Ledger.{Access, Ledger, Meant, Fixed, Means, next_token, issued, goes_on, resumed, aborted, gone, objection_again, left_waiting, waiting_after, top_by, open_by, ledger_replied, waits_for, answered}
+use Rattle.plain_model.specs.Ledger.{Access, Ledger, Meant, Fixed, Means, next_token, issued, goes_on, resumed, aborted, gone, objection_again}
+use Rattle.plain_model.specs.Ledger.{left_waiting, waiting_after, top_by, open_by, ledger_replied, waits_for, answered}
 use Rattle.plain_model.specs.Once.{gives, takes, is_taken, MustWait, either, used_by, waits_by, on_taken}
 use Rattle.plain_model.specs.State.{Flags, no_flags, State, names_of, noted}
 use Rattle.plain_model.specs.Verdict.{Blocks, Posts, Lacks, Verdict, verdict, reply_by, reply_where, state_where, objection_in, reply_to, state_after}

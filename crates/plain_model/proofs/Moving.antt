@@ -12,13 +12,15 @@ use Rattle.hsm_types.specs.Refusals.{first_refusal}
 use Rattle.hsm_types.specs.Stubs.{print_of, stub_at, is_offline, offline_at, not_offline, not_sealed, not_covered, not_punched, entry_place, entry_print}
 use Rattle.hsm_types.specs.declared.dm.DmRefusal.{DmRefusal}
 use Rattle.hsm_types.specs.declared.dm.DmRefusal.TheVariants.{Changed, Offline, NotOffline, Uncovered, BadRange}
+use Rattle.hsm_types.specs.declared.stores.Limits.{Limits}
 use Rattle.hsm_types.specs.declared.stores.Superblock.{Superblock}
 use Rattle.hsm_types.specs.declared.stubs.Fingerprint.{Fingerprint}
 use Rattle.hsm_types.specs.declared.stubs.Stub.{Stub}
 use Rattle.hsm_types.specs.declared.stubs.StubEntry.{StubEntry}
 use Rattle.plain_model.specs.Effects.{Writes, Seals, Punches, Restores, punch_from, punch_to}
 use Rattle.plain_model.specs.Plain.{segment}
-use Rattle.plain_model.specs.Segments.{bad_access, past_size, past_end, bad_volume, ends_well, bad_punch, away, any_away, no_room, same_print, changed_bytes, changed_from, reading_refusal, writing_refusal, punch_refusal, seal_refusal, restore_refusal}
+use Rattle.plain_model.specs.Segments.{bad_access, past_size, past_end, bad_volume, ends_well, bad_punch, away, any_away, no_room, same_print}
+use Rattle.plain_model.specs.Segments.{changed_bytes, changed_from, reading_refusal, writing_refusal, punch_refusal, seal_refusal, restore_refusal}
 use Rattle.plain_model.specs.Sound.{IsFree, IsSound}
 use Rattle.plain_model.specs.State.{FileState, Held}
 use Rattle.plain_model.proofs.Judged.{none_first, passes}
@@ -80,14 +82,14 @@ module _ (f : FileState) where
 
   pub seal_sound : (j : ℕ) (entry : StubEntry) → seal_refusal f j entry ≡ None → IsSound (Seals j entry) f
   seal_sound j entry none =
-      let change : Option DmRefusal = changed_bytes entry.print (segment j f.body) in
+      let change : Option DmRefusal = changed_bytes (entry_print entry) (segment j f.body) in
       let past_start = none_first (past_end j (length f.body)) (bad_volume (entry_place entry).volume ∷ away f j ∷ change ∷ []) none in
       let past_volume = none_first (bad_volume (entry_place entry).volume) (away f j ∷ change ∷ []) past_start.1 in
       let past_away = none_first (away f j) (change ∷ []) past_volume.1 in
       let past_change = none_first change [] past_away.1 in (
         ltb-true (segment_bytes * j) (length f.body) (passes (nat_lt (segment_bytes * j) (length f.body)) BadRange past_start.0),
         refuses (offline_at f.kept.stubs j) (Offline j) past_away.0,
-        print_unchanged entry.print (segment j f.body) past_change.0,
+        print_unchanged (entry_print entry) (segment j f.body) past_change.0,
       )
 
   pub restore_sound : (s : Superblock) (h : Held) (j : ℕ) (bytes : List ℕ) → restore_refusal s h f j bytes ≡ None → IsSound (Restores j bytes) f
@@ -115,14 +117,15 @@ module _ (f : FileState) where
       let count : ℕ = min to (segments_in (length f.body)) - from in
       nothing (not_punched f.kept.regions f.kept.stubs j) (none_from (λ i. is_some (not_punched f.kept.regions f.kept.stubs i)) from count j (none_refused (not_punched f.kept.regions f.kept.stubs) (λ i. is_some (not_punched f.kept.regions f.kept.stubs i)) (λ i is. ap is_some is) (from_on from count) none) low (omega (arith, low, high, within)))
 
-  pub punch_sound : (offset len : ℕ) → punch_refusal f offset len ≡ None → IsSound (Punches (punch_from offset) (punch_to offset len)) f
-  punch_sound offset len none =
+  pub punch_sound : (limits : Limits) (offset len : ℕ) → punch_refusal limits f offset len ≡ None → IsSound (Punches (punch_from offset) (punch_to offset len)) f
+  punch_sound limits offset len none =
       let from : ℕ = punch_from offset in
       let to : ℕ = punch_to offset len in
       let segments : Option DmRefusal = first_refusal (map (not_punched f.kept.regions f.kept.stubs) (from_on from (min to (segments_in (length f.body)) - from))) in
-      let past_bounds = none_first (bad_punch offset len (length f.body)) (segments ∷ []) none in
+      let past_bounds = none_first (bad_punch limits offset len (length f.body)) (segments ∷ []) none in
       let past_segments = none_first segments [] past_bounds.1 in
-      let bounds = and_parts (offset % segment_bytes == 0 && nat_lt offset (length f.body)) (ends_well offset len (length f.body)) (passes (offset % segment_bytes == 0 && nat_lt offset (length f.body) && ends_well offset len (length f.body)) BadRange past_bounds.0) in
+      let ends : Bool = ends_well limits offset len (length f.body) in
+      let bounds = and_parts (offset % segment_bytes == 0 && nat_lt offset (length f.body)) ends (passes (offset % segment_bytes == 0 && nat_lt offset (length f.body) && ends) BadRange past_bounds.0) in
       let start = and_parts (offset % segment_bytes == 0) (nat_lt offset (length f.body)) bounds.0 in
       let below : offset < length f.body = ltb-true offset (length f.body) start.1 in
       (omega (arith, below), λ j low high within. may_be_punched j (each_punched from to past_segments.0 j low high within))

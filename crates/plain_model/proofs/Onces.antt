@@ -17,7 +17,8 @@ use Rattle.plain_model.specs.declared.entries.Action.TheVariants.{Resume, Dm}
 use Rattle.plain_model.specs.declared.entries.Answer.{Answer}
 use Rattle.plain_model.specs.declared.entries.Answer.TheVariants.{Call as Replied, Dm as Told}
 use Rattle.plain_model.specs.Ledger.{Ledger}
-use Rattle.plain_model.specs.Once.{takes, is_taken, NeverGiven, NeverTaken, MustWait, UsesUp, either, used_by, IsUsed, is_of, waits_by, on_taken, IsParked, UsedOnce, Once}
+use Rattle.plain_model.specs.Once.{takes, is_taken, NeverGiven, NeverTaken, MustWait, UsesUp, either, used_by, IsUsed, is_of, waits_by, on_taken}
+use Rattle.plain_model.specs.Once.{IsParked, UsedOnce, Once}
 use Rattle.plain_model.specs.State.{State}
 use Rattle.plain_model.specs.Stands.{InOrder}
 use Rattle.plain_model.specs.Exact.{left_by, Exact}

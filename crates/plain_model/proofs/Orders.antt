@@ -3,7 +3,9 @@ use Rattle.std.proofs.Common.{◌≡◌, ◌<◌, ◌≤◌, ◌+◌, ℕ, List,
 use Rattle.std.proofs.lemmas.Bool.{eqb-true, eqb-false, eq-eqb, ne_eqb}
 use Rattle.std.proofs.lemmas.Bool.Decides.{nat_tests}
 use Rattle.std.specs.Prelude.{◌==◌, if◌then◌else◌, IfSome}
-use Rattle.hsm_types.specs.Sessions.{SessionTable, Ascend, places, lives, owner, dead_session, not_yours, same_sid, destruction_refusal, bad_response, event_refusal, responded, with_session, without_session, with_kinds, loses, delivered_within, queue_of, sent, taker, posted_to, posted}
+use Rattle.hsm_types.specs.Sessions.{SessionTable, Ascend, places, lives, owner, dead_session, not_yours, same_sid, destruction_refusal, bad_response}
+use Rattle.hsm_types.specs.Sessions.{event_refusal, responded, with_session, without_session, with_kinds, loses, delivered_within, queue_of, sent}
+use Rattle.hsm_types.specs.Sessions.{taker, posted_to, posted}
 use Rattle.std.proofs.lemmas.List.Elements.{All-nil, All-weaker}
 use Rattle.std.specs.List.{All}
 use Rattle.std.specs.Map.{keys_of}
@@ -13,7 +15,8 @@ use Rattle.hsm_types.specs.declared.dm.Right.{Right}
 use Rattle.hsm_types.specs.declared.dm.Right.TheVariants.{Null, Shared, Excl}
 use Rattle.hsm_types.specs.declared.keys.Handle.{Handle}
 use Rattle.hsm_types.specs.declared.keys.Holding.{Holding}
-use Rattle.hsm_types.proofs.Righted.{no-rights, requested-rights, upgraded-rights, downgraded-rights, without-rights, released-rights, keys-requested, keys-with_right, keys-without_right, keys-released}
+use Rattle.hsm_types.proofs.Righted.{no-rights, requested-rights, upgraded-rights, downgraded-rights, without-rights, released-rights, keys-requested}
+use Rattle.hsm_types.proofs.Righted.{keys-with_right, keys-without_right, keys-released}
 use Rattle.hsm_types.specs.Refusals.{first_refusal}
 use Rattle.hsm_types.specs.declared.calls.Call.{Call}
 use Rattle.hsm_types.specs.declared.calls.Call.TheVariants.{Create, Read, Stat}
@@ -29,13 +32,15 @@ use Rattle.hsm_types.specs.declared.keys.FileKey.{FileKey}
 use Rattle.hsm_types.specs.declared.keys.Sid.{Sid}
 use Rattle.hsm_types.specs.declared.keys.Token.{Token}
 use Rattle.hsm_types.specs.declared.dm.DmCall.{DmCall}
-use Rattle.hsm_types.specs.declared.dm.DmCall.TheVariants.{CreateSession, DestroySession, SetDisp, GetEvents, Respond, CreateUserEvent, SendMsg, RequestRight, ReleaseRight, UpgradeRight, DowngradeRight, GetSpace}
+use Rattle.hsm_types.specs.declared.dm.DmCall.TheVariants.{CreateSession, DestroySession, SetDisp, GetEvents, Respond, CreateUserEvent, SendMsg}
+use Rattle.hsm_types.specs.declared.dm.DmCall.TheVariants.{RequestRight, ReleaseRight, UpgradeRight, DowngradeRight, GetSpace}
 use Rattle.hsm_types.specs.declared.dm.DmRefusal.{DmRefusal}
 use Rattle.hsm_types.specs.declared.dm.DmReply.TheVariants as told
 use Rattle.hsm_types.specs.declared.dm.DmRefusal.TheVariants.{NoSession, NoToken, NotYours, NeedRight}
 use Rattle.hsm_types.specs.declared.stores.Superblock.{Superblock}
 use Rattle.hsm_types.proofs.AscendingIds.{ascend-removed, ascend-pushed, ascend-mapped, ascend-changed}
-use Rattle.hsm_types.proofs.Queues.{count-any, places-held, owner-holds, places-created, places-destroyed, places-disposed, places-delivered, places-responded-other, places-answered, places-user_event, places-sent, places-posted}
+use Rattle.hsm_types.proofs.Queues.{count-any, places-held, owner-holds, places-created, places-destroyed, places-disposed, places-delivered}
+use Rattle.hsm_types.proofs.Queues.{places-responded-other, places-answered, places-user_event, places-sent, places-posted}
 use Rattle.plain_model.specs.declared.entries.Entry.{Entry}
 use Rattle.plain_model.specs.declared.entries.Actor.{Actor}
 use Rattle.plain_model.specs.declared.entries.Actor.TheVariants.{Caller, Session}
@@ -44,7 +49,8 @@ use Rattle.plain_model.specs.declared.entries.Action.TheVariants.{Issue, Resume,
 use Rattle.plain_model.specs.Ledger.{Access, Ledger, no_ledger, Meant, Fixed, Means, next_token, ledger_replied, waits_for, answered, ledger_told}
 use Rattle.hsm_types.specs.Keyed.{set_at}
 use Rattle.plain_model.specs.State.{Held, Flags, State, names_of, just_opened, noted}
-use Rattle.plain_model.specs.Verdict.{Blocks, Posts, Lacks, Verdict, verdict, shortage, left_by_verdict, flags_now, objection_in, meant_in, state_where, state_after}
+use Rattle.plain_model.specs.Verdict.{Blocks, Posts, Lacks, Verdict, verdict, shortage, left_by_verdict, flags_now, objection_in, meant_in}
+use Rattle.plain_model.specs.Verdict.{state_where, state_after}
 use Rattle.plain_model.specs.Services.{bad_own_token, bad_handle, dm_judged, dm_state_where, dm_state_after}
 use Rattle.plain_model.specs.Faults.{is_fault}
 use Rattle.plain_model.specs.Stands.{Awaits, InOrder}

@@ -1,5 +1,6 @@
 -- The files of a legal history without a clash are those that were never moved.
-use Rattle.std.proofs.Common.{◌≡◌, ◌<◌, ◌*◌, ℕ, zero, suc, List, [], ◌∷◌, length, take, Bool, true, false, Option, Some, None, inl, inr, refl, sym, ◌∙◌, ap, subst, arith}
+use Rattle.std.proofs.Common.{◌≡◌, ◌<◌, ◌*◌, ℕ, zero, suc, List, [], ◌∷◌, length, take, Bool, true, false, Option, Some, None, inl, inr, refl, sym}
+use Rattle.std.proofs.Common.{◌∙◌, ap, subst, arith}
 use Rattle.std.proofs.lemmas.Bool.{eqb-true, eq-eqb, false≢true}
 use Rattle.std.specs.Prelude.{◌==◌, if◌then◌else◌, MatchOption, IfSome}
 use Rattle.hsm_types.specs.Limits.{segment_bytes}
@@ -28,9 +29,11 @@ use Rattle.plain_model.specs.declared.entries.Answer.TheVariants.{Call as Replie
 use Rattle.hsm_types.specs.Keyed.{same_key, find_key, change_key, set_at}
 use Rattle.plain_model.specs.Effects.{Restores, change_of}
 use Rattle.plain_model.specs.Plain.{File, listing, key_meant, key_by, written, segment, body_or_none, body_of, affected, act}
-use Rattle.plain_model.specs.Ledger.{Access, Ledger, Meant, Fixed, Means, issued, goes_on, resumed, is_completion, kept, left_waiting, waiting_after, waits_for, answered, ledger_told}
+use Rattle.plain_model.specs.Ledger.{Access, Ledger, Meant, Fixed, Means, issued, goes_on, resumed, is_completion, kept, left_waiting, waiting_after}
+use Rattle.plain_model.specs.Ledger.{waits_for, answered, ledger_told}
 use Rattle.plain_model.specs.Faults.{is_fault, FaultIsLast}
-use Rattle.plain_model.specs.Step.{World, start, MayReply, meant_for, objection_for, files_replied, replied, MayTell, changed_plain, files_told, world_told, MayGive, given}
+use Rattle.plain_model.specs.Step.{World, start, MayReply, meant_for, objection_for, files_replied, replied, MayTell, changed_plain, files_told}
+use Rattle.plain_model.specs.Step.{world_told, MayGive, given}
 use Rattle.plain_model.specs.Legal.{Legal, After, AreTrueBytes, BringsTrueBytes, NoClash}
 use Rattle.plain_model.specs.PlainFold.{Issued, Walk, done_on, done, is_waiting, begun, written_by, walk, walked}
 use Rattle.plain_model.specs.Laws.{IsTransparent}

@@ -21,7 +21,8 @@ use Rattle.plain_model.specs.Effects.{Effect, Leaves, Makes, Drops, Writes, Resi
 use Rattle.plain_model.specs.Plain.{File, body_or_none, body_of}
 use Rattle.plain_model.specs.Ledger.{Meant, Fixed, Means}
 use Rattle.plain_model.specs.State.{FileState, Held, Flags, State, just_opened, noted, changed, remade, affected_held}
-use Rattle.plain_model.specs.Verdict.{Blocks, Posts, Lacks, Verdict, verdict, done_reply, done_held, reply_by, held_by_verdict, flags_now, objection_in, meant_in, reply_where, reply_to, state_where, state_after}
+use Rattle.plain_model.specs.Verdict.{Blocks, Posts, Lacks, Verdict, verdict, done_reply, done_held, reply_by, held_by_verdict, flags_now}
+use Rattle.plain_model.specs.Verdict.{objection_in, meant_in, reply_where, reply_to, state_where, state_after}
 use Rattle.plain_model.specs.Services.{service, dm_judged, dm_reply_where, dm_state_where}
 use Rattle.plain_model.specs.Faults.{is_fault}
 use Rattle.plain_model.specs.Step.{World, start, meant_for, after}

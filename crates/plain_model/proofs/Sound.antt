@@ -1,5 +1,6 @@
 -- What is held of a file stands for its bytes after each effect that is sound.
-use Rattle.std.proofs.Common.{◌≡◌, ◌≤◌, ◌<◌, ◌+◌, ◌-◌, ◌*◌, ℕ, min, max, List, [], length, get_or, replicate, Bool, true, false, Option, Some, None, refl, sym, ◌∙◌, ap, subst, ⊎_elim, arith}
+use Rattle.std.proofs.Common.{◌≡◌, ◌≤◌, ◌<◌, ◌+◌, ◌-◌, ◌*◌, ℕ, min, max, List, [], length, get_or, replicate, Bool, true, false, Option, Some, None}
+use Rattle.std.proofs.Common.{refl, sym, ◌∙◌, ap, subst, ⊎_elim, arith}
 use Rattle.std.proofs.lemmas.List.{length-replicate, get_or_past}
 use Rattle.std.proofs.lemmas.Bool.{eqb-true, eqb-false, false≢true, cases_Bool, cases_lt, lt-ltb, ltb-true, and_parts, le-leb, leb-true}
 use Rattle.std.specs.Prelude.{◌/◌, ◌&&◌, ◌==◌, nat_lt, nat_le, if◌then◌else◌, IfSome}
@@ -18,7 +19,8 @@ use Rattle.plain_model.specs.Plain.{written, resized, segment, rebody}
 use Rattle.plain_model.specs.Sound.{IsFree, IsSound}
 use Rattle.plain_model.specs.State.{FileState, new_file, remade}
 use Rattle.plain_model.specs.Stands.{HasBody}
-use Rattle.plain_model.proofs.Bodies.{length-resized, length-written, written_low, written_in, written_high, written_agree, resized_agree, length-read, read_same}
+use Rattle.plain_model.proofs.Bodies.{length-resized, length-written, written_low, written_in, written_high, written_agree, resized_agree}
+use Rattle.plain_model.proofs.Bodies.{length-read, read_same}
 use Rattle.plain_model.proofs.Meeting.{meets_true, meets_parts, written_apart, resized_apart, restored_segment, restored_apart}
 
 -- the entry has the fingerprint of that segment

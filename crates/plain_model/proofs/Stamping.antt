@@ -22,7 +22,8 @@ use Rattle.plain_model.specs.Plain.{File}
 use Rattle.plain_model.specs.Ledger.{Meant, Fixed, Means}
 use Rattle.plain_model.specs.Step.{World, start, meant_for, after}
 use Rattle.plain_model.specs.State.{Held, Flags, State, just_opened, noted, changed}
-use Rattle.plain_model.specs.Verdict.{Blocks, Posts, Lacks, Verdict, verdict, reply_by, stamps_by, flags_now, objection_in, meant_in, reply_where, reply_to, state_where, state_after}
+use Rattle.plain_model.specs.Verdict.{Blocks, Posts, Lacks, Verdict, verdict, reply_by, stamps_by, flags_now, objection_in, meant_in, reply_where}
+use Rattle.plain_model.specs.Verdict.{reply_to, state_where, state_after}
 use Rattle.plain_model.specs.Services.{dm_judged, dm_state_where}
 use Rattle.plain_model.specs.Faults.{is_fault, fault_of}
 use Rattle.plain_model.specs.Stands.{Stands, StandsFor}

@@ -35,7 +35,9 @@ use Rattle.plain_model.specs.Accesses.{is_access, can_block, need_of, wants_spac
 use Rattle.plain_model.specs.Ledger.{Ledger, Meant, Fixed, Means, next_token, meant, objection, ledger_replied}
 use Rattle.plain_model.specs.Blocks.{touched}
 use Rattle.plain_model.specs.State.{FileState, Held, Flags, State, just_opened, noted, names_of, next_key, file_at, bytes_of, used}
-use Rattle.plain_model.specs.Verdict.{Ruling, Blocks, Posts, Lacks, Verdict, shortage, facts_of, is_taken, conflicting, posts, touching, needing, without_room, lacking, verdict, done_reply, reply_by, flags_now, objection_in, meant_in, reply_where, reply_to, left_by_verdict, state_where, state_after}
+use Rattle.plain_model.specs.Verdict.{Ruling, Blocks, Posts, Lacks, Verdict, shortage, facts_of, is_taken, conflicting, posts, touching, needing}
+use Rattle.plain_model.specs.Verdict.{without_room, lacking, verdict, done_reply, reply_by, flags_now, objection_in, meant_in, reply_where, reply_to}
+use Rattle.plain_model.specs.Verdict.{left_by_verdict, state_where, state_after}
 use Rattle.plain_model.specs.Services.{dm_judged}
 use Rattle.plain_model.specs.Faults.{is_fault}
 use Rattle.plain_model.specs.Step.{World, start, IsOutcome, MayReply, meant_for, objection_for, replied, MayAnswer, MayGive, given, after}

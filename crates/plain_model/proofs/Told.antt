@@ -14,7 +14,8 @@ use Rattle.hsm_types.specs.declared.keys.Token.{Token}
 use Rattle.hsm_types.specs.declared.stubs.StubEntry.{StubEntry}
 use Rattle.hsm_types.specs.declared.stores.Superblock.{Superblock}
 use Rattle.hsm_types.specs.declared.dm.DmCall.{DmCall}
-use Rattle.hsm_types.specs.declared.dm.DmCall.TheVariants.{CreateSession, Respond, CreateUserEvent, GetFileAttr, SetRegion, SetDmAttr, RemoveDmAttr, ReadInvis, WriteInvis, PunchHole, Seal, Restore, PathToHandle, GetSpace}
+use Rattle.hsm_types.specs.declared.dm.DmCall.TheVariants.{CreateSession, Respond, CreateUserEvent, GetFileAttr, SetRegion, SetDmAttr, RemoveDmAttr}
+use Rattle.hsm_types.specs.declared.dm.DmCall.TheVariants.{ReadInvis, WriteInvis, PunchHole, Seal, Restore, PathToHandle, GetSpace}
 use Rattle.hsm_types.specs.declared.dm.DmRefusal.{DmRefusal}
 use Rattle.hsm_types.specs.declared.dm.DmRefusal.TheVariants.{NoObject, BadResponse}
 use Rattle.hsm_types.specs.declared.dm.DmReply.TheVariants as told
@@ -22,13 +23,15 @@ use Rattle.hsm_types.specs.declared.dm.Right.{Right}
 use Rattle.hsm_types.specs.declared.dm.Right.TheVariants.{Shared, Excl}
 use Rattle.hsm_types.specs.Messages.{is_lawful}
 use Rattle.hsm_types.specs.Sessions.{dead_session, bad_response}
-use Rattle.plain_model.specs.Effects.{Writes, Manages, Attaches, Detaches, Seals, Punches, Restores, punch_from, punch_to, Change, Nothing, OfFile, OfSessions, OfRights, Closes, change_of}
+use Rattle.plain_model.specs.Effects.{Writes, Manages, Attaches, Detaches, Seals, Punches, Restores, punch_from, punch_to, Change, Nothing, OfFile}
+use Rattle.plain_model.specs.Effects.{OfSessions, OfRights, Closes, change_of}
 use Rattle.plain_model.specs.Plain.{Listed, listing, named, key_or_none, read_at, body_of}
 use Rattle.plain_model.specs.Ledger.{Ledger, next_token, ledger_told}
 use Rattle.plain_model.specs.State.{FileState, State, changed, names_of, file_at}
 use Rattle.plain_model.specs.Segments.{reading_refusal, writing_refusal, punch_refusal, seal_refusal, restore_refusal}
 use Rattle.plain_model.specs.Sound.{IsFree}
-use Rattle.plain_model.specs.Services.{bad_own_token, bad_given_token, is_live, bad_handle, no_such_name, kept_of, other_stubs, service, dm_judged, dm_reply_where, dm_state_where}
+use Rattle.plain_model.specs.Services.{bad_own_token, bad_given_token, is_live, bad_handle, no_such_name, kept_of, other_stubs, service, dm_judged}
+use Rattle.plain_model.specs.Services.{dm_reply_where, dm_state_where}
 use Rattle.plain_model.specs.Step.{World, IsFileOf, MayTell, changed_plain, files_told, world_told}
 use Rattle.plain_model.specs.Stands.{HasBody, Stands, StandsFor, InOrder}
 use Rattle.plain_model.proofs.Bodies.{read_same}
@@ -122,15 +125,15 @@ module _ (s : Superblock) (st : State) (W : World) (stands : StandsFor st W) (si
   told_sound : (call : DmCall) → dm_judged s st sid call ≡ None → IsSoundBy (change_of sid call) files
   told_sound (SetRegion token handle regions) none =
       let stubs : Stubs = (kept_of handle.key files).stubs in
-      let past = on_file token handle Excl (first_refusal (regions_refusal regions ∷ uncovered regions stubs ∷ [])) none in
-      let past_regions = none_first (regions_refusal regions) (uncovered regions stubs ∷ []) past.1 in
+      let past = on_file token handle Excl (first_refusal (regions_refusal s.geometry.limits regions ∷ uncovered regions stubs ∷ [])) none in
+      let past_regions = none_first (regions_refusal s.geometry.limits regions) (uncovered regions stubs ∷ []) past.1 in
       sound_at (Manages regions) handle.key files (all_covered regions stubs (none_first (uncovered regions stubs) [] past_regions.1).0)
   told_sound (WriteInvis token handle offset body) none =
       let f : FileState = file_at handle.key files in
       sound_at (Writes offset body) handle.key files (writing_sound f s st.held offset body (on_file token handle Excl (writing_refusal s st.held f offset body) none).1).1
   told_sound (PunchHole token handle offset len) none =
       let f : FileState = file_at handle.key files in
-      sound_at (Punches (punch_from offset) (punch_to offset len)) handle.key files (punch_sound f offset len (on_file token handle Excl (punch_refusal f offset len) none).1)
+      sound_at (Punches (punch_from offset) (punch_to offset len)) handle.key files (punch_sound f s.geometry.limits offset len (on_file token handle Excl (punch_refusal s.geometry.limits f offset len) none).1)
   told_sound (Seal token handle j entry) none =
       let f : FileState = file_at handle.key files in
       let past = on_file token handle Excl (sealing_refusal_of j handle entry) none in

@@ -1,5 +1,6 @@
 -- An access that no rule stops needs no segment whose bytes are away, so its effect is sound.
-use Rattle.std.proofs.Common.{◌≡◌, ◌≤◌, ◌<◌, ◌+◌, ◌-◌, ◌*◌, ℕ, zero, suc, min, max, List, [], ◌∷◌, length, Bool, true, false, not, Some, None, refl, sym, ◌∙◌, subst, ⊎_elim, arith}
+use Rattle.std.proofs.Common.{◌≡◌, ◌≤◌, ◌<◌, ◌+◌, ◌-◌, ◌*◌, ℕ, zero, suc, min, max, List, [], ◌∷◌, length, Bool, true, false, not, Some, None, refl}
+use Rattle.std.proofs.Common.{sym, ◌∙◌, subst, ⊎_elim, arith}
 use Rattle.std.proofs.lemmas.Bool.{eqb-true, ne_eqb, false≢true, cases_lt, lt-ltb, leb-true, and_parts, or_cases, or_parts, false_from_ne_true}
 use Rattle.std.specs.Prelude.{◌/◌, ◌%◌, ◌≢◌, ◌&&◌, ◌||◌, ◌==◌, nat_lt, nat_le, if◌then◌else◌}
 use Rattle.std.specs.List.{list_any}

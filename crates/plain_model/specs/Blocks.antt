@@ -1,5 +1,6 @@
 -- Blocks of `block_bytes`, `segment_blocks` to a segment: which of them an effect touches, and which are mapped after it.
-use Rattle.std.specs.Prelude.{ℕ, ◌+◌, ◌-◌, ◌*◌, ◌/◌, ◌%◌, max, min, List, [], ◌∷◌, ◌++◌, length, take, drop, replicate, slice_set, Bool, true, false, ◌==◌, ◌&&◌, nat_lt, if◌then◌else◌}
+use Rattle.std.specs.Prelude.{ℕ, ◌+◌, ◌-◌, ◌*◌, ◌/◌, ◌%◌, max, min, List, [], ◌∷◌, ◌++◌, length, take, drop, replicate, slice_set, Bool, true, false}
+use Rattle.std.specs.Prelude.{◌==◌, ◌&&◌, nat_lt, if◌then◌else◌}
 use Rattle.hsm_types.specs.Limits.{block_bytes, segment_bytes, segment_blocks}
 pub use Rattle.hsm_types.specs.Segments.{from_on}
 use Rattle.plain_model.specs.Effects.{Effect, Writes, Resizes, Punches, Restores}

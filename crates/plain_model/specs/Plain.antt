@@ -1,9 +1,11 @@
 -- A plain map of files, what refuses a call on it, and what calls and effects do to it.
-use Rattle.std.specs.Prelude.{ℕ, ◌+◌, ◌-◌, ◌*◌, ◌^◌, max, min, List, [], ◌∷◌, ◌++◌, length, map, take, drop, replicate, ◌==◌, ◌&&◌, nat_lt, nat_le, if◌then◌else◌, Bool, Option, Some, None, is_some}
-use Rattle.hsm_types.specs.Limits.{file_bytes, segment_bytes, access_bytes}
+use Rattle.std.specs.Prelude.{ℕ, ◌+◌, ◌-◌, ◌*◌, ◌^◌, max, min, List, [], ◌∷◌, ◌++◌, length, map, take, drop, replicate, ◌==◌, ◌&&◌, nat_lt, nat_le}
+use Rattle.std.specs.Prelude.{if◌then◌else◌, Bool, Option, Some, None, is_some}
+use Rattle.hsm_types.specs.Limits.{segment_bytes, access_bytes}
 use Rattle.hsm_types.specs.Names.{is_name}
 use Rattle.hsm_types.specs.Refusals.{first_refusal}
 use Rattle.hsm_types.specs.declared.keys.FileKey.{FileKey}
+use Rattle.hsm_types.specs.declared.stores.Limits.{Limits}
 use Rattle.hsm_types.specs.declared.stores.Superblock.{Superblock}
 use Rattle.hsm_types.specs.declared.calls.Call.{Call}
 use Rattle.hsm_types.specs.declared.calls.Call.TheVariants.{Create, Read, Write, Truncate, Remove, Stat, Sync}
@@ -50,9 +52,9 @@ missing name files = if is_some (named name files) then None else Some Missing
 abbrev pub exists : List ℕ → List Listed → Option CallRefusal
 exists name files = if is_some (named name files) then Some Exists else None
 
--- a file has at most `file_bytes`. The end is told as far as a u64 goes
-abbrev pub too_big : ℕ → Option CallRefusal
-too_big end = if nat_lt file_bytes end then Some (TooBig (min end (2 ^ 64 - 1))) else None
+-- a file has at most the bytes that its format allows. The end is told as far as a u64 goes
+abbrev pub too_big : Limits → ℕ → Option CallRefusal
+too_big limits end = if nat_lt limits.bytes end then Some (TooBig (min end (2 ^ 64 - 1))) else None
 
 -- each inode is in use
 abbrev pub no_inodes : ℕ → List Listed → Option CallRefusal
@@ -62,8 +64,8 @@ no_inodes count files = if length files == count then Some (NoInodes count) else
 abbrev pub refusal_of : Superblock → List Listed → Call → Option CallRefusal
 refusal_of s files (Create name) = first_refusal (bad_name name ∷ exists name files ∷ no_inodes s.geometry.files files ∷ [])
 refusal_of s files (Read name offset len) = first_refusal (bad_name name ∷ bad_length len ∷ missing name files ∷ [])
-refusal_of s files (Write name offset bytes) = first_refusal (bad_name name ∷ bad_length (length bytes) ∷ missing name files ∷ too_big (offset + length bytes) ∷ [])
-refusal_of s files (Truncate name size) = first_refusal (bad_name name ∷ missing name files ∷ too_big size ∷ [])
+refusal_of s files (Write name offset bytes) = first_refusal (bad_name name ∷ bad_length (length bytes) ∷ missing name files ∷ too_big s.geometry.limits (offset + length bytes) ∷ [])
+refusal_of s files (Truncate name size) = first_refusal (bad_name name ∷ missing name files ∷ too_big s.geometry.limits size ∷ [])
 refusal_of s files (Remove name) = first_refusal (bad_name name ∷ missing name files ∷ [])
 refusal_of s files (Stat name) = first_refusal (bad_name name ∷ missing name files ∷ [])
 refusal_of s files Sync = None

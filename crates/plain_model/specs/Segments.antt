@@ -1,8 +1,9 @@
 -- What sessions ask of the segments of a file: what refuses them, and what they are told.
-use Rattle.std.specs.Prelude.{ℕ, ◌+◌, ◌-◌, ◌*◌, ◌/◌, ◌%◌, min, List, [], ◌∷◌, length, map, take, drop, count_by, Bool, ◌==◌, ◌&&◌, ◌||◌, nat_lt, nat_le, if◌then◌else◌, Option, Some, None}
+use Rattle.std.specs.Prelude.{ℕ, ◌+◌, ◌-◌, ◌*◌, ◌/◌, ◌%◌, min, List, [], ◌∷◌, length, map, take, drop, count_by, Bool, ◌==◌, ◌&&◌, ◌||◌, nat_lt}
+use Rattle.std.specs.Prelude.{nat_le, if◌then◌else◌, Option, Some, None}
 use Rattle.std.specs.Option.{option_map}
 use Rattle.std.specs.Str.{bytes_eq}
-use Rattle.hsm_types.specs.Limits.{file_bytes, segment_bytes, segment_blocks, access_bytes, last_volume}
+use Rattle.hsm_types.specs.Limits.{segment_bytes, segment_blocks, access_bytes, last_volume}
 use Rattle.hsm_types.specs.Refusals.{first_refusal}
 use Rattle.hsm_types.specs.Segments.{from_on, segments_in, segments_met}
 use Rattle.hsm_types.specs.Stubs.{print_of, stub_at, already_offline, not_offline, any_unpunched, entry_place, entry_print}
@@ -13,6 +14,7 @@ use Rattle.hsm_types.specs.declared.stubs.Segment.{Segment}
 use Rattle.hsm_types.specs.declared.stubs.Segment.TheVariants.{Resident, Sealed, Offline}
 use Rattle.hsm_types.specs.declared.stubs.Stub.{Stub}
 use Rattle.hsm_types.specs.declared.stubs.StubEntry.{StubEntry}
+use Rattle.hsm_types.specs.declared.stores.Limits.{Limits}
 use Rattle.hsm_types.specs.declared.stores.Superblock.{Superblock}
 use Rattle.hsm_types.specs.declared.tables.FileRow.{FileRow}
 use Rattle.hsm_types.specs.declared.tables.Table.{Table}
@@ -42,11 +44,11 @@ abbrev pub bad_volume : ℕ → Option DmRefusal
 bad_volume volume = if nat_le volume last_volume then None else Some BadRange
 
 -- A punch begins at a segment of the file. It ends at a segment too, or at the file's end, or with a length of 0 goes on to that
-abbrev pub ends_well : ℕ → ℕ → ℕ → Bool
-ends_well offset len size = len == 0 || (nat_le (offset + len) file_bytes && ((offset + len) % segment_bytes == 0 || offset + len == size))
+abbrev pub ends_well : Limits → ℕ → ℕ → ℕ → Bool
+ends_well limits offset len size = len == 0 || (nat_le (offset + len) limits.bytes && ((offset + len) % segment_bytes == 0 || offset + len == size))
 
-abbrev pub bad_punch : ℕ → ℕ → ℕ → Option DmRefusal
-bad_punch offset len size = if offset % segment_bytes == 0 && nat_lt offset size && ends_well offset len size then None else Some BadRange
+abbrev pub bad_punch : Limits → ℕ → ℕ → ℕ → Option DmRefusal
+bad_punch limits offset len size = if offset % segment_bytes == 0 && nat_lt offset size && ends_well limits offset len size then None else Some BadRange
 
 -- what could be punched of a range: from the next segment on, and up to the end of a segment, or to that of the file
 abbrev pub probe_start : ℕ → ℕ
@@ -91,13 +93,13 @@ abbrev pub writing_refusal : Superblock → Held → FileState → ℕ → List 
 writing_refusal s h f offset bytes =
     first_refusal (bad_access (length bytes) ∷ past_size (offset + length bytes) (length f.body) ∷ any_away f offset (offset + length bytes) ∷ no_room s h f (Writes offset bytes) ∷ [])
 
-abbrev pub punch_refusal : FileState → ℕ → ℕ → Option DmRefusal
-punch_refusal f offset len =
-    first_refusal (bad_punch offset len (length f.body) ∷ any_unpunched f.kept.regions f.kept.stubs (punch_from offset) (min (punch_to offset len) (segments_in (length f.body))) ∷ [])
+abbrev pub punch_refusal : Limits → FileState → ℕ → ℕ → Option DmRefusal
+punch_refusal limits f offset len =
+    first_refusal (bad_punch limits offset len (length f.body) ∷ any_unpunched f.kept.regions f.kept.stubs (punch_from offset) (min (punch_to offset len) (segments_in (length f.body))) ∷ [])
 
 -- but for the limit of entries, which is judged last
 abbrev pub seal_refusal : FileState → ℕ → StubEntry → Option DmRefusal
-seal_refusal f j entry = first_refusal (past_end j (length f.body) ∷ bad_volume (entry_place entry).volume ∷ away f j ∷ changed_bytes entry.print (segment j f.body) ∷ [])
+seal_refusal f j entry = first_refusal (past_end j (length f.body) ∷ bad_volume (entry_place entry).volume ∷ away f j ∷ changed_bytes (entry_print entry) (segment j f.body) ∷ [])
 
 abbrev pub restore_refusal : Superblock → Held → FileState → ℕ → List ℕ → Option DmRefusal
 restore_refusal s h f j bytes =

@@ -4,7 +4,8 @@ use Rattle.std.specs.Map.{keys_of}
 use Rattle.hsm_types.specs.Refusals.{first_refusal}
 use Rattle.hsm_types.specs.Calls.{scope_of}
 use Rattle.hsm_types.specs.Messages.{packed, handed_out}
-use Rattle.hsm_types.specs.Sessions.{SessionTable, info_of, kinds_of, queue_of, outstanding_of, tokens_of, outstanding_message, creation_refusal, dead_session, bad_token, destruction_refusal, none_fits, bad_response, event_refusal, sending_refusal, next_sid}
+use Rattle.hsm_types.specs.Sessions.{SessionTable, info_of, kinds_of, queue_of, outstanding_of, tokens_of, outstanding_message, creation_refusal}
+use Rattle.hsm_types.specs.Sessions.{dead_session, bad_token, destruction_refusal, none_fits, bad_response, event_refusal, sending_refusal, next_sid}
 use Rattle.hsm_types.specs.Attributes.{value_of, bytes_of_attributes, setting_refusal, no_attribute, removal_refusal}
 use Rattle.hsm_types.specs.Regions.{regions_refusal}
 use Rattle.hsm_types.specs.Stubs.{uncovered, too_many_stubs}
@@ -19,7 +20,11 @@ use Rattle.hsm_types.specs.declared.dm.Right.TheVariants.{Excl}
 use Rattle.hsm_types.specs.declared.dm.Scope.{Scope}
 use Rattle.hsm_types.specs.declared.dm.Scope.TheVariants.{Anyone, InSession, OnToken, OnFile, OnRight}
 use Rattle.hsm_types.specs.declared.dm.DmCall.{DmCall}
-use Rattle.hsm_types.specs.declared.dm.DmCall.TheVariants.{CreateSession, DestroySession, GetAllSessions, QuerySession, SetDisp, GetDisp, GetEvents, GetAllTokens, FindEventMsg, Respond, CreateUserEvent, SendMsg, RequestRight, ReleaseRight, QueryRight, UpgradeRight, DowngradeRight, GetFileAttr, SetRegion, GetRegion, SetDmAttr, GetDmAttr, RemoveDmAttr, GetAllDmAttr, ReadInvis, WriteInvis, PunchHole, ProbeHole, GetAllocInfo, Seal, Restore, PathToHandle, GetSpace, GetTable}
+use Rattle.hsm_types.specs.declared.dm.DmCall.TheVariants.{CreateSession, DestroySession, GetAllSessions, QuerySession, SetDisp, GetDisp, GetEvents}
+use Rattle.hsm_types.specs.declared.dm.DmCall.TheVariants.{GetAllTokens, FindEventMsg, Respond, CreateUserEvent, SendMsg, RequestRight, ReleaseRight}
+use Rattle.hsm_types.specs.declared.dm.DmCall.TheVariants.{QueryRight, UpgradeRight, DowngradeRight, GetFileAttr, SetRegion, GetRegion, SetDmAttr}
+use Rattle.hsm_types.specs.declared.dm.DmCall.TheVariants.{GetDmAttr, RemoveDmAttr, GetAllDmAttr, ReadInvis, WriteInvis, PunchHole, ProbeHole}
+use Rattle.hsm_types.specs.declared.dm.DmCall.TheVariants.{GetAllocInfo, Seal, Restore, PathToHandle, GetSpace, GetTable}
 use Rattle.hsm_types.specs.declared.dm.DmReply.{DmReply}
 use Rattle.hsm_types.specs.declared.dm.DmReply.TheVariants as reply
 use Rattle.hsm_types.specs.declared.dm.DmRefusal.{DmRefusal}
@@ -29,7 +34,8 @@ use Rattle.hsm_types.specs.Keyed.{find_key}
 use Rattle.plain_model.specs.Ledger.{next_token, ledger_told}
 use Rattle.plain_model.specs.Effects.{change_of}
 use Rattle.plain_model.specs.Plain.{Listed, named, key_or_none, read_at}
-use Rattle.plain_model.specs.Segments.{probe_start, probe_end, nothing_to_punch, reading_refusal, writing_refusal, punch_refusal, seal_refusal, restore_refusal, segments_told, table_of}
+use Rattle.plain_model.specs.Segments.{probe_start, probe_end, nothing_to_punch, reading_refusal, writing_refusal, punch_refusal, seal_refusal}
+use Rattle.plain_model.specs.Segments.{restore_refusal, segments_told, table_of}
 use Rattle.plain_model.specs.State.{FileState, names_of, file_at, used_by, used, State, noted, changed}
 
 -- ---- what refuses by the scope of a call
@@ -119,7 +125,7 @@ service s st sid (QueryRight token handle) = record { refusal = None; reply = re
 service s st sid (UpgradeRight token handle) = record { refusal = busy (conflict handle.key Excl token st.rights); reply = reply.Done }
 service s st sid (DowngradeRight token handle) = record { refusal = None; reply = reply.Done }
 service s st sid (GetFileAttr token handle) = let f = file_at handle.key st.held.files in record { refusal = None; reply = reply.Attr (length f.body) (st.stamps handle.key) (used_by f) }
-service s st sid (SetRegion token handle regions) = record { refusal = first_refusal (regions_refusal regions ∷ uncovered regions (kept_of handle.key st.held.files).stubs ∷ []); reply = reply.Done }
+service s st sid (SetRegion token handle regions) = record { refusal = first_refusal (regions_refusal s.geometry.limits regions ∷ uncovered regions (kept_of handle.key st.held.files).stubs ∷ []); reply = reply.Done }
 service s st sid (GetRegion token handle) = record { refusal = None; reply = reply.Regions (kept_of handle.key st.held.files).regions }
 service s st sid (SetDmAttr token handle name value) = record {
   refusal = setting_refusal name value (other_attributes handle.key st.held.files) s.geometry.attributes (kept_of handle.key st.held.files).attributes;
@@ -130,7 +136,7 @@ service s st sid (RemoveDmAttr token handle name) = record { refusal = removal_r
 service s st sid (GetAllDmAttr token handle) = record { refusal = None; reply = reply.Names (keys_of (kept_of handle.key st.held.files).attributes) }
 service s st sid (ReadInvis token handle offset len) = let f = file_at handle.key st.held.files in record { refusal = reading_refusal f offset len; reply = reply.Data (read_at offset len f.body) }
 service s st sid (WriteInvis token handle offset body) = record { refusal = writing_refusal s st.held (file_at handle.key st.held.files) offset body; reply = reply.Done }
-service s st sid (PunchHole token handle offset len) = record { refusal = punch_refusal (file_at handle.key st.held.files) offset len; reply = reply.Done }
+service s st sid (PunchHole token handle offset len) = record { refusal = punch_refusal s.geometry.limits (file_at handle.key st.held.files) offset len; reply = reply.Done }
 service s st sid (ProbeHole token handle offset len) = let size = length (file_at handle.key st.held.files).body in record {
   refusal = nothing_to_punch offset len size;
   reply = reply.Range (probe_start offset) (probe_end offset len size - probe_start offset);

@@ -8,7 +8,8 @@ use Rattle.hsm_types.specs.Sessions.{SessionTable, no_sessions, responded}
 use Rattle.hsm_types.specs.Stubs.{sealed, punched, restored, unsealed}
 use Rattle.hsm_types.specs.declared.keys.FileKey.{FileKey}
 use Rattle.hsm_types.specs.Keyed.{find_key, change_key, put_key, drop_key}
-use Rattle.plain_model.specs.Effects.{Effect, Leaves, Makes, Drops, Writes, Resizes, Manages, Attaches, Detaches, Seals, Punches, Restores, Change, Nothing, OfFile, OfSessions, OfRights, Closes}
+use Rattle.plain_model.specs.Effects.{Effect, Leaves, Makes, Drops, Writes, Resizes, Manages, Attaches, Detaches, Seals, Punches, Restores, Change}
+use Rattle.plain_model.specs.Effects.{Nothing, OfFile, OfSessions, OfRights, Closes}
 use Rattle.plain_model.specs.Plain.{Listed, free_inode, written, rebody}
 use Rattle.plain_model.specs.Ledger.{Ledger, no_ledger, next_token}
 use Rattle.plain_model.specs.Blocks.{remapped}

@@ -1,5 +1,6 @@
 -- Parts of calls: each is got back from its text, and is visible.
-use Rattle.std.proofs.Common.{◌≡◌, ◌≢◌, ℕ, ◌<◌, List, [], ◌∷◌, ◌++◌, length, drop, get_or, take, ◌-◌, ◌==◌, map, Bool, true, false, Option, None, refl, sym, ap, ◌∙◌, subst, arith}
+use Rattle.std.proofs.Common.{◌≡◌, ◌≢◌, ℕ, ◌<◌, List, [], ◌∷◌, ◌++◌, length, drop, get_or, take, ◌-◌, ◌==◌, map, Bool, true, false, Option, None, refl, sym}
+use Rattle.std.proofs.Common.{ap, ◌∙◌, subst, arith}
 use Rattle.std.specs.List.{AllByRecursion}
 use Rattle.std.specs.Str.Parse.{digits_value}
 use Rattle.std.proofs.lemmas.Bool.{and_parts, false≢true}
@@ -21,7 +22,9 @@ use Rattle.script_text.proofs.KindParts.{kinds_at, spelled_kinds}
 use Rattle.script_text.proofs.Numerals.{digits_value-decimal}
 use Rattle.script_text.proofs.ResponseParts.{response_at, response_at-word, Lacks-response}
 use Rattle.script_text.proofs.RightParts.{right_at, right_at-word, visible_right}
-use Rattle.script_text.proofs.Spelling.{IsVisible, Lacks-visible, visible_word, visible_decimal, visible_handle, visible_regions, visible_name, visible_digest, visible_data, data_at, data_at-word, handle_at, handle_at-word, regions_at, regions_at-word, name_at, name_at-word, digest_at, digest_at-word}
+use Rattle.script_text.proofs.Spelling.{IsVisible, Lacks-visible, visible_word, visible_decimal, visible_handle, visible_regions, visible_name}
+use Rattle.script_text.proofs.Spelling.{visible_digest, visible_data, data_at, data_at-word, handle_at, handle_at-word, regions_at, regions_at-word, name_at}
+use Rattle.script_text.proofs.Spelling.{name_at-word, digest_at, digest_at-word}
 
 -- ---- parts of a kind
 

@@ -1,5 +1,6 @@
 -- How words are spelled: their bytes are visible, and each value is got back from its word.
-use Rattle.std.proofs.Common.{◌≡◌, ◌≢◌, ℕ, ◌^◌, ◌<◌, ◌≤◌, List, [], ◌∷◌, ◌++◌, length, Bool, true, false, ◌&&◌, ◌==◌, map, Option, Some, None, refl, sym, ap, ◌∙◌, arith, append_assoc}
+use Rattle.std.proofs.Common.{◌≡◌, ◌≢◌, ℕ, ◌^◌, ◌<◌, ◌≤◌, List, [], ◌∷◌, ◌++◌, length, Bool, true, false, ◌&&◌, ◌==◌, map, Option, Some, None, refl, sym, ap}
+use Rattle.std.proofs.Common.{◌∙◌, arith, append_assoc}
 use Rattle.std.specs.Prelude.{codes, not, if◌then◌else◌}
 use Rattle.std.specs.Char.{digit_value}
 use Rattle.std.specs.List.{list_all, AllByRecursion, slice_split, join_with_byte}

@@ -1,5 +1,5 @@
 -- The limits of scripts and of their lines.
-use Rattle.std.specs.Prelude.{ℕ, ◌+◌, ◌*◌}
+use Rattle.std.specs.Prelude.{ℕ}
 
 -- the bytes of the longest line, without its newline
 abbrev pub line_bytes : ℕ
@@ -8,10 +8,6 @@ line_bytes = 4096
 -- the lines of the longest script
 abbrev pub script_lines : ℕ
 script_lines = 100000
-
--- the bytes of the longest script: its lines, with a newline each
-abbrev pub longest_script : ℕ
-longest_script = script_lines * (line_bytes + 1)
 
 -- the most bytes that the accesses of a script may have together
 abbrev pub script_access_bytes : ℕ

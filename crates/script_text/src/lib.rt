@@ -21,7 +21,7 @@ mod words;
 
 pub use bodies::{PATTERN_BYTES, pattern_bytes};
 pub use laws::{one_script, one_script_of, printed_is_read, printed_is_read_of};
-pub use lines::{Allowed, Line, Script};
+pub use lines::{Allowed, Line, LinesLeft, Script};
 pub use parser::{LONGEST_SCRIPT, ParseRefusal, parse, parse_allowed};
 pub use printing::print;
 pub use words::number;

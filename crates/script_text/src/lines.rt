@@ -1,5 +1,6 @@
 //! The lines of scripts.
 ghost use Rattle.std.specs.Prelude.{◌≡◌};
+ghost use Rattle.std.specs.Iterator.{YieldsFirst, item_count};
 ghost use Rattle.script_text.specs.Scripts.{AreLawful};
 
 use hsm_types::Daemon;
@@ -68,10 +69,48 @@ impl Script {
         self.items.as_slice()
     }
 
-    pub fn into_vec(self) -> Vec<Line>
-        ensures items { result.items ≡ self }
+    /// The lines, to be run one by one.
+    pub fn into_lines(self) -> LinesLeft
+        ensures lines { result ≡ self }
         ensures lawful { AreLawful self }
     {
-        self.items
+        let mut turned = self.items;
+        turned.as_mut_slice().reverse();
+        LinesLeft { turned }
+    }
+}
+
+/// After how many lines their memory is given back.
+const LINES_AT_ONCE: usize = 4096;
+
+/// The lines of a script that are left to be run. What those before them took is given back as they go. Contracts see them as a list.
+#[derive(Drop)]
+pub struct LinesLeft {
+    /// The last one first.
+    turned: Vec<Line>,
+}
+
+impl Model for LinesLeft {
+    ghost use Rattle.std.specs.Prelude.{List, reverse};
+    ghost use Rattle.script_text.specs.declared.lines.Line.{Line};
+
+    ghost Value = { List Line };
+
+    ghost view = { λ l. reverse l.turned.items };
+}
+
+impl Iterator for LinesLeft {
+    type Item = Line;
+
+    ghost next_gives = { YieldsFirst (λ l. l) };
+
+    ghost remaining = { item_count (λ l. l) };
+
+    fn next(&mut self) -> Option<Line> {
+        let line = self.turned.pop()?;
+        if self.turned.len() % LINES_AT_ONCE == 0 {
+            self.turned.shrink_to_fit();
+        }
+        Some(line)
     }
 }

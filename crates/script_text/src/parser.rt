@@ -42,7 +42,8 @@ pub fn parse(alloc: Global, bytes: &[u8]) -> Result<Script, ParseRefusal>
     parse_allowed(alloc, bytes, Allowed::All)
 }
 
-/// Reads a script of allowed lines. A line that isn't allowed is told as a text is that is no line.
+/// Reads a script of allowed lines. A line that isn't allowed is told as a text is that is no line. No command asks for less than all lines yet: one whose
+/// callers run side by side will.
 pub fn parse_allowed(alloc: Global, bytes: &[u8], allowed: Allowed) -> Result<Script, ParseRefusal>
     ensures exact { MatchResult result (λ script. IsScriptOf allowed bytes.now script) (λ why. Tells allowed bytes.now why) }
     ensures short { OnOk result (length bytes.now ≤ LONGEST_SCRIPT) }

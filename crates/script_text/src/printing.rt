@@ -8,7 +8,7 @@ ghost use Rattle.script_text.specs.Scripts.{script_text, IsScript};
 use crate::daemons::name_of;
 use crate::lines::{Line, Script};
 use event_text::{Spelling, push_event};
-use hsm_types::{Bytes, Daemon};
+use hsm_types::{Bytes, Daemon, Verified};
 use std::alloc::{AllocError, Global};
 
 /// The text of a script: that of each line, with a newline behind it.
@@ -69,6 +69,15 @@ impl Spelling for Given {
             Some(seed) => push_pattern(alloc, out, bytes.len() as u64, seed),
             None => push_hex(alloc, out, bytes),
         }
+    }
+
+    fn push_verified(
+        &self,
+        alloc: Global,
+        out: &mut Vec<u8>,
+        bytes: &Verified,
+    ) -> Result<(), AllocError> {
+        self.push_data(alloc, out, bytes.as_slice())
     }
 }
 

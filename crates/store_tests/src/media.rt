@@ -47,7 +47,7 @@ fn run_event<D: Disk>(alloc: Global, hsm: &mut Hsm<D>, actor: Actor, action: Act
 }
 
 fn run_script<D: Disk>(alloc: Global, hsm: &mut Hsm<D>, script: Script) {
-    for line in script.into_vec() {
+    for line in script.into_lines() {
         if let Line::Event { actor, action, .. } = line {
             run_event(alloc, hsm, actor, action);
         }

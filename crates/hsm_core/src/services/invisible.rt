@@ -1,7 +1,6 @@
 //! Reads and writes of a live file that raise no event and renew no stamp.
 ghost use Rattle.std.specs.Prelude.{◌≡◌, ◌+◌, ◌≤◌, false, IsSome, IfOk, OnOk, length};
 ghost use Rattle.hsm_types.specs.Messages.{no_token};
-ghost use Rattle.hsm_types.specs.Limits.{file_bytes};
 ghost use Rattle.hsm_types.specs.declared.dm.DmCall.TheVariants.{ReadInvis, WriteInvis};
 ghost use Rattle.plain_model.specs.Effects.{Writes};
 ghost use Rattle.plain_model.specs.Blocks.{touched};
@@ -85,7 +84,7 @@ fn judge_invisible_write<D: Disk>(
     requires { IsSome (find_key (λ f. f.key) key files.now.held.files) }
     ensures judged { Judges result (writing_refusal (superblock_of files.now) files.now.held (file_at key files.now.held.files) offset bytes.now) }
     ensures some { OnOk result (1 ≤ length bytes.now) }
-    ensures end { OnOk result (offset + length bytes.now ≤ file_bytes) }
+    ensures end { OnOk result (offset + length bytes.now ≤ (superblock_of files.now).geometry.limits.bytes) }
     ensures room { OnOk result (length (touched (Writes offset bytes.now) (length (bytes_of key files.now.held.files))) + used files.now.held.files ≤ (superblock_of files.now).geometry.blocks) }
 {
     let size = files.body(key).len();

@@ -1,6 +1,7 @@
 //! Calls by which the bytes of a live file's segments leave the store and come back.
 ghost use Rattle.std.specs.Prelude.{◌≡◌, ◌+◌, ◌*◌, ◌<◌, ◌≤◌, ◌⊎◌, false, true, Some, IfSome, IsSome, OnOk, length};
 ghost use Rattle.hsm_types.specs.Calls.{scope_of};
+ghost use Rattle.hsm_types.specs.Limits.{IsCountable};
 ghost use Rattle.hsm_types.specs.Messages.{no_token};
 ghost use Rattle.hsm_types.specs.Stubs.{offline_at, print_of, stub_at, entry_place, entry_print};
 ghost use Rattle.hsm_types.specs.declared.dm.DmCall.TheVariants.{PunchHole, Seal, Restore};
@@ -21,8 +22,8 @@ use disk_model::Disk;
 use file_body::touched_by_restore;
 use file_store::{FileStore, StoreRefusal};
 use hsm_types::{
-    DmCall, DmRefusal, DmReply, FILE_BYTES, FileKey, Handle, LAST_VOLUME, SEGMENT_BYTES, StubEntry,
-    Verified, segments_in,
+    DmCall, DmRefusal, DmReply, FILE_BYTES, FileKey, Handle, LAST_VOLUME, Limits, SEGMENT_BYTES,
+    StubEntry, Verified, segments_in,
 };
 use std::alloc::Global;
 use stub_map::State;
@@ -78,7 +79,7 @@ fn punch<D: Disk>(
     ensures { IsServed D.Disk files.old number (PunchHole no_token handle offset len) result files.new }
 {
     let size = files.body(handle.key).len();
-    if let Err(why) = judge_punch(offset, len, size) {
+    if let Err(why) = judge_punch(files, offset, len, size) {
         return Ok(refused(why));
     }
     let from = (offset / SEGMENT_BYTES) as u32;
@@ -87,14 +88,20 @@ fn punch<D: Disk>(
 }
 
 /// A punch of a file of that size begins at a segment, and ends at one or with the file.
-fn judge_punch(offset: u64, len: u64, size: u64) -> Result<(), DmRefusal>
+fn judge_punch<D: Disk>(
+    files: &FileStore<D>,
+    offset: u64,
+    len: u64,
+    size: u64,
+) -> Result<(), DmRefusal>
     requires { size ≤ FILE_BYTES }
-    ensures judged { Judges result (bad_punch offset len size) }
+    ensures judged { Judges result (bad_punch (superblock_of files.now).geometry.limits offset len size) }
     ensures start { OnOk result (SEGMENT_BYTES * punch_from offset < size) }
     ensures end { OnOk result (len ≡ 0 ⊎ offset + len ≤ FILE_BYTES) }
 {
+    let limits = files.superblock().geometry.limits;
     let begins = offset % SEGMENT_BYTES == 0 && offset < size;
-    if begins && ends_well(offset, len, size) {
+    if begins && ends_well(limits, offset, len, size) {
         Ok(())
     } else {
         Err(DmRefusal::BadRange)
@@ -102,16 +109,17 @@ fn judge_punch(offset: u64, len: u64, size: u64) -> Result<(), DmRefusal>
 }
 
 /// Whether a punch of a file of that size ends at a segment, or with the file.
-fn ends_well(offset: u64, len: u64, size: u64) -> bool
-    requires { size ≤ FILE_BYTES }
-    ensures judged { result ≡ ends_well offset len size }
+fn ends_well(limits: Limits, offset: u64, len: u64, size: u64) -> bool
+    requires size { size ≤ FILE_BYTES }
+    requires countable { IsCountable limits }
+    ensures judged { result ≡ ends_well limits offset len size }
     ensures end { result ≡ true → len ≡ 0 ⊎ offset + len ≤ FILE_BYTES }
 {
     if len == 0 {
         return true;
     }
     match offset.checked_add(len) {
-        Some(end) => end <= FILE_BYTES && (end % SEGMENT_BYTES == 0 || end == size),
+        Some(end) => end <= limits.bytes && (end % SEGMENT_BYTES == 0 || end == size),
         None => false,
     }
 }

@@ -2,7 +2,7 @@ use Rattle.std.proofs.Common.{◌≡◌, true, false, if◌then◌else◌, refl,
 use Rattle.hsm_types.specs.declared.keys.Token.{Token}
 use Rattle.daemon_session.specs.declared.events.Kept.{Kept}
 use Rattle.daemon_session.specs.Seats.{has_kept_token}
-use Rattle.daemon_session.proofs.Marking.{changed_next}
+use Rattle.hsm_types.proofs.Changing.{changed_next}
 use Rattle.daemon_session.proofs.keeping.mark.Goals as goal
 use Rattle.daemon_session.proofs.keeping.mark.Goals.{then-eq, else-eq}
 

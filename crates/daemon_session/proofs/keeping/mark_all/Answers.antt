@@ -1,6 +1,6 @@
 use Rattle.std.proofs.Common.{refl}
 use Rattle.daemon_session.specs.declared.events.Kept.{Kept}
-use Rattle.daemon_session.proofs.Marking.{changed_next}
+use Rattle.hsm_types.proofs.Changing.{changed_next}
 use Rattle.daemon_session.proofs.keeping.mark_all.Goals as goal
 
 pub loop-one-preserved : goal.loop-one-preserved

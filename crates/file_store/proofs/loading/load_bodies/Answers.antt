@@ -1,5 +1,5 @@
 use Rattle.file_store.proofs.Names.{◌≡◌, ◌-◌, ℕ, List, sym, ◌∙◌, subst, arith, length-set, take_all, AllByRecursion, CatalogFile, IsBody}
-use Rattle.file_store.proofs.Names.{blocks_in_image, body_at, bytes_at, bytes_with}
+use Rattle.file_store.proofs.Names.{blocks_in_image, body_at, bytes_at, bytes_with, size-few}
 use Rattle.file_store.proofs.Loaded.{reads_on, next-file, each-more, listed-count, stub-starts, offline-holes}
 use Rattle.file_store.proofs.FilesBy.{held-same}
 use Rattle.file_store.proofs.loading.load_bodies.Goals as goal
@@ -11,6 +11,11 @@ pub index_mut-requires : goal.index_mut-requires
 index_mut-requires g c =
     let is = next-file c.args.catalog.now c.loop-index.index _ c.geometry-geometry.ensures.valid (sym (rw c.unwrap-size.ensures at c.file.ensures)) in
     omega (arith, c.loop-index.invariant.count, c.slot.ensures)
+
+pub load_body-requires-clause-size : goal.load_body-requires-clause-size
+load_body-requires-clause-size g c =
+    let is = next-file c.args.catalog.now c.loop-index.index _ c.geometry-geometry.ensures.valid (sym (rw c.unwrap-size.ensures at c.file.ensures)) in
+    size-few c.args.catalog.now.geometry _ is.lawful
 
 pub load_body-requires-clause-starts : goal.load_body-requires-clause-starts
 load_body-requires-clause-starts g c =

@@ -1,6 +1,6 @@
 use Rattle.std.proofs.Common.{◌≡◌, ◌∙◌, ◌+◌, ◌∷◌, [], ℕ, subst, sym, ap, length-append}
 use Rattle.folder_drive.specs.Folders.{Folder}
-use Rattle.hosts.proofs.HandingOut.{each_more}
+use Rattle.media_model.proofs.Places.{each_more}
 use Rattle.hosts.proofs.file_host.open_drives.Goals as goal
 
 abbrev Is : ℕ → ℕ → ℕ → ℕ → Folder → Type 0

@@ -1,5 +1,5 @@
 use Rattle.media_model.specs.Faults.{Faulty}
-use Rattle.hosts.proofs.HandingOut.{changed_next}
+use Rattle.hsm_types.proofs.Changing.{changed_next}
 use Rattle.hosts.proofs.mem_host.settle_drives.Goals as goal
 
 pub loop-drive-preserved : goal.loop-drive-preserved

@@ -1,5 +1,4 @@
-use Rattle.std.proofs.Common.{◌≡◌, ◌∙◌, ◌∷◌, refl, rules, append_assoc}
-use Rattle.std.specs.Vec.Iter.{into_iter_items}
+use Rattle.std.proofs.Common.{◌≡◌, ◌∙◌, ◌∷◌, ◌++◌, [], refl, rules, append_assoc}
 use Rattle.std.proofs.lemmas.Result.{err_from_is_err_and}
 use Rattle.hsm_replay.proofs.Going.{goes_itself, goes_then, stopped_then}
 use Rattle.hsm_replay.proofs.Growing.{have_grown_itself, have_grown_on}
@@ -8,12 +7,11 @@ use Rattle.hsm_cli.proofs.runs.run_lines.Goals as goal
 
 pub loop-line-init : goal.loop-line-init
 loop-line-init g c = record {
-  can = search rules;
-  ends = search rules;
   limits = refl;
   drives = have_grown_itself g.M.Drive _;
   goes_on = goes_itself g.D.Disk _;
   working = c.requires.ready.store.working;
+  done = [];
   run = run_to_none g.D.Disk g.M.Drive _ c.requires.ready;
   lawful = search rules;
   left = search rules;
@@ -21,16 +19,15 @@ loop-line-init g c = record {
 
 pub loop-line-preserved : goal.loop-line-preserved
 loop-line-preserved g c =
-    let step : into_iter_items c.loop-line.line-iterator ≡ c.in-Some.line ∷ into_iter_items c.next.new.self = search (rules, c.in-Some.ensures.steps) in
+    let step : c.loop-line.line-iterator ≡ c.in-Some.line ∷ c.next.new.self = search (rules, c.in-Some.ensures.steps) in
     let moves = c.in_ok-line.ensures.moves in
     record {
-      can = tt;
-      ends = tt;
       limits = moves.limits ∙ c.loop-line.invariant.limits;
       drives = have_grown_on g.M.Drive _ _ _ c.loop-line.invariant.drives moves.drives;
       goes_on = goes_then g.D.Disk _ _ _ c.loop-line.invariant.goes_on moves.runs.goes_on;
       working = moves.runs.works c.loop-line.invariant.working;
-      run = run_more g.D.Disk g.M.Drive c.args.replay.now c.loop-line.yielded c.in-Some.line _ _ c.loop-line.invariant.run (c.in_ok-line.ensures.left c.loop-line.invariant.working)
+      done = c.loop-line.invariant.done ++ c.in-Some.line ∷ [];
+      run = run_more g.D.Disk g.M.Drive c.args.replay.now c.loop-line.invariant.done c.in-Some.line _ _ c.loop-line.invariant.run (c.in_ok-line.ensures.left c.loop-line.invariant.working)
           (moves.limits ∙ c.loop-line.invariant.limits) (moves.runs.goes_on.opened ∙ c.loop-line.invariant.goes_on.opened) c.in_ok-line.ensures.runs;
       lawful = (rw step at c.loop-line.invariant.lawful).1;
       left = rw (append_assoc, ← step) c.loop-line.invariant.left;
@@ -50,5 +47,5 @@ returns-in_err-line-clause-runs g c =
 
 pub returns-in_err-line-clause-first : goal.returns-in_err-line-clause-first
 returns-in_err-line-clause-first g c =
-    let step : into_iter_items c.loop-line.line-iterator ≡ c.in-Some.line ∷ into_iter_items c.next.new.self = search (rules, c.in-Some.ensures.steps) in
-    first_run g.D.Disk g.M.Drive c.args.replay.now _ c.args.lines.items c.loop-line.yielded c.in-Some.line (into_iter_items c.next.new.self) _ _ (rw step at c.loop-line.invariant.left) c.loop-line.invariant.run c.in_err-line.ensures.moves
+    let step : c.loop-line.line-iterator ≡ c.in-Some.line ∷ c.next.new.self = search (rules, c.in-Some.ensures.steps) in
+    first_run g.D.Disk g.M.Drive c.args.replay.now _ c.args.lines c.loop-line.invariant.done c.in-Some.line c.next.new.self _ _ (rw step at c.loop-line.invariant.left) c.loop-line.invariant.run c.in_err-line.ensures.moves

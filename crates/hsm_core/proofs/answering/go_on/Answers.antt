@@ -10,6 +10,7 @@ use Rattle.hsm_types.specs.declared.calls.Reply.{Reply}
 use Rattle.plain_model.specs.Accesses.{told_span}
 use Rattle.dm_service.specs.Parking.{blocked, parked_on, with_access}
 use Rattle.dm_service.specs.Tables.{waiting, seen, pending_as}
+use Rattle.file_store.specs.Stores.{superblock_of}
 use Rattle.file_store.specs.declared.refusal.StoreRefusal.{StoreRefusal}
 use Rattle.hsm_core.specs.Outcomes.{ends, is_aborted, IsFinished, MayAsk}
 use Rattle.hsm_core.specs.Targets.{MayLast, key_in}
@@ -29,8 +30,8 @@ waits g c = sym c.pending.ensures.access ∙ ap option_copied c.unwrap-access.en
 goes : (g : Over) (c : After-judge-verdict g) → goes_on (pending_as c.unwrap-access.result.now) c.unwrap-access.result.now.token c.unwrap-access.result.now.answer ≡ Means c.unwrap-access.result.now.key c.unwrap-access.result.now.call
 goes g c = subst (λ (x : Option Access). IsSomeAnd x (λ a. goes_on (pending_as a) a.token a.answer ≡ Means a.key a.call)) (waits g c) c.requires.waits
 
-last : (g : Over) (c : After-judge-verdict g) → MayLast c.unwrap-access.result.now.call
-last g c = subst (λ (x : Option Access). IfSome (option_map pending_as x) (λ a. MayLast a.call)) (waits g c) (c.requires.lasts c.args.caller)
+last : (g : Over) (c : After-judge-verdict g) → MayLast (superblock_of c.args.files.now).geometry.limits c.unwrap-access.result.now.call
+last g c = subst (λ (x : Option Access). IfSome (option_map pending_as x) (λ a. MayLast (superblock_of c.args.files.now).geometry.limits a.call)) (waits g c) (c.requires.lasts c.args.caller)
 
 lawful : (g : Over) (c : After-judge-verdict g) → has_lawful_answer (Some c.unwrap-access.result.now) ≡ true
 lawful g c = subst (λ (x : Option Access). has_lawful_answer x ≡ true) (waits g c) (c.pending.ensures.park.lawful c.args.caller)

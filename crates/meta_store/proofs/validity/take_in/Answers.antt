@@ -28,7 +28,7 @@ of-requires-clause-blocks c = rw c.as_slice-2.ensures.value (extents-tell 0 (blo
 
 pub returns-in_err-stubs-clause-corrupt : goal.returns-in_err-stubs-clause-corrupt
 returns-in_err-stubs-clause-corrupt c = λ is next.
-    not-next c.args.limits c.args.next (map snapshot_file c.args.catalog.now.files) (raw_file c.args.file) c.stub_total.result (c.stub_total.ensures ∙ stub_total_in-snapshot c.args.catalog.now.files) (λ are few.
+    not-next c.args.geometry c.args.next (map snapshot_file c.args.catalog.now.files) (raw_file c.args.file) c.stub_total.result (c.stub_total.ensures ∙ stub_total_in-snapshot c.args.catalog.now.files) (λ are few.
     c.in_err-stubs.ensures.corrupt (told_err c.from_residual-in_err-stubs.result c.in_err-stubs.field-0.0 Corrupt c.from_residual-in_err-stubs.ensures.1 is)
     (rw (c.in_ok-places.ensures, c.as_slice-2.ensures.value, c.in_ok-regions.ensures.ok, c.as_slice-entries.ensures.value) are) (rw c.as_slice-entries.ensures.value few)) next
 
@@ -44,7 +44,7 @@ put-requires-clause-lawful c =
     let stubs = c.in_ok-stubs.ensures in
     let judged = rw (c.in_ok-places.ensures, c.as_slice-2.ensures.value, c.in_ok-regions.ensures.ok, c.as_slice-entries.ensures.value) at stubs.lawful in
     let fit = rw (stubs.ok, c.as_slice-entries.ensures.value) at stubs.fits in
-    rw (← c.requires.limits, c.places.view_is, c.in_ok-places.ensures, c.as_slice-2.ensures.value, c.regions.view_is, c.in_ok-regions.ensures.ok, kept.ok, stubs.ok, c.as_slice-entries.ensures.value)
+    rw (← c.requires.geometry, c.places.view_is, c.in_ok-places.ensures, c.as_slice-2.ensures.value, c.regions.view_is, c.in_ok-regions.ensures.ok, kept.ok, stubs.ok, c.as_slice-entries.ensures.value)
     (is-lawful c.requires.taken c.if-not-can_follow.ensures.follows (record { regions = let lawful = c.in_ok-regions.ensures.lawful in grind arith; attributes = rw kept.ok at kept.attributes; eight = rw kept.ok at kept.eight }) judged fit)
 
 pub put-requires-clause-distinct : goal.put-requires-clause-distinct

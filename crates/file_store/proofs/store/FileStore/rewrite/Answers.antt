@@ -25,7 +25,7 @@ parts g c = record { disk = c.self.inside.disk; meta = c.self.inside.meta; bodie
 given : (g : Over) (c : After-of-before g) → Given g.D.Disk (parts g c) c.args.key c.args.change
 given g c =
     known g.D.Disk (parts g c) c.args.key c.args.change c.self.invariant.0 c.self.invariant.1 (ap (λ s. s.failed) c.self.view_is ∙ c.requires.working) (rw (← c.self.view_is) at c.requires.live) c.requires.lawful
-    (rw (← c.self.view_is) at c.requires.sound) (rw (← c.self.view_is) at c.requires.room) (rw (← c.self.view_is) at c.requires.enough)
+    (rw (← c.self.view_is) at c.requires.limited) (rw (← c.self.view_is) at c.requires.sound) (rw (← c.self.view_is) at c.requires.room) (rw (← c.self.view_is) at c.requires.enough)
 
 pub slot-requires : goal.slot-requires
 slot-requires g c = (given g (goal.at.slot-requires g c).After-of-before).at.low

@@ -5,10 +5,17 @@ use Rattle.hsm_types.specs.declared.tables.FileRow.{FileRow}
 use Rattle.plain_model.specs.Segments.{row_of}
 use Rattle.meta_store.specs.Catalogs.{CatalogFile}
 use Rattle.meta_store.specs.InMemory.{file_of}
+use Rattle.meta_store.proofs.SnapshotFits.{size-few}
+use Rattle.file_store.proofs.Loaded.{next-file}
 use Rattle.hsm_core.specs.Services.{IsMadeOf}
 use Rattle.hsm_core.specs.Stamps.{stamp_in}
 use Rattle.hsm_core.proofs.Told.{made_of_row, row_at, row_more, row_same}
 use Rattle.hsm_core.proofs.services.tables.rows.Goals as goal
+
+pub segments_of-requires : goal.segments_of-requires
+segments_of-requires c =
+    let is = next-file c.args.catalog.now c.loop-index.index _ c.geometry-geometry.ensures.valid (sym (rw c.unwrap-size.ensures at c.file.ensures)) in
+    size-few c.args.catalog.now.geometry _ is.lawful
 
 pub loop-index-preserved : goal.loop-index-preserved
 loop-index-preserved c = λ held shown.

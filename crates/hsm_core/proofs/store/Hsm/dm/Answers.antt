@@ -82,7 +82,7 @@ invariant_of-self-2 g c =
           let fewer = room_served c.self.inside.service c.serve-done.new.service c.args.sid c.args.call c.serve-done.result c.serve-done.ensures.room c.serve-done.ensures.err c.serve-done.ensures.responds in
           omega (arith, more, fewer, c.awaited-awaited.ensures.count, c.in_default.ensures.room.0, c.record_dm.ensures.room, c.entries_for-more.ensures)
           ),
-      lasting _ c.self.inside.files.held _ _ _ _ c.self.inside.service c.serve-done.new.service (Session c.args.sid) (Dm c.args.call) c.serve-done.result c.serve-done.ensures.left c.serve-done.ensures.err c.self.invariant.5,
+      lasting _ _ (formatted_as _ c.self.invariant.0) c.self.inside.files.held _ _ _ _ c.self.inside.service c.serve-done.new.service (Session c.args.sid) (Dm c.args.call) c.serve-done.result c.serve-done.ensures.left c.serve-done.ensures.err c.self.invariant.5,
       still_packed g.D.Disk (before g at) (after g at) (Session c.args.sid) (Dm c.args.call) (Told c.record_dm.result) c.self.invariant.0 (handed g at) is.2 c.self.invariant.6,
     )
 

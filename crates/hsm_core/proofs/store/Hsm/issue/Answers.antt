@@ -12,6 +12,7 @@ use Rattle.hsm_core.specs.Store.{Store, KeepsRoom}
 use Rattle.hsm_core.specs.Answers.{IsAnswered}
 use Rattle.hsm_core.proofs.Events.{event, lasting, room_after, not_begun, one_more, IsNext, Keeps}
 use Rattle.hsm_core.proofs.Packing.{still_packed}
+use Rattle.hsm_core.proofs.Runs.{formatted_as}
 use Rattle.hsm_core.proofs.store.Hsm.issue.Given.{Over}
 use Rattle.hsm_core.proofs.store.Hsm.issue.Goals.{After-record_event}
 use Rattle.hsm_core.proofs.store.Hsm.issue.Goals as goal
@@ -72,7 +73,7 @@ invariant_of-self-2 g c =
           let fewer = room_after c.self.inside.service c.answer-done.new.service 2 c.answer-done.result c.answer-done.ensures.room c.answer-done.ensures.replied.err in
           omega (arith, more, fewer, c.awaited-awaited.ensures.count, c.in_default.ensures.room.0, c.record_event.ensures.room)
           ),
-      lasting (superblock_of c.self.inside.files) c.self.inside.files.held _ _ _ _ c.self.inside.service c.answer-done.new.service (Caller c.args.caller) (Issue c.issued-access.result.call) c.answer-done.result c.answer-done.ensures.replied.left c.answer-done.ensures.replied.err c.self.invariant.5,
+      lasting (superblock_of c.self.inside.files) _ (formatted_as _ c.self.invariant.0) c.self.inside.files.held _ _ _ _ c.self.inside.service c.answer-done.new.service (Caller c.args.caller) (Issue c.issued-access.result.call) c.answer-done.result c.answer-done.ensures.replied.left c.answer-done.ensures.replied.err c.self.invariant.5,
       still_packed g.D.Disk (before g at) (after g at) (Caller c.args.caller) (Issue c.issued-access.result.call) (Replied c.record_event.result) c.self.invariant.0 tt is.2 c.self.invariant.6,
     )
 

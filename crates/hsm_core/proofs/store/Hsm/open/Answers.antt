@@ -2,6 +2,7 @@ use Rattle.std.proofs.Common.{◌+◌, ◌-◌, sym, ◌∙◌, ap, arith}
 use Rattle.meta_store.specs.Meta.{Meta}
 use Rattle.std.specs.Prelude.{vec_len, vec_capacity}
 use Rattle.dm_service.specs.Tables.{awaited_in}
+use Rattle.file_store.specs.Stores.{superblock_of}
 use Rattle.hsm_core.specs.Store.{Store}
 use Rattle.hsm_core.proofs.Runs.{HasRun-opened, new_awaited, new_lasts}
 use Rattle.hsm_core.proofs.Packing.{none_packed}
@@ -16,6 +17,6 @@ invariant_of-result g c =
       c.number.ensures.number ∙ ap (λ (m : Meta). m.number) c.meta.ensures.meta ∙ sym (ap (λ f. f.meta.number) c.of.ensures),
       c.number.ensures.within,
       omega (arith, new_awaited c.in-Ok.service c.in-Ok.ensures),
-      new_lasts c.in-Ok.service c.in-Ok.ensures,
+      new_lasts (superblock_of c.of.result.value).geometry.limits c.in-Ok.service c.in-Ok.ensures,
       none_packed _ _ _ c.new-in-Ok-open-2.ensures.items,
     )

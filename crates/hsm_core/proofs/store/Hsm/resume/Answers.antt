@@ -1,17 +1,20 @@
-use Rattle.std.proofs.Common.{◌≤◌, length, ◌+◌, ◌-◌, Bool, refl, ap, subst, arith}
+use Rattle.std.proofs.Common.{◌≤◌, length, ◌+◌, ◌-◌, Bool, refl, sym, ap, subst, arith}
 use Rattle.std.specs.Prelude.{if◌then◌else◌, vec_len, vec_capacity}
 use Rattle.hsm_types.specs.declared.calls.Reply.{Reply}
+use Rattle.hsm_types.specs.declared.stores.Superblock.{Superblock}
 use Rattle.plain_model.specs.declared.entries.Actor.TheVariants.{Caller}
 use Rattle.plain_model.specs.declared.entries.Action.TheVariants.{Resume}
 use Rattle.plain_model.specs.declared.entries.Answer.TheVariants.{Call as Replied}
 use Rattle.dm_service.proofs.Ledgers.{ordered_in}
-use Rattle.dm_service.specs.Tables.{awaited_in, waiting}
+use Rattle.dm_service.specs.Tables.{awaited_in, ledger_of, waiting}
 use Rattle.hsm_core.specs.Outcomes.{is_aborted}
 use Rattle.file_store.specs.Stores.{superblock_of}
 use Rattle.hsm_core.specs.Store.{Store, KeepsRoom}
+use Rattle.hsm_core.specs.Targets.{EachLasts}
 use Rattle.hsm_core.specs.Answers.{IsResumed}
 use Rattle.hsm_core.proofs.Events.{event, lasting, room_again, not_begun, one_more, IsNext, Keeps}
 use Rattle.hsm_core.proofs.Packing.{still_packed}
+use Rattle.hsm_core.proofs.Runs.{formatted_as}
 use Rattle.hsm_core.proofs.store.Hsm.resume.Given.{Over}
 use Rattle.hsm_core.proofs.store.Hsm.resume.Goals.{After-record_event}
 use Rattle.hsm_core.proofs.store.Hsm.resume.Goals as goal
@@ -59,6 +62,10 @@ answer_again-done-requires-clause-idle g c = c.make_ready_to_resume.ensures.idle
 pub answer_again-done-requires-clause-ordered : goal.answer_again-done-requires-clause-ordered
 answer_again-done-requires-clause-ordered g c = ordered_in c.self.inside.service _ c.self.inside.files.held _ _ 0 _ c.awaited-awaited.ensures.ordered
 
+pub answer_again-done-requires-clause-lasts : goal.answer_again-done-requires-clause-lasts
+answer_again-done-requires-clause-lasts g c =
+    subst (λ (s : Superblock). EachLasts s.geometry.limits (ledger_of c.self.inside.service)) (sym (formatted_as _ c.self.invariant.0)) c.self.invariant.5
+
 pub invariant_of-self-2 : goal.invariant_of-self-2
 invariant_of-self-2 g c =
     let at = (goal.at.invariant_of-self-2 g c).After-record_event in
@@ -73,7 +80,7 @@ invariant_of-self-2 g c =
           let there = subst (λ (b : Bool). vec_len c.make_ready_to_resume.new.history + c.awaited-awaited.result + (if b then 0 else 2) ≤ vec_capacity c.make_ready_to_resume.new.history) c.is_aborted-aborted.ensures c.in_default.ensures.room in
           omega (arith, more, fewer, there, c.awaited-awaited.ensures.count, c.record_event.ensures.room)
           ),
-      lasting (superblock_of c.self.inside.files) c.self.inside.files.held _ _ _ _ c.self.inside.service c.answer_again-done.new.service (Caller c.args.caller) Resume c.answer_again-done.result c.answer_again-done.ensures.replied.left c.answer_again-done.ensures.replied.err c.self.invariant.5,
+      lasting (superblock_of c.self.inside.files) _ (formatted_as _ c.self.invariant.0) c.self.inside.files.held _ _ _ _ c.self.inside.service c.answer_again-done.new.service (Caller c.args.caller) Resume c.answer_again-done.result c.answer_again-done.ensures.replied.left c.answer_again-done.ensures.replied.err c.self.invariant.5,
       still_packed g.D.Disk (before g at) (after g at) (Caller c.args.caller) Resume (Replied c.record_event.result) c.self.invariant.0 tt is.2 c.self.invariant.6,
     )
 

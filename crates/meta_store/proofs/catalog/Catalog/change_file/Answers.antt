@@ -2,12 +2,14 @@ use Rattle.std.proofs.Common.{◌≡◌, ◌+◌, None, refl, ◌∙◌, ap, ari
 use Rattle.std.proofs.lemmas.Result.{err_from_is_err_and}
 use Rattle.hsm_types.specs.Limits.{large_geometry}
 use Rattle.hsm_types.specs.declared.stores.Geometry.{Geometry}
-use Rattle.meta_store.specs.Records.{refusal_of, file_after, without_file, with_changed, key_on, inode_of, others_of, part_refusal, CanStandOn, CanStand, IsAboutOne}
+use Rattle.meta_store.specs.Records.{refusal_of, file_after, without_file, with_changed, key_on, inode_of, others_of, part_refusal, CanStandOn}
+use Rattle.meta_store.specs.Records.{CanStand, IsAboutOne}
 use Rattle.meta_store.specs.Catalogs.{Catalog, geometry_of, CatalogFile, IsLawfulKept, IsCatalogFile, blocks_of, attribute_total, stub_total}
 use Rattle.meta_store.proofs.HeldCatalogs.{bounded, IsCounted, IsLive, lawful, table, live, read-live, held-live, others, after}
 use Rattle.hsm_types.specs.declared.keys.FileKey.{FileKey}
 use Rattle.hsm_types.specs.Attributes.{bytes_of_attributes}
 use Rattle.hsm_types.specs.Keyed.{find_key, change_key}
+use Rattle.hsm_types.specs.Regions.{regions_refusal}
 use Rattle.inode_table.specs.Table.{Table, entry_of}
 use Rattle.meta_store.specs.declared.file_parts.FileParts.{FileParts}
 use Rattle.meta_store.specs.declared.file_parts.Others.{Others}
@@ -19,12 +21,13 @@ use Rattle.meta_store.proofs.FoundFiles.{each-found}
 use Rattle.meta_store.proofs.FilesAfter.{stood, fits, file-after}
 use Rattle.meta_store.proofs.HeldFiles.{held-change}
 use Rattle.meta_store.proofs.StubsAfter.{room-after}
+use Rattle.meta_store.proofs.SnapshotFits.{limits_countable}
 use Rattle.meta_store.proofs.KeptCatalogs.{IsCatalog-after}
 use Rattle.meta_store.proofs.catalog.Catalog.change_file.Goals.{After-index_mut-parts}
 use Rattle.meta_store.proofs.catalog.Catalog.change_file.Goals as goal
 
 -- what is known of the file that a record is about, and of its parts, once they are lent
-record IsLent (s : Inside) (v : Catalog) (r : Record) (k : FileKey) (place old : ℕ) (x : FileParts) (rest : Others) (limits : Geometry) : Type 0 where
+record IsLent (s : Inside) (v : Catalog) (r : Record) (k : FileKey) (place old : ℕ) (x : FileParts) (rest : Others) (geometry : Geometry) : Type 0 where
   view : catalog_held s.geometry s.table s.parts.items ≡ v
   held : IsCounted s.geometry s.table s.parts.items s.attribute_total s.stub_total s.used
   key : k ≡ key_on (inode_of r) v
@@ -36,19 +39,22 @@ record IsLent (s : Inside) (v : Catalog) (r : Record) (k : FileKey) (place old :
   here : place ≡ k.ino - 1
   same : x ≡ parts_of file
   others : rest ≡ others_of (key_on (inode_of r) v) v
-  bound : limits ≡ geometry_of v.geometry
+  bound : geometry ≡ geometry_of v.geometry
 
-module _ {s : Inside} {v : Catalog} {r : Record} {k : FileKey} {place old : ℕ} {x : FileParts} {rest : Others} {limits : Geometry} (t : IsLent s v r k place old x rest limits) where
-  lawful-file : IsCatalogFile (geometry_of v.geometry).blocks t.file
-  lawful-file = each-found (IsCatalogFile (geometry_of v.geometry).blocks) (key_on (inode_of r) v) t.file v.files (lawful s v t.view t.held).each t.found
+module _ {s : Inside} {v : Catalog} {r : Record} {k : FileKey} {place old : ℕ} {x : FileParts} {rest : Others} {geometry : Geometry} (t : IsLent s v r k place old x rest geometry) where
+  lawful-file : IsCatalogFile (geometry_of v.geometry) t.file
+  lawful-file = each-found (IsCatalogFile (geometry_of v.geometry)) (key_on (inode_of r) v) t.file v.files (lawful s v t.view t.held).each t.found
 
-  room : (rest.attributes + bytes_of_attributes x.attributes ≤ limits.attributes) × (rest.stubs + length x.stubs ≤ limits.stubs) × (limits.attributes ≤ large_geometry.attributes) × (limits.stubs ≤ large_geometry.stubs) × (length (blocks_of (without_file (key_on (inode_of r) v) v).files) ≤ large_geometry.blocks)
+  lawful-regions : regions_refusal geometry.limits (kept_in x).regions ≡ None
+  lawful-regions = rw (t.bound, t.same) lawful-file.kept.regions
+
+  room : (rest.attributes + bytes_of_attributes x.attributes ≤ geometry.attributes) × (rest.stubs + length x.stubs ≤ geometry.stubs) × (geometry.attributes ≤ large_geometry.attributes) × (geometry.stubs ≤ large_geometry.stubs) × (length (blocks_of (without_file (key_on (inode_of r) v) v).files) ≤ large_geometry.blocks)
   room =
       let sums = others s v t.view t.held (key_on (inode_of r) v) t.file t.found in
       let most = bounded s v t.view t.held in
       rw (t.others, t.same, t.bound) (omega arith, omega arith, most.1, most.4, omega arith)
 
-  refusal : refusal_of r v ≡ part_refusal r rest limits (kept_in x)
+  refusal : refusal_of r v ≡ part_refusal r rest geometry (kept_in x)
   refusal = rw (t.bound, t.others, t.same, t.found) refl
 
   -- the parts and the size after it
@@ -56,8 +62,8 @@ module _ {s : Inside} {v : Catalog} {r : Record} {k : FileKey} {place old : ℕ}
     changed : file_after r t.file ≡ file_of t.file.key t.file.name size new
     changed = file-after r t.file new size (taken ∙ ap (parts_after r) t.same) (sized t.file t.size)
 
-    stubs-few : part_refusal r rest limits (kept_in x) ≡ None → rest.stubs + length new.stubs ≤ limits.stubs
-    stubs-few none = rw taken (room-after r x rest limits (rw t.same lawful-file.ascend) none room.1)
+    stubs-few : part_refusal r rest geometry (kept_in x) ≡ None → rest.stubs + length new.stubs ≤ geometry.stubs
+    stubs-few none = rw taken (room-after r x rest geometry (rw t.same lawful-file.ascend) none room.1)
 
     abbrev resized : Table
     resized = record s.table { files = change_key (λ e. e.key) k (λ e. record e { size = size }) s.table.files }
@@ -74,7 +80,7 @@ file-at : (s : Inside) (v : Catalog) (is : catalog_held s.geometry s.table s.par
     → (f : CatalogFile) × (find_key (λ g. g.key) (key_on (inode_of r) v) v.files ≡ Some f) × CanStandOn r f v × IsLive s.table s.parts.items k f
 file-at s v is i r about stands k key = let one = stood r v about stands in (one.0, one.1, one.2, live s v is i k one.0 (rw key one.1))
 
-lent : (c : After-index_mut-parts) → IsLent c.self.inside c.args.self.now c.args.change c.others-blocks.result.0 c.slot.result c.unwrap.result c.index_mut-parts.result.now c.others-blocks.result.1 c.geometry_of-limits.result
+lent : (c : After-index_mut-parts) → IsLent c.self.inside c.args.self.now c.args.change c.others-blocks.result.0 c.slot.result c.unwrap.result c.index_mut-parts.result.now c.others-blocks.result.1 c.geometry_of-geometry.result
 lent c =
     let key = rw c.ino.ensures at c.others-blocks.ensures.key in
     let f = file-at c.self.inside _ c.self.view_is c.self.invariant c.args.change c.requires.about c.requires.stands c.others-blocks.result.0 key in
@@ -90,7 +96,7 @@ lent c =
       here = c.slot.ensures;
       same = read-live _ _ _ f.0 f.3 c.slot.result c.index_mut-parts.result.now c.slot.ensures c.index_mut-parts.ensures.value;
       others = rw c.ino.ensures at c.others-blocks.ensures.others;
-      bound = c.geometry_of-limits.ensures ∙ ap (λ (x : Catalog). geometry_of x.geometry) c.self.view_is;
+      bound = c.geometry_of-geometry.ensures ∙ ap (λ (x : Catalog). geometry_of x.geometry) c.self.view_is;
     }
 
 pub unwrap-requires : goal.unwrap-requires
@@ -109,6 +115,9 @@ apply-requires-clause-attributes c = omega (arith, (room (lent (goal.at.apply-re
 
 pub apply-requires-clause-stubs : goal.apply-requires-clause-stubs
 apply-requires-clause-stubs c = omega (arith, (room (lent (goal.at.apply-requires-clause-stubs c).After-index_mut-parts)).1)
+
+pub apply-requires-clause-countable : goal.apply-requires-clause-countable
+apply-requires-clause-countable c = rw c.geometry_of-geometry.ensures (limits_countable c.self.inside.geometry)
 
 pub returns-in_err-apply-clause-refused : goal.returns-in_err-apply-clause-refused
 returns-in_err-apply-clause-refused c =
@@ -136,7 +145,7 @@ invariant_of-self-2 c =
     let new = changed t c.apply.new.self c.size_after-size.result c.in_ok-apply.ensures.taken c.size_after-size.ensures in
     let few = stubs-few t c.apply.new.self c.size_after-size.result c.in_ok-apply.ensures.taken c.size_after-size.ensures c.in_ok-apply.ensures.judged in
     let held = new-held t c.apply.new.self c.size_after-size.result c.in_ok-apply.ensures.taken c.size_after-size.ensures in
-    let kept : IsLawfulKept (kept_in c.apply.new.self) = record { regions = c.in_ok-apply.ensures.regions (rw t.same (lawful-file t).kept.regions); attributes = c.bytes.ensures.attributes; eight = c.in_ok-apply.ensures.eight (rw t.same (lawful-file t).kept.eight) } in
+    let kept : IsLawfulKept (geometry_of v.geometry).limits (kept_in c.apply.new.self) = record { regions = rw (← t.bound) (c.in_ok-apply.ensures.regions (lawful-regions t)); attributes = c.bytes.ensures.attributes; eight = c.in_ok-apply.ensures.eight (rw t.same (lawful-file t).kept.eight) } in
     let bytes : c.others-blocks.result.1.attributes + c.bytes.result ≡ attribute_total w.files = grind (arith, sum-change count_of key (file_after r) t.file v.files t.found, sum-drop count_of key t.file v.files t.found, new, t.others, c.bytes.ensures.count) in
     let entries : c.others-blocks.result.1.stubs + c.len.result ≡ stub_total w.files = grind (arith, sum-change stubs_of key (file_after r) t.file v.files t.found, sum-drop stubs_of key t.file v.files t.found, new, t.others, c.len.ensures.count) in
     let blocks : c.others-blocks.result.2 + c.from.result ≡ length (blocks_of w.files) =
