@@ -9,7 +9,7 @@ use Rattle.hsm_types.specs.declared.daemons.Heard.{Heard}
 use Rattle.hsm_types.specs.declared.media.Fault.{Fault}
 use Rattle.hsm_types.specs.declared.media.Fault.TheVariants.{Failed, Damaged}
 use Rattle.deeds.specs.Deeds.{Deed}
-use Rattle.deeds.specs.Faults.{fault_told, fault_in, faults_heard, Counts, IsOver, IsApart, AreApart, AddsFaults, Rises, HeardApart, AddsHeard, AddsBoth}
+use Rattle.deeds.specs.Faults.{fault_told, fault_in, faults_heard, Counts, IsOver, IsApart, AreApart, Rises, HeardApart, AddsHeard, AddsNone, AddsBoth}
 
 chain : (a b c : ℕ) → a ≤ b → b ≤ c → a ≤ c
 chain a b c less more = omega arith
@@ -48,7 +48,7 @@ module _ (drives : ℕ) where
   -- ---- others
 
   -- no fault is heard
-  pub none_added : (deeds : List Deed) (old new : Counts) → faults_heard deeds ≡ [] → ((drive : ℕ) → old drive ≤ new drive) → AddsFaults drives deeds old new
+  pub none_added : (deeds : List Deed) → AddsNone drives deeds
   none_added deeds old new none grows faults so = subst (λ (l : List Fault). AreApart drives new l) (sym (ap (λ (l : List Fault). faults ++ l) none ∙ append-nil faults)) (all_over old new grows faults so)
 
   pub faults_added : (deeds more : List Deed) → AddsBoth drives deeds more

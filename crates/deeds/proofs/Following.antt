@@ -1,5 +1,5 @@
 -- What is so of deeds that follow lines: of their entries, and of each of them.
-use Rattle.std.proofs.Common.{◌≡◌, ◌∙◌, ℕ, ◌∷◌, ◌++◌, [], map, Bool, true, false, List, Option, Some, None, IfSome, inl, inr, refl, sym, ap, subst}
+use Rattle.std.proofs.Common.{◌≡◌, ◌≢◌, ◌∙◌, ℕ, ◌∷◌, ◌++◌, [], map, Bool, true, false, List, Option, Some, None, IfSome, inl, inr, refl, sym, ap, subst}
 use Rattle.std.proofs.Common.{append_assoc}
 use Rattle.std.specs.Prelude.{All, flat_map}
 use Rattle.std.specs.List.{cons_option}
@@ -13,13 +13,17 @@ use Rattle.hsm_types.specs.declared.daemons.Daemon.{Daemon}
 use Rattle.hsm_types.specs.declared.daemons.Daemon.TheVariants.{Recall, Migrate}
 use Rattle.hsm_types.specs.declared.daemons.Heard.{Heard}
 use Rattle.hsm_types.specs.declared.daemons.Heard.TheVariants as heard
+use Rattle.hsm_types.specs.declared.dm.DmRefusal.TheVariants as why
+use Rattle.hsm_types.specs.declared.dm.DmReply.{DmReply}
+use Rattle.hsm_types.specs.declared.dm.DmReply.TheVariants.{Refused}
 use Rattle.plain_model.specs.declared.entries.Action.TheVariants.{Resume}
 use Rattle.plain_model.specs.declared.entries.Actor.TheVariants.{Caller}
 use Rattle.plain_model.specs.declared.entries.Answer.{Answer}
+use Rattle.plain_model.specs.declared.entries.Answer.TheVariants as answer
 use Rattle.plain_model.specs.declared.entries.Entry.{Entry}
 use Rattle.script_text.specs.declared.lines.Line.{Line}
 use Rattle.script_text.specs.declared.lines.Line.TheVariants.{Event, Start, Kill, Step, Settle}
-use Rattle.deeds.specs.Deeds.{entry_of, Deed, Enters, Starts, Kills, Refreshes, Gives, Hears, call_told, entry_in, entries_of, Fits}
+use Rattle.deeds.specs.Deeds.{entry_of, Deed, Enters, Starts, Kills, Refreshes, Gives, Hears, call_told, entry_in, entries_of, Fits, IsServed}
 use Rattle.deeds.specs.Given.{Given, given_of, given_behind}
 use Rattle.deeds.specs.Parts.{Exchange, resting, done_by, IsStepFrom, IsWork, IsUpToRest, IsTurnFrom, IsTurnIf, resume_of, joined, are_quiet, IsRound}
 use Rattle.deeds.specs.Parts.{AreBusy, IsSettle, IsPartOf, Follows, FollowsOn}
@@ -33,7 +37,7 @@ use Rattle.deeds.proofs.Living.{entries_then}
 module _ (quiet : Entry → Bool) (P : Deed → Type 0)
     (acts : (daemon : Daemon) (asked : Act) (told : Heard) → Fits asked told → P (Gives daemon asked) × P (Hears daemon asked told))
     (refreshes : P Refreshes)
-    (resumes : (caller : ℕ) (told : Answer) → IsCallerNumber caller → P (resume_of (caller, told))) where
+    (resumes : (caller : ℕ) (told : Answer) → IsCallerNumber caller → IsServed told → P (resume_of (caller, told))) where
   done_all : (daemon : Daemon) (x : Exchange) → Fits x.asked x.told → All P (done_by daemon x)
   done_all daemon x fits =
       let both = acts daemon x.asked x.told fits in
@@ -59,15 +63,19 @@ module _ (quiet : Entry → Bool) (P : Deed → Type 0)
   turn_if_all true daemon given deeds is = turn_all daemon (given_of daemon given) deeds is
   turn_if_all false daemon given deeds is = subst (λ (ds : List Deed). All P ds) (sym is) (All-nil P)
 
-  resumes_all : (told : List (ℕ × Answer)) → All IsCallerNumber (keys_of told) → All P (map resume_of told)
-  resumes_all [] all = All-nil P
-  resumes_all (x ∷ told) all = All-cons P (resume_of x) (map resume_of told) (resumes x.0 x.1 (All-head IsCallerNumber x.0 (keys_of told) all)) (resumes_all told (All-tail IsCallerNumber x.0 (keys_of told) all))
+  abbrev IsOne : ℕ × Answer → Type 0
+  IsOne x = IsServed x.1
+
+  resumes_all : (told : List (ℕ × Answer)) → All IsCallerNumber (keys_of told) → All IsOne told → All P (map resume_of told)
+  resumes_all [] all served = All-nil P
+  resumes_all (x ∷ told) all served = All-cons P (resume_of x) (map resume_of told) (resumes x.0 x.1 (All-head IsCallerNumber x.0 (keys_of told) all) (All-head IsOne x told served))
+      (resumes_all told (All-tail IsCallerNumber x.0 (keys_of told) all) (All-tail IsOne x told served))
 
   round_all : (given : Given) (deeds : List Deed) → IsRound quiet given deeds → All P deeds
   round_all given deeds r = subst (λ (ds : List Deed). All P ds) (sym r.parted) (All-append P r.recalls (r.resumes ++ r.migrates)
       (turn_all Recall given.recall r.recalls r.recall_turn)
       (All-append P r.resumes r.migrates
-      (subst (λ (ds : List Deed). All P ds) (sym r.resumed.parted) (resumes_all r.resumed.told r.resumed.numbers))
+      (subst (λ (ds : List Deed). All P ds) (sym r.resumed.parted) (resumes_all r.resumed.told r.resumed.numbers r.resumed.served))
       (turn_if_all (are_quiet quiet (r.recalls ++ r.resumes)) Migrate given r.migrates r.migrate_turn)))
 
   busy_all : (given : Given) (rounds : List (List Deed)) → AreBusy quiet given rounds → All P (joined rounds)
@@ -78,6 +86,16 @@ module _ (quiet : Entry → Bool) (P : Deed → Type 0)
   settle_all given deeds s = subst (λ (ds : List Deed). All P ds) (sym s.parted) (All-cons P Refreshes (joined s.rounds ++ s.last) refreshes (All-append P (joined s.rounds) s.last
       (busy_all given s.rounds s.busy)
       (round_all (given_behind (joined s.rounds) given) s.last s.round)))
+
+-- a call that is heard of is answered so that a run goes on
+reply_served : (reply : DmReply) → (reply ≢ Refused why.Disk) × (reply ≢ Refused why.Memory) → IsServed (answer.Dm reply)
+reply_served (Refused why.Disk) fits = absurd (fits.0 refl)
+reply_served (Refused why.Memory) fits = absurd (fits.1 refl)
+reply_served reply fits = tt
+
+hears_whole : (asked : Act) (told : Heard) → Fits asked told → IfSome (call_told asked told) (λ (e : Entry). IsServed e.answer)
+hears_whole (act.Dm sid call) (heard.Dm reply) fits = reply_served reply fits
+hears_whole asked told fits = tt
 
 -- ---- entries of lines
 
@@ -107,14 +125,14 @@ step_part daemon (Some asked) deeds is = subst (λ (ds : List Deed). history.IsP
 
 module _ (quiet : Entry → Bool) where
   part_so : (given : Given) (line : Line) (deeds : List Deed) → IsPartOf quiet given line deeds → history.IsPartOf line (entries_of deeds)
-  part_so given (Event actor asked seed) deeds is = (is.0, ap entries_of is.1)
+  part_so given (Event actor asked seed) deeds is = (is.0, ap entries_of is.2)
   part_so given (Start daemon) deeds is = ap entries_of is
   part_so given (Kill daemon) deeds is = ap entries_of is
   part_so given (Step daemon) deeds is = step_part daemon (given_of daemon given) deeds is
   part_so given Settle deeds is = entries_all deeds (settle_all quiet Settles
       (λ daemon asked told fits. (tt, told_settles asked told))
       tt
-      (λ caller told number. inl (caller, told, number, refl))
+      (λ caller told number served. inl (caller, told, number, refl))
       given deeds is)
 
   pub follows_so : (lines : List Line) (deeds : List Deed) → history.FollowsSo quiet lines deeds
@@ -139,20 +157,20 @@ module _ (quiet : Entry → Bool) where
   -- Of deeds that follow lines P holds where it holds of those, and of events, starts and kills.
   module _ (P : Deed → Type 0)
       (acts : (daemon : Daemon) (asked : Act) (told : Heard) → Fits asked told → P (Gives daemon asked) × P (Hears daemon asked told))
-      (refreshes : P Refreshes) (enters : (e : Entry) → P (Enters e)) (starts : (daemon : Daemon) → P (Starts daemon)) (kills : (daemon : Daemon) → P (Kills daemon)) where
+      (refreshes : P Refreshes) (enters : (e : Entry) → IsServed e.answer → P (Enters e)) (starts : (daemon : Daemon) → P (Starts daemon)) (kills : (daemon : Daemon) → P (Kills daemon)) where
     one_all : (deed : Deed) (deeds : List Deed) → deeds ≡ deed ∷ [] → P deed → All P deeds
     one_all deed deeds is so = subst (λ (ds : List Deed). All P ds) (sym is) (All-cons P deed [] so (All-nil P))
 
     part_all : (given : Given) (line : Line) (deeds : List Deed) → IsPartOf quiet given line deeds → All P deeds
-    part_all given (Event actor asked seed) deeds is = one_all (Enters (entry_of actor asked is.0)) deeds is.1 (enters (entry_of actor asked is.0))
+    part_all given (Event actor asked seed) deeds is = one_all (Enters (entry_of actor asked is.0)) deeds is.2 (enters (entry_of actor asked is.0) is.1)
     part_all given (Start daemon) deeds is = one_all (Starts daemon) deeds is (starts daemon)
     part_all given (Kill daemon) deeds is = one_all (Kills daemon) deeds is (kills daemon)
-    part_all given (Step daemon) deeds is = step_all quiet P acts refreshes (λ caller told number. enters (entry_of (Caller caller) Resume told)) daemon (given_of daemon given) deeds is
-    part_all given Settle deeds is = settle_all quiet P acts refreshes (λ caller told number. enters (entry_of (Caller caller) Resume told)) given deeds is
+    part_all given (Step daemon) deeds is = step_all quiet P acts refreshes (λ caller told number served. enters (entry_of (Caller caller) Resume told) served) daemon (given_of daemon given) deeds is
+    part_all given Settle deeds is = settle_all quiet P acts refreshes (λ caller told number served. enters (entry_of (Caller caller) Resume told) served) given deeds is
 
     pub follows_all : (given : Given) (lines : List Line) (deeds : List Deed) → Follows quiet given lines deeds → All P deeds
     follows_all given [] deeds is = subst (λ (ds : List Deed). All P ds) (sym is) (All-nil P)
     follows_all given (line ∷ lines) deeds is = subst (λ (ds : List Deed). All P ds) (sym is.2) (All-append P is.0 is.1 (part_all given line is.0 is.3) (follows_all (given_behind is.0 given) lines is.1 is.4))
 
   pub follows_whole : (lines : List Line) (deeds : List Deed) → history.FollowsWhole quiet lines deeds
-  follows_whole lines deeds given is = follows_all history.IsWhole (λ daemon asked told fits. (tt, tt)) tt (λ e. tt) (λ daemon. tt) (λ daemon. tt) given lines deeds is
+  follows_whole lines deeds given is = follows_all history.IsWhole (λ daemon asked told fits. (tt, hears_whole asked told fits)) tt (λ e served. served) (λ daemon. tt) (λ daemon. tt) given lines deeds is

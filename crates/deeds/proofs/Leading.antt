@@ -1,12 +1,11 @@
--- From one situation to another by deeds: none, one, some behind others, and the first of some.
-use Rattle.std.proofs.Common.{◌≡◌, ◌∙◌, ◌∷◌, ◌++◌, [], List, Option, Some, None, refl, sym, ap, subst, append_assoc, append-nil}
-use Rattle.std.specs.List.{cons_option}
-use Rattle.std.proofs.lemmas.List.Elements.{All-nil, All-cons, All-append}
+-- From one situation to another by deeds: some behind others, and the first of some.
+use Rattle.std.proofs.Common.{◌∙◌, ◌++◌, List, refl, sym, ap, subst, append_assoc}
+use Rattle.std.proofs.lemmas.List.Elements.{All-append}
 use Rattle.hsm_types.specs.declared.daemons.Daemon.{Daemon}
 use Rattle.hsm_types.specs.declared.daemons.Daemon.TheVariants.{Recall, Migrate}
 use Rattle.plain_model.specs.declared.entries.Entry.{Entry}
-use Rattle.deeds.specs.Deeds.{Deed, Enters, entries_of, NamesNoFault, IsRight}
-use Rattle.deeds.specs.Lives.{Move, move_of, life, Workings, Living, MovesTo, Lives}
+use Rattle.deeds.specs.Deeds.{Deed, entries_of, IsRight}
+use Rattle.deeds.specs.Lives.{Move, life, Workings, Lives}
 use Rattle.deeds.specs.Leads.{Situation, Leads, ServedOnce}
 use Rattle.deeds.proofs.Answering.{once_answered}
 use Rattle.deeds.proofs.Lists.{all_first, all_rest}
@@ -41,34 +40,6 @@ module _ {R M : Type 0} (recalls : Workings R) (migrates : Workings M) where
           right = all_rest IsRight xs ys is.right;
         },
       )
-
-  -- ---- none, and one
-
-  pub leads_itself : (s : Situation R M) → Led [] s s
-  leads_itself s = record { entries = sym (append-nil s.history); recall = refl; migrate = refl; right = All-nil IsRight }
-
-  pub enters_leads : (e : Entry) (s : Situation R M) → NamesNoFault e.action → Led (Enters e ∷ []) s (record s { history = s.history ++ e ∷ [] })
-  enters_leads e s none = record { entries = refl; recall = refl; migrate = refl; right = All-cons IsRight (Enters e) [] none (All-nil IsRight) }
-
-  -- a deed of recall alone
-  pub recall_leads : (deed : Deed) (move : Move) (s : Situation R M) (new : Option (Living R)) → move_of Recall deed ≡ Some move → move_of Migrate deed ≡ None → IsRight deed → MovesTo recalls move s.recall new
-      → Led (deed ∷ []) s (record { history = s.history ++ entries_of (deed ∷ []); recall = new; migrate = s.migrate })
-  recall_leads deed move s new own other right to = record {
-    entries = refl;
-    recall = subst (λ (o : Option Move). Lives recalls (cons_option o []) s.recall new) (sym own) (new, to, refl);
-    migrate = subst (λ (o : Option Move). Lives migrates (cons_option o []) s.migrate s.migrate) (sym other) refl;
-    right = All-cons IsRight deed [] right (All-nil IsRight);
-  }
-
-  -- one of migration alone
-  pub migrate_leads : (deed : Deed) (move : Move) (s : Situation R M) (new : Option (Living M)) → move_of Migrate deed ≡ Some move → move_of Recall deed ≡ None → IsRight deed → MovesTo migrates move s.migrate new
-      → Led (deed ∷ []) s (record { history = s.history ++ entries_of (deed ∷ []); recall = s.recall; migrate = new })
-  migrate_leads deed move s new own other right to = record {
-    entries = refl;
-    recall = subst (λ (o : Option Move). Lives recalls (cons_option o []) s.recall s.recall) (sym other) refl;
-    migrate = subst (λ (o : Option Move). Lives migrates (cons_option o []) s.migrate new) (sym own) (new, to, refl);
-    right = All-cons IsRight deed [] right (All-nil IsRight);
-  }
 
   -- ---- answers
 

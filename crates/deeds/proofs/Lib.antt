@@ -2,7 +2,6 @@ pub mod Lists
 pub mod Living
 pub mod Along
 pub mod Finding
-pub mod Walking
 pub mod Answering
 pub mod Leading
 pub mod Giving

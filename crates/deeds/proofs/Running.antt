@@ -15,7 +15,7 @@ use Rattle.plain_model.specs.declared.entries.Answer.{Answer}
 use Rattle.plain_model.specs.declared.entries.Entry.{Entry}
 use Rattle.script_text.specs.declared.lines.Line.{Line}
 use Rattle.script_text.specs.declared.lines.Line.TheVariants.{Event, Start, Kill, Step, Settle}
-use Rattle.deeds.specs.Deeds.{entry_of, Deed, Enters, Starts, Kills, Refreshes, Gives, Hears, Fits}
+use Rattle.deeds.specs.Deeds.{entry_of, Deed, Enters, Starts, Kills, Refreshes, Gives, Hears, Fits, IsServed}
 use Rattle.deeds.specs.Given.{Given, given_of, asked_behind, given_behind}
 use Rattle.deeds.specs.Lives.{life}
 use Rattle.deeds.specs.Parts.{resume_of, runs_by, runs_behind, IsPartOf, RunsByLines}
@@ -96,12 +96,12 @@ module _ (quiet : Entry → Bool) (daemon : Daemon) where
   acts_steady : (by : Daemon) (act : Act) (told : Heard) → Fits act told → IsSteady daemon (Gives by act) × IsSteady daemon (Hears by act told)
   acts_steady by act told fits = (gives_steady daemon by act, hears_steady daemon by act told)
 
-  resumes_steady : (caller : ℕ) (told : Answer) → IsCallerNumber caller → IsSteady daemon (resume_of (caller, told))
-  resumes_steady caller told number = enters_steady daemon (entry_of (Caller caller) Resume told)
+  resumes_steady : (caller : ℕ) (told : Answer) → IsCallerNumber caller → IsServed told → IsSteady daemon (resume_of (caller, told))
+  resumes_steady caller told number served = enters_steady daemon (entry_of (Caller caller) Resume told)
 
   part_so : (given : Given) (line : Line) (deeds : List Deed) → IsPartOf quiet given line deeds → (last : Option Act) → runs_after daemon deeds last ≡ runs_by daemon line (is_some last)
   part_so given (Event actor asked seed) deeds is last =
-      ap (λ (ds : List Deed). runs_after daemon ds last) is.1 ∙ enters_steady daemon (entry_of actor asked is.0) last ∙ sym (event_so daemon actor asked seed (is_some last))
+      ap (λ (ds : List Deed). runs_after daemon ds last) is.2 ∙ enters_steady daemon (entry_of actor asked is.0) last ∙ sym (event_so daemon actor asked seed (is_some last))
   part_so given (Start started) deeds is last = ap (λ (ds : List Deed). runs_after daemon ds last) is ∙ starts_so daemon started last
   part_so given (Kill killed) deeds is last = ap (λ (ds : List Deed). runs_after daemon ds last) is ∙ kills_so daemon killed last
   part_so given (Step by) deeds is last =

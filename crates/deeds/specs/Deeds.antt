@@ -2,6 +2,8 @@
 use Rattle.std.specs.Prelude.{◌≡◌, ◌≢◌, List, Option, None, Some, Ok, Err}
 use Rattle.std.specs.List.{filter_map}
 use Rattle.hsm_types.specs.Stubs.{print_of, entry_place, entry_print}
+use Rattle.hsm_types.specs.declared.calls.CallRefusal.TheVariants as refused
+use Rattle.hsm_types.specs.declared.calls.Reply.TheVariants as replied
 use Rattle.hsm_types.specs.declared.daemons.Act.{Act}
 use Rattle.hsm_types.specs.declared.daemons.Act.TheVariants as act
 use Rattle.hsm_types.specs.declared.daemons.Daemon.{Daemon}
@@ -86,6 +88,16 @@ Fits (act.Fetch entry) (heard.Fetched (Err (fetching.NoObject volume object))) =
 Fits (act.Fetch entry) (heard.Fetched (Err fetching.Memory)) = ⊥
 Fits act.Idle heard.Nothing = Unit {0}
 Fits asked told = ⊥
+
+-- ---- behind what a run goes on
+
+-- Behind such an answer a run goes on: it is no fault of the disk, and no want of memory.
+abbrev pub IsServed : Answer → Type 0
+IsServed (answer.Call (replied.Refused refused.Disk)) = ⊥
+IsServed (answer.Call (replied.Refused refused.Memory)) = ⊥
+IsServed (answer.Dm (Refused why.Disk)) = ⊥
+IsServed (answer.Dm (Refused why.Memory)) = ⊥
+IsServed told = Unit {0}
 
 -- ---- what lines may do
 

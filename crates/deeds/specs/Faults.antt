@@ -61,6 +61,10 @@ module _ (drives : ℕ) where
   abbrev pub AddsHeard : Daemon → Act → Heard → Type 0
   AddsHeard daemon asked told = (old new : Counts) → Rises asked told old new → AddsFaults (Hears daemon asked told ∷ []) old new
 
+  -- deeds of which no fault is heard add none
+  abbrev pub AddsNone : List Deed → Type 0
+  AddsNone deeds = (old new : Counts) → faults_heard deeds ≡ [] → ((drive : ℕ) → old drive ≤ new drive) → AddsFaults deeds old new
+
   -- deeds behind others add both
   abbrev pub AddsBoth : List Deed → List Deed → Type 0
   AddsBoth deeds more = (a b c : Counts) → AddsFaults deeds a b → AddsFaults more b c → AddsFaults (deeds ++ more) a c

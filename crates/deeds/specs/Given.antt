@@ -18,9 +18,6 @@ abbrev pub given_of : Daemon → Given → Option Act
 given_of Recall given = given.recall
 given_of Migrate given = given.migrate
 
-abbrev pub none_given : Given
-none_given = record { recall = None; migrate = None }
-
 -- ---- by deeds
 
 -- One that was just started has given a rest.

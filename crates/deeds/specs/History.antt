@@ -1,5 +1,5 @@
 -- What follows of the history: a script's lines over entries alone, and what deeds that follow lines are without.
-use Rattle.std.specs.Prelude.{◌≡◌, ◌⊎◌, ℕ, List, [], ◌∷◌, ◌++◌, All, Bool}
+use Rattle.std.specs.Prelude.{◌≡◌, ◌⊎◌, ℕ, List, [], ◌∷◌, ◌++◌, All, Bool, IfSome}
 use Rattle.hsm_types.specs.Callers.{IsCallerNumber}
 use Rattle.hsm_types.specs.declared.dm.DmCall.{DmCall}
 use Rattle.hsm_types.specs.declared.dm.DmReply.{DmReply}
@@ -11,7 +11,7 @@ use Rattle.plain_model.specs.declared.entries.Answer.TheVariants as answer
 use Rattle.plain_model.specs.declared.entries.Entry.{Entry}
 use Rattle.script_text.specs.declared.lines.Line.{Line}
 use Rattle.script_text.specs.declared.lines.Line.TheVariants.{Event, Start, Kill, Step, Settle}
-use Rattle.deeds.specs.Deeds.{entry_of, Deed, Breaks, Loses, entries_of}
+use Rattle.deeds.specs.Deeds.{entry_of, Deed, Enters, Hears, Breaks, Loses, call_told, entries_of, IsServed}
 use Rattle.deeds.specs.Given.{Given}
 use Rattle.deeds.specs.Parts as parts
 
@@ -47,8 +47,10 @@ FollowsSo quiet lines deeds = (given : Given) → parts.Follows quiet given line
 
 -- ---- what lines are without
 
--- no call is broken in it, and nothing that a daemon was to hear is lost
+-- each entry of it is one behind which a run goes on, no call is broken, and nothing that a daemon was to hear is lost
 abbrev pub IsWhole : Deed → Type 0
+IsWhole (Enters e) = IsServed e.answer
+IsWhole (Hears daemon asked told) = IfSome (call_told asked told) (λ (e : Entry). IsServed e.answer)
 IsWhole (Breaks daemon sid call) = ⊥
 IsWhole (Loses daemon) = ⊥
 IsWhole deed = Unit {0}

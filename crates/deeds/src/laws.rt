@@ -7,7 +7,7 @@ ghost use Rattle.plain_model.specs.declared.entries.Entry.{Entry};
 ghost use Rattle.script_text.specs.declared.lines.Line.{Line};
 ghost use Rattle.deeds.specs.Answers.{OnceAnswered, HearsLast};
 ghost use Rattle.deeds.specs.Deeds.{Deed};
-ghost use Rattle.deeds.specs.Faults.{HeardApart, AddsHeard, AddsBoth};
+ghost use Rattle.deeds.specs.Faults.{HeardApart, AddsHeard, AddsNone, AddsBoth};
 ghost use Rattle.deeds.specs.Given.{Given, GivenExactly};
 ghost use Rattle.deeds.specs.History.{FollowsSo, FollowsWhole};
 ghost use Rattle.deeds.specs.Leads.{LeadsOn, LeadsThrough, ServedOnce};
@@ -64,7 +64,7 @@ pub fn follows_so()
     ensures { (quiet : Entry → Bool) (lines : List Line) (deeds : List Deed) → FollowsSo quiet lines deeds }
 {}
 
-/// In deeds that follow lines no call is broken, and nothing is lost.
+/// In deeds that follow lines each entry is one behind which a run goes on, no call is broken, and nothing is lost.
 pub fn follows_whole()
     ensures { (quiet : Entry → Bool) (lines : List Line) (deeds : List Deed) → FollowsWhole quiet lines deeds }
 {}
@@ -82,6 +82,11 @@ pub fn faults_apart()
 /// What is heard of an act on drives adds its fault so.
 pub fn fault_added()
     ensures { (drives : ℕ) (daemon : Daemon) (asked : Act) (told : Heard) → AddsHeard drives daemon asked told }
+{}
+
+/// Deeds of which no fault is heard add none.
+pub fn none_added()
+    ensures { (drives : ℕ) (deeds : List Deed) → AddsNone drives deeds }
 {}
 
 /// Deeds behind others add their faults and those.

@@ -7,7 +7,7 @@ mod machines;
 
 pub use laws::{
     fault_added, faults_added, faults_apart, follows_on, follows_so, follows_whole, given_exactly,
-    leads_on, leads_through, moves_are_deeds, once_answered, runs_by_lines, served_once,
-    stands_exactly,
+    leads_on, leads_through, moves_are_deeds, none_added, once_answered, runs_by_lines,
+    served_once, stands_exactly,
 };
 pub use machines::Machine;

@@ -1,0 +1,132 @@
+-- What an event comes to that no daemon makes.
+use Rattle.std.proofs.Common.{◌≡◌, ◌≢◌, ◌∙◌, ◌+◌, ◌≤◌, ℕ, true, false, Option, Some, None, Result, Ok, Err, OnOk, IfErr, refl, sym, ap}
+use Rattle.std.specs.Prelude.{IfSome, IsOk, if◌then◌else◌}
+use Rattle.disk_model.specs.declared.device.Disk as disk
+use Rattle.hsm_types.specs.declared.calls.CallRefusal.TheVariants as refusal
+use Rattle.hsm_types.specs.declared.calls.Call.{Call}
+use Rattle.hsm_types.specs.declared.calls.Reply.{Reply}
+use Rattle.hsm_types.specs.declared.calls.Reply.TheVariants as calls
+use Rattle.hsm_types.specs.declared.dm.DmCall.{DmCall}
+use Rattle.hsm_types.specs.declared.dm.DmReply.{DmReply}
+use Rattle.hsm_types.specs.declared.dm.DmReply.TheVariants.{Done}
+use Rattle.hsm_types.specs.declared.dm.Response.{Response}
+use Rattle.hsm_types.specs.declared.dm.Response.TheVariants.{Continue, Abort, Media}
+use Rattle.hsm_types.specs.declared.keys.Sid.{Sid}
+use Rattle.plain_model.specs.Faults.{Acts}
+use Rattle.plain_model.specs.declared.entries.Action.{Action}
+use Rattle.plain_model.specs.declared.entries.Action.TheVariants.{Issue, Resume, Dm, Commit}
+use Rattle.plain_model.specs.declared.entries.Actor.{Actor}
+use Rattle.plain_model.specs.declared.entries.Answer.{Answer}
+use Rattle.plain_model.specs.declared.entries.Answer.TheVariants.{Call as Replied, Dm as Told}
+use Rattle.plain_model.specs.Ledger.{aborted}
+use Rattle.access_park.specs.declared.access.Access.{Access}
+use Rattle.dm_service.specs.Services.{entries_for, is_due}
+use Rattle.dm_service.specs.Tables.{waiting}
+use Rattle.hsm_core.specs.Answers.{IsAnswer}
+use Rattle.hsm_core.specs.Crashes.{IsSafeNow}
+use Rattle.hsm_core.specs.Outcomes.{is_abort, is_aborted, IfAborted}
+use Rattle.hsm_core.specs.Store.{Store, KeepsRoom}
+use Rattle.hsm_system.specs.Events.{IsDone, Keeps, action_of, actor_of}
+use Rattle.hsm_system.specs.Stops.{reply_of, call_reply_of, stop_answer, IsServed}
+use Rattle.hsm_system.specs.Systems.{System}
+use Rattle.hsm_system.specs.declared.events.Event.{Event}
+use Rattle.hsm_system.specs.declared.events.Event.TheVariants as event
+use Rattle.hsm_system.specs.declared.stops.Stop.{Stop}
+use Rattle.hsm_system.specs.declared.stops.Stop.TheVariants as stop
+use Rattle.hsm_system.proofs.Going.{event_kept, event_runs}
+
+-- ---- answers at which a run stops
+
+-- a caller's, or the store's own
+abbrev pub IsOfCaller : Action → Type 0
+IsOfCaller (Dm asked) = ⊥
+IsOfCaller action = Unit {0}
+
+caller_stop : (why : Stop) (action : Action) → IsOfCaller action → stop_answer why action ≡ Replied (call_reply_of why)
+caller_stop stop.Disk (Issue call) is = refl
+caller_stop stop.Disk Resume is = refl
+caller_stop stop.Disk Commit is = refl
+caller_stop stop.Memory (Issue call) is = refl
+caller_stop stop.Memory Resume is = refl
+caller_stop stop.Memory Commit is = refl
+caller_stop why (Dm asked) is = absurd is
+
+pub session_stop : (why : Stop) (asked : DmCall) → Told (reply_of why) ≡ stop_answer why (Dm asked)
+session_stop stop.Disk asked = refl
+session_stop stop.Memory asked = refl
+
+replied_goes : (reply : Reply) (action : Action) → IsOfCaller action → (reply ≢ calls.Refused refusal.Memory) × (reply ≢ calls.Refused refusal.Disk) → (why : Stop) → Replied reply ≢ stop_answer why action
+replied_goes reply action of goes stop.Disk is = let wrong : Replied reply ≡ Replied (calls.Refused refusal.Disk) = is ∙ caller_stop stop.Disk action of in goes.1 (let same : reply ≡ calls.Refused refusal.Disk = cc wrong in same)
+replied_goes reply action of goes stop.Memory is = let wrong : Replied reply ≡ Replied (calls.Refused refusal.Memory) = is ∙ caller_stop stop.Memory action of in goes.0 (let same : reply ≡ calls.Refused refusal.Memory = cc wrong in same)
+
+told_goes : (reply : DmReply) (asked : DmCall) → IsServed reply → (why : Stop) → Told reply ≢ stop_answer why (Dm asked)
+told_goes reply asked served why is = let wrong : Told reply ≡ Told (reply_of why) = is ∙ sym (session_stop why asked) in served why (let same : reply ≡ reply_of why = cc wrong in same)
+
+-- ---- an event
+
+-- each is one that its actor may make
+pub acts_of : (event : Event) → Acts (actor_of event) (action_of event)
+acts_of (event.Issue caller call) = tt
+acts_of (event.Resume caller) = tt
+acts_of (event.Dm sid call) = tt
+acts_of event.Commit = tt
+
+module _ {D : Type 0} (g : disk.Ghosts D) (old : System D) (store : Store D) (actor : Actor) (action : Action) (given : Answer) (acts : Acts actor action) (answers : IsAnswer g old.store actor action given store) where
+  abbrev pub left : System D
+  left = record old { store = store }
+
+  goes_on : ((why : Stop) → given ≢ stop_answer why action) → IsDone g {T = Unit {0}} actor action (Ok tt) old left
+  goes_on goes = record { given = given; answer = answers; rest = refl; goes = goes; stops = tt; kept = event_kept g old.store actor action given store acts answers goes; runs = event_runs g old.store actor action given store acts (Ok tt) answers goes tt }
+
+  stopped : (why : Stop) → given ≡ stop_answer why action → IsDone g {T = Unit {0}} actor action (Err why) old left
+  stopped why is = record { given = given; answer = answers; rest = refl; goes = tt; stops = is; kept = tt; runs = event_runs g old.store actor action given store acts (Err why) answers tt is }
+
+module _ {D : Type 0} (g : disk.Ghosts D) (old : System D) (store : Store D) (actor : Actor) where
+  -- it was answered as a caller is
+  pub replied : (action : Action) (reply : Reply) → Acts actor action → IsOfCaller action → IsAnswer g old.store actor action (Replied reply) store → (result : Result (Unit {0}) Stop)
+      → OnOk result ((reply ≢ calls.Refused refusal.Memory) × (reply ≢ calls.Refused refusal.Disk)) → IfErr result (λ why. reply ≡ call_reply_of why) → IsDone g actor action result old (record old { store = store })
+  replied action reply acts of answers (Ok tt) ok err = goes_on g old store actor action (Replied reply) acts answers (replied_goes reply action of ok)
+  replied action reply acts of answers (Err why) ok err = stopped g old store actor action (Replied reply) acts answers why (ap (λ (r : Reply). Replied r) err ∙ sym (caller_stop why action of))
+
+  -- or as a session is
+  pub told : (asked : DmCall) (reply : DmReply) → Acts actor (Dm asked) → IsAnswer g old.store actor (Dm asked) (Told reply) store → (result : Result (Unit {0}) Stop)
+      → OnOk result (IsServed reply) → IfErr result (λ why. reply ≡ reply_of why) → IsDone g actor (Dm asked) result old (record old { store = store })
+  told asked reply acts answers (Ok tt) ok err = goes_on g old store actor (Dm asked) (Told reply) acts answers (told_goes reply asked ok)
+  told asked reply acts answers (Err why) ok err = stopped g old store actor (Dm asked) (Told reply) acts answers why (ap (λ (r : DmReply). Told r) err ∙ session_stop why asked)
+
+-- ---- what an event keeps
+
+-- the resume of an access that was aborted is answered
+no_stop : (answer : Option Response) (reply : Reply) (why : Stop) → is_abort answer ≡ true → IfSome (aborted answer) (λ told. reply ≡ calls.Refused told) → reply ≡ call_reply_of why → IsOk {T = Unit {0}} {E = Stop} (Err why)
+no_stop None reply why is tells stopped = cc is
+no_stop (Some Continue) reply why is tells stopped = cc is
+no_stop (Some (Abort error)) reply stop.Disk is tells stopped = let wrong : calls.Refused (refusal.Aborted error) ≡ calls.Refused refusal.Disk = sym tells ∙ stopped in cc wrong
+no_stop (Some (Abort error)) reply stop.Memory is tells stopped = let wrong : calls.Refused (refusal.Aborted error) ≡ calls.Refused refusal.Memory = sym tells ∙ stopped in cc wrong
+no_stop (Some (Media fault)) reply stop.Disk is tells stopped = let wrong : calls.Refused (refusal.Media fault) ≡ calls.Refused refusal.Disk = sym tells ∙ stopped in cc wrong
+no_stop (Some (Media fault)) reply stop.Memory is tells stopped = let wrong : calls.Refused (refusal.Media fault) ≡ calls.Refused refusal.Memory = sym tells ∙ stopped in cc wrong
+
+resume_sure : (waits : Option Access) (reply : Reply) (result : Result (Unit {0}) Stop) → is_aborted waits ≡ true → IfAborted waits (λ why. reply ≡ calls.Refused why) → IfErr result (λ why. reply ≡ call_reply_of why) → IsOk result
+resume_sure None reply result is tells stopped = cc is
+resume_sure (Some a) reply (Ok tt) is tells stopped = refl
+resume_sure (Some a) reply (Err why) is tells stopped = no_stop a.answer reply why is tells stopped
+
+-- and so is a response that is due
+done_sure : (reply : DmReply) (result : Result (Unit {0}) Stop) → reply ≡ Done → IfErr result (λ why. reply ≡ reply_of why) → IsOk result
+done_sure reply (Ok tt) is stopped = refl
+done_sure reply (Err stop.Disk) is stopped = let wrong : Done ≡ reply_of stop.Disk = sym is ∙ stopped in cc wrong
+done_sure reply (Err stop.Memory) is stopped = let wrong : Done ≡ reply_of stop.Memory = sym is ∙ stopped in cc wrong
+
+module _ {D : Type 0} (g : disk.Ghosts D) (old new : Store D) (safe : IsSafeNow g new) (keeps : KeepsRoom old new) (result : Result (Unit {0}) Stop) where
+  pub issue_keeps : (caller : ℕ) (call : Call) → old.spare ≤ new.spare + 3 → Keeps g (event.Issue caller call) result old new
+  issue_keeps caller call room = record { sure = λ is working. absurd is; safe = safe; room = room; keeps = keeps }
+
+  pub resume_keeps : (caller : ℕ) (reply : Reply) → old.spare ≤ new.spare + (if is_aborted (waiting old.tables caller) then 0 else 2) → (old.files.failed ≡ false → IfAborted (waiting old.tables caller) (λ why. reply ≡ calls.Refused why))
+      → IfErr result (λ why. reply ≡ call_reply_of why) → Keeps g (event.Resume caller) result old new
+  resume_keeps caller reply room aborts stopped = record { sure = λ is working. resume_sure (waiting old.tables caller) reply result is (aborts working) stopped; safe = safe; room = room; keeps = keeps }
+
+  pub dm_keeps : (sid : Sid) (call : DmCall) (reply : DmReply) → old.spare ≤ new.spare + entries_for old.tables.sessions sid call → (is_due old.tables.sessions sid call ≡ true → old.files.failed ≡ false → reply ≡ Done)
+      → IfErr result (λ why. reply ≡ reply_of why) → Keeps g (event.Dm sid call) result old new
+  dm_keeps sid call reply room responds stopped = record { sure = λ is working. done_sure reply result (responds is working) stopped; safe = safe; room = room; keeps = keeps }
+
+  pub commit_keeps : old.spare ≤ new.spare + 1 → Keeps g event.Commit result old new
+  commit_keeps room = record { sure = λ is working. absurd is; safe = safe; room = room; keeps = keeps }

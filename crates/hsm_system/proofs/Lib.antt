@@ -1,0 +1,10 @@
+pub mod Asked
+pub mod Calls
+pub mod Done
+pub mod Going
+pub mod Leading
+pub mod Moving
+pub mod Outcomes
+pub mod Sending
+pub mod Within
+pub mod Waiting

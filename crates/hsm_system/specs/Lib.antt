@@ -1,0 +1,9 @@
+pub mod Acts
+pub mod Asking
+pub mod Awaiting
+pub mod Events
+pub mod Goes
+pub mod Lives
+pub mod Machines
+pub mod Stops
+pub mod Systems
