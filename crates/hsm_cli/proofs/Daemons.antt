@@ -19,7 +19,7 @@ use Rattle.marked_history.specs.Served.{Shown, nothing_shown, learned, ServedFro
 use Rattle.marked_history.specs.Coming.{ServedMakesAnew, ServedTakesOver}
 use Rattle.marked_history.specs.Freeing.{PunchFrees}
 use Rattle.marked_history.specs.Tokens.{ServedKeepsAll}
-use Rattle.hsm_replay.specs.Running.{GoesOn}
+use Rattle.hsm_system.specs.Events.{GoesOn}
 use Rattle.hsm_cli.specs.Daemons.{IsWellServed, IsWellServedOver, ServedIsWell}
 
 served_first : (limits : Numbers) (k : Shown) (first rest : List Mark) → ServedFrom limits k (first ++ rest) → ServedFrom limits k first

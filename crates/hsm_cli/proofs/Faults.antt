@@ -16,7 +16,7 @@ use Rattle.hsm_core.specs.Store.{Store as HsmStore}
 use Rattle.hsm_policy.specs.Settings.{Numbers, standard}
 use Rattle.marked_history.specs.Caused.{Caused, ServedIsCaused}
 use Rattle.marked_history.specs.Marks.{Mark}
-use Rattle.hsm_replay.specs.Running.{GoesOn}
+use Rattle.hsm_system.specs.Events.{GoesOn}
 use Rattle.hsm_replay.specs.Drives.{HaveGrown}
 use Rattle.hsm_replay.specs.Faults.{faults_in, TellsFault, IsTrue, AreTrue}
 use Rattle.hsm_replay.proofs.Growing.{grown_count}

@@ -9,9 +9,9 @@ use Rattle.plain_model.specs.declared.entries.Entry.{Entry}
 use Rattle.plain_model.specs.State.{State, just_opened}
 use Rattle.hsm_policy.specs.Settings.{Numbers}
 use Rattle.file_store.specs.Stores.{Store as FileStore, superblock_of}
-use Rattle.hsm_replay.specs.declared.daemons.Recalling.{Recalling}
-use Rattle.hsm_replay.specs.declared.daemons.Migrating.{Migrating}
-use Rattle.hsm_replay.specs.declared.stops.Stop.{Stop}
+use Rattle.hsm_system.specs.declared.daemons.Recalling.{Recalling}
+use Rattle.hsm_system.specs.declared.daemons.Migrating.{Migrating}
+use Rattle.hsm_system.specs.declared.stops.Stop.{Stop}
 use Rattle.hsm_replay.specs.Faults.{faults_in, AreTrue}
 use Rattle.marked_history.specs.Follows.{IsPartOf, Follows}
 use Rattle.hsm_replay.specs.Keeping.{RecallKnows, MigrateKnows, RecallLives, MigrateLives, LivesIf, Live, Moves}
@@ -25,7 +25,7 @@ use Rattle.marked_history.specs.Served.{shown, nothing_shown}
 use Rattle.marked_history.specs.Settling.{none_run, running_by, running_behind, AreByRunning, LeavesSettled, EachSettles}
 use Rattle.marked_history.specs.Waiting.{Running}
 use Rattle.hsm_replay.specs.Resting.{first_of, IsLeftBy, LeadsTo}
-use Rattle.hsm_replay.specs.Systems.{System, running}
+use Rattle.hsm_replay.specs.Systems.{Run, running, told_next}
 use Rattle.hsm_replay.proofs.ByRunning.{by_running_behind}
 use Rattle.hsm_replay.proofs.Growing.{have_grown_itself}
 use Rattle.hsm_replay.proofs.PassMarks.{no_passes}
@@ -77,14 +77,14 @@ running_push (x ∷ lines) line r = running_push lines line (running_by x r)
 module _ {D M : Type 0} (g : disk.Ghosts D) (h : drive.Ghosts M) where
   -- ---- the beginning
 
-  no_faults : (s : System D M) → s.store.history ≡ [] → AreTrue h s.drives (faults_in s.store.history)
+  no_faults : (s : Run D M) → s.system.store.history ≡ [] → AreTrue h s.drives (faults_in s.system.store.history)
   no_faults s none = subst (λ (es : List Entry). AreTrue h s.drives (faults_in es)) (sym none) (record { each = tt; apart = tt })
 
   no_mark : (before : List Mark) (m : Mark) (rest : List Mark) → [] ≡ before ++ m ∷ rest → ⊥
   no_mark [] m rest is = let wrong : [] ≡ m ∷ rest = is in cc wrong
   no_mark (x ∷ before) m rest is = let wrong : [] ≡ x ∷ (before ++ m ∷ rest) = is in cc wrong
 
-  pub run_to_none : (s : System D M) → IsReady s → IsRunTo h s [] s
+  pub run_to_none : (s : Run D M) → IsReady s → IsRunTo h s [] s
   run_to_none s ready = record {
     marks = [];
     runs = record { follows = refl; settles = refl };
@@ -100,61 +100,61 @@ module _ {D M : Type 0} (g : disk.Ghosts D) (h : drive.Ghosts M) where
           aborts = λ before sid t reply rest is. absurd (no_mark before _ rest is);
           damages = λ before sid t volume object want got reply rest is. absurd (no_mark before _ rest is);
         };
-        passes = no_passes (CopyEnds h s.drives s.limits) s.limits;
+        passes = no_passes (CopyEnds h s.drives s.system.limits) s.system.limits;
       };
-      recall = subst (λ (o : Option Recalling). IfSome o (RecallKnows h (shown s.limits nothing_shown []).recall s.drives (faults_in s.store.history))) (sym ready.recall) tt;
-      migrate = subst (λ (o : Option Migrating). IfSome o (MigrateKnows (shown s.limits nothing_shown []).migrate)) (sym ready.migrate) tt;
-      lost = subst (λ (o : Option Recalling). IfSome o (λ (r : Recalling). HearsLost h s.drives s.drives [] r.machine.asked r.heard)) (sym ready.recall) tt;
-      stored = subst (λ (o : Option Migrating). IfSome o (λ (m : Migrating). HearsStored h s.drives m.machine.asked m.heard)) (sym ready.migrate) tt;
-      full = subst (λ (o : Option Migrating). IfSome o (FindsFull h s.drives s.limits)) (sym ready.migrate) tt;
-      passing = subst (λ (o : Option Migrating). IfSome o (PassStands s.limits [])) (sym ready.migrate) tt;
+      recall = subst (λ (o : Option Recalling). IfSome o (RecallKnows h (shown s.system.limits nothing_shown []).recall s.drives (faults_in s.system.store.history))) (sym ready.recall) tt;
+      migrate = subst (λ (o : Option Migrating). IfSome o (MigrateKnows (shown s.system.limits nothing_shown []).migrate)) (sym ready.migrate) tt;
+      lost = subst (λ (o : Option Recalling). IfSome o (λ (r : Recalling). HearsLost h s.drives s.drives [] r.machine.asked (told_next r.next))) (sym ready.recall) tt;
+      stored = subst (λ (o : Option Migrating). IfSome o (λ (m : Migrating). HearsStored h s.drives m.machine.asked (told_next m.next))) (sym ready.migrate) tt;
+      full = subst (λ (o : Option Migrating). IfSome o (FindsFull h s.drives s.system.limits)) (sym ready.migrate) tt;
+      passing = subst (λ (o : Option Migrating). IfSome o (PassStands s.system.limits [])) (sym ready.migrate) tt;
     };
     live = record {
-      recall = subst (λ (o : Option Recalling). LivesIf (RecallLives [] (shown s.limits nothing_shown []).recall) false o) (sym ready.recall) refl;
-      migrate = subst (λ (o : Option Migrating). LivesIf (MigrateLives [] (shown s.limits nothing_shown []).migrate) false o) (sym ready.migrate) refl;
+      recall = subst (λ (o : Option Recalling). LivesIf (RecallLives [] (shown s.system.limits nothing_shown []).recall) false o) (sym ready.recall) refl;
+      migrate = subst (λ (o : Option Migrating). LivesIf (MigrateLives [] (shown s.system.limits nothing_shown []).migrate) false o) (sym ready.migrate) refl;
     };
   }
 
-module _ {D M : Type 0} (g : disk.Ghosts D) (h : drive.Ghosts M) (from : System D M) where
+module _ {D M : Type 0} (g : disk.Ghosts D) (h : drive.Ghosts M) (from : Run D M) where
   abbrev Settles : List Line → List Mark → Type 0
   Settles = SettlesSince from
 
   -- ---- a line more
 
   -- what a line leaves, said of the store as it was opened
-  left_since : (line : Line) (r : Running) (before part : List Mark) (new : System D M) → new.limits ≡ from.limits → new.store.opened ≡ from.store.opened → running new ≡ r
-      → LeavesSettled new.limits (superblock_of new.store.opened) (first_of new) line (running new) before part → LeavesSettled from.limits (superblock_of from.store.opened) (first_of from) line r before part
+  left_since : (line : Line) (r : Running) (before part : List Mark) (new : Run D M) → new.system.limits ≡ from.system.limits → new.system.store.opened ≡ from.system.store.opened → running new ≡ r
+      → LeavesSettled new.system.limits (superblock_of new.system.store.opened) (first_of new) line (running new) before part → LeavesSettled from.system.limits (superblock_of from.system.store.opened) (first_of from) line r before part
   left_since line r before part new limits opened runs left =
-      subst (λ (x : Running). LeavesSettled from.limits (superblock_of from.store.opened) (first_of from) line x before part) runs
-      (subst (λ (s : FileStore D). LeavesSettled from.limits (superblock_of s) (just_opened s.meta.number s.held) line (running new) before part) opened
-      (subst (λ (n : Numbers). LeavesSettled n (superblock_of new.store.opened) (first_of new) line (running new) before part) limits left))
+      subst (λ (x : Running). LeavesSettled from.system.limits (superblock_of from.system.store.opened) (first_of from) line x before part) runs
+      (subst (λ (s : FileStore D). LeavesSettled from.system.limits (superblock_of s) (just_opened s.meta.number s.held) line (running new) before part) opened
+      (subst (λ (n : Numbers). LeavesSettled n (superblock_of new.system.store.opened) (first_of new) line (running new) before part) limits left))
 
   -- who has called behind the lines so far
   abbrev CalledBy : (lines : List Line) (marks : List Mark) → RunsBy Settles lines marks → Running
-  CalledBy lines marks runs = called_behind from.limits (superblock_of from.store.opened) (first_of from) none_run none_run [] lines marks runs.settles
+  CalledBy lines marks runs = called_behind from.system.limits (superblock_of from.system.store.opened) (first_of from) none_run none_run [] lines marks runs.settles
 
   abbrev runs_more : (lines : List Line) (line : Line) (marks part : List Mark) (runs : RunsBy Settles lines marks) → IsPartOf line part → AreByRunning (running_by line (running_behind lines none_run)) part
-      → LeavesSettled from.limits (superblock_of from.store.opened) (first_of from) line (running_by line (running_behind lines none_run)) marks part → BeginsRight from.limits (CalledBy lines marks runs) marks part → RunsBy Settles (lines ++ line ∷ []) (marks ++ part)
+      → LeavesSettled from.system.limits (superblock_of from.system.store.opened) (first_of from) line (running_by line (running_behind lines none_run)) marks part → BeginsRight from.system.limits (CalledBy lines marks runs) marks part → RunsBy Settles (lines ++ line ∷ []) (marks ++ part)
   runs_more lines line marks part runs is by left begins = record {
     follows = push lines marks line part runs.follows is;
-    settles = push_settled from.limits (superblock_of from.store.opened) (first_of from) none_run none_run [] lines marks line part runs.settles is by left begins;
+    settles = push_settled from.system.limits (superblock_of from.system.store.opened) (first_of from) none_run none_run [] lines marks line part runs.settles is by left begins;
   }
 
   -- it was run
-  pub run_more : (lines : List Line) (line : Line) (old new : System D M) → IsRunTo h from lines old → LeadsTo h (IsPartOf line) (IsLeftBy line old new) old new → new.limits ≡ from.limits → new.store.opened ≡ from.store.opened → running new ≡ running_by line (running old) → IsRunTo h from (lines ++ line ∷ []) new
+  pub run_more : (lines : List Line) (line : Line) (old new : Run D M) → IsRunTo h from lines old → LeadsTo h (IsPartOf line) (IsLeftBy line old new) old new → new.system.limits ≡ from.system.limits → new.system.store.opened ≡ from.system.store.opened → running new ≡ running_by line (running old) → IsRunTo h from (lines ++ line ∷ []) new
   run_more lines line old new run leads limits opened runs =
       let on = leads from.drives run.marks run.shows in
       let same : running new ≡ running_by line (running_behind lines none_run) = runs ∙ ap (running_by line) run.running in
       let by = subst (λ (r : Running). AreByRunning (running_by line r) on.0) run.running (by_running_behind line (running old) on.0 on.1 on.4) in
       let left = left_since line (running_by line (running_behind lines none_run)) run.marks on.0 new limits opened same on.3.0 in
-      let lives = on.3.1 from.limits (CalledBy lines run.marks run.runs) run.live in
+      let lives = on.3.1 from.system.limits (CalledBy lines run.marks run.runs) run.live in
       record {
         marks = run.marks ++ on.0;
         runs = runs_more lines line run.marks on.0 run.runs on.1 by left lives.1;
         shows = on.2;
         running = same ∙ sym (running_push lines line none_run);
-        live = subst (λ (called : Running). Live from.limits called (run.marks ++ on.0) new)
-            (sym (called_push from.limits (superblock_of from.store.opened) (first_of from) none_run none_run [] lines run.marks line on.0 run.runs.settles on.1 by left lives.1)) lives.0;
+        live = subst (λ (called : Running). Live from.system.limits called (run.marks ++ on.0) new)
+            (sym (called_push from.system.limits (superblock_of from.system.store.opened) (first_of from) none_run none_run [] lines run.marks line on.0 run.runs.settles on.1 by left lives.1)) lives.0;
       }
 
   -- or begun
@@ -162,21 +162,21 @@ module _ {D M : Type 0} (g : disk.Ghosts D) (h : drive.Ghosts M) (from : System 
   begun_by line rest more (inl part) = inr (line, rest, refl, part)
   begun_by line rest more (inr none) = inl none
 
-  pub first_run : {T : Type 0} (why : Stop) (all done : List Line) (line : Line) (rest : List Line) (old new : System D M) → done ++ line ∷ rest ≡ all → IsRunTo h from done old → Moves {T = T} g h (IsPartOf line) (Err why) old new → HasRunOn h from.drives (FollowsFirst Settles all) new
+  pub first_run : {T : Type 0} (why : Stop) (all done : List Line) (line : Line) (rest : List Line) (old new : Run D M) → done ++ line ∷ rest ≡ all → IsRunTo h from done old → Moves {T = T} g h (IsPartOf line) (Err why) old new → HasRunOn h from.drives (FollowsFirst Settles all) new
   first_run why all done line rest old new is run moves =
       let end = moves.ends from.drives run.marks run.shows in
       record { marks = run.marks ++ end.0; follows = record { done = done; rest = line ∷ rest; split = sym is; ended = run.marks; begun = end.0; parted = refl; runs = run.runs; next = begun_by line rest end.0 end.1; by = subst (λ (r : Running). AreByRunning r end.0) run.running end.3 }; marked = end.2 }
 
   -- ---- all lines
 
-  pub has_run : (lines : List Line) (s : System D M) → IsRunTo h from lines s → HasRunOn h from.drives (RunsBy Settles lines) s
+  pub has_run : (lines : List Line) (s : Run D M) → IsRunTo h from lines s → HasRunOn h from.drives (RunsBy Settles lines) s
   has_run lines s run = record { marks = run.marks; follows = run.runs; marked = run.shows.marked }
 
   -- all lines are the first ones
-  all_first : (lines rest all : List Line) (s : System D M) → lines ++ rest ≡ all → HasRunOn h from.drives (RunsBy Settles lines) s → HasRunOn h from.drives (FollowsFirst Settles all) s
+  all_first : (lines rest all : List Line) (s : Run D M) → lines ++ rest ≡ all → HasRunOn h from.drives (RunsBy Settles lines) s → HasRunOn h from.drives (FollowsFirst Settles all) s
   all_first lines rest all s is run = record { marks = run.marks; follows = record { done = lines; rest = rest; split = sym is; ended = run.marks; begun = []; parted = sym (append-nil run.marks); runs = run.follows; next = inl refl; by = tt }; marked = run.marked }
 
-  pub has_run_first : (lines rest all : List Line) (s : System D M) → lines ++ rest ≡ all → IsRunTo h from lines s → HasRunOn h from.drives (FollowsFirst Settles all) s
+  pub has_run_first : (lines rest all : List Line) (s : Run D M) → lines ++ rest ≡ all → IsRunTo h from lines s → HasRunOn h from.drives (FollowsFirst Settles all) s
   has_run_first lines rest all s is run = all_first lines rest all s is (has_run lines s run)
 
   still_begun : (rest more : List Line) (marks : List Mark) → IsBegun rest marks → IsBegun (rest ++ more) marks
@@ -184,7 +184,7 @@ module _ {D M : Type 0} (g : disk.Ghosts D) (h : drive.Ghosts M) (from : System 
   still_begun rest more marks (inr one) = inr (one.0, one.1 ++ more, ap (λ (l : List Line). l ++ more) one.2, one.3)
 
   -- the first lines of a script are the first of what is run of it
-  pub first_of_run : (commits : Bool) (lines : List Line) (s : System D M) → HasRunOn h from.drives (FollowsFirst Settles lines) s → HasRunOn h from.drives (FollowsFirst Settles (lines_run commits lines)) s
+  pub first_of_run : (commits : Bool) (lines : List Line) (s : Run D M) → HasRunOn h from.drives (FollowsFirst Settles lines) s → HasRunOn h from.drives (FollowsFirst Settles (lines_run commits lines)) s
   first_of_run false lines s run = run
   first_of_run true lines s run =
       let first = run.follows in
@@ -205,16 +205,16 @@ module _ {D M : Type 0} (g : disk.Ghosts D) (h : drive.Ghosts M) (from : System 
       }
 
   -- all lines were run, and the commit was done or not
-  committed_run : {T : Type 0} (x : T) (lines : List Line) (old new : System D M) → IsRunTo h from lines old → Moves g h (IsPartOf commit_line) (Ok x) old new → HasRunOn h from.drives (RunsBy Settles (lines ++ commit_line ∷ [])) new
+  committed_run : {T : Type 0} (x : T) (lines : List Line) (old new : Run D M) → IsRunTo h from lines old → Moves g h (IsPartOf commit_line) (Ok x) old new → HasRunOn h from.drives (RunsBy Settles (lines ++ commit_line ∷ [])) new
   committed_run x lines old new run moves =
       let on = moves.keeps from.drives run.marks run.shows in
-      let begins = on.4 from.limits (CalledBy lines run.marks run.runs) run.live in
+      let begins = on.4 from.system.limits (CalledBy lines run.marks run.runs) run.live in
       record { marks = run.marks ++ on.0; follows = runs_more lines commit_line run.marks on.0 run.runs on.1 (subst (λ (r : Running). AreByRunning r on.0) run.running on.3) tt begins.1; marked = on.2.marked }
 
-  pub committed : (result : Result (Unit {0}) Stop) (lines : List Line) (old new : System D M) → IsRunTo h from lines old → Moves g h (IsPartOf commit_line) result old new → HasRunOn h from.drives (FollowsFirst Settles (lines ++ commit_line ∷ [])) new
+  pub committed : (result : Result (Unit {0}) Stop) (lines : List Line) (old new : Run D M) → IsRunTo h from lines old → Moves g h (IsPartOf commit_line) result old new → HasRunOn h from.drives (FollowsFirst Settles (lines ++ commit_line ∷ [])) new
   committed (Ok tt) lines old new run moves = all_first (lines ++ commit_line ∷ []) [] (lines ++ commit_line ∷ []) new (append-nil (lines ++ commit_line ∷ [])) (committed_run tt lines old new run moves)
   committed (Err why) lines old new run moves = first_run why (lines ++ commit_line ∷ []) lines commit_line [] old new refl run moves
 
-  pub committed_all : (result : Result (Unit {0}) Stop) (lines : List Line) (old new : System D M) → IsRunTo h from lines old → Moves g h (IsPartOf commit_line) result old new → OnOk result (HasRunOn h from.drives (RunsBy Settles (lines ++ commit_line ∷ [])) new)
+  pub committed_all : (result : Result (Unit {0}) Stop) (lines : List Line) (old new : Run D M) → IsRunTo h from lines old → Moves g h (IsPartOf commit_line) result old new → OnOk result (HasRunOn h from.drives (RunsBy Settles (lines ++ commit_line ∷ [])) new)
   committed_all (Ok tt) lines old new run moves = committed_run tt lines old new run moves
   committed_all (Err why) lines old new run moves = tt

@@ -16,7 +16,7 @@ use Rattle.hsm_replay.specs.Sealed.{Tallies}
 use Rattle.marked_history.specs.Served.{Served}
 use Rattle.marked_history.specs.Settling.{none_run as no_daemon, EachSettles}
 use Rattle.hsm_replay.specs.Resting.{first_of}
-use Rattle.hsm_replay.specs.Systems.{System}
+use Rattle.hsm_replay.specs.Systems.{Run}
 use Rattle.hsm_cli.specs.declared.causes.Cause.{Cause}
 use Rattle.hsm_cli.specs.declared.causes.Cause.TheVariants.{ScriptRefused, WordsRefused, NotStore, Corrupt, ReadFault, WriteFault, DiskFault}
 use Rattle.hsm_cli.specs.declared.causes.Cause.TheVariants.{HostFault, NoMemory}
@@ -56,8 +56,8 @@ script_of : (FollowsSo : List Line → List Mark → Type 0) (given : Option (Li
 script_of FollowsSo None lines marks script follows = tt
 script_of FollowsSo (Some bytes) lines marks script follows = record { lines = lines; script = script; follows = follows }
 
-module _ {D M : Type 0} {opened : List M} (h : drive.Ghosts M) (s : System D M) (limits : s.limits ≡ standard) where
-  run_of : (FollowsSo : List Mark → Type 0) → HasRunOn h opened FollowsSo s → IsRunOf FollowsSo (TellsOf h opened s.drives) s.store.history
+module _ {D M : Type 0} {opened : List M} (h : drive.Ghosts M) (s : Run D M) (limits : s.system.limits ≡ standard) where
+  run_of : (FollowsSo : List Mark → Type 0) → HasRunOn h opened FollowsSo s → IsRunOf FollowsSo (TellsOf h opened s.drives) s.system.store.history
   run_of FollowsSo run = record {
     marks = run.marks;
     entries = run.marked.entries;
@@ -69,30 +69,30 @@ module _ {D M : Type 0} {opened : List M} (h : drive.Ghosts M) (s : System D M) 
     };
   }
 
-  script_run : (FollowsSo : List Line → List Mark → Type 0) (given : Option (List ℕ)) (lines : List Line) → IfSome given (λ bytes. IsScript (script_bytes bytes) lines) → HasRunOn h opened (FollowsSo lines) s → IsRunOf (FollowsScript FollowsSo given) (TellsOf h opened s.drives) s.store.history
+  script_run : (FollowsSo : List Line → List Mark → Type 0) (given : Option (List ℕ)) (lines : List Line) → IfSome given (λ bytes. IsScript (script_bytes bytes) lines) → HasRunOn h opened (FollowsSo lines) s → IsRunOf (FollowsScript FollowsSo given) (TellsOf h opened s.drives) s.system.store.history
   script_run FollowsSo given lines script run = run_of (FollowsScript FollowsSo given) (record { marks = run.marks; follows = script_of FollowsSo given lines run.marks script run.follows; marked = run.marked })
 
-  pub is_served : (FollowsSo : List Mark → Type 0) → HasRunOn h opened FollowsSo s → IsServed s.store.history
+  pub is_served : (FollowsSo : List Mark → Type 0) → HasRunOn h opened FollowsSo s → IsServed s.system.store.history
   is_served FollowsSo run = (run.marks, run.marked.entries, subst (λ (n : Numbers). Served n run.marks) limits run.marked.served)
 
 -- ---- by the default settings
 
 -- whose settles are those of the store that was opened
-module _ {D M : Type 0} {opened : List M} (h : drive.Ghosts M) (from s : System D M) (since : from.limits ≡ standard) (limits : s.limits ≡ standard) where
-  by_default : (FollowsSo : (List Line → List Mark → Type 0) → List Mark → Type 0) → HasRunOn h opened (FollowsSo (SettlesSince from)) s → HasRunOn h opened (FollowsSo (SettlesOn (Some from.store.opened))) s
-  by_default FollowsSo run = subst (λ (n : Numbers). HasRunOn h opened (FollowsSo (EachSettles n (superblock_of from.store.opened) (first_of from) no_daemon no_daemon [])) s) since run
+module _ {D M : Type 0} {opened : List M} (h : drive.Ghosts M) (from s : Run D M) (since : from.system.limits ≡ standard) (limits : s.system.limits ≡ standard) where
+  by_default : (FollowsSo : (List Line → List Mark → Type 0) → List Mark → Type 0) → HasRunOn h opened (FollowsSo (SettlesSince from)) s → HasRunOn h opened (FollowsSo (SettlesOn (Some from.system.store.opened))) s
+  by_default FollowsSo run = subst (λ (n : Numbers). HasRunOn h opened (FollowsSo (EachSettles n (superblock_of from.system.store.opened) (first_of from) no_daemon no_daemon [])) s) since run
 
-  pub lines_run_all : (lines : List Line) → HasRunOn h opened (RunsBy (SettlesSince from) lines) s → IsRunOf (RunsBy (SettlesOn (Some from.store.opened)) lines) (TellsOf h opened s.drives) s.store.history
-  lines_run_all lines run = run_of h s limits (RunsBy (SettlesOn (Some from.store.opened)) lines) (by_default (λ so marks. RunsBy so lines marks) run)
+  pub lines_run_all : (lines : List Line) → HasRunOn h opened (RunsBy (SettlesSince from) lines) s → IsRunOf (RunsBy (SettlesOn (Some from.system.store.opened)) lines) (TellsOf h opened s.drives) s.system.store.history
+  lines_run_all lines run = run_of h s limits (RunsBy (SettlesOn (Some from.system.store.opened)) lines) (by_default (λ so marks. RunsBy so lines marks) run)
 
-  pub lines_run_first : (lines : List Line) → HasRunOn h opened (FollowsFirst (SettlesSince from) lines) s → IsRunOf (FollowsFirst (SettlesOn (Some from.store.opened)) lines) (TellsOf h opened s.drives) s.store.history
-  lines_run_first lines run = run_of h s limits (FollowsFirst (SettlesOn (Some from.store.opened)) lines) (by_default (λ so marks. FollowsFirst so lines marks) run)
+  pub lines_run_first : (lines : List Line) → HasRunOn h opened (FollowsFirst (SettlesSince from) lines) s → IsRunOf (FollowsFirst (SettlesOn (Some from.system.store.opened)) lines) (TellsOf h opened s.drives) s.system.store.history
+  lines_run_first lines run = run_of h s limits (FollowsFirst (SettlesOn (Some from.system.store.opened)) lines) (by_default (λ so marks. FollowsFirst so lines marks) run)
 
-  pub all_run : (commits : Bool) (given : Option (List ℕ)) (lines : List Line) → IfSome given (λ bytes. IsScript (script_bytes bytes) lines) → HasRunOn h opened (RunsBy (SettlesSince from) (lines_run commits lines)) s → RunsAll (SettlesOn (Some from.store.opened)) (TellsOf h opened s.drives) commits given s.store.history
-  all_run commits given lines script run = script_run h s limits (λ ls marks. RunsBy (SettlesOn (Some from.store.opened)) (lines_run commits ls) marks) given lines script (by_default (λ so marks. RunsBy so (lines_run commits lines) marks) run)
+  pub all_run : (commits : Bool) (given : Option (List ℕ)) (lines : List Line) → IfSome given (λ bytes. IsScript (script_bytes bytes) lines) → HasRunOn h opened (RunsBy (SettlesSince from) (lines_run commits lines)) s → RunsAll (SettlesOn (Some from.system.store.opened)) (TellsOf h opened s.drives) commits given s.system.store.history
+  all_run commits given lines script run = script_run h s limits (λ ls marks. RunsBy (SettlesOn (Some from.system.store.opened)) (lines_run commits ls) marks) given lines script (by_default (λ so marks. RunsBy so (lines_run commits lines) marks) run)
 
-  pub first_run : (commits : Bool) (given : Option (List ℕ)) (lines : List Line) → IfSome given (λ bytes. IsScript (script_bytes bytes) lines) → HasRunOn h opened (FollowsFirst (SettlesSince from) (lines_run commits lines)) s → RunsFirst (SettlesOn (Some from.store.opened)) (TellsOf h opened s.drives) commits given s.store.history
-  first_run commits given lines script run = script_run h s limits (λ ls marks. FollowsFirst (SettlesOn (Some from.store.opened)) (lines_run commits ls) marks) given lines script (by_default (λ so marks. FollowsFirst so (lines_run commits lines) marks) run)
+  pub first_run : (commits : Bool) (given : Option (List ℕ)) (lines : List Line) → IfSome given (λ bytes. IsScript (script_bytes bytes) lines) → HasRunOn h opened (FollowsFirst (SettlesSince from) (lines_run commits lines)) s → RunsFirst (SettlesOn (Some from.system.store.opened)) (TellsOf h opened s.drives) commits given s.system.store.history
+  first_run commits given lines script run = script_run h s limits (λ ls marks. FollowsFirst (SettlesOn (Some from.system.store.opened)) (lines_run commits ls) marks) given lines script (by_default (λ so marks. FollowsFirst so (lines_run commits lines) marks) run)
 
 -- ---- what marks tell
 

@@ -18,7 +18,7 @@ use Rattle.marked_history.specs.Served.{Served}
 use Rattle.marked_history.specs.Settling.{none_run, running_by, running_behind, AreByRunning, EachSettles}
 use Rattle.marked_history.specs.Waiting.{Running}
 use Rattle.hsm_replay.specs.Resting.{first_of}
-use Rattle.hsm_replay.specs.Systems.{System, running}
+use Rattle.hsm_replay.specs.Systems.{Run, running}
 use Rattle.hsm_cli.specs.Openings.{superblock_at, held_at, base_of}
 use Rattle.hsm_cli.specs.Sources.{script_bytes}
 
@@ -51,8 +51,8 @@ lines_run true lines = lines ++ commit_line ∷ []
 -- ---- of a run
 
 -- each settle of the lines has come to its end so, since no daemon ran on this store
-abbrev pub SettlesSince : {D M : Type 0} → System D M → List Line → List Mark → Type 0
-SettlesSince s = EachSettles s.limits (superblock_of s.store.opened) (first_of s) none_run none_run []
+abbrev pub SettlesSince : {D M : Type 0} → Run D M → List Line → List Mark → Type 0
+SettlesSince s = EachSettles s.system.limits (superblock_of s.system.store.opened) (first_of s) none_run none_run []
 
 -- on the store that was opened, by the default settings
 abbrev pub SettlesOn : {D : Type 0} → Option (Store D) → List Line → List Mark → Type 0
@@ -65,18 +65,18 @@ module _ (limits : Numbers) (s : Superblock) (first : State) where
   called_behind r called before (line ∷ lines) marks each = called_behind (running_by line r) (called_by line (called_in each.0 called)) (before ++ each.0) lines each.1.0 each.1.1.5
 
 -- the marked history of the store that lines are run on follows them so, since the drives were opened as these
-pub record HasRunOn {D M : Type 0} (g : drive.Ghosts M) (opened : List M) (FollowsSo : List Mark → Type 0) (s : System D M) : Type 0 where
+pub record HasRunOn {D M : Type 0} (g : drive.Ghosts M) (opened : List M) (FollowsSo : List Mark → Type 0) (s : Run D M) : Type 0 where
   pub marks : List Mark
   pub follows : FollowsSo marks
   pub marked : IsMarked g opened marks s
 
 -- The lines were run from there on. It shows what the daemons know, which run, and how they live.
-pub record IsRunTo {D M : Type 0} (g : drive.Ghosts M) (from : System D M) (lines : List Line) (s : System D M) : Type 0 where
+pub record IsRunTo {D M : Type 0} (g : drive.Ghosts M) (from : Run D M) (lines : List Line) (s : Run D M) : Type 0 where
   pub marks : List Mark
   pub runs : RunsBy (SettlesSince from) lines marks
   pub shows : Shows g from.drives marks s
   pub running : running s ≡ running_behind lines none_run
-  pub live : Live from.limits (called_behind from.limits (superblock_of from.store.opened) (first_of from) none_run none_run [] lines marks runs.settles) marks s
+  pub live : Live from.system.limits (called_behind from.system.limits (superblock_of from.system.store.opened) (first_of from) none_run none_run [] lines marks runs.settles) marks s
 
 -- ---- of an outcome
 

@@ -10,7 +10,7 @@ ghost use Rattle.drill_script.specs.Drill.{drill_lines};
 ghost use Rattle.drill_script.specs.Summary.{summary_line};
 ghost use Rattle.hsm_replay.specs.Drives.{HaveGrown};
 ghost use Rattle.hsm_replay.specs.Faults.{faults_in, AreTrue};
-ghost use Rattle.hsm_replay.specs.Running.{GoesOn};
+ghost use Rattle.hsm_system.specs.Events.{GoesOn};
 ghost use Rattle.hsm_cli.specs.Openings.{opened_in, replay_store};
 ghost use Rattle.hsm_cli.specs.Outcomes.{ended_with};
 ghost use Rattle.hsm_cli.specs.Follows.{RunsBy, FollowsFirst, IsRunOf, IsServed, SettlesOn};
@@ -160,15 +160,15 @@ fn run_all<D: Disk, M: Drive>(
     script: Script,
 ) -> Result<(), Cause>
     requires ready { IsReady replay.old }
-    requires limits { replay.old.limits ≡ standard }
+    requires limits { replay.old.system.limits ≡ standard }
     ensures drives { HaveGrown M.Drive replay.old.drives replay.new.drives }
-    ensures goes_on { GoesOn D.Disk replay.old.store replay.new.store }
-    ensures all { OnOk result (IsRunOf (RunsBy (SettlesOn (Some replay.old.store.opened)) script) (TellsOf M.Drive replay.old.drives replay.new.drives) replay.new.store.history) }
-    ensures first { IsRunOf (FollowsFirst (SettlesOn (Some replay.old.store.opened)) script) (TellsOf M.Drive replay.old.drives replay.new.drives) replay.new.store.history }
-    ensures served { IsServed replay.new.store.history }
-    ensures media { AreTrue M.Drive replay.new.drives (faults_in replay.new.store.history) }
-    ensures ends { IfErr result (LinesEnd (Rose (D.fault_count replay.old.store.files.disk) (D.fault_count replay.new.store.files.disk))) }
-    ensures failed { replay.new.store.files.failed ≡ true → IsErrOf result Cause.DiskFault }
+    ensures goes_on { GoesOn D.Disk replay.old.system.store replay.new.system.store }
+    ensures all { OnOk result (IsRunOf (RunsBy (SettlesOn (Some replay.old.system.store.opened)) script) (TellsOf M.Drive replay.old.drives replay.new.drives) replay.new.system.store.history) }
+    ensures first { IsRunOf (FollowsFirst (SettlesOn (Some replay.old.system.store.opened)) script) (TellsOf M.Drive replay.old.drives replay.new.drives) replay.new.system.store.history }
+    ensures served { IsServed replay.new.system.store.history }
+    ensures media { AreTrue M.Drive replay.new.drives (faults_in replay.new.system.store.history) }
+    ensures ends { IfErr result (LinesEnd (Rose (D.fault_count replay.old.system.store.files.disk) (D.fault_count replay.new.system.store.files.disk))) }
+    ensures failed { replay.new.system.store.files.failed ≡ true → IsErrOf result Cause.DiskFault }
 {
     match run(alloc, replay, script, false) {
         Ok(()) => Ok(()),

@@ -3,7 +3,8 @@ ghost use Rattle.std.specs.Prelude.{◌≡◌, true, OnOk};
 ghost use Rattle.std.specs.List.{AllByRecursion};
 ghost use Rattle.script_text.specs.Lines.{IsLine};
 ghost use Rattle.hsm_replay.specs.Drives.{HaveGrown};
-ghost use Rattle.hsm_replay.specs.Running.{Runs, IsAllDurable};
+ghost use Rattle.hsm_system.specs.Events.{Runs};
+ghost use Rattle.hsm_replay.specs.Running.{IsAllDurable};
 ghost use Rattle.hsm_cli.specs.Follows.{FollowsFirst, HasRunOn, IsRunTo, RunsBy, SettlesSince, lines_run};
 ghost use Rattle.hsm_cli.specs.Runs.{IsReady};
 
@@ -21,12 +22,12 @@ pub(crate) fn run<D: Disk, M: Drive>(
     commits: bool,
 ) -> Result<(), Stop>
     requires ready { IsReady replay.old }
-    ensures limits { replay.new.limits ≡ replay.old.limits }
+    ensures limits { replay.new.system.limits ≡ replay.old.system.limits }
     ensures drives { HaveGrown M.Drive replay.old.drives replay.new.drives }
-    ensures runs { Runs D.Disk result replay.old.store replay.new.store }
+    ensures runs { Runs D.Disk result replay.old.system.store replay.new.system.store }
     ensures all { OnOk result (HasRunOn M.Drive replay.old.drives (RunsBy (SettlesSince replay.old) (lines_run commits script)) replay.new) }
     ensures first { HasRunOn M.Drive replay.old.drives (FollowsFirst (SettlesSince replay.old) (lines_run commits script)) replay.new }
-    ensures durable { commits ≡ true → OnOk result (IsAllDurable replay.new.store) }
+    ensures durable { commits ≡ true → OnOk result (IsAllDurable replay.new.system.store) }
 {
     run_lines(alloc, replay, script.into_lines())?;
     if commits {
@@ -43,9 +44,9 @@ fn run_lines<D: Disk, M: Drive>(
 ) -> Result<(), Stop>
     requires lawful { AllByRecursion IsLine lines }
     requires ready { IsReady replay.old }
-    ensures limits { replay.new.limits ≡ replay.old.limits }
+    ensures limits { replay.new.system.limits ≡ replay.old.system.limits }
     ensures drives { HaveGrown M.Drive replay.old.drives replay.new.drives }
-    ensures runs { Runs D.Disk result replay.old.store replay.new.store }
+    ensures runs { Runs D.Disk result replay.old.system.store replay.new.system.store }
     ensures all { OnOk result (IsRunTo M.Drive replay.old lines replay.new) }
     ensures first { HasRunOn M.Drive replay.old.drives (FollowsFirst (SettlesSince replay.old) lines) replay.new }
 {

@@ -12,7 +12,8 @@ ghost use Rattle.script_text.specs.Scripts.{IsScript};
 ghost use Rattle.hsm_policy.specs.Settings.{standard};
 ghost use Rattle.hsm_replay.specs.Drives.{HaveGrown};
 ghost use Rattle.hsm_replay.specs.Faults.{faults_in, AreTrue};
-ghost use Rattle.hsm_replay.specs.Running.{GoesOn, IsAllDurable};
+ghost use Rattle.hsm_system.specs.Events.{GoesOn};
+ghost use Rattle.hsm_replay.specs.Running.{IsAllDurable};
 ghost use Rattle.hsm_cli.specs.Sealing.{TellsOf};
 ghost use Rattle.hsm_cli.specs.Sources.{script_bytes, GivesFirst};
 ghost use Rattle.hsm_cli.specs.Follows.{IsServed, SettlesOn};
@@ -179,19 +180,19 @@ fn run_script<D: Disk, M: Drive, I: Source>(
     source: &mut I,
 ) -> Result<(), Cause>
     requires ready { IsReady replay.old }
-    requires limits { replay.old.limits ≡ standard }
-    ensures goes_on { GoesOn D.Disk replay.old.store replay.new.store }
-    ensures ran { HasRun (SettlesOn (Some replay.old.store.opened)) (TellsOf M.Drive replay.old.drives replay.new.drives) commits (source_told I.left I.fault_count source.old source.new) (cause_in result) replay.new.store.history }
+    requires limits { replay.old.system.limits ≡ standard }
+    ensures goes_on { GoesOn D.Disk replay.old.system.store replay.new.system.store }
+    ensures ran { HasRun (SettlesOn (Some replay.old.system.store.opened)) (TellsOf M.Drive replay.old.drives replay.new.drives) commits (source_told I.left I.fault_count source.old source.new) (cause_in result) replay.new.system.store.history }
     ensures reading { HasRead (source_told I.left I.fault_count source.old source.new) (cause_in result) }
     ensures part { GivesFirst (I.left source.old) (I.left source.new) }
-    ensures ends { IfErr result (λ why. ScriptEnds ⊥ (Rose (D.fault_count replay.old.store.files.disk) (D.fault_count replay.new.store.files.disk)) (source_told I.left I.fault_count source.old source.new) why) }
-    ensures failed { replay.new.store.files.failed ≡ true → IsErrOf result Cause.DiskFault }
-    ensures fault { IsErrOf result Cause.DiskFault → has_fault replay.new.store.history ≡ true }
-    ensures working { OnOk result (replay.new.store.files.failed ≡ false) }
-    ensures durable { commits ≡ true → OnOk result (IsAllDurable replay.new.store) }
+    ensures ends { IfErr result (λ why. ScriptEnds ⊥ (Rose (D.fault_count replay.old.system.store.files.disk) (D.fault_count replay.new.system.store.files.disk)) (source_told I.left I.fault_count source.old source.new) why) }
+    ensures failed { replay.new.system.store.files.failed ≡ true → IsErrOf result Cause.DiskFault }
+    ensures fault { IsErrOf result Cause.DiskFault → has_fault replay.new.system.store.history ≡ true }
+    ensures working { OnOk result (replay.new.system.store.files.failed ≡ false) }
+    ensures durable { commits ≡ true → OnOk result (IsAllDurable replay.new.system.store) }
     ensures untouched { IsBeforeRun (cause_in result) → replay.new ≡ replay.old }
-    ensures media { AreTrue M.Drive replay.new.drives (faults_in replay.new.store.history) }
-    ensures served { IsServed replay.new.store.history }
+    ensures media { AreTrue M.Drive replay.new.drives (faults_in replay.new.system.store.history) }
+    ensures served { IsServed replay.new.system.store.history }
     ensures drives { HaveGrown M.Drive replay.old.drives replay.new.drives }
     ensures quiet { (IsErrOf result Cause.ReadFault → ⊥) → I.fault_count source.new ≡ I.fault_count source.old }
 {

@@ -1,5 +1,5 @@
 -- What starts and ends of daemons keep.
-use Rattle.std.proofs.Common.{◌≡◌, ◌++◌, [], ℕ, Bool, List, Option, Some, None, IfSome, Ok, true, inl, inr, refl, sym, ap, subst, append-nil, ◌∙◌}
+use Rattle.std.proofs.Common.{◌≡◌, ◌⊎◌, ◌++◌, [], ℕ, Bool, List, Option, Some, None, IfSome, Ok, true, inl, inr, refl, sym, ap, subst, append-nil, ◌∙◌}
 use Rattle.std.specs.Option.{option_map, option_or}
 use Rattle.disk_model.specs.declared.device.Disk as disk
 use Rattle.media_model.specs.declared.drive.Drive as drive
@@ -20,17 +20,19 @@ use Rattle.recall_daemon.specs.Known as recall
 use Rattle.recall_daemon.specs.Machine as recaller
 use Rattle.migrate_daemon.specs.Known as migrate
 use Rattle.migrate_daemon.specs.Machine as migrator
-use Rattle.hsm_replay.specs.declared.daemons.Migrating.{Migrating}
-use Rattle.hsm_replay.specs.declared.daemons.Recalling.{Recalling}
+use Rattle.hsm_system.specs.declared.daemons.Migrating.{Migrating}
+use Rattle.hsm_system.specs.declared.daemons.Recalling.{Recalling}
 use Rattle.hsm_replay.specs.Faults.{faults_in}
-use Rattle.hsm_replay.specs.Keeping.{IsShownAs, RecallKnows, MigrateKnows, MigrateLives, LivesIf, LiveOn, Shows, Moves}
+use Rattle.hsm_replay.specs.Keeping.{IsAtStart, IsShownAs, RecallKnows, MigrateKnows, MigrateLives, LivesIf, LiveOn, Shows, Moves}
 use Rattle.marked_history.specs.Marks.{Mark}
 use Rattle.hsm_replay.specs.Passes.{PassStands}
-use Rattle.hsm_replay.specs.Rests.{untold, refreshed}
+use Rattle.deeds.specs.Lives.{untold}
+use Rattle.hsm_system.specs.declared.daemons.Next.TheVariants.{Hears}
+use Rattle.hsm_system.specs.Systems.{migrate_again}
 use Rattle.hsm_replay.specs.Sealed.{HearsLost, HearsStored}
 use Rattle.hsm_replay.specs.Filling.{FindsFull}
 use Rattle.marked_history.specs.Served.{shown, nothing_shown}
-use Rattle.hsm_replay.specs.Systems.{System, started, killed}
+use Rattle.hsm_replay.specs.Systems.{Run, started, killed, refreshed, told_next}
 use Rattle.hsm_replay.proofs.Adding.{adds_none}
 use Rattle.hsm_replay.proofs.Filling.{full_started, full_refreshed}
 use Rattle.hsm_replay.proofs.Growing.{have_grown_itself}
@@ -38,14 +40,15 @@ use Rattle.hsm_replay.proofs.Joining.{Settles, runs_itself}
 use Rattle.hsm_replay.proofs.Living.{live_still, starts_live, kills_live}
 use Rattle.hsm_replay.proofs.MigrateShown.{hears_same}
 use Rattle.hsm_replay.proofs.Passing.{started_stands, refreshed_stands}
+use Rattle.hsm_replay.proofs.Telling.{told_again}
 
 module _ {M : Type 0} (h : drive.Ghosts M) (k : recall.Known) (drives : List M) (faults : List Fault) where
-  recall_starts : (o : Option Recalling) → IfSome o (RecallKnows h k drives faults) → IfSome (option_or o (Some (record { machine = recaller.started; heard = heard.Nothing }))) (RecallKnows h k drives faults)
+  recall_starts : (o : Option Recalling) → IfSome o (RecallKnows h k drives faults) → IfSome (option_or o (Some (record { machine = recaller.started; next = Hears heard.Nothing }))) (RecallKnows h k drives faults)
   recall_starts None knows = record { known = inl ((refl, refl, refl), refl); heard = tt }
   recall_starts (Some r) knows = knows
 
 module _ (k : migrate.Known) where
-  migrate_starts : (limits : Numbers) (o : Option Migrating) → IfSome o (MigrateKnows k) → IfSome (option_or o (Some (record { machine = migrator.started limits; heard = heard.Nothing }))) (MigrateKnows k)
+  migrate_starts : (limits : Numbers) (o : Option Migrating) → IfSome o (MigrateKnows k) → IfSome (option_or o (Some (record { machine = migrator.started limits; next = Hears heard.Nothing }))) (MigrateKnows k)
   migrate_starts limits None knows = inl (refl, refl, refl)
   migrate_starts limits (Some m) knows = knows
 
@@ -93,17 +96,23 @@ module _ (k : migrate.Known) where
   untold_knows limits known asked (heard.Dm (dm_reply.Space used total)) = untold_space limits known asked used total
   untold_knows limits known asked told = record { seat = refl; punched = refl }
 
-  refreshed_known : (m : Migrating) → IsShownAs (migrate.knows_by m.machine.limits m.machine.known m.machine.asked m.heard) k → IsShownAs (migrate.knows_by m.machine.limits (fresh m.machine.known) m.machine.asked (untold m.heard)) k
+  refreshed_known : (m : Migrating) → IsShownAs (migrate.knows_by m.machine.limits m.machine.known m.machine.asked (told_next m.next)) k → IsShownAs (migrate.knows_by m.machine.limits (fresh m.machine.known) m.machine.asked (untold (told_next m.next))) k
   refreshed_known m known =
-      let same = fresh_knows m.machine.limits m.machine.known m.machine.asked (untold m.heard) in
-      let told = untold_knows m.machine.limits m.machine.known m.machine.asked m.heard in
+      let same = fresh_knows m.machine.limits m.machine.known m.machine.asked (untold (told_next m.next)) in
+      let told = untold_knows m.machine.limits m.machine.known m.machine.asked (told_next m.next) in
       record { seat = same.seat ∙ told.seat ∙ known.seat; punched = same.punched ∙ told.punched ∙ known.punched }
 
-  migrate_refreshes : (m : Migrating) → MigrateKnows k m → MigrateKnows k (record m { machine = migrator.freshened m.machine; heard = untold m.heard })
-  migrate_refreshes m (inl start) = inl (start.0, start.1, ap untold start.2)
-  migrate_refreshes m (inr known) = inr (refreshed_known m known)
+  abbrev KnowsAgain : Migrating → Heard → Type 0
+  KnowsAgain m told = IsAtStart m.machine.known.seat m.machine.asked told ⊎ IsShownAs (migrate.knows_by m.machine.limits (fresh m.machine.known) m.machine.asked told) k
 
-  migrate_refreshes_if : (o : Option Migrating) → IfSome o (MigrateKnows k) → IfSome (option_map (λ (m : Migrating). record m { machine = migrator.freshened m.machine; heard = untold m.heard }) o) (MigrateKnows k)
+  knows_again : (m : Migrating) → MigrateKnows k m → KnowsAgain m (untold (told_next m.next))
+  knows_again m (inl start) = inl (start.0, start.1, ap untold start.2)
+  knows_again m (inr known) = inr (refreshed_known m known)
+
+  migrate_refreshes : (m : Migrating) → MigrateKnows k m → MigrateKnows k (migrate_again m)
+  migrate_refreshes m knows = subst (λ (t : Heard). KnowsAgain m t) (sym (told_again m.next)) (knows_again m knows)
+
+  migrate_refreshes_if : (o : Option Migrating) → IfSome o (MigrateKnows k) → IfSome (option_map migrate_again o) (MigrateKnows k)
   migrate_refreshes_if None knows = tt
   migrate_refreshes_if (Some m) knows = migrate_refreshes m knows
 
@@ -112,20 +121,20 @@ heard_untold : (told : Heard) (reply : DmReply) → untold told ≡ heard.Dm rep
 heard_untold (heard.Dm (dm_reply.Space used total)) reply is = let wrong : heard.Nothing ≡ heard.Dm reply = is in absurd (cc wrong)
 heard_untold told reply is = is
 
-lives_refreshed : (marks : List Mark) (k : migrate.Known) (called : Bool) (m : Migrating) → MigrateLives marks k called m → MigrateLives marks k called (record m { machine = migrator.freshened m.machine; heard = untold m.heard })
+lives_refreshed : (marks : List Mark) (k : migrate.Known) (called : Bool) (m : Migrating) → MigrateLives marks k called m → MigrateLives marks k called (migrate_again m)
 lives_refreshed marks k called m lives = record {
-  starts = λ new. let start = lives.starts new in (start.0, start.1, ap untold start.2);
-  knows = λ has. refreshed_known k m (lives.knows has);
-  hears = λ sid call reply by is. lives.hears sid call reply by (heard_untold m.heard reply is);
+  starts = λ new. let start = lives.starts new in (start.0, start.1, told_again m.next ∙ ap untold start.2);
+  knows = λ has. subst (λ (t : Heard). IsShownAs (migrate.knows_by m.machine.limits (fresh k m.machine.known) m.machine.asked t) k) (sym (told_again m.next)) (refreshed_known k m (lives.knows has));
+  hears = λ sid call reply by is. lives.hears sid call reply by (heard_untold (told_next m.next) reply (sym (told_again m.next) ∙ is));
   outside = lives.outside;
 }
 
-lives_refreshed_if : (marks : List Mark) (k : migrate.Known) (called : Bool) (o : Option Migrating) → LivesIf (MigrateLives marks k) called o → LivesIf (MigrateLives marks k) called (option_map (λ (m : Migrating). record m { machine = migrator.freshened m.machine; heard = untold m.heard }) o)
+lives_refreshed_if : (marks : List Mark) (k : migrate.Known) (called : Bool) (o : Option Migrating) → LivesIf (MigrateLives marks k) called o → LivesIf (MigrateLives marks k) called (option_map migrate_again o)
 lives_refreshed_if marks k called None lives = lives
 lives_refreshed_if marks k called (Some m) lives = lives_refreshed marks k called m lives
 
-refresh_live : {D M : Type 0} (s : System D M) (marks : List Mark) → LiveOn s (refreshed s) marks []
-refresh_live s marks = live_still s (refreshed s) marks (λ limits called same live. record { recall = live.recall; migrate = lives_refreshed_if marks (shown limits nothing_shown marks).migrate called.migrate s.migrate live.migrate })
+refresh_live : {D M : Type 0} (s : Run D M) (marks : List Mark) → LiveOn s (refreshed s) marks []
+refresh_live s marks = live_still s (refreshed s) marks (λ limits called same live. record { recall = live.recall; migrate = lives_refreshed_if marks (shown limits nothing_shown marks).migrate called.migrate s.system.migrate live.migrate })
 
 begun : {A : Type 0} (P : A → Type 0) (o : Option A) (x : A) → IfSome o P → P x → IfSome (option_or o (Some x)) P
 begun P None x has is = is
@@ -137,20 +146,20 @@ module _ {D M : Type 0} (g : disk.Ghosts D) (h : drive.Ghosts M) where
   stored_untold drives asked (heard.Dm (dm_reply.Space used total)) stored = tt
   stored_untold drives asked told stored = stored
 
-  stored_refreshes : (drives : List M) (o : Option Migrating) → IfSome o (λ (m : Migrating). HearsStored h drives m.machine.asked m.heard) → IfSome (option_map (λ (m : Migrating). record m { machine = migrator.freshened m.machine; heard = untold m.heard }) o) (λ (m : Migrating). HearsStored h drives m.machine.asked m.heard)
+  stored_refreshes : (drives : List M) (o : Option Migrating) → IfSome o (λ (m : Migrating). HearsStored h drives m.machine.asked (told_next m.next)) → IfSome (option_map migrate_again o) (λ (m : Migrating). HearsStored h drives m.machine.asked (told_next m.next))
   stored_refreshes drives None stored = tt
-  stored_refreshes drives (Some m) stored = stored_untold drives m.machine.asked m.heard stored
+  stored_refreshes drives (Some m) stored = subst (λ (t : Heard). HearsStored h drives m.machine.asked t) (sym (told_again m.next)) (stored_untold drives m.machine.asked (told_next m.next) stored)
 
-  stands_refreshes : (limits : Numbers) (marks : List Mark) (o : Option Migrating) → IfSome o (PassStands limits marks) → IfSome (option_map (λ (m : Migrating). record m { machine = migrator.freshened m.machine; heard = untold m.heard }) o) (PassStands limits marks)
+  stands_refreshes : (limits : Numbers) (marks : List Mark) (o : Option Migrating) → IfSome o (PassStands limits marks) → IfSome (option_map migrate_again o) (PassStands limits marks)
   stands_refreshes limits marks None stands = tt
   stands_refreshes limits marks (Some m) stands = refreshed_stands limits marks m stands
 
-  shows_started : (opened : List M) (marks : List Mark) (daemon : Daemon) (s : System D M) → Shows h opened marks s → Shows h opened marks (started daemon s)
+  shows_started : (opened : List M) (marks : List Mark) (daemon : Daemon) (s : Run D M) → Shows h opened marks s → Shows h opened marks (started daemon s)
   shows_started opened marks Recall s shows = record {
     marked = record { entries = shows.marked.entries; served = shows.marked.served; faults = shows.marked.faults; sealed = shows.marked.sealed; passes = shows.marked.passes };
-    recall = recall_starts h (shown s.limits nothing_shown marks).recall s.drives (faults_in s.store.history) s.recall shows.recall;
+    recall = recall_starts h (shown s.system.limits nothing_shown marks).recall s.drives (faults_in s.system.store.history) s.system.recall shows.recall;
     migrate = shows.migrate;
-    lost = begun (λ (r : Recalling). HearsLost h opened s.drives marks r.machine.asked r.heard) s.recall (record { machine = recaller.started; heard = heard.Nothing }) shows.lost tt;
+    lost = begun (λ (r : Recalling). HearsLost h opened s.drives marks r.machine.asked (told_next r.next)) s.system.recall (record { machine = recaller.started; next = Hears heard.Nothing }) shows.lost tt;
     stored = shows.stored;
     full = shows.full;
     passing = shows.passing;
@@ -158,14 +167,14 @@ module _ {D M : Type 0} (g : disk.Ghosts D) (h : drive.Ghosts M) where
   shows_started opened marks Migrate s shows = record {
     marked = record { entries = shows.marked.entries; served = shows.marked.served; faults = shows.marked.faults; sealed = shows.marked.sealed; passes = shows.marked.passes };
     recall = shows.recall;
-    migrate = migrate_starts (shown s.limits nothing_shown marks).migrate s.limits s.migrate shows.migrate;
+    migrate = migrate_starts (shown s.system.limits nothing_shown marks).migrate s.system.limits s.system.migrate shows.migrate;
     lost = shows.lost;
-    stored = begun (λ (m : Migrating). HearsStored h s.drives m.machine.asked m.heard) s.migrate (record { machine = migrator.started s.limits; heard = heard.Nothing }) shows.stored tt;
-    full = begun (FindsFull h s.drives s.limits) s.migrate (record { machine = migrator.started s.limits; heard = heard.Nothing }) shows.full (full_started h s.drives s.limits);
-    passing = begun (PassStands s.limits marks) s.migrate (record { machine = migrator.started s.limits; heard = heard.Nothing }) shows.passing (started_stands s.limits marks);
+    stored = begun (λ (m : Migrating). HearsStored h s.drives m.machine.asked (told_next m.next)) s.system.migrate (record { machine = migrator.started s.system.limits; next = Hears heard.Nothing }) shows.stored tt;
+    full = begun (FindsFull h s.drives s.system.limits) s.system.migrate (record { machine = migrator.started s.system.limits; next = Hears heard.Nothing }) shows.full (full_started h s.drives s.system.limits);
+    passing = begun (PassStands s.system.limits marks) s.system.migrate (record { machine = migrator.started s.system.limits; next = Hears heard.Nothing }) shows.passing (started_stands s.system.limits marks);
   }
 
-  shows_killed : (opened : List M) (marks : List Mark) (daemon : Daemon) (s : System D M) → Shows h opened marks s → Shows h opened marks (killed daemon s)
+  shows_killed : (opened : List M) (marks : List Mark) (daemon : Daemon) (s : Run D M) → Shows h opened marks s → Shows h opened marks (killed daemon s)
   shows_killed opened marks Recall s shows = record {
     marked = record { entries = shows.marked.entries; served = shows.marked.served; faults = shows.marked.faults; sealed = shows.marked.sealed; passes = shows.marked.passes };
     recall = tt;
@@ -185,15 +194,15 @@ module _ {D M : Type 0} (g : disk.Ghosts D) (h : drive.Ghosts M) where
     passing = tt;
   }
 
-  shows_refreshed : (opened : List M) (marks : List Mark) (s : System D M) → Shows h opened marks s → Shows h opened marks (refreshed s)
+  shows_refreshed : (opened : List M) (marks : List Mark) (s : Run D M) → Shows h opened marks s → Shows h opened marks (refreshed s)
   shows_refreshed opened marks s shows = record {
     marked = record { entries = shows.marked.entries; served = shows.marked.served; faults = shows.marked.faults; sealed = shows.marked.sealed; passes = shows.marked.passes };
     recall = shows.recall;
-    migrate = migrate_refreshes_if (shown s.limits nothing_shown marks).migrate s.migrate shows.migrate;
+    migrate = migrate_refreshes_if (shown s.system.limits nothing_shown marks).migrate s.system.migrate shows.migrate;
     lost = shows.lost;
-    stored = stored_refreshes s.drives s.migrate shows.stored;
-    full = full_refreshed h s.drives s.limits s.migrate shows.full;
-    passing = stands_refreshes s.limits marks s.migrate shows.passing;
+    stored = stored_refreshes s.drives s.system.migrate shows.stored;
+    full = full_refreshed h s.drives s.system.limits s.system.migrate shows.full;
+    passing = stands_refreshes s.system.limits marks s.system.migrate shows.passing;
   }
 
   -- ---- no events
@@ -201,16 +210,16 @@ module _ {D M : Type 0} (g : disk.Ghosts D) (h : drive.Ghosts M) where
   abbrev IsNone : List Mark → Type 0
   IsNone marks = marks ≡ []
 
-  still : (opened : List M) (marks : List Mark) (s : System D M) → Shows h opened marks s → Shows h opened (marks ++ []) s
+  still : (opened : List M) (marks : List Mark) (s : Run D M) → Shows h opened marks s → Shows h opened (marks ++ []) s
   still opened marks s shows = subst (λ (ms : List Mark). Shows h opened ms s) (sym (append-nil marks)) shows
 
-  pub starts_moves : (daemon : Daemon) (s : System D M) → Moves {T = Unit {0}} g h IsNone (Ok tt) s (started daemon s)
-  starts_moves Recall s = record { limits = refl; drives = have_grown_itself h s.drives; runs = runs_itself g h tt s.store; adds = adds_none IsNone s (started Recall s) refl refl; adds_first = tt; keeps = λ opened marks shows. ([], refl, still opened marks (started Recall s) (shows_started opened marks Recall s shows), tt, starts_live Recall s marks); ends = tt }
-  starts_moves Migrate s = record { limits = refl; drives = have_grown_itself h s.drives; runs = runs_itself g h tt s.store; adds = adds_none IsNone s (started Migrate s) refl refl; adds_first = tt; keeps = λ opened marks shows. ([], refl, still opened marks (started Migrate s) (shows_started opened marks Migrate s shows), tt, starts_live Migrate s marks); ends = tt }
+  pub starts_moves : (daemon : Daemon) (s : Run D M) → Moves {T = Unit {0}} g h IsNone (Ok tt) s (started daemon s)
+  starts_moves Recall s = record { limits = refl; drives = have_grown_itself h s.drives; runs = runs_itself g h tt s.system.store; adds = adds_none IsNone s (started Recall s) refl refl; adds_first = tt; keeps = λ opened marks shows. ([], refl, still opened marks (started Recall s) (shows_started opened marks Recall s shows), tt, starts_live Recall s marks); ends = tt }
+  starts_moves Migrate s = record { limits = refl; drives = have_grown_itself h s.drives; runs = runs_itself g h tt s.system.store; adds = adds_none IsNone s (started Migrate s) refl refl; adds_first = tt; keeps = λ opened marks shows. ([], refl, still opened marks (started Migrate s) (shows_started opened marks Migrate s shows), tt, starts_live Migrate s marks); ends = tt }
 
-  pub kills_moves : (daemon : Daemon) (s : System D M) → Moves {T = Unit {0}} g h IsNone (Ok tt) s (killed daemon s)
-  kills_moves Recall s = record { limits = refl; drives = have_grown_itself h s.drives; runs = runs_itself g h tt s.store; adds = adds_none IsNone s (killed Recall s) refl refl; adds_first = tt; keeps = λ opened marks shows. ([], refl, still opened marks (killed Recall s) (shows_killed opened marks Recall s shows), tt, kills_live Recall s marks); ends = tt }
-  kills_moves Migrate s = record { limits = refl; drives = have_grown_itself h s.drives; runs = runs_itself g h tt s.store; adds = adds_none IsNone s (killed Migrate s) refl refl; adds_first = tt; keeps = λ opened marks shows. ([], refl, still opened marks (killed Migrate s) (shows_killed opened marks Migrate s shows), tt, kills_live Migrate s marks); ends = tt }
+  pub kills_moves : (daemon : Daemon) (s : Run D M) → Moves {T = Unit {0}} g h IsNone (Ok tt) s (killed daemon s)
+  kills_moves Recall s = record { limits = refl; drives = have_grown_itself h s.drives; runs = runs_itself g h tt s.system.store; adds = adds_none IsNone s (killed Recall s) refl refl; adds_first = tt; keeps = λ opened marks shows. ([], refl, still opened marks (killed Recall s) (shows_killed opened marks Recall s shows), tt, kills_live Recall s marks); ends = tt }
+  kills_moves Migrate s = record { limits = refl; drives = have_grown_itself h s.drives; runs = runs_itself g h tt s.system.store; adds = adds_none IsNone s (killed Migrate s) refl refl; adds_first = tt; keeps = λ opened marks shows. ([], refl, still opened marks (killed Migrate s) (shows_killed opened marks Migrate s shows), tt, kills_live Migrate s marks); ends = tt }
 
-  pub refresh_moves : (s : System D M) → Moves {T = Unit {0}} g h (Settles g h) (Ok tt) s (refreshed s)
-  refresh_moves s = record { limits = refl; drives = have_grown_itself h s.drives; runs = runs_itself g h tt s.store; adds = adds_none (Settles g h) s (refreshed s) tt refl; adds_first = tt; keeps = λ opened marks shows. ([], tt, still opened marks (refreshed s) (shows_refreshed opened marks s shows), tt, refresh_live s marks); ends = tt }
+  pub refresh_moves : (s : Run D M) → Moves {T = Unit {0}} g h (Settles g h) (Ok tt) s (refreshed s)
+  refresh_moves s = record { limits = refl; drives = have_grown_itself h s.drives; runs = runs_itself g h tt s.system.store; adds = adds_none (Settles g h) s (refreshed s) tt refl; adds_first = tt; keeps = λ opened marks shows. ([], tt, still opened marks (refreshed s) (shows_refreshed opened marks s shows), tt, refresh_live s marks); ends = tt }

@@ -1,88 +1,45 @@
 -- What an event of a line comes to.
-use Rattle.std.proofs.Common.{◌≡◌, ◌≢◌, ◌∙◌, ◌⊎◌, ◌∷◌, ◌++◌, [], ℕ, List, Option, Some, None, IfSome, Result, Ok, Err, OnOk, IfErr, inl, inr, refl}
-use Rattle.std.proofs.Common.{sym, ap, subst}
+use Rattle.std.proofs.Common.{◌≡◌, ◌≢◌, ◌∙◌, ◌⊎◌, ◌∷◌, ◌++◌, [], ℕ, List, Option, Some, None, IfSome, Result, Ok, Err, OnOk, inl, inr, refl, sym, ap}
+use Rattle.std.proofs.Common.{subst}
 use Rattle.disk_model.specs.declared.device.Disk as disk
 use Rattle.media_model.specs.declared.drive.Drive as drive
-use Rattle.hsm_types.specs.declared.calls.CallRefusal.TheVariants as refusal
-use Rattle.hsm_types.specs.declared.calls.Reply.{Reply}
-use Rattle.hsm_types.specs.declared.calls.Reply.TheVariants as calls
 use Rattle.hsm_types.specs.declared.daemons.Daemon.TheVariants.{Recall, Migrate}
-use Rattle.hsm_types.specs.declared.dm.DmCall.{DmCall}
-use Rattle.hsm_types.specs.declared.dm.DmReply.{DmReply}
 use Rattle.hsm_types.specs.declared.dm.DmCall.TheVariants.{Respond}
 use Rattle.hsm_types.specs.declared.dm.Response.TheVariants.{Continue, Abort, Media}
 use Rattle.hsm_types.specs.declared.media.Fault.{Fault}
 use Rattle.plain_model.specs.declared.entries.Action.{Action}
 use Rattle.plain_model.specs.declared.entries.Action.TheVariants.{Issue, Resume, Dm, Commit}
 use Rattle.plain_model.specs.declared.entries.Actor.{Actor}
-use Rattle.plain_model.specs.declared.entries.Actor.TheVariants.{Session}
+use Rattle.plain_model.specs.declared.entries.Actor.TheVariants.{Caller, Session, Store as TheStore}
 use Rattle.plain_model.specs.declared.entries.Answer.{Answer}
-use Rattle.plain_model.specs.declared.entries.Answer.TheVariants.{Call as Replied, Dm as Told}
 use Rattle.plain_model.specs.Faults.{Acts}
-use Rattle.hsm_types.specs.declared.keys.Sid.{Sid}
 use Rattle.script_text.specs.Lines.{IsEvent}
-use Rattle.hsm_core.specs.Answers.{IsAnswer, entry_of}
+use Rattle.script_text.specs.declared.lines.Line.TheVariants.{Event}
+use Rattle.hsm_core.specs.Answers.{entry_of}
 use Rattle.hsm_core.specs.Store.{Store}
-use Rattle.hsm_replay.specs.declared.stops.Stop.{Stop}
-use Rattle.hsm_replay.specs.declared.stops.Stop.TheVariants as stop
-use Rattle.hsm_replay.specs.Acts.{reply_of, call_reply_of, IsServed}
-use Rattle.hsm_replay.specs.Faults.{fault_in, faults_in, AreTrue}
-use Rattle.hsm_replay.specs.Keeping.{RecallKnows, MigrateKnows, IsMarked, Shows, AddsFirst, Moves, LiveUntil}
 use Rattle.marked_history.specs.Marks.{Mark, no_daemons}
 use Rattle.marked_history.specs.Served.{Shown, shown, nothing_shown, NamesNoFault}
-use Rattle.hsm_replay.specs.Passes.{CopyEnds}
-use Rattle.script_text.specs.declared.lines.Line.TheVariants.{Event}
 use Rattle.marked_history.specs.Settling.{AreByRunning}
+use Rattle.deeds.specs.Deeds as deeds
+use Rattle.hsm_system.specs.Events.{Runs, IsDone, actor_of, action_of}
+use Rattle.hsm_system.specs.Systems.{System}
+use Rattle.hsm_system.specs.declared.events.Event.{Event as Made}
+use Rattle.hsm_system.specs.declared.events.Event.TheVariants as made
+use Rattle.hsm_system.specs.declared.stops.Stop.{Stop}
+use Rattle.hsm_system.proofs.Going.{event_kept_or_not}
 use Rattle.hsm_replay.specs.Doing.{Does}
-use Rattle.hsm_replay.specs.Systems.{System, running}
+use Rattle.hsm_replay.specs.Faults.{fault_in, faults_in, AreTrue}
+use Rattle.hsm_replay.specs.Keeping.{RecallKnows, MigrateKnows, IsMarked, Shows, AddsFirst, Moves, LiveUntil}
+use Rattle.hsm_replay.specs.Passes.{CopyEnds}
+use Rattle.hsm_replay.specs.Systems.{Run, running}
+use Rattle.hsm_replay.specs.Turns.{MayResume}
 use Rattle.hsm_replay.proofs.Adding.{adds_none, adds_one}
-use Rattle.hsm_replay.proofs.Going.{event_runs, event_kept, event_kept_or_not, stop_answer}
 use Rattle.hsm_replay.proofs.Growing.{have_grown_itself}
 use Rattle.hsm_replay.proofs.Living.{none_until, no_call_until, event_lives}
-use Rattle.hsm_replay.proofs.Moves.{stop_told}
 use Rattle.hsm_replay.proofs.Marked.{shown_more, marked_more, marked_still, no_fault_more}
 use Rattle.hsm_replay.proofs.PassMarks.{all_passed_by_other}
 use Rattle.hsm_replay.proofs.Passing.{other_stands_if}
 use Rattle.hsm_replay.proofs.Sealing.{tallies_by_other, lost_more_if}
-
--- a caller's, or the store's own
-abbrev pub IsOfCaller : Action → Type 0
-IsOfCaller (Dm asked) = ⊥
-IsOfCaller action = Unit {0}
-
--- ---- answers at which a run is stopped
-
-caller_stop : (why : Stop) (action : Action) → IsOfCaller action → stop_answer why action ≡ Replied (call_reply_of why)
-caller_stop stop.Disk (Issue call) is = refl
-caller_stop stop.Disk Resume is = refl
-caller_stop stop.Disk Commit is = refl
-caller_stop stop.Memory (Issue call) is = refl
-caller_stop stop.Memory Resume is = refl
-caller_stop stop.Memory Commit is = refl
-caller_stop why (Dm asked) is = absurd is
-
-replied_goes : (reply : Reply) (action : Action) → IsOfCaller action → (reply ≢ calls.Refused refusal.Memory) × (reply ≢ calls.Refused refusal.Disk) → (why : Stop) → Replied reply ≢ stop_answer why action
-replied_goes reply action of goes stop.Disk is = let wrong : Replied reply ≡ Replied (calls.Refused refusal.Disk) = is ∙ caller_stop stop.Disk action of in goes.1 (let same : reply ≡ calls.Refused refusal.Disk = cc wrong in same)
-replied_goes reply action of goes stop.Memory is = let wrong : Replied reply ≡ Replied (calls.Refused refusal.Memory) = is ∙ caller_stop stop.Memory action of in goes.0 (let same : reply ≡ calls.Refused refusal.Memory = cc wrong in same)
-
-pub replied_on : (result : Result (Unit {0}) Stop) (reply : Reply) (action : Action) → IsOfCaller action → OnOk result ((reply ≢ calls.Refused refusal.Memory) × (reply ≢ calls.Refused refusal.Disk)) → OnOk result ((why : Stop) → Replied reply ≢ stop_answer why action)
-replied_on (Ok tt) reply action of goes = replied_goes reply action of goes
-replied_on (Err why) reply action of goes = tt
-
-pub replied_off : (result : Result (Unit {0}) Stop) (reply : Reply) (action : Action) → IsOfCaller action → IfErr result (λ why. reply ≡ call_reply_of why) → IfErr result (λ why. Replied reply ≡ stop_answer why action)
-replied_off (Ok tt) reply action of stops = tt
-replied_off (Err why) reply action of stops = ap (λ (r : Reply). Replied r) stops ∙ sym (caller_stop why action of)
-
-told_goes : (reply : DmReply) (asked : DmCall) → IsServed reply → (why : Stop) → Told reply ≢ stop_answer why (Dm asked)
-told_goes reply asked served why is = let wrong : Told reply ≡ Told (reply_of why) = is ∙ sym (stop_told why asked) in served why (let same : reply ≡ reply_of why = cc wrong in same)
-
-pub told_on : (result : Result (Unit {0}) Stop) (reply : DmReply) (asked : DmCall) → OnOk result (IsServed reply) → OnOk result ((why : Stop) → Told reply ≢ stop_answer why (Dm asked))
-told_on (Ok tt) reply asked served = told_goes reply asked served
-told_on (Err why) reply asked served = tt
-
-pub told_off : (result : Result (Unit {0}) Stop) (reply : DmReply) (asked : DmCall) → IfErr result (λ why. reply ≡ reply_of why) → IfErr result (λ why. Told reply ≡ stop_answer why (Dm asked))
-told_off (Ok tt) reply asked stops = tt
-told_off (Err why) reply asked stops = ap (λ (r : DmReply). Told r) stops ∙ stop_told why asked
 
 -- ---- entries
 
@@ -97,26 +54,57 @@ no_fault Resume none = refl
 no_fault Commit none = refl
 
 -- no line of a script names a fault
-pub names_none : (sid : Sid) (asked : DmCall) (seed : Option ℕ) → IsEvent (Session sid) (Dm asked) seed → NamesNoFault (Dm asked)
-names_none sid (Respond t (Media fault)) seed is = absurd is.2.1.0
-names_none sid (Respond t Continue) seed is = tt
-names_none sid (Respond t (Abort error)) seed is = tt
-names_none sid other seed is = tt
+pub names_none : (actor : Actor) (action : Action) (seed : Option ℕ) → IsEvent actor action seed → NamesNoFault action
+names_none (Session sid) (Dm (Respond t (Media fault))) seed is = absurd is.2.1.0
+names_none (Caller caller) (Dm asked) seed is = absurd is
+names_none TheStore (Dm asked) seed is = absurd is
+names_none actor (Dm (Respond t Continue)) seed is = tt
+names_none actor (Dm (Respond t (Abort error))) seed is = tt
+names_none actor (Dm other) seed is = tt
+names_none actor (Issue call) seed is = tt
+names_none actor Resume seed is = tt
+names_none actor Commit seed is = tt
+
+-- so it is said of deeds
+pub no_deed_names : (action : Action) → NamesNoFault action → deeds.NamesNoFault action
+no_deed_names (Dm (Respond t (Media fault))) none = absurd none
+no_deed_names (Dm (Respond t Continue)) none = tt
+no_deed_names (Dm (Respond t (Abort error))) none = tt
+no_deed_names (Dm other) none = tt
+no_deed_names (Issue call) none = tt
+no_deed_names Resume none = tt
+no_deed_names Commit none = tt
+
+-- each is of its actor
+event_acts : (event : Made) → Acts (actor_of event) (action_of event)
+event_acts (made.Issue caller call) = tt
+event_acts (made.Resume caller) = tt
+event_acts (made.Dm sid call) = tt
+event_acts made.Commit = tt
+
+pub acts_by : (event : Made) (actor : Actor) (action : Action) → actor_of event ≡ actor → action_of event ≡ action → Acts actor action
+acts_by event actor action who what = subst (λ (a : Actor). Acts a action) who (subst (λ (x : Action). Acts (actor_of event) x) what (event_acts event))
+
+-- what comes of it is what comes of its action
+pub made_by : {D : Type 0} (g : disk.Ghosts D) (event : Made) (actor : Actor) (action : Action) → actor_of event ≡ actor → action_of event ≡ action → (result : Result (Unit {0}) Stop) (old new : System D)
+    → IsDone g (actor_of event) (action_of event) result old new → IsDone g actor action result old new
+made_by g event actor action who what result old new done =
+    subst (λ (a : Actor). IsDone g a action result old new) who (subst (λ (x : Action). IsDone g (actor_of event) x result old new) what done)
 
 -- the entry of that event, whatever it was answered
 abbrev pub IsEventOf : Actor → Action → List Mark → Type 0
 IsEventOf actor action marks = (answer : Answer) × (marks ≡ no_daemons (entry_of actor action answer) ∷ [])
 
-module _ {D M : Type 0} (g : disk.Ghosts D) (h : drive.Ghosts M) (old : System D M) (store : Store D) (actor : Actor) (action : Action) (given : Answer) (acts : Acts actor action) (none : NamesNoFault action) (answers : IsAnswer g old.store actor action given store) where
-  abbrev pub after : System D M
-  after = record old { store = store }
+module _ {D M : Type 0} (g : disk.Ghosts D) (h : drive.Ghosts M) (old : Run D M) (store : Store D) (actor : Actor) (action : Action) (given : Answer) (none : NamesNoFault action) where
+  abbrev pub after : Run D M
+  after = record old { system = record old.system { store = store } }
 
   abbrev pub mark : Mark
   mark = no_daemons (entry_of actor action given)
 
-  module _ (opened : List M) (marks : List Mark) (shows : Shows h opened marks old) (kept : store.history ≡ old.store.history ++ entry_of actor action given ∷ []) where
-    same_faults : faults_in store.history ≡ faults_in old.store.history
-    same_faults = ap faults_in kept ∙ no_fault_more old.store.history (entry_of actor action given) (no_fault action none)
+  module _ (opened : List M) (marks : List Mark) (shows : Shows h opened marks old) (kept : store.history ≡ old.system.store.history ++ entry_of actor action given ∷ []) where
+    same_faults : faults_in store.history ≡ faults_in old.system.store.history
+    same_faults = ap faults_in kept ∙ no_fault_more old.system.store.history (entry_of actor action given) (no_fault action none)
 
     not_recall : mark.by ≢ Some Recall
     not_recall is = let wrong : None ≡ Some Recall = is in cc wrong
@@ -125,52 +113,65 @@ module _ {D M : Type 0} (g : disk.Ghosts D) (h : drive.Ghosts M) (old : System D
     not_migrate is = let wrong : None ≡ Some Migrate = is in cc wrong
 
     marked : IsMarked h opened (marks ++ mark ∷ []) after
-    marked = marked_more h opened marks mark old after shows.marked refl kept none (subst (λ (fs : List Fault). AreTrue h old.drives fs) (sym same_faults) shows.marked.faults) (tallies_by_other h opened old.drives old.limits marks shows.marked.sealed mark not_recall tt)
-        (all_passed_by_other (CopyEnds h old.drives old.limits) old.limits marks mark shows.marked.passes not_migrate)
+    marked = marked_more h opened marks mark old after shows.marked refl kept none (subst (λ (fs : List Fault). AreTrue h old.drives fs) (sym same_faults) shows.marked.faults) (tallies_by_other h opened old.drives old.system.limits marks shows.marked.sealed mark not_recall tt)
+        (all_passed_by_other (CopyEnds h old.drives old.system.limits) old.system.limits marks mark shows.marked.passes not_migrate)
 
     shows_on : Shows h opened (marks ++ mark ∷ []) after
     shows_on = record {
       marked = marked;
-      recall = subst (λ (fs : List Fault). IfSome old.recall (RecallKnows h (shown old.limits nothing_shown (marks ++ mark ∷ [])).recall old.drives fs)) (sym same_faults)
-          (subst (λ (k : Shown). IfSome old.recall (RecallKnows h k.recall old.drives (faults_in old.store.history))) (sym (shown_more old.limits nothing_shown marks mark)) shows.recall);
-      migrate = subst (λ (k : Shown). IfSome old.migrate (MigrateKnows k.migrate)) (sym (shown_more old.limits nothing_shown marks mark)) shows.migrate;
-      lost = lost_more_if h opened old.drives marks mark old.recall not_recall shows.lost;
+      recall = subst (λ (fs : List Fault). IfSome old.system.recall (RecallKnows h (shown old.system.limits nothing_shown (marks ++ mark ∷ [])).recall old.drives fs)) (sym same_faults)
+          (subst (λ (k : Shown). IfSome old.system.recall (RecallKnows h k.recall old.drives (faults_in old.system.store.history))) (sym (shown_more old.system.limits nothing_shown marks mark)) shows.recall);
+      migrate = subst (λ (k : Shown). IfSome old.system.migrate (MigrateKnows k.migrate)) (sym (shown_more old.system.limits nothing_shown marks mark)) shows.migrate;
+      lost = lost_more_if h opened old.drives marks mark old.system.recall not_recall shows.lost;
       stored = shows.stored;
       full = shows.full;
-      passing = other_stands_if old.limits marks old.migrate mark not_migrate shows.passing;
+      passing = other_stands_if old.system.limits marks old.system.migrate mark not_migrate shows.passing;
     }
 
-  ended : (opened : List M) (marks : List Mark) → Shows h opened marks old → (store.history ≡ old.store.history) ⊎ (store.history ≡ old.store.history ++ entry_of actor action given ∷ []) → (more : List Mark) × (IsEventOf actor action more ⊎ (more ≡ [])) × IsMarked h opened (marks ++ more) after × AreByRunning (running old) more × LiveUntil old marks more
+  ended : (opened : List M) (marks : List Mark) → Shows h opened marks old → (store.history ≡ old.system.store.history) ⊎ (store.history ≡ old.system.store.history ++ entry_of actor action given ∷ []) → (more : List Mark) × (IsEventOf actor action more ⊎ (more ≡ [])) × IsMarked h opened (marks ++ more) after × AreByRunning (running old) more × LiveUntil old marks more
   ended opened marks shows (inl same) = ([], inr refl, marked_still h opened marks old after shows.marked refl same (have_grown_itself h old.drives), tt, none_until old marks)
   ended opened marks shows (inr kept) = (mark ∷ [], inl (given, refl), marked opened marks shows kept, (tt, tt), no_call_until old marks mark refl)
 
-  added : (store.history ≡ old.store.history) ⊎ (store.history ≡ old.store.history ++ entry_of actor action given ∷ []) → AddsFirst (IsEventOf actor action) old after
+  added : (store.history ≡ old.system.store.history) ⊎ (store.history ≡ old.system.store.history ++ entry_of actor action given ∷ []) → AddsFirst (IsEventOf actor action) old after
   added (inl same) = adds_none (λ (more : List Mark). IsEventOf actor action more ⊎ (more ≡ [])) old after (inr refl) same
   added (inr kept) = adds_one (λ (more : List Mark). IsEventOf actor action more ⊎ (more ≡ [])) mark old after (inl (given, refl)) kept tt
 
-  pub event_moves : (result : Result (Unit {0}) Stop) → OnOk result ((why : Stop) → given ≢ stop_answer why action) → IfErr result (λ why. given ≡ stop_answer why action) → Moves g h (IsEventOf actor action) result old after
-  event_moves (Ok tt) ok err = record {
+  moves_by : (result : Result (Unit {0}) Stop) → Runs g result old.system.store store → OnOk result (store.history ≡ old.system.store.history ++ entry_of actor action given ∷ []) → (store.history ≡ old.system.store.history) ⊎ (store.history ≡ old.system.store.history ++ entry_of actor action given ∷ []) → Moves g h (IsEventOf actor action) result old after
+  moves_by (Ok tt) runs kept may = record {
     limits = refl;
     drives = have_grown_itself h old.drives;
-    runs = event_runs g old.store actor action given store acts (Ok tt) answers ok err;
-    adds = adds_one (IsEventOf actor action) mark old after (given, refl) (event_kept g old.store actor action given store acts answers ok) tt;
+    runs = runs;
+    adds = adds_one (IsEventOf actor action) mark old after (given, refl) kept tt;
     adds_first = tt;
-    keeps = λ opened marks shows. (mark ∷ [], (given, refl), shows_on opened marks shows (event_kept g old.store actor action given store acts answers ok), (tt, tt), event_lives old store marks mark refl (λ limits k. refl));
+    keeps = λ opened marks shows. (mark ∷ [], (given, refl), shows_on opened marks shows kept, (tt, tt), event_lives old store marks mark refl (λ limits k. refl));
     ends = tt;
   }
-  event_moves (Err why) ok err = record {
+  moves_by (Err why) runs kept may = record {
     limits = refl;
     drives = have_grown_itself h old.drives;
-    runs = event_runs g old.store actor action given store acts (Err why) answers ok err;
+    runs = runs;
     adds = tt;
-    adds_first = added (event_kept_or_not g old.store actor action given store acts answers);
+    adds_first = added may;
     keeps = tt;
-    ends = λ opened marks shows. ended opened marks shows (event_kept_or_not g old.store actor action given store acts answers);
+    ends = λ opened marks shows. ended opened marks shows may;
   }
 
-  entry_kept : (result : Result (Unit {0}) Stop) → OnOk result ((why : Stop) → given ≢ stop_answer why action) → OnOk result (store.history ≡ old.store.history ++ entry_of actor action given ∷ [])
-  entry_kept (Ok tt) ok = event_kept g old.store actor action given store acts answers ok
-  entry_kept (Err why) ok = tt
+-- ---- an event that was made
 
-  pub event_does : (seed : Option ℕ) (result : Result (Unit {0}) Stop) → OnOk result ((why : Stop) → given ≢ stop_answer why action) → Does g h (Event actor action seed) result old after
-  event_does seed result ok = (given, answers, refl, entry_kept result ok)
+module _ {D M : Type 0} (g : disk.Ghosts D) (h : drive.Ghosts M) (old new : Run D M) (actor : Actor) (action : Action) (result : Result (Unit {0}) Stop) (done : IsDone g actor action result old.system new.system) (rest : new ≡ record old { system = new.system }) where
+  pub event_leaves : new ≡ record old { system = record old.system { store = new.system.store } }
+  event_leaves = rest ∙ ap (λ (s : System D). record old { system = s }) done.rest
+
+  pub event_moves : Acts actor action → NamesNoFault action → Moves g h (IsEventOf actor action) result old new
+  event_moves acts none =
+      let may = event_kept_or_not g old.system.store actor action done.given new.system.store acts done.answer in
+      subst (λ (s : Run D M). Moves g h (IsEventOf actor action) result old s) (sym event_leaves) (moves_by g h old new.system.store actor action done.given none result done.runs done.kept may)
+
+  pub event_does : (seed : Option ℕ) → Does g h (Event actor action seed) result old new
+  event_does seed = (done.given, done.answer, event_leaves, done.kept)
+
+-- a resume of that caller, where the run goes on
+pub resumed_on : {D M : Type 0} (g : disk.Ghosts D) (h : drive.Ghosts M) (old new : Run D M) (caller : ℕ) (result : Result (Unit {0}) Stop) → IsDone g (Caller caller) Resume result old.system new.system → new ≡ record old { system = new.system }
+    → OnOk result (MayResume caller old new)
+resumed_on g h old new caller (Ok tt) done rest = inr (done.given, event_leaves g h old new (Caller caller) Resume (Ok tt) done rest, done.kept)
+resumed_on g h old new caller (Err why) done rest = tt

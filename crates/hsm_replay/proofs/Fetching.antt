@@ -1,4 +1,4 @@
--- What is heard of a fetch, and what a copy or a fetch leaves of the drives.
+-- What is heard of a fetch.
 use Rattle.std.proofs.Common.{◌≡◌, ◌∙◌, ◌∷◌, ◌%◌, [], ℕ, zero, suc, true, List, length, Option, Some, None, IfSome, Result, Ok, Err, refl, sym, ap}
 use Rattle.std.proofs.Common.{subst, length-set, arith}
 use Rattle.std.specs.List.{AllByRecursion}
@@ -13,12 +13,11 @@ use Rattle.hsm_types.specs.declared.media.FetchRefusal.{FetchRefusal}
 use Rattle.hsm_types.specs.declared.media.FetchRefusal.TheVariants as fetching
 use Rattle.hsm_types.specs.declared.stubs.StubEntry.{StubEntry}
 use Rattle.volume_shelf.specs.Shelf.{IsCause, HasPrint}
-use Rattle.hsm_replay.specs.Acts.{FetchesFrom, OnDriveOf}
-use Rattle.hsm_replay.specs.Drives.{HasGrown, HaveGrown}
+use Rattle.hsm_replay.specs.Acts.{FetchesFrom}
+use Rattle.hsm_replay.specs.Drives.{HasGrown}
 use Rattle.hsm_replay.specs.Faults.{IsApart, TellsFault, IsTrue, volume_of}
 use Rattle.hsm_replay.specs.Keeping.{IsHeardOf}
-use Rattle.hsm_replay.specs.Systems.{System, drive_of}
-use Rattle.hsm_replay.proofs.Growing.{reads_grow, still_tells, grown_at, all_ended, all_apart_damage}
+use Rattle.hsm_replay.proofs.Growing.{reads_grow, still_tells, all_ended, all_apart_damage}
 
 pub set_there : {M : Type 0} (n : ℕ) (ds : List M) (d e : M) → slice_get ds n ≡ Some d → slice_get (slice_set ds n e) n ≡ Some e
 set_there n [] d e is = let wrong : None ≡ Some d = is in cc wrong
@@ -59,8 +58,3 @@ module _ {M : Type 0} (g : drive.Ghosts M) (ds : List M) (entry : StubEntry) (d 
   heard_of_fetch faults each (Err (fetching.Media fault)) fetches = heard_of_fault faults each (reads_grow g d e fetches.1) fault fetches.0
   heard_of_fetch faults each (Err (fetching.NoObject volume object)) fetches = tt
   heard_of_fetch faults each (Err fetching.Memory) fetches = tt
-
--- The drives have grown where one was changed so.
-pub on_drive_grown : {D M : Type 0} (g : drive.Ghosts M) (volume : ℕ) (changes : M → M → Type 0) (old new : System D M) → ((d e : M) → changes d e → HasGrown g d e) → OnDriveOf volume changes old new → HaveGrown g old.drives new.drives
-on_drive_grown {D = D} {M = M} g volume changes old new grows on =
-    subst (λ (ds : List M). HaveGrown g old.drives ds) (sym (ap (λ (s : System D M). s.drives) on.4)) (grown_at g (drive_of volume old.drives) old.drives on.0 on.1 on.2 (grows on.0 on.1 on.3))

@@ -25,17 +25,20 @@ use Rattle.hsm_policy.specs.Settings.{Numbers}
 use Rattle.hsm_policy.specs.declared.picking.Picked.{Picked}
 use Rattle.volume_shelf.specs.Shelf.{CopyRefused}
 use Rattle.migrate_daemon.specs.Known.{Known, knows_by}
-use Rattle.migrate_daemon.specs.Machine.{Machine, started, freshened, GoesOn, MayGive, VolumeStays, ComesTo}
+use Rattle.migrate_daemon.specs.Machine.{Machine, started, GoesOn, MayGive, VolumeStays, ComesTo}
 use Rattle.migrate_daemon.specs.Passes.{Pass, begun_pass, IsCopy, IsEnd, IsFull, EndsAt, copies}
-use Rattle.hsm_replay.specs.declared.daemons.Migrating.{Migrating}
+use Rattle.hsm_system.specs.declared.daemons.Migrating.{Migrating}
+use Rattle.hsm_system.specs.declared.daemons.Next.TheVariants.{Hears}
+use Rattle.deeds.specs.Lives.{untold}
+use Rattle.hsm_system.specs.Systems.{migrate_again}
 use Rattle.hsm_replay.specs.Acts.{CopiesTo}
 use Rattle.hsm_replay.specs.Drives.{Extends, HasGrown, HaveGrown}
 use Rattle.hsm_replay.specs.Filling.{IsForVolume, LacksRoom, IsFullVolume, FullBelow, AllFull, HearsFull, EndsCopy, FindsFull}
-use Rattle.hsm_replay.specs.Rests.{untold}
-use Rattle.hsm_replay.specs.Systems.{drive_of}
+use Rattle.hsm_replay.specs.Systems.{drive_of, told_next}
 use Rattle.hsm_replay.proofs.Fetching.{set_there}
 use Rattle.hsm_replay.proofs.Growing.{grown_count, grows_grow}
 use Rattle.hsm_replay.proofs.Sealing.{grown_to}
+use Rattle.hsm_replay.proofs.Telling.{told_again}
 
 -- ---- what is plain
 
@@ -106,7 +109,7 @@ module _ {M : Type 0} (g : drive.Ghosts M) where
     counts = finds.counts;
     below = full_below_grows m.machine.pass.volume ds es grown finds.below;
     asked = finds.asked;
-    heard = hears_grows ds es m.machine.asked m.heard grown finds.heard;
+    heard = hears_grows ds es m.machine.asked (told_next m.next) grown finds.heard;
     ended = λ told is. ends_grows limits ds es told grown (finds.ended told is);
   }
 
@@ -122,7 +125,7 @@ module _ {M : Type 0} (g : drive.Ghosts M) where
   never_ended : (drives : List M) (limits : Numbers) (told : Heard) → None ≡ Some told → EndsCopy g drives limits told
   never_ended drives limits told is = let wrong : None ≡ Some told = is in cc wrong
 
-  pub full_started : (drives : List M) (limits : Numbers) → FindsFull g drives limits (record { machine = started limits; heard = heard.Nothing })
+  pub full_started : (drives : List M) (limits : Numbers) → FindsFull g drives limits (record { machine = started limits; next = Hears heard.Nothing })
   full_started drives limits = record {
     counts = refl;
     below = none_below drives;
@@ -136,13 +139,13 @@ module _ {M : Type 0} (g : drive.Ghosts M) where
   hears_untold drives (Copy volume h segment bytes) told hears = hears
   hears_untold drives asked told hears = tt
 
-  pub full_refreshed : (drives : List M) (limits : Numbers) (o : Option Migrating) → IfSome o (FindsFull g drives limits) → IfSome (option_map (λ (m : Migrating). record m { machine = freshened m.machine; heard = untold m.heard }) o) (FindsFull g drives limits)
+  pub full_refreshed : (drives : List M) (limits : Numbers) (o : Option Migrating) → IfSome o (FindsFull g drives limits) → IfSome (option_map migrate_again o) (FindsFull g drives limits)
   full_refreshed drives limits None finds = tt
   full_refreshed drives limits (Some m) finds = record {
     counts = finds.counts;
     below = finds.below;
     asked = finds.asked;
-    heard = hears_untold drives m.machine.asked m.heard finds.heard;
+    heard = subst (λ (t : Heard). HearsFull g drives m.machine.asked t) (sym (told_again m.next)) (hears_untold drives m.machine.asked (told_next m.next) finds.heard);
     ended = finds.ended;
   }
 
@@ -212,17 +215,17 @@ module _ {M : Type 0} (g : drive.Ghosts M) where
     comes_ended limits old new asked told below on hears ended comes = stays_ended limits old new asked told below on hears ended comes.ended
 
   -- The machine goes on, and its act leaves these drives and is told so.
-  pub full_on : (limits : Numbers) (ds es : List M) (m : Migrating) (machine : Machine) (act : Act) (told : Heard) → HaveGrown g ds es → FindsFull g ds limits m → GoesOn m.machine m.heard act machine → HearsFull g es act told → FindsFull g es limits (record { machine = machine; heard = told })
+  pub full_on : (limits : Numbers) (ds es : List M) (m : Migrating) (machine : Machine) (act : Act) (told : Heard) → HaveGrown g ds es → FindsFull g ds limits m → GoesOn m.machine (told_next m.next) act machine → HearsFull g es act told → FindsFull g es limits (record { machine = machine; next = Hears told })
   full_on limits ds es m machine act told grown finds goes hears =
       let old : Pass = m.machine.pass in
-      let comes : ComesTo limits old m.machine.asked m.heard machine.pass = subst (λ (l : Numbers). ComesTo l old m.machine.asked m.heard machine.pass) finds.counts goes.pass in
-      let given : IsForVolume machine.pass.volume act = gives_for m.machine.limits (knows_by m.machine.limits m.machine.known m.machine.asked m.heard) old machine.pass m.machine.asked m.heard act goes.may in
+      let comes : ComesTo limits old m.machine.asked (told_next m.next) machine.pass = subst (λ (l : Numbers). ComesTo l old m.machine.asked (told_next m.next) machine.pass) finds.counts goes.pass in
+      let given : IsForVolume machine.pass.volume act = gives_for m.machine.limits (knows_by m.machine.limits m.machine.known m.machine.asked (told_next m.next)) old machine.pass m.machine.asked (told_next m.next) act goes.may in
       record {
         counts = goes.limits ∙ finds.counts;
-        below = full_below_grows machine.pass.volume ds es grown (comes_below ds limits old machine.pass m.machine.asked m.heard finds.below finds.asked finds.heard finds.ended comes);
+        below = full_below_grows machine.pass.volume ds es grown (comes_below ds limits old machine.pass m.machine.asked (told_next m.next) finds.below finds.asked finds.heard finds.ended comes);
         asked = subst (λ (a : Act). IsForVolume machine.pass.volume a) (sym goes.asked) given;
         heard = subst (λ (a : Act). HearsFull g es a told) (sym goes.asked) hears;
-        ended = λ last is. ends_grows limits ds es last grown (comes_ended ds limits old machine.pass m.machine.asked m.heard finds.below finds.asked finds.heard finds.ended comes last is);
+        ended = λ last is. ends_grows limits ds es last grown (comes_ended ds limits old machine.pass m.machine.asked (told_next m.next) finds.below finds.asked finds.heard finds.ended comes last is);
       }
 
   -- ---- a copy

@@ -18,11 +18,12 @@ use Rattle.plain_model.specs.declared.entries.Entry.{Entry}
 use Rattle.hsm_core.specs.Answers.{entry_of}
 use Rattle.hsm_policy.specs.Settings.{Numbers}
 use Rattle.migrate_daemon.specs.Known.{Known, hears, asks, knows_by, asks_by}
-use Rattle.migrate_daemon.specs.Machine.{Machine, GoesOn, freshened}
-use Rattle.hsm_replay.specs.declared.daemons.Migrating.{Migrating}
+use Rattle.migrate_daemon.specs.Machine.{Machine, GoesOn}
+use Rattle.hsm_system.specs.declared.daemons.Migrating.{Migrating}
 use Rattle.hsm_replay.specs.Freshness.{IsFresh, IsToldTable, StaysFresh}
-use Rattle.hsm_replay.specs.Rests.{untold, refreshed}
-use Rattle.hsm_replay.specs.Systems.{System}
+use Rattle.hsm_system.specs.Machines.{untold_next}
+use Rattle.hsm_system.specs.Systems.{migrate_again}
+use Rattle.hsm_replay.specs.Systems.{Run, refreshed, told_next}
 use Rattle.hsm_replay.proofs.Coming.{IsNoCall}
 
 -- ---- what is known of it
@@ -58,18 +59,18 @@ freed_knows limits k asked told = refl
 
 -- ---- through steps
 
-module _ (m : Migrating) (machine : Machine) (fresh : (knows_by m.machine.limits m.machine.known m.machine.asked m.heard).fresh ≡ true) where
+module _ (m : Migrating) (machine : Machine) (fresh : (knows_by m.machine.limits m.machine.known m.machine.asked (told_next m.next)).fresh ≡ true) where
   abbrev now : Known
-  now = knows_by m.machine.limits m.machine.known m.machine.asked m.heard
+  now = knows_by m.machine.limits m.machine.known m.machine.asked (told_next m.next)
 
-  knows_then : (act : Act) (told : Heard) → GoesOn m.machine m.heard act machine → knows_by machine.limits (asks_by now act) act told ≡ knows_by machine.limits machine.known machine.asked told
+  knows_then : (act : Act) (told : Heard) → GoesOn m.machine (told_next m.next) act machine → knows_by machine.limits (asks_by now act) act told ≡ knows_by machine.limits machine.known machine.asked told
   knows_then act told goes = ap (λ (a : Act). knows_by machine.limits (asks_by now act) a told) (sym goes.asked) ∙ ap (λ (k : Known). knows_by machine.limits k machine.asked told) (sym goes.known)
 
-  pub fresh_called : (sid : Sid) (call : DmCall) (given : DmReply) → GoesOn m.machine m.heard (Dm sid call) machine
+  pub fresh_called : (sid : Sid) (call : DmCall) (given : DmReply) → GoesOn m.machine (told_next m.next) (Dm sid call) machine
       → ((knows_by machine.limits machine.known machine.asked (heard.Dm given)).fresh ≡ true) ⊎ IsToldTable (entry_of (Session sid) (action.Dm call) (answer.Dm given) ∷ [])
   fresh_called sid call given goes = subst (λ (k : Known). (k.fresh ≡ true) ⊎ IsToldTable (entry_of (Session sid) (action.Dm call) (answer.Dm given) ∷ [])) (knows_then (Dm sid call) (heard.Dm given) goes) (fresh_then machine.limits now sid call given fresh)
 
-  pub fresh_went : (act : Act) (told : Heard) → IsNoCall act → GoesOn m.machine m.heard act machine → (knows_by machine.limits machine.known machine.asked told).fresh ≡ true
+  pub fresh_went : (act : Act) (told : Heard) → IsNoCall act → GoesOn m.machine (told_next m.next) act machine → (knows_by machine.limits machine.known machine.asked told).fresh ≡ true
   fresh_went act told no_call goes = subst (λ (k : Known). k.fresh ≡ true) (knows_then act told goes) (fresh_behind machine.limits now act told no_call fresh)
 
 -- ---- from one system to the next
@@ -80,23 +81,23 @@ told_before first then told = (told.0, told.1, Contains-append_left first then _
 told_after : (first then : List Entry) → IsToldTable then → IsToldTable (first ++ then)
 told_after first then told = (told.0, told.1, Contains-append_right first then _ told.2)
 
-freed_first : (o : Option Migrating) → IfSome (option_map (λ (m : Migrating). record m { machine = freshened m.machine; heard = untold m.heard }) o) (λ (m : Migrating). (knows_by m.machine.limits m.machine.known m.machine.asked m.heard).fresh ≡ true)
+freed_first : (o : Option Migrating) → IfSome (option_map migrate_again o) (λ (m : Migrating). (knows_by m.machine.limits m.machine.known m.machine.asked (told_next m.next)).fresh ≡ true)
 freed_first None = tt
-freed_first (Some m) = freed_knows m.machine.limits m.machine.known m.machine.asked (untold m.heard)
+freed_first (Some m) = freed_knows m.machine.limits m.machine.known m.machine.asked (told_next (untold_next m.next))
 
 module _ {D M : Type 0} where
-  pub fresh_now : (s : System D M) (m : Migrating) → s.migrate ≡ Some m → IsFresh s → (knows_by m.machine.limits m.machine.known m.machine.asked m.heard).fresh ≡ true
-  fresh_now s m runs fresh = subst (λ (o : Option Migrating). IfSome o (λ (x : Migrating). (knows_by x.machine.limits x.machine.known x.machine.asked x.heard).fresh ≡ true)) runs fresh
+  pub fresh_now : (s : Run D M) (m : Migrating) → s.system.migrate ≡ Some m → IsFresh s → (knows_by m.machine.limits m.machine.known m.machine.asked (told_next m.next)).fresh ≡ true
+  fresh_now s m runs fresh = subst (λ (o : Option Migrating). IfSome o (λ (x : Migrating). (knows_by x.machine.limits x.machine.known x.machine.asked (told_next x.next)).fresh ≡ true)) runs fresh
 
   -- migration is as it was
-  pub fresh_alone : (old new : System D M) (entries : List Entry) → new.store.history ≡ old.store.history ++ entries → new.migrate ≡ old.migrate → StaysFresh old new
-  fresh_alone old new entries history same = (entries, history, λ fresh. inl (subst (λ (o : Option Migrating). IfSome o (λ (m : Migrating). (knows_by m.machine.limits m.machine.known m.machine.asked m.heard).fresh ≡ true)) (sym same) fresh))
+  pub fresh_alone : (old new : Run D M) (entries : List Entry) → new.system.store.history ≡ old.system.store.history ++ entries → new.system.migrate ≡ old.system.migrate → StaysFresh old new
+  fresh_alone old new entries history same = (entries, history, λ fresh. inl (subst (λ (o : Option Migrating). IfSome o (λ (m : Migrating). (knows_by m.machine.limits m.machine.known m.machine.asked (told_next m.next)).fresh ≡ true)) (sym same) fresh))
 
-  pub fresh_itself : (s : System D M) → StaysFresh s s
-  fresh_itself s = fresh_alone s s [] (sym (append-nil s.store.history)) refl
+  pub fresh_itself : (s : Run D M) → StaysFresh s s
+  fresh_itself s = fresh_alone s s [] (sym (append-nil s.system.store.history)) refl
 
-  pub fresh_on : (a b c : System D M) → StaysFresh a b → StaysFresh b c → StaysFresh a c
-  fresh_on a b c first then = (first.0 ++ then.0, then.1 ∙ ap (λ (es : List Entry). es ++ then.0) first.1 ∙ append_assoc a.store.history first.0 then.0, λ fresh. on (first.2 fresh))
+  pub fresh_on : (a b c : Run D M) → StaysFresh a b → StaysFresh b c → StaysFresh a c
+  fresh_on a b c first then = (first.0 ++ then.0, then.1 ∙ ap (λ (es : List Entry). es ++ then.0) first.1 ∙ append_assoc a.system.store.history first.0 then.0, λ fresh. on (first.2 fresh))
     where
       further : IsFresh c ⊎ IsToldTable then.0 → IsFresh c ⊎ IsToldTable (first.0 ++ then.0)
       further (inl fresh) = inl fresh
@@ -107,5 +108,5 @@ module _ {D M : Type 0} where
       on (inr told) = inr (told_before first.0 then.0 told)
 
   -- at a settling's beginning
-  pub refreshed_fresh : (s : System D M) → IsFresh (refreshed s)
-  refreshed_fresh s = freed_first s.migrate
+  pub refreshed_fresh : (s : Run D M) → IsFresh (refreshed s)
+  refreshed_fresh s = freed_first s.system.migrate

@@ -44,12 +44,12 @@ use Rattle.daemon_session.specs.declared.events.Kept.{Kept}
 use Rattle.daemon_session.specs.Seats.{Seat, no_seat, found_one, forgot, marked_at, all_marked, seat_hears}
 use Rattle.daemon_session.specs.Tellings.{event_on, own_event, events_in}
 use Rattle.recall_daemon.specs.Known.{Known, Hand, hears, asks, knows_by, IsReason, ArePutOff, MayCall, MayFetch}
-use Rattle.hsm_replay.specs.Asking.{NonePutOff, IsEmptyHanded}
+use Rattle.hsm_system.specs.Asking.{NonePutOff, IsEmptyHanded}
 use Rattle.marked_history.specs.Quiet.{is_quiet, is_quiet_event}
 use Rattle.marked_history.specs.Served.{IsTold}
 use Rattle.hsm_replay.specs.Settled.{IsHeldUp, AreHeldUp}
 use Rattle.hsm_replay.specs.Turns.{Stands, IsEarly, IsKeptBack}
-use Rattle.hsm_replay.proofs.Asked.{none_put_off}
+use Rattle.hsm_system.proofs.Asked.{none_put_off}
 use Rattle.hsm_replay.proofs.Kept.{all_weaker, all_then, all_forgot, told_forgot, told_marked, all_marked_at, has_token, told_unmarked, told_more}
 use Rattle.marked_history.proofs.QuietEvents.{all_quiet_append}
 use Rattle.hsm_replay.proofs.Refusals.{RefusesRight, RefusesResponse, right_refused, response_refused}

@@ -7,17 +7,17 @@ use Rattle.hsm_types.specs.declared.daemons.Daemon.{Daemon}
 use Rattle.plain_model.specs.declared.entries.Action.TheVariants.{Resume}
 use Rattle.plain_model.specs.declared.entries.Actor.TheVariants.{Caller}
 use Rattle.hsm_core.specs.Store.{Store}
-use Rattle.hsm_replay.specs.declared.stops.Stop.{Stop}
+use Rattle.hsm_system.specs.declared.stops.Stop.{Stop}
 use Rattle.marked_history.specs.Follows.{IsMadeBy, IsStepOf, IsOfSettling}
 use Rattle.hsm_replay.specs.Keeping.{IsMarked, Shows, Keeps, Ends, Moves}
 use Rattle.marked_history.specs.Marks.{Mark}
-use Rattle.hsm_replay.specs.Running.{Runs}
+use Rattle.hsm_system.specs.Events.{Runs}
 use Rattle.hsm_types.specs.Callers.{IsCallerNumber}
-use Rattle.hsm_replay.specs.Systems.{System, running}
+use Rattle.hsm_replay.specs.Systems.{Run, running}
 use Rattle.hsm_replay.proofs.Adding.{some_or_none, some_or_not, adds_none, adds_as, adds_first_as, adds_then, adds_first_then}
 use Rattle.hsm_replay.proofs.ByRunning.{by_running_then}
 use Rattle.hsm_replay.proofs.Events.{IsEventOf}
-use Rattle.hsm_replay.proofs.Going.{goes_itself, goes_then, stopped_then}
+use Rattle.hsm_system.proofs.Going.{goes_itself, goes_then, stopped_then}
 use Rattle.hsm_replay.proofs.Growing.{have_grown_itself, have_grown_on}
 use Rattle.hsm_replay.proofs.Kept.{all_weaker, all_then}
 use Rattle.hsm_replay.proofs.Living.{live_itself, live_then, live_until}
@@ -27,16 +27,16 @@ module _ {D M : Type 0} (g : disk.Ghosts D) (h : drive.Ghosts M) where
   abbrev pub Settles : List Mark → Type 0
   Settles marks = AllByRecursion IsOfSettling marks
 
-  pub keeps_itself : {P : Mark → Type 0} (s : System D M) → Keeps h (AllByRecursion P) s s
+  pub keeps_itself : {P : Mark → Type 0} (s : Run D M) → Keeps h (AllByRecursion P) s s
   keeps_itself s opened marks shows = ([], tt, subst (λ (ms : List Mark). Shows h opened ms s) (sym (append-nil marks)) shows, tt, live_itself s marks)
 
-  pub keeps_then : {P : Mark → Type 0} (a b c : System D M) → running b ≡ running a → Keeps h (AllByRecursion P) a b → Keeps h (AllByRecursion P) b c → Keeps h (AllByRecursion P) a c
+  pub keeps_then : {P : Mark → Type 0} (a b c : Run D M) → running b ≡ running a → Keeps h (AllByRecursion P) a b → Keeps h (AllByRecursion P) b c → Keeps h (AllByRecursion P) a c
   keeps_then {P = P} a b c same first then opened marks shows =
       let one = first opened marks shows in
       let two = then opened (marks ++ one.0) one.2 in
       (one.0 ++ two.0, all_then P one.0 two.0 one.1 two.1, subst (λ (ms : List Mark). Shows h opened ms c) (append_assoc marks one.0 two.0) two.2, by_running_then (running a) (running b) one.0 two.0 same one.3 two.3, live_then a b c marks one.0 two.0 same one.4 two.4)
 
-  pub ends_then : {P : Mark → Type 0} (a b c : System D M) → running b ≡ running a → Keeps h (AllByRecursion P) a b → Ends h (AllByRecursion P) b c → Ends h (AllByRecursion P) a c
+  pub ends_then : {P : Mark → Type 0} (a b c : Run D M) → running b ≡ running a → Keeps h (AllByRecursion P) a b → Ends h (AllByRecursion P) b c → Ends h (AllByRecursion P) a c
   ends_then {P = P} a b c same first then opened marks shows =
       let one = first opened marks shows in
       let two = then opened (marks ++ one.0) one.2 in
@@ -53,14 +53,14 @@ module _ {D M : Type 0} (g : disk.Ghosts D) (h : drive.Ghosts M) where
 
   -- ---- moves
 
-  pub moves_itself : {T : Type 0} {P : Mark → Type 0} (x : T) (s : System D M) → Moves g h (AllByRecursion P) (Ok x) s s
-  moves_itself {P = P} x s = record { limits = refl; drives = have_grown_itself h s.drives; runs = runs_itself x s.store; adds = adds_none (AllByRecursion P) s s tt refl; adds_first = tt; keeps = keeps_itself s; ends = tt }
+  pub moves_itself : {T : Type 0} {P : Mark → Type 0} (x : T) (s : Run D M) → Moves g h (AllByRecursion P) (Ok x) s s
+  moves_itself {P = P} x s = record { limits = refl; drives = have_grown_itself h s.drives; runs = runs_itself x s.system.store; adds = adds_none (AllByRecursion P) s s tt refl; adds_first = tt; keeps = keeps_itself s; ends = tt }
 
-  pub moves_then : {S T : Type 0} {P : Mark → Type 0} (x : S) (result : Result T Stop) (a b c : System D M) → running b ≡ running a → Moves g h (AllByRecursion P) (Ok x) a b → Moves g h (AllByRecursion P) result b c → Moves g h (AllByRecursion P) result a c
+  pub moves_then : {S T : Type 0} {P : Mark → Type 0} (x : S) (result : Result T Stop) (a b c : Run D M) → running b ≡ running a → Moves g h (AllByRecursion P) (Ok x) a b → Moves g h (AllByRecursion P) result b c → Moves g h (AllByRecursion P) result a c
   moves_then x (Ok y) a b c same first then = record {
     limits = then.limits ∙ first.limits;
     drives = have_grown_on h a.drives b.drives c.drives first.drives then.drives;
-    runs = runs_then x (Ok y) a.store b.store c.store first.runs then.runs;
+    runs = runs_then x (Ok y) a.system.store b.system.store c.system.store first.runs then.runs;
     adds = adds_then a b c same first.adds then.adds;
     adds_first = tt;
     keeps = keeps_then a b c same first.keeps then.keeps;
@@ -69,7 +69,7 @@ module _ {D M : Type 0} (g : disk.Ghosts D) (h : drive.Ghosts M) where
   moves_then x (Err why) a b c same first then = record {
     limits = then.limits ∙ first.limits;
     drives = have_grown_on h a.drives b.drives c.drives first.drives then.drives;
-    runs = runs_then x (Err why) a.store b.store c.store first.runs then.runs;
+    runs = runs_then x (Err why) a.system.store b.system.store c.system.store first.runs then.runs;
     adds = tt;
     adds_first = adds_first_then a b c same first.adds then.adds_first;
     keeps = tt;
@@ -77,14 +77,14 @@ module _ {D M : Type 0} (g : disk.Ghosts D) (h : drive.Ghosts M) where
   }
 
   -- whatever it answers with
-  pub moves_with : {S T : Type 0} (x : S) (y : T) (a b : System D M) → Moves g h Settles (Ok x) a b → Moves g h Settles (Ok y) a b
+  pub moves_with : {S T : Type 0} (x : S) (y : T) (a b : Run D M) → Moves g h Settles (Ok x) a b → Moves g h Settles (Ok y) a b
   moves_with x y a b moves = record { limits = moves.limits; drives = moves.drives; runs = record { goes_on = moves.runs.goes_on; works = moves.runs.works }; adds = moves.adds; adds_first = tt; keeps = moves.keeps; ends = tt }
 
-  pub stops_with : {S T : Type 0} (why : Stop) (a b : System D M) → Moves {T = S} g h Settles (Err why) a b → Moves {T = T} g h Settles (Err why) a b
+  pub stops_with : {S T : Type 0} (why : Stop) (a b : Run D M) → Moves {T = S} g h Settles (Err why) a b → Moves {T = T} g h Settles (Err why) a b
   stops_with why a b moves = record { limits = moves.limits; drives = moves.drives; runs = record { goes_on = moves.runs.goes_on; works = moves.runs.works }; adds = tt; adds_first = moves.adds_first; keeps = tt; ends = moves.ends }
 
   -- the same entries, of another kind
-  pub moves_as : {T : Type 0} (P Q : List Mark → Type 0) (result : Result T Stop) (a b : System D M) → ((more : List Mark) → P more → Q more) → Moves g h P result a b → Moves g h Q result a b
+  pub moves_as : {T : Type 0} (P Q : List Mark → Type 0) (result : Result T Stop) (a b : Run D M) → ((more : List Mark) → P more → Q more) → Moves g h P result a b → Moves g h Q result a b
   moves_as P Q (Ok x) a b so moves = record { limits = moves.limits; drives = moves.drives; runs = moves.runs; adds = adds_as P Q a b so moves.adds; adds_first = tt; keeps = λ opened marks shows. let one = moves.keeps opened marks shows in (one.0, so one.0 one.1, one.2, one.3, one.4); ends = tt }
   moves_as P Q (Err why) a b so moves = record {
     limits = moves.limits;
@@ -102,13 +102,13 @@ module _ {D M : Type 0} (g : disk.Ghosts D) (h : drive.Ghosts M) where
   step_made daemon more (inl none) = subst (AllByRecursion (IsMadeBy daemon)) (sym none) tt
   step_made daemon more (inr one) = subst (AllByRecursion (IsMadeBy daemon)) (sym one.1) (one.2, tt)
 
-  pub step_is_made : {T : Type 0} (daemon : Daemon) (result : Result T Stop) (a b : System D M) → Moves g h (IsStepOf daemon) result a b → Moves g h (AllByRecursion (IsMadeBy daemon)) result a b
+  pub step_is_made : {T : Type 0} (daemon : Daemon) (result : Result T Stop) (a b : Run D M) → Moves g h (IsStepOf daemon) result a b → Moves g h (AllByRecursion (IsMadeBy daemon)) result a b
   step_is_made daemon result a b = moves_as (IsStepOf daemon) (AllByRecursion (IsMadeBy daemon)) result a b (step_made daemon)
 
   pub made_settles : (daemon : Daemon) (more : List Mark) → AllByRecursion (IsMadeBy daemon) more → Settles more
   made_settles daemon more = all_weaker (IsMadeBy daemon) IsOfSettling more (λ m made. inl (daemon, made))
 
-  pub turn_is_settling : {T : Type 0} (daemon : Daemon) (result : Result T Stop) (a b : System D M) → Moves g h (AllByRecursion (IsMadeBy daemon)) result a b → Moves g h Settles result a b
+  pub turn_is_settling : {T : Type 0} (daemon : Daemon) (result : Result T Stop) (a b : Run D M) → Moves g h (AllByRecursion (IsMadeBy daemon)) result a b → Moves g h Settles result a b
   turn_is_settling daemon result a b = moves_as (AllByRecursion (IsMadeBy daemon)) Settles result a b (made_settles daemon)
 
   -- ---- so is a resume
@@ -116,5 +116,5 @@ module _ {D M : Type 0} (g : disk.Ghosts D) (h : drive.Ghosts M) where
   resume_settles : (caller : ℕ) → IsCallerNumber caller → (more : List Mark) → IsEventOf (Caller caller) Resume more → Settles more
   resume_settles caller is more event = subst Settles (sym event.1) (inr (caller, event.0, is, refl), tt)
 
-  pub resume_is_settling : {T : Type 0} (caller : ℕ) (result : Result T Stop) (a b : System D M) → IsCallerNumber caller → Moves g h (IsEventOf (Caller caller) Resume) result a b → Moves g h Settles result a b
+  pub resume_is_settling : {T : Type 0} (caller : ℕ) (result : Result T Stop) (a b : Run D M) → IsCallerNumber caller → Moves g h (IsEventOf (Caller caller) Resume) result a b → Moves g h Settles result a b
   resume_is_settling caller result a b is = moves_as (IsEventOf (Caller caller) Resume) Settles result a b (resume_settles caller is)

@@ -1,7 +1,10 @@
-mod Calls
+mod Telling
+mod Between
 mod OnDrives
-mod Within
+mod HandedIn
+mod Stepped
 mod Moving
+mod Committing
 pub mod Growing
 mod Fetching
 pub mod Sealing
@@ -9,7 +12,6 @@ pub mod Filling
 pub mod PassMarks
 mod Passing
 mod PassCopies
-pub mod Going
 mod Marked
 mod Coming
 mod RecallShown
@@ -24,7 +26,6 @@ mod Events
 pub mod Joining
 mod Working
 mod Beginning
-mod Asked
 mod Refusals
 mod Kept
 pub mod ByRunning

@@ -9,10 +9,10 @@ use Rattle.daemon_session.specs.Seats.{Seat}
 use Rattle.daemon_session.specs.declared.events.Kept.{Kept}
 use Rattle.hsm_core.specs.Store.{state_of}
 use Rattle.hsm_policy.specs.Settings.{Numbers}
-use Rattle.hsm_replay.specs.declared.daemons.Recalling.{Recalling}
-use Rattle.hsm_replay.specs.declared.daemons.Migrating.{Migrating}
+use Rattle.hsm_system.specs.declared.daemons.Recalling.{Recalling}
+use Rattle.hsm_system.specs.declared.daemons.Migrating.{Migrating}
 use Rattle.hsm_replay.specs.Settled.{IsTurn, NoneDue, RecallRests, MigrateRests, IsTurnOf, IsHeldUp, AreHeldUp}
-use Rattle.hsm_replay.specs.Systems.{System}
+use Rattle.hsm_replay.specs.Systems.{Run}
 use Rattle.hsm_replay.specs.Turns.{IsOver, LeavesHeldUp}
 use Rattle.hsm_replay.proofs.Kept.{all_weaker}
 use Rattle.marked_history.proofs.QuietEvents.{all_quiet_append}
@@ -30,27 +30,27 @@ module _ (first entries : List Entry) where
       (λ k up. record { sid = up.sid; handle = up.handle; holder = up.holder; session = up.session; told = up.told; refused = Contains-append_right first entries _ up.refused; holds = up.holds })
 
   module _ {D M : Type 0} where
-    turn_of_longer : (daemon : Daemon) (s : System D M) → IsTurnOf daemon s entries → IsTurnOf daemon s (first ++ entries)
-    turn_of_longer Recall s is = longer s.recall is
+    turn_of_longer : (daemon : Daemon) (s : Run D M) → IsTurnOf daemon s entries → IsTurnOf daemon s (first ++ entries)
+    turn_of_longer Recall s is = longer s.system.recall is
       where
         longer : (o : Option Recalling) → IfSome o (λ (r : Recalling). RecallRests entries r.machine) → IfSome o (λ (r : Recalling). RecallRests (first ++ entries) r.machine)
         longer None rests = tt
         longer (Some r) rests = record { rests = rests.rests; turn = turn_longer r.machine.known.seat rests.turn }
-    turn_of_longer Migrate s is = longer s.migrate is
+    turn_of_longer Migrate s is = longer s.system.migrate is
       where
-        longer : (o : Option Migrating) → IfSome o (λ (m : Migrating). MigrateRests s.limits entries m.machine) → IfSome o (λ (m : Migrating). MigrateRests s.limits (first ++ entries) m.machine)
+        longer : (o : Option Migrating) → IfSome o (λ (m : Migrating). MigrateRests s.system.limits entries m.machine) → IfSome o (λ (m : Migrating). MigrateRests s.system.limits (first ++ entries) m.machine)
         longer None rests = tt
-        longer (Some m) rests = record { rests = rests.rests; turn = turn_longer m.machine.known.seat rests.turn; none = rests.none; none_due = λ sid seated. due_longer s.limits m.machine.known.fresh (rests.none_due sid seated) }
+        longer (Some m) rests = record { rests = rests.rests; turn = turn_longer m.machine.known.seat rests.turn; none = rests.none; none_due = λ sid seated. due_longer s.system.limits m.machine.known.fresh (rests.none_due sid seated) }
 
-    leaves_longer : (daemon : Daemon) (s : System D M) → LeavesHeldUp daemon entries s → LeavesHeldUp daemon (first ++ entries) s
-    leaves_longer Recall s is = longer s.recall is
+    leaves_longer : (daemon : Daemon) (s : Run D M) → LeavesHeldUp daemon entries s → LeavesHeldUp daemon (first ++ entries) s
+    leaves_longer Recall s is = longer s.system.recall is
       where
-        longer : (o : Option Recalling) → IfSome o (λ (r : Recalling). AreHeldUp entries (state_of s.store).rights r.machine.known.seat) → IfSome o (λ (r : Recalling). AreHeldUp (first ++ entries) (state_of s.store).rights r.machine.known.seat)
+        longer : (o : Option Recalling) → IfSome o (λ (r : Recalling). AreHeldUp entries (state_of s.system.store).rights r.machine.known.seat) → IfSome o (λ (r : Recalling). AreHeldUp (first ++ entries) (state_of s.system.store).rights r.machine.known.seat)
         longer None up = tt
-        longer (Some r) up = held_up_longer (state_of s.store).rights r.machine.known.seat up
+        longer (Some r) up = held_up_longer (state_of s.system.store).rights r.machine.known.seat up
     leaves_longer Migrate s is = tt
 
-    pub over_longer : (daemon : Daemon) (s : System D M) → IsOver daemon entries s → IsOver daemon (first ++ entries) s
+    pub over_longer : (daemon : Daemon) (s : Run D M) → IsOver daemon entries s → IsOver daemon (first ++ entries) s
     over_longer daemon s over = record {
       turn = turn_of_longer daemon s over.turn;
       held_up = λ quiet. leaves_longer daemon s (over.held_up (all_quiet_append first entries quiet).1);

@@ -13,7 +13,7 @@ use Rattle.hsm_types.specs.declared.media.FetchRefusal.TheVariants as fetching
 use Rattle.plain_model.specs.declared.entries.Entry.{Entry}
 use Rattle.hsm_policy.specs.Settings.{Numbers}
 use Rattle.recall_daemon.specs.Known as recall
-use Rattle.hsm_replay.specs.declared.daemons.Recalling.{Recalling}
+use Rattle.hsm_system.specs.declared.daemons.Recalling.{Recalling}
 use Rattle.hsm_replay.specs.Drives.{HaveGrown}
 use Rattle.hsm_replay.specs.Faults.{fault_in, faults_in, IsApart, AreTrue}
 use Rattle.marked_history.specs.Marks.{Mark, entries_of}
@@ -22,7 +22,7 @@ use Rattle.hsm_replay.specs.Passes.{CopyEnds}
 use Rattle.hsm_replay.specs.Sealed.{Tallies}
 use Rattle.marked_history.specs.Served.{Shown, learned, shown, nothing_shown, IsServedBy, ServedFrom, Served}
 use Rattle.hsm_replay.specs.Keeping.{IsHeardOf, RecallKnows, IsMarked}
-use Rattle.hsm_replay.specs.Systems.{System}
+use Rattle.hsm_replay.specs.Systems.{Run, told_next}
 use Rattle.hsm_replay.proofs.Growing.{still_true, are_true, grown_count}
 use Rattle.hsm_replay.proofs.PassCopies.{all_passed_still}
 use Rattle.hsm_replay.proofs.Sealing.{tallies_still}
@@ -61,24 +61,24 @@ fault_more history e fault is = faults_more history e ∙ ap (λ (fs : List Faul
 
 module _ {D M : Type 0} (g : drive.Ghosts M) where
   -- With an entry more it is marked, where that entry is served, its fault is true, what was sealed is on the drives, and each pass is as it should be.
-  pub marked_more : (opened : List M) (marks : List Mark) (m : Mark) (old new : System D M) → IsMarked g opened marks old → new.limits ≡ old.limits → new.store.history ≡ old.store.history ++ m.entry ∷ [] → IsServedBy m.by (shown old.limits nothing_shown marks) m → AreTrue g new.drives (faults_in new.store.history)
-      → Tallies g opened new.drives new.limits (marks ++ m ∷ []) → AllPassed (CopyEnds g new.drives new.limits) new.limits (marks ++ m ∷ []) → IsMarked g opened (marks ++ m ∷ []) new
+  pub marked_more : (opened : List M) (marks : List Mark) (m : Mark) (old new : Run D M) → IsMarked g opened marks old → new.system.limits ≡ old.system.limits → new.system.store.history ≡ old.system.store.history ++ m.entry ∷ [] → IsServedBy m.by (shown old.system.limits nothing_shown marks) m → AreTrue g new.drives (faults_in new.system.store.history)
+      → Tallies g opened new.drives new.system.limits (marks ++ m ∷ []) → AllPassed (CopyEnds g new.drives new.system.limits) new.system.limits (marks ++ m ∷ []) → IsMarked g opened (marks ++ m ∷ []) new
   marked_more opened marks m old new marked limits history served faults sealed passes = record {
     entries = entries_more marks m ∙ ap (λ (es : List Entry). es ++ m.entry ∷ []) marked.entries ∙ sym history;
-    served = subst (λ (l : Numbers). Served l (marks ++ m ∷ [])) (sym limits) (served_more old.limits nothing_shown marks m marked.served served);
+    served = subst (λ (l : Numbers). Served l (marks ++ m ∷ [])) (sym limits) (served_more old.system.limits nothing_shown marks m marked.served served);
     faults = faults;
     sealed = sealed;
     passes = passes;
   }
 
   -- Where no entry came it is marked as before, though drives were used.
-  pub marked_still : (opened : List M) (marks : List Mark) (old new : System D M) → IsMarked g opened marks old → new.limits ≡ old.limits → new.store.history ≡ old.store.history → HaveGrown g old.drives new.drives → IsMarked g opened (marks ++ []) new
+  pub marked_still : (opened : List M) (marks : List Mark) (old new : Run D M) → IsMarked g opened marks old → new.system.limits ≡ old.system.limits → new.system.store.history ≡ old.system.store.history → HaveGrown g old.drives new.drives → IsMarked g opened (marks ++ []) new
   marked_still opened marks old new marked limits history grown = record {
     entries = ap entries_of (append-nil marks) ∙ marked.entries ∙ sym history;
-    served = subst (λ (l : Numbers). Served l (marks ++ [])) (sym limits) (subst (λ (ms : List Mark). Served old.limits ms) (sym (append-nil marks)) marked.served);
-    faults = subst (λ (es : List Entry). AreTrue g new.drives (faults_in es)) (sym history) (are_true g old.drives new.drives (faults_in old.store.history) grown marked.faults);
-    sealed = subst (λ (l : Numbers). Tallies g opened new.drives l (marks ++ [])) (sym limits) (subst (λ (ms : List Mark). Tallies g opened new.drives old.limits ms) (sym (append-nil marks)) (tallies_still g opened old.drives new.drives old.limits marks grown marked.sealed));
-    passes = subst (λ (l : Numbers). AllPassed (CopyEnds g new.drives l) l (marks ++ [])) (sym limits) (subst (λ (ms : List Mark). AllPassed (CopyEnds g new.drives old.limits) old.limits ms) (sym (append-nil marks)) (all_passed_still g old.drives new.drives old.limits marks grown marked.passes));
+    served = subst (λ (l : Numbers). Served l (marks ++ [])) (sym limits) (subst (λ (ms : List Mark). Served old.system.limits ms) (sym (append-nil marks)) marked.served);
+    faults = subst (λ (es : List Entry). AreTrue g new.drives (faults_in es)) (sym history) (are_true g old.drives new.drives (faults_in old.system.store.history) grown marked.faults);
+    sealed = subst (λ (l : Numbers). Tallies g opened new.drives l (marks ++ [])) (sym limits) (subst (λ (ms : List Mark). Tallies g opened new.drives old.system.limits ms) (sym (append-nil marks)) (tallies_still g opened old.drives new.drives old.system.limits marks grown marked.sealed));
+    passes = subst (λ (l : Numbers). AllPassed (CopyEnds g new.drives l) l (marks ++ [])) (sym limits) (subst (λ (ms : List Mark). AllPassed (CopyEnds g new.drives old.system.limits) old.system.limits ms) (sym (append-nil marks)) (all_passed_still g old.drives new.drives old.system.limits marks grown marked.passes));
   }
 
 module _ {M : Type 0} (g : drive.Ghosts M) where
@@ -97,7 +97,7 @@ module _ {M : Type 0} (g : drive.Ghosts M) where
   still_heard old new faults Idle told grown is = tt
 
   still_known : (k : recall.Known) (old new : List M) (faults : List Fault) (r : Recalling) → HaveGrown g old new → RecallKnows g k old faults r → RecallKnows g k new faults r
-  still_known k old new faults r grown knows = record { known = knows.known; heard = still_heard old new faults r.machine.asked r.heard grown knows.heard }
+  still_known k old new faults r grown knows = record { known = knows.known; heard = still_heard old new faults r.machine.asked (told_next r.next) grown knows.heard }
 
   pub still_known_if : (k : recall.Known) (old new : List M) (faults : List Fault) (r : Option Recalling) → HaveGrown g old new → IfSome r (RecallKnows g k old faults) → IfSome r (RecallKnows g k new faults)
   still_known_if k old new faults None grown knows = tt

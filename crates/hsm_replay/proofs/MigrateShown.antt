@@ -22,7 +22,9 @@ use Rattle.daemon_session.specs.Seats.{Seat, no_seat, all_marked, seat_asks, sea
 use Rattle.migrate_daemon.specs.Known.{Known, is_due, asks, hears, asks_by, knows_by}
 use Rattle.migrate_daemon.specs.Machine.{Machine, GoesOn, IsServed, NoneServed, WantsSpace, HasAll, answer_of, MaySeal, MayGive}
 use Rattle.migrate_daemon.specs.Passes.{Pass, IsOver, copies}
-use Rattle.hsm_replay.specs.declared.daemons.Migrating.{Migrating}
+use Rattle.hsm_system.specs.declared.daemons.Migrating.{Migrating}
+use Rattle.hsm_system.specs.declared.daemons.Next.TheVariants.{Hears}
+use Rattle.hsm_replay.specs.Systems.{told_next}
 use Rattle.hsm_replay.specs.Keeping.{IsShownAs, IsAtStart, MigrateKnows}
 use Rattle.hsm_replay.specs.Sealed.{IsStored, HearsStored}
 use Rattle.marked_history.specs.Served.{MayCome, MigrateMay}
@@ -119,28 +121,28 @@ sealed_as g drives volumes sid p entry asked told hears (inr again) = subst (λ 
 -- ---- what the history shows
 
 abbrev now : Migrating → Known
-now m = knows_by m.machine.limits m.machine.known m.machine.asked m.heard
+now m = knows_by m.machine.limits m.machine.known m.machine.asked (told_next m.next)
 
 abbrev Starts : Migrating → Type 0
-Starts m = IsAtStart m.machine.known.seat m.machine.asked m.heard
+Starts m = IsAtStart m.machine.known.seat m.machine.asked (told_next m.next)
 
 module _ (k : Known) (m : Migrating) (machine : Machine) (shows : MigrateKnows k m) where
   no_seat_yet : Starts m → (now m).seat ≡ no_seat
-  no_seat_yet start = ap (λ (x : Known). x.seat) (starts m.machine.limits m.machine.known m.machine.asked m.heard start.1) ∙ start.0
+  no_seat_yet start = ap (λ (x : Known). x.seat) (starts m.machine.limits m.machine.known m.machine.asked (told_next m.next) start.1) ∙ start.0
 
-  begins_only : (sid : Sid) (asked : DmCall) → Starts m → GoesOn m.machine m.heard (Dm sid asked) machine → IsBegin sid asked
-  begins_only sid asked start goes = begins_at_once m.machine.limits (now m) m.machine.pass machine.pass m.machine.asked m.heard sid asked (no_seat_yet start) goes.may
+  begins_only : (sid : Sid) (asked : DmCall) → Starts m → GoesOn m.machine (told_next m.next) (Dm sid asked) machine → IsBegin sid asked
+  begins_only sid asked start goes = begins_at_once m.machine.limits (now m) m.machine.pass machine.pass m.machine.asked (told_next m.next) sid asked (no_seat_yet start) goes.may
 
-  knows_now : (act : Act) (told : Heard) → GoesOn m.machine m.heard act machine → knows_by machine.limits machine.known machine.asked told ≡ knows_by machine.limits (asks_by (now m) act) act told
+  knows_now : (act : Act) (told : Heard) → GoesOn m.machine (told_next m.next) act machine → knows_by machine.limits machine.known machine.asked told ≡ knows_by machine.limits (asks_by (now m) act) act told
   knows_now act told goes = ap₂ (λ (x : Known) (a : Act). knows_by machine.limits x a told) goes.known goes.asked
 
-  pub migrate_may : (sid : Sid) (asked : DmCall) → GoesOn m.machine m.heard (Dm sid asked) machine → MigrateMay k sid asked
+  pub migrate_may : (sid : Sid) (asked : DmCall) → GoesOn m.machine (told_next m.next) (Dm sid asked) machine → MigrateMay k sid asked
   migrate_may sid asked goes = ⊎_elim
       (λ (start : Starts m). let only = begins_only sid asked start goes in subst (λ (c : DmCall). MigrateMay k sid c) (sym only.0) only.1)
-      (λ (same : IsShownAs (now m) k). may_call m.machine.limits (now m) k m.machine.pass machine.pass m.machine.asked m.heard sid asked same goes.may)
+      (λ (same : IsShownAs (now m) k). may_call m.machine.limits (now m) k m.machine.pass machine.pass m.machine.asked (told_next m.next) sid asked same goes.may)
       shows
 
-  pub migrate_told : (limits : Numbers) (sid : Sid) (asked : DmCall) (answer : DmReply) → GoesOn m.machine m.heard (Dm sid asked) machine
+  pub migrate_told : (limits : Numbers) (sid : Sid) (asked : DmCall) (answer : DmReply) → GoesOn m.machine (told_next m.next) (Dm sid asked) machine
       → IsShownAs (knows_by machine.limits machine.known machine.asked (heard.Dm answer)) (hears limits (asks k asked) asked answer)
   migrate_told limits sid asked answer goes =
       let as_asked : IsShownAs (asks (now m) asked) (asks k asked) = ⊎_elim (λ (start : Starts m). begins (now m) k asked (begins_only sid asked start goes).0) (λ (same : IsShownAs (now m) k). asks_same (now m) k asked same) shows in
@@ -148,15 +150,15 @@ module _ (k : Known) (m : Migrating) (machine : Machine) (shows : MigrateKnows k
       (hears_same machine.limits limits (asks (now m) asked) (asks k asked) asked answer as_asked)
 
   -- it seals with what it heard of its copy
-  pub migrate_seals : {M : Type 0} (g : drive.Ghosts M) (drives : List M) → HearsStored g drives m.machine.asked m.heard → (sid : Sid) (t : Token) (h : Handle) (segment : ℕ) (entry : StubEntry) → GoesOn m.machine m.heard (Dm sid (Seal t h segment entry)) machine → IsStored g drives entry
-  migrate_seals g drives hears sid t h segment entry goes = let may = goes.may.2 in sealed_as g drives m.machine.limits.volumes machine.pass.sid goes.may.0 entry m.machine.asked m.heard hears may.2
+  pub migrate_seals : {M : Type 0} (g : drive.Ghosts M) (drives : List M) → HearsStored g drives m.machine.asked (told_next m.next) → (sid : Sid) (t : Token) (h : Handle) (segment : ℕ) (entry : StubEntry) → GoesOn m.machine (told_next m.next) (Dm sid (Seal t h segment entry)) machine → IsStored g drives entry
+  migrate_seals g drives hears sid t h segment entry goes = let may = goes.may.2 in sealed_as g drives m.machine.limits.volumes machine.pass.sid goes.may.0 entry m.machine.asked (told_next m.next) hears may.2
 
   -- it fetches nothing
-  pub migrate_fetches_nothing : (entry : StubEntry) → GoesOn m.machine m.heard (Fetch entry) machine → ⊥
+  pub migrate_fetches_nothing : (entry : StubEntry) → GoesOn m.machine (told_next m.next) (Fetch entry) machine → ⊥
   migrate_fetches_nothing entry goes = goes.may
 
-  pub migrate_rests : (act : Act) (told : Heard) → IsNoCall act → GoesOn m.machine m.heard act machine → MigrateKnows k (record { machine = machine; heard = told })
+  pub migrate_rests : (act : Act) (told : Heard) → IsNoCall act → GoesOn m.machine (told_next m.next) act machine → MigrateKnows k (record { machine = machine; next = Hears told })
   migrate_rests act told no_call goes = ⊎_elim
-      (λ (start : Starts m). absurd (no_rest m.machine.limits (now m) m.machine.pass machine.pass m.machine.asked m.heard act no_call start.1 (no_seat_yet start) goes.may))
+      (λ (start : Starts m). absurd (no_rest m.machine.limits (now m) m.machine.pass machine.pass m.machine.asked (told_next m.next) act no_call start.1 (no_seat_yet start) goes.may))
       (λ (same : IsShownAs (now m) k). inr (subst (λ (x : Known). IsShownAs x k) (sym (knows_now act told goes)) (as_shown (knows_by machine.limits (asks_by (now m) act) act told) (now m) k (rests machine.limits (now m) act told no_call) same)))
       shows

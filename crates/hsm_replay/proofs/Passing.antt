@@ -28,7 +28,7 @@ use Rattle.hsm_policy.specs.Settings.{Numbers}
 use Rattle.hsm_policy.specs.declared.picking.Picked.{Picked}
 use Rattle.daemon_session.specs.Seats.{no_seat}
 use Rattle.migrate_daemon.specs.Known.{Known, knows_by}
-use Rattle.migrate_daemon.specs.Machine.{Machine, started, freshened, IsOfPass, ComesTo, Stays, IsCovered, MaySetRegions, MayRead, MaySeal, MayPunch}
+use Rattle.migrate_daemon.specs.Machine.{Machine, started, IsOfPass, ComesTo, Stays, IsCovered, MaySetRegions, MayRead, MaySeal, MayPunch}
 use Rattle.migrate_daemon.specs.Machine.{IsAt, MayGive, GoesOn as Goes}
 use Rattle.migrate_daemon.specs.Passes.{Exchange, Pass, Passed, begun_pass, IsCallOf, IsSeal, IsCopy, IsSkip, IsEnd, IsDone, EndsAt, IsOver}
 use Rattle.migrate_daemon.specs.Passes.{start_of, whole_file, sets_regions, reads, seals, punches, copies, told_since}
@@ -38,16 +38,20 @@ use Rattle.marked_history.specs.Lives.{IsLast, HasLostSession}
 use Rattle.marked_history.specs.Marks.{Mark, made}
 use Rattle.marked_history.specs.Passing.{AreOfPass, table_told, IsBetween, IsBehindPass, IsDoneIn, IsEndedIn, IsCoveredIn, read_call, read_told}
 use Rattle.marked_history.specs.Passing.{IsReadAtLast, IsRead, IsLastRead, IsSealedIn, IsOfCopy, IsWithinPass, IsPassed, AllPassed}
-use Rattle.hsm_replay.specs.declared.daemons.Migrating.{Migrating}
+use Rattle.hsm_system.specs.declared.daemons.Migrating.{Migrating}
+use Rattle.hsm_system.specs.declared.daemons.Next.TheVariants.{Hears}
+use Rattle.hsm_system.specs.Systems.{migrate_again}
+use Rattle.hsm_replay.specs.Systems.{told_next}
 use Rattle.hsm_replay.specs.Passes.{AreThere, EndsIn, IsPassOf, IsThere, IsReady, IsInPass, HasNotBegun, HearsTable, HearsCopy, IsOpened}
 use Rattle.hsm_replay.specs.Passes.{IsBetweenPasses, PassStands}
-use Rattle.hsm_replay.specs.Rests.{untold}
+use Rattle.deeds.specs.Lives.{untold}
 use Rattle.hsm_replay.proofs.Coming.{IsNoCall, IsBegin}
 use Rattle.hsm_replay.proofs.Growing.{all_and}
 use Rattle.hsm_replay.proofs.Kept.{there}
 use Rattle.hsm_replay.proofs.MigrateShown.{begins_at_once, no_rest, starts}
 use Rattle.hsm_replay.proofs.PassMarks.{IsOther, IsOne, Opens, same_sid, same_call, same_answer, by_migration, of_first, last_of_pass, no_table}
 use Rattle.hsm_replay.proofs.PassMarks.{between_of, refused_now, covered_longer, last_longer, read_longer, all_passed_more, opens_more}
+use Rattle.hsm_replay.proofs.Telling.{told_again}
 
 -- ---- the calls of a pass
 
@@ -505,20 +509,20 @@ table_or_not answer = inr (λ table is. cc)
 
 module _ (limits : Numbers) (marks : List Mark) (m : Migrating) (machine : Machine) (stands : PassStands limits marks m) where
   abbrev k : Known
-  k = knows_by m.machine.limits m.machine.known m.machine.asked m.heard
+  k = knows_by m.machine.limits m.machine.known m.machine.asked (told_next m.next)
 
   no_seat_yet : HasNotBegun m → k.seat ≡ no_seat
-  no_seat_yet start = ap (λ (x : Known). x.seat) (starts m.machine.limits m.machine.known m.machine.asked m.heard start.1) ∙ start.0
+  no_seat_yet start = ap (λ (x : Known). x.seat) (starts m.machine.limits m.machine.known m.machine.asked (told_next m.next) start.1) ∙ start.0
 
-  module _ (act : Act) (goes : Goes m.machine m.heard act machine) where
-    comes : ComesTo limits m.machine.pass m.machine.asked m.heard machine.pass
-    comes = subst (λ (l : Numbers). ComesTo l m.machine.pass m.machine.asked m.heard machine.pass) stands.counts goes.pass
+  module _ (act : Act) (goes : Goes m.machine (told_next m.next) act machine) where
+    comes : ComesTo limits m.machine.pass m.machine.asked (told_next m.next) machine.pass
+    comes = subst (λ (l : Numbers). ComesTo l m.machine.pass m.machine.asked (told_next m.next) machine.pass) stands.counts goes.pass
 
-    may : MayGive limits k m.machine.pass machine.pass m.machine.asked m.heard act
-    may = subst (λ (l : Numbers). MayGive l k m.machine.pass machine.pass m.machine.asked m.heard act) stands.counts goes.may
+    may : MayGive limits k m.machine.pass machine.pass m.machine.asked (told_next m.next) act
+    may = subst (λ (l : Numbers). MayGive l k m.machine.pass machine.pass m.machine.asked (told_next m.next) act) stands.counts goes.may
 
-    passes : (talk : List Exchange) → Passed limits.volumes talk m.machine.pass → Passed limits.volumes (told_since talk m.machine.asked m.heard) machine.pass
-    passes = subst (λ (l : Numbers). (talk : List Exchange) → Passed l.volumes talk m.machine.pass → Passed l.volumes (told_since talk m.machine.asked m.heard) machine.pass) stands.counts goes.passes
+    passes : (talk : List Exchange) → Passed limits.volumes talk m.machine.pass → Passed limits.volumes (told_since talk m.machine.asked (told_next m.next)) machine.pass
+    passes = subst (λ (l : Numbers). (talk : List Exchange) → Passed l.volumes talk m.machine.pass → Passed l.volumes (told_since talk m.machine.asked (told_next m.next)) machine.pass) stands.counts goes.passes
 
     -- it is in the pass of the last table, but for one that was just started
     in_pass : (before : List Mark) (sid : Sid) (table : Table) (during : List Mark) → Opens marks before sid table during → AreOfPass during → (HasNotBegun m → ⊥) → IsPassOf limits sid table during machine.pass
@@ -526,13 +530,13 @@ module _ (limits : Numbers) (marks : List Mark) (m : Migrating) (machine : Machi
       where
         by : HasNotBegun m ⊎ (HearsTable sid table during m ⊎ IsInPass limits sid table during m) → IsPassOf limits sid table during machine.pass
         by (inl start) = absurd (begun start)
-        by (inr (inl table_next)) = begins_by limits sid table during m.machine.pass machine.pass m.machine.asked m.heard comes table_next.0 table_next.1
-        by (inr (inr is)) = goes_by limits sid table during m.machine.pass machine.pass m.machine.asked m.heard comes passes is.pass is.hears is.ready of
+        by (inr (inl table_next)) = begins_by limits sid table during m.machine.pass machine.pass m.machine.asked (told_next m.next) comes table_next.0 table_next.1
+        by (inr (inr is)) = goes_by limits sid table during m.machine.pass machine.pass m.machine.asked (told_next m.next) comes passes is.pass is.hears is.ready of
 
     -- and what it does there is ready
     ready_next : (before : List Mark) (sid : Sid) (table : Table) (during : List Mark) → Opens marks before sid table during → AreOfPass during → (HasNotBegun m → ⊥) → IsReady limits.volumes machine.pass.picks during sid act
     ready_next before sid table during opens of begun = subst (λ (s : Sid). IsReady limits.volumes machine.pass.picks during s act) pass.session
-        (gives_ready limits k m.machine.pass machine.pass during m.machine.asked m.heard (heard_there known) stands.copied (subst (λ (s : Sid). IsReady limits.volumes machine.pass.picks during s m.machine.asked) (sym pass.session) (ready_then known)) act may)
+        (gives_ready limits k m.machine.pass machine.pass during m.machine.asked (told_next m.next) (heard_there known) stands.copied (subst (λ (s : Sid). IsReady limits.volumes machine.pass.picks during s m.machine.asked) (sym pass.session) (ready_then known)) act may)
       where
         pass : IsPassOf limits sid table during machine.pass
         pass = in_pass before sid table during opens of begun
@@ -543,16 +547,16 @@ module _ (limits : Numbers) (marks : List Mark) (m : Migrating) (machine : Machi
         asks_no_table : (s : Sid) (c : DmCall) → IsOfPass (Dm s c) → m.machine.asked ≡ Dm sid GetTable → m.machine.asked ≡ Dm s c → ⊥
         asks_no_table s c is table_asked by = subst IsOfPass (sym by ∙ table_asked) is
 
-        heard_there : HasNotBegun m ⊎ (HearsTable sid table during m ⊎ IsInPass limits sid table during m) → HasHeard m.machine.asked m.heard during
+        heard_there : HasNotBegun m ⊎ (HearsTable sid table during m ⊎ IsInPass limits sid table during m) → HasHeard m.machine.asked (told_next m.next) during
         heard_there (inl start) s c a is by told = absurd (begun start)
         heard_there (inr (inl table_next)) s c a is by told = absurd (asks_no_table s c is table_next.0 by)
         heard_there (inr (inr so)) s c a is by told = so.hears s c a by told
 
-        no_new_table : AreOfPass during → IsThere m.machine.asked m.heard during → (s : Sid) (t : Table) → m.machine.asked ≡ Dm s GetTable → m.heard ≡ heard.Dm (reply.Table t) → ⊥
+        no_new_table : AreOfPass during → IsThere m.machine.asked (told_next m.next) during → (s : Sid) (t : Table) → m.machine.asked ≡ Dm s GetTable → told_next m.next ≡ heard.Dm (reply.Table t) → ⊥
         no_new_table are hears s t by is = no_table during s t are (last_there during s GetTable (reply.Table t) (hears s GetTable (reply.Table t) by is))
 
         same_picks : IsInPass limits sid table during m → machine.pass.picks ≡ m.machine.pass.picks
-        same_picks so = (stays_on limits m.machine.pass m.machine.asked m.heard machine.pass (no_new_table of so.hears) comes).picks
+        same_picks so = (stays_on limits m.machine.pass m.machine.asked (told_next m.next) machine.pass (no_new_table of so.hears) comes).picks
 
         ready_then : HasNotBegun m ⊎ (HearsTable sid table during m ⊎ IsInPass limits sid table during m) → IsReady limits.volumes machine.pass.picks during sid m.machine.asked
         ready_then (inl start) = absurd (begun start)
@@ -564,17 +568,17 @@ module _ (limits : Numbers) (marks : List Mark) (m : Migrating) (machine : Machi
     opened_at p at = by stands.elsewhere
       where
         by : IsBetweenPasses m ⊎ IsOpened marks → IsOpened marks
-        by (inl between) = absurd (over_stays limits.volumes k m.machine.pass m.machine.asked m.heard machine.pass p (stays_on limits m.machine.pass m.machine.asked m.heard machine.pass between.1 comes) between.0 at)
+        by (inl between) = absurd (over_stays limits.volumes k m.machine.pass m.machine.asked (told_next m.next) machine.pass p (stays_on limits m.machine.pass m.machine.asked (told_next m.next) machine.pass between.1 comes) between.0 at)
         by (inr opened) = opened
 
   -- ---- a call
 
-  module _ (sid : Sid) (call : DmCall) (answer : DmReply) (goes : Goes m.machine m.heard (Dm sid call) machine) where
+  module _ (sid : Sid) (call : DmCall) (answer : DmReply) (goes : Goes m.machine (told_next m.next) (Dm sid call) machine) where
     abbrev one : Mark
     one = made Migrate sid call answer
 
     begins_only : HasNotBegun m → IsBegin sid call
-    begins_only start = begins_at_once m.machine.limits k m.machine.pass machine.pass m.machine.asked m.heard sid call (no_seat_yet start) goes.may
+    begins_only start = begins_at_once m.machine.limits k m.machine.pass machine.pass m.machine.asked (told_next m.next) sid call (no_seat_yet start) goes.may
 
     begun_for_pass : IsOfPass (Dm sid call) → HasNotBegun m → ⊥
     begun_for_pass is start = subst (λ (c : DmCall). IsOfPass (Dm sid c)) (begins_only start).0 is
@@ -583,7 +587,7 @@ module _ (limits : Numbers) (marks : List Mark) (m : Migrating) (machine : Machi
     begun_for_more is start = subst IsBetween (begins_only start).0 is
 
     calls_now : IsOfPass (Dm sid call) → CallsAt k machine.pass (Dm sid call)
-    calls_now is = calls_at m.machine.limits k m.machine.pass machine.pass m.machine.asked m.heard sid call is goes.may
+    calls_now is = calls_at m.machine.limits k m.machine.pass machine.pass m.machine.asked (told_next m.next) sid call is goes.may
 
     -- the pass has an entry more
     more_of_pass : (before : List Mark) (s : Sid) (table : Table) (during : List Mark) → Opens marks before s table during → AreOfPass (during ++ one ∷ []) → IsPassOf limits s table (during ++ one ∷ []) machine.pass
@@ -627,7 +631,7 @@ module _ (limits : Numbers) (marks : List Mark) (m : Migrating) (machine : Machi
         behind before s table during opens of by =
             let between : IsBetween call = between_of sid call answer by in
             passed_over C limits s table during machine.pass (in_pass (Dm sid call) goes before s table during opens of (begun_for_more between))
-            (between_over m.machine.limits k m.machine.pass machine.pass m.machine.asked m.heard sid call between goes.may) copies
+            (between_over m.machine.limits k m.machine.pass machine.pass m.machine.asked (told_next m.next) sid call between goes.may) copies
 
         refused : (before : List Mark) (s : Sid) (table : Table) (during : List Mark) → Opens marks before s table during → AreOfPass (during ++ one ∷ []) → HasLostSession Migrate (during ++ one ∷ []) → IsPassed C limits s table (during ++ one ∷ [])
         refused before s table during opens of last =
@@ -636,7 +640,7 @@ module _ (limits : Numbers) (marks : List Mark) (m : Migrating) (machine : Machi
             (subst (λ (a : DmReply). IsLast Migrate sid call a (during ++ one ∷ [])) (refused_now during sid call answer last) (during, [], refl, tt))
 
     abbrev left : Migrating
-    left = record { machine = machine; heard = heard.Dm answer }
+    left = record { machine = machine; next = Hears (heard.Dm answer) }
 
     -- behind it the history goes back to a table, or no pass is under way
     now_elsewhere : IsBetweenPasses left ⊎ IsOpened (marks ++ one ∷ [])
@@ -706,7 +710,7 @@ module _ (limits : Numbers) (marks : List Mark) (m : Migrating) (machine : Machi
 
   -- ---- an act that is no call
 
-  pub went_stands : (act : Act) (told : Heard) → IsNoCall act → HearsCopy act told → Goes m.machine m.heard act machine → PassStands limits marks (record { machine = machine; heard = told })
+  pub went_stands : (act : Act) (told : Heard) → IsNoCall act → HearsCopy act told → Goes m.machine (told_next m.next) act machine → PassStands limits marks (record { machine = machine; next = Hears told })
   went_stands act told no_call copied goes = record {
     counts = goes.limits ∙ stands.counts;
     stands = λ before s table during opens of. inr (inr (record {
@@ -719,15 +723,15 @@ module _ (limits : Numbers) (marks : List Mark) (m : Migrating) (machine : Machi
   }
     where
       begun : HasNotBegun m → ⊥
-      begun start = no_rest m.machine.limits k m.machine.pass machine.pass m.machine.asked m.heard act no_call start.1 (no_seat_yet start) goes.may
+      begun start = no_rest m.machine.limits k m.machine.pass machine.pass m.machine.asked (told_next m.next) act no_call start.1 (no_seat_yet start) goes.may
 
       no_dm : (a : Act) (t : Sid) (c : DmCall) → IsNoCall a → a ≡ Dm t c → ⊥
       no_dm a t c none is = subst IsNoCall is none
 
-      between : (a : Act) → IsNoCall a → a ≡ act → (IsOfPass a → ⊥) → IsBetweenPasses (record { machine = machine; heard = told })
+      between : (a : Act) → IsNoCall a → a ≡ act → (IsOfPass a → ⊥) → IsBetweenPasses (record { machine = machine; next = Hears told })
       between a none same out = (goes.over (λ of. out (subst IsOfPass (sym same) of)), λ s table asks is. no_dm a s GetTable none (same ∙ sym goes.asked ∙ asks))
 
-      elsewhere : (a : Act) → IsNoCall a → Goes m.machine m.heard a machine → a ≡ act → IsBetweenPasses (record { machine = machine; heard = told }) ⊎ IsOpened marks
+      elsewhere : (a : Act) → IsNoCall a → Goes m.machine (told_next m.next) a machine → a ≡ act → IsBetweenPasses (record { machine = machine; next = Hears told }) ⊎ IsOpened marks
       elsewhere (Copy volume h segment bytes) none on same = inr (opened_at (Copy volume h segment bytes) on on.may.0 on.may.1)
       elsewhere (Dm s c) none on same = absurd none
       elsewhere (Fetch entry) none on same = inl (between (Fetch entry) none same (λ of. of))
@@ -770,7 +774,7 @@ other_stands_if limits marks (Some m) x other stands = other_stands limits marks
 
 -- ---- its start, and where a pass by `high` may begin again
 
-pub started_stands : (limits : Numbers) (marks : List Mark) → PassStands limits marks (record { machine = started limits; heard = heard.Nothing })
+pub started_stands : (limits : Numbers) (marks : List Mark) → PassStands limits marks (record { machine = started limits; next = Hears heard.Nothing })
 started_stands limits marks = record { counts = refl; stands = λ before sid table during opens of. inl (refl, refl); elsewhere = inl (inl refl, λ sid table asks is. cc); copied = tt }
 
 told_of : (told : Heard) (answer : DmReply) → untold told ≡ heard.Dm answer → told ≡ heard.Dm answer
@@ -787,22 +791,19 @@ copy_untold : (asked : Act) (told : Heard) → HearsCopy asked told → HearsCop
 copy_untold asked (heard.Dm (reply.Space used total)) copied = no_copy_told asked
 copy_untold asked told copied = copied
 
-abbrev refreshed_one : Migrating → Migrating
-refreshed_one m = record m { machine = freshened m.machine; heard = untold m.heard }
-
-pub refreshed_stands : (limits : Numbers) (marks : List Mark) (m : Migrating) → PassStands limits marks m → PassStands limits marks (refreshed_one m)
+pub refreshed_stands : (limits : Numbers) (marks : List Mark) (m : Migrating) → PassStands limits marks m → PassStands limits marks (migrate_again m)
 refreshed_stands limits marks m stands = record {
   counts = stands.counts;
   stands = λ before sid table during opens of. by sid table during (stands.stands before sid table during opens of);
   elsewhere = elsewhere stands.elsewhere;
-  copied = copy_untold m.machine.asked m.heard stands.copied;
+  copied = subst (λ (t : Heard). HearsCopy m.machine.asked t) (sym (told_again m.next)) (copy_untold m.machine.asked (told_next m.next) stands.copied);
 }
   where
-    elsewhere : IsBetweenPasses m ⊎ IsOpened marks → IsBetweenPasses (refreshed_one m) ⊎ IsOpened marks
-    elsewhere (inl between) = inl (between.0, λ sid table asks is. between.1 sid table asks (told_of m.heard (reply.Table table) is))
+    elsewhere : IsBetweenPasses m ⊎ IsOpened marks → IsBetweenPasses (migrate_again m) ⊎ IsOpened marks
+    elsewhere (inl between) = inl (between.0, λ sid table asks is. between.1 sid table asks (told_of (told_next m.next) (reply.Table table) (sym (told_again m.next) ∙ is)))
     elsewhere (inr opened) = inr opened
 
-    by : (sid : Sid) (table : Table) (during : List Mark) → HasNotBegun m ⊎ (HearsTable sid table during m ⊎ IsInPass limits sid table during m) → HasNotBegun (refreshed_one m) ⊎ (HearsTable sid table during (refreshed_one m) ⊎ IsInPass limits sid table during (refreshed_one m))
+    by : (sid : Sid) (table : Table) (during : List Mark) → HasNotBegun m ⊎ (HearsTable sid table during m ⊎ IsInPass limits sid table during m) → HasNotBegun (migrate_again m) ⊎ (HearsTable sid table during (migrate_again m) ⊎ IsInPass limits sid table during (migrate_again m))
     by sid table during (inl start) = inl start
-    by sid table during (inr (inl table_next)) = inr (inl (table_next.0, ap untold table_next.1, table_next.2))
-    by sid table during (inr (inr is)) = inr (inr (record { pass = is.pass; ready = is.ready; hears = λ s c a by' heard_so. is.hears s c a by' (told_of m.heard a heard_so) }))
+    by sid table during (inr (inl table_next)) = inr (inl (table_next.0, told_again m.next ∙ ap untold table_next.1, table_next.2))
+    by sid table during (inr (inr is)) = inr (inr (record { pass = is.pass; ready = is.ready; hears = λ s c a by' heard_so. is.hears s c a by' (told_of (told_next m.next) a (sym (told_again m.next) ∙ heard_so)) }))

@@ -37,7 +37,8 @@ use Rattle.recall_daemon.specs.Known.{hears, asks_by, knows_by, away_in, back_in
 use Rattle.recall_daemon.specs.Known.{ArePutOff, MayCall, MayGive}
 use Rattle.recall_daemon.specs.Known as recall
 use Rattle.recall_daemon.specs.Machine.{Machine, GoesOn}
-use Rattle.hsm_replay.specs.declared.daemons.Recalling.{Recalling}
+use Rattle.hsm_system.specs.declared.daemons.Recalling.{Recalling}
+use Rattle.hsm_replay.specs.Systems.{told_next}
 use Rattle.hsm_replay.specs.Keeping.{unmarked, IsKnownAs, IsAtStart, IsHeardOf, RecallKnows}
 use Rattle.marked_history.specs.Served.{IsOf, IsReason, MayCome, RecallMay}
 use Rattle.hsm_replay.proofs.Coming.{IsNoCall, IsBegin, may_come, unseated, only_begins}
@@ -335,7 +336,7 @@ as_shown k l shown first second = record { seat = first.seat ∙ second.seat; ha
 -- ---- what the history shows
 
 abbrev now : Recalling → Known
-now r = knows_by r.machine.known r.machine.asked r.heard
+now r = knows_by r.machine.known r.machine.asked (told_next r.next)
 
 -- the access in hand needs a segment by whose entry the fetch found no object
 abbrev pub IsLostBy : Known → Act → Heard → Type 0
@@ -348,23 +349,23 @@ lost_as k shown asked told hand same held (inl lost) =
 lost_as k shown asked told hand same held (inr short) = let wrong : ◌≡◌ {A = ℕ} 2 28 = short.0 in absurd (omega (arith, wrong))
 
 abbrev Starts : Recalling → Type 0
-Starts r = IsAtStart r.machine.known.seat r.machine.asked r.heard × (r.machine.known.hand ≡ None)
+Starts r = IsAtStart r.machine.known.seat r.machine.asked (told_next r.next) × (r.machine.known.hand ≡ None)
 
 module _ {M : Type 0} (g : drive.Ghosts M) (k : Known) (drives : List M) (faults : List Fault) (r : Recalling) (machine : Machine) (shows : RecallKnows g k drives faults r) where
-  begins_only : (sid : Sid) (asked : DmCall) → Starts r → GoesOn r.machine r.heard (Dm sid asked) machine → IsBegin sid asked
+  begins_only : (sid : Sid) (asked : DmCall) → Starts r → GoesOn r.machine (told_next r.next) (Dm sid asked) machine → IsBegin sid asked
   begins_only sid asked start goes =
-      begins_at_once (now r) r.machine.asked r.heard sid asked (ap (λ (x : Known). x.seat) (starts r.machine.known r.machine.asked r.heard start.0.1) ∙ start.0.0) goes.may
+      begins_at_once (now r) r.machine.asked (told_next r.next) sid asked (ap (λ (x : Known). x.seat) (starts r.machine.known r.machine.asked (told_next r.next) start.0.1) ∙ start.0.0) goes.may
 
-  knows_now : (act : Act) (told : Heard) → GoesOn r.machine r.heard act machine → knows_by machine.known machine.asked told ≡ knows_by (asks_by (now r) act) act told
+  knows_now : (act : Act) (told : Heard) → GoesOn r.machine (told_next r.next) act machine → knows_by machine.known machine.asked told ≡ knows_by (asks_by (now r) act) act told
   knows_now act told goes = ap₂ (λ (x : Known) (a : Act). knows_by x a told) goes.known goes.asked
 
-  pub recall_may : (sid : Sid) (asked : DmCall) → GoesOn r.machine r.heard (Dm sid asked) machine → RecallMay k sid asked
+  pub recall_may : (sid : Sid) (asked : DmCall) → GoesOn r.machine (told_next r.next) (Dm sid asked) machine → RecallMay k sid asked
   recall_may sid asked goes = ⊎_elim
       (λ (start : Starts r). let only = begins_only sid asked start goes in subst (λ (c : DmCall). RecallMay k sid c) (sym only.0) only.1)
-      (λ (same : IsKnownAs (now r) k). may_as (now r) k sid asked same (may_call g drives faults r.machine.asked r.heard shows.heard (now r) sid asked goes.may))
+      (λ (same : IsKnownAs (now r) k). may_as (now r) k sid asked same (may_call g drives faults r.machine.asked (told_next r.next) shows.heard (now r) sid asked goes.may))
       shows.known
 
-  pub recall_told : (sid : Sid) (asked : DmCall) (answer : DmReply) → GoesOn r.machine r.heard (Dm sid asked) machine
+  pub recall_told : (sid : Sid) (asked : DmCall) (answer : DmReply) → GoesOn r.machine (told_next r.next) (Dm sid asked) machine
       → IsKnownAs (knows_by machine.known machine.asked (heard.Dm answer)) (hears (asks k asked) asked answer)
   recall_told sid asked answer goes = subst (λ (x : Known). IsKnownAs x (hears (asks k asked) asked answer)) (sym (knows_now (Dm sid asked) (heard.Dm answer) goes)) (⊎_elim
       (λ (start : Starts r). begins (now r) k asked answer (begins_only sid asked start goes).0)
@@ -372,19 +373,19 @@ module _ {M : Type 0} (g : drive.Ghosts M) (k : Known) (drives : List M) (faults
       shows.known)
 
   -- it answers that there is no such object after a fetch by the entry of a needed segment
-  pub recall_lost : (sid : Sid) (t : Token) → GoesOn r.machine r.heard (Dm sid (Respond t (Abort 2))) machine → IsLostBy k r.machine.asked r.heard
+  pub recall_lost : (sid : Sid) (t : Token) → GoesOn r.machine (told_next r.next) (Dm sid (Respond t (Abort 2))) machine → IsLostBy k r.machine.asked (told_next r.next)
   recall_lost sid t goes = ⊎_elim
       (λ (start : Starts r). let only : Respond t (Abort 2) ≡ GetAllSessions = (begins_only sid (Respond t (Abort 2)) start goes).0 in cc only)
-      (λ (same : IsKnownAs (now r) k). let may = goes.may.1 in lost_as (now r) k r.machine.asked r.heard may.0 same may.1 may.3)
+      (λ (same : IsKnownAs (now r) k). let may = goes.may.1 in lost_as (now r) k r.machine.asked (told_next r.next) may.0 same may.1 may.3)
       shows.known
 
   -- it copies nothing
-  pub recall_copies_nothing : (volume : ℕ) (handle : Handle) (segment : ℕ) (bytes : List ℕ) → GoesOn r.machine r.heard (Copy volume handle segment bytes) machine → ⊥
+  pub recall_copies_nothing : (volume : ℕ) (handle : Handle) (segment : ℕ) (bytes : List ℕ) → GoesOn r.machine (told_next r.next) (Copy volume handle segment bytes) machine → ⊥
   recall_copies_nothing volume handle segment bytes goes = goes.may
 
-  pub recall_rests : (act : Act) (told : Heard) → IsNoCall act → GoesOn r.machine r.heard act machine
+  pub recall_rests : (act : Act) (told : Heard) → IsNoCall act → GoesOn r.machine (told_next r.next) act machine
       → (IsAtStart machine.known.seat machine.asked told × (machine.known.hand ≡ None)) ⊎ IsKnownAs (knows_by machine.known machine.asked told) k
   recall_rests act told no_call goes = ⊎_elim
-      (λ (start : Starts r). absurd (no_rest (now r) r.machine.asked r.heard act no_call start.0.1 (ap (λ (x : Known). x.hand) (starts r.machine.known r.machine.asked r.heard start.0.1) ∙ start.1) goes.may))
+      (λ (start : Starts r). absurd (no_rest (now r) r.machine.asked (told_next r.next) act no_call start.0.1 (ap (λ (x : Known). x.hand) (starts r.machine.known r.machine.asked (told_next r.next) start.0.1) ∙ start.1) goes.may))
       (λ (same : IsKnownAs (now r) k). inr (subst (λ (x : Known). IsKnownAs x k) (sym (knows_now act told goes)) (as_shown (knows_by (asks_by (now r) act) act told) (now r) k (rests (now r) act told no_call) same)))
       shows.known

@@ -29,7 +29,7 @@ use Rattle.plain_model.specs.State.{State}
 use Rattle.file_store.specs.Stores.{superblock_of}
 use Rattle.hsm_core.specs.Answers.{IsTold}
 use Rattle.hsm_core.specs.Store.{Store, state_of}
-use Rattle.hsm_replay.specs.Acts.{AddsCall}
+use Rattle.hsm_system.specs.Acts.{AddsCall}
 
 -- ---- the store's own answer
 

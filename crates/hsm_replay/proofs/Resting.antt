@@ -40,9 +40,9 @@ use Rattle.recall_daemon.specs.Known as recall
 use Rattle.migrate_daemon.specs.Known as migrate
 use Rattle.migrate_daemon.specs.declared.shares.Space.{Space}
 use Rattle.migrate_daemon.specs.Shares.{is_above}
-use Rattle.hsm_replay.specs.declared.daemons.Recalling.{Recalling}
-use Rattle.hsm_replay.specs.declared.daemons.Migrating.{Migrating}
-use Rattle.hsm_replay.specs.declared.stops.Stop.{Stop}
+use Rattle.hsm_system.specs.declared.daemons.Recalling.{Recalling}
+use Rattle.hsm_system.specs.declared.daemons.Migrating.{Migrating}
+use Rattle.hsm_system.specs.declared.stops.Stop.{Stop}
 use Rattle.marked_history.specs.Follows.{IsMadeBy, IsOfSettling, IsPartOf}
 use Rattle.script_text.specs.declared.lines.Line.TheVariants.{Settle}
 use Rattle.hsm_replay.specs.Faults.{faults_in}
@@ -50,11 +50,11 @@ use Rattle.hsm_replay.specs.Freshness.{IsFresh, IsToldTable, StaysFresh}
 use Rattle.hsm_replay.specs.Keeping.{unmarked, IsAtStart, IsKnownAs, IsShownAs, RecallKnows, MigrateKnows, Shows, Keeps, LiveOn}
 use Rattle.marked_history.specs.Marks.{Mark, entries_of}
 use Rattle.hsm_replay.specs.Resting.{EndsInTurns, first_of, IsSettledIn, IsLeftBy, LeadsTo, EndsMarked, LeadsOn}
-use Rattle.hsm_replay.specs.Rests.{refreshed}
+use Rattle.hsm_replay.specs.Systems.{refreshed, told_next}
 use Rattle.marked_history.specs.Served.{Shown, nothing_shown, learned, shown, IsTold}
 use Rattle.hsm_replay.specs.Settled as settled
 use Rattle.marked_history.specs.Settling.{IsAtWork, IsTurnedAway, BeginsPass, IsCrowded}
-use Rattle.hsm_replay.specs.Systems.{System, running}
+use Rattle.hsm_replay.specs.Systems.{Run, running}
 use Rattle.marked_history.specs.Waiting.{runs, no_more, unserved, PutsOff, RecallRests, MigrateRests, IsAtRest, AllMayWait}
 use Rattle.hsm_replay.proofs.Begun.{begins_pass}
 use Rattle.hsm_replay.proofs.ByRunning.{by_running_then}
@@ -121,9 +121,9 @@ module _ {M : Type 0} (g : drive.Ghosts M) (entries : List Entry) (rights : Righ
     abbrev seat : Seat
     seat = r.machine.known.seat
 
-    same_seat : (sid : Sid) → IsSeated seat sid → (IsAtStart seat r.machine.asked r.heard × (r.machine.known.hand ≡ None)) ⊎ IsKnownAs (recall.knows_by r.machine.known r.machine.asked r.heard) k → unmarked seat ≡ unmarked k.seat
+    same_seat : (sid : Sid) → IsSeated seat sid → (IsAtStart seat r.machine.asked (told_next r.next) × (r.machine.known.hand ≡ None)) ⊎ IsKnownAs (recall.knows_by r.machine.known r.machine.asked (told_next r.next)) k → unmarked seat ≡ unmarked k.seat
     same_seat sid seated (inl start) = absurd (no_session seat sid start.0.0 seated)
-    same_seat sid seated (inr same) = subst (λ (a : Act). unmarked (recall.knows_by r.machine.known a r.heard).seat ≡ unmarked k.seat) rests.rests same.seat
+    same_seat sid seated (inr same) = subst (λ (a : Act). unmarked (recall.knows_by r.machine.known a (told_next r.next)).seat ≡ unmarked k.seat) rests.rests same.seat
 
     module _ (sid : Sid) (seated : IsSeated seat sid) (same : unmarked seat ≡ unmarked k.seat) where
       same_kept : all_marked false seat.kept ≡ all_marked false k.seat.kept
@@ -178,9 +178,9 @@ module _ (limits : Numbers) (entries : List Entry) (k : migrate.Known) where
     abbrev own_seat : Seat
     own_seat = m.machine.known.seat
 
-    migrate_seat : (sid : Sid) → IsSeated own_seat sid → IsAtStart own_seat m.machine.asked m.heard ⊎ IsShownAs (migrate.knows_by m.machine.limits m.machine.known m.machine.asked m.heard) k → own_seat ≡ k.seat
+    migrate_seat : (sid : Sid) → IsSeated own_seat sid → IsAtStart own_seat m.machine.asked (told_next m.next) ⊎ IsShownAs (migrate.knows_by m.machine.limits m.machine.known m.machine.asked (told_next m.next)) k → own_seat ≡ k.seat
     migrate_seat sid seated (inl start) = absurd (no_session own_seat sid start.0 seated)
-    migrate_seat sid seated (inr same) = subst (λ (a : Act). (migrate.knows_by m.machine.limits m.machine.known a m.heard).seat ≡ k.seat) rests.rests same.seat
+    migrate_seat sid seated (inr same) = subst (λ (a : Act). (migrate.knows_by m.machine.limits m.machine.known a (told_next m.next)).seat ≡ k.seat) rests.rests same.seat
 
     migrate_by : EndsSo own_seat rests.turn.1 → EndsRefused entries ⊎ MigrateRests k.seat entries
     migrate_by (inl more) =
@@ -196,12 +196,12 @@ module _ (limits : Numbers) (entries : List Entry) (k : migrate.Known) where
 
     -- no pass was due, as one has begun or there was enough space
     module _ (Began : Type 0) where
-      spares_now : ((migrate.knows_by m.machine.limits m.machine.known m.machine.asked m.heard).fresh ≡ true) ⊎ Began → settled.NoneDue limits entries m.machine.known.fresh → Began ⊎ HadSpace limits entries
+      spares_now : ((migrate.knows_by m.machine.limits m.machine.known m.machine.asked (told_next m.next)).fresh ≡ true) ⊎ Began → settled.NoneDue limits entries m.machine.known.fresh → Began ⊎ HadSpace limits entries
       spares_now (inr began) none = inl began
       spares_now (inl fresh) (inr space) = inr space
-      spares_now (inl fresh) (inl spent) = absurd (false≢true (sym spent ∙ subst (λ (a : Act). (migrate.knows_by m.machine.limits m.machine.known a m.heard).fresh ≡ true) rests.rests fresh))
+      spares_now (inl fresh) (inl spent) = absurd (false≢true (sym spent ∙ subst (λ (a : Act). (migrate.knows_by m.machine.limits m.machine.known a (told_next m.next)).fresh ≡ true) rests.rests fresh))
 
-      spares_by : ((migrate.knows_by m.machine.limits m.machine.known m.machine.asked m.heard).fresh ≡ true) ⊎ Began → EndsSo own_seat rests.turn.1 → EndsRefused entries ⊎ ((sid : Sid) → IsSeated k.seat sid → Began ⊎ HadSpace limits entries)
+      spares_by : ((migrate.knows_by m.machine.limits m.machine.known m.machine.asked (told_next m.next)).fresh ≡ true) ⊎ Began → EndsSo own_seat rests.turn.1 → EndsRefused entries ⊎ ((sid : Sid) → IsSeated k.seat sid → Began ⊎ HadSpace limits entries)
       spares_by fresh (inl more) = inr (λ sid seated. spares_now fresh (rests.none_due sid (subst (λ (s : Seat). IsSeated s sid) (sym (migrate_seat more.0 more.2 knows)) seated)))
       spares_by fresh (inr one) = inl (rests.turn.0, rests.turn.1, rests.turn.2, one)
 
@@ -210,7 +210,7 @@ module _ (limits : Numbers) (entries : List Entry) (k : migrate.Known) where
   migrate_ends (Some m) rests knows runs = migrate_by m rests knows (ends_so m.machine.known.seat rests.turn.1.actor rests.turn.1.action rests.turn.1.answer rests.turn.3)
 
   migrate_spares : (Began : Type 0) (o : Option Migrating) → IfSome o (λ (m : Migrating). settled.MigrateRests limits entries m.machine) → IfSome o (MigrateKnows k) → is_some o ≡ true
-      → IfSome o (λ (m : Migrating). (migrate.knows_by m.machine.limits m.machine.known m.machine.asked m.heard).fresh ≡ true) ⊎ Began → EndsRefused entries ⊎ ((sid : Sid) → IsSeated k.seat sid → Began ⊎ HadSpace limits entries)
+      → IfSome o (λ (m : Migrating). (migrate.knows_by m.machine.limits m.machine.known m.machine.asked (told_next m.next)).fresh ≡ true) ⊎ Began → EndsRefused entries ⊎ ((sid : Sid) → IsSeated k.seat sid → Began ⊎ HadSpace limits entries)
   migrate_spares Began None rests knows runs fresh = absurd (false≢true runs)
   migrate_spares Began (Some m) rests knows runs fresh = spares_by m rests knows Began fresh (ends_so m.machine.known.seat rests.turn.1.actor rests.turn.1.action rests.turn.1.answer rests.turn.3)
 
@@ -233,35 +233,35 @@ ends_later before part recall_turn migrate_turn ends = record {
   migrated = ends.migrated;
 }
 
-module _ {D M : Type 0} (h : drive.Ghosts M) (opened : List M) (marks : List Mark) (s : System D M) (shows : Shows h opened marks s) (from : List Entry) (turns : settled.EndsQuietly from s) (ends : EndsInTurns marks turns.recall_turn turns.migrate_turn) where
+module _ {D M : Type 0} (h : drive.Ghosts M) (opened : List M) (marks : List Mark) (s : Run D M) (shows : Shows h opened marks s) (from : List Entry) (turns : settled.EndsQuietly from s) (ends : EndsInTurns marks turns.recall_turn turns.migrate_turn) where
   abbrev k : Shown
-  k = shown s.limits nothing_shown marks
+  k = shown s.system.limits nothing_shown marks
 
   abbrev first : Shown
-  first = shown s.limits nothing_shown ends.before
+  first = shown s.system.limits nothing_shown ends.before
 
   abbrev then : Shown
-  then = shown s.limits first ends.recalls
+  then = shown s.system.limits first ends.recalls
 
-  in_turns : k ≡ shown s.limits then ends.migrates
-  in_turns = ap (λ (ms : List Mark). shown s.limits nothing_shown ms) ends.parted ∙ shown_append s.limits nothing_shown ends.before (ends.recalls ++ ends.migrates) ∙ shown_append s.limits first ends.recalls ends.migrates
+  in_turns : k ≡ shown s.system.limits then ends.migrates
+  in_turns = ap (λ (ms : List Mark). shown s.system.limits nothing_shown ms) ends.parted ∙ shown_append s.system.limits nothing_shown ends.before (ends.recalls ++ ends.migrates) ∙ shown_append s.system.limits first ends.recalls ends.migrates
 
   recall_none : EndsRefused turns.recall_turn → k.recall.seat.sid ≡ None
   recall_none refused =
-      ap (λ (x : Shown). x.recall.seat.sid) in_turns ∙ ap (λ (x : recall.Known). x.seat.sid) (recall_same s.limits then ends.migrates ends.by_migrate)
-      ∙ recall_away s.limits first ends.recalls (ends_away Recall ends.recalls turns.recall_turn ends.by_recall ends.recalled refused)
+      ap (λ (x : Shown). x.recall.seat.sid) in_turns ∙ ap (λ (x : recall.Known). x.seat.sid) (recall_same s.system.limits then ends.migrates ends.by_migrate)
+      ∙ recall_away s.system.limits first ends.recalls (ends_away Recall ends.recalls turns.recall_turn ends.by_recall ends.recalled refused)
 
   migrate_none : EndsRefused turns.migrate_turn → k.migrate.seat.sid ≡ None
-  migrate_none refused = ap (λ (x : Shown). x.migrate.seat.sid) in_turns ∙ migrate_away s.limits then ends.migrates (ends_away Migrate ends.migrates turns.migrate_turn ends.by_migrate ends.migrated refused)
+  migrate_none refused = ap (λ (x : Shown). x.migrate.seat.sid) in_turns ∙ migrate_away s.system.limits then ends.migrates (ends_away Migrate ends.migrates turns.migrate_turn ends.by_migrate ends.migrated refused)
 
-  recall_rests : is_some s.recall ≡ true → EndsRefused turns.recall_turn ⊎ RecallRests k.recall.seat turns.recall_turn
-  recall_rests = recall_ends h turns.recall_turn (state_of s.store).rights k.recall s.drives (faults_in s.store.history) s.recall turns.recall turns.held_up shows.recall
+  recall_rests : is_some s.system.recall ≡ true → EndsRefused turns.recall_turn ⊎ RecallRests k.recall.seat turns.recall_turn
+  recall_rests = recall_ends h turns.recall_turn (state_of s.system.store).rights k.recall s.drives (faults_in s.system.store.history) s.system.recall turns.recall turns.held_up shows.recall
 
-  migrate_rests : is_some s.migrate ≡ true → EndsRefused turns.migrate_turn ⊎ MigrateRests k.migrate.seat turns.migrate_turn
-  migrate_rests = migrate_ends s.limits turns.migrate_turn k.migrate s.migrate turns.migrate shows.migrate
+  migrate_rests : is_some s.system.migrate ≡ true → EndsRefused turns.migrate_turn ⊎ MigrateRests k.migrate.seat turns.migrate_turn
+  migrate_rests = migrate_ends s.system.limits turns.migrate_turn k.migrate s.system.migrate turns.migrate shows.migrate
 
-  module _ (kept : IsKept s.store) (working : s.store.files.failed ≡ false) where
-    at_rest : IsAtRest (running s) k (superblock_of s.store.opened) (just_opened s.store.opened.meta.number s.store.opened.held) s.store.history
+  module _ (kept : IsKept s.system.store) (working : s.system.store.files.failed ≡ false) where
+    at_rest : IsAtRest (running s) k (superblock_of s.system.store.opened) (just_opened s.system.store.opened.meta.number s.system.store.opened.held) s.system.store.history
     at_rest = record {
       before = from;
       recall_turn = turns.recall_turn;
@@ -270,28 +270,28 @@ module _ {D M : Type 0} (h : drive.Ghosts M) (opened : List M) (marks : List Mar
       quiet = turns.quiet;
       recall = λ runs. unseated_or k.recall.seat turns.recall_turn (RecallRests k.recall.seat turns.recall_turn) recall_none (recall_rests runs);
       migrate = λ runs. unseated_or k.migrate.seat turns.migrate_turn (MigrateRests k.migrate.seat turns.migrate_turn) migrate_none (migrate_rests runs);
-      waits = λ c a caller waits. ready_waits s.store kept working c a waits (turns.ready c caller);
+      waits = λ c a caller waits. ready_waits s.system.store kept working c a waits (turns.ready c caller);
     }
 
-    wait_rightly : AllMayWait (running s) k marks (superblock_of s.store.opened) (state_by (superblock_of s.store.opened) (first_of s) (entries_of marks))
+    wait_rightly : AllMayWait (running s) k marks (superblock_of s.system.store.opened) (state_by (superblock_of s.system.store.opened) (first_of s) (entries_of marks))
     wait_rightly =
-        subst (λ (es : List Entry). AllMayWait (running s) k marks (superblock_of s.store.opened) (state_by (superblock_of s.store.opened) (first_of s) es)) (sym shows.marked.entries)
-        (settled_waits (running s) s.limits (superblock_of s.store.opened) s.store.opened.meta.number s.store.opened.held marks s.store.history shows.marked.entries shows.marked.served kept.good.run kept.packed at_rest)
+        subst (λ (es : List Entry). AllMayWait (running s) k marks (superblock_of s.system.store.opened) (state_by (superblock_of s.system.store.opened) (first_of s) es)) (sym shows.marked.entries)
+        (settled_waits (running s) s.system.limits (superblock_of s.system.store.opened) s.system.store.opened.meta.number s.system.store.opened.held marks s.system.store.history shows.marked.entries shows.marked.served kept.good.run kept.packed at_rest)
 
     -- ---- what was told in the turns
 
     abbrev behind : List Entry → State
-    behind es = state_by (superblock_of s.store.opened) (first_of s) es
+    behind es = state_by (superblock_of s.system.store.opened) (first_of s) es
 
     abbrev both : List Entry
     both = turns.recall_turn ++ turns.migrate_turn
 
-    ends_with_both : s.store.history ≡ from ++ both
+    ends_with_both : s.system.store.history ≡ from ++ both
     ends_with_both = turns.history ∙ append_assoc from turns.recall_turn turns.migrate_turn
 
     -- a session that was told of no more events lives
     still_lives : (sid : Sid) → Contains both (no_more sid) → lives sid (behind (entries_of marks)).sessions ≡ true
-    still_lives sid there = subst (λ (es : List Entry). lives sid (behind es).sessions ≡ true) (sym shows.marked.entries) (lives_still (superblock_of s.store.opened) (first_of s) s.store.history from both kept.good.run.exact ends_with_both turns.quiet sid there)
+    still_lives sid there = subst (λ (es : List Entry). lives sid (behind es).sessions ≡ true) (sym shows.marked.entries) (lives_still (superblock_of s.system.store.opened) (first_of s) s.system.store.history from both kept.good.run.exact ends_with_both turns.quiet sid there)
 
     recall_lives : (rests : RecallRests k.recall.seat turns.recall_turn) → lives rests.sid (behind (entries_of marks)).sessions ≡ true
     recall_lives rests = still_lives rests.sid (Contains-append_left turns.recall_turn turns.migrate_turn (no_more rests.sid) (ends_with turns.recall_turn rests.first rests.sid rests.ends))
@@ -300,27 +300,27 @@ module _ {D M : Type 0} (h : drive.Ghosts M) (opened : List M) (marks : List Mar
     migrate_lives rests = still_lives rests.sid (Contains-append_right turns.recall_turn turns.migrate_turn (no_more rests.sid) (ends_with turns.migrate_turn rests.first rests.sid rests.ends))
 
     -- with enough space the store isn't crowded
-    not_crowded : HadSpace s.limits turns.migrate_turn → IsCrowded s.limits (superblock_of s.store.opened) (behind (entries_of marks)) → ⊥
+    not_crowded : HadSpace s.system.limits turns.migrate_turn → IsCrowded s.system.limits (superblock_of s.system.store.opened) (behind (entries_of marks)) → ⊥
     not_crowded had crowded =
-        spacious_still (superblock_of s.store.opened) (first_of s) s.store.history from both kept.good.run.exact ends_with_both turns.quiet s.limits had.1.0 had.0 (Contains-append_right turns.recall_turn turns.migrate_turn _ had.1.1) had.2
-        (subst (λ (es : List Entry). IsCrowded s.limits (superblock_of s.store.opened) (behind es)) shows.marked.entries crowded)
+        spacious_still (superblock_of s.system.store.opened) (first_of s) s.system.store.history from both kept.good.run.exact ends_with_both turns.quiet s.system.limits had.1.0 had.0 (Contains-append_right turns.recall_turn turns.migrate_turn _ had.1.1) had.2
+        (subst (λ (es : List Entry). IsCrowded s.system.limits (superblock_of s.system.store.opened) (behind es)) shows.marked.entries crowded)
 
-    module _ (Began : Type 0) (fresh : IsFresh s ⊎ Began) (runs : is_some s.migrate ≡ true) (sid : Sid) (seated : IsSeated k.migrate.seat sid) (crowded : IsCrowded s.limits (superblock_of s.store.opened) (behind (entries_of marks))) where
-      began_or : Began ⊎ HadSpace s.limits turns.migrate_turn → Began
+    module _ (Began : Type 0) (fresh : IsFresh s ⊎ Began) (runs : is_some s.system.migrate ≡ true) (sid : Sid) (seated : IsSeated k.migrate.seat sid) (crowded : IsCrowded s.system.limits (superblock_of s.system.store.opened) (behind (entries_of marks))) where
+      began_or : Began ⊎ HadSpace s.system.limits turns.migrate_turn → Began
       began_or (inl began) = began
       began_or (inr had) = absurd (not_crowded had crowded)
 
-      began_by : EndsRefused turns.migrate_turn ⊎ ((x : Sid) → IsSeated k.migrate.seat x → Began ⊎ HadSpace s.limits turns.migrate_turn) → Began
+      began_by : EndsRefused turns.migrate_turn ⊎ ((x : Sid) → IsSeated k.migrate.seat x → Began ⊎ HadSpace s.system.limits turns.migrate_turn) → Began
       began_by (inl refused) = absurd (let wrong : None ≡ Some sid = sym (migrate_none refused) ∙ seated.session in cc)
       began_by (inr spares) = began_or (spares sid seated)
 
       -- a pass by `high` was due, so one has begun
       has_begun : Began
-      has_begun = began_by (migrate_spares s.limits turns.migrate_turn k.migrate Began s.migrate turns.migrate shows.migrate runs fresh)
+      has_begun = began_by (migrate_spares s.system.limits turns.migrate_turn k.migrate Began s.system.migrate turns.migrate shows.migrate runs fresh)
 
 -- ---- the end of a settling
 
-module _ {D M : Type 0} (h : drive.Ghosts M) (opened : List M) (before part : List Mark) (old s : System D M) (was : entries_of before ≡ old.store.history) (shows : Shows h opened (before ++ part) s) (from : List Entry) (turns : settled.EndsQuietly from s) (ends : EndsInTurns part turns.recall_turn turns.migrate_turn) where
+module _ {D M : Type 0} (h : drive.Ghosts M) (opened : List M) (before part : List Mark) (old s : Run D M) (was : entries_of before ≡ old.system.store.history) (shows : Shows h opened (before ++ part) s) (from : List Entry) (turns : settled.EndsQuietly from s) (ends : EndsInTurns part turns.recall_turn turns.migrate_turn) where
   abbrev whole : List Mark
   whole = before ++ part
 
@@ -328,18 +328,18 @@ module _ {D M : Type 0} (h : drive.Ghosts M) (opened : List M) (before part : Li
   all_ends = ends_later before part turns.recall_turn turns.migrate_turn ends
 
   abbrev known : Shown
-  known = shown s.limits nothing_shown whole
+  known = shown s.system.limits nothing_shown whole
 
   abbrev left : State
-  left = state_by (superblock_of s.store.opened) (first_of s) (entries_of whole)
+  left = state_by (superblock_of s.system.store.opened) (first_of s) (entries_of whole)
 
-  module _ (kept : IsKept s.store) (working : s.store.files.failed ≡ false) where
+  module _ (kept : IsKept s.system.store) (working : s.system.store.files.failed ≡ false) where
     recall_has : EndsRefused turns.recall_turn ⊎ RecallRests known.recall.seat turns.recall_turn → IsAtWork Recall known left part ⊎ IsTurnedAway Recall part
-    recall_has (inl refused) = inr (recall_turned_away s.limits before part shows.marked.served turns.recall_turn turns.migrate_turn ends refused)
+    recall_has (inl refused) = inr (recall_turned_away s.system.limits before part shows.marked.served turns.recall_turn turns.migrate_turn ends refused)
     recall_has (inr rests) = inl (record { sid = rests.sid; seated = rests.seated; live = recall_lives h opened whole s shows from turns all_ends kept working rests; told = recall_told part turns.recall_turn turns.migrate_turn ends rests.sid rests.first rests.ends })
 
     migrate_has : EndsRefused turns.migrate_turn ⊎ MigrateRests known.migrate.seat turns.migrate_turn → IsAtWork Migrate known left part ⊎ IsTurnedAway Migrate part
-    migrate_has (inl refused) = inr (migrate_turned_away s.limits before part shows.marked.served turns.recall_turn turns.migrate_turn ends refused)
+    migrate_has (inl refused) = inr (migrate_turned_away s.system.limits before part shows.marked.served turns.recall_turn turns.migrate_turn ends refused)
     migrate_has (inr rests) = inl (record { sid = rests.sid; seated = rests.seated; live = migrate_lives h opened whole s shows from turns all_ends kept working rests; told = migrate_told part turns.recall_turn turns.migrate_turn ends rests.sid rests.first rests.ends })
 
     each_works : (daemon : Daemon) → runs daemon (running s) ≡ true → IsAtWork daemon known left part ⊎ IsTurnedAway daemon part
@@ -350,8 +350,8 @@ module _ {D M : Type 0} (h : drive.Ghosts M) (opened : List M) (before part : Li
       may_or_began : IsFresh s ⊎ IsToldTable fresh.0 → IsFresh s ⊎ BeginsPass part
       may_or_began (inl may) = inl may
       may_or_began (inr told) =
-          let same : entries_of part ≡ fresh.0 = marked_since before part old.store.history s.store.history fresh.0 was shows.marked.entries fresh.1 in
-          inr (begins_pass s.limits before part shows.marked.served settles (subst IsToldTable (sym same) told))
+          let same : entries_of part ≡ fresh.0 = marked_since before part old.system.store.history s.system.store.history fresh.0 was shows.marked.entries fresh.1 in
+          inr (begins_pass s.system.limits before part shows.marked.served settles (subst IsToldTable (sym same) told))
 
       has_settled : IsSettledIn s before part
       has_settled = record {
@@ -361,7 +361,7 @@ module _ {D M : Type 0} (h : drive.Ghosts M) (opened : List M) (before part : Li
       }
 
 -- a settling that came to rest
-pub settles_rightly : {D M : Type 0} (h : drive.Ghosts M) (old mid new : System D M) → running mid ≡ running old → Keeps h (AllByRecursion IsOfSettling) old mid → EndsMarked h mid new → StaysFresh (refreshed old) new → IsKept new.store → new.store.files.failed ≡ false → LeadsTo h (AllByRecursion IsOfSettling) (IsSettledIn new) old new
+pub settles_rightly : {D M : Type 0} (h : drive.Ghosts M) (old mid new : Run D M) → running mid ≡ running old → Keeps h (AllByRecursion IsOfSettling) old mid → EndsMarked h mid new → StaysFresh (refreshed old) new → IsKept new.system.store → new.system.store.files.failed ≡ false → LeadsTo h (AllByRecursion IsOfSettling) (IsSettledIn new) old new
 settles_rightly h old mid new runs keeps ends fresh kept working opened marks shows =
     let one = keeps opened marks shows in
     let two = ends.1 opened (marks ++ one.0) one.2 in
@@ -370,20 +370,20 @@ settles_rightly h old mid new runs keeps ends fresh kept working opened marks sh
       one.0 ++ two.0,
       settles,
       then,
-      has_settled h opened marks (one.0 ++ two.0) old new shows.marked.entries then mid.store.history ends.0 (ends_later one.0 two.0 ends.0.recall_turn ends.0.migrate_turn two.3) kept working settles fresh,
+      has_settled h opened marks (one.0 ++ two.0) old new shows.marked.entries then mid.system.store.history ends.0 (ends_later one.0 two.0 ends.0.recall_turn ends.0.migrate_turn two.3) kept working settles fresh,
       by_running_then (running old) (running mid) one.0 two.0 runs one.3 two.4,
       live_then old mid new marks one.0 two.0 runs one.4 two.5,
     )
 
 -- what else is so of the marks that a line leads to
-pub keeps_leads : {D M T : Type 0} (h : drive.Ghosts M) (IsPart : List Mark → Type 0) (IsSo : List Mark → List Mark → Type 0) (result : Result T Stop) (old new : System D M) → OnOk result (Keeps h IsPart old new)
+pub keeps_leads : {D M T : Type 0} (h : drive.Ghosts M) (IsPart : List Mark → Type 0) (IsSo : List Mark → List Mark → Type 0) (result : Result T Stop) (old new : Run D M) → OnOk result (Keeps h IsPart old new)
     → ((before part : List Mark) → IsPart part → LiveOn old new before part → IsSo before part) → LeadsOn h IsPart IsSo result old new
 keeps_leads h IsPart IsSo (Ok done) old new keeps so = λ working opened marks shows.
     let one = keeps opened marks shows in (one.0, one.1, one.2, so marks one.0 one.1 one.4, one.3, one.4)
 keeps_leads h IsPart IsSo (Err why) old new keeps so = λ working. tt
 
 -- the daemons live through a settle
-pub settle_leads : {D M T : Type 0} (h : drive.Ghosts M) (result : Result T Stop) (old new : System D M) → running new ≡ running old → LeadsOn h (AllByRecursion IsOfSettling) (IsSettledIn new) result old new → LeadsOn h (IsPartOf Settle) (IsLeftBy Settle old new) result old new
+pub settle_leads : {D M T : Type 0} (h : drive.Ghosts M) (result : Result T Stop) (old new : Run D M) → running new ≡ running old → LeadsOn h (AllByRecursion IsOfSettling) (IsSettledIn new) result old new → LeadsOn h (IsPartOf Settle) (IsLeftBy Settle old new) result old new
 settle_leads h (Ok done) old new same leads = λ working opened marks shows.
     let one = leads working opened marks shows in (one.0, one.1, one.2, (one.3, λ limits called live. live_through old new marks one.0 same one.5 limits called live), one.4, one.5)
 settle_leads h (Err why) old new same leads = λ working. tt

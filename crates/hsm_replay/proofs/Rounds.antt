@@ -16,8 +16,8 @@ use Rattle.hsm_core.specs.Answers.{entry_of}
 use Rattle.hsm_core.specs.Ready.{ready}
 use Rattle.hsm_core.specs.Store.{Store, state_of}
 use Rattle.hsm_core.specs.declared.store.Ready.TheVariants.{Now}
-use Rattle.hsm_replay.specs.declared.daemons.Recalling.{Recalling}
-use Rattle.hsm_replay.specs.declared.daemons.Migrating.{Migrating}
+use Rattle.hsm_system.specs.declared.daemons.Recalling.{Recalling}
+use Rattle.hsm_system.specs.declared.daemons.Migrating.{Migrating}
 use Rattle.marked_history.specs.Waiting.{Running}
 use Rattle.marked_history.specs.Follows.{IsMadeBy, IsOfSettling}
 use Rattle.hsm_replay.specs.Keeping.{Shows, Keeps, LiveOn}
@@ -26,7 +26,7 @@ use Rattle.marked_history.specs.Quiet.{is_quiet}
 use Rattle.hsm_replay.specs.Freshness.{StaysFresh}
 use Rattle.hsm_replay.specs.Resting.{EndsInTurns, LeadsTo, EndsMarked}
 use Rattle.hsm_replay.specs.Settled.{RecallRests, AreHeldUp, NoneReady}
-use Rattle.hsm_replay.specs.Systems.{System, running}
+use Rattle.hsm_replay.specs.Systems.{Run, running}
 use Rattle.hsm_replay.proofs.ByRunning.{by_running_then}
 use Rattle.hsm_replay.specs.Turns.{HasTurned, MayResume, IsResumeOf, HaveResumed}
 use Rattle.hsm_replay.proofs.Freshness.{fresh_alone, fresh_on}
@@ -46,10 +46,10 @@ drop_first (x ∷ xs) ys = drop_first xs ys
 abbrev pub NoneBelow : {D : Type 0} → ℕ → Store D → Type 0
 NoneBelow number s = (caller : ℕ) → 1 ≤ caller → caller < number → ready s caller ≢ Now
 
-pub record ResumedTo {D M : Type 0} (number : ℕ) (old new : System D M) : Type 0 where
-  pub recall : new.recall ≡ old.recall
-  pub migrate : new.migrate ≡ old.migrate
-  pub none : (new.store ≡ old.store) × NoneBelow number new.store ⊎ ((first : Entry) × (more : List Entry) × IsResumeOf first × (new.store.history ≡ old.store.history ++ first ∷ more))
+pub record ResumedTo {D M : Type 0} (number : ℕ) (old new : Run D M) : Type 0 where
+  pub recall : new.system.recall ≡ old.system.recall
+  pub migrate : new.system.migrate ≡ old.system.migrate
+  pub none : (new.system.store ≡ old.system.store) × NoneBelow number new.system.store ⊎ ((first : Entry) × (more : List Entry) × IsResumeOf first × (new.system.store.history ≡ old.system.store.history ++ first ∷ more))
 
 last_by : (caller number : ℕ) (b : Bool) → (caller == number) ≡ b → caller < number + 1 → (caller < number) ⊎ (caller ≡ number)
 last_by caller number true is below = inr (eqb-true caller number is)
@@ -67,32 +67,32 @@ loud : (first : Entry) (more : List Entry) → IsResumeOf first → list_all is_
 loud first more is quiet = let wrong : false ≡ true = sym (ap (λ (e : Entry). is_quiet e && list_all is_quiet more) is.2) ∙ quiet in cc wrong
 
 module _ {D M : Type 0} where
-  pub resumed_none : (s : System D M) → ResumedTo 1 s s
+  pub resumed_none : (s : Run D M) → ResumedTo 1 s s
   resumed_none s = record { recall = refl; migrate = refl; none = inl (refl, λ caller from below. omega (arith, from, below)) }
 
-  pub resumed_on : (number : ℕ) (a b c : System D M) → ResumedTo number a b → MayResume number b c → ResumedTo (number + 1) a c
-  resumed_on number a b c resumed (inl same) = subst (λ (s : System D M). ResumedTo (number + 1) a s) (sym same.0) (record { recall = resumed.recall; migrate = resumed.migrate; none = still resumed.none })
+  pub resumed_on : (number : ℕ) (a b c : Run D M) → ResumedTo number a b → MayResume number b c → ResumedTo (number + 1) a c
+  resumed_on number a b c resumed (inl same) = subst (λ (s : Run D M). ResumedTo (number + 1) a s) (sym same.0) (record { recall = resumed.recall; migrate = resumed.migrate; none = still resumed.none })
     where
-      still : (b.store ≡ a.store) × NoneBelow number b.store ⊎ ((first : Entry) × (more : List Entry) × IsResumeOf first × (b.store.history ≡ a.store.history ++ first ∷ more)) → (b.store ≡ a.store) × NoneBelow (number + 1) b.store ⊎ ((first : Entry) × (more : List Entry) × IsResumeOf first × (b.store.history ≡ a.store.history ++ first ∷ more))
-      still (inl none) = inl (none.0, none_on number b.store none.1 same.1)
+      still : (b.system.store ≡ a.system.store) × NoneBelow number b.system.store ⊎ ((first : Entry) × (more : List Entry) × IsResumeOf first × (b.system.store.history ≡ a.system.store.history ++ first ∷ more)) → (b.system.store ≡ a.system.store) × NoneBelow (number + 1) b.system.store ⊎ ((first : Entry) × (more : List Entry) × IsResumeOf first × (b.system.store.history ≡ a.system.store.history ++ first ∷ more))
+      still (inl none) = inl (none.0, none_on number b.system.store none.1 same.1)
       still (inr some) = inr some
   resumed_on number a b c resumed (inr one) = record {
-    recall = ap (λ (s : System D M). s.recall) one.1 ∙ resumed.recall;
-    migrate = ap (λ (s : System D M). s.migrate) one.1 ∙ resumed.migrate;
+    recall = ap (λ (s : Run D M). s.system.recall) one.1 ∙ resumed.recall;
+    migrate = ap (λ (s : Run D M). s.system.migrate) one.1 ∙ resumed.migrate;
     none = inr (more resumed.none);
   }
     where
       e : Entry
       e = entry_of (Caller number) Resume one.0
 
-      more : (b.store ≡ a.store) × NoneBelow number b.store ⊎ ((first : Entry) × (more : List Entry) × IsResumeOf first × (b.store.history ≡ a.store.history ++ first ∷ more)) → (first : Entry) × (more : List Entry) × IsResumeOf first × (c.store.history ≡ a.store.history ++ first ∷ more)
+      more : (b.system.store ≡ a.system.store) × NoneBelow number b.system.store ⊎ ((first : Entry) × (more : List Entry) × IsResumeOf first × (b.system.store.history ≡ a.system.store.history ++ first ∷ more)) → (first : Entry) × (more : List Entry) × IsResumeOf first × (c.system.store.history ≡ a.system.store.history ++ first ∷ more)
       more (inl none) = (e, [], (number, one.0, refl), one.2 ∙ ap (λ (s : Store D). s.history ++ e ∷ []) none.0)
-      more (inr some) = (some.0, some.1 ++ e ∷ [], some.2, one.2 ∙ ap (λ (h : List Entry). h ++ e ∷ []) some.3 ∙ append_assoc a.store.history (some.0 ∷ some.1) (e ∷ []))
+      more (inr some) = (some.0, some.1 ++ e ∷ [], some.2, one.2 ∙ ap (λ (h : List Entry). h ++ e ∷ []) some.3 ∙ append_assoc a.system.store.history (some.0 ∷ some.1) (e ∷ []))
 
-  pub resumed_all : (a b : System D M) → ResumedTo 65 a b → HaveResumed a b
+  pub resumed_all : (a b : Run D M) → ResumedTo 65 a b → HaveResumed a b
   resumed_all a b resumed = record { recall = resumed.recall; migrate = resumed.migrate; none = all resumed.none }
     where
-      all : (b.store ≡ a.store) × NoneBelow 65 b.store ⊎ ((first : Entry) × (more : List Entry) × IsResumeOf first × (b.store.history ≡ a.store.history ++ first ∷ more)) → (b.store ≡ a.store) × NoneReady b.store ⊎ ((first : Entry) × (more : List Entry) × IsResumeOf first × (b.store.history ≡ a.store.history ++ first ∷ more))
+      all : (b.system.store ≡ a.system.store) × NoneBelow 65 b.system.store ⊎ ((first : Entry) × (more : List Entry) × IsResumeOf first × (b.system.store.history ≡ a.system.store.history ++ first ∷ more)) → (b.system.store ≡ a.system.store) × NoneReady b.system.store ⊎ ((first : Entry) × (more : List Entry) × IsResumeOf first × (b.system.store.history ≡ a.system.store.history ++ first ∷ more))
       all (inl none) = inl (none.0, λ caller is. none.1 caller is.0 (omega (arith, is.1)))
       all (inr some) = inr some
 
@@ -103,28 +103,28 @@ with_daemons r m = record { recall = is_some r; migrate = is_some m }
 
 -- the daemons of a round run on
 module _ {D M : Type 0} where
-  resumed_runs : (a b : System D M) → HaveResumed a b → running b ≡ running a
+  resumed_runs : (a b : Run D M) → HaveResumed a b → running b ≡ running a
   resumed_runs a b resumed = ap₂ with_daemons resumed.recall resumed.migrate
 
-  pub begun_runs : (old a b : System D M) → HasTurned Recall old a → HaveResumed a b → running b ≡ running old
+  pub begun_runs : (old a b : Run D M) → HasTurned Recall old a → HaveResumed a b → running b ≡ running old
   begun_runs old a b recalled resumed = resumed_runs a b resumed ∙ recalled.runs
 
-  pub round_runs : (old a b c : System D M) → HasTurned Recall old a → HaveResumed a b → HasTurned Migrate b c → running c ≡ running old
+  pub round_runs : (old a b c : Run D M) → HasTurned Recall old a → HaveResumed a b → HasTurned Migrate b c → running c ≡ running old
   round_runs old a b c recalled resumed migrated = migrated.runs ∙ begun_runs old a b recalled resumed
 
 -- migration may still begin a pass by `high` behind a round, or it has told the table
 module _ {D M : Type 0} where
-  resumed_fresh : (a b : System D M) → HaveResumed a b → StaysFresh a b
+  resumed_fresh : (a b : Run D M) → HaveResumed a b → StaysFresh a b
   resumed_fresh a b resumed = by resumed.none
     where
-      by : (b.store ≡ a.store) × NoneReady b.store ⊎ ((first : Entry) × (more : List Entry) × IsResumeOf first × (b.store.history ≡ a.store.history ++ first ∷ more)) → StaysFresh a b
-      by (inl none) = fresh_alone a b [] (ap (λ (s : Store D). s.history) none.0 ∙ sym (append-nil a.store.history)) resumed.migrate
+      by : (b.system.store ≡ a.system.store) × NoneReady b.system.store ⊎ ((first : Entry) × (more : List Entry) × IsResumeOf first × (b.system.store.history ≡ a.system.store.history ++ first ∷ more)) → StaysFresh a b
+      by (inl none) = fresh_alone a b [] (ap (λ (s : Store D). s.history) none.0 ∙ sym (append-nil a.system.store.history)) resumed.migrate
       by (inr some) = fresh_alone a b (some.0 ∷ some.1) some.3 resumed.migrate
 
-  pub begun_fresh : (old a b : System D M) → HasTurned Recall old a → HaveResumed a b → StaysFresh old b
+  pub begun_fresh : (old a b : Run D M) → HasTurned Recall old a → HaveResumed a b → StaysFresh old b
   begun_fresh old a b recalled resumed = fresh_on old a b recalled.fresh (resumed_fresh a b resumed)
 
-  pub round_fresh : (old a b c : System D M) → HasTurned Recall old a → HaveResumed a b → HasTurned Migrate b c → StaysFresh old c
+  pub round_fresh : (old a b c : Run D M) → HasTurned Recall old a → HaveResumed a b → HasTurned Migrate b c → StaysFresh old c
   round_fresh old a b c recalled resumed migrated = fresh_on old b c (begun_fresh old a b recalled resumed) migrated.fresh
 
 -- the marks that led on to these entries are theirs
@@ -138,24 +138,24 @@ no_marks [] is = refl
 no_marks (m ∷ more) is = absurd cc
 
 module _ {D M : Type 0} (g : disk.Ghosts D) (h : drive.Ghosts M) where
-  pub round_ends : (old a b c : System D M) → HasTurned Recall old a → Keeps h (AllByRecursion (IsMadeBy Recall)) old a → HaveResumed a b → Keeps h (AllByRecursion IsOfSettling) a b → HasTurned Migrate b c → Keeps h (AllByRecursion (IsMadeBy Migrate)) b c
-      → list_all is_quiet (drop (length old.store.history) c.store.history) ≡ true → EndsMarked h old c
+  pub round_ends : (old a b c : Run D M) → HasTurned Recall old a → Keeps h (AllByRecursion (IsMadeBy Recall)) old a → HaveResumed a b → Keeps h (AllByRecursion IsOfSettling) a b → HasTurned Migrate b c → Keeps h (AllByRecursion (IsMadeBy Migrate)) b c
+      → list_all is_quiet (drop (length old.system.store.history) c.system.store.history) ≡ true → EndsMarked h old c
   round_ends old a b c recalled by_recall resumed by_callers migrated by_migrate quiet = by resumed.none
     where
       from : List Entry
-      from = old.store.history
+      from = old.system.store.history
 
       -- all entries of the round
-      behind : (entries : List Entry) → c.store.history ≡ from ++ entries → list_all is_quiet entries ≡ true
+      behind : (entries : List Entry) → c.system.store.history ≡ from ++ entries → list_all is_quiet entries ≡ true
       behind entries is = ap (λ (x : List Entry). list_all is_quiet x) (sym (ap (λ (x : List Entry). drop (length from) x) is ∙ drop_first from entries)) ∙ quiet
 
       -- where no caller has resumed, the marks of both turns
-      marked : b.store ≡ a.store → LeadsTo h (AllByRecursion IsOfSettling) (λ before part. EndsInTurns part recalled.entries migrated.entries) old c
+      marked : b.system.store ≡ a.system.store → LeadsTo h (AllByRecursion IsOfSettling) (λ before part. EndsInTurns part recalled.entries migrated.entries) old c
       marked none opened marks shows =
           let one = by_recall opened marks shows in
           let two = by_callers opened (marks ++ one.0) one.2 in
           let three = by_migrate opened ((marks ++ one.0) ++ two.0) two.2 in
-          let empty : two.0 ≡ [] = no_marks two.0 (marked_since (marks ++ one.0) two.0 a.store.history b.store.history [] one.2.marked.entries two.2.marked.entries (ap (λ (s : Store D). s.history) none ∙ sym (append-nil a.store.history))) in
+          let empty : two.0 ≡ [] = no_marks two.0 (marked_since (marks ++ one.0) two.0 a.system.store.history b.system.store.history [] one.2.marked.entries two.2.marked.entries (ap (λ (s : Store D). s.history) none ∙ sym (append-nil a.system.store.history))) in
           let same : ((marks ++ one.0) ++ two.0) ++ three.0 ≡ marks ++ (one.0 ++ three.0) = ap (λ (x : List Mark). ((marks ++ one.0) ++ x) ++ three.0) empty ∙ ap (λ (x : List Mark). x ++ three.0) (append-nil (marks ++ one.0)) ∙ append_assoc marks one.0 three.0 in (
             one.0 ++ three.0,
             all_then IsOfSettling one.0 three.0 (made_settles g h Recall one.0 one.1) (made_settles g h Migrate three.0 three.1),
@@ -167,23 +167,23 @@ module _ {D M : Type 0} (g : disk.Ghosts D) (h : drive.Ghosts M) where
               parted = refl;
               by_recall = one.1;
               by_migrate = three.1;
-              recalled = marked_since marks one.0 old.store.history a.store.history recalled.entries shows.marked.entries one.2.marked.entries recalled.history;
-              migrated = marked_since ((marks ++ one.0) ++ two.0) three.0 b.store.history c.store.history migrated.entries two.2.marked.entries three.2.marked.entries migrated.history;
+              recalled = marked_since marks one.0 old.system.store.history a.system.store.history recalled.entries shows.marked.entries one.2.marked.entries recalled.history;
+              migrated = marked_since ((marks ++ one.0) ++ two.0) three.0 b.system.store.history c.system.store.history migrated.entries two.2.marked.entries three.2.marked.entries migrated.history;
             },
             by_running_then (running old) (running b) one.0 three.0 (begun_runs old a b recalled resumed) one.3 three.3,
             subst (λ (ms : List Mark). LiveOn old c marks (one.0 ++ (ms ++ three.0))) empty (live_then old a c marks one.0 (two.0 ++ three.0) recalled.runs one.4 (live_then a b c (marks ++ one.0) two.0 three.0 (resumed_runs a b resumed) two.4 three.4)),
           )
 
-      by : (b.store ≡ a.store) × NoneReady b.store ⊎ ((first : Entry) × (more : List Entry) × IsResumeOf first × (b.store.history ≡ a.store.history ++ first ∷ more)) → EndsMarked h old c
+      by : (b.system.store ≡ a.system.store) × NoneReady b.system.store ⊎ ((first : Entry) × (more : List Entry) × IsResumeOf first × (b.system.store.history ≡ a.system.store.history ++ first ∷ more)) → EndsMarked h old c
       by (inl none) =
-          let history : c.store.history ≡ from ++ recalled.entries ++ migrated.entries = migrated.history ∙ ap (λ (s : Store D). s.history ++ migrated.entries) none.0 ∙ ap (λ (x : List Entry). x ++ migrated.entries) recalled.history in
+          let history : c.system.store.history ≡ from ++ recalled.entries ++ migrated.entries = migrated.history ∙ ap (λ (s : Store D). s.history ++ migrated.entries) none.0 ∙ ap (λ (x : List Entry). x ++ migrated.entries) recalled.history in
           let all_quiet : list_all is_quiet (recalled.entries ++ migrated.entries) ≡ true = behind (recalled.entries ++ migrated.entries) (history ∙ append_assoc from recalled.entries migrated.entries) in
           let parts = all_quiet_append recalled.entries migrated.entries all_quiet in
-          let stays : c.recall ≡ a.recall = migrated.alone ∙ resumed.recall in
+          let stays : c.system.recall ≡ a.system.recall = migrated.alone ∙ resumed.recall in
           let calm = migrated.calm in
-          let same : calm.0 ≡ migrated.entries = sym (drop_first b.store.history calm.0) ∙ ap (λ (x : List Entry). drop (length b.store.history) x) (sym calm.1 ∙ migrated.history) ∙ drop_first b.store.history migrated.entries in
+          let same : calm.0 ≡ migrated.entries = sym (drop_first b.system.store.history calm.0) ∙ ap (λ (x : List Entry). drop (length b.system.store.history) x) (sym calm.1 ∙ migrated.history) ∙ drop_first b.system.store.history migrated.entries in
           let alike = calm.2 (ap (λ (x : List Entry). list_all is_quiet x) same ∙ parts.1) in
-          let rights : (state_of c.store).rights ≡ (state_of a.store).rights = alike.rights ∙ ap (λ (s : Store D). (state_of s).rights) none.0 in (
+          let rights : (state_of c.system.store).rights ≡ (state_of a.system.store).rights = alike.rights ∙ ap (λ (s : Store D). (state_of s).rights) none.0 in (
             record {
               recall_turn = recalled.entries;
               migrate_turn = migrated.entries;
@@ -191,15 +191,15 @@ module _ {D M : Type 0} (g : disk.Ghosts D) (h : drive.Ghosts M) where
               quiet = all_quiet;
               recall = subst (λ (o : Option Recalling). IfSome o (λ (r : Recalling). RecallRests recalled.entries r.machine)) (sym stays) recalled.over.turn;
               migrate = migrated.over.turn;
-              held_up = subst (λ (o : Option Recalling). IfSome o (λ (r : Recalling). AreHeldUp recalled.entries (state_of c.store).rights r.machine.known.seat)) (sym stays)
-                  (subst (λ (rs : Rights). IfSome a.recall (λ (r : Recalling). AreHeldUp recalled.entries rs r.machine.known.seat)) (sym rights) (recalled.over.held_up parts.0));
+              held_up = subst (λ (o : Option Recalling). IfSome o (λ (r : Recalling). AreHeldUp recalled.entries (state_of c.system.store).rights r.machine.known.seat)) (sym stays)
+                  (subst (λ (rs : Rights). IfSome a.system.recall (λ (r : Recalling). AreHeldUp recalled.entries rs r.machine.known.seat)) (sym rights) (recalled.over.held_up parts.0));
               ready = λ caller is now. none.1 caller is (sym (alike.ready caller) ∙ now);
             },
             marked none.0,
           )
       by (inr some) =
           let resumes : List Entry = some.0 ∷ some.1 in
-          let history : c.store.history ≡ from ++ (recalled.entries ++ (resumes ++ migrated.entries)) = migrated.history ∙ ap (λ (x : List Entry). x ++ migrated.entries) (some.3 ∙ ap (λ (x : List Entry). x ++ resumes) recalled.history) ∙ append_assoc (from ++ recalled.entries) resumes migrated.entries ∙ append_assoc from recalled.entries (resumes ++ migrated.entries) in
+          let history : c.system.store.history ≡ from ++ (recalled.entries ++ (resumes ++ migrated.entries)) = migrated.history ∙ ap (λ (x : List Entry). x ++ migrated.entries) (some.3 ∙ ap (λ (x : List Entry). x ++ resumes) recalled.history) ∙ append_assoc (from ++ recalled.entries) resumes migrated.entries ∙ append_assoc from recalled.entries (resumes ++ migrated.entries) in
           let all_quiet = behind (recalled.entries ++ (resumes ++ migrated.entries)) history in
           let later_quiet = (all_quiet_append recalled.entries (resumes ++ migrated.entries) all_quiet).1 in
           absurd (loud some.0 some.1 some.2 (all_quiet_append resumes migrated.entries later_quiet).0)

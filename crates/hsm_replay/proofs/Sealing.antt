@@ -31,8 +31,8 @@ use Rattle.hsm_types.specs.declared.stubs.StubEntry.{StubEntry}
 use Rattle.hsm_policy.specs.Settings.{Numbers}
 use Rattle.volume_shelf.specs.Shelf.{Copied}
 use Rattle.recall_daemon.specs.Known.{Known}
-use Rattle.hsm_replay.specs.declared.daemons.Recalling.{Recalling}
-use Rattle.hsm_replay.specs.declared.daemons.Migrating.{Migrating}
+use Rattle.hsm_system.specs.declared.daemons.Recalling.{Recalling}
+use Rattle.hsm_system.specs.declared.daemons.Migrating.{Migrating}
 use Rattle.hsm_replay.specs.Acts.{CopiesTo, FetchesFrom}
 use Rattle.hsm_replay.specs.Drives.{Extends, HasGrown, HaveGrown}
 use Rattle.hsm_replay.specs.Faults.{TellsFault, IsTrue}
@@ -40,7 +40,7 @@ use Rattle.marked_history.specs.Marks.{Mark, made}
 use Rattle.hsm_replay.specs.Sealed.{seal_by, sealed_in, IsUnsealed, Gives, IsThere, IsStored, MayLack, IsLost, HearsStored, HearsLost, NeedsLost}
 use Rattle.hsm_replay.specs.Sealed.{AbortsAreRight, DamagesAreRight, Tallies, SealsAreWhole}
 use Rattle.marked_history.specs.Served.{shown, nothing_shown}
-use Rattle.hsm_replay.specs.Systems.{drive_of}
+use Rattle.hsm_replay.specs.Systems.{drive_of, told_next}
 use Rattle.hsm_replay.proofs.Growing.{all_and, grown_count, have_grown_on, grown_at, reads_grow}
 use Rattle.hsm_replay.proofs.Fetching.{set_there}
 
@@ -176,18 +176,18 @@ module _ {M : Type 0} (g : drive.Ghosts M) where
   lost_heard opened ds es marks (Fetch entry) (heard.Fetched (Err (fetching.NoObject volume object))) grown is = lost_still opened ds es marks entry grown is
   lost_heard opened ds es marks asked told grown is = tt
 
-  pub lost_still_if : (opened ds es : List M) (marks : List Mark) (r : Option Recalling) → HaveGrown g ds es → IfSome r (λ (x : Recalling). HearsLost g opened ds marks x.machine.asked x.heard) → IfSome r (λ (x : Recalling). HearsLost g opened es marks x.machine.asked x.heard)
+  pub lost_still_if : (opened ds es : List M) (marks : List Mark) (r : Option Recalling) → HaveGrown g ds es → IfSome r (λ (x : Recalling). HearsLost g opened ds marks x.machine.asked (told_next x.next)) → IfSome r (λ (x : Recalling). HearsLost g opened es marks x.machine.asked (told_next x.next))
   lost_still_if opened ds es marks None grown is = tt
-  lost_still_if opened ds es marks (Some r) grown is = lost_heard opened ds es marks r.machine.asked r.heard grown is
+  lost_still_if opened ds es marks (Some r) grown is = lost_heard opened ds es marks r.machine.asked (told_next r.next) grown is
 
   stored_heard : (ds es : List M) (asked : Act) (told : Heard) → HaveGrown g ds es → HearsStored g ds asked told → HearsStored g es asked told
   stored_heard ds es (Copy volume h segment bytes) (heard.Copied (Ok entry)) grown is = stored_still ds es grown entry is
   stored_heard ds es (Dm sid (Seal t h segment entry)) told grown is = stored_still ds es grown entry is
   stored_heard ds es asked told grown is = tt
 
-  pub stored_still_if : (ds es : List M) (m : Option Migrating) → HaveGrown g ds es → IfSome m (λ (x : Migrating). HearsStored g ds x.machine.asked x.heard) → IfSome m (λ (x : Migrating). HearsStored g es x.machine.asked x.heard)
+  pub stored_still_if : (ds es : List M) (m : Option Migrating) → HaveGrown g ds es → IfSome m (λ (x : Migrating). HearsStored g ds x.machine.asked (told_next x.next)) → IfSome m (λ (x : Migrating). HearsStored g es x.machine.asked (told_next x.next))
   stored_still_if ds es None grown is = tt
-  stored_still_if ds es (Some m) grown is = stored_heard ds es m.machine.asked m.heard grown is
+  stored_still_if ds es (Some m) grown is = stored_heard ds es m.machine.asked (told_next m.next) grown is
 
   -- ---- an entry more
 
@@ -205,9 +205,9 @@ module _ {M : Type 0} (g : drive.Ghosts M) where
   lost_heard_more opened ds marks m (Fetch entry) (heard.Fetched (Err (fetching.NoObject volume object))) other is = lost_more opened ds marks m entry other is
   lost_heard_more opened ds marks m asked told other is = tt
 
-  pub lost_more_if : (opened ds : List M) (marks : List Mark) (m : Mark) (r : Option Recalling) → m.by ≢ Some Recall → IfSome r (λ (x : Recalling). HearsLost g opened ds marks x.machine.asked x.heard) → IfSome r (λ (x : Recalling). HearsLost g opened ds (marks ++ m ∷ []) x.machine.asked x.heard)
+  pub lost_more_if : (opened ds : List M) (marks : List Mark) (m : Mark) (r : Option Recalling) → m.by ≢ Some Recall → IfSome r (λ (x : Recalling). HearsLost g opened ds marks x.machine.asked (told_next x.next)) → IfSome r (λ (x : Recalling). HearsLost g opened ds (marks ++ m ∷ []) x.machine.asked (told_next x.next))
   lost_more_if opened ds marks m None other is = tt
-  lost_more_if opened ds marks m (Some r) other is = lost_heard_more opened ds marks m r.machine.asked r.heard other is
+  lost_more_if opened ds marks m (Some r) other is = lost_heard_more opened ds marks m r.machine.asked (told_next r.next) other is
 
   -- where the entry is an answer that there is no such object, it is right
   abbrev pub AbortIsRight : (opened ds : List M) → Numbers → List Mark → Mark → Type 0

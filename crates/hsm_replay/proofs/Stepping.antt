@@ -27,8 +27,9 @@ use Rattle.recall_daemon.specs.Known as recall
 use Rattle.recall_daemon.specs.Machine as recaller
 use Rattle.migrate_daemon.specs.Known as migrate
 use Rattle.migrate_daemon.specs.Machine as migrator
-use Rattle.hsm_replay.specs.declared.daemons.Recalling.{Recalling}
-use Rattle.hsm_replay.specs.declared.daemons.Migrating.{Migrating}
+use Rattle.hsm_system.specs.declared.daemons.Recalling.{Recalling}
+use Rattle.hsm_system.specs.declared.daemons.Migrating.{Migrating}
+use Rattle.hsm_system.specs.declared.daemons.Next.TheVariants.{Hears}
 use Rattle.hsm_replay.specs.Drives.{HaveGrown}
 use Rattle.hsm_replay.specs.Faults.{fault_in, faults_in, IsApart, IsTrue, AreTrue}
 use Rattle.hsm_replay.specs.Keeping.{IsHeardOf, IsKnownAs, IsShownAs, RecallKnows, MigrateKnows, IsMarked, Shows}
@@ -38,10 +39,11 @@ use Rattle.hsm_replay.specs.Passes.{CopyEnds, HearsCopy, PassStands}
 use Rattle.hsm_replay.specs.Sealed.{seal_by, IsStored, HearsLost, HearsStored, NeedsLost, Tallies}
 use Rattle.hsm_replay.specs.Filling.{HearsFull, FindsFull}
 use Rattle.marked_history.specs.Served.{Shown, shown, nothing_shown, MigrateMay}
-use Rattle.hsm_replay.specs.Systems.{System}
+use Rattle.hsm_replay.specs.Systems.{Run, told_next}
 use Rattle.hsm_replay.proofs.Growing.{one_more_true, have_grown_itself}
 use Rattle.hsm_replay.proofs.Marked.{shown_more, marked_more, marked_still, no_fault_more, fault_more, still_known_if}
 use Rattle.hsm_replay.proofs.Coming.{IsNoCall}
+use Rattle.hsm_replay.proofs.Moving.{recall_left, migrate_left}
 use Rattle.hsm_replay.proofs.RecallShown.{recall_may, recall_told, recall_lost, recall_rests}
 use Rattle.hsm_replay.proofs.MigrateShown.{migrate_may, migrate_told, migrate_seals, migrate_rests}
 use Rattle.hsm_replay.proofs.Filling.{full_still_if, full_on}
@@ -56,49 +58,42 @@ answers_none : (punched : Bool) (fault : Fault) → Media fault ≡ migrator.ans
 answers_none true fault is = let wrong : Media fault ≡ Continue = is in cc wrong
 answers_none false fault is = let wrong : Media fault ≡ Abort 28 = is in cc wrong
 
--- a machine has gone on, and hears this next
-abbrev pub recall_left : {D M : Type 0} → System D M → recaller.Machine → Heard → Store D → List M → System D M
-recall_left old machine told store drives = record old { store = store; drives = drives; recall = Some (record { machine = machine; heard = told }) }
-
-abbrev pub migrate_left : {D M : Type 0} → System D M → migrator.Machine → Heard → Store D → List M → System D M
-migrate_left old machine told store drives = record old { store = store; drives = drives; migrate = Some (record { machine = machine; heard = told }) }
-
-module _ {D M : Type 0} (h : drive.Ghosts M) (opened : List M) (marks : List Mark) (old : System D M) (shows : Shows h opened marks old) where
+module _ {D M : Type 0} (h : drive.Ghosts M) (opened : List M) (marks : List Mark) (old : Run D M) (shows : Shows h opened marks old) where
   abbrev pub before : Shown
-  before = shown old.limits nothing_shown marks
+  before = shown old.system.limits nothing_shown marks
 
   abbrev pub told_faults : List Fault
-  told_faults = faults_in old.store.history
+  told_faults = faults_in old.system.store.history
 
   -- ---- recall
 
-  module _ (r : Recalling) (machine : recaller.Machine) (runs : old.recall ≡ Some r) where
+  module _ (r : Recalling) (machine : recaller.Machine) (runs : old.system.recall ≡ Some r) where
     knows : RecallKnows h before.recall old.drives told_faults r
     knows = subst (λ (o : Option Recalling). IfSome o (RecallKnows h before.recall old.drives told_faults)) runs shows.recall
 
-    lost_then : HearsLost h opened old.drives marks r.machine.asked r.heard
-    lost_then = subst (λ (o : Option Recalling). IfSome o (λ (x : Recalling). HearsLost h opened old.drives marks x.machine.asked x.heard)) runs shows.lost
+    lost_then : HearsLost h opened old.drives marks r.machine.asked (told_next r.next)
+    lost_then = subst (λ (o : Option Recalling). IfSome o (λ (x : Recalling). HearsLost h opened old.drives marks x.machine.asked (told_next x.next))) runs shows.lost
 
-    module _ (sid : Sid) (asked : DmCall) (reply : DmReply) (goes : recaller.GoesOn r.machine r.heard (Dm sid asked) machine) where
+    module _ (sid : Sid) (asked : DmCall) (reply : DmReply) (goes : recaller.GoesOn r.machine (told_next r.next) (Dm sid asked) machine) where
       abbrev pub entry : Entry
       entry = entry_of (Session sid) (action.Dm asked) (answer.Dm reply)
 
       -- its response with a fault is for the one that it heard of
       answers_for : (t : _) (fault : Fault) → asked ≡ Respond t (Media fault) → IsTrue h old.drives fault × AllByRecursion (λ earlier. IsApart (length old.drives) earlier fault) told_faults
       answers_for t fault is =
-          let may = subst (λ (c : DmCall). recall.MayGive (recall.knows_by r.machine.known r.machine.asked r.heard) r.machine.asked r.heard (Dm sid c)) is goes.may in
+          let may = subst (λ (c : DmCall). recall.MayGive (recall.knows_by r.machine.known r.machine.asked (told_next r.next)) r.machine.asked (told_next r.next) (Dm sid c)) is goes.may in
           let fetched = may.1.3 in
-          let about : IsHeardOf h old.drives told_faults (Fetch fetched.0.entry) (heard.Fetched (Err (fetching.Media fault))) = subst (λ (told : Heard). IsHeardOf h old.drives told_faults (Fetch fetched.0.entry) told) fetched.2 (subst (λ (a : Act). IsHeardOf h old.drives told_faults a r.heard) fetched.1 knows.heard) in
+          let about : IsHeardOf h old.drives told_faults (Fetch fetched.0.entry) (heard.Fetched (Err (fetching.Media fault))) = subst (λ (told : Heard). IsHeardOf h old.drives told_faults (Fetch fetched.0.entry) told) fetched.2 (subst (λ (a : Act). IsHeardOf h old.drives told_faults a (told_next r.next)) fetched.1 knows.heard) in
           (about.1, about.2)
 
-      faults_now : (c : DmCall) → asked ≡ c → AreTrue h old.drives (faults_in (old.store.history ++ entry_of (Session sid) (action.Dm c) (answer.Dm reply) ∷ []))
+      faults_now : (c : DmCall) → asked ≡ c → AreTrue h old.drives (faults_in (old.system.store.history ++ entry_of (Session sid) (action.Dm c) (answer.Dm reply) ∷ []))
       faults_now (Respond t (Media fault)) is =
           let e = entry_of (Session sid) (action.Dm (Respond t (Media fault))) (answer.Dm reply) in
           let about = answers_for t fault is in
-          subst (λ (fs : List Fault). AreTrue h old.drives fs) (sym (fault_more old.store.history e fault refl)) (one_more_true h old.drives told_faults fault shows.marked.faults about.0 about.1)
-      faults_now (Respond t Continue) is = subst (λ (fs : List Fault). AreTrue h old.drives fs) (sym (no_fault_more old.store.history (entry_of (Session sid) (action.Dm (Respond t Continue)) (answer.Dm reply)) refl)) shows.marked.faults
-      faults_now (Respond t (Abort error)) is = subst (λ (fs : List Fault). AreTrue h old.drives fs) (sym (no_fault_more old.store.history (entry_of (Session sid) (action.Dm (Respond t (Abort error))) (answer.Dm reply)) refl)) shows.marked.faults
-      faults_now other is = subst (λ (fs : List Fault). AreTrue h old.drives fs) (sym (no_fault_more old.store.history (entry_of (Session sid) (action.Dm other) (answer.Dm reply)) refl)) shows.marked.faults
+          subst (λ (fs : List Fault). AreTrue h old.drives fs) (sym (fault_more old.system.store.history e fault refl)) (one_more_true h old.drives told_faults fault shows.marked.faults about.0 about.1)
+      faults_now (Respond t Continue) is = subst (λ (fs : List Fault). AreTrue h old.drives fs) (sym (no_fault_more old.system.store.history (entry_of (Session sid) (action.Dm (Respond t Continue)) (answer.Dm reply)) refl)) shows.marked.faults
+      faults_now (Respond t (Abort error)) is = subst (λ (fs : List Fault). AreTrue h old.drives fs) (sym (no_fault_more old.system.store.history (entry_of (Session sid) (action.Dm (Respond t (Abort error))) (answer.Dm reply)) refl)) shows.marked.faults
+      faults_now other is = subst (λ (fs : List Fault). AreTrue h old.drives fs) (sym (no_fault_more old.system.store.history (entry_of (Session sid) (action.Dm other) (answer.Dm reply)) refl)) shows.marked.faults
 
       abbrev one : Mark
       one = made Recall sid asked reply
@@ -106,75 +101,75 @@ module _ {D M : Type 0} (h : drive.Ghosts M) (opened : List M) (marks : List Mar
       -- its answer that there is no such object is for the one that it heard of
       aborts_for : (t : Token) → asked ≡ Respond t (Abort 2) → NeedsLost h opened old.drives before.recall marks
       aborts_for t is =
-          let by = recall_lost h before.recall old.drives told_faults r machine knows sid t (subst (λ (c : DmCall). recaller.GoesOn r.machine r.heard (Dm sid c) machine) is goes) in
-          (by.0, by.1, by.4, by.5, subst (λ (told : Heard). HearsLost h opened old.drives marks (Fetch by.1.entry) told) by.7 (subst (λ (a : Act). HearsLost h opened old.drives marks a r.heard) by.6 lost_then))
+          let by = recall_lost h before.recall old.drives told_faults r machine knows sid t (subst (λ (c : DmCall). recaller.GoesOn r.machine (told_next r.next) (Dm sid c) machine) is goes) in
+          (by.0, by.1, by.4, by.5, subst (λ (told : Heard). HearsLost h opened old.drives marks (Fetch by.1.entry) told) by.7 (subst (λ (a : Act). HearsLost h opened old.drives marks a (told_next r.next)) by.6 lost_then))
 
       same_call : (x : Sid) (c : DmCall) (y : DmReply) → made Recall x c y ≡ one → asked ≡ c
       same_call x c y is = let actions : action.Dm c ≡ action.Dm asked = ap (λ (m : Mark). m.entry.action) is in let calls : asked ≡ c = cc actions in calls
 
-      abort_right : AbortIsRight h opened old.drives old.limits marks one
+      abort_right : AbortIsRight h opened old.drives old.system.limits marks one
       abort_right x t y is = aborts_for t (same_call x (Respond t (Abort 2)) y is)
 
       damage_right : DamageIsRight h old.drives marks one
-      damage_right x t volume object want got y is = damage_unsealed h opened old.drives old.limits marks shows.marked.sealed volume object want got (answers_for t (Damaged volume object want got) (same_call x (Respond t (Media (Damaged volume object want got))) y is)).0
+      damage_right x t volume object want got y is = damage_unsealed h opened old.drives old.system.limits marks shows.marked.sealed volume object want got (answers_for t (Damaged volume object want got) (same_call x (Respond t (Media (Damaged volume object want got))) y is)).0
 
-      recall_tallies : Tallies h opened old.drives old.limits (marks ++ one ∷ [])
-      recall_tallies = tallies_more h opened old.drives old.limits marks shows.marked.sealed one tt abort_right damage_right
+      recall_tallies : Tallies h opened old.drives old.system.limits (marks ++ one ∷ [])
+      recall_tallies = tallies_more h opened old.drives old.system.limits marks shows.marked.sealed one tt abort_right damage_right
 
       not_migrate : Some Recall ≢ Some Migrate
       not_migrate is = let wrong : Some Recall ≡ Some Migrate = is in cc wrong
 
-      recall_passes : AllPassed (CopyEnds h old.drives old.limits) old.limits (marks ++ one ∷ [])
-      recall_passes = all_passed_by_other (CopyEnds h old.drives old.limits) old.limits marks one shows.marked.passes not_migrate
+      recall_passes : AllPassed (CopyEnds h old.drives old.system.limits) old.system.limits (marks ++ one ∷ [])
+      recall_passes = all_passed_by_other (CopyEnds h old.drives old.system.limits) old.system.limits marks one shows.marked.passes not_migrate
 
-      module _ (told : Heard) (store : Store D) (kept : store.history ≡ old.store.history ++ entry ∷ []) where
+      module _ (told : Heard) (store : Store D) (kept : store.history ≡ old.system.store.history ++ entry ∷ []) where
         pub recall_marked : IsMarked h opened (marks ++ made Recall sid asked reply ∷ []) (recall_left old machine told store old.drives)
         recall_marked = marked_more h opened marks (made Recall sid asked reply) old (recall_left old machine told store old.drives) shows.marked refl kept (recall_may h before.recall old.drives told_faults r machine knows sid asked goes)
             (subst (λ (es : List Entry). AreTrue h old.drives (faults_in es)) (sym kept) (faults_now asked refl)) recall_tallies recall_passes
 
-      pub recall_called : (store : Store D) → store.history ≡ old.store.history ++ entry ∷ [] → Shows h opened (marks ++ made Recall sid asked reply ∷ []) (recall_left old machine (heard.Dm reply) store old.drives)
+      pub recall_called : (store : Store D) → store.history ≡ old.system.store.history ++ entry ∷ [] → Shows h opened (marks ++ made Recall sid asked reply ∷ []) (recall_left old machine (heard.Dm reply) store old.drives)
       recall_called store kept = record {
         marked = recall_marked (heard.Dm reply) store kept;
         recall = record {
-          known = inr (subst (λ (k : Shown). IsKnownAs (recall.knows_by machine.known machine.asked (heard.Dm reply)) k.recall) (sym (shown_more old.limits nothing_shown marks (made Recall sid asked reply))) (recall_told h before.recall old.drives told_faults r machine knows sid asked reply goes));
+          known = inr (subst (λ (k : Shown). IsKnownAs (recall.knows_by machine.known machine.asked (heard.Dm reply)) k.recall) (sym (shown_more old.system.limits nothing_shown marks (made Recall sid asked reply))) (recall_told h before.recall old.drives told_faults r machine knows sid asked reply goes));
           heard = subst (λ (a : Act). IsHeardOf h old.drives (faults_in store.history) a (heard.Dm reply)) (sym goes.asked) tt;
         };
-        migrate = subst (λ (k : Shown). IfSome old.migrate (MigrateKnows k.migrate)) (sym (shown_more old.limits nothing_shown marks (made Recall sid asked reply))) shows.migrate;
+        migrate = subst (λ (k : Shown). IfSome old.system.migrate (MigrateKnows k.migrate)) (sym (shown_more old.system.limits nothing_shown marks (made Recall sid asked reply))) shows.migrate;
         lost = subst (λ (a : Act). HearsLost h opened old.drives (marks ++ made Recall sid asked reply ∷ []) a (heard.Dm reply)) (sym goes.asked) tt;
         stored = shows.stored;
         full = shows.full;
-        passing = other_stands_if old.limits marks old.migrate one not_migrate shows.passing;
+        passing = other_stands_if old.system.limits marks old.system.migrate one not_migrate shows.passing;
       }
 
     -- a rest, or what is heard of a fetch
-    pub recall_went : (act : Act) (told : Heard) → IsNoCall act → recaller.GoesOn r.machine r.heard act machine → (drives : List M) → HaveGrown h old.drives drives → IsHeardOf h drives told_faults act told → HearsLost h opened drives marks act told → Shows h opened (marks ++ []) (recall_left old machine told old.store drives)
+    pub recall_went : (act : Act) (told : Heard) → IsNoCall act → recaller.GoesOn r.machine (told_next r.next) act machine → (drives : List M) → HaveGrown h old.drives drives → IsHeardOf h drives told_faults act told → HearsLost h opened drives marks act told → Shows h opened (marks ++ []) (recall_left old machine told old.system.store drives)
     recall_went act told no_call goes drives grown about lost = record {
-      marked = marked_still h opened marks old (recall_left old machine told old.store drives) shows.marked refl refl grown;
-      recall = subst (λ (ms : List Mark). RecallKnows h (shown old.limits nothing_shown ms).recall drives told_faults (record { machine = machine; heard = told })) (sym (append-nil marks))
+      marked = marked_still h opened marks old (recall_left old machine told old.system.store drives) shows.marked refl refl grown;
+      recall = subst (λ (ms : List Mark). RecallKnows h (shown old.system.limits nothing_shown ms).recall drives told_faults (record { machine = machine; next = Hears told })) (sym (append-nil marks))
           (record { known = recall_rests h before.recall old.drives told_faults r machine knows act told no_call goes; heard = subst (λ (a : Act). IsHeardOf h drives told_faults a told) (sym goes.asked) about });
-      migrate = subst (λ (ms : List Mark). IfSome old.migrate (MigrateKnows (shown old.limits nothing_shown ms).migrate)) (sym (append-nil marks)) shows.migrate;
+      migrate = subst (λ (ms : List Mark). IfSome old.system.migrate (MigrateKnows (shown old.system.limits nothing_shown ms).migrate)) (sym (append-nil marks)) shows.migrate;
       lost = subst (λ (ms : List Mark). HearsLost h opened drives ms machine.asked told) (sym (append-nil marks)) (subst (λ (a : Act). HearsLost h opened drives marks a told) (sym goes.asked) lost);
-      stored = stored_still_if h old.drives drives old.migrate grown shows.stored;
-      full = full_still_if h old.limits old.drives drives old.migrate grown shows.full;
-      passing = subst (λ (ms : List Mark). IfSome old.migrate (PassStands old.limits ms)) (sym (append-nil marks)) shows.passing;
+      stored = stored_still_if h old.drives drives old.system.migrate grown shows.stored;
+      full = full_still_if h old.system.limits old.drives drives old.system.migrate grown shows.full;
+      passing = subst (λ (ms : List Mark). IfSome old.system.migrate (PassStands old.system.limits ms)) (sym (append-nil marks)) shows.passing;
     }
 
   -- ---- migration
 
-  module _ (m : Migrating) (machine : migrator.Machine) (runs : old.migrate ≡ Some m) where
+  module _ (m : Migrating) (machine : migrator.Machine) (runs : old.system.migrate ≡ Some m) where
     knew : MigrateKnows before.migrate m
     knew = subst (λ (o : Option Migrating). IfSome o (MigrateKnows before.migrate)) runs shows.migrate
 
-    stored_then : HearsStored h old.drives m.machine.asked m.heard
-    stored_then = subst (λ (o : Option Migrating). IfSome o (λ (x : Migrating). HearsStored h old.drives x.machine.asked x.heard)) runs shows.stored
+    stored_then : HearsStored h old.drives m.machine.asked (told_next m.next)
+    stored_then = subst (λ (o : Option Migrating). IfSome o (λ (x : Migrating). HearsStored h old.drives x.machine.asked (told_next x.next))) runs shows.stored
 
-    found_then : FindsFull h old.drives old.limits m
-    found_then = subst (λ (o : Option Migrating). IfSome o (FindsFull h old.drives old.limits)) runs shows.full
+    found_then : FindsFull h old.drives old.system.limits m
+    found_then = subst (λ (o : Option Migrating). IfSome o (FindsFull h old.drives old.system.limits)) runs shows.full
 
-    stood : PassStands old.limits marks m
-    stood = subst (λ (o : Option Migrating). IfSome o (PassStands old.limits marks)) runs shows.passing
+    stood : PassStands old.system.limits marks m
+    stood = subst (λ (o : Option Migrating). IfSome o (PassStands old.system.limits marks)) runs shows.passing
 
-    module _ (sid : Sid) (asked : DmCall) (reply : DmReply) (goes : migrator.GoesOn m.machine m.heard (Dm sid asked) machine) where
+    module _ (sid : Sid) (asked : DmCall) (reply : DmReply) (goes : migrator.GoesOn m.machine (told_next m.next) (Dm sid asked) machine) where
       abbrev pub call_entry : Entry
       call_entry = entry_of (Session sid) (action.Dm asked) (answer.Dm reply)
 
@@ -192,7 +187,7 @@ module _ {D M : Type 0} (h : drive.Ghosts M) (opened : List M) (marks : List Mar
 
       -- what it seals is stored
       seals_stored : (c : DmCall) → asked ≡ c → IfSome (seal_by (Some Migrate) (action.Dm c)) (IsStored h old.drives)
-      seals_stored (Seal t file segment entry) is = migrate_seals before.migrate m machine knew h old.drives stored_then sid t file segment entry (subst (λ (c : DmCall). migrator.GoesOn m.machine m.heard (Dm sid c) machine) is goes)
+      seals_stored (Seal t file segment entry) is = migrate_seals before.migrate m machine knew h old.drives stored_then sid t file segment entry (subst (λ (c : DmCall). migrator.GoesOn m.machine (told_next m.next) (Dm sid c) machine) is goes)
       seals_stored other is = tt
 
       hears_stored : (c : DmCall) → asked ≡ c → HearsStored h old.drives (Dm sid c) (heard.Dm reply)
@@ -202,46 +197,46 @@ module _ {D M : Type 0} (h : drive.Ghosts M) (opened : List M) (marks : List Mar
       not_recall : Some Migrate ≢ Some Recall
       not_recall is = let wrong : Some Migrate ≡ Some Recall = is in cc wrong
 
-      migrate_tallies : Tallies h opened old.drives old.limits (marks ++ made Migrate sid asked reply ∷ [])
-      migrate_tallies = tallies_by_other h opened old.drives old.limits marks shows.marked.sealed (made Migrate sid asked reply) not_recall (seals_stored asked refl)
+      migrate_tallies : Tallies h opened old.drives old.system.limits (marks ++ made Migrate sid asked reply ∷ [])
+      migrate_tallies = tallies_by_other h opened old.drives old.system.limits marks shows.marked.sealed (made Migrate sid asked reply) not_recall (seals_stored asked refl)
 
       -- what it has found full, once it has heard
-      finds_full : FindsFull h old.drives old.limits (record { machine = machine; heard = heard.Dm reply })
-      finds_full = full_on h old.limits old.drives old.drives m machine (Dm sid asked) (heard.Dm reply) (have_grown_itself h old.drives) found_then goes tt
+      finds_full : FindsFull h old.drives old.system.limits (record { machine = machine; next = Hears (heard.Dm reply) })
+      finds_full = full_on h old.system.limits old.drives old.drives m machine (Dm sid asked) (heard.Dm reply) (have_grown_itself h old.drives) found_then goes tt
 
-      migrate_passes : AllPassed (CopyEnds h old.drives old.limits) old.limits (marks ++ made Migrate sid asked reply ∷ [])
-      migrate_passes = called_passed old.limits marks m machine stood sid asked reply goes (CopyEnds h old.drives old.limits)
-          (λ told ended. copy_ends h old.drives old.limits told (finds_full.ended told ended)) shows.marked.passes
+      migrate_passes : AllPassed (CopyEnds h old.drives old.system.limits) old.system.limits (marks ++ made Migrate sid asked reply ∷ [])
+      migrate_passes = called_passed old.system.limits marks m machine stood sid asked reply goes (CopyEnds h old.drives old.system.limits)
+          (λ told ended. copy_ends h old.drives old.system.limits told (finds_full.ended told ended)) shows.marked.passes
 
-      module _ (told : Heard) (store : Store D) (kept : store.history ≡ old.store.history ++ call_entry ∷ []) where
+      module _ (told : Heard) (store : Store D) (kept : store.history ≡ old.system.store.history ++ call_entry ∷ []) where
         same_faults : faults_in store.history ≡ told_faults
-        same_faults = ap faults_in kept ∙ no_fault_more old.store.history call_entry (no_faults asked refl)
+        same_faults = ap faults_in kept ∙ no_fault_more old.system.store.history call_entry (no_faults asked refl)
 
         pub migrate_marked : IsMarked h opened (marks ++ made Migrate sid asked reply ∷ []) (migrate_left old machine told store old.drives)
         migrate_marked = marked_more h opened marks (made Migrate sid asked reply) old (migrate_left old machine told store old.drives) shows.marked refl kept (migrate_may before.migrate m machine knew sid asked goes)
             (subst (λ (fs : List Fault). AreTrue h old.drives fs) (sym same_faults) shows.marked.faults) migrate_tallies migrate_passes
 
-      pub migrate_called : (store : Store D) → store.history ≡ old.store.history ++ call_entry ∷ [] → Shows h opened (marks ++ made Migrate sid asked reply ∷ []) (migrate_left old machine (heard.Dm reply) store old.drives)
+      pub migrate_called : (store : Store D) → store.history ≡ old.system.store.history ++ call_entry ∷ [] → Shows h opened (marks ++ made Migrate sid asked reply ∷ []) (migrate_left old machine (heard.Dm reply) store old.drives)
       migrate_called store kept = record {
         marked = migrate_marked (heard.Dm reply) store kept;
-        recall = subst (λ (fs : List Fault). IfSome old.recall (RecallKnows h (shown old.limits nothing_shown (marks ++ made Migrate sid asked reply ∷ [])).recall old.drives fs)) (sym (same_faults (heard.Dm reply) store kept))
-            (subst (λ (k : Shown). IfSome old.recall (RecallKnows h k.recall old.drives told_faults)) (sym (shown_more old.limits nothing_shown marks (made Migrate sid asked reply))) shows.recall);
-        migrate = inr (subst (λ (k : Shown). IsShownAs (migrate.knows_by machine.limits machine.known machine.asked (heard.Dm reply)) k.migrate) (sym (shown_more old.limits nothing_shown marks (made Migrate sid asked reply))) (migrate_told before.migrate m machine knew old.limits sid asked reply goes));
-        lost = lost_more_if h opened old.drives marks (made Migrate sid asked reply) old.recall not_recall shows.lost;
+        recall = subst (λ (fs : List Fault). IfSome old.system.recall (RecallKnows h (shown old.system.limits nothing_shown (marks ++ made Migrate sid asked reply ∷ [])).recall old.drives fs)) (sym (same_faults (heard.Dm reply) store kept))
+            (subst (λ (k : Shown). IfSome old.system.recall (RecallKnows h k.recall old.drives told_faults)) (sym (shown_more old.system.limits nothing_shown marks (made Migrate sid asked reply))) shows.recall);
+        migrate = inr (subst (λ (k : Shown). IsShownAs (migrate.knows_by machine.limits machine.known machine.asked (heard.Dm reply)) k.migrate) (sym (shown_more old.system.limits nothing_shown marks (made Migrate sid asked reply))) (migrate_told before.migrate m machine knew old.system.limits sid asked reply goes));
+        lost = lost_more_if h opened old.drives marks (made Migrate sid asked reply) old.system.recall not_recall shows.lost;
         stored = subst (λ (a : Act). HearsStored h old.drives a (heard.Dm reply)) (sym goes.asked) (hears_stored asked refl);
         full = finds_full;
-        passing = called_stands old.limits marks m machine stood sid asked reply goes;
+        passing = called_stands old.system.limits marks m machine stood sid asked reply goes;
       }
 
     -- a rest, or what is heard of a copy
-    pub migrate_went : (act : Act) (told : Heard) → IsNoCall act → HearsCopy act told → migrator.GoesOn m.machine m.heard act machine → (drives : List M) → HaveGrown h old.drives drives → HearsStored h drives act told → HearsFull h drives act told
-        → Shows h opened (marks ++ []) (migrate_left old machine told old.store drives)
+    pub migrate_went : (act : Act) (told : Heard) → IsNoCall act → HearsCopy act told → migrator.GoesOn m.machine (told_next m.next) act machine → (drives : List M) → HaveGrown h old.drives drives → HearsStored h drives act told → HearsFull h drives act told
+        → Shows h opened (marks ++ []) (migrate_left old machine told old.system.store drives)
     migrate_went act told no_call copied goes drives grown about about_full = record {
-      marked = marked_still h opened marks old (migrate_left old machine told old.store drives) shows.marked refl refl grown;
-      recall = subst (λ (ms : List Mark). IfSome old.recall (RecallKnows h (shown old.limits nothing_shown ms).recall drives told_faults)) (sym (append-nil marks)) (still_known_if h before.recall old.drives drives told_faults old.recall grown shows.recall);
-      migrate = subst (λ (ms : List Mark). MigrateKnows (shown old.limits nothing_shown ms).migrate (record { machine = machine; heard = told })) (sym (append-nil marks)) (migrate_rests before.migrate m machine knew act told no_call goes);
-      lost = subst (λ (ms : List Mark). IfSome old.recall (λ (x : Recalling). HearsLost h opened drives ms x.machine.asked x.heard)) (sym (append-nil marks)) (lost_still_if h opened old.drives drives marks old.recall grown shows.lost);
+      marked = marked_still h opened marks old (migrate_left old machine told old.system.store drives) shows.marked refl refl grown;
+      recall = subst (λ (ms : List Mark). IfSome old.system.recall (RecallKnows h (shown old.system.limits nothing_shown ms).recall drives told_faults)) (sym (append-nil marks)) (still_known_if h before.recall old.drives drives told_faults old.system.recall grown shows.recall);
+      migrate = subst (λ (ms : List Mark). MigrateKnows (shown old.system.limits nothing_shown ms).migrate (record { machine = machine; next = Hears told })) (sym (append-nil marks)) (migrate_rests before.migrate m machine knew act told no_call goes);
+      lost = subst (λ (ms : List Mark). IfSome old.system.recall (λ (x : Recalling). HearsLost h opened drives ms x.machine.asked (told_next x.next))) (sym (append-nil marks)) (lost_still_if h opened old.drives drives marks old.system.recall grown shows.lost);
       stored = subst (λ (a : Act). HearsStored h drives a told) (sym goes.asked) about;
-      full = full_on h old.limits old.drives drives m machine act told grown found_then goes about_full;
-      passing = subst (λ (ms : List Mark). PassStands old.limits ms (record { machine = machine; heard = told })) (sym (append-nil marks)) (went_stands old.limits marks m machine stood act told no_call copied goes);
+      full = full_on h old.system.limits old.drives drives m machine act told grown found_then goes about_full;
+      passing = subst (λ (ms : List Mark). PassStands old.system.limits ms (record { machine = machine; next = Hears told })) (sym (append-nil marks)) (went_stands old.system.limits marks m machine stood act told no_call copied goes);
     }

@@ -2,10 +2,8 @@
 use Rattle.std.proofs.Common.{◌≡◌, ◌≢◌, ◌∙◌, ◌∷◌, ◌++◌, ◌+◌, ◌-◌, ◌*◌, ◌^◌, ◌<◌, ◌≤◌, [], ℕ, Bool, true, false, List, length, Option, Some, None}
 use Rattle.std.proofs.Common.{Result, Ok, Err, inl, inr, refl, sym, ap, ap₂, subst, append-nil, length-append, arith, IfSome, drop}
 use Rattle.std.specs.List.{list_all}
-use Rattle.std.specs.Prelude.{slice_set}
 use Rattle.disk_model.specs.declared.device.Disk as disk
 use Rattle.media_model.specs.declared.drive.Drive as drive
-use Rattle.hsm_types.specs.Stubs.{entry_place}
 use Rattle.hsm_types.specs.declared.daemons.Act.{Act}
 use Rattle.hsm_types.specs.declared.daemons.Act.TheVariants.{Dm, Copy, Fetch, Idle}
 use Rattle.hsm_types.specs.declared.daemons.Daemon.{Daemon}
@@ -26,14 +24,15 @@ use Rattle.recall_daemon.specs.Known as recall
 use Rattle.recall_daemon.specs.Machine as recaller
 use Rattle.migrate_daemon.specs.Known as migrate
 use Rattle.migrate_daemon.specs.Machine as migrator
-use Rattle.hsm_replay.specs.declared.daemons.Recalling.{Recalling}
-use Rattle.hsm_replay.specs.declared.daemons.Migrating.{Migrating}
+use Rattle.hsm_system.specs.declared.daemons.Recalling.{Recalling}
+use Rattle.hsm_system.specs.declared.daemons.Migrating.{Migrating}
 use Rattle.hsm_replay.specs.Acts.{Performs}
-use Rattle.hsm_replay.specs.Rests.{Rests}
+use Rattle.hsm_system.specs.Systems.{System, IsDown, Rests}
 use Rattle.marked_history.specs.Quiet.{is_quiet}
-use Rattle.hsm_replay.specs.Steps.{IsDown, Steps, hearing}
-use Rattle.hsm_replay.specs.Systems.{System, drive_of}
-use Rattle.hsm_replay.proofs.Stepping.{recall_left, migrate_left}
+use Rattle.hsm_replay.specs.Steps.{Steps}
+use Rattle.hsm_replay.specs.Systems.{Run, told_next}
+use Rattle.hsm_replay.proofs.Moving.{recall_waits, migrate_waits, recall_left, migrate_left, recall_acts, migrate_acts}
+use Rattle.hsm_replay.proofs.Moving.{recall_behind_call, recall_behind_fetch, migrate_behind_call, migrate_behind_copy}
 
 abbrev pub is_idle : Act → Bool
 is_idle Idle = true
@@ -79,17 +78,17 @@ by_rest entries = omega (arith)
 
 -- ---- what is left of a daemon's round
 
-abbrev pub recall_round : {D M : Type 0} → System D M → Option Recalling → ℕ
+abbrev pub recall_round : {D M : Type 0} → Run D M → Option Recalling → ℕ
 recall_round s None = 0
-recall_round s (Some r) = left_of (length s.store.history) (is_told r.machine.asked r.heard) (is_idle r.machine.asked)
+recall_round s (Some r) = left_of (length s.system.store.history) (is_told r.machine.asked (told_next r.next)) (is_idle r.machine.asked)
 
-abbrev pub migrate_round : {D M : Type 0} → System D M → Option Migrating → ℕ
+abbrev pub migrate_round : {D M : Type 0} → Run D M → Option Migrating → ℕ
 migrate_round s None = 0
-migrate_round s (Some m) = left_of (length s.store.history) (is_copy m.machine.asked) (is_idle m.machine.asked)
+migrate_round s (Some m) = left_of (length s.system.store.history) (is_copy m.machine.asked) (is_idle m.machine.asked)
 
-abbrev pub round_left : {D M : Type 0} → Daemon → System D M → ℕ
-round_left Recall s = recall_round s s.recall
-round_left Migrate s = migrate_round s s.migrate
+abbrev pub round_left : {D M : Type 0} → Daemon → Run D M → ℕ
+round_left Recall s = recall_round s s.system.recall
+round_left Migrate s = migrate_round s s.system.migrate
 
 -- ---- acts
 
@@ -147,77 +146,75 @@ module _ {D M : Type 0} (g : disk.Ghosts D) (h : drive.Ghosts M) where
 
   -- ---- recall
 
-  module _ (old : System D M) (r : Recalling) (machine : recaller.Machine) (runs : old.recall ≡ Some r) (short : length old.store.history < 2 ^ 64) (stays : r.machine.asked ≡ Idle → ⊥) (told : Heard) (left new : System D M) (keeps : new ≡ hearing Recall told left) where
-    recall_before : round_left Recall old ≡ left_of (length old.store.history) (is_told r.machine.asked r.heard) false
-    recall_before = ap (λ (o : Option Recalling). recall_round old o) runs ∙ ap (λ (b : Bool). left_of (length old.store.history) (is_told r.machine.asked r.heard) b) (awake r.machine.asked stays)
+  module _ (old : Run D M) (r : Recalling) (machine : recaller.Machine) (runs : old.system.recall ≡ Some r) (short : length old.system.store.history < 2 ^ 64) (stays : r.machine.asked ≡ Idle → ⊥) (new : Run D M) where
+    recall_before : round_left Recall old ≡ left_of (length old.system.store.history) (is_told r.machine.asked (told_next r.next)) false
+    recall_before = ap (λ (o : Option Recalling). recall_round old o) runs ∙ ap (λ (b : Bool). left_of (length old.system.store.history) (is_told r.machine.asked (told_next r.next)) b) (awake r.machine.asked stays)
 
-    recall_nears : (act : Act) → recaller.GoesOn r.machine r.heard act machine → Performs g h (recall_left old machine heard.Nothing old.store old.drives) act told left → round_left Recall new < round_left Recall old
+    recall_nears : (act : Act) → recaller.GoesOn r.machine (told_next r.next) act machine → Performs g h Recall (recall_waits old machine act) act new → round_left Recall new < round_left Recall old
     recall_nears (Dm sid c) goes performs =
-        let serves = performs.2 in
-        let is : new ≡ recall_left old machine told left.store old.drives = keeps ∙ ap (λ (s : System D M). hearing Recall told s) serves.event.rest in
-        let longer : length left.store.history ≡ length old.store.history + 1 = one_longer old.store.history left.store.history (entry_of (Session sid) (action.Dm c) (answer.Dm performs.0)) serves.added in
-        let now : round_left Recall new ≡ left_of (length old.store.history + 1) false (is_idle machine.asked) = ap (λ (s : System D M). round_left Recall s) is ∙ ap₂ (λ (n : ℕ) (b : Bool). left_of n b (is_idle machine.asked)) longer (called machine.asked told sid c goes.asked) in
-        rw (now, recall_before) (by_event (length old.store.history) (is_told r.machine.asked r.heard) (is_idle machine.asked) short)
+        let left : System D = performs.0.1 in
+        let serves = performs.0.2 in
+        let is = recall_behind_call g h old new machine sid c performs in
+        let longer : length left.store.history ≡ length old.system.store.history + 1 = one_longer old.system.store.history left.store.history (entry_of (Session sid) (action.Dm c) (answer.Dm performs.0.0)) serves.added in
+        let now : round_left Recall new ≡ left_of (length old.system.store.history + 1) false (is_idle machine.asked) = ap (λ (s : Run D M). round_left Recall s) is ∙ ap₂ (λ (n : ℕ) (b : Bool). left_of n b (is_idle machine.asked)) longer (called machine.asked (heard.Dm performs.0.0) sid c goes.asked) in
+        rw (now, recall_before) (by_event (length old.system.store.history) (is_told r.machine.asked (told_next r.next)) (is_idle machine.asked) short)
     recall_nears (Copy volume handle segment bytes) goes performs = absurd goes.may
     recall_nears (Fetch entry) goes performs =
-        let on = performs.3 in
-        let drives : List M = slice_set old.drives (drive_of (entry_place entry).volume old.drives) on.1 in
-        let is : new ≡ recall_left old machine told old.store drives = keeps ∙ ap (λ (s : System D M). hearing Recall told s) on.4 in
-        let hears : is_told machine.asked told ≡ true = rw (goes.asked, performs.1) (told_now entry performs.0 performs.2) in
-        let now : round_left Recall new ≡ left_of (length old.store.history) true (is_idle machine.asked) = ap (λ (s : System D M). round_left Recall s) is ∙ ap (λ (b : Bool). left_of (length old.store.history) b (is_idle machine.asked)) hears in
-        let then : round_left Recall old ≡ left_of (length old.store.history) false false = recall_before ∙ ap (λ (b : Bool). left_of (length old.store.history) b false) (calm r.machine.asked r.heard goes.may.0) in
-        rw (now, then) (by_media (length old.store.history) (is_idle machine.asked) short)
+        let is = recall_behind_fetch g h old new machine entry performs in
+        let hears : is_told machine.asked (heard.Fetched performs.0) ≡ true = rw goes.asked (told_now entry performs.0 performs.1) in
+        let now : round_left Recall new ≡ left_of (length old.system.store.history) true (is_idle machine.asked) = ap (λ (s : Run D M). round_left Recall s) is ∙ ap (λ (b : Bool). left_of (length old.system.store.history) b (is_idle machine.asked)) hears in
+        let then : round_left Recall old ≡ left_of (length old.system.store.history) false false = recall_before ∙ ap (λ (b : Bool). left_of (length old.system.store.history) b false) (calm r.machine.asked (told_next r.next) goes.may.0) in
+        rw (now, then) (by_media (length old.system.store.history) (is_idle machine.asked) short)
     recall_nears Idle goes performs =
-        let is : new ≡ recall_left old machine heard.Nothing old.store old.drives = keeps ∙ ap₂ (λ (t : Heard) (s : System D M). hearing Recall t s) performs.0 performs.1 in
-        let now : round_left Recall new ≡ left_of (length old.store.history) false true = ap (λ (s : System D M). round_left Recall s) is ∙ rw goes.asked refl in
-        let then : round_left Recall old ≡ left_of (length old.store.history) false false = recall_before ∙ ap (λ (b : Bool). left_of (length old.store.history) b false) (rested (recall.knows_by r.machine.known r.machine.asked r.heard) r.machine.asked r.heard goes.may) in
-        rw (now, then) (by_rest (length old.store.history))
+        let is : new ≡ recall_left old machine heard.Nothing old.system.store old.drives = performs in
+        let now : round_left Recall new ≡ left_of (length old.system.store.history) false true = ap (λ (s : Run D M). round_left Recall s) is ∙ rw goes.asked refl in
+        let then : round_left Recall old ≡ left_of (length old.system.store.history) false false = recall_before ∙ ap (λ (b : Bool). left_of (length old.system.store.history) b false) (rested (recall.knows_by r.machine.known r.machine.asked (told_next r.next)) r.machine.asked (told_next r.next) goes.may) in
+        rw (now, then) (by_rest (length old.system.store.history))
 
   -- ---- migration
 
-  module _ (old : System D M) (m : Migrating) (machine : migrator.Machine) (runs : old.migrate ≡ Some m) (short : length old.store.history < 2 ^ 64) (stays : m.machine.asked ≡ Idle → ⊥) (told : Heard) (left new : System D M) (keeps : new ≡ hearing Migrate told left) where
-    migrate_before : round_left Migrate old ≡ left_of (length old.store.history) (is_copy m.machine.asked) false
-    migrate_before = ap (λ (o : Option Migrating). migrate_round old o) runs ∙ ap (λ (b : Bool). left_of (length old.store.history) (is_copy m.machine.asked) b) (awake m.machine.asked stays)
+  module _ (old : Run D M) (m : Migrating) (machine : migrator.Machine) (runs : old.system.migrate ≡ Some m) (short : length old.system.store.history < 2 ^ 64) (stays : m.machine.asked ≡ Idle → ⊥) (new : Run D M) where
+    migrate_before : round_left Migrate old ≡ left_of (length old.system.store.history) (is_copy m.machine.asked) false
+    migrate_before = ap (λ (o : Option Migrating). migrate_round old o) runs ∙ ap (λ (b : Bool). left_of (length old.system.store.history) (is_copy m.machine.asked) b) (awake m.machine.asked stays)
 
-    migrate_nears : (act : Act) → migrator.GoesOn m.machine m.heard act machine → Performs g h (migrate_left old machine heard.Nothing old.store old.drives) act told left → round_left Migrate new < round_left Migrate old
+    migrate_nears : (act : Act) → migrator.GoesOn m.machine (told_next m.next) act machine → Performs g h Migrate (migrate_waits old machine act) act new → round_left Migrate new < round_left Migrate old
     migrate_nears (Dm sid c) goes performs =
-        let serves = performs.2 in
-        let is : new ≡ migrate_left old machine told left.store old.drives = keeps ∙ ap (λ (s : System D M). hearing Migrate told s) serves.event.rest in
-        let longer : length left.store.history ≡ length old.store.history + 1 = one_longer old.store.history left.store.history (entry_of (Session sid) (action.Dm c) (answer.Dm performs.0)) serves.added in
-        let now : round_left Migrate new ≡ left_of (length old.store.history + 1) false (is_idle machine.asked) = ap (λ (s : System D M). round_left Migrate s) is ∙ ap₂ (λ (n : ℕ) (b : Bool). left_of n b (is_idle machine.asked)) longer (called_no_copy machine.asked sid c goes.asked) in
-        rw (now, migrate_before) (by_event (length old.store.history) (is_copy m.machine.asked) (is_idle machine.asked) short)
+        let left : System D = performs.0.1 in
+        let serves = performs.0.2 in
+        let is = migrate_behind_call g h old new machine sid c performs in
+        let longer : length left.store.history ≡ length old.system.store.history + 1 = one_longer old.system.store.history left.store.history (entry_of (Session sid) (action.Dm c) (answer.Dm performs.0.0)) serves.added in
+        let now : round_left Migrate new ≡ left_of (length old.system.store.history + 1) false (is_idle machine.asked) = ap (λ (s : Run D M). round_left Migrate s) is ∙ ap₂ (λ (n : ℕ) (b : Bool). left_of n b (is_idle machine.asked)) longer (called_no_copy machine.asked sid c goes.asked) in
+        rw (now, migrate_before) (by_event (length old.system.store.history) (is_copy m.machine.asked) (is_idle machine.asked) short)
     migrate_nears (Copy volume handle segment bytes) goes performs =
-        let on = performs.3 in
-        let drives : List M = slice_set old.drives (drive_of volume old.drives) on.1 in
-        let is : new ≡ migrate_left old machine told old.store drives = keeps ∙ ap (λ (s : System D M). hearing Migrate told s) on.4 in
+        let is = migrate_behind_copy g h old new machine volume handle segment bytes performs in
         let read : m.machine.asked ≡ Dm _ _ = goes.may.2.2 in
-        let now : round_left Migrate new ≡ left_of (length old.store.history) true (is_idle machine.asked) = ap (λ (s : System D M). round_left Migrate s) is ∙ ap (λ (a : Act). left_of (length old.store.history) (is_copy a) (is_idle machine.asked)) goes.asked in
-        let then : round_left Migrate old ≡ left_of (length old.store.history) false false = migrate_before ∙ ap (λ (b : Bool). left_of (length old.store.history) b false) (called_no_copy m.machine.asked _ _ read) in
-        rw (now, then) (by_media (length old.store.history) (is_idle machine.asked) short)
+        let now : round_left Migrate new ≡ left_of (length old.system.store.history) true (is_idle machine.asked) = ap (λ (s : Run D M). round_left Migrate s) is ∙ ap (λ (a : Act). left_of (length old.system.store.history) (is_copy a) (is_idle machine.asked)) goes.asked in
+        let then : round_left Migrate old ≡ left_of (length old.system.store.history) false false = migrate_before ∙ ap (λ (b : Bool). left_of (length old.system.store.history) b false) (called_no_copy m.machine.asked _ _ read) in
+        rw (now, then) (by_media (length old.system.store.history) (is_idle machine.asked) short)
     migrate_nears (Fetch entry) goes performs = absurd goes.may
     migrate_nears Idle goes performs =
-        let is : new ≡ migrate_left old machine heard.Nothing old.store old.drives = keeps ∙ ap₂ (λ (t : Heard) (s : System D M). hearing Migrate t s) performs.0 performs.1 in
-        let now : round_left Migrate new ≡ left_of (length old.store.history) false true = ap (λ (s : System D M). round_left Migrate s) is ∙ ap (λ (a : Act). left_of (length old.store.history) (is_copy a) (is_idle a)) goes.asked in
-        let then : round_left Migrate old ≡ left_of (length old.store.history) false false = migrate_before ∙ ap (λ (b : Bool). left_of (length old.store.history) b false) (rested_no_copy m.machine.limits (migrate.knows_by m.machine.limits m.machine.known m.machine.asked m.heard) machine.pass m.machine.asked m.heard goes.may) in
-        rw (now, then) (by_rest (length old.store.history))
+        let is : new ≡ migrate_left old machine heard.Nothing old.system.store old.drives = performs in
+        let now : round_left Migrate new ≡ left_of (length old.system.store.history) false true = ap (λ (s : Run D M). round_left Migrate s) is ∙ ap (λ (a : Act). left_of (length old.system.store.history) (is_copy a) (is_idle a)) goes.asked in
+        let then : round_left Migrate old ≡ left_of (length old.system.store.history) false false = migrate_before ∙ ap (λ (b : Bool). left_of (length old.system.store.history) b false) (rested_no_copy m.machine.limits (migrate.knows_by m.machine.limits m.machine.known m.machine.asked (told_next m.next)) machine.pass m.machine.asked (told_next m.next) goes.may) in
+        rw (now, then) (by_rest (length old.system.store.history))
 
   -- ---- a step
 
-  down_rests : (daemon : Daemon) (s : System D M) → IsDown daemon s → Rests daemon s
+  down_rests : (daemon : Daemon) (s : System D) → IsDown daemon s → Rests daemon s
   down_rests Recall s down = subst (λ (o : Option Recalling). IfSome o (λ (r : Recalling). r.machine.asked ≡ Idle)) (sym down) tt
   down_rests Migrate s down = subst (λ (o : Option Migrating). IfSome o (λ (m : Migrating). m.machine.asked ≡ Idle)) (sym down) tt
 
   -- less is left after a step of a daemon that doesn't rest
-  pub step_nears : (daemon : Daemon) (old new : System D M) → length old.store.history < 2 ^ 64 → (Rests daemon old → ⊥) → Steps g h daemon old new → round_left daemon new < round_left daemon old
-  step_nears daemon old new short works (inl down) = absurd (works (down_rests daemon old down.0))
+  pub step_nears : (daemon : Daemon) (old new : Run D M) → length old.system.store.history < 2 ^ 64 → (Rests daemon old.system → ⊥) → Steps g h daemon old new → round_left daemon new < round_left daemon old
+  step_nears daemon old new short works (inl down) = absurd (works (down_rests daemon old.system down.0))
   step_nears Recall old new short works (inr acts) =
-      let moves = acts.moves in
-      let stays : moves.0.machine.asked ≡ Idle → ⊥ = λ idle. works (subst (λ (o : Option Recalling). IfSome o (λ (r : Recalling). r.machine.asked ≡ Idle)) (sym moves.2) idle) in
-      recall_nears old moves.0 moves.1 moves.2 short stays acts.told acts.left new acts.keeps acts.act moves.3 (subst (λ (s : System D M). Performs g h s acts.act acts.told acts.left) moves.4 acts.performs)
+      let by = recall_acts g h old new acts in
+      let stays : by.before.machine.asked ≡ Idle → ⊥ = λ idle. works (subst (λ (o : Option Recalling). IfSome o (λ (r : Recalling). r.machine.asked ≡ Idle)) (sym by.runs) idle) in
+      recall_nears old by.before by.machine by.runs short stays new by.act by.goes by.performs
   step_nears Migrate old new short works (inr acts) =
-      let moves = acts.moves in
-      let stays : moves.0.machine.asked ≡ Idle → ⊥ = λ idle. works (subst (λ (o : Option Migrating). IfSome o (λ (m : Migrating). m.machine.asked ≡ Idle)) (sym moves.2) idle) in
-      migrate_nears old moves.0 moves.1 moves.2 short stays acts.told acts.left new acts.keeps acts.act moves.3 (subst (λ (s : System D M). Performs g h s acts.act acts.told acts.left) moves.4 acts.performs)
+      let by = migrate_acts g h old new acts in
+      let stays : by.before.machine.asked ≡ Idle → ⊥ = λ idle. works (subst (λ (o : Option Migrating). IfSome o (λ (m : Migrating). m.machine.asked ≡ Idle)) (sym by.runs) idle) in
+      migrate_nears old by.before by.machine by.runs short stays new by.act by.goes by.performs
 
   -- ---- a round of settling
 

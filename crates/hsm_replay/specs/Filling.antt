@@ -8,8 +8,8 @@ use Rattle.hsm_types.specs.declared.daemons.Heard.{Heard}
 use Rattle.hsm_types.specs.declared.daemons.Heard.TheVariants.{Copied}
 use Rattle.hsm_types.specs.declared.media.CopyRefusal.TheVariants as copying
 use Rattle.hsm_policy.specs.Settings.{Numbers}
-use Rattle.hsm_replay.specs.declared.daemons.Migrating.{Migrating}
-use Rattle.hsm_replay.specs.Systems.{drive_of}
+use Rattle.hsm_system.specs.declared.daemons.Migrating.{Migrating}
+use Rattle.hsm_replay.specs.Systems.{drive_of, told_next}
 
 -- where it is a copy, it is one to that volume
 abbrev pub IsForVolume : ℕ → Act → Type 0
@@ -58,5 +58,5 @@ module _ {M : Type 0} (g : drive.Ghosts M) where
     pub counts : m.machine.limits ≡ limits
     pub below : FullBelow drives m.machine.pass.volume
     pub asked : IsForVolume m.machine.pass.volume m.machine.asked
-    pub heard : HearsFull drives m.machine.asked m.heard
+    pub heard : HearsFull drives m.machine.asked (told_next m.next)
     pub ended : (told : Heard) → m.machine.pass.ended ≡ Some told → EndsCopy drives limits told

@@ -20,13 +20,13 @@ use Rattle.hsm_policy.specs.Settings.{Numbers}
 use Rattle.daemon_session.specs.Seats.{Seat, no_seat, all_marked, NeedsNone}
 use Rattle.recall_daemon.specs.Known as recall
 use Rattle.migrate_daemon.specs.Known as migrate
-use Rattle.hsm_replay.specs.declared.daemons.Recalling.{Recalling}
-use Rattle.hsm_replay.specs.declared.daemons.Migrating.{Migrating}
-use Rattle.hsm_replay.specs.declared.stops.Stop.{Stop}
+use Rattle.hsm_system.specs.declared.daemons.Recalling.{Recalling}
+use Rattle.hsm_system.specs.declared.daemons.Migrating.{Migrating}
+use Rattle.hsm_system.specs.declared.stops.Stop.{Stop}
 use Rattle.hsm_replay.specs.Drives.{HaveGrown}
 use Rattle.hsm_replay.specs.Faults.{faults_in, IsApart, IsTrue, AreTrue}
 use Rattle.marked_history.specs.Marks.{Mark, entries_of}
-use Rattle.hsm_replay.specs.Running.{Runs}
+use Rattle.hsm_system.specs.Events.{Runs}
 use Rattle.hsm_replay.specs.Passes.{CopyEnds, PassStands}
 use Rattle.hsm_replay.specs.Sealed.{Tallies, HearsLost, HearsStored}
 use Rattle.hsm_replay.specs.Filling.{FindsFull}
@@ -36,7 +36,7 @@ use Rattle.marked_history.specs.Served.{Served, IsOf, shown, nothing_shown}
 use Rattle.marked_history.specs.Settling.{AreByRunning}
 use Rattle.marked_history.specs.Waiting.{Running}
 use Rattle.script_text.specs.declared.lines.Line.{Line}
-use Rattle.hsm_replay.specs.Systems.{System, running}
+use Rattle.hsm_replay.specs.Systems.{Run, running, told_next}
 
 -- ---- what machines know
 
@@ -67,12 +67,12 @@ module _ {M : Type 0} (g : drive.Ghosts M) where
 
   -- The recall daemon knows what the history shows, unless it is at its start.
   pub record RecallKnows (k : recall.Known) (drives : List M) (faults : List Fault) (r : Recalling) : Type 0 where
-    pub known : (IsAtStart r.machine.known.seat r.machine.asked r.heard × (r.machine.known.hand ≡ None)) ⊎ IsKnownAs (recall.knows_by r.machine.known r.machine.asked r.heard) k
-    pub heard : IsHeardOf drives faults r.machine.asked r.heard
+    pub known : (IsAtStart r.machine.known.seat r.machine.asked (told_next r.next) × (r.machine.known.hand ≡ None)) ⊎ IsKnownAs (recall.knows_by r.machine.known r.machine.asked (told_next r.next)) k
+    pub heard : IsHeardOf drives faults r.machine.asked (told_next r.next)
 
 -- So does the migration daemon.
 abbrev pub MigrateKnows : migrate.Known → Migrating → Type 0
-MigrateKnows k m = IsAtStart m.machine.known.seat m.machine.asked m.heard ⊎ IsShownAs (migrate.knows_by m.machine.limits m.machine.known m.machine.asked m.heard) k
+MigrateKnows k m = IsAtStart m.machine.known.seat m.machine.asked (told_next m.next) ⊎ IsShownAs (migrate.knows_by m.machine.limits m.machine.known m.machine.asked (told_next m.next)) k
 
 -- ---- the lives of daemons
 
@@ -83,16 +83,16 @@ HearsLast daemon marks asked told = (sid : Sid) (call : DmCall) (reply : DmReply
 -- The recall daemon is at its start until it has called, and then it knows what the history shows. It has no session while it waits for what is told
 -- without one.
 pub record RecallLives (marks : List Mark) (k : recall.Known) (called : Bool) (r : Recalling) : Type 0 where
-  pub starts : called ≡ false → IsAtStart r.machine.known.seat r.machine.asked r.heard × (r.machine.known.hand ≡ None)
-  pub knows : called ≡ true → IsKnownAs (recall.knows_by r.machine.known r.machine.asked r.heard) k
-  pub hears : HearsLast Recall marks r.machine.asked r.heard
+  pub starts : called ≡ false → IsAtStart r.machine.known.seat r.machine.asked (told_next r.next) × (r.machine.known.hand ≡ None)
+  pub knows : called ≡ true → IsKnownAs (recall.knows_by r.machine.known r.machine.asked (told_next r.next)) k
+  pub hears : HearsLast Recall marks r.machine.asked (told_next r.next)
   pub outside : NeedsNone r.machine.asked → r.machine.known.seat.sid ≡ None
 
 -- So does the migration daemon.
 pub record MigrateLives (marks : List Mark) (k : migrate.Known) (called : Bool) (m : Migrating) : Type 0 where
-  pub starts : called ≡ false → IsAtStart m.machine.known.seat m.machine.asked m.heard
-  pub knows : called ≡ true → IsShownAs (migrate.knows_by m.machine.limits m.machine.known m.machine.asked m.heard) k
-  pub hears : HearsLast Migrate marks m.machine.asked m.heard
+  pub starts : called ≡ false → IsAtStart m.machine.known.seat m.machine.asked (told_next m.next)
+  pub knows : called ≡ true → IsShownAs (migrate.knows_by m.machine.limits m.machine.known m.machine.asked (told_next m.next)) k
+  pub hears : HearsLast Migrate marks m.machine.asked (told_next m.next)
   pub outside : NeedsNone m.machine.asked → m.machine.known.seat.sid ≡ None
 
 -- one that doesn't run has made no call since it was started
@@ -101,11 +101,11 @@ LivesIf Lives called None = called ≡ false
 LivesIf Lives called (Some r) = Lives called r
 
 -- so behind these marks either daemon lives, where these have called
-pub record Live {D M : Type 0} (limits : Numbers) (called : Running) (marks : List Mark) (s : System D M) : Type 0 where
-  pub recall : LivesIf (RecallLives marks (shown limits nothing_shown marks).recall) called.recall s.recall
-  pub migrate : LivesIf (MigrateLives marks (shown limits nothing_shown marks).migrate) called.migrate s.migrate
+pub record Live {D M : Type 0} (limits : Numbers) (called : Running) (marks : List Mark) (s : Run D M) : Type 0 where
+  pub recall : LivesIf (RecallLives marks (shown limits nothing_shown marks).recall) called.recall s.system.recall
+  pub migrate : LivesIf (MigrateLives marks (shown limits nothing_shown marks).migrate) called.migrate s.system.migrate
 
-module _ {D M : Type 0} (old new : System D M) where
+module _ {D M : Type 0} (old new : Run D M) where
   -- Of more marks each call is right. Where the same daemons run on, they live on by them.
   abbrev pub LiveOn : (marks more : List Mark) → Type 0
   LiveOn marks more = (limits : Numbers) (called : Running) → Live limits called marks old → (running new ≡ running old → Live limits (called_in more called) (marks ++ more) new) × BeginsRight limits called marks more
@@ -115,7 +115,7 @@ module _ {D M : Type 0} (old new : System D M) where
   LiveThrough line marks more = (limits : Numbers) (called : Running) → Live limits called marks old → Live limits (called_by line (called_in more called)) (marks ++ more) new × BeginsRight limits called marks more
 
 -- Where a run was stopped each call is right.
-abbrev pub LiveUntil : {D M : Type 0} → System D M → (marks more : List Mark) → Type 0
+abbrev pub LiveUntil : {D M : Type 0} → Run D M → (marks more : List Mark) → Type 0
 LiveUntil old marks more = (limits : Numbers) (called : Running) → Live limits called marks old → BeginsRight limits called marks more
 
 -- ---- what a history shows
@@ -123,48 +123,48 @@ LiveUntil old marks more = (limits : Numbers) (called : Running) → Live limits
 module _ {D M : Type 0} (g : drive.Ghosts M) where
   -- The marked entries are those of the store. They are served, the faults that events were answered for are true, what was sealed is on the drives, which
   -- were opened as these, and each pass of migration that is over is as it should be.
-  pub record IsMarked (opened : List M) (marks : List Mark) (s : System D M) : Type 0 where
-    pub entries : entries_of marks ≡ s.store.history
-    pub served : Served s.limits marks
-    pub faults : AreTrue g s.drives (faults_in s.store.history)
-    pub sealed : Tallies g opened s.drives s.limits marks
-    pub passes : AllPassed (CopyEnds g s.drives s.limits) s.limits marks
+  pub record IsMarked (opened : List M) (marks : List Mark) (s : Run D M) : Type 0 where
+    pub entries : entries_of marks ≡ s.system.store.history
+    pub served : Served s.system.limits marks
+    pub faults : AreTrue g s.drives (faults_in s.system.store.history)
+    pub sealed : Tallies g opened s.drives s.system.limits marks
+    pub passes : AllPassed (CopyEnds g s.drives s.system.limits) s.system.limits marks
 
   -- They show what the daemons know, too. What these heard last of a fetch and a copy is so, the volumes that migration found full are, and the pass that
   -- is under way is that of the last table.
-  pub record Shows (opened : List M) (marks : List Mark) (s : System D M) : Type 0 where
+  pub record Shows (opened : List M) (marks : List Mark) (s : Run D M) : Type 0 where
     pub marked : IsMarked opened marks s
-    pub recall : IfSome s.recall (RecallKnows g (shown s.limits nothing_shown marks).recall s.drives (faults_in s.store.history))
-    pub migrate : IfSome s.migrate (MigrateKnows (shown s.limits nothing_shown marks).migrate)
-    pub lost : IfSome s.recall (λ (r : Recalling). HearsLost g opened s.drives marks r.machine.asked r.heard)
-    pub stored : IfSome s.migrate (λ (m : Migrating). HearsStored g s.drives m.machine.asked m.heard)
-    pub full : IfSome s.migrate (FindsFull g s.drives s.limits)
-    pub passing : IfSome s.migrate (PassStands s.limits marks)
+    pub recall : IfSome s.system.recall (RecallKnows g (shown s.system.limits nothing_shown marks).recall s.drives (faults_in s.system.store.history))
+    pub migrate : IfSome s.system.migrate (MigrateKnows (shown s.system.limits nothing_shown marks).migrate)
+    pub lost : IfSome s.system.recall (λ (r : Recalling). HearsLost g opened s.drives marks r.machine.asked (told_next r.next))
+    pub stored : IfSome s.system.migrate (λ (m : Migrating). HearsStored g s.drives m.machine.asked (told_next m.next))
+    pub full : IfSome s.system.migrate (FindsFull g s.drives s.system.limits)
+    pub passing : IfSome s.system.migrate (PassStands s.system.limits marks)
 
   -- From each marked history that shows it, entries of that kind lead on to one that shows what is left. Calls among them are made by daemons that run,
   -- which live on so.
-  abbrev pub Keeps : (List Mark → Type 0) → System D M → System D M → Type 0
+  abbrev pub Keeps : (List Mark → Type 0) → Run D M → Run D M → Type 0
   Keeps IsPart old new = (opened : List M) (marks : List Mark) → Shows opened marks old → (more : List Mark) × IsPart more × Shows opened (marks ++ more) new × AreByRunning (running old) more × LiveOn old new marks more
 
   -- Where a run was stopped there may be no such entry, and nothing is said of what the daemons know.
-  abbrev pub Ends : (List Mark → Type 0) → System D M → System D M → Type 0
+  abbrev pub Ends : (List Mark → Type 0) → Run D M → Run D M → Type 0
   Ends IsPart old new = (opened : List M) (marks : List Mark) → Shows opened marks old → (more : List Mark) × (IsPart more ⊎ (more ≡ [])) × IsMarked opened (marks ++ more) new × AreByRunning (running old) more × LiveUntil old marks more
 
 -- ---- what is added
 
 -- The history has more entries, those of marks of that kind. Calls among them are made by daemons that run.
-abbrev pub Adds : {D M : Type 0} → (List Mark → Type 0) → System D M → System D M → Type 0
-Adds IsPart old new = (more : List Mark) × IsPart more × (new.store.history ≡ old.store.history ++ entries_of more) × AreByRunning (running old) more
+abbrev pub Adds : {D M : Type 0} → (List Mark → Type 0) → Run D M → Run D M → Type 0
+Adds IsPart old new = (more : List Mark) × IsPart more × (new.system.store.history ≡ old.system.store.history ++ entries_of more) × AreByRunning (running old) more
 
 -- Of a run that was stopped there may be none.
-abbrev pub AddsFirst : {D M : Type 0} → (List Mark → Type 0) → System D M → System D M → Type 0
+abbrev pub AddsFirst : {D M : Type 0} → (List Mark → Type 0) → Run D M → Run D M → Type 0
 AddsFirst IsPart old new = Adds (λ (more : List Mark). IsPart more ⊎ (more ≡ [])) old new
 
 -- What is run adds such entries to any history, and what marked histories show it leads on. The settings stay, and the drives are the same, used.
-pub record Moves {D M T : Type 0} (g : disk.Ghosts D) (h : drive.Ghosts M) (IsPart : List Mark → Type 0) (result : Result T Stop) (old new : System D M) : Type 0 where
-  pub limits : new.limits ≡ old.limits
+pub record Moves {D M T : Type 0} (g : disk.Ghosts D) (h : drive.Ghosts M) (IsPart : List Mark → Type 0) (result : Result T Stop) (old new : Run D M) : Type 0 where
+  pub limits : new.system.limits ≡ old.system.limits
   pub drives : HaveGrown h old.drives new.drives
-  pub runs : Runs g result old.store new.store
+  pub runs : Runs g result old.system.store new.system.store
   pub adds : OnOk result (Adds IsPart old new)
   pub adds_first : OnErr result (AddsFirst IsPart old new)
   pub keeps : OnOk result (Keeps h IsPart old new)

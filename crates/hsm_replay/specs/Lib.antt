@@ -1,4 +1,3 @@
-pub mod Asking
 pub mod Systems
 pub mod Faults
 pub mod Acts
@@ -8,7 +7,6 @@ pub mod Running
 pub mod Sealed
 pub mod Filling
 pub mod Passes
-pub mod Rests
 pub mod Freshness
 pub mod Settled
 pub mod Turns

@@ -23,7 +23,8 @@ use Rattle.migrate_daemon.specs.Shares.{share}
 use Rattle.marked_history.specs.Lives.{IsLast}
 use Rattle.marked_history.specs.Marks.{Mark, made}
 use Rattle.marked_history.specs.Passing.{AreOfPass, IsReadAtLast, IsFit, table_told}
-use Rattle.hsm_replay.specs.declared.daemons.Migrating.{Migrating}
+use Rattle.hsm_system.specs.declared.daemons.Migrating.{Migrating}
+use Rattle.hsm_replay.specs.Systems.{told_next}
 use Rattle.hsm_replay.specs.Filling.{AllFull}
 
 module _ {M : Type 0} (g : drive.Ghosts M) where
@@ -68,7 +69,7 @@ IsThere asked told during = (sid : Sid) (call : DmCall) (answer : DmReply) → a
 -- it is in that pass
 pub record IsInPass (limits : Numbers) (sid : Sid) (table : Table) (during : List Mark) (m : Migrating) : Type 0 where
   pub pass : IsPassOf limits sid table during m.machine.pass
-  pub hears : IsThere m.machine.asked m.heard during
+  pub hears : IsThere m.machine.asked (told_next m.next) during
   pub ready : IsReady limits.volumes m.machine.pass.picks during sid m.machine.asked
 
 -- it was just started
@@ -77,7 +78,7 @@ HasNotBegun m = (m.machine.known.seat ≡ no_seat) × (m.machine.asked ≡ Idle)
 
 -- it hears that table next, and has done nothing since
 abbrev pub HearsTable : Sid → Table → List Mark → Migrating → Type 0
-HearsTable sid table during m = (m.machine.asked ≡ Dm sid GetTable) × (m.heard ≡ heard.Dm (reply.Table table)) × AllByRecursion (λ (x : Mark). x.by ≢ Some Migrate) during
+HearsTable sid table during m = (m.machine.asked ≡ Dm sid GetTable) × (told_next m.next ≡ heard.Dm (reply.Table table)) × AllByRecursion (λ (x : Mark). x.by ≢ Some Migrate) during
 
 -- what is heard of a copy names its volume, and has its bytes' fingerprint
 abbrev pub HearsCopy : Act → Heard → Type 0
@@ -90,7 +91,7 @@ IsOpened marks = (before : List Mark) × (sid : Sid) × (table : Table) × (duri
 
 -- no pass is under way, and no table is heard next
 abbrev pub IsBetweenPasses : Migrating → Type 0
-IsBetweenPasses m = IsOver m.machine.pass × ((sid : Sid) (table : Table) → m.machine.asked ≡ Dm sid GetTable → m.heard ≡ heard.Dm (reply.Table table) → ⊥)
+IsBetweenPasses m = IsOver m.machine.pass × ((sid : Sid) (table : Table) → m.machine.asked ≡ Dm sid GetTable → told_next m.next ≡ heard.Dm (reply.Table table) → ⊥)
 
 -- Behind the last table, where all that migration did since are calls of a pass, the daemon is in the pass of that table, or about to begin it, or a new one.
 -- Elsewhere no pass is under way.
@@ -99,4 +100,4 @@ pub record PassStands (limits : Numbers) (marks : List Mark) (m : Migrating) : T
   pub stands : (before : List Mark) (sid : Sid) (table : Table) (during : List Mark) → marks ≡ before ++ table_told sid table ∷ during → AreOfPass during
       → HasNotBegun m ⊎ (HearsTable sid table during m ⊎ IsInPass limits sid table during m)
   pub elsewhere : IsBetweenPasses m ⊎ IsOpened marks
-  pub copied : HearsCopy m.machine.asked m.heard
+  pub copied : HearsCopy m.machine.asked (told_next m.next)

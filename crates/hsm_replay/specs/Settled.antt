@@ -34,7 +34,7 @@ use Rattle.migrate_daemon.specs.Machine as migrate
 use Rattle.migrate_daemon.specs.Shares.{is_above}
 use Rattle.marked_history.specs.Quiet.{is_quiet}
 use Rattle.marked_history.specs.Served.{IsTold}
-use Rattle.hsm_replay.specs.Systems.{System}
+use Rattle.hsm_replay.specs.Systems.{Run}
 
 -- ---- how a turn ends
 
@@ -68,9 +68,9 @@ pub record MigrateRests (limits : Numbers) (entries : List Entry) (m : migrate.M
   pub none_due : (sid : Sid) → IsSeated m.known.seat sid → NoneDue limits entries m.known.fresh
 
 -- the turn of the daemon where it runs, which rests now
-abbrev pub IsTurnOf : {D M : Type 0} → Daemon → System D M → List Entry → Type 0
-IsTurnOf Recall s entries = IfSome s.recall (λ r. RecallRests entries r.machine)
-IsTurnOf Migrate s entries = IfSome s.migrate (λ m. MigrateRests s.limits entries m.machine)
+abbrev pub IsTurnOf : {D M : Type 0} → Daemon → Run D M → List Entry → Type 0
+IsTurnOf Recall s entries = IfSome s.system.recall (λ r. RecallRests entries r.machine)
+IsTurnOf Migrate s entries = IfSome s.system.migrate (λ m. MigrateRests s.system.limits entries m.machine)
 
 -- ---- why recall keeps events
 
@@ -96,16 +96,16 @@ NoneReady s = (caller : ℕ) → IsCallerNumber caller → ready s caller ≢ No
 
 -- Behind these entries there are some of recall and then some of migration, all quiet, with which a turn of each has ended. What recall keeps is held up. No
 -- access may go on now.
-pub record EndsQuietly {D M : Type 0} (from : List Entry) (s : System D M) : Type 0 where
+pub record EndsQuietly {D M : Type 0} (from : List Entry) (s : Run D M) : Type 0 where
   pub recall_turn : List Entry
   pub migrate_turn : List Entry
-  pub history : s.store.history ≡ from ++ recall_turn ++ migrate_turn
+  pub history : s.system.store.history ≡ from ++ recall_turn ++ migrate_turn
   pub quiet : list_all is_quiet (recall_turn ++ migrate_turn) ≡ true
   pub recall : IsTurnOf Recall s recall_turn
   pub migrate : IsTurnOf Migrate s migrate_turn
-  pub held_up : IfSome s.recall (λ r. AreHeldUp recall_turn (state_of s.store).rights r.machine.known.seat)
-  pub ready : NoneReady s.store
+  pub held_up : IfSome s.system.recall (λ r. AreHeldUp recall_turn (state_of s.system.store).rights r.machine.known.seat)
+  pub ready : NoneReady s.system.store
 
 -- the last round ended so
-abbrev pub IsSettled : {D M : Type 0} → System D M → System D M → Type 0
-IsSettled old new = (before : List Entry) × EndsQuietly (old.store.history ++ before) new
+abbrev pub IsSettled : {D M : Type 0} → Run D M → Run D M → Type 0
+IsSettled old new = (before : List Entry) × EndsQuietly (old.system.store.history ++ before) new

@@ -22,14 +22,14 @@ use Rattle.daemon_session.specs.declared.events.Kept.{Kept}
 use Rattle.hsm_policy.specs.Settings.{Numbers}
 use Rattle.recall_daemon.specs.Known as recall
 use Rattle.migrate_daemon.specs.Known as migrate
-use Rattle.hsm_replay.specs.declared.daemons.Recalling.{Recalling}
-use Rattle.hsm_replay.specs.declared.daemons.Migrating.{Migrating}
-use Rattle.hsm_replay.specs.Asking.{RecallAsks, MigrateAsks}
-use Rattle.hsm_replay.specs.Rests.{Rests}
+use Rattle.hsm_system.specs.declared.daemons.Recalling.{Recalling}
+use Rattle.hsm_system.specs.declared.daemons.Migrating.{Migrating}
+use Rattle.hsm_system.specs.Asking.{RecallAsks, MigrateAsks}
+use Rattle.hsm_system.specs.Systems.{Rests}
 use Rattle.hsm_replay.specs.Freshness.{StaysFresh}
 use Rattle.marked_history.specs.Quiet.{is_quiet}
 use Rattle.hsm_replay.specs.Settled.{IsTurnOf, IsToldSpace, IsHeldUp, AreHeldUp, NoneReady}
-use Rattle.hsm_replay.specs.Systems.{System, running}
+use Rattle.hsm_replay.specs.Systems.{Run, running, told_next}
 
 -- It hears the answer of the last entry next, or what came of a copy or a fetch, or it rests.
 abbrev pub Stands : List Entry → Act → Heard → Type 0
@@ -55,39 +55,39 @@ pub record IsKeptBack (entries : List Entry) (rights : Rights) (k : recall.Known
 
 pub record RecallStands (entries : List Entry) (rights : Rights) (r : Recalling) : Type 0 where
   pub asks : RecallAsks r.machine
-  pub stands : Stands entries r.machine.asked r.heard
-  pub back : list_all is_quiet entries ≡ true → IsKeptBack entries rights (recall.knows_by r.machine.known r.machine.asked r.heard) r.machine.asked
+  pub stands : Stands entries r.machine.asked (told_next r.next)
+  pub back : list_all is_quiet entries ≡ true → IsKeptBack entries rights (recall.knows_by r.machine.known r.machine.asked (told_next r.next)) r.machine.asked
 
 -- ---- either daemon in a turn
 
 -- what it knows of the space it was told in this turn
 pub record MigrateStands (limits : Numbers) (entries : List Entry) (m : Migrating) : Type 0 where
   pub asks : MigrateAsks limits m.machine
-  pub stands : Stands entries m.machine.asked m.heard
-  pub space : IfSome (migrate.knows_by m.machine.limits m.machine.known m.machine.asked m.heard).space (IsToldSpace entries)
+  pub stands : Stands entries m.machine.asked (told_next m.next)
+  pub space : IfSome (migrate.knows_by m.machine.limits m.machine.known m.machine.asked (told_next m.next)).space (IsToldSpace entries)
 
-abbrev pub StandsIn : {D M : Type 0} → Daemon → List Entry → System D M → Type 0
-StandsIn Recall entries s = IfSome s.recall (RecallStands entries (state_of s.store).rights)
-StandsIn Migrate entries s = IfSome s.migrate (MigrateStands s.limits entries)
+abbrev pub StandsIn : {D M : Type 0} → Daemon → List Entry → Run D M → Type 0
+StandsIn Recall entries s = IfSome s.system.recall (RecallStands entries (state_of s.system.store).rights)
+StandsIn Migrate entries s = IfSome s.system.migrate (MigrateStands s.system.limits entries)
 
 -- what recall keeps is held up
-abbrev pub LeavesHeldUp : {D M : Type 0} → Daemon → List Entry → System D M → Type 0
-LeavesHeldUp Recall entries s = IfSome s.recall (λ r. AreHeldUp entries (state_of s.store).rights r.machine.known.seat)
+abbrev pub LeavesHeldUp : {D M : Type 0} → Daemon → List Entry → Run D M → Type 0
+LeavesHeldUp Recall entries s = IfSome s.system.recall (λ r. AreHeldUp entries (state_of s.system.store).rights r.machine.known.seat)
 LeavesHeldUp Migrate entries s = Unit {0}
 
 -- a turn is over, and where it was quiet recall keeps only what was held up
-pub record IsOver {D M : Type 0} (daemon : Daemon) (entries : List Entry) (s : System D M) : Type 0 where
+pub record IsOver {D M : Type 0} (daemon : Daemon) (entries : List Entry) (s : Run D M) : Type 0 where
   pub turn : IsTurnOf daemon s entries
   pub held_up : list_all is_quiet entries ≡ true → LeavesHeldUp daemon entries s
 
 -- The daemon is in a turn that began behind these entries. Where it rests the turn is over.
-abbrev pub IsInTurn : {D M : Type 0} → Daemon → List Entry → System D M → Type 0
-IsInTurn daemon from s = (entries : List Entry) × (s.store.history ≡ from ++ entries) × StandsIn daemon entries s × (Rests daemon s → IsOver daemon entries s)
+abbrev pub IsInTurn : {D M : Type 0} → Daemon → List Entry → Run D M → Type 0
+IsInTurn daemon from s = (entries : List Entry) × (s.system.store.history ≡ from ++ entries) × StandsIn daemon entries s × (Rests daemon s.system → IsOver daemon entries s)
 
 -- the other daemon stays as it is
-abbrev pub IsAlone : {D M : Type 0} → Daemon → System D M → System D M → Type 0
-IsAlone Recall old new = new.migrate ≡ old.migrate
-IsAlone Migrate old new = new.recall ≡ old.recall
+abbrev pub IsAlone : {D M : Type 0} → Daemon → Run D M → Run D M → Type 0
+IsAlone Recall old new = new.system.migrate ≡ old.system.migrate
+IsAlone Migrate old new = new.system.recall ≡ old.system.recall
 
 -- the same accesses may go on, and the same tokens hold files
 pub record IsAlike {D : Type 0} (old new : Store D) : Type 0 where
@@ -99,21 +99,21 @@ abbrev pub LeavesAlike : {D : Type 0} → Store D → Store D → Type 0
 LeavesAlike old new = (more : List Entry) × (new.history ≡ old.history ++ more) × (list_all is_quiet more ≡ true → IsAlike old new)
 
 -- steps of one daemon
-pub record GoesInTurn {D M : Type 0} (daemon : Daemon) (old new : System D M) : Type 0 where
+pub record GoesInTurn {D M : Type 0} (daemon : Daemon) (old new : Run D M) : Type 0 where
   pub alone : IsAlone daemon old new
   pub runs : running new ≡ running old
-  pub calm : LeavesAlike old.store new.store
+  pub calm : LeavesAlike old.system.store new.system.store
   pub fresh : StaysFresh old new
   pub on : (from : List Entry) → IsInTurn daemon from old → IsInTurn daemon from new
 
 -- a turn from its beginning to its end
-pub record HasTurned {D M : Type 0} (daemon : Daemon) (old new : System D M) : Type 0 where
+pub record HasTurned {D M : Type 0} (daemon : Daemon) (old new : Run D M) : Type 0 where
   pub alone : IsAlone daemon old new
   pub runs : running new ≡ running old
-  pub calm : LeavesAlike old.store new.store
+  pub calm : LeavesAlike old.system.store new.system.store
   pub fresh : StaysFresh old new
   pub entries : List Entry
-  pub history : new.store.history ≡ old.store.history ++ entries
+  pub history : new.system.store.history ≡ old.system.store.history ++ entries
   pub over : IsOver daemon entries new
 
 -- ---- resumes
@@ -122,11 +122,11 @@ abbrev pub IsResumeOf : Entry → Type 0
 IsResumeOf e = (caller : ℕ) × (given : Answer) × (e ≡ entry_of (Caller caller) action.Resume given)
 
 -- The caller has resumed, unless its access may not go on: then all is as before.
-abbrev pub MayResume : {D M : Type 0} → ℕ → System D M → System D M → Type 0
-MayResume caller old new = (new ≡ old) × (ready old.store caller ≢ Now) ⊎ ((given : Answer) × (new ≡ record old { store = new.store }) × (new.store.history ≡ old.store.history ++ entry_of (Caller caller) action.Resume given ∷ []))
+abbrev pub MayResume : {D M : Type 0} → ℕ → Run D M → Run D M → Type 0
+MayResume caller old new = (new ≡ old) × (ready old.system.store caller ≢ Now) ⊎ ((given : Answer) × (new ≡ record old { system = record old.system { store = new.system.store } }) × (new.system.store.history ≡ old.system.store.history ++ entry_of (Caller caller) action.Resume given ∷ []))
 
 -- Callers have resumed, and no daemon has made a step. Where none has, no access may go on.
-pub record HaveResumed {D M : Type 0} (old new : System D M) : Type 0 where
-  pub recall : new.recall ≡ old.recall
-  pub migrate : new.migrate ≡ old.migrate
-  pub none : (new.store ≡ old.store) × NoneReady new.store ⊎ ((first : Entry) × (more : List Entry) × IsResumeOf first × (new.store.history ≡ old.store.history ++ first ∷ more))
+pub record HaveResumed {D M : Type 0} (old new : Run D M) : Type 0 where
+  pub recall : new.system.recall ≡ old.system.recall
+  pub migrate : new.system.migrate ≡ old.system.migrate
+  pub none : (new.system.store ≡ old.system.store) × NoneReady new.system.store ⊎ ((first : Entry) × (more : List Entry) × IsResumeOf first × (new.system.store.history ≡ old.system.store.history ++ first ∷ more))

@@ -9,12 +9,13 @@ ghost use Rattle.hsm_replay.specs.Resting.{IsLeftBy, LeadsOn};
 ghost use Rattle.hsm_replay.specs.Systems.{running};
 ghost use Rattle.marked_history.specs.Settling.{running_by};
 ghost use Rattle.hsm_replay.specs.Running.{commit_line, IsAllDurable};
+ghost use Rattle.hsm_system.specs.Events.{action_of, actor_of};
 
 use crate::replay::Replay;
-use crate::stops::{Stop, answered, told};
 use disk_model::Disk;
+use hsm_system::{Event as Made, Stop};
 use media_model::Drive;
-use plain_model::{Action, Actor, synced_grows};
+use plain_model::{Action, Actor};
 use script_text::Line;
 use std::alloc::Global;
 
@@ -49,25 +50,30 @@ impl<D: Disk, M: Drive> Replay<D, M> {
         ensures moves { (seed : Option ℕ) → Moves D.Disk M.Drive (IsPartOf (Event actor action seed)) result self.old self.new }
         ensures does { (seed : Option ℕ) → Does D.Disk M.Drive (Event actor action seed) result self.old self.new }
     {
-        self.kept();
-        match (&actor, action) {
-            (Actor::Caller(caller), Action::Issue(call)) => {
-                answered(&self.hsm.issue(alloc, *caller, call))
-            }
-            (Actor::Caller(caller), Action::Resume) => answered(&self.hsm.resume(alloc, *caller)),
-            (Actor::Session(sid), Action::Dm(call)) => told(&self.hsm.dm(alloc, *sid, call)),
-            (Actor::Store, Action::Commit) => self.commit(alloc),
-            _ => unreachable!(),
-        }
+        self.system.event(alloc, event_of(actor, action))
     }
 
     /// Makes all durable that is held, as one event.
     pub fn commit(&mut self, alloc: Global) -> Result<(), Stop>
         ensures moves { Moves D.Disk M.Drive (IsPartOf commit_line) result self.old self.new }
         ensures does { Does D.Disk M.Drive commit_line result self.old self.new }
-        ensures durable { OnOk result (IsAllDurable self.new.store) }
+        ensures durable { OnOk result (IsAllDurable self.new.system.store) }
     {
-        synced_grows();
-        answered(&self.hsm.commit(alloc))
+        self.system.event(alloc, Made::Commit)
+    }
+}
+
+/// The event of a line, by who makes it and what it is.
+fn event_of(actor: Actor, action: Action) -> Made
+    requires { (seed : Option ℕ) × IsEvent actor action seed }
+    ensures who { actor_of result ≡ actor }
+    ensures what { action_of result ≡ action }
+{
+    match (&actor, action) {
+        (Actor::Caller(caller), Action::Issue(call)) => Made::Issue(*caller, call),
+        (Actor::Caller(caller), Action::Resume) => Made::Resume(*caller),
+        (Actor::Session(sid), Action::Dm(call)) => Made::Dm(*sid, call),
+        (Actor::Store, Action::Commit) => Made::Commit,
+        _ => unreachable!(),
     }
 }

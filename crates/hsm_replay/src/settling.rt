@@ -5,7 +5,7 @@ ghost use Rattle.hsm_types.specs.Callers.{IsCallerNumber};
 ghost use Rattle.marked_history.specs.Follows.{IsMadeBy, IsOfSettling};
 ghost use Rattle.hsm_replay.specs.Freshness.{StaysFresh};
 ghost use Rattle.hsm_replay.specs.Keeping.{Moves};
-ghost use Rattle.hsm_replay.specs.Rests.{Rests};
+ghost use Rattle.hsm_system.specs.Systems.{Rests};
 ghost use Rattle.marked_history.specs.Quiet.{is_quiet};
 ghost use Rattle.hsm_replay.specs.Resting.{EndsMarked, IsSettledIn, LeadsOn};
 ghost use Rattle.hsm_replay.specs.Settled.{IsSettled};
@@ -14,8 +14,8 @@ ghost use Rattle.hsm_replay.specs.Turns.{GoesInTurn, HasTurned, HaveResumed, May
 
 use crate::quiet::all_quiet;
 use crate::replay::Replay;
-use crate::stops::Stop;
 use disk_model::Disk;
+use hsm_system::Stop;
 use hsm_types::{CALLERS, CallerId, Daemon};
 use media_model::Drive;
 use std::alloc::Global;
@@ -45,7 +45,7 @@ impl<D: Disk, M: Drive> Replay<D, M> {
     fn round(&mut self, alloc: Global) -> Result<bool, Stop>
         ensures moves { Moves D.Disk M.Drive (AllByRecursion IsOfSettling) result self.old self.new }
         ensures fresh { OnOk result (StaysFresh self.old self.new) }
-        ensures quiet { IfOk result (λ quiet. quiet ≡ list_all is_quiet (drop (length self.old.store.history) self.new.store.history)) }
+        ensures quiet { IfOk result (λ quiet. quiet ≡ list_all is_quiet (drop (length self.old.system.store.history) self.new.system.store.history)) }
         ensures ends { IfOk result (λ quiet. quiet ≡ true → EndsMarked M.Drive self.old self.new) }
         ensures runs { running self.new ≡ running self.old }
     {
@@ -71,7 +71,7 @@ impl<D: Disk, M: Drive> Replay<D, M> {
 
     /// A daemon's turn from its beginning to its end.
     fn whole_turn(&mut self, alloc: Global, daemon: Daemon) -> Result<(), Stop>
-        requires { Rests daemon self.old }
+        requires { Rests daemon self.old.system }
         ensures moves { Moves D.Disk M.Drive (AllByRecursion (IsMadeBy daemon)) result self.old self.new }
         ensures turned { OnOk result (HasTurned daemon self.old self.new) }
         ensures runs { running self.new ≡ running self.old }
@@ -84,7 +84,7 @@ impl<D: Disk, M: Drive> Replay<D, M> {
     /// The rest of a daemon's turn: steps until it rests.
     fn rest(&mut self, alloc: Global, daemon: Daemon) -> Result<(), Stop>
         ensures moves { Moves D.Disk M.Drive (AllByRecursion (IsMadeBy daemon)) result self.old self.new }
-        ensures rests { OnOk result (Rests daemon self.new) }
+        ensures rests { OnOk result (Rests daemon self.new.system) }
         ensures goes { OnOk result (GoesInTurn daemon self.old self.new) }
         ensures runs { running self.new ≡ running self.old }
     {
@@ -122,9 +122,9 @@ impl<D: Disk, M: Drive> Replay<D, M> {
 
     /// Whether all events behind those first ones were quiet.
     fn is_quiet_since(&self, first: usize) -> bool
-        requires { first ≤ length self.now.store.history }
-        ensures { result ≡ list_all is_quiet (drop first self.now.store.history) }
+        requires { first ≤ length self.now.system.store.history }
+        ensures { result ≡ list_all is_quiet (drop first self.now.system.store.history) }
     {
-        all_quiet(&self.hsm.history()[first..])
+        all_quiet(&self.system.history()[first..])
     }
 }

@@ -5,11 +5,11 @@ ghost use Rattle.hsm_types.specs.declared.daemons.Heard.TheVariants.{Nothing};
 ghost use Rattle.recall_daemon.specs.Machine as recall;
 ghost use Rattle.migrate_daemon.specs.Machine as migrate;
 ghost use Rattle.hsm_replay.specs.Steps.{Steps, Halts};
-ghost use Rattle.hsm_replay.specs.Systems.{System};
+ghost use Rattle.hsm_replay.specs.Systems.{Run};
 
 use crate::replay::Replay;
-use crate::stops::Stop;
 use disk_model::Disk;
+use hsm_system::Stop;
 use hsm_types::{Act, Daemon, Heard};
 use media_model::Drive;
 use migrate_daemon::Migrator;
@@ -78,7 +78,7 @@ fn step<D: Disk + Drop, M: Drive + Drop, R: Wait>(
     locked: &Mutex<Replay<D, M>>,
     daemon: Daemon,
 ) -> Result<(), Stop>
-    ensures { (old : System D M) × (new : System D M) × OnOk result (Steps D.Disk M.Drive daemon old new) × IfErr result (λ why. Halts D.Disk M.Drive daemon old why new) }
+    ensures { (old : Run D M) × (new : Run D M) × OnOk result (Steps D.Disk M.Drive daemon old new) × IfErr result (λ why. Halts D.Disk M.Drive daemon old why new) }
 {
     locked.lock(rt).step(alloc, daemon)
 }
@@ -90,14 +90,14 @@ fn step_elsewhere<D: Disk + Drop + Send, M: Drive + Drop + Send, R: Threads + Wa
     replay: Replay<D, M>,
     daemon: Daemon,
 ) -> (Result<(), Stop>, Replay<D, M>)
-    ensures { (old : System D M) × (new : System D M) × OnOk result.0 (Steps D.Disk M.Drive daemon old new) × IfErr result.0 (λ why. Halts D.Disk M.Drive daemon old why new) }
+    ensures { (old : Run D M) × (new : Run D M) × OnOk result.0 (Steps D.Disk M.Drive daemon old new) × IfErr result.0 (λ why. Halts D.Disk M.Drive daemon old why new) }
 {
     let locked = Mutex::new(replay);
     let shared = &locked;
     let (stepped, ()) = thread::join(
         rt,
         move || -> Result<(), Stop>
-            ensures { (old : System D M) × (new : System D M) × OnOk result (Steps D.Disk M.Drive daemon old new) × IfErr result (λ why. Halts D.Disk M.Drive daemon old why new) }
+            ensures { (old : Run D M) × (new : Run D M) × OnOk result (Steps D.Disk M.Drive daemon old new) × IfErr result (λ why. Halts D.Disk M.Drive daemon old why new) }
         { step(rt, alloc, shared, daemon) },
         || (),
     );

@@ -1,5 +1,5 @@
 use Rattle.std.proofs.Common.{◌≡◌, false}
-use Rattle.hsm_replay.specs.Running.{GoesOn}
+use Rattle.hsm_system.specs.Events.{GoesOn}
 use Rattle.hsm_cli.specs.Follows.{IsServed}
 use Rattle.hsm_cli.proofs.Daemons.{run_is_well}
 use Rattle.hsm_cli.proofs.Drills.{has_left}

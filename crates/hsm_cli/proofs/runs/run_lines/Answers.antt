@@ -1,6 +1,6 @@
 use Rattle.std.proofs.Common.{◌≡◌, ◌∙◌, ◌∷◌, ◌++◌, [], refl, rules, append_assoc}
 use Rattle.std.proofs.lemmas.Result.{err_from_is_err_and}
-use Rattle.hsm_replay.proofs.Going.{goes_itself, goes_then, stopped_then}
+use Rattle.hsm_system.proofs.Going.{goes_itself, goes_then, stopped_then}
 use Rattle.hsm_replay.proofs.Growing.{have_grown_itself, have_grown_on}
 use Rattle.hsm_cli.proofs.Following.{run_to_none, run_more, first_run}
 use Rattle.hsm_cli.proofs.runs.run_lines.Goals as goal
@@ -43,7 +43,7 @@ pub returns-in_err-line-clause-runs : goal.returns-in_err-line-clause-runs
 returns-in_err-line-clause-runs g c =
     let p = err_from_is_err_and c.from_residual.result c.from_residual.ensures.1 in
     let runs = c.in_err-line.ensures.moves.runs in
-    rw (p.1, p.2) (record { goes_on = goes_then g.D.Disk _ _ _ c.loop-line.invariant.goes_on runs.goes_on; works = λ working. stopped_then g.D.Disk c.args.replay.now.store c.loop-line.replay.store c.line.new.self.store _ c.loop-line.invariant.goes_on (runs.works c.loop-line.invariant.working) })
+    rw (p.1, p.2) (record { goes_on = goes_then g.D.Disk _ _ _ c.loop-line.invariant.goes_on runs.goes_on; works = λ working. stopped_then g.D.Disk c.args.replay.now.system.store c.loop-line.replay.system.store c.line.new.self.system.store _ c.loop-line.invariant.goes_on (runs.works c.loop-line.invariant.working) })
 
 pub returns-in_err-line-clause-first : goal.returns-in_err-line-clause-first
 returns-in_err-line-clause-first g c =

@@ -3,16 +3,16 @@ use Rattle.std.specs.List.{AllByRecursion}
 use Rattle.script_text.specs.declared.lines.Line.{Line}
 use Rattle.script_text.specs.Lines.{IsLine}
 use Rattle.hsm_replay.specs.Drives.{HaveGrown}
-use Rattle.hsm_replay.specs.Running.{GoesOn}
+use Rattle.hsm_system.specs.Events.{GoesOn}
 use Rattle.hsm_cli.specs.Follows.{IsRunTo}
 use Rattle.hsm_cli.proofs.runs.run_lines.Given as goal
 
 abbrev pub invariant-loop-line : goal.invariant-loop-line
 invariant-loop-line g l = record {
-  limits : l.replay.limits ≡ l.fn.replay.limits;
+  limits : l.replay.system.limits ≡ l.fn.replay.system.limits;
   drives : HaveGrown g.M.Drive l.fn.replay.drives l.replay.drives;
-  goes_on : GoesOn g.D.Disk l.fn.replay.store l.replay.store;
-  working : l.replay.store.files.failed ≡ false;
+  goes_on : GoesOn g.D.Disk l.fn.replay.system.store l.replay.system.store;
+  working : l.replay.system.store.files.failed ≡ false;
   done : List Line;
   run : IsRunTo g.M.Drive l.fn.replay done l.replay;
   lawful : AllByRecursion IsLine l.line-iterator;

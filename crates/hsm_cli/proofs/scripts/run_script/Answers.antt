@@ -12,7 +12,7 @@ use Rattle.hsm_cli.proofs.scripts.run_script.Goals as goal
 pub returns-in_err-script-clause-ran : goal.returns-in_err-script-clause-ran
 returns-in_err-script-clause-ran g c =
     let p = err_from_is_err_and c.from_residual.result c.from_residual.ensures.1 in
-    rw (p.1, p.2) (none_run (SettlesOn (Some c.args.replay.now.store.opened)) (TellsOf g.M.Drive c.args.replay.now.drives c.args.replay.now.drives) ⊥ ⊥ c.args.commits (source_told g.I.Source.left g.I.Source.fault_count c.args.source.now c.read_script.new.source) _ _ c.requires.ready.store.history c.in_err-script.ensures.refused)
+    rw (p.1, p.2) (none_run (SettlesOn (Some c.args.replay.now.system.store.opened)) (TellsOf g.M.Drive c.args.replay.now.drives c.args.replay.now.drives) ⊥ ⊥ c.args.commits (source_told g.I.Source.left g.I.Source.fault_count c.args.source.now c.read_script.new.source) _ _ c.requires.ready.store.history c.in_err-script.ensures.refused)
 
 pub returns-in_err-script-clause-media : goal.returns-in_err-script-clause-media
 returns-in_err-script-clause-media g c = none_true g.M.Drive _ _ c.requires.ready.store.history

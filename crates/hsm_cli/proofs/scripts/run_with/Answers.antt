@@ -27,7 +27,7 @@ pub returns-in-Ok-clause-durable : goal.returns-in-Ok-clause-durable
 returns-in-Ok-clause-durable g c = rw c.close-hsm.ensures.store c.run_script-ended.ensures.durable
 
 pub returns-in-Ok-clause-untouched : goal.returns-in-Ok-clause-untouched
-returns-in-Ok-clause-untouched g c = λ before. c.close-hsm.ensures.store ∙ ap (λ s. s.store) (c.run_script-ended.ensures.untouched before) ∙ ap (λ s. s.store) c.new-replay.ensures
+returns-in-Ok-clause-untouched g c = λ before. c.close-hsm.ensures.store ∙ ap (λ s. s.system.store) (c.run_script-ended.ensures.untouched before) ∙ ap (λ s. s.system.store) c.new-replay.ensures
 
 nothing_read : (left : Option (List ℕ)) → Consumes left left []
 nothing_read None = tt

@@ -1,6 +1,6 @@
 use Rattle.std.proofs.Common.{◌∙◌, Ok, Err, refl, rules}
 use Rattle.std.proofs.lemmas.Result.{err_from_is_err_and}
-use Rattle.hsm_replay.specs.Rests.{Rests}
+use Rattle.hsm_system.specs.Systems.{Rests}
 use Rattle.hsm_replay.proofs.Joining.{moves_itself, moves_then, step_is_made}
 use Rattle.hsm_replay.proofs.Turning.{turn_itself, turn_then, step_goes}
 use Rattle.hsm_replay.proofs.Working.{step_nears}
@@ -18,7 +18,7 @@ loop-alloc-preserved g c = record {
 
 pub loop-alloc-smaller : goal.loop-alloc-smaller
 loop-alloc-smaller g c =
-    let works : Rests c.args.daemon c.loop-alloc.self → ⊥ = search rules in
+    let works : Rests c.args.daemon c.loop-alloc.self.system → ⊥ = search rules in
     step_nears g.D.Disk g.M.Drive c.args.daemon _ _ c.entries.ensures.few works c.in_ok-step.ensures.stepped
 
 pub returns-in_err-step-clause-moves : goal.returns-in_err-step-clause-moves

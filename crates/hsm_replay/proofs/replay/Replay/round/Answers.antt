@@ -30,7 +30,7 @@ returns-clause-moves g c = moves_with g.D.Disk g.M.Drive tt _ _ _ (moves_then g.
 
 pub returns-clause-ends : goal.returns-clause-ends
 returns-clause-ends g c = λ is. round_ends g.D.Disk g.M.Drive _ _ _ _ c.in_ok-turn.ensures.turned c.in_ok-turn.ensures.moves.keeps c.in_ok-resume_all.ensures.resumed c.in_ok-resume_all.ensures.moves.keeps c.in_ok-turn-2.ensures.turned c.in_ok-turn-2.ensures.moves.keeps
-    (ap (λ (n : ℕ). list_all is_quiet (drop n c.turn-2.new.self.store.history)) (sym c.entries-before.ensures.count) ∙ sym c.is_quiet_since-2.ensures ∙ is)
+    (ap (λ (n : ℕ). list_all is_quiet (drop n c.turn-2.new.self.system.store.history)) (sym c.entries-before.ensures.count) ∙ sym c.is_quiet_since-2.ensures ∙ is)
 
 pub returns-then-not-is_quiet_since-clause-runs : goal.returns-then-not-is_quiet_since-clause-runs
 returns-then-not-is_quiet_since-clause-runs g c = begun_runs _ _ _ c.in_ok-turn.ensures.turned c.in_ok-resume_all.ensures.resumed

@@ -5,9 +5,8 @@ use Rattle.plain_model.specs.declared.entries.Entry.{Entry}
 use Rattle.marked_history.specs.Follows.{IsOfSettling}
 use Rattle.hsm_replay.specs.Freshness.{StaysFresh}
 use Rattle.hsm_replay.specs.Keeping.{Moves}
-use Rattle.hsm_replay.specs.Rests.{refreshed}
 use Rattle.hsm_replay.specs.Settled.{EndsQuietly}
-use Rattle.hsm_replay.specs.Systems.{System, running}
+use Rattle.hsm_replay.specs.Systems.{Run, running, refreshed}
 use Rattle.hsm_replay.proofs.Beginning.{refresh_moves}
 use Rattle.hsm_replay.proofs.WhichRun.{refreshed_runs}
 use Rattle.hsm_replay.proofs.Freshness.{fresh_itself, fresh_on}
@@ -18,9 +17,9 @@ use Rattle.hsm_replay.proofs.replay.Replay.settle.Goals as goal
 
 pub loop-self-init : goal.loop-self-init
 loop-self-init g c = record {
-  moves = subst (λ (s : System g.row.D.Denot g.row.M.Denot). Moves {T = Unit {0}} g.D.Disk g.M.Drive (AllByRecursion IsOfSettling) (Ok tt) c.args.self.now s) (sym c.refresh.ensures) (refresh_moves g.D.Disk g.M.Drive c.args.self.now);
-  fresh = subst (λ (s : System g.row.D.Denot g.row.M.Denot). StaysFresh (refreshed c.args.self.now) s) (sym c.refresh.ensures) (fresh_itself (refreshed c.args.self.now));
-  runs = subst (λ (s : System g.row.D.Denot g.row.M.Denot). running s ≡ running c.args.self.now) (sym c.refresh.ensures) (refreshed_runs c.args.self.now);
+  moves = subst (λ (s : Run g.row.D.Denot g.row.M.Denot). Moves {T = Unit {0}} g.D.Disk g.M.Drive (AllByRecursion IsOfSettling) (Ok tt) c.args.self.now s) (sym c.refresh.ensures) (refresh_moves g.D.Disk g.M.Drive c.args.self.now);
+  fresh = subst (λ (s : Run g.row.D.Denot g.row.M.Denot). StaysFresh (refreshed c.args.self.now) s) (sym c.refresh.ensures) (fresh_itself (refreshed c.args.self.now));
+  runs = subst (λ (s : Run g.row.D.Denot g.row.M.Denot). running s ≡ running c.args.self.now) (sym c.refresh.ensures) (refreshed_runs c.args.self.now);
 }
 
 pub loop-self-preserved : goal.loop-self-preserved
@@ -33,7 +32,7 @@ loop-self-preserved g c = record {
 pub loop-self-smaller : goal.loop-self-smaller
 loop-self-smaller g c =
     let goes = c.in_ok-round.ensures.moves.runs.goes_on in
-    let longer : length c.loop-self.self.store.history < length c.round.new.self.store.history = some_event g.D.Disk g.M.Drive _ _ goes.more goes.history (sym c.in_ok-round.ensures.quiet ∙ c.if-branch.false) in
+    let longer : length c.loop-self.self.system.store.history < length c.round.new.self.system.store.history = some_event g.D.Disk g.M.Drive _ _ goes.more goes.history (sym c.in_ok-round.ensures.quiet ∙ c.if-branch.false) in
     omega (arith, longer, c.entries.ensures.few)
 
 pub returns-in_err-round-clause-moves : goal.returns-in_err-round-clause-moves

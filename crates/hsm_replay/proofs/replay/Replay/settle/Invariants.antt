@@ -3,8 +3,7 @@ use Rattle.std.specs.List.{AllByRecursion}
 use Rattle.marked_history.specs.Follows.{IsOfSettling}
 use Rattle.hsm_replay.specs.Freshness.{StaysFresh}
 use Rattle.hsm_replay.specs.Keeping.{Moves}
-use Rattle.hsm_replay.specs.Rests.{refreshed}
-use Rattle.hsm_replay.specs.Systems.{running}
+use Rattle.hsm_replay.specs.Systems.{running, refreshed}
 use Rattle.hsm_replay.proofs.replay.Replay.settle.Given as goal
 
 abbrev pub invariant-loop-self : goal.invariant-loop-self
@@ -15,4 +14,4 @@ invariant-loop-self g l = record {
 }
 
 abbrev pub decreases-loop-self : goal.decreases-loop-self
-decreases-loop-self g l = 2 ^ 64 - length l.self.store.history
+decreases-loop-self g l = 2 ^ 64 - length l.self.system.store.history
