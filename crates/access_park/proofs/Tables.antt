@@ -28,7 +28,7 @@ pub access_of-empty : (n : ℕ) → access_of (replicate n None) ≡ nobody
 unfolding access_of
 access_of-empty n = λ k c. none_there n c k
 
-pub table-empty : (n : ℕ) → n ≡ 65 → IsTable (replicate n None) 0
+pub table-empty : (n : ℕ) → n ≡ callers + 1 → IsTable (replicate n None) 0
 table-empty n is = record {
   full = length-replicate n None ∙ is;
   counted = rw (access_of-empty n) (sym waiting-nobody);

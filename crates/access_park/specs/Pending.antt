@@ -1,5 +1,5 @@
 -- The accesses that are pending, at most one a caller.
-use Rattle.std.specs.Prelude.{◌≡◌, ℕ, List, length, count_by, slice_index_or, Bool, true, false, ◌==◌, if◌then◌else◌, Option, Some, None, is_some, IsSome}
+use Rattle.std.specs.Prelude.{◌≡◌, ℕ, ◌+◌, List, length, count_by, slice_index_or, Bool, true, false, ◌==◌, if◌then◌else◌, Option, Some, None, is_some, IsSome}
 use Rattle.std.specs.List.{range_with_len}
 use Rattle.std.specs.Option.{option_map}
 use Rattle.hsm_types.specs.Callers.{IsCallerNumber}
@@ -76,6 +76,6 @@ access_of slots c = slice_index_or slots c None
 
 -- slots of a park in which so many callers have an access
 pub record IsTable (slots : Slots) (waiting : ℕ) : Type 0 where
-  pub full : length slots ≡ 65
+  pub full : length slots ≡ callers + 1
   pub counted : waiting ≡ waiting_in (access_of slots)
   pub park : IsPark (access_of slots)

@@ -1,7 +1,8 @@
 //! A slot for each caller, at his number. Slot 0 is nobody's.
-ghost use Rattle.std.specs.Prelude.{◌≡◌, ◌<◌, false, true, None, Some, All, IfOk, MatchOption, length, replicate, slice_index_or};
+ghost use Rattle.std.specs.Prelude.{◌≡◌, ◌+◌, ◌<◌, false, true, None, Some, All, IfOk, MatchOption, length, replicate, slice_index_or};
 ghost use Rattle.std.specs.Option.{option_map};
 ghost use Rattle.hsm_types.specs.Callers.{IsCallerNumber};
+ghost use Rattle.hsm_types.specs.Limits.{callers};
 ghost use Rattle.access_park.specs.Pending.{given, holds};
 
 use crate::access::Access;
@@ -10,7 +11,7 @@ use std::alloc::{AllocError, Global};
 
 /// The slots, all empty.
 pub fn empty_slots(alloc: Global) -> Result<Vec<Option<Access>>, AllocError>
-    ensures { IfOk result (λ slots. slots.items ≡ replicate 65 None) }
+    ensures { IfOk result (λ slots. slots.items ≡ replicate (callers + 1) None) }
 {
     let count = usize::from(CALLERS) + 1;
     let mut slots = Vec::with_capacity(alloc, count)?;

@@ -1,5 +1,6 @@
 -- What `clap` answers to names is the form that they have.
-use Rattle.std.proofs.Common.{◌≡◌, ◌∙◌, true, false, refl, sym, ap, ap₂, subst, inl, inr, true≢false, List, [], ◌∷◌, ◌++◌, Option, Some, None, is_some, codes, ◌==◌}
+use Rattle.std.proofs.Common.{◌≡◌, ◌∙◌, true, false, refl, sym, ap, ap₂, subst, inl, inr, true≢false}
+use Rattle.std.proofs.Common.{List, [], ◌∷◌, ◌++◌, Option, Some, None, is_some, codes, ◌==◌}
 use Rattle.std.specs.List.{list_all}
 use Rattle.std.specs.Str.{bytes_eq}
 use Rattle.std.specs.Bool.{one_answer}

@@ -1,5 +1,6 @@
 -- The form that the matches of a parse make.
-use Rattle.std.proofs.Common.{◌≡◌, ◌≢◌, ◌∙◌, true, refl, sym, ap, ap₂, inl, inr, List, [], ◌∷◌, Option, Some, None, Result, Ok, Err, IfOk, IfErr, unwrap_or, option_map}
+use Rattle.std.proofs.Common.{◌≡◌, ◌≢◌, ◌∙◌, true, refl, sym, ap, ap₂, inl, inr, List, [], ◌∷◌}
+use Rattle.std.proofs.Common.{Option, Some, None, Result, Ok, Err, IfOk, IfErr, unwrap_or, option_map}
 use Rattle.std.specs.List.{list_all}
 use Rattle.std.specs.Prelude.{Box}
 use Rattle.std.specs.Box.{box_value}

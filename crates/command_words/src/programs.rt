@@ -1,7 +1,8 @@
 //! The programs as `clap` reads them: each is a subcommand with positional words alone.
 ghost use Rattle.std.specs.Prelude.{◌≡◌, IfOk};
 ghost use Rattle.clap.specs.Words.{app_of, new_rule, Shape, with_subcommand};
-ghost use Rattle.command_words.specs.Programs.{IsProgram, IsWord, all_programs, drill_program, format_program, no_programs, replay_program, required_word, show_program, with_runs, with_stores};
+ghost use Rattle.command_words.specs.Programs.{IsProgram, IsWord, all_programs, drill_program, format_program, no_programs};
+ghost use Rattle.command_words.specs.Programs.{replay_program, required_word, show_program, with_runs, with_stores};
 
 use clap::{Arg, Command};
 use std::alloc::{AllocError, Global};

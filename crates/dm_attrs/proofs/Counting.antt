@@ -12,7 +12,8 @@ use Rattle.hsm_types.specs.Limits.{value_bytes}
 use Rattle.hsm_types.specs.declared.attributes.AttrName.{AttrName}
 use Rattle.hsm_types.specs.declared.dm.DmRefusal.TheVariants.{Reserved, AttrTooBig, TooMany}
 use Rattle.hsm_types.specs.Refusals.{first_refusal}
-use Rattle.hsm_types.specs.Attributes.{Attributes, AreAttributes, name_cmp, same_name, is_reserved, value_of, with_value, without_value, cost_of_value, bytes_of_attributes, setting_refusal}
+use Rattle.hsm_types.specs.Attributes.{Attributes, AreAttributes, name_cmp, same_name, is_reserved, value_of}
+use Rattle.hsm_types.specs.Attributes.{with_value, without_value, cost_of_value, bytes_of_attributes, setting_refusal}
 use Rattle.dm_attrs.specs.Counts.{cost_under, IsCounted}
 
 -- ---- a name is found by its order, and known by its bytes

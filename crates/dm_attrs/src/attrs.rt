@@ -3,7 +3,8 @@ ghost use Rattle.std.specs.Prelude.{◌≡◌, ◌+◌, ◌≤◌, ◌^◌, [], 
 ghost use Rattle.std.specs.Option.{option_copied};
 ghost use Rattle.std.specs.List.Sorted.{IsStrictlySortedBy};
 ghost use Rattle.std.specs.Map.{keys_of};
-ghost use Rattle.hsm_types.specs.Attributes.{AreAttributes, name_cmp, value_of, with_value, without_value, cost_of_value, bytes_of_attributes, reserved, setting_refusal, removal_refusal};
+ghost use Rattle.hsm_types.specs.Attributes.{AreAttributes, name_cmp, value_of, with_value, without_value, cost_of_value};
+ghost use Rattle.hsm_types.specs.Attributes.{bytes_of_attributes, reserved, setting_refusal, removal_refusal};
 ghost use Rattle.dm_attrs.specs.Counts.{cost_under};
 ghost use Rattle.hsm_types.specs.declared.dm.DmRefusal.TheVariants.{Memory};
 
@@ -42,7 +43,8 @@ impl DmAttrs {
         }
     }
 
-    /// Gives the attribute with that name a value, in the place of an older one. The attributes of all other files count `others`, and of all files `limit` at most.
+    /// Gives the attribute with that name a value, in the place of an older one. The attributes of all other files count `others`, and of all files
+    /// `limit` at most.
     pub fn set(
         &mut self,
         name: AttrName,

@@ -1,5 +1,5 @@
 //! How handles are made, read, compared and hashed.
-ghost use Rattle.std.specs.Prelude.{◌≡◌, ◌≢◌, ◌↔◌, ◌⊎◌, IsErr, IfOk, length, take};
+ghost use Rattle.std.specs.Prelude.{◌≡◌, ◌≢◌, ◌↔◌, ◌⊎◌, IsErr, IfOk, length};
 ghost use Rattle.std.specs.Ordering.{nat_cmp};
 ghost use Rattle.std.specs.Cmp.Lexicographic.{slice_cmp};
 ghost use Rattle.byteorder.specs.Endian.{big_number};
@@ -66,7 +66,7 @@ pub fn hash(h: &Handle) -> u64
     })
 }
 
-/// Whether bytes are a handle of the store with that file system id, and which. That its file lives isn't asked.
+/// Whether bytes are a handle of the store with that file system id, and which. That its file lives isn't asked. Only tests call it yet.
 pub fn is_valid(fsid: u64, bytes: &[u8]) -> Result<Handle, BadHandle>
     ensures handle { IfOk result (λ h. (h.fsid ≡ fsid) × (handle_bytes h ≡ bytes.now)) }
     ensures bad { IsErr result ↔ ((length bytes.now ≢ 24) ⊎ (big_number 8 bytes.now ≢ fsid)) }

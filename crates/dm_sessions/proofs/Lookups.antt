@@ -1,5 +1,6 @@
 -- What is true of a table of sessions, after each call.
-use Rattle.std.proofs.Common.{◌≡◌, ℕ, zero, suc, ◌+◌, ◌-◌, ◌<◌, ◌≤◌, Bool, true, false, cond, not, List, [], ◌∷◌, ◌++◌, length, map, take, drop, filter, Option, None, Some, is_some, refl, sym, ap, subst, ◌∙◌, eqb, length-append, arith}
+use Rattle.std.proofs.Common.{◌≡◌, ℕ, zero, suc, ◌+◌, ◌-◌, ◌<◌, ◌≤◌, Bool, true, false, cond, not, List, [], ◌∷◌, ◌++◌, length, map}
+use Rattle.std.proofs.Common.{take, drop, filter, Option, None, Some, is_some, refl, sym, ap, subst, ◌∙◌, eqb, length-append, arith}
 use Rattle.std.proofs.lemmas.Bool.{true≢false, ne_eqb, eq-eqb, eqb-true}
 use Rattle.std.proofs.lemmas.List.{length-map}
 use Rattle.std.proofs.lemmas.List.Elements.{All-push, All-filter}
@@ -11,7 +12,11 @@ use Rattle.std.specs.Map.{lookup, remove_entry, set_value, values_of}
 use Rattle.indexmap.specs.IndexMap.{set_value_at}
 use Rattle.hsm_types.specs.Refusals.{first_refusal}
 use Rattle.hsm_types.specs.Messages.{has_token, no_token, takes, user_message, IsMessage}
-use Rattle.hsm_types.specs.Sessions.{LiveSession, SessionTable, IsNewToken, same_sid, session_of, lives, heir, next_sid, with_session, without_session, change_live, change_session, queued, loses, with_kinds, posted, posted_to, taker, delivered, hands_out, user_event, put_message, responded, without_token, sent, is_of_user, user_tokens, places, places_in, holds, owner, message_in, outstanding_or_none, creation_refusal, dead_session, destruction_refusal, events_left, too_long, too_many_waiting, sending_refusal, queue_of, bad_token}
+use Rattle.hsm_types.specs.Sessions.{LiveSession, SessionTable, IsNewToken, same_sid, session_of, lives, heir, next_sid, with_session}
+use Rattle.hsm_types.specs.Sessions.{without_session, change_live, change_session, queued, loses, with_kinds, posted, posted_to, taker}
+use Rattle.hsm_types.specs.Sessions.{delivered, hands_out, user_event, put_message, responded, without_token, sent, is_of_user, user_tokens}
+use Rattle.hsm_types.specs.Sessions.{places, places_in, holds, owner, message_in, outstanding_or_none, creation_refusal, dead_session}
+use Rattle.hsm_types.specs.Sessions.{destruction_refusal, events_left, too_long, too_many_waiting, sending_refusal, queue_of, bad_token}
 use Rattle.hsm_types.specs.declared.dm.DmRefusal.{DmRefusal}
 use Rattle.hsm_types.specs.declared.dm.DmRefusal.TheVariants.{NoSession, NotYours, EventsLeft}
 use Rattle.hsm_types.specs.declared.dm.Kind.TheVariants.{Read, Write, Truncate, NoSpace, User}
@@ -20,7 +25,9 @@ use Rattle.hsm_types.specs.declared.keys.Token.{Token}
 use Rattle.hsm_types.specs.declared.dm.Kind.{Kind}
 use Rattle.hsm_types.specs.declared.dm.Kinds.{Kinds}
 use Rattle.hsm_types.specs.declared.messages.Message.{Message}
-use Rattle.hsm_types.proofs.Queues.{sum-change_live, sum-remove, sum-mapped, remove-absent, lookup-mapped, session-lives, found-lives, count-put_message, places-held, places-created, places-destroyed, places-disposed, places-posted, places-delivered, places-responded, places-responded-other, places-user_event, places-sent, owner-own, owner-holds}
+use Rattle.hsm_types.proofs.Queues.{sum-change_live, sum-remove, sum-mapped, remove-absent, lookup-mapped, session-lives, found-lives}
+use Rattle.hsm_types.proofs.Queues.{count-put_message, places-held, places-created, places-destroyed, places-disposed, places-posted, places-delivered}
+use Rattle.hsm_types.proofs.Queues.{places-responded, places-responded-other, places-user_event, places-sent, owner-own, owner-holds}
 use Rattle.dm_sessions.specs.Tables.{IsEvent, IsTable, users_of}
 use Rattle.dm_sessions.proofs.InOrder.{any-found}
 use Rattle.dm_sessions.proofs.Ascending.{Ascend-remove, length-remove_entry, Ascend-push, Ascend-change, length-change, Ascend-map, room, none-first, passed}

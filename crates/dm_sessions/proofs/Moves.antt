@@ -1,5 +1,6 @@
 -- Messages that move from one list to another, one at a time.
-use Rattle.std.proofs.Common.{◌≡◌, ℕ, ◌+◌, ◌<◌, ◌≤◌, Bool, true, false, cond, not, List, [], ◌∷◌, ◌++◌, length, take, drop, filter, get_or, None, refl, sym, ap, ◌∙◌, eqb, arith, length-append}
+use Rattle.std.proofs.Common.{◌≡◌, ℕ, ◌+◌, ◌<◌, ◌≤◌, Bool, true, false, cond, not, List, [], ◌∷◌, ◌++◌, length}
+use Rattle.std.proofs.Common.{take, drop, filter, get_or, None, refl, sym, ap, ◌∙◌, eqb, arith, length-append}
 use Rattle.std.proofs.lemmas.Bool.{eqb-true, eq-eqb}
 use Rattle.std.proofs.lemmas.List.{drop_more, drop_all, take_all, append-nil, append_assoc, length-take-le, length-drop, take-take, get_or-take, map-append}
 use Rattle.std.proofs.lemmas.List.Elements.{filter_more, All-head, All-tail, All-nil, All-cons, All-append, All-same}

@@ -1,7 +1,8 @@
 -- At how many places a token stands after each call.
 use Rattle.std.specs.Prelude.{◌≡◌, ◌≢◌, ℕ, ◌+◌, ◌≤◌, List, true, None, Some, if◌then◌else◌}
 use Rattle.hsm_types.specs.Messages.{has_token, user_message}
-use Rattle.hsm_types.specs.Sessions.{SessionTable, lives, owner, destruction_refusal, with_session, without_session, with_kinds, posted, delivered, responded, user_event, sent, places}
+use Rattle.hsm_types.specs.Sessions.{SessionTable, lives, owner, destruction_refusal, with_session, without_session}
+use Rattle.hsm_types.specs.Sessions.{with_kinds, posted, delivered, responded, user_event, sent, places}
 use Rattle.hsm_types.specs.declared.keys.Sid.{Sid}
 use Rattle.hsm_types.specs.declared.keys.Token.{Token}
 use Rattle.hsm_types.specs.declared.dm.Kinds.{Kinds}

@@ -3,7 +3,8 @@ ghost use Rattle.std.specs.Prelude.{◌≡◌, ◌<◌, ◌≤◌, [], ◌∷◌
 ghost use Rattle.std.specs.List.{All};
 ghost use Rattle.std.specs.Map.{lookup};
 ghost use Rattle.hsm_types.specs.Messages.{IsMessage, has_token, takes};
-ghost use Rattle.hsm_types.specs.Sessions.{same_sid, change_live, queued, hands_out, loses, put_message, without_token, message_in, queue_or_none, outstanding_or_none, places_in};
+ghost use Rattle.hsm_types.specs.Sessions.{same_sid, change_live, queued, hands_out, loses, put_message};
+ghost use Rattle.hsm_types.specs.Sessions.{without_token, message_in, queue_or_none, outstanding_or_none, places_in};
 ghost use Rattle.hsm_types.specs.declared.keys.Token.{Token};
 ghost use Rattle.dm_sessions.specs.Tables.{IsEvent, IsQueued, users_of};
 

@@ -1,12 +1,12 @@
 //! Events: what sessions take, what is posted and sent, and what is delivered.
-ghost use Rattle.std.specs.Prelude.{◌≡◌, ◌≢◌, ◌≤◌, [], ◌∷◌, ◌++◌, None, IfOk, OnOk, OnErr, Some, true, is_some, IfErr, MatchOption, MatchResult, length, map};
+ghost use Rattle.std.specs.Prelude.{◌≡◌, ◌≢◌, ◌≤◌, [], ◌∷◌, None, IfOk, OnOk, OnErr, Some, IfErr, MatchOption, MatchResult, length};
 ghost use Rattle.std.specs.List.{All};
-ghost use Rattle.std.specs.Map.{lookup};
 ghost use Rattle.hsm_types.specs.Refusals.{first_refusal};
 ghost use Rattle.hsm_types.specs.Messages.{IsMessage, user_message};
-ghost use Rattle.hsm_types.specs.Sessions.{IsNewToken, same_sid, taker, queue_of, loses, queued, change_live, too_long, too_many_waiting, dead_session, sending_refusal, event_refusal, with_kinds, posted, delivered, user_event, sent};
+ghost use Rattle.hsm_types.specs.Sessions.{IsNewToken, taker, queue_of, too_long, too_many_waiting};
+ghost use Rattle.hsm_types.specs.Sessions.{dead_session, sending_refusal, event_refusal, with_kinds, posted, delivered, user_event, sent};
 ghost use Rattle.hsm_types.specs.declared.dm.DmRefusal.TheVariants.{Memory};
-ghost use Rattle.dm_sessions.specs.Tables.{IsQueued, none_waits};
+ghost use Rattle.dm_sessions.specs.Tables.{none_waits};
 ghost use Rattle.hsm_types.specs.declared.dm.Kind.TheVariants.{User};
 
 use crate::changes;

@@ -4,7 +4,8 @@ ghost use Rattle.std.specs.Option.{option_copied, option_map};
 ghost use Rattle.std.specs.List.Sorted.{IsStrictlyIncreasing};
 ghost use Rattle.std.specs.Map.{keys_of};
 ghost use Rattle.hsm_types.specs.Refusals.{first_refusal};
-ghost use Rattle.hsm_types.specs.Sessions.{lives, info_of, session_of, creation_refusal, dead_session, destruction_refusal, no_sessions, next_sid, with_session, without_session};
+ghost use Rattle.hsm_types.specs.Sessions.{lives, info_of, session_of, creation_refusal, dead_session};
+ghost use Rattle.hsm_types.specs.Sessions.{destruction_refusal, no_sessions, next_sid, with_session, without_session};
 ghost use Rattle.hsm_types.specs.declared.dm.DmRefusal.TheVariants.{NoSession, EventsLeft, Memory};
 
 use crate::live_session::LiveSession;

@@ -24,11 +24,8 @@ use crate::rewrites::Rewrite;
 use crate::store::FileStore;
 use disk_model::Disk;
 use hsm_types::{AttrName, Bytes, FileKey, Regions, Stub, StubEntry, Verified, Word, segments_in};
-use meta_store::Record;
+use meta_store::{LAST_GENERATION, Record};
 use std::alloc::Global;
-
-/// The first generation that a snapshot can't hold as one that was given.
-const LAST_GENERATION: u64 = 1 << 62;
 
 impl<D: Disk> FileStore<D> {
     /// Makes an empty file with the lowest free inode and the next generation. Past the greatest generation it answers `Memory`.

@@ -28,14 +28,14 @@ use crate::loading::slot;
 use crate::plans::{self, Plan};
 use crate::refusal::StoreRefusal;
 use crate::rewrites::Rewrite;
-use crate::store::{FileStore, LAST_NUMBER};
+use crate::store::FileStore;
 use crate::writing::put_blocks;
 use block_space::{BlockSpace, Blocks, TakeRefusal};
 use commit_slots::Layout;
 use disk_model::Disk;
 use file_body::Body;
 use hsm_types::FileKey;
-use meta_store::{Catalog, MetaRefusal, Record};
+use meta_store::{Catalog, LAST_NUMBER, MetaRefusal, Record};
 use std::alloc::{AllocError, Global};
 use std::snapshot::Snapshot;
 

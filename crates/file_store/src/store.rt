@@ -1,5 +1,5 @@
 //! A store of files on its disk.
-ghost use Rattle.std.specs.Prelude.{◌≡◌, true, false, List, ℕ, length, ◌+◌, ◌*◌, ◌<◌, ◌≤◌, IfOk, IfErr, OnOk, IsErrOf, IsSome};
+ghost use Rattle.std.specs.Prelude.{◌≡◌, false, List, ℕ, length, ◌+◌, ◌*◌, ◌<◌, ◌≤◌, IfOk, IfErr, OnOk, IsErrOf, IsSome};
 ghost use Rattle.disk_model.specs.Calls.{Counts};
 ghost use Rattle.disk_model.specs.Images.{Alike};
 ghost use Rattle.disk_model.specs.Moments.{MayBe, Keeps, Same};
@@ -28,13 +28,10 @@ use block_space::BlockSpace;
 use disk_model::{Disk, OpenRefusal};
 use file_body::Body;
 use hsm_types::{FileKey, Fingerprint, Superblock};
-use meta_store::{MetaRefusal, MetaStore, geometry_of};
+use meta_store::{LAST_NUMBER, MetaRefusal, MetaStore, geometry_of};
 use std::alloc::Global;
 use std::marker::Model;
 use std::snapshot::Snapshot;
-
-/// The greatest number that a snapshot can hold.
-pub(crate) const LAST_NUMBER: u64 = 1 << 62;
 
 /// The files of a store, and the disk that they are kept on: what is kept of them beside their bytes, and their bodies in memory.
 #[derive(Drop)]

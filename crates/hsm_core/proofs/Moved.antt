@@ -20,7 +20,6 @@ use Rattle.hsm_types.specs.declared.dm.DmReply.{DmReply}
 use Rattle.hsm_types.specs.declared.dm.DmReply.TheVariants as reply
 use Rattle.plain_model.specs.Effects.{Effect, OfFile, change_of, punch_from, punch_to}
 use Rattle.hsm_types.specs.Keyed.{find_key}
-use Rattle.plain_model.specs.Plain.{segment}
 use Rattle.plain_model.specs.Segments.{bad_punch, same_print, punch_refusal, seal_refusal}
 use Rattle.plain_model.specs.Services.{kept_of}
 use Rattle.plain_model.specs.State.{FileState, Held, file_or_new, bytes_of}
@@ -79,7 +78,7 @@ restored_len None entry bytes n is len print = absurd cc
 restored_len (Some x) entry bytes n is len print = by x.offline is
   where
     by : (b : Bool) → (if b then Away x.entry else Sealed x.entry) ≡ Away entry → length bytes ≡ n
-    by true is = let same : x.entry ≡ entry = cc in ap (λ (p : Fingerprint). p.len) (sym print) ∙ ap (λ (e : StubEntry). e.print.len) (sym same) ∙ len
+    by true is = let same : x.entry ≡ entry = cc in ap (λ (p : Fingerprint). p.len) (sym print) ∙ ap (λ (e : StubEntry). (entry_print e).len) (sym same) ∙ len
     by false is = absurd cc
 
 -- ---- the answer to a change of a file

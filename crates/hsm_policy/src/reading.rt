@@ -7,7 +7,10 @@ ghost use Rattle.toml.specs.View.{table_view, view};
 ghost use Rattle.hsm_policy.specs.Settings.{Numbers, standard, IsWithin, AreDrives, AreVolumes, AreLimits};
 ghost use Rattle.hsm_policy.specs.Documents.{names, Says, HasNamesAlone, SaysSettings, IsTextOf};
 
-use crate::settings::{CAPACITY, DRIVES, HIGH, LOW, Settings, VOLUMES, WORKERS};
+use crate::settings::{
+    CAPACITY, DRIVES, HIGH, LEAST_CAPACITY, LOW, MOST_CAPACITY, MOST_DRIVES, MOST_HIGH, MOST_LOW,
+    MOST_WORKERS, Settings, VOLUMES, WORKERS,
+};
 use hsm_types::MOST_VOLUMES;
 use std::alloc::Global;
 use thiserror::Error;
@@ -22,7 +25,7 @@ pub enum SettingsRefusal {
     Memory,
 }
 
-/// The settings that the text says.
+/// The settings that the text says. Only tests call it yet.
 pub fn read_settings(alloc: Global, text: &[u8]) -> Result<Settings, SettingsRefusal>
     ensures ok { IfOk result (IsTextOf text.now) }
     ensures bad { result ≡ Err SettingsRefusal.Bad → (s : Numbers) → ¬ IsTextOf text.now s }
@@ -64,8 +67,8 @@ fn drives(document: &Table) -> Option<(u32, u32)>
     ensures some { IfSome result (λ said. Says (table_view document.now) (codes "drives") standard.drives said.0 × Says (table_view document.now) (codes "workers") standard.workers said.1 × AreDrives said.0 said.1) }
     ensures none { IfNone result ((drives workers : ℕ) → Says (table_view document.now) (codes "drives") standard.drives drives → Says (table_view document.now) (codes "workers") standard.workers workers → ¬ AreDrives drives workers) }
 {
-    let drives = number_at(document, "drives", DRIVES as u64, 1, 8)?;
-    let workers = number_at(document, "workers", WORKERS as u64, 1, 8)?;
+    let drives = number_at(document, "drives", DRIVES as u64, 1, MOST_DRIVES)?;
+    let workers = number_at(document, "workers", WORKERS as u64, 1, MOST_WORKERS)?;
     Some((drives as u32, workers as u32))
 }
 
@@ -75,7 +78,13 @@ fn volumes(document: &Table) -> Option<(u32, u64)>
     ensures none { IfNone result ((volumes capacity : ℕ) → Says (table_view document.now) (codes "volumes") standard.volumes volumes → Says (table_view document.now) (codes "capacity") standard.capacity capacity → ¬ AreVolumes volumes capacity) }
 {
     let volumes = number_at(document, "volumes", VOLUMES as u64, 1, MOST_VOLUMES as u64)?;
-    let capacity = number_at(document, "capacity", CAPACITY, 1_048_576, 1_073_741_824)?;
+    let capacity = number_at(
+        document,
+        "capacity",
+        CAPACITY,
+        LEAST_CAPACITY,
+        MOST_CAPACITY,
+    )?;
     Some((volumes as u32, capacity))
 }
 
@@ -84,8 +93,8 @@ fn limits(document: &Table) -> Option<(u64, u64)>
     ensures some { IfSome result (λ said. Says (table_view document.now) (codes "high") standard.high said.0 × Says (table_view document.now) (codes "low") standard.low said.1 × AreLimits said.0 said.1) }
     ensures none { IfNone result ((high low : ℕ) → Says (table_view document.now) (codes "high") standard.high high → Says (table_view document.now) (codes "low") standard.low low → ¬ AreLimits high low) }
 {
-    let high = number_at(document, "high", HIGH, 1, 95)?;
-    let low = number_at(document, "low", LOW, 0, 94)?;
+    let high = number_at(document, "high", HIGH, 1, MOST_HIGH)?;
+    let low = number_at(document, "low", LOW, 0, MOST_LOW)?;
     if high <= low {
         return None;
     }

@@ -17,6 +17,26 @@ pub(crate) const LOW: u64 = 60;
 
 pub(crate) const WORKERS: u32 = 2;
 
+// The ranges.
+
+/// How many drives there may be.
+pub(crate) const MOST_DRIVES: u64 = 8;
+
+/// How many threads may work them.
+pub(crate) const MOST_WORKERS: u64 = 8;
+
+/// The least bytes that a volume may have room for.
+pub(crate) const LEAST_CAPACITY: u64 = 1_048_576;
+
+/// The most bytes that a volume may have room for.
+pub(crate) const MOST_CAPACITY: u64 = 1_073_741_824;
+
+/// The greatest percentage above which a pass may start.
+pub(crate) const MOST_HIGH: u64 = 95;
+
+/// The greatest percentage down to which it may go.
+pub(crate) const MOST_LOW: u64 = 94;
+
 /// The settings of a run. Contracts see the six numbers.
 #[derive(Clone, Copy, PartialEq, Eq)]
 pub struct Settings {

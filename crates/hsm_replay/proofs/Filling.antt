@@ -6,7 +6,7 @@ use Rattle.std.specs.Prelude.{slice_get, slice_set, ◌==◌}
 use Rattle.std.proofs.lemmas.Bool.{eqb-true, eqb-false}
 use Rattle.std.proofs.lemmas.List.Sums.{sum_by-append}
 use Rattle.disk_model.specs.Calls.{Rose}
-use Rattle.media_model.specs.Objects.{Objects, size_of}
+use Rattle.media_model.specs.Objects.{Objects, longest_object, size_of}
 use Rattle.media_model.specs.declared.drive.Drive as drive
 use Rattle.hsm_types.specs.Limits.{segment_bytes}
 use Rattle.hsm_types.specs.Stubs.{print_of}
@@ -45,7 +45,7 @@ use Rattle.hsm_replay.proofs.Telling.{told_again}
 sizes_grow : (old new : Objects) → Extends old new → size_of old ≤ size_of new
 sizes_grow old new more = let longer : size_of new ≡ size_of old + size_of more.0 = ap (λ (o : Objects). size_of o) more.1 ∙ sum_by-append length old more.0 in omega arith
 
-lacks_for : (capacity used len most size : ℕ) → capacity < used + len → len ≡ 72 + size → size ≤ segment_bytes → used ≡ most → capacity < most + 65608
+lacks_for : (capacity used len most size : ℕ) → capacity < used + len → len ≡ 72 + size → size ≤ segment_bytes → used ≡ most → capacity < most + longest_object
 lacks_for capacity used len most size over long short same = omega arith
 
 not_true : (b : Bool) → (b ≡ true → ⊥) → b ≡ false
@@ -76,7 +76,7 @@ module _ {M : Type 0} (g : drive.Ghosts M) where
       let before = grown.objects volume o gives in
       let longer : size_of before.0 ≤ size_of o = sizes_grow before.0 o before.2 in
       let same : g.capacity_of e ≡ g.capacity_of d = grown.volumes.capacity in
-      let lacked : g.capacity_of d < size_of before.0 + 65608 = full before.0 before.1 in
+      let lacked : g.capacity_of d < size_of before.0 + longest_object = full before.0 before.1 in
       omega arith)
 
   pub full_volume_grows : (volume : ℕ) (ds es : List M) → HaveGrown g ds es → IsFullVolume g ds volume → IsFullVolume g es volume
@@ -243,7 +243,7 @@ module _ {M : Type 0} (g : drive.Ghosts M) where
     unsure before after refused = not_true g.sure (λ sure. no_rise before after (refused.0 ∙ law sure d) (refused.1 ∙ law sure e) refused.2)
 
     lacked : (used len capacity : ℕ) → CopyRefused g volume (72 + length bytes) (print_of bytes) d e (copying.Full used len capacity) → LacksRoom g d volume
-    lacked used len capacity refused = inr (λ o gives. subst (λ (n : ℕ). n < size_of o + 65608) refused.2 (lacks_for capacity used len (size_of o) (length bytes) refused.3 refused.1 short (refused.4 o gives)))
+    lacked used len capacity refused = inr (λ o gives. subst (λ (n : ℕ). n < size_of o + longest_object) refused.2 (lacks_for capacity used len (size_of o) (length bytes) refused.3 refused.1 short (refused.4 o gives)))
 
     pub full_of_copy : (copied : Result StubEntry CopyRefusal) → CopiesTo g volume handle segment bytes copied d e → HearsFull g left (Copy volume handle segment bytes) (heard.Copied copied)
     full_of_copy (Err (copying.Failed before after)) copies = unsure before after copies.0

@@ -2,7 +2,7 @@
 use Rattle.std.proofs.Common.{◌≡◌, ◌∙◌, ◌⊎◌, ◌+◌, ◌%◌, ◌<◌, ℕ, false, List, length, Some, Result, Ok, Err, inl, inr, sym, ap, subst, arith}
 use Rattle.std.specs.Prelude.{slice_get}
 use Rattle.std.proofs.lemmas.List.Sums.{sum_by-append}
-use Rattle.media_model.specs.Objects.{Objects, size_of}
+use Rattle.media_model.specs.Objects.{Objects, longest_object, size_of}
 use Rattle.media_model.specs.declared.drive.Drive as drive
 use Rattle.hsm_types.specs.declared.daemons.Act.TheVariants.{Copy}
 use Rattle.hsm_types.specs.declared.daemons.Heard.{Heard}
@@ -31,7 +31,7 @@ module _ {M : Type 0} (g : drive.Ghosts M) where
       is : (e : M) × (slice_get es (volume % length ds) ≡ Some e) × HasGrown g full.0 e
       is = grown_to g (volume % length ds) ds es full.0 grown full.1
 
-      by : (g.has full.0 volume ≡ false) ⊎ ((o : Objects) → g.gives full.0 volume o → g.capacity_of full.0 < size_of o + 65608) → (g.has is.0 volume ≡ false) ⊎ ((o : Objects) → g.gives is.0 volume o → g.capacity_of is.0 < size_of o + 65608)
+      by : (g.has full.0 volume ≡ false) ⊎ ((o : Objects) → g.gives full.0 volume o → g.capacity_of full.0 < size_of o + longest_object) → (g.has is.0 volume ≡ false) ⊎ ((o : Objects) → g.gives is.0 volume o → g.capacity_of is.0 < size_of o + longest_object)
       by (inl gone) = inl (is.2.volumes.has volume ∙ gone)
       by (inr short) = inr (λ o gives.
           let before = is.2.objects volume o gives in

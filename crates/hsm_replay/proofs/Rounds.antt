@@ -8,6 +8,7 @@ use Rattle.std.proofs.lemmas.List.{map-append}
 use Rattle.disk_model.specs.declared.device.Disk as disk
 use Rattle.media_model.specs.declared.drive.Drive as drive
 use Rattle.hsm_types.specs.declared.daemons.Daemon.TheVariants.{Recall, Migrate}
+use Rattle.hsm_types.specs.Limits.{callers}
 use Rattle.hsm_types.specs.Rights.{Rights}
 use Rattle.plain_model.specs.declared.entries.Action.TheVariants.{Resume}
 use Rattle.plain_model.specs.declared.entries.Actor.TheVariants.{Caller}
@@ -89,10 +90,10 @@ module _ {D M : Type 0} where
       more (inl none) = (e, [], (number, one.0, refl), one.2 ∙ ap (λ (s : Store D). s.history ++ e ∷ []) none.0)
       more (inr some) = (some.0, some.1 ++ e ∷ [], some.2, one.2 ∙ ap (λ (h : List Entry). h ++ e ∷ []) some.3 ∙ append_assoc a.system.store.history (some.0 ∷ some.1) (e ∷ []))
 
-  pub resumed_all : (a b : Run D M) → ResumedTo 65 a b → HaveResumed a b
+  pub resumed_all : (a b : Run D M) → ResumedTo (callers + 1) a b → HaveResumed a b
   resumed_all a b resumed = record { recall = resumed.recall; migrate = resumed.migrate; none = all resumed.none }
     where
-      all : (b.system.store ≡ a.system.store) × NoneBelow 65 b.system.store ⊎ ((first : Entry) × (more : List Entry) × IsResumeOf first × (b.system.store.history ≡ a.system.store.history ++ first ∷ more)) → (b.system.store ≡ a.system.store) × NoneReady b.system.store ⊎ ((first : Entry) × (more : List Entry) × IsResumeOf first × (b.system.store.history ≡ a.system.store.history ++ first ∷ more))
+      all : (b.system.store ≡ a.system.store) × NoneBelow (callers + 1) b.system.store ⊎ ((first : Entry) × (more : List Entry) × IsResumeOf first × (b.system.store.history ≡ a.system.store.history ++ first ∷ more)) → (b.system.store ≡ a.system.store) × NoneReady b.system.store ⊎ ((first : Entry) × (more : List Entry) × IsResumeOf first × (b.system.store.history ≡ a.system.store.history ++ first ∷ more))
       all (inl none) = inl (none.0, λ caller is. none.1 caller is.0 (omega (arith, is.1)))
       all (inr some) = inr some
 

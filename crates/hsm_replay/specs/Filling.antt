@@ -1,6 +1,6 @@
 -- Which volumes the migration daemon found full, and at which answers to its copies a pass ends.
 use Rattle.std.specs.Prelude.{◌≡◌, ◌⊎◌, ℕ, ◌+◌, ◌<◌, List, slice_get, false, Some, Err}
-use Rattle.media_model.specs.Objects.{Objects, size_of}
+use Rattle.media_model.specs.Objects.{Objects, longest_object, size_of}
 use Rattle.media_model.specs.declared.drive.Drive as drive
 use Rattle.hsm_types.specs.declared.daemons.Act.{Act}
 use Rattle.hsm_types.specs.declared.daemons.Act.TheVariants.{Copy}
@@ -19,9 +19,9 @@ IsForVolume volume asked = Unit {0}
 module _ {M : Type 0} (g : drive.Ghosts M) where
   -- ---- full volumes
 
-  -- The volume isn't there, or has no room for the longest object, of 65,608 bytes, where its objects are told.
+  -- The volume isn't there, or has no room for the longest object, where its objects are told.
   abbrev pub LacksRoom : M → ℕ → Type 0
-  LacksRoom d volume = (g.has d volume ≡ false) ⊎ ((o : Objects) → g.gives d volume o → g.capacity_of d < size_of o + 65608)
+  LacksRoom d volume = (g.has d volume ≡ false) ⊎ ((o : Objects) → g.gives d volume o → g.capacity_of d < size_of o + longest_object)
 
   -- so it is on the drive of that volume
   abbrev pub IsFullVolume : List M → ℕ → Type 0

@@ -2,7 +2,7 @@
 use Rattle.std.proofs.Common.{◌≡◌, ℕ, ◌+◌, ◌≤◌, Bool, true, false, cond, List, [], ◌∷◌, length, Option, Some, None, refl, arith, leb-true, le-leb}
 use Rattle.std.specs.Prelude.{◌&&◌, nat_le}
 use Rattle.std.proofs.lemmas.Bool.{and_parts}
-use Rattle.hsm_types.specs.Limits.{file_bytes, file_regions, widest_limits, IsCountable}
+use Rattle.hsm_types.specs.Limits.{file_bytes, file_regions, all_flags, widest_limits, IsCountable}
 use Rattle.hsm_types.specs.Refusals.{first_refusal}
 use Rattle.hsm_types.specs.Regions.{is_behind, is_region, first_bad, too_many_regions, bad_region, regions_refusal}
 use Rattle.hsm_types.specs.declared.dm.DmRefusal.{DmRefusal}
@@ -26,8 +26,8 @@ few_and_good (Some why) bad h = absurd cc
 module _ (limits : Limits) (countable : IsCountable limits) where
   region_countable : (before : Option Region) (r : Region) → is_region limits before r ≡ true → is_region widest_limits before r ≡ true
   region_countable before r is =
-      let both = and_parts (nat_le r.flags 7 && nat_le (r.offset + r.size) limits.bytes) (is_behind before r) is in
-      let own = and_parts (nat_le r.flags 7) (nat_le (r.offset + r.size) limits.bytes) both.0 in
+      let both = and_parts (nat_le r.flags all_flags && nat_le (r.offset + r.size) limits.bytes) (is_behind before r) is in
+      let own = and_parts (nat_le r.flags all_flags) (nat_le (r.offset + r.size) limits.bytes) both.0 in
       let ends : r.offset + r.size ≤ file_bytes = omega (arith, leb-true (r.offset + r.size) limits.bytes own.1, countable.0) in
       rw (own.0, le-leb (r.offset + r.size) file_bytes ends, both.1) refl
 

@@ -33,6 +33,10 @@ widest_limits = record { bytes = file_bytes; regions = file_regions }
 abbrev pub IsCountable : Limits → Type 0
 IsCountable limits = (limits.bytes ≤ file_bytes) × (limits.regions ≤ file_regions)
 
+-- the flags of a region that manages all accesses. No region has greater ones
+abbrev pub all_flags : ℕ
+all_flags = 7
+
 -- ---- segments and blocks
 
 -- the bytes of a segment, in which bodies are kept and moved

@@ -2,7 +2,7 @@
 use Rattle.std.specs.Prelude.{ℕ, ◌+◌, ◌*◌, ◌/◌, ◌%◌, List, [], ◌∷◌, length, Bool, true, false, not, ◌==◌, ◌&&◌, ◌||◌, nat_lt, nat_le, if◌then◌else◌}
 use Rattle.std.specs.Prelude.{Option, Some, None}
 use Rattle.std.specs.List.{list_any}
-use Rattle.hsm_types.specs.Limits.{segment_bytes}
+use Rattle.hsm_types.specs.Limits.{segment_bytes, all_flags}
 use Rattle.hsm_types.specs.Refusals.{first_refusal}
 use Rattle.hsm_types.specs.declared.regions.Region.{Region}
 use Rattle.hsm_types.specs.declared.regions.Range.{Range}
@@ -19,9 +19,9 @@ abbrev pub is_behind : Option Region → Region → Bool
 is_behind None r = true
 is_behind (Some before) r = not (before.size == 0) && nat_le (before.offset + before.size) r.offset
 
--- flags are from 0 to 7, the region ends within the limit of a file, and it is behind the one before it
+-- flags are those of accesses, the region ends within the limit of a file, and it is behind the one before it
 abbrev pub is_region : Limits → Option Region → Region → Bool
-is_region limits before r = nat_le r.flags 7 && nat_le (r.offset + r.size) limits.bytes && is_behind before r
+is_region limits before r = nat_le r.flags all_flags && nat_le (r.offset + r.size) limits.bytes && is_behind before r
 
 -- the index of the first that is bad behind the one before it, counted on from `index`
 abbrev pub first_bad : Limits → ℕ → Option Region → List Region → Option ℕ
@@ -58,7 +58,7 @@ touches rs reach kind = list_any (λ r. is_flagged kind r && meets reach.offset 
 
 -- the region has all three flags, and contains the whole range of the segment, also past the file's end
 abbrev pub contains : ℕ → Region → Bool
-contains segment r = (r.flags == 7) && nat_le r.offset (segment_bytes * segment) && (r.size == 0 || nat_le (segment_bytes * segment + segment_bytes) (r.offset + r.size))
+contains segment r = (r.flags == all_flags) && nat_le r.offset (segment_bytes * segment) && (r.size == 0 || nat_le (segment_bytes * segment + segment_bytes) (r.offset + r.size))
 
 -- one region covers the segment
 abbrev pub covers : List Region → ℕ → Bool

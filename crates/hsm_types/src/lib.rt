@@ -23,10 +23,10 @@ pub use daemons::{Act, Daemon, Heard};
 pub use dm::{DmCall, DmRefusal, DmReply, Kind, Kinds, Response, Right, Scope};
 pub use keys::{CallerId, FileKey, HANDLE_BYTES, Handle, Holding, Sid, Token};
 pub use limits::{
-    ACCESS_BYTES, ATTRIBUTE_COST, BLOCK_BYTES, BUFFER_BYTES, CALLERS, DATA_BYTES, FILE_BLOCKS,
-    FILE_BYTES, FILE_REGIONS, FILE_SEGMENTS, INFO_BYTES, LAST_ERROR, LAST_VOLUME, LIVE_SESSIONS,
-    MOST_VOLUMES, NAME_BYTES, SEGMENT_BLOCKS, SEGMENT_BYTES, USER_EVENTS, VALUE_BYTES,
-    WAITING_MESSAGES, segments_in,
+    ACCESS_BYTES, ALL_FLAGS, ATTRIBUTE_COST, BLOCK_BYTES, BUFFER_BYTES, CALLERS, DATA_BYTES,
+    FILE_BLOCKS, FILE_BYTES, FILE_REGIONS, FILE_SEGMENTS, INFO_BYTES, LAST_ERROR, LAST_VOLUME,
+    LIVE_SESSIONS, MOST_VOLUMES, NAME_BYTES, SEGMENT_BLOCKS, SEGMENT_BYTES, USER_EVENTS,
+    VALUE_BYTES, WAITING_MESSAGES, segments_in,
 };
 pub use lists::{Bytes, FileRows, ListOf, Names, Regions, Segments, Sids, Tokens, Word};
 pub use media::{CopyRefusal, Fault, FetchRefusal, MediaCause};

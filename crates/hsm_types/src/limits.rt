@@ -2,6 +2,8 @@
 ghost use Rattle.std.specs.Prelude.{◌≡◌, ◌≤◌};
 ghost use Rattle.hsm_types.specs.Segments.{segments_in};
 
+use crate::regions::{REGION_READ, REGION_TRUNCATE, REGION_WRITE};
+
 // The most that the code can count of a file, whatever its format allows (`Limits`).
 
 /// The bytes of a file, at most.
@@ -15,6 +17,9 @@ pub const FILE_BLOCKS: u32 = 4096;
 
 /// The regions of a file, at most.
 pub const FILE_REGIONS: usize = 4;
+
+/// The flags of a region that manages all accesses. No region has greater ones.
+pub const ALL_FLAGS: u8 = REGION_READ + REGION_WRITE + REGION_TRUNCATE;
 
 // Segments and blocks.
 

@@ -1,6 +1,5 @@
 //! Lists, as types of their own. Contracts see each as the list of its items.
 ghost use Rattle.std.specs.Prelude.{◌≡◌};
-ghost use Rattle.std.specs.Cmp.Lexicographic.{pointwise, lists_per};
 
 use crate::attributes::AttrName;
 use crate::keys::{Sid, Token};
@@ -89,15 +88,5 @@ impl<T: Copy, As> Clone for ListOf<T, As> {
     fn clone(&self) -> Result<ListOf<T, As>, AllocError> {
         let items = Vec::from_slice(*self.items.allocator(), self.items.as_slice())?;
         Ok(ListOf::from(items))
-    }
-}
-
-impl<T: PartialEq, As> PartialEq for ListOf<T, As> {
-    ghost eq = { pointwise T.eq };
-
-    ghost laws = { lists_per T.laws };
-
-    fn eq(&self, other: &ListOf<T, As>) -> bool {
-        self.items.as_slice() == other.items.as_slice()
     }
 }

@@ -1,5 +1,5 @@
 //! Stub entries: where the copy of a segment's bytes lies, and by which fingerprint it is known.
-ghost use Rattle.std.specs.Prelude.{◌≡◌, ◌<◌, ◌^◌, length, OnOk, IfOk, IfErr, MatchResult};
+ghost use Rattle.std.specs.Prelude.{◌≡◌, ◌<◌, ◌^◌, length, OnOk, IfOk, IfErr};
 ghost use Rattle.hsm_types.specs.Stubs.{print_of, entry_at, entry_place, entry_print};
 
 use crate::lists::Bytes;
@@ -98,7 +98,7 @@ pub enum Segment {
 }
 
 /// Bytes with their fingerprint. Contracts see the bytes.
-#[derive(PartialEq, Drop)]
+#[derive(Drop)]
 pub struct Verified {
     bytes: Bytes,
     print: Fingerprint,

@@ -2,8 +2,8 @@
 ghost use Rattle.std.specs.Prelude.{◌≡◌, ◌≤◌, None, Some, length, MatchResult};
 ghost use Rattle.hsm_types.specs.Regions.{first_bad, is_behind, is_region, regions_refusal};
 
-use crate::meeting::{ALL_FLAGS, end};
-use hsm_types::{DmRefusal, Limits, Region};
+use crate::meeting::end;
+use hsm_types::{ALL_FLAGS, DmRefusal, Limits, Region};
 
 /// What refuses the list, if anything does.
 pub fn check_regions(limits: Limits, regions: &[Region]) -> Result<(), DmRefusal>

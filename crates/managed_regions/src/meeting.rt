@@ -2,10 +2,9 @@
 ghost use Rattle.std.specs.Prelude.{◌≡◌, ◌+◌};
 ghost use Rattle.hsm_types.specs.Regions.{contains, is_flagged, meets};
 
-use hsm_types::{Kind, REGION_READ, REGION_TRUNCATE, REGION_WRITE, Range, Region, SEGMENT_BYTES};
-
-/// The flags of a region whose accesses are all managed.
-pub const ALL_FLAGS: u8 = REGION_READ + REGION_WRITE + REGION_TRUNCATE;
+use hsm_types::{
+    ALL_FLAGS, Kind, REGION_READ, REGION_TRUNCATE, REGION_WRITE, Range, Region, SEGMENT_BYTES,
+};
 
 /// The end of so many bytes from an offset on.
 pub fn end(offset: u64, len: u64) -> u128

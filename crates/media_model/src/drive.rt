@@ -1,13 +1,14 @@
 //! A drive: which objects its volumes have.
-ghost use Rattle.std.specs.Prelude.{◌≡◌, ◌+◌, ◌<◌, ◌≤◌, ◌++◌, ℕ, List, Bool, true, Err, [], length, get_or, take, drop, OnOk, IfOk, IsErr, IsErrOf};
-ghost use Rattle.media_model.specs.Objects.{Objects, size_of, read_from, Adds, AddsOne, MayAdd, Follows, Alike, HasCause, IsAsked, KeepsVolumes};
+ghost use Rattle.std.specs.Prelude.{◌≡◌, ◌+◌, ◌<◌, ◌≤◌, ℕ, List, Bool, true, Err, [], length, get_or, take, OnOk, IfOk, IsErr, IsErrOf};
+ghost use Rattle.media_model.specs.Objects.{Objects, longest_object, size_of, read_from, Adds, AddsOne};
+ghost use Rattle.media_model.specs.Objects.{MayAdd, Follows, Alike, HasCause, IsAsked, KeepsVolumes};
 ghost use Rattle.media_model.specs.declared.drive.DriveRefusal.TheVariants.{Failed, Full, NoObject, Memory};
 
 use std::alloc::AllocError;
 use thiserror::Error;
 
-/// The bytes of the longest object: those of the longest segment, and its frame.
-pub const OBJECT_BYTES: usize = 65608;
+/// The bytes of the longest object: its frame, and the longest segment.
+pub const LONGEST_OBJECT: usize = 72 + 65536;
 
 /// Why a drive refused a call.
 #[derive(Clone, Copy, Debug, PartialEq, Eq, Error)]
@@ -68,7 +69,7 @@ pub trait Drive {
 
     /// Puts an object behind the others of the volume, and tells its number.
     fn append(&mut self, volume: u32, bytes: &[u8]) -> Result<u32, DriveRefusal>
-        requires { length bytes.now ≤ 65608 }
+        requires { length bytes.now ≤ longest_object }
         ensures number { IfOk result (λ n. (o : Objects) → gives self.old volume o → n ≡ length o) }
         ensures one_more { OnOk result (Follows AddsOne (gives self.old volume) (gives self.new volume)) }
         ensures exact { sure ≡ true → OnOk result (Follows (Adds bytes.now) (gives self.old volume) (gives self.new volume)) }

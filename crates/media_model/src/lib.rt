@@ -8,7 +8,7 @@ mod sharing;
 mod sure;
 mod volume;
 
-pub use drive::{Drive, DriveRefusal, OBJECT_BYTES};
+pub use drive::{Drive, DriveRefusal, LONGEST_OBJECT};
 pub use memory::{Damage, FailingCall, MemDrive};
 pub use sharing::{have_room, have_volumes, mem_drives, sure_drives, volumes_of};
 pub use sure::SureDrive;

@@ -5,7 +5,7 @@ ghost use Rattle.std.specs.List.{list_any};
 ghost use Rattle.std.specs.Option.{option_map_or};
 ghost use Rattle.disk_model.specs.Calls.{raised};
 ghost use Rattle.media_model.specs.Memory.{no_objects, volume_in, has_volume, objects_in};
-ghost use Rattle.media_model.specs.Faults.{failing_now, one_call, failed_call, is_of, damaged, kept_in, FailsAppend, AppendsNow};
+ghost use Rattle.media_model.specs.Faults.{failing_now, failed_call, is_of, damaged, kept_in, FailsAppend, AppendsNow};
 ghost use Rattle.media_model.specs.declared.drive.DriveRefusal.TheVariants.{Failed, Memory};
 
 use crate::volume::ObjectBytes;
@@ -186,9 +186,9 @@ impl MemDrive {
 }
 
 impl Drive for MemDrive {
-    ghost use Rattle.std.specs.Prelude.{◌≡◌, ◌+◌, ◌<◌, ◌≤◌, ℕ, [], length, true, false, Ok, Err, get_or, take, drop, OnOk, IfOk, IsErr, IsErrOf};
+    ghost use Rattle.std.specs.Prelude.{◌≡◌, ◌+◌, ◌<◌, ◌≤◌, ℕ, [], length, true, false, Ok, Err, get_or, take, OnOk, IfOk, IsErr, IsErrOf};
     ghost use Rattle.std.proofs.lemmas.Bool.{false≢true};
-    ghost use Rattle.media_model.specs.Objects.{Objects, size_of, read_from, AddsOne, MayAdd, Follows, Alike, HasCause, IsAsked, KeepsVolumes};
+    ghost use Rattle.media_model.specs.Objects.{Objects, longest_object, size_of, read_from, AddsOne, MayAdd, Follows, Alike, HasCause, IsAsked, KeepsVolumes};
     ghost use Rattle.media_model.specs.Memory.{volume_in, has_volume, lasting_in, AreObjects, of_volume, of_object, change_volume, synced, gives_has};
     ghost use Rattle.media_model.specs.Memory.{content_in, gives_content};
     ghost use Rattle.media_model.specs.Faults.{failing_now, answered, after_call, AppendsAs};
@@ -223,7 +223,7 @@ impl Drive for MemDrive {
     }
 
     fn append(&mut self, volume: u32, bytes: &[u8]) -> Result<u32, DriveRefusal>
-        requires { length bytes.now ≤ 65608 }
+        requires { length bytes.now ≤ longest_object }
         ensures number { IfOk result (λ n. (o : Objects) → AreObjects self.old.held volume o → n ≡ length o) }
         ensures one_more { OnOk result (Follows AddsOne (AreObjects self.old.held volume) (AreObjects self.new.held volume)) }
         ensures fits { OnOk result ((o : Objects) → AreObjects self.old.held volume o → size_of o + length bytes.now ≤ self.old.held.capacity) }

@@ -1,6 +1,6 @@
 //! A drive in memory that never fails.
-ghost use Rattle.std.specs.Prelude.{◌≡◌, ◌+◌, ◌<◌, ◌≤◌, ◌^◌, ℕ, [], length, nat_eq, is_some, if◌then◌else◌, true, Ok, Err, Some, None, IfOk, IfSome};
-ghost use Rattle.std.specs.Prelude.{OnOk, OnErr, MatchResult, MatchOption, slice_set, take, drop};
+ghost use Rattle.std.specs.Prelude.{◌≡◌, ◌+◌, ◌<◌, ◌≤◌, ◌^◌, ℕ, [], length, nat_eq, if◌then◌else◌, true, Ok, Err, Some, None, IfOk, IfSome};
+ghost use Rattle.std.specs.Prelude.{OnOk, OnErr, MatchResult, MatchOption, slice_set, take};
 ghost use Rattle.std.specs.List.{list_any};
 ghost use Rattle.std.specs.Map.{lookup};
 ghost use Rattle.std.specs.Option.{option_map_or};
@@ -149,8 +149,9 @@ impl SureDrive {
 }
 
 impl Drive for SureDrive {
-    ghost use Rattle.std.specs.Prelude.{◌≡◌, ◌+◌, ◌<◌, ◌≤◌, ℕ, [], length, true, Ok, Err, get_or, take, drop, OnOk, IfOk, IsErr, IsErrOf, refl};
-    ghost use Rattle.media_model.specs.Objects.{Objects, size_of, read_from, Adds, AddsOne, MayAdd, Follows, Alike, HasCause, IsAsked, KeepsVolumes};
+    ghost use Rattle.std.specs.Prelude.{◌≡◌, ◌+◌, ◌<◌, ◌≤◌, ℕ, [], length, true, Ok, Err, get_or, take, OnOk, IfOk, IsErr, IsErrOf, refl};
+    ghost use Rattle.media_model.specs.Objects.{Objects, longest_object, size_of, read_from, Adds, AddsOne, Follows, Alike, HasCause};
+    ghost use Rattle.media_model.specs.Objects.{IsAsked, KeepsVolumes};
     ghost use Rattle.media_model.specs.Memory.{volume_in, has_volume, lasting_in, AreObjects, of_volume, of_object, change_volume, synced, Appends};
     ghost use Rattle.media_model.specs.Memory.{gives_has, has_gives};
     ghost use Rattle.media_model.specs.Memory.{content_in, gives_content};
@@ -185,7 +186,7 @@ impl Drive for SureDrive {
     }
 
     fn append(&mut self, volume: u32, bytes: &[u8]) -> Result<u32, DriveRefusal>
-        requires { length bytes.now ≤ 65608 }
+        requires { length bytes.now ≤ longest_object }
         ensures number { IfOk result (λ n. (o : Objects) → AreObjects self.old volume o → n ≡ length o) }
         ensures one_more { OnOk result (Follows AddsOne (AreObjects self.old volume) (AreObjects self.new volume)) }
         ensures exact { OnOk result (Follows (Adds bytes.now) (AreObjects self.old volume) (AreObjects self.new volume)) }

@@ -16,7 +16,7 @@ use crate::file_places::FilePlaces;
 use crate::geometry::geometry_of;
 use crate::kept::{attributes_of, regions_of};
 use crate::kept_stubs::stubs_of;
-use crate::snapshot::{RawFile, RawSnapshot, ReadRefusal};
+use crate::snapshot::{LAST_GENERATION, LAST_NUMBER, RawFile, RawSnapshot, ReadRefusal};
 use hsm_types::{BLOCK_BYTES, Geometry, Word, can_name};
 use std::alloc::Global;
 
@@ -33,9 +33,8 @@ pub(crate) fn catalog_of(
     ensures number { OnOk result (snapshot.number ≤ 2 ^ 62) }
     ensures corrupt { IsErrOf result ReadRefusal.Corrupt → (n : ℕ) (c : Catalog) → c.geometry ≡ geometry → n ≤ 2 ^ 62 → IsCatalog c → AreLengths c → raw_snapshot snapshot ≡ snapshot_of n c → ⊥ }
 {
-    let most = 1 << 62;
     let next = snapshot.next;
-    if snapshot.number > most || next == 0 || next > most {
+    if snapshot.number > LAST_NUMBER || next == 0 || next > LAST_GENERATION {
         return Err(ReadRefusal::Corrupt);
     }
     let bounds = geometry_of(geometry);

@@ -1,6 +1,6 @@
 -- A pass of migration, over what was asked and heard since its table.
 use Rattle.std.specs.Prelude.{◌≡◌, ℕ, ◌+◌, ◌*◌, ◌<◌, ◌⊎◌, List, [], ◌∷◌, ◌++◌, length, slice_get, Option, Some, None, Err, Contains}
-use Rattle.hsm_types.specs.Limits.{segment_bytes}
+use Rattle.hsm_types.specs.Limits.{segment_bytes, all_flags}
 use Rattle.hsm_types.specs.declared.daemons.Act.{Act}
 use Rattle.hsm_types.specs.declared.daemons.Act.TheVariants.{Dm, Copy}
 use Rattle.hsm_types.specs.declared.daemons.Heard.{Heard}
@@ -45,7 +45,7 @@ abbrev pub start_of : Picked → ℕ
 start_of p = segment_bytes * p.segment
 
 abbrev pub whole_file : List Region
-whole_file = record { offset = 0; size = 0; flags = 7 } ∷ []
+whole_file = record { offset = 0; size = 0; flags = all_flags } ∷ []
 
 abbrev pub asks_regions : Sid → Picked → Act
 asks_regions sid p = Dm sid (GetRegion no_token p.handle)

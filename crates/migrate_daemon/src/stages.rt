@@ -1,12 +1,12 @@
 //! Where the machine is, and what it does next.
-ghost use Rattle.std.specs.Prelude.{◌≡◌, ◌*◌, ◌<◌, ◌≤◌, ◌^◌, length, IfOk};
+ghost use Rattle.std.specs.Prelude.{◌≡◌, ◌*◌, ◌<◌, ◌≤◌, length, IfOk};
 ghost use Rattle.migrate_daemon.specs.Passes.{copies, whole_file};
-ghost use Rattle.migrate_daemon.specs.Stages.{asked_for, works};
+ghost use Rattle.migrate_daemon.specs.Stages.{works};
 
 use crate::progress::Progress;
 use hsm_policy::Picked;
 use hsm_types::{
-    Act, Bytes, DmCall, Region, Regions, SEGMENT_BYTES, Sid, StubEntry, Token, Verified,
+    ALL_FLAGS, Act, Bytes, DmCall, Region, Regions, SEGMENT_BYTES, Sid, StubEntry, Token, Verified,
 };
 use std::alloc::{AllocError, Global};
 
@@ -99,7 +99,7 @@ fn whole_file(alloc: Global) -> Result<Regions, AllocError>
     regions.push(Region {
         offset: 0,
         size: 0,
-        flags: 7,
+        flags: ALL_FLAGS,
     })?;
     Ok(Regions::from(regions))
 }

@@ -1,6 +1,7 @@
 //! Copies of segments on a drive in memory: what a volume has of them, what is fetched, and what is told of faults and of damage.
 ghost use Rattle.std.specs.Prelude.{◌≤◌, IfOk, length};
 ghost use Rattle.hsm_types.specs.Limits.{segment_bytes};
+ghost use Rattle.media_model.specs.Objects.{longest_object};
 
 use hsm_types::{
     Bytes, CopyRefusal, Fault, FetchRefusal, FileKey, Fingerprint, Handle, Place, StubEntry,
@@ -120,7 +121,7 @@ fn are_refused_where_any_call_fails(rt: HostRuntime) -> Result<(), AllocError> {
 /// An object with a frame of zeros and that payload.
 fn framed(alloc: Global, payload: &[u8]) -> Result<Vec<u8>, AllocError>
     requires { length payload.now ≤ segment_bytes }
-    ensures { IfOk result (λ v. length v.items ≤ 65608) }
+    ensures { IfOk result (λ v. length v.items ≤ longest_object) }
 {
     let mut object = vec![in alloc; 0u8; 72]?;
     object.extend_from_slice(payload)?;

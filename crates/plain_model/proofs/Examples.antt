@@ -3,7 +3,7 @@
 use Rattle.std.proofs.Common.{◌≡◌, ◌<◌, ◌-◌, ◌*◌, ℕ, min, List, [], ◌∷◌, length, take, true, false, inr, refl, sym, ◌∙◌, ap, arith}
 use Rattle.std.proofs.lemmas.Bool.{false≢true}
 use Rattle.std.specs.Prelude.{◌≢◌}
-use Rattle.hsm_types.specs.Limits.{segment_bytes}
+use Rattle.hsm_types.specs.Limits.{segment_bytes, all_flags}
 use Rattle.hsm_types.specs.Messages.{no_token}
 use Rattle.hsm_types.specs.Stubs.{print_of, entry_at}
 use Rattle.hsm_types.specs.declared.dm.DmCall.{DmCall}
@@ -40,7 +40,7 @@ one = record { ino = 1; igen = 1 }
 
 -- one that covers the whole file
 abbrev pub all : List Region
-all = record { offset = 0; size = 0; flags = 7 } ∷ []
+all = record { offset = 0; size = 0; flags = all_flags } ∷ []
 
 -- an answer for no fault need not be the last
 pub no_fault : {A : Type 0} → false ≡ true → A

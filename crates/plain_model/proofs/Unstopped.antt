@@ -4,7 +4,7 @@ use Rattle.std.proofs.Common.{sym, ◌∙◌, subst, ⊎_elim, arith}
 use Rattle.std.proofs.lemmas.Bool.{eqb-true, ne_eqb, false≢true, cases_lt, lt-ltb, leb-true, and_parts, or_cases, or_parts, false_from_ne_true}
 use Rattle.std.specs.Prelude.{◌/◌, ◌%◌, ◌≢◌, ◌&&◌, ◌||◌, ◌==◌, nat_lt, nat_le, if◌then◌else◌}
 use Rattle.std.specs.List.{list_any}
-use Rattle.hsm_types.specs.Limits.{segment_bytes}
+use Rattle.hsm_types.specs.Limits.{segment_bytes, all_flags}
 use Rattle.hsm_types.specs.Regions.{meets, is_flagged, touches, contains, covers}
 use Rattle.hsm_types.specs.Segments.{from_on, segments_in, meets_segment, segments_met, segment_around}
 use Rattle.hsm_types.specs.Stubs.{Stubs, offline_at}
@@ -40,7 +40,7 @@ HasFlag kind.Write = Unit {0}
 HasFlag kind.Truncate = Unit {0}
 HasFlag kind = ⊥
 
-flagged : (kind : Kind) (r : Region) → HasFlag kind → r.flags ≡ 7 → is_flagged kind r ≡ true
+flagged : (kind : Kind) (r : Region) → HasFlag kind → r.flags ≡ all_flags → is_flagged kind r ≡ true
 flagged kind.Read r has is = rw is refl
 flagged kind.Write r has is = rw is refl
 flagged kind.Truncate r has is = rw is refl
@@ -51,10 +51,10 @@ range from to = record { offset = from; len = to - from }
 
 contained : (kind : Kind) (j from to : ℕ) (r : Region) → HasFlag kind → from < to → from < segment_bytes * j + segment_bytes → segment_bytes * j < to → contains j r ≡ true → (is_flagged kind r && meets from (to - from) r) ≡ true
 contained kind j from to r has some low high is =
-    let first_two = and_parts ((r.flags == 7) && nat_le r.offset (segment_bytes * j)) (r.size == 0 || nat_le (segment_bytes * j + segment_bytes) (r.offset + r.size)) is in
-    let parts = and_parts (r.flags == 7) (nat_le r.offset (segment_bytes * j)) first_two.0 in
+    let first_two = and_parts ((r.flags == all_flags) && nat_le r.offset (segment_bytes * j)) (r.size == 0 || nat_le (segment_bytes * j + segment_bytes) (r.offset + r.size)) is in
+    let parts = and_parts (r.flags == all_flags) (nat_le r.offset (segment_bytes * j)) first_two.0 in
     let before : r.offset ≤ segment_bytes * j = leb-true r.offset (segment_bytes * j) parts.1 in
-    rw (flagged kind r has (eqb-true r.flags 7 parts.0), lt-ltb 0 (to - from) (omega arith), lt-ltb r.offset (from + (to - from)) (omega arith))
+    rw (flagged kind r has (eqb-true r.flags all_flags parts.0), lt-ltb 0 (to - from) (omega arith), lt-ltb r.offset (from + (to - from)) (omega arith))
     (⊎_elim (λ (endless : (r.size == 0) ≡ true). rw endless refl)
     (λ (ends : nat_le (segment_bytes * j + segment_bytes) (r.offset + r.size) ≡ true).
     let end : segment_bytes * j + segment_bytes ≤ r.offset + r.size = leb-true (segment_bytes * j + segment_bytes) (r.offset + r.size) ends in

@@ -13,7 +13,7 @@ pub fn transparent()
     ensures { (s : Superblock) (files : List File) (history : List Entry) → IsTransparent s files history }
 {}
 
-/// Every beginning of a run is a run.
+/// Every beginning of a run is a run. No crate calls it yet.
 pub fn beginning_is_run()
     ensures { (s : Superblock) (base : ℕ) (opening : Held) (first rest : List Entry) → BeginningIsRun s base opening first rest }
 {}
@@ -28,7 +28,7 @@ pub fn synced_grows()
     ensures { (history : List Entry) → SyncedLaws history }
 {}
 
-/// Of every history a caller's entries grow by those that are its own.
+/// Of every history a caller's entries grow by those that are its own. No crate calls it yet.
 pub fn own_grows()
     ensures { (caller : ℕ) (history : List Entry) (entry : Entry) → OwnGrows caller history entry }
 {}

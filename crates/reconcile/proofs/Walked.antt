@@ -93,7 +93,7 @@ module _ (xs : List StubEntry) (i : ℕ) (e : StubEntry) (within : i < length xs
   live_more v o = list_any_more (names v o) xs i e within ∙ ap (λ x. is_live (take i xs) v o || names v o x) (is e)
 
   -- as the entry before names the same object, it was live before
-  live_before : (k : ℕ) (d : StubEntry) → k + 1 ≡ i → ((get_or xs k d).volume ≡ (entry_place e).volume) × ((get_or xs k d).object ≡ (entry_place e).object) → is_live (take i xs) (entry_place e).volume (entry_place e).object ≡ true
+  live_before : (k : ℕ) (d : StubEntry) → k + 1 ≡ i → ((entry_place (get_or xs k d)).volume ≡ (entry_place e).volume) × ((entry_place (get_or xs k d)).object ≡ (entry_place e).object) → is_live (take i xs) (entry_place e).volume (entry_place e).object ≡ true
   live_before k d at same =
       let here : get_or (take i xs) k d ≡ get_or xs k d = get_or-take i xs k d (omega arith) in
       let names_it : names (entry_place e).volume (entry_place e).object (get_or (take i xs) k d) ≡ true = rw (here, ← (same.0), ← (same.1)) (named (get_or xs k d)) in
@@ -193,7 +193,7 @@ none_or_last zero = inl refl
 none_or_last (suc k) = inr (k, add-one k)
 
 module _ {D : Type 0} (g : drive.Ghosts D) (volumes : ℕ) (told : ℕ → Objects) (drives : List D) (are : AreTold g volumes drives told) (xs : List StubEntry) (i : ℕ) (e : StubEntry) (within : i < length xs) (is : (d : StubEntry) → get_or xs i d ≡ e)
-    (ascending : IsNonDecreasingBy place xs) (small : (k : ℕ) → k < i → (d : StubEntry) → (get_or xs k d).object < 2 ^ 32) (short : (entry_place e).object < 2 ^ 32) (old mid : Walk) (found : Option Fingerprint) (was : IsWalk volumes told xs i old) where
+    (ascending : IsNonDecreasingBy place xs) (small : (k : ℕ) → k < i → (d : StubEntry) → (entry_place (get_or xs k d)).object < 2 ^ 32) (short : (entry_place e).object < 2 ^ 32) (old mid : Walk) (found : Option Fingerprint) (was : IsWalk volumes told xs i old) where
   -- one entry more, where that is the number of live objects by it
   counts_on : found ≡ print_on volumes told e → mid.counts.live ≡ count_objects (is_live (take (i + 1) xs)) volumes told → mid ≡ record { counts = record old.counts { live = mid.counts.live }; last = Some (seen e found) }
       → IsWalk volumes told xs (i + 1) (record mid { counts = counted (entry_print e) found mid.counts })

@@ -1,10 +1,10 @@
 //! Segments that are copied to volumes, and fetched.
-ghost use Rattle.std.specs.Prelude.{◌≡◌, ◌≤◌, IfOk, length};
+ghost use Rattle.std.specs.Prelude.{◌≡◌, IfOk, length};
 
 use hsm_types::{
     Bytes, CopyRefusal, FetchRefusal, FileKey, Handle, SEGMENT_BYTES, StubEntry, Verified,
 };
-use media_model::{Drive, OBJECT_BYTES};
+use media_model::{Drive, LONGEST_OBJECT};
 use std::alloc::{AllocError, Global};
 use thiserror::Error;
 use volume_shelf::{copy, fetch};
@@ -21,7 +21,7 @@ pub(crate) const DRIVES: u32 = 2;
 /// How many copies of whole segments a volume has room for.
 const COPIES: u32 = 1022;
 
-const _: () = prove!(COPIES as u64 == CAPACITY / OBJECT_BYTES as u64);
+const _: () = prove!(COPIES as u64 == CAPACITY / LONGEST_OBJECT as u64);
 
 const FILE: Handle = Handle {
     fsid: 1,

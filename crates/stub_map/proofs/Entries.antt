@@ -1,5 +1,6 @@
 -- A segment has one entry at most, so what the map does at its key is done to all entries of the segment.
-use Rattle.std.proofs.Common.{◌≡◌, ℕ, ◌+◌, ◌^◌, ◌<◌, ◌≤◌, [], ◌∷◌, length, Bool, true, false, not, cond, Option, None, Some, is_some, Less, Equal, Greater, nat_cmp, is_gt, refl, sym, ap, ◌∙◌, arith}
+use Rattle.std.proofs.Common.{◌≡◌, ℕ, ◌+◌, ◌^◌, ◌<◌, ◌≤◌, [], ◌∷◌, length, Bool, true, false, not, cond, Option}
+use Rattle.std.proofs.Common.{None, Some, is_some, Less, Equal, Greater, nat_cmp, is_gt, refl, sym, ap, ◌∙◌, arith}
 use Rattle.std.specs.Prelude.{◌&&◌, ◌==◌, nat_eq, nat_lt, nat_le, if◌then◌else◌}
 use Rattle.std.specs.BTreeMap.{is_at}
 use Rattle.std.specs.List.Sorted.{IsStrictlySortedBy}

@@ -3,7 +3,8 @@ ghost use Rattle.std.specs.Prelude.{◌≡◌, ◌+◌, ◌^◌, ◌<◌, ◌≤
 ghost use Rattle.std.specs.List.Sorted.{IsStrictlySortedBy};
 ghost use Rattle.std.specs.Map.{keys_of};
 ghost use Rattle.std.specs.Ordering.{nat_cmp};
-ghost use Rattle.hsm_types.specs.Stubs.{is_sealed, moved, offline_at, punched, punching_refusal, restored, restoring_refusal, sealed, sealing_refusal, stub_at, stubs_below, without_stub};
+ghost use Rattle.hsm_types.specs.Stubs.{is_sealed, moved, offline_at, punched, punching_refusal, restored};
+ghost use Rattle.hsm_types.specs.Stubs.{restoring_refusal, sealed, sealing_refusal, stub_at, stubs_below, without_stub};
 ghost use Rattle.hsm_types.specs.declared.dm.DmRefusal.TheVariants.{Memory};
 ghost use Rattle.stub_map.specs.States.{HereBetween, IsFirstOffline, IsNext, NoneFrom, state_of};
 

@@ -97,7 +97,7 @@ fn says_digest(buf: &[u8], digest: Digest) -> bool
     &buf[DIGEST_PLACE..FRAME_BYTES] == digest.0.as_slice()
 }
 
-/// The object that the bytes are. It takes no memory, and reads the payload once.
+/// The object that the bytes are. It takes no memory, and reads the payload once. Only tests call it yet.
 #[tactic(auto, unfolding(crate::specs::Objects::bad_place))]
 pub fn read_object(buf: &[u8]) -> Result<Object<'_>, BadObject>
     ensures object { IfOk result (λ o. IsObject o.handle o.segment o.payload.now buf.now) }

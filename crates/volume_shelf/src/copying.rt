@@ -1,10 +1,10 @@
 //! How the copy of a segment is put on a volume.
-ghost use Rattle.std.specs.Prelude.{◌≡◌, ◌+◌, ◌<◌, ◌≤◌, ◌^◌, ℕ, true, length, IfOk, IfErr, OnOk, MatchResult};
+ghost use Rattle.std.specs.Prelude.{◌≡◌, ◌+◌, ◌<◌, ◌≤◌, ◌^◌, true, length, IfOk, IfErr, OnOk, MatchResult};
 ghost use Rattle.disk_model.specs.Calls.{Rose};
 ghost use Rattle.hsm_types.specs.Limits.{segment_bytes};
 ghost use Rattle.hsm_types.specs.Stubs.{print_of};
 ghost use Rattle.hsm_types.specs.declared.media.CopyRefusal.TheVariants.{Failed};
-ghost use Rattle.media_model.specs.Objects.{Objects, Alike};
+ghost use Rattle.media_model.specs.Objects.{Objects, longest_object};
 ghost use Rattle.volume_shelf.specs.Shelf.{payload_in, Reads, Grows, Copied, CopyRefused, IsFailedCopy};
 ghost use Rattle.volume_shelf.specs.Steps.{IsPut, NotPut, Prints, IsUnlike};
 
@@ -50,7 +50,7 @@ pub fn copy<M: Drive>(
 
 /// Puts the object on the volume, and tells its number.
 fn put<M: Drive>(drive: &mut M, volume: u32, object: &[u8], begun: u64) -> Result<u32, CopyRefusal>
-    requires most { length object.now ≤ 65608 }
+    requires most { length object.now ≤ longest_object }
     requires begun { begun ≡ M.fault_count drive.old }
     ensures answer { MatchResult result (IsPut M.Drive volume object.now drive.old drive.new) (NotPut M.Drive volume (length object.now) drive.old drive.new) }
     ensures grows { Grows M.Drive volume drive.old drive.new }

@@ -1,4 +1,5 @@
-use Rattle.hsm_types.proofs.Queues.{places-created, places-destroyed, places-disposed, places-posted, places-delivered, places-responded-other, places-answered, places-user_event, places-sent}
+use Rattle.hsm_types.proofs.Queues.{places-created, places-destroyed, places-disposed, places-posted, places-delivered}
+use Rattle.hsm_types.proofs.Queues.{places-responded-other, places-answered, places-user_event, places-sent}
 use Rattle.dm_sessions.proofs.laws.stands_once.Goals as goal
 
 pub returns : goal.returns

@@ -26,10 +26,10 @@ each-passes s n c before f rest valid long e cut =
 last-taken : (before : List SnapshotFile) (f : SnapshotFile) → f.key.ino ≡ last_inode 0 (names_in (before ++ f ∷ []))
 last-taken before f = rw (map-append listed_in before (f ∷ []), last_inode-push 0 (names_in before) (listed_in f)) refl
 
-pub returns-then-snapshot-most-clause-corrupt : goal.returns-then-snapshot-most-clause-corrupt
-returns-then-snapshot-most-clause-corrupt c = λ is n d kind small valid long same.
+pub returns-then-snapshot-gt-LAST_NUMBER-clause-corrupt : goal.returns-then-snapshot-gt-LAST_NUMBER-clause-corrupt
+returns-then-snapshot-gt-LAST_NUMBER-clause-corrupt c = λ is n d kind small valid long same.
     let says = same ∙ unfolded n d in
-    grind (arith, valid.first, valid.next, c.then-snapshot-most.either)
+    grind (arith, valid.first, valid.next, c.then-snapshot-gt-LAST_NUMBER.either)
 
 pub returns-in_err-take_in-clause-corrupt : goal.returns-in_err-take_in-clause-corrupt
 returns-in_err-take_in-clause-corrupt c = λ is n d kind small valid long same.

@@ -1,7 +1,7 @@
 use Rattle.std.proofs.Common.{◌<◌, ◌^◌, ◌∙◌, ℕ, [], get_or, refl, arith, below_more}
 use Rattle.std.proofs.lemmas.List.{get_or_default}
 use Rattle.std.proofs.lemmas.Result.{err_from_is_err_and}
-use Rattle.hsm_types.specs.Stubs.{entry_at}
+use Rattle.hsm_types.specs.Stubs.{entry_at, entry_place}
 use Rattle.hsm_types.specs.declared.stubs.StubEntry.{StubEntry}
 use Rattle.reconcile.proofs.Drives.{none_read, read_on, told_on, refused_on}
 use Rattle.reconcile.proofs.Walked.{walk_starts, walk_on, walk_ends, tallies}
@@ -44,7 +44,7 @@ loop-entry-preserved g c =
     rw (c.count.ensures, c.print.ensures) (record {
       live = one.0;
       classes = one.1;
-      short = below_more (λ (k : ℕ). (d : StubEntry) → (get_or xs k d).object < 2 ^ 32) i was.short (λ d. rw (get_or_default xs i d nowhere c.loop-entry-test.true) (c.in_ok-found.ensures.short));
+      short = below_more (λ (k : ℕ). (d : StubEntry) → (entry_place (get_or xs k d)).object < 2 ^ 32) i was.short (λ d. rw (get_or_default xs i d nowhere c.loop-entry-test.true) (c.in_ok-found.ensures.short));
       counts = λ told are.
           walk_on g.M.Drive c.args.volumes told c.loop-entry.drives (told_on g.M.Drive c.args.volumes c.args.drives.now c.loop-entry.drives told was.reads are) xs i e c.loop-entry-test.true (λ d. get_or_default xs i d nowhere c.loop-entry-test.true) c.requires.ascending was.short c.in_ok-found.ensures.short
           c.loop-entry.walk c.find.new.self c.in_ok-found.found (was.counts told are) c.in_ok-found.ensures.finds;

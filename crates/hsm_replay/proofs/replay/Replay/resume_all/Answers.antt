@@ -1,5 +1,6 @@
-use Rattle.std.proofs.Common.{◌≡◌, ◌∙◌, Ok, Err, refl, rules}
+use Rattle.std.proofs.Common.{◌≡◌, ◌∙◌, ◌+◌, Ok, Err, refl, rules}
 use Rattle.std.proofs.lemmas.Result.{err_from_is_err_and}
+use Rattle.hsm_types.specs.Limits.{callers}
 use Rattle.hsm_replay.proofs.Joining.{moves_itself, moves_then}
 use Rattle.hsm_replay.proofs.Rounds.{resumed_none, resumed_on, resumed_all}
 use Rattle.hsm_replay.proofs.replay.Replay.resume_all.Goals as goal
@@ -24,7 +25,7 @@ returns-clause-moves g c = c.loop-number.invariant.moves
 
 pub returns-clause-resumed : goal.returns-clause-resumed
 returns-clause-resumed g c =
-    let ends : c.loop-number.number ≡ 65 = search rules in
+    let ends : c.loop-number.number ≡ callers + 1 = search rules in
     resumed_all _ _ (rw ends at c.loop-number.invariant.resumed)
 
 pub returns-in_err-resume_at-clause-runs : goal.returns-in_err-resume_at-clause-runs
