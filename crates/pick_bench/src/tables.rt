@@ -1,8 +1,8 @@
 //! Tables of files in the order of their inodes, with stamps in no order.
 
 use hsm_types::{
-    Digest, FileKey, FileRow, FileRows, Fingerprint, Handle, Place, Segment, Segments, StubEntry,
-    Table,
+    Digest, FileKey, FileRow, FileRows, Fingerprint, Handle, Place, SEGMENT_BLOCKS, SEGMENT_BYTES,
+    Segment, Segments, StubEntry, Table,
 };
 use std::alloc::{AllocError, Global};
 
@@ -13,7 +13,7 @@ fn entry() -> StubEntry {
         object: 0,
     };
     let print = Fingerprint {
-        len: 65536,
+        len: SEGMENT_BYTES as u32,
         digest: Digest([0; 32]),
     };
     StubEntry::new(place, print)
@@ -52,9 +52,11 @@ fn body(alloc: Global, segments: u64) -> Result<Segments, AllocError> {
     let mut body = Vec::new(alloc);
     for number in 0..segments {
         body.push(match number % 8 {
-            0..6 => Segment::Resident { blocks: 16 },
+            0..6 => Segment::Resident {
+                blocks: SEGMENT_BLOCKS,
+            },
             6 => Segment::Sealed {
-                blocks: 16,
+                blocks: SEGMENT_BLOCKS,
                 entry: entry(),
             },
             _ => Segment::Offline { entry: entry() },
