@@ -1,5 +1,5 @@
 //! Writing the bytes of messages.
-ghost use Rattle.std.specs.Prelude.{◌≡◌, ◌≢◌, ◌≤◌, ◌<◌, ◌^◌, [], ◌∷◌, ◌++◌, All, IfSome, IfOk, OnOk};
+ghost use Rattle.std.specs.Prelude.{◌≡◌, ◌≢◌, ◌≤◌, ◌<◌, ◌+◌, ◌^◌, [], ◌∷◌, ◌++◌, All, IfSome, IfOk, OnOk};
 ghost use Rattle.byteorder.specs.Endian.{big_bytes};
 ghost use Rattle.hsm_types.specs.Handles.{handle_bytes, IsHandle};
 ghost use Rattle.hsm_types.specs.Limits.{data_bytes};
@@ -54,7 +54,7 @@ pub(crate) fn rounded_up(size: usize) -> usize
 pub(crate) fn message_bytes(message: &Message) -> usize
     requires { IsMessage message.now }
     ensures bytes { result ≡ message_bytes message.now }
-    ensures short { result ≤ 4120 }
+    ensures short { result ≤ 24 + data_bytes }
 {
     HEADER_BYTES + rounded_up(payload_size(message))
 }

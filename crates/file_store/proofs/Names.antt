@@ -1,7 +1,12 @@
 -- The names that several proofs cite, passed on from one place.
-pub use Rattle.std.proofs.Common.{◌≡◌, inl, inr, ⊎_elim, ℕ, ◌+◌, ◌*◌, ◌<◌, ◌≤◌, ◌^◌, ◌==◌, Bool, true, false, if◌then◌else◌, List, length, sym, ◌∙◌, ap, subst, arith, zero, suc, [], ◌∷◌, ◌++◌, map, get_or, take, refl, rules, ◌⊎◌, ◌-◌, ◌/◌, ◌%◌, drop, set, Option, Some, None, length-append, length-take, length-set, get_or-set_same, get_or-set_other, replicate, max, ltb, eqb, ◌&&◌, is_some, slice_index_or, cond, IsSome, option_map, unwrap_or, min, take_all, ◌||◌, All, Err, append_assoc, slice_get}
-pub use Rattle.std.proofs.lemmas.Bool.{false≢true, false_from_ne_true, cases_lt, cases_eq, cond_both, ltb-true, and_parts, and_from, lt-ltb, eqb-true, eqb-false}
-pub use Rattle.std.proofs.lemmas.List.{length-map, map-append, ext_get_or, length-replicate, get_or-take, get_or_append_left, get_or-append_right, places, same_lists, map-set, take-map, get_or-replicate, get_or_past, take_more, drop_more, drop_all, get_or_read}
+pub use Rattle.std.proofs.Common.{◌≡◌, inl, inr, ⊎_elim, ℕ, ◌+◌, ◌*◌, ◌<◌, ◌≤◌, ◌^◌, ◌==◌, Bool, true, false, if◌then◌else◌, List, length, sym, ◌∙◌, ap}
+pub use Rattle.std.proofs.Common.{subst, arith, zero, suc, [], ◌∷◌, ◌++◌, map, get_or, take, refl, rules, ◌⊎◌, ◌-◌, ◌/◌, ◌%◌, drop, set, Option, Some, None}
+pub use Rattle.std.proofs.Common.{length-append, length-take, length-set, get_or-set_same, get_or-set_other, replicate, max, ltb, eqb, ◌&&◌, is_some}
+pub use Rattle.std.proofs.Common.{slice_index_or, cond, IsSome, option_map, unwrap_or, min, take_all, ◌||◌, All, Err, append_assoc, slice_get}
+pub use Rattle.std.proofs.lemmas.Bool.{false≢true, false_from_ne_true, cases_lt, cases_eq, cond_both, ltb-true, and_parts, and_from, lt-ltb, eqb-true}
+pub use Rattle.std.proofs.lemmas.Bool.{eqb-false}
+pub use Rattle.std.proofs.lemmas.List.{length-map, map-append, ext_get_or, length-replicate, get_or-take, get_or_append_left, get_or-append_right, places}
+pub use Rattle.std.proofs.lemmas.List.{same_lists, map-set, take-map, get_or-replicate, get_or_past, take_more, drop_more, drop_all, get_or_read}
 pub use Rattle.std.proofs.lemmas.List.Elements.{All-from_recursion, recursion_from_All, All-weaker}
 pub use Rattle.std.proofs.lemmas.List.Sums.{sum-map, sum_by-cons, sum_by-set}
 pub use Rattle.std.proofs.lemmas.Option.{slice_get_within, get_or_from_slice_get}
@@ -19,10 +24,13 @@ pub use Rattle.disk_model.specs.Moments.{Keeps, MayBe, Same}
 pub use Rattle.disk_model.specs.declared.device.Disk.{Ghosts}
 pub use Rattle.file_body.proofs.Sizes.{length-written, length-resized}
 pub use Rattle.file_body.specs.HeldBodies.{HeldBody, no_body, is_away, AreZeros}
-pub use Rattle.file_store.specs.Bodies.{held_at, block_of, block_at, body_at, bytes_at, held_with, file_by, body_with, bytes_with, IsHere, IsBody, IsAlike, AreBodies}
+pub use Rattle.file_store.specs.Bodies.{held_at, block_of, block_at, body_at, bytes_at, held_with, file_by, body_with, bytes_with, IsHere, IsBody, IsAlike}
+pub use Rattle.file_store.specs.Bodies.{AreBodies}
 pub use Rattle.file_store.specs.Effects.{held_after, IsBodiless, empties}
 pub use Rattle.file_store.specs.HeldFiles.{IsHeldFiles}
-pub use Rattle.file_store.specs.Rewrites.{new_size, touched_of, grown, places_for, mappings_of, effect_of, IsRewrite, IsAllowedBy, remapped, places_under, freed_by, IsWithin, HasEntry, brings, BringsOffline, BringsAway, HasRoom, HasRange, spares, unseals, unsealing, IsHead, AreUnsealed, mappings_in, IsMapOn, IsRewriting}
+pub use Rattle.file_store.specs.Rewrites.{new_size, touched_of, grown, places_for, mappings_of, effect_of, IsRewrite, IsAllowedBy, remapped, places_under}
+pub use Rattle.file_store.specs.Rewrites.{freed_by, IsWithin, HasEntry, brings, BringsOffline, BringsAway, HasRoom, HasRange, spares, unseals, unsealing}
+pub use Rattle.file_store.specs.Rewrites.{IsHead, AreUnsealed, mappings_in, IsMapOn, IsRewriting}
 pub use Rattle.file_store.specs.Steps.{IsStaged, IsBesideBlocks, places_of, HasBlocks, OnlyReads}
 pub use Rattle.file_store.specs.Stores.{Store, IsDurable, IsEither, Proceeds, IsLive, IsSound, marks_of, told_of, told_held, Shows, IsLawful}
 pub use Rattle.file_store.specs.declared.rewrites.Rewrite.{Rewrite}
@@ -33,7 +41,8 @@ pub use Rattle.inode_table.proofs.Orders.{free-ge, free-le, free-absent, absent-
 pub use Rattle.inode_table.specs.Listing.{Within, has_inode}
 pub use Rattle.inode_table.specs.Table.{entry_of, next_key as next_listed, Table}
 pub use Rattle.meta_store.proofs.BlockUses.{uses, uses-append, distinct-uses, absent-unused, uses-distinct}
-pub use Rattle.meta_store.proofs.FileEdits.{map-find, map-put, map-drop, each-drop, total-drop, used-sum, name_of, uses_of, uses-sum, sum-put, sum-drop, sum-change, blocks-change, names_of-change, each-put, each-change, names_of-drop}
+pub use Rattle.meta_store.proofs.FileEdits.{map-find, map-put, map-drop, each-drop, total-drop, used-sum, name_of, uses_of, uses-sum, sum-put, sum-drop}
+pub use Rattle.meta_store.proofs.FileEdits.{sum-change, blocks-change, names_of-change, each-put, each-change, names_of-drop}
 pub use Rattle.meta_store.proofs.FoundFiles.{each-found, key-found}
 pub use Rattle.meta_store.proofs.KeptCatalogs.{empty_file}
 pub use Rattle.meta_store.proofs.MappedPlaces.{length-fitted, length-places_set, present-fitted, uses-fitted, uses-mapped}
@@ -43,7 +52,8 @@ pub use Rattle.hsm_types.specs.declared.stores.Limits.{Limits}
 pub use Rattle.meta_store.specs.Catalogs.{Catalog, geometry_of, blocks_of, IsCatalog, present, CatalogFile, IsCatalogFile, names_of as names_in, names_of}
 pub use Rattle.meta_store.specs.Images.{IsImage, blocks_in_image, Recovers}
 pub use Rattle.meta_store.specs.Meta.{Meta, Backs, IsMeta, StoresOrKeeps, HasStored, IsStoredNow}
-pub use Rattle.meta_store.specs.Records.{places_fitted, places_set, with_changed, kept_at, others_total, key_on, IsNewFile, file_after, inode_of, after, CanStand, mappings_from, after_all, refusal_of_all, IsMappable, CanStandAll, IsSure, IsEvent, refusal_of}
+pub use Rattle.meta_store.specs.Records.{places_fitted, places_set, with_changed, kept_at, others_total, key_on, IsNewFile, file_after, inode_of, after}
+pub use Rattle.meta_store.specs.Records.{CanStand, mappings_from, after_all, refusal_of_all, IsMappable, CanStandAll, IsSure, IsEvent, refusal_of}
 pub use Rattle.meta_store.specs.declared.records.Record.{Record}
 pub use Rattle.meta_store.specs.declared.records.Record.TheVariants.{Make, Drop, Size, Map, Stub}
 pub use Rattle.meta_store.specs.declared.snapshot.Mapping.{Mapping}
@@ -52,4 +62,5 @@ pub use Rattle.plain_model.specs.Distinct.{Distinct}
 pub use Rattle.plain_model.specs.Effects.{Effect, Makes}
 pub use Rattle.hsm_types.specs.Keyed.{find_key, change_key, put_key, drop_key}
 pub use Rattle.plain_model.specs.Plain.{written, resized, rebody, Listed, greatest, named, free_inode}
-pub use Rattle.plain_model.specs.State.{affected_held, Held, FileState, file_at as held_file, rekept, used, used_by, next_key, bytes_of, remade, next_key as next_held}
+pub use Rattle.plain_model.specs.State.{affected_held, Held, FileState, file_at as held_file, rekept, used, used_by, next_key, bytes_of, remade}
+pub use Rattle.plain_model.specs.State.{next_key as next_held}
