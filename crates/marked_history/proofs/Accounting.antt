@@ -1,12 +1,12 @@
 -- Each token that is outstanding to a daemon's session is accounted for: its event is kept, its message is still to be found again, or a line of
 -- the script took it.
 use Rattle.std.proofs.Common.{◌≡◌, ℕ, Bool, true, false, cond, not, List, [], ◌∷◌, ◌++◌, drop, map, filter, Option, None, Some, inl, inr, refl, sym}
-use Rattle.std.proofs.Common.{ap, subst, ◌∙◌, append_assoc, arith}
+use Rattle.std.proofs.Common.{ap, subst, ◌∙◌, append_assoc}
 use Rattle.std.proofs.lemmas.Bool.{false≢true, eqb-true, eqb-false, ne_eqb}
 use Rattle.std.proofs.lemmas.List.Elements.{All-nil, All-cons, All-head, All-tail, All-weaker, All-contains, Contains-append_left, Contains-append_right}
 use Rattle.std.proofs.lemmas.Map.Made.{Contains-tail}
 use Rattle.std.specs.Prelude.{◌⊎◌, ◌==◌, Contains, IsSome}
-use Rattle.std.specs.List.{All, AllByRecursion, filter_map, cons_option}
+use Rattle.std.specs.List.{All, filter_map, cons_option}
 use Rattle.std.specs.Option.{option_map}
 use Rattle.hsm_types.specs.Daemons.{kinds_of}
 use Rattle.hsm_types.specs.Messages.{IsOf, no_token, takes}
@@ -32,18 +32,10 @@ use Rattle.daemon_session.specs.Seats.{Seat, IsSeated, has_kept_token, forgot, f
 use Rattle.daemon_session.specs.Tellings.{event_on, own_event, events_in}
 use Rattle.marked_history.specs.Marks.{Mark, made}
 use Rattle.marked_history.specs.Tokens.{line_told, FindsAgain, IsTaken, Keeps}
+use Rattle.marked_history.proofs.Lists.{all_and, none_in, first_in, later_in}
 use Rattle.marked_history.proofs.Outstanding.{zip_each}
 
 -- ---- elements of lists
-
-first_in : {X : Type 0} (x : X) (l : List X) → Contains (x ∷ l) x
-first_in x l = (0, omega arith, refl)
-
-later_in : {X : Type 0} (x : X) (l : List X) (y : X) → Contains l y → Contains (x ∷ l) y
-later_in x l y is = Contains-append_right (x ∷ []) l y is
-
-pub none_in : {X : Type 0} (x : X) → Contains [] x → ⊥
-none_in x is = let lt = is.1 in omega arith
 
 pub mapped_in : {X Y : Type 0} (f : X → Y) (l : List X) → All (λ x. Contains (map f l) (f x)) l
 mapped_in f [] = All-nil (λ x. Contains (map f []) (f x))
@@ -59,10 +51,6 @@ module _ {X : Type 0} (p : X → Bool) where
   filtered_in [] = All-nil (λ x. p x ≡ true → Contains (filter p []) x)
   filtered_in (x ∷ l) = All-cons (λ y. p y ≡ true → Contains (filter p (x ∷ l)) y) x l (λ is. rw is (first_in x (filter p l)))
       (All-weaker (λ y. p y ≡ true → Contains (filter p l) y) (λ y. p y ≡ true → Contains (filter p (x ∷ l)) y) (λ y later is. more_in (p x) x (filter p l) y (later is)) l (filtered_in l))
-
-pub pushed_each : {X : Type 0} (P : X → Type 0) (l : List X) (x : X) → AllByRecursion P l → P x → AllByRecursion P (l ++ x ∷ [])
-pushed_each P [] x each is = (is, tt)
-pushed_each P (y ∷ l) x each is = (each.0, pushed_each P l x each.1 is)
 
 -- ---- events that are kept
 
@@ -152,7 +140,7 @@ taken_more d marks m t other was = record {
   rest = was.rest ++ m ∷ [];
   parted = ap (λ (l : List Mark). l ++ m ∷ []) was.parted ∙ append_assoc was.before (line_told was.sid (GetEvents was.most was.room) (Packed was.bytes was.tokens) ∷ was.rest) (m ∷ []);
   given = was.given;
-  lost = pushed_each (λ x. FindsAgain d t x → ⊥) was.rest m was.lost other;
+  lost = all_and (λ x. FindsAgain d t x → ⊥) was.rest m was.lost other;
 }
 
 -- of a line that was given the token

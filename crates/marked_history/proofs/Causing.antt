@@ -11,7 +11,6 @@ use Rattle.hsm_types.specs.declared.daemons.Daemon.TheVariants.{Recall, Migrate}
 use Rattle.hsm_types.specs.declared.dm.DmCall.{DmCall}
 use Rattle.hsm_types.specs.declared.dm.DmCall.TheVariants as call
 use Rattle.hsm_types.specs.declared.dm.DmRefusal.{DmRefusal}
-use Rattle.hsm_types.specs.declared.dm.DmRefusal.TheVariants as why
 use Rattle.hsm_types.specs.declared.dm.DmReply.{DmReply}
 use Rattle.hsm_types.specs.declared.dm.DmReply.TheVariants as reply
 use Rattle.hsm_types.specs.declared.dm.Response.TheVariants.{Media}
@@ -37,13 +36,13 @@ use Rattle.event_msgs.specs.Reading.{told}
 use Rattle.hsm_policy.specs.Settings.{Numbers}
 use Rattle.daemon_session.specs.declared.events.Event.{Event}
 use Rattle.daemon_session.specs.declared.events.Kept.{Kept}
-use Rattle.daemon_session.specs.Seats.{Seat}
-use Rattle.recall_daemon.specs.Known.{Known, Hand, nothing_known, taken, handling, asks, back_in, refused, failed, unrestored, unanswered, hears}
+use Rattle.recall_daemon.specs.Known.{Known, Hand, nothing_known, taken, handling, asks, back_in, failed, unrestored, unanswered, hears}
 use Rattle.recall_daemon.specs.Known.{away_at, away_in}
 use Rattle.recall_daemon.specs.declared.away.Away.{Away}
 use Rattle.migrate_daemon.specs.Machine.{answer_of}
 use Rattle.hsm_core.specs.Answers.{entry_of}
 use Rattle.hsm_core.specs.Packed.{HandsBy, ArePacked}
+use Rattle.recall_daemon.proofs.Outcomes.{Ends, failed_so, unrestored_so, unanswered_so}
 use Rattle.marked_history.specs.Marks.{Mark, entries_of, Exchange, exchange_by}
 use Rattle.marked_history.specs.Served.{Shown, nothing_shown, with_entry, learned, IsTold, RecallMay, IsServedBy, ServedFrom}
 use Rattle.marked_history.specs.Caused.{WasParked, IsCausedBy, ServedIsCaused}
@@ -144,20 +143,23 @@ module _ (s : Superblock) (st : State) where
     handling_by : (f : Hand → Hand) → ((hand : Hand) → IsHandOf es k.seat.sid hand → IsHandOf es k.seat.sid (f hand)) → HandOf es (handling f k)
     handling_by f keeps = handled f k.hand keeps is
 
-    refused_by : (t : Token) (w : DmRefusal) → HandOf es (refused t w k)
-    refused_by t why.NoObject = handling_by (λ hand. record hand { gone = true }) (λ hand h. record { parked = h.parked; told = h.told })
-    refused_by t why.NoToken = tt
-    refused_by t (why.NotYours owner) = tt
-    refused_by t why.NoSession = is
-    refused_by t w = tt
+    abbrev After : (Known → Known) → Type 0
+    After f = HandOf es (f k)
+
+    gone_by : HandOf es (handling (λ (hand : Hand). record hand { gone = true }) k)
+    gone_by = handling_by (λ hand. record hand { gone = true }) (λ hand h. record { parked = h.parked; told = h.told })
+
+    ends_by : (t : Token) (answer : DmReply) → Ends After t answer
+    ends_by t answer = record { stays = λ lost. is; off = tt; drops = λ gone. tt }
 
     failed_by : (t : Token) (answer : DmReply) → HandOf es (failed t answer k)
-    failed_by t (reply.Refused w) = refused_by t w
-    failed_by t answer = tt
+    failed_by t answer = failed_so After t answer gone_by (ends_by t answer)
 
     unrestored_by : (t : Token) (w : DmRefusal) → HandOf es (unrestored t w k)
-    unrestored_by t (why.NoSpace need free) = handling_by (λ hand. record hand { short = true }) (λ hand h. record { parked = h.parked; told = h.told })
-    unrestored_by t w = refused_by t w
+    unrestored_by t w = unrestored_so After t w gone_by (handling_by (λ hand. record hand { short = true }) (λ hand h. record { parked = h.parked; told = h.told })) (ends_by t (reply.Refused w))
+
+    unanswered_by : (t : Token) (w : DmRefusal) → HandOf es (unanswered t w k)
+    unanswered_by t w = unanswered_so After t w (ends_by t (reply.Refused w))
 
     back_told : (sid : Sid) (t : Token) (h : Handle) (j : ℕ) (away : Option (List Away)) → AreTold es sid t h away → AreTold es sid t h (back_in j away)
     back_told sid t h j None are = tt
@@ -168,13 +170,6 @@ module _ (s : Superblock) (st : State) where
 
     sized_by : (size : ℕ) → HandOf es (handling (λ (hand : Hand). record hand { size = Some size }) k)
     sized_by size = handling_by (λ hand. record hand { size = Some size }) (λ hand h. record { parked = h.parked; told = h.told })
-
-  -- a response leaves none in hand
-  unanswered_by : (es : List Entry) (seat : Seat) (t : Token) (w : DmRefusal) → HandOf es (unanswered t w (record { seat = seat; hand = None }))
-  unanswered_by es seat t why.NoToken = tt
-  unanswered_by es seat t (why.NotYours owner) = tt
-  unanswered_by es seat t why.NoSession = tt
-  unanswered_by es seat t w = tt
 
   -- ---- its calls
 
@@ -232,7 +227,7 @@ module _ (s : Superblock) (st : State) where
       hand_by (call.Restore t h j bytes) (reply.Refused w) may = unrestored_by (after (call.Restore t h j bytes) (reply.Refused w)) k (on (call.Restore t h j bytes) (reply.Refused w)) t w
       hand_by (call.Restore t h j bytes) answer may = tt
       hand_by (call.Respond t response) reply.Done may = tt
-      hand_by (call.Respond t response) (reply.Refused w) may = unanswered_by (after (call.Respond t response) (reply.Refused w)) k.seat t w
+      hand_by (call.Respond t response) (reply.Refused w) may = unanswered_by (after (call.Respond t response) (reply.Refused w)) (record { seat = k.seat; hand = None }) tt t w
       hand_by (call.Respond t response) answer may = tt
       hand_by c answer may = subst (λ (x : Option Sid). IfSome k.hand (IsHandOf (after c answer) x)) (sym (stays Recall k.seat c answer refl)) (on c answer)
 

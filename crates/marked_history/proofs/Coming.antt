@@ -3,9 +3,8 @@ use Rattle.std.proofs.Common.{◌≡◌, ℕ, ◌<◌, ◌≤◌, Bool, true, fa
 use Rattle.std.proofs.Common.{subst, ◌∙◌, append_assoc, arith}
 use Rattle.std.proofs.lemmas.Bool.{false≢true}
 use Rattle.std.proofs.lemmas.List.{map-append}
-use Rattle.std.proofs.lemmas.List.Elements.{All-nil, All-cons, All-contains, Contains-append_cases}
 use Rattle.std.proofs.lemmas.Slice.Eq.{bytes_eq-Decides}
-use Rattle.std.specs.Prelude.{◌⊎◌, Contains}
+use Rattle.std.specs.Prelude.{Contains}
 use Rattle.std.specs.Map.{keys_of}
 use Rattle.std.specs.Option.{option_map}
 use Rattle.std.specs.Str.{bytes_eq}
@@ -40,7 +39,7 @@ use Rattle.marked_history.specs.Tokens.{seat_of}
 use Rattle.marked_history.specs.Coming.{AsksAnew, NeverAsksAnew, IsAlone, ServedMakesAnew, IsKnownAs, ServedTakesOver}
 use Rattle.marked_history.proofs.Remembering.{leads}
 use Rattle.marked_history.proofs.Leaving.{left_given, own_reply}
-use Rattle.marked_history.proofs.Accounting.{none_in, pushed_each}
+use Rattle.marked_history.proofs.Lists.{all_and, none_in, first_or_rest}
 use Rattle.marked_history.proofs.Granting.{exact_rest}
 use Rattle.marked_history.proofs.Informing.{Stays, informed_lives, has_info, listed, lives_within, left_stays}
 use Rattle.marked_history.proofs.Ways.{Way, way_of, way_told, way_next, MayWay, may_by, at_end, served_before}
@@ -74,7 +73,7 @@ module _ (d : Daemon) where
     before = is.before;
     since = is.since ++ m ∷ [];
     parted = ap (λ (l : List Mark). l ++ m ∷ []) is.parted ∙ append_assoc is.before _ (m ∷ []);
-    last = pushed_each (λ x. AsksAnew d x → ⊥) is.since m is.last never;
+    last = all_and (λ x. AsksAnew d x → ⊥) is.since m is.last never;
   }
 
   known_last : (done : List Mark) (x target : Sid) (info : List ℕ) → x ≡ first_id → info ≡ information d → IsKnownAs d target (done ++ made d x (call.QuerySession target) (reply.Info info) ∷ [])
@@ -141,12 +140,6 @@ stays_on first now next (inl none) (inr same) = inl (same ∙ none)
 stays_on first now next (inr own) (inl gone) = inl gone
 stays_on first now next (inr own) (inr same) = inr (same ∙ own)
 
-first_or_later : (x y : Sid) (l : List Sid) → Contains (x ∷ l) y → (x ≡ y) ⊎ Contains l y
-first_or_later x y l is = elim (Contains-append_cases (x ∷ []) l y is) [
-  | inl here ↦ inl (All-contains (λ z. x ≡ z) (x ∷ []) y (All-cons (λ z. x ≡ z) x [] refl (All-nil (λ z. x ≡ z))) here)
-  | inr later ↦ inr later
-]
-
 entries_push : (marks : List Mark) (m : Mark) → entries_of (marks ++ m ∷ []) ≡ entries_of marks ++ m.entry ∷ []
 entries_push marks m = map-append (λ (x : Mark). x.entry) marks (m ∷ [])
 
@@ -203,7 +196,7 @@ module _ (s : Superblock) (st : State) where
       ids = is.ids;
       since = is.since ++ m ∷ [];
       parted = ap (λ (l : List Mark). l ++ m ∷ []) is.parted ∙ append_assoc is.before _ (m ∷ []);
-      last = pushed_each (λ x. AsksAnew d x → ⊥) is.since m is.last never;
+      last = all_and (λ x. AsksAnew d x → ⊥) is.since m is.last never;
       left = λ sid own. let still = is.left sid own in (keeps sid still.1 still.0, may_live done m sid still.1);
     }
 
@@ -270,7 +263,7 @@ module _ (s : Superblock) (st : State) where
           by (inr own) = told_as target info is ∙ ap (λ (o : Option (List ℕ)). bytes_or_none o) own
 
       passes_by : (target sid : Sid) (info : List ℕ) (rest : List Sid) → IsAnswered (call.QuerySession target) (reply.Info info) → bytes_eq info (information d) ≡ false → MayLive d sid now → Contains (target ∷ rest) sid → Contains rest sid
-      passes_by target sid info rest is other live among = elim (first_or_later target sid rest among) [
+      passes_by target sid info rest is other live among = elim (first_or_rest target rest sid among) [
         | inl same ↦ absurd (false≢true (sym other ∙ (bytes_eq-Decides info (information d)).1 (told_own target info is (subst (λ (y : Sid). MayLive d y now) (sym same) live))))
         | inr later ↦ later
       ]

@@ -12,7 +12,6 @@ use Rattle.hsm_types.specs.declared.calls.Reply.TheVariants.{Parked}
 use Rattle.hsm_types.specs.declared.dm.DmCall.{DmCall}
 use Rattle.hsm_types.specs.declared.dm.DmCall.TheVariants.{CreateSession, DestroySession, SetDisp, GetEvents, Respond, CreateUserEvent, SendMsg}
 use Rattle.hsm_types.specs.declared.dm.DmRefusal.{DmRefusal}
-use Rattle.hsm_types.specs.declared.dm.DmReply.{DmReply}
 use Rattle.hsm_types.specs.declared.keys.FileKey.{FileKey}
 use Rattle.hsm_types.specs.declared.keys.Handle.{Handle}
 use Rattle.hsm_types.specs.declared.keys.Sid.{Sid}
@@ -24,7 +23,7 @@ use Rattle.plain_model.specs.declared.entries.Action.TheVariants.{Issue, Resume,
 use Rattle.plain_model.specs.declared.entries.Actor.{Actor}
 use Rattle.plain_model.specs.declared.entries.Actor.TheVariants.{Caller, Session}
 use Rattle.plain_model.specs.declared.entries.Answer.{Answer}
-use Rattle.plain_model.specs.declared.entries.Answer.TheVariants.{Call as Replied, Dm as Told}
+use Rattle.plain_model.specs.declared.entries.Answer.TheVariants.{Call as Replied}
 use Rattle.plain_model.specs.declared.entries.Entry.{Entry}
 use Rattle.plain_model.specs.Effects.{change_of}
 use Rattle.plain_model.specs.Ledger.{Meant, Fixed, Means, next_token}
@@ -36,7 +35,6 @@ use Rattle.plain_model.specs.Faults.{is_fault}
 use Rattle.plain_model.specs.Exact.{IsOwn, IsAnswer, left_own, left_by, Exact, state_by}
 use Rattle.plain_model.proofs.Faultless.{fault_is}
 use Rattle.plain_model.proofs.Histories.{state_by-push}
-use Rattle.dm_service.specs.Handing.{HandsOut}
 use Rattle.hsm_core.specs.Answers.{entry_of}
 use Rattle.marked_history.specs.Caused.{WaitsOn, WasParked}
 use Rattle.marked_history.proofs.Carrying.{Each, each_weaker, none_each, posted_each, created_each, ended_each, disposed_each, delivered_each}
@@ -202,22 +200,3 @@ module _ (s : Superblock) (st : State) where
   each_parked es none exact before e rest is =
       let first : EachAt [] = subst (λ (t : SessionTable). Each (IsOfParked []) t) (sym none) (none_each (IsOfParked [])) in
       (each_at [] before e rest (subst (λ (l : List Entry). Exact s st l) is exact) first).0
-
--- ---- an entry more
-
-module _ {X : Type 0} where
-  pub none_before : (before rest : List X) (x : X) → [] ≡ before ++ x ∷ rest → ⊥
-  none_before [] rest x is = cc
-  none_before (b ∷ before) rest x is = cc
-
-  -- an element of a list with one more is one of the list, or the last
-  pub parted_push : (es before rest : List X) (e x : X) → es ++ e ∷ [] ≡ before ++ x ∷ rest → ((es ≡ before) × (e ≡ x)) ⊎ ((more : List X) × (es ≡ before ++ x ∷ more))
-  parted_push [] [] rest e x is = inl (refl, cc)
-  parted_push [] (b ∷ before) rest e x is = absurd (none_before before rest x cc)
-  parted_push (y ∷ es) [] rest e x is = inr (es, let same : y ≡ x = cc in ap (λ (z : X). z ∷ es) same)
-  parted_push (y ∷ es) (b ∷ before) rest e x is =
-      let same : y ≡ b = cc in
-      elim (parted_push es before rest e x cc) [
-        | inl last ↦ inl ((λ i. same i ∷ last.0 i), last.1)
-        | inr own ↦ inr (own.0, λ i. same i ∷ own.1 i)
-      ]

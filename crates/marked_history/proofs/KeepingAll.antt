@@ -2,21 +2,16 @@
 use Rattle.std.proofs.Common.{◌≡◌, ℕ, ◌+◌, ◌≤◌, Bool, true, false, List, [], ◌∷◌, ◌++◌, Option, None, Some, inl, inr, refl, sym, ap, subst, ◌∙◌, arith}
 use Rattle.std.proofs.lemmas.List.Elements.{All-weaker}
 use Rattle.std.specs.Prelude.{◌⊎◌, if◌then◌else◌, Contains}
-use Rattle.std.specs.List.{All}
 use Rattle.hsm_types.specs.Messages.{handed_out}
-use Rattle.hsm_types.specs.Sessions.{SessionTable, next_sid, outstanding_of, queue_of, tokens_of}
+use Rattle.hsm_types.specs.Sessions.{SessionTable, next_sid, queue_of, tokens_of}
 use Rattle.hsm_types.specs.declared.calls.Reply.{Reply}
 use Rattle.hsm_types.specs.declared.daemons.Daemon.{Daemon}
 use Rattle.hsm_types.specs.declared.daemons.Daemon.TheVariants.{Recall, Migrate}
 use Rattle.hsm_types.specs.declared.dm.DmCall.{DmCall}
 use Rattle.hsm_types.specs.declared.dm.DmCall.TheVariants as call
-use Rattle.hsm_types.specs.declared.dm.DmRefusal.{DmRefusal}
 use Rattle.hsm_types.specs.declared.dm.DmRefusal.TheVariants as why
 use Rattle.hsm_types.specs.declared.dm.DmReply.{DmReply}
 use Rattle.hsm_types.specs.declared.dm.DmReply.TheVariants as reply
-use Rattle.hsm_types.specs.declared.dm.Response.{Response}
-use Rattle.hsm_types.specs.declared.dm.Right.{Right}
-use Rattle.hsm_types.specs.declared.keys.Handle.{Handle}
 use Rattle.hsm_types.specs.declared.keys.Sid.{Sid}
 use Rattle.hsm_types.specs.declared.keys.Token.{Token}
 use Rattle.hsm_types.specs.declared.messages.Message.{Message}
@@ -28,7 +23,8 @@ use Rattle.plain_model.specs.declared.entries.Actor.TheVariants.{Caller, Session
 use Rattle.plain_model.specs.declared.entries.Answer.{Answer}
 use Rattle.plain_model.specs.declared.entries.Answer.TheVariants.{Dm as Told}
 use Rattle.plain_model.specs.declared.entries.Entry.{Entry}
-use Rattle.plain_model.specs.State.{Held, State, just_opened, noted}
+use Rattle.plain_model.specs.Effects.{change_of}
+use Rattle.plain_model.specs.State.{Held, State, just_opened, noted, changed}
 use Rattle.plain_model.specs.Verdict.{flags_now, objection_in, meant_in, reply_to}
 use Rattle.plain_model.specs.Services.{dm_judged}
 use Rattle.plain_model.specs.Stands.{InOrder}
@@ -36,9 +32,9 @@ use Rattle.plain_model.specs.Faults.{is_fault}
 use Rattle.plain_model.specs.Exact.{IsAnswer, left_own, left_by, state_by}
 use Rattle.dm_service.specs.Handing.{HandsOut}
 use Rattle.hsm_policy.specs.Settings.{Numbers}
-use Rattle.daemon_session.specs.declared.events.Kept.{Kept}
-use Rattle.daemon_session.specs.Seats.{Seat, has_kept_token, seat_asks, seat_hears}
+use Rattle.daemon_session.specs.Seats.{Seat, seat_asks, seat_hears}
 use Rattle.recall_daemon.specs.Known as recall
+use Rattle.recall_daemon.proofs.Outcomes.{TellsGone, AsksOn, Keeps, but_kept, seat_so}
 use Rattle.migrate_daemon.specs.Known as migrate
 use Rattle.hsm_core.specs.Answers.{entry_of}
 use Rattle.hsm_core.specs.Packed.{HandsBy}
@@ -47,10 +43,11 @@ use Rattle.marked_history.specs.Served.{Shown, nothing_shown, with_entry, shown,
 use Rattle.marked_history.specs.Tokens.{IsTaken, KeepsAll, ServedKeepsAll}
 use Rattle.marked_history.proofs.Carrying.{Each, none_each, posted_each}
 use Rattle.marked_history.proofs.Handing.{told_each, PostsParked, posts_where}
+use Rattle.marked_history.proofs.Seating.{migrate_so}
 use Rattle.marked_history.proofs.Walking.{KeptBy, kept_behind}
-use Rattle.marked_history.proofs.Remembering.{stays, same_event}
-use Rattle.marked_history.proofs.Leaving.{left_given, Hands, told_gone, own_reply, done_left}
-use Rattle.marked_history.proofs.Accounting.{mapped_in, not_by, taken_by, Accounted, AllAccounted, IsApart, none_accounted, marks_more, changed_on}
+use Rattle.marked_history.proofs.Remembering.{leads, stays}
+use Rattle.marked_history.proofs.Leaving.{left_given, Hands, told_gone, IsOn, own_reply, done_left}
+use Rattle.marked_history.proofs.Accounting.{mapped_in, not_by, taken_by, Accounted, AllAccounted, none_accounted, marks_more, changed_on}
 use Rattle.marked_history.proofs.Accounting.{forgot_on, seated_keeps}
 use Rattle.marked_history.proofs.OwnSeats.{HasToken, user_has, IsGiven, SeatMay, tables_on, gone_after, own_seat}
 
@@ -108,51 +105,6 @@ module _ (s : Superblock) (st : State) (x : Sid) where
   seat_moves d seat (call.CreateSession old info) a is = creates d seat old info a is
   seat_moves d seat c a is = inl (stays d seat c a refl)
 
--- ---- what the recall daemon makes of refusals
-
-module _ (marks : List Mark) (t : SessionTable) (x : Sid) (u : Token) (k : recall.Known) (at : k.seat.sid ≡ Some x) (is : AllAccounted Recall marks t k.seat) where
-  put_off : AllAccounted Recall marks t (recall.put_off u k).seat
-  put_off = changed_on Recall t marks k.seat is (λ (x : Kept). if has_kept_token u x then record x { marked = true } else x) (same_event u)
-
-  dropped : All (IsApart Recall u) (outstanding_of x t) → AllAccounted Recall marks t (recall.dropped u k).seat
-  dropped apart = forgot_on Recall t marks k.seat is x u at apart
-
-  refused : (w : DmRefusal) → (told_gone (reply.Refused w) ≡ true → All (IsApart Recall u) (outstanding_of x t)) → AllAccounted Recall marks t (recall.refused u w k).seat
-  refused why.NoObject apart = is
-  refused why.NoToken apart = dropped (apart refl)
-  refused (why.NotYours owner) apart = dropped (apart refl)
-  refused why.NoSession apart = is
-  refused w apart = put_off
-
-  failed : (a : DmReply) → (told_gone a ≡ true → All (IsApart Recall u) (outstanding_of x t)) → AllAccounted Recall marks t (recall.failed u a k).seat
-  failed (reply.Refused w) apart = refused w apart
-  failed a apart = put_off
-
-  unrestored : (w : DmRefusal) → (told_gone (reply.Refused w) ≡ true → All (IsApart Recall u) (outstanding_of x t)) → AllAccounted Recall marks t (recall.unrestored u w k).seat
-  unrestored (why.NoSpace need free) apart = is
-  unrestored w apart = refused w apart
-
-refused_sid : (u : Token) (w : DmRefusal) (k : recall.Known) → (recall.refused u w k).seat.sid ≡ k.seat.sid
-refused_sid u why.NoObject k = refl
-refused_sid u why.NoToken k = refl
-refused_sid u (why.NotYours owner) k = refl
-refused_sid u why.NoSession k = refl
-refused_sid u w k = refl
-
-failed_sid : (u : Token) (a : DmReply) (k : recall.Known) → (recall.failed u a k).seat.sid ≡ k.seat.sid
-failed_sid u (reply.Refused w) k = refused_sid u w k
-failed_sid u a k = refl
-
-unrestored_sid : (u : Token) (w : DmRefusal) (k : recall.Known) → (recall.unrestored u w k).seat.sid ≡ k.seat.sid
-unrestored_sid u (why.NoSpace need free) k = refl
-unrestored_sid u w k = refused_sid u w k
-
-unanswered_sid : (u : Token) (w : DmRefusal) (k : recall.Known) → (recall.unanswered u w k).seat.sid ≡ k.seat.sid
-unanswered_sid u why.NoToken k = refl
-unanswered_sid u (why.NotYours owner) k = refl
-unanswered_sid u why.NoSession k = refl
-unanswered_sid u w k = refl
-
 -- ---- a call of either daemon
 
 recall_rests : (k : recall.Known) (x : Sid) (c : DmCall) → RecallMay k x c → SeatMay k.seat x c
@@ -169,144 +121,68 @@ migrate_rests k x (call.GetEvents most room) may = may.0.session
 migrate_rests k x (call.Respond t response) may = may.0.session
 migrate_rests k x c may = tt
 
+-- a call on an event is made in its session
+recall_on : (k : recall.Known) (x : Sid) (c : DmCall) → RecallMay k x c → (u : Token) → AsksOn u c → k.seat.sid ≡ Some x
+recall_on k x (call.RequestRight t h r) may u on = may.0.session
+recall_on k x (call.GetFileAttr t h) may u on = may.0.session
+recall_on k x (call.GetAllocInfo t h) may u on = may.0.session
+recall_on k x (call.Restore t h j bytes) may u on = may.0.session
+recall_on k x c may u on = absurd on
+
+migrate_on : (k : migrate.Known) (x : Sid) (c : DmCall) → MigrateMay k x c → (u : Token) → AsksOn u c → k.seat.sid ≡ Some x
+migrate_on k x (call.RequestRight t h r) may u on = absurd may
+migrate_on k x (call.GetFileAttr t h) may u on = absurd may
+migrate_on k x (call.GetAllocInfo t h) may u on = absurd may
+migrate_on k x (call.Restore t h j bytes) may u on = absurd may
+migrate_on k x c may u on = absurd on
+
+-- it changes no session
+on_still : (st : State) (x : Sid) (c : DmCall) (u : Token) → AsksOn u c → IsOn u c × (leads c ≡ false) × ((changed (change_of x c) st).sessions ≡ st.sessions)
+on_still st x (call.RequestRight t h r) u on = (on, refl, refl)
+on_still st x (call.GetFileAttr t h) u on = (on, refl, refl)
+on_still st x (call.GetAllocInfo t h) u on = (on, refl, refl)
+on_still st x (call.Restore t h j bytes) u on = (on, refl, refl)
+on_still st x c u on = absurd on
+
+gone_told : (a : DmReply) → TellsGone a → told_gone a ≡ true
+gone_told (reply.Refused why.NoToken) gone = refl
+gone_told (reply.Refused (why.NotYours owner)) gone = refl
+gone_told a gone = absurd gone
+
 module _ (s : Superblock) (st : State) (ordered : InOrder st) (tokened : Each HasToken st.sessions) (done : List Mark) (x : Sid) where
-  module _ (k : recall.Known) (given : IsGiven st.sessions k.seat) (each : AllAccounted Recall done st.sessions k.seat) where
-    abbrev RecallNext : DmCall → DmReply → Type 0
-    RecallNext c a = AllAccounted Recall (done ++ made Recall x c a ∷ []) (after s st x c a) (recall.hears (recall.asks k c) c a).seat
+  -- what is accounted for by the seat that the answer alone leaves
+  keeps_all : (d : Daemon) (seat : Seat) → IsGiven st.sessions seat → AllAccounted d done st.sessions seat → (c : DmCall) (a : DmReply) → SeatMay seat x c → HandsOut st.sessions x c a → IsAnswer s st (Session x) (Dm c) (Told a)
+      → ((u : Token) → AsksOn u c → seat.sid ≡ Some x) → Keeps (AllAccounted d (done ++ made d x c a ∷ []) (after s st x c a)) c a (seat_hears d (seat_asks seat c) c a)
+  keeps_all d seat given each c a may hands is at =
+      let now : List Mark = done ++ made d x c a ∷ [] in
+      let next : Seat = seat_hears d (seat_asks seat c) c a in
+      let own : AllAccounted d now (after s st x c a) next = own_seat s st ordered d tokened done x seat given each c a may hands is in
+      record {
+        is = own;
+        marks = λ f same. changed_on d (after s st x c a) now next own f same;
+        drops = λ u on gone.
+            let still = on_still st x c u on in
+            forgot_on d (after s st x c a) now next own x u (stays d seat c a still.1 ∙ at u on) (gone_after s st ordered d tokened done x c a u still.0 still.2 is (gone_told a gone));
+      }
 
-    -- it leaves its seat
-    recall_still : (c : DmCall) (a : DmReply) → SeatMay k.seat x c → HandsOut st.sessions x c a → IsAnswer s st (Session x) (Dm c) (Told a)
-        → AllAccounted Recall (done ++ made Recall x c a ∷ []) (after s st x c a) (seat_hears Recall (seat_asks k.seat c) c a)
-    recall_still c a may hands is = own_seat s st ordered Recall tokened done x k.seat given each c a may hands is
+  keeps_moved : (d : Daemon) (seat : Seat) (c : DmCall) (a : DmReply) → IsAnswer s st (Session x) (Dm c) (Told a) → Keeps (Moves st.sessions (after s st x c a) seat) c a (seat_hears d (seat_asks seat c) c a)
+  keeps_moved d seat c a is = but_kept (Moves st.sessions (after s st x c a) seat) c a (seat_hears d (seat_asks seat c) c a) (λ kept. seat_moves s st x d seat c a is)
 
-    right : (u : Token) (h : Handle) (r : Right) (a : DmReply) → k.seat.sid ≡ Some x → IsAnswer s st (Session x) (Dm (call.RequestRight u h r)) (Told a) → RecallNext (call.RequestRight u h r) a
-    right u h r reply.Done at is = recall_still (call.RequestRight u h r) reply.Done tt tt is
-    right u h r a at is =
-        failed (done ++ made Recall x (call.RequestRight u h r) a ∷ []) (after s st x (call.RequestRight u h r) a) x u (recall.asks k (call.RequestRight u h r)) at (recall_still (call.RequestRight u h r) a tt tt is) a
-        (gone_after s st ordered Recall tokened done x (call.RequestRight u h r) a u refl refl is)
+  recall_call : (k : recall.Known) → IsGiven st.sessions k.seat → AllAccounted Recall done st.sessions k.seat → (c : DmCall) (a : DmReply) → RecallMay k x c → HandsOut st.sessions x c a → IsAnswer s st (Session x) (Dm c) (Told a)
+      → AllAccounted Recall (done ++ made Recall x c a ∷ []) (after s st x c a) (recall.hears (recall.asks k c) c a).seat
+  recall_call k given each c a may hands is =
+      seat_so (AllAccounted Recall (done ++ made Recall x c a ∷ []) (after s st x c a)) k c a (keeps_all Recall k.seat given each c a (recall_rests k x c may) hands is (recall_on k x c may))
 
-    sized : (u : Token) (h : Handle) (a : DmReply) → k.seat.sid ≡ Some x → IsAnswer s st (Session x) (Dm (call.GetFileAttr u h)) (Told a) → RecallNext (call.GetFileAttr u h) a
-    sized u h (reply.Attr size stamp blocks) at is = recall_still (call.GetFileAttr u h) (reply.Attr size stamp blocks) tt tt is
-    sized u h a at is =
-        failed (done ++ made Recall x (call.GetFileAttr u h) a ∷ []) (after s st x (call.GetFileAttr u h) a) x u k at (recall_still (call.GetFileAttr u h) a tt tt is) a
-        (gone_after s st ordered Recall tokened done x (call.GetFileAttr u h) a u refl refl is)
+  recall_moves : (k : recall.Known) (c : DmCall) (a : DmReply) → IsAnswer s st (Session x) (Dm c) (Told a) → Moves st.sessions (after s st x c a) k.seat (recall.hears (recall.asks k c) c a).seat
+  recall_moves k c a is = seat_so (Moves st.sessions (after s st x c a) k.seat) k c a (keeps_moved Recall k.seat c a is)
 
-    listed : (u : Token) (h : Handle) (a : DmReply) → k.seat.sid ≡ Some x → IsAnswer s st (Session x) (Dm (call.GetAllocInfo u h)) (Told a) → RecallNext (call.GetAllocInfo u h) a
-    listed u h (reply.Alloc segments) at is = recall_still (call.GetAllocInfo u h) (reply.Alloc segments) tt tt is
-    listed u h a at is =
-        failed (done ++ made Recall x (call.GetAllocInfo u h) a ∷ []) (after s st x (call.GetAllocInfo u h) a) x u k at (recall_still (call.GetAllocInfo u h) a tt tt is) a
-        (gone_after s st ordered Recall tokened done x (call.GetAllocInfo u h) a u refl refl is)
+  migrate_call : (limits : Numbers) (k : migrate.Known) → IsGiven st.sessions k.seat → AllAccounted Migrate done st.sessions k.seat → (c : DmCall) (a : DmReply) → MigrateMay k x c → HandsOut st.sessions x c a → IsAnswer s st (Session x) (Dm c) (Told a)
+      → AllAccounted Migrate (done ++ made Migrate x c a ∷ []) (after s st x c a) (migrate.hears limits (migrate.asks k c) c a).seat
+  migrate_call limits k given each c a may hands is =
+      migrate_so (AllAccounted Migrate (done ++ made Migrate x c a ∷ []) (after s st x c a)) limits k c a (keeps_all Migrate k.seat given each c a (migrate_rests k x c may) hands is (migrate_on k x c may))
 
-    restored : (u : Token) (h : Handle) (j : ℕ) (bytes : List ℕ) (a : DmReply) → k.seat.sid ≡ Some x → IsAnswer s st (Session x) (Dm (call.Restore u h j bytes)) (Told a) → RecallNext (call.Restore u h j bytes) a
-    restored u h j bytes reply.Done at is = recall_still (call.Restore u h j bytes) reply.Done tt tt is
-    restored u h j bytes (reply.Refused w) at is =
-        unrestored (done ++ made Recall x (call.Restore u h j bytes) (reply.Refused w) ∷ []) (after s st x (call.Restore u h j bytes) (reply.Refused w)) x u k at (recall_still (call.Restore u h j bytes) (reply.Refused w) tt tt is) w
-        (gone_after s st ordered Recall tokened done x (call.Restore u h j bytes) (reply.Refused w) u refl refl is)
-    restored u h j bytes a at is =
-        put_off (done ++ made Recall x (call.Restore u h j bytes) a ∷ []) (after s st x (call.Restore u h j bytes) a) x u k at (recall_still (call.Restore u h j bytes) a tt tt is)
-
-    unanswered : (u : Token) (response : Response) (w : DmRefusal) → k.seat.sid ≡ Some x → IsAnswer s st (Session x) (Dm (call.Respond u response)) (Told (reply.Refused w)) → RecallNext (call.Respond u response) (reply.Refused w)
-    unanswered u response why.NoToken at is = recall_still (call.Respond u response) (reply.Refused why.NoToken) at tt is
-    unanswered u response (why.NotYours owner) at is = recall_still (call.Respond u response) (reply.Refused (why.NotYours owner)) at tt is
-    unanswered u response why.NoSession at is = recall_still (call.Respond u response) (reply.Refused why.NoSession) at tt is
-    unanswered u response w at is =
-        put_off (done ++ made Recall x (call.Respond u response) (reply.Refused w) ∷ []) (after s st x (call.Respond u response) (reply.Refused w)) x u (recall.asks k (call.Respond u response)) at
-        (recall_still (call.Respond u response) (reply.Refused w) at tt is)
-
-    responded : (u : Token) (response : Response) (a : DmReply) → k.seat.sid ≡ Some x → IsAnswer s st (Session x) (Dm (call.Respond u response)) (Told a) → RecallNext (call.Respond u response) a
-    responded u response reply.Done at is = recall_still (call.Respond u response) reply.Done at tt is
-    responded u response (reply.Refused w) at is = unanswered u response w at is
-    responded u response a at is =
-        put_off (done ++ made Recall x (call.Respond u response) a ∷ []) (after s st x (call.Respond u response) a) x u (recall.asks k (call.Respond u response)) at (recall_still (call.Respond u response) a at tt is)
-
-    recall_call : (c : DmCall) (a : DmReply) → RecallMay k x c → HandsOut st.sessions x c a → IsAnswer s st (Session x) (Dm c) (Told a) → RecallNext c a
-    recall_call (call.RequestRight u h r) a may hands is = right u h r a may.0.session is
-    recall_call (call.GetFileAttr u h) a may hands is = sized u h a may.0.session is
-    recall_call (call.GetAllocInfo u h) a may hands is = listed u h a may.0.session is
-    recall_call (call.Restore u h j bytes) a may hands is = restored u h j bytes a may.0.session is
-    recall_call (call.Respond u response) a may hands is = responded u response a may.0.session is
-    recall_call c a may hands is = recall_still c a (recall_rests k x c may) hands is
-
-    right_moves : (u : Token) (h : Handle) (r : Right) (a : DmReply) → (recall.hears (recall.asks k (call.RequestRight u h r)) (call.RequestRight u h r) a).seat.sid ≡ k.seat.sid
-    right_moves u h r reply.Done = refl
-    right_moves u h r a = failed_sid u a (recall.asks k (call.RequestRight u h r))
-
-    sized_moves : (u : Token) (h : Handle) (a : DmReply) → (recall.hears k (call.GetFileAttr u h) a).seat.sid ≡ k.seat.sid
-    sized_moves u h (reply.Attr size stamp blocks) = refl
-    sized_moves u h a = failed_sid u a k
-
-    listed_moves : (u : Token) (h : Handle) (a : DmReply) → (recall.hears k (call.GetAllocInfo u h) a).seat.sid ≡ k.seat.sid
-    listed_moves u h (reply.Alloc segments) = refl
-    listed_moves u h a = failed_sid u a k
-
-    restored_moves : (u : Token) (h : Handle) (j : ℕ) (bytes : List ℕ) (a : DmReply) → (recall.hears k (call.Restore u h j bytes) a).seat.sid ≡ k.seat.sid
-    restored_moves u h j bytes reply.Done = refl
-    restored_moves u h j bytes (reply.Refused w) = unrestored_sid u w k
-    restored_moves u h j bytes a = refl
-
-    responded_moves : (u : Token) (response : Response) (a : DmReply) → (recall.hears (recall.asks k (call.Respond u response)) (call.Respond u response) a).seat.sid ≡ k.seat.sid
-    responded_moves u response reply.Done = refl
-    responded_moves u response (reply.Refused w) = unanswered_sid u w (recall.asks k (call.Respond u response))
-    responded_moves u response a = refl
-
-    recall_moves : (c : DmCall) (a : DmReply) → IsAnswer s st (Session x) (Dm c) (Told a) → Moves st.sessions (after s st x c a) k.seat (recall.hears (recall.asks k c) c a).seat
-    recall_moves (call.RequestRight u h r) a is = inl (right_moves u h r a)
-    recall_moves (call.GetFileAttr u h) a is = inl (sized_moves u h a)
-    recall_moves (call.GetAllocInfo u h) a is = inl (listed_moves u h a)
-    recall_moves (call.Restore u h j bytes) a is = inl (restored_moves u h j bytes a)
-    recall_moves (call.Respond u response) a is = inl (responded_moves u response a)
-    recall_moves call.GetAllSessions a is = seat_moves s st x Recall k.seat call.GetAllSessions a is
-    recall_moves (call.CreateSession old info) a is = seat_moves s st x Recall k.seat (call.CreateSession old info) a is
-    recall_moves c a is = seat_moves s st x Recall k.seat c a is
-
-  module _ (limits : Numbers) (k : migrate.Known) (given : IsGiven st.sessions k.seat) (each : AllAccounted Migrate done st.sessions k.seat) where
-    abbrev MigrateNext : DmCall → DmReply → Type 0
-    MigrateNext c a = AllAccounted Migrate (done ++ made Migrate x c a ∷ []) (after s st x c a) (migrate.hears limits (migrate.asks k c) c a).seat
-
-    migrate_still : (c : DmCall) (a : DmReply) → SeatMay k.seat x c → HandsOut st.sessions x c a → IsAnswer s st (Session x) (Dm c) (Told a)
-        → AllAccounted Migrate (done ++ made Migrate x c a ∷ []) (after s st x c a) (seat_hears Migrate (seat_asks k.seat c) c a)
-    migrate_still c a may hands is = own_seat s st ordered Migrate tokened done x k.seat given each c a may hands is
-
-    spaces : (a : DmReply) → IsAnswer s st (Session x) (Dm call.GetSpace) (Told a) → MigrateNext call.GetSpace a
-    spaces (reply.Space used total) is = migrate_still call.GetSpace (reply.Space used total) tt tt is
-    spaces a is = migrate_still call.GetSpace a tt tt is
-
-    tables : (a : DmReply) → IsAnswer s st (Session x) (Dm call.GetTable) (Told a) → MigrateNext call.GetTable a
-    tables (reply.Table table) is =
-        changed_on Migrate (after s st x call.GetTable (reply.Table table)) (done ++ made Migrate x call.GetTable (reply.Table table) ∷ []) k.seat (migrate_still call.GetTable (reply.Table table) tt tt is) (λ (x : Kept). record x { marked = true }) (λ x. refl)
-    tables a is = migrate_still call.GetTable a tt tt is
-
-    punches : (t : Token) (h : Handle) (offset len : ℕ) (a : DmReply) → IsAnswer s st (Session x) (Dm (call.PunchHole t h offset len)) (Told a) → MigrateNext (call.PunchHole t h offset len) a
-    punches t h offset len reply.Done is = migrate_still (call.PunchHole t h offset len) reply.Done tt tt is
-    punches t h offset len a is = migrate_still (call.PunchHole t h offset len) a tt tt is
-
-    migrate_call : (c : DmCall) (a : DmReply) → MigrateMay k x c → HandsOut st.sessions x c a → IsAnswer s st (Session x) (Dm c) (Told a) → MigrateNext c a
-    migrate_call call.GetSpace a may hands is = spaces a is
-    migrate_call call.GetTable a may hands is = tables a is
-    migrate_call (call.PunchHole t h offset len) a may hands is = punches t h offset len a is
-    migrate_call call.GetAllSessions a may hands is = migrate_still call.GetAllSessions a tt hands is
-    migrate_call (call.CreateSession old info) a may hands is = migrate_still (call.CreateSession old info) a tt hands is
-    migrate_call c a may hands is = migrate_still c a (migrate_rests k x c may) hands is
-
-    space_moves : (a : DmReply) → (migrate.hears limits (migrate.asks k call.GetSpace) call.GetSpace a).seat.sid ≡ k.seat.sid
-    space_moves (reply.Space used total) = refl
-    space_moves a = refl
-
-    table_moves : (a : DmReply) → (migrate.hears limits (migrate.asks k call.GetTable) call.GetTable a).seat.sid ≡ k.seat.sid
-    table_moves (reply.Table table) = refl
-    table_moves a = refl
-
-    punch_moves : (t : Token) (h : Handle) (offset len : ℕ) (a : DmReply) → (migrate.hears limits (migrate.asks k (call.PunchHole t h offset len)) (call.PunchHole t h offset len) a).seat.sid ≡ k.seat.sid
-    punch_moves t h offset len reply.Done = refl
-    punch_moves t h offset len a = refl
-
-    migrate_moves : (c : DmCall) (a : DmReply) → IsAnswer s st (Session x) (Dm c) (Told a) → Moves st.sessions (after s st x c a) k.seat (migrate.hears limits (migrate.asks k c) c a).seat
-    migrate_moves call.GetSpace a is = inl (space_moves a)
-    migrate_moves call.GetTable a is = inl (table_moves a)
-    migrate_moves (call.PunchHole t h offset len) a is = inl (punch_moves t h offset len a)
-    migrate_moves call.GetAllSessions a is = seat_moves s st x Migrate k.seat call.GetAllSessions a is
-    migrate_moves (call.CreateSession old info) a is = seat_moves s st x Migrate k.seat (call.CreateSession old info) a is
-    migrate_moves c a is = seat_moves s st x Migrate k.seat c a is
+  migrate_moves : (limits : Numbers) (k : migrate.Known) (c : DmCall) (a : DmReply) → IsAnswer s st (Session x) (Dm c) (Told a) → Moves st.sessions (after s st x c a) k.seat (migrate.hears limits (migrate.asks k c) c a).seat
+  migrate_moves limits k c a is = migrate_so (Moves st.sessions (after s st x c a) k.seat) limits k c a (keeps_moved Migrate k.seat c a is)
 
 -- ---- any entry
 
@@ -361,7 +237,7 @@ module _ (s : Superblock) (st : State) (ordered : InOrder st) (done : List Mark)
       apart = f.apart;
     }
     step (Some Recall) (Session x) (Dm c) (Told a) is hands served =
-        let moves = recall_moves s st ordered tokened done x k.recall f.recall_given f.recall c a is in
+        let moves = recall_moves s st ordered tokened done x k.recall c a is in
         record {
           recall = recall_call s st ordered tokened done x k.recall f.recall_given f.recall c a served hands is;
           migrate = other_on Migrate Recall k.migrate.seat k.recall.seat x c a (λ same. cc) (other_way k.recall.seat k.migrate.seat f.apart) (recall_rests k.recall x c served) is f.migrate_given f.migrate;
@@ -370,7 +246,7 @@ module _ (s : Superblock) (st : State) (ordered : InOrder st) (done : List Mark)
           apart = moves_apart st.sessions (after s st x c a) k.recall.seat (recall.hears (recall.asks k.recall c) c a).seat k.migrate.seat moves f.migrate_given f.apart;
         }
     step (Some Migrate) (Session x) (Dm c) (Told a) is hands served =
-        let moves = migrate_moves s st ordered tokened done x limits k.migrate f.migrate_given f.migrate c a is in
+        let moves = migrate_moves s st ordered tokened done x limits k.migrate c a is in
         record {
           recall = other_on Recall Migrate k.recall.seat k.migrate.seat x c a (λ same. cc) f.apart (migrate_rests k.migrate x c served) is f.recall_given f.recall;
           migrate = migrate_call s st ordered tokened done x limits k.migrate f.migrate_given f.migrate c a served hands is;

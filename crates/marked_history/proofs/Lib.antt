@@ -1,6 +1,8 @@
 pub mod QuietEvents
+pub mod Lists
 mod Carrying
 pub mod Handing
+pub mod Seating
 mod Remembering
 mod Walking
 mod Causing

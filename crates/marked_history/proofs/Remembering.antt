@@ -13,7 +13,6 @@ use Rattle.hsm_types.specs.declared.daemons.Daemon.{Daemon}
 use Rattle.hsm_types.specs.declared.daemons.Daemon.TheVariants.{Recall, Migrate}
 use Rattle.hsm_types.specs.declared.dm.DmCall.{DmCall}
 use Rattle.hsm_types.specs.declared.dm.DmCall.TheVariants as call
-use Rattle.hsm_types.specs.declared.dm.DmRefusal.{DmRefusal}
 use Rattle.hsm_types.specs.declared.dm.DmRefusal.TheVariants as why
 use Rattle.hsm_types.specs.declared.dm.DmReply.{DmReply}
 use Rattle.hsm_types.specs.declared.dm.DmReply.TheVariants as reply
@@ -27,10 +26,12 @@ use Rattle.dm_service.specs.Handing.{HandsOut}
 use Rattle.hsm_policy.specs.Settings.{Numbers}
 use Rattle.daemon_session.specs.declared.events.Event.{Event}
 use Rattle.daemon_session.specs.declared.events.Kept.{Kept}
-use Rattle.daemon_session.specs.Seats.{Seat, no_seat, has_kept_token, forgot, told_info, seat_asks, seat_hears}
+use Rattle.daemon_session.specs.Seats.{Seat, has_kept_token, forgot, told_info, seat_asks, seat_hears}
 use Rattle.daemon_session.specs.Tellings.{event_on, own_event, events_in}
 use Rattle.recall_daemon.specs.Known as recall
+use Rattle.recall_daemon.proofs.Outcomes.{Keeps, seat_so}
 use Rattle.migrate_daemon.specs.Known as migrate
+use Rattle.marked_history.proofs.Seating.{migrate_so}
 use Rattle.marked_history.proofs.Carrying.{Each, handed_each, one_each, queue_of_each, outstanding_message_each}
 
 -- ---- its session
@@ -60,9 +61,6 @@ stays d seat (call.Respond t response) (reply.Refused (why.NotYours owner)) othe
 stays d seat c a other = refl
 
 -- ---- its events
-
-pub same_event : (u : Token) (k : Kept) → (if has_kept_token u k then record k { marked = true } else k).event ≡ k.event
-same_event u k = elim (has_kept_token u k) as (λ (b : Bool). (if b then record k { marked = true } else k).event ≡ k.event) [ true ↦ refl | false ↦ refl ]
 
 pub cons_each : {X : Type 0} (P : X → Type 0) (first : Option X) (rest : List X) → IfSome first P → All P rest → All P (cons_option first rest)
 cons_each P None rest is each = each
@@ -105,55 +103,22 @@ module _ (E : Event → Type 0) where
   seat_kept d seat (call.Respond t response) (reply.Refused (why.NotYours owner)) each tells = forgot_kept t seat.kept each
   seat_kept d seat c a each tells = each
 
-  module _ (u : Token) (k : recall.Known) (each : AllKept k.seat.kept) where
-    put_off_kept : AllKept (recall.put_off u k).seat.kept
-    put_off_kept = changed_kept (λ (x : Kept). if has_kept_token u x then record x { marked = true } else x) (same_event u) k.seat.kept each
+  asks_kept : (seat : Seat) (c : DmCall) → AllKept seat.kept → AllKept (seat_asks seat c).kept
+  asks_kept seat call.GetAllSessions each = All-nil IsKeptSo
+  asks_kept seat (call.CreateSession old info) each = All-nil IsKeptSo
+  asks_kept seat c each = each
 
-    refused_kept : (w : DmRefusal) → AllKept (recall.refused u w k).seat.kept
-    refused_kept why.NoObject = each
-    refused_kept why.NoToken = forgot_kept u k.seat.kept each
-    refused_kept (why.NotYours owner) = forgot_kept u k.seat.kept each
-    refused_kept why.NoSession = each
-    refused_kept w = put_off_kept
-
-    failed_kept : (a : DmReply) → AllKept (recall.failed u a k).seat.kept
-    failed_kept (reply.Refused w) = refused_kept w
-    failed_kept a = put_off_kept
-
-    unrestored_kept : (w : DmRefusal) → AllKept (recall.unrestored u w k).seat.kept
-    unrestored_kept (why.NoSpace need free) = each
-    unrestored_kept w = refused_kept w
-
-    unanswered_kept : (w : DmRefusal) → AllKept (recall.unanswered u w k).seat.kept
-    unanswered_kept why.NoToken = forgot_kept u k.seat.kept each
-    unanswered_kept (why.NotYours owner) = forgot_kept u k.seat.kept each
-    unanswered_kept why.NoSession = each
-    unanswered_kept w = put_off_kept
+  keeps_kept : (d : Daemon) (seat : Seat) (c : DmCall) (a : DmReply) → AllKept seat.kept → TellsOnly d c a → Keeps (λ s. AllKept s.kept) c a (seat_hears d (seat_asks seat c) c a)
+  keeps_kept d seat c a each tells =
+      let next : Seat = seat_hears d (seat_asks seat c) c a in
+      let is : AllKept next.kept = seat_kept d (seat_asks seat c) c a (asks_kept seat c each) tells in
+      record { is = is; marks = λ f same. changed_kept f same next.kept is; drops = λ u on gone. forgot_kept u next.kept is }
 
   pub recall_kept : (k : recall.Known) (c : DmCall) (a : DmReply) → AllKept k.seat.kept → TellsOnly Recall c a → AllKept (recall.hears (recall.asks k c) c a).seat.kept
-  recall_kept k call.GetAllSessions a each tells = seat_kept Recall no_seat call.GetAllSessions a (All-nil IsKeptSo) tells
-  recall_kept k (call.CreateSession old info) a each tells = seat_kept Recall no_seat (call.CreateSession old info) a (All-nil IsKeptSo) tells
-  recall_kept k (call.RequestRight u h right) reply.Done each tells = each
-  recall_kept k (call.RequestRight u h right) a each tells = failed_kept u (recall.asks k (call.RequestRight u h right)) each a
-  recall_kept k (call.GetFileAttr u h) (reply.Attr size stamp blocks) each tells = each
-  recall_kept k (call.GetFileAttr u h) a each tells = failed_kept u k each a
-  recall_kept k (call.GetAllocInfo u h) (reply.Alloc segments) each tells = each
-  recall_kept k (call.GetAllocInfo u h) a each tells = failed_kept u k each a
-  recall_kept k (call.Restore u h j bytes) reply.Done each tells = each
-  recall_kept k (call.Restore u h j bytes) (reply.Refused w) each tells = unrestored_kept u k each w
-  recall_kept k (call.Restore u h j bytes) a each tells = put_off_kept u k each
-  recall_kept k (call.Respond u response) reply.Done each tells = forgot_kept u k.seat.kept each
-  recall_kept k (call.Respond u response) (reply.Refused w) each tells = unanswered_kept u (recall.asks k (call.Respond u response)) each w
-  recall_kept k (call.Respond u response) a each tells = put_off_kept u (recall.asks k (call.Respond u response)) each
-  recall_kept k c a each tells = seat_kept Recall k.seat c a each tells
+  recall_kept k c a each tells = seat_so (λ s. AllKept s.kept) k c a (keeps_kept Recall k.seat c a each tells)
 
   pub migrate_kept : (limits : Numbers) (k : migrate.Known) (c : DmCall) (a : DmReply) → AllKept k.seat.kept → TellsOnly Migrate c a → AllKept (migrate.hears limits (migrate.asks k c) c a).seat.kept
-  migrate_kept limits k call.GetAllSessions a each tells = seat_kept Migrate no_seat call.GetAllSessions a (All-nil IsKeptSo) tells
-  migrate_kept limits k (call.CreateSession old info) a each tells = seat_kept Migrate no_seat (call.CreateSession old info) a (All-nil IsKeptSo) tells
-  migrate_kept limits k call.GetSpace (reply.Space used total) each tells = each
-  migrate_kept limits k call.GetTable (reply.Table table) each tells = changed_kept (λ (x : Kept). record x { marked = true }) (λ x. refl) k.seat.kept each
-  migrate_kept limits k (call.PunchHole t h offset len) reply.Done each tells = each
-  migrate_kept limits k c a each tells = seat_kept Migrate k.seat c a each tells
+  migrate_kept limits k c a each tells = migrate_so (λ s. AllKept s.kept) limits k c a (keeps_kept Migrate k.seat c a each tells)
 
   -- where it is true of the event of each message of the sessions, it is true of what is handed out
   module _ (d : Daemon) (P : Message → Type 0) (told_one : (m : Message) (h : Handle) → P m → takes (kinds_of d) m.kind ≡ true → m.handle ≡ Some h → E (event_on m h)) where

@@ -28,7 +28,8 @@ use Rattle.marked_history.specs.Quiet.{is_quiet}
 use Rattle.marked_history.specs.Settling.{IsCrowded}
 use Rattle.marked_history.specs.Waiting.{no_more}
 use Rattle.marked_history.proofs.Granting.{refused_so}
-use Rattle.marked_history.proofs.Waiting.{quiet_at, parts}
+use Rattle.marked_history.proofs.Lists.{parts}
+use Rattle.marked_history.proofs.Waiting.{quiet_at}
 
 -- ---- what an answer tells of the state before it
 

@@ -51,7 +51,8 @@ use Rattle.marked_history.specs.Marks.{Mark, entries_of, exchange_by, made}
 use Rattle.marked_history.specs.Served.{Shown, nothing_shown, with_entry, learned, shown, IsTold, IsServedBy}
 use Rattle.marked_history.specs.Tokens.{seat_of, IsGranted, IsPresent, Tells, TellsOn, ServedTellsOne}
 use Rattle.marked_history.proofs.Carrying.{Each, each_weaker, none_each, queue_of_each, outstanding_of_each, posted_each}
-use Rattle.marked_history.proofs.Handing.{Makes, made_told, PostsParked, posts_where, none_before, parted_push}
+use Rattle.marked_history.proofs.Handing.{Makes, made_told, PostsParked, posts_where}
+use Rattle.marked_history.proofs.Lists.{none_there, place}
 use Rattle.marked_history.proofs.Walking.{KeptBy, kept_behind}
 use Rattle.marked_history.proofs.Remembering.{TellsOnly, recall_kept, migrate_kept, tells_each}
 
@@ -240,9 +241,9 @@ module _ (limits : Numbers) (st : State) (done : List Mark) (f : Register) (is :
   granted_last m served sid t h same = let may = subst (λ (x : Mark). IsServedBy x.by k x) same served in asked_file t h may.2
 
   granted_more : (m : Mark) → IsServedBy m.by k m → (t : Token) (key : FileKey) → IsGranted (done ++ m ∷ []) t key → IsFileOf f st.ledger.top t key
-  granted_more m served t key given = elim (parted_push done given.before given.rest m (made Recall given.sid (call.RequestRight t given.handle Excl) reply.Done) given.parted) [
-    | inl last ↦ subst (IsFileOf f st.ledger.top t) given.file (granted_last m served given.sid t given.handle last.1)
-    | inr own ↦ follows.granted t key (record { before = given.before; sid = given.sid; handle = given.handle; rest = own.0; parted = own.1; file = given.file })
+  granted_more m served t key given = elim (place done m given.before (made Recall given.sid (call.RequestRight t given.handle Excl) reply.Done) given.rest given.parted) [
+    | inl last ↦ subst (IsFileOf f st.ledger.top t) given.file (granted_last m served given.sid t given.handle (sym last.1))
+    | inr own ↦ follows.granted t key (record { before = given.before; sid = given.sid; handle = given.handle; rest = own.0; parted = own.2; file = given.file })
   ]
 
   others_entry : (by : Option Daemon) → with_entry limits by None k ≡ k
@@ -290,7 +291,7 @@ first_registered base h = record {
   follows = record {
     recall = All-nil (IsKeptOf Recall (λ n. unknown) 0);
     migrate = All-nil (IsKeptOf Migrate (λ n. unknown) 0);
-    granted = λ t key given. absurd (none_before given.before given.rest _ given.parted);
+    granted = λ t key given. absurd (none_there given.before _ given.rest given.parted);
   };
 }
 

@@ -1,6 +1,6 @@
 -- Which accesses may still wait where a store is at rest.
-use Rattle.std.proofs.Common.{◌≡◌, ◌≢◌, ℕ, zero, suc, Bool, true, false, ◌&&◌, List, [], ◌∷◌, ◌++◌, Option, None, Some, inl, inr, refl, sym, ap}
-use Rattle.std.proofs.Common.{subst, ◌∙◌, append_assoc, arith}
+use Rattle.std.proofs.Common.{◌≡◌, ◌≢◌, ℕ, Bool, true, false, ◌&&◌, List, [], ◌∷◌, ◌++◌, Option, None, Some, inl, inr, refl, sym, ap}
+use Rattle.std.proofs.Common.{subst, ◌∙◌, append_assoc}
 use Rattle.std.proofs.lemmas.Bool.{false≢true}
 use Rattle.std.proofs.lemmas.List.Elements.{Contains-append_left, Contains-append_right, Contains-append_cases, Contains-push, Contains-push_cases}
 use Rattle.std.specs.Prelude.{◌⊎◌, if◌then◌else◌, nat_le, Contains}
@@ -71,9 +71,8 @@ use Rattle.marked_history.specs.Served.{Shown, nothing_shown, shown, IsTold, Ser
 use Rattle.marked_history.specs.Tokens.{Keeps, IsGranted, IsHindered, IsPresent, TellsOne}
 use Rattle.marked_history.specs.Waiting.{Running, IsServable, IsForeign, IsHeldUp, MayWait, no_more, unserved, PutsOff, RecallRests, MigrateRests}
 use Rattle.marked_history.specs.Waiting.{IsAtRest, SettledWaits}
-use Rattle.marked_history.proofs.Accounting.{none_in}
+use Rattle.marked_history.proofs.Lists.{none_in, none_there, parts}
 use Rattle.marked_history.proofs.Granting.{refused_so, judged_busy, hindered_by, exact_rest, served_holds_granted}
-use Rattle.marked_history.proofs.Handing.{none_before}
 use Rattle.marked_history.proofs.KeepingAll.{served_keeps_all}
 use Rattle.marked_history.proofs.QuietEvents.{all_quiet_append, quiet_noted, ready_seen, ready_in, ready_by_state}
 use Rattle.marked_history.proofs.TellingOne.{served_tells_one}
@@ -229,12 +228,6 @@ module _ (s : Superblock) where
         same = subst (Same now) (sym ends) (quiet_same now (e ∷ rest) own (all_quiet_append a (e ∷ rest) (subst (λ (l : List Entry). list_all is_quiet l ≡ true) is quiet)).1);
       }
 
--- where an element stands
-pub parts : {X : Type 0} (l : List X) (x : X) → Contains l x → (a : List X) × (b : List X) × (l ≡ a ++ x ∷ b)
-parts [] x there = absurd (none_in x there)
-parts (y ∷ l) x (zero, lt, same) = ([], l, ap (λ (z : _). z ∷ l) same)
-parts (y ∷ l) x (suc n, lt, same) = let later = parts l x (n, omega arith, same) in (y ∷ later.0, later.1, ap (λ (z : _). y ∷ z) later.2)
-
 -- ---- what refusals tell
 
 module _ (s : Superblock) (st : State) (sid : Sid) where
@@ -315,7 +308,7 @@ module _ (r : Running) (limits : Numbers) (s : Superblock) (base : ℕ) (h : Hel
       asked = unserved rests.sid t handle cause
 
       never_last : (l : List Entry) → (l ++ no_more rests.sid ∷ []) ++ rest.migrate_turn ≡ [] → ⊥
-      never_last l is = none_before l rest.migrate_turn (no_more rests.sid) (sym is ∙ append_assoc l (no_more rests.sid ∷ []) rest.migrate_turn)
+      never_last l is = none_there l (no_more rests.sid) rest.migrate_turn (sym is ∙ append_assoc l (no_more rests.sid ∷ []) rest.migrate_turn)
 
       busy_at : (more : List Entry) → (more ≡ [] → ⊥) → IsAt s first es asked more → (other : Token) × IsHindered st.rights t handle.key Excl other
       busy_at more some here = by here.answer

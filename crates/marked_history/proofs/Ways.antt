@@ -8,12 +8,10 @@ use Rattle.hsm_types.specs.declared.daemons.Daemon.{Daemon}
 use Rattle.hsm_types.specs.declared.daemons.Daemon.TheVariants.{Recall, Migrate}
 use Rattle.hsm_types.specs.declared.dm.DmCall.{DmCall}
 use Rattle.hsm_types.specs.declared.dm.DmCall.TheVariants as call
-use Rattle.hsm_types.specs.declared.dm.DmRefusal.{DmRefusal}
 use Rattle.hsm_types.specs.declared.dm.DmRefusal.TheVariants as why
 use Rattle.hsm_types.specs.declared.dm.DmReply.{DmReply}
 use Rattle.hsm_types.specs.declared.dm.DmReply.TheVariants as reply
 use Rattle.hsm_types.specs.declared.keys.Sid.{Sid}
-use Rattle.hsm_types.specs.declared.keys.Token.{Token}
 use Rattle.plain_model.specs.declared.entries.Action.{Action}
 use Rattle.plain_model.specs.declared.entries.Action.TheVariants.{Dm}
 use Rattle.plain_model.specs.declared.entries.Actor.{Actor}
@@ -23,11 +21,13 @@ use Rattle.plain_model.specs.declared.entries.Answer.TheVariants.{Dm as Told}
 use Rattle.hsm_policy.specs.Settings.{Numbers}
 use Rattle.daemon_session.specs.Seats.{Seat, first_id, seat_asks, seat_hears, told_info}
 use Rattle.recall_daemon.specs.Known as recall
+use Rattle.recall_daemon.proofs.Outcomes.{but_kept}
 use Rattle.migrate_daemon.specs.Known as migrate
 use Rattle.hsm_core.specs.Answers.{entry_of}
 use Rattle.marked_history.specs.Marks.{Mark, Exchange, exchange_by, made}
 use Rattle.marked_history.specs.Served.{Shown, with_exchange, with_entry, learned, shown, RecallMay, MigrateMay, MayCall, IsServedBy, ServedFrom}
 use Rattle.marked_history.specs.Tokens.{seat_of}
+use Rattle.marked_history.proofs.Seating.{seat_by}
 
 -- ---- what a daemon knows of the sessions of others
 
@@ -85,56 +85,10 @@ module _ (d : Daemon) (seat : Seat) where
   seat_next (call.Respond t response) (reply.Refused (why.NotYours owner)) = refl
   seat_next c a = refl
 
-module _ (u : Token) (k : recall.Known) where
-  refused_way : (w : DmRefusal) → way_of (recall.refused u w k).seat ≡ way_of k.seat
-  refused_way why.NoObject = refl
-  refused_way why.NoToken = refl
-  refused_way (why.NotYours owner) = refl
-  refused_way why.NoSession = refl
-  refused_way w = refl
-
-  failed_way : (a : DmReply) → way_of (recall.failed u a k).seat ≡ way_of k.seat
-  failed_way (reply.Refused w) = refused_way w
-  failed_way a = refl
-
-  unrestored_way : (w : DmRefusal) → way_of (recall.unrestored u w k).seat ≡ way_of k.seat
-  unrestored_way (why.NoSpace need free) = refl
-  unrestored_way w = refused_way w
-
-  unanswered_way : (w : DmRefusal) → way_of (recall.unanswered u w k).seat ≡ way_of k.seat
-  unanswered_way why.NoToken = refl
-  unanswered_way (why.NotYours owner) = refl
-  unanswered_way why.NoSession = refl
-  unanswered_way w = refl
-
-recall_next : (k : recall.Known) (c : DmCall) (a : DmReply) → way_of (recall.hears (recall.asks k c) c a).seat ≡ way_next Recall (way_of k.seat) c a
-recall_next k (call.RequestRight u h right) reply.Done = refl
-recall_next k (call.RequestRight u h right) a = failed_way u (recall.asks k (call.RequestRight u h right)) a
-recall_next k (call.GetFileAttr u h) (reply.Attr size stamp blocks) = refl
-recall_next k (call.GetFileAttr u h) a = failed_way u k a
-recall_next k (call.GetAllocInfo u h) (reply.Alloc segments) = refl
-recall_next k (call.GetAllocInfo u h) a = failed_way u k a
-recall_next k (call.Restore u h j bytes) reply.Done = refl
-recall_next k (call.Restore u h j bytes) (reply.Refused w) = unrestored_way u k w
-recall_next k (call.Restore u h j bytes) a = refl
-recall_next k (call.Respond u response) reply.Done = refl
-recall_next k (call.Respond u response) (reply.Refused w) = unanswered_way u (recall.asks k (call.Respond u response)) w
-recall_next k (call.Respond u response) a = refl
-recall_next k call.GetAllSessions a = seat_next Recall k.seat call.GetAllSessions a
-recall_next k (call.CreateSession old info) a = seat_next Recall k.seat (call.CreateSession old info) a
-recall_next k c a = seat_next Recall k.seat c a
-
-migrate_next : (limits : Numbers) (k : migrate.Known) (c : DmCall) (a : DmReply) → way_of (migrate.hears limits (migrate.asks k c) c a).seat ≡ way_next Migrate (way_of k.seat) c a
-migrate_next limits k call.GetSpace (reply.Space used total) = refl
-migrate_next limits k call.GetTable (reply.Table table) = refl
-migrate_next limits k (call.PunchHole t h offset len) reply.Done = refl
-migrate_next limits k call.GetAllSessions a = seat_next Migrate k.seat call.GetAllSessions a
-migrate_next limits k (call.CreateSession old info) a = seat_next Migrate k.seat (call.CreateSession old info) a
-migrate_next limits k c a = seat_next Migrate k.seat c a
-
 way_by : (limits : Numbers) (d : Daemon) (k : Shown) (x : Exchange) → way_of (seat_of d (with_exchange limits d x k)) ≡ way_next d (way_of (seat_of d k)) x.call x.reply
-way_by limits Recall k x = recall_next k.recall x.call x.reply
-way_by limits Migrate k x = migrate_next limits k.migrate x.call x.reply
+way_by limits d k x =
+    seat_by (λ seat. way_of seat ≡ way_next d (way_of (seat_of d k)) x.call x.reply) limits d k x
+    (but_kept (λ seat. way_of seat ≡ way_next d (way_of (seat_of d k)) x.call x.reply) x.call x.reply (seat_hears d (seat_asks (seat_of d k) x.call) x.call x.reply) (λ kept. seat_next d (seat_of d k) x.call x.reply))
 
 -- ---- which calls it makes by that
 

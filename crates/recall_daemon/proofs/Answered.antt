@@ -20,9 +20,10 @@ use Rattle.hsm_types.specs.declared.stubs.StubEntry.{StubEntry}
 use Rattle.daemon_session.specs.declared.events.Kept.{Kept}
 use Rattle.daemon_session.specs.Seats.{Seat, Refuses}
 use Rattle.recall_daemon.specs.declared.away.Away.{Away}
-use Rattle.recall_daemon.specs.Known.{Known, Hand, handling, put_off, dropped, refused, failed, unrestored, unanswered, knows_by, away_in, back_in, IsCalm}
+use Rattle.recall_daemon.specs.Known.{Known, Hand, handling, put_off, dropped, failed, unrestored, knows_by, away_in, back_in, IsCalm}
 use Rattle.recall_daemon.specs.Bounds.{waiting, acts_of_one, acts_made, still_away, IsWaiting, IsBegun, IsBringing, IsOnEvent, IsSettled, TellsOfFew}
 use Rattle.recall_daemon.specs.Bounds.{MovesOn, IsLast}
+use Rattle.recall_daemon.proofs.Outcomes.{Ends, failed_so, unrestored_so, unanswered_so}
 use Rattle.recall_daemon.proofs.Waiting.{put_off_waits_less, forgot_waits_less, back_less, not_of}
 
 -- ---- numbers
@@ -112,32 +113,32 @@ held most old asked told t f served token away fetches = inr (record {
   fetched = λ entry is. absurd (served.other entry is);
 })
 
-refused_leaves : (most : ℕ) (old : Known) (asked : Act) (told : Heard) (t : Token) (w : DmRefusal) → IsServed most old asked t → (w ≡ why.NoSession → ⊥) → Leaves most old asked told (refused t w old)
-refused_leaves most old asked told t why.NoObject served lives = held most old asked told t (λ (h : Hand). record h { gone = true }) served refl (λ early. refl) (λ gone short away a is has. absurd (true≢false gone))
-refused_leaves most old asked told t why.NoToken served lives = dropped_leaves most old asked told t served.settled served.waits (omega (arith, served.few))
-refused_leaves most old asked told t (why.NotYours owner) served lives = dropped_leaves most old asked told t served.settled served.waits (omega (arith, served.few))
-refused_leaves most old asked told t why.NoSession served lives = absurd (lives refl)
-refused_leaves most old asked told t other served lives = put_off_leaves most old asked told t served.settled served.waits (omega (arith, served.few))
-
 abbrev Lives : Act → Heard → Type 0
 Lives asked told = Refuses asked told → ⊥
 
 abbrev Answers : DmReply → Type 0
 Answers answer = heard.Dm answer ≡ heard.Dm (reply.Refused why.NoSession) → ⊥
 
+-- what becomes of it where the call isn't done, as its session lives
+ends_leave : (most : ℕ) (old : Known) (asked : Act) (told : Heard) (t : Token) (answer : DmReply) → IsSettled old.seat → IsWaiting t old.seat.kept → acts_made most old.hand asked ≤ acts_of_one most → Answers answer → Ends (λ f. Leaves most old asked told (f old)) t answer
+ends_leave most old asked told t answer settled waits few lives = record {
+  stays = λ is. absurd (lives (ap (λ (a : DmReply). heard.Dm a) is));
+  off = put_off_leaves most old asked told t settled waits few;
+  drops = λ gone. dropped_leaves most old asked told t settled waits few;
+}
+
+gone_leaves : (most : ℕ) (old : Known) (asked : Act) (told : Heard) (t : Token) → IsServed most old asked t → Leaves most old asked told (handling (λ (h : Hand). record h { gone = true }) old)
+gone_leaves most old asked told t served = held most old asked told t (λ (h : Hand). record h { gone = true }) served refl (λ early. refl) (λ gone short away a is has. absurd (true≢false gone))
+
 failed_leaves : (most : ℕ) (old : Known) (asked : Act) (told : Heard) (t : Token) (answer : DmReply) → IsServed most old asked t → Answers answer → Leaves most old asked told (failed t answer old)
-failed_leaves most old asked told t (reply.Refused w) served lives = refused_leaves most old asked told t w served (λ is. lives (rw is refl))
-failed_leaves most old asked told t answer served lives = put_off_leaves most old asked told t served.settled served.waits (omega (arith, served.few))
+failed_leaves most old asked told t answer served lives =
+    failed_so (λ f. Leaves most old asked told (f old)) t answer (gone_leaves most old asked told t served) (ends_leave most old asked told t answer served.settled served.waits (omega (arith, served.few)) lives)
 
-unrestored_leaves : (most : ℕ) (old : Known) (asked : Act) (told : Heard) (t : Token) (w : DmRefusal) → IsServed most old asked t → (w ≡ why.NoSession → ⊥) → Leaves most old asked told (unrestored t w old)
-unrestored_leaves most old asked told t (why.NoSpace need free) served lives = held most old asked told t (λ (h : Hand). record h { short = true }) served refl (λ early. refl) (λ gone short away a is has. absurd (true≢false short))
-unrestored_leaves most old asked told t w served lives = refused_leaves most old asked told t w served lives
-
-unanswered_leaves : (most : ℕ) (old : Known) (asked : Act) (told : Heard) (t : Token) (w : DmRefusal) → IsSettled old.seat → IsWaiting t old.seat.kept → acts_made most old.hand asked ≤ acts_of_one most → (w ≡ why.NoSession → ⊥) → Leaves most old asked told (unanswered t w old)
-unanswered_leaves most old asked told t why.NoToken settled waits few lives = dropped_leaves most old asked told t settled waits few
-unanswered_leaves most old asked told t (why.NotYours owner) settled waits few lives = dropped_leaves most old asked told t settled waits few
-unanswered_leaves most old asked told t why.NoSession settled waits few lives = absurd (lives refl)
-unanswered_leaves most old asked told t other settled waits few lives = put_off_leaves most old asked told t settled waits few
+unrestored_leaves : (most : ℕ) (old : Known) (asked : Act) (told : Heard) (t : Token) (w : DmRefusal) → IsServed most old asked t → Answers (reply.Refused w) → Leaves most old asked told (unrestored t w old)
+unrestored_leaves most old asked told t w served lives =
+    unrestored_so (λ f. Leaves most old asked told (f old)) t w (gone_leaves most old asked told t served)
+    (held most old asked told t (λ (h : Hand). record h { short = true }) served refl (λ early. refl) (λ gone short away a is has. absurd (true≢false short)))
+    (ends_leave most old asked told t (reply.Refused w) served.settled served.waits (omega (arith, served.few)) lives)
 
 -- ---- each call
 
@@ -235,7 +236,7 @@ restored most old sid t h j bytes (heard.Dm reply.Done) settled on few lives =
     let bringing = on.3 in
     held most old _ _ t (λ (hand : Hand). record hand { away = back_in j hand.away }) (served_bringing most old sid t h j bytes on.0 settled on.2 on.3) refl (λ early. absurd (omega (arith, early)))
     (back_so most _ j bringing.hand bringing.away bringing.told bringing.few (back_less j bringing.away on.0 bringing.one on.1) (ap (λ n. 5 + 2 * (most - n)) (still old bringing.hand bringing.away bringing.is bringing.told)))
-restored most old sid t h j bytes (heard.Dm (reply.Refused w)) settled on few lives = unrestored_leaves most old _ _ t w (served_bringing most old sid t h j bytes on.0 settled on.2 on.3) (λ is. lives (rw is refl))
+restored most old sid t h j bytes (heard.Dm (reply.Refused w)) settled on few lives = unrestored_leaves most old _ _ t w (served_bringing most old sid t h j bytes on.0 settled on.2 on.3) lives
 restored most old sid t h j bytes (heard.Dm answer) settled on few lives = let served = served_bringing most old sid t h j bytes on.0 settled on.2 on.3 in put_off_leaves most old _ _ t settled on.2 (let few = served.few in omega (arith, few))
 restored most old sid t h j bytes told settled on few lives = let served = served_bringing most old sid t h j bytes on.0 settled on.2 on.3 in put_off_leaves most old _ _ t settled on.2 (let few = served.few in omega (arith, few))
 
@@ -266,7 +267,8 @@ fetched most old entry told settled on =
 responded : (most : ℕ) (old : Known) (sid : Sid) (t : Token) (response : Response) (told : Heard) → IsSettled old.seat → IsOnEvent most old (Dm sid (Respond t response)) → TellsOfFew most told → Lives (Dm sid (Respond t response)) told
     → Leaves most old (Dm sid (Respond t response)) told (knows_by old (Dm sid (Respond t response)) told)
 responded most old sid t response (heard.Dm reply.Done) settled on few lives = dropped_leaves most old _ _ t settled on.0 (omega arith)
-responded most old sid t response (heard.Dm (reply.Refused w)) settled on few lives = unanswered_leaves most old _ _ t w settled on.0 (omega arith) (λ is. lives (rw is refl))
+responded most old sid t response (heard.Dm (reply.Refused w)) settled on few lives =
+    unanswered_so (λ f. Leaves most old (Dm sid (Respond t response)) (heard.Dm (reply.Refused w)) (f old)) t w (ends_leave most old _ _ t (reply.Refused w) settled on.0 (omega arith) lives)
 responded most old sid t response (heard.Dm answer) settled on few lives = put_off_leaves most old _ _ t settled on.0 (omega arith)
 responded most old sid t response told settled on few lives = put_off_leaves most old _ _ t settled on.0 (omega arith)
 

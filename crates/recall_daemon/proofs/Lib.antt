@@ -2,6 +2,7 @@ pub mod Meeting
 pub mod Chosen
 pub mod Ready
 pub mod Folds
+pub mod Outcomes
 pub mod Steps
 pub mod Waiting
 pub mod Answered
