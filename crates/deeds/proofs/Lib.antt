@@ -5,7 +5,5 @@ pub mod Finding
 pub mod Answering
 pub mod Leading
 pub mod Giving
-pub mod Following
-pub mod Running
 pub mod Faulting
 mod Examples

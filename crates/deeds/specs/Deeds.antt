@@ -1,6 +1,7 @@
 -- All that was done with a store and its daemons, in order. The history of entries is a part of it.
-use Rattle.std.specs.Prelude.{◌≡◌, ◌≢◌, List, Option, None, Some, Ok, Err}
+use Rattle.std.specs.Prelude.{◌≡◌, ◌≢◌, ◌+◌, ◌<◌, List, Option, None, Some, Ok, Err}
 use Rattle.std.specs.List.{filter_map}
+use Rattle.disk_model.specs.Calls.{Rose}
 use Rattle.hsm_types.specs.Stubs.{print_of, entry_place, entry_print}
 use Rattle.hsm_types.specs.declared.calls.CallRefusal.TheVariants as refused
 use Rattle.hsm_types.specs.declared.calls.Reply.TheVariants as replied
@@ -68,18 +69,20 @@ entries_of deeds = filter_map entry_in deeds
 
 -- ---- what may be heard
 
--- the fault is one of the object that the entry names
+-- the fault is one of the object that the entry names, and is one: a count that rose, or a fingerprint that is another one than is wanted
 abbrev pub IsOf : StubEntry → Fault → Type 0
-IsOf entry (Failed volume object before after) = (volume ≡ (entry_place entry).volume) × (object ≡ (entry_place entry).object)
-IsOf entry (Damaged volume object want got) = (volume ≡ (entry_place entry).volume) × (object ≡ (entry_place entry).object) × (want ≡ entry_print entry)
+IsOf entry (Failed volume object before after) = (volume ≡ (entry_place entry).volume) × (object ≡ (entry_place entry).object) × Rose before after
+IsOf entry (Damaged volume object want got) = (volume ≡ (entry_place entry).volume) × (object ≡ (entry_place entry).object) × (want ≡ entry_print entry) × (want ≢ got)
 
 -- What may be heard of an act, whatever stores and drives hold. Of a call it is an answer with which the run goes on; of a copy an entry of the bytes on
--- that volume, or a refusal; of a fetch bytes with the entry's fingerprint, or a refusal that speaks of its object; of a rest it is nothing. Want of memory
--- is never heard.
+-- that volume, or a refusal with its cause; of a fetch bytes with the entry's fingerprint, or a refusal that speaks of its object; of a rest it is nothing. Want
+-- of memory is never heard.
 abbrev pub Fits : Act → Heard → Type 0
 Fits (act.Dm sid call) (heard.Dm reply) = (reply ≢ Refused why.Disk) × (reply ≢ Refused why.Memory)
 Fits (act.Copy volume handle segment bytes) (heard.Copied (Ok entry)) = ((entry_place entry).volume ≡ volume) × (entry_print entry ≡ print_of bytes)
-Fits (act.Copy volume handle segment bytes) (heard.Copied (Err (copying.Damaged want got))) = want ≡ print_of bytes
+Fits (act.Copy volume handle segment bytes) (heard.Copied (Err (copying.Failed before after))) = Rose before after
+Fits (act.Copy volume handle segment bytes) (heard.Copied (Err (copying.Full used len capacity))) = capacity < used + len
+Fits (act.Copy volume handle segment bytes) (heard.Copied (Err (copying.Damaged want got))) = (want ≡ print_of bytes) × (want ≢ got)
 Fits (act.Copy volume handle segment bytes) (heard.Copied (Err copying.Memory)) = ⊥
 Fits (act.Copy volume handle segment bytes) (heard.Copied (Err refusal)) = Unit {0}
 Fits (act.Fetch entry) (heard.Fetched (Ok bytes)) = print_of bytes ≡ entry_print entry

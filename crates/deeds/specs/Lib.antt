@@ -4,6 +4,4 @@ pub mod Standing
 pub mod Answers
 pub mod Leads
 pub mod Given
-pub mod Parts
-pub mod History
 pub mod Faults

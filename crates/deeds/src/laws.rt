@@ -1,18 +1,14 @@
 //! Laws over all deeds, each the contract of a function that does nothing. A caller gets the law by a call.
-ghost use Rattle.std.specs.Prelude.{ℕ, List, Bool};
+ghost use Rattle.std.specs.Prelude.{ℕ, List};
 ghost use Rattle.hsm_types.specs.declared.daemons.Act.{Act};
 ghost use Rattle.hsm_types.specs.declared.daemons.Daemon.{Daemon};
 ghost use Rattle.hsm_types.specs.declared.daemons.Heard.{Heard};
-ghost use Rattle.plain_model.specs.declared.entries.Entry.{Entry};
-ghost use Rattle.script_text.specs.declared.lines.Line.{Line};
 ghost use Rattle.deeds.specs.Answers.{OnceAnswered, HearsLast};
 ghost use Rattle.deeds.specs.Deeds.{Deed};
 ghost use Rattle.deeds.specs.Faults.{HeardApart, AddsHeard, AddsNone, AddsBoth};
-ghost use Rattle.deeds.specs.Given.{Given, GivenExactly};
-ghost use Rattle.deeds.specs.History.{FollowsSo, FollowsWhole};
+ghost use Rattle.deeds.specs.Given.{GivenExactly};
 ghost use Rattle.deeds.specs.Leads.{LeadsOn, LeadsThrough, ServedOnce};
 ghost use Rattle.deeds.specs.Lives.{Move, MovesAreDeeds};
-ghost use Rattle.deeds.specs.Parts.{FollowsOn, RunsByLines};
 ghost use Rattle.deeds.specs.Standing.{Knowing, StandsExactly};
 
 use crate::machines::Machine;
@@ -52,26 +48,6 @@ pub fn leads_on<R: Machine, M: Machine>()
 /// Deeds lead through what is behind the first of them.
 pub fn leads_through<R: Machine, M: Machine>()
     ensures { (first rest : List Deed) → LeadsThrough R.workings M.workings first rest }
-{}
-
-/// Deeds that follow lines, and behind them deeds that follow more, follow all of these.
-pub fn follows_on()
-    ensures { (quiet : Entry → Bool) (given : Given) (lines more : List Line) → FollowsOn quiet given lines more }
-{}
-
-/// Where deeds follow the lines the history does.
-pub fn follows_so()
-    ensures { (quiet : Entry → Bool) (lines : List Line) (deeds : List Deed) → FollowsSo quiet lines deeds }
-{}
-
-/// In deeds that follow lines each entry is one behind which a run goes on, no call is broken, and nothing is lost.
-pub fn follows_whole()
-    ensures { (quiet : Entry → Bool) (lines : List Line) (deeds : List Deed) → FollowsWhole quiet lines deeds }
-{}
-
-/// Which daemons run behind deeds that follow lines is told by the lines alone.
-pub fn runs_by_lines()
-    ensures { (quiet : Entry → Bool) (daemon : Daemon) (lines : List Line) → RunsByLines quiet daemon lines }
 {}
 
 /// Where deeds add their faults so, from the first on, those that were heard are apart.

@@ -9,8 +9,7 @@ use Rattle.plain_model.specs.declared.entries.Entry.{Entry}
 use Rattle.plain_model.specs.State.{State, just_opened}
 use Rattle.hsm_policy.specs.Settings.{Numbers}
 use Rattle.file_store.specs.Stores.{Store as FileStore, superblock_of}
-use Rattle.hsm_system.specs.declared.daemons.Recalling.{Recalling}
-use Rattle.hsm_system.specs.declared.daemons.Migrating.{Migrating}
+use Rattle.hsm_system.specs.Running.{Recalling, Migrating}
 use Rattle.hsm_system.specs.declared.stops.Stop.{Stop}
 use Rattle.hsm_replay.specs.Faults.{faults_in, AreTrue}
 use Rattle.marked_history.specs.Follows.{IsPartOf, Follows}

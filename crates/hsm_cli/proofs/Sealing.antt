@@ -23,12 +23,9 @@ use Rattle.hsm_cli.specs.Clauses.{HasRun}
 use Rattle.hsm_cli.specs.Endings.{IsBeforeReading}
 use Rattle.hsm_cli.specs.Sealing.{IsUnknown, NeedsUnknown, LosesNothing, TellsOf, IsRightInMemory, IsRightInFolder, TalliesSince}
 use Rattle.hsm_cli.specs.Told.{SourceTold}
+use Rattle.marked_history.proofs.Lists.{all_first}
 use Rattle.hsm_replay.proofs.PassMarks.{all_passed_as}
 use Rattle.hsm_cli.proofs.Scripted.{ran_with}
-
-all_first : {A : Type 0} (P : A → Type 0) (xs ys : List A) → AllByRecursion P (xs ++ ys) → AllByRecursion P xs
-all_first P [] ys each = tt
-all_first P (x ∷ xs) ys each = (each.0, all_first P xs ys each.1)
 
 -- of the entries that are sealed, those of a beginning
 sealed_first : (P : StubEntry → Type 0) (marks first rest : List Mark) → marks ≡ first ++ rest → AllByRecursion P (sealed_in marks) → AllByRecursion P (sealed_in first)

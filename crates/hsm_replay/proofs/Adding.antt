@@ -8,7 +8,7 @@ use Rattle.marked_history.specs.Settling.{IsByRunning}
 use Rattle.hsm_replay.specs.Keeping.{Adds, AddsFirst}
 use Rattle.hsm_replay.specs.Systems.{Run, running}
 use Rattle.hsm_replay.proofs.ByRunning.{by_running_then}
-use Rattle.hsm_replay.proofs.Kept.{all_then}
+use Rattle.marked_history.proofs.Lists.{all_then}
 
 -- ---- some marks or none
 

@@ -20,8 +20,7 @@ use Rattle.recall_daemon.specs.Known as recall
 use Rattle.recall_daemon.specs.Machine as recaller
 use Rattle.migrate_daemon.specs.Known as migrate
 use Rattle.migrate_daemon.specs.Machine as migrator
-use Rattle.hsm_system.specs.declared.daemons.Migrating.{Migrating}
-use Rattle.hsm_system.specs.declared.daemons.Recalling.{Recalling}
+use Rattle.hsm_system.specs.Running.{Recalling, Migrating}
 use Rattle.hsm_replay.specs.Faults.{faults_in}
 use Rattle.hsm_replay.specs.Keeping.{IsAtStart, IsShownAs, RecallKnows, MigrateKnows, MigrateLives, LivesIf, LiveOn, Shows, Moves}
 use Rattle.marked_history.specs.Marks.{Mark}

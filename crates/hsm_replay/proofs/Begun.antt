@@ -1,7 +1,6 @@
 -- Passes that began in a settle.
-use Rattle.std.proofs.Common.{◌≡◌, ◌∙◌, ◌++◌, ◌∷◌, [], List, inl, inr, refl, sym, ap, ap₂, subst, append_assoc, arith, Contains}
+use Rattle.std.proofs.Common.{◌≡◌, ◌∙◌, ◌++◌, ◌∷◌, [], List, inl, inr, refl, sym, ap, ap₂, subst, append_assoc, Contains}
 use Rattle.std.specs.List.{AllByRecursion}
-use Rattle.std.proofs.lemmas.List.Elements.{Contains-append_right}
 use Rattle.hsm_types.specs.declared.daemons.Daemon.{Daemon}
 use Rattle.hsm_types.specs.declared.daemons.Daemon.TheVariants.{Recall, Migrate}
 use Rattle.hsm_types.specs.declared.dm.DmCall.{DmCall}
@@ -21,7 +20,7 @@ use Rattle.marked_history.specs.Marks.{Mark, entries_of, made}
 use Rattle.marked_history.specs.Served.{Shown, nothing_shown, shown, MayCall, IsServedBy, ServedFrom, Served}
 use Rattle.marked_history.specs.Settling.{BeginsPass}
 use Rattle.hsm_replay.specs.Freshness.{IsToldTable}
-use Rattle.hsm_replay.proofs.Kept.{here, first_or_rest}
+use Rattle.marked_history.proofs.Lists.{all_at, none_in, first_or_rest, stands_in}
 use Rattle.hsm_replay.proofs.TurnedAway.{served_at}
 
 -- where an entry is marked
@@ -29,15 +28,11 @@ abbrev IsMarkedIn : List Mark → Entry → Type 0
 IsMarkedIn marks e = (first : List Mark) × (m : Mark) × (rest : List Mark) × (marks ≡ first ++ m ∷ rest) × (m.entry ≡ e)
 
 marked_in : (marks : List Mark) (e : Entry) → Contains (entries_of marks) e → IsMarkedIn marks e
-marked_in [] e there = let within = there.1 in absurd (omega (arith, within))
-marked_in (m ∷ marks) e there = elim (first_or_rest m.entry (entries_of marks) e there.0 there.1 there.2) [
+marked_in [] e there = absurd (none_in e there)
+marked_in (m ∷ marks) e there = elim (first_or_rest m.entry (entries_of marks) e there) [
   | inl same ↦ ([], m, marks, refl, same)
   | inr behind ↦ let later = marked_in marks e behind in (m ∷ later.0, later.1, later.2, ap (λ (ms : List Mark). m ∷ ms) later.3, later.4)
 ]
-
-settles_at : (first : List Mark) (m : Mark) (rest : List Mark) → AllByRecursion IsOfSettling (first ++ m ∷ rest) → IsOfSettling m
-settles_at [] m rest all = all.0
-settles_at (x ∷ first) m rest all = settles_at first m rest all.1
 
 abbrev told_table : Sid → Table → Entry
 told_table sid table = entry_of (Session sid) (Dm GetTable) (Told (TheTable table))
@@ -76,6 +71,6 @@ begins_pass limits before part served settles told =
     let at : IsMarkedIn part (told_table sid table) = marked_in part (told_table sid table) told.2 in
     let all : before ++ part ≡ (before ++ at.0) ++ at.1 ∷ at.2 = ap (λ (ms : List Mark). before ++ ms) at.3 ∙ sym (append_assoc before at.0 (at.1 ∷ at.2)) in
     let by : IsServedBy at.1.by (shown limits nothing_shown (before ++ at.0)) at.1 = served_at limits nothing_shown (before ++ at.0) at.1 at.2 (subst (λ (ms : List Mark). ServedFrom limits nothing_shown ms) all served) in
-    let own = made_by_migration (shown limits nothing_shown (before ++ at.0)) at.1 sid table at.4 by (settles_at at.0 at.1 at.2 (subst (λ (ms : List Mark). AllByRecursion IsOfSettling ms) at.3 settles)) in
-    let within : Contains (at.0 ++ at.1 ∷ at.2) (made Migrate sid GetTable (TheTable table)) = subst (λ (x : Mark). Contains (at.0 ++ at.1 ∷ at.2) x) own (Contains-append_right at.0 (at.1 ∷ at.2) at.1 (here at.1 at.2)) in
+    let own = made_by_migration (shown limits nothing_shown (before ++ at.0)) at.1 sid table at.4 by (all_at IsOfSettling at.0 at.1 at.2 (subst (λ (ms : List Mark). AllByRecursion IsOfSettling ms) at.3 settles)) in
+    let within : Contains (at.0 ++ at.1 ∷ at.2) (made Migrate sid GetTable (TheTable table)) = subst (λ (x : Mark). Contains (at.0 ++ at.1 ∷ at.2) x) own (stands_in at.0 at.1 at.2) in
     (sid, table, subst (λ (ms : List Mark). Contains ms (made Migrate sid GetTable (TheTable table))) (sym at.3) within)

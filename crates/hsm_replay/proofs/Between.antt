@@ -16,12 +16,10 @@ use Rattle.hsm_core.specs.Store.{Store}
 use Rattle.hsm_system.specs.Acts.{MovesOn}
 use Rattle.hsm_system.specs.Awaiting.{heard_next, IsWaiting}
 use Rattle.deeds.specs.Lives.{untold}
-use Rattle.hsm_system.specs.Machines.{untold_next}
-use Rattle.hsm_system.specs.Systems.{System, Waits, hearing, recall_hears, migrate_hears, recall_first, migrate_first, migrate_again}
-use Rattle.hsm_system.specs.declared.daemons.Migrating.{Migrating}
+use Rattle.hsm_system.specs.Running.{Recalling, Migrating, hears_next, untold_next}
+use Rattle.hsm_system.specs.Systems.{System, Waits, hearing, recall_first, migrate_first, migrate_again}
 use Rattle.hsm_system.specs.declared.daemons.Next.{Next}
 use Rattle.hsm_system.specs.declared.daemons.Next.TheVariants as next
-use Rattle.hsm_system.specs.declared.daemons.Recalling.{Recalling}
 use Rattle.hsm_system.specs.declared.stops.Stop.{Stop}
 use Rattle.hsm_replay.specs.Acts.{Performs, Stops}
 use Rattle.hsm_replay.specs.Systems.{Run, IsRun, drive_of, started, killed, refreshed}
@@ -123,8 +121,8 @@ module _ {D : Type 0} where
 module _ {D M : Type 0} where
   -- that daemon has heard something
   hears_is_run : (daemon : Daemon) (told : Heard) (s : System D) (drives : List M) → length drives ≡ s.limits.drives → OtherHears daemon s → IsRun (record { system = hearing daemon told s; drives = drives })
-  hears_is_run Recall told s drives count other = record { drives = count; recall = mapped_waits next_of_recall (recall_hears told) told (λ x. refl) s.recall; migrate = other }
-  hears_is_run Migrate told s drives count other = record { drives = count; recall = other; migrate = mapped_waits next_of_migrate (migrate_hears told) told (λ x. refl) s.migrate }
+  hears_is_run Recall told s drives count other = record { drives = count; recall = mapped_waits next_of_recall (hears_next told) told (λ x. refl) s.recall; migrate = other }
+  hears_is_run Migrate told s drives count other = record { drives = count; recall = other; migrate = mapped_waits next_of_migrate (hears_next told) told (λ x. refl) s.migrate }
 
   others_hear : (daemon : Daemon) (s : Run D M) → IsRun s → OtherHears daemon s.system
   others_hear Recall s is = is.migrate

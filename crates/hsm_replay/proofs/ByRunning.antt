@@ -6,7 +6,7 @@ use Rattle.marked_history.specs.Follows.{IsPartOf}
 use Rattle.marked_history.specs.Marks.{Mark}
 use Rattle.marked_history.specs.Settling.{IsByRunning, AreByRunning, running_by}
 use Rattle.marked_history.specs.Waiting.{Running}
-use Rattle.hsm_replay.proofs.Kept.{all_then}
+use Rattle.marked_history.proofs.Lists.{all_then}
 
 -- and more behind them, where the same daemons run on
 pub by_running_then : (first then : Running) (marks more : List Mark) → then ≡ first → AreByRunning first marks → AreByRunning then more → AreByRunning first (marks ++ more)

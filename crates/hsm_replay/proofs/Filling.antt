@@ -27,7 +27,7 @@ use Rattle.volume_shelf.specs.Shelf.{CopyRefused}
 use Rattle.migrate_daemon.specs.Known.{Known, knows_by}
 use Rattle.migrate_daemon.specs.Machine.{Machine, started, GoesOn, MayGive, VolumeStays, ComesTo}
 use Rattle.migrate_daemon.specs.Passes.{Pass, begun_pass, IsCopy, IsEnd, IsFull, EndsAt, copies}
-use Rattle.hsm_system.specs.declared.daemons.Migrating.{Migrating}
+use Rattle.hsm_system.specs.Running.{Migrating}
 use Rattle.hsm_system.specs.declared.daemons.Next.TheVariants.{Hears}
 use Rattle.deeds.specs.Lives.{untold}
 use Rattle.hsm_system.specs.Systems.{migrate_again}
@@ -90,7 +90,7 @@ module _ {M : Type 0} (g : drive.Ghosts M) where
   pub all_full_grows : (limits : Numbers) (ds es : List M) → HaveGrown g ds es → AllFull g ds limits → AllFull g es limits
   all_full_grows limits ds es grown all = full_below_grows limits.volumes ds es grown all
 
-  hears_grows : (ds es : List M) (asked : Act) (told : Heard) → HaveGrown g ds es → HearsFull g ds asked told → HearsFull g es asked told
+  pub hears_grows : (ds es : List M) (asked : Act) (told : Heard) → HaveGrown g ds es → HearsFull g ds asked told → HearsFull g es asked told
   hears_grows ds es (Copy volume h segment bytes) (heard.Copied (Err (copying.Failed before after))) grown hears = hears
   hears_grows ds es (Copy volume h segment bytes) (heard.Copied (Err (copying.Damaged want got))) grown hears = hears
   hears_grows ds es (Copy volume h segment bytes) (heard.Copied (Err (copying.Full used len capacity))) grown hears = full_volume_grows volume ds es grown hears

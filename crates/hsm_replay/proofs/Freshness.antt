@@ -19,9 +19,8 @@ use Rattle.hsm_core.specs.Answers.{entry_of}
 use Rattle.hsm_policy.specs.Settings.{Numbers}
 use Rattle.migrate_daemon.specs.Known.{Known, hears, asks, knows_by, asks_by}
 use Rattle.migrate_daemon.specs.Machine.{Machine, GoesOn}
-use Rattle.hsm_system.specs.declared.daemons.Migrating.{Migrating}
+use Rattle.hsm_system.specs.Running.{Migrating, untold_next}
 use Rattle.hsm_replay.specs.Freshness.{IsFresh, IsToldTable, StaysFresh}
-use Rattle.hsm_system.specs.Machines.{untold_next}
 use Rattle.hsm_system.specs.Systems.{migrate_again}
 use Rattle.hsm_replay.specs.Systems.{Run, refreshed, told_next}
 use Rattle.hsm_replay.proofs.Coming.{IsNoCall}

@@ -13,11 +13,8 @@ use Rattle.hsm_types.specs.declared.media.Fault.TheVariants.{Failed, Damaged}
 use Rattle.hsm_types.specs.declared.stubs.Fingerprint.{Fingerprint}
 use Rattle.volume_shelf.specs.Shelf.{Reads, Grows, MayGrow, HasPrint}
 use Rattle.hsm_replay.specs.Drives.{Extends, HasGrown, HaveGrown}
+use Rattle.marked_history.proofs.Lists.{all_and}
 use Rattle.hsm_replay.specs.Faults.{IsApart, AreApart, TellsFault, IsTrue, AreTrue, volume_of}
-
-pub all_and : {A : Type 0} (P : A → Type 0) (xs : List A) (x : A) → AllByRecursion P xs → P x → AllByRecursion P (xs ++ x ∷ [])
-all_and P [] x each is = (is, tt)
-all_and P (y ∷ xs) x each is = (each.0, all_and P xs x each.1 is)
 
 -- ---- objects
 

@@ -50,7 +50,8 @@ use Rattle.marked_history.specs.Served.{IsTold}
 use Rattle.hsm_replay.specs.Settled.{IsHeldUp, AreHeldUp}
 use Rattle.hsm_replay.specs.Turns.{Stands, IsEarly, IsKeptBack}
 use Rattle.hsm_system.proofs.Asked.{none_put_off}
-use Rattle.hsm_replay.proofs.Kept.{all_weaker, all_then, all_forgot, told_forgot, told_marked, all_marked_at, has_token, told_unmarked, told_more}
+use Rattle.marked_history.proofs.Lists.{all_weaker, all_then}
+use Rattle.hsm_replay.proofs.Kept.{all_forgot, told_forgot, told_marked, all_marked_at, has_token, told_unmarked, told_more}
 use Rattle.marked_history.proofs.QuietEvents.{all_quiet_append}
 use Rattle.hsm_replay.proofs.Refusals.{RefusesRight, RefusesResponse, right_refused, response_refused}
 

@@ -19,7 +19,7 @@ use Rattle.hsm_replay.proofs.ByRunning.{by_running_then}
 use Rattle.hsm_replay.proofs.Events.{IsEventOf}
 use Rattle.hsm_system.proofs.Going.{goes_itself, goes_then, stopped_then}
 use Rattle.hsm_replay.proofs.Growing.{have_grown_itself, have_grown_on}
-use Rattle.hsm_replay.proofs.Kept.{all_weaker, all_then}
+use Rattle.marked_history.proofs.Lists.{all_weaker, all_then}
 use Rattle.hsm_replay.proofs.Living.{live_itself, live_then, live_until}
 
 module _ {D M : Type 0} (g : disk.Ghosts D) (h : drive.Ghosts M) where

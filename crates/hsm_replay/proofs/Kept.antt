@@ -1,6 +1,6 @@
 -- What holds of each event that a daemon keeps, as its list of them changes.
-use Rattle.std.proofs.Common.{◌≡◌, ◌∙◌, ◌⊎◌, ⊎_elim, ◌==◌, ℕ, zero, suc, ◌<◌, ◌++◌, Bool, true, false, not, cond, List, [], ◌∷◌, length, map, inl}
-use Rattle.std.proofs.Common.{inr, refl, sym, ap, subst, arith, if◌then◌else◌, slice_index_or, Contains}
+use Rattle.std.proofs.Common.{◌≡◌, ◌∙◌, ◌⊎◌, ⊎_elim, ◌==◌, ℕ, ◌<◌, ◌++◌, Bool, true, false, not, cond, List, [], ◌∷◌, map, inl}
+use Rattle.std.proofs.Common.{inr, refl, sym, ap, subst, arith, if◌then◌else◌, Contains}
 use Rattle.std.specs.List.{AllByRecursion}
 use Rattle.std.proofs.lemmas.Bool.{eqb-true}
 use Rattle.std.proofs.lemmas.List.{get_or-map, length-map}
@@ -12,26 +12,7 @@ use Rattle.daemon_session.specs.declared.events.Kept.{Kept}
 use Rattle.daemon_session.specs.Seats.{has_kept_token, forgot, marked_at, all_marked}
 use Rattle.recall_daemon.specs.Known.{IsKept}
 use Rattle.marked_history.specs.Served.{IsTold}
-
--- ---- lists
-
-pub all_weaker : {A : Type 0} (P Q : A → Type 0) (xs : List A) → ((x : A) → P x → Q x) → AllByRecursion P xs → AllByRecursion Q xs
-all_weaker P Q [] weaker all = tt
-all_weaker P Q (x ∷ xs) weaker all = (weaker x all.0, all_weaker P Q xs weaker all.1)
-
-pub all_then : {A : Type 0} (P : A → Type 0) (xs ys : List A) → AllByRecursion P xs → AllByRecursion P ys → AllByRecursion P (xs ++ ys)
-all_then P [] ys first second = second
-all_then P (x ∷ xs) ys first second = (first.0, all_then P xs ys first.1 second)
-
-pub here : {A : Type 0} (x : A) (xs : List A) → Contains (x ∷ xs) x
-here x xs = (0, omega arith, refl)
-
-pub there : {A : Type 0} (x : A) (xs : List A) (y : A) → Contains xs y → Contains (x ∷ xs) y
-there x xs y at = let within = at.1 in (suc at.0, omega (arith, within), at.2)
-
-pub first_or_rest : {A : Type 0} (x : A) (xs : List A) (y : A) (i : ℕ) → i < length (x ∷ xs) → slice_index_or (x ∷ xs) i y ≡ y → (x ≡ y) ⊎ Contains xs y
-first_or_rest x xs y zero within is = inl is
-first_or_rest x xs y (suc i) within is = inr (i, omega (arith, within), is)
+use Rattle.marked_history.proofs.Lists.{first_in, later_in, first_or_rest}
 
 -- ---- an event is forgotten
 
@@ -46,15 +27,15 @@ module _ (t : Token) where
 
   stays_behind : (b : Bool) (k y : Kept) (rest : List Kept) → Contains rest y → Contains (cond (not b) (k ∷ rest) rest) y
   stays_behind true k y rest at = at
-  stays_behind false k y rest at = there k rest y at
+  stays_behind false k y rest at = later_in k rest y at
 
   stays_in : (k : Kept) (more : List Kept) (y : Kept) → has_kept_token t y ≡ false → (k ≡ y) ⊎ Contains (forgot t more) y → Contains (forgot t (k ∷ more)) y
-  stays_in k more y other (inl same) = subst (λ (b : Bool). Contains (cond (not b) (k ∷ forgot t more) (forgot t more)) y) (sym (ap (λ (x : Kept). has_kept_token t x) same ∙ other)) (subst (λ (x : Kept). Contains (x ∷ forgot t more) y) (sym same) (here y (forgot t more)))
+  stays_in k more y other (inl same) = subst (λ (b : Bool). Contains (cond (not b) (k ∷ forgot t more) (forgot t more)) y) (sym (ap (λ (x : Kept). has_kept_token t x) same ∙ other)) (subst (λ (x : Kept). Contains (x ∷ forgot t more) y) (sym same) (first_in y (forgot t more)))
   stays_in k more y other (inr behind) = stays_behind (has_kept_token t k) k y (forgot t more) behind
 
   stays : (kept : List Kept) (y : Kept) → has_kept_token t y ≡ false → Contains kept y → Contains (forgot t kept) y
   stays [] y other at = let within = at.1 in absurd (omega (arith, within))
-  stays (k ∷ more) y other at = stays_in k more y other (⊎_elim (λ (same : k ≡ y). inl same) (λ (behind : Contains more y). inr (stays more y other behind)) (first_or_rest k more y at.0 at.1 at.2))
+  stays (k ∷ more) y other at = stays_in k more y other (⊎_elim (λ (same : k ≡ y). inl same) (λ (behind : Contains more y). inr (stays more y other behind)) (first_or_rest k more y at))
 
   kept_still : (kept : List Kept) (e : Event) → (m : Bool) → has_kept_token t (record { event = e; marked = m }) ≡ false → Contains kept (record { event = e; marked = m }) → IsKept e (forgot t kept)
   kept_still kept e m other at = (m, stays kept (record { event = e; marked = m }) other at)

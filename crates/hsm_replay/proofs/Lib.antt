@@ -1,4 +1,10 @@
 mod Telling
+mod PartsDone
+mod PartsOn
+mod PartsRun
+mod Deeds
+mod DeedSteps
+mod DeedRounds
 mod Between
 mod OnDrives
 mod HandedIn

@@ -29,8 +29,7 @@ use Rattle.marked_history.specs.Lives.{with_caller, called_in, HasLostSession, M
 use Rattle.marked_history.specs.Marks.{Mark, made}
 use Rattle.marked_history.specs.Served.{Shown, nothing_shown, learned, shown}
 use Rattle.marked_history.specs.Waiting.{Running}
-use Rattle.hsm_system.specs.declared.daemons.Recalling.{Recalling}
-use Rattle.hsm_system.specs.declared.daemons.Migrating.{Migrating}
+use Rattle.hsm_system.specs.Running.{Recalling, Migrating}
 use Rattle.hsm_system.specs.declared.daemons.Next.TheVariants.{Hears}
 use Rattle.hsm_replay.specs.Faults.{faults_in}
 use Rattle.hsm_replay.specs.Keeping.{IsKnownAs, IsShownAs, IsAtStart, IsHeardOf, RecallKnows, MigrateKnows, HearsLast, RecallLives, MigrateLives}

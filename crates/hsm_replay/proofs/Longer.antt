@@ -9,12 +9,11 @@ use Rattle.daemon_session.specs.Seats.{Seat}
 use Rattle.daemon_session.specs.declared.events.Kept.{Kept}
 use Rattle.hsm_core.specs.Store.{state_of}
 use Rattle.hsm_policy.specs.Settings.{Numbers}
-use Rattle.hsm_system.specs.declared.daemons.Recalling.{Recalling}
-use Rattle.hsm_system.specs.declared.daemons.Migrating.{Migrating}
+use Rattle.hsm_system.specs.Running.{Recalling, Migrating}
 use Rattle.hsm_replay.specs.Settled.{IsTurn, NoneDue, RecallRests, MigrateRests, IsTurnOf, IsHeldUp, AreHeldUp}
 use Rattle.hsm_replay.specs.Systems.{Run}
 use Rattle.hsm_replay.specs.Turns.{IsOver, LeavesHeldUp}
-use Rattle.hsm_replay.proofs.Kept.{all_weaker}
+use Rattle.marked_history.proofs.Lists.{all_weaker}
 use Rattle.marked_history.proofs.QuietEvents.{all_quiet_append}
 
 module _ (first entries : List Entry) where

@@ -13,7 +13,7 @@ use Rattle.hsm_types.specs.declared.media.FetchRefusal.TheVariants as fetching
 use Rattle.plain_model.specs.declared.entries.Entry.{Entry}
 use Rattle.hsm_policy.specs.Settings.{Numbers}
 use Rattle.recall_daemon.specs.Known as recall
-use Rattle.hsm_system.specs.declared.daemons.Recalling.{Recalling}
+use Rattle.hsm_system.specs.Running.{Recalling}
 use Rattle.hsm_replay.specs.Drives.{HaveGrown}
 use Rattle.hsm_replay.specs.Faults.{fault_in, faults_in, IsApart, AreTrue}
 use Rattle.marked_history.specs.Marks.{Mark, entries_of}

@@ -22,7 +22,7 @@ use Rattle.daemon_session.specs.Seats.{Seat, no_seat, all_marked, seat_asks, sea
 use Rattle.migrate_daemon.specs.Known.{Known, is_due, asks, hears, asks_by, knows_by}
 use Rattle.migrate_daemon.specs.Machine.{Machine, GoesOn, IsServed, NoneServed, WantsSpace, HasAll, answer_of, MaySeal, MayGive}
 use Rattle.migrate_daemon.specs.Passes.{Pass, IsOver, copies}
-use Rattle.hsm_system.specs.declared.daemons.Migrating.{Migrating}
+use Rattle.hsm_system.specs.Running.{Migrating}
 use Rattle.hsm_system.specs.declared.daemons.Next.TheVariants.{Hears}
 use Rattle.hsm_replay.specs.Systems.{told_next}
 use Rattle.hsm_replay.specs.Keeping.{IsShownAs, IsAtStart, MigrateKnows}

@@ -22,8 +22,7 @@ use Rattle.plain_model.specs.declared.entries.Answer.TheVariants as answer
 use Rattle.hsm_core.specs.Store.{Store}
 use Rattle.recall_daemon.specs.Machine as recaller
 use Rattle.migrate_daemon.specs.Machine as migrator
-use Rattle.hsm_system.specs.declared.daemons.Recalling.{Recalling}
-use Rattle.hsm_system.specs.declared.daemons.Migrating.{Migrating}
+use Rattle.hsm_system.specs.Running.{Recalling, Migrating}
 use Rattle.hsm_system.specs.declared.stops.Stop.{Stop}
 use Rattle.hsm_system.specs.declared.stops.Stop.TheVariants as stop
 use Rattle.hsm_system.specs.Acts.{Serves, StopsCall, KeepsStop}

@@ -18,9 +18,8 @@ use Rattle.recall_daemon.specs.Machine as recaller
 use Rattle.migrate_daemon.specs.Machine as migrator
 use Rattle.hsm_system.specs.Awaiting.{awaited_of}
 use Rattle.hsm_system.specs.Systems.{System, hearing}
-use Rattle.hsm_system.specs.declared.daemons.Migrating.{Migrating}
+use Rattle.hsm_system.specs.Running.{Recalling, Migrating}
 use Rattle.hsm_system.specs.declared.daemons.Next.TheVariants.{Hears, Waits}
-use Rattle.hsm_system.specs.declared.daemons.Recalling.{Recalling}
 use Rattle.hsm_system.specs.declared.stops.Stop.{Stop}
 use Rattle.hsm_replay.specs.Acts.{Performs, Stops}
 use Rattle.hsm_replay.specs.Steps.{Acts, IsStopped}

@@ -34,11 +34,11 @@ module _ {M : Type 0} (g : drive.Ghosts M) (x y : M) where
   -- ---- a copy
 
   module _ (volume : ℕ) (handle : Handle) (segment : ℕ) (bytes : List ℕ) where
-    copy_so : (answer : Result StubEntry CopyRefusal) → CopiesTo g volume handle segment bytes answer x y → answer ≢ Err copying.Memory → IsSo (outcome.Copied volume handle segment (print_of bytes) answer)
+    pub copy_so : (answer : Result StubEntry CopyRefusal) → CopiesTo g volume handle segment bytes answer x y → answer ≢ Err copying.Memory → IsSo (outcome.Copied volume handle segment (print_of bytes) answer)
     copy_so (Ok entry) copies some = let named = names_copy g volume handle segment bytes (Ok entry) x y copies in (named.1, named.0)
-    copy_so (Err (copying.Damaged want got)) copies some = copies.0.1
-    copy_so (Err (copying.Failed before after)) copies some = tt
-    copy_so (Err (copying.Full used len capacity)) copies some = tt
+    copy_so (Err (copying.Damaged want got)) copies some = (copies.0.1, copies.0.2)
+    copy_so (Err (copying.Failed before after)) copies some = copies.0.2
+    copy_so (Err (copying.Full used len capacity)) copies some = copies.0.3
     copy_so (Err copying.NoVolume) copies some = tt
     copy_so (Err copying.Memory) copies some = absurd (some refl)
 
@@ -57,10 +57,10 @@ module _ {M : Type 0} (g : drive.Ghosts M) (x y : M) where
 
   module _ (entry : StubEntry) where
     fault_so : (fault : Fault) → IsCause g entry x y fault → IsOf entry fault
-    fault_so (Failed volume object before after) cause = (cause.0, cause.1)
-    fault_so (Damaged volume object want got) cause = (cause.0, cause.1, cause.2)
+    fault_so (Failed volume object before after) cause = (cause.0, cause.1, cause.4)
+    fault_so (Damaged volume object want got) cause = (cause.0, cause.1, cause.2, cause.3)
 
-    fetch_so : (answer : Result (List ℕ) FetchRefusal) → FetchesFrom g entry answer x y → answer ≢ Err fetching.Memory → IsSo (outcome.Fetched entry answer)
+    pub fetch_so : (answer : Result (List ℕ) FetchRefusal) → FetchesFrom g entry answer x y → answer ≢ Err fetching.Memory → IsSo (outcome.Fetched entry answer)
     fetch_so (Ok bytes) fetches some = fetches.0.print
     fetch_so (Err (fetching.Media fault)) fetches some = fault_so fault fetches.0
     fetch_so (Err (fetching.NoObject volume object)) fetches some = (fetches.0.0, fetches.0.1)

@@ -1,6 +1,6 @@
 -- Passes in a history, while it goes on.
-use Rattle.std.proofs.Common.{◌≡◌, ◌≢◌, ◌∙◌, ◌⊎◌, ◌∷◌, ◌++◌, [], ℕ, zero, suc, ◌<◌, List, length, Some, Contains, slice_index_or, inl, inr, refl}
-use Rattle.std.proofs.Common.{sym, ap, subst, append-nil, append_assoc, arith}
+use Rattle.std.proofs.Common.{◌≡◌, ◌≢◌, ◌∙◌, ◌⊎◌, ◌∷◌, ◌++◌, [], ℕ, List, length, Some, Contains, inl, inr, refl}
+use Rattle.std.proofs.Common.{sym, ap, subst, append-nil, append_assoc}
 use Rattle.std.specs.List.{AllByRecursion}
 use Rattle.std.specs.Prelude.{slice_get}
 use Rattle.std.proofs.lemmas.List.Elements.{Contains-append_left}
@@ -23,83 +23,7 @@ use Rattle.marked_history.specs.Lives.{IsLast, HasLostSession}
 use Rattle.marked_history.specs.Marks.{Mark, made}
 use Rattle.marked_history.specs.Passing.{IsOfPassBy, AreOfPass, table_told, IsBetween, IsBehindPass, GoesOn, IsPassOver, IsCoveredIn, read_call}
 use Rattle.marked_history.specs.Passing.{IsReadAtLast, IsWithinPass, AllWithin, IsDoneIn, IsEndedIn, IsPassed, EachPassed, AllPassed}
-use Rattle.hsm_replay.proofs.Growing.{all_and}
-
--- ---- lists
-
-all_first : {A : Type 0} (P : A → Type 0) (xs ys : List A) → AllByRecursion P (xs ++ ys) → AllByRecursion P xs
-all_first P [] ys each = tt
-all_first P (x ∷ xs) ys each = (each.0, all_first P xs ys each.1)
-
-all_last : {A : Type 0} (P : A → Type 0) (xs : List A) (x : A) → AllByRecursion P (xs ++ x ∷ []) → P x
-all_last P [] x each = each.0
-all_last P (y ∷ xs) x each = all_last P xs x each.1
-
-all_has : {A : Type 0} (P : A → Type 0) (xs : List A) (x : A) (i : ℕ) → AllByRecursion P xs → i < length xs → slice_index_or xs i x ≡ x → P x
-all_has P [] x i each within is = absurd (omega (arith, within))
-all_has P (y ∷ xs) x zero each within is = subst P is each.0
-all_has P (y ∷ xs) x (suc i) each within is = all_has P xs x i each.1 (omega (arith, within)) is
-
-none_there : {A : Type 0} (before : List A) (y : A) (rest : List A) → [] ≡ before ++ y ∷ rest → ⊥
-none_there [] y rest is = let wrong : [] ≡ y ∷ rest = is in cc wrong
-none_there (b ∷ before) y rest is = let wrong : [] ≡ b ∷ (before ++ y ∷ rest) = is in cc wrong
-
--- what is in a list with one element more is that one, with nothing behind it, or it is in the list
-abbrev Place : {A : Type 0} → List A → A → List A → A → List A → Type 0
-Place {A = A} xs x before y after = ((before ≡ xs) × (y ≡ x) × (after ≡ [])) ⊎ ((more : List A) × (after ≡ more ++ x ∷ []) × (xs ≡ before ++ y ∷ more))
-
-place_behind : {A : Type 0} (a b : A) (xs before : List A) (x y : A) (after : List A) → a ≡ b → Place xs x before y after → Place (a ∷ xs) x (b ∷ before) y after
-place_behind a b xs before x y after same (inl last) = inl (let is : b ∷ before ≡ a ∷ xs = cc (same, last.0) in is, last.1, last.2)
-place_behind a b xs before x y after same (inr within) = let is : a ∷ xs ≡ b ∷ (before ++ y ∷ within.0) = cc (same, within.2) in inr (within.0, within.1, is)
-
-place : {A : Type 0} (xs : List A) (x : A) (before : List A) (y : A) (after : List A) → xs ++ x ∷ [] ≡ before ++ y ∷ after → Place xs x before y after
-place [] x [] y after is =
-    let both : x ∷ [] ≡ y ∷ after = is in
-    let same : y ≡ x = cc both in
-    let none : after ≡ [] = cc both in
-    inl (refl, same, none)
-place [] x (b ∷ before) y after is =
-    let both : x ∷ [] ≡ b ∷ (before ++ y ∷ after) = is in
-    let none : [] ≡ before ++ y ∷ after = cc both in
-    absurd (none_there before y after none)
-place (a ∷ xs) x [] y after is =
-    let both : a ∷ (xs ++ x ∷ []) ≡ y ∷ after = is in
-    let same : a ≡ y = cc both in
-    let rest : after ≡ xs ++ x ∷ [] = cc both in
-    let parted : a ∷ xs ≡ y ∷ xs = cc same in
-    inr (xs, rest, parted)
-place (a ∷ xs) x (b ∷ before) y after is =
-    let both : a ∷ (xs ++ x ∷ []) ≡ b ∷ (before ++ y ∷ after) = is in
-    let same : a ≡ b = cc both in
-    let tail : xs ++ x ∷ [] ≡ before ++ y ∷ after = cc both in
-    place_behind a b xs before x y after same (place xs x before y after tail)
-
--- the last element of two lists is that of the second, or of the first
-abbrev Last : {A : Type 0} → List A → List A → List A → A → Type 0
-Last {A = A} first second more x = ((second ≡ []) × (first ≡ more ++ x ∷ [])) ⊎ ((less : List A) × (second ≡ less ++ x ∷ []) × (more ≡ first ++ less))
-
-last_behind : {A : Type 0} (a b : A) (first second more : List A) (x : A) → a ≡ b → Last first second more x → Last (a ∷ first) second (b ∷ more) x
-last_behind a b first second more x same (inl none) = let is : a ∷ first ≡ b ∷ (more ++ x ∷ []) = cc (same, none.1) in inl (none.0, is)
-last_behind a b first second more x same (inr some) = let is : b ∷ more ≡ a ∷ (first ++ some.0) = cc (same, some.2) in inr (some.0, some.1, is)
-
-both_none : {A : Type 0} (first second : List A) → [] ≡ first ++ second → (first ≡ []) × (second ≡ [])
-both_none [] second is = (refl, sym is)
-both_none (a ∷ first) second is = let wrong : [] ≡ a ∷ (first ++ second) = is in cc wrong
-
-last_of : {A : Type 0} (first second more : List A) (x : A) → first ++ second ≡ more ++ x ∷ [] → Last first second more x
-last_of [] second more x is = inr (more, is, refl)
-last_of (a ∷ first) second [] x is =
-    let both : a ∷ (first ++ second) ≡ x ∷ [] = is in
-    let same : a ≡ x = cc both in
-    let rest : [] ≡ first ++ second = cc both in
-    let none = both_none first second rest in
-    let only : a ∷ first ≡ x ∷ [] = cc (same, none.0) in
-    inl (none.1, only)
-last_of (a ∷ first) second (b ∷ more) x is =
-    let both : a ∷ (first ++ second) ≡ b ∷ (more ++ x ∷ []) = is in
-    let same : a ≡ b = cc both in
-    let tail : first ++ second ≡ more ++ x ∷ [] = cc both in
-    last_behind a b first second more x same (last_of first second more x tail)
+use Rattle.marked_history.proofs.Lists.{all_and, all_first, all_at, all_has, none_there, Place, place, both_none, Last, last_of}
 
 -- ---- marks that daemons made
 
@@ -134,11 +58,11 @@ call_of s c q (inr by) =
     subst (λ (x : DmCall). IsOfPass (Dm s x)) call (subst (λ (x : Sid). IsOfPass (Dm x by.1)) sid by.4)
 
 pub last_of_pass : (during : List Mark) (s : Sid) (c : DmCall) (q : DmReply) → AreOfPass (during ++ made Migrate s c q ∷ []) → IsOfPass (Dm s c)
-last_of_pass during s c q of = call_of s c q (all_last IsOne during (made Migrate s c q) of)
+last_of_pass during s c q of = call_of s c q (all_at IsOne during (made Migrate s c q) [] of)
 
 -- a table is told in none
 pub no_table : (during : List Mark) (s : Sid) (table : Table) → AreOfPass during → Contains during (table_told s table) → ⊥
-no_table during s table of has = call_of s GetTable (reply.Table table) (all_has IsOne during (table_told s table) has.0 of has.1 has.2)
+no_table during s table of has = call_of s GetTable (reply.Table table) (all_has IsOne during (table_told s table) of has)
 
 pub between_of : (s : Sid) (c : DmCall) (q : DmReply) → IsBehindPass (made Migrate s c q) → IsBetween c
 between_of s c q by = subst IsBetween (sym (same_call s by.0 c by.1 q by.2 by.3)) by.4
@@ -170,7 +94,7 @@ refused_now during s c q refused = by (place during (made Migrate s c q) last.0 
 
     by : Place during (made Migrate s c q) last.0 (made Migrate refused.0 refused.1 (reply.Refused NoSession)) last.1 → q ≡ reply.Refused NoSession
     by (inl at) = sym (same_answer refused.0 s refused.1 c (reply.Refused NoSession) q at.1)
-    by (inr within) = absurd (all_last IsOther within.0 (made Migrate s c q) (subst (λ (l : List Mark). AllByRecursion IsOther l) within.1 last.3) refl)
+    by (inr within) = absurd (all_at IsOther within.0 (made Migrate s c q) [] (subst (λ (l : List Mark). AllByRecursion IsOther l) within.1 last.3) refl)
 
 -- ---- what a longer pass has
 

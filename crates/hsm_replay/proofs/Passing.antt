@@ -1,9 +1,10 @@
 -- The pass of the migration daemon, through each of its acts, and what its marks tell of it.
-use Rattle.std.proofs.Common.{◌≡◌, ◌≢◌, ◌∙◌, ◌⊎◌, ◌*◌, ◌+◌, ◌<◌, ◌≤◌, ◌∷◌, ◌++◌, [], ℕ, zero, suc, true, false, List, length, Option, Some, None}
+use Rattle.std.proofs.Common.{◌≡◌, ◌≢◌, ◌∙◌, ◌⊎◌, ◌*◌, ◌+◌, ◌<◌, ◌≤◌, ◌∷◌, ◌++◌, [], ℕ, true, false, List, length, Option, Some, None}
 use Rattle.std.proofs.Common.{Result, Ok, Err, Contains, IfSome, inl, inr, refl, sym, ap, subst, append_assoc, arith}
 use Rattle.std.specs.List.{AllByRecursion}
 use Rattle.std.specs.Prelude.{slice_get}
 use Rattle.std.proofs.lemmas.List.Elements.{Contains-append_left, Contains-append_right, Contains-push_cases}
+use Rattle.std.proofs.lemmas.Option.{slice_get_within, get_or_from_slice_get}
 use Rattle.hsm_types.specs.Limits.{segment_bytes}
 use Rattle.hsm_types.specs.Messages.{no_token}
 use Rattle.hsm_types.specs.Regions.{covers}
@@ -38,7 +39,7 @@ use Rattle.marked_history.specs.Lives.{IsLast, HasLostSession}
 use Rattle.marked_history.specs.Marks.{Mark, made}
 use Rattle.marked_history.specs.Passing.{AreOfPass, table_told, IsBetween, IsBehindPass, IsDoneIn, IsEndedIn, IsCoveredIn, read_call, read_told}
 use Rattle.marked_history.specs.Passing.{IsReadAtLast, IsRead, IsLastRead, IsSealedIn, IsOfCopy, IsWithinPass, IsPassed, AllPassed}
-use Rattle.hsm_system.specs.declared.daemons.Migrating.{Migrating}
+use Rattle.hsm_system.specs.Running.{Migrating}
 use Rattle.hsm_system.specs.declared.daemons.Next.TheVariants.{Hears}
 use Rattle.hsm_system.specs.Systems.{migrate_again}
 use Rattle.hsm_replay.specs.Systems.{told_next}
@@ -46,8 +47,7 @@ use Rattle.hsm_replay.specs.Passes.{AreThere, EndsIn, IsPassOf, IsThere, IsReady
 use Rattle.hsm_replay.specs.Passes.{IsBetweenPasses, PassStands}
 use Rattle.deeds.specs.Lives.{untold}
 use Rattle.hsm_replay.proofs.Coming.{IsNoCall, IsBegin}
-use Rattle.hsm_replay.proofs.Growing.{all_and}
-use Rattle.hsm_replay.proofs.Kept.{there}
+use Rattle.marked_history.proofs.Lists.{all_and, none_in, stands_in}
 use Rattle.hsm_replay.proofs.MigrateShown.{begins_at_once, no_rest, starts}
 use Rattle.hsm_replay.proofs.PassMarks.{IsOther, IsOne, Opens, same_sid, same_call, same_answer, by_migration, of_first, last_of_pass, no_table}
 use Rattle.hsm_replay.proofs.PassMarks.{between_of, refused_now, covered_longer, last_longer, read_longer, all_passed_more, opens_more}
@@ -172,11 +172,8 @@ module _ (C : Type 0) (limits : Numbers) (sid : Sid) (table : Table) (during : L
 
 -- ---- what is known of a segment
 
-seam : {A : Type 0} (first since : List A) (x : A) → Contains (first ++ x ∷ since) x
-seam first since x = Contains-append_right first (x ∷ since) x (0, omega arith, refl)
-
 last_there : (during : List Mark) (sid : Sid) (call : DmCall) (answer : DmReply) → IsLast Migrate sid call answer during → Contains during (made Migrate sid call answer)
-last_there during sid call answer last = subst (λ (l : List Mark). Contains l (made Migrate sid call answer)) (sym last.2) (seam last.0 last.1 (made Migrate sid call answer))
+last_there during sid call answer last = subst (λ (l : List Mark). Contains l (made Migrate sid call answer)) (sym last.2) (stands_in last.0 (made Migrate sid call answer) last.1)
 
 -- of the same segment of the same file
 covered_as : (during : List Mark) (sid : Sid) (p q : Picked) → p.handle ≡ q.handle → p.segment ≡ q.segment → IsCoveredIn during sid p → IsCoveredIn during sid q
@@ -242,9 +239,6 @@ ends_now volumes picks during sid p asked (heard.Copied copied) hears ready ends
 ends_now volumes picks during sid p asked told hears ready ends = absurd ends
 
 -- ---- the pass in which it is once it has heard
-
-none_in : (x : Exchange) → Contains [] x → ⊥
-none_in x has = let within = has.1 in absurd (omega (arith, within))
 
 -- a pass that begins
 begins_passed : (volumes : ℕ) (sid : Sid) (picks : List Picked) → Passed volumes [] (begun_pass sid picks)
@@ -342,9 +336,7 @@ abbrev pub HasHeard : Act → Heard → List Mark → Type 0
 HasHeard asked told during = (sid : Sid) (call : DmCall) (answer : DmReply) → IsOfPass (Dm sid call) → asked ≡ Dm sid call → told ≡ heard.Dm answer → IsLast Migrate sid call answer during
 
 pub got : {A : Type 0} (xs : List A) (n : ℕ) (x : A) → slice_get xs n ≡ Some x → Contains xs x
-got {A = A} [] n x is = let wrong : None ≡ Some x = is in cc wrong
-got (y ∷ xs) zero x is = let same : y ≡ x = cc is in (0, omega arith, same)
-got (y ∷ xs) (suc n) x is = there y xs x (got xs n x is)
+got xs n x is = (n, slice_get_within xs n x is, get_or_from_slice_get xs n x x is)
 
 sealed_longer : (during : List Mark) (m : Mark) (sid : Sid) (p : Picked) → IsSealedIn during sid p → IsSealedIn (during ++ m ∷ []) sid p
 sealed_longer during m sid p (inl was) = inl was
@@ -463,17 +455,12 @@ module _ (limits : Numbers) (k : Known) (old new : Pass) (during : List Mark) (a
 
 -- ---- a pass that is over
 
-get_within : {A : Type 0} (xs : List A) (n : ℕ) (x : A) → slice_get xs n ≡ Some x → n < length xs
-get_within [] n x is = let wrong : None ≡ Some x = is in cc wrong
-get_within (y ∷ xs) zero x is = omega arith
-get_within (y ∷ xs) (suc n) x is = let below = get_within xs n x is in omega (arith, below)
-
 -- it doesn't go on
 over_stays : (volumes : ℕ) (k : Known) (old : Pass) (asked : Act) (told : Heard) (new : Pass) (p : Picked) → Stays volumes old asked told new → IsOver old → IsAt k new p → ⊥
 over_stays volumes k old asked told new p stays (inl all) at = by stays.on
   where
     below : new.at < length new.picks
-    below = get_within new.picks new.at p at.pick
+    below = slice_get_within new.picks new.at p at.pick
 
     same : length new.picks ≡ length old.picks
     same = ap (λ (l : List Picked). length l) stays.picks

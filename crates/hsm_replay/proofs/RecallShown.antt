@@ -32,12 +32,13 @@ use Rattle.daemon_session.specs.Members.{IsRefusedOne}
 use Rattle.daemon_session.specs.Seats.{Seat, no_seat, found_one, has_kept_token, forgot, marked_at, all_marked, seat_hears, IsSeated}
 use Rattle.daemon_session.specs.Tellings.{events_in}
 use Rattle.recall_daemon.specs.declared.away.Away.{Away}
-use Rattle.recall_daemon.specs.Known.{Known, Hand, with_hand, with_kept, handling, put_off, dropped, refused, failed, unrestored, unanswered, asks}
+use Rattle.recall_daemon.specs.Known.{Known, Hand, with_hand, with_kept, handling, put_off, dropped, failed, unrestored, unanswered, asks}
 use Rattle.recall_daemon.specs.Known.{hears, asks_by, knows_by, away_in, back_in, IsKept, IsInHand, IsNeeded, IsReady, IsLost, Holds, HasAll}
 use Rattle.recall_daemon.specs.Known.{ArePutOff, MayCall, MayGive}
 use Rattle.recall_daemon.specs.Known as recall
 use Rattle.recall_daemon.specs.Machine.{Machine, GoesOn}
-use Rattle.hsm_system.specs.declared.daemons.Recalling.{Recalling}
+use Rattle.recall_daemon.proofs.Outcomes.{Ends, failed_so, unrestored_so, unanswered_so}
+use Rattle.hsm_system.specs.Running.{Recalling}
 use Rattle.hsm_replay.specs.Systems.{told_next}
 use Rattle.hsm_replay.specs.Keeping.{unmarked, IsKnownAs, IsAtStart, IsHeardOf, RecallKnows}
 use Rattle.marked_history.specs.Served.{IsOf, IsReason, MayCome, RecallMay}
@@ -128,26 +129,20 @@ dropped_same t k = ap (λ (l : List Kept). with_kept l k) (forgot_same t k.seat.
 handled_same : (f : Hand → Hand) (k : Known) → plain (handling f k) ≡ plain (handling f (plain k))
 handled_same f k = ap (with_hand (option_map f k.hand)) (again k.seat)
 
-refused_same : (t : Token) (w : DmRefusal) (k : Known) → plain (refused t w k) ≡ plain (refused t w (plain k))
-refused_same t why.NoObject k = handled_same (λ (h : Hand). record h { gone = true }) k
-refused_same t why.NoToken k = dropped_same t k
-refused_same t (why.NotYours owner) k = dropped_same t k
-refused_same t why.NoSession k = stays_same k
-refused_same t other k = off_same t k
+abbrev IsSame : (Known → Known) → Known → Type 0
+IsSame f k = plain (f k) ≡ plain (f (plain k))
 
-failed_same : (t : Token) (answer : DmReply) (k : Known) → plain (failed t answer k) ≡ plain (failed t answer (plain k))
-failed_same t (reply.Refused w) k = refused_same t w k
-failed_same t answer k = off_same t k
+ends_same : (k : Known) (t : Token) (answer : DmReply) → Ends (λ f. IsSame f k) t answer
+ends_same k t answer = record { stays = λ lost. stays_same k; off = off_same t k; drops = λ gone. dropped_same t k }
 
-unrestored_same : (t : Token) (w : DmRefusal) (k : Known) → plain (unrestored t w k) ≡ plain (unrestored t w (plain k))
-unrestored_same t (why.NoSpace need free) k = handled_same (λ (h : Hand). record h { short = true }) k
-unrestored_same t w k = refused_same t w k
+failed_same : (t : Token) (answer : DmReply) (k : Known) → IsSame (λ l. failed t answer l) k
+failed_same t answer k = failed_so (λ f. IsSame f k) t answer (handled_same (λ (h : Hand). record h { gone = true }) k) (ends_same k t answer)
 
-unanswered_same : (t : Token) (w : DmRefusal) (k : Known) → plain (unanswered t w k) ≡ plain (unanswered t w (plain k))
-unanswered_same t why.NoToken k = dropped_same t k
-unanswered_same t (why.NotYours owner) k = dropped_same t k
-unanswered_same t why.NoSession k = stays_same k
-unanswered_same t other k = off_same t k
+unrestored_same : (t : Token) (w : DmRefusal) (k : Known) → IsSame (λ l. unrestored t w l) k
+unrestored_same t w k = unrestored_so (λ f. IsSame f k) t w (handled_same (λ (h : Hand). record h { gone = true }) k) (handled_same (λ (h : Hand). record h { short = true }) k) (ends_same k t (reply.Refused w))
+
+unanswered_same : (t : Token) (w : DmRefusal) (k : Known) → IsSame (λ l. unanswered t w l) k
+unanswered_same t w k = unanswered_so (λ f. IsSame f k) t w (ends_same k t (reply.Refused w))
 
 asks_same : (k : Known) (call : DmCall) → plain (asks k call) ≡ asks (plain k) call
 asks_same k GetAllSessions = refl

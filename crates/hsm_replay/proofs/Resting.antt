@@ -40,8 +40,7 @@ use Rattle.recall_daemon.specs.Known as recall
 use Rattle.migrate_daemon.specs.Known as migrate
 use Rattle.migrate_daemon.specs.declared.shares.Space.{Space}
 use Rattle.migrate_daemon.specs.Shares.{is_above}
-use Rattle.hsm_system.specs.declared.daemons.Recalling.{Recalling}
-use Rattle.hsm_system.specs.declared.daemons.Migrating.{Migrating}
+use Rattle.hsm_system.specs.Running.{Recalling, Migrating}
 use Rattle.hsm_system.specs.declared.stops.Stop.{Stop}
 use Rattle.marked_history.specs.Follows.{IsMadeBy, IsOfSettling, IsPartOf}
 use Rattle.script_text.specs.declared.lines.Line.TheVariants.{Settle}
@@ -61,7 +60,8 @@ use Rattle.hsm_replay.proofs.ByRunning.{by_running_then}
 use Rattle.hsm_replay.proofs.Living.{live_then, live_through}
 use Rattle.hsm_replay.proofs.Coming.{unseated as no_session}
 use Rattle.hsm_replay.proofs.Freshness.{refreshed_fresh}
-use Rattle.hsm_replay.proofs.Kept.{here, there, first_or_rest, all_then, told_unmarked}
+use Rattle.hsm_replay.proofs.Kept.{told_unmarked}
+use Rattle.marked_history.proofs.Lists.{first_in, later_in, first_or_rest, all_then}
 use Rattle.hsm_replay.proofs.Rounds.{marked_since}
 use Rattle.hsm_replay.proofs.TurnedAway.{IsRefusedOne, EndsRefused, ends_away, shown_append, recall_away, migrate_away, recall_turned_away}
 use Rattle.hsm_replay.proofs.TurnedAway.{migrate_turned_away, recall_told, migrate_told}
@@ -106,9 +106,9 @@ module _ (P : Token → Type 0) where
 
 kept_marked : (kept : List Kept) (e : Event) (m : Bool) → Contains (all_marked false kept) (record { event = e; marked = m }) → recall.IsKept e kept
 kept_marked [] e m at = let within = at.1 in absurd (omega (arith, within))
-kept_marked (x ∷ kept) e m at = elim (first_or_rest (record x { marked = false }) (all_marked false kept) (record { event = e; marked = m }) at.0 at.1 at.2) [
-  | inl same ↦ (x.marked, subst (λ (y : Event). Contains (x ∷ kept) (record { event = y; marked = x.marked })) (ap (λ (y : Kept). y.event) same) (here x kept))
-  | inr behind ↦ let later = kept_marked kept e m behind in (later.0, there x kept (record { event = e; marked = later.0 }) later.1)
+kept_marked (x ∷ kept) e m at = elim (first_or_rest (record x { marked = false }) (all_marked false kept) (record { event = e; marked = m }) at) [
+  | inl same ↦ (x.marked, subst (λ (y : Event). Contains (x ∷ kept) (record { event = y; marked = x.marked })) (ap (λ (y : Kept). y.event) same) (first_in x kept))
+  | inr behind ↦ let later = kept_marked kept e m behind in (later.0, later_in x kept (record { event = e; marked = later.0 }) later.1)
 ]
 
 told_back : (kept : List Kept) (t : Token) (h : Handle) → IsTold (all_marked false kept) t h → IsTold kept t h

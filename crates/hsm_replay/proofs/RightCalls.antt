@@ -1,5 +1,5 @@
 -- Calls of daemons that begin right, over marks one behind the other.
-use Rattle.std.proofs.Common.{◌≡◌, ◌≢◌, ◌∙◌, ◌⊎◌, ◌∷◌, ◌++◌, [], List, Some, None, inl, inr, refl, sym, ap, subst, append_assoc, append-nil}
+use Rattle.std.proofs.Common.{◌≡◌, ◌≢◌, ◌∙◌, ◌∷◌, ◌++◌, [], List, Some, None, inl, inr, refl, sym, ap, subst, append_assoc, append-nil}
 use Rattle.hsm_types.specs.declared.daemons.Act.{Act}
 use Rattle.hsm_types.specs.declared.daemons.Act.TheVariants.{Dm}
 use Rattle.hsm_types.specs.declared.daemons.Daemon.{Daemon}
@@ -14,34 +14,7 @@ use Rattle.marked_history.specs.Lives.{with_caller, called_in, IsRightCall, Begi
 use Rattle.marked_history.specs.Marks.{Mark, made}
 use Rattle.marked_history.specs.Waiting.{Running}
 use Rattle.hsm_replay.specs.Keeping.{HearsLast}
-use Rattle.hsm_replay.proofs.Kept.{all_then}
-
--- ---- lists
-
-no_element : {A : Type 0} (before : List A) (x : A) (rest : List A) → [] ≡ before ++ x ∷ rest → ⊥
-no_element [] x rest is = let wrong : [] ≡ x ∷ rest = is in cc wrong
-no_element (b ∷ before) x rest is = let wrong : [] ≡ b ∷ (before ++ x ∷ rest) = is in cc wrong
-
--- an element of two lists is one of the first or of the second
-abbrev IsInEither : {A : Type 0} → (one two first : List A) → A → (rest : List A) → Type 0
-IsInEither {A = A} one two first x rest = ((more : List A) × (one ≡ first ++ x ∷ more)) ⊎ ((more : List A) × (first ≡ one ++ more) × (two ≡ more ++ x ∷ rest))
-
-behind_one : {A : Type 0} (a b : A) (one two first : List A) (x : A) (rest : List A) → a ≡ b → IsInEither one two first x rest → IsInEither (a ∷ one) two (b ∷ first) x rest
-behind_one a b one two first x rest same (inl within) = let is : a ∷ one ≡ b ∷ (first ++ x ∷ within.0) = cc (same, within.1) in inl (within.0, is)
-behind_one a b one two first x rest same (inr behind) = let is : b ∷ first ≡ a ∷ (one ++ behind.0) = cc (same, behind.1) in inr (behind.0, is, behind.2)
-
-in_either : {A : Type 0} (one two first : List A) (x : A) (rest : List A) → one ++ two ≡ first ++ x ∷ rest → IsInEither one two first x rest
-in_either [] two first x rest is = inr (first, refl, is)
-in_either (a ∷ one) two [] x rest is =
-    let both : a ∷ (one ++ two) ≡ x ∷ rest = is in
-    let same : a ≡ x = cc both in
-    let here : a ∷ one ≡ x ∷ one = cc same in
-    inl (one, here)
-in_either (a ∷ one) two (b ∷ first) x rest is =
-    let both : a ∷ (one ++ two) ≡ b ∷ (first ++ x ∷ rest) = is in
-    let same : a ≡ b = cc both in
-    let tail : one ++ two ≡ first ++ x ∷ rest = cc both in
-    behind_one a b one two first x rest same (in_either one two first x rest tail)
+use Rattle.marked_history.proofs.Lists.{all_then, none_there, IsInEither, in_either}
 
 -- ---- who has called
 
@@ -53,7 +26,7 @@ called_then (m ∷ one) two called = called_then one two (with_caller m.by calle
 
 module _ (limits : Numbers) (called : Running) (before : List Mark) where
   pub none_begins : BeginsRight limits called before []
-  none_begins first daemon sid call reply rest is = absurd (no_element first (made daemon sid call reply) rest is)
+  none_begins first daemon sid call reply rest is = absurd (none_there first (made daemon sid call reply) rest is)
 
   -- of one mark
   one_right : (m : Mark) → ((daemon : Daemon) (sid : Sid) (call : DmCall) (reply : DmReply) → m ≡ made daemon sid call reply → IsRightCall limits called before daemon call) → BeginsRight limits called before (m ∷ [])
@@ -64,7 +37,7 @@ module _ (limits : Numbers) (called : Running) (before : List Mark) where
   one_right m right (x ∷ first) daemon sid call reply rest is =
       let both : m ∷ [] ≡ x ∷ (first ++ made daemon sid call reply ∷ rest) = is in
       let none : [] ≡ first ++ made daemon sid call reply ∷ rest = cc both in
-      absurd (no_element first (made daemon sid call reply) rest none)
+      absurd (none_there first (made daemon sid call reply) rest none)
 
   pub no_call_begins : (m : Mark) → m.by ≡ None → BeginsRight limits called before (m ∷ [])
   no_call_begins m none = one_right m (λ daemon sid call reply is. let wrong : None ≡ Some daemon = sym none ∙ ap (λ (x : Mark). x.by) is in absurd (cc wrong))

@@ -17,8 +17,7 @@ use Rattle.hsm_core.specs.Answers.{entry_of}
 use Rattle.hsm_core.specs.Ready.{ready}
 use Rattle.hsm_core.specs.Store.{Store, state_of}
 use Rattle.hsm_core.specs.declared.store.Ready.TheVariants.{Now}
-use Rattle.hsm_system.specs.declared.daemons.Recalling.{Recalling}
-use Rattle.hsm_system.specs.declared.daemons.Migrating.{Migrating}
+use Rattle.hsm_system.specs.Running.{Recalling, Migrating}
 use Rattle.marked_history.specs.Waiting.{Running}
 use Rattle.marked_history.specs.Follows.{IsMadeBy, IsOfSettling}
 use Rattle.hsm_replay.specs.Keeping.{Shows, Keeps, LiveOn}
@@ -32,7 +31,7 @@ use Rattle.hsm_replay.proofs.ByRunning.{by_running_then}
 use Rattle.hsm_replay.specs.Turns.{HasTurned, MayResume, IsResumeOf, HaveResumed}
 use Rattle.hsm_replay.proofs.Freshness.{fresh_alone, fresh_on}
 use Rattle.hsm_replay.proofs.Joining.{made_settles}
-use Rattle.hsm_replay.proofs.Kept.{all_then}
+use Rattle.marked_history.proofs.Lists.{all_then}
 use Rattle.hsm_replay.proofs.Living.{live_then}
 use Rattle.marked_history.proofs.QuietEvents.{all_quiet_append}
 

@@ -1,5 +1,5 @@
 -- What is sealed, while drives are used and histories go on.
-use Rattle.std.proofs.Common.{◌≡◌, ◌≢◌, ◌∙◌, ◌+◌, ◌%◌, ◌<◌, ◌≤◌, ◌⊎◌, ◌∷◌, ◌++◌, [], ℕ, zero, suc, true, List, length, get_or, drop, Option, Some}
+use Rattle.std.proofs.Common.{◌≡◌, ◌≢◌, ◌∙◌, ◌+◌, ◌%◌, ◌<◌, ◌≤◌, ◌∷◌, ◌++◌, [], ℕ, zero, suc, true, List, length, get_or, drop, Option, Some}
 use Rattle.std.proofs.Common.{None, IfSome, Result, Ok, Err, inl, inr, refl, sym, ap, subst, append_assoc, append-nil, length-append, length-set}
 use Rattle.std.proofs.Common.{arith}
 use Rattle.std.specs.List.{AllByRecursion, cons_option}
@@ -31,8 +31,7 @@ use Rattle.hsm_types.specs.declared.stubs.StubEntry.{StubEntry}
 use Rattle.hsm_policy.specs.Settings.{Numbers}
 use Rattle.volume_shelf.specs.Shelf.{Copied}
 use Rattle.recall_daemon.specs.Known.{Known}
-use Rattle.hsm_system.specs.declared.daemons.Recalling.{Recalling}
-use Rattle.hsm_system.specs.declared.daemons.Migrating.{Migrating}
+use Rattle.hsm_system.specs.Running.{Recalling, Migrating}
 use Rattle.hsm_replay.specs.Acts.{CopiesTo, FetchesFrom}
 use Rattle.hsm_replay.specs.Drives.{Extends, HasGrown, HaveGrown}
 use Rattle.hsm_replay.specs.Faults.{TellsFault, IsTrue}
@@ -40,52 +39,16 @@ use Rattle.marked_history.specs.Marks.{Mark, made}
 use Rattle.hsm_replay.specs.Sealed.{seal_by, sealed_in, IsUnsealed, Gives, IsThere, IsStored, MayLack, IsLost, HearsStored, HearsLost, NeedsLost}
 use Rattle.hsm_replay.specs.Sealed.{AbortsAreRight, DamagesAreRight, Tallies, SealsAreWhole}
 use Rattle.marked_history.specs.Served.{shown, nothing_shown}
+use Rattle.marked_history.proofs.Lists.{all_weaker, all_and, all_first, Place, place}
 use Rattle.hsm_replay.specs.Systems.{drive_of, told_next}
-use Rattle.hsm_replay.proofs.Growing.{all_and, grown_count, have_grown_on, grown_at, reads_grow}
+use Rattle.hsm_replay.proofs.Growing.{grown_count, have_grown_on, grown_at, reads_grow}
 use Rattle.hsm_replay.proofs.Fetching.{set_there}
 
 -- ---- lists
 
-all_as : {A : Type 0} (P Q : A → Type 0) → ((x : A) → P x → Q x) → (xs : List A) → AllByRecursion P xs → AllByRecursion Q xs
-all_as P Q weaker [] each = tt
-all_as P Q weaker (x ∷ xs) each = (weaker x each.0, all_as P Q weaker xs each.1)
-
-all_first : {A : Type 0} (P : A → Type 0) (xs ys : List A) → AllByRecursion P (xs ++ ys) → AllByRecursion P xs
-all_first P [] ys each = tt
-all_first P (x ∷ xs) ys each = (each.0, all_first P xs ys each.1)
-
 all_or_one : {A : Type 0} (P : A → Type 0) (xs : List A) (found : Option A) → AllByRecursion P xs → IfSome found P → AllByRecursion P (xs ++ cons_option found [])
 all_or_one {A = A} P xs None each is = subst (λ (l : List A). AllByRecursion P l) (sym (append-nil xs)) each
 all_or_one P xs (Some x) each is = all_and P xs x each is
-
--- one of a list with one element more is that one, or one of the list
-abbrev Parts : {A : Type 0} → List A → A → List A → A → List A → Type 0
-Parts {A = A} xs x before y rest = ((before ≡ xs) × (y ≡ x)) ⊎ ((more : List A) × (xs ≡ before ++ y ∷ more))
-
-none_there : {A : Type 0} (before : List A) (y : A) (rest : List A) → [] ≡ before ++ y ∷ rest → ⊥
-none_there [] y rest is = let wrong : [] ≡ y ∷ rest = is in cc wrong
-none_there (b ∷ before) y rest is = let wrong : [] ≡ b ∷ (before ++ y ∷ rest) = is in cc wrong
-
-parts_behind : {A : Type 0} (a b : A) (xs before : List A) (x y : A) (rest : List A) → a ≡ b → Parts xs x before y rest → Parts (a ∷ xs) x (b ∷ before) y rest
-parts_behind a b xs before x y rest same (inl last) = inl (let is : b ∷ before ≡ a ∷ xs = cc (same, last.0) in is, last.1)
-parts_behind a b xs before x y rest same (inr within) = let is : a ∷ xs ≡ b ∷ (before ++ y ∷ within.0) = cc (same, within.1) in inr (within.0, is)
-
-parts_more : {A : Type 0} (xs : List A) (x : A) (before : List A) (y : A) (rest : List A) → xs ++ x ∷ [] ≡ before ++ y ∷ rest → Parts xs x before y rest
-parts_more [] x [] y rest is = let both : x ∷ [] ≡ y ∷ rest = is in let same : y ≡ x = cc both in inl (refl, same)
-parts_more [] x (b ∷ before) y rest is =
-    let both : x ∷ [] ≡ b ∷ (before ++ y ∷ rest) = is in
-    let none : [] ≡ before ++ y ∷ rest = cc both in
-    absurd (none_there before y rest none)
-parts_more (a ∷ xs) x [] y rest is =
-    let both : a ∷ (xs ++ x ∷ []) ≡ y ∷ rest = is in
-    let same : a ≡ y = cc both in
-    let parted : a ∷ xs ≡ y ∷ xs = cc same in
-    inr (xs, parted)
-parts_more (a ∷ xs) x (b ∷ before) y rest is =
-    let both : a ∷ (xs ++ x ∷ []) ≡ b ∷ (before ++ y ∷ rest) = is in
-    let same : a ≡ b = cc both in
-    let tail : xs ++ x ∷ [] ≡ before ++ y ∷ rest = cc both in
-    parts_behind a b xs before x y rest same (parts_more xs x before y rest tail)
 
 -- ---- entries that are sealed
 
@@ -125,7 +88,7 @@ module _ {M : Type 0} (g : drive.Ghosts M) where
       let had = was.2.objects volume o gives.2 in
       (had.0, (was.0, was.1, had.1), had.2)
 
-  there_still : (volume : ℕ) (ds es : List M) → HaveGrown g ds es → IsThere g ds volume → IsThere g es volume
+  pub there_still : (volume : ℕ) (ds es : List M) → HaveGrown g ds es → IsThere g ds volume → IsThere g es volume
   there_still volume ds es grown there =
       let is = grown_to (volume % length ds) ds es there.0 grown there.1 in
       (is.0, subst (λ (n : ℕ). slice_get es (volume % n) ≡ Some is.0) (sym (grown_count g ds es grown)) is.1, is.2.volumes.has volume ∙ there.2)
@@ -165,7 +128,7 @@ module _ {M : Type 0} (g : drive.Ghosts M) where
   pub tallies_still : (opened ds es : List M) (limits : Numbers) (marks : List Mark) → HaveGrown g ds es → Tallies g opened ds limits marks → Tallies g opened es limits marks
   tallies_still opened ds es limits marks grown tallies = record {
     grown = have_grown_on g opened ds es tallies.grown grown;
-    stored = all_as (IsStored g ds) (IsStored g es) (stored_still ds es grown) (sealed_in marks) tallies.stored;
+    stored = all_weaker (IsStored g ds) (IsStored g es) (sealed_in marks) (stored_still ds es grown) tallies.stored;
     aborts = λ before sid t reply rest is. needs_still opened ds es (shown limits nothing_shown before).recall before grown (tallies.aborts before sid t reply rest is);
     damages = λ before sid t volume object want got reply rest is o gives. let had = gave volume ds es o grown gives in tallies.damages before sid t volume object want got reply rest is had.0 had.1;
   }
@@ -220,18 +183,18 @@ module _ {M : Type 0} (g : drive.Ghosts M) where
   module _ (opened ds : List M) (limits : Numbers) (marks : List Mark) (tallies : Tallies g opened ds limits marks) where
     module _ (m : Mark) where
       aborts_more : AbortIsRight opened ds limits marks m → AbortsAreRight g opened ds limits (marks ++ m ∷ [])
-      aborts_more right before sid t reply rest is = by (parts_more marks m before (made Recall sid (Respond t (Abort 2)) reply) rest is)
+      aborts_more right before sid t reply rest is = by (place marks m before (made Recall sid (Respond t (Abort 2)) reply) rest is)
         where
-          by : Parts marks m before (made Recall sid (Respond t (Abort 2)) reply) rest → NeedsLost g opened ds (shown limits nothing_shown before).recall before
+          by : Place marks m before (made Recall sid (Respond t (Abort 2)) reply) rest → NeedsLost g opened ds (shown limits nothing_shown before).recall before
           by (inl last) = subst (λ (l : List Mark). NeedsLost g opened ds (shown limits nothing_shown l).recall l) (sym last.0) (right sid t reply last.1)
-          by (inr within) = tallies.aborts before sid t reply within.0 within.1
+          by (inr within) = tallies.aborts before sid t reply within.0 within.2
 
       damages_more : DamageIsRight ds marks m → DamagesAreRight g ds (marks ++ m ∷ [])
-      damages_more right before sid t volume object want got reply rest is o gives = by (parts_more marks m before (made Recall sid (Respond t (Media (Damaged volume object want got))) reply) rest is)
+      damages_more right before sid t volume object want got reply rest is o gives = by (place marks m before (made Recall sid (Respond t (Media (Damaged volume object want got))) reply) rest is)
         where
-          by : Parts marks m before (made Recall sid (Respond t (Media (Damaged volume object want got))) reply) rest → IsUnsealed (sealed_in before) volume object want
+          by : Place marks m before (made Recall sid (Respond t (Media (Damaged volume object want got))) reply) rest → IsUnsealed (sealed_in before) volume object want
           by (inl last) = subst (λ (l : List Mark). IsUnsealed (sealed_in l) volume object want) (sym last.0) (right sid t volume object want got reply last.1 o gives)
-          by (inr within) = tallies.damages before sid t volume object want got reply within.0 within.1 o gives
+          by (inr within) = tallies.damages before sid t volume object want got reply within.0 within.2 o gives
 
       pub tallies_more : IfSome (seal_by m.by m.entry.action) (IsStored g ds) → AbortIsRight opened ds limits marks m → DamageIsRight ds marks m → Tallies g opened ds limits (marks ++ m ∷ [])
       tallies_more stored abort damage = record {
@@ -254,7 +217,7 @@ module _ {M : Type 0} (g : drive.Ghosts M) where
 
     -- What is stored isn't damaged, where the volume's objects are told.
     pub damage_unsealed : (volume object : ℕ) (want got : Fingerprint) → IsTrue g ds (Damaged volume object want got) → (o : Objects) → Gives g ds volume o → IsUnsealed (sealed_in marks) volume object want
-    damage_unsealed volume object want got tells o gives = all_as (IsStored g ds) (λ (e : StubEntry). e ≢ entry) unlike (sealed_in marks) tallies.stored
+    damage_unsealed volume object want got tells o gives = all_weaker (IsStored g ds) (λ (e : StubEntry). e ≢ entry) (sealed_in marks) unlike tallies.stored
       where
         entry : StubEntry
         entry = entry_at (record { volume = volume; object = object }) want
@@ -276,7 +239,7 @@ module _ {M : Type 0} (g : drive.Ghosts M) where
         since = [];
         parted = sym (append-nil marks);
         others = tt;
-        unnamed = λ o gives. all_as (IsStored g ds) (λ (s : StubEntry). ((entry_place s).volume ≡ (entry_place entry).volume) × ((entry_place s).object ≡ (entry_place entry).object) → ⊥) (unlike o gives) (sealed_in marks) tallies.stored;
+        unnamed = λ o gives. all_weaker (IsStored g ds) (λ (s : StubEntry). ((entry_place s).volume ≡ (entry_place entry).volume) × ((entry_place s).object ≡ (entry_place entry).object) → ⊥) (sealed_in marks) (unlike o gives) tallies.stored;
         lacked = λ o gives.
             let had = gave (entry_place entry).volume opened ds o tallies.grown gives in
             let longer : length o ≡ length had.0 + length had.2.0 = ap (λ (l : Objects). length l) had.2.1 ∙ length-append had.0 had.2.0 in

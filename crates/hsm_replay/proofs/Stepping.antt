@@ -27,8 +27,7 @@ use Rattle.recall_daemon.specs.Known as recall
 use Rattle.recall_daemon.specs.Machine as recaller
 use Rattle.migrate_daemon.specs.Known as migrate
 use Rattle.migrate_daemon.specs.Machine as migrator
-use Rattle.hsm_system.specs.declared.daemons.Recalling.{Recalling}
-use Rattle.hsm_system.specs.declared.daemons.Migrating.{Migrating}
+use Rattle.hsm_system.specs.Running.{Recalling, Migrating}
 use Rattle.hsm_system.specs.declared.daemons.Next.TheVariants.{Hears}
 use Rattle.hsm_replay.specs.Drives.{HaveGrown}
 use Rattle.hsm_replay.specs.Faults.{fault_in, faults_in, IsApart, IsTrue, AreTrue}

@@ -2,7 +2,7 @@
 use Rattle.std.proofs.Common.{◌≡◌, refl, sym, ap, subst}
 use Rattle.hsm_types.specs.declared.daemons.Heard.{Heard}
 use Rattle.deeds.specs.Lives.{untold}
-use Rattle.hsm_system.specs.Machines.{untold_next}
+use Rattle.hsm_system.specs.Running.{untold_next}
 use Rattle.hsm_system.specs.declared.daemons.Next.{Next}
 use Rattle.hsm_system.specs.declared.daemons.Next.TheVariants.{Hears, Waits}
 use Rattle.hsm_replay.specs.Systems.{told_next}

@@ -23,7 +23,7 @@ use Rattle.marked_history.specs.Served.{Shown, nothing_shown, learned, shown, Ma
 use Rattle.marked_history.specs.Settling.{IsToldNoMore, IsTurnedAway}
 use Rattle.marked_history.specs.Waiting.{no_more}
 use Rattle.hsm_replay.specs.Resting.{EndsInTurns}
-use Rattle.hsm_replay.proofs.Kept.{all_weaker}
+use Rattle.marked_history.proofs.Lists.{all_weaker}
 
 -- ---- the last entry of a turn
 

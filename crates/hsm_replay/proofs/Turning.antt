@@ -39,8 +39,7 @@ use Rattle.migrate_daemon.specs.Known as migrate
 use Rattle.migrate_daemon.specs.Machine as migrator
 use Rattle.migrate_daemon.specs.Passes.{Pass}
 use Rattle.hsm_policy.specs.Settings.{Numbers}
-use Rattle.hsm_system.specs.declared.daemons.Recalling.{Recalling}
-use Rattle.hsm_system.specs.declared.daemons.Migrating.{Migrating}
+use Rattle.hsm_system.specs.Running.{Recalling, Migrating}
 use Rattle.hsm_system.specs.declared.stops.Stop.{Stop}
 use Rattle.hsm_system.specs.Acts.{Serves}
 use Rattle.hsm_replay.specs.Acts.{Performs}

@@ -12,8 +12,7 @@ use Rattle.hsm_types.specs.declared.daemons.Heard.TheVariants.{Nothing}
 use Rattle.script_text.specs.declared.lines.Line.TheVariants.{Start, Kill}
 use Rattle.hsm_system.specs.Acts.{MovesOn}
 use Rattle.hsm_system.specs.Systems.{System, hearing}
-use Rattle.hsm_system.specs.declared.daemons.Recalling.{Recalling}
-use Rattle.hsm_system.specs.declared.daemons.Migrating.{Migrating}
+use Rattle.hsm_system.specs.Running.{Recalling, Migrating}
 use Rattle.hsm_system.specs.declared.stops.Stop.{Stop}
 use Rattle.marked_history.specs.Settling.{running_by}
 use Rattle.marked_history.specs.Waiting.{Running}

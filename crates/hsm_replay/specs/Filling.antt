@@ -8,7 +8,7 @@ use Rattle.hsm_types.specs.declared.daemons.Heard.{Heard}
 use Rattle.hsm_types.specs.declared.daemons.Heard.TheVariants.{Copied}
 use Rattle.hsm_types.specs.declared.media.CopyRefusal.TheVariants as copying
 use Rattle.hsm_policy.specs.Settings.{Numbers}
-use Rattle.hsm_system.specs.declared.daemons.Migrating.{Migrating}
+use Rattle.hsm_system.specs.Running.{Migrating}
 use Rattle.hsm_replay.specs.Systems.{drive_of, told_next}
 
 -- where it is a copy, it is one to that volume

@@ -10,7 +10,7 @@ use Rattle.plain_model.specs.declared.entries.Answer.TheVariants.{Dm as Told}
 use Rattle.plain_model.specs.declared.entries.Entry.{Entry}
 use Rattle.hsm_core.specs.Answers.{entry_of}
 use Rattle.migrate_daemon.specs.Known.{knows_by}
-use Rattle.hsm_system.specs.declared.daemons.Migrating.{Migrating}
+use Rattle.hsm_system.specs.Running.{Migrating}
 use Rattle.hsm_replay.specs.Systems.{Run, told_next}
 
 -- where it runs it may, by all that it was told

@@ -20,8 +20,7 @@ use Rattle.hsm_policy.specs.Settings.{Numbers}
 use Rattle.daemon_session.specs.Seats.{Seat, no_seat, all_marked, NeedsNone}
 use Rattle.recall_daemon.specs.Known as recall
 use Rattle.migrate_daemon.specs.Known as migrate
-use Rattle.hsm_system.specs.declared.daemons.Recalling.{Recalling}
-use Rattle.hsm_system.specs.declared.daemons.Migrating.{Migrating}
+use Rattle.hsm_system.specs.Running.{Recalling, Migrating}
 use Rattle.hsm_system.specs.declared.stops.Stop.{Stop}
 use Rattle.hsm_replay.specs.Drives.{HaveGrown}
 use Rattle.hsm_replay.specs.Faults.{faults_in, IsApart, IsTrue, AreTrue}

@@ -1,4 +1,8 @@
 pub mod Systems
+pub mod Parts
+pub mod Stopped
+pub mod Lines
+pub mod Deeds
 pub mod Faults
 pub mod Acts
 pub mod Steps

@@ -23,7 +23,7 @@ use Rattle.migrate_daemon.specs.Shares.{share}
 use Rattle.marked_history.specs.Lives.{IsLast}
 use Rattle.marked_history.specs.Marks.{Mark, made}
 use Rattle.marked_history.specs.Passing.{AreOfPass, IsReadAtLast, IsFit, table_told}
-use Rattle.hsm_system.specs.declared.daemons.Migrating.{Migrating}
+use Rattle.hsm_system.specs.Running.{Migrating}
 use Rattle.hsm_replay.specs.Systems.{told_next}
 use Rattle.hsm_replay.specs.Filling.{AllFull}
 

@@ -22,8 +22,7 @@ use Rattle.daemon_session.specs.declared.events.Kept.{Kept}
 use Rattle.hsm_policy.specs.Settings.{Numbers}
 use Rattle.recall_daemon.specs.Known as recall
 use Rattle.migrate_daemon.specs.Known as migrate
-use Rattle.hsm_system.specs.declared.daemons.Recalling.{Recalling}
-use Rattle.hsm_system.specs.declared.daemons.Migrating.{Migrating}
+use Rattle.hsm_system.specs.Running.{Recalling, Migrating}
 use Rattle.hsm_system.specs.Asking.{RecallAsks, MigrateAsks}
 use Rattle.hsm_system.specs.Systems.{Rests}
 use Rattle.hsm_replay.specs.Freshness.{StaysFresh}

@@ -10,5 +10,7 @@ mod settling;
 mod threads;
 
 pub use hsm_system::Stop;
-pub use laws::seals_are_whole;
+pub use laws::{
+    follows_on, follows_so, follows_whole, runs_by_lines, runs_on, seals_are_whole, stops_on,
+};
 pub use replay::Replay;

@@ -1,5 +1,5 @@
 //! A store with its daemons and its drives, and the steps that daemons take on them.
-ghost use Rattle.std.specs.Prelude.{◌≡◌, ◌<◌, ◌^◌, ◌↔◌, IsTrue, length, None, IfErr, OnOk};
+ghost use Rattle.std.specs.Prelude.{◌≡◌, ◌<◌, ◌^◌, ◌↔◌, ◌∷◌, [], IsTrue, length, None, IfErr, OnOk};
 ghost use Rattle.std.specs.List.{AllByRecursion};
 ghost use Rattle.hsm_core.specs.Kept.{IsKept};
 ghost use Rattle.hsm_core.specs.Ready.{ready};
@@ -8,7 +8,11 @@ ghost use Rattle.hsm_types.specs.Callers.{IsCallerNumber};
 ghost use Rattle.marked_history.specs.Follows.{IsOfSettling, IsStepOf};
 ghost use Rattle.hsm_system.specs.Asking.{MigrateIsRight, RecallIsRight};
 ghost use Rattle.hsm_system.specs.Systems.{Rests};
+ghost use Rattle.deeds.specs.Deeds.{Kills, Refreshes, Starts};
+ghost use Rattle.hsm_replay.specs.Deeds.{ByDeeds, IsResumeCut, MayResumeBy, RunsBy};
 ghost use Rattle.hsm_replay.specs.Keeping.{Moves};
+ghost use Rattle.hsm_replay.specs.Parts.{IsStep};
+ghost use Rattle.hsm_replay.specs.Stopped.{IsStepCut};
 ghost use Rattle.hsm_replay.specs.Steps.{Steps, Halts};
 ghost use Rattle.hsm_replay.specs.Systems.{running, started, killed, refreshed};
 ghost use Rattle.hsm_replay.specs.Turns.{MayResume};
@@ -64,25 +68,29 @@ impl<D: Disk, M: Drive> Replay<D, M> {
 
     /// Starts the daemon, which hears `Heard::Nothing` first. One that runs goes on as it is. It takes no memory.
     pub fn start(&mut self, alloc: Global, daemon: Daemon)
-        ensures { self.new ≡ started daemon self.old }
+        ensures started { self.new ≡ started daemon self.old }
+        ensures deeds { RunsBy M.Drive (Starts daemon ∷ []) self.old self.new }
     {
         self.system.start(alloc, daemon);
     }
 
     /// Ends the daemon where it is, with what it would have heard next. Its session stays. It takes no memory.
     pub fn kill(&mut self, daemon: Daemon)
-        ensures { self.new ≡ killed daemon self.old }
+        ensures killed { self.new ≡ killed daemon self.old }
+        ensures deeds { RunsBy M.Drive (Kills daemon ∷ []) self.old self.new }
     {
         self.system.kill(daemon);
     }
 
     /// Takes a step of the daemon, where it runs: its machine hears what came of its last act and gives another, which is performed. What is heard of
-    /// that the machine hears in the next step. After an error it hears `Heard::Nothing`, and may be given its next step.
+    /// that the machine hears in the next step. After an error it hears `Heard::Nothing`, and may be given its next step. `Stop::Disk` is answered exactly where
+    /// its call was answered with a fault of the disk, also by a store that was closed before, which is left as it is.
     pub fn step(&mut self, alloc: Global, daemon: Daemon) -> Result<(), Stop>
         ensures stepped { OnOk result (Steps D.Disk M.Drive daemon self.old self.new) }
         ensures stopped { IfErr result (λ why. Halts D.Disk M.Drive daemon self.old why self.new) }
         ensures moves { Moves D.Disk M.Drive (IsStepOf daemon) result self.old self.new }
         ensures runs { running self.new ≡ running self.old }
+        ensures deeds { ByDeeds M.Drive (λ done. IsStep daemon) (IsStepCut daemon) result self.old self.new }
     {
         self.step_of(alloc, daemon)
     }
@@ -115,7 +123,8 @@ impl<D: Disk, M: Drive> Replay<D, M> {
 
     /// Migration may begin one pass by `high` from here on, by what it is told of the space from here on.
     pub(crate) fn refresh(&mut self)
-        ensures { self.new ≡ refreshed self.old }
+        ensures refreshed { self.new ≡ refreshed self.old }
+        ensures deeds { RunsBy M.Drive (Refreshes ∷ []) self.old self.new }
     {
         self.system.refresh();
     }
@@ -149,6 +158,7 @@ impl<D: Disk, M: Drive> Replay<D, M> {
         ensures moves { Moves D.Disk M.Drive (AllByRecursion IsOfSettling) result self.old self.new }
         ensures resumed { OnOk result (MayResume caller self.old self.new) }
         ensures runs { running self.new ≡ running self.old }
+        ensures deeds { ByDeeds M.Drive (λ done. MayResumeBy caller) (IsResumeCut caller) result self.old self.new }
     {
         if !self.is_ready(caller) {
             return Ok(());

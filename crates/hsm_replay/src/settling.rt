@@ -3,8 +3,11 @@ ghost use Rattle.std.specs.Prelude.{◌≡◌, ◌≤◌, length, drop, true, If
 ghost use Rattle.std.specs.List.{AllByRecursion, list_all};
 ghost use Rattle.hsm_types.specs.Callers.{IsCallerNumber};
 ghost use Rattle.marked_history.specs.Follows.{IsMadeBy, IsOfSettling};
+ghost use Rattle.hsm_replay.specs.Deeds.{AreResumesCutIn, AreResumesOf, ByDeeds, IsResumeCut, IsRoundOf, MayResumeBy};
 ghost use Rattle.hsm_replay.specs.Freshness.{StaysFresh};
 ghost use Rattle.hsm_replay.specs.Keeping.{Moves};
+ghost use Rattle.hsm_replay.specs.Parts.{IsLeft, IsSettle, IsTurn};
+ghost use Rattle.hsm_replay.specs.Stopped.{IsLeftCut, IsRoundCut, IsSettleCut, IsTurnCut};
 ghost use Rattle.hsm_system.specs.Systems.{Rests};
 ghost use Rattle.marked_history.specs.Quiet.{is_quiet};
 ghost use Rattle.hsm_replay.specs.Resting.{EndsMarked, IsSettledIn, LeadsOn};
@@ -30,6 +33,7 @@ impl<D: Disk, M: Drive> Replay<D, M> {
         ensures settled { OnOk result (IsSettled self.old self.new) }
         ensures settles { LeadsOn M.Drive (AllByRecursion IsOfSettling) (IsSettledIn self.new) result self.old self.new }
         ensures runs { running self.new ≡ running self.old }
+        ensures deeds { ByDeeds M.Drive (λ done. IsSettle is_quiet) (IsSettleCut is_quiet) result self.old self.new }
     {
         self.refresh();
         loop {
@@ -48,6 +52,7 @@ impl<D: Disk, M: Drive> Replay<D, M> {
         ensures quiet { IfOk result (λ quiet. quiet ≡ list_all is_quiet (drop (length self.old.system.store.history) self.new.system.store.history)) }
         ensures ends { IfOk result (λ quiet. quiet ≡ true → EndsMarked M.Drive self.old self.new) }
         ensures runs { running self.new ≡ running self.old }
+        ensures deeds { ByDeeds M.Drive IsRoundOf (IsRoundCut is_quiet) result self.old self.new }
     {
         let before = self.entries();
         self.turn(alloc, Daemon::Recall)?;
@@ -64,6 +69,7 @@ impl<D: Disk, M: Drive> Replay<D, M> {
         ensures moves { Moves D.Disk M.Drive (AllByRecursion (IsMadeBy daemon)) result self.old self.new }
         ensures turned { OnOk result (HasTurned daemon self.old self.new) }
         ensures runs { running self.new ≡ running self.old }
+        ensures deeds { ByDeeds M.Drive (λ done. IsTurn daemon) (IsTurnCut daemon) result self.old self.new }
     {
         self.rest(alloc, daemon)?;
         self.whole_turn(alloc, daemon)
@@ -75,6 +81,7 @@ impl<D: Disk, M: Drive> Replay<D, M> {
         ensures moves { Moves D.Disk M.Drive (AllByRecursion (IsMadeBy daemon)) result self.old self.new }
         ensures turned { OnOk result (HasTurned daemon self.old self.new) }
         ensures runs { running self.new ≡ running self.old }
+        ensures deeds { ByDeeds M.Drive (λ done. IsTurn daemon) (IsTurnCut daemon) result self.old self.new }
     {
         self.asks();
         self.step(alloc, daemon)?;
@@ -87,6 +94,7 @@ impl<D: Disk, M: Drive> Replay<D, M> {
         ensures rests { OnOk result (Rests daemon self.new.system) }
         ensures goes { OnOk result (GoesInTurn daemon self.old self.new) }
         ensures runs { running self.new ≡ running self.old }
+        ensures deeds { ByDeeds M.Drive (λ done. IsLeft daemon) (IsLeftCut daemon) result self.old self.new }
     {
         while !self.rests(daemon) {
             self.entries();
@@ -100,6 +108,7 @@ impl<D: Disk, M: Drive> Replay<D, M> {
         ensures moves { Moves D.Disk M.Drive (AllByRecursion IsOfSettling) result self.old self.new }
         ensures resumed { OnOk result (HaveResumed self.old self.new) }
         ensures runs { running self.new ≡ running self.old }
+        ensures deeds { ByDeeds M.Drive (λ done. AreResumesOf) AreResumesCutIn result self.old self.new }
     {
         for number in 1..u64::from(CALLERS) + 1 {
             self.resume_at(alloc, number)?;
@@ -113,6 +122,7 @@ impl<D: Disk, M: Drive> Replay<D, M> {
         ensures moves { Moves D.Disk M.Drive (AllByRecursion IsOfSettling) result self.old self.new }
         ensures resumed { OnOk result (MayResume number self.old self.new) }
         ensures runs { running self.new ≡ running self.old }
+        ensures deeds { ByDeeds M.Drive (λ done. MayResumeBy number) (IsResumeCut number) result self.old self.new }
     {
         let Some(caller) = CallerId::new(number) else {
             unreachable!()

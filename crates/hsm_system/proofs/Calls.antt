@@ -2,6 +2,7 @@
 use Rattle.std.proofs.Common.{◌≡◌, ◌∙◌, ◌∷◌, ◌++◌, [], true, false, inl, inr, sym, ap, subst}
 use Rattle.disk_model.specs.declared.device.Disk as disk
 use Rattle.hsm_types.specs.declared.daemons.Daemon.{Daemon}
+use Rattle.hsm_types.specs.declared.daemons.Heard.{Heard}
 use Rattle.hsm_types.specs.declared.daemons.Heard.TheVariants as heard
 use Rattle.hsm_types.specs.declared.daemons.Heard.TheVariants.{Nothing}
 use Rattle.hsm_types.specs.declared.dm.DmCall.{DmCall}
@@ -42,9 +43,15 @@ module _ {D : Type 0} (g : disk.Ghosts D) (old : Store D) (sid : Sid) (call : Dm
   told_stopped stop.Memory new (inr (inr (inl failed))) = let wrong : Told (Refused dm.Memory) ≡ Told (Refused dm.Disk) = failed.answer in cc wrong
   told_stopped stop.Memory new (inr (inr (inr done))) = let wrong : true ≡ false = own_reply old sid call (Refused dm.Memory) done.answer in cc wrong
 
-module _ {D : Type 0} (g : disk.Ghosts D) (daemon : Daemon) (sid : Sid) (call : DmCall) (reply : DmReply) (old left new : System D) (made : IsCall g sid call reply old left) where
-  pub answers : IsServed reply → new ≡ hearing daemon (heard.Dm reply) left → Answers g daemon sid call old new
-  answers served hears = let kept = told_served g old.store sid call reply left.store made.told served in (reply, left, record { made = made; served = served; added = kept.0; still = kept.1 }, hears)
+module _ {D : Type 0} (g : disk.Ghosts D) (daemon : Daemon) (sid : Sid) (call : DmCall) (reply : DmReply) (here old : System D) (same : here ≡ old) (store : Store D) (made : IsCall g sid call reply here (record here { store = store })) (new : System D) where
+  pub answers : (told : Heard) → (told ≡ heard.Dm reply) × IsServed reply → new ≡ hearing daemon told (record here { store = store }) → Answers g daemon sid call old new
+  answers told is hears = subst (λ (s : System D). Answers g daemon sid call s new) same (
+      let kept = told_served g here.store sid call reply store made.told is.1 in
+      (reply, record here { store = store }, record { made = made; served = is.1; added = kept.0; still = kept.1 }, hears ∙ ap (λ (h : Heard). hearing daemon h (record here { store = store })) is.0)
+      )
 
-  pub stops_for : (why : Stop) → reply ≡ reply_of why → new ≡ hearing daemon Nothing left → StopsFor g daemon sid call why old new
-  stops_for why is hears = let here = subst (λ r. IsCall g sid call r old left) is made in (left, record { made = here; kept = told_stopped g old.store sid call why left.store here.told }, hears)
+  pub stops_for : (why : Stop) → reply ≡ reply_of why → new ≡ hearing daemon Nothing (record here { store = store }) → StopsFor g daemon sid call why old new
+  stops_for why is hears = subst (λ (s : System D). StopsFor g daemon sid call why s new) same (
+      let told = subst (λ (r : DmReply). IsCall g sid call r here (record here { store = store })) is made in
+      (record here { store = store }, record { made = told; kept = told_stopped g here.store sid call why store told.told }, hears)
+      )

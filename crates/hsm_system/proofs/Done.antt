@@ -1,5 +1,5 @@
 -- What an event comes to that no daemon makes.
-use Rattle.std.proofs.Common.{◌≡◌, ◌≢◌, ◌∙◌, ◌+◌, ◌≤◌, ℕ, true, false, Option, Some, None, Result, Ok, Err, OnOk, IfErr, refl, sym, ap}
+use Rattle.std.proofs.Common.{◌≡◌, ◌≢◌, ◌∙◌, ◌+◌, ◌≤◌, ℕ, true, false, Option, Some, None, Result, Ok, Err, OnOk, IfErr, refl, sym, ap, subst}
 use Rattle.std.specs.Prelude.{IfSome, IsOk, if◌then◌else◌}
 use Rattle.disk_model.specs.declared.device.Disk as disk
 use Rattle.hsm_types.specs.declared.calls.CallRefusal.TheVariants as refusal
@@ -26,7 +26,7 @@ use Rattle.hsm_core.specs.Answers.{IsAnswer}
 use Rattle.hsm_core.specs.Crashes.{IsSafeNow}
 use Rattle.hsm_core.specs.Outcomes.{is_abort, is_aborted, IfAborted}
 use Rattle.hsm_core.specs.Store.{Store, KeepsRoom}
-use Rattle.hsm_system.specs.Events.{IsDone, Keeps, action_of, actor_of}
+use Rattle.hsm_system.specs.Events.{IsDone, IsSure, Keeps, action_of, actor_of, room_of}
 use Rattle.hsm_system.specs.Stops.{reply_of, call_reply_of, stop_answer, IsServed}
 use Rattle.hsm_system.specs.Systems.{System}
 use Rattle.hsm_system.specs.declared.events.Event.{Event}
@@ -71,28 +71,27 @@ acts_of (event.Resume caller) = tt
 acts_of (event.Dm sid call) = tt
 acts_of event.Commit = tt
 
-module _ {D : Type 0} (g : disk.Ghosts D) (old : System D) (store : Store D) (actor : Actor) (action : Action) (given : Answer) (acts : Acts actor action) (answers : IsAnswer g old.store actor action given store) where
-  abbrev pub left : System D
-  left = record old { store = store }
+module _ {D : Type 0} (g : disk.Ghosts D) (here old : System D) (same : here ≡ old) (store : Store D) (actor : Actor) where
+  module _ (action : Action) (given : Answer) (acts : Acts actor action) (answers : IsAnswer g here.store actor action given store) where
+    goes_on : ((why : Stop) → given ≢ stop_answer why action) → IsDone g {T = Unit {0}} actor action (Ok tt) old (record here { store = store })
+    goes_on goes = subst (λ (s : System D). IsDone g {T = Unit {0}} actor action (Ok tt) s (record here { store = store })) same
+        (record { given = given; answer = answers; rest = refl; goes = goes; stops = tt; kept = event_kept g here.store actor action given store acts answers goes; runs = event_runs g here.store actor action given store acts (Ok tt) answers goes tt })
 
-  goes_on : ((why : Stop) → given ≢ stop_answer why action) → IsDone g {T = Unit {0}} actor action (Ok tt) old left
-  goes_on goes = record { given = given; answer = answers; rest = refl; goes = goes; stops = tt; kept = event_kept g old.store actor action given store acts answers goes; runs = event_runs g old.store actor action given store acts (Ok tt) answers goes tt }
+    stopped : (why : Stop) → given ≡ stop_answer why action → IsDone g {T = Unit {0}} actor action (Err why) old (record here { store = store })
+    stopped why is = subst (λ (s : System D). IsDone g {T = Unit {0}} actor action (Err why) s (record here { store = store })) same
+        (record { given = given; answer = answers; rest = refl; goes = tt; stops = is; kept = tt; runs = event_runs g here.store actor action given store acts (Err why) answers tt is })
 
-  stopped : (why : Stop) → given ≡ stop_answer why action → IsDone g {T = Unit {0}} actor action (Err why) old left
-  stopped why is = record { given = given; answer = answers; rest = refl; goes = tt; stops = is; kept = tt; runs = event_runs g old.store actor action given store acts (Err why) answers tt is }
-
-module _ {D : Type 0} (g : disk.Ghosts D) (old : System D) (store : Store D) (actor : Actor) where
   -- it was answered as a caller is
-  pub replied : (action : Action) (reply : Reply) → Acts actor action → IsOfCaller action → IsAnswer g old.store actor action (Replied reply) store → (result : Result (Unit {0}) Stop)
-      → OnOk result ((reply ≢ calls.Refused refusal.Memory) × (reply ≢ calls.Refused refusal.Disk)) → IfErr result (λ why. reply ≡ call_reply_of why) → IsDone g actor action result old (record old { store = store })
-  replied action reply acts of answers (Ok tt) ok err = goes_on g old store actor action (Replied reply) acts answers (replied_goes reply action of ok)
-  replied action reply acts of answers (Err why) ok err = stopped g old store actor action (Replied reply) acts answers why (ap (λ (r : Reply). Replied r) err ∙ sym (caller_stop why action of))
+  pub replied : (action : Action) (reply : Reply) → Acts actor action → IsOfCaller action → IsAnswer g here.store actor action (Replied reply) store → (result : Result (Unit {0}) Stop)
+      → OnOk result ((reply ≢ calls.Refused refusal.Memory) × (reply ≢ calls.Refused refusal.Disk)) → IfErr result (λ why. reply ≡ call_reply_of why) → IsDone g actor action result old (record here { store = store })
+  replied action reply acts of answers (Ok tt) ok err = goes_on action (Replied reply) acts answers (replied_goes reply action of ok)
+  replied action reply acts of answers (Err why) ok err = stopped action (Replied reply) acts answers why (ap (λ (r : Reply). Replied r) err ∙ sym (caller_stop why action of))
 
   -- or as a session is
-  pub told : (asked : DmCall) (reply : DmReply) → Acts actor (Dm asked) → IsAnswer g old.store actor (Dm asked) (Told reply) store → (result : Result (Unit {0}) Stop)
-      → OnOk result (IsServed reply) → IfErr result (λ why. reply ≡ reply_of why) → IsDone g actor (Dm asked) result old (record old { store = store })
-  told asked reply acts answers (Ok tt) ok err = goes_on g old store actor (Dm asked) (Told reply) acts answers (told_goes reply asked ok)
-  told asked reply acts answers (Err why) ok err = stopped g old store actor (Dm asked) (Told reply) acts answers why (ap (λ (r : DmReply). Told r) err ∙ session_stop why asked)
+  pub told : (asked : DmCall) (reply : DmReply) → Acts actor (Dm asked) → IsAnswer g here.store actor (Dm asked) (Told reply) store → (result : Result (Unit {0}) Stop)
+      → OnOk result (IsServed reply) → IfErr result (λ why. reply ≡ reply_of why) → IsDone g actor (Dm asked) result old (record here { store = store })
+  told asked reply acts answers (Ok tt) ok err = goes_on (Dm asked) (Told reply) acts answers (told_goes reply asked ok)
+  told asked reply acts answers (Err why) ok err = stopped (Dm asked) (Told reply) acts answers why (ap (λ (r : DmReply). Told r) err ∙ session_stop why asked)
 
 -- ---- what an event keeps
 
@@ -116,17 +115,20 @@ done_sure reply (Ok tt) is stopped = refl
 done_sure reply (Err stop.Disk) is stopped = let wrong : Done ≡ reply_of stop.Disk = sym is ∙ stopped in cc wrong
 done_sure reply (Err stop.Memory) is stopped = let wrong : Done ≡ reply_of stop.Memory = sym is ∙ stopped in cc wrong
 
-module _ {D : Type 0} (g : disk.Ghosts D) (old new : Store D) (safe : IsSafeNow g new) (keeps : KeepsRoom old new) (result : Result (Unit {0}) Stop) where
-  pub issue_keeps : (caller : ℕ) (call : Call) → old.spare ≤ new.spare + 3 → Keeps g (event.Issue caller call) result old new
-  issue_keeps caller call room = record { sure = λ is working. absurd is; safe = safe; room = room; keeps = keeps }
+module _ {D : Type 0} (g : disk.Ghosts D) (here old : System D) (same : here ≡ old) (new : Store D) (result : Result (Unit {0}) Stop) (safe : IsSafeNow g new) (keeps : KeepsRoom here.store new) where
+  kept : (asked : Event) → (IsSure asked here.store → here.store.files.failed ≡ false → IsOk result) → here.store.spare ≤ new.spare + room_of asked here.store → Keeps g asked result old.store new
+  kept asked sure room = subst (λ (s : System D). Keeps g asked result s.store new) same (record { sure = sure; safe = safe; room = room; keeps = keeps })
 
-  pub resume_keeps : (caller : ℕ) (reply : Reply) → old.spare ≤ new.spare + (if is_aborted (waiting old.tables caller) then 0 else 2) → (old.files.failed ≡ false → IfAborted (waiting old.tables caller) (λ why. reply ≡ calls.Refused why))
-      → IfErr result (λ why. reply ≡ call_reply_of why) → Keeps g (event.Resume caller) result old new
-  resume_keeps caller reply room aborts stopped = record { sure = λ is working. resume_sure (waiting old.tables caller) reply result is (aborts working) stopped; safe = safe; room = room; keeps = keeps }
+  pub issue_keeps : (caller : ℕ) (call : Call) → here.store.spare ≤ new.spare + 3 → Keeps g (event.Issue caller call) result old.store new
+  issue_keeps caller call room = kept (event.Issue caller call) (λ is working. absurd is) room
 
-  pub dm_keeps : (sid : Sid) (call : DmCall) (reply : DmReply) → old.spare ≤ new.spare + entries_for old.tables.sessions sid call → (is_due old.tables.sessions sid call ≡ true → old.files.failed ≡ false → reply ≡ Done)
-      → IfErr result (λ why. reply ≡ reply_of why) → Keeps g (event.Dm sid call) result old new
-  dm_keeps sid call reply room responds stopped = record { sure = λ is working. done_sure reply result (responds is working) stopped; safe = safe; room = room; keeps = keeps }
+  pub resume_keeps : (caller : ℕ) (reply : Reply) → here.store.spare ≤ new.spare + (if is_aborted (waiting here.store.tables caller) then 0 else 2)
+      → (here.store.files.failed ≡ false → IfAborted (waiting here.store.tables caller) (λ why. reply ≡ calls.Refused why)) → IfErr result (λ why. reply ≡ call_reply_of why) → Keeps g (event.Resume caller) result old.store new
+  resume_keeps caller reply room aborts stopped = kept (event.Resume caller) (λ is working. resume_sure (waiting here.store.tables caller) reply result is (aborts working) stopped) room
 
-  pub commit_keeps : old.spare ≤ new.spare + 1 → Keeps g event.Commit result old new
-  commit_keeps room = record { sure = λ is working. absurd is; safe = safe; room = room; keeps = keeps }
+  pub dm_keeps : (sid : Sid) (call : DmCall) (reply : DmReply) → here.store.spare ≤ new.spare + entries_for here.store.tables.sessions sid call
+      → (is_due here.store.tables.sessions sid call ≡ true → here.store.files.failed ≡ false → reply ≡ Done) → IfErr result (λ why. reply ≡ reply_of why) → Keeps g (event.Dm sid call) result old.store new
+  dm_keeps sid call reply room responds stopped = kept (event.Dm sid call) (λ is working. done_sure reply result (responds is working) stopped) room
+
+  pub commit_keeps : here.store.spare ≤ new.spare + 1 → Keeps g event.Commit result old.store new
+  commit_keeps room = kept event.Commit (λ is working. absurd is) room

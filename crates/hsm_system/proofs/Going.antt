@@ -20,7 +20,9 @@ use Rattle.hsm_core.specs.Answers.{IsAnswer, entry_of, memory_of, own_answer}
 use Rattle.hsm_core.specs.Store.{Store, state_of}
 use Rattle.hsm_system.specs.declared.stops.Stop.{Stop}
 use Rattle.hsm_system.specs.declared.stops.Stop.TheVariants as stop
+use Rattle.deeds.specs.Deeds.{IsServed}
 use Rattle.hsm_system.specs.Events.{GoesOn, IsStoppedFor, Runs}
+use Rattle.hsm_system.specs.Goes.{HasClosed, StillWorks, WasClosed}
 use Rattle.hsm_system.specs.Stops.{stop_answer}
 
 or_later : (a b : Bool) → b ≡ true → (a || b) ≡ true
@@ -49,6 +51,19 @@ undone_at stop.Memory (Issue call) = refl
 undone_at stop.Memory Resume = refl
 undone_at stop.Memory (Dm asked) = refl
 undone_at stop.Memory Commit = refl
+
+-- what is done is served
+done_served : (given : Answer) → is_undone given ≡ false → IsServed given
+done_served (Replied (calls.Refused refusal.Disk)) is = let wrong : true ≡ false = is in cc wrong
+done_served (Replied (calls.Refused refusal.Memory)) is = let wrong : true ≡ false = is in cc wrong
+done_served (Told (told.Refused dm.Disk)) is = let wrong : true ≡ false = is in cc wrong
+done_served (Told (told.Refused dm.Memory)) is = let wrong : true ≡ false = is in cc wrong
+done_served given is = tt
+
+-- How an event ends a run, by the store alone: its entry says that the disk failed, or the store was closed before; for want of memory there is no entry.
+abbrev pub StoreEnds : {D : Type 0} → Stop → Actor → Action → Store D → Store D → Type 0
+StoreEnds stop.Disk actor action old new = (new.history ≡ old.history ++ entry_of actor action (fault_of action) ∷ []) × HasClosed old new ⊎ WasClosed old new
+StoreEnds stop.Memory actor action old new = (new.history ≡ old.history) × StillWorks old new
 
 module _ {D : Type 0} (g : disk.Ghosts D) where
   pub goes_itself : (s : Store D) → GoesOn g s s
@@ -110,6 +125,30 @@ module _ {D : Type 0} (g : disk.Ghosts D) where
     stopped_for stop.Memory (inr (inr (inl failed))) is working = absurd (fault_or_memory action (sym failed.answer ∙ is))
     stopped_for stop.Disk (inr (inr (inl failed))) is working = (failed.rose, ap has_fault failed.history ∙ fault_kept old.history (entry_of actor action (fault_of action)) (fault_is action))
     stopped_for why (inr (inr (inr done))) is working = absurd (own_is_no_stop why is done.answer)
+
+    -- where the run goes on the store works, and did before
+    pub event_works : IsAnswer g old actor action given new → ((why : Stop) → given ≢ stop_answer why action) → StillWorks old new
+    event_works (inl closed) goes = absurd (goes stop.Disk closed.answer)
+    event_works (inr (inl lacks)) goes = absurd (goes stop.Memory lacks.answer)
+    event_works (inr (inr (inl failed))) goes = absurd (goes stop.Disk failed.answer)
+    event_works (inr (inr (inr done))) goes = (done.goes.working, done.still)
+
+    -- and its answer is no fault and no want of memory
+    pub event_served : IsAnswer g old actor action given new → ((why : Stop) → given ≢ stop_answer why action) → IsServed given
+    event_served (inl closed) goes = absurd (goes stop.Disk closed.answer)
+    event_served (inr (inl lacks)) goes = absurd (goes stop.Memory lacks.answer)
+    event_served (inr (inr (inl failed))) goes = absurd (goes stop.Disk failed.answer)
+    event_served (inr (inr (inr done))) goes = done_served given (own_done (superblock_of old.opened) (state_of old) actor action given (acts, done.answer))
+
+    -- where it doesn't, why
+    pub event_ends : (why : Stop) → IsAnswer g old actor action given new → given ≡ stop_answer why action → StoreEnds why actor action old new
+    event_ends stop.Disk (inl closed) is = inr (closed.failed, closed.same)
+    event_ends stop.Memory (inl closed) is = absurd (fault_or_memory action (sym closed.answer ∙ is))
+    event_ends stop.Disk (inr (inl lacks)) is = absurd (fault_or_memory action (sym is ∙ lacks.answer))
+    event_ends stop.Memory (inr (inl lacks)) is = (lacks.history, (lacks.goes.working, lacks.still))
+    event_ends stop.Disk (inr (inr (inl failed))) is = inl (failed.history, (failed.goes.working, failed.failed))
+    event_ends stop.Memory (inr (inr (inl failed))) is = absurd (fault_or_memory action (sym failed.answer ∙ is))
+    event_ends why (inr (inr (inr done))) is = absurd (own_is_no_stop why is done.answer)
 
     pub event_runs : {T : Type 0} (result : Result T Stop) → IsAnswer g old actor action given new → OnOk result ((why : Stop) → given ≢ stop_answer why action) → IfErr result (λ why. given ≡ stop_answer why action) → Runs g result old new
     event_runs (Ok x) answer ok err = record { goes_on = event_goes answer; works = works_on answer ok }

@@ -2,6 +2,7 @@ pub mod Asked
 pub mod Calls
 pub mod Done
 pub mod Going
+pub mod Keeping
 pub mod Leading
 pub mod Moving
 pub mod Outcomes

@@ -32,9 +32,9 @@ outcome_fits (Copy volume handle segment bytes) (outcome.Copied other file place
     ((so.0 ∙ sym (cc at), so.1 ∙ sym (cc at)), refl)
 outcome_fits (Copy volume handle segment bytes) (outcome.Copied other file place print (Err (copying.Damaged want got))) same so =
     let at : wait.Copy volume handle segment (print_of bytes) ≡ wait.Copy other file place print = same in
-    (so ∙ sym (cc at), refl)
-outcome_fits (Copy volume handle segment bytes) (outcome.Copied other file place print (Err (copying.Failed before after))) same so = (tt, refl)
-outcome_fits (Copy volume handle segment bytes) (outcome.Copied other file place print (Err (copying.Full used len capacity))) same so = (tt, refl)
+    ((so.0 ∙ sym (cc at), so.1), refl)
+outcome_fits (Copy volume handle segment bytes) (outcome.Copied other file place print (Err (copying.Failed before after))) same so = (so, refl)
+outcome_fits (Copy volume handle segment bytes) (outcome.Copied other file place print (Err (copying.Full used len capacity))) same so = (so, refl)
 outcome_fits (Copy volume handle segment bytes) (outcome.Copied other file place print (Err copying.NoVolume)) same so = (tt, refl)
 outcome_fits (Copy volume handle segment bytes) (outcome.Copied other file place print (Err copying.Memory)) same so = absurd so
 outcome_fits (Fetch entry) (outcome.Fetched other answer) same so =

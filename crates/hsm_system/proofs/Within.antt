@@ -3,7 +3,7 @@ use Rattle.std.proofs.Common.{◌≡◌, ◌≤◌, ◌+◌, ◌∷◌, ◌++◌
 use native.Mathlib.Omega.{arith}
 use Rattle.std.proofs.lemmas.Bool.{leb-true}
 use Rattle.std.proofs.lemmas.List.{length-take}
-use Rattle.std.specs.Prelude.{nat_le, ◌&&◌, IfSome}
+use Rattle.std.specs.Prelude.{nat_le, ◌&&◌}
 use Rattle.disk_model.specs.declared.device.Disk as disk
 use Rattle.hsm_types.specs.Calls.{scope_of}
 use Rattle.hsm_types.specs.Limits.{segment_bytes, access_bytes}
@@ -35,11 +35,8 @@ use Rattle.migrate_daemon.specs.Known.{Known}
 use Rattle.migrate_daemon.specs.Machine.{MayGive, IsWithin}
 use Rattle.migrate_daemon.specs.Passes.{Pass}
 use Rattle.hsm_system.specs.Asking.{GivesNoValue, AsksNoValue}
-use Rattle.hsm_system.specs.Awaiting.{heard_of}
 use Rattle.hsm_system.specs.Systems.{System, IsSystem, Awaits}
-use Rattle.hsm_system.specs.declared.awaited.Outcome.{Outcome}
-use Rattle.hsm_system.specs.declared.awaited.Outcome.TheVariants as outcome
-use Rattle.hsm_system.specs.declared.daemons.Migrating.{Migrating}
+use Rattle.hsm_system.proofs.Waiting.{sound_one}
 
 last_none : {R : Type 0} (xs : List (Option R)) (own : Option R) → first_refusal (xs ++ own ∷ []) ≡ None → own ≡ None
 last_none [] own is = (none_first own [] is).0
@@ -59,7 +56,7 @@ module _ (s : Superblock) (st : State) (sid : Sid) where
   within_where None (GetDmAttr t h name) asks is = absurd asks
   within_where None call asks is = tt
 
-pub told_within : {D : Type 0} (g : disk.Ghosts D) (old new : Store D) (sid : Sid) (call : DmCall) (reply : DmReply) → GivesNoValue call → IsTold g old sid call reply new → IsWithin (heard.Dm reply)
+told_within : {D : Type 0} (g : disk.Ghosts D) (old new : Store D) (sid : Sid) (call : DmCall) (reply : DmReply) → GivesNoValue call → IsTold g old sid call reply new → IsWithin (heard.Dm reply)
 told_within g old new sid call reply asks (inl closed) = let given : Told reply ≡ Told (Refused dm.Disk) = closed.answer in let is : reply ≡ Refused dm.Disk = cc given in rw is tt
 told_within g old new sid call reply asks (inr (inl lacks)) = let given : Told reply ≡ Told (Refused dm.Memory) = lacks.answer in let is : reply ≡ Refused dm.Memory = cc given in rw is tt
 told_within g old new sid call reply asks (inr (inr (inl failed))) = let given : Told reply ≡ Told (Refused dm.Disk) = failed.answer in let is : reply ≡ Refused dm.Disk = cc given in rw is tt
@@ -77,15 +74,11 @@ pub asks_none : (limits : Numbers) (k : Known) (before after : Pass) (asked : Ac
 asks_none limits k before after asked last (Dm sid call) may = asks_no_value limits k before after asked last sid call may
 asks_none limits k before after asked last act may = tt
 
--- what is heard of an outcome
-pub outcome_within : (outcome : Outcome) → IsWithin (heard_of outcome)
-outcome_within (outcome.Copied volume handle segment print answer) = tt
-outcome_within (outcome.Fetched entry answer) = tt
-outcome_within outcome.Rested = tt
-
 -- what is heard of the call that migration has given
-pub call_within : {D : Type 0} (g : disk.Ghosts D) (daemon : Daemon) (old : System D) (new : Store D) (sid : Sid) (call : DmCall) (reply : DmReply) → IsSystem old → Awaits daemon (Dm sid call) old → IsTold g old.store sid call reply new → daemon ≡ Migrate → IsWithin (heard.Dm reply)
-call_within g Recall old new sid call reply is awaits told of = let wrong : Recall ≡ Migrate = of in cc wrong
-call_within g Migrate old new sid call reply is awaits told of =
-    let asks : GivesNoValue call = subst AsksNoValue awaits.3 (subst (λ (o : Option Migrating). IfSome o (λ (m : Migrating). AsksNoValue m.machine.asked)) awaits.1 is.no_value) in
-    told_within g old.store new sid call reply asks told
+module _ {D : Type 0} (g : disk.Ghosts D) (here old : System D) (same : here ≡ old) (new : Store D) (sid : Sid) (call : DmCall) (reply : DmReply) (is : IsSystem here) where
+  pub call_within : (daemon : Daemon) (told : Heard) → Awaits daemon (Dm sid call) old → IsTold g here.store sid call reply new → told ≡ heard.Dm reply → daemon ≡ Migrate → IsWithin told
+  call_within Recall told awaits answered same_told of = let wrong : Recall ≡ Migrate = of in cc wrong
+  call_within Migrate told awaits answered same_told of =
+      let waits : Awaits Migrate (Dm sid call) here = subst (λ (s : System D). Awaits Migrate (Dm sid call) s) (sym same) awaits in
+      let sound = sound_one _ _ _ here.migrate is.migrate waits.0 waits.1 in
+      subst IsWithin (sym same_told) (told_within g here.store new sid call reply (subst AsksNoValue waits.3 sound.knows.1) answered)

@@ -4,7 +4,6 @@ use Rattle.disk_model.specs.declared.device.Disk as disk
 use Rattle.hsm_types.specs.declared.daemons.Act.{Act}
 use Rattle.hsm_types.specs.declared.daemons.Daemon.{Daemon}
 use Rattle.hsm_types.specs.declared.daemons.Daemon.TheVariants.{Recall, Migrate}
-use Rattle.hsm_types.specs.declared.daemons.Heard.{Heard}
 use Rattle.hsm_types.specs.declared.daemons.Heard.TheVariants as heard
 use Rattle.hsm_types.specs.declared.daemons.Heard.TheVariants.{Nothing}
 use Rattle.hsm_types.specs.declared.dm.DmCall.{DmCall}
@@ -20,12 +19,9 @@ use Rattle.hsm_core.specs.Crashes.{IsSafeNow}
 use Rattle.hsm_core.specs.Store.{Store, KeepsRoom}
 use Rattle.recall_daemon.specs.Machine as recall
 use Rattle.migrate_daemon.specs.Machine as migrate
-use Rattle.hsm_system.specs.Awaiting.{awaited_of}
 use Rattle.hsm_system.specs.Stops.{reply_of, IsServed}
 use Rattle.hsm_system.specs.Systems.{System, IsDown, Waits, hearing}
-use Rattle.hsm_system.specs.declared.daemons.Migrating.{Migrating}
-use Rattle.hsm_system.specs.declared.daemons.Next.TheVariants.{Hears, Waits as WaitsOn}
-use Rattle.hsm_system.specs.declared.daemons.Recalling.{Recalling}
+use Rattle.hsm_system.specs.Running.{Recalling, Migrating, Moves}
 use Rattle.hsm_system.specs.declared.stops.Stop.{Stop}
 use Rattle.hsm_system.specs.declared.stops.Stop.TheVariants as stop
 
@@ -37,12 +33,8 @@ GivesNone daemon s = IsDown daemon s ⊎ Waits daemon s
 
 -- its machine has heard what was kept for it and gives the act, for which it waits from here on
 abbrev pub MovesOn : {D : Type 0} → Daemon → System D → Act → System D → Type 0
-MovesOn Recall old act new =
-    (r : Recalling) × (machine : recall.Machine) × (told : Heard) × (old.recall ≡ Some r) × (r.next ≡ Hears told) × recall.GoesOn r.machine told act machine
-    × (new ≡ record old { recall = Some (record { machine = machine; next = WaitsOn (awaited_of act) }) })
-MovesOn Migrate old act new =
-    (m : Migrating) × (machine : migrate.Machine) × (told : Heard) × (old.migrate ≡ Some m) × (m.next ≡ Hears told) × migrate.GoesOn m.machine told act machine
-    × (new ≡ record old { migrate = Some (record { machine = machine; next = WaitsOn (awaited_of act) }) })
+MovesOn Recall old act new = Moves recall.GoesOn old.recall act (λ (r : Recalling). new ≡ record old { recall = Some r })
+MovesOn Migrate old act new = Moves migrate.GoesOn old.migrate act (λ (m : Migrating). new ≡ record old { migrate = Some m })
 
 -- its machine had no memory, and stays as it was. What was kept for it is lost
 pub record LacksMemory {D : Type 0} (daemon : Daemon) (old : System D) (why : Stop) (new : System D) : Type 0 where

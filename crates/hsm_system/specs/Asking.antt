@@ -11,8 +11,7 @@ use Rattle.recall_daemon.specs.Known.{Known}
 use Rattle.recall_daemon.specs.Machine as recall
 use Rattle.migrate_daemon.specs.Machine as migrate
 use Rattle.hsm_policy.specs.Settings.{Numbers}
-use Rattle.hsm_system.specs.declared.daemons.Migrating.{Migrating}
-use Rattle.hsm_system.specs.declared.daemons.Recalling.{Recalling}
+use Rattle.hsm_system.specs.Running.{Recalling, Migrating}
 
 -- It asks for events in its own session, and for a session where it has none.
 abbrev pub AsksFrom : Seat → Act → Type 0

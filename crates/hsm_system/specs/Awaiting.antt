@@ -1,5 +1,6 @@
 -- What a daemon waits for when it has given an act, what comes of that, and what it hears.
-use Rattle.std.specs.Prelude.{◌≡◌, Option, None, Some, Ok, Err}
+use Rattle.std.specs.Prelude.{◌≡◌, ◌≢◌, ◌+◌, ◌<◌, Option, None, Some, Ok, Err}
+use Rattle.disk_model.specs.Calls.{Rose}
 use Rattle.hsm_types.specs.Stubs.{print_of, entry_place, entry_print}
 use Rattle.hsm_types.specs.declared.daemons.Act.{Act}
 use Rattle.hsm_types.specs.declared.daemons.Act.TheVariants.{Dm, Copy, Fetch, Idle}
@@ -36,11 +37,13 @@ heard_of (outcome.Copied volume handle segment print answer) = heard.Copied answ
 heard_of (outcome.Fetched entry answer) = heard.Fetched answer
 heard_of outcome.Rested = Nothing
 
--- What is heard is of what was asked, and no want of memory: an entry on that volume with that fingerprint, or a refusal that speaks of it; bytes with the
+-- What is heard is of what was asked, and no want of memory: an entry on that volume with that fingerprint, or a refusal with its cause; bytes with the
 -- entry's fingerprint, or a refusal that speaks of its object.
 abbrev pub IsSo : Outcome → Type 0
 IsSo (outcome.Copied volume handle segment print (Ok entry)) = ((entry_place entry).volume ≡ volume) × (entry_print entry ≡ print)
-IsSo (outcome.Copied volume handle segment print (Err (copying.Damaged want got))) = want ≡ print
+IsSo (outcome.Copied volume handle segment print (Err (copying.Failed before after))) = Rose before after
+IsSo (outcome.Copied volume handle segment print (Err (copying.Full used len capacity))) = capacity < used + len
+IsSo (outcome.Copied volume handle segment print (Err (copying.Damaged want got))) = (want ≡ print) × (want ≢ got)
 IsSo (outcome.Copied volume handle segment print (Err copying.Memory)) = ⊥
 IsSo (outcome.Fetched entry (Ok bytes)) = print_of bytes ≡ entry_print entry
 IsSo (outcome.Fetched entry (Err (fetching.Media fault))) = IsOf entry fault

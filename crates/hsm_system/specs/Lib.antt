@@ -4,6 +4,6 @@ pub mod Awaiting
 pub mod Events
 pub mod Goes
 pub mod Lives
-pub mod Machines
+pub mod Running
 pub mod Stops
 pub mod Systems

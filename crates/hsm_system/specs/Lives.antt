@@ -5,8 +5,7 @@ use Rattle.recall_daemon.specs.Machine as recall
 use Rattle.migrate_daemon.specs.Machine as migrate
 use Rattle.deeds.specs.Lives.{Workings, Living, hearing}
 use Rattle.hsm_system.specs.Awaiting.{heard_next}
-use Rattle.hsm_system.specs.declared.daemons.Migrating.{Migrating}
-use Rattle.hsm_system.specs.declared.daemons.Recalling.{Recalling}
+use Rattle.hsm_system.specs.declared.daemons.Running.{Running}
 
 -- a pass is no matter of recall
 abbrev pub recalls : Workings recall.Machine
@@ -32,8 +31,5 @@ migrates limits = record {
 }
 
 -- the machine, and what it hears next
-abbrev pub recall_living : Recalling → Living recall.Machine
-recall_living r = hearing r.machine (heard_next r.next)
-
-abbrev pub migrate_living : Migrating → Living migrate.Machine
-migrate_living m = hearing m.machine (heard_next m.next)
+abbrev pub living_of : {M : Type 0} → Running M → Living M
+living_of r = hearing r.machine (heard_next r.next)

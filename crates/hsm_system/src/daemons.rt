@@ -1,18 +1,16 @@
-//! A daemon that runs, and what it hears next, or waits for.
-ghost use Rattle.std.specs.Prelude.{◌≡◌, ◌↔◌, IsTrue, IfOk, OnErr, MatchOption};
-ghost use Rattle.hsm_types.specs.declared.daemons.Heard.{Heard as Told};
+//! A daemon that runs or doesn't, and what it hears next, or waits for.
+ghost use Rattle.std.specs.Prelude.{◌≡◌, ◌↔◌, IsTrue, Some, IfOk, IfErr, MatchOption};
+ghost use Rattle.std.specs.Option.{option_map, option_or};
 ghost use Rattle.hsm_types.specs.declared.daemons.Heard.TheVariants.{Nothing};
-ghost use Rattle.recall_daemon.specs.Machine as recall;
-ghost use Rattle.migrate_daemon.specs.Machine as migrate;
-ghost use Rattle.hsm_system.specs.Awaiting.{awaited_of, IsWaiting};
-ghost use Rattle.hsm_system.specs.Machines.{MayHear, untold_next};
+ghost use Rattle.hsm_system.specs.Awaiting.{IsWaiting};
+ghost use Rattle.hsm_system.specs.Running.{AwaitsSuch, Gives, HearsWithin, Loses, WaitsNow, first_of, hears_next};
+ghost use Rattle.hsm_system.specs.Systems.{migrate_again};
 
 use crate::awaited::Awaited;
-use hsm_policy::Settings;
+use crate::machines::Machine;
+use crate::stops::Stop;
 use hsm_types::{Act, DmReply, Heard};
 use migrate_daemon::Migrator;
-use recall_daemon::Recaller;
-use std::alloc::{AllocError, Global};
 use std::mem;
 
 /// What a daemon hears next, or waits for.
@@ -53,117 +51,85 @@ impl Next {
     }
 }
 
-/// The recall daemon while it runs.
+/// A daemon that runs.
 #[derive(Drop)]
-pub(crate) struct Recalling {
-    pub(crate) machine: Recaller,
-    pub(crate) next: Next,
+pub(crate) struct Running<M> {
+    pub(crate) machine: M,
+    next: Next,
 }
 
-impl Recalling {
-    pub(crate) fn start(alloc: Global) -> Recalling
-        ensures { result ≡ record { machine = recall.started; next = Next.Hears Nothing } }
-    {
-        Recalling {
-            machine: Recaller::start(alloc),
-            next: Next::Hears(Heard::Nothing),
-        }
-    }
+/// From here on it is that.
+pub(crate) fn set<T: Drop>(place: &mut T, value: T)
+    ensures { place.new ≡ value }
+{
+    *place = value;
+}
 
-    /// What the machine does next, once it has heard what was kept for it. It waits for what comes of that. None while it waits. Where memory is wanting,
-    /// what was kept is lost.
-    pub(crate) fn ask(&mut self) -> Result<Option<Act>, AllocError>
-        ensures asked { IfOk result (λ given. MatchOption given (IsWaiting self.old.next × (self.new ≡ self.old)) (λ act. (told : Told) × (self.old.next ≡ Next.Hears told) × recall.GoesOn self.old.machine told act self.new.machine × (self.new.next ≡ Next.Waits (awaited_of act)))) }
-        ensures lacks { OnErr result ((told : Told) × (self.old.next ≡ Next.Hears told) × (self.new.machine ≡ self.old.machine) × (self.new.next ≡ Next.Hears Nothing)) }
-    {
-        let Some(told) = self.next.take() else {
-            return Ok(None);
-        };
-        let act = self.machine.next(told)?;
-        self.next = Next::Waits(Awaited::of(&act));
-        Ok(Some(act))
-    }
-
-    /// It hears this next.
-    pub(crate) fn hear(&mut self, heard: Heard)
-        ensures { self.new ≡ record self.old { next = Next.Hears heard } }
-    {
-        self.next = Next::Hears(heard);
-    }
-
-    pub(crate) fn waits_for(&self, awaited: &Awaited) -> bool
-        ensures { IsTrue result ↔ (self.now.next ≡ Next.Waits awaited.now) }
-    {
-        self.next.waits_for(awaited)
-    }
-
-    pub(crate) fn waits(&self) -> bool
-        ensures { IsTrue result ↔ IsWaiting self.now.next }
-    {
-        self.next.waits()
+/// The daemon runs, with that machine. One that runs goes on as it is.
+pub(crate) fn start<M: Drop>(daemon: &mut Option<Running<M>>, machine: M)
+    ensures { daemon.new ≡ option_or daemon.old (Some (first_of machine)) }
+{
+    if daemon.is_none() {
+        let next = Next::Hears(Heard::Nothing);
+        set(daemon, Some(Running { machine, next }));
     }
 }
 
-/// The migration daemon while it runs.
-#[derive(Drop)]
-pub(crate) struct Migrating {
-    pub(crate) machine: Migrator,
-    pub(crate) next: Next,
+/// What its machine does next, once it has heard what was kept for it. It waits for what comes of that. None where it doesn't run, or waits. Where memory is
+/// wanting, what was kept is lost.
+pub(crate) fn ask<M: Machine>(daemon: &mut Option<Running<M>>) -> Result<Option<Act>, Stop>
+    requires { HearsWithin M.may_hear daemon.old }
+    ensures asked { IfOk result (λ given. Gives M.goes_on daemon.old given daemon.new) }
+    ensures lacks { IfErr result (λ why. Loses daemon.old why daemon.new) }
+{
+    let Some(running) = daemon else {
+        return Ok(None);
+    };
+    let Some(told) = running.next.take() else {
+        return Ok(None);
+    };
+    let act = running.machine.go_on(told)?;
+    set(&mut running.next, Next::Waits(Awaited::of(&act)));
+    Ok(Some(act))
 }
 
-impl Migrating {
-    pub(crate) fn start(alloc: Global, settings: &Settings) -> Migrating
-        ensures { result ≡ record { machine = migrate.started settings.now; next = Next.Hears Nothing } }
-    {
-        Migrating {
-            machine: Migrator::start(alloc, settings),
-            next: Next::Hears(Heard::Nothing),
+/// Where it runs, it hears this next.
+pub(crate) fn hear<M>(daemon: &mut Option<Running<M>>, heard: Heard)
+    ensures { daemon.new ≡ option_map (hears_next heard) daemon.old }
+{
+    if let Some(running) = daemon {
+        set(&mut running.next, Next::Hears(heard));
+    }
+}
+
+/// Whether it runs, and waits for that.
+pub(crate) fn waits_for<M>(daemon: &Option<Running<M>>, awaited: &Awaited) -> bool
+    ensures { IsTrue result ↔ AwaitsSuch awaited.now daemon.now }
+{
+    match daemon {
+        Some(running) => running.next.waits_for(awaited),
+        None => false,
+    }
+}
+
+/// Whether it runs, and waits.
+pub(crate) fn waits<M>(daemon: &Option<Running<M>>) -> bool
+    ensures { IsTrue result ↔ WaitsNow daemon.now }
+{
+    match daemon {
+        Some(running) => running.next.waits(),
+        None => false,
+    }
+}
+
+/// Where migration runs, a pass by `high` may begin again. What it would hear of the space it doesn't hear, and asks again.
+pub(crate) fn refresh(daemon: &mut Option<Running<Migrator>>)
+    ensures { daemon.new ≡ option_map migrate_again daemon.old }
+{
+    if let Some(running) = daemon {
+        running.machine.fresh();
+        if matches!(running.next, Next::Hears(Heard::Dm(DmReply::Space { .. }))) {
+            set(&mut running.next, Next::Hears(Heard::Nothing));
         }
-    }
-
-    /// A pass by `high` may begin again. What it would hear of the space it doesn't hear, and asks again.
-    pub(crate) fn refresh(&mut self)
-        ensures machine { self.new.machine ≡ migrate.freshened self.old.machine }
-        ensures next { self.new.next ≡ untold_next self.old.next }
-        ensures within { MayHear self.old.next → MayHear self.new.next }
-    {
-        self.machine.fresh();
-        if matches!(self.next, Next::Hears(Heard::Dm(DmReply::Space { .. }))) {
-            self.next = Next::Hears(Heard::Nothing);
-        }
-    }
-
-    /// What the machine does next, once it has heard what was kept for it. It waits for what comes of that. None while it waits. Where memory is wanting,
-    /// what was kept is lost.
-    pub(crate) fn ask(&mut self) -> Result<Option<Act>, AllocError>
-        requires { MayHear self.old.next }
-        ensures asked { IfOk result (λ given. MatchOption given (IsWaiting self.old.next × (self.new ≡ self.old)) (λ act. (told : Told) × (self.old.next ≡ Next.Hears told) × migrate.GoesOn self.old.machine told act self.new.machine × (self.new.next ≡ Next.Waits (awaited_of act)))) }
-        ensures lacks { OnErr result ((told : Told) × (self.old.next ≡ Next.Hears told) × (self.new.machine ≡ self.old.machine) × (self.new.next ≡ Next.Hears Nothing)) }
-    {
-        let Some(told) = self.next.take() else {
-            return Ok(None);
-        };
-        let act = self.machine.next(told)?;
-        self.next = Next::Waits(Awaited::of(&act));
-        Ok(Some(act))
-    }
-
-    /// It hears this next.
-    pub(crate) fn hear(&mut self, heard: Heard)
-        ensures { self.new ≡ record self.old { next = Next.Hears heard } }
-    {
-        self.next = Next::Hears(heard);
-    }
-
-    pub(crate) fn waits_for(&self, awaited: &Awaited) -> bool
-        ensures { IsTrue result ↔ (self.now.next ≡ Next.Waits awaited.now) }
-    {
-        self.next.waits_for(awaited)
-    }
-
-    pub(crate) fn waits(&self) -> bool
-        ensures { IsTrue result ↔ IsWaiting self.now.next }
-    {
-        self.next.waits()
     }
 }

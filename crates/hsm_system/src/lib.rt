@@ -6,6 +6,7 @@ mod awaited;
 mod daemons;
 mod events;
 mod laws;
+mod machines;
 mod stops;
 mod system;
 

@@ -15,17 +15,19 @@ ghost use Rattle.hsm_system.specs.Asking.{MigrateIsRight, RecallIsRight};
 ghost use Rattle.hsm_system.specs.Awaiting.{IsSo, awaited_by, awaited_of, heard_of};
 ghost use Rattle.hsm_system.specs.Events.{IsDone, Keeps, action_of, actor_of};
 ghost use Rattle.hsm_system.specs.Goes.{EndsIn, EntersBy, Goes, GoesBy, HearsOf, HearsReply, LosesOf};
-ghost use Rattle.hsm_system.specs.Systems.{Awaits, IsAwaited, IsDown, Rests, Waits, hearing, killed, refreshed, started};
+ghost use Rattle.hsm_system.specs.Systems.{Awaits, IsAwaited, Rests, Waits, hearing, killed, refreshed, started};
 
 use crate::awaited::Outcome;
-use crate::daemons::{Migrating, Recalling};
+use crate::daemons::{self, Running};
 use crate::events::Event;
 use crate::stops::{Stop, answered, served, told};
 use disk_model::Disk;
 use hsm_core::{Hsm, Ready};
 use hsm_policy::Settings;
 use hsm_types::{Act, Call, CallerId, Daemon, DmCall, Heard, Sid};
+use migrate_daemon::Migrator;
 use plain_model::Entry;
+use recall_daemon::Recaller;
 use std::alloc::Global;
 use std::marker::Model;
 
@@ -34,8 +36,8 @@ use std::marker::Model;
 pub struct System<D: Disk> {
     hsm: Hsm<D>,
     settings: Settings,
-    recall: Option<Recalling>,
-    migrate: Option<Migrating>,
+    recall: Option<Running<Recaller>>,
+    migrate: Option<Running<Migrator>>,
 }
 
 impl<D: Disk> Model for System<D> {
@@ -65,6 +67,8 @@ impl<D: Disk> System<D> {
     pub fn close(self) -> Hsm<D>
         ensures { result ≡ self.store }
     {
+        drop(self.recall);
+        drop(self.migrate);
         self.hsm
     }
 
@@ -102,24 +106,10 @@ impl<D: Disk> System<D> {
         ensures { self.new ≡ started daemon self.old }
     {
         match daemon {
-            Daemon::Recall => self.run_recall(alloc),
-            Daemon::Migrate => self.run_migrate(alloc),
-        }
-    }
-
-    fn run_recall(&mut self, alloc: Global)
-        ensures { self.new ≡ started Daemon.Recall self.old }
-    {
-        if self.recall.is_none() {
-            self.recall = Some(Recalling::start(alloc));
-        }
-    }
-
-    fn run_migrate(&mut self, alloc: Global)
-        ensures { self.new ≡ started Daemon.Migrate self.old }
-    {
-        if self.migrate.is_none() {
-            self.migrate = Some(Migrating::start(alloc, &self.settings));
+            Daemon::Recall => daemons::start(&mut self.recall, Recaller::start(alloc)),
+            Daemon::Migrate => {
+                daemons::start(&mut self.migrate, Migrator::start(alloc, &self.settings));
+            }
         }
     }
 
@@ -135,8 +125,8 @@ impl<D: Disk> System<D> {
         ensures { self.new ≡ killed daemon self.old }
     {
         match daemon {
-            Daemon::Recall => self.recall = None,
-            Daemon::Migrate => self.migrate = None,
+            Daemon::Recall => daemons::set(&mut self.recall, None),
+            Daemon::Migrate => daemons::set(&mut self.migrate, None),
         }
     }
 
@@ -151,9 +141,7 @@ impl<D: Disk> System<D> {
     fn freshen(&mut self)
         ensures { self.new ≡ refreshed self.old }
     {
-        if let Some(migrating) = &mut self.migrate {
-            migrating.refresh();
-        }
+        daemons::refresh(&mut self.migrate);
     }
 
     /// Makes the event. `Stop::Disk` is answered exactly where the event was answered with a fault of the disk, also by a store that was closed before,
@@ -224,31 +212,9 @@ impl<D: Disk> System<D> {
         ensures lacks { IfErr result (λ why. LacksMemory daemon self.old why self.new) }
     {
         match daemon {
-            Daemon::Recall => self.next_of_recall(),
-            Daemon::Migrate => self.next_of_migrate(),
+            Daemon::Recall => daemons::ask(&mut self.recall),
+            Daemon::Migrate => daemons::ask(&mut self.migrate),
         }
-    }
-
-    fn next_of_recall(&mut self) -> Result<Option<Act>, Stop>
-        ensures asked { IfOk result (λ given. MatchOption given (GivesNone Daemon.Recall self.old × (self.new ≡ self.old)) (λ act. MovesOn Daemon.Recall self.old act self.new)) }
-        ensures lacks { IfErr result (λ why. LacksMemory Daemon.Recall self.old why self.new) }
-    {
-        let Some(recalling) = &mut self.recall else {
-            return Ok(None);
-        };
-        let given = recalling.ask()?;
-        Ok(given)
-    }
-
-    fn next_of_migrate(&mut self) -> Result<Option<Act>, Stop>
-        ensures asked { IfOk result (λ given. MatchOption given (GivesNone Daemon.Migrate self.old × (self.new ≡ self.old)) (λ act. MovesOn Daemon.Migrate self.old act self.new)) }
-        ensures lacks { IfErr result (λ why. LacksMemory Daemon.Migrate self.old why self.new) }
-    {
-        let Some(migrating) = &mut self.migrate else {
-            return Ok(None);
-        };
-        let given = migrating.ask()?;
-        Ok(given)
     }
 
     /// Makes the call that the daemon has given, as one event, and tells it the answer. Where the store stops the run, the daemon waits no more and hears
@@ -264,7 +230,7 @@ impl<D: Disk> System<D> {
         ensures answered { OnOk result (Answers D.Disk daemon sid call self.old self.new) }
         ensures stopped { IfErr result (λ why. StopsFor D.Disk daemon sid call why self.old self.new) }
         ensures deeds { OnOk result (HearsReply daemon sid call self.old self.new) }
-        ensures ends { OnErr result (EndsIn daemon sid call self.old self.new) }
+        ensures ends { IfErr result (λ why. EndsIn daemon sid call why self.old self.new) }
     {
         self.call_for(alloc, daemon, sid, call)
     }
@@ -323,26 +289,8 @@ impl<D: Disk> System<D> {
         ensures { IsTrue result ↔ IsAwaited daemon outcome.now self.now }
     {
         match daemon {
-            Daemon::Recall => self.recall_awaits(outcome),
-            Daemon::Migrate => self.migrate_awaits(outcome),
-        }
-    }
-
-    fn recall_awaits(&self, outcome: &Outcome) -> bool
-        ensures { IsTrue result ↔ IsAwaited Daemon.Recall outcome.now self.now }
-    {
-        match &self.recall {
-            Some(recalling) => recalling.waits_for(&outcome.awaited()),
-            None => false,
-        }
-    }
-
-    fn migrate_awaits(&self, outcome: &Outcome) -> bool
-        ensures { IsTrue result ↔ IsAwaited Daemon.Migrate outcome.now self.now }
-    {
-        match &self.migrate {
-            Some(migrating) => migrating.waits_for(&outcome.awaited()),
-            None => false,
+            Daemon::Recall => daemons::waits_for(&self.recall, &outcome.awaited()),
+            Daemon::Migrate => daemons::waits_for(&self.migrate, &outcome.awaited()),
         }
     }
 
@@ -373,26 +321,8 @@ impl<D: Disk> System<D> {
         ensures { IsTrue result ↔ Waits daemon self.now }
     {
         match daemon {
-            Daemon::Recall => self.recall_waits(),
-            Daemon::Migrate => self.migrate_waits(),
-        }
-    }
-
-    fn recall_waits(&self) -> bool
-        ensures { IsTrue result ↔ Waits Daemon.Recall self.now }
-    {
-        match &self.recall {
-            Some(recalling) => recalling.waits(),
-            None => false,
-        }
-    }
-
-    fn migrate_waits(&self) -> bool
-        ensures { IsTrue result ↔ Waits Daemon.Migrate self.now }
-    {
-        match &self.migrate {
-            Some(migrating) => migrating.waits(),
-            None => false,
+            Daemon::Recall => daemons::waits(&self.recall),
+            Daemon::Migrate => daemons::waits(&self.migrate),
         }
     }
 
@@ -402,25 +332,8 @@ impl<D: Disk> System<D> {
         ensures { self.new ≡ hearing daemon heard self.old }
     {
         match daemon {
-            Daemon::Recall => self.tell_recall(heard),
-            Daemon::Migrate => self.tell_migrate(heard),
-        }
-    }
-
-    fn tell_recall(&mut self, heard: Heard)
-        ensures { self.new ≡ hearing Daemon.Recall heard self.old }
-    {
-        if let Some(recalling) = &mut self.recall {
-            recalling.hear(heard);
-        }
-    }
-
-    fn tell_migrate(&mut self, heard: Heard)
-        requires { IsWithin heard }
-        ensures { self.new ≡ hearing Daemon.Migrate heard self.old }
-    {
-        if let Some(migrating) = &mut self.migrate {
-            migrating.hear(heard);
+            Daemon::Recall => daemons::hear(&mut self.recall, heard),
+            Daemon::Migrate => daemons::hear(&mut self.migrate, heard),
         }
     }
 
@@ -429,26 +342,14 @@ impl<D: Disk> System<D> {
         ensures { IsTrue result ↔ Rests daemon self.now }
     {
         match daemon {
-            Daemon::Recall => self.recall_rests(),
-            Daemon::Migrate => self.migrate_rests(),
-        }
-    }
-
-    fn recall_rests(&self) -> bool
-        ensures { IsTrue result ↔ Rests Daemon.Recall self.now }
-    {
-        match &self.recall {
-            Some(recalling) => recalling.machine.rests(),
-            None => true,
-        }
-    }
-
-    fn migrate_rests(&self) -> bool
-        ensures { IsTrue result ↔ Rests Daemon.Migrate self.now }
-    {
-        match &self.migrate {
-            Some(migrating) => migrating.machine.rests(),
-            None => true,
+            Daemon::Recall => match &self.recall {
+                Some(recalling) => recalling.machine.rests(),
+                None => true,
+            },
+            Daemon::Migrate => match &self.migrate {
+                Some(migrating) => migrating.machine.rests(),
+                None => true,
+            },
         }
     }
 

@@ -9,6 +9,8 @@ use Rattle.hsm_replay.specs.Systems.{Run}
 use Rattle.hsm_replay.proofs.Between.{event_is_run}
 use Rattle.hsm_replay.proofs.Committing.{commit_durable}
 use Rattle.hsm_replay.proofs.Events.{event_moves, event_does}
+use Rattle.hsm_replay.specs.Deeds.{ByDeeds}
+use Rattle.hsm_replay.proofs.DeedRounds.{IsEntryOf, IsCutOf, event_by_deeds}
 use Rattle.hsm_replay.proofs.replay.Replay.commit.Goals as goal
 
 pub returns-clause-moves : goal.returns-clause-moves
@@ -26,3 +28,10 @@ returns-clause-durable g c = commit_durable g.D.Disk c.self.inside.system c.even
 
 pub invariant_of-self : goal.invariant_of-self
 invariant_of-self g c = event_is_run (record { system = c.self.inside.system; drives = c.self.inside.drives.items }) c.event.new.self c.self.invariant c.event.ensures.done.rest
+
+pub returns-clause-deeds : goal.returns-clause-deeds
+returns-clause-deeds g c =
+    let inside : Run g.row.D.Denot g.row.M.Denot = record { system = c.self.inside.system; drives = c.self.inside.drives.items } in
+    let left : Run g.row.D.Denot g.row.M.Denot = record { system = c.event.new.self; drives = c.self.inside.drives.items } in
+    subst (λ (old : Run g.row.D.Denot g.row.M.Denot). ByDeeds g.M.Drive (λ (done : Unit {0}). IsEntryOf TheStore Commit) (IsCutOf TheStore Commit) c.event.result old left) c.self.view_is
+    (event_by_deeds g.M.Drive inside left refl TheStore Commit c.event.result c.event.ensures.deeds)

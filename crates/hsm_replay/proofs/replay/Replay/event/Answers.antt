@@ -7,6 +7,9 @@ use Rattle.hsm_replay.specs.Keeping.{Moves}
 use Rattle.hsm_replay.specs.Systems.{Run}
 use Rattle.hsm_replay.proofs.Between.{event_is_run}
 use Rattle.hsm_replay.proofs.Events.{IsEventOf, event_moves, event_does, made_by, acts_by, names_none, no_deed_names}
+use Rattle.hsm_system.specs.Goes.{EntersBy}
+use Rattle.hsm_replay.specs.Deeds.{ByDeeds}
+use Rattle.hsm_replay.proofs.DeedRounds.{IsEntryOf, IsCutOf, event_by_deeds, entered_by}
 use Rattle.hsm_replay.proofs.replay.Replay.event.Goals as goal
 
 pub event-requires : goal.event-requires
@@ -27,3 +30,11 @@ returns-clause-does g c = λ seed.
 
 pub invariant_of-self : goal.invariant_of-self
 invariant_of-self g c = event_is_run (record { system = c.self.inside.system; drives = c.self.inside.drives.items }) c.event.new.self c.self.invariant c.event.ensures.done.rest
+
+pub returns-clause-deeds : goal.returns-clause-deeds
+returns-clause-deeds g c seed =
+    let inside : Run g.row.D.Denot g.row.M.Denot = record { system = c.self.inside.system; drives = c.self.inside.drives.items } in
+    let left : Run g.row.D.Denot g.row.M.Denot = record { system = c.event.new.self; drives = c.self.inside.drives.items } in
+    let enters : EntersBy c.args.actor c.args.action c.event.result c.self.inside.system c.event.new.self = entered_by c.event_of.result c.args.actor c.args.action c.event_of.ensures.who c.event_of.ensures.what c.event.result c.self.inside.system c.event.new.self c.event.ensures.deeds in
+    subst (λ (old : Run g.row.D.Denot g.row.M.Denot). ByDeeds g.M.Drive (λ (done : Unit {0}). IsEntryOf c.args.actor c.args.action) (IsCutOf c.args.actor c.args.action) c.event.result old left) c.self.view_is
+    (event_by_deeds g.M.Drive inside left refl c.args.actor c.args.action c.event.result enters)

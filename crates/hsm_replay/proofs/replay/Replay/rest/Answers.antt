@@ -4,16 +4,18 @@ use Rattle.hsm_system.specs.Systems.{Rests}
 use Rattle.hsm_replay.proofs.Joining.{moves_itself, moves_then, step_is_made}
 use Rattle.hsm_replay.proofs.Turning.{turn_itself, turn_then, step_goes}
 use Rattle.hsm_replay.proofs.Working.{step_nears}
+use Rattle.hsm_replay.proofs.DeedRounds.{left_none, left_on, left_over, left_stopped}
 use Rattle.hsm_replay.proofs.replay.Replay.rest.Goals as goal
 
 pub loop-alloc-init : goal.loop-alloc-init
-loop-alloc-init g c = record { moves = moves_itself g.D.Disk g.M.Drive tt c.args.self.now; goes = turn_itself g.D.Disk g.M.Drive c.args.daemon c.args.self.now; runs = refl }
+loop-alloc-init g c = record { moves = moves_itself g.D.Disk g.M.Drive tt c.args.self.now; goes = turn_itself g.D.Disk g.M.Drive c.args.daemon c.args.self.now; runs = refl; deeds = left_none g.M.Drive c.args.daemon c.args.self.now }
 
 pub loop-alloc-preserved : goal.loop-alloc-preserved
 loop-alloc-preserved g c = record {
   moves = moves_then g.D.Disk g.M.Drive tt (Ok tt) _ _ _ c.loop-alloc.invariant.runs c.loop-alloc.invariant.moves (step_is_made g.D.Disk g.M.Drive c.args.daemon (Ok tt) _ _ c.in_ok-step.ensures.moves);
   goes = turn_then g.D.Disk g.M.Drive c.args.daemon _ _ _ c.loop-alloc.invariant.goes (step_goes g.D.Disk g.M.Drive c.args.daemon _ _ c.in_ok-step.ensures.stepped);
   runs = c.in_ok-step.ensures.runs ∙ c.loop-alloc.invariant.runs;
+  deeds = let works : Rests c.args.daemon c.loop-alloc.self.system → ⊥ = search rules in left_on g.M.Drive c.args.daemon _ _ _ works c.loop-alloc.invariant.deeds c.in_ok-step.ensures.deeds;
 }
 
 pub loop-alloc-smaller : goal.loop-alloc-smaller
@@ -28,3 +30,12 @@ returns-in_err-step-clause-moves g c =
 
 pub returns-in_err-step-clause-runs : goal.returns-in_err-step-clause-runs
 returns-in_err-step-clause-runs g c = c.in_err-step.ensures.runs ∙ c.loop-alloc.invariant.runs
+
+pub returns-in_err-step-clause-deeds : goal.returns-in_err-step-clause-deeds
+returns-in_err-step-clause-deeds g c =
+    let p = err_from_is_err_and c.from_residual.result c.from_residual.ensures.1 in
+    let works : Rests c.args.daemon c.loop-alloc.self.system → ⊥ = search rules in
+    rw (p.1, p.2) (left_stopped g.M.Drive c.args.daemon _ _ _ _ works c.loop-alloc.invariant.deeds c.in_err-step.ensures.deeds)
+
+pub returns-clause-deeds : goal.returns-clause-deeds
+returns-clause-deeds g c = let rests : Rests c.args.daemon c.loop-alloc.self.system = search rules in left_over g.M.Drive c.args.daemon _ _ rests c.loop-alloc.invariant.deeds

@@ -1,9 +1,11 @@
 use Rattle.std.proofs.Common.{◌≡◌, Ok}
 use Rattle.std.specs.List.{AllByRecursion}
 use Rattle.marked_history.specs.Follows.{IsMadeBy}
+use Rattle.hsm_replay.specs.Deeds.{IsDoneBy}
 use Rattle.hsm_replay.specs.Keeping.{Moves}
 use Rattle.hsm_replay.specs.Systems.{running}
 use Rattle.hsm_replay.specs.Turns.{GoesInTurn}
+use Rattle.hsm_replay.proofs.DeedRounds.{IsLeftSoFar}
 use Rattle.hsm_replay.proofs.Working.{round_left}
 use Rattle.hsm_replay.proofs.replay.Replay.rest.Given as goal
 
@@ -12,6 +14,7 @@ invariant-loop-alloc g l = record {
   moves : Moves {T = Unit {0}} g.D.Disk g.M.Drive (AllByRecursion (IsMadeBy l.daemon)) (Ok tt) l.fn.self l.self;
   goes : GoesInTurn l.daemon l.fn.self l.self;
   runs : running l.self ≡ running l.fn.self;
+  deeds : IsDoneBy g.M.Drive (IsLeftSoFar l.daemon) l.fn.self l.self;
 }
 
 abbrev pub decreases-loop-alloc : goal.decreases-loop-alloc

@@ -1,4 +1,4 @@
-use Rattle.std.proofs.Common.{◌≡◌, OnOk, refl, subst}
+use Rattle.std.proofs.Common.{◌≡◌, OnOk, inl, refl, subst}
 use Rattle.std.specs.List.{AllByRecursion}
 use Rattle.plain_model.specs.declared.entries.Action.TheVariants.{Resume}
 use Rattle.plain_model.specs.declared.entries.Actor.TheVariants.{Caller}
@@ -10,6 +10,9 @@ use Rattle.hsm_replay.proofs.Between.{event_is_run}
 use Rattle.hsm_replay.proofs.Events.{event_leaves, event_moves, resumed_on}
 use Rattle.hsm_replay.proofs.Joining.{resume_is_settling, moves_itself}
 use Rattle.hsm_replay.proofs.WhichRun.{event_runs}
+use Rattle.hsm_replay.specs.Deeds.{ByDeeds, MayResumeBy, IsResumeCut}
+use Rattle.hsm_replay.proofs.Deeds.{done_none}
+use Rattle.hsm_replay.proofs.DeedRounds.{event_by_deeds, resume_by_deeds}
 use Rattle.hsm_replay.proofs.replay.Replay.resume.Goals as goal
 
 pub returns-clause-moves : goal.returns-clause-moves
@@ -33,3 +36,13 @@ returns-clause-runs g c =
 
 pub invariant_of-self : goal.invariant_of-self
 invariant_of-self g c = event_is_run (record { system = c.self.inside.system; drives = c.self.inside.drives.items }) c.event.new.self c.self.invariant c.event.ensures.done.rest
+
+pub returns-then-not-is_ready-clause-deeds : goal.returns-then-not-is_ready-clause-deeds
+returns-then-not-is_ready-clause-deeds g c = done_none g.M.Drive (MayResumeBy c.args.caller) c.args.self.now (inl refl)
+
+pub returns-clause-deeds : goal.returns-clause-deeds
+returns-clause-deeds g c =
+    let inside : Run g.row.D.Denot g.row.M.Denot = record { system = c.self.inside.system; drives = c.self.inside.drives.items } in
+    let left : Run g.row.D.Denot g.row.M.Denot = record { system = c.event.new.self; drives = c.self.inside.drives.items } in
+    subst (λ (old : Run g.row.D.Denot g.row.M.Denot). ByDeeds g.M.Drive (λ (done : Unit {0}). MayResumeBy c.args.caller) (IsResumeCut c.args.caller) c.event.result old left) c.self.view_is
+    (resume_by_deeds g.M.Drive c.args.caller c.requires inside left c.event.result (event_by_deeds g.M.Drive inside left refl (Caller c.args.caller) Resume c.event.result c.event.ensures.deeds))

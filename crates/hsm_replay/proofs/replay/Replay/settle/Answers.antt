@@ -1,4 +1,4 @@
-use Rattle.std.proofs.Common.{◌≡◌, ◌∙◌, ◌<◌, List, length, Ok, Err, sym, subst, arith}
+use Rattle.std.proofs.Common.{◌≡◌, ◌∙◌, ◌<◌, List, length, Ok, Err, sym, ap, subst, arith}
 use Rattle.std.specs.List.{AllByRecursion}
 use Rattle.std.proofs.lemmas.Result.{err_from_is_err_and}
 use Rattle.plain_model.specs.declared.entries.Entry.{Entry}
@@ -13,13 +13,15 @@ use Rattle.hsm_replay.proofs.Freshness.{fresh_itself, fresh_on}
 use Rattle.hsm_replay.proofs.Joining.{moves_then, moves_with, stops_with}
 use Rattle.hsm_replay.proofs.Resting.{settles_rightly}
 use Rattle.hsm_replay.proofs.Working.{some_event}
+use Rattle.hsm_replay.proofs.DeedRounds.{settle_begun, settle_on, settle_done, settle_stopped}
 use Rattle.hsm_replay.proofs.replay.Replay.settle.Goals as goal
 
 pub loop-self-init : goal.loop-self-init
 loop-self-init g c = record {
-  moves = subst (λ (s : Run g.row.D.Denot g.row.M.Denot). Moves {T = Unit {0}} g.D.Disk g.M.Drive (AllByRecursion IsOfSettling) (Ok tt) c.args.self.now s) (sym c.refresh.ensures) (refresh_moves g.D.Disk g.M.Drive c.args.self.now);
-  fresh = subst (λ (s : Run g.row.D.Denot g.row.M.Denot). StaysFresh (refreshed c.args.self.now) s) (sym c.refresh.ensures) (fresh_itself (refreshed c.args.self.now));
-  runs = subst (λ (s : Run g.row.D.Denot g.row.M.Denot). running s ≡ running c.args.self.now) (sym c.refresh.ensures) (refreshed_runs c.args.self.now);
+  moves = subst (λ (s : Run g.row.D.Denot g.row.M.Denot). Moves {T = Unit {0}} g.D.Disk g.M.Drive (AllByRecursion IsOfSettling) (Ok tt) c.args.self.now s) (sym c.refresh.ensures.refreshed) (refresh_moves g.D.Disk g.M.Drive c.args.self.now);
+  fresh = subst (λ (s : Run g.row.D.Denot g.row.M.Denot). StaysFresh (refreshed c.args.self.now) s) (sym c.refresh.ensures.refreshed) (fresh_itself (refreshed c.args.self.now));
+  runs = subst (λ (s : Run g.row.D.Denot g.row.M.Denot). running s ≡ running c.args.self.now) (sym c.refresh.ensures.refreshed) (refreshed_runs c.args.self.now);
+  deeds = settle_begun g.M.Drive c.args.self.now c.refresh.new.self c.refresh.ensures.deeds (ap (λ (s : Run g.row.D.Denot g.row.M.Denot). s.system.store) c.refresh.ensures.refreshed);
 }
 
 pub loop-self-preserved : goal.loop-self-preserved
@@ -27,6 +29,7 @@ loop-self-preserved g c = record {
   moves = moves_then g.D.Disk g.M.Drive tt (Ok tt) _ _ _ c.loop-self.invariant.runs c.loop-self.invariant.moves (moves_with g.D.Disk g.M.Drive c.in_ok-round.field-0 tt _ _ c.in_ok-round.ensures.moves);
   fresh = fresh_on (refreshed c.args.self.now) c.loop-self.self c.round.new.self c.loop-self.invariant.fresh c.in_ok-round.ensures.fresh;
   runs = c.in_ok-round.ensures.runs ∙ c.loop-self.invariant.runs;
+  deeds = settle_on g.M.Drive _ _ _ c.in_ok-round.field-0 c.if-branch.false c.loop-self.invariant.deeds c.in_ok-round.ensures.deeds;
 }
 
 pub loop-self-smaller : goal.loop-self-smaller
@@ -59,3 +62,11 @@ returns-then-branch-clause-runs g c = c.in_ok-round.ensures.runs ∙ c.loop-self
 
 pub returns-in_err-round-clause-runs : goal.returns-in_err-round-clause-runs
 returns-in_err-round-clause-runs g c = c.in_err-round.ensures.runs ∙ c.loop-self.invariant.runs
+
+pub returns-in_err-round-clause-deeds : goal.returns-in_err-round-clause-deeds
+returns-in_err-round-clause-deeds g c =
+    let p = err_from_is_err_and c.from_residual.result c.from_residual.ensures.1 in
+    rw (p.1, p.2) (settle_stopped g.M.Drive _ _ _ _ c.loop-self.invariant.deeds c.in_err-round.ensures.deeds)
+
+pub returns-then-branch-clause-deeds : goal.returns-then-branch-clause-deeds
+returns-then-branch-clause-deeds g c = settle_done g.M.Drive _ _ _ c.in_ok-round.field-0 c.if-branch.true c.loop-self.invariant.deeds c.in_ok-round.ensures.deeds

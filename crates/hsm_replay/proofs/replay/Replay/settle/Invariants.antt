@@ -1,9 +1,12 @@
 use Rattle.std.proofs.Common.{◌≡◌, ◌-◌, ◌^◌, length, Ok}
 use Rattle.std.specs.List.{AllByRecursion}
 use Rattle.marked_history.specs.Follows.{IsOfSettling}
+use Rattle.marked_history.specs.Quiet.{is_quiet}
+use Rattle.hsm_replay.specs.Deeds.{IsDoneBy}
 use Rattle.hsm_replay.specs.Freshness.{StaysFresh}
 use Rattle.hsm_replay.specs.Keeping.{Moves}
 use Rattle.hsm_replay.specs.Systems.{running, refreshed}
+use Rattle.hsm_replay.proofs.PartsOn.{RoundsTo}
 use Rattle.hsm_replay.proofs.replay.Replay.settle.Given as goal
 
 abbrev pub invariant-loop-self : goal.invariant-loop-self
@@ -11,6 +14,7 @@ invariant-loop-self g l = record {
   moves : Moves {T = Unit {0}} g.D.Disk g.M.Drive (AllByRecursion IsOfSettling) (Ok tt) l.fn.self l.self;
   fresh : StaysFresh (refreshed l.fn.self) l.self;
   runs : running l.self ≡ running l.fn.self;
+  deeds : IsDoneBy g.M.Drive (RoundsTo is_quiet) l.fn.self l.self;
 }
 
 abbrev pub decreases-loop-self : goal.decreases-loop-self

@@ -18,8 +18,8 @@ use Rattle.script_text.specs.declared.lines.Line.TheVariants.{Event, Start, Kill
 use Rattle.deeds.specs.Deeds.{entry_of, Deed, Enters, Starts, Kills, Refreshes, Gives, Hears, Fits, IsServed}
 use Rattle.deeds.specs.Given.{Given, given_of, asked_behind, given_behind}
 use Rattle.deeds.specs.Lives.{life}
-use Rattle.deeds.specs.Parts.{resume_of, runs_by, runs_behind, IsPartOf, RunsByLines}
-use Rattle.deeds.proofs.Following.{step_all, settle_all}
+use Rattle.hsm_replay.specs.Parts.{resume_of, runs_by, runs_behind, IsPartOf, RunsByLines}
+use Rattle.hsm_replay.proofs.PartsDone.{step_all, settle_all}
 use Rattle.deeds.proofs.Giving.{own_then, given_then}
 
 -- behind these deeds the daemon runs
@@ -88,7 +88,7 @@ settle_so : (daemon : Daemon) (runs : Bool) → runs_by daemon Settle runs ≡ r
 settle_so Recall runs = refl
 settle_so Migrate runs = refl
 
-given_so : (daemon : Daemon) (deeds : List Deed) (given : Given) → given_of daemon (given_behind deeds given) ≡ asked_behind (life daemon deeds) (given_of daemon given)
+pub given_so : (daemon : Daemon) (deeds : List Deed) (given : Given) → given_of daemon (given_behind deeds given) ≡ asked_behind (life daemon deeds) (given_of daemon given)
 given_so Recall deeds given = refl
 given_so Migrate deeds given = refl
 

@@ -25,9 +25,9 @@ use Rattle.script_text.specs.declared.lines.Line.{Line}
 use Rattle.script_text.specs.declared.lines.Line.TheVariants.{Event, Start, Kill, Step, Settle}
 use Rattle.deeds.specs.Deeds.{entry_of, Deed, Enters, Starts, Kills, Refreshes, Gives, Hears, call_told, entry_in, entries_of, Fits, IsServed}
 use Rattle.deeds.specs.Given.{Given, given_of, given_behind}
-use Rattle.deeds.specs.Parts.{Exchange, resting, done_by, IsStepFrom, IsWork, IsUpToRest, IsTurnFrom, IsTurnIf, resume_of, joined, are_quiet, IsRound}
-use Rattle.deeds.specs.Parts.{AreBusy, IsSettle, IsPartOf, Follows, FollowsOn}
-use Rattle.deeds.specs.History as history
+use Rattle.hsm_replay.specs.Parts.{Exchange, resting, done_by, IsStepFrom, IsWork, IsUpToRest, IsTurnFrom, IsTurnIf, resume_of, joined, are_quiet, IsRound}
+use Rattle.hsm_replay.specs.Parts.{AreBusy, IsSettle, IsPartOf, Follows, FollowsOn}
+use Rattle.hsm_replay.specs.Lines as history
 use Rattle.deeds.proofs.Giving.{given_then}
 use Rattle.deeds.proofs.Living.{entries_then}
 

@@ -51,6 +51,15 @@ IsWork x = (x.asked ≢ Idle) × Fits x.asked x.told
 abbrev pub IsUpToRest : Daemon → List Deed → Type 0
 IsUpToRest daemon deeds = (work : List Exchange) × All IsWork work × (deeds ≡ flat_map (done_by daemon) work ++ done_by daemon resting)
 
+-- what is left of a turn, by what the daemon gave last: nothing where it rests, or doesn't run
+abbrev pub IsLeftFrom : Daemon → Option Act → List Deed → Type 0
+IsLeftFrom daemon None deeds = deeds ≡ []
+IsLeftFrom daemon (Some Idle) deeds = deeds ≡ []
+IsLeftFrom daemon (Some asked) deeds = IsUpToRest daemon deeds
+
+abbrev pub IsLeft : Daemon → Given → List Deed → Type 0
+IsLeft daemon given deeds = IsLeftFrom daemon (given_of daemon given) deeds
+
 -- A daemon's turn, by what it gave last. Where that is no rest, a step has begun a turn, which ends first. One that doesn't run has no turn.
 abbrev pub IsTurnFrom : Daemon → Option Act → List Deed → Type 0
 IsTurnFrom daemon None deeds = deeds ≡ []
@@ -136,6 +145,9 @@ module _ (quiet : Entry → Bool) where
   IsPartOf given (Kill daemon) deeds = deeds ≡ Kills daemon ∷ []
   IsPartOf given (Step daemon) deeds = IsStep daemon given deeds
   IsPartOf given Settle deeds = IsSettle given deeds
+
+  abbrev pub IsLinePart : Line → Given → List Deed → Type 0
+  IsLinePart line given deeds = IsPartOf given line deeds
 
   -- The deeds fall into parts, one for each line, in order.
   abbrev pub Follows : Given → List Line → List Deed → Type 0

@@ -13,7 +13,7 @@ use Rattle.script_text.specs.declared.lines.Line.{Line}
 use Rattle.script_text.specs.declared.lines.Line.TheVariants.{Event, Start, Kill, Step, Settle}
 use Rattle.deeds.specs.Deeds.{entry_of, Deed, Enters, Hears, Breaks, Loses, call_told, entries_of, IsServed}
 use Rattle.deeds.specs.Given.{Given}
-use Rattle.deeds.specs.Parts as parts
+use Rattle.hsm_replay.specs.Parts as parts
 
 -- ---- entries
 

@@ -1,5 +1,0 @@
-use Rattle.deeds.proofs.Following as law
-use Rattle.deeds.proofs.laws.follows_whole.Goals as goal
-
-pub returns : goal.returns
-returns c = law.follows_whole

@@ -1,0 +1,307 @@
+-- The deeds of events, turns, resumes and rounds.
+use Rattle.std.proofs.Common.{◌≡◌, ◌∙◌, ◌+◌, ◌∷◌, ◌++◌, [], ℕ, Bool, true, false, List, length, drop, Option, Some, None, option_map, Result, Ok, Err, inl, inr}
+use Rattle.std.proofs.Common.{refl, sym, ap, subst, append-nil, append_assoc}
+use Rattle.std.specs.List.{list_all}
+use Rattle.std.specs.Prelude.{IfSome}
+use Rattle.std.proofs.lemmas.List.Elements.{All-from_recursion}
+use Rattle.media_model.specs.declared.drive.Drive as drive
+use Rattle.hsm_types.specs.Callers.{IsCallerNumber}
+use Rattle.hsm_types.specs.declared.daemons.Act.{Act}
+use Rattle.hsm_types.specs.declared.daemons.Act.TheVariants.{Dm, Copy, Fetch, Idle}
+use Rattle.hsm_types.specs.declared.daemons.Daemon.{Daemon}
+use Rattle.hsm_types.specs.declared.daemons.Daemon.TheVariants.{Recall, Migrate}
+use Rattle.plain_model.specs.Faults.{fault_of}
+use Rattle.plain_model.specs.declared.entries.Action.{Action}
+use Rattle.plain_model.specs.declared.entries.Action.TheVariants.{Resume}
+use Rattle.plain_model.specs.declared.entries.Actor.{Actor}
+use Rattle.plain_model.specs.declared.entries.Actor.TheVariants.{Caller}
+use Rattle.plain_model.specs.declared.entries.Answer.{Answer}
+use Rattle.plain_model.specs.declared.entries.Entry.{Entry}
+use Rattle.hsm_core.specs.Store.{Store}
+use Rattle.deeds.specs.Deeds.{entry_of, Deed, Enters, Starts, Kills, Refreshes, IsServed, entries_of}
+use Rattle.deeds.specs.Given.{Given, given_of, asked_behind, given_behind}
+use Rattle.deeds.specs.Lives.{life}
+use Rattle.deeds.proofs.Giving.{given_then}
+use Rattle.hsm_system.specs.Events.{actor_of, action_of}
+use Rattle.hsm_system.specs.Goes.{Goes, EntersBy, EndsBy, StillWorks}
+use Rattle.hsm_system.specs.Systems.{System, Rests}
+use Rattle.hsm_system.specs.declared.events.Event.{Event}
+use Rattle.hsm_system.specs.Running.{Migrating, Recalling}
+use Rattle.hsm_system.specs.declared.stops.Stop.{Stop}
+use Rattle.hsm_system.specs.declared.stops.Stop.TheVariants as stop
+use Rattle.marked_history.specs.Quiet.{is_quiet}
+use Rattle.hsm_replay.specs.Deeds.{given_now, IsSo, RunsBy, WorksOn, IsDoneBy, IsStopOf, IsStoppedBy, ByDeeds, MayResumeBy, IsResumeCut, AreResumesOf, AreResumesCutIn, IsRoundOf}
+use Rattle.hsm_replay.specs.Parts.{IsStep, IsLeft, IsLeftFrom, IsTurn, IsTurnFrom, IsTurnIf, AreResumes, resume_of, are_quiet, IsRound, IsSettle}
+use Rattle.hsm_replay.specs.Stopped.{Ending, Broken, Unmade, IsEventCut, IsStepCut, IsLeftCut, IsLeftCutFrom, IsTurnCut, IsTurnCutFrom, IsRoundCut, IsSettleCut}
+use Rattle.hsm_replay.specs.Systems.{Run, started, killed}
+use Rattle.hsm_replay.specs.Turns.{IsAlone, HasTurned, HaveResumed}
+use Rattle.hsm_replay.proofs.Deeds.{runs_still, done_none, done_then, stopped_then, done_as, stopped_as, done_to}
+use Rattle.hsm_replay.proofs.PartsOn.{IsAtRest, IsSoFar, so_far_none, so_far_on, so_far_over, so_far_cut, step_turns, step_turns_cut, step_cut, left_turns, left_cut, left_turns_cut}
+use Rattle.hsm_replay.proofs.PartsOn.{ResumesTo, resumes_none, resumes_skip, resumes_on, resumes_cut, RoundsTo, rounds_none, rounds_on, rounds_settle, rounds_cut}
+use Rattle.hsm_replay.proofs.PartsRun.{given_so}
+use Rattle.hsm_replay.proofs.Rounds.{drop_first}
+
+-- ---- events
+
+abbrev pub IsEntryOf : Actor → Action → Given → List Deed → Type 0
+IsEntryOf actor asked given deeds = (told : Answer) × IsServed told × (deeds ≡ Enters (entry_of actor asked told) ∷ [])
+
+abbrev pub IsCutOf : Actor → Action → Given → Ending → List Deed → Type 0
+IsCutOf actor asked given ending deeds = IsEventCut actor asked ending deeds
+
+module _ {D M : Type 0} (h : drive.Ghosts M) (old new : Run D M) (same : new.drives ≡ old.drives) where
+  none_entered : Goes [] old.system new.system → RunsBy h [] old new
+  none_entered goes = runs_still h [] old new goes same (λ ds. (All-from_recursion (IsSo h ds) [] tt, refl)) refl
+
+  one_entered : (e : Entry) → Goes (Enters e ∷ []) old.system new.system → RunsBy h (Enters e ∷ []) old new
+  one_entered e goes = runs_still h (Enters e ∷ []) old new goes same (λ ds. (All-from_recursion (IsSo h ds) (Enters e ∷ []) (tt, tt), (ds, refl, refl))) refl
+
+  module _ (actor : Actor) (asked : Action) where
+    event_stopped : (why : Stop) → EndsBy why (Enters (entry_of actor asked (fault_of asked)) ∷ []) [] old.system new.system → IsStoppedBy h (IsCutOf actor asked) why old new
+    event_stopped stop.Disk (inl broke) = record { ending = Broken; deeds = Enters (entry_of actor asked (fault_of asked)) ∷ []; cut = refl; runs = one_entered (entry_of actor asked (fault_of asked)) broke.0; stops = broke.1 }
+    event_stopped stop.Disk (inr closed) = record { ending = Unmade; deeds = []; cut = refl; runs = none_entered closed.0; stops = closed.1 }
+    event_stopped stop.Memory lacks = record { ending = Unmade; deeds = []; cut = refl; runs = none_entered lacks.0; stops = lacks.1 }
+
+    pub event_by_deeds : {T : Type 0} (result : Result T Stop) → EntersBy actor asked result old.system new.system → ByDeeds h (λ (done : T). IsEntryOf actor asked) (IsCutOf actor asked) result old new
+    event_by_deeds (Ok x) enters =
+        let by = enters.done in
+        let e : Entry = entry_of actor asked by.1.0 in
+        record {
+          deeds = Enters e ∷ [];
+          part = (by.1.0, by.1.1, refl);
+          runs = one_entered e (subst (λ (ds : List Deed). Goes ds old.system new.system) by.1.2 by.2);
+          works = inr enters.works;
+        }
+    event_by_deeds (Err why) enters = event_stopped why enters.stopped
+
+module _ {D M : Type 0} (h : drive.Ghosts M) (caller : ℕ) (number : IsCallerNumber caller) (old new : Run D M) where
+  -- a resume
+  pub resume_by_deeds : (result : Result (Unit {0}) Stop) → ByDeeds h (λ (done : Unit {0}). IsEntryOf (Caller caller) Resume) (IsCutOf (Caller caller) Resume) result old new → ByDeeds h (λ (done : Unit {0}). MayResumeBy caller) (IsResumeCut caller) result old new
+  resume_by_deeds (Ok tt) done = done_as h (IsEntryOf (Caller caller) Resume) (MayResumeBy caller) old new (λ deeds is. inr (is.0, number, is.1, is.2)) done
+  resume_by_deeds (Err why) stopped = stopped_as h (IsCutOf (Caller caller) Resume) (IsResumeCut caller) why old new (λ ending deeds cut. (number, cut)) stopped
+
+-- the event of a line
+pub entered_by : {D T : Type 0} (event : Event) (actor : Actor) (asked : Action) → actor_of event ≡ actor → action_of event ≡ asked → (result : Result T Stop) (old new : System D) → EntersBy (actor_of event) (action_of event) result old new → EntersBy actor asked result old new
+entered_by event actor asked who what result old new enters = subst (λ (a : Actor). EntersBy a asked result old new) who (subst (λ (x : Action). EntersBy (actor_of event) x result old new) what enters)
+
+-- ---- starts and kills
+
+module _ {D M : Type 0} (h : drive.Ghosts M) (daemon : Daemon) (old new : Run D M) where
+  started_store : started daemon old ≡ new → old.system.store ≡ new.system.store
+  started_store is = by daemon is
+    where
+      by : (daemon : Daemon) → started daemon old ≡ new → old.system.store ≡ new.system.store
+      by Recall same = ap (λ (s : Run D M). s.system.store) same
+      by Migrate same = ap (λ (s : Run D M). s.system.store) same
+
+  killed_store : killed daemon old ≡ new → old.system.store ≡ new.system.store
+  killed_store is = by daemon is
+    where
+      by : (daemon : Daemon) → killed daemon old ≡ new → old.system.store ≡ new.system.store
+      by Recall same = ap (λ (s : Run D M). s.system.store) same
+      by Migrate same = ap (λ (s : Run D M). s.system.store) same
+
+  pub started_done : new ≡ started daemon old → RunsBy h (Starts daemon ∷ []) old new → IsDoneBy h (λ given deeds. deeds ≡ Starts daemon ∷ []) old new
+  started_done is runs = record { deeds = Starts daemon ∷ []; part = refl; runs = runs; works = inl (sym (started_store (sym is))) }
+
+  pub killed_done : new ≡ killed daemon old → RunsBy h (Kills daemon ∷ []) old new → IsDoneBy h (λ given deeds. deeds ≡ Kills daemon ∷ []) old new
+  killed_done is runs = record { deeds = Kills daemon ∷ []; part = refl; runs = runs; works = inl (sym (killed_store (sym is))) }
+
+-- ---- turns
+
+rests_of : {R : Type 0} (asked : R → Act) (o : Option R) → IfSome o (λ (r : R). asked r ≡ Idle) → IsAtRest (option_map asked o)
+rests_of asked None rests = tt
+rests_of asked (Some r) rests = subst (λ (a : Act). IsAtRest (Some a)) (sym rests) tt
+
+idle_of : (asked : Act) → IsAtRest (Some asked) → asked ≡ Idle
+idle_of Idle rests = refl
+idle_of (Dm sid call) rests = absurd rests
+idle_of (Copy volume handle segment bytes) rests = absurd rests
+idle_of (Fetch entry) rests = absurd rests
+
+of_rests : {R : Type 0} (asked : R → Act) (o : Option R) → IsAtRest (option_map asked o) → IfSome o (λ (r : R). asked r ≡ Idle)
+of_rests asked None rests = tt
+of_rests asked (Some r) rests = idle_of (asked r) rests
+
+module _ {D M : Type 0} where
+  pub at_rest : (daemon : Daemon) (s : Run D M) → Rests daemon s.system → IsAtRest (given_of daemon (given_now s))
+  at_rest Recall s rests = rests_of (λ (r : Recalling). r.machine.asked) s.system.recall rests
+  at_rest Migrate s rests = rests_of (λ (m : Migrating). m.machine.asked) s.system.migrate rests
+
+  pub rests_at : (daemon : Daemon) (s : Run D M) → IsAtRest (given_of daemon (given_now s)) → Rests daemon s.system
+  rests_at Recall s rests = of_rests (λ (r : Recalling). r.machine.asked) s.system.recall rests
+  rests_at Migrate s rests = of_rests (λ (m : Migrating). m.machine.asked) s.system.migrate rests
+
+-- what is left of a turn, so far
+abbrev pub IsLeftSoFar : Daemon → Given → List Deed → Type 0
+IsLeftSoFar daemon given deeds = IsSoFar daemon (given_of daemon given) deeds (given_of daemon (given_behind deeds given))
+
+-- it doesn't rest
+abbrev Works : Daemon → Given → Type 0
+Works daemon given = IsAtRest (given_of daemon given) → ⊥
+
+left_nothing : (daemon : Daemon) (given : Given) → IsLeftSoFar daemon given []
+left_nothing Recall given = so_far_none Recall given.recall
+left_nothing Migrate given = so_far_none Migrate given.migrate
+
+given_next : (daemon : Daemon) (deeds more : List Deed) (given : Given) → given_of daemon (given_behind (deeds ++ more) given) ≡ asked_behind (life daemon more) (given_of daemon (given_behind deeds given))
+given_next daemon deeds more given = ap (λ (g : Given). given_of daemon g) (given_then deeds more given) ∙ given_so daemon more (given_behind deeds given)
+
+module _ {D M : Type 0} (h : drive.Ghosts M) (daemon : Daemon) where
+  pub left_none : (s : Run D M) → IsDoneBy h (IsLeftSoFar daemon) s s
+  left_none s = done_none h (IsLeftSoFar daemon) s (left_nothing daemon (given_now s))
+
+  pub left_on : (a b c : Run D M) → (Rests daemon b.system → ⊥) → IsDoneBy h (IsLeftSoFar daemon) a b → IsDoneBy h (IsStep daemon) b c → IsDoneBy h (IsLeftSoFar daemon) a c
+  left_on a b c works first then = done_then h (λ given deeds. IsLeftSoFar daemon given deeds × Works daemon (given_behind deeds given)) (IsStep daemon) (IsLeftSoFar daemon) a b c
+      (λ deeds step so is. subst (λ (o : Option Act). IsSoFar daemon (given_of daemon (given_now a)) (deeds ++ step) o) (sym (given_next daemon deeds step (given_now a)))
+      (so_far_on daemon (given_of daemon (given_now a)) (given_of daemon (given_behind deeds (given_now a))) deeds step so.0 so.1 is))
+      (done_to h (IsLeftSoFar daemon) (Works daemon) a b (λ rests. works (rests_at daemon b rests)) first) then
+
+  pub left_over : (a b : Run D M) → Rests daemon b.system → IsDoneBy h (IsLeftSoFar daemon) a b → IsDoneBy h (IsLeft daemon) a b
+  left_over a b rests done = done_as h (λ given deeds. IsLeftSoFar daemon given deeds × IsAtRest (given_of daemon (given_behind deeds given))) (IsLeft daemon) a b
+      (λ deeds is. so_far_over daemon (given_of daemon (given_now a)) (given_of daemon (given_behind deeds (given_now a))) deeds is.0 is.1)
+      (done_to h (IsLeftSoFar daemon) (λ given. IsAtRest (given_of daemon given)) a b (at_rest daemon b rests) done)
+
+  pub left_stopped : (why : Stop) (a b c : Run D M) → (Rests daemon b.system → ⊥) → IsDoneBy h (IsLeftSoFar daemon) a b → IsStoppedBy h (IsStepCut daemon) why b c → IsStoppedBy h (IsLeftCut daemon) why a c
+  left_stopped why a b c works first then = stopped_then h (λ given deeds. IsLeftSoFar daemon given deeds × Works daemon (given_behind deeds given)) (IsStepCut daemon) (IsLeftCut daemon) why a b c
+      (λ ending deeds last so cut. so_far_cut daemon (given_of daemon (given_now a)) (given_of daemon (given_behind deeds (given_now a))) ending deeds last so.0 so.1 cut)
+      (done_to h (IsLeftSoFar daemon) (Works daemon) a b (λ rests. works (rests_at daemon b rests)) first) then
+
+  -- ---- a step of one that rests, and what is left behind it
+
+  module _ (a b : Run D M) (rests : Rests daemon a.system) where
+    pub whole_stopped : (why : Stop) → IsStoppedBy h (IsStepCut daemon) why a b → IsStoppedBy h (IsTurnCut daemon) why a b
+    whole_stopped why stopped = stopped_as h (IsStepCut daemon) (IsTurnCut daemon) why a b (λ ending deeds cut. step_cut daemon (given_of daemon (given_now a)) ending deeds (at_rest daemon a rests) cut) stopped
+
+    pub whole_done : (c : Run D M) (result : Result (Unit {0}) Stop) → IsDoneBy h (IsStep daemon) a b → ByDeeds h (λ (done : Unit {0}). IsLeft daemon) (IsLeftCut daemon) result b c → ByDeeds h (λ (done : Unit {0}). IsTurn daemon) (IsTurnCut daemon) result a c
+    whole_done c (Ok tt) step left = done_then h (IsStep daemon) (IsLeft daemon) (IsTurn daemon) a b c
+        (λ deeds more is then. step_turns daemon (given_of daemon (given_now a)) deeds more (at_rest daemon a rests) is (subst (λ (o : Option Act). IsLeftFrom daemon o more) (given_so daemon deeds (given_now a)) then)) step left
+    whole_done c (Err why) step left = stopped_then h (IsStep daemon) (IsLeftCut daemon) (IsTurnCut daemon) why a b c
+        (λ ending deeds more is cut. step_turns_cut daemon (given_of daemon (given_now a)) ending deeds more (at_rest daemon a rests) is (subst (λ (o : Option Act). IsLeftCutFrom daemon o ending more) (given_so daemon deeds (given_now a)) cut)) step left
+
+  -- ---- a turn
+
+  pub turn_stopped : (why : Stop) (a b : Run D M) → IsStoppedBy h (IsLeftCut daemon) why a b → IsStoppedBy h (IsTurnCut daemon) why a b
+  turn_stopped why a b stopped = stopped_as h (IsLeftCut daemon) (IsTurnCut daemon) why a b (λ ending deeds cut. left_cut daemon (given_of daemon (given_now a)) ending deeds cut) stopped
+
+  pub turn_done : (a b c : Run D M) (result : Result (Unit {0}) Stop) → IsDoneBy h (IsLeft daemon) a b → ByDeeds h (λ (done : Unit {0}). IsTurn daemon) (IsTurnCut daemon) result b c → ByDeeds h (λ (done : Unit {0}). IsTurn daemon) (IsTurnCut daemon) result a c
+  turn_done a b c (Ok tt) left turn = done_then h (IsLeft daemon) (IsTurn daemon) (IsTurn daemon) a b c
+      (λ deeds more is then. left_turns daemon (given_of daemon (given_now a)) deeds more is (subst (λ (o : Option Act). IsTurnFrom daemon o more) (given_so daemon deeds (given_now a)) then)) left turn
+  turn_done a b c (Err why) left turn = stopped_then h (IsLeft daemon) (IsTurnCut daemon) (IsTurnCut daemon) why a b c
+      (λ ending deeds more is cut. left_turns_cut daemon (given_of daemon (given_now a)) ending deeds more is (subst (λ (o : Option Act). IsTurnCutFrom daemon o ending more) (given_so daemon deeds (given_now a)) cut)) left turn
+
+-- ---- resumes
+
+abbrev pub HaveResumedTo : ℕ → Given → List Deed → Type 0
+HaveResumedTo number given deeds = ResumesTo number deeds
+
+resume_next : (number : ℕ) (given : Given) (deeds more : List Deed) → ResumesTo number deeds → MayResumeBy number given more → ResumesTo (number + 1) (deeds ++ more)
+resume_next number given deeds more so (inl none) = subst (λ (ds : List Deed). ResumesTo (number + 1) (deeds ++ ds)) (sym none) (subst (λ (ds : List Deed). ResumesTo (number + 1) ds) (sym (append-nil deeds)) (resumes_skip number deeds so))
+resume_next number given deeds more so (inr one) = subst (λ (ds : List Deed). ResumesTo (number + 1) (deeds ++ ds)) (sym one.3) (resumes_on number deeds so one.1 one.0 one.2)
+
+module _ {D M : Type 0} (h : drive.Ghosts M) where
+  pub resumed_none_by : (s : Run D M) → IsDoneBy h (HaveResumedTo 1) s s
+  resumed_none_by s = done_none h (HaveResumedTo 1) s resumes_none
+
+  pub resumed_on_by : (number : ℕ) (a b c : Run D M) → IsDoneBy h (HaveResumedTo number) a b → IsDoneBy h (MayResumeBy number) b c → IsDoneBy h (HaveResumedTo (number + 1)) a c
+  resumed_on_by number a b c first then = done_then h (HaveResumedTo number) (MayResumeBy number) (HaveResumedTo (number + 1)) a b c (λ deeds more so is. resume_next number (given_behind deeds (given_now a)) deeds more so is) first then
+
+  pub resumed_stopped : (number : ℕ) (why : Stop) (a b c : Run D M) → IsDoneBy h (HaveResumedTo number) a b → IsStoppedBy h (IsResumeCut number) why b c → IsStoppedBy h AreResumesCutIn why a c
+  resumed_stopped number why a b c first then = stopped_then h (HaveResumedTo number) (IsResumeCut number) AreResumesCutIn why a b c (λ ending deeds last so cut. resumes_cut number deeds so cut.0 ending last cut.1) first then
+
+  pub resumed_all_by : (number : ℕ) (a b : Run D M) → IsDoneBy h (HaveResumedTo number) a b → IsDoneBy h AreResumesOf a b
+  resumed_all_by number a b done = done_as h (HaveResumedTo number) AreResumesOf a b (λ deeds so. so.resumes) done
+
+-- ---- rounds
+
+-- recall's turn, and the resumes behind it
+abbrev pub HasBegun : Given → List Deed → Type 0
+HasBegun given deeds = (recalls : List Deed) × (resumes : List Deed) × (deeds ≡ recalls ++ resumes) × IsTurn Recall given recalls × AreResumes resumes
+
+module _ {D M : Type 0} (h : drive.Ghosts M) where
+  pub round_begun_by : (a b c : Run D M) → IsDoneBy h (IsTurn Recall) a b → IsDoneBy h AreResumesOf b c → IsDoneBy h HasBegun a c
+  round_begun_by a b c turn resumes = done_then h (IsTurn Recall) AreResumesOf HasBegun a b c (λ deeds more is then. (deeds, more, refl, is, then)) turn resumes
+
+  -- whether the entries of what was done are quiet
+  pub quiet_by : (IsPart : Given → List Deed → Type 0) (a b : Run D M) (quiet : Bool) → quiet ≡ list_all is_quiet (drop (length a.system.store.history) b.system.store.history) → IsDoneBy h IsPart a b → IsDoneBy h (λ given deeds. IsPart given deeds × (are_quiet is_quiet deeds ≡ quiet)) a b
+  quiet_by IsPart a b quiet is done =
+      let added : b.system.store.history ≡ a.system.store.history ++ entries_of done.deeds = done.runs.goes.leads.entries in
+      let rest : drop (length a.system.store.history) b.system.store.history ≡ entries_of done.deeds = ap (λ (es : List Entry). drop (length a.system.store.history) es) added ∙ drop_first a.system.store.history (entries_of done.deeds) in
+      record { deeds = done.deeds; part = (done.part, sym (is ∙ ap (λ (es : List Entry). list_all is_quiet es) rest)); runs = done.runs; works = done.works }
+
+  -- it ends there where something wasn't quiet
+  pub round_loud : (a c : Run D M) → false ≡ list_all is_quiet (drop (length a.system.store.history) c.system.store.history) → IsDoneBy h HasBegun a c → IsDoneBy h (IsRoundOf false) a c
+  round_loud a c loud begun = done_as h (λ given deeds. HasBegun given deeds × (are_quiet is_quiet deeds ≡ false)) (IsRoundOf false) a c
+      (λ deeds is. (
+        record {
+          recalls = is.0.0;
+          resumes = is.0.1;
+          migrates = [];
+          parted = is.0.2 ∙ ap (λ (ds : List Deed). is.0.0 ++ ds) (sym (append-nil is.0.1));
+          recall_turn = is.0.3;
+          resumed = is.0.4;
+          migrate_turn = subst (λ (q : Bool). IsTurnIf q Migrate (given_now a) []) (sym (ap (are_quiet is_quiet) (sym is.0.2) ∙ is.1)) refl;
+        },
+        is.1,
+      ))
+      (quiet_by HasBegun a c false loud begun)
+
+  -- migration's turn is by what it gave before the round
+  migrate_same : (a b c : Run D M) → HasTurned Recall a b → HaveResumed b c → (given_now c).migrate ≡ (given_now a).migrate
+  migrate_same a b c turned resumed = ap (λ (o : Option Migrating). option_map (λ (m : Migrating). m.machine.asked) o) (resumed.migrate ∙ turned.alone)
+
+  abbrev BegunOf : Run D M → Given → List Deed → Type 0
+  BegunOf a given deeds = (HasBegun given deeds × (are_quiet is_quiet deeds ≡ true)) × ((given_behind deeds given).migrate ≡ (given_now a).migrate)
+
+  begun_of : (a b c : Run D M) → HasTurned Recall a b → HaveResumed b c → true ≡ list_all is_quiet (drop (length a.system.store.history) c.system.store.history) → IsDoneBy h HasBegun a c → IsDoneBy h (BegunOf a) a c
+  begun_of a b c turned resumed calm begun = done_to h (λ given deeds. HasBegun given deeds × (are_quiet is_quiet deeds ≡ true)) (λ (given : Given). given.migrate ≡ (given_now a).migrate) a c (migrate_same a b c turned resumed) (quiet_by HasBegun a c true calm begun)
+
+  pub round_done : (a b c d : Run D M) (quiet : Bool) → HasTurned Recall a b → HaveResumed b c → true ≡ list_all is_quiet (drop (length a.system.store.history) c.system.store.history) → quiet ≡ list_all is_quiet (drop (length a.system.store.history) d.system.store.history)
+      → IsDoneBy h HasBegun a c → IsDoneBy h (IsTurn Migrate) c d → IsDoneBy h (IsRoundOf quiet) a d
+  round_done a b c d quiet turned resumed calm is begun turn = quiet_by (IsRound is_quiet) a d quiet is (done_then h (BegunOf a) (IsTurn Migrate) (IsRound is_quiet) a c d
+      (λ deeds more so then. record {
+        recalls = so.0.0.0;
+        resumes = so.0.0.1;
+        migrates = more;
+        parted = ap (λ (ds : List Deed). ds ++ more) so.0.0.2 ∙ append_assoc so.0.0.0 so.0.0.1 more;
+        recall_turn = so.0.0.3;
+        resumed = so.0.0.4;
+        migrate_turn = subst (λ (q : Bool). IsTurnIf q Migrate (given_now a) more) (sym (ap (are_quiet is_quiet) (sym so.0.0.2) ∙ so.0.1)) (subst (λ (o : Option Act). IsTurnFrom Migrate o more) so.1 then);
+      })
+      (begun_of a b c turned resumed calm begun) turn)
+
+  -- ---- rounds that were stopped
+
+  pub recall_cut : (why : Stop) (a b : Run D M) → IsStoppedBy h (IsTurnCut Recall) why a b → IsStoppedBy h (IsRoundCut is_quiet) why a b
+  recall_cut why a b stopped = stopped_as h (IsTurnCut Recall) (IsRoundCut is_quiet) why a b (λ ending deeds cut. inl cut) stopped
+
+  pub resumes_cut_by : (why : Stop) (a b c : Run D M) → IsDoneBy h (IsTurn Recall) a b → IsStoppedBy h AreResumesCutIn why b c → IsStoppedBy h (IsRoundCut is_quiet) why a c
+  resumes_cut_by why a b c turn stopped = stopped_then h (IsTurn Recall) AreResumesCutIn (IsRoundCut is_quiet) why a b c (λ ending deeds last is cut. inr (inl (deeds, last, refl, is, cut))) turn stopped
+
+  pub migrate_cut : (why : Stop) (a b c d : Run D M) → HasTurned Recall a b → HaveResumed b c → true ≡ list_all is_quiet (drop (length a.system.store.history) c.system.store.history) → IsDoneBy h HasBegun a c → IsStoppedBy h (IsTurnCut Migrate) why c d → IsStoppedBy h (IsRoundCut is_quiet) why a d
+  migrate_cut why a b c d turned resumed calm begun stopped = stopped_then h (BegunOf a) (IsTurnCut Migrate) (IsRoundCut is_quiet) why a c d
+      (λ ending deeds last so cut. inr (inr (
+        so.0.0.0,
+        so.0.0.1,
+        last,
+        ap (λ (ds : List Deed). ds ++ last) so.0.0.2 ∙ append_assoc so.0.0.0 so.0.0.1 last,
+        so.0.0.3,
+        so.0.0.4,
+        ap (are_quiet is_quiet) (sym so.0.0.2) ∙ so.0.1,
+        subst (λ (o : Option Act). IsTurnCutFrom Migrate o ending last) so.1 cut,
+      )))
+      (begun_of a b c turned resumed calm begun) stopped
+
+  -- ---- settles
+
+  pub settle_begun : (a b : Run D M) → RunsBy h (Refreshes ∷ []) a b → b.system.store ≡ a.system.store → IsDoneBy h (RoundsTo is_quiet) a b
+  settle_begun a b runs same = record { deeds = Refreshes ∷ []; part = rounds_none is_quiet (given_now a); runs = runs; works = inl same }
+
+  pub settle_on : (a b c : Run D M) (quiet : Bool) → quiet ≡ false → IsDoneBy h (RoundsTo is_quiet) a b → IsDoneBy h (IsRoundOf quiet) b c → IsDoneBy h (RoundsTo is_quiet) a c
+  settle_on a b c quiet loud first then = done_then h (RoundsTo is_quiet) (IsRoundOf quiet) (RoundsTo is_quiet) a b c (λ deeds round so is. rounds_on is_quiet (given_now a) deeds so round is.0 (is.1 ∙ loud)) first then
+
+  pub settle_done : (a b c : Run D M) (quiet : Bool) → quiet ≡ true → IsDoneBy h (RoundsTo is_quiet) a b → IsDoneBy h (IsRoundOf quiet) b c → IsDoneBy h (IsSettle is_quiet) a c
+  settle_done a b c quiet calm first then = done_then h (RoundsTo is_quiet) (IsRoundOf quiet) (IsSettle is_quiet) a b c (λ deeds round so is. rounds_settle is_quiet (given_now a) deeds so round is.0 (is.1 ∙ calm)) first then
+
+  pub settle_stopped : (why : Stop) (a b c : Run D M) → IsDoneBy h (RoundsTo is_quiet) a b → IsStoppedBy h (IsRoundCut is_quiet) why b c → IsStoppedBy h (IsSettleCut is_quiet) why a c
+  settle_stopped why a b c first then = stopped_then h (RoundsTo is_quiet) (IsRoundCut is_quiet) (IsSettleCut is_quiet) why a b c (λ ending deeds last so cut. rounds_cut is_quiet (given_now a) deeds so last ending cut) first then

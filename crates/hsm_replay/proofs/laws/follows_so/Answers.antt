@@ -1,0 +1,5 @@
+use Rattle.hsm_replay.proofs.PartsDone as law
+use Rattle.hsm_replay.proofs.laws.follows_so.Goals as goal
+
+pub returns : goal.returns
+returns c = law.follows_so
