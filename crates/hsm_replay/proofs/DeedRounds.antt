@@ -1,5 +1,5 @@
 -- The deeds of events, turns, resumes and rounds.
-use Rattle.std.proofs.Common.{◌≡◌, ◌∙◌, ◌+◌, ◌∷◌, ◌++◌, [], ℕ, Bool, true, false, List, length, drop, Option, Some, None, option_map, Result, Ok, Err, inl, inr}
+use Rattle.std.proofs.Common.{◌≡◌, ◌∙◌, ◌+◌, ◌∷◌, ◌++◌, [], ℕ, Bool, true, false, List, length, drop, Option, Some, None, option_map, Result, Ok, Err, OnErr, inl, inr}
 use Rattle.std.proofs.Common.{refl, sym, ap, subst, append-nil, append_assoc}
 use Rattle.std.specs.List.{list_all}
 use Rattle.std.specs.Prelude.{IfSome}
@@ -17,24 +17,23 @@ use Rattle.plain_model.specs.declared.entries.Actor.{Actor}
 use Rattle.plain_model.specs.declared.entries.Actor.TheVariants.{Caller}
 use Rattle.plain_model.specs.declared.entries.Answer.{Answer}
 use Rattle.plain_model.specs.declared.entries.Entry.{Entry}
-use Rattle.hsm_core.specs.Store.{Store}
 use Rattle.deeds.specs.Deeds.{entry_of, Deed, Enters, Starts, Kills, Refreshes, IsServed, entries_of}
 use Rattle.deeds.specs.Given.{Given, given_of, asked_behind, given_behind}
 use Rattle.deeds.specs.Lives.{life}
 use Rattle.deeds.proofs.Giving.{given_then}
 use Rattle.hsm_system.specs.Events.{actor_of, action_of}
-use Rattle.hsm_system.specs.Goes.{Goes, EntersBy, EndsBy, StillWorks}
+use Rattle.hsm_system.specs.Goes.{Goes, EntersBy, EndsBy}
 use Rattle.hsm_system.specs.Systems.{System, Rests}
 use Rattle.hsm_system.specs.declared.events.Event.{Event}
 use Rattle.hsm_system.specs.Running.{Migrating, Recalling}
 use Rattle.hsm_system.specs.declared.stops.Stop.{Stop}
 use Rattle.hsm_system.specs.declared.stops.Stop.TheVariants as stop
 use Rattle.marked_history.specs.Quiet.{is_quiet}
-use Rattle.hsm_replay.specs.Deeds.{given_now, IsSo, RunsBy, WorksOn, IsDoneBy, IsStopOf, IsStoppedBy, ByDeeds, MayResumeBy, IsResumeCut, AreResumesOf, AreResumesCutIn, IsRoundOf}
-use Rattle.hsm_replay.specs.Parts.{IsStep, IsLeft, IsLeftFrom, IsTurn, IsTurnFrom, IsTurnIf, AreResumes, resume_of, are_quiet, IsRound, IsSettle}
+use Rattle.hsm_replay.specs.Deeds.{given_now, IsSo, RunsBy, IsDoneBy, IsStoppedBy, ByDeeds, MayResumeBy, IsResumeCut, AreResumesOf, AreResumesCutIn, IsRoundOf}
+use Rattle.hsm_replay.specs.Parts.{IsStep, IsLeft, IsLeftFrom, IsTurn, IsTurnFrom, IsTurnIf, AreResumes, are_quiet, IsRound, IsSettle}
 use Rattle.hsm_replay.specs.Stopped.{Ending, Broken, Unmade, IsEventCut, IsStepCut, IsLeftCut, IsLeftCutFrom, IsTurnCut, IsTurnCutFrom, IsRoundCut, IsSettleCut}
 use Rattle.hsm_replay.specs.Systems.{Run, started, killed}
-use Rattle.hsm_replay.specs.Turns.{IsAlone, HasTurned, HaveResumed}
+use Rattle.hsm_replay.specs.Turns.{HasTurned, HaveResumed}
 use Rattle.hsm_replay.proofs.Deeds.{runs_still, done_none, done_then, stopped_then, done_as, stopped_as, done_to}
 use Rattle.hsm_replay.proofs.PartsOn.{IsAtRest, IsSoFar, so_far_none, so_far_on, so_far_over, so_far_cut, step_turns, step_turns_cut, step_cut, left_turns, left_cut, left_turns_cut}
 use Rattle.hsm_replay.proofs.PartsOn.{ResumesTo, resumes_none, resumes_skip, resumes_on, resumes_cut, RoundsTo, rounds_none, rounds_on, rounds_settle, rounds_cut}
@@ -74,11 +73,11 @@ module _ {D M : Type 0} (h : drive.Ghosts M) (old new : Run D M) (same : new.dri
         }
     event_by_deeds (Err why) enters = event_stopped why enters.stopped
 
-module _ {D M : Type 0} (h : drive.Ghosts M) (caller : ℕ) (number : IsCallerNumber caller) (old new : Run D M) where
+module _ {D M : Type 0} (h : drive.Ghosts M) (MayGoOn : ℕ → Type 0) (caller : ℕ) (number : IsCallerNumber caller) (old new : Run D M) where
   -- a resume
-  pub resume_by_deeds : (result : Result (Unit {0}) Stop) → ByDeeds h (λ (done : Unit {0}). IsEntryOf (Caller caller) Resume) (IsCutOf (Caller caller) Resume) result old new → ByDeeds h (λ (done : Unit {0}). MayResumeBy caller) (IsResumeCut caller) result old new
-  resume_by_deeds (Ok tt) done = done_as h (IsEntryOf (Caller caller) Resume) (MayResumeBy caller) old new (λ deeds is. inr (is.0, number, is.1, is.2)) done
-  resume_by_deeds (Err why) stopped = stopped_as h (IsCutOf (Caller caller) Resume) (IsResumeCut caller) why old new (λ ending deeds cut. (number, cut)) stopped
+  pub resume_by_deeds : (result : Result (Unit {0}) Stop) → OnErr result (MayGoOn caller) → ByDeeds h (λ (done : Unit {0}). IsEntryOf (Caller caller) Resume) (IsCutOf (Caller caller) Resume) result old new → ByDeeds h (λ (done : Unit {0}). MayResumeBy caller) (IsResumeCut MayGoOn caller) result old new
+  resume_by_deeds (Ok tt) may done = done_as h (IsEntryOf (Caller caller) Resume) (MayResumeBy caller) old new (λ deeds is. inr (is.0, number, is.1, is.2)) done
+  resume_by_deeds (Err why) may stopped = stopped_as h (IsCutOf (Caller caller) Resume) (IsResumeCut MayGoOn caller) why old new (λ ending deeds cut. (number, may, cut)) stopped
 
 -- the event of a line
 pub entered_by : {D T : Type 0} (event : Event) (actor : Actor) (asked : Action) → actor_of event ≡ actor → action_of event ≡ asked → (result : Result T Stop) (old new : System D) → EntersBy (actor_of event) (action_of event) result old new → EntersBy actor asked result old new
@@ -206,8 +205,8 @@ module _ {D M : Type 0} (h : drive.Ghosts M) where
   pub resumed_on_by : (number : ℕ) (a b c : Run D M) → IsDoneBy h (HaveResumedTo number) a b → IsDoneBy h (MayResumeBy number) b c → IsDoneBy h (HaveResumedTo (number + 1)) a c
   resumed_on_by number a b c first then = done_then h (HaveResumedTo number) (MayResumeBy number) (HaveResumedTo (number + 1)) a b c (λ deeds more so is. resume_next number (given_behind deeds (given_now a)) deeds more so is) first then
 
-  pub resumed_stopped : (number : ℕ) (why : Stop) (a b c : Run D M) → IsDoneBy h (HaveResumedTo number) a b → IsStoppedBy h (IsResumeCut number) why b c → IsStoppedBy h AreResumesCutIn why a c
-  resumed_stopped number why a b c first then = stopped_then h (HaveResumedTo number) (IsResumeCut number) AreResumesCutIn why a b c (λ ending deeds last so cut. resumes_cut number deeds so cut.0 ending last cut.1) first then
+  pub resumed_stopped : (MayGoOn : ℕ → Type 0) (number : ℕ) (why : Stop) (a b c : Run D M) → IsDoneBy h (HaveResumedTo number) a b → IsStoppedBy h (IsResumeCut MayGoOn number) why b c → IsStoppedBy h (AreResumesCutIn MayGoOn) why a c
+  resumed_stopped MayGoOn number why a b c first then = stopped_then h (HaveResumedTo number) (IsResumeCut MayGoOn number) (AreResumesCutIn MayGoOn) why a b c (λ ending deeds last so cut. resumes_cut number deeds so cut.0 MayGoOn cut.1 ending last cut.2) first then
 
   pub resumed_all_by : (number : ℕ) (a b : Run D M) → IsDoneBy h (HaveResumedTo number) a b → IsDoneBy h AreResumesOf a b
   resumed_all_by number a b done = done_as h (HaveResumedTo number) AreResumesOf a b (λ deeds so. so.resumes) done
@@ -272,14 +271,14 @@ module _ {D M : Type 0} (h : drive.Ghosts M) where
 
   -- ---- rounds that were stopped
 
-  pub recall_cut : (why : Stop) (a b : Run D M) → IsStoppedBy h (IsTurnCut Recall) why a b → IsStoppedBy h (IsRoundCut is_quiet) why a b
-  recall_cut why a b stopped = stopped_as h (IsTurnCut Recall) (IsRoundCut is_quiet) why a b (λ ending deeds cut. inl cut) stopped
+  pub recall_cut : (MayGoOn : ℕ → Type 0) (why : Stop) (a b : Run D M) → IsStoppedBy h (IsTurnCut Recall) why a b → IsStoppedBy h (IsRoundCut is_quiet MayGoOn) why a b
+  recall_cut MayGoOn why a b stopped = stopped_as h (IsTurnCut Recall) (IsRoundCut is_quiet MayGoOn) why a b (λ ending deeds cut. inl cut) stopped
 
-  pub resumes_cut_by : (why : Stop) (a b c : Run D M) → IsDoneBy h (IsTurn Recall) a b → IsStoppedBy h AreResumesCutIn why b c → IsStoppedBy h (IsRoundCut is_quiet) why a c
-  resumes_cut_by why a b c turn stopped = stopped_then h (IsTurn Recall) AreResumesCutIn (IsRoundCut is_quiet) why a b c (λ ending deeds last is cut. inr (inl (deeds, last, refl, is, cut))) turn stopped
+  pub resumes_cut_by : (MayGoOn : ℕ → Type 0) (why : Stop) (a b c : Run D M) → IsDoneBy h (IsTurn Recall) a b → IsStoppedBy h (AreResumesCutIn MayGoOn) why b c → IsStoppedBy h (IsRoundCut is_quiet MayGoOn) why a c
+  resumes_cut_by MayGoOn why a b c turn stopped = stopped_then h (IsTurn Recall) (AreResumesCutIn MayGoOn) (IsRoundCut is_quiet MayGoOn) why a b c (λ ending deeds last is cut. inr (inl (deeds, last, refl, is, cut))) turn stopped
 
-  pub migrate_cut : (why : Stop) (a b c d : Run D M) → HasTurned Recall a b → HaveResumed b c → true ≡ list_all is_quiet (drop (length a.system.store.history) c.system.store.history) → IsDoneBy h HasBegun a c → IsStoppedBy h (IsTurnCut Migrate) why c d → IsStoppedBy h (IsRoundCut is_quiet) why a d
-  migrate_cut why a b c d turned resumed calm begun stopped = stopped_then h (BegunOf a) (IsTurnCut Migrate) (IsRoundCut is_quiet) why a c d
+  pub migrate_cut : (MayGoOn : ℕ → Type 0) (why : Stop) (a b c d : Run D M) → HasTurned Recall a b → HaveResumed b c → true ≡ list_all is_quiet (drop (length a.system.store.history) c.system.store.history) → IsDoneBy h HasBegun a c → IsStoppedBy h (IsTurnCut Migrate) why c d → IsStoppedBy h (IsRoundCut is_quiet MayGoOn) why a d
+  migrate_cut MayGoOn why a b c d turned resumed calm begun stopped = stopped_then h (BegunOf a) (IsTurnCut Migrate) (IsRoundCut is_quiet MayGoOn) why a c d
       (λ ending deeds last so cut. inr (inr (
         so.0.0.0,
         so.0.0.1,
@@ -303,5 +302,5 @@ module _ {D M : Type 0} (h : drive.Ghosts M) where
   pub settle_done : (a b c : Run D M) (quiet : Bool) → quiet ≡ true → IsDoneBy h (RoundsTo is_quiet) a b → IsDoneBy h (IsRoundOf quiet) b c → IsDoneBy h (IsSettle is_quiet) a c
   settle_done a b c quiet calm first then = done_then h (RoundsTo is_quiet) (IsRoundOf quiet) (IsSettle is_quiet) a b c (λ deeds round so is. rounds_settle is_quiet (given_now a) deeds so round is.0 (is.1 ∙ calm)) first then
 
-  pub settle_stopped : (why : Stop) (a b c : Run D M) → IsDoneBy h (RoundsTo is_quiet) a b → IsStoppedBy h (IsRoundCut is_quiet) why b c → IsStoppedBy h (IsSettleCut is_quiet) why a c
-  settle_stopped why a b c first then = stopped_then h (RoundsTo is_quiet) (IsRoundCut is_quiet) (IsSettleCut is_quiet) why a b c (λ ending deeds last so cut. rounds_cut is_quiet (given_now a) deeds so last ending cut) first then
+  pub settle_stopped : (MayGoOn : ℕ → Type 0) (why : Stop) (a b c : Run D M) → IsDoneBy h (RoundsTo is_quiet) a b → IsStoppedBy h (IsRoundCut is_quiet MayGoOn) why b c → IsStoppedBy h (IsSettleCut is_quiet MayGoOn) why a c
+  settle_stopped MayGoOn why a b c first then = stopped_then h (RoundsTo is_quiet) (IsRoundCut is_quiet MayGoOn) (IsSettleCut is_quiet MayGoOn) why a b c (λ ending deeds last so cut. rounds_cut is_quiet (given_now a) deeds so last MayGoOn ending cut) first then

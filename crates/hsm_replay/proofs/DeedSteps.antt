@@ -6,7 +6,7 @@ use Rattle.std.specs.Prelude.{slice_get, slice_set, ◌==◌}
 use Rattle.std.proofs.lemmas.Bool.{eqb-true, eqb-false}
 use Rattle.std.proofs.lemmas.List.Elements.{All-from_recursion}
 use Rattle.disk_model.specs.declared.device.Disk as disk
-use Rattle.media_model.specs.Objects.{Alike, Objects}
+use Rattle.media_model.specs.Objects.{Alike}
 use Rattle.media_model.specs.declared.drive.Drive as drive
 use Rattle.hsm_types.specs.Limits.{segment_bytes}
 use Rattle.hsm_types.specs.Stubs.{print_of, entry_place}
@@ -21,7 +21,6 @@ use Rattle.hsm_types.specs.declared.keys.Handle.{Handle}
 use Rattle.hsm_types.specs.declared.keys.Sid.{Sid}
 use Rattle.hsm_types.specs.declared.media.CopyRefusal.{CopyRefusal}
 use Rattle.hsm_types.specs.declared.media.CopyRefusal.TheVariants as copying
-use Rattle.hsm_types.specs.declared.media.Fault.{Fault}
 use Rattle.hsm_types.specs.declared.media.Fault.TheVariants.{Failed, Damaged}
 use Rattle.hsm_types.specs.declared.media.FetchRefusal.{FetchRefusal}
 use Rattle.hsm_types.specs.declared.media.FetchRefusal.TheVariants as fetching
@@ -34,7 +33,6 @@ use Rattle.deeds.specs.Deeds.{Deed, Gives, Hears, Breaks, Loses, Fits}
 use Rattle.deeds.specs.Faults.{AddsFaults, Rises, fault_told, faults_heard}
 use Rattle.deeds.specs.Given.{given_of}
 use Rattle.deeds.proofs.Faulting.{fault_added, none_added}
-use Rattle.hsm_system.specs.Acts as alone
 use Rattle.hsm_system.specs.Acts.{MovesOn}
 use Rattle.hsm_system.specs.Awaiting as awaiting
 use Rattle.hsm_system.specs.Goes.{Goes, EndsIn, HasClosed, StillWorks, WasClosed}
@@ -47,12 +45,11 @@ use Rattle.hsm_system.specs.declared.stops.Stop.TheVariants as stop
 use Rattle.hsm_system.proofs.Going.{event_goes}
 use Rattle.hsm_system.proofs.Leading.{goes_then, gives_goes, gives_awaits, answered_hears, stops_goes, taken_goes, loses_goes, awaits_runs, heard_store}
 use Rattle.hsm_system.proofs.Outcomes.{outcome_fits}
-use Rattle.hsm_replay.specs.Acts.{Performs, Stops, CopiesTo, FetchesFrom, OnDriveOf}
+use Rattle.hsm_replay.specs.Acts.{Performs, Stops, CopiesTo, FetchesFrom}
 use Rattle.hsm_replay.specs.Deeds.{given_now, IsPayload, BearOut, IsSo, AreSo, DriveGoes, DrivesGo, IsLeft, counts_of, RunsBy, WorksOn, IsDoneBy, IsStopOf, IsStoppedBy, ByDeeds}
-use Rattle.hsm_replay.specs.Drives.{HasGrown, HaveGrown}
-use Rattle.hsm_replay.specs.Parts.{done_by, IsStep, IsStepFrom}
-use Rattle.hsm_replay.specs.Sealed.{Gives as GivesObjects}
-use Rattle.hsm_replay.specs.Steps.{Steps, Halts, IsStopped}
+use Rattle.hsm_replay.specs.Drives.{HaveGrown}
+use Rattle.hsm_replay.specs.Parts.{IsStep, IsStepFrom}
+use Rattle.hsm_replay.specs.Steps.{Steps, Halts}
 use Rattle.hsm_replay.specs.Stopped.{Ending, Broken, Lost, Unmade, IsOnDrive, IsStepCut, IsStepCutFrom, IsActCut}
 use Rattle.hsm_replay.specs.Systems.{Run, drive_of}
 use Rattle.hsm_replay.proofs.Deeds.{counts_grow, payload_still, runs_still, done_none}

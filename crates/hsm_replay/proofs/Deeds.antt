@@ -1,39 +1,35 @@
 -- Deeds that lead on, one list behind the other, and what drives say of what was heard.
-use Rattle.std.proofs.Common.{◌≡◌, ◌∙◌, ◌+◌, ◌<◌, ◌≤◌, ◌%◌, ◌∷◌, ◌++◌, [], ℕ, zero, suc, true, false, List, length, get_or, drop, Option, Some, None, Result, Ok, Err, inl, inr}
+use Rattle.std.proofs.Common.{◌≡◌, ◌∙◌, ◌+◌, ◌≤◌, ◌∷◌, ◌++◌, [], ℕ, zero, suc, true, false, List, length, get_or, drop, Option, Some, None, Ok, Err, inl, inr}
 use Rattle.std.proofs.Common.{refl, sym, ap, ap₂, subst, length-append, arith}
-use Rattle.std.specs.Option.{option_map, unwrap_or}
-use Rattle.std.specs.Prelude.{All, MatchResult, slice_get, slice_set}
+use Rattle.std.specs.Option.{option_map}
 use Rattle.std.proofs.lemmas.List.{get_or_append_left}
 use Rattle.std.proofs.lemmas.List.Elements.{All-append, All-from_recursion, All-nil, All-weaker}
 use Rattle.media_model.specs.Objects.{Objects}
 use Rattle.media_model.specs.declared.drive.Drive as drive
 use Rattle.hsm_types.specs.Stubs.{entry_place}
 use Rattle.hsm_types.specs.declared.daemons.Act.{Act}
-use Rattle.hsm_types.specs.declared.daemons.Act.TheVariants.{Dm, Copy, Fetch, Idle}
+use Rattle.hsm_types.specs.declared.daemons.Act.TheVariants.{Copy, Fetch}
 use Rattle.hsm_types.specs.declared.daemons.Daemon.{Daemon}
 use Rattle.hsm_types.specs.declared.daemons.Heard.{Heard}
 use Rattle.hsm_types.specs.declared.daemons.Heard.TheVariants as heard
-use Rattle.hsm_types.specs.declared.media.CopyRefusal.TheVariants as copying
 use Rattle.hsm_types.specs.declared.media.FetchRefusal.TheVariants as fetching
 use Rattle.hsm_types.specs.declared.stubs.StubEntry.{StubEntry}
 use Rattle.hsm_core.specs.Store.{Store}
-use Rattle.volume_shelf.specs.Shelf.{payload_in}
-use Rattle.deeds.specs.Deeds.{Deed, Enters, Starts, Kills, Refreshes, Gives, Hears, Breaks, Loses}
-use Rattle.deeds.specs.Faults.{Counts, AddsFaults, faults_heard}
+use Rattle.deeds.specs.Deeds.{Deed, Starts, Kills, Refreshes, Hears}
+use Rattle.deeds.specs.Faults.{AddsFaults, faults_heard}
 use Rattle.deeds.specs.Given.{Given, given_behind, asked_in, given_in}
 use Rattle.deeds.specs.Lives.{Workings}
 use Rattle.deeds.proofs.Faulting.{none_added, faults_added}
 use Rattle.deeds.proofs.Giving.{given_exactly}
-use Rattle.hsm_system.specs.Goes.{Goes, StillWorks, WasClosed, situation_of}
+use Rattle.hsm_system.specs.Goes.{Goes, StillWorks, situation_of}
 use Rattle.hsm_system.specs.Lives.{recalls, migrates, living_of}
 use Rattle.hsm_system.specs.Systems.{System}
 use Rattle.hsm_system.specs.declared.daemons.Running.{Running}
 use Rattle.hsm_system.specs.declared.stops.Stop.{Stop}
 use Rattle.hsm_system.specs.declared.stops.Stop.TheVariants as stop
 use Rattle.hsm_system.proofs.Leading.{goes_itself, goes_then}
-use Rattle.hsm_replay.specs.Deeds.{given_now, IsPayload, BearOut, IsSo, AreSo, DrivesGo, counts_of, RunsBy, WorksOn, IsDoneBy, IsStopOf, IsStoppedBy, ByDeeds}
-use Rattle.hsm_replay.specs.Drives.{HasGrown, HaveGrown}
-use Rattle.hsm_replay.specs.Filling.{HearsFull}
+use Rattle.hsm_replay.specs.Deeds.{given_now, IsPayload, BearOut, IsSo, AreSo, DrivesGo, counts_of, RunsBy, WorksOn, IsDoneBy, IsStopOf, IsStoppedBy}
+use Rattle.hsm_replay.specs.Drives.{HaveGrown}
 use Rattle.hsm_replay.specs.Stopped.{Ending, Broken, Lost, Unmade}
 use Rattle.hsm_replay.specs.Systems.{Run}
 use Rattle.hsm_replay.proofs.Filling.{hears_grows}

@@ -5,6 +5,7 @@ mod PartsRun
 mod Deeds
 mod DeedSteps
 mod DeedRounds
+mod StillReady
 mod Between
 mod OnDrives
 mod HandedIn

@@ -1,5 +1,5 @@
 -- Turns, resumes and settles while they go on: by the acts and the rounds that were done so far.
-use Rattle.std.proofs.Common.{◌≡◌, ◌⊎◌, ◌<◌, ◌+◌, ◌∙◌, ℕ, ◌∷◌, ◌++◌, [], map, Bool, true, false, List, Option, Some, None, inl, inr, refl, sym, ap, subst}
+use Rattle.std.proofs.Common.{◌≡◌, ◌⊎◌, ◌<◌, ◌+◌, ◌∙◌, ℕ, ◌∷◌, ◌++◌, [], Bool, true, false, List, Option, Some, None, inl, inr, refl, sym, ap, subst}
 use Rattle.std.proofs.Common.{append-nil, append_assoc, arith}
 use Rattle.std.specs.Cmp.{nat_cmp_is}
 use Rattle.std.specs.declared.cmp.Ordering.TheVariants.{Less}
@@ -9,7 +9,7 @@ use Rattle.std.specs.Map.{keys_of}
 use Rattle.std.specs.Ordering.{nat_cmp}
 use Rattle.std.specs.Prelude.{All, flat_map}
 use Rattle.std.proofs.lemmas.List.Concat.{flat_map-append}
-use Rattle.std.proofs.lemmas.List.Elements.{All-nil, All-cons, All-push, All-weaker, recursion_from_All, All-from_recursion}
+use Rattle.std.proofs.lemmas.List.Elements.{All-nil, All-cons, All-push, All-weaker, recursion_from_All}
 use Rattle.std.proofs.lemmas.List.{map-append}
 use Rattle.hsm_types.specs.Callers.{IsCallerNumber}
 use Rattle.hsm_types.specs.declared.daemons.Act.{Act}
@@ -27,7 +27,7 @@ use Rattle.deeds.specs.Deeds.{entry_of, Deed, Enters, Refreshes, Fits, IsServed}
 use Rattle.deeds.specs.Given.{Given, asked_behind, given_behind}
 use Rattle.deeds.specs.Lives.{life}
 use Rattle.hsm_replay.specs.Parts.{Exchange, resting, done_by, IsStepFrom, IsWork, IsUpToRest, IsLeftFrom, IsTurnFrom, AreResumes, resume_of, joined, are_quiet}
-use Rattle.hsm_replay.specs.Parts.{IsRound, AreBusy, IsSettle, Follows}
+use Rattle.hsm_replay.specs.Parts.{IsRound, AreBusy, IsSettle}
 use Rattle.hsm_replay.specs.Stopped.{Ending, IsEventCut, IsActCut, IsStepCutFrom, IsWorkCut, IsLeftCutFrom, IsTurnCutFrom, AreResumesCut, IsRoundCut, IsSettleCut}
 use Rattle.hsm_replay.specs.Stopped.{IsLineCut, StopsOn}
 use Rattle.hsm_replay.proofs.PartsDone.{follows_on}
@@ -318,10 +318,11 @@ module _ (number : ℕ) (deeds : List Deed) (so : ResumesTo number deeds) (is : 
         below = subst (λ (l : List ℕ). All (λ (key : ℕ). key < number + 1) l) (sym (keys_more so.resumes.told x)) below_push;
       }
 
-  pub resumes_cut : (ending : Ending) (last : List Deed) → IsEventCut (Caller number) Resume ending last → AreResumesCut ending (deeds ++ last)
-  resumes_cut ending last cut = record {
+  pub resumes_cut : (MayGoOn : ℕ → Type 0) → MayGoOn number → (ending : Ending) (last : List Deed) → IsEventCut (Caller number) Resume ending last → AreResumesCut MayGoOn ending (deeds ++ last)
+  resumes_cut MayGoOn may ending last cut = record {
     told = so.resumes.told;
     caller = number;
+    may = may;
     last = last;
     parted = ap (λ (ds : List Deed). ds ++ last) so.resumes.parted;
     numbers = numbers_push;
@@ -378,19 +379,19 @@ module _ (quiet : Entry → Bool) where
       ends = calm;
     }
 
-    pub rounds_cut : (ending : Ending) → IsRoundCut quiet (given_behind deeds given) ending round → IsSettleCut quiet given ending (deeds ++ round)
-    rounds_cut ending cut = record {
+    pub rounds_cut : (MayGoOn : ℕ → Type 0) (ending : Ending) → IsRoundCut quiet MayGoOn (given_behind deeds given) ending round → IsSettleCut quiet MayGoOn given ending (deeds ++ round)
+    rounds_cut MayGoOn ending cut = record {
       rounds = so.rounds;
       last = round;
       parted = ap (λ (ds : List Deed). ds ++ round) so.parted;
       busy = so.busy;
-      cut = subst (λ (g : Given). IsRoundCut quiet g ending round) (behind quiet given deeds so) cut;
+      cut = subst (λ (g : Given). IsRoundCut quiet MayGoOn g ending round) (behind quiet given deeds so) cut;
     }
 
   -- ---- lines
 
-  pub stops_on : (given : Given) (lines more : List Line) → StopsOn quiet given lines more
-  stops_on given lines more ending deeds then is stops = record {
+  pub stops_on : (MayGoOn : ℕ → Type 0) (given : Given) (lines more : List Line) → StopsOn quiet MayGoOn given lines more
+  stops_on MayGoOn given lines more ending deeds then is stops = record {
     whole = lines ++ stops.whole;
     line = stops.line;
     left = stops.left;
@@ -399,5 +400,5 @@ module _ (quiet : Entry → Bool) where
     lines_parted = ap (λ (l : List Line). lines ++ l) stops.lines_parted ∙ sym (append_assoc lines stops.whole (stops.line ∷ stops.left));
     parted = ap (λ (ds : List Deed). deeds ++ ds) stops.parted ∙ sym (append_assoc deeds stops.done stops.last);
     follows = follows_on quiet given lines stops.whole deeds stops.done is stops.follows;
-    cut = subst (λ (g : Given). IsLineCut quiet stops.line g ending stops.last) (sym (given_then deeds stops.done given)) stops.cut;
+    cut = subst (λ (g : Given). IsLineCut quiet MayGoOn stops.line g ending stops.last) (sym (given_then deeds stops.done given)) stops.cut;
   }

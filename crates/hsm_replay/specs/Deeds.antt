@@ -14,7 +14,9 @@ use Rattle.hsm_types.specs.declared.stubs.StubEntry.{StubEntry}
 use Rattle.plain_model.specs.declared.entries.Action.TheVariants.{Resume}
 use Rattle.plain_model.specs.declared.entries.Actor.TheVariants.{Caller}
 use Rattle.plain_model.specs.declared.entries.Answer.{Answer}
+use Rattle.hsm_core.specs.Ready.{ready}
 use Rattle.hsm_core.specs.Store.{Store}
+use Rattle.hsm_core.specs.declared.store.Ready.TheVariants.{Now}
 use Rattle.volume_shelf.specs.Shelf.{Reads, payload_in}
 use Rattle.deeds.specs.Deeds.{Deed, Hears, IsServed, Loses}
 use Rattle.deeds.specs.Faults.{Counts, AddsFaults}
@@ -134,19 +136,23 @@ module _ {M : Type 0} (g : drive.Ghosts M) where
 
 -- ---- the parts of a settle, each a call of its own
 
+-- the caller's access may go on, as it still may where that was stopped
+abbrev pub MayGoOn : {D M : Type 0} → Run D M → ℕ → Type 0
+MayGoOn s caller = ready s.system.store caller ≡ Now
+
 -- the caller resumes, where its access may go on
 abbrev pub MayResumeBy : ℕ → Given → List Deed → Type 0
 MayResumeBy caller given deeds = (deeds ≡ []) ⊎ ((told : Answer) × IsCallerNumber caller × IsServed told × (deeds ≡ resume_of (caller, told) ∷ []))
 
-abbrev pub IsResumeCut : ℕ → Given → Ending → List Deed → Type 0
-IsResumeCut caller given ending deeds = IsCallerNumber caller × IsEventCut (Caller caller) Resume ending deeds
+abbrev pub IsResumeCut : (ℕ → Type 0) → ℕ → Given → Ending → List Deed → Type 0
+IsResumeCut MayGoOn caller given ending deeds = IsCallerNumber caller × MayGoOn caller × IsEventCut (Caller caller) Resume ending deeds
 
 -- callers resume
 abbrev pub AreResumesOf : Given → List Deed → Type 0
 AreResumesOf given deeds = AreResumes deeds
 
-abbrev pub AreResumesCutIn : Given → Ending → List Deed → Type 0
-AreResumesCutIn given ending deeds = AreResumesCut ending deeds
+abbrev pub AreResumesCutIn : (ℕ → Type 0) → Given → Ending → List Deed → Type 0
+AreResumesCutIn MayGoOn given ending deeds = AreResumesCut MayGoOn ending deeds
 
 -- a round, and whether all its entries are quiet
 abbrev pub IsRoundOf : Bool → Given → List Deed → Type 0

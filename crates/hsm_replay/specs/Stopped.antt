@@ -82,10 +82,11 @@ IsTurnCut daemon given ending deeds = IsTurnCutFrom daemon (given_of daemon give
 
 -- ---- resumes
 
--- callers resumed in order of number, and the last of them was stopped
-pub record AreResumesCut (ending : Ending) (deeds : List Deed) : Type 0 where
+-- callers resumed in order of number, and the last of them, whose access may go on, was stopped
+pub record AreResumesCut (MayGoOn : ℕ → Type 0) (ending : Ending) (deeds : List Deed) : Type 0 where
   pub told : List (ℕ × Answer)
   pub caller : ℕ
+  pub may : MayGoOn caller
   pub last : List Deed
   pub parted : deeds ≡ map resume_of told ++ last
   pub numbers : All IsCallerNumber (keys_of told ++ caller ∷ [])
@@ -93,14 +94,15 @@ pub record AreResumesCut (ending : Ending) (deeds : List Deed) : Type 0 where
   pub served : All (λ (x : ℕ × Answer). IsServed x.1) told
   pub cut : IsEventCut (Caller caller) Resume ending last
 
-module _ (quiet : Entry → Bool) where
+-- Which entries are quiet, and whose access may go on, is asked of whoever reads.
+module _ (quiet : Entry → Bool) (MayGoOn : ℕ → Type 0) where
   -- ---- settles
 
   -- recall's turn was stopped, or behind it the resumes, or behind both, where all was quiet, migration's turn
   abbrev pub IsRoundCut : Given → Ending → List Deed → Type 0
   IsRoundCut given ending deeds =
       IsTurnCut Recall given ending deeds
-      ⊎ (((recalls resumes : List Deed) × (deeds ≡ recalls ++ resumes) × IsTurn Recall given recalls × AreResumesCut ending resumes)
+      ⊎ (((recalls resumes : List Deed) × (deeds ≡ recalls ++ resumes) × IsTurn Recall given recalls × AreResumesCut MayGoOn ending resumes)
       ⊎ ((recalls resumes migrates : List Deed) × (deeds ≡ recalls ++ (resumes ++ migrates)) × IsTurn Recall given recalls × AreResumes resumes × (are_quiet quiet (recalls ++ resumes) ≡ true) × IsTurnCut Migrate given ending migrates))
 
   -- rounds that aren't quiet, and then one that was stopped

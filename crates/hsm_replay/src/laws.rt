@@ -5,10 +5,11 @@ ghost use Rattle.deeds.specs.Given.{Given};
 ghost use Rattle.hsm_types.specs.declared.daemons.Daemon.{Daemon};
 ghost use Rattle.plain_model.specs.declared.entries.Entry.{Entry};
 ghost use Rattle.script_text.specs.declared.lines.Line.{Line};
-ghost use Rattle.hsm_replay.specs.Deeds.{RunsOn};
+ghost use Rattle.hsm_replay.specs.Deeds.{MayGoOn, RunsOn};
 ghost use Rattle.hsm_replay.specs.Lines.{FollowsSo, FollowsWhole};
 ghost use Rattle.hsm_replay.specs.Parts.{FollowsOn, RunsByLines};
 ghost use Rattle.hsm_replay.specs.Stopped.{StopsOn};
+ghost use Rattle.hsm_replay.specs.Systems.{Run};
 ghost use Rattle.hsm_policy.specs.Settings.{Numbers};
 ghost use Rattle.marked_history.specs.Marks.{Mark};
 ghost use Rattle.hsm_replay.specs.Sealed.{Tallies, SealsAreWhole};
@@ -27,8 +28,8 @@ pub fn follows_on()
 {}
 
 /// Deeds that follow lines, and behind them deeds at which a run was stopped in more of them, are deeds at which it was stopped in all of these.
-pub fn stops_on()
-    ensures { (quiet : Entry → Bool) (given : Given) (lines more : List Line) → StopsOn quiet given lines more }
+pub fn stops_on<D: Disk, M: Drive>()
+    ensures { (quiet : Entry → Bool) (s : Run D M) (given : Given) (lines more : List Line) → StopsOn quiet (MayGoOn s) given lines more }
 {}
 
 /// Where deeds follow the lines the history does.

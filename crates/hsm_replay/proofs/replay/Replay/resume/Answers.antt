@@ -1,4 +1,4 @@
-use Rattle.std.proofs.Common.{◌≡◌, OnOk, inl, refl, subst}
+use Rattle.std.proofs.Common.{◌≡◌, OnOk, inl, refl, sym, subst}
 use Rattle.std.specs.List.{AllByRecursion}
 use Rattle.plain_model.specs.declared.entries.Action.TheVariants.{Resume}
 use Rattle.plain_model.specs.declared.entries.Actor.TheVariants.{Caller}
@@ -10,9 +10,10 @@ use Rattle.hsm_replay.proofs.Between.{event_is_run}
 use Rattle.hsm_replay.proofs.Events.{event_leaves, event_moves, resumed_on}
 use Rattle.hsm_replay.proofs.Joining.{resume_is_settling, moves_itself}
 use Rattle.hsm_replay.proofs.WhichRun.{event_runs}
-use Rattle.hsm_replay.specs.Deeds.{ByDeeds, MayResumeBy, IsResumeCut}
+use Rattle.hsm_replay.specs.Deeds.{ByDeeds, IsResumeCut, MayGoOn, MayResumeBy}
 use Rattle.hsm_replay.proofs.Deeds.{done_none}
 use Rattle.hsm_replay.proofs.DeedRounds.{event_by_deeds, resume_by_deeds}
+use Rattle.hsm_replay.proofs.StillReady.{resume_due}
 use Rattle.hsm_replay.proofs.replay.Replay.resume.Goals as goal
 
 pub returns-clause-moves : goal.returns-clause-moves
@@ -43,6 +44,7 @@ returns-then-not-is_ready-clause-deeds g c = done_none g.M.Drive (MayResumeBy c.
 pub returns-clause-deeds : goal.returns-clause-deeds
 returns-clause-deeds g c =
     let inside : Run g.row.D.Denot g.row.M.Denot = record { system = c.self.inside.system; drives = c.self.inside.drives.items } in
+    let may : MayGoOn inside c.args.caller = subst (λ (s : Run g.row.D.Denot g.row.M.Denot). MayGoOn s c.args.caller) (sym c.self.view_is) (c.is_ready.ensures.0 c.if-not-is_ready.false) in
     let left : Run g.row.D.Denot g.row.M.Denot = record { system = c.event.new.self; drives = c.self.inside.drives.items } in
-    subst (λ (old : Run g.row.D.Denot g.row.M.Denot). ByDeeds g.M.Drive (λ (done : Unit {0}). MayResumeBy c.args.caller) (IsResumeCut c.args.caller) c.event.result old left) c.self.view_is
-    (resume_by_deeds g.M.Drive c.args.caller c.requires inside left c.event.result (event_by_deeds g.M.Drive inside left refl (Caller c.args.caller) Resume c.event.result c.event.ensures.deeds))
+    subst (λ (old : Run g.row.D.Denot g.row.M.Denot). ByDeeds g.M.Drive (λ (done : Unit {0}). MayResumeBy c.args.caller) (IsResumeCut (MayGoOn left) c.args.caller) c.event.result old left) c.self.view_is
+    (resume_by_deeds g.M.Drive (MayGoOn left) c.args.caller c.requires inside left c.event.result (resume_due c.args.caller g.D.Disk c.event.result c.self.inside.system c.event.new.self c.event.ensures.done may) (event_by_deeds g.M.Drive inside left refl (Caller c.args.caller) Resume c.event.result c.event.ensures.deeds))

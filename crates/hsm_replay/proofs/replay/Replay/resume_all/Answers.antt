@@ -39,7 +39,7 @@ returns-clause-runs g c = c.loop-number.invariant.runs
 pub returns-in_err-resume_at-clause-deeds : goal.returns-in_err-resume_at-clause-deeds
 returns-in_err-resume_at-clause-deeds g c =
     let p = err_from_is_err_and c.from_residual.result c.from_residual.ensures.1 in
-    rw (p.1, p.2) (resumed_stopped g.M.Drive c.loop-number.number _ _ _ _ c.loop-number.invariant.deeds c.in_err-resume_at.ensures.deeds)
+    rw (p.1, p.2) (resumed_stopped g.M.Drive _ c.loop-number.number _ _ _ _ c.loop-number.invariant.deeds c.in_err-resume_at.ensures.deeds)
 
 pub returns-clause-deeds : goal.returns-clause-deeds
 returns-clause-deeds g c = resumed_all_by g.M.Drive c.loop-number.number _ _ c.loop-number.invariant.deeds

@@ -54,12 +54,12 @@ returns-in_err-turn-2-clause-runs g c = c.in_err-turn-2.ensures.runs ∙ c.in_ok
 pub returns-in_err-turn-clause-deeds : goal.returns-in_err-turn-clause-deeds
 returns-in_err-turn-clause-deeds g c =
     let p = err_from_is_err_and c.from_residual.result c.from_residual.ensures.1 in
-    rw (p.1, p.2) (recall_cut g.M.Drive _ _ _ c.in_err-turn.ensures.deeds)
+    rw (p.1, p.2) (recall_cut g.M.Drive _ _ _ _ c.in_err-turn.ensures.deeds)
 
 pub returns-in_err-resume_all-clause-deeds : goal.returns-in_err-resume_all-clause-deeds
 returns-in_err-resume_all-clause-deeds g c =
     let p = err_from_is_err_and c.from_residual-in_err-resume_all.result c.from_residual-in_err-resume_all.ensures.1 in
-    rw (p.1, p.2) (resumes_cut_by g.M.Drive _ _ _ _ c.in_ok-turn.ensures.deeds c.in_err-resume_all.ensures.deeds)
+    rw (p.1, p.2) (resumes_cut_by g.M.Drive _ _ _ _ _ c.in_ok-turn.ensures.deeds c.in_err-resume_all.ensures.deeds)
 
 pub returns-then-not-is_quiet_since-clause-deeds : goal.returns-then-not-is_quiet_since-clause-deeds
 returns-then-not-is_quiet_since-clause-deeds g c = round_loud g.M.Drive _ _
@@ -69,7 +69,7 @@ returns-then-not-is_quiet_since-clause-deeds g c = round_loud g.M.Drive _ _
 pub returns-in_err-turn-2-clause-deeds : goal.returns-in_err-turn-2-clause-deeds
 returns-in_err-turn-2-clause-deeds g c =
     let p = err_from_is_err_and c.from_residual-in_err-turn-2.result c.from_residual-in_err-turn-2.ensures.1 in
-    rw (p.1, p.2) (migrate_cut g.M.Drive _ _ _ _ _ c.in_ok-turn.ensures.turned c.in_ok-resume_all.ensures.resumed
+    rw (p.1, p.2) (migrate_cut g.M.Drive _ _ _ _ _ _ c.in_ok-turn.ensures.turned c.in_ok-resume_all.ensures.resumed
     (sym c.if-not-is_quiet_since.false ∙ c.is_quiet_since.ensures ∙ ap (λ (n : ℕ). list_all is_quiet (drop n c.resume_all.new.self.system.store.history)) c.entries-before.ensures.count)
     (round_begun_by g.M.Drive _ _ _ c.in_ok-turn.ensures.deeds c.in_ok-resume_all.ensures.deeds) c.in_err-turn-2.ensures.deeds)
 

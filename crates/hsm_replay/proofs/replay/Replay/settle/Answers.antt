@@ -66,7 +66,7 @@ returns-in_err-round-clause-runs g c = c.in_err-round.ensures.runs ∙ c.loop-se
 pub returns-in_err-round-clause-deeds : goal.returns-in_err-round-clause-deeds
 returns-in_err-round-clause-deeds g c =
     let p = err_from_is_err_and c.from_residual.result c.from_residual.ensures.1 in
-    rw (p.1, p.2) (settle_stopped g.M.Drive _ _ _ _ c.loop-self.invariant.deeds c.in_err-round.ensures.deeds)
+    rw (p.1, p.2) (settle_stopped g.M.Drive _ _ _ _ _ c.loop-self.invariant.deeds c.in_err-round.ensures.deeds)
 
 pub returns-then-branch-clause-deeds : goal.returns-then-branch-clause-deeds
 returns-then-branch-clause-deeds g c = settle_done g.M.Drive _ _ _ c.in_ok-round.field-0 c.if-branch.true c.loop-self.invariant.deeds c.in_ok-round.ensures.deeds
