@@ -1,5 +1,5 @@
 -- What marks tell of what was sealed, over drives of a sure type.
-use Rattle.std.proofs.Common.{◌≡◌, ◌⊎◌, ◌++◌, ◌∷◌, [], ℕ, Bool, true, List, Option, Some, Result, Ok, Err, IfOk, IfErr, OnErr, sym, subst}
+use Rattle.std.proofs.Common.{◌≡◌, ◌≢◌, ◌⊎◌, ◌++◌, ◌∷◌, [], ℕ, Bool, true, List, Option, Some, Result, Ok, Err, IfOk, IfErr, OnErr, sym, subst}
 use Rattle.std.specs.List.{AllByRecursion}
 use Rattle.std.proofs.lemmas.List.Elements.{filter_map-append}
 use Rattle.media_model.specs.Objects.{Objects}
@@ -8,6 +8,7 @@ use Rattle.hsm_types.specs.Stubs.{entry_place}
 use Rattle.hsm_types.specs.declared.daemons.Daemon.TheVariants.{Recall}
 use Rattle.hsm_types.specs.declared.dm.DmCall.TheVariants.{Respond}
 use Rattle.hsm_types.specs.declared.dm.Response.TheVariants.{Abort}
+use Rattle.hsm_types.specs.declared.stubs.Place.{Place}
 use Rattle.hsm_types.specs.declared.stubs.StubEntry.{StubEntry}
 use Rattle.plain_model.specs.declared.entries.Entry.{Entry}
 use Rattle.hsm_policy.specs.Settings.{Numbers, standard}
@@ -39,9 +40,9 @@ module _ {M : Type 0} (g : drive.Ghosts M) (opened ds : List M) (law : (d : M) (
   none_named entry [] each told = tt
   none_named entry (x ∷ xs) each told = (unlike, none_named entry xs each.1 (λ o gives. (told o gives).1))
     where
-      unlike : ((entry_place x).volume ≡ (entry_place entry).volume) × ((entry_place x).object ≡ (entry_place entry).object) → ⊥
+      unlike : entry_place x ≢ entry_place entry
       unlike same =
-          let there : IsThere g ds (entry_place entry).volume = subst (λ (v : ℕ). IsThere g ds v) same.0 each.0.there in
+          let there : IsThere g ds (entry_place entry).volume = subst (λ (p : Place). IsThere g ds p.volume) same each.0.there in
           let tells = law there.0 (entry_place entry).volume there.2 in
           (told tells.0 (there.0, there.1, tells.1)).0 same
 

@@ -27,6 +27,7 @@ use Rattle.hsm_types.specs.declared.media.Fault.TheVariants.{Damaged}
 use Rattle.hsm_types.specs.declared.media.FetchRefusal.{FetchRefusal}
 use Rattle.hsm_types.specs.declared.media.FetchRefusal.TheVariants as fetching
 use Rattle.hsm_types.specs.declared.stubs.Fingerprint.{Fingerprint}
+use Rattle.hsm_types.specs.declared.stubs.Place.{Place}
 use Rattle.hsm_types.specs.declared.stubs.StubEntry.{StubEntry}
 use Rattle.hsm_policy.specs.Settings.{Numbers}
 use Rattle.volume_shelf.specs.Shelf.{Copied}
@@ -239,7 +240,7 @@ module _ {M : Type 0} (g : drive.Ghosts M) where
         since = [];
         parted = sym (append-nil marks);
         others = tt;
-        unnamed = λ o gives. all_weaker (IsStored g ds) (λ (s : StubEntry). ((entry_place s).volume ≡ (entry_place entry).volume) × ((entry_place s).object ≡ (entry_place entry).object) → ⊥) (sealed_in marks) (unlike o gives) tallies.stored;
+        unnamed = λ o gives. all_weaker (IsStored g ds) (λ (s : StubEntry). entry_place s ≢ entry_place entry) (sealed_in marks) (unlike o gives) tallies.stored;
         lacked = λ o gives.
             let had = gave (entry_place entry).volume opened ds o tallies.grown gives in
             let longer : length o ≡ length had.0 + length had.2.0 = ap (λ (l : Objects). length l) had.2.1 ∙ length-append had.0 had.2.0 in
@@ -252,10 +253,10 @@ module _ {M : Type 0} (g : drive.Ghosts M) where
               let same : gives.0 ≡ d = cc both in
               missing o (subst (λ (x : M). g.gives x (entry_place entry).volume o) same gives.2)
 
-          unlike : (o : Objects) → Gives g ds (entry_place entry).volume o → (s : StubEntry) → IsStored g ds s → ((entry_place s).volume ≡ (entry_place entry).volume) × ((entry_place s).object ≡ (entry_place entry).object) → ⊥
+          unlike : (o : Objects) → Gives g ds (entry_place entry).volume o → (s : StubEntry) → IsStored g ds s → entry_place s ≢ entry_place entry
           unlike o gives s stored same =
-              let has = stored.print o (subst (λ (v : ℕ). Gives g ds v o) (sym same.0) gives) in
-              omega (arith, has.0, same.1, short o gives)
+              let has = stored.print o (subst (λ (p : Place). Gives g ds p.volume o) (sym same) gives) in
+              omega (arith, has.0, ap (λ (p : Place). p.object) same, short o gives)
 
       pub heard_of_missing : (fetched : Result (List ℕ) FetchRefusal) → FetchesFrom g entry fetched d e → HearsLost g opened (slice_set ds (drive_of (entry_place entry).volume ds) e) marks (Fetch entry) (heard.Fetched fetched)
       heard_of_missing (Err (fetching.NoObject volume object)) fetches = lost_still opened ds (slice_set ds (drive_of (entry_place entry).volume ds) e) marks entry (grown_at g (drive_of (entry_place entry).volume ds) ds d e at (reads_grow g d e fetches.1)) (missing_now fetches.0.2)

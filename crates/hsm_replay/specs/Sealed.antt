@@ -43,7 +43,7 @@ sealed_in marks = filter_map (λ (m : Mark). seal_by m.by m.entry.action) marks
 
 -- none of the entries names the object that this one names
 abbrev pub IsUnnamed : List StubEntry → StubEntry → Type 0
-IsUnnamed sealed entry = AllByRecursion (λ (e : StubEntry). ((entry_place e).volume ≡ (entry_place entry).volume) × ((entry_place e).object ≡ (entry_place entry).object) → ⊥) sealed
+IsUnnamed sealed entry = AllByRecursion (λ (e : StubEntry). entry_place e ≢ entry_place entry) sealed
 
 -- none of them names this object with this fingerprint
 abbrev pub IsUnsealed : List StubEntry → ℕ → ℕ → Fingerprint → Type 0
