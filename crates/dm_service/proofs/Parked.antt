@@ -1,8 +1,9 @@
 -- What events of accesses leave of the tables, and accesses that wait.
-use Rattle.std.proofs.Common.{◌≡◌, ℕ, ◌+◌, ◌<◌, ◌≤◌, ◌^◌, true, false, Option, None, Some, refl, sym, ◌∙◌, ap, subst, arith}
+use Rattle.std.proofs.Common.{◌≡◌, ℕ, ◌+◌, ◌<◌, ◌≤◌, true, false, Option, None, Some, refl, sym, ◌∙◌, ap, subst, arith}
 use Rattle.std.proofs.lemmas.Bool.{ne_eqb, eq-eqb, false_from_ne_true, eqb-false, cond_both}
 use Rattle.std.specs.Prelude.{◌==◌, is_some, if◌then◌else◌, IfSome}
 use Rattle.std.specs.Option.{option_map}
+use Rattle.hsm_types.specs.Limits.{most_tokens}
 use Rattle.hsm_types.specs.Callers.{IsCallerNumber}
 use Rattle.hsm_types.specs.Sessions.{posted}
 use Rattle.hsm_types.specs.declared.dm.Kind.{Kind}
@@ -26,7 +27,7 @@ use Rattle.dm_service.proofs.Awaiting.{opened}
 
 -- ---- an event that is posted
 
-pub posted_by : (t u : Tables) (n : ℕ) (kind : Kind) (handle : Handle) (told : Range) → AreKept t n → u.sessions ≡ posted (event_message kind (next_token (ledger_of t)) handle told) t.sessions → u.tokens ≡ t.tokens + 1 → u.tokens ≤ 2 ^ 62
+pub posted_by : (t u : Tables) (n : ℕ) (kind : Kind) (handle : Handle) (told : Range) → AreKept t n → u.sessions ≡ posted (event_message kind (next_token (ledger_of t)) handle told) t.sessions → u.tokens ≡ t.tokens + 1 → u.tokens ≤ most_tokens
     → u.rights ≡ t.rights → u.park ≡ t.park → (seen u ≡ with_event kind handle told (seen t)) × AreKept u (n + 1) × (awaited_in u ≡ awaited_in t + 1)
 posted_by t u n kind handle told kept sessions tokens few rights park =
     let st : State = with_event kind handle told (seen t) in

@@ -1,8 +1,9 @@
 -- What calls of sessions leave of the tables.
-use Rattle.std.proofs.Common.{◌≡◌, ℕ, ◌+◌, ◌-◌, ◌<◌, ◌≤◌, ◌^◌, List, [], ◌∷◌, ◌++◌, Bool, true, false, Option, None, Some, refl, sym, ◌∙◌, ap, subst, arith}
+use Rattle.std.proofs.Common.{◌≡◌, ℕ, ◌+◌, ◌-◌, ◌<◌, ◌≤◌, List, [], ◌∷◌, ◌++◌, Bool, true, false, Option, None, Some, refl, sym, ◌∙◌, ap, subst, arith}
 use Rattle.std.proofs.lemmas.Bool.Decides.{nat_tests}
 use Rattle.std.specs.Prelude.{◌==◌, ◌&&◌, not, is_some, if◌then◌else◌, Result, Ok, Err, IfOk, OnOk, OnErr}
 use Rattle.std.specs.Option.{option_map}
+use Rattle.hsm_types.specs.Limits.{most_tokens}
 use Rattle.hsm_types.specs.Calls.{scope_of}
 use Rattle.hsm_types.specs.Refusals.{first_refusal}
 use Rattle.hsm_types.specs.Messages.{is_lawful}
@@ -166,7 +167,7 @@ module _ (t : Tables) (n : ℕ) (kept : AreKept t n) (sid : Sid) (token : Token)
 -- ---- an event of a session's own
 
 module _ (t : Tables) (n : ℕ) (kept : AreKept t n) (sid : Sid) (body : List ℕ) (none : dm_judged any_superblock (seen t) sid (CreateUserEvent body) ≡ None) where
-  pub made_by : (u : Tables) → u.sessions ≡ user_event sid (next_token (ledger_of t)) body t.sessions → u.tokens ≡ t.tokens + 1 → u.tokens ≤ 2 ^ 62 → u.rights ≡ t.rights → u.park ≡ t.park
+  pub made_by : (u : Tables) → u.sessions ≡ user_event sid (next_token (ledger_of t)) body t.sessions → u.tokens ≡ t.tokens + 1 → u.tokens ≤ most_tokens → u.rights ≡ t.rights → u.park ≡ t.park
       → (noted (seen u) ≡ dm_state_where None any_superblock (seen t) sid (CreateUserEvent body)) × AreKept u (n + 1) × (awaited_in u ≡ awaited_in t + 1)
   made_by u sessions tokens few rights park =
       let st : State = dm_state_where None any_superblock (seen t) sid (CreateUserEvent body) in

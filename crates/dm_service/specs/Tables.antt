@@ -1,6 +1,7 @@
 -- What a store keeps of its sessions and of the accesses that wait, and how the model sees it.
-use Rattle.std.specs.Prelude.{ℕ, zero, suc, ◌≡◌, ◌+◌, ◌≤◌, ◌^◌, Bool, ◌&&◌, nat_lt, if◌then◌else◌, Option, Some, None}
+use Rattle.std.specs.Prelude.{ℕ, zero, suc, ◌≡◌, ◌+◌, ◌≤◌, Bool, ◌&&◌, nat_lt, if◌then◌else◌, Option, Some, None}
 use Rattle.std.specs.Option.{option_map}
+use Rattle.hsm_types.specs.Limits.{most_tokens}
 use Rattle.hsm_types.specs.Rights.{Rights}
 use Rattle.hsm_types.specs.Sessions.{SessionTable, places}
 use Rattle.hsm_types.specs.declared.keys.FileKey.{FileKey}
@@ -76,4 +77,4 @@ awaited_in t = open_in t + waiting_in (waiting t)
 pub record AreKept (t : Tables) (opened : ℕ) : Type 0 where
   pub ordered : InOrder (seen t)
   pub counted : opened ≡ open_in t
-  pub few : t.tokens ≤ 2 ^ 62
+  pub few : t.tokens ≤ most_tokens

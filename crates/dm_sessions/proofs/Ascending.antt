@@ -84,7 +84,7 @@ module _ (old : Sid) (info : List ℕ) (t : SessionTable) (none : creation_refus
       let fits = none-first (bad_info info) (too_many_sessions old t ∷ []) known.1 in
       not_met (eqb old.0 0 && leb live_sessions (length t.live)) (TooMany live_sessions) (none-first (too_many_sessions old t) [] fits.1).0
 
--- the new session makes no 65th
+-- with the new session no more live than may
 pub room : (old : Sid) (info : List ℕ) (t : SessionTable) → length t.live ≤ live_sessions → creation_refusal old info t ≡ None → length (remove_entry (same_sid old) t.live) + 1 ≤ live_sessions
 room old info t few none = go (eqb old.0 0) refl
   where

@@ -1,5 +1,5 @@
 -- What calls make durable, and what is true of the store after them.
-use Rattle.file_store.proofs.Names.{arith, ◌≡◌, ◌⊎◌, inl, inr, ⊎_elim, ℕ, ◌≤◌, ◌^◌, Bool, true, false, if◌then◌else◌, List, refl, sym, ◌∙◌, ap}
+use Rattle.file_store.proofs.Names.{arith, ◌≡◌, ◌⊎◌, inl, inr, ⊎_elim, ℕ, ◌≤◌, Bool, true, false, if◌then◌else◌, List, refl, sym, ◌∙◌, ap, last_number}
 use Rattle.file_store.proofs.Names.{subst, slice_index_or, AllByRecursion, HeldBody, MayBe, Keeps, Same, started, turns_leave, turns_now, joined}
 use Rattle.file_store.proofs.Names.{weakened, Space, Held, Catalog, blocks_of, IsImage, blocks_in_image, Recovers, Meta, IsMeta, Backs}
 use Rattle.file_store.proofs.Names.{StoresOrKeeps, HasStored, IsStoredNow, held_at, held_with, Store, IsDurable, IsEither, Proceeds, IsLive, IsSound}
@@ -134,7 +134,7 @@ module _ {D : Type 0} (g : Ghosts D) (p : Parts D) (lawful : IsMeta p.meta) (liv
         record { files = files; sound = record { meta = lawful_now; live = λ working. live_after wrote told }; held = held_is; proceeds = proceeds_after wrote told turns }
 
 -- what was stored is what was held, which is lawful
-pub stored_meta : (m new : Meta) (n : ℕ) → IsMeta m → IsStoredNow m n new → new.current ≡ m.current → n ≤ 2 ^ 62 → IsMeta new
+pub stored_meta : (m new : Meta) (n : ℕ) → IsMeta m → IsStoredNow m n new → new.current ≡ m.current → n ≤ last_number → IsMeta new
 stored_meta m new n lawful now current bound = record {
   stored = grind arith;
   current = rw current lawful.current;

@@ -1,7 +1,7 @@
 -- A catalog's files as they are held, however their bytes are found: what the catalog tells of them, their keys, one that is found, one more, one
 -- less and one changed.
 use Rattle.file_store.proofs.Names.{map-find, map-put, map-drop, ◌≡◌, ℕ, ◌<◌, ◌≤◌, ◌+◌, List, [], ◌∷◌, length, map, true, cond, Option, Some, None}
-use Rattle.file_store.proofs.Names.{refl, sym, ◌∙◌, ap, arith, is_some, IsSome, option_map, unwrap_or, ◌^◌, AllByRecursion, fold, sum, sum_by}
+use Rattle.file_store.proofs.Names.{refl, sym, ◌∙◌, ap, arith, is_some, IsSome, option_map, unwrap_or, AllByRecursion, fold, sum, sum_by, last_generation}
 use Rattle.file_store.proofs.Names.{length-map, FileKey, find_key, change_key, put_key, drop_key, Listed, greatest, named, free_inode, FileState}
 use Rattle.file_store.proofs.Names.{Held, used, used_by, next_key, affected_held, CatalogFile, Catalog, IsCatalog, geometry_of, present, blocks_of}
 use Rattle.file_store.proofs.Names.{names_in, kept_at, others_total, key_on, with_changed, IsNewFile, total-drop, used-sum, name_of, each-found}
@@ -201,7 +201,7 @@ module _ (B : CatalogFile → List ℕ) (c : Catalog) where
   pub next-key_held : key_next c ≡ next_key (held_by B c)
   next-key_held = rw (names-held B c, next-held B c) refl
 
-  pub new-file : (name : List ℕ) → IsCatalog c → is_name name ≡ true → named name (names_of (held_by B c).files) ≡ None → (length (held_by B c).files ≡ (geometry_of c.geometry).files → ⊥) → c.next < 2 ^ 62 → IsNewFile (key_next c) name c
+  pub new-file : (name : List ℕ) → IsCatalog c → is_name name ≡ true → named name (names_of (held_by B c).files) ≡ None → (length (held_by B c).files ≡ (geometry_of c.geometry).files → ⊥) → c.next < last_generation → IsNewFile (key_next c) name c
   new-file name is lawful free left early = grind (arith, files-few, length-map, free-le, names-held, free-ge, length-held, free-absent)
 
 -- what is held after a new file

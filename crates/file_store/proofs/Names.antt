@@ -36,6 +36,7 @@ pub use Rattle.file_store.specs.Stores.{Store, IsDurable, IsEither, Proceeds, Is
 pub use Rattle.file_store.specs.declared.rewrites.Rewrite.{Rewrite}
 pub use Rattle.file_store.specs.declared.rewrites.Rewrite.TheVariants.{Write, Resize, Restore}
 pub use Rattle.hsm_types.specs.Kept.{Kept}
+pub use Rattle.hsm_types.specs.Limits.{last_generation, last_number}
 pub use Rattle.hsm_types.specs.declared.keys.FileKey.{FileKey}
 pub use Rattle.inode_table.proofs.Orders.{free-ge, free-le, free-absent, absent-low, ascend-drop}
 pub use Rattle.inode_table.specs.Listing.{Within, has_inode}

@@ -1,11 +1,12 @@
 -- A store of files on a disk, and what recovery finds on an image.
-use Rattle.std.specs.Prelude.{◌≡◌, ◌⊎◌, ℕ, ◌≤◌, ◌^◌, Bool, true, false, List, length, map, replicate, slice_index_or, is_some, Result}
+use Rattle.std.specs.Prelude.{◌≡◌, ◌⊎◌, ℕ, ◌≤◌, Bool, true, false, List, length, map, replicate, slice_index_or, is_some, Result}
 use Rattle.std.specs.Option.{option_map}
 use Rattle.std.specs.List.{AllByRecursion}
 use Rattle.std.specs.Result.{IsErrOf}
 use Rattle.disk_model.specs.Calls.{Counts}
 use Rattle.disk_model.specs.Moments.{MayBe, LeavesOnly}
 use Rattle.disk_model.specs.declared.device.Disk as disk
+use Rattle.hsm_types.specs.Limits.{last_generation}
 use Rattle.hsm_types.specs.declared.stores.Superblock.{Superblock}
 use Rattle.hsm_types.specs.declared.keys.FileKey.{FileKey}
 use Rattle.hsm_types.specs.Kept.{Kept}
@@ -39,7 +40,7 @@ IsStubbed f = AreStubs (length f.body) f.kept.regions f.kept.stubs
 pub record IsLawful (limit : ℕ) (h : Held) : Type 0 where
   pub table : IsTable limit h.next (names_of h.files)
   pub opening : IsOpening h
-  pub next : h.next ≤ 2 ^ 62
+  pub next : h.next ≤ last_generation
   pub few : length h.files ≤ limit
   pub stubs : AllByRecursion IsStubbed h.files
 

@@ -23,8 +23,11 @@ use crate::refusal::StoreRefusal;
 use crate::rewrites::Rewrite;
 use crate::store::FileStore;
 use disk_model::Disk;
-use hsm_types::{AttrName, Bytes, FileKey, Regions, Stub, StubEntry, Verified, Word, segments_in};
-use meta_store::{LAST_GENERATION, Record};
+use hsm_types::{
+    AttrName, Bytes, FileKey, LAST_GENERATION, Regions, Stub, StubEntry, Verified, Word,
+    segments_in,
+};
+use meta_store::Record;
 use std::alloc::Global;
 
 impl<D: Disk> FileStore<D> {

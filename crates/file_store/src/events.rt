@@ -34,8 +34,8 @@ use block_space::{BlockSpace, Blocks, TakeRefusal};
 use commit_slots::Layout;
 use disk_model::Disk;
 use file_body::Body;
-use hsm_types::FileKey;
-use meta_store::{Catalog, LAST_NUMBER, MetaRefusal, Record};
+use hsm_types::{FileKey, LAST_NUMBER};
+use meta_store::{Catalog, MetaRefusal, Record};
 use std::alloc::{AllocError, Global};
 use std::snapshot::Snapshot;
 

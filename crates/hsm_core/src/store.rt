@@ -70,7 +70,8 @@ pub struct Hsm<D: Disk> {
 }
 
 impl<D: Disk> Model for Hsm<D> {
-    ghost use Rattle.std.specs.Prelude.{◌≡◌, ◌≤◌, ◌+◌, ◌-◌, ◌^◌, vec_len, vec_capacity};
+    ghost use Rattle.std.specs.Prelude.{◌≡◌, ◌≤◌, ◌+◌, ◌-◌, vec_len, vec_capacity};
+    ghost use Rattle.hsm_types.specs.Limits.{last_number};
     ghost use Rattle.dm_service.specs.Tables.{awaited_in, ledger_of, waiting};
     ghost use Rattle.plain_model.specs.State.{just_opened};
     ghost use Rattle.file_store.specs.Stores.{superblock_of};
@@ -85,7 +86,7 @@ impl<D: Disk> Model for Hsm<D> {
 
     ghost invariant = { λ h. HasRun (record { opened = h.opened.value; files = h.files; stamps = h.stamps.entries; tables = h.service; history = h.history.items; spare = vec_capacity h.history - (vec_len h.history + awaited_in h.service) })
         × IsSafe D.Disk (record { opened = h.opened.value; files = h.files; stamps = h.stamps.entries; tables = h.service; history = h.history.items; spare = vec_capacity h.history - (vec_len h.history + awaited_in h.service) })
-        × (h.base ≡ h.opened.value.meta.number) × (h.base ≤ 2 ^ 62)
+        × (h.base ≡ h.opened.value.meta.number) × (h.base ≤ last_number)
         × (vec_len h.history + awaited_in h.service ≤ vec_capacity h.history) × EachLasts (superblock_of h.opened.value).geometry.limits (ledger_of h.service)
         × ArePacked (superblock_of h.opened.value) (just_opened h.opened.value.meta.number h.opened.value.held) h.history.items };
 }

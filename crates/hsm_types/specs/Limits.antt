@@ -1,5 +1,5 @@
--- The limits of files, accesses and sessions.
-use Rattle.std.specs.Prelude.{ℕ, ◌≤◌}
+-- The limits of files, stores, accesses and sessions.
+use Rattle.std.specs.Prelude.{ℕ, ◌≤◌, ◌^◌}
 use Rattle.hsm_types.specs.declared.stores.Geometry.{Geometry}
 use Rattle.hsm_types.specs.declared.stores.Limits.{Limits}
 
@@ -61,6 +61,14 @@ small_geometry = record { files = 64; blocks = 1024; attributes = 32768; stubs =
 abbrev pub large_geometry : Geometry
 large_geometry = record { files = 4096; blocks = 65536; attributes = 1048576; stubs = 65536; limits = first_limits }
 
+-- the greatest number under which a store's files are made durable: that of its history's entries
+abbrev pub last_number : ℕ
+last_number = 2 ^ 62
+
+-- the greatest generation that a store can have as its next one. Those that were given are less
+abbrev pub last_generation : ℕ
+last_generation = 2 ^ 62
+
 -- ---- names and accesses
 
 -- the bytes of the longest name
@@ -104,6 +112,10 @@ live_sessions = 64
 -- the bytes of a session's longest information
 abbrev pub info_bytes : ℕ
 info_bytes = 256
+
+-- how many tokens may be given, and so the greatest one. They are numbered from 1
+abbrev pub most_tokens : ℕ
+most_tokens = 2 ^ 62
 
 -- how many user events may be outstanding, to all sessions together
 abbrev pub user_events : ℕ

@@ -24,8 +24,9 @@ pub use dm::{DmCall, DmRefusal, DmReply, Kind, Kinds, Response, Right, Scope};
 pub use keys::{CallerId, FileKey, HANDLE_BYTES, Handle, Holding, Sid, Token};
 pub use limits::{
     ACCESS_BYTES, ALL_FLAGS, ATTRIBUTE_COST, BLOCK_BYTES, BUFFER_BYTES, CALLERS, DATA_BYTES,
-    FILE_BLOCKS, FILE_BYTES, FILE_REGIONS, FILE_SEGMENTS, INFO_BYTES, LAST_ERROR, LAST_VOLUME,
-    LIVE_SESSIONS, MOST_VOLUMES, NAME_BYTES, SEGMENT_BLOCKS, SEGMENT_BYTES, USER_EVENTS,
+    FILE_BLOCKS, FILE_BYTES, FILE_REGIONS, FILE_SEGMENTS, FIRST_LIMITS, INFO_BYTES, LARGE_GEOMETRY,
+    LAST_ERROR, LAST_GENERATION, LAST_NUMBER, LAST_VOLUME, LIVE_SESSIONS, MOST_TOKENS,
+    MOST_VOLUMES, NAME_BYTES, SEGMENT_BLOCKS, SEGMENT_BYTES, SMALL_GEOMETRY, USER_EVENTS,
     VALUE_BYTES, WAITING_MESSAGES, segments_in,
 };
 pub use lists::{Bytes, FileRows, ListOf, Names, Regions, Segments, Sids, Tokens, Word};
@@ -33,6 +34,6 @@ pub use media::{CopyRefusal, Fault, FetchRefusal, MediaCause};
 pub use messages::{Message, Packed};
 pub use names::can_name;
 pub use regions::{REGION_READ, REGION_TRUNCATE, REGION_WRITE, Range, Region};
-pub use stores::{FIRST_LIMITS, Geometry, LARGE_GEOMETRY, Limits, SMALL_GEOMETRY, Superblock};
+pub use stores::{Geometry, Limits, Superblock};
 pub use stubs::{Changed, Digest, Fingerprint, Place, Segment, Stub, StubEntry, Verified};
 pub use tables::{FileRow, Table};

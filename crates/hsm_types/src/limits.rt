@@ -1,8 +1,9 @@
-//! The limits of files, accesses and sessions.
+//! The limits of files, stores, accesses and sessions.
 ghost use Rattle.std.specs.Prelude.{◌≡◌, ◌≤◌};
 ghost use Rattle.hsm_types.specs.Segments.{segments_in};
 
 use crate::regions::{REGION_READ, REGION_TRUNCATE, REGION_WRITE};
+use crate::stores::{Geometry, Limits};
 
 // The most that the code can count of a file, whatever its format allows (`Limits`).
 
@@ -31,6 +32,38 @@ pub const SEGMENT_BLOCKS: u32 = 16;
 
 /// The bytes of a block, in which space is counted.
 pub const BLOCK_BYTES: u64 = 4096;
+
+// Stores.
+
+/// What the first format lets a file have.
+pub const FIRST_LIMITS: Limits = Limits {
+    bytes: 16_777_216,
+    regions: 4,
+};
+
+/// How much a store can hold that the words call `small`.
+pub const SMALL_GEOMETRY: Geometry = Geometry {
+    files: 64,
+    blocks: 1024,
+    attributes: 32_768,
+    stubs: 1024,
+    limits: FIRST_LIMITS,
+};
+
+/// And one that they call `large`.
+pub const LARGE_GEOMETRY: Geometry = Geometry {
+    files: 4096,
+    blocks: 65_536,
+    attributes: 1_048_576,
+    stubs: 65_536,
+    limits: FIRST_LIMITS,
+};
+
+/// The greatest number under which a store's files are made durable: that of its history's entries.
+pub const LAST_NUMBER: u64 = 1 << 62;
+
+/// The greatest generation that a store can have as its next one. Those that were given are less.
+pub const LAST_GENERATION: u64 = 1 << 62;
 
 // Names and accesses.
 
@@ -66,6 +99,9 @@ pub const LIVE_SESSIONS: usize = 64;
 
 /// The bytes of a session's longest information. The shortest has one.
 pub const INFO_BYTES: usize = 256;
+
+/// How many tokens may be given, and so the greatest one. They are numbered from 1.
+pub const MOST_TOKENS: u64 = 1 << 62;
 
 /// How many user events may be outstanding, to all sessions together.
 pub const USER_EVENTS: u64 = 960;

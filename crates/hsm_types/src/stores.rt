@@ -10,12 +10,6 @@ pub struct Limits {
     pub regions: u32,
 }
 
-/// The limits of the first format.
-pub const FIRST_LIMITS: Limits = Limits {
-    bytes: 16_777_216,
-    regions: 4,
-};
-
 /// How much a store can hold.
 #[derive(Clone, Copy, PartialEq, Eq)]
 pub struct Geometry {
@@ -34,24 +28,6 @@ pub struct Geometry {
     /// What one file may have.
     pub limits: Limits,
 }
-
-/// The geometry that the words call `small`.
-pub const SMALL_GEOMETRY: Geometry = Geometry {
-    files: 64,
-    blocks: 1024,
-    attributes: 32_768,
-    stubs: 1024,
-    limits: FIRST_LIMITS,
-};
-
-/// The geometry that they call `large`.
-pub const LARGE_GEOMETRY: Geometry = Geometry {
-    files: 4096,
-    blocks: 65_536,
-    attributes: 1_048_576,
-    stubs: 65_536,
-    limits: FIRST_LIMITS,
-};
 
 /// What formatting fixes of a store for all its life.
 #[derive(Clone, Copy, PartialEq, Eq)]

@@ -1,6 +1,7 @@
 //! The table of a store's files.
 ghost use Rattle.std.specs.Prelude.{◌≡◌, ◌↔◌, ◌+◌, ◌^◌, ◌<◌, ◌≤◌, [], length, None, Err, false, IsSome, IfNone, IfOk, OnOk, OnErr, slice_get};
 ghost use Rattle.std.specs.Option.{option_map};
+ghost use Rattle.hsm_types.specs.Limits.{last_generation};
 ghost use Rattle.hsm_types.specs.Keyed.{find_key, change_key, drop_key};
 ghost use Rattle.hsm_types.specs.Listing.{named};
 ghost use Rattle.inode_table.specs.declared.table.TableRefusal.TheVariants.{Exists, NoInodes};
@@ -148,7 +149,7 @@ impl InodeTable {
         requires high { key.ino ≤ self.old.limit }
         requires inode { has_inode key.ino (listing self.old.files) ≡ false }
         requires name { named name.now (listing self.old.files) ≡ None }
-        requires generation { key.igen < 2 ^ 62 }
+        requires generation { key.igen < last_generation }
         ensures ok { OnOk result (self.new ≡ with_file (entry_of key name.now size) self.old) }
         ensures err { OnErr result (self.new ≡ self.old) }
     {

@@ -1,5 +1,6 @@
 -- The objects of a volume, numbered from 0, and what calls make of them.
 use Rattle.std.specs.Prelude.{◌≡◌, ◌⊎◌, ⊤, ℕ, ◌+◌, ◌≤◌, List, [], ◌∷◌, ◌++◌, length, take, drop, sum_by, Bool, false, Result, Ok, Err, IsErrOf}
+use Rattle.hsm_types.specs.Limits.{segment_bytes}
 use Rattle.disk_model.specs.Calls.{raised}
 use Rattle.media_model.specs.declared.drive.DriveRefusal.{DriveRefusal}
 use Rattle.media_model.specs.declared.drive.DriveRefusal.TheVariants.{Failed, NoVolume, NoObject}
@@ -9,7 +10,7 @@ Objects = List (List ℕ)
 
 -- the bytes of the longest object: its frame, and the longest segment
 abbrev pub longest_object : ℕ
-longest_object = 72 + 65536
+longest_object = 72 + segment_bytes
 
 -- how many bytes they have together
 abbrev pub size_of : Objects → ℕ

@@ -4,11 +4,12 @@ ghost use Rattle.media_model.specs.Objects.{Objects, longest_object, size_of, re
 ghost use Rattle.media_model.specs.Objects.{MayAdd, Follows, Alike, HasCause, IsAsked, KeepsVolumes};
 ghost use Rattle.media_model.specs.declared.drive.DriveRefusal.TheVariants.{Failed, Full, NoObject, Memory};
 
+use hsm_types::SEGMENT_BYTES;
 use std::alloc::AllocError;
 use thiserror::Error;
 
 /// The bytes of the longest object: its frame, and the longest segment.
-pub const LONGEST_OBJECT: usize = 72 + 65536;
+pub const LONGEST_OBJECT: usize = 72 + SEGMENT_BYTES as usize;
 
 /// Why a drive refused a call.
 #[derive(Clone, Copy, Debug, PartialEq, Eq, Error)]

@@ -1,7 +1,8 @@
 -- When an image holds a catalog: where its parts do, and where another image does.
-use Rattle.std.proofs.Common.{◌≡◌, ℕ, ◌+◌, ◌-◌, ◌≤◌, ◌^◌, List, ◌++◌, length, refl, ◌∙◌, ap, arith}
+use Rattle.std.proofs.Common.{◌≡◌, ℕ, ◌+◌, ◌-◌, ◌≤◌, List, ◌++◌, length, refl, ◌∙◌, ap, arith}
 use Rattle.disk_model.specs.Images.{part}
 use Rattle.disk_model.proofs.Parts.{part_split}
+use Rattle.hsm_types.specs.Limits.{last_number}
 use Rattle.commit_slots.specs.declared.places.Slot.TheVariants.{First}
 use Rattle.commit_slots.specs.Places.{layout_of, snapshot_at, select_at, superblock_len}
 use Rattle.commit_slots.specs.Images.{slot_of, gate_closed, IsStore}
@@ -14,7 +15,7 @@ use Rattle.meta_store.proofs.SnapshotFits.{fits_of}
 
 -- a catalog's snapshot in front of the selected area, and a closed gate
 pub image_from : (fsid n : ℕ) (x : Catalog) (image c : List ℕ) → IsStore x.geometry fsid c → image ≡ spelling (snapshot_of n x) → length image ≤ (layout_of x.geometry).snapshot_len
-    → part c (snapshot_at (layout_of x.geometry) (slot_of c)) (length image) ≡ image → gate_of x.geometry c ≡ gate_closed → IsCatalog x → AreLengths x → n ≤ 2 ^ 62 → IsImage fsid n x c
+    → part c (snapshot_at (layout_of x.geometry) (slot_of c)) (length image) ≡ image → gate_of x.geometry c ≡ gate_closed → IsCatalog x → AreLengths x → n ≤ last_number → IsImage fsid n x c
 unfolding area_of
 image_from fsid n x image c store is short holds gate lawful lengths bound =
     let at : ℕ = snapshot_at (layout_of x.geometry) (slot_of c) in

@@ -1,10 +1,11 @@
 -- A switch of slots, in the words of what recovery finds.
-use Rattle.std.proofs.Common.{◌≡◌, inl, inr, ℕ, ◌≤◌, ◌^◌, List, length, refl, sym, ◌∙◌, ap, arith}
+use Rattle.std.proofs.Common.{◌≡◌, inl, inr, ℕ, ◌≤◌, List, length, refl, sym, ◌∙◌, ap, arith}
 use Rattle.disk_model.specs.declared.device.Disk as disk
 use Rattle.disk_model.specs.Images.{part}
 use Rattle.disk_model.specs.Moments.{MayBe, Turns}
 use Rattle.disk_model.proofs.Parts.{part_part}
 use Rattle.disk_model.proofs.Steps.{started, turned_where}
+use Rattle.hsm_types.specs.Limits.{last_number}
 use Rattle.commit_slots.specs.declared.places.Slot.{Slot}
 use Rattle.commit_slots.specs.Places.{other, layout_of}
 use Rattle.commit_slots.specs.Images.{slot_of, IsStore}
@@ -45,7 +46,7 @@ pub record Commits {D : Type 0} (g : disk.Ghosts D) (old new : D) (m : Meta) (nu
   pub backs : Done → (after : Meta) → after.slot ≡ other m.slot → after.fsid ≡ m.fsid → after.number ≡ number → after.durable ≡ m.current → Backs g new after
 
 -- A commit of the current catalog, from a disk that backs m. The slots know the geometry as z.
-module _ {D : Type 0} (g : disk.Ghosts D) (old new : D) (m : Meta) (lawful : IsMeta m) (backs : Backs g old m) (number : ℕ) (bound : number ≤ 2 ^ 62) (z : ℕ) (geometry : z ≡ m.current.geometry) (image : List ℕ)
+module _ {D : Type 0} (g : disk.Ghosts D) (old new : D) (m : Meta) (lawful : IsMeta m) (backs : Backs g old m) (number : ℕ) (bound : number ≤ last_number) (z : ℕ) (geometry : z ≡ m.current.geometry) (image : List ℕ)
     (is : image ≡ spelling (snapshot_of number m.current)) (short : length image ≤ (layout_of m.current.geometry).snapshot_len) where
   -- what is known of each old image
   record Was (d : List ℕ) : Type 0 where

@@ -50,7 +50,7 @@ fewer-without name (a ∷ attrs) =
 pub setting-fits : (name : AttrName) (value : List ℕ) (others limit : ℕ) (attrs : Attributes) → setting_refusal name value others limit attrs ≡ None → others + bytes_of_attributes (with_value name value attrs) ≤ limit
 setting-fits name value others limit attrs none = grind arith
 
--- each counts 16 bytes at least
+-- each counts what one without bytes does, at least
 pub attributes-few : (attrs : Attributes) → attribute_cost * length attrs ≤ bytes_of_attributes attrs
 attributes-few [] = omega arith
 attributes-few (a ∷ attrs) = omega (arith, sum_by-cons cost_of_value a.1 (values_of attrs), attributes-few attrs)

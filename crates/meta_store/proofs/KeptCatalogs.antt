@@ -1,5 +1,6 @@
 -- What is true of each catalog stays true.
-use Rattle.std.proofs.Common.{◌≡◌, ◌+◌, ◌<◌, ◌≤◌, ◌^◌, ℕ, List, [], ◌++◌, Some, None, false, arith}
+use Rattle.std.proofs.Common.{◌≡◌, ◌+◌, ◌<◌, ◌≤◌, ℕ, List, [], ◌++◌, Some, None, false, arith}
+use Rattle.hsm_types.specs.Limits.{last_generation}
 use Rattle.hsm_types.specs.declared.keys.FileKey.{FileKey}
 use Rattle.hsm_types.specs.declared.stores.Geometry.{Geometry}
 use Rattle.hsm_types.specs.Kept.{nothing_kept}
@@ -23,7 +24,7 @@ use Rattle.meta_store.proofs.FileEdits.{sum-change, each-put, each-drop, each-ch
 abbrev pub empty_file : FileKey → List ℕ → CatalogFile
 empty_file key name = record { key = key; name = name; size = 0; places = []; kept = nothing_kept }
 
-pub IsCatalog-with_put : (g : CatalogFile) (c : Catalog) → IsCatalog c → 1 ≤ g.key.ino → g.key.ino ≤ (geometry_of c.geometry).files → has_inode g.key.ino (names_of c.files) ≡ false → named g.name (names_of c.files) ≡ None → g.key.igen < 2 ^ 62
+pub IsCatalog-with_put : (g : CatalogFile) (c : Catalog) → IsCatalog c → 1 ≤ g.key.ino → g.key.ino ≤ (geometry_of c.geometry).files → has_inode g.key.ino (names_of c.files) ≡ false → named g.name (names_of c.files) ≡ None → g.key.igen < last_generation
     → IsCatalogFile (geometry_of c.geometry) g → Distinct (present g.places ++ blocks_of c.files) → attribute_total c.files + count_of g ≤ (geometry_of c.geometry).attributes
     → stub_total c.files + stubs_of g ≤ (geometry_of c.geometry).stubs → IsCatalog (with_put g c)
 IsCatalog-with_put g c is low high free new early lawful apart room stub_room = record {

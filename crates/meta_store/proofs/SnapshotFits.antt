@@ -4,7 +4,7 @@ use Rattle.std.specs.List.{AllByRecursion, flat_map, list_any, IsDistinct}
 use Rattle.std.proofs.lemmas.List.{length-map}
 use Rattle.std.proofs.lemmas.List.Sums.{sum_by-cons}
 use Rattle.std.proofs.lemmas.Map.Steps.{length-le_from_distinct_below}
-use Rattle.hsm_types.specs.Limits.{large_geometry, name_bytes, file_bytes, IsCountable}
+use Rattle.hsm_types.specs.Limits.{large_geometry, name_bytes, file_bytes, file_regions, IsCountable, last_generation, last_number}
 use Rattle.hsm_types.specs.Names.{is_name}
 use Rattle.hsm_types.specs.declared.regions.Region.{Region}
 use Rattle.hsm_types.specs.declared.stores.Geometry.{Geometry}
@@ -78,7 +78,7 @@ files-few c is =
 
 -- ---- the fields
 
-module _ (g : Geometry) (next : ℕ) (few_blocks : g.blocks ≤ large_geometry.blocks) (few_files : g.files ≤ large_geometry.files) (countable : IsCountable g.limits) (old : next ≤ 2 ^ 62) where
+module _ (g : Geometry) (next : ℕ) (few_blocks : g.blocks ≤ large_geometry.blocks) (few_files : g.files ≤ large_geometry.files) (countable : IsCountable g.limits) (old : next ≤ last_generation) where
   extents-fit : (n : ℕ) (places : List (Option ℕ)) → n + length places ≤ 2 ^ 32 → AllByRecursion (λ b. b < g.blocks) (present places) → AllByRecursion ExtentFits (extents_from n places)
   extents-fit n [] fit below = tt
   extents-fit n (None ∷ places) fit below = extents-fit (n + 1) places (omega arith) below
@@ -107,7 +107,7 @@ module _ (g : Geometry) (next : ℕ) (few_blocks : g.blocks ≤ large_geometry.b
       let stubs = sum_by-cons (λ (g : CatalogFile). length g.kept.stubs) f fs in
       (file-fits f w.0 w.1 (omega arith) (omega arith) each.0, files-fit fs w.2 (omega arith) (omega arith) each.1)
 
-pub fits_of : (n : ℕ) (c : Catalog) → n ≤ 2 ^ 62 → IsCatalog c → Fits (snapshot_of n c)
+pub fits_of : (n : ℕ) (c : Catalog) → n ≤ last_number → IsCatalog c → Fits (snapshot_of n c)
 unfolding snapshot_of
 fits_of n c low is =
     let g = geometry-bounded c.geometry in
@@ -132,7 +132,11 @@ length-stubs : (stubs : Stubs) → AllByRecursion StubFits stubs → length (fla
 length-stubs [] fit = refl
 length-stubs (x ∷ stubs) fit = simp length-append (omega (arith, fit.0.digest, length-stubs stubs fit.1))
 
-file-short : (g : Geometry) (f : CatalogFile) → IsCountable g.limits → IsCatalogFile g f → length (bytes_of_file (snapshot_file f)) ≤ 170 + 8 * length (present f.places) + bytes_of_attributes f.kept.attributes + 49 * length f.kept.stubs
+-- what a file has in a snapshot beside its extents, attributes and stub entries, at most: its name, its regions, and fields of 38 bytes
+abbrev most_beside : ℕ
+most_beside = name_bytes + 17 * file_regions + 38
+
+file-short : (g : Geometry) (f : CatalogFile) → IsCountable g.limits → IsCatalogFile g f → length (bytes_of_file (snapshot_file f)) ≤ most_beside + 8 * length (present f.places) + bytes_of_attributes f.kept.attributes + 49 * length f.kept.stubs
 unfolding bytes_of_file
 file-short g f countable is =
     let k = is.kept in
@@ -140,14 +144,14 @@ file-short g f countable is =
     simp length-append (omega (arith, stubs, length-regions f.kept.regions, length-mappings (extents_from 0 f.places), length-extents 0 f.places, name-short f.name is.name, regions-few g.limits countable f.kept.regions k.regions, attributes-short f.kept.attributes k.eight))
 
 files-short : (g : Geometry) (fs : List CatalogFile) → IsCountable g.limits → AllByRecursion (IsCatalogFile g) fs
-    → length (flat_map bytes_of_file (map snapshot_file fs)) ≤ 170 * length fs + 8 * length (blocks_of fs) + attribute_total fs + 49 * stub_total fs
+    → length (flat_map bytes_of_file (map snapshot_file fs)) ≤ most_beside * length fs + 8 * length (blocks_of fs) + attribute_total fs + 49 * stub_total fs
 files-short g [] countable each = omega arith
 files-short g (f ∷ fs) countable each =
     let attributes = sum_by-cons (λ (g : CatalogFile). bytes_of_attributes g.kept.attributes) f fs in
     let stubs = sum_by-cons (λ (g : CatalogFile). length g.kept.stubs) f fs in
     simp length-append (omega (arith, attributes, stubs, file-short g f countable each.0, files-short g fs countable each.1))
 
-area-bounded : (geometry : ℕ) → 24 + 170 * (geometry_of geometry).files + 8 * (geometry_of geometry).blocks + (geometry_of geometry).attributes + 49 * (geometry_of geometry).stubs ≤ (layout_of geometry).snapshot_len
+area-bounded : (geometry : ℕ) → 24 + most_beside * (geometry_of geometry).files + 8 * (geometry_of geometry).blocks + (geometry_of geometry).attributes + 49 * (geometry_of geometry).stubs ≤ (layout_of geometry).snapshot_len
 unfolding geometry_of layout_of
 area-bounded geometry = grind arith
 

@@ -4,7 +4,7 @@ use Rattle.std.specs.List.{flat_map, AllByRecursion}
 use Rattle.std.specs.List.Sorted.{IsStrictlySortedBy}
 use Rattle.std.specs.Map.{keys_of}
 use Rattle.std.specs.Ordering.{nat_cmp}
-use Rattle.hsm_types.specs.Limits.{segment_blocks, small_geometry, large_geometry}
+use Rattle.hsm_types.specs.Limits.{segment_blocks, small_geometry, large_geometry, last_generation}
 use Rattle.hsm_types.specs.Names.{is_name}
 use Rattle.hsm_types.specs.declared.keys.FileKey.{FileKey}
 use Rattle.hsm_types.specs.declared.stores.Geometry.{Geometry}
@@ -117,7 +117,7 @@ pub record IsCatalogFile (geometry : Geometry) (f : CatalogFile) : Type 0 where
 pub record IsCatalog (c : Catalog) : Type 0 where
   pub known : c.geometry ≤ 1
   pub first : 1 ≤ c.next
-  pub next : c.next ≤ 2 ^ 62
+  pub next : c.next ≤ last_generation
   pub table : IsTable (geometry_of c.geometry).files c.next (names_of c.files)
   pub each : AllByRecursion (IsCatalogFile (geometry_of c.geometry)) c.files
   pub distinct : Distinct (blocks_of c.files)

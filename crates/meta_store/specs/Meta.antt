@@ -1,7 +1,8 @@
 -- What a store keeps beside bodies, in memory and on its disk.
-use Rattle.std.specs.Prelude.{◌≡◌, ℕ, ◌≤◌, ◌^◌, List, None}
+use Rattle.std.specs.Prelude.{◌≡◌, ℕ, ◌≤◌, List, None}
 use Rattle.disk_model.specs.Moments.{MayBe, Turns}
 use Rattle.disk_model.specs.declared.device.Disk as disk
+use Rattle.hsm_types.specs.Limits.{last_number}
 use Rattle.commit_slots.specs.declared.places.Slot.{Slot}
 use Rattle.commit_slots.specs.Places.{layout_of}
 use Rattle.commit_slots.specs.Steps.{Selects}
@@ -22,7 +23,7 @@ pub record Meta : Type 0 where
 
 -- what was stored is lawful, and of the geometry of the files as they are; and each stub entry has the length of its segment
 pub record IsStored (m : Meta) : Type 0 where
-  pub number : m.number ≤ 2 ^ 62
+  pub number : m.number ≤ last_number
   pub catalog : IsCatalog m.durable
   pub geometry : m.current.geometry ≡ m.durable.geometry
   pub lengths : AreLengths m.durable

@@ -1,9 +1,9 @@
 -- What records change of a catalog. Those of one event are taken together.
-use Rattle.std.specs.Prelude.{◌≡◌, ℕ, ◌+◌, ◌-◌, ◌*◌, ◌/◌, ◌≤◌, ◌<◌, ◌^◌, max, min, List, [], ◌∷◌, ◌++◌, length, take, drop, replicate, slice_set}
+use Rattle.std.specs.Prelude.{◌≡◌, ℕ, ◌+◌, ◌-◌, ◌*◌, ◌/◌, ◌≤◌, ◌<◌, max, min, List, [], ◌∷◌, ◌++◌, length, take, drop, replicate, slice_set}
 use Rattle.std.specs.Prelude.{true, false, if◌then◌else◌, ◌==◌, Option, Some, None}
 use Rattle.std.specs.List.{list_any, AllByRecursion}
 use Rattle.std.specs.Option.{option_map, unwrap_or}
-use Rattle.hsm_types.specs.Limits.{segment_blocks}
+use Rattle.hsm_types.specs.Limits.{segment_blocks, last_generation}
 use Rattle.hsm_types.specs.Names.{is_name}
 use Rattle.hsm_types.specs.declared.keys.FileKey.{FileKey}
 use Rattle.hsm_types.specs.declared.dm.DmRefusal.{DmRefusal}
@@ -142,7 +142,7 @@ pub record IsNewFile (key : FileKey) (name : List ℕ) (c : Catalog) : Type 0 wh
   pub high : key.ino ≤ (geometry_of c.geometry).files
   pub inode : has_inode key.ino (names_of c.files) ≡ false
   pub generation : c.next ≤ key.igen
-  pub last : key.igen < 2 ^ 62
+  pub last : key.igen < last_generation
 
 -- Blocks of a file and their places: the file has the blocks, none of them in a segment that is offline, and the disk has the places, which no file
 -- uses, each once.

@@ -2,6 +2,7 @@
 use Rattle.std.specs.Prelude.{◌≡◌, ℕ, ◌+◌, ◌<◌, ◌≤◌, ◌^◌, List, [], ◌∷◌, ◌++◌, length, map, Bool, if◌then◌else◌, Option, Some, None}
 use Rattle.std.specs.List.{flat_map, AllByRecursion}
 use Rattle.byteorder.specs.Endian.{big_bytes}
+use Rattle.hsm_types.specs.Limits.{last_number}
 use Rattle.hsm_types.specs.declared.keys.FileKey.{FileKey}
 use Rattle.hsm_types.specs.declared.regions.Region.{Region}
 use Rattle.hsm_types.specs.declared.attributes.AttrName.{AttrName}
@@ -126,7 +127,7 @@ snapshot_of number c = record { number = number; next = c.next; files = map snap
 
 -- the area holds a valid snapshot, of that number and that catalog
 pub record IsSnapshot (area : List ℕ) (n : ℕ) (c : Catalog) : Type 0 where
-  pub number : n ≤ 2 ^ 62
+  pub number : n ≤ last_number
   pub catalog : IsCatalog c
   pub lengths : AreLengths c
   pub spelled : IsSpelled area (snapshot_of n c)

@@ -1,7 +1,8 @@
 //! The catalog of a store's files in memory.
-ghost use Rattle.std.specs.Prelude.{◌≡◌, ◌↔◌, ◌++◌, ◌+◌, ◌^◌, ◌<◌, ◌≤◌, [], length, map, false, None, Some, Err, IsSome, IsOk, IfOk, IsErrOf, OnOk};
+ghost use Rattle.std.specs.Prelude.{◌≡◌, ◌↔◌, ◌++◌, ◌+◌, ◌<◌, ◌≤◌, [], length, map, false, None, Some, Err, IsSome, IsOk, IfOk, IsErrOf, OnOk};
 ghost use Rattle.std.specs.Prelude.{OnErr, slice_get};
 ghost use Rattle.std.specs.Option.{option_map};
+ghost use Rattle.hsm_types.specs.Limits.{last_generation};
 ghost use Rattle.hsm_types.specs.Attributes.{bytes_of_attributes};
 ghost use Rattle.hsm_types.specs.declared.dm.DmRefusal.{DmRefusal};
 ghost use Rattle.hsm_types.specs.Keyed.{find_key};
@@ -60,7 +61,7 @@ impl Catalog {
     pub fn new(alloc: Global, geometry: u32, next: u64) -> Result<Catalog, AllocError>
         requires geometry { geometry ≤ 1 }
         requires first { 1 ≤ next }
-        requires next { next ≤ 2 ^ 62 }
+        requires next { next ≤ last_generation }
         ensures { IfOk result (λ c. c ≡ record { geometry = geometry; next = next; files = [] }) }
     {
         let files = geometry_of(geometry).files;
@@ -180,7 +181,7 @@ impl Catalog {
     ) -> Result<(), AllocError>
         requires low { 1 ≤ key.ino }
         requires high { key.ino ≤ (geometry_of self.old.geometry).files }
-        requires early { key.igen < 2 ^ 62 }
+        requires early { key.igen < last_generation }
         requires inode { has_inode key.ino (names_of self.old.files) ≡ false }
         requires name { named name.now (names_of self.old.files) ≡ None }
         requires lawful { IsCatalogFile (geometry_of self.old.geometry) (file_of key name.now size parts) }

@@ -28,5 +28,5 @@ pub use geometry::geometry_of;
 pub use laws::{formatted_image, one_image, snapshot_fits};
 pub use records::{Record, Records};
 pub use refusal::MetaRefusal;
-pub use snapshot::{LAST_GENERATION, LAST_NUMBER, Mapping};
+pub use snapshot::Mapping;
 pub use store::MetaStore;

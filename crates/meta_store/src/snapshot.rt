@@ -8,12 +8,6 @@ use std::alloc::{AllocError, AllocFailed};
 /// The one format that there is.
 pub(crate) const FORMAT: u32 = 1;
 
-/// The greatest number that a snapshot can have.
-pub const LAST_NUMBER: u64 = 1 << 62;
-
-/// The greatest generation that a snapshot can have as its next one. Those that were given are less.
-pub const LAST_GENERATION: u64 = 1 << 62;
-
 /// The state of a segment that has its bytes and an entry.
 pub(crate) const SEALED: u8 = 1;
 

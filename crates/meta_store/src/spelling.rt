@@ -1,5 +1,6 @@
 //! The snapshot of a catalog.
-ghost use Rattle.std.specs.Prelude.{◌≡◌, ◌≤◌, ◌^◌, length, IfOk, OnOk};
+ghost use Rattle.std.specs.Prelude.{◌≡◌, ◌≤◌, length, IfOk, OnOk};
+ghost use Rattle.hsm_types.specs.Limits.{last_number};
 ghost use Rattle.commit_slots.specs.Places.{layout_of};
 ghost use Rattle.meta_store.specs.Catalogs.{IsCatalog};
 ghost use Rattle.meta_store.specs.Snapshots.{spelling, snapshot_of};
@@ -14,7 +15,7 @@ const FILE_ROOM: usize = 64;
 /// The bytes of a snapshot of the catalog, under that number.
 #[tactic(auto, using(crate::proofs::WrittenFiles::spell_steps))]
 pub(crate) fn spell(alloc: Global, number: u64, catalog: &Catalog) -> Result<Vec<u8>, AllocError>
-    requires { number ≤ 2 ^ 62 }
+    requires { number ≤ last_number }
     ensures spelled { IfOk result (λ v. v.items ≡ spelling (snapshot_of number catalog.now)) }
     ensures short { IfOk result (λ v. length v.items ≤ (layout_of catalog.now.geometry).snapshot_len) }
     ensures lawful { OnOk result (IsCatalog catalog.now) }

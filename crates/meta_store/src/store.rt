@@ -1,6 +1,7 @@
 //! A store's files in memory, over the snapshots of its disk.
-ghost use Rattle.std.specs.Prelude.{◌≡◌, ◌≤◌, ◌^◌, ◌↔◌, List, ℕ, true, false, Some, Err, OnOk, OnErr, IfOk};
+ghost use Rattle.std.specs.Prelude.{◌≡◌, ◌≤◌, ◌↔◌, List, ℕ, true, false, Some, Err, OnOk, OnErr, IfOk};
 ghost use Rattle.std.specs.Result.{IsErrOf};
+ghost use Rattle.hsm_types.specs.Limits.{last_number};
 ghost use Rattle.hsm_types.specs.declared.dm.DmRefusal.{DmRefusal};
 ghost use Rattle.disk_model.specs.Calls.{Counts};
 ghost use Rattle.disk_model.specs.Images.{Alike};
@@ -116,7 +117,7 @@ impl MetaStore {
     /// The number of history entries that the last commit stored, or that was found at the opening.
     pub fn number(&self) -> u64
         ensures number { result ≡ self.now.number }
-        ensures within { result ≤ 2 ^ 62 }
+        ensures within { result ≤ last_number }
     {
         self.number
     }
@@ -144,7 +145,7 @@ impl MetaStore {
         requires event { IsEvent records }
         requires stand { CanStandAll records self.old.current }
         requires lengths { AreLengths (after_all records self.old.current) }
-        requires number { number ≤ 2 ^ 62 }
+        requires number { number ≤ last_number }
 
         ensures any_moment { StoresOrKeeps D.Disk disk.old disk.new self.old number }
         ensures backs { OnOk result (Backs D.Disk disk.new self.new) }
@@ -176,7 +177,7 @@ impl MetaStore {
         number: u64,
     ) -> Result<(), MetaRefusal>
         requires backs { Backs D.Disk disk.old self.old }
-        requires number { number ≤ 2 ^ 62 }
+        requires number { number ≤ last_number }
 
         // At each moment since, and after a failure too, recovery finds what was durable, or what is stored now.
         ensures any_moment { StoresOrKeeps D.Disk disk.old disk.new self.old number }

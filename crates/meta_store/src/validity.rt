@@ -1,7 +1,7 @@
 //! The judgement of a snapshot that was read: the catalog that it says, if it is a valid one.
 
-ghost use Rattle.std.specs.Prelude.{◌≡◌, ℕ, ◌^◌, ◌≤◌, ◌++◌, [], ◌∷◌, map, is_some, IfOk, OnOk};
-ghost use Rattle.hsm_types.specs.Limits.{IsCountable};
+ghost use Rattle.std.specs.Prelude.{◌≡◌, ℕ, ◌≤◌, ◌++◌, [], ◌∷◌, map, is_some, IfOk, OnOk};
+ghost use Rattle.hsm_types.specs.Limits.{IsCountable, last_number};
 ghost use Rattle.plain_model.specs.Plain.{named};
 ghost use Rattle.std.specs.Bool.{OnTrue};
 ghost use Rattle.std.specs.Result.{IsErrOf};
@@ -16,8 +16,8 @@ use crate::file_places::FilePlaces;
 use crate::geometry::geometry_of;
 use crate::kept::{attributes_of, regions_of};
 use crate::kept_stubs::stubs_of;
-use crate::snapshot::{LAST_GENERATION, LAST_NUMBER, RawFile, RawSnapshot, ReadRefusal};
-use hsm_types::{BLOCK_BYTES, Geometry, Word, can_name};
+use crate::snapshot::{RawFile, RawSnapshot, ReadRefusal};
+use hsm_types::{BLOCK_BYTES, Geometry, LAST_GENERATION, LAST_NUMBER, Word, can_name};
 use std::alloc::Global;
 
 /// The catalog that a snapshot says, if it is a valid one of that geometry. The files are walked once, with a flag for each block of the disk, and
@@ -30,8 +30,8 @@ pub(crate) fn catalog_of(
     requires { geometry ≤ 1 }
     ensures found { IfOk result (λ c. (c.geometry ≡ geometry) × (raw_snapshot snapshot ≡ snapshot_of snapshot.number c) × IsCatalog c) }
     ensures lengths { IfOk result AreLengths }
-    ensures number { OnOk result (snapshot.number ≤ 2 ^ 62) }
-    ensures corrupt { IsErrOf result ReadRefusal.Corrupt → (n : ℕ) (c : Catalog) → c.geometry ≡ geometry → n ≤ 2 ^ 62 → IsCatalog c → AreLengths c → raw_snapshot snapshot ≡ snapshot_of n c → ⊥ }
+    ensures number { OnOk result (snapshot.number ≤ last_number) }
+    ensures corrupt { IsErrOf result ReadRefusal.Corrupt → (n : ℕ) (c : Catalog) → c.geometry ≡ geometry → n ≤ last_number → IsCatalog c → AreLengths c → raw_snapshot snapshot ≡ snapshot_of n c → ⊥ }
 {
     let next = snapshot.next;
     if snapshot.number > LAST_NUMBER || next == 0 || next > LAST_GENERATION {

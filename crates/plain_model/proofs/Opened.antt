@@ -5,7 +5,7 @@ use Rattle.std.proofs.lemmas.Bool.{false≢true, eqb-true, eqb-false}
 use Rattle.std.proofs.lemmas.List.{get_or_past}
 use Rattle.std.specs.Prelude.{◌/◌, nat_eq, IfSome}
 use Rattle.sha2.specs.Sha256.{first_words, schedule, rounds, compress, hash_after, digest_bytes, sha256}
-use Rattle.hsm_types.specs.Limits.{segment_bytes, first_limits}
+use Rattle.hsm_types.specs.Limits.{segment_bytes, small_geometry}
 use Rattle.hsm_types.specs.Messages.{packed}
 use Rattle.hsm_types.specs.Regions.{covers}
 use Rattle.hsm_types.specs.Stubs.{Stubs, print_of, stub_at, is_offline, entry_at, entry_print}
@@ -38,7 +38,7 @@ use Rattle.plain_model.proofs.Examples.{sid, by, one, all, no_fault}
 use Rattle.plain_model.proofs.Goods.{run_is_good}
 
 abbrev small : Superblock
-small = record { geometry = record { files = 64; blocks = 1024; attributes = 65536; stubs = 256; limits = first_limits }; fsid = 5 }
+small = record { geometry = small_geometry; fsid = 5 }
 
 abbrev a : List ℕ
 a = 97 ∷ []

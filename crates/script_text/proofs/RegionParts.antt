@@ -87,7 +87,7 @@ read_other word rest first behind regions xs read cut none h same =
     let x = region_at (map region_word regions) behind first xs h.0.1 parts_are in
     none x.0 x.1 x.2
 
--- no regions are more than 64
+-- no list has more regions than a line may
 pub read_many : (word rest : List ℕ) (regions xs : List Region) → IsReadTo word regions rest → line_regions ≤ length regions → AreSomeRegions xs → word ≡ regions_word xs → ⊥
 read_many word rest regions xs read many h same =
     let parts_are : map region_word xs ≡ map region_word regions ++ parts rest = sym (some_parts xs h) ∙ ap parts (sym same) ∙ read.split in

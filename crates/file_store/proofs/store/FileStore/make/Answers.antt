@@ -1,4 +1,4 @@
-use Rattle.file_store.proofs.Names.{Err, None, ◌≡◌, ◌<◌, ◌^◌, refl, ◌∙◌, ap, subst, arith, geometry_of, FileKey, next_held, Store, bytes_with}
+use Rattle.file_store.proofs.Names.{Err, None, ◌≡◌, ◌<◌, refl, ◌∙◌, ap, subst, arith, geometry_of, FileKey, next_held, Store, bytes_with, last_generation}
 use Rattle.std.proofs.lemmas.Result.{err_from_is_err_and}
 use Rattle.file_store.specs.Refusals.{no_memory}
 use Rattle.file_store.proofs.Ended.{ends_done, ends_err, lacking}
@@ -16,7 +16,7 @@ record-requires-clause-stands g c =
     let at = goal.at.record-requires-clause-stands g c in
     let m = c.self.inside.meta in
     let key = key_is g at.After-next_key-key in
-    let early : m.current.next < 2 ^ 62 = omega (arith, ap (λ (k : FileKey). k.igen) key, c.if-key-ge-LAST_GENERATION.false) in
+    let early : m.current.next < last_generation = omega (arith, ap (λ (k : FileKey). k.igen) key, c.if-key-ge-LAST_GENERATION.false) in
     rw (← c.self.view_is, key, c.in_ok-name.ensures.cases)
     (new-file (bytes_with c.self.inside.bodies.items) m.current c.args.name.now c.self.invariant.0.catalog c.requires.lawful (rw (← c.self.view_is) at c.requires.free) (rw (← c.self.view_is, ← c.self.invariant.1.meta.stored.geometry) at c.requires.left) early)
 
