@@ -1,6 +1,7 @@
 //! How much a store can hold.
 
 ghost use Rattle.std.specs.Prelude.{◌≡◌};
+ghost use Rattle.hsm_types.specs.Limits.{IsCountable};
 ghost use Rattle.meta_store.specs.Catalogs.{geometry_of};
 
 use hsm_types::{Geometry, LARGE_GEOMETRY, SMALL_GEOMETRY};
@@ -8,7 +9,8 @@ use hsm_types::{Geometry, LARGE_GEOMETRY, SMALL_GEOMETRY};
 /// How much a store of geometry 0 can hold, which is small, or of any other, which is large.
 #[tactic(auto, unfolding(crate::specs::Catalogs::geometry_of))]
 pub fn geometry_of(geometry: u32) -> Geometry
-    ensures { result ≡ geometry_of geometry }
+    ensures geometry { result ≡ geometry_of geometry }
+    ensures countable { IsCountable result.limits }
 {
     if geometry == 0 {
         SMALL_GEOMETRY

@@ -9,7 +9,6 @@ use Rattle.meta_store.specs.Catalogs.{Catalog, IsCatalog, AreLengths, geometry_o
 use Rattle.meta_store.specs.Validity.{listed_in, names_in, last_inode, IsNext}
 use Rattle.meta_store.proofs.StandOnce.{last_inode-push}
 use Rattle.meta_store.proofs.PassingFiles.{passes, told_err}
-use Rattle.meta_store.proofs.SnapshotFits.{limits_countable}
 use Rattle.meta_store.proofs.validity.catalog_of.Goals as goal
 
 unfolded : (n : ℕ) (c : Catalog) → snapshot_of n c ≡ record { number = n; next = c.next; files = map snapshot_file c.files }
@@ -35,10 +34,7 @@ pub returns-in_err-take_in-clause-corrupt : goal.returns-in_err-take_in-clause-c
 returns-in_err-take_in-clause-corrupt c = λ is n d kind small valid long same.
     let cut = sym (ap (λ (fs : List RawFile). c.loop-file.yielded ++ fs) c.in-Some.ensures.steps.0) ∙ c.loop-file.invariant.walked in
     let passes = each-passes c.args.snapshot n d c.loop-file.yielded c.in-Some.file (into_iter_items c.next.new.self) valid long same cut in
-    c.in_err-take_in.ensures.corrupt (told_err c.from_residual-in_err-take_in.result c.in_err-take_in.field-0.0 Corrupt c.from_residual-in_err-take_in.ensures.1 is) (rw (kind, ← c.geometry_of-bounds.ensures, ← c.loop-file.invariant.taken.taken) at passes)
-
-pub take_in-requires-clause-countable : goal.take_in-requires-clause-countable
-take_in-requires-clause-countable c = rw c.geometry_of-bounds.ensures (limits_countable c.args.geometry)
+    c.in_err-take_in.ensures.corrupt (told_err c.from_residual-in_err-take_in.result c.in_err-take_in.field-0.0 Corrupt c.from_residual-in_err-take_in.ensures.1 is) (rw (kind, ← c.geometry_of-bounds.ensures.geometry, ← c.loop-file.invariant.taken.taken) at passes)
 
 pub loop-file-preserved : goal.loop-file-preserved
 loop-file-preserved c =
@@ -51,7 +47,7 @@ loop-file-preserved c =
     record {
       walked = append_assoc before (file ∷ []) rest ∙ sym (ap (λ (fs : List RawFile). before ++ fs) next.0) ∙ so_far.walked;
       left = omega (arith, so_far.left, next.1, ap length next.0);
-      taken = rw (more, ← so_far.taken.taken, ← c.geometry_of-bounds.ensures, ← so_far.taken.geometry) c.in_ok-take_in.ensures.taken;
+      taken = rw (more, ← so_far.taken.taken, ← c.geometry_of-bounds.ensures.geometry, ← so_far.taken.geometry) c.in_ok-take_in.ensures.taken;
       last = rw more (last-taken (map raw_file before) (raw_file file));
     }
 

@@ -21,7 +21,6 @@ use Rattle.meta_store.proofs.FoundFiles.{each-found}
 use Rattle.meta_store.proofs.FilesAfter.{stood, fits, file-after}
 use Rattle.meta_store.proofs.HeldFiles.{held-change}
 use Rattle.meta_store.proofs.StubsAfter.{room-after}
-use Rattle.meta_store.proofs.SnapshotFits.{limits_countable}
 use Rattle.meta_store.proofs.KeptCatalogs.{IsCatalog-after}
 use Rattle.meta_store.proofs.catalog.Catalog.change_file.Goals.{After-index_mut-parts}
 use Rattle.meta_store.proofs.catalog.Catalog.change_file.Goals as goal
@@ -96,7 +95,7 @@ lent c =
       here = c.slot.ensures;
       same = read-live _ _ _ f.0 f.3 c.slot.result c.index_mut-parts.result.now c.slot.ensures c.index_mut-parts.ensures.value;
       others = rw c.ino.ensures at c.others-blocks.ensures.others;
-      bound = c.geometry_of-geometry.ensures ∙ ap (λ (x : Catalog). geometry_of x.geometry) c.self.view_is;
+      bound = c.geometry_of-geometry.ensures.geometry ∙ ap (λ (x : Catalog). geometry_of x.geometry) c.self.view_is;
     }
 
 pub unwrap-requires : goal.unwrap-requires
@@ -115,9 +114,6 @@ apply-requires-clause-attributes c = omega (arith, (room (lent (goal.at.apply-re
 
 pub apply-requires-clause-stubs : goal.apply-requires-clause-stubs
 apply-requires-clause-stubs c = omega (arith, (room (lent (goal.at.apply-requires-clause-stubs c).After-index_mut-parts)).1)
-
-pub apply-requires-clause-countable : goal.apply-requires-clause-countable
-apply-requires-clause-countable c = rw c.geometry_of-geometry.ensures (limits_countable c.self.inside.geometry)
 
 pub returns-in_err-apply-clause-refused : goal.returns-in_err-apply-clause-refused
 returns-in_err-apply-clause-refused c =
