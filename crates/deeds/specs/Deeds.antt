@@ -75,8 +75,8 @@ IsOf entry (Failed volume object before after) = (volume ≡ (entry_place entry)
 IsOf entry (Damaged volume object want got) = (volume ≡ (entry_place entry).volume) × (object ≡ (entry_place entry).object) × (want ≡ entry_print entry) × (want ≢ got)
 
 -- What may be heard of an act, whatever stores and drives hold. Of a call it is an answer with which the run goes on; of a copy an entry of the bytes on
--- that volume, or a refusal with its cause; of a fetch bytes with the entry's fingerprint, or a refusal that speaks of its object; of a rest it is nothing. Want
--- of memory is never heard.
+-- that volume, or a refusal with its cause; of a fetch bytes with the entry's fingerprint, or a refusal that speaks of its object; of a rest it is nothing.
+-- Want of memory is never heard.
 abbrev pub Fits : Act → Heard → Type 0
 Fits (act.Dm sid call) (heard.Dm reply) = (reply ≢ Refused why.Disk) × (reply ≢ Refused why.Memory)
 Fits (act.Copy volume handle segment bytes) (heard.Copied (Ok entry)) = ((entry_place entry).volume ≡ volume) × (entry_print entry ≡ print_of bytes)

@@ -1,5 +1,6 @@
 -- The deeds of events, turns, resumes and rounds.
-use Rattle.std.proofs.Common.{◌≡◌, ◌∙◌, ◌+◌, ◌∷◌, ◌++◌, [], ℕ, Bool, true, false, List, length, drop, Option, Some, None, option_map, Result, Ok, Err, OnErr, inl, inr}
+use Rattle.std.proofs.Common.{◌≡◌, ◌∙◌, ◌+◌, ◌∷◌, ◌++◌, [], ℕ, Bool, true, false, List, length}
+use Rattle.std.proofs.Common.{drop, Option, Some, None, option_map, Result, Ok, Err, OnErr, inl, inr}
 use Rattle.std.proofs.Common.{refl, sym, ap, subst, append-nil, append_assoc}
 use Rattle.std.specs.List.{list_all}
 use Rattle.std.specs.Prelude.{IfSome}
@@ -29,14 +30,18 @@ use Rattle.hsm_system.specs.Running.{Migrating, Recalling}
 use Rattle.hsm_system.specs.declared.stops.Stop.{Stop}
 use Rattle.hsm_system.specs.declared.stops.Stop.TheVariants as stop
 use Rattle.marked_history.specs.Quiet.{is_quiet}
-use Rattle.hsm_replay.specs.Deeds.{given_now, IsSo, RunsBy, IsDoneBy, IsStoppedBy, ByDeeds, MayResumeBy, IsResumeCut, AreResumesOf, AreResumesCutIn, IsRoundOf}
+use Rattle.hsm_replay.specs.Deeds.{given_now, IsSo, RunsBy, IsDoneBy, IsStoppedBy, ByDeeds}
+use Rattle.hsm_replay.specs.Deeds.{MayResumeBy, IsResumeCut, AreResumesOf, AreResumesCutIn, IsRoundOf}
 use Rattle.hsm_replay.specs.Parts.{IsStep, IsLeft, IsLeftFrom, IsTurn, IsTurnFrom, IsTurnIf, AreResumes, are_quiet, IsRound, IsSettle}
-use Rattle.hsm_replay.specs.Stopped.{Ending, Broken, Unmade, IsEventCut, IsStepCut, IsLeftCut, IsLeftCutFrom, IsTurnCut, IsTurnCutFrom, IsRoundCut, IsSettleCut}
+use Rattle.hsm_replay.specs.Stopped.{Ending, Broken, Unmade, IsEventCut, IsStepCut, IsLeftCut}
+use Rattle.hsm_replay.specs.Stopped.{IsLeftCutFrom, IsTurnCut, IsTurnCutFrom, IsRoundCut, IsSettleCut}
 use Rattle.hsm_replay.specs.Systems.{Run, started, killed}
 use Rattle.hsm_replay.specs.Turns.{HasTurned, HaveResumed}
 use Rattle.hsm_replay.proofs.Deeds.{runs_still, done_none, done_then, stopped_then, done_as, stopped_as, done_to}
-use Rattle.hsm_replay.proofs.PartsOn.{IsAtRest, IsSoFar, so_far_none, so_far_on, so_far_over, so_far_cut, step_turns, step_turns_cut, step_cut, left_turns, left_cut, left_turns_cut}
-use Rattle.hsm_replay.proofs.PartsOn.{ResumesTo, resumes_none, resumes_skip, resumes_on, resumes_cut, RoundsTo, rounds_none, rounds_on, rounds_settle, rounds_cut}
+use Rattle.hsm_replay.proofs.PartsOn.{IsAtRest, IsSoFar, so_far_none, so_far_on, so_far_over, so_far_cut}
+use Rattle.hsm_replay.proofs.PartsOn.{step_turns, step_turns_cut, step_cut, left_turns, left_cut, left_turns_cut}
+use Rattle.hsm_replay.proofs.PartsOn.{ResumesTo, resumes_none, resumes_skip, resumes_on, resumes_cut}
+use Rattle.hsm_replay.proofs.PartsOn.{RoundsTo, rounds_none, rounds_on, rounds_settle, rounds_cut}
 use Rattle.hsm_replay.proofs.PartsRun.{given_so}
 use Rattle.hsm_replay.proofs.Rounds.{drop_first}
 

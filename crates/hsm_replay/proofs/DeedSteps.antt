@@ -1,5 +1,6 @@
 -- The deeds of a step.
-use Rattle.std.proofs.Common.{◌≡◌, ◌∙◌, ◌≤◌, ◌%◌, ◌∷◌, [], ℕ, Bool, true, false, List, length, Option, Some, None, option_map, Result, Ok, Err, OnOk, IfErr, inl, inr}
+use Rattle.std.proofs.Common.{◌≡◌, ◌∙◌, ◌≤◌, ◌%◌, ◌∷◌, [], ℕ, Bool, true, false, List, length}
+use Rattle.std.proofs.Common.{Option, Some, None, option_map, Result, Ok, Err, OnOk, IfErr, inl, inr}
 use Rattle.std.proofs.Common.{refl, sym, ap, subst, arith}
 use Rattle.std.specs.Option.{unwrap_or}
 use Rattle.std.specs.Prelude.{slice_get, slice_set, ◌==◌}
@@ -46,7 +47,8 @@ use Rattle.hsm_system.proofs.Going.{event_goes}
 use Rattle.hsm_system.proofs.Leading.{goes_then, gives_goes, gives_awaits, answered_hears, stops_goes, taken_goes, loses_goes, awaits_runs, heard_store}
 use Rattle.hsm_system.proofs.Outcomes.{outcome_fits}
 use Rattle.hsm_replay.specs.Acts.{Performs, Stops, CopiesTo, FetchesFrom}
-use Rattle.hsm_replay.specs.Deeds.{given_now, IsPayload, BearOut, IsSo, AreSo, DriveGoes, DrivesGo, IsLeft, counts_of, RunsBy, WorksOn, IsDoneBy, IsStopOf, IsStoppedBy, ByDeeds}
+use Rattle.hsm_replay.specs.Deeds.{given_now, IsPayload, BearOut, IsSo, AreSo, DriveGoes, DrivesGo, IsLeft}
+use Rattle.hsm_replay.specs.Deeds.{counts_of, RunsBy, WorksOn, IsDoneBy, IsStopOf, IsStoppedBy, ByDeeds}
 use Rattle.hsm_replay.specs.Drives.{HaveGrown}
 use Rattle.hsm_replay.specs.Parts.{IsStep, IsStepFrom}
 use Rattle.hsm_replay.specs.Steps.{Steps, Halts}

@@ -26,9 +26,11 @@ use Rattle.script_text.specs.declared.lines.Line.{Line}
 use Rattle.deeds.specs.Deeds.{entry_of, Deed, Enters, Refreshes, Fits, IsServed}
 use Rattle.deeds.specs.Given.{Given, asked_behind, given_behind}
 use Rattle.deeds.specs.Lives.{life}
-use Rattle.hsm_replay.specs.Parts.{Exchange, resting, done_by, IsStepFrom, IsWork, IsUpToRest, IsLeftFrom, IsTurnFrom, AreResumes, resume_of, joined, are_quiet}
+use Rattle.hsm_replay.specs.Parts.{Exchange, resting, done_by, IsStepFrom, IsWork, IsUpToRest}
+use Rattle.hsm_replay.specs.Parts.{IsLeftFrom, IsTurnFrom, AreResumes, resume_of, joined, are_quiet}
 use Rattle.hsm_replay.specs.Parts.{IsRound, AreBusy, IsSettle}
-use Rattle.hsm_replay.specs.Stopped.{Ending, IsEventCut, IsActCut, IsStepCutFrom, IsWorkCut, IsLeftCutFrom, IsTurnCutFrom, AreResumesCut, IsRoundCut, IsSettleCut}
+use Rattle.hsm_replay.specs.Stopped.{Ending, IsEventCut, IsActCut, IsStepCutFrom, IsWorkCut}
+use Rattle.hsm_replay.specs.Stopped.{IsLeftCutFrom, IsTurnCutFrom, AreResumesCut, IsRoundCut, IsSettleCut}
 use Rattle.hsm_replay.specs.Stopped.{IsLineCut, StopsOn}
 use Rattle.hsm_replay.proofs.PartsDone.{follows_on}
 use Rattle.deeds.proofs.Giving.{given_then}

@@ -86,8 +86,8 @@ module _ {M : Type 0} (g : drive.Ghosts M) where
   module _ {D : Type 0} where
     -- ---- deeds that lead on
 
-    -- The deeds lead from the one to the other, and do all that is done to drives. So these are the same, used, and what was heard of them in these deeds is so behind them. Failed fetches of one
-    -- drive are apart, in the order of deeds.
+    -- The deeds lead from the one to the other, and do all that is done to drives. So these are the same, used, and what was heard of them is so behind them.
+    -- Failed fetches of one drive are apart, in the order of deeds.
     pub record RunsBy (deeds : List Deed) (old new : Run D M) : Type 0 where
       pub goes : Goes deeds old.system new.system
       pub drives : DrivesGo deeds old.drives new.drives
@@ -108,8 +108,8 @@ module _ {M : Type 0} (g : drive.Ghosts M) where
       pub runs : RunsBy deeds old new
       pub works : WorksOn old.system.store new.system.store
 
-    -- Why the run was stopped: the last entry is that of a fault of the disk; or an event was made over a store that was closed before, of which all but the room
-    -- in its history is left as it is; or memory ran out, for an event of a store that works on, or for none.
+    -- Why the run was stopped: the last entry is that of a fault of the disk; or an event was made over a store that was closed before, of which all but the
+    -- room in its history is left as it is; or memory ran out, for an event of a store that works on, or for none.
     abbrev pub IsStopOf : Stop → Ending → Store D → Store D → Type 0
     IsStopOf stop.Disk Broken old new = HasClosed old new
     IsStopOf stop.Disk Unmade old new = WasClosed old new

@@ -47,7 +47,8 @@ pub fn runs_by_lines()
     ensures { (quiet : Entry → Bool) (daemon : Daemon) (lines : List Line) → RunsByLines quiet daemon lines }
 {}
 
-/// Deeds that lead from one run to another, and those that lead on from there, lead from the first to the last; what drives said of the first they go on to say.
+/// Deeds that lead from one run to another, and those that lead on from there, lead from the first to the last. What drives said of the first they go on to
+/// say.
 pub fn runs_on<D: Disk, M: Drive>()
     ensures { (deeds more : List Deed) → RunsOn M.Drive D deeds more }
 {}

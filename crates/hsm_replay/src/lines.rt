@@ -25,8 +25,8 @@ use std::alloc::Global;
 
 impl<D: Disk, M: Drive> Replay<D, M> {
     /// Runs the line: an event line as one event, `start` and `kill` as none, `step` as at most one act of the daemon, and `settle` as the events of
-    /// [`settle`](Replay::settle). After an error the history may have the first of the line's events. `Stop::Disk` is answered exactly where an event of the line
-    /// was answered with a fault of the disk, also over a store that was closed before, which is left as it is.
+    /// [`settle`](Replay::settle). After an error the history may have the first of the line's events. `Stop::Disk` is answered exactly where an event of the
+    /// line was answered with a fault of the disk, also over a store that was closed before, which is left as it is.
     pub fn line(&mut self, alloc: Global, line: Line) -> Result<(), Stop>
         requires { IsLine line }
         ensures moves { Moves D.Disk M.Drive (IsPartOf line) result self.old self.new }

@@ -83,8 +83,8 @@ impl<D: Disk, M: Drive> Replay<D, M> {
     }
 
     /// Takes a step of the daemon, where it runs: its machine hears what came of its last act and gives another, which is performed. What is heard of
-    /// that the machine hears in the next step. After an error it hears `Heard::Nothing`, and may be given its next step. `Stop::Disk` is answered exactly where
-    /// its call was answered with a fault of the disk, also by a store that was closed before, which is left as it is.
+    /// that the machine hears in the next step. After an error it hears `Heard::Nothing`, and may be given its next step. `Stop::Disk` is answered exactly
+    /// where its call was answered with a fault of the disk, also by a store that was closed before, which is left as it is.
     pub fn step(&mut self, alloc: Global, daemon: Daemon) -> Result<(), Stop>
         ensures stepped { OnOk result (Steps D.Disk M.Drive daemon self.old self.new) }
         ensures stopped { IfErr result (λ why. Halts D.Disk M.Drive daemon self.old why self.new) }
