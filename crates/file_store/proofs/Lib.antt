@@ -14,6 +14,7 @@ pub mod FilesBy
 pub mod ShownFiles
 pub mod WithBodies
 pub mod Ended
+pub mod Looked
 pub mod StoreEvents
 pub mod Beside
 pub mod SealedFiles

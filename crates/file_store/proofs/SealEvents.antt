@@ -7,7 +7,6 @@ use Rattle.std.proofs.lemmas.Option.{same_Some}
 use Rattle.hsm_types.specs.Limits.{file_bytes, segment_bytes, last_volume}
 use Rattle.hsm_types.specs.Segments.{segment_len}
 use Rattle.hsm_types.specs.Stubs.{stub_at, offline_at, print_of, entry_place, entry_print}
-use Rattle.hsm_types.specs.declared.stubs.Fingerprint.{Fingerprint}
 use Rattle.hsm_types.specs.declared.stubs.StubEntry.{StubEntry}
 use Rattle.plain_model.proofs.Bodies.{length-read}
 use Rattle.plain_model.specs.Plain.{segment}
@@ -30,7 +29,7 @@ module _ {bs : List HeldBody} {m : Meta} (is : IsHeldFiles bs m) (k : FileKey) (
   key = key_on-live m.current k at.file is.catalog at.found
 
   module _ (resident : offline_at (kept_of k (held_with bs m.current).files).stubs j ≡ false) (start : segment_bytes * j < length (bytes_of k (held_with bs m.current).files)) (volume : (entry_place entry).volume ≤ last_volume)
-      (print : entry_print entry ≡ print_of (segment j (bytes_of k (held_with bs m.current).files))) where
+      (len : (entry_print entry).len ≡ length (segment j (bytes_of k (held_with bs m.current).files))) where
     here : offline_at at.file.kept.stubs j ≡ false
     here = ap (λ (x : Kept). offline_at x.stubs j) (sym (kept-found (bytes_with bs) m.current k at.file at.found)) ∙ resident
 
@@ -40,7 +39,7 @@ module _ {bs : List HeldBody} {m : Meta} (is : IsHeldFiles bs m) (k : FileKey) (
     of_length : (entry_print entry).len ≡ segment_len at.file.size j
     of_length =
         let body : List ℕ = bytes_of k (held_with bs m.current).files in
-        ap (λ (p : Fingerprint). p.len) print ∙ length-read (segment_bytes * j) segment_bytes body ∙ ap (λ n. segment_len n j) size
+        len ∙ length-read (segment_bytes * j) segment_bytes body ∙ ap (λ n. segment_len n j) size
 
     pub seals : IsBodiless k (sealing j entry k) m.current
     seals = (key, λ f found. let same : at.file ≡ f = same_Some at.file f (sym at.found ∙ (rw key at found)) in subst (IsSeal j (record { entry = entry; offline = false })) same (record { stays = refl; here = here; len = of_length }))

@@ -8,3 +8,4 @@ pub mod Effects
 pub mod Stores
 pub mod Changes
 pub mod Laws
+pub mod Looks

@@ -1,5 +1,6 @@
 //! What changes the files of a store: each event is records, blocks that they take and free, and bytes.
 ghost use Rattle.std.specs.Prelude.{◌≡◌, ◌≢◌, ◌+◌, ◌*◌, ◌<◌, ◌≤◌, [], ◌∷◌, min, true, false, None, Some, Err, length, OnOk, IfOk, IfSome, IsErrOf, IsSome};
+ghost use Rattle.disk_model.specs.Moments.{Tells};
 ghost use Rattle.hsm_types.specs.Limits.{segment_bytes, last_volume};
 ghost use Rattle.hsm_types.specs.Names.{is_name};
 ghost use Rattle.hsm_types.specs.Regions.{regions_refusal};
@@ -10,6 +11,7 @@ ghost use Rattle.hsm_types.specs.Segments.{segments_in};
 ghost use Rattle.hsm_types.specs.Stubs.{print_of, stub_at, offline_at, uncovered, too_many_stubs, any_unpunched, entry_place, entry_print};
 ghost use Rattle.plain_model.specs.Effects.{Makes, Drops, Writes, Resizes, Manages, Attaches, Detaches, Seals, Punches, Restores};
 ghost use Rattle.plain_model.specs.Plain.{named, segment as segment_of};
+ghost use Rattle.plain_model.specs.Seen.{IsOfSeen};
 ghost use Rattle.plain_model.specs.Sound.{IsSound};
 ghost use Rattle.plain_model.specs.Blocks.{touched};
 ghost use Rattle.plain_model.specs.State.{names_of, file_at, bytes_of, next_key, affected_held, used};
@@ -157,7 +159,7 @@ impl<D: Disk> FileStore<D> {
         self.record(alloc, key, Record::DropAttr { ino, name }, number)
     }
 
-    /// Seals a segment of a live file with that entry, in the place of an older one.
+    /// Seals a segment of a live file with that entry, in the place of an older one. The entry has the fingerprint of its bytes as they are seen.
     pub fn seal(
         &mut self,
         alloc: Global,
@@ -171,7 +173,7 @@ impl<D: Disk> FileStore<D> {
         requires start { segment_bytes * segment < length (bytes_of key self.old.held.files) }
         requires volume { (entry_place entry).volume ≤ last_volume }
         requires here { offline_at (kept_of key self.old.held.files).stubs segment ≡ false }
-        requires print { entry_print entry ≡ print_of (segment_of segment (bytes_of key self.old.held.files)) }
+        requires print { IsOfSeen (Tells D.Disk self.old.disk) self.old.held (λ seen. entry_print entry ≡ print_of (segment_of segment (bytes_of key seen.files))) }
         ensures changed { Changes D.Disk self.old number key (Seals segment entry) (too_many_stubs segment (other_stubs key self.old.held.files) (superblock_of self.old).geometry.stubs (kept_of key self.old.held.files).stubs) result self.new }
         ensures memory { IsErrOf result StoreRefusal.Memory → self.new ≡ self.old }
     {
@@ -200,7 +202,7 @@ impl<D: Disk> FileStore<D> {
         requires start { segment_bytes * from < length (bytes_of key self.old.held.files) }
         ensures changed { Changes D.Disk self.old number key (Punches from to) (any_unpunched (kept_of key self.old.held.files).regions (kept_of key self.old.held.files).stubs from (min to (segments_in (length (bytes_of key self.old.held.files))))) result self.new }
     {
-        let last = to.min(segments_in(self.body(key).len()));
+        let last = to.min(segments_in(self.size(key)));
         let end = last.max(from);
         // Asked for what is true of the disk, and of what is kept with the file.
         let (_failed, _ino) = (self.has_failed(), self.inode(key));

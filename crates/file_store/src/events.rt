@@ -84,7 +84,7 @@ impl<D: Disk> FileStore<D> {
     {
         // Asked for what is true of the disk.
         let _failed = self.has_failed();
-        let blocks = change.touched(self.body(key).len());
+        let blocks = change.touched(self.size(key));
         if self.space.has_free(blocks.count() as u32) {
             return Ok(());
         }

@@ -2,12 +2,13 @@
 ghost use Rattle.std.specs.Prelude.{◌≡◌, false, List, ℕ, length, ◌+◌, ◌*◌, ◌<◌, ◌≤◌, IfOk, IfErr, OnOk, IsErrOf, IsSome};
 ghost use Rattle.disk_model.specs.Calls.{Counts};
 ghost use Rattle.disk_model.specs.Images.{Alike};
-ghost use Rattle.disk_model.specs.Moments.{MayBe, Keeps, Same};
+ghost use Rattle.disk_model.specs.Moments.{MayBe, Keeps, Same, Tells};
 ghost use Rattle.commit_slots.specs.Images.{IsStore};
 ghost use Rattle.hsm_types.specs.Keyed.{find_key};
 ghost use Rattle.hsm_types.specs.Limits.{segment_bytes, IsCountable};
-ghost use Rattle.hsm_types.specs.Stubs.{print_of, offline_at};
-ghost use Rattle.plain_model.specs.Plain.{segment as segment_of};
+ghost use Rattle.hsm_types.specs.Stubs.{offline_at, print_of};
+ghost use Rattle.plain_model.specs.Plain.{read_at, segment as segment_of};
+ghost use Rattle.plain_model.specs.Seen.{IsOfSeen};
 ghost use Rattle.plain_model.specs.State.{bytes_of, used};
 ghost use Rattle.block_space.specs.Space.{free};
 ghost use Rattle.file_body.specs.HeldBodies.{is_away};
@@ -20,6 +21,7 @@ ghost use Rattle.meta_store.specs.declared.records.Record.{Record};
 ghost use Rattle.file_store.specs.Effects.{HasInode};
 ghost use Rattle.file_store.specs.Stores.{superblock_of, IsLawful, IsDurable, Proceeds, Shows};
 ghost use Rattle.file_store.specs.Changes.{Ends};
+ghost use Rattle.file_store.specs.Looks.{Looks};
 
 use crate::loading::slot;
 use crate::opening::read_in;
@@ -27,7 +29,7 @@ use crate::refusal::StoreRefusal;
 use block_space::BlockSpace;
 use disk_model::{Disk, OpenRefusal};
 use file_body::Body;
-use hsm_types::{FileKey, Fingerprint, LAST_NUMBER, Superblock};
+use hsm_types::{Bytes, FILE_BYTES, FileKey, Fingerprint, LAST_NUMBER, Superblock};
 use meta_store::{MetaRefusal, MetaStore, geometry_of};
 use std::alloc::Global;
 use std::marker::Model;
@@ -129,25 +131,62 @@ impl<D: Disk> FileStore<D> {
         &self.meta
     }
 
+    /// How many bytes a live file has.
+    pub fn size(&self, key: FileKey) -> u64
+        requires { IsSome (find_key (λ f. f.key) key self.now.held.files) }
+        ensures size { result ≡ length (bytes_of key self.now.held.files) }
+        ensures limit { result ≤ (superblock_of self.now).geometry.limits.bytes }
+        ensures countable { result ≤ FILE_BYTES }
+    {
+        self.body(key).len()
+    }
+
+    /// At most `len` bytes of a live file from the offset on, as they are seen: just as many, and where the disk tells what it holds, just these. It costs
+    /// these bytes and the segments that they meet.
+    pub fn read(
+        &mut self,
+        alloc: Global,
+        key: FileKey,
+        offset: u64,
+        len: u64,
+    ) -> Result<Bytes, StoreRefusal>
+        requires working { self.old.failed ≡ false }
+        requires live { IsSome (find_key (λ f. f.key) key self.old.held.files) }
+        ensures bytes { IfOk result (λ bytes. IsOfSeen (Tells D.Disk self.new.disk) self.old.held (λ seen. bytes ≡ read_at offset len (bytes_of key seen.files))) }
+        ensures looks { Looks D.Disk self.old result self.new }
+    {
+        // Asked for what is true of the disk.
+        let _failed = self.has_failed();
+        Ok(self.body(key).read(alloc, offset, len)?)
+    }
+
+    /// The fingerprint of the bytes of a segment of a live file that isn't offline, as they are seen. They are read once, where they are.
+    #[tactic(auto, using(crate::proofs::ShownFiles::segment_short))]
+    pub fn digest_segment(
+        &mut self,
+        key: FileKey,
+        segment: u32,
+    ) -> Result<Fingerprint, StoreRefusal>
+        requires working { self.old.failed ≡ false }
+        requires live { IsSome (find_key (λ f. f.key) key self.old.held.files) }
+        requires start { segment_bytes * segment < length (bytes_of key self.old.held.files) }
+        requires here { offline_at (kept_of key self.old.held.files).stubs segment ≡ false }
+        ensures print { IfOk result (λ print. IsOfSeen (Tells D.Disk self.new.disk) self.old.held (λ seen. print ≡ print_of (segment_of segment (bytes_of key seen.files)))) }
+        ensures looks { Looks D.Disk self.old result self.new }
+    {
+        // Asked for what is true of the disk.
+        let _failed = self.has_failed();
+        Ok(Fingerprint::of(self.body(key).segment(segment).unwrap()))
+    }
+
     /// The body of a live file.
-    pub fn body(&self, key: FileKey) -> &Body
+    fn body(&self, key: FileKey) -> &Body
         requires { IsSome (find_key (λ f. f.key) key self.now.held.files) }
         ensures bytes { result.now.bytes ≡ bytes_of key self.now.held.files }
         ensures limit { length (bytes_of key self.now.held.files) ≤ (superblock_of self.now).geometry.limits.bytes }
         ensures here { (j : ℕ) → is_away result.now j ≡ offline_at (kept_of key self.now.held.files).stubs j }
     {
         &self.bodies[slot(key.ino)]
-    }
-
-    /// The fingerprint of the bytes of a segment of a live file that isn't offline. They are read once, where they are. It takes no memory.
-    #[tactic(auto, using(crate::proofs::ShownFiles::segment_short))]
-    pub fn digest_segment(&self, key: FileKey, segment: u32) -> Fingerprint
-        requires live { IsSome (find_key (λ f. f.key) key self.now.held.files) }
-        requires start { segment_bytes * segment < length (bytes_of key self.now.held.files) }
-        requires here { offline_at (kept_of key self.now.held.files).stubs segment ≡ false }
-        ensures { result ≡ print_of (segment_of segment (bytes_of key self.now.held.files)) }
-    {
-        Fingerprint::of(self.body(key).segment(segment).unwrap())
     }
 
     /// The inode of a live file. The catalog finds the file by it.

@@ -1,4 +1,5 @@
 pub mod Bytes
+pub mod Weaker
 pub mod Following
 pub mod Faults
 pub mod Daemons
@@ -7,6 +8,7 @@ pub mod Running
 pub mod Endings
 pub mod Telling
 pub mod Legality
+pub mod Sure
 pub mod Crashes
 pub mod Completeness
 pub mod ByCause

@@ -25,7 +25,8 @@ use Rattle.hsm_cli.specs.Sealing.{IsRightInMemory, IsRightInFolder}
 use Rattle.hsm_cli.specs.Texts.{IsUnwritten, TakesText, IsShown, AreUntold, AreCounted, drill_text}
 use Rattle.hsm_cli.specs.Told.{SourceTold, SinkTold, host_told}
 use Rattle.hsm_cli.specs.Endings.{WritingEnds, RunEnds, FormatEnds, ShowEnds}
-use Rattle.hsm_cli.specs.Clauses.{HasRun, HasDrilled, HasRead, HasReadOn, IsUnread, IsGoodOver, IsPlainOver, IsCausedOver, NoneFailed, TellsFaults}
+use Rattle.hsm_cli.specs.Clauses.{HasRun, HasDrilled, HasRead, HasReadOn, IsUnread, TellsGiven, IsRunOver, IsOrderlyOver, IsGoodOver, IsPlainOver}
+use Rattle.hsm_cli.specs.Clauses.{IsCausedOver, NoneFailed, TellsFaults}
 use Rattle.hsm_cli.specs.Clauses.{LegalityClause, PlainClause, MediaClause, LeavesSafe, OnlyReads, IsFormatted, HandsOut, HasFailed, HasDriveFailed}
 use Rattle.hsm_cli.specs.Clauses.{GivesBack, HandsDrives, GivesShown, AsksShown, asked_by, FindsNothing, TakesTranscript, Why, HasBegun, Lacks}
 use Rattle.hsm_cli.specs.Clauses.{LacksShown, ReadsQuietly, WritesQuietly, KeepsQuietly, HandsQuietly, NeverFailed, KeepsPromises}
@@ -33,7 +34,7 @@ use Rattle.hsm_cli.proofs.Completeness.{status_new, status_store}
 use Rattle.hsm_cli.proofs.Drills.{status_drill}
 use Rattle.hsm_cli.proofs.Faults.{caused_none, none_named}
 use Rattle.hsm_cli.proofs.Formats.{status_format}
-use Rattle.hsm_cli.proofs.Legality.{legal_with}
+use Rattle.hsm_cli.proofs.Legality.{good_seen, legal_with}
 use Rattle.hsm_cli.proofs.Quiet.{read_quietly, text_quietly}
 use Rattle.hsm_cli.proofs.Showings.{status_show, status_volumes}
 
@@ -53,11 +54,11 @@ module _ {H D M : Type 0} (t : host.Ghosts H D M) (g : disk.Ghosts D) (h : drive
     idle_legal : LegalityClause g o
     idle_legal = legal_with g o o.cause o.disk drives is
 
-    idle_plain : PlainClause o
-    idle_plain P stands = (idle_legal.from.good P stands).plain
+    idle_plain : PlainClause g o
+    idle_plain tells P stands = ((idle_legal.good tells).good P stands).plain
 
-    idle_media : (form : Option Form) → TellsFaults h form o.drives (faults_in o.history) → MediaClause h form o
-    idle_media form tells = record { caused = caused_none (superblock_at (opened_in o)) (base_of (opened_in o)) (held_at (opened_in o)) o.history idle; faults = tells }
+    idle_media : (form : Option Form) → TellsFaults h form o.drives (faults_in o.history) → MediaClause g h form o
+    idle_media form faults = record { caused = λ tells. caused_none (superblock_at (opened_in o)) (base_of (opened_in o)) (held_at (opened_in o)) o.history idle; faults = faults }
 
   pub format_keeps : (path : List ℕ) (size : StoreSize)
       → o ≡ ended_with o.cause [] o.disk
@@ -168,20 +169,22 @@ module _ {H D M : Type 0} (t : host.Ghosts H D M) (g : disk.Ghosts D) (h : drive
 
     new_legal : LegalityClause g o
     new_legal = record {
-      from = subst (λ (s : Option (Store D)). IsGoodOver s o.history) (sym not_opened) good;
+      from = subst (λ (s : Option (Store D)). IsRunOver (TellsGiven g o.disk) s o.history) (sym not_opened) (good_seen {D = D} (TellsGiven g o.disk) None o.history good);
+      orderly = subst (λ (s : Option (Store D)). IsOrderlyOver s o.history) (sym not_opened) (record { once = good.once; ordered = good.ordered });
+      good = λ tells. subst (λ (s : Option (Store D)). IsGoodOver s o.history) (sym not_opened) good;
       caused = λ is. absurd (false≢true (sym faultless ∙ is));
       told = λ is some. absurd (false≢true (subst (λ (s : Option (Store D)). IsSome s) not_opened some));
       faultless = λ sound ample. faultless;
     }
 
-    new_plain : PlainClause o
-    new_plain = subst (λ (s : Option (Store D)). IsPlainOver s o.history) (sym not_opened) plain
+    new_plain : PlainClause g o
+    new_plain tells = subst (λ (s : Option (Store D)). IsPlainOver s o.history) (sym not_opened) plain
 
-    new_caused : IsCausedOver (opened_in o) o.history
-    new_caused = subst (λ (s : Option (Store D)). IsCausedOver s o.history) (sym not_opened) caused
+    new_caused : TellsGiven g o.disk → IsCausedOver (opened_in o) o.history
+    new_caused tells = subst (λ (s : Option (Store D)). IsCausedOver s o.history) (sym not_opened) caused
 
     pub replay_keeps : ((bytes : List ℕ) (lines : List Line) → IsScript bytes lines → IsOneScript bytes lines)
-        → HasRun (SettlesOn (opened_in o)) (λ marks. IsWellServedOver (opened_in o) marks × IsRightInMemory marks) false source o.cause o.history
+        → HasRun (SettlesOn (TellsGiven g o.disk) (opened_in o)) (λ marks. IsWellServedOver (TellsGiven g o.disk) (opened_in o) marks × IsRightInMemory marks) false source o.cause o.history
         → HasRead source o.cause
         → TakesTranscript o sink
         → ReadsQuietly source o.cause
@@ -204,7 +207,7 @@ module _ {H D M : Type 0} (t : host.Ghosts H D M) (g : disk.Ghosts D) (h : drive
     }
 
     pub drill_keeps : (number : ℕ)
-        → HasDrilled (SettlesOn (opened_in o)) (λ marks. IsWellServedOver (opened_in o) marks × IsRightInMemory marks) number o.cause o.history
+        → HasDrilled (SettlesOn (TellsGiven g o.disk) (opened_in o)) (λ marks. IsWellServedOver (TellsGiven g o.disk) (opened_in o) marks × IsRightInMemory marks) number o.cause o.history
         → TakesText (λ text. text ≡ drill_text number o.history) sink o.cause
         → IfSome o.cause (WritingEnds sink)
         → IsUnread source → KeepsPromises t g h (Some (Drill number)) old old source sink o
@@ -228,12 +231,12 @@ module _ {H D M : Type 0} (t : host.Ghosts H D M) (g : disk.Ghosts D) (h : drive
   pub store_keeps : (path dir : List ℕ) → ((bytes : List ℕ) (lines : List Line) → IsScript bytes lines → IsOneScript bytes lines)
       → (o.status ≡ status_of o.cause) × (o.at ≡ place_of o.cause) × (o.base ≡ base_of (opened_in o))
       → o.cause ≢ Some WordsRefused
-      → HasRun (SettlesOn (opened_in o)) (λ marks. IsWellServedOver (opened_in o) marks × IsRightInFolder h (t.stores old dir) o.drives marks) true source o.cause o.history
+      → HasRun (SettlesOn (TellsGiven g o.disk) (opened_in o)) (λ marks. IsWellServedOver (TellsGiven g o.disk) (opened_in o) marks × IsRightInFolder h (t.stores old dir) o.drives marks) true source o.cause o.history
       → HasReadOn (opened_in o) source o.cause
       → LegalityClause g o
-      → PlainClause o
+      → PlainClause g o
       → AreTrue h o.drives (faults_in o.history)
-      → IsCausedOver (opened_in o) o.history
+      → (TellsGiven g o.disk → IsCausedOver (opened_in o) o.history)
       → LeavesSafe g (t.holds old path) (opened_in o) o.history o.cause o.disk
       → TakesTranscript o sink
       → HandsOut path (t.holds old) (t.holds new) o.disk

@@ -7,7 +7,7 @@ use Rattle.disk_model.specs.Calls.{Rose, raised}
 use Rattle.media_model.specs.declared.drive.Drive as drive
 use Rattle.media_model.specs.Objects.{Objects}
 use Rattle.disk_model.specs.Images.{Alike}
-use Rattle.disk_model.specs.Moments.{MayBe, LeavesOnly, Keeps, Same}
+use Rattle.disk_model.specs.Moments.{MayBe, Tells, LeavesOnly, Keeps, Same}
 use Rattle.hsm_types.specs.declared.media.Fault.{Fault}
 use Rattle.hsm_types.specs.declared.media.Fault.TheVariants.{Failed, Damaged}
 use Rattle.command_words.specs.Commands.{Form, Format, Replay, ReplayStore, Show, ShowVolumes, Drill, geometry_number, fsid_of}
@@ -19,7 +19,7 @@ use Rattle.plain_model.specs.Plain.{File}
 use Rattle.plain_model.specs.Faults.{has_fault}
 use Rattle.plain_model.specs.State.{Held, nothing_held, just_opened}
 use Rattle.plain_model.specs.Stands.{Stands}
-use Rattle.plain_model.specs.Laws.{IsPlain, IsGoodRun}
+use Rattle.plain_model.specs.Laws.{IsPlain, IsRunSeen, IsOrderly, IsGoodRun}
 use Rattle.plain_model.specs.Exact.{held_by}
 use Rattle.plain_model.specs.Synced.{synced}
 use Rattle.hsm_policy.specs.Settings.{standard}
@@ -47,6 +47,13 @@ use Rattle.hsm_cli.specs.Sealing.{IsRightInMemory, IsRightInFolder}
 use Rattle.hsm_cli.specs.Texts.{IsUnwritten, TakesText, IsShown, AreUntold, AreCounted, shown_drives, shown_volumes, drill_text}
 use Rattle.hsm_cli.specs.Told.{SourceTold, SinkTold, HostTold, host_told}
 
+-- ---- where the disk tells
+
+-- Clauses that go by the bytes of files are said where the disk that comes back tells what it holds. One in memory, which doesn't come back, always does.
+abbrev pub TellsGiven : {D : Type 0} → disk.Ghosts D → Option D → Type 0
+TellsGiven g None = Unit {0}
+TellsGiven g (Some disk) = Tells g disk
+
 -- ---- the script clause
 
 -- The history that a run of a script has, by what went wrong first, what its settles have come to, and what its marks tell beside. A run that ends well,
@@ -68,14 +75,14 @@ HasDrilled Settles Tells number (Some why) history = history ≡ []
 -- Only the forms of `replay` run a script, and `drill` the one that it makes of its number. `replay PATH DIR` ends with a commit, and its marks tally with the
 -- drives that come back; those of plain `replay` and of `drill`, whose drives in memory never fail, lose nothing that was sealed. All are well served, and
 -- passes in them are as they should be.
-abbrev pub ScriptClause : {D M : Type 0} → drive.Ghosts M → (List ℕ → ℕ → Objects → Type 0) → Option Form → SourceTold → Outcome D M → Type 0
-ScriptClause g stores None source o = o.history ≡ []
-ScriptClause g stores (Some (Format path size)) source o = o.history ≡ []
-ScriptClause g stores (Some Replay) source o = HasRun (SettlesOn (opened_in o)) (λ marks. IsWellServedOver (opened_in o) marks × IsRightInMemory marks) false source o.cause o.history
-ScriptClause g stores (Some (ReplayStore path dir)) source o = HasRun (SettlesOn (opened_in o)) (λ marks. IsWellServedOver (opened_in o) marks × IsRightInFolder g (stores dir) o.drives marks) true source o.cause o.history
-ScriptClause g stores (Some (Show path)) source o = o.history ≡ []
-ScriptClause g stores (Some (ShowVolumes path dir)) source o = o.history ≡ []
-ScriptClause g stores (Some (Drill number)) source o = HasDrilled (SettlesOn (opened_in o)) (λ marks. IsWellServedOver (opened_in o) marks × IsRightInMemory marks) number o.cause o.history
+abbrev pub ScriptClause : {D M : Type 0} → disk.Ghosts D → drive.Ghosts M → (List ℕ → ℕ → Objects → Type 0) → Option Form → SourceTold → Outcome D M → Type 0
+ScriptClause g h stores None source o = o.history ≡ []
+ScriptClause g h stores (Some (Format path size)) source o = o.history ≡ []
+ScriptClause g h stores (Some Replay) source o = HasRun (SettlesOn (TellsGiven g o.disk) (opened_in o)) (λ marks. IsWellServedOver (TellsGiven g o.disk) (opened_in o) marks × IsRightInMemory marks) false source o.cause o.history
+ScriptClause g h stores (Some (ReplayStore path dir)) source o = HasRun (SettlesOn (TellsGiven g o.disk) (opened_in o)) (λ marks. IsWellServedOver (TellsGiven g o.disk) (opened_in o) marks × IsRightInFolder h (stores dir) o.drives marks) true source o.cause o.history
+ScriptClause g h stores (Some (Show path)) source o = o.history ≡ []
+ScriptClause g h stores (Some (ShowVolumes path dir)) source o = o.history ≡ []
+ScriptClause g h stores (Some (Drill number)) source o = HasDrilled (SettlesOn (TellsGiven g o.disk) (opened_in o)) (λ marks. IsWellServedOver (TellsGiven g o.disk) (opened_in o) marks × IsRightInMemory marks) number o.cause o.history
 
 -- ---- the reading clause
 
@@ -107,9 +114,17 @@ ReadingClause (Some (Drill number)) source o = IsUnread source
 
 -- ---- the legality clause and the plain clause
 
--- Over the store that the run began with the history is a good run: each answer is the exact one, each token is given once, and from each plain map
--- that the store stands for it is legal; what each beginning of it leaves stands for the map that it leaves, with the mapped blocks and all that
--- sessions keep by the rules, and with the stamps of the accesses. That the files are plain, which is a part of it too, is the next clause.
+-- Over the store that the run began with the history is a run on any disk: each answer is exact but for bytes, and in these too where the disk tells.
+abbrev pub IsRunOver : {D : Type 0} → Type 0 → Option (Store D) → List Entry → Type 0
+IsRunOver Told opened history = IsRunSeen Told (superblock_at opened) (base_of opened) (held_at opened) history
+
+-- There each token is given once, and after each beginning of the history the tables are in order.
+abbrev pub IsOrderlyOver : {D : Type 0} → Option (Store D) → List Entry → Type 0
+IsOrderlyOver opened history = IsOrderly (superblock_at opened) (base_of opened) (held_at opened) history
+
+-- Where it tells the history is a good run: each answer is the exact one, each token is given once, and from each plain map that the store stands for it
+-- is legal; what each beginning of it leaves stands for the map that it leaves, with the mapped blocks and all that sessions keep by the rules, and with
+-- the stamps of the accesses. That the files are plain, which is a part of it too, is the next clause.
 abbrev pub IsGoodOver : {D : Type 0} → Option (Store D) → List Entry → Type 0
 IsGoodOver opened history = IsGoodRun (superblock_at opened) (base_of opened) (held_at opened) history
 
@@ -122,7 +137,9 @@ pub record HasFailed {D : Type 0} (g : disk.Ghosts D) (given : Option D) : Type 
 -- An answer for a fault of the disk comes only where the disk has failed, and then the run ends for that fault, or for want of memory. A run on a
 -- store that was opened ends for a fault of the disk only where an entry says so.
 pub record LegalityClause {D M : Type 0} (g : disk.Ghosts D) (o : Outcome D M) : Type 0 where
-  pub from : IsGoodOver (opened_in o) o.history
+  pub from : IsRunOver (TellsGiven g o.disk) (opened_in o) o.history
+  pub orderly : IsOrderlyOver (opened_in o) o.history
+  pub good : TellsGiven g o.disk → IsGoodOver (opened_in o) o.history
   pub caused : has_fault o.history ≡ true → HasFailed g o.disk
   pub told : o.cause ≡ Some DiskFault → IsSome (opened_in o) → has_fault o.history ≡ true
   pub faultless : o.cause ≢ Some DiskFault → o.cause ≢ Some NoMemory → has_fault o.history ≡ false
@@ -131,8 +148,8 @@ pub record LegalityClause {D M : Type 0} (g : disk.Ghosts D) (o : Outcome D M) :
 abbrev pub IsPlainOver : {D : Type 0} → Option (Store D) → List Entry → Type 0
 IsPlainOver opened history = (P : List File) → Stands (held_at opened).files P → IsPlain P history
 
-abbrev pub PlainClause : {D M : Type 0} → Outcome D M → Type 0
-PlainClause o = IsPlainOver (opened_in o) o.history
+abbrev pub PlainClause : {D M : Type 0} → disk.Ghosts D → Outcome D M → Type 0
+PlainClause g o = TellsGiven g o.disk → IsPlainOver (opened_in o) o.history
 
 -- ---- the media clause
 
@@ -162,9 +179,9 @@ IsCausedOver opened history = Caused (superblock_at opened) (just_opened (base_o
 
 -- An event is answered for a fault of a medium only by a session that was told, after the access was parked, that bytes of its file are away in that object.
 -- And what is told of the fault is so, as far as drives come back or never fail.
-pub record MediaClause {D M : Type 0} (g : drive.Ghosts M) (form : Option Form) (o : Outcome D M) : Type 0 where
-  pub caused : IsCausedOver (opened_in o) o.history
-  pub faults : TellsFaults g form o.drives (faults_in o.history)
+pub record MediaClause {D M : Type 0} (g : disk.Ghosts D) (h : drive.Ghosts M) (form : Option Form) (o : Outcome D M) : Type 0 where
+  pub caused : TellsGiven g o.disk → IsCausedOver (opened_in o) o.history
+  pub faults : TellsFaults h form o.drives (faults_in o.history)
 
 -- ---- the crash clause
 
@@ -583,11 +600,11 @@ pub record FaultsClause {D M : Type 0} (g : disk.Ghosts D) (h : drive.Ghosts M) 
 
 -- All that is promised of a run whose words have that form, by what the host, the source and the sink tell before it and after it.
 pub record KeepsPromises {H D M : Type 0} (t : host.Ghosts H D M) (g : disk.Ghosts D) (h : drive.Ghosts M) (form : Option Form) (old new : H) (source : SourceTold) (sink : SinkTold) (o : Outcome D M) : Type 0 where
-  pub script : ScriptClause h (t.stores old) form source o
+  pub script : ScriptClause g h (t.stores old) form source o
   pub reading : ReadingClause form source o
   pub legality : LegalityClause g o
-  pub plain : PlainClause o
-  pub media : MediaClause h form o
+  pub plain : PlainClause g o
+  pub media : MediaClause g h form o
   pub crash : CrashClause g form (t.holds old) o
   pub format : FormatClause g form o
   pub host : HostClause t.holds t.make_count t.open_count form old new o

@@ -138,7 +138,7 @@ module _ (s : Superblock) (st : State) (c : ℕ) (fl : Flags) (k : FileKey) (cal
 
 -- ---- what is left of the tables
 
-same_at : {A : Type 0} (c : ℕ) (value : A) (all : ℕ → A) → all c ≡ value → (d : ℕ) → set_at c value all d ≡ all d
+pub same_at : {A : Type 0} (c : ℕ) (value : A) (all : ℕ → A) → all c ≡ value → (d : ℕ) → set_at c value all d ≡ all d
 same_at c value all is d = elim (d == c) as (λ b. (d == c) ≡ b → (if b then value else all d) ≡ all d) [
   | true ↦ λ here. sym is ∙ ap all (sym (eqb-true d c here))
   | false ↦ λ apart. refl
@@ -156,7 +156,7 @@ ended_ledger L h c k call Missing is = refl
 ended_ledger L h c k call (Answered response) is = refl
 
 -- nobody's access is gone from none
-none_gone : (c : ℕ) (st : State) (pending : st.ledger.pending c ≡ None) (flags : st.flags c ≡ no_flags) → with_access c None st ≡ st
+pub none_gone : (c : ℕ) (st : State) (pending : st.ledger.pending c ≡ None) (flags : st.flags c ≡ no_flags) → with_access c None st ≡ st
 none_gone c st pending flags i = record st { flags = λ d. same_at c no_flags st.flags flags d i; ledger = record st.ledger { pending = λ d. same_at c None st.ledger.pending pending d i } }
 
 -- a store with these tables is what is seen of them, with files

@@ -8,6 +8,7 @@ use Rattle.hsm_types.specs.Refusals.{first_refusal}
 use Rattle.hsm_types.specs.Rights.{conflict}
 use Rattle.hsm_types.specs.declared.dm.Right.TheVariants.{Null}
 use Rattle.hsm_types.specs.declared.keys.FileKey.{FileKey}
+use Rattle.hsm_types.specs.declared.keys.Sid.{Sid}
 use Rattle.hsm_types.specs.declared.keys.Token.{Token}
 use Rattle.hsm_types.specs.declared.stores.Limits.{Limits}
 use Rattle.hsm_types.specs.declared.stores.Superblock.{Superblock}
@@ -28,6 +29,8 @@ use Rattle.plain_model.specs.declared.entries.Actor.{Actor}
 use Rattle.plain_model.specs.declared.entries.Actor.TheVariants.{Caller, Session}
 use Rattle.plain_model.specs.declared.entries.Action.{Action}
 use Rattle.plain_model.specs.declared.entries.Action.TheVariants.{Issue, Resume, Dm}
+use Rattle.plain_model.specs.declared.entries.Answer.{Answer}
+use Rattle.plain_model.specs.declared.entries.Answer.TheVariants.{Dm as Told}
 use Rattle.plain_model.specs.declared.facts.NoRoom.{NoRoom}
 use Rattle.hsm_types.specs.Keyed.{set_at}
 use Rattle.plain_model.specs.Ledger.{Access, Ledger, Meant, Fixed, Means, issued, goes_on, resumed, objection_again, kept, waits_for, answered, ledger_told}
@@ -36,7 +39,7 @@ use Rattle.plain_model.specs.State.{Flags, State, names_of}
 use Rattle.plain_model.specs.Verdict.{Ruling, Blocks, Posts, Lacks, Verdict, posts, without_room, short_of, is_taken, facts_of, shortage, verdict}
 use Rattle.plain_model.specs.Verdict.{flags_now, left_by_verdict, state_where}
 use Rattle.plain_model.specs.Services.{service, dm_judged, dm_state_where}
-use Rattle.plain_model.specs.Exact.{left_own}
+use Rattle.plain_model.specs.Exact.{left_told, left_answered}
 use Rattle.hsm_core.specs.Targets.{IsOnFile, MayLast, EachLasts}
 use Rattle.plain_model.proofs.Steps.{unhindered}
 use Rattle.hsm_core.proofs.Targets.{bounded}
@@ -127,15 +130,20 @@ told_lasts limits L (CreateUserEvent body) (told.Token t) is c = is c
 told_lasts limits L GetSpace reply is c = is c
 told_lasts limits L call reply is c = is c
 
-dm_lasts : (s : Superblock) (st : State) (sid : _) (call : DmCall) (why : Option DmRefusal) → EachLasts s.geometry.limits st.ledger → EachLasts s.geometry.limits (dm_state_where why s st sid call).ledger
-dm_lasts s st sid call None is = told_lasts s.geometry.limits st.ledger call (service s st sid call).reply is
-dm_lasts s st sid call (Some why) is = is
+dm_lasts : (limits : Limits) (st : State) (sid : Sid) (call : DmCall) (reply : DmReply) → EachLasts limits st.ledger → EachLasts limits (left_told st sid call reply).ledger
+dm_lasts limits st sid call (told.Refused why) is = is
+dm_lasts limits st sid call reply is = told_lasts limits st.ledger call reply is
+
+own_lasts : (s : Superblock) (st : State) (sid : Sid) (call : DmCall) (why : Option DmRefusal) → EachLasts s.geometry.limits st.ledger → EachLasts s.geometry.limits (dm_state_where why s st sid call).ledger
+own_lasts s st sid call None is = told_lasts s.geometry.limits st.ledger call (service s st sid call).reply is
+own_lasts s st sid call (Some why) is = is
 
 -- ---- any event
 
-pub event_lasts : (s : Superblock) (st : State) (actor : Actor) (action : Action) → EachLasts s.geometry.limits st.ledger → EachLasts s.geometry.limits (left_own s st actor action).ledger
-event_lasts s st (Caller c) (Issue call) is = issue_lasts s st c call (st.ledger.pending c) is
-event_lasts s st (Caller c) Resume is =
+pub event_lasts : (s : Superblock) (st : State) (actor : Actor) (action : Action) (answer : Answer) → EachLasts s.geometry.limits st.ledger → EachLasts s.geometry.limits (left_answered s st actor action answer).ledger
+event_lasts s st (Caller c) (Issue call) answer is = issue_lasts s st c call (st.ledger.pending c) is
+event_lasts s st (Caller c) Resume answer is =
     where_lasts s st c (flags_now st c Resume) (objection_again (names_of st.held.files) (st.ledger.pending c)) (resumed (st.ledger.pending c)) is (λ k call kind means none posts. resumed_lasts s.geometry.limits (st.ledger.pending c) k call means (is c))
-event_lasts s st (Session sid) (Dm call) is = dm_lasts s st sid call (dm_judged s st sid call) is
-event_lasts s st actor action is = is
+event_lasts s st (Session sid) (Dm call) (Told reply) is = dm_lasts s.geometry.limits st sid call reply is
+event_lasts s st (Session sid) (Dm call) answer is = own_lasts s st sid call (dm_judged s st sid call) is
+event_lasts s st actor action answer is = is

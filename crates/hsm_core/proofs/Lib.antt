@@ -1,3 +1,6 @@
+pub mod Alike
+pub mod Seeing
+pub mod Looking
 pub mod Refusing
 pub mod ListedFiles
 pub mod NamedFiles
@@ -6,6 +9,7 @@ pub mod Targets
 pub mod Unstopped
 pub mod Needed
 pub mod Replying
+pub mod Refused
 pub mod Lasting
 pub mod Serving
 pub mod HandedOut
@@ -20,3 +24,5 @@ pub mod Packing
 pub mod Readiness
 pub mod Sending
 pub mod Summaries
+pub mod SeenServices
+pub mod ServedBytes

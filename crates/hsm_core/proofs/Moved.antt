@@ -5,6 +5,7 @@ use Rattle.std.proofs.lemmas.Slice.Eq.{bytes_eq-Decides}
 use Rattle.std.specs.Prelude.{◌&&◌, ◌==◌, Result, Ok, Err, IfSome, if◌then◌else◌}
 use Rattle.std.specs.List.{AllByRecursion}
 use Rattle.std.specs.Str.{bytes_eq}
+use Rattle.disk_model.specs.Moments.{Tells}
 use Rattle.disk_model.specs.declared.device.Disk as disk
 use Rattle.hsm_types.specs.Refusals.{first_refusal}
 use Rattle.hsm_types.specs.Segments.{segment_len, segments_in}
@@ -18,21 +19,24 @@ use Rattle.hsm_types.specs.declared.dm.DmCall.{DmCall}
 use Rattle.hsm_types.specs.declared.dm.DmRefusal.{DmRefusal}
 use Rattle.hsm_types.specs.declared.dm.DmReply.{DmReply}
 use Rattle.hsm_types.specs.declared.dm.DmReply.TheVariants as reply
-use Rattle.plain_model.specs.Effects.{Effect, OfFile, change_of, punch_from, punch_to}
+use Rattle.plain_model.specs.Effects.{Effect, Change, Nothing, OfFile, OfSessions, OfRights, Closes, change_of, punch_from, punch_to}
 use Rattle.hsm_types.specs.Keyed.{find_key}
 use Rattle.plain_model.specs.Segments.{bad_punch, same_print, punch_refusal, seal_refusal}
+use Rattle.plain_model.specs.Seen.{IsSeen}
 use Rattle.plain_model.specs.Services.{kept_of}
 use Rattle.plain_model.specs.State.{FileState, Held, file_or_new, bytes_of}
 use Rattle.meta_store.proofs.StubLists.{each-at}
 use Rattle.stub_map.specs.States.{state_of}
 use Rattle.stub_map.specs.declared.stubs.State.TheVariants.{Sealed, Offline as Away}
+use Rattle.dm_service.specs.Services.{AreBoth}
 use Rattle.file_store.specs.declared.refusal.StoreRefusal.{StoreRefusal}
 use Rattle.file_store.specs.declared.refusal.StoreRefusal.TheVariants.{Part, Disk, Memory}
 use Rattle.file_store.specs.Changes.{Changes}
-use Rattle.file_store.specs.Stores.{Store as FileStore, IsLawful, IsStubbed}
+use Rattle.file_store.specs.Stores.{Store as FileStore, superblock_of, IsLawful, IsStubbed, Proceeds}
 use Rattle.file_store.proofs.Ended.{ends_done, ends_err}
-use Rattle.hsm_core.specs.Services.{anybody, service_on, told_where, held_where, replies_to, IsServed}
+use Rattle.hsm_core.specs.Services.{anybody, service_over, service_on, told_where, held_where, replies_to, IsServed}
 use Rattle.hsm_core.proofs.Refusing.{passes, alone}
+use Rattle.hsm_core.proofs.Seeing.{held_seen}
 
 -- ---- fingerprints
 
@@ -83,28 +87,52 @@ restored_len (Some x) entry bytes n is len print = by x.offline is
 
 -- ---- the answer to a change of a file
 
-served : {D : Type 0} (g : disk.Ghosts D) (old new : FileStore D) (n : ℕ) (call : DmCall) (k : FileKey) (effect : Effect) (own : Option DmRefusal) (ended : Result Unit StoreRefusal) → Changes g old n k effect own ended new → own ≡ (service_on old call).refusal
-    → change_of anybody call ≡ OfFile k effect → (service_on old call).reply ≡ reply.Done → old.failed ≡ false → IsServed g old n call (replies_to ended) new
-served g old new n call k effect own (Ok x) is own_is changes is_done works =
+-- it is the answer of the service over what is seen of the files
+pub served : {D : Type 0} (g : disk.Ghosts D) (old new : FileStore D) (n : ℕ) (call : DmCall) (k : FileKey) (effect : Effect) (own : Option DmRefusal) (ended : Result Unit StoreRefusal) (seen : Held) → IsSeen (Tells g new.disk) old.held seen → Changes g old n k effect own ended new
+    → own ≡ (service_over (superblock_of old) seen call).refusal → change_of anybody call ≡ OfFile k effect → (service_over (superblock_of old) seen call).reply ≡ reply.Done → old.failed ≡ false → IsServed g old n call (replies_to ended) new
+served g old new n call k effect own (Ok x) seen is_seen is own_is changes is_done works =
     let none = sym own_is ∙ is.ends.judged in
-    let told = sym (ap (λ why. told_where why (service_on old call).reply) none ∙ is_done) in
-    record { replies = (told, told); held = is.held ∙ (λ i. held_where (sym changes i) (sym none i) old.held); ends = ends_done g old new n None is.ends.proceeds _ refl is.ends.working (is.ends.faults.counts.quiet (λ e. cc)) }
-served g old new n call k effect own (Err (Part why)) is own_is changes is_done works =
+    let told = sym (ap (λ why. told_where why (service_over (superblock_of old) seen call).reply) none ∙ is_done) in
+    record {
+      serves = (seen, is_seen, record { replies = (told, told); held = is.held ∙ (λ i. held_where (sym changes i) (sym none i) old.held) });
+      ends = ends_done g old new n None is.ends.proceeds _ refl is.ends.working (is.ends.faults.counts.quiet (λ e. cc));
+    }
+served g old new n call k effect own (Err (Part why)) seen is_seen is own_is changes is_done works =
     let some = sym own_is ∙ is.ends.refused why refl in
-    let told = sym (ap (λ why. told_where why (service_on old call).reply) some) in
+    let told = sym (ap (λ why. told_where why (service_over (superblock_of old) seen call).reply) some) in
     let same = is.ends.unchanged why refl in
     record {
-      replies = (told, told);
-      held = ap (λ f. f.held) same ∙ (λ i. held_where (sym changes i) (sym some i) old.held);
+      serves = (seen, is_seen, record { replies = (told, told); held = ap (λ f. f.held) same ∙ (λ i. held_where (sym changes i) (sym some i) old.held) });
       ends = ends_done g old new n None is.ends.proceeds _ refl (ap (λ f. f.failed) same ∙ works) (ap (λ f. g.fault_count f.disk) same);
     }
-served g old new n call k effect own (Err Memory) is own_is changes is_done works = record { replies = tt; held = tt; ends = ends_err g old new n own (Err Memory) Memory refl (λ part e. cc) is.ends }
-served g old new n call k effect own (Err Disk) is own_is changes is_done works = record { replies = tt; held = tt; ends = ends_err g old new n own (Err Disk) Disk refl (λ part e. cc) is.ends }
+served g old new n call k effect own (Err Memory) seen is_seen is own_is changes is_done works = record { serves = tt; ends = ends_err g old new n own (Err Memory) Memory refl (λ part e. cc) is.ends }
+served g old new n call k effect own (Err Disk) seen is_seen is own_is changes is_done works = record { serves = tt; ends = ends_err g old new n own (Err Disk) Disk refl (λ part e. cc) is.ends }
 
 -- the change is done, or its part refuses as the service does, or it fails
 pub change_served : {D : Type 0} {g : disk.Ghosts D} {old new : FileStore D} {n : ℕ} {call : DmCall} {k : FileKey} {effect : Effect} {own : Option DmRefusal} {ended : Result Unit StoreRefusal} {result : Result (DmReply × DmReply) StoreRefusal} → Changes g old n k effect own ended new
     → own ≡ (service_on old call).refusal → change_of anybody call ≡ OfFile k effect → (service_on old call).reply ≡ reply.Done → old.failed ≡ false → result ≡ replies_to ended → IsServed g old n call result new
-change_served {D} {g} {old} {new} {n} {call} is own changes is_done works told = subst (λ r. IsServed g old n call r new) (sym told) (served g old new n call _ _ _ _ is own changes is_done works)
+change_served {D} {g} {old} {new} {n} {call} is own changes is_done works told = subst (λ r. IsServed g old n call r new) (sym told) (served g old new n call _ _ _ _ old.held (held_seen old.held) is own changes is_done works)
+
+refused_held : (change : Change) (why : DmRefusal) (h : Held) → h ≡ held_where change (Some why) h
+refused_held Nothing why h = refl
+refused_held (OfFile k effect) why h = refl
+refused_held (OfSessions to) why h = refl
+refused_held (OfRights to) why h = refl
+refused_held (Closes owner token) why h = refl
+
+-- a call that is refused before anything of it is done
+pub refused_served : {D : Type 0} {g : disk.Ghosts D} {old : FileStore D} {n : ℕ} {call : DmCall} {r : DmReply × DmReply} (why : DmRefusal) → (service_on old call).refusal ≡ Some why → old.failed ≡ false → Proceeds g old n old → AreBoth (reply.Refused why) r → IsServed g old n call (Ok r) old
+refused_served {D} {g} {old} {n} {call} {r} why refuses works idle both = record {
+  serves = (
+    old.held,
+    held_seen old.held,
+    record {
+      replies = subst (λ (x : DmReply). AreBoth x r) (sym (ap (λ why. told_where why (service_on old call).reply) refuses)) both;
+      held = refused_held (change_of anybody call) why old.held ∙ (λ i. held_where (change_of anybody call) (sym refuses i) old.held);
+    },
+  );
+  ends = ends_done g old old n None idle r refl works refl;
+}
 
 -- ---- what is left to its part
 

@@ -14,7 +14,7 @@ use Rattle.plain_model.specs.Faults.{fault_of}
 use Rattle.plain_model.specs.State.{State, just_opened}
 use Rattle.plain_model.specs.Exact.{left_by, state_by}
 use Rattle.file_store.specs.Stores.{superblock_of}
-use Rattle.hsm_core.specs.Answers.{entry_of, own_answer, IsAnswer}
+use Rattle.hsm_core.specs.Answers.{entry_of, IsAnswer}
 use Rattle.hsm_core.specs.Packed.{HandsBy, ArePacked}
 use Rattle.hsm_core.specs.Store.{Store, state_of, HasRun}
 use Rattle.hsm_core.proofs.HandedOut.{unhanded_refused}
@@ -51,11 +51,10 @@ module _ {D : Type 0} (g : disk.Ghosts D) (old new : Store D) where
   more_packed e opened history packed last = rw (opened, history) (packed_push (superblock_of old.opened) first old.history e packed last)
 
   -- an event that hands out as the rules say
-  pub still_packed : (actor : Actor) (action : Action) (given : Answer) → HasRun old → HandsBy (state_of old) actor action given → IsAnswer g old actor action given new → Packed old → Packed new
+  pub still_packed : (actor : Actor) (action : Action) (given : Answer) → HasRun g old → HandsBy (state_of old) actor action given → IsAnswer g old actor action given new → Packed old → Packed new
   still_packed actor action given has hands (inl closed) packed = same_packed (ap (λ (s : Store D). s.opened) closed.same) (ap (λ (s : Store D). s.history) closed.same) packed
   still_packed actor action given has hands (inr (inl lacks)) packed = same_packed lacks.goes.opened lacks.history packed
   still_packed actor action given has hands (inr (inr (inl failed))) packed =
       more_packed (entry_of actor action (fault_of action)) failed.goes.opened failed.history packed (fault_hands (state_by (superblock_of old.opened) first old.history) actor action)
   still_packed actor action given has hands (inr (inr (inr done))) packed =
-      more_packed (entry_of actor action (own_answer old actor action)) done.goes.opened done.history packed
-      (subst (λ (st : State). HandsBy st actor action (own_answer old actor action)) (has.state done.goes.working) (subst (λ (a : Answer). HandsBy (state_of old) actor action a) done.answer hands))
+      more_packed (entry_of actor action given) done.goes.opened done.history packed (subst (λ (st : State). HandsBy st actor action given) (has.state done.goes.working) hands)

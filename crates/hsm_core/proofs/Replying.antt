@@ -3,6 +3,7 @@ use Rattle.std.proofs.Common.{◌≡◌, ◌+◌, ℕ, List, [], ◌∷◌, Bool
 use Rattle.std.specs.Prelude.{◌&&◌, not, is_some, is_none, if◌then◌else◌, Result, Ok, Err, IfOk, IfErr, OnOk, OnErr, MatchOption}
 use Rattle.std.specs.Option.{option_map}
 use Rattle.disk_model.specs.declared.device.Disk as disk
+use Rattle.disk_model.specs.Moments.{Tells}
 use Rattle.hsm_types.specs.Refusals.{first_refusal}
 use Rattle.hsm_types.specs.declared.keys.FileKey.{FileKey}
 use Rattle.hsm_types.specs.declared.keys.Token.{Token}
@@ -19,6 +20,7 @@ use Rattle.hsm_types.specs.Keyed.{same_key, find_key}
 use Rattle.plain_model.specs.Accesses.{told_span}
 use Rattle.plain_model.specs.Ledger.{Means, next_token, goes_on, aborted, gone, issued, resumed, objection_again}
 use Rattle.plain_model.specs.Plain.{Listed, has_key, refusal_of, key_meant}
+use Rattle.plain_model.specs.Seen.{blanked, IsOfSeen}
 use Rattle.plain_model.specs.State.{FileState, Held, no_flags, State, names_of}
 use Rattle.plain_model.specs.Verdict.{facts_of, judgement, verdict, done_reply, done_held, stamps_by, reply_by, reply_where, reply_to}
 use Rattle.plain_model.specs.Verdict.{left_by_verdict, state_where, state_after}
@@ -38,6 +40,8 @@ use Rattle.hsm_core.specs.Outcomes.{ends, ended_reply, held_said, stamps_said, i
 use Rattle.hsm_core.specs.Stamps.{stamp_in}
 use Rattle.hsm_core.specs.Targets.{IsTarget, IsMeant, AreKnown, IsOnFile, MayLast, MayComplete, key_in}
 use Rattle.hsm_core.specs.declared.judging.Target.{Target}
+use Rattle.plain_model.proofs.Alike.{names_alike, live_alike, facts_alike}
+use Rattle.hsm_core.proofs.Seeing.{held_replies, seen_replies}
 use Rattle.hsm_core.proofs.Accesses.{reply_said, left_said, said_reply, said_left, parked_left, blocked_left, ended_left, fresh_ended}
 use Rattle.file_store.proofs.Ended.{ends_done, unbegun}
 use Rattle.hsm_core.proofs.Lasting.{never_ruled}
@@ -58,6 +62,22 @@ every (Err e) p = tt
 pub same_ends : {D T : Type 0} (g : disk.Ghosts D) (f : FileStore D) (n : ℕ) (r : Result T StoreRefusal) → f.failed ≡ false → Proceeds g f n f → IfErr r (λ why. why ≡ NoMemory) → Ends g f n None r f
 same_ends g f n (Ok x) working idle memory = ends_done g f f n None idle x refl working refl
 same_ends g f n (Err e) working idle memory = let lacks : e ≡ NoMemory = memory in rw lacks (unbegun g f n None NoMemory working idle (λ is. cc) (λ part is. absurd cc))
+
+-- ---- an access that was done
+
+pub completed : {D : Type 0} (g : disk.Ghosts D) (f new : FileStore D) (n : ℕ) (before after : List (FileKey × ℕ)) (k j : FileKey) (call : Call) (said : Verdict) (r : Reply × Reply) → k ≡ j → said ≡ Complete
+    → IsOfSeen (Tells g new.disk) f.held (λ seen. AreBoth (done_reply seen k call) r) → new.held ≡ done_held f.held k call → stamp_in after ≡ stamps_by (n + 1) j call None (stamp_in before) → Ends g f n None (Ok r) new
+    → IsFinished g f n before j call said (Ok r) new after
+completed g f new n before after k j call said r key is reply held stamps ended =
+    let done : IsFinished g f n before k call Complete (Ok r) new after = record {
+      replies = reply;
+      held = held;
+      stamps = stamps ∙ ap (λ (i : FileKey). stamps_by (n + 1) i call None (stamp_in before)) (sym key);
+      unstamped = tt;
+      answered = λ apart. refl;
+      ended = ended;
+    } in
+    subst (λ (v : Verdict). IsFinished g f n before j call v (Ok r) new after) (sym is) (subst (λ (i : FileKey). IsFinished g f n before i call Complete (Ok r) new after) key done)
 
 -- ---- verdicts
 
@@ -173,10 +193,6 @@ always : {T E P : Type 0} (r : Result T E) → P → OnErr r P
 always (Ok x) p = tt
 always (Err e) p = p
 
-both_as : {R : Type 0} (r : Result (R × R) StoreRefusal) (x y : R) → x ≡ y → IfOk r (λ z. AreBoth x z) → IfOk r (λ z. AreBoth y z)
-both_as (Ok z) x y same is = (is.0 ∙ same, is.1 ∙ same)
-both_as (Err e) x y same is = tt
-
 ok_both : {T E : Type 0} (P Q : Type 0) (r : Result T E) → OnOk r P → OnOk r Q → OnOk r (P × Q)
 ok_both P Q (Ok x) p q = (p, q)
 ok_both P Q (Err e) p q = tt
@@ -185,8 +201,11 @@ module _ {D : Type 0} (g : disk.Ghosts D) (f : FileStore D) (n : ℕ) (stamps : 
   abbrev super : Superblock
   super = superblock_of f
 
+  abbrev over : Held → State
+  over h = state_in h (stamp_in stamps) n t
+
   abbrev now : State
-  now = state_in f.held (stamp_in stamps) n t
+  now = over f.held
 
   abbrev heard : FileKey → Verdict
   heard k = verdict_of (judgement (flags_in a) a.answer facts t.rights t.sessions k a.call)
@@ -197,7 +216,7 @@ module _ {D : Type 0} (g : disk.Ghosts D) (f : FileStore D) (n : ℕ) (stamps : 
       → IfOk r (λ x. AreBoth (Parked (next_token (ledger_of t))) x) → OnOk r (seen u ≡ parked_on c (record a { key = k }) kind (record { fsid = f.meta.fsid; key = k }) (told_span a.call facts.short kind) (seen t))
       → OnErr r (u ≡ t) → IfErr r (λ why. why ≡ NoMemory) → IsReplied g f n stamps t c action r f stamps u
   waits_so action k kind u r says known reply left replies after err memory = record {
-    replies = both_as r (Parked (next_token (ledger_of t))) (reply_to super now c action) (sym (ap (reply_said now k a.call) says) ∙ reply) replies;
+    replies = held_replies _ r f.held (λ h. reply_to super (over h) c action) (Parked (next_token (ledger_of t))) (sym (ap (reply_said now k a.call) says) ∙ reply) replies;
     left = on_ok r
         (λ (is : seen u ≡ parked_on c (record a { key = k }) kind (record { fsid = f.meta.fsid; key = k }) (told_span a.call facts.short kind) (seen t)).
         parked_left super f.held (stamp_in stamps) n t u c (record a { key = k }) kind facts.short (ap (λ x. x.short) known) is
@@ -213,7 +232,7 @@ module _ {D : Type 0} (g : disk.Ghosts D) (f : FileStore D) (n : ℕ) (stamps : 
       → IfOk r (λ x. AreBoth (Blocked other) x) → OnOk r (seen u ≡ with_access c (Some (blocked (record a { key = k }))) (seen t))
       → OnErr r (u ≡ t) → IfErr r (λ why. why ≡ NoMemory) → IsReplied g f n stamps t c action r f stamps u
   blocks_so action k other u r says reply left replies after err memory = record {
-    replies = both_as r (Blocked other) (reply_to super now c action) (sym (ap (reply_said now k a.call) says) ∙ reply) replies;
+    replies = held_replies _ r f.held (λ h. reply_to super (over h) c action) (Blocked other) (sym (ap (reply_said now k a.call) says) ∙ reply) replies;
     left = on_ok r
         (λ (is : seen u ≡ with_access c (Some (blocked (record a { key = k }))) (seen t)).
         blocked_left super f.held (stamp_in stamps) n t u c (record a { key = k }) other is
@@ -225,13 +244,13 @@ module _ {D : Type 0} (g : disk.Ghosts D) (f : FileStore D) (n : ℕ) (stamps : 
 
   -- one that has ended
   ends_so : (action : Action) (k : FileKey) (u : Tables) (r : Result (Reply × Reply) StoreRefusal) (new : FileStore D) (after : List (FileKey × ℕ)) → ends (heard k) ≡ true
-      → reply_said now k a.call (heard k) ≡ reply_to super now c action → left_said super now c (flags_in a) k a.call (heard k) ≡ state_after super now c action
+      → ((seen : Held) → blanked seen ≡ blanked f.held → reply_said (over seen) k a.call (heard k) ≡ reply_to super (over seen) c action) → left_said super now c (flags_in a) k a.call (heard k) ≡ state_after super now c action
       → IsFinished g f n stamps k a.call (heard k) r new after → OnOk r (seen u ≡ with_access c None (seen t)) → OnErr r (u ≡ t) → IsReplied g f n stamps t c action r new after u
-  ends_so action k u r new after over reply left finished gone err = record {
-    replies = both_as r (ended_reply f.held k a.call (heard k)) (reply_to super now c action) (sym (said_ended now k a.call (heard k) over) ∙ reply) finished.replies;
+  ends_so action k u r new after ended reply left finished gone err = record {
+    replies = seen_replies _ r f.held (λ seen. ended_reply seen k a.call (heard k)) (λ seen. reply_to super (over seen) c action) (λ seen alike. sym (said_ended (over seen) k a.call (heard k) ended) ∙ reply seen alike) finished.replies;
     left = on_ok r
         (λ (is : (new.held ≡ held_said f.held k a.call (heard k)) × ((stamp_in after ≡ stamps_said (n + 1) k a.call (heard k) (stamp_in stamps)) × (seen u ≡ with_access c None (seen t)))).
-        (λ i. state_in (is.0 i) (is.1.0 i) (n + 1) u) ∙ ended_left super f.held (stamp_in stamps) n t u c (flags_in a) k a.call (heard k) over is.1.1 ∙ left)
+        (λ i. state_in (is.0 i) (is.1.0 i) (n + 1) u) ∙ ended_left super f.held (stamp_in stamps) n t u c (flags_in a) k a.call (heard k) ended is.1.1 ∙ left)
         (ok_both _ _ r finished.held (ok_both _ _ r finished.stamps gone));
     unstamped = finished.unstamped;
     err = err;
@@ -244,8 +263,11 @@ module _ {D : Type 0} (g : disk.Ghosts D) (f : FileStore D) (n : ℕ) (stamps : 
     live : facts.live ≡ true
     live = ap (λ x. x.live) known ∙ (on_file f.held.files (key_meant (names_of f.held.files) a.call) a.call file meant).1.live
 
-    own_reply : reply_said now file.key a.call (heard file.key) ≡ reply_to super now c (Issue a.call)
-    own_reply = issue_reply super f.held (stamp_in stamps) n t c a file.key fresh none lawful (key_of_meant f.held.files a.call (Some file) meant) facts known live
+    own_reply : (seen : Held) → blanked seen ≡ blanked f.held → reply_said (over seen) file.key a.call (heard file.key) ≡ reply_to super (over seen) c (Issue a.call)
+    own_reply seen alike =
+        let names = names_alike f.held seen alike in
+        issue_reply super seen (stamp_in stamps) n t c a file.key fresh none (ap (λ (files : List Listed). refusal_of super files a.call) names ∙ lawful)
+        (key_of_meant f.held.files a.call (Some file) meant ∙ ap (λ (files : List Listed). key_meant files a.call) (sym names)) facts (known ∙ sym (facts_alike f.held seen alike super file.key a.call)) live
 
     own_left : left_said super now c (flags_in a) file.key a.call (heard file.key) ≡ state_after super now c (Issue a.call)
     own_left = issue_left super f.held (stamp_in stamps) n t c a file.key fresh none lawful (key_of_meant f.held.files a.call (Some file) meant) facts known live
@@ -253,11 +275,11 @@ module _ {D : Type 0} (g : disk.Ghosts D) (f : FileStore D) (n : ℕ) (stamps : 
     pub issue_waits : (kind : Kind) (u : Tables) (r : Result (Reply × Reply) StoreRefusal) → heard file.key ≡ Post kind → IfOk r (λ x. AreBoth (Parked (next_token (ledger_of t))) x)
         → OnOk r (seen u ≡ parked_on c (record a { key = file.key }) kind (record { fsid = f.meta.fsid; key = file.key }) (told_span a.call facts.short kind) (seen t)) → OnErr r (u ≡ t) → IfErr r (λ why. why ≡ NoMemory)
         → IsReplied g f n stamps t c (Issue a.call) r f stamps u
-    issue_waits kind u r says replies after err memory = waits_so (Issue a.call) file.key kind u r says known own_reply own_left replies after err memory
+    issue_waits kind u r says replies after err memory = waits_so (Issue a.call) file.key kind u r says known (own_reply f.held refl) own_left replies after err memory
 
     pub issue_blocks : (other : Token) (u : Tables) (r : Result (Reply × Reply) StoreRefusal) → heard file.key ≡ Block other → IfOk r (λ x. AreBoth (Blocked other) x)
         → OnOk r (seen u ≡ with_access c (Some (blocked (record a { key = file.key }))) (seen t)) → OnErr r (u ≡ t) → IfErr r (λ why. why ≡ NoMemory) → IsReplied g f n stamps t c (Issue a.call) r f stamps u
-    issue_blocks other u r says replies after err memory = blocks_so (Issue a.call) file.key other u r says own_reply own_left replies after err memory
+    issue_blocks other u r says replies after err memory = blocks_so (Issue a.call) file.key other u r says (own_reply f.held refl) own_left replies after err memory
 
     pub issue_ends : (r : Result (Reply × Reply) StoreRefusal) (new : FileStore D) (after : List (FileKey × ℕ)) → ends (heard file.key) ≡ true → IsFinished g f n stamps file.key a.call (heard file.key) r new after
         → IsReplied g f n stamps t c (Issue a.call) r new after t
@@ -298,8 +320,10 @@ module _ {D : Type 0} (g : disk.Ghosts D) (f : FileStore D) (n : ℕ) (stamps : 
           | Some x ↦ λ found known. known.known ∙ ap (λ k. facts_of super f.held k a.call) found.key
         ] found known
 
-    again_own : reply_said now a.key a.call (heard a.key) ≡ reply_to super now c Resume
-    again_own = again_reply super f.held (stamp_in stamps) n t c a waits goes facts lives facts_known
+    again_own : (seen : Held) → blanked seen ≡ blanked f.held → reply_said (over seen) a.key a.call (heard a.key) ≡ reply_to super (over seen) c Resume
+    again_own seen alike =
+        again_reply super seen (stamp_in stamps) n t c a waits goes facts (lives ∙ sym (live_alike f.held seen alike a.key))
+        (λ live. facts_known live ∙ sym (facts_alike f.held seen alike super a.key a.call))
 
     again_leaves : left_said super now c (flags_in a) a.key a.call (heard a.key) ≡ state_after super now c Resume
     again_leaves = again_left super f.held (stamp_in stamps) n t c a waits goes facts lives facts_known
@@ -308,11 +332,11 @@ module _ {D : Type 0} (g : disk.Ghosts D) (f : FileStore D) (n : ℕ) (stamps : 
         → OnOk r (seen u ≡ parked_on c a kind (record { fsid = f.meta.fsid; key = a.key }) (told_span a.call facts.short kind) (seen t)) → OnErr r (u ≡ t) → IfErr r (λ why. why ≡ NoMemory)
         → IsReplied g f n stamps t c Resume r f stamps u
     again_waits kind u r says replies after err memory =
-        waits_so Resume a.key kind u r says (facts_known (posted (flags_in a) a.answer facts t.rights t.sessions a.key a.call kind says).0) again_own again_leaves replies after err memory
+        waits_so Resume a.key kind u r says (facts_known (posted (flags_in a) a.answer facts t.rights t.sessions a.key a.call kind says).0) (again_own f.held refl) again_leaves replies after err memory
 
     pub again_blocks : (other : Token) (u : Tables) (reply : Reply × Reply) → heard a.key ≡ Block other → AreBoth (Blocked other) reply → seen u ≡ with_access c (Some (blocked a)) (seen t)
         → IsReplied g f n stamps t c Resume (Ok reply) f stamps u
-    again_blocks other u reply says replies after = blocks_so Resume a.key other u (Ok reply) says again_own again_leaves replies after tt tt
+    again_blocks other u reply says replies after = blocks_so Resume a.key other u (Ok reply) says (again_own f.held refl) again_leaves replies after tt tt
 
     -- by the key of the file that was found, if one was
     finished_on : (k : FileKey) (r : Result (Reply × Reply) StoreRefusal) (new : FileStore D) (after : List (FileKey × ℕ)) → (heard a.key ≡ Complete → k ≡ a.key) → IsFinished g f n stamps k a.call (heard a.key) r new after
@@ -406,7 +430,7 @@ module _ {D : Type 0} (g : disk.Ghosts D) (f : FileStore D) (n : ℕ) (stamps : 
   pub alone_replied : (r : Result (Reply × Reply) StoreRefusal) (new : FileStore D) → IfOk r (λ x. AreBoth (done_reply f.held (key_in None) call) x) → OnOk r (new.held ≡ done_held f.held (key_in None) call) → Ends g f n None r new
       → IsReplied g f n stamps t c (Issue call) r new stamps t
   alone_replied r new replies held over = record {
-    replies = both_as r (done_reply f.held (key_in None) call) (reply_to (superblock_of f) here c (Issue call)) (same_reply call key meant ∙ alone_reply) replies;
+    replies = held_replies _ r f.held (λ h. reply_to (superblock_of f) (state_in h (stamp_in stamps) n t) c (Issue call)) (done_reply f.held (key_in None) call) (same_reply call key meant ∙ alone_reply) replies;
     left = on_ok r (λ (is : new.held ≡ done_held f.held (key_in None) call). (λ i. state_in ((is ∙ same_held call key meant) i) (stamp_in stamps) (n + 1) t) ∙ left_idle ∙ alone_left) held;
     unstamped = always r refl;
     err = always r refl;

@@ -3,32 +3,37 @@ use Rattle.std.proofs.Common.{◌≡◌, ℕ, ◌+◌, List, [], ◌∷◌, ◌+
 use Rattle.std.specs.Prelude.{IfSome}
 use Rattle.std.specs.Option.{option_map}
 use Rattle.disk_model.specs.declared.device.Disk as disk
+use Rattle.disk_model.specs.Moments.{Tells}
 use Rattle.hsm_types.specs.declared.stores.Limits.{Limits}
 use Rattle.hsm_types.specs.declared.stores.Superblock.{Superblock}
 use Rattle.plain_model.specs.declared.entries.Entry.{Entry}
 use Rattle.plain_model.specs.Faults.{is_fault}
 use Rattle.plain_model.specs.State.{Held, State, just_opened}
-use Rattle.plain_model.specs.Exact.{IsAnswer, left_by}
-use Rattle.plain_model.specs.Laws.{IsOpening, RunIsGood}
+use Rattle.plain_model.specs.Exact.{IsAnswerSeen, left_by}
+use Rattle.plain_model.specs.Laws.{IsOpening, IsRunSeen, RunIsGood}
+use Rattle.plain_model.proofs.AnyDisk.{run_on_any, seen_is_orderly}
 use Rattle.plain_model.proofs.Faultless.{has_fault-push}
-use Rattle.plain_model.proofs.Histories.{state_by-push, Exact-push}
+use Rattle.plain_model.proofs.Histories.{state_by-push}
 use Rattle.file_store.specs.Stores.{superblock_of, Proceeds}
 use Rattle.access_park.specs.Pending.{waiting_in}
 use Rattle.access_park.proofs.Counting.{waiting-nobody}
 use Rattle.dm_service.specs.Tables.{Tables, waiting, is_open, pending_as, ledger_of, open_among, awaited_in, AreNew}
 use Rattle.hsm_core.specs.Targets.{MayLast, EachLasts}
-use Rattle.hsm_core.specs.Store.{Store, state_of, HasRun}
+use Rattle.hsm_core.specs.Store.{Store, opening_of, state_of, HasRun}
 use Rattle.hsm_core.specs.Kept.{IsKept}
 use Rattle.hsm_core.specs.Packed.{ArePacked}
+use Rattle.hsm_core.proofs.Seeing.{weaker_run, told_run, ExactSeen-push}
 
 -- the store is formatted as it was
-pub formatted_as : {D : Type 0} (s : Store D) → HasRun s → superblock_of s.files ≡ superblock_of s.opened
+pub formatted_as : {D : Type 0} {g : disk.Ghosts D} (s : Store D) → HasRun g s → superblock_of s.files ≡ superblock_of s.opened
 formatted_as s has = rw (has.geometry, has.fsid) refl
 
-pub kept : ((s : Superblock) (base : ℕ) (h : Held) (es : List Entry) → RunIsGood s base h es) → {D : Type 0} (s : Store D) → HasRun s → ArePacked (superblock_of s.opened) (just_opened s.opened.meta.number s.opened.held) s.history → IsKept s
-kept good s has packed = record {
+pub kept : ((s : Superblock) (base : ℕ) (h : Held) (es : List Entry) → RunIsGood s base h es) → {D : Type 0} (g : disk.Ghosts D) (s : Store D) → HasRun g s → ArePacked (superblock_of s.opened) (just_opened s.opened.meta.number s.opened.held) s.history → IsKept g s
+kept good g s has packed = record {
   superblock = formatted_as s has;
-  good = good (superblock_of s.opened) s.opened.meta.number s.opened.held s.history has.run;
+  run = has.run;
+  orderly = seen_is_orderly (superblock_of s.opened) s.opened.meta.number (opening_of s) s.history (run_on_any (Tells g s.files.disk) (superblock_of s.opened) s.opened.meta.number (opening_of s) s.history has.run);
+  good = λ tells. good (superblock_of s.opened) s.opened.meta.number s.opened.held s.history (told_run tells (superblock_of s.opened) s.opened.meta.number s.opened.held s.history has.run);
   packed = packed;
   faultless = has.faultless;
   state = has.state;
@@ -41,8 +46,8 @@ pub true_false : {A : Type 0} (b : Bool) → b ≡ true → b ≡ false → A
 true_false b is isnt = absurd cc
 
 -- a store that was just opened
-pub HasRun-opened : {D : Type 0} (s : Store D) → s.opened ≡ s.files → s.history ≡ [] → s.stamps ≡ [] → AreNew s.tables → IsOpening s.files.held → HasRun s
-HasRun-opened s opened none stamps new opening = record {
+pub HasRun-opened : {D : Type 0} (g : disk.Ghosts D) (s : Store D) → s.opened ≡ s.files → s.history ≡ [] → s.stamps ≡ [] → AreNew s.tables → IsOpening s.files.held → HasRun g s
+HasRun-opened g s opened none stamps new opening = record {
   geometry = rw opened refl;
   fsid = rw opened refl;
   run = record { opening = rw opened opening; exact = rw none tt };
@@ -64,20 +69,24 @@ new_awaited t new =
 pub new_lasts : (limits : Limits) (t : Tables) → AreNew t → EachLasts limits (ledger_of t)
 new_lasts limits t new c = subst (λ x. IfSome x (λ a. MayLast limits a.call)) (sym (ap (λ (st : State). st.ledger.pending c) new)) tt
 
-module _ {D : Type 0} (g : disk.Ghosts D) (s t : Store D) (has : HasRun s) (n : ℕ) (opened : t.opened ≡ s.opened) (proceeds : Proceeds g s.files n t.files) where
+module _ {D : Type 0} (g : disk.Ghosts D) (s t : Store D) (has : HasRun g s) (n : ℕ) (opened : t.opened ≡ s.opened) (proceeds : Proceeds g s.files n t.files) where
+  -- a disk that tells after the event told before it
+  run_before : IsRunSeen (Tells g t.files.disk) (superblock_of s.opened) s.opened.meta.number (opening_of s) s.history
+  run_before = weaker_run proceeds.moments.tells (superblock_of s.opened) s.opened.meta.number (opening_of s) s.history has.run
+
   -- an event that isn't kept
-  pub HasRun-unkept : s.files.failed ≡ false → t.history ≡ s.history → state_of t ≡ state_of s → HasRun t
+  pub HasRun-unkept : s.files.failed ≡ false → t.history ≡ s.history → state_of t ≡ state_of s → HasRun g t
   HasRun-unkept working history state = record {
     geometry = proceeds.geometry ∙ has.geometry ∙ rw opened refl;
     fsid = proceeds.fsid ∙ has.fsid ∙ rw opened refl;
-    run = rw (opened, history) has.run;
+    run = rw (opened, history) run_before;
     faultless = λ still. rw history (has.faultless working);
     state = λ still. state ∙ has.state working ∙ rw (opened, history) refl;
   }
 
-  -- an event more, exactly answered
-  pub HasRun-kept : (e : Entry) → s.files.failed ≡ false → t.history ≡ s.history ++ e ∷ [] → IsAnswer (superblock_of s.opened) (state_of s) e.actor e.action e.answer
-      → (t.files.failed ≡ false → (is_fault e.answer ≡ false) × (state_of t ≡ left_by (superblock_of s.opened) (state_of s) e.actor e.action e.answer)) → HasRun t
+  -- an event more, answered over what is seen
+  pub HasRun-kept : (e : Entry) → s.files.failed ≡ false → t.history ≡ s.history ++ e ∷ [] → IsAnswerSeen (Tells g t.files.disk) (superblock_of s.opened) (state_of s) e.actor e.action e.answer
+      → (t.files.failed ≡ false → (is_fault e.answer ≡ false) × (state_of t ≡ left_by (superblock_of s.opened) (state_of s) e.actor e.action e.answer)) → HasRun g t
   HasRun-kept e working history is leaves =
       let start : State = just_opened s.opened.meta.number s.opened.held in
       record {
@@ -85,8 +94,8 @@ module _ {D : Type 0} (g : disk.Ghosts D) (s t : Store D) (has : HasRun s) (n : 
         fsid = proceeds.fsid ∙ has.fsid ∙ rw opened refl;
         run = rw (opened, history) (record {
           opening = has.run.opening;
-          exact = Exact-push (superblock_of s.opened) start s.history e has.run.exact (has.faultless working)
-              (subst (λ (st : State). IsAnswer (superblock_of s.opened) st e.actor e.action e.answer) (has.state working) is);
+          exact = ExactSeen-push (Tells g t.files.disk) (superblock_of s.opened) start s.history e run_before.exact (has.faultless working)
+              (subst (λ (st : State). IsAnswerSeen (Tells g t.files.disk) (superblock_of s.opened) st e.actor e.action e.answer) (has.state working) is);
         });
         faultless = λ still. rw (history, has_fault-push s.history e (has.faultless working)) (leaves still).0;
         state = λ still. (leaves still).1 ∙ ap (λ (st : State). left_by (superblock_of s.opened) st e.actor e.action e.answer) (has.state working)

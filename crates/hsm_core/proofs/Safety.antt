@@ -36,10 +36,10 @@ all_taken es = take_all (length es) es (omega arith)
 -- ---- of a store that works
 
 -- it holds what its history leaves
-held_now : {D : Type 0} (s : Store D) → HasRun s → s.files.failed ≡ false → s.files.held ≡ held_by (superblock_of s.opened) s.opened.meta.number s.opened.held s.history
+held_now : {D : Type 0} {g : disk.Ghosts D} (s : Store D) → HasRun g s → s.files.failed ≡ false → s.files.held ≡ held_by (superblock_of s.opened) s.opened.meta.number s.opened.held s.history
 held_now s run working = ap (λ (st : State). st.held) (run.state working)
 
-module _ {D : Type 0} (g : disk.Ghosts D) (s : Store D) (run : HasRun s) where
+module _ {D : Type 0} (g : disk.Ghosts D) (s : Store D) (run : HasRun g s) where
   formatted : (c : List ℕ) (n : ℕ) (h : Held) → IsRecovered s.files.meta.durable.geometry s.files.meta.fsid n h c → IsRecovered s.opened.meta.durable.geometry s.opened.meta.fsid n h c
   formatted c n h is = subst (λ (z : ℕ). IsRecovered z s.opened.meta.fsid n h c) run.geometry (subst (λ (z : ℕ). IsRecovered s.files.meta.durable.geometry z n h c) run.fsid is)
 
@@ -73,7 +73,7 @@ module _ {D : Type 0} (g : disk.Ghosts D) (s : Store D) (run : HasRun s) where
 -- ---- an event more
 
 -- what was made durable, where nothing was kept of the event
-up_unkept : {D : Type 0} (s t : Store D) → HasRun s → IsUpTo s → s.files.failed ≡ false → t.opened ≡ s.opened → t.history ≡ s.history
+up_unkept : {D : Type 0} {g : disk.Ghosts D} (s t : Store D) → HasRun g s → IsUpTo s → s.files.failed ≡ false → t.opened ≡ s.opened → t.history ≡ s.history
     → (t.files.meta.number ≡ s.files.meta.number) × (t.files.durable ≡ s.files.durable) ⊎ (t.files.meta.number ≡ last_number s) × (t.files.durable ≡ s.files.held) → IsUpTo t
 up_unkept s t run up working opened history (inl same) = record {
   n = up.n;
@@ -91,7 +91,7 @@ up_unkept s t run up working opened history (inr new) = record {
 }
 
 -- where an entry was, and a sync or a commit has made all durable
-up_kept : {D : Type 0} (g : disk.Ghosts D) (s t : Store D) (e : Entry) → HasRun s → IsUpTo s → s.files.failed ≡ false → t.opened ≡ s.opened → t.history ≡ s.history ++ e ∷ []
+up_kept : {D : Type 0} (g : disk.Ghosts D) (s t : Store D) (e : Entry) → HasRun g s → IsUpTo s → s.files.failed ≡ false → t.opened ≡ s.opened → t.history ≡ s.history ++ e ∷ []
     → (is_sync e ≡ true → IsSynced g (last_number s) s.files t.files)
     → (t.files.meta.number ≡ s.files.meta.number) × (t.files.durable ≡ s.files.durable) ⊎ (t.files.meta.number ≡ last_number s) × (t.files.durable ≡ s.files.held) → IsUpTo t
 up_kept g s t e run up working opened history syncs made = at (is_sync e) refl made
@@ -122,7 +122,7 @@ up_kept g s t e run up working opened history syncs made = at (is_sync e) refl m
       holds = same.1 ∙ rw (opened, history, take-append-le up.n s.history (e ∷ []) up.to) up.holds;
     }
 
-module _ {D : Type 0} (g : disk.Ghosts D) (s t : Store D) (run : HasRun s) (safe : IsSafe g s) (working : s.files.failed ≡ false) (opened : t.opened ≡ s.opened) (proceeds : Proceeds g s.files (last_number s) t.files) where
+module _ {D : Type 0} (g : disk.Ghosts D) (s t : Store D) (run : HasRun g s) (safe : IsSafe g s) (working : s.files.failed ≡ false) (opened : t.opened ≡ s.opened) (proceeds : Proceeds g s.files (last_number s) t.files) where
   moments : LeavesOnly g s.opened.disk t.files.disk (IsPrefix s.opened s.history 0)
   moments = joined g s.opened.disk s.files.disk t.files.disk _ safe.since
       (weakened g s.files.disk t.files.disk _ _ (λ c is. prefix_lower s.opened (synced s.history) 0 s.history c (omega arith) (either g s run safe working c is)) proceeds.moments)

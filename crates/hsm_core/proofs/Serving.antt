@@ -6,8 +6,11 @@ use Rattle.hsm_types.specs.Refusals.{first_refusal}
 use Rattle.hsm_types.specs.Calls.{scope_of}
 use Rattle.hsm_types.specs.Rights.{Rights}
 use Rattle.hsm_types.specs.declared.dm.DmRefusal.TheVariants.{Memory}
+use Rattle.hsm_types.specs.Messages.{no_token}
 use Rattle.hsm_types.specs.declared.keys.FileKey.{FileKey}
+use Rattle.hsm_types.specs.declared.keys.Handle.{Handle}
 use Rattle.hsm_types.specs.declared.keys.Sid.{Sid}
+use Rattle.hsm_types.specs.declared.keys.Token.{Token}
 use Rattle.hsm_types.specs.declared.stores.Superblock.{Superblock}
 use Rattle.hsm_types.specs.declared.dm.Scope.{Scope}
 use Rattle.hsm_types.specs.declared.dm.Scope.TheVariants.{Anyone, InSession, OnToken, OnFile, OnRight}
@@ -20,6 +23,9 @@ use Rattle.hsm_types.specs.declared.dm.DmRefusal.{DmRefusal}
 use Rattle.hsm_types.specs.declared.dm.DmReply.{DmReply}
 use Rattle.hsm_types.specs.declared.dm.DmReply.TheVariants as reply
 use Rattle.plain_model.specs.Effects.{Change, Nothing, OfFile, OfSessions, OfRights, Closes, change_of}
+use Rattle.plain_model.specs.Exact.{left_told}
+use Rattle.plain_model.specs.Ledger.{Ledger, ledger_told}
+use Rattle.plain_model.specs.Seen.{IsOfSeen}
 use Rattle.plain_model.specs.State.{Held, State, noted, changed}
 use Rattle.plain_model.specs.Services.{Service, service, scope_refusals, dm_judged, dm_reply_where, dm_reply_to, dm_state_where, dm_state_after}
 use Rattle.file_store.specs.declared.refusal.StoreRefusal.{StoreRefusal}
@@ -27,10 +33,11 @@ use Rattle.file_store.specs.Stores.{Store as FileStore}
 use Rattle.dm_service.specs.Services.{asks_rights, asks_tables, done_or, session_refusals, AreBoth, Judges}
 use Rattle.dm_service.specs.Tables.{Tables}
 use Rattle.hsm_core.specs.Store.{state_with}
-use Rattle.hsm_core.specs.Services.{anybody, asked, file_refusals, told_where, held_where, service_with, rights_where, changes_file, IsGranted}
-use Rattle.hsm_core.specs.Services.{IsPerformed, IsServed}
-use Rattle.plain_model.specs.Ledger.{ledger_told}
+use Rattle.hsm_core.specs.Services.{anybody, asked, file_refusals, told_where, held_where, service_with, rights_where, changes_file, reads_bytes, IsGranted}
+use Rattle.hsm_core.specs.Services.{ServesBy, IsPerformed, IsServed}
+use Rattle.plain_model.proofs.Seeing.{told_own}
 use Rattle.hsm_core.proofs.Refusing.{all_pass, one_stops, alone}
+use Rattle.hsm_core.proofs.SeenServices.{scope_seen}
 
 -- a service is the same whatever the number of the entry
 service_asked : (s : Superblock) (h : Held) (stamps : List (FileKey × ℕ)) (t : Tables) (number : ℕ) (sid : Sid) (call : DmCall) → service s (state_with h stamps t number) sid call ≡ asked s h stamps t sid call
@@ -76,9 +83,9 @@ left_changed (OfSessions to) h stamps t number on = absurd on
 left_changed (OfRights to) h stamps t number on = absurd on
 left_changed (Closes owner token) h stamps t number on = absurd on
 
-same_ledger : (s : Superblock) (st : State) (sid : Sid) (call : DmCall) → asks_tables call ≡ false → ledger_told st.ledger call (service s st sid call).reply ≡ st.ledger
-same_ledger s st sid GetSpace is = refl
-same_ledger s st sid call is = cc
+same_ledger : (L : Ledger) (call : DmCall) (told : DmReply) → asks_tables call ≡ false → ledger_told L call told ≡ L
+same_ledger L GetSpace told is = refl
+same_ledger L call told is = cc
 
 ledger_changed : (change : Change) (st : State) → (changed change st).ledger ≡ st.ledger
 ledger_changed Nothing st = refl
@@ -87,13 +94,20 @@ ledger_changed (OfSessions to) st = refl
 ledger_changed (OfRights to) st = refl
 ledger_changed (Closes owner token) st = refl
 
-left_parts : (why : Option DmRefusal) (s : Superblock) (h : Held) (stamps : List (FileKey × ℕ)) (t : Tables) (number : ℕ) (sid : Sid) (call : DmCall) → asks_tables call ≡ false → asks_rights call ≡ false
-    → state_with (held_where (change_of sid call) why h) stamps t (number + 1) ≡ dm_state_where why s (state_with h stamps t number) sid call
-left_parts None s h stamps t number sid call is no_rights =
+-- the reply of a service is no refusal
+told_served : (s : Superblock) (st seen : State) (sid : Sid) (call : DmCall) → left_told st sid call (service s seen sid call).reply ≡ record (noted (changed (change_of sid call) st)) { ledger = ledger_told st.ledger call (service s seen sid call).reply }
+told_served s st seen sid GetSpace = refl
+told_served s st seen sid call = refl
+
+-- what a call on files leaves that is told this
+told_parts : (why : Option DmRefusal) (s : Superblock) (h : Held) (seen : State) (stamps : List (FileKey × ℕ)) (t : Tables) (number : ℕ) (sid : Sid) (call : DmCall) → asks_tables call ≡ false → asks_rights call ≡ false
+    → state_with (held_where (change_of sid call) why h) stamps t (number + 1) ≡ left_told (state_with h stamps t number) sid call (told_where why (service s seen sid call).reply)
+told_parts None s h seen stamps t number sid call is no_rights =
     let st : State = state_with h stamps t number in
     left_changed (change_of sid call) h stamps t number (on_files sid call is no_rights)
-    ∙ (λ i. record (noted (changed (change_of sid call) st)) { ledger = (ledger_changed (change_of sid call) st ∙ sym (same_ledger s st sid call is)) i })
-left_parts (Some why) s h stamps t number sid call is no_rights = refused_parts (change_of sid call)
+    ∙ (λ i. record (noted (changed (change_of sid call) st)) { ledger = (ledger_changed (change_of sid call) st ∙ sym (same_ledger st.ledger call (service s seen sid call).reply is)) i })
+    ∙ sym (told_served s st seen sid call)
+told_parts (Some why) s h seen stamps t number sid call is no_rights = refused_parts (change_of sid call)
   where
     refused_parts : (change : Change) → state_with (held_where change (Some why) h) stamps t (number + 1) ≡ noted (state_with h stamps t number)
     refused_parts Nothing = refl
@@ -101,6 +115,10 @@ left_parts (Some why) s h stamps t number sid call is no_rights = refused_parts 
     refused_parts (OfSessions to) = refl
     refused_parts (OfRights to) = refl
     refused_parts (Closes owner token) = refl
+
+-- what is left by the store's own answer, by what was told
+pub left_by_told : (s : Superblock) (st left : State) (sid : Sid) (call : DmCall) (r : DmReply × DmReply) → AreBoth (dm_reply_to s st sid call) r → left ≡ dm_state_after s st sid call → left ≡ left_told st sid call r.1
+left_by_told s st left sid call r both is = is ∙ sym (told_own s st sid call) ∙ ap (left_told st sid call) (sym both.1)
 
 -- ---- the refusals of a scope: by its session and token, then by its file and right
 
@@ -150,30 +168,53 @@ module _ (s : Superblock) (h : Held) (stamps : List (FileKey × ℕ)) (t : Table
       (λ i. told_where (sym judged_asked i) (sym (service_asked s h stamps t number sid call) i).reply)
       ∙ sym (reply_told (dm_judged s (state_with h stamps t number) sid call) s (state_with h stamps t number) sid call)
 
-  left_asked : asks_tables call ≡ false → asks_rights call ≡ false → state_with (held_where (change_of sid call) (asked s h stamps t sid call).refusal h) stamps t (number + 1) ≡ dm_state_after s (state_with h stamps t number) sid call
-  left_asked is no_rights =
-      ap (λ (why : Option DmRefusal). state_with (held_where (change_of sid call) why h) stamps t (number + 1)) (sym judged_asked)
-      ∙ left_parts (dm_judged s (state_with h stamps t number) sid call) s h stamps t number sid call is no_rights
+-- over what is seen of the files
+module _ (Told : Type 0) (s : Superblock) (h : Held) (stamps : List (FileKey × ℕ)) (t : Tables) (number : ℕ) (sid : Sid) (call : DmCall) (left : Held) where
+  abbrev pub Serves : DmReply × DmReply → Type 0
+  Serves r = IsOfSeen Told h (λ seen. ServesBy (asked s seen stamps t sid call) (change_of sid call) h left r)
 
-  pub served_left : asks_tables call ≡ false → asks_rights call ≡ false → (result : Result (DmReply × DmReply) StoreRefusal) (h' : Held) → OnOk result (h' ≡ held_where (change_of sid call) (asked s h stamps t sid call).refusal h)
-      → OnOk result (state_with h' stamps t (number + 1) ≡ dm_state_after s (state_with h stamps t number) sid call)
-  served_left is no_rights (Ok r) h' held = (λ i. state_with (held i) stamps t (number + 1)) ∙ left_asked is no_rights
-  served_left is no_rights (Err e) h' held = tt
+  pub served_replies : (result : Result (DmReply × DmReply) StoreRefusal) → first_refusal (scope_refusals s (state_with h stamps t number) sid (scope_of call)) ≡ None → IfOk result Serves
+      → IfOk result (λ r. IsOfSeen Told h (λ seen. AreBoth (dm_reply_to s (state_with seen stamps t number) sid call) r))
+  served_replies (Ok r) none serves =
+      let seen : Held = serves.0 in
+      let passed = ap first_refusal (scope_seen s h seen serves.1 stamps t number sid (scope_of call)) ∙ none in
+      (seen, serves.1, subst (λ (x : DmReply). AreBoth x r) (served_reply s seen stamps t number sid call passed) serves.2.replies)
+  served_replies (Err e) none serves = tt
+
+  pub served_left : (result : Result (DmReply × DmReply) StoreRefusal) → asks_tables call ≡ false → asks_rights call ≡ false → IfOk result Serves
+      → IfOk result (λ r. state_with left stamps t (number + 1) ≡ left_told (state_with h stamps t number) sid call r.1)
+  served_left (Ok r) is no_rights serves =
+      let seen : Held = serves.0 in
+      (λ i. state_with (serves.2.held i) stamps t (number + 1))
+      ∙ told_parts (asked s seen stamps t sid call).refusal s h (state_with seen stamps t 0) stamps t number sid call is no_rights
+      ∙ ap (left_told (state_with h stamps t number) sid call) (sym serves.2.replies.1)
+  served_left (Err e) is no_rights serves = tt
 
 -- ---- calls that change a file, and those that change nothing
 
 module _ {D : Type 0} (g : disk.Ghosts D) (old new : FileStore D) (n : ℕ) (stamps : List (FileKey × ℕ)) (t : Tables) (sid : Sid) where
   -- a change asks of the files alone
   pub change_performed : (call : DmCall) (result : Result (DmReply × DmReply) StoreRefusal) → changes_file call ≡ true → IsServed g old n call result new → IsPerformed g old n stamps t sid call result new
-  change_performed (SetRegion token handle regions) result is served = record { replies = served.replies; held = served.held; ends = served.ends }
-  change_performed (SetDmAttr token handle name value) result is served = record { replies = served.replies; held = served.held; ends = served.ends }
-  change_performed (RemoveDmAttr token handle name) result is served = record { replies = served.replies; held = served.held; ends = served.ends }
-  change_performed (WriteInvis token handle offset body) result is served = record { replies = served.replies; held = served.held; ends = served.ends }
-  change_performed (PunchHole token handle offset len) result is served = record { replies = served.replies; held = served.held; ends = served.ends }
-  change_performed (Seal token handle segment entry) result is served = record { replies = served.replies; held = served.held; ends = served.ends }
-  change_performed (Restore token handle segment bytes) result is served = record { replies = served.replies; held = served.held; ends = served.ends }
+  change_performed (SetRegion token handle regions) result is served = record { serves = served.serves; ends = served.ends }
+  change_performed (SetDmAttr token handle name value) result is served = record { serves = served.serves; ends = served.ends }
+  change_performed (RemoveDmAttr token handle name) result is served = record { serves = served.serves; ends = served.ends }
+  change_performed (WriteInvis token handle offset body) result is served = record { serves = served.serves; ends = served.ends }
+  change_performed (PunchHole token handle offset len) result is served = record { serves = served.serves; ends = served.ends }
+  change_performed (Seal token handle segment entry) result is served = record { serves = served.serves; ends = served.ends }
+  change_performed (Restore token handle segment bytes) result is served = record { serves = served.serves; ends = served.ends }
   change_performed GetSpace result is served = absurd cc
   change_performed call result is served = absurd cc
+
+  -- so does a read
+  pub read_performed : (token : Token) (handle : Handle) (offset len : ℕ) (result : Result (DmReply × DmReply) StoreRefusal) → IsServed g old n (ReadInvis no_token handle offset len) result new
+      → IsPerformed g old n stamps t sid (ReadInvis token handle offset len) result new
+  read_performed token handle offset len result served = record { serves = served.serves; ends = served.ends }
+
+-- a call that is none reads no bytes
+pub reads_apart : (call : DmCall) → ((token : Token) (handle : Handle) (offset len : ℕ) → call ≡ ReadInvis token handle offset len → ⊥) → reads_bytes call ≡ false
+reads_apart (ReadInvis token handle offset len) other = absurd (other token handle offset len refl)
+reads_apart GetSpace other = refl
+reads_apart call other = refl
 
 -- whatever refuses
 pub same_held : (sid : Sid) (call : DmCall) (why : Option DmRefusal) (h : Held) → changes_file call ≡ false → h ≡ held_where (change_of sid call) why h

@@ -2,7 +2,7 @@
 use Rattle.std.specs.Prelude.{ℕ, ◌≡◌, ◌⊎◌, true, false, [], ◌∷◌, ◌++◌}
 use Rattle.disk_model.specs.declared.device.Disk as disk
 use Rattle.disk_model.specs.Calls.{Rose}
-use Rattle.disk_model.specs.Moments.{LeavesOnly}
+use Rattle.disk_model.specs.Moments.{LeavesOnly, Tells}
 use Rattle.hsm_types.specs.declared.calls.Call.{Call}
 use Rattle.hsm_types.specs.declared.calls.CallRefusal.TheVariants.{Memory}
 use Rattle.hsm_types.specs.declared.calls.Reply.{Reply}
@@ -20,7 +20,7 @@ use Rattle.plain_model.specs.declared.entries.Action.TheVariants.{Issue, Resume,
 use Rattle.plain_model.specs.declared.entries.Answer.{Answer}
 use Rattle.plain_model.specs.declared.entries.Answer.TheVariants.{Call as Replied, Dm as Told}
 use Rattle.plain_model.specs.Faults.{fault_of}
-use Rattle.plain_model.specs.Exact.{answer_to, left_own}
+use Rattle.plain_model.specs.Exact.{answer_to, left_own, left_answered, IsOwnSeen}
 use Rattle.plain_model.specs.State.{State}
 use Rattle.plain_model.specs.Synced.{is_sync, synced}
 use Rattle.file_store.specs.Stores.{superblock_of, Proceeds}
@@ -77,16 +77,17 @@ pub record HasFailed {D : Type 0} (g : disk.Ghosts D) (old : Store D) (actor : A
   pub failed : new.files.failed ≡ true
   pub rose : Rose (g.fault_count old.files.disk) (g.fault_count new.files.disk)
 
--- the event was answered by the store itself, and no call of the disk failed
+-- The event was answered by the store itself, and no call of the disk failed. The answer is its own over what is seen of its files: exact but for bytes, and
+-- in these too where the disk tells what it holds. What it leaves goes by the answer that was given.
 pub record IsDone {D : Type 0} (g : disk.Ghosts D) (old : Store D) (actor : Actor) (action : Action) (given : Answer) (new : Store D) : Type 0 where
   pub goes : Goes g old new
-  pub answer : given ≡ own_answer old actor action
-  pub history : new.history ≡ old.history ++ entry_of actor action (own_answer old actor action) ∷ []
-  pub leaves : state_of new ≡ own_state old actor action
+  pub answer : IsOwnSeen (Tells g new.files.disk) (superblock_of old.opened) (state_of old) actor action given
+  pub history : new.history ≡ old.history ++ entry_of actor action given ∷ []
+  pub leaves : state_of new ≡ left_answered (superblock_of old.opened) (state_of old) actor action given
   pub still : new.files.failed ≡ false
   pub quiet : g.fault_count new.files.disk ≡ g.fault_count old.files.disk
   -- a sync or a commit has made all durable, under the number of the last entry before it
-  pub synced : is_sync (entry_of actor action (own_answer old actor action)) ≡ true → IsSynced g (last_number old) old.files new.files
+  pub synced : is_sync (entry_of actor action given) ≡ true → IsSynced g (last_number old) old.files new.files
 
 -- one of the four
 abbrev pub IsAnswer : {D : Type 0} → disk.Ghosts D → Store D → Actor → Action → Answer → Store D → Type 0

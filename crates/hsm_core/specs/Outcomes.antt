@@ -1,5 +1,6 @@
 -- What comes of an access by what was said of it, and how a caller's event is answered.
 use Rattle.std.specs.Prelude.{ℕ, ◌≡◌, ◌≢◌, ◌+◌, ◌≤◌, Bool, true, false, not, ◌&&◌, List, Option, Some, None, is_none, IfSome, Result, IfOk, OnOk, OnErr, IsOk}
+use Rattle.disk_model.specs.Moments.{Tells}
 use Rattle.disk_model.specs.declared.device.Disk as disk
 use Rattle.hsm_types.specs.Limits.{last_error}
 use Rattle.hsm_types.specs.declared.keys.FileKey.{FileKey}
@@ -16,6 +17,7 @@ use Rattle.plain_model.specs.declared.entries.Action.{Action}
 use Rattle.plain_model.specs.declared.facts.NoRoom.{NoRoom}
 use Rattle.plain_model.specs.Accesses.{told_span}
 use Rattle.plain_model.specs.Ledger.{aborted}
+use Rattle.plain_model.specs.Seen.{IsOfSeen}
 use Rattle.plain_model.specs.State.{Held}
 use Rattle.plain_model.specs.Verdict.{done_reply, done_held, stamps_by, reply_to, state_after}
 use Rattle.access_park.specs.declared.access.Access.{Access}
@@ -86,19 +88,19 @@ abbrev pub stamps_said : ℕ → FileKey → Call → Verdict → (FileKey → �
 stamps_said number k call Complete stamps = stamps_by number k call None stamps
 stamps_said number k call said stamps = stamps
 
--- The access has ended as was said of it, under that number.
+-- The access has ended as was said of it, under that number. The replies are those over what is seen of the files.
 pub record IsFinished {D : Type 0} (g : disk.Ghosts D) (old : FileStore D) (n : ℕ) (before : List (FileKey × ℕ)) (k : FileKey) (call : Call) (said : Verdict) (result : Result (Reply × Reply) StoreRefusal) (new : FileStore D) (after : List (FileKey × ℕ)) : Type 0 where
-  pub replies : IfOk result (λ r. AreBoth (ended_reply old.held k call said) r)
+  pub replies : IfOk result (λ r. IsOfSeen (Tells g new.disk) old.held (λ seen. AreBoth (ended_reply seen k call said) r))
   pub held : OnOk result (new.held ≡ held_said old.held k call said)
   pub stamps : OnOk result (stamp_in after ≡ stamps_said (n + 1) k call said (stamp_in before))
   pub unstamped : OnErr result (after ≡ before)
   pub answered : said ≢ Complete → IsOk result
   pub ended : Ends g old n None result new
 
--- The event of that caller was answered, under that number: both replies are the store's, and the state is the one that it leaves. What isn't answered
--- leaves stamps and tables.
+-- The event of that caller was answered, under that number: both replies are the store's over what is seen of the files, and the state is the one that it
+-- leaves. What isn't answered leaves stamps and tables.
 pub record IsReplied {D : Type 0} (g : disk.Ghosts D) (old : FileStore D) (n : ℕ) (stamps : List (FileKey × ℕ)) (t : Tables) (c : ℕ) (action : Action) (result : Result (Reply × Reply) StoreRefusal) (new : FileStore D) (stamps' : List (FileKey × ℕ)) (u : Tables) : Type 0 where
-  pub replies : IfOk result (λ r. AreBoth (reply_to (superblock_of old) (state_with old.held stamps t n) c action) r)
+  pub replies : IfOk result (λ r. IsOfSeen (Tells g new.disk) old.held (λ seen. AreBoth (reply_to (superblock_of old) (state_with seen stamps t n) c action) r))
   pub left : OnOk result (state_with new.held stamps' u (n + 1) ≡ state_after (superblock_of old) (state_with old.held stamps t n) c action)
   pub unstamped : OnErr result (stamps' ≡ stamps)
   pub err : OnErr result (u ≡ t)

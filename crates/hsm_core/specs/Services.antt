@@ -1,5 +1,6 @@
 -- How a session's call is served that its scope doesn't refuse: by its service, and by its change.
 use Rattle.std.specs.Prelude.{◌≡◌, ℕ, List, [], ◌∷◌, length, map, Bool, true, false, Option, Some, None, is_some, IsSome, Result, Ok, Err, IfOk, OnOk, OnErr}
+use Rattle.disk_model.specs.Moments.{Tells}
 use Rattle.disk_model.specs.declared.device.Disk as disk
 use Rattle.hsm_types.specs.Rights.{Rights, right_of, too_low, bad_right}
 use Rattle.hsm_types.specs.declared.keys.FileKey.{FileKey}
@@ -7,14 +8,17 @@ use Rattle.hsm_types.specs.declared.keys.Sid.{Sid}
 use Rattle.hsm_types.specs.declared.stores.Superblock.{Superblock}
 use Rattle.hsm_types.specs.declared.dm.Scope.{Scope}
 use Rattle.hsm_types.specs.declared.dm.Scope.TheVariants.{OnFile, OnRight}
-use Rattle.hsm_types.specs.Stubs.{Stubs}
+use Rattle.hsm_types.specs.Stubs.{Stubs, entry_place}
+use Rattle.hsm_types.specs.declared.stubs.StubEntry.{StubEntry}
 use Rattle.hsm_types.specs.declared.dm.DmCall.{DmCall}
-use Rattle.hsm_types.specs.declared.dm.DmCall.TheVariants.{SetRegion, SetDmAttr, RemoveDmAttr, WriteInvis, PunchHole, Seal, Restore}
+use Rattle.hsm_types.specs.declared.dm.DmCall.TheVariants.{SetRegion, SetDmAttr, RemoveDmAttr, ReadInvis, WriteInvis, PunchHole, Seal, Restore}
 use Rattle.hsm_types.specs.declared.dm.DmRefusal.{DmRefusal}
 use Rattle.hsm_types.specs.declared.dm.DmReply.{DmReply}
 use Rattle.hsm_types.specs.declared.dm.DmReply.TheVariants as reply
 use Rattle.hsm_types.specs.Keyed.{find_key}
 use Rattle.plain_model.specs.Effects.{Change, OfFile, OfRights, change_of}
+use Rattle.plain_model.specs.Seen.{IsOfSeen}
+use Rattle.plain_model.specs.Segments.{bad_volume, past_end, away}
 use Rattle.plain_model.specs.State.{FileState, Held, nothing_held, affected_held, just_opened}
 use Rattle.plain_model.specs.Services.{Service, service, bad_handle}
 use Rattle.dm_service.specs.Services.{AreBoth, any_superblock}
@@ -59,6 +63,11 @@ changes_file (RemoveDmAttr token handle name) = true
 changes_file (WriteInvis token handle offset body) = true
 changes_file call = moves_segments call
 
+-- the one that reads bytes of a file
+abbrev pub reads_bytes : DmCall → Bool
+reads_bytes (ReadInvis token handle offset len) = true
+reads_bytes call = false
+
 -- The file has so many bytes, its blocks lie at these places, and these are its stub entries.
 pub record IsMadeOf (bytes : ℕ) (places : List (Option ℕ)) (entries : Stubs) (f : FileState) : Type 0 where
   pub size : length f.body ≡ bytes
@@ -71,6 +80,10 @@ pub record IsMadeOf (bytes : ℕ) (places : List (Option ℕ)) (entries : Stubs)
 abbrev pub held_where : Change → Option DmRefusal → Held → Held
 held_where (OfFile k effect) None h = record h { files = affected_held effect k h.files }
 held_where change why h = h
+
+-- what refuses a seal whatever the bytes of its segment, in the order of judgement
+abbrev pub unread_refusals : FileState → ℕ → StubEntry → List (Option DmRefusal)
+unread_refusals f j entry = past_end j (length f.body) ∷ bad_volume (entry_place entry).volume ∷ away f j ∷ []
 
 -- what is told where that refuses
 abbrev pub told_where : Option DmRefusal → DmReply → DmReply
@@ -90,20 +103,26 @@ abbrev pub asked : Superblock → Held → List (FileKey × ℕ) → Tables → 
 asked s h stamps t sid call = service s (state_with h stamps t 0) sid call
 
 -- the service of a call that asks of the files alone
-abbrev pub service_on : {D : Type 0} → FileStore D → DmCall → Service
-service_on f call = service (superblock_of f) (record (just_opened 0 nothing_held) { held = f.held }) anybody call
+abbrev pub service_over : Superblock → Held → DmCall → Service
+service_over s h call = service s (record (just_opened 0 nothing_held) { held = h }) anybody call
 
--- A call on files that its scope doesn't refuse was served: it was answered by its service, and its change was made where that doesn't refuse. The
--- tables have no part in it.
+abbrev pub service_on : {D : Type 0} → FileStore D → DmCall → Service
+service_on f call = service_over (superblock_of f) f.held call
+
+-- both replies are of this service, and its change was made where that doesn't refuse
+pub record ServesBy (v : Service) (change : Change) (old new : Held) (r : DmReply × DmReply) : Type 0 where
+  pub replies : AreOf v r
+  pub held : new ≡ held_where change v.refusal old
+
+-- A call on files that its scope doesn't refuse was served: it was answered by its service over what is seen of the files, and its change was made where
+-- that doesn't refuse. The tables have no part in it.
 pub record IsPerformed {D : Type 0} (g : disk.Ghosts D) (old : FileStore D) (n : ℕ) (stamps : List (FileKey × ℕ)) (t : Tables) (sid : Sid) (call : DmCall) (result : Result (DmReply × DmReply) StoreRefusal) (new : FileStore D) : Type 0 where
-  pub replies : IfOk result (λ r. AreOf (asked (superblock_of old) old.held stamps t sid call) r)
-  pub held : OnOk result (new.held ≡ held_where (change_of sid call) (asked (superblock_of old) old.held stamps t sid call).refusal old.held)
+  pub serves : IfOk result (λ r. IsOfSeen (Tells g new.disk) old.held (λ seen. ServesBy (asked (superblock_of old) seen stamps t sid call) (change_of sid call) old.held new.held r))
   pub ends : Ends g old n None result new
 
 -- The same of a call that asks of the files alone.
 pub record IsServed {D : Type 0} (g : disk.Ghosts D) (old : FileStore D) (n : ℕ) (call : DmCall) (result : Result (DmReply × DmReply) StoreRefusal) (new : FileStore D) : Type 0 where
-  pub replies : IfOk result (λ r. AreOf (service_on old call) r)
-  pub held : OnOk result (new.held ≡ held_where (change_of anybody call) (service_on old call).refusal old.held)
+  pub serves : IfOk result (λ r. IsOfSeen (Tells g new.disk) old.held (λ seen. ServesBy (service_over (superblock_of old) seen call) (change_of anybody call) old.held new.held r))
   pub ends : Ends g old n None result new
 
 -- the service of a call that asks of rights alone

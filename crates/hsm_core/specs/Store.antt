@@ -1,11 +1,13 @@
 -- A store as its callers and sessions see it.
 use Rattle.std.specs.Prelude.{ℕ, ◌≡◌, ◌+◌, ◌≤◌, false, length, List}
+use Rattle.disk_model.specs.Moments.{Tells}
+use Rattle.disk_model.specs.declared.device.Disk as disk
 use Rattle.hsm_types.specs.declared.keys.FileKey.{FileKey}
 use Rattle.plain_model.specs.declared.entries.Entry.{Entry}
 use Rattle.plain_model.specs.Faults.{has_fault}
 use Rattle.plain_model.specs.State.{Held, State, just_opened}
 use Rattle.plain_model.specs.Exact.{state_by}
-use Rattle.plain_model.specs.Laws.{IsRun}
+use Rattle.plain_model.specs.Laws.{IsRunSeen}
 use Rattle.dm_service.specs.Tables.{Tables, awaited_in, state_in}
 use Rattle.file_store.specs.Stores.{Store as FileStore, superblock_of}
 use Rattle.hsm_core.specs.Stamps.{stamp_in}
@@ -40,11 +42,15 @@ state_with held stamps t number = state_in held (stamp_in stamps) number t
 abbrev pub state_of : {D : Type 0} → Store D → State
 state_of s = state_with s.files.held s.stamps s.tables (last_number s)
 
--- The store is formatted as it was when it was opened, and its history is a run from there. As long as no call of the disk has failed it has
--- no fault, and the store's state is what the history leaves.
-pub record HasRun {D : Type 0} (s : Store D) : Type 0 where
+-- what it held when it was opened
+abbrev pub opening_of : {D : Type 0} → Store D → Held
+opening_of s = s.opened.held
+
+-- The store is formatted as it was when it was opened, and its history is a run from there: exact but for bytes, and in these too where the disk tells what
+-- it holds. As long as no call of the disk has failed it has no fault, and the store's state is what the history leaves.
+pub record HasRun {D : Type 0} (g : disk.Ghosts D) (s : Store D) : Type 0 where
   pub geometry : s.files.meta.durable.geometry ≡ s.opened.meta.durable.geometry
   pub fsid : s.files.meta.fsid ≡ s.opened.meta.fsid
-  pub run : IsRun (superblock_of s.opened) s.opened.meta.number s.opened.held s.history
+  pub run : IsRunSeen (Tells g s.files.disk) (superblock_of s.opened) s.opened.meta.number (opening_of s) s.history
   pub faultless : s.files.failed ≡ false → has_fault s.history ≡ false
-  pub state : s.files.failed ≡ false → state_of s ≡ state_by (superblock_of s.opened) (just_opened s.opened.meta.number s.opened.held) s.history
+  pub state : s.files.failed ≡ false → state_of s ≡ state_by (superblock_of s.opened) (just_opened s.opened.meta.number (opening_of s)) s.history

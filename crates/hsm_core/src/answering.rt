@@ -1,6 +1,6 @@
 //! Answers to callers: to the calls that they issue, and to their resumes of accesses that wait. Each reply comes twice, for the caller and for the
 //! history.
-ghost use Rattle.std.specs.Prelude.{◌≡◌, ◌<◌, ◌≤◌, ◌+◌, ◌^◌, false, true, Some, None, if◌then◌else◌, IfSome, IsSomeAnd, MatchOption, OnOk, IsOk};
+ghost use Rattle.std.specs.Prelude.{◌≡◌, ◌<◌, ◌≤◌, ◌+◌, ◌^◌, false, true, Some, None, if◌then◌else◌, IfSome, IsSomeAnd, MatchOption, IfOk, OnOk, IsOk};
 ghost use Rattle.hsm_types.specs.declared.calls.Call.TheVariants.{Sync};
 ghost use Rattle.hsm_types.specs.declared.dm.Response.{Response};
 ghost use Rattle.plain_model.specs.declared.entries.Action.TheVariants.{Issue, Resume};
@@ -10,7 +10,6 @@ ghost use Rattle.plain_model.specs.Plain.{refusal_of};
 ghost use Rattle.plain_model.specs.State.{names_of};
 ghost use Rattle.plain_model.specs.Stands.{InOrder};
 ghost use Rattle.plain_model.specs.Synced.{syncs};
-ghost use Rattle.plain_model.specs.Verdict.{reply_to};
 ghost use Rattle.indexmap.specs.IndexMap.{spare};
 ghost use Rattle.dm_service.specs.Services.{AreBoth};
 ghost use Rattle.dm_service.specs.Tables.{awaited_in, ledger_of, pending_as, waiting};
@@ -48,7 +47,7 @@ pub(crate) fn answer<D: Disk>(
     requires fresh { is_fresh access.now ≡ true }
     requires ordered { InOrder (state_with files.old.held stamps.old.entries service.old number) }
     ensures replied { IsReplied D.Disk files.old number stamps.old.entries service.old caller (Issue access.now.call) result files.new stamps.new.entries service.new }
-    ensures synced { syncs (Issue access.now.call) (Replied (reply_to (superblock_of files.old) (state_with files.old.held stamps.old.entries service.old number) caller (Issue access.now.call))) ≡ true → OnOk result (IsSynced D.Disk number files.old files.new) }
+    ensures synced { IfOk result (λ r. syncs (Issue access.now.call) (Replied r.0) ≡ true → IsSynced D.Disk number files.old files.new) }
     ensures room { OnOk result (awaited_in service.new ≤ awaited_in service.old + 2) }
 {
     if service.pending(caller).is_some() {

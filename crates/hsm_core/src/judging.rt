@@ -82,7 +82,7 @@ fn find<D: Disk>(files: &FileStore<D>, name: &Word) -> Result<Target, CallRefusa
     match lookups::find(files, name) {
         Some(key) => Ok(Target {
             key,
-            size: files.body(key).len(),
+            size: files.size(key),
         }),
         None => Err(CallRefusal::Missing),
     }
@@ -95,7 +95,7 @@ pub(crate) fn find_again<D: Disk>(files: &FileStore<D>, key: FileKey) -> Option<
     if lookups::is_live(files, key) {
         Some(Target {
             key,
-            size: files.body(key).len(),
+            size: files.size(key),
         })
     } else {
         None

@@ -1,11 +1,13 @@
 //! Calls that nothing refuses, done by the key of their file. Each reply comes twice, for the caller and for the history.
-ghost use Rattle.std.specs.Prelude.{◌≡◌, ◌≤◌, ◌+◌, false, Some, None, IsSome, IfOk, OnOk, length};
+ghost use Rattle.std.specs.Prelude.{◌≡◌, ◌≤◌, ◌+◌, false, Some, None, ℕ, IsSome, IfOk, OnOk, length};
+ghost use Rattle.disk_model.specs.Moments.{Tells};
 ghost use Rattle.hsm_types.specs.declared.calls.Call.TheVariants.{Create, Sync};
 ghost use Rattle.hsm_types.specs.declared.calls.Reply.TheVariants.{Made, Data};
 ghost use Rattle.hsm_types.specs.Keyed.{find_key};
 ghost use Rattle.plain_model.specs.Plain.{read_at, refusal_of};
 ghost use Rattle.plain_model.specs.Effects.{effect_of, Makes, Writes, Resizes, Drops};
 ghost use Rattle.plain_model.specs.Blocks.{touched};
+ghost use Rattle.plain_model.specs.Seen.{IsOfSeen};
 ghost use Rattle.plain_model.specs.Sound.{IsSound};
 ghost use Rattle.plain_model.specs.State.{names_of, next_key, file_at, bytes_of, used, affected_held};
 ghost use Rattle.plain_model.specs.Verdict.{shortage, done_reply, done_held};
@@ -19,7 +21,7 @@ use crate::judging::Target;
 use disk_model::Disk;
 use file_store::{FileStore, StoreRefusal};
 use hsm_types::{Bytes, Call, FileKey, Reply, Word};
-use std::alloc::{AllocError, Global};
+use std::alloc::Global;
 
 /// Does a call on a file.
 pub(crate) fn perform<D: Disk>(
@@ -36,12 +38,12 @@ pub(crate) fn perform<D: Disk>(
     requires fits { shortage (superblock_of files.old) files.old.held target.key call.now ≡ None }
     requires mapped { used files.old.held.files ≤ (superblock_of files.old).geometry.blocks }
     requires sound { IsSound (effect_of call.now) (file_at target.key files.old.held.files) }
-    ensures reply { IfOk result (λ r. AreBoth (done_reply files.old.held target.key call.now) r) }
+    ensures reply { IfOk result (λ r. IsOfSeen (Tells D.Disk files.new.disk) files.old.held (λ seen. AreBoth (done_reply seen target.key call.now) r)) }
     ensures held { OnOk result (files.new.held ≡ done_held files.old.held target.key call.now) }
     ensures ends { Ends D.Disk files.old number None result files.new }
 {
     match call {
-        Call::Read { offset, len, .. } => { Ok(read(files, alloc, target.key, *offset, *len)?) }
+        Call::Read { offset, len, .. } => read(files, alloc, target.key, *offset, *len),
         Call::Write { offset, body, .. } => {
             write(files, alloc, target.key, *offset, body, number)
         }
@@ -97,16 +99,19 @@ fn create<D: Disk>(
 
 /// Reads at most `len` bytes from the offset on, and copies them once for the history.
 fn read<D: Disk>(
-    files: &FileStore<D>,
+    files: &mut FileStore<D>,
     alloc: Global,
     key: FileKey,
     offset: u64,
     len: u64,
-) -> Result<(Reply, Reply), AllocError>
-    requires { IsSome (find_key (λ f. f.key) key files.now.held.files) }
-    ensures reply { IfOk result (λ r. AreBoth (Data (read_at offset len (bytes_of key files.now.held.files))) r) }
+) -> Result<(Reply, Reply), StoreRefusal>
+    requires working { files.old.failed ≡ false }
+    requires live { IsSome (find_key (λ f. f.key) key files.old.held.files) }
+    ensures reply { IfOk result (λ r. IsOfSeen (Tells D.Disk files.new.disk) files.old.held (λ seen. AreBoth (Data (read_at offset len (bytes_of key seen.files))) r)) }
+    ensures held { files.new.held ≡ files.old.held }
+    ensures ends { (n : ℕ) → Ends D.Disk files.old n None result files.new }
 {
-    let bytes = files.body(key).read(alloc, offset, len)?;
+    let bytes = files.read(alloc, key, offset, len)?;
     let again = bytes.clone()?;
     Ok((Reply::Data(bytes), Reply::Data(again)))
 }

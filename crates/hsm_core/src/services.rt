@@ -1,7 +1,10 @@
 //! Answers to sessions: a call is judged by its scope, and then by itself. Each reply comes twice, for the session and for the history.
 ghost use Rattle.std.specs.Prelude.{◌≡◌, ◌≤◌, ◌+◌, false, true, None, IfOk, IsOk, OnOk, OnErr};
+ghost use Rattle.disk_model.specs.Moments.{Tells};
 ghost use Rattle.hsm_types.specs.Calls.{scope_of};
-ghost use Rattle.plain_model.specs.Services.{dm_reply_to, dm_state_after};
+ghost use Rattle.plain_model.specs.Exact.{left_told};
+ghost use Rattle.plain_model.specs.Seen.{IsOfSeen};
+ghost use Rattle.plain_model.specs.Services.{dm_reply_to};
 ghost use Rattle.plain_model.specs.Stands.{InOrder};
 ghost use Rattle.dm_service.specs.Handing.{HandsOut};
 ghost use Rattle.dm_service.specs.Services.{AreBoth, asks_rights, asks_tables, entries_for, is_due, wants_entry_alone};
@@ -9,7 +12,7 @@ ghost use Rattle.dm_service.specs.Tables.{Tables, awaited_in};
 ghost use Rattle.file_store.specs.Stores.{superblock_of, Proceeds};
 ghost use Rattle.file_store.specs.Changes.{Ends};
 ghost use Rattle.hsm_core.specs.Store.{state_with};
-ghost use Rattle.hsm_core.specs.Services.{AreOf, IsInScope, IsPerformed, IsServed, asked, changes_file};
+ghost use Rattle.hsm_core.specs.Services.{AreOf, IsInScope, IsPerformed, IsServed, asked, changes_file, reads_bytes};
 
 mod attributes;
 mod handles;
@@ -47,8 +50,8 @@ pub(crate) fn serve<D: Disk>(
     requires working { files.old.failed ≡ false }
     requires idle { Proceeds D.Disk files.old number files.old }
     requires ordered { InOrder (state_with files.old.held stamps.now.entries service.old number) }
-    ensures replies { IfOk result (λ r. AreBoth (dm_reply_to (superblock_of files.old) (state_with files.old.held stamps.now.entries service.old number) sid call.now) r) }
-    ensures left { OnOk result (state_with files.new.held stamps.now.entries service.new (number + 1) ≡ dm_state_after (superblock_of files.old) (state_with files.old.held stamps.now.entries service.old number) sid call.now) }
+    ensures replies { IfOk result (λ r. IsOfSeen (Tells D.Disk files.new.disk) files.old.held (λ seen. AreBoth (dm_reply_to (superblock_of files.old) (state_with seen stamps.now.entries service.old number) sid call.now) r)) }
+    ensures left { IfOk result (λ r. state_with files.new.held stamps.now.entries service.new (number + 1) ≡ left_told (state_with files.old.held stamps.now.entries service.old number) sid call.now r.1) }
     ensures err { OnErr result (service.new ≡ service.old) }
     ensures packed { IfOk result (λ r. HandsOut service.old.sessions sid call.now r.0) }
     ensures responds { is_due service.old.sessions sid call.now ≡ true → IsOk result }
@@ -86,6 +89,15 @@ fn perform<D: Disk>(
 {
     if changes_file(call) {
         return change(files, alloc, call, number);
+    }
+    if let DmCall::ReadInvis {
+        handle,
+        offset,
+        len,
+        ..
+    } = call
+    {
+        return invisible::read(files, alloc, *handle, *offset, *len);
     }
     Ok(tell(files, stamps, alloc, sid, call)?)
 }
@@ -144,7 +156,7 @@ fn change<D: Disk>(
     }
 }
 
-/// Serves a call on files that changes nothing.
+/// Serves a call on files that changes nothing and reads no bytes.
 fn tell<D: Disk>(
     files: &FileStore<D>,
     stamps: &IndexMap<FileKey, u64>,
@@ -155,6 +167,7 @@ fn tell<D: Disk>(
     requires files { asks_tables call.now ≡ false }
     requires bodies { asks_rights call.now ≡ false }
     requires tells { changes_file call.now ≡ false }
+    requires apart { reads_bytes call.now ≡ false }
     requires within { IsInScope files.now.held.files (scope_of call.now) }
     ensures { (t : Tables) → IfOk result (λ r. AreOf (asked (superblock_of files.now) files.now.held stamps.now.entries t sid call.now) r) }
 {
@@ -163,12 +176,6 @@ fn tell<D: Disk>(
         DmCall::GetRegion { handle, .. } => regions::list(files, *handle),
         DmCall::GetDmAttr { handle, name, .. } => attributes::value(files, *handle, *name),
         DmCall::GetAllDmAttr { handle, .. } => attributes::list(files, alloc, *handle),
-        DmCall::ReadInvis {
-            handle,
-            offset,
-            len,
-            ..
-        } => invisible::read(files, alloc, *handle, *offset, *len),
         DmCall::ProbeHole {
             handle,
             offset,

@@ -84,7 +84,7 @@ impl<D: Disk> Model for Hsm<D> {
 
     ghost view = { λ h. record { opened = h.opened.value; files = h.files; stamps = h.stamps.entries; tables = h.service; history = h.history.items; spare = vec_capacity h.history - (vec_len h.history + awaited_in h.service) } };
 
-    ghost invariant = { λ h. HasRun (record { opened = h.opened.value; files = h.files; stamps = h.stamps.entries; tables = h.service; history = h.history.items; spare = vec_capacity h.history - (vec_len h.history + awaited_in h.service) })
+    ghost invariant = { λ h. HasRun D.Disk (record { opened = h.opened.value; files = h.files; stamps = h.stamps.entries; tables = h.service; history = h.history.items; spare = vec_capacity h.history - (vec_len h.history + awaited_in h.service) })
         × IsSafe D.Disk (record { opened = h.opened.value; files = h.files; stamps = h.stamps.entries; tables = h.service; history = h.history.items; spare = vec_capacity h.history - (vec_len h.history + awaited_in h.service) })
         × (h.base ≡ h.opened.value.meta.number) × (h.base ≤ last_number)
         × (vec_len h.history + awaited_in h.service ≤ vec_capacity h.history) × EachLasts (superblock_of h.opened.value).geometry.limits (ledger_of h.service)
@@ -496,7 +496,7 @@ impl<D: Disk> Hsm<D> {
     /// The events since the opening.
     pub fn history(&self) -> &[Entry]
         ensures entries { result.now ≡ self.now.history }
-        ensures kept { IsKept self.now }
+        ensures kept { IsKept D.Disk self.now }
     {
         run_is_good();
         self.history.as_slice()
@@ -518,7 +518,7 @@ impl<D: Disk> Hsm<D> {
         ensures entries { result.1 ≡ self.history }
         ensures opened { result.2.value ≡ self.opened }
         ensures durable { self.files.failed ≡ false → (c : List ℕ) → MayBe D.Disk self.files.disk c → IsDurable self.files c }
-        ensures kept { IsKept self }
+        ensures kept { IsKept D.Disk self }
 
         // What a crash leaves: at any moment since the opening what the first entries have left, and from now on all that was synced.
         ensures since { LeavesOnly D.Disk self.opened.disk self.files.disk (IsPrefix self.opened self.history 0) }

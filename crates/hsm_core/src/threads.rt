@@ -10,9 +10,9 @@ use std::sync::{Mutex, Wait};
 use std::thread;
 use std::thread::Threads;
 
-/// Counts the entries of the store that is under the lock. Of that store nothing is known but that its history is a good run.
+/// Counts the entries of the store that is under the lock. Of that store nothing is known but what its history keeps.
 fn count<D: Disk + Drop, R: Wait>(rt: &R, locked: &Mutex<Hsm<D>>) -> usize
-    ensures { (s : Store D) × IsKept s × (result ≡ length s.history) }
+    ensures { (s : Store D) × IsKept D.Disk s × (result ≡ length s.history) }
 {
     locked.lock(rt).history().len()
 }
@@ -22,14 +22,14 @@ fn count_elsewhere<D: Disk + Drop + Send, R: Threads + Wait + Sync>(
     rt: &R,
     hsm: Hsm<D>,
 ) -> (usize, Hsm<D>)
-    ensures { (s : Store D) × IsKept s × (result.0 ≡ length s.history) }
+    ensures { (s : Store D) × IsKept D.Disk s × (result.0 ≡ length s.history) }
 {
     let locked = Mutex::new(hsm);
     let shared = &locked;
     let (counted, ()) = thread::join(
         rt,
         || -> usize
-            ensures { (s : Store D) × IsKept s × (result ≡ length s.history) }
+            ensures { (s : Store D) × IsKept D.Disk s × (result ≡ length s.history) }
         { count(rt, shared) },
         || (),
     );

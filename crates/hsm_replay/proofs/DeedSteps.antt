@@ -202,7 +202,7 @@ module _ {D M : Type 0} (g : disk.Ghosts D) (h : drive.Ghosts M) (law : h.sure �
       let serves = performs.0.2 in
       let left : System D = performs.0.1 in
       let goes = behind asked moved moves new (Hears daemon asked told) (answered_hears g daemon sid call moved new.system (awaits asked moved moves new) performs.0) in
-      let worked : moved.store.files.failed ≡ false = ((event_goes g moved.store (Session sid) (action.Dm call) (answer.Dm performs.0.0) left.store tt serves.made.told).quiet serves.still).0 in
+      let worked : moved.store.files.failed ≡ false = ((event_goes g moved.store (Session sid) (action.Dm call) (answer.Dm performs.0.0) left.store serves.made.told).quiet serves.still).0 in
       record {
         told = told;
         fits = (serves.served stop.Disk, serves.served stop.Memory);

@@ -12,7 +12,6 @@ use Rattle.plain_model.specs.declared.entries.Action.TheVariants.{Issue, Resume,
 use Rattle.plain_model.specs.declared.entries.Actor.{Actor}
 use Rattle.plain_model.specs.declared.entries.Actor.TheVariants.{Caller, Session, Store as TheStore}
 use Rattle.plain_model.specs.declared.entries.Answer.{Answer}
-use Rattle.plain_model.specs.Faults.{Acts}
 use Rattle.script_text.specs.Lines.{IsEvent}
 use Rattle.script_text.specs.declared.lines.Line.TheVariants.{Event}
 use Rattle.hsm_core.specs.Answers.{entry_of}
@@ -24,7 +23,6 @@ use Rattle.deeds.specs.Deeds as deeds
 use Rattle.hsm_system.specs.Events.{Runs, IsDone, actor_of, action_of}
 use Rattle.hsm_system.specs.Systems.{System}
 use Rattle.hsm_system.specs.declared.events.Event.{Event as Made}
-use Rattle.hsm_system.specs.declared.events.Event.TheVariants as made
 use Rattle.hsm_system.specs.declared.stops.Stop.{Stop}
 use Rattle.hsm_system.proofs.Going.{event_kept_or_not}
 use Rattle.hsm_replay.specs.Doing.{Does}
@@ -74,16 +72,6 @@ no_deed_names (Dm other) none = tt
 no_deed_names (Issue call) none = tt
 no_deed_names Resume none = tt
 no_deed_names Commit none = tt
-
--- each is of its actor
-event_acts : (event : Made) → Acts (actor_of event) (action_of event)
-event_acts (made.Issue caller call) = tt
-event_acts (made.Resume caller) = tt
-event_acts (made.Dm sid call) = tt
-event_acts made.Commit = tt
-
-pub acts_by : (event : Made) (actor : Actor) (action : Action) → actor_of event ≡ actor → action_of event ≡ action → Acts actor action
-acts_by event actor action who what = subst (λ (a : Actor). Acts a action) who (subst (λ (x : Action). Acts (actor_of event) x) what (event_acts event))
 
 -- what comes of it is what comes of its action
 pub made_by : {D : Type 0} (g : disk.Ghosts D) (event : Made) (actor : Actor) (action : Action) → actor_of event ≡ actor → action_of event ≡ action → (result : Result (Unit {0}) Stop) (old new : System D)
@@ -162,9 +150,9 @@ module _ {D M : Type 0} (g : disk.Ghosts D) (h : drive.Ghosts M) (old new : Run 
   pub event_leaves : new ≡ record old { system = record old.system { store = new.system.store } }
   event_leaves = rest ∙ ap (λ (s : System D). record old { system = s }) done.rest
 
-  pub event_moves : Acts actor action → NamesNoFault action → Moves g h (IsEventOf actor action) result old new
-  event_moves acts none =
-      let may = event_kept_or_not g old.system.store actor action done.given new.system.store acts done.answer in
+  pub event_moves : NamesNoFault action → Moves g h (IsEventOf actor action) result old new
+  event_moves none =
+      let may = event_kept_or_not g old.system.store actor action done.given new.system.store done.answer in
       subst (λ (s : Run D M). Moves g h (IsEventOf actor action) result old s) (sym event_leaves) (moves_by g h old new.system.store actor action done.given none result done.runs done.kept may)
 
   pub event_does : (seed : Option ℕ) → Does g h (Event actor action seed) result old new

@@ -74,7 +74,7 @@ module _ {D M : Type 0} (g : disk.Ghosts D) (h : drive.Ghosts M) where
 
   -- the call of a daemon that the store answered
   served_runs : {T : Type 0} (x : T) (sid : Sid) (asked : DmCall) (reply : DmReply) (old left : System D) → Serves g sid asked reply old left → Runs g (Ok x) old.store left.store
-  served_runs x sid asked reply old left serves = record { goes_on = event_goes g old.store (Session sid) (action.Dm asked) (answer.Dm reply) left.store tt serves.made.told; works = λ working. serves.still }
+  served_runs x sid asked reply old left serves = record { goes_on = event_goes g old.store (Session sid) (action.Dm asked) (answer.Dm reply) left.store serves.made.told; works = λ working. serves.still }
 
   -- no event
   rest_runs : {T : Type 0} (x : T) (s : Store D) → Runs g (Ok x) s s
@@ -186,8 +186,8 @@ module _ {D M : Type 0} (g : disk.Ghosts D) (h : drive.Ghosts M) where
   -- the call of a daemon that the store didn't answer itself
   stopped_runs : (why : Stop) (sid : Sid) (asked : DmCall) (old left : System D) → StopsCall g sid asked why old left → Runs g {T = Unit {0}} (Err why) old.store left.store
   stopped_runs why sid asked old left stops = record {
-    goes_on = event_goes g old.store (Session sid) (action.Dm asked) (answer.Dm (reply_of why)) left.store tt stops.made.told;
-    works = stopped_for g old.store (Session sid) (action.Dm asked) (answer.Dm (reply_of why)) left.store tt why stops.made.told (session_stop why asked);
+    goes_on = event_goes g old.store (Session sid) (action.Dm asked) (answer.Dm (reply_of why)) left.store stops.made.told;
+    works = stopped_for g old.store (Session sid) (action.Dm asked) (answer.Dm (reply_of why)) left.store why stops.made.told (session_stop why asked);
   }
 
   -- the run lacked memory, and no event was made

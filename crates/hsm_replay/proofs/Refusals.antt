@@ -25,7 +25,7 @@ use Rattle.hsm_types.specs.declared.stores.Superblock.{Superblock}
 use Rattle.plain_model.specs.declared.entries.Answer.TheVariants.{Dm as Told}
 use Rattle.plain_model.specs.declared.entries.Entry.{Entry}
 use Rattle.plain_model.specs.Services.{bad_own_token, is_live, bad_handle, dm_judged, dm_reply_where, dm_reply_to}
-use Rattle.plain_model.specs.State.{State}
+use Rattle.plain_model.specs.State.{Held, State}
 use Rattle.file_store.specs.Stores.{superblock_of}
 use Rattle.hsm_core.specs.Answers.{IsTold}
 use Rattle.hsm_core.specs.Store.{Store, state_of}
@@ -36,13 +36,16 @@ use Rattle.hsm_system.specs.Acts.{AddsCall}
 longer : (xs : List Entry) (e : Entry) → xs ≡ xs ++ e ∷ [] → ⊥
 longer xs e is = let more : length xs ≡ length xs + 1 = ap (λ (ys : List Entry). length ys) is ∙ length-append xs (e ∷ []) in omega (arith, more)
 
--- a call that the history has, and after which the store works
+-- A call that the history has, and after which the store works, was answered over what was seen of the files.
 pub own_reply : {D : Type 0} (g : disk.Ghosts D) (old new : Store D) (sid : Sid) (call : DmCall) (reply : DmReply) → IsTold g old sid call reply new → AddsCall sid call reply old new → new.files.failed ≡ false
-    → reply ≡ dm_reply_to (superblock_of old.opened) (state_of old) sid call
+    → (seen : Held) × (reply ≡ dm_reply_to (superblock_of old.opened) (record (state_of old) { held = seen }) sid call)
 own_reply g old new sid call reply (inl closed) added still = absurd (false≢true (sym still ∙ ap (λ (s : Store _). s.files.failed) closed.same ∙ closed.failed))
 own_reply g old new sid call reply (inr (inl lacks)) added still = absurd (longer old.history _ (sym lacks.history ∙ added))
 own_reply g old new sid call reply (inr (inr (inl failed))) added still = absurd (false≢true (sym still ∙ failed.failed))
-own_reply g old new sid call reply (inr (inr (inr done))) added still = let given : Told reply ≡ Told (dm_reply_to (superblock_of old.opened) (state_of old) sid call) = done.answer in let is : reply ≡ dm_reply_to (superblock_of old.opened) (state_of old) sid call = cc given in is
+own_reply g old new sid call reply (inr (inr (inr done))) added still =
+    let seen : State = record (state_of old) { held = done.answer.0 } in
+    let given : Told reply ≡ Told (dm_reply_to (superblock_of old.opened) seen sid call) = done.answer.2.1 in
+    (done.answer.0, (let is : reply ≡ dm_reply_to (superblock_of old.opened) seen sid call = cc given in is))
 
 -- ---- the first that refuses
 

@@ -5,6 +5,8 @@ use Rattle.std.proofs.Common.{ap₂, subst, append_assoc, arith, Contains}
 use Rattle.std.proofs.lemmas.Bool.{false≢true}
 use Rattle.std.proofs.lemmas.List.Elements.{All-contains, All-from_recursion, Contains-append_left, Contains-append_right, Contains-push}
 use Rattle.std.specs.List.{AllByRecursion}
+use Rattle.disk_model.specs.declared.device.Disk as disk
+use Rattle.disk_model.specs.Moments.{Tells}
 use Rattle.media_model.specs.declared.drive.Drive as drive
 use Rattle.hsm_types.specs.Rights.{Rights}
 use Rattle.hsm_types.specs.Sessions.{lives}
@@ -27,6 +29,7 @@ use Rattle.plain_model.specs.declared.entries.Answer.{Answer}
 use Rattle.plain_model.specs.declared.entries.Answer.TheVariants.{Dm as Told}
 use Rattle.plain_model.specs.declared.entries.Entry.{Entry}
 use Rattle.plain_model.specs.Exact.{state_by}
+use Rattle.plain_model.specs.Laws.{IsRun}
 use Rattle.plain_model.specs.State.{State, just_opened}
 use Rattle.file_store.specs.Stores.{superblock_of}
 use Rattle.hsm_policy.specs.Settings.{Numbers}
@@ -52,7 +55,7 @@ use Rattle.hsm_replay.specs.Resting.{EndsInTurns, first_of, IsSettledIn, IsLeftB
 use Rattle.hsm_replay.specs.Systems.{refreshed, told_next}
 use Rattle.marked_history.specs.Served.{Shown, nothing_shown, learned, shown, IsTold}
 use Rattle.hsm_replay.specs.Settled as settled
-use Rattle.marked_history.specs.Settling.{IsAtWork, IsTurnedAway, BeginsPass, IsCrowded}
+use Rattle.marked_history.specs.Settling.{IsAtWork, IsTurnedAway, BeginsPass, IsCrowded, HasSettled}
 use Rattle.hsm_replay.specs.Systems.{Run, running}
 use Rattle.marked_history.specs.Waiting.{runs, no_more, unserved, PutsOff, RecallRests, MigrateRests, IsAtRest, AllMayWait}
 use Rattle.hsm_replay.proofs.Begun.{begins_pass}
@@ -260,7 +263,10 @@ module _ {D M : Type 0} (h : drive.Ghosts M) (opened : List M) (marks : List Mar
   migrate_rests : is_some s.system.migrate ≡ true → EndsRefused turns.migrate_turn ⊎ MigrateRests k.migrate.seat turns.migrate_turn
   migrate_rests = migrate_ends s.system.limits turns.migrate_turn k.migrate s.system.migrate turns.migrate shows.migrate
 
-  module _ (kept : IsKept s.system.store) (working : s.system.store.files.failed ≡ false) where
+  module _ (g : disk.Ghosts D) (kept : IsKept g s.system.store) (working : s.system.store.files.failed ≡ false) (tells : Tells g s.system.store.files.disk) where
+    abbrev run : IsRun (superblock_of s.system.store.opened) s.system.store.opened.meta.number s.system.store.opened.held s.system.store.history
+    run = (kept.good tells).run
+
     at_rest : IsAtRest (running s) k (superblock_of s.system.store.opened) (just_opened s.system.store.opened.meta.number s.system.store.opened.held) s.system.store.history
     at_rest = record {
       before = from;
@@ -270,13 +276,13 @@ module _ {D M : Type 0} (h : drive.Ghosts M) (opened : List M) (marks : List Mar
       quiet = turns.quiet;
       recall = λ runs. unseated_or k.recall.seat turns.recall_turn (RecallRests k.recall.seat turns.recall_turn) recall_none (recall_rests runs);
       migrate = λ runs. unseated_or k.migrate.seat turns.migrate_turn (MigrateRests k.migrate.seat turns.migrate_turn) migrate_none (migrate_rests runs);
-      waits = λ c a caller waits. ready_waits s.system.store kept working c a waits (turns.ready c caller);
+      waits = λ c a caller waits. ready_waits s.system.store (kept.state working) working c a waits (turns.ready c caller);
     }
 
     wait_rightly : AllMayWait (running s) k marks (superblock_of s.system.store.opened) (state_by (superblock_of s.system.store.opened) (first_of s) (entries_of marks))
     wait_rightly =
         subst (λ (es : List Entry). AllMayWait (running s) k marks (superblock_of s.system.store.opened) (state_by (superblock_of s.system.store.opened) (first_of s) es)) (sym shows.marked.entries)
-        (settled_waits (running s) s.system.limits (superblock_of s.system.store.opened) s.system.store.opened.meta.number s.system.store.opened.held marks s.system.store.history shows.marked.entries shows.marked.served kept.good.run kept.packed at_rest)
+        (settled_waits (running s) s.system.limits (superblock_of s.system.store.opened) s.system.store.opened.meta.number s.system.store.opened.held marks s.system.store.history shows.marked.entries shows.marked.served run kept.packed at_rest)
 
     -- ---- what was told in the turns
 
@@ -291,7 +297,7 @@ module _ {D M : Type 0} (h : drive.Ghosts M) (opened : List M) (marks : List Mar
 
     -- a session that was told of no more events lives
     still_lives : (sid : Sid) → Contains both (no_more sid) → lives sid (behind (entries_of marks)).sessions ≡ true
-    still_lives sid there = subst (λ (es : List Entry). lives sid (behind es).sessions ≡ true) (sym shows.marked.entries) (lives_still (superblock_of s.system.store.opened) (first_of s) s.system.store.history from both kept.good.run.exact ends_with_both turns.quiet sid there)
+    still_lives sid there = subst (λ (es : List Entry). lives sid (behind es).sessions ≡ true) (sym shows.marked.entries) (lives_still (superblock_of s.system.store.opened) (first_of s) s.system.store.history from both run.exact ends_with_both turns.quiet sid there)
 
     recall_lives : (rests : RecallRests k.recall.seat turns.recall_turn) → lives rests.sid (behind (entries_of marks)).sessions ≡ true
     recall_lives rests = still_lives rests.sid (Contains-append_left turns.recall_turn turns.migrate_turn (no_more rests.sid) (ends_with turns.recall_turn rests.first rests.sid rests.ends))
@@ -302,7 +308,7 @@ module _ {D M : Type 0} (h : drive.Ghosts M) (opened : List M) (marks : List Mar
     -- with enough space the store isn't crowded
     not_crowded : HadSpace s.system.limits turns.migrate_turn → IsCrowded s.system.limits (superblock_of s.system.store.opened) (behind (entries_of marks)) → ⊥
     not_crowded had crowded =
-        spacious_still (superblock_of s.system.store.opened) (first_of s) s.system.store.history from both kept.good.run.exact ends_with_both turns.quiet s.system.limits had.1.0 had.0 (Contains-append_right turns.recall_turn turns.migrate_turn _ had.1.1) had.2
+        spacious_still (superblock_of s.system.store.opened) (first_of s) s.system.store.history from both run.exact ends_with_both turns.quiet s.system.limits had.1.0 had.0 (Contains-append_right turns.recall_turn turns.migrate_turn _ had.1.1) had.2
         (subst (λ (es : List Entry). IsCrowded s.system.limits (superblock_of s.system.store.opened) (behind es)) shows.marked.entries crowded)
 
     module _ (Began : Type 0) (fresh : IsFresh s ⊎ Began) (runs : is_some s.system.migrate ≡ true) (sid : Sid) (seated : IsSeated k.migrate.seat sid) (crowded : IsCrowded s.system.limits (superblock_of s.system.store.opened) (behind (entries_of marks))) where
@@ -333,14 +339,14 @@ module _ {D M : Type 0} (h : drive.Ghosts M) (opened : List M) (before part : Li
   abbrev left : State
   left = state_by (superblock_of s.system.store.opened) (first_of s) (entries_of whole)
 
-  module _ (kept : IsKept s.system.store) (working : s.system.store.files.failed ≡ false) where
+  module _ (g : disk.Ghosts D) (kept : IsKept g s.system.store) (working : s.system.store.files.failed ≡ false) (tells : Tells g s.system.store.files.disk) where
     recall_has : EndsRefused turns.recall_turn ⊎ RecallRests known.recall.seat turns.recall_turn → IsAtWork Recall known left part ⊎ IsTurnedAway Recall part
     recall_has (inl refused) = inr (recall_turned_away s.system.limits before part shows.marked.served turns.recall_turn turns.migrate_turn ends refused)
-    recall_has (inr rests) = inl (record { sid = rests.sid; seated = rests.seated; live = recall_lives h opened whole s shows from turns all_ends kept working rests; told = recall_told part turns.recall_turn turns.migrate_turn ends rests.sid rests.first rests.ends })
+    recall_has (inr rests) = inl (record { sid = rests.sid; seated = rests.seated; live = recall_lives h opened whole s shows from turns all_ends g kept working tells rests; told = recall_told part turns.recall_turn turns.migrate_turn ends rests.sid rests.first rests.ends })
 
     migrate_has : EndsRefused turns.migrate_turn ⊎ MigrateRests known.migrate.seat turns.migrate_turn → IsAtWork Migrate known left part ⊎ IsTurnedAway Migrate part
     migrate_has (inl refused) = inr (migrate_turned_away s.system.limits before part shows.marked.served turns.recall_turn turns.migrate_turn ends refused)
-    migrate_has (inr rests) = inl (record { sid = rests.sid; seated = rests.seated; live = migrate_lives h opened whole s shows from turns all_ends kept working rests; told = migrate_told part turns.recall_turn turns.migrate_turn ends rests.sid rests.first rests.ends })
+    migrate_has (inr rests) = inl (record { sid = rests.sid; seated = rests.seated; live = migrate_lives h opened whole s shows from turns all_ends g kept working tells rests; told = migrate_told part turns.recall_turn turns.migrate_turn ends rests.sid rests.first rests.ends })
 
     each_works : (daemon : Daemon) → runs daemon (running s) ≡ true → IsAtWork daemon known left part ⊎ IsTurnedAway daemon part
     each_works Recall runs = recall_has (recall_rests h opened whole s shows from turns all_ends runs)
@@ -353,16 +359,16 @@ module _ {D M : Type 0} (h : drive.Ghosts M) (opened : List M) (before part : Li
           let same : entries_of part ≡ fresh.0 = marked_since before part old.system.store.history s.system.store.history fresh.0 was shows.marked.entries fresh.1 in
           inr (begins_pass s.system.limits before part shows.marked.served settles (subst IsToldTable (sym same) told))
 
-      has_settled : IsSettledIn s before part
+      has_settled : HasSettled s.system.limits (superblock_of s.system.store.opened) (first_of s) (running s) before part
       has_settled = record {
-        waits = wait_rightly h opened whole s shows from turns all_ends kept working;
+        waits = wait_rightly h opened whole s shows from turns all_ends g kept working tells;
         works = each_works;
-        spares = has_begun h opened whole s shows from turns all_ends kept working (BeginsPass part) (may_or_began (fresh.2 (refreshed_fresh old)));
+        spares = has_begun h opened whole s shows from turns all_ends g kept working tells (BeginsPass part) (may_or_began (fresh.2 (refreshed_fresh old)));
       }
 
 -- a settling that came to rest
-pub settles_rightly : {D M : Type 0} (h : drive.Ghosts M) (old mid new : Run D M) → running mid ≡ running old → Keeps h (AllByRecursion IsOfSettling) old mid → EndsMarked h mid new → StaysFresh (refreshed old) new → IsKept new.system.store → new.system.store.files.failed ≡ false → LeadsTo h (AllByRecursion IsOfSettling) (IsSettledIn new) old new
-settles_rightly h old mid new runs keeps ends fresh kept working opened marks shows =
+pub settles_rightly : {D M : Type 0} (g : disk.Ghosts D) (h : drive.Ghosts M) (old mid new : Run D M) → running mid ≡ running old → Keeps h (AllByRecursion IsOfSettling) old mid → EndsMarked h mid new → StaysFresh (refreshed old) new → IsKept g new.system.store → new.system.store.files.failed ≡ false → LeadsTo h (AllByRecursion IsOfSettling) (IsSettledIn g new) old new
+settles_rightly g h old mid new runs keeps ends fresh kept working opened marks shows =
     let one = keeps opened marks shows in
     let two = ends.1 opened (marks ++ one.0) one.2 in
     let settles : AllByRecursion IsOfSettling (one.0 ++ two.0) = all_then IsOfSettling one.0 two.0 one.1 two.1 in
@@ -370,7 +376,7 @@ settles_rightly h old mid new runs keeps ends fresh kept working opened marks sh
       one.0 ++ two.0,
       settles,
       then,
-      has_settled h opened marks (one.0 ++ two.0) old new shows.marked.entries then mid.system.store.history ends.0 (ends_later one.0 two.0 ends.0.recall_turn ends.0.migrate_turn two.3) kept working settles fresh,
+      λ tells. has_settled h opened marks (one.0 ++ two.0) old new shows.marked.entries then mid.system.store.history ends.0 (ends_later one.0 two.0 ends.0.recall_turn ends.0.migrate_turn two.3) g kept working tells settles fresh,
       by_running_then (running old) (running mid) one.0 two.0 runs one.3 two.4,
       live_then old mid new marks one.0 two.0 runs one.4 two.5,
     )
@@ -383,7 +389,7 @@ keeps_leads h IsPart IsSo (Ok done) old new keeps so = λ working opened marks s
 keeps_leads h IsPart IsSo (Err why) old new keeps so = λ working. tt
 
 -- the daemons live through a settle
-pub settle_leads : {D M T : Type 0} (h : drive.Ghosts M) (result : Result T Stop) (old new : Run D M) → running new ≡ running old → LeadsOn h (AllByRecursion IsOfSettling) (IsSettledIn new) result old new → LeadsOn h (IsPartOf Settle) (IsLeftBy Settle old new) result old new
-settle_leads h (Ok done) old new same leads = λ working opened marks shows.
+pub settle_leads : {D M T : Type 0} (g : disk.Ghosts D) (h : drive.Ghosts M) (result : Result T Stop) (old new : Run D M) → running new ≡ running old → LeadsOn h (AllByRecursion IsOfSettling) (IsSettledIn g new) result old new → LeadsOn h (IsPartOf Settle) (IsLeftBy g Settle old new) result old new
+settle_leads g h (Ok done) old new same leads = λ working opened marks shows.
     let one = leads working opened marks shows in (one.0, one.1, one.2, (one.3, λ limits called live. live_through old new marks one.0 same one.5 limits called live), one.4, one.5)
-settle_leads h (Err why) old new same leads = λ working. tt
+settle_leads g h (Err why) old new same leads = λ working. tt

@@ -27,7 +27,7 @@ use Rattle.hsm_types.specs.declared.media.Fault.TheVariants.{Damaged}
 use Rattle.hsm_types.specs.declared.media.FetchRefusal.{FetchRefusal}
 use Rattle.hsm_types.specs.declared.media.FetchRefusal.TheVariants as fetching
 use Rattle.hsm_types.specs.declared.stubs.Fingerprint.{Fingerprint}
-use Rattle.hsm_types.specs.declared.stubs.Place.{Place}
+use Rattle.hsm_types.specs.declared.stubs.Place.{Place as MediaPlace}
 use Rattle.hsm_types.specs.declared.stubs.StubEntry.{StubEntry}
 use Rattle.hsm_policy.specs.Settings.{Numbers}
 use Rattle.volume_shelf.specs.Shelf.{Copied}
@@ -255,8 +255,8 @@ module _ {M : Type 0} (g : drive.Ghosts M) where
 
           unlike : (o : Objects) → Gives g ds (entry_place entry).volume o → (s : StubEntry) → IsStored g ds s → entry_place s ≢ entry_place entry
           unlike o gives s stored same =
-              let has = stored.print o (subst (λ (p : Place). Gives g ds p.volume o) (sym same) gives) in
-              omega (arith, has.0, ap (λ (p : Place). p.object) same, short o gives)
+              let has = stored.print o (subst (λ (p : MediaPlace). Gives g ds p.volume o) (sym same) gives) in
+              omega (arith, has.0, ap (λ (p : MediaPlace). p.object) same, short o gives)
 
       pub heard_of_missing : (fetched : Result (List ℕ) FetchRefusal) → FetchesFrom g entry fetched d e → HearsLost g opened (slice_set ds (drive_of (entry_place entry).volume ds) e) marks (Fetch entry) (heard.Fetched fetched)
       heard_of_missing (Err (fetching.NoObject volume object)) fetches = lost_still opened ds (slice_set ds (drive_of (entry_place entry).volume ds) e) marks entry (grown_at g (drive_of (entry_place entry).volume ds) ds d e at (reads_grow g d e fetches.1)) (missing_now fetches.0.2)

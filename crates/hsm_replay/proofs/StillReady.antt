@@ -2,6 +2,7 @@
 use Rattle.std.proofs.Common.{◌≡◌, ◌∙◌, ℕ, Bool, true, false, Option, Some, None, Result, Ok, Err, OnErr, inl, inr, refl, sym, ap, ap₂, subst}
 use Rattle.std.specs.Prelude.{if◌then◌else◌}
 use Rattle.disk_model.specs.declared.device.Disk as disk
+use Rattle.disk_model.specs.Moments.{Tells}
 use Rattle.hsm_types.specs.declared.calls.CallRefusal.TheVariants.{Disk}
 use Rattle.hsm_types.specs.declared.calls.Reply.{Reply}
 use Rattle.hsm_types.specs.declared.calls.Reply.TheVariants.{Refused}
@@ -10,7 +11,8 @@ use Rattle.plain_model.specs.Verdict.{reply_to}
 use Rattle.plain_model.specs.declared.entries.Action.TheVariants.{Resume}
 use Rattle.plain_model.specs.declared.entries.Actor.TheVariants.{Caller}
 use Rattle.plain_model.specs.declared.entries.Answer.{Answer}
-use Rattle.plain_model.proofs.Faultless.{is_undone, own_done}
+use Rattle.plain_model.proofs.AnyDisk.{seen_done}
+use Rattle.plain_model.proofs.Faultless.{is_undone}
 use Rattle.access_park.specs.declared.access.Access.{Access}
 use Rattle.dm_service.specs.Tables.{Tables, waiting}
 use Rattle.file_store.specs.Stores.{Store as FileStore, superblock_of}
@@ -51,7 +53,7 @@ module _ {D : Type 0} (caller : ℕ) where
         ap₂ (λ (t : Tables) (told : Reply). ready_by (waiting t caller) told) lacks.tables reply ∙ is
     still_ready old new given why (inr (inr (inl failed))) stops is = ready_failed old new failed.tables failed.failed is
     still_ready old new given why (inr (inr (inr done))) stops is =
-        let served : is_undone given ≡ false = own_done (superblock_of old.opened) (state_of old) (Caller caller) Resume given (tt, done.answer) in
+        let served : is_undone given ≡ false = seen_done (Tells g new.files.disk) (superblock_of old.opened) (state_of old) (Caller caller) Resume given done.answer in
         let wrong : true ≡ false = sym (undone why) ∙ ap is_undone (sym stops) ∙ served in
         cc wrong
 

@@ -27,7 +27,7 @@ use Rattle.plain_model.specs.declared.entries.Entry.{Entry}
 use Rattle.hsm_types.specs.declared.stores.Superblock.{Superblock}
 use Rattle.hsm_types.specs.declared.stubs.StubEntry.{StubEntry}
 use Rattle.plain_model.specs.Services.{dm_reply_to}
-use Rattle.plain_model.specs.State.{State}
+use Rattle.plain_model.specs.State.{Held, State}
 use Rattle.file_store.specs.Stores.{superblock_of}
 use Rattle.daemon_session.specs.Members.{IsRefusedOne}
 use Rattle.daemon_session.specs.Seats.{Seat, no_seat, all_marked, IsSeated}
@@ -234,7 +234,7 @@ module _ {D M : Type 0} (g : disk.Ghosts D) (h : drive.Ghosts M) where
         let left : System D = performs.0.1 in
         let serves = performs.0.2 in
         let e : Entry = entry_of (Session sid) (action.Dm c) (answer.Dm reply) in
-        let own : reply ≡ dm_reply_to (superblock_of old.system.store.opened) (state_of old.system.store) sid c = own_reply g old.system.store left.store sid c reply serves.made.told serves.added serves.still in
+        let own : (seen : Held) × (reply ≡ dm_reply_to (superblock_of old.system.store.opened) (record (state_of old.system.store) { held = seen }) sid c) = own_reply g old.system.store left.store sid c reply serves.made.told serves.added serves.still in
         subst (λ (s : Run D M). StepGoes Recall old s) (sym (recall_behind_call g h old new machine sid c performs)) (record {
           alone = refl;
           runs = runs_on;
@@ -243,7 +243,7 @@ module _ {D M : Type 0} (g : disk.Ghosts D) (h : drive.Ghosts M) where
           on = λ from entries so stands. (
             entries ++ e ∷ [],
             more_entries from entries old.system.store.history left.store.history e so serves.added,
-            call_stands entries (superblock_of old.system.store.opened) (state_of old.system.store) (state_of left.store).rights r machine sid c reply (stood entries stands) goes own (quiet_rights g old.system.store left.store sid c reply serves.made.told serves.still),
+            call_stands entries (superblock_of old.system.store.opened) (record (state_of old.system.store) { held = own.0 }) (state_of left.store).rights r machine sid c reply (stood entries stands) goes own.1 (quiet_rights g old.system.store left.store sid c reply serves.made.told serves.still),
             no_rest (Dm sid c) (entries ++ e ∷ []) (heard.Dm reply) left.store old.drives (λ idle. cc idle) goes,
           );
         })

@@ -129,9 +129,10 @@ impl<D: Disk, M: Drive> Replay<D, M> {
         self.system.refresh();
     }
 
-    /// The store has kept all that it answered: its history is a good run that hands out messages as the rules say. It does nothing else, and costs nothing.
+    /// The store has kept all that it answered: its history is a run that hands out messages as the rules say, and a good one where the disk tells what it
+    /// holds. It does nothing else, and costs nothing.
     pub fn kept(&self)
-        ensures { IsKept self.now.system.store }
+        ensures { IsKept D.Disk self.now.system.store }
     {
         let _ = self.system.history();
     }

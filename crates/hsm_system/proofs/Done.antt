@@ -12,7 +12,6 @@ use Rattle.hsm_types.specs.declared.dm.DmReply.TheVariants.{Done}
 use Rattle.hsm_types.specs.declared.dm.Response.{Response}
 use Rattle.hsm_types.specs.declared.dm.Response.TheVariants.{Continue, Abort, Media}
 use Rattle.hsm_types.specs.declared.keys.Sid.{Sid}
-use Rattle.plain_model.specs.Faults.{Acts}
 use Rattle.plain_model.specs.declared.entries.Action.{Action}
 use Rattle.plain_model.specs.declared.entries.Action.TheVariants.{Issue, Resume, Dm, Commit}
 use Rattle.plain_model.specs.declared.entries.Actor.{Actor}
@@ -64,34 +63,27 @@ told_goes reply asked served why is = let wrong : Told reply ≡ Told (reply_of 
 
 -- ---- an event
 
--- each is one that its actor may make
-pub acts_of : (event : Event) → Acts (actor_of event) (action_of event)
-acts_of (event.Issue caller call) = tt
-acts_of (event.Resume caller) = tt
-acts_of (event.Dm sid call) = tt
-acts_of event.Commit = tt
-
 module _ {D : Type 0} (g : disk.Ghosts D) (here old : System D) (same : here ≡ old) (store : Store D) (actor : Actor) where
-  module _ (action : Action) (given : Answer) (acts : Acts actor action) (answers : IsAnswer g here.store actor action given store) where
+  module _ (action : Action) (given : Answer) (answers : IsAnswer g here.store actor action given store) where
     goes_on : ((why : Stop) → given ≢ stop_answer why action) → IsDone g {T = Unit {0}} actor action (Ok tt) old (record here { store = store })
     goes_on goes = subst (λ (s : System D). IsDone g {T = Unit {0}} actor action (Ok tt) s (record here { store = store })) same
-        (record { given = given; answer = answers; rest = refl; goes = goes; stops = tt; kept = event_kept g here.store actor action given store acts answers goes; runs = event_runs g here.store actor action given store acts (Ok tt) answers goes tt })
+        (record { given = given; answer = answers; rest = refl; goes = goes; stops = tt; kept = event_kept g here.store actor action given store answers goes; runs = event_runs g here.store actor action given store (Ok tt) answers goes tt })
 
     stopped : (why : Stop) → given ≡ stop_answer why action → IsDone g {T = Unit {0}} actor action (Err why) old (record here { store = store })
     stopped why is = subst (λ (s : System D). IsDone g {T = Unit {0}} actor action (Err why) s (record here { store = store })) same
-        (record { given = given; answer = answers; rest = refl; goes = tt; stops = is; kept = tt; runs = event_runs g here.store actor action given store acts (Err why) answers tt is })
+        (record { given = given; answer = answers; rest = refl; goes = tt; stops = is; kept = tt; runs = event_runs g here.store actor action given store (Err why) answers tt is })
 
   -- it was answered as a caller is
-  pub replied : (action : Action) (reply : Reply) → Acts actor action → IsOfCaller action → IsAnswer g here.store actor action (Replied reply) store → (result : Result (Unit {0}) Stop)
+  pub replied : (action : Action) (reply : Reply) → IsOfCaller action → IsAnswer g here.store actor action (Replied reply) store → (result : Result (Unit {0}) Stop)
       → OnOk result ((reply ≢ calls.Refused refusal.Memory) × (reply ≢ calls.Refused refusal.Disk)) → IfErr result (λ why. reply ≡ call_reply_of why) → IsDone g actor action result old (record here { store = store })
-  replied action reply acts of answers (Ok tt) ok err = goes_on action (Replied reply) acts answers (replied_goes reply action of ok)
-  replied action reply acts of answers (Err why) ok err = stopped action (Replied reply) acts answers why (ap (λ (r : Reply). Replied r) err ∙ sym (caller_stop why action of))
+  replied action reply of answers (Ok tt) ok err = goes_on action (Replied reply) answers (replied_goes reply action of ok)
+  replied action reply of answers (Err why) ok err = stopped action (Replied reply) answers why (ap (λ (r : Reply). Replied r) err ∙ sym (caller_stop why action of))
 
   -- or as a session is
-  pub told : (asked : DmCall) (reply : DmReply) → Acts actor (Dm asked) → IsAnswer g here.store actor (Dm asked) (Told reply) store → (result : Result (Unit {0}) Stop)
+  pub told : (asked : DmCall) (reply : DmReply) → IsAnswer g here.store actor (Dm asked) (Told reply) store → (result : Result (Unit {0}) Stop)
       → OnOk result (IsServed reply) → IfErr result (λ why. reply ≡ reply_of why) → IsDone g actor (Dm asked) result old (record here { store = store })
-  told asked reply acts answers (Ok tt) ok err = goes_on (Dm asked) (Told reply) acts answers (told_goes reply asked ok)
-  told asked reply acts answers (Err why) ok err = stopped (Dm asked) (Told reply) acts answers why (ap (λ (r : DmReply). Told r) err ∙ session_stop why asked)
+  told asked reply answers (Ok tt) ok err = goes_on (Dm asked) (Told reply) answers (told_goes reply asked ok)
+  told asked reply answers (Err why) ok err = stopped (Dm asked) (Told reply) answers why (ap (λ (r : DmReply). Told r) err ∙ session_stop why asked)
 
 -- ---- what an event keeps
 

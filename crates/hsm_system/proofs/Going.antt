@@ -1,8 +1,9 @@
 -- How a store goes on after an event, and why it is stopped.
 use Rattle.std.proofs.Common.{◌≡◌, ◌≢◌, ◌∙◌, ◌⊎◌, ◌∷◌, ◌++◌, [], Bool, true, false, ◌||◌, List, Result, Ok, Err, OnOk, IfErr, inl, inr, refl, sym}
-use Rattle.std.proofs.Common.{ap, append-nil, append_assoc, arith}
+use Rattle.std.proofs.Common.{ap, subst, append-nil, append_assoc, arith}
 use Rattle.disk_model.specs.declared.device.Disk as disk
 use Rattle.disk_model.specs.Calls.{Rose}
+use Rattle.disk_model.specs.Moments.{Tells}
 use Rattle.hsm_types.specs.declared.calls.CallRefusal.TheVariants as refusal
 use Rattle.hsm_types.specs.declared.calls.Reply.TheVariants as calls
 use Rattle.hsm_types.specs.declared.dm.DmRefusal.TheVariants as dm
@@ -13,10 +14,11 @@ use Rattle.plain_model.specs.declared.entries.Actor.{Actor}
 use Rattle.plain_model.specs.declared.entries.Answer.{Answer}
 use Rattle.plain_model.specs.declared.entries.Answer.TheVariants.{Call as Replied, Dm as Told}
 use Rattle.plain_model.specs.declared.entries.Entry.{Entry}
-use Rattle.plain_model.specs.Faults.{is_fault, fault_of, has_fault, Acts}
-use Rattle.plain_model.proofs.Faultless.{is_undone, own_done, fault_is}
+use Rattle.plain_model.specs.Faults.{is_fault, fault_of, has_fault}
+use Rattle.plain_model.proofs.AnyDisk.{seen_done}
+use Rattle.plain_model.proofs.Faultless.{is_undone, fault_is}
 use Rattle.file_store.specs.Stores.{superblock_of}
-use Rattle.hsm_core.specs.Answers.{IsAnswer, entry_of, memory_of, own_answer}
+use Rattle.hsm_core.specs.Answers.{IsAnswer, IsDone, entry_of, memory_of}
 use Rattle.hsm_core.specs.Store.{Store, state_of}
 use Rattle.hsm_system.specs.declared.stops.Stop.{Stop}
 use Rattle.hsm_system.specs.declared.stops.Stop.TheVariants as stop
@@ -67,7 +69,7 @@ StoreEnds stop.Memory actor action old new = (new.history ≡ old.history) × St
 
 module _ {D : Type 0} (g : disk.Ghosts D) where
   pub goes_itself : (s : Store D) → GoesOn g s s
-  goes_itself s = record { more = []; history = sym (append-nil s.history); opened = refl; faults = omega arith; quiet = λ works. (works, refl) }
+  goes_itself s = record { more = []; history = sym (append-nil s.history); opened = refl; faults = omega arith; tells = λ now. now; quiet = λ works. (works, refl) }
 
   pub goes_then : (a b c : Store D) → GoesOn g a b → GoesOn g b c → GoesOn g a c
   goes_then a b c first then = record {
@@ -75,6 +77,7 @@ module _ {D : Type 0} (g : disk.Ghosts D) where
     history = then.history ∙ ap (λ (h : List Entry). h ++ then.more) first.history ∙ append_assoc a.history first.more then.more;
     opened = then.opened ∙ first.opened;
     faults = omega (arith, first.faults, then.faults);
+    tells = λ now. first.tells (then.tells now);
     quiet = λ works. let later = then.quiet works in let before = first.quiet later.0 in (before.0, later.1 ∙ before.1);
   }
 
@@ -85,32 +88,32 @@ module _ {D : Type 0} (g : disk.Ghosts D) where
 
   -- ---- an event
 
-  module _ (old : Store D) (actor : Actor) (action : Action) (given : Answer) (new : Store D) (acts : Acts actor action) where
-    own_is_no_stop : (why : Stop) → given ≡ stop_answer why action → given ≡ own_answer old actor action → ⊥
-    own_is_no_stop why stops own =
-        let done : is_undone given ≡ false = own_done (superblock_of old.opened) (state_of old) actor action given (acts, own) in
-        let wrong : true ≡ false = sym (undone_at why action) ∙ ap is_undone (sym stops) ∙ done in
+  module _ (old : Store D) (actor : Actor) (action : Action) (given : Answer) (new : Store D) where
+    own_is_no_stop : (why : Stop) → given ≡ stop_answer why action → IsDone g old actor action given new → ⊥
+    own_is_no_stop why stops done =
+        let served : is_undone given ≡ false = seen_done (Tells g new.files.disk) (superblock_of old.opened) (state_of old) actor action given done.answer in
+        let wrong : true ≡ false = sym (undone_at why action) ∙ ap is_undone (sym stops) ∙ served in
         cc wrong
 
     pub event_goes : IsAnswer g old actor action given new → GoesOn g old new
-    event_goes (inl closed) = let same = closed.same in record { more = []; history = ap (λ s. s.history) same ∙ sym (append-nil old.history); opened = ap (λ s. s.opened) same; faults = let e = ap (λ s. g.fault_count s.files.disk) same in omega (arith, e); quiet = λ works. let wrong : true ≡ false = sym closed.failed ∙ sym (ap (λ s. s.files.failed) same) ∙ works in cc wrong }
-    event_goes (inr (inl lacks)) = record { more = []; history = lacks.history ∙ sym (append-nil old.history); opened = lacks.goes.opened; faults = lacks.goes.within.faults; quiet = λ works. (lacks.goes.working, lacks.quiet) }
-    event_goes (inr (inr (inl failed))) = record { more = entry_of actor action (fault_of action) ∷ []; history = failed.history; opened = failed.goes.opened; faults = failed.goes.within.faults; quiet = λ works. let wrong : true ≡ false = sym failed.failed ∙ works in cc wrong }
-    event_goes (inr (inr (inr done))) = record { more = entry_of actor action (own_answer old actor action) ∷ []; history = done.history; opened = done.goes.opened; faults = done.goes.within.faults; quiet = λ works. (done.goes.working, done.quiet) }
+    event_goes (inl closed) = let same = closed.same in record { more = []; history = ap (λ s. s.history) same ∙ sym (append-nil old.history); opened = ap (λ s. s.opened) same; faults = let e = ap (λ s. g.fault_count s.files.disk) same in omega (arith, e); tells = subst (λ (s : Store D). Tells g s.files.disk) same; quiet = λ works. let wrong : true ≡ false = sym closed.failed ∙ sym (ap (λ s. s.files.failed) same) ∙ works in cc wrong }
+    event_goes (inr (inl lacks)) = record { more = []; history = lacks.history ∙ sym (append-nil old.history); opened = lacks.goes.opened; faults = lacks.goes.within.faults; tells = lacks.goes.within.tells; quiet = λ works. (lacks.goes.working, lacks.quiet) }
+    event_goes (inr (inr (inl failed))) = record { more = entry_of actor action (fault_of action) ∷ []; history = failed.history; opened = failed.goes.opened; faults = failed.goes.within.faults; tells = failed.goes.within.tells; quiet = λ works. let wrong : true ≡ false = sym failed.failed ∙ works in cc wrong }
+    event_goes (inr (inr (inr done))) = record { more = entry_of actor action given ∷ []; history = done.history; opened = done.goes.opened; faults = done.goes.within.faults; tells = done.goes.within.tells; quiet = λ works. (done.goes.working, done.quiet) }
 
     -- what is kept of an event at which the run goes on
     pub event_kept : IsAnswer g old actor action given new → ((why : Stop) → given ≢ stop_answer why action) → new.history ≡ old.history ++ entry_of actor action given ∷ []
     event_kept (inl closed) goes = absurd (goes stop.Disk closed.answer)
     event_kept (inr (inl lacks)) goes = absurd (goes stop.Memory lacks.answer)
     event_kept (inr (inr (inl failed))) goes = absurd (goes stop.Disk failed.answer)
-    event_kept (inr (inr (inr done))) goes = done.history ∙ ap (λ a. old.history ++ entry_of actor action a ∷ []) (sym done.answer)
+    event_kept (inr (inr (inr done))) goes = done.history
 
     -- and of any
     pub event_kept_or_not : IsAnswer g old actor action given new → (new.history ≡ old.history) ⊎ (new.history ≡ old.history ++ entry_of actor action given ∷ [])
     event_kept_or_not (inl closed) = inl (ap (λ s. s.history) closed.same)
     event_kept_or_not (inr (inl lacks)) = inl lacks.history
     event_kept_or_not (inr (inr (inl failed))) = inr (failed.history ∙ ap (λ a. old.history ++ entry_of actor action a ∷ []) (sym failed.answer))
-    event_kept_or_not (inr (inr (inr done))) = inr (done.history ∙ ap (λ a. old.history ++ entry_of actor action a ∷ []) (sym done.answer))
+    event_kept_or_not (inr (inr (inr done))) = inr done.history
 
     works_on : IsAnswer g old actor action given new → ((why : Stop) → given ≢ stop_answer why action) → old.files.failed ≡ false → new.files.failed ≡ false
     works_on (inl closed) goes working = absurd (goes stop.Disk closed.answer)
@@ -124,7 +127,7 @@ module _ {D : Type 0} (g : disk.Ghosts D) where
     stopped_for stop.Disk (inr (inl lacks)) is working = absurd (fault_or_memory action (sym is ∙ lacks.answer))
     stopped_for stop.Memory (inr (inr (inl failed))) is working = absurd (fault_or_memory action (sym failed.answer ∙ is))
     stopped_for stop.Disk (inr (inr (inl failed))) is working = (failed.rose, ap has_fault failed.history ∙ fault_kept old.history (entry_of actor action (fault_of action)) (fault_is action))
-    stopped_for why (inr (inr (inr done))) is working = absurd (own_is_no_stop why is done.answer)
+    stopped_for why (inr (inr (inr done))) is working = absurd (own_is_no_stop why is done)
 
     -- where the run goes on the store works, and did before
     pub event_works : IsAnswer g old actor action given new → ((why : Stop) → given ≢ stop_answer why action) → StillWorks old new
@@ -138,7 +141,7 @@ module _ {D : Type 0} (g : disk.Ghosts D) where
     event_served (inl closed) goes = absurd (goes stop.Disk closed.answer)
     event_served (inr (inl lacks)) goes = absurd (goes stop.Memory lacks.answer)
     event_served (inr (inr (inl failed))) goes = absurd (goes stop.Disk failed.answer)
-    event_served (inr (inr (inr done))) goes = done_served given (own_done (superblock_of old.opened) (state_of old) actor action given (acts, done.answer))
+    event_served (inr (inr (inr done))) goes = done_served given (seen_done (Tells g new.files.disk) (superblock_of old.opened) (state_of old) actor action given done.answer)
 
     -- where it doesn't, why
     pub event_ends : (why : Stop) → IsAnswer g old actor action given new → given ≡ stop_answer why action → StoreEnds why actor action old new
@@ -148,7 +151,7 @@ module _ {D : Type 0} (g : disk.Ghosts D) where
     event_ends stop.Memory (inr (inl lacks)) is = (lacks.history, (lacks.goes.working, lacks.still))
     event_ends stop.Disk (inr (inr (inl failed))) is = inl (failed.history, (failed.goes.working, failed.failed))
     event_ends stop.Memory (inr (inr (inl failed))) is = absurd (fault_or_memory action (sym failed.answer ∙ is))
-    event_ends why (inr (inr (inr done))) is = absurd (own_is_no_stop why is done.answer)
+    event_ends why (inr (inr (inr done))) is = absurd (own_is_no_stop why is done)
 
     pub event_runs : {T : Type 0} (result : Result T Stop) → IsAnswer g old actor action given new → OnOk result ((why : Stop) → given ≢ stop_answer why action) → IfErr result (λ why. given ≡ stop_answer why action) → Runs g result old new
     event_runs (Ok x) answer ok err = record { goes_on = event_goes answer; works = works_on answer ok }

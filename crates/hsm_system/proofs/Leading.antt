@@ -20,7 +20,7 @@ use Rattle.plain_model.specs.declared.entries.Action.TheVariants as action
 use Rattle.plain_model.specs.declared.entries.Actor.{Actor}
 use Rattle.plain_model.specs.declared.entries.Actor.TheVariants.{Session}
 use Rattle.plain_model.specs.declared.entries.Answer.TheVariants as answer
-use Rattle.plain_model.specs.Faults.{Acts, fault_of}
+use Rattle.plain_model.specs.Faults.{fault_of}
 use Rattle.plain_model.specs.declared.entries.Entry.{Entry}
 use Rattle.hsm_core.specs.Answers.{entry_of}
 use Rattle.hsm_core.specs.Store.{Store}
@@ -217,7 +217,7 @@ module _ {D : Type 0} where
     ends stop.Memory store is lacks = (loses_goes daemon old new store is lacks.0 (awaits_runs daemon (act.Dm sid call) old awaits), left_so daemon old new store is (λ (s : Store D). StillWorks old.store s) lacks.1)
 
     pub stops_goes : (why : Stop) → StopsFor g daemon sid call why old new → EndsIn daemon sid call why old new
-    stops_goes why is = ends why is.0.store (is.2 ∙ ap (λ (s : System D). hearing daemon Nothing s) is.1.made.rest) (event_ends g old.store (Session sid) (action.Dm call) (answer.Dm (reply_of why)) is.0.store tt why is.1.made.told (session_stop why call))
+    stops_goes why is = ends why is.0.store (is.2 ∙ ap (λ (s : System D). hearing daemon Nothing s) is.1.made.rest) (event_ends g old.store (Session sid) (action.Dm call) (answer.Dm (reply_of why)) is.0.store why is.1.made.told (session_stop why call))
 
   -- ---- what came of an act that was performed outside
 
@@ -247,7 +247,7 @@ module _ {D : Type 0} where
   nothing_entered : (old : System D) (store : Store D) → store.history ≡ old.store.history → Goes [] old (record old { store = store })
   nothing_entered old store same = record { limits = refl; leads = record { entries = none_added store old.store same; recall = refl; migrate = refl; right = All-from_recursion IsRight [] tt } }
 
-  module _ (g : disk.Ghosts D) (actor : Actor) (asked : Action) (acts : Acts actor asked) (none : NamesNoFault asked) (old new : System D) where
+  module _ (g : disk.Ghosts D) (actor : Actor) (asked : Action) (none : NamesNoFault asked) (old new : System D) where
     entered_ends : (why : Stop) (store : Store D) → StoreEnds why actor asked old.store store → EndsBy why (Enters (entry_of actor asked (fault_of asked)) ∷ []) [] old (record old { store = store })
     entered_ends stop.Disk store (inl broke) = inl (entered_goes (entry_of actor asked (fault_of asked)) old store none broke.0, broke.1)
     entered_ends stop.Disk store (inr closed) = inr (nothing_entered old store (ap (λ (s : Store D). s.history) closed.1), closed)
@@ -257,16 +257,16 @@ module _ {D : Type 0} where
     done_enters (Ok x) done = record {
       done = (
         Enters (entry_of actor asked done.given) ∷ [],
-        (done.given, event_served g old.store actor asked done.given new.store acts done.answer done.goes, refl),
+        (done.given, event_served g old.store actor asked done.given new.store done.answer done.goes, refl),
         subst (λ (s : System D). Goes (Enters (entry_of actor asked done.given) ∷ []) old s) (sym done.rest) (entered_goes (entry_of actor asked done.given) old new.store none done.kept),
       );
-      works = event_works g old.store actor asked done.given new.store acts done.answer done.goes;
+      works = event_works g old.store actor asked done.given new.store done.answer done.goes;
       stopped = tt;
     }
     done_enters (Err why) done = record {
       done = tt;
       works = tt;
-      stopped = subst (λ (s : System D). EndsBy why (Enters (entry_of actor asked (fault_of asked)) ∷ []) [] old s) (sym done.rest) (entered_ends why new.store (event_ends g old.store actor asked done.given new.store acts why done.answer done.stops));
+      stopped = subst (λ (s : System D). EndsBy why (Enters (entry_of actor asked (fault_of asked)) ∷ []) [] old s) (sym done.rest) (entered_ends why new.store (event_ends g old.store actor asked done.given new.store why done.answer done.stops));
     }
 
   -- ---- as each call says it

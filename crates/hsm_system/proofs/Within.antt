@@ -61,9 +61,10 @@ told_within g old new sid call reply asks (inl closed) = let given : Told reply 
 told_within g old new sid call reply asks (inr (inl lacks)) = let given : Told reply ≡ Told (Refused dm.Memory) = lacks.answer in let is : reply ≡ Refused dm.Memory = cc given in rw is tt
 told_within g old new sid call reply asks (inr (inr (inl failed))) = let given : Told reply ≡ Told (Refused dm.Disk) = failed.answer in let is : reply ≡ Refused dm.Disk = cc given in rw is tt
 told_within g old new sid call reply asks (inr (inr (inr done))) =
-    let given : Told reply ≡ Told (dm_reply_to (superblock_of old.opened) (state_of old) sid call) = done.answer in
-    let is : reply ≡ dm_reply_to (superblock_of old.opened) (state_of old) sid call = cc given in
-    rw is (within_where (superblock_of old.opened) (state_of old) sid (dm_judged (superblock_of old.opened) (state_of old) sid call) call asks refl)
+    let seen : State = record (state_of old) { held = done.answer.0 } in
+    let given : Told reply ≡ Told (dm_reply_to (superblock_of old.opened) seen sid call) = done.answer.2.1 in
+    let is : reply ≡ dm_reply_to (superblock_of old.opened) seen sid call = cc given in
+    rw is (within_where (superblock_of old.opened) seen sid (dm_judged (superblock_of old.opened) seen sid call) call asks refl)
 
 asks_no_value : (limits : Numbers) (k : Known) (before after : Pass) (asked : Act) (last : Heard) (sid : Sid) (call : DmCall) → MayGive limits k before after asked last (Dm sid call) → GivesNoValue call
 asks_no_value limits k before after asked last sid (GetDmAttr t h name) may = absurd may.1

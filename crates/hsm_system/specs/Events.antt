@@ -1,6 +1,7 @@
 -- Events that no daemon makes, and how a store goes on behind events.
 use Rattle.std.specs.Prelude.{◌≡◌, ◌≢◌, ℕ, ◌+◌, ◌≤◌, if◌then◌else◌, List, [], ◌∷◌, ◌++◌, true, false, Result, IsOk, OnOk, IfErr, MatchResult}
 use Rattle.disk_model.specs.Calls.{Rose}
+use Rattle.disk_model.specs.Moments.{Tells}
 use Rattle.disk_model.specs.declared.device.Disk as disk
 use Rattle.plain_model.specs.Faults.{has_fault}
 use Rattle.plain_model.specs.declared.entries.Action.{Action}
@@ -53,12 +54,13 @@ module _ {D : Type 0} (g : disk.Ghosts D) where
   -- ---- a store behind events
 
   -- The store is the one that was opened, its history has grown, and the disk's count of faults never falls. One that works has worked since, and its disk
-  -- has counted no fault.
+  -- has counted no fault. A disk that tells what it holds now told then.
   pub record GoesOn (old new : Store D) : Type 0 where
     pub more : List Entry
     pub history : new.history ≡ old.history ++ more
     pub opened : new.opened ≡ old.opened
     pub faults : g.fault_count old.files.disk ≤ g.fault_count new.files.disk
+    pub tells : Tells g new.files.disk → Tells g old.files.disk
     pub quiet : new.files.failed ≡ false → (old.files.failed ≡ false) × (g.fault_count new.files.disk ≡ g.fault_count old.files.disk)
 
   -- why a working store was stopped: for want of memory, or as its disk has failed, and an entry says so

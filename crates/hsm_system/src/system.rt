@@ -82,7 +82,7 @@ impl<D: Disk> System<D> {
     /// The events since the store's opening.
     pub fn history(&self) -> &[Entry]
         ensures entries { result.now ≡ self.now.store.history }
-        ensures kept { IsKept self.now.store }
+        ensures kept { IsKept D.Disk self.now.store }
     {
         self.hsm.history()
     }

@@ -163,8 +163,8 @@ module _ (s : Superblock) (st : State) where
   answer_at done m exact = (exact_rest s st (entries_of done) (m.entry ∷ []) (pushed_exact done m exact)).0
 
   module _ (ordered : InOrder st) (d : Daemon) where
-    ordered_behind : (done : List Mark) → InOrder (behind done)
-    ordered_behind done = state_ordered s st (entries_of done) ordered
+    ordered_behind : (done : List Mark) → ExactTo done → InOrder (behind done)
+    ordered_behind done exact = state_ordered s st (entries_of done) ordered exact
 
     -- the daemon was told all sessions; of those with its information the ones that live are among the rest
     record Asked (done : List Mark) (rest : List Sid) : Type 0 where
@@ -179,33 +179,33 @@ module _ (s : Superblock) (st : State) where
       pub real : (old : Sid) → w.found ≡ Some old → 0 < old.0
       pub asked : (rest : List Sid) → w.others ≡ Some rest → w.found ≡ None → Asked done rest
 
-    may_live : (done : List Mark) (m : Mark) (sid : Sid) → MayLive d sid (behind done).sessions → MayLive d sid (behind (done ++ m ∷ [])).sessions
-    may_live done m sid is =
+    may_live : (done : List Mark) → ExactTo done → (m : Mark) (sid : Sid) → MayLive d sid (behind done).sessions → MayLive d sid (behind (done ++ m ∷ [])).sessions
+    may_live done exact m sid is =
         subst (λ (y : State). MayLive d sid y.sessions) (sym (behind_push done m)) (
           more,
           stays_on (Some (information d)) (info_of sid (behind done).sessions) (info_of sid (left_by s (behind done) m.entry.actor m.entry.action m.entry.answer).sessions) is.1
-              (left_stays s (behind done) (ordered_behind done) sid is.0 m.entry.actor m.entry.action m.entry.answer),
+              (left_stays s (behind done) (ordered_behind done exact) sid is.0 m.entry.actor m.entry.action m.entry.answer),
         )
       where
         more : sid.0 ≤ (left_by s (behind done) m.entry.actor m.entry.action m.entry.answer).sessions.given
         more = let low = is.0 in let grown = left_given s (behind done) m.entry.actor m.entry.action m.entry.answer in omega arith
 
-    asked_more : (done : List Mark) (m : Mark) (rest fewer : List Sid) → (AsksAnew d m → ⊥) → ((sid : Sid) → MayLive d sid (behind done).sessions → Contains rest sid → Contains fewer sid) → Asked done rest → Asked (done ++ m ∷ []) fewer
-    asked_more done m rest fewer never keeps is = record {
+    asked_more : (done : List Mark) → ExactTo done → (m : Mark) (rest fewer : List Sid) → (AsksAnew d m → ⊥) → ((sid : Sid) → MayLive d sid (behind done).sessions → Contains rest sid → Contains fewer sid) → Asked done rest → Asked (done ++ m ∷ []) fewer
+    asked_more done exact m rest fewer never keeps is = record {
       before = is.before;
       ids = is.ids;
       since = is.since ++ m ∷ [];
       parted = ap (λ (l : List Mark). l ++ m ∷ []) is.parted ∙ append_assoc is.before _ (m ∷ []);
       last = all_and (λ x. AsksAnew d x → ⊥) is.since m is.last never;
-      left = λ sid own. let still = is.left sid own in (keeps sid still.1 still.0, may_live done m sid still.1);
+      left = λ sid own. let still = is.left sid own in (keeps sid still.1 still.0, may_live done exact m sid still.1);
     }
 
-    comes_more : (done : List Mark) (w : Way) (m : Mark) → (AsksAnew d m → ⊥) → Comes done w → Comes (done ++ m ∷ []) w
-    comes_more done w m never is = record { real = is.real; asked = λ rest others none. asked_more done m rest rest never (λ sid live there. there) (is.asked rest others none) }
+    comes_more : (done : List Mark) → ExactTo done → (w : Way) (m : Mark) → (AsksAnew d m → ⊥) → Comes done w → Comes (done ++ m ∷ []) w
+    comes_more done exact w m never is = record { real = is.real; asked = λ rest others none. asked_more done exact m rest rest never (λ sid live there. there) (is.asked rest others none) }
 
     -- ---- a call of the daemon's own
 
-    module _ (done : List Mark) (x : Sid) where
+    module _ (done : List Mark) (exact : ExactTo done) (x : Sid) where
       abbrev now : SessionTable
       now = (behind done).sessions
 
@@ -224,8 +224,8 @@ module _ (s : Superblock) (st : State) where
         last = tt;
         left = λ sid own.
             let alive = informed_lives sid now (information d) own in
-            let given = lives_within sid now (ordered_behind done).ascend alive in
-            (subst (λ (l : List Sid). Contains l sid) (sym all) (listed sid now alive), may_live done (made d x call.GetAllSessions (reply.Sids ids)) sid (given.1, inr own));
+            let given = lives_within sid now (ordered_behind done exact).ascend alive in
+            (subst (λ (l : List Sid). Contains l sid) (sym all) (listed sid now alive), may_live done exact (made d x call.GetAllSessions (reply.Sids ids)) sid (given.1, inr own));
       }
         where
           all : ids ≡ keys_of now.live
@@ -275,7 +275,7 @@ module _ (s : Superblock) (st : State) where
           real = λ old same.
               let one : Some target ≡ Some old = same in
               let it : target ≡ old = cc in
-              subst (λ (y : Sid). 0 < y.0) it (lives_within target now (ordered_behind done).ascend (lives_told target info is)).0;
+              subst (λ (y : Sid). 0 < y.0) it (lives_within target now (ordered_behind done exact).ascend (lives_told target info is)).0;
           asked = λ fewer others none. absurd cc;
         }
         told target info rest asks is false other = record {
@@ -284,19 +284,19 @@ module _ (s : Superblock) (st : State) where
               let one : Some rest ≡ Some fewer = ap (λ (o : Option (List Sid)). option_map (λ (ids : List Sid). drop 1 ids) o) (sym asks) ∙ others in
               let left : rest ≡ fewer = cc in
               subst (Asked (with_call (call.QuerySession target) (reply.Info info))) left
-              (asked_more done (made d x (call.QuerySession target) (reply.Info info)) (target ∷ rest) rest (not_anew d (made d x (call.QuerySession target) (reply.Info info)) refl)
+              (asked_more done exact (made d x (call.QuerySession target) (reply.Info info)) (target ∷ rest) rest (not_anew d (made d x (call.QuerySession target) (reply.Info info)) refl)
               (λ sid live among. passes_by target sid info rest is other live among) (comes.asked (target ∷ rest) asks none));
         }
 
         queries : (target : Sid) (a : DmReply) (rest : List Sid) → w.others ≡ Some (target ∷ rest) → IsAnswered (call.QuerySession target) a → Comes (with_call (call.QuerySession target) a) (way_next d w (call.QuerySession target) a)
         queries target (reply.Info info) rest asks is = told target info rest asks is (bytes_eq info (information d)) refl
-        queries target a rest asks is = comes_more done w (made d x (call.QuerySession target) a) (not_anew d (made d x (call.QuerySession target) a) refl) comes
+        queries target a rest asks is = comes_more done exact w (made d x (call.QuerySession target) a) (not_anew d (made d x (call.QuerySession target) a) refl) comes
 
         comes_own : (c : DmCall) (a : DmReply) → MayWay w x c → IsAnswered c a → Comes (with_call c a) (way_next d w c a)
         comes_own call.GetAllSessions a may is = lists w a may is
         comes_own (call.CreateSession old info) a may is = record { real = λ y own. absurd cc; asked = λ rest others none. absurd cc }
         comes_own (call.QuerySession target) a may is = queries target a may.2.0 may.2.1 is
-        comes_own c a may is = comes_more done w (made d x c a) (not_anew d (made d x c a) refl) comes
+        comes_own c a may is = comes_more done exact w (made d x c a) (not_anew d (made d x c a) refl) comes
 
     -- ---- all entries
 
@@ -305,8 +305,8 @@ module _ (s : Superblock) (st : State) where
 
     comes_at : (limits : Numbers) (marks : List Mark) → ServedFrom limits nothing_shown marks → ExactTo marks → Comes marks (way_of (seat_of d (shown limits nothing_shown marks)))
     comes_at limits marks served =
-        at_end limits d ComesBy (λ done w m other is exact. comes_more done w m (not_by d m other) (is (exact_to done m exact)))
-        (λ done w x c a may is exact. comes_own done x w (is (exact_to done (made d x c a) exact)) c a may (answer_at done (made d x c a) exact)) [] nothing_shown marks served (λ exact. nothing d)
+        at_end limits d ComesBy (λ done w m other is exact. let before = exact_to done m exact in comes_more done before w m (not_by d m other) (is before))
+        (λ done w x c a may is exact. let before = exact_to done (made d x c a) exact in comes_own done before x w (is before) c a may (answer_at done (made d x c a) exact)) [] nothing_shown marks served (λ exact. nothing d)
       where
         nothing : (e : Daemon) → Comes [] (way_of (seat_of e nothing_shown))
         nothing Recall = record { real = λ old own. absurd cc; asked = λ rest others none. absurd cc }

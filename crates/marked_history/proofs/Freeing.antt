@@ -1,15 +1,13 @@
 -- A punch that is done frees just the mapped blocks of the segments that it names.
-use Rattle.std.proofs.Common.{◌≡◌, ℕ, ◌+◌, ◌-◌, ◌*◌, min, max, List, [], ◌∷◌, ◌++◌, length, take, drop, Bool, true, false, cond, Option, Some, None}
-use Rattle.std.proofs.Common.{inl, inr, sym, ◌∙◌, ap, subst, arith, drop-drop}
+use Rattle.std.proofs.Common.{◌≡◌, ℕ, ◌+◌, ◌-◌, ◌*◌, min, max, List, [], ◌∷◌, ◌++◌, length, take, drop, Bool, true, false, cond, Some}
+use Rattle.std.proofs.Common.{sym, ◌∙◌, ap, subst, arith, drop-drop}
 use Rattle.std.specs.Prelude.{replicate, count_by, if◌then◌else◌}
 use Rattle.std.proofs.lemmas.List.Folds.{sum_by-replicate}
 use Rattle.std.proofs.lemmas.List.Sums.{sum_by-cons, sum_by-append, sum_by-take-drop}
 use Rattle.hsm_types.specs.Limits.{segment_blocks}
 use Rattle.hsm_types.specs.declared.dm.DmCall.{DmCall}
 use Rattle.hsm_types.specs.declared.dm.DmCall.TheVariants.{PunchHole}
-use Rattle.hsm_types.specs.declared.dm.DmRefusal.{DmRefusal}
-use Rattle.hsm_types.specs.declared.dm.DmRefusal.TheVariants.{Disk}
-use Rattle.hsm_types.specs.declared.dm.DmReply.TheVariants.{Done, Refused}
+use Rattle.hsm_types.specs.declared.dm.DmReply.TheVariants.{Done}
 use Rattle.hsm_types.specs.declared.keys.FileKey.{FileKey}
 use Rattle.hsm_types.specs.declared.keys.Handle.{Handle}
 use Rattle.hsm_types.specs.declared.keys.Sid.{Sid}
@@ -21,13 +19,11 @@ use Rattle.plain_model.specs.declared.entries.Answer.TheVariants.{Dm as Told}
 use Rattle.plain_model.specs.declared.entries.Entry.{Entry}
 use Rattle.plain_model.specs.Blocks.{with_holes}
 use Rattle.plain_model.specs.Effects.{Punches, punch_from, punch_to}
-use Rattle.plain_model.specs.Exact.{IsAnswer, left_by, Exact, state_by}
+use Rattle.plain_model.specs.Exact.{left_by, state_by}
 use Rattle.hsm_types.specs.Keyed.{same_key, find_key}
-use Rattle.plain_model.specs.Services.{dm_judged, dm_reply_where, dm_state_where}
 use Rattle.plain_model.specs.State.{FileState, Held, State, file_or_new, file_at, used_by, used, remade, affected_held, just_opened}
 use Rattle.plain_model.proofs.Histories.{state_by-push}
 use Rattle.marked_history.specs.Freeing.{freed, punch_done, PunchFrees}
-use Rattle.marked_history.proofs.Granting.{exact_rest}
 
 -- ---- blocks
 
@@ -69,17 +65,11 @@ module _ (s : Superblock) (now : State) (sid : Sid) (t : Token) (handle : Handle
   abbrev Frees : State → Type 0
   Frees next = used now.held.files ≡ used next.held.files + freed (punch_from offset) (punch_to offset len) (file_at handle.key now.held.files).mapped
 
-  done_frees : (judged : Option DmRefusal) → Told Done ≡ Told (dm_reply_where judged s now sid punch) → Frees (dm_state_where judged s now sid punch)
-  done_frees None is = punch_by_key (punch_from offset) (punch_to offset len) handle.key now.held.files
-  done_frees (Some why) is = absurd (let wrong : Told Done ≡ Told (Refused why) = is in cc)
-
-  entry_frees : IsAnswer s now (Session sid) (Dm punch) (Told Done) → Frees (left_by s now (Session sid) (Dm punch) (Told Done))
-  entry_frees (inl is) = absurd (let wrong : Told Done ≡ Told (Refused Disk) = is.1 in cc)
-  entry_frees (inr is) = done_frees (dm_judged s now sid punch) is.1
+  entry_frees : Frees (left_by s now (Session sid) (Dm punch) (Told Done))
+  entry_frees = punch_by_key (punch_from offset) (punch_to offset len) handle.key now.held.files
 
 pub punch_frees : (s : Superblock) (base : ℕ) (h : Held) (es : List Entry) → PunchFrees s base h es
 punch_frees s base h es run before sid t handle offset len rest is =
     let first : State = just_opened base h in
     let e : Entry = punch_done sid t handle offset len in
-    let own = exact_rest s first before (e ∷ rest) (subst (Exact s first) is run.exact) in
-    subst (Frees s (state_by s first before) sid t handle offset len) (sym (state_by-push s first before e)) (entry_frees s (state_by s first before) sid t handle offset len own.0)
+    subst (Frees s (state_by s first before) sid t handle offset len) (sym (state_by-push s first before e)) (entry_frees s (state_by s first before) sid t handle offset len)

@@ -40,7 +40,7 @@ use Rattle.plain_model.specs.declared.entries.Answer.{Answer}
 use Rattle.plain_model.specs.declared.entries.Answer.TheVariants.{Dm as Told}
 use Rattle.plain_model.specs.declared.entries.Entry.{Entry}
 use Rattle.plain_model.specs.Effects.{change_of}
-use Rattle.plain_model.specs.Exact.{IsOwn, IsAnswer, left_own, left_by, Exact, state_by}
+use Rattle.plain_model.specs.Exact.{IsOwn, IsAnswer, left_own, left_answered, left_by, Exact, state_by}
 use Rattle.plain_model.specs.Faults.{is_fault, fault_of}
 use Rattle.plain_model.specs.Ledger.{Meant, Fixed, Means}
 use Rattle.plain_model.specs.Services.{bad_own_token, is_live, bad_handle, service, dm_judged, dm_reply_where, dm_reply_to, dm_state_where}
@@ -48,8 +48,10 @@ use Rattle.plain_model.specs.Stands.{InOrder}
 use Rattle.plain_model.specs.State.{Held, Flags, State, just_opened, noted, changed}
 use Rattle.plain_model.specs.Verdict.{flags_now, objection_in, meant_in, state_where}
 use Rattle.plain_model.proofs.Faultless.{fault_is}
+use Rattle.plain_model.proofs.Histories.{Exact-first}
 use Rattle.plain_model.proofs.Judged.{none_first}
 use Rattle.plain_model.proofs.Orders.{event_ordered, ordered_at_first, state_ordered}
+use Rattle.plain_model.proofs.Seeing.{left_own_by}
 use Rattle.hsm_policy.specs.Settings.{Numbers}
 use Rattle.hsm_core.specs.Answers.{entry_of}
 use Rattle.marked_history.specs.Marks.{Mark, entries_of}
@@ -249,10 +251,10 @@ module _ (s : Superblock) (now : State) (done : List Mark) (shown : Shown) (orde
   left_known : (m : Mark) → IsAnswer s now m.entry.actor m.entry.action m.entry.answer → IsServedBy m.by shown m → AreKnown (done ++ m ∷ []) (left_by s now m.entry.actor m.entry.action m.entry.answer).rights
   left_known m (inl is) served =
       let fault : is_fault m.entry.answer ≡ true = ap is_fault is.1 ∙ fault_is m.entry.action in
-      subst (λ (b : Bool). AreKnown (done ++ m ∷ []) (if b then noted now else left_own s now m.entry.actor m.entry.action).rights) (sym fault) (still done m now.rights now.rights known (λ u j some. refl))
+      subst (λ (b : Bool). AreKnown (done ++ m ∷ []) (if b then noted now else left_answered s now m.entry.actor m.entry.action m.entry.answer).rights) (sym fault) (still done m now.rights now.rights known (λ u j some. refl))
   left_known m (inr is) served =
-      if_known (done ++ m ∷ []) (is_fault m.entry.answer) (left_own s now m.entry.actor m.entry.action) (still done m now.rights now.rights known (λ u j some. refl))
-      (own_by m.by m.entry.actor m.entry.action m.entry.answer is served)
+      if_known (done ++ m ∷ []) (is_fault m.entry.answer) (left_answered s now m.entry.actor m.entry.action m.entry.answer) (still done m now.rights now.rights known (λ u j some. refl))
+      (subst (λ (left : State). AreKnown (done ++ m ∷ []) left.rights) (sym (left_own_by s now m.entry.actor m.entry.action m.entry.answer is)) (own_by m.by m.entry.actor m.entry.action m.entry.answer is served))
 
 -- ---- whole histories
 
@@ -261,7 +263,7 @@ known_on : (limits : Numbers) (s : Superblock) (now : State) (done : List Mark) 
 known_on limits s now done shown [] ordered exact served known = subst (λ (l : List Mark). AreKnown l now.rights) (sym (append-nil done)) known
 known_on limits s now done shown (m ∷ marks) ordered exact served known =
     subst (λ (l : List Mark). AreKnown l (state_by s now (entries_of (m ∷ marks))).rights) (append_assoc done (m ∷ []) marks)
-    (known_on limits s (left_by s now m.entry.actor m.entry.action m.entry.answer) (done ++ m ∷ []) (learned limits shown m) marks (event_ordered s now m.entry ordered) exact.2 served.1
+    (known_on limits s (left_by s now m.entry.actor m.entry.action m.entry.answer) (done ++ m ∷ []) (learned limits shown m) marks (event_ordered s now m.entry ordered exact.0) exact.2 served.1
     (left_known s now done shown ordered known m exact.0 served.0))
 
 pub served_holds_granted : (limits : Numbers) (s : Superblock) (base : ℕ) (h : Held) (marks : List Mark) (es : List Entry) → ServedHoldsGranted limits s base h marks es
@@ -367,5 +369,6 @@ module _ (s : Superblock) where
 pub request_is_granted : (s : Superblock) (base : ℕ) (h : Held) (es : List Entry) → RequestIsGranted s base h es
 request_is_granted s base h es run before sid t handle right other rest is =
     let first : State = just_opened base h in
-    let own = exact_rest s first before (entry_of (Session sid) (Dm (RequestRight t handle right)) (Told (Refused (Busy other))) ∷ rest) (subst (Exact s first) is run.exact) in
-    hindered_now s (state_by s first before) sid t handle right other (state_ordered s first before (ordered_at_first base h)) own.0
+    let later : List Entry = entry_of (Session sid) (Dm (RequestRight t handle right)) (Told (Refused (Busy other))) ∷ rest in
+    let exact : Exact s first (before ++ later) = subst (Exact s first) is run.exact in
+    hindered_now s (state_by s first before) sid t handle right other (state_ordered s first before (ordered_at_first base h) (Exact-first s first before later exact)) (exact_rest s first before later exact).0

@@ -32,9 +32,10 @@ use Rattle.plain_model.specs.Verdict.{Blocks, Posts, Lacks, Verdict, verdict, re
 use Rattle.plain_model.specs.Verdict.{left_by_verdict, state_where}
 use Rattle.plain_model.specs.Services.{dm_judged, dm_state_where}
 use Rattle.plain_model.specs.Faults.{is_fault}
-use Rattle.plain_model.specs.Exact.{IsOwn, IsAnswer, left_own, left_by, Exact, state_by}
+use Rattle.plain_model.specs.Exact.{IsOwn, IsAnswer, left_own, left_answered, left_by, Exact, state_by}
 use Rattle.plain_model.proofs.Faultless.{fault_is}
 use Rattle.plain_model.proofs.Histories.{state_by-push}
+use Rattle.plain_model.proofs.Seeing.{left_own_by}
 use Rattle.hsm_core.specs.Answers.{entry_of}
 use Rattle.marked_history.specs.Caused.{WaitsOn, WasParked}
 use Rattle.marked_history.proofs.Carrying.{Each, each_weaker, none_each, posted_each, created_each, ended_each, disposed_each, delivered_each}
@@ -178,7 +179,9 @@ module _ (s : Superblock) (st : State) where
 
     left_each : (who : Actor) (what : Action) (answer : Answer) → IsAnswer s now who what answer → Each (IsOfParked (after who what answer)) now.sessions → Each (IsOfParked (after who what answer)) (left_by s now who what answer).sessions
     left_each who what answer (inl is) each = let fault : is_fault answer ≡ true = ap is_fault is.1 ∙ fault_is what in rw fault each
-    left_each who what answer (inr is) each = if_each (IsOfParked (after who what answer)) (is_fault answer) (left_own s now who what) each (λ none. own_each who what answer is each)
+    left_each who what answer (inr is) each =
+        if_each (IsOfParked (after who what answer)) (is_fault answer) (left_answered s now who what answer) each
+        (λ none. subst (λ (x : State). Each (IsOfParked (after who what answer)) x.sessions) (sym (left_own_by s now who what answer is)) (own_each who what answer is each))
 
     next_each : (e : Entry) → IsAnswer s now e.actor e.action e.answer → Each (IsOfParked done) now.sessions → Each (IsOfParked (done ++ e ∷ [])) (state_by s st (done ++ e ∷ [])).sessions
     next_each e is each = subst (λ (x : State). Each (IsOfParked (done ++ e ∷ [])) x.sessions) (sym (state_by-push s st done e))

@@ -3,7 +3,7 @@ use Rattle.std.proofs.Common.{◌≡◌, ℕ, ◌<◌, ◌≤◌, Bool, true, fa
 use Rattle.std.proofs.Common.{refl, sym, ap, subst, ◌∙◌, arith}
 use Rattle.std.proofs.lemmas.Bool.{false≢true, eqb-true}
 use Rattle.std.proofs.lemmas.Map.Views.{Contains-keys_from_lookup}
-use Rattle.std.specs.Prelude.{◌⊎◌, if◌then◌else◌, Contains}
+use Rattle.std.specs.Prelude.{◌⊎◌, Contains}
 use Rattle.std.specs.Map.{lookup, remove_entry, keys_of}
 use Rattle.std.specs.Option.{option_map}
 use Rattle.hsm_types.specs.Messages.{no_token, takes, user_message, handed_out}
@@ -13,26 +13,21 @@ use Rattle.hsm_types.specs.Sessions.{without_token}
 use Rattle.hsm_types.specs.declared.calls.Reply.{Reply}
 use Rattle.hsm_types.specs.declared.dm.DmCall.{DmCall}
 use Rattle.hsm_types.specs.declared.dm.DmCall.TheVariants.{CreateSession, DestroySession, SetDisp, GetEvents, Respond, CreateUserEvent, SendMsg}
-use Rattle.hsm_types.specs.declared.dm.DmRefusal.{DmRefusal}
 use Rattle.hsm_types.specs.declared.dm.Kinds.{Kinds}
 use Rattle.hsm_types.specs.declared.keys.Sid.{Sid}
 use Rattle.hsm_types.specs.declared.messages.Message.{Message}
 use Rattle.hsm_types.specs.declared.stores.Superblock.{Superblock}
 use Rattle.hsm_types.proofs.Queues.{lookup-above, lookup-mapped}
 use Rattle.plain_model.specs.declared.entries.Action.{Action}
-use Rattle.plain_model.specs.declared.entries.Action.TheVariants.{Issue, Resume, Dm}
 use Rattle.plain_model.specs.declared.entries.Actor.{Actor}
-use Rattle.plain_model.specs.declared.entries.Actor.TheVariants.{Caller, Session}
 use Rattle.plain_model.specs.declared.entries.Answer.{Answer}
 use Rattle.plain_model.specs.Effects.{change_of}
 use Rattle.plain_model.specs.Ledger.{next_token}
-use Rattle.plain_model.specs.State.{State, noted, changed}
-use Rattle.plain_model.specs.Verdict.{flags_now, objection_in, meant_in, reply_to}
-use Rattle.plain_model.specs.Services.{dm_judged, dm_state_where}
+use Rattle.plain_model.specs.State.{State, changed}
 use Rattle.plain_model.specs.Stands.{InOrder}
-use Rattle.plain_model.specs.Faults.{is_fault}
-use Rattle.plain_model.specs.Exact.{left_own, left_by}
-use Rattle.marked_history.proofs.Handing.{PostsParked, posts_where}
+use Rattle.plain_model.specs.Exact.{left_by}
+use Rattle.marked_history.proofs.Handing.{PostsParked}
+use Rattle.marked_history.proofs.AnyAnswer.{left_so}
 use Rattle.marked_history.proofs.Outstanding.{below, pushed_other}
 
 abbrev Live : Type 0
@@ -151,23 +146,9 @@ module _ (s : Superblock) (st : State) (ordered : InOrder st) (sid : Sid) (given
   call_stays x (SendMsg target body) = changed_stays sid st.sessions (queued (user_message no_token body ∷ [])) (λ s. refl) target
   call_stays x c = inr refl
 
-  told_stays : (why : Option DmRefusal) (x : Sid) (c : DmCall) → StaysTo (dm_state_where why s st x c)
-  told_stays None x c = call_stays x c
-  told_stays (Some why) x c = inr refl
-
   parked_stays : (after : State) (c : ℕ) (answer : Reply) → PostsParked s st after c answer → StaysTo after
   parked_stays after c answer (inl same) = inr (ap (info_of sid) same)
   parked_stays after c answer (inr p) = subst (StaysIn sid st.sessions) (sym p.posts) (posted_stays sid st.sessions (taker p.message.kind st.sessions) p.message)
 
-  own_stays : (who : Actor) (what : Action) → StaysTo (left_own s st who what)
-  own_stays (Caller c) (Issue call) = parked_stays (left_own s st (Caller c) (Issue call)) c (reply_to s st c (Issue call)) (posts_where s st c (flags_now st c (Issue call)) (objection_in s st c (Issue call)) (meant_in st c (Issue call)))
-  own_stays (Caller c) Resume = parked_stays (left_own s st (Caller c) Resume) c (reply_to s st c Resume) (posts_where s st c (flags_now st c Resume) (objection_in s st c Resume) (meant_in st c Resume))
-  own_stays (Session x) (Dm c) = told_stays (dm_judged s st x c) x c
-  own_stays who what = inr refl
-
-  if_stays : (fault : Bool) (own : State) → StaysTo own → StaysTo (if fault then noted st else own)
-  if_stays true own is = inr refl
-  if_stays false own is = is
-
   pub left_stays : (who : Actor) (what : Action) (answer : Answer) → StaysTo (left_by s st who what answer)
-  left_stays who what answer = if_stays (is_fault answer) (left_own s st who what) (own_stays who what)
+  left_stays who what answer = left_so s st (StaysIn sid st.sessions) (inr refl) call_stays parked_stays who what answer

@@ -1,7 +1,7 @@
 -- In a served history a daemon with a session keeps each event of its kinds that is outstanding to that session, but for those that lines of the script took.
-use Rattle.std.proofs.Common.{◌≡◌, ℕ, ◌+◌, ◌≤◌, Bool, true, false, List, [], ◌∷◌, ◌++◌, Option, None, Some, inl, inr, refl, sym, ap, subst, ◌∙◌, arith}
+use Rattle.std.proofs.Common.{◌≡◌, ℕ, ◌+◌, ◌≤◌, true, false, List, [], ◌∷◌, ◌++◌, Option, None, Some, inl, inr, refl, sym, ap, subst, ◌∙◌, arith}
 use Rattle.std.proofs.lemmas.List.Elements.{All-weaker}
-use Rattle.std.specs.Prelude.{◌⊎◌, if◌then◌else◌, Contains}
+use Rattle.std.specs.Prelude.{◌⊎◌, Contains}
 use Rattle.hsm_types.specs.Messages.{handed_out}
 use Rattle.hsm_types.specs.Sessions.{SessionTable, next_sid, queue_of, tokens_of}
 use Rattle.hsm_types.specs.declared.calls.Reply.{Reply}
@@ -17,19 +17,16 @@ use Rattle.hsm_types.specs.declared.keys.Token.{Token}
 use Rattle.hsm_types.specs.declared.messages.Message.{Message}
 use Rattle.hsm_types.specs.declared.stores.Superblock.{Superblock}
 use Rattle.plain_model.specs.declared.entries.Action.{Action}
-use Rattle.plain_model.specs.declared.entries.Action.TheVariants.{Issue, Resume, Dm}
+use Rattle.plain_model.specs.declared.entries.Action.TheVariants.{Dm}
 use Rattle.plain_model.specs.declared.entries.Actor.{Actor}
-use Rattle.plain_model.specs.declared.entries.Actor.TheVariants.{Caller, Session}
+use Rattle.plain_model.specs.declared.entries.Actor.TheVariants.{Session}
 use Rattle.plain_model.specs.declared.entries.Answer.{Answer}
 use Rattle.plain_model.specs.declared.entries.Answer.TheVariants.{Dm as Told}
 use Rattle.plain_model.specs.declared.entries.Entry.{Entry}
 use Rattle.plain_model.specs.Effects.{change_of}
-use Rattle.plain_model.specs.State.{Held, State, just_opened, noted, changed}
-use Rattle.plain_model.specs.Verdict.{flags_now, objection_in, meant_in, reply_to}
-use Rattle.plain_model.specs.Services.{dm_judged}
+use Rattle.plain_model.specs.State.{Held, State, just_opened, changed}
 use Rattle.plain_model.specs.Stands.{InOrder}
-use Rattle.plain_model.specs.Faults.{is_fault}
-use Rattle.plain_model.specs.Exact.{IsAnswer, left_own, left_by, state_by}
+use Rattle.plain_model.specs.Exact.{IsAnswer, left_by, state_by}
 use Rattle.dm_service.specs.Handing.{HandsOut}
 use Rattle.hsm_policy.specs.Settings.{Numbers}
 use Rattle.daemon_session.specs.Seats.{Seat, seat_asks, seat_hears}
@@ -42,7 +39,8 @@ use Rattle.marked_history.specs.Marks.{Mark, entries_of, exchange_by, no_daemons
 use Rattle.marked_history.specs.Served.{Shown, nothing_shown, with_entry, shown, RecallMay, MigrateMay, IsServedBy}
 use Rattle.marked_history.specs.Tokens.{IsTaken, KeepsAll, ServedKeepsAll}
 use Rattle.marked_history.proofs.Carrying.{Each, none_each, posted_each}
-use Rattle.marked_history.proofs.Handing.{told_each, PostsParked, posts_where}
+use Rattle.marked_history.proofs.Handing.{told_each, PostsParked}
+use Rattle.marked_history.proofs.AnyAnswer.{left_so}
 use Rattle.marked_history.proofs.Seating.{migrate_so}
 use Rattle.marked_history.proofs.Walking.{KeptBy, kept_behind}
 use Rattle.marked_history.proofs.Remembering.{leads, stays}
@@ -93,7 +91,7 @@ module _ (s : Superblock) (st : State) (x : Sid) where
   creates d seat old info (reply.Session new) is =
       let given : reply.Session new ≡ reply.Session (next_sid st.sessions) = (own_reply s st x (call.CreateSession old info) (reply.Session new) is refl).1 in
       let one : new ≡ next_sid st.sessions = cc given in
-      inr (inr (ap (λ (y : Sid). Some y) one, ap (λ (t : SessionTable). t.given) (done_left s st x (call.CreateSession old info) (reply.Session new) is refl)))
+      inr (inr (ap (λ (y : Sid). Some y) one, ap (λ (t : SessionTable). t.given) (done_left s st x (call.CreateSession old info) (reply.Session new) refl)))
   creates d seat old info a is = inr (inl refl)
 
   begins : (d : Daemon) (seat : Seat) (a : DmReply) → Moves st.sessions (after call.GetAllSessions a) seat (seat_hears d (seat_asks seat call.GetAllSessions) call.GetAllSessions a)
@@ -264,18 +262,8 @@ module _ (s : Superblock) (st : State) (each : Each HasToken st.sessions) where
   parked_tokened after c answer (inl same) = subst (λ (t : SessionTable). Each HasToken t) (sym same) each
   parked_tokened after c answer (inr p) = subst (λ (t : SessionTable). Each HasToken t) (sym p.posts) (posted_each HasToken p.message st.sessions each (λ d own. p.real))
 
-  own_tokened : (who : Actor) (what : Action) → Each HasToken (left_own s st who what).sessions
-  own_tokened (Caller c) (Issue call) = parked_tokened (left_own s st (Caller c) (Issue call)) c (reply_to s st c (Issue call)) (posts_where s st c (flags_now st c (Issue call)) (objection_in s st c (Issue call)) (meant_in st c (Issue call)))
-  own_tokened (Caller c) Resume = parked_tokened (left_own s st (Caller c) Resume) c (reply_to s st c Resume) (posts_where s st c (flags_now st c Resume) (objection_in s st c Resume) (meant_in st c Resume))
-  own_tokened (Session x) (Dm c) = told_each HasToken user_has st each (dm_judged s st x c) s x c
-  own_tokened who what = each
-
-  if_tokened : (fault : Bool) (own : State) → Each HasToken own.sessions → Each HasToken (if fault then noted st else own).sessions
-  if_tokened true own are = each
-  if_tokened false own are = are
-
   left_tokened : (who : Actor) (what : Action) (answer : Answer) → Each HasToken (left_by s st who what answer).sessions
-  left_tokened who what answer = if_tokened (is_fault answer) (left_own s st who what) (own_tokened who what)
+  left_tokened who what answer = left_so s st (Each HasToken) each (told_each HasToken user_has st each None s) parked_tokened who what answer
 
 -- ---- whole histories
 

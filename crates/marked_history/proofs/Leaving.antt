@@ -44,9 +44,11 @@ use Rattle.plain_model.specs.Services.{bad_own_token, bad_given_token, bad_handl
 use Rattle.plain_model.specs.Services.{dm_reply_where, dm_state_where}
 use Rattle.plain_model.specs.Stands.{InOrder}
 use Rattle.plain_model.specs.Faults.{is_fault}
-use Rattle.plain_model.specs.Exact.{IsOwn, IsAnswer, left_own, left_by}
+use Rattle.plain_model.specs.Exact.{IsOwn, IsAnswer, left_own, left_answered, left_by}
 use Rattle.plain_model.proofs.Faultless.{fault_is}
+use Rattle.plain_model.proofs.Seeing.{left_own_by}
 use Rattle.marked_history.proofs.Handing.{PostsParked, posts_where}
+use Rattle.marked_history.proofs.AnyAnswer.{call_so, left_so}
 use Rattle.marked_history.proofs.Outstanding.{created_out, ended_out, disposed_out, posted_out, sent_out, delivered_out, responded_out, user_out}
 use Rattle.marked_history.proofs.Outstanding.{handed_first, owns_each}
 
@@ -61,27 +63,13 @@ module _ (s : Superblock) (st : State) where
   call_given x (CreateSession old info) = omega arith
   call_given x c = omega arith
 
-  told_given : (why : Option DmRefusal) (x : Sid) (c : DmCall) → st.sessions.given ≤ (dm_state_where why s st x c).sessions.given
-  told_given None x c = call_given x c
-  told_given (Some why) x c = omega arith
-
   parked_given : (after : State) (c : ℕ) (answer : Reply) → PostsParked s st after c answer → st.sessions.given ≤ after.sessions.given
   parked_given after c answer (inl same) = rw same (omega arith)
   parked_given after c answer (inr p) = rw (p.posts, posted_given (taker p.message.kind st.sessions) p.message st.sessions) (omega arith)
 
-  own_given : (who : Actor) (what : Action) → st.sessions.given ≤ (left_own s st who what).sessions.given
-  own_given (Caller c) (Issue call) = parked_given (left_own s st (Caller c) (Issue call)) c (reply_to s st c (Issue call)) (posts_where s st c (flags_now st c (Issue call)) (objection_in s st c (Issue call)) (meant_in st c (Issue call)))
-  own_given (Caller c) Resume = parked_given (left_own s st (Caller c) Resume) c (reply_to s st c Resume) (posts_where s st c (flags_now st c Resume) (objection_in s st c Resume) (meant_in st c Resume))
-  own_given (Session x) (Dm c) = told_given (dm_judged s st x c) x c
-  own_given who what = omega arith
-
-  if_given : (fault : Bool) (own : State) → st.sessions.given ≤ own.sessions.given → st.sessions.given ≤ (if fault then noted st else own).sessions.given
-  if_given true own le = omega arith
-  if_given false own le = le
-
   -- they grow
   pub left_given : (who : Actor) (what : Action) (answer : Answer) → st.sessions.given ≤ (left_by s st who what answer).sessions.given
-  left_given who what answer = if_given (is_fault answer) (left_own s st who what) (own_given who what)
+  left_given who what answer = left_so s st (λ (t : SessionTable). st.sessions.given ≤ t.given) (omega arith) call_given parked_given who what answer
 
 -- ---- what is outstanding to a session then
 
@@ -137,7 +125,8 @@ module _ (s : Superblock) (st : State) (ordered : InOrder st) (P : Message → T
   -- what is so of each message that was outstanding to the session, of its own messages, and of each that it is handed, is so after any event
   pub left_out : (who : Actor) (what : Action) (answer : Answer) → IsAnswer s st who what answer → Hands P st sid who what answer → All P (outstanding_of sid (left_by s st who what answer).sessions)
   left_out who what answer (inl is) hands = let fault : is_fault answer ≡ true = ap is_fault is.1 ∙ fault_is what in rw fault each
-  left_out who what answer (inr is) hands = if_out (is_fault answer) (left_own s st who what) (own_out who what answer is hands)
+  left_out who what answer (inr is) hands =
+      if_out (is_fault answer) (left_answered s st who what answer) (subst (λ (after : State). All P (outstanding_of sid after.sessions)) (sym (left_own_by s st who what answer is)) (own_out who what answer is hands))
 
 -- ---- refusals that tell of a token
 
@@ -268,22 +257,13 @@ module _ (s : Superblock) (st : State) (x : Sid) where
       absurd (true≢false (sym (ap is_refused same) ∙ fine))
   own_reply c a (inr is) fine = not_refused c a (dm_judged s st x c) is.1 fine
 
-  no_fault : (a : DmReply) → is_refused a ≡ false → is_fault (Told a) ≡ false
-  no_fault (Refused w) fine = absurd (true≢false fine)
-  no_fault a fine = refl
-
-  pub done_left : (c : DmCall) (a : DmReply) → IsAnswer s st (Session x) (Dm c) (Told a) → is_refused a ≡ false → (left_by s st (Session x) (Dm c) (Told a)).sessions ≡ (changed (change_of x c) st).sessions
-  done_left c a is fine =
-      ap (λ (b : Bool). (if b then noted st else left_own s st (Session x) (Dm c)).sessions) (no_fault a fine)
-      ∙ ap (λ (o : Option DmRefusal). (dm_state_where o s st x c).sessions) (own_reply c a is fine).0
-
-  told_same : (c : DmCall) (o : Option DmRefusal) → (changed (change_of x c) st).sessions ≡ st.sessions → (dm_state_where o s st x c).sessions ≡ st.sessions
-  told_same c None same = same
-  told_same c (Some w) same = refl
+  pub done_left : (c : DmCall) (a : DmReply) → is_refused a ≡ false → (left_by s st (Session x) (Dm c) (Told a)).sessions ≡ (changed (change_of x c) st).sessions
+  done_left c (Refused w) fine = absurd (true≢false fine)
+  done_left c a fine = refl
 
   -- a call that changes no session
   pub same_left : (c : DmCall) (a : DmReply) → (changed (change_of x c) st).sessions ≡ st.sessions → (left_by s st (Session x) (Dm c) (Told a)).sessions ≡ st.sessions
-  same_left c a same = elim (is_fault (Told a)) as (λ (b : Bool). (if b then noted st else left_own s st (Session x) (Dm c)).sessions ≡ st.sessions) [ true ↦ refl | false ↦ told_same c (dm_judged s st x c) same ]
+  same_left c a same = call_so s st (λ (t : SessionTable). t ≡ st.sessions) refl x c a same
 
   gone_where : (c : DmCall) (a : DmReply) (o : Option DmRefusal) → told_gone (service s st x c).reply ≡ false → Told a ≡ Told (dm_reply_where o s st x c) → told_gone a ≡ true → gone o ≡ true
   gone_where c a None other is gone = let same : a ≡ (service s st x c).reply = cc in absurd (false≢true (sym other ∙ sym (ap told_gone same) ∙ gone))

@@ -2,6 +2,7 @@ pub mod QuietEvents
 pub mod Lists
 mod Carrying
 pub mod Handing
+mod AnyAnswer
 pub mod Seating
 mod Remembering
 mod Walking

@@ -127,7 +127,7 @@ module _ (s : Superblock) (st : State) (ordered : InOrder st) (d : Daemon) where
             → All (Accounted d (marked (call.CreateSession old info) (reply.Session new)) [] unfound) (outstanding_of sid (after (call.CreateSession old info) (reply.Session new)))
         by true zero_id same =
             let none : outstanding_of (next_sid st.sessions) (after (call.CreateSession old info) (reply.Session new)) ≡ [] =
-            ap (outstanding_of (next_sid st.sessions)) (done_left s st x (call.CreateSession old info) (reply.Session new) is refl) ∙ created_empty old info st.sessions ordered.ascend (eqb-true old.0 0 zero_id) in
+            ap (outstanding_of (next_sid st.sessions)) (done_left s st x (call.CreateSession old info) (reply.Session new) refl) ∙ created_empty old info st.sessions ordered.ascend (eqb-true old.0 0 zero_id) in
             subst (λ (y : Sid). All (Accounted d (marked (call.CreateSession old info) (reply.Session new)) [] unfound) (outstanding_of y (after (call.CreateSession old info) (reply.Session new)))) which
             (subst (λ (l : List Message). All (Accounted d (marked (call.CreateSession old info) (reply.Session new)) [] unfound) l) (sym none) (All-nil (Accounted d (marked (call.CreateSession old info) (reply.Session new)) [] unfound)))
         by false other same = absurd cc
@@ -237,7 +237,7 @@ module _ (s : Superblock) (st : State) (ordered : InOrder st) (d : Daemon) where
         answered : IsAnswer s st (Session x) (Dm answer) (Told reply.Done) → AllAccounted d (marked answer reply.Done) (after answer reply.Done) (record seat { kept = forgot u seat.kept })
         answered is =
             let none : All (λ (m : Message). has_token u m ≡ false) (outstanding_of x (after answer reply.Done)) =
-            subst (λ (t : SessionTable). All (λ (m : Message). has_token u m ≡ false) (outstanding_of x t)) (sym (done_left s st x answer reply.Done is refl)) (responded_gone x u st.sessions) in
+            subst (λ (t : SessionTable). All (λ (m : Message). has_token u m ≡ false) (outstanding_of x t)) (sym (done_left s st x answer reply.Done refl)) (responded_gone x u st.sessions) in
             forgot_on d (after answer reply.Done) (marked answer reply.Done) seat (plain seat answer reply.Done refl refl is given each) x u at
             (All-weaker (λ m. has_token u m ≡ false) (IsApart d u) (λ m apart own. eqb-false m.token.0 u.0 apart) (outstanding_of x (after answer reply.Done)) none)
 

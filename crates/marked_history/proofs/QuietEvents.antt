@@ -1,5 +1,5 @@
 -- What quiet events leave, and which events are not quiet.
-use Rattle.std.proofs.Common.{◌≡◌, ◌≢◌, ◌∙◌, ◌||◌, ◌++◌, ℕ, Bool, true, false, List, Option, Some, None, inl, inr, refl, sym, ap}
+use Rattle.std.proofs.Common.{◌≡◌, ◌≢◌, ◌∙◌, ◌++◌, ℕ, Bool, true, false, List, Option, Some, None, inl, inr, refl, sym, ap}
 use Rattle.std.specs.Prelude.{if◌then◌else◌}
 use Rattle.std.specs.List.{list_all}
 use Rattle.std.specs.Option.{option_map}
@@ -12,8 +12,8 @@ use Rattle.hsm_types.specs.declared.calls.Reply.{Reply}
 use Rattle.hsm_types.specs.declared.calls.Reply.TheVariants.{Blocked, Still, Refused}
 use Rattle.hsm_types.specs.declared.dm.DmCall.{DmCall}
 use Rattle.hsm_types.specs.declared.dm.DmCall.TheVariants as dm
-use Rattle.hsm_types.specs.declared.dm.DmRefusal.{DmRefusal}
 use Rattle.hsm_types.specs.declared.dm.DmReply.{DmReply}
+use Rattle.hsm_types.specs.declared.dm.DmReply.TheVariants as told
 use Rattle.hsm_types.specs.declared.keys.Sid.{Sid}
 use Rattle.hsm_types.specs.declared.stores.Superblock.{Superblock}
 use Rattle.plain_model.specs.declared.entries.Action.{Action}
@@ -24,9 +24,10 @@ use Rattle.plain_model.specs.declared.entries.Answer.{Answer}
 use Rattle.plain_model.specs.declared.entries.Answer.TheVariants.{Call as Replied, Dm as Told}
 use Rattle.plain_model.specs.declared.entries.Entry.{Entry}
 use Rattle.plain_model.specs.Effects.{change_of}
+use Rattle.plain_model.specs.Exact.{left_told}
 use Rattle.plain_model.specs.Faults.{Acts}
 use Rattle.plain_model.specs.Ledger.{Access as Pending, ledger_told}
-use Rattle.plain_model.specs.Services.{service, dm_judged, dm_reply_where, dm_reply_to, dm_state_where, dm_state_after}
+use Rattle.plain_model.specs.Services.{service}
 use Rattle.plain_model.specs.State.{State, noted, changed}
 use Rattle.plain_model.specs.Verdict.{reply_to}
 use Rattle.access_park.specs.declared.access.Access.{Access}
@@ -103,14 +104,10 @@ question_leaves st sid (dm.GetRegion t h) reply asks = refl
 question_leaves st sid (dm.ReadInvis t h offset len) reply asks = refl
 question_leaves st sid other reply asks = absurd (false≢true asks)
 
-module _ (s : Superblock) (st : State) (sid : Sid) (call : DmCall) where
-  judged_noted : (judged : Option DmRefusal) → is_quiet_event (Dm call) (Told (dm_reply_where judged s st sid call)) ≡ true → dm_state_where judged s st sid call ≡ noted st
-  judged_noted (Some why) quiet = refl
-  judged_noted None quiet = question_leaves st sid call (service s st sid call).reply (ap (λ (b : Bool). b || is_question call) (sym (served_plainly s st sid call)) ∙ quiet)
-
-  -- it is one entry more, and nothing else
-  pub quiet_noted : is_quiet_event (Dm call) (Told (dm_reply_to s st sid call)) ≡ true → dm_state_after s st sid call ≡ noted st
-  quiet_noted quiet = judged_noted (dm_judged s st sid call) quiet
+-- it is one entry more, and nothing else
+pub told_quiet : (st : State) (sid : Sid) (call : DmCall) (reply : DmReply) → is_quiet_event (Dm call) (Told reply) ≡ true → left_told st sid call reply ≡ noted st
+told_quiet st sid call (told.Refused why) quiet = refl
+told_quiet st sid call reply quiet = question_leaves st sid call reply quiet
 
 -- ---- what a resume would come to after it
 
@@ -151,8 +148,7 @@ module _ {D : Type 0} where
   quiet_ready g old new sid call reply (inr (inl lacks)) still quiet c = same_ready old new c lacks.goes.working still lacks.goes.opened (ap (λ (st : State). ready_in (superblock_of old.opened) st c) lacks.state)
   quiet_ready g old new sid call reply (inr (inr (inl failed))) still quiet c = absurd (false≢true (sym still ∙ failed.failed))
   quiet_ready g old new sid call reply (inr (inr (inr done))) still quiet c =
-      let own : is_quiet_event (Dm call) (Told (dm_reply_to (superblock_of old.opened) (state_of old) sid call)) ≡ true = ap (is_quiet_event (Dm call)) (sym done.answer) ∙ quiet in
-      let left : state_of new ≡ noted (state_of old) = done.leaves ∙ quiet_noted (superblock_of old.opened) (state_of old) sid call own in
+      let left : state_of new ≡ noted (state_of old) = done.leaves ∙ told_quiet (state_of old) sid call reply quiet in
       same_ready old new c done.goes.working still done.goes.opened (ap (λ (st : State). ready_in (superblock_of old.opened) st c) left ∙ noted_ready (superblock_of old.opened) (state_of old) c)
 
   -- It leaves the rights as they were.
@@ -161,6 +157,5 @@ module _ {D : Type 0} where
   quiet_rights g old new sid call reply (inr (inl lacks)) still quiet = ap (λ (st : State). st.rights) lacks.state
   quiet_rights g old new sid call reply (inr (inr (inl failed))) still quiet = absurd (false≢true (sym still ∙ failed.failed))
   quiet_rights g old new sid call reply (inr (inr (inr done))) still quiet =
-      let own : is_quiet_event (Dm call) (Told (dm_reply_to (superblock_of old.opened) (state_of old) sid call)) ≡ true = ap (is_quiet_event (Dm call)) (sym done.answer) ∙ quiet in
-      let left : state_of new ≡ noted (state_of old) = done.leaves ∙ quiet_noted (superblock_of old.opened) (state_of old) sid call own in
+      let left : state_of new ≡ noted (state_of old) = done.leaves ∙ told_quiet (state_of old) sid call reply quiet in
       ap (λ (st : State). st.rights) left

@@ -39,6 +39,7 @@ use Rattle.plain_model.specs.Faults.{is_fault}
 use Rattle.plain_model.specs.Exact.{IsOwn, IsAnswer, left_own, left_by, state_by}
 use Rattle.plain_model.proofs.Faultless.{fault_is}
 use Rattle.plain_model.proofs.Ledgers.{Moves, event_moves}
+use Rattle.plain_model.proofs.Seeing.{exact_left}
 use Rattle.event_msgs.specs.Reading.{told}
 use Rattle.dm_service.specs.Handing.{HandsOut}
 use Rattle.hsm_policy.specs.Settings.{Numbers}
@@ -176,7 +177,9 @@ module _ (s : Superblock) (st : State) (f : Register) (is : IsRegister f st.ledg
 
   left_next : (who : Actor) (what : Action) (answer : Answer) → InOrder st → IsAnswer s st who what answer → NextOf (left_by s st who what answer)
   left_next who what answer ordered (inl faulty) = let fault : is_fault answer ≡ true = ap is_fault faulty.1 ∙ fault_is what in rw fault (stays (noted st) (omega arith) is.each)
-  left_next who what answer ordered (inr own) = if_next (is_fault answer) who what answer own (event_moves s st who what answer ordered (inr own))
+  left_next who what answer ordered (inr own) =
+      let left = exact_left s st who what answer (inr own) in
+      subst NextOf (sym left) (if_next (is_fault answer) who what answer own (subst (λ (after : State). Moves st.ledger after.ledger who what answer) left (event_moves s st who what answer ordered (inr own))))
 
 -- ---- events and files of tokens
 

@@ -39,7 +39,7 @@ use Rattle.plain_model.specs.declared.entries.Action.TheVariants.{Issue, Resume,
 use Rattle.plain_model.specs.declared.entries.Actor.{Actor}
 use Rattle.plain_model.specs.declared.entries.Actor.TheVariants.{Caller, Session}
 use Rattle.plain_model.specs.declared.entries.Answer.{Answer}
-use Rattle.plain_model.specs.declared.entries.Answer.TheVariants.{Dm as Told}
+use Rattle.plain_model.specs.declared.entries.Answer.TheVariants.{Call as Replied, Dm as Told}
 use Rattle.plain_model.specs.declared.entries.Entry.{Entry}
 use Rattle.plain_model.specs.declared.facts.NoRoom.{NoRoom}
 use Rattle.plain_model.specs.Accesses.{need_of}
@@ -51,7 +51,7 @@ use Rattle.plain_model.specs.Verdict.{flags_now, objection_in, reply_where, repl
 use Rattle.plain_model.specs.Services.{dm_judged, dm_reply_to}
 use Rattle.plain_model.specs.Stands.{InOrder}
 use Rattle.plain_model.specs.Faults.{is_fault, fault_of, FaultIsLast}
-use Rattle.plain_model.specs.Exact.{IsAnswer, answer_to, left_own, left_by, Exact, state_by}
+use Rattle.plain_model.specs.Exact.{IsAnswer, left_answered, left_by, Exact, state_by}
 use Rattle.plain_model.specs.Laws.{IsRun}
 use Rattle.plain_model.proofs.Faultless.{fault_is}
 use Rattle.plain_model.proofs.Orders.{ordered_at_first, state_ordered}
@@ -60,7 +60,6 @@ use Rattle.hsm_policy.specs.Settings.{Numbers}
 use Rattle.daemon_session.specs.declared.events.Kept.{Kept}
 use Rattle.daemon_session.specs.Seats.{IsSeated}
 use Rattle.hsm_core.specs.Ready.{ready}
-use Rattle.hsm_core.specs.Kept.{IsKept}
 use Rattle.hsm_core.specs.Packed.{ArePacked}
 use Rattle.hsm_core.specs.Store.{Store, state_of}
 use Rattle.hsm_core.specs.declared.store.Ready.{Ready}
@@ -74,7 +73,7 @@ use Rattle.marked_history.specs.Waiting.{IsAtRest, SettledWaits}
 use Rattle.marked_history.proofs.Lists.{none_in, none_there, parts}
 use Rattle.marked_history.proofs.Granting.{refused_so, judged_busy, hindered_by, exact_rest, served_holds_granted}
 use Rattle.marked_history.proofs.KeepingAll.{served_keeps_all}
-use Rattle.marked_history.proofs.QuietEvents.{all_quiet_append, quiet_noted, ready_seen, ready_in, ready_by_state}
+use Rattle.marked_history.proofs.QuietEvents.{all_quiet_append, told_quiet, ready_seen, ready_in, ready_by_state}
 use Rattle.marked_history.proofs.TellingOne.{served_tells_one}
 
 -- ---- what a reply to a resume tells
@@ -167,37 +166,37 @@ seen_waits a reply other = absurd (other refl)
 abbrev state_behind : {D : Type 0} → Store D → State
 state_behind s = state_by (superblock_of s.opened) (just_opened s.opened.meta.number s.opened.held) s.history
 
-pub ready_waits : {D : Type 0} (s : Store D) → IsKept s → s.files.failed ≡ false → (c : ℕ) (a : Access) → (state_behind s).ledger.pending c ≡ Some a → ready s c ≢ Now
+pub ready_waits : {D : Type 0} (s : Store D) → state_of s ≡ state_behind s → s.files.failed ≡ false → (c : ℕ) (a : Access) → (state_behind s).ledger.pending c ≡ Some a → ready s c ≢ Now
     → ((t : Token) × (reply_to (superblock_of s.opened) (state_behind s) c Resume ≡ Still t)) ⊎ ((t : Token) × (reply_to (superblock_of s.opened) (state_behind s) c Resume ≡ Blocked t))
-ready_waits s kept working c a waits other =
+ready_waits s same working c a waits other =
     let seen : ready_in (superblock_of s.opened) (state_of s) c ≢ Now = subst (λ (x : Ready). x ≢ Now) (ready_by_state s c working) other in
-    let behind : ready_in (superblock_of s.opened) (state_behind s) c ≢ Now = subst (λ (x : State). ready_in (superblock_of s.opened) x c ≢ Now) (kept.state working) seen in
+    let behind : ready_in (superblock_of s.opened) (state_behind s) c ≢ Now = subst (λ (x : State). ready_in (superblock_of s.opened) x c ≢ Now) same seen in
     seen_waits a (reply_to (superblock_of s.opened) (state_behind s) c Resume) (subst (λ (found : Option Access). ready_seen found (reply_to (superblock_of s.opened) (state_behind s) c Resume) ≢ Now) waits behind)
 
 -- ---- quiet entries leave the tables
 
 module _ (s : Superblock) (st : State) where
-  own_quiet : (who : Actor) (what : Action) (answer : Answer) → answer ≡ answer_to s st who what → is_quiet_event what answer ≡ true → left_own s st who what ≡ noted st
-  own_quiet (Session sid) (Dm call) answer is quiet = quiet_noted s st sid call (ap (is_quiet_event (Dm call)) (sym is) ∙ quiet)
-  own_quiet (Caller c) (Issue call) answer is quiet = absurd (false≢true quiet)
-  own_quiet (Caller c) Resume answer is quiet = absurd (false≢true quiet)
-  own_quiet who what answer is quiet = refl
+  answered_quiet : (who : Actor) (what : Action) (answer : Answer) → is_quiet_event what answer ≡ true → left_answered s st who what answer ≡ noted st
+  answered_quiet (Session sid) (Dm call) (Told reply) quiet = told_quiet st sid call reply quiet
+  answered_quiet (Session sid) (Dm call) (Replied reply) quiet = absurd (false≢true quiet)
+  answered_quiet (Caller c) (Issue call) answer quiet = absurd (false≢true quiet)
+  answered_quiet (Caller c) Resume answer quiet = absurd (false≢true quiet)
+  answered_quiet who what answer quiet = refl
 
-  quiet_left : (who : Actor) (what : Action) (answer : Answer) → IsAnswer s st who what answer → is_quiet_event what answer ≡ true → left_by s st who what answer ≡ noted st
-  quiet_left who what answer (inl faulty) quiet = let fault : is_fault answer ≡ true = ap is_fault faulty.1 ∙ fault_is what in rw fault refl
-  quiet_left who what answer (inr own) quiet = elim (is_fault answer) as (λ (b : Bool). (if b then noted st else left_own s st who what) ≡ noted st) [ true ↦ refl | false ↦ own_quiet who what answer own.1 quiet ]
+  quiet_left : (who : Actor) (what : Action) (answer : Answer) → is_quiet_event what answer ≡ true → left_by s st who what answer ≡ noted st
+  quiet_left who what answer quiet = elim (is_fault answer) as (λ (b : Bool). (if b then noted st else left_answered s st who what answer) ≡ noted st) [ true ↦ refl | false ↦ answered_quiet who what answer quiet ]
 
 -- the same sessions, with the same rights, and the same files
 abbrev pub Same : State → State → Type 0
 Same old new = (new.sessions ≡ old.sessions) × (new.rights ≡ old.rights) × (new.held ≡ old.held)
 
 module _ (s : Superblock) where
-  quiet_same : (st : State) (es : List Entry) → Exact s st es → list_all is_quiet es ≡ true → Same st (state_by s st es)
-  quiet_same st [] exact quiet = (refl, refl, refl)
-  quiet_same st (e ∷ es) exact quiet =
+  quiet_same : (st : State) (es : List Entry) → list_all is_quiet es ≡ true → Same st (state_by s st es)
+  quiet_same st [] quiet = (refl, refl, refl)
+  quiet_same st (e ∷ es) quiet =
       let parts = all_quiet_append (e ∷ []) es quiet in
-      let left = quiet_left s st e.actor e.action e.answer exact.0 (one_quiet (is_quiet e) parts.0) in
-      let later = quiet_same (left_by s st e.actor e.action e.answer) es exact.2 parts.1 in
+      let left = quiet_left s st e.actor e.action e.answer (one_quiet (is_quiet e) parts.0) in
+      let later = quiet_same (left_by s st e.actor e.action e.answer) es parts.1 in
       (later.0 ∙ ap (λ (x : State). x.sessions) left, later.1 ∙ ap (λ (x : State). x.rights) left, later.2 ∙ ap (λ (x : State). x.held) left)
     where
       one_quiet : (b : Bool) → (b && true) ≡ true → b ≡ true
@@ -225,7 +224,7 @@ module _ (s : Superblock) where
         now = now;
         answer = own.0;
         last = own.1;
-        same = subst (Same now) (sym ends) (quiet_same now (e ∷ rest) own (all_quiet_append a (e ∷ rest) (subst (λ (l : List Entry). list_all is_quiet l ≡ true) is quiet)).1);
+        same = subst (Same now) (sym ends) (quiet_same now (e ∷ rest) (all_quiet_append a (e ∷ rest) (subst (λ (l : List Entry). list_all is_quiet l ≡ true) is quiet)).1);
       }
 
 -- ---- what refusals tell
@@ -284,7 +283,7 @@ module _ (r : Running) (limits : Numbers) (s : Superblock) (base : ℕ) (h : Hel
 
   module _ (served : Served limits marks) (run : IsRun s base h es) (packed : ArePacked s first es) (rest : IsAtRest r k s first es) where
     ordered : InOrder st
-    ordered = state_ordered s first es (ordered_at_first base h)
+    ordered = state_ordered s first es (ordered_at_first base h) run.exact
 
     tells : TellsOne limits st.sessions marks
     tells = served_tells_one limits s base h marks es refl served run packed

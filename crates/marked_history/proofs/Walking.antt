@@ -27,7 +27,7 @@ module _ (limits : Numbers) (s : Superblock) (P : Kept) (step : KeptBy limits s 
   kept_on done now k [] exact packed ordered served is = subst (λ (l : List Mark). P l now k) (sym (append-nil done)) is
   kept_on done now k (m ∷ marks) exact packed ordered served is =
       subst (λ (l : List Mark). P l (state_by s now (entries_of (m ∷ marks))) (shown limits k (m ∷ marks))) (append_assoc done (m ∷ []) marks)
-      (kept_on (done ++ m ∷ []) (left_by s now m.entry.actor m.entry.action m.entry.answer) (learned limits k m) marks exact.2 packed.1 (event_ordered s now m.entry ordered) served.1
+      (kept_on (done ++ m ∷ []) (left_by s now m.entry.actor m.entry.action m.entry.answer) (learned limits k m) marks exact.2 packed.1 (event_ordered s now m.entry ordered exact.0) served.1
       (step done now k m ordered exact.0 packed.0 served.0 is))
 
   pub kept_behind : (base : ℕ) (h : Held) (marks : List Mark) (es : List Entry) → entries_of marks ≡ es → Served limits marks → IsRun s base h es → ArePacked s (just_opened base h) es → P [] (just_opened base h) nothing_shown

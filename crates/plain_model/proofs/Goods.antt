@@ -36,4 +36,4 @@ good_from s base h es run P stands = record {
     legal = (exact_is_legal s base h es P run.opening run.exact stands).0
 
 pub run_is_good : (s : Superblock) (base : ℕ) (h : Held) (es : List Entry) → RunIsGood s base h es
-run_is_good s base h es run = record { run = run; once = exact_is_once s (just_opened base h) es (ordered_at_first base h) run.exact; ordered = λ i. state_ordered s (just_opened base h) (take i es) (ordered_at_first base h); good = good_from s base h es run }
+run_is_good s base h es run = record { run = run; once = exact_is_once s (just_opened base h) es (ordered_at_first base h) run.exact; ordered = λ i. state_ordered s (just_opened base h) (take i es) (ordered_at_first base h) (Exact-take s (just_opened base h) es i run.exact); good = good_from s base h es run }

@@ -38,10 +38,11 @@ use Rattle.plain_model.specs.Verdict.{Blocks, Posts, Lacks, Verdict, verdict, re
 use Rattle.plain_model.specs.Services.{bad_own_token, service, dm_judged, dm_reply_where, dm_state_where}
 use Rattle.plain_model.specs.Faults.{is_fault, IsFault}
 use Rattle.plain_model.specs.Stands.{Awaits, InOrder}
-use Rattle.plain_model.specs.Exact.{IsOwn, IsAnswer, left_own, left_by}
+use Rattle.plain_model.specs.Exact.{IsOwn, IsAnswer, left_own, left_answered, left_by}
 use Rattle.plain_model.proofs.Faultless.{fault_is, own_faultless}
 use Rattle.plain_model.proofs.Judged.{none_first, Says, meant_says}
 use Rattle.plain_model.proofs.Orders.{owned_open}
+use Rattle.plain_model.proofs.Seeing.{left_own_by}
 
 -- what waits is an access on that token, with that response or none
 abbrev pub IsOn : Token → Option Response → Option Access → Type 0
@@ -335,8 +336,8 @@ if_moves false st own who what answer faulty done = done refl
 
 pub event_moves : (s : Superblock) (st : State) (who : Actor) (what : Action) (answer : Answer) → InOrder st → IsAnswer s st who what answer → Moves st.ledger (left_by s st who what answer).ledger who what answer
 event_moves s st who what answer ordered (inl is) =
-    if_moves (is_fault answer) st (left_own s st who what) who what answer (λ fault. fault_moves st.ledger who what answer is)
+    if_moves (is_fault answer) st (left_answered s st who what answer) who what answer (λ fault. fault_moves st.ledger who what answer is)
     (λ none. absurd (false≢true (sym none ∙ (ap is_fault is.1 ∙ fault_is what))))
 event_moves s st who what answer ordered (inr is) =
-    if_moves (is_fault answer) st (left_own s st who what) who what answer (λ fault. absurd (false≢true (sym (own_faultless s st who what answer is) ∙ fault)))
-    (λ none. own_moves s st who what answer ordered is)
+    if_moves (is_fault answer) st (left_answered s st who what answer) who what answer (λ fault. absurd (false≢true (sym (own_faultless s st who what answer is) ∙ fault)))
+    (λ none. subst (λ (left : State). Moves st.ledger left.ledger who what answer) (sym (left_own_by s st who what answer is)) (own_moves s st who what answer ordered is))

@@ -1,5 +1,6 @@
 pub mod Judged
 pub mod Faultless
+pub mod Seeing
 pub mod Histories
 pub mod Bodies
 pub mod Meeting
@@ -17,6 +18,8 @@ pub mod Same
 pub mod Examples
 pub mod Ledgers
 pub mod Onces
+pub mod Alike
+pub mod AnyDisk
 pub mod Goods
 pub mod Owning
 pub mod Opened

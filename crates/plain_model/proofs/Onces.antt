@@ -26,7 +26,7 @@ use Rattle.plain_model.proofs.Orders.{event_ordered}
 use Rattle.plain_model.proofs.Ledgers.{IsOn, Moves, event_moves}
 
 -- each entry moves the ledger
-abbrev Runs : Ledger → List Entry → Type 0
+abbrev pub Runs : Ledger → List Entry → Type 0
 Runs L [] = Unit {0}
 Runs L (e ∷ es) = (M : Ledger) × (Moves L M e.actor e.action e.answer × Runs M es)
 
@@ -92,7 +92,7 @@ used_once L M (Session sid) (Dm (Respond t r)) (Told told.Done) es moves run =
     (never_given t.0 M es old run, never_taken t.0 M es old taken.2 run)
 used_once L M who what answer es moves run = tt
 
-run_once : (L : Ledger) (es : List Entry) → Runs L es → Once es
+pub run_once : (L : Ledger) (es : List Entry) → Runs L es → Once es
 run_once L [] run = tt
 run_once L (e ∷ es) run = (used_once L run.0 e.actor e.action e.answer es run.1.0 run.1.1, run_once run.0 es run.1.1)
 
@@ -100,7 +100,7 @@ exact_runs : (s : Superblock) (st : State) (es : List Entry) → InOrder st → 
 exact_runs s st [] ordered exact = tt
 exact_runs s st (e ∷ es) ordered exact =
     let left : State = left_by s st e.actor e.action e.answer in
-    (left.ledger, (event_moves s st e.actor e.action e.answer ordered exact.0, exact_runs s left es (event_ordered s st e ordered) exact.2))
+    (left.ledger, (event_moves s st e.actor e.action e.answer ordered exact.0, exact_runs s left es (event_ordered s st e ordered exact.0) exact.2))
 
 pub exact_is_once : (s : Superblock) (st : State) (es : List Entry) → InOrder st → Exact s st es → Once es
 exact_is_once s st es ordered exact = run_once st.ledger es (exact_runs s st es ordered exact)

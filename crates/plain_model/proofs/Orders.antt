@@ -54,8 +54,9 @@ use Rattle.plain_model.specs.Verdict.{state_where, state_after}
 use Rattle.plain_model.specs.Services.{bad_own_token, bad_handle, dm_judged, dm_state_where, dm_state_after}
 use Rattle.plain_model.specs.Faults.{is_fault}
 use Rattle.plain_model.specs.Stands.{Awaits, InOrder}
-use Rattle.plain_model.specs.Exact.{left_own, left_by, state_by}
+use Rattle.plain_model.specs.Exact.{IsAnswer, left_own, left_by, Exact, state_by}
 use Rattle.plain_model.proofs.Judged.{none_first, passes, Says, meant_says}
+use Rattle.plain_model.proofs.Seeing.{exact_left}
 
 -- ---- whose token it is
 
@@ -362,14 +363,15 @@ if_ordered : (fault : Bool) (st own : State) → InOrder st → InOrder own → 
 if_ordered true st own still done = still_ordered st _ _ _ st.flags still
 if_ordered false st own still done = done
 
-pub event_ordered : (s : Superblock) (st : State) (e : Entry) → InOrder st → InOrder (left_by s st e.actor e.action e.answer)
-event_ordered s st e ordered = if_ordered (is_fault e.answer) st (left_own s st e.actor e.action) ordered (own_ordered s st e.actor e.action ordered)
+pub event_ordered : (s : Superblock) (st : State) (e : Entry) → InOrder st → IsAnswer s st e.actor e.action e.answer → InOrder (left_by s st e.actor e.action e.answer)
+event_ordered s st e ordered is =
+    subst InOrder (sym (exact_left s st e.actor e.action e.answer is)) (if_ordered (is_fault e.answer) st (left_own s st e.actor e.action) ordered (own_ordered s st e.actor e.action ordered))
 
 -- a store that was just opened has no sessions and no tokens
 pub ordered_at_first : (base : ℕ) (h : Held) → InOrder (just_opened base h)
 ordered_at_first base h = record { ascend = tt; once = λ u some. refl; given = λ n past. refl; none = refl; waits = λ c. tt; rights = no-rights; held = All-nil (IsOpen no_ledger) }
 
 -- each exact run leaves them so
-pub state_ordered : (s : Superblock) (st : State) (es : List Entry) → InOrder st → InOrder (state_by s st es)
-state_ordered s st [] ordered = ordered
-state_ordered s st (e ∷ es) ordered = state_ordered s (left_by s st e.actor e.action e.answer) es (event_ordered s st e ordered)
+pub state_ordered : (s : Superblock) (st : State) (es : List Entry) → InOrder st → Exact s st es → InOrder (state_by s st es)
+state_ordered s st [] ordered exact = ordered
+state_ordered s st (e ∷ es) ordered exact = state_ordered s (left_by s st e.actor e.action e.answer) es (event_ordered s st e ordered exact.0) exact.2

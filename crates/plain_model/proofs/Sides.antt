@@ -27,11 +27,12 @@ use Rattle.plain_model.specs.Services.{service, dm_judged, dm_reply_where, dm_st
 use Rattle.plain_model.specs.Faults.{is_fault}
 use Rattle.plain_model.specs.Step.{World, start, meant_for, after}
 use Rattle.plain_model.specs.Stands.{Stands, StandsFor}
-use Rattle.plain_model.specs.Exact.{IsOwn, IsAnswer, left_own, left_by, Exact, state_by}
+use Rattle.plain_model.specs.Exact.{IsOwn, IsAnswer, left_own, left_answered, left_by, Exact, state_by}
 use Rattle.plain_model.specs.Side.{Side, side_of, sides_of, remade_side, affected_side, side_replied, side_changed, side_told, side_given, side_after}
 use Rattle.plain_model.specs.Laws.{IsOpening}
 use Rattle.plain_model.proofs.Faultless.{fault_is}
 use Rattle.plain_model.proofs.Steps.{event_stands, same_meant, stands_at_first}
+use Rattle.plain_model.proofs.Seeing.{left_own_by}
 
 -- ---- effects
 
@@ -145,8 +146,10 @@ faulty_sided false st own X is = cc
 
 event_sided : (s : Superblock) (st : State) (W : World) (e : Entry) → StandsFor st W → IsAnswer s st e.actor e.action e.answer
     → sides_of (left_by s st e.actor e.action e.answer).held.files ≡ (if is_fault e.answer then sides_of st.held.files else side_given W e.actor e.action e.answer (sides_of st.held.files))
-event_sided s st W e stands (inl is) = faulty_sided (is_fault e.answer) st (left_own s st e.actor e.action) _ (ap is_fault is.1 ∙ fault_is e.action)
-event_sided s st W e stands (inr is) = if_sided (is_fault e.answer) st (left_own s st e.actor e.action) _ (λ none. own_sided s st W e.actor e.action e.answer stands is)
+event_sided s st W e stands (inl is) = faulty_sided (is_fault e.answer) st (left_answered s st e.actor e.action e.answer) _ (ap is_fault is.1 ∙ fault_is e.action)
+event_sided s st W e stands (inr is) =
+    if_sided (is_fault e.answer) st (left_answered s st e.actor e.action e.answer) _
+    (λ none. ap (λ (left : State). sides_of left.held.files) (left_own_by s st e.actor e.action e.answer is) ∙ own_sided s st W e.actor e.action e.answer stands is)
 
 sided : (s : Superblock) (st : State) (W : World) (es : List Entry) → StandsFor st W → Exact s st es → sides_of (state_by s st es).held.files ≡ side_after W (sides_of st.held.files) es
 sided s st W [] stands exact = refl

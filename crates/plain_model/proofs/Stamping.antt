@@ -27,12 +27,13 @@ use Rattle.plain_model.specs.Verdict.{reply_to, state_where, state_after}
 use Rattle.plain_model.specs.Services.{dm_judged, dm_state_where}
 use Rattle.plain_model.specs.Faults.{is_fault, fault_of}
 use Rattle.plain_model.specs.Stands.{Stands, StandsFor}
-use Rattle.plain_model.specs.Exact.{IsOwn, IsAnswer, left_own, left_by, Exact, state_by}
+use Rattle.plain_model.specs.Exact.{IsOwn, IsAnswer, left_own, left_answered, left_by, Exact, state_by}
 use Rattle.plain_model.specs.Stamps.{reaches_key, accesses, access_numbers, last_or, stamp}
 use Rattle.plain_model.specs.Laws.{IsOpening}
 use Rattle.plain_model.proofs.Faultless.{own_faultless, fault_is}
 use Rattle.plain_model.proofs.Histories.{left_by-number}
 use Rattle.plain_model.proofs.Steps.{same_meant, event_stands, stands_at_first}
+use Rattle.plain_model.proofs.Seeing.{left_own_by}
 
 module _ (number : ℕ) (st : State) (stamps : FileKey → ℕ) (j : FileKey) where
   verdict_stamped : (k : FileKey) (call : Call) (v : Verdict) → stamps_by number k call v stamps j ≡ (if reaches_key (Means k call) (reply_by st k call v) j then number else stamps j)
@@ -101,10 +102,11 @@ faulty_stamped false used st own k n is none = cc
 event_stamped : (s : Superblock) (st : State) (W : World) (e : Entry) → StandsFor st W → IsAnswer s st e.actor e.action e.answer → (k : FileKey)
     → (left_by s st e.actor e.action e.answer).stamps k ≡ (if accesses W k e.actor e.action e.answer then st.number + 1 else st.stamps k)
 event_stamped s st W e stands (inl is) k =
-    faulty_stamped (is_fault e.answer) (accesses W k e.actor e.action e.answer) st (left_own s st e.actor e.action) k (st.number + 1) (ap is_fault is.1 ∙ fault_is e.action)
+    faulty_stamped (is_fault e.answer) (accesses W k e.actor e.action e.answer) st (left_answered s st e.actor e.action e.answer) k (st.number + 1) (ap is_fault is.1 ∙ fault_is e.action)
     (ap (accesses W k e.actor e.action) is.1 ∙ fault_accesses s st k W e.actor e.action)
 event_stamped s st W e stands (inr is) k =
-    if_stamped (is_fault e.answer) st (left_own s st e.actor e.action) k _ (own_faultless s st e.actor e.action e.answer is) (own_stamped s st k W e.actor e.action e.answer stands is)
+    if_stamped (is_fault e.answer) st (left_answered s st e.actor e.action e.answer) k _ (own_faultless s st e.actor e.action e.answer is)
+    (ap (λ (left : State). left.stamps k) (left_own_by s st e.actor e.action e.answer is) ∙ own_stamped s st k W e.actor e.action e.answer stands is)
 
 last_if : (b : Bool) (none n : ℕ) (ns : List ℕ) → last_or (if b then n else none) ns ≡ last_or none (if b then n ∷ ns else ns)
 last_if true none n ns = refl

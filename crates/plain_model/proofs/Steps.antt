@@ -43,7 +43,7 @@ use Rattle.plain_model.specs.Faults.{is_fault}
 use Rattle.plain_model.specs.Step.{World, start, IsOutcome, MayReply, meant_for, objection_for, replied, MayAnswer, MayGive, given, after}
 use Rattle.plain_model.specs.Legal.{Legal, After}
 use Rattle.plain_model.specs.Stands.{HasBody, Stands, StandsFor, InOrder}
-use Rattle.plain_model.specs.Exact.{IsOwn, IsAnswer, left_own, left_by, Exact, state_by}
+use Rattle.plain_model.specs.Exact.{IsOwn, IsAnswer, left_own, left_answered, left_by, Exact, state_by}
 use Rattle.plain_model.specs.Laws.{IsOpening}
 use Rattle.plain_model.proofs.Unstopped.{read_free, call_sound}
 use Rattle.plain_model.proofs.Standing.{IsSoundAt, sound_at, affected_stands, names_stand, file_stands}
@@ -51,6 +51,7 @@ use Rattle.plain_model.proofs.Faultless.{fault_is}
 use Rattle.plain_model.proofs.Told.{same_read, may_tell, told_stands}
 use Rattle.plain_model.proofs.Judged.{none_first, Says, meant_says}
 use Rattle.plain_model.proofs.Orders.{event_ordered, ordered_at_first}
+use Rattle.plain_model.proofs.Seeing.{left_own_by}
 
 -- ---- a call to which nothing objects
 
@@ -296,11 +297,11 @@ faulty_stands false st own W V is still = cc
 -- the store after an event stands for the world after it
 pub event_stands : (s : Superblock) (st : State) (W : World) (e : Entry) → StandsFor st W → IsAnswer s st e.actor e.action e.answer → StandsFor (left_by s st e.actor e.action e.answer) (after W e)
 event_stands s st W e stands (inl is) =
-    faulty_stands (is_fault e.answer) st (left_own s st e.actor e.action) W (given W e.actor e.action e.answer) (ap is_fault is.1 ∙ fault_is e.action)
+    faulty_stands (is_fault e.answer) st (left_answered s st e.actor e.action e.answer) W (given W e.actor e.action e.answer) (ap is_fault is.1 ∙ fault_is e.action)
     (record { files = stands.files; newer = stands.newer; ledger = stands.ledger })
 event_stands s st W e stands (inr is) =
-    if_stands (is_fault e.answer) st (left_own s st e.actor e.action) W (given W e.actor e.action e.answer) (record { files = stands.files; newer = stands.newer; ledger = stands.ledger })
-    (λ none. own_stands s st W e.actor e.action e.answer stands is)
+    if_stands (is_fault e.answer) st (left_answered s st e.actor e.action e.answer) W (given W e.actor e.action e.answer) (record { files = stands.files; newer = stands.newer; ledger = stands.ledger })
+    (λ none. subst (λ (left : State). StandsFor left (given W e.actor e.action e.answer)) (sym (left_own_by s st e.actor e.action e.answer is)) (own_stands s st W e.actor e.action e.answer stands is))
 
 event_may : (s : Superblock) (st : State) (W : World) (e : Entry) → StandsFor st W → InOrder st → IsAnswer s st e.actor e.action e.answer → MayGive s W e.actor e.action e.answer
 event_may s st W e stands ordered (inl is) = inl is
@@ -309,7 +310,7 @@ event_may s st W e stands ordered (inr is) = inr (own_may s st W e.actor e.actio
 steps : (s : Superblock) (st : State) (W : World) (es : List Entry) → StandsFor st W → InOrder st → Exact s st es → Legal s W es × StandsFor (state_by s st es) (After W es)
 steps s st W [] stands ordered exact = (tt, stands)
 steps s st W (e ∷ es) stands ordered exact =
-    let rest = steps s (left_by s st e.actor e.action e.answer) (after W e) es (event_stands s st W e stands exact.0) (event_ordered s st e ordered) exact.2 in
+    let rest = steps s (left_by s st e.actor e.action e.answer) (after W e) es (event_stands s st W e stands exact.0) (event_ordered s st e ordered exact.0) exact.2 in
     ((event_may s st W e stands ordered exact.0, exact.1, rest.0), rest.1)
 
 -- a store that was just opened stands for each plain map that what it holds does

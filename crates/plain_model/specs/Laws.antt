@@ -10,7 +10,7 @@ use Rattle.plain_model.specs.Once.{Once}
 use Rattle.plain_model.specs.PlainFold.{plain_after}
 use Rattle.plain_model.specs.State.{Held, State, names_of, just_opened}
 use Rattle.plain_model.specs.Stands.{Stands, StandsFor, InOrder}
-use Rattle.plain_model.specs.Exact.{Exact, state_by}
+use Rattle.plain_model.specs.Exact.{Exact, ExactSeen, state_by}
 use Rattle.plain_model.specs.Side.{sides_of, side_after}
 use Rattle.plain_model.specs.Stamps.{stamp}
 
@@ -31,6 +31,15 @@ pub record IsRun (s : Superblock) (base : ℕ) (h : Held) (es : List Entry) : Ty
   pub opening : IsOpening h
   pub exact : Exact s (just_opened base h) es
 
+-- The same where the disk may not give back what was written: each answer is exact but for bytes, and where the disk tells what it holds in these too.
+pub record IsRunSeen (Tells : Type 0) (s : Superblock) (base : ℕ) (h : Held) (es : List Entry) : Type 0 where
+  pub opening : IsOpening h
+  pub exact : ExactSeen Tells s (just_opened base h) es
+
+-- where the disk tells it is a run, as it was
+abbrev pub TellsAll : Superblock → ℕ → Held → List Entry → Type 0
+TellsAll s base h es = IsRunSeen (Unit {0}) s base h es → IsRun s base h es
+
 -- each beginning of a run is one
 abbrev pub BeginningIsRun : Superblock → ℕ → Held → List Entry → List Entry → Type 0
 BeginningIsRun s base h first rest = IsRun s base h (first ++ rest) → IsRun s base h first
@@ -38,6 +47,15 @@ BeginningIsRun s base h first rest = IsRun s base h (first ++ rest) → IsRun s 
 -- the store after the first i entries
 abbrev pub state_at : Superblock → ℕ → Held → List Entry → ℕ → State
 state_at s base h es i = state_by s (just_opened base h) (take i es)
+
+-- Of its answers alone, whatever the disk gives back: each token is used once, and the tables are in order after each beginning.
+pub record IsOrderly (s : Superblock) (base : ℕ) (h : Held) (es : List Entry) : Type 0 where
+  pub once : Once es
+  pub ordered : (i : ℕ) → InOrder (state_at s base h es i)
+
+-- a run is such on each disk, and so on one that never tells what it holds
+abbrev pub SeenIsOrderly : Superblock → ℕ → Held → List Entry → Type 0
+SeenIsOrderly s base h es = IsRunSeen ⊥ s base h es → IsOrderly s base h es
 
 -- Seen from a plain map for which the opening stands the run is good: it is legal; after each beginning of it the store stands for the world, its mapped
 -- blocks and what sessions keep are those of the rules, and its stamps are those of the accesses; and its files are plain.

@@ -15,6 +15,7 @@ pub mod Segments
 pub mod Services
 pub mod Sound
 pub mod Stands
+pub mod Seen
 pub mod Exact
 pub mod Synced
 pub mod Side

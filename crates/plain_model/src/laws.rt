@@ -6,11 +6,21 @@ ghost use Rattle.plain_model.specs.Plain.{File};
 ghost use Rattle.plain_model.specs.State.{Held};
 ghost use Rattle.plain_model.specs.Synced.{SyncedLaws};
 ghost use Rattle.plain_model.specs.Own.{OwnGrows};
-ghost use Rattle.plain_model.specs.Laws.{BeginningIsRun, IsTransparent, RunIsGood};
+ghost use Rattle.plain_model.specs.Laws.{BeginningIsRun, IsTransparent, RunIsGood, SeenIsOrderly, TellsAll};
 
 /// The files of every legal history without a clash are those that were never moved.
 pub fn transparent()
     ensures { (s : Superblock) (files : List File) (history : List Entry) → IsTransparent s files history }
+{}
+
+/// Where the disk tells what it holds a run is exact in its bytes too. No crate calls it yet.
+pub fn tells_all()
+    ensures { (s : Superblock) (base : ℕ) (opening : Held) (history : List Entry) → TellsAll s base opening history }
+{}
+
+/// On every disk a run uses each token once and keeps its tables in order. No crate calls it yet.
+pub fn seen_is_orderly()
+    ensures { (s : Superblock) (base : ℕ) (opening : Held) (history : List Entry) → SeenIsOrderly s base opening history }
 {}
 
 /// Every beginning of a run is a run. No crate calls it yet.

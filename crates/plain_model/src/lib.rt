@@ -7,4 +7,6 @@ mod laws;
 
 pub use entries::{Action, Actor, Answer, Entry, History};
 pub use facts::{Facts, NoRoom};
-pub use laws::{beginning_is_run, own_grows, run_is_good, synced_grows, transparent};
+pub use laws::{
+    beginning_is_run, own_grows, run_is_good, seen_is_orderly, synced_grows, tells_all, transparent,
+};

@@ -39,7 +39,7 @@ pub(crate) fn attributes<D: Disk>(
     ensures { (t : Tables) → IfOk result (λ r. AreOf (asked (superblock_of files.now) files.now.held stamps.now.entries t anybody (GetFileAttr no_token handle)) r) }
 {
     twice(DmReply::Attr {
-        size: files.body(handle.key).len(),
+        size: files.size(handle.key),
         stamp: stamp(stamps, handle.key),
         blocks: files.meta().catalog().mapped(handle.key).unwrap(),
     })

@@ -1,5 +1,5 @@
 //! Reads and writes of a live file that raise no event and renew no stamp.
-ghost use Rattle.std.specs.Prelude.{◌≡◌, ◌+◌, ◌≤◌, false, IsSome, IfOk, OnOk, length};
+ghost use Rattle.std.specs.Prelude.{ℕ, ◌≡◌, ◌+◌, ◌≤◌, false, IsSome, OnOk, length};
 ghost use Rattle.hsm_types.specs.Messages.{no_token};
 ghost use Rattle.hsm_types.specs.declared.dm.DmCall.TheVariants.{ReadInvis, WriteInvis};
 ghost use Rattle.plain_model.specs.Effects.{Writes};
@@ -9,7 +9,7 @@ ghost use Rattle.plain_model.specs.Segments.{reading_refusal, writing_refusal};
 ghost use Rattle.plain_model.specs.State.{file_at, bytes_of, used};
 ghost use Rattle.file_store.specs.Stores.{superblock_of, Proceeds};
 ghost use Rattle.dm_service.specs.Services.{Judges};
-ghost use Rattle.hsm_core.specs.Services.{AreOf, service_on, IsServed};
+ghost use Rattle.hsm_core.specs.Services.{IsServed};
 
 use crate::services::ranges::{judge_access, judge_here, judge_room, judge_within};
 use crate::services::replies::{changed, refused, twice};
@@ -17,23 +17,27 @@ use disk_model::Disk;
 use file_body::touched_by_write;
 use file_store::{FileStore, StoreRefusal};
 use hsm_types::{Bytes, DmRefusal, DmReply, FileKey, Handle};
-use std::alloc::{AllocError, Global};
+use std::alloc::Global;
 
 /// Reads at most `len` bytes from the offset on.
 pub(crate) fn read<D: Disk>(
-    files: &FileStore<D>,
+    files: &mut FileStore<D>,
     alloc: Global,
     handle: Handle,
     offset: u64,
     len: u64,
-) -> Result<(DmReply, DmReply), AllocError>
-    requires { IsSome (find_key (λ f. f.key) handle.key files.now.held.files) }
-    ensures { IfOk result (λ r. AreOf (service_on files.now (ReadInvis no_token handle offset len)) r) }
+) -> Result<(DmReply, DmReply), StoreRefusal>
+    requires working { files.old.failed ≡ false }
+    requires live { IsSome (find_key (λ f. f.key) handle.key files.old.held.files) }
+    ensures { (n : ℕ) → IsServed D.Disk files.old n (ReadInvis no_token handle offset len) result files.new }
 {
+    // Asked for what is true of the disk.
+    let _failed = files.has_failed();
     if let Err(why) = judge_invisible_read(files, handle.key, offset, len) {
         return Ok(refused(why));
     }
-    twice(DmReply::Data(files.body(handle.key).read(alloc, offset, len)?))
+    let bytes = files.read(alloc, handle.key, offset, len)?;
+    Ok(twice(DmReply::Data(bytes))?)
 }
 
 /// What refuses an invisible read.
@@ -47,7 +51,7 @@ fn judge_invisible_read<D: Disk>(
     requires { IsSome (find_key (λ f. f.key) key files.now.held.files) }
     ensures { Judges result (reading_refusal (file_at key files.now.held.files) offset len) }
 {
-    let size = files.body(key).len();
+    let size = files.size(key);
     judge_access(len)?;
     judge_here(files, key, offset, offset.saturating_add(len).min(size))
 }
@@ -87,7 +91,7 @@ fn judge_invisible_write<D: Disk>(
     ensures end { OnOk result (offset + length bytes.now ≤ (superblock_of files.now).geometry.limits.bytes) }
     ensures room { OnOk result (length (touched (Writes offset bytes.now) (length (bytes_of key files.now.held.files))) + used files.now.held.files ≤ (superblock_of files.now).geometry.blocks) }
 {
-    let size = files.body(key).len();
+    let size = files.size(key);
     let len = bytes.len() as u64;
     let end = offset.saturating_add(len);
     judge_access(len)?;

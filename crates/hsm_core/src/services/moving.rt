@@ -3,18 +3,18 @@ ghost use Rattle.std.specs.Prelude.{◌≡◌, ◌+◌, ◌*◌, ◌<◌, ◌≤
 ghost use Rattle.hsm_types.specs.Calls.{scope_of};
 ghost use Rattle.hsm_types.specs.Limits.{IsCountable};
 ghost use Rattle.hsm_types.specs.Messages.{no_token};
+ghost use Rattle.hsm_types.specs.Refusals.{first_refusal};
 ghost use Rattle.hsm_types.specs.Stubs.{offline_at, print_of, stub_at, entry_place, entry_print};
 ghost use Rattle.hsm_types.specs.declared.dm.DmCall.TheVariants.{PunchHole, Seal, Restore};
 ghost use Rattle.plain_model.specs.Effects.{Restores, punch_from, punch_to};
 ghost use Rattle.plain_model.specs.Blocks.{touched};
 ghost use Rattle.hsm_types.specs.Keyed.{find_key};
-ghost use Rattle.plain_model.specs.Segments.{bad_volume, ends_well, bad_punch, seal_refusal, restore_refusal};
-ghost use Rattle.plain_model.specs.Plain.{segment as segment_of};
+ghost use Rattle.plain_model.specs.Segments.{bad_volume, ends_well, bad_punch, restore_refusal};
 ghost use Rattle.plain_model.specs.Services.{kept_of};
 ghost use Rattle.plain_model.specs.State.{file_at, bytes_of, used};
 ghost use Rattle.file_store.specs.Stores.{superblock_of, Proceeds};
 ghost use Rattle.dm_service.specs.Services.{Judges};
-ghost use Rattle.hsm_core.specs.Services.{IsInScope, IsServed, moves_segments};
+ghost use Rattle.hsm_core.specs.Services.{IsInScope, IsServed, moves_segments, unread_refusals};
 
 use crate::services::ranges::{judge_print, judge_room, judge_segment, state};
 use crate::services::replies::{changed, refused};
@@ -78,7 +78,7 @@ fn punch<D: Disk>(
     requires idle { Proceeds D.Disk files.old number files.old }
     ensures { IsServed D.Disk files.old number (PunchHole no_token handle offset len) result files.new }
 {
-    let size = files.body(handle.key).len();
+    let size = files.size(handle.key);
     if let Err(why) = judge_punch(files, offset, len, size) {
         return Ok(refused(why));
     }
@@ -136,7 +136,7 @@ fn punched_to(offset: u64, len: u64) -> u32
     }
 }
 
-/// Says where a copy of the segment's bytes lies.
+/// Says where a copy of the segment's bytes lies. The bytes are read once, where they are.
 fn seal<D: Disk>(
     files: &mut FileStore<D>,
     alloc: Global,
@@ -153,10 +153,14 @@ fn seal<D: Disk>(
     if let Err(why) = judge_seal(files, handle.key, segment, entry) {
         return Ok(refused(why));
     }
+    let got = files.digest_segment(handle.key, segment)?;
+    if let Err(why) = judge_print(entry.print(), got) {
+        return Ok(refused(why));
+    }
     changed(files.seal(alloc, handle.key, segment, entry, number))
 }
 
-/// What refuses a seal, but for the limit of entries. The bytes are read once, where they are.
+/// What refuses a seal whatever the bytes of its segment, but for the limit of entries.
 #[tactic(auto, using(crate::proofs::Refusing::passes, crate::proofs::Refusing::stops))]
 fn judge_seal<D: Disk>(
     files: &FileStore<D>,
@@ -165,18 +169,17 @@ fn judge_seal<D: Disk>(
     entry: StubEntry,
 ) -> Result<(), DmRefusal>
     requires { IsSome (find_key (λ f. f.key) key files.now.held.files) }
-    ensures judged { Judges result (seal_refusal (file_at key files.now.held.files) segment entry) }
+    ensures judged { Judges result (first_refusal (unread_refusals (file_at key files.now.held.files) segment entry)) }
     ensures start { OnOk result (SEGMENT_BYTES * segment < length (bytes_of key files.now.held.files)) }
     ensures volume { OnOk result ((entry_place entry).volume ≤ LAST_VOLUME) }
     ensures here { OnOk result (offline_at (kept_of key files.now.held.files).stubs segment ≡ false) }
-    ensures print { OnOk result (entry_print entry ≡ print_of (segment_of segment (bytes_of key files.now.held.files))) }
 {
     judge_segment(files, key, segment)?;
     judge_volume(entry.place().volume)?;
-    if let State::Offline(_) = state(files, key, segment) {
-        return Err(DmRefusal::Offline { segment });
+    match state(files, key, segment) {
+        State::Offline(_) => Err(DmRefusal::Offline { segment }),
+        _ => Ok(()),
     }
-    judge_print(entry.print(), files.digest_segment(key, segment))
 }
 
 /// Volumes are numbered from 0 to [`LAST_VOLUME`].

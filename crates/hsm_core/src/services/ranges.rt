@@ -55,7 +55,7 @@ pub(crate) fn judge_segment<D: Disk>(
     ensures start { OnOk result (SEGMENT_BYTES * segment < length (bytes_of key files.now.held.files)) }
     ensures limit { length (bytes_of key files.now.held.files) ≤ file_bytes }
 {
-    if u64::from(segment) * SEGMENT_BYTES < files.body(key).len() {
+    if u64::from(segment) * SEGMENT_BYTES < files.size(key) {
         Ok(())
     } else {
         Err(DmRefusal::BadRange)

@@ -27,7 +27,7 @@ pub(crate) fn probe<D: Disk>(
     requires { IsSome (find_key (λ f. f.key) handle.key files.now.held.files) }
     ensures { IfOk result (λ r. AreOf (service_on files.now (ProbeHole no_token handle offset len)) r) }
 {
-    match hole(offset, len, files.body(handle.key).len()) {
+    match hole(offset, len, files.size(handle.key)) {
         Some(hole) => twice(DmReply::Range {
             offset: hole.offset,
             len: hole.len,
@@ -68,7 +68,7 @@ pub(crate) fn allocated<D: Disk>(
     requires { IsSome (find_key (λ f. f.key) handle.key files.now.held.files) }
     ensures { IfOk result (λ r. AreOf (service_on files.now (GetAllocInfo no_token handle)) r) }
 {
-    let size = files.body(handle.key).len();
+    let size = files.size(handle.key);
     let catalog = files.meta().catalog();
     let places = catalog.places(handle.key).unwrap();
     let stubs = catalog.stubs(handle.key).unwrap();

@@ -4,6 +4,7 @@ use Rattle.hsm_cli.specs.Clauses.{HasRead, IsWhole}
 use Rattle.hsm_cli.proofs.Committing.{ran_well, on_none, whole}
 use Rattle.hsm_cli.proofs.Daemons.{run_is_well}
 use Rattle.hsm_cli.proofs.Faults.{caused_served}
+use Rattle.hsm_cli.proofs.Legality.{orderly}
 use Rattle.hsm_cli.proofs.Quiet.{works_still, reads_quietly, writes_quietly, lent_first}
 use Rattle.hsm_cli.proofs.Scripted.{idle_none}
 use Rattle.hsm_cli.proofs.Telling.{told_fault, faultless_unless, fault_caused, read_by, written_if_none, written_if_works, told_unready, run_ends}
@@ -15,11 +16,11 @@ use Rattle.hsm_cli.proofs.scripts.run_opened.Goals as goal
 
 pub returns-clause-script : goal.returns-clause-script
 returns-clause-script g c =
-    rw (c.first_cause.ensures, c.close-disk.ensures.entries)
+    rw (c.first_cause.ensures, c.close-disk.ensures.disk, c.close-disk.ensures.entries)
     (has_run _ _ c.args.commits (source_told g.I.Source.left g.I.Source.fault_count c.args.source.now c.run_with-ended.new.source) _ (sink_told g.O.Sink.taken g.O.Sink.fault_count c.args.sink.now c.write_transcript-written.new.sink) c.run_with-ended.result.ended c.write_transcript-written.result c.write_transcript-written.ensures.refused c.run_with-ended.ensures.ran)
 
 pub returns-clause-well : goal.returns-clause-well
-returns-clause-well g c = rw c.close-disk.ensures.entries (run_is_well (record { anew = c.served_makes_anew.ensures; over = c.served_takes_over.ensures; keeps = c.served_keeps_all.ensures; frees = c.punch_frees.ensures }) g.D.Disk c.args.hsm c.run_with-ended.result.hsm c.run_with-ended.ensures.goes_on c.close-disk.ensures.kept)
+returns-clause-well g c = rw (c.close-disk.ensures.disk, c.close-disk.ensures.entries) (run_is_well (record { anew = c.served_makes_anew.ensures; over = c.served_takes_over.ensures; keeps = c.served_keeps_all.ensures; frees = c.punch_frees.ensures }) g.D.Disk c.args.hsm c.run_with-ended.result.hsm c.run_with-ended.ensures.goes_on c.close-disk.ensures.kept)
 
 pub returns-clause-now : goal.returns-clause-now
 returns-clause-now g c = rw (c.close-disk.ensures.disk, c.close-disk.ensures.entries, ← c.run_with-ended.ensures.goes_on.opened) c.close-disk.ensures.now
@@ -41,7 +42,7 @@ returns-clause-untouched g c =
 
 pub returns-clause-caused_by : goal.returns-clause-caused_by
 returns-clause-caused_by g c =
-    rw c.close-disk.ensures.entries
+    rw (c.close-disk.ensures.disk, c.close-disk.ensures.entries)
     (caused_served g.D.Disk c.served_is_caused.ensures c.args.hsm c.run_with-ended.result.hsm c.run_with-ended.ensures.goes_on c.run_with-ended.ensures.served c.close-disk.ensures.kept)
 
 pub returns-clause-media : goal.returns-clause-media
@@ -62,8 +63,17 @@ returns-clause-told g c = rw (c.close-disk.ensures.entries, c.first_cause.ensure
 pub returns-clause-faultless : goal.returns-clause-faultless
 returns-clause-faultless g c = rw (c.close-disk.ensures.entries, c.first_cause.ensures) (faultless_unless c.run_with-ended.result.hsm.files.failed _ (sink_told g.O.Sink.taken g.O.Sink.fault_count c.args.sink.now c.write_transcript-written.new.sink) c.run_with-ended.result.ended c.write_transcript-written.result c.write_transcript-written.ensures.refused c.run_with-ended.ensures.failed c.close-disk.ensures.kept.faultless)
 
+pub returns-clause-legality : goal.returns-clause-legality
+returns-clause-legality g c = rw (c.close-disk.ensures.disk, c.close-disk.ensures.entries, ← c.run_with-ended.ensures.goes_on.opened) c.close-disk.ensures.kept.run
+
+pub returns-clause-orderly : goal.returns-clause-orderly
+returns-clause-orderly g c = rw (c.close-disk.ensures.entries, ← c.run_with-ended.ensures.goes_on.opened) (orderly _ _ _ _ _ c.close-disk.ensures.kept.run)
+
+pub returns-clause-good : goal.returns-clause-good
+returns-clause-good g c = rw (c.close-disk.ensures.disk, c.close-disk.ensures.entries, ← c.run_with-ended.ensures.goes_on.opened) c.close-disk.ensures.kept.good
+
 pub returns-clause-plain : goal.returns-clause-plain
-returns-clause-plain g c = rw (c.close-disk.ensures.entries, ← c.run_with-ended.ensures.goes_on.opened) (λ P stands. (c.close-disk.ensures.kept.good.good P stands).plain)
+returns-clause-plain g c = rw (c.close-disk.ensures.disk, c.close-disk.ensures.entries, ← c.run_with-ended.ensures.goes_on.opened) (λ tells P stands. ((c.close-disk.ensures.kept.good tells).good P stands).plain)
 
 pub returns-clause-done : goal.returns-clause-done
 returns-clause-done g c = rw (c.close-disk.ensures.entries, c.first_cause.ensures) (written_if_none _ (sink_told g.O.Sink.taken g.O.Sink.fault_count c.args.sink.now c.write_transcript-written.new.sink) c.run_with-ended.result.ended c.write_transcript-written.result c.write_transcript-written.ensures.refused (rw c.close-disk.ensures.entries at c.write_transcript-written.ensures.all))

@@ -5,7 +5,7 @@ use Rattle.file_store.proofs.store.FileStore.make_room.Goals as goal
 pub overflow_cast-count : goal.overflow_cast-count
 overflow_cast-count g c =
     let many : c.count.result ≡ length (touched (effect_of c.args.change) (length (bytes_of c.args.key c.args.self.now.held.files))) =
-    c.count.ensures ∙ ap length (c.touched-blocks.ensures ∙ ap (touched (effect_of c.args.change)) (c.len.ensures.len ∙ ap length c.body.ensures.bytes)) in
+    c.count.ensures ∙ ap length (c.touched-blocks.ensures ∙ ap (touched (effect_of c.args.change)) c.size.ensures.size) in
     omega (arith, many, c.requires.room, (geometry-bounded c.args.self.now.meta.durable.geometry).1)
 
 pub returns-clause-enough : goal.returns-clause-enough

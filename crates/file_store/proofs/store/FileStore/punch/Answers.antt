@@ -15,7 +15,7 @@ use Rattle.file_store.proofs.store.FileStore.punch.Goals.{After-min-last, After-
 use Rattle.file_store.proofs.store.FileStore.punch.Goals as goal
 
 last_is : (g : Over) (c : After-min-last g) → c.min-last.result ≡ min c.args.to (segments_in (length (bytes_of c.args.key c.args.self.now.held.files)))
-last_is g c = let least : c.min-last.result ≡ min c.args.to c.segments_in.result = search rules in least ∙ ap (min c.args.to) (c.segments_in.ensures.count ∙ ap segments_in (c.len.ensures.len ∙ ap length c.body.ensures.bytes))
+last_is g c = let least : c.min-last.result ≡ min c.args.to c.segments_in.result = search rules in least ∙ ap (min c.args.to) (c.segments_in.ensures.count ∙ ap segments_in c.size.ensures.size)
 
 end_is : (g : Over) (c : After-max-end g) → c.max-end.result ≡ max c.args.from (min c.args.to (segments_in (length (bytes_of c.args.key c.args.self.now.held.files))))
 end_is g c = let most : c.max-end.result ≡ max c.args.from c.min-last.result = search rules in most ∙ ap (max c.args.from) (last_is g (goal.at.After-max-end g c).After-min-last)

@@ -1,5 +1,6 @@
 use Rattle.file_store.proofs.Names.{Some, false, Stub}
 use Rattle.file_store.proofs.Ended.{ends_as}
+use Rattle.file_store.proofs.Looked.{length-print}
 use Rattle.file_store.proofs.SealEvents.{seals, can_seal}
 use Rattle.file_store.proofs.store.FileStore.seal.Goals as goal
 
@@ -7,13 +8,13 @@ pub record-requires-clause-bodiless : goal.record-requires-clause-bodiless
 record-requires-clause-bodiless g c =
     rw (c.inode-ino.ensures.inode, ← c.self.view_is)
     (seals c.self.invariant.0 c.args.key (rw (← c.self.view_is) at c.requires.live) c.args.segment c.args.entry (rw (← c.self.view_is) at c.requires.here) (rw (← c.self.view_is) at c.requires.start) c.requires.volume
-    (rw (← c.self.view_is) at c.requires.print))
+    (length-print c.args.key c.args.segment (rw (← c.self.view_is) at c.requires.print)))
 
 pub record-requires-clause-stands : goal.record-requires-clause-stands
 record-requires-clause-stands g c =
     rw (c.inode-ino.ensures.inode, ← c.self.view_is)
     (can_seal c.self.invariant.0 c.args.key (rw (← c.self.view_is) at c.requires.live) c.args.segment c.args.entry (rw (← c.self.view_is) at c.requires.here) (rw (← c.self.view_is) at c.requires.start) c.requires.volume
-    (rw (← c.self.view_is) at c.requires.print))
+    (length-print c.args.key c.args.segment (rw (← c.self.view_is) at c.requires.print)))
 
 pub returns-clause-changed : goal.returns-clause-changed
 returns-clause-changed g c =

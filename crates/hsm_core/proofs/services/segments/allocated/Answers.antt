@@ -1,4 +1,4 @@
-use Rattle.std.proofs.Common.{ℕ, List, length, sym, ◌∙◌, ap, subst}
+use Rattle.std.proofs.Common.{ℕ, List, sym, ◌∙◌, ap, subst}
 use Rattle.std.specs.Prelude.{IfOk}
 use Rattle.hsm_types.specs.declared.dm.DmReply.TheVariants as reply
 use Rattle.hsm_types.specs.declared.stubs.Segment.{Segment}
@@ -18,5 +18,5 @@ returns g c =
     let made = made_of_parts catalog c.args.files.now.held c.args.handle.key c.unwrap-places.result.now c.unwrap-stubs.result.now shows (rw c.unwrap-places.ensures at c.places.ensures) (rw c.unwrap-stubs.ensures at c.stubs.ensures) in
     subst (λ (told : List Segment). IfOk c.twice.result (λ r. AreBoth (reply.Alloc told) r))
     (c.in_ok-segments_of.ensures (file_at c.args.handle.key c.args.files.now.held.files)
-    (subst (λ (n : ℕ). IsMadeOf n c.unwrap-places.result.now c.unwrap-stubs.result.now (file_at c.args.handle.key c.args.files.now.held.files)) (sym (c.len-size.ensures.len ∙ ap length c.body.ensures.bytes)) made))
+    (subst (λ (n : ℕ). IsMadeOf n c.unwrap-places.result.now c.unwrap-stubs.result.now (file_at c.args.handle.key c.args.files.now.held.files)) (sym c.size-size.ensures.size) made))
     c.twice.ensures

@@ -10,7 +10,7 @@ pub returns-clause-durable : goal.returns-clause-durable
 returns-clause-durable g c = subst (λ (s : Store g.row.D.Denot). s.files.failed ≡ false → (i : List ℕ) → MayBe g.D.Disk s.files.disk i → IsDurable s.files i) c.self.view_is c.close.ensures.durable
 
 pub returns-clause-kept : goal.returns-clause-kept
-returns-clause-kept g c = rw (← c.self.view_is) (kept c.run_is_good.ensures _ c.self.invariant.0 c.self.invariant.6)
+returns-clause-kept g c = rw (← c.self.view_is) (kept c.run_is_good.ensures g.D.Disk _ c.self.invariant.0 c.self.invariant.6)
 
 pub returns-clause-since : goal.returns-clause-since
 returns-clause-since g c = subst (λ (s : Store g.row.D.Denot). LeavesOnly g.D.Disk s.opened.disk s.files.disk (IsPrefix s.opened s.history 0)) c.self.view_is c.self.invariant.1.since

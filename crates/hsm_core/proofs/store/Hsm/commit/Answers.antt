@@ -1,5 +1,6 @@
 use Rattle.std.proofs.Common.{◌≤◌, length, ◌+◌, ◌-◌, refl, ap, subst, arith}
 use Rattle.hsm_types.specs.declared.calls.Reply.{Reply}
+use Rattle.hsm_types.specs.declared.calls.Reply.TheVariants.{Done}
 use Rattle.plain_model.specs.declared.entries.Actor.TheVariants.{Store as TheStore}
 use Rattle.plain_model.specs.declared.entries.Action.TheVariants.{Commit}
 use Rattle.plain_model.specs.declared.entries.Answer.TheVariants.{Call as Replied}
@@ -7,8 +8,9 @@ use Rattle.std.specs.Prelude.{vec_len, vec_capacity}
 use Rattle.dm_service.specs.Tables.{awaited_in}
 use Rattle.hsm_core.specs.Store.{Store, KeepsRoom, state_with}
 use Rattle.hsm_core.specs.Answers.{IsCommitted}
-use Rattle.hsm_core.proofs.Events.{event, always, not_begun, one_more, IsNext, Keeps}
+use Rattle.hsm_core.proofs.Events.{event, always, whenever, not_begun, one_more, IsNext, Keeps}
 use Rattle.hsm_core.proofs.Packing.{still_packed}
+use Rattle.hsm_core.proofs.Seeing.{held_replies}
 use Rattle.hsm_core.proofs.store.Hsm.commit.Given.{Over}
 use Rattle.hsm_core.proofs.store.Hsm.commit.Goals.{After-record_event}
 use Rattle.hsm_core.proofs.store.Hsm.commit.Goals as goal
@@ -32,12 +34,12 @@ next g c =
     event g.D.Disk (before g c) c.self.invariant.0 c.self.invariant.1 c.self.inside.stamps.entries c.make_ready.new.history.items refl c.make_ready.ensures.same (after g c) c.in_default.ensures.working refl
     TheStore Commit tt (λ (r : Reply). Replied r) _ c.record_event.result _ (omega (arith, c.self.invariant.2, c.len.ensures)) c.commit-done.result
     (record {
-      exact = refl;
-      replies = c.commit-done.ensures.reply;
+      exact = λ seen. refl;
+      replies = held_replies _ c.commit-done.result c.self.inside.files.held (λ seen. Done) Done refl c.commit-done.ensures.reply;
       leaves = (always c.commit-done.result (λ i. state_with (c.commit-done.ensures.held i) c.self.inside.stamps.entries c.self.inside.service (c.self.inside.base + c.len.result + 1))).0;
       stamps = (always c.commit-done.result refl).1;
       tables = (always c.commit-done.result refl).1;
-      synced = λ syncs. c.commit-done.ensures.synced;
+      synced = whenever _ _ c.commit-done.result c.commit-done.ensures.synced;
       ends = c.commit-done.ensures.ends;
     })
     (keeps g c)
@@ -47,7 +49,7 @@ returns-in-Err-clause-committed g c =
     let s : Store g.row.D.Denot = record { opened = c.self.inside.opened.value; files = c.self.inside.files; stamps = c.self.inside.stamps.entries; tables = c.self.inside.service; history = c.self.inside.history.items; spare = vec_capacity c.self.inside.history - (vec_len c.self.inside.history + awaited_in c.self.inside.service) } in
     let t : Store g.row.D.Denot = record s { stamps = c.self.inside.stamps.entries; history = c.make_ready.new.history.items; spare = vec_capacity c.make_ready.new.history - (vec_len c.make_ready.new.history + awaited_in c.self.inside.service) } in
     subst (λ (old : Store g.row.D.Denot). IsCommitted g.D.Disk old c.undone.result t) c.self.view_is
-    (not_begun g.D.Disk s c.self.invariant.0 c.self.invariant.1 c.self.inside.stamps.entries c.make_ready.new.history.items _ refl c.make_ready.ensures.same TheStore Commit tt (Replied c.undone.result) c.in-Err.why c.make_ready.ensures.idle
+    (not_begun g.D.Disk s c.self.invariant.0 c.self.invariant.1 c.self.inside.stamps.entries c.make_ready.new.history.items _ refl c.make_ready.ensures.same TheStore Commit (Replied c.undone.result) c.in-Err.why c.make_ready.ensures.idle
     (record { memory = λ is. ap (λ (r : Reply). Replied r) (c.undone.ensures.memory is); failed = λ is. ap (λ (r : Reply). Replied r) (c.undone.ensures.failed is) }) c.in-Err.ensures.refused)
 
 pub invariant_of-self-2 : goal.invariant_of-self-2

@@ -15,6 +15,7 @@ use Rattle.hsm_core.proofs.Runs.{formatted_as}
 use Rattle.plain_model.specs.Services.{dm_reply_to}
 use Rattle.file_store.specs.Stores.{superblock_of}
 use Rattle.hsm_core.specs.Answers.{own_answer, IsTold}
+use Rattle.hsm_core.proofs.Alike.{told_alike}
 use Rattle.hsm_core.proofs.HandedOut.{told_handed, unserved_handed}
 use Rattle.hsm_core.proofs.Events.{event, always, lasting, room_served, told_done, not_begun, one_more, IsNext, Keeps}
 use Rattle.hsm_core.proofs.Packing.{still_packed}
@@ -41,12 +42,12 @@ next g c =
     event g.D.Disk (before g c) c.self.invariant.0 c.self.invariant.1 c.self.inside.stamps.entries c.make_ready.new.history.items refl c.make_ready.ensures.same (after g c) c.in_default.ensures.working refl
     (Session c.args.sid) (Dm c.args.call) tt (λ (r : DmReply). Told r) _ c.record_dm.result _ (omega (arith, c.self.invariant.2, c.len.ensures)) c.serve-done.result
     (record {
-      exact = refl;
+      exact = λ seen. refl;
       replies = c.serve-done.ensures.replies;
       leaves = c.serve-done.ensures.left;
       stamps = (always c.serve-done.result refl).1;
       tables = c.serve-done.ensures.err;
-      synced = λ syncs. absurd cc;
+      synced = (always c.serve-done.result (λ (wrong : false ≡ true). absurd cc)).0;
       ends = c.serve-done.ensures.ends;
     })
     (keeps g c)
@@ -60,7 +61,7 @@ returns-in-Err-clause-told g c =
     let s : Store g.row.D.Denot = record { opened = c.self.inside.opened.value; files = c.self.inside.files; stamps = c.self.inside.stamps.entries; tables = c.self.inside.service; history = c.self.inside.history.items; spare = vec_capacity c.self.inside.history - (vec_len c.self.inside.history + awaited_in c.self.inside.service) } in
     let t : Store g.row.D.Denot = record s { stamps = c.self.inside.stamps.entries; history = c.make_ready.new.history.items; spare = vec_capacity c.make_ready.new.history - (vec_len c.make_ready.new.history + awaited_in c.self.inside.service) } in
     subst (λ (old : Store g.row.D.Denot). IsTold g.D.Disk old c.args.sid c.args.call c.unserved.result t) c.self.view_is
-    (not_begun g.D.Disk s c.self.invariant.0 c.self.invariant.1 c.self.inside.stamps.entries c.make_ready.new.history.items _ refl c.make_ready.ensures.same (Session c.args.sid) (Dm c.args.call) tt (Told c.unserved.result) c.in-Err.why c.make_ready.ensures.idle
+    (not_begun g.D.Disk s c.self.invariant.0 c.self.invariant.1 c.self.inside.stamps.entries c.make_ready.new.history.items _ refl c.make_ready.ensures.same (Session c.args.sid) (Dm c.args.call) (Told c.unserved.result) c.in-Err.why c.make_ready.ensures.idle
     (record { memory = λ is. ap (λ (r : DmReply). Told r) (c.unserved.ensures.memory is); failed = λ is. ap (λ (r : DmReply). Told r) (c.unserved.ensures.failed is) }) c.in-Err.ensures.refused)
 
 pub serve-done-requires-clause-idle : goal.serve-done-requires-clause-idle
@@ -82,7 +83,7 @@ invariant_of-self-2 g c =
           let fewer = room_served c.self.inside.service c.serve-done.new.service c.args.sid c.args.call c.serve-done.result c.serve-done.ensures.room c.serve-done.ensures.err c.serve-done.ensures.responds in
           omega (arith, more, fewer, c.awaited-awaited.ensures.count, c.in_default.ensures.room.0, c.record_dm.ensures.room, c.entries_for-more.ensures)
           ),
-      lasting _ _ (formatted_as _ c.self.invariant.0) c.self.inside.files.held _ _ _ _ c.self.inside.service c.serve-done.new.service (Session c.args.sid) (Dm c.args.call) c.serve-done.result c.serve-done.ensures.left c.serve-done.ensures.err c.self.invariant.5,
+      lasting _ _ (formatted_as _ c.self.invariant.0) c.self.inside.files.held _ _ _ _ c.self.inside.service c.serve-done.new.service (Session c.args.sid) (Dm c.args.call) (λ (r : DmReply). Told r) c.serve-done.result c.serve-done.ensures.left c.serve-done.ensures.err c.self.invariant.5,
       still_packed g.D.Disk (before g at) (after g at) (Session c.args.sid) (Dm c.args.call) (Told c.record_dm.result) c.self.invariant.0 (handed g at) is.2 c.self.invariant.6,
     )
 
@@ -109,8 +110,8 @@ pub returns-clause-responds : goal.returns-clause-responds
 returns-clause-responds g c =
     subst (λ (old : Store g.row.D.Denot). is_due old.tables.sessions c.args.sid c.args.call ≡ true → old.files.failed ≡ false → c.record_dm.result ≡ DmDone) c.self.view_is
     (λ due working.
-    told_done _ c.serve-done.result _ c.record_dm.result DmDone (c.serve-done.ensures.responds due) c.serve-done.ensures.replies c.record_dm.ensures.recorded
-    (due_done (superblock_of c.self.inside.files) (state_with c.self.inside.files.held c.self.inside.stamps.entries c.self.inside.service (c.self.inside.base + c.len.result)) c.args.sid c.args.call due))
+    told_done _ _ c.serve-done.result c.self.inside.files.held _ c.record_dm.result DmDone (c.serve-done.ensures.responds due) c.serve-done.ensures.replies c.record_dm.ensures.recorded
+    (λ seen is. due_done (superblock_of c.self.inside.files) (state_with seen c.self.inside.stamps.entries c.self.inside.service (c.self.inside.base + c.len.result)) c.args.sid c.args.call due))
 
 -- at most as much room is used up as the call needs
 pub returns-clause-room : goal.returns-clause-room
@@ -132,8 +133,9 @@ own_told g c alone =
     let noted = ap length c.make_ready.ensures.same in
     let number : c.self.inside.base + c.len.result ≡ last_number (before g c) = omega (arith, noted, c.self.invariant.2, c.len.ensures) in
     ap (λ (r : DmReply). Told r)
-    (told_done _ c.serve-done.result _ c.record_dm.result (dm_reply_to (superblock_of c.self.inside.files) (state_with c.self.inside.files.held c.self.inside.stamps.entries c.self.inside.service (c.self.inside.base + c.len.result)) c.args.sid c.args.call)
-    (c.serve-done.ensures.alone alone) c.serve-done.ensures.replies c.record_dm.ensures.recorded refl)
+    (told_done _ _ c.serve-done.result c.self.inside.files.held _ c.record_dm.result (dm_reply_to (superblock_of c.self.inside.files) (state_with c.self.inside.files.held c.self.inside.stamps.entries c.self.inside.service (c.self.inside.base + c.len.result)) c.args.sid c.args.call)
+    (c.serve-done.ensures.alone alone) c.serve-done.ensures.replies c.record_dm.ensures.recorded
+    (λ seen is. told_alike seen c.self.inside.files.held is.alike (superblock_of c.self.inside.files) (state_with c.self.inside.files.held c.self.inside.stamps.entries c.self.inside.service (c.self.inside.base + c.len.result)) c.args.sid c.args.call alone))
     ∙ (λ i. Told (dm_reply_to (formatted_as (before g c) c.self.invariant.0 i) (state_with c.self.inside.files.held c.self.inside.stamps.entries c.self.inside.service (number i)) c.args.sid c.args.call))
 
 pub returns-clause-spared : goal.returns-clause-spared

@@ -36,7 +36,7 @@ next g c =
     event g.D.Disk (before g c) c.self.invariant.0 c.self.invariant.1 c.make_ready_for_access.new.stamps.entries c.make_ready_for_access.new.history.items c.make_ready_for_access.ensures.stamps c.make_ready_for_access.ensures.same (after g c) c.in_default.ensures.working refl
     (Caller c.args.caller) (Issue c.issued-access.result.call) tt (λ (r : Reply). Replied r) _ c.record_event.result _ (omega (arith, c.self.invariant.2, c.len.ensures)) c.answer-done.result
     (record {
-      exact = refl;
+      exact = λ seen. refl;
       replies = c.answer-done.ensures.replied.replies;
       leaves = c.answer-done.ensures.replied.left;
       stamps = c.answer-done.ensures.replied.unstamped;
@@ -51,7 +51,7 @@ returns-in-Err-clause-answered g c =
     let s : Store g.row.D.Denot = record { opened = c.self.inside.opened.value; files = c.self.inside.files; stamps = c.self.inside.stamps.entries; tables = c.self.inside.service; history = c.self.inside.history.items; spare = vec_capacity c.self.inside.history - (vec_len c.self.inside.history + awaited_in c.self.inside.service) } in
     let t : Store g.row.D.Denot = record s { stamps = c.make_ready_for_access.new.stamps.entries; history = c.make_ready_for_access.new.history.items; spare = vec_capacity c.make_ready_for_access.new.history - (vec_len c.make_ready_for_access.new.history + awaited_in c.self.inside.service) } in
     subst (λ (old : Store g.row.D.Denot). IsAnswered g.D.Disk old c.args.caller c.args.call c.undone.result t) c.self.view_is
-    (not_begun g.D.Disk s c.self.invariant.0 c.self.invariant.1 c.make_ready_for_access.new.stamps.entries c.make_ready_for_access.new.history.items _ c.make_ready_for_access.ensures.stamps c.make_ready_for_access.ensures.same (Caller c.args.caller) (Issue c.args.call) tt (Replied c.undone.result) c.in-Err.why c.make_ready_for_access.ensures.idle
+    (not_begun g.D.Disk s c.self.invariant.0 c.self.invariant.1 c.make_ready_for_access.new.stamps.entries c.make_ready_for_access.new.history.items _ c.make_ready_for_access.ensures.stamps c.make_ready_for_access.ensures.same (Caller c.args.caller) (Issue c.args.call) (Replied c.undone.result) c.in-Err.why c.make_ready_for_access.ensures.idle
     (record { memory = λ is. ap (λ (r : Reply). Replied r) (c.undone.ensures.memory is); failed = λ is. ap (λ (r : Reply). Replied r) (c.undone.ensures.failed is) }) c.in-Err.ensures.refused)
 
 pub answer-done-requires-clause-idle : goal.answer-done-requires-clause-idle
@@ -73,7 +73,7 @@ invariant_of-self-2 g c =
           let fewer = room_after c.self.inside.service c.answer-done.new.service 2 c.answer-done.result c.answer-done.ensures.room c.answer-done.ensures.replied.err in
           omega (arith, more, fewer, c.awaited-awaited.ensures.count, c.in_default.ensures.room.0, c.record_event.ensures.room)
           ),
-      lasting (superblock_of c.self.inside.files) _ (formatted_as _ c.self.invariant.0) c.self.inside.files.held _ _ _ _ c.self.inside.service c.answer-done.new.service (Caller c.args.caller) (Issue c.issued-access.result.call) c.answer-done.result c.answer-done.ensures.replied.left c.answer-done.ensures.replied.err c.self.invariant.5,
+      lasting (superblock_of c.self.inside.files) _ (formatted_as _ c.self.invariant.0) c.self.inside.files.held _ _ _ _ c.self.inside.service c.answer-done.new.service (Caller c.args.caller) (Issue c.issued-access.result.call) (λ (r : Reply). Replied r) c.answer-done.result c.answer-done.ensures.replied.left c.answer-done.ensures.replied.err c.self.invariant.5,
       still_packed g.D.Disk (before g at) (after g at) (Caller c.args.caller) (Issue c.issued-access.result.call) (Replied c.record_event.result) c.self.invariant.0 tt is.2 c.self.invariant.6,
     )
 

@@ -1,4 +1,4 @@
-use Rattle.std.proofs.Common.{◌≤◌, length, ◌+◌, ◌-◌, Bool, refl, sym, ap, subst, arith}
+use Rattle.std.proofs.Common.{◌≡◌, ◌≤◌, length, ◌+◌, ◌-◌, Bool, true, false, refl, sym, ap, subst, arith}
 use Rattle.std.specs.Prelude.{if◌then◌else◌, vec_len, vec_capacity}
 use Rattle.hsm_types.specs.declared.calls.Reply.{Reply}
 use Rattle.hsm_types.specs.declared.stores.Superblock.{Superblock}
@@ -12,7 +12,7 @@ use Rattle.file_store.specs.Stores.{superblock_of}
 use Rattle.hsm_core.specs.Store.{Store, KeepsRoom}
 use Rattle.hsm_core.specs.Targets.{EachLasts}
 use Rattle.hsm_core.specs.Answers.{IsResumed}
-use Rattle.hsm_core.proofs.Events.{event, lasting, room_again, not_begun, one_more, IsNext, Keeps}
+use Rattle.hsm_core.proofs.Events.{event, always, lasting, room_again, not_begun, one_more, IsNext, Keeps}
 use Rattle.hsm_core.proofs.Packing.{still_packed}
 use Rattle.hsm_core.proofs.Runs.{formatted_as}
 use Rattle.hsm_core.proofs.store.Hsm.resume.Given.{Over}
@@ -38,12 +38,12 @@ next g c =
     event g.D.Disk (before g c) c.self.invariant.0 c.self.invariant.1 c.make_ready_to_resume.new.stamps.entries c.make_ready_to_resume.new.history.items c.make_ready_to_resume.ensures.stamps c.make_ready_to_resume.ensures.same (after g c) c.in_default.ensures.working refl
     (Caller c.args.caller) Resume tt (λ (r : Reply). Replied r) _ c.record_event.result _ (omega (arith, c.self.invariant.2, c.len.ensures)) c.answer_again-done.result
     (record {
-      exact = refl;
+      exact = λ seen. refl;
       replies = c.answer_again-done.ensures.replied.replies;
       leaves = c.answer_again-done.ensures.replied.left;
       stamps = c.answer_again-done.ensures.replied.unstamped;
       tables = c.answer_again-done.ensures.replied.err;
-      synced = λ syncs. absurd cc;
+      synced = (always c.answer_again-done.result (λ (wrong : false ≡ true). absurd cc)).0;
       ends = c.answer_again-done.ensures.replied.ends;
     })
     (keeps g c)
@@ -53,7 +53,7 @@ returns-in-Err-clause-resumed g c =
     let s : Store g.row.D.Denot = record { opened = c.self.inside.opened.value; files = c.self.inside.files; stamps = c.self.inside.stamps.entries; tables = c.self.inside.service; history = c.self.inside.history.items; spare = vec_capacity c.self.inside.history - (vec_len c.self.inside.history + awaited_in c.self.inside.service) } in
     let t : Store g.row.D.Denot = record s { stamps = c.make_ready_to_resume.new.stamps.entries; history = c.make_ready_to_resume.new.history.items; spare = vec_capacity c.make_ready_to_resume.new.history - (vec_len c.make_ready_to_resume.new.history + awaited_in c.self.inside.service) } in
     subst (λ (old : Store g.row.D.Denot). IsResumed g.D.Disk old c.args.caller c.undone.result t) c.self.view_is
-    (not_begun g.D.Disk s c.self.invariant.0 c.self.invariant.1 c.make_ready_to_resume.new.stamps.entries c.make_ready_to_resume.new.history.items _ c.make_ready_to_resume.ensures.stamps c.make_ready_to_resume.ensures.same (Caller c.args.caller) Resume tt (Replied c.undone.result) c.in-Err.why c.make_ready_to_resume.ensures.idle
+    (not_begun g.D.Disk s c.self.invariant.0 c.self.invariant.1 c.make_ready_to_resume.new.stamps.entries c.make_ready_to_resume.new.history.items _ c.make_ready_to_resume.ensures.stamps c.make_ready_to_resume.ensures.same (Caller c.args.caller) Resume (Replied c.undone.result) c.in-Err.why c.make_ready_to_resume.ensures.idle
     (record { memory = λ is. ap (λ (r : Reply). Replied r) (c.undone.ensures.memory is); failed = λ is. ap (λ (r : Reply). Replied r) (c.undone.ensures.failed is) }) c.in-Err.ensures.refused)
 
 pub answer_again-done-requires-clause-idle : goal.answer_again-done-requires-clause-idle
@@ -80,7 +80,7 @@ invariant_of-self-2 g c =
           let there = subst (λ (b : Bool). vec_len c.make_ready_to_resume.new.history + c.awaited-awaited.result + (if b then 0 else 2) ≤ vec_capacity c.make_ready_to_resume.new.history) c.is_aborted-aborted.ensures c.in_default.ensures.room in
           omega (arith, more, fewer, there, c.awaited-awaited.ensures.count, c.record_event.ensures.room)
           ),
-      lasting (superblock_of c.self.inside.files) _ (formatted_as _ c.self.invariant.0) c.self.inside.files.held _ _ _ _ c.self.inside.service c.answer_again-done.new.service (Caller c.args.caller) Resume c.answer_again-done.result c.answer_again-done.ensures.replied.left c.answer_again-done.ensures.replied.err c.self.invariant.5,
+      lasting (superblock_of c.self.inside.files) _ (formatted_as _ c.self.invariant.0) c.self.inside.files.held _ _ _ _ c.self.inside.service c.answer_again-done.new.service (Caller c.args.caller) Resume (λ (r : Reply). Replied r) c.answer_again-done.result c.answer_again-done.ensures.replied.left c.answer_again-done.ensures.replied.err c.self.invariant.5,
       still_packed g.D.Disk (before g at) (after g at) (Caller c.args.caller) Resume (Replied c.record_event.result) c.self.invariant.0 tt is.2 c.self.invariant.6,
     )
 

@@ -16,7 +16,7 @@ use Rattle.hsm_replay.proofs.replay.Replay.commit.Goals as goal
 pub returns-clause-moves : goal.returns-clause-moves
 returns-clause-moves g c =
     subst (λ (old : Run g.row.D.Denot g.row.M.Denot). Moves g.D.Disk g.M.Drive (IsPartOf commit_line) c.event.result old (record { system = c.event.new.self; drives = c.self.inside.drives.items })) c.self.view_is
-    (event_moves g.D.Disk g.M.Drive (record { system = c.self.inside.system; drives = c.self.inside.drives.items }) (record { system = c.event.new.self; drives = c.self.inside.drives.items }) TheStore Commit c.event.result c.event.ensures.done refl tt tt)
+    (event_moves g.D.Disk g.M.Drive (record { system = c.self.inside.system; drives = c.self.inside.drives.items }) (record { system = c.event.new.self; drives = c.self.inside.drives.items }) TheStore Commit c.event.result c.event.ensures.done refl tt)
 
 pub returns-clause-does : goal.returns-clause-does
 returns-clause-does g c =

@@ -6,7 +6,7 @@ use Rattle.hsm_replay.specs.Doing.{Does}
 use Rattle.hsm_replay.specs.Keeping.{Moves}
 use Rattle.hsm_replay.specs.Systems.{Run}
 use Rattle.hsm_replay.proofs.Between.{event_is_run}
-use Rattle.hsm_replay.proofs.Events.{IsEventOf, event_moves, event_does, made_by, acts_by, names_none, no_deed_names}
+use Rattle.hsm_replay.proofs.Events.{IsEventOf, event_moves, event_does, made_by, names_none, no_deed_names}
 use Rattle.hsm_system.specs.Goes.{EntersBy}
 use Rattle.hsm_replay.specs.Deeds.{ByDeeds}
 use Rattle.hsm_replay.proofs.DeedRounds.{IsEntryOf, IsCutOf, event_by_deeds, entered_by}
@@ -20,7 +20,7 @@ returns-clause-moves g c = λ seed.
     let done = made_by g.D.Disk c.event_of.result c.args.actor c.args.action c.event_of.ensures.who c.event_of.ensures.what c.event.result c.self.inside.system c.event.new.self c.event.ensures.done in
     subst (λ (old : Run g.row.D.Denot g.row.M.Denot). Moves g.D.Disk g.M.Drive (IsEventOf c.args.actor c.args.action) c.event.result old (record { system = c.event.new.self; drives = c.self.inside.drives.items })) c.self.view_is
     (event_moves g.D.Disk g.M.Drive (record { system = c.self.inside.system; drives = c.self.inside.drives.items }) (record { system = c.event.new.self; drives = c.self.inside.drives.items }) c.args.actor c.args.action c.event.result done refl
-    (acts_by c.event_of.result c.args.actor c.args.action c.event_of.ensures.who c.event_of.ensures.what) (names_none c.args.actor c.args.action c.requires.0 c.requires.1))
+    (names_none c.args.actor c.args.action c.requires.0 c.requires.1))
 
 pub returns-clause-does : goal.returns-clause-does
 returns-clause-does g c = λ seed.

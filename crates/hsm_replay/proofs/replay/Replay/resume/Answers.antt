@@ -20,7 +20,7 @@ pub returns-clause-moves : goal.returns-clause-moves
 returns-clause-moves g c =
     subst (λ (old : Run g.row.D.Denot g.row.M.Denot). Moves g.D.Disk g.M.Drive (AllByRecursion IsOfSettling) c.event.result old (record { system = c.event.new.self; drives = c.self.inside.drives.items })) c.self.view_is
     (resume_is_settling g.D.Disk g.M.Drive c.args.caller c.event.result (record { system = c.self.inside.system; drives = c.self.inside.drives.items }) (record { system = c.event.new.self; drives = c.self.inside.drives.items }) c.requires
-    (event_moves g.D.Disk g.M.Drive (record { system = c.self.inside.system; drives = c.self.inside.drives.items }) (record { system = c.event.new.self; drives = c.self.inside.drives.items }) (Caller c.args.caller) Resume c.event.result c.event.ensures.done refl tt tt))
+    (event_moves g.D.Disk g.M.Drive (record { system = c.self.inside.system; drives = c.self.inside.drives.items }) (record { system = c.event.new.self; drives = c.self.inside.drives.items }) (Caller c.args.caller) Resume c.event.result c.event.ensures.done refl tt))
 
 pub returns-then-not-is_ready-clause-moves : goal.returns-then-not-is_ready-clause-moves
 returns-then-not-is_ready-clause-moves g c = moves_itself g.D.Disk g.M.Drive tt c.args.self.now

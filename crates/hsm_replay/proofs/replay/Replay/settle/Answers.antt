@@ -54,7 +54,7 @@ returns-then-branch-clause-settled g c =
 pub returns-then-branch-clause-settles : goal.returns-then-branch-clause-settles
 returns-then-branch-clause-settles g c = λ working.
     let goes = c.in_ok-round.ensures.moves.runs in
-    settles_rightly g.M.Drive _ _ _ c.loop-self.invariant.runs c.loop-self.invariant.moves.keeps (c.in_ok-round.ensures.ends c.if-branch.true) (fresh_on (refreshed c.args.self.now) c.loop-self.self c.round.new.self c.loop-self.invariant.fresh c.in_ok-round.ensures.fresh) c.kept.ensures
+    settles_rightly g.D.Disk g.M.Drive _ _ _ c.loop-self.invariant.runs c.loop-self.invariant.moves.keeps (c.in_ok-round.ensures.ends c.if-branch.true) (fresh_on (refreshed c.args.self.now) c.loop-self.self c.round.new.self c.loop-self.invariant.fresh c.in_ok-round.ensures.fresh) c.kept.ensures
     (goes.works (c.loop-self.invariant.moves.runs.works working))
 
 pub returns-then-branch-clause-runs : goal.returns-then-branch-clause-runs
