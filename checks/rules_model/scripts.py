@@ -1,0 +1,328 @@
+"""Random scripts. A maker runs each line over the model, so that the later ones can meet what is there then. Nothing is judged by that
+run: where a program goes on otherwise, the script only tries less."""
+
+import random
+
+from .files import BLOCK, FILE, SEGMENT, needed, numbers_of, print_of, print_text
+from .run import Run
+from .script import ACCESS, DAEMONS, FORMS, GREATEST, KINDS, OF_CALLERS, OF_NO_SESSION, handle_text, line_of, pattern
+from .store import BLOCKS, FSID, ON_TOKENS, SESSIONS
+
+NAMES = ("a", "b", "c", "d", "n" * 64)
+BAD_NAMES = ("none", "a/b", "n" * 65)
+INFOS = ("own", "HSMRECALL", "HSMMIGRATE")
+# What those parts of lines are drawn from that go by nothing else. What stands twice is taken twice as often.
+CHOICES = {
+    "info": (*INFOS, "own", "i" * 257),
+    "kinds": ("-", "read", "write,truncate", "nospace", "read,write,truncate", "read,write,truncate,nospace"),
+    "most": (0, 0, 1, 2),
+    "room": (65_536, 65_536, 4096, 128, 64, 63, 0),
+    "response": (*["continue"] * 6, "abort 13", "abort 255", "abort 0", "abort 256"),
+    "right": ("shared", "excl"),
+    "regions": (*["0:0:7"] * 5, *"- 0:0:3 0:65536:7 65536:0:7 0:131072:7 0:10:1,20:0:6 0:4096:3,8192:0:7 5:10:7,0:1:1 0:0:1,70000:9:1 0:0:8".split()),
+    "attribute": ("6e6f746500000000", "0" * 16, "48534d0000000000", "f" * 16),
+    "volume": (*[0] * 8, 1, 7, 8, 255, 256),
+    "object": (0, 0, 1, 2, 3, 9, 60),
+}
+# The most bytes in hex, with which a line is short enough.
+HEX_BYTES = 1900
+CROWDED = 830
+
+
+def spelled(data):
+    """The word for these bytes, if one is short enough."""
+    if len(data) <= HEX_BYTES:
+        return f"x:{data.hex()}"
+    return f"p:{len(data)}:{data[0]}" if pattern(len(data), data[0]) == data else None
+
+
+class Maker:
+    """`asker` and `file` are what the line is about that is drawn."""
+
+    def __init__(self, seed):
+        self.random = random.Random(seed)
+        self.run = Run()
+        self.store = self.run.store
+        self.lines = []
+        self.callers = self.of((2, 5, 16, 64))
+        self.asker = self.file = None
+
+    def add(self, line):
+        self.lines.append(line)
+        return self.run.line(line_of(line.encode()))
+
+    def of(self, choices):
+        return self.random.choice(list(choices))
+
+    def odds(self, chance):
+        return self.random.random() < chance
+
+    def pick_file(self):
+        """One of the files, or None."""
+        self.file = self.of(self.store.files.values()) if self.store.files else None
+        return self.file
+
+    def name(self):
+        """The name of the file."""
+        return next(name for name, file in self.store.files.items() if file is self.file)
+
+    def a_session(self):
+        return self.of(self.store.sessions) if self.store.sessions and self.odds(0.97) else self.random.randint(0, self.store.ids + 1)
+
+    def caller(self, waits=False):
+        """Mostly one of whom something waits, or nothing."""
+        callers = [f"c{number}" for number in range(1, self.callers + 1)]
+        fit = [caller for caller in callers if (caller in self.store.waiting) == waits]
+        return self.of(fit if fit and self.odds(0.95) else callers)
+
+    # A line of any verb, whose parts are drawn one after the other.
+
+    def any_line(self, verb):
+        self.pick_file()
+        self.asker = 0 if verb in OF_NO_SESSION else self.a_session()
+        words = ["store" if verb == "commit" else self.caller(verb == "resume") if verb in OF_CALLERS else f"s{self.asker}", verb]
+        for part in FORMS[verb]:
+            words.append(str(self.of(CHOICES[part]) if part in CHOICES else self.part(part, words)))
+        return self.add(" ".join(words))
+
+    def part(self, part, words):
+        """A part of the line that goes by what is there. `words` are those before it."""
+        size = self.file.size if self.file else 0
+        match part:
+            case "name":
+                return self.name() if self.file and self.odds(0.9) else self.of(NAMES if self.odds(0.9) else BAD_NAMES)
+            case "offset" | "size":
+                return self.place(size)
+            case "length":
+                return self.of((1, 4, 100, BLOCK, ACCESS, ACCESS, ACCESS, 2 * ACCESS, 0, size))
+            case "sid" | "old":
+                return 0 if part == "old" and self.odds(0.6) else self.a_session()
+            case "token":
+                own = self.store.sessions[self.asker].outstanding if self.asker in self.store.sessions else ()
+                is_own = own and self.odds(0.85 if words[1] in ON_TOKENS else 0.25)
+                return self.of(own) if is_own else 0 if self.odds(0.9) else self.random.randint(0, self.store.tokens + 1)
+            case "handle":
+                other = (self.of((1, 1, 2)), self.random.randint(1, 4), self.random.randint(1, self.store.generations + 1))
+                return handle_text((FSID, *self.file.key) if self.file and self.odds(0.97) else other)
+            case "segment":
+                return self.of(self.file.segments()) if size and self.odds(0.95) else self.random.randint(0, 300)
+            case "count":
+                return len(self.file.bytes_of(int(words[4]))) if size else 4
+            case "digest":
+                return print_of(self.file.bytes_of(int(words[4])) if size and self.odds(0.95) else b"other")[1].hex()
+        return self.data(*words[1:])
+
+    def place(self, size):
+        """A place in a file of that size, or beside an edge of it."""
+        if self.odds(0.04):
+            return self.of((FILE - 1, FILE, FILE, FILE + 1, GREATEST))
+        edges = (0, 0, size, size, self.random.randint(0, size), size // SEGMENT * SEGMENT, SEGMENT, size // BLOCK * BLOCK, size + 70_000)
+        return max(0, self.of(edges) + self.of((0, 0, 0, -1, 1)))
+
+    def data(self, verb, *words):
+        if verb == "restore" and self.file and (away := self.file.away.get(int(words[2]))) and (word := spelled(away)):
+            return word
+        if verb in ("write", "writeinvis") and self.odds(0.3):
+            return f"p:{self.of((BLOCK, SEGMENT, SEGMENT, 20_000))}:{self.random.randrange(256)}"
+        length = self.of((4080, 4080, 33, 5) if verb == "setattr" else (0, 3, 33, 4097) if self.odds(0.1) else (1, 2, 3, 8))
+        return f"x:{self.random.randbytes(length).hex()}" if length < HEX_BYTES else f"p:{length}:1"
+
+    # Lines that lead somewhere.
+
+    def piece(self):
+        """A segment of one pattern, mostly a whole one, at the end of a file or in it."""
+        if not self.pick_file():
+            return self.any_line("create")
+        last = self.file.size // SEGMENT
+        segment = min(self.of((last, last, self.random.randint(0, last))), FILE // SEGMENT - 1)
+        length = self.of((*[SEGMENT] * 8, 20_000))
+        return self.add(f"{self.caller()} write {self.name()} {segment * SEGMENT} p:{length}:{self.random.randrange(256)}")
+
+    def fill(self, blocks=None):
+        """Writes whole segments until so many blocks are used."""
+        blocks = blocks or self.of((600, CROWDED, 900, 1000, BLOCKS, BLOCKS))
+        for _ in range(140):
+            if self.store.used() + 16 <= blocks and len(self.store.waiting) < self.callers:
+                self.piece()
+
+    def cold(self):
+        """An access that needs an offline segment, where there is one."""
+        there = [(name, segment) for name, file in self.store.files.items() for segment in file.offline()]
+        if not there:
+            return self.any_line("read")
+        name, segment = self.of(there)
+        size = self.store.files[name].size
+        place = min(segment * SEGMENT + self.of((0, 1, 5000, SEGMENT - 1)), size - 1)
+        call = self.of(("read {} {} 4", f"read {{}} {{}} {ACCESS}", "write {} {} x:c0ff", "truncate {} {}")).format(name, place)
+        return self.add(f"{self.caller()} {call if self.odds(0.95) else f'truncate {name} {size}'}")
+
+    def no_room(self):
+        """Recall in a full store, where migration doesn't run."""
+        self.add("kill migrate")
+        self.fill(BLOCKS)
+        for line in (None, None, "start recall", "settle"):
+            self.add(line) if line else self.cold()
+
+    def own_session(self):
+        """A session that is no daemon's."""
+        own = [sid for sid, session in self.store.sessions.items() if session.info == "own"]
+        if not own and len(self.store.sessions) < SESSIONS:
+            self.add("s0 session 0 own")
+            own = [self.store.ids]
+        return self.of(own or self.store.sessions)
+
+    def give_up(self):
+        """A session seals a segment and punches it. The object is there only by chance."""
+        if not self.pick_file() or not self.file.size:
+            return
+        sid, segment, handle = self.own_session(), self.of(self.file.segments()), handle_text((FSID, *self.file.key))
+        if self.odds(0.8):
+            self.add(f"s{sid} setregion 0 {handle} 0:0:7")
+        if segment not in self.file.stubs:
+            there = [f"0 {number}" for number in range(len(self.run.volumes.objects[0]))]
+            place = self.of(there) if there and self.odds(0.5) else f"{self.of(CHOICES['volume'])} {self.of(CHOICES['object'])}"
+            self.add(f"s{sid} seal 0 {handle} {segment} {place} {print_text(print_of(self.file.bytes_of(segment)))}")
+        if self.odds(0.8):
+            self.add(f"s{sid} punch 0 {handle} {segment * SEGMENT} {SEGMENT}")
+        if self.odds(0.5):
+            self.add(f"{self.caller()} read {self.name()} {segment * SEGMENT} 4")
+
+    def advance(self):
+        """One thing that an access waits for."""
+        if not self.store.waiting:
+            return
+        access = self.of(self.store.waiting.values())
+        message, held = access.message, self.store.rights.get(access.key, {})
+        if message is None and held and self.odds(0.8):
+            verb = self.of(("release", "release", "downgrade"))
+            self.add(f"s{self.store.owner(min(held))} {verb} {min(held)} {handle_text((FSID, *access.key))}")
+        elif message is None or access.response:
+            self.add(f"{access.call.actor} resume")
+        elif message in self.store.unrouted:
+            self.add(f"s{self.own_session()} setdisp {','.join(kind for kind in KINDS if kind == message.kind or self.odds(0.7))}")
+        elif (sid := self.store.owner(message.token)) is None:
+            sid = next(sid for sid, session in self.store.sessions.items() if message in session.queue)
+            self.add(f"s{sid} getevents 0 65536")
+        else:
+            self.answer(sid, access)
+
+    def answer(self, sid, access):
+        """A response, mostly once the segments are back that are needed."""
+        message, file = access.message, self.store.by_key(access.key)
+        for segment in needed(access.call.verb, file.size, *numbers_of(access.call), file.offline()) if file else ():
+            word = spelled(file.away[segment])
+            if word and self.odds(0.8):
+                self.add(f"s{sid} restore {self.of((0, 0, message.token))} {handle_text(message.handle)} {segment} {word}")
+        self.add(f"s{sid} respond {message.token} {self.of(CHOICES['response'])}")
+
+    def hold(self):
+        """A token of a session's own that has a right on a file, mostly one of an access that waits."""
+        keys = [access.key for access in self.store.waiting.values()] or [file.key for file in self.store.files.values()]
+        sid = self.own_session()
+        if keys and self.add(f"s{sid} userevent x:01").startswith("token "):
+            on = f"{self.store.tokens} {handle_text((FSID, *self.of(keys)))}"
+            for _ in range(self.of((1, 1, 2))):
+                self.add(f"s{sid} request {on} {self.of(CHOICES['right'])}")
+
+    def let_go(self):
+        tokens = [(sid, token) for sid, session in self.store.sessions.items() for token, message in session.outstanding.items() if message.kind == "user"]
+        if tokens:
+            self.add("s{} respond {} continue".format(*self.of(tokens)))
+
+    def attributes(self):
+        for _ in range(12):
+            self.any_line("setattr")
+
+    def many_sessions(self):
+        for _ in range(self.of((63, 64, 65)) - len(self.store.sessions)):
+            self.add("s0 session 0 own")
+
+    # Lines of daemons.
+
+    def start(self):
+        self.add(f"start {self.of(DAEMONS)}")
+
+    def kill(self):
+        daemon = self.of(DAEMONS)
+        self.add(f"kill {daemon}")
+        if self.odds(0.7):
+            self.add(f"start {daemon}")
+
+    def settle(self):
+        self.add("settle")
+
+    def step(self):
+        daemon = self.of(DAEMONS)
+        for _ in range(self.of((1, 1, 2, 3, 5, 9, 20))):
+            self.add(f"step {daemon if self.odds(0.9) else self.of(DAEMONS)}")
+
+    def halfway(self):
+        """Recall stands between two acts of its work, and mostly something troubles it there."""
+        for _ in range(self.of((1, 1, 2, 4))):
+            self.cold()
+        for line in ("start recall", *["step recall"] * self.random.randint(1, 12)):
+            self.add(line)
+        getattr(self, self.of(("meddle", "meddle", "kill", "hold", "piece", "settle", "let_go")))()
+
+    def meddle(self):
+        """A call with the session of a daemon, mostly on its tokens."""
+        sids = [sid for sid, session in self.store.sessions.items() if session.info in INFOS[1:]]
+        if not sids:
+            return
+        self.asker = sid = self.of(sids)
+        calls = ["getevents 0 65536", f"setdisp {self.of(CHOICES['kinds'])}", "destroy", "tokens", "userevent x:02", f"send {sid} x:03", "space"]
+        tokens = list(self.store.sessions[sid].outstanding.values())
+        if tokens:
+            message = self.of(tokens)
+            on = f"{message.token} {handle_text(message.handle or (FSID, 1, 1))}"
+            calls = [f"respond {message.token} {self.of(CHOICES['response'])}", f"findmsg {message.token} 64", *calls[:3]]
+            calls += [f"{verb} {on}" for verb in ("release", "downgrade", "upgrade", "right")] + [f"request {on} {self.of(CHOICES['right'])}"] * 2
+        self.add(f"s{sid} {self.of(calls)}" if self.odds(0.9) else f"s0 session {sid} {self.of(INFOS)}")
+
+
+OF_FILES = {"create": 3, "read": 8, "write": 6, "truncate": 3, "remove": 1, "stat": 1, "sync": 1, "resume": 3, "commit": 1}
+OF_MESSAGES = {"session": 2, "setdisp": 2, "getevents": 3, "findmsg": 2, "respond": 2, "userevent": 2, "send": 1, "destroy": 1}
+OF_RIGHTS = {"request": 4, "release": 3, "right": 1, "upgrade": 2, "downgrade": 2}
+OF_KEPT = {"setregion": 8, "getregion": 1, "setattr": 2, "getattr": 1, "rmattr": 1, "attrs": 1, "fileattr": 2}
+OF_SEGMENTS = {"readinvis": 3, "writeinvis": 2, "punch": 2, "probe": 2, "alloc": 2, "seal": 4, "restore": 3, "space": 1, "table": 1}
+ASKED = dict.fromkeys(("sessions", "query", "disp", "tokens", "handle"), 1)
+OF_DAEMONS = {"piece": 4, "cold": 10, "write": 2, "truncate": 1, "create": 1, "remove": 1, "resume": 1, "start": 2, "settle": 4, "step": 6, "kill": 2}
+TROUBLE = {"hold": 2, "let_go": 3, "give_up": 2, "setregion": 1, "halfway": 4}
+# What the turns of a script of each kind are, each with its weight; how many there are at most; and whether daemons run from the first on.
+SCRIPTS = {
+    "callers": (OF_FILES | OF_MESSAGES | OF_RIGHTS | OF_KEPT | ASKED | {"advance": 30, "hold": 3, "let_go": 4, "many_sessions": 0.5, "attributes": 0.5}, 150, False),
+    "segments": (OF_FILES | OF_SEGMENTS | {"setregion": 2, "piece": 6, "give_up": 8, "cold": 8, "advance": 30, "hold": 1, "let_go": 3}, 130, False),
+    "daemons": (OF_DAEMONS | TROUBLE | {"fill": 1, "many_sessions": 0.2}, 50, True),
+    "crowded": (OF_DAEMONS | TROUBLE | {"fill": 6, "settle": 6, "write": 8, "no_room": 1}, 40, True),
+    "meddling": (OF_DAEMONS | TROUBLE | {"meddle": 20, "advance": 5, "halfway": 12}, 60, True),
+}
+
+
+def script_of(seed, number):
+    """The kind and the text of a script. They depend on nothing else."""
+    kind = list(SCRIPTS)[number % len(SCRIPTS)]
+    weights, turns, has_daemons = SCRIPTS[kind]
+    maker = Maker(f"{seed}/{number}")
+    for name in NAMES[: maker.random.randint(1, 3)]:
+        maker.add(f"c1 create {name}")
+    if has_daemons:
+        if maker.odds(0.3):
+            maker.start()
+        maker.fill(maker.of((500, CROWDED, CROWDED, 900, BLOCKS)))
+        maker.add("start migrate")
+        maker.add(maker.of(("settle", "settle", "step migrate", "start recall")))
+    else:
+        maker.add("s0 session 0 own")
+        if maker.odds(0.25):
+            maker.add("s1 setdisp nospace")
+            maker.fill(BLOCKS)
+    for verb in maker.random.choices(list(weights), list(weights.values()), k=maker.random.randint(turns // 4, turns)):
+        getattr(maker, verb, lambda: maker.any_line(verb))()
+    if maker.odds(0.5):
+        for line in ("start recall", "start migrate", "settle"):
+            maker.add(line)
+    sid = maker.own_session()
+    for file in maker.store.files.values():
+        for verb in ("alloc", "fileattr"):
+            maker.add(f"s{sid} {verb} 0 {handle_text((FSID, *file.key))}")
+    return kind, "".join(f"{line}\n" for line in maker.lines).encode()
