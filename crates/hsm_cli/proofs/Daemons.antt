@@ -7,8 +7,9 @@ use Rattle.hsm_types.specs.declared.daemons.Daemon.{Daemon}
 use Rattle.hsm_types.specs.declared.stores.Superblock.{Superblock}
 use Rattle.plain_model.specs.declared.entries.Entry.{Entry}
 use Rattle.plain_model.specs.State.{Held, just_opened}
-use Rattle.plain_model.specs.Laws.{IsRun}
-use Rattle.plain_model.proofs.Goods.{beginning_is_run}
+use Rattle.plain_model.specs.Laws.{IsRunSeen}
+use Rattle.plain_model.proofs.AnyDisk.{run_on_any}
+use Rattle.plain_model.proofs.Histories.{ExactSeen-first}
 use Rattle.file_store.specs.Stores.{Store, superblock_of}
 use Rattle.hsm_core.specs.Kept.{IsKept}
 use Rattle.hsm_core.specs.Packed.{ArePacked}
@@ -34,22 +35,27 @@ pub record Laws : Type 0 where
   pub keeps : (daemon : Daemon) (limits : Numbers) (s : Superblock) (base : ℕ) (h : Held) (marks : List Mark) (es : List Entry) → ServedKeepsAll daemon limits s base h marks es
   pub frees : (s : Superblock) (base : ℕ) (h : Held) (es : List Entry) → PunchFrees s base h es
 
-module _ (laws : Laws) (Told : Type 0) (s : Superblock) (base : ℕ) (h : Held) where
-  well_served : (history : List Entry) → (Told → IsRun s base h history) → ArePacked s (just_opened base h) history → (marks : List Mark) → entries_of marks ≡ history → Served standard marks → IsWellServed Told s base h marks
+module _ (laws : Laws) (s : Superblock) (base : ℕ) (h : Held) where
+  -- a beginning of a run is one
+  run_first : (first rest : List Entry) → IsRunSeen ⊥ s base h (first ++ rest) → IsRunSeen ⊥ s base h first
+  run_first first rest run = record { opening = run.opening; exact = ExactSeen-first ⊥ s (just_opened base h) first rest run.exact }
+
+  well_served : (history : List Entry) → IsRunSeen ⊥ s base h history → ArePacked s (just_opened base h) history → (marks : List Mark) → entries_of marks ≡ history → Served standard marks → IsWellServed s base h marks
   well_served history run packed marks same served = record {
-    anew = λ told. laws.anew standard s base h marks history same served (run told);
+    anew = laws.anew standard s base h marks history same served run;
     over = laws.over standard marks served;
-    keeps = λ told daemon first rest parted.
+    keeps = λ daemon first rest parted.
         let both : history ≡ entries_of first ++ entries_of rest = sym same ∙ ap entries_of parted ∙ map-append (λ (m : Mark). m.entry) first rest in
         laws.keeps daemon standard s base h first (entries_of first) refl
         (served_first standard nothing_shown first rest (subst (ServedFrom standard nothing_shown) parted served))
-        (beginning_is_run s base h (entries_of first) (entries_of rest) (subst (λ (es : List Entry). IsRun s base h es) both (run told)))
+        (run_first (entries_of first) (entries_of rest) (subst (λ (es : List Entry). IsRunSeen ⊥ s base h es) both run))
         (packed_first s (just_opened base h) (entries_of first) (entries_of rest) (subst (λ (es : List Entry). ArePacked s (just_opened base h) es) both packed));
-    frees = λ told. laws.frees s base h (entries_of marks) (subst (λ (es : List Entry). IsRun s base h es) (sym same) (run told));
+    frees = laws.frees s base h (entries_of marks) (subst (λ (es : List Entry). IsRunSeen ⊥ s base h es) (sym same) run);
   }
 
 -- on a store that was just opened
-pub run_is_well : {D : Type 0} → Laws → (g : disk.Ghosts D) (old new : HsmStore D) → GoesOn g old new → IsKept g new → ServedIsWell (Tells g new.files.disk) (Some old.opened) new.history
+pub run_is_well : {D : Type 0} → Laws → (g : disk.Ghosts D) (old new : HsmStore D) → GoesOn g old new → IsKept g new → ServedIsWell (Some old.opened) new.history
 run_is_well {D = D} laws g old new goes kept marks same served =
-    subst (λ (o : Store D). IsWellServedOver (Tells g new.files.disk) (Some o) marks) goes.opened
-    (well_served laws (Tells g new.files.disk) (superblock_of new.opened) new.opened.meta.number new.opened.held new.history (λ tells. (kept.good tells).run) kept.packed marks same served)
+    subst (λ (o : Store D). IsWellServedOver (Some o) marks) goes.opened
+    (well_served laws (superblock_of new.opened) new.opened.meta.number new.opened.held new.history
+    (run_on_any (Tells g new.files.disk) (superblock_of new.opened) new.opened.meta.number new.opened.held new.history kept.run) kept.packed marks same served)

@@ -34,9 +34,8 @@ use Rattle.hsm_cli.specs.Texts.{HasLeft, held_after, drill_text}
 use Rattle.hsm_cli.specs.Clauses.{HasDrilled, Why, CanEnd, StatusClause}
 use Rattle.command_words.specs.Commands.{Drill}
 use Rattle.hsm_cli.proofs.ByCause.{written_by, if_told}
-use Rattle.hsm_cli.proofs.Scripted.{run_says, runs_so, firsts_so}
+use Rattle.hsm_cli.proofs.Scripted.{run_says}
 use Rattle.hsm_cli.proofs.Sealing.{right_of}
-use Rattle.hsm_cli.proofs.Weaker.{settles_on_weaker, well_weaker}
 
 -- ---- how it ended
 
@@ -100,23 +99,22 @@ module _ (Settles : List Line → List Mark → Type 0) (Tells : List Mark → T
       written_by (λ c. (c ≡ Some NoMemory) ⊎ IsOk ended → HasDrilled Settles Tells number c history) sink (cause_in told) (λ ran. all_run ended all (not_none ran)) (λ rose ran. all_run ended all (not_fault ran)) (λ ran. inr first) (if_told (WritingEnds sink) told ends) ran
 
 -- what a run of lines says is so of the drill that has these
-module _ {D M A B : Type 0} (g : drive.Ghosts M) (opened : Store D) (given left : List M) (whole : (opened drives : List M) (limits : Numbers) (marks : List Mark) → Tallies g opened drives limits marks → SealsAreWhole g marks) (sure : g.sure ≡ true)
-    (law : (d : M) (v : ℕ) → g.has d v ≡ true → (o : Objects) × g.gives d v o) (number : ℕ) (lines : List Line) (history : List Entry) (is : lines ≡ drill_lines number) (well : ServedIsWell A (Some opened) history) (tells : B → A) where
+module _ {D M : Type 0} (g : drive.Ghosts M) (opened : Store D) (given left : List M) (whole : (opened drives : List M) (limits : Numbers) (marks : List Mark) → Tallies g opened drives limits marks → SealsAreWhole g marks) (sure : g.sure ≡ true)
+    (law : (d : M) (v : ℕ) → g.has d v ≡ true → (o : Objects) × g.gives d v o) (number : ℕ) (lines : List Line) (history : List Entry) (is : lines ≡ drill_lines number) (well : ServedIsWell (Some opened) history) where
   abbrev Right : List Mark → Type 0
-  Right marks = IsWellServedOver B (Some opened) marks × IsRightInMemory marks
+  Right marks = IsWellServedOver (Some opened) marks × IsRightInMemory marks
 
-  says : (FollowsSo FollowsToo : List Line → List Mark → Type 0) → ((ls : List Line) (marks : List Mark) → FollowsSo ls marks → FollowsToo ls marks) → IsRunOf (FollowsSo lines) (TellsOf g given left) history → IsRunOf (FollowsToo (drill_lines number)) Right history
-  says FollowsSo FollowsToo so run =
-      subst (λ (ls : List Line). IsRunOf (FollowsToo ls) Right history) is
-      (run_says (TellsOf g given left) Right history (λ marks entries served told. (well_weaker tells (superblock_of opened) opened.meta.number opened.held marks (well marks entries served), right_of g given left whole sure law marks told))
-      (FollowsSo lines) (FollowsToo lines) (so lines) run)
+  says : (FollowsSo : List Line → List Mark → Type 0) → IsRunOf (FollowsSo lines) (TellsOf g given left) history → IsRunOf (FollowsSo (drill_lines number)) Right history
+  says FollowsSo run =
+      subst (λ (ls : List Line). IsRunOf (FollowsSo ls) Right history) is
+      (run_says (SettlesOn (Some opened)) (TellsOf g given left) Right history (λ marks entries served tells. (well marks entries served, right_of g given left whole sure law marks tells)) (FollowsSo lines) run)
 
-  pub drills_all : {T : Type 0} (ended : Result T Cause) → OnOk ended (IsRunOf (RunsBy (SettlesOn A (Some opened)) lines) (TellsOf g given left) history) → OnOk ended (DrillsAll (SettlesOn B (Some opened)) Right number history)
-  drills_all (Ok x) run = says (RunsBy (SettlesOn A (Some opened))) (RunsBy (SettlesOn B (Some opened))) (runs_so (SettlesOn A (Some opened)) (SettlesOn B (Some opened)) (settles_on_weaker tells (Some opened))) run
+  pub drills_all : {T : Type 0} (ended : Result T Cause) → OnOk ended (IsRunOf (RunsBy (SettlesOn (Some opened)) lines) (TellsOf g given left) history) → OnOk ended (DrillsAll (SettlesOn (Some opened)) Right number history)
+  drills_all (Ok x) run = says (RunsBy (SettlesOn (Some opened))) run
   drills_all (Err why) run = tt
 
-  pub drills_first : IsRunOf (FollowsFirst (SettlesOn A (Some opened)) lines) (TellsOf g given left) history → DrillsFirst (SettlesOn B (Some opened)) Right number history
-  drills_first run = says (FollowsFirst (SettlesOn A (Some opened))) (FollowsFirst (SettlesOn B (Some opened))) (firsts_so (SettlesOn A (Some opened)) (SettlesOn B (Some opened)) (settles_on_weaker tells (Some opened))) run
+  pub drills_first : IsRunOf (FollowsFirst (SettlesOn (Some opened)) lines) (TellsOf g given left) history → DrillsFirst (SettlesOn (Some opened)) Right number history
+  drills_first run = says (FollowsFirst (SettlesOn (Some opened))) run
 
 -- ---- when each status comes
 

@@ -9,6 +9,7 @@ use Rattle.hsm_types.specs.declared.media.Fault.TheVariants.{Failed, Damaged}
 use Rattle.hsm_types.specs.declared.stores.Superblock.{Superblock}
 use Rattle.plain_model.specs.declared.entries.Entry.{Entry}
 use Rattle.plain_model.specs.State.{Held, nothing_held, just_opened}
+use Rattle.plain_model.proofs.AnyDisk.{run_on_any}
 use Rattle.file_store.specs.Stores.{Store, superblock_of}
 use Rattle.disk_model.specs.declared.device.Disk as disk
 use Rattle.disk_model.specs.Moments.{Tells}
@@ -72,7 +73,8 @@ caused_new s history superblock held number caused =
 module _ {D : Type 0} (g : disk.Ghosts D) where
   -- what the history of a run on an opened store says of faults
   pub caused_served : ((limits : Numbers) (s : Superblock) (base : ℕ) (opening : Held) (marks : List Mark) (history : List Entry) → ServedIsCaused limits s base opening marks history)
-      → (old new : HsmStore D) → GoesOn g old new → IsServed new.history → IsKept g new → Tells g new.files.disk → IsCausedOver (Some old.opened) new.history
-  caused_served law old new goes served kept tells =
+      → (old new : HsmStore D) → GoesOn g old new → IsServed new.history → IsKept g new → IsCausedOver (Some old.opened) new.history
+  caused_served law old new goes served kept =
       subst (λ (o : Store D). IsCausedOver (Some o) new.history) goes.opened
-      (law standard (superblock_of new.opened) new.opened.meta.number new.opened.held served.0 new.history served.1 served.2 (kept.good tells).run kept.packed)
+      (law standard (superblock_of new.opened) new.opened.meta.number new.opened.held served.0 new.history served.1 served.2
+      (run_on_any (Tells g new.files.disk) (superblock_of new.opened) new.opened.meta.number new.opened.held new.history kept.run) kept.packed)

@@ -2,7 +2,6 @@
 use Rattle.std.proofs.Common.{◌≡◌, ◌∙◌, ◌⊎◌, inl, inr, List, [], ◌∷◌, ◌++◌, Bool, true, false, Result, Ok, Err, OnOk, Option, IfSome, is_some, refl}
 use Rattle.std.proofs.Common.{sym, ap, ap₂, subst, append_assoc, append-nil}
 use Rattle.disk_model.specs.declared.device.Disk as disk
-use Rattle.disk_model.specs.Moments.{Tells}
 use Rattle.media_model.specs.declared.drive.Drive as drive
 use Rattle.script_text.specs.declared.lines.Line.{Line}
 use Rattle.hsm_types.specs.declared.stores.Superblock.{Superblock}
@@ -14,7 +13,7 @@ use Rattle.hsm_system.specs.Running.{Recalling, Migrating}
 use Rattle.hsm_system.specs.declared.stops.Stop.{Stop}
 use Rattle.hsm_replay.specs.Faults.{faults_in, AreTrue}
 use Rattle.marked_history.specs.Follows.{IsPartOf, Follows}
-use Rattle.hsm_replay.specs.Keeping.{RecallKnows, MigrateKnows, RecallLives, MigrateLives, LivesIf, Live, LiveThrough, Moves}
+use Rattle.hsm_replay.specs.Keeping.{RecallKnows, MigrateKnows, RecallLives, MigrateLives, LivesIf, Live, Moves}
 use Rattle.marked_history.specs.Lives.{called_in, called_by, BeginsRight}
 use Rattle.marked_history.specs.Marks.{Mark}
 use Rattle.hsm_replay.specs.Passes.{CopyEnds, PassStands}
@@ -31,7 +30,6 @@ use Rattle.hsm_replay.proofs.Growing.{have_grown_itself}
 use Rattle.hsm_replay.proofs.PassMarks.{no_passes}
 use Rattle.hsm_cli.specs.Follows.{RunsBy, IsBegun, FollowsFirst, HasRunOn, IsRunTo, SettlesSince, called_behind, lines_run}
 use Rattle.hsm_cli.specs.Runs.{IsReady}
-use Rattle.hsm_cli.proofs.Weaker.{run_weaker}
 
 push : (lines : List Line) (marks : List Mark) (line : Line) (part : List Mark) → Follows lines marks → IsPartOf line part → Follows (lines ++ line ∷ []) (marks ++ part)
 push [] marks line part follows is = (part, ([], (rw follows (sym (append-nil part)), is, refl)))
@@ -40,52 +38,52 @@ push (x ∷ lines) marks line part follows is =
     (follows.0, (rest ++ part, (rw follows.1.1.0 (append_assoc follows.0 rest part), follows.1.1.1, push lines rest line part follows.1.1.2 is)))
 
 -- the lines that were run, and one more with what it has come to
-module _ (Told : Type 0) (limits : Numbers) (s : Superblock) (first : State) where
-  abbrev Behind : (r called : Running) (before : List Mark) (lines : List Line) (marks : List Mark) → EachSettles Told limits s first r called before lines marks → Running
-  Behind = called_behind Told limits s first
+module _ (limits : Numbers) (s : Superblock) (first : State) where
+  abbrev Behind : (r called : Running) (before : List Mark) (lines : List Line) (marks : List Mark) → EachSettles limits s first r called before lines marks → Running
+  Behind = called_behind limits s first
 
-  abbrev push_settled : (r called : Running) (before : List Mark) (lines : List Line) (marks : List Mark) (line : Line) (part : List Mark) (each : EachSettles Told limits s first r called before lines marks) → IsPartOf line part → AreByRunning (running_by line (running_behind lines r)) part
-      → LeavesSettled Told limits s first line (running_by line (running_behind lines r)) (before ++ marks) part → BeginsRight limits (Behind r called before lines marks each) (before ++ marks) part → EachSettles Told limits s first r called before (lines ++ line ∷ []) (marks ++ part)
+  abbrev push_settled : (r called : Running) (before : List Mark) (lines : List Line) (marks : List Mark) (line : Line) (part : List Mark) (each : EachSettles limits s first r called before lines marks) → IsPartOf line part → AreByRunning (running_by line (running_behind lines r)) part
+      → LeavesSettled limits s first line (running_by line (running_behind lines r)) (before ++ marks) part → BeginsRight limits (Behind r called before lines marks each) (before ++ marks) part → EachSettles limits s first r called before (lines ++ line ∷ []) (marks ++ part)
   push_settled r called before [] marks line part none is by left begins =
       let here : before ++ marks ≡ before = ap (λ (ms : List Mark). before ++ ms) none ∙ append-nil before in
-      (part, ([], (ap (λ (ms : List Mark). ms ++ part) none ∙ sym (append-nil part), is, by, subst (λ (ms : List Mark). LeavesSettled Told limits s first line (running_by line r) ms part) here left, subst (λ (ms : List Mark). BeginsRight limits called ms part) here begins, refl)))
+      (part, ([], (ap (λ (ms : List Mark). ms ++ part) none ∙ sym (append-nil part), is, by, subst (λ (ms : List Mark). LeavesSettled limits s first line (running_by line r) ms part) here left, subst (λ (ms : List Mark). BeginsRight limits called ms part) here begins, refl)))
   push_settled r called before (x ∷ lines) marks line part each is by left begins =
       let rest : List Mark = each.1.0 in
       let then : Running = called_by x (called_in each.0 called) in
-      let on : EachSettles Told limits s first (running_by x r) then (before ++ each.0) lines rest = each.1.1.5 in
+      let on : EachSettles limits s first (running_by x r) then (before ++ each.0) lines rest = each.1.1.5 in
       let here : before ++ marks ≡ (before ++ each.0) ++ rest = ap (λ (ms : List Mark). before ++ ms) each.1.1.0 ∙ sym (append_assoc before each.0 rest) in
-      let left_here = subst (λ (ms : List Mark). LeavesSettled Told limits s first line (running_by line (running_behind lines (running_by x r))) ms part) here left in
+      let left_here = subst (λ (ms : List Mark). LeavesSettled limits s first line (running_by line (running_behind lines (running_by x r))) ms part) here left in
       let begins_here = subst (λ (ms : List Mark). BeginsRight limits (Behind (running_by x r) then (before ++ each.0) lines rest on) ms part) here begins in
       (each.0, (rest ++ part, (ap (λ (ms : List Mark). ms ++ part) each.1.1.0 ∙ append_assoc each.0 rest part, each.1.1.1, each.1.1.2, each.1.1.3, each.1.1.4, push_settled (running_by x r) then (before ++ each.0) lines rest line part on is by left_here begins_here)))
 
-  called_push : (r called : Running) (before : List Mark) (lines : List Line) (marks : List Mark) (line : Line) (part : List Mark) (each : EachSettles Told limits s first r called before lines marks) (is : IsPartOf line part) (by : AreByRunning (running_by line (running_behind lines r)) part)
-      (left : LeavesSettled Told limits s first line (running_by line (running_behind lines r)) (before ++ marks) part) (begins : BeginsRight limits (Behind r called before lines marks each) (before ++ marks) part)
+  called_push : (r called : Running) (before : List Mark) (lines : List Line) (marks : List Mark) (line : Line) (part : List Mark) (each : EachSettles limits s first r called before lines marks) (is : IsPartOf line part) (by : AreByRunning (running_by line (running_behind lines r)) part)
+      (left : LeavesSettled limits s first line (running_by line (running_behind lines r)) (before ++ marks) part) (begins : BeginsRight limits (Behind r called before lines marks each) (before ++ marks) part)
       → Behind r called before (lines ++ line ∷ []) (marks ++ part) (push_settled r called before lines marks line part each is by left begins) ≡ called_by line (called_in part (Behind r called before lines marks each))
   called_push r called before [] marks line part none is by left begins = refl
   called_push r called before (x ∷ lines) marks line part each is by left begins =
       let rest : List Mark = each.1.0 in
       let then : Running = called_by x (called_in each.0 called) in
-      let on : EachSettles Told limits s first (running_by x r) then (before ++ each.0) lines rest = each.1.1.5 in
+      let on : EachSettles limits s first (running_by x r) then (before ++ each.0) lines rest = each.1.1.5 in
       let here : before ++ marks ≡ (before ++ each.0) ++ rest = ap (λ (ms : List Mark). before ++ ms) each.1.1.0 ∙ sym (append_assoc before each.0 rest) in
       called_push (running_by x r) then (before ++ each.0) lines rest line part on is by
-      (subst (λ (ms : List Mark). LeavesSettled Told limits s first line (running_by line (running_behind lines (running_by x r))) ms part) here left)
+      (subst (λ (ms : List Mark). LeavesSettled limits s first line (running_by line (running_behind lines (running_by x r))) ms part) here left)
       (subst (λ (ms : List Mark). BeginsRight limits (Behind (running_by x r) then (before ++ each.0) lines rest on) ms part) here begins)
 
 running_push : (lines : List Line) (line : Line) (r : Running) → running_behind (lines ++ line ∷ []) r ≡ running_by line (running_behind lines r)
 running_push [] line r = refl
 running_push (x ∷ lines) line r = running_push lines line (running_by x r)
 
-no_mark : (before : List Mark) (m : Mark) (rest : List Mark) → [] ≡ before ++ m ∷ rest → ⊥
-no_mark [] m rest is = let wrong : [] ≡ m ∷ rest = is in cc wrong
-no_mark (x ∷ before) m rest is = let wrong : [] ≡ x ∷ (before ++ m ∷ rest) = is in cc wrong
-
-module _ {D M : Type 0} (Told : Type 0) (h : drive.Ghosts M) where
+module _ {D M : Type 0} (g : disk.Ghosts D) (h : drive.Ghosts M) where
   -- ---- the beginning
 
   no_faults : (s : Run D M) → s.system.store.history ≡ [] → AreTrue h s.drives (faults_in s.system.store.history)
   no_faults s none = subst (λ (es : List Entry). AreTrue h s.drives (faults_in es)) (sym none) (record { each = tt; apart = tt })
 
-  pub run_to_none : (s : Run D M) → IsReady s → IsRunTo Told h s [] s
+  no_mark : (before : List Mark) (m : Mark) (rest : List Mark) → [] ≡ before ++ m ∷ rest → ⊥
+  no_mark [] m rest is = let wrong : [] ≡ m ∷ rest = is in cc wrong
+  no_mark (x ∷ before) m rest is = let wrong : [] ≡ x ∷ (before ++ m ∷ rest) = is in cc wrong
+
+  pub run_to_none : (s : Run D M) → IsReady s → IsRunTo h s [] s
   run_to_none s ready = record {
     marks = [];
     runs = record { follows = refl; settles = refl };
@@ -116,34 +114,34 @@ module _ {D M : Type 0} (Told : Type 0) (h : drive.Ghosts M) where
     };
   }
 
-module _ {D M : Type 0} (Told : Type 0) (h : drive.Ghosts M) (from : Run D M) where
+module _ {D M : Type 0} (g : disk.Ghosts D) (h : drive.Ghosts M) (from : Run D M) where
   abbrev Settles : List Line → List Mark → Type 0
-  Settles = SettlesSince Told from
+  Settles = SettlesSince from
 
   -- ---- a line more
 
   -- what a line leaves, said of the store as it was opened
   left_since : (line : Line) (r : Running) (before part : List Mark) (new : Run D M) → new.system.limits ≡ from.system.limits → new.system.store.opened ≡ from.system.store.opened → running new ≡ r
-      → LeavesSettled Told new.system.limits (superblock_of new.system.store.opened) (first_of new) line (running new) before part → LeavesSettled Told from.system.limits (superblock_of from.system.store.opened) (first_of from) line r before part
+      → LeavesSettled new.system.limits (superblock_of new.system.store.opened) (first_of new) line (running new) before part → LeavesSettled from.system.limits (superblock_of from.system.store.opened) (first_of from) line r before part
   left_since line r before part new limits opened runs left =
-      subst (λ (x : Running). LeavesSettled Told from.system.limits (superblock_of from.system.store.opened) (first_of from) line x before part) runs
-      (subst (λ (s : FileStore D). LeavesSettled Told from.system.limits (superblock_of s) (just_opened s.meta.number s.held) line (running new) before part) opened
-      (subst (λ (n : Numbers). LeavesSettled Told n (superblock_of new.system.store.opened) (first_of new) line (running new) before part) limits left))
+      subst (λ (x : Running). LeavesSettled from.system.limits (superblock_of from.system.store.opened) (first_of from) line x before part) runs
+      (subst (λ (s : FileStore D). LeavesSettled from.system.limits (superblock_of s) (just_opened s.meta.number s.held) line (running new) before part) opened
+      (subst (λ (n : Numbers). LeavesSettled n (superblock_of new.system.store.opened) (first_of new) line (running new) before part) limits left))
 
   -- who has called behind the lines so far
   abbrev CalledBy : (lines : List Line) (marks : List Mark) → RunsBy Settles lines marks → Running
-  CalledBy lines marks runs = called_behind Told from.system.limits (superblock_of from.system.store.opened) (first_of from) none_run none_run [] lines marks runs.settles
+  CalledBy lines marks runs = called_behind from.system.limits (superblock_of from.system.store.opened) (first_of from) none_run none_run [] lines marks runs.settles
 
   abbrev runs_more : (lines : List Line) (line : Line) (marks part : List Mark) (runs : RunsBy Settles lines marks) → IsPartOf line part → AreByRunning (running_by line (running_behind lines none_run)) part
-      → LeavesSettled Told from.system.limits (superblock_of from.system.store.opened) (first_of from) line (running_by line (running_behind lines none_run)) marks part → BeginsRight from.system.limits (CalledBy lines marks runs) marks part → RunsBy Settles (lines ++ line ∷ []) (marks ++ part)
+      → LeavesSettled from.system.limits (superblock_of from.system.store.opened) (first_of from) line (running_by line (running_behind lines none_run)) marks part → BeginsRight from.system.limits (CalledBy lines marks runs) marks part → RunsBy Settles (lines ++ line ∷ []) (marks ++ part)
   runs_more lines line marks part runs is by left begins = record {
     follows = push lines marks line part runs.follows is;
-    settles = push_settled Told from.system.limits (superblock_of from.system.store.opened) (first_of from) none_run none_run [] lines marks line part runs.settles is by left begins;
+    settles = push_settled from.system.limits (superblock_of from.system.store.opened) (first_of from) none_run none_run [] lines marks line part runs.settles is by left begins;
   }
 
   -- it was run
-  more_run : (lines : List Line) (line : Line) (old new : Run D M) → IsRunTo Told h from lines old → LeadsTo h (IsPartOf line) (λ before part. LeavesSettled Told new.system.limits (superblock_of new.system.store.opened) (first_of new) line (running new) before part × LiveThrough old new line before part) old new → new.system.limits ≡ from.system.limits → new.system.store.opened ≡ from.system.store.opened → running new ≡ running_by line (running old) → IsRunTo Told h from (lines ++ line ∷ []) new
-  more_run lines line old new run leads limits opened runs =
+  pub run_more : (lines : List Line) (line : Line) (old new : Run D M) → IsRunTo h from lines old → LeadsTo h (IsPartOf line) (IsLeftBy line old new) old new → new.system.limits ≡ from.system.limits → new.system.store.opened ≡ from.system.store.opened → running new ≡ running_by line (running old) → IsRunTo h from (lines ++ line ∷ []) new
+  run_more lines line old new run leads limits opened runs =
       let on = leads from.drives run.marks run.shows in
       let same : running new ≡ running_by line (running_behind lines none_run) = runs ∙ ap (running_by line) run.running in
       let by = subst (λ (r : Running). AreByRunning (running_by line r) on.0) run.running (by_running_behind line (running old) on.0 on.1 on.4) in
@@ -155,7 +153,7 @@ module _ {D M : Type 0} (Told : Type 0) (h : drive.Ghosts M) (from : Run D M) wh
         shows = on.2;
         running = same ∙ sym (running_push lines line none_run);
         live = subst (λ (called : Running). Live from.system.limits called (run.marks ++ on.0) new)
-            (sym (called_push Told from.system.limits (superblock_of from.system.store.opened) (first_of from) none_run none_run [] lines run.marks line on.0 run.runs.settles on.1 by left lives.1)) lives.0;
+            (sym (called_push from.system.limits (superblock_of from.system.store.opened) (first_of from) none_run none_run [] lines run.marks line on.0 run.runs.settles on.1 by left lives.1)) lives.0;
       }
 
   -- or begun
@@ -163,21 +161,21 @@ module _ {D M : Type 0} (Told : Type 0) (h : drive.Ghosts M) (from : Run D M) wh
   begun_by line rest more (inl part) = inr (line, rest, refl, part)
   begun_by line rest more (inr none) = inl none
 
-  pub first_run : {T : Type 0} (g : disk.Ghosts D) (why : Stop) (all done : List Line) (line : Line) (rest : List Line) (old new : Run D M) → done ++ line ∷ rest ≡ all → IsRunTo Told h from done old → Moves {T = T} g h (IsPartOf line) (Err why) old new → HasRunOn h from.drives (FollowsFirst Settles all) new
-  first_run g why all done line rest old new is run moves =
+  pub first_run : {T : Type 0} (why : Stop) (all done : List Line) (line : Line) (rest : List Line) (old new : Run D M) → done ++ line ∷ rest ≡ all → IsRunTo h from done old → Moves {T = T} g h (IsPartOf line) (Err why) old new → HasRunOn h from.drives (FollowsFirst Settles all) new
+  first_run why all done line rest old new is run moves =
       let end = moves.ends from.drives run.marks run.shows in
       record { marks = run.marks ++ end.0; follows = record { done = done; rest = line ∷ rest; split = sym is; ended = run.marks; begun = end.0; parted = refl; runs = run.runs; next = begun_by line rest end.0 end.1; by = subst (λ (r : Running). AreByRunning r end.0) run.running end.3 }; marked = end.2 }
 
   -- ---- all lines
 
-  pub has_run : (lines : List Line) (s : Run D M) → IsRunTo Told h from lines s → HasRunOn h from.drives (RunsBy Settles lines) s
+  pub has_run : (lines : List Line) (s : Run D M) → IsRunTo h from lines s → HasRunOn h from.drives (RunsBy Settles lines) s
   has_run lines s run = record { marks = run.marks; follows = run.runs; marked = run.shows.marked }
 
   -- all lines are the first ones
   all_first : (lines rest all : List Line) (s : Run D M) → lines ++ rest ≡ all → HasRunOn h from.drives (RunsBy Settles lines) s → HasRunOn h from.drives (FollowsFirst Settles all) s
   all_first lines rest all s is run = record { marks = run.marks; follows = record { done = lines; rest = rest; split = sym is; ended = run.marks; begun = []; parted = sym (append-nil run.marks); runs = run.follows; next = inl refl; by = tt }; marked = run.marked }
 
-  pub has_run_first : (lines rest all : List Line) (s : Run D M) → lines ++ rest ≡ all → IsRunTo Told h from lines s → HasRunOn h from.drives (FollowsFirst Settles all) s
+  pub has_run_first : (lines rest all : List Line) (s : Run D M) → lines ++ rest ≡ all → IsRunTo h from lines s → HasRunOn h from.drives (FollowsFirst Settles all) s
   has_run_first lines rest all s is run = all_first lines rest all s is (has_run lines s run)
 
   still_begun : (rest more : List Line) (marks : List Mark) → IsBegun rest marks → IsBegun (rest ++ more) marks
@@ -206,23 +204,16 @@ module _ {D M : Type 0} (Told : Type 0) (h : drive.Ghosts M) (from : Run D M) wh
       }
 
   -- all lines were run, and the commit was done or not
-  committed_run : {T : Type 0} (g : disk.Ghosts D) (x : T) (lines : List Line) (old new : Run D M) → IsRunTo Told h from lines old → Moves g h (IsPartOf commit_line) (Ok x) old new → HasRunOn h from.drives (RunsBy Settles (lines ++ commit_line ∷ [])) new
-  committed_run g x lines old new run moves =
+  committed_run : {T : Type 0} (x : T) (lines : List Line) (old new : Run D M) → IsRunTo h from lines old → Moves g h (IsPartOf commit_line) (Ok x) old new → HasRunOn h from.drives (RunsBy Settles (lines ++ commit_line ∷ [])) new
+  committed_run x lines old new run moves =
       let on = moves.keeps from.drives run.marks run.shows in
       let begins = on.4 from.system.limits (CalledBy lines run.marks run.runs) run.live in
       record { marks = run.marks ++ on.0; follows = runs_more lines commit_line run.marks on.0 run.runs on.1 (subst (λ (r : Running). AreByRunning r on.0) run.running on.3) tt begins.1; marked = on.2.marked }
 
-  pub committed : (g : disk.Ghosts D) (result : Result (Unit {0}) Stop) (lines : List Line) (old new : Run D M) → IsRunTo Told h from lines old → Moves g h (IsPartOf commit_line) result old new → HasRunOn h from.drives (FollowsFirst Settles (lines ++ commit_line ∷ [])) new
-  committed g (Ok tt) lines old new run moves = all_first (lines ++ commit_line ∷ []) [] (lines ++ commit_line ∷ []) new (append-nil (lines ++ commit_line ∷ [])) (committed_run g tt lines old new run moves)
-  committed g (Err why) lines old new run moves = first_run g why (lines ++ commit_line ∷ []) lines commit_line [] old new refl run moves
+  pub committed : (result : Result (Unit {0}) Stop) (lines : List Line) (old new : Run D M) → IsRunTo h from lines old → Moves g h (IsPartOf commit_line) result old new → HasRunOn h from.drives (FollowsFirst Settles (lines ++ commit_line ∷ [])) new
+  committed (Ok tt) lines old new run moves = all_first (lines ++ commit_line ∷ []) [] (lines ++ commit_line ∷ []) new (append-nil (lines ++ commit_line ∷ [])) (committed_run tt lines old new run moves)
+  committed (Err why) lines old new run moves = first_run why (lines ++ commit_line ∷ []) lines commit_line [] old new refl run moves
 
-  pub committed_all : (g : disk.Ghosts D) (result : Result (Unit {0}) Stop) (lines : List Line) (old new : Run D M) → IsRunTo Told h from lines old → Moves g h (IsPartOf commit_line) result old new → OnOk result (HasRunOn h from.drives (RunsBy Settles (lines ++ commit_line ∷ [])) new)
-  committed_all g (Ok tt) lines old new run moves = committed_run g tt lines old new run moves
-  committed_all g (Err why) lines old new run moves = tt
-
--- ---- where the disk tells
-
--- A line more was run, behind which the disk tells only where it told before.
-pub run_more : {D M : Type 0} (g : disk.Ghosts D) (h : drive.Ghosts M) (from : Run D M) (lines : List Line) (line : Line) (old new : Run D M) → (Tells g new.system.store.files.disk → Tells g old.system.store.files.disk) → IsRunTo (Tells g old.system.store.files.disk) h from lines old
-    → LeadsTo h (IsPartOf line) (IsLeftBy g line old new) old new → new.system.limits ≡ from.system.limits → new.system.store.opened ≡ from.system.store.opened → running new ≡ running_by line (running old) → IsRunTo (Tells g new.system.store.files.disk) h from (lines ++ line ∷ []) new
-run_more g h from lines line old new tells run = more_run (Tells g new.system.store.files.disk) h from lines line old new (run_weaker tells h from lines old run)
+  pub committed_all : (result : Result (Unit {0}) Stop) (lines : List Line) (old new : Run D M) → IsRunTo h from lines old → Moves g h (IsPartOf commit_line) result old new → OnOk result (HasRunOn h from.drives (RunsBy Settles (lines ++ commit_line ∷ [])) new)
+  committed_all (Ok tt) lines old new run moves = committed_run tt lines old new run moves
+  committed_all (Err why) lines old new run moves = tt

@@ -1,5 +1,4 @@
 pub mod Bytes
-pub mod Weaker
 pub mod Following
 pub mod Faults
 pub mod Daemons

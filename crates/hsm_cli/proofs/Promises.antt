@@ -57,8 +57,8 @@ module _ {H D M : Type 0} (t : host.Ghosts H D M) (g : disk.Ghosts D) (h : drive
     idle_plain : PlainClause g o
     idle_plain tells P stands = ((idle_legal.good tells).good P stands).plain
 
-    idle_media : (form : Option Form) → TellsFaults h form o.drives (faults_in o.history) → MediaClause g h form o
-    idle_media form faults = record { caused = λ tells. caused_none (superblock_at (opened_in o)) (base_of (opened_in o)) (held_at (opened_in o)) o.history idle; faults = faults }
+    idle_media : (form : Option Form) → TellsFaults h form o.drives (faults_in o.history) → MediaClause h form o
+    idle_media form faults = record { caused = caused_none (superblock_at (opened_in o)) (base_of (opened_in o)) (held_at (opened_in o)) o.history idle; faults = faults }
 
   pub format_keeps : (path : List ℕ) (size : StoreSize)
       → o ≡ ended_with o.cause [] o.disk
@@ -180,11 +180,11 @@ module _ {H D M : Type 0} (t : host.Ghosts H D M) (g : disk.Ghosts D) (h : drive
     new_plain : PlainClause g o
     new_plain tells = subst (λ (s : Option (Store D)). IsPlainOver s o.history) (sym not_opened) plain
 
-    new_caused : TellsGiven g o.disk → IsCausedOver (opened_in o) o.history
-    new_caused tells = subst (λ (s : Option (Store D)). IsCausedOver s o.history) (sym not_opened) caused
+    new_caused : IsCausedOver (opened_in o) o.history
+    new_caused = subst (λ (s : Option (Store D)). IsCausedOver s o.history) (sym not_opened) caused
 
     pub replay_keeps : ((bytes : List ℕ) (lines : List Line) → IsScript bytes lines → IsOneScript bytes lines)
-        → HasRun (SettlesOn (TellsGiven g o.disk) (opened_in o)) (λ marks. IsWellServedOver (TellsGiven g o.disk) (opened_in o) marks × IsRightInMemory marks) false source o.cause o.history
+        → HasRun (SettlesOn (opened_in o)) (λ marks. IsWellServedOver (opened_in o) marks × IsRightInMemory marks) false source o.cause o.history
         → HasRead source o.cause
         → TakesTranscript o sink
         → ReadsQuietly source o.cause
@@ -207,7 +207,7 @@ module _ {H D M : Type 0} (t : host.Ghosts H D M) (g : disk.Ghosts D) (h : drive
     }
 
     pub drill_keeps : (number : ℕ)
-        → HasDrilled (SettlesOn (TellsGiven g o.disk) (opened_in o)) (λ marks. IsWellServedOver (TellsGiven g o.disk) (opened_in o) marks × IsRightInMemory marks) number o.cause o.history
+        → HasDrilled (SettlesOn (opened_in o)) (λ marks. IsWellServedOver (opened_in o) marks × IsRightInMemory marks) number o.cause o.history
         → TakesText (λ text. text ≡ drill_text number o.history) sink o.cause
         → IfSome o.cause (WritingEnds sink)
         → IsUnread source → KeepsPromises t g h (Some (Drill number)) old old source sink o
@@ -231,12 +231,12 @@ module _ {H D M : Type 0} (t : host.Ghosts H D M) (g : disk.Ghosts D) (h : drive
   pub store_keeps : (path dir : List ℕ) → ((bytes : List ℕ) (lines : List Line) → IsScript bytes lines → IsOneScript bytes lines)
       → (o.status ≡ status_of o.cause) × (o.at ≡ place_of o.cause) × (o.base ≡ base_of (opened_in o))
       → o.cause ≢ Some WordsRefused
-      → HasRun (SettlesOn (TellsGiven g o.disk) (opened_in o)) (λ marks. IsWellServedOver (TellsGiven g o.disk) (opened_in o) marks × IsRightInFolder h (t.stores old dir) o.drives marks) true source o.cause o.history
+      → HasRun (SettlesOn (opened_in o)) (λ marks. IsWellServedOver (opened_in o) marks × IsRightInFolder h (t.stores old dir) o.drives marks) true source o.cause o.history
       → HasReadOn (opened_in o) source o.cause
       → LegalityClause g o
       → PlainClause g o
       → AreTrue h o.drives (faults_in o.history)
-      → (TellsGiven g o.disk → IsCausedOver (opened_in o) o.history)
+      → IsCausedOver (opened_in o) o.history
       → LeavesSafe g (t.holds old path) (opened_in o) o.history o.cause o.disk
       → TakesTranscript o sink
       → HandsOut path (t.holds old) (t.holds new) o.disk

@@ -25,11 +25,10 @@ use Rattle.hsm_cli.specs.Daemons.{IsWellServed, IsWellServedOver, ServedIsWell}
 use Rattle.hsm_cli.specs.Endings.{ScriptEnds, IsBeforeReading}
 use Rattle.hsm_cli.specs.Follows.{RunsBy, FollowsFirst, HasRunOn, IsServed, IsOfScript, IsRunOf, FollowsScript, RunsAll, RunsFirst, SettlesOn}
 use Rattle.hsm_cli.specs.Follows.{SettlesSince, lines_run}
-use Rattle.hsm_cli.specs.Openings.{replay_store, superblock_at, held_at, base_of}
+use Rattle.hsm_cli.specs.Openings.{replay_store}
 use Rattle.hsm_cli.specs.Sealing.{TellsOf}
 use Rattle.hsm_cli.specs.Sources.{script_bytes}
 use Rattle.hsm_cli.specs.Told.{SourceTold}
-use Rattle.hsm_cli.proofs.Weaker.{settles_on_weaker, well_weaker}
 
 -- ---- no line was run
 
@@ -79,68 +78,35 @@ module _ {D M : Type 0} {opened : List M} (h : drive.Ghosts M) (s : Run D M) (li
 -- ---- by the default settings
 
 -- whose settles are those of the store that was opened
-module _ {D M : Type 0} {opened : List M} (Told : Type 0) (h : drive.Ghosts M) (from s : Run D M) (since : from.system.limits ≡ standard) (limits : s.system.limits ≡ standard) where
-  by_default : (FollowsSo : (List Line → List Mark → Type 0) → List Mark → Type 0) → HasRunOn h opened (FollowsSo (SettlesSince Told from)) s → HasRunOn h opened (FollowsSo (SettlesOn Told (Some from.system.store.opened))) s
-  by_default FollowsSo run = subst (λ (n : Numbers). HasRunOn h opened (FollowsSo (EachSettles Told n (superblock_of from.system.store.opened) (first_of from) no_daemon no_daemon [])) s) since run
+module _ {D M : Type 0} {opened : List M} (h : drive.Ghosts M) (from s : Run D M) (since : from.system.limits ≡ standard) (limits : s.system.limits ≡ standard) where
+  by_default : (FollowsSo : (List Line → List Mark → Type 0) → List Mark → Type 0) → HasRunOn h opened (FollowsSo (SettlesSince from)) s → HasRunOn h opened (FollowsSo (SettlesOn (Some from.system.store.opened))) s
+  by_default FollowsSo run = subst (λ (n : Numbers). HasRunOn h opened (FollowsSo (EachSettles n (superblock_of from.system.store.opened) (first_of from) no_daemon no_daemon [])) s) since run
 
-  pub lines_run_all : (lines : List Line) → HasRunOn h opened (RunsBy (SettlesSince Told from) lines) s → IsRunOf (RunsBy (SettlesOn Told (Some from.system.store.opened)) lines) (TellsOf h opened s.drives) s.system.store.history
-  lines_run_all lines run = run_of h s limits (RunsBy (SettlesOn Told (Some from.system.store.opened)) lines) (by_default (λ so marks. RunsBy so lines marks) run)
+  pub lines_run_all : (lines : List Line) → HasRunOn h opened (RunsBy (SettlesSince from) lines) s → IsRunOf (RunsBy (SettlesOn (Some from.system.store.opened)) lines) (TellsOf h opened s.drives) s.system.store.history
+  lines_run_all lines run = run_of h s limits (RunsBy (SettlesOn (Some from.system.store.opened)) lines) (by_default (λ so marks. RunsBy so lines marks) run)
 
-  pub lines_run_first : (lines : List Line) → HasRunOn h opened (FollowsFirst (SettlesSince Told from) lines) s → IsRunOf (FollowsFirst (SettlesOn Told (Some from.system.store.opened)) lines) (TellsOf h opened s.drives) s.system.store.history
-  lines_run_first lines run = run_of h s limits (FollowsFirst (SettlesOn Told (Some from.system.store.opened)) lines) (by_default (λ so marks. FollowsFirst so lines marks) run)
+  pub lines_run_first : (lines : List Line) → HasRunOn h opened (FollowsFirst (SettlesSince from) lines) s → IsRunOf (FollowsFirst (SettlesOn (Some from.system.store.opened)) lines) (TellsOf h opened s.drives) s.system.store.history
+  lines_run_first lines run = run_of h s limits (FollowsFirst (SettlesOn (Some from.system.store.opened)) lines) (by_default (λ so marks. FollowsFirst so lines marks) run)
 
-  pub all_run : (commits : Bool) (given : Option (List ℕ)) (lines : List Line) → IfSome given (λ bytes. IsScript (script_bytes bytes) lines) → HasRunOn h opened (RunsBy (SettlesSince Told from) (lines_run commits lines)) s → RunsAll (SettlesOn Told (Some from.system.store.opened)) (TellsOf h opened s.drives) commits given s.system.store.history
-  all_run commits given lines script run = script_run h s limits (λ ls marks. RunsBy (SettlesOn Told (Some from.system.store.opened)) (lines_run commits ls) marks) given lines script (by_default (λ so marks. RunsBy so (lines_run commits lines) marks) run)
+  pub all_run : (commits : Bool) (given : Option (List ℕ)) (lines : List Line) → IfSome given (λ bytes. IsScript (script_bytes bytes) lines) → HasRunOn h opened (RunsBy (SettlesSince from) (lines_run commits lines)) s → RunsAll (SettlesOn (Some from.system.store.opened)) (TellsOf h opened s.drives) commits given s.system.store.history
+  all_run commits given lines script run = script_run h s limits (λ ls marks. RunsBy (SettlesOn (Some from.system.store.opened)) (lines_run commits ls) marks) given lines script (by_default (λ so marks. RunsBy so (lines_run commits lines) marks) run)
 
-  pub first_run : (commits : Bool) (given : Option (List ℕ)) (lines : List Line) → IfSome given (λ bytes. IsScript (script_bytes bytes) lines) → HasRunOn h opened (FollowsFirst (SettlesSince Told from) (lines_run commits lines)) s → RunsFirst (SettlesOn Told (Some from.system.store.opened)) (TellsOf h opened s.drives) commits given s.system.store.history
-  first_run commits given lines script run = script_run h s limits (λ ls marks. FollowsFirst (SettlesOn Told (Some from.system.store.opened)) (lines_run commits ls) marks) given lines script (by_default (λ so marks. FollowsFirst so (lines_run commits lines) marks) run)
+  pub first_run : (commits : Bool) (given : Option (List ℕ)) (lines : List Line) → IfSome given (λ bytes. IsScript (script_bytes bytes) lines) → HasRunOn h opened (FollowsFirst (SettlesSince from) (lines_run commits lines)) s → RunsFirst (SettlesOn (Some from.system.store.opened)) (TellsOf h opened s.drives) commits given s.system.store.history
+  first_run commits given lines script run = script_run h s limits (λ ls marks. FollowsFirst (SettlesOn (Some from.system.store.opened)) (lines_run commits ls) marks) given lines script (by_default (λ so marks. FollowsFirst so (lines_run commits lines) marks) run)
 
 -- ---- what marks tell
 
--- of what settles have come to
-module _ (Settles Others : List Line → List Mark → Type 0) (settles : (lines : List Line) (marks : List Mark) → Settles lines marks → Others lines marks) where
-  pub runs_so : (lines : List Line) (marks : List Mark) → RunsBy Settles lines marks → RunsBy Others lines marks
-  runs_so lines marks runs = record { follows = runs.follows; settles = settles lines marks runs.settles }
+module _ (Settles : List Line → List Mark → Type 0) (Tells Says : List Mark → Type 0) (history : List Entry) (says : (marks : List Mark) → entries_of marks ≡ history → Served standard marks → Tells marks → Says marks) where
+  pub run_says : (FollowsSo : List Mark → Type 0) → IsRunOf FollowsSo Tells history → IsRunOf FollowsSo Says history
+  run_says FollowsSo run = record { marks = run.marks; entries = run.entries; follows = run.follows; served = run.served; tells = says run.marks run.entries run.served run.tells }
 
-  pub firsts_so : (lines : List Line) (marks : List Mark) → FollowsFirst Settles lines marks → FollowsFirst Others lines marks
-  firsts_so lines marks first = record {
-    done = first.done;
-    rest = first.rest;
-    split = first.split;
-    ended = first.ended;
-    begun = first.begun;
-    parted = first.parted;
-    runs = runs_so first.done first.ended first.runs;
-    next = first.next;
-    by = first.by;
-  }
-
--- of a script
-script_so : (FollowsSo FollowsToo : List Line → List Mark → Type 0) → ((lines : List Line) (marks : List Mark) → FollowsSo lines marks → FollowsToo lines marks) → (given : Option (List ℕ)) (marks : List Mark) → FollowsScript FollowsSo given marks → FollowsScript FollowsToo given marks
-script_so FollowsSo FollowsToo so None marks follows = tt
-script_so FollowsSo FollowsToo so (Some bytes) marks follows = record { lines = follows.lines; script = follows.script; follows = so follows.lines marks follows.follows }
-
--- and of a run
-module _ (Tells Says : List Mark → Type 0) (history : List Entry) (says : (marks : List Mark) → entries_of marks ≡ history → Served standard marks → Tells marks → Says marks) where
-  pub run_says : (FollowsSo FollowsToo : List Mark → Type 0) → ((marks : List Mark) → FollowsSo marks → FollowsToo marks) → IsRunOf FollowsSo Tells history → IsRunOf FollowsToo Says history
-  run_says FollowsSo FollowsToo so run = record { marks = run.marks; entries = run.entries; follows = so run.marks run.follows; served = run.served; tells = says run.marks run.entries run.served run.tells }
-
-module _ (Settles Others : List Line → List Mark → Type 0) (settles : (lines : List Line) (marks : List Mark) → Settles lines marks → Others lines marks) (Tells Says : List Mark → Type 0) (history : List Entry)
-    (says : (marks : List Mark) → entries_of marks ≡ history → Served standard marks → Tells marks → Says marks) where
-  all_says : (commits : Bool) (source : SourceTold) → RunsAll Settles Tells commits source.given history → RunsAll Others Says commits source.given history
-  all_says commits source = run_says Tells Says history says _ _
-      (script_so (λ ls marks. RunsBy Settles (lines_run commits ls) marks) (λ ls marks. RunsBy Others (lines_run commits ls) marks) (λ ls marks. runs_so Settles Others settles (lines_run commits ls) marks) source.given)
-
-  first_says : (commits : Bool) (source : SourceTold) → (history ≡ []) ⊎ RunsFirst Settles Tells commits source.given history → (history ≡ []) ⊎ RunsFirst Others Says commits source.given history
+  first_says : (commits : Bool) (source : SourceTold) → (history ≡ []) ⊎ RunsFirst Settles Tells commits source.given history → (history ≡ []) ⊎ RunsFirst Settles Says commits source.given history
   first_says commits source (inl none) = inl none
-  first_says commits source (inr run) = inr (
-      run_says Tells Says history says _ _
-      (script_so (λ ls marks. FollowsFirst Settles (lines_run commits ls) marks) (λ ls marks. FollowsFirst Others (lines_run commits ls) marks) (λ ls marks. firsts_so Settles Others settles (lines_run commits ls) marks) source.given) run
-      )
+  first_says commits source (inr run) = inr (run_says (FollowsScript (λ ls marks. FollowsFirst Settles (lines_run commits ls) marks) source.given) run)
 
-  pub has_run_says : (commits : Bool) (source : SourceTold) (cause : Option Cause) → HasRun Settles Tells commits source cause history → HasRun Others Says commits source cause history
-  has_run_says commits source None ran = (all_says commits source ran.0, ran.1)
-  has_run_says commits source (Some WriteFault) ran = (all_says commits source ran.0, ran.1)
+  has_run_says : (commits : Bool) (source : SourceTold) (cause : Option Cause) → HasRun Settles Tells commits source cause history → HasRun Settles Says commits source cause history
+  has_run_says commits source None ran = (run_says (FollowsScript (λ ls marks. RunsBy Settles (lines_run commits ls) marks) source.given) ran.0, ran.1)
+  has_run_says commits source (Some WriteFault) ran = (run_says (FollowsScript (λ ls marks. RunsBy Settles (lines_run commits ls) marks) source.given) ran.0, ran.1)
   has_run_says commits source (Some DiskFault) ran = first_says commits source ran
   has_run_says commits source (Some NoMemory) ran = first_says commits source ran
   has_run_says commits source (Some (ScriptRefused line)) ran = ran
@@ -150,12 +116,10 @@ module _ (Settles Others : List Line → List Mark → Type 0) (settles : (lines
   has_run_says commits source (Some ReadFault) ran = ran
   has_run_says commits source (Some HostFault) ran = ran
 
--- and the run is well served, where the disk tells
-pub also_well : {D A B : Type 0} (opened : Option (Store D)) (Says : List Mark → Type 0) (commits : Bool) (source : SourceTold) (cause : Option Cause) (history : List Entry) → ServedIsWell A opened history → (B → A)
-    → HasRun (SettlesOn A opened) Says commits source cause history → HasRun (SettlesOn B opened) (λ marks. IsWellServedOver B opened marks × Says marks) commits source cause history
-also_well {A = A} {B = B} opened Says commits source cause history well tells ran =
-    has_run_says (SettlesOn A opened) (SettlesOn B opened) (settles_on_weaker tells opened) Says (λ marks. IsWellServedOver B opened marks × Says marks) history
-    (λ marks entries served says. (well_weaker tells (superblock_at opened) (base_of opened) (held_at opened) marks (well marks entries served), says)) commits source cause ran
+-- and the run is well served
+pub also_well : {D : Type 0} (opened : Option (Store D)) (Settles : List Line → List Mark → Type 0) (Tells : List Mark → Type 0) (commits : Bool) (source : SourceTold) (cause : Option Cause) (history : List Entry) → ServedIsWell opened history
+    → HasRun Settles Tells commits source cause history → HasRun Settles (λ marks. IsWellServedOver opened marks × Tells marks) commits source cause history
+also_well opened Settles Tells commits source cause history well ran = has_run_says Settles Tells (λ marks. IsWellServedOver opened marks × Tells marks) history (λ marks entries served tells. (well marks entries served, tells)) commits source cause ran
 
 -- a run that ended before its script was read
 none_read : (Settles : List Line → List Mark → Type 0) (Says : List Mark → Type 0) (commits : Bool) (source : SourceTold) (why : Cause) (history : List Entry) → IsBeforeReading why → history ≡ [] → HasRun Settles Says commits source (Some why) history
@@ -176,7 +140,7 @@ none_told Settles Says commits source why cause history before none (inr is) = s
 -- a run with the drives that came, if any did
 pub ran_with : {V : Type 0} (Settles : List Line → List Mark → Type 0) (Tells : V → List Mark → Type 0) (Says : List Mark → Type 0) (ready : Result V Cause) (commits : Bool) (source : SourceTold) (cause : Option Cause) (history : List Entry) → IfOk ready (λ ds. (marks : List Mark) → Tells ds marks → Says marks) → IfErr ready IsBeforeReading
     → IfErr ready (λ why. (cause ≡ Some why) ⊎ (cause ≡ Some NoMemory)) → OnErr ready (history ≡ []) → HasRun Settles (λ marks. IfOk ready (λ ds. Tells ds marks)) commits source cause history → HasRun Settles Says commits source cause history
-ran_with Settles Tells Says (Ok ds) commits source cause history says before unready idle ran = has_run_says Settles Settles (λ lines marks settles. settles) (Tells ds) Says history (λ marks entries served tells. says marks tells) commits source cause ran
+ran_with Settles Tells Says (Ok ds) commits source cause history says before unready idle ran = has_run_says Settles (Tells ds) Says history (λ marks entries served tells. says marks tells) commits source cause ran
 ran_with Settles Tells Says (Err why) commits source cause history says before unready idle ran = none_told Settles Says commits source why cause history before idle unready
 
 -- ---- how it ended
@@ -200,9 +164,9 @@ idle_none history old new (Ok x) none same = tt
 idle_none history old new (Err why) none same = ap history same ∙ none
 
 -- what settles come to, and what is well served, on a store of that superblock that holds nothing is so on a new one
-pub settles_new : {D : Type 0} (E Told : Type 0) (s : Store D) (IsSo : (List Line → List Mark → Type 0) → (List Mark → Type 0) → Type 0) → superblock_of s ≡ replay_store → s.held ≡ nothing_held → s.meta.number ≡ 0
-    → IsSo (SettlesOn Told (Some s)) (IsWellServedOver Told (Some s)) → IsSo (SettlesOn {D = E} Told None) (IsWellServedOver {D = E} Told None)
-settles_new E Told s IsSo superblock held number so =
-    subst (λ (x : Held). IsSo (EachSettles Told standard replay_store (just_opened 0 x) no_daemon no_daemon []) (IsWellServed Told replay_store 0 x)) held
-    (subst (λ (n : ℕ). IsSo (EachSettles Told standard replay_store (just_opened n s.held) no_daemon no_daemon []) (IsWellServed Told replay_store n s.held)) number
-    (subst (λ (x : Superblock). IsSo (EachSettles Told standard x (just_opened s.meta.number s.held) no_daemon no_daemon []) (IsWellServed Told x s.meta.number s.held)) superblock so))
+pub settles_new : {D : Type 0} (E : Type 0) (s : Store D) (IsSo : (List Line → List Mark → Type 0) → (List Mark → Type 0) → Type 0) → superblock_of s ≡ replay_store → s.held ≡ nothing_held → s.meta.number ≡ 0
+    → IsSo (SettlesOn (Some s)) (IsWellServedOver (Some s)) → IsSo (SettlesOn {D = E} None) (IsWellServedOver {D = E} None)
+settles_new E s IsSo superblock held number so =
+    subst (λ (x : Held). IsSo (EachSettles standard replay_store (just_opened 0 x) no_daemon no_daemon []) (IsWellServed replay_store 0 x)) held
+    (subst (λ (n : ℕ). IsSo (EachSettles standard replay_store (just_opened n s.held) no_daemon no_daemon []) (IsWellServed replay_store n s.held)) number
+    (subst (λ (x : Superblock). IsSo (EachSettles standard x (just_opened s.meta.number s.held) no_daemon no_daemon []) (IsWellServed x s.meta.number s.held)) superblock so))

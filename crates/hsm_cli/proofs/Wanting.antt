@@ -40,7 +40,7 @@ pub gives_none : (given : Option (List ℕ)) → GivesFirst given given
 gives_none given = record { bytes = []; consumed = Consumes-nil given; within = omega arith }
 
 module _ {D M : Type 0} (g : disk.Ghosts D) (h : drive.Ghosts M) where
-  script_wanting : (stores : List ℕ → ℕ → Objects → Type 0) (form : Option Form) (source : SourceTold) → ScriptClause g h stores form source (wanting {D = D} {M = M})
+  script_wanting : (stores : List ℕ → ℕ → Objects → Type 0) (form : Option Form) (source : SourceTold) → ScriptClause h stores form source (wanting {D = D} {M = M})
   script_wanting stores None source = refl
   script_wanting stores (Some (Format path size)) source = refl
   script_wanting stores (Some Replay) source = inl refl
@@ -67,8 +67,8 @@ module _ {D M : Type 0} (g : disk.Ghosts D) (h : drive.Ghosts M) where
   no_faults (Some (ShowVolumes path dir)) = refl
   no_faults (Some (Drill number)) = tt
 
-  media_wanting : (form : Option Form) → MediaClause g h form (wanting {D = D} {M = M})
-  media_wanting form = record { caused = λ tells. caused_none replay_store 0 nothing_held [] refl; faults = no_faults form }
+  media_wanting : (form : Option Form) → MediaClause h form (wanting {D = D} {M = M})
+  media_wanting form = record { caused = caused_none replay_store 0 nothing_held [] refl; faults = no_faults form }
 
   crash_wanting : (form : Option Form) (holds : List ℕ → List ℕ → Type 0) → CrashClause g form holds (wanting {D = D} {M = M})
   crash_wanting None holds = refl
@@ -176,7 +176,7 @@ module _ {D M : Type 0} (g : disk.Ghosts D) (h : drive.Ghosts M) where
           reading = record { left = refl; faults = refl };
           legality = legal;
           plain = plain_by refused legal;
-          media = record { caused = λ tells. caused_none replay_store 0 nothing_held [] refl; faults = refl };
+          media = record { caused = caused_none replay_store 0 nothing_held [] refl; faults = refl };
           crash = refl;
           format = tt;
           host = (refl, refl);

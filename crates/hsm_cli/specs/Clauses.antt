@@ -75,14 +75,14 @@ HasDrilled Settles Tells number (Some why) history = history ≡ []
 -- Only the forms of `replay` run a script, and `drill` the one that it makes of its number. `replay PATH DIR` ends with a commit, and its marks tally with the
 -- drives that come back; those of plain `replay` and of `drill`, whose drives in memory never fail, lose nothing that was sealed. All are well served, and
 -- passes in them are as they should be.
-abbrev pub ScriptClause : {D M : Type 0} → disk.Ghosts D → drive.Ghosts M → (List ℕ → ℕ → Objects → Type 0) → Option Form → SourceTold → Outcome D M → Type 0
-ScriptClause g h stores None source o = o.history ≡ []
-ScriptClause g h stores (Some (Format path size)) source o = o.history ≡ []
-ScriptClause g h stores (Some Replay) source o = HasRun (SettlesOn (TellsGiven g o.disk) (opened_in o)) (λ marks. IsWellServedOver (TellsGiven g o.disk) (opened_in o) marks × IsRightInMemory marks) false source o.cause o.history
-ScriptClause g h stores (Some (ReplayStore path dir)) source o = HasRun (SettlesOn (TellsGiven g o.disk) (opened_in o)) (λ marks. IsWellServedOver (TellsGiven g o.disk) (opened_in o) marks × IsRightInFolder h (stores dir) o.drives marks) true source o.cause o.history
-ScriptClause g h stores (Some (Show path)) source o = o.history ≡ []
-ScriptClause g h stores (Some (ShowVolumes path dir)) source o = o.history ≡ []
-ScriptClause g h stores (Some (Drill number)) source o = HasDrilled (SettlesOn (TellsGiven g o.disk) (opened_in o)) (λ marks. IsWellServedOver (TellsGiven g o.disk) (opened_in o) marks × IsRightInMemory marks) number o.cause o.history
+abbrev pub ScriptClause : {D M : Type 0} → drive.Ghosts M → (List ℕ → ℕ → Objects → Type 0) → Option Form → SourceTold → Outcome D M → Type 0
+ScriptClause g stores None source o = o.history ≡ []
+ScriptClause g stores (Some (Format path size)) source o = o.history ≡ []
+ScriptClause g stores (Some Replay) source o = HasRun (SettlesOn (opened_in o)) (λ marks. IsWellServedOver (opened_in o) marks × IsRightInMemory marks) false source o.cause o.history
+ScriptClause g stores (Some (ReplayStore path dir)) source o = HasRun (SettlesOn (opened_in o)) (λ marks. IsWellServedOver (opened_in o) marks × IsRightInFolder g (stores dir) o.drives marks) true source o.cause o.history
+ScriptClause g stores (Some (Show path)) source o = o.history ≡ []
+ScriptClause g stores (Some (ShowVolumes path dir)) source o = o.history ≡ []
+ScriptClause g stores (Some (Drill number)) source o = HasDrilled (SettlesOn (opened_in o)) (λ marks. IsWellServedOver (opened_in o) marks × IsRightInMemory marks) number o.cause o.history
 
 -- ---- the reading clause
 
@@ -179,9 +179,9 @@ IsCausedOver opened history = Caused (superblock_at opened) (just_opened (base_o
 
 -- An event is answered for a fault of a medium only by a session that was told, after the access was parked, that bytes of its file are away in that object.
 -- And what is told of the fault is so, as far as drives come back or never fail.
-pub record MediaClause {D M : Type 0} (g : disk.Ghosts D) (h : drive.Ghosts M) (form : Option Form) (o : Outcome D M) : Type 0 where
-  pub caused : TellsGiven g o.disk → IsCausedOver (opened_in o) o.history
-  pub faults : TellsFaults h form o.drives (faults_in o.history)
+pub record MediaClause {D M : Type 0} (g : drive.Ghosts M) (form : Option Form) (o : Outcome D M) : Type 0 where
+  pub caused : IsCausedOver (opened_in o) o.history
+  pub faults : TellsFaults g form o.drives (faults_in o.history)
 
 -- ---- the crash clause
 
@@ -600,11 +600,11 @@ pub record FaultsClause {D M : Type 0} (g : disk.Ghosts D) (h : drive.Ghosts M) 
 
 -- All that is promised of a run whose words have that form, by what the host, the source and the sink tell before it and after it.
 pub record KeepsPromises {H D M : Type 0} (t : host.Ghosts H D M) (g : disk.Ghosts D) (h : drive.Ghosts M) (form : Option Form) (old new : H) (source : SourceTold) (sink : SinkTold) (o : Outcome D M) : Type 0 where
-  pub script : ScriptClause g h (t.stores old) form source o
+  pub script : ScriptClause h (t.stores old) form source o
   pub reading : ReadingClause form source o
   pub legality : LegalityClause g o
   pub plain : PlainClause g o
-  pub media : MediaClause g h form o
+  pub media : MediaClause h form o
   pub crash : CrashClause g form (t.holds old) o
   pub format : FormatClause g form o
   pub host : HostClause t.holds t.make_count t.open_count form old new o

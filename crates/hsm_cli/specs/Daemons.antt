@@ -17,18 +17,17 @@ use Rattle.hsm_cli.specs.Openings.{superblock_at, held_at, base_of}
 -- sessions, none of which had its information then, and hasn't asked anew since; it takes the place of one only where it was told that this one
 -- has its information. At each moment a daemon with a session keeps each event of its kinds that is outstanding to that session, but for those
 -- that lines of the script took: none is lost when it is killed and started again. Each punch that is done frees just the mapped blocks of the
--- segments that it names. That it takes the place of none other is so on any disk; what goes by what the store has come to is said where the disk tells what
--- it holds.
-pub record IsWellServed (Told : Type 0) (s : Superblock) (base : ℕ) (h : Held) (marks : List Mark) : Type 0 where
-  pub anew : Told → MakesAnew s (just_opened base h) marks
+-- segments that it names.
+pub record IsWellServed (s : Superblock) (base : ℕ) (h : Held) (marks : List Mark) : Type 0 where
+  pub anew : MakesAnew s (just_opened base h) marks
   pub over : TakesOver marks
-  pub keeps : Told → (daemon : Daemon) (first rest : List Mark) → marks ≡ first ++ rest → KeepsAll daemon standard s (just_opened base h) first
-  pub frees : Told → PunchesFree s base h (entries_of marks)
+  pub keeps : (daemon : Daemon) (first rest : List Mark) → marks ≡ first ++ rest → KeepsAll daemon standard s (just_opened base h) first
+  pub frees : PunchesFree s base h (entries_of marks)
 
 -- on the store that was opened
-abbrev pub IsWellServedOver : {D : Type 0} → Type 0 → Option (Store D) → List Mark → Type 0
-IsWellServedOver Told opened = IsWellServed Told (superblock_at opened) (base_of opened) (held_at opened)
+abbrev pub IsWellServedOver : {D : Type 0} → Option (Store D) → List Mark → Type 0
+IsWellServedOver opened = IsWellServed (superblock_at opened) (base_of opened) (held_at opened)
 
 -- all marks that show this history to be served are such
-abbrev pub ServedIsWell : {D : Type 0} → Type 0 → Option (Store D) → List Entry → Type 0
-ServedIsWell Told opened history = (marks : List Mark) → entries_of marks ≡ history → Served standard marks → IsWellServedOver Told opened marks
+abbrev pub ServedIsWell : {D : Type 0} → Option (Store D) → List Entry → Type 0
+ServedIsWell opened history = (marks : List Mark) → entries_of marks ≡ history → Served standard marks → IsWellServedOver opened marks

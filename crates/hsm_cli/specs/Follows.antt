@@ -51,16 +51,16 @@ lines_run true lines = lines ++ commit_line ∷ []
 -- ---- of a run
 
 -- each settle of the lines has come to its end so, since no daemon ran on this store
-abbrev pub SettlesSince : {D M : Type 0} → Type 0 → Run D M → List Line → List Mark → Type 0
-SettlesSince Told s = EachSettles Told s.system.limits (superblock_of s.system.store.opened) (first_of s) none_run none_run []
+abbrev pub SettlesSince : {D M : Type 0} → Run D M → List Line → List Mark → Type 0
+SettlesSince s = EachSettles s.system.limits (superblock_of s.system.store.opened) (first_of s) none_run none_run []
 
 -- on the store that was opened, by the default settings
-abbrev pub SettlesOn : {D : Type 0} → Type 0 → Option (Store D) → List Line → List Mark → Type 0
-SettlesOn Told opened = EachSettles Told standard (superblock_at opened) (just_opened (base_of opened) (held_at opened)) none_run none_run []
+abbrev pub SettlesOn : {D : Type 0} → Option (Store D) → List Line → List Mark → Type 0
+SettlesOn opened = EachSettles standard (superblock_at opened) (just_opened (base_of opened) (held_at opened)) none_run none_run []
 
 -- which daemons have called since they were started, behind lines that were run so
-module _ (Told : Type 0) (limits : Numbers) (s : Superblock) (first : State) where
-  abbrev pub called_behind : (r called : Running) (before : List Mark) (lines : List Line) (marks : List Mark) → EachSettles Told limits s first r called before lines marks → Running
+module _ (limits : Numbers) (s : Superblock) (first : State) where
+  abbrev pub called_behind : (r called : Running) (before : List Mark) (lines : List Line) (marks : List Mark) → EachSettles limits s first r called before lines marks → Running
   called_behind r called before [] marks each = called
   called_behind r called before (line ∷ lines) marks each = called_behind (running_by line r) (called_by line (called_in each.0 called)) (before ++ each.0) lines each.1.0 each.1.1.5
 
@@ -71,12 +71,12 @@ pub record HasRunOn {D M : Type 0} (g : drive.Ghosts M) (opened : List M) (Follo
   pub marked : IsMarked g opened marks s
 
 -- The lines were run from there on. It shows what the daemons know, which run, and how they live.
-pub record IsRunTo {D M : Type 0} (Told : Type 0) (g : drive.Ghosts M) (from : Run D M) (lines : List Line) (s : Run D M) : Type 0 where
+pub record IsRunTo {D M : Type 0} (g : drive.Ghosts M) (from : Run D M) (lines : List Line) (s : Run D M) : Type 0 where
   pub marks : List Mark
-  pub runs : RunsBy (SettlesSince Told from) lines marks
+  pub runs : RunsBy (SettlesSince from) lines marks
   pub shows : Shows g from.drives marks s
   pub running : running s ≡ running_behind lines none_run
-  pub live : Live from.system.limits (called_behind Told from.system.limits (superblock_of from.system.store.opened) (first_of from) none_run none_run [] lines marks runs.settles) marks s
+  pub live : Live from.system.limits (called_behind from.system.limits (superblock_of from.system.store.opened) (first_of from) none_run none_run [] lines marks runs.settles) marks s
 
 -- ---- of an outcome
 

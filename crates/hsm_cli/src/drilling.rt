@@ -20,7 +20,7 @@ ghost use Rattle.hsm_cli.specs.Sealing.{TellsOf, IsRightInMemory};
 ghost use Rattle.hsm_cli.specs.Texts.{TakesText, HasLeft, drill_text};
 ghost use Rattle.hsm_cli.specs.Told.{sink_told};
 ghost use Rattle.hsm_cli.specs.Endings.{cause_in, WritingEnds, LinesEnd};
-ghost use Rattle.hsm_cli.specs.Clauses.{HasDrilled, TellsGiven, IsGoodOver, IsPlainOver, IsCausedOver, NoneFailed};
+ghost use Rattle.hsm_cli.specs.Clauses.{HasDrilled, IsGoodOver, IsPlainOver, IsCausedOver, NoneFailed};
 ghost use Rattle.hsm_cli.specs.Runs.{IsOpenedAnew, IsReady};
 
 use crate::causes::Cause;
@@ -74,7 +74,7 @@ struct Drilled<D, M> {
 /// Runs the script that is made of that number on a new small store in memory, and writes one line on its run.
 pub(crate) fn drill<D: Disk, M, O: Sink>(alloc: Global, number: u64, sink: &mut O) -> Outcome<D, M>
     ensures ended { result ≡ ended_with result.cause result.history None }
-    ensures script { HasDrilled (SettlesOn (TellsGiven D.Disk result.disk) (opened_in result)) (λ marks. IsWellServedOver (TellsGiven D.Disk result.disk) (opened_in result) marks × IsRightInMemory marks) number result.cause result.history }
+    ensures script { HasDrilled (SettlesOn (opened_in result)) (λ marks. IsWellServedOver (opened_in result) marks × IsRightInMemory marks) number result.cause result.history }
     ensures legality { IsGoodOver {D = D} None result.history }
     ensures faultless { has_fault result.history ≡ false }
     ensures plain { IsPlainOver {D = D} None result.history }
@@ -122,11 +122,11 @@ fn run_on<D: Disk, M: Drive>(
 ) -> Drilled<D, M>
     requires anew { IsOpenedAnew hsm }
     requires count { length drives.items ≡ standard.drives }
-    ensures all { OnOk result.ended (IsRunOf (RunsBy (SettlesOn (Tells D.Disk result.disk) (Some hsm.opened)) script) (TellsOf M.Drive drives.items result.drives.items) result.history) }
-    ensures first { IsRunOf (FollowsFirst (SettlesOn (Tells D.Disk result.disk) (Some hsm.opened)) script) (TellsOf M.Drive drives.items result.drives.items) result.history }
-    ensures well { ServedIsWell (Tells D.Disk result.disk) (Some hsm.opened) result.history }
+    ensures all { OnOk result.ended (IsRunOf (RunsBy (SettlesOn (Some hsm.opened)) script) (TellsOf M.Drive drives.items result.drives.items) result.history) }
+    ensures first { IsRunOf (FollowsFirst (SettlesOn (Some hsm.opened)) script) (TellsOf M.Drive drives.items result.drives.items) result.history }
+    ensures well { ServedIsWell (Some hsm.opened) result.history }
     ensures good { Tells D.Disk result.disk → IsGoodOver (Some hsm.opened) result.history }
-    ensures caused_by { Tells D.Disk result.disk → IsCausedOver (Some hsm.opened) result.history }
+    ensures caused_by { IsCausedOver (Some hsm.opened) result.history }
     ensures media { AreTrue M.Drive result.drives.items (faults_in result.history) }
     ensures drives { HaveGrown M.Drive drives.items result.drives.items }
     ensures ends { IfErr result.ended (LinesEnd (Rose (D.fault_count hsm.opened.disk) (D.fault_count result.disk))) }
@@ -163,8 +163,8 @@ fn run_all<D: Disk, M: Drive>(
     requires limits { replay.old.system.limits ≡ standard }
     ensures drives { HaveGrown M.Drive replay.old.drives replay.new.drives }
     ensures goes_on { GoesOn D.Disk replay.old.system.store replay.new.system.store }
-    ensures all { OnOk result (IsRunOf (RunsBy (SettlesOn (Tells D.Disk replay.new.system.store.files.disk) (Some replay.old.system.store.opened)) script) (TellsOf M.Drive replay.old.drives replay.new.drives) replay.new.system.store.history) }
-    ensures first { IsRunOf (FollowsFirst (SettlesOn (Tells D.Disk replay.new.system.store.files.disk) (Some replay.old.system.store.opened)) script) (TellsOf M.Drive replay.old.drives replay.new.drives) replay.new.system.store.history }
+    ensures all { OnOk result (IsRunOf (RunsBy (SettlesOn (Some replay.old.system.store.opened)) script) (TellsOf M.Drive replay.old.drives replay.new.drives) replay.new.system.store.history) }
+    ensures first { IsRunOf (FollowsFirst (SettlesOn (Some replay.old.system.store.opened)) script) (TellsOf M.Drive replay.old.drives replay.new.drives) replay.new.system.store.history }
     ensures served { IsServed replay.new.system.store.history }
     ensures media { AreTrue M.Drive replay.new.drives (faults_in replay.new.system.store.history) }
     ensures ends { IfErr result (LinesEnd (Rose (D.fault_count replay.old.system.store.files.disk) (D.fault_count replay.new.system.store.files.disk))) }

@@ -1,7 +1,6 @@
 //! A script, run on an opened store with its drives.
 ghost use Rattle.std.specs.Prelude.{◌≡◌, true, OnOk};
 ghost use Rattle.std.specs.List.{AllByRecursion};
-ghost use Rattle.disk_model.specs.Moments.{Tells};
 ghost use Rattle.script_text.specs.Lines.{IsLine};
 ghost use Rattle.hsm_replay.specs.Drives.{HaveGrown};
 ghost use Rattle.hsm_system.specs.Events.{Runs};
@@ -26,8 +25,8 @@ pub(crate) fn run<D: Disk, M: Drive>(
     ensures limits { replay.new.system.limits ≡ replay.old.system.limits }
     ensures drives { HaveGrown M.Drive replay.old.drives replay.new.drives }
     ensures runs { Runs D.Disk result replay.old.system.store replay.new.system.store }
-    ensures all { OnOk result (HasRunOn M.Drive replay.old.drives (RunsBy (SettlesSince (Tells D.Disk replay.new.system.store.files.disk) replay.old) (lines_run commits script)) replay.new) }
-    ensures first { HasRunOn M.Drive replay.old.drives (FollowsFirst (SettlesSince (Tells D.Disk replay.new.system.store.files.disk) replay.old) (lines_run commits script)) replay.new }
+    ensures all { OnOk result (HasRunOn M.Drive replay.old.drives (RunsBy (SettlesSince replay.old) (lines_run commits script)) replay.new) }
+    ensures first { HasRunOn M.Drive replay.old.drives (FollowsFirst (SettlesSince replay.old) (lines_run commits script)) replay.new }
     ensures durable { commits ≡ true → OnOk result (IsAllDurable replay.new.system.store) }
 {
     run_lines(alloc, replay, script.into_lines())?;
@@ -48,8 +47,8 @@ fn run_lines<D: Disk, M: Drive>(
     ensures limits { replay.new.system.limits ≡ replay.old.system.limits }
     ensures drives { HaveGrown M.Drive replay.old.drives replay.new.drives }
     ensures runs { Runs D.Disk result replay.old.system.store replay.new.system.store }
-    ensures all { OnOk result (IsRunTo (Tells D.Disk replay.new.system.store.files.disk) M.Drive replay.old lines replay.new) }
-    ensures first { HasRunOn M.Drive replay.old.drives (FollowsFirst (SettlesSince (Tells D.Disk replay.new.system.store.files.disk) replay.old) lines) replay.new }
+    ensures all { OnOk result (IsRunTo M.Drive replay.old lines replay.new) }
+    ensures first { HasRunOn M.Drive replay.old.drives (FollowsFirst (SettlesSince replay.old) lines) replay.new }
 {
     for line in lines {
         replay.line(alloc, line)?;

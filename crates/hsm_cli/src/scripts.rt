@@ -76,8 +76,8 @@ pub(crate) fn run_opened<D: Disk, M: Drive, I: Source, O: Sink>(
     requires ready { IfErr drives IsBeforeReading }
     ensures opening { result.opening.value ≡ hsm.opened }
     ensures base { result.base ≡ hsm.opened.meta.number }
-    ensures script { HasRun (SettlesOn (Tells D.Disk result.disk) (Some hsm.opened)) (λ marks. IfOk drives (λ ds. TellsOf M.Drive ds.items result.drives.items marks)) commits (source_told I.left I.fault_count source.old source.new) result.cause result.history }
-    ensures well { ServedIsWell (Tells D.Disk result.disk) (Some hsm.opened) result.history }
+    ensures script { HasRun (SettlesOn (Some hsm.opened)) (λ marks. IfOk drives (λ ds. TellsOf M.Drive ds.items result.drives.items marks)) commits (source_told I.left I.fault_count source.old source.new) result.cause result.history }
+    ensures well { ServedIsWell (Some hsm.opened) result.history }
     ensures reading { HasRead (source_told I.left I.fault_count source.old source.new) result.cause }
     ensures legality { IsRunOver (Tells D.Disk result.disk) (Some hsm.opened) result.history }
     ensures orderly { IsOrderlyOver (Some hsm.opened) result.history }
@@ -87,7 +87,7 @@ pub(crate) fn run_opened<D: Disk, M: Drive, I: Source, O: Sink>(
     ensures faultless { result.cause ≢ Some Cause.DiskFault → result.cause ≢ Some Cause.NoMemory → has_fault result.history ≡ false }
     ensures plain { Tells D.Disk result.disk → IsPlainOver (Some hsm.opened) result.history }
     ensures media { AreTrue M.Drive result.drives.items (faults_in result.history) }
-    ensures caused_by { Tells D.Disk result.disk → IsCausedOver (Some hsm.opened) result.history }
+    ensures caused_by { IsCausedOver (Some hsm.opened) result.history }
     ensures idle { OnErr drives (result.history ≡ []) }
     ensures drives { MatchResult drives (λ ds. HaveGrown M.Drive ds.items result.drives.items) (λ why. result.drives.items ≡ []) }
     ensures since { LeavesOnly D.Disk hsm.opened.disk result.disk (IsPrefix hsm.opened result.history 0) }
@@ -144,7 +144,7 @@ fn run_with<D: Disk, M: Drive, I: Source>(
     requires count { IfOk drives (λ ds. length ds.items ≡ standard.drives) }
     requires ready { IfErr drives IsBeforeReading }
     ensures goes_on { GoesOn D.Disk hsm result.hsm }
-    ensures ran { HasRun (SettlesOn (Tells D.Disk result.hsm.files.disk) (Some hsm.opened)) (λ marks. IfOk drives (λ ds. TellsOf M.Drive ds.items result.drives.items marks)) commits (source_told I.left I.fault_count source.old source.new) (cause_in result.ended) result.hsm.history }
+    ensures ran { HasRun (SettlesOn (Some hsm.opened)) (λ marks. IfOk drives (λ ds. TellsOf M.Drive ds.items result.drives.items marks)) commits (source_told I.left I.fault_count source.old source.new) (cause_in result.ended) result.hsm.history }
     ensures reading { HasRead (source_told I.left I.fault_count source.old source.new) (cause_in result.ended) }
     ensures part { GivesFirst (I.left source.old) (I.left source.new) }
     ensures unready { IfErr drives (λ why. cause_in result.ended ≡ Some why) }
@@ -185,7 +185,7 @@ fn run_script<D: Disk, M: Drive, I: Source>(
     requires ready { IsReady replay.old }
     requires limits { replay.old.system.limits ≡ standard }
     ensures goes_on { GoesOn D.Disk replay.old.system.store replay.new.system.store }
-    ensures ran { HasRun (SettlesOn (Tells D.Disk replay.new.system.store.files.disk) (Some replay.old.system.store.opened)) (TellsOf M.Drive replay.old.drives replay.new.drives) commits (source_told I.left I.fault_count source.old source.new) (cause_in result) replay.new.system.store.history }
+    ensures ran { HasRun (SettlesOn (Some replay.old.system.store.opened)) (TellsOf M.Drive replay.old.drives replay.new.drives) commits (source_told I.left I.fault_count source.old source.new) (cause_in result) replay.new.system.store.history }
     ensures reading { HasRead (source_told I.left I.fault_count source.old source.new) (cause_in result) }
     ensures part { GivesFirst (I.left source.old) (I.left source.new) }
     ensures ends { IfErr result (λ why. ScriptEnds ⊥ (Rose (D.fault_count replay.old.system.store.files.disk) (D.fault_count replay.new.system.store.files.disk)) (source_told I.left I.fault_count source.old source.new) why) }

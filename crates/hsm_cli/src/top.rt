@@ -15,7 +15,7 @@ ghost use Rattle.hsm_cli.specs.Clauses.{ScriptClause, ReadingClause, LegalityCla
 ghost use Rattle.hsm_cli.specs.Clauses.{FormatClause, HostClause, OutputClause, TakesTranscript, StatusClause, HasRun, HasRead, HasReadOn};
 ghost use Rattle.hsm_cli.specs.Clauses.{IsGoodOver, IsPlainOver, LeavesSafe, IsFormatted, HandsOut, HasFailed, HasBegun, Why, Lacks, DrivesClause};
 ghost use Rattle.hsm_cli.specs.Clauses.{GivesBack, HandsDrives, KeepsPromises, asked_by, FaultsClause, ReadsQuietly, WritesQuietly, KeepsQuietly};
-ghost use Rattle.hsm_cli.specs.Clauses.{HandsQuietly, TellsGiven};
+ghost use Rattle.hsm_cli.specs.Clauses.{HandsQuietly};
 ghost use Rattle.hsm_cli.specs.Endings.{RunEnds, FormatEnds, HandingEnds, IsBeforeReading};
 ghost use Rattle.hosts.specs.Hosts.{AreHanded, HoldsAll, StoresAll};
 ghost use Rattle.hsm_cli.specs.Daemons.{IsWellServedOver};
@@ -55,11 +55,11 @@ pub fn hsm_main<H: Host, I: Source, O: Sink>(
     source: &mut I,
     sink: &mut O,
 ) -> Outcome<H::Disk, H::Drive>
-    ensures script { ScriptClause H.Disk.Disk H.Drive.Drive (H.stores host.old) (form_of (map string_bytes words.now)) (source_told I.left I.fault_count source.old source.new) result }
+    ensures script { ScriptClause H.Drive.Drive (H.stores host.old) (form_of (map string_bytes words.now)) (source_told I.left I.fault_count source.old source.new) result }
     ensures reading { ReadingClause (form_of (map string_bytes words.now)) (source_told I.left I.fault_count source.old source.new) result }
     ensures legality { LegalityClause H.Disk.Disk result }
     ensures plain { PlainClause H.Disk.Disk result }
-    ensures media { MediaClause H.Disk.Disk H.Drive.Drive (form_of (map string_bytes words.now)) result }
+    ensures media { MediaClause H.Drive.Drive (form_of (map string_bytes words.now)) result }
     ensures crash { CrashClause H.Disk.Disk (form_of (map string_bytes words.now)) (H.holds host.old) result }
     ensures format { FormatClause H.Disk.Disk (form_of (map string_bytes words.now)) result }
     ensures host { HostClause H.holds H.make_count H.open_count (form_of (map string_bytes words.now)) host.old host.new result }
@@ -144,7 +144,7 @@ fn replay<D: Disk, M, I: Source, O: Sink>(
     sink: &mut O,
 ) -> Outcome<D, M>
     ensures ended { result ≡ ended_with result.cause result.history None }
-    ensures script { HasRun (SettlesOn (TellsGiven D.Disk result.disk) (opened_in result)) (λ marks. IsWellServedOver (TellsGiven D.Disk result.disk) (opened_in result) marks × IsRightInMemory marks) false (source_told I.left I.fault_count source.old source.new) result.cause result.history }
+    ensures script { HasRun (SettlesOn (opened_in result)) (λ marks. IsWellServedOver (opened_in result) marks × IsRightInMemory marks) false (source_told I.left I.fault_count source.old source.new) result.cause result.history }
     ensures reading { HasRead (source_told I.left I.fault_count source.old source.new) result.cause }
     ensures legality { IsGoodOver {D = D} None result.history }
     ensures faultless { has_fault result.history ≡ false }
@@ -178,12 +178,12 @@ fn replay_store<H: Host, I: Source, O: Sink>(
 ) -> Outcome<H::Disk, H::Drive>
     ensures told { (result.status ≡ status_of result.cause) × (result.at ≡ place_of result.cause) × (result.base ≡ base_of (opened_in result)) }
     ensures command { result.cause ≢ Some Cause.WordsRefused }
-    ensures script { HasRun (SettlesOn (TellsGiven H.Disk.Disk result.disk) (opened_in result)) (λ marks. IsWellServedOver (TellsGiven H.Disk.Disk result.disk) (opened_in result) marks × IsRightInFolder H.Drive.Drive (H.stores host.old dir.now) result.drives marks) true (source_told I.left I.fault_count source.old source.new) result.cause result.history }
+    ensures script { HasRun (SettlesOn (opened_in result)) (λ marks. IsWellServedOver (opened_in result) marks × IsRightInFolder H.Drive.Drive (H.stores host.old dir.now) result.drives marks) true (source_told I.left I.fault_count source.old source.new) result.cause result.history }
     ensures reading { HasReadOn (opened_in result) (source_told I.left I.fault_count source.old source.new) result.cause }
     ensures legality { LegalityClause H.Disk.Disk result }
     ensures plain { PlainClause H.Disk.Disk result }
     ensures media { AreTrue H.Drive.Drive result.drives (faults_in result.history) }
-    ensures caused_by { TellsGiven H.Disk.Disk result.disk → IsCausedOver (opened_in result) result.history }
+    ensures caused_by { IsCausedOver (opened_in result) result.history }
     ensures crash { LeavesSafe H.Disk.Disk (H.holds host.old path.now) (opened_in result) result.history result.cause result.disk }
     ensures output { TakesTranscript result (sink_told O.taken O.fault_count sink.old sink.new) }
     ensures host { HandsOut path.now (H.holds host.old) (H.holds host.new) result.disk }

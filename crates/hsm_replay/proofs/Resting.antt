@@ -29,8 +29,9 @@ use Rattle.plain_model.specs.declared.entries.Answer.{Answer}
 use Rattle.plain_model.specs.declared.entries.Answer.TheVariants.{Dm as Told}
 use Rattle.plain_model.specs.declared.entries.Entry.{Entry}
 use Rattle.plain_model.specs.Exact.{state_by}
-use Rattle.plain_model.specs.Laws.{IsRun}
+use Rattle.plain_model.specs.Laws.{IsRunSeen}
 use Rattle.plain_model.specs.State.{State, just_opened}
+use Rattle.plain_model.proofs.AnyDisk.{run_on_any}
 use Rattle.file_store.specs.Stores.{superblock_of}
 use Rattle.hsm_policy.specs.Settings.{Numbers}
 use Rattle.daemon_session.specs.declared.events.Event.{Event}
@@ -55,7 +56,7 @@ use Rattle.hsm_replay.specs.Resting.{EndsInTurns, first_of, IsSettledIn, IsLeftB
 use Rattle.hsm_replay.specs.Systems.{refreshed, told_next}
 use Rattle.marked_history.specs.Served.{Shown, nothing_shown, learned, shown, IsTold}
 use Rattle.hsm_replay.specs.Settled as settled
-use Rattle.marked_history.specs.Settling.{IsAtWork, IsTurnedAway, BeginsPass, IsCrowded, HasSettled}
+use Rattle.marked_history.specs.Settling.{IsAtWork, IsTurnedAway, BeginsPass, IsCrowded}
 use Rattle.hsm_replay.specs.Systems.{Run, running}
 use Rattle.marked_history.specs.Waiting.{runs, no_more, unserved, PutsOff, RecallRests, MigrateRests, IsAtRest, AllMayWait}
 use Rattle.hsm_replay.proofs.Begun.{begins_pass}
@@ -263,9 +264,9 @@ module _ {D M : Type 0} (h : drive.Ghosts M) (opened : List M) (marks : List Mar
   migrate_rests : is_some s.system.migrate ≡ true → EndsRefused turns.migrate_turn ⊎ MigrateRests k.migrate.seat turns.migrate_turn
   migrate_rests = migrate_ends s.system.limits turns.migrate_turn k.migrate s.system.migrate turns.migrate shows.migrate
 
-  module _ (g : disk.Ghosts D) (kept : IsKept g s.system.store) (working : s.system.store.files.failed ≡ false) (tells : Tells g s.system.store.files.disk) where
-    abbrev run : IsRun (superblock_of s.system.store.opened) s.system.store.opened.meta.number s.system.store.opened.held s.system.store.history
-    run = (kept.good tells).run
+  module _ (g : disk.Ghosts D) (kept : IsKept g s.system.store) (working : s.system.store.files.failed ≡ false) where
+    abbrev run : IsRunSeen ⊥ (superblock_of s.system.store.opened) s.system.store.opened.meta.number s.system.store.opened.held s.system.store.history
+    run = run_on_any (Tells g s.system.store.files.disk) (superblock_of s.system.store.opened) s.system.store.opened.meta.number s.system.store.opened.held s.system.store.history kept.run
 
     at_rest : IsAtRest (running s) k (superblock_of s.system.store.opened) (just_opened s.system.store.opened.meta.number s.system.store.opened.held) s.system.store.history
     at_rest = record {
@@ -339,14 +340,14 @@ module _ {D M : Type 0} (h : drive.Ghosts M) (opened : List M) (before part : Li
   abbrev left : State
   left = state_by (superblock_of s.system.store.opened) (first_of s) (entries_of whole)
 
-  module _ (g : disk.Ghosts D) (kept : IsKept g s.system.store) (working : s.system.store.files.failed ≡ false) (tells : Tells g s.system.store.files.disk) where
+  module _ (g : disk.Ghosts D) (kept : IsKept g s.system.store) (working : s.system.store.files.failed ≡ false) where
     recall_has : EndsRefused turns.recall_turn ⊎ RecallRests known.recall.seat turns.recall_turn → IsAtWork Recall known left part ⊎ IsTurnedAway Recall part
     recall_has (inl refused) = inr (recall_turned_away s.system.limits before part shows.marked.served turns.recall_turn turns.migrate_turn ends refused)
-    recall_has (inr rests) = inl (record { sid = rests.sid; seated = rests.seated; live = recall_lives h opened whole s shows from turns all_ends g kept working tells rests; told = recall_told part turns.recall_turn turns.migrate_turn ends rests.sid rests.first rests.ends })
+    recall_has (inr rests) = inl (record { sid = rests.sid; seated = rests.seated; live = recall_lives h opened whole s shows from turns all_ends g kept working rests; told = recall_told part turns.recall_turn turns.migrate_turn ends rests.sid rests.first rests.ends })
 
     migrate_has : EndsRefused turns.migrate_turn ⊎ MigrateRests known.migrate.seat turns.migrate_turn → IsAtWork Migrate known left part ⊎ IsTurnedAway Migrate part
     migrate_has (inl refused) = inr (migrate_turned_away s.system.limits before part shows.marked.served turns.recall_turn turns.migrate_turn ends refused)
-    migrate_has (inr rests) = inl (record { sid = rests.sid; seated = rests.seated; live = migrate_lives h opened whole s shows from turns all_ends g kept working tells rests; told = migrate_told part turns.recall_turn turns.migrate_turn ends rests.sid rests.first rests.ends })
+    migrate_has (inr rests) = inl (record { sid = rests.sid; seated = rests.seated; live = migrate_lives h opened whole s shows from turns all_ends g kept working rests; told = migrate_told part turns.recall_turn turns.migrate_turn ends rests.sid rests.first rests.ends })
 
     each_works : (daemon : Daemon) → runs daemon (running s) ≡ true → IsAtWork daemon known left part ⊎ IsTurnedAway daemon part
     each_works Recall runs = recall_has (recall_rests h opened whole s shows from turns all_ends runs)
@@ -359,15 +360,15 @@ module _ {D M : Type 0} (h : drive.Ghosts M) (opened : List M) (before part : Li
           let same : entries_of part ≡ fresh.0 = marked_since before part old.system.store.history s.system.store.history fresh.0 was shows.marked.entries fresh.1 in
           inr (begins_pass s.system.limits before part shows.marked.served settles (subst IsToldTable (sym same) told))
 
-      has_settled : HasSettled s.system.limits (superblock_of s.system.store.opened) (first_of s) (running s) before part
+      has_settled : IsSettledIn s before part
       has_settled = record {
-        waits = wait_rightly h opened whole s shows from turns all_ends g kept working tells;
+        waits = wait_rightly h opened whole s shows from turns all_ends g kept working;
         works = each_works;
-        spares = has_begun h opened whole s shows from turns all_ends g kept working tells (BeginsPass part) (may_or_began (fresh.2 (refreshed_fresh old)));
+        spares = has_begun h opened whole s shows from turns all_ends g kept working (BeginsPass part) (may_or_began (fresh.2 (refreshed_fresh old)));
       }
 
 -- a settling that came to rest
-pub settles_rightly : {D M : Type 0} (g : disk.Ghosts D) (h : drive.Ghosts M) (old mid new : Run D M) → running mid ≡ running old → Keeps h (AllByRecursion IsOfSettling) old mid → EndsMarked h mid new → StaysFresh (refreshed old) new → IsKept g new.system.store → new.system.store.files.failed ≡ false → LeadsTo h (AllByRecursion IsOfSettling) (IsSettledIn g new) old new
+pub settles_rightly : {D M : Type 0} (g : disk.Ghosts D) (h : drive.Ghosts M) (old mid new : Run D M) → running mid ≡ running old → Keeps h (AllByRecursion IsOfSettling) old mid → EndsMarked h mid new → StaysFresh (refreshed old) new → IsKept g new.system.store → new.system.store.files.failed ≡ false → LeadsTo h (AllByRecursion IsOfSettling) (IsSettledIn new) old new
 settles_rightly g h old mid new runs keeps ends fresh kept working opened marks shows =
     let one = keeps opened marks shows in
     let two = ends.1 opened (marks ++ one.0) one.2 in
@@ -376,7 +377,7 @@ settles_rightly g h old mid new runs keeps ends fresh kept working opened marks 
       one.0 ++ two.0,
       settles,
       then,
-      λ tells. has_settled h opened marks (one.0 ++ two.0) old new shows.marked.entries then mid.system.store.history ends.0 (ends_later one.0 two.0 ends.0.recall_turn ends.0.migrate_turn two.3) g kept working tells settles fresh,
+      has_settled h opened marks (one.0 ++ two.0) old new shows.marked.entries then mid.system.store.history ends.0 (ends_later one.0 two.0 ends.0.recall_turn ends.0.migrate_turn two.3) g kept working settles fresh,
       by_running_then (running old) (running mid) one.0 two.0 runs one.3 two.4,
       live_then old mid new marks one.0 two.0 runs one.4 two.5,
     )
@@ -389,7 +390,7 @@ keeps_leads h IsPart IsSo (Ok done) old new keeps so = λ working opened marks s
 keeps_leads h IsPart IsSo (Err why) old new keeps so = λ working. tt
 
 -- the daemons live through a settle
-pub settle_leads : {D M T : Type 0} (g : disk.Ghosts D) (h : drive.Ghosts M) (result : Result T Stop) (old new : Run D M) → running new ≡ running old → LeadsOn h (AllByRecursion IsOfSettling) (IsSettledIn g new) result old new → LeadsOn h (IsPartOf Settle) (IsLeftBy g Settle old new) result old new
-settle_leads g h (Ok done) old new same leads = λ working opened marks shows.
+pub settle_leads : {D M T : Type 0} (h : drive.Ghosts M) (result : Result T Stop) (old new : Run D M) → running new ≡ running old → LeadsOn h (AllByRecursion IsOfSettling) (IsSettledIn new) result old new → LeadsOn h (IsPartOf Settle) (IsLeftBy Settle old new) result old new
+settle_leads h (Ok done) old new same leads = λ working opened marks shows.
     let one = leads working opened marks shows in (one.0, one.1, one.2, (one.3, λ limits called live. live_through old new marks one.0 same one.5 limits called live), one.4, one.5)
-settle_leads g h (Err why) old new same leads = λ working. tt
+settle_leads h (Err why) old new same leads = λ working. tt

@@ -1,13 +1,10 @@
 -- What marked histories tell of a store that has settled.
 use Rattle.std.specs.Prelude.{◌≡◌, false, List, ◌++◌, Result, OnOk}
 use Rattle.std.specs.List.{AllByRecursion}
-use Rattle.disk_model.specs.declared.device.Disk as disk
-use Rattle.disk_model.specs.Moments.{Tells}
 use Rattle.media_model.specs.declared.drive.Drive as drive
 use Rattle.hsm_types.specs.declared.daemons.Daemon.TheVariants.{Recall, Migrate}
 use Rattle.plain_model.specs.declared.entries.Entry.{Entry}
 use Rattle.script_text.specs.declared.lines.Line.{Line}
-use Rattle.script_text.specs.declared.lines.Line.TheVariants.{Settle}
 use Rattle.file_store.specs.Stores.{superblock_of}
 use Rattle.plain_model.specs.State.{State, just_opened}
 use Rattle.hsm_system.specs.declared.stops.Stop.{Stop}
@@ -16,7 +13,7 @@ use Rattle.hsm_replay.specs.Keeping.{Shows, LiveOn, LiveThrough}
 use Rattle.marked_history.specs.Marks.{Mark, entries_of}
 use Rattle.hsm_replay.specs.Settled.{EndsQuietly}
 use Rattle.hsm_replay.specs.Systems.{Run, running}
-use Rattle.marked_history.specs.Settling.{AreByRunning, LeavesSettled}
+use Rattle.marked_history.specs.Settling.{AreByRunning, HasSettled, LeavesSettled}
 
 -- The last marks are those of a turn of recall and of one of migration, each with calls of its daemon alone.
 pub record EndsInTurns (marks : List Mark) (recall_turn migrate_turn : List Entry) : Type 0 where
@@ -49,14 +46,10 @@ module _ {D M : Type 0} (g : drive.Ghosts M) where
 abbrev pub first_of : {D M : Type 0} → Run D M → State
 first_of s = just_opened s.system.store.opened.meta.number s.system.store.opened.held
 
--- what a line has come to where it settles, which is said where the disk tells what it holds
-abbrev pub ComesTo : {D M : Type 0} → disk.Ghosts D → Line → Run D M → (before part : List Mark) → Type 0
-ComesTo g line s before part = LeavesSettled (Tells g s.system.store.files.disk) s.system.limits (superblock_of s.system.store.opened) (first_of s) line (running s) before part
-
 -- a settle has come to its end
-abbrev pub IsSettledIn : {D M : Type 0} → disk.Ghosts D → Run D M → (before part : List Mark) → Type 0
-IsSettledIn g s before part = ComesTo g Settle s before part
+abbrev pub IsSettledIn : {D M : Type 0} → Run D M → (before part : List Mark) → Type 0
+IsSettledIn s before part = HasSettled s.system.limits (superblock_of s.system.store.opened) (first_of s) (running s) before part
 
 -- the line's part, with what it has come to where it settles, and with how daemons live through it
-abbrev pub IsLeftBy : {D M : Type 0} → disk.Ghosts D → Line → Run D M → Run D M → (before part : List Mark) → Type 0
-IsLeftBy g line old new before part = ComesTo g line new before part × LiveThrough old new line before part
+abbrev pub IsLeftBy : {D M : Type 0} → Line → Run D M → Run D M → (before part : List Mark) → Type 0
+IsLeftBy line old new before part = LeavesSettled new.system.limits (superblock_of new.system.store.opened) (first_of new) line (running new) before part × LiveThrough old new line before part

@@ -31,7 +31,7 @@ impl<D: Disk, M: Drive> Replay<D, M> {
     pub fn settle(&mut self, alloc: Global) -> Result<(), Stop>
         ensures moves { Moves D.Disk M.Drive (AllByRecursion IsOfSettling) result self.old self.new }
         ensures settled { OnOk result (IsSettled self.old self.new) }
-        ensures settles { LeadsOn M.Drive (AllByRecursion IsOfSettling) (IsSettledIn D.Disk self.new) result self.old self.new }
+        ensures settles { LeadsOn M.Drive (AllByRecursion IsOfSettling) (IsSettledIn self.new) result self.old self.new }
         ensures runs { running self.new ≡ running self.old }
         ensures deeds { ByDeeds M.Drive (λ done. IsSettle is_quiet) (IsSettleCut is_quiet (MayGoOn self.new)) result self.old self.new }
     {

@@ -30,7 +30,7 @@ use Rattle.plain_model.specs.declared.entries.Answer.{Answer}
 use Rattle.plain_model.specs.declared.entries.Answer.TheVariants.{Dm as Told}
 use Rattle.plain_model.specs.declared.entries.Entry.{Entry}
 use Rattle.plain_model.specs.State.{Held, State, just_opened}
-use Rattle.plain_model.specs.Exact.{Exact, state_by}
+use Rattle.plain_model.specs.Exact.{ExactSeen, state_by}
 use Rattle.plain_model.proofs.Histories.{state_by-push}
 use Rattle.event_msgs.specs.Reading.{told}
 use Rattle.hsm_policy.specs.Settings.{Numbers}
@@ -287,7 +287,7 @@ module _ (s : Superblock) (st : State) where
 
   -- ---- whole histories
 
-  module _ (limits : Numbers) (es : List Entry) (none : st.sessions ≡ no_sessions) (exact : Exact s st es) where
+  module _ (limits : Numbers) (es : List Entry) (none : st.sessions ≡ no_sessions) (exact : ExactSeen ⊥ s st es) where
     given_by : (before : List Entry) (who : Actor) (what : Action) (answer : Answer) (rest : List Entry) → es ≡ before ++ entry_of who what answer ∷ rest → HandsBy (state_by s st before) who what answer → GivenBy before who what answer
     given_by before (Session sid) (Dm c) (Told answer) rest is hands =
         tells_each (EventOf before) Recall (IsOfParked s st before) (λ m h of own has. subst (λ (found : Option Handle). IfSome found (λ x. WasParked s st before m.token x)) has of) (state_by s st before).sessions sid c answer

@@ -25,12 +25,13 @@ use Rattle.plain_model.specs.declared.entries.Actor.TheVariants.{Session}
 use Rattle.plain_model.specs.declared.entries.Answer.TheVariants.{Dm as Told}
 use Rattle.plain_model.specs.declared.entries.Entry.{Entry}
 use Rattle.plain_model.specs.State.{Held, State, just_opened}
-use Rattle.plain_model.specs.Services.{bytes_or_none}
+use Rattle.plain_model.specs.Services.{bytes_or_none, service, dm_judged}
 use Rattle.plain_model.specs.Stands.{InOrder}
-use Rattle.plain_model.specs.Exact.{IsAnswer, left_by, Exact, state_by}
-use Rattle.plain_model.proofs.Histories.{state_by-push, Exact-first}
+use Rattle.plain_model.specs.Exact.{left_by, ExactSeen, state_by}
+use Rattle.plain_model.proofs.AnyDisk.{state_seen_ordered}
+use Rattle.plain_model.proofs.Histories.{state_by-push, ExactSeen-first}
 use Rattle.plain_model.proofs.Judged.{none_first, passes}
-use Rattle.plain_model.proofs.Orders.{ordered_at_first, state_ordered}
+use Rattle.plain_model.proofs.Orders.{ordered_at_first}
 use Rattle.hsm_policy.specs.Settings.{Numbers}
 use Rattle.daemon_session.specs.Seats.{first_id}
 use Rattle.marked_history.specs.Marks.{Mark, entries_of, made}
@@ -38,9 +39,10 @@ use Rattle.marked_history.specs.Served.{nothing_shown, shown, ServedFrom}
 use Rattle.marked_history.specs.Tokens.{seat_of}
 use Rattle.marked_history.specs.Coming.{AsksAnew, NeverAsksAnew, IsAlone, ServedMakesAnew, IsKnownAs, ServedTakesOver}
 use Rattle.marked_history.proofs.Remembering.{leads}
-use Rattle.marked_history.proofs.Leaving.{left_given, own_reply}
+use Rattle.marked_history.proofs.Leaving.{left_given, is_refused, own_reply}
 use Rattle.marked_history.proofs.Lists.{all_and, none_in, first_or_rest}
 use Rattle.marked_history.proofs.Granting.{exact_rest}
+use Rattle.marked_history.proofs.Seen.{over, IsOver, is_over}
 use Rattle.marked_history.proofs.Informing.{Stays, informed_lives, has_info, listed, lives_within, left_stays}
 use Rattle.marked_history.proofs.Ways.{Way, way_of, way_told, way_next, MayWay, may_by, at_end, served_before}
 
@@ -151,20 +153,20 @@ module _ (s : Superblock) (st : State) where
   behind_push done m = ap (state_by s st) (entries_push done m) ∙ state_by-push s st (entries_of done) m.entry
 
   abbrev ExactTo : List Mark → Type 0
-  ExactTo marks = Exact s st (entries_of marks)
+  ExactTo marks = ExactSeen ⊥ s st (entries_of marks)
 
-  pushed_exact : (done : List Mark) (m : Mark) → ExactTo (done ++ m ∷ []) → Exact s st (entries_of done ++ m.entry ∷ [])
-  pushed_exact done m exact = subst (Exact s st) (entries_push done m) exact
+  pushed_exact : (done : List Mark) (m : Mark) → ExactTo (done ++ m ∷ []) → ExactSeen ⊥ s st (entries_of done ++ m.entry ∷ [])
+  pushed_exact done m exact = subst (ExactSeen ⊥ s st) (entries_push done m) exact
 
   exact_to : (done : List Mark) (m : Mark) → ExactTo (done ++ m ∷ []) → ExactTo done
-  exact_to done m exact = Exact-first s st (entries_of done) (m.entry ∷ []) (pushed_exact done m exact)
+  exact_to done m exact = ExactSeen-first ⊥ s st (entries_of done) (m.entry ∷ []) (pushed_exact done m exact)
 
-  answer_at : (done : List Mark) (m : Mark) → ExactTo (done ++ m ∷ []) → IsAnswer s (behind done) m.entry.actor m.entry.action m.entry.answer
-  answer_at done m exact = (exact_rest s st (entries_of done) (m.entry ∷ []) (pushed_exact done m exact)).0
+  answer_at : (done : List Mark) (m : Mark) → ExactTo (done ++ m ∷ []) → IsOver s (behind done) m.entry.actor m.entry.action m.entry.answer
+  answer_at done m exact = is_over s (behind done) m.entry.actor m.entry.action m.entry.answer (exact_rest s st (entries_of done) (m.entry ∷ []) (pushed_exact done m exact)).0
 
   module _ (ordered : InOrder st) (d : Daemon) where
     ordered_behind : (done : List Mark) → ExactTo done → InOrder (behind done)
-    ordered_behind done exact = state_ordered s st (entries_of done) ordered exact
+    ordered_behind done exact = state_seen_ordered ⊥ s st (entries_of done) ordered exact
 
     -- the daemon was told all sessions; of those with its information the ones that live are among the rest
     record Asked (done : List Mark) (rest : List Sid) : Type 0 where
@@ -213,7 +215,11 @@ module _ (s : Superblock) (st : State) where
       with_call c a = done ++ made d x c a ∷ []
 
       abbrev IsAnswered : DmCall → DmReply → Type 0
-      IsAnswered c a = IsAnswer s (behind done) (Session x) (Dm c) (Told a)
+      IsAnswered c a = IsOver s (behind done) (Session x) (Dm c) (Told a)
+
+      -- what isn't refused is served over what is seen
+      own_over : (c : DmCall) (a : DmReply) (is : IsAnswered c a) → is_refused a ≡ false → (dm_judged s (over (behind done) is.seen) x c ≡ None) × (a ≡ (service s (over (behind done) is.seen) x c).reply)
+      own_over c a is fine = own_reply s (over (behind done) is.seen) x c a is.exact fine
 
       starts : (ids : List Sid) → x ≡ first_id → IsAnswered call.GetAllSessions (reply.Sids ids) → Asked (with_call call.GetAllSessions (reply.Sids ids)) ids
       starts ids first is = record {
@@ -229,7 +235,7 @@ module _ (s : Superblock) (st : State) where
       }
         where
           all : ids ≡ keys_of now.live
-          all = let told : reply.Sids ids ≡ reply.Sids (keys_of now.live) = (own_reply s (behind done) x call.GetAllSessions (reply.Sids ids) is refl).1 in cc
+          all = let told : reply.Sids ids ≡ reply.Sids (keys_of now.live) = (own_over call.GetAllSessions (reply.Sids ids) is refl).1 in cc
 
       lists : (w : Way) (a : DmReply) → x ≡ first_id → IsAnswered call.GetAllSessions a → Comes (with_call call.GetAllSessions a) (way_next d w call.GetAllSessions a)
       lists w (reply.Sids ids) first is = record {
@@ -243,10 +249,10 @@ module _ (s : Superblock) (st : State) where
 
       -- who is told of a session's information is told it as it is
       lives_told : (target : Sid) (info : List ℕ) → IsAnswered (call.QuerySession target) (reply.Info info) → is_some (session_of target now) ≡ true
-      lives_told target info is = passes (lives target now) why.NoSession (none_first (dead_session target now) [] (own_reply s (behind done) x (call.QuerySession target) (reply.Info info) is refl).0).0
+      lives_told target info is = passes (lives target now) why.NoSession (none_first (dead_session target now) [] (own_over (call.QuerySession target) (reply.Info info) is refl).0).0
 
       told_as : (target : Sid) (info : List ℕ) → IsAnswered (call.QuerySession target) (reply.Info info) → info ≡ bytes_or_none (info_of target now)
-      told_as target info is = let told : reply.Info info ≡ reply.Info (bytes_or_none (info_of target now)) = (own_reply s (behind done) x (call.QuerySession target) (reply.Info info) is refl).1 in cc
+      told_as target info is = let told : reply.Info info ≡ reply.Info (bytes_or_none (info_of target now)) = (own_over (call.QuerySession target) (reply.Info info) is refl).1 in cc
 
       -- so a session with the daemon's information isn't told to be another's
       told_own : (target : Sid) (info : List ℕ) → IsAnswered (call.QuerySession target) (reply.Info info) → MayLive d target now → info ≡ information d
@@ -327,7 +333,7 @@ module _ (s : Superblock) (st : State) where
     made_anew limits before sid info answer rest served exact =
         let m : Mark = made d sid (call.CreateSession first_id info) answer in
         let own = served_before limits nothing_shown before m rest served in
-        let comes = comes_at limits before own.0 (Exact-first s st (entries_of before) (entries_of (m ∷ rest)) (subst (Exact s st) (map-append (λ (x : Mark). x.entry) before (m ∷ rest)) exact)) in
+        let comes = comes_at limits before own.0 (ExactSeen-first ⊥ s st (entries_of before) (entries_of (m ∷ rest)) (subst (ExactSeen ⊥ s st) (map-append (λ (x : Mark). x.entry) before (m ∷ rest)) exact)) in
         elim (may_by d (shown limits nothing_shown before) sid (call.CreateSession first_id info) own.1) [
           | inl beside ↦ alone before (comes.asked [] beside.1 beside.2)
           | inr known ↦ let real = comes.real first_id known in absurd (omega arith)
@@ -337,4 +343,4 @@ pub served_makes_anew : (limits : Numbers) (s : Superblock) (base : ℕ) (h : He
 served_makes_anew limits s base h marks es same served run before d sid info answer rest parted =
     let first : State = just_opened base h in
     made_anew s first (ordered_at_first base h) d limits before sid info answer rest (subst (ServedFrom limits nothing_shown) parted served)
-    (subst (λ (l : List Mark). Exact s first (entries_of l)) parted (subst (Exact s first) (sym same) run.exact))
+    (subst (λ (l : List Mark). ExactSeen ⊥ s first (entries_of l)) parted (subst (ExactSeen ⊥ s first) (sym same) run.exact))

@@ -40,17 +40,18 @@ use Rattle.plain_model.specs.declared.entries.Answer.{Answer}
 use Rattle.plain_model.specs.declared.entries.Answer.TheVariants.{Dm as Told}
 use Rattle.plain_model.specs.declared.entries.Entry.{Entry}
 use Rattle.plain_model.specs.Effects.{change_of}
-use Rattle.plain_model.specs.Exact.{IsOwn, IsAnswer, left_own, left_answered, left_by, Exact, state_by}
+use Rattle.plain_model.specs.Exact.{IsOwn, IsAnswer, IsAnswerSeen, left_own, left_answered, left_by, ExactSeen, state_by}
 use Rattle.plain_model.specs.Faults.{is_fault, fault_of}
 use Rattle.plain_model.specs.Ledger.{Meant, Fixed, Means}
 use Rattle.plain_model.specs.Services.{bad_own_token, is_live, bad_handle, service, dm_judged, dm_reply_where, dm_reply_to, dm_state_where}
 use Rattle.plain_model.specs.Stands.{InOrder}
 use Rattle.plain_model.specs.State.{Held, Flags, State, just_opened, noted, changed}
 use Rattle.plain_model.specs.Verdict.{flags_now, objection_in, meant_in, state_where}
+use Rattle.plain_model.proofs.AnyDisk.{seen_ordered, state_seen_ordered}
 use Rattle.plain_model.proofs.Faultless.{fault_is}
-use Rattle.plain_model.proofs.Histories.{Exact-first}
+use Rattle.plain_model.proofs.Histories.{ExactSeen-first}
 use Rattle.plain_model.proofs.Judged.{none_first}
-use Rattle.plain_model.proofs.Orders.{event_ordered, ordered_at_first, state_ordered}
+use Rattle.plain_model.proofs.Orders.{ordered_at_first}
 use Rattle.plain_model.proofs.Seeing.{left_own_by}
 use Rattle.hsm_policy.specs.Settings.{Numbers}
 use Rattle.hsm_core.specs.Answers.{entry_of}
@@ -60,6 +61,7 @@ use Rattle.marked_history.specs.Quiet.{is_refusal}
 use Rattle.marked_history.specs.Waiting.{PutsOff}
 use Rattle.marked_history.specs.Tokens.{NamesIt, IsNamed, IsGranted, ServedHoldsGranted, IsHindered, RequestIsGranted}
 use Rattle.marked_history.proofs.QuietEvents.{served_plainly}
+use Rattle.marked_history.proofs.Seen.{over, is_over, ordered_over}
 
 -- ---- rights after a change
 
@@ -256,19 +258,26 @@ module _ (s : Superblock) (now : State) (done : List Mark) (shown : Shown) (orde
       if_known (done ++ m ∷ []) (is_fault m.entry.answer) (left_answered s now m.entry.actor m.entry.action m.entry.answer) (still done m now.rights now.rights known (λ u j some. refl))
       (subst (λ (left : State). AreKnown (done ++ m ∷ []) left.rights) (sym (left_own_by s now m.entry.actor m.entry.action m.entry.answer is)) (own_by m.by m.entry.actor m.entry.action m.entry.answer is served))
 
+-- on any disk
+seen_known : (s : Superblock) (now : State) (done : List Mark) (shown : Shown) → InOrder now → AreKnown done now.rights → (m : Mark) → IsAnswerSeen ⊥ s now m.entry.actor m.entry.action m.entry.answer → IsServedBy m.by shown m
+    → AreKnown (done ++ m ∷ []) (left_by s now m.entry.actor m.entry.action m.entry.answer).rights
+seen_known s now done shown ordered known m answer served =
+    let there = is_over s now m.entry.actor m.entry.action m.entry.answer answer in
+    subst (λ (left : State). AreKnown (done ++ m ∷ []) left.rights) (sym there.left) (left_known s (over now there.seen) done shown (ordered_over now there.seen ordered) known m there.exact served)
+
 -- ---- whole histories
 
-known_on : (limits : Numbers) (s : Superblock) (now : State) (done : List Mark) (shown : Shown) (marks : List Mark) → InOrder now → Exact s now (entries_of marks) → ServedFrom limits shown marks → AreKnown done now.rights
+known_on : (limits : Numbers) (s : Superblock) (now : State) (done : List Mark) (shown : Shown) (marks : List Mark) → InOrder now → ExactSeen ⊥ s now (entries_of marks) → ServedFrom limits shown marks → AreKnown done now.rights
     → AreKnown (done ++ marks) (state_by s now (entries_of marks)).rights
 known_on limits s now done shown [] ordered exact served known = subst (λ (l : List Mark). AreKnown l now.rights) (sym (append-nil done)) known
 known_on limits s now done shown (m ∷ marks) ordered exact served known =
     subst (λ (l : List Mark). AreKnown l (state_by s now (entries_of (m ∷ marks))).rights) (append_assoc done (m ∷ []) marks)
-    (known_on limits s (left_by s now m.entry.actor m.entry.action m.entry.answer) (done ++ m ∷ []) (learned limits shown m) marks (event_ordered s now m.entry ordered exact.0) exact.2 served.1
-    (left_known s now done shown ordered known m exact.0 served.0))
+    (known_on limits s (left_by s now m.entry.actor m.entry.action m.entry.answer) (done ++ m ∷ []) (learned limits shown m) marks (seen_ordered ⊥ s now m.entry ordered exact.0) exact.2 served.1
+    (seen_known s now done shown ordered known m exact.0 served.0))
 
 pub served_holds_granted : (limits : Numbers) (s : Superblock) (base : ℕ) (h : Held) (marks : List Mark) (es : List Entry) → ServedHoldsGranted limits s base h marks es
 served_holds_granted limits s base h marks es same served run =
-    known_on limits s (just_opened base h) [] nothing_shown marks (ordered_at_first base h) (subst (Exact s (just_opened base h)) (sym same) run.exact) served (λ t k some. absurd (some refl))
+    known_on limits s (just_opened base h) [] nothing_shown marks (ordered_at_first base h) (subst (ExactSeen ⊥ s (just_opened base h)) (sym same) run.exact) served (λ t k some. absurd (some refl))
 
 -- ---- requests that another token hinders
 
@@ -362,7 +371,7 @@ module _ (s : Superblock) where
       hindered_by h.key right t other now.rights ordered.rights (found.1 ∙ ap (λ (u : Token). Some u) same)
 
   -- each end of an exact history is so
-  pub exact_rest : (st : State) (before rest : List Entry) → Exact s st (before ++ rest) → Exact s (state_by s st before) rest
+  pub exact_rest : (st : State) (before rest : List Entry) → ExactSeen ⊥ s st (before ++ rest) → ExactSeen ⊥ s (state_by s st before) rest
   exact_rest st [] rest exact = exact
   exact_rest st (e ∷ before) rest exact = exact_rest (left_by s st e.actor e.action e.answer) before rest exact.2
 
@@ -370,5 +379,8 @@ pub request_is_granted : (s : Superblock) (base : ℕ) (h : Held) (es : List Ent
 request_is_granted s base h es run before sid t handle right other rest is =
     let first : State = just_opened base h in
     let later : List Entry = entry_of (Session sid) (Dm (RequestRight t handle right)) (Told (Refused (Busy other))) ∷ rest in
-    let exact : Exact s first (before ++ later) = subst (Exact s first) is run.exact in
-    hindered_now s (state_by s first before) sid t handle right other (state_ordered s first before (ordered_at_first base h) (Exact-first s first before later exact)) (exact_rest s first before later exact).0
+    let exact : ExactSeen ⊥ s first (before ++ later) = subst (ExactSeen ⊥ s first) is run.exact in
+    let now : State = state_by s first before in
+    let ordered : InOrder now = state_seen_ordered ⊥ s first before (ordered_at_first base h) (ExactSeen-first ⊥ s first before later exact) in
+    let there = is_over s now (Session sid) (Dm (RequestRight t handle right)) (Told (Refused (Busy other))) (exact_rest s first before later exact).0 in
+    hindered_now s (over now there.seen) sid t handle right other (ordered_over now there.seen ordered) there.exact

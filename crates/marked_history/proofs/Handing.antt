@@ -27,12 +27,14 @@ use Rattle.plain_model.specs.declared.entries.Answer.TheVariants.{Call as Replie
 use Rattle.plain_model.specs.declared.entries.Entry.{Entry}
 use Rattle.plain_model.specs.Effects.{change_of}
 use Rattle.plain_model.specs.Ledger.{Meant, Fixed, Means, next_token}
-use Rattle.plain_model.specs.State.{Flags, State, noted, changed}
-use Rattle.plain_model.specs.Verdict.{Blocks, Posts, Lacks, Verdict, verdict, reply_by, message_of, flags_now, objection_in, meant_in, reply_where}
+use Rattle.plain_model.specs.Seen.{blanked}
+use Rattle.plain_model.specs.State.{Held, Flags, State, noted, changed}
+use Rattle.plain_model.specs.Verdict.{Blocks, Posts, Lacks, Verdict, verdict, reply_by, message_of, flags_now, objection_in, meant_in, reply_where, reply_to}
 use Rattle.plain_model.specs.Verdict.{left_by_verdict, state_where}
 use Rattle.plain_model.specs.Services.{dm_judged, dm_state_where}
 use Rattle.plain_model.specs.Faults.{is_fault}
-use Rattle.plain_model.specs.Exact.{IsOwn, IsAnswer, left_own, left_answered, left_by, Exact, state_by}
+use Rattle.plain_model.specs.Exact.{IsOwn, IsAnswerSeen, left_own, left_answered, left_by, ExactSeen, state_by}
+use Rattle.plain_model.proofs.Alike.{left_alike}
 use Rattle.plain_model.proofs.Faultless.{fault_is}
 use Rattle.plain_model.proofs.Histories.{state_by-push}
 use Rattle.plain_model.proofs.Seeing.{left_own_by}
@@ -40,6 +42,7 @@ use Rattle.hsm_core.specs.Answers.{entry_of}
 use Rattle.marked_history.specs.Caused.{WaitsOn, WasParked}
 use Rattle.marked_history.proofs.Carrying.{Each, each_weaker, none_each, posted_each, created_each, ended_each, disposed_each, delivered_each}
 use Rattle.marked_history.proofs.Carrying.{responded_each, made_each, sent_each}
+use Rattle.marked_history.proofs.Seen.{over}
 
 -- ---- a session's call
 
@@ -135,40 +138,45 @@ module _ (s : Superblock) (st : State) where
   of_parked_more es more t None is = tt
   of_parked_more es more t (Some h) is = parked_more es more t h is
 
-  -- after an entry more
-  module _ (done : List Entry) where
+  -- after an entry more, which was answered over what was seen
+  module _ (done : List Entry) (seen : Held) (alike : blanked seen ≡ blanked (state_by s st done).held) where
     abbrev now : State
-    now = state_by s st done
+    now = over (state_by s st done) seen
 
     abbrev after : Actor → Action → Answer → List Entry
     after who what answer = done ++ entry_of who what answer ∷ []
 
-    has_parked : (c : ℕ) (what : Action) (t : Token) (h : Handle) → WaitsOn s (left_own s now (Caller c) what) c t h → WasParked s st (after (Caller c) what (Replied (Parked t))) t h
-    has_parked c what t h waits = record {
+    ends : (who : Actor) (what : Action) (answer : Answer) → IsOwn s now who what answer → state_by s st (after who what answer) ≡ over (left_by s now who what answer) (left_by s (state_by s st done) who what answer).held
+    ends who what answer is = state_by-push s st done (entry_of who what answer) ∙ left_alike s (state_by s st done) seen alike who what answer is
+
+    has_parked : (c : ℕ) (what : Action) (t : Token) (h : Handle) → IsOwn s now (Caller c) what (Replied (Parked t)) → WaitsOn s (left_own s now (Caller c) what) c t h → WasParked s st (after (Caller c) what (Replied (Parked t))) t h
+    has_parked c what t h is waits = record {
       before = done;
       caller = c;
       action = what;
       rest = [];
       parted = refl;
-      waits = subst (λ (x : State). WaitsOn s x c t h) (sym (state_by-push s st done (entry_of (Caller c) what (Replied (Parked t))))) waits;
+      waits = subst (λ (x : State). WaitsOn s x c t h) (sym (ends (Caller c) what (Replied (Parked t)) is)) (record { access = waits.access; waits = waits.waits; token = waits.token; handle = waits.handle });
     }
 
-    of_parked : (c : ℕ) (what : Action) (reply : Reply) (m : Message) (h : Handle) → m.handle ≡ Some h → reply ≡ Parked m.token → WaitsOn s (left_own s now (Caller c) what) c m.token h → IsOfParked (after (Caller c) what (Replied reply)) m
-    of_parked c what reply m h has parks waits = rw has (subst (λ (r : Reply). WasParked s st (after (Caller c) what (Replied r)) m.token h) (sym parks) (has_parked c what m.token h waits))
+    of_parked : (c : ℕ) (what : Action) (reply : Reply) (m : Message) (h : Handle) → IsOwn s now (Caller c) what (Replied reply) → m.handle ≡ Some h → reply ≡ Parked m.token → WaitsOn s (left_own s now (Caller c) what) c m.token h → IsOfParked (after (Caller c) what (Replied reply)) m
+    of_parked c what reply m h is has parks waits =
+        let own : IsOwn s now (Caller c) what (Replied (Parked m.token)) = subst (λ (r : Reply). IsOwn s now (Caller c) what (Replied r)) parks is in
+        rw has (subst (λ (r : Reply). WasParked s st (after (Caller c) what (Replied r)) m.token h) (sym parks) (has_parked c what m.token h own waits))
 
-    posts_each : (c : ℕ) (what : Action) (reply : Reply) → PostsParked s now (left_own s now (Caller c) what) c reply → Each (IsOfParked (after (Caller c) what (Replied reply))) now.sessions
+    posts_each : (c : ℕ) (what : Action) (reply : Reply) → IsOwn s now (Caller c) what (Replied reply) → PostsParked s now (left_own s now (Caller c) what) c reply → Each (IsOfParked (after (Caller c) what (Replied reply))) now.sessions
         → Each (IsOfParked (after (Caller c) what (Replied reply))) (left_own s now (Caller c) what).sessions
-    posts_each c what reply (inl same) each = subst (λ (t : SessionTable). Each (IsOfParked (after (Caller c) what (Replied reply))) t) (sym same) each
-    posts_each c what reply (inr p) each =
+    posts_each c what reply is (inl same) each = subst (λ (t : SessionTable). Each (IsOfParked (after (Caller c) what (Replied reply))) t) (sym same) each
+    posts_each c what reply is (inr p) each =
         subst (λ (t : SessionTable). Each (IsOfParked (after (Caller c) what (Replied reply))) t) (sym p.posts)
-        (posted_each (IsOfParked (after (Caller c) what (Replied reply))) p.message now.sessions each (of_parked c what reply p.message p.handle p.has p.parks p.waits))
+        (posted_each (IsOfParked (after (Caller c) what (Replied reply))) p.message now.sessions each (of_parked c what reply p.message p.handle is p.has p.parks p.waits))
 
     own_each : (who : Actor) (what : Action) (answer : Answer) → IsOwn s now who what answer → Each (IsOfParked (after who what answer)) now.sessions → Each (IsOfParked (after who what answer)) (left_own s now who what).sessions
     own_each (Caller c) (Issue call) answer is each =
-        let whole = posts_each c (Issue call) _ (posts_where s now c (flags_now now c (Issue call)) (objection_in s now c (Issue call)) (meant_in now c (Issue call))) in
+        let whole = posts_each c (Issue call) (reply_to s now c (Issue call)) (is.0, refl) (posts_where s now c (flags_now now c (Issue call)) (objection_in s now c (Issue call)) (meant_in now c (Issue call))) in
         rw is.1 (whole (rw is.1 at each))
     own_each (Caller c) Resume answer is each =
-        let whole = posts_each c Resume _ (posts_where s now c (flags_now now c Resume) (objection_in s now c Resume) (meant_in now c Resume)) in
+        let whole = posts_each c Resume (reply_to s now c Resume) (is.0, refl) (posts_where s now c (flags_now now c Resume) (objection_in s now c Resume) (meant_in now c Resume)) in
         rw is.1 (whole (rw is.1 at each))
     own_each (Session sid) (Dm call) answer is each = told_each (IsOfParked (after (Session sid) (Dm call) answer)) (λ t body. tt) now each (dm_judged s now sid call) s sid call
     own_each who what answer is each = each
@@ -177,29 +185,35 @@ module _ (s : Superblock) (st : State) where
     if_each P true own each is = each
     if_each P false own each is = is refl
 
-    left_each : (who : Actor) (what : Action) (answer : Answer) → IsAnswer s now who what answer → Each (IsOfParked (after who what answer)) now.sessions → Each (IsOfParked (after who what answer)) (left_by s now who what answer).sessions
-    left_each who what answer (inl is) each = let fault : is_fault answer ≡ true = ap is_fault is.1 ∙ fault_is what in rw fault each
-    left_each who what answer (inr is) each =
+    left_each : (who : Actor) (what : Action) (answer : Answer) → IsOwn s now who what answer → Each (IsOfParked (after who what answer)) now.sessions → Each (IsOfParked (after who what answer)) (left_by s now who what answer).sessions
+    left_each who what answer is each =
         if_each (IsOfParked (after who what answer)) (is_fault answer) (left_answered s now who what answer) each
         (λ none. subst (λ (x : State). Each (IsOfParked (after who what answer)) x.sessions) (sym (left_own_by s now who what answer is)) (own_each who what answer is each))
-
-    next_each : (e : Entry) → IsAnswer s now e.actor e.action e.answer → Each (IsOfParked done) now.sessions → Each (IsOfParked (done ++ e ∷ [])) (state_by s st (done ++ e ∷ [])).sessions
-    next_each e is each = subst (λ (x : State). Each (IsOfParked (done ++ e ∷ [])) x.sessions) (sym (state_by-push s st done e))
-        (left_each e.actor e.action e.answer is (each_weaker (IsOfParked done) (IsOfParked (done ++ e ∷ [])) (λ m. of_parked_more done (e ∷ []) m.token m.handle) now.sessions each))
 
   -- ---- whole histories
 
   abbrev EachAt : List Entry → Type 0
   EachAt es = Each (IsOfParked es) (state_by s st es).sessions
 
-  each_at : (done before : List Entry) (e : Entry) (rest : List Entry) → Exact s (state_by s st done) (before ++ e ∷ rest) → EachAt done → EachAt (done ++ before) × IsAnswer s (state_by s st (done ++ before)) e.actor e.action e.answer
-  each_at done [] e rest exact each = subst (λ (l : List Entry). EachAt l × IsAnswer s (state_by s st l) e.actor e.action e.answer) (sym (append-nil done)) (each, exact.0)
+  next_each : (done : List Entry) (e : Entry) → IsAnswerSeen ⊥ s (state_by s st done) e.actor e.action e.answer → EachAt done → EachAt (done ++ e ∷ [])
+  next_each done e answer each = by answer (each_weaker (IsOfParked done) (IsOfParked (done ++ e ∷ [])) (λ m. of_parked_more done (e ∷ []) m.token m.handle) (state_by s st done).sessions each)
+    where
+      by : IsAnswerSeen ⊥ s (state_by s st done) e.actor e.action e.answer → Each (IsOfParked (done ++ e ∷ [])) (state_by s st done).sessions → EachAt (done ++ e ∷ [])
+      by (inl is) more =
+          let fault : is_fault e.answer ≡ true = ap is_fault is.1 ∙ fault_is e.action in
+          let still : Each (IsOfParked (done ++ e ∷ [])) (left_by s (state_by s st done) e.actor e.action e.answer).sessions = rw fault more in
+          subst (λ (x : State). Each (IsOfParked (done ++ e ∷ [])) x.sessions) (sym (state_by-push s st done e)) still
+      by (inr is) more =
+          subst (λ (x : State). Each (IsOfParked (done ++ e ∷ [])) x.sessions) (sym (ends done is.0 is.1.alike e.actor e.action e.answer is.2)) (left_each done is.0 is.1.alike e.actor e.action e.answer is.2 more)
+
+  each_at : (done before : List Entry) (e : Entry) (rest : List Entry) → ExactSeen ⊥ s (state_by s st done) (before ++ e ∷ rest) → EachAt done → EachAt (done ++ before)
+  each_at done [] e rest exact each = subst EachAt (sym (append-nil done)) each
   each_at done (x ∷ more) e rest exact each =
-      subst (λ (l : List Entry). EachAt l × IsAnswer s (state_by s st l) e.actor e.action e.answer) (append_assoc done (x ∷ []) more)
-      (each_at (done ++ x ∷ []) more e rest (subst (λ (y : State). Exact s y (more ++ e ∷ rest)) (sym (state_by-push s st done x)) exact.2) (next_each done x exact.0 each))
+      subst EachAt (append_assoc done (x ∷ []) more)
+      (each_at (done ++ x ∷ []) more e rest (subst (λ (y : State). ExactSeen ⊥ s y (more ++ e ∷ rest)) (sym (state_by-push s st done x)) exact.2) (next_each done x exact.0 each))
 
   -- each message of the sessions before an entry
-  pub each_parked : (es : List Entry) → st.sessions ≡ no_sessions → Exact s st es → (before : List Entry) (e : Entry) (rest : List Entry) → es ≡ before ++ e ∷ rest → EachAt before
+  pub each_parked : (es : List Entry) → st.sessions ≡ no_sessions → ExactSeen ⊥ s st es → (before : List Entry) (e : Entry) (rest : List Entry) → es ≡ before ++ e ∷ rest → EachAt before
   each_parked es none exact before e rest is =
       let first : EachAt [] = subst (λ (t : SessionTable). Each (IsOfParked []) t) (sym none) (none_each (IsOfParked [])) in
-      (each_at [] before e rest (subst (λ (l : List Entry). Exact s st l) is exact) first).0
+      each_at [] before e rest (subst (λ (l : List Entry). ExactSeen ⊥ s st l) is exact) first

@@ -36,12 +36,13 @@ use Rattle.migrate_daemon.specs.Known as migrate
 use Rattle.hsm_core.specs.Answers.{entry_of}
 use Rattle.hsm_core.specs.Packed.{HandsBy}
 use Rattle.marked_history.specs.Marks.{Mark, entries_of, exchange_by, no_daemons, made}
-use Rattle.marked_history.specs.Served.{Shown, nothing_shown, with_entry, shown, RecallMay, MigrateMay, IsServedBy}
+use Rattle.marked_history.specs.Served.{Shown, nothing_shown, with_entry, learned, shown, RecallMay, MigrateMay, IsServedBy}
 use Rattle.marked_history.specs.Tokens.{IsTaken, KeepsAll, ServedKeepsAll}
 use Rattle.marked_history.proofs.Carrying.{Each, none_each, posted_each}
 use Rattle.marked_history.proofs.Handing.{told_each, PostsParked}
 use Rattle.marked_history.proofs.AnyAnswer.{left_so}
 use Rattle.marked_history.proofs.Seating.{migrate_so}
+use Rattle.marked_history.proofs.Seen.{over, is_over, ordered_over, hands_over}
 use Rattle.marked_history.proofs.Walking.{KeptBy, kept_behind}
 use Rattle.marked_history.proofs.Remembering.{leads, stays}
 use Rattle.marked_history.proofs.Leaving.{left_given, Hands, told_gone, IsOn, own_reply, done_left}
@@ -273,7 +274,11 @@ AllFollow done now k = Each HasToken now.sessions × Follows done now.sessions k
 
 all_follow : (limits : Numbers) (s : Superblock) → KeptBy limits s AllFollow
 all_follow limits s done now k m ordered answer hands served is =
-    (left_tokened s now is.0 m.entry.actor m.entry.action m.entry.answer, step s now ordered done is.0 limits k is.1 m.by m.entry.actor m.entry.action m.entry.answer answer hands served)
+    let there = is_over s now m.entry.actor m.entry.action m.entry.answer answer in (
+      left_tokened s now is.0 m.entry.actor m.entry.action m.entry.answer,
+      subst (λ (left : State). Follows (done ++ m ∷ []) left.sessions (learned limits k m)) (sym there.left)
+          (step s (over now there.seen) (ordered_over now there.seen ordered) done is.0 limits k is.1 m.by m.entry.actor m.entry.action m.entry.answer there.exact (hands_over now there.seen m.entry.actor m.entry.action m.entry.answer hands) served),
+    )
 
 first_follows : (t : SessionTable) → Follows [] t nothing_shown
 first_follows t = record {

@@ -5,6 +5,7 @@ pub mod Handing
 mod AnyAnswer
 pub mod Seating
 mod Remembering
+mod Seen
 mod Walking
 mod Causing
 mod Outstanding

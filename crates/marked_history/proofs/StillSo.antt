@@ -16,10 +16,11 @@ use Rattle.plain_model.specs.declared.entries.Action.TheVariants.{Dm}
 use Rattle.plain_model.specs.declared.entries.Actor.TheVariants.{Session}
 use Rattle.plain_model.specs.declared.entries.Answer.TheVariants.{Dm as Told}
 use Rattle.plain_model.specs.declared.entries.Entry.{Entry}
-use Rattle.plain_model.specs.Exact.{IsAnswer, Exact, state_by}
+use Rattle.plain_model.specs.Exact.{IsAnswer, ExactSeen, state_by}
 use Rattle.plain_model.specs.Faults.{fault_of}
 use Rattle.plain_model.specs.Services.{dm_judged, dm_reply_where, dm_reply_to}
 use Rattle.plain_model.specs.State.{Held, State, used}
+use Rattle.plain_model.proofs.Alike.{used_alike}
 use Rattle.hsm_policy.specs.Settings.{Numbers}
 use Rattle.hsm_core.specs.Answers.{entry_of}
 use Rattle.migrate_daemon.specs.declared.shares.Space.{Space}
@@ -29,6 +30,7 @@ use Rattle.marked_history.specs.Settling.{IsCrowded}
 use Rattle.marked_history.specs.Waiting.{no_more}
 use Rattle.marked_history.proofs.Granting.{refused_so}
 use Rattle.marked_history.proofs.Lists.{parts}
+use Rattle.marked_history.proofs.Seen.{over}
 use Rattle.marked_history.proofs.Waiting.{quiet_at}
 
 -- ---- what an answer tells of the state before it
@@ -62,13 +64,13 @@ module _ (s : Superblock) (st : State) (sid : Sid) where
 
 -- ---- behind quiet entries
 
-module _ (s : Superblock) (st : State) (es first turns : List Entry) (exact : Exact s st es) (whole : es ≡ first ++ turns) (quiet : list_all is_quiet turns ≡ true) where
+module _ (s : Superblock) (st : State) (es first turns : List Entry) (exact : ExactSeen ⊥ s st es) (whole : es ≡ first ++ turns) (quiet : list_all is_quiet turns ≡ true) where
   -- a session that was told of no more events lives on
   pub lives_still : (sid : Sid) → Contains turns (no_more sid) → lives sid (state_by s st es).sessions ≡ true
   lives_still sid there =
       let p = parts turns (no_more sid) there in
       let here = quiet_at s st es first turns p.0 (no_more sid) p.1 exact whole quiet p.2 in
-      ap (lives sid) here.same.0 ∙ told_live s here.now sid here.answer
+      ap (lives sid) here.same.0 ∙ told_live s (over here.now here.answer.seen) sid here.answer.exact
 
   -- a store of which a session was told so of the space isn't crowded
   pub spacious_still : (limits : Numbers) (sid : Sid) (space : Space) → Contains turns (entry_of (Session sid) (Dm GetSpace) (Told (TheSpace space.used space.total))) → is_above limits.high (Some space) ≡ false → IsCrowded limits s (state_by s st es) → ⊥
@@ -76,7 +78,7 @@ module _ (s : Superblock) (st : State) (es first turns : List Entry) (exact : Ex
       let asked : Entry = entry_of (Session sid) (Dm GetSpace) (Told (TheSpace space.used space.total)) in
       let p = parts turns asked there in
       let here = quiet_at s st es first turns p.0 asked p.1 exact whole quiet p.2 in
-      let so = told_space s here.now sid space.used space.total here.answer in
-      let count : space.used ≡ used (state_by s st es).held.files = so.0 ∙ sym (ap (λ (x : Held). used x.files) here.same.2) in
+      let so = told_space s (over here.now here.answer.seen) sid space.used space.total here.answer.exact in
+      let count : space.used ≡ used (state_by s st es).held.files = so.0 ∙ used_alike here.now.held here.answer.seen here.answer.alike ∙ sym (ap (λ (x : Held). used x.files) here.same.2) in
       let same : is_above limits.high (Some space) ≡ nat_lt (share limits.high s.geometry.blocks) (used (state_by s st es).held.files) = ap₂ (λ (u t : ℕ). nat_lt (share limits.high t) u) count so.1 in
       false≢true (sym below ∙ same ∙ crowded)

@@ -36,7 +36,7 @@ use Rattle.plain_model.specs.Verdict.{flags_now, objection_in, meant_in, reply_t
 use Rattle.plain_model.specs.Services.{dm_judged, dm_state_where}
 use Rattle.plain_model.specs.Stands.{InOrder}
 use Rattle.plain_model.specs.Faults.{is_fault}
-use Rattle.plain_model.specs.Exact.{IsOwn, IsAnswer, left_own, left_by, state_by}
+use Rattle.plain_model.specs.Exact.{IsOwn, IsAnswer, IsAnswerSeen, left_own, left_by, state_by}
 use Rattle.plain_model.proofs.Faultless.{fault_is}
 use Rattle.plain_model.proofs.Ledgers.{Moves, event_moves}
 use Rattle.plain_model.proofs.Seeing.{exact_left}
@@ -55,6 +55,7 @@ use Rattle.marked_history.proofs.Carrying.{Each, each_weaker, none_each, queue_o
 use Rattle.marked_history.proofs.Handing.{Makes, made_told, PostsParked, posts_where}
 use Rattle.marked_history.proofs.Lists.{none_there, place}
 use Rattle.marked_history.proofs.Walking.{KeptBy, kept_behind}
+use Rattle.marked_history.proofs.Seen.{over, is_over, ordered_over}
 use Rattle.marked_history.proofs.Remembering.{TellsOnly, recall_kept, migrate_kept, tells_each}
 
 -- ---- of each token its message
@@ -181,6 +182,13 @@ module _ (s : Superblock) (st : State) (f : Register) (is : IsRegister f st.ledg
       let left = exact_left s st who what answer (inr own) in
       subst NextOf (sym left) (if_next (is_fault answer) who what answer own (subst (λ (after : State). Moves st.ledger after.ledger who what answer) left (event_moves s st who what answer ordered (inr own))))
 
+-- on any disk
+seen_next : (s : Superblock) (st : State) (f : Register) → IsRegister f st.ledger.top st.sessions → (who : Actor) (what : Action) (answer : Answer) → InOrder st → IsAnswerSeen ⊥ s st who what answer → Next f st.ledger.top (left_by s st who what answer)
+seen_next s st f is who what answer ordered given =
+    let there = is_over s st who what answer given in
+    let next = left_next s (over st there.seen) f is who what answer (ordered_over st there.seen ordered) there.exact in
+    subst (Next f st.ledger.top) (sym there.left) (record { next = next.next; rises = next.rises; same = next.same; is = next.is })
+
 -- ---- events and files of tokens
 
 -- the event is that of the token's message
@@ -278,7 +286,7 @@ record Registered (st : State) (marks : List Mark) (k : Shown) : Type 0 where
 
 registered_next : (limits : Numbers) (s : Superblock) → KeptBy limits s (λ done now k. Registered now done k)
 registered_next limits s done now k m ordered answer hands served r =
-    let next = left_next s now r.register r.is m.entry.actor m.entry.action m.entry.answer ordered answer in
+    let next = seen_next s now r.register r.is m.entry.actor m.entry.action m.entry.answer ordered answer in
     record {
       register = next.next;
       is = next.is;

@@ -51,10 +51,11 @@ use Rattle.plain_model.specs.Verdict.{flags_now, objection_in, reply_where, repl
 use Rattle.plain_model.specs.Services.{dm_judged, dm_reply_to}
 use Rattle.plain_model.specs.Stands.{InOrder}
 use Rattle.plain_model.specs.Faults.{is_fault, fault_of, FaultIsLast}
-use Rattle.plain_model.specs.Exact.{IsAnswer, left_answered, left_by, Exact, state_by}
-use Rattle.plain_model.specs.Laws.{IsRun}
+use Rattle.plain_model.specs.Exact.{IsAnswer, left_answered, left_by, ExactSeen, state_by}
+use Rattle.plain_model.specs.Laws.{IsRunSeen}
+use Rattle.plain_model.proofs.AnyDisk.{state_seen_ordered}
 use Rattle.plain_model.proofs.Faultless.{fault_is}
-use Rattle.plain_model.proofs.Orders.{ordered_at_first, state_ordered}
+use Rattle.plain_model.proofs.Orders.{ordered_at_first}
 use Rattle.file_store.specs.Stores.{superblock_of}
 use Rattle.hsm_policy.specs.Settings.{Numbers}
 use Rattle.daemon_session.specs.declared.events.Kept.{Kept}
@@ -72,6 +73,7 @@ use Rattle.marked_history.specs.Waiting.{Running, IsServable, IsForeign, IsHeldU
 use Rattle.marked_history.specs.Waiting.{IsAtRest, SettledWaits}
 use Rattle.marked_history.proofs.Lists.{none_in, none_there, parts}
 use Rattle.marked_history.proofs.Granting.{refused_so, judged_busy, hindered_by, exact_rest, served_holds_granted}
+use Rattle.marked_history.proofs.Seen.{over, IsOver, is_over}
 use Rattle.marked_history.proofs.KeepingAll.{served_keeps_all}
 use Rattle.marked_history.proofs.QuietEvents.{all_quiet_append, told_quiet, ready_seen, ready_in, ready_by_state}
 use Rattle.marked_history.proofs.TellingOne.{served_tells_one}
@@ -210,19 +212,19 @@ module _ (s : Superblock) where
   -- an entry after which all is quiet, with what is so in the state before it
   pub record IsAt (st : State) (es : List Entry) (e : Entry) (rest : List Entry) : Type 0 where
     pub now : State
-    pub answer : IsAnswer s now e.actor e.action e.answer
+    pub answer : IsOver s now e.actor e.action e.answer
     pub last : FaultIsLast e rest
     pub same : Same now (state_by s st es)
 
-  pub quiet_at : (st : State) (es first turns a : List Entry) (e : Entry) (rest : List Entry) → Exact s st es → es ≡ first ++ turns → list_all is_quiet turns ≡ true → turns ≡ a ++ e ∷ rest → IsAt st es e rest
+  pub quiet_at : (st : State) (es first turns a : List Entry) (e : Entry) (rest : List Entry) → ExactSeen ⊥ s st es → es ≡ first ++ turns → list_all is_quiet turns ≡ true → turns ≡ a ++ e ∷ rest → IsAt st es e rest
   quiet_at st es first turns a e rest exact whole quiet is =
       let parted : es ≡ (first ++ a) ++ e ∷ rest = whole ∙ ap (λ (l : List Entry). first ++ l) is ∙ sym (append_assoc first a (e ∷ rest)) in
       let now : State = state_by s st (first ++ a) in
-      let own : Exact s now (e ∷ rest) = exact_rest s st (first ++ a) (e ∷ rest) (subst (Exact s st) parted exact) in
+      let own : ExactSeen ⊥ s now (e ∷ rest) = exact_rest s st (first ++ a) (e ∷ rest) (subst (ExactSeen ⊥ s st) parted exact) in
       let ends : state_by s st es ≡ state_by s now (e ∷ rest) = ap (state_by s st) parted ∙ state_rest st (first ++ a) (e ∷ rest) in
       record {
         now = now;
-        answer = own.0;
+        answer = is_over s now e.actor e.action e.answer own.0;
         last = own.1;
         same = subst (Same now) (sym ends) (quiet_same now (e ∷ rest) (all_quiet_append a (e ∷ rest) (subst (λ (l : List Entry). list_all is_quiet l ≡ true) is quiet)).1);
       }
@@ -281,9 +283,9 @@ module _ (r : Running) (limits : Numbers) (s : Superblock) (base : ℕ) (h : Hel
   abbrev Servable : Daemon → Message → Type 0
   Servable daemon m = IsServable r k marks st daemon m
 
-  module _ (served : Served limits marks) (run : IsRun s base h es) (packed : ArePacked s first es) (rest : IsAtRest r k s first es) where
+  module _ (served : Served limits marks) (run : IsRunSeen ⊥ s base h es) (packed : ArePacked s first es) (rest : IsAtRest r k s first es) where
     ordered : InOrder st
-    ordered = state_ordered s first es (ordered_at_first base h) run.exact
+    ordered = state_seen_ordered ⊥ s first es (ordered_at_first base h) run.exact
 
     tells : TellsOne limits st.sessions marks
     tells = served_tells_one limits s base h marks es refl served run packed
@@ -299,7 +301,7 @@ module _ (r : Running) (limits : Numbers) (s : Superblock) (base : ℕ) (h : Hel
     none_queued sid there =
         let p = parts turns (no_more sid) there in
         let here = at p.0 (no_more sid) p.1 p.2 in
-        ap (queue_of sid) here.same.0 ∙ told_again s here.now sid here.answer
+        ap (queue_of sid) here.same.0 ∙ told_again s (over here.now here.answer.seen) sid here.answer.exact
 
     -- a request of the turn is hindered by another token that has a right now
     module _ (rests : RecallRests k.recall.seat rest.recall_turn) (t : Token) (handle : Handle) (cause : DmRefusal) (off : PutsOff cause) where
@@ -310,14 +312,15 @@ module _ (r : Running) (limits : Numbers) (s : Superblock) (base : ℕ) (h : Hel
       never_last l is = none_there l (no_more rests.sid) rest.migrate_turn (sym is ∙ append_assoc l (no_more rests.sid ∷ []) rest.migrate_turn)
 
       busy_at : (more : List Entry) → (more ≡ [] → ⊥) → IsAt s first es asked more → (other : Token) × IsHindered st.rights t handle.key Excl other
-      busy_at more some here = by here.answer
+      busy_at more some here = by here.answer.seen here.answer.exact
         where
-          by : IsAnswer s here.now (Session rests.sid) (Dm (RequestRight t handle Excl)) (Told (Refused cause)) → (other : Token) × IsHindered st.rights t handle.key Excl other
-          by (inl is) = absurd (some (here.last (ap is_fault is.1 ∙ fault_is (Dm (RequestRight t handle Excl)))))
-          by (inr is) =
-              let own : Told (Refused cause) ≡ Told (dm_reply_to s here.now rests.sid (RequestRight t handle Excl)) = is.1 in
-              let judged : dm_judged s here.now rests.sid (RequestRight t handle Excl) ≡ Some cause = refused_so (dm_judged s here.now rests.sid (RequestRight t handle Excl)) s here.now rests.sid (RequestRight t handle Excl) cause cc in
-              let busy = judged_busy s here.now rests.sid t handle Excl cause off judged in
+          by : (seen : Held) → IsAnswer s (over here.now seen) (Session rests.sid) (Dm (RequestRight t handle Excl)) (Told (Refused cause)) → (other : Token) × IsHindered st.rights t handle.key Excl other
+          by seen (inl is) = absurd (some (here.last (ap is_fault is.1 ∙ fault_is (Dm (RequestRight t handle Excl)))))
+          by seen (inr is) =
+              let there : State = over here.now seen in
+              let own : Told (Refused cause) ≡ Told (dm_reply_to s there rests.sid (RequestRight t handle Excl)) = is.1 in
+              let judged : dm_judged s there rests.sid (RequestRight t handle Excl) ≡ Some cause = refused_so (dm_judged s there rests.sid (RequestRight t handle Excl)) s there rests.sid (RequestRight t handle Excl) cause cc in
+              let busy = judged_busy s there rests.sid t handle Excl cause off judged in
               (busy.0, hindered_by handle.key Excl t busy.0 st.rights ordered.rights (ap (conflict handle.key Excl t) here.same.1 ∙ busy.1))
 
       hindered_in : Contains rests.first asked ⊎ (no_more rests.sid ≡ asked) → (other : Token) × IsHindered st.rights t handle.key Excl other
@@ -448,6 +451,6 @@ module _ (r : Running) (limits : Numbers) (s : Superblock) (base : ℕ) (h : Hel
 pub settled_waits : (r : Running) (limits : Numbers) (s : Superblock) (base : ℕ) (h : Held) (marks : List Mark) (history : List Entry) → SettledWaits r limits s base h marks history
 settled_waits r limits s base h marks history same served run packed rest c a caller waits =
     subst (λ (l : List Entry). MayWait r (shown limits nothing_shown marks) marks (state_by s (just_opened base h) l) s c a) same
-    (may_wait r limits s base h marks served (subst (λ (l : List Entry). IsRun s base h l) (sym same) run) (subst (λ (l : List Entry). ArePacked s (just_opened base h) l) (sym same) packed)
+    (may_wait r limits s base h marks served (subst (λ (l : List Entry). IsRunSeen ⊥ s base h l) (sym same) run) (subst (λ (l : List Entry). ArePacked s (just_opened base h) l) (sym same) packed)
     (subst (λ (l : List Entry). IsAtRest r (shown limits nothing_shown marks) s (just_opened base h) l) (sym same) rest) c a caller
     (subst (λ (l : List Entry). (state_by s (just_opened base h) l).ledger.pending c ≡ Some a) (sym same) waits))

@@ -20,7 +20,7 @@ use Rattle.plain_model.specs.declared.entries.Entry.{Entry}
 use Rattle.plain_model.specs.Ledger.{Access}
 use Rattle.plain_model.specs.State.{Held, State, just_opened}
 use Rattle.plain_model.specs.Exact.{state_by}
-use Rattle.plain_model.specs.Laws.{IsRun}
+use Rattle.plain_model.specs.Laws.{IsRunSeen}
 use Rattle.hsm_policy.specs.Settings.{Numbers}
 use Rattle.hsm_core.specs.Answers.{entry_of}
 use Rattle.hsm_core.specs.Packed.{ArePacked}
@@ -68,4 +68,4 @@ Caused s st es = (before : List Entry) (sid : Sid) (t : Token) (fault : Fault) (
 
 -- of each run that is served, with all its buffers packed
 abbrev pub ServedIsCaused : Numbers → Superblock → ℕ → Held → List Mark → List Entry → Type 0
-ServedIsCaused limits s base h marks es = entries_of marks ≡ es → Served limits marks → IsRun s base h es → ArePacked s (just_opened base h) es → Caused s (just_opened base h) es
+ServedIsCaused limits s base h marks es = entries_of marks ≡ es → Served limits marks → IsRunSeen ⊥ s base h es → ArePacked s (just_opened base h) es → Caused s (just_opened base h) es

@@ -12,7 +12,7 @@ use Rattle.hsm_types.specs.declared.stores.Superblock.{Superblock}
 use Rattle.plain_model.specs.declared.entries.Entry.{Entry}
 use Rattle.plain_model.specs.State.{Held, State, just_opened}
 use Rattle.plain_model.specs.Exact.{state_by}
-use Rattle.plain_model.specs.Laws.{IsRun}
+use Rattle.plain_model.specs.Laws.{IsRunSeen}
 use Rattle.hsm_policy.specs.Settings.{Numbers}
 use Rattle.daemon_session.specs.Seats.{first_id}
 use Rattle.marked_history.specs.Marks.{Mark, entries_of, made}
@@ -45,7 +45,7 @@ abbrev pub MakesAnew : Superblock → State → List Mark → Type 0
 MakesAnew s st marks = (before : List Mark) (daemon : Daemon) (sid : Sid) (info : List ℕ) (reply : DmReply) (rest : List Mark) → marks ≡ before ++ made daemon sid (CreateSession first_id info) reply ∷ rest → IsAlone s st daemon before
 
 abbrev pub ServedMakesAnew : Numbers → Superblock → ℕ → Held → List Mark → List Entry → Type 0
-ServedMakesAnew limits s base h marks es = entries_of marks ≡ es → Served limits marks → IsRun s base h es → MakesAnew s (just_opened base h) marks
+ServedMakesAnew limits s base h marks es = entries_of marks ≡ es → Served limits marks → IsRunSeen ⊥ s base h es → MakesAnew s (just_opened base h) marks
 
 -- ---- sessions in the place of another
 

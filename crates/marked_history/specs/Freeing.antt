@@ -13,7 +13,7 @@ use Rattle.plain_model.specs.declared.entries.Answer.TheVariants.{Dm as Told}
 use Rattle.plain_model.specs.declared.entries.Entry.{Entry}
 use Rattle.plain_model.specs.Effects.{punch_from, punch_to}
 use Rattle.plain_model.specs.Exact.{held_by}
-use Rattle.plain_model.specs.Laws.{IsRun}
+use Rattle.plain_model.specs.Laws.{IsRunSeen}
 use Rattle.plain_model.specs.State.{Held, file_at, used}
 use Rattle.hsm_core.specs.Answers.{entry_of}
 
@@ -33,4 +33,4 @@ PunchesFree s base h es = (before : List Entry) (sid : Sid) (t : Token) (handle 
 
 -- so it is in each run
 abbrev pub PunchFrees : Superblock → ℕ → Held → List Entry → Type 0
-PunchFrees s base h es = IsRun s base h es → PunchesFree s base h es
+PunchFrees s base h es = IsRunSeen ⊥ s base h es → PunchesFree s base h es

@@ -95,14 +95,9 @@ module _ (limits : Numbers) (s : Superblock) (first : State) where
     pub works : (daemon : Daemon) → runs daemon r ≡ true → IsAtWork daemon (shown limits nothing_shown (before ++ part)) (state_by s first (entries_of (before ++ part))) part ⊎ IsTurnedAway daemon part
     pub spares : r.migrate ≡ true → (sid : Sid) → IsSeated (shown limits nothing_shown (before ++ part)).migrate.seat sid → IsCrowded limits s (state_by s first (entries_of (before ++ part))) → BeginsPass part
 
--- ---- where the disk tells what it holds
-
--- What settles have come to is said of what daemons read of files and were told by them, so it is said where the disk tells. Which marks are those of a line,
--- which daemons run, and how a daemon's life begins is so on any disk.
-module _ (Told : Type 0) (limits : Numbers) (s : Superblock) (first : State) where
   -- so it is where the line settles
   abbrev pub LeavesSettled : Line → Running → (before part : List Mark) → Type 0
-  LeavesSettled Settle r before part = Told → HasSettled limits s first r before part
+  LeavesSettled Settle r before part = HasSettled r before part
   LeavesSettled line r before part = Unit {0}
 
   -- ---- over all lines

@@ -26,7 +26,7 @@ use Rattle.plain_model.specs.declared.entries.Answer.TheVariants.{Dm as Told}
 use Rattle.plain_model.specs.declared.entries.Entry.{Entry}
 use Rattle.plain_model.specs.State.{Held, State, just_opened}
 use Rattle.plain_model.specs.Exact.{state_by}
-use Rattle.plain_model.specs.Laws.{IsRun}
+use Rattle.plain_model.specs.Laws.{IsRunSeen}
 use Rattle.hsm_policy.specs.Settings.{Numbers}
 use Rattle.daemon_session.specs.declared.events.Event.{Event}
 use Rattle.daemon_session.specs.declared.events.Kept.{Kept}
@@ -75,7 +75,7 @@ KeepsAll daemon limits s st marks = (sid : Sid) (m : Message) → IsSeated (seat
     → Keeps (seat_of daemon (shown limits nothing_shown marks)).kept m.token ⊎ IsTaken daemon marks m.token
 
 abbrev pub ServedKeepsAll : Daemon → Numbers → Superblock → ℕ → Held → List Mark → List Entry → Type 0
-ServedKeepsAll daemon limits s base h marks es = entries_of marks ≡ es → Served limits marks → IsRun s base h es → ArePacked s (just_opened base h) es → KeepsAll daemon limits s (just_opened base h) marks
+ServedKeepsAll daemon limits s base h marks es = entries_of marks ≡ es → Served limits marks → IsRunSeen ⊥ s base h es → ArePacked s (just_opened base h) es → KeepsAll daemon limits s (just_opened base h) marks
 
 -- ---- what tokens hold
 
@@ -104,7 +104,7 @@ abbrev pub HoldsGranted : Superblock → State → List Mark → Type 0
 HoldsGranted s st marks = (t : Token) (k : FileKey) → right_of t k (state_by s st (entries_of marks)).rights ≢ Null → IsNamed marks t ⊎ ((right_of t k (state_by s st (entries_of marks)).rights ≡ Excl) × IsGranted marks t k)
 
 abbrev pub ServedHoldsGranted : Numbers → Superblock → ℕ → Held → List Mark → List Entry → Type 0
-ServedHoldsGranted limits s base h marks es = entries_of marks ≡ es → Served limits marks → IsRun s base h es → HoldsGranted s (just_opened base h) marks
+ServedHoldsGranted limits s base h marks es = entries_of marks ≡ es → Served limits marks → IsRunSeen ⊥ s base h es → HoldsGranted s (just_opened base h) marks
 
 -- ---- requests that another token hinders
 
@@ -117,7 +117,7 @@ pub record IsHindered (rights : Rights) (t : Token) (k : FileKey) (right : Right
 
 -- in the state before it, each request of a run that is answered so
 abbrev pub RequestIsGranted : Superblock → ℕ → Held → List Entry → Type 0
-RequestIsGranted s base h es = IsRun s base h es
+RequestIsGranted s base h es = IsRunSeen ⊥ s base h es
     → (before : List Entry) (sid : Sid) (t : Token) (handle : Handle) (right : Right) (other : Token) (rest : List Entry) → es ≡ before ++ entry_of (Session sid) (Dm (RequestRight t handle right)) (Told (Refused (Busy other))) ∷ rest
     → IsHindered (state_by s (just_opened base h) before).rights t handle.key right other
 
@@ -146,4 +146,4 @@ pub record TellsOne (limits : Numbers) (t : SessionTable) (marks : List Mark) : 
   pub granted : (u : Token) (k : FileKey) (m : Message) → IsGranted marks u k → IsPresent t m → m.token ≡ u → TellsOn k m
 
 abbrev pub ServedTellsOne : Numbers → Superblock → ℕ → Held → List Mark → List Entry → Type 0
-ServedTellsOne limits s base h marks es = entries_of marks ≡ es → Served limits marks → IsRun s base h es → ArePacked s (just_opened base h) es → TellsOne limits (state_by s (just_opened base h) (entries_of marks)).sessions marks
+ServedTellsOne limits s base h marks es = entries_of marks ≡ es → Served limits marks → IsRunSeen ⊥ s base h es → ArePacked s (just_opened base h) es → TellsOne limits (state_by s (just_opened base h) (entries_of marks)).sessions marks

@@ -28,7 +28,7 @@ use Rattle.plain_model.specs.Ledger.{Access}
 use Rattle.plain_model.specs.State.{Held, State, just_opened}
 use Rattle.plain_model.specs.Verdict.{reply_to}
 use Rattle.plain_model.specs.Exact.{state_by}
-use Rattle.plain_model.specs.Laws.{IsRun}
+use Rattle.plain_model.specs.Laws.{IsRunSeen}
 use Rattle.hsm_policy.specs.Settings.{Numbers}
 use Rattle.daemon_session.specs.declared.events.Kept.{Kept}
 use Rattle.daemon_session.specs.Seats.{Seat, IsSeated}
@@ -139,5 +139,5 @@ abbrev pub AllMayWait : Running → Shown → List Mark → Superblock → State
 AllMayWait r k marks s st = (c : ℕ) (a : Access) → IsCallerNumber c → st.ledger.pending c ≡ Some a → MayWait r k marks st s c a
 
 abbrev pub SettledWaits : Running → Numbers → Superblock → ℕ → Held → List Mark → List Entry → Type 0
-SettledWaits r limits s base h marks es = entries_of marks ≡ es → Served limits marks → IsRun s base h es → ArePacked s (just_opened base h) es
+SettledWaits r limits s base h marks es = entries_of marks ≡ es → Served limits marks → IsRunSeen ⊥ s base h es → ArePacked s (just_opened base h) es
     → IsAtRest r (shown limits nothing_shown marks) s (just_opened base h) es → AllMayWait r (shown limits nothing_shown marks) marks s (state_by s (just_opened base h) es)

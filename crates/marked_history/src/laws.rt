@@ -1,4 +1,5 @@
 //! Laws over all histories, each the contract of a function that does nothing. A caller gets the law by a call.
+//! A run is one on any disk, exact but for bytes, by which none of the laws goes.
 ghost use Rattle.std.specs.Prelude.{ℕ, List};
 ghost use Rattle.hsm_types.specs.declared.daemons.Daemon.{Daemon};
 ghost use Rattle.hsm_types.specs.declared.stores.Superblock.{Superblock};

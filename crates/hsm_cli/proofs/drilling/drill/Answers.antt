@@ -43,10 +43,10 @@ returns-in-Ok-clause-script g c =
     let given = c.in-Ok.prepared.drives.items in
     let left = c.run_on-drilled.result.drives.items in
     rw (c.ended.ensures, c.err-cause.ensures.value)
-    (settles_new g.row.D.Denot (Unit {0}) opened (λ so well. HasDrilled so (λ marks. well marks × IsRightInMemory marks) c.args.number (cause_in c.tell.result) history) empty.0 empty.1 empty.2
-    (has_drilled (SettlesOn (Unit {0}) (Some opened)) (λ marks. IsWellServedOver (Unit {0}) (Some opened) marks × IsRightInMemory marks) c.args.number history (sink_told g.O.Sink.taken g.O.Sink.fault_count c.args.sink.now c.tell.new.sink) ended c.tell.result
-    (drills_all _ opened given left c.seals_are_whole.ensures refl (λ d v there. has_gives d v there) c.args.number c.in-Ok.prepared.script history c.in-Ok.ensures.script ran.well (λ told. (c.run_on-drilled.result.disk, refl, tt)) ended ran.all)
-    (drills_first _ opened given left c.seals_are_whole.ensures refl (λ d v there. has_gives d v there) c.args.number c.in-Ok.prepared.script history c.in-Ok.ensures.script ran.well (λ told. (c.run_on-drilled.result.disk, refl, tt)) ran.first) c.tell.ensures.ends c.tell.ensures.ended))
+    (settles_new g.row.D.Denot opened (λ so well. HasDrilled so (λ marks. well marks × IsRightInMemory marks) c.args.number (cause_in c.tell.result) history) empty.0 empty.1 empty.2
+    (has_drilled (SettlesOn (Some opened)) (λ marks. IsWellServedOver (Some opened) marks × IsRightInMemory marks) c.args.number history (sink_told g.O.Sink.taken g.O.Sink.fault_count c.args.sink.now c.tell.new.sink) ended c.tell.result
+    (drills_all _ opened given left c.seals_are_whole.ensures refl (λ d v there. has_gives d v there) c.args.number c.in-Ok.prepared.script history c.in-Ok.ensures.script ran.well ended ran.all)
+    (drills_first _ opened given left c.seals_are_whole.ensures refl (λ d v there. has_gives d v there) c.args.number c.in-Ok.prepared.script history c.in-Ok.ensures.script ran.well ran.first) c.tell.ensures.ends c.tell.ensures.ended))
 
 pub returns-in-Ok-clause-legality : goal.returns-in-Ok-clause-legality
 returns-in-Ok-clause-legality g c = rw c.ended.ensures (good_new c.in-Ok.prepared.hsm.opened c.run_on-drilled.result.history c.in-Ok.ensures.empty.0 c.in-Ok.ensures.empty.1 c.in-Ok.ensures.empty.2 (c.run_on-drilled.ensures.good (c.run_on-drilled.result.disk, refl, tt)))
@@ -61,7 +61,7 @@ pub returns-in-Ok-clause-media : goal.returns-in-Ok-clause-media
 returns-in-Ok-clause-media g c = rw c.ended.ensures (none_failed _ (λ d. refl) (λ ds. ds.items) (Ok c.in-Ok.prepared.drives) c.run_on-drilled.result.drives.items c.run_on-drilled.result.history c.in-Ok.ensures.count c.run_on-drilled.ensures.drives tt c.run_on-drilled.ensures.media)
 
 pub returns-in-Ok-clause-caused_by : goal.returns-in-Ok-clause-caused_by
-returns-in-Ok-clause-caused_by g c = rw c.ended.ensures (caused_new c.in-Ok.prepared.hsm.opened c.run_on-drilled.result.history c.in-Ok.ensures.empty.0 c.in-Ok.ensures.empty.1 c.in-Ok.ensures.empty.2 (c.run_on-drilled.ensures.caused_by (c.run_on-drilled.result.disk, refl, tt)))
+returns-in-Ok-clause-caused_by g c = rw c.ended.ensures (caused_new c.in-Ok.prepared.hsm.opened c.run_on-drilled.result.history c.in-Ok.ensures.empty.0 c.in-Ok.ensures.empty.1 c.in-Ok.ensures.empty.2 c.run_on-drilled.ensures.caused_by)
 
 pub returns-in-Ok-clause-output : goal.returns-in-Ok-clause-output
 returns-in-Ok-clause-output g c =

@@ -17,13 +17,13 @@ module _ (g : Over) (c : After-close-disk g) where
   served = rw c.close-hsm.ensures.store c.run_all-ended.ensures.served
 
 pub returns-clause-all : goal.returns-clause-all
-returns-clause-all g c = rw (c.close-disk.ensures.disk, c.close-disk.ensures.entries, c.close-hsm.ensures.store, c.close-hsm.ensures.drives) (rw c.new-replay.ensures at c.run_all-ended.ensures.all)
+returns-clause-all g c = rw (c.close-disk.ensures.entries, c.close-hsm.ensures.store, c.close-hsm.ensures.drives) (rw c.new-replay.ensures at c.run_all-ended.ensures.all)
 
 pub returns-clause-first : goal.returns-clause-first
-returns-clause-first g c = rw (c.close-disk.ensures.disk, c.close-disk.ensures.entries, c.close-hsm.ensures.store, c.close-hsm.ensures.drives) (rw c.new-replay.ensures at c.run_all-ended.ensures.first)
+returns-clause-first g c = rw (c.close-disk.ensures.entries, c.close-hsm.ensures.store, c.close-hsm.ensures.drives) (rw c.new-replay.ensures at c.run_all-ended.ensures.first)
 
 pub returns-clause-well : goal.returns-clause-well
-returns-clause-well g c = rw (c.close-disk.ensures.disk, c.close-disk.ensures.entries) (run_is_well (record { anew = c.served_makes_anew.ensures; over = c.served_takes_over.ensures; keeps = c.served_keeps_all.ensures; frees = c.punch_frees.ensures }) g.D.Disk c.args.hsm c.close-hsm.result.0 (goes_on g (goal.at.returns-clause-well g c).After-close-disk) c.close-disk.ensures.kept)
+returns-clause-well g c = rw c.close-disk.ensures.entries (run_is_well (record { anew = c.served_makes_anew.ensures; over = c.served_takes_over.ensures; keeps = c.served_keeps_all.ensures; frees = c.punch_frees.ensures }) g.D.Disk c.args.hsm c.close-hsm.result.0 (goes_on g (goal.at.returns-clause-well g c).After-close-disk) c.close-disk.ensures.kept)
 
 pub returns-clause-good : goal.returns-clause-good
 returns-clause-good g c = rw (c.close-disk.ensures.disk, c.close-disk.ensures.entries, ← (goes_on g (goal.at.returns-clause-good g c).After-close-disk).opened) c.close-disk.ensures.kept.good
@@ -31,7 +31,7 @@ returns-clause-good g c = rw (c.close-disk.ensures.disk, c.close-disk.ensures.en
 pub returns-clause-caused_by : goal.returns-clause-caused_by
 returns-clause-caused_by g c =
     let after = (goal.at.returns-clause-caused_by g c).After-close-disk in
-    rw (c.close-disk.ensures.disk, c.close-disk.ensures.entries) (caused_served g.D.Disk c.served_is_caused.ensures c.args.hsm c.close-hsm.result.0 (goes_on g after) (served g after) c.close-disk.ensures.kept)
+    rw c.close-disk.ensures.entries (caused_served g.D.Disk c.served_is_caused.ensures c.args.hsm c.close-hsm.result.0 (goes_on g after) (served g after) c.close-disk.ensures.kept)
 
 pub returns-clause-media : goal.returns-clause-media
 returns-clause-media g c = rw (c.close-disk.ensures.entries, c.close-hsm.ensures.store, c.close-hsm.ensures.drives) c.run_all-ended.ensures.media

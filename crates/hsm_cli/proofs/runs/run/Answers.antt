@@ -2,11 +2,10 @@ use Rattle.std.proofs.Common.{◌∙◌, [], append-nil}
 use Rattle.hsm_replay.proofs.Growing.{have_grown_on}
 use Rattle.hsm_replay.proofs.Joining.{runs_then}
 use Rattle.hsm_cli.proofs.Following.{has_run, has_run_first, first_of_run, committed, committed_all}
-use Rattle.hsm_cli.proofs.Weaker.{run_weaker}
 use Rattle.hsm_cli.proofs.runs.run.Goals as goal
 
 pub returns-in_err-run_lines-clause-first : goal.returns-in_err-run_lines-clause-first
-returns-in_err-run_lines-clause-first g c = first_of_run _ g.M.Drive c.args.replay.now c.args.commits c.args.script _ (rw c.into_lines.ensures.lines at c.in_err-run_lines.ensures.first)
+returns-in_err-run_lines-clause-first g c = first_of_run g.D.Disk g.M.Drive c.args.replay.now c.args.commits c.args.script _ (rw c.into_lines.ensures.lines at c.in_err-run_lines.ensures.first)
 
 pub returns-then-commits-clause-limits : goal.returns-then-commits-clause-limits
 returns-then-commits-clause-limits g c = c.commit.ensures.moves.limits ∙ c.in_ok-run_lines.ensures.limits
@@ -18,13 +17,13 @@ pub returns-then-commits-clause-runs : goal.returns-then-commits-clause-runs
 returns-then-commits-clause-runs g c = runs_then g.D.Disk g.M.Drive tt c.commit.result _ _ _ c.in_ok-run_lines.ensures.runs c.commit.ensures.moves.runs
 
 pub returns-then-commits-clause-all : goal.returns-then-commits-clause-all
-returns-then-commits-clause-all g c = rw c.if-commits.true (committed_all _ g.M.Drive c.args.replay.now g.D.Disk c.commit.result c.args.script _ _ (run_weaker c.commit.ensures.moves.runs.goes_on.tells g.M.Drive c.args.replay.now c.args.script _ (rw c.into_lines.ensures.lines at c.in_ok-run_lines.ensures.all)) c.commit.ensures.moves)
+returns-then-commits-clause-all g c = rw c.if-commits.true (committed_all g.D.Disk g.M.Drive c.args.replay.now c.commit.result c.args.script _ _ (rw c.into_lines.ensures.lines at c.in_ok-run_lines.ensures.all) c.commit.ensures.moves)
 
 pub returns-then-commits-clause-first : goal.returns-then-commits-clause-first
-returns-then-commits-clause-first g c = rw c.if-commits.true (committed _ g.M.Drive c.args.replay.now g.D.Disk c.commit.result c.args.script _ _ (run_weaker c.commit.ensures.moves.runs.goes_on.tells g.M.Drive c.args.replay.now c.args.script _ (rw c.into_lines.ensures.lines at c.in_ok-run_lines.ensures.all)) c.commit.ensures.moves)
+returns-then-commits-clause-first g c = rw c.if-commits.true (committed g.D.Disk g.M.Drive c.args.replay.now c.commit.result c.args.script _ _ (rw c.into_lines.ensures.lines at c.in_ok-run_lines.ensures.all) c.commit.ensures.moves)
 
 pub returns-clause-all : goal.returns-clause-all
-returns-clause-all g c = rw c.if-commits.false (has_run _ g.M.Drive c.args.replay.now c.args.script _ (rw c.into_lines.ensures.lines at c.in_ok-run_lines.ensures.all))
+returns-clause-all g c = rw c.if-commits.false (has_run g.D.Disk g.M.Drive c.args.replay.now c.args.script _ (rw c.into_lines.ensures.lines at c.in_ok-run_lines.ensures.all))
 
 pub returns-clause-first : goal.returns-clause-first
-returns-clause-first g c = rw c.if-commits.false (has_run_first _ g.M.Drive c.args.replay.now c.args.script [] c.args.script _ (append-nil c.args.script) (rw c.into_lines.ensures.lines at c.in_ok-run_lines.ensures.all))
+returns-clause-first g c = rw c.if-commits.false (has_run_first g.D.Disk g.M.Drive c.args.replay.now c.args.script [] c.args.script _ (append-nil c.args.script) (rw c.into_lines.ensures.lines at c.in_ok-run_lines.ensures.all))

@@ -3,7 +3,6 @@ use Rattle.std.proofs.lemmas.Result.{err_from_is_err_and}
 use Rattle.hsm_system.proofs.Going.{goes_itself, goes_then, stopped_then}
 use Rattle.hsm_replay.proofs.Growing.{have_grown_itself, have_grown_on}
 use Rattle.hsm_cli.proofs.Following.{run_to_none, run_more, first_run}
-use Rattle.hsm_cli.proofs.Weaker.{run_weaker}
 use Rattle.hsm_cli.proofs.runs.run_lines.Goals as goal
 
 pub loop-line-init : goal.loop-line-init
@@ -13,7 +12,7 @@ loop-line-init g c = record {
   goes_on = goes_itself g.D.Disk _;
   working = c.requires.ready.store.working;
   done = [];
-  run = run_to_none _ g.M.Drive _ c.requires.ready;
+  run = run_to_none g.D.Disk g.M.Drive _ c.requires.ready;
   lawful = search rules;
   left = search rules;
 }
@@ -28,7 +27,7 @@ loop-line-preserved g c =
       goes_on = goes_then g.D.Disk _ _ _ c.loop-line.invariant.goes_on moves.runs.goes_on;
       working = moves.runs.works c.loop-line.invariant.working;
       done = c.loop-line.invariant.done ++ c.in-Some.line ∷ [];
-      run = run_more g.D.Disk g.M.Drive c.args.replay.now c.loop-line.invariant.done c.in-Some.line _ _ moves.runs.goes_on.tells c.loop-line.invariant.run (c.in_ok-line.ensures.left c.loop-line.invariant.working)
+      run = run_more g.D.Disk g.M.Drive c.args.replay.now c.loop-line.invariant.done c.in-Some.line _ _ c.loop-line.invariant.run (c.in_ok-line.ensures.left c.loop-line.invariant.working)
           (moves.limits ∙ c.loop-line.invariant.limits) (moves.runs.goes_on.opened ∙ c.loop-line.invariant.goes_on.opened) c.in_ok-line.ensures.runs;
       lawful = (rw step at c.loop-line.invariant.lawful).1;
       left = rw (append_assoc, ← step) c.loop-line.invariant.left;
@@ -49,6 +48,4 @@ returns-in_err-line-clause-runs g c =
 pub returns-in_err-line-clause-first : goal.returns-in_err-line-clause-first
 returns-in_err-line-clause-first g c =
     let step : c.loop-line.line-iterator ≡ c.in-Some.line ∷ c.next.new.self = search (rules, c.in-Some.ensures.steps) in
-    let moves = c.in_err-line.ensures.moves in
-    first_run _ g.M.Drive c.args.replay.now g.D.Disk _ c.args.lines c.loop-line.invariant.done c.in-Some.line c.next.new.self _ _ (rw step at c.loop-line.invariant.left)
-    (run_weaker moves.runs.goes_on.tells g.M.Drive c.args.replay.now c.loop-line.invariant.done _ c.loop-line.invariant.run) moves
+    first_run g.D.Disk g.M.Drive c.args.replay.now _ c.args.lines c.loop-line.invariant.done c.in-Some.line c.next.new.self _ _ (rw step at c.loop-line.invariant.left) c.loop-line.invariant.run c.in_err-line.ensures.moves

@@ -1,6 +1,5 @@
 use Rattle.std.proofs.Common.{◌≡◌, ◌++◌, false, List}
 use Rattle.std.specs.List.{AllByRecursion}
-use Rattle.disk_model.specs.Moments.{Tells}
 use Rattle.script_text.specs.declared.lines.Line.{Line}
 use Rattle.script_text.specs.Lines.{IsLine}
 use Rattle.hsm_replay.specs.Drives.{HaveGrown}
@@ -15,7 +14,7 @@ invariant-loop-line g l = record {
   goes_on : GoesOn g.D.Disk l.fn.replay.system.store l.replay.system.store;
   working : l.replay.system.store.files.failed ≡ false;
   done : List Line;
-  run : IsRunTo (Tells g.D.Disk l.replay.system.store.files.disk) g.M.Drive l.fn.replay done l.replay;
+  run : IsRunTo g.M.Drive l.fn.replay done l.replay;
   lawful : AllByRecursion IsLine l.line-iterator;
   left : done ++ l.line-iterator ≡ l.fn.lines;
 }

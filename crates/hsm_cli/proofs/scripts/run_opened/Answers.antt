@@ -16,11 +16,11 @@ use Rattle.hsm_cli.proofs.scripts.run_opened.Goals as goal
 
 pub returns-clause-script : goal.returns-clause-script
 returns-clause-script g c =
-    rw (c.first_cause.ensures, c.close-disk.ensures.disk, c.close-disk.ensures.entries)
+    rw (c.first_cause.ensures, c.close-disk.ensures.entries)
     (has_run _ _ c.args.commits (source_told g.I.Source.left g.I.Source.fault_count c.args.source.now c.run_with-ended.new.source) _ (sink_told g.O.Sink.taken g.O.Sink.fault_count c.args.sink.now c.write_transcript-written.new.sink) c.run_with-ended.result.ended c.write_transcript-written.result c.write_transcript-written.ensures.refused c.run_with-ended.ensures.ran)
 
 pub returns-clause-well : goal.returns-clause-well
-returns-clause-well g c = rw (c.close-disk.ensures.disk, c.close-disk.ensures.entries) (run_is_well (record { anew = c.served_makes_anew.ensures; over = c.served_takes_over.ensures; keeps = c.served_keeps_all.ensures; frees = c.punch_frees.ensures }) g.D.Disk c.args.hsm c.run_with-ended.result.hsm c.run_with-ended.ensures.goes_on c.close-disk.ensures.kept)
+returns-clause-well g c = rw c.close-disk.ensures.entries (run_is_well (record { anew = c.served_makes_anew.ensures; over = c.served_takes_over.ensures; keeps = c.served_keeps_all.ensures; frees = c.punch_frees.ensures }) g.D.Disk c.args.hsm c.run_with-ended.result.hsm c.run_with-ended.ensures.goes_on c.close-disk.ensures.kept)
 
 pub returns-clause-now : goal.returns-clause-now
 returns-clause-now g c = rw (c.close-disk.ensures.disk, c.close-disk.ensures.entries, ← c.run_with-ended.ensures.goes_on.opened) c.close-disk.ensures.now
@@ -42,7 +42,7 @@ returns-clause-untouched g c =
 
 pub returns-clause-caused_by : goal.returns-clause-caused_by
 returns-clause-caused_by g c =
-    rw (c.close-disk.ensures.disk, c.close-disk.ensures.entries)
+    rw c.close-disk.ensures.entries
     (caused_served g.D.Disk c.served_is_caused.ensures c.args.hsm c.run_with-ended.result.hsm c.run_with-ended.ensures.goes_on c.run_with-ended.ensures.served c.close-disk.ensures.kept)
 
 pub returns-clause-media : goal.returns-clause-media

@@ -1,6 +1,5 @@
 use Rattle.std.proofs.Common.{◌∙◌, Some, inr}
 use Rattle.std.proofs.lemmas.Result.{err_from_is_err_and}
-use Rattle.disk_model.specs.Moments.{Tells}
 use Rattle.hsm_replay.proofs.Growing.{have_grown_itself}
 use Rattle.hsm_cli.specs.Follows.{FollowsFirst, SettlesOn, SettlesSince, lines_run}
 use Rattle.hsm_cli.specs.Sealing.{TellsOf}
@@ -13,7 +12,7 @@ use Rattle.hsm_cli.proofs.scripts.run_script.Goals as goal
 pub returns-in_err-script-clause-ran : goal.returns-in_err-script-clause-ran
 returns-in_err-script-clause-ran g c =
     let p = err_from_is_err_and c.from_residual.result c.from_residual.ensures.1 in
-    rw (p.1, p.2) (none_run (SettlesOn (Tells g.D.Disk c.args.replay.now.system.store.files.disk) (Some c.args.replay.now.system.store.opened)) (TellsOf g.M.Drive c.args.replay.now.drives c.args.replay.now.drives) ⊥ ⊥ c.args.commits (source_told g.I.Source.left g.I.Source.fault_count c.args.source.now c.read_script.new.source) _ _ c.requires.ready.store.history c.in_err-script.ensures.refused)
+    rw (p.1, p.2) (none_run (SettlesOn (Some c.args.replay.now.system.store.opened)) (TellsOf g.M.Drive c.args.replay.now.drives c.args.replay.now.drives) ⊥ ⊥ c.args.commits (source_told g.I.Source.left g.I.Source.fault_count c.args.source.now c.read_script.new.source) _ _ c.requires.ready.store.history c.in_err-script.ensures.refused)
 
 pub returns-in_err-script-clause-media : goal.returns-in_err-script-clause-media
 returns-in_err-script-clause-media g c = none_true g.M.Drive _ _ c.requires.ready.store.history
@@ -27,28 +26,28 @@ returns-in_err-script-clause-drives g c = have_grown_itself g.M.Drive _
 -- it was run
 
 pub returns-in-Ok-clause-ran : goal.returns-in-Ok-clause-ran
-returns-in-Ok-clause-ran g c = (all_run _ g.M.Drive c.args.replay.now c.run.new.replay c.requires.limits (c.run.ensures.limits ∙ c.requires.limits) c.args.commits _ c.in_ok-script.script c.in_ok-script.ensures.script c.in-Ok.ensures.all, c.in_ok-script.ensures.ended)
+returns-in-Ok-clause-ran g c = (all_run g.M.Drive c.args.replay.now c.run.new.replay c.requires.limits (c.run.ensures.limits ∙ c.requires.limits) c.args.commits _ c.in_ok-script.script c.in_ok-script.ensures.script c.in-Ok.ensures.all, c.in_ok-script.ensures.ended)
 
 pub returns-in-Ok-clause-media : goal.returns-in-Ok-clause-media
 returns-in-Ok-clause-media g c = c.run.ensures.first.marked.faults
 
 pub returns-in-Ok-clause-served : goal.returns-in-Ok-clause-served
-returns-in-Ok-clause-served g c = is_served g.M.Drive c.run.new.replay (c.run.ensures.limits ∙ c.requires.limits) (FollowsFirst (SettlesSince (Tells g.D.Disk c.run.new.replay.system.store.files.disk) c.args.replay.now) (lines_run c.args.commits c.in_ok-script.script)) c.run.ensures.first
+returns-in-Ok-clause-served g c = is_served g.M.Drive c.run.new.replay (c.run.ensures.limits ∙ c.requires.limits) (FollowsFirst (SettlesSince c.args.replay.now) (lines_run c.args.commits c.in_ok-script.script)) c.run.ensures.first
 
 pub returns-in-Err-Memory-clause-ran : goal.returns-in-Err-Memory-clause-ran
-returns-in-Err-Memory-clause-ran g c = inr (first_run _ g.M.Drive c.args.replay.now c.run.new.replay c.requires.limits (c.run.ensures.limits ∙ c.requires.limits) c.args.commits _ c.in_ok-script.script c.in_ok-script.ensures.script c.run.ensures.first)
+returns-in-Err-Memory-clause-ran g c = inr (first_run g.M.Drive c.args.replay.now c.run.new.replay c.requires.limits (c.run.ensures.limits ∙ c.requires.limits) c.args.commits _ c.in_ok-script.script c.in_ok-script.ensures.script c.run.ensures.first)
 
 pub returns-in-Err-Memory-clause-media : goal.returns-in-Err-Memory-clause-media
 returns-in-Err-Memory-clause-media g c = c.run.ensures.first.marked.faults
 
 pub returns-in-Err-Memory-clause-served : goal.returns-in-Err-Memory-clause-served
-returns-in-Err-Memory-clause-served g c = is_served g.M.Drive c.run.new.replay (c.run.ensures.limits ∙ c.requires.limits) (FollowsFirst (SettlesSince (Tells g.D.Disk c.run.new.replay.system.store.files.disk) c.args.replay.now) (lines_run c.args.commits c.in_ok-script.script)) c.run.ensures.first
+returns-in-Err-Memory-clause-served g c = is_served g.M.Drive c.run.new.replay (c.run.ensures.limits ∙ c.requires.limits) (FollowsFirst (SettlesSince c.args.replay.now) (lines_run c.args.commits c.in_ok-script.script)) c.run.ensures.first
 
 pub returns-in-Err-Disk-clause-ran : goal.returns-in-Err-Disk-clause-ran
-returns-in-Err-Disk-clause-ran g c = inr (first_run _ g.M.Drive c.args.replay.now c.run.new.replay c.requires.limits (c.run.ensures.limits ∙ c.requires.limits) c.args.commits _ c.in_ok-script.script c.in_ok-script.ensures.script c.run.ensures.first)
+returns-in-Err-Disk-clause-ran g c = inr (first_run g.M.Drive c.args.replay.now c.run.new.replay c.requires.limits (c.run.ensures.limits ∙ c.requires.limits) c.args.commits _ c.in_ok-script.script c.in_ok-script.ensures.script c.run.ensures.first)
 
 pub returns-in-Err-Disk-clause-media : goal.returns-in-Err-Disk-clause-media
 returns-in-Err-Disk-clause-media g c = c.run.ensures.first.marked.faults
 
 pub returns-in-Err-Disk-clause-served : goal.returns-in-Err-Disk-clause-served
-returns-in-Err-Disk-clause-served g c = is_served g.M.Drive c.run.new.replay (c.run.ensures.limits ∙ c.requires.limits) (FollowsFirst (SettlesSince (Tells g.D.Disk c.run.new.replay.system.store.files.disk) c.args.replay.now) (lines_run c.args.commits c.in_ok-script.script)) c.run.ensures.first
+returns-in-Err-Disk-clause-served g c = is_served g.M.Drive c.run.new.replay (c.run.ensures.limits ∙ c.requires.limits) (FollowsFirst (SettlesSince c.args.replay.now) (lines_run c.args.commits c.in_ok-script.script)) c.run.ensures.first

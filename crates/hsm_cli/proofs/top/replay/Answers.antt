@@ -22,9 +22,9 @@ returns-in-Ok-clause-script g c =
     let cause = c.run_opened-finished.result.cause in
     let history = c.run_opened-finished.result.history in
     rw c.ended.ensures
-    (settles_new g.row.D.Denot (Unit {0}) c.in-Ok.hsm.opened (λ so well. HasRun so (λ marks. well marks × IsRightInMemory marks) false source cause history) c.in-Ok.ensures.empty.0 c.in-Ok.ensures.empty.1 c.in-Ok.ensures.empty.2
-    (also_well (Some c.in-Ok.hsm.opened) IsRightInMemory false source cause history c.run_opened-finished.ensures.well (λ told. (c.run_opened-finished.result.disk, refl, tt))
-    (right_run (SettlesOn _ (Some c.in-Ok.hsm.opened)) _ (λ ds. ds.items) c.run_opened-finished.result.drives.items c.new_drives-drives.result false source cause history
+    (settles_new g.row.D.Denot c.in-Ok.hsm.opened (λ so well. HasRun so (λ marks. well marks × IsRightInMemory marks) false source cause history) c.in-Ok.ensures.empty.0 c.in-Ok.ensures.empty.1 c.in-Ok.ensures.empty.2
+    (also_well (Some c.in-Ok.hsm.opened) (SettlesOn (Some c.in-Ok.hsm.opened)) IsRightInMemory false source cause history c.run_opened-finished.ensures.well
+    (right_run (SettlesOn (Some c.in-Ok.hsm.opened)) _ (λ ds. ds.items) c.run_opened-finished.result.drives.items c.new_drives-drives.result false source cause history
     c.seals_are_whole.ensures refl (λ d v there. has_gives d v there) c.new_drives-drives.ensures.why c.run_opened-finished.ensures.unready c.run_opened-finished.ensures.idle c.run_opened-finished.ensures.script)))
 
 pub returns-in-Ok-clause-legality : goal.returns-in-Ok-clause-legality
@@ -46,7 +46,7 @@ pub returns-in-Ok-clause-plain : goal.returns-in-Ok-clause-plain
 returns-in-Ok-clause-plain g c = rw c.ended.ensures (λ P stands. c.run_opened-finished.ensures.plain (c.run_opened-finished.result.disk, refl, tt) P (subst (λ (h : Held). Stands h.files P) (sym c.in-Ok.ensures.empty.1) stands))
 
 pub returns-in-Ok-clause-caused_by : goal.returns-in-Ok-clause-caused_by
-returns-in-Ok-clause-caused_by g c = rw c.ended.ensures (caused_new c.in-Ok.hsm.opened c.run_opened-finished.result.history c.in-Ok.ensures.empty.0 c.in-Ok.ensures.empty.1 c.in-Ok.ensures.empty.2 (c.run_opened-finished.ensures.caused_by (c.run_opened-finished.result.disk, refl, tt)))
+returns-in-Ok-clause-caused_by g c = rw c.ended.ensures (caused_new c.in-Ok.hsm.opened c.run_opened-finished.result.history c.in-Ok.ensures.empty.0 c.in-Ok.ensures.empty.1 c.in-Ok.ensures.empty.2 c.run_opened-finished.ensures.caused_by)
 
 pub returns-in-Ok-clause-output : goal.returns-in-Ok-clause-output
 returns-in-Ok-clause-output g c = rw c.ended.ensures (record { first = c.run_opened-finished.ensures.first; done = c.run_opened-finished.ensures.done; all = λ works ample. c.run_opened-finished.ensures.all ample works })

@@ -1,6 +1,5 @@
 use Rattle.std.proofs.Common.{Some, None, true, refl, inr, sym, ap, ◌∙◌, subst, arith}
 use Rattle.disk_model.specs.Calls.{Rose}
-use Rattle.disk_model.specs.Moments.{Tells}
 use Rattle.file_store.specs.Stores.{Store}
 use Rattle.hsm_cli.specs.Clauses.{GivesBack}
 use Rattle.hsm_cli.specs.Follows.{SettlesOn}
@@ -8,7 +7,6 @@ use Rattle.hsm_cli.specs.Sealing.{TellsOf, IsRightInFolder}
 use Rattle.hsm_cli.specs.Told.{source_told, sink_told, host_told}
 use Rattle.hsm_cli.proofs.Crashes.{crash_safe, why_unopened, why_unhanded, back_unhanded, words_unhanded, begun_unhanded, words_unopened, begun_unopened}
 use Rattle.hsm_cli.proofs.Running.{served_words, served_begun}
-use Rattle.hsm_cli.proofs.Faults.{caused_none}
 use Rattle.hsm_cli.proofs.Legality.{good_unopened, legal_as}
 use Rattle.hsm_cli.proofs.Drives.{rose_from, rose_once, gives_back, none_at_fault, host_failed, why_served, disk_came, drives_came, tallies_since}
 use Rattle.hsm_cli.proofs.Quiet.{unhanded_quiet}
@@ -56,8 +54,8 @@ returns-in-Ok-open-clause-script g c =
     let source = source_told g.I.Source.left g.I.Source.fault_count c.args.source.now c.run_opened-finished.new.source in
     let right = IsRightInFolder g.H.Drive.Drive (g.H.Host.stores c.args.host.now c.args.dir.now) c.run_opened-finished.result.drives.items in
     rw (c.from-in-Ok-open.ensures, c.run_opened-finished.ensures.opening)
-    (also_well (Some c.in-Ok-open.hsm.opened) right true source c.run_opened-finished.result.cause c.run_opened-finished.result.history c.run_opened-finished.ensures.well (λ told. told)
-    (ran_with (SettlesOn (Tells g.H.Disk.Disk c.run_opened-finished.result.disk) (Some c.in-Ok-open.hsm.opened)) (λ ds marks. TellsOf g.H.Drive.Drive ds.items c.run_opened-finished.result.drives.items marks) right c.ask_for_drives-drives.result true source c.run_opened-finished.result.cause c.run_opened-finished.result.history
+    (also_well (Some c.in-Ok-open.hsm.opened) (SettlesOn (Some c.in-Ok-open.hsm.opened)) right true source c.run_opened-finished.result.cause c.run_opened-finished.result.history c.run_opened-finished.ensures.well
+    (ran_with (SettlesOn (Some c.in-Ok-open.hsm.opened)) (λ ds marks. TellsOf g.H.Drive.Drive ds.items c.run_opened-finished.result.drives.items marks) right c.ask_for_drives-drives.result true source c.run_opened-finished.result.cause c.run_opened-finished.result.history
     (right_since g.H.Drive.Drive (g.H.Host.stores c.args.host.now c.args.dir.now) (λ ds. ds.items) c.ask_for_drives-drives.result c.run_opened-finished.result.drives.items
     (tallies_since g.H.Drive.Drive (g.H.Host.stores c.args.host.now c.args.dir.now) (g.H.Host.stores c.disk.new.self c.args.dir.now) (c.disk.ensures.folders c.args.dir.now) c.in-Ok-open.hsm.opened (λ ds. ds.items) c.ask_for_drives-drives.result c.run_opened-finished.result.drives.items c.ask_for_drives-drives.ensures.given))
     c.ask_for_drives-drives.ensures.ready c.run_opened-finished.ensures.unready c.run_opened-finished.ensures.idle c.run_opened-finished.ensures.script))
@@ -130,9 +128,6 @@ returns-in-Ok-open-clause-legality g c =
 pub returns-in-Ok-open-clause-plain : goal.returns-in-Ok-open-clause-plain
 returns-in-Ok-open-clause-plain g c = rw c.run_opened-finished.ensures.opening c.run_opened-finished.ensures.plain
 
-pub returns-in-Ok-open-clause-caused_by : goal.returns-in-Ok-open-clause-caused_by
-returns-in-Ok-open-clause-caused_by g c = rw c.run_opened-finished.ensures.opening c.run_opened-finished.ensures.caused_by
-
 pub returns-in-Ok-open-clause-opened : goal.returns-in-Ok-open-clause-opened
 returns-in-Ok-open-clause-opened g c =
     rw (c.run_opened-finished.ensures.opening, c.in-Ok-open.ensures.opened.0)
@@ -150,9 +145,6 @@ returns-in-Err-clause-reading g c = rw c.unopened.ensures (record { left = refl;
 pub returns-in-Err-clause-plain : goal.returns-in-Err-clause-plain
 returns-in-Err-clause-plain g c = rw c.unopened.ensures (λ tells P stands. ((good_unopened g.row.H-Disk.Denot).good P stands).plain)
 
-pub returns-in-Err-clause-caused_by : goal.returns-in-Err-clause-caused_by
-returns-in-Err-clause-caused_by g c = rw c.unopened.ensures (λ tells. caused_none _ _ _ _ refl)
-
 pub returns-in-Err-clause-back : goal.returns-in-Err-clause-back
 returns-in-Err-clause-back g c = rw (c.unopened.ensures, c.from.ensures) (λ none. back_unhanded c.in-Err.refusal)
 
@@ -168,9 +160,6 @@ returns-in-Err-clause-why g c =
 
 pub returns-in-Err-open-clause-plain : goal.returns-in-Err-open-clause-plain
 returns-in-Err-open-clause-plain g c = rw c.unopened-in-Err-open.ensures (λ tells P stands. ((good_unopened g.row.H-Disk.Denot).good P stands).plain)
-
-pub returns-in-Err-open-clause-caused_by : goal.returns-in-Err-open-clause-caused_by
-returns-in-Err-open-clause-caused_by g c = rw c.unopened-in-Err-open.ensures (λ tells. caused_none _ _ _ _ refl)
 
 pub returns-in-Err-open-clause-reading : goal.returns-in-Err-open-clause-reading
 returns-in-Err-open-clause-reading g c = rw c.unopened-in-Err-open.ensures (record { left = refl; faults = refl })
