@@ -1,4 +1,4 @@
-"""What is kept of a file: its bytes, blocks, regions, attributes and segments, as docs/FORMATS.md has them (Room, Regions and attributes, Segments)."""
+"""What is kept of a file: its bytes and blocks, regions, attributes and segments, as docs/FORMATS.md has them (Room to Segments)."""
 
 from typing import NamedTuple
 

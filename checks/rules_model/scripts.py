@@ -225,9 +225,10 @@ class Maker:
                 self.add(f"s{sid} request {on} {self.of(CHOICES['right'])}")
 
     def let_go(self):
-        tokens = [(sid, token) for sid, session in self.store.sessions.items() for token, message in session.outstanding.items() if message.kind == "user"]
-        if tokens:
-            self.add("s{} respond {} continue".format(*self.of(tokens)))
+        there = [(sid, message) for sid, session in self.store.sessions.items() for message in session.outstanding.values()]
+        own = [f"s{sid} respond {message.token} continue" for sid, message in there if message.kind == "user"]
+        if own:
+            self.add(self.of(own))
 
     def attributes(self):
         for _ in range(12):
@@ -284,14 +285,15 @@ OF_FILES = {"create": 3, "read": 8, "write": 6, "truncate": 3, "remove": 1, "sta
 OF_MESSAGES = {"session": 2, "setdisp": 2, "getevents": 3, "findmsg": 2, "respond": 2, "userevent": 2, "send": 1, "destroy": 1}
 OF_RIGHTS = {"request": 4, "release": 3, "right": 1, "upgrade": 2, "downgrade": 2}
 OF_KEPT = {"setregion": 8, "getregion": 1, "setattr": 2, "getattr": 1, "rmattr": 1, "attrs": 1, "fileattr": 2}
-OF_SEGMENTS = {"readinvis": 3, "writeinvis": 2, "punch": 2, "probe": 2, "alloc": 2, "seal": 4, "restore": 3, "space": 1, "table": 1}
+OF_CROWDS = {"many_sessions": 0.5, "attributes": 0.5}
+OF_SEGMENTS = {"setregion": 2, "readinvis": 3, "writeinvis": 2, "punch": 2, "probe": 2, "alloc": 2, "seal": 4, "restore": 3, "space": 1, "table": 1}
 ASKED = dict.fromkeys(("sessions", "query", "disp", "tokens", "handle"), 1)
 OF_DAEMONS = {"piece": 4, "cold": 10, "write": 2, "truncate": 1, "create": 1, "remove": 1, "resume": 1, "start": 2, "settle": 4, "step": 6, "kill": 2}
 TROUBLE = {"hold": 2, "let_go": 3, "give_up": 2, "setregion": 1, "halfway": 4}
 # What the turns of a script of each kind are, each with its weight; how many there are at most; and whether daemons run from the first on.
 SCRIPTS = {
-    "callers": (OF_FILES | OF_MESSAGES | OF_RIGHTS | OF_KEPT | ASKED | {"advance": 30, "hold": 3, "let_go": 4, "many_sessions": 0.5, "attributes": 0.5}, 150, False),
-    "segments": (OF_FILES | OF_SEGMENTS | {"setregion": 2, "piece": 6, "give_up": 8, "cold": 8, "advance": 30, "hold": 1, "let_go": 3}, 130, False),
+    "callers": (OF_FILES | OF_MESSAGES | OF_RIGHTS | OF_KEPT | ASKED | OF_CROWDS | {"advance": 30, "hold": 3, "let_go": 4}, 150, False),
+    "segments": (OF_FILES | OF_SEGMENTS | {"piece": 6, "give_up": 8, "cold": 8, "advance": 30, "hold": 1, "let_go": 3}, 130, False),
     "daemons": (OF_DAEMONS | TROUBLE | {"fill": 1, "many_sessions": 0.2}, 50, True),
     "crowded": (OF_DAEMONS | TROUBLE | {"fill": 6, "settle": 6, "write": 8, "no_room": 1}, 40, True),
     "meddling": (OF_DAEMONS | TROUBLE | {"meddle": 20, "advance": 5, "halfway": 12}, 60, True),

@@ -1,4 +1,4 @@
-"""Whether the judge finds faults: the transcripts of examples/ have to pass, and those that are changed here must be refused by the rule that they break."""
+"""Whether the judge finds faults: the transcripts of examples/ must pass, and those changed here be refused by the rule that they break."""
 
 from pathlib import Path
 from typing import NamedTuple
@@ -118,6 +118,7 @@ def each_entry_changed():
     lines = transcript.split("\n")[:-1]
     for place, line in enumerate(lines):
         before, behind = lines[:place], lines[place + 1 :]
-        for what, spoilt in (("left out", before + behind), ("doubled", [*before, line, line, *behind]), ("exchanged", [*before, *behind[:1], line, *behind[1:]])):
+        exchanged = [*before, *behind[:1], line, *behind[1:]]
+        for what, spoilt in (("left out", before + behind), ("doubled", [*before, line, line, *behind]), ("exchanged", exchanged)):
             if spoilt != lines and judged(script, "".join(f"{line}\n" for line in spoilt))[0] is None:
                 yield f"this isn't refused: entry {place + 1} of daemons/settle-ends-a-round is {what}"
