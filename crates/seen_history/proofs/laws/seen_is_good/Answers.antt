@@ -1,0 +1,4 @@
+use Rattle.seen_history.proofs.laws.seen_is_good.Goals as goal
+
+pub returns : goal.returns
+returns c = ?
