@@ -1,3 +1,5 @@
 mod Mapped
 mod Outlining
 mod Fitting
+mod Likening
+mod Ruling
