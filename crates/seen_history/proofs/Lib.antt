@@ -3,3 +3,5 @@ mod Outlining
 mod Fitting
 mod Likening
 mod Ruling
+mod Leaving
+mod Calling
