@@ -5,3 +5,4 @@ mod Likening
 mod Ruling
 mod Leaving
 mod Calling
+mod Telling
