@@ -6,3 +6,6 @@ mod Ruling
 mod Leaving
 mod Calling
 mod Telling
+mod Outlined
+mod Stepping
+pub mod Goods
