@@ -21,15 +21,15 @@ use Rattle.plain_model.proofs.AnyDisk.{seen_ordered}
 use Rattle.plain_model.proofs.Goods.{run_is_good}
 use Rattle.plain_model.proofs.Histories.{left_by-number, ExactSeen-take}
 use Rattle.plain_model.proofs.Orders.{ordered_at_first}
-use Rattle.plain_model.proofs.Same.{transparent}
 use Rattle.plain_model.proofs.Seeing.{tells_all}
 use Rattle.plain_model.proofs.Steps.{stands_at_first}
 use Rattle.seen_history.specs.Alike.{blank_entry}
-use Rattle.seen_history.specs.Good.{IsGoodSeenFrom, IsGoodSeen, SeenIsGood, IsNoOther}
+use Rattle.seen_history.specs.Laws.{IsGoodSeenFrom, IsGoodSeen, SeenIsGood, IsNoOther}
 use Rattle.seen_history.specs.Outlines.{StandsButBytes}
 use Rattle.seen_history.proofs.Leaving.{Leaves}
 use Rattle.seen_history.proofs.Likening.{likened, all_likened, all_so, same_fault}
 use Rattle.seen_history.proofs.Outlined.{stands_but_bytes}
+use Rattle.seen_history.proofs.Plainly.{likened_plain}
 use Rattle.seen_history.proofs.Stepping.{EventStep, event_step}
 
 -- ---- whole histories
@@ -93,6 +93,7 @@ seen_is_good Tells s base h es run P stands = record {
   stands = λ i. record { outline = (beginning i).stands; told = λ t. (good t).stands i };
   sides = λ i. (beginning i).beside;
   stamps = λ i k. (beginning i).stamped k;
+  plain = likened_plain s P es likened_legal.0;
 }
   where
     first : StandsButBytes (just_opened base h) (start P)
@@ -114,12 +115,12 @@ seen_law tells = seen_is_good (IsTrue tells)
 pub no_other : (s : Superblock) (base : ℕ) (h : Held) (es : List Entry) (P : List File) → IsNoOther s base h es P
 no_other s base h es P = record {
   told = λ good.
-      let legal : Legal s (start P) es = subst (Legal s (start P)) (good.legal.1.told tt) good.legal.2 in
-      record { legal = legal; stands = λ i. (good.stands i).told tt; sides = good.sides; stamps = good.stamps; plain = transparent s P es legal };
+      record { legal = subst (Legal s (start P)) (good.legal.1.told tt) good.legal.2; stands = λ i. (good.stands i).told tt; sides = good.sides; stamps = good.stamps; plain = good.plain };
   seen = λ good. record {
     legal = (es, record { alike = refl; told = λ any. refl }, good.legal);
     stands = λ i. record { outline = stands_but_bytes _ _ (good.stands i); told = λ any. good.stands i };
     sides = good.sides;
     stamps = good.stamps;
+    plain = good.plain;
   };
 }

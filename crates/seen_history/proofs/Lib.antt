@@ -8,4 +8,5 @@ mod Calling
 mod Telling
 mod Outlined
 mod Stepping
+mod Plainly
 pub mod Goods

@@ -92,7 +92,7 @@ print_if false bytes own is = refl
 pub true_print : (bytes own : List ℕ) → print_of (true_bytes bytes own) ≡ print_of own
 true_print bytes own = print_if (same_print (print_of bytes) (print_of own)) bytes own (is_same (print_of bytes) (print_of own))
 
-same_bytes : (bytes own : List ℕ) → print_of bytes ≡ print_of own → true_bytes bytes own ≡ bytes
+pub same_bytes : (bytes own : List ℕ) → print_of bytes ≡ print_of own → true_bytes bytes own ≡ bytes
 same_bytes bytes own is = rw (subst (λ print. same_print (print_of bytes) print ≡ true) is (same_is (print_of bytes))) refl
 
 replied_so : (W : World) (why : Option CallRefusal) (m : Meant) (reply : Reply) → MayReply W why m reply → liken_reply W m reply ≡ reply

@@ -1,3 +1,3 @@
 pub mod Alike
 pub mod Outlines
-pub mod Good
+pub mod Laws

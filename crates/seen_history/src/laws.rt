@@ -4,7 +4,7 @@ ghost use Rattle.hsm_types.specs.declared.stores.Superblock.{Superblock};
 ghost use Rattle.plain_model.specs.declared.entries.Entry.{Entry};
 ghost use Rattle.plain_model.specs.Plain.{File};
 ghost use Rattle.plain_model.specs.State.{Held};
-ghost use Rattle.seen_history.specs.Good.{IsNoOther, SeenIsGood};
+ghost use Rattle.seen_history.specs.Laws.{IsNoOther, SeenIsGood};
 
 /// On every disk a run is legal but for bytes, and what the store keeps stands for the plain map but for bytes.
 pub fn seen_is_good()

@@ -3,7 +3,7 @@ use Rattle.std.specs.Prelude.{ℕ, ◌≡◌, Bool, IsTrue, List, take}
 use Rattle.hsm_types.specs.declared.keys.FileKey.{FileKey}
 use Rattle.hsm_types.specs.declared.stores.Superblock.{Superblock}
 use Rattle.plain_model.specs.declared.entries.Entry.{Entry}
-use Rattle.plain_model.specs.Laws.{IsRunSeen, IsGoodFrom, state_at}
+use Rattle.plain_model.specs.Laws.{IsRunSeen, IsGoodFrom, IsPlain, state_at}
 use Rattle.plain_model.specs.Legal.{Legal, After}
 use Rattle.plain_model.specs.Plain.{File}
 use Rattle.plain_model.specs.Side.{sides_of, side_after}
@@ -25,6 +25,7 @@ pub record IsGoodSeenFrom (Tells : Type 0) (s : Superblock) (base : ℕ) (h : He
   pub stands : (i : ℕ) → StandsSeen Tells (state_at s base h es i) (After (start P) (take i es))
   pub sides : (i : ℕ) → sides_of (state_at s base h es i).held.files ≡ side_after (start P) (sides_of h.files) (take i es)
   pub stamps : (i : ℕ) (k : FileKey) → (state_at s base h es i).stamps k ≡ stamp (start P) base k (take i es)
+  pub plain : IsPlain P es
 
 -- it is so from each such map
 abbrev pub IsGoodSeen : Type 0 → Superblock → ℕ → Held → List Entry → Type 0
