@@ -150,12 +150,6 @@ entry_so e action answer acts answers i = record { actor = e.actor; action = act
 pub likened_so : (s : Superblock) (W : World) (e : Entry) → Allows s W e → likened W e ≡ e
 likened_so s W e may = let so = give_so s W e.actor e.action e.answer may in entry_so e (liken_action W e.action e.answer) (liken_answer W e.actor e.action e.answer) so.0 so.1
 
-pub all_so : (s : Superblock) (W : World) (es : List Entry) → Legal s W es → all_likened W es ≡ es
-all_so s W [] legal = refl
-all_so s W (e ∷ es) legal =
-    let so : likened W e ≡ e = likened_so s W e legal.0 in
-    (λ i. so i ∷ all_likened (after W (so i)) es) ∙ ap (λ xs. e ∷ xs) (all_so s (after W e) es legal.2)
-
 -- ---- it is for a fault where the entry is
 
 fault_replied : (W : World) (m : Meant) (reply : Reply) → is_fault (Replied (liken_reply W m reply)) ≡ is_fault (Replied reply)

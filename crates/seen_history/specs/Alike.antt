@@ -1,5 +1,5 @@
--- Histories that are the same but for bytes that come from a disk or are compared with such.
-use Rattle.std.specs.Prelude.{◌≡◌, ℕ, List, [], length, map, replicate}
+-- Entries that are the same but for bytes that come from a disk or are compared with such.
+use Rattle.std.specs.Prelude.{◌≡◌, ℕ, List, [], ◌∷◌, length, replicate}
 use Rattle.hsm_types.specs.Stubs.{entry_at, entry_place, entry_print}
 use Rattle.hsm_types.specs.declared.calls.Reply.{Reply}
 use Rattle.hsm_types.specs.declared.calls.Reply.TheVariants.{Data}
@@ -51,7 +51,14 @@ blank_answer action answer = answer
 abbrev pub blank_entry : Entry → Entry
 blank_entry e = record { actor = e.actor; action = blank_action e.action e.answer; answer = blank_answer e.action e.answer }
 
--- Entry by entry all but these is the same, and where the disk tells what it holds these are too.
-pub record AreAlike (Tells : Type 0) (es fs : List Entry) : Type 0 where
-  pub alike : map blank_entry fs ≡ map blank_entry es
-  pub told : Tells → fs ≡ es
+-- All but these is the same, and where the disk tells what it holds these are too.
+pub record IsAlike (Tells : Type 0) (e f : Entry) : Type 0 where
+  pub alike : blank_entry f ≡ blank_entry e
+  pub told : Tells → f ≡ e
+
+-- entry by entry
+abbrev pub AreAlike : Type 0 → List Entry → List Entry → Type 0
+AreAlike Tells [] [] = Unit {0}
+AreAlike Tells (e ∷ es) (f ∷ fs) = IsAlike Tells e f × AreAlike Tells es fs
+AreAlike Tells [] (f ∷ fs) = ⊥
+AreAlike Tells (e ∷ es) [] = ⊥

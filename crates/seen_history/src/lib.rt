@@ -3,4 +3,4 @@
 
 mod laws;
 
-pub use laws::{seen_is_good, seen_is_no_other};
+pub use laws::{good_where_told, seen_is_good};

@@ -1,5 +1,0 @@
-use Rattle.seen_history.proofs.Goods as law
-use Rattle.seen_history.proofs.laws.seen_is_no_other.Goals as goal
-
-pub returns : goal.returns
-returns c = law.no_other
