@@ -1,9 +1,8 @@
 -- What a caller is told may come but for bytes in each world that the store stands for so, and what it leaves stands so for the world after it.
-use Rattle.std.proofs.Common.{◌≡◌, ◌<◌, ◌+◌, ◌-◌, ℕ, min, List, [], ◌∷◌, length, replicate, Bool, true, false, Option, Some, None, refl, sym, ◌∙◌, ap, subst, arith}
+use Rattle.std.proofs.Common.{◌≡◌, ◌<◌, ◌+◌, ◌-◌, ℕ, min, [], length, replicate, true, Option, Some, None, refl, sym, ◌∙◌, ap, subst, arith}
 use Rattle.std.specs.Prelude.{nat_lt, if◌then◌else◌}
 use Rattle.std.specs.List.{AllByRecursion}
 use Rattle.hsm_types.specs.Refusals.{first_refusal}
-use Rattle.hsm_types.specs.Rights.{conflict}
 use Rattle.hsm_types.proofs.Righted.{conflict-held}
 use Rattle.hsm_types.specs.Messages.{no_token}
 use Rattle.hsm_types.specs.declared.keys.FileKey.{FileKey}
@@ -21,14 +20,15 @@ use Rattle.plain_model.specs.Accesses.{need_of}
 use Rattle.plain_model.specs.Blocks.{touched}
 use Rattle.plain_model.specs.Effects.{Makes, Drops, Writes, Resizes, effect_of}
 use Rattle.plain_model.specs.Ledger.{Ledger, Meant, Fixed, Means, next_token, meant, objection, ledger_replied}
-use Rattle.plain_model.specs.Plain.{Listed, listing, free_inode, read_at, body_of}
+use Rattle.plain_model.specs.Plain.{listing, free_inode, read_at, body_of}
 use Rattle.plain_model.specs.Seen.{blanked}
 use Rattle.plain_model.specs.Side.{sides_of, side_replied}
 use Rattle.plain_model.specs.Stamps.{reaches_key}
 use Rattle.plain_model.specs.Stands.{InOrder}
 use Rattle.plain_model.specs.State.{Held, Flags, State, names_of, next_key, bytes_of, used}
 use Rattle.plain_model.specs.Step.{World, MayReply, meant_for, objection_for, replied}
-use Rattle.plain_model.specs.Verdict.{Blocks, Posts, Lacks, Verdict, rulings, verdict, reply_by, objection_in, meant_in, reply_where, left_by_verdict, state_where}
+use Rattle.plain_model.specs.Verdict.{Blocks, Posts, Lacks, Verdict, rulings, verdict, reply_by, objection_in, meant_in, reply_where, left_by_verdict}
+use Rattle.plain_model.specs.Verdict.{state_where}
 use Rattle.plain_model.proofs.Alike.{names_alike, size_alike, facts_alike}
 use Rattle.plain_model.proofs.Bodies.{length-read}
 use Rattle.plain_model.proofs.Judged.{Says, meant_says}

@@ -13,15 +13,11 @@ use Rattle.hsm_types.specs.Segments.{segment_len, meets_segment}
 use Rattle.hsm_types.specs.Stubs.{stub_at, is_offline, offline_at, entry_print}
 use Rattle.hsm_types.specs.declared.keys.FileKey.{FileKey}
 use Rattle.hsm_types.specs.declared.regions.Region.{Region}
-use Rattle.hsm_types.specs.declared.stubs.Fingerprint.{Fingerprint}
 use Rattle.hsm_types.specs.declared.stubs.Stub.{Stub}
-use Rattle.hsm_types.specs.declared.stubs.StubEntry.{StubEntry}
 use Rattle.hsm_types.proofs.Stubbing.{set_away, seal_of, stub_at-unsealed, stub_at-sealed, stub_at-punched, stub_at-restored}
 use Rattle.plain_model.specs.Effects.{Effect, Leaves, Makes, Drops, Writes, Resizes, Manages, Seals, Punches, Restores}
-use Rattle.plain_model.specs.Plain.{File, segment}
-use Rattle.plain_model.specs.Stands.{HasBody, Stands}
-use Rattle.plain_model.specs.State.{FileState, new_file, file_or_new, file_at, rebody_held, remade, affected_held}
-use Rattle.plain_model.proofs.Bodies.{length-resized, length-written, length-read}
+use Rattle.plain_model.specs.State.{FileState, new_file, file_or_new, file_at, remade, affected_held}
+use Rattle.plain_model.proofs.Bodies.{length-resized, length-written}
 use Rattle.plain_model.proofs.Meeting.{meets_true}
 use Rattle.seen_history.specs.Outlines.{FitsSegment, FitStubs}
 use Rattle.seen_history.proofs.Mapped.{put_all, drop_all, change_all}

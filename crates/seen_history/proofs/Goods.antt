@@ -1,20 +1,18 @@
 -- A run on any disk is good but for bytes, from each plain map for which its opening stands.
-use Rattle.std.proofs.Common.{◌≡◌, ◌+◌, ℕ, List, [], ◌∷◌, map, take, Bool, true, false, inl, inr, refl, sym, ◌∙◌, ap, subst}
+use Rattle.std.proofs.Common.{◌≡◌, ◌+◌, ℕ, List, [], ◌∷◌, take, Bool, true, false, inl, inr, refl, sym, ◌∙◌, ap, subst}
 use Rattle.std.specs.Prelude.{if◌then◌else◌, IsTrue}
-use Rattle.hsm_types.specs.declared.keys.FileKey.{FileKey}
 use Rattle.hsm_types.specs.declared.stores.Superblock.{Superblock}
 use Rattle.plain_model.specs.declared.entries.Entry.{Entry}
 use Rattle.plain_model.specs.declared.entries.Actor.{Actor}
 use Rattle.plain_model.specs.declared.entries.Action.{Action}
 use Rattle.plain_model.specs.declared.entries.Answer.{Answer}
 use Rattle.plain_model.specs.Exact.{IsAnswerSeen, left_by, ExactSeen, state_by}
-use Rattle.plain_model.specs.Faults.{is_fault, FaultIsLast}
-use Rattle.plain_model.specs.Laws.{IsOpening, IsRun, IsRunSeen, IsGoodFrom, IsGoodRun, state_at}
+use Rattle.plain_model.specs.Laws.{IsRunSeen, IsGoodFrom, IsGoodRun, state_at}
 use Rattle.plain_model.specs.Legal.{Legal, After}
 use Rattle.plain_model.specs.Plain.{File}
 use Rattle.plain_model.specs.Side.{Side, sides_of, side_after}
 use Rattle.plain_model.specs.Stamps.{accesses, access_numbers, last_or}
-use Rattle.plain_model.specs.Stands.{Stands, InOrder}
+use Rattle.plain_model.specs.Stands.{InOrder}
 use Rattle.plain_model.specs.State.{Held, State, just_opened}
 use Rattle.plain_model.specs.Step.{World, start, Allows, after}
 use Rattle.plain_model.proofs.AnyDisk.{seen_ordered}
@@ -24,7 +22,7 @@ use Rattle.plain_model.proofs.Orders.{ordered_at_first}
 use Rattle.plain_model.proofs.Seeing.{tells_all}
 use Rattle.plain_model.proofs.Steps.{stands_at_first}
 use Rattle.seen_history.specs.Alike.{AreAlike}
-use Rattle.seen_history.specs.Laws.{LegalSeen, IsGoodSeenFrom, IsGoodSeen, SeenIsGood, GoodWhereTold}
+use Rattle.seen_history.specs.Laws.{LegalSeen, IsGoodSeen, SeenIsGood, GoodWhereTold}
 use Rattle.seen_history.specs.Outlines.{StandsButBytes}
 use Rattle.seen_history.proofs.Leaving.{Leaves}
 use Rattle.seen_history.proofs.Likening.{likened, all_likened, likened_so, same_fault}

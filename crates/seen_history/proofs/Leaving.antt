@@ -1,5 +1,5 @@
 -- What an event leaves: the store stands for a world but for bytes, with sides and stamps.
-use Rattle.std.proofs.Common.{◌≡◌, ◌<◌, ℕ, List, [], length, Option, Some, None, refl, sym, ◌∙◌, ap, subst}
+use Rattle.std.proofs.Common.{◌≡◌, ◌<◌, ℕ, List, length, Option, Some, None, refl, sym, ◌∙◌, ap, subst}
 use Rattle.std.specs.Prelude.{IfSome}
 use Rattle.hsm_types.specs.Keyed.{find_key}
 use Rattle.hsm_types.specs.declared.keys.FileKey.{FileKey}

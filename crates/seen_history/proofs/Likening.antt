@@ -1,11 +1,10 @@
 -- The entry alike to one that was answered over what is seen: it reads, seals by and brings back the bytes that the plain map has.
-use Rattle.std.proofs.Common.{◌≡◌, ℕ, List, [], ◌∷◌, Bool, true, false, Option, Some, None, inl, inr, refl, sym, ◌∙◌, ap, subst}
+use Rattle.std.proofs.Common.{◌≡◌, ℕ, List, [], ◌∷◌, Bool, true, false, Option, Some, None, inl, inr, refl, sym, ap, subst}
 use Rattle.std.proofs.lemmas.Bool.{eqb-true, eq-eqb, and_parts}
 use Rattle.std.proofs.lemmas.Slice.Eq.{bytes_eq-Decides}
-use Rattle.std.specs.Prelude.{◌&&◌, ◌==◌, if◌then◌else◌}
+use Rattle.std.specs.Prelude.{◌==◌, if◌then◌else◌}
 use Rattle.std.specs.Str.{bytes_eq}
-use Rattle.hsm_types.specs.Stubs.{print_of, entry_at, entry_place, entry_print}
-use Rattle.hsm_types.specs.declared.calls.Call.{Call}
+use Rattle.hsm_types.specs.Stubs.{print_of, entry_at, entry_place}
 use Rattle.hsm_types.specs.declared.calls.Call.TheVariants.{Read}
 use Rattle.hsm_types.specs.declared.calls.CallRefusal.{CallRefusal}
 use Rattle.hsm_types.specs.declared.calls.CallRefusal.TheVariants.{Disk}
@@ -19,7 +18,6 @@ use Rattle.hsm_types.specs.declared.dm.DmReply.{DmReply}
 use Rattle.hsm_types.specs.declared.dm.DmReply.TheVariants as told
 use Rattle.hsm_types.specs.declared.keys.Sid.{Sid}
 use Rattle.hsm_types.specs.declared.stores.Superblock.{Superblock}
-use Rattle.hsm_types.specs.declared.stubs.StubEntry.{StubEntry}
 use Rattle.hsm_types.specs.declared.stubs.Fingerprint.{Fingerprint}
 use Rattle.plain_model.specs.declared.entries.Entry.{Entry}
 use Rattle.plain_model.specs.declared.entries.Actor.{Actor}
@@ -29,8 +27,7 @@ use Rattle.plain_model.specs.declared.entries.Action.TheVariants.{Issue, Resume,
 use Rattle.plain_model.specs.declared.entries.Answer.{Answer}
 use Rattle.plain_model.specs.declared.entries.Answer.TheVariants.{Call as Replied, Dm as Told}
 use Rattle.plain_model.specs.Faults.{is_fault, fault_of, IsFault}
-use Rattle.plain_model.specs.Ledger.{Meant, Fixed, Means}
-use Rattle.plain_model.specs.Legal.{Legal}
+use Rattle.plain_model.specs.Ledger.{Meant, Means}
 use Rattle.plain_model.specs.Plain.{read_at, segment, body_of}
 use Rattle.plain_model.specs.Segments.{same_print}
 use Rattle.plain_model.specs.Step.{World, MayReply, meant_for, objection_for, MayTell, MayAnswer, MayGive, Allows, after}

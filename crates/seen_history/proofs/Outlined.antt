@@ -1,5 +1,5 @@
 -- A store that stands for a world does so but for bytes.
-use Rattle.std.proofs.Common.{◌≡◌, ◌<◌, ◌≤◌, ◌-◌, ◌*◌, ℕ, min, List, [], ◌∷◌, length, Bool, true, Option, Some, None, refl, sym, ◌∙◌, ap, subst, ⊎_elim, arith}
+use Rattle.std.proofs.Common.{◌≡◌, ◌<◌, ◌≤◌, ◌*◌, ℕ, List, [], ◌∷◌, length, true, Option, Some, None, refl, sym, ◌∙◌, ap, subst, ⊎_elim}
 use Rattle.std.proofs.lemmas.Bool.{cases_lt}
 use Rattle.std.specs.Prelude.{IfSome}
 use Rattle.std.specs.List.{AllByRecursion}
@@ -15,7 +15,7 @@ use Rattle.plain_model.specs.Stands.{HasBody, IsFile, Stands, StandsFor}
 use Rattle.plain_model.specs.State.{FileState, State}
 use Rattle.plain_model.specs.Step.{World}
 use Rattle.plain_model.proofs.Bodies.{length-read}
-use Rattle.seen_history.specs.Outlines.{Outline, outline, held_outline, outlines, held_outlines, FitsSegment, FitStubs, StandsButBytes}
+use Rattle.seen_history.specs.Outlines.{outline, held_outline, outlines, held_outlines, FitsSegment, FitStubs, StandsButBytes}
 
 stub_fits : (body : List ℕ) (size : ℕ) (regions : List Region) (j : ℕ) (o : Option Stub) → size ≡ length body → IfSome o (λ stub. entry_print stub.entry ≡ print_of (segment j body))
     → (length body ≤ segment_bytes * j → o ≡ None) → (is_offline o ≡ true → covers regions j ≡ true) → IfSome o (FitsSegment size regions j)

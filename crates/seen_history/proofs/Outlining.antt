@@ -1,5 +1,5 @@
 -- What is known of files without their bytes: it tells their names, which of them live and how many bytes they have, and it follows each effect.
-use Rattle.std.proofs.Common.{◌≡◌, ◌<◌, ◌≤◌, ◌+◌, ◌-◌, ◌*◌, ℕ, min, max, List, [], ◌∷◌, length, map, replicate, Bool, true, false, Option, Some, None}
+use Rattle.std.proofs.Common.{◌≡◌, ◌<◌, ◌-◌, ◌*◌, ℕ, min, List, [], ◌∷◌, length, map, replicate, Option, Some, None}
 use Rattle.std.proofs.Common.{refl, sym, ◌∙◌, ap, subst, arith}
 use Rattle.std.proofs.lemmas.List.{length-replicate}
 use Rattle.std.specs.Prelude.{is_some, IfSome}

@@ -1,5 +1,5 @@
 -- Where each restore brings the bytes that the plain map has, likened entries leave the worlds that the entries themselves leave, and so are plain.
-use Rattle.std.proofs.Common.{◌≡◌, ℕ, zero, suc, List, [], ◌∷◌, take, Bool, true, false, Option, Some, None, inl, inr, refl, sym, ◌∙◌, ap, subst}
+use Rattle.std.proofs.Common.{◌≡◌, ℕ, zero, suc, List, [], ◌∷◌, take, Bool, true, false, Option, Some, None, refl, sym, ◌∙◌, ap, subst}
 use Rattle.std.specs.Prelude.{if◌then◌else◌}
 use Rattle.hsm_types.specs.Stubs.{print_of}
 use Rattle.hsm_types.specs.declared.calls.Call.TheVariants.{Read}
@@ -15,10 +15,9 @@ use Rattle.plain_model.specs.declared.entries.Entry.{Entry}
 use Rattle.plain_model.specs.declared.entries.Actor.{Actor}
 use Rattle.plain_model.specs.declared.entries.Actor.TheVariants.{Caller, Session, Store}
 use Rattle.plain_model.specs.declared.entries.Action.{Action}
-use Rattle.plain_model.specs.declared.entries.Action.TheVariants.{Issue, Resume, Dm, Commit}
+use Rattle.plain_model.specs.declared.entries.Action.TheVariants.{Issue, Resume, Dm}
 use Rattle.plain_model.specs.declared.entries.Answer.{Answer}
 use Rattle.plain_model.specs.declared.entries.Answer.TheVariants.{Call as Replied, Dm as Told}
-use Rattle.plain_model.specs.Faults.{is_fault}
 use Rattle.plain_model.specs.Laws.{IsPlain}
 use Rattle.plain_model.specs.Ledger.{Meant, Means}
 use Rattle.plain_model.specs.Legal.{Legal, After, BringsTrueBytes, NoClash}
@@ -26,7 +25,8 @@ use Rattle.plain_model.specs.Plain.{File, read_at, segment, body_of}
 use Rattle.plain_model.specs.PlainFold.{Issued, Walk, done_on, done, begun, walk, walked}
 use Rattle.plain_model.specs.Step.{World, start, meant_for, replied, world_told, given, after}
 use Rattle.plain_model.proofs.Same.{transparent}
-use Rattle.seen_history.proofs.Likening.{liken_reply, liken_told, true_bytes, liken_done, liken_action, liken_answer, likened, all_likened, same_bytes, same_fault}
+use Rattle.seen_history.proofs.Likening.{liken_reply, liken_told, true_bytes, liken_done, liken_action, liken_answer, likened, all_likened}
+use Rattle.seen_history.proofs.Likening.{same_bytes, same_fault}
 
 -- ---- the worlds
 

@@ -1,57 +1,29 @@
 -- What a ruling of a store says of an access.
-use Rattle.std.proofs.Common.{◌≡◌, ◌<◌, ◌-◌, ℕ, List, [], ◌∷◌, length, Bool, true, false, Option, Some, None, inl, inr, refl, sym, ◌∙◌, ap, subst, arith}
+use Rattle.std.proofs.Common.{◌≡◌, ◌<◌, ◌-◌, ℕ, [], ◌∷◌, length, Bool, true, false, Option, Some, None, refl, sym, ◌∙◌, ap, arith}
 use Rattle.std.proofs.lemmas.Bool.Decides.{nat_tests}
 use Rattle.std.specs.Prelude.{◌&&◌, not, nat_lt, if◌then◌else◌, is_some}
 use Rattle.std.specs.Option.{option_map}
 use Rattle.hsm_types.specs.Refusals.{first_refusal}
 use Rattle.hsm_types.specs.Handles.{same_key}
 use Rattle.hsm_types.specs.Rights.{Rights, same_token, conflict}
-use Rattle.hsm_types.proofs.Righted.{conflict-held}
 use Rattle.hsm_types.specs.declared.keys.FileKey.{FileKey}
 use Rattle.hsm_types.specs.declared.stores.Superblock.{Superblock}
 use Rattle.hsm_types.specs.declared.calls.Call.{Call}
 use Rattle.hsm_types.specs.declared.calls.Call.TheVariants.{Create, Read, Write, Truncate, Remove, Stat, Sync}
-use Rattle.hsm_types.specs.declared.calls.CallRefusal.{CallRefusal}
-use Rattle.hsm_types.specs.declared.calls.CallRefusal.TheVariants.{NoSpace, Waiting, Idle}
-use Rattle.hsm_types.specs.declared.calls.Reply.{Reply}
-use Rattle.hsm_types.specs.declared.calls.Reply.TheVariants.{Done, Made, Data, Size, Parked, Blocked, Still, Refused}
 use Rattle.hsm_types.specs.declared.dm.Kind.{Kind}
 use Rattle.hsm_types.specs.declared.dm.Kind.TheVariants as kind
 use Rattle.hsm_types.specs.declared.dm.Right.{Right}
 use Rattle.hsm_types.specs.declared.dm.Right.TheVariants.{Null, Shared, Excl}
 use Rattle.hsm_types.specs.declared.keys.Token.{Token}
 use Rattle.hsm_types.specs.Messages.{no_token}
-use Rattle.plain_model.specs.declared.entries.Entry.{Entry}
-use Rattle.plain_model.specs.declared.entries.Actor.{Actor}
-use Rattle.plain_model.specs.declared.entries.Actor.TheVariants.{Caller, Session, Store}
-use Rattle.plain_model.specs.declared.entries.Action.{Action}
-use Rattle.plain_model.specs.declared.entries.Action.TheVariants.{Issue, Resume, Dm, Commit}
-use Rattle.plain_model.specs.declared.entries.Answer.{Answer}
 use Rattle.plain_model.specs.declared.facts.Facts.{Facts}
 use Rattle.plain_model.specs.declared.facts.NoRoom.{NoRoom}
-use Rattle.plain_model.specs.Effects.{Makes, Drops, Writes, Resizes, effect_of}
-use Rattle.plain_model.specs.Plain.{File, listing, free_inode, body_of}
+use Rattle.plain_model.specs.Effects.{effect_of}
 use Rattle.plain_model.specs.Accesses.{is_access, can_block, need_of, wants_space, kind_of, room_or_none}
-use Rattle.plain_model.specs.Ledger.{Ledger, Meant, Fixed, Means, next_token, meant, objection, ledger_replied}
 use Rattle.plain_model.specs.Blocks.{touched}
-use Rattle.plain_model.specs.State.{FileState, Held, Flags, State, just_opened, noted, names_of, next_key, file_at, bytes_of, used}
+use Rattle.plain_model.specs.State.{Flags, State, bytes_of, used}
 use Rattle.plain_model.specs.Verdict.{Ruling, Blocks, Posts, Lacks, Verdict, shortage, facts_of, is_taken, conflicting, posts, touching, needing}
-use Rattle.plain_model.specs.Verdict.{without_room, lacking, verdict, done_reply, reply_by, flags_now, objection_in, meant_in, reply_where, reply_to}
-use Rattle.plain_model.specs.Verdict.{left_by_verdict, state_where, state_after}
-use Rattle.plain_model.specs.Services.{dm_judged}
-use Rattle.plain_model.specs.Faults.{is_fault}
-use Rattle.plain_model.specs.Step.{World, start, IsOutcome, MayReply, meant_for, objection_for, replied, MayAnswer, MayGive, given, after}
-use Rattle.plain_model.specs.Legal.{Legal, After}
-use Rattle.plain_model.specs.Stands.{HasBody, Stands, StandsFor, InOrder}
-use Rattle.plain_model.specs.Exact.{IsOwn, IsAnswer, left_own, left_answered, left_by, Exact, state_by}
-use Rattle.plain_model.specs.Laws.{IsOpening}
-use Rattle.plain_model.proofs.Unstopped.{read_free, call_sound}
-use Rattle.plain_model.proofs.Standing.{IsSoundAt, sound_at, affected_stands, names_stand, file_stands}
-use Rattle.plain_model.proofs.Faultless.{fault_is}
-use Rattle.plain_model.proofs.Told.{same_read, may_tell, told_stands}
-use Rattle.plain_model.proofs.Judged.{none_first, Says, meant_says}
-use Rattle.plain_model.proofs.Orders.{event_ordered, ordered_at_first}
-use Rattle.plain_model.proofs.Seeing.{left_own_by}
+use Rattle.plain_model.specs.Verdict.{without_room, lacking, verdict}
 
 -- only a call that touches blocks is short of space
 pub wants : (call : Call) (size free : ℕ) → free < length (touched (effect_of call) size) → wants_space call ≡ true

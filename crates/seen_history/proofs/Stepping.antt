@@ -1,13 +1,11 @@
 -- Each event of a history on any disk: an entry alike to it may come, and what it leaves stands for the world after it but for bytes.
-use Rattle.std.proofs.Common.{◌≡◌, ◌+◌, ℕ, List, [], ◌∷◌, Bool, true, false, inl, inr, refl, sym, ◌∙◌, ap, subst}
+use Rattle.std.proofs.Common.{◌≡◌, ◌+◌, ℕ, List, Bool, true, false, inl, inr, refl, sym, ◌∙◌, ap, subst}
 use Rattle.std.specs.Prelude.{if◌then◌else◌}
 use Rattle.hsm_types.specs.declared.calls.Call.TheVariants.{Read}
 use Rattle.hsm_types.specs.declared.calls.CallRefusal.TheVariants.{Disk}
 use Rattle.hsm_types.specs.declared.calls.Reply.{Reply}
 use Rattle.hsm_types.specs.declared.calls.Reply.TheVariants.{Data, Refused}
 use Rattle.hsm_types.specs.declared.keys.FileKey.{FileKey}
-use Rattle.hsm_types.specs.declared.keys.Sid.{Sid}
-use Rattle.hsm_types.specs.declared.dm.DmCall.{DmCall}
 use Rattle.hsm_types.specs.declared.stores.Superblock.{Superblock}
 use Rattle.plain_model.specs.declared.entries.Entry.{Entry}
 use Rattle.plain_model.specs.declared.entries.Actor.{Actor}
@@ -15,18 +13,18 @@ use Rattle.plain_model.specs.declared.entries.Actor.TheVariants.{Caller, Session
 use Rattle.plain_model.specs.declared.entries.Action.{Action}
 use Rattle.plain_model.specs.declared.entries.Action.TheVariants.{Issue, Resume, Dm, Commit}
 use Rattle.plain_model.specs.declared.entries.Answer.{Answer}
-use Rattle.plain_model.specs.declared.entries.Answer.TheVariants.{Call as Replied, Dm as Told}
+use Rattle.plain_model.specs.declared.entries.Answer.TheVariants.{Call as Replied}
 use Rattle.plain_model.specs.Exact.{IsOwn, IsAnswerSeen, left_answered, left_by}
 use Rattle.plain_model.specs.Faults.{is_fault, fault_of, IsFault}
 use Rattle.plain_model.specs.Ledger.{Meant, Fixed, Means}
 use Rattle.plain_model.specs.Seen.{blanked}
-use Rattle.plain_model.specs.Services.{dm_judged, dm_reply_where}
+use Rattle.plain_model.specs.Services.{dm_judged}
 use Rattle.plain_model.specs.Side.{Side, sides_of, side_given}
 use Rattle.plain_model.specs.Stamps.{reaches_key, accesses}
 use Rattle.plain_model.specs.Stands.{InOrder}
-use Rattle.plain_model.specs.State.{Held, Flags, State, no_flags, noted}
+use Rattle.plain_model.specs.State.{Held, State, no_flags, noted}
 use Rattle.plain_model.specs.Step.{World, meant_for, replied, MayAnswer, MayGive, given, after}
-use Rattle.plain_model.specs.Verdict.{objection_in, meant_in, reply_where, reply_to}
+use Rattle.plain_model.specs.Verdict.{reply_to}
 use Rattle.plain_model.proofs.AnyDisk.{seen_faultless}
 use Rattle.plain_model.proofs.Faultless.{fault_is}
 use Rattle.seen_history.specs.Alike.{blank_action, blank_answer, blank_entry}

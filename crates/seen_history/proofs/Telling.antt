@@ -1,5 +1,5 @@
 -- What a session is told may come but for bytes in each world that the store stands for so, and what it leaves stands so for the world after it.
-use Rattle.std.proofs.Common.{◌≡◌, ◌≤◌, ◌<◌, ◌+◌, ◌-◌, ◌*◌, ℕ, min, List, [], ◌∷◌, length, replicate, Option, Some, None, refl, sym, ◌∙◌, ap, subst, arith}
+use Rattle.std.proofs.Common.{◌≡◌, ◌≤◌, ◌<◌, ◌+◌, ◌-◌, ◌*◌, ℕ, min, List, [], ◌∷◌, length, replicate, Option, Some, None, refl, sym, ◌∙◌, ap, subst}
 use Rattle.std.specs.Prelude.{◌==◌, is_some, IfSome}
 use Rattle.hsm_types.specs.Keyed.{find_key}
 use Rattle.hsm_types.specs.Kept.{Kept}
@@ -10,7 +10,7 @@ use Rattle.hsm_types.specs.Regions.{regions_refusal}
 use Rattle.hsm_types.specs.Rights.{bad_right}
 use Rattle.hsm_types.specs.Segments.{segment_len}
 use Rattle.hsm_types.specs.Sessions.{dead_session, bad_response}
-use Rattle.hsm_types.specs.Stubs.{Stubs, print_of, stub_at, uncovered, too_many_stubs, entry_at, entry_place, entry_print}
+use Rattle.hsm_types.specs.Stubs.{Stubs, stub_at, uncovered, too_many_stubs, entry_at, entry_place, entry_print}
 use Rattle.hsm_types.proofs.Stubbing.{all_covered}
 use Rattle.hsm_types.specs.declared.keys.FileKey.{FileKey}
 use Rattle.hsm_types.specs.declared.keys.Handle.{Handle}
@@ -21,7 +21,7 @@ use Rattle.hsm_types.specs.declared.stubs.Stub.{Stub}
 use Rattle.hsm_types.specs.declared.stubs.StubEntry.{StubEntry}
 use Rattle.hsm_types.specs.declared.stores.Superblock.{Superblock}
 use Rattle.hsm_types.specs.declared.dm.DmCall.{DmCall}
-use Rattle.hsm_types.specs.declared.dm.DmCall.TheVariants.{CreateSession, Respond, CreateUserEvent, GetFileAttr, SetRegion, SetDmAttr, RemoveDmAttr}
+use Rattle.hsm_types.specs.declared.dm.DmCall.TheVariants.{CreateSession, Respond, CreateUserEvent, GetFileAttr, SetRegion}
 use Rattle.hsm_types.specs.declared.dm.DmCall.TheVariants.{ReadInvis, WriteInvis, PunchHole, Seal, Restore, PathToHandle, GetSpace}
 use Rattle.hsm_types.specs.declared.dm.DmRefusal.{DmRefusal}
 use Rattle.hsm_types.specs.declared.dm.DmRefusal.TheVariants.{NoObject, BadResponse}
@@ -30,31 +30,31 @@ use Rattle.hsm_types.specs.declared.dm.DmReply.TheVariants as told
 use Rattle.hsm_types.specs.declared.dm.Right.{Right}
 use Rattle.hsm_types.specs.declared.dm.Right.TheVariants.{Shared, Excl}
 use Rattle.plain_model.specs.declared.entries.Actor.TheVariants.{Session}
-use Rattle.plain_model.specs.declared.entries.Action.{Action}
 use Rattle.plain_model.specs.declared.entries.Action.TheVariants.{Dm}
-use Rattle.plain_model.specs.declared.entries.Answer.{Answer}
 use Rattle.plain_model.specs.declared.entries.Answer.TheVariants.{Dm as Told}
-use Rattle.plain_model.specs.Effects.{Effect, Writes, Manages, Seals, Punches, Restores, punch_from, punch_to, Change, Nothing, OfFile, OfSessions, OfRights, Closes, change_of}
+use Rattle.plain_model.specs.Effects.{Effect, Manages, Seals, Punches, Restores, punch_from, punch_to, Change, Nothing, OfFile, OfSessions, OfRights}
+use Rattle.plain_model.specs.Effects.{Closes, change_of}
 use Rattle.plain_model.specs.Exact.{left_told}
 use Rattle.plain_model.specs.Ledger.{Ledger, next_token, ledger_told}
-use Rattle.plain_model.specs.Plain.{Listed, listing, named, key_or_none, read_at, segment, body_of}
+use Rattle.plain_model.specs.Plain.{Listed, listing, named, key_or_none, segment, body_of}
 use Rattle.plain_model.specs.Seen.{blanked}
 use Rattle.plain_model.specs.Segments.{writing_refusal, punch_refusal, seal_refusal, restore_refusal}
-use Rattle.plain_model.specs.Services.{bad_given_token, bad_own_token, is_live, bad_handle, no_such_name, kept_of, other_stubs, service, dm_judged, dm_reply_where}
-use Rattle.plain_model.specs.Side.{Side, sides_of, side_changed, side_told}
+use Rattle.plain_model.specs.Services.{bad_given_token, bad_own_token, is_live, bad_handle, no_such_name, kept_of, other_stubs, service, dm_judged}
+use Rattle.plain_model.specs.Services.{dm_reply_where}
+use Rattle.plain_model.specs.Side.{sides_of, side_changed, side_told}
 use Rattle.plain_model.specs.Stands.{InOrder}
 use Rattle.plain_model.specs.State.{FileState, Held, State, names_of, file_at, bytes_of, noted, changed}
-use Rattle.plain_model.specs.Step.{World, IsFileOf, MayTell, MayAnswer, changed_plain, world_told, given}
+use Rattle.plain_model.specs.Step.{World, IsFileOf, MayAnswer, changed_plain, world_told, given}
 use Rattle.plain_model.proofs.Alike.{names_alike, live_alike, size_alike, kept_alike}
 use Rattle.plain_model.proofs.Bodies.{length-read}
 use Rattle.plain_model.proofs.Judged.{none_first, passes, second_holds}
 use Rattle.plain_model.proofs.Moving.{writing_sound, seal_sound, restore_sound, punch_sound}
 use Rattle.plain_model.proofs.Orders.{owned_open}
-use Rattle.seen_history.specs.Alike.{zeros, blank_action, blank_answer}
-use Rattle.seen_history.specs.Outlines.{FitsSegment, FitStubs, StandsButBytes}
+use Rattle.seen_history.specs.Alike.{blank_action, blank_answer}
+use Rattle.seen_history.specs.Outlines.{FitsSegment, StandsButBytes}
 use Rattle.seen_history.proofs.Fitting.{Fits, fits_size, affected_fits, file_fits}
 use Rattle.seen_history.proofs.Leaving.{Leaves, SameButBytes, affected_beside, same_world}
-use Rattle.seen_history.proofs.Likening.{true_bytes, true_print, liken_told, liken_done, liken_action, liken_answer, refused_told}
+use Rattle.seen_history.proofs.Likening.{true_bytes, true_print, liken_told, liken_action, refused_told}
 use Rattle.seen_history.proofs.Outlining.{names_same, size_same, live_same, affected_same, restored_same}
 
 -- a refusal leaves the ledger
