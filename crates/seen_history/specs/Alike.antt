@@ -27,7 +27,7 @@ abbrev pub blank_reply : Reply → Reply
 blank_reply (Data bytes) = Data (zeros bytes)
 blank_reply reply = reply
 
--- what a session read of a file
+-- what a session read of a file; the value of an attribute stays
 abbrev pub blank_told : DmCall → DmReply → DmReply
 blank_told (ReadInvis token handle offset len) (told.Data bytes) = told.Data (zeros bytes)
 blank_told call reply = reply

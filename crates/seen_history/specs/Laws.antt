@@ -28,8 +28,9 @@ LegalSeen Tells s W (e ∷ es) = AllowsSeen Tells s W e × FaultIsLast e es × L
 abbrev pub IsLikeLegal : Type 0 → Superblock → World → List Entry → Type 0
 IsLikeLegal Tells s W es = (fs : List Entry) × AreAlike Tells es fs × Legal s W fs
 
--- Seen from a plain map for which the opening stands the history is good but for bytes: it is legal so, and alike to a legal one; and after each beginning
--- of it the store stands so for the world. By the rules, and not but for bytes, are mapped blocks, what sessions keep, and stamps; and its files are plain.
+-- Seen from a plain map for which the opening stands the history is good but for bytes: it is legal so, and alike to a legal one; after each beginning of
+-- it the store stands so for the world; and just as on a disk that tells, its mapped blocks and what sessions keep are those of the rules, its stamps are
+-- those of the accesses, and its files are plain.
 pub record IsGoodSeenFrom (Tells : Type 0) (s : Superblock) (base : ℕ) (h : Held) (es : List Entry) (P : List File) : Type 0 where
   pub legal : LegalSeen Tells s (start P) es
   pub like : IsLikeLegal Tells s (start P) es

@@ -50,7 +50,7 @@ pub record StandsButBytes (st : State) (W : World) : Type 0 where
   pub newer : W.last < st.held.next
   pub ledger : st.ledger ≡ W.ledger
 
--- and where the disk tells what it holds, with these
+-- So it does on any disk, and where the disk tells what it holds it stands for the world.
 pub record StandsSeen (Tells : Type 0) (st : State) (W : World) : Type 0 where
   pub outline : StandsButBytes st W
   pub told : Tells → StandsFor st W

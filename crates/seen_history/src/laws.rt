@@ -7,11 +7,12 @@ ghost use Rattle.plain_model.specs.State.{Held};
 ghost use Rattle.seen_history.specs.Laws.{GoodWhereTold, SeenIsGood};
 
 /// On every disk a run is legal but for bytes, and what the store keeps stands for the plain map but for bytes.
+/// No crate calls it yet.
 pub fn seen_is_good()
     ensures { (tells : Bool) (s : Superblock) (base : ℕ) (opening : Held) (history : List Entry) → SeenIsGood tells s base opening history }
 {}
 
-/// Where the disk tells what it holds that is what is said of a good run.
+/// Where the disk tells what it holds that is what is said of a good run. No crate calls it yet.
 pub fn good_where_told()
     ensures { (s : Superblock) (base : ℕ) (opening : Held) (history : List Entry) (files : List File) → GoodWhereTold s base opening history files }
 {}
