@@ -7,11 +7,13 @@
 mod frames;
 mod gates;
 mod journal;
+mod laws;
 mod lists;
 mod refusals;
 mod scanning;
 
 pub use journal::MetaJournal;
+pub use laws::one_reading;
 pub use lists::{Batch, Batches, RecordBytes};
 pub use refusals::{Full, JournalRefusal};
 pub use scanning::scan;

@@ -16,6 +16,12 @@ journal_is g c image given =
     c.deref.ensures.value ∙ with_items_is c.in-Ok.bytes c.read_at.new.buf (omega (arith, c.read_at.auto.buf, buffer_long g c, c.in-Ok.ensures.len, c.in-Ok.bytes.ok.0))
     ∙ c.in-Ok-read_at.ensures.bytes image given ∙ ap (λ (n : ℕ). part image c.args.at n) (buffer_long g c)
 
+pub returns-clause-read : goal.returns-clause-read
+returns-clause-read g c = λ image given.
+    let d = (goal.at.returns-clause-read g c).After-front_of in
+    subst (λ (l : List ℕ). IsRead l c.args.at c.args.number c.in-Ok-front_of.front.batches.items c.resting-journal.result.used c.in-Ok-front_of.front.bad) (journal_is g d image given)
+    (subst (λ (used : ℕ). IsRead c.deref.result.now c.args.at c.args.number c.in-Ok-front_of.front.batches.items used c.in-Ok-front_of.front.bad) (sym (ap (λ (j : Journal). j.used) c.resting-journal.ensures)) c.in-Ok-front_of.ensures.read)
+
 pub returns-clause-only : goal.returns-clause-only
 returns-clause-only g c = λ image given batches used bad read.
     let d = (goal.at.returns-clause-only g c).After-front_of in
