@@ -18,6 +18,7 @@ use Rattle.hsm_cli.specs.Texts.{IsUnwritten}
 use Rattle.hsm_cli.specs.Told.{SourceTold, SinkTold, HostTold, host_told}
 use Rattle.hsm_cli.specs.Clauses.{ScriptClause, ReadingClause, MediaClause, TellsFaults, CrashClause, FormatClause, HostClause, DrivesClause}
 use Rattle.hsm_cli.specs.Clauses.{OutputClause, TakesTranscript, LegalityClause, PlainClause, StatusClause, KeepsPromises}
+use Rattle.hsm_cli.proofs.Deeds.{deeds_wanting}
 use Rattle.hsm_cli.proofs.Faults.{caused_none}
 use Rattle.hsm_cli.proofs.Legality.{legal_as}
 use Rattle.hsm_cli.proofs.Quiet.{faults_idle}
@@ -173,6 +174,7 @@ module _ {D M : Type 0} (g : disk.Ghosts D) (h : drive.Ghosts M) where
         subst (λ (x : Outcome D M). KeepsPromises t g h None host host (unread given read) (untaken taken written) x) (sym is) (
         record {
           script = refl;
+          deeds = tt;
           reading = record { left = refl; faults = refl };
           legality = legal;
           plain = plain_by refused legal;
@@ -193,6 +195,7 @@ module _ {D M : Type 0} (g : disk.Ghosts D) (h : drive.Ghosts M) where
         subst (λ (x : Outcome D M). KeepsPromises t g h form host host (unread given read) (untaken taken written) x) (sym is) (
         record {
           script = script_wanting (t.stores host) form _;
+          deeds = deeds_wanting h (t.stores host) form _;
           reading = reading_wanting form given read;
           legality = legal;
           plain = plain_by wanting legal;

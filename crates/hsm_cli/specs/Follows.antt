@@ -81,10 +81,10 @@ pub record IsRunTo {D M : Type 0} (g : drive.Ghosts M) (from : Run D M) (lines :
 -- ---- of an outcome
 
 -- the bytes are a script, whose lines are followed so
-pub record IsOfScript {T : Type 0} (FollowsSo : List Line → List T → Type 0) (bytes : List ℕ) (done : List T) : Type 0 where
+pub record IsOfScript (FollowsSo : List Line → List Mark → Type 0) (bytes : List ℕ) (marks : List Mark) : Type 0 where
   pub lines : List Line
   pub script : IsScript (script_bytes bytes) lines
-  pub follows : FollowsSo lines done
+  pub follows : FollowsSo lines marks
 
 -- Some marks of the history: they follow lines so; each call of a daemon is one that it may make, by what the entries before have told it; and of the rest
 -- the marks tell so.
@@ -101,9 +101,9 @@ IsServed history = (marks : List Mark) × (entries_of marks ≡ history) × Serv
 
 -- ---- of a script
 
--- where the source tells its bytes, they are a script whose lines are followed so
-abbrev pub FollowsScript : {T : Type 0} → (List Line → List T → Type 0) → Option (List ℕ) → List T → Type 0
-FollowsScript FollowsSo given done = IfSome given (λ bytes. IsOfScript FollowsSo bytes done)
+-- where the source tells its bytes, they are a script whose lines the marks follow so
+abbrev pub FollowsScript : (List Line → List Mark → Type 0) → Option (List ℕ) → List Mark → Type 0
+FollowsScript FollowsSo given marks = IfSome given (λ bytes. IsOfScript FollowsSo bytes marks)
 
 -- the history is that of all lines
 abbrev pub RunsAll : (List Line → List Mark → Type 0) → (List Mark → Type 0) → Bool → Option (List ℕ) → List Entry → Type 0

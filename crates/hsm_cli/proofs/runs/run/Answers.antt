@@ -27,3 +27,12 @@ returns-clause-all g c = rw c.if-commits.false (has_run g.D.Disk g.M.Drive c.arg
 
 pub returns-clause-first : goal.returns-clause-first
 returns-clause-first g c = rw c.if-commits.false (has_run_first g.D.Disk g.M.Drive c.args.replay.now c.args.script [] c.args.script _ (append-nil c.args.script) (rw c.into_lines.ensures.lines at c.in_ok-run_lines.ensures.all))
+
+pub returns-in_err-run_lines-clause-deeds : goal.returns-in_err-run_lines-clause-deeds
+returns-in_err-run_lines-clause-deeds g c = ?
+
+pub returns-then-commits-clause-deeds : goal.returns-then-commits-clause-deeds
+returns-then-commits-clause-deeds g c = ?
+
+pub returns-clause-deeds : goal.returns-clause-deeds
+returns-clause-deeds g c = ?

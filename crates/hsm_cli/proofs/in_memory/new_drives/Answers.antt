@@ -1,0 +1,6 @@
+use Rattle.hsm_policy.specs.Settings.{standard}
+use Rattle.hsm_cli.proofs.InMemory.{new_handed}
+use Rattle.hsm_cli.proofs.in_memory.new_drives.Goals as goal
+
+pub returns-in-Ok-clause-handed : goal.returns-in-Ok-clause-handed
+returns-in-Ok-clause-handed c = ?
