@@ -1,6 +1,8 @@
 -- What a run on a store of the host, one in memory, and one that opened no store have done.
 use Rattle.std.proofs.Common.{◌≡◌, ◌≢◌, ◌∙◌, inl, inr, ℕ, List, [], Option, None, Some, Result, Ok, Err, IfOk, IfErr, IsOk, MatchResult, refl, sym, ap, subst}
 use Rattle.std.specs.Prelude.{◌⊎◌}
+use Rattle.disk_model.specs.declared.refusal.OpenRefusal.{OpenRefusal}
+use Rattle.disk_model.specs.declared.refusal.OpenRefusal.TheVariants as opening
 use Rattle.media_model.specs.Memory.{Held}
 use Rattle.media_model.specs.Objects.{Alike, Objects}
 use Rattle.media_model.specs.contracts.sure.SureDriveDrive.TheImpl as sure
@@ -50,9 +52,9 @@ open_other opening.Disk is = cc
 open_other opening.Memory is = cc
 
 -- none came where they were refused
-pub none_came : {V : Type 0} {IsSo : V → Type 0} {NoneCame : Type 0} (ready : Result V Cause) → MatchResult ready IsSo (λ why. NoneCame) → IfErr ready (λ why. NoneCame)
-none_came (Ok ds) is = tt
-none_came (Err why) is = is
+pub none_came : {V : Type 0} (IsSo : V → Type 0) (NoneCame : Type 0) (ready : Result V Cause) → MatchResult ready IsSo (λ why. NoneCame) → IfErr ready (λ why. NoneCame)
+none_came IsSo NoneCame (Ok ds) is = tt
+none_came IsSo NoneCame (Err why) is = is
 
 -- ---- a run that opened no store
 
@@ -105,11 +107,11 @@ module _ (MayGo : List Entry → ℕ → Type 0) (AreTheLines : List Line → Ty
   pub drill_told : {S T : Type 0} (sink : SinkTold) (ended : Result S Cause) (told : Result T Cause) (deeds : List Deed) → IfErr told (WritingEnds sink) → (cause_in told ≡ Some NoMemory) ⊎ IsOk ended → AreDone MayGo AreTheLines (cause_in ended) deeds → AreDone MayGo AreTheLines (cause_in told) deeds
   drill_told sink ended told deeds ends (inl memory) done = subst (λ (c : Option Cause). AreDone MayGo AreTheLines c deeds) (sym memory) (wanting MayGo AreTheLines (cause_in ended) deeds done)
   drill_told sink (Ok x) told deeds ends (inr is) done = all_told sink told deeds ends done
-  drill_told sink (Err why) told deeds ends (inr is) done = absurd is
+  drill_told sink (Err why) told deeds ends (inr is) done = cc
 
 -- ---- words that run nothing
 
-module _ {D M : Type 0} (g : drive.Ghosts M) where
+module _ (D : Type 0) {M : Type 0} (g : drive.Ghosts M) where
   pub deeds_wanting : (stores : List ℕ → ℕ → Objects → Type 0) (form : Option Form) (source : SourceTold) → DeedsClause {D = D} g stores form source (ended_with (Some NoMemory) [] None)
   deeds_wanting stores (Some Replay) source = none_done _ (DrivesInMemory standard) [] refl (inl refl) (inl refl)
   deeds_wanting stores (Some (ReplayStore path dir)) source = none_done _ (DrivesWent g standard (stores dir) []) [] refl (inl refl) (inl (refl, refl))

@@ -23,6 +23,7 @@ use Rattle.marked_history.specs.Quiet.{is_quiet}
 use Rattle.hsm_replay.specs.Deeds.{ByDeeds, IsDoneBy, IsSo, IsStopOf, IsStoppedBy, RunsBy, counts_of, given_now}
 use Rattle.hsm_replay.specs.GoingOn.{MayGoOn, may_go_on_by}
 use Rattle.hsm_replay.specs.Parts.{IsLinePart}
+use Rattle.hsm_replay.specs.Running.{commit_line}
 use Rattle.hsm_replay.specs.Stopped.{Broken, Ending, IsLineCut, Lost, Unmade}
 use Rattle.hsm_replay.specs.Systems.{Run}
 use Rattle.hsm_replay.proofs.Deeds.{done_none, done_then, stopped_as, stopped_then}
@@ -32,6 +33,7 @@ use Rattle.hsm_cli.specs.declared.causes.Cause.TheVariants.{ScriptRefused, Words
 use Rattle.hsm_cli.specs.declared.causes.Cause.TheVariants.{HostFault, NoMemory}
 use Rattle.hsm_cli.specs.Deeds.{AreCutIn, AreDone, AreFirst, AreOfLines, HasDone, HaveGone, MayGoOnOver}
 use Rattle.hsm_cli.specs.Endings.{WritingEnds, cause_in, first_of}
+use Rattle.hsm_cli.specs.Follows.{lines_run}
 use Rattle.hsm_cli.specs.Runs.{IsReady}
 use Rattle.hsm_cli.specs.Told.{SinkTold}
 
@@ -45,17 +47,17 @@ may_same {D = D} a b works still opened =
 may_over : {D : Type 0} (s : Store D) → s.files.failed ≡ false → MayGoOn s ≡ MayGoOnOver (Some s.opened)
 may_over s works = ap (λ (failed : Bool). may_go_on_by failed s.tables s.opened) works
 
-module _ {D M : Type 0} (h : drive.Ghosts M) (MayGo : List Entry → ℕ → Type 0) where
-  one_line : (line : Line) (given : Given) (deeds : List Deed) → IsLinePart is_quiet MayGo line given deeds → AreOfLines MayGo (line ∷ []) given deeds
-  one_line line given deeds part = (deeds, ([], (sym (append-nil deeds), part, refl)))
+one_line : (MayGo : List Entry → ℕ → Type 0) (line : Line) (given : Given) (deeds : List Deed) → IsLinePart is_quiet MayGo line given deeds → AreOfLines MayGo (line ∷ []) given deeds
+one_line MayGo line given deeds part = (deeds, [], sym (append-nil deeds), part, refl)
 
+module _ {D M : Type 0} (h : drive.Ghosts M) (MayGo : List Entry → ℕ → Type 0) where
   pub lines_none : (s : Run D M) → IsDoneBy h (AreOfLines MayGo []) s s
   lines_none s = done_none h (AreOfLines MayGo []) s refl
 
   pub lines_on : (MayNow : List Entry → ℕ → Type 0) (done : List Line) (line : Line) (a b c : Run D M) → MayNow ≡ MayGo → IsDoneBy h (AreOfLines MayGo done) a b → IsDoneBy h (IsLinePart is_quiet MayNow line) b c → IsDoneBy h (AreOfLines MayGo (done ++ line ∷ [])) a c
   lines_on MayNow done line a b c same first then =
       done_then h (AreOfLines MayGo done) (IsLinePart is_quiet MayGo line) (AreOfLines MayGo (done ++ line ∷ [])) a b c
-      (λ deeds more follows part. follows_on is_quiet MayGo (given_now a) done (line ∷ []) deeds more follows (one_line line _ more part)) first
+      (λ deeds more follows part. follows_on is_quiet MayGo (given_now a) done (line ∷ []) deeds more follows (one_line MayGo line _ more part)) first
       (subst (λ (May : List Entry → ℕ → Type 0). IsDoneBy h (IsLinePart is_quiet May line) b c) same then)
 
   pub lines_cut : (MayNow : List Entry → ℕ → Type 0) (lines done : List Line) (line : Line) (left : List Line) (why : Stop) (a b c : Run D M) → MayNow ≡ MayGo → lines ≡ done ++ line ∷ left
@@ -72,10 +74,15 @@ module _ {D M : Type 0} (h : drive.Ghosts M) (MayGo : List Entry → ℕ → Typ
   lines_then MayNow done line (Err why) a b c same first then = lines_cut MayNow (done ++ line ∷ []) done line [] why a b c same refl first then
 
   -- stopped in the first of them
-  pub cut_in_more : (lines more : List Line) (why : Stop) (a b : Run D M) → IsStoppedBy h (AreCutIn MayGo lines) why a b → IsStoppedBy h (AreCutIn MayGo (lines ++ more)) why a b
+  cut_in_more : (lines more : List Line) (why : Stop) (a b : Run D M) → IsStoppedBy h (AreCutIn MayGo lines) why a b → IsStoppedBy h (AreCutIn MayGo (lines ++ more)) why a b
   cut_in_more lines more why a b stopped =
       stopped_as h (AreCutIn MayGo lines) (AreCutIn MayGo (lines ++ more)) why a b
       (λ ending deeds cut. record { whole = cut.whole; line = cut.line; left = cut.left ++ more; done = cut.done; last = cut.last; lines_parted = ap (λ (ls : List Line). ls ++ more) cut.lines_parted ∙ append_assoc cut.whole (cut.line ∷ cut.left) more; parted = cut.parted; follows = cut.follows; cut = cut.cut }) stopped
+
+  -- with a commit behind them, or without
+  pub stopped_run : (commits : Bool) (lines : List Line) (why : Stop) (a b : Run D M) → IsStoppedBy h (AreCutIn MayGo lines) why a b → IsStoppedBy h (AreCutIn MayGo (lines_run commits lines)) why a b
+  stopped_run true lines why a b stopped = cut_in_more lines (commit_line ∷ []) why a b stopped
+  stopped_run false lines why a b stopped = stopped
 
 -- ---- a run that has done so
 
@@ -84,7 +91,7 @@ module _ {D M : Type 0} (h : drive.Ghosts M) (from s : Run D M) (is_ready : IsRe
   at_first = rw (is_ready.store.history, is_ready.recall, is_ready.migrate) refl
 
   none_at_first : given_now from ≡ none_given
-  none_at_first = rw (is_ready.recall, is_ready.migrate) refl
+  none_at_first = rw (is_ready.store.history, is_ready.recall, is_ready.migrate) refl
 
   is_served : (deeds : List Deed) → RunsBy h deeds from s → Served recalls (migrates standard) deeds
   is_served deeds runs = (situation_of s.system, subst (λ (n : Numbers). Leads recalls (migrates n) deeds nothing_done (situation_of s.system)) limits (subst (λ (x : Situation recall.Machine migrate.Machine). Leads recalls (migrates from.system.limits) deeds x (situation_of s.system)) at_first runs.goes.leads))
@@ -101,10 +108,10 @@ module _ {D M : Type 0} (h : drive.Ghosts M) (from s : Run D M) (is_ready : IsRe
   is_over : MayGoOn from.system.store ≡ MayGoOnOver (Some from.system.store.opened)
   is_over = may_over from.system.store is_ready.store.working
 
-  MayGo : List Entry → ℕ → Type 0
+  abbrev pub MayGo : List Entry → ℕ → Type 0
   MayGo = MayGoOnOver (Some from.system.store.opened)
 
-  Gone : List Deed → Type 0
+  abbrev pub Gone : List Deed → Type 0
   Gone deeds = HaveGone h from.drives deeds s.drives
 
   -- of these lines
@@ -139,7 +146,7 @@ pub none_done : (FollowsSo GoSo : List Deed → Type 0) (history : List Entry) �
 none_done FollowsSo GoSo history none follows goes = record { deeds = []; entries = sym none; served = nothing_leads; follows = follows; drives = goes }
 
 pub none_gone : {M : Type 0} (h : drive.Ghosts M) (drives now : List M) → now ≡ drives → HaveGone h drives [] now
-none_gone h drives now same = subst (λ (ds : List M). HaveGone h drives [] ds) (sym same) (nothing_goes h drives)
+none_gone {M = M} h drives now same = subst (λ (ds : List M). HaveGone h drives [] ds) (sym same) (nothing_goes h drives)
 
 -- for such a cause
 module _ (MayGo : List Entry → ℕ → Type 0) (AreTheLines : List Line → Type 0) where

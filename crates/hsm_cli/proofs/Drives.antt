@@ -23,7 +23,7 @@ use Rattle.hsm_cli.specs.Clauses.{Why, HasFailed, GivesBack, HandsOut, HandsDriv
 module _ {M : Type 0} (g : drive.Ghosts M) (old mid : ℕ → Objects → Type 0) (same : (v : ℕ) → Alike (old v) (mid v)) where
   -- what was handed out of a folder since it had the same objects
   pub handed_since : (drives volumes capacity : ℕ) (given : List M) → AreHanded g mid drives volumes capacity given → AreHanded g old drives volumes capacity given
-  handed_since drives volumes capacity given h = record { count = h.count; counted = h.counted; room = h.room; has = h.has; there = λ v o within stored. h.there v o within ((same v).1 o stored) }
+  handed_since drives volumes capacity given h = record { count = h.count; counted = h.counted; room = h.room; has = h.has; only = h.only; there = λ v o within stored. h.there v o within ((same v).1 o stored) }
 
 module _ {S M : Type 0} (g : drive.Ghosts M) (old mid : ℕ → Objects → Type 0) (same : (v : ℕ) → Alike (old v) (mid v)) (opened : S) where
   handed_from : (given : List M) → AreHanded g mid standard.drives standard.volumes standard.capacity given → AreHanded g old standard.drives standard.volumes standard.capacity given

@@ -2,7 +2,8 @@
 use Rattle.std.proofs.Common.{◌≡◌, ◌∙◌, ◌<◌, ◌%◌, ℕ, Bool, true, List, [], length, map, Option, None, Some, IfSome, refl, sym, ap, subst, arith}
 use Rattle.std.specs.Prelude.{◌&&◌, ◌==◌, nat_lt, slice_get, is_some, if◌then◌else◌}
 use Rattle.std.specs.Option.{option_map}
-use Rattle.std.proofs.lemmas.Bool.{ltb-true, eqb-refl}
+use Rattle.std.proofs.lemmas.Bool.Decides.{nat_tests}
+use Rattle.std.proofs.lemmas.List.{length-map}
 use Rattle.std.proofs.lemmas.Option.{slice_get-map}
 use Rattle.media_model.specs.Faults.{Faulty}
 use Rattle.media_model.specs.Memory.{AreObjects, Held, Volume, has_volume, no_objects, volume_in}
@@ -18,7 +19,7 @@ unmapped f P None is = tt
 unmapped f P (Some x) is = is
 
 shared : (drives volumes v : ℕ) → v < volumes → is_shared (v % drives) drives volumes v ≡ true
-shared drives volumes v within = rw (ltb-true v volumes within, eqb-refl (v % drives)) refl
+shared drives volumes v within = grind (arith, nat_tests, within)
 
 module _ (drives volumes capacity : ℕ) (ds : List Held) (new : AreNew drives volumes capacity (map never_failing ds)) where
   each : (number : ℕ) → IfSome (slice_get ds number) (λ d. IsNew number drives volumes capacity (never_failing d))
@@ -27,9 +28,9 @@ module _ (drives volumes capacity : ℕ) (ds : List Held) (new : AreNew drives v
   empty : (number v : ℕ) (d : Held) → is_shared number drives volumes v ≡ true → IsNew number drives volumes capacity (never_failing d) → volume_in v d ≡ Some no_objects
   empty number v d is is_new = is_new.shares v ∙ ap (λ (b : Bool). if b then Some no_objects else None) is
 
-  pub new_handed : length ds ≡ drives → AreHanded sure.ghosts without_objects drives volumes capacity ds
-  new_handed count = record {
-    count = count;
+  pub new_handed : AreHanded sure.ghosts without_objects drives volumes capacity ds
+  new_handed = record {
+    count = sym (length-map never_failing ds) ∙ new.count;
     counted = each_place (λ number d. IsNew number drives volumes capacity (never_failing d)) (λ d. 0 ≡ 0) (λ number d is_new. refl) ds each;
     room = each_place (λ number d. IsNew number drives volumes capacity (never_failing d)) (λ d. d.capacity ≡ capacity) (λ number d is_new. is_new.room) ds each;
     has = λ v within. if_some (λ d. IsNew (v % drives) drives volumes capacity (never_failing d)) (λ d. has_volume v d ≡ true) (λ d is_new. ap (λ (o : Option Volume). is_some o) (empty (v % drives) v d (shared drives volumes v within) is_new)) (slice_get ds (v % drives)) (each (v % drives));

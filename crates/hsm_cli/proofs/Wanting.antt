@@ -195,7 +195,7 @@ module _ {D M : Type 0} (g : disk.Ghosts D) (h : drive.Ghosts M) where
         subst (λ (x : Outcome D M). KeepsPromises t g h form host host (unread given read) (untaken taken written) x) (sym is) (
         record {
           script = script_wanting (t.stores host) form _;
-          deeds = deeds_wanting h (t.stores host) form _;
+          deeds = deeds_wanting D h (t.stores host) form _;
           reading = reading_wanting form given read;
           legality = legal;
           plain = plain_by wanting legal;

@@ -95,7 +95,7 @@ returns-in-Ok-clause-deeds g c =
     let may = MayGoOnOver (Some opened) in
     let lines = AreThese (drill_lines c.args.number) in
     rw (c.ended.ensures, c.err-cause.ensures.value)
-    (done_new g.row.D.Denot g.row.D.Denot opened lines (cause_in c.tell.result) (DrivesInMemory standard) drilled.history empty.0 empty.1 empty.2
+    (done_new _ g.row.D.Denot opened lines (cause_in c.tell.result) (DrivesInMemory standard) drilled.history empty.0 empty.1 empty.2
     (done_as standard (AreDone may lines (cause_in drilled.ended)) (AreDone may lines (cause_in c.tell.result)) _ (DrivesInMemory standard) drilled.history
     (λ deeds done. drill_told may lines (sink_told g.O.Sink.taken g.O.Sink.fault_count c.args.sink.now c.tell.new.sink) drilled.ended c.tell.result deeds c.tell.ensures.ends c.tell.ensures.ended done)
     (λ deeds gone. went_in_memory (λ ds. ds.items) (Ok c.in-Ok.prepared.drives) drilled.drives.items c.in-Ok.ensures.handed deeds gone)

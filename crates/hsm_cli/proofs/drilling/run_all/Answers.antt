@@ -39,7 +39,7 @@ pub returns-in-Ok-clause-deeds : goal.returns-in-Ok-clause-deeds
 returns-in-Ok-clause-deeds g c = all_done g.M.Drive c.args.replay.now c.run.new.replay c.requires.ready c.requires.limits (AreThese c.args.script) c.args.script refl c.in-Ok.ensures.deeds
 
 pub returns-in-Err-Memory-clause-deeds : goal.returns-in-Err-Memory-clause-deeds
-returns-in-Err-Memory-clause-deeds g c = wanting_done g.M.Drive c.args.replay.now c.run.new.replay c.requires.ready c.requires.limits (AreThese c.args.script) c.args.script refl c.in-Err-Memory.ensures.deeds
+returns-in-Err-Memory-clause-deeds g c = wanting_done g.M.Drive c.args.replay.now c.run.new.replay c.requires.ready c.requires.limits (AreThese c.args.script) c.args.script refl (rw c.in-Err-Memory.field-0-is at c.in-Err-Memory.ensures.deeds)
 
 pub returns-in-Err-Disk-clause-deeds : goal.returns-in-Err-Disk-clause-deeds
-returns-in-Err-Disk-clause-deeds g c = broken_done g.M.Drive c.args.replay.now c.run.new.replay c.requires.ready c.requires.limits (AreThese c.args.script) c.args.script refl c.in-Err-Disk.ensures.deeds
+returns-in-Err-Disk-clause-deeds g c = broken_done g.M.Drive c.args.replay.now c.run.new.replay c.requires.ready c.requires.limits (AreThese c.args.script) c.args.script refl (rw c.in-Err-Disk.field-0-is at c.in-Err-Disk.ensures.deeds)

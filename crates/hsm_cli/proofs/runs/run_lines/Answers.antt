@@ -1,8 +1,11 @@
-use Rattle.std.proofs.Common.{◌≡◌, ◌∙◌, ◌∷◌, ◌++◌, [], refl, sym, rules, append_assoc}
+use Rattle.std.proofs.Common.{◌≡◌, ◌∙◌, ◌∷◌, ◌++◌, [], List, refl, sym, ap, subst, rules, append-nil, append_assoc}
 use Rattle.std.proofs.lemmas.Result.{err_from_is_err_and}
 use Rattle.hsm_system.proofs.Going.{goes_itself, goes_then, stopped_then}
+use Rattle.script_text.specs.declared.lines.Line.{Line}
+use Rattle.hsm_replay.specs.Deeds.{IsDoneBy}
 use Rattle.hsm_replay.specs.GoingOn.{MayGoOn}
 use Rattle.hsm_replay.proofs.Growing.{have_grown_itself, have_grown_on}
+use Rattle.hsm_cli.specs.Deeds.{AreOfLines}
 use Rattle.hsm_cli.proofs.Doing.{lines_cut, lines_none, lines_on, may_same}
 use Rattle.hsm_cli.proofs.Following.{run_to_none, run_more, first_run}
 use Rattle.hsm_cli.proofs.runs.run_lines.Goals as goal
@@ -64,4 +67,7 @@ returns-in_err-line-clause-deeds g c =
     (may_same c.args.replay.now.system.store c.loop-line.replay.system.store c.requires.ready.store.working c.loop-line.invariant.working c.loop-line.invariant.goes_on.opened) (sym (rw step at c.loop-line.invariant.left)) c.loop-line.invariant.deeds c.in_err-line.ensures.deeds)
 
 pub returns-clause-deeds : goal.returns-clause-deeds
-returns-clause-deeds g c = ?
+returns-clause-deeds g c =
+    let none : c.loop-line.line-iterator ≡ [] = c.in-None.ensures.steps.0 in
+    let all : c.loop-line.invariant.done ≡ c.args.lines = sym (append-nil c.loop-line.invariant.done) ∙ ap (λ (ls : List Line). c.loop-line.invariant.done ++ ls) (sym none) ∙ c.loop-line.invariant.left in
+    subst (λ (ls : List Line). IsDoneBy g.M.Drive (AreOfLines (MayGoOn c.args.replay.now.system.store) ls) c.args.replay.now c.loop-line.replay) all c.loop-line.invariant.deeds

@@ -70,8 +70,8 @@ returns-in-Ok-clause-deeds g c =
 
 pub returns-in-Err-Memory-clause-deeds : goal.returns-in-Err-Memory-clause-deeds
 returns-in-Err-Memory-clause-deeds g c =
-    wanting_done g.M.Drive c.args.replay.now c.run.new.replay c.requires.ready c.requires.limits (AreOfScript c.args.commits (g.I.Source.left c.args.source.now)) (lines_run c.args.commits c.in_ok-script.script) (c.in_ok-script.script, c.in_ok-script.ensures.script, refl) c.in-Err-Memory.ensures.deeds
+    wanting_done g.M.Drive c.args.replay.now c.run.new.replay c.requires.ready c.requires.limits (AreOfScript c.args.commits (g.I.Source.left c.args.source.now)) (lines_run c.args.commits c.in_ok-script.script) (c.in_ok-script.script, c.in_ok-script.ensures.script, refl) (rw c.in-Err-Memory.field-0-is at c.in-Err-Memory.ensures.deeds)
 
 pub returns-in-Err-Disk-clause-deeds : goal.returns-in-Err-Disk-clause-deeds
 returns-in-Err-Disk-clause-deeds g c =
-    broken_done g.M.Drive c.args.replay.now c.run.new.replay c.requires.ready c.requires.limits (AreOfScript c.args.commits (g.I.Source.left c.args.source.now)) (lines_run c.args.commits c.in_ok-script.script) (c.in_ok-script.script, c.in_ok-script.ensures.script, refl) c.in-Err-Disk.ensures.deeds
+    broken_done g.M.Drive c.args.replay.now c.run.new.replay c.requires.ready c.requires.limits (AreOfScript c.args.commits (g.I.Source.left c.args.source.now)) (lines_run c.args.commits c.in_ok-script.script) (c.in_ok-script.script, c.in_ok-script.ensures.script, refl) (rw c.in-Err-Disk.field-0-is at c.in-Err-Disk.ensures.deeds)

@@ -1,4 +1,4 @@
-use Rattle.std.proofs.Common.{Some, None, [], true, refl, inl, inr, sym, ap, ◌∙◌, subst, arith}
+use Rattle.std.proofs.Common.{◌≡◌, Some, None, [], true, refl, inl, inr, sym, ap, ◌∙◌, subst, arith}
 use Rattle.disk_model.specs.Calls.{Rose}
 use Rattle.hsm_policy.specs.Settings.{standard}
 use Rattle.file_store.specs.Stores.{Store}
@@ -202,7 +202,7 @@ returns-in-Ok-open-clause-deeds g c =
     let stored = g.H.Host.stores c.args.host.now c.args.dir.now in
     rw (c.from-in-Ok-open.ensures, c.run_opened-finished.ensures.opening)
     (done_as standard _ _ _ (DrivesWent g.H.Drive.Drive standard stored finished.drives.items) finished.history (λ deeds done. done)
-    (went_since g.H.Drive.Drive stored (g.H.Host.stores c.disk.new.self c.args.dir.now) (c.disk.ensures.folders c.args.dir.now) (λ ds. ds.items) c.ask_for_drives-drives.result finished.drives.items c.ask_for_drives-drives.ensures.given (none_came c.ask_for_drives-drives.result c.run_opened-finished.ensures.drives))
+    (went_since g.H.Drive.Drive stored (g.H.Host.stores c.disk.new.self c.args.dir.now) (c.disk.ensures.folders c.args.dir.now) (λ ds. ds.items) c.ask_for_drives-drives.result finished.drives.items c.ask_for_drives-drives.ensures.given (none_came _ (finished.drives.items ≡ []) c.ask_for_drives-drives.result c.run_opened-finished.ensures.drives))
     c.run_opened-finished.ensures.deeds)
 
 pub returns-in-Err-clause-deeds : goal.returns-in-Err-clause-deeds
