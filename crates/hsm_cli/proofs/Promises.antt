@@ -26,7 +26,7 @@ use Rattle.hsm_cli.specs.Sealing.{IsRightInMemory, IsRightInFolder}
 use Rattle.hsm_cli.specs.Texts.{IsUnwritten, TakesText, IsShown, AreUntold, AreCounted, drill_text}
 use Rattle.hsm_cli.specs.Told.{SourceTold, SinkTold, host_told}
 use Rattle.hsm_cli.specs.Endings.{WritingEnds, RunEnds, FormatEnds, ShowEnds}
-use Rattle.hsm_cli.specs.Clauses.{HasRun, HasDrilled, HasRead, HasReadOn, IsUnread, TellsGiven, IsRunOver, IsOrderlyOver, IsGoodOver, IsPlainOver}
+use Rattle.hsm_cli.specs.Clauses.{HasRun, HasDrilled, HasRead, HasReadOn, IsUnread, TellsGiven, IsRunOver, IsGoodSeenOver, IsOrderlyOver, IsGoodOver, IsPlainOver}
 use Rattle.hsm_cli.specs.Clauses.{IsCausedOver, NoneFailed, TellsFaults}
 use Rattle.hsm_cli.specs.Clauses.{LegalityClause, PlainClause, MediaClause, LeavesSafe, OnlyReads, IsFormatted, HandsOut, HasFailed, HasDriveFailed}
 use Rattle.hsm_cli.specs.Clauses.{GivesBack, HandsDrives, GivesShown, AsksShown, asked_by, FindsNothing, TakesTranscript, Why, HasBegun, Lacks}
@@ -35,7 +35,7 @@ use Rattle.hsm_cli.proofs.Completeness.{status_new, status_store}
 use Rattle.hsm_cli.proofs.Drills.{status_drill}
 use Rattle.hsm_cli.proofs.Faults.{caused_none, none_named}
 use Rattle.hsm_cli.proofs.Formats.{status_format}
-use Rattle.hsm_cli.proofs.Legality.{good_seen, legal_with}
+use Rattle.hsm_cli.proofs.Legality.{good_but_bytes, good_seen, legal_with}
 use Rattle.hsm_cli.proofs.Quiet.{read_quietly, text_quietly}
 use Rattle.hsm_cli.proofs.Showings.{status_show, status_volumes}
 
@@ -55,8 +55,8 @@ module _ {H D M : Type 0} (t : host.Ghosts H D M) (g : disk.Ghosts D) (h : drive
     idle_legal : LegalityClause g o
     idle_legal = legal_with g o o.cause o.disk drives is
 
-    idle_plain : PlainClause g o
-    idle_plain tells P stands = ((idle_legal.good tells).good P stands).plain
+    idle_plain : PlainClause o
+    idle_plain P stands = (idle_legal.seen P stands).plain
 
     idle_media : (form : Option Form) → TellsFaults h form o.drives (faults_in o.history) → MediaClause h form o
     idle_media form faults = record { caused = caused_none (superblock_at (opened_in o)) (base_of (opened_in o)) (held_at (opened_in o)) o.history idle; faults = faults }
@@ -174,6 +174,7 @@ module _ {H D M : Type 0} (t : host.Ghosts H D M) (g : disk.Ghosts D) (h : drive
     new_legal : LegalityClause g o
     new_legal = record {
       from = subst (λ (s : Option (Store D)). IsRunOver (TellsGiven g o.disk) s o.history) (sym not_opened) (good_seen {D = D} (TellsGiven g o.disk) None o.history good);
+      seen = subst (λ (s : Option (Store D)). IsGoodSeenOver (TellsGiven g o.disk) s o.history) (sym not_opened) (good_but_bytes {D = D} (TellsGiven g o.disk) None o.history (good_seen {D = D} (TellsGiven g o.disk) None o.history good));
       orderly = subst (λ (s : Option (Store D)). IsOrderlyOver s o.history) (sym not_opened) (record { once = good.once; ordered = good.ordered });
       good = λ tells. subst (λ (s : Option (Store D)). IsGoodOver s o.history) (sym not_opened) good;
       caused = λ is. absurd (false≢true (sym faultless ∙ is));
@@ -181,8 +182,8 @@ module _ {H D M : Type 0} (t : host.Ghosts H D M) (g : disk.Ghosts D) (h : drive
       faultless = λ sound ample. faultless;
     }
 
-    new_plain : PlainClause g o
-    new_plain tells = subst (λ (s : Option (Store D)). IsPlainOver s o.history) (sym not_opened) plain
+    new_plain : PlainClause o
+    new_plain = subst (λ (s : Option (Store D)). IsPlainOver s o.history) (sym not_opened) plain
 
     new_caused : IsCausedOver (opened_in o) o.history
     new_caused = subst (λ (s : Option (Store D)). IsCausedOver s o.history) (sym not_opened) caused
@@ -243,7 +244,7 @@ module _ {H D M : Type 0} (t : host.Ghosts H D M) (g : disk.Ghosts D) (h : drive
       → DeedsClause h (t.stores old) (Some (ReplayStore path dir)) source o
       → HasReadOn (opened_in o) source o.cause
       → LegalityClause g o
-      → PlainClause g o
+      → PlainClause o
       → AreTrue h o.drives (faults_in o.history)
       → IsCausedOver (opened_in o) o.history
       → LeavesSafe g (t.holds old path) (opened_in o) o.history o.cause o.disk

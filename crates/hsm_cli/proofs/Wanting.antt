@@ -145,8 +145,8 @@ module _ {D M : Type 0} (g : disk.Ghosts D) (h : drive.Ghosts M) where
     complete = λ store script works. inr refl;
   }
 
-  plain_by : (o : Outcome D M) → LegalityClause g o → PlainClause g o
-  plain_by o legal tells P stands = ((legal.good tells).good P stands).plain
+  plain_by : (o : Outcome D M) → LegalityClause g o → PlainClause o
+  plain_by o legal P stands = (legal.seen P stands).plain
 
   status_refused : (holds : List ℕ → List ℕ → Type 0) (source : SourceTold) (sink : SinkTold) (host : HostTold) → StatusClause g h None holds source sink host (refused {D = D} {M = M})
   status_refused holds source sink host = record {

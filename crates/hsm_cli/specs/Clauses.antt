@@ -22,6 +22,7 @@ use Rattle.plain_model.specs.Stands.{Stands}
 use Rattle.plain_model.specs.Laws.{IsPlain, IsRunSeen, IsOrderly, IsGoodRun}
 use Rattle.plain_model.specs.Exact.{held_by}
 use Rattle.plain_model.specs.Synced.{synced}
+use Rattle.seen_history.specs.Laws.{IsGoodSeen}
 use Rattle.hsm_policy.specs.Settings.{standard}
 use Rattle.file_store.specs.Stores.{Store, superblock_of, IsRecovered, IsDurable}
 use Rattle.hsm_core.specs.Crashes.{IsPrefix}
@@ -123,6 +124,12 @@ IsRunOver Told opened history = IsRunSeen Told (superblock_at opened) (base_of o
 abbrev pub IsOrderlyOver : {D : Type 0} → Option (Store D) → List Entry → Type 0
 IsOrderlyOver opened history = IsOrderly (superblock_at opened) (base_of opened) (held_at opened) history
 
+-- From each plain map that the store stands for it is good but for bytes, and where the disk tells in these too: each entry is alike to one that may come;
+-- what each beginning of the history leaves stands so for the map that it leaves; and the mapped blocks, all that sessions keep, and the stamps are just
+-- those of the rules.
+abbrev pub IsGoodSeenOver : {D : Type 0} → Type 0 → Option (Store D) → List Entry → Type 0
+IsGoodSeenOver Told opened history = IsGoodSeen Told (superblock_at opened) (base_of opened) (held_at opened) history
+
 -- Where it tells the history is a good run: each answer is the exact one, each token is given once, and from each plain map that the store stands for it
 -- is legal; what each beginning of it leaves stands for the map that it leaves, with the mapped blocks and all that sessions keep by the rules, and with
 -- the stamps of the accesses. That the files are plain, which is a part of it too, is the next clause.
@@ -140,6 +147,7 @@ pub record HasFailed {D : Type 0} (g : disk.Ghosts D) (given : Option D) : Type 
 pub record LegalityClause {D M : Type 0} (g : disk.Ghosts D) (o : Outcome D M) : Type 0 where
   pub from : IsRunOver (TellsGiven g o.disk) (opened_in o) o.history
   pub orderly : IsOrderlyOver (opened_in o) o.history
+  pub seen : IsGoodSeenOver (TellsGiven g o.disk) (opened_in o) o.history
   pub good : TellsGiven g o.disk → IsGoodOver (opened_in o) o.history
   pub caused : has_fault o.history ≡ true → HasFailed g o.disk
   pub told : o.cause ≡ Some DiskFault → IsSome (opened_in o) → has_fault o.history ≡ true
@@ -149,8 +157,8 @@ pub record LegalityClause {D M : Type 0} (g : disk.Ghosts D) (o : Outcome D M) :
 abbrev pub IsPlainOver : {D : Type 0} → Option (Store D) → List Entry → Type 0
 IsPlainOver opened history = (P : List File) → Stands (held_at opened).files P → IsPlain P history
 
-abbrev pub PlainClause : {D M : Type 0} → disk.Ghosts D → Outcome D M → Type 0
-PlainClause g o = TellsGiven g o.disk → IsPlainOver (opened_in o) o.history
+abbrev pub PlainClause : {D M : Type 0} → Outcome D M → Type 0
+PlainClause o = IsPlainOver (opened_in o) o.history
 
 -- ---- the media clause
 
@@ -605,7 +613,7 @@ pub record KeepsPromises {H D M : Type 0} (t : host.Ghosts H D M) (g : disk.Ghos
   pub deeds : DeedsClause h (t.stores old) form source o
   pub reading : ReadingClause form source o
   pub legality : LegalityClause g o
-  pub plain : PlainClause g o
+  pub plain : PlainClause o
   pub media : MediaClause h form o
   pub crash : CrashClause g form (t.holds old) o
   pub format : FormatClause g form o

@@ -87,7 +87,7 @@ pub(crate) fn run_opened<D: Disk, M: Drive, I: Source, O: Sink>(
     ensures caused { has_fault result.history ≡ true → Rose (D.fault_count hsm.opened.disk) (D.fault_count result.disk) }
     ensures told { result.cause ≡ Some Cause.DiskFault → has_fault result.history ≡ true }
     ensures faultless { result.cause ≢ Some Cause.DiskFault → result.cause ≢ Some Cause.NoMemory → has_fault result.history ≡ false }
-    ensures plain { Tells D.Disk result.disk → IsPlainOver (Some hsm.opened) result.history }
+    ensures plain { IsPlainOver (Some hsm.opened) result.history }
     ensures media { AreTrue M.Drive result.drives.items (faults_in result.history) }
     ensures caused_by { IsCausedOver (Some hsm.opened) result.history }
     ensures idle { OnErr drives (result.history ≡ []) }

@@ -60,7 +60,7 @@ pub fn hsm_main<H: Host, I: Source, O: Sink>(
     ensures deeds { DeedsClause H.Drive.Drive (H.stores host.old) (form_of (map string_bytes words.now)) (source_told I.left I.fault_count source.old source.new) result }
     ensures reading { ReadingClause (form_of (map string_bytes words.now)) (source_told I.left I.fault_count source.old source.new) result }
     ensures legality { LegalityClause H.Disk.Disk result }
-    ensures plain { PlainClause H.Disk.Disk result }
+    ensures plain { PlainClause result }
     ensures media { MediaClause H.Drive.Drive (form_of (map string_bytes words.now)) result }
     ensures crash { CrashClause H.Disk.Disk (form_of (map string_bytes words.now)) (H.holds host.old) result }
     ensures format { FormatClause H.Disk.Disk (form_of (map string_bytes words.now)) result }
@@ -185,7 +185,7 @@ fn replay_store<H: Host, I: Source, O: Sink>(
     ensures deeds { RunHasDone standard (AreOfScript true (I.left source.old)) (DrivesWent H.Drive.Drive standard (H.stores host.old dir.now) result.drives) result }
     ensures reading { HasReadOn (opened_in result) (source_told I.left I.fault_count source.old source.new) result.cause }
     ensures legality { LegalityClause H.Disk.Disk result }
-    ensures plain { PlainClause H.Disk.Disk result }
+    ensures plain { PlainClause result }
     ensures media { AreTrue H.Drive.Drive result.drives (faults_in result.history) }
     ensures caused_by { IsCausedOver (opened_in result) result.history }
     ensures crash { LeavesSafe H.Disk.Disk (H.holds host.old path.now) (opened_in result) result.history result.cause result.disk }

@@ -14,6 +14,8 @@ mod folders;
 #[cfg(test)]
 mod handles;
 #[cfg(test)]
+mod journals;
+#[cfg(test)]
 mod messages;
 #[cfg(test)]
 mod migrating;

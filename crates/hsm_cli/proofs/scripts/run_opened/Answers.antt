@@ -7,7 +7,7 @@ use Rattle.hsm_cli.specs.Clauses.{HasRead, IsWhole}
 use Rattle.hsm_cli.proofs.Committing.{ran_well, on_none, whole}
 use Rattle.hsm_cli.proofs.Daemons.{run_is_well}
 use Rattle.hsm_cli.proofs.Faults.{caused_served}
-use Rattle.hsm_cli.proofs.Legality.{orderly}
+use Rattle.hsm_cli.proofs.Legality.{orderly, plain_over}
 use Rattle.hsm_cli.proofs.Quiet.{works_still, reads_quietly, writes_quietly, lent_first}
 use Rattle.hsm_cli.proofs.Scripted.{idle_none}
 use Rattle.hsm_cli.proofs.Telling.{told_fault, faultless_unless, fault_caused, read_by, written_if_none, written_if_works, told_unready, run_ends}
@@ -78,7 +78,7 @@ pub returns-clause-good : goal.returns-clause-good
 returns-clause-good g c = rw (c.close-disk.ensures.disk, c.close-disk.ensures.entries, ← c.run_with-ended.ensures.goes_on.opened) c.close-disk.ensures.kept.good
 
 pub returns-clause-plain : goal.returns-clause-plain
-returns-clause-plain g c = rw (c.close-disk.ensures.disk, c.close-disk.ensures.entries, ← c.run_with-ended.ensures.goes_on.opened) (λ tells P stands. ((c.close-disk.ensures.kept.good tells).good P stands).plain)
+returns-clause-plain g c = rw (c.close-disk.ensures.disk, c.close-disk.ensures.entries, ← c.run_with-ended.ensures.goes_on.opened) (plain_over _ (Some _) _ c.close-disk.ensures.kept.run)
 
 pub returns-clause-done : goal.returns-clause-done
 returns-clause-done g c = rw (c.close-disk.ensures.entries, c.first_cause.ensures) (written_if_none _ (sink_told g.O.Sink.taken g.O.Sink.fault_count c.args.sink.now c.write_transcript-written.new.sink) c.run_with-ended.result.ended c.write_transcript-written.result c.write_transcript-written.ensures.refused (rw c.close-disk.ensures.entries at c.write_transcript-written.ensures.all))

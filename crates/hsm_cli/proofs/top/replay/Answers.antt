@@ -47,7 +47,7 @@ pub returns-in-Ok-clause-faultless : goal.returns-in-Ok-clause-faultless
 returns-in-Ok-clause-faultless g c = rw c.ended.ensures (never_rose _ c.run_opened-finished.ensures.caused)
 
 pub returns-in-Ok-clause-plain : goal.returns-in-Ok-clause-plain
-returns-in-Ok-clause-plain g c = rw c.ended.ensures (λ P stands. c.run_opened-finished.ensures.plain (c.run_opened-finished.result.disk, refl, tt) P (subst (λ (h : Held). Stands h.files P) (sym c.in-Ok.ensures.empty.1) stands))
+returns-in-Ok-clause-plain g c = rw c.ended.ensures (λ P stands. c.run_opened-finished.ensures.plain P (subst (λ (h : Held). Stands h.files P) (sym c.in-Ok.ensures.empty.1) stands))
 
 pub returns-in-Ok-clause-caused_by : goal.returns-in-Ok-clause-caused_by
 returns-in-Ok-clause-caused_by g c = rw c.ended.ensures (caused_new c.in-Ok.hsm.opened c.run_opened-finished.result.history c.in-Ok.ensures.empty.0 c.in-Ok.ensures.empty.1 c.in-Ok.ensures.empty.2 c.run_opened-finished.ensures.caused_by)

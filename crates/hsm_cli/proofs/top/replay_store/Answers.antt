@@ -11,7 +11,7 @@ use Rattle.hsm_cli.specs.Sealing.{TellsOf, IsRightInFolder}
 use Rattle.hsm_cli.specs.Told.{source_told, sink_told, host_told}
 use Rattle.hsm_cli.proofs.Crashes.{crash_safe, why_unopened, why_unhanded, back_unhanded, words_unhanded, begun_unhanded, words_unopened, begun_unopened}
 use Rattle.hsm_cli.proofs.Running.{served_words, served_begun}
-use Rattle.hsm_cli.proofs.Legality.{good_unopened, legal_as}
+use Rattle.hsm_cli.proofs.Legality.{good_but_bytes, good_unopened, legal_as}
 use Rattle.hsm_cli.proofs.Drives.{rose_from, rose_once, gives_back, none_at_fault, host_failed, why_served, disk_came, drives_came, tallies_since}
 use Rattle.hsm_cli.proofs.Quiet.{unhanded_quiet}
 use Rattle.hsm_cli.proofs.Scripted.{also_well, ran_with}
@@ -125,6 +125,7 @@ returns-in-Ok-open-clause-legality g c =
     record {
       from = rw c.run_opened-finished.ensures.opening c.run_opened-finished.ensures.legality;
       orderly = rw c.run_opened-finished.ensures.opening c.run_opened-finished.ensures.orderly;
+      seen = rw c.run_opened-finished.ensures.opening (good_but_bytes _ (Some c.in-Ok-open.hsm.opened) _ c.run_opened-finished.ensures.legality);
       good = rw c.run_opened-finished.ensures.opening c.run_opened-finished.ensures.good;
       caused = λ is. record { disk = c.run_opened-finished.result.disk; back = refl; rose = rose_from 0 old new (omega arith) (c.run_opened-finished.ensures.caused is) };
       told = λ is some. c.run_opened-finished.ensures.told is;
@@ -149,7 +150,7 @@ pub returns-in-Err-clause-reading : goal.returns-in-Err-clause-reading
 returns-in-Err-clause-reading g c = rw c.unopened.ensures (record { left = refl; faults = refl })
 
 pub returns-in-Err-clause-plain : goal.returns-in-Err-clause-plain
-returns-in-Err-clause-plain g c = rw c.unopened.ensures (λ tells P stands. ((good_unopened g.row.H-Disk.Denot).good P stands).plain)
+returns-in-Err-clause-plain g c = rw c.unopened.ensures (λ P stands. ((good_unopened g.row.H-Disk.Denot).good P stands).plain)
 
 pub returns-in-Err-clause-back : goal.returns-in-Err-clause-back
 returns-in-Err-clause-back g c = rw (c.unopened.ensures, c.from.ensures) (λ none. back_unhanded c.in-Err.refusal)
@@ -165,7 +166,7 @@ returns-in-Err-clause-why g c =
     (why_unhanded g.H.Disk.Disk named (Rose old new) source sink None c.in-Err.refusal (λ is. rose_once old old new (omega arith) (c.in-Err.ensures.cause.rose is)))
 
 pub returns-in-Err-open-clause-plain : goal.returns-in-Err-open-clause-plain
-returns-in-Err-open-clause-plain g c = rw c.unopened-in-Err-open.ensures (λ tells P stands. ((good_unopened g.row.H-Disk.Denot).good P stands).plain)
+returns-in-Err-open-clause-plain g c = rw c.unopened-in-Err-open.ensures (λ P stands. ((good_unopened g.row.H-Disk.Denot).good P stands).plain)
 
 pub returns-in-Err-open-clause-reading : goal.returns-in-Err-open-clause-reading
 returns-in-Err-open-clause-reading g c = rw c.unopened-in-Err-open.ensures (record { left = refl; faults = refl })

@@ -1,0 +1,12 @@
+mod Mapped
+mod Outlining
+mod Fitting
+mod Likening
+mod Ruling
+mod Leaving
+mod Calling
+mod Telling
+mod Outlined
+mod Stepping
+mod Plainly
+pub mod Goods
