@@ -30,7 +30,7 @@ module _ (drives volumes capacity : ℕ) (ds : List Held) (new : AreNew drives v
 
   pub new_handed : AreHanded sure.ghosts without_objects drives volumes capacity ds
   new_handed = record {
-    count = sym (length-map never_failing ds) ∙ new.count;
+    count = sym (length-map ds never_failing) ∙ new.count;
     counted = each_place (λ number d. IsNew number drives volumes capacity (never_failing d)) (λ d. 0 ≡ 0) (λ number d is_new. refl) ds each;
     room = each_place (λ number d. IsNew number drives volumes capacity (never_failing d)) (λ d. d.capacity ≡ capacity) (λ number d is_new. is_new.room) ds each;
     has = λ v within. if_some (λ d. IsNew (v % drives) drives volumes capacity (never_failing d)) (λ d. has_volume v d ≡ true) (λ d is_new. ap (λ (o : Option Volume). is_some o) (empty (v % drives) v d (shared drives volumes v within) is_new)) (slice_get ds (v % drives)) (each (v % drives));

@@ -78,7 +78,7 @@ pub returns-clause-good : goal.returns-clause-good
 returns-clause-good g c = rw (c.close-disk.ensures.disk, c.close-disk.ensures.entries, ← c.run_with-ended.ensures.goes_on.opened) c.close-disk.ensures.kept.good
 
 pub returns-clause-plain : goal.returns-clause-plain
-returns-clause-plain g c = rw (c.close-disk.ensures.disk, c.close-disk.ensures.entries, ← c.run_with-ended.ensures.goes_on.opened) (plain_over _ (Some _) _ c.close-disk.ensures.kept.run)
+returns-clause-plain g c = rw (c.close-disk.ensures.entries, ← c.run_with-ended.ensures.goes_on.opened) (plain_over _ (Some c.run_with-ended.result.hsm.opened) c.run_with-ended.result.hsm.history c.close-disk.ensures.kept.run)
 
 pub returns-clause-done : goal.returns-clause-done
 returns-clause-done g c = rw (c.close-disk.ensures.entries, c.first_cause.ensures) (written_if_none _ (sink_told g.O.Sink.taken g.O.Sink.fault_count c.args.sink.now c.write_transcript-written.new.sink) c.run_with-ended.result.ended c.write_transcript-written.result c.write_transcript-written.ensures.refused (rw c.close-disk.ensures.entries at c.write_transcript-written.ensures.all))
