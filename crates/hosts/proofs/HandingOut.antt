@@ -1,16 +1,19 @@
 -- What a call of a host in memory leaves of what its names hold.
-use Rattle.std.proofs.Common.{◌≡◌, ◌∙◌, ◌<◌, ◌%◌, ⊎_elim, ℕ, zero, suc, Bool, true, false, ◌&&◌, ◌==◌, List, [], ◌∷◌, length, Option}
+use Rattle.std.proofs.Common.{◌≡◌, ◌∙◌, ◌<◌, ◌%◌, ⊎_elim, ℕ, zero, suc, Bool, true, false, ◌&&◌, ◌||◌, ◌==◌, List, [], ◌∷◌, length, Option}
 use Rattle.std.proofs.Common.{Some, None, IfSome, Result, Ok, Err, OnOk, IfOk, IfErr, option_map, refl, ap, sym, subst, arith}
 use Rattle.std.proofs.Math.Nat.{eq-or-lt_of_le}
 use Rattle.std.proofs.lemmas.Bool.Decides.{nat_tests}
-use Rattle.std.specs.Prelude.{slice_get, is_some, if◌then◌else◌}
-use Rattle.std.specs.List.{AllByRecursion, list_all}
+use Rattle.std.proofs.lemmas.Map.Made.{is_some-lookup}
+use Rattle.std.proofs.lemmas.Option.{slice_get_within}
+use Rattle.std.specs.Prelude.{slice_get, is_some, if◌then◌else◌, nat_eq, nat_lt}
+use Rattle.std.specs.List.{AllByRecursion, list_all, list_any}
+use Rattle.std.specs.Map.{keys_of}
 use Rattle.std.specs.Option.{IsSomeAnd, option_map_or}
 use Rattle.std.specs.FinMap.{get, remove}
 use Rattle.media_model.specs.Objects.{Objects}
 use Rattle.media_model.specs.Memory.{AreObjects, no_objects, volume_in, has_volume}
 use Rattle.media_model.specs.Faults.{Faulty}
-use Rattle.media_model.specs.Sharing.{IsNew, AreNew, is_shared, have_room, have_volumes, has_shared}
+use Rattle.media_model.specs.Sharing.{IsNew, AreNew, is_shared, have_room, have_volumes, has_shared, shares_only, first_share_only, share_only}
 use Rattle.disk_model.specs.Images.{Alike}
 use Rattle.disk_model.specs.Calls.{raised}
 use Rattle.disk_model.specs.Fuse.{Fused}
@@ -91,7 +94,7 @@ module _ (name : List ℕ) (old new : Hosted) where
 
 -- ---- a call for drives
 
-both_of : (a b : Bool) → (a && b) ≡ true → (a ≡ true) × (b ≡ true)
+pub both_of : (a b : Bool) → (a && b) ≡ true → (a ≡ true) × (b ≡ true)
 both_of true true is = (refl, refl)
 both_of true false is = absurd cc
 both_of false b is = absurd cc
@@ -127,6 +130,56 @@ module _ (drives volumes capacity v : ℕ) (d : Faulty) (within : v < volumes) (
   new_has_none : AreObjects d.held v []
   new_has_none = ap (option_map (λ x. x.objects)) has_empty
 
+-- ---- no other volumes
+
+-- a volume that the drive of that number shares
+shared_there : (number drives volumes v : ℕ) → is_shared number drives volumes v ≡ true → (v < volumes) × (v % drives ≡ number)
+shared_there number drives volumes v is =
+    let both = both_of (nat_lt v volumes) (v % drives == number) is in
+    (grind (arith, nat_tests, both.0), grind (arith, nat_tests, both.1))
+
+-- its volumes are those that it shares
+abbrev HasOnly : ℕ → ℕ → ℕ → Faulty → Type 0
+HasOnly number drives volumes d = (v : ℕ) → has_volume v d.held ≡ true → (v < volumes) × (v % drives ≡ number)
+
+new_has_only : (number drives volumes capacity : ℕ) (d : Faulty) → IsNew number drives volumes capacity d → HasOnly number drives volumes d
+new_has_only number drives volumes capacity d new v has = shared_there number drives volumes v (by (is_shared number drives volumes v) (sym (ap is_some (new.shares v)) ∙ has))
+  where
+    by : (shared : Bool) → is_some (if shared then Some no_objects else None) ≡ true → shared ≡ true
+    by true is = refl
+    by false is = absurd cc
+
+-- what a test of each number tells of one
+passes_first : (test : ℕ → Bool) (v n : ℕ) (numbers : List ℕ) (same : Bool) → nat_eq v n ≡ same → (nat_eq v n || list_any (nat_eq v) numbers) ≡ true → test n ≡ true → (list_any (nat_eq v) numbers ≡ true → test v ≡ true) → test v ≡ true
+passes_first test v n numbers true is there first later = let one : v ≡ n = grind (arith, nat_tests, is) in rw one first
+passes_first test v n numbers false is there first later = later (sym (ap (λ (b : Bool). b || list_any (nat_eq v) numbers) is) ∙ there)
+
+passes_one : (test : ℕ → Bool) (v : ℕ) (numbers : List ℕ) → list_any (nat_eq v) numbers ≡ true → list_all test numbers ≡ true → test v ≡ true
+passes_one test v [] there passes = absurd cc
+passes_one test v (n ∷ numbers) there passes =
+    let both = both_of (test n) (list_all test numbers) passes in
+    passes_first test v n numbers (nat_eq v n) refl there both.0 (λ later. passes_one test v numbers later both.1)
+
+shares_has_only : (number drives volumes : ℕ) (d : Faulty) → shares_only number drives volumes d ≡ true → HasOnly number drives volumes d
+shares_has_only number drives volumes d shares v has =
+    shared_there number drives volumes v (passes_one (is_shared number drives volumes) v (keys_of d.held.volumes) (sym (is_some-lookup (nat_eq v) d.held.volumes) ∙ has) shares)
+
+-- what a test of the first drives tells of one
+first_each : (ds : List Faulty) (volumes n number : ℕ) → number < n → first_share_only ds volumes n ≡ true → option_map_or (shares_only number (length ds) volumes) (slice_get ds number) true ≡ true
+first_each ds volumes zero number within all = absurd (omega (arith, within))
+first_each ds volumes (suc n) number within all =
+    let both = both_of (first_share_only ds volumes n) (option_map_or (shares_only n (length ds) volumes) (slice_get ds n) true) all in
+    ⊎_elim (λ (same : number ≡ n). rw same both.1) (λ (less : number < n). first_each ds volumes n number less both.0) (eq-or-lt_of_le (omega (arith, within)))
+
+each_has_only : (ds : List Faulty) (volumes : ℕ) → share_only ds volumes ≡ true → (number : ℕ) → IfSome (slice_get ds number) (HasOnly number (length ds) volumes)
+each_has_only ds volumes all number = by (slice_get ds number) refl
+  where
+    by : (found : Option Faulty) → slice_get ds number ≡ found → IfSome found (HasOnly number (length ds) volumes)
+    by None is = tt
+    by (Some d) is =
+        shares_has_only number (length ds) volumes d
+        (sym (ap (λ (o : Option Faulty). option_map_or (shares_only number (length ds) volumes) o true) is) ∙ first_each ds volumes (length ds) number (slice_get_within ds number d is) all)
+
 -- what a test of all volumes tells of one
 has_each : (ds : List Faulty) (n v : ℕ) → v < n → have_volumes ds n ≡ true → has_shared ds v ≡ true
 has_each ds zero v within all = absurd (omega (arith, within))
@@ -139,12 +192,15 @@ if_has v None has = tt
 if_has v (Some d) has = has
 
 module _ (drives volumes capacity : ℕ) (held : List Faulty) (fits : fit held drives volumes capacity ≡ true) where
+  fit_both : ((length held == drives && have_room held capacity && have_volumes held volumes) ≡ true) × (share_only held volumes ≡ true)
+  fit_both = both_of (length held == drives && have_room held capacity && have_volumes held volumes) (share_only held volumes) fits
+
   fit_count : length held ≡ drives
-  fit_count = let first = (both_of (length held == drives) (have_room held capacity) (both_of (length held == drives && have_room held capacity) (have_volumes held volumes) fits).0).0 in grind (arith, nat_tests, first)
+  fit_count = let first = (both_of (length held == drives) (have_room held capacity) (both_of (length held == drives && have_room held capacity) (have_volumes held volumes) fit_both.0).0).0 in grind (arith, nat_tests, first)
 
   fit_rest : (have_room held capacity ≡ true) × (have_volumes held volumes ≡ true)
   fit_rest =
-      let both = both_of (length held == drives && have_room held capacity) (have_volumes held volumes) fits in
+      let both = both_of (length held == drives && have_room held capacity) (have_volumes held volumes) fit_both.0 in
       ((both_of (length held == drives) (have_room held capacity) both.0).1, both.1)
 
   fit_room : AllByRecursion (λ d. d.held.capacity ≡ capacity) held
@@ -152,6 +208,9 @@ module _ (drives volumes capacity : ℕ) (held : List Faulty) (fits : fit held d
 
   fit_has : (v : ℕ) → v < volumes → IfSome (slice_get held (v % drives)) (λ d. has_volume v d.held ≡ true)
   fit_has v within = subst (λ (n : ℕ). IfSome (slice_get held (v % n)) (λ d. has_volume v d.held ≡ true)) fit_count (if_has v (slice_get held (v % length held)) (has_each held volumes v within fit_rest.1))
+
+  fit_only : (number : ℕ) → IfSome (slice_get held number) (HasOnly number drives volumes)
+  fit_only number = subst (λ (n : ℕ). IfSome (slice_get held number) (HasOnly number n volumes)) fit_count (each_has_only held volumes fit_both.1 number)
 
   fit_there : (v : ℕ) (o : Objects) → StoredIn (Some held) v o → IfSome (slice_get held (v % drives)) (λ d. AreObjects d.held v o)
   fit_there v o stored = subst (λ (n : ℕ). IfSome (slice_get held (v % n)) (λ d. AreObjects d.held v o)) fit_count (some_and (λ d. AreObjects d.held v o) (slice_get held (v % length held)) stored)
@@ -168,6 +227,10 @@ module _ (name : List ℕ) (drives volumes capacity : ℕ) (old new : Hosted) wh
   pub handed-has : (held : Option (List Faulty)) (given : List Faulty) → Handed held drives volumes capacity given → (v : ℕ) → v < volumes → IfSome (slice_get given (v % drives)) (λ d. has_volume v d.held ≡ true)
   handed-has None given news v within = if_some (IsNew (v % drives) drives volumes capacity) (λ d. has_volume v d.held ≡ true) (λ d is. new_has drives volumes capacity v d within is) (slice_get given (v % drives)) (news.each (v % drives))
   handed-has (Some held) given same v within = subst (λ ds. IfSome (slice_get ds (v % drives)) (λ d. has_volume v d.held ≡ true)) (sym same.0) (fit_has drives volumes capacity held same.1 v within)
+
+  pub handed-only : (held : Option (List Faulty)) (given : List Faulty) → Handed held drives volumes capacity given → (number : ℕ) → IfSome (slice_get given number) (HasOnly number drives volumes)
+  handed-only None given news number = if_some (IsNew number drives volumes capacity) (HasOnly number drives volumes) (λ d is. new_has_only number drives volumes capacity d is) (slice_get given number) (news.each number)
+  handed-only (Some held) given same number = subst (λ ds. IfSome (slice_get ds number) (HasOnly number drives volumes)) (sym same.0) (fit_only drives volumes capacity held same.1 number)
 
   pub handed-there : (held : Option (List Faulty)) (given : List Faulty) → Handed held drives volumes capacity given → (v : ℕ) (o : Objects) → v < volumes → StoredIn held v o → IfSome (slice_get given (v % drives)) (λ d. AreObjects d.held v o)
   handed-there None given news v o within none = rw none (if_some (IsNew (v % drives) drives volumes capacity) (λ d. AreObjects d.held v []) (λ d is. new_has_none drives volumes capacity v d within is) (slice_get given (v % drives)) (news.each (v % drives)))

@@ -48,10 +48,11 @@ abbrev pub StoresAll : (List ℕ → ℕ → Objects → Type 0) → (List ℕ �
 StoresAll old new = (name : List ℕ) (v : ℕ) → AlikeObjects (old name v) (new name v)
 
 -- Drives over these volumes as the host handed them out: as many as were asked for, none has ever failed, each volume may have so many bytes, and volume v
--- is in the drive v mod their number, with the objects that the host had of it.
+-- is in the drive v mod their number, with the objects that the host had of it. There are no other volumes.
 pub record AreHanded {M : Type 0} (g : drive.Ghosts M) (stored : ℕ → Objects → Type 0) (drives volumes capacity : ℕ) (given : List M) : Type 0 where
   pub count : length given ≡ drives
   pub counted : AllByRecursion (λ d. g.fault_count d ≡ 0) given
   pub room : AllByRecursion (λ d. g.capacity_of d ≡ capacity) given
   pub has : (v : ℕ) → v < volumes → IfSome (slice_get given (v % drives)) (λ d. g.has d v ≡ true)
+  pub only : (number : ℕ) → IfSome (slice_get given number) (λ d. (v : ℕ) → g.has d v ≡ true → (v < volumes) × (v % drives ≡ number))
   pub there : (v : ℕ) (o : Objects) → v < volumes → stored v o → IfSome (slice_get given (v % drives)) (λ d. g.gives d v o)

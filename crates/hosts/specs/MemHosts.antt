@@ -11,7 +11,7 @@ use Rattle.std.specs.Option.{IsSomeAnd}
 use Rattle.media_model.specs.Objects.{Objects}
 use Rattle.media_model.specs.Memory.{AreObjects}
 use Rattle.media_model.specs.Faults.{Faulty}
-use Rattle.media_model.specs.Sharing.{AreNew, have_room, have_volumes}
+use Rattle.media_model.specs.Sharing.{AreNew, have_room, have_volumes, share_only}
 use Rattle.disk_model.specs.Images.{Within}
 use Rattle.disk_model.specs.Calls.{raised, both_faults}
 use Rattle.disk_model.specs.Fuse.{Fused}
@@ -74,9 +74,9 @@ HasObjects h name v o = StoredIn (get h.folders name) v o
 abbrev pub unfailed : List Faulty → List Faulty
 unfailed drives = map (λ (d : Faulty). record d { faults = 0 }) drives
 
--- these are so many drives with so many volumes, each with so much room
+-- these are so many drives with just so many volumes, each with so much room
 abbrev pub fit : List Faulty → ℕ → ℕ → ℕ → Bool
-fit held drives volumes capacity = (length held == drives) && have_room held capacity && have_volumes held volumes
+fit held drives volumes capacity = (length held == drives) && have_room held capacity && have_volumes held volumes && share_only held volumes
 
 -- the disk on a machine that went on: all that was written is on the medium, and faults and calls are counted anew
 abbrev pub at_rest : Fused Recorded → Fused Recorded

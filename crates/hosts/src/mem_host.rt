@@ -11,7 +11,7 @@ ghost use Rattle.hosts.specs.MemHosts.{asked_for_drives, faulted, Makes, Gives, 
 use crate::outside::{Host, HostRefusal, fault};
 use disk_model::{FuseDisk, MemDisk};
 use hsm_types::ListOf;
-use media_model::{MemDrive, have_room, have_volumes, mem_drives};
+use media_model::{MemDrive, have_room, have_volumes, mem_drives, share_only};
 use std::alloc::{AllocError, Global};
 use std::collections::BTreeMap;
 use std::marker::Model;
@@ -395,12 +395,15 @@ fn settle_drives(drives: &mut [MemDrive])
     }
 }
 
-// Whether these are so many drives with so many volumes, and so much room for each.
+// Whether these are so many drives with just so many volumes, and so much room for each.
 fn fit(held: &ListOf<MemDrive>, drives: u32, volumes: u32, capacity: u64) -> bool
     ensures { result ≡ fit held.now drives volumes capacity }
 {
     let held = held.as_slice();
-    held.len() == drives as usize && have_room(held, capacity) && have_volumes(held, volumes)
+    held.len() == drives as usize
+        && have_room(held, capacity)
+        && have_volumes(held, volumes)
+        && share_only(held, volumes)
 }
 
 // So many drives without objects.

@@ -77,8 +77,8 @@ pub trait Host {
         ensures folders { StoresAll (stores self.old) (stores self.new) }
         ensures cause { HasHostCause result (fault_count self.old) (fault_count self.new) };
 
-    /// So many drives over the volumes of that folder, those below `volumes`: volume v is in the drive v mod `drives`, and may have so many bytes. The
-    /// host has them no more until they are put back.
+    /// So many drives over the volumes of that folder, those below `volumes` and no others: volume v is in the drive v mod `drives`, and may have so many
+    /// bytes. The host has them no more until they are put back.
     fn drives(
         &mut self,
         dir: &str,

@@ -27,20 +27,18 @@ pub(crate) enum Cause {
 }
 
 /// Commits so many batches to the journal that fills the disk.
-pub(crate) fn commit_all<D: Disk>(
-    alloc: Global,
-    disk: &mut D,
-    batches: u64,
-) -> Result<(), Cause> {
+pub(crate) fn commit_all<D: Disk>(alloc: Global, disk: &mut D, batches: u64) -> Result<(), Cause> {
     let len = disk.len();
     if len == 0 || len > u32::MAX as u64 {
         return Err(Cause::Length { len });
     }
-    let mut journal = match scan(alloc, disk, 0, len, 0) {
-        Ok((journal, _batches, None)) => journal,
-        Ok((_journal, _batches, Some(gate))) => return Err(Cause::Bad { gate }),
+    let (mut journal, _batches, bad) = match scan(alloc, disk, 0, len, 0) {
+        Ok(read) => read,
         Err(why) => return Err(Cause::NotRead(why)),
     };
+    if let Some(gate) = bad {
+        return Err(Cause::Bad { gate });
+    }
     for number in 0..batches {
         commit_one(&mut journal, disk, number)?;
     }
@@ -48,11 +46,7 @@ pub(crate) fn commit_all<D: Disk>(
 }
 
 /// Commits a batch of one record, under that number.
-fn commit_one<D: Disk>(
-    journal: &mut MetaJournal,
-    disk: &mut D,
-    number: u64,
-) -> Result<(), Cause>
+fn commit_one<D: Disk>(journal: &mut MetaJournal, disk: &mut D, number: u64) -> Result<(), Cause>
     requires { journal.old.at + journal.old.len ≤ D.length_of disk.old }
     ensures { journal.new.at + journal.new.len ≤ D.length_of disk.new }
 {

@@ -30,10 +30,7 @@ fn named(words: &[String]) -> Option<(&str, u64)> {
 
 /// The file at that path as a disk.
 fn disk_at(files: &impl Files<File = File>, path: &str) -> io::Result<FileDisk<File>> {
-    let file = OpenOptions::new()
-        .read(true)
-        .write(true)
-        .open(files, path)?;
+    let file = OpenOptions::new().read(true).write(true).open(files, path)?;
     FileDisk::open(file)
 }
 

@@ -422,10 +422,11 @@ module _ (r : Running) (limits : Numbers) (s : Superblock) (base : ℕ) (h : Hel
 
     -- ---- accesses that wait
 
-    held_up : (daemon : Daemon) (m : Message) (is : Servable daemon m) → Contains (outstanding_of is.sid st.sessions) m → (daemon ≡ Recall) × IsHeldUp r k marks st m
+    held_up : (daemon : Daemon) (m : Message) (is : Servable daemon m) → Contains (outstanding_of is.sid st.sessions) m → (daemon ≡ Recall) × Contains (outstanding_of is.sid st.sessions) m × IsHeldUp r k marks st m
     held_up Recall m is out =
         let refused = is_refused m is out in (
           refl,
+          out,
           record {
             handle = refused.handle;
             has = refused.has;
@@ -436,7 +437,7 @@ module _ (r : Running) (limits : Numbers) (s : Superblock) (base : ℕ) (h : Hel
         )
     held_up Migrate m is out = absurd (none_kept m is out)
 
-    each_held_up : (daemon : Daemon) (m : Message) → Servable daemon m → (daemon ≡ Recall) × IsHeldUp r k marks st m
+    each_held_up : (daemon : Daemon) (m : Message) (is : Servable daemon m) → (daemon ≡ Recall) × Contains (outstanding_of is.sid st.sessions) m × IsHeldUp r k marks st m
     each_held_up daemon m is = elim (Contains-append_cases (queue_of is.sid st.sessions) (outstanding_of is.sid st.sessions) m is.there) [
       | inl queued ↦ absurd (none_in m (subst (λ (l : List Message). Contains l m) (none_queued is.sid (ends_in daemon m is)) queued))
       | inr out ↦ held_up daemon m is out

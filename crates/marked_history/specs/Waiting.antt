@@ -80,11 +80,11 @@ module _ (r : Running) (k : Shown) (marks : List Mark) (st : State) where
     pub hinders : conflict handle.key Excl m.token st.rights ≡ Some other
     pub foreign : IsForeign other
 
-  -- Why an access waits: a right of a foreign token blocks it. Or it waits for a token, and each message of that which a daemon may serve is recall's and is
-  -- held up.
+  -- Why an access waits: a right of a foreign token blocks it. Or it waits for a token, and each message of that which a daemon may serve is recall's, was
+  -- given to it, and is held up. So none of them is still in its queue.
   abbrev pub MayWait : Superblock → ℕ → Access → Type 0
   MayWait s c a = ((t : Token) × (reply_to s st c Resume ≡ Blocked t) × IsForeign t)
-      ⊎ ((t : Token) × (a.token ≡ Some t) × (a.answer ≡ None) × ((daemon : Daemon) (m : Message) → m.token ≡ t → IsServable daemon m → (daemon ≡ Recall) × IsHeldUp m))
+      ⊎ ((t : Token) × (a.token ≡ Some t) × (a.answer ≡ None) × ((daemon : Daemon) (m : Message) → m.token ≡ t → (is : IsServable daemon m) → (daemon ≡ Recall) × Contains (outstanding_of is.sid st.sessions) m × IsHeldUp m))
 
 -- ---- a store at rest
 

@@ -1,6 +1,7 @@
 -- Drives in memory that share volumes.
 use Rattle.std.specs.Prelude.{◌≡◌, ℕ, zero, suc, ◌%◌, Bool, true, false, ◌&&◌, ◌==◌, nat_lt, List, [], length, slice_get, if◌then◌else◌, Some, None, IfSome}
 use Rattle.std.specs.List.{list_all}
+use Rattle.std.specs.Map.{keys_of}
 use Rattle.std.specs.Option.{option_map_or}
 use Rattle.media_model.specs.Memory.{Held, no_objects, volume_in, has_volume}
 use Rattle.media_model.specs.Faults.{Faulty}
@@ -33,3 +34,15 @@ has_shared ds v = option_map_or (λ d. has_volume v d.held) (slice_get ds (v % l
 abbrev pub have_volumes : List Faulty → ℕ → Bool
 have_volumes ds zero = true
 have_volumes ds (suc v) = have_volumes ds v && has_shared ds v
+
+-- the drive of that number has no volume that it doesn't share
+abbrev pub shares_only : ℕ → ℕ → ℕ → Faulty → Bool
+shares_only number drives volumes d = list_all (is_shared number drives volumes) (keys_of d.held.volumes)
+
+-- none of so many of the drives, from the first one on, has a volume that it doesn't share
+abbrev pub first_share_only : List Faulty → ℕ → ℕ → Bool
+first_share_only ds volumes zero = true
+first_share_only ds volumes (suc number) = first_share_only ds volumes number && option_map_or (shares_only number (length ds) volumes) (slice_get ds number) true
+
+abbrev pub share_only : List Faulty → ℕ → Bool
+share_only ds volumes = first_share_only ds volumes (length ds)

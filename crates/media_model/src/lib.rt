@@ -10,6 +10,6 @@ mod volume;
 
 pub use drive::{Drive, DriveRefusal, LONGEST_OBJECT};
 pub use memory::{Damage, FailingCall, MemDrive};
-pub use sharing::{have_room, have_volumes, mem_drives, sure_drives, volumes_of};
+pub use sharing::{have_room, have_volumes, mem_drives, share_only, sure_drives, volumes_of};
 pub use sure::SureDrive;
 pub use volume::ObjectBytes;

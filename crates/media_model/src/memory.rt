@@ -5,6 +5,7 @@ ghost use Rattle.std.specs.List.{list_any};
 ghost use Rattle.std.specs.Option.{option_map_or};
 ghost use Rattle.disk_model.specs.Calls.{raised};
 ghost use Rattle.media_model.specs.Memory.{no_objects, volume_in, has_volume, objects_in};
+ghost use Rattle.media_model.specs.Sharing.{shares_only};
 ghost use Rattle.media_model.specs.Faults.{failing_now, failed_call, is_of, damaged, kept_in, FailsAppend, AppendsNow};
 ghost use Rattle.media_model.specs.declared.drive.DriveRefusal.TheVariants.{Failed, Memory};
 
@@ -122,6 +123,14 @@ impl MemDrive {
         ensures { MatchOption result (objects_in volume self.now.held ≡ None) (λ o. objects_in volume self.now.held ≡ Some o.now) }
     {
         self.drive.objects_of(volume)
+    }
+
+    // Whether each of its volumes is one that the drive of that number shares.
+    pub(crate) fn shares_only(&self, number: usize, drives: usize, volumes: u32) -> bool
+        requires { 0 < drives }
+        ensures { result ≡ shares_only number drives volumes self.now }
+    {
+        self.drive.shares_only(number, drives, volumes)
     }
 
     fn failing_now(&self) -> Option<FailingCall>

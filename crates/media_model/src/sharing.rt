@@ -1,7 +1,7 @@
 //! Drives that share volumes: volume v is in the drive v mod their number.
 ghost use Rattle.std.specs.Prelude.{◌≡◌, ◌<◌, ◌≤◌, ℕ, map, length, nat_eq, IfOk};
 ghost use Rattle.std.specs.List.{list_any};
-ghost use Rattle.media_model.specs.Sharing.{is_shared, never_failing, AreNew, have_room, has_shared, have_volumes};
+ghost use Rattle.media_model.specs.Sharing.{is_shared, never_failing, AreNew, have_room, has_shared, have_volumes, share_only};
 
 use crate::{MemDrive, SureDrive};
 use std::alloc::{AllocError, Global};
@@ -84,4 +84,15 @@ fn has_shared(drives: &[MemDrive], volume: u32) -> bool
         return false;
     }
     drives[volume as usize % drives.len()].has(volume)
+}
+
+/// Whether each volume of the drives is below `volumes`, and in the drive of its number mod that of the drives.
+pub fn share_only(drives: &[MemDrive], volumes: u32) -> bool
+    ensures { result ≡ share_only drives.now volumes }
+{
+    let mut has_no_other = true;
+    for number in 0..drives.len() {
+        has_no_other = has_no_other && drives[number].shares_only(number, drives.len(), volumes);
+    }
+    has_no_other
 }

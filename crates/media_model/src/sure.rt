@@ -1,12 +1,13 @@
 //! A drive in memory that never fails.
 ghost use Rattle.std.specs.Prelude.{◌≡◌, ◌+◌, ◌<◌, ◌≤◌, ◌^◌, ℕ, [], length, nat_eq, if◌then◌else◌, true, Ok, Err, Some, None, IfOk, IfSome};
 ghost use Rattle.std.specs.Prelude.{OnOk, OnErr, MatchResult, MatchOption, slice_set, take};
-ghost use Rattle.std.specs.List.{list_any};
-ghost use Rattle.std.specs.Map.{lookup};
+ghost use Rattle.std.specs.List.{list_any, list_all};
+ghost use Rattle.std.specs.Map.{lookup, keys_of};
 ghost use Rattle.std.specs.Option.{option_map_or};
 ghost use Rattle.media_model.specs.Objects.{read_from};
 ghost use Rattle.media_model.specs.Memory.{no_objects, volume_in, has_volume, objects_in, of_volume, of_object, number_in, with_object, synced};
 ghost use Rattle.media_model.specs.Memory.{change_entry, change_volume, Appends};
+ghost use Rattle.media_model.specs.Sharing.{is_shared};
 ghost use Rattle.media_model.specs.declared.drive.DriveRefusal.TheVariants.{NoVolume};
 
 use crate::volume::{ObjectBytes, Volume};
@@ -52,6 +53,14 @@ impl SureDrive {
         ensures { result ≡ self.now.capacity }
     {
         self.capacity
+    }
+
+    // Whether each of its volumes is one that the drive of that number shares.
+    pub(crate) fn shares_only(&self, number: usize, drives: usize, volumes: u32) -> bool
+        requires { 0 < drives }
+        ensures { result ≡ list_all (is_shared number drives volumes) (keys_of self.now.volumes) }
+    {
+        self.volumes.keys().all(|volume| *volume < volumes && *volume as usize % drives == number)
     }
 
     /// The objects of the volume, in the order of their numbers.

@@ -20,9 +20,10 @@ last_more last (a ∷ bs) b = last_more a.number bs b
 pub one_more_read : (journal : List ℕ) (at number used last : ℕ) (bs cs : List Batch) (b : Batch) (end size : ℕ) → Lead journal at 0 number bs used → last ≡ last_number number bs → b.place ≡ at + used → Stands journal used last b × (length b.records ≡ size)
     → cs ≡ bs ++ b ∷ [] → end ≡ used + 17 + size → Lead journal at 0 number cs end × (b.number ≡ last_number number cs)
 one_more_read journal at number used last bs cs b end size h last_is place s cs_is end_is =
-    let to : end ≡ used + batch_len b = omega (arith, end_is, s.1) in
-    (subst (λ (l : List Batch). Lead journal at 0 number l end) (sym cs_is) (subst (λ (k : ℕ). Lead journal at 0 number (bs ++ b ∷ []) k) (sym to) (lead_more journal at 0 number bs used b h place (subst (λ (k : ℕ). Stands journal used k b) last_is s.0))),
-    sym (ap (λ (l : List Batch). last_number number l) cs_is ∙ last_more number bs b))
+    let to : end ≡ used + batch_len b = omega (arith, end_is, s.1) in (
+      subst (λ (l : List Batch). Lead journal at 0 number l end) (sym cs_is) (subst (λ (k : ℕ). Lead journal at 0 number (bs ++ b ∷ []) k) (sym to) (lead_more journal at 0 number bs used b h place (subst (λ (k : ℕ). Stands journal used k b) last_is s.0))),
+      sym (ap (λ (l : List Batch). last_number number l) cs_is ∙ last_more number bs b),
+    )
 
 -- ---- in other bytes
 

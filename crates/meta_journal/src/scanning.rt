@@ -22,12 +22,7 @@ struct Front {
 }
 
 // What the bytes of the journal that lies at that place of its disk say.
-fn front_of(
-    alloc: Global,
-    journal: &[u8],
-    at: u64,
-    number: u64,
-) -> Result<Front, AllocError>
+fn front_of(alloc: Global, journal: &[u8], at: u64, number: u64) -> Result<Front, AllocError>
     requires some { 1 ≤ length journal.now }
     requires short { length journal.now < 2 ^ 32 }
     requires at { at + length journal.now < 2 ^ 64 }

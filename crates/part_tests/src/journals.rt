@@ -19,15 +19,51 @@ static ROWS: [Row; 13] = [
     (&[0], 0, None),
     (&[2], 0, None),
     (&[1], 0, Some(0)),
-    (&[1, 0, 0, 0, 0, 0, 0, 0, 0, 0, 0, 0, 7, 0, 0, 0, 0, 0], 1, None),
-    (&[1, 0, 0, 0, 0, 0, 0, 0, 0, 0, 0, 0, 7, 0, 0, 0, 0, 255], 1, None),
-    (&[0, 0, 0, 0, 0, 0, 0, 0, 0, 0, 0, 0, 7, 0, 0, 0, 0, 0], 0, None),
-    (&[1, 0, 0, 0, 0, 0, 0, 0, 0, 0, 0, 0, 7, 0, 0, 0, 0], 0, Some(0)),
-    (&[1, 0, 0, 0, 0, 0, 0, 0, 0, 0, 0, 0, 6, 0, 0, 0, 0, 0], 0, Some(0)),
-    (&[1, 0, 0, 0, 0, 64, 0, 0, 0, 0, 0, 0, 0, 0, 0, 0, 0, 0], 1, None),
-    (&[1, 0, 0, 0, 0, 64, 0, 0, 0, 0, 0, 0, 1, 0, 0, 0, 0, 0], 0, Some(0)),
-    (&[1, 0, 0, 0, 1, 0, 0, 0, 0, 0, 0, 0, 7, 0, 0, 0, 1, 9], 0, Some(0)),
-    (&[1, 0, 0, 0, 1, 0, 0, 0, 0, 0, 0, 0, 7, 0, 0, 0, 1, 9, 0], 1, None),
+    (
+        &[1, 0, 0, 0, 0, 0, 0, 0, 0, 0, 0, 0, 7, 0, 0, 0, 0, 0],
+        1,
+        None,
+    ),
+    (
+        &[1, 0, 0, 0, 0, 0, 0, 0, 0, 0, 0, 0, 7, 0, 0, 0, 0, 255],
+        1,
+        None,
+    ),
+    (
+        &[0, 0, 0, 0, 0, 0, 0, 0, 0, 0, 0, 0, 7, 0, 0, 0, 0, 0],
+        0,
+        None,
+    ),
+    (
+        &[1, 0, 0, 0, 0, 0, 0, 0, 0, 0, 0, 0, 7, 0, 0, 0, 0],
+        0,
+        Some(0),
+    ),
+    (
+        &[1, 0, 0, 0, 0, 0, 0, 0, 0, 0, 0, 0, 6, 0, 0, 0, 0, 0],
+        0,
+        Some(0),
+    ),
+    (
+        &[1, 0, 0, 0, 0, 64, 0, 0, 0, 0, 0, 0, 0, 0, 0, 0, 0, 0],
+        1,
+        None,
+    ),
+    (
+        &[1, 0, 0, 0, 0, 64, 0, 0, 0, 0, 0, 0, 1, 0, 0, 0, 0, 0],
+        0,
+        Some(0),
+    ),
+    (
+        &[1, 0, 0, 0, 1, 0, 0, 0, 0, 0, 0, 0, 7, 0, 0, 0, 1, 9],
+        0,
+        Some(0),
+    ),
+    (
+        &[1, 0, 0, 0, 1, 0, 0, 0, 0, 0, 0, 0, 7, 0, 0, 0, 1, 9, 0],
+        1,
+        None,
+    ),
     (
         &[
             1, 0, 0, 0, 0, 0, 0, 0, 0, 0, 0, 0, 8, 0, 0, 0, 0, 1, 0, 0, 0, 0, 0, 0, 0, 0, 0, 0, 0,
@@ -96,7 +132,11 @@ fn commit_two(alloc: Global, disk: &mut MemDisk) -> Result<(), JournalRefusal> {
 }
 
 /// The images that a crash may leave after these commits, of which the call of that number fails.
-fn images_after(alloc: Global, failing: &[u64], want: Result<(), JournalRefusal>) -> Option<Vec<Vec<u8>>> {
+fn images_after(
+    alloc: Global,
+    failing: &[u64],
+    want: Result<(), JournalRefusal>,
+) -> Option<Vec<Vec<u8>>> {
     let mut disk = MemDisk::new(alloc, &EMPTY, failing).ok()?;
     let done = commit_two(alloc, &mut disk);
     if done != want {
@@ -178,9 +218,11 @@ fn written(alloc: Global) -> Option<Vec<u8>> {
 #[test]
 fn are_written_as_the_format_says(rt: HostRuntime) {
     let image = written(rt.alloc());
-    assert!(rt; matches!(&image, Some(image) if image.get(16..37) == Some([
+    assert!(rt;
+        matches!(&image, Some(image) if image.get(16..37) == Some([
         1, 0, 0, 0, 3, 0, 0, 0, 0, 0, 0, 0, 3, 0, 0, 0, 2, 97, 98, 99, 0,
-    ].as_slice())));
+    ].as_slice()))
+    );
 }
 
 fn stage<D: Disk>(journal: &mut MetaJournal, disk: &D, bytes: &[u8]) -> Result<(), Full>

@@ -1,16 +1,20 @@
 -- Drives one of which is asked at a time.
-use Rattle.std.proofs.Common.{◌≡◌, inl, inr, ℕ, zero, suc, ◌<◌, ◌%◌, List, [], ◌∷◌, length, get_or, Option, Some, IfSome, refl, sym, ap, subst, ◌∙◌, arith}
+use Rattle.std.proofs.Common.{◌≡◌, inl, inr, ℕ, zero, suc, ◌<◌, ◌≤◌, ◌%◌, List, [], ◌∷◌, length, get_or, Option, Some, IfSome, refl, sym, ap, subst, ◌∙◌, arith}
 use Rattle.std.proofs.lemmas.Option.{slice_get-get_or}
 use Rattle.std.specs.Prelude.{slice_get, slice_set, map}
+use Rattle.disk_model.specs.Calls.{Rose}
 use Rattle.media_model.specs.Objects.{Objects}
 use Rattle.media_model.specs.declared.drive.Drive as drive
 use Rattle.volume_shelf.specs.Shelf.{Reads}
-use Rattle.volume_shelf.proofs.Rising.{rose_since}
 use Rattle.volume_shelf.proofs.Running.{idle, reads_on}
 use Rattle.reconcile.specs.Classes.{Tells, AreTold, AreRead, AreQuiet, ClassesRefused}
 use Rattle.reconcile.specs.Steps.{DriveRefused}
 use Rattle.reconcile.specs.declared.refusals.ReconcileRefusal.{ReconcileRefusal}
 use Rattle.reconcile.specs.declared.refusals.ReconcileRefusal.TheVariants.{Failed, Memory}
+
+-- a count that rose is above each that was there before
+rose_since : (begun old new : ℕ) → begun ≤ old → Rose old new → Rose begun new
+rose_since begun old new since rose = omega arith
 
 slice_get_set : {A : Type 0} (xs : List A) (i : ℕ) (x : A) → i < length xs → slice_get (slice_set xs i x) i ≡ Some x
 slice_get_set [] i x within = absurd (omega arith)

@@ -11,6 +11,7 @@ use Rattle.media_model.specs.Objects.{Objects, HasCause}
 use Rattle.media_model.specs.declared.drive.Drive as drive
 use Rattle.volume_shelf.specs.Shelf.{payload_in, Reads, IsCause, Fetched, FetchRefused}
 use Rattle.volume_shelf.specs.Steps.{IsPayload, IsFaultOf, StepRefused}
+use Rattle.volume_shelf.proofs.Rising.{rises_by_one}
 
 -- a volume of which something is told is there
 pub there_if_told : {T : Type 0} (x : T) (has : Bool) (before after : ℕ) → HasCause {T = T} (Ok x) has before after → has ≡ true
@@ -20,7 +21,7 @@ there_if_told x false before after cause = absurd (elim (cause.missing refl) [ i
 module _ {D : Type 0} (g : drive.Ghosts D) (entry : StubEntry) (len begun : ℕ) (old mid new : D) (is : begun ≡ g.fault_count old) (there : g.has old (entry_place entry).volume ≡ true) (reads : Reads g old mid)
     (told : (o : Objects) → g.gives old (entry_place entry).volume o → ((entry_place entry).object < length o) × (len ≡ length (payload_in (entry_place entry).object o))) where
   fault_of : (why : Fault) → IsFaultOf g entry len begun mid new why → IsCause g entry old new why
-  fault_of (fault.Failed volume object before after) f = (f.0, f.1, f.2 ∙ is, f.3, f.4)
+  fault_of (fault.Failed volume object before after) f = (f.0, f.1, f.2 ∙ is, f.3, rises_by_one before after f.4, f.4)
   fault_of (fault.Damaged volume object want got) f = (f.0, f.1, f.2, f.3, there, λ o given. let t = told o given in (t.0, f.4 o ((reads.same (entry_place entry).volume).1 o given) t.0 t.1))
 
   -- a step that was refused

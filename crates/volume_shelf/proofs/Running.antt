@@ -12,7 +12,7 @@ use Rattle.media_model.specs.declared.drive.Drive as drive
 use Rattle.volume_format.specs.Objects.{object_bytes}
 use Rattle.volume_shelf.specs.Shelf.{AddsPrint, MayGrow, Reads, Grows, HasRoom, Copied, CopyRefused}
 use Rattle.volume_shelf.specs.Steps.{IsPut, Prints, IsUnlike}
-use Rattle.volume_shelf.proofs.Rising.{rose_since}
+use Rattle.volume_shelf.proofs.Rising.{rises_by_one, raised_since}
 
 module _ {D : Type 0} (g : drive.Ghosts D) where
   -- ---- runs of calls
@@ -82,10 +82,12 @@ module _ {D : Type 0} (g : drive.Ghosts D) where
 
   -- What was read back is unlike what was put.
   pub unlike : (volume number size : ℕ) (bytes object : List ℕ) (old put new : D) (why : CopyRefusal) → length object ≡ size → drop 72 object ≡ bytes → ((d : D) (v : ℕ) → g.sure ≡ true → g.has d v ≡ true → (o : Objects) × g.gives d v o)
-      → IsPut g volume object old put number → Grows g volume old put → Reads g put new → IsUnlike g volume number (print_of bytes) (g.fault_count old) put new why → CopyRefused g volume size (print_of bytes) old new why
-  unlike volume number size bytes object old put new (Failed before after) is payload tells p grew r why = (why.0, why.1, rw (why.0, why.1) (rose_since (g.fault_count old) (g.fault_count put) (g.fault_count new) grew.faults why.2))
-  unlike volume number size bytes object old put new (Full used len capacity) is payload tells p grew r why = absurd why
-  unlike volume number size bytes object old put new (Damaged want got) is payload tells p grew r why = (
+      → IsPut g volume object old put number → Grows g volume old put → g.fault_count put ≡ g.fault_count old → Reads g put new → IsUnlike g volume number (print_of bytes) (g.fault_count old) put new why → CopyRefused g volume size (print_of bytes) old new why
+  unlike volume number size bytes object old put new (Failed before after) is payload tells p grew quiet r why =
+      let one = raised_since (g.fault_count old) (g.fault_count put) (g.fault_count new) quiet why.2 in
+      (why.0, why.1, rw (why.0, why.1) (rises_by_one (g.fault_count old) (g.fault_count new) one), rw (why.0, why.1) one)
+  unlike volume number size bytes object old put new (Full used len capacity) is payload tells p grew quiet r why = absurd why
+  unlike volume number size bytes object old put new (Damaged want got) is payload tells p grew quiet r why = (
     subst (λ (n : ℕ). HasRoom g volume n old) is p.room,
     why.0,
     why.1,
@@ -99,5 +101,5 @@ module _ {D : Type 0} (g : drive.Ghosts D) where
         let last : get_or given.0 number [] ≡ object = ap (λ (l : Objects). get_or l number []) is_now ∙ ap (λ (n : ℕ). get_or (before.0 ++ object ∷ []) n []) at ∙ get_or-append_seam before.0 object [] [] in
         why.1 (why.0 ∙ ap print_of (sym (ap (drop 72) last ∙ payload)) ∙ sym (why.2 given.0 given.1 there)),
   )
-  unlike volume number size bytes object old put new NoVolume is payload tells p grew r why = absurd why
-  unlike volume number size bytes object old put new Memory is payload tells p grew r why = absurd why
+  unlike volume number size bytes object old put new NoVolume is payload tells p grew quiet r why = absurd why
+  unlike volume number size bytes object old put new Memory is payload tells p grew quiet r why = absurd why

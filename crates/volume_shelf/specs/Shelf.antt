@@ -1,6 +1,6 @@
 -- Copies of segments on volumes: what a copy leaves, and what a fetch tells.
 use Rattle.std.specs.Prelude.{◌≡◌, ◌≢◌, ◌⊎◌, ℕ, ◌+◌, ◌<◌, ◌≤◌, true, false, List, [], length, drop, get_or, Result, Err}
-use Rattle.disk_model.specs.Calls.{Rose}
+use Rattle.disk_model.specs.Calls.{Rose, raised}
 use Rattle.hsm_types.specs.Stubs.{print_of, entry_place, entry_print}
 use Rattle.hsm_types.specs.declared.keys.Handle.{Handle}
 use Rattle.hsm_types.specs.declared.media.CopyRefusal.{CopyRefusal}
@@ -73,9 +73,9 @@ module _ {D : Type 0} (g : drive.Ghosts D) where
     pub exact : g.sure ≡ true → Follows (Adds (object_bytes handle segment bytes)) (g.gives old volume) (g.gives new volume)
     pub lasts : (o : Objects) → g.gives new volume o → (entry_place entry).object < g.lasting new volume
 
-  -- why there is no copy of bytes with that fingerprint, whose object has so many
+  -- Why there is no copy of bytes with that fingerprint, whose object has so many. Where the drive failed, one call of it did.
   abbrev pub CopyRefused : ℕ → ℕ → Fingerprint → D → D → CopyRefusal → Type 0
-  CopyRefused volume size print old new (refusal.Failed before after) = (before ≡ g.fault_count old) × (after ≡ g.fault_count new) × Rose before after
+  CopyRefused volume size print old new (refusal.Failed before after) = (before ≡ g.fault_count old) × (after ≡ g.fault_count new) × Rose before after × (after ≡ raised before)
   CopyRefused volume size print old new (refusal.Full used len capacity) = (g.has old volume ≡ true) × (len ≡ size) × (capacity ≡ g.capacity_of old) × (capacity < used + len) × ((o : Objects) → g.gives old volume o → used ≡ size_of o) × Alike (g.gives old volume) (g.gives new volume)
   CopyRefused volume size print old new (refusal.Damaged want got) = HasRoom volume size old × (want ≡ print) × (want ≢ got) × Follows (AddsPrint got) (g.gives old volume) (g.gives new volume) × (g.sure ≡ true → ⊥)
   CopyRefused volume size print old new refusal.NoVolume = (g.has old volume ≡ false) × Alike (g.gives old volume) (g.gives new volume)
@@ -89,10 +89,10 @@ module _ {D : Type 0} (g : drive.Ghosts D) where
     pub print : print_of bytes ≡ entry_print entry
     pub given : (o : Objects) → g.gives old (entry_place entry).volume o → ((entry_place entry).object < length o) × (bytes ≡ payload_in (entry_place entry).object o)
 
-  -- The fault came in a fetch by that entry: the drive's count rose in it from the one number to the other, or the payload that the medium gives has another
-  -- fingerprint than is wanted.
+  -- The fault came in a fetch by that entry: the drive's count rose in it from the one number to the other, which is one more, or the payload that the medium
+  -- gives has another fingerprint than is wanted.
   abbrev pub IsCause : StubEntry → D → D → Fault → Type 0
-  IsCause entry old new (fault.Failed volume object before after) = (volume ≡ (entry_place entry).volume) × (object ≡ (entry_place entry).object) × (before ≡ g.fault_count old) × (after ≡ g.fault_count new) × Rose before after
+  IsCause entry old new (fault.Failed volume object before after) = (volume ≡ (entry_place entry).volume) × (object ≡ (entry_place entry).object) × (before ≡ g.fault_count old) × (after ≡ g.fault_count new) × Rose before after × (after ≡ raised before)
   IsCause entry old new (fault.Damaged volume object want got) = (volume ≡ (entry_place entry).volume) × (object ≡ (entry_place entry).object) × (want ≡ entry_print entry) × (want ≢ got) × (g.has old (entry_place entry).volume ≡ true) × HasPrint (g.gives old (entry_place entry).volume) (entry_place entry).object got
 
   -- why nothing was fetched

@@ -1,6 +1,6 @@
 -- What the steps of a copy and of a fetch leave and answer.
 use Rattle.std.specs.Prelude.{◌≡◌, ◌≢◌, ℕ, ◌<◌, true, List, length}
-use Rattle.disk_model.specs.Calls.{Rose}
+use Rattle.disk_model.specs.Calls.{raised}
 use Rattle.hsm_types.specs.Stubs.{print_of, entry_place, entry_print}
 use Rattle.hsm_types.specs.declared.media.CopyRefusal.{CopyRefusal}
 use Rattle.hsm_types.specs.declared.media.CopyRefusal.TheVariants as refusal
@@ -36,7 +36,7 @@ module _ {D : Type 0} (g : drive.Ghosts D) where
 
   -- why what was put isn't what is read back
   abbrev pub IsUnlike : ℕ → ℕ → Fingerprint → ℕ → D → D → CopyRefusal → Type 0
-  IsUnlike volume object print before old new (refusal.Failed b a) = (b ≡ before) × (a ≡ g.fault_count new) × Rose (g.fault_count old) (g.fault_count new)
+  IsUnlike volume object print before old new (refusal.Failed b a) = (b ≡ before) × (a ≡ g.fault_count new) × (g.fault_count new ≡ raised (g.fault_count old))
   IsUnlike volume object print before old new (refusal.Full used len capacity) = ⊥
   IsUnlike volume object print before old new (refusal.Damaged want got) = (want ≡ print) × (want ≢ got) × Prints volume object old got
   IsUnlike volume object print before old new refusal.NoVolume = ⊥
@@ -44,7 +44,7 @@ module _ {D : Type 0} (g : drive.Ghosts D) where
 
   -- a fault in a step of a fetch that began with that count of faults, where the object's payload has so many bytes
   abbrev pub IsFaultOf : StubEntry → ℕ → ℕ → D → D → Fault → Type 0
-  IsFaultOf entry len begun old new (fault.Failed volume object before after) = (volume ≡ (entry_place entry).volume) × (object ≡ (entry_place entry).object) × (before ≡ begun) × (after ≡ g.fault_count new) × Rose before after
+  IsFaultOf entry len begun old new (fault.Failed volume object before after) = (volume ≡ (entry_place entry).volume) × (object ≡ (entry_place entry).object) × (before ≡ begun) × (after ≡ g.fault_count new) × (after ≡ raised before)
   IsFaultOf entry len begun old new (fault.Damaged volume object want got) = (volume ≡ (entry_place entry).volume) × (object ≡ (entry_place entry).object) × (want ≡ entry_print entry) × (want ≢ got)
       × ((o : Objects) → g.gives old (entry_place entry).volume o → (entry_place entry).object < length o → len ≡ length (payload_in (entry_place entry).object o) → got ≡ print_of (payload_in (entry_place entry).object o))
 

@@ -1,6 +1,6 @@
 //! How the copy of a segment is put on a volume.
 ghost use Rattle.std.specs.Prelude.{◌≡◌, ◌+◌, ◌<◌, ◌≤◌, ◌^◌, true, length, IfOk, IfErr, OnOk, MatchResult};
-ghost use Rattle.disk_model.specs.Calls.{Rose};
+ghost use Rattle.disk_model.specs.Calls.{raised};
 ghost use Rattle.hsm_types.specs.Limits.{segment_bytes};
 ghost use Rattle.hsm_types.specs.Stubs.{print_of};
 ghost use Rattle.hsm_types.specs.declared.media.CopyRefusal.TheVariants.{Failed};
@@ -16,8 +16,8 @@ use volume_format::{payload_follows, write_object};
 
 /// Copies the bytes of the segment to the volume: puts their object there, reads its payload back, compares the fingerprints, and makes the
 /// volume last. The bytes are copied once, into the object, whose memory is the only memory that is taken; what is read back is digested once.
-/// After `Failed` and `Damaged` the volume may have one object more. With `Failed` the drive's count of faults rose, and with each other answer
-/// it is as it was.
+/// After `Failed` and `Damaged` the volume may have one object more. With `Failed` one call of the drive failed, and with each other answer its
+/// count of faults is as it was.
 pub fn copy<M: Drive>(
     alloc: Global,
     drive: &mut M,
@@ -109,7 +109,7 @@ fn read_back<M: Drive>(
 ) -> Result<Fingerprint, DriveRefusal>
     requires { 0 < length buf.old }
     ensures prints { IfOk result (Prints M.Drive volume object drive.old) }
-    ensures rose { IfErr result (λ why. Rose (M.fault_count drive.old) (M.fault_count drive.new)) }
+    ensures rose { IfErr result (λ why. M.fault_count drive.new ≡ raised (M.fault_count drive.old)) }
     ensures reads { Reads M.Drive drive.old drive.new }
     ensures quiet { OnOk result (M.fault_count drive.new ≡ M.fault_count drive.old) }
 {
@@ -121,7 +121,7 @@ fn read_back<M: Drive>(
 fn len_or_none<M: Drive>(drive: &mut M, volume: u32, object: u32) -> Result<u32, DriveRefusal>
     ensures told { IfOk result (λ n. (o : Objects) → M.gives drive.old volume o → object < length o → n ≡ length (payload_in object o)) }
     ensures short { IfOk result (λ n. 72 + n < 2 ^ 32) }
-    ensures rose { IfErr result (λ why. Rose (M.fault_count drive.old) (M.fault_count drive.new)) }
+    ensures rose { IfErr result (λ why. M.fault_count drive.new ≡ raised (M.fault_count drive.old)) }
     ensures reads { Reads M.Drive drive.old drive.new }
     ensures quiet { OnOk result (M.fault_count drive.new ≡ M.fault_count drive.old) }
 {
@@ -136,7 +136,7 @@ fn len_or_none<M: Drive>(drive: &mut M, volume: u32, object: u32) -> Result<u32,
 fn make_last<M: Drive>(drive: &mut M, volume: u32, begun: u64) -> Result<(), CopyRefusal>
     requires { M.has drive.old volume ≡ true }
     ensures lasts { OnOk result ((o : Objects) → M.gives drive.new volume o → length o ≤ M.lasting drive.new volume) }
-    ensures failed { IfErr result (λ why. (why ≡ Failed begun (M.fault_count drive.new)) × Rose (M.fault_count drive.old) (M.fault_count drive.new)) }
+    ensures failed { IfErr result (λ why. (why ≡ Failed begun (M.fault_count drive.new)) × (M.fault_count drive.new ≡ raised (M.fault_count drive.old))) }
     ensures reads { Reads M.Drive drive.old drive.new }
     ensures quiet { OnOk result (M.fault_count drive.new ≡ M.fault_count drive.old) }
 {

@@ -1,6 +1,6 @@
 //! How the copy of a segment is fetched from its volume.
 ghost use Rattle.std.specs.Prelude.{◌≡◌, ◌≢◌, ◌+◌, ◌<◌, ◌≤◌, ◌^◌, ℕ, length, IfOk, IfErr, OnOk, MatchResult};
-ghost use Rattle.disk_model.specs.Calls.{Rose};
+ghost use Rattle.disk_model.specs.Calls.{raised};
 ghost use Rattle.hsm_types.specs.Stubs.{print_of, entry_place, entry_print};
 ghost use Rattle.hsm_types.specs.declared.media.FetchRefusal.TheVariants.{Media};
 ghost use Rattle.hsm_types.specs.declared.media.Fault.TheVariants.{Failed, Damaged};
@@ -14,7 +14,8 @@ use media_model::{Drive, DriveRefusal};
 use std::alloc::Global;
 
 /// The payload of the entry's object, if it has the entry's fingerprint. It is read into memory, and digested, once. A payload of another length is read by
-/// small pieces, and takes no memory. Where the drive fails, that is told, and with each other answer its count of faults is as it was.
+/// small pieces, and takes no memory. Where a call of the drive fails, that one fault is told, and with each other answer its count of faults is as it
+/// was.
 pub fn fetch<M: Drive>(
     alloc: Global,
     drive: &mut M,
@@ -48,7 +49,7 @@ fn compare<M: Drive>(
     begun: u64,
 ) -> Result<(), FetchRefusal>
     requires short { 72 + len < 2 ^ 32 }
-    requires begun { begun ≤ M.fault_count drive.old }
+    requires begun { begun ≡ M.fault_count drive.old }
     ensures alike { OnOk result ((o : Objects) → M.gives drive.old (entry_place entry.now).volume o → (entry_place entry.now).object < length o → len ≡ length (payload_in (entry_place entry.now).object o) → len ≡ (entry_print entry.now).len) }
     ensures refused { IfErr result (StepRefused M.Drive entry.now len begun drive.old drive.new) }
     ensures reads { Reads M.Drive drive.old drive.new }
@@ -75,7 +76,7 @@ fn read_whole<M: Drive>(
     entry: &StubEntry,
     begun: u64,
 ) -> Result<Verified, FetchRefusal>
-    requires { begun ≤ M.fault_count drive.old }
+    requires { begun ≡ M.fault_count drive.old }
     ensures print { IfOk result (λ bytes. print_of bytes ≡ entry_print entry.now) }
     ensures bytes { IfOk result (IsPayload M.Drive (entry_place entry.now).volume (entry_place entry.now).object (entry_print entry.now).len drive.old) }
     ensures refused { IfErr result (StepRefused M.Drive entry.now (entry_print entry.now).len begun drive.old drive.new) }
@@ -99,7 +100,7 @@ fn read_whole<M: Drive>(
 
 /// That the drive failed in this fetch.
 fn failed<M: Drive>(drive: &M, entry: &StubEntry, begun: u64) -> FetchRefusal
-    requires { Rose begun (M.fault_count drive.now) }
+    requires { M.fault_count drive.now ≡ raised begun }
     ensures { result ≡ Media (Failed (entry_place entry.now).volume (entry_place entry.now).object begun (M.fault_count drive.now)) }
 {
     FetchRefusal::Media(MediaCause::failed(entry.place(), begun, drive.faults()))

@@ -1,6 +1,6 @@
 //! How the payload of an object is read.
 ghost use Rattle.std.specs.Prelude.{◌≡◌, ◌+◌, ◌<◌, ◌≤◌, ◌^◌, ℕ, List, ◌++◌, length, take, drop, IfOk, IfErr, IsErr, IsErrOf, OnErr, OnOk};
-ghost use Rattle.disk_model.specs.Calls.{Rose};
+ghost use Rattle.disk_model.specs.Calls.{raised};
 ghost use Rattle.hsm_types.specs.Stubs.{print_of};
 ghost use Rattle.media_model.specs.Objects.{Objects, HasCause, IsAsked};
 ghost use Rattle.media_model.specs.declared.drive.DriveRefusal.TheVariants.{Failed, NoObject};
@@ -44,7 +44,7 @@ pub(crate) fn read_piece<M: Drive>(
     ensures count { IfOk result (λ n. n ≤ length buf.old) }
     ensures refused { IfErr result (λ why. why ≡ Failed) }
     ensures reads { Reads M.Drive drive.old drive.new }
-    ensures rose { OnErr result (Rose (M.fault_count drive.old) (M.fault_count drive.new)) }
+    ensures rose { OnErr result (M.fault_count drive.new ≡ raised (M.fault_count drive.old)) }
     ensures quiet { OnOk result (M.fault_count drive.new ≡ M.fault_count drive.old) }
 {
     match drive.read(volume, object, FRAME + at, buf) {
@@ -73,7 +73,7 @@ fn add_piece<M: Drive>(
     ensures ends { IfOk result (λ n. n ≡ 0 → (o : Objects) → M.gives drive.old volume o → object < length o → len ≡ length (payload_in object o) → pieces.new.len ≡ len) }
     ensures refused { IfErr result (λ why. why ≡ Failed) }
     ensures reads { Reads M.Drive drive.old drive.new }
-    ensures rose { OnErr result (Rose (M.fault_count drive.old) (M.fault_count drive.new)) }
+    ensures rose { OnErr result (M.fault_count drive.new ≡ raised (M.fault_count drive.old)) }
     ensures quiet { OnOk result (M.fault_count drive.new ≡ M.fault_count drive.old) }
 {
     let at = pieces.len();
@@ -96,7 +96,7 @@ pub(crate) fn print_payload<M: Drive>(
     ensures told { IfOk result (λ print. (o : Objects) → M.gives drive.old volume o → object < length o → len ≡ length (payload_in object o) → print ≡ print_of (payload_in object o)) }
     ensures refused { IfErr result (λ why. why ≡ Failed) }
     ensures reads { Reads M.Drive drive.old drive.new }
-    ensures rose { OnErr result (Rose (M.fault_count drive.old) (M.fault_count drive.new)) }
+    ensures rose { OnErr result (M.fault_count drive.new ≡ raised (M.fault_count drive.old)) }
     ensures quiet { OnOk result (M.fault_count drive.new ≡ M.fault_count drive.old) }
 {
     let mut pieces = Pieces::none();

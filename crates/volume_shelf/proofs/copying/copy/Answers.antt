@@ -22,7 +22,7 @@ returns-in_err-compare-clause-answer g c =
     let payload = c.payload_follows.ensures c.args.handle.now c.args.segment c.args.bytes.now c.in-Ok.object c.in-Ok.ensures.grammar in
     rw (p.1, p.2) (unlike g.M.Drive c.args.volume c.in_ok-number.number (72 + length c.args.bytes.now) c.args.bytes.now c.as_slice.result.now c.args.drive.now c.put.new.drive c.compare.new.drive c.in_err-compare.field-0.0
     (ap length c.as_slice.ensures ∙ c.in-Ok.ensures.size) (ap (drop 72) c.as_slice.ensures ∙ payload.payload) (λ d v sure there. g.met.M.Drive.sure_tells sure d v there)
-    c.in_ok-number.ensures.answer c.in_ok-number.ensures.grows c.in_err-compare.ensures.reads apart)
+    c.in_ok-number.ensures.answer c.in_ok-number.ensures.grows (c.in_ok-number.ensures.quiet (λ none. none)) c.in_err-compare.ensures.reads apart)
 
 pub returns-in_err-compare-clause-grows : goal.returns-in_err-compare-clause-grows
 returns-in_err-compare-clause-grows g c = grows_on g.M.Drive c.args.volume c.args.drive.now c.put.new.drive c.compare.new.drive c.in_ok-number.ensures.grows c.in_err-compare.ensures.reads

@@ -1,6 +1,6 @@
 use Rattle.std.proofs.Common.{Ok}
 use Rattle.std.specs.FinMap.{get}
-use Rattle.hosts.proofs.HandingOut.{handed-count, handed-room, handed-has, handed-there, Hands-gone, Hands-others}
+use Rattle.hosts.proofs.HandingOut.{handed-count, handed-room, handed-has, handed-only, handed-there, Hands-gone, Hands-others}
 use Rattle.hosts.proofs.mem_host.MemHostHost.drives.Goals as goal
 
 pub returns-clause-given : goal.returns-clause-given
@@ -12,6 +12,7 @@ returns-clause-given c =
       counted = c.in_ok-hand.ensures.unfailed;
       room = handed-room c.args.dir.now c.args.drives c.args.volumes c.args.capacity c.args.self.now c.hand.new.self held c.in_ok-hand.field-0 hands;
       has = handed-has c.args.dir.now c.args.drives c.args.volumes c.args.capacity c.args.self.now c.hand.new.self held c.in_ok-hand.field-0 hands;
+      only = handed-only c.args.dir.now c.args.drives c.args.volumes c.args.capacity c.args.self.now c.hand.new.self held c.in_ok-hand.field-0 hands;
       there = handed-there c.args.dir.now c.args.drives c.args.volumes c.args.capacity c.args.self.now c.hand.new.self held c.in_ok-hand.field-0 hands;
     }
 
