@@ -142,7 +142,7 @@ shared_there number drives volumes v is =
 abbrev HasOnly : ℕ → ℕ → ℕ → Faulty → Type 0
 HasOnly number drives volumes d = (v : ℕ) → has_volume v d.held ≡ true → (v < volumes) × (v % drives ≡ number)
 
-new_has_only : (number drives volumes capacity : ℕ) (d : Faulty) → IsNew number drives volumes capacity d → HasOnly number drives volumes d
+pub new_has_only : (number drives volumes capacity : ℕ) (d : Faulty) → IsNew number drives volumes capacity d → HasOnly number drives volumes d
 new_has_only number drives volumes capacity d new v has = shared_there number drives volumes v (by (is_shared number drives volumes v) (sym (ap is_some (new.shares v)) ∙ has))
   where
     by : (shared : Bool) → is_some (if shared then Some no_objects else None) ≡ true → shared ≡ true

@@ -10,6 +10,7 @@ use Rattle.plain_model.specs.Exact.{IsAnswer, IsAnswerSeen, Exact, ExactSeen, le
 use Rattle.plain_model.specs.Laws.{IsRunSeen, IsOrderly, IsGoodRun}
 use Rattle.plain_model.proofs.AnyDisk.{run_on_any, seen_is_orderly}
 use Rattle.plain_model.proofs.Goods.{run_is_good}
+use Rattle.seen_history.proofs.Goods.{seen_is_good}
 use Rattle.std.proofs.lemmas.Bool.{false≢true}
 use Rattle.disk_model.specs.declared.device.Disk as disk
 use Rattle.file_store.specs.Stores.{Store, superblock_of}
@@ -17,7 +18,7 @@ use Rattle.hsm_cli.specs.Openings.{replay_store, superblock_at, held_at, base_of
 use Rattle.hsm_cli.specs.Outcomes.{ended_with}
 use Rattle.hsm_cli.specs.declared.causes.Cause.{Cause}
 use Rattle.hsm_cli.specs.declared.outcomes.Outcome.{Outcome}
-use Rattle.hsm_cli.specs.Clauses.{TellsGiven, IsRunOver, IsGoodOver, LegalityClause}
+use Rattle.hsm_cli.specs.Clauses.{TellsGiven, IsRunOver, IsGoodSeenOver, IsGoodOver, IsPlainOver, LegalityClause}
 
 -- ---- exact runs
 
@@ -39,6 +40,13 @@ good_seen Told opened history good = record { opening = good.run.opening; exact 
 pub orderly : (Told : Type 0) (s : Superblock) (base : ℕ) (h : Held) (es : List Entry) → IsRunSeen Told s base h es → IsOrderly s base h es
 orderly Told s base h es run = seen_is_orderly s base h es (run_on_any Told s base h es run)
 
+-- a run is good but for bytes, and its files are plain
+pub good_but_bytes : {D : Type 0} (Told : Type 0) (opened : Option (Store D)) (history : List Entry) → IsRunOver Told opened history → IsGoodSeenOver Told opened history
+good_but_bytes Told opened history run = seen_is_good Told (superblock_at opened) (base_of opened) (held_at opened) history run
+
+pub plain_over : {D : Type 0} (Told : Type 0) (opened : Option (Store D)) (history : List Entry) → IsRunOver Told opened history → IsPlainOver opened history
+plain_over Told opened history run P stands = (good_but_bytes Told opened history run P stands).plain
+
 -- ---- on a new store
 
 -- what is good over a store of that superblock that holds nothing is so over a new one
@@ -55,7 +63,7 @@ pub good_unopened : (D : Type 0) → IsGoodOver {D = D} None []
 good_unopened D = run_is_good replay_store 0 nothing_held [] (record { opening = omega arith; exact = tt })
 
 legal_unopened : {D M : Type 0} (g : disk.Ghosts D) (cause : Option Cause) (given : Option D) (drives : List M) → LegalityClause g (record (ended_with cause [] given) { drives = drives })
-legal_unopened {D} {M} g cause given drives = record { from = run_unopened D (TellsGiven g given); orderly = orderly _ _ _ _ _ (run_unopened D (TellsGiven g given)); good = λ tells. good_unopened D; caused = λ is. absurd (false≢true is); told = λ is some. absurd (false≢true some); faultless = λ sound ample. refl }
+legal_unopened {D} {M} g cause given drives = record { from = run_unopened D (TellsGiven g given); orderly = orderly _ _ _ _ _ (run_unopened D (TellsGiven g given)); seen = good_but_bytes {D = D} (TellsGiven g given) None [] (run_unopened D (TellsGiven g given)); good = λ tells. good_unopened D; caused = λ is. absurd (false≢true is); told = λ is some. absurd (false≢true some); faultless = λ sound ample. refl }
 
 pub legal_with : {D M : Type 0} (g : disk.Ghosts D) (o : Outcome D M) (cause : Option Cause) (given : Option D) (drives : List M) → o ≡ record (ended_with cause [] given) { drives = drives } → LegalityClause g o
 legal_with {D} {M} g o cause given drives is = subst (λ (x : Outcome D M). LegalityClause g x) (sym is) (legal_unopened g cause given drives)

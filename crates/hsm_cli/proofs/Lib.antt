@@ -20,3 +20,6 @@ pub mod Committing
 pub mod Drives
 pub mod Sealing
 pub mod Quiet
+pub mod Doing
+pub mod Deeds
+pub mod InMemory

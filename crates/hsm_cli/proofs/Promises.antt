@@ -19,13 +19,14 @@ use Rattle.hsm_cli.specs.Statuses.{status_of, place_of}
 use Rattle.hsm_cli.specs.Openings.{opened_in, superblock_at, held_at, base_of}
 use Rattle.hsm_cli.specs.Outcomes.{ended_with}
 use Rattle.hsm_cli.specs.Daemons.{IsWellServedOver}
+use Rattle.hsm_cli.specs.Deeds.{DeedsClause}
 use Rattle.hsm_cli.specs.Follows.{SettlesOn}
 use Rattle.hosts.specs.Hosts.{StoresAll}
 use Rattle.hsm_cli.specs.Sealing.{IsRightInMemory, IsRightInFolder}
 use Rattle.hsm_cli.specs.Texts.{IsUnwritten, TakesText, IsShown, AreUntold, AreCounted, drill_text}
 use Rattle.hsm_cli.specs.Told.{SourceTold, SinkTold, host_told}
 use Rattle.hsm_cli.specs.Endings.{WritingEnds, RunEnds, FormatEnds, ShowEnds}
-use Rattle.hsm_cli.specs.Clauses.{HasRun, HasDrilled, HasRead, HasReadOn, IsUnread, TellsGiven, IsRunOver, IsOrderlyOver, IsGoodOver, IsPlainOver}
+use Rattle.hsm_cli.specs.Clauses.{HasRun, HasDrilled, HasRead, HasReadOn, IsUnread, TellsGiven, IsRunOver, IsGoodSeenOver, IsOrderlyOver, IsGoodOver, IsPlainOver}
 use Rattle.hsm_cli.specs.Clauses.{IsCausedOver, NoneFailed, TellsFaults}
 use Rattle.hsm_cli.specs.Clauses.{LegalityClause, PlainClause, MediaClause, LeavesSafe, OnlyReads, IsFormatted, HandsOut, HasFailed, HasDriveFailed}
 use Rattle.hsm_cli.specs.Clauses.{GivesBack, HandsDrives, GivesShown, AsksShown, asked_by, FindsNothing, TakesTranscript, Why, HasBegun, Lacks}
@@ -34,7 +35,7 @@ use Rattle.hsm_cli.proofs.Completeness.{status_new, status_store}
 use Rattle.hsm_cli.proofs.Drills.{status_drill}
 use Rattle.hsm_cli.proofs.Faults.{caused_none, none_named}
 use Rattle.hsm_cli.proofs.Formats.{status_format}
-use Rattle.hsm_cli.proofs.Legality.{good_seen, legal_with}
+use Rattle.hsm_cli.proofs.Legality.{good_but_bytes, good_seen, legal_with}
 use Rattle.hsm_cli.proofs.Quiet.{read_quietly, text_quietly}
 use Rattle.hsm_cli.proofs.Showings.{status_show, status_volumes}
 
@@ -54,8 +55,8 @@ module _ {H D M : Type 0} (t : host.Ghosts H D M) (g : disk.Ghosts D) (h : drive
     idle_legal : LegalityClause g o
     idle_legal = legal_with g o o.cause o.disk drives is
 
-    idle_plain : PlainClause g o
-    idle_plain tells P stands = ((idle_legal.good tells).good P stands).plain
+    idle_plain : PlainClause o
+    idle_plain P stands = (idle_legal.seen P stands).plain
 
     idle_media : (form : Option Form) → TellsFaults h form o.drives (faults_in o.history) → MediaClause h form o
     idle_media form faults = record { caused = caused_none (superblock_at (opened_in o)) (base_of (opened_in o)) (held_at (opened_in o)) o.history idle; faults = faults }
@@ -76,6 +77,7 @@ module _ {H D M : Type 0} (t : host.Ghosts H D M) (g : disk.Ghosts D) (h : drive
       → IsUnread source → IsUnwritten sink → KeepsPromises t g h (Some (Format path size)) old new source sink o
   format_keeps path size is formatted hands made unasked undriven folders lent back quiet sound ends unread unwritten = record {
     script = idle [] is;
+    deeds = tt;
     reading = unread;
     legality = idle_legal [] is;
     plain = idle_plain [] is;
@@ -105,6 +107,7 @@ module _ {H D M : Type 0} (t : host.Ghosts H D M) (g : disk.Ghosts D) (h : drive
       → IsUnread source → KeepsPromises t g h (Some (Show path)) old new source sink o
   show_keeps path is reads hands asked unmade undriven folders lent back output quiet ends unread = record {
     script = idle [] is;
+    deeds = tt;
     reading = unread;
     legality = idle_legal [] is;
     plain = idle_plain [] is;
@@ -138,6 +141,7 @@ module _ {H D M : Type 0} (t : host.Ghosts H D M) (g : disk.Ghosts D) (h : drive
       → IsUnread source → KeepsPromises t g h (Some (ShowVolumes path dir)) old new source sink o
   volumes_keep path dir is reads hands asked unmade drives folders driven lent back unasked first output quiet well ends unread = record {
     script = idle o.drives is;
+    deeds = tt;
     reading = unread;
     legality = idle_legal o.drives is;
     plain = idle_plain o.drives is;
@@ -170,6 +174,7 @@ module _ {H D M : Type 0} (t : host.Ghosts H D M) (g : disk.Ghosts D) (h : drive
     new_legal : LegalityClause g o
     new_legal = record {
       from = subst (λ (s : Option (Store D)). IsRunOver (TellsGiven g o.disk) s o.history) (sym not_opened) (good_seen {D = D} (TellsGiven g o.disk) None o.history good);
+      seen = subst (λ (s : Option (Store D)). IsGoodSeenOver (TellsGiven g o.disk) s o.history) (sym not_opened) (good_but_bytes {D = D} (TellsGiven g o.disk) None o.history (good_seen {D = D} (TellsGiven g o.disk) None o.history good));
       orderly = subst (λ (s : Option (Store D)). IsOrderlyOver s o.history) (sym not_opened) (record { once = good.once; ordered = good.ordered });
       good = λ tells. subst (λ (s : Option (Store D)). IsGoodOver s o.history) (sym not_opened) good;
       caused = λ is. absurd (false≢true (sym faultless ∙ is));
@@ -177,22 +182,24 @@ module _ {H D M : Type 0} (t : host.Ghosts H D M) (g : disk.Ghosts D) (h : drive
       faultless = λ sound ample. faultless;
     }
 
-    new_plain : PlainClause g o
-    new_plain tells = subst (λ (s : Option (Store D)). IsPlainOver s o.history) (sym not_opened) plain
+    new_plain : PlainClause o
+    new_plain = subst (λ (s : Option (Store D)). IsPlainOver s o.history) (sym not_opened) plain
 
     new_caused : IsCausedOver (opened_in o) o.history
     new_caused = subst (λ (s : Option (Store D)). IsCausedOver s o.history) (sym not_opened) caused
 
     pub replay_keeps : ((bytes : List ℕ) (lines : List Line) → IsScript bytes lines → IsOneScript bytes lines)
         → HasRun (SettlesOn (opened_in o)) (λ marks. IsWellServedOver (opened_in o) marks × IsRightInMemory marks) false source o.cause o.history
+        → DeedsClause h (t.stores old) (Some Replay) source o
         → HasRead source o.cause
         → TakesTranscript o sink
         → ReadsQuietly source o.cause
         → WritesQuietly sink o.cause
         → RunEnds ⊥ ⊥ source sink o.cause
         → KeepsPromises t g h (Some Replay) old old source sink o
-    replay_keeps law script reading output reads writes ends = record {
+    replay_keeps law script deeds reading output reads writes ends = record {
       script = script;
+      deeds = deeds;
       reading = reading;
       legality = new_legal;
       plain = new_plain;
@@ -208,11 +215,13 @@ module _ {H D M : Type 0} (t : host.Ghosts H D M) (g : disk.Ghosts D) (h : drive
 
     pub drill_keeps : (number : ℕ)
         → HasDrilled (SettlesOn (opened_in o)) (λ marks. IsWellServedOver (opened_in o) marks × IsRightInMemory marks) number o.cause o.history
+        → DeedsClause h (t.stores old) (Some (Drill number)) source o
         → TakesText (λ text. text ≡ drill_text number o.history) sink o.cause
         → IfSome o.cause (WritingEnds sink)
         → IsUnread source → KeepsPromises t g h (Some (Drill number)) old old source sink o
-    drill_keeps number script output ends unread = record {
+    drill_keeps number script deeds output ends unread = record {
       script = script;
+      deeds = deeds;
       reading = unread;
       legality = new_legal;
       plain = new_plain;
@@ -232,9 +241,10 @@ module _ {H D M : Type 0} (t : host.Ghosts H D M) (g : disk.Ghosts D) (h : drive
       → (o.status ≡ status_of o.cause) × (o.at ≡ place_of o.cause) × (o.base ≡ base_of (opened_in o))
       → o.cause ≢ Some WordsRefused
       → HasRun (SettlesOn (opened_in o)) (λ marks. IsWellServedOver (opened_in o) marks × IsRightInFolder h (t.stores old dir) o.drives marks) true source o.cause o.history
+      → DeedsClause h (t.stores old) (Some (ReplayStore path dir)) source o
       → HasReadOn (opened_in o) source o.cause
       → LegalityClause g o
-      → PlainClause g o
+      → PlainClause o
       → AreTrue h o.drives (faults_in o.history)
       → IsCausedOver (opened_in o) o.history
       → LeavesSafe g (t.holds old path) (opened_in o) o.history o.cause o.disk
@@ -255,8 +265,9 @@ module _ {H D M : Type 0} (t : host.Ghosts H D M) (g : disk.Ghosts D) (h : drive
       → HandsQuietly (host_told t.fault_count old new) o.cause
       → Why g (t.holds old path) (Rose (t.fault_count old) (t.fault_count new)) source sink o.disk o.cause
       → KeepsPromises t g h (Some (ReplayStore path dir)) old new source sink o
-  store_keeps path dir law told command script reading legality plain media caused crash output hands asked unmade lent drives folders driven begun opened back sound reads writes quiet why = record {
+  store_keeps path dir law told command script deeds reading legality plain media caused crash output hands asked unmade lent drives folders driven begun opened back sound reads writes quiet why = record {
     script = script;
+    deeds = deeds;
     reading = reading;
     legality = legality;
     plain = plain;

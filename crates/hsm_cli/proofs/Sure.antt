@@ -12,7 +12,7 @@ use Rattle.plain_model.proofs.Goods.{run_is_good}
 use Rattle.file_store.specs.Stores.{Store}
 use Rattle.hsm_cli.specs.declared.outcomes.Outcome.{Outcome}
 use Rattle.hsm_cli.specs.Openings.{opened_in, superblock_at, held_at, base_of}
-use Rattle.hsm_cli.specs.Clauses.{TellsGiven, IsRunOver, IsGoodOver, LegalityClause, IsPlainOver, PlainClause}
+use Rattle.hsm_cli.specs.Clauses.{TellsGiven, IsRunOver, IsGoodOver, LegalityClause}
 
 -- ---- answers
 
@@ -39,6 +39,3 @@ module _ {D M : Type 0} (g : disk.Ghosts D) (o : Outcome D M) (tells : TellsGive
   -- it is the run's own
   pub from_told : LegalityClause g o → IsGoodOver (opened_in o) o.history
   from_told legality = run_told (TellsGiven g o.disk) tells (opened_in o) o.history legality.from
-
-  pub plain_told : PlainClause g o → IsPlainOver (opened_in o) o.history
-  plain_told plain = plain tells

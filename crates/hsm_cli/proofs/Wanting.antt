@@ -18,6 +18,7 @@ use Rattle.hsm_cli.specs.Texts.{IsUnwritten}
 use Rattle.hsm_cli.specs.Told.{SourceTold, SinkTold, HostTold, host_told}
 use Rattle.hsm_cli.specs.Clauses.{ScriptClause, ReadingClause, MediaClause, TellsFaults, CrashClause, FormatClause, HostClause, DrivesClause}
 use Rattle.hsm_cli.specs.Clauses.{OutputClause, TakesTranscript, LegalityClause, PlainClause, StatusClause, KeepsPromises}
+use Rattle.hsm_cli.proofs.Deeds.{deeds_wanting}
 use Rattle.hsm_cli.proofs.Faults.{caused_none}
 use Rattle.hsm_cli.proofs.Legality.{legal_as}
 use Rattle.hsm_cli.proofs.Quiet.{faults_idle}
@@ -144,8 +145,8 @@ module _ {D M : Type 0} (g : disk.Ghosts D) (h : drive.Ghosts M) where
     complete = λ store script works. inr refl;
   }
 
-  plain_by : (o : Outcome D M) → LegalityClause g o → PlainClause g o
-  plain_by o legal tells P stands = ((legal.good tells).good P stands).plain
+  plain_by : (o : Outcome D M) → LegalityClause g o → PlainClause o
+  plain_by o legal P stands = (legal.seen P stands).plain
 
   status_refused : (holds : List ℕ → List ℕ → Type 0) (source : SourceTold) (sink : SinkTold) (host : HostTold) → StatusClause g h None holds source sink host (refused {D = D} {M = M})
   status_refused holds source sink host = record {
@@ -173,6 +174,7 @@ module _ {D M : Type 0} (g : disk.Ghosts D) (h : drive.Ghosts M) where
         subst (λ (x : Outcome D M). KeepsPromises t g h None host host (unread given read) (untaken taken written) x) (sym is) (
         record {
           script = refl;
+          deeds = tt;
           reading = record { left = refl; faults = refl };
           legality = legal;
           plain = plain_by refused legal;
@@ -193,6 +195,7 @@ module _ {D M : Type 0} (g : disk.Ghosts D) (h : drive.Ghosts M) where
         subst (λ (x : Outcome D M). KeepsPromises t g h form host host (unread given read) (untaken taken written) x) (sym is) (
         record {
           script = script_wanting (t.stores host) form _;
+          deeds = deeds_wanting D h (t.stores host) form _;
           reading = reading_wanting form given read;
           legality = legal;
           plain = plain_by wanting legal;

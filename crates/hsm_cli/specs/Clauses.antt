@@ -42,6 +42,7 @@ use Rattle.hsm_cli.specs.Statuses.{status_of, place_of}
 use Rattle.hsm_cli.specs.Sources.{script_bytes, GivesFirst, GivesWhole}
 use Rattle.hsm_cli.specs.Openings.{opened_in, superblock_at, held_at, base_of}
 use Rattle.hsm_cli.specs.Daemons.{IsWellServedOver}
+use Rattle.hsm_cli.specs.Deeds.{DeedsClause}
 use Rattle.hsm_cli.specs.Follows.{SettlesOn, RunsAll, RunsFirst, DrillsAll, DrillsFirst}
 use Rattle.hosts.specs.Hosts.{IsHanded, AreHanded, HoldsNothing, HoldsOthers, HoldsAll, StoresNothing, StoresOthers, StoresAll}
 use Rattle.hsm_cli.specs.Sealing.{IsRightInMemory, IsRightInFolder}
@@ -156,8 +157,8 @@ pub record LegalityClause {D M : Type 0} (g : disk.Ghosts D) (o : Outcome D M) :
 abbrev pub IsPlainOver : {D : Type 0} → Option (Store D) → List Entry → Type 0
 IsPlainOver opened history = (P : List File) → Stands (held_at opened).files P → IsPlain P history
 
-abbrev pub PlainClause : {D M : Type 0} → disk.Ghosts D → Outcome D M → Type 0
-PlainClause g o = TellsGiven g o.disk → IsPlainOver (opened_in o) o.history
+abbrev pub PlainClause : {D M : Type 0} → Outcome D M → Type 0
+PlainClause o = IsPlainOver (opened_in o) o.history
 
 -- ---- the media clause
 
@@ -609,9 +610,10 @@ pub record FaultsClause {D M : Type 0} (g : disk.Ghosts D) (h : drive.Ghosts M) 
 -- All that is promised of a run whose words have that form, by what the host, the source and the sink tell before it and after it.
 pub record KeepsPromises {H D M : Type 0} (t : host.Ghosts H D M) (g : disk.Ghosts D) (h : drive.Ghosts M) (form : Option Form) (old new : H) (source : SourceTold) (sink : SinkTold) (o : Outcome D M) : Type 0 where
   pub script : ScriptClause h (t.stores old) form source o
+  pub deeds : DeedsClause h (t.stores old) form source o
   pub reading : ReadingClause form source o
   pub legality : LegalityClause g o
-  pub plain : PlainClause g o
+  pub plain : PlainClause o
   pub media : MediaClause h form o
   pub crash : CrashClause g form (t.holds old) o
   pub format : FormatClause g form o

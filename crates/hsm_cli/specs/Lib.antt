@@ -7,6 +7,7 @@ pub mod Follows
 pub mod Sealing
 pub mod Told
 pub mod Texts
+pub mod Deeds
 pub mod Clauses
 pub mod Endings
 pub mod Runs

@@ -2,6 +2,7 @@
 ghost use Rattle.std.specs.Prelude.{◌≡◌, ◌≢◌, ◌⊎◌, length, true, false, None, Some, IfOk, IfErr, IfSome, IsOk, OnOk, IsErrOf};
 ghost use Rattle.disk_model.specs.Calls.{Rose};
 ghost use Rattle.disk_model.specs.Moments.{Tells};
+ghost use Rattle.media_model.specs.contracts.sure.SureDriveDrive.TheImpl as sure;
 ghost use Rattle.plain_model.specs.Faults.{has_fault};
 ghost use Rattle.plain_model.specs.State.{nothing_held};
 ghost use Rattle.plain_model.specs.Exact.{held_by};
@@ -9,6 +10,7 @@ ghost use Rattle.hsm_policy.specs.Settings.{standard};
 ghost use Rattle.file_store.specs.Stores.{superblock_of};
 ghost use Rattle.drill_script.specs.Drill.{drill_lines};
 ghost use Rattle.drill_script.specs.Summary.{summary_line};
+ghost use Rattle.hosts.specs.Hosts.{AreHanded};
 ghost use Rattle.hsm_replay.specs.Drives.{HaveGrown};
 ghost use Rattle.hsm_replay.specs.Faults.{faults_in, AreTrue};
 ghost use Rattle.hsm_system.specs.Events.{GoesOn};
@@ -16,6 +18,7 @@ ghost use Rattle.hsm_cli.specs.Openings.{opened_in, replay_store};
 ghost use Rattle.hsm_cli.specs.Outcomes.{ended_with};
 ghost use Rattle.hsm_cli.specs.Follows.{RunsBy, FollowsFirst, IsRunOf, IsServed, SettlesOn};
 ghost use Rattle.hsm_cli.specs.Daemons.{IsWellServedOver, ServedIsWell};
+ghost use Rattle.hsm_cli.specs.Deeds.{AreDone, AreThese, DrivesInMemory, HasDone, HaveGone, MayGoOnOver, RunHasDone, without_objects};
 ghost use Rattle.hsm_cli.specs.Sealing.{TellsOf, IsRightInMemory};
 ghost use Rattle.hsm_cli.specs.Texts.{TakesText, HasLeft, drill_text};
 ghost use Rattle.hsm_cli.specs.Told.{sink_told};
@@ -75,6 +78,7 @@ struct Drilled<D, M> {
 pub(crate) fn drill<D: Disk, M, O: Sink>(alloc: Global, number: u64, sink: &mut O) -> Outcome<D, M>
     ensures ended { result ≡ ended_with result.cause result.history None }
     ensures script { HasDrilled (SettlesOn (opened_in result)) (λ marks. IsWellServedOver (opened_in result) marks × IsRightInMemory marks) number result.cause result.history }
+    ensures deeds { RunHasDone standard (AreThese (drill_lines number)) (DrivesInMemory standard) result }
     ensures legality { IsGoodOver {D = D} None result.history }
     ensures faultless { has_fault result.history ≡ false }
     ensures plain { IsPlainOver {D = D} None result.history }
@@ -98,6 +102,7 @@ pub(crate) fn drill<D: Disk, M, O: Sink>(alloc: Global, number: u64, sink: &mut 
 fn prepare(alloc: Global, number: u64) -> Result<Prepared, AllocError>
     ensures script { IfOk result (λ p. p.script ≡ drill_lines number) }
     ensures count { IfOk result (λ p. length p.drives.items ≡ standard.drives) }
+    ensures handed { IfOk result (λ p. AreHanded sure.ghosts without_objects standard.drives standard.volumes standard.capacity p.drives.items) }
     ensures anew { IfOk result (λ p. IsOpenedAnew p.hsm) }
     ensures empty { IfOk result (λ p. (superblock_of p.hsm.opened ≡ replay_store) × (p.hsm.opened.held ≡ nothing_held) × (p.hsm.opened.meta.number ≡ 0)) }
 {
@@ -125,6 +130,7 @@ fn run_on<D: Disk, M: Drive>(
     ensures all { OnOk result.ended (IsRunOf (RunsBy (SettlesOn (Some hsm.opened)) script) (TellsOf M.Drive drives.items result.drives.items) result.history) }
     ensures first { IsRunOf (FollowsFirst (SettlesOn (Some hsm.opened)) script) (TellsOf M.Drive drives.items result.drives.items) result.history }
     ensures well { ServedIsWell (Some hsm.opened) result.history }
+    ensures deeds { HasDone standard (AreDone (MayGoOnOver (Some hsm.opened)) (AreThese script) (cause_in result.ended)) (λ deeds. HaveGone M.Drive drives.items deeds result.drives.items) result.history }
     ensures good { Tells D.Disk result.disk → IsGoodOver (Some hsm.opened) result.history }
     ensures caused_by { IsCausedOver (Some hsm.opened) result.history }
     ensures media { AreTrue M.Drive result.drives.items (faults_in result.history) }
@@ -166,6 +172,7 @@ fn run_all<D: Disk, M: Drive>(
     ensures all { OnOk result (IsRunOf (RunsBy (SettlesOn (Some replay.old.system.store.opened)) script) (TellsOf M.Drive replay.old.drives replay.new.drives) replay.new.system.store.history) }
     ensures first { IsRunOf (FollowsFirst (SettlesOn (Some replay.old.system.store.opened)) script) (TellsOf M.Drive replay.old.drives replay.new.drives) replay.new.system.store.history }
     ensures served { IsServed replay.new.system.store.history }
+    ensures deeds { HasDone standard (AreDone (MayGoOnOver (Some replay.old.system.store.opened)) (AreThese script) (cause_in result)) (λ deeds. HaveGone M.Drive replay.old.drives deeds replay.new.drives) replay.new.system.store.history }
     ensures media { AreTrue M.Drive replay.new.drives (faults_in replay.new.system.store.history) }
     ensures ends { IfErr result (LinesEnd (Rose (D.fault_count replay.old.system.store.files.disk) (D.fault_count replay.new.system.store.files.disk))) }
     ensures failed { replay.new.system.store.files.failed ≡ true → IsErrOf result Cause.DiskFault }

@@ -1,8 +1,11 @@
 //! A new store and new drives, in memory.
 ghost use Rattle.std.specs.Prelude.{◌≡◌, length, IfOk, IfErr};
+ghost use Rattle.media_model.specs.contracts.sure.SureDriveDrive.TheImpl as sure;
 ghost use Rattle.plain_model.specs.State.{nothing_held};
 ghost use Rattle.hsm_policy.specs.Settings.{standard};
 ghost use Rattle.file_store.specs.Stores.{superblock_of};
+ghost use Rattle.hosts.specs.Hosts.{AreHanded};
+ghost use Rattle.hsm_cli.specs.Deeds.{without_objects};
 ghost use Rattle.hsm_cli.specs.Openings.{replay_store};
 ghost use Rattle.hsm_cli.specs.Runs.{IsOpenedAnew};
 
@@ -41,6 +44,7 @@ pub(crate) fn new_store(alloc: Global) -> Result<Hsm<SureDisk>, AllocError>
 /// Drives in memory over new volumes, as the default settings have them.
 pub(crate) fn new_drives(alloc: Global) -> Result<Vec<SureDrive>, Cause>
     ensures count { IfOk result (λ ds. length ds.items ≡ standard.drives) }
+    ensures handed { IfOk result (λ ds. AreHanded sure.ghosts without_objects standard.drives standard.volumes standard.capacity ds.items) }
     ensures why { IfErr result (λ why. why ≡ Cause.NoMemory) }
 {
     let settings = Settings::default();

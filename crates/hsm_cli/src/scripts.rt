@@ -18,6 +18,7 @@ ghost use Rattle.hsm_cli.specs.Sealing.{TellsOf};
 ghost use Rattle.hsm_cli.specs.Sources.{script_bytes, GivesFirst};
 ghost use Rattle.hsm_cli.specs.Follows.{IsServed, SettlesOn};
 ghost use Rattle.hsm_cli.specs.Daemons.{ServedIsWell};
+ghost use Rattle.hsm_cli.specs.Deeds.{AreDone, AreOfScript, HasDone, HaveGone, MayGoOnOver};
 ghost use Rattle.hsm_cli.specs.Clauses.{HasRun, HasRead, IsRunOver, IsOrderlyOver, IsGoodOver, IsPlainOver, IsCausedOver, IsWhole, IsBeforeRun};
 ghost use Rattle.hsm_cli.specs.Clauses.{RanToItsEnd, ReadsQuietly, WritesQuietly};
 ghost use Rattle.hsm_cli.specs.Endings.{cause_in, IsBeforeReading, ScriptEnds, WritingEnds, RunEnds, first_of};
@@ -78,6 +79,7 @@ pub(crate) fn run_opened<D: Disk, M: Drive, I: Source, O: Sink>(
     ensures base { result.base ≡ hsm.opened.meta.number }
     ensures script { HasRun (SettlesOn (Some hsm.opened)) (λ marks. IfOk drives (λ ds. TellsOf M.Drive ds.items result.drives.items marks)) commits (source_told I.left I.fault_count source.old source.new) result.cause result.history }
     ensures well { ServedIsWell (Some hsm.opened) result.history }
+    ensures deeds { HasDone standard (AreDone (MayGoOnOver (Some hsm.opened)) (AreOfScript commits (I.left source.old)) result.cause) (λ deeds. MatchResult drives (λ ds. HaveGone M.Drive ds.items deeds result.drives.items) (λ why. deeds ≡ [])) result.history }
     ensures reading { HasRead (source_told I.left I.fault_count source.old source.new) result.cause }
     ensures legality { IsRunOver (Tells D.Disk result.disk) (Some hsm.opened) result.history }
     ensures orderly { IsOrderlyOver (Some hsm.opened) result.history }
@@ -85,7 +87,7 @@ pub(crate) fn run_opened<D: Disk, M: Drive, I: Source, O: Sink>(
     ensures caused { has_fault result.history ≡ true → Rose (D.fault_count hsm.opened.disk) (D.fault_count result.disk) }
     ensures told { result.cause ≡ Some Cause.DiskFault → has_fault result.history ≡ true }
     ensures faultless { result.cause ≢ Some Cause.DiskFault → result.cause ≢ Some Cause.NoMemory → has_fault result.history ≡ false }
-    ensures plain { Tells D.Disk result.disk → IsPlainOver (Some hsm.opened) result.history }
+    ensures plain { IsPlainOver (Some hsm.opened) result.history }
     ensures media { AreTrue M.Drive result.drives.items (faults_in result.history) }
     ensures caused_by { IsCausedOver (Some hsm.opened) result.history }
     ensures idle { OnErr drives (result.history ≡ []) }
@@ -145,6 +147,7 @@ fn run_with<D: Disk, M: Drive, I: Source>(
     requires ready { IfErr drives IsBeforeReading }
     ensures goes_on { GoesOn D.Disk hsm result.hsm }
     ensures ran { HasRun (SettlesOn (Some hsm.opened)) (λ marks. IfOk drives (λ ds. TellsOf M.Drive ds.items result.drives.items marks)) commits (source_told I.left I.fault_count source.old source.new) (cause_in result.ended) result.hsm.history }
+    ensures deeds { HasDone standard (AreDone (MayGoOnOver (Some hsm.opened)) (AreOfScript commits (I.left source.old)) (cause_in result.ended)) (λ deeds. MatchResult drives (λ ds. HaveGone M.Drive ds.items deeds result.drives.items) (λ why. deeds ≡ [])) result.hsm.history }
     ensures reading { HasRead (source_told I.left I.fault_count source.old source.new) (cause_in result.ended) }
     ensures part { GivesFirst (I.left source.old) (I.left source.new) }
     ensures unready { IfErr drives (λ why. cause_in result.ended ≡ Some why) }
@@ -186,6 +189,7 @@ fn run_script<D: Disk, M: Drive, I: Source>(
     requires limits { replay.old.system.limits ≡ standard }
     ensures goes_on { GoesOn D.Disk replay.old.system.store replay.new.system.store }
     ensures ran { HasRun (SettlesOn (Some replay.old.system.store.opened)) (TellsOf M.Drive replay.old.drives replay.new.drives) commits (source_told I.left I.fault_count source.old source.new) (cause_in result) replay.new.system.store.history }
+    ensures deeds { HasDone standard (AreDone (MayGoOnOver (Some replay.old.system.store.opened)) (AreOfScript commits (I.left source.old)) (cause_in result)) (λ deeds. HaveGone M.Drive replay.old.drives deeds replay.new.drives) replay.new.system.store.history }
     ensures reading { HasRead (source_told I.left I.fault_count source.old source.new) (cause_in result) }
     ensures part { GivesFirst (I.left source.old) (I.left source.new) }
     ensures ends { IfErr result (λ why. ScriptEnds ⊥ (Rose (D.fault_count replay.old.system.store.files.disk) (D.fault_count replay.new.system.store.files.disk)) (source_told I.left I.fault_count source.old source.new) why) }

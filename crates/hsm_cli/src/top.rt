@@ -19,6 +19,7 @@ ghost use Rattle.hsm_cli.specs.Clauses.{HandsQuietly};
 ghost use Rattle.hsm_cli.specs.Endings.{RunEnds, FormatEnds, HandingEnds, IsBeforeReading};
 ghost use Rattle.hosts.specs.Hosts.{AreHanded, HoldsAll, StoresAll};
 ghost use Rattle.hsm_cli.specs.Daemons.{IsWellServedOver};
+ghost use Rattle.hsm_cli.specs.Deeds.{AreOfScript, DeedsClause, DrivesInMemory, DrivesWent, RunHasDone};
 ghost use Rattle.hsm_cli.specs.Sealing.{IsRightInMemory, IsRightInFolder};
 ghost use Rattle.hsm_cli.specs.Told.{source_told, sink_told, host_told};
 
@@ -56,9 +57,10 @@ pub fn hsm_main<H: Host, I: Source, O: Sink>(
     sink: &mut O,
 ) -> Outcome<H::Disk, H::Drive>
     ensures script { ScriptClause H.Drive.Drive (H.stores host.old) (form_of (map string_bytes words.now)) (source_told I.left I.fault_count source.old source.new) result }
+    ensures deeds { DeedsClause H.Drive.Drive (H.stores host.old) (form_of (map string_bytes words.now)) (source_told I.left I.fault_count source.old source.new) result }
     ensures reading { ReadingClause (form_of (map string_bytes words.now)) (source_told I.left I.fault_count source.old source.new) result }
     ensures legality { LegalityClause H.Disk.Disk result }
-    ensures plain { PlainClause H.Disk.Disk result }
+    ensures plain { PlainClause result }
     ensures media { MediaClause H.Drive.Drive (form_of (map string_bytes words.now)) result }
     ensures crash { CrashClause H.Disk.Disk (form_of (map string_bytes words.now)) (H.holds host.old) result }
     ensures format { FormatClause H.Disk.Disk (form_of (map string_bytes words.now)) result }
@@ -145,6 +147,7 @@ fn replay<D: Disk, M, I: Source, O: Sink>(
 ) -> Outcome<D, M>
     ensures ended { result ≡ ended_with result.cause result.history None }
     ensures script { HasRun (SettlesOn (opened_in result)) (λ marks. IsWellServedOver (opened_in result) marks × IsRightInMemory marks) false (source_told I.left I.fault_count source.old source.new) result.cause result.history }
+    ensures deeds { RunHasDone standard (AreOfScript false (I.left source.old)) (DrivesInMemory standard) result }
     ensures reading { HasRead (source_told I.left I.fault_count source.old source.new) result.cause }
     ensures legality { IsGoodOver {D = D} None result.history }
     ensures faultless { has_fault result.history ≡ false }
@@ -179,9 +182,10 @@ fn replay_store<H: Host, I: Source, O: Sink>(
     ensures told { (result.status ≡ status_of result.cause) × (result.at ≡ place_of result.cause) × (result.base ≡ base_of (opened_in result)) }
     ensures command { result.cause ≢ Some Cause.WordsRefused }
     ensures script { HasRun (SettlesOn (opened_in result)) (λ marks. IsWellServedOver (opened_in result) marks × IsRightInFolder H.Drive.Drive (H.stores host.old dir.now) result.drives marks) true (source_told I.left I.fault_count source.old source.new) result.cause result.history }
+    ensures deeds { RunHasDone standard (AreOfScript true (I.left source.old)) (DrivesWent H.Drive.Drive standard (H.stores host.old dir.now) result.drives) result }
     ensures reading { HasReadOn (opened_in result) (source_told I.left I.fault_count source.old source.new) result.cause }
     ensures legality { LegalityClause H.Disk.Disk result }
-    ensures plain { PlainClause H.Disk.Disk result }
+    ensures plain { PlainClause result }
     ensures media { AreTrue H.Drive.Drive result.drives (faults_in result.history) }
     ensures caused_by { IsCausedOver (opened_in result) result.history }
     ensures crash { LeavesSafe H.Disk.Disk (H.holds host.old path.now) (opened_in result) result.history result.cause result.disk }

@@ -1,12 +1,17 @@
-use Rattle.std.proofs.Common.{◌≡◌, ◌≢◌, Some, Ok, IfErr, refl, sym, subst, arith}
+use Rattle.std.proofs.Common.{◌≡◌, ◌≢◌, inl, List, Some, Ok, IfErr, refl, sym, subst, arith}
 use Rattle.disk_model.specs.Calls.{Rose}
 use Rattle.media_model.specs.Memory.{has_gives}
+use Rattle.media_model.specs.contracts.sure.SureDriveDrive.TheImpl as sure
 use Rattle.plain_model.specs.State.{Held}
 use Rattle.plain_model.specs.Stands.{Stands}
+use Rattle.hsm_policy.specs.Settings.{standard}
+use Rattle.script_text.specs.declared.lines.Line.{Line}
+use Rattle.drill_script.specs.Drill.{drill_lines}
 use Rattle.drill_script.specs.Summary.{summary_line}
 use Rattle.hsm_cli.specs.declared.causes.Cause.TheVariants.{DiskFault, NoMemory}
 use Rattle.hsm_cli.specs.Clauses.{HasDrilled}
 use Rattle.hsm_cli.specs.Daemons.{IsWellServedOver}
+use Rattle.hsm_cli.specs.Deeds.{AreDone, AreThese, DrivesInMemory, HasDone, HaveGone, MayGoOnOver}
 use Rattle.hsm_cli.specs.Endings.{cause_in, WritingEnds}
 use Rattle.hsm_cli.specs.Follows.{SettlesOn}
 use Rattle.hsm_cli.specs.Sealing.{IsRightInMemory}
@@ -18,6 +23,8 @@ use Rattle.hsm_cli.proofs.Faults.{caused_new, none_failed}
 use Rattle.hsm_cli.proofs.Legality.{good_new, good_unopened}
 use Rattle.hsm_cli.proofs.Scripted.{settles_new}
 use Rattle.hsm_cli.proofs.Showings.{takes_as}
+use Rattle.hsm_cli.proofs.Deeds.{done_new, drill_told, went_in_memory}
+use Rattle.hsm_cli.proofs.Doing.{done_as, none_done}
 use Rattle.hsm_cli.proofs.drilling.drill.Given.{Over}
 use Rattle.hsm_cli.proofs.drilling.drill.Goals.{After-run_on-drilled}
 use Rattle.hsm_cli.proofs.drilling.drill.Goals as goal
@@ -79,3 +86,20 @@ returns-in-Ok-clause-ends g c = rw (c.ended.ensures, c.err-cause.ensures.value) 
 
 pub returns-in-Err-clause-legality : goal.returns-in-Err-clause-legality
 returns-in-Err-clause-legality g c = rw c.unopened.ensures (good_unopened g.row.D.Denot)
+
+pub returns-in-Ok-clause-deeds : goal.returns-in-Ok-clause-deeds
+returns-in-Ok-clause-deeds g c =
+    let opened = c.in-Ok.prepared.hsm.opened in
+    let empty = c.in-Ok.ensures.empty in
+    let drilled = c.run_on-drilled.result in
+    let may = MayGoOnOver (Some opened) in
+    let lines = AreThese (drill_lines c.args.number) in
+    rw (c.ended.ensures, c.err-cause.ensures.value)
+    (done_new _ g.row.D.Denot opened lines (cause_in c.tell.result) (DrivesInMemory standard) drilled.history empty.0 empty.1 empty.2
+    (done_as standard (AreDone may lines (cause_in drilled.ended)) (AreDone may lines (cause_in c.tell.result)) _ (DrivesInMemory standard) drilled.history
+    (λ deeds done. drill_told may lines (sink_told g.O.Sink.taken g.O.Sink.fault_count c.args.sink.now c.tell.new.sink) drilled.ended c.tell.result deeds c.tell.ensures.ends c.tell.ensures.ended done)
+    (λ deeds gone. went_in_memory (λ ds. ds.items) (Ok c.in-Ok.prepared.drives) drilled.drives.items c.in-Ok.ensures.handed deeds gone)
+    (subst (λ (script : List Line). HasDone standard (AreDone may (AreThese script) (cause_in drilled.ended)) (λ deeds. HaveGone sure.ghosts c.in-Ok.prepared.drives.items deeds drilled.drives.items) drilled.history) c.in-Ok.ensures.script c.run_on-drilled.ensures.deeds)))
+
+pub returns-in-Err-clause-deeds : goal.returns-in-Err-clause-deeds
+returns-in-Err-clause-deeds g c = rw c.unopened.ensures (none_done _ (DrivesInMemory standard) _ refl (inl refl) (inl refl))

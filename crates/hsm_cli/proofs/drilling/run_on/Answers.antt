@@ -51,3 +51,6 @@ returns-clause-totals g c =
     rw c.close-disk.ensures.entries (λ sound.
     let working : s.files.failed ≡ false = not_failed s.files.failed c.run_all-ended.result (rw c.close-hsm.ensures.store c.run_all-ended.ensures.failed) sound in
     has_left g.D.Disk s c.args.hsm.opened _ _ (goes_on g (goal.at.returns-clause-totals g c).After-close-disk).opened c.close-disk.ensures.kept working c.totals-used.ensures.used c.totals-used.ensures.offline)
+
+pub returns-clause-deeds : goal.returns-clause-deeds
+returns-clause-deeds g c = rw (c.close-disk.ensures.entries, c.close-hsm.ensures.store, c.close-hsm.ensures.drives) (rw c.new-replay.ensures at c.run_all-ended.ensures.deeds)

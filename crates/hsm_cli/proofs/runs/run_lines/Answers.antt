@@ -1,7 +1,12 @@
-use Rattle.std.proofs.Common.{◌≡◌, ◌∙◌, ◌∷◌, ◌++◌, [], refl, rules, append_assoc}
+use Rattle.std.proofs.Common.{◌≡◌, ◌∙◌, ◌∷◌, ◌++◌, [], List, refl, sym, ap, subst, rules, append-nil, append_assoc}
 use Rattle.std.proofs.lemmas.Result.{err_from_is_err_and}
 use Rattle.hsm_system.proofs.Going.{goes_itself, goes_then, stopped_then}
+use Rattle.script_text.specs.declared.lines.Line.{Line}
+use Rattle.hsm_replay.specs.Deeds.{IsDoneBy}
+use Rattle.hsm_replay.specs.GoingOn.{MayGoOn}
 use Rattle.hsm_replay.proofs.Growing.{have_grown_itself, have_grown_on}
+use Rattle.hsm_cli.specs.Deeds.{AreOfLines}
+use Rattle.hsm_cli.proofs.Doing.{lines_cut, lines_none, lines_on, may_same}
 use Rattle.hsm_cli.proofs.Following.{run_to_none, run_more, first_run}
 use Rattle.hsm_cli.proofs.runs.run_lines.Goals as goal
 
@@ -13,6 +18,7 @@ loop-line-init g c = record {
   working = c.requires.ready.store.working;
   done = [];
   run = run_to_none g.D.Disk g.M.Drive _ c.requires.ready;
+  deeds = lines_none g.M.Drive (MayGoOn c.args.replay.now.system.store) c.args.replay.now;
   lawful = search rules;
   left = search rules;
 }
@@ -29,6 +35,8 @@ loop-line-preserved g c =
       done = c.loop-line.invariant.done ++ c.in-Some.line ∷ [];
       run = run_more g.D.Disk g.M.Drive c.args.replay.now c.loop-line.invariant.done c.in-Some.line _ _ c.loop-line.invariant.run (c.in_ok-line.ensures.left c.loop-line.invariant.working)
           (moves.limits ∙ c.loop-line.invariant.limits) (moves.runs.goes_on.opened ∙ c.loop-line.invariant.goes_on.opened) c.in_ok-line.ensures.runs;
+      deeds = lines_on g.M.Drive (MayGoOn c.args.replay.now.system.store) (MayGoOn c.loop-line.replay.system.store) c.loop-line.invariant.done c.in-Some.line c.args.replay.now c.loop-line.replay c.line.new.self
+          (may_same c.args.replay.now.system.store c.loop-line.replay.system.store c.requires.ready.store.working c.loop-line.invariant.working c.loop-line.invariant.goes_on.opened) c.loop-line.invariant.deeds c.in_ok-line.ensures.deeds;
       lawful = (rw step at c.loop-line.invariant.lawful).1;
       left = rw (append_assoc, ← step) c.loop-line.invariant.left;
     }
@@ -49,3 +57,17 @@ pub returns-in_err-line-clause-first : goal.returns-in_err-line-clause-first
 returns-in_err-line-clause-first g c =
     let step : c.loop-line.line-iterator ≡ c.in-Some.line ∷ c.next.new.self = search (rules, c.in-Some.ensures.steps) in
     first_run g.D.Disk g.M.Drive c.args.replay.now _ c.args.lines c.loop-line.invariant.done c.in-Some.line c.next.new.self _ _ (rw step at c.loop-line.invariant.left) c.loop-line.invariant.run c.in_err-line.ensures.moves
+
+pub returns-in_err-line-clause-deeds : goal.returns-in_err-line-clause-deeds
+returns-in_err-line-clause-deeds g c =
+    let p = err_from_is_err_and c.from_residual.result c.from_residual.ensures.1 in
+    let step : c.loop-line.line-iterator ≡ c.in-Some.line ∷ c.next.new.self = search (rules, c.in-Some.ensures.steps) in
+    rw (p.1, p.2)
+    (lines_cut g.M.Drive (MayGoOn c.args.replay.now.system.store) (MayGoOn c.loop-line.replay.system.store) c.args.lines c.loop-line.invariant.done c.in-Some.line c.next.new.self _ c.args.replay.now c.loop-line.replay c.line.new.self
+    (may_same c.args.replay.now.system.store c.loop-line.replay.system.store c.requires.ready.store.working c.loop-line.invariant.working c.loop-line.invariant.goes_on.opened) (sym (rw step at c.loop-line.invariant.left)) c.loop-line.invariant.deeds c.in_err-line.ensures.deeds)
+
+pub returns-clause-deeds : goal.returns-clause-deeds
+returns-clause-deeds g c =
+    let none : c.loop-line.line-iterator ≡ [] = c.in-None.ensures.steps.0 in
+    let all : c.loop-line.invariant.done ≡ c.args.lines = sym (append-nil c.loop-line.invariant.done) ∙ ap (λ (ls : List Line). c.loop-line.invariant.done ++ ls) (sym none) ∙ c.loop-line.invariant.left in
+    subst (λ (ls : List Line). IsDoneBy g.M.Drive (AreOfLines (MayGoOn c.args.replay.now.system.store) ls) c.args.replay.now c.loop-line.replay) all c.loop-line.invariant.deeds

@@ -2,8 +2,11 @@ use Rattle.std.proofs.Common.{◌≡◌, ◌++◌, false, List}
 use Rattle.std.specs.List.{AllByRecursion}
 use Rattle.script_text.specs.declared.lines.Line.{Line}
 use Rattle.script_text.specs.Lines.{IsLine}
+use Rattle.hsm_replay.specs.Deeds.{IsDoneBy}
 use Rattle.hsm_replay.specs.Drives.{HaveGrown}
+use Rattle.hsm_replay.specs.GoingOn.{MayGoOn}
 use Rattle.hsm_system.specs.Events.{GoesOn}
+use Rattle.hsm_cli.specs.Deeds.{AreOfLines}
 use Rattle.hsm_cli.specs.Follows.{IsRunTo}
 use Rattle.hsm_cli.proofs.runs.run_lines.Given as goal
 
@@ -15,6 +18,7 @@ invariant-loop-line g l = record {
   working : l.replay.system.store.files.failed ≡ false;
   done : List Line;
   run : IsRunTo g.M.Drive l.fn.replay done l.replay;
+  deeds : IsDoneBy g.M.Drive (AreOfLines (MayGoOn l.fn.replay.system.store) done) l.fn.replay l.replay;
   lawful : AllByRecursion IsLine l.line-iterator;
   left : done ++ l.line-iterator ≡ l.fn.lines;
 }

@@ -1,10 +1,13 @@
-use Rattle.std.proofs.Common.{◌≡◌, ◌∙◌, [], None, OnErr, false, ap, subst}
+use Rattle.std.proofs.Common.{◌≡◌, ◌∙◌, [], Some, None, OnErr, false, ap, subst}
+use Rattle.std.specs.Prelude.{List, MatchResult}
+use Rattle.hsm_policy.specs.Settings.{standard}
+use Rattle.deeds.specs.Deeds.{Deed}
 use Rattle.file_store.specs.Stores.{Store as FileStore}
 use Rattle.hsm_cli.specs.Clauses.{HasRead, IsWhole}
 use Rattle.hsm_cli.proofs.Committing.{ran_well, on_none, whole}
 use Rattle.hsm_cli.proofs.Daemons.{run_is_well}
 use Rattle.hsm_cli.proofs.Faults.{caused_served}
-use Rattle.hsm_cli.proofs.Legality.{orderly}
+use Rattle.hsm_cli.proofs.Legality.{orderly, plain_over}
 use Rattle.hsm_cli.proofs.Quiet.{works_still, reads_quietly, writes_quietly, lent_first}
 use Rattle.hsm_cli.proofs.Scripted.{idle_none}
 use Rattle.hsm_cli.proofs.Telling.{told_fault, faultless_unless, fault_caused, read_by, written_if_none, written_if_works, told_unready, run_ends}
@@ -12,6 +15,8 @@ use Rattle.hsm_cli.specs.Endings.{cause_in}
 use Rattle.hsm_replay.specs.Running.{IsAllDurable}
 use Rattle.hsm_cli.proofs.Endings.{has_run, before_run}
 use Rattle.hsm_cli.specs.Told.{source_told, sink_told}
+use Rattle.hsm_cli.specs.Deeds.{AreDone, AreOfScript, HaveGone, MayGoOnOver}
+use Rattle.hsm_cli.proofs.Doing.{done_as, told_done}
 use Rattle.hsm_cli.proofs.scripts.run_opened.Goals as goal
 
 pub returns-clause-script : goal.returns-clause-script
@@ -73,7 +78,7 @@ pub returns-clause-good : goal.returns-clause-good
 returns-clause-good g c = rw (c.close-disk.ensures.disk, c.close-disk.ensures.entries, ← c.run_with-ended.ensures.goes_on.opened) c.close-disk.ensures.kept.good
 
 pub returns-clause-plain : goal.returns-clause-plain
-returns-clause-plain g c = rw (c.close-disk.ensures.disk, c.close-disk.ensures.entries, ← c.run_with-ended.ensures.goes_on.opened) (λ tells P stands. ((c.close-disk.ensures.kept.good tells).good P stands).plain)
+returns-clause-plain g c = rw (c.close-disk.ensures.entries, ← c.run_with-ended.ensures.goes_on.opened) (plain_over _ (Some c.run_with-ended.result.hsm.opened) c.run_with-ended.result.hsm.history c.close-disk.ensures.kept.run)
 
 pub returns-clause-done : goal.returns-clause-done
 returns-clause-done g c = rw (c.close-disk.ensures.entries, c.first_cause.ensures) (written_if_none _ (sink_told g.O.Sink.taken g.O.Sink.fault_count c.args.sink.now c.write_transcript-written.new.sink) c.run_with-ended.result.ended c.write_transcript-written.result c.write_transcript-written.ensures.refused (rw c.close-disk.ensures.entries at c.write_transcript-written.ensures.all))
@@ -109,3 +114,13 @@ pub returns-clause-sound : goal.returns-clause-sound
 returns-clause-sound g c =
     rw (c.close-disk.ensures.disk, c.close-disk.ensures.entries, c.requires.anew.opened)
     (λ none. (c.run_with-ended.ensures.goes_on.quiet (works_still c.run_with-ended.result.hsm.files.failed _ c.run_with-ended.result.ended c.run_with-ended.ensures.failed c.run_with-ended.ensures.fault none)).1)
+
+pub returns-clause-deeds : goal.returns-clause-deeds
+returns-clause-deeds g c =
+    let may = MayGoOnOver (Some c.args.hsm.opened) in
+    let lines = AreOfScript c.args.commits (g.I.Source.left c.args.source.now) in
+    let goes = λ (deeds : List Deed). MatchResult c.args.drives (λ ds. HaveGone g.M.Drive ds.items deeds c.run_with-ended.result.drives.items) (λ why. deeds ≡ []) in
+    rw (c.first_cause.ensures, c.close-disk.ensures.entries)
+    (done_as standard (AreDone may lines (cause_in c.run_with-ended.result.ended)) _ goes goes _
+    (λ deeds done. told_done may lines (sink_told g.O.Sink.taken g.O.Sink.fault_count c.args.sink.now c.write_transcript-written.new.sink) (cause_in c.run_with-ended.result.ended) c.write_transcript-written.result deeds c.write_transcript-written.ensures.refused done) (λ deeds gone. gone)
+    c.run_with-ended.ensures.deeds)

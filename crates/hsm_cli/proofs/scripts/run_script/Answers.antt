@@ -1,10 +1,13 @@
-use Rattle.std.proofs.Common.{◌∙◌, Some, inr}
+use Rattle.std.proofs.Common.{◌∙◌, Some, inr, refl}
 use Rattle.std.proofs.lemmas.Result.{err_from_is_err_and}
 use Rattle.hsm_replay.proofs.Growing.{have_grown_itself}
 use Rattle.hsm_cli.specs.Follows.{FollowsFirst, SettlesOn, SettlesSince, lines_run}
 use Rattle.hsm_cli.specs.Sealing.{TellsOf}
 use Rattle.hsm_cli.specs.Told.{source_told}
 use Rattle.hsm_cli.proofs.Scripted.{none_served, none_true, none_run, all_run, first_run, is_served}
+use Rattle.hsm_cli.specs.Deeds.{AreDone, AreOfScript, HaveGone, MayGoOnOver}
+use Rattle.hsm_cli.proofs.Deeds.{reading_ends}
+use Rattle.hsm_cli.proofs.Doing.{all_done, broken_done, idle_done, none_done, none_gone, wanting_done}
 use Rattle.hsm_cli.proofs.scripts.run_script.Goals as goal
 
 -- the script was not read
@@ -51,3 +54,24 @@ returns-in-Err-Disk-clause-media g c = c.run.ensures.first.marked.faults
 
 pub returns-in-Err-Disk-clause-served : goal.returns-in-Err-Disk-clause-served
 returns-in-Err-Disk-clause-served g c = is_served g.M.Drive c.run.new.replay (c.run.ensures.limits ∙ c.requires.limits) (FollowsFirst (SettlesSince c.args.replay.now) (lines_run c.args.commits c.in_ok-script.script)) c.run.ensures.first
+
+pub returns-in_err-script-clause-deeds : goal.returns-in_err-script-clause-deeds
+returns-in_err-script-clause-deeds g c =
+    let p = err_from_is_err_and c.from_residual.result c.from_residual.ensures.1 in
+    let may = MayGoOnOver (Some c.args.replay.now.system.store.opened) in
+    let lines = AreOfScript c.args.commits (g.I.Source.left c.args.source.now) in
+    rw (p.1, p.2)
+    (none_done (AreDone may lines (Some _)) (λ deeds. HaveGone g.M.Drive c.args.replay.now.drives deeds c.args.replay.now.drives) _ c.requires.ready.store.history
+    (idle_done may lines _ (reading_ends ⊥ ⊥ (source_told g.I.Source.left g.I.Source.fault_count c.args.source.now c.read_script.new.source) _ c.in_err-script.ensures.refused)) (none_gone g.M.Drive _ _ refl))
+
+pub returns-in-Ok-clause-deeds : goal.returns-in-Ok-clause-deeds
+returns-in-Ok-clause-deeds g c =
+    all_done g.M.Drive c.args.replay.now c.run.new.replay c.requires.ready c.requires.limits (AreOfScript c.args.commits (g.I.Source.left c.args.source.now)) (lines_run c.args.commits c.in_ok-script.script) (c.in_ok-script.script, c.in_ok-script.ensures.script, refl) c.in-Ok.ensures.deeds
+
+pub returns-in-Err-Memory-clause-deeds : goal.returns-in-Err-Memory-clause-deeds
+returns-in-Err-Memory-clause-deeds g c =
+    wanting_done g.M.Drive c.args.replay.now c.run.new.replay c.requires.ready c.requires.limits (AreOfScript c.args.commits (g.I.Source.left c.args.source.now)) (lines_run c.args.commits c.in_ok-script.script) (c.in_ok-script.script, c.in_ok-script.ensures.script, refl) (rw c.in-Err-Memory.field-0-is at c.in-Err-Memory.ensures.deeds)
+
+pub returns-in-Err-Disk-clause-deeds : goal.returns-in-Err-Disk-clause-deeds
+returns-in-Err-Disk-clause-deeds g c =
+    broken_done g.M.Drive c.args.replay.now c.run.new.replay c.requires.ready c.requires.limits (AreOfScript c.args.commits (g.I.Source.left c.args.source.now)) (lines_run c.args.commits c.in_ok-script.script) (c.in_ok-script.script, c.in_ok-script.ensures.script, refl) (rw c.in-Err-Disk.field-0-is at c.in-Err-Disk.ensures.deeds)

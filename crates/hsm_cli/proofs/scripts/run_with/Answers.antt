@@ -1,4 +1,4 @@
-use Rattle.std.proofs.Common.{◌∙◌, ℕ, List, [], Option, Some, None, refl, ap, arith}
+use Rattle.std.proofs.Common.{◌≡◌, ◌∙◌, ℕ, List, [], Option, Some, None, refl, ap, arith}
 use Rattle.std.specs.Io.KnownBytes.{Consumes}
 use Rattle.hsm_cli.specs.declared.causes.Cause.{Cause}
 use Rattle.hsm_cli.specs.declared.causes.Cause.TheVariants.{ScriptRefused, WordsRefused, NotStore, Corrupt, ReadFault, WriteFault, DiskFault}
@@ -7,6 +7,9 @@ use Rattle.hsm_cli.specs.Clauses.{HasRead}
 use Rattle.hsm_cli.specs.Endings.{IsBeforeReading}
 use Rattle.hsm_cli.specs.Told.{source_told}
 use Rattle.hsm_cli.proofs.Scripted.{ends_for}
+use Rattle.hsm_cli.specs.Deeds.{AreDone, AreOfScript, MayGoOnOver}
+use Rattle.hsm_cli.proofs.Deeds.{before_reading}
+use Rattle.hsm_cli.proofs.Doing.{idle_done, none_done}
 use Rattle.hsm_cli.proofs.scripts.run_with.Goals as goal
 
 pub returns-in-Ok-clause-ran : goal.returns-in-Ok-clause-ran
@@ -47,3 +50,12 @@ unread left faults source DiskFault before = absurd before
 
 pub returns-in-Err-clause-reading : goal.returns-in-Err-clause-reading
 returns-in-Err-clause-reading g c = unread g.I.Source.left g.I.Source.fault_count c.args.source.now c.in-Err.why (rw c.in-Err.is at c.requires.ready)
+
+pub returns-in-Ok-clause-deeds : goal.returns-in-Ok-clause-deeds
+returns-in-Ok-clause-deeds g c = rw (c.in-Ok.is, c.close-hsm.ensures.store, c.close-hsm.ensures.drives) (rw c.new-replay.ensures at c.run_script-ended.ensures.deeds)
+
+pub returns-in-Err-clause-deeds : goal.returns-in-Err-clause-deeds
+returns-in-Err-clause-deeds g c =
+    let may = MayGoOnOver (Some c.args.hsm.opened) in
+    let lines = AreOfScript c.args.commits (g.I.Source.left c.args.source.now) in
+    rw c.in-Err.is (none_done (AreDone may lines (Some c.in-Err.why)) (λ deeds. deeds ≡ []) _ c.requires.anew.history (idle_done may lines c.in-Err.why (before_reading c.in-Err.why (rw c.in-Err.is at c.requires.ready))) refl)

@@ -21,6 +21,7 @@ returns-in-Ok-Some g c =
     (has_form _ (Some c.in-Ok-Some.command) _ c.in-Ok-Some.field-0-is c.in-Ok-Some.ensures) c.run_command.ensures in
     record {
       script = kept.script;
+      deeds = kept.deeds;
       reading = kept.reading;
       legality = kept.legality;
       plain = kept.plain;
@@ -44,6 +45,7 @@ returns-in-Ok-None g c =
     (refused_keeps g.H.Disk.Disk g.H.Drive.Drive g.H.Host c.args.host.now source.left sink.new source.now sink.now c.unopened.result c.unopened.ensures) in
     record {
       script = kept.script;
+      deeds = kept.deeds;
       reading = kept.reading;
       legality = kept.legality;
       plain = kept.plain;
@@ -66,6 +68,7 @@ returns-in-Err g c =
     wanting_keeps g.H.Disk.Disk g.H.Drive.Drive g.H.Host c.args.host.now source.left sink.new source.now sink.now c.unopened-in-Err.result form c.unopened-in-Err.ensures in
     record {
       script = kept.script;
+      deeds = kept.deeds;
       reading = kept.reading;
       legality = kept.legality;
       plain = kept.plain;

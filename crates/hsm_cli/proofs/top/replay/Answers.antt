@@ -4,7 +4,9 @@ use Rattle.disk_model.specs.Calls.{Rose}
 use Rattle.media_model.specs.Memory.{has_gives}
 use Rattle.plain_model.specs.State.{Held}
 use Rattle.plain_model.specs.Stands.{Stands}
+use Rattle.hsm_policy.specs.Settings.{standard}
 use Rattle.hsm_cli.specs.Clauses.{HasRun}
+use Rattle.hsm_cli.specs.Deeds.{AreDone, AreOfScript, DrivesInMemory, MayGoOnOver}
 use Rattle.hsm_cli.specs.Follows.{SettlesOn}
 use Rattle.hsm_cli.specs.Sealing.{IsRightInMemory}
 use Rattle.hsm_cli.specs.Told.{source_told, sink_told}
@@ -14,6 +16,8 @@ use Rattle.hsm_cli.proofs.Running.{never_rose, no_host, ends_in_memory}
 use Rattle.hsm_cli.proofs.Scripted.{settles_new, also_well}
 use Rattle.hsm_cli.proofs.Sealing.{right_run}
 use Rattle.hsm_cli.proofs.Wanting.{gives_none}
+use Rattle.hsm_cli.proofs.Deeds.{done_new, went_in_memory}
+use Rattle.hsm_cli.proofs.Doing.{done_as, none_done}
 use Rattle.hsm_cli.proofs.top.replay.Goals as goal
 
 pub returns-in-Ok-clause-script : goal.returns-in-Ok-clause-script
@@ -43,7 +47,7 @@ pub returns-in-Ok-clause-faultless : goal.returns-in-Ok-clause-faultless
 returns-in-Ok-clause-faultless g c = rw c.ended.ensures (never_rose _ c.run_opened-finished.ensures.caused)
 
 pub returns-in-Ok-clause-plain : goal.returns-in-Ok-clause-plain
-returns-in-Ok-clause-plain g c = rw c.ended.ensures (λ P stands. c.run_opened-finished.ensures.plain (c.run_opened-finished.result.disk, refl, tt) P (subst (λ (h : Held). Stands h.files P) (sym c.in-Ok.ensures.empty.1) stands))
+returns-in-Ok-clause-plain g c = rw c.ended.ensures (λ P stands. c.run_opened-finished.ensures.plain P (subst (λ (h : Held). Stands h.files P) (sym c.in-Ok.ensures.empty.1) stands))
 
 pub returns-in-Ok-clause-caused_by : goal.returns-in-Ok-clause-caused_by
 returns-in-Ok-clause-caused_by g c = rw c.ended.ensures (caused_new c.in-Ok.hsm.opened c.run_opened-finished.result.history c.in-Ok.ensures.empty.0 c.in-Ok.ensures.empty.1 c.in-Ok.ensures.empty.2 c.run_opened-finished.ensures.caused_by)
@@ -73,3 +77,19 @@ returns-in-Err-clause-caused_by g c = rw c.unopened.ensures (caused_none _ _ _ _
 
 pub returns-in-Err-clause-output : goal.returns-in-Err-clause-output
 returns-in-Err-clause-output g c = rw c.unopened.ensures (record { first = (0, Appends-nil _); done = λ none. absurd cc; all = λ works ample. absurd (ample refl) })
+
+-- what was done
+
+pub returns-in-Ok-clause-deeds : goal.returns-in-Ok-clause-deeds
+returns-in-Ok-clause-deeds g c =
+    let opened = c.in-Ok.hsm.opened in
+    let empty = c.in-Ok.ensures.empty in
+    let finished = c.run_opened-finished.result in
+    let lines = AreOfScript false (g.I.Source.left c.args.source.now) in
+    rw c.ended.ensures
+    (done_new _ g.row.D.Denot opened lines finished.cause (DrivesInMemory standard) finished.history empty.0 empty.1 empty.2
+    (done_as standard (AreDone (MayGoOnOver (Some opened)) lines finished.cause) _ _ (DrivesInMemory standard) finished.history (λ deeds done. done)
+    (λ deeds gone. went_in_memory (λ ds. ds.items) c.new_drives-drives.result finished.drives.items c.new_drives-drives.ensures.handed deeds gone) c.run_opened-finished.ensures.deeds))
+
+pub returns-in-Err-clause-deeds : goal.returns-in-Err-clause-deeds
+returns-in-Err-clause-deeds g c = rw c.unopened.ensures (none_done _ (DrivesInMemory standard) _ refl (inl refl) (inl refl))

@@ -1,18 +1,24 @@
-use Rattle.std.proofs.Common.{Some, None, true, refl, inr, sym, ap, ◌∙◌, subst, arith}
+use Rattle.std.proofs.Common.{◌≡◌, Some, None, [], true, refl, inl, inr, sym, ap, ◌∙◌, subst, arith}
 use Rattle.disk_model.specs.Calls.{Rose}
+use Rattle.hsm_policy.specs.Settings.{standard}
 use Rattle.file_store.specs.Stores.{Store}
+use Rattle.hsm_cli.specs.declared.causes.Cause.{Cause}
 use Rattle.hsm_cli.specs.Clauses.{GivesBack}
+use Rattle.hsm_cli.specs.Deeds.{AreOfScript, DrivesWent}
 use Rattle.hsm_cli.specs.Follows.{SettlesOn}
+use Rattle.hsm_cli.specs.Outcomes.{ended_with}
 use Rattle.hsm_cli.specs.Sealing.{TellsOf, IsRightInFolder}
 use Rattle.hsm_cli.specs.Told.{source_told, sink_told, host_told}
 use Rattle.hsm_cli.proofs.Crashes.{crash_safe, why_unopened, why_unhanded, back_unhanded, words_unhanded, begun_unhanded, words_unopened, begun_unopened}
 use Rattle.hsm_cli.proofs.Running.{served_words, served_begun}
-use Rattle.hsm_cli.proofs.Legality.{good_unopened, legal_as}
+use Rattle.hsm_cli.proofs.Legality.{good_but_bytes, good_unopened, legal_as}
 use Rattle.hsm_cli.proofs.Drives.{rose_from, rose_once, gives_back, none_at_fault, host_failed, why_served, disk_came, drives_came, tallies_since}
 use Rattle.hsm_cli.proofs.Quiet.{unhanded_quiet}
 use Rattle.hsm_cli.proofs.Scripted.{also_well, ran_with}
 use Rattle.hsm_cli.proofs.Sealing.{right_since}
 use Rattle.hsm_cli.proofs.Showings.{unopened_quiet}
+use Rattle.hsm_cli.proofs.Deeds.{host_other, none_came, open_other, unopened_done, went_since}
+use Rattle.hsm_cli.proofs.Doing.{done_as}
 use Rattle.hsm_cli.proofs.top.replay_store.Given.{Over}
 use Rattle.hsm_cli.proofs.top.replay_store.Goals.{After-run_opened-finished}
 use Rattle.hsm_cli.proofs.top.replay_store.Goals as goal
@@ -119,6 +125,7 @@ returns-in-Ok-open-clause-legality g c =
     record {
       from = rw c.run_opened-finished.ensures.opening c.run_opened-finished.ensures.legality;
       orderly = rw c.run_opened-finished.ensures.opening c.run_opened-finished.ensures.orderly;
+      seen = rw c.run_opened-finished.ensures.opening (good_but_bytes _ (Some c.in-Ok-open.hsm.opened) _ c.run_opened-finished.ensures.legality);
       good = rw c.run_opened-finished.ensures.opening c.run_opened-finished.ensures.good;
       caused = λ is. record { disk = c.run_opened-finished.result.disk; back = refl; rose = rose_from 0 old new (omega arith) (c.run_opened-finished.ensures.caused is) };
       told = λ is some. c.run_opened-finished.ensures.told is;
@@ -143,7 +150,7 @@ pub returns-in-Err-clause-reading : goal.returns-in-Err-clause-reading
 returns-in-Err-clause-reading g c = rw c.unopened.ensures (record { left = refl; faults = refl })
 
 pub returns-in-Err-clause-plain : goal.returns-in-Err-clause-plain
-returns-in-Err-clause-plain g c = rw c.unopened.ensures (λ tells P stands. ((good_unopened g.row.H-Disk.Denot).good P stands).plain)
+returns-in-Err-clause-plain g c = rw c.unopened.ensures (λ P stands. ((good_unopened g.row.H-Disk.Denot).good P stands).plain)
 
 pub returns-in-Err-clause-back : goal.returns-in-Err-clause-back
 returns-in-Err-clause-back g c = rw (c.unopened.ensures, c.from.ensures) (λ none. back_unhanded c.in-Err.refusal)
@@ -159,7 +166,7 @@ returns-in-Err-clause-why g c =
     (why_unhanded g.H.Disk.Disk named (Rose old new) source sink None c.in-Err.refusal (λ is. rose_once old old new (omega arith) (c.in-Err.ensures.cause.rose is)))
 
 pub returns-in-Err-open-clause-plain : goal.returns-in-Err-open-clause-plain
-returns-in-Err-open-clause-plain g c = rw c.unopened-in-Err-open.ensures (λ tells P stands. ((good_unopened g.row.H-Disk.Denot).good P stands).plain)
+returns-in-Err-open-clause-plain g c = rw c.unopened-in-Err-open.ensures (λ P stands. ((good_unopened g.row.H-Disk.Denot).good P stands).plain)
 
 pub returns-in-Err-open-clause-reading : goal.returns-in-Err-open-clause-reading
 returns-in-Err-open-clause-reading g c = rw c.unopened-in-Err-open.ensures (record { left = refl; faults = refl })
@@ -187,3 +194,23 @@ returns-in-Err-open-clause-command g c = rw (c.unopened-in-Err-open.ensures, c.f
 
 pub returns-in-Err-open-clause-begun : goal.returns-in-Err-open-clause-begun
 returns-in-Err-open-clause-begun g c = rw (c.unopened-in-Err-open.ensures, c.from-in-Err-open.ensures) (begun_unopened (Store g.row.H-Disk.Denot) c.in-Err-open.refusal)
+
+-- what was done
+
+pub returns-in-Ok-open-clause-deeds : goal.returns-in-Ok-open-clause-deeds
+returns-in-Ok-open-clause-deeds g c =
+    let finished = c.run_opened-finished.result in
+    let stored = g.H.Host.stores c.args.host.now c.args.dir.now in
+    rw (c.from-in-Ok-open.ensures, c.run_opened-finished.ensures.opening)
+    (done_as standard _ _ _ (DrivesWent g.H.Drive.Drive standard stored finished.drives.items) finished.history (λ deeds done. done)
+    (went_since g.H.Drive.Drive stored (g.H.Host.stores c.disk.new.self c.args.dir.now) (c.disk.ensures.folders c.args.dir.now) (λ ds. ds.items) c.ask_for_drives-drives.result finished.drives.items c.ask_for_drives-drives.ensures.given (none_came _ (finished.drives.items ≡ []) c.ask_for_drives-drives.result c.run_opened-finished.ensures.drives))
+    c.run_opened-finished.ensures.deeds)
+
+pub returns-in-Err-clause-deeds : goal.returns-in-Err-clause-deeds
+returns-in-Err-clause-deeds g c =
+    unopened_done (AreOfScript true (g.I.Source.left c.args.source.now)) (λ o. DrivesWent g.H.Drive.Drive standard (g.H.Host.stores c.args.host.now c.args.dir.now) o.drives) c.unopened.result _ None (host_other c.in-Err.refusal) (inl (refl, refl)) (c.unopened.ensures ∙ ap (λ (why : Cause). ended_with (Some why) [] None) c.from.ensures)
+
+pub returns-in-Err-open-clause-deeds : goal.returns-in-Err-open-clause-deeds
+returns-in-Err-open-clause-deeds g c =
+    unopened_done (AreOfScript true (g.I.Source.left c.args.source.now)) (λ o. DrivesWent g.H.Drive.Drive standard (g.H.Host.stores c.args.host.now c.args.dir.now) o.drives) c.unopened-in-Err-open.result _ (Some c.in-Err-open.disk) (open_other c.in-Err-open.refusal) (inl (refl, refl))
+    (c.unopened-in-Err-open.ensures ∙ ap (λ (why : Cause). ended_with (Some why) [] (Some c.in-Err-open.disk)) c.from-in-Err-open.ensures)
