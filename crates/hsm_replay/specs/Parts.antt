@@ -114,13 +114,13 @@ abbrev pub runs_behind : Daemon → List Line → Bool → Bool
 runs_behind daemon [] runs = runs
 runs_behind daemon (line ∷ lines) runs = runs_behind daemon lines (runs_by daemon line runs)
 
+-- ---- settles
+
 abbrev pub are_quiet : (Entry → Bool) → List Deed → Bool
 are_quiet quiet deeds = list_all quiet (entries_of deeds)
 
 -- Asked of whoever reads: which entries are quiet, so that a settle may end behind them, and whose access may go on behind entries.
 module _ (quiet : Entry → Bool) (MayGoOn : List Entry → ℕ → Type 0) where
-  -- ---- settles
-
   -- Recall has its turn, then callers resume, and where all that was quiet migration has its turn. So each daemon is judged by what it gave last before the
   -- round.
   pub record IsRound (given : Given) (deeds : List Deed) : Type 0 where

@@ -162,6 +162,7 @@ impl<D: Disk, M: Drive> Replay<D, M> {
         ensures runs { running self.new ≡ running self.old }
         ensures deeds { ByDeeds M.Drive (λ done. MayResumeBy (MayGoOn self.old.system.store) caller) (IsResumeCut (MayGoOn self.old.system.store) caller) result self.old self.new }
     {
+        self.kept();
         if !self.is_ready(caller) {
             return Ok(());
         }
