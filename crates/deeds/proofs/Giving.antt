@@ -1,16 +1,21 @@
--- Which act was given last: by deeds, one list behind the other, and by the machines, which is the same.
-use Rattle.std.proofs.Common.{◌≡◌, ◌∙◌, ◌∷◌, ◌++◌, [], List, Option, Some, None, refl, sym, ap, ap₂}
+-- Which act was given last, and the history: by deeds, one list behind the other, and by the machines, which is the same.
+use Rattle.std.proofs.Common.{◌≡◌, ◌∙◌, ◌∷◌, ◌++◌, [], List, Option, Some, None, refl, sym, ap, ap₂, append-nil, append_assoc}
 use Rattle.hsm_types.specs.declared.daemons.Act.{Act}
 use Rattle.hsm_types.specs.declared.daemons.Daemon.{Daemon}
 use Rattle.hsm_types.specs.declared.daemons.Daemon.TheVariants.{Recall, Migrate}
-use Rattle.deeds.specs.Deeds.{Deed}
+use Rattle.plain_model.specs.declared.entries.Entry.{Entry}
+use Rattle.deeds.specs.Deeds.{Deed, entries_of}
 use Rattle.deeds.specs.Given.{Given, asked_by, asked_behind, given_behind, asked_in, given_in}
 use Rattle.deeds.specs.Leads.{Situation, Leads}
 use Rattle.deeds.specs.Lives.{Move, Begins, Ends, Renews, Asks, Learns, Fails, Misses, life, Workings, Living, MovesTo, Lives}
-use Rattle.deeds.proofs.Living.{life_then}
+use Rattle.deeds.proofs.Living.{entries_then, life_then}
 
-abbrev given_as : Option Act → Option Act → Given
-given_as recall migrate = record { recall = recall; migrate = migrate }
+abbrev given_as : List Entry → Option Act → Option Act → Given
+given_as history recall migrate = record { recall = recall; migrate = migrate; history = history }
+
+-- part by part
+pub given_by : (a b : Given) → a.recall ≡ b.recall → a.migrate ≡ b.migrate → a.history ≡ b.history → a ≡ b
+given_by a b recall migrate history = ap (λ (es : List Entry). given_as es a.recall a.migrate) history ∙ ap₂ (given_as b.history) recall migrate
 
 -- ---- by deeds
 
@@ -22,7 +27,11 @@ pub own_then : (daemon : Daemon) (xs ys : List Deed) (asked : Option Act) → as
 own_then daemon xs ys asked = ap (λ (moves : List Move). asked_behind moves asked) (life_then daemon xs ys) ∙ asked_then (life daemon xs) (life daemon ys) asked
 
 pub given_then : (xs ys : List Deed) (given : Given) → given_behind (xs ++ ys) given ≡ given_behind ys (given_behind xs given)
-given_then xs ys given = ap₂ given_as (own_then Recall xs ys given.recall) (own_then Migrate xs ys given.migrate)
+given_then xs ys given = given_by (given_behind (xs ++ ys) given) (given_behind ys (given_behind xs given)) (own_then Recall xs ys given.recall) (own_then Migrate xs ys given.migrate)
+    (ap (λ (es : List Entry). given.history ++ es) (entries_then xs ys) ∙ sym (append_assoc given.history (entries_of xs) (entries_of ys)))
+
+pub given_none : (given : Given) → given_behind [] given ≡ given
+given_none given = given_by (given_behind [] given) given refl refl (append-nil given.history)
 
 -- ---- by machines
 
@@ -47,4 +56,5 @@ module _ {M : Type 0} (w : Workings M) where
 
 pub given_exactly : {R M : Type 0} (recalls : Workings R) (migrates : Workings M) (deeds : List Deed) (old new : Situation R M) → Leads recalls migrates deeds old new
     → given_in recalls migrates new ≡ given_behind deeds (given_in recalls migrates old)
-given_exactly recalls migrates deeds old new leads = ap₂ given_as (asked_exactly recalls (life Recall deeds) old.recall new.recall leads.recall) (asked_exactly migrates (life Migrate deeds) old.migrate new.migrate leads.migrate)
+given_exactly recalls migrates deeds old new leads = given_by (given_in recalls migrates new) (given_behind deeds (given_in recalls migrates old))
+    (asked_exactly recalls (life Recall deeds) old.recall new.recall leads.recall) (asked_exactly migrates (life Migrate deeds) old.migrate new.migrate leads.migrate) leads.entries

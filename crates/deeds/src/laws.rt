@@ -35,7 +35,7 @@ pub fn stands_exactly<M: Machine, K>()
     ensures { (view : M → K) (known : Knowing K) (moves : List Move) → StandsExactly M.workings view known moves }
 {}
 
-/// Which act each daemon gave last is told by deeds alone.
+/// Which act each daemon gave last is told by deeds alone, and so is the history.
 pub fn given_exactly<R: Machine, M: Machine>()
     ensures { (deeds : List Deed) → GivenExactly R.workings M.workings deeds }
 {}

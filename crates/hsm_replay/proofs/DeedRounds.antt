@@ -7,6 +7,7 @@ use Rattle.std.specs.Prelude.{IfSome}
 use Rattle.std.proofs.lemmas.List.Elements.{All-from_recursion}
 use Rattle.media_model.specs.declared.drive.Drive as drive
 use Rattle.hsm_types.specs.Callers.{IsCallerNumber}
+use Rattle.hsm_types.specs.Limits.{callers}
 use Rattle.hsm_types.specs.declared.daemons.Act.{Act}
 use Rattle.hsm_types.specs.declared.daemons.Act.TheVariants.{Dm, Copy, Fetch, Idle}
 use Rattle.hsm_types.specs.declared.daemons.Daemon.{Daemon}
@@ -31,16 +32,18 @@ use Rattle.hsm_system.specs.declared.stops.Stop.{Stop}
 use Rattle.hsm_system.specs.declared.stops.Stop.TheVariants as stop
 use Rattle.marked_history.specs.Quiet.{is_quiet}
 use Rattle.hsm_replay.specs.Deeds.{given_now, IsSo, RunsBy, IsDoneBy, IsStoppedBy, ByDeeds}
-use Rattle.hsm_replay.specs.Deeds.{MayResumeBy, IsResumeCut, AreResumesOf, AreResumesCutIn, IsRoundOf}
+use Rattle.hsm_replay.specs.Deeds.{MayResumeBy, IsResumeCut, IsRoundOf}
+use Rattle.hsm_replay.specs.GoingOn.{MayGoOn}
 use Rattle.hsm_replay.specs.Parts.{IsStep, IsLeft, IsLeftFrom, IsTurn, IsTurnFrom, IsTurnIf, AreResumes, are_quiet, IsRound, IsSettle}
-use Rattle.hsm_replay.specs.Stopped.{Ending, Broken, Unmade, IsEventCut, IsStepCut, IsLeftCut}
+use Rattle.hsm_replay.specs.Stopped.{Ending, Broken, Unmade, AreResumesCut, IsEventCut, IsStepCut, IsLeftCut}
 use Rattle.hsm_replay.specs.Stopped.{IsLeftCutFrom, IsTurnCut, IsTurnCutFrom, IsRoundCut, IsSettleCut}
 use Rattle.hsm_replay.specs.Systems.{Run, started, killed}
 use Rattle.hsm_replay.specs.Turns.{HasTurned, HaveResumed}
 use Rattle.hsm_replay.proofs.Deeds.{runs_still, done_none, done_then, stopped_then, done_as, stopped_as, done_to}
 use Rattle.hsm_replay.proofs.PartsOn.{IsAtRest, IsSoFar, so_far_none, so_far_on, so_far_over, so_far_cut}
 use Rattle.hsm_replay.proofs.PartsOn.{step_turns, step_turns_cut, step_cut, left_turns, left_cut, left_turns_cut}
-use Rattle.hsm_replay.proofs.PartsOn.{ResumesTo, resumes_none, resumes_skip, resumes_on, resumes_cut}
+use Rattle.hsm_replay.proofs.GoingOn.{goes_as}
+use Rattle.hsm_replay.proofs.Resuming.{ResumesTo, resumes_none, resumes_all, resume_next, resume_cut}
 use Rattle.hsm_replay.proofs.PartsOn.{RoundsTo, rounds_none, rounds_on, rounds_settle, rounds_cut}
 use Rattle.hsm_replay.proofs.PartsRun.{given_so}
 use Rattle.hsm_replay.proofs.Rounds.{drop_first}
@@ -78,11 +81,11 @@ module _ {D M : Type 0} (h : drive.Ghosts M) (old new : Run D M) (same : new.dri
         }
     event_by_deeds (Err why) enters = event_stopped why enters.stopped
 
-module _ {D M : Type 0} (h : drive.Ghosts M) (MayGoOn : ℕ → Type 0) (caller : ℕ) (number : IsCallerNumber caller) (old new : Run D M) where
+module _ {D M : Type 0} (h : drive.Ghosts M) (May : List Entry → ℕ → Type 0) (caller : ℕ) (number : IsCallerNumber caller) (old new : Run D M) (may : May old.system.store.history caller) where
   -- a resume
-  pub resume_by_deeds : (result : Result (Unit {0}) Stop) → OnErr result (MayGoOn caller) → ByDeeds h (λ (done : Unit {0}). IsEntryOf (Caller caller) Resume) (IsCutOf (Caller caller) Resume) result old new → ByDeeds h (λ (done : Unit {0}). MayResumeBy caller) (IsResumeCut MayGoOn caller) result old new
-  resume_by_deeds (Ok tt) may done = done_as h (IsEntryOf (Caller caller) Resume) (MayResumeBy caller) old new (λ deeds is. inr (is.0, number, is.1, is.2)) done
-  resume_by_deeds (Err why) may stopped = stopped_as h (IsCutOf (Caller caller) Resume) (IsResumeCut MayGoOn caller) why old new (λ ending deeds cut. (number, may, cut)) stopped
+  pub resume_by_deeds : (result : Result (Unit {0}) Stop) → ByDeeds h (λ (done : Unit {0}). IsEntryOf (Caller caller) Resume) (IsCutOf (Caller caller) Resume) result old new → ByDeeds h (λ (done : Unit {0}). MayResumeBy May caller) (IsResumeCut May caller) result old new
+  resume_by_deeds (Ok tt) done = done_as h (IsEntryOf (Caller caller) Resume) (MayResumeBy May caller) old new (λ deeds is. inr (may, (is.0, number, is.1, is.2))) done
+  resume_by_deeds (Err why) stopped = stopped_as h (IsCutOf (Caller caller) Resume) (IsResumeCut May caller) why old new (λ ending deeds cut. (number, may, cut)) stopped
 
 -- the event of a line
 pub entered_by : {D T : Type 0} (event : Event) (actor : Actor) (asked : Action) → actor_of event ≡ actor → action_of event ≡ asked → (result : Result T Stop) (old new : System D) → EntersBy (actor_of event) (action_of event) result old new → EntersBy actor asked result old new
@@ -196,35 +199,51 @@ module _ {D M : Type 0} (h : drive.Ghosts M) (daemon : Daemon) where
 
 -- ---- resumes
 
-abbrev pub HaveResumedTo : ℕ → Given → List Deed → Type 0
-HaveResumedTo number given deeds = ResumesTo number deeds
-
-resume_next : (number : ℕ) (given : Given) (deeds more : List Deed) → ResumesTo number deeds → MayResumeBy number given more → ResumesTo (number + 1) (deeds ++ more)
-resume_next number given deeds more so (inl none) = subst (λ (ds : List Deed). ResumesTo (number + 1) (deeds ++ ds)) (sym none) (subst (λ (ds : List Deed). ResumesTo (number + 1) ds) (sym (append-nil deeds)) (resumes_skip number deeds so))
-resume_next number given deeds more so (inr one) = subst (λ (ds : List Deed). ResumesTo (number + 1) (deeds ++ ds)) (sym one.3) (resumes_on number deeds so one.1 one.0 one.2)
+abbrev pub HaveResumedTo : (List Entry → ℕ → Type 0) → ℕ → Given → List Deed → Type 0
+HaveResumedTo May number given deeds = ResumesTo May given number deeds
 
 module _ {D M : Type 0} (h : drive.Ghosts M) where
-  pub resumed_none_by : (s : Run D M) → IsDoneBy h (HaveResumedTo 1) s s
-  resumed_none_by s = done_none h (HaveResumedTo 1) s resumes_none
+  pub resumed_none_by : (May : List Entry → ℕ → Type 0) (s : Run D M) → IsDoneBy h (HaveResumedTo May 1) s s
+  resumed_none_by May s = done_none h (HaveResumedTo May 1) s (resumes_none May (given_now s))
 
-  pub resumed_on_by : (number : ℕ) (a b c : Run D M) → IsDoneBy h (HaveResumedTo number) a b → IsDoneBy h (MayResumeBy number) b c → IsDoneBy h (HaveResumedTo (number + 1)) a c
-  resumed_on_by number a b c first then = done_then h (HaveResumedTo number) (MayResumeBy number) (HaveResumedTo (number + 1)) a b c (λ deeds more so is. resume_next number (given_behind deeds (given_now a)) deeds more so is) first then
+  pub resumed_all_by : (May : List Entry → ℕ → Type 0) (a b : Run D M) → IsDoneBy h (HaveResumedTo May (callers + 1)) a b → IsDoneBy h (AreResumes May) a b
+  resumed_all_by May a b done = done_as h (HaveResumedTo May (callers + 1)) (AreResumes May) a b (λ deeds so. resumes_all May (given_now a) deeds so) done
 
-  pub resumed_stopped : (MayGoOn : ℕ → Type 0) (number : ℕ) (why : Stop) (a b c : Run D M) → IsDoneBy h (HaveResumedTo number) a b → IsStoppedBy h (IsResumeCut MayGoOn number) why b c → IsStoppedBy h (AreResumesCutIn MayGoOn) why a c
-  resumed_stopped MayGoOn number why a b c first then = stopped_then h (HaveResumedTo number) (IsResumeCut MayGoOn number) (AreResumesCutIn MayGoOn) why a b c (λ ending deeds last so cut. resumes_cut number deeds so cut.0 MayGoOn cut.1 ending last cut.2) first then
+  -- whose access may go on is so behind what was done as before it
+  module _ (IsFirst : Given → List Deed → Type 0) (a b : Run D M) (first : IsDoneBy h IsFirst a b) (opened : b.system.store.opened ≡ a.system.store.opened) where
+    abbrev may_before : List Entry → ℕ → Type 0
+    may_before = MayGoOn a.system.store
 
-  pub resumed_all_by : (number : ℕ) (a b : Run D M) → IsDoneBy h (HaveResumedTo number) a b → IsDoneBy h AreResumesOf a b
-  resumed_all_by number a b done = done_as h (HaveResumedTo number) AreResumesOf a b (λ deeds so. so.resumes) done
+    pub done_since : (IsPart : (List Entry → ℕ → Type 0) → Given → List Deed → Type 0) (c : Run D M) → IsDoneBy h (IsPart (MayGoOn b.system.store)) b c → IsDoneBy h (IsPart may_before) b c
+    done_since IsPart c then = goes_as {D = D} {M = M} h a.system.store b.system.store opened first.works (λ may. IsDoneBy h (IsPart may) b c) then
+
+    pub stopped_since : (IsCut : (List Entry → ℕ → Type 0) → Given → Ending → List Deed → Type 0) (why : Stop) (c : Run D M) → IsStoppedBy h (IsCut (MayGoOn b.system.store)) why b c → IsStoppedBy h (IsCut may_before) why b c
+    stopped_since IsCut why c then = goes_as {D = D} {M = M} h a.system.store b.system.store opened first.works (λ may. IsStoppedBy h (IsCut may) why b c) then
+
+  module _ (number : ℕ) (a b c : Run D M) (opened : b.system.store.opened ≡ a.system.store.opened) (first : IsDoneBy h (HaveResumedTo (MayGoOn a.system.store) number) a b) where
+    abbrev may_first : List Entry → ℕ → Type 0
+    may_first = MayGoOn a.system.store
+
+    pub resumed_on_by : IsDoneBy h (MayResumeBy (MayGoOn b.system.store) number) b c → IsDoneBy h (HaveResumedTo may_first (number + 1)) a c
+    resumed_on_by then = done_then h (HaveResumedTo may_first number) (MayResumeBy may_first number) (HaveResumedTo may_first (number + 1)) a b c
+        (λ deeds more so is. resume_next may_first (given_now a) number deeds more so is)
+        first (done_since (HaveResumedTo may_first number) a b first opened (λ may. MayResumeBy may number) c then)
+
+    pub resumed_stopped : (why : Stop) → IsStoppedBy h (IsResumeCut (MayGoOn b.system.store) number) why b c → IsStoppedBy h (AreResumesCut may_first) why a c
+    resumed_stopped why then = stopped_then h (HaveResumedTo may_first number) (IsResumeCut may_first number) (AreResumesCut may_first) why a b c
+        (λ ending deeds last so cut. resume_cut may_first (given_now a) number ending deeds last so cut)
+        first (stopped_since (HaveResumedTo may_first number) a b first opened (λ may. IsResumeCut may number) why c then)
 
 -- ---- rounds
 
 -- recall's turn, and the resumes behind it
-abbrev pub HasBegun : Given → List Deed → Type 0
-HasBegun given deeds = (recalls : List Deed) × (resumes : List Deed) × (deeds ≡ recalls ++ resumes) × IsTurn Recall given recalls × AreResumes resumes
+abbrev pub HasBegun : (List Entry → ℕ → Type 0) → Given → List Deed → Type 0
+HasBegun May given deeds = (recalls : List Deed) × (resumes : List Deed) × (deeds ≡ recalls ++ resumes) × IsTurn Recall given recalls × AreResumes May (given_behind recalls given) resumes
 
 module _ {D M : Type 0} (h : drive.Ghosts M) where
-  pub round_begun_by : (a b c : Run D M) → IsDoneBy h (IsTurn Recall) a b → IsDoneBy h AreResumesOf b c → IsDoneBy h HasBegun a c
-  round_begun_by a b c turn resumes = done_then h (IsTurn Recall) AreResumesOf HasBegun a b c (λ deeds more is then. (deeds, more, refl, is, then)) turn resumes
+  pub round_begun_by : (a b c : Run D M) → b.system.store.opened ≡ a.system.store.opened → IsDoneBy h (IsTurn Recall) a b → IsDoneBy h (AreResumes (MayGoOn b.system.store)) b c → IsDoneBy h (HasBegun (MayGoOn a.system.store)) a c
+  round_begun_by a b c opened turn resumes = done_then h (IsTurn Recall) (AreResumes (MayGoOn a.system.store)) (HasBegun (MayGoOn a.system.store)) a b c (λ deeds more is then. (deeds, more, refl, is, then))
+      turn (done_since h (IsTurn Recall) a b turn opened AreResumes c resumes)
 
   -- whether the entries of what was done are quiet
   pub quiet_by : (IsPart : Given → List Deed → Type 0) (a b : Run D M) (quiet : Bool) → quiet ≡ list_all is_quiet (drop (length a.system.store.history) b.system.store.history) → IsDoneBy h IsPart a b → IsDoneBy h (λ given deeds. IsPart given deeds × (are_quiet is_quiet deeds ≡ quiet)) a b
@@ -234,8 +253,8 @@ module _ {D M : Type 0} (h : drive.Ghosts M) where
       record { deeds = done.deeds; part = (done.part, sym (is ∙ ap (λ (es : List Entry). list_all is_quiet es) rest)); runs = done.runs; works = done.works }
 
   -- it ends there where something wasn't quiet
-  pub round_loud : (a c : Run D M) → false ≡ list_all is_quiet (drop (length a.system.store.history) c.system.store.history) → IsDoneBy h HasBegun a c → IsDoneBy h (IsRoundOf false) a c
-  round_loud a c loud begun = done_as h (λ given deeds. HasBegun given deeds × (are_quiet is_quiet deeds ≡ false)) (IsRoundOf false) a c
+  pub round_loud : (May : List Entry → ℕ → Type 0) (a c : Run D M) → false ≡ list_all is_quiet (drop (length a.system.store.history) c.system.store.history) → IsDoneBy h (HasBegun May) a c → IsDoneBy h (IsRoundOf May false) a c
+  round_loud May a c loud begun = done_as h (λ given deeds. HasBegun May given deeds × (are_quiet is_quiet deeds ≡ false)) (IsRoundOf May false) a c
       (λ deeds is. (
         record {
           recalls = is.0.0;
@@ -248,21 +267,21 @@ module _ {D M : Type 0} (h : drive.Ghosts M) where
         },
         is.1,
       ))
-      (quiet_by HasBegun a c false loud begun)
+      (quiet_by (HasBegun May) a c false loud begun)
 
   -- migration's turn is by what it gave before the round
   migrate_same : (a b c : Run D M) → HasTurned Recall a b → HaveResumed b c → (given_now c).migrate ≡ (given_now a).migrate
   migrate_same a b c turned resumed = ap (λ (o : Option Migrating). option_map (λ (m : Migrating). m.machine.asked) o) (resumed.migrate ∙ turned.alone)
 
-  abbrev BegunOf : Run D M → Given → List Deed → Type 0
-  BegunOf a given deeds = (HasBegun given deeds × (are_quiet is_quiet deeds ≡ true)) × ((given_behind deeds given).migrate ≡ (given_now a).migrate)
+  abbrev BegunOf : (List Entry → ℕ → Type 0) → Run D M → Given → List Deed → Type 0
+  BegunOf May a given deeds = (HasBegun May given deeds × (are_quiet is_quiet deeds ≡ true)) × ((given_behind deeds given).migrate ≡ (given_now a).migrate)
 
-  begun_of : (a b c : Run D M) → HasTurned Recall a b → HaveResumed b c → true ≡ list_all is_quiet (drop (length a.system.store.history) c.system.store.history) → IsDoneBy h HasBegun a c → IsDoneBy h (BegunOf a) a c
-  begun_of a b c turned resumed calm begun = done_to h (λ given deeds. HasBegun given deeds × (are_quiet is_quiet deeds ≡ true)) (λ (given : Given). given.migrate ≡ (given_now a).migrate) a c (migrate_same a b c turned resumed) (quiet_by HasBegun a c true calm begun)
+  begun_of : (May : List Entry → ℕ → Type 0) (a b c : Run D M) → HasTurned Recall a b → HaveResumed b c → true ≡ list_all is_quiet (drop (length a.system.store.history) c.system.store.history) → IsDoneBy h (HasBegun May) a c → IsDoneBy h (BegunOf May a) a c
+  begun_of May a b c turned resumed calm begun = done_to h (λ given deeds. HasBegun May given deeds × (are_quiet is_quiet deeds ≡ true)) (λ (given : Given). given.migrate ≡ (given_now a).migrate) a c (migrate_same a b c turned resumed) (quiet_by (HasBegun May) a c true calm begun)
 
-  pub round_done : (a b c d : Run D M) (quiet : Bool) → HasTurned Recall a b → HaveResumed b c → true ≡ list_all is_quiet (drop (length a.system.store.history) c.system.store.history) → quiet ≡ list_all is_quiet (drop (length a.system.store.history) d.system.store.history)
-      → IsDoneBy h HasBegun a c → IsDoneBy h (IsTurn Migrate) c d → IsDoneBy h (IsRoundOf quiet) a d
-  round_done a b c d quiet turned resumed calm is begun turn = quiet_by (IsRound is_quiet) a d quiet is (done_then h (BegunOf a) (IsTurn Migrate) (IsRound is_quiet) a c d
+  pub round_done : (May : List Entry → ℕ → Type 0) (a b c d : Run D M) (quiet : Bool) → HasTurned Recall a b → HaveResumed b c → true ≡ list_all is_quiet (drop (length a.system.store.history) c.system.store.history) → quiet ≡ list_all is_quiet (drop (length a.system.store.history) d.system.store.history)
+      → IsDoneBy h (HasBegun May) a c → IsDoneBy h (IsTurn Migrate) c d → IsDoneBy h (IsRoundOf May quiet) a d
+  round_done May a b c d quiet turned resumed calm is begun turn = quiet_by (IsRound is_quiet May) a d quiet is (done_then h (BegunOf May a) (IsTurn Migrate) (IsRound is_quiet May) a c d
       (λ deeds more so then. record {
         recalls = so.0.0.0;
         resumes = so.0.0.1;
@@ -272,18 +291,19 @@ module _ {D M : Type 0} (h : drive.Ghosts M) where
         resumed = so.0.0.4;
         migrate_turn = subst (λ (q : Bool). IsTurnIf q Migrate (given_now a) more) (sym (ap (are_quiet is_quiet) (sym so.0.0.2) ∙ so.0.1)) (subst (λ (o : Option Act). IsTurnFrom Migrate o more) so.1 then);
       })
-      (begun_of a b c turned resumed calm begun) turn)
+      (begun_of May a b c turned resumed calm begun) turn)
 
   -- ---- rounds that were stopped
 
-  pub recall_cut : (MayGoOn : ℕ → Type 0) (why : Stop) (a b : Run D M) → IsStoppedBy h (IsTurnCut Recall) why a b → IsStoppedBy h (IsRoundCut is_quiet MayGoOn) why a b
-  recall_cut MayGoOn why a b stopped = stopped_as h (IsTurnCut Recall) (IsRoundCut is_quiet MayGoOn) why a b (λ ending deeds cut. inl cut) stopped
+  pub recall_cut : (May : List Entry → ℕ → Type 0) (why : Stop) (a b : Run D M) → IsStoppedBy h (IsTurnCut Recall) why a b → IsStoppedBy h (IsRoundCut is_quiet May) why a b
+  recall_cut May why a b stopped = stopped_as h (IsTurnCut Recall) (IsRoundCut is_quiet May) why a b (λ ending deeds cut. inl cut) stopped
 
-  pub resumes_cut_by : (MayGoOn : ℕ → Type 0) (why : Stop) (a b c : Run D M) → IsDoneBy h (IsTurn Recall) a b → IsStoppedBy h (AreResumesCutIn MayGoOn) why b c → IsStoppedBy h (IsRoundCut is_quiet MayGoOn) why a c
-  resumes_cut_by MayGoOn why a b c turn stopped = stopped_then h (IsTurn Recall) (AreResumesCutIn MayGoOn) (IsRoundCut is_quiet MayGoOn) why a b c (λ ending deeds last is cut. inr (inl (deeds, last, refl, is, cut))) turn stopped
+  pub resumes_cut_by : (why : Stop) (a b c : Run D M) → b.system.store.opened ≡ a.system.store.opened → IsDoneBy h (IsTurn Recall) a b → IsStoppedBy h (AreResumesCut (MayGoOn b.system.store)) why b c → IsStoppedBy h (IsRoundCut is_quiet (MayGoOn a.system.store)) why a c
+  resumes_cut_by why a b c opened turn stopped = stopped_then h (IsTurn Recall) (AreResumesCut (MayGoOn a.system.store)) (IsRoundCut is_quiet (MayGoOn a.system.store)) why a b c (λ ending deeds last is cut. inr (inl (deeds, last, refl, is, cut)))
+      turn (stopped_since h (IsTurn Recall) a b turn opened AreResumesCut why c stopped)
 
-  pub migrate_cut : (MayGoOn : ℕ → Type 0) (why : Stop) (a b c d : Run D M) → HasTurned Recall a b → HaveResumed b c → true ≡ list_all is_quiet (drop (length a.system.store.history) c.system.store.history) → IsDoneBy h HasBegun a c → IsStoppedBy h (IsTurnCut Migrate) why c d → IsStoppedBy h (IsRoundCut is_quiet MayGoOn) why a d
-  migrate_cut MayGoOn why a b c d turned resumed calm begun stopped = stopped_then h (BegunOf a) (IsTurnCut Migrate) (IsRoundCut is_quiet MayGoOn) why a c d
+  pub migrate_cut : (May : List Entry → ℕ → Type 0) (why : Stop) (a b c d : Run D M) → HasTurned Recall a b → HaveResumed b c → true ≡ list_all is_quiet (drop (length a.system.store.history) c.system.store.history) → IsDoneBy h (HasBegun May) a c → IsStoppedBy h (IsTurnCut Migrate) why c d → IsStoppedBy h (IsRoundCut is_quiet May) why a d
+  migrate_cut May why a b c d turned resumed calm begun stopped = stopped_then h (BegunOf May a) (IsTurnCut Migrate) (IsRoundCut is_quiet May) why a c d
       (λ ending deeds last so cut. inr (inr (
         so.0.0.0,
         so.0.0.1,
@@ -294,18 +314,30 @@ module _ {D M : Type 0} (h : drive.Ghosts M) where
         ap (are_quiet is_quiet) (sym so.0.0.2) ∙ so.0.1,
         subst (λ (o : Option Act). IsTurnCutFrom Migrate o ending last) so.1 cut,
       )))
-      (begun_of a b c turned resumed calm begun) stopped
+      (begun_of May a b c turned resumed calm begun) stopped
 
   -- ---- settles
 
-  pub settle_begun : (a b : Run D M) → RunsBy h (Refreshes ∷ []) a b → b.system.store ≡ a.system.store → IsDoneBy h (RoundsTo is_quiet) a b
-  settle_begun a b runs same = record { deeds = Refreshes ∷ []; part = rounds_none is_quiet (given_now a); runs = runs; works = inl same }
+  pub settle_begun : (a b : Run D M) → RunsBy h (Refreshes ∷ []) a b → b.system.store ≡ a.system.store → IsDoneBy h (RoundsTo is_quiet (MayGoOn a.system.store)) a b
+  settle_begun a b runs same = record { deeds = Refreshes ∷ []; part = rounds_none is_quiet (MayGoOn a.system.store) (given_now a); runs = runs; works = inl same }
 
-  pub settle_on : (a b c : Run D M) (quiet : Bool) → quiet ≡ false → IsDoneBy h (RoundsTo is_quiet) a b → IsDoneBy h (IsRoundOf quiet) b c → IsDoneBy h (RoundsTo is_quiet) a c
-  settle_on a b c quiet loud first then = done_then h (RoundsTo is_quiet) (IsRoundOf quiet) (RoundsTo is_quiet) a b c (λ deeds round so is. rounds_on is_quiet (given_now a) deeds so round is.0 (is.1 ∙ loud)) first then
+  module _ (a b c : Run D M) (opened : b.system.store.opened ≡ a.system.store.opened) (first : IsDoneBy h (RoundsTo is_quiet (MayGoOn a.system.store)) a b) where
+    abbrev may_at_first : List Entry → ℕ → Type 0
+    may_at_first = MayGoOn a.system.store
 
-  pub settle_done : (a b c : Run D M) (quiet : Bool) → quiet ≡ true → IsDoneBy h (RoundsTo is_quiet) a b → IsDoneBy h (IsRoundOf quiet) b c → IsDoneBy h (IsSettle is_quiet) a c
-  settle_done a b c quiet calm first then = done_then h (RoundsTo is_quiet) (IsRoundOf quiet) (IsSettle is_quiet) a b c (λ deeds round so is. rounds_settle is_quiet (given_now a) deeds so round is.0 (is.1 ∙ calm)) first then
+    abbrev Rounds : Given → List Deed → Type 0
+    Rounds = RoundsTo is_quiet may_at_first
 
-  pub settle_stopped : (MayGoOn : ℕ → Type 0) (why : Stop) (a b c : Run D M) → IsDoneBy h (RoundsTo is_quiet) a b → IsStoppedBy h (IsRoundCut is_quiet MayGoOn) why b c → IsStoppedBy h (IsSettleCut is_quiet MayGoOn) why a c
-  settle_stopped MayGoOn why a b c first then = stopped_then h (RoundsTo is_quiet) (IsRoundCut is_quiet MayGoOn) (IsSettleCut is_quiet MayGoOn) why a b c (λ ending deeds last so cut. rounds_cut is_quiet (given_now a) deeds so last MayGoOn ending cut) first then
+    module _ (quiet : Bool) (round : IsDoneBy h (IsRoundOf (MayGoOn b.system.store) quiet) b c) where
+      round_now : IsDoneBy h (IsRoundOf may_at_first quiet) b c
+      round_now = done_since h Rounds a b first opened (λ may. IsRoundOf may quiet) c round
+
+      pub settle_on : quiet ≡ false → IsDoneBy h Rounds a c
+      settle_on loud = done_then h Rounds (IsRoundOf may_at_first quiet) Rounds a b c (λ deeds more so is. rounds_on is_quiet may_at_first (given_now a) deeds so more is.0 (is.1 ∙ loud)) first round_now
+
+      pub settle_done : quiet ≡ true → IsDoneBy h (IsSettle is_quiet may_at_first) a c
+      settle_done calm = done_then h Rounds (IsRoundOf may_at_first quiet) (IsSettle is_quiet may_at_first) a b c (λ deeds more so is. rounds_settle is_quiet may_at_first (given_now a) deeds so more is.0 (is.1 ∙ calm)) first round_now
+
+    pub settle_stopped : (why : Stop) → IsStoppedBy h (IsRoundCut is_quiet (MayGoOn b.system.store)) why b c → IsStoppedBy h (IsSettleCut is_quiet may_at_first) why a c
+    settle_stopped why cut = stopped_then h Rounds (IsRoundCut is_quiet may_at_first) (IsSettleCut is_quiet may_at_first) why a b c (λ ending deeds last so is. rounds_cut is_quiet may_at_first (given_now a) deeds so last ending is)
+        first (stopped_since h Rounds a b first opened (λ may. IsRoundCut is_quiet may) why c cut)

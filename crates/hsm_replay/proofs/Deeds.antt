@@ -43,7 +43,7 @@ asked_by w None = refl
 asked_by w (Some r) = refl
 
 given_is : {D M : Type 0} (s : Run D M) → given_now s ≡ given_in recalls (migrates s.system.limits) (situation_of s.system)
-given_is s = ap₂ (λ (recall migrate : Option Act). record { recall = recall; migrate = migrate }) (asked_by recalls s.system.recall) (asked_by (migrates s.system.limits) s.system.migrate)
+given_is s = ap₂ (λ (recall migrate : Option Act). record { recall = recall; migrate = migrate; history = s.system.store.history }) (asked_by recalls s.system.recall) (asked_by (migrates s.system.limits) s.system.migrate)
 
 -- ---- drives that are used
 

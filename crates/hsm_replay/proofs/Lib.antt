@@ -1,11 +1,12 @@
 mod Telling
 mod PartsDone
 mod PartsOn
+mod Resuming
 mod PartsRun
 mod Deeds
 mod DeedSteps
 mod DeedRounds
-mod StillReady
+mod GoingOn
 mod Between
 mod OnDrives
 mod HandedIn

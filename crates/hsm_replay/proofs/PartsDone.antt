@@ -28,13 +28,13 @@ use Rattle.deeds.specs.Given.{Given, given_of, given_behind}
 use Rattle.hsm_replay.specs.Parts.{Exchange, resting, done_by, IsStepFrom, IsWork, IsUpToRest, IsTurnFrom, IsTurnIf, resume_of, joined, are_quiet, IsRound}
 use Rattle.hsm_replay.specs.Parts.{AreBusy, IsSettle, IsPartOf, Follows, FollowsOn}
 use Rattle.hsm_replay.specs.Lines as history
-use Rattle.deeds.proofs.Giving.{given_then}
+use Rattle.deeds.proofs.Giving.{given_none, given_then}
 use Rattle.deeds.proofs.Living.{entries_then}
 
 -- ---- each deed of a step and of a settle
 
 -- Of such deeds P holds where it holds of acts that were done, of a refresh, and of resumes.
-module _ (quiet : Entry → Bool) (P : Deed → Type 0)
+module _ (quiet : Entry → Bool) (MayGoOn : List Entry → ℕ → Type 0) (P : Deed → Type 0)
     (acts : (daemon : Daemon) (asked : Act) (told : Heard) → Fits asked told → P (Gives daemon asked) × P (Hears daemon asked told))
     (refreshes : P Refreshes)
     (resumes : (caller : ℕ) (told : Answer) → IsCallerNumber caller → IsServed told → P (resume_of (caller, told))) where
@@ -71,18 +71,18 @@ module _ (quiet : Entry → Bool) (P : Deed → Type 0)
   resumes_all (x ∷ told) all served = All-cons P (resume_of x) (map resume_of told) (resumes x.0 x.1 (All-head IsCallerNumber x.0 (keys_of told) all) (All-head IsOne x told served))
       (resumes_all told (All-tail IsCallerNumber x.0 (keys_of told) all) (All-tail IsOne x told served))
 
-  round_all : (given : Given) (deeds : List Deed) → IsRound quiet given deeds → All P deeds
+  round_all : (given : Given) (deeds : List Deed) → IsRound quiet MayGoOn given deeds → All P deeds
   round_all given deeds r = subst (λ (ds : List Deed). All P ds) (sym r.parted) (All-append P r.recalls (r.resumes ++ r.migrates)
       (turn_all Recall given.recall r.recalls r.recall_turn)
       (All-append P r.resumes r.migrates
       (subst (λ (ds : List Deed). All P ds) (sym r.resumed.parted) (resumes_all r.resumed.told r.resumed.numbers r.resumed.served))
       (turn_if_all (are_quiet quiet (r.recalls ++ r.resumes)) Migrate given r.migrates r.migrate_turn)))
 
-  busy_all : (given : Given) (rounds : List (List Deed)) → AreBusy quiet given rounds → All P (joined rounds)
+  busy_all : (given : Given) (rounds : List (List Deed)) → AreBusy quiet MayGoOn given rounds → All P (joined rounds)
   busy_all given [] is = All-nil P
   busy_all given (round ∷ rounds) is = All-append P round (joined rounds) (round_all given round is.0) (busy_all (given_behind round given) rounds is.2)
 
-  pub settle_all : (given : Given) (deeds : List Deed) → IsSettle quiet given deeds → All P deeds
+  pub settle_all : (given : Given) (deeds : List Deed) → IsSettle quiet MayGoOn given deeds → All P deeds
   settle_all given deeds s = subst (λ (ds : List Deed). All P ds) (sym s.parted) (All-cons P Refreshes (joined s.rounds ++ s.last) refreshes (All-append P (joined s.rounds) s.last
       (busy_all given s.rounds s.busy)
       (round_all (given_behind (joined s.rounds) given) s.last s.round)))
@@ -123,33 +123,33 @@ step_part : (daemon : Daemon) (asked : Option Act) (deeds : List Deed) → IsSte
 step_part daemon None deeds is = inl (ap entries_of is)
 step_part daemon (Some asked) deeds is = subst (λ (ds : List Deed). history.IsPartOf (Step daemon) (entries_of ds)) (sym is.2) (step_so daemon is.0.asked is.0.told)
 
-module _ (quiet : Entry → Bool) where
-  part_so : (given : Given) (line : Line) (deeds : List Deed) → IsPartOf quiet given line deeds → history.IsPartOf line (entries_of deeds)
+module _ (quiet : Entry → Bool) (MayGoOn : List Entry → ℕ → Type 0) where
+  part_so : (given : Given) (line : Line) (deeds : List Deed) → IsPartOf quiet MayGoOn given line deeds → history.IsPartOf line (entries_of deeds)
   part_so given (Event actor asked seed) deeds is = (is.0, ap entries_of is.2)
   part_so given (Start daemon) deeds is = ap entries_of is
   part_so given (Kill daemon) deeds is = ap entries_of is
   part_so given (Step daemon) deeds is = step_part daemon (given_of daemon given) deeds is
-  part_so given Settle deeds is = entries_all deeds (settle_all quiet Settles
+  part_so given Settle deeds is = entries_all deeds (settle_all quiet MayGoOn Settles
       (λ daemon asked told fits. (tt, told_settles asked told))
       tt
       (λ caller told number served. inl (caller, told, number, refl))
       given deeds is)
 
-  pub follows_so : (lines : List Line) (deeds : List Deed) → history.FollowsSo quiet lines deeds
+  pub follows_so : (lines : List Line) (deeds : List Deed) → history.FollowsSo quiet MayGoOn lines deeds
   follows_so [] deeds given is = ap entries_of is
   follows_so (line ∷ lines) deeds given is =
       (entries_of is.0, entries_of is.1, ap entries_of is.2 ∙ entries_then is.0 is.1, part_so given line is.0 is.3, follows_so lines is.1 (given_behind is.0 given) is.4)
 
   -- ---- lines behind others
 
-  pub follows_on : (given : Given) (lines more : List Line) → FollowsOn quiet given lines more
-  follows_on given [] more deeds then is later = subst (λ (ds : List Deed). Follows quiet given more (ds ++ then)) (sym is) (subst (λ (ds : List Deed). Follows quiet (given_behind ds given) more then) is later)
+  pub follows_on : (given : Given) (lines more : List Line) → FollowsOn quiet MayGoOn given lines more
+  follows_on given [] more deeds then is later = subst (λ (ds : List Deed). Follows quiet MayGoOn given more (ds ++ then)) (sym is) (subst (λ (g : Given). Follows quiet MayGoOn g more then) (ap (λ (ds : List Deed). given_behind ds given) is ∙ given_none given) later)
   follows_on given (line ∷ lines) more deeds then is later = (
     is.0,
     is.1 ++ then,
     ap (λ (ds : List Deed). ds ++ then) is.2 ∙ append_assoc is.0 is.1 then,
     is.3,
-    follows_on (given_behind is.0 given) lines more is.1 then is.4 (subst (λ (g : Given). Follows quiet g more then) (ap (λ (ds : List Deed). given_behind ds given) is.2 ∙ given_then is.0 is.1 given) later),
+    follows_on (given_behind is.0 given) lines more is.1 then is.4 (subst (λ (g : Given). Follows quiet MayGoOn g more then) (ap (λ (ds : List Deed). given_behind ds given) is.2 ∙ given_then is.0 is.1 given) later),
   )
 
   -- ---- each deed of lines
@@ -161,16 +161,16 @@ module _ (quiet : Entry → Bool) where
     one_all : (deed : Deed) (deeds : List Deed) → deeds ≡ deed ∷ [] → P deed → All P deeds
     one_all deed deeds is so = subst (λ (ds : List Deed). All P ds) (sym is) (All-cons P deed [] so (All-nil P))
 
-    part_all : (given : Given) (line : Line) (deeds : List Deed) → IsPartOf quiet given line deeds → All P deeds
+    part_all : (given : Given) (line : Line) (deeds : List Deed) → IsPartOf quiet MayGoOn given line deeds → All P deeds
     part_all given (Event actor asked seed) deeds is = one_all (Enters (entry_of actor asked is.0)) deeds is.2 (enters (entry_of actor asked is.0) is.1)
     part_all given (Start daemon) deeds is = one_all (Starts daemon) deeds is (starts daemon)
     part_all given (Kill daemon) deeds is = one_all (Kills daemon) deeds is (kills daemon)
-    part_all given (Step daemon) deeds is = step_all quiet P acts refreshes (λ caller told number served. enters (entry_of (Caller caller) Resume told) served) daemon (given_of daemon given) deeds is
-    part_all given Settle deeds is = settle_all quiet P acts refreshes (λ caller told number served. enters (entry_of (Caller caller) Resume told) served) given deeds is
+    part_all given (Step daemon) deeds is = step_all quiet MayGoOn P acts refreshes (λ caller told number served. enters (entry_of (Caller caller) Resume told) served) daemon (given_of daemon given) deeds is
+    part_all given Settle deeds is = settle_all quiet MayGoOn P acts refreshes (λ caller told number served. enters (entry_of (Caller caller) Resume told) served) given deeds is
 
-    pub follows_all : (given : Given) (lines : List Line) (deeds : List Deed) → Follows quiet given lines deeds → All P deeds
+    pub follows_all : (given : Given) (lines : List Line) (deeds : List Deed) → Follows quiet MayGoOn given lines deeds → All P deeds
     follows_all given [] deeds is = subst (λ (ds : List Deed). All P ds) (sym is) (All-nil P)
     follows_all given (line ∷ lines) deeds is = subst (λ (ds : List Deed). All P ds) (sym is.2) (All-append P is.0 is.1 (part_all given line is.0 is.3) (follows_all (given_behind is.0 given) lines is.1 is.4))
 
-  pub follows_whole : (lines : List Line) (deeds : List Deed) → history.FollowsWhole quiet lines deeds
+  pub follows_whole : (lines : List Line) (deeds : List Deed) → history.FollowsWhole quiet MayGoOn lines deeds
   follows_whole lines deeds given is = follows_all history.IsWhole (λ daemon asked told fits. (tt, hears_whole asked told fits)) tt (λ e served. served) (λ daemon. tt) (λ daemon. tt) given lines deeds is

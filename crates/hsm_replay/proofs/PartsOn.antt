@@ -1,4 +1,4 @@
--- Turns, resumes and settles while they go on: by the acts and the rounds that were done so far.
+-- Turns and settles while they go on: by the acts and the rounds that were done so far.
 use Rattle.std.proofs.Common.{◌≡◌, ◌⊎◌, ◌<◌, ◌+◌, ◌∙◌, ℕ, ◌∷◌, ◌++◌, [], Bool, true, false, List, Option, Some, None, inl, inr, refl, sym, ap, subst}
 use Rattle.std.proofs.Common.{append-nil, append_assoc, arith}
 use Rattle.std.specs.Cmp.{nat_cmp_is}
@@ -27,13 +27,13 @@ use Rattle.deeds.specs.Deeds.{entry_of, Deed, Enters, Refreshes, Fits, IsServed}
 use Rattle.deeds.specs.Given.{Given, asked_behind, given_behind}
 use Rattle.deeds.specs.Lives.{life}
 use Rattle.hsm_replay.specs.Parts.{Exchange, resting, done_by, IsStepFrom, IsWork, IsUpToRest}
-use Rattle.hsm_replay.specs.Parts.{IsLeftFrom, IsTurnFrom, AreResumes, resume_of, joined, are_quiet}
+use Rattle.hsm_replay.specs.Parts.{IsLeftFrom, IsTurnFrom, joined, are_quiet}
 use Rattle.hsm_replay.specs.Parts.{IsRound, AreBusy, IsSettle}
 use Rattle.hsm_replay.specs.Stopped.{Ending, IsEventCut, IsActCut, IsStepCutFrom, IsWorkCut}
-use Rattle.hsm_replay.specs.Stopped.{IsLeftCutFrom, IsTurnCutFrom, AreResumesCut, IsRoundCut, IsSettleCut}
+use Rattle.hsm_replay.specs.Stopped.{IsLeftCutFrom, IsTurnCutFrom, IsRoundCut, IsSettleCut}
 use Rattle.hsm_replay.specs.Stopped.{IsLineCut, StopsOn}
 use Rattle.hsm_replay.proofs.PartsDone.{follows_on}
-use Rattle.deeds.proofs.Giving.{given_then}
+use Rattle.deeds.proofs.Giving.{given_none, given_then}
 
 -- ---- one act
 
@@ -251,96 +251,14 @@ module _ (daemon : Daemon) where
   left_turns_cut (Some (Copy volume handle segment bytes)) ending begun turn left cut = inr (begun, turn, refl, left, begun_turns_cut (Copy volume handle segment bytes) ending begun turn left cut)
   left_turns_cut (Some (Fetch entry)) ending begun turn left cut = inr (begun, turn, refl, left, begun_turns_cut (Fetch entry) ending begun turn left cut)
 
--- ---- resumes
-
-abbrev IsUp : ℕ → ℕ → Type 0
-IsUp key caller = nat_cmp key caller ≡ Less
-
-all_pushed : (key : ℕ) (xs : List ℕ) (caller : ℕ) → AllByRecursion (IsUp key) xs → IsUp key caller → AllByRecursion (IsUp key) (xs ++ caller ∷ [])
-all_pushed key [] caller each last = (last, tt)
-all_pushed key (x ∷ xs) caller each last = (each.0, all_pushed key xs caller each.1 last)
-
-sorted_push : (xs : List ℕ) (caller : ℕ) → IsStrictlySortedBy nat_cmp xs → AllByRecursion (λ (key : ℕ). key < caller) xs → IsStrictlySortedBy nat_cmp (xs ++ caller ∷ [])
-unfolding IsStrictlySortedBy
-sorted_push [] caller sorted below = (tt, tt)
-sorted_push (x ∷ xs) caller sorted below = (all_pushed x xs caller sorted.0 (sym (nat_cmp_is x caller Less below.0)), sorted_push xs caller sorted.1 below.1)
-
-sorted_none : IsStrictlySortedBy nat_cmp []
-unfolding IsStrictlySortedBy
-sorted_none = tt
-
--- callers below that number have resumed
-pub record ResumesTo (number : ℕ) (deeds : List Deed) : Type 0 where
-  pub resumes : AreResumes deeds
-  pub below : All (λ (key : ℕ). key < number) (keys_of resumes.told)
-
-abbrev IsOne : ℕ × Answer → Type 0
-IsOne x = IsServed x.1
-
-pub resumes_none : ResumesTo 1 []
-resumes_none = record {
-  resumes = record { told = []; parted = refl; numbers = All-nil IsCallerNumber; ascend = sorted_none; served = All-nil IsOne };
-  below = All-nil (λ (key : ℕ). key < 1);
-}
-
-one_below : (number key : ℕ) → key < number → key < number + 1
-one_below number key less = omega arith
-
-pub resumes_skip : (number : ℕ) (deeds : List Deed) → ResumesTo number deeds → ResumesTo (number + 1) deeds
-resumes_skip number deeds so = record {
-  resumes = so.resumes;
-  below = All-weaker (λ (key : ℕ). key < number) (λ (key : ℕ). key < number + 1) (one_below number) (keys_of so.resumes.told) so.below;
-}
-
-keys_more : (told : List (ℕ × Answer)) (x : ℕ × Answer) → keys_of (told ++ x ∷ []) ≡ keys_of told ++ x.0 ∷ []
-keys_more told x = map-append (λ (e : ℕ × Answer). e.0) told (x ∷ [])
-
-module _ (number : ℕ) (deeds : List Deed) (so : ResumesTo number deeds) (is : IsCallerNumber number) where
-  numbers_push : All IsCallerNumber (keys_of so.resumes.told ++ number ∷ [])
-  numbers_push = All-push IsCallerNumber (keys_of so.resumes.told) number so.resumes.numbers is
-
-  ascend_push : IsStrictlySortedBy nat_cmp (keys_of so.resumes.told ++ number ∷ [])
-  ascend_push = sorted_push (keys_of so.resumes.told) number so.resumes.ascend (recursion_from_All (λ (key : ℕ). key < number) (keys_of so.resumes.told) so.below)
-
-  below_push : All (λ (key : ℕ). key < number + 1) (keys_of so.resumes.told ++ number ∷ [])
-  below_push = All-push (λ (key : ℕ). key < number + 1) (keys_of so.resumes.told) number
-      (All-weaker (λ (key : ℕ). key < number) (λ (key : ℕ). key < number + 1) (one_below number) (keys_of so.resumes.told) so.below) (omega arith)
-
-  pub resumes_on : (told : Answer) → IsServed told → ResumesTo (number + 1) (deeds ++ Enters (entry_of (Caller number) Resume told) ∷ [])
-  resumes_on told served =
-      let x : ℕ × Answer = (number, told) in
-      record {
-        resumes = record {
-          told = so.resumes.told ++ x ∷ [];
-          parted = ap (λ (ds : List Deed). ds ++ resume_of x ∷ []) so.resumes.parted ∙ sym (map-append resume_of so.resumes.told (x ∷ []));
-          numbers = subst (λ (l : List ℕ). All IsCallerNumber l) (sym (keys_more so.resumes.told x)) numbers_push;
-          ascend = subst (λ (l : List ℕ). IsStrictlySortedBy nat_cmp l) (sym (keys_more so.resumes.told x)) ascend_push;
-          served = All-push IsOne so.resumes.told x so.resumes.served served;
-        };
-        below = subst (λ (l : List ℕ). All (λ (key : ℕ). key < number + 1) l) (sym (keys_more so.resumes.told x)) below_push;
-      }
-
-  pub resumes_cut : (MayGoOn : ℕ → Type 0) → MayGoOn number → (ending : Ending) (last : List Deed) → IsEventCut (Caller number) Resume ending last → AreResumesCut MayGoOn ending (deeds ++ last)
-  resumes_cut MayGoOn may ending last cut = record {
-    told = so.resumes.told;
-    caller = number;
-    may = may;
-    last = last;
-    parted = ap (λ (ds : List Deed). ds ++ last) so.resumes.parted;
-    numbers = numbers_push;
-    ascend = ascend_push;
-    served = so.resumes.served;
-    cut = cut;
-  }
-
 -- ---- settles
 
-module _ (quiet : Entry → Bool) (given : Given) where
+module _ (quiet : Entry → Bool) (MayGoOn : List Entry → ℕ → Type 0) (given : Given) where
   -- a refresh, and rounds that aren't quiet
   pub record RoundsTo (deeds : List Deed) : Type 0 where
     pub rounds : List (List Deed)
     pub parted : deeds ≡ Refreshes ∷ joined rounds
-    pub busy : AreBusy quiet given rounds
+    pub busy : AreBusy quiet MayGoOn given rounds
 
   pub rounds_none : RoundsTo (Refreshes ∷ [])
   rounds_none = record { rounds = []; parted = refl; busy = tt }
@@ -351,27 +269,27 @@ module _ (quiet : Entry → Bool) (given : Given) where
   joined_more : (rounds : List (List Deed)) (round : List Deed) → joined (rounds ++ round ∷ []) ≡ joined rounds ++ round
   joined_more rounds round = flat_map-append (λ (part : List Deed). part) rounds (round ∷ []) ∙ ap (λ (ds : List Deed). joined rounds ++ ds) (append-nil round)
 
-module _ (quiet : Entry → Bool) where
-  busy_push : (given : Given) (rounds : List (List Deed)) (round : List Deed) → AreBusy quiet given rounds → IsRound quiet (given_behind (joined rounds) given) round → are_quiet quiet round ≡ false → AreBusy quiet given (rounds ++ round ∷ [])
-  busy_push given [] round busy is loud = (is, loud, tt)
+module _ (quiet : Entry → Bool) (MayGoOn : List Entry → ℕ → Type 0) where
+  busy_push : (given : Given) (rounds : List (List Deed)) (round : List Deed) → AreBusy quiet MayGoOn given rounds → IsRound quiet MayGoOn (given_behind (joined rounds) given) round → are_quiet quiet round ≡ false → AreBusy quiet MayGoOn given (rounds ++ round ∷ [])
+  busy_push given [] round busy is loud = (subst (λ (g : Given). IsRound quiet MayGoOn g round) (given_none given) is, loud, tt)
   busy_push given (first ∷ rounds) round busy is loud = (
     busy.0,
     busy.1,
-    busy_push (given_behind first given) rounds round busy.2 (subst (λ (g : Given). IsRound quiet g round) (given_then first (joined rounds) given) is) loud,
+    busy_push (given_behind first given) rounds round busy.2 (subst (λ (g : Given). IsRound quiet MayGoOn g round) (given_then first (joined rounds) given) is) loud,
   )
 
-  module _ (given : Given) (deeds : List Deed) (so : RoundsTo quiet given deeds) (round : List Deed) where
-    on_it : IsRound quiet (given_behind deeds given) round → IsRound quiet (given_behind (joined so.rounds) given) round
-    on_it is = subst (λ (g : Given). IsRound quiet g round) (behind quiet given deeds so) is
+  module _ (given : Given) (deeds : List Deed) (so : RoundsTo quiet MayGoOn given deeds) (round : List Deed) where
+    on_it : IsRound quiet MayGoOn (given_behind deeds given) round → IsRound quiet MayGoOn (given_behind (joined so.rounds) given) round
+    on_it is = subst (λ (g : Given). IsRound quiet MayGoOn g round) (behind quiet MayGoOn given deeds so) is
 
-    pub rounds_on : IsRound quiet (given_behind deeds given) round → are_quiet quiet round ≡ false → RoundsTo quiet given (deeds ++ round)
+    pub rounds_on : IsRound quiet MayGoOn (given_behind deeds given) round → are_quiet quiet round ≡ false → RoundsTo quiet MayGoOn given (deeds ++ round)
     rounds_on is loud = record {
       rounds = so.rounds ++ round ∷ [];
-      parted = ap (λ (ds : List Deed). ds ++ round) so.parted ∙ ap (λ (ds : List Deed). Refreshes ∷ ds) (sym (joined_more quiet given so.rounds round));
+      parted = ap (λ (ds : List Deed). ds ++ round) so.parted ∙ ap (λ (ds : List Deed). Refreshes ∷ ds) (sym (joined_more quiet MayGoOn given so.rounds round));
       busy = busy_push given so.rounds round so.busy (on_it is) loud;
     }
 
-    pub rounds_settle : IsRound quiet (given_behind deeds given) round → are_quiet quiet round ≡ true → IsSettle quiet given (deeds ++ round)
+    pub rounds_settle : IsRound quiet MayGoOn (given_behind deeds given) round → are_quiet quiet round ≡ true → IsSettle quiet MayGoOn given (deeds ++ round)
     rounds_settle is calm = record {
       rounds = so.rounds;
       last = round;
@@ -381,19 +299,19 @@ module _ (quiet : Entry → Bool) where
       ends = calm;
     }
 
-    pub rounds_cut : (MayGoOn : ℕ → Type 0) (ending : Ending) → IsRoundCut quiet MayGoOn (given_behind deeds given) ending round → IsSettleCut quiet MayGoOn given ending (deeds ++ round)
-    rounds_cut MayGoOn ending cut = record {
+    pub rounds_cut : (ending : Ending) → IsRoundCut quiet MayGoOn (given_behind deeds given) ending round → IsSettleCut quiet MayGoOn given ending (deeds ++ round)
+    rounds_cut ending cut = record {
       rounds = so.rounds;
       last = round;
       parted = ap (λ (ds : List Deed). ds ++ round) so.parted;
       busy = so.busy;
-      cut = subst (λ (g : Given). IsRoundCut quiet MayGoOn g ending round) (behind quiet given deeds so) cut;
+      cut = subst (λ (g : Given). IsRoundCut quiet MayGoOn g ending round) (behind quiet MayGoOn given deeds so) cut;
     }
 
   -- ---- lines
 
-  pub stops_on : (MayGoOn : ℕ → Type 0) (given : Given) (lines more : List Line) → StopsOn quiet MayGoOn given lines more
-  stops_on MayGoOn given lines more ending deeds then is stops = record {
+  pub stops_on : (given : Given) (lines more : List Line) → StopsOn quiet MayGoOn given lines more
+  stops_on given lines more ending deeds then is stops = record {
     whole = lines ++ stops.whole;
     line = stops.line;
     left = stops.left;
@@ -401,6 +319,6 @@ module _ (quiet : Entry → Bool) where
     last = stops.last;
     lines_parted = ap (λ (l : List Line). lines ++ l) stops.lines_parted ∙ sym (append_assoc lines stops.whole (stops.line ∷ stops.left));
     parted = ap (λ (ds : List Deed). deeds ++ ds) stops.parted ∙ sym (append_assoc deeds stops.done stops.last);
-    follows = follows_on quiet given lines stops.whole deeds stops.done is stops.follows;
+    follows = follows_on quiet MayGoOn given lines stops.whole deeds stops.done is stops.follows;
     cut = subst (λ (g : Given). IsLineCut quiet MayGoOn stops.line g ending stops.last) (sym (given_then deeds stops.done given)) stops.cut;
   }

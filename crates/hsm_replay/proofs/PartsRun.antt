@@ -20,7 +20,7 @@ use Rattle.deeds.specs.Given.{Given, given_of, asked_behind, given_behind}
 use Rattle.deeds.specs.Lives.{life}
 use Rattle.hsm_replay.specs.Parts.{resume_of, runs_by, runs_behind, IsPartOf, RunsByLines}
 use Rattle.hsm_replay.proofs.PartsDone.{step_all, settle_all}
-use Rattle.deeds.proofs.Giving.{own_then, given_then}
+use Rattle.deeds.proofs.Giving.{own_then, given_none, given_then}
 
 -- behind these deeds the daemon runs
 abbrev runs_after : Daemon → List Deed → Option Act → Bool
@@ -92,25 +92,25 @@ pub given_so : (daemon : Daemon) (deeds : List Deed) (given : Given) → given_o
 given_so Recall deeds given = refl
 given_so Migrate deeds given = refl
 
-module _ (quiet : Entry → Bool) (daemon : Daemon) where
+module _ (quiet : Entry → Bool) (MayGoOn : List Entry → ℕ → Type 0) (daemon : Daemon) where
   acts_steady : (by : Daemon) (act : Act) (told : Heard) → Fits act told → IsSteady daemon (Gives by act) × IsSteady daemon (Hears by act told)
   acts_steady by act told fits = (gives_steady daemon by act, hears_steady daemon by act told)
 
   resumes_steady : (caller : ℕ) (told : Answer) → IsCallerNumber caller → IsServed told → IsSteady daemon (resume_of (caller, told))
   resumes_steady caller told number served = enters_steady daemon (entry_of (Caller caller) Resume told)
 
-  part_so : (given : Given) (line : Line) (deeds : List Deed) → IsPartOf quiet given line deeds → (last : Option Act) → runs_after daemon deeds last ≡ runs_by daemon line (is_some last)
+  part_so : (given : Given) (line : Line) (deeds : List Deed) → IsPartOf quiet MayGoOn given line deeds → (last : Option Act) → runs_after daemon deeds last ≡ runs_by daemon line (is_some last)
   part_so given (Event actor asked seed) deeds is last =
       ap (λ (ds : List Deed). runs_after daemon ds last) is.2 ∙ enters_steady daemon (entry_of actor asked is.0) last ∙ sym (event_so daemon actor asked seed (is_some last))
   part_so given (Start started) deeds is last = ap (λ (ds : List Deed). runs_after daemon ds last) is ∙ starts_so daemon started last
   part_so given (Kill killed) deeds is last = ap (λ (ds : List Deed). runs_after daemon ds last) is ∙ kills_so daemon killed last
   part_so given (Step by) deeds is last =
-      all_steady daemon deeds (step_all quiet (IsSteady daemon) acts_steady (refreshes_steady daemon) resumes_steady by (given_of by given) deeds is) last ∙ sym (step_so daemon by (is_some last))
+      all_steady daemon deeds (step_all quiet MayGoOn (IsSteady daemon) acts_steady (refreshes_steady daemon) resumes_steady by (given_of by given) deeds is) last ∙ sym (step_so daemon by (is_some last))
   part_so given Settle deeds is last =
-      all_steady daemon deeds (settle_all quiet (IsSteady daemon) acts_steady (refreshes_steady daemon) resumes_steady given deeds is) last ∙ sym (settle_so daemon (is_some last))
+      all_steady daemon deeds (settle_all quiet MayGoOn (IsSteady daemon) acts_steady (refreshes_steady daemon) resumes_steady given deeds is) last ∙ sym (settle_so daemon (is_some last))
 
-  pub runs_by_lines : (lines : List Line) → RunsByLines quiet daemon lines
-  runs_by_lines [] given deeds is = ap (λ (ds : List Deed). is_some (given_of daemon (given_behind ds given))) is
+  pub runs_by_lines : (lines : List Line) → RunsByLines quiet MayGoOn daemon lines
+  runs_by_lines [] given deeds is = ap (λ (ds : List Deed). is_some (given_of daemon (given_behind ds given))) is ∙ ap (λ (g : Given). is_some (given_of daemon g)) (given_none given)
   runs_by_lines (line ∷ lines) given deeds is =
       ap (λ (ds : List Deed). is_some (given_of daemon (given_behind ds given))) is.2
       ∙ ap (λ (g : Given). is_some (given_of daemon g)) (given_then is.0 is.1 given)

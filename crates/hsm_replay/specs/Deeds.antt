@@ -14,9 +14,8 @@ use Rattle.hsm_types.specs.declared.stubs.StubEntry.{StubEntry}
 use Rattle.plain_model.specs.declared.entries.Action.TheVariants.{Resume}
 use Rattle.plain_model.specs.declared.entries.Actor.TheVariants.{Caller}
 use Rattle.plain_model.specs.declared.entries.Answer.{Answer}
-use Rattle.hsm_core.specs.Ready.{ready}
+use Rattle.plain_model.specs.declared.entries.Entry.{Entry}
 use Rattle.hsm_core.specs.Store.{Store}
-use Rattle.hsm_core.specs.declared.store.Ready.TheVariants.{Now}
 use Rattle.volume_shelf.specs.Shelf.{Reads, payload_in}
 use Rattle.deeds.specs.Deeds.{Deed, Hears, IsServed, Loses}
 use Rattle.deeds.specs.Faults.{Counts, AddsFaults}
@@ -30,14 +29,14 @@ use Rattle.hsm_replay.specs.Acts.{CopiesTo, FetchesFrom, OnDriveOf}
 use Rattle.hsm_replay.specs.Drives.{HaveGrown}
 use Rattle.hsm_replay.specs.Faults.{IsTrue}
 use Rattle.hsm_replay.specs.Filling.{HearsFull}
-use Rattle.hsm_replay.specs.Parts.{AreResumes, IsRound, are_quiet, resume_of}
+use Rattle.hsm_replay.specs.Parts.{IsRound, are_quiet, resume_of}
 use Rattle.hsm_replay.specs.Sealed.{Gives, IsStored, IsThere}
-use Rattle.hsm_replay.specs.Stopped.{AreResumesCut, Broken, Ending, IsEventCut, Lost, Unmade}
+use Rattle.hsm_replay.specs.Stopped.{Broken, Ending, IsEventCut, Lost, Unmade}
 use Rattle.hsm_replay.specs.Systems.{Run}
 
--- which act each daemon gave last
+-- which act each daemon gave last, and the history
 abbrev pub given_now : {D M : Type 0} → Run D M → Given
-given_now s = record { recall = option_map (λ (r : Recalling). r.machine.asked) s.system.recall; migrate = option_map (λ (m : Migrating). m.machine.asked) s.system.migrate }
+given_now s = record { recall = option_map (λ (r : Recalling). r.machine.asked) s.system.recall; migrate = option_map (λ (m : Migrating). m.machine.asked) s.system.migrate; history = s.system.store.history }
 
 module _ {M : Type 0} (g : drive.Ghosts M) where
   -- ---- what drives say of what was heard
@@ -136,24 +135,15 @@ module _ {M : Type 0} (g : drive.Ghosts M) where
 
 -- ---- the parts of a settle, each a call of its own
 
--- the caller's access may go on, as it still may where that was stopped
-abbrev pub MayGoOn : {D M : Type 0} → Run D M → ℕ → Type 0
-MayGoOn s caller = ready s.system.store caller ≡ Now
+-- the caller resumes, exactly where its access may go on
+abbrev pub MayResumeBy : (List Entry → ℕ → Type 0) → ℕ → Given → List Deed → Type 0
+MayResumeBy MayGoOn caller given deeds =
+    (MayGoOn given.history caller → ⊥) × (deeds ≡ [])
+    ⊎ MayGoOn given.history caller × ((told : Answer) × IsCallerNumber caller × IsServed told × (deeds ≡ resume_of (caller, told) ∷ []))
 
--- the caller resumes, where its access may go on
-abbrev pub MayResumeBy : ℕ → Given → List Deed → Type 0
-MayResumeBy caller given deeds = (deeds ≡ []) ⊎ ((told : Answer) × IsCallerNumber caller × IsServed told × (deeds ≡ resume_of (caller, told) ∷ []))
-
-abbrev pub IsResumeCut : (ℕ → Type 0) → ℕ → Given → Ending → List Deed → Type 0
-IsResumeCut MayGoOn caller given ending deeds = IsCallerNumber caller × MayGoOn caller × IsEventCut (Caller caller) Resume ending deeds
-
--- callers resume
-abbrev pub AreResumesOf : Given → List Deed → Type 0
-AreResumesOf given deeds = AreResumes deeds
-
-abbrev pub AreResumesCutIn : (ℕ → Type 0) → Given → Ending → List Deed → Type 0
-AreResumesCutIn MayGoOn given ending deeds = AreResumesCut MayGoOn ending deeds
+abbrev pub IsResumeCut : (List Entry → ℕ → Type 0) → ℕ → Given → Ending → List Deed → Type 0
+IsResumeCut MayGoOn caller given ending deeds = IsCallerNumber caller × MayGoOn given.history caller × IsEventCut (Caller caller) Resume ending deeds
 
 -- a round, and whether all its entries are quiet
-abbrev pub IsRoundOf : Bool → Given → List Deed → Type 0
-IsRoundOf quiet given deeds = IsRound is_quiet given deeds × (are_quiet is_quiet deeds ≡ quiet)
+abbrev pub IsRoundOf : (List Entry → ℕ → Type 0) → Bool → Given → List Deed → Type 0
+IsRoundOf MayGoOn quiet given deeds = IsRound is_quiet MayGoOn given deeds × (are_quiet is_quiet deeds ≡ quiet)

@@ -1,4 +1,5 @@
 pub mod Systems
+pub mod GoingOn
 pub mod Parts
 pub mod Stopped
 pub mod Lines

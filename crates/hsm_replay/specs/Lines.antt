@@ -42,8 +42,8 @@ Follows [] es = es ≡ []
 Follows (line ∷ lines) es = (part : List Entry) × (rest : List Entry) × (es ≡ part ++ rest) × IsPartOf line part × Follows lines rest
 
 -- it does where the deeds follow the lines
-abbrev pub FollowsSo : (Entry → Bool) → List Line → List Deed → Type 0
-FollowsSo quiet lines deeds = (given : Given) → parts.Follows quiet given lines deeds → Follows lines (entries_of deeds)
+abbrev pub FollowsSo : (Entry → Bool) → (List Entry → ℕ → Type 0) → List Line → List Deed → Type 0
+FollowsSo quiet MayGoOn lines deeds = (given : Given) → parts.Follows quiet MayGoOn given lines deeds → Follows lines (entries_of deeds)
 
 -- ---- what lines are without
 
@@ -55,5 +55,5 @@ IsWhole (Breaks daemon sid call) = ⊥
 IsWhole (Loses daemon) = ⊥
 IsWhole deed = Unit {0}
 
-abbrev pub FollowsWhole : (Entry → Bool) → List Line → List Deed → Type 0
-FollowsWhole quiet lines deeds = (given : Given) → parts.Follows quiet given lines deeds → All IsWhole deeds
+abbrev pub FollowsWhole : (Entry → Bool) → (List Entry → ℕ → Type 0) → List Line → List Deed → Type 0
+FollowsWhole quiet MayGoOn lines deeds = (given : Given) → parts.Follows quiet MayGoOn given lines deeds → All IsWhole deeds

@@ -1,5 +1,5 @@
 -- Which deeds belong to which line of a script.
-use Rattle.std.specs.Prelude.{◌≡◌, ◌≢◌, ℕ, List, [], ◌∷◌, ◌++◌, map, flat_map, All, Bool, true, false, Option, None, Some, is_some}
+use Rattle.std.specs.Prelude.{◌≡◌, ◌≢◌, ◌↔◌, ℕ, nat_lt, List, [], ◌∷◌, ◌++◌, map, flat_map, filter, All, Contains, Bool, true, false, Option, None, Some, is_some}
 use Rattle.std.specs.List.{list_all}
 use Rattle.std.specs.List.Sorted.{IsStrictlySortedBy}
 use Rattle.std.specs.Map.{keys_of}
@@ -80,12 +80,21 @@ IsTurnIf false daemon given deeds = deeds ≡ []
 abbrev pub resume_of : ℕ × Answer → Deed
 resume_of x = Enters (entry_of (Caller x.0) Resume x.1)
 
--- Callers resume in order of number, each once at most. Which of them may, the store says.
-pub record AreResumes (deeds : List Deed) : Type 0 where
+-- the entries of the callers with lower numbers
+abbrev pub entries_below : ℕ → List (ℕ × Answer) → List Entry
+entries_below caller told = entries_of (map resume_of (filter (λ (x : ℕ × Answer). nat_lt x.0 caller) told))
+
+-- The caller resumes exactly where its access may go on when its turn comes: behind the history, and those of the callers with lower numbers.
+abbrev pub ResumesInTurn : (List Entry → ℕ → Type 0) → List Entry → List (ℕ × Answer) → ℕ → Type 0
+ResumesInTurn MayGoOn history told caller = Contains (keys_of told) caller ↔ MayGoOn (history ++ entries_below caller told) caller
+
+-- Callers resume in order of number, each once: exactly those whose access may go on when their turn comes.
+pub record AreResumes (MayGoOn : List Entry → ℕ → Type 0) (given : Given) (deeds : List Deed) : Type 0 where
   pub told : List (ℕ × Answer)
   pub parted : deeds ≡ map resume_of told
   pub numbers : All IsCallerNumber (keys_of told)
   pub ascend : IsStrictlySortedBy nat_cmp (keys_of told)
+  pub ready : (caller : ℕ) → IsCallerNumber caller → ResumesInTurn MayGoOn given.history told caller
   pub served : All (λ (x : ℕ × Answer). IsServed x.1) told
 
 abbrev pub joined : List (List Deed) → List Deed
@@ -105,27 +114,28 @@ abbrev pub runs_behind : Daemon → List Line → Bool → Bool
 runs_behind daemon [] runs = runs
 runs_behind daemon (line ∷ lines) runs = runs_behind daemon lines (runs_by daemon line runs)
 
--- Which entries are quiet, so that a settle may end behind them, is asked of whoever reads.
-module _ (quiet : Entry → Bool) where
-  -- ---- settles
+-- ---- settles
 
-  abbrev pub are_quiet : List Deed → Bool
-  are_quiet deeds = list_all quiet (entries_of deeds)
+abbrev pub are_quiet : (Entry → Bool) → List Deed → Bool
+are_quiet quiet deeds = list_all quiet (entries_of deeds)
 
-  -- Recall has its turn, then callers resume, and where all that was quiet migration has its turn. So each is judged by what it gave last before the round.
+-- Asked of whoever reads: which entries are quiet, so that a settle may end behind them, and whose access may go on behind entries.
+module _ (quiet : Entry → Bool) (MayGoOn : List Entry → ℕ → Type 0) where
+  -- Recall has its turn, then callers resume, and where all that was quiet migration has its turn. So each daemon is judged by what it gave last before the
+  -- round.
   pub record IsRound (given : Given) (deeds : List Deed) : Type 0 where
     pub recalls : List Deed
     pub resumes : List Deed
     pub migrates : List Deed
     pub parted : deeds ≡ recalls ++ (resumes ++ migrates)
     pub recall_turn : IsTurn Recall given recalls
-    pub resumed : AreResumes resumes
-    pub migrate_turn : IsTurnIf (are_quiet (recalls ++ resumes)) Migrate given migrates
+    pub resumed : AreResumes MayGoOn (given_behind recalls given) resumes
+    pub migrate_turn : IsTurnIf (are_quiet quiet (recalls ++ resumes)) Migrate given migrates
 
   -- rounds that aren't quiet, each behind those before it
   abbrev pub AreBusy : Given → List (List Deed) → Type 0
   AreBusy given [] = Unit {0}
-  AreBusy given (round ∷ rounds) = IsRound given round × (are_quiet round ≡ false) × AreBusy (given_behind round given) rounds
+  AreBusy given (round ∷ rounds) = IsRound given round × (are_quiet quiet round ≡ false) × AreBusy (given_behind round given) rounds
 
   -- Migration may begin one pass by `high`, then there are rounds, of which the first that is quiet is the last.
   pub record IsSettle (given : Given) (deeds : List Deed) : Type 0 where
@@ -134,7 +144,7 @@ module _ (quiet : Entry → Bool) where
     pub parted : deeds ≡ Refreshes ∷ (joined rounds ++ last)
     pub busy : AreBusy given rounds
     pub round : IsRound (given_behind (joined rounds) given) last
-    pub ends : are_quiet last ≡ true
+    pub ends : are_quiet quiet last ≡ true
 
   -- ---- lines
 

@@ -1,5 +1,5 @@
 -- Which deeds a line did at which a run was stopped: the first of those of such a line, and how they end.
-use Rattle.std.specs.Prelude.{◌≡◌, ◌⊎◌, ℕ, List, [], ◌∷◌, ◌++◌, map, flat_map, All, Bool, true, Option, None, Some}
+use Rattle.std.specs.Prelude.{◌≡◌, ◌⊎◌, ℕ, ◌<◌, List, [], ◌∷◌, ◌++◌, map, flat_map, All, Bool, true, Option, None, Some}
 use Rattle.std.specs.List.Sorted.{IsStrictlySortedBy}
 use Rattle.std.specs.Map.{keys_of}
 use Rattle.std.specs.Ordering.{nat_cmp}
@@ -21,7 +21,7 @@ use Rattle.script_text.specs.declared.lines.Line.{Line}
 use Rattle.script_text.specs.declared.lines.Line.TheVariants.{Event, Start, Kill, Step, Settle}
 use Rattle.deeds.specs.Deeds.{entry_of, Deed, Enters, Refreshes, Gives, Breaks, Loses, IsServed}
 use Rattle.deeds.specs.Given.{Given, given_of, given_behind}
-use Rattle.hsm_replay.specs.Parts.{Exchange, done_by, IsWork, IsUpToRest, IsTurn, AreResumes, resume_of, joined, are_quiet, AreBusy, Follows}
+use Rattle.hsm_replay.specs.Parts.{Exchange, done_by, IsWork, IsUpToRest, IsTurn, AreResumes, ResumesInTurn, resume_of, entries_below, joined, are_quiet, AreBusy, Follows}
 
 -- What a run has come to where it was stopped: to an event whose entry says that the disk failed; to one of which there is no entry, since memory ran out or
 -- the store was closed before; or to no event, where a machine, a copy or a fetch lacked memory.
@@ -82,35 +82,36 @@ IsTurnCut daemon given ending deeds = IsTurnCutFrom daemon (given_of daemon give
 
 -- ---- resumes
 
--- callers resumed in order of number, and the last of them, whose access may go on, was stopped
-pub record AreResumesCut (MayGoOn : ℕ → Type 0) (ending : Ending) (deeds : List Deed) : Type 0 where
+-- callers resumed in order of number, of those below the last exactly the ones whose access may go on; and the last, whose may too, was stopped
+pub record AreResumesCut (MayGoOn : List Entry → ℕ → Type 0) (given : Given) (ending : Ending) (deeds : List Deed) : Type 0 where
   pub told : List (ℕ × Answer)
   pub caller : ℕ
-  pub may : MayGoOn caller
   pub last : List Deed
   pub parted : deeds ≡ map resume_of told ++ last
   pub numbers : All IsCallerNumber (keys_of told ++ caller ∷ [])
   pub ascend : IsStrictlySortedBy nat_cmp (keys_of told ++ caller ∷ [])
+  pub ready : (lower : ℕ) → IsCallerNumber lower → lower < caller → ResumesInTurn MayGoOn given.history told lower
+  pub may : MayGoOn (given.history ++ entries_below caller told) caller
   pub served : All (λ (x : ℕ × Answer). IsServed x.1) told
   pub cut : IsEventCut (Caller caller) Resume ending last
 
--- Which entries are quiet, and whose access may go on, is asked of whoever reads.
-module _ (quiet : Entry → Bool) (MayGoOn : ℕ → Type 0) where
+-- Asked of whoever reads: which entries are quiet, and whose access may go on behind entries.
+module _ (quiet : Entry → Bool) (MayGoOn : List Entry → ℕ → Type 0) where
   -- ---- settles
 
   -- recall's turn was stopped, or behind it the resumes, or behind both, where all was quiet, migration's turn
   abbrev pub IsRoundCut : Given → Ending → List Deed → Type 0
   IsRoundCut given ending deeds =
       IsTurnCut Recall given ending deeds
-      ⊎ (((recalls resumes : List Deed) × (deeds ≡ recalls ++ resumes) × IsTurn Recall given recalls × AreResumesCut MayGoOn ending resumes)
-      ⊎ ((recalls resumes migrates : List Deed) × (deeds ≡ recalls ++ (resumes ++ migrates)) × IsTurn Recall given recalls × AreResumes resumes × (are_quiet quiet (recalls ++ resumes) ≡ true) × IsTurnCut Migrate given ending migrates))
+      ⊎ (((recalls resumes : List Deed) × (deeds ≡ recalls ++ resumes) × IsTurn Recall given recalls × AreResumesCut MayGoOn (given_behind recalls given) ending resumes)
+      ⊎ ((recalls resumes migrates : List Deed) × (deeds ≡ recalls ++ (resumes ++ migrates)) × IsTurn Recall given recalls × AreResumes MayGoOn (given_behind recalls given) resumes × (are_quiet quiet (recalls ++ resumes) ≡ true) × IsTurnCut Migrate given ending migrates))
 
   -- rounds that aren't quiet, and then one that was stopped
   pub record IsSettleCut (given : Given) (ending : Ending) (deeds : List Deed) : Type 0 where
     pub rounds : List (List Deed)
     pub last : List Deed
     pub parted : deeds ≡ Refreshes ∷ (joined rounds ++ last)
-    pub busy : AreBusy quiet given rounds
+    pub busy : AreBusy quiet MayGoOn given rounds
     pub cut : IsRoundCut (given_behind (joined rounds) given) ending last
 
   -- ---- lines
@@ -132,9 +133,9 @@ module _ (quiet : Entry → Bool) (MayGoOn : ℕ → Type 0) where
     pub last : List Deed
     pub lines_parted : lines ≡ whole ++ line ∷ left
     pub parted : deeds ≡ done ++ last
-    pub follows : Follows quiet given whole done
+    pub follows : Follows quiet MayGoOn given whole done
     pub cut : IsLineCut line (given_behind done given) ending last
 
   -- What follows lines, and behind it deeds at which a run was stopped in others, are deeds at which it was stopped in them all.
   abbrev pub StopsOn : Given → List Line → List Line → Type 0
-  StopsOn given lines more = (ending : Ending) (deeds then : List Deed) → Follows quiet given lines deeds → StopsIn (given_behind deeds given) more ending then → StopsIn given (lines ++ more) ending (deeds ++ then)
+  StopsOn given lines more = (ending : Ending) (deeds then : List Deed) → Follows quiet MayGoOn given lines deeds → StopsIn (given_behind deeds given) more ending then → StopsIn given (lines ++ more) ending (deeds ++ then)

@@ -4,7 +4,8 @@ ghost use Rattle.script_text.specs.Lines.{IsLine, IsEvent};
 ghost use Rattle.script_text.specs.declared.lines.Line.TheVariants.{Event};
 ghost use Rattle.marked_history.specs.Follows.{IsPartOf};
 ghost use Rattle.marked_history.specs.Quiet.{is_quiet};
-ghost use Rattle.hsm_replay.specs.Deeds.{ByDeeds, MayGoOn};
+ghost use Rattle.hsm_replay.specs.Deeds.{ByDeeds};
+ghost use Rattle.hsm_replay.specs.GoingOn.{MayGoOn};
 ghost use Rattle.hsm_replay.specs.Keeping.{Moves};
 ghost use Rattle.hsm_replay.specs.Parts.{IsLinePart};
 ghost use Rattle.hsm_replay.specs.Stopped.{IsLineCut};
@@ -33,7 +34,7 @@ impl<D: Disk, M: Drive> Replay<D, M> {
         ensures does { Does D.Disk M.Drive line result self.old self.new }
         ensures runs { running self.new ≡ running_by line (running self.old) }
         ensures left { LeadsOn M.Drive (IsPartOf line) (IsLeftBy line self.old self.new) result self.old self.new }
-        ensures deeds { ByDeeds M.Drive (λ done. IsLinePart is_quiet line) (IsLineCut is_quiet (MayGoOn self.new) line) result self.old self.new }
+        ensures deeds { ByDeeds M.Drive (λ done. IsLinePart is_quiet (MayGoOn self.old.system.store) line) (IsLineCut is_quiet (MayGoOn self.old.system.store) line) result self.old self.new }
     {
         match line {
             Line::Event { actor, action, .. } => self.event(alloc, actor, action),
@@ -55,7 +56,7 @@ impl<D: Disk, M: Drive> Replay<D, M> {
         requires { (seed : Option ℕ) × IsEvent actor action seed }
         ensures moves { (seed : Option ℕ) → Moves D.Disk M.Drive (IsPartOf (Event actor action seed)) result self.old self.new }
         ensures does { (seed : Option ℕ) → Does D.Disk M.Drive (Event actor action seed) result self.old self.new }
-        ensures deeds { (seed : Option ℕ) → ByDeeds M.Drive (λ done. IsLinePart is_quiet (Event actor action seed)) (IsLineCut is_quiet (MayGoOn self.new) (Event actor action seed)) result self.old self.new }
+        ensures deeds { (seed : Option ℕ) → ByDeeds M.Drive (λ done. IsLinePart is_quiet (MayGoOn self.old.system.store) (Event actor action seed)) (IsLineCut is_quiet (MayGoOn self.old.system.store) (Event actor action seed)) result self.old self.new }
     {
         self.system.event(alloc, event_of(actor, action))
     }
@@ -65,7 +66,7 @@ impl<D: Disk, M: Drive> Replay<D, M> {
         ensures moves { Moves D.Disk M.Drive (IsPartOf commit_line) result self.old self.new }
         ensures does { Does D.Disk M.Drive commit_line result self.old self.new }
         ensures durable { OnOk result (IsAllDurable self.new.system.store) }
-        ensures deeds { ByDeeds M.Drive (λ done. IsLinePart is_quiet commit_line) (IsLineCut is_quiet (MayGoOn self.new) commit_line) result self.old self.new }
+        ensures deeds { ByDeeds M.Drive (λ done. IsLinePart is_quiet (MayGoOn self.old.system.store) commit_line) (IsLineCut is_quiet (MayGoOn self.old.system.store) commit_line) result self.old self.new }
     {
         self.system.event(alloc, Made::Commit)
     }

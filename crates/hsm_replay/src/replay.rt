@@ -9,7 +9,8 @@ ghost use Rattle.marked_history.specs.Follows.{IsOfSettling, IsStepOf};
 ghost use Rattle.hsm_system.specs.Asking.{MigrateIsRight, RecallIsRight};
 ghost use Rattle.hsm_system.specs.Systems.{Rests};
 ghost use Rattle.deeds.specs.Deeds.{Kills, Refreshes, Starts};
-ghost use Rattle.hsm_replay.specs.Deeds.{ByDeeds, IsResumeCut, MayGoOn, MayResumeBy, RunsBy};
+ghost use Rattle.hsm_replay.specs.Deeds.{ByDeeds, IsResumeCut, MayResumeBy, RunsBy};
+ghost use Rattle.hsm_replay.specs.GoingOn.{MayGoOn};
 ghost use Rattle.hsm_replay.specs.Keeping.{Moves};
 ghost use Rattle.hsm_replay.specs.Parts.{IsStep};
 ghost use Rattle.hsm_replay.specs.Stopped.{IsStepCut};
@@ -159,8 +160,9 @@ impl<D: Disk, M: Drive> Replay<D, M> {
         ensures moves { Moves D.Disk M.Drive (AllByRecursion IsOfSettling) result self.old self.new }
         ensures resumed { OnOk result (MayResume caller self.old self.new) }
         ensures runs { running self.new ≡ running self.old }
-        ensures deeds { ByDeeds M.Drive (λ done. MayResumeBy caller) (IsResumeCut (MayGoOn self.new) caller) result self.old self.new }
+        ensures deeds { ByDeeds M.Drive (λ done. MayResumeBy (MayGoOn self.old.system.store) caller) (IsResumeCut (MayGoOn self.old.system.store) caller) result self.old self.new }
     {
+        self.kept();
         if !self.is_ready(caller) {
             return Ok(());
         }

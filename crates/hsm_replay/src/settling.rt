@@ -3,11 +3,12 @@ ghost use Rattle.std.specs.Prelude.{◌≡◌, ◌≤◌, length, drop, true, If
 ghost use Rattle.std.specs.List.{AllByRecursion, list_all};
 ghost use Rattle.hsm_types.specs.Callers.{IsCallerNumber};
 ghost use Rattle.marked_history.specs.Follows.{IsMadeBy, IsOfSettling};
-ghost use Rattle.hsm_replay.specs.Deeds.{AreResumesCutIn, AreResumesOf, ByDeeds, IsResumeCut, IsRoundOf, MayGoOn, MayResumeBy};
+ghost use Rattle.hsm_replay.specs.Deeds.{ByDeeds, IsResumeCut, IsRoundOf, MayResumeBy};
 ghost use Rattle.hsm_replay.specs.Freshness.{StaysFresh};
+ghost use Rattle.hsm_replay.specs.GoingOn.{MayGoOn};
 ghost use Rattle.hsm_replay.specs.Keeping.{Moves};
-ghost use Rattle.hsm_replay.specs.Parts.{IsLeft, IsSettle, IsTurn};
-ghost use Rattle.hsm_replay.specs.Stopped.{IsLeftCut, IsRoundCut, IsSettleCut, IsTurnCut};
+ghost use Rattle.hsm_replay.specs.Parts.{AreResumes, IsLeft, IsSettle, IsTurn};
+ghost use Rattle.hsm_replay.specs.Stopped.{AreResumesCut, IsLeftCut, IsRoundCut, IsSettleCut, IsTurnCut};
 ghost use Rattle.hsm_system.specs.Systems.{Rests};
 ghost use Rattle.marked_history.specs.Quiet.{is_quiet};
 ghost use Rattle.hsm_replay.specs.Resting.{EndsMarked, IsSettledIn, LeadsOn};
@@ -33,7 +34,7 @@ impl<D: Disk, M: Drive> Replay<D, M> {
         ensures settled { OnOk result (IsSettled self.old self.new) }
         ensures settles { LeadsOn M.Drive (AllByRecursion IsOfSettling) (IsSettledIn self.new) result self.old self.new }
         ensures runs { running self.new ≡ running self.old }
-        ensures deeds { ByDeeds M.Drive (λ done. IsSettle is_quiet) (IsSettleCut is_quiet (MayGoOn self.new)) result self.old self.new }
+        ensures deeds { ByDeeds M.Drive (λ done. IsSettle is_quiet (MayGoOn self.old.system.store)) (IsSettleCut is_quiet (MayGoOn self.old.system.store)) result self.old self.new }
     {
         self.refresh();
         loop {
@@ -52,7 +53,7 @@ impl<D: Disk, M: Drive> Replay<D, M> {
         ensures quiet { IfOk result (λ quiet. quiet ≡ list_all is_quiet (drop (length self.old.system.store.history) self.new.system.store.history)) }
         ensures ends { IfOk result (λ quiet. quiet ≡ true → EndsMarked M.Drive self.old self.new) }
         ensures runs { running self.new ≡ running self.old }
-        ensures deeds { ByDeeds M.Drive IsRoundOf (IsRoundCut is_quiet (MayGoOn self.new)) result self.old self.new }
+        ensures deeds { ByDeeds M.Drive (IsRoundOf (MayGoOn self.old.system.store)) (IsRoundCut is_quiet (MayGoOn self.old.system.store)) result self.old self.new }
     {
         let before = self.entries();
         self.turn(alloc, Daemon::Recall)?;
@@ -108,7 +109,7 @@ impl<D: Disk, M: Drive> Replay<D, M> {
         ensures moves { Moves D.Disk M.Drive (AllByRecursion IsOfSettling) result self.old self.new }
         ensures resumed { OnOk result (HaveResumed self.old self.new) }
         ensures runs { running self.new ≡ running self.old }
-        ensures deeds { ByDeeds M.Drive (λ done. AreResumesOf) (AreResumesCutIn (MayGoOn self.new)) result self.old self.new }
+        ensures deeds { ByDeeds M.Drive (λ done. AreResumes (MayGoOn self.old.system.store)) (AreResumesCut (MayGoOn self.old.system.store)) result self.old self.new }
     {
         for number in 1..u64::from(CALLERS) + 1 {
             self.resume_at(alloc, number)?;
@@ -122,7 +123,7 @@ impl<D: Disk, M: Drive> Replay<D, M> {
         ensures moves { Moves D.Disk M.Drive (AllByRecursion IsOfSettling) result self.old self.new }
         ensures resumed { OnOk result (MayResume number self.old self.new) }
         ensures runs { running self.new ≡ running self.old }
-        ensures deeds { ByDeeds M.Drive (λ done. MayResumeBy number) (IsResumeCut (MayGoOn self.new) number) result self.old self.new }
+        ensures deeds { ByDeeds M.Drive (λ done. MayResumeBy (MayGoOn self.old.system.store) number) (IsResumeCut (MayGoOn self.old.system.store) number) result self.old self.new }
     {
         let Some(caller) = CallerId::new(number) else {
             unreachable!()

@@ -1,5 +1,6 @@
+use Rattle.hsm_replay.specs.GoingOn.{MayGoOn}
 use Rattle.hsm_replay.proofs.PartsDone as law
 use Rattle.hsm_replay.proofs.laws.follows_so.Goals as goal
 
 pub returns : goal.returns
-returns c = law.follows_so
+returns g c quiet s lines deeds = law.follows_so quiet (MayGoOn s) lines deeds

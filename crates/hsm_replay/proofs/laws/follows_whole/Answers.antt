@@ -1,5 +1,6 @@
+use Rattle.hsm_replay.specs.GoingOn.{MayGoOn}
 use Rattle.hsm_replay.proofs.PartsDone as law
 use Rattle.hsm_replay.proofs.laws.follows_whole.Goals as goal
 
 pub returns : goal.returns
-returns c = law.follows_whole
+returns g c quiet s lines deeds = law.follows_whole quiet (MayGoOn s) lines deeds

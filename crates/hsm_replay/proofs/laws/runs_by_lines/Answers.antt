@@ -1,5 +1,6 @@
+use Rattle.hsm_replay.specs.GoingOn.{MayGoOn}
 use Rattle.hsm_replay.proofs.PartsRun as law
 use Rattle.hsm_replay.proofs.laws.runs_by_lines.Goals as goal
 
 pub returns : goal.returns
-returns c = law.runs_by_lines
+returns g c quiet s daemon lines = law.runs_by_lines quiet (MayGoOn s) daemon lines

@@ -1,20 +1,21 @@
 use Rattle.std.proofs.Common.{◌≡◌, ◌∙◌, ◌+◌, Ok, Err, refl, rules}
 use Rattle.std.proofs.lemmas.Result.{err_from_is_err_and}
 use Rattle.hsm_types.specs.Limits.{callers}
+use Rattle.hsm_replay.specs.GoingOn.{MayGoOn}
 use Rattle.hsm_replay.proofs.Joining.{moves_itself, moves_then}
 use Rattle.hsm_replay.proofs.Rounds.{resumed_none, resumed_on, resumed_all}
 use Rattle.hsm_replay.proofs.DeedRounds.{resumed_none_by, resumed_on_by, resumed_all_by, resumed_stopped}
 use Rattle.hsm_replay.proofs.replay.Replay.resume_all.Goals as goal
 
 pub loop-number-init : goal.loop-number-init
-loop-number-init g c = record { moves = moves_itself g.D.Disk g.M.Drive tt c.args.self.now; resumed = resumed_none c.args.self.now; runs = refl; deeds = resumed_none_by g.M.Drive c.args.self.now }
+loop-number-init g c = record { moves = moves_itself g.D.Disk g.M.Drive tt c.args.self.now; resumed = resumed_none c.args.self.now; runs = refl; deeds = resumed_none_by g.M.Drive (MayGoOn c.args.self.now.system.store) c.args.self.now }
 
 pub loop-number-preserved : goal.loop-number-preserved
 loop-number-preserved g c = record {
   moves = moves_then g.D.Disk g.M.Drive tt (Ok tt) _ _ _ c.loop-number.invariant.runs c.loop-number.invariant.moves c.in_ok-resume_at.ensures.moves;
   resumed = resumed_on c.loop-number.number _ _ _ c.loop-number.invariant.resumed c.in_ok-resume_at.ensures.resumed;
   runs = c.in_ok-resume_at.ensures.runs ∙ c.loop-number.invariant.runs;
-  deeds = resumed_on_by g.M.Drive c.loop-number.number _ _ _ c.loop-number.invariant.deeds c.in_ok-resume_at.ensures.deeds;
+  deeds = resumed_on_by g.M.Drive c.loop-number.number _ _ _ c.loop-number.invariant.moves.runs.goes_on.opened c.loop-number.invariant.deeds c.in_ok-resume_at.ensures.deeds;
 }
 
 pub returns-in_err-resume_at-clause-moves : goal.returns-in_err-resume_at-clause-moves
@@ -28,7 +29,7 @@ returns-clause-moves g c = c.loop-number.invariant.moves
 pub returns-clause-resumed : goal.returns-clause-resumed
 returns-clause-resumed g c =
     let ends : c.loop-number.number ≡ callers + 1 = search rules in
-    resumed_all _ _ (rw ends at c.loop-number.invariant.resumed)
+    resumed_all c.args.self.now c.loop-number.self (rw ends at c.loop-number.invariant.resumed)
 
 pub returns-in_err-resume_at-clause-runs : goal.returns-in_err-resume_at-clause-runs
 returns-in_err-resume_at-clause-runs g c = c.in_err-resume_at.ensures.runs ∙ c.loop-number.invariant.runs
@@ -39,7 +40,9 @@ returns-clause-runs g c = c.loop-number.invariant.runs
 pub returns-in_err-resume_at-clause-deeds : goal.returns-in_err-resume_at-clause-deeds
 returns-in_err-resume_at-clause-deeds g c =
     let p = err_from_is_err_and c.from_residual.result c.from_residual.ensures.1 in
-    rw (p.1, p.2) (resumed_stopped g.M.Drive _ c.loop-number.number _ _ _ _ c.loop-number.invariant.deeds c.in_err-resume_at.ensures.deeds)
+    rw (p.1, p.2) (resumed_stopped g.M.Drive c.loop-number.number _ _ _ c.loop-number.invariant.moves.runs.goes_on.opened c.loop-number.invariant.deeds _ c.in_err-resume_at.ensures.deeds)
 
 pub returns-clause-deeds : goal.returns-clause-deeds
-returns-clause-deeds g c = resumed_all_by g.M.Drive c.loop-number.number _ _ c.loop-number.invariant.deeds
+returns-clause-deeds g c =
+    let ends : c.loop-number.number ≡ callers + 1 = search rules in
+    resumed_all_by g.M.Drive (MayGoOn c.args.self.now.system.store) c.args.self.now c.loop-number.self (rw ends at c.loop-number.invariant.deeds)

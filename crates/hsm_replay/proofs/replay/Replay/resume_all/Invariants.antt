@@ -2,6 +2,7 @@ use Rattle.std.proofs.Common.{◌≡◌, Ok}
 use Rattle.std.specs.List.{AllByRecursion}
 use Rattle.marked_history.specs.Follows.{IsOfSettling}
 use Rattle.hsm_replay.specs.Deeds.{IsDoneBy}
+use Rattle.hsm_replay.specs.GoingOn.{MayGoOn}
 use Rattle.hsm_replay.specs.Keeping.{Moves}
 use Rattle.hsm_replay.specs.Systems.{running}
 use Rattle.hsm_replay.proofs.DeedRounds.{HaveResumedTo}
@@ -13,5 +14,5 @@ invariant-loop-number g l = record {
   moves : Moves {T = Unit {0}} g.D.Disk g.M.Drive (AllByRecursion IsOfSettling) (Ok tt) l.fn.self l.self;
   resumed : ResumedTo l.number l.fn.self l.self;
   runs : running l.self ≡ running l.fn.self;
-  deeds : IsDoneBy g.M.Drive (HaveResumedTo l.number) l.fn.self l.self;
+  deeds : IsDoneBy g.M.Drive (HaveResumedTo (MayGoOn l.fn.self.system.store) l.number) l.fn.self l.self;
 }

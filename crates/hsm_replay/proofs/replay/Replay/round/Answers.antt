@@ -59,22 +59,22 @@ returns-in_err-turn-clause-deeds g c =
 pub returns-in_err-resume_all-clause-deeds : goal.returns-in_err-resume_all-clause-deeds
 returns-in_err-resume_all-clause-deeds g c =
     let p = err_from_is_err_and c.from_residual-in_err-resume_all.result c.from_residual-in_err-resume_all.ensures.1 in
-    rw (p.1, p.2) (resumes_cut_by g.M.Drive _ _ _ _ _ c.in_ok-turn.ensures.deeds c.in_err-resume_all.ensures.deeds)
+    rw (p.1, p.2) (resumes_cut_by g.M.Drive _ _ _ _ c.in_ok-turn.ensures.moves.runs.goes_on.opened c.in_ok-turn.ensures.deeds c.in_err-resume_all.ensures.deeds)
 
 pub returns-then-not-is_quiet_since-clause-deeds : goal.returns-then-not-is_quiet_since-clause-deeds
-returns-then-not-is_quiet_since-clause-deeds g c = round_loud g.M.Drive _ _
+returns-then-not-is_quiet_since-clause-deeds g c = round_loud g.M.Drive _ _ _
     (sym c.if-not-is_quiet_since.true ∙ c.is_quiet_since.ensures ∙ ap (λ (n : ℕ). list_all is_quiet (drop n c.resume_all.new.self.system.store.history)) c.entries-before.ensures.count)
-    (round_begun_by g.M.Drive _ _ _ c.in_ok-turn.ensures.deeds c.in_ok-resume_all.ensures.deeds)
+    (round_begun_by g.M.Drive _ _ _ c.in_ok-turn.ensures.moves.runs.goes_on.opened c.in_ok-turn.ensures.deeds c.in_ok-resume_all.ensures.deeds)
 
 pub returns-in_err-turn-2-clause-deeds : goal.returns-in_err-turn-2-clause-deeds
 returns-in_err-turn-2-clause-deeds g c =
     let p = err_from_is_err_and c.from_residual-in_err-turn-2.result c.from_residual-in_err-turn-2.ensures.1 in
     rw (p.1, p.2) (migrate_cut g.M.Drive _ _ _ _ _ _ c.in_ok-turn.ensures.turned c.in_ok-resume_all.ensures.resumed
     (sym c.if-not-is_quiet_since.false ∙ c.is_quiet_since.ensures ∙ ap (λ (n : ℕ). list_all is_quiet (drop n c.resume_all.new.self.system.store.history)) c.entries-before.ensures.count)
-    (round_begun_by g.M.Drive _ _ _ c.in_ok-turn.ensures.deeds c.in_ok-resume_all.ensures.deeds) c.in_err-turn-2.ensures.deeds)
+    (round_begun_by g.M.Drive _ _ _ c.in_ok-turn.ensures.moves.runs.goes_on.opened c.in_ok-turn.ensures.deeds c.in_ok-resume_all.ensures.deeds) c.in_err-turn-2.ensures.deeds)
 
 pub returns-clause-deeds : goal.returns-clause-deeds
-returns-clause-deeds g c = round_done g.M.Drive _ _ _ _ _ c.in_ok-turn.ensures.turned c.in_ok-resume_all.ensures.resumed
+returns-clause-deeds g c = round_done g.M.Drive _ _ _ _ _ _ c.in_ok-turn.ensures.turned c.in_ok-resume_all.ensures.resumed
     (sym c.if-not-is_quiet_since.false ∙ c.is_quiet_since.ensures ∙ ap (λ (n : ℕ). list_all is_quiet (drop n c.resume_all.new.self.system.store.history)) c.entries-before.ensures.count)
     (c.is_quiet_since-2.ensures ∙ ap (λ (n : ℕ). list_all is_quiet (drop n c.turn-2.new.self.system.store.history)) c.entries-before.ensures.count)
-    (round_begun_by g.M.Drive _ _ _ c.in_ok-turn.ensures.deeds c.in_ok-resume_all.ensures.deeds) c.in_ok-turn-2.ensures.deeds
+    (round_begun_by g.M.Drive _ _ _ c.in_ok-turn.ensures.moves.runs.goes_on.opened c.in_ok-turn.ensures.deeds c.in_ok-resume_all.ensures.deeds) c.in_ok-turn-2.ensures.deeds

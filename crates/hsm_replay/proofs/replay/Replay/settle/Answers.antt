@@ -29,7 +29,7 @@ loop-self-preserved g c = record {
   moves = moves_then g.D.Disk g.M.Drive tt (Ok tt) _ _ _ c.loop-self.invariant.runs c.loop-self.invariant.moves (moves_with g.D.Disk g.M.Drive c.in_ok-round.field-0 tt _ _ c.in_ok-round.ensures.moves);
   fresh = fresh_on (refreshed c.args.self.now) c.loop-self.self c.round.new.self c.loop-self.invariant.fresh c.in_ok-round.ensures.fresh;
   runs = c.in_ok-round.ensures.runs ∙ c.loop-self.invariant.runs;
-  deeds = settle_on g.M.Drive _ _ _ c.in_ok-round.field-0 c.if-branch.false c.loop-self.invariant.deeds c.in_ok-round.ensures.deeds;
+  deeds = settle_on g.M.Drive _ _ _ c.loop-self.invariant.moves.runs.goes_on.opened c.loop-self.invariant.deeds c.in_ok-round.field-0 c.in_ok-round.ensures.deeds c.if-branch.false;
 }
 
 pub loop-self-smaller : goal.loop-self-smaller
@@ -66,7 +66,7 @@ returns-in_err-round-clause-runs g c = c.in_err-round.ensures.runs ∙ c.loop-se
 pub returns-in_err-round-clause-deeds : goal.returns-in_err-round-clause-deeds
 returns-in_err-round-clause-deeds g c =
     let p = err_from_is_err_and c.from_residual.result c.from_residual.ensures.1 in
-    rw (p.1, p.2) (settle_stopped g.M.Drive _ _ _ _ _ c.loop-self.invariant.deeds c.in_err-round.ensures.deeds)
+    rw (p.1, p.2) (settle_stopped g.M.Drive _ _ _ c.loop-self.invariant.moves.runs.goes_on.opened c.loop-self.invariant.deeds _ c.in_err-round.ensures.deeds)
 
 pub returns-then-branch-clause-deeds : goal.returns-then-branch-clause-deeds
-returns-then-branch-clause-deeds g c = settle_done g.M.Drive _ _ _ c.in_ok-round.field-0 c.if-branch.true c.loop-self.invariant.deeds c.in_ok-round.ensures.deeds
+returns-then-branch-clause-deeds g c = settle_done g.M.Drive _ _ _ c.loop-self.invariant.moves.runs.goes_on.opened c.loop-self.invariant.deeds c.in_ok-round.field-0 c.in_ok-round.ensures.deeds c.if-branch.true

@@ -4,6 +4,7 @@ use Rattle.marked_history.specs.Follows.{IsOfSettling}
 use Rattle.marked_history.specs.Quiet.{is_quiet}
 use Rattle.hsm_replay.specs.Deeds.{IsDoneBy}
 use Rattle.hsm_replay.specs.Freshness.{StaysFresh}
+use Rattle.hsm_replay.specs.GoingOn.{MayGoOn}
 use Rattle.hsm_replay.specs.Keeping.{Moves}
 use Rattle.hsm_replay.specs.Systems.{running, refreshed}
 use Rattle.hsm_replay.proofs.PartsOn.{RoundsTo}
@@ -14,7 +15,7 @@ invariant-loop-self g l = record {
   moves : Moves {T = Unit {0}} g.D.Disk g.M.Drive (AllByRecursion IsOfSettling) (Ok tt) l.fn.self l.self;
   fresh : StaysFresh (refreshed l.fn.self) l.self;
   runs : running l.self ≡ running l.fn.self;
-  deeds : IsDoneBy g.M.Drive (RoundsTo is_quiet) l.fn.self l.self;
+  deeds : IsDoneBy g.M.Drive (RoundsTo is_quiet (MayGoOn l.fn.self.system.store)) l.fn.self l.self;
 }
 
 abbrev pub decreases-loop-self : goal.decreases-loop-self
