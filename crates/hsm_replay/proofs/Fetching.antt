@@ -42,7 +42,7 @@ module _ {M : Type 0} (g : drive.Ghosts M) (ds : List M) (entry : StubEntry) (d 
   heard_of_fault faults each grown (Failed volume object before after) cause =
       let began : before ≡ g.fault_count d = cause.2 in
       let ended : after ≡ g.fault_count e = cause.3 in
-      let tells : TellsFault g e (Failed volume object before after) = (cause.4, omega (arith, ended)) in
+      let tells : TellsFault g e (Failed volume object before after) = (cause.4, omega (arith, ended), cause.5) in
       let apart = all_ended g ds (entry_place entry).volume object after d at faults each in
       let apart_so = subst (λ (v : ℕ). AllByRecursion (λ earlier. IsApart (length ds) earlier (Failed v object (g.fault_count d) after)) faults) (sym cause.0) apart in
       let apart_now = subst (λ (b : ℕ). AllByRecursion (λ earlier. IsApart (length ds) earlier (Failed volume object b after)) faults) (sym began) apart_so in

@@ -77,7 +77,7 @@ module _ {M : Type 0} (g : drive.Ghosts M) where
       (omega (arith, longer, had.0), had.1 ∙ ap (λ (o : List ℕ). print_of (drop 72 o)) (sym same))
 
   pub still_tells : (old new : M) → HasGrown g old new → (fault : Fault) → TellsFault g old fault → TellsFault g new fault
-  still_tells old new grown (Failed volume object before after) tells = (tells.0, omega (arith, tells.1, grown.faults))
+  still_tells old new grown (Failed volume object before after) tells = (tells.0, omega (arith, tells.1, grown.faults), tells.2)
   still_tells old new grown (Damaged volume object want got) tells = (tells.0, grown.volumes.has volume ∙ tells.1, later_print volume object got old new grown tells.2)
 
   -- ---- all drives

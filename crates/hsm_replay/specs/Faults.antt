@@ -1,7 +1,7 @@
 -- The faults of media that a history answers events for, and what the drives say of them.
 use Rattle.std.specs.Prelude.{◌≡◌, ◌≢◌, ℕ, ◌%◌, ◌≤◌, List, [], ◌∷◌, length, slice_get, true, Option, None, Some, IfSome}
 use Rattle.std.specs.List.{filter_map, AllByRecursion}
-use Rattle.disk_model.specs.Calls.{Rose}
+use Rattle.disk_model.specs.Calls.{Rose, raised}
 use Rattle.media_model.specs.declared.drive.Drive as drive
 use Rattle.hsm_types.specs.declared.dm.DmCall.TheVariants.{Respond}
 use Rattle.hsm_types.specs.declared.dm.Response.TheVariants.{Media}
@@ -34,10 +34,10 @@ AreApart count [] = Unit {0}
 AreApart count (fault ∷ faults) = AllByRecursion (IsApart count fault) faults × AreApart count faults
 
 module _ {M : Type 0} (g : drive.Ghosts M) where
-  -- The second number is above the first, and no more than the drive counts; or the volume is there, the payload that the medium gives has
+  -- The second number is one above the first, and no more than the drive counts; or the volume is there, the payload that the medium gives has
   -- the one fingerprint, and another is wanted.
   abbrev pub TellsFault : M → Fault → Type 0
-  TellsFault d (Failed volume object before after) = Rose before after × (after ≤ g.fault_count d)
+  TellsFault d (Failed volume object before after) = Rose before after × (after ≤ g.fault_count d) × (after ≡ raised before)
   TellsFault d (Damaged volume object want got) = (want ≢ got) × (g.has d volume ≡ true) × HasPrint (g.gives d volume) object got
 
   -- the drive that has the volume tells the fault
