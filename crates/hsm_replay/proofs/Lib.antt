@@ -1,9 +1,9 @@
 mod Telling
-mod PartsDone
+pub mod PartsDone
 mod PartsOn
 mod Resuming
 mod PartsRun
-mod Deeds
+pub mod Deeds
 mod DeedSteps
 mod DeedRounds
 mod GoingOn
