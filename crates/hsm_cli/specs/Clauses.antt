@@ -153,7 +153,8 @@ pub record LegalityClause {D M : Type 0} (g : disk.Ghosts D) (o : Outcome D M) :
   pub told : o.cause ≡ Some DiskFault → IsSome (opened_in o) → has_fault o.history ≡ true
   pub faultless : o.cause ≢ Some DiskFault → o.cause ≢ Some NoMemory → has_fault o.history ≡ false
 
--- From each plain map that the store stands for: where no digest clashes, the files after each beginning of the history are those that were never moved.
+-- From each plain map that the store stands for: where each restore brought the bytes that the map has, the files after each beginning of the history are
+-- those that were never moved.
 abbrev pub IsPlainOver : {D : Type 0} → Option (Store D) → List Entry → Type 0
 IsPlainOver opened history = (P : List File) → Stands (held_at opened).files P → IsPlain P history
 

@@ -1,8 +1,12 @@
 -- What holds of a history on any disk, also on one that doesn't give back what was written.
-use Rattle.std.specs.Prelude.{ℕ, ◌≡◌, Bool, IsTrue, List, [], ◌∷◌, take}
+use Rattle.std.specs.Prelude.{ℕ, ◌≡◌, ◌↔◌, Bool, IsTrue, List, [], ◌∷◌, take}
 use Rattle.hsm_types.specs.declared.keys.FileKey.{FileKey}
 use Rattle.hsm_types.specs.declared.stores.Superblock.{Superblock}
+use Rattle.plain_model.specs.declared.entries.Action.{Action}
+use Rattle.plain_model.specs.declared.entries.Actor.{Actor}
+use Rattle.plain_model.specs.declared.entries.Answer.{Answer}
 use Rattle.plain_model.specs.declared.entries.Entry.{Entry}
+use Rattle.plain_model.specs.Exact.{IsOwn, IsOwnSeen}
 use Rattle.plain_model.specs.Faults.{FaultIsLast}
 use Rattle.plain_model.specs.Laws.{IsRunSeen, IsGoodFrom, IsPlain, state_at}
 use Rattle.plain_model.specs.Legal.{Legal, After}
@@ -10,7 +14,7 @@ use Rattle.plain_model.specs.Plain.{File}
 use Rattle.plain_model.specs.Side.{sides_of, side_after}
 use Rattle.plain_model.specs.Stamps.{stamp}
 use Rattle.plain_model.specs.Stands.{Stands}
-use Rattle.plain_model.specs.State.{Held}
+use Rattle.plain_model.specs.State.{Held, State}
 use Rattle.plain_model.specs.Step.{World, start, Allows, after}
 use Rattle.seen_history.specs.Alike.{IsAlike, AreAlike}
 use Rattle.seen_history.specs.Outlines.{StandsSeen}
@@ -51,3 +55,7 @@ SeenIsGood tells s base h es = IsRunSeen (IsTrue tells) s base h es → IsGoodSe
 pub record GoodWhereTold (s : Superblock) (base : ℕ) (h : Held) (es : List Entry) (P : List File) : Type 0 where
   pub good : IsGoodSeenFrom (Unit {0}) s base h es P → IsGoodFrom s base h es P
   pub seen : IsGoodFrom s base h es P → IsGoodSeenFrom (Unit {0}) s base h es P
+
+-- Where it tells, the answer over what is seen of files is the one over what is held, of each event.
+abbrev pub OwnWhereTold : Superblock → State → Actor → Action → Answer → Type 0
+OwnWhereTold s st actor action answer = IsOwnSeen (Unit {0}) s st actor action answer ↔ IsOwn s st actor action answer
