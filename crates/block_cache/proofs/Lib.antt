@@ -1,0 +1,3 @@
+pub mod Used
+pub mod Runs
+pub mod PartLists
