@@ -39,9 +39,9 @@ not_before ino block e un b = let bad : true ≡ false = sym (before_to ino bloc
 pub before_through : (ino block : ℕ) (e f : Extent) → precedes f.ino f.block e ≡ true → precedes ino block f ≡ true → precedes ino block e ≡ true
 before_through ino block e f low high =
     before_to ino block e (⊎_elim
-        (λ lt. ⊎_elim (λ lt'. inl (omega (arith, lt, lt'))) (λ at'. inl (omega (arith, lt, at'.0))) (before_from ino block f high))
-        (λ at. ⊎_elim (λ lt'. inl (omega (arith, at.0, lt'))) (λ at'. inr (at.0 ∙ at'.0, omega (arith, at.1, at'.1))) (before_from ino block f high))
-        (before_from f.ino f.block e low))
+    (λ lt. ⊎_elim (λ lt'. inl (omega (arith, lt, lt'))) (λ at'. inl (omega (arith, lt, at'.0))) (before_from ino block f high))
+    (λ at. ⊎_elim (λ lt'. inl (omega (arith, at.0, lt'))) (λ at'. inr (at.0 ∙ at'.0, omega (arith, at.1, at'.1))) (before_from ino block f high))
+    (before_from f.ino f.block e low))
 
 -- ---- by places
 

@@ -77,9 +77,9 @@ placed_others e i b es other = go es
     go (x ∷ es) = (elim (precedes e.ino e.block x) as (λ y. precedes e.ino e.block x ≡ y → place_of i b (with_extent e (x ∷ es)) ≡ place_of i b (x ∷ es)) [
       | true ↦ λ t. rw t (step x es (with_extent e es) (go es))
       | false ↦ λ t. rw t ((elim (is_at e.ino e.block x) as (λ y. is_at e.ino e.block x ≡ y → place_of i b (if y then e ∷ es else e ∷ x ∷ es) ≡ place_of i b (x ∷ es)) [
-          | true ↦ λ is. rw (not_e, not_x x is) refl
-          | false ↦ λ is. rw not_e refl
-        ]) refl)
+        | true ↦ λ is. rw (not_e, not_x x is) refl
+        | false ↦ λ is. rw not_e refl
+      ]) refl)
     ]) refl
 
 pub maps_to : (e : Extent) (es : List Extent) → MapsTo e.ino e.block e.at es (with_extent e es)
@@ -122,9 +122,9 @@ low_with e x [] first low = (first, tt)
 low_with e x (y ∷ es) first low = (elim (precedes e.ino e.block y) as (λ z. precedes e.ino e.block y ≡ z → AllByRecursion (λ y. precedes y.ino y.block x ≡ true) (with_extent e (y ∷ es))) [
   | true ↦ λ t. rw t (low.0, low_with e x es first low.1)
   | false ↦ λ t. rw t ((elim (is_at e.ino e.block y) as (λ z. is_at e.ino e.block y ≡ z → AllByRecursion (λ y. precedes y.ino y.block x ≡ true) (if z then e ∷ es else e ∷ y ∷ es)) [
-      | true ↦ λ is. (first, low.1)
-      | false ↦ λ is. (first, low)
-    ]) refl)
+    | true ↦ λ is. (first, low.1)
+    | false ↦ λ is. (first, low)
+  ]) refl)
 ]) refl
 
 pub ascend_with : (e : Extent) (es : List Extent) → Ascend es → Ascend (with_extent e es)
@@ -132,7 +132,7 @@ ascend_with e [] a = (tt, tt)
 ascend_with e (x ∷ es) a = (elim (precedes e.ino e.block x) as (λ z. precedes e.ino e.block x ≡ z → Ascend (with_extent e (x ∷ es))) [
   | true ↦ λ t. rw t (low_with e x es t a.0, ascend_with e es a.1)
   | false ↦ λ t. rw t ((elim (is_at e.ino e.block x) as (λ z. is_at e.ino e.block x ≡ z → Ascend (if z then e ∷ es else e ∷ x ∷ es)) [
-      | true ↦ λ is. (low_at e x es is a.0, a.1)
-      | false ↦ λ is. ((other_first e x t is, low_through e x es (other_first e x t is) a.0), a)
-    ]) refl)
+    | true ↦ λ is. (low_at e x es is a.0, a.1)
+    | false ↦ λ is. ((other_first e x t is, low_through e x es (other_first e x t is) a.0), a)
+  ]) refl)
 ]) refl

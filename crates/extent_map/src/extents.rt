@@ -89,7 +89,11 @@ pub fn first_within(entries: &[Extent], ino: u64, from: u64, to: u64) -> Option<
         return None;
     }
     let entry = entries[index];
-    if precedes(&entry, ino, to) { Some(entry) } else { None }
+    if precedes(&entry, ino, to) {
+        Some(entry)
+    } else {
+        None
+    }
 }
 
 /// From which index to which the entries of the file's blocks from the first up to the second stand. It costs two binary searches.

@@ -84,7 +84,13 @@ impl ExtentMap {
 
     /// Takes the entries of the file's blocks from the first up to the second out, and tells where these lay. It costs two binary searches, and a move of
     /// the entries behind.
-    pub fn punch(&mut self, alloc: Global, ino: u64, from: u32, to: u32) -> Result<Freed, AllocError>
+    pub fn punch(
+        &mut self,
+        alloc: Global,
+        ino: u64,
+        from: u32,
+        to: u32,
+    ) -> Result<Freed, AllocError>
         ensures freed { IfOk result (λ f. f ≡ freed ino from to self.old.entries) }
         ensures punched { OnOk result (self.new ≡ record self.old { entries = punched ino from to self.old.entries }) }
         ensures holes { OnOk result (HasHoles ino from to self.old.entries self.new.entries) }
