@@ -4,6 +4,8 @@
 #[cfg(test)]
 mod answers;
 #[cfg(test)]
+mod caches;
+#[cfg(test)]
 mod disks;
 #[cfg(test)]
 mod drills;

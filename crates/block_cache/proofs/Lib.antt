@@ -1,0 +1,4 @@
+pub mod Used
+pub mod Runs
+pub mod PartLists
+pub mod Asked

@@ -1,0 +1,8 @@
+use Rattle.std.proofs.Common.{sym, arith}
+use Rattle.extent_map.proofs.map.ExtentMap.cut.Goals as goal
+
+pub invariant_of-self : goal.invariant_of-self
+invariant_of-self c = (c.take_within.ensures.order, omega (arith, c.take_within.ensures.capacity, c.self.invariant.1))
+
+pub returns-clause-holes : goal.returns-clause-holes
+returns-clause-holes c = rw (sym c.self.view_is) c.take_within.ensures.holes
