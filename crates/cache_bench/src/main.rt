@@ -29,7 +29,7 @@ fn words(rt: &(impl Env + AllocGlobal)) -> io::Result<Vec<String>> {
     Ok(words)
 }
 
-fn work(word: &str) -> Option<Work> {
+fn work_of(word: &str) -> Option<Work> {
     match word {
         "there" => Some(Work::There),
         "others" => Some(Work::Others),
@@ -42,7 +42,7 @@ fn work(word: &str) -> Option<Work> {
 /// What is to be done, and how often.
 fn asked(words: &[String]) -> Option<(Work, u32)> {
     match words {
-        [what, times] => Some((work(what.as_str())?, times.as_str().parse::<u32>().ok()?)),
+        [what, times] => Some((work_of(what.as_str())?, times.as_str().parse::<u32>().ok()?)),
         _ => None,
     }
 }
