@@ -24,7 +24,7 @@ use Rattle.hsm_cli.specs.Follows.{SettlesOn}
 use Rattle.hosts.specs.Hosts.{StoresAll}
 use Rattle.hsm_cli.specs.Sealing.{IsRightInMemory, IsRightInFolder}
 use Rattle.hsm_cli.specs.Texts.{IsUnwritten, TakesText, IsShown, AreUntold, AreCounted, drill_text}
-use Rattle.hsm_cli.specs.Told.{SourceTold, SinkTold, host_told}
+use Rattle.hsm_cli.specs.Told.{SourceTold, SinkTold, FailsOnce, host_told}
 use Rattle.hsm_cli.specs.Endings.{WritingEnds, RunEnds, FormatEnds, ShowEnds}
 use Rattle.hsm_cli.specs.Clauses.{HasRun, HasDrilled, HasRead, HasReadOn, IsUnread, TellsGiven, IsRunOver, IsGoodSeenOver, IsOrderlyOver, IsGoodOver, IsPlainOver}
 use Rattle.hsm_cli.specs.Clauses.{IsCausedOver, NoneFailed, TellsFaults}
@@ -72,10 +72,11 @@ module _ {H D M : Type 0} (t : host.Ghosts H D M) (g : disk.Ghosts D) (h : drive
       → (o.cause ≡ Some HostFault → o.disk ≡ None)
       → (o.disk ≡ None → (o.cause ≡ Some HostFault) ⊎ (o.cause ≡ Some NoMemory))
       → (o.cause ≢ Some HostFault → t.fault_count new ≡ t.fault_count old)
+      → FailsOnce (t.fault_count old) (t.fault_count new)
       → KeepsQuietly g o.history o.cause o.disk
       → FormatEnds (HasFailed g o.disk) (host_told t.fault_count old new) o.cause
       → IsUnread source → IsUnwritten sink → KeepsPromises t g h (Some (Format path size)) old new source sink o
-  format_keeps path size is formatted hands made unasked undriven folders lent back quiet sound ends unread unwritten = record {
+  format_keeps path size is formatted hands made unasked undriven folders lent back quiet host_once sound ends unread unwritten = record {
     script = idle [] is;
     deeds = tt;
     reading = unread;
@@ -88,7 +89,7 @@ module _ {H D M : Type 0} (t : host.Ghosts H D M) (g : disk.Ghosts D) (h : drive
     drives = (ap (λ (x : Outcome D M). x.drives) is, folders, undriven);
     output = unwritten;
     status = status_format g h (t.holds old) source sink (host_told t.fault_count old new) o path size (idle_told [] is) (idle_new [] is) lent back ends;
-    faults = record { reads = λ sound. unread.faults; writes = λ sound working ample. unwritten.faults; keeps = sound; hands = quiet; counts = tt };
+    faults = record { reads = λ sound. unread.faults; writes = λ sound working ample. unwritten.faults; keeps = sound; hands = quiet; counts = tt; source_once = inl unread.faults; sink_once = inl unwritten.faults; host_once = host_once };
   }
 
   pub show_keeps : (path : List ℕ)
@@ -103,9 +104,11 @@ module _ {H D M : Type 0} (t : host.Ghosts H D M) (g : disk.Ghosts D) (h : drive
       → (o.disk ≡ None → (o.cause ≡ Some HostFault) ⊎ (o.cause ≡ Some NoMemory))
       → TakesText (IsShown (t.holds old path) AreUntold) sink o.cause
       → (o.cause ≢ Some HostFault → t.fault_count new ≡ t.fault_count old)
+      → FailsOnce (t.fault_count old) (t.fault_count new)
+      → FailsOnce sink.before sink.now
       → ShowEnds (t.holds old path) (Rose (t.fault_count old) (t.fault_count new)) (HasFailed g o.disk) sink o.cause
       → IsUnread source → KeepsPromises t g h (Some (Show path)) old new source sink o
-  show_keeps path is reads hands asked unmade undriven folders lent back output quiet ends unread = record {
+  show_keeps path is reads hands asked unmade undriven folders lent back output quiet host_once sink_once ends unread = record {
     script = idle [] is;
     deeds = tt;
     reading = unread;
@@ -118,7 +121,7 @@ module _ {H D M : Type 0} (t : host.Ghosts H D M) (g : disk.Ghosts D) (h : drive
     drives = (ap (λ (x : Outcome D M). x.drives) is, folders, undriven);
     output = output;
     status = status_show g h (t.holds old) source sink (host_told t.fault_count old new) o (idle_told [] is) (idle_new [] is) path AreUntold output back lent ends;
-    faults = record { reads = λ sound. unread.faults; writes = text_quietly (IsShown (t.holds old path) AreUntold) sink o.cause output; keeps = λ works none. read_quietly g (t.holds old path) o.cause o.disk reads.2 works; hands = quiet; counts = tt };
+    faults = record { reads = λ sound. unread.faults; writes = text_quietly (IsShown (t.holds old path) AreUntold) sink o.cause output; keeps = λ works none. read_quietly g (t.holds old path) o.cause o.disk reads.2 works; hands = quiet; counts = tt; source_once = inl unread.faults; sink_once = sink_once; host_once = host_once };
   }
 
   pub volumes_keep : (path dir : List ℕ)
@@ -136,10 +139,12 @@ module _ {H D M : Type 0} (t : host.Ghosts H D M) (g : disk.Ghosts D) (h : drive
       → ((image : List ℕ) → t.holds old path image → FindsNothing image → IsSome o.disk → o.cause ≢ Some HostFault)
       → TakesText (IsShown (t.holds old path) (AreCounted (t.stores old dir))) sink o.cause
       → (o.cause ≢ Some HostFault → t.fault_count new ≡ t.fault_count old)
+      → FailsOnce (t.fault_count old) (t.fault_count new)
+      → FailsOnce sink.before sink.now
       → (o.cause ≢ Some HostFault → NeverFailed h o.drives)
       → ShowEnds (t.holds old path) (Rose (t.fault_count old) (t.fault_count new) ⊎ HasDriveFailed h o.drives) (HasFailed g o.disk) sink o.cause
       → IsUnread source → KeepsPromises t g h (Some (ShowVolumes path dir)) old new source sink o
-  volumes_keep path dir is reads hands asked unmade drives folders driven lent back unasked first output quiet well ends unread = record {
+  volumes_keep path dir is reads hands asked unmade drives folders driven lent back unasked first output quiet host_once sink_once well ends unread = record {
     script = idle o.drives is;
     deeds = tt;
     reading = unread;
@@ -152,7 +157,7 @@ module _ {H D M : Type 0} (t : host.Ghosts H D M) (g : disk.Ghosts D) (h : drive
     drives = (drives, folders, driven, unasked);
     output = output;
     status = status_volumes g h (t.holds old) source sink (host_told t.fault_count old new) o (idle_told o.drives is) (idle_new o.drives is) path (AreCounted (t.stores old dir)) output back dir lent first ends;
-    faults = record { reads = λ sound. unread.faults; writes = text_quietly (IsShown (t.holds old path) (AreCounted (t.stores old dir))) sink o.cause output; keeps = λ works none. read_quietly g (t.holds old path) o.cause o.disk reads.2 works; hands = quiet; counts = well };
+    faults = record { reads = λ sound. unread.faults; writes = text_quietly (IsShown (t.holds old path) (AreCounted (t.stores old dir))) sink o.cause output; keeps = λ works none. read_quietly g (t.holds old path) o.cause o.disk reads.2 works; hands = quiet; counts = well; source_once = inl unread.faults; sink_once = sink_once; host_once = host_once };
   }
 
   -- ---- forms that run lines on a new store
@@ -195,9 +200,11 @@ module _ {H D M : Type 0} (t : host.Ghosts H D M) (g : disk.Ghosts D) (h : drive
         → TakesTranscript o sink
         → ReadsQuietly source o.cause
         → WritesQuietly sink o.cause
+        → FailsOnce source.before source.now
+        → FailsOnce sink.before sink.now
         → RunEnds ⊥ ⊥ source sink o.cause
         → KeepsPromises t g h (Some Replay) old old source sink o
-    replay_keeps law script deeds reading output reads writes ends = record {
+    replay_keeps law script deeds reading output reads writes source_once sink_once ends = record {
       script = script;
       deeds = deeds;
       reading = reading;
@@ -210,7 +217,7 @@ module _ {H D M : Type 0} (t : host.Ghosts H D M) (g : disk.Ghosts D) (h : drive
       drives = nothing_left.3;
       output = output;
       status = status_new law g h (t.holds old) source sink (host_told t.fault_count old old) o told nothing_left ends;
-      faults = record { reads = reads; writes = writes; keeps = no_disk; hands = λ sound. refl; counts = tt };
+      faults = record { reads = reads; writes = writes; keeps = no_disk; hands = λ sound. refl; counts = tt; source_once = source_once; sink_once = sink_once; host_once = inl refl };
     }
 
     pub drill_keeps : (number : ℕ)
@@ -218,8 +225,9 @@ module _ {H D M : Type 0} (t : host.Ghosts H D M) (g : disk.Ghosts D) (h : drive
         → DeedsClause h (t.stores old) (Some (Drill number)) source o
         → TakesText (λ text. text ≡ drill_text number o.history) sink o.cause
         → IfSome o.cause (WritingEnds sink)
+        → FailsOnce sink.before sink.now
         → IsUnread source → KeepsPromises t g h (Some (Drill number)) old old source sink o
-    drill_keeps number script deeds output ends unread = record {
+    drill_keeps number script deeds output ends sink_once unread = record {
       script = script;
       deeds = deeds;
       reading = unread;
@@ -232,7 +240,7 @@ module _ {H D M : Type 0} (t : host.Ghosts H D M) (g : disk.Ghosts D) (h : drive
       drives = nothing_left.3;
       output = output;
       status = status_drill g h (t.holds old) source sink (host_told t.fault_count old old) o number told nothing_left ends;
-      faults = record { reads = λ sound. unread.faults; writes = text_quietly (λ text. text ≡ drill_text number o.history) sink o.cause output; keeps = no_disk; hands = λ sound. refl; counts = tt };
+      faults = record { reads = λ sound. unread.faults; writes = text_quietly (λ text. text ≡ drill_text number o.history) sink o.cause output; keeps = no_disk; hands = λ sound. refl; counts = tt; source_once = inl unread.faults; sink_once = sink_once; host_once = inl refl };
     }
 
   -- ---- one that runs them on a store of the host
@@ -262,10 +270,13 @@ module _ {H D M : Type 0} (t : host.Ghosts H D M) (g : disk.Ghosts D) (h : drive
       → KeepsQuietly g o.history o.cause o.disk
       → ReadsQuietly source o.cause
       → WritesQuietly sink o.cause
+      → FailsOnce source.before source.now
+      → FailsOnce sink.before sink.now
       → HandsQuietly (host_told t.fault_count old new) o.cause
+      → FailsOnce (t.fault_count old) (t.fault_count new)
       → Why g (t.holds old path) (Rose (t.fault_count old) (t.fault_count new)) source sink o.disk o.cause
       → KeepsPromises t g h (Some (ReplayStore path dir)) old new source sink o
-  store_keeps path dir law told command script deeds reading legality plain media caused crash output hands asked unmade lent drives folders driven begun opened back sound reads writes quiet why = record {
+  store_keeps path dir law told command script deeds reading legality plain media caused crash output hands asked unmade lent drives folders driven begun opened back sound reads writes source_once sink_once quiet host_once why = record {
     script = script;
     deeds = deeds;
     reading = reading;
@@ -278,5 +289,5 @@ module _ {H D M : Type 0} (t : host.Ghosts H D M) (g : disk.Ghosts D) (h : drive
     drives = (drives, folders, driven);
     output = output;
     status = status_store law g h (t.holds old) source sink (host_told t.fault_count old new) o (told.0, told.1) path dir told.2 command begun opened lent back why;
-    faults = record { reads = reads; writes = writes; keeps = sound; hands = quiet; counts = tt };
+    faults = record { reads = reads; writes = writes; keeps = sound; hands = quiet; counts = tt; source_once = source_once; sink_once = sink_once; host_once = host_once };
   }

@@ -1,6 +1,6 @@
 -- Counts of faults that stay as they were where no fault is told.
 use Rattle.std.proofs.Common.{◌≡◌, ◌≢◌, ◌∙◌, ℕ, Bool, true, false, List, [], ◌∷◌, Option, Some, None, Result, Ok, Err, IfErr, IsErrOf, IsOk, IfSome}
-use Rattle.std.proofs.Common.{refl, sym, ap, subst}
+use Rattle.std.proofs.Common.{inl, inr, refl, sym, ap, subst}
 use Rattle.std.proofs.lemmas.Bool.{false≢true}
 use Rattle.std.specs.Prelude.{map}
 use Rattle.disk_model.specs.declared.device.Disk as disk
@@ -15,12 +15,13 @@ use Rattle.script_text.specs.declared.lines.Line.{Line}
 use Rattle.hsm_cli.specs.declared.causes.Cause.{Cause}
 use Rattle.hsm_cli.specs.declared.causes.Cause.TheVariants.{ScriptRefused, WordsRefused, NotStore, Corrupt, ReadFault, WriteFault, DiskFault}
 use Rattle.hsm_cli.specs.declared.causes.Cause.TheVariants.{HostFault, NoMemory}
+use Rattle.hosts.specs.Hosts.{HasHostCause}
 use Rattle.hosts.specs.declared.outside.HostRefusal.{HostRefusal}
 use Rattle.hosts.specs.declared.outside.HostRefusal.TheVariants as handing
 use Rattle.hsm_cli.specs.Outcomes.{ended_with}
 use Rattle.hsm_cli.specs.Statuses.{cause_of_host, cause_of_classes}
 use Rattle.hsm_cli.specs.Texts.{TakesText}
-use Rattle.hsm_cli.specs.Told.{SourceTold, SinkTold, HostTold}
+use Rattle.hsm_cli.specs.Told.{SourceTold, SinkTold, HostTold, FailsOnce}
 use Rattle.hsm_cli.specs.Endings.{cause_in, WritingEnds, first_of}
 use Rattle.hsm_cli.specs.Clauses.{HasRun, ComesBackRead, ReadsQuietly, WritesQuietly, NeverFailed, CountsQuietly, FaultsClause}
 
@@ -115,6 +116,18 @@ never_yet g (x ∷ xs) (y ∷ ys) never quiet =
     let rest : map g.fault_count ys ≡ map g.fault_count xs = cc in
     (first ∙ never.0, never_yet g xs ys never.1 rest)
 
+-- ---- what failed in one call at most
+
+-- calls that did not fail, and then one more
+pub once_since : (a b c : ℕ) → b ≡ a → FailsOnce b c → FailsOnce a c
+once_since a b c same once = subst (λ n. FailsOnce n c) same once
+
+-- one call of a host
+pub asked_once : {T : Type 0} (result : Result T HostRefusal) (before after : ℕ) → HasHostCause result before after → FailsOnce before after
+asked_once (Ok x) before after cause = inl (cause.quiet (λ is. cc))
+asked_once (Err handing.Failed) before after cause = inr (cause.rose refl)
+asked_once (Err handing.Memory) before after cause = inl (cause.quiet (λ is. cc))
+
 -- ---- where nothing was done
 
 counts_none : {M : Type 0} (h : drive.Ghosts M) (form : Option Form) (cause : Option Cause) → CountsQuietly h form cause []
@@ -128,4 +141,4 @@ counts_none h (Some (Drill number)) cause = tt
 
 pub faults_idle : {D M : Type 0} (g : disk.Ghosts D) (h : drive.Ghosts M) (cause : Option Cause) (form : Option Form) (source : SourceTold) (sink : SinkTold) (host : HostTold) → source.now ≡ source.before → sink.now ≡ sink.before → host.now ≡ host.before
     → FaultsClause g h form source sink host (ended_with {D = D} {M = M} cause [] None)
-faults_idle g h cause form source sink host unread unwritten unasked = record { reads = λ sound. unread; writes = λ sound working ample. unwritten; keeps = λ works none. tt; hands = λ sound. unasked; counts = counts_none h form cause }
+faults_idle g h cause form source sink host unread unwritten unasked = record { reads = λ sound. unread; writes = λ sound working ample. unwritten; keeps = λ works none. tt; hands = λ sound. unasked; counts = counts_none h form cause; source_once = inl unread; sink_once = inl unwritten; host_once = inl unasked }

@@ -47,7 +47,7 @@ use Rattle.hsm_cli.specs.Follows.{SettlesOn, RunsAll, RunsFirst, DrillsAll, Dril
 use Rattle.hosts.specs.Hosts.{IsHanded, AreHanded, HoldsNothing, HoldsOthers, HoldsAll, StoresNothing, StoresOthers, StoresAll}
 use Rattle.hsm_cli.specs.Sealing.{IsRightInMemory, IsRightInFolder}
 use Rattle.hsm_cli.specs.Texts.{IsUnwritten, TakesText, IsShown, AreUntold, AreCounted, shown_drives, shown_volumes, drill_text}
-use Rattle.hsm_cli.specs.Told.{SourceTold, SinkTold, HostTold, host_told}
+use Rattle.hsm_cli.specs.Told.{SourceTold, SinkTold, HostTold, host_told, FailsOnce}
 
 -- ---- where the disk tells
 
@@ -598,13 +598,17 @@ abbrev pub CountsQuietly : {M : Type 0} → drive.Ghosts M → Option Form → O
 CountsQuietly g (Some (ShowVolumes path dir)) cause drives = cause ≢ Some HostFault → NeverFailed g drives
 CountsQuietly g other cause drives = Unit {0}
 
--- What has failed is told: a source, a host or a disk, a drive whose objects are counted, and a sink, unless something else is told.
+-- What has failed is told: a source, a host or a disk, a drive whose objects are counted, and a sink, unless something else is told. And a source, a sink
+-- and a host fail in one call at most, since the run ends for it.
 pub record FaultsClause {D M : Type 0} (g : disk.Ghosts D) (h : drive.Ghosts M) (form : Option Form) (source : SourceTold) (sink : SinkTold) (host : HostTold) (o : Outcome D M) : Type 0 where
   pub reads : ReadsQuietly source o.cause
   pub writes : WritesQuietly sink o.cause
   pub keeps : KeepsQuietly g o.history o.cause o.disk
   pub hands : HandsQuietly host o.cause
   pub counts : CountsQuietly h form o.cause o.drives
+  pub source_once : FailsOnce source.before source.now
+  pub sink_once : FailsOnce sink.before sink.now
+  pub host_once : FailsOnce host.before host.now
 
 -- ---- all of them
 

@@ -1,5 +1,10 @@
 -- What the objects of a run tell of it: before, and at its end.
-use Rattle.std.specs.Prelude.{ℕ, List, Option}
+use Rattle.std.specs.Prelude.{ℕ, ◌≡◌, ◌⊎◌, List, Option}
+use Rattle.disk_model.specs.Calls.{raised}
+
+-- it has failed in one call at most
+abbrev pub FailsOnce : ℕ → ℕ → Type 0
+FailsOnce before now = (now ≡ before) ⊎ (now ≡ raised before)
 
 -- the bytes that the source has left, and its counts of faults
 pub record SourceTold : Type 0 where

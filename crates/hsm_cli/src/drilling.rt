@@ -21,7 +21,7 @@ ghost use Rattle.hsm_cli.specs.Daemons.{IsWellServedOver, ServedIsWell};
 ghost use Rattle.hsm_cli.specs.Deeds.{AreDone, AreThese, DrivesInMemory, HasDone, HaveGone, MayGoOnOver, RunHasDone, without_objects};
 ghost use Rattle.hsm_cli.specs.Sealing.{TellsOf, IsRightInMemory};
 ghost use Rattle.hsm_cli.specs.Texts.{TakesText, HasLeft, drill_text};
-ghost use Rattle.hsm_cli.specs.Told.{sink_told};
+ghost use Rattle.hsm_cli.specs.Told.{FailsOnce, sink_told};
 ghost use Rattle.hsm_cli.specs.Endings.{cause_in, WritingEnds, LinesEnd};
 ghost use Rattle.hsm_cli.specs.Clauses.{HasDrilled, IsGoodOver, IsPlainOver, IsCausedOver, NoneFailed};
 ghost use Rattle.hsm_cli.specs.Runs.{IsOpenedAnew, IsReady};
@@ -86,6 +86,7 @@ pub(crate) fn drill<D: Disk, M, O: Sink>(alloc: Global, number: u64, sink: &mut 
     ensures caused_by { IsCausedOver {D = D} None result.history }
     ensures output { TakesText (λ text. text ≡ drill_text number result.history) (sink_told O.taken O.fault_count sink.old sink.new) result.cause }
     ensures ends { IfSome result.cause (WritingEnds (sink_told O.taken O.fault_count sink.old sink.new)) }
+    ensures once { FailsOnce (O.fault_count sink.old) (O.fault_count sink.new) }
 {
     seals_are_whole::<SureDrive>();
     match prepare(alloc, number) {
@@ -194,6 +195,7 @@ fn tell<D, M, O: Sink>(
     requires { IfErr drilled.now.ended (λ why. why ≡ Cause.NoMemory) }
     ensures text { TakesText (λ text. text ≡ summary_line number drilled.now.history drilled.now.used drilled.now.offline) (sink_told O.taken O.fault_count sink.old sink.new) (cause_in result) }
     ensures ends { IfErr result (WritingEnds (sink_told O.taken O.fault_count sink.old sink.new)) }
+    ensures once { FailsOnce (O.fault_count sink.old) (O.fault_count sink.new) }
     ensures ended { (cause_in result ≡ Some Cause.NoMemory) ⊎ IsOk drilled.now.ended }
 {
     drilled.ended?;

@@ -22,7 +22,7 @@ ghost use Rattle.hsm_cli.specs.Deeds.{AreDone, AreOfScript, HasDone, HaveGone, M
 ghost use Rattle.hsm_cli.specs.Clauses.{HasRun, HasRead, IsRunOver, IsOrderlyOver, IsGoodOver, IsPlainOver, IsCausedOver, IsWhole, IsBeforeRun};
 ghost use Rattle.hsm_cli.specs.Clauses.{RanToItsEnd, ReadsQuietly, WritesQuietly};
 ghost use Rattle.hsm_cli.specs.Endings.{cause_in, IsBeforeReading, ScriptEnds, WritingEnds, RunEnds, first_of};
-ghost use Rattle.hsm_cli.specs.Told.{source_told, sink_told};
+ghost use Rattle.hsm_cli.specs.Told.{FailsOnce, source_told, sink_told};
 ghost use Rattle.hsm_cli.specs.Runs.{IsOpenedAnew, IsReady};
 
 use crate::causes::Cause;
@@ -104,6 +104,8 @@ pub(crate) fn run_opened<D: Disk, M: Drive, I: Source, O: Sink>(
     ensures sound { has_fault result.history ≡ false → D.fault_count result.disk ≡ D.fault_count hsm.opened.disk }
     ensures reads { ReadsQuietly (source_told I.left I.fault_count source.old source.new) result.cause }
     ensures writes { WritesQuietly (sink_told O.taken O.fault_count sink.old sink.new) result.cause }
+    ensures source_once { FailsOnce (I.fault_count source.old) (I.fault_count source.new) }
+    ensures sink_once { FailsOnce (O.fault_count sink.old) (O.fault_count sink.new) }
     ensures ends { RunEnds (IsErrOf drives Cause.HostFault) (Rose (D.fault_count hsm.opened.disk) (D.fault_count result.disk)) (source_told I.left I.fault_count source.old source.new) (sink_told O.taken O.fault_count sink.old sink.new) result.cause }
 {
     one_recovery();
@@ -161,6 +163,7 @@ fn run_with<D: Disk, M: Drive, I: Source>(
     ensures served { IsServed result.hsm.history }
     ensures idle { OnErr drives (result.hsm ≡ hsm) }
     ensures quiet { (IsErrOf result.ended Cause.ReadFault → ⊥) → I.fault_count source.new ≡ I.fault_count source.old }
+    ensures once { FailsOnce (I.fault_count source.old) (I.fault_count source.new) }
     ensures drives { MatchResult drives (λ ds. HaveGrown M.Drive ds.items result.drives.items) (λ why. result.drives.items ≡ []) }
 {
     match drives {
@@ -202,6 +205,7 @@ fn run_script<D: Disk, M: Drive, I: Source>(
     ensures served { IsServed replay.new.system.store.history }
     ensures drives { HaveGrown M.Drive replay.old.drives replay.new.drives }
     ensures quiet { (IsErrOf result Cause.ReadFault → ⊥) → I.fault_count source.new ≡ I.fault_count source.old }
+    ensures once { FailsOnce (I.fault_count source.old) (I.fault_count source.new) }
 {
     let script = read_script(alloc, source)?;
     match run(alloc, replay, script, commits) {
@@ -219,6 +223,7 @@ fn read_script<I: Source>(alloc: Global, source: &mut I) -> Result<Script, Cause
     ensures part { GivesFirst (I.left source.old) (I.left source.new) }
     ensures refused { IfErr result (λ why. ScriptEnds ⊥ ⊥ (source_told I.left I.fault_count source.old source.new) why) }
     ensures quiet { (IsErrOf result Cause.ReadFault → ⊥) → I.fault_count source.new ≡ I.fault_count source.old }
+    ensures once { FailsOnce (I.fault_count source.old) (I.fault_count source.new) }
 {
     let bytes = read_all(alloc, source)?;
     match parse(alloc, bytes.as_slice()) {
@@ -234,6 +239,7 @@ fn write_transcript<O: Sink>(alloc: Global, sink: &mut O, history: &History) -> 
     ensures all { OnOk result (Appends (O.taken sink.old) (O.taken sink.new) (text_of history.now)) }
     ensures refused { IfErr result (λ why. WritingEnds (sink_told O.taken O.fault_count sink.old sink.new) why) }
     ensures quiet { (IsErrOf result Cause.WriteFault → ⊥) → O.fault_count sink.new ≡ O.fault_count sink.old }
+    ensures once { FailsOnce (O.fault_count sink.old) (O.fault_count sink.new) }
     ensures idle { history.now ≡ [] → IsOk result × (sink.new ≡ sink.old) }
 {
     if history.as_slice().is_empty() {

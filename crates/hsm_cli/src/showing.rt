@@ -8,7 +8,7 @@ ghost use Rattle.reconcile.specs.Classes.{AreRead, AreQuiet};
 ghost use Rattle.hsm_cli.specs.Outcomes.{ended_with};
 ghost use Rattle.hsm_cli.specs.Texts.{TakesText, IsShown, ShowsStore, AreUntold, AreCounted, GivesVolume};
 ghost use Rattle.hosts.specs.Hosts.{StoresAll};
-ghost use Rattle.hsm_cli.specs.Told.{sink_told};
+ghost use Rattle.hsm_cli.specs.Told.{FailsOnce, sink_told};
 ghost use Rattle.hsm_cli.specs.Endings.{cause_in, WritingEnds, ShowEnds, CountingEnds};
 ghost use Rattle.hsm_cli.specs.Clauses.{OnlyReads, HandsOut, HandsDrives, HasFailed, HasDriveFailed, FindsNothing, GivesShown, AsksShown, LacksShown};
 ghost use Rattle.hsm_cli.specs.Clauses.{NeverFailed};
@@ -47,6 +47,8 @@ pub(crate) fn show<H: Host, O: Sink>(
     ensures back { result.disk ≡ None → (result.cause ≡ Some Cause.HostFault) ⊎ (result.cause ≡ Some Cause.NoMemory) }
     ensures output { TakesText (IsShown (H.holds host.old path.now) AreUntold) (sink_told O.taken O.fault_count sink.old sink.new) result.cause }
     ensures quiet { result.cause ≢ Some Cause.HostFault → H.fault_count host.new ≡ H.fault_count host.old }
+    ensures host_once { FailsOnce (H.fault_count host.old) (H.fault_count host.new) }
+    ensures sink_once { FailsOnce (O.fault_count sink.old) (O.fault_count sink.new) }
     ensures ends { ShowEnds (H.holds host.old path.now) (Rose (H.fault_count host.old) (H.fault_count host.new)) (HasFailed H.Disk.Disk result.disk) (sink_told O.taken O.fault_count sink.old sink.new) result.cause }
 {
     let mut disk = match host.disk(path) {
@@ -64,6 +66,7 @@ fn show_disk<D: Disk, O: Sink>(alloc: Global, disk: &mut D, sink: &mut O) -> Res
     ensures quiet { cause_in result ≢ Some Cause.DiskFault → D.fault_count disk.new ≡ D.fault_count disk.old }
     ensures text { TakesText (IsShown (D.gives disk.old) AreUntold) (sink_told O.taken O.fault_count sink.old sink.new) (cause_in result) }
     ensures ends { ShowEnds (D.gives disk.old) ⊥ (Rose (D.fault_count disk.old) (D.fault_count disk.new)) (sink_told O.taken O.fault_count sink.old sink.new) (cause_in result) }
+    ensures once { FailsOnce (O.fault_count sink.old) (O.fault_count sink.new) }
 {
     let summary = inspect(alloc, disk)?;
     write_summary(alloc, &summary, None, sink)
@@ -92,6 +95,8 @@ pub(crate) fn show_volumes<H: Host, O: Sink>(
     ensures first { (image : List ℕ) → H.holds host.old path.now image → FindsNothing image → IsSome result.disk → result.cause ≢ Some Cause.HostFault }
     ensures output { TakesText (IsShown (H.holds host.old path.now) (AreCounted (H.stores host.old dir.now))) (sink_told O.taken O.fault_count sink.old sink.new) result.cause }
     ensures quiet { result.cause ≢ Some Cause.HostFault → H.fault_count host.new ≡ H.fault_count host.old }
+    ensures host_once { FailsOnce (H.fault_count host.old) (H.fault_count host.new) }
+    ensures sink_once { FailsOnce (O.fault_count sink.old) (O.fault_count sink.new) }
     ensures well { result.cause ≢ Some Cause.HostFault → NeverFailed H.Drive.Drive result.drives }
     ensures ends { ShowEnds (H.holds host.old path.now) (Rose (H.fault_count host.old) (H.fault_count host.new) ⊎ HasDriveFailed H.Drive.Drive result.drives) (HasFailed H.Disk.Disk result.disk) (sink_told O.taken O.fault_count sink.old sink.new) result.cause }
 {
@@ -127,6 +132,7 @@ fn show_classes<M: Drive, O: Sink>(
     ensures text { TakesText (ShowsStore summary.now (AreCounted (GivesVolume M.Drive drives.old))) (sink_told O.taken O.fault_count sink.old sink.new) (cause_in result) }
     ensures quiet { (IsErrOf result Cause.HostFault → ⊥) → AreQuiet M.Drive drives.old drives.new }
     ensures ends { IfErr result (CountingEnds (HasDriveFailed M.Drive drives.new) (sink_told O.taken O.fault_count sink.old sink.new)) }
+    ensures once { FailsOnce (O.fault_count sink.old) (O.fault_count sink.new) }
 {
     let counts = classes(alloc, &summary.table, drives, MOST_VOLUMES)?;
     write_summary(alloc, summary, Some(&counts), sink)
@@ -141,6 +147,7 @@ fn write_summary<O: Sink>(
 ) -> Result<(), Cause>
     ensures text { TakesText (ShowsText summary.now (option_copied classes.entry)) (sink_told O.taken O.fault_count sink.old sink.new) (cause_in result) }
     ensures ends { IfErr result (WritingEnds (sink_told O.taken O.fault_count sink.old sink.new)) }
+    ensures once { FailsOnce (O.fault_count sink.old) (O.fault_count sink.new) }
 {
     let text = show_text(alloc, summary, classes)?;
     write_text(sink, text.as_slice())

@@ -4,7 +4,7 @@ ghost use Rattle.std.specs.Io.KnownBytes.{Consumes, Appends, IsAtEnd};
 ghost use Rattle.disk_model.specs.Calls.{Rose};
 ghost use Rattle.hsm_cli.specs.Sources.{script_bytes, ReadsMore, GivesMore, GivesFirst};
 ghost use Rattle.hsm_cli.specs.Texts.{TakesText};
-ghost use Rattle.hsm_cli.specs.Told.{sink_told};
+ghost use Rattle.hsm_cli.specs.Told.{FailsOnce, sink_told};
 ghost use Rattle.hsm_cli.specs.Endings.{cause_in, WritingEnds};
 
 use crate::causes::Cause;
@@ -27,6 +27,7 @@ pub fn read_all<I: Source>(alloc: Global, source: &mut I) -> Result<Vec<u8>, Cau
     ensures causes { IfErr result (λ why. (why ≡ Cause.ReadFault) ⊎ (why ≡ Cause.NoMemory)) }
     ensures fault { IsErrOf result Cause.ReadFault → Rose (I.fault_count source.old) (I.fault_count source.new) }
     ensures quiet { (IsErrOf result Cause.ReadFault → ⊥) → I.fault_count source.new ≡ I.fault_count source.old }
+    ensures once { FailsOnce (I.fault_count source.old) (I.fault_count source.new) }
 {
     let mut bytes = Vec::new(alloc);
     while bytes.len() < MOST_READ {
@@ -46,6 +47,7 @@ fn read_some<I: Source>(source: &mut I, bytes: &mut Vec<u8>) -> Result<usize, Ca
     ensures causes { IfErr result (λ why. (why ≡ Cause.ReadFault) ⊎ (why ≡ Cause.NoMemory)) }
     ensures fault { IsErrOf result Cause.ReadFault → Rose (I.fault_count source.old) (I.fault_count source.new) }
     ensures quiet { (IsErrOf result Cause.ReadFault → ⊥) → I.fault_count source.new ≡ I.fault_count source.old }
+    ensures once { FailsOnce (I.fault_count source.old) (I.fault_count source.new) }
 {
     let mut piece = [0u8; PIECE_BYTES];
     let room = PIECE_BYTES.min(MOST_READ - bytes.len());
@@ -74,6 +76,7 @@ pub fn write_all<O: Sink>(sink: &mut O, bytes: &[u8]) -> Result<(), Failed>
     ensures all { OnOk result (Appends (O.taken sink.old) (O.taken sink.new) bytes.now) }
     ensures fault { OnErr result (Rose (O.fault_count sink.old) (O.fault_count sink.new)) }
     ensures quiet { OnOk result (O.fault_count sink.new ≡ O.fault_count sink.old) }
+    ensures once { FailsOnce (O.fault_count sink.old) (O.fault_count sink.new) }
     ensures idle { bytes.now ≡ [] → sink.new ≡ sink.old }
 {
     let mut done = 0;
@@ -91,6 +94,7 @@ pub fn write_all<O: Sink>(sink: &mut O, bytes: &[u8]) -> Result<(), Failed>
 pub(crate) fn write_text<O: Sink>(sink: &mut O, text: &[u8]) -> Result<(), Cause>
     ensures took { TakesText (λ bytes. bytes ≡ text.now) (sink_told O.taken O.fault_count sink.old sink.new) (cause_in result) }
     ensures ends { IfErr result (WritingEnds (sink_told O.taken O.fault_count sink.old sink.new)) }
+    ensures once { FailsOnce (O.fault_count sink.old) (O.fault_count sink.new) }
 {
     match write_all(sink, text) {
         Ok(()) => Ok(()),

@@ -21,7 +21,7 @@ ghost use Rattle.hosts.specs.Hosts.{AreHanded, HoldsAll, StoresAll};
 ghost use Rattle.hsm_cli.specs.Daemons.{IsWellServedOver};
 ghost use Rattle.hsm_cli.specs.Deeds.{AreOfScript, DeedsClause, DrivesInMemory, DrivesWent, RunHasDone};
 ghost use Rattle.hsm_cli.specs.Sealing.{IsRightInMemory, IsRightInFolder};
-ghost use Rattle.hsm_cli.specs.Told.{source_told, sink_told, host_told};
+ghost use Rattle.hsm_cli.specs.Told.{FailsOnce, source_told, sink_told, host_told};
 
 use crate::causes::Cause;
 use crate::drilling::drill;
@@ -115,6 +115,7 @@ fn format<H: Host>(
     ensures lent { result.cause ≡ Some Cause.HostFault → result.disk ≡ None }
     ensures back { result.disk ≡ None → (result.cause ≡ Some Cause.HostFault) ⊎ (result.cause ≡ Some Cause.NoMemory) }
     ensures quiet { result.cause ≢ Some Cause.HostFault → H.fault_count host.new ≡ H.fault_count host.old }
+    ensures once { FailsOnce (H.fault_count host.old) (H.fault_count host.new) }
     ensures sound { KeepsQuietly H.Disk.Disk result.history result.cause result.disk }
     ensures ends { FormatEnds (HasFailed H.Disk.Disk result.disk) (host_told H.fault_count host.old host.new) result.cause }
 {
@@ -157,6 +158,8 @@ fn replay<D: Disk, M, I: Source, O: Sink>(
     ensures output { TakesTranscript result (sink_told O.taken O.fault_count sink.old sink.new) }
     ensures reads { ReadsQuietly (source_told I.left I.fault_count source.old source.new) result.cause }
     ensures writes { WritesQuietly (sink_told O.taken O.fault_count sink.old sink.new) result.cause }
+    ensures source_once { FailsOnce (I.fault_count source.old) (I.fault_count source.new) }
+    ensures sink_once { FailsOnce (O.fault_count sink.old) (O.fault_count sink.new) }
     ensures ends { RunEnds ⊥ ⊥ (source_told I.left I.fault_count source.old source.new) (sink_told O.taken O.fault_count sink.old sink.new) result.cause }
 {
     seals_are_whole::<SureDrive>();
@@ -202,8 +205,11 @@ fn replay_store<H: Host, I: Source, O: Sink>(
     ensures back { result.disk ≡ None → (result.cause ≡ Some Cause.HostFault) ⊎ (result.cause ≡ Some Cause.NoMemory) }
     ensures reads { ReadsQuietly (source_told I.left I.fault_count source.old source.new) result.cause }
     ensures writes { WritesQuietly (sink_told O.taken O.fault_count sink.old sink.new) result.cause }
+    ensures source_once { FailsOnce (I.fault_count source.old) (I.fault_count source.new) }
+    ensures sink_once { FailsOnce (O.fault_count sink.old) (O.fault_count sink.new) }
     ensures sound { KeepsQuietly H.Disk.Disk result.history result.cause result.disk }
     ensures quiet { HandsQuietly (host_told H.fault_count host.old host.new) result.cause }
+    ensures host_once { FailsOnce (H.fault_count host.old) (H.fault_count host.new) }
     ensures why { Why H.Disk.Disk (H.holds host.old path.now) (Rose (H.fault_count host.old) (H.fault_count host.new)) (source_told I.left I.fault_count source.old source.new) (sink_told O.taken O.fault_count sink.old sink.new) result.disk result.cause }
 {
     let disk = match host.disk(path) {
@@ -236,6 +242,7 @@ fn ask_for_drives<H: Host>(host: &mut H, dir: &str) -> Result<Vec<H::Drive>, Cau
     ensures ready { IfErr result IsBeforeReading }
     ensures why { IfErr result (HandingEnds (host_told H.fault_count host.old host.new)) }
     ensures quiet { (IsErrOf result Cause.HostFault → ⊥) → H.fault_count host.new ≡ H.fault_count host.old }
+    ensures once { FailsOnce (H.fault_count host.old) (H.fault_count host.new) }
     ensures never_falls { H.fault_count host.old ≤ H.fault_count host.new }
     ensures disks { HoldsAll (H.holds host.old) (H.holds host.new) }
     ensures asked { H.drive_count host.new ≡ raised (H.drive_count host.old) }

@@ -4,7 +4,7 @@ use Rattle.hsm_cli.specs.Clauses.{HasFailed}
 use Rattle.hsm_cli.specs.Endings.{cause_in}
 use Rattle.hsm_cli.specs.Texts.{IsShown, AreUntold}
 use Rattle.hsm_cli.specs.Told.{sink_told}
-use Rattle.hsm_cli.proofs.Quiet.{unhanded_quiet}
+use Rattle.hsm_cli.proofs.Quiet.{unhanded_quiet, asked_once}
 use Rattle.hsm_cli.proofs.Running.{rose_later}
 use Rattle.hsm_cli.proofs.Showings.{takes_as, shown_of, ends_as, only_read}
 use Rattle.hsm_cli.proofs.showing.show.Goals as goal
@@ -35,3 +35,9 @@ returns-in-Err-clause-quiet g c = rw (c.unopened.ensures, c.from.ensures) (λ so
 
 pub returns-clause-quiet : goal.returns-clause-quiet
 returns-clause-quiet g c = λ sound. c.in-Ok.ensures.cause.quiet (λ is. cc)
+
+pub returns-in-Err-clause-host_once : goal.returns-in-Err-clause-host_once
+returns-in-Err-clause-host_once g c = asked_once c.disk.result _ _ c.disk.ensures.cause
+
+pub returns-clause-host_once : goal.returns-clause-host_once
+returns-clause-host_once g c = asked_once c.disk.result _ _ c.disk.ensures.cause

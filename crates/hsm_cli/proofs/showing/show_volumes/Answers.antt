@@ -9,7 +9,7 @@ use Rattle.hosts.specs.Hosts.{AreHanded}
 use Rattle.hsm_cli.specs.Texts.{ShowsStore, IsShown, shown_volumes, AreCounted, GivesVolume}
 use Rattle.hsm_cli.specs.Told.{SinkTold, sink_told}
 use Rattle.hsm_cli.proofs.Drives.{rose_once, handed_since, disk_came, stayed, all_came}
-use Rattle.hsm_cli.proofs.Quiet.{unhanded_quiet, never_yet}
+use Rattle.hsm_cli.proofs.Quiet.{unhanded_quiet, never_yet, once_since, asked_once}
 use Rattle.hsm_cli.proofs.Running.{rose_later}
 use Rattle.hsm_cli.proofs.Showings.{takes_as, ends_unread, ends_unhanded, ends_counted, gives_counted, asks_counted, drive_failed, only_read}
 use Rattle.hsm_cli.proofs.Showings.{unread_is_no_host, unread_quiet, is_found, as_many_read, some_came, counted_of}
@@ -176,3 +176,17 @@ returns-clause-well g c =
     let quiet = rw c.deref_mut.ensures.value at c.show_classes-ended.ensures.quiet in
     rw (c.unopened-2.ensures, left g after, c.err.ensures.value)
     (λ sound. never_yet g.H.Drive.Drive c.in-Ok-drives.drives.items c.show_classes-ended.new.drives (handed g after).counted (quiet (λ is. sound (ap cause_in is))))
+
+-- in one call
+
+pub returns-in-Err-clause-host_once : goal.returns-in-Err-clause-host_once
+returns-in-Err-clause-host_once g c = asked_once c.disk.result _ _ c.disk.ensures.cause
+
+pub returns-in-Err-inspect-clause-host_once : goal.returns-in-Err-inspect-clause-host_once
+returns-in-Err-inspect-clause-host_once g c = asked_once c.disk.result _ _ c.disk.ensures.cause
+
+pub returns-in-Err-drives-clause-host_once : goal.returns-in-Err-drives-clause-host_once
+returns-in-Err-drives-clause-host_once g c = once_since _ _ _ (c.in-Ok.ensures.cause.quiet (λ is. cc)) (asked_once c.drives.result _ _ c.drives.ensures.cause)
+
+pub returns-clause-host_once : goal.returns-clause-host_once
+returns-clause-host_once g c = once_since _ _ _ (c.in-Ok.ensures.cause.quiet (λ is. cc)) (asked_once c.drives.result _ _ c.drives.ensures.cause)

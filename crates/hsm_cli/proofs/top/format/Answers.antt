@@ -3,7 +3,7 @@ use Rattle.disk_model.specs.Moments.{MayBe}
 use Rattle.commit_slots.specs.Images.{IsEmptyStore}
 use Rattle.hsm_cli.specs.declared.causes.Cause.TheVariants.{DiskFault}
 use Rattle.command_words.specs.Commands.{geometry_number, fsid_of}
-use Rattle.hsm_cli.proofs.Quiet.{unhanded_quiet}
+use Rattle.hsm_cli.proofs.Quiet.{unhanded_quiet, asked_once}
 use Rattle.hsm_cli.proofs.top.format.Goals as goal
 use Rattle.hsm_cli.proofs.top.format.Goals.{in-Ok-format, in-Err-format}
 
@@ -35,3 +35,9 @@ returns-after-format-clause-quiet g c = λ sound. c.in-Ok.ensures.cause.quiet (�
 
 pub returns-in-Err-clause-quiet : goal.returns-in-Err-clause-quiet
 returns-in-Err-clause-quiet g c = rw (c.unopened-in-Err.ensures, c.from.ensures) (λ sound. c.in-Err.ensures.cause.quiet (unhanded_quiet c.in-Err.refusal sound))
+
+pub returns-after-format-clause-once : goal.returns-after-format-clause-once
+returns-after-format-clause-once g c = asked_once c.make.result _ _ c.make.ensures.cause
+
+pub returns-in-Err-clause-once : goal.returns-in-Err-clause-once
+returns-in-Err-clause-once g c = asked_once c.make.result _ _ c.make.ensures.cause

@@ -13,7 +13,7 @@ use Rattle.hsm_cli.proofs.Crashes.{crash_safe, why_unopened, why_unhanded, back_
 use Rattle.hsm_cli.proofs.Running.{served_words, served_begun}
 use Rattle.hsm_cli.proofs.Legality.{good_but_bytes, good_unopened, legal_as}
 use Rattle.hsm_cli.proofs.Drives.{rose_from, rose_once, gives_back, none_at_fault, host_failed, why_served, disk_came, drives_came, tallies_since}
-use Rattle.hsm_cli.proofs.Quiet.{unhanded_quiet}
+use Rattle.hsm_cli.proofs.Quiet.{unhanded_quiet, once_since, asked_once}
 use Rattle.hsm_cli.proofs.Scripted.{also_well, ran_with}
 use Rattle.hsm_cli.proofs.Sealing.{right_since}
 use Rattle.hsm_cli.proofs.Showings.{unopened_quiet}
@@ -214,3 +214,14 @@ pub returns-in-Err-open-clause-deeds : goal.returns-in-Err-open-clause-deeds
 returns-in-Err-open-clause-deeds g c =
     unopened_done (AreOfScript true (g.I.Source.left c.args.source.now)) (λ o. DrivesWent g.H.Drive.Drive standard (g.H.Host.stores c.args.host.now c.args.dir.now) o.drives) c.unopened-in-Err-open.result _ (Some c.in-Err-open.disk) (open_other c.in-Err-open.refusal) (inl (refl, refl))
     (c.unopened-in-Err-open.ensures ∙ ap (λ (why : Cause). ended_with (Some why) [] (Some c.in-Err-open.disk)) c.from-in-Err-open.ensures)
+
+-- what fails in one call at most
+
+pub returns-in-Err-clause-host_once : goal.returns-in-Err-clause-host_once
+returns-in-Err-clause-host_once g c = asked_once c.disk.result _ _ c.disk.ensures.cause
+
+pub returns-in-Err-open-clause-host_once : goal.returns-in-Err-open-clause-host_once
+returns-in-Err-open-clause-host_once g c = asked_once c.disk.result _ _ c.disk.ensures.cause
+
+pub returns-in-Ok-open-clause-host_once : goal.returns-in-Ok-open-clause-host_once
+returns-in-Ok-open-clause-host_once g c = once_since _ _ _ (c.in-Ok.ensures.cause.quiet (λ is. cc)) c.ask_for_drives-drives.ensures.once
