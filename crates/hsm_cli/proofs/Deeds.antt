@@ -26,7 +26,7 @@ use Rattle.hsm_cli.specs.declared.causes.Cause.TheVariants.{HostFault, NoMemory}
 use Rattle.hsm_cli.specs.declared.outcomes.Outcome.{Outcome}
 use Rattle.hsm_cli.specs.Deeds.{AreAll, AreDone, DeedsClause, DrivesInMemory, DrivesWent, HasDone, HaveGone, MayGoOnOver, RunHasDone, without_objects}
 use Rattle.hsm_cli.specs.Endings.{IsBeforeReading, ScriptEnds, WritingEnds, cause_in}
-use Rattle.hsm_cli.specs.Openings.{opened_in, replay_store}
+use Rattle.hsm_cli.specs.Openings.{replay_store}
 use Rattle.hsm_cli.specs.Outcomes.{ended_with}
 use Rattle.hsm_cli.specs.Statuses.{cause_of_host, cause_of_refusal}
 use Rattle.hsm_cli.specs.Told.{SinkTold, SourceTold}
