@@ -51,8 +51,8 @@ impl MetaJournal {
         }
     }
 
-    // Whether a batch with so many bytes more fits.
-    fn fits(&self, more: usize) -> bool
+    /// Whether records of so many bytes more fit, in one or in several.
+    pub fn fits(&self, more: usize) -> bool
         ensures { IsTrue result ↔ Fits self.now more }
     {
         let taken = self.used + FRAME + self.size;
