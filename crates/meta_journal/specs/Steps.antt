@@ -35,7 +35,7 @@ after j = resting j.at j.len (j.used + (17 + length j.staged))
 abbrev pub Fits : Journal → ℕ → Type 0
 Fits j more = j.used + (18 + (length j.staged + more)) ≤ j.len
 
--- the image of a disk has just these batches in the journal, the first one of at least that number
+-- the image of a disk has just these batches in the journal, the first one of at least that number, and a closed gate behind them
 abbrev pub Holds : Journal → ℕ → List Batch → List ℕ → Type 0
 Holds j number batches image = IsRead (part image j.at j.len) j.at number batches j.used None
 
@@ -44,7 +44,7 @@ pub record IsShut (at n : ℕ) (old new : List ℕ) : Type 0 where
   pub freed : IsFreed at (1 + n) old new
   pub gate : IsClosed old at → IsClosed new at
 
--- The batches are the same: all is but for the bytes of the next batch and of the gate behind it, and a gate that was closed is closed.
+-- All bytes are the same but those of the next batch and of the gate behind it, and a gate that was closed is closed. So the batches are the same.
 pub record KeepsBatches (j : Journal) (old new : List ℕ) : Type 0 where
   pub shut : IsShut (gate_of j) (17 + length j.staged) old new
   pub holds : (number : ℕ) (batches : List Batch) → Holds j number batches old → Holds j number batches new

@@ -54,8 +54,8 @@ abbrev pub Ends : (journal : List ℕ) (at place last : ℕ) → Option ℕ → 
 Ends journal at place last None = IsClosed journal place
 Ends journal at place last (Some bad) = (bad ≡ at + place) × IsBad journal place last
 
--- The journal, which begins at `at` on its disk, has these batches in its first bytes, so many, the first one of at least that
--- number; and then a gate that isn't open, or that of a bad batch, at this place of the disk.
+-- These batches fill the first `used` bytes; the first has at least that number. Behind them is a closed gate (None), or the gate
+-- of a bad batch, at this place of the disk.
 pub record IsRead (journal : List ℕ) (at number : ℕ) (batches : List Batch) (used : ℕ) (bad : Option ℕ) : Type 0 where
   pub lead : Lead journal at 0 number batches used
   pub ends : Ends journal at used (last_number number batches) bad

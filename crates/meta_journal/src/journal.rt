@@ -75,11 +75,14 @@ impl MetaJournal {
         Ok(())
     }
 
-    /// Adds what is staged to the journal, as a batch of that number, with two writes and two syncs and no memory.
+    /// Adds what is staged to the journal, as a batch of that number, with two writes and two syncs and no memory. At each moment the
+    /// journal has the batches from before, or one more, where the next gate is closed on each image that may be, and where numbers
+    /// don't fall and are at most 2^62. After `Failed` that gate may be open, so a second commit promises nothing of batches.
     pub fn commit<D: Disk>(&mut self, disk: &mut D, number: u64) -> Result<(), JournalRefusal>
         requires there { self.old.at + self.old.len ≤ D.length_of disk.old }
 
-        // At each moment since, and after a failure too, the journal has the batches from before, or one more.
+        // At each moment since, and after a failure too, the journal has the batches from before, or one more, where the gate was
+        // closed on each image that may be, and where numbers don't fall and are at most 2^62.
         ensures any_moment { Turns D.Disk disk.old disk.new (KeepsBatches self.old) (AddsBatch self.old number) }
         ensures stored { OnOk result ((c : List ℕ) → MayBe D.Disk disk.new c → (d : List ℕ) × D.gives disk.old d × AddsBatch self.old number d c) }
         ensures after { OnOk result (self.new ≡ after self.old) }
@@ -111,8 +114,8 @@ impl MetaJournal {
         Ok(())
     }
 
-    /// Drops what is staged, and goes on at the journal there, which has the same length and whose first gate is closed: what
-    /// `commit` says of the batches of a journal holds of none whose gate is open.
+    /// Drops what is staged, and goes on at the journal there, which has the same length and whose first gate is closed: where its
+    /// gate is open, `commit` promises nothing of batches.
     pub fn restart(&mut self, at: u64)
         ensures restarted { self.new ≡ resting at self.old.len 0 }
         ensures empty { (number : ℕ) (c : List ℕ) → IsClosed c at → Holds self.new number [] c }

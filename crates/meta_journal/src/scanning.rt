@@ -60,9 +60,9 @@ fn front_of(alloc: Global, journal: &[u8], at: u64, number: u64) -> Result<Front
 }
 
 /// Reads the journal of `len` bytes at that place of the disk, both in bytes, whose first batch is to have at least that number. It
-/// gives the journal, with nothing staged, its open batches up to the first whose frame is bad, and the place of that one's gate.
-/// A frame is bad where the batch doesn't end within the journal with room for the next gate, or its number is above 2^62 or below
-/// the one before. Where one is bad, nothing is to be committed there. Only `Disk` and `Memory` are answered.
+/// gives the journal, with nothing staged, the batches before the first gate that isn't open or whose frame is bad, and in the second
+/// case that gate's place. A frame is bad where the batch doesn't end within the journal with room for the next gate, or its number
+/// is above 2^62 or below the one before. Where one is bad, nothing is to be committed there. Only `Disk` and `Memory` are answered.
 pub fn scan<D: Disk>(
     alloc: Global,
     disk: &mut D,
