@@ -5,15 +5,15 @@ use Rattle.disk_model.specs.declared.device.Disk as disk
 use Rattle.disk_model.specs.Images.{part, IsWritten}
 use Rattle.disk_model.specs.Moments.{Turns}
 use Rattle.meta_journal.specs.Texts.{closed_gate, batch_text}
-use Rattle.meta_journal.specs.Steps.{Journal, gate_of, next_batch, after, Fits, IsShut, KeepsBatches, AddsBatch, IsKept}
+use Rattle.meta_journal.specs.Steps.{Journal, next_gate, next_batch, after_commit, FitsBatch, StaysShut, KeepsBatches, AddsBatch, HasRoom}
 use Rattle.meta_journal.proofs.Pieces.{part_none}
 use Rattle.meta_journal.proofs.Framing.{journal, staged_long}
 use Rattle.meta_journal.proofs.Opening.{commit_turns, written_adds}
 
 -- what fits, in the buffer's own numbers
-pub room : (bytes : List ℕ) (at used count size more : ℕ) (j : Journal) → IsKept (length bytes) used count size → journal at (length bytes) used count (part bytes 16 size) ≡ j → Fits j more → used + (18 + (size + more)) ≤ length bytes
+pub room : (bytes : List ℕ) (at used count size more : ℕ) (j : Journal) → HasRoom (length bytes) used count size → journal at (length bytes) used count (part bytes 16 size) ≡ j → FitsBatch j more → used + (18 + (size + more)) ≤ length bytes
 room bytes at used count size more j kept seen fits =
-    let here : Fits (journal at (length bytes) used count (part bytes 16 size)) more = subst (λ (i : Journal). Fits i more) (sym seen) fits in
+    let here : FitsBatch (journal at (length bytes) used count (part bytes 16 size)) more = subst (λ (i : Journal). FitsBatch i more) (sym seen) fits in
     omega (arith, here, staged_long bytes used count size kept)
 
 -- the same journal, over another buffer
@@ -33,16 +33,16 @@ seen_more at used count size items old new more j items_is is seen =
     ∙ ap (λ (staged : List ℕ). journal at (length old) used (count + 1) staged) is.1
     ∙ ap (λ (i : Journal). record i { count = i.count + 1; staged = i.staged ++ more }) seen
 
-module _ (at used count size n : ℕ) (old from new buf : List ℕ) (j : Journal) (kept : IsKept (length old) used count size) (seen : journal at (length old) used count (part old 16 size) ≡ j) where
-  pub seen_after : (items : List ℕ) → items ≡ new → length new ≡ length old → journal at (length items) (used + (17 + size)) 0 (part items 16 0) ≡ after j
+module _ (at used count size n : ℕ) (old from new buf : List ℕ) (j : Journal) (kept : HasRoom (length old) used count size) (seen : journal at (length old) used count (part old 16 size) ≡ j) where
+  pub seen_after : (items : List ℕ) → items ≡ new → length new ≡ length old → journal at (length items) (used + (17 + size)) 0 (part items 16 0) ≡ after_commit j
   seen_after items items_is long =
       ap (λ (l : List ℕ). journal at (length l) (used + (17 + size)) 0 (part l 16 0)) items_is
       ∙ ap (λ (k : ℕ). journal at k (used + (17 + size)) 0 (part new 16 0)) long
       ∙ ap (λ (staged : List ℕ). journal at (length old) (used + (17 + size)) 0 staged) (part_none new 16)
       ∙ ap (λ (k : ℕ). journal at (length old) (used + (17 + k)) 0 []) (sym (staged_long old used count size kept))
-      ∙ ap after seen
+      ∙ ap after_commit seen
 
-  module _ (from_is : from ≡ old) (buf_is : buf ≡ new) (long : length new ≡ length old) (framed : take (17 + size) new ≡ big_bytes 4 size ++ big_bytes 8 n ++ big_bytes 4 count ++ part from 16 size ++ closed_gate) (fits : Fits j 0) (few : count < 2 ^ 32) where
+  module _ (from_is : from ≡ old) (buf_is : buf ≡ new) (long : length new ≡ length old) (framed : take (17 + size) new ≡ big_bytes 4 size ++ big_bytes 8 n ++ big_bytes 4 count ++ part from 16 size ++ closed_gate) (fits : FitsBatch j 0) (few : count < 2 ^ 32) where
     abbrev now : Journal
     now = journal at (length old) used count (part old 16 size)
 
@@ -52,8 +52,8 @@ module _ (at used count size n : ℕ) (old from new buf : List ℕ) (j : Journal
     size_is : length (part old 16 size) ≡ size
     size_is = staged_long old used count size kept
 
-    fits_now : Fits now 0
-    fits_now = subst (λ (i : Journal). Fits i 0) (sym seen) fits
+    fits_now : FitsBatch now 0
+    fits_now = subst (λ (i : Journal). FitsBatch i 0) (sym seen) fits
 
     pub body_long : length body ≡ 17 + length now.staged
     body_long = length-take-le (17 + size) buf (omega (arith, ap length buf_is, long, fits_now, size_is)) ∙ ap (λ (k : ℕ). 17 + k) (sym size_is)
@@ -64,11 +64,11 @@ module _ (at used count size n : ℕ) (old from new buf : List ℕ) (j : Journal
         ∙ ap (λ (l : List ℕ). 1 ∷ (big_bytes 4 size ++ big_bytes 8 n ++ big_bytes 4 count ++ part l 16 size ++ closed_gate)) from_is
         ∙ ap (λ (k : ℕ). 1 ∷ (big_bytes 4 k ++ big_bytes 8 n ++ big_bytes 4 count ++ part old 16 size ++ closed_gate)) (sym size_is)
 
-    pub turns_for : {D : Type 0} (g : disk.Ghosts D) (d e : D) → Turns g d e (IsShut (at + used) (length body)) (IsWritten (at + used) (1 ∷ body)) → Turns g d e (KeepsBatches j) (AddsBatch j n)
+    pub turns_for : {D : Type 0} (g : disk.Ghosts D) (d e : D) → Turns g d e (StaysShut (at + used) (length body)) (IsWritten (at + used) (1 ∷ body)) → Turns g d e (KeepsBatches j) (AddsBatch j n)
     turns_for g d e t = subst (λ (i : Journal). Turns g d e (KeepsBatches i) (AddsBatch i n)) seen
         (commit_turns g d e now n fits_now few
-        (subst (λ (l : List ℕ). Turns g d e (IsShut (gate_of now) (17 + length now.staged)) (IsWritten (gate_of now) l)) text_is
-        (subst (λ (k : ℕ). Turns g d e (IsShut (gate_of now) k) (IsWritten (gate_of now) (1 ∷ body))) body_long t)))
+        (subst (λ (l : List ℕ). Turns g d e (StaysShut (next_gate now) (17 + length now.staged)) (IsWritten (next_gate now) l)) text_is
+        (subst (λ (k : ℕ). Turns g d e (StaysShut (next_gate now) k) (IsWritten (next_gate now) (1 ∷ body))) body_long t)))
 
     pub adds_for : (d c : List ℕ) → IsWritten (at + used) (1 ∷ body) d c → AddsBatch j n d c
-    adds_for d c w = subst (λ (i : Journal). AddsBatch i n d c) seen (written_adds now (omega (arith, fits_now)) d c n fits_now few (subst (λ (l : List ℕ). IsWritten (gate_of now) l d c) text_is w))
+    adds_for d c w = subst (λ (i : Journal). AddsBatch i n d c) seen (written_adds now (omega (arith, fits_now)) d c n fits_now few (subst (λ (l : List ℕ). IsWritten (next_gate now) l d c) text_is w))

@@ -8,7 +8,7 @@ use Rattle.byteorder.specs.Numbers.{big_number-reads_back}
 use Rattle.disk_model.specs.Images.{part}
 use Rattle.disk_model.proofs.Parts.{part_part, length-part}
 use Rattle.meta_journal.specs.declared.lists.Batch.{Batch}
-use Rattle.meta_journal.specs.Texts.{IsOpen, IsBad, batch_text, batch_len, Stands}
+use Rattle.meta_journal.specs.Texts.{IsOpen, IsBad, batch_text, batch_len, IsBatchAt}
 use Rattle.meta_journal.proofs.Pieces.{IsBytes, part_bytes, part_byte, range_part, both_there}
 
 -- ---- fields in the text of a batch
@@ -32,7 +32,7 @@ text_records : (b : Batch) → part (batch_text b) 17 (length b.records) ≡ b.r
 unfolding part
 text_records b = take_all (length b.records) b.records (omega arith)
 
-module _ (journal : List ℕ) (short : length journal < 2 ^ 32) (place last : ℕ) (b : Batch) (s : Stands journal place last b) where
+module _ (journal : List ℕ) (short : length journal < 2 ^ 32) (place last : ℕ) (b : Batch) (s : IsBatchAt journal place last b) where
   field : (i n : ℕ) → i + n ≤ batch_len b → part journal (place + i) n ≡ part (batch_text b) i n
   field i n fits = sym (part_part journal place (batch_len b) i n fits) ∙ ap (λ (l : List ℕ). part l i n) s.spelled
 
@@ -61,7 +61,7 @@ batch place number count records = record { place = place; number = number; coun
 same_fields : (p q n m k l : ℕ) (r t : List ℕ) → p ≡ q → n ≡ m → k ≡ l → r ≡ t → batch p n k r ≡ batch q m l t
 same_fields p q n m k l r t e f g h = rw (e, f, g, h) refl
 
-pub same_batch : (journal : List ℕ) → length journal < 2 ^ 32 → (place last : ℕ) (a b : Batch) → a.place ≡ b.place → Stands journal place last a → Stands journal place last b → a ≡ b
+pub same_batch : (journal : List ℕ) → length journal < 2 ^ 32 → (place last : ℕ) (a b : Batch) → a.place ≡ b.place → IsBatchAt journal place last a → IsBatchAt journal place last b → a ≡ b
 same_batch journal short place last a b at s t =
     let size : length a.records ≡ length b.records = sym (size_says journal short place last a s) ∙ size_says journal short place last b t in
     same_fields a.place b.place a.number b.number a.count b.count a.records b.records at
@@ -101,7 +101,7 @@ module _ (journal : List ℕ) (fits : IsBytes journal) (place last size number c
   eight : (n at : ℕ) (l : List ℕ) → l ≡ part journal at 8 → n ≡ big_number 8 l → at + 8 ≤ length journal → big_bytes 8 n ≡ part journal at 8
   eight n at l l_is n_is le = ap (λ (k : ℕ). big_bytes 8 k) (n_is ∙ ap (λ (m : List ℕ). big_number 8 m) l_is) ∙ wide8 (part journal at 8) (length-part journal at 8 le) (part_bytes journal fits at 8)
 
-  pub stands_read : place + (18 + size) ≤ length journal → last ≤ number → number ≤ 2 ^ 62 → count < 2 ^ 32 → Stands journal place last (batch 0 number count records)
+  pub stands_read : place + (18 + size) ≤ length journal → last ≤ number → number ≤ 2 ^ 62 → count < 2 ^ 32 → IsBatchAt journal place last (batch 0 number count records)
   stands_read room rises bound few =
       let long : length records ≡ size = length-part journal (place + 17) size (omega arith) in
       let p : List ℕ = open_gate in
@@ -125,18 +125,18 @@ module _ (journal : List ℕ) (fits : IsBytes journal) (place last size number c
   pub bad_read : length journal < 2 ^ 32 → (length journal < place + (18 + size)) ⊎ (number < last) ⊎ (2 ^ 62 < number) → IsBad journal place last
   bad_read short why = record { gate = gate; none = λ other s. no other s why }
     where
-      no : (other : Batch) → Stands journal place last other → (length journal < place + (18 + size)) ⊎ (number < last) ⊎ (2 ^ 62 < number) → ⊥
+      no : (other : Batch) → IsBatchAt journal place last other → (length journal < place + (18 + size)) ⊎ (number < last) ⊎ (2 ^ 62 < number) → ⊥
       no other s (inl long) = omega (arith, s.room, long, size_is ∙ ap (λ (l : List ℕ). big_number 4 l) a_is ∙ size_says journal short place last other s)
       no other s (inr (inl falls)) = omega (arith, s.rises, falls, number_is ∙ ap (λ (l : List ℕ). big_number 8 l) b_is ∙ number_says journal short place last other s)
       no other s (inr (inr great)) = omega (arith, s.bound, great, number_is ∙ ap (λ (l : List ℕ). big_number 8 l) b_is ∙ number_says journal short place last other s)
 
 -- a batch that was read, with its place and its records by another name
-pub stands_at : (journal : List ℕ) (place last q number count size from end : ℕ) (r bytes : List ℕ) → Stands journal place last (batch 0 number count (part journal (place + 17) size)) → place + (18 + size) ≤ length journal → from ≡ place + 17 → end ≡ from + size
-    → bytes ≡ take (end - from) (drop from journal) → r ≡ bytes → Stands journal place last (batch q number count r) × (length r ≡ size)
+pub stands_at : (journal : List ℕ) (place last q number count size from end : ℕ) (r bytes : List ℕ) → IsBatchAt journal place last (batch 0 number count (part journal (place + 17) size)) → place + (18 + size) ≤ length journal → from ≡ place + 17 → end ≡ from + size
+    → bytes ≡ take (end - from) (drop from journal) → r ≡ bytes → IsBatchAt journal place last (batch q number count r) × (length r ≡ size)
 stands_at journal place last q number count size from end r bytes s room from_is end_is bytes_is r_is =
     let is : r ≡ part journal (place + 17) size = r_is ∙ bytes_is ∙ range_part journal from end size end_is ∙ ap (λ (p : ℕ). part journal p size) from_is in
     let long : length r ≡ size = ap (λ (l : List ℕ). length l) is ∙ length-part journal (place + 17) size (omega arith) in
-    (subst (λ (l : List ℕ). Stands journal place last (batch q number count l)) (sym is) (record { spelled = s.spelled; room = s.room; rises = s.rises; bound = s.bound; few = s.few }), long)
+    (subst (λ (l : List ℕ). IsBatchAt journal place last (batch q number count l)) (sym is) (record { spelled = s.spelled; room = s.room; rises = s.rises; bound = s.bound; few = s.few }), long)
 
 -- where not even a frame fits
 pub bad_short : (journal : List ℕ) (place last : ℕ) → IsOpen journal place → length journal ≤ place + 17 → IsBad journal place last

@@ -3,7 +3,7 @@ use Rattle.std.proofs.Common.{◌≡◌, ℕ, zero, suc, ◌+◌, ◌-◌, ◌�
 use Rattle.disk_model.specs.Images.{part, overlay, IsWritten}
 use Rattle.disk_model.proofs.Parts.{is_written, part_split, length-part}
 use Rattle.meta_journal.specs.Texts.{closed_gate}
-use Rattle.meta_journal.specs.Steps.{Journal, IsKept}
+use Rattle.meta_journal.specs.Steps.{Journal, HasRoom}
 use Rattle.meta_journal.proofs.Pieces.{part_none, front_part}
 
 module _ (bytes b1 b2 head text : List ℕ) (at n : ℕ) (long : length head ≡ 16) (at_is : at ≡ 16 + n) (fits : 18 + n ≤ length bytes) (head_is : head ≡ text) (first : b1 ≡ overlay bytes 0 head) (second : b2 ≡ overlay b1 at closed_gate) where
@@ -35,7 +35,7 @@ module _ (bytes b1 b2 head text : List ℕ) (at n : ℕ) (long : length head ≡
   frame-len = w2.freed.size ∙ w1.freed.size
 
 -- the staged bytes lie within the buffer
-pub staged_long : (bytes : List ℕ) (used count size : ℕ) → IsKept (length bytes) used count size → length (part bytes 16 size) ≡ size
+pub staged_long : (bytes : List ℕ) (used count size : ℕ) → HasRoom (length bytes) used count size → length (part bytes 16 size) ≡ size
 staged_long bytes used count zero k = ap length (part_none bytes 16)
 staged_long bytes used count (suc size) k = length-part bytes 16 (suc size) (omega (arith, k.fits (omega arith)))
 

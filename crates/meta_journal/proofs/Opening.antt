@@ -1,5 +1,6 @@
 -- A gate that opens behind its batch, and what the journal has then.
-use Rattle.std.proofs.Common.{◌≡◌, ◌⊎◌, inl, inr, ℕ, ◌+◌, ◌-◌, ◌<◌, ◌≤◌, ◌^◌, ◌==◌, Bool, true, false, eqb-true, List, [], ◌∷◌, ◌++◌, length, take, drop, refl, sym, ◌∙◌, ap, subst, arith, length-append}
+use Rattle.std.proofs.Common.{◌≡◌, ◌⊎◌, inl, inr, ℕ, ◌+◌, ◌-◌, ◌<◌, ◌≤◌, ◌^◌, ◌==◌, Bool, true, false, eqb-true, List, [], ◌∷◌, ◌++◌, length, take, drop}
+use Rattle.std.proofs.Common.{refl, sym, ◌∙◌, ap, subst, arith, length-append}
 use Rattle.std.specs.Prelude.{None, slice_index}
 use Rattle.disk_model.specs.Images.{part, IsFreed, IsWritten}
 use Rattle.disk_model.specs.Moments.{MayBe, Keeps, Turns}
@@ -7,8 +8,8 @@ use Rattle.disk_model.specs.declared.device.Disk as disk
 use Rattle.disk_model.proofs.Parts.{part_split, part_part, freed_again, freed_wider}
 use Rattle.disk_model.proofs.Steps.{turns_on, turned_where}
 use Rattle.meta_journal.specs.declared.lists.Batch.{Batch}
-use Rattle.meta_journal.specs.Texts.{IsOpen, IsClosed, closed_gate, batch_text, Stands, last_number, IsRead}
-use Rattle.meta_journal.specs.Steps.{Journal, gate_of, next_batch, Fits, IsShut, KeepsBatches, AddsBatch}
+use Rattle.meta_journal.specs.Texts.{IsOpen, IsClosed, closed_gate, batch_text, IsBatchAt, number_after, IsReading}
+use Rattle.meta_journal.specs.Steps.{Journal, next_gate, next_batch, FitsBatch, StaysShut, KeepsBatches, AddsBatch}
 use Rattle.meta_journal.proofs.Pieces.{part_byte, same_length, within, long_part, front_there, back_there}
 use Rattle.meta_journal.proofs.Fields.{text_long}
 use Rattle.meta_journal.proofs.Readings.{lead_more, lead_same}
@@ -36,7 +37,7 @@ same_gate : (c d : List ℕ) (place : ℕ) → part c place 1 ≡ part d place 1
 same_gate c d place is = sym (byte_of c place) ∙ ap (λ (l : List ℕ). slice_index l 0) is ∙ byte_of d place
 
 -- bytes behind the gate
-pub behind_shut : (at n behind : ℕ) → behind ≡ at + 1 → (d c : List ℕ) → IsFreed behind n d c → IsShut at n d c
+pub behind_shut : (at n behind : ℕ) → behind ≡ at + 1 → (d c : List ℕ) → IsFreed behind n d c → StaysShut at n d c
 behind_shut at n behind is d c f = record {
   freed = freed_wider behind n at (1 + n) d c (omega arith) (omega arith) f;
   gate = λ closed one. closed (sym (same_gate c d at (f.below at 1 (omega arith))) ∙ one);
@@ -67,15 +68,15 @@ module _ (at behind : ℕ) (body : List ℕ) (is : behind ≡ at + 1) (d m c : L
       }
 
   -- the gate may be any byte now
-  pub gate_torn : IsShut at (length body) d c ⊎ IsWritten at (1 ∷ body) d c
+  pub gate_torn : StaysShut at (length body) d c ⊎ IsWritten at (1 ∷ body) d c
   gate_torn = elim (open_or_closed c at) [
     | inl opened ↦ inr (gate_opened (gate_is_one at c (byte_of c at ∙ opened)))
     | inr closed ↦ inl (record { freed = both; gate = λ was. closed })
   ]
 
 pub opening_turns : {D : Type 0} (g : disk.Ghosts D) (old mid new : D) (at behind : ℕ) (body : List ℕ) → behind ≡ at + 1 → Keeps g old mid (IsFreed behind (length body)) → ((c : List ℕ) → MayBe g mid c → (d : List ℕ) × g.gives old d × IsWritten behind body d c)
-    → Keeps g mid new (IsFreed at 1) → Turns g old new (IsShut at (length body)) (IsWritten at (1 ∷ body))
-opening_turns g old mid new at behind body is first stands next = turns_on g old mid new (IsFreed behind (length body)) (IsWritten behind body) (IsFreed at 1) (IsShut at (length body)) (IsWritten at (1 ∷ body))
+    → Keeps g mid new (IsFreed at 1) → Turns g old new (StaysShut at (length body)) (IsWritten at (1 ∷ body))
+opening_turns g old mid new at behind body is first stands next = turns_on g old mid new (IsFreed behind (length body)) (IsWritten behind body) (IsFreed at 1) (StaysShut at (length body)) (IsWritten at (1 ∷ body))
     first stands next (λ d c f. behind_shut at (length body) behind is d c f) (λ d m c given w f. gate_torn at behind body is d m c w f)
 
 -- ---- what the journal has
@@ -85,13 +86,13 @@ module _ (j : Journal) (room : j.used + 1 ≤ j.len) (d c : List ℕ) where
   bytes image = part image j.at j.len
 
   -- what is the same in front of the gate
-  front_same : (n : ℕ) → IsFreed (gate_of j) n d c → (a k : ℕ) → a + k ≤ j.used → part (bytes c) a k ≡ part (bytes d) a k
+  front_same : (n : ℕ) → IsFreed (next_gate j) n d c → (a k : ℕ) → a + k ≤ j.used → part (bytes c) a k ≡ part (bytes d) a k
   front_same n f a k le = part_part c j.at j.len a k (omega (arith, le, room)) ∙ f.below (j.at + a) k (omega (arith, le)) ∙ sym (part_part d j.at j.len a k (omega (arith, le, room)))
 
-  same_long : (n : ℕ) → IsFreed (gate_of j) n d c → length (bytes d) ≤ length (bytes c)
+  same_long : (n : ℕ) → IsFreed (next_gate j) n d c → length (bytes d) ≤ length (bytes c)
   same_long n f = omega (arith, same_length c d j.at j.len f.size)
 
-  pub shut_keeps : IsShut (gate_of j) (17 + length j.staged) d c → KeepsBatches j d c
+  pub shut_keeps : StaysShut (next_gate j) (17 + length j.staged) d c → KeepsBatches j d c
   shut_keeps s = record {
     shut = s;
     holds = λ number bs h. record {
@@ -100,7 +101,7 @@ module _ (j : Journal) (room : j.used + 1 ≤ j.len) (d c : List ℕ) where
     };
   }
 
-  pub written_adds : (n : ℕ) → Fits j 0 → j.count < 2 ^ 32 → IsWritten (gate_of j) (batch_text (next_batch j n) ++ closed_gate) d c → AddsBatch j n d c
+  pub written_adds : (n : ℕ) → FitsBatch j 0 → j.count < 2 ^ 32 → IsWritten (next_gate j) (batch_text (next_batch j n) ++ closed_gate) d c → AddsBatch j n d c
   written_adds n fits few w = record {
     written = w;
     holds = λ number bs h rises bound. record {
@@ -115,13 +116,13 @@ module _ (j : Journal) (room : j.used + 1 ≤ j.len) (d c : List ℕ) where
       long : length (batch_text (next_batch j n) ++ closed_gate) ≡ 18 + length j.staged
       long = length-append (batch_text (next_batch j n)) closed_gate ∙ omega arith
 
-      there : part c (gate_of j) (17 + length j.staged) ≡ batch_text (next_batch j n)
-      there = ap (λ (k : ℕ). part c (gate_of j) k) (text_long (next_batch j n)) ∙ front_there c (gate_of j) (batch_text (next_batch j n)) closed_gate w.there
+      there : part c (next_gate j) (17 + length j.staged) ≡ batch_text (next_batch j n)
+      there = ap (λ (k : ℕ). part c (next_gate j) k) (text_long (next_batch j n)) ∙ front_there c (next_gate j) (batch_text (next_batch j n)) closed_gate w.there
 
-      lies : gate_of j + (18 + length j.staged) ≤ length c
-      lies = within c (gate_of j) (length (batch_text (next_batch j n) ++ closed_gate)) (18 + length j.staged) (ap length w.there) (omega (arith, long)) (omega (arith, long))
+      lies : next_gate j + (18 + length j.staged) ≤ length c
+      lies = within c (next_gate j) (length (batch_text (next_batch j n) ++ closed_gate)) (18 + length j.staged) (ap length w.there) (omega (arith, long)) (omega (arith, long))
 
-      stands : (number : ℕ) (bs : List Batch) → last_number number bs ≤ n → n ≤ 2 ^ 62 → Stands (bytes c) j.used (last_number number bs) (next_batch j n)
+      stands : (number : ℕ) (bs : List Batch) → number_after number bs ≤ n → n ≤ 2 ^ 62 → IsBatchAt (bytes c) j.used (number_after number bs) (next_batch j n)
       stands number bs rises bound = record {
         spelled = part_part c j.at j.len j.used (17 + length j.staged) (omega (arith, fits)) ∙ there;
         room = omega (arith, long_part c j.at j.len (j.used + (18 + length j.staged)) (omega (arith, lies)) (omega (arith, fits)));
@@ -132,23 +133,23 @@ module _ (j : Journal) (room : j.used + 1 ≤ j.len) (d c : List ℕ) where
 
       gate : slice_index (bytes c) (j.used + (17 + length j.staged)) ≡ 0
       gate =
-          let place : j.at + (j.used + (17 + length j.staged)) ≡ gate_of j + length (batch_text (next_batch j n)) = omega (arith, text_long (next_batch j n)) in
+          let place : j.at + (j.used + (17 + length j.staged)) ≡ next_gate j + length (batch_text (next_batch j n)) = omega (arith, text_long (next_batch j n)) in
           part_byte c j.at j.len (j.used + (17 + length j.staged)) (omega (arith, fits)) ∙ ap (λ (p : ℕ). slice_index c p) place
-          ∙ sym (byte_of c (gate_of j + length (batch_text (next_batch j n)))) ∙ ap (λ (l : List ℕ). slice_index l 0) (back_there c (gate_of j) (batch_text (next_batch j n)) closed_gate w.there)
+          ∙ sym (byte_of c (next_gate j + length (batch_text (next_batch j n)))) ∙ ap (λ (l : List ℕ). slice_index l 0) (back_there c (next_gate j) (batch_text (next_batch j n)) closed_gate w.there)
 
       not_both : (x : ℕ) → x ≡ 0 → x ≡ 1 → ⊥
       not_both x zero one = omega arith
 
 -- what a commit makes of images, in the words of batches
-pub commit_turns : {D : Type 0} (g : disk.Ghosts D) (old new : D) (j : Journal) (n : ℕ) → Fits j 0 → j.count < 2 ^ 32
-    → Turns g old new (IsShut (gate_of j) (17 + length j.staged)) (IsWritten (gate_of j) (batch_text (next_batch j n) ++ closed_gate)) → Turns g old new (KeepsBatches j) (AddsBatch j n)
+pub commit_turns : {D : Type 0} (g : disk.Ghosts D) (old new : D) (j : Journal) (n : ℕ) → FitsBatch j 0 → j.count < 2 ^ 32
+    → Turns g old new (StaysShut (next_gate j) (17 + length j.staged)) (IsWritten (next_gate j) (batch_text (next_batch j n) ++ closed_gate)) → Turns g old new (KeepsBatches j) (AddsBatch j n)
 commit_turns g old new j n fits few t = turned_where g old new (λ d. Unit {0}) _ _ _ _ (λ d may. tt)
     (λ d c any s. shut_keeps j (omega (arith, fits)) d c s)
     (λ d c any w. written_adds j (omega (arith, fits)) d c n fits few w)
     t
 
 -- a journal with no batch
-pub empty_holds : (at len : ℕ) → 1 ≤ len → (number : ℕ) (c : List ℕ) → IsClosed c at → IsRead (part c at len) at number [] 0 None
+pub empty_holds : (at len : ℕ) → 1 ≤ len → (number : ℕ) (c : List ℕ) → IsClosed c at → IsReading (part c at len) at number [] 0 None
 empty_holds at len some number c closed =
     let zero_is : at + 0 ≡ at = omega arith in
     record { lead = refl; ends = λ one. closed (ap (λ (p : ℕ). slice_index c p) (sym zero_is) ∙ sym (part_byte c at len 0 (omega (arith, some))) ∙ one) }

@@ -27,7 +27,7 @@ abbrev pub batch_len : Batch → ℕ
 batch_len b = 17 + length b.records
 
 -- an open batch stands there, with room for the next gate, and can follow a batch of that number
-pub record Stands (journal : List ℕ) (place last : ℕ) (b : Batch) : Type 0 where
+pub record IsBatchAt (journal : List ℕ) (place last : ℕ) (b : Batch) : Type 0 where
   pub spelled : part journal place (batch_len b) ≡ batch_text b
   pub room : place + (batch_len b + 1) ≤ length journal
   pub rises : last ≤ b.number
@@ -37,25 +37,25 @@ pub record Stands (journal : List ℕ) (place last : ℕ) (b : Batch) : Type 0 w
 -- the gate there is open, and no batch stands behind it that could
 pub record IsBad (journal : List ℕ) (place last : ℕ) : Type 0 where
   pub gate : IsOpen journal place
-  pub none : (b : Batch) → Stands journal place last b → ⊥
+  pub none : (b : Batch) → IsBatchAt journal place last b → ⊥
 
 -- Batches stand from one place of the journal to another, the first one behind a batch of that number. The journal begins at `at` on its disk.
 abbrev pub Lead : (journal : List ℕ) (at from last : ℕ) → List Batch → (to : ℕ) → Type 0
 Lead journal at from last [] to = to ≡ from
-Lead journal at from last (b ∷ bs) to = (b.place ≡ at + from) × Stands journal from last b × Lead journal at (from + batch_len b) b.number bs to
+Lead journal at from last (b ∷ bs) to = (b.place ≡ at + from) × IsBatchAt journal from last b × Lead journal at (from + batch_len b) b.number bs to
 
 -- the number of the last batch, or that one
-abbrev pub last_number : ℕ → List Batch → ℕ
-last_number last [] = last
-last_number last (b ∷ bs) = last_number b.number bs
+abbrev pub number_after : ℕ → List Batch → ℕ
+number_after last [] = last
+number_after last (b ∷ bs) = number_after b.number bs
 
 -- the list of batches ends there: the gate is closed, or its batch is bad
 abbrev pub Ends : (journal : List ℕ) (at place last : ℕ) → Option ℕ → Type 0
 Ends journal at place last None = IsClosed journal place
 Ends journal at place last (Some bad) = (bad ≡ at + place) × IsBad journal place last
 
--- The journal, which begins at `at` on its disk, has these batches in its first bytes, so many, the first one of at least that
--- number; and then a gate that isn't open, or that of a bad batch, at this place of the disk.
-pub record IsRead (journal : List ℕ) (at number : ℕ) (batches : List Batch) (used : ℕ) (bad : Option ℕ) : Type 0 where
+-- These batches fill the first `used` bytes; the first has at least that number. Behind them is a closed gate (None), or the gate
+-- of a bad batch, at this place of the disk.
+pub record IsReading (journal : List ℕ) (at number : ℕ) (batches : List Batch) (used : ℕ) (bad : Option ℕ) : Type 0 where
   pub lead : Lead journal at 0 number batches used
-  pub ends : Ends journal at used (last_number number batches) bad
+  pub ends : Ends journal at used (number_after number batches) bad

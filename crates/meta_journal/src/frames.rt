@@ -2,7 +2,7 @@
 ghost use Rattle.std.specs.Prelude.{◌≡◌, ◌+◌, ◌<◌, ◌≤◌, ◌^◌, ◌++◌, ℕ, length, take, IfSome, MatchOption};
 ghost use Rattle.byteorder.specs.Endian.{big_bytes};
 ghost use Rattle.disk_model.specs.Images.{part, overlay};
-ghost use Rattle.meta_journal.specs.Texts.{IsOpen, closed_gate, IsBad, Stands};
+ghost use Rattle.meta_journal.specs.Texts.{IsOpen, closed_gate, IsBad, IsBatchAt};
 
 use byteorder::{BigEndian, ByteOrder};
 
@@ -28,7 +28,7 @@ pub(crate) fn frame_at(journal: &[u8], place: usize, last: u64) -> Option<Frame>
     requires at { place < length journal.now }
     requires short { length journal.now < 2 ^ 32 }
     requires open { IsOpen journal.now place }
-    ensures read { MatchOption result (IsBad journal.now place last) (λ f. Stands journal.now place last (record { place = 0; number = f.number; count = f.count; records = part journal.now (place + 17) f.size })) }
+    ensures read { MatchOption result (IsBad journal.now place last) (λ f. IsBatchAt journal.now place last (record { place = 0; number = f.number; count = f.count; records = part journal.now (place + 17) f.size })) }
     ensures room { IfSome result (λ f. place + (18 + f.size) ≤ length journal.now) }
 {
     if journal.len() - place <= FRAME {

@@ -3,7 +3,7 @@ ghost use Rattle.std.specs.Prelude.{◌≡◌, ◌+◌, ◌<◌, ◌≤◌, ◌^
 ghost use Rattle.disk_model.specs.Calls.{HasCause};
 ghost use Rattle.disk_model.specs.Images.{IsFreed, IsWritten};
 ghost use Rattle.disk_model.specs.Moments.{MayBe, Keeps, Turns};
-ghost use Rattle.meta_journal.specs.Steps.{IsShut};
+ghost use Rattle.meta_journal.specs.Steps.{StaysShut};
 
 use disk_model::{Disk, Failed, sync_all, write_at};
 
@@ -26,7 +26,7 @@ fn write_through<D: Disk>(disk: &mut D, at: u64, bytes: &[u8]) -> Result<(), Fai
 pub(crate) fn put_batch<D: Disk>(disk: &mut D, at: u64, body: &[u8]) -> Result<(), Failed>
     requires fits { at + (1 + length body.now) ≤ D.length_of disk.old }
     requires place { at + 1 < 2 ^ 64 }
-    ensures any_moment { Turns D.Disk disk.old disk.new (IsShut at (length body.now)) (IsWritten at (1 ∷ body.now)) }
+    ensures any_moment { Turns D.Disk disk.old disk.new (StaysShut at (length body.now)) (IsWritten at (1 ∷ body.now)) }
     ensures stored { OnOk result ((c : List ℕ) → MayBe D.Disk disk.new c → (d : List ℕ) × D.gives disk.old d × IsWritten at (1 ∷ body.now) d c) }
     ensures cause { HasCause result (D.fault_count disk.old) (D.fault_count disk.new) }
 {

@@ -3,7 +3,7 @@ ghost use Rattle.std.specs.Prelude.{◌≡◌, ◌+◌, ◌<◌, ◌≤◌, ◌^
 ghost use Rattle.disk_model.specs.Calls.{Counts};
 ghost use Rattle.disk_model.specs.Moments.{MayBe, Turns};
 ghost use Rattle.meta_journal.specs.Texts.{IsClosed};
-ghost use Rattle.meta_journal.specs.Steps.{resting, after, Fits, Holds, KeepsBatches, AddsBatch};
+ghost use Rattle.meta_journal.specs.Steps.{unstaged, after_commit, FitsBatch, Holds, KeepsBatches, AddsBatch};
 
 use crate::frames::{FRAME, Frame, HEAD, overwrite, put_frame};
 use crate::gates::put_batch;
@@ -26,21 +26,21 @@ pub struct MetaJournal {
 impl Model for MetaJournal {
     ghost use Rattle.std.specs.Prelude.{◌+◌, ◌<◌, ◌≤◌, ◌^◌, length};
     ghost use Rattle.disk_model.specs.Images.{part};
-    ghost use Rattle.meta_journal.specs.Steps.{Journal, IsKept};
+    ghost use Rattle.meta_journal.specs.Steps.{Journal, HasRoom};
 
     ghost Value = { Journal };
 
     ghost view = { λ j. record { at = j.at; len = length j.bytes.items; used = j.used; count = j.count; staged = part j.bytes.items 16 j.size } };
 
-    ghost invariant = { λ j. IsKept (length j.bytes.items) j.used j.count j.size };
+    ghost invariant = { λ j. HasRoom (length j.bytes.items) j.used j.count j.size };
 }
 
 impl MetaJournal {
     /// A journal whose batches have so many bytes, with this buffer and nothing staged.
-    pub(crate) fn resting(at: u64, bytes: Vec<u8>, used: usize) -> MetaJournal
+    pub(crate) fn unstaged(at: u64, bytes: Vec<u8>, used: usize) -> MetaJournal
         requires room { used + 1 ≤ length bytes.items }
         requires short { length bytes.items < 2 ^ 32 }
-        ensures { result ≡ resting at (length bytes.items) used }
+        ensures { result ≡ unstaged at (length bytes.items) used }
     {
         MetaJournal {
             at,
@@ -51,9 +51,9 @@ impl MetaJournal {
         }
     }
 
-    // Whether a batch with so many bytes more fits.
-    fn fits(&self, more: usize) -> bool
-        ensures { IsTrue result ↔ Fits self.now more }
+    /// Whether records of so many bytes more fit, in one or in several.
+    pub fn fits(&self, more: usize) -> bool
+        ensures { IsTrue result ↔ FitsBatch self.now more }
     {
         let taken = self.used + FRAME + self.size;
         taken < self.bytes.len() && more < self.bytes.len() - taken
@@ -64,7 +64,7 @@ impl MetaJournal {
         requires some { 1 ≤ length bytes.now }
         ensures staged { OnOk result (self.new ≡ record self.old { count = self.old.count + 1; staged = self.old.staged ++ bytes.now }) }
         ensures same { OnErr result (self.new ≡ self.old) }
-        ensures full { IsErr result ↔ (Fits self.old (length bytes.now) → ⊥) }
+        ensures full { IsErr result ↔ (FitsBatch self.old (length bytes.now) → ⊥) }
     {
         if !self.fits(bytes.len()) {
             return Err(Full);
@@ -75,19 +75,22 @@ impl MetaJournal {
         Ok(())
     }
 
-    /// Adds what is staged to the journal, as a batch of that number, with two writes and two syncs and no memory.
+    /// Adds what is staged to the journal, as a batch of that number, with two writes and two syncs and no memory. At each moment the
+    /// journal has the batches from before, or one more, where the next gate is closed on each image that may be, and where numbers
+    /// don't fall and are at most 2^62. After `Failed` that gate may be open, so a second commit promises nothing of batches.
     pub fn commit<D: Disk>(&mut self, disk: &mut D, number: u64) -> Result<(), JournalRefusal>
         requires there { self.old.at + self.old.len ≤ D.length_of disk.old }
 
-        // At each moment since, and after a failure too, the journal has the batches from before, or one more.
+        // At each moment since, and after a failure too, the journal has the batches from before, or one more, where the gate was
+        // closed on each image that may be, and where numbers don't fall and are at most 2^62.
         ensures any_moment { Turns D.Disk disk.old disk.new (KeepsBatches self.old) (AddsBatch self.old number) }
         ensures stored { OnOk result ((c : List ℕ) → MayBe D.Disk disk.new c → (d : List ℕ) × D.gives disk.old d × AddsBatch self.old number d c) }
-        ensures after { OnOk result (self.new ≡ after self.old) }
+        ensures after { OnOk result (self.new ≡ after_commit self.old) }
 
         // Why it wasn't written. What is staged stays.
         ensures same { OnErr result (self.new ≡ self.old) }
-        ensures full { IsErrOf result JournalRefusal.Full ↔ (Fits self.old 0 → ⊥) }
-        ensures nothing { IsErrOf result JournalRefusal.Full → disk.new ≡ disk.old }
+        ensures full { IsErrOf result JournalRefusal.Full ↔ (FitsBatch self.old 0 → ⊥) }
+        ensures unwritten { IsErrOf result JournalRefusal.Full → disk.new ≡ disk.old }
         ensures faults { Counts (IsErrOf result JournalRefusal.Failed) (D.fault_count disk.old) (D.fault_count disk.new) }
     {
         // So each place of the journal is a u64.
@@ -111,10 +114,10 @@ impl MetaJournal {
         Ok(())
     }
 
-    /// Drops what is staged, and goes on at the journal there, which has the same length and whose first gate is closed: what
-    /// `commit` says of the batches of a journal holds of none whose gate is open.
+    /// Drops what is staged, and goes on at the journal there, which has the same length and whose first gate is closed: where its
+    /// gate is open, `commit` promises nothing of batches.
     pub fn restart(&mut self, at: u64)
-        ensures restarted { self.new ≡ resting at self.old.len 0 }
+        ensures restarted { self.new ≡ unstaged at self.old.len 0 }
         ensures empty { (number : ℕ) (c : List ℕ) → IsClosed c at → Holds self.new number [] c }
     {
         self.at = at;

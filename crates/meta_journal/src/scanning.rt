@@ -4,8 +4,8 @@ ghost use Rattle.disk_model.specs.Images.{part, Alike};
 ghost use Rattle.disk_model.specs.Calls.{Counts};
 ghost use Rattle.disk_model.specs.Moments.{Keeps, Same};
 ghost use Rattle.meta_journal.specs.declared.lists.Batch.{Batch};
-ghost use Rattle.meta_journal.specs.Texts.{IsRead};
-ghost use Rattle.meta_journal.specs.Steps.{resting};
+ghost use Rattle.meta_journal.specs.Texts.{IsReading};
+ghost use Rattle.meta_journal.specs.Steps.{unstaged};
 
 use crate::frames::{FRAME, frame_at};
 use crate::journal::MetaJournal;
@@ -26,7 +26,7 @@ fn front_of(alloc: Global, journal: &[u8], at: u64, number: u64) -> Result<Front
     requires some { 1 ≤ length journal.now }
     requires short { length journal.now < 2 ^ 32 }
     requires at { at + length journal.now < 2 ^ 64 }
-    ensures read { IfOk result (λ f. IsRead journal.now at number f.batches.items f.used f.bad) }
+    ensures read { IfOk result (λ f. IsReading journal.now at number f.batches.items f.used f.bad) }
     ensures room { IfOk result (λ f. f.used + 1 ≤ length journal.now) }
 {
     let mut batches = Vec::new(alloc);
@@ -60,9 +60,9 @@ fn front_of(alloc: Global, journal: &[u8], at: u64, number: u64) -> Result<Front
 }
 
 /// Reads the journal of `len` bytes at that place of the disk, both in bytes, whose first batch is to have at least that number. It
-/// gives the journal, with nothing staged, its open batches up to the first whose frame is bad, and the place of that one's gate.
-/// A frame is bad where the batch doesn't end within the journal with room for the next gate, or its number is above 2^62 or below
-/// the one before. Where one is bad, nothing is to be committed there. Only `Disk` and `Memory` are answered.
+/// gives the journal, with nothing staged, the batches before the first gate that isn't open or whose frame is bad, and in the second
+/// case that gate's place. A frame is bad where the batch doesn't end within the journal with room for the next gate, or its number
+/// is above 2^62 or below the one before. Where one is bad, nothing is to be committed there. Only `Disk` and `Memory` are answered.
 pub fn scan<D: Disk>(
     alloc: Global,
     disk: &mut D,
@@ -79,12 +79,12 @@ pub fn scan<D: Disk>(
     ensures given { Alike (D.gives disk.old) (D.gives disk.new) }
 
     // Ok tells what the disk holds, and of each text of batches there is no other reading.
-    ensures read { IfOk result (λ r. (c : List ℕ) → D.gives disk.old c → IsRead (part c at len) at number r.1.items r.0.used r.2) }
-    ensures only { IfOk result (λ r. (c : List ℕ) → D.gives disk.old c → (batches : List Batch) (used : ℕ) (bad : Option ℕ)
-        → IsRead (part c at len) at number batches used bad → (r.1.items ≡ batches) × (r.0.used ≡ used) × (r.2 ≡ bad)) }
+    ensures read { IfOk result (λ r. (c : List ℕ) → D.gives disk.old c → IsReading (part c at len) at number r.1.items r.0.used r.2) }
+    ensures no_other_reading { IfOk result (λ r. (c : List ℕ) → D.gives disk.old c → (batches : List Batch) (used : ℕ) (bad : Option ℕ)
+        → IsReading (part c at len) at number batches used bad → (r.1.items ≡ batches) × (r.0.used ≡ used) × (r.2 ≡ bad)) }
 
     // On a disk that doesn't tell, too.
-    ensures journal { IfOk result (λ r. r.0 ≡ resting at len r.0.used) }
+    ensures journal { IfOk result (λ r. r.0 ≡ unstaged at len r.0.used) }
 
     // Why it wasn't read.
     ensures faults { Counts (IsErrOf result OpenRefusal.Disk) (D.fault_count disk.old) (D.fault_count disk.new) }
@@ -101,6 +101,6 @@ pub fn scan<D: Disk>(
     let Ok(front) = front_of(alloc, &bytes, at, number) else {
         return Err(OpenRefusal::Memory);
     };
-    let journal = MetaJournal::resting(at, bytes, front.used);
+    let journal = MetaJournal::unstaged(at, bytes, front.used);
     Ok((journal, front.batches, front.bad))
 }

@@ -274,13 +274,17 @@ fn ask<D: Disk>(journal: &mut MetaJournal, disk: &mut D) -> Answers
     (over, just, [failed, again, full, anew])
 }
 
-/// The answers of a journal of 80 bytes on a disk whose first write fails, and how often the disk has failed then.
+/// The answers of a journal of 80 bytes, in which records of 62 bytes fit and of 63 don't, on a disk whose first write fails, and
+/// how often the disk has failed then.
 fn asked(alloc: Global) -> Option<(Answers, u64)> {
     let mut disk = MemDisk::new(alloc, &EMPTY, &[1]).ok()?;
     if disk.len() < AT + LEN {
         return None;
     }
     let (mut journal, _batches, _bad) = scan(alloc, &mut disk, AT, LEN, 0).ok()?;
+    if !journal.fits(62) || journal.fits(63) {
+        return None;
+    }
     let answers = ask(&mut journal, &mut disk);
     Some((answers, disk.faults()))
 }

@@ -2,7 +2,7 @@ use Rattle.std.proofs.Common.{◌≡◌, ℕ, ◌+◌, ◌++◌, length, refl, s
 use Rattle.std.proofs.lemmas.List.{with_items_is}
 use Rattle.std.specs.Vec.{with_items}
 use Rattle.disk_model.specs.Images.{part}
-use Rattle.meta_journal.specs.Steps.{IsKept}
+use Rattle.meta_journal.specs.Steps.{HasRoom}
 use Rattle.meta_journal.proofs.Framing.{staged_more}
 use Rattle.meta_journal.proofs.Committing.{room, seen_more}
 use Rattle.meta_journal.proofs.journal.MetaJournal.append.Goals.{After-overwrite}
@@ -20,7 +20,7 @@ overwrite-requires c = omega (arith, room c.self.inside.bytes.items c.self.insid
 pub invariant_of-self : goal.invariant_of-self
 invariant_of-self c =
     let d = (goal.at.invariant_of-self c).After-overwrite in
-    subst (λ (len : ℕ). IsKept len c.self.inside.used (c.self.inside.count + 1) (c.self.inside.size + length c.args.bytes.now)) (sym (ap length (items_are d) ∙ (staged d).0))
+    subst (λ (len : ℕ). HasRoom len c.self.inside.used (c.self.inside.count + 1) (c.self.inside.size + length c.args.bytes.now)) (sym (ap length (items_are d) ∙ (staged d).0))
     (record { room = c.self.invariant.room; short = c.self.invariant.short; fits = λ some. room c.self.inside.bytes.items c.self.inside.at c.self.inside.used c.self.inside.count c.self.inside.size (length c.args.bytes.now) c.args.self.now c.self.invariant c.self.view_is (c.if-not-fits.ensures.0 refl); few = omega (arith, c.self.invariant.few, c.requires.some) })
 
 pub returns-clause-staged : goal.returns-clause-staged

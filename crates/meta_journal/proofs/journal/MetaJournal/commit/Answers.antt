@@ -1,7 +1,7 @@
 use Rattle.std.proofs.Common.{◌≡◌, ℕ, ◌+◌, ◌<◌, ◌≤◌, ◌^◌, length, take, refl, sym, ◌∙◌, ap, subst, arith, length-take-le}
 use Rattle.std.proofs.lemmas.List.{with_items_is}
 use Rattle.std.specs.Vec.{with_items}
-use Rattle.meta_journal.specs.Steps.{Journal, IsKept}
+use Rattle.meta_journal.specs.Steps.{Journal, HasRoom}
 use Rattle.meta_journal.proofs.Committing.{room, seen_same, seen_after, turns_for, adds_for}
 use Rattle.meta_journal.proofs.journal.MetaJournal.commit.Given.{Over}
 use Rattle.meta_journal.proofs.journal.MetaJournal.commit.Goals.{After-deref}
@@ -38,7 +38,7 @@ put_batch-requires-clause-place g c =
 pub invariant_of-self-2 : goal.invariant_of-self-2
 invariant_of-self-2 g c =
     let d = (goal.at.invariant_of-self-2 g c).After-deref in
-    subst (λ (len : ℕ). IsKept len (c.self.inside.used + (17 + c.self.inside.size)) 0 0) (sym (ap length (items_are g d) ∙ long g d))
+    subst (λ (len : ℕ). HasRoom len (c.self.inside.used + (17 + c.self.inside.size)) 0 0) (sym (ap length (items_are g d) ∙ long g d))
     (record { room = omega (arith, fits g d); short = c.self.invariant.short; fits = λ some. absurd (omega arith); few = omega arith })
 
 pub returns-clause-any_moment : goal.returns-clause-any_moment
