@@ -11,6 +11,7 @@ use Rattle.plain_model.specs.Faults.{FaultIsLast}
 use Rattle.plain_model.specs.Laws.{IsRunSeen, IsGoodFrom, IsPlain, state_at}
 use Rattle.plain_model.specs.Legal.{Legal, After}
 use Rattle.plain_model.specs.Plain.{File}
+use Rattle.plain_model.specs.Seen.{IsSeen}
 use Rattle.plain_model.specs.Side.{sides_of, side_after}
 use Rattle.plain_model.specs.Stamps.{stamp}
 use Rattle.plain_model.specs.Stands.{Stands}
@@ -56,6 +57,10 @@ pub record GoodWhereTold (s : Superblock) (base : ℕ) (h : Held) (es : List Ent
   pub good : IsGoodSeenFrom (Unit {0}) s base h es P → IsGoodFrom s base h es P
   pub seen : IsGoodFrom s base h es P → IsGoodSeenFrom (Unit {0}) s base h es P
 
--- Where it tells, the answer over what is seen of files is the one over what is held, of each event.
+-- Where it tells, nothing is seen but what is held; so what is so over files that are seen is so over those that are held.
+abbrev pub SeenWhereTold : (held seen : Held) → Type 0
+SeenWhereTold held seen = IsSeen (Unit {0}) held seen ↔ (seen ≡ held)
+
+-- Then the answer over what is seen of files is the one over what is held, of each event.
 abbrev pub OwnWhereTold : Superblock → State → Actor → Action → Answer → Type 0
 OwnWhereTold s st actor action answer = IsOwnSeen (Unit {0}) s st actor action answer ↔ IsOwn s st actor action answer

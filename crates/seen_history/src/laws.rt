@@ -7,7 +7,7 @@ ghost use Rattle.plain_model.specs.declared.entries.Answer.{Answer};
 ghost use Rattle.plain_model.specs.declared.entries.Entry.{Entry};
 ghost use Rattle.plain_model.specs.Plain.{File};
 ghost use Rattle.plain_model.specs.State.{Held, State};
-ghost use Rattle.seen_history.specs.Laws.{GoodWhereTold, OwnWhereTold, SeenIsGood};
+ghost use Rattle.seen_history.specs.Laws.{GoodWhereTold, OwnWhereTold, SeenIsGood, SeenWhereTold};
 
 /// On every disk a run is legal but for bytes, and what the store keeps stands for the plain map but for bytes.
 /// No crate calls it yet.
@@ -18,6 +18,11 @@ pub fn seen_is_good()
 /// Where the disk tells what it holds that is what is said of a good run. No crate calls it yet.
 pub fn good_where_told()
     ensures { (s : Superblock) (base : ℕ) (opening : Held) (history : List Entry) (files : List File) → GoodWhereTold s base opening history files }
+{}
+
+/// Where it tells files are seen just as they are held. No crate calls it yet.
+pub fn seen_where_told()
+    ensures { (held seen : Held) → SeenWhereTold held seen }
 {}
 
 /// Where it tells each answer is exact in its bytes too. No crate calls it yet.

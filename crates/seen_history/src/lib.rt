@@ -3,4 +3,4 @@
 
 mod laws;
 
-pub use laws::{good_where_told, own_where_told, seen_is_good};
+pub use laws::{good_where_told, own_where_told, seen_is_good, seen_where_told};
