@@ -1,5 +1,6 @@
 -- Which deeds belong to which line of a script.
-use Rattle.std.specs.Prelude.{◌≡◌, ◌≢◌, ◌↔◌, ℕ, nat_lt, List, [], ◌∷◌, ◌++◌, map, flat_map, filter, All, Contains, Bool, true, false, Option, None, Some, is_some}
+use Rattle.std.specs.Prelude.{◌≡◌, ◌≢◌, ◌↔◌, ℕ, nat_lt, List, [], ◌∷◌, ◌++◌, map, flat_map, filter, All, Contains}
+use Rattle.std.specs.Prelude.{Bool, true, false, Option, None, Some, is_some}
 use Rattle.std.specs.List.{list_all}
 use Rattle.std.specs.List.Sorted.{IsStrictlySortedBy}
 use Rattle.std.specs.Map.{keys_of}

@@ -21,7 +21,8 @@ use Rattle.script_text.specs.declared.lines.Line.{Line}
 use Rattle.script_text.specs.declared.lines.Line.TheVariants.{Event, Start, Kill, Step, Settle}
 use Rattle.deeds.specs.Deeds.{entry_of, Deed, Enters, Refreshes, Gives, Breaks, Loses, IsServed}
 use Rattle.deeds.specs.Given.{Given, given_of, given_behind}
-use Rattle.hsm_replay.specs.Parts.{Exchange, done_by, IsWork, IsUpToRest, IsTurn, AreResumes, ResumesInTurn, resume_of, entries_below, joined, are_quiet, AreBusy, Follows}
+use Rattle.hsm_replay.specs.Parts.{Exchange, done_by, IsWork, IsUpToRest, IsTurn, AreResumes, ResumesInTurn, resume_of, entries_below}
+use Rattle.hsm_replay.specs.Parts.{joined, are_quiet, AreBusy, Follows}
 
 -- What a run has come to where it was stopped: to an event whose entry says that the disk failed; to one of which there is no entry, since memory ran out or
 -- the store was closed before; or to no event, where a machine, a copy or a fetch lacked memory.
