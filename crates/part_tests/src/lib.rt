@@ -4,7 +4,6 @@
 #[cfg(test)]
 mod answers;
 #[cfg(test)]
-mod caches;
 #[cfg(test)]
 mod disks;
 #[cfg(test)]
