@@ -1,5 +1,5 @@
 -- What is promised of a run: each clause over the words, the outcome, and what the objects tell.
-use Rattle.std.specs.Prelude.{ℕ, ◌≡◌, ◌≢◌, ◌+◌, ◌⊎◌, List, [], ◌∷◌, take, slice_get, Bool, true, false, Option, Some, None, IfSome, IsSome}
+use Rattle.std.specs.Prelude.{ℕ, ◌≡◌, ◌≢◌, ◌+◌, ◌⊎◌, List, [], ◌∷◌, take, sum_by, Bool, true, false, Option, Some, None, IfSome, IsSome}
 use Rattle.std.specs.Io.KnownBytes.{Appends, IsAtEnd}
 use Rattle.std.specs.List.{AllByRecursion}
 use Rattle.disk_model.specs.declared.device.Disk as disk
@@ -136,11 +136,11 @@ IsGoodSeenOver Told opened history = IsGoodSeen Told (superblock_at opened) (bas
 abbrev pub IsGoodOver : {D : Type 0} → Option (Store D) → List Entry → Type 0
 IsGoodOver opened history = IsGoodRun (superblock_at opened) (base_of opened) (held_at opened) history
 
--- the disk that is given back has failed
+-- the disk that is given back has failed, in just one call since the host handed it out
 pub record HasFailed {D : Type 0} (g : disk.Ghosts D) (given : Option D) : Type 0 where
   pub disk : D
   pub back : given ≡ Some disk
-  pub rose : Rose 0 (g.fault_count disk)
+  pub once : g.fault_count disk ≡ 1
 
 -- An answer for a fault of the disk comes only where the disk has failed, and then the run ends for that fault, or for want of memory. A run on a
 -- store that was opened ends for a fault of the disk only where an entry says so.
@@ -400,14 +400,11 @@ IsNamed (Some Replay) holds image = ⊥
 IsNamed (Some (Drill number)) holds image = ⊥
 IsNamed None holds image = ⊥
 
--- a drive that is given back has failed
-pub record HasDriveFailed {M : Type 0} (g : drive.Ghosts M) (given : List M) : Type 0 where
-  pub number : ℕ
-  pub drive : M
-  pub back : slice_get given number ≡ Some drive
-  pub rose : Rose 0 (g.fault_count drive)
+-- one of the drives that are given back has failed, in just one call since the host handed it out, and no other has
+abbrev pub HasDriveFailed : {M : Type 0} → drive.Ghosts M → List M → Type 0
+HasDriveFailed g given = sum_by g.fault_count given ≡ 1
 
--- What is told as a fault of the host: its count rose, or in `show PATH DIR` that of a drive. A drive's fault in a run changes no status.
+-- What is told as a fault of the host: its count rose, or in `show PATH DIR` a drive failed. A drive's fault in a run changes no status.
 abbrev pub HostFails : {M : Type 0} → drive.Ghosts M → Option Form → HostTold → List M → Type 0
 HostFails g (Some (ShowVolumes path dir)) host drives = Rose host.before host.now ⊎ HasDriveFailed g drives
 HostFails g other host drives = Rose host.before host.now
