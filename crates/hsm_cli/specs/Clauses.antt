@@ -61,18 +61,18 @@ TellsGiven g (Some disk) = Tells g disk
 -- The history that a run of a script has, by what went wrong first, what its settles have come to, and what its marks tell beside. A run that ends well,
 -- or fails only in writing, has read the script to its end and runs all lines; one that lacks memory, or whose disk fails, runs the first ones.
 abbrev pub HasRun : (List Line → List Mark → Type 0) → (List Mark → Type 0) → Bool → SourceTold → Option Cause → List Entry → Type 0
-HasRun Settles Tells commits source None history = RunsAll Settles Tells commits source.given history × IsAtEnd source.left
-HasRun Settles Tells commits source (Some WriteFault) history = RunsAll Settles Tells commits source.given history × IsAtEnd source.left
-HasRun Settles Tells commits source (Some DiskFault) history = (history ≡ []) ⊎ RunsFirst Settles Tells commits source.given history
-HasRun Settles Tells commits source (Some NoMemory) history = (history ≡ []) ⊎ RunsFirst Settles Tells commits source.given history
-HasRun Settles Tells commits source (Some why) history = history ≡ []
+HasRun Settles Says commits source None history = RunsAll Settles Says commits source.given history × IsAtEnd source.left
+HasRun Settles Says commits source (Some WriteFault) history = RunsAll Settles Says commits source.given history × IsAtEnd source.left
+HasRun Settles Says commits source (Some DiskFault) history = (history ≡ []) ⊎ RunsFirst Settles Says commits source.given history
+HasRun Settles Says commits source (Some NoMemory) history = (history ≡ []) ⊎ RunsFirst Settles Says commits source.given history
+HasRun Settles Says commits source (Some why) history = history ≡ []
 
 -- The history of a drill: it has run all its lines where it ended well, or failed only in writing, and the first ones where memory was wanting.
 abbrev pub HasDrilled : (List Line → List Mark → Type 0) → (List Mark → Type 0) → ℕ → Option Cause → List Entry → Type 0
-HasDrilled Settles Tells number None history = DrillsAll Settles Tells number history
-HasDrilled Settles Tells number (Some WriteFault) history = DrillsAll Settles Tells number history
-HasDrilled Settles Tells number (Some NoMemory) history = (history ≡ []) ⊎ DrillsFirst Settles Tells number history
-HasDrilled Settles Tells number (Some why) history = history ≡ []
+HasDrilled Settles Says number None history = DrillsAll Settles Says number history
+HasDrilled Settles Says number (Some WriteFault) history = DrillsAll Settles Says number history
+HasDrilled Settles Says number (Some NoMemory) history = (history ≡ []) ⊎ DrillsFirst Settles Says number history
+HasDrilled Settles Says number (Some why) history = history ≡ []
 
 -- Only the forms of `replay` run a script, and `drill` the one that it makes of its number. `replay PATH DIR` ends with a commit, and its marks tally with the
 -- drives that come back; those of plain `replay` and of `drill`, whose drives in memory never fail, lose nothing that was sealed. All are well served, and
