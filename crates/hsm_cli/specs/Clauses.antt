@@ -116,7 +116,8 @@ ReadingClause (Some (Drill number)) source o = IsUnread source
 
 -- ---- the legality clause and the plain clause
 
--- Over the store that the run began with the history is a run on any disk: each answer is exact but for bytes, and in these too where the disk tells.
+-- Over the store that the run began with the history is a run on any disk: each answer is exact but for bytes, and for whether these refuse a seal, and in
+-- these too where the disk tells.
 abbrev pub IsRunOver : {D : Type 0} → Type 0 → Option (Store D) → List Entry → Type 0
 IsRunOver Told opened history = IsRunSeen Told (superblock_at opened) (base_of opened) (held_at opened) history
 

@@ -78,7 +78,7 @@ pub record HasFailed {D : Type 0} (g : disk.Ghosts D) (old : Store D) (actor : A
   pub once : RoseByOne (g.fault_count old.files.disk) (g.fault_count new.files.disk)
 
 -- The event was answered by the store itself, and no call of the disk failed. The answer is its own over what is seen of its files: exact but for bytes, and
--- in these too where the disk tells what it holds. What it leaves goes by the answer that was given.
+-- for whether these refuse a seal, and in these too where the disk tells what it holds. What it leaves goes by the answer that was given.
 pub record IsDone {D : Type 0} (g : disk.Ghosts D) (old : Store D) (actor : Actor) (action : Action) (given : Answer) (new : Store D) : Type 0 where
   pub goes : Goes g old new
   pub answer : IsOwnSeen (Tells g new.files.disk) (superblock_of old.opened) (state_of old) actor action given
