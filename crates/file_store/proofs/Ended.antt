@@ -4,13 +4,14 @@ use Rattle.file_store.proofs.Names.{StoresOrKeeps, Ghosts}
 use Rattle.std.specs.Prelude.{Result, Ok, Err}
 use Rattle.std.specs.Result.{IsErrOf, IsErrAnd}
 use Rattle.std.proofs.lemmas.Result.{err_from_is_err_and}
-use Rattle.disk_model.specs.Calls.{Counts}
+use Rattle.disk_model.specs.Calls.{Counts, RoseByOne}
 use Rattle.hsm_types.specs.declared.dm.DmRefusal.{DmRefusal}
 use Rattle.meta_store.specs.declared.refusal.MetaRefusal.{MetaRefusal}
 use Rattle.meta_store.specs.declared.refusal.MetaRefusal.TheVariants.{Part, Disk, Memory}
 use Rattle.file_store.specs.declared.refusal.StoreRefusal.{StoreRefusal}
 use Rattle.file_store.specs.declared.refusal.StoreRefusal.TheVariants as store
 use Rattle.file_store.specs.Changes.{Ends, Changes}
+use Rattle.file_store.specs.Stores.{TellsFaults}
 use Rattle.file_store.specs.Refusals.{is_disk, refused_as, no_memory}
 use Rattle.file_store.proofs.Durable.{Parts, store_of, kept_proceeds, proceeds_on}
 
@@ -91,6 +92,13 @@ ends_err g old new n refusal r why at whole is = record {
   proceeds = is.proceeds;
 }
 
+-- faults of a call, where none came before it
+pub faults_on : {D T : Type 0} (g : Ghosts D) (old mid new : Store D) (r : Result T StoreRefusal) → g.fault_count mid.disk ≡ g.fault_count old.disk → TellsFaults g r mid new → TellsFaults g r old new
+faults_on g old mid new r quiet tells = record {
+  closes = tells.closes;
+  counts = record { once = λ failed. subst (λ (count : ℕ). RoseByOne count (g.fault_count new.disk)) quiet (tells.counts.once failed); quiet = λ none. tells.counts.quiet none ∙ quiet };
+}
+
 -- a change after a call that was done, and by which all is held as before
 pub changes_on : {D S T : Type 0} {g : Ghosts D} {old mid new : Store D} {n : ℕ} {key : FileKey} {effect : Effect} {first : Result S StoreRefusal} {r : Result T StoreRefusal} (x : S) → first ≡ Ok x → Ends g old n None first mid → mid.held ≡ old.held
     → Changes g mid n key effect None r new → Changes g old n key effect None r new
@@ -102,7 +110,7 @@ changes_on {D} {S} {T} {g} {old} {mid} {new} {n} {key} {effect} {first} {r} x do
     unchanged = λ part e. absurd (let some = is.ends.refused part e in cc);
     working = is.ends.working;
     memory = λ e. ((is.ends.memory e).0 ∙ same, (is.ends.memory e).1);
-    faults = grind arith;
+    faults = faults_on g old mid new r (before.faults.counts.quiet (λ failed. cc)) is.ends.faults;
     proceeds = proceeds_on g old mid new n before.proceeds same is.ends.proceeds;
   };
 }

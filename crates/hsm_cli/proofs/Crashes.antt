@@ -3,7 +3,7 @@ use Rattle.std.proofs.Common.{ℕ, ◌≡◌, ◌≢◌, ◌+◌, ◌⊎◌, inl
 use Rattle.disk_model.specs.declared.device.Disk as disk
 use Rattle.disk_model.specs.declared.refusal.OpenRefusal.{OpenRefusal}
 use Rattle.disk_model.specs.declared.refusal.OpenRefusal.TheVariants as opening
-use Rattle.disk_model.specs.Calls.{Rose}
+use Rattle.disk_model.specs.Calls.{RoseByOne}
 use Rattle.disk_model.specs.Images.{Alike}
 use Rattle.disk_model.specs.Moments.{MayBe, LeavesOnly, Keeps, Same}
 use Rattle.disk_model.proofs.Steps.{joined, holds_on}
@@ -22,7 +22,7 @@ use Rattle.hsm_cli.specs.declared.causes.Cause.TheVariants.{WordsRefused, HostFa
 use Rattle.hosts.specs.declared.outside.HostRefusal.{HostRefusal}
 use Rattle.hosts.specs.declared.outside.HostRefusal.TheVariants as handing
 use Rattle.hsm_cli.specs.Clauses.{IsCrashSafe, IsWhole, IsBeforeRun, RanToItsEnd, HasBegun, Why}
-use Rattle.hsm_cli.proofs.Running.{rose_later}
+use Rattle.hsm_cli.proofs.Running.{failed_since}
 
 plus_nothing : (n : ℕ) → n ≡ n + 0
 plus_nothing n = omega arith
@@ -72,11 +72,11 @@ module _ {D : Type 0} (g : disk.Ghosts D) (held : List ℕ → Type 0) (handed :
   pub why_unopened : (Fails : Type 0) (source : SourceTold) (sink : SinkTold) (disk : D) (refusal : OpenRefusal)
       → (refusal ≡ opening.NotStore → (c : List ℕ) → g.gives handed c → (geometry fsid : ℕ) → IsStore geometry fsid c → ⊥)
       → ((place : ℕ) → refusal ≡ opening.Corrupt place → (c : List ℕ) → g.gives handed c → IsCorruptAt place c)
-      → (refusal ≡ opening.Disk → Rose (g.fault_count handed) (g.fault_count disk))
+      → (refusal ≡ opening.Disk → RoseByOne (g.fault_count handed) (g.fault_count disk))
       → Why g held Fails source sink (Some disk) (Some (cause_of_refusal refusal))
   why_unopened Fails source sink disk opening.NotStore not_store corrupt failed = λ c holds. not_store refl c (by_host.given c holds)
   why_unopened Fails source sink disk (opening.Corrupt place) not_store corrupt failed = λ c holds. corrupt place refl c (by_host.given c holds)
-  why_unopened Fails source sink disk opening.Disk not_store corrupt failed = record { disk = disk; back = refl; rose = rose_later 0 (g.fault_count handed) (g.fault_count disk) (omega arith) (failed refl) }
+  why_unopened Fails source sink disk opening.Disk not_store corrupt failed = failed_since g (g.fault_count handed) disk by_host.counted (failed refl)
   why_unopened Fails source sink disk opening.Memory not_store corrupt failed = tt
 
 -- why it isn't handed out

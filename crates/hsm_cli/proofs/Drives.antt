@@ -79,7 +79,7 @@ module _ {S M : Type 0} (g : drive.Ghosts M) (old mid : ℕ → Objects → Type
 pub host_failed : (HostFails DiskFails : Type 0) (source : SourceTold) (sink : SinkTold) (cause : Option Cause) → RunEnds HostFails DiskFails source sink cause → cause ≡ Some HostFault → HostFails
 host_failed HostFails DiskFails source sink cause ends is = subst (RunEnds HostFails DiskFails source sink) is ends
 
-pub rose_from : (a b c : ℕ) → a ≤ b → Rose b c → Rose a c
+rose_from : (a b c : ℕ) → a ≤ b → Rose b c → Rose a c
 rose_from a b c le rose = omega (arith, le, rose)
 
 -- the last of these calls failed, and so it is one more fault

@@ -1,14 +1,16 @@
 -- Counts of faults that stay as they were where no fault is told.
 use Rattle.std.proofs.Common.{◌≡◌, ◌≢◌, ◌∙◌, ℕ, Bool, true, false, List, [], ◌∷◌, Option, Some, None, Result, Ok, Err, IfErr, IsErrOf, IsOk, IfSome}
-use Rattle.std.proofs.Common.{inl, inr, refl, sym, ap, subst}
+use Rattle.std.proofs.Common.{inl, inr, zero, suc, ◌+◌, ◌<◌, ◌%◌, length, refl, sym, ap, subst, arith}
 use Rattle.std.proofs.lemmas.Bool.{false≢true}
-use Rattle.std.specs.Prelude.{map}
+use Rattle.std.specs.Prelude.{map, sum, sum_by}
+use Rattle.std.proofs.lemmas.List.Sums.{sum_by-cons}
+use Rattle.disk_model.specs.Calls.{raised}
 use Rattle.disk_model.specs.declared.device.Disk as disk
 use Rattle.media_model.specs.declared.drive.Drive as drive
 use Rattle.plain_model.specs.declared.entries.Entry.{Entry}
 use Rattle.marked_history.specs.Marks.{Mark}
 use Rattle.command_words.specs.Commands.{Form, Format, Replay, ReplayStore, Show, ShowVolumes, Drill}
-use Rattle.reconcile.specs.Classes.{AreQuiet, TellsFailed}
+use Rattle.reconcile.specs.Classes.{AreQuiet, raised_at, FailsAt, TellsFailed}
 use Rattle.reconcile.specs.declared.refusals.ReconcileRefusal.{ReconcileRefusal}
 use Rattle.reconcile.specs.declared.refusals.ReconcileRefusal.TheVariants as counting
 use Rattle.script_text.specs.declared.lines.Line.{Line}
@@ -23,7 +25,7 @@ use Rattle.hsm_cli.specs.Statuses.{cause_of_host, cause_of_classes}
 use Rattle.hsm_cli.specs.Texts.{TakesText}
 use Rattle.hsm_cli.specs.Told.{SourceTold, SinkTold, HostTold, FailsOnce}
 use Rattle.hsm_cli.specs.Endings.{cause_in, WritingEnds, first_of}
-use Rattle.hsm_cli.specs.Clauses.{HasRun, ComesBackRead, ReadsQuietly, WritesQuietly, NeverFailed, CountsQuietly, FaultsClause}
+use Rattle.hsm_cli.specs.Clauses.{HasRun, ComesBackRead, ReadsQuietly, WritesQuietly, NeverFailed, HasDriveFailed, CountsQuietly, FaultsClause}
 
 -- ---- what a run reads and writes
 
@@ -127,6 +129,31 @@ pub asked_once : {T : Type 0} (result : Result T HostRefusal) (before after : �
 asked_once (Ok x) before after cause = inl (cause.quiet (λ is. cc))
 asked_once (Err handing.Failed) before after cause = inr (cause.rose refl)
 asked_once (Err handing.Memory) before after cause = inl (cause.quiet (λ is. cc))
+
+-- ---- drives, one of which has failed
+
+sum_first : (count : ℕ) (counts : List ℕ) → sum (count ∷ counts) ≡ count + sum counts
+sum_first count counts = sum_by-cons (λ (n : ℕ). n) count counts
+
+module _ {M : Type 0} (g : drive.Ghosts M) where
+  sum_counts : (ds : List M) → sum_by g.fault_count ds ≡ sum (map g.fault_count ds)
+  sum_counts [] = refl
+  sum_counts (d ∷ ds) = sum_by-cons g.fault_count d ds ∙ ap (λ (n : ℕ). g.fault_count d + n) (sum_counts ds) ∙ sym (sum_first (g.fault_count d) (map g.fault_count ds))
+
+  sum_none : (ds : List M) → NeverFailed g ds → sum (map g.fault_count ds) ≡ 0
+  sum_none [] never = refl
+  sum_none (d ∷ ds) never = sum_first (g.fault_count d) (map g.fault_count ds) ∙ omega (arith, never.0, sum_none ds never.1)
+
+  sum_once : (ds : List M) (place : ℕ) → NeverFailed g ds → place < length ds → sum (raised_at place (map g.fault_count ds)) ≡ 1
+  sum_once [] place never within = absurd (omega arith)
+  sum_once (d ∷ ds) zero never within =
+      let one : raised (g.fault_count d) ≡ 1 = omega (arith, never.0) in
+      sum_first (raised (g.fault_count d)) (map g.fault_count ds) ∙ omega (arith, one, sum_none ds never.1)
+  sum_once (d ∷ ds) (suc place) never within = sum_first (g.fault_count d) (raised_at place (map g.fault_count ds)) ∙ omega (arith, never.0, sum_once ds place never.1 (omega arith))
+
+  -- where none had failed, the one is all that has failed
+  pub failed_once : (old new : List M) (volume : ℕ) → NeverFailed g old → 0 < length old → FailsAt g volume old new → HasDriveFailed g new
+  failed_once old new volume never some fails = sum_counts new ∙ ap sum fails ∙ sum_once old (volume % length old) never (omega arith)
 
 -- ---- where nothing was done
 

@@ -1,21 +1,22 @@
 -- Faults in a run.
-use Rattle.std.proofs.Common.{ℕ, ◌≤◌, ◌≡◌, ◌≢◌, Bool, true, false, Option, Some, None, Result, Ok, Err, IfErr, IsErrOf, refl, subst, arith}
-use Rattle.disk_model.specs.Calls.{Rose}
+use Rattle.std.proofs.Common.{ℕ, ◌≡◌, ◌≢◌, Bool, true, false, Option, Some, None, Result, Ok, Err, IfErr, IsErrOf, refl, subst, arith}
+use Rattle.disk_model.specs.declared.device.Disk as disk
+use Rattle.disk_model.specs.Calls.{RoseByOne}
 use Rattle.hsm_cli.specs.declared.causes.Cause.{Cause}
 use Rattle.hsm_cli.specs.declared.causes.Cause.TheVariants.{ScriptRefused, WordsRefused, NotStore, Corrupt, ReadFault, WriteFault, DiskFault}
 use Rattle.hsm_cli.specs.declared.causes.Cause.TheVariants.{HostFault, NoMemory}
 use Rattle.hsm_cli.specs.Told.{SourceTold, SinkTold}
 use Rattle.hsm_cli.specs.Endings.{RunEnds}
-use Rattle.hsm_cli.specs.Clauses.{HasBegun}
+use Rattle.hsm_cli.specs.Clauses.{HasFailed, HasBegun}
 
--- a rise later is one since then
-pub rose_later : (a b c : ℕ) → a ≤ b → Rose b c → Rose a c
-rose_later a b c le rose = omega (arith, le, rose)
+-- a fault since the disk had counted none
+pub failed_since : {D : Type 0} (g : disk.Ghosts D) (count : ℕ) (disk : D) → count ≡ 0 → RoseByOne count (g.fault_count disk) → HasFailed g (Some disk)
+failed_since g count disk none once = record { disk = disk; back = refl; once = omega (arith, none, once) }
 
 -- ---- in memory
 
 -- a count that stays at 0 never rose
-pub never_rose : (faulty : Bool) → (faulty ≡ true → Rose 0 0) → faulty ≡ false
+pub never_rose : (faulty : Bool) → (faulty ≡ true → RoseByOne 0 0) → faulty ≡ false
 never_rose true rose = let wrong : ⊥ = omega (arith, rose refl) in absurd wrong
 never_rose false rose = refl
 

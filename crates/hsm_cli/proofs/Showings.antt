@@ -17,7 +17,7 @@ use Rattle.hsm_types.specs.declared.tables.Table.{Table}
 use Rattle.store_summary.specs.declared.summaries.ClassCounts.{ClassCounts}
 use Rattle.store_summary.specs.declared.summaries.Summary.{Summary}
 use Rattle.hsm_core.specs.Summaries.{IsSummary}
-use Rattle.reconcile.specs.Classes.{Tells, AreRead, ClassesRefused}
+use Rattle.reconcile.specs.Classes.{Tells, AreRead, FailsAt, ClassesRefused}
 use Rattle.reconcile.specs.declared.refusals.ReconcileRefusal.{ReconcileRefusal}
 use Rattle.reconcile.specs.declared.refusals.ReconcileRefusal.TheVariants as counting
 use Rattle.hsm_cli.specs.declared.causes.Cause.{Cause}
@@ -35,7 +35,6 @@ use Rattle.hsm_cli.specs.Clauses.{Why, HasFailed, HasDriveFailed, FindsNothing, 
 use Rattle.hsm_cli.specs.Clauses.{IsOnlyRead, HandsDrives, AreShown, GivesShown, AsksShown, LacksShown, StatusClause}
 use Rattle.hsm_cli.proofs.ByCause.{written_by, counted_by, shown_by}
 use Rattle.hsm_cli.proofs.Completeness.{came_not, not_corrupt}
-use Rattle.hsm_cli.proofs.Running.{rose_later}
 
 -- ---- texts
 
@@ -82,10 +81,8 @@ ends_as given held HostFails DiskFails Hosts Disks sink cause gives by_host by_d
     shown_by given HostFails DiskFails sink (ShowEnds held Hosts Disks sink) cause tt (λ not_store c is. not_store c (gives c is)) (λ place corrupt c is. corrupt c (gives c is)) (λ rose. rose) by_disk by_host tt ends
 
 -- why classes weren't counted
-pub ends_uncounted : {M : Type 0} (g : drive.Ghosts M) (volumes : ℕ) (old new : List M) (sink : SinkTold) (refusal : ReconcileRefusal) → ClassesRefused g volumes old new refusal → CountingEnds (HasDriveFailed g new) sink (cause_of_classes refusal)
-ends_uncounted g volumes old new sink (counting.Failed volume) refused =
-    let fails = refused.1 in
-    record { number = volume % length new; drive = fails.after; back = fails.is; rose = rose_later 0 (g.fault_count fails.before) (g.fault_count fails.after) (omega arith) fails.rose }
+pub ends_uncounted : {M : Type 0} (g : drive.Ghosts M) (volumes : ℕ) (old new : List M) (sink : SinkTold) (refusal : ReconcileRefusal) → ClassesRefused g volumes old new refusal → CountingEnds ((volume : ℕ) × FailsAt g volume old new) sink (cause_of_classes refusal)
+ends_uncounted g volumes old new sink (counting.Failed volume) refused = (volume, refused.1)
 ends_uncounted g volumes old new sink counting.Memory refused = tt
 
 -- they were, and then the text was to be written

@@ -1,5 +1,5 @@
 -- What is promised of a run: each clause over the words, the outcome, and what the objects tell.
-use Rattle.std.specs.Prelude.{ℕ, ◌≡◌, ◌≢◌, ◌+◌, ◌⊎◌, List, [], ◌∷◌, take, slice_get, Bool, true, false, Option, Some, None, IfSome, IsSome}
+use Rattle.std.specs.Prelude.{ℕ, ◌≡◌, ◌≢◌, ◌+◌, ◌⊎◌, List, [], ◌∷◌, take, sum_by, Bool, true, false, Option, Some, None, IfSome, IsSome}
 use Rattle.std.specs.Io.KnownBytes.{Appends, IsAtEnd}
 use Rattle.std.specs.List.{AllByRecursion}
 use Rattle.disk_model.specs.declared.device.Disk as disk
@@ -61,18 +61,18 @@ TellsGiven g (Some disk) = Tells g disk
 -- The history that a run of a script has, by what went wrong first, what its settles have come to, and what its marks tell beside. A run that ends well,
 -- or fails only in writing, has read the script to its end and runs all lines; one that lacks memory, or whose disk fails, runs the first ones.
 abbrev pub HasRun : (List Line → List Mark → Type 0) → (List Mark → Type 0) → Bool → SourceTold → Option Cause → List Entry → Type 0
-HasRun Settles Tells commits source None history = RunsAll Settles Tells commits source.given history × IsAtEnd source.left
-HasRun Settles Tells commits source (Some WriteFault) history = RunsAll Settles Tells commits source.given history × IsAtEnd source.left
-HasRun Settles Tells commits source (Some DiskFault) history = (history ≡ []) ⊎ RunsFirst Settles Tells commits source.given history
-HasRun Settles Tells commits source (Some NoMemory) history = (history ≡ []) ⊎ RunsFirst Settles Tells commits source.given history
-HasRun Settles Tells commits source (Some why) history = history ≡ []
+HasRun Settles Says commits source None history = RunsAll Settles Says commits source.given history × IsAtEnd source.left
+HasRun Settles Says commits source (Some WriteFault) history = RunsAll Settles Says commits source.given history × IsAtEnd source.left
+HasRun Settles Says commits source (Some DiskFault) history = (history ≡ []) ⊎ RunsFirst Settles Says commits source.given history
+HasRun Settles Says commits source (Some NoMemory) history = (history ≡ []) ⊎ RunsFirst Settles Says commits source.given history
+HasRun Settles Says commits source (Some why) history = history ≡ []
 
 -- The history of a drill: it has run all its lines where it ended well, or failed only in writing, and the first ones where memory was wanting.
 abbrev pub HasDrilled : (List Line → List Mark → Type 0) → (List Mark → Type 0) → ℕ → Option Cause → List Entry → Type 0
-HasDrilled Settles Tells number None history = DrillsAll Settles Tells number history
-HasDrilled Settles Tells number (Some WriteFault) history = DrillsAll Settles Tells number history
-HasDrilled Settles Tells number (Some NoMemory) history = (history ≡ []) ⊎ DrillsFirst Settles Tells number history
-HasDrilled Settles Tells number (Some why) history = history ≡ []
+HasDrilled Settles Says number None history = DrillsAll Settles Says number history
+HasDrilled Settles Says number (Some WriteFault) history = DrillsAll Settles Says number history
+HasDrilled Settles Says number (Some NoMemory) history = (history ≡ []) ⊎ DrillsFirst Settles Says number history
+HasDrilled Settles Says number (Some why) history = history ≡ []
 
 -- Only the forms of `replay` run a script, and `drill` the one that it makes of its number. `replay PATH DIR` ends with a commit, and its marks tally with the
 -- drives that come back; those of plain `replay` and of `drill`, whose drives in memory never fail, lose nothing that was sealed. All are well served, and
@@ -116,7 +116,8 @@ ReadingClause (Some (Drill number)) source o = IsUnread source
 
 -- ---- the legality clause and the plain clause
 
--- Over the store that the run began with the history is a run on any disk: each answer is exact but for bytes, and in these too where the disk tells.
+-- Over the store that the run began with the history is a run on any disk: each answer is exact but for bytes, and for whether these refuse a seal, and in
+-- these too where the disk tells.
 abbrev pub IsRunOver : {D : Type 0} → Type 0 → Option (Store D) → List Entry → Type 0
 IsRunOver Told opened history = IsRunSeen Told (superblock_at opened) (base_of opened) (held_at opened) history
 
@@ -136,11 +137,11 @@ IsGoodSeenOver Told opened history = IsGoodSeen Told (superblock_at opened) (bas
 abbrev pub IsGoodOver : {D : Type 0} → Option (Store D) → List Entry → Type 0
 IsGoodOver opened history = IsGoodRun (superblock_at opened) (base_of opened) (held_at opened) history
 
--- the disk that is given back has failed
+-- the disk that is given back has failed, in just one call since the host handed it out
 pub record HasFailed {D : Type 0} (g : disk.Ghosts D) (given : Option D) : Type 0 where
   pub disk : D
   pub back : given ≡ Some disk
-  pub rose : Rose 0 (g.fault_count disk)
+  pub once : g.fault_count disk ≡ 1
 
 -- An answer for a fault of the disk comes only where the disk has failed, and then the run ends for that fault, or for want of memory. A run on a
 -- store that was opened ends for a fault of the disk only where an entry says so.
@@ -400,14 +401,11 @@ IsNamed (Some Replay) holds image = ⊥
 IsNamed (Some (Drill number)) holds image = ⊥
 IsNamed None holds image = ⊥
 
--- a drive that is given back has failed
-pub record HasDriveFailed {M : Type 0} (g : drive.Ghosts M) (given : List M) : Type 0 where
-  pub number : ℕ
-  pub drive : M
-  pub back : slice_get given number ≡ Some drive
-  pub rose : Rose 0 (g.fault_count drive)
+-- one of the drives that are given back has failed, in just one call since the host handed it out, and no other has
+abbrev pub HasDriveFailed : {M : Type 0} → drive.Ghosts M → List M → Type 0
+HasDriveFailed g given = sum_by g.fault_count given ≡ 1
 
--- What is told as a fault of the host: its count rose, or in `show PATH DIR` that of a drive. A drive's fault in a run changes no status.
+-- What is told as a fault of the host: its count rose, or in `show PATH DIR` a drive failed. A drive's fault in a run changes no status.
 abbrev pub HostFails : {M : Type 0} → drive.Ghosts M → Option Form → HostTold → List M → Type 0
 HostFails g (Some (ShowVolumes path dir)) host drives = Rose host.before host.now ⊎ HasDriveFailed g drives
 HostFails g other host drives = Rose host.before host.now

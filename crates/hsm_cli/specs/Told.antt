@@ -1,10 +1,10 @@
 -- What the objects of a run tell of it: before, and at its end.
 use Rattle.std.specs.Prelude.{ℕ, ◌≡◌, ◌⊎◌, List, Option}
-use Rattle.disk_model.specs.Calls.{raised}
+use Rattle.disk_model.specs.Calls.{RoseByOne}
 
 -- it has failed in one call at most
 abbrev pub FailsOnce : ℕ → ℕ → Type 0
-FailsOnce before now = (now ≡ before) ⊎ (now ≡ raised before)
+FailsOnce before now = (now ≡ before) ⊎ RoseByOne before now
 
 -- the bytes that the source has left, and its counts of faults
 pub record SourceTold : Type 0 where

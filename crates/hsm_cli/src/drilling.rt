@@ -1,6 +1,6 @@
 //! A drill: the script that is made of a number, run on a new small store in memory.
 ghost use Rattle.std.specs.Prelude.{◌≡◌, ◌≢◌, ◌⊎◌, length, true, false, None, Some, IfOk, IfErr, IfSome, IsOk, OnOk, IsErrOf};
-ghost use Rattle.disk_model.specs.Calls.{Rose};
+ghost use Rattle.disk_model.specs.Calls.{RoseByOne};
 ghost use Rattle.disk_model.specs.Moments.{Tells};
 ghost use Rattle.media_model.specs.contracts.sure.SureDriveDrive.TheImpl as sure;
 ghost use Rattle.plain_model.specs.Faults.{has_fault};
@@ -136,7 +136,7 @@ fn run_on<D: Disk, M: Drive>(
     ensures caused_by { IsCausedOver (Some hsm.opened) result.history }
     ensures media { AreTrue M.Drive result.drives.items (faults_in result.history) }
     ensures drives { HaveGrown M.Drive drives.items result.drives.items }
-    ensures ends { IfErr result.ended (LinesEnd (Rose (D.fault_count hsm.opened.disk) (D.fault_count result.disk))) }
+    ensures ends { IfErr result.ended (LinesEnd (RoseByOne (D.fault_count hsm.opened.disk) (D.fault_count result.disk))) }
     ensures faultless { cause_in result.ended ≢ Some Cause.DiskFault → has_fault result.history ≡ false }
     ensures totals { cause_in result.ended ≢ Some Cause.DiskFault → HasLeft (held_by (superblock_of hsm.opened) hsm.opened.meta.number hsm.opened.held result.history) result.used result.offline }
 {
@@ -175,7 +175,7 @@ fn run_all<D: Disk, M: Drive>(
     ensures served { IsServed replay.new.system.store.history }
     ensures deeds { HasDone standard (AreDone (MayGoOnOver (Some replay.old.system.store.opened)) (AreThese script) (cause_in result)) (λ deeds. HaveGone M.Drive replay.old.drives deeds replay.new.drives) replay.new.system.store.history }
     ensures media { AreTrue M.Drive replay.new.drives (faults_in replay.new.system.store.history) }
-    ensures ends { IfErr result (LinesEnd (Rose (D.fault_count replay.old.system.store.files.disk) (D.fault_count replay.new.system.store.files.disk))) }
+    ensures ends { IfErr result (LinesEnd (RoseByOne (D.fault_count replay.old.system.store.files.disk) (D.fault_count replay.new.system.store.files.disk))) }
     ensures failed { replay.new.system.store.files.failed ≡ true → IsErrOf result Cause.DiskFault }
 {
     match run(alloc, replay, script, false) {

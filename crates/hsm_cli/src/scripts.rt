@@ -2,7 +2,7 @@
 ghost use Rattle.std.specs.Prelude.{◌≡◌, ◌≢◌, ◌⊎◌, ℕ, List, [], length, true, false, take, None, Some, IfOk, IfErr, IfSome, OnOk, OnErr, IsOk};
 ghost use Rattle.std.specs.Prelude.{IsErrOf, MatchResult};
 ghost use Rattle.std.specs.Io.KnownBytes.{Appends, IsAtEnd};
-ghost use Rattle.disk_model.specs.Calls.{Rose};
+ghost use Rattle.disk_model.specs.Calls.{Rose, RoseByOne};
 ghost use Rattle.disk_model.specs.Moments.{MayBe, Tells, LeavesOnly};
 ghost use Rattle.plain_model.specs.Faults.{has_fault};
 ghost use Rattle.event_text.specs.Render.{text_of};
@@ -84,7 +84,7 @@ pub(crate) fn run_opened<D: Disk, M: Drive, I: Source, O: Sink>(
     ensures legality { IsRunOver (Tells D.Disk result.disk) (Some hsm.opened) result.history }
     ensures orderly { IsOrderlyOver (Some hsm.opened) result.history }
     ensures good { Tells D.Disk result.disk → IsGoodOver (Some hsm.opened) result.history }
-    ensures caused { has_fault result.history ≡ true → Rose (D.fault_count hsm.opened.disk) (D.fault_count result.disk) }
+    ensures caused { has_fault result.history ≡ true → RoseByOne (D.fault_count hsm.opened.disk) (D.fault_count result.disk) }
     ensures told { result.cause ≡ Some Cause.DiskFault → has_fault result.history ≡ true }
     ensures faultless { result.cause ≢ Some Cause.DiskFault → result.cause ≢ Some Cause.NoMemory → has_fault result.history ≡ false }
     ensures plain { IsPlainOver (Some hsm.opened) result.history }
@@ -106,7 +106,7 @@ pub(crate) fn run_opened<D: Disk, M: Drive, I: Source, O: Sink>(
     ensures writes { WritesQuietly (sink_told O.taken O.fault_count sink.old sink.new) result.cause }
     ensures source_once { FailsOnce (I.fault_count source.old) (I.fault_count source.new) }
     ensures sink_once { FailsOnce (O.fault_count sink.old) (O.fault_count sink.new) }
-    ensures ends { RunEnds (IsErrOf drives Cause.HostFault) (Rose (D.fault_count hsm.opened.disk) (D.fault_count result.disk)) (source_told I.left I.fault_count source.old source.new) (sink_told O.taken O.fault_count sink.old sink.new) result.cause }
+    ensures ends { RunEnds (IsErrOf drives Cause.HostFault) (RoseByOne (D.fault_count hsm.opened.disk) (D.fault_count result.disk)) (source_told I.left I.fault_count source.old source.new) (sink_told O.taken O.fault_count sink.old sink.new) result.cause }
 {
     one_recovery();
     served_is_caused();
@@ -153,7 +153,7 @@ fn run_with<D: Disk, M: Drive, I: Source>(
     ensures reading { HasRead (source_told I.left I.fault_count source.old source.new) (cause_in result.ended) }
     ensures part { GivesFirst (I.left source.old) (I.left source.new) }
     ensures unready { IfErr drives (λ why. cause_in result.ended ≡ Some why) }
-    ensures ends { IfErr result.ended (λ why. ScriptEnds (IsErrOf drives Cause.HostFault) (Rose (D.fault_count hsm.files.disk) (D.fault_count result.hsm.files.disk)) (source_told I.left I.fault_count source.old source.new) why) }
+    ensures ends { IfErr result.ended (λ why. ScriptEnds (IsErrOf drives Cause.HostFault) (RoseByOne (D.fault_count hsm.files.disk) (D.fault_count result.hsm.files.disk)) (source_told I.left I.fault_count source.old source.new) why) }
     ensures failed { result.hsm.files.failed ≡ true → IsErrOf result.ended Cause.DiskFault }
     ensures fault { IsErrOf result.ended Cause.DiskFault → has_fault result.hsm.history ≡ true }
     ensures working { OnOk result.ended (result.hsm.files.failed ≡ false) }
@@ -195,7 +195,7 @@ fn run_script<D: Disk, M: Drive, I: Source>(
     ensures deeds { HasDone standard (AreDone (MayGoOnOver (Some replay.old.system.store.opened)) (AreOfScript commits (I.left source.old)) (cause_in result)) (λ deeds. HaveGone M.Drive replay.old.drives deeds replay.new.drives) replay.new.system.store.history }
     ensures reading { HasRead (source_told I.left I.fault_count source.old source.new) (cause_in result) }
     ensures part { GivesFirst (I.left source.old) (I.left source.new) }
-    ensures ends { IfErr result (λ why. ScriptEnds ⊥ (Rose (D.fault_count replay.old.system.store.files.disk) (D.fault_count replay.new.system.store.files.disk)) (source_told I.left I.fault_count source.old source.new) why) }
+    ensures ends { IfErr result (λ why. ScriptEnds ⊥ (RoseByOne (D.fault_count replay.old.system.store.files.disk) (D.fault_count replay.new.system.store.files.disk)) (source_told I.left I.fault_count source.old source.new) why) }
     ensures failed { replay.new.system.store.files.failed ≡ true → IsErrOf result Cause.DiskFault }
     ensures fault { IsErrOf result Cause.DiskFault → has_fault replay.new.system.store.history ≡ true }
     ensures working { OnOk result (replay.new.system.store.files.failed ≡ false) }

@@ -1,10 +1,10 @@
 //! A store of the host, shown.
 ghost use Rattle.std.specs.Prelude.{◌≡◌, ◌≢◌, ◌<◌, ◌⊎◌, ℕ, List, [], length, None, Some, IfErr, IsErrOf, IsSome, option_copied};
-ghost use Rattle.disk_model.specs.Calls.{Rose, raised};
+ghost use Rattle.disk_model.specs.Calls.{Rose, RoseByOne, raised};
 ghost use Rattle.disk_model.specs.Images.{Alike};
 ghost use Rattle.disk_model.specs.Moments.{Keeps, Same};
 ghost use Rattle.store_summary.specs.Shown.{ShowsText};
-ghost use Rattle.reconcile.specs.Classes.{AreRead, AreQuiet};
+ghost use Rattle.reconcile.specs.Classes.{AreRead, AreQuiet, FailsAt};
 ghost use Rattle.hsm_cli.specs.Outcomes.{ended_with};
 ghost use Rattle.hsm_cli.specs.Texts.{TakesText, IsShown, ShowsStore, AreUntold, AreCounted, GivesVolume};
 ghost use Rattle.hosts.specs.Hosts.{StoresAll};
@@ -65,7 +65,7 @@ fn show_disk<D: Disk, O: Sink>(alloc: Global, disk: &mut D, sink: &mut O) -> Res
     ensures given { Alike (D.gives disk.old) (D.gives disk.new) }
     ensures quiet { cause_in result ≢ Some Cause.DiskFault → D.fault_count disk.new ≡ D.fault_count disk.old }
     ensures text { TakesText (IsShown (D.gives disk.old) AreUntold) (sink_told O.taken O.fault_count sink.old sink.new) (cause_in result) }
-    ensures ends { ShowEnds (D.gives disk.old) ⊥ (Rose (D.fault_count disk.old) (D.fault_count disk.new)) (sink_told O.taken O.fault_count sink.old sink.new) (cause_in result) }
+    ensures ends { ShowEnds (D.gives disk.old) ⊥ (RoseByOne (D.fault_count disk.old) (D.fault_count disk.new)) (sink_told O.taken O.fault_count sink.old sink.new) (cause_in result) }
     ensures once { FailsOnce (O.fault_count sink.old) (O.fault_count sink.new) }
 {
     let summary = inspect(alloc, disk)?;
@@ -131,7 +131,7 @@ fn show_classes<M: Drive, O: Sink>(
     ensures read { AreRead M.Drive drives.old drives.new }
     ensures text { TakesText (ShowsStore summary.now (AreCounted (GivesVolume M.Drive drives.old))) (sink_told O.taken O.fault_count sink.old sink.new) (cause_in result) }
     ensures quiet { (IsErrOf result Cause.HostFault → ⊥) → AreQuiet M.Drive drives.old drives.new }
-    ensures ends { IfErr result (CountingEnds (HasDriveFailed M.Drive drives.new) (sink_told O.taken O.fault_count sink.old sink.new)) }
+    ensures ends { IfErr result (CountingEnds ((volume : ℕ) × FailsAt M.Drive volume drives.old drives.new) (sink_told O.taken O.fault_count sink.old sink.new)) }
     ensures once { FailsOnce (O.fault_count sink.old) (O.fault_count sink.new) }
 {
     let counts = classes(alloc, &summary.table, drives, MOST_VOLUMES)?;

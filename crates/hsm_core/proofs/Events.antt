@@ -3,7 +3,7 @@ use Rattle.std.proofs.Common.{◌≡◌, ◌⊎◌, ℕ, ◌+◌, ◌≤◌, Lis
 use Rattle.std.proofs.Common.{arith, length-append}
 use Rattle.std.specs.Prelude.{Bool, if◌then◌else◌, Result, Ok, Err, IfOk, OnOk, OnErr, IsOk, IsErrOf}
 use Rattle.disk_model.specs.declared.device.Disk as disk
-use Rattle.disk_model.specs.Calls.{Rose}
+use Rattle.disk_model.specs.Calls.{RoseByOne}
 use Rattle.disk_model.specs.Moments.{Tells}
 use Rattle.hsm_types.specs.Sessions.{SessionTable}
 use Rattle.hsm_types.specs.declared.dm.DmCall.{DmCall}
@@ -93,8 +93,8 @@ module _ {D : Type 0} (g : disk.Ghosts D) (s t : Store D) (has : HasRun g s) (sa
   )
 
   faulted : Acts actor action → answer ≡ fault_of action → t.history ≡ s.history ++ entry_of actor action (fault_of action) ∷ [] → t.stamps ≡ s.stamps → t.tables ≡ s.tables → t.files.failed ≡ true
-      → Rose (g.fault_count s.files.disk) (g.fault_count t.files.disk) → IsNext g s actor action answer t
-  faulted acts answered history stamps tables failed rose = (
+      → RoseByOne (g.fault_count s.files.disk) (g.fault_count t.files.disk) → IsNext g s actor action answer t
+  faulted acts answered history stamps tables failed once = (
     HasRun-kept g s t has (last_number s) opened proceeds (entry_of actor action (fault_of action)) working history (inl (acts, refl)) (λ still. true_false t.files.failed failed still),
     safe_faulted g s t has safe working opened proceeds (entry_of actor action (fault_of action)) history (fault_no_sync action) failed,
     inr (inr (inl (record {
@@ -104,7 +104,7 @@ module _ {D : Type 0} (g : disk.Ghosts D) (s t : Store D) (has : HasRun g s) (sa
       stamps = stamps;
       tables = tables;
       failed = failed;
-      rose = rose;
+      once = once;
     }))),
   )
 
@@ -158,7 +158,7 @@ module _ {D R : Type 0} (g : disk.Ghosts D) (s t : Store D) (has : HasRun g s) (
   ended (Err NoMemory) became keeps =
       lacking g s t has safe working opened became.ends.proceeds actor action (say reply) (keeps.memory refl).0 (keeps.memory refl).1 became.stamps became.tables
       (λ i. state_with ((became.ends.memory refl).0 i) (became.stamps i) (became.tables i) (uncounted s t opened (keeps.memory refl).1 i)) (became.ends.memory refl).1 (became.ends.faults.counts.quiet (λ is. cc))
-  ended (Err Failed) became keeps = faulted g s t has safe working opened became.ends.proceeds actor action (say reply) acts (keeps.failed refl).0 (keeps.failed refl).1 became.stamps became.tables (became.ends.faults.closes refl) (became.ends.faults.counts.rose refl)
+  ended (Err Failed) became keeps = faulted g s t has safe working opened became.ends.proceeds actor action (say reply) acts (keeps.failed refl).0 (keeps.failed refl).1 became.stamps became.tables (became.ends.faults.closes refl) (became.ends.faults.counts.once refl)
   ended (Err (Part why)) became keeps = let none = became.ends.refused why refl in absurd cc
 
 -- ---- an event of a store that was made ready for it

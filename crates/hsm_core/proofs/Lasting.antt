@@ -41,7 +41,7 @@ use Rattle.plain_model.specs.Verdict.{flags_now, left_by_verdict, state_where}
 use Rattle.plain_model.specs.Services.{service, dm_judged, dm_state_where}
 use Rattle.plain_model.specs.Exact.{left_told, left_answered}
 use Rattle.hsm_core.specs.Targets.{IsOnFile, MayLast, EachLasts}
-use Rattle.plain_model.proofs.Steps.{unhindered}
+use Rattle.plain_model.proofs.Ruling.{unhindered}
 use Rattle.hsm_core.proofs.Targets.{bounded}
 
 abbrev Lasts : Limits → Option Access → Type 0

@@ -31,7 +31,7 @@ module _ {D S T : Type 0} (g : disk.Ghosts D) (old new : FileStore D) where
         unchanged = λ part e. absurd cc;
         working = tt;
         memory = λ e. (looks.held, is.working);
-        faults = record { closes = λ e. absurd cc; counts = record { rose = λ e. absurd cc; quiet = λ e. is.faults.counts.quiet (λ failed. cc) } };
+        faults = record { closes = λ e. absurd cc; counts = record { once = λ e. absurd cc; quiet = λ e. is.faults.counts.quiet (λ failed. cc) } };
         proceeds = is.proceeds;
       }
 
@@ -47,7 +47,7 @@ module _ {D S T : Type 0} (g : disk.Ghosts D) (old new : FileStore D) where
         memory = λ e. is.memory (same_error S T why _ e);
         faults = record {
           closes = λ e. is.faults.closes (same_error S T why _ e);
-          counts = record { rose = λ e. is.faults.counts.rose (same_error S T why _ e); quiet = λ e. is.faults.counts.quiet (λ failed. e (same_error T S why _ failed)) };
+          counts = record { once = λ e. is.faults.counts.once (same_error S T why _ e); quiet = λ e. is.faults.counts.quiet (λ failed. e (same_error T S why _ failed)) };
         };
         proceeds = is.proceeds;
       }

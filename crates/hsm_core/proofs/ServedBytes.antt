@@ -1,5 +1,5 @@
 -- How services are answered that look at bytes of a file: an invisible read, and a seal.
-use Rattle.std.proofs.Common.{◌≡◌, ℕ, List, [], ◌∷◌, Option, Some, None, refl, sym, ◌∙◌, ap, subst, arith}
+use Rattle.std.proofs.Common.{◌≡◌, ℕ, List, [], ◌∷◌, Option, Some, None, refl, sym, ◌∙◌, ap, subst}
 use Rattle.std.specs.Prelude.{Result, Ok, Err, IfOk, if◌then◌else◌}
 use Rattle.std.specs.Result.{IsErrAnd}
 use Rattle.std.proofs.lemmas.Result.{err_from_is_err_and}
@@ -33,6 +33,7 @@ use Rattle.file_store.specs.Changes.{Ends, Changes}
 use Rattle.file_store.specs.Looks.{Looks}
 use Rattle.file_store.specs.Stores.{Store as FileStore, superblock_of}
 use Rattle.file_store.proofs.Durable.{proceeds_on}
+use Rattle.file_store.proofs.Ended.{faults_on}
 use Rattle.hsm_core.specs.Services.{anybody, service_over, told_where, held_where, service_on, unread_refusals, replies_to, ServesBy, IsServed}
 use Rattle.hsm_core.proofs.Looking.{looked, look_lacked, look_failed}
 use Rattle.hsm_core.proofs.Moved.{served, seal_left}
@@ -50,7 +51,7 @@ ends_on g old mid new n x r before same is = record {
   unchanged = λ part e. absurd (let some = is.refused part e in cc);
   working = is.working;
   memory = λ e. ((is.memory e).0 ∙ same, (is.memory e).1);
-  faults = grind arith;
+  faults = faults_on g old mid new r (before.faults.counts.quiet (λ failed. cc)) is.faults;
   proceeds = proceeds_on g old mid new n before.proceeds same is.proceeds;
 }
 

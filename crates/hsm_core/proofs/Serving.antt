@@ -37,7 +37,7 @@ use Rattle.hsm_core.specs.Services.{anybody, asked, file_refusals, told_where, h
 use Rattle.hsm_core.specs.Services.{ServesBy, IsPerformed, IsServed}
 use Rattle.plain_model.proofs.Seeing.{told_own}
 use Rattle.hsm_core.proofs.Refusing.{all_pass, one_stops, alone}
-use Rattle.hsm_core.proofs.SeenServices.{scope_seen}
+use Rattle.hsm_core.proofs.Alike.{scope_alike}
 
 -- a service is the same whatever the number of the entry
 service_asked : (s : Superblock) (h : Held) (stamps : List (FileKey × ℕ)) (t : Tables) (number : ℕ) (sid : Sid) (call : DmCall) → service s (state_with h stamps t number) sid call ≡ asked s h stamps t sid call
@@ -177,7 +177,7 @@ module _ (Told : Type 0) (s : Superblock) (h : Held) (stamps : List (FileKey × 
       → IfOk result (λ r. IsOfSeen Told h (λ seen. AreBoth (dm_reply_to s (state_with seen stamps t number) sid call) r))
   served_replies (Ok r) none serves =
       let seen : Held = serves.0 in
-      let passed = ap first_refusal (scope_seen s h seen serves.1 stamps t number sid (scope_of call)) ∙ none in
+      let passed = ap first_refusal (scope_alike seen h serves.1.alike s (state_with h stamps t number) sid (scope_of call)) ∙ none in
       (seen, serves.1, subst (λ (x : DmReply). AreBoth x r) (served_reply s seen stamps t number sid call passed) serves.2.replies)
   served_replies (Err e) none serves = tt
 

@@ -1,7 +1,7 @@
 -- How a store answers an event, and what it keeps of it.
 use Rattle.std.specs.Prelude.{ℕ, ◌≡◌, ◌⊎◌, true, false, [], ◌∷◌, ◌++◌}
 use Rattle.disk_model.specs.declared.device.Disk as disk
-use Rattle.disk_model.specs.Calls.{Rose}
+use Rattle.disk_model.specs.Calls.{RoseByOne}
 use Rattle.disk_model.specs.Moments.{LeavesOnly, Tells}
 use Rattle.hsm_types.specs.declared.calls.Call.{Call}
 use Rattle.hsm_types.specs.declared.calls.CallRefusal.TheVariants.{Memory}
@@ -67,7 +67,7 @@ pub record LacksMemory {D : Type 0} (g : disk.Ghosts D) (old : Store D) (action 
   pub still : new.files.failed ≡ false
   pub quiet : g.fault_count new.files.disk ≡ g.fault_count old.files.disk
 
--- a call of the disk failed in the event: no stamp is changed, and no message, no token and no access that waits
+-- just one call of the disk failed in the event: no stamp is changed, and no message, no token and no access that waits
 pub record HasFailed {D : Type 0} (g : disk.Ghosts D) (old : Store D) (actor : Actor) (action : Action) (given : Answer) (new : Store D) : Type 0 where
   pub goes : Goes g old new
   pub answer : given ≡ fault_of action
@@ -75,10 +75,10 @@ pub record HasFailed {D : Type 0} (g : disk.Ghosts D) (old : Store D) (actor : A
   pub stamps : new.stamps ≡ old.stamps
   pub tables : new.tables ≡ old.tables
   pub failed : new.files.failed ≡ true
-  pub rose : Rose (g.fault_count old.files.disk) (g.fault_count new.files.disk)
+  pub once : RoseByOne (g.fault_count old.files.disk) (g.fault_count new.files.disk)
 
 -- The event was answered by the store itself, and no call of the disk failed. The answer is its own over what is seen of its files: exact but for bytes, and
--- in these too where the disk tells what it holds. What it leaves goes by the answer that was given.
+-- for whether these refuse a seal, and in these too where the disk tells what it holds. What it leaves goes by the answer that was given.
 pub record IsDone {D : Type 0} (g : disk.Ghosts D) (old : Store D) (actor : Actor) (action : Action) (given : Answer) (new : Store D) : Type 0 where
   pub goes : Goes g old new
   pub answer : IsOwnSeen (Tells g new.files.disk) (superblock_of old.opened) (state_of old) actor action given

@@ -46,8 +46,8 @@ state_of s = state_with s.files.held s.stamps s.tables (last_number s)
 abbrev pub opening_of : {D : Type 0} → Store D → Held
 opening_of s = s.opened.held
 
--- The store is formatted as it was when it was opened, and its history is a run from there: exact but for bytes, and in these too where the disk tells what
--- it holds. As long as no call of the disk has failed it has no fault, and the store's state is what the history leaves.
+-- The store is formatted as it was when it was opened, and its history is a run from there: exact but for bytes, and for whether these refuse a seal, and in
+-- these too where the disk tells what it holds. As long as no call of the disk has failed it has no fault, and the store's state is what the history leaves.
 pub record HasRun {D : Type 0} (g : disk.Ghosts D) (s : Store D) : Type 0 where
   pub geometry : s.files.meta.durable.geometry ≡ s.opened.meta.durable.geometry
   pub fsid : s.files.meta.fsid ≡ s.opened.meta.fsid

@@ -46,7 +46,7 @@ module _ {D M : Type 0} (g : disk.Ghosts D) (h : drive.Ghosts M) where
 
   pub runs_then : {S T : Type 0} (x : S) (result : Result T Stop) (a b c : Store D) → Runs g (Ok x) a b → Runs g result b c → Runs g result a c
   runs_then x (Ok y) a b c first then = record { goes_on = goes_then g a b c first.goes_on then.goes_on; works = λ working. then.works (first.works working) }
-  runs_then x (Err why) a b c first then = record { goes_on = goes_then g a b c first.goes_on then.goes_on; works = λ working. stopped_then g a b c why first.goes_on (then.works (first.works working)) }
+  runs_then x (Err why) a b c first then = record { goes_on = goes_then g a b c first.goes_on then.goes_on; works = λ working. stopped_then g a b c why first.goes_on (first.works working) (then.works (first.works working)) }
 
   pub runs_itself : {T : Type 0} (x : T) (s : Store D) → Runs g (Ok x) s s
   runs_itself x s = record { goes_on = goes_itself g s; works = λ working. working }

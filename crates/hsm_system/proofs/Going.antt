@@ -1,8 +1,8 @@
 -- How a store goes on after an event, and why it is stopped.
-use Rattle.std.proofs.Common.{◌≡◌, ◌≢◌, ◌∙◌, ◌⊎◌, ◌∷◌, ◌++◌, [], Bool, true, false, ◌||◌, List, Result, Ok, Err, OnOk, IfErr, inl, inr, refl, sym}
+use Rattle.std.proofs.Common.{◌≡◌, ◌≢◌, ◌∙◌, ◌⊎◌, ◌∷◌, ◌++◌, [], ℕ, Bool, true, false, ◌||◌, List, Result, Ok, Err, OnOk, IfErr, inl, inr, refl, sym}
 use Rattle.std.proofs.Common.{ap, subst, append-nil, append_assoc, arith}
 use Rattle.disk_model.specs.declared.device.Disk as disk
-use Rattle.disk_model.specs.Calls.{Rose}
+use Rattle.disk_model.specs.Calls.{RoseByOne}
 use Rattle.disk_model.specs.Moments.{Tells}
 use Rattle.hsm_types.specs.declared.calls.CallRefusal.TheVariants as refusal
 use Rattle.hsm_types.specs.declared.calls.Reply.TheVariants as calls
@@ -81,10 +81,10 @@ module _ {D : Type 0} (g : disk.Ghosts D) where
     quiet = λ works. let later = then.quiet works in let before = first.quiet later.0 in (before.0, later.1 ∙ before.1);
   }
 
-  -- a rise later is one since then
-  pub stopped_then : (a b c : Store D) (why : Stop) → GoesOn g a b → IsStoppedFor g b c why → IsStoppedFor g a c why
-  stopped_then a b c stop.Memory goes stopped = stopped
-  stopped_then a b c stop.Disk goes stopped = (let rose : Rose (g.fault_count a.files.disk) (g.fault_count c.files.disk) = omega (arith, goes.faults, stopped.0) in rose, stopped.1)
+  -- what stopped a store that worked till then is all that has failed
+  pub stopped_then : (a b c : Store D) (why : Stop) → GoesOn g a b → b.files.failed ≡ false → IsStoppedFor g b c why → IsStoppedFor g a c why
+  stopped_then a b c stop.Memory goes working stopped = stopped
+  stopped_then a b c stop.Disk goes working stopped = (subst (λ (count : ℕ). RoseByOne count (g.fault_count c.files.disk)) (goes.quiet working).1 stopped.0, stopped.1)
 
   -- ---- an event
 
@@ -126,7 +126,7 @@ module _ {D : Type 0} (g : disk.Ghosts D) where
     stopped_for stop.Memory (inr (inl lacks)) is working = lacks.still
     stopped_for stop.Disk (inr (inl lacks)) is working = absurd (fault_or_memory action (sym is ∙ lacks.answer))
     stopped_for stop.Memory (inr (inr (inl failed))) is working = absurd (fault_or_memory action (sym failed.answer ∙ is))
-    stopped_for stop.Disk (inr (inr (inl failed))) is working = (failed.rose, ap has_fault failed.history ∙ fault_kept old.history (entry_of actor action (fault_of action)) (fault_is action))
+    stopped_for stop.Disk (inr (inr (inl failed))) is working = (failed.once, ap has_fault failed.history ∙ fault_kept old.history (entry_of actor action (fault_of action)) (fault_is action))
     stopped_for why (inr (inr (inr done))) is working = absurd (own_is_no_stop why is done)
 
     -- where the run goes on the store works, and did before

@@ -1,6 +1,6 @@
 -- Events that no daemon makes, and how a store goes on behind events.
 use Rattle.std.specs.Prelude.{◌≡◌, ◌≢◌, ℕ, ◌+◌, ◌≤◌, if◌then◌else◌, List, [], ◌∷◌, ◌++◌, true, false, Result, IsOk, OnOk, IfErr, MatchResult}
-use Rattle.disk_model.specs.Calls.{Rose}
+use Rattle.disk_model.specs.Calls.{RoseByOne}
 use Rattle.disk_model.specs.Moments.{Tells}
 use Rattle.disk_model.specs.declared.device.Disk as disk
 use Rattle.plain_model.specs.Faults.{has_fault}
@@ -63,10 +63,10 @@ module _ {D : Type 0} (g : disk.Ghosts D) where
     pub tells : Tells g new.files.disk → Tells g old.files.disk
     pub quiet : new.files.failed ≡ false → (old.files.failed ≡ false) × (g.fault_count new.files.disk ≡ g.fault_count old.files.disk)
 
-  -- why a working store was stopped: for want of memory, or as its disk has failed, and an entry says so
+  -- why a working store was stopped: for want of memory, or as a call of its disk has failed, just one, and an entry says so
   abbrev pub IsStoppedFor : Store D → Store D → Stop → Type 0
   IsStoppedFor old new Memory = new.files.failed ≡ false
-  IsStoppedFor old new Disk = Rose (g.fault_count old.files.disk) (g.fault_count new.files.disk) × (has_fault new.history ≡ true)
+  IsStoppedFor old new Disk = RoseByOne (g.fault_count old.files.disk) (g.fault_count new.files.disk) × (has_fault new.history ≡ true)
 
   -- a store that works goes on working, unless it is stopped
   pub record Runs {T : Type 0} (result : Result T Stop) (old new : Store D) : Type 0 where

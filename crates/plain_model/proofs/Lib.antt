@@ -11,6 +11,7 @@ pub mod Syncing
 pub mod Orders
 pub mod Moving
 pub mod Told
+pub mod Ruling
 pub mod Steps
 pub mod Sides
 pub mod Stamping

@@ -23,7 +23,7 @@ meets_parts from to j is =
     (ltb-true from to parts.0, ltb-true from (segment_bytes * j + segment_bytes) parts.1, ltb-true (segment_bytes * j) to parts.2)
 
 -- a range that has bytes, reaches the segment and doesn't meet it begins behind it
-behind : (from to j : ℕ) → meets_segment from to j ≡ false → from < to → segment_bytes * j < to → segment_bytes * j + segment_bytes ≤ from
+pub behind : (from to j : ℕ) → meets_segment from to j ≡ false → from < to → segment_bytes * j < to → segment_bytes * j + segment_bytes ≤ from
 behind from to j none some high =
     ⊎_elim (λ (low : from < segment_bytes * j + segment_bytes). absurd (false≢true (sym none ∙ meets_true from to j some low high))) (λ (is : segment_bytes * j + segment_bytes ≤ from). is) (cases_lt from (segment_bytes * j + segment_bytes))
 

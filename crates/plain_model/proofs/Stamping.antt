@@ -83,7 +83,7 @@ module _ (s : Superblock) (st : State) (k : FileKey) where
   no_access (Means j call) = refl
 
   -- a fault accesses no file
-  fault_accesses : (W : World) (who : Actor) (what : Action) → accesses W k who what (fault_of what) ≡ false
+  pub fault_accesses : (W : World) (who : Actor) (what : Action) → accesses W k who what (fault_of what) ≡ false
   fault_accesses W (Caller c) (Issue call) = no_access (meant_for W c (Issue call))
   fault_accesses W (Caller c) Resume = no_access (meant_for W c Resume)
   fault_accesses W (Caller c) (Dm call) = refl
@@ -108,7 +108,7 @@ event_stamped s st W e stands (inr is) k =
     if_stamped (is_fault e.answer) st (left_answered s st e.actor e.action e.answer) k _ (own_faultless s st e.actor e.action e.answer is)
     (ap (λ (left : State). left.stamps k) (left_own_by s st e.actor e.action e.answer is) ∙ own_stamped s st k W e.actor e.action e.answer stands is)
 
-last_if : (b : Bool) (none n : ℕ) (ns : List ℕ) → last_or (if b then n else none) ns ≡ last_or none (if b then n ∷ ns else ns)
+pub last_if : (b : Bool) (none n : ℕ) (ns : List ℕ) → last_or (if b then n else none) ns ≡ last_or none (if b then n ∷ ns else ns)
 last_if true none n ns = refl
 last_if false none n ns = refl
 

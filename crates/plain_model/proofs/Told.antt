@@ -43,7 +43,7 @@ use Rattle.plain_model.proofs.Judged.{none_first, passes, second_holds}
 use Rattle.plain_model.proofs.Orders.{owned_open}
 
 -- a refusal leaves the ledger
-refused_ledger : (call : DmCall) (why : DmRefusal) (L : Ledger) → ledger_told L call (told.Refused why) ≡ L
+pub refused_ledger : (call : DmCall) (why : DmRefusal) (L : Ledger) → ledger_told L call (told.Refused why) ≡ L
 refused_ledger GetSpace why L = refl
 refused_ledger call why L = refl
 

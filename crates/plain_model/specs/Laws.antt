@@ -31,7 +31,8 @@ pub record IsRun (s : Superblock) (base : ℕ) (h : Held) (es : List Entry) : Ty
   pub opening : IsOpening h
   pub exact : Exact s (just_opened base h) es
 
--- The same where the disk may not give back what was written: each answer is exact but for bytes, and where the disk tells what it holds in these too.
+-- The same where the disk may not give back what was written: each answer is exact but for bytes, and for whether these refuse a seal; where the disk tells
+-- what it holds it is exact in these too.
 pub record IsRunSeen (Tells : Type 0) (s : Superblock) (base : ℕ) (h : Held) (es : List Entry) : Type 0 where
   pub opening : IsOpening h
   pub exact : ExactSeen Tells s (just_opened base h) es

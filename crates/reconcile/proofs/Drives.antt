@@ -1,25 +1,16 @@
 -- Drives one of which is asked at a time.
-use Rattle.std.proofs.Common.{◌≡◌, inl, inr, ℕ, zero, suc, ◌<◌, ◌≤◌, ◌%◌, List, [], ◌∷◌, length, get_or, Option, Some, IfSome, refl, sym, ap, subst, ◌∙◌, arith}
+use Rattle.std.proofs.Common.{◌≡◌, inl, inr, ℕ, zero, suc, ◌<◌, ◌%◌, List, [], ◌∷◌, length, get_or, Option, Some, IfSome, refl, sym, ap, subst, ◌∙◌, arith}
 use Rattle.std.proofs.lemmas.Option.{slice_get-get_or}
 use Rattle.std.specs.Prelude.{slice_get, slice_set, map}
-use Rattle.disk_model.specs.Calls.{Rose}
+use Rattle.disk_model.specs.Calls.{RoseByOne, raised}
 use Rattle.media_model.specs.Objects.{Objects}
 use Rattle.media_model.specs.declared.drive.Drive as drive
 use Rattle.volume_shelf.specs.Shelf.{Reads}
 use Rattle.volume_shelf.proofs.Running.{idle, reads_on}
-use Rattle.reconcile.specs.Classes.{Tells, AreTold, AreRead, AreQuiet, ClassesRefused}
+use Rattle.reconcile.specs.Classes.{Tells, AreTold, AreRead, AreQuiet, raised_at, ClassesRefused}
 use Rattle.reconcile.specs.Steps.{DriveRefused}
 use Rattle.reconcile.specs.declared.refusals.ReconcileRefusal.{ReconcileRefusal}
 use Rattle.reconcile.specs.declared.refusals.ReconcileRefusal.TheVariants.{Failed, Memory}
-
--- a count that rose is above each that was there before
-rose_since : (begun old new : ℕ) → begun ≤ old → Rose old new → Rose begun new
-rose_since begun old new since rose = omega arith
-
-slice_get_set : {A : Type 0} (xs : List A) (i : ℕ) (x : A) → i < length xs → slice_get (slice_set xs i x) i ≡ Some x
-slice_get_set [] i x within = absurd (omega arith)
-slice_get_set (y ∷ ys) zero x within = refl
-slice_get_set (y ∷ ys) (suc i) x within = slice_get_set ys i x (omega arith)
 
 module _ {D : Type 0} (g : drive.Ghosts D) where
   pub none_read : (ds : List D) → AreRead g ds ds
@@ -56,16 +47,14 @@ module _ {D : Type 0} (g : drive.Ghosts D) where
       same d x e = cc
   quiet_one (d ∷ ds) (suc k) x y is quiet = ap (λ (l : List ℕ). g.fault_count d ∷ l) (quiet_one ds k x y is quiet)
 
-  -- what was true of the drive of that number, before more was read
-  read_at : (a b : List D) (k : ℕ) (y : D) → AreRead g a b → slice_get b k ≡ Some y → (x : D) × (slice_get a k ≡ Some x) × Reads g x y
-  read_at [] [] k y read is = absurd (cc)
-  read_at [] (d ∷ ds) k y read is = absurd read
-  read_at (x ∷ xs) [] k y read is = absurd read
-  read_at (x ∷ xs) (d ∷ ds) zero y read is = (x, refl, subst (λ (o : D). Reads g x o) (same d y is) read.0)
+  -- the drive of that number has counted one fault more
+  raised_one : (ds : List D) (k : ℕ) (x y : D) → slice_get ds k ≡ Some x → RoseByOne (g.fault_count x) (g.fault_count y) → map g.fault_count (slice_set ds k y) ≡ raised_at k (map g.fault_count ds)
+  raised_one [] k x y is once = refl
+  raised_one (d ∷ ds) zero x y is once = ap (λ (n : ℕ). n ∷ map g.fault_count ds) (once ∙ ap (λ (o : D). raised (g.fault_count o)) (sym (same d x is)))
     where
       same : (d x : D) → Some d ≡ Some x → d ≡ x
       same d x e = cc
-  read_at (x ∷ xs) (d ∷ ds) (suc k) y read is = read_at xs ds k y read.1 is
+  raised_one (d ∷ ds) (suc k) x y is once = ap (λ (l : List ℕ). g.fault_count d ∷ l) (raised_one ds k x y is once)
 
   -- ---- what is told stays
 
@@ -103,23 +92,13 @@ module _ {D : Type 0} (g : drive.Ghosts D) where
     pub one_tells : (volumes : ℕ) (told : ℕ → Objects) → v < volumes → AreTold g volumes ds told → Tells g (get_or ds (v % length ds) d) v (told v)
     one_tells volumes told below are = subst (λ (o : Option D). IfSome o (λ x. Tells g x v (told v))) there (are.each v below)
 
-    pub one_refuses : (volumes : ℕ) (why : ReconcileRefusal) → v < volumes → Reads g (get_or ds (v % length ds) d) y → DriveRefused g v (get_or ds (v % length ds) d) y why → ClassesRefused g volumes ds (slice_set ds (v % length ds) y) why
-    one_refuses volumes (Failed volume) below reads refused = rw (refused.0) (
-      below,
-      record {
-        before = get_or ds (v % length ds) d;
-        after = y;
-        was = there;
-        is = subst (λ (n : ℕ). slice_get (slice_set ds (v % length ds) y) (v % n) ≡ Some y) (sym (read_length ds _ (one_read reads))) (slice_get_set ds (v % length ds) y within);
-        rose = refused.1;
-      },
-    )
-    one_refuses volumes Memory below reads refused = tt
+    pub one_refuses : (volumes : ℕ) (why : ReconcileRefusal) → v < volumes → DriveRefused g v (get_or ds (v % length ds) d) y why → ClassesRefused g volumes ds (slice_set ds (v % length ds) y) why
+    one_refuses volumes (Failed volume) below refused = rw (refused.0) (below, raised_one ds (v % length ds) (get_or ds (v % length ds) d) y there refused.1)
+    one_refuses volumes Memory below refused = tt
 
-  -- a refusal after more was read
-  pub refused_on : (volumes : ℕ) (a b c : List D) (why : ReconcileRefusal) → AreRead g a b → ClassesRefused g volumes b c why → ClassesRefused g volumes a c why
-  refused_on volumes a b c (Failed v) read refused =
-      let f = refused.1 in
-      let was : (x : D) × (slice_get a (v % length a) ≡ Some x) × Reads g x f.before = read_at a b (v % length a) f.before read (subst (λ (n : ℕ). slice_get b (v % n) ≡ Some f.before) (read_length a b read) f.was) in
-      (refused.0, record { before = was.0; after = f.after; was = was.1; is = f.is; rose = rose_since (g.fault_count was.0) (g.fault_count f.before) (g.fault_count f.after) was.2.faults f.rose })
-  refused_on volumes a b c Memory read refused = tt
+  -- a refusal after more was read without a fault
+  pub refused_on : (volumes : ℕ) (a b c : List D) (why : ReconcileRefusal) → AreRead g a b → AreQuiet g a b → ClassesRefused g volumes b c why → ClassesRefused g volumes a c why
+  refused_on volumes a b c (Failed v) read quiet refused =
+      let counts : map g.fault_count c ≡ raised_at (v % length a) (map g.fault_count b) = subst (λ (n : ℕ). map g.fault_count c ≡ raised_at (v % n) (map g.fault_count b)) (read_length a b read) refused.1 in
+      (refused.0, subst (λ (l : List ℕ). map g.fault_count c ≡ raised_at (v % length a) l) quiet counts)
+  refused_on volumes a b c Memory read quiet refused = tt

@@ -7,7 +7,6 @@ use Rattle.hsm_types.specs.declared.stubs.Fingerprint.{Fingerprint}
 use Rattle.hsm_types.specs.declared.stubs.StubEntry.{StubEntry}
 use Rattle.media_model.specs.Objects.{Objects}
 use Rattle.media_model.specs.declared.drive.Drive as drive
-use Rattle.volume_shelf.specs.Shelf.{Reads}
 use Rattle.reconcile.specs.Classes.{Tells, ClassesRefused}
 use Rattle.reconcile.specs.Steps.{print_at, print_on, IsFound, DriveRefused}
 use Rattle.reconcile.specs.declared.refusals.ReconcileRefusal.{ReconcileRefusal}
@@ -22,6 +21,6 @@ module _ {D : Type 0} (g : drive.Ghosts D) (volumes : ℕ) (ds : List D) (d y : 
   }
   is_found (Err why) tells = tt
 
-  pub is_refused : (r : Result (Option Fingerprint) ReconcileRefusal) → Reads g (get_or ds ((entry_place e).volume % length ds) d) y → IfErr r (DriveRefused g (entry_place e).volume (get_or ds ((entry_place e).volume % length ds) d) y) → IfErr r (ClassesRefused g volumes ds (slice_set ds ((entry_place e).volume % length ds) y))
-  is_refused (Ok found) reads refused = tt
-  is_refused (Err why) reads refused = one_refuses g (entry_place e).volume ds d y some volumes why below reads refused
+  pub is_refused : (r : Result (Option Fingerprint) ReconcileRefusal) → IfErr r (DriveRefused g (entry_place e).volume (get_or ds ((entry_place e).volume % length ds) d) y) → IfErr r (ClassesRefused g volumes ds (slice_set ds ((entry_place e).volume % length ds) y))
+  is_refused (Ok found) refused = tt
+  is_refused (Err why) refused = one_refuses g (entry_place e).volume ds d y some volumes why below refused

@@ -1,9 +1,9 @@
 -- Classes: which objects of volumes are live, and which stub entries of a table are held.
 use Rattle.std.specs.Prelude.{◌≡◌, ◌⊎◌, ℕ, ◌<◌, ◌%◌, Bool, false, not, ◌&&◌, nat_eq, nat_lt, List, [], length, count_by, sum_by, filter_map}
-use Rattle.std.specs.Prelude.{flat_map, map, slice_get, if◌then◌else◌, Option, Some, None, is_none, IfSome, Result, Err}
+use Rattle.std.specs.Prelude.{flat_map, map, slice_get, slice_set, slice_index_or, if◌then◌else◌, Option, Some, None, is_none, IfSome, Result, Err}
 use Rattle.std.specs.List.{AllZip, list_any, range_with_len}
 use Rattle.std.specs.Option.{option_map_or}
-use Rattle.disk_model.specs.Calls.{Rose}
+use Rattle.disk_model.specs.Calls.{raised}
 use Rattle.hsm_types.specs.Stubs.{print_of, entry_place, entry_print}
 use Rattle.hsm_types.specs.declared.stubs.Segment.{Segment}
 use Rattle.hsm_types.specs.declared.stubs.Segment.TheVariants.{Resident, Sealed, Offline}
@@ -86,6 +86,10 @@ abbrev pub TellsFailed : {T : Type 0} → Result T ReconcileRefusal → Type 0
 TellsFailed (Err (Failed volume)) = Unit {0}
 TellsFailed other = ⊥
 
+-- these counts, with one more in that place
+abbrev pub raised_at : ℕ → List ℕ → List ℕ
+raised_at place counts = slice_set counts place (raised (slice_index_or counts place 0))
+
 module _ {D : Type 0} (g : drive.Ghosts D) where
   -- these are the objects of the volume: none where the drive doesn't have it
   abbrev pub Tells : D → ℕ → Objects → Type 0
@@ -103,13 +107,9 @@ module _ {D : Type 0} (g : drive.Ghosts D) where
   abbrev pub AreQuiet : List D → List D → Type 0
   AreQuiet old new = map g.fault_count new ≡ map g.fault_count old
 
-  -- the count of faults rose of the drive that the volume is in
-  pub record FailsAt (volume : ℕ) (old new : List D) : Type 0 where
-    pub before : D
-    pub after : D
-    pub was : slice_get old (volume % length old) ≡ Some before
-    pub is : slice_get new (volume % length new) ≡ Some after
-    pub rose : Rose (g.fault_count before) (g.fault_count after)
+  -- one call of the drive that the volume is in has failed, and none of another drive
+  abbrev pub FailsAt : ℕ → List D → List D → Type 0
+  FailsAt volume old new = map g.fault_count new ≡ raised_at (volume % length old) (map g.fault_count old)
 
   -- why nothing was counted
   abbrev pub ClassesRefused : ℕ → List D → List D → ReconcileRefusal → Type 0

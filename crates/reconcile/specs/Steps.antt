@@ -1,7 +1,7 @@
 -- What the steps of counting classes find and leave.
 use Rattle.std.specs.Prelude.{◌≡◌, ◌≢◌, ◌⊎◌, ℕ, ◌+◌, ◌*◌, ◌^◌, List, if◌then◌else◌, Option, Some, None, is_some, IfSome, option_map, Result, Ok, Err}
 use Rattle.std.specs.List.Sorted.{IsPermutation, IsNonDecreasingBy}
-use Rattle.disk_model.specs.Calls.{Rose}
+use Rattle.disk_model.specs.Calls.{RoseByOne}
 use Rattle.hsm_types.specs.Stubs.{print_of, entry_place}
 use Rattle.hsm_types.specs.declared.media.Fault.TheVariants as fault
 use Rattle.hsm_types.specs.declared.media.FetchRefusal.{FetchRefusal}
@@ -75,5 +75,5 @@ module _ {D : Type 0} (g : drive.Ghosts D) where
 
   -- why one drive told nothing
   abbrev pub DriveRefused : ℕ → D → D → ReconcileRefusal → Type 0
-  DriveRefused volume old new (Failed at) = (at ≡ volume) × Rose (g.fault_count old) (g.fault_count new)
+  DriveRefused volume old new (Failed at) = (at ≡ volume) × RoseByOne (g.fault_count old) (g.fault_count new)
   DriveRefused volume old new Memory = Unit {0}

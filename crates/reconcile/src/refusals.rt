@@ -6,7 +6,7 @@ use thiserror::Error;
 /// Why objects and entries were not counted.
 #[derive(Clone, Copy, Debug, PartialEq, Eq, Error)]
 pub enum ReconcileRefusal {
-    /// The count of faults rose of the drive that the volume is in.
+    /// One call of the drive that the volume is in failed.
     #[error("volume {volume} can't be read")]
     Failed { volume: u32 },
     #[error("no memory")]

@@ -32,13 +32,13 @@ use Rattle.plain_model.specs.Verdict.{state_where}
 use Rattle.plain_model.proofs.Alike.{names_alike, size_alike, facts_alike}
 use Rattle.plain_model.proofs.Bodies.{length-read}
 use Rattle.plain_model.proofs.Judged.{Says, meant_says}
+use Rattle.plain_model.proofs.Ruling.{wants, short_by, rules_follow}
 use Rattle.seen_history.specs.Alike.{zeros, blank_reply}
 use Rattle.seen_history.specs.Outlines.{outlines, held_outlines, FitStubs, StandsButBytes}
 use Rattle.seen_history.proofs.Fitting.{affected_fits}
 use Rattle.seen_history.proofs.Leaving.{Leaves, affected_beside}
 use Rattle.seen_history.proofs.Likening.{liken_reply}
 use Rattle.seen_history.proofs.Outlining.{names_same, size_same, affected_same}
-use Rattle.seen_history.proofs.Ruling.{wants, short_by, rules_follow}
 
 module _ (s : Superblock) (st : State) (seen : Held) (alike : blanked seen ≡ blanked st.held) (W : World) (stands : StandsButBytes st W) where
   abbrev over : State

@@ -18,7 +18,7 @@ use Rattle.hsm_types.proofs.Stubbing.{set_away, seal_of, stub_at-unsealed, stub_
 use Rattle.plain_model.specs.Effects.{Effect, Leaves, Makes, Drops, Writes, Resizes, Manages, Seals, Punches, Restores}
 use Rattle.plain_model.specs.State.{FileState, new_file, file_or_new, file_at, remade, affected_held}
 use Rattle.plain_model.proofs.Bodies.{length-resized, length-written}
-use Rattle.plain_model.proofs.Meeting.{meets_true}
+use Rattle.plain_model.proofs.Meeting.{behind}
 use Rattle.seen_history.specs.Outlines.{FitsSegment, FitStubs}
 use Rattle.seen_history.proofs.Mapped.{put_all, drop_all, change_all}
 use Rattle.seen_history.proofs.Outlining.{FitsSize}
@@ -43,12 +43,6 @@ fits_size e size kept fits = tt
 fit_by : (f : FileState) (size : ℕ) (now : ℕ → Option Stub) → length f.body ≡ size → ((j : ℕ) → stub_at j f.kept.stubs ≡ now j) → ((j : ℕ) → IfSome (now j) (FitsSegment size f.kept.regions j)) → FitStubs f
 fit_by f size now many is fits j =
     subst (λ n. IfSome (stub_at j f.kept.stubs) (FitsSegment n f.kept.regions j)) (sym many) (subst (λ o. IfSome o (FitsSegment size f.kept.regions j)) (sym (is j)) (fits j))
-
--- a range that has bytes, reaches the segment and doesn't meet it begins behind it
-behind : (from to j : ℕ) → meets_segment from to j ≡ false → from < to → segment_bytes * j < to → segment_bytes * j + segment_bytes ≤ from
-behind from to j none some high =
-    ⊎_elim (λ (low : from < segment_bytes * j + segment_bytes). absurd (false≢true (sym none ∙ meets_true from to j some low high))) (λ (is : segment_bytes * j + segment_bytes ≤ from). is)
-    (cases_lt from (segment_bytes * j + segment_bytes))
 
 -- a segment that a write doesn't meet has as many bytes as before
 written_len : (o n size j : ℕ) → meets_segment (min o size) (o + n) j ≡ false → segment_bytes * j < size → segment_len (max size (o + n)) j ≡ segment_len size j

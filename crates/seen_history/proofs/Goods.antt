@@ -1,6 +1,6 @@
 -- A run on any disk is good but for bytes, from each plain map for which its opening stands.
-use Rattle.std.proofs.Common.{◌≡◌, ◌+◌, ℕ, List, [], ◌∷◌, take, Bool, true, false, inl, inr, refl, sym, ◌∙◌, ap, subst}
-use Rattle.std.specs.Prelude.{if◌then◌else◌, IsTrue}
+use Rattle.std.proofs.Common.{◌≡◌, ◌+◌, ℕ, List, [], ◌∷◌, take, Bool, inl, inr, refl, sym, ◌∙◌, ap, subst}
+use Rattle.std.specs.Prelude.{IsTrue}
 use Rattle.hsm_types.specs.declared.stores.Superblock.{Superblock}
 use Rattle.plain_model.specs.declared.entries.Entry.{Entry}
 use Rattle.plain_model.specs.declared.entries.Actor.{Actor}
@@ -20,6 +20,7 @@ use Rattle.plain_model.proofs.Goods.{run_is_good}
 use Rattle.plain_model.proofs.Histories.{left_by-number, ExactSeen-take}
 use Rattle.plain_model.proofs.Orders.{ordered_at_first}
 use Rattle.plain_model.proofs.Seeing.{tells_all}
+use Rattle.plain_model.proofs.Stamping.{last_if}
 use Rattle.plain_model.proofs.Steps.{stands_at_first}
 use Rattle.seen_history.specs.Alike.{AreAlike}
 use Rattle.seen_history.specs.Laws.{LegalSeen, IsGoodSeen, SeenIsGood, GoodWhereTold}
@@ -35,10 +36,6 @@ use Rattle.seen_history.proofs.Stepping.{EventStep, event_step}
 none_likened : (W : World) (es : List Entry) → es ≡ [] → all_likened W es ≡ []
 none_likened W [] is = refl
 none_likened W (e ∷ es) is = cc
-
-last_if : (b : Bool) (none n : ℕ) (ns : List ℕ) → last_or (if b then n else none) ns ≡ last_or none (if b then n ∷ ns else ns)
-last_if true none n ns = refl
-last_if false none n ns = refl
 
 module _ (Tells : Type 0) (s : Superblock) where
   -- in the worlds that likened entries leave, these are legal

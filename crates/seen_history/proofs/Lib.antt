@@ -2,7 +2,6 @@ mod Mapped
 mod Outlining
 mod Fitting
 mod Likening
-mod Ruling
 mod Leaving
 mod Calling
 mod Telling

@@ -2,9 +2,8 @@
 use Rattle.std.proofs.Common.{◌≡◌, ◌+◌, ℕ, List, Bool, true, false, inl, inr, refl, sym, ◌∙◌, ap, subst}
 use Rattle.std.specs.Prelude.{if◌then◌else◌}
 use Rattle.hsm_types.specs.declared.calls.Call.TheVariants.{Read}
-use Rattle.hsm_types.specs.declared.calls.CallRefusal.TheVariants.{Disk}
 use Rattle.hsm_types.specs.declared.calls.Reply.{Reply}
-use Rattle.hsm_types.specs.declared.calls.Reply.TheVariants.{Data, Refused}
+use Rattle.hsm_types.specs.declared.calls.Reply.TheVariants.{Data}
 use Rattle.hsm_types.specs.declared.keys.FileKey.{FileKey}
 use Rattle.hsm_types.specs.declared.stores.Superblock.{Superblock}
 use Rattle.plain_model.specs.declared.entries.Entry.{Entry}
@@ -15,18 +14,19 @@ use Rattle.plain_model.specs.declared.entries.Action.TheVariants.{Issue, Resume,
 use Rattle.plain_model.specs.declared.entries.Answer.{Answer}
 use Rattle.plain_model.specs.declared.entries.Answer.TheVariants.{Call as Replied}
 use Rattle.plain_model.specs.Exact.{IsOwn, IsAnswerSeen, left_answered, left_by}
-use Rattle.plain_model.specs.Faults.{is_fault, fault_of, IsFault}
-use Rattle.plain_model.specs.Ledger.{Meant, Fixed, Means}
+use Rattle.plain_model.specs.Faults.{is_fault, IsFault}
+use Rattle.plain_model.specs.Ledger.{Meant, Means}
 use Rattle.plain_model.specs.Seen.{blanked}
 use Rattle.plain_model.specs.Services.{dm_judged}
 use Rattle.plain_model.specs.Side.{Side, sides_of, side_given}
-use Rattle.plain_model.specs.Stamps.{reaches_key, accesses}
+use Rattle.plain_model.specs.Stamps.{accesses}
 use Rattle.plain_model.specs.Stands.{InOrder}
 use Rattle.plain_model.specs.State.{Held, State, no_flags, noted}
 use Rattle.plain_model.specs.Step.{World, meant_for, replied, MayAnswer, MayGive, given, after}
 use Rattle.plain_model.specs.Verdict.{reply_to}
 use Rattle.plain_model.proofs.AnyDisk.{seen_faultless}
 use Rattle.plain_model.proofs.Faultless.{fault_is}
+use Rattle.plain_model.proofs.Stamping.{fault_accesses}
 use Rattle.seen_history.specs.Alike.{blank_action, blank_answer, blank_entry}
 use Rattle.seen_history.specs.Outlines.{StandsButBytes}
 use Rattle.seen_history.proofs.Calling.{call_step}
@@ -93,17 +93,6 @@ module _ (s : Superblock) (st : State) (W : World) where
 
   -- ---- a fault
 
-  no_access : (m : Meant) (k : FileKey) → reaches_key m (Refused Disk) k ≡ false
-  no_access (Fixed fixed) k = refl
-  no_access (Means j call) k = refl
-
-  fault_accesses : (k : FileKey) (who : Actor) (what : Action) → accesses W k who what (fault_of what) ≡ false
-  fault_accesses k (Caller c) (Issue call) = no_access (meant_for W c (Issue call)) k
-  fault_accesses k (Caller c) Resume = no_access (meant_for W c Resume) k
-  fault_accesses k (Caller c) (Dm call) = refl
-  fault_accesses k (Caller c) Commit = refl
-  fault_accesses k who what = refl
-
   still : StandsButBytes st W → StandsButBytes (noted st) W
   still stands = record { files = stands.files; stubs = stands.stubs; newer = stands.newer; ledger = stands.ledger }
 
@@ -126,7 +115,7 @@ module _ (s : Superblock) (st : State) (W : World) where
         may = λ ordered. inl (subst (λ (action : Action). IsFault e.actor action (likened W e).answer) (sym so.0) (subst (λ (answer : Answer). IsFault e.actor e.action answer) (sym so.1) is));
         like = λ i. record { actor = e.actor; action = blank_action (so.0 i) (so.1 i); answer = blank_answer (so.0 i) (so.1 i) };
         leaves = faulty (is_fault e.answer) fault (left_answered s st e.actor e.action e.answer) (given W e.actor e.action e.answer) (side_given W e.actor e.action e.answer (sides_of st.held.files))
-            (λ k. accesses W k e.actor e.action e.answer) (λ k. ap (accesses W k e.actor e.action) is.1 ∙ fault_accesses k e.actor e.action) stands;
+            (λ k. accesses W k e.actor e.action e.answer) (λ k. ap (accesses W k e.actor e.action) is.1 ∙ fault_accesses s st k W e.actor e.action) stands;
         stands = both (is_fault e.answer) (is_fault (likened W e).answer) true fault (same_fault W e.actor e.action e.answer ∙ fault) (left_answered s st e.actor e.action e.answer)
             (given W e.actor (likened W e).action (likened W e).answer) (λ on. still stands) (λ off. absurd cc);
       }

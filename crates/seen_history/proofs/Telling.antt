@@ -22,7 +22,7 @@ use Rattle.hsm_types.specs.declared.stubs.StubEntry.{StubEntry}
 use Rattle.hsm_types.specs.declared.stores.Superblock.{Superblock}
 use Rattle.hsm_types.specs.declared.dm.DmCall.{DmCall}
 use Rattle.hsm_types.specs.declared.dm.DmCall.TheVariants.{CreateSession, Respond, CreateUserEvent, GetFileAttr, SetRegion}
-use Rattle.hsm_types.specs.declared.dm.DmCall.TheVariants.{ReadInvis, WriteInvis, PunchHole, Seal, Restore, PathToHandle, GetSpace}
+use Rattle.hsm_types.specs.declared.dm.DmCall.TheVariants.{ReadInvis, WriteInvis, PunchHole, Seal, Restore, PathToHandle}
 use Rattle.hsm_types.specs.declared.dm.DmRefusal.{DmRefusal}
 use Rattle.hsm_types.specs.declared.dm.DmRefusal.TheVariants.{NoObject, BadResponse}
 use Rattle.hsm_types.specs.declared.dm.DmReply.{DmReply}
@@ -50,17 +50,13 @@ use Rattle.plain_model.proofs.Bodies.{length-read}
 use Rattle.plain_model.proofs.Judged.{none_first, passes, second_holds}
 use Rattle.plain_model.proofs.Moving.{writing_sound, seal_sound, restore_sound, punch_sound}
 use Rattle.plain_model.proofs.Orders.{owned_open}
+use Rattle.plain_model.proofs.Told.{refused_ledger}
 use Rattle.seen_history.specs.Alike.{blank_action, blank_answer}
 use Rattle.seen_history.specs.Outlines.{FitsSegment, StandsButBytes}
 use Rattle.seen_history.proofs.Fitting.{Fits, fits_size, affected_fits, file_fits}
 use Rattle.seen_history.proofs.Leaving.{Leaves, SameButBytes, affected_beside, same_world}
 use Rattle.seen_history.proofs.Likening.{true_bytes, true_print, liken_told, liken_action, refused_told}
 use Rattle.seen_history.proofs.Outlining.{names_same, size_same, live_same, affected_same, restored_same}
-
--- a refusal leaves the ledger
-refused_ledger : (call : DmCall) (why : DmRefusal) (L : Ledger) → ledger_told L call (told.Refused why) ≡ L
-refused_ledger GetSpace why L = refl
-refused_ledger call why L = refl
 
 -- the entry of a segment is as long as it
 entry_len : (size : ℕ) (kept : Kept) (j : ℕ) (x : Stub) → ((q : ℕ) → IfSome (stub_at q kept.stubs) (FitsSegment size kept.regions q)) → stub_at j kept.stubs ≡ Some x → (entry_print x.entry).len ≡ segment_len size j

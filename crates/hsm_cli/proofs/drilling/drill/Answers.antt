@@ -1,5 +1,5 @@
 use Rattle.std.proofs.Common.{◌≡◌, ◌≢◌, inl, List, Some, Ok, IfErr, refl, sym, subst, arith}
-use Rattle.disk_model.specs.Calls.{Rose}
+use Rattle.disk_model.specs.Calls.{RoseByOne}
 use Rattle.media_model.specs.Memory.{has_gives}
 use Rattle.media_model.specs.contracts.sure.SureDriveDrive.TheImpl as sure
 use Rattle.plain_model.specs.State.{Held}
@@ -32,7 +32,7 @@ use Rattle.hsm_cli.proofs.drilling.drill.Goals as goal
 -- lines are cut short for want of memory alone
 module _ (g : Over) (c : After-run_on-drilled g) where
   memory : IfErr c.run_on-drilled.result.ended (λ why. why ≡ NoMemory)
-  memory = for_memory (Rose 0 0) c.run_on-drilled.result.ended (λ rose. omega (arith, rose)) c.run_on-drilled.ensures.ends
+  memory = for_memory (RoseByOne 0 0) c.run_on-drilled.result.ended (λ rose. omega (arith, rose)) c.run_on-drilled.ensures.ends
 
   sound : cause_in c.run_on-drilled.result.ended ≢ Some DiskFault
   sound = no_fault c.run_on-drilled.result.ended memory

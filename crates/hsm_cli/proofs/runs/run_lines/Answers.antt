@@ -51,7 +51,7 @@ pub returns-in_err-line-clause-runs : goal.returns-in_err-line-clause-runs
 returns-in_err-line-clause-runs g c =
     let p = err_from_is_err_and c.from_residual.result c.from_residual.ensures.1 in
     let runs = c.in_err-line.ensures.moves.runs in
-    rw (p.1, p.2) (record { goes_on = goes_then g.D.Disk _ _ _ c.loop-line.invariant.goes_on runs.goes_on; works = λ working. stopped_then g.D.Disk c.args.replay.now.system.store c.loop-line.replay.system.store c.line.new.self.system.store _ c.loop-line.invariant.goes_on (runs.works c.loop-line.invariant.working) })
+    rw (p.1, p.2) (record { goes_on = goes_then g.D.Disk _ _ _ c.loop-line.invariant.goes_on runs.goes_on; works = λ working. stopped_then g.D.Disk c.args.replay.now.system.store c.loop-line.replay.system.store c.line.new.self.system.store _ c.loop-line.invariant.goes_on c.loop-line.invariant.working (runs.works c.loop-line.invariant.working) })
 
 pub returns-in_err-line-clause-first : goal.returns-in_err-line-clause-first
 returns-in_err-line-clause-first g c =

@@ -1,11 +1,11 @@
-use Rattle.std.proofs.Common.{Some, refl, arith}
-use Rattle.disk_model.specs.Calls.{Rose}
+use Rattle.std.proofs.Common.{Some, refl}
+use Rattle.disk_model.specs.Calls.{Rose, RoseByOne}
 use Rattle.hsm_cli.specs.Clauses.{HasFailed}
 use Rattle.hsm_cli.specs.Endings.{cause_in}
 use Rattle.hsm_cli.specs.Texts.{IsShown, AreUntold}
 use Rattle.hsm_cli.specs.Told.{sink_told}
 use Rattle.hsm_cli.proofs.Quiet.{unhanded_quiet, asked_once}
-use Rattle.hsm_cli.proofs.Running.{rose_later}
+use Rattle.hsm_cli.proofs.Running.{failed_since}
 use Rattle.hsm_cli.proofs.Showings.{takes_as, shown_of, ends_as, only_read}
 use Rattle.hsm_cli.proofs.showing.show.Goals as goal
 
@@ -23,8 +23,8 @@ returns-clause-ends g c =
     let host_fails = Rose (g.H.Host.fault_count c.args.host.now) (g.H.Host.fault_count c.disk.new.self) in
     let disk_fails = HasFailed g.H.Disk.Disk (Some c.show_disk-ended.new.disk) in
     rw (c.unopened-2.ensures, c.err.ensures.value)
-    (ends_as given held ⊥ (Rose (g.H.Disk.Disk.fault_count c.in-Ok.disk) (g.H.Disk.Disk.fault_count c.show_disk-ended.new.disk)) host_fails disk_fails (sink_told g.O.Sink.taken g.O.Sink.fault_count c.args.sink.now c.show_disk-ended.new.sink) (cause_in c.show_disk-ended.result) c.in-Ok.ensures.given
-    (λ never. absurd never) (λ rose. record { disk = c.show_disk-ended.new.disk; back = refl; rose = rose_later 0 (g.H.Disk.Disk.fault_count c.in-Ok.disk) (g.H.Disk.Disk.fault_count c.show_disk-ended.new.disk) (omega arith) rose }) c.show_disk-ended.ensures.ends)
+    (ends_as given held ⊥ (RoseByOne (g.H.Disk.Disk.fault_count c.in-Ok.disk) (g.H.Disk.Disk.fault_count c.show_disk-ended.new.disk)) host_fails disk_fails (sink_told g.O.Sink.taken g.O.Sink.fault_count c.args.sink.now c.show_disk-ended.new.sink) (cause_in c.show_disk-ended.result) c.in-Ok.ensures.given
+    (λ never. absurd never) (failed_since g.H.Disk.Disk (g.H.Disk.Disk.fault_count c.in-Ok.disk) c.show_disk-ended.new.disk c.in-Ok.ensures.counted) c.show_disk-ended.ensures.ends)
 
 pub returns-clause-reads : goal.returns-clause-reads
 returns-clause-reads g c =

@@ -1,8 +1,8 @@
-use Rattle.std.proofs.Common.{Some, refl}
+use Rattle.std.proofs.Common.{ℕ, Some, refl}
 use Rattle.std.proofs.lemmas.Result.{err_from_is_err_and}
+use Rattle.reconcile.specs.Classes.{FailsAt}
 use Rattle.store_summary.specs.Shown.{ShowsText}
 use Rattle.store_summary.specs.declared.summaries.ClassCounts.{ClassCounts}
-use Rattle.hsm_cli.specs.Clauses.{HasDriveFailed}
 use Rattle.hsm_cli.specs.Endings.{cause_in}
 use Rattle.hsm_cli.specs.Texts.{ShowsStore, shown_volumes, AreCounted, GivesVolume}
 use Rattle.hsm_cli.specs.Told.{sink_told}
@@ -27,7 +27,7 @@ returns-clause-text g c =
     }) c.write_summary.ensures.text
 
 pub returns-clause-ends : goal.returns-clause-ends
-returns-clause-ends g c = counting_written (HasDriveFailed g.M.Drive c.classes.new.drives) (sink_told g.O.Sink.taken g.O.Sink.fault_count c.args.sink.now c.write_summary.new.sink) c.write_summary.result c.write_summary.ensures.ends
+returns-clause-ends g c = counting_written ((volume : ℕ) × FailsAt g.M.Drive volume c.args.drives.now c.classes.new.drives) (sink_told g.O.Sink.taken g.O.Sink.fault_count c.args.sink.now c.write_summary.new.sink) c.write_summary.result c.write_summary.ensures.ends
 
 pub returns-in_err-counts-clause-quiet : goal.returns-in_err-counts-clause-quiet
 returns-in_err-counts-clause-quiet g c =

@@ -12,7 +12,7 @@ returns-in_err-summary-clause-ends g c =
     let refused = c.in_err-summary.ensures in
     rw (p.1, p.2)
     (ends_unread (g.D.Disk.gives c.args.disk.now) _ _ (sink_told g.O.Sink.taken g.O.Sink.fault_count c.args.sink.now c.args.sink.now) c.in_err-summary.field-0.0
-    (λ is. refused.not_store (ap Err is)) (λ place is. refused.corrupt place (ap Err is)) (λ is. refused.faults.rose (ap Err is)))
+    (λ is. refused.not_store (ap Err is)) (λ place is. refused.corrupt place (ap Err is)) (λ is. refused.faults.once (ap Err is)))
 
 pub returns-in_err-summary-clause-quiet : goal.returns-in_err-summary-clause-quiet
 returns-in_err-summary-clause-quiet g c =

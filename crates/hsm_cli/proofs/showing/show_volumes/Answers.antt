@@ -1,16 +1,16 @@
-use Rattle.std.proofs.Common.{length, drop, ◌≡◌, ◌∙◌, ◌⊎◌, inl, inr, ℕ, [], Some, Err, refl, ap, subst, arith}
+use Rattle.std.proofs.Common.{length, drop, ◌≡◌, ◌∙◌, ◌⊎◌, inl, inr, ℕ, [], Some, Err, IfErr, refl, ap, subst, arith}
 use Rattle.std.proofs.lemmas.List.{take_at}
 use Rattle.disk_model.specs.Calls.{Rose, raised}
 use Rattle.hsm_policy.specs.Settings.{standard}
-use Rattle.reconcile.specs.Classes.{AreRead}
+use Rattle.reconcile.specs.Classes.{AreRead, FailsAt}
 use Rattle.hsm_cli.specs.Clauses.{HasFailed, HasDriveFailed, AreShown}
-use Rattle.hsm_cli.specs.Endings.{cause_in}
+use Rattle.hsm_cli.specs.Endings.{cause_in, CountingEnds}
 use Rattle.hosts.specs.Hosts.{AreHanded}
 use Rattle.hsm_cli.specs.Texts.{ShowsStore, IsShown, shown_volumes, AreCounted, GivesVolume}
 use Rattle.hsm_cli.specs.Told.{SinkTold, sink_told}
 use Rattle.hsm_cli.proofs.Drives.{rose_once, handed_since, disk_came, stayed, all_came}
-use Rattle.hsm_cli.proofs.Quiet.{unhanded_quiet, never_yet, once_since, asked_once}
-use Rattle.hsm_cli.proofs.Running.{rose_later}
+use Rattle.hsm_cli.proofs.Quiet.{unhanded_quiet, never_yet, failed_once, once_since, asked_once}
+use Rattle.hsm_cli.proofs.Running.{failed_since}
 use Rattle.hsm_cli.proofs.Showings.{takes_as, ends_unread, ends_unhanded, ends_counted, gives_counted, asks_counted, drive_failed, only_read}
 use Rattle.hsm_cli.proofs.Showings.{unread_is_no_host, unread_quiet, is_found, as_many_read, some_came, counted_of}
 use Rattle.hsm_cli.proofs.showing.show_volumes.Given.{Over}
@@ -25,7 +25,7 @@ returns-in-Err-inspect-clause-ends g c =
     rw (c.unopened-in-Err-inspect.ensures, c.from-in-Err-inspect.ensures)
     (ends_unread (g.H.Host.holds c.args.host.now c.args.path.now) host_fails disk_fails (sink_told g.O.Sink.taken g.O.Sink.fault_count c.args.sink.now c.args.sink.now) c.in-Err-inspect.refusal
     (λ is image held. refused.not_store (ap Err is) image (c.in-Ok.ensures.given image held)) (λ place is image held. refused.corrupt place (ap Err is) image (c.in-Ok.ensures.given image held))
-    (λ is. record { disk = c.inspect.new.disk; back = refl; rose = rose_later 0 (g.H.Disk.Disk.fault_count c.in-Ok.disk) (g.H.Disk.Disk.fault_count c.inspect.new.disk) (omega arith) (refused.faults.rose (ap Err is)) }))
+    (λ is. failed_since g.H.Disk.Disk (g.H.Disk.Disk.fault_count c.in-Ok.disk) c.inspect.new.disk c.in-Ok.ensures.counted (refused.faults.once (ap Err is))))
 
 pub returns-in-Err-inspect-clause-reads : goal.returns-in-Err-inspect-clause-reads
 returns-in-Err-inspect-clause-reads g c =
@@ -72,7 +72,10 @@ module _ (g : Over) (c : After-drop-summary-3 g) where
   sink = sink_told g.O.Sink.taken g.O.Sink.fault_count c.args.sink.now c.show_classes-ended.new.sink
 
   abbrev drive_fails : Type 0
-  drive_fails = HasDriveFailed g.H.Drive.Drive c.show_classes-ended.new.drives
+  drive_fails = (volume : ℕ) × FailsAt g.H.Drive.Drive volume c.in-Ok-drives.drives.items c.show_classes-ended.new.drives
+
+  ends : IfErr c.show_classes-ended.result (CountingEnds drive_fails sink)
+  ends = rw c.deref_mut.ensures.value at c.show_classes-ended.ensures.ends
 
   capacity : c.capacity-capacity.result ≡ standard.capacity
   capacity = c.capacity-capacity.ensures.capacity ∙ ap (λ n. n.capacity) c.default.ensures
@@ -81,6 +84,9 @@ module _ (g : Over) (c : After-drop-summary-3 g) where
   handed =
       handed_since g.H.Drive.Drive (g.H.Host.stores c.args.host.now c.args.dir.now) (g.H.Host.stores c.disk.new.self c.args.dir.now) (c.disk.ensures.folders c.args.dir.now) 2 shown_volumes standard.capacity c.in-Ok-drives.drives.items
       (subst (λ (n : ℕ). AreHanded g.H.Drive.Drive (g.H.Host.stores c.disk.new.self c.args.dir.now) 2 shown_volumes n c.in-Ok-drives.drives.items) capacity c.in-Ok-drives.ensures.given)
+
+  fails : drive_fails → HasDriveFailed g.H.Drive.Drive c.show_classes-ended.new.drives
+  fails is = failed_once g.H.Drive.Drive c.in-Ok-drives.drives.items c.show_classes-ended.new.drives is.0 handed.counted (omega (arith, handed.count)) is.1
 
   read : AreRead g.H.Drive.Drive c.in-Ok-drives.drives.items c.show_classes-ended.new.drives
   read = rw c.deref_mut.ensures.value at c.show_classes-ended.ensures.read
@@ -103,7 +109,7 @@ pub returns-clause-drives : goal.returns-clause-drives
 returns-clause-drives g c =
     let after = (goal.at.returns-clause-drives g c).After-drop-summary-3 in
     rw (c.unopened-2.ensures, left g after, c.err.ensures.value)
-    (gives_counted g.H.Drive.Drive (g.H.Host.stores c.args.host.now c.args.dir.now) c.inspect.new.disk (drive_fails g after) (sink g after) c.show_classes-ended.result c.show_classes-ended.new.drives (shown g after) c.show_classes-ended.ensures.ends)
+    (gives_counted g.H.Drive.Drive (g.H.Host.stores c.args.host.now c.args.dir.now) c.inspect.new.disk (drive_fails g after) (sink g after) c.show_classes-ended.result c.show_classes-ended.new.drives (shown g after) (ends g after))
 
 pub returns-clause-folders : goal.returns-clause-folders
 returns-clause-folders g c =
@@ -119,12 +125,12 @@ pub returns-clause-driven : goal.returns-clause-driven
 returns-clause-driven g c =
     let after = (goal.at.returns-clause-driven g c).After-drop-summary-3 in
     rw (c.unopened-2.ensures, c.err.ensures.value)
-    (asks_counted c.inspect.new.disk (g.H.Host.drive_count c.args.host.now) (g.H.Host.drive_count c.drives.new.self) (drive_fails g after) (sink g after) c.show_classes-ended.result (c.drives.ensures.asked ∙ ap raised c.disk.ensures.undriven) c.show_classes-ended.ensures.ends)
+    (asks_counted c.inspect.new.disk (g.H.Host.drive_count c.args.host.now) (g.H.Host.drive_count c.drives.new.self) (drive_fails g after) (sink g after) c.show_classes-ended.result (c.drives.ensures.asked ∙ ap raised c.disk.ensures.undriven) (ends g after))
 
 pub returns-clause-lent : goal.returns-clause-lent
 returns-clause-lent g c =
     let after = (goal.at.returns-clause-lent g c).After-drop-summary-3 in
-    rw (c.unopened-2.ensures, left g after, c.err.ensures.value) (λ is. inr (inr (drive_failed (drive_fails g after) (sink g after) c.show_classes-ended.result c.show_classes-ended.ensures.ends is)))
+    rw (c.unopened-2.ensures, left g after, c.err.ensures.value) (λ is. inr (inr (fails g after (drive_failed (drive_fails g after) (sink g after) c.show_classes-ended.result (ends g after) is))))
 
 pub returns-clause-reads : goal.returns-clause-reads
 returns-clause-reads g c =
@@ -154,10 +160,10 @@ returns-clause-output g c =
 pub returns-clause-ends : goal.returns-clause-ends
 returns-clause-ends g c =
     let after = (goal.at.returns-clause-ends g c).After-drop-summary-3 in
-    let host_fails = Rose (g.H.Host.fault_count c.args.host.now) (g.H.Host.fault_count c.drives.new.self) ⊎ drive_fails g after in
+    let host_fails = Rose (g.H.Host.fault_count c.args.host.now) (g.H.Host.fault_count c.drives.new.self) ⊎ HasDriveFailed g.H.Drive.Drive c.show_classes-ended.new.drives in
     let disk_fails = HasFailed g.H.Disk.Disk (Some c.inspect.new.disk) in
     rw (c.unopened-2.ensures, left g after, c.err.ensures.value)
-    (ends_counted (g.H.Host.holds c.args.host.now c.args.path.now) host_fails disk_fails (sink g after) (drive_fails g after) c.show_classes-ended.result (λ failed. inr failed) c.show_classes-ended.ensures.ends)
+    (ends_counted (g.H.Host.holds c.args.host.now c.args.path.now) host_fails disk_fails (sink g after) (drive_fails g after) c.show_classes-ended.result (λ is. inr (fails g after is)) (ends g after))
 
 -- what has failed is told
 

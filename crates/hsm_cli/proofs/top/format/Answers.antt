@@ -4,6 +4,7 @@ use Rattle.commit_slots.specs.Images.{IsEmptyStore}
 use Rattle.hsm_cli.specs.declared.causes.Cause.TheVariants.{DiskFault}
 use Rattle.command_words.specs.Commands.{geometry_number, fsid_of}
 use Rattle.hsm_cli.proofs.Quiet.{unhanded_quiet, asked_once}
+use Rattle.hsm_cli.proofs.Running.{failed_since}
 use Rattle.hsm_cli.proofs.top.format.Goals as goal
 use Rattle.hsm_cli.proofs.top.format.Goals.{in-Ok-format, in-Err-format}
 
@@ -28,6 +29,14 @@ returns-after-format-clause-sound g c =
     elim c.match-format.branch [
       | in-Ok-format w ↦ w.in-Ok-format.ensures.cause.quiet refl ∙ c.in-Ok.ensures.counted
       | in-Err-format w ↦ absurd (works w.cause-is)
+    ])
+
+pub returns-after-format-clause-ends : goal.returns-after-format-clause-ends
+returns-after-format-clause-ends g c =
+    rw c.unopened.ensures
+    (elim c.match-format.branch [
+      | in-Ok-format w ↦ rw w.cause-is tt
+      | in-Err-format w ↦ rw w.cause-is (failed_since g.H.Disk.Disk (g.H.Disk.Disk.fault_count c.in-Ok.disk) c.format.new.disk c.in-Ok.ensures.counted (w.in-Err-format.ensures.cause.once refl))
     ])
 
 pub returns-after-format-clause-quiet : goal.returns-after-format-clause-quiet

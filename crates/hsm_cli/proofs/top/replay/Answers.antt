@@ -1,6 +1,6 @@
 use Rattle.std.proofs.Common.{inl, Some, false, refl, sym, subst, arith}
 use Rattle.std.proofs.KnownBytes.{Appends-nil}
-use Rattle.disk_model.specs.Calls.{Rose}
+use Rattle.disk_model.specs.Calls.{RoseByOne}
 use Rattle.media_model.specs.Memory.{has_gives}
 use Rattle.plain_model.specs.State.{Held}
 use Rattle.plain_model.specs.Stands.{Stands}
@@ -59,7 +59,7 @@ pub returns-in-Ok-clause-ends : goal.returns-in-Ok-clause-ends
 returns-in-Ok-clause-ends g c =
     let source = source_told g.I.Source.left g.I.Source.fault_count c.args.source.now c.run_opened-finished.new.source in
     let sink = sink_told g.O.Sink.taken g.O.Sink.fault_count c.args.sink.now c.run_opened-finished.new.sink in
-    rw c.ended.ensures (ends_in_memory _ (Rose 0 0) source sink c.run_opened-finished.result.cause (no_host c.new_drives-drives.result c.new_drives-drives.ensures.why) (λ rose. omega (arith, rose)) c.run_opened-finished.ensures.ends)
+    rw c.ended.ensures (ends_in_memory _ (RoseByOne 0 0) source sink c.run_opened-finished.result.cause (no_host c.new_drives-drives.result c.new_drives-drives.ensures.why) (λ rose. omega (arith, rose)) c.run_opened-finished.ensures.ends)
 
 -- no memory for a store
 

@@ -10,9 +10,9 @@ use Rattle.hsm_cli.specs.Outcomes.{ended_with}
 use Rattle.hsm_cli.specs.Sealing.{TellsOf, IsRightInFolder}
 use Rattle.hsm_cli.specs.Told.{source_told, sink_told, host_told}
 use Rattle.hsm_cli.proofs.Crashes.{crash_safe, why_unopened, why_unhanded, back_unhanded, words_unhanded, begun_unhanded, words_unopened, begun_unopened}
-use Rattle.hsm_cli.proofs.Running.{served_words, served_begun}
+use Rattle.hsm_cli.proofs.Running.{failed_since, served_words, served_begun}
 use Rattle.hsm_cli.proofs.Legality.{good_but_bytes, good_unopened, legal_as}
-use Rattle.hsm_cli.proofs.Drives.{rose_from, rose_once, gives_back, none_at_fault, host_failed, why_served, disk_came, drives_came, tallies_since}
+use Rattle.hsm_cli.proofs.Drives.{rose_once, gives_back, none_at_fault, host_failed, why_served, disk_came, drives_came, tallies_since}
 use Rattle.hsm_cli.proofs.Quiet.{unhanded_quiet, once_since, asked_once}
 use Rattle.hsm_cli.proofs.Scripted.{also_well, ran_with}
 use Rattle.hsm_cli.proofs.Sealing.{right_since}
@@ -47,7 +47,7 @@ returns-in-Err-open-clause-why g c =
     rw (c.unopened-in-Err-open.ensures, c.from-in-Err-open.ensures)
     (why_unopened g.H.Disk.Disk (g.H.Host.holds c.args.host.now c.args.path.now) c.in-Ok.disk record { given = c.in-Ok.ensures.given; settled = c.in-Ok.ensures.settled; counted = c.in-Ok.ensures.counted } _
     (source_told g.I.Source.left g.I.Source.fault_count c.args.source.now c.args.source.now) (sink_told g.O.Sink.taken g.O.Sink.fault_count c.args.sink.now c.args.sink.now)
-    c.in-Err-open.disk c.in-Err-open.refusal c.in-Err-open.ensures.not_store c.in-Err-open.ensures.corrupt c.in-Err-open.ensures.faults.rose)
+    c.in-Err-open.disk c.in-Err-open.refusal c.in-Err-open.ensures.not_store c.in-Err-open.ensures.corrupt c.in-Err-open.ensures.faults.once)
 
 pub returns-in-Err-clause-legality : goal.returns-in-Err-clause-legality
 returns-in-Err-clause-legality g c = legal_as g.H.Disk.Disk c.unopened.result _ None c.unopened.ensures
@@ -66,9 +66,13 @@ returns-in-Ok-open-clause-script g c =
     (tallies_since g.H.Drive.Drive (g.H.Host.stores c.args.host.now c.args.dir.now) (g.H.Host.stores c.disk.new.self c.args.dir.now) (c.disk.ensures.folders c.args.dir.now) c.in-Ok-open.hsm.opened (λ ds. ds.items) c.ask_for_drives-drives.result c.run_opened-finished.result.drives.items c.ask_for_drives-drives.ensures.given))
     c.ask_for_drives-drives.ensures.ready c.run_opened-finished.ensures.unready c.run_opened-finished.ensures.idle c.run_opened-finished.ensures.script))
 
--- the drives, and what the host has left
+-- the disk and the drives, and what the host has left
 
 module _ (g : Over) (c : After-run_opened-finished g) where
+  -- no call of the disk had failed when the store was opened
+  counted_none : g.H.Disk.Disk.fault_count c.in-Ok-open.hsm.opened.disk ≡ 0
+  counted_none = ap (λ (s : Store g.row.H-Disk.Denot). g.H.Disk.Disk.fault_count s.disk) c.in-Ok-open.ensures.opened.0 ∙ c.in-Ok-open.ensures.quiet ∙ c.in-Ok.ensures.counted
+
   back : GivesBack g.H.Drive.Drive (g.H.Host.stores c.args.host.now c.args.dir.now) (Some c.in-Ok-open.hsm.opened) c.run_opened-finished.result.cause c.run_opened-finished.result.drives.items
   back =
       gives_back g.H.Drive.Drive (g.H.Host.stores c.args.host.now c.args.dir.now) (g.H.Host.stores c.disk.new.self c.args.dir.now) (c.disk.ensures.folders c.args.dir.now) c.in-Ok-open.hsm.opened (λ ds. ds.items) c.ask_for_drives-drives.result c.run_opened-finished.result.cause
@@ -94,12 +98,12 @@ returns-in-Ok-open-clause-why g c =
     why_served g.H.Disk.Disk (g.H.Host.holds c.args.host.now c.args.path.now) (source_told g.I.Source.left g.I.Source.fault_count c.args.source.now c.run_opened-finished.new.source) (sink_told g.O.Sink.taken g.O.Sink.fault_count c.args.sink.now c.run_opened-finished.new.sink)
     (host_told g.H.Host.fault_count c.args.host.now c.ask_for_drives-drives.new.host) (Some c.run_opened-finished.result.disk) (host_told g.H.Host.fault_count c.disk.new.self c.ask_for_drives-drives.new.host) c.ask_for_drives-drives.result _ c.run_opened-finished.result.cause
     c.disk.ensures.cause.never_falls refl c.ask_for_drives-drives.ensures.why
-    (λ rose. record { disk = c.run_opened-finished.result.disk; back = refl; rose = rose_from 0 (g.H.Disk.Disk.fault_count c.in-Ok-open.hsm.opened.disk) (g.H.Disk.Disk.fault_count c.run_opened-finished.result.disk) (omega arith) rose }) c.run_opened-finished.ensures.ends
+    (failed_since g.H.Disk.Disk _ c.run_opened-finished.result.disk (counted_none g (goal.at.returns-in-Ok-open-clause-why g c).After-run_opened-finished)) c.run_opened-finished.ensures.ends
 
 -- what has failed is told
 
 pub returns-in-Ok-open-clause-sound : goal.returns-in-Ok-open-clause-sound
-returns-in-Ok-open-clause-sound g c = λ works none. c.run_opened-finished.ensures.sound none ∙ ap (λ (s : Store g.row.H-Disk.Denot). g.H.Disk.Disk.fault_count s.disk) c.in-Ok-open.ensures.opened.0 ∙ c.in-Ok-open.ensures.quiet ∙ c.in-Ok.ensures.counted
+returns-in-Ok-open-clause-sound g c = λ works none. c.run_opened-finished.ensures.sound none ∙ counted_none g (goal.at.returns-in-Ok-open-clause-sound g c).After-run_opened-finished
 
 pub returns-in-Err-open-clause-sound : goal.returns-in-Err-open-clause-sound
 returns-in-Err-open-clause-sound g c = rw (c.unopened-in-Err-open.ensures, c.from-in-Err-open.ensures) (λ works none. c.in-Err-open.ensures.faults.quiet (unopened_quiet c.in-Err-open.refusal works) ∙ c.in-Ok.ensures.counted)
@@ -119,18 +123,15 @@ pub returns-in-Ok-open-clause-reading : goal.returns-in-Ok-open-clause-reading
 returns-in-Ok-open-clause-reading g c = c.run_opened-finished.ensures.reading
 
 pub returns-in-Ok-open-clause-legality : goal.returns-in-Ok-open-clause-legality
-returns-in-Ok-open-clause-legality g c =
-    let old = g.H.Disk.Disk.fault_count c.in-Ok-open.hsm.opened.disk in
-    let new = g.H.Disk.Disk.fault_count c.run_opened-finished.result.disk in
-    record {
-      from = rw c.run_opened-finished.ensures.opening c.run_opened-finished.ensures.legality;
-      orderly = rw c.run_opened-finished.ensures.opening c.run_opened-finished.ensures.orderly;
-      seen = rw c.run_opened-finished.ensures.opening (good_but_bytes _ (Some c.in-Ok-open.hsm.opened) _ c.run_opened-finished.ensures.legality);
-      good = rw c.run_opened-finished.ensures.opening c.run_opened-finished.ensures.good;
-      caused = λ is. record { disk = c.run_opened-finished.result.disk; back = refl; rose = rose_from 0 old new (omega arith) (c.run_opened-finished.ensures.caused is) };
-      told = λ is some. c.run_opened-finished.ensures.told is;
-      faultless = c.run_opened-finished.ensures.faultless;
-    }
+returns-in-Ok-open-clause-legality g c = record {
+  from = rw c.run_opened-finished.ensures.opening c.run_opened-finished.ensures.legality;
+  orderly = rw c.run_opened-finished.ensures.opening c.run_opened-finished.ensures.orderly;
+  seen = rw c.run_opened-finished.ensures.opening (good_but_bytes _ (Some c.in-Ok-open.hsm.opened) _ c.run_opened-finished.ensures.legality);
+  good = rw c.run_opened-finished.ensures.opening c.run_opened-finished.ensures.good;
+  caused = λ is. failed_since g.H.Disk.Disk _ c.run_opened-finished.result.disk (counted_none g (goal.at.returns-in-Ok-open-clause-legality g c).After-run_opened-finished) (c.run_opened-finished.ensures.caused is);
+  told = λ is some. c.run_opened-finished.ensures.told is;
+  faultless = c.run_opened-finished.ensures.faultless;
+}
 
 pub returns-in-Ok-open-clause-plain : goal.returns-in-Ok-open-clause-plain
 returns-in-Ok-open-clause-plain g c = rw c.run_opened-finished.ensures.opening c.run_opened-finished.ensures.plain

@@ -13,7 +13,7 @@ returns-in_err-entries-clause-reads g c = none_read g.M.Drive c.args.drives.now
 pub returns-in_err-counts-clause-refused : goal.returns-in_err-counts-clause-refused
 returns-in_err-counts-clause-refused g c =
     let p = err_from_is_err_and c.from_residual-in_err-counts.result c.from_residual-in_err-counts.ensures.1 in
-    rw (p.1, p.2) (refused_on g.M.Drive c.args.volumes c.args.drives.now c.count_all.new.drives c.class_entries.new.drives c.in_err-counts.field-0.0 c.in_ok-objects.ensures.reads c.in_err-counts.ensures.refused)
+    rw (p.1, p.2) (refused_on g.M.Drive c.args.volumes c.args.drives.now c.count_all.new.drives c.class_entries.new.drives c.in_err-counts.field-0.0 c.in_ok-objects.ensures.reads (c.in_ok-objects.ensures.quiet (λ e. e)) c.in_err-counts.ensures.refused)
 
 pub returns-in_err-counts-clause-reads : goal.returns-in_err-counts-clause-reads
 returns-in_err-counts-clause-reads g c = read_on g.M.Drive c.args.drives.now c.count_all.new.drives c.class_entries.new.drives c.in_ok-objects.ensures.reads c.in_err-counts.ensures.reads

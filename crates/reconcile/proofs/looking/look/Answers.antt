@@ -13,7 +13,7 @@ returns-clause-found g c =
 pub returns-clause-refused : goal.returns-clause-refused
 returns-clause-refused g c = rw c.place-volume.ensures (
     is_refused g.M.Drive c.args.volumes c.args.drives.now c.index-drives-number.result c.look_on.new.drive c.args.entry.now c.requires
-    (rw c.place-volume.ensures at c.if-volume-volumes.false) c.look_on.result (rw c.place-volume.ensures at c.look_on.ensures.reads) (rw c.place-volume.ensures at c.look_on.ensures.refused))
+    (rw c.place-volume.ensures at c.if-volume-volumes.false) c.look_on.result (rw c.place-volume.ensures at c.look_on.ensures.refused))
 
 pub returns-clause-reads : goal.returns-clause-reads
 returns-clause-reads g c = one_read g.M.Drive c.place-volume.result.volume c.args.drives.now c.index-drives-number.result c.look_on.new.drive c.requires c.look_on.ensures.reads

@@ -13,8 +13,8 @@ returns-in_err-count_on-clause-refused g c =
     let p = err_from_is_err_and c.from_residual.result c.from_residual.ensures.1 in
     let ds = c.loop-volume.drives in
     let some : 0 < length ds = omega arith in
-    rw (p.1, p.2) (refused_on g.M.Drive c.args.volumes c.args.drives.now ds _ c.in_err-count_on.field-0.0 c.loop-volume.invariant.reads
-    (one_refuses g.M.Drive c.loop-volume.volume ds c.index-drives-number.result c.count_on.new.drive some c.args.volumes c.in_err-count_on.field-0.0 c.loop-volume-test.true c.in_err-count_on.ensures.reads c.in_err-count_on.ensures.refused))
+    rw (p.1, p.2) (refused_on g.M.Drive c.args.volumes c.args.drives.now ds _ c.in_err-count_on.field-0.0 c.loop-volume.invariant.reads c.loop-volume.invariant.quiet
+    (one_refuses g.M.Drive c.loop-volume.volume ds c.index-drives-number.result c.count_on.new.drive some c.args.volumes c.in_err-count_on.field-0.0 c.loop-volume-test.true c.in_err-count_on.ensures.refused))
 
 pub returns-in_err-count_on-clause-reads : goal.returns-in_err-count_on-clause-reads
 returns-in_err-count_on-clause-reads g c =

@@ -24,7 +24,7 @@ loop-entry-init g c = rw (c.start-walk.ensures) (record {
 pub returns-in_err-found-clause-refused : goal.returns-in_err-found-clause-refused
 returns-in_err-found-clause-refused g c =
     let p = err_from_is_err_and c.from_residual.result c.from_residual.ensures.1 in
-    rw (p.1, p.2) (refused_on g.M.Drive c.args.volumes c.args.drives.now c.loop-entry.drives c.find.new.drives c.in_err-found.field-0.0 c.loop-entry.invariant.reads c.in_err-found.ensures.refused)
+    rw (p.1, p.2) (refused_on g.M.Drive c.args.volumes c.args.drives.now c.loop-entry.drives c.find.new.drives c.in_err-found.field-0.0 c.loop-entry.invariant.reads c.loop-entry.invariant.quiet c.in_err-found.ensures.refused)
 
 pub returns-in_err-found-clause-reads : goal.returns-in_err-found-clause-reads
 returns-in_err-found-clause-reads g c = read_on g.M.Drive c.args.drives.now c.loop-entry.drives c.find.new.drives c.loop-entry.invariant.reads c.in_err-found.ensures.reads

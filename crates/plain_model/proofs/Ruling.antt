@@ -102,7 +102,7 @@ and_never true true = refl
 and_never true false = refl
 and_never false b = refl
 
-unhindered : (k : FileKey) (own : Token) (rights : Rights) → conflict k Null own rights ≡ None
+pub unhindered : (k : FileKey) (own : Token) (rights : Rights) → conflict k Null own rights ≡ None
 unhindered k own [] = refl
 unhindered k own (x ∷ xs) = rw (and_never (same_key x.0.key k) (not (same_token x.0.token own))) (unhindered k own xs)
 
