@@ -43,5 +43,31 @@ pub struct Batch {
     pub records: RecordBytes,
 }
 
-/// The batches of a journal, the oldest first.
-pub type Batches = Vec<Batch>;
+/// The batches of a journal, the oldest first. Contracts see them as a list.
+#[derive(Drop)]
+pub struct Batches {
+    list: Vec<Batch>,
+}
+
+impl Model for Batches {
+    ghost use Rattle.std.specs.Prelude.{List};
+    ghost use Rattle.meta_journal.specs.declared.lists.Batch.{Batch};
+
+    ghost Value = { List Batch };
+
+    ghost view = { λ b. b.list.items };
+}
+
+impl Batches {
+    pub(crate) fn new(list: Vec<Batch>) -> Batches
+        ensures { result ≡ list.items }
+    {
+        Batches { list }
+    }
+
+    pub fn as_slice(&self) -> &[Batch]
+        ensures { result.now ≡ self.now }
+    {
+        &self.list
+    }
+}

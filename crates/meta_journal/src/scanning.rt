@@ -16,7 +16,7 @@ use std::alloc::{AllocError, Global};
 // The batches in front of a journal, how many bytes they have, and the gate of the bad one behind them, if there is one.
 #[derive(Drop)]
 struct Front {
-    batches: Batches,
+    batches: Vec<Batch>,
     used: usize,
     bad: Option<u64>,
 }
@@ -79,9 +79,9 @@ pub fn scan<D: Disk>(
     ensures given { Alike (D.gives disk.old) (D.gives disk.new) }
 
     // Ok tells what the disk holds, and of each text of batches there is no other reading.
-    ensures read { IfOk result (λ r. (c : List ℕ) → D.gives disk.old c → IsReading (part c at len) at number r.1.items r.0.used r.2) }
+    ensures read { IfOk result (λ r. (c : List ℕ) → D.gives disk.old c → IsReading (part c at len) at number r.1 r.0.used r.2) }
     ensures no_other_reading { IfOk result (λ r. (c : List ℕ) → D.gives disk.old c → (batches : List Batch) (used : ℕ) (bad : Option ℕ)
-        → IsReading (part c at len) at number batches used bad → (r.1.items ≡ batches) × (r.0.used ≡ used) × (r.2 ≡ bad)) }
+        → IsReading (part c at len) at number batches used bad → (r.1 ≡ batches) × (r.0.used ≡ used) × (r.2 ≡ bad)) }
 
     // On a disk that doesn't tell, too.
     ensures journal { IfOk result (λ r. r.0 ≡ unstaged at len r.0.used) }
@@ -102,5 +102,6 @@ pub fn scan<D: Disk>(
         return Err(OpenRefusal::Memory);
     };
     let journal = MetaJournal::unstaged(at, bytes, front.used);
-    Ok((journal, front.batches, front.bad))
+    let batches = Batches::new(front.batches);
+    Ok((journal, batches, front.bad))
 }

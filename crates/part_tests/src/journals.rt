@@ -82,7 +82,7 @@ fn told(alloc: Global, image: &[u8]) -> Option<(usize, Option<u64>)> {
         return None;
     }
     let (_journal, batches, bad) = scan(alloc, &mut disk, 0, len, 7).ok()?;
-    Some((batches.len(), bad))
+    Some((batches.as_slice().len(), bad))
 }
 
 #[test]
@@ -152,6 +152,7 @@ fn batches_of(alloc: Global, image: &[u8]) -> Option<usize> {
         return None;
     }
     let (_journal, batches, bad) = scan(alloc, &mut disk, AT, LEN, 0).ok()?;
+    let batches = batches.as_slice();
     if bad.is_some() || batches.len() > 2 {
         return None;
     }
