@@ -1,5 +1,5 @@
 use Rattle.daemon_session.specs.Members.{IsOnWay}
-use Rattle.part_tests.proofs.entering.follow.Given as goal
+use Rattle.daemon_tests.proofs.entering.follow.Given as goal
 
 abbrev pub invariant-loop-told : goal.invariant-loop-told
 invariant-loop-told l = IsOnWay l.member.asked
