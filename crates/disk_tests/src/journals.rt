@@ -1,7 +1,9 @@
 //! Journals: their bytes, what a scan tells of bytes that nobody wrote, and what a crash leaves of a commit.
-ghost use Rattle.std.specs.Prelude.{◌≡◌, ◌+◌, ◌≤◌, length};
+ghost use Rattle.std.specs.Prelude.{◌≡◌, ◌+◌, ◌≤◌, List, ℕ, length, OnOk};
+ghost use Rattle.disk_model.specs.Moments.{MayBe};
+ghost use Rattle.meta_journal.specs.Texts.{IsClosed};
 
-use disk_model::{Disk, MemDisk, OpenRefusal, SureDisk};
+use disk_model::{Disk, Failed, MemDisk, OpenRefusal, SureDisk, sync_all, write_at};
 use meta_journal::{Batch, Full, JournalRefusal, MetaJournal, scan};
 use std::alloc::Global;
 
@@ -110,7 +112,63 @@ fn is_one_of_two(batch: &Batch, first: bool) -> bool {
     }
 }
 
+fn stage(journal: &mut MetaJournal, bytes: &[u8]) -> Result<(), Full>
+    requires some { 1 ≤ length bytes.now }
+    ensures at { journal.new.at ≡ journal.old.at }
+    ensures len { journal.new.len ≡ journal.old.len }
+{
+    match journal.append(bytes) {
+        Ok(()) => Ok(()),
+        Err(why) => Err(why),
+    }
+}
+
+fn commit<D: Disk>(
+    journal: &mut MetaJournal,
+    disk: &mut D,
+    number: u64,
+) -> Result<(), JournalRefusal>
+    requires { journal.old.at + journal.old.len ≤ D.length_of disk.old }
+    ensures at { journal.new.at ≡ journal.old.at }
+    ensures len { journal.new.len ≡ journal.old.len }
+    ensures disk_len { D.length_of disk.new ≡ D.length_of disk.old }
+{
+    match journal.commit(disk, number) {
+        Ok(()) => Ok(()),
+        Err(why) => Err(why),
+    }
+}
+
+/// Stages a record, and commits what is staged.
+fn add<D: Disk>(
+    journal: &mut MetaJournal,
+    disk: &mut D,
+    record: &[u8],
+    number: u64,
+) -> Result<(), JournalRefusal>
+    requires some { 1 ≤ length record.now }
+    requires there { journal.old.at + journal.old.len ≤ D.length_of disk.old }
+    ensures at { journal.new.at ≡ journal.old.at }
+    ensures len { journal.new.len ≡ journal.old.len }
+    ensures disk_len { D.length_of disk.new ≡ D.length_of disk.old }
+{
+    let Ok(()) = stage(journal, record) else {
+        return Err(JournalRefusal::Full);
+    };
+    commit(journal, disk, number)
+}
+
 /// Commits a batch of `ab` and `c`, and then one of `defgh`.
+fn add_two<D: Disk>(journal: &mut MetaJournal, disk: &mut D) -> Result<(), JournalRefusal>
+    requires { journal.old.at + journal.old.len ≤ D.length_of disk.old }
+{
+    let Ok(()) = stage(journal, b"ab") else {
+        return Err(JournalRefusal::Full);
+    };
+    add(journal, disk, b"c", 3)?;
+    add(journal, disk, b"defgh", 5)
+}
+
 fn commit_two(alloc: Global, disk: &mut MemDisk) -> Result<(), JournalRefusal> {
     if disk.len() < AT + LEN {
         return Err(JournalRefusal::Full);
@@ -118,17 +176,7 @@ fn commit_two(alloc: Global, disk: &mut MemDisk) -> Result<(), JournalRefusal> {
     let Ok((mut journal, _batches, _bad)) = scan(alloc, disk, AT, LEN, 0) else {
         return Err(JournalRefusal::Failed);
     };
-    let Ok(()) = journal.append(b"ab") else {
-        return Err(JournalRefusal::Full);
-    };
-    let Ok(()) = journal.append(b"c") else {
-        return Err(JournalRefusal::Full);
-    };
-    journal.commit(disk, 3)?;
-    let Ok(()) = journal.append(b"defgh") else {
-        return Err(JournalRefusal::Full);
-    };
-    journal.commit(disk, 5)
+    add_two(&mut journal, disk)
 }
 
 /// The images that a crash may leave after these commits, of which the call of that number fails.
@@ -170,12 +218,8 @@ fn range_of(alloc: Global, images: &[Vec<u8>]) -> Option<(usize, usize)> {
     let mut most = 0;
     for image in images {
         let count = batches_of(alloc, image)?;
-        if count < fewest {
-            fewest = count;
-        }
-        if count > most {
-            most = count;
-        }
+        fewest = fewest.min(count);
+        most = most.max(count);
     }
     Some((fewest, most))
 }
@@ -226,35 +270,42 @@ fn are_written_as_the_format_says(rt: HostRuntime) {
     );
 }
 
-fn stage<D: Disk>(journal: &mut MetaJournal, disk: &D, bytes: &[u8]) -> Result<(), Full>
-    requires some { 1 ≤ length bytes.now }
-    requires there { journal.old.at + journal.old.len ≤ D.length_of disk.now }
-    ensures there { journal.new.at + journal.new.len ≤ D.length_of disk.now }
-    ensures at { journal.new.at ≡ journal.old.at }
+/// Closes the gate at that place, for each image that a crash may leave.
+fn close<D: Disk>(disk: &mut D, gate: u64) -> Result<(), Failed>
+    requires { gate + 1 ≤ D.length_of disk.old }
+    ensures closed { OnOk result ((c : List ℕ) → MayBe D.Disk disk.new c → IsClosed c gate) }
+    ensures len { D.length_of disk.new ≡ D.length_of disk.old }
 {
-    match journal.append(bytes) {
-        Ok(()) => Ok(()),
-        Err(why) => Err(why),
-    }
+    write_at(disk, gate, &[0])?;
+    sync_all(disk)?;
+    Ok(())
 }
 
-fn commit<D: Disk>(
-    journal: &mut MetaJournal,
-    disk: &mut D,
-    number: u64,
-) -> Result<(), JournalRefusal>
-    requires { journal.old.at + journal.old.len ≤ D.length_of disk.old }
-    ensures there { journal.new.at + journal.new.len ≤ D.length_of disk.new }
-    ensures at { journal.new.at ≡ journal.old.at }
+/// Begins the journal anew, and commits a batch of nothing.
+fn begin_anew<D: Disk>(journal: &mut MetaJournal, disk: &mut D) -> Result<(), JournalRefusal>
+    requires some { 1 ≤ journal.old.len }
+    requires there { 16 + journal.old.len ≤ D.length_of disk.old }
 {
-    match journal.commit(disk, number) {
-        Ok(()) => Ok(()),
-        Err(why) => Err(why),
-    }
+    let Ok(()) = close(disk, AT) else {
+        return Err(JournalRefusal::Failed);
+    };
+    journal.restart(disk, AT);
+    journal.commit(disk, 4)
 }
 
-/// What a journal answers to a record that is a byte too long, to one that just fits, to two commits of it, and to one of nothing
-/// behind it; and then at the start of the journal again.
+/// What is answered to two commits, to one of nothing behind them, and to one where the journal begins anew.
+fn commit_four<D: Disk>(journal: &mut MetaJournal, disk: &mut D) -> [Result<(), JournalRefusal>; 4]
+    requires some { 1 ≤ journal.old.len }
+    requires there { journal.old.at + journal.old.len ≤ D.length_of disk.old }
+    requires at { journal.old.at ≡ 16 }
+{
+    let failed = commit(journal, disk, 3);
+    let again = commit(journal, disk, 3);
+    let full = commit(journal, disk, 4);
+    [failed, again, full, begin_anew(journal, disk)]
+}
+
+/// What a journal answers to a record that is a byte too long, to one that just fits, and to commits of that.
 type Answers = (
     Result<(), Full>,
     Result<(), Full>,
@@ -262,17 +313,13 @@ type Answers = (
 );
 
 fn ask<D: Disk>(journal: &mut MetaJournal, disk: &mut D) -> Answers
+    requires some { 1 ≤ journal.old.len }
     requires there { journal.old.at + journal.old.len ≤ D.length_of disk.old }
     requires at { journal.old.at ≡ 16 }
 {
-    let over = stage(journal, disk, &[7; 63]);
-    let just = stage(journal, disk, &[7; 62]);
-    let failed = commit(journal, disk, 3);
-    let again = commit(journal, disk, 3);
-    let full = commit(journal, disk, 4);
-    journal.restart(AT);
-    let anew = commit(journal, disk, 4);
-    (over, just, [failed, again, full, anew])
+    let over = stage(journal, &[7; 63]);
+    let just = stage(journal, &[7; 62]);
+    (over, just, commit_four(journal, disk))
 }
 
 /// The answers of a journal of 80 bytes, in which records of 62 bytes fit and of 63 don't, on a disk whose first write fails, and

@@ -148,6 +148,13 @@ commit_turns g old new j n fits few t = turned_where g old new (λ d. Unit {0}) 
     (λ d c any w. written_adds j (omega (arith, fits)) d c n fits few w)
     t
 
+-- the gate is closed where that was written
+pub written_closed : (at : ℕ) (d c : List ℕ) → IsWritten at closed_gate d c → IsClosed c at
+written_closed at d c w = λ one. absurd (zero_is_one _ (sym (byte_of c at) ∙ ap (λ (l : List ℕ). slice_index l 0) w.there) one)
+  where
+    zero_is_one : (x : ℕ) → x ≡ 0 → x ≡ 1 → ⊥
+    zero_is_one x zero one = omega arith
+
 -- a journal with no batch
 pub empty_holds : (at len : ℕ) → 1 ≤ len → (number : ℕ) (c : List ℕ) → IsClosed c at → IsReading (part c at len) at number [] 0 None
 empty_holds at len some number c closed =

@@ -114,11 +114,13 @@ impl MetaJournal {
         Ok(())
     }
 
-    /// Drops what is staged, and goes on at the journal there, which has the same length and whose first gate is closed: where its
-    /// gate is open, `commit` promises nothing of batches.
-    pub fn restart(&mut self, at: u64)
+    /// Drops what is staged, and goes on at the journal there on that disk, which has the same length and whose first gate is closed:
+    /// it has no batch. No call is made of the disk.
+    pub fn restart<D: Disk>(&mut self, disk: &D, at: u64)
+        requires there { at + self.old.len ≤ D.length_of disk.now }
+        requires closed { (c : List ℕ) → MayBe D.Disk disk.now c → IsClosed c at }
         ensures restarted { self.new ≡ unstaged at self.old.len 0 }
-        ensures empty { (number : ℕ) (c : List ℕ) → IsClosed c at → Holds self.new number [] c }
+        ensures empty { (number : ℕ) (c : List ℕ) → MayBe D.Disk disk.now c → Holds self.new number [] c }
     {
         self.at = at;
         self.used = 0;
