@@ -6,7 +6,7 @@ use Rattle.file_store.proofs.Names.{IsImage, Meta, Backs, held_at, block_of, IsB
 use Rattle.file_store.proofs.Names.{mappings_of, Distinct, Ghosts}
 use Rattle.disk_model.proofs.Parts.{part_part, length-part}
 use Rattle.commit_slots.specs.Places.{layout_of}
-use Rattle.meta_store.specs.Catalogs.{geometry_of}
+use Rattle.snapshot_text.specs.Files.{geometry_of}
 use Rattle.meta_store.specs.Images.{blocks_in_image}
 use Rattle.meta_store.proofs.BesideBlocks.{IsSameBelow, slot_below, image_below}
 use Rattle.file_store.proofs.DataBlocks.{Stays, held-stays}

@@ -6,8 +6,8 @@ use Rattle.std.specs.Result.{IsErrOf, IsErrAnd}
 use Rattle.std.proofs.lemmas.Result.{err_from_is_err_and}
 use Rattle.disk_model.specs.Calls.{Counts, RoseByOne}
 use Rattle.hsm_types.specs.declared.dm.DmRefusal.{DmRefusal}
-use Rattle.meta_store.specs.declared.refusal.MetaRefusal.{MetaRefusal}
-use Rattle.meta_store.specs.declared.refusal.MetaRefusal.TheVariants.{Part, Disk, Memory}
+use Rattle.snapshot_text.specs.declared.refusal.MetaRefusal.{MetaRefusal}
+use Rattle.snapshot_text.specs.declared.refusal.MetaRefusal.TheVariants.{Part, Disk, Memory}
 use Rattle.file_store.specs.declared.refusal.StoreRefusal.{StoreRefusal}
 use Rattle.file_store.specs.declared.refusal.StoreRefusal.TheVariants as store
 use Rattle.file_store.specs.Changes.{Ends, Changes}

@@ -10,7 +10,8 @@ use Rattle.file_store.proofs.Names.{entry_of, next_listed, free-ge, free-le, fre
 use Rattle.std.proofs.lemmas.Simd.{map-map}
 use Rattle.plain_model.specs.Services.{kept_of, other_attributes}
 use Rattle.plain_model.specs.State.{names_of}
-use Rattle.meta_store.specs.Catalogs.{IsCatalogFile, HasLengths, AreLengths}
+use Rattle.snapshot_text.specs.Files.{IsCatalogFile, HasLengths}
+use Rattle.meta_store.specs.Catalogs.{AreLengths}
 use Rattle.meta_store.specs.Records.{others_stubs}
 use Rattle.plain_model.specs.Services.{other_stubs}
 use Rattle.file_store.specs.Bodies.{held_by}

@@ -12,9 +12,9 @@ use Rattle.std.proofs.lemmas.List.{replicate-append-replicate}
 use Rattle.hsm_types.specs.Limits.{block_bytes, segment_bytes, segment_blocks}
 use Rattle.hsm_types.specs.Stubs.{Stubs, stub_at, is_offline, offline_at}
 use Rattle.hsm_types.specs.declared.stubs.Stub.{Stub as StubOf}
-use Rattle.meta_store.specs.Catalogs.{IsCatalogStub}
-use Rattle.meta_store.proofs.ClearedPlaces.{away-at}
-use Rattle.meta_store.proofs.StubLists.{each-at as stub-each}
+use Rattle.snapshot_text.specs.Files.{IsCatalogStub}
+use Rattle.snapshot_text.proofs.ClearedPlaces.{away-at}
+use Rattle.snapshot_text.proofs.StubLists.{each-at as stub-each}
 use Rattle.file_store.proofs.Beside.{length-block}
 use Rattle.file_store.proofs.ByBlocks.{HasBytes, Whole, full, at_place, same_body, written-beside, written-in}
 use Rattle.file_store.proofs.EachOf.{each-weaker, each-both, each-join, each-there}

@@ -41,23 +41,26 @@ pub use Rattle.hsm_types.specs.declared.keys.FileKey.{FileKey}
 pub use Rattle.inode_table.proofs.Orders.{free-ge, free-le, free-absent, absent-low, ascend-drop}
 pub use Rattle.inode_table.specs.Listing.{Within, has_inode}
 pub use Rattle.inode_table.specs.Table.{entry_of, next_key as next_listed, Table}
-pub use Rattle.meta_store.proofs.BlockUses.{uses, uses-append, distinct-uses, absent-unused, uses-distinct}
+pub use Rattle.snapshot_text.proofs.BlockUses.{uses, uses-append, distinct-uses, absent-unused, uses-distinct}
 pub use Rattle.meta_store.proofs.FileEdits.{map-find, map-put, map-drop, each-drop, total-drop, used-sum, name_of, uses_of, uses-sum, sum-put, sum-drop}
 pub use Rattle.meta_store.proofs.FileEdits.{sum-change, blocks-change, names_of-change, each-put, each-change, names_of-drop}
 pub use Rattle.meta_store.proofs.FoundFiles.{each-found, key-found}
 pub use Rattle.meta_store.proofs.KeptCatalogs.{empty_file}
-pub use Rattle.meta_store.proofs.MappedPlaces.{length-fitted, length-places_set, present-fitted, uses-fitted, uses-mapped}
+pub use Rattle.snapshot_text.proofs.MappedPlaces.{length-fitted, length-places_set, present-fitted, uses-fitted, uses-mapped}
 pub use Rattle.meta_store.proofs.SnapshotFits.{files-few, blocks-few, blocks-within, geometry-bounded, limits_countable, size-few}
 pub use Rattle.hsm_types.specs.declared.stores.Geometry.{Geometry}
 pub use Rattle.hsm_types.specs.declared.stores.Limits.{Limits}
-pub use Rattle.meta_store.specs.Catalogs.{Catalog, geometry_of, blocks_of, IsCatalog, present, CatalogFile, IsCatalogFile, names_of as names_in, names_of}
+pub use Rattle.meta_store.specs.Catalogs.{Catalog, blocks_of, IsCatalog, names_of as names_in, names_of}
+pub use Rattle.snapshot_text.specs.Files.{geometry_of, present, CatalogFile, IsCatalogFile}
 pub use Rattle.meta_store.specs.Images.{IsImage, blocks_in_image, Recovers}
 pub use Rattle.meta_store.specs.Meta.{Meta, Backs, IsMeta, StoresOrKeeps, HasStored, IsStoredNow}
-pub use Rattle.meta_store.specs.Records.{places_fitted, places_set, with_changed, kept_at, others_total, key_on, IsNewFile, file_after, inode_of, after}
-pub use Rattle.meta_store.specs.Records.{CanStand, mappings_from, after_all, refusal_of_all, IsMappable, CanStandAll, IsSure, IsEvent, refusal_of}
-pub use Rattle.meta_store.specs.declared.records.Record.{Record}
-pub use Rattle.meta_store.specs.declared.records.Record.TheVariants.{Make, Drop, Size, Map, Stub}
-pub use Rattle.meta_store.specs.declared.snapshot.Mapping.{Mapping}
+pub use Rattle.snapshot_text.specs.FileRecords.{places_fitted, places_set, file_after, inode_of}
+pub use Rattle.meta_store.specs.Records.{with_changed, kept_at, others_total, key_on, IsNewFile, after}
+pub use Rattle.meta_store.specs.Records.{CanStand, after_all, refusal_of_all, IsMappable, CanStandAll, IsEvent, refusal_of}
+pub use Rattle.snapshot_text.specs.FileRecords.{mappings_from, IsSure}
+pub use Rattle.snapshot_text.specs.declared.records.Record.{Record}
+pub use Rattle.snapshot_text.specs.declared.records.Record.TheVariants.{Make, Drop, Size, Map, Stub}
+pub use Rattle.snapshot_text.specs.declared.snapshot.Mapping.{Mapping}
 pub use Rattle.plain_model.specs.Blocks.{blocks_in, old_end, touched, size_after, from_on, met, with_mapped, fitted, mapped_after}
 pub use Rattle.plain_model.specs.Distinct.{Distinct}
 pub use Rattle.plain_model.specs.Effects.{Effect, Makes}

@@ -19,8 +19,9 @@ use Rattle.hsm_types.specs.declared.stubs.Stub.{Stub}
 use Rattle.hsm_types.specs.declared.stubs.StubEntry.{StubEntry}
 use Rattle.hsm_types.proofs.Stubbing.{set_away, stub_at-punched}
 use Rattle.plain_model.specs.Effects.{Punches}
-use Rattle.meta_store.specs.Catalogs.{IsCatalogStub, AreLengths}
-use Rattle.meta_store.proofs.StubLists.{each-at}
+use Rattle.snapshot_text.specs.Files.{IsCatalogStub}
+use Rattle.meta_store.specs.Catalogs.{AreLengths}
+use Rattle.snapshot_text.proofs.StubLists.{each-at}
 use Rattle.file_store.specs.Punches.{punch_records}
 use Rattle.file_store.proofs.Beside.{length-block}
 use Rattle.file_store.proofs.Durable.{Parts, store_of, Tells, IsDone, after_event, done}

@@ -13,13 +13,15 @@ use Rattle.hsm_types.specs.declared.stubs.Stub.{Stub as StubOf}
 use Rattle.hsm_types.specs.declared.stubs.StubEntry.{StubEntry}
 use Rattle.hsm_types.proofs.Stubbing.{stub_at-punched}
 use Rattle.hsm_types.specs.Keyed.{find_key}
-use Rattle.meta_store.specs.Catalogs.{CatalogFile, Catalog, HasLengths, AreLengths}
-use Rattle.meta_store.specs.Records.{file_after, with_changed, key_on, after, after_all, refusal_of_all, refusal_of, CanStandAll, CanStand, IsSure, IsEvent}
-use Rattle.meta_store.specs.declared.records.Record.{Record}
-use Rattle.meta_store.specs.declared.records.Record.TheVariants.{Stub}
-use Rattle.meta_store.proofs.ClearedPlaces.{without-cleared, cleared-nothing}
+use Rattle.snapshot_text.specs.Files.{CatalogFile, HasLengths}
+use Rattle.meta_store.specs.Catalogs.{Catalog, AreLengths}
+use Rattle.snapshot_text.specs.FileRecords.{file_after, IsSure}
+use Rattle.meta_store.specs.Records.{with_changed, key_on, after, after_all, refusal_of_all, refusal_of, CanStandAll, CanStand, IsEvent}
+use Rattle.snapshot_text.specs.declared.records.Record.{Record}
+use Rattle.snapshot_text.specs.declared.records.Record.TheVariants.{Stub}
+use Rattle.snapshot_text.proofs.ClearedPlaces.{without-cleared, cleared-nothing}
 use Rattle.meta_store.proofs.FileEdits.{each-changed}
-use Rattle.meta_store.proofs.StubLists.{punched-with}
+use Rattle.snapshot_text.proofs.StubLists.{punched-with}
 use Rattle.file_store.specs.Punches.{away_by, punch_records}
 use Rattle.file_store.proofs.FilesBy.{changed-none, changed-found, changed-twice}
 use Rattle.file_store.proofs.RewriteRecords.{find-changed, key_on-changed}

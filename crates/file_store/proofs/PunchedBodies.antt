@@ -4,7 +4,7 @@ use Rattle.file_store.proofs.Names.{refl, sym, ◌∙◌, ap, subst, arith, AllB
 use Rattle.file_store.proofs.Names.{length-written, blocks_in, FileKey, find_key, drop_key, affected_held, CatalogFile, Catalog, IsCatalog}
 use Rattle.file_store.proofs.Names.{IsCatalogFile, geometry_of, present, with_changed, each-found, bytes_at, block_at, body_at, held_at}
 use Rattle.plain_model.specs.Effects.{Punches}
-use Rattle.meta_store.proofs.ClearedPlaces.{cleared, length-cleared}
+use Rattle.snapshot_text.proofs.ClearedPlaces.{cleared, length-cleared}
 use Rattle.file_store.specs.Bodies.{held_by}
 use Rattle.file_store.proofs.ByBlocks.{Whole, full, has_bytes, same_body, length-body, written-beside, written-in}
 use Rattle.file_store.proofs.EachOf.{each-all, each-weaker}

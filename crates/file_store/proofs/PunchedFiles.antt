@@ -10,9 +10,9 @@ use Rattle.hsm_types.specs.Stubs.{Stubs, moved, punched}
 use Rattle.hsm_types.specs.declared.stubs.Stub.{Stub}
 use Rattle.hsm_types.specs.declared.stubs.StubEntry.{StubEntry}
 use Rattle.plain_model.specs.Blocks.{with_holes}
-use Rattle.meta_store.specs.Catalogs.{CatalogFile, present}
-use Rattle.meta_store.proofs.BlockUses.{uses}
-use Rattle.meta_store.proofs.ClearedPlaces.{cleared}
+use Rattle.snapshot_text.specs.Files.{CatalogFile, present}
+use Rattle.snapshot_text.proofs.BlockUses.{uses}
+use Rattle.snapshot_text.proofs.ClearedPlaces.{cleared}
 
 -- ---- places
 

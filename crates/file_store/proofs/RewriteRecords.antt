@@ -24,7 +24,7 @@ use Rattle.hsm_types.specs.Limits.{segment_blocks}
 use Rattle.hsm_types.specs.Stubs.{Stubs, stub_at, offline_at, with_stub, without_stub, restored}
 use Rattle.hsm_types.specs.declared.stubs.Stub.{Stub as StubOf}
 use Rattle.meta_store.specs.Records.{IsStubbable}
-use Rattle.meta_store.proofs.StubLists.{moved-with, each-at as stub-each}
+use Rattle.snapshot_text.proofs.StubLists.{moved-with, each-at as stub-each}
 
 -- ---- places of two runs of blocks
 

@@ -11,7 +11,7 @@ use Rattle.hsm_types.specs.declared.stubs.StubEntry.{StubEntry}
 use Rattle.plain_model.proofs.Bodies.{length-read}
 use Rattle.plain_model.specs.Plain.{segment}
 use Rattle.plain_model.specs.Services.{kept_of}
-use Rattle.meta_store.specs.Catalogs.{HasLengths}
+use Rattle.snapshot_text.specs.Files.{HasLengths}
 use Rattle.file_store.specs.Effects.{IsSeal}
 use Rattle.file_store.proofs.Loaded.{entry-has}
 use Rattle.file_store.proofs.SoundChanges.{restores-lawful, of-length}

@@ -6,13 +6,15 @@ use Rattle.std.proofs.lemmas.Bool.{eqb-true}
 use Rattle.hsm_types.specs.Stubs.{Stubs, stub_at, offline_at, with_stub}
 use Rattle.hsm_types.specs.declared.keys.FileKey.{FileKey}
 use Rattle.hsm_types.specs.declared.stubs.Stub.{Stub as StubOf}
-use Rattle.meta_store.specs.Catalogs.{CatalogFile, Catalog, HasLengths, AreLengths}
-use Rattle.meta_store.specs.Records.{file_after, key_on, after, CanStand}
-use Rattle.meta_store.specs.declared.records.Record.{Record}
-use Rattle.meta_store.specs.declared.records.Record.TheVariants.{Make, Drop, Size, Map, Stub}
+use Rattle.snapshot_text.specs.Files.{CatalogFile, HasLengths}
+use Rattle.meta_store.specs.Catalogs.{Catalog, AreLengths}
+use Rattle.snapshot_text.specs.FileRecords.{file_after}
+use Rattle.meta_store.specs.Records.{key_on, after, CanStand}
+use Rattle.snapshot_text.specs.declared.records.Record.{Record}
+use Rattle.snapshot_text.specs.declared.records.Record.TheVariants.{Make, Drop, Size, Map, Stub}
 use Rattle.meta_store.proofs.FileEdits.{each-put, each-drop, each-change, each-changed}
 use Rattle.meta_store.proofs.KeptCatalogs.{empty_file}
-use Rattle.meta_store.proofs.StubLists.{stub_at-with}
+use Rattle.snapshot_text.proofs.StubLists.{stub_at-with}
 use Rattle.file_store.specs.Effects.{IsBodiless, IsSeal}
 
 pub seal_is : (stub : StubOf) → stub.offline ≡ false → record stub { offline = false } ≡ stub

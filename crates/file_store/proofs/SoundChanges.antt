@@ -16,8 +16,8 @@ use Rattle.hsm_types.specs.declared.stubs.Fingerprint.{Fingerprint}
 use Rattle.hsm_types.specs.declared.stubs.Stub.{Stub as StubOf}
 use Rattle.hsm_types.proofs.Stubbing.{stub_at-unsealed, stub_at-restored}
 use Rattle.plain_model.specs.Sound.{IsSound}
-use Rattle.meta_store.specs.Catalogs.{HasLengths}
-use Rattle.meta_store.proofs.StubLists.{each-at as stub-each}
+use Rattle.snapshot_text.specs.Files.{HasLengths}
+use Rattle.snapshot_text.proofs.StubLists.{each-at as stub-each}
 use Rattle.file_store.proofs.ByteChanges.{touched-each}
 use Rattle.file_store.proofs.Loaded.{offline-some}
 use Rattle.file_store.proofs.UnsealedEntries.{each-filter}

@@ -13,8 +13,8 @@ use Rattle.file_store.proofs.Names.{places_under, IsHeldFiles, length-marked, ma
 use Rattle.file_store.proofs.Names.{Ghosts, Limits}
 use Rattle.hsm_types.specs.Limits.{block_bytes, segment_blocks}
 use Rattle.hsm_types.specs.declared.dm.DmRefusal.{DmRefusal}
-use Rattle.meta_store.specs.declared.refusal.MetaRefusal.{MetaRefusal}
-use Rattle.meta_store.specs.declared.refusal.MetaRefusal.TheVariants.{Part, Disk, Memory}
+use Rattle.snapshot_text.specs.declared.refusal.MetaRefusal.{MetaRefusal}
+use Rattle.snapshot_text.specs.declared.refusal.MetaRefusal.TheVariants.{Part, Disk, Memory}
 use Rattle.file_store.specs.Effects.{IsFreed}
 use Rattle.file_store.specs.Refusals.{is_disk}
 use Rattle.file_store.proofs.Durable.{Parts, store_of, Tells, IsDone, after_event, done, proceeds_on, kept_proceeds}
@@ -32,7 +32,8 @@ use Rattle.file_store.proofs.RewriteRecords.{IsFit, after_rewriting, can_stand, 
 use Rattle.file_store.proofs.SoundChanges.{Allowed, allowed, lengths-after, touched-here}
 use Rattle.hsm_types.specs.Stubs.{Stubs, offline_at}
 use Rattle.plain_model.specs.Sound.{IsSound as IsAllowed}
-use Rattle.meta_store.specs.Catalogs.{AreLengths, HasLengths}
+use Rattle.meta_store.specs.Catalogs.{AreLengths}
+use Rattle.snapshot_text.specs.Files.{HasLengths}
 use Rattle.std.specs.List.{All}
 
 module _ {D : Type 0} (g : Ghosts D) (k : FileKey) (r : Record) (freed : List ℕ) (p : Parts D) (held : IsHeldFiles p.bodies p.meta) (sound : IsSound g (store_of p)) (working : p.failed ≡ false) (bodiless : IsBodiless k r p.meta.current) (stands : CanStand r p.meta.current)

@@ -6,7 +6,8 @@ use Rattle.hsm_types.specs.Limits.{block_bytes}
 use Rattle.hsm_types.specs.Stubs.{offline_at}
 use Rattle.plain_model.specs.State.{FileState, Held}
 use Rattle.file_body.specs.HeldBodies.{HeldBody, no_body, is_away, SameAway}
-use Rattle.meta_store.specs.Catalogs.{CatalogFile, Catalog}
+use Rattle.snapshot_text.specs.Files.{CatalogFile}
+use Rattle.meta_store.specs.Catalogs.{Catalog}
 unfoldable pub use Rattle.file_body.specs.BodyBlocks.{block_of}
 
 -- a block of a file among the data blocks; a hole is zeros

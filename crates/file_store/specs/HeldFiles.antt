@@ -1,6 +1,7 @@
 -- The files of a store in memory: what is kept of them beside their bytes, and the bytes.
 use Rattle.std.specs.Prelude.{◌≡◌, List, length}
-use Rattle.meta_store.specs.Catalogs.{IsCatalog, geometry_of}
+use Rattle.meta_store.specs.Catalogs.{IsCatalog}
+use Rattle.snapshot_text.specs.Files.{geometry_of}
 use Rattle.meta_store.specs.Meta.{Meta}
 use Rattle.file_body.specs.HeldBodies.{HeldBody}
 use Rattle.file_store.specs.Bodies.{AreBodies}

@@ -13,11 +13,11 @@ use Rattle.plain_model.specs.Blocks.{blocks_in, touched, size_after}
 use Rattle.plain_model.specs.State.{rekept}
 use Rattle.block_space.specs.Space.{Space, free}
 use Rattle.file_body.specs.HeldBodies.{HeldBody, is_away, AreHere, AreZeros}
-use Rattle.meta_store.specs.declared.snapshot.Mapping.{Mapping}
-use Rattle.meta_store.specs.declared.records.Record.{Record}
-use Rattle.meta_store.specs.declared.records.Record.TheVariants.{Size, Map, Stub}
-use Rattle.meta_store.specs.Catalogs.{CatalogFile, present}
-use Rattle.meta_store.specs.Records.{places_fitted, places_set, mappings_from}
+use Rattle.snapshot_text.specs.declared.snapshot.Mapping.{Mapping}
+use Rattle.snapshot_text.specs.declared.records.Record.{Record}
+use Rattle.snapshot_text.specs.declared.records.Record.TheVariants.{Size, Map, Stub}
+use Rattle.snapshot_text.specs.Files.{CatalogFile, present}
+use Rattle.snapshot_text.specs.FileRecords.{places_fitted, places_set, mappings_from}
 use Rattle.file_store.specs.declared.rewrites.Rewrite.{Rewrite}
 use Rattle.file_store.specs.declared.rewrites.Rewrite.TheVariants.{Write, Resize, Restore}
 

@@ -10,9 +10,10 @@ use Rattle.hsm_types.specs.declared.keys.FileKey.{FileKey}
 use Rattle.hsm_types.specs.Keyed.{find_key}
 use Rattle.plain_model.specs.Plain.{rebody}
 use Rattle.block_space.specs.Space.{Space}
-use Rattle.meta_store.specs.declared.records.Record.{Record}
-use Rattle.meta_store.specs.Catalogs.{CatalogFile, Catalog}
-use Rattle.meta_store.specs.declared.snapshot.Mapping.{Mapping}
+use Rattle.snapshot_text.specs.declared.records.Record.{Record}
+use Rattle.snapshot_text.specs.Files.{CatalogFile}
+use Rattle.meta_store.specs.Catalogs.{Catalog}
+use Rattle.snapshot_text.specs.declared.snapshot.Mapping.{Mapping}
 use Rattle.file_store.specs.Bodies.{block_of}
 use Rattle.file_store.specs.declared.rewrites.Rewrite.{Rewrite}
 use Rattle.file_store.specs.Rewrites.{effect_of, new_size, touched_of, places_for, mappings_of, IsRewriting, freed_by}

@@ -16,7 +16,8 @@ use Rattle.plain_model.specs.State.{FileState, Held, names_of, used_by, used}
 use Rattle.plain_model.specs.Laws.{IsOpening}
 use Rattle.block_space.specs.Space.{Space, marked}
 use Rattle.inode_table.specs.Table.{IsTable}
-use Rattle.meta_store.specs.Catalogs.{CatalogFile, Catalog, geometry_of, present, blocks_of}
+use Rattle.snapshot_text.specs.Files.{CatalogFile, geometry_of, present}
+use Rattle.meta_store.specs.Catalogs.{Catalog, blocks_of}
 use Rattle.meta_store.specs.Catalogs.{names_of as names_in}
 use Rattle.meta_store.specs.Images.{IsImage, blocks_in_image}
 use Rattle.meta_store.specs.Meta.{Meta, IsMeta, Backs}

@@ -16,7 +16,7 @@ ghost use Rattle.plain_model.specs.Sound.{IsSound};
 ghost use Rattle.plain_model.specs.Blocks.{touched};
 ghost use Rattle.plain_model.specs.State.{names_of, file_at, bytes_of, next_key, affected_held, used};
 ghost use Rattle.plain_model.specs.Services.{kept_of, other_attributes, other_stubs};
-ghost use Rattle.meta_store.specs.Catalogs.{geometry_of};
+ghost use Rattle.snapshot_text.specs.Files.{geometry_of};
 ghost use Rattle.file_store.specs.Stores.{superblock_of};
 ghost use Rattle.file_store.specs.Changes.{Ends, Changes};
 
@@ -29,7 +29,7 @@ use hsm_types::{
     AttrName, Bytes, FileKey, LAST_GENERATION, Regions, Stub, StubEntry, Verified, Word,
     segments_in,
 };
-use meta_store::Record;
+use snapshot_text::Record;
 use std::alloc::Global;
 
 impl<D: Disk> FileStore<D> {

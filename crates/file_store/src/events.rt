@@ -14,7 +14,7 @@ ghost use Rattle.plain_model.specs.Sound.{IsSound};
 ghost use Rattle.plain_model.specs.State.{file_at, bytes_of, used};
 ghost use Rattle.block_space.specs.Space.{marked, free};
 ghost use Rattle.file_body.specs.HeldBodies.{no_body};
-ghost use Rattle.meta_store.specs.Catalogs.{CatalogFile, geometry_of};
+ghost use Rattle.snapshot_text.specs.Files.{CatalogFile, geometry_of};
 ghost use Rattle.meta_store.specs.Records.{CanStand, refusal_of};
 ghost use Rattle.file_store.specs.Rewrites.{effect_of, IsRewrite, IsAllowedBy, IsWithin, HasEntry, BringsOffline, BringsAway, HasRoom, touched_of};
 ghost use Rattle.file_store.specs.Rewrites.{places_for};
@@ -35,7 +35,8 @@ use commit_slots::Layout;
 use disk_model::Disk;
 use file_body::Body;
 use hsm_types::{FileKey, LAST_NUMBER};
-use meta_store::{Catalog, MetaRefusal, Record};
+use meta_store::Catalog;
+use snapshot_text::{MetaRefusal, Record};
 use std::alloc::{AllocError, Global};
 use std::snapshot::Snapshot;
 

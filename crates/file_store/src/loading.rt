@@ -7,7 +7,7 @@ ghost use Rattle.plain_model.specs.Blocks.{blocks_in};
 ghost use Rattle.disk_model.specs.Calls.{HasCause, Counts};
 ghost use Rattle.disk_model.specs.Images.{part};
 ghost use Rattle.commit_slots.specs.Places.{layout_of};
-ghost use Rattle.meta_store.specs.Catalogs.{geometry_of, present};
+ghost use Rattle.snapshot_text.specs.Files.{geometry_of, present};
 ghost use Rattle.meta_store.specs.Images.{blocks_in_image};
 ghost use Rattle.hsm_types.specs.Limits.{segment_blocks};
 ghost use Rattle.hsm_types.specs.Stubs.{offline_at};
@@ -20,7 +20,8 @@ use commit_slots::Layout;
 use disk_model::{Disk, Failed, read_at};
 use file_body::Body;
 use hsm_types::{BLOCK_BYTES, FILE_BYTES, SEGMENT_BYTES, segments_in};
-use meta_store::{Catalog, geometry_of};
+use meta_store::Catalog;
+use snapshot_text::geometry_of;
 use std::alloc::{AllocError, Global};
 use stub_map::StubMap;
 

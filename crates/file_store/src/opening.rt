@@ -8,7 +8,7 @@ ghost use Rattle.meta_store.specs.Images.{blocks_in_image, IsCorruptAt};
 ghost use Rattle.meta_store.specs.Meta.{IsMeta, Backs};
 ghost use Rattle.file_store.specs.Steps.{OnlyReads};
 ghost use Rattle.file_store.specs.Bodies.{held_at, held_with, AreBodies};
-ghost use Rattle.meta_store.specs.Catalogs.{geometry_of};
+ghost use Rattle.snapshot_text.specs.Files.{geometry_of};
 ghost use Rattle.file_store.specs.HeldFiles.{IsHeldFiles};
 ghost use Rattle.file_store.specs.Stores.{marks_of};
 

@@ -4,9 +4,9 @@ ghost use Rattle.hsm_types.specs.Keyed.{find_key};
 ghost use Rattle.plain_model.specs.Blocks.{touched, size_after};
 ghost use Rattle.hsm_types.specs.Limits.{file_bytes};
 ghost use Rattle.hsm_types.specs.Stubs.{Stubs};
-ghost use Rattle.meta_store.specs.declared.snapshot.Mapping.{Mapping};
-ghost use Rattle.meta_store.specs.Catalogs.{CatalogFile, present};
-ghost use Rattle.meta_store.specs.Records.{mappings_from};
+ghost use Rattle.snapshot_text.specs.declared.snapshot.Mapping.{Mapping};
+ghost use Rattle.snapshot_text.specs.Files.{CatalogFile, present};
+ghost use Rattle.snapshot_text.specs.FileRecords.{mappings_from};
 ghost use Rattle.file_store.specs.declared.rewrites.Rewrite.{Rewrite};
 ghost use Rattle.file_store.specs.Rewrites.{IsRewrite, IsRewriting, AreUnsealed, HasEntry, HasRoom, new_size, mappings_of, freed_by};
 
@@ -14,7 +14,8 @@ use crate::rewrites::Rewrite;
 use crate::spaces::put_present;
 use file_body::{BlockRun, Body, TouchedBlocks, blocks_in};
 use hsm_types::FileKey;
-use meta_store::{Catalog, Record, Records};
+use meta_store::Catalog;
+use snapshot_text::{Record, Records};
 use std::alloc::{AllocError, Global};
 use stub_map::StubMap;
 

@@ -3,7 +3,7 @@ ghost use Rattle.std.specs.Prelude.{◌≡◌};
 ghost use Rattle.file_store.specs.Refusals.{refused_as, refused_part, no_memory};
 
 use hsm_types::DmRefusal;
-use meta_store::MetaRefusal;
+use snapshot_text::MetaRefusal;
 use std::alloc::AllocError;
 use thiserror::Error;
 

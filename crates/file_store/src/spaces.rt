@@ -1,10 +1,12 @@
 //! The blocks that a catalog's files use of the disk.
 ghost use Rattle.std.specs.Prelude.{◌≡◌, ◌++◌, IfOk, OnOk};
-ghost use Rattle.meta_store.specs.Catalogs.{present, blocks_of};
+ghost use Rattle.snapshot_text.specs.Files.{present};
+ghost use Rattle.meta_store.specs.Catalogs.{blocks_of};
 ghost use Rattle.file_store.specs.Stores.{marks_of};
 
 use block_space::BlockSpace;
-use meta_store::{Catalog, geometry_of};
+use meta_store::Catalog;
+use snapshot_text::geometry_of;
 use std::alloc::{AllocError, Global};
 
 /// Puts the data blocks among a file's places behind the others.

@@ -9,7 +9,8 @@ use Rattle.plain_model.specs.State.{Held}
 use Rattle.inode_table.specs.declared.entries.FileEntry.{FileEntry}
 use Rattle.inode_table.specs.Listing.{listing}
 use Rattle.inode_table.specs.Table.{entry_of}
-use Rattle.meta_store.specs.Catalogs.{CatalogFile, Catalog, names_of}
+use Rattle.snapshot_text.specs.Files.{CatalogFile}
+use Rattle.meta_store.specs.Catalogs.{Catalog, names_of}
 use Rattle.file_store.specs.Stores.{Told, Shows}
 
 abbrev pub entries : List CatalogFile → List FileEntry

@@ -25,7 +25,7 @@ use Rattle.plain_model.specs.Segments.{bad_punch, same_print, punch_refusal, sea
 use Rattle.plain_model.specs.Seen.{IsSeen}
 use Rattle.plain_model.specs.Services.{kept_of}
 use Rattle.plain_model.specs.State.{FileState, Held, file_or_new, bytes_of}
-use Rattle.meta_store.proofs.StubLists.{each-at}
+use Rattle.snapshot_text.proofs.StubLists.{each-at}
 use Rattle.stub_map.specs.States.{state_of}
 use Rattle.stub_map.specs.declared.stubs.State.TheVariants.{Sealed, Offline as Away}
 use Rattle.dm_service.specs.Services.{AreBoth}

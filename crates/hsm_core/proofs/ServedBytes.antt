@@ -24,7 +24,7 @@ use Rattle.plain_model.specs.Seen.{IsSeen, IsOfSeen}
 use Rattle.plain_model.specs.Segments.{same_print, changed_bytes, reading_refusal, seal_refusal}
 use Rattle.plain_model.specs.Services.{kept_of, other_stubs}
 use Rattle.plain_model.specs.State.{Held, file_at, bytes_of}
-use Rattle.meta_store.specs.Catalogs.{geometry_of}
+use Rattle.snapshot_text.specs.Files.{geometry_of}
 use Rattle.meta_store.specs.Meta.{Meta}
 use Rattle.dm_service.specs.Services.{AreBoth}
 use Rattle.file_store.specs.declared.refusal.StoreRefusal.{StoreRefusal}

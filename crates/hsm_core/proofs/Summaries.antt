@@ -9,7 +9,8 @@ use Rattle.std.proofs.lemmas.Simd.{map-map}
 use Rattle.plain_model.specs.Plain.{Listed}
 use Rattle.plain_model.specs.State.{Held}
 use Rattle.commit_slots.specs.Places.{layout_of}
-use Rattle.meta_store.specs.Catalogs.{CatalogFile, Catalog, IsCatalog, IsCatalogFile, geometry_of, present}
+use Rattle.snapshot_text.specs.Files.{CatalogFile, IsCatalogFile, geometry_of, present}
+use Rattle.meta_store.specs.Catalogs.{Catalog, IsCatalog}
 use Rattle.meta_store.specs.Images.{IsImage, blocks_in_image}
 use Rattle.file_store.specs.Bodies.{bytes_at, held_at}
 use Rattle.file_store.specs.Laws.{RecoversOne}

@@ -16,7 +16,8 @@ use Rattle.plain_model.specs.Segments.{segment_as, segments_told}
 use Rattle.plain_model.specs.Segments.{row_of as row_told}
 use Rattle.plain_model.specs.State.{FileState, Held, file_or_new, file_at}
 use Rattle.std.proofs.lemmas.List.{take-map, drop-map, map-append}
-use Rattle.meta_store.specs.Catalogs.{CatalogFile, Catalog, present, places_in_segment}
+use Rattle.snapshot_text.specs.Files.{CatalogFile, present, places_in_segment}
+use Rattle.meta_store.specs.Catalogs.{Catalog}
 use Rattle.file_store.specs.Stores.{Row, row_of, row_held, Shows}
 use Rattle.hsm_core.specs.Services.{IsMadeOf}
 

@@ -3,7 +3,7 @@ use Rattle.std.specs.Prelude.{◌≡◌, ℕ, List, map, sum_by, count_by}
 use Rattle.hsm_types.specs.Stubs.{Stubs}
 use Rattle.plain_model.specs.Segments.{table_of}
 use Rattle.plain_model.specs.State.{FileState, Held}
-use Rattle.meta_store.specs.Catalogs.{geometry_of}
+use Rattle.snapshot_text.specs.Files.{geometry_of}
 use Rattle.file_store.specs.Stores.{IsRecovered}
 use Rattle.store_summary.specs.declared.summaries.Summary.{Summary}
 

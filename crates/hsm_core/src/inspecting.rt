@@ -14,7 +14,8 @@ use disk_model::{Disk, OpenRefusal};
 use file_store::one_recovery;
 use hsm_types::Superblock;
 use indexmap::IndexMap;
-use meta_store::{Catalog, MetaStore, geometry_of};
+use meta_store::{Catalog, MetaStore};
+use snapshot_text::geometry_of;
 use std::alloc::{AllocError, Global};
 use store_summary::{Summary, Words};
 

@@ -6,7 +6,7 @@ ghost use Rattle.disk_model.specs.Images.{Alike};
 ghost use Rattle.disk_model.specs.Moments.{MayBe, LeavesOnly, Keeps, Same};
 ghost use Rattle.commit_slots.specs.Images.{IsStore, IsEmptyStore};
 ghost use Rattle.commit_slots.specs.Places.{layout_of};
-ghost use Rattle.meta_store.specs.Catalogs.{geometry_of};
+ghost use Rattle.snapshot_text.specs.Files.{geometry_of};
 ghost use Rattle.meta_store.specs.Images.{IsCorruptAt};
 ghost use Rattle.file_store.specs.Stores.{IsLawful, IsDurable, Proceeds};
 ghost use Rattle.indexmap.specs.IndexMap.{spare};

@@ -2,10 +2,11 @@
 use Rattle.std.proofs.Common.{◌≡◌, Some, ◌↔◌, ◌⊎◌, ⊎_elim, Err, List, [], ◌∷◌, rules, refl, arith}
 use Rattle.std.specs.Prelude.{None, Result}
 use Rattle.std.specs.List.{AllByRecursion}
-use Rattle.meta_store.specs.declared.records.Record.{Record}
-use Rattle.meta_store.specs.declared.records.Record.TheVariants.{Map, Stub}
+use Rattle.snapshot_text.specs.declared.records.Record.{Record}
+use Rattle.snapshot_text.specs.declared.records.Record.TheVariants.{Map, Stub}
 use Rattle.meta_store.specs.Catalogs.{Catalog}
-use Rattle.meta_store.specs.Records.{after, after_all, refusal_of, refusal_of_all, CanStand, CanStandAll, IsSure, IsEvent}
+use Rattle.meta_store.specs.Records.{after, after_all, refusal_of, refusal_of_all, CanStand, CanStandAll, IsEvent}
+use Rattle.snapshot_text.specs.FileRecords.{IsSure}
 
 -- no part refuses what is sure: a segment that goes away has an entry before
 sure_stands : (r : Record) (c : Catalog) → IsSure r → CanStand r c → refusal_of r c ≡ None

@@ -9,7 +9,8 @@ use Rattle.commit_slots.specs.Images.{slot_of, gate_closed, IsStore}
 use Rattle.commit_slots.proofs.Laid.{laid, IsSlot, slot_laid}
 use Rattle.commit_slots.proofs.Switches.{slot_from}
 use Rattle.meta_store.specs.Catalogs.{Catalog, IsCatalog, AreLengths}
-use Rattle.meta_store.specs.Snapshots.{spelling, snapshot_of}
+use Rattle.snapshot_text.specs.Snapshots.{spelling}
+use Rattle.meta_store.specs.Snapshots.{snapshot_of}
 use Rattle.meta_store.specs.Images.{area_of, gate_of, IsImage}
 use Rattle.meta_store.proofs.SnapshotFits.{fits_of}
 

@@ -13,7 +13,8 @@ use Rattle.commit_slots.specs.Steps.{Selects, IsOutside, KeepsSlot, IsSwitched}
 use Rattle.commit_slots.proofs.Laid.{laid}
 use Rattle.commit_slots.proofs.Kept.{KeepsParts, parts_kept}
 use Rattle.meta_store.specs.Catalogs.{Catalog}
-use Rattle.meta_store.specs.Snapshots.{spelling, snapshot_of}
+use Rattle.snapshot_text.specs.Snapshots.{spelling}
+use Rattle.meta_store.specs.Snapshots.{snapshot_of}
 use Rattle.meta_store.specs.Images.{area_of, gate_of, IsImage, blocks_in_image, Recovers}
 use Rattle.meta_store.specs.Meta.{Meta, IsMeta, Backs, StoresOrKeeps, HasStored}
 use Rattle.meta_store.proofs.BesideBlocks.{image_from, image_same}

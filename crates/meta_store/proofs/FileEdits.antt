@@ -9,8 +9,9 @@ use Rattle.hsm_types.specs.Attributes.{bytes_of_attributes}
 use Rattle.hsm_types.specs.declared.keys.FileKey.{FileKey}
 use Rattle.hsm_types.specs.Keyed.{same_key, find_key, change_key, put_key, drop_key}
 use Rattle.plain_model.specs.Plain.{Listed}
-use Rattle.meta_store.specs.Catalogs.{CatalogFile, names_of, present, blocks_of, attribute_total}
-use Rattle.meta_store.proofs.BlockUses.{uses, uses-append}
+use Rattle.snapshot_text.specs.Files.{CatalogFile, present}
+use Rattle.meta_store.specs.Catalogs.{names_of, blocks_of, attribute_total}
+use Rattle.snapshot_text.proofs.BlockUses.{uses, uses-append}
 
 module _ {F G : Type 0} (key : G → FileKey) (v : F → G) where
   pub map-put : (g : F) (fs : List F) → map v (put_key (λ f. key (v f)) g fs) ≡ put_key key (v g) (map v fs)

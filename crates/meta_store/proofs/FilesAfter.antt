@@ -3,16 +3,18 @@ use Rattle.std.proofs.Common.{◌≡◌, ℕ, ◌+◌, ◌<◌, ◌≤◌, lengt
 use Rattle.hsm_types.specs.declared.stores.Geometry.{Geometry}
 use Rattle.hsm_types.specs.Keyed.{find_key}
 use Rattle.plain_model.specs.Blocks.{blocks_in}
-use Rattle.meta_store.specs.declared.file_parts.FileParts.{FileParts}
-use Rattle.meta_store.specs.declared.file_parts.Others.{Others}
-use Rattle.meta_store.specs.declared.records.Record.{Record}
-use Rattle.meta_store.specs.declared.records.Record.TheVariants.{Make, Drop, Size, Map, Stub}
-use Rattle.meta_store.specs.Catalogs.{CatalogFile, Catalog, IsCatalogFile, IsCatalog, geometry_of, present, blocks_of}
-use Rattle.meta_store.specs.Records.{mappings_from, file_after, inode_of, key_on, CanStandOn, CanStand, IsAboutOne}
-use Rattle.meta_store.specs.InMemory.{parts_of, file_of, parts_after, FitsParts}
-use Rattle.meta_store.proofs.BlockUses.{uses, distinct-uses, each-used, used-each}
-use Rattle.meta_store.proofs.MappedPlaces.{length-fitted, uses-fitted, length-places_set, uses-mapped, new_or_used}
-use Rattle.meta_store.proofs.ClearedPlaces.{length-gone_if, uses-gone_if}
+use Rattle.snapshot_text.specs.declared.file_parts.FileParts.{FileParts}
+use Rattle.snapshot_text.specs.declared.file_parts.Others.{Others}
+use Rattle.snapshot_text.specs.declared.records.Record.{Record}
+use Rattle.snapshot_text.specs.declared.records.Record.TheVariants.{Make, Drop, Size, Map, Stub}
+use Rattle.snapshot_text.specs.Files.{CatalogFile, IsCatalogFile, geometry_of, present}
+use Rattle.meta_store.specs.Catalogs.{Catalog, IsCatalog, blocks_of}
+use Rattle.snapshot_text.specs.FileRecords.{mappings_from, file_after, inode_of}
+use Rattle.meta_store.specs.Records.{key_on, CanStandOn, CanStand, IsAboutOne}
+use Rattle.snapshot_text.specs.Parts.{parts_of, file_of, parts_after, FitsParts}
+use Rattle.snapshot_text.proofs.BlockUses.{uses, distinct-uses, each-used, used-each}
+use Rattle.snapshot_text.proofs.MappedPlaces.{length-fitted, uses-fitted, length-places_set, uses-mapped, new_or_used}
+use Rattle.snapshot_text.proofs.ClearedPlaces.{length-gone_if, uses-gone_if}
 use Rattle.meta_store.proofs.StubsAfter.{IsTakenOn, stubs-after}
 use Rattle.meta_store.proofs.FileEdits.{name_of, uses_of}
 use Rattle.meta_store.proofs.SnapshotFits.{limits_countable}

@@ -3,7 +3,7 @@ use Rattle.std.proofs.Common.{◌≡◌, List, [], ◌∷◌, true, Some, refl, 
 use Rattle.std.specs.List.{AllByRecursion}
 use Rattle.hsm_types.specs.declared.keys.FileKey.{FileKey}
 use Rattle.hsm_types.specs.Keyed.{same_key, find_key}
-use Rattle.meta_store.specs.Catalogs.{CatalogFile}
+use Rattle.snapshot_text.specs.Files.{CatalogFile}
 
 -- what is true of each file is true of the one that is found
 pub each-found : (P : CatalogFile → Type 0) (k : FileKey) (f : CatalogFile) (fs : List CatalogFile) → AllByRecursion P fs → find_key (λ x. x.key) k fs ≡ Some f → P f

@@ -1,11 +1,13 @@
 -- Recovery finds one thing on an image.
 use Rattle.std.proofs.Common.{◌≡◌, ℕ, List, map, sym, ◌∙◌, ap, subst}
-use Rattle.meta_store.specs.Catalogs.{Catalog, IsCatalog, geometry_of}
-use Rattle.meta_store.specs.Snapshots.{Snapshot, snapshot_of, IsSpelled}
+use Rattle.meta_store.specs.Catalogs.{Catalog, IsCatalog}
+use Rattle.snapshot_text.specs.Files.{geometry_of}
+use Rattle.snapshot_text.specs.Snapshots.{Snapshot, IsSpelled}
+use Rattle.meta_store.specs.Snapshots.{snapshot_of}
 use Rattle.meta_store.specs.Images.{area_of}
 use Rattle.meta_store.specs.Laws.{FindsOne}
-use Rattle.meta_store.proofs.ReadSnapshots.{one}
-use Rattle.meta_store.proofs.SpreadPlaces.{filled, filled-again}
+use Rattle.snapshot_text.proofs.ReadSnapshots.{one}
+use Rattle.snapshot_text.proofs.SpreadPlaces.{filled, filled-again}
 
 same-catalog : (n n' : ℕ) (c c' : Catalog) → c.geometry ≡ c'.geometry → IsCatalog c → IsCatalog c' → snapshot_of n c ≡ snapshot_of n' c' → (n ≡ n') × (c ≡ c')
 unfolding snapshot_of

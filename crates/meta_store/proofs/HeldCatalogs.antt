@@ -14,11 +14,13 @@ use Rattle.inode_table.specs.Table.{Table, IsTable, entry_of}
 use Rattle.inode_table.specs.Table.{with_file as with_entry}
 use Rattle.inode_table.proofs.KeysAt.{found-key_at, key_at-found}
 use Rattle.inode_table.proofs.Listings.{found-listed}
-use Rattle.meta_store.specs.declared.file_parts.FileParts.{FileParts}
+use Rattle.snapshot_text.specs.declared.file_parts.FileParts.{FileParts}
 use Rattle.meta_store.specs.declared.catalog.Catalog.TheInside.{Inside}
-use Rattle.meta_store.specs.Catalogs.{CatalogFile, Catalog, IsCatalog, geometry_of, names_of, present, blocks_of, attribute_total, stub_total}
+use Rattle.snapshot_text.specs.Files.{CatalogFile, geometry_of, present}
+use Rattle.meta_store.specs.Catalogs.{Catalog, IsCatalog, names_of, blocks_of, attribute_total, stub_total}
 use Rattle.meta_store.specs.Records.{with_put, without_file, others_total, others_stubs, key_on}
-use Rattle.meta_store.specs.InMemory.{no_parts, parts_of, file_of, catalog_held, file_held, files_held, IsHeld}
+use Rattle.snapshot_text.specs.Parts.{no_parts, parts_of, file_of}
+use Rattle.meta_store.specs.InMemory.{catalog_held, file_held, files_held, IsHeld}
 use Rattle.meta_store.proofs.SnapshotFits.{blocks-few, geometry-bounded, few-stubs}
 use Rattle.meta_store.proofs.FileEdits.{count_of, stubs_of, mapped_of, used-sum, sum-drop, map-find, map-drop}
 use Rattle.meta_store.proofs.HeldFiles.{names_of-held, entries-held, held-put_at, found-within}

@@ -6,9 +6,11 @@ use Rattle.inode_table.specs.declared.entries.FileEntry.{FileEntry}
 use Rattle.inode_table.specs.Listing.{listing, has_inode, Ascend, Within}
 use Rattle.inode_table.specs.Table.{entry_of}
 use Rattle.inode_table.proofs.Orders.{absent-low}
-use Rattle.meta_store.specs.Catalogs.{CatalogFile, names_of}
-use Rattle.meta_store.specs.declared.file_parts.FileParts.{FileParts}
-use Rattle.meta_store.specs.InMemory.{no_parts, file_of, file_held, files_held}
+use Rattle.snapshot_text.specs.Files.{CatalogFile}
+use Rattle.meta_store.specs.Catalogs.{names_of}
+use Rattle.snapshot_text.specs.declared.file_parts.FileParts.{FileParts}
+use Rattle.snapshot_text.specs.Parts.{no_parts, file_of}
+use Rattle.meta_store.specs.InMemory.{file_held, files_held}
 use Rattle.meta_store.proofs.FileEdits.{map-put}
 use Rattle.meta_store.proofs.FoundFiles.{same_keys}
 

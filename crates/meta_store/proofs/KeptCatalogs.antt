@@ -10,11 +10,13 @@ use Rattle.plain_model.specs.Distinct.{Distinct}
 use Rattle.inode_table.specs.Listing.{has_inode}
 use Rattle.inode_table.proofs.Orders.{ascend-put, ascend-drop, within-put, within-more, within-drop}
 use Rattle.inode_table.proofs.Names.{differ-put, differ-drop}
-use Rattle.meta_store.specs.declared.file_parts.Others.{Others}
-use Rattle.meta_store.specs.declared.records.Record.{Record}
-use Rattle.meta_store.specs.Catalogs.{CatalogFile, Catalog, IsCatalogFile, IsCatalog, geometry_of, names_of, present, blocks_of, attribute_total, stub_total}
-use Rattle.meta_store.specs.Records.{file_after, with_put, without_file, with_changed}
-use Rattle.meta_store.proofs.BlockUses.{uses-append, distinct-uses, uses-distinct}
+use Rattle.snapshot_text.specs.declared.file_parts.Others.{Others}
+use Rattle.snapshot_text.specs.declared.records.Record.{Record}
+use Rattle.snapshot_text.specs.Files.{CatalogFile, IsCatalogFile, geometry_of, present}
+use Rattle.meta_store.specs.Catalogs.{Catalog, IsCatalog, names_of, blocks_of, attribute_total, stub_total}
+use Rattle.snapshot_text.specs.FileRecords.{file_after}
+use Rattle.meta_store.specs.Records.{with_put, without_file, with_changed}
+use Rattle.snapshot_text.proofs.BlockUses.{uses-append, distinct-uses, uses-distinct}
 use Rattle.meta_store.proofs.StubsAfter.{IsTakenOn}
 use Rattle.meta_store.proofs.FilesAfter.{named-after, IsCatalogFile-after, uses-after}
 use Rattle.meta_store.proofs.FileEdits.{name_of, count_of, stubs_of, uses_of, uses-sum, map-put, names_of-drop, names_of-change, sum-put, sum-drop}

@@ -1,23 +1,24 @@
 -- Which files pass the judgement.
 use Rattle.std.proofs.lemmas.List.Sums.{sum_by-cons, sum_by-append}
 use Rattle.std.proofs.lemmas.List.Folds.{fold-map}
-use Rattle.std.proofs.Common.{◌≡◌, ℕ, ◌+◌, ◌-◌, ◌≤◌, List, [], ◌∷◌, ◌++◌, length, map, true, Result, Err, leb, refl, ap, sym, ◌∙◌, arith}
+use Rattle.std.proofs.Common.{◌≡◌, ℕ, ◌+◌, ◌-◌, ◌≤◌, List, [], ◌∷◌, ◌++◌, length, map, true, leb, refl, ap, sym, ◌∙◌, arith}
 use Rattle.std.specs.List.{sum_by, AllByRecursion}
-use Rattle.std.specs.Result.{IsErrAnd}
 use Rattle.std.proofs.lemmas.List.{map-append}
 use Rattle.std.proofs.lemmas.List.Concat.{flat_map-append}
 use Rattle.hsm_types.specs.declared.stores.Geometry.{Geometry}
 use Rattle.plain_model.specs.Blocks.{blocks_in}
 use Rattle.inode_table.specs.Listing.{Within}
 use Rattle.hsm_types.specs.Attributes.{bytes_of_attributes}
-use Rattle.meta_store.specs.Catalogs.{CatalogFile, Catalog, IsCatalogFile, IsCatalog, HasLengths, AreLengths, geometry_of, names_of, blocks_of, stub_total}
-use Rattle.meta_store.specs.Snapshots.{SnapshotFile, snapshot_file}
-use Rattle.meta_store.specs.Validity.{listed_in, names_in, places_of, places_in, is_file, places_by, AreLawfulStubs, is_kept, can_follow}
-use Rattle.meta_store.specs.Validity.{stub_total_in, Follows, IsNext}
-use Rattle.meta_store.proofs.KeptAttributes.{attributes-pass}
-use Rattle.meta_store.proofs.LawfulStubs.{stubs-pass}
-use Rattle.meta_store.proofs.EachOf.{all-parts}
-use Rattle.meta_store.proofs.SpreadPlaces.{places_of-extents, are_extents-from, places-again}
+use Rattle.snapshot_text.specs.Files.{CatalogFile, IsCatalogFile, HasLengths, geometry_of}
+use Rattle.meta_store.specs.Catalogs.{Catalog, IsCatalog, AreLengths, names_of, blocks_of, attribute_total, stub_total}
+use Rattle.snapshot_text.specs.Snapshots.{SnapshotFile, snapshot_file}
+use Rattle.meta_store.specs.Validity.{listed_in, names_in, places_in, is_file, is_kept, can_follow}
+use Rattle.snapshot_text.specs.FileValidity.{places_of, places_by, AreLawfulStubs, MayKeep}
+use Rattle.meta_store.specs.Validity.{attribute_total_in, stub_total_in, Follows, IsNext}
+use Rattle.snapshot_text.proofs.KeptAttributes.{attributes-pass}
+use Rattle.snapshot_text.proofs.LawfulStubs.{stubs-pass}
+use Rattle.snapshot_text.proofs.EachOf.{all-parts}
+use Rattle.snapshot_text.proofs.SpreadPlaces.{places_of-extents, are_extents-from, places-again}
 use Rattle.meta_store.proofs.StandOnce.{above-last, nameless, unused-from}
 
 pub names_in-snapshot : (fs : List CatalogFile) → names_in (map snapshot_file fs) ≡ names_of fs
@@ -27,6 +28,9 @@ names_in-snapshot (f ∷ fs) = rw (names_in-snapshot fs) refl
 pub places_in-snapshot : (fs : List CatalogFile) → places_in (map snapshot_file fs) ≡ blocks_of fs
 places_in-snapshot [] = refl
 places_in-snapshot (f ∷ fs) = rw (places_of-extents 0 f.places, places_in-snapshot fs) refl
+
+pub attribute_total_in-snapshot : (fs : List CatalogFile) → attribute_total fs ≡ attribute_total_in (map snapshot_file fs)
+attribute_total_in-snapshot fs = sym (fold-map (λ (sum : ℕ) (s : SnapshotFile). sum + bytes_of_attributes s.kept.attributes) snapshot_file 0 fs)
 
 pub stub_total_in-snapshot : (fs : List CatalogFile) → stub_total fs ≡ stub_total_in (map snapshot_file fs)
 stub_total_in-snapshot fs = sym (fold-map (λ (sum : ℕ) (s : SnapshotFile). sum + length s.kept.stubs) snapshot_file 0 fs)
@@ -60,14 +64,12 @@ passes c before f rest is long e =
     let unused = unused-from (places_in before) (places_of f.extents) (places_in rest) (rw places at is.distinct) in
     record { judged = grind (arith, alone.0, alone.1, alone.2, is.few, is.few_stubs); stubs = alone.3 }
 
--- behind others, which have so many, no file can stand whose entries aren't lawful, or too many
-pub not-next : (geometry : Geometry) (next : ℕ) (before : List SnapshotFile) (f : SnapshotFile) (total : ℕ) → total ≡ stub_total_in before
-    → (AreLawfulStubs f.size f.kept.regions (places_by f) f.kept.stubs → length f.kept.stubs ≤ geometry.stubs - total → ⊥) → IsNext geometry next before f → ⊥
-not-next geometry next before f total counted refused is = let judged = is.judged in refused is.stubs (grind (arith, counted))
-
--- the error of a part is the one that is told
-pub told_err : {T U E : Type 0} (r : Result T E) (from why : E) → IsErrAnd r (λ e. e ≡ from) → r ≡ Err why → ◌≡◌ {A = Result U E} (Err from) (Err why)
-told_err r from why and is = grind arith
+-- behind others, which have so many bytes of attributes and so many stub entries, it may keep what it does
+pub may-keep : (geometry : Geometry) (next : ℕ) (before : List SnapshotFile) (f : SnapshotFile) (total stubs : ℕ) → total ≡ attribute_total_in before → stubs ≡ stub_total_in before → IsNext geometry next before f
+    → MayKeep geometry.limits (geometry.attributes - total) (geometry.stubs - stubs) f
+may-keep geometry next before f total stubs counted stubbed is =
+    let judged = is.judged in
+    record { regions = grind arith; attributes = grind arith; few = grind (arith, counted); stubs = is.stubs; few_stubs = grind (arith, stubbed) }
 
 -- what the judgement tells
 pub follows : (geometry : Geometry) (next : ℕ) (before : List SnapshotFile) (f : SnapshotFile) → can_follow geometry next before f ≡ true → Follows geometry next before f

@@ -15,14 +15,16 @@ use Rattle.inode_table.specs.Listing.{Within}
 use Rattle.inode_table.proofs.Orders.{few}
 use Rattle.commit_slots.specs.Places.{layout_of}
 use Rattle.commit_slots.specs.Images.{empty_snapshot}
-use Rattle.meta_store.specs.declared.snapshot.Mapping.{Mapping}
-use Rattle.meta_store.specs.Catalogs.{CatalogFile, Catalog, StubFits, IsCatalogStub, IsCatalog, IsCatalogFile, geometry_of, present, blocks_of}
+use Rattle.snapshot_text.specs.declared.snapshot.Mapping.{Mapping}
+use Rattle.snapshot_text.specs.Files.{CatalogFile, StubFits, IsCatalogStub, IsCatalogFile, geometry_of, present}
+use Rattle.meta_store.specs.Catalogs.{Catalog, IsCatalog, blocks_of}
 use Rattle.meta_store.specs.Catalogs.{names_of, attribute_total, stub_total}
-use Rattle.meta_store.specs.Snapshots.{region_bytes, extent_bytes, stub_bytes, bytes_of_file, extents_from, spelling, snapshot_file, snapshot_of}
-use Rattle.meta_store.specs.Snapshots.{ExtentFits, FileFits, Fits}
-use Rattle.meta_store.proofs.SpreadPlaces.{present-few, length-extents}
-use Rattle.meta_store.proofs.KeptBounds.{regions-few, regions-fit, attributes-few, attributes-fit, attributes-short}
-use Rattle.meta_store.proofs.EachOf.{all-both, each-as}
+use Rattle.snapshot_text.specs.Snapshots.{region_bytes, extent_bytes, stub_bytes, bytes_of_file, extents_from, spelling, snapshot_file}
+use Rattle.meta_store.specs.Snapshots.{snapshot_of}
+use Rattle.snapshot_text.specs.Snapshots.{ExtentFits, FileFits, Fits}
+use Rattle.snapshot_text.proofs.SpreadPlaces.{present-few, length-extents}
+use Rattle.snapshot_text.proofs.KeptBounds.{regions-few, regions-fit, attributes-few, attributes-fit, attributes-short}
+use Rattle.snapshot_text.proofs.EachOf.{all-both, each-as}
 
 -- ---- numbers that differ, below a bound
 

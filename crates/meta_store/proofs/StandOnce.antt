@@ -11,10 +11,12 @@ use Rattle.plain_model.specs.Plain.{Listed, named}
 use Rattle.plain_model.specs.Blocks.{with_mapped}
 use Rattle.plain_model.specs.Distinct.{Distinct}
 use Rattle.inode_table.specs.Listing.{Differ, has_inode, Ascend}
-use Rattle.meta_store.specs.Validity.{are_unused, are_free, Flags, last_inode}
-use Rattle.meta_store.proofs.BlockUses.{uses, uses-append, uses-absent, absent-unused, distinct-uses, uses-distinct}
+use Rattle.meta_store.specs.Validity.{are_unused, Flags, last_inode}
+use Rattle.snapshot_text.specs.FileValidity.{are_free}
+use Rattle.snapshot_text.proofs.BlockUses.{uses, uses-append, uses-absent, absent-unused, distinct-uses, uses-distinct}
 use Rattle.hsm_types.specs.Keyed.{put_key}
-use Rattle.meta_store.specs.Catalogs.{CatalogFile, names_of}
+use Rattle.snapshot_text.specs.Files.{CatalogFile}
+use Rattle.meta_store.specs.Catalogs.{names_of}
 
 turned : (x y : List ℕ) → bytes_eq x y ≡ false → bytes_eq y x ≡ false
 turned x y differs = false_from_ne_true (bytes_eq y x) (λ yes. let is = (bytes_eq-Decides x y).1 (sym ((bytes_eq-Decides y x).0 yes)) in cc)

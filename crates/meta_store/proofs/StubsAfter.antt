@@ -11,15 +11,17 @@ use Rattle.hsm_types.specs.declared.stubs.Stub.{Stub as StubOf}
 use Rattle.hsm_types.specs.Segments.{segments_in}
 use Rattle.hsm_types.specs.Stubs.{stub_at, is_offline, uncovered}
 use Rattle.hsm_types.proofs.Stubbing.{stub_at-without, stub_at-below, all_covered}
-use Rattle.meta_store.specs.declared.file_parts.Others.{Others}
-use Rattle.meta_store.specs.declared.file_parts.FileParts.{FileParts}
-use Rattle.meta_store.specs.declared.records.Record.{Record}
-use Rattle.meta_store.specs.declared.records.Record.TheVariants.{Size, Map, Regions, Stub}
-use Rattle.meta_store.specs.Catalogs.{CatalogFile, Catalog, IsLawfulKept, IsCatalogStub, geometry_of}
-use Rattle.meta_store.specs.Records.{file_after, part_refusal, CanStandOn}
-use Rattle.meta_store.specs.InMemory.{kept_in, parts_after, IsNumbered}
-use Rattle.meta_store.proofs.ClearedPlaces.{away-at, at-away, none-fitted, get_or-mapped, none-without}
-use Rattle.meta_store.proofs.StubLists.{each-at, at-each, stub_at-with, room-with}
+use Rattle.snapshot_text.specs.declared.file_parts.Others.{Others}
+use Rattle.snapshot_text.specs.declared.file_parts.FileParts.{FileParts}
+use Rattle.snapshot_text.specs.declared.records.Record.{Record}
+use Rattle.snapshot_text.specs.declared.records.Record.TheVariants.{Size, Map, Regions, Stub}
+use Rattle.snapshot_text.specs.Files.{CatalogFile, IsLawfulKept, IsCatalogStub, geometry_of}
+use Rattle.meta_store.specs.Catalogs.{Catalog}
+use Rattle.snapshot_text.specs.FileRecords.{file_after, part_refusal}
+use Rattle.meta_store.specs.Records.{CanStandOn}
+use Rattle.snapshot_text.specs.Parts.{kept_in, parts_after, IsNumbered}
+use Rattle.snapshot_text.proofs.ClearedPlaces.{away-at, at-away, none-fitted, get_or-mapped, none-without}
+use Rattle.snapshot_text.proofs.StubLists.{each-at, at-each, stub_at-with, room-with}
 
 -- what is known of a record that is taken about a file of a catalog
 pub record IsTakenOn (r : Record) (f : CatalogFile) (c : Catalog) (others : Others) (geometry : Geometry) : Type 0 where

@@ -11,16 +11,18 @@ use Rattle.plain_model.specs.Blocks.{blocks_in, with_mapped}
 use Rattle.plain_model.specs.Distinct.{Distinct}
 use Rattle.inode_table.specs.Listing.{listing, key_named, Ascend}
 use Rattle.inode_table.specs.Table.{Table, entry_of}
-use Rattle.meta_store.specs.Catalogs.{CatalogFile, Catalog, StubFits, IsLawfulKept, IsCatalogFile, HasLengths, names_of, blocks_of, present}
+use Rattle.snapshot_text.specs.Files.{CatalogFile, StubFits, IsLawfulKept, IsCatalogFile, HasLengths, present}
+use Rattle.meta_store.specs.Catalogs.{Catalog, names_of, blocks_of}
 use Rattle.meta_store.specs.Records.{with_put}
-use Rattle.meta_store.specs.Snapshots.{SnapshotFile, snapshot_file, extents_from}
-use Rattle.meta_store.specs.Validity.{names_in, places_of, places_in, last_inode, are_unused, are_free, places_by, AreLawfulStubs, Follows, Flags, HasTaken}
-use Rattle.meta_store.proofs.MappedPlaces.{length-places_set}
-use Rattle.meta_store.proofs.SpreadPlaces.{filled, spread-holes, present-spread, extents-tell}
+use Rattle.snapshot_text.specs.Snapshots.{SnapshotFile, snapshot_file, extents_from}
+use Rattle.meta_store.specs.Validity.{names_in, places_in, last_inode, are_unused, Follows, Flags, HasTaken}
+use Rattle.snapshot_text.specs.FileValidity.{places_of, are_free, places_by, AreLawfulStubs}
+use Rattle.snapshot_text.proofs.MappedPlaces.{length-places_set}
+use Rattle.snapshot_text.proofs.SpreadPlaces.{filled, spread-holes, present-spread, extents-tell}
 use Rattle.meta_store.proofs.StandOnce.{put-behind, unused-joins, free-is, length-mapped}
 use Rattle.meta_store.proofs.PassingFiles.{names_in-snapshot, places_in-snapshot}
-use Rattle.meta_store.proofs.EachOf.{all-both, each-as, each-map}
-use Rattle.meta_store.proofs.LawfulStubs.{stubs-tell}
+use Rattle.snapshot_text.proofs.EachOf.{all-both, each-as, each-map}
+use Rattle.snapshot_text.proofs.LawfulStubs.{stubs-tell}
 
 same_variant : {X Y : Type 0} (to : X → Y) (o : Option X) → is_some (option_map to o) ≡ is_some o
 same_variant to o = grind arith

@@ -1,22 +1,18 @@
 -- Files are written one after the other: how far a snapshot has come.
-use Rattle.std.proofs.Common.{◌≡◌, ℕ, ◌+◌, ◌<◌, ◌≤◌, List, [], ◌++◌, length, map, get_or, drop, Option, Some, None, refl, arith, append_assoc, append-nil}
+use Rattle.std.proofs.Common.{◌≡◌, ℕ, ◌+◌, ◌<◌, ◌≤◌, List, [], ◌++◌, length, map, drop, Option, Some, None, refl, arith, append_assoc, append-nil}
 use Rattle.std.specs.List.{flat_map, slice_get}
 use Rattle.std.specs.Option.{option_map, IsSome}
 use Rattle.std.proofs.lemmas.List.{length-map, drop_all, drop_more}
 use Rattle.std.proofs.lemmas.Option.{slice_get_within, slice_get_cases, get_or_from_slice_get}
 use Rattle.byteorder.specs.Endian.{big_bytes}
 use Rattle.hsm_types.specs.Limits.{file_regions, file_blocks, name_bytes}
-use Rattle.meta_store.specs.Catalogs.{CatalogFile, Catalog, IsCatalog, IsCatalogFile, geometry_of}
-use Rattle.meta_store.specs.Snapshots.{bytes_of_file, snapshot_file, snapshot_of, spelling}
-use Rattle.meta_store.proofs.EachOf.{each-got}
-use Rattle.meta_store.proofs.SpreadPlaces.{length-extents}
-use Rattle.meta_store.proofs.KeptBounds.{regions-few}
+use Rattle.snapshot_text.specs.Files.{CatalogFile, IsCatalogFile, geometry_of}
+use Rattle.meta_store.specs.Catalogs.{Catalog, IsCatalog}
+use Rattle.snapshot_text.specs.Snapshots.{bytes_of_file, snapshot_file, spelling}
+use Rattle.meta_store.specs.Snapshots.{snapshot_of}
+use Rattle.snapshot_text.proofs.EachOf.{each-got}
+use Rattle.snapshot_text.proofs.KeptBounds.{regions-few}
 use Rattle.meta_store.proofs.SnapshotFits.{name-short, snapshot-short, limits_countable, size-few}
-
-pub each-written : {X : Type 0} (text : X → List ℕ) (out : List ℕ) (xs : List X) (i : ℕ) (d : X) → i < length xs → (out ++ text (get_or xs i d)) ++ flat_map text (drop (i + 1) xs) ≡ out ++ flat_map text (drop i xs)
-each-written text out xs i d within = rw (drop_more xs i d, append_assoc) refl
-
-pub ruleset written = (append_assoc, length-extents)
 
 pub bounds-at : (c : Catalog) (i : ℕ) (f : CatalogFile) → IsCatalog c → slice_get c.files i ≡ Some f → (length f.name ≤ name_bytes) × (length f.places ≤ file_blocks) × (length f.kept.regions ≤ file_regions)
 bounds-at c i f is at =

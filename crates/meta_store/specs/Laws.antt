@@ -4,7 +4,8 @@ use Rattle.commit_slots.specs.Images.{IsEmptyStore}
 use Rattle.commit_slots.specs.Places.{layout_of}
 use Rattle.meta_store.specs.Catalogs.{Catalog, IsCatalog}
 use Rattle.meta_store.specs.Images.{IsImage}
-use Rattle.meta_store.specs.Snapshots.{spelling, snapshot_of}
+use Rattle.snapshot_text.specs.Snapshots.{spelling}
+use Rattle.meta_store.specs.Snapshots.{snapshot_of}
 
 -- the catalog of a new store of this geometry
 abbrev pub no_files : ℕ → Catalog

@@ -1,9 +1,7 @@
 pub mod Catalogs
 pub mod Snapshots
-pub mod Reading
 pub mod Images
 pub mod Records
-pub mod Refusals
 pub mod Meta
 pub mod InMemory
 pub mod Validity

@@ -1,6 +1,6 @@
 -- What records change of a catalog. Those of one event are taken together.
-use Rattle.std.specs.Prelude.{◌≡◌, ℕ, ◌+◌, ◌-◌, ◌*◌, ◌/◌, ◌≤◌, ◌<◌, max, min, List, [], ◌∷◌, ◌++◌, length, take, drop, replicate, slice_set}
-use Rattle.std.specs.Prelude.{true, false, if◌then◌else◌, ◌==◌, Option, Some, None}
+use Rattle.std.specs.Prelude.{◌≡◌, ℕ, ◌+◌, ◌/◌, ◌≤◌, ◌<◌, max, List, [], ◌∷◌, length}
+use Rattle.std.specs.Prelude.{true, false, ◌==◌, Option, Some, None}
 use Rattle.std.specs.List.{list_any, AllByRecursion}
 use Rattle.std.specs.Option.{option_map, unwrap_or}
 use Rattle.hsm_types.specs.Limits.{segment_blocks, last_generation}
@@ -8,54 +8,19 @@ use Rattle.hsm_types.specs.Names.{is_name}
 use Rattle.hsm_types.specs.declared.keys.FileKey.{FileKey}
 use Rattle.hsm_types.specs.declared.dm.DmRefusal.{DmRefusal}
 use Rattle.hsm_types.specs.Refusals.{first_refusal}
-use Rattle.hsm_types.specs.Regions.{regions_refusal}
-use Rattle.hsm_types.specs.Segments.{segments_in}
-use Rattle.hsm_types.specs.Stubs.{Stubs, stub_at, offline_at, with_stub, without_stub, stubs_below, uncovered, too_many_stubs}
-use Rattle.hsm_types.specs.declared.stores.Geometry.{Geometry}
+use Rattle.hsm_types.specs.Stubs.{offline_at}
 use Rattle.hsm_types.specs.declared.stubs.Stub.{Stub as StubOf}
-use Rattle.hsm_types.specs.Attributes.{with_value, without_value, setting_refusal, removal_refusal}
 use Rattle.hsm_types.specs.Kept.{Kept, nothing_kept}
 use Rattle.hsm_types.specs.Keyed.{find_key, change_key, put_key, drop_key}
 use Rattle.plain_model.specs.Plain.{named}
-use Rattle.plain_model.specs.Blocks.{blocks_in}
 use Rattle.plain_model.specs.Distinct.{Distinct}
 use Rattle.inode_table.specs.Listing.{key_at, has_inode}
-use Rattle.meta_store.specs.declared.snapshot.Mapping.{Mapping}
-use Rattle.meta_store.specs.declared.records.Record.{Record}
-use Rattle.meta_store.specs.declared.records.Record.TheVariants.{Make, Drop, Size, Map, Regions, SetAttr, DropAttr, Stub}
-use Rattle.meta_store.specs.declared.file_parts.Others.{Others}
-use Rattle.meta_store.specs.Catalogs.{CatalogFile, Catalog, FitsButLength, names_of, blocks_of, geometry_of, attribute_total, stub_total}
-
--- ---- one file
-
--- as many places as a body of that size has blocks: more of them are holes
-abbrev pub places_fitted : ℕ → List (Option ℕ) → List (Option ℕ)
-places_fitted size places = take (blocks_in size) places ++ replicate (blocks_in size - length places) None
-
--- these blocks of the file lie at these places from now on
-abbrev pub places_set : List Mapping → List (Option ℕ) → List (Option ℕ)
-places_set [] places = places
-places_set (m ∷ ms) places = places_set ms (slice_set places m.block (Some m.place))
-
--- the blocks from that one on, each at its place
-abbrev pub mappings_from : ℕ → List ℕ → List Mapping
-mappings_from block [] = []
-mappings_from block (p ∷ ps) = (record { block = block; place = p }) ∷ mappings_from (block + 1) ps
-
--- no block of the segment has a place
-abbrev pub places_without : ℕ → List (Option ℕ) → List (Option ℕ)
-places_without j places = take (segment_blocks * j) places ++ replicate (min segment_blocks (length places - segment_blocks * j)) None ++ drop (segment_blocks * j + segment_blocks) places
-
--- the file that a record is about, after it
-abbrev pub file_after : Record → CatalogFile → CatalogFile
-file_after (Size ino size) f = record f { size = size; places = places_fitted size f.places; kept = record f.kept { stubs = stubs_below (segments_in size) f.kept.stubs } }
-file_after (Map ino block places) f = record f { places = places_set (mappings_from block places.items) f.places }
-file_after (Regions ino regions) f = record f { kept = record f.kept { regions = regions } }
-file_after (SetAttr ino name value) f = record f { kept = record f.kept { attributes = with_value name value f.kept.attributes } }
-file_after (DropAttr ino name) f = record f { kept = record f.kept { attributes = without_value name f.kept.attributes } }
-file_after (Stub ino j None) f = record f { kept = record f.kept { stubs = without_stub j f.kept.stubs } }
-file_after (Stub ino j (Some stub)) f = record f { places = if stub.offline then places_without j f.places else f.places; kept = record f.kept { stubs = with_stub j stub f.kept.stubs } }
-file_after r f = f
+use Rattle.snapshot_text.specs.declared.records.Record.{Record}
+use Rattle.snapshot_text.specs.declared.records.Record.TheVariants.{Make, Drop, Size, Map, Stub}
+use Rattle.snapshot_text.specs.declared.file_parts.Others.{Others}
+use Rattle.snapshot_text.specs.Files.{CatalogFile, FitsButLength, geometry_of}
+use Rattle.meta_store.specs.Catalogs.{Catalog, names_of, blocks_of, attribute_total, stub_total}
+use Rattle.snapshot_text.specs.FileRecords.{file_after, inode_of, part_refusal, FitsStub, IsSure}
 
 -- ---- the catalog
 
@@ -73,17 +38,6 @@ without_file key c = record c { files = drop_key (λ f. f.key) key c.files }
 -- that file has changed
 abbrev pub with_changed : FileKey → (CatalogFile → CatalogFile) → Catalog → Catalog
 with_changed key to c = record c { files = change_key (λ f. f.key) key to c.files }
-
--- the inode that a record names
-abbrev pub inode_of : Record → ℕ
-inode_of (Make key name) = key.ino
-inode_of (Drop ino) = ino
-inode_of (Size ino size) = ino
-inode_of (Map ino block places) = ino
-inode_of (Regions ino regions) = ino
-inode_of (SetAttr ino name value) = ino
-inode_of (DropAttr ino name) = ino
-inode_of (Stub ino j stub) = ino
 
 -- the key of the file that has that inode; where none has it, one of no file
 abbrev pub key_on : ℕ → Catalog → FileKey
@@ -116,14 +70,6 @@ others_stubs key c = stub_total (without_file key c).files
 abbrev pub others_of : FileKey → Catalog → Others
 others_of key c = record { attributes = others_total key c; stubs = others_stubs key c }
 
--- by the rules of the part that it is about, where all other files have so much, in a store of that geometry
-abbrev pub part_refusal : Record → Others → Geometry → Kept → Option DmRefusal
-part_refusal (Regions ino regions) others geometry k = first_refusal (regions_refusal geometry.limits regions ∷ uncovered regions k.stubs ∷ [])
-part_refusal (SetAttr ino name value) others geometry k = setting_refusal name value others.attributes geometry.attributes k.attributes
-part_refusal (DropAttr ino name) others geometry k = removal_refusal name k.attributes
-part_refusal (Stub ino j (Some stub)) others geometry k = too_many_stubs j others.stubs geometry.stubs k.stubs
-part_refusal r others geometry k = None
-
 abbrev pub refusal_of : Record → Catalog → Option DmRefusal
 refusal_of r c = part_refusal r (others_of (key_on (inode_of r) c) c) (geometry_of c.geometry) (kept_at (key_on (inode_of r) c) c)
 
@@ -153,11 +99,6 @@ pub record IsMappable (block : ℕ) (places : List ℕ) (f : CatalogFile) (c : C
   pub unused : AllByRecursion (λ p. list_any (λ b. b == p) (blocks_of c.files) ≡ false) places
   pub distinct : Distinct places
 
--- the segment goes away only by the entry that it is sealed with, and comes back only by the entry that it has
-pub record FitsStub (j : ℕ) (stub : StubOf) (stubs : Stubs) : Type 0 where
-  pub goes : stub.offline ≡ true → stub_at j stubs ≡ Some (record stub { offline = false })
-  pub comes : stub.offline ≡ false → offline_at stubs j ≡ true → stub_at j stubs ≡ Some (record stub { offline = true })
-
 -- a stub entry of a file, in the place of those that it has
 pub record IsStubbable (j : ℕ) (stub : StubOf) (f : CatalogFile) : Type 0 where
   pub fits : FitsButLength f (j, stub)
@@ -185,13 +126,6 @@ abbrev pub IsAboutOne : Record → Type 0
 IsAboutOne (Make key name) = ⊥
 IsAboutOne (Drop ino) = ⊥
 IsAboutOne r = Unit {0}
-
--- it is never refused, and takes no memory: the places of blocks, and that an entry is gone or stands for bytes that are away
-abbrev pub IsSure : Record → Type 0
-IsSure (Map ino block places) = Unit {0}
-IsSure (Stub ino j None) = Unit {0}
-IsSure (Stub ino j (Some stub)) = stub.offline ≡ true
-IsSure r = ⊥
 
 -- The records of an event are one, and behind it such as are sure. So none but the first may be refused, or take memory.
 abbrev pub IsEvent : List Record → Type 0

@@ -1,8 +1,8 @@
 //! What is kept of a store's files beside the table, by inode.
 ghost use Rattle.std.specs.Prelude.{◌≡◌, ◌-◌, replicate, IfOk};
-ghost use Rattle.meta_store.specs.InMemory.{no_parts};
+ghost use Rattle.snapshot_text.specs.Parts.{no_parts};
 
-use crate::file_parts::FileParts;
+use snapshot_text::FileParts;
 use std::alloc::{AllocError, Global};
 
 /// Where the parts of the file with that inode are. No file has the inode 0.

@@ -2,31 +2,13 @@
 #![tactic(auto)]
 
 mod catalog;
-mod extents;
-mod fields;
-mod file_parts;
-mod file_places;
-mod geometry;
 mod inode_parts;
-mod kept;
-mod kept_stubs;
 mod laws;
 mod opening;
-mod reading;
-mod records;
-mod refusal;
-mod snapshot;
 mod spelling;
 mod store;
 mod validity;
-mod writing;
 
 pub use catalog::Catalog;
-pub use file_parts::FileParts;
-pub use file_places::{count_present, segment_places};
-pub use geometry::geometry_of;
 pub use laws::{formatted_image, one_image, snapshot_fits};
-pub use records::{Record, Records};
-pub use refusal::MetaRefusal;
-pub use snapshot::Mapping;
 pub use store::MetaStore;

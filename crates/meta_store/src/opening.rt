@@ -8,10 +8,9 @@ ghost use Rattle.meta_store.specs.Snapshots.{IsSnapshot};
 ghost use Rattle.meta_store.specs.Images.{IsClosed};
 
 use crate::catalog::Catalog;
-use crate::reading::read;
-use crate::snapshot::ReadRefusal;
 use crate::validity::catalog_of;
 use disk_model::{Disk, Failed, read_at};
+use snapshot_text::{ReadRefusal, read};
 use std::alloc::Global;
 
 /// The number and the catalog that an area says, if it holds a valid snapshot of that geometry.

@@ -3,10 +3,11 @@ ghost use Rattle.std.specs.Prelude.{◌≡◌, ◌≤◌, length, IfOk, OnOk};
 ghost use Rattle.hsm_types.specs.Limits.{last_number};
 ghost use Rattle.commit_slots.specs.Places.{layout_of};
 ghost use Rattle.meta_store.specs.Catalogs.{IsCatalog};
-ghost use Rattle.meta_store.specs.Snapshots.{spelling, snapshot_of};
+ghost use Rattle.snapshot_text.specs.Snapshots.{spelling};
+ghost use Rattle.meta_store.specs.Snapshots.{snapshot_of};
 
 use crate::catalog::Catalog;
-use crate::writing::{put_file, put_header};
+use snapshot_text::{put_file, put_header};
 use std::alloc::{AllocError, Global};
 
 /// The room for each file from the start. A file with many extents or a long name takes more.

@@ -15,12 +15,10 @@ ghost use Rattle.meta_store.specs.Meta.{Meta, IsMeta, Backs, StoresOrKeeps, HasS
 
 use crate::catalog::Catalog;
 use crate::opening::{catalog_in, is_closed};
-use crate::records::Records;
-use crate::refusal::MetaRefusal;
-use crate::snapshot::ReadRefusal;
 use crate::spelling::spell;
 use commit_slots::{CommitSlots, Layout, Loaded, Slot};
 use disk_model::{Disk, Failed, OpenRefusal, sync_all};
+use snapshot_text::{MetaRefusal, ReadRefusal, Records};
 use std::alloc::Global;
 use std::marker::Model;
 use std::snapshot::Snapshot;

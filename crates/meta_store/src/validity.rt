@@ -5,19 +5,15 @@ ghost use Rattle.hsm_types.specs.Limits.{IsCountable, last_number};
 ghost use Rattle.plain_model.specs.Plain.{named};
 ghost use Rattle.std.specs.Bool.{OnTrue};
 ghost use Rattle.std.specs.Result.{IsErrOf};
-ghost use Rattle.meta_store.specs.Catalogs.{Catalog, geometry_of, IsCatalog, AreLengths};
-ghost use Rattle.meta_store.specs.Snapshots.{raw_file, raw_snapshot, snapshot_file, snapshot_of};
+ghost use Rattle.meta_store.specs.Catalogs.{Catalog, IsCatalog, AreLengths};
+ghost use Rattle.snapshot_text.specs.Files.{geometry_of};
+ghost use Rattle.snapshot_text.specs.Snapshots.{raw_file, raw_snapshot, snapshot_file};
+ghost use Rattle.meta_store.specs.Snapshots.{snapshot_of};
 ghost use Rattle.meta_store.specs.Validity.{last_inode, is_file, can_follow, Follows, IsNext, names_in, HasTaken};
 
 use crate::catalog::Catalog;
-use crate::extents::{are_extents, claim};
-use crate::file_parts::FileParts;
-use crate::file_places::FilePlaces;
-use crate::geometry::geometry_of;
-use crate::kept::{attributes_of, regions_of};
-use crate::kept_stubs::stubs_of;
-use crate::snapshot::{RawFile, RawSnapshot, ReadRefusal};
 use hsm_types::{BLOCK_BYTES, Geometry, LAST_GENERATION, LAST_NUMBER, Word, can_name};
+use snapshot_text::{RawFile, RawSnapshot, ReadRefusal, are_extents, claim, geometry_of, parts_of};
 use std::alloc::Global;
 
 /// The catalog that a snapshot says, if it is a valid one of that geometry. The files are walked once, with a flag for each block of the disk, and
@@ -60,7 +56,7 @@ fn take_in(
     geometry: Geometry,
     next: u64,
     last: u64,
-    file: RawFile,
+    mut file: RawFile,
 ) -> Result<(), ReadRefusal>
     requires geometry { geometry ≡ geometry_of catalog.old.geometry }
     requires countable { IsCountable geometry.limits }
@@ -71,23 +67,13 @@ fn take_in(
 {
     // Read for what is true of each catalog.
     let _geometry = catalog.geometry();
-    let room = u64::from(geometry.attributes) - catalog.attribute_total();
-    let stub_room = geometry.stubs - catalog.stub_total();
     if !can_follow(catalog, geometry, next, last, &file) || !claim(flags, file.extents.as_slice()) {
         return Err(ReadRefusal::Corrupt);
     }
-    let size = file.size;
-    let places = FilePlaces::of(alloc, size, file.extents.as_slice())?;
-    let regions = regions_of(alloc, geometry.limits, file.regions)?;
-    let entries = file.stubs.as_slice();
-    let stubs = stubs_of(alloc, size, &regions, &places, entries, stub_room)?;
-    let parts = FileParts {
-        places,
-        regions,
-        attributes: attributes_of(alloc, file.attributes, room)?,
-        stubs,
-    };
-    catalog.put(alloc, file.key, &file.name, size, parts)?;
+    let room = u64::from(geometry.attributes) - catalog.attribute_total();
+    let stub_room = geometry.stubs - catalog.stub_total();
+    let parts = parts_of(alloc, geometry.limits, &mut file, room, stub_room)?;
+    catalog.put(alloc, file.key, &file.name, file.size, parts)?;
     Ok(())
 }
 

@@ -13,7 +13,7 @@ use crate::services::replies::{refused, twice};
 use disk_model::Disk;
 use file_store::FileStore;
 use hsm_types::{DmRefusal, DmReply, Handle, Range, SEGMENT_BYTES, Segment, Segments, segments_in};
-use meta_store::{count_present, segment_places};
+use snapshot_text::{count_present, segment_places};
 use std::alloc::{AllocError, Global};
 use stub_map::{State, StubMap};
 

@@ -1,6 +1,6 @@
 use Rattle.std.proofs.Common.{ℕ, List, inr, refl, subst}
 use Rattle.commit_slots.specs.Images.{IsEmptyStore}
-use Rattle.meta_store.specs.Catalogs.{geometry_of}
+use Rattle.snapshot_text.specs.Files.{geometry_of}
 use Rattle.plain_model.specs.State.{nothing_held}
 use Rattle.file_store.specs.Stores.{IsRecovered}
 use Rattle.hsm_cli.proofs.in_memory.new_store.Goals as goal

@@ -1,6 +1,7 @@
 use Rattle.std.proofs.Common.{◌≡◌, sym, ◌∙◌, ap, subst}
 use Rattle.plain_model.specs.Segments.{table_of}
-use Rattle.meta_store.specs.Catalogs.{Catalog, geometry_of}
+use Rattle.meta_store.specs.Catalogs.{Catalog}
+use Rattle.snapshot_text.specs.Files.{geometry_of}
 use Rattle.file_store.specs.Stores.{Shows}
 use Rattle.hsm_core.specs.Stamps.{stamp_in}
 use Rattle.hsm_core.proofs.Summaries.{names_shown}

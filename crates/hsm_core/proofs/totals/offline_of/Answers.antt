@@ -1,5 +1,5 @@
 use Rattle.std.proofs.Common.{◌≡◌, sym, ◌∙◌, ap, arith}
-use Rattle.meta_store.specs.Catalogs.{CatalogFile}
+use Rattle.snapshot_text.specs.Files.{CatalogFile}
 use Rattle.hsm_core.specs.Summaries.{offline_by}
 use Rattle.hsm_core.proofs.Summaries.{sum-next}
 use Rattle.hsm_core.proofs.totals.offline_of.Goals as goal

@@ -1,6 +1,6 @@
 use Rattle.std.proofs.Common.{◌≡◌}
 use Rattle.std.specs.Prelude.{replicate}
-use Rattle.meta_store.specs.InMemory.{no_parts}
+use Rattle.snapshot_text.specs.Parts.{no_parts}
 use Rattle.meta_store.proofs.inode_parts.empty.Given as goal
 
 abbrev pub invariant-loop : goal.invariant-loop

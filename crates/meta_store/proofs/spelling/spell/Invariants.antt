@@ -1,6 +1,7 @@
 use Rattle.std.proofs.Common.{◌≡◌, ◌++◌, drop, map}
 use Rattle.std.specs.List.{flat_map}
-use Rattle.meta_store.specs.Snapshots.{bytes_of_file, snapshot_file, snapshot_of, spelling}
+use Rattle.snapshot_text.specs.Snapshots.{bytes_of_file, snapshot_file, spelling}
+use Rattle.meta_store.specs.Snapshots.{snapshot_of}
 use Rattle.meta_store.proofs.spelling.spell.Given as goal
 
 abbrev pub invariant-loop-index : goal.invariant-loop-index

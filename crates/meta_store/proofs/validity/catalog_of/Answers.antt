@@ -1,14 +1,17 @@
 use Rattle.std.proofs.Common.{◌≡◌, List, [], ◌∷◌, ◌++◌, length, map, sym, ◌∙◌, ap, arith, append_assoc, append-nil, ℕ, refl}
 use Rattle.std.specs.Vec.Iter.{into_iter_items}
 use Rattle.std.proofs.lemmas.List.{map-append, nil_from_length}
-use Rattle.meta_store.specs.declared.snapshot.ReadRefusal.TheVariants.{Corrupt}
-use Rattle.meta_store.specs.declared.snapshot.RawFile.{RawFile}
-use Rattle.meta_store.specs.Snapshots.{raw_file, Snapshot, SnapshotFile, raw_snapshot, snapshot_file, snapshot_of}
-use Rattle.meta_store.specs.declared.snapshot.RawSnapshot.{RawSnapshot}
-use Rattle.meta_store.specs.Catalogs.{Catalog, IsCatalog, AreLengths, geometry_of}
+use Rattle.snapshot_text.specs.declared.snapshot.ReadRefusal.TheVariants.{Corrupt}
+use Rattle.snapshot_text.specs.declared.snapshot.RawFile.{RawFile}
+use Rattle.snapshot_text.specs.Snapshots.{raw_file, Snapshot, SnapshotFile, raw_snapshot, snapshot_file}
+use Rattle.meta_store.specs.Snapshots.{snapshot_of}
+use Rattle.snapshot_text.specs.declared.snapshot.RawSnapshot.{RawSnapshot}
+use Rattle.meta_store.specs.Catalogs.{Catalog, IsCatalog, AreLengths}
+use Rattle.snapshot_text.specs.Files.{geometry_of}
 use Rattle.meta_store.specs.Validity.{listed_in, names_in, last_inode, IsNext}
 use Rattle.meta_store.proofs.StandOnce.{last_inode-push}
-use Rattle.meta_store.proofs.PassingFiles.{passes, told_err}
+use Rattle.snapshot_text.proofs.ReadParts.{told_err}
+use Rattle.meta_store.proofs.PassingFiles.{passes}
 use Rattle.meta_store.proofs.validity.catalog_of.Goals as goal
 
 unfolded : (n : ℕ) (c : Catalog) → snapshot_of n c ≡ record { number = n; next = c.next; files = map snapshot_file c.files }

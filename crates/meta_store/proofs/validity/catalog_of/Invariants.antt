@@ -1,7 +1,7 @@
 use Rattle.std.proofs.Common.{◌≡◌, ◌++◌, length, map}
 use Rattle.std.specs.Vec.Iter.{into_iter_items, into_iter_len}
-use Rattle.meta_store.specs.Catalogs.{geometry_of}
-use Rattle.meta_store.specs.Snapshots.{raw_file}
+use Rattle.snapshot_text.specs.Files.{geometry_of}
+use Rattle.snapshot_text.specs.Snapshots.{raw_file}
 use Rattle.meta_store.specs.Validity.{last_inode, names_in, HasTaken}
 use Rattle.meta_store.proofs.validity.catalog_of.Given as goal
 

@@ -1,10 +1,11 @@
 use Rattle.std.proofs.Common.{map, sym, ◌∙◌, arith}
 use Rattle.plain_model.specs.Blocks.{blocks_in}
-use Rattle.meta_store.specs.declared.snapshot.ReadRefusal.TheVariants.{Corrupt}
-use Rattle.meta_store.specs.Snapshots.{raw_file, snapshot_file}
-use Rattle.meta_store.proofs.SpreadPlaces.{extents-tell}
+use Rattle.snapshot_text.specs.declared.snapshot.ReadRefusal.TheVariants.{Corrupt}
+use Rattle.snapshot_text.specs.Snapshots.{raw_file, snapshot_file}
+use Rattle.snapshot_text.proofs.SpreadPlaces.{extents-tell}
+use Rattle.snapshot_text.proofs.ReadParts.{told_err}
 use Rattle.meta_store.proofs.StandOnce.{absent}
-use Rattle.meta_store.proofs.PassingFiles.{names_in-snapshot, stub_total_in-snapshot, not-next, told_err}
+use Rattle.meta_store.proofs.PassingFiles.{names_in-snapshot, attribute_total_in-snapshot, stub_total_in-snapshot, may-keep}
 use Rattle.meta_store.proofs.TakenFiles.{is-above, within, flags-tell, is-lawful, once-each, taken-more}
 use Rattle.meta_store.proofs.validity.take_in.Goals as goal
 use Rattle.meta_store.proofs.validity.take_in.Goals.{then-not-can_follow-via-then-not-can_follow, then-not-can_follow-via-else-not-can_follow+then-not-claim}
@@ -23,38 +24,50 @@ returns-then-not-can_follow-clause-corrupt c = λ is next.
           grind arith
     ]
 
-pub of-requires-clause-blocks : goal.of-requires-clause-blocks
-of-requires-clause-blocks c = rw c.as_slice-2.ensures.value (extents-tell 0 (blocks_in c.args.file.size) _ c.args.file.extents.items c.if-not-can_follow.ensures.follows.extents).0
+pub parts_of-requires-clause-blocks : goal.parts_of-requires-clause-blocks
+parts_of-requires-clause-blocks c = (extents-tell 0 (blocks_in c.args.file.size) _ c.args.file.extents.items c.if-not-can_follow.ensures.follows.extents).0
 
-pub returns-in_err-stubs-clause-corrupt : goal.returns-in_err-stubs-clause-corrupt
-returns-in_err-stubs-clause-corrupt c = λ is next.
-    not-next c.args.geometry c.args.next (map snapshot_file c.args.catalog.now.files) (raw_file c.args.file) c.stub_total.result (c.stub_total.ensures ∙ stub_total_in-snapshot c.args.catalog.now.files) (λ are few.
-    c.in_err-stubs.ensures.corrupt (told_err c.from_residual-in_err-stubs.result c.in_err-stubs.field-0.0 Corrupt c.from_residual-in_err-stubs.ensures.1 is)
-    (rw (c.in_ok-places.ensures, c.as_slice-2.ensures.value, c.in_ok-regions.ensures.ok, c.as_slice-entries.ensures.value) are) (rw c.as_slice-entries.ensures.value few)) next
+pub returns-in_err-parts-clause-corrupt : goal.returns-in_err-parts-clause-corrupt
+returns-in_err-parts-clause-corrupt c = λ is next.
+    c.in_err-parts.ensures.corrupt (told_err c.from_residual-in_err-parts.result c.in_err-parts.field-0.0 Corrupt c.from_residual-in_err-parts.ensures.1 is)
+    (may-keep c.args.geometry c.args.next (map snapshot_file c.args.catalog.now.files) (raw_file c.args.file) c.attribute_total.result c.stub_total.result (c.attribute_total.ensures ∙ attribute_total_in-snapshot c.args.catalog.now.files) (c.stub_total.ensures ∙ stub_total_in-snapshot c.args.catalog.now.files) next)
+
+pub put-requires-clause-low : goal.put-requires-clause-low
+put-requires-clause-low c = rw c.parts_of.ensures.key (omega (arith, c.if-not-can_follow.ensures.follows.above))
+
+pub put-requires-clause-high : goal.put-requires-clause-high
+put-requires-clause-high c = rw (← c.requires.geometry, c.parts_of.ensures.key) c.if-not-can_follow.ensures.follows.high
+
+pub put-requires-clause-early : goal.put-requires-clause-early
+put-requires-clause-early c = rw c.parts_of.ensures.key (omega (arith, c.if-not-can_follow.ensures.follows.old, c.geometry-geometry.ensures.valid.next, c.requires.taken.next))
 
 pub put-requires-clause-inode : goal.put-requires-clause-inode
-put-requires-clause-inode c = absent 0 c.args.file.key.ino _ c.geometry-geometry.ensures.valid.table.ascend (is-above c.requires.taken c.if-not-can_follow.ensures.follows)
+put-requires-clause-inode c = rw c.parts_of.ensures.key (absent 0 c.args.file.key.ino _ c.geometry-geometry.ensures.valid.table.ascend (is-above c.requires.taken c.if-not-can_follow.ensures.follows))
 
 pub put-requires-clause-name : goal.put-requires-clause-name
-put-requires-clause-name c = rw (← names_in-snapshot c.args.catalog.now.files) c.if-not-can_follow.ensures.follows.fresh
+put-requires-clause-name c = rw (c.parts_of.ensures.name, ← names_in-snapshot c.args.catalog.now.files) c.if-not-can_follow.ensures.follows.fresh
 
 pub put-requires-clause-lawful : goal.put-requires-clause-lawful
 put-requires-clause-lawful c =
-    let kept = c.in_ok-attributes_of.ensures in
-    let stubs = c.in_ok-stubs.ensures in
-    let judged = rw (c.in_ok-places.ensures, c.as_slice-2.ensures.value, c.in_ok-regions.ensures.ok, c.as_slice-entries.ensures.value) at stubs.lawful in
-    let fit = rw (stubs.ok, c.as_slice-entries.ensures.value) at stubs.fits in
-    rw (← c.requires.geometry, c.places.view_is, c.in_ok-places.ensures, c.as_slice-2.ensures.value, c.regions.view_is, c.in_ok-regions.ensures.ok, kept.ok, stubs.ok, c.as_slice-entries.ensures.value)
-    (is-lawful c.requires.taken c.if-not-can_follow.ensures.follows (record { regions = let lawful = c.in_ok-regions.ensures.lawful in grind arith; attributes = rw kept.ok at kept.attributes; eight = rw kept.ok at kept.eight }) judged fit)
+    let parts = c.in_ok-parts.ensures in
+    rw (← c.requires.geometry, c.parts_of.ensures.key, c.parts_of.ensures.name, c.parts_of.ensures.sized, parts.made) (is-lawful c.requires.taken c.if-not-can_follow.ensures.follows parts.lawful parts.kept.stubs parts.numbers)
 
 pub put-requires-clause-distinct : goal.put-requires-clause-distinct
 put-requires-clause-distinct c =
     let free = rw c.as_slice.ensures.value at (sym c.claim.ensures.free ∙ c.if-not-claim.false) in
-    rw (c.places.view_is, c.in_ok-places.ensures, c.as_slice-2.ensures.value) (once-each c.requires.taken c.if-not-can_follow.ensures.follows free c.geometry-geometry.ensures.valid.distinct)
+    rw c.in_ok-parts.ensures.made (once-each c.requires.taken c.if-not-can_follow.ensures.follows free c.geometry-geometry.ensures.valid.distinct)
+
+pub put-requires-clause-room : goal.put-requires-clause-room
+put-requires-clause-room c =
+    let few = rw (← c.requires.geometry) at c.geometry-geometry.ensures.valid.few in
+    rw (← c.requires.geometry, c.in_ok-parts.ensures.made) (omega (arith, few, c.in_ok-parts.ensures.kept.few, c.attribute_total.ensures))
+
+pub put-requires-clause-stub_room : goal.put-requires-clause-stub_room
+put-requires-clause-stub_room c =
+    let few = rw (← c.requires.geometry) at c.geometry-geometry.ensures.valid.few_stubs in
+    rw (← c.requires.geometry, c.in_ok-parts.ensures.made) (omega (arith, few, c.in_ok-parts.ensures.kept.few_stubs, c.stub_total.ensures))
 
 pub returns-clause-taken : goal.returns-clause-taken
 returns-clause-taken c =
-    let stubs = c.in_ok-stubs.ensures in
-    let judged = rw (c.in_ok-places.ensures, c.as_slice-2.ensures.value, c.in_ok-regions.ensures.ok, c.as_slice-entries.ensures.value) at stubs.lawful in
-    rw (c.in_ok-put.ensures.ok, c.places.view_is, c.in_ok-places.ensures, c.as_slice-2.ensures.value, c.regions.view_is, c.in_ok-regions.ensures.ok, c.in_ok-attributes_of.ensures.ok, stubs.ok, c.as_slice-entries.ensures.value, c.if-not-claim.ensures.flags, c.as_slice.ensures.value)
-    (taken-more c.requires.taken c.if-not-can_follow.ensures.follows c.geometry-geometry.ensures.valid.table.ascend judged)
+    rw (c.in_ok-put.ensures.ok, c.parts_of.ensures.key, c.parts_of.ensures.name, c.parts_of.ensures.sized, c.in_ok-parts.ensures.made, c.if-not-claim.ensures.flags, c.as_slice.ensures.value)
+    (taken-more c.requires.taken c.if-not-can_follow.ensures.follows c.geometry-geometry.ensures.valid.table.ascend c.in_ok-parts.ensures.kept.stubs)

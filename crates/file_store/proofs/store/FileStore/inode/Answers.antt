@@ -1,5 +1,6 @@
 use Rattle.file_store.proofs.Names.{refl, sym, ◌∙◌, ap, FileKey, bytes_with, geometry_of, kept_at, key_on}
-use Rattle.meta_store.specs.Records.{others_of, part_refusal}
+use Rattle.meta_store.specs.Records.{others_of}
+use Rattle.snapshot_text.specs.FileRecords.{part_refusal}
 use Rattle.file_store.proofs.FilesBy.{kept-held, others-held, stubs-others, key_on-live}
 use Rattle.file_store.proofs.WithBodies.{live-held}
 use Rattle.file_store.proofs.store.FileStore.inode.Goals as goal

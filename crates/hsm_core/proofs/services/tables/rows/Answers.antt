@@ -3,8 +3,8 @@ use Rattle.hsm_types.specs.declared.keys.FileKey.{FileKey}
 use Rattle.hsm_types.specs.declared.stores.Superblock.{Superblock}
 use Rattle.hsm_types.specs.declared.tables.FileRow.{FileRow}
 use Rattle.plain_model.specs.Segments.{row_of}
-use Rattle.meta_store.specs.Catalogs.{CatalogFile}
-use Rattle.meta_store.specs.InMemory.{file_of}
+use Rattle.snapshot_text.specs.Files.{CatalogFile}
+use Rattle.snapshot_text.specs.Parts.{file_of}
 use Rattle.meta_store.proofs.SnapshotFits.{size-few}
 use Rattle.file_store.proofs.Loaded.{next-file}
 use Rattle.hsm_core.specs.Services.{IsMadeOf}

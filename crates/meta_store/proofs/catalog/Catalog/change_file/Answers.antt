@@ -2,20 +2,23 @@ use Rattle.std.proofs.Common.{◌≡◌, ◌+◌, None, refl, ◌∙◌, ap, ari
 use Rattle.std.proofs.lemmas.Result.{err_from_is_err_and}
 use Rattle.hsm_types.specs.Limits.{large_geometry}
 use Rattle.hsm_types.specs.declared.stores.Geometry.{Geometry}
-use Rattle.meta_store.specs.Records.{refusal_of, file_after, without_file, with_changed, key_on, inode_of, others_of, part_refusal, CanStandOn}
+use Rattle.meta_store.specs.Records.{refusal_of, without_file, with_changed, key_on, others_of, CanStandOn}
+use Rattle.snapshot_text.specs.FileRecords.{file_after, inode_of, part_refusal}
 use Rattle.meta_store.specs.Records.{CanStand, IsAboutOne}
-use Rattle.meta_store.specs.Catalogs.{Catalog, geometry_of, CatalogFile, IsLawfulKept, IsCatalogFile, blocks_of, attribute_total, stub_total}
+use Rattle.meta_store.specs.Catalogs.{Catalog, blocks_of, attribute_total, stub_total}
+use Rattle.snapshot_text.specs.Files.{geometry_of, CatalogFile, IsLawfulKept, IsCatalogFile}
 use Rattle.meta_store.proofs.HeldCatalogs.{bounded, IsCounted, IsLive, lawful, table, live, read-live, held-live, others, after}
 use Rattle.hsm_types.specs.declared.keys.FileKey.{FileKey}
 use Rattle.hsm_types.specs.Attributes.{bytes_of_attributes}
 use Rattle.hsm_types.specs.Keyed.{find_key, change_key}
 use Rattle.hsm_types.specs.Regions.{regions_refusal}
 use Rattle.inode_table.specs.Table.{Table, entry_of}
-use Rattle.meta_store.specs.declared.file_parts.FileParts.{FileParts}
-use Rattle.meta_store.specs.declared.file_parts.Others.{Others}
-use Rattle.meta_store.specs.declared.records.Record.{Record}
+use Rattle.snapshot_text.specs.declared.file_parts.FileParts.{FileParts}
+use Rattle.snapshot_text.specs.declared.file_parts.Others.{Others}
+use Rattle.snapshot_text.specs.declared.records.Record.{Record}
 use Rattle.meta_store.specs.declared.catalog.Catalog.TheInside.{Inside}
-use Rattle.meta_store.specs.InMemory.{kept_in, parts_of, parts_after, file_of, catalog_held}
+use Rattle.snapshot_text.specs.Parts.{kept_in, parts_of, parts_after, file_of}
+use Rattle.meta_store.specs.InMemory.{catalog_held}
 use Rattle.meta_store.proofs.FileEdits.{count_of, stubs_of, mapped_of, used-sum, sum-drop, sum-change}
 use Rattle.meta_store.proofs.FoundFiles.{each-found}
 use Rattle.meta_store.proofs.FilesAfter.{stood, fits, file-after}

@@ -1,5 +1,5 @@
 use Rattle.std.proofs.Common.{refl, ap}
-use Rattle.meta_store.specs.declared.file_parts.Others.{Others}
+use Rattle.snapshot_text.specs.declared.file_parts.Others.{Others}
 use Rattle.meta_store.specs.Records.{without_file, key_on}
 use Rattle.meta_store.proofs.HeldCatalogs.{there, lawful, after, drop-held}
 use Rattle.meta_store.proofs.KeptCatalogs.{IsCatalog-without_file}

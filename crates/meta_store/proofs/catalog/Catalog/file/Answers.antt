@@ -1,7 +1,8 @@
 use Rattle.std.proofs.Common.{◌-◌, refl, sym, arith}
 use Rattle.std.proofs.lemmas.Option.{slice_get-map}
 use Rattle.std.proofs.lemmas.List.{get_or_read}
-use Rattle.meta_store.specs.InMemory.{no_parts, file_held}
+use Rattle.snapshot_text.specs.Parts.{no_parts}
+use Rattle.meta_store.specs.InMemory.{file_held}
 use Rattle.meta_store.proofs.HeldCatalogs.{slot-within}
 use Rattle.meta_store.proofs.catalog.Catalog.file.Goals as goal
 

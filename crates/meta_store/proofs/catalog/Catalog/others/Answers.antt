@@ -1,5 +1,5 @@
 use Rattle.std.proofs.Common.{◌≡◌, ℕ, rules, refl, arith}
-use Rattle.meta_store.specs.declared.file_parts.Others.{Others}
+use Rattle.snapshot_text.specs.declared.file_parts.Others.{Others}
 use Rattle.meta_store.proofs.HeldCatalogs.{IsLeft, live-at, key-at, some-at, left}
 use Rattle.meta_store.specs.Records.{key_on}
 use Rattle.meta_store.proofs.catalog.Catalog.others.Goals.{After-unwrap-parts}

@@ -1,7 +1,7 @@
 use Rattle.std.proofs.Common.{◌-◌, refl, arith, length-set}
-use Rattle.meta_store.specs.Catalogs.{CatalogFile}
+use Rattle.snapshot_text.specs.Files.{CatalogFile}
 use Rattle.meta_store.specs.Records.{with_put}
-use Rattle.meta_store.specs.InMemory.{file_of}
+use Rattle.snapshot_text.specs.Parts.{file_of}
 use Rattle.meta_store.proofs.FileEdits.{count_of, stubs_of, mapped_of, used-sum, sum-put}
 use Rattle.meta_store.proofs.KeptCatalogs.{IsCatalog-with_put}
 use Rattle.meta_store.proofs.HeldCatalogs.{lawful, counts, bounded, after, put-held}

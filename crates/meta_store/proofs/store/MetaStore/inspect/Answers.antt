@@ -1,7 +1,7 @@
 use Rattle.std.proofs.Common.{◌∙◌, ap, arith}
 use Rattle.std.specs.Prelude.{Err}
 use Rattle.disk_model.proofs.Steps.{sames_on}
-use Rattle.meta_store.specs.declared.snapshot.ReadRefusal.{ReadRefusal}
+use Rattle.snapshot_text.specs.declared.snapshot.ReadRefusal.{ReadRefusal}
 use Rattle.meta_store.proofs.OpenedImages.{err_on, place_is, gate_fits, snapshot_corrupt, gate_corrupt, image_found}
 use Rattle.meta_store.proofs.store.MetaStore.inspect.Goals as goal
 

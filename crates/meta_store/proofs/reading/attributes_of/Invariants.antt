@@ -1,7 +1,0 @@
-use Rattle.std.proofs.Common.{◌≡◌, ◌-◌}
-use Rattle.meta_store.specs.Reading.{several, attribute_at}
-use Rattle.meta_store.proofs.ReadValues.{with_front}
-use Rattle.meta_store.proofs.reading.attributes_of.Given as goal
-
-abbrev pub invariant-loop : goal.invariant-loop
-invariant-loop l = with_front l.attributes.items (several attribute_at (l.count - l.counter) l.rest) ≡ several attribute_at l.count l.bytes

@@ -1,0 +1,14 @@
+pub mod EachOf
+pub mod ReadValues
+pub mod Readers
+pub mod ReadSnapshots
+pub mod KeptBounds
+pub mod KeptAttributes
+pub mod LawfulStubs
+pub mod BlockUses
+pub mod SpreadPlaces
+pub mod MappedPlaces
+pub mod StubLists
+pub mod ClearedPlaces
+pub mod WrittenParts
+pub mod ReadParts

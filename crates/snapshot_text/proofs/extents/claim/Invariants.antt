@@ -1,0 +1,10 @@
+use Rattle.std.proofs.Common.{◌≡◌, drop}
+use Rattle.plain_model.specs.Blocks.{with_mapped}
+use Rattle.snapshot_text.specs.FileValidity.{are_free, places_of}
+use Rattle.snapshot_text.proofs.extents.claim.Given as goal
+
+abbrev pub invariant-loop-extent : goal.invariant-loop-extent
+invariant-loop-extent l = record {
+  free : are_free (places_of l.extents) l.fn.flags ≡ are_free (places_of (drop l.extent-index l.extents)) l.flags;
+  mapped : with_mapped (places_of l.extents) l.fn.flags ≡ with_mapped (places_of (drop l.extent-index l.extents)) l.flags;
+}
