@@ -7,7 +7,8 @@ use Rattle.hsm_types.specs.Keyed.{same_key, find_key}
 use Rattle.hsm_types.specs.Listing.{Listed}
 use Rattle.inode_table.specs.declared.entries.FileEntry.{FileEntry}
 use Rattle.inode_table.specs.Listing.{listing, key_at, Ascend}
-use Rattle.inode_table.specs.Places.{Cuts}
+use Rattle.inode_table.specs.Places.{Cuts, StandsAt}
+use Rattle.inode_table.proofs.Standing.{other_inode}
 
 -- ---- from the place of an inode
 
@@ -76,3 +77,26 @@ key_at-found ino key (x ∷ ls) is =
           let later = key_at-found ino key ls is in
           (later.0, cond_both (same_key x.key key) (Some x) (find_key (λ l. l.key) key ls) Q (λ same. refl) (λ apart. later.1))
     ] refl is
+
+-- a key that is there
+pub there : (o : Option FileKey) → IsSome o → (k : FileKey) × (o ≡ Some k)
+there o some = grind arith
+
+-- the file with that inode stands before which the inode does
+pub keyed-stands : (n ino i : ℕ) (key : FileKey) (es : List FileEntry) → Ascend n (listing es) → Cuts ino i es → key_at ino (listing es) ≡ Some key → (i < length es) × StandsAt key i es
+keyed-stands n ino zero key [] a c is = cc
+keyed-stands n ino (suc i) key [] a c is = absurd c
+keyed-stands n ino zero key (f ∷ es) a c is =
+    let from = ltb-false f.key.ino ino c in
+    let here : same_key f.key key ≡ true = elim (eqb f.key.ino ino) as (λ b. cond b (Some f.key) (key_at ino (listing es)) ≡ Some key → same_key f.key key ≡ true) [
+      | true ↦ λ it. let one : f.key ≡ key = cc in subst (λ (k : FileKey). same_key f.key k ≡ true) one (same_itself f.key)
+      | false ↦ λ later. let none = none-below (f.key.ino + 1) ino (listing es) a.1 (omega arith) in cc
+    ] is in
+    (omega arith, here)
+keyed-stands n ino (suc i) key (f ∷ es) a c is =
+    let below = ltb-true f.key.ino ino c.0 in
+    let other : eqb f.key.ino ino ≡ false = ne_eqb f.key.ino ino (λ e. absurd (omega arith)) in
+    let later = rw other at is in
+    let at = (key_at-found ino key (listing es) later).0 in
+    let rest = keyed-stands (f.key.ino + 1) ino i key es a.1 c.1 later in
+    (omega (arith, rest.0), (other_inode f.key key (λ e. absurd (omega (arith, at))), rest.1))

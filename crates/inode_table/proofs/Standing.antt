@@ -35,7 +35,7 @@ stands-changed k (suc i) d to (f ∷ es) s = let other = s.0 in rw other (ap (λ
 
 -- ---- from the place of an inode
 
-other_inode : (j k : FileKey) → (j.ino ≡ k.ino → ⊥) → same_key j k ≡ false
+pub other_inode : (j k : FileKey) → (j.ino ≡ k.ino → ⊥) → same_key j k ≡ false
 other_inode j k ne = and_left (eqb j.ino k.ino) (eqb j.igen k.igen) (ne_eqb j.ino k.ino ne)
 
 pub cuts-stands : (k : FileKey) (i : ℕ) (d : FileEntry) (es : List FileEntry) → Cuts k.ino i es → i < length es → same_key (get_or es i d).key k ≡ true → StandsAt k i es

@@ -1,7 +1,8 @@
 //! The files of a table, an entry for each, in the order of their inodes.
-ghost use Rattle.std.specs.Prelude.{◌≡◌, ◌+◌, ◌^◌, ◌<◌, ◌≤◌, None, false, IsSome, IfSome, MatchOption, length, insert, vec_len, vec_capacity};
+ghost use Rattle.std.specs.Prelude.{◌≡◌, ◌+◌, ◌^◌, ◌<◌, ◌≤◌, None, Some, false, IsSome, IfSome, MatchOption, length, insert, vec_len, vec_capacity};
 ghost use Rattle.std.specs.Option.{option_map};
 ghost use Rattle.hsm_types.specs.Keyed.{find_key, change_key, put_key, drop_key};
+ghost use Rattle.hsm_types.specs.declared.keys.FileKey.{FileKey};
 ghost use Rattle.hsm_types.specs.Listing.{free_inode};
 ghost use Rattle.inode_table.specs.Listing.{listing, key_at, has_inode, Ascend};
 ghost use Rattle.inode_table.specs.Places.{Cuts, StandsAt};
@@ -112,5 +113,15 @@ pub fn set_size(entries: &mut Vec<FileEntry>, key: FileKey, size: u64)
     ensures { entries.new.items ≡ change_key (λ f. f.key) key (λ f. record f { size = size }) entries.old.items }
 {
     let place = place_of(entries.as_slice(), key).unwrap();
+    entries[place].size = size;
+}
+
+/// Sets the size of the file with that inode. It costs a binary search.
+pub fn set_size_at(entries: &mut Vec<FileEntry>, ino: u64, size: u64)
+    requires order { Ascend 1 (listing entries.old.items) }
+    requires live { IsSome (key_at ino (listing entries.old.items)) }
+    ensures { (key : FileKey) → key_at ino (listing entries.old.items) ≡ Some key → entries.new.items ≡ change_key (λ f. f.key) key (λ f. record f { size = size }) entries.old.items }
+{
+    let place = place_for(entries.as_slice(), ino);
     entries[place].size = size;
 }

@@ -1,8 +1,9 @@
 //! The table of a store's files.
-ghost use Rattle.std.specs.Prelude.{◌≡◌, ◌↔◌, ◌+◌, ◌^◌, ◌<◌, ◌≤◌, [], length, None, Err, false, IsSome, IfNone, IfOk, OnOk, OnErr, slice_get};
+ghost use Rattle.std.specs.Prelude.{◌≡◌, ◌↔◌, ◌+◌, ◌^◌, ◌<◌, ◌≤◌, [], length, None, Some, Err, false, IsSome, IfNone, IfOk, OnOk, OnErr, slice_get};
 ghost use Rattle.std.specs.Option.{option_map};
 ghost use Rattle.hsm_types.specs.Limits.{last_generation};
 ghost use Rattle.hsm_types.specs.Keyed.{find_key, change_key, drop_key};
+ghost use Rattle.hsm_types.specs.declared.keys.FileKey.{FileKey};
 ghost use Rattle.hsm_types.specs.Listing.{named};
 ghost use Rattle.inode_table.specs.declared.table.TableRefusal.TheVariants.{Exists, NoInodes};
 ghost use Rattle.inode_table.specs.Listing.{listing, key_named, key_at, has_inode};
@@ -194,5 +195,13 @@ impl InodeTable {
         ensures { self.new ≡ record self.old { files = change_key (λ f. f.key) key (λ f. record f { size = size }) self.old.files } }
     {
         entries::set_size(&mut self.entries, key, size);
+    }
+
+    /// Sets the size of the file with that inode. It costs a binary search.
+    pub fn set_size_at(&mut self, ino: u64, size: u64)
+        requires { IsSome (key_at ino (listing self.old.files)) }
+        ensures { (key : FileKey) → key_at ino (listing self.old.files) ≡ Some key → self.new ≡ record self.old { files = change_key (λ f. f.key) key (λ f. record f { size = size }) self.old.files } }
+    {
+        entries::set_size_at(&mut self.entries, ino, size);
     }
 }
