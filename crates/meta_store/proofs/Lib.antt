@@ -28,3 +28,5 @@ pub mod ClearedPlaces
 pub mod StubsAfter
 pub mod PassingFiles
 pub mod TakenFiles
+pub mod BatchedRecords
+pub mod JudgedBatches

@@ -1,10 +1,15 @@
 -- Laws on snapshots and on what recovery finds on an image.
-use Rattle.std.specs.Prelude.{◌≡◌, ℕ, ◌≤◌, List, [], length}
+use Rattle.std.specs.Prelude.{◌≡◌, ◌↔◌, ℕ, ◌≤◌, List, [], length}
 use Rattle.commit_slots.specs.Images.{IsEmptyStore}
 use Rattle.commit_slots.specs.Places.{layout_of}
 use Rattle.meta_store.specs.Catalogs.{Catalog, IsCatalog}
+use Rattle.hsm_types.specs.Limits.{last_number}
+use Rattle.meta_store.specs.Batches.{CanFollow, IsLawful, AreTogether, AreChangedLawful, after_batch}
+use Rattle.meta_store.specs.declared.records.Record.{Record}
+use Rattle.meta_store.specs.Records.{CanStandAll}
+use Rattle.meta_store.specs.Meta.{Meta, IsMeta, IsTaken}
 use Rattle.meta_store.specs.Images.{IsImage}
-use Rattle.meta_store.specs.Snapshots.{spelling, snapshot_of}
+use Rattle.meta_store.specs.Snapshots.{Snapshot, spelling, snapshot_of}
 
 -- the catalog of a new store of this geometry
 abbrev pub no_files : ℕ → Catalog
@@ -21,3 +26,14 @@ FormattedHasNoFiles geometry fsid image = IsEmptyStore geometry fsid image → I
 -- a catalog's snapshot is no longer than its area
 abbrev pub FitsItsArea : ℕ → Catalog → Type 0
 FitsItsArea number c = IsCatalog c → length (spelling (snapshot_of number c)) ≤ (layout_of c.geometry).snapshot_len
+
+-- The records that `apply` takes are a batch, of any number from that of the store on, and after it a snapshot says what `apply` made of the files.
+abbrev pub IsTakenAsBatch : Meta → Meta → List Record → ℕ → ℕ → Type 0
+IsTakenAsBatch old new rs number later = CanStandAll rs old.current → IsTaken rs old new → IsMeta new → number ≤ later → later ≤ last_number
+    → CanFollow old.current.geometry (snapshot_of number old.current) later rs × (after_batch later rs (snapshot_of number old.current) ≡ snapshot_of later new.current)
+
+-- Behind a lawful store a batch leaves a lawful one exactly where each file that its records are about is lawful, and what is asked of all files together holds. So
+-- no other file is judged again.
+abbrev pub IsJudgedByChanges : ℕ → Snapshot → ℕ → List Record → Type 0
+IsJudgedByChanges geometry s number rs = IsLawful geometry s
+    → IsLawful geometry (after_batch number rs s) ↔ (AreTogether geometry (after_batch number rs s) × AreChangedLawful geometry rs (after_batch number rs s).files)

@@ -7,4 +7,5 @@ pub mod Refusals
 pub mod Meta
 pub mod InMemory
 pub mod Validity
+pub mod Batches
 pub mod Laws

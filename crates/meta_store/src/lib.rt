@@ -1,6 +1,7 @@
 //! What a store keeps of its files beside their bytes, in memory and in the snapshots of its disk.
 #![tactic(auto)]
 
+mod batches;
 mod catalog;
 mod extents;
 mod fields;
@@ -21,6 +22,7 @@ mod store;
 mod validity;
 mod writing;
 
+pub use batches::{judged_by_changes, taken_as_batch};
 pub use catalog::Catalog;
 pub use file_parts::FileParts;
 pub use file_places::{count_present, segment_places};
