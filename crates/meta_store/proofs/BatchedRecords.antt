@@ -1,11 +1,12 @@
 -- What records make of a snapshot's files is what they make of the files of its catalog, where they can stand there.
-use Rattle.std.proofs.Common.{◌≡◌, ℕ, zero, suc, ◌+◌, ◌-◌, ◌*◌, ◌<◌, ◌≤◌, List, [], ◌∷◌, ◌++◌, length, map, take, drop, set, Bool, true, false, not, ◌&&◌, Option, Some, None, refl, sym, ◌∙◌, ap, subst, arith, length-set}
-use Rattle.std.specs.Prelude.{filter, replicate, min, max, nat_lt, nat_le, if◌then◌else◌, ◌==◌}
+use Rattle.std.proofs.Common.{◌≡◌, ℕ, zero, suc, ◌+◌, ◌-◌, ◌*◌, ◌<◌, ◌≤◌, List, [], ◌∷◌, ◌++◌, length, map, take, set, Bool, true, false, not, ◌&&◌, Option}
+use Rattle.std.proofs.Common.{Some, None, refl, sym, ◌∙◌, ap, subst, arith, length-set}
+use Rattle.std.specs.Prelude.{filter, replicate, nat_lt, nat_le, if◌then◌else◌}
 use Rattle.std.specs.Option.{unwrap_or}
 use Rattle.hsm_types.specs.Limits.{segment_blocks}
 use Rattle.hsm_types.specs.declared.keys.FileKey.{FileKey}
 use Rattle.hsm_types.specs.Kept.{nothing_kept}
-use Rattle.hsm_types.specs.Keyed.{same_key, find_key, change_key, put_key, drop_key}
+use Rattle.hsm_types.specs.Keyed.{same_key, find_key, change_key, drop_key}
 use Rattle.plain_model.specs.Plain.{Listed, named}
 use Rattle.plain_model.specs.Blocks.{blocks_in}
 use Rattle.inode_table.specs.Listing.{key_at, has_inode}
@@ -13,11 +14,13 @@ use Rattle.meta_store.specs.declared.snapshot.Mapping.{Mapping}
 use Rattle.meta_store.specs.declared.records.Record.{Record}
 use Rattle.meta_store.specs.declared.records.Record.TheVariants.{Make, Drop, Size, Map, Regions, SetAttr, DropAttr, Stub}
 use Rattle.meta_store.specs.Catalogs.{CatalogFile, Catalog, names_of}
-use Rattle.meta_store.specs.Records.{places_fitted, places_set, mappings_from, places_without, file_after, inode_of, key_on, after, after_all, CanStandOn, CanStand, CanStandAll}
+use Rattle.meta_store.specs.Records.{places_fitted, places_set, mappings_from, places_without, file_after, inode_of, key_on, after, after_all, CanStandOn}
+use Rattle.meta_store.specs.Records.{CanStand, CanStandAll}
 use Rattle.meta_store.specs.Snapshots.{SnapshotFile, Snapshot, extents_from, snapshot_file, snapshot_of}
 use Rattle.meta_store.specs.Validity.{names_in}
-use Rattle.meta_store.specs.Batches.{with_extent, with_extents, extents_below, extents_without, file_changed, empty_file, key_in, changed, changed_all, HasFile, HaveFiles, after_batch, CanFollow}
-use Rattle.meta_store.specs.Meta.{Meta, IsMeta, IsTaken}
+use Rattle.meta_store.specs.Batches.{with_extent, with_extents, extents_below, extents_without, file_changed, key_in, changed, changed_all, HasFile}
+use Rattle.meta_store.specs.Batches.{HaveFiles, after_batch}
+use Rattle.meta_store.specs.Meta.{Meta}
 use Rattle.meta_store.specs.Laws.{IsTakenAsBatch}
 use Rattle.meta_store.proofs.FileEdits.{name_of, map-put, map-drop}
 use Rattle.meta_store.proofs.ClearedPlaces.{cleared, without-cleared}
@@ -205,7 +208,7 @@ pub taken_as_batch : (old new : Meta) (rs : List Record) (number later : ℕ) �
 taken_as_batch old new rs number later can taken is le few =
     let all = stand_same rs number old.current can in
     let end : after_batch later rs (snapshot_of number old.current) ≡ snapshot_of later new.current =
-        ap (λ (s : Snapshot). record s { number = later }) all.1 ∙ renumbered number later (after_all rs old.current) ∙ ap (snapshot_of later) (sym taken.current) in (
+    ap (λ (s : Snapshot). record s { number = later }) all.1 ∙ renumbered number later (after_all rs old.current) ∙ ap (snapshot_of later) (sym taken.current) in (
       record {
         rises = rw (number_is number old.current) le;
         bound = few;

@@ -1,13 +1,12 @@
 -- A batch is judged by the files that its records are about, and by what is asked of all files together.
-use Rattle.std.proofs.Common.{◌≡◌, ◌↔◌, ℕ, ◌+◌, ◌≤◌, List, [], ◌∷◌, length, map, Bool, true, false, Some, None, refl, sym, ◌∙◌, ap, subst, arith}
+use Rattle.std.proofs.Common.{◌≡◌, ℕ, ◌+◌, ◌≤◌, List, [], ◌∷◌, length, map, Bool, true, false, Some, None, refl, sym, ◌∙◌, ap, subst, arith}
 use Rattle.std.specs.Prelude.{◌==◌}
-use Rattle.std.specs.List.{list_any, AllByRecursion}
+use Rattle.std.specs.List.{AllByRecursion}
 use Rattle.std.proofs.lemmas.Bool.{cond_both}
 use Rattle.std.proofs.lemmas.List.Sums.{sum_by-cons}
 use Rattle.hsm_types.specs.declared.keys.FileKey.{FileKey}
 use Rattle.hsm_types.specs.Attributes.{bytes_of_attributes}
 use Rattle.hsm_types.specs.Keyed.{same_key, change_key, put_key, drop_key}
-use Rattle.plain_model.specs.Plain.{Listed}
 use Rattle.plain_model.specs.Distinct.{Distinct}
 use Rattle.inode_table.specs.Table.{IsTable}
 use Rattle.meta_store.specs.declared.records.Record.{Record}
@@ -16,7 +15,8 @@ use Rattle.meta_store.specs.Catalogs.{CatalogFile, Catalog, geometry_of, HasLeng
 use Rattle.meta_store.specs.Records.{inode_of}
 use Rattle.meta_store.specs.Snapshots.{SnapshotFile, Snapshot, snapshot_file, snapshot_of}
 use Rattle.meta_store.specs.Validity.{names_in, places_in, attribute_total_in, stub_total_in}
-use Rattle.meta_store.specs.Batches.{file_changed, empty_file, key_in, changed, changed_all, after_batch, IsLawful, is_about, IsLawfulFile, AreTogether, AreChangedLawful}
+use Rattle.meta_store.specs.Batches.{file_changed, empty_file, key_in, changed, changed_all, after_batch, IsLawful, is_about, IsLawfulFile, AreTogether}
+use Rattle.meta_store.specs.Batches.{AreChangedLawful}
 use Rattle.meta_store.specs.Laws.{IsJudgedByChanges}
 use Rattle.meta_store.proofs.BatchedRecords.{ino_on}
 use Rattle.meta_store.proofs.EachOf.{each-as}

@@ -30,3 +30,4 @@ pub mod PassingFiles
 pub mod TakenFiles
 pub mod BatchedRecords
 pub mod JudgedBatches
+pub mod MappedAhead

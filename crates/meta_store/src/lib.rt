@@ -22,7 +22,7 @@ mod store;
 mod validity;
 mod writing;
 
-pub use batches::{judged_by_changes, taken_as_batch};
+pub use batches::{judged_at_its_end, judged_by_changes, taken_as_batch};
 pub use catalog::Catalog;
 pub use file_parts::FileParts;
 pub use file_places::{count_present, segment_places};
