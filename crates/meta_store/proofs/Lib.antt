@@ -16,3 +16,6 @@ pub mod StandOnce
 pub mod StubsAfter
 pub mod PassingFiles
 pub mod TakenFiles
+pub mod BatchedRecords
+pub mod JudgedBatches
+pub mod MappedAhead

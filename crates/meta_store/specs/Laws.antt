@@ -1,10 +1,18 @@
 -- Laws on snapshots and on what recovery finds on an image.
-use Rattle.std.specs.Prelude.{◌≡◌, ℕ, ◌≤◌, List, [], length}
+use Rattle.std.specs.Prelude.{◌≡◌, ◌↔◌, ℕ, ◌≤◌, List, [], ◌∷◌, length, Option, Some}
+use Rattle.std.specs.Global.{Vec}
+use Rattle.hsm_types.specs.Kept.{nothing_kept}
 use Rattle.commit_slots.specs.Images.{IsEmptyStore}
 use Rattle.commit_slots.specs.Places.{layout_of}
 use Rattle.meta_store.specs.Catalogs.{Catalog, IsCatalog}
+use Rattle.hsm_types.specs.Limits.{last_number}
+use Rattle.meta_store.specs.Batches.{CanFollow, IsLawful, AreTogether, AreChangedLawful, after_batch}
+use Rattle.meta_store.specs.declared.records.Record.{Record}
+use Rattle.meta_store.specs.declared.records.Record.TheVariants.{Size, Map}
+use Rattle.meta_store.specs.Records.{CanStandAll}
+use Rattle.meta_store.specs.Meta.{Meta, IsMeta, IsTaken}
 use Rattle.meta_store.specs.Images.{IsImage}
-use Rattle.snapshot_text.specs.Snapshots.{spelling}
+use Rattle.snapshot_text.specs.Snapshots.{Snapshot, spelling}
 use Rattle.meta_store.specs.Snapshots.{snapshot_of}
 
 -- the catalog of a new store of this geometry
@@ -22,3 +30,26 @@ FormattedHasNoFiles geometry fsid image = IsEmptyStore geometry fsid image → I
 -- a catalog's snapshot is no longer than its area
 abbrev pub FitsItsArea : ℕ → Catalog → Type 0
 FitsItsArea number c = IsCatalog c → length (spelling (snapshot_of number c)) ≤ (layout_of c.geometry).snapshot_len
+
+-- The records that `apply` takes are a batch, of any number from that of the store on, and after it a snapshot says what `apply` made of the files.
+abbrev pub IsTakenAsBatch : Meta → Meta → List Record → ℕ → ℕ → Type 0
+IsTakenAsBatch old new rs number later = CanStandAll rs old.current → IsTaken rs old new → IsMeta new → number ≤ later → later ≤ last_number
+    → CanFollow old.current.geometry (snapshot_of number old.current) later rs × (after_batch later rs (snapshot_of number old.current) ≡ snapshot_of later new.current)
+
+-- Behind a lawful store a batch leaves a lawful one exactly where each file that its records are about is lawful, and what is asked of all files together
+-- holds. So no other file is judged again.
+abbrev pub IsJudgedByChanges : ℕ → Snapshot → ℕ → List Record → Type 0
+IsJudgedByChanges geometry s number rs = IsLawful geometry s
+    → IsLawful geometry (after_batch number rs s) ↔ (AreTogether geometry (after_batch number rs s) × AreChangedLawful geometry rs (after_batch number rs s).files)
+
+-- a small store with one file, `a`, of that size, whose blocks lie there
+abbrev pub one_file : ℕ → List (Option ℕ) → Catalog
+one_file size places = record { geometry = 0; next = 2; files = (record { key = record { ino = 1; igen = 1 }; name = 97 ∷ []; size = size; places = places; kept = nothing_kept }) ∷ [] }
+
+-- An empty file gets the disk's block 7 before the size that makes room for it. These two records are a batch, and the first alone is none: no snapshot could
+-- say what stands behind it.
+abbrev pub IsJudgedAtItsEnd : Vec ℕ → Type 0
+IsJudgedAtItsEnd places = places.items ≡ 7 ∷ []
+    → CanFollow 0 (snapshot_of 3 (one_file 0 [])) 4 (Map 1 0 places ∷ Size 1 4096 ∷ [])
+    × (after_batch 4 (Map 1 0 places ∷ Size 1 4096 ∷ []) (snapshot_of 3 (one_file 0 [])) ≡ snapshot_of 4 (one_file 4096 (Some 7 ∷ [])))
+    × (CanFollow 0 (snapshot_of 3 (one_file 0 [])) 4 (Map 1 0 places ∷ []) → ⊥)

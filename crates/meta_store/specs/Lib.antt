@@ -5,4 +5,5 @@ pub mod Records
 pub mod Meta
 pub mod InMemory
 pub mod Validity
+pub mod Batches
 pub mod Laws

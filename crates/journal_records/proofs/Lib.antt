@@ -1,0 +1,5 @@
+pub mod Readers
+pub mod ReadValues
+pub mod RecordReaders
+pub mod StandingRecords
+pub mod WrittenTexts
