@@ -58,8 +58,8 @@ pub use Rattle.snapshot_text.specs.FileRecords.{places_fitted, places_set, file_
 pub use Rattle.meta_store.specs.Records.{with_changed, kept_at, others_total, key_on, IsNewFile, after}
 pub use Rattle.meta_store.specs.Records.{CanStand, after_all, refusal_of_all, IsMappable, CanStandAll, IsEvent, refusal_of}
 pub use Rattle.snapshot_text.specs.FileRecords.{mappings_from, IsSure}
-pub use Rattle.snapshot_text.specs.declared.records.Record.{Record}
-pub use Rattle.snapshot_text.specs.declared.records.Record.TheVariants.{Make, Drop, Size, Map, Stub}
+pub use Rattle.journal_records.specs.declared.records.Record.{Record}
+pub use Rattle.journal_records.specs.declared.records.Record.TheVariants.{Make, Drop, Size, Map, Stub}
 pub use Rattle.snapshot_text.specs.declared.snapshot.Mapping.{Mapping}
 pub use Rattle.plain_model.specs.Blocks.{blocks_in, old_end, touched, size_after, from_on, met, with_mapped, fitted, mapped_after}
 pub use Rattle.plain_model.specs.Distinct.{Distinct}

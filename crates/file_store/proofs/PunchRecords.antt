@@ -17,8 +17,8 @@ use Rattle.snapshot_text.specs.Files.{CatalogFile, HasLengths}
 use Rattle.meta_store.specs.Catalogs.{Catalog, AreLengths}
 use Rattle.snapshot_text.specs.FileRecords.{file_after, IsSure}
 use Rattle.meta_store.specs.Records.{with_changed, key_on, after, after_all, refusal_of_all, refusal_of, CanStandAll, CanStand, IsEvent}
-use Rattle.snapshot_text.specs.declared.records.Record.{Record}
-use Rattle.snapshot_text.specs.declared.records.Record.TheVariants.{Stub}
+use Rattle.journal_records.specs.declared.records.Record.{Record}
+use Rattle.journal_records.specs.declared.records.Record.TheVariants.{Stub}
 use Rattle.snapshot_text.proofs.ClearedPlaces.{without-cleared, cleared-nothing}
 use Rattle.meta_store.proofs.FileEdits.{each-changed}
 use Rattle.snapshot_text.proofs.StubLists.{punched-with}

@@ -7,8 +7,8 @@ use Rattle.hsm_types.specs.Stubs.{Stubs, stub_at, not_punched, any_unpunched}
 use Rattle.hsm_types.specs.declared.dm.DmRefusal.{DmRefusal}
 use Rattle.hsm_types.specs.declared.regions.Region.{Region}
 use Rattle.hsm_types.specs.declared.stubs.Stub.{Stub as StubOf}
-use Rattle.snapshot_text.specs.declared.records.Record.{Record}
-use Rattle.snapshot_text.specs.declared.records.Record.TheVariants.{Stub}
+use Rattle.journal_records.specs.declared.records.Record.{Record}
+use Rattle.journal_records.specs.declared.records.Record.TheVariants.{Stub}
 use Rattle.std.specs.Prelude.{Result, Ok, Err}
 use Rattle.std.specs.Result.{IsErrAnd, IsErrOf}
 use Rattle.file_store.specs.Refusals.{refused_part}

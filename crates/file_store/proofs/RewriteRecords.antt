@@ -121,7 +121,7 @@ mapped_by ms f = record f { places = places_set ms f.places }
 after-maps : (ino : ℕ) (maps : List Record) (c : Catalog) → AllByRecursion (IsMapOn ino) maps → after_all maps c ≡ with_changed (key_on ino c) (mapped_by (flat_map mappings_in maps)) c
 after-maps ino [] c each = sym (changed-none (key_on ino c) c)
 after-maps ino (Map i block places ∷ maps) c each =
-    let ms : List Mapping = mappings_from block places.items in
+    let ms : List Mapping = mappings_from block places in
     let rest : List Mapping = flat_map mappings_in maps in
     let next : Catalog = with_changed (key_on ino c) (mapped_by ms) c in
     ap (λ (j : ℕ). after_all maps (with_changed (key_on j c) (mapped_by ms) c)) each.0.0
@@ -286,18 +286,18 @@ maps-stand : (ino n total : ℕ) (k : FileKey) (maps : List Record) (c : Catalog
     → Fit f.kept.stubs n total (flat_map mappings_in maps) → Once (places_of (flat_map mappings_in maps)) (blocks_of c.files) → CanStandAll maps c
 maps-stand ino n total k [] c f found on long blocks each fit once = tt
 maps-stand ino n total k (Map i block places ∷ maps) c f found on long blocks each fit once =
-    let ms : List Mapping = mappings_from block places.items in
+    let ms : List Mapping = mappings_from block places in
     let rest : List Mapping = flat_map mappings_in maps in
     let sides = each-parts (IsFit f.kept.stubs n total) ms rest fit in
     let here : key_on i c ≡ k = ap (λ j. key_on j c) each.0.0 ∙ on in
-    let all : (m : ℕ) → uses m places.items + uses m (places_of rest) + uses m (blocks_of c.files) ≤ 1 =
+    let all : (m : ℕ) → uses m places + uses m (places_of rest) + uses m (blocks_of c.files) ≤ 1 =
     λ m. grind (arith, uses, map-append, uses-append, places-run, places) in
     let next : Catalog = with_changed k (mapped_by ms) c in
-    let first : IsMappable block places.items f c = mappable n total block places.items f c long blocks each.0.1 sides.0 (λ m. let most = all m in omega arith) in
+    let first : IsMappable block places f c = mappable n total block places f c long blocks each.0.1 sides.0 (λ m. let most = all m in omega arith) in
     let last : CanStandAll maps next =
     maps-stand ino n total k maps next (mapped_by ms f) (find-changed k (mapped_by ms) f c.files (λ x. refl) found) (key_on-changed ino k (mapped_by ms) c (λ x. (refl, refl)) ∙ on) (length-places_set ms f.places ∙ long) blocks each.1 sides.1 (λ m.
     let moved = uses-changed m k (mapped_by ms) f c.files found in
-    let set_in = uses-mapped m block places.items f.places in
+    let set_in = uses-mapped m block places f.places in
     let most = all m in
     omega arith) in
     ((f, rw here found, first), rw here last)

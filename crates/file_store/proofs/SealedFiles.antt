@@ -10,8 +10,8 @@ use Rattle.snapshot_text.specs.Files.{CatalogFile, HasLengths}
 use Rattle.meta_store.specs.Catalogs.{Catalog, AreLengths}
 use Rattle.snapshot_text.specs.FileRecords.{file_after}
 use Rattle.meta_store.specs.Records.{key_on, after, CanStand}
-use Rattle.snapshot_text.specs.declared.records.Record.{Record}
-use Rattle.snapshot_text.specs.declared.records.Record.TheVariants.{Make, Drop, Size, Map, Stub}
+use Rattle.journal_records.specs.declared.records.Record.{Record}
+use Rattle.journal_records.specs.declared.records.Record.TheVariants.{Make, Drop, Size, Map, Stub}
 use Rattle.meta_store.proofs.FileEdits.{each-put, each-drop, each-change, each-changed}
 use Rattle.meta_store.proofs.KeptCatalogs.{empty_file}
 use Rattle.snapshot_text.proofs.StubLists.{stub_at-with}

@@ -7,11 +7,11 @@ use Rattle.hsm_types.specs.declared.keys.FileKey.{FileKey}
 use Rattle.hsm_types.specs.Keyed.{find_key}
 use Rattle.plain_model.specs.Effects.{Effect, Leaves, Makes, Drops, Manages, Attaches, Detaches, Seals}
 use Rattle.plain_model.specs.State.{Held, affected_held}
-use Rattle.snapshot_text.specs.declared.records.Record.{Record}
-use Rattle.snapshot_text.specs.declared.records.Record.TheVariants.{Make, Drop, Size, Map, Regions, SetAttr, DropAttr, Stub}
+use Rattle.journal_records.specs.declared.records.Record.{Record}
+use Rattle.journal_records.specs.declared.records.Record.TheVariants.{Make, Drop, Size, Map, Regions, SetAttr, DropAttr, Stub}
 use Rattle.snapshot_text.specs.Files.{CatalogFile, present}
 use Rattle.meta_store.specs.Catalogs.{Catalog}
-use Rattle.snapshot_text.specs.FileRecords.{inode_of}
+use Rattle.journal_records.specs.Texts.{inode_of}
 use Rattle.meta_store.specs.Records.{key_on}
 
 -- The segment is sealed whose bytes are here, by an entry of its length.

@@ -4,8 +4,8 @@ use Rattle.std.specs.Option.{option_map}
 use Rattle.hsm_types.specs.Limits.{segment_blocks}
 use Rattle.hsm_types.specs.Stubs.{Stubs, stub_at}
 use Rattle.hsm_types.specs.declared.stubs.Stub.{Stub as StubOf}
-use Rattle.snapshot_text.specs.declared.records.Record.{Record}
-use Rattle.snapshot_text.specs.declared.records.Record.TheVariants.{Stub}
+use Rattle.journal_records.specs.declared.records.Record.{Record}
+use Rattle.journal_records.specs.declared.records.Record.TheVariants.{Stub}
 
 -- the entry stands for bytes that are away
 abbrev pub away_by : Option StubOf → Option StubOf

@@ -14,8 +14,8 @@ use Rattle.plain_model.specs.State.{rekept}
 use Rattle.block_space.specs.Space.{Space, free}
 use Rattle.file_body.specs.HeldBodies.{HeldBody, is_away, AreHere, AreZeros}
 use Rattle.snapshot_text.specs.declared.snapshot.Mapping.{Mapping}
-use Rattle.snapshot_text.specs.declared.records.Record.{Record}
-use Rattle.snapshot_text.specs.declared.records.Record.TheVariants.{Size, Map, Stub}
+use Rattle.journal_records.specs.declared.records.Record.{Record}
+use Rattle.journal_records.specs.declared.records.Record.TheVariants.{Size, Map, Stub}
 use Rattle.snapshot_text.specs.Files.{CatalogFile, present}
 use Rattle.snapshot_text.specs.FileRecords.{places_fitted, places_set, mappings_from}
 use Rattle.file_store.specs.declared.rewrites.Rewrite.{Rewrite}
@@ -120,12 +120,12 @@ mappings_of (b ∷ bs) (p ∷ ps) = (record { block = b; place = p }) ∷ mappin
 
 -- the places that a record gives
 abbrev pub mappings_in : Record → List Mapping
-mappings_in (Map ino block places) = mappings_from block places.items
+mappings_in (Map ino block places) = mappings_from block places
 mappings_in r = []
 
 -- it gives some
 abbrev pub IsMapOn : ℕ → Record → Type 0
-IsMapOn ino (Map i block places) = (i ≡ ino) × (1 ≤ length places.items)
+IsMapOn ino (Map i block places) = (i ≡ ino) × (1 ≤ length places)
 IsMapOn ino r = ⊥
 
 -- the segment has no entry

@@ -10,7 +10,7 @@ use Rattle.hsm_types.specs.declared.keys.FileKey.{FileKey}
 use Rattle.hsm_types.specs.Keyed.{find_key}
 use Rattle.plain_model.specs.Plain.{rebody}
 use Rattle.block_space.specs.Space.{Space}
-use Rattle.snapshot_text.specs.declared.records.Record.{Record}
+use Rattle.journal_records.specs.declared.records.Record.{Record}
 use Rattle.snapshot_text.specs.Files.{CatalogFile}
 use Rattle.meta_store.specs.Catalogs.{Catalog}
 use Rattle.snapshot_text.specs.declared.snapshot.Mapping.{Mapping}

@@ -29,7 +29,7 @@ use hsm_types::{
     AttrName, Bytes, FileKey, LAST_GENERATION, Regions, Stub, StubEntry, Verified, Word,
     segments_in,
 };
-use snapshot_text::Record;
+use journal_records::Record;
 use std::alloc::Global;
 
 impl<D: Disk> FileStore<D> {

@@ -35,8 +35,9 @@ use commit_slots::Layout;
 use disk_model::Disk;
 use file_body::Body;
 use hsm_types::{FileKey, LAST_NUMBER};
+use journal_records::Record;
 use meta_store::Catalog;
-use snapshot_text::{MetaRefusal, Record};
+use snapshot_text::MetaRefusal;
 use std::alloc::{AllocError, Global};
 use std::snapshot::Snapshot;
 

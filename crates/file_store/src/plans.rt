@@ -14,8 +14,8 @@ use crate::rewrites::Rewrite;
 use crate::spaces::put_present;
 use file_body::{BlockRun, Body, TouchedBlocks, blocks_in};
 use hsm_types::FileKey;
+use journal_records::{Places, Record, Records};
 use meta_store::Catalog;
-use snapshot_text::{Record, Records};
 use std::alloc::{AllocError, Global};
 use stub_map::StubMap;
 
@@ -147,7 +147,7 @@ fn push_map(
     if places.is_empty() {
         return Ok(());
     }
-    let places = Vec::from_slice(alloc, places)?;
+    let places = Places::from(Vec::from_slice(alloc, places)?);
     records.push(Record::Map { ino, block, places })?;
     Ok(())
 }

@@ -9,7 +9,7 @@ ghost use Rattle.file_store.specs.Rewrites.{effect_of, spares, IsRewrite, IsWith
 
 use file_body::{Body, TouchedBlocks, touched_by_restore, touched_by_truncate, touched_by_write};
 use hsm_types::{SEGMENT_BYTES, Stub};
-use snapshot_text::Record;
+use journal_records::Record;
 use std::alloc::{AllocError, Global};
 use stub_map::{State, StubMap};
 

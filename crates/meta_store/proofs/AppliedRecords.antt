@@ -2,8 +2,8 @@
 use Rattle.std.proofs.Common.{◌≡◌, Some, ◌↔◌, ◌⊎◌, ⊎_elim, Err, List, [], ◌∷◌, rules, refl, arith}
 use Rattle.std.specs.Prelude.{None, Result}
 use Rattle.std.specs.List.{AllByRecursion}
-use Rattle.snapshot_text.specs.declared.records.Record.{Record}
-use Rattle.snapshot_text.specs.declared.records.Record.TheVariants.{Map, Stub}
+use Rattle.journal_records.specs.declared.records.Record.{Record}
+use Rattle.journal_records.specs.declared.records.Record.TheVariants.{Map, Stub}
 use Rattle.meta_store.specs.Catalogs.{Catalog}
 use Rattle.meta_store.specs.Records.{after, after_all, refusal_of, refusal_of_all, CanStand, CanStandAll, IsEvent}
 use Rattle.snapshot_text.specs.FileRecords.{IsSure}

@@ -11,10 +11,11 @@ use Rattle.plain_model.specs.Plain.{Listed, named}
 use Rattle.plain_model.specs.Blocks.{blocks_in}
 use Rattle.inode_table.specs.Listing.{key_at, has_inode}
 use Rattle.meta_store.specs.declared.snapshot.Mapping.{Mapping}
-use Rattle.meta_store.specs.declared.records.Record.{Record}
-use Rattle.meta_store.specs.declared.records.Record.TheVariants.{Make, Drop, Size, Map, Regions, SetAttr, DropAttr, Stub}
+use Rattle.journal_records.specs.declared.records.Record.{Record}
+use Rattle.journal_records.specs.declared.records.Record.TheVariants.{Make, Drop, Size, Map, Regions, SetAttr, DropAttr, Stub}
 use Rattle.meta_store.specs.Catalogs.{CatalogFile, Catalog, names_of}
-use Rattle.meta_store.specs.Records.{places_fitted, places_set, mappings_from, places_without, file_after, inode_of, key_on, after, after_all, CanStandOn}
+use Rattle.journal_records.specs.Texts.{inode_of}
+use Rattle.snapshot_text.specs.FileRecords.{places_fitted, places_set, mappings_from, places_without, file_after, key_on, after, after_all, CanStandOn}
 use Rattle.meta_store.specs.Records.{CanStand, CanStandAll}
 use Rattle.meta_store.specs.Snapshots.{SnapshotFile, Snapshot, extents_from, snapshot_file, snapshot_of}
 use Rattle.meta_store.specs.Validity.{names_in}
@@ -95,7 +96,7 @@ file_same : (r : Record) (f : CatalogFile) (c : Catalog) → CanStandOn r f c �
 file_same (Make key name) f c can = refl
 file_same (Drop ino) f c can = refl
 file_same (Size ino size) f c can = ap (λ (xs : List Mapping). record (snapshot_file (file_after (Size ino size) f)) { extents = xs }) (fitted size f.places)
-file_same (Map ino block places) f c can = ap (λ (xs : List Mapping). record (snapshot_file f) { extents = xs }) (mapped places.items block f.places can.blocks)
+file_same (Map ino block places) f c can = ap (λ (xs : List Mapping). record (snapshot_file f) { extents = xs }) (mapped places block f.places can.blocks)
 file_same (Regions ino regions) f c can = refl
 file_same (SetAttr ino name value) f c can = refl
 file_same (DropAttr ino name) f c can = refl

@@ -5,11 +5,12 @@ use Rattle.hsm_types.specs.Keyed.{find_key}
 use Rattle.plain_model.specs.Blocks.{blocks_in}
 use Rattle.snapshot_text.specs.declared.file_parts.FileParts.{FileParts}
 use Rattle.snapshot_text.specs.declared.file_parts.Others.{Others}
-use Rattle.snapshot_text.specs.declared.records.Record.{Record}
-use Rattle.snapshot_text.specs.declared.records.Record.TheVariants.{Make, Drop, Size, Map, Stub}
+use Rattle.journal_records.specs.declared.records.Record.{Record}
+use Rattle.journal_records.specs.declared.records.Record.TheVariants.{Make, Drop, Size, Map, Stub}
 use Rattle.snapshot_text.specs.Files.{CatalogFile, IsCatalogFile, geometry_of, present}
 use Rattle.meta_store.specs.Catalogs.{Catalog, IsCatalog, blocks_of}
-use Rattle.snapshot_text.specs.FileRecords.{mappings_from, file_after, inode_of}
+use Rattle.journal_records.specs.Texts.{inode_of}
+use Rattle.snapshot_text.specs.FileRecords.{mappings_from, file_after}
 use Rattle.meta_store.specs.Records.{key_on, CanStandOn, CanStand, IsAboutOne}
 use Rattle.snapshot_text.specs.Parts.{parts_of, file_of, parts_after, FitsParts}
 use Rattle.snapshot_text.proofs.BlockUses.{uses, distinct-uses, each-used, used-each}
@@ -39,7 +40,7 @@ file-after r f x size is sized = grind arith
 
 sized-after : (r : Record) (f : CatalogFile) (c : Catalog) → CanStandOn r f c → f.size ≤ (geometry_of c.geometry).limits.bytes → length f.places ≡ blocks_in f.size → ((file_after r f).size ≤ (geometry_of c.geometry).limits.bytes) × (length (file_after r f).places ≡ blocks_in (file_after r f).size)
 sized-after (Size ino size) f c stands few count = (stands, length-fitted size f.places)
-sized-after (Map ino block places) f c stands few count = (few, length-places_set (mappings_from block places.items) f.places ∙ count)
+sized-after (Map ino block places) f c stands few count = (few, length-places_set (mappings_from block places) f.places ∙ count)
 sized-after (Stub ino j None) f c stands few count = (few, count)
 sized-after (Stub ino j (Some stub)) f c stands few count = (few, length-gone_if stub.offline j f.places ∙ count)
 sized-after r f c stands few count = (few, count)
@@ -47,7 +48,7 @@ sized-after r f c stands few count = (few, count)
 -- the file's blocks are some of those before, and new ones of the disk that no file used
 pub uses-after : (n : ℕ) (r : Record) (f : CatalogFile) (c : Catalog) → CanStandOn r f c → uses n (blocks_of c.files) ≤ 1 → (new : ℕ) × (uses_of n (file_after r f) ≤ new + uses_of n f) × (new + uses n (blocks_of c.files) ≤ 1) × (1 ≤ new → n < (geometry_of c.geometry).blocks)
 uses-after n (Map ino block places) f c stands once =
-    (uses n places.items, uses-mapped n block places.items f.places, grind (arith, new_or_used n places.items (blocks_of c.files) stands.unused, distinct-uses places.items stands.distinct n), each-used (λ b. b < (geometry_of c.geometry).blocks) places.items stands.within n)
+    (uses n places, uses-mapped n block places f.places, grind (arith, new_or_used n places (blocks_of c.files) stands.unused, distinct-uses places stands.distinct n), each-used (λ b. b < (geometry_of c.geometry).blocks) places stands.within n)
 uses-after n (Size ino size) f c stands once = (0, omega (arith, uses-fitted n size f.places), omega arith, λ some. absurd (omega arith))
 uses-after n (Stub ino j None) f c stands once = (0, omega arith, omega arith, λ some. absurd (omega arith))
 uses-after n (Stub ino j (Some stub)) f c stands once = (0, omega (arith, uses-gone_if n stub.offline j f.places), omega arith, λ some. absurd (omega arith))

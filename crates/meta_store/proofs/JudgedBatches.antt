@@ -9,10 +9,10 @@ use Rattle.hsm_types.specs.Attributes.{bytes_of_attributes}
 use Rattle.hsm_types.specs.Keyed.{same_key, change_key, put_key, drop_key}
 use Rattle.plain_model.specs.Distinct.{Distinct}
 use Rattle.inode_table.specs.Table.{IsTable}
-use Rattle.meta_store.specs.declared.records.Record.{Record}
-use Rattle.meta_store.specs.declared.records.Record.TheVariants.{Make, Drop, Size, Map, Regions, SetAttr, DropAttr, Stub}
+use Rattle.journal_records.specs.declared.records.Record.{Record}
+use Rattle.journal_records.specs.declared.records.Record.TheVariants.{Make, Drop, Size, Map, Regions, SetAttr, DropAttr, Stub}
 use Rattle.meta_store.specs.Catalogs.{CatalogFile, Catalog, geometry_of, HasLengths, IsCatalogFile, IsCatalog, AreLengths, attribute_total, stub_total}
-use Rattle.meta_store.specs.Records.{inode_of}
+use Rattle.journal_records.specs.Texts.{inode_of}
 use Rattle.meta_store.specs.Snapshots.{SnapshotFile, Snapshot, snapshot_file, snapshot_of}
 use Rattle.meta_store.specs.Validity.{names_in, places_in, attribute_total_in, stub_total_in}
 use Rattle.meta_store.specs.Batches.{file_changed, empty_file, key_in, changed, changed_all, after_batch, IsLawful, is_about, IsLawfulFile, AreTogether}

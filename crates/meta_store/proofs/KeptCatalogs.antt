@@ -11,7 +11,7 @@ use Rattle.inode_table.specs.Listing.{has_inode}
 use Rattle.inode_table.proofs.Orders.{ascend-put, ascend-drop, within-put, within-more, within-drop}
 use Rattle.inode_table.proofs.Names.{differ-put, differ-drop}
 use Rattle.snapshot_text.specs.declared.file_parts.Others.{Others}
-use Rattle.snapshot_text.specs.declared.records.Record.{Record}
+use Rattle.journal_records.specs.declared.records.Record.{Record}
 use Rattle.snapshot_text.specs.Files.{CatalogFile, IsCatalogFile, geometry_of, present}
 use Rattle.meta_store.specs.Catalogs.{Catalog, IsCatalog, names_of, blocks_of, attribute_total, stub_total}
 use Rattle.snapshot_text.specs.FileRecords.{file_after}

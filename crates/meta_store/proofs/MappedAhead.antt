@@ -6,7 +6,7 @@ use Rattle.std.specs.Global.{Vec}
 use Rattle.hsm_types.specs.Kept.{nothing_kept}
 use Rattle.plain_model.specs.Blocks.{blocks_in}
 use Rattle.meta_store.specs.declared.snapshot.Mapping.{Mapping}
-use Rattle.meta_store.specs.declared.records.Record.TheVariants.{Size, Map}
+use Rattle.journal_records.specs.declared.records.Record.TheVariants.{Size, Map}
 use Rattle.meta_store.specs.Catalogs.{CatalogFile, Catalog, IsLawfulKept, IsCatalogFile, IsCatalog, geometry_of}
 use Rattle.meta_store.specs.Snapshots.{SnapshotFile, Snapshot, extents_from, snapshot_file, snapshot_of}
 use Rattle.meta_store.specs.Batches.{changed, after_batch, HaveFiles, CanFollow}
@@ -37,15 +37,15 @@ one_lawful = record {
 abbrev ahead : SnapshotFile
 ahead = record { key = record { ino = 1; igen = 1 }; size = 0; name = 97 ∷ []; kept = nothing_kept; extents = (record { block = 0; place = 7 }) ∷ [] }
 
-between : (places : Vec ℕ) → places.items ≡ 7 ∷ [] → (changed (Map 1 0 places) (snapshot_of 3 (one_file 0 []))).files ≡ ahead ∷ []
+between : (places : List ℕ) → places ≡ 7 ∷ [] → (changed (Map 1 0 places) (snapshot_of 3 (one_file 0 []))).files ≡ ahead ∷ []
 unfolding snapshot_of
 between places is = rw is refl
 
-ends : (places : Vec ℕ) → places.items ≡ 7 ∷ [] → after_batch 4 (Map 1 0 places ∷ Size 1 4096 ∷ []) (snapshot_of 3 (one_file 0 [])) ≡ snapshot_of 4 (one_file 4096 (Some 7 ∷ []))
+ends : (places : List ℕ) → places ≡ 7 ∷ [] → after_batch 4 (Map 1 0 places ∷ Size 1 4096 ∷ []) (snapshot_of 3 (one_file 0 [])) ≡ snapshot_of 4 (one_file 4096 (Some 7 ∷ []))
 unfolding snapshot_of
 ends places is = rw is refl
 
-have_files : (places : Vec ℕ) → HaveFiles (Map 1 0 places ∷ Size 1 4096 ∷ []) (snapshot_of 3 (one_file 0 []))
+have_files : (places : List ℕ) → HaveFiles (Map 1 0 places ∷ Size 1 4096 ∷ []) (snapshot_of 3 (one_file 0 []))
 unfolding snapshot_of
 have_files places = (refl, (refl, tt))
 
@@ -78,12 +78,12 @@ files_said : (number : ℕ) (c : Catalog) → (snapshot_of number c).files ≡ m
 unfolding snapshot_of
 files_said number c = refl
 
-not_alone : (places : Vec ℕ) → places.items ≡ 7 ∷ [] → CanFollow 0 (snapshot_of 3 (one_file 0 [])) 4 (Map 1 0 places ∷ []) → ⊥
+not_alone : (places : List ℕ) → places ≡ 7 ∷ [] → CanFollow 0 (snapshot_of 3 (one_file 0 [])) 4 (Map 1 0 places ∷ []) → ⊥
 not_alone places is can =
     let s = can.lawful in
     no_file s.catalog.geometry s.catalog.files (sym (between places is) ∙ ap (λ (x : Snapshot). x.files) s.says ∙ files_said 4 s.catalog) s.lawful.each
 
-pub judged_at_its_end : (places : Vec ℕ) → IsJudgedAtItsEnd places
+pub judged_at_its_end : (places : List ℕ) → IsJudgedAtItsEnd places
 judged_at_its_end places is = (
   record {
     rises = rises;

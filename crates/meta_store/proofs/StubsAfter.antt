@@ -13,8 +13,8 @@ use Rattle.hsm_types.specs.Stubs.{stub_at, is_offline, uncovered}
 use Rattle.hsm_types.proofs.Stubbing.{stub_at-without, stub_at-below, all_covered}
 use Rattle.snapshot_text.specs.declared.file_parts.Others.{Others}
 use Rattle.snapshot_text.specs.declared.file_parts.FileParts.{FileParts}
-use Rattle.snapshot_text.specs.declared.records.Record.{Record}
-use Rattle.snapshot_text.specs.declared.records.Record.TheVariants.{Size, Map, Regions, Stub}
+use Rattle.journal_records.specs.declared.records.Record.{Record}
+use Rattle.journal_records.specs.declared.records.Record.TheVariants.{Size, Map, Regions, Stub}
 use Rattle.snapshot_text.specs.Files.{CatalogFile, IsLawfulKept, IsCatalogStub, geometry_of}
 use Rattle.meta_store.specs.Catalogs.{Catalog}
 use Rattle.snapshot_text.specs.FileRecords.{file_after, part_refusal}
@@ -48,8 +48,8 @@ stub-after (Size ino size) f c others geometry t old j stub is =
     same_stub (file_after (Size ino size) f) (each-at (IsCatalogStub f) f.kept.stubs j stub old (grind arith)) (omega arith) refl (λ off i from to. none-fitted size f.places i)
 stub-after (Map ino block places) f c others geometry t old j stub is =
     let was = each-at (IsCatalogStub f) f.kept.stubs j stub old is in
-    let apart = λ (off : stub.offline ≡ true) (i : ℕ) (from : segment_blocks * j ≤ i) (to : i < segment_blocks * j + segment_blocks) (low : block ≤ i) (high : i < block + length places.items). let same : i / segment_blocks ≡ j = omega arith in let here = rw same at (t.stands.here i low high) in let none : ⊥ = grind arith in none in
-    same_stub (file_after (Map ino block places) f) was was.fits.start refl (λ off i from to none. get_or-mapped block places.items f.places i (apart off i from to) ∙ none)
+    let apart = λ (off : stub.offline ≡ true) (i : ℕ) (from : segment_blocks * j ≤ i) (to : i < segment_blocks * j + segment_blocks) (low : block ≤ i) (high : i < block + length places). let same : i / segment_blocks ≡ j = omega arith in let here = rw same at (t.stands.here i low high) in let none : ⊥ = grind arith in none in
+    same_stub (file_after (Map ino block places) f) was was.fits.start refl (λ off i from to none. get_or-mapped block places f.places i (apart off i from to) ∙ none)
 stub-after (Regions ino regions) f c others geometry t old j stub is =
     let was = each-at (IsCatalogStub f) f.kept.stubs j stub old is in
     let judged = t.judged in

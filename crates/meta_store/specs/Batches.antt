@@ -16,10 +16,11 @@ use Rattle.inode_table.specs.Listing.{key_at, has_inode}
 use Rattle.inode_table.specs.Table.{IsTable}
 use Rattle.std.specs.Option.{unwrap_or}
 use Rattle.meta_store.specs.declared.snapshot.Mapping.{Mapping}
-use Rattle.meta_store.specs.declared.records.Record.{Record}
-use Rattle.meta_store.specs.declared.records.Record.TheVariants.{Make, Drop, Size, Map, Regions, SetAttr, DropAttr, Stub}
+use Rattle.journal_records.specs.declared.records.Record.{Record}
+use Rattle.journal_records.specs.declared.records.Record.TheVariants.{Make, Drop, Size, Map, Regions, SetAttr, DropAttr, Stub}
 use Rattle.meta_store.specs.Catalogs.{CatalogFile, Catalog, geometry_of, HasLengths, IsCatalogFile, IsCatalog, AreLengths}
-use Rattle.meta_store.specs.Records.{mappings_from, inode_of}
+use Rattle.journal_records.specs.Texts.{inode_of}
+use Rattle.snapshot_text.specs.FileRecords.{mappings_from}
 use Rattle.meta_store.specs.Snapshots.{SnapshotFile, Snapshot, snapshot_file, snapshot_of}
 use Rattle.meta_store.specs.Validity.{names_in, places_in, attribute_total_in, stub_total_in}
 
@@ -47,7 +48,7 @@ extents_without j xs = filter (λ x. not (nat_le (segment_blocks * j) x.block &&
 -- the file that a record is about, after it
 abbrev pub file_changed : Record → SnapshotFile → SnapshotFile
 file_changed (Size ino size) f = record f { size = size; extents = extents_below (blocks_in size) f.extents; kept = record f.kept { stubs = stubs_below (segments_in size) f.kept.stubs } }
-file_changed (Map ino block places) f = record f { extents = with_extents (mappings_from block places.items) f.extents }
+file_changed (Map ino block places) f = record f { extents = with_extents (mappings_from block places) f.extents }
 file_changed (Regions ino regions) f = record f { kept = record f.kept { regions = regions } }
 file_changed (SetAttr ino name value) f = record f { kept = record f.kept { attributes = with_value name value f.kept.attributes } }
 file_changed (DropAttr ino name) f = record f { kept = record f.kept { attributes = without_value name f.kept.attributes } }

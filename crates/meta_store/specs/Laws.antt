@@ -7,8 +7,8 @@ use Rattle.commit_slots.specs.Places.{layout_of}
 use Rattle.meta_store.specs.Catalogs.{Catalog, IsCatalog}
 use Rattle.hsm_types.specs.Limits.{last_number}
 use Rattle.meta_store.specs.Batches.{CanFollow, IsLawful, AreTogether, AreChangedLawful, after_batch}
-use Rattle.meta_store.specs.declared.records.Record.{Record}
-use Rattle.meta_store.specs.declared.records.Record.TheVariants.{Size, Map}
+use Rattle.journal_records.specs.declared.records.Record.{Record}
+use Rattle.journal_records.specs.declared.records.Record.TheVariants.{Size, Map}
 use Rattle.meta_store.specs.Records.{CanStandAll}
 use Rattle.meta_store.specs.Meta.{Meta, IsMeta, IsTaken}
 use Rattle.meta_store.specs.Images.{IsImage}
@@ -49,7 +49,7 @@ one_file size places = record { geometry = 0; next = 2; files = (record { key = 
 -- An empty file gets the disk's block 7 before the size that makes room for it. These two records are a batch, and the first alone is none: no snapshot could
 -- say what stands behind it.
 abbrev pub IsJudgedAtItsEnd : Vec ℕ → Type 0
-IsJudgedAtItsEnd places = places.items ≡ 7 ∷ []
+IsJudgedAtItsEnd places = places ≡ 7 ∷ []
     → CanFollow 0 (snapshot_of 3 (one_file 0 [])) 4 (Map 1 0 places ∷ Size 1 4096 ∷ [])
     × (after_batch 4 (Map 1 0 places ∷ Size 1 4096 ∷ []) (snapshot_of 3 (one_file 0 [])) ≡ snapshot_of 4 (one_file 4096 (Some 7 ∷ [])))
     × (CanFollow 0 (snapshot_of 3 (one_file 0 [])) 4 (Map 1 0 places ∷ []) → ⊥)

@@ -8,7 +8,7 @@ use Rattle.commit_slots.specs.Places.{layout_of}
 use Rattle.commit_slots.specs.Steps.{Selects}
 use Rattle.meta_store.specs.Catalogs.{Catalog, IsCatalog, AreLengths}
 use Rattle.meta_store.specs.Images.{IsImage, Recovers}
-use Rattle.snapshot_text.specs.declared.records.Record.{Record}
+use Rattle.journal_records.specs.declared.records.Record.{Record}
 use Rattle.meta_store.specs.Records.{after_all, refusal_of_all}
 
 pub record Meta : Type 0 where

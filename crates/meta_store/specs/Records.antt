@@ -15,12 +15,13 @@ use Rattle.hsm_types.specs.Keyed.{find_key, change_key, put_key, drop_key}
 use Rattle.plain_model.specs.Plain.{named}
 use Rattle.plain_model.specs.Distinct.{Distinct}
 use Rattle.inode_table.specs.Listing.{key_at, has_inode}
-use Rattle.snapshot_text.specs.declared.records.Record.{Record}
-use Rattle.snapshot_text.specs.declared.records.Record.TheVariants.{Make, Drop, Size, Map, Stub}
+use Rattle.journal_records.specs.declared.records.Record.{Record}
+use Rattle.journal_records.specs.declared.records.Record.TheVariants.{Make, Drop, Size, Map, Stub}
 use Rattle.snapshot_text.specs.declared.file_parts.Others.{Others}
 use Rattle.snapshot_text.specs.Files.{CatalogFile, FitsButLength, geometry_of}
 use Rattle.meta_store.specs.Catalogs.{Catalog, names_of, blocks_of, attribute_total, stub_total}
-use Rattle.snapshot_text.specs.FileRecords.{file_after, inode_of, part_refusal, FitsStub, IsSure}
+use Rattle.journal_records.specs.Texts.{inode_of}
+use Rattle.snapshot_text.specs.FileRecords.{file_after, part_refusal, FitsStub, IsSure}
 
 -- ---- the catalog
 
@@ -107,7 +108,7 @@ pub record IsStubbable (j : ℕ) (stub : StubOf) (f : CatalogFile) : Type 0 wher
 -- What no part judges: a file has the inode, and the record fits it. A segment without an entry has its bytes.
 abbrev pub CanStandOn : Record → CatalogFile → Catalog → Type 0
 CanStandOn (Size ino size) f c = size ≤ (geometry_of c.geometry).limits.bytes
-CanStandOn (Map ino block places) f c = IsMappable block places.items f c
+CanStandOn (Map ino block places) f c = IsMappable block places f c
 CanStandOn (Stub ino j None) f c = offline_at f.kept.stubs j ≡ false
 CanStandOn (Stub ino j (Some stub)) f c = IsStubbable j stub f
 CanStandOn r f c = Unit {0}

@@ -1,7 +1,7 @@
 //! Laws on batches of records, each the contract of a function that does nothing. A caller gets the law by a call.
 ghost use Rattle.std.specs.Prelude.{ℕ, List};
 ghost use Rattle.std.specs.Global.{Vec};
-ghost use Rattle.meta_store.specs.declared.records.Record.{Record};
+ghost use Rattle.journal_records.specs.declared.records.Record.{Record};
 ghost use Rattle.meta_store.specs.Meta.{Meta};
 ghost use Rattle.meta_store.specs.Snapshots.{Snapshot};
 ghost use Rattle.meta_store.specs.Laws.{IsTakenAsBatch, IsJudgedByChanges, IsJudgedAtItsEnd};

@@ -13,8 +13,8 @@ use Rattle.hsm_types.specs.Attributes.{with_value, without_value, setting_refusa
 use Rattle.hsm_types.specs.Kept.{Kept}
 use Rattle.plain_model.specs.Blocks.{blocks_in}
 use Rattle.snapshot_text.specs.declared.snapshot.Mapping.{Mapping}
-use Rattle.snapshot_text.specs.declared.records.Record.{Record}
-use Rattle.snapshot_text.specs.declared.records.Record.TheVariants.{Make, Drop, Size, Map, Regions, SetAttr, DropAttr, Stub}
+use Rattle.journal_records.specs.declared.records.Record.{Record}
+use Rattle.journal_records.specs.declared.records.Record.TheVariants.{Make, Drop, Size, Map, Regions, SetAttr, DropAttr, Stub}
 use Rattle.snapshot_text.specs.declared.file_parts.Others.{Others}
 use Rattle.snapshot_text.specs.Files.{CatalogFile}
 
@@ -39,24 +39,13 @@ places_without j places = take (segment_blocks * j) places ++ replicate (min seg
 -- the file that a record is about, after it
 abbrev pub file_after : Record → CatalogFile → CatalogFile
 file_after (Size ino size) f = record f { size = size; places = places_fitted size f.places; kept = record f.kept { stubs = stubs_below (segments_in size) f.kept.stubs } }
-file_after (Map ino block places) f = record f { places = places_set (mappings_from block places.items) f.places }
+file_after (Map ino block places) f = record f { places = places_set (mappings_from block places) f.places }
 file_after (Regions ino regions) f = record f { kept = record f.kept { regions = regions } }
 file_after (SetAttr ino name value) f = record f { kept = record f.kept { attributes = with_value name value f.kept.attributes } }
 file_after (DropAttr ino name) f = record f { kept = record f.kept { attributes = without_value name f.kept.attributes } }
 file_after (Stub ino j None) f = record f { kept = record f.kept { stubs = without_stub j f.kept.stubs } }
 file_after (Stub ino j (Some stub)) f = record f { places = if stub.offline then places_without j f.places else f.places; kept = record f.kept { stubs = with_stub j stub f.kept.stubs } }
 file_after r f = f
-
--- the inode that a record names
-abbrev pub inode_of : Record → ℕ
-inode_of (Make key name) = key.ino
-inode_of (Drop ino) = ino
-inode_of (Size ino size) = ino
-inode_of (Map ino block places) = ino
-inode_of (Regions ino regions) = ino
-inode_of (SetAttr ino name value) = ino
-inode_of (DropAttr ino name) = ino
-inode_of (Stub ino j stub) = ino
 
 -- by the rules of the part that it is about, where all other files have so much, in a store of that geometry
 abbrev pub part_refusal : Record → Others → Geometry → Kept → Option DmRefusal

@@ -5,8 +5,8 @@ use Rattle.hsm_types.specs.declared.keys.FileKey.{FileKey}
 use Rattle.hsm_types.specs.Kept.{Kept}
 use Rattle.hsm_types.specs.Stubs.{offline_at}
 use Rattle.snapshot_text.specs.declared.file_parts.FileParts.{FileParts}
-use Rattle.snapshot_text.specs.declared.records.Record.{Record}
-use Rattle.snapshot_text.specs.declared.records.Record.TheVariants.{Size, Map, Stub}
+use Rattle.journal_records.specs.declared.records.Record.{Record}
+use Rattle.journal_records.specs.declared.records.Record.TheVariants.{Size, Map, Stub}
 use Rattle.snapshot_text.specs.Files.{CatalogFile, StubFits}
 use Rattle.snapshot_text.specs.FileRecords.{file_after, FitsStub}
 
@@ -32,7 +32,7 @@ parts_after r parts = parts_of (file_after r (file_of (record { ino = 0; igen = 
 -- the record is within what the code can count of a file, and what the parts have
 abbrev pub FitsParts : Record → FileParts → Type 0
 FitsParts (Size ino size) parts = size ≤ file_bytes
-FitsParts (Map ino block places) parts = block + length places.items ≤ length parts.places
+FitsParts (Map ino block places) parts = block + length places ≤ length parts.places
 FitsParts (Stub ino j None) parts = offline_at parts.stubs j ≡ false
 FitsParts (Stub ino j (Some stub)) parts = FitsStub j stub parts.stubs
 FitsParts r parts = Unit {0}

@@ -12,15 +12,15 @@ ghost use Rattle.hsm_types.specs.Stubs.{offline_at, stubs_below, too_many_stubs,
 ghost use Rattle.hsm_types.specs.declared.dm.DmRefusal.TheVariants.{Memory};
 ghost use Rattle.hsm_types.specs.declared.dm.DmRefusal.{DmRefusal};
 ghost use Rattle.snapshot_text.specs.Parts.{no_parts, kept_in, parts_after, FitsParts, IsNumbered};
-ghost use Rattle.snapshot_text.specs.Files.{StubFits};
-ghost use Rattle.snapshot_text.specs.FileRecords.{part_refusal, places_fitted, places_without, FitsStub, IsSure};
+ghost use Rattle.snapshot_text.specs.Files.{CatalogFile, StubFits};
+ghost use Rattle.snapshot_text.specs.FileRecords.{part_refusal, file_after, places_fitted, places_without, FitsStub, IsSure};
 
 use crate::file_places::FilePlaces;
 use crate::kept::name_len;
-use crate::records::Record;
 use crate::refusal::MetaRefusal;
 use dm_attrs::DmAttrs;
 use hsm_types::{DmRefusal, FILE_BYTES, Geometry, Limits, Regions, Stub, segments_in};
+use journal_records::Record;
 use managed_regions::ManagedRegions;
 use std::alloc::{AllocError, Global};
 use stub_map::{State, StubMap};
@@ -41,6 +41,16 @@ pub struct Others {
     pub attributes: u64,
     /// How many stub entries they have.
     pub stubs: u32,
+}
+
+/// The size that a file of that size has after a record about it.
+pub fn size_after(change: &Record, size: u64) -> u64
+    ensures { (f : CatalogFile) → f.size ≡ size → result ≡ (file_after change.now f).size }
+{
+    match change {
+        Record::Size { size, .. } => *size,
+        _ => size,
+    }
 }
 
 impl FileParts {

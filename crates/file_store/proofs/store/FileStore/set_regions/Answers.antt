@@ -1,4 +1,4 @@
-use Rattle.snapshot_text.specs.declared.records.Record.TheVariants.{Regions}
+use Rattle.journal_records.specs.declared.records.Record.TheVariants.{Regions}
 use Rattle.file_store.proofs.Ended.{ends_as}
 use Rattle.file_store.proofs.store.FileStore.set_regions.Goals as goal
 

@@ -3,7 +3,8 @@ use Rattle.std.proofs.lemmas.Result.{err_from_is_err_and}
 use Rattle.hsm_types.specs.Limits.{large_geometry}
 use Rattle.hsm_types.specs.declared.stores.Geometry.{Geometry}
 use Rattle.meta_store.specs.Records.{refusal_of, without_file, with_changed, key_on, others_of, CanStandOn}
-use Rattle.snapshot_text.specs.FileRecords.{file_after, inode_of, part_refusal}
+use Rattle.journal_records.specs.Texts.{inode_of}
+use Rattle.snapshot_text.specs.FileRecords.{file_after, part_refusal}
 use Rattle.meta_store.specs.Records.{CanStand, IsAboutOne}
 use Rattle.meta_store.specs.Catalogs.{Catalog, blocks_of, attribute_total, stub_total}
 use Rattle.snapshot_text.specs.Files.{geometry_of, CatalogFile, IsLawfulKept, IsCatalogFile}
@@ -15,7 +16,7 @@ use Rattle.hsm_types.specs.Regions.{regions_refusal}
 use Rattle.inode_table.specs.Table.{Table, entry_of}
 use Rattle.snapshot_text.specs.declared.file_parts.FileParts.{FileParts}
 use Rattle.snapshot_text.specs.declared.file_parts.Others.{Others}
-use Rattle.snapshot_text.specs.declared.records.Record.{Record}
+use Rattle.journal_records.specs.declared.records.Record.{Record}
 use Rattle.meta_store.specs.declared.catalog.Catalog.TheInside.{Inside}
 use Rattle.snapshot_text.specs.Parts.{kept_in, parts_of, parts_after, file_of}
 use Rattle.meta_store.specs.InMemory.{catalog_held}
