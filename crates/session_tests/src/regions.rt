@@ -53,7 +53,7 @@ static SEGMENTS: [(&[Numbers], u32, bool); 10] = [
     (&ENDLESS, u32::MAX, true),
 ];
 
-fn managed(alloc: Global, all: &[Numbers]) -> Option<ManagedRegions> {
+fn regions_of(alloc: Global, all: &[Numbers]) -> Option<Regions> {
     let mut regions = Vec::new(alloc);
     for (offset, size, flags) in all {
         regions
@@ -64,8 +64,13 @@ fn managed(alloc: Global, all: &[Numbers]) -> Option<ManagedRegions> {
             })
             .ok()?;
     }
+    Some(Regions::from(regions))
+}
+
+fn managed(alloc: Global, all: &[Numbers]) -> Option<ManagedRegions> {
+    let regions = regions_of(alloc, all)?;
     let mut managed = ManagedRegions::new(alloc);
-    managed.set(FIRST_LIMITS, Regions::from(regions)).ok()?;
+    managed.set(FIRST_LIMITS, regions).ok()?;
     Some(managed)
 }
 
