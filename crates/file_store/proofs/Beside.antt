@@ -2,13 +2,13 @@
 use Rattle.file_store.proofs.Names.{◌≡◌, ⊎_elim, ℕ, ◌+◌, ◌*◌, ◌<◌, ◌≤◌, ◌^◌, ◌==◌, true, false, List, length, sym, ◌∙◌, ap, subst, arith, zero, suc}
 use Rattle.file_store.proofs.Names.{[], ◌∷◌, ◌++◌, map, get_or, take, refl, AllByRecursion, list_any, false≢true, false_from_ne_true}
 use Rattle.file_store.proofs.Names.{All-from_recursion, part, IsFreed, IsWritten, Keeps, All-has, Layout, IsApart, Catalog, blocks_of, IsCatalog}
-use Rattle.file_store.proofs.Names.{IsImage, Meta, Backs, held_at, block_of, IsBesideBlocks, places_of, HasBlocks, length-map, map-append, Mapping}
+use Rattle.file_store.proofs.Names.{Holds, Meta, Backs, held_at, block_of, IsBesideBlocks, places_of, HasBlocks, length-map, map-append, Mapping}
 use Rattle.file_store.proofs.Names.{mappings_of, Distinct, Ghosts}
 use Rattle.disk_model.proofs.Parts.{part_part, length-part}
 use Rattle.commit_slots.specs.Places.{layout_of}
 use Rattle.snapshot_text.specs.Files.{geometry_of}
 use Rattle.meta_store.specs.Images.{blocks_in_image}
-use Rattle.meta_store.proofs.BesideBlocks.{IsSameBelow, slot_below, image_below}
+use Rattle.meta_store.proofs.BesideBlocks.{IsSameBelow, image_beside}
 use Rattle.file_store.proofs.DataBlocks.{Stays, held-stays}
 use Rattle.file_store.proofs.EachOf.{each-all, each-weaker, each_other, each-at, each-both, each-join, each-mapped, each-parts}
 use Rattle.file_store.proofs.Marks.{NoneOf, used-within}
@@ -58,8 +58,8 @@ module _ (geometry : ℕ) (places : List ℕ) (d c : List ℕ) (beside : IsBesid
   below : IsSameBelow (layout_of geometry).blocks d c
   below a k h = grind (arith, each-all)
 
-  pub image_beside : (m : Meta) → m.durable.geometry ≡ geometry → IsImage m.fsid m.number m.durable d → IsImage m.fsid m.number m.durable c
-  image_beside m same is = image_below geometry m.fsid m.number m.durable d c same beside.size below is
+  pub holds_beside : (m : Meta) → m.durable.geometry ≡ geometry → Holds m.fsid m.place m.number m.durable d → Holds m.fsid m.place m.number m.durable c
+  holds_beside m same is = image_beside geometry m.fsid m.place m.number m.durable d c same beside.size below is
 
   -- the blocks that a catalog's files use stay
   pub used_stay : (x : Catalog) → x.geometry ≡ geometry → IsCatalog x → NoneOf places (blocks_of x.files) → (p : ℕ) → list_any (λ q. q == p) (blocks_of x.files) ≡ true → Stays (blocks_in_image geometry d) (blocks_in_image geometry c) p
@@ -75,8 +75,7 @@ module _ (geometry : ℕ) (places : List ℕ) (d c : List ℕ) (beside : IsBesid
 pub backs_beside : {D : Type 0} (g : Ghosts D) (old new : D) (geometry : ℕ) (places : List ℕ) (m : Meta) → Keeps g old new (IsBesideBlocks (layout_of geometry).blocks places) → m.durable.geometry ≡ geometry → Backs g old m → Backs g new m
 backs_beside g old new geometry places m keeps same backs = record {
   length = keeps.moments.length ∙ backs.length;
-  slot = λ c may. let p = keeps.now c may in slot_below geometry p.0 c (below geometry places p.0 c p.2) ∙ backs.slot p.0 p.1;
-  image = λ c may. let p = keeps.now c may in image_beside geometry places p.0 c p.2 m same (backs.image p.0 p.1);
+  image = λ c may. let p = keeps.now c may in holds_beside geometry places p.0 c p.2 m same (backs.image p.0 p.1);
 }
 
 -- ---- lists of mappings

@@ -1,7 +1,7 @@
 -- What calls make durable, and what is true of the store after them.
 use Rattle.file_store.proofs.Names.{arith, ◌≡◌, ◌⊎◌, inl, inr, ⊎_elim, ℕ, ◌≤◌, Bool, true, false, if◌then◌else◌, List, refl, sym, ◌∙◌, ap, last_number}
 use Rattle.file_store.proofs.Names.{subst, slice_index_or, AllByRecursion, HeldBody, MayBe, Keeps, Same, started, turns_leave, turns_now, joined}
-use Rattle.file_store.proofs.Names.{weakened, Space, Held, Catalog, blocks_of, IsImage, blocks_in_image, Recovers, Meta, IsMeta, Backs}
+use Rattle.file_store.proofs.Names.{weakened, Space, Held, Catalog, blocks_of, Holds, blocks_in_image, Recovers, Meta, IsMeta, Backs}
 use Rattle.file_store.proofs.Names.{StoresOrKeeps, HasStored, IsStoredNow, held_at, held_with, Store, IsDurable, IsEither, Proceeds, IsLive, IsSound}
 use Rattle.file_store.proofs.Names.{marks_of, Ghosts, IsHeldFiles}
 use Rattle.file_store.proofs.Marks.{marks_there}
@@ -20,7 +20,7 @@ store_of p = record { disk = p.disk; meta = p.meta; held = held_with p.bodies p.
 
 -- what recovery finds of a live store
 pub durable_found : {D : Type 0} (g : Ghosts D) (s : Store D) → IsLive g s → (c : List ℕ) → MayBe g s.disk c → IsDurable s c
-durable_found g s live c may = record { catalog = s.meta.durable; same = refl; is = live.backs.image c may; holds = live.stored c may }
+durable_found g s live c may = record { catalog = s.meta.durable; same = refl; is = record { place = s.meta.place; holds = live.backs.image c may }; holds = live.stored c may }
 
 -- where no call of the disk is made
 pub sound_idle : {D : Type 0} (g : Ghosts D) (s : Store D) (n : ℕ) → IsSound g s → ((c : List ℕ) → g.left_since s.disk (g.moment s.disk) c → g.may_leave s.disk c) → s.failed ≡ false → Proceeds g s n s
@@ -159,6 +159,5 @@ opened_sound g s lawful backs same held holds space = record {
 pub backs_same : {D : Type 0} (g : Ghosts D) (mid new : D) (m : Meta) → Keeps g mid new Same → Backs g mid m → Backs g new m
 backs_same g mid new m keeps b = record {
   length = keeps.moments.length ∙ b.length;
-  slot = λ c may. grind arith;
-  image = λ c may. let d = keeps.now c may in subst (λ (i : List ℕ). IsImage m.fsid m.number m.durable i) (sym d.2) (b.image d.0 d.1);
+  image = λ c may. let d = keeps.now c may in subst (λ (i : List ℕ). Holds m.fsid m.place m.number m.durable i) (sym d.2) (b.image d.0 d.1);
 }

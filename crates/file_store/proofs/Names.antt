@@ -52,7 +52,8 @@ pub use Rattle.hsm_types.specs.declared.stores.Geometry.{Geometry}
 pub use Rattle.hsm_types.specs.declared.stores.Limits.{Limits}
 pub use Rattle.meta_store.specs.Catalogs.{Catalog, blocks_of, IsCatalog, names_of as names_in, names_of}
 pub use Rattle.snapshot_text.specs.Files.{geometry_of, present, CatalogFile, IsCatalogFile}
-pub use Rattle.meta_store.specs.Images.{IsImage, blocks_in_image, Recovers}
+pub use Rattle.meta_store.specs.Images.{Holds, blocks_in_image, Recovers}
+pub use Rattle.meta_store.proofs.HeldImages.{image_size}
 pub use Rattle.meta_store.specs.Meta.{Meta, Backs, IsMeta, StoresOrKeeps, HasStored, IsStoredNow}
 pub use Rattle.snapshot_text.specs.FileRecords.{places_fitted, places_set, file_after, inode_of}
 pub use Rattle.meta_store.specs.Records.{with_changed, kept_at, others_total, key_on, IsNewFile, after}

@@ -4,7 +4,7 @@ use Rattle.file_store.proofs.Names.{each-drop, ◌+◌, IsSome, find_key, used, 
 use Rattle.file_store.proofs.Names.{◌<◌, List, [], ◌∷◌, length, Bool, true, false, Option, Some, None, refl, sym, ◌∙◌, ap, subst, All, inl, inr}
 use Rattle.file_store.proofs.Names.{zero, suc, ◌-◌, ◌*◌, ◌≤◌, take, drop, set, arith, length-take, FileKey, Space, unmarked, free, marked, Record}
 use Rattle.file_store.proofs.Names.{Catalog, IsCatalogFile, geometry_of, present, blocks_of, after, CanStand, refusal_of, refusal_of_all}
-use Rattle.file_store.proofs.Names.{with_changed, after_all, CanStandAll, key_on, blocks_in_image, IsImage, Meta, IsMeta, Backs, StoresOrKeeps}
+use Rattle.file_store.proofs.Names.{with_changed, after_all, CanStandAll, key_on, blocks_in_image, Holds, image_size, Meta, IsMeta, Backs, StoresOrKeeps}
 use Rattle.file_store.proofs.Names.{held_at, held_with, block_of, bytes_at, IsBodiless, held_after, Store, IsLive, IsSound, marks_of, IsEither}
 use Rattle.file_store.proofs.Names.{Proceeds, AllByRecursion, All-from_recursion, All-weaker, part, Follows, MayBe, Keeps, holds_on, holds_now}
 use Rattle.file_store.proofs.Names.{layout_of, rebody, blocks_in, size_after, Held, bytes_of, affected_held, Mapping, each-found, Rewrite, Write}
@@ -22,7 +22,7 @@ use Rattle.file_store.proofs.Marks.{others_free, marks-after, freed-within, mark
 use Rattle.file_store.proofs.WithBodies.{IsHeldFiles-back, held_with-back, each-changed, is-body, bytes-of, live-held, body-held, bodies_after}
 use Rattle.file_store.proofs.WithBodies.{held_at-after, held_with-after, IsHeldFiles-after, IsFound, bytes-held, held_with-rewritten}
 use Rattle.file_store.proofs.WithBodies.{IsHeldFiles-rewritten}
-use Rattle.file_store.proofs.Beside.{blocks_fit, block_in, length-block, image_beside, used_stay, held_beside, backs_beside, mapped}
+use Rattle.file_store.proofs.Beside.{blocks_fit, block_in, length-block, holds_beside, used_stay, held_beside, backs_beside, mapped}
 use Rattle.file_store.proofs.ByBlocks.{at_place}
 use Rattle.file_store.proofs.DataBlocks.{held-changed}
 use Rattle.file_store.proofs.EachOf.{each-weaker, each-both, each-join, each-mapped}
@@ -260,19 +260,19 @@ module _ {D : Type 0} {g : Ghosts D} {p : Parts D} {k : FileKey} {change : Rewri
 
     -- what recovery finds is what was durable
     abbrev Was : List ℕ → Type 0
-    Was c = IsImage p.meta.fsid p.meta.number p.meta.durable c × (held_at (blocks_in_image p.meta.durable.geometry c) p.meta.durable ≡ (store_of p).durable)
+    Was c = Holds p.meta.fsid p.meta.place p.meta.number p.meta.durable c × (held_at (blocks_in_image p.meta.durable.geometry c) p.meta.durable ≡ (store_of p).durable)
 
     was : (c : List ℕ) → MayBe g p.disk c → Was c
     was c may = (x.live.backs.image c may, x.live.stored c may)
 
     stays : (d c : List ℕ) → Was d → IsBesideBlocks (layout_of p.meta.durable.geometry).blocks places d c → Was c
     stays d c w step = (
-      image_beside p.meta.durable.geometry places d c step p.meta refl w.0,
+      holds_beside p.meta.durable.geometry places d c step p.meta refl w.0,
       held_beside p.meta.durable.geometry places d c step p.meta.durable refl x.lawful.stored.catalog are.free ∙ w.1,
     )
 
     found : (n : ℕ) (c : List ℕ) → Was c → IsEither (store_of p) n c
-    found n c w = grind arith
+    found n c w = inl (record { catalog = p.meta.durable; same = refl; is = record { place = p.meta.place; holds = w.0 }; holds = w.1 })
 
     pub written_proceeds : (n : ℕ) (held : Held) (space : Space) (failed : Bool) → Proceeds g (store_of p) n (record (store_of p) { disk = mid; held = held; space = space; failed = failed })
     written_proceeds n held space failed = record {
@@ -317,7 +317,7 @@ module _ {D : Type 0} {g : Ghosts D} {p : Parts D} {k : FileKey} {change : Rewri
           each-both (λ (m : Mapping). m.place < (geometry_of p.meta.durable.geometry).blocks) _ _ (λ m low is. block_in p.meta.durable.geometry c m.place low ∙ is) ms
           (each-mapped (λ q. q < (geometry_of p.meta.durable.geometry).blocks) (λ (m : Mapping). m.place) ms (rw ((mapped blocks places long).1, ← x.lawful.stored.geometry) are.within)) was_on.2.there in
           held-changed was now p.meta.current (used_stay p.meta.durable.geometry places was_on.0 c (beside was_on.0 c was_on.2) p.meta.current x.lawful.stored.geometry x.lawful.current are.unused) change k ms x.at.file body x.lawful.current
-          (λ b lt. length-block p.meta.durable.geometry was_on.0 b (subst (λ z. b < (geometry_of z).blocks) x.lawful.stored.geometry lt) (x.live.backs.image was_on.0 (inr was_on.1)).found.size)
+          (λ b lt. length-block p.meta.durable.geometry was_on.0 b (subst (λ z. b < (geometry_of z).blocks) x.lawful.stored.geometry lt) (image_size (record { place = p.meta.place; holds = x.live.backs.image was_on.0 (inr was_on.1) })))
           x.may within x.at.found (bytes was holds) (mapped blocks places long).0 there
           ∙ ap (λ (h : Held). record h { files = affected_held (effect_of change) k h.files }) holds
 

@@ -4,9 +4,7 @@ use Rattle.command_words.specs.Commands.{Replay, ReplayStore}
 use Rattle.disk_model.specs.declared.device.Disk as disk
 use Rattle.disk_model.specs.Calls.{Rose}
 use Rattle.media_model.specs.declared.drive.Drive as drive
-use Rattle.meta_store.specs.Catalogs.{Catalog}
-use Rattle.meta_store.specs.Snapshots.{IsSnapshot}
-use Rattle.meta_store.specs.Images.{IsImage, IsCorruptAt, IsClosed, area_of, gate_of}
+use Rattle.meta_store.proofs.HeldImages.{image_store, not_corrupt}
 use Rattle.plain_model.specs.State.{Held}
 use Rattle.file_store.specs.Stores.{Store, IsRecovered, IsDurable}
 use Rattle.script_text.specs.Scripts.{IsScript, IsFirstBad}
@@ -22,14 +20,6 @@ use Rattle.hsm_cli.specs.Sources.{script_bytes}
 use Rattle.hsm_cli.specs.Told.{SourceTold, SinkTold, HostTold}
 use Rattle.hsm_cli.specs.Endings.{RunEnds}
 use Rattle.hsm_cli.specs.Clauses.{Why, GivesScript, NothingFails, HasFailed, HasBegun, CanEnd, FindsNothing, TellsStore, Lacks, StatusClause}
-
--- an image on which recovery finds something isn't corrupt
-pub not_corrupt : (place fsid n : ℕ) (c : Catalog) (image : List ℕ) → IsImage fsid n c image → IsCorruptAt place image → ⊥
-not_corrupt place fsid n c image found corrupt =
-    let same : c.geometry ≡ corrupt.geometry = sym found.found.superblock.says_geometry ∙ corrupt.found.superblock.says_geometry in
-    let snapshot : IsSnapshot (area_of corrupt.geometry image) n c = subst (λ (geometry : ℕ). IsSnapshot (area_of geometry image) n c) same found.snapshot in
-    let gate : IsClosed (gate_of corrupt.geometry image) = subst (λ (geometry : ℕ). IsClosed (gate_of geometry image)) same found.gate in
-    ⊎_elim (λ fault. fault.1 n c same snapshot) (λ fault. fault.1 gate) corrupt.fault
 
 module _ (law : (bytes : List ℕ) (lines : List Line) → IsScript bytes lines → IsOneScript bytes lines) {D : Type 0} (g : disk.Ghosts D) (Fails : Type 0) (source : SourceTold) (sink : SinkTold) (disk : Option D)
     (script : GivesScript source.given) (works : NothingFails g Fails source sink disk) where
@@ -61,8 +51,8 @@ module _ (law : (bytes : List ℕ) (lines : List Line) → IsScript bytes lines 
   complete_store named image geometry fsid n h (Some DiskFault) is found words why = absurd (works.disk_works why)
   complete_store named image geometry fsid n h (Some HostFault) is found words why = absurd (works.host_works why)
   complete_store named image geometry fsid n h (Some WordsRefused) is found words why = absurd (words refl)
-  complete_store named image geometry fsid n h (Some NotStore) is found words why = absurd (why image is found.catalog.geometry fsid found.is.found)
-  complete_store named image geometry fsid n h (Some (Corrupt place)) is found words why = absurd (not_corrupt place fsid n found.catalog image found.is (why image is))
+  complete_store named image geometry fsid n h (Some NotStore) is found words why = absurd (why image is found.catalog.geometry fsid (image_store found.is))
+  complete_store named image geometry fsid n h (Some (Corrupt place)) is found words why = absurd (not_corrupt found.is place (why image is))
 
 module _ {D : Type 0} (g : disk.Ghosts D) (named : List ℕ → Type 0) (Fails : Type 0) (source : SourceTold) (sink : SinkTold) (disk : Option D) where
   why_new : (cause : Option Cause) → RunEnds ⊥ ⊥ source sink cause → Why g named Fails source sink disk cause

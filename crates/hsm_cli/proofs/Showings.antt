@@ -34,7 +34,8 @@ use Rattle.hsm_cli.specs.Endings.{cause_in, WritingEnds, ShowEnds, CountingEnds}
 use Rattle.hsm_cli.specs.Clauses.{Why, HasFailed, HasDriveFailed, FindsNothing, TellsStore, HoldsStore, WritesText, ReadsStore, NamesDisk, CanEnd}
 use Rattle.hsm_cli.specs.Clauses.{IsOnlyRead, HandsDrives, AreShown, GivesShown, AsksShown, LacksShown, StatusClause}
 use Rattle.hsm_cli.proofs.ByCause.{written_by, counted_by, shown_by}
-use Rattle.hsm_cli.proofs.Completeness.{came_not, not_corrupt}
+use Rattle.meta_store.proofs.HeldImages.{image_store, not_corrupt}
+use Rattle.hsm_cli.proofs.Completeness.{came_not}
 
 -- ---- texts
 
@@ -176,8 +177,8 @@ module _ (held : List ℕ → Type 0) (HostFails DiskFails : Type 0) (sink : Sin
   -- where nothing fails and there is a store
   complete_shown : HoldsStore held → ¬ HostFails → ¬ DiskFails → ¬ (Rose sink.before sink.now) → (cause ≡ None) ⊎ (cause ≡ Some NoMemory)
   complete_shown holds host_works disk_works sink_works =
-      shown_by held HostFails DiskFails sink (λ c. (c ≡ None) ⊎ (c ≡ Some NoMemory)) cause (inl refl) (λ not_store. absurd (not_store holds.0 holds.1 holds.6.catalog.geometry holds.3 holds.6.is.found))
-      (λ place corrupt. absurd (not_corrupt place holds.3 holds.4 holds.6.catalog holds.0 holds.6.is (corrupt holds.0 holds.1))) (λ rose. absurd (sink_works rose)) (λ failed. absurd (disk_works failed)) (λ failed. absurd (host_works failed)) (inr refl) ends
+      shown_by held HostFails DiskFails sink (λ c. (c ≡ None) ⊎ (c ≡ Some NoMemory)) cause (inl refl) (λ not_store. absurd (not_store holds.0 holds.1 holds.6.catalog.geometry holds.3 (image_store holds.6.is)))
+      (λ place corrupt. absurd (not_corrupt holds.6.is place (corrupt holds.0 holds.1))) (λ rose. absurd (sink_works rose)) (λ failed. absurd (disk_works failed)) (λ failed. absurd (host_works failed)) (inr refl) ends
 
   refused_shown : (A : Table → Option ClassCounts → Type 0) (image : List ℕ) → held image → FindsNothing image → TakesText (IsShown held A) sink cause → cause ≢ Some HostFault → ¬ DiskFails → TellsStore cause ⊎ (cause ≡ Some NoMemory)
   refused_shown A image is nothing took no_host disk_works =

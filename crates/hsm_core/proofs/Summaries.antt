@@ -12,6 +12,7 @@ use Rattle.commit_slots.specs.Places.{layout_of}
 use Rattle.snapshot_text.specs.Files.{CatalogFile, IsCatalogFile, geometry_of, present}
 use Rattle.meta_store.specs.Catalogs.{Catalog, IsCatalog}
 use Rattle.meta_store.specs.Images.{IsImage, blocks_in_image}
+use Rattle.meta_store.proofs.HeldImages.{image_lawful, image_size}
 use Rattle.file_store.specs.Bodies.{bytes_at, held_at}
 use Rattle.file_store.specs.Laws.{RecoversOne}
 use Rattle.file_store.specs.Stores.{IsRecovered, Row, row_of, row_held, Shows}
@@ -66,7 +67,7 @@ pub summary_found : (s : Summary) (fsid n : ℕ) (c : Catalog) (image : List ℕ
 summary_found s fsid n c image one is told =
     let blocks = blocks_in_image c.geometry image in
     let held : Held = held_at blocks c in
-    let here : s ≡ summary_of c.geometry fsid n held = told held (shows (bytes_at blocks) c (sizes_found c image is.snapshot.catalog is.found.size)) in
+    let here : s ≡ summary_of c.geometry fsid n held = told held (shows (bytes_at blocks) c (sizes_found c image (image_lawful is) (image_size is))) in
     let found : IsRecovered c.geometry fsid n held image = record { catalog = c; same = refl; is = is; holds = refl } in
     record {
       geometry = c.geometry;

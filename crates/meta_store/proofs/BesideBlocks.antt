@@ -11,28 +11,30 @@ use Rattle.commit_slots.proofs.Switches.{slot_from}
 use Rattle.meta_store.specs.Catalogs.{Catalog, IsCatalog, AreLengths}
 use Rattle.snapshot_text.specs.Snapshots.{spelling}
 use Rattle.meta_store.specs.Snapshots.{snapshot_of}
-use Rattle.meta_store.specs.Images.{area_of, gate_of, IsImage}
+use Rattle.meta_store.specs.Images.{Place, Holds, area_of, gate_of}
 use Rattle.meta_store.proofs.SnapshotFits.{fits_of}
 
 -- a catalog's snapshot in front of the selected area, and a closed gate
-pub image_from : (fsid n : ℕ) (x : Catalog) (image c : List ℕ) → IsStore x.geometry fsid c → image ≡ spelling (snapshot_of n x) → length image ≤ (layout_of x.geometry).snapshot_len
-    → part c (snapshot_at (layout_of x.geometry) (slot_of c)) (length image) ≡ image → gate_of x.geometry c ≡ gate_closed → IsCatalog x → AreLengths x → n ≤ last_number → IsImage fsid n x c
+pub image_from : (fsid : ℕ) (place : Place) (n : ℕ) (x : Catalog) (image c : List ℕ) → IsStore x.geometry fsid c → slot_of c ≡ place.slot → image ≡ spelling (snapshot_of n x) → length image ≤ (layout_of x.geometry).snapshot_len
+    → part c (snapshot_at (layout_of x.geometry) (slot_of c)) (length image) ≡ image → gate_of x.geometry c ≡ gate_closed → IsCatalog x → AreLengths x → n ≤ last_number → Holds fsid place n x c
 unfolding area_of
-image_from fsid n x image c store is short holds gate lawful lengths bound =
+image_from fsid place n x image c store select is short holds gate lawful lengths bound =
     let at : ℕ = snapshot_at (layout_of x.geometry) (slot_of c) in
     let behind : List ℕ = part c (at + length image) ((layout_of x.geometry).snapshot_len - length image) in
     let area : area_of x.geometry c ≡ spelling (snapshot_of n x) ++ behind = part_split c at (length image) (layout_of x.geometry).snapshot_len short ∙ ap (λ (b : List ℕ). b ++ behind) (holds ∙ is) in
     record {
       found = store;
+      select = select;
       snapshot = record { number = bound; catalog = lawful; lengths = lengths; spelled = record { fits = fits_of n x bound lawful; rest = behind; spelled = area } };
       gate = rw gate refl;
     }
 
--- the same length, superblock, selected snapshot and gate of the selected journal
-pub image_same : (fsid n : ℕ) (x : Catalog) (d c : List ℕ) → length c ≡ length d → part c 0 superblock_len ≡ part d 0 superblock_len → area_of x.geometry c ≡ area_of x.geometry d → gate_of x.geometry c ≡ gate_of x.geometry d
-    → IsImage fsid n x d → IsImage fsid n x c
-image_same fsid n x d c size head area gate is = record {
+-- the same length, superblock, selected slot, its snapshot and the gate of its journal
+pub image_same : (fsid : ℕ) (place : Place) (n : ℕ) (x : Catalog) (d c : List ℕ) → length c ≡ length d → slot_of c ≡ slot_of d → part c 0 superblock_len ≡ part d 0 superblock_len → area_of x.geometry c ≡ area_of x.geometry d → gate_of x.geometry c ≡ gate_of x.geometry d
+    → Holds fsid place n x d → Holds fsid place n x c
+image_same fsid place n x d c size select head area gate is = record {
   found = record { superblock = rw head is.found.superblock; size = size ∙ is.found.size };
+  select = select ∙ is.select;
   snapshot = rw area is.snapshot;
   gate = rw gate is.gate;
 }
@@ -41,13 +43,13 @@ image_same fsid n x d c size head area gate is = record {
 abbrev pub IsSameBelow : ℕ → List ℕ → List ℕ → Type 0
 IsSameBelow blocks d c = (a k : ℕ) → a + k ≤ blocks → part c a k ≡ part d a k
 
-pub slot_below : (geometry : ℕ) (d c : List ℕ) → IsSameBelow (layout_of geometry).blocks d c → slot_of c ≡ slot_of d
+slot_below : (geometry : ℕ) (d c : List ℕ) → IsSameBelow (layout_of geometry).blocks d c → slot_of c ≡ slot_of d
 slot_below geometry d c same = let h : IsSlot (layout_of geometry) First = slot_laid (layout_of geometry) (laid geometry) First in slot_from c d (same select_at 1 (omega arith))
 
--- Recovery finds the same where only data blocks differ.
-pub image_below : (geometry fsid n : ℕ) (x : Catalog) (d c : List ℕ) → x.geometry ≡ geometry → length c ≡ length d → IsSameBelow (layout_of geometry).blocks d c → IsImage fsid n x d → IsImage fsid n x c
+-- An image holds the same, at the same place, where only data blocks differ. This is all that the layers above know of a place.
+pub image_beside : (geometry fsid : ℕ) (place : Place) (n : ℕ) (x : Catalog) (d c : List ℕ) → x.geometry ≡ geometry → length c ≡ length d → IsSameBelow (layout_of geometry).blocks d c → Holds fsid place n x d → Holds fsid place n x c
 unfolding area_of gate_of
-image_below geometry fsid n x d c there size same is =
+image_beside geometry fsid place n x d c there size same is =
     let h : IsSlot (layout_of geometry) (slot_of d) = slot_laid (layout_of geometry) (laid geometry) (slot_of d) in
     let select = slot_below geometry d c same in
-    image_same fsid n x d c size (same 0 superblock_len (omega arith)) (rw (there, select) (same _ _ (omega arith))) (rw (there, select) (same _ _ (omega arith))) is
+    image_same fsid place n x d c size select (same 0 superblock_len (omega arith)) (rw (there, select) (same _ _ (omega arith))) (rw (there, select) (same _ _ (omega arith))) is

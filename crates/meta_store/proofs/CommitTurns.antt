@@ -8,14 +8,14 @@ use Rattle.disk_model.proofs.Steps.{started, turned_where}
 use Rattle.hsm_types.specs.Limits.{last_number}
 use Rattle.commit_slots.specs.declared.places.Slot.{Slot}
 use Rattle.commit_slots.specs.Places.{other, layout_of}
-use Rattle.commit_slots.specs.Images.{slot_of, IsStore}
+use Rattle.commit_slots.specs.Images.{IsStore}
 use Rattle.commit_slots.specs.Steps.{Selects, IsOutside, KeepsSlot, IsSwitched}
 use Rattle.commit_slots.proofs.Laid.{laid}
 use Rattle.commit_slots.proofs.Kept.{KeepsParts, parts_kept}
 use Rattle.meta_store.specs.Catalogs.{Catalog}
 use Rattle.snapshot_text.specs.Snapshots.{spelling}
 use Rattle.meta_store.specs.Snapshots.{snapshot_of}
-use Rattle.meta_store.specs.Images.{area_of, gate_of, IsImage, blocks_in_image, Recovers}
+use Rattle.meta_store.specs.Images.{Place, Holds, area_of, gate_of, blocks_in_image, Recovers}
 use Rattle.meta_store.specs.Meta.{Meta, IsMeta, Backs, StoresOrKeeps, HasStored}
 use Rattle.meta_store.proofs.BesideBlocks.{image_from, image_same}
 
@@ -34,7 +34,11 @@ stores_nothing g d m n backs only_now = record {
 }
   where
     here : (c : List ℕ) → MayBe g d c → Recovers m.fsid m.number m.durable c c
-    here c may = record { found = backs.image c may; data_blocks = refl }
+    here c may = record { found = record { place = m.place; holds = backs.image c may }; data_blocks = refl }
+
+-- where a store stands whose slot that is
+abbrev pub place_on : Slot → Place
+place_on slot = record { slot = slot }
 
 -- the slots have stored the image
 abbrev pub HasSwitched : {D : Type 0} → disk.Ghosts D → D → D → ℕ → Slot → List ℕ → Type 0
@@ -44,56 +48,58 @@ HasSwitched g old new z slot image = (c : List ℕ) → MayBe g new c → (d : L
 pub record Commits {D : Type 0} (g : disk.Ghosts D) (old new : D) (m : Meta) (number : ℕ) (Done : Type 0) : Type 0 where
   pub turns : StoresOrKeeps g old new m number
   pub stores : Done → HasStored g old new m number
-  pub backs : Done → (after : Meta) → after.slot ≡ other m.slot → after.fsid ≡ m.fsid → after.number ≡ number → after.durable ≡ m.current → Backs g new after
+  pub backs : Done → (after : Meta) → after.place ≡ place_on (other m.place.slot) → after.fsid ≡ m.fsid → after.number ≡ number → after.durable ≡ m.current → Backs g new after
 
 -- A commit of the current catalog, from a disk that backs m. The slots know the geometry as z.
 module _ {D : Type 0} (g : disk.Ghosts D) (old new : D) (m : Meta) (lawful : IsMeta m) (backs : Backs g old m) (number : ℕ) (bound : number ≤ last_number) (z : ℕ) (geometry : z ≡ m.current.geometry) (image : List ℕ)
     (is : image ≡ spelling (snapshot_of number m.current)) (short : length image ≤ (layout_of m.current.geometry).snapshot_len) where
   -- what is known of each old image
-  record Was (d : List ℕ) : Type 0 where
-    slot : slot_of d ≡ m.slot
-    holds : IsImage m.fsid m.number m.durable d
+  abbrev Was : List ℕ → Type 0
+  Was d = Holds m.fsid m.place m.number m.durable d
 
   durable_as : m.durable.geometry ≡ z
   durable_as = sym (geometry ∙ lawful.stored.geometry)
 
-  kept : (d c : List ℕ) → IsOutside (layout_of z) (other m.slot) (length image) d c → KeepsParts (layout_of z) m.slot d c
-  kept d c outside = parts_kept (layout_of z) (laid z) m.slot (length image) (rw geometry short) d c outside
+  kept : (d c : List ℕ) → IsOutside (layout_of z) (other m.place.slot) (length image) d c → KeepsParts (layout_of z) m.place.slot d c
+  kept d c outside = parts_kept (layout_of z) (laid z) m.place.slot (length image) (rw geometry short) d c outside
 
   -- what was recovered from the old slot, where that is kept
-  found_old : (d c : List ℕ) → Was d → KeepsSlot (layout_of z) m.slot (length image) d c → Recovers m.fsid m.number m.durable d c
+  found_old : (d c : List ℕ) → Was d → KeepsSlot (layout_of z) m.place.slot (length image) d c → Recovers m.fsid m.number m.durable d c
   unfolding blocks_in_image area_of gate_of
   found_old d c known k =
       let same = kept d c k.outside in
       record {
-        found = image_same m.fsid m.number m.durable d c k.outside.size same.superblock (rw (durable_as, k.select, known.slot) same.snapshot) (rw (durable_as, k.select, known.slot) (gate_from _ _ d c (laid z).journal_len same.journal)) known.holds;
+        found = record {
+          place = m.place;
+          holds = image_same m.fsid m.place m.number m.durable d c k.outside.size k.select same.superblock (rw (durable_as, k.select, known.select) same.snapshot) (rw (durable_as, k.select, known.select) (gate_from _ _ d c (laid z).journal_len same.journal)) known;
+        };
         data_blocks = rw durable_as same.blocks;
       }
 
-  -- what is recovered from the new slot
-  found_new : (d c : List ℕ) → Was d → IsSwitched (layout_of z) (other m.slot) image d c → Recovers m.fsid number m.current d c
-  unfolding blocks_in_image area_of gate_of
-  found_new d c known s =
+  -- what the new slot holds
+  holds_new : (d c : List ℕ) → Was d → IsSwitched (layout_of z) (other m.place.slot) image d c → Holds m.fsid (place_on (other m.place.slot)) number m.current c
+  unfolding area_of gate_of
+  holds_new d c known s =
       let same = kept d c s.outside in
-      let was : IsStore z m.fsid d = rw durable_as at known.holds.found in
-      record {
-        found = image_from m.fsid number m.current image c (rw (← geometry) (record { superblock = rw same.superblock was.superblock; size = s.outside.size ∙ was.size })) is short (rw (← geometry, s.select) s.holds) (rw (← geometry, s.select) s.gate) lawful.current lawful.stored.now bound;
-        data_blocks = rw (← geometry) same.blocks;
-      }
+      let was : IsStore z m.fsid d = rw durable_as at known.found in
+      image_from m.fsid (place_on (other m.place.slot)) number m.current image c (rw (← geometry) (record { superblock = rw same.superblock was.superblock; size = s.outside.size ∙ was.size })) s.select is short (rw (← geometry, s.select) s.holds) (rw (← geometry, s.select) s.gate) lawful.current lawful.stored.now bound
 
-  pub commits : (Selects g old m.slot → Turns g old new (KeepsSlot (layout_of z) m.slot (length image)) (IsSwitched (layout_of z) (other m.slot) image)) → Commits g old new m number (HasSwitched g old new z m.slot image)
+  found_new : (d c : List ℕ) → Was d → IsSwitched (layout_of z) (other m.place.slot) image d c → Recovers m.fsid number m.current d c
+  unfolding blocks_in_image
+  found_new d c known s = record { found = record { place = place_on (other m.place.slot); holds = holds_new d c known s }; data_blocks = rw (← geometry) (kept d c s.outside).blocks }
+
+  pub commits : (Selects g old m.place.slot → Turns g old new (KeepsSlot (layout_of z) m.place.slot (length image)) (IsSwitched (layout_of z) (other m.place.slot) image)) → Commits g old new m number (HasSwitched g old new z m.place.slot image)
   commits turned = record {
-    turns = turned_where g old new Was _ _ _ _ was found_old found_new (turned backs.slot);
+    turns = turned_where g old new Was _ _ _ _ backs.image found_old found_new (turned selects);
     stores = stored;
-    backs = λ done after slot fsid named durable. record {
-      length = (turned backs.slot).moments.length ∙ backs.length ∙ ap (λ (y : ℕ). (layout_of y).whole) (sym (ap (λ (c : Catalog). c.geometry) durable ∙ lawful.stored.geometry));
-      slot = λ c may. (done c may).2.select ∙ sym slot;
-      image = λ c may. rw (fsid, named, durable) (stored done c may).2.found;
+    backs = λ done after place fsid named durable. record {
+      length = (turned selects).moments.length ∙ backs.length ∙ ap (λ (y : ℕ). (layout_of y).whole) (sym (ap (λ (c : Catalog). c.geometry) durable ∙ lawful.stored.geometry));
+      image = λ c may. let d = done c may in rw (place, fsid, named, durable) (holds_new d.0 c (backs.image d.0 (inr d.1)) d.2);
     };
   }
     where
-      was : (d : List ℕ) → MayBe g old d → Was d
-      was d may = record { slot = backs.slot d may; holds = backs.image d may }
+      selects : Selects g old m.place.slot
+      selects d may = (backs.image d may).select
 
-      stored : HasSwitched g old new z m.slot image → HasStored g old new m number
-      stored done c may = let d = done c may in (d.0, d.1, found_new d.0 c (was d.0 (inr d.1)) d.2)
+      stored : HasSwitched g old new z m.place.slot image → HasStored g old new m number
+      stored done c may = let d = done c may in (d.0, d.1, found_new d.0 c (backs.image d.0 (inr d.1)) d.2)

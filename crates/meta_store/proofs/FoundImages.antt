@@ -18,10 +18,10 @@ same-catalog n n' c c' geometry h h' is =
 
 pub found-one : (image : List ℕ) → FindsOne image
 found-one image fsid n c fsid' n' c' found found' =
-    let head = found.found.superblock in
-    let head' = found'.found.superblock in
+    let head = found.holds.found.superblock in
+    let head' = found'.holds.found.superblock in
     let geometry : c'.geometry ≡ c.geometry = sym head'.says_geometry ∙ head.says_geometry in
-    let spelled : IsSpelled (area_of c.geometry image) (snapshot_of n' c') = subst (λ (g : ℕ). IsSpelled (area_of g image) (snapshot_of n' c')) geometry found'.snapshot.spelled in
-    let snapshot : snapshot_of n' c' ≡ snapshot_of n c = one (area_of c.geometry image) (snapshot_of n' c') (snapshot_of n c) spelled found.snapshot.spelled in
-    let same = same-catalog n' n c' c geometry found'.snapshot.catalog found.snapshot.catalog snapshot in
+    let spelled : IsSpelled (area_of c.geometry image) (snapshot_of n' c') = subst (λ (g : ℕ). IsSpelled (area_of g image) (snapshot_of n' c')) geometry found'.holds.snapshot.spelled in
+    let snapshot : snapshot_of n' c' ≡ snapshot_of n c = one (area_of c.geometry image) (snapshot_of n' c') (snapshot_of n c) spelled found.holds.snapshot.spelled in
+    let same = same-catalog n' n c' c geometry found'.holds.snapshot.catalog found.holds.snapshot.catalog snapshot in
     (sym head'.says_fsid ∙ head.says_fsid, same.0, same.1)

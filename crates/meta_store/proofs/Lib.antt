@@ -1,6 +1,7 @@
 pub mod SnapshotFits
 pub mod WrittenFiles
 pub mod BesideBlocks
+pub mod HeldImages
 pub mod CommitTurns
 pub mod AppliedRecords
 pub mod FormattedStores

@@ -12,7 +12,7 @@ use Rattle.commit_slots.specs.Images.{slot_of, IsStore}
 use Rattle.commit_slots.proofs.Laid.{laid, slot_laid, IsSlot}
 use Rattle.meta_store.specs.Catalogs.{Catalog}
 use Rattle.meta_store.specs.Snapshots.{IsSnapshot}
-use Rattle.meta_store.specs.Images.{area_of, gate_of, IsClosed, IsImage, IsCorruptAt}
+use Rattle.meta_store.specs.Images.{Holds, area_of, gate_of, IsClosed, IsCorruptAt}
 use Rattle.meta_store.specs.Meta.{Meta, Backs}
 
 -- the same error, of another function
@@ -46,18 +46,18 @@ module _ {geometry fsid : ℕ} {slot : Slot} {area image : List ℕ} (s : Says g
       fault = inr (rw s.select at, λ closed. gate (rw (at, ← s.select) closed), n, c, same, rw (s.select, ← s.holds) is);
     }
 
-    pub image_found : IsClosed (part image place 1) → IsImage fsid n c image
+    pub image_found : IsClosed (part image place 1) → Holds fsid (record { slot = slot }) n c image
     unfolding area_of gate_of
-    image_found gate = record { found = rw same s.store; snapshot = subst (λ (y : ℕ). IsSnapshot (area_of y image) n c) (sym same) (rw (s.select, ← s.holds) is); gate = rw (same, s.select, ← at) gate }
+    image_found gate = record { found = rw same s.store; select = s.select; snapshot = subst (λ (y : ℕ). IsSnapshot (area_of y image) n c) (sym same) (rw (s.select, ← s.holds) is); gate = rw (same, s.select, ← at) gate }
 
 -- after a sync that succeeded, what was read is what may be
 module _ {D : Type 0} (g : disk.Ghosts D) (mid new : D) (durable : (c : List ℕ) → MayBe g mid c → g.gives mid c) (keeps : Keeps g mid new Same) where
   before : (c : List ℕ) → MayBe g new c → g.gives mid c
   before c may = let d = keeps.now c may in rw d.2 (durable d.0 d.1)
 
-  pub backs_read : (r : Result Meta OpenRefusal) → IfOk r (λ m. g.length_of mid ≡ (layout_of m.durable.geometry).whole) → IfOk r (λ m. (c : List ℕ) → g.gives mid c → (slot_of c ≡ m.slot) × IsImage m.fsid m.number m.durable c)
+  pub backs_read : (r : Result Meta OpenRefusal) → IfOk r (λ m. g.length_of mid ≡ (layout_of m.durable.geometry).whole) → IfOk r (λ m. (c : List ℕ) → g.gives mid c → Holds m.fsid m.place m.number m.durable c)
       → IfOk r (λ m. Backs g new m)
-  backs_read (Ok m) length found = record { length = keeps.moments.length ∙ length; slot = λ c may. (found c (before c may)).0; image = λ c may. (found c (before c may)).1 }
+  backs_read (Ok m) length found = record { length = keeps.moments.length ∙ length; image = λ c may. found c (before c may) }
   backs_read (Err e) length found = tt
 
   pub synced_read : (old : D) (r : Result Meta OpenRefusal) → Alike (g.gives old) (g.gives mid) → OnOk r ((c : List ℕ) → MayBe g new c → g.gives old c)

@@ -1,6 +1,7 @@
 -- What the image of a disk holds for recovery, and what steps between images keep of it.
 use Rattle.std.specs.Prelude.{◌≡◌, ◌⊎◌, ℕ, ◌==◌, false, List, get_or}
 use Rattle.disk_model.specs.Images.{part}
+use Rattle.commit_slots.specs.declared.places.Slot.{Slot}
 use Rattle.commit_slots.specs.Places.{layout_of, snapshot_at, journal_at}
 use Rattle.commit_slots.specs.Images.{slot_of, IsStore}
 use Rattle.meta_store.specs.Catalogs.{Catalog}
@@ -18,11 +19,22 @@ gate_of geometry image = part image (journal_at (layout_of geometry) (slot_of im
 abbrev pub IsClosed : List ℕ → Type 0
 IsClosed gate = (get_or gate 0 0 == 1) ≡ false
 
--- Recovery finds this number and this catalog: a store of its geometry, whose selected snapshot says so and whose selected journal is empty.
-pub record IsImage (fsid n : ℕ) (c : Catalog) (image : List ℕ) : Type 0 where
+-- Where a store stands on its disk: its selected slot. No layer above looks into it.
+pub record Place : Type 0 where
+  pub slot : Slot
+
+-- The image holds this number and this catalog, and their store stands there: one of the catalog's geometry, whose selected snapshot says so and whose
+-- selected journal is empty.
+pub record Holds (fsid : ℕ) (place : Place) (n : ℕ) (c : Catalog) (image : List ℕ) : Type 0 where
   pub found : IsStore c.geometry fsid image
+  pub select : slot_of image ≡ place.slot
   pub snapshot : IsSnapshot (area_of c.geometry image) n c
   pub gate : IsClosed (gate_of c.geometry image)
+
+-- Recovery finds this number and this catalog, wherever the store stands.
+pub record IsImage (fsid n : ℕ) (c : Catalog) (image : List ℕ) : Type 0 where
+  pub place : Place
+  pub holds : Holds fsid place n c image
 
 -- the data blocks
 unfoldable pub blocks_in_image : ℕ → List ℕ → List ℕ

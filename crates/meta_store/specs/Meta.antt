@@ -3,17 +3,15 @@ use Rattle.std.specs.Prelude.{◌≡◌, ℕ, ◌≤◌, List, None}
 use Rattle.disk_model.specs.Moments.{MayBe, Turns}
 use Rattle.disk_model.specs.declared.device.Disk as disk
 use Rattle.hsm_types.specs.Limits.{last_number}
-use Rattle.commit_slots.specs.declared.places.Slot.{Slot}
 use Rattle.commit_slots.specs.Places.{layout_of}
-use Rattle.commit_slots.specs.Steps.{Selects}
 use Rattle.meta_store.specs.Catalogs.{Catalog, IsCatalog, AreLengths}
-use Rattle.meta_store.specs.Images.{IsImage, Recovers}
+use Rattle.meta_store.specs.Images.{Place, Holds, Recovers}
 use Rattle.journal_records.specs.declared.records.Record.{Record}
 use Rattle.meta_store.specs.Records.{after_all, refusal_of_all}
 
 pub record Meta : Type 0 where
-  -- which is selected
-  pub slot : Slot
+  -- where it stands on its disk
+  pub place : Place
   pub fsid : ℕ
   -- what the last commit stored, and under which number
   pub number : ℕ
@@ -37,8 +35,7 @@ pub record IsMeta (m : Meta) : Type 0 where
 -- From what may be on the disk recovery finds what the last commit stored.
 pub record Backs {D : Type 0} (g : disk.Ghosts D) (d : D) (m : Meta) : Type 0 where
   pub length : g.length_of d ≡ (layout_of m.durable.geometry).whole
-  pub slot : Selects g d m.slot
-  pub image : (c : List ℕ) → MayBe g d c → IsImage m.fsid m.number m.durable c
+  pub image : (c : List ℕ) → MayBe g d c → Holds m.fsid m.place m.number m.durable c
 
 -- ---- what a call stores
 

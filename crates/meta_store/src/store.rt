@@ -7,8 +7,8 @@ ghost use Rattle.disk_model.specs.Calls.{Counts};
 ghost use Rattle.disk_model.specs.Images.{Alike};
 ghost use Rattle.disk_model.specs.Moments.{MayBe, Keeps, Same};
 ghost use Rattle.commit_slots.specs.Places.{slot_number, layout_of, snapshot_at, journal_at};
-ghost use Rattle.commit_slots.specs.Images.{slot_of, IsStore};
-ghost use Rattle.meta_store.specs.Images.{IsImage, IsCorruptAt};
+ghost use Rattle.commit_slots.specs.Images.{IsStore};
+ghost use Rattle.meta_store.specs.Images.{Holds, IsCorruptAt};
 ghost use Rattle.meta_store.specs.Records.{after_all, refusal_of_all, CanStandAll, IsEvent};
 ghost use Rattle.meta_store.specs.Catalogs.{AreLengths};
 ghost use Rattle.meta_store.specs.Meta.{Meta, IsMeta, Backs, StoresOrKeeps, HasStored, IsStoredNow, IsTaken};
@@ -40,9 +40,9 @@ impl Model for MetaStore {
 
     ghost Value = { Meta };
 
-    ghost view = { λ m. record { slot = m.slots.slot; fsid = m.fsid; number = m.number; durable = m.durable.value; current = m.catalog } };
+    ghost view = { λ m. record { place = record { slot = m.slots.slot }; fsid = m.fsid; number = m.number; durable = m.durable.value; current = m.catalog } };
 
-    ghost invariant = { λ m. IsStored (record { slot = m.slots.slot; fsid = m.fsid; number = m.number; durable = m.durable.value; current = m.catalog }) × (m.slots.geometry ≡ m.catalog.geometry) };
+    ghost invariant = { λ m. IsStored (record { place = record { slot = m.slots.slot }; fsid = m.fsid; number = m.number; durable = m.durable.value; current = m.catalog }) × (m.slots.geometry ≡ m.catalog.geometry) };
 }
 
 impl MetaStore {
@@ -75,7 +75,7 @@ impl MetaStore {
         ensures keeps { Keeps D.Disk disk.old disk.new Same }
         ensures given { Alike (D.gives disk.old) (D.gives disk.new) }
         ensures length { IfOk result (λ m. D.length_of disk.old ≡ (layout_of m.durable.geometry).whole) }
-        ensures found { IfOk result (λ m. (c : List ℕ) → D.gives disk.old c → (slot_of c ≡ m.slot) × IsImage m.fsid m.number m.durable c) }
+        ensures found { IfOk result (λ m. (c : List ℕ) → D.gives disk.old c → Holds m.fsid m.place m.number m.durable c) }
         ensures same { IfOk result (λ m. m.current ≡ m.durable) }
         ensures lawful { IfOk result (λ m. IsMeta m) }
         ensures not_store { IsErrOf result OpenRefusal.NotStore → (c : List ℕ) → D.gives disk.old c → (geometry fsid : ℕ) → IsStore geometry fsid c → ⊥ }

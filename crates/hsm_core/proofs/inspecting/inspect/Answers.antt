@@ -19,5 +19,5 @@ pub returns-in-Ok-summary_of-clause-told : goal.returns-in-Ok-summary_of-clause-
 returns-in-Ok-summary_of-clause-told g c = λ image gives.
     let meta : Meta = c.in-Ok.meta in
     let summary : Summary = c.in-Ok-summary_of.summary in
-    summary_found summary meta.fsid meta.number meta.durable image (c.one_recovery.ensures image) (c.in-Ok.ensures.found image gives).1
+    summary_found summary meta.fsid meta.number meta.durable image (c.one_recovery.ensures image) (record { place = meta.place; holds = c.in-Ok.ensures.found image gives })
     (subst (λ (x : Catalog). (h : Held) → Shows x h → summary ≡ summary_of x.geometry meta.fsid meta.number h) c.in-Ok.ensures.same c.in-Ok-summary_of.ensures)

@@ -29,7 +29,7 @@ parts_of-requires-clause-blocks c = (extents-tell 0 (blocks_in c.args.file.size)
 
 pub returns-in_err-parts-clause-corrupt : goal.returns-in_err-parts-clause-corrupt
 returns-in_err-parts-clause-corrupt c = λ is next.
-    c.in_err-parts.ensures.corrupt (told_err c.from_residual-in_err-parts.result c.in_err-parts.field-0.0 Corrupt c.from_residual-in_err-parts.ensures.1 is)
+    c.in_err-parts.ensures.corrupt (told_err c.from_residual.result c.in_err-parts.field-0.0 Corrupt c.from_residual.ensures.1 is)
     (may-keep c.args.geometry c.args.next (map snapshot_file c.args.catalog.now.files) (raw_file c.args.file) c.attribute_total.result c.stub_total.result (c.attribute_total.ensures ∙ attribute_total_in-snapshot c.args.catalog.now.files) (c.stub_total.ensures ∙ stub_total_in-snapshot c.args.catalog.now.files) next)
 
 pub put-requires-clause-low : goal.put-requires-clause-low

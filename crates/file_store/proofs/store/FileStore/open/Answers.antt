@@ -12,7 +12,7 @@ pub returns-in-Ok-clause-durable : goal.returns-in-Ok-clause-durable
 returns-in-Ok-clause-durable g c = λ image may. record {
   catalog = c.in-Ok.meta.durable;
   same = refl;
-  is = c.in-Ok.ensures.backs.image image may;
+  is = record { place = _; holds = c.in-Ok.ensures.backs.image image may };
   holds = c.in-Ok.ensures.holds image may ∙ rw (c.of.ensures, c.in-Ok.ensures.same) refl;
 }
 

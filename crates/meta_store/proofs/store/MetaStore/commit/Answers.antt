@@ -1,7 +1,7 @@
 use Rattle.std.proofs.Common.{refl, sym, ◌∙◌, ap, subst}
 use Rattle.commit_slots.specs.Places.{other}
 use Rattle.meta_store.specs.Meta.{Meta, Backs}
-use Rattle.meta_store.proofs.CommitTurns.{stores_nothing, HasSwitched, Commits, commits}
+use Rattle.meta_store.proofs.CommitTurns.{stores_nothing, place_on, HasSwitched, Commits, commits}
 use Rattle.meta_store.proofs.store.MetaStore.commit.Given.{Over}
 use Rattle.meta_store.proofs.store.MetaStore.commit.Goals.{After-store}
 use Rattle.meta_store.proofs.store.MetaStore.commit.Goals as goal
@@ -25,5 +25,5 @@ returns-in-Ok-store-clause-stored g c = (done g (goal.at.returns-in-Ok-store-cla
 
 pub returns-in-Ok-store-clause-backs : goal.returns-in-Ok-store-clause-backs
 returns-in-Ok-store-clause-backs g c =
-    (done g (goal.at.returns-in-Ok-store-clause-backs g c).After-store).backs c.in-Ok-store.ensures.stored _ (ap (λ s. s.slot) c.in-Ok-store.ensures.slot ∙ ap (λ (m : Meta). other m.slot) c.self.view_is)
+    (done g (goal.at.returns-in-Ok-store-clause-backs g c).After-store).backs c.in-Ok-store.ensures.stored _ (ap (λ s. place_on s.slot) c.in-Ok-store.ensures.slot ∙ ap (λ (m : Meta). place_on (other m.place.slot)) c.self.view_is)
     (ap (λ (m : Meta). m.fsid) c.self.view_is) refl (c.of.ensures ∙ ap (λ (m : Meta). m.current) c.self.view_is)

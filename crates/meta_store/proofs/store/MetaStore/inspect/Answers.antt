@@ -22,11 +22,9 @@ returns-in-Ok-false-clause-corrupt g c = λ place is image given.
     _ c.selected-snapshot.ensures.journal _ _ c.in-Ok-catalog_in.ensures.geometry c.in-Ok-catalog_in.ensures.found ((c.in-Ok-false.ensures.closed image (c.load.ensures.given.1 image given)).1 c.in-Ok-false.field-0-test))
 
 pub returns-clause-found : goal.returns-clause-found
-returns-clause-found g c = λ image given. (
-  c.in-Ok.ensures.selected image given,
-  rw c.of.ensures (image_found (record { store = c.in-Ok.ensures.found image given; select = c.in-Ok.ensures.selected image given; holds = c.deref.ensures.value ∙ c.in-Ok.ensures.image image given })
-      _ c.selected-snapshot.ensures.journal _ _ c.in-Ok-catalog_in.ensures.geometry c.in-Ok-catalog_in.ensures.found ((c.in-Ok-true.ensures.closed image (c.load.ensures.given.1 image given)).0 c.in-Ok-true.field-0-test)),
-)
+returns-clause-found g c = λ image given.
+    rw c.of.ensures (image_found (record { store = c.in-Ok.ensures.found image given; select = c.in-Ok.ensures.selected image given; holds = c.deref.ensures.value ∙ c.in-Ok.ensures.image image given })
+    _ c.selected-snapshot.ensures.journal _ _ c.in-Ok-catalog_in.ensures.geometry c.in-Ok-catalog_in.ensures.found ((c.in-Ok-true.ensures.closed image (c.load.ensures.given.1 image given)).0 c.in-Ok-true.field-0-test))
 
 pub returns-in-Ok-false-clause-keeps : goal.returns-in-Ok-false-clause-keeps
 returns-in-Ok-false-clause-keeps g c = sames_on g.D.Disk _ _ _ c.load.ensures.keeps c.is_closed.ensures.keeps
