@@ -3,6 +3,7 @@ pub mod ReadValues
 pub mod Readers
 pub mod ReadSnapshots
 pub mod KeptBounds
+pub mod PartsAfter
 pub mod KeptAttributes
 pub mod LawfulStubs
 pub mod SnapshotFits
@@ -21,6 +22,7 @@ pub mod FilesAfter
 pub mod KeptCatalogs
 pub mod HeldFiles
 pub mod HeldCatalogs
+pub mod LentParts
 pub mod SpreadPlaces
 pub mod StandOnce
 pub mod StubLists

@@ -8,7 +8,7 @@ use Rattle.inode_table.specs.declared.entries.FileEntry.{FileEntry}
 use Rattle.inode_table.specs.Table.{Table}
 use Rattle.meta_store.specs.declared.file_parts.FileParts.{FileParts}
 use Rattle.meta_store.specs.declared.records.Record.{Record}
-use Rattle.meta_store.specs.declared.records.Record.TheVariants.{Size, Map, Stub}
+use Rattle.meta_store.specs.declared.records.Record.TheVariants.{Size, Map, SetAttr, Stub}
 use Rattle.meta_store.specs.Catalogs.{CatalogFile, Catalog, StubFits, IsCatalog, geometry_of, attribute_total, stub_total}
 use Rattle.meta_store.specs.Records.{file_after, FitsStub}
 
@@ -43,6 +43,11 @@ FitsParts r parts = Unit {0}
 abbrev pub IsNumbered : Record → Type 0
 IsNumbered (Stub ino j (Some stub)) = StubFits (j, stub)
 IsNumbered r = Unit {0}
+
+-- the name of an attribute that the record sets has eight bytes
+abbrev pub IsNamed : Record → Type 0
+IsNamed (SetAttr ino name value) = length name.0 ≡ 8
+IsNamed r = Unit {0}
 
 abbrev pub file_held : List FileParts → FileEntry → CatalogFile
 file_held parts e = file_of e.key e.name e.size (slice_index_or parts (e.key.ino - 1) no_parts)
