@@ -55,7 +55,8 @@ pub use Rattle.snapshot_text.specs.Files.{geometry_of, present, CatalogFile, IsC
 pub use Rattle.meta_store.specs.Images.{Holds, blocks_in_image, Recovers}
 pub use Rattle.meta_store.proofs.HeldImages.{image_size}
 pub use Rattle.meta_store.specs.Meta.{Meta, Backs, IsMeta, StoresOrKeeps, HasStored, IsStoredNow}
-pub use Rattle.snapshot_text.specs.FileRecords.{places_fitted, places_set, file_after, inode_of}
+pub use Rattle.snapshot_text.specs.FileRecords.{places_fitted, places_set, file_after}
+pub use Rattle.journal_records.specs.Texts.{inode_of}
 pub use Rattle.meta_store.specs.Records.{with_changed, kept_at, others_total, key_on, IsNewFile, after}
 pub use Rattle.meta_store.specs.Records.{CanStand, after_all, refusal_of_all, IsMappable, CanStandAll, IsEvent, refusal_of}
 pub use Rattle.snapshot_text.specs.FileRecords.{mappings_from, IsSure}

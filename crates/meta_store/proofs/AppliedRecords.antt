@@ -1,7 +1,9 @@
 -- The records of an event are taken one after another.
-use Rattle.std.proofs.Common.{◌≡◌, Some, ◌↔◌, ◌⊎◌, ⊎_elim, Err, List, [], ◌∷◌, rules, refl, arith}
+use Rattle.std.proofs.Common.{◌≡◌, Some, ◌↔◌, ◌⊎◌, ⊎_elim, inl, inr, ◌∙◌, Option, Err, List, [], ◌∷◌, rules, refl, arith}
 use Rattle.std.specs.Prelude.{None, Result}
 use Rattle.std.specs.List.{AllByRecursion}
+use Rattle.hsm_types.specs.Refusals.{first_refusal}
+use Rattle.hsm_types.specs.declared.dm.DmRefusal.{DmRefusal}
 use Rattle.journal_records.specs.declared.records.Record.{Record}
 use Rattle.journal_records.specs.declared.records.Record.TheVariants.{Map, Stub}
 use Rattle.meta_store.specs.Catalogs.{Catalog}
@@ -27,6 +29,9 @@ pub record IsTaking (records : List Record) (old : Catalog) (left : List Record)
   pub judged : refusal_of_all left now ≡ refusal_of_all records old
   pub begun : (now ≡ old) × IsEvent left ⊎ AllByRecursion IsSure left
 
+first-passes : (a b : Option DmRefusal) → a ≡ None → b ≡ first_refusal (a ∷ b ∷ [])
+first-passes a b none = grind arith
+
 module _ (records : List Record) (old : Catalog) (r : Record) (left : List Record) (now : Catalog) (taking : IsTaking records old (r ∷ left) now) where
   -- behind it only such are left
   sure_left : AllByRecursion IsSure left
@@ -38,6 +43,23 @@ module _ (records : List Record) (old : Catalog) (r : Record) (left : List Recor
 
   pub taking-judged : refusal_of r now ≡ refusal_of_all records old
   taking-judged = grind (arith, all_stand left (after r now) sure_left taking.stand.1, taking.judged)
+
+-- at first all of them are left, and at last none
+pub taking-all : (records : List Record) (old : Catalog) → IsEvent records → CanStandAll records old → IsTaking records old records old
+taking-all records old event stand = record { stand = stand; geometry = refl; ends = refl; judged = refl; begun = inl (refl, event) }
+
+geometry-after : (r : Record) (c : Catalog) → (after r c).geometry ≡ c.geometry
+geometry-after r c = grind arith
+
+-- one more is taken
+pub taking-next : (records : List Record) (old : Catalog) (r : Record) (left : List Record) (now new : Catalog) → IsTaking records old (r ∷ left) now → refusal_of r now ≡ None → new ≡ after r now → IsTaking records old left new
+taking-next records old r left now new t passes is = rw is (record {
+  stand = t.stand.1;
+  geometry = geometry-after r now ∙ t.geometry;
+  ends = t.ends;
+  judged = first-passes (refusal_of r now) (refusal_of_all left (after r now)) passes ∙ t.judged;
+  begun = inr (sure_left records old r left now t);
+})
 
 -- the same error, of another function
 pub told_on : {T U E : Type 0} (e v : E) (P : Type 0) → ◌≡◌ {A = Result T E} (Err e) (Err v) ↔ P → ◌≡◌ {A = Result U E} (Err e) (Err v) ↔ P

@@ -10,21 +10,24 @@ use Rattle.hsm_types.specs.Keyed.{same_key, find_key, change_key, drop_key}
 use Rattle.plain_model.specs.Plain.{Listed, named}
 use Rattle.plain_model.specs.Blocks.{blocks_in}
 use Rattle.inode_table.specs.Listing.{key_at, has_inode}
-use Rattle.meta_store.specs.declared.snapshot.Mapping.{Mapping}
+use Rattle.snapshot_text.specs.declared.snapshot.Mapping.{Mapping}
 use Rattle.journal_records.specs.declared.records.Record.{Record}
 use Rattle.journal_records.specs.declared.records.Record.TheVariants.{Make, Drop, Size, Map, Regions, SetAttr, DropAttr, Stub}
-use Rattle.meta_store.specs.Catalogs.{CatalogFile, Catalog, names_of}
+use Rattle.snapshot_text.specs.Files.{CatalogFile}
+use Rattle.meta_store.specs.Catalogs.{Catalog, names_of}
 use Rattle.journal_records.specs.Texts.{inode_of}
-use Rattle.snapshot_text.specs.FileRecords.{places_fitted, places_set, mappings_from, places_without, file_after, key_on, after, after_all, CanStandOn}
+use Rattle.snapshot_text.specs.FileRecords.{places_fitted, places_set, mappings_from, places_without, file_after}
+use Rattle.meta_store.specs.Records.{key_on, after, after_all, CanStandOn}
 use Rattle.meta_store.specs.Records.{CanStand, CanStandAll}
-use Rattle.meta_store.specs.Snapshots.{SnapshotFile, Snapshot, extents_from, snapshot_file, snapshot_of}
+use Rattle.snapshot_text.specs.Snapshots.{SnapshotFile, Snapshot, extents_from, snapshot_file}
+use Rattle.meta_store.specs.Snapshots.{snapshot_of}
 use Rattle.meta_store.specs.Validity.{names_in}
 use Rattle.meta_store.specs.Batches.{with_extent, with_extents, extents_below, extents_without, file_changed, key_in, changed, changed_all, HasFile}
 use Rattle.meta_store.specs.Batches.{HaveFiles, after_batch}
 use Rattle.meta_store.specs.Meta.{Meta}
 use Rattle.meta_store.specs.Laws.{IsTakenAsBatch}
 use Rattle.meta_store.proofs.FileEdits.{name_of, map-put, map-drop}
-use Rattle.meta_store.proofs.ClearedPlaces.{cleared, without-cleared}
+use Rattle.snapshot_text.proofs.ClearedPlaces.{cleared, without-cleared}
 
 -- ---- extents of places
 

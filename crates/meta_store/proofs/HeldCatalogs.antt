@@ -1,5 +1,5 @@
 -- A catalog in memory, after one file more, one less and one changed.
-use Rattle.std.proofs.Common.{◌≡◌, ℕ, zero, suc, ◌+◌, ◌-◌, ◌≤◌, List, [], ◌∷◌, length, map, get_or, set, false, Option, Some, None, refl, sym, ◌∙◌}
+use Rattle.std.proofs.Common.{◌≡◌, ℕ, zero, suc, ◌+◌, ◌-◌, ◌<◌, ◌≤◌, List, [], ◌∷◌, length, map, get_or, set, false, Option, Some, None, refl, sym, ◌∙◌}
 use Rattle.std.proofs.Common.{ap, subst, arith}
 use Rattle.std.specs.List.{slice_get}
 use Rattle.std.specs.Option.{IsSome, option_map, unwrap_or}
@@ -120,28 +120,31 @@ module _ (s : Inside) (v : Catalog) (is : catalog_held s.geometry s.table s.part
   -- ---- the file of an inode
 
   module _ (ino : ℕ) (some : IsSome (find_key (λ g. g.key) (key_on ino v) v.files)) where
-    file : (f : CatalogFile) × (find_key (λ g. g.key) (key_on ino v) v.files ≡ Some f)
+    pub file : (f : CatalogFile) × (find_key (λ g. g.key) (key_on ino v) v.files ≡ Some f)
     file = there (find_key (λ g. g.key) (key_on ino v) v.files) some
+
+    pub inode : (key_on ino v).ino ≡ ino
+    inode = inode_at ino (key_at ino (names_of v.files)) (λ j here. (key_at-found ino j (names_of v.files) here).0)
+
+    pub live-on : IsLive s.table s.parts.items (key_on ino v) file.0
+    live-on = live (key_on ino v) file.0 file.1
 
     pub live-at : key_at ino (listing s.table.files) ≡ Some (key_on ino v)
     live-at =
         let k : FileKey = key_on ino v in
-        let at : k.ino ≡ ino = inode_at ino (key_at ino (names_of v.files)) (λ j here. (key_at-found ino j (names_of v.files) here).0) in
-        let listed = found-listed k (entry_of file.0.key file.0.name file.0.size) s.table.files (live k file.0 file.1).entry in
-        subst (λ (n : ℕ). key_at n (listing s.table.files) ≡ Some k) at (found-key_at 1 k _ (listing s.table.files) table.ascend listed)
+        let listed = found-listed k (entry_of file.0.key file.0.name file.0.size) s.table.files live-on.entry in
+        subst (λ (n : ℕ). key_at n (listing s.table.files) ≡ Some k) inode (found-key_at 1 k _ (listing s.table.files) table.ascend listed)
 
-    module _ (o : Option FileKey) (k : FileKey) (here : o ≡ key_at ino (listing s.table.files)) (taken : o ≡ Some k) where
-      pub key-at : k ≡ key_on ino v
-      key-at = let at = live-at in cc
+    -- where its parts stand
+    module _ (at : ℕ) (here : at ≡ ino - 1) where
+      pub place-within : at < length s.parts.items
+      place-within = let k = inode in let low = live-on.low in let high = live-on.high in omega arith
 
-      pub some-at : IsSome (find_key (λ g. g.key) k v.files)
-      some-at = rw key-at some
+      pub place-same : (x : FileParts) → x ≡ get_or s.parts.items at x → x ≡ parts_of file.0
+      place-same x read = read-live s.table s.parts.items (key_on ino v) file.0 live-on at x (here ∙ ap (λ (n : ℕ). n - 1) (sym inode)) read
 
-      pub left : (x : FileParts) → Some x ≡ option_map parts_of (find_key (λ g. g.key) k v.files) → IsLeft s v (key_on ino v) x
-      left x parts =
-          let found = rw (key-at, file.1) at parts in
-          let same : x ≡ parts_of file.0 = cc in
-          rw same (others (key_on ino v) file.0 file.1)
+      pub left : (x : FileParts) → x ≡ get_or s.parts.items at x → IsLeft s v (key_on ino v) x
+      left x read = rw (place-same x read) (others (key_on ino v) file.0 file.1)
 
   -- ---- after a change
 
@@ -158,7 +161,7 @@ module _ (s : Inside) (v : Catalog) (is : catalog_held s.geometry s.table s.part
   pub drop-held : (key : FileKey) → catalog_held s.geometry (record s.table { files = drop_key (λ e. e.key) key s.table.files }) s.parts.items ≡ without_file key v
   drop-held key = rw (← is, map-drop (λ (f : CatalogFile). f.key) (file_held s.parts.items) key s.table.files) refl
 
--- ---- a part of the file that a key has, if it has one
+-- ---- a part of a file that is found
 
 pub part_none : {X : Type 0} (g : CatalogFile → X) (o : Option CatalogFile) → None ≡ option_map parts_of o → None ≡ option_map g o
 part_none g o is = grind arith

@@ -1,7 +1,7 @@
 -- Edits of the table and of the array of parts are edits of the catalog.
-use Rattle.std.proofs.Common.{◌≡◌, ℕ, ◌+◌, ◌-◌, ◌≤◌, List, [], ◌∷◌, length, map, get_or, set, false, Some, refl, ◌∙◌, arith, get_or-set_same, get_or-set_other}
+use Rattle.std.proofs.Common.{◌≡◌, ℕ, ◌+◌, ◌-◌, ◌≤◌, List, [], ◌∷◌, length, map, get_or, set, true, false, cond, Some, refl, ap, ◌∙◌, arith, get_or-set_same, get_or-set_other}
 use Rattle.hsm_types.specs.declared.keys.FileKey.{FileKey}
-use Rattle.hsm_types.specs.Keyed.{find_key, change_key, put_key}
+use Rattle.hsm_types.specs.Keyed.{same_key, find_key, change_key, put_key}
 use Rattle.inode_table.specs.declared.entries.FileEntry.{FileEntry}
 use Rattle.inode_table.specs.Listing.{listing, has_inode, Ascend, Within}
 use Rattle.inode_table.specs.Table.{entry_of}
@@ -53,3 +53,12 @@ held-change ps n limit next k to e x size (f ∷ es) from high a w found is =
     let later = λ (there : find_key (λ g. g.key) k es ≡ Some e). held-change ps (f.key.ino + 1) limit next k to e x size es (omega arith) high a.1 w.2 there is in
     let apart = λ (there : find_key (λ g. g.key) k es ≡ Some e). let above = (found-within (f.key.ino + 1) limit next k e es a.1 w.2 there).1 in get_or-set_other ps (k.ino - 1) (f.key.ino - 1) x no_parts (λ same. absurd (omega (arith, a.0, above))) in
     grind (arith, keys, own, stay, later, apart)
+
+-- a file whose size becomes what it is
+pub change-same : (k : FileKey) (e : FileEntry) (es : List FileEntry) → find_key (λ f. f.key) k es ≡ Some e → change_key (λ f. f.key) k (λ f. record f { size = e.size }) es ≡ es
+change-same k e [] found = refl
+change-same k e (f ∷ es) found =
+    elim (same_key f.key k) as (λ b. cond b (Some f) (find_key (λ g. g.key) k es) ≡ Some e → cond b (record f { size = e.size } ∷ es) (f ∷ change_key (λ g. g.key) k (λ g. record g { size = e.size }) es) ≡ f ∷ es) [
+      | true ↦ λ is. let it : e ≡ f = cc in ap (λ (g : FileEntry). record f { size = g.size } ∷ es) it
+      | false ↦ λ is. ap (λ (fs : List FileEntry). f ∷ fs) (change-same k e es is)
+    ] found

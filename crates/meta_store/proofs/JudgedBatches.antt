@@ -11,15 +11,17 @@ use Rattle.plain_model.specs.Distinct.{Distinct}
 use Rattle.inode_table.specs.Table.{IsTable}
 use Rattle.journal_records.specs.declared.records.Record.{Record}
 use Rattle.journal_records.specs.declared.records.Record.TheVariants.{Make, Drop, Size, Map, Regions, SetAttr, DropAttr, Stub}
-use Rattle.meta_store.specs.Catalogs.{CatalogFile, Catalog, geometry_of, HasLengths, IsCatalogFile, IsCatalog, AreLengths, attribute_total, stub_total}
+use Rattle.snapshot_text.specs.Files.{CatalogFile, geometry_of, HasLengths, IsCatalogFile}
+use Rattle.meta_store.specs.Catalogs.{Catalog, IsCatalog, AreLengths, attribute_total, stub_total}
 use Rattle.journal_records.specs.Texts.{inode_of}
-use Rattle.meta_store.specs.Snapshots.{SnapshotFile, Snapshot, snapshot_file, snapshot_of}
+use Rattle.snapshot_text.specs.Snapshots.{SnapshotFile, Snapshot, snapshot_file}
+use Rattle.meta_store.specs.Snapshots.{snapshot_of}
 use Rattle.meta_store.specs.Validity.{names_in, places_in, attribute_total_in, stub_total_in}
 use Rattle.meta_store.specs.Batches.{file_changed, empty_file, key_in, changed, changed_all, after_batch, IsLawful, is_about, IsLawfulFile, AreTogether}
 use Rattle.meta_store.specs.Batches.{AreChangedLawful}
 use Rattle.meta_store.specs.Laws.{IsJudgedByChanges}
 use Rattle.meta_store.proofs.BatchedRecords.{ino_on}
-use Rattle.meta_store.proofs.EachOf.{each-as}
+use Rattle.snapshot_text.proofs.EachOf.{each-as}
 use Rattle.meta_store.proofs.FoundFiles.{same_keys}
 use Rattle.meta_store.proofs.PassingFiles.{names_in-snapshot, places_in-snapshot}
 

@@ -13,6 +13,7 @@ pub mod FilesAfter
 pub mod KeptCatalogs
 pub mod HeldFiles
 pub mod HeldCatalogs
+pub mod LentParts
 pub mod StandOnce
 pub mod StubsAfter
 pub mod PassingFiles

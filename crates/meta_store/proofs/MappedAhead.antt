@@ -5,10 +5,12 @@ use Rattle.std.specs.List.Sorted.{IsStrictlySortedBy}
 use Rattle.std.specs.Global.{Vec}
 use Rattle.hsm_types.specs.Kept.{nothing_kept}
 use Rattle.plain_model.specs.Blocks.{blocks_in}
-use Rattle.meta_store.specs.declared.snapshot.Mapping.{Mapping}
+use Rattle.snapshot_text.specs.declared.snapshot.Mapping.{Mapping}
 use Rattle.journal_records.specs.declared.records.Record.TheVariants.{Size, Map}
-use Rattle.meta_store.specs.Catalogs.{CatalogFile, Catalog, IsLawfulKept, IsCatalogFile, IsCatalog, geometry_of}
-use Rattle.meta_store.specs.Snapshots.{SnapshotFile, Snapshot, extents_from, snapshot_file, snapshot_of}
+use Rattle.snapshot_text.specs.Files.{CatalogFile, IsLawfulKept, IsCatalogFile, geometry_of}
+use Rattle.meta_store.specs.Catalogs.{Catalog, IsCatalog}
+use Rattle.snapshot_text.specs.Snapshots.{SnapshotFile, Snapshot, extents_from, snapshot_file}
+use Rattle.meta_store.specs.Snapshots.{snapshot_of}
 use Rattle.meta_store.specs.Batches.{changed, after_batch, HaveFiles, CanFollow}
 use Rattle.meta_store.specs.Laws.{one_file, IsJudgedAtItsEnd}
 

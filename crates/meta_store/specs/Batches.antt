@@ -15,13 +15,15 @@ use Rattle.plain_model.specs.Distinct.{Distinct}
 use Rattle.inode_table.specs.Listing.{key_at, has_inode}
 use Rattle.inode_table.specs.Table.{IsTable}
 use Rattle.std.specs.Option.{unwrap_or}
-use Rattle.meta_store.specs.declared.snapshot.Mapping.{Mapping}
+use Rattle.snapshot_text.specs.declared.snapshot.Mapping.{Mapping}
 use Rattle.journal_records.specs.declared.records.Record.{Record}
 use Rattle.journal_records.specs.declared.records.Record.TheVariants.{Make, Drop, Size, Map, Regions, SetAttr, DropAttr, Stub}
-use Rattle.meta_store.specs.Catalogs.{CatalogFile, Catalog, geometry_of, HasLengths, IsCatalogFile, IsCatalog, AreLengths}
+use Rattle.snapshot_text.specs.Files.{CatalogFile, geometry_of, HasLengths, IsCatalogFile}
+use Rattle.meta_store.specs.Catalogs.{Catalog, IsCatalog, AreLengths}
 use Rattle.journal_records.specs.Texts.{inode_of}
 use Rattle.snapshot_text.specs.FileRecords.{mappings_from}
-use Rattle.meta_store.specs.Snapshots.{SnapshotFile, Snapshot, snapshot_file, snapshot_of}
+use Rattle.snapshot_text.specs.Snapshots.{SnapshotFile, Snapshot, snapshot_file}
+use Rattle.meta_store.specs.Snapshots.{snapshot_of}
 use Rattle.meta_store.specs.Validity.{names_in, places_in, attribute_total_in, stub_total_in}
 
 -- ---- extents of a file, which ascend

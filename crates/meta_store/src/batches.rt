@@ -3,7 +3,7 @@ ghost use Rattle.std.specs.Prelude.{ℕ, List};
 ghost use Rattle.std.specs.Global.{Vec};
 ghost use Rattle.journal_records.specs.declared.records.Record.{Record};
 ghost use Rattle.meta_store.specs.Meta.{Meta};
-ghost use Rattle.meta_store.specs.Snapshots.{Snapshot};
+ghost use Rattle.snapshot_text.specs.Snapshots.{Snapshot};
 ghost use Rattle.meta_store.specs.Laws.{IsTakenAsBatch, IsJudgedByChanges, IsJudgedAtItsEnd};
 
 /// What `MetaStore::apply` takes is a batch, and makes of the files what the batch makes of what a snapshot says of them.

@@ -1,37 +1,38 @@
 //! The catalog of a store's files in memory.
 ghost use Rattle.std.specs.Prelude.{◌≡◌, ◌↔◌, ◌++◌, ◌+◌, ◌<◌, ◌≤◌, [], length, map, false, None, Some, Err, IsSome, IsOk, IfOk, IsErrOf, OnOk};
 ghost use Rattle.std.specs.Prelude.{OnErr, slice_get};
-ghost use Rattle.std.specs.Option.{option_map};
+ghost use Rattle.std.specs.Option.{option_map, unwrap_or};
 ghost use Rattle.hsm_types.specs.Limits.{last_generation};
 ghost use Rattle.hsm_types.specs.Attributes.{bytes_of_attributes};
 ghost use Rattle.hsm_types.specs.declared.dm.DmRefusal.{DmRefusal};
-ghost use Rattle.hsm_types.specs.Keyed.{find_key};
+ghost use Rattle.hsm_types.specs.declared.keys.FileKey.{FileKey};
+ghost use Rattle.hsm_types.specs.Keyed.{find_key, change_key};
 ghost use Rattle.plain_model.specs.Plain.{named};
 ghost use Rattle.plain_model.specs.Distinct.{Distinct};
-ghost use Rattle.inode_table.specs.Listing.{has_inode};
+ghost use Rattle.inode_table.specs.declared.entries.FileEntry.{FileEntry};
+ghost use Rattle.inode_table.specs.Listing.{has_inode, key_at, listing};
 ghost use Rattle.inode_table.specs.Table.{entry_of};
-ghost use Rattle.snapshot_text.specs.Files.{geometry_of, present, IsCatalogFile};
+ghost use Rattle.snapshot_text.specs.Files.{geometry_of, present, CatalogFile, IsCatalogFile};
 ghost use Rattle.meta_store.specs.Catalogs.{names_of, blocks_of, attribute_total, stub_total, IsCatalog};
-ghost use Rattle.meta_store.specs.Records.{with_put, without_file, with_changed, key_on, after, others_of, refusal_of};
+ghost use Rattle.meta_store.specs.Records.{with_put, without_file, with_changed, key_on, after, after_all, others_of, refusal_of, refusal_of_all};
 ghost use Rattle.journal_records.specs.Texts.{inode_of};
-ghost use Rattle.snapshot_text.specs.FileRecords.{file_after};
-ghost use Rattle.meta_store.specs.Records.{IsAboutOne, CanStand};
-ghost use Rattle.snapshot_text.specs.FileRecords.{IsSure};
+ghost use Rattle.snapshot_text.specs.FileRecords.{file_after, IsSure};
+ghost use Rattle.meta_store.specs.Records.{IsAboutOne, IsEvent, CanStand, CanStandAll};
 ghost use Rattle.snapshot_text.specs.Parts.{file_of, parts_of};
 
 use crate::inode_parts::{self, slot};
 use dm_attrs::DmAttrs;
 use hsm_types::{FileKey, Word};
 use inode_table::InodeTable;
-use journal_records::Record;
+use journal_records::{Record, Records};
 use managed_regions::ManagedRegions;
-use snapshot_text::{FileParts, MetaRefusal, Others, geometry_of, size_after};
+use snapshot_text::{FileParts, MetaRefusal, Others, geometry_of};
 use std::alloc::{AllocError, Global};
 use std::marker::Model;
 use stub_map::StubMap;
 
-/// The names, sizes and block places of a store's files, and what sessions keep with them. A name costs one look-up in a map, a key a binary
-/// search. The parts of a dropped file keep their memory until its inode is given again.
+/// The names, sizes and block places of a store's files, and what sessions keep with them. A name costs one look-up in a map, and whether a key is
+/// live a binary search. What is kept of a live file stands at its inode. The parts of a dropped file keep their memory until its inode is given again.
 #[derive(Drop)]
 pub struct Catalog {
     geometry: u32,
@@ -127,7 +128,7 @@ impl Catalog {
     pub fn places(&self, key: FileKey) -> Option<&[Option<u32>]>
         ensures { option_map (λ r. r.now) result ≡ option_map (λ f. f.places) (find_key (λ f. f.key) key self.now.files) }
     {
-        Some(self.parts(key)?.places())
+        Some(self.found(key)?.places())
     }
 
     /// How many blocks of the disk a live file uses.
@@ -135,7 +136,7 @@ impl Catalog {
     pub fn mapped(&self, key: FileKey) -> Option<u64>
         ensures { result ≡ option_map (λ f. length (present f.places)) (find_key (λ f. f.key) key self.now.files) }
     {
-        Some(u64::from(self.parts(key)?.places.mapped()))
+        Some(self.found(key)?.mapped())
     }
 
     /// The regions of a live file.
@@ -143,7 +144,7 @@ impl Catalog {
     pub fn regions(&self, key: FileKey) -> Option<&ManagedRegions>
         ensures { option_map (λ r. r.now) result ≡ option_map (λ f. f.kept.regions) (find_key (λ f. f.key) key self.now.files) }
     {
-        Some(self.parts(key)?.regions())
+        Some(self.found(key)?.regions())
     }
 
     /// The attributes of a live file.
@@ -151,7 +152,7 @@ impl Catalog {
     pub fn attributes(&self, key: FileKey) -> Option<&DmAttrs>
         ensures { option_map (λ r. r.now) result ≡ option_map (λ f. f.kept.attributes) (find_key (λ f. f.key) key self.now.files) }
     {
-        Some(self.parts(key)?.attributes())
+        Some(self.found(key)?.attributes())
     }
 
     /// The stub entries of a live file.
@@ -159,16 +160,24 @@ impl Catalog {
     pub fn stubs(&self, key: FileKey) -> Option<&StubMap>
         ensures { option_map (λ r. r.now) result ≡ option_map (λ f. f.kept.stubs) (find_key (λ f. f.key) key self.now.files) }
     {
-        Some(self.parts(key)?.stubs())
+        Some(self.found(key)?.stubs())
     }
 
-    /// What is kept of a live file beside its key, its name and its size.
+    /// What is kept of the file with that key, if it lives. It costs a binary search.
     #[tactic(auto, using(crate::proofs::FileEdits::found_steps))]
-    fn parts(&self, key: FileKey) -> Option<&FileParts>
+    fn found(&self, key: FileKey) -> Option<&FileParts>
         ensures { option_map (λ r. r.now) result ≡ option_map parts_of (find_key (λ f. f.key) key self.now.files) }
     {
         let _size = self.table.size(key)?;
-        Some(&self.parts[slot(key.ino)])
+        Some(self.parts(key))
+    }
+
+    /// What is kept of a live file beside its key, its name and its size. It stands at the file's inode, and is not searched for.
+    pub fn parts(&self, key: FileKey) -> &FileParts
+        requires { IsSome (find_key (λ f. f.key) key self.now.files) }
+        ensures { Some result.now ≡ option_map parts_of (find_key (λ f. f.key) key self.now.files) }
+    {
+        &self.parts[slot(key.ino)]
     }
 
     /// Adds a file as a snapshot or a record has it. At an `Err` nothing has changed.
@@ -197,13 +206,30 @@ impl Catalog {
         self.attribute_total += parts.attributes.bytes();
         self.stub_total += parts.stubs.len();
         self.used += u64::from(parts.places.mapped());
-        self.parts[slot(key.ino)] = parts;
+        inode_parts::set_at(&mut self.parts, key.ino, parts);
+        Ok(())
+    }
+
+    /// Changes the files as the records of one event say: all of them, or none.
+    pub(crate) fn apply_all(&mut self, alloc: Global, records: Records) -> Result<(), MetaRefusal>
+        requires event { IsEvent records }
+        requires stand { CanStandAll records self.old }
+        ensures judged { OnOk result (refusal_of_all records self.old ≡ None) }
+        ensures taken { OnOk result (self.new ≡ after_all records self.old) }
+        ensures refused { (why : DmRefusal) → (result ≡ Err (MetaRefusal.Part why)) ↔ (refusal_of_all records self.old ≡ Some why) }
+        ensures no_disk { IsErrOf result MetaRefusal.Disk → ⊥ }
+        ensures geometry { self.new.geometry ≡ self.old.geometry }
+        ensures err { OnErr result (self.new ≡ self.old) }
+    {
+        for record in records.into_vec() {
+            self.apply(alloc, record)?;
+        }
         Ok(())
     }
 
     /// Changes the files as a record says. At an `Err` nothing has changed. It costs the record, and the blocks that a size adds or takes away, or
     /// those of a segment that goes away.
-    pub(crate) fn apply(&mut self, alloc: Global, change: Record) -> Result<(), MetaRefusal>
+    fn apply(&mut self, alloc: Global, change: Record) -> Result<(), MetaRefusal>
         requires { CanStand change self.old }
         ensures judged { OnOk result (refusal_of change self.old ≡ None) }
         ensures taken { OnOk result (self.new ≡ after change self.old) }
@@ -233,28 +259,27 @@ impl Catalog {
         requires { IsSome (find_key (λ f. f.key) (key_on ino self.old) self.old.files) }
         ensures { self.new ≡ without_file (key_on ino self.old) self.old }
     {
-        let (key, others, blocks) = self.others(ino);
+        let (others, blocks) = self.others(ino);
+        let key = self.table.key_at(ino).unwrap();
         self.attribute_total = others.attributes;
         self.stub_total = others.stubs;
         self.used = blocks;
         self.table.drop_file(key);
     }
 
-    /// The key of the file with that inode, what all other files have, and how many blocks of the disk those use.
-    fn others(&self, ino: u64) -> (FileKey, Others, u64)
+    /// What all files but that with that inode have, and how many blocks of the disk they use.
+    fn others(&self, ino: u64) -> (Others, u64)
         requires { IsSome (find_key (λ f. f.key) (key_on ino self.now) self.now.files) }
-        ensures key { result.0 ≡ key_on ino self.now }
-        ensures others { result.1 ≡ others_of (key_on ino self.now) self.now }
-        ensures used { result.2 ≡ length (blocks_of (without_file (key_on ino self.now) self.now).files) }
+        ensures others { result.0 ≡ others_of (key_on ino self.now) self.now }
+        ensures used { result.1 ≡ length (blocks_of (without_file (key_on ino self.now) self.now).files) }
     {
-        let key = self.table.key_at(ino).unwrap();
-        let parts = self.parts(key).unwrap();
+        let parts = &self.parts[slot(ino)];
         let others = Others {
             attributes: self.attribute_total - parts.attributes.bytes(),
             stubs: self.stub_total - parts.stubs.len(),
         };
         let blocks = self.used - u64::from(parts.places.mapped());
-        (key, others, blocks)
+        (others, blocks)
     }
 
     /// Changes the file that a record is about.
@@ -269,14 +294,35 @@ impl Catalog {
         ensures err { OnErr result (self.new ≡ self.old) }
     {
         let geometry = geometry_of(self.geometry);
-        let (key, others, blocks) = self.others(change.ino());
-        let size = size_after(&change, self.table.size(key).unwrap());
-        let parts = &mut self.parts[slot(key.ino)];
+        let ino = change.ino();
+        let size = size_in(&change);
+        let (others, blocks) = self.others(ino);
+        let parts = &mut self.parts[slot(ino)];
         parts.apply(alloc, change, others, geometry)?;
         self.attribute_total = others.attributes + parts.attributes.bytes();
         self.stub_total = others.stubs + parts.stubs.len();
         self.used = blocks + u64::from(parts.places.mapped());
-        self.table.set_size(key, size);
+        resize(&mut self.table, ino, size);
         Ok(())
+    }
+}
+
+/// The size that the record's file has after it, where it says one.
+fn size_in(change: &Record) -> Option<u64>
+    ensures { (f : CatalogFile) → (file_after change.now f).size ≡ unwrap_or result f.size }
+{
+    match change {
+        Record::Size { size, .. } => Some(*size),
+        _ => None,
+    }
+}
+
+/// The file with that inode has that size, if there is one. Then it costs a binary search.
+fn resize(table: &mut InodeTable, ino: u64, size: Option<u64>)
+    requires { IsSome (key_at ino (listing table.old.files)) }
+    ensures { (key : FileKey) (e : FileEntry) → key_at ino (listing table.old.files) ≡ Some key → find_key (λ f. f.key) key table.old.files ≡ Some e → table.new ≡ record table.old { files = change_key (λ f. f.key) key (λ f. record f { size = unwrap_or size e.size }) table.old.files } }
+{
+    if let Some(size) = size {
+        table.set_size_at(ino, size);
     }
 }

@@ -1,5 +1,5 @@
 //! What is kept of a store's files beside the table, by inode.
-ghost use Rattle.std.specs.Prelude.{◌≡◌, ◌-◌, replicate, IfOk};
+ghost use Rattle.std.specs.Prelude.{◌≡◌, ◌≤◌, ◌-◌, length, slice_set, replicate, IfOk};
 ghost use Rattle.snapshot_text.specs.Parts.{no_parts};
 
 use snapshot_text::FileParts;
@@ -10,6 +10,15 @@ pub fn slot(ino: u64) -> usize
     ensures { result ≡ ino - 1 }
 {
     ino.saturating_sub(1) as usize
+}
+
+/// These are the parts of the file with that inode from now on.
+pub fn set_at(slots: &mut Vec<FileParts>, ino: u64, parts: FileParts)
+    requires low { 1 ≤ ino }
+    requires high { ino ≤ length slots.old.items }
+    ensures { slots.new.items ≡ slice_set slots.old.items (ino - 1) parts }
+{
+    slots[slot(ino)] = parts;
 }
 
 /// The parts of so many new files.

@@ -160,9 +160,7 @@ impl MetaStore {
         ensures faults { Counts (IsErrOf result MetaRefusal.Disk) (D.fault_count disk.old) (D.fault_count disk.new) }
         ensures err { OnErr result (self.new ≡ self.old) }
     {
-        for record in records.into_vec() {
-            self.catalog.apply(alloc, record)?;
-        }
+        self.catalog.apply_all(alloc, records)?;
         // Read for what is true of each catalog.
         let _geometry = self.catalog.geometry();
         Ok(false)

@@ -12,3 +12,4 @@ pub mod StubLists
 pub mod ClearedPlaces
 pub mod WrittenParts
 pub mod ReadParts
+pub mod PartsAfter

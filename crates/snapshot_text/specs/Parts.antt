@@ -6,7 +6,7 @@ use Rattle.hsm_types.specs.Kept.{Kept}
 use Rattle.hsm_types.specs.Stubs.{offline_at}
 use Rattle.snapshot_text.specs.declared.file_parts.FileParts.{FileParts}
 use Rattle.journal_records.specs.declared.records.Record.{Record}
-use Rattle.journal_records.specs.declared.records.Record.TheVariants.{Size, Map, Stub}
+use Rattle.journal_records.specs.declared.records.Record.TheVariants.{Size, Map, SetAttr, Stub}
 use Rattle.snapshot_text.specs.Files.{CatalogFile, StubFits}
 use Rattle.snapshot_text.specs.FileRecords.{file_after, FitsStub}
 
@@ -41,3 +41,8 @@ FitsParts r parts = Unit {0}
 abbrev pub IsNumbered : Record → Type 0
 IsNumbered (Stub ino j (Some stub)) = StubFits (j, stub)
 IsNumbered r = Unit {0}
+
+-- the name of an attribute that the record sets has eight bytes
+abbrev pub IsNamed : Record → Type 0
+IsNamed (SetAttr ino name value) = length name.0 ≡ 8
+IsNamed r = Unit {0}

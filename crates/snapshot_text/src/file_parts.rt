@@ -1,5 +1,5 @@
 //! What is kept of one file beside its key, its name and its size.
-ghost use Rattle.std.specs.Prelude.{◌≡◌, ◌↔◌, ◌+◌, ◌≤◌, ◌∷◌, [], length, Err, None, Some, true, false, if◌then◌else◌, IfErr, IsOk, IsErrOf, OnOk};
+ghost use Rattle.std.specs.Prelude.{◌≡◌, ◌↔◌, ◌++◌, ◌+◌, ◌≤◌, ◌∷◌, [], length, take, drop, Err, None, Some, true, false, if◌then◌else◌, IfErr, IsOk, IsErrOf, OnOk};
 ghost use Rattle.std.specs.Prelude.{OnErr, MatchOption, MatchResult};
 ghost use Rattle.std.specs.List.{AllByRecursion};
 ghost use Rattle.std.specs.Option.{option_map};
@@ -11,11 +11,11 @@ ghost use Rattle.hsm_types.specs.Segments.{segments_in};
 ghost use Rattle.hsm_types.specs.Stubs.{offline_at, stubs_below, too_many_stubs, uncovered, with_stub, without_stub};
 ghost use Rattle.hsm_types.specs.declared.dm.DmRefusal.TheVariants.{Memory};
 ghost use Rattle.hsm_types.specs.declared.dm.DmRefusal.{DmRefusal};
-ghost use Rattle.snapshot_text.specs.Parts.{no_parts, kept_in, parts_after, FitsParts, IsNumbered};
-ghost use Rattle.snapshot_text.specs.Files.{CatalogFile, StubFits};
-ghost use Rattle.snapshot_text.specs.FileRecords.{part_refusal, file_after, places_fitted, places_without, FitsStub, IsSure};
+ghost use Rattle.snapshot_text.specs.Parts.{no_parts, kept_in, parts_after, FitsParts, IsNumbered, IsNamed};
+ghost use Rattle.snapshot_text.specs.Files.{StubFits, present, places_in_segment};
+ghost use Rattle.snapshot_text.specs.FileRecords.{part_refusal, places_fitted, places_without, FitsStub, IsSure};
 
-use crate::file_places::FilePlaces;
+use crate::file_places::{FilePlaces, count_present, segment_places};
 use crate::kept::name_len;
 use crate::refusal::MetaRefusal;
 use dm_attrs::DmAttrs;
@@ -43,16 +43,6 @@ pub struct Others {
     pub stubs: u32,
 }
 
-/// The size that a file of that size has after a record about it.
-pub fn size_after(change: &Record, size: u64) -> u64
-    ensures { (f : CatalogFile) → f.size ≡ size → result ≡ (file_after change.now f).size }
-{
-    match change {
-        Record::Size { size, .. } => *size,
-        _ => size,
-    }
-}
-
 impl FileParts {
     /// Of no blocks, and with nothing kept. It takes no memory.
     pub fn new(alloc: Global) -> FileParts
@@ -67,7 +57,6 @@ impl FileParts {
     }
 
     /// Changes them as a record about their file says, where all other files have `others`, in a store of that geometry.
-    #[tactic(auto, using(crate::proofs::KeptBounds::kept_steps))]
     pub fn apply(
         &mut self,
         alloc: Global,
@@ -92,26 +81,47 @@ impl FileParts {
         ensures numbers { IsNumbered change }
         ensures err { OnErr result (self.new ≡ self.old) }
     {
+        Ok(self.change(alloc, change, others, geometry)?)
+    }
+
+    /// Changes them as a record says, unless the part that it is about refuses it.
+    fn change(
+        &mut self,
+        alloc: Global,
+        change: Record,
+        others: Others,
+        geometry: Geometry,
+    ) -> Result<(), DmRefusal>
+        requires fits { FitsParts change self.old }
+        requires attributes { others.attributes ≤ geometry.attributes }
+        requires stubs { others.stubs ≤ geometry.stubs }
+        requires countable { IsCountable geometry.limits }
+        ensures judged { OnOk result (part_refusal change others geometry (kept_in self.old) ≡ None) }
+        ensures refused { IfErr result (λ why. MatchOption (part_refusal change others geometry (kept_in self.old)) (why ≡ Memory) (λ cause. why ≡ cause)) }
+        ensures taken { OnOk result (self.new ≡ parts_after change self.old) }
+        ensures sure { IsSure change → IsOk result }
+        ensures names { IsNamed change }
+        ensures numbers { IsNumbered change }
+        ensures err { OnErr result (self.new ≡ self.old) }
+    {
         match change {
             Record::Make { name: _name, .. } => Ok(()),
             Record::Drop { .. } => Ok(()),
-            Record::Size { size, .. } => Ok(self.resize(size)?),
+            Record::Size { size, .. } => self.resize(size),
             Record::Map { block, places, .. } => {
                 self.places.map(block, places.as_slice());
                 Ok(())
             }
-            Record::Regions { regions, .. } => {
-                Ok(self.set_regions(alloc, geometry.limits, regions)?)
-            }
+            Record::Regions { regions, .. } => self.set_regions(alloc, geometry.limits, regions),
             Record::SetAttr { name, value, .. } => {
                 // Read for the eight bytes of each name.
                 let _len = name_len(name);
                 let limit = u64::from(geometry.attributes);
-                Ok(self.attributes.set(name, value, others.attributes, limit)?)
+                self.attributes.set(name, value, others.attributes, limit)
             }
-            Record::DropAttr { name, .. } => Ok(self.attributes.remove(name)?),
+            Record::DropAttr { name, .. } => self.attributes.remove(name),
             Record::Stub { segment, stub, .. } => match stub {
-                Some(stub) => Ok(self.set_stub(segment, stub, others.stubs, geometry.stubs)?),
+                Some(stub) => self.set_stub(segment, stub, others.stubs, geometry.stubs),
                 None => {
                     self.drop_stub(segment);
                     Ok(())
@@ -121,12 +131,15 @@ impl FileParts {
     }
 
     /// Follows the file to its new size. At an `Err` nothing has changed.
-    fn resize(&mut self, size: u64) -> Result<(), AllocError>
+    fn resize(&mut self, size: u64) -> Result<(), DmRefusal>
         requires { size ≤ FILE_BYTES }
         ensures ok { OnOk result (self.new ≡ record self.old { places = places_fitted size self.old.places; stubs = stubs_below (segments_in size) self.old.stubs }) }
+        ensures memory { IfErr result (λ why. why ≡ Memory) }
         ensures err { OnErr result (self.new ≡ self.old) }
     {
-        self.places.fit(size)?;
+        let Ok(()) = self.places.fit(size) else {
+            return Err(DmRefusal::Memory);
+        };
         self.stubs.cut(segments_in(size));
         Ok(())
     }
@@ -204,6 +217,38 @@ impl FileParts {
         }
     }
 
+    /// How many of the file's blocks have a place.
+    pub fn mapped(&self) -> u64
+        ensures { result ≡ length (present self.now.places) }
+    {
+        u64::from(self.places.mapped())
+    }
+
+    /// How many blocks of the segment have a place. It costs these blocks.
+    pub fn mapped_in(&self, segment: u32) -> u32
+        ensures { result ≡ length (present (places_in_segment segment self.now.places)) }
+    {
+        count_present(segment_places(self.places.as_slice(), segment))
+    }
+
+    /// Puts the blocks of the disk behind the others that the file has from its block `first` on, so many of its blocks. It costs these.
+    pub fn put_run(&self, first: u32, count: u32, blocks: &mut Vec<u32>) -> Result<(), AllocError>
+        ensures { OnOk result (blocks.new.items ≡ blocks.old.items ++ present (take count (drop first self.now.places))) }
+    {
+        let places = self.places.as_slice();
+        let start = places.len().min(first as usize);
+        let count = (places.len() - start).min(count as usize);
+        put_present(blocks, &places[start..start + count])
+    }
+
+    /// Puts the blocks of the disk behind the others that the file has from its block `first` on. It costs the file's blocks from there.
+    pub fn put_from(&self, first: u32, blocks: &mut Vec<u32>) -> Result<(), AllocError>
+        ensures { OnOk result (blocks.new.items ≡ blocks.old.items ++ present (drop first self.now.places)) }
+    {
+        let places = self.places.as_slice();
+        put_present(blocks, &places[places.len().min(first as usize)..])
+    }
+
     /// The place of each block, which a hole has not.
     pub fn places(&self) -> &[Option<u32>]
         ensures { result.now ≡ self.now.places }
@@ -231,4 +276,16 @@ impl FileParts {
     {
         &self.stubs
     }
+}
+
+/// Puts the blocks of the disk among these places behind the others.
+fn put_present(blocks: &mut Vec<u32>, places: &[Option<u32>]) -> Result<(), AllocError>
+    ensures { OnOk result (blocks.new.items ≡ blocks.old.items ++ present places.now) }
+{
+    for place in places {
+        if let Some(block) = *place {
+            blocks.push(block)?;
+        }
+    }
+    Ok(())
 }

@@ -15,7 +15,7 @@ mod snapshot;
 mod writing;
 
 pub use extents::{are_extents, claim};
-pub use file_parts::{FileParts, Others, size_after};
+pub use file_parts::{FileParts, Others};
 pub use file_places::{FilePlaces, count_present, segment_places};
 pub use geometry::geometry_of;
 pub use read_parts::parts_of;
