@@ -60,14 +60,29 @@ fn shows(cache: &BlockCache, block: u32) -> bool {
     }
 }
 
-/// How many calls of a disk are made by a load of these blocks, after one of those. `None` where one isn't answered `Ok`.
-fn calls_after(alloc: Global, before: &[u32], blocks: &[u32]) -> Option<usize> {
-    let mut cache = BlockCache::new(alloc, AT).ok()?;
-    let mut disk = MemDisk::new(alloc, content(alloc).ok()?.as_slice(), &[]).ok()?;
-    load(&mut cache, &mut disk, before)?.ok()?;
+/// An empty cache, and a disk for it.
+fn made(alloc: Global) -> Option<(BlockCache, MemDisk)> {
+    let cache = BlockCache::new(alloc, AT).ok()?;
+    let disk = MemDisk::new(alloc, content(alloc).ok()?.as_slice(), &[]).ok()?;
+    Some((cache, disk))
+}
+
+/// How many calls of the disk are made by a load of these blocks, after one of those. `None` where one isn't answered `Ok`.
+fn calls_of(
+    cache: &mut BlockCache,
+    disk: &mut MemDisk,
+    before: &[u32],
+    blocks: &[u32],
+) -> Option<usize> {
+    load(cache, disk, before)?.ok()?;
     let made = disk.calls().len();
-    load(&mut cache, &mut disk, blocks)?.ok()?;
-    Some(disk.calls().len() - made)
+    load(cache, disk, blocks)?.ok()?;
+    Some(disk.calls().len().saturating_sub(made))
+}
+
+fn calls_after(alloc: Global, before: &[u32], blocks: &[u32]) -> Option<usize> {
+    let (mut cache, mut disk) = made(alloc)?;
+    calls_of(&mut cache, &mut disk, before, blocks)
 }
 
 #[test]
@@ -88,19 +103,30 @@ fn neighbours_are_read_by_one_call(rt: HostRuntime) {
     }
 }
 
-/// Loads the blocks 0 to 255 of a disk, 32 at a time, then these, and tells whether the cache has each of the others.
-fn kept_after(alloc: Global, blocks: &[u32], asked: &[u32]) -> Option<Vec<bool>> {
-    let mut cache = BlockCache::new(alloc, AT).ok()?;
-    let mut disk = MemDisk::new(alloc, content(alloc).ok()?.as_slice(), &[]).ok()?;
+/// Loads the blocks 0 to 255 of the disk, 32 at a time, and then these.
+fn fill(cache: &mut BlockCache, disk: &mut MemDisk, blocks: &[u32]) -> Option<()> {
     for run in 0..8 {
-        load_run(&mut cache, &mut disk, 32 * run)?.ok()?;
+        load_run(cache, disk, 32 * run)?.ok()?;
     }
-    load(&mut cache, &mut disk, blocks)?.ok()?;
-    let mut kept = Vec::new(alloc);
+    load(cache, disk, blocks)?.ok()
+}
+
+/// Of which of these blocks the cache has the bytes.
+fn shown(alloc: Global, cache: &BlockCache, asked: &[u32]) -> Result<Vec<bool>, AllocError> {
+    let mut shown = Vec::new(alloc);
     for block in asked {
-        kept.push(shows(&cache, *block)).ok()?;
+        shown.push(shows(cache, *block))?;
     }
-    Some(kept)
+    Ok(shown)
+}
+
+/// Which of the others the cache has after it is filled.
+fn kept_after(alloc: Global, blocks: &[u32], asked: &[u32]) -> Option<Vec<bool>> {
+    let (mut cache, mut disk) = made(alloc)?;
+    match fill(&mut cache, &mut disk, blocks) {
+        Some(()) => shown(alloc, &cache, asked).ok(),
+        None => None,
+    }
 }
 
 fn are(kept: &Option<Vec<bool>>, wanted: &[bool]) -> bool {
@@ -121,15 +147,21 @@ fn the_blocks_used_last_stay(rt: HostRuntime) {
     assert!(rt; are(&kept, &[false, true, false, true, true]));
 }
 
-/// What loads of block 3, 7 and then 3 again answer on a disk that fails after one call.
-fn failing(alloc: Global) -> Option<(bool, bool, bool, u64)> {
-    let mut cache = BlockCache::new(alloc, AT).ok()?;
-    let disk = MemDisk::new(alloc, content(alloc).ok()?.as_slice(), &[]).ok()?;
-    let mut disk = FuseDisk::new(disk, 1);
-    let first = load(&mut cache, &mut disk, &[3])?.is_ok();
-    let second = load(&mut cache, &mut disk, &[7])? == Err(CacheRefusal::Failed);
-    let third = load(&mut cache, &mut disk, &[3])?.is_ok();
+/// What loads of block 3, 7 and then 3 again answer on a disk that fails after one call, and how many faults it has then.
+fn answers_of(
+    cache: &mut BlockCache,
+    disk: &mut FuseDisk<MemDisk>,
+) -> Option<(bool, bool, bool, u64)> {
+    let first = load(cache, disk, &[3])?.is_ok();
+    let second = load(cache, disk, &[7])? == Err(CacheRefusal::Failed);
+    let third = load(cache, disk, &[3])?.is_ok();
     Some((first, second, third, disk.faults()))
+}
+
+fn failing(alloc: Global) -> Option<(bool, bool, bool, u64)> {
+    let (mut cache, disk) = made(alloc)?;
+    let mut disk = FuseDisk::new(disk, 1);
+    answers_of(&mut cache, &mut disk)
 }
 
 #[test]
@@ -138,17 +170,25 @@ fn what_is_there_needs_no_disk(rt: HostRuntime) {
 }
 
 /// The parts of two blocks with a hole in between, from byte 100 of the first on, as bytes and as a digest.
-fn lent(alloc: Global, count: u32) -> Option<(Vec<u8>, Digest)> {
-    let mut cache = BlockCache::new(alloc, AT).ok()?;
-    let mut disk = MemDisk::new(alloc, content(alloc).ok()?.as_slice(), &[]).ok()?;
-    load(&mut cache, &mut disk, &[1, 2])?.ok()?;
+fn parts_of(alloc: Global, cache: &BlockCache, count: u32) -> Option<(Vec<u8>, Digest)> {
     let places = [Some(1), None, Some(2)];
-    if !are_there(&cache, &places) {
+    if !are_there(cache, &places) {
         return None;
     }
+    let print = digest(Parts::new(cache, &places, 100, count));
     let mut bytes = Vec::new(alloc);
-    put_parts(&mut bytes, Parts::new(&cache, &places, 100, count)).ok()?;
-    Some((bytes, digest(Parts::new(&cache, &places, 100, count))))
+    match put_parts(&mut bytes, Parts::new(cache, &places, 100, count)) {
+        Ok(()) => Some((bytes, print)),
+        Err(_) => None,
+    }
+}
+
+fn lent(alloc: Global, count: u32) -> Option<(Vec<u8>, Digest)> {
+    let (mut cache, mut disk) = made(alloc)?;
+    match load(&mut cache, &mut disk, &[1, 2]) {
+        Some(Ok(())) => parts_of(alloc, &cache, count),
+        _ => None,
+    }
 }
 
 /// Whether they are so many ones, then a block of zeros, then so many twos.
@@ -200,7 +240,11 @@ fn a_caller_can_ask(rt: HostRuntime) {
 fn mapped(alloc: Global) -> Result<bool, AllocError> {
     let mut map = ExtentMap::new(alloc, 3)?;
     let new = map.put(2, 7, 30).is_none();
-    Ok(new && map.lookup(2, 7) == Some(30) && map.lookup(2, 1) == None && map.next(2, 0) == Some((7, 30)))
+    Ok(
+        new && map.lookup(2, 7) == Some(30)
+            && map.lookup(2, 1) == None
+            && map.next(2, 0) == Some((7, 30)),
+    )
 }
 
 #[test]
