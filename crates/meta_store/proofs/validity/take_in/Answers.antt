@@ -29,8 +29,9 @@ parts_of-requires-clause-blocks c = (extents-tell 0 (blocks_in c.args.file.size)
 
 pub returns-in_err-parts-clause-corrupt : goal.returns-in_err-parts-clause-corrupt
 returns-in_err-parts-clause-corrupt c = λ is next.
+    let may = may-keep c.args.geometry c.args.next (map snapshot_file c.args.catalog.now.files) (raw_file c.args.file) c.attribute_total.result c.stub_total.result (c.attribute_total.ensures ∙ attribute_total_in-snapshot c.args.catalog.now.files) (c.stub_total.ensures ∙ stub_total_in-snapshot c.args.catalog.now.files) next in
     c.in_err-parts.ensures.corrupt (told_err c.from_residual.result c.in_err-parts.field-0.0 Corrupt c.from_residual.ensures.1 is)
-    (may-keep c.args.geometry c.args.next (map snapshot_file c.args.catalog.now.files) (raw_file c.args.file) c.attribute_total.result c.stub_total.result (c.attribute_total.ensures ∙ attribute_total_in-snapshot c.args.catalog.now.files) (c.stub_total.ensures ∙ stub_total_in-snapshot c.args.catalog.now.files) next)
+    (record { regions = may.regions; attributes = may.attributes; few = omega (arith, may.few, c.from.ensures); stubs = may.stubs; few_stubs = may.few_stubs })
 
 pub put-requires-clause-low : goal.put-requires-clause-low
 put-requires-clause-low c = rw c.parts_of.ensures.key (omega (arith, c.if-not-can_follow.ensures.follows.above))
