@@ -143,16 +143,16 @@ fn commit<D: Disk>(
 fn add<D: Disk>(
     journal: &mut MetaJournal,
     disk: &mut D,
-    record: &[u8],
+    bytes: &[u8],
     number: u64,
 ) -> Result<(), JournalRefusal>
-    requires some { 1 ≤ length record.now }
+    requires some { 1 ≤ length bytes.now }
     requires there { journal.old.at + journal.old.len ≤ D.length_of disk.old }
     ensures at { journal.new.at ≡ journal.old.at }
     ensures len { journal.new.len ≡ journal.old.len }
     ensures disk_len { D.length_of disk.new ≡ D.length_of disk.old }
 {
-    let Ok(()) = stage(journal, record) else {
+    let Ok(()) = stage(journal, bytes) else {
         return Err(JournalRefusal::Full);
     };
     commit(journal, disk, number)
