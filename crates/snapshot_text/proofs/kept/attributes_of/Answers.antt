@@ -3,8 +3,7 @@ use Rattle.std.specs.Vec.Iter.{into_iter_items}
 use Rattle.hsm_types.specs.Attributes.{Attributes}
 use Rattle.snapshot_text.specs.FileValidity.{are_attributes}
 use Rattle.snapshot_text.proofs.KeptBounds.{eight-with, setting-fits}
-use Rattle.snapshot_text.proofs.KeptAttributes.{at-end, accepted}
-use Rattle.snapshot_text.proofs.LawfulStubs.{ends-more}
+use Rattle.snapshot_text.proofs.KeptAttributes.{at-end, ends-more, accepted}
 use Rattle.snapshot_text.proofs.kept.attributes_of.Goals as goal
 
 pub loop-name-preserved : goal.loop-name-preserved

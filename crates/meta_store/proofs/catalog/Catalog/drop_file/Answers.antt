@@ -1,8 +1,7 @@
 use Rattle.std.proofs.Common.{◌≡◌, refl, ap}
 use Rattle.snapshot_text.specs.declared.file_parts.Others.{Others}
 use Rattle.meta_store.specs.Records.{without_file, key_on}
-use Rattle.meta_store.proofs.HeldCatalogs.{there, lawful, live-at, drop-held}
-use Rattle.meta_store.specs.Records.{after}
+use Rattle.meta_store.proofs.HeldCatalogs.{there, lawful, live-at, after, drop-held}
 use Rattle.meta_store.proofs.KeptCatalogs.{IsCatalog-without_file}
 use Rattle.meta_store.proofs.catalog.Catalog.drop_file.Goals.{After-unwrap-key}
 use Rattle.meta_store.proofs.catalog.Catalog.drop_file.Goals as goal

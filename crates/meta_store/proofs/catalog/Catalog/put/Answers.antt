@@ -4,8 +4,7 @@ use Rattle.meta_store.specs.Records.{with_put}
 use Rattle.snapshot_text.specs.Parts.{file_of}
 use Rattle.meta_store.proofs.FileEdits.{count_of, stubs_of, mapped_of, used-sum, sum-put}
 use Rattle.meta_store.proofs.KeptCatalogs.{IsCatalog-with_put}
-use Rattle.meta_store.proofs.HeldCatalogs.{lawful, counts, bounded, put-held}
-use Rattle.meta_store.specs.Records.{after}
+use Rattle.meta_store.proofs.HeldCatalogs.{lawful, counts, bounded, after, put-held}
 use Rattle.meta_store.proofs.catalog.Catalog.put.Goals as goal
 
 pub overflow_add-self-3 : goal.overflow_add-self-3
