@@ -1,6 +1,5 @@
 -- Laws on snapshots and on what recovery finds on an image.
 use Rattle.std.specs.Prelude.{◌≡◌, ◌↔◌, ℕ, ◌≤◌, List, [], ◌∷◌, length, Option, Some}
-use Rattle.std.specs.Global.{Vec}
 use Rattle.hsm_types.specs.Kept.{nothing_kept}
 use Rattle.commit_slots.specs.Images.{IsEmptyStore}
 use Rattle.commit_slots.specs.Places.{layout_of}
@@ -48,7 +47,7 @@ one_file size places = record { geometry = 0; next = 2; files = (record { key = 
 
 -- An empty file gets the disk's block 7 before the size that makes room for it. These two records are a batch, and the first alone is none: no snapshot could
 -- say what stands behind it.
-abbrev pub IsJudgedAtItsEnd : Vec ℕ → Type 0
+abbrev pub IsJudgedAtItsEnd : List ℕ → Type 0
 IsJudgedAtItsEnd places = places ≡ 7 ∷ []
     → CanFollow 0 (snapshot_of 3 (one_file 0 [])) 4 (Map 1 0 places ∷ Size 1 4096 ∷ [])
     × (after_batch 4 (Map 1 0 places ∷ Size 1 4096 ∷ []) (snapshot_of 3 (one_file 0 [])) ≡ snapshot_of 4 (one_file 4096 (Some 7 ∷ [])))

@@ -1,6 +1,5 @@
 //! Laws on batches of records, each the contract of a function that does nothing. A caller gets the law by a call.
 ghost use Rattle.std.specs.Prelude.{ℕ, List};
-ghost use Rattle.std.specs.Global.{Vec};
 ghost use Rattle.journal_records.specs.declared.records.Record.{Record};
 ghost use Rattle.meta_store.specs.Meta.{Meta};
 ghost use Rattle.snapshot_text.specs.Snapshots.{Snapshot};
@@ -18,5 +17,5 @@ pub fn judged_by_changes()
 
 /// A batch is judged by what stands behind its last record, and not by what stands in between.
 pub fn judged_at_its_end()
-    ensures { (places : Vec ℕ) → IsJudgedAtItsEnd places }
+    ensures { (places : List ℕ) → IsJudgedAtItsEnd places }
 {}
