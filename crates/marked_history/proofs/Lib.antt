@@ -1,11 +1,11 @@
 pub mod QuietEvents
 pub mod Lists
-mod Carrying
+pub mod Carrying
 pub mod Handing
 mod AnyAnswer
 pub mod Seating
-mod Remembering
-mod Seen
+pub mod Remembering
+pub mod Seen
 mod Walking
 mod Causing
 mod Outstanding
@@ -15,7 +15,7 @@ mod OwnSeats
 mod KeepingAll
 mod Granting
 mod Freeing
-mod TellingOne
+pub mod TellingOne
 mod Ways
 mod Informing
 mod Coming
