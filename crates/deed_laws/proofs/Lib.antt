@@ -1,0 +1,5 @@
+pub mod Sitting
+pub mod Machines
+pub mod Walking
+mod Keeping
+mod Telling

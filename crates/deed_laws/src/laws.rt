@@ -1,0 +1,13 @@
+//! Laws over all deeds by which both daemons are served, each the contract of a function that does nothing. A caller gets the law by a call.
+//! So each holds behind every one of them, between an act and what is heard of it too. A run is one on any disk, exact but for bytes, by which none goes.
+ghost use Rattle.std.specs.Prelude.{ℕ, List};
+ghost use Rattle.hsm_types.specs.declared.stores.Superblock.{Superblock};
+ghost use Rattle.plain_model.specs.State.{Held};
+ghost use Rattle.hsm_policy.specs.Settings.{Numbers};
+ghost use Rattle.deeds.specs.Deeds.{Deed};
+ghost use Rattle.deed_laws.specs.Telling.{ServedTellsOne};
+
+/// The message of a token is the one that told of the event that a daemon keeps, and of the file that recall was given for it.
+pub fn tells_one()
+    ensures { (limits : Numbers) (s : Superblock) (base : ℕ) (opening : Held) (deeds : List Deed) → ServedTellsOne limits s base opening deeds }
+{}
