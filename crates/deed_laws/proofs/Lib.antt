@@ -3,3 +3,4 @@ pub mod Machines
 pub mod Walking
 mod Keeping
 mod Telling
+mod TakingOver

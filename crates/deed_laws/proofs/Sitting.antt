@@ -1,5 +1,5 @@
 -- How what a daemon knows of its session goes on: one form for both machines.
-use Rattle.std.proofs.Common.{◌≡◌, ◌⊎◌, true, false, List, map, Option, None, Some, IfSome, inl, inr, refl, sym, ap, subst, ◌∙◌}
+use Rattle.std.proofs.Common.{◌≡◌, ◌⊎◌, List, [], ◌∷◌, ◌++◌, map, Option, None, Some, IfSome, inl, inr, refl, sym, subst, append_assoc, append-nil}
 use Rattle.std.specs.Option.{unwrap_or}
 use Rattle.hsm_types.specs.declared.daemons.Act.{Act}
 use Rattle.hsm_types.specs.declared.daemons.Act.TheVariants as act
@@ -13,13 +13,12 @@ use Rattle.hsm_types.specs.declared.dm.DmCall.TheVariants as call
 use Rattle.hsm_types.specs.declared.dm.DmReply.{DmReply}
 use Rattle.hsm_types.specs.declared.dm.Right.TheVariants.{Excl}
 use Rattle.hsm_types.specs.declared.keys.Sid.{Sid}
-use Rattle.plain_model.specs.declared.entries.Entry.{Entry}
 use Rattle.daemon_session.specs.declared.events.Kept.{Kept}
 use Rattle.daemon_session.specs.Seats.{Seat, no_seat, first_id, seat_asks, seat_hears, IsSeated, MayGoOn}
 use Rattle.recall_daemon.proofs.Outcomes.{Remarks, Keeps}
 use Rattle.marked_history.specs.Served.{IsTold}
 use Rattle.deeds.specs.Deeds.{call_told}
-use Rattle.deeds.specs.Lives.{Workings, Living, Move, Begins, Ends, Renews, Asks, Learns, Fails, Misses, hearing, begun, renewed, untold, MovesTo}
+use Rattle.deeds.specs.Lives.{Workings, Living, Move, Begins, Ends, Renews, Asks, Learns, Fails, Misses, hearing, begun, renewed, untold, MovesTo, Lives}
 
 -- ---- seats
 
@@ -139,3 +138,13 @@ module _ {M : Type 0} (d : Daemon) (w : Workings M) (sits : Sits d w) where
   sound_on (Learns asked told) old new to is = let was : IsSound (hearing to.0 None) = subst Sound to.1 is in subst Sound (sym to.4) (record { so = was.so; given = was.given })
   sound_on (Fails sid c) old new to is = let was : IsSound (hearing to.0 None) = subst Sound to.1 is in subst Sound (sym to.3) (record { so = was.so; given = was.given })
   sound_on Misses old new to is = let was : IsSound to.0 = subst Sound to.1 is in subst Sound (sym to.2) (record { so = was.so; given = was.given })
+
+  -- ---- along a life
+
+  -- what each move keeps, of the moves so far and of what lives behind them, is so behind all
+  module _ (P : List Move → Option (Living M) → Type 0) (on : (before : List Move) (move : Move) (old new : Option (Living M)) → MovesTo w move old new → Sound old → P before old → P (before ++ move ∷ []) new) where
+    pub along : (moves before : List Move) (old new : Option (Living M)) → Lives w moves old new → Sound old → P before old → P (before ++ moves) new
+    along [] before old new lives sound is = subst (λ (l : List Move). P l new) (sym (append-nil before)) (subst (P before) (sym lives) is)
+    along (move ∷ moves) before old new lives sound is =
+        subst (λ (l : List Move). P l new) (append_assoc before (move ∷ []) moves)
+        (along moves (before ++ move ∷ []) lives.0 new lives.2 (sound_on move old lives.0 lives.1 sound) (on before move old lives.0 lives.1 sound is))

@@ -1,2 +1,3 @@
 pub mod Knowing
 pub mod Telling
+pub mod Coming

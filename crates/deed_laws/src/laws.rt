@@ -5,9 +5,15 @@ ghost use Rattle.hsm_types.specs.declared.stores.Superblock.{Superblock};
 ghost use Rattle.plain_model.specs.State.{Held};
 ghost use Rattle.hsm_policy.specs.Settings.{Numbers};
 ghost use Rattle.deeds.specs.Deeds.{Deed};
+ghost use Rattle.deed_laws.specs.Coming.{ServedTakesOver};
 ghost use Rattle.deed_laws.specs.Telling.{ServedTellsOne};
 
 /// The message of a token is the one that told of the event that a daemon keeps, and of the file that recall was given for it.
 pub fn tells_one()
     ensures { (limits : Numbers) (s : Superblock) (base : ℕ) (opening : Held) (deeds : List Deed) → ServedTellsOne limits s base opening deeds }
+{}
+
+/// A daemon takes the place of a session only where it was told, since it last asked for all of them, that this one has its information.
+pub fn takes_over()
+    ensures { (limits : Numbers) (deeds : List Deed) → ServedTakesOver limits deeds }
 {}
