@@ -9,14 +9,15 @@ pub mod Seen
 mod Walking
 mod Causing
 mod Outstanding
-mod Leaving
-mod Accounting
-mod OwnSeats
+pub mod Leaving
+pub mod Accounting
+pub mod OwnSeats
+pub mod BothSeats
 mod KeepingAll
 mod Granting
 mod Freeing
 pub mod TellingOne
-mod Ways
+pub mod Ways
 mod Informing
 mod Coming
 pub mod Waiting
