@@ -4,3 +4,6 @@ pub mod Walking
 mod Keeping
 mod Telling
 mod TakingOver
+mod Going
+mod Seats
+mod KeepingAll

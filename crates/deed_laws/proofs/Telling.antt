@@ -151,10 +151,10 @@ module _ {R M : Type 0} (wr : Workings R) (mw : Workings M) (rs : Sits Recall wr
     line = λ done rest now e r m right ordered happens was.
         more done rest now (Enters e) r m was.register was.is ordered happens was.recall was.migrate
         (granted_more done (Enters e) (IsFileOf was.register now.ledger.top) (λ sid t h same. absurd (cc same)) was.granted);
-    recall = λ done rest now move old new m to sound ordered happens was.
+    recall = λ done rest now move old new m mine theirs to sound ordered happens was.
         more done rest now (deed_by Recall move) new m was.register was.is ordered happens (keeps_on Recall wr rs s now was.register was.is move old new to sound happens was.recall) was.migrate
         (granted_more done (deed_by Recall move) (IsFileOf was.register now.ledger.top) (granted_last wr rs was.register now.ledger.top move old new to sound was.recall) was.granted);
-    migrate = λ done rest now move r old new to sound ordered happens was.
+    migrate = λ done rest now move r old new mine theirs to sound ordered happens was.
         more done rest now (deed_by Migrate move) r new was.register was.is ordered happens was.recall (keeps_on Migrate mw ms s now was.register was.is move old new to sound happens was.migrate)
         (granted_more done (deed_by Migrate move) (IsFileOf was.register now.ledger.top) (λ sid t h same. absurd (false≢true (sym (not_migrates move) ∙ ap is_recalls same))) was.granted);
   }

@@ -62,9 +62,9 @@ module _ {R M : Type 0} (recalls : Workings R) (migrates : Workings M) (recall_s
   pub record Keeps : Type 0 where
     pub line : (done rest : List Deed) (now : State) (e : Entry) (r : Option (Living R)) (m : Option (Living M)) → NamesNoFault e.action → InOrder now → Happens s now (Some e)
         → P done (Enters e ∷ rest) now r m → P (done ++ Enters e ∷ []) rest (after s now (Some e)) r m
-    pub recall : (done rest : List Deed) (now : State) (move : Move) (old new : Option (Living R)) (m : Option (Living M)) → MovesTo recalls move old new → RecallSound old → InOrder now → Happens s now (entry_in (deed_by Recall move))
+    pub recall : (done rest : List Deed) (now : State) (move : Move) (old new : Option (Living R)) (m : Option (Living M)) → move_of Recall (deed_by Recall move) ≡ Some move → move_of Migrate (deed_by Recall move) ≡ None → MovesTo recalls move old new → RecallSound old → InOrder now → Happens s now (entry_in (deed_by Recall move))
         → P done (deed_by Recall move ∷ rest) now old m → P (done ++ deed_by Recall move ∷ []) rest (after s now (entry_in (deed_by Recall move))) new m
-    pub migrate : (done rest : List Deed) (now : State) (move : Move) (r : Option (Living R)) (old new : Option (Living M)) → MovesTo migrates move old new → MigrateSound old → InOrder now → Happens s now (entry_in (deed_by Migrate move))
+    pub migrate : (done rest : List Deed) (now : State) (move : Move) (r : Option (Living R)) (old new : Option (Living M)) → move_of Migrate (deed_by Migrate move) ≡ Some move → move_of Recall (deed_by Migrate move) ≡ None → MovesTo migrates move old new → MigrateSound old → InOrder now → Happens s now (entry_in (deed_by Migrate move))
         → P done (deed_by Migrate move ∷ rest) now r old → P (done ++ deed_by Migrate move ∷ []) rest (after s now (entry_in (deed_by Migrate move))) r new
 
   module _ (keeps : Keeps) where
@@ -77,30 +77,30 @@ module _ {R M : Type 0} (recalls : Workings R) (migrates : Workings M) (recall_s
           subst (λ (x : Option (Living R)). P (done ++ Enters e ∷ []) rest (after s now (Some e)) x m2) (sym same_r)
           (subst (λ (x : Option (Living M)). P (done ++ Enters e ∷ []) rest (after s now (Some e)) r x) (sym same_m) (keeps.line done rest now e r m right ordered happens is))
 
-      of_recall : (move : Move) → MovesTo recalls move r r2 → m2 ≡ m → Next (deed_by Recall move)
-      of_recall move to same happens is =
-          subst (λ (x : Option (Living M)). P (done ++ deed_by Recall move ∷ []) rest (after s now (entry_in (deed_by Recall move))) r2 x) (sym same) (keeps.recall done rest now move r r2 m to rs ordered happens is)
+      of_recall : (move : Move) → move_of Recall (deed_by Recall move) ≡ Some move → move_of Migrate (deed_by Recall move) ≡ None → MovesTo recalls move r r2 → m2 ≡ m → Next (deed_by Recall move)
+      of_recall move own other to same happens is =
+          subst (λ (x : Option (Living M)). P (done ++ deed_by Recall move ∷ []) rest (after s now (entry_in (deed_by Recall move))) r2 x) (sym same) (keeps.recall done rest now move r r2 m own other to rs ordered happens is)
 
-      of_migrate : (move : Move) → r2 ≡ r → MovesTo migrates move m m2 → Next (deed_by Migrate move)
-      of_migrate move same to happens is =
-          subst (λ (x : Option (Living R)). P (done ++ deed_by Migrate move ∷ []) rest (after s now (entry_in (deed_by Migrate move))) x m2) (sym same) (keeps.migrate done rest now move r m m2 to ms ordered happens is)
+      of_migrate : (move : Move) → move_of Migrate (deed_by Migrate move) ≡ Some move → move_of Recall (deed_by Migrate move) ≡ None → r2 ≡ r → MovesTo migrates move m m2 → Next (deed_by Migrate move)
+      of_migrate move own other same to happens is =
+          subst (λ (x : Option (Living R)). P (done ++ deed_by Migrate move ∷ []) rest (after s now (entry_in (deed_by Migrate move))) x m2) (sym same) (keeps.migrate done rest now move r m m2 own other to ms ordered happens is)
 
       -- one deed
       one : (x : Deed) → IsRight x → MovesBy recalls (move_of Recall x) r r2 → MovesBy migrates (move_of Migrate x) m m2 → Next x
       one (Enters e) right rm mm = of_line e right rm mm
-      one (Starts Recall) right rm mm = of_recall Begins rm mm
-      one (Kills Recall) right rm mm = of_recall Ends rm mm
-      one (Gives Recall asked) right rm mm = of_recall (Asks asked) rm mm
-      one (Hears Recall asked told) right rm mm = of_recall (Learns asked told) rm mm
-      one (Breaks Recall sid call) right rm mm = of_recall (Fails sid call) rm mm
-      one (Loses Recall) right rm mm = of_recall Misses rm mm
-      one (Starts Migrate) right rm mm = of_migrate Begins rm mm
-      one (Kills Migrate) right rm mm = of_migrate Ends rm mm
-      one Refreshes right rm mm = of_migrate Renews rm mm
-      one (Gives Migrate asked) right rm mm = of_migrate (Asks asked) rm mm
-      one (Hears Migrate asked told) right rm mm = of_migrate (Learns asked told) rm mm
-      one (Breaks Migrate sid call) right rm mm = of_migrate (Fails sid call) rm mm
-      one (Loses Migrate) right rm mm = of_migrate Misses rm mm
+      one (Starts Recall) right rm mm = of_recall Begins refl refl rm mm
+      one (Kills Recall) right rm mm = of_recall Ends refl refl rm mm
+      one (Gives Recall asked) right rm mm = of_recall (Asks asked) refl refl rm mm
+      one (Hears Recall asked told) right rm mm = of_recall (Learns asked told) refl refl rm mm
+      one (Breaks Recall sid call) right rm mm = of_recall (Fails sid call) refl refl rm mm
+      one (Loses Recall) right rm mm = of_recall Misses refl refl rm mm
+      one (Starts Migrate) right rm mm = of_migrate Begins refl refl rm mm
+      one (Kills Migrate) right rm mm = of_migrate Ends refl refl rm mm
+      one Refreshes right rm mm = of_migrate Renews refl refl rm mm
+      one (Gives Migrate asked) right rm mm = of_migrate (Asks asked) refl refl rm mm
+      one (Hears Migrate asked told) right rm mm = of_migrate (Learns asked told) refl refl rm mm
+      one (Breaks Migrate sid call) right rm mm = of_migrate (Fails sid call) refl refl rm mm
+      one (Loses Migrate) right rm mm = of_migrate Misses refl refl rm mm
 
     sound_by_recall : (o : Option Move) (old new : Option (Living R)) → MovesBy recalls o old new → RecallSound old → RecallSound new
     sound_by_recall None old new same is = subst RecallSound (sym same) is
