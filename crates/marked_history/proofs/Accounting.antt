@@ -1,5 +1,4 @@
--- Each token that is outstanding to a daemon's session is accounted for: its event is kept, its message is still to be found again, or a line of
--- the script took it.
+-- Each token that is outstanding to a daemon's session is accounted for: its event is kept, its message is still to be found again, or it was taken.
 use Rattle.std.proofs.Common.{◌≡◌, ℕ, Bool, true, false, cond, not, List, [], ◌∷◌, ◌++◌, drop, map, filter, Option, None, Some, inl, inr, refl, sym}
 use Rattle.std.proofs.Common.{ap, subst, ◌∙◌, append_assoc}
 use Rattle.std.proofs.lemmas.Bool.{false≢true, eqb-true, eqb-false, ne_eqb}
@@ -12,7 +11,8 @@ use Rattle.hsm_types.specs.Daemons.{kinds_of}
 use Rattle.hsm_types.specs.Messages.{IsOf, no_token, takes}
 use Rattle.hsm_types.specs.Sessions.{SessionTable, outstanding_of, tokens_of}
 use Rattle.hsm_types.specs.declared.daemons.Daemon.{Daemon}
-use Rattle.hsm_types.specs.declared.dm.DmCall.TheVariants.{GetEvents, FindEventMsg}
+use Rattle.hsm_types.specs.declared.dm.DmCall.TheVariants.{FindEventMsg}
+use Rattle.hsm_types.specs.declared.dm.DmCall.{DmCall}
 use Rattle.hsm_types.specs.declared.dm.DmReply.{DmReply}
 use Rattle.hsm_types.specs.declared.dm.DmReply.TheVariants.{Packed}
 use Rattle.hsm_types.specs.declared.dm.Kind.{Kind}
@@ -30,8 +30,7 @@ use Rattle.event_msgs.proofs.ToldMessages.{packed_told}
 use Rattle.daemon_session.specs.declared.events.Kept.{Kept}
 use Rattle.daemon_session.specs.Seats.{Seat, IsSeated, has_kept_token, forgot, found_one}
 use Rattle.daemon_session.specs.Tellings.{event_on, own_event, events_in}
-use Rattle.marked_history.specs.Marks.{Mark, made}
-use Rattle.marked_history.specs.Tokens.{line_told, FindsAgain, IsTaken, Keeps}
+use Rattle.marked_history.specs.Tokens.{Keeps}
 use Rattle.marked_history.proofs.Lists.{all_and, none_in, first_in, later_in}
 use Rattle.marked_history.proofs.Outstanding.{zip_each}
 
@@ -109,162 +108,119 @@ pub packed_tell : (d : Daemon) (bytes : List ℕ) (messages : List Message) → 
 packed_tell d bytes messages packed =
     subst (λ (l : List Message). All (λ m. takes (kinds_of d) m.kind ≡ true → Keeps (filter_map (own_event d) l) m.token) messages) (packed_told bytes messages packed) (tell_all d messages packed.each)
 
--- ---- tokens that lines took
-
--- the answer gives a message that was asked for by its token
-abbrev pub finds_in : Action → Answer → Bool
-finds_in (Dm (FindEventMsg token room)) (Told (Packed bytes tokens)) = true
-finds_in what answer = false
-
-abbrev asked_for : Action → Token
-asked_for (Dm (FindEventMsg token room)) = token
-asked_for what = no_token
-
-pub not_found : (d : Daemon) (t : Token) (m : Mark) → finds_in m.entry.action m.entry.answer ≡ false → FindsAgain d t m → ⊥
-not_found d t m none is = false≢true (sym none ∙ ap (λ (x : Mark). finds_in x.entry.action x.entry.answer) is.4)
-
-pub not_by : (d : Daemon) (t : Token) (m : Mark) → (m.by ≡ Some d → ⊥) → FindsAgain d t m → ⊥
-not_by d t m other is = other (ap (λ (x : Mark). x.by) is.4)
-
-pub found_is : (d : Daemon) (t u : Token) (x : Sid) (room : ℕ) (a : DmReply) → FindsAgain d t (made d x (FindEventMsg u room) a) → u ≡ t
-found_is d t u x room a is = ap (λ (m : Mark). asked_for m.entry.action) is.4
-
-taken_more : (d : Daemon) (marks : List Mark) (m : Mark) (t : Token) → (FindsAgain d t m → ⊥) → IsTaken d marks t → IsTaken d (marks ++ m ∷ []) t
-taken_more d marks m t other was = record {
-  before = was.before;
-  sid = was.sid;
-  most = was.most;
-  room = was.room;
-  bytes = was.bytes;
-  tokens = was.tokens;
-  rest = was.rest ++ m ∷ [];
-  parted = ap (λ (l : List Mark). l ++ m ∷ []) was.parted ∙ append_assoc was.before (line_told was.sid (GetEvents was.most was.room) (Packed was.bytes was.tokens) ∷ was.rest) (m ∷ []);
-  given = was.given;
-  lost = all_and (λ x. FindsAgain d t x → ⊥) was.rest m was.lost other;
-}
-
--- of a line that was given the token
-pub taken_by : (d : Daemon) (marks : List Mark) (sid : Sid) (most room : ℕ) (bytes : List ℕ) (tokens : List Token) (t : Token) → Contains tokens t → IsTaken d (marks ++ line_told sid (GetEvents most room) (Packed bytes tokens) ∷ []) t
-taken_by d marks sid most room bytes tokens t is = record {
-  before = marks;
-  sid = sid;
-  most = most;
-  room = room;
-  bytes = bytes;
-  tokens = tokens;
-  rest = [];
-  parted = refl;
-  given = is;
-  lost = tt;
-}
-
 -- ---- accounts
 
-abbrev pub IsAccounted : Daemon → List Mark → List Kept → List Token → Token → Type 0
-IsAccounted d marks kept unfound t = Keeps kept t ⊎ (Contains unfound t ⊎ IsTaken d marks t)
+-- the answer gives the message that was asked for by this token
+abbrev pub Finds : DmCall → DmReply → Token → Type 0
+Finds (FindEventMsg t room) (Packed bytes tokens) u = u.0 ≡ t.0
+Finds c a u = ⊥
 
-abbrev pub Accounted : Daemon → List Mark → List Kept → List Token → Message → Type 0
-Accounted d marks kept unfound m = takes (kinds_of d) m.kind ≡ true → IsAccounted d marks kept unfound m.token
+-- The token's event is kept, or its message is still to be found; or it was taken, in a sense that is left open here.
+abbrev pub IsAccounted : (Token → Type 0) → List Kept → List Token → Token → Type 0
+IsAccounted Taken kept unfound t = Keeps kept t ⊎ (Contains unfound t ⊎ Taken t)
+
+abbrev pub Accounted : Daemon → (Token → Type 0) → List Kept → List Token → Message → Type 0
+Accounted d Taken kept unfound m = takes (kinds_of d) m.kind ≡ true → IsAccounted Taken kept unfound m.token
 
 -- Each of its kinds that is outstanding to its session, where the daemon knows which messages it has still to find.
-abbrev pub AllAccounted : Daemon → List Mark → SessionTable → Seat → Type 0
-AllAccounted d marks t seat = (sid : Sid) (unfound : List Token) → seat.sid ≡ Some sid → seat.unfound ≡ Some unfound → All (Accounted d marks seat.kept unfound) (outstanding_of sid t)
+abbrev pub AllAccounted : Daemon → (Token → Type 0) → SessionTable → Seat → Type 0
+AllAccounted d Taken t seat = (sid : Sid) (unfound : List Token) → seat.sid ≡ Some sid → seat.unfound ≡ Some unfound → All (Accounted d Taken seat.kept unfound) (outstanding_of sid t)
 
 -- none of the messages of its kinds has the token
 abbrev pub IsApart : Daemon → Token → Message → Type 0
 IsApart d u m = takes (kinds_of d) m.kind ≡ true → m.token.0 ≡ u.0 → ⊥
 
 module _ (d : Daemon) (t : SessionTable) where
-  pub none_accounted : (marks : List Mark) (seat : Seat) → seat.sid ≡ None → AllAccounted d marks t seat
-  none_accounted marks seat none sid unfound own left = absurd cc
+  pub none_accounted : (Taken : Token → Type 0) (seat : Seat) → seat.sid ≡ None → AllAccounted d Taken t seat
+  none_accounted Taken seat none sid unfound own left = absurd cc
 
-  more_accounted : (marks : List Mark) (m : Mark) (kept : List Kept) (unfound : List Token) (u : Token) → (FindsAgain d u m → ⊥) → IsAccounted d marks kept unfound u → IsAccounted d (marks ++ m ∷ []) kept unfound u
-  more_accounted marks m kept unfound u other (inl is) = inl is
-  more_accounted marks m kept unfound u other (inr (inl is)) = inr (inl is)
-  more_accounted marks m kept unfound u other (inr (inr is)) = inr (inr (taken_more d marks m u other is))
+  later_accounted : (Taken Later : Token → Type 0) (kept : List Kept) (unfound : List Token) (u : Token) → (Taken u → Later u) → IsAccounted Taken kept unfound u → IsAccounted Later kept unfound u
+  later_accounted Taken Later kept unfound u later (inl is) = inl is
+  later_accounted Taken Later kept unfound u later (inr (inl is)) = inr (inl is)
+  later_accounted Taken Later kept unfound u later (inr (inr is)) = inr (inr (later is))
 
-  -- a mark more, by which no message is found again
-  pub marks_more : (marks : List Mark) (m : Mark) (seat : Seat) → ((u : Token) → FindsAgain d u m → ⊥) → AllAccounted d marks t seat → AllAccounted d (marks ++ m ∷ []) t seat
-  marks_more marks m seat other is sid unfound own left =
-      All-weaker (Accounted d marks seat.kept unfound) (Accounted d (marks ++ m ∷ []) seat.kept unfound) (λ x has taken. more_accounted marks m seat.kept unfound x.token (other x.token) (has taken)) (outstanding_of sid t) (is sid unfound own left)
+  -- what was taken before still is
+  pub all_later : (Taken Later : Token → Type 0) (seat : Seat) → ((u : Token) → Taken u → Later u) → AllAccounted d Taken t seat → AllAccounted d Later t seat
+  all_later Taken Later seat later is sid unfound own left =
+      All-weaker (Accounted d Taken seat.kept unfound) (Accounted d Later seat.kept unfound) (λ x has takes. later_accounted Taken Later seat.kept unfound x.token (later x.token) (has takes)) (outstanding_of sid t) (is sid unfound own left)
 
-  module _ (marks : List Mark) (seat : Seat) (is : AllAccounted d marks t seat) where
-    kept_else : (kept : List Kept) (unfound : List Token) (u : Token) → (Keeps seat.kept u → Keeps kept u) → IsAccounted d marks seat.kept unfound u → IsAccounted d marks kept unfound u
+  module _ (Taken : Token → Type 0) (seat : Seat) (is : AllAccounted d Taken t seat) where
+    kept_else : (kept : List Kept) (unfound : List Token) (u : Token) → (Keeps seat.kept u → Keeps kept u) → IsAccounted Taken seat.kept unfound u → IsAccounted Taken kept unfound u
     kept_else kept unfound u keeps (inl has) = inl (keeps has)
     kept_else kept unfound u keeps (inr other) = inr other
 
     -- it keeps other events
-    kept_on : (kept : List Kept) → ((sid : Sid) → seat.sid ≡ Some sid → All (λ m. takes (kinds_of d) m.kind ≡ true → Keeps seat.kept m.token → Keeps kept m.token) (outstanding_of sid t)) → AllAccounted d marks t (record seat { kept = kept })
+    kept_on : (kept : List Kept) → ((sid : Sid) → seat.sid ≡ Some sid → All (λ m. takes (kinds_of d) m.kind ≡ true → Keeps seat.kept m.token → Keeps kept m.token) (outstanding_of sid t)) → AllAccounted d Taken t (record seat { kept = kept })
     kept_on kept keeps sid unfound own left =
-        zip_each (Accounted d marks seat.kept unfound) (λ m. takes (kinds_of d) m.kind ≡ true → Keeps seat.kept m.token → Keeps kept m.token) (Accounted d marks kept unfound)
+        zip_each (Accounted d Taken seat.kept unfound) (λ m. takes (kinds_of d) m.kind ≡ true → Keeps seat.kept m.token → Keeps kept m.token) (Accounted d Taken kept unfound)
         (λ m has keep taken. kept_else kept unfound m.token (keep taken) (has taken)) (outstanding_of sid t) (is sid unfound own left) (keeps sid own)
 
-    pub grown_on : (more : List Kept) → AllAccounted d marks t (record seat { kept = seat.kept ++ more })
+    pub grown_on : (more : List Kept) → AllAccounted d Taken t (record seat { kept = seat.kept ++ more })
     grown_on more = kept_on (seat.kept ++ more) (λ sid own. λ k m lt taken has. keeps_first seat.kept more _ has)
 
-    pub changed_on : (f : Kept → Kept) → ((k : Kept) → (f k).event ≡ k.event) → AllAccounted d marks t (record seat { kept = map f seat.kept })
+    pub changed_on : (f : Kept → Kept) → ((k : Kept) → (f k).event ≡ k.event) → AllAccounted d Taken t (record seat { kept = map f seat.kept })
     changed_on f same = kept_on (map f seat.kept) (λ sid own. λ k m lt taken has. keeps_changed f same seat.kept _ has)
 
     -- an event is forgotten whose token isn't outstanding to it
-    pub forgot_on : (x : Sid) (u : Token) → seat.sid ≡ Some x → All (IsApart d u) (outstanding_of x t) → AllAccounted d marks t (record seat { kept = forgot u seat.kept })
+    pub forgot_on : (x : Sid) (u : Token) → seat.sid ≡ Some x → All (IsApart d u) (outstanding_of x t) → AllAccounted d Taken t (record seat { kept = forgot u seat.kept })
     forgot_on x u at apart = kept_on (forgot u seat.kept) (λ sid own.
         let one : x ≡ sid = cc in
         let there : All (IsApart d u) (outstanding_of sid t) = subst (λ (y : Sid). All (IsApart d u) (outstanding_of y t)) one apart in
         All-weaker (IsApart d u) (λ m. takes (kinds_of d) m.kind ≡ true → Keeps seat.kept m.token → Keeps (forgot u seat.kept) m.token) (λ m other taken has. keeps_others u seat.kept m.token (other taken) has) (outstanding_of sid t) there)
 
-    passed : (u : Token) (rest : List Token) (v : Token) → (v.0 ≡ u.0 → ⊥) → IsAccounted d marks seat.kept (u ∷ rest) v → IsAccounted d marks seat.kept rest v
+    passed : (u : Token) (rest : List Token) (v : Token) → (v.0 ≡ u.0 → ⊥) → IsAccounted Taken seat.kept (u ∷ rest) v → IsAccounted Taken seat.kept rest v
     passed u rest v apart (inl has) = inl has
     passed u rest v apart (inr (inl there)) = inr (inl (Contains-tail u rest v (λ same. apart (ap (λ (x : Token). x.0) (sym same))) there))
     passed u rest v apart (inr (inr taken)) = inr (inr taken)
 
     -- the first of those that it has to find isn't outstanding to it
-    pub passed_on : (x : Sid) (u : Token) (rest : List Token) → seat.sid ≡ Some x → seat.unfound ≡ Some (u ∷ rest) → All (IsApart d u) (outstanding_of x t) → AllAccounted d marks t (found_one seat)
+    pub passed_on : (x : Sid) (u : Token) (rest : List Token) → seat.sid ≡ Some x → seat.unfound ≡ Some (u ∷ rest) → All (IsApart d u) (outstanding_of x t) → AllAccounted d Taken t (found_one seat)
     passed_on x u rest at left apart sid unfound own remains =
         let one : x ≡ sid = cc in
         let fewer : Some rest ≡ Some unfound = ap (λ (o : Option (List Token)). option_map (λ (l : List Token). drop 1 l) o) (sym left) ∙ remains in
         let same : rest ≡ unfound = cc in
-        subst (λ (l : List Token). All (Accounted d marks seat.kept l) (outstanding_of sid t)) same
-        (zip_each (Accounted d marks seat.kept (u ∷ rest)) (IsApart d u) (Accounted d marks seat.kept rest) (λ m has other taken. passed u rest m.token (other taken) (has taken)) (outstanding_of sid t)
+        subst (λ (l : List Token). All (Accounted d Taken seat.kept l) (outstanding_of sid t)) same
+        (zip_each (Accounted d Taken seat.kept (u ∷ rest)) (IsApart d u) (Accounted d Taken seat.kept rest) (λ m has other taken. passed u rest m.token (other taken) (has taken)) (outstanding_of sid t)
         (is sid (u ∷ rest) own left) (subst (λ (y : Sid). All (IsApart d u) (outstanding_of y t)) one apart))
 
-    found_or : (m : Mark) (u : Token) (rest : List Token) (more : List Kept) (v : Token) → ((w : Token) → FindsAgain d w m → u ≡ w) → (v.0 ≡ u.0 → Keeps more v) → IsAccounted d marks seat.kept (u ∷ rest) v → IsAccounted d (marks ++ m ∷ []) (seat.kept ++ more) rest v
-    found_or m u rest more v finds told has = by (v.0 == u.0) refl
+    found_or : (Later : Token → Type 0) (u : Token) (rest : List Token) (more : List Kept) (v : Token) → ((w : Token) → (w.0 ≡ u.0 → ⊥) → Taken w → Later w) → (v.0 ≡ u.0 → Keeps more v) → IsAccounted Taken seat.kept (u ∷ rest) v → IsAccounted Later (seat.kept ++ more) rest v
+    found_or Later u rest more v later told has = by (v.0 == u.0) refl
       where
-        after : (v.0 ≡ u.0 → ⊥) → IsAccounted d marks seat.kept rest v → IsAccounted d (marks ++ m ∷ []) (seat.kept ++ more) rest v
+        after : (v.0 ≡ u.0 → ⊥) → IsAccounted Taken seat.kept rest v → IsAccounted Later (seat.kept ++ more) rest v
         after apart (inl keeps) = inl (keeps_first seat.kept more v keeps)
         after apart (inr (inl there)) = inr (inl there)
-        after apart (inr (inr taken)) = inr (inr (taken_more d marks m v (λ found. apart (ap (λ (x : Token). x.0) (sym (finds v found)))) taken))
+        after apart (inr (inr taken)) = inr (inr (later v apart taken))
 
-        by : (b : Bool) → (v.0 == u.0) ≡ b → IsAccounted d (marks ++ m ∷ []) (seat.kept ++ more) rest v
+        by : (b : Bool) → (v.0 == u.0) ≡ b → IsAccounted Later (seat.kept ++ more) rest v
         by true same = inl (keeps_last seat.kept more v (told (eqb-true v.0 u.0 same)))
         by false other = after (eqb-false v.0 u.0 other) (passed u rest v (eqb-false v.0 u.0 other) has)
 
     -- the message of the first of them was found again
-    pub found_on : (m : Mark) (x : Sid) (u : Token) (rest : List Token) (more : List Kept) → seat.sid ≡ Some x → seat.unfound ≡ Some (u ∷ rest) → ((w : Token) → FindsAgain d w m → u ≡ w)
-        → All (λ y. takes (kinds_of d) y.kind ≡ true → y.token.0 ≡ u.0 → Keeps more y.token) (outstanding_of x t) → AllAccounted d (marks ++ m ∷ []) t (record (found_one seat) { kept = seat.kept ++ more })
-    found_on m x u rest more at left finds told sid unfound own remains =
+    pub found_on : (Later : Token → Type 0) (x : Sid) (u : Token) (rest : List Token) (more : List Kept) → seat.sid ≡ Some x → seat.unfound ≡ Some (u ∷ rest) → ((w : Token) → (w.0 ≡ u.0 → ⊥) → Taken w → Later w)
+        → All (λ y. takes (kinds_of d) y.kind ≡ true → y.token.0 ≡ u.0 → Keeps more y.token) (outstanding_of x t) → AllAccounted d Later t (record (found_one seat) { kept = seat.kept ++ more })
+    found_on Later x u rest more at left later told sid unfound own remains =
         let one : x ≡ sid = cc in
         let fewer : Some rest ≡ Some unfound = ap (λ (o : Option (List Token)). option_map (λ (l : List Token). drop 1 l) o) (sym left) ∙ remains in
         let same : rest ≡ unfound = cc in
-        subst (λ (l : List Token). All (Accounted d (marks ++ m ∷ []) (seat.kept ++ more) l) (outstanding_of sid t)) same
-        (zip_each (Accounted d marks seat.kept (u ∷ rest)) (λ y. takes (kinds_of d) y.kind ≡ true → y.token.0 ≡ u.0 → Keeps more y.token) (Accounted d (marks ++ m ∷ []) (seat.kept ++ more) rest)
-        (λ y has tells taken. found_or m u rest more y.token finds (tells taken) (has taken)) (outstanding_of sid t)
+        subst (λ (l : List Token). All (Accounted d Later (seat.kept ++ more) l) (outstanding_of sid t)) same
+        (zip_each (Accounted d Taken seat.kept (u ∷ rest)) (λ y. takes (kinds_of d) y.kind ≡ true → y.token.0 ≡ u.0 → Keeps more y.token) (Accounted d Later (seat.kept ++ more) rest)
+        (λ y has tells taken. found_or Later u rest more y.token later (tells taken) (has taken)) (outstanding_of sid t)
         (is sid (u ∷ rest) own left) (subst (λ (z : Sid). All (λ y. takes (kinds_of d) y.kind ≡ true → y.token.0 ≡ u.0 → Keeps more y.token) (outstanding_of z t)) one told))
 
     -- where it has all its messages each is kept or was taken
-    kept_or_taken : (u : Token) → IsAccounted d marks seat.kept [] u → Keeps seat.kept u ⊎ IsTaken d marks u
+    kept_or_taken : (u : Token) → IsAccounted Taken seat.kept [] u → Keeps seat.kept u ⊎ Taken u
     kept_or_taken u (inl has) = inl has
     kept_or_taken u (inr (inl there)) = absurd (none_in u there)
     kept_or_taken u (inr (inr taken)) = inr taken
 
-    pub seated_keeps : (sid : Sid) (m : Message) → IsSeated seat sid → Contains (outstanding_of sid t) m → takes (kinds_of d) m.kind ≡ true → Keeps seat.kept m.token ⊎ IsTaken d marks m.token
-    seated_keeps sid m seated there taken = kept_or_taken m.token (All-contains (Accounted d marks seat.kept []) (outstanding_of sid t) m (is sid [] seated.session seated.found) there taken)
+    pub seated_keeps : (sid : Sid) (m : Message) → IsSeated seat sid → Contains (outstanding_of sid t) m → takes (kinds_of d) m.kind ≡ true → Keeps seat.kept m.token ⊎ Taken m.token
+    seated_keeps sid m seated there taken = kept_or_taken m.token (All-contains (Accounted d Taken seat.kept []) (outstanding_of sid t) m (is sid [] seated.session seated.found) there taken)
 
   -- it was told which messages it has to find
-  pub listed_on : (marks : List Mark) (seat : Seat) (x : Sid) (unfound : List Token) → seat.sid ≡ Some x → unfound ≡ tokens_of (outstanding_of x t) → AllAccounted d marks t (record seat { unfound = Some unfound })
-  listed_on marks seat x unfound at are sid left own same =
+  pub listed_on : (Taken : Token → Type 0) (seat : Seat) (x : Sid) (unfound : List Token) → seat.sid ≡ Some x → unfound ≡ tokens_of (outstanding_of x t) → AllAccounted d Taken t (record seat { unfound = Some unfound })
+  listed_on Taken seat x unfound at are sid left own same =
       let one : x ≡ sid = cc in
       let all : left ≡ tokens_of (outstanding_of x t) = let these : unfound ≡ left = cc in sym these ∙ are in
-      subst (λ (y : Sid). All (Accounted d marks seat.kept left) (outstanding_of y t)) one
-      (subst (λ (l : List Token). All (Accounted d marks seat.kept l) (outstanding_of x t)) (sym all)
-      (All-weaker (λ m. Contains (tokens_of (outstanding_of x t)) m.token) (Accounted d marks seat.kept (tokens_of (outstanding_of x t))) (λ m there taken. inr (inl there)) (outstanding_of x t) (mapped_in (λ (m : Message). m.token) (outstanding_of x t))))
+      subst (λ (y : Sid). All (Accounted d Taken seat.kept left) (outstanding_of y t)) one
+      (subst (λ (l : List Token). All (Accounted d Taken seat.kept l) (outstanding_of x t)) (sym all)
+      (All-weaker (λ m. Contains (tokens_of (outstanding_of x t)) m.token) (Accounted d Taken seat.kept (tokens_of (outstanding_of x t))) (λ m there taken. inr (inl there)) (outstanding_of x t) (mapped_in (λ (m : Message). m.token) (outstanding_of x t))))

@@ -1,22 +1,23 @@
 pub mod QuietEvents
 pub mod Lists
-mod Carrying
+pub mod Carrying
 pub mod Handing
 mod AnyAnswer
 pub mod Seating
-mod Remembering
-mod Seen
+pub mod Remembering
+pub mod Seen
 mod Walking
 mod Causing
 mod Outstanding
-mod Leaving
-mod Accounting
-mod OwnSeats
+pub mod Leaving
+pub mod Accounting
+pub mod OwnSeats
+pub mod BothSeats
 mod KeepingAll
 mod Granting
 mod Freeing
-mod TellingOne
-mod Ways
+pub mod TellingOne
+pub mod Ways
 mod Informing
 mod Coming
 pub mod Waiting

@@ -41,13 +41,12 @@ use Rattle.dm_service.specs.Handing.{HandsOut}
 use Rattle.daemon_session.specs.declared.events.Kept.{Kept}
 use Rattle.daemon_session.specs.Seats.{Seat, no_seat, new_seat, told_info, found_one, forgot, seat_asks, seat_hears}
 use Rattle.daemon_session.specs.Tellings.{events_in}
-use Rattle.marked_history.specs.Marks.{Mark, made}
 use Rattle.marked_history.specs.Tokens.{Keeps}
 use Rattle.marked_history.proofs.Carrying.{Each, outstanding_of_each}
 use Rattle.marked_history.proofs.Outstanding.{zip_each, created_empty, responded_gone, once_out, owned_message, found_one as one_found}
 use Rattle.marked_history.proofs.Leaving.{Hands, left_out, told_gone, IsOn, own_reply, done_left, same_left, once, told_apart}
-use Rattle.marked_history.proofs.Accounting.{keeps_last, packed_tell, finds_in, not_found, found_is, Accounted, AllAccounted, IsApart}
-use Rattle.marked_history.proofs.Accounting.{none_accounted, marks_more, grown_on, forgot_on, passed_on, found_on, listed_on}
+use Rattle.marked_history.proofs.Accounting.{keeps_last, packed_tell, Finds, Accounted, AllAccounted, IsApart}
+use Rattle.marked_history.proofs.Accounting.{none_accounted, all_later, grown_on, forgot_on, passed_on, found_on, listed_on}
 
 -- a message of a daemon's kinds has a token
 abbrev pub HasToken : Message → Type 0
@@ -74,32 +73,33 @@ SeatMay seat x (call.Respond t response) = seat.sid ≡ Some x
 SeatMay seat x c = Unit {0}
 
 module _ (s : Superblock) (st : State) (ordered : InOrder st) (d : Daemon) where
-  own_fits : (marks : List Mark) (kept : List Kept) (unfound : List Token) (t : Token) (body : List ℕ) → Accounted d marks kept unfound (user_message t body)
-  own_fits marks kept unfound t body own = absurd (false≢true own)
+  own_fits : (Taken : Token → Type 0) (kept : List Kept) (unfound : List Token) (t : Token) (body : List ℕ) → Accounted d Taken kept unfound (user_message t body)
+  own_fits Taken kept unfound t body own = absurd (false≢true own)
 
   -- an entry more that leaves the seat
-  pub tables_on : (marks : List Mark) (seat : Seat) (who : Actor) (what : Action) (answer : Answer) → IsAnswer s st who what answer → IsGiven st.sessions seat
-      → ((sid : Sid) (unfound : List Token) → seat.sid ≡ Some sid → seat.unfound ≡ Some unfound → Hands (Accounted d marks seat.kept unfound) st sid who what answer)
-      → AllAccounted d marks st.sessions seat → AllAccounted d marks (left_by s st who what answer).sessions seat
-  tables_on marks seat who what answer is given hands each sid unfound own left =
-      left_out s st ordered (Accounted d marks seat.kept unfound) (own_fits marks seat.kept unfound) sid (given sid own) (each sid unfound own left) who what answer is (hands sid unfound own left)
+  pub tables_on : (Taken : Token → Type 0) (seat : Seat) (who : Actor) (what : Action) (answer : Answer) → IsAnswer s st who what answer → IsGiven st.sessions seat
+      → ((sid : Sid) (unfound : List Token) → seat.sid ≡ Some sid → seat.unfound ≡ Some unfound → Hands (Accounted d Taken seat.kept unfound) st sid who what answer)
+      → AllAccounted d Taken st.sessions seat → AllAccounted d Taken (left_by s st who what answer).sessions seat
+  tables_on Taken seat who what answer is given hands each sid unfound own left =
+      left_out s st ordered (Accounted d Taken seat.kept unfound) (own_fits Taken seat.kept unfound) sid (given sid own) (each sid unfound own left) who what answer is (hands sid unfound own left)
 
-  module _ (tokened : Each HasToken st.sessions) (done : List Mark) (x : Sid) where
+  -- of what was taken before a call, and what is behind it
+  module _ (tokened : Each HasToken st.sessions) (Taken Later : Token → Type 0) (x : Sid) where
     abbrev after : DmCall → DmReply → SessionTable
     after c a = (left_by s st (Session x) (Dm c) (Told a)).sessions
 
-    abbrev marked : DmCall → DmReply → List Mark
-    marked c a = done ++ made d x c a ∷ []
+    abbrev Stays : DmCall → DmReply → Type 0
+    Stays c a = (u : Token) → (Finds c a u → ⊥) → Taken u → Later u
 
     no_hands : (P : Message → Type 0) (sid : Sid) (c : DmCall) (a : DmReply) → hands_in (Dm c) (Told a) ≡ false → Hands P st sid (Session x) (Dm c) (Told a)
     no_hands P sid c a none most room bytes tokens who what answer is = let same : hands_in (Dm c) (Told a) ≡ true = λ i. hands_in (what i) (answer i) in absurd (false≢true (sym none ∙ same))
 
     -- one of a call that finds and hands out nothing
-    pub plain : (seat : Seat) (c : DmCall) (a : DmReply) → finds_in (Dm c) (Told a) ≡ false → hands_in (Dm c) (Told a) ≡ false → IsAnswer s st (Session x) (Dm c) (Told a) → IsGiven st.sessions seat
-        → AllAccounted d done st.sessions seat → AllAccounted d (marked c a) (after c a) seat
-    plain seat c a finds hands is given each =
-        tables_on (marked c a) seat (Session x) (Dm c) (Told a) is given (λ sid unfound own left. no_hands (Accounted d (marked c a) seat.kept unfound) sid c a hands)
-        (marks_more d st.sessions done (made d x c a) seat (λ u. not_found d u (made d x c a) finds) each)
+    pub plain : (seat : Seat) (c : DmCall) (a : DmReply) → Stays c a → ((u : Token) → Finds c a u → ⊥) → hands_in (Dm c) (Told a) ≡ false → IsAnswer s st (Session x) (Dm c) (Told a) → IsGiven st.sessions seat
+        → AllAccounted d Taken st.sessions seat → AllAccounted d Later (after c a) seat
+    plain seat c a stays finds hands is given each =
+        tables_on Later seat (Session x) (Dm c) (Told a) is given (λ sid unfound own left. no_hands (Accounted d Later seat.kept unfound) sid c a hands)
+        (all_later d st.sessions Taken Later seat (λ u was. stays u (finds u) was) each)
 
     -- where the answer tells it, the token isn't outstanding to the session
     gone_out : (c : DmCall) (a : DmReply) (u : Token) → IsOn u c → IsAnswer s st (Session x) (Dm c) (Told a) → told_gone a ≡ true → All (IsApart d u) (outstanding_of x st.sessions)
@@ -114,7 +114,7 @@ module _ (s : Superblock) (st : State) (ordered : InOrder st) (d : Daemon) where
     -- ---- its way to a session
 
     created : (old : Sid) (info : List ℕ) (new : Sid) → IsAnswer s st (Session x) (Dm (call.CreateSession old info)) (Told (reply.Session new))
-        → AllAccounted d (marked (call.CreateSession old info) (reply.Session new)) (after (call.CreateSession old info) (reply.Session new)) (new_seat old new)
+        → AllAccounted d Later (after (call.CreateSession old info) (reply.Session new)) (new_seat old new)
     created old info new is sid unfound own left = by (old.0 == 0) refl left
       where
         given : reply.Session new ≡ reply.Session (next_sid st.sessions)
@@ -124,43 +124,43 @@ module _ (s : Superblock) (st : State) (ordered : InOrder st) (d : Daemon) where
         which = let one : new ≡ next_sid st.sessions = cc given in let other : new ≡ sid = cc in sym one ∙ other
 
         by : (b : Bool) → (old.0 == 0) ≡ b → (if b then Some [] else None) ≡ Some unfound
-            → All (Accounted d (marked (call.CreateSession old info) (reply.Session new)) [] unfound) (outstanding_of sid (after (call.CreateSession old info) (reply.Session new)))
+            → All (Accounted d Later [] unfound) (outstanding_of sid (after (call.CreateSession old info) (reply.Session new)))
         by true zero_id same =
             let none : outstanding_of (next_sid st.sessions) (after (call.CreateSession old info) (reply.Session new)) ≡ [] =
             ap (outstanding_of (next_sid st.sessions)) (done_left s st x (call.CreateSession old info) (reply.Session new) refl) ∙ created_empty old info st.sessions ordered.ascend (eqb-true old.0 0 zero_id) in
-            subst (λ (y : Sid). All (Accounted d (marked (call.CreateSession old info) (reply.Session new)) [] unfound) (outstanding_of y (after (call.CreateSession old info) (reply.Session new)))) which
-            (subst (λ (l : List Message). All (Accounted d (marked (call.CreateSession old info) (reply.Session new)) [] unfound) l) (sym none) (All-nil (Accounted d (marked (call.CreateSession old info) (reply.Session new)) [] unfound)))
+            subst (λ (y : Sid). All (Accounted d Later [] unfound) (outstanding_of y (after (call.CreateSession old info) (reply.Session new)))) which
+            (subst (λ (l : List Message). All (Accounted d Later [] unfound) l) (sym none) (All-nil (Accounted d Later [] unfound)))
         by false other same = absurd cc
 
     creates : (old : Sid) (info : List ℕ) (a : DmReply) → IsAnswer s st (Session x) (Dm (call.CreateSession old info)) (Told a)
-        → AllAccounted d (marked (call.CreateSession old info) a) (after (call.CreateSession old info) a) (seat_hears d no_seat (call.CreateSession old info) a)
+        → AllAccounted d Later (after (call.CreateSession old info) a) (seat_hears d no_seat (call.CreateSession old info) a)
     creates old info (reply.Session new) is = created old info new is
-    creates old info a is = none_accounted d (after (call.CreateSession old info) a) (marked (call.CreateSession old info) a) no_seat refl
+    creates old info a is = none_accounted d (after (call.CreateSession old info) a) Later no_seat refl
 
-    begins : (a : DmReply) → AllAccounted d (marked call.GetAllSessions a) (after call.GetAllSessions a) (seat_hears d no_seat call.GetAllSessions a)
-    begins (reply.Sids ids) = none_accounted d (after call.GetAllSessions (reply.Sids ids)) (marked call.GetAllSessions (reply.Sids ids)) (record no_seat { others = Some ids }) refl
-    begins a = none_accounted d (after call.GetAllSessions a) (marked call.GetAllSessions a) no_seat refl
+    begins : (a : DmReply) → AllAccounted d Later (after call.GetAllSessions a) (seat_hears d no_seat call.GetAllSessions a)
+    begins (reply.Sids ids) = none_accounted d (after call.GetAllSessions (reply.Sids ids)) Later (record no_seat { others = Some ids }) refl
+    begins a = none_accounted d (after call.GetAllSessions a) Later no_seat refl
 
-    module _ (seat : Seat) (given : IsGiven st.sessions seat) (each : AllAccounted d done st.sessions seat) where
-      informed : (marks : List Mark) (t : SessionTable) (target : Sid) (info : List ℕ) → AllAccounted d marks t seat → AllAccounted d marks t (told_info d target info seat)
-      informed marks t target info is = elim (bytes_eq info (information d)) as (λ (b : Bool). AllAccounted d marks t (if b then record seat { found = Some target } else record seat { others = option_map (λ (ids : List Sid). drop 1 ids) seat.others })) [ true ↦ is | false ↦ is ]
+    module _ (seat : Seat) (given : IsGiven st.sessions seat) (each : AllAccounted d Taken st.sessions seat) where
+      informed : (t : SessionTable) (target : Sid) (info : List ℕ) → AllAccounted d Later t seat → AllAccounted d Later t (told_info d target info seat)
+      informed t target info is = elim (bytes_eq info (information d)) as (λ (b : Bool). AllAccounted d Later t (if b then record seat { found = Some target } else record seat { others = option_map (λ (ids : List Sid). drop 1 ids) seat.others })) [ true ↦ is | false ↦ is ]
 
-      queries : (target : Sid) (a : DmReply) → IsAnswer s st (Session x) (Dm (call.QuerySession target)) (Told a) → AllAccounted d (marked (call.QuerySession target) a) (after (call.QuerySession target) a) (seat_hears d seat (call.QuerySession target) a)
-      queries target (reply.Info info) is =
-          informed (marked (call.QuerySession target) (reply.Info info)) (after (call.QuerySession target) (reply.Info info)) target info (plain seat (call.QuerySession target) (reply.Info info) refl refl is given each)
-      queries target a is = plain seat (call.QuerySession target) a refl refl is given each
+      queries : (target : Sid) (a : DmReply) → Stays (call.QuerySession target) a → IsAnswer s st (Session x) (Dm (call.QuerySession target)) (Told a) → AllAccounted d Later (after (call.QuerySession target) a) (seat_hears d seat (call.QuerySession target) a)
+      queries target (reply.Info info) stays is =
+          informed (after (call.QuerySession target) (reply.Info info)) target info (plain seat (call.QuerySession target) (reply.Info info) stays (λ u found. found) refl is given each)
+      queries target a stays is = plain seat (call.QuerySession target) a stays (λ u found. found) refl is given each
 
-      disposes : (kinds : Kinds) (a : DmReply) → IsAnswer s st (Session x) (Dm (call.SetDisp kinds)) (Told a) → AllAccounted d (marked (call.SetDisp kinds) a) (after (call.SetDisp kinds) a) (seat_hears d seat (call.SetDisp kinds) a)
-      disposes kinds reply.Done is = plain seat (call.SetDisp kinds) reply.Done refl refl is given each
-      disposes kinds a is = plain seat (call.SetDisp kinds) a refl refl is given each
+      disposes : (kinds : Kinds) (a : DmReply) → Stays (call.SetDisp kinds) a → IsAnswer s st (Session x) (Dm (call.SetDisp kinds)) (Told a) → AllAccounted d Later (after (call.SetDisp kinds) a) (seat_hears d seat (call.SetDisp kinds) a)
+      disposes kinds reply.Done stays is = plain seat (call.SetDisp kinds) reply.Done stays (λ u found. found) refl is given each
+      disposes kinds a stays is = plain seat (call.SetDisp kinds) a stays (λ u found. found) refl is given each
 
-      lists : (a : DmReply) → seat.sid ≡ Some x → IsAnswer s st (Session x) (Dm call.GetAllTokens) (Told a) → AllAccounted d (marked call.GetAllTokens a) (after call.GetAllTokens a) (seat_hears d seat call.GetAllTokens a)
-      lists (reply.Tokens tokens) at is =
+      lists : (a : DmReply) → seat.sid ≡ Some x → Stays call.GetAllTokens a → IsAnswer s st (Session x) (Dm call.GetAllTokens) (Told a) → AllAccounted d Later (after call.GetAllTokens a) (seat_hears d seat call.GetAllTokens a)
+      lists (reply.Tokens tokens) at stays is =
           let same : reply.Tokens tokens ≡ reply.Tokens (tokens_of (outstanding_of x st.sessions)) = (own_reply s st x call.GetAllTokens (reply.Tokens tokens) is refl).1 in
           let these : tokens ≡ tokens_of (outstanding_of x st.sessions) = cc same in
-          subst (λ (t : SessionTable). AllAccounted d (marked call.GetAllTokens (reply.Tokens tokens)) t (record seat { unfound = Some tokens })) (sym (same_left s st x call.GetAllTokens (reply.Tokens tokens) refl))
-          (listed_on d st.sessions (marked call.GetAllTokens (reply.Tokens tokens)) seat x tokens at these)
-      lists a at is = plain seat call.GetAllTokens a refl refl is given each
+          subst (λ (t : SessionTable). AllAccounted d Later t (record seat { unfound = Some tokens })) (sym (same_left s st x call.GetAllTokens (reply.Tokens tokens) refl))
+          (listed_on d st.sessions Later seat x tokens at these)
+      lists a at stays is = plain seat call.GetAllTokens a stays (λ u found. found) refl is given each
 
       -- ---- messages that are found again
 
@@ -185,22 +185,22 @@ module _ (s : Superblock) (st : State) (ordered : InOrder st) (d : Daemon) where
                 let alone : IsPacked bytes (y ∷ []) = subst (λ (o : Option Message). IsPacked bytes (message_or_none o)) is packed in
                 All-head (λ m. takes (kinds_of d) m.kind ≡ true → Keeps (events_in d bytes) m.token) y [] (packed_tell d bytes (y ∷ []) alone) own
 
-        found_again : (bytes : List ℕ) (tokens : List Token) → IsAnswer s st (Session x) (Dm find) (Told (reply.Packed bytes tokens)) → IsPacked bytes (message_or_none (outstanding_message u st.sessions))
-            → AllAccounted d (marked find (reply.Packed bytes tokens)) (after find (reply.Packed bytes tokens)) (record (found_one seat) { kept = seat.kept ++ events_in d bytes })
-        found_again bytes tokens is packed =
-            subst (λ (t : SessionTable). AllAccounted d (marked find (reply.Packed bytes tokens)) t (record (found_one seat) { kept = seat.kept ++ events_in d bytes })) (sym (same_left s st x find (reply.Packed bytes tokens) refl))
-            (found_on d st.sessions done seat each (made d x find (reply.Packed bytes tokens)) x u rest (events_in d bytes) at left (λ w. found_is d w u x room (reply.Packed bytes tokens)) (tells bytes tokens is packed))
+        found_again : (bytes : List ℕ) (tokens : List Token) → Stays find (reply.Packed bytes tokens) → IsAnswer s st (Session x) (Dm find) (Told (reply.Packed bytes tokens)) → IsPacked bytes (message_or_none (outstanding_message u st.sessions))
+            → AllAccounted d Later (after find (reply.Packed bytes tokens)) (record (found_one seat) { kept = seat.kept ++ events_in d bytes })
+        found_again bytes tokens stays is packed =
+            subst (λ (t : SessionTable). AllAccounted d Later t (record (found_one seat) { kept = seat.kept ++ events_in d bytes })) (sym (same_left s st x find (reply.Packed bytes tokens) refl))
+            (found_on d st.sessions Taken seat each Later x u rest (events_in d bytes) at left stays (tells bytes tokens is packed))
 
-        missed : (a : DmReply) → finds_in (Dm find) (Told a) ≡ false → told_gone a ≡ true → IsAnswer s st (Session x) (Dm find) (Told a) → AllAccounted d (marked find a) (after find a) (found_one seat)
-        missed a finds gone is =
-            plain (found_one seat) find a finds refl is given
-            (passed_on d st.sessions done seat each x u rest at left (gone_out find a u refl is gone))
+        missed : (a : DmReply) → Stays find a → ((w : Token) → Finds find a w → ⊥) → told_gone a ≡ true → IsAnswer s st (Session x) (Dm find) (Told a) → AllAccounted d Later (after find a) (found_one seat)
+        missed a stays finds gone is =
+            plain (found_one seat) find a stays finds refl is given
+            (passed_on d st.sessions Taken seat each x u rest at left (gone_out find a u refl is gone))
 
-        finds : (a : DmReply) → HandsOut st.sessions x find a → IsAnswer s st (Session x) (Dm find) (Told a) → AllAccounted d (marked find a) (after find a) (seat_hears d seat find a)
-        finds (reply.Packed bytes tokens) hands is = found_again bytes tokens is hands
-        finds (reply.Refused why.NoToken) hands is = missed (reply.Refused why.NoToken) refl refl is
-        finds (reply.Refused (why.NotYours owner)) hands is = missed (reply.Refused (why.NotYours owner)) refl refl is
-        finds a hands is = plain seat find a refl refl is given each
+        finds : (a : DmReply) → Stays find a → HandsOut st.sessions x find a → IsAnswer s st (Session x) (Dm find) (Told a) → AllAccounted d Later (after find a) (seat_hears d seat find a)
+        finds (reply.Packed bytes tokens) stays hands is = found_again bytes tokens stays is hands
+        finds (reply.Refused why.NoToken) stays hands is = missed (reply.Refused why.NoToken) stays (λ w found. found) refl is
+        finds (reply.Refused (why.NotYours owner)) stays hands is = missed (reply.Refused (why.NotYours owner)) stays (λ w found. found) refl is
+        finds a stays hands is = plain seat find a stays (λ w found. found) refl is given each
 
       -- ---- messages that are handed out
 
@@ -208,25 +208,25 @@ module _ (s : Superblock) (st : State) (ordered : InOrder st) (d : Daemon) where
         abbrev get : DmCall
         get = call.GetEvents most room
 
-        handed : (bytes : List ℕ) (tokens : List Token) → IsPacked bytes (handed_out most room (queue_of x st.sessions)) → (marks : List Mark) (sid : Sid) (unfound : List Token)
-            → Hands (Accounted d marks (seat.kept ++ events_in d bytes) unfound) st sid (Session x) (Dm get) (Told (reply.Packed bytes tokens))
-        handed bytes tokens packed marks sid unfound most2 room2 bytes2 tokens2 who what answer is =
+        handed : (bytes : List ℕ) (tokens : List Token) → IsPacked bytes (handed_out most room (queue_of x st.sessions)) → (sid : Sid) (unfound : List Token)
+            → Hands (Accounted d Later (seat.kept ++ events_in d bytes) unfound) st sid (Session x) (Dm get) (Told (reply.Packed bytes tokens))
+        handed bytes tokens packed sid unfound most2 room2 bytes2 tokens2 who what answer is =
             let same_most : most ≡ most2 = cc what in
             let same_room : room ≡ room2 = cc what in
             let same_sid : x ≡ sid = cc who in
-            subst (λ (y : Sid). All (Accounted d marks (seat.kept ++ events_in d bytes) unfound) (handed_out most2 room2 (queue_of y st.sessions))) same_sid
-            (subst (λ (n : ℕ). All (Accounted d marks (seat.kept ++ events_in d bytes) unfound) (handed_out n room2 (queue_of x st.sessions))) same_most
-            (subst (λ (n : ℕ). All (Accounted d marks (seat.kept ++ events_in d bytes) unfound) (handed_out most n (queue_of x st.sessions))) same_room
-            (All-weaker (λ m. takes (kinds_of d) m.kind ≡ true → Keeps (events_in d bytes) m.token) (Accounted d marks (seat.kept ++ events_in d bytes) unfound) (λ m has own. inl (keeps_last seat.kept (events_in d bytes) m.token (has own)))
+            subst (λ (y : Sid). All (Accounted d Later (seat.kept ++ events_in d bytes) unfound) (handed_out most2 room2 (queue_of y st.sessions))) same_sid
+            (subst (λ (n : ℕ). All (Accounted d Later (seat.kept ++ events_in d bytes) unfound) (handed_out n room2 (queue_of x st.sessions))) same_most
+            (subst (λ (n : ℕ). All (Accounted d Later (seat.kept ++ events_in d bytes) unfound) (handed_out most n (queue_of x st.sessions))) same_room
+            (All-weaker (λ m. takes (kinds_of d) m.kind ≡ true → Keeps (events_in d bytes) m.token) (Accounted d Later (seat.kept ++ events_in d bytes) unfound) (λ m has own. inl (keeps_last seat.kept (events_in d bytes) m.token (has own)))
             (handed_out most room (queue_of x st.sessions)) (packed_tell d bytes (handed_out most room (queue_of x st.sessions)) packed))))
 
-        gets : (a : DmReply) → HandsOut st.sessions x get a → IsAnswer s st (Session x) (Dm get) (Told a) → AllAccounted d (marked get a) (after get a) (seat_hears d seat get a)
-        gets (reply.Packed bytes tokens) hands is =
+        gets : (a : DmReply) → Stays get a → HandsOut st.sessions x get a → IsAnswer s st (Session x) (Dm get) (Told a) → AllAccounted d Later (after get a) (seat_hears d seat get a)
+        gets (reply.Packed bytes tokens) stays hands is =
             let grown : Seat = record seat { kept = seat.kept ++ events_in d bytes } in
-            tables_on (marked get (reply.Packed bytes tokens)) grown (Session x) (Dm get) (Told (reply.Packed bytes tokens)) is given
-            (λ sid unfound own left. handed bytes tokens hands (marked get (reply.Packed bytes tokens)) sid unfound)
-            (marks_more d st.sessions done (made d x get (reply.Packed bytes tokens)) grown (λ u. not_found d u (made d x get (reply.Packed bytes tokens)) refl) (grown_on d st.sessions done seat each (events_in d bytes)))
-        gets a hands is = plain seat get a refl refl is given each
+            tables_on Later grown (Session x) (Dm get) (Told (reply.Packed bytes tokens)) is given
+            (λ sid unfound own left. handed bytes tokens hands sid unfound)
+            (all_later d st.sessions Taken Later grown (λ u was. stays u (λ found. found) was) (grown_on d st.sessions Taken seat each (events_in d bytes)))
+        gets a stays hands is = plain seat get a stays (λ u found. found) refl is given each
 
       -- ---- responses
 
@@ -234,33 +234,33 @@ module _ (s : Superblock) (st : State) (ordered : InOrder st) (d : Daemon) where
         abbrev answer : DmCall
         answer = call.Respond u response
 
-        answered : IsAnswer s st (Session x) (Dm answer) (Told reply.Done) → AllAccounted d (marked answer reply.Done) (after answer reply.Done) (record seat { kept = forgot u seat.kept })
-        answered is =
+        answered : Stays answer reply.Done → IsAnswer s st (Session x) (Dm answer) (Told reply.Done) → AllAccounted d Later (after answer reply.Done) (record seat { kept = forgot u seat.kept })
+        answered stays is =
             let none : All (λ (m : Message). has_token u m ≡ false) (outstanding_of x (after answer reply.Done)) =
             subst (λ (t : SessionTable). All (λ (m : Message). has_token u m ≡ false) (outstanding_of x t)) (sym (done_left s st x answer reply.Done refl)) (responded_gone x u st.sessions) in
-            forgot_on d (after answer reply.Done) (marked answer reply.Done) seat (plain seat answer reply.Done refl refl is given each) x u at
+            forgot_on d (after answer reply.Done) Later seat (plain seat answer reply.Done stays (λ w found. found) refl is given each) x u at
             (All-weaker (λ m. has_token u m ≡ false) (IsApart d u) (λ m apart own. eqb-false m.token.0 u.0 apart) (outstanding_of x (after answer reply.Done)) none)
 
-        unanswered : (a : DmReply) → told_gone a ≡ true → IsAnswer s st (Session x) (Dm answer) (Told a) → AllAccounted d (marked answer a) (after answer a) (record seat { kept = forgot u seat.kept })
-        unanswered a gone is =
-            plain (record seat { kept = forgot u seat.kept }) answer a refl refl is given
-            (forgot_on d st.sessions done seat each x u at (gone_out answer a u refl is gone))
+        unanswered : (a : DmReply) → Stays answer a → told_gone a ≡ true → IsAnswer s st (Session x) (Dm answer) (Told a) → AllAccounted d Later (after answer a) (record seat { kept = forgot u seat.kept })
+        unanswered a stays gone is =
+            plain (record seat { kept = forgot u seat.kept }) answer a stays (λ w found. found) refl is given
+            (forgot_on d st.sessions Taken seat each x u at (gone_out answer a u refl is gone))
 
-        responds : (a : DmReply) → IsAnswer s st (Session x) (Dm answer) (Told a) → AllAccounted d (marked answer a) (after answer a) (seat_hears d seat answer a)
-        responds reply.Done is = answered is
-        responds (reply.Refused why.NoToken) is = unanswered (reply.Refused why.NoToken) refl is
-        responds (reply.Refused (why.NotYours owner)) is = unanswered (reply.Refused (why.NotYours owner)) refl is
-        responds a is = plain seat answer a refl refl is given each
+        responds : (a : DmReply) → Stays answer a → IsAnswer s st (Session x) (Dm answer) (Told a) → AllAccounted d Later (after answer a) (seat_hears d seat answer a)
+        responds reply.Done stays is = answered stays is
+        responds (reply.Refused why.NoToken) stays is = unanswered (reply.Refused why.NoToken) stays refl is
+        responds (reply.Refused (why.NotYours owner)) stays is = unanswered (reply.Refused (why.NotYours owner)) stays refl is
+        responds a stays is = plain seat answer a stays (λ w found. found) refl is given each
 
       -- ---- any call of the daemon
 
-      pub own_seat : (c : DmCall) (a : DmReply) → SeatMay seat x c → HandsOut st.sessions x c a → IsAnswer s st (Session x) (Dm c) (Told a) → AllAccounted d (marked c a) (after c a) (seat_hears d (seat_asks seat c) c a)
-      own_seat call.GetAllSessions a may hands is = begins a
-      own_seat (call.CreateSession old info) a may hands is = creates old info a is
-      own_seat (call.QuerySession target) a may hands is = queries target a is
-      own_seat (call.SetDisp kinds) a may hands is = disposes kinds a is
-      own_seat call.GetAllTokens a may hands is = lists a may is
-      own_seat (call.FindEventMsg u room) a may hands is = finds u room may.0 may.1.0 may.1.1 a hands is
-      own_seat (call.GetEvents most room) a may hands is = gets most room a hands is
-      own_seat (call.Respond u response) a may hands is = responds u response may a is
-      own_seat c a may hands is = plain seat c a refl refl is given each
+      pub own_seat : (c : DmCall) (a : DmReply) → Stays c a → SeatMay seat x c → HandsOut st.sessions x c a → IsAnswer s st (Session x) (Dm c) (Told a) → AllAccounted d Later (after c a) (seat_hears d (seat_asks seat c) c a)
+      own_seat call.GetAllSessions a stays may hands is = begins a
+      own_seat (call.CreateSession old info) a stays may hands is = creates old info a is
+      own_seat (call.QuerySession target) a stays may hands is = queries target a stays is
+      own_seat (call.SetDisp kinds) a stays may hands is = disposes kinds a stays is
+      own_seat call.GetAllTokens a stays may hands is = lists a may stays is
+      own_seat (call.FindEventMsg u room) a stays may hands is = finds u room may.0 may.1.0 may.1.1 a stays hands is
+      own_seat (call.GetEvents most room) a stays may hands is = gets most room a stays hands is
+      own_seat (call.Respond u response) a stays may hands is = responds u response may a stays is
+      own_seat c a stays may hands is = plain seat c a stays (λ u found. found) refl is given each

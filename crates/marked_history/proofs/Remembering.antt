@@ -79,7 +79,7 @@ module _ (E : Event → Type 0) where
   TellsOnly d (call.FindEventMsg t room) (reply.Packed bytes tokens) = AllKept (events_in d bytes)
   TellsOnly d c a = Unit {0}
 
-  changed_kept : (f : Kept → Kept) → ((k : Kept) → (f k).event ≡ k.event) → (kept : List Kept) → AllKept kept → AllKept (map f kept)
+  pub changed_kept : (f : Kept → Kept) → ((k : Kept) → (f k).event ≡ k.event) → (kept : List Kept) → AllKept kept → AllKept (map f kept)
   changed_kept f same kept each = All-map IsKeptSo f kept (All-weaker IsKeptSo (λ k. IsKeptSo (f k)) (λ k is. subst E (sym (same k)) is) kept each)
 
   forgot_kept : (u : Token) (kept : List Kept) → AllKept kept → AllKept (forgot u kept)
@@ -103,12 +103,12 @@ module _ (E : Event → Type 0) where
   seat_kept d seat (call.Respond t response) (reply.Refused (why.NotYours owner)) each tells = forgot_kept t seat.kept each
   seat_kept d seat c a each tells = each
 
-  asks_kept : (seat : Seat) (c : DmCall) → AllKept seat.kept → AllKept (seat_asks seat c).kept
+  pub asks_kept : (seat : Seat) (c : DmCall) → AllKept seat.kept → AllKept (seat_asks seat c).kept
   asks_kept seat call.GetAllSessions each = All-nil IsKeptSo
   asks_kept seat (call.CreateSession old info) each = All-nil IsKeptSo
   asks_kept seat c each = each
 
-  keeps_kept : (d : Daemon) (seat : Seat) (c : DmCall) (a : DmReply) → AllKept seat.kept → TellsOnly d c a → Keeps (λ s. AllKept s.kept) c a (seat_hears d (seat_asks seat c) c a)
+  pub keeps_kept : (d : Daemon) (seat : Seat) (c : DmCall) (a : DmReply) → AllKept seat.kept → TellsOnly d c a → Keeps (λ s. AllKept s.kept) c a (seat_hears d (seat_asks seat c) c a)
   keeps_kept d seat c a each tells =
       let next : Seat = seat_hears d (seat_asks seat c) c a in
       let is : AllKept next.kept = seat_kept d (seat_asks seat c) c a (asks_kept seat c each) tells in

@@ -60,27 +60,27 @@ use Rattle.marked_history.proofs.Remembering.{TellsOnly, recall_kept, migrate_ke
 
 -- ---- of each token its message
 
-abbrev Register : Type 0
+abbrev pub Register : Type 0
 Register = ℕ → Message
 
 -- of a token that was never given, and of a session's own message
-abbrev unknown : Message
+abbrev pub unknown : Message
 unknown = user_message no_token []
 
 -- as the register has it
-record IsListed (f : Register) (top : ℕ) (m : Message) : Type 0 where
+pub record IsListed (f : Register) (top : ℕ) (m : Message) : Type 0 where
   pub within : m.token.0 ≤ top
   pub kind : m.kind ≡ (f m.token.0).kind
   pub handle : m.handle ≡ (f m.token.0).handle
 
 -- It has each message of the table, and none of a token that wasn't given.
-record IsRegister (f : Register) (top : ℕ) (t : SessionTable) : Type 0 where
+pub record IsRegister (f : Register) (top : ℕ) (t : SessionTable) : Type 0 where
   pub none : f 0 ≡ unknown
   pub fresh : (n : ℕ) → top < n → f n ≡ unknown
   pub each : Each (IsListed f top) t
 
 -- that of the state after an event, which has the same messages of tokens that were given before
-record Next (f : Register) (top : ℕ) (after : State) : Type 0 where
+pub record Next (f : Register) (top : ℕ) (after : State) : Type 0 where
   pub next : Register
   pub rises : top ≤ after.ledger.top
   pub same : (n : ℕ) → n ≤ top → next n ≡ f n
@@ -183,7 +183,7 @@ module _ (s : Superblock) (st : State) (f : Register) (is : IsRegister f st.ledg
       subst NextOf (sym left) (if_next (is_fault answer) who what answer own (subst (λ (after : State). Moves st.ledger after.ledger who what answer) left (event_moves s st who what answer ordered (inr own))))
 
 -- on any disk
-seen_next : (s : Superblock) (st : State) (f : Register) → IsRegister f st.ledger.top st.sessions → (who : Actor) (what : Action) (answer : Answer) → InOrder st → IsAnswerSeen ⊥ s st who what answer → Next f st.ledger.top (left_by s st who what answer)
+pub seen_next : (s : Superblock) (st : State) (f : Register) → IsRegister f st.ledger.top st.sessions → (who : Actor) (what : Action) (answer : Answer) → InOrder st → IsAnswerSeen ⊥ s st who what answer → Next f st.ledger.top (left_by s st who what answer)
 seen_next s st f is who what answer ordered given =
     let there = is_over s st who what answer given in
     let next = left_next s (over st there.seen) f is who what answer (ordered_over st there.seen ordered) there.exact in
@@ -192,35 +192,35 @@ seen_next s st f is who what answer ordered given =
 -- ---- events and files of tokens
 
 -- the event is that of the token's message
-record IsEventOf (d : Daemon) (f : Register) (top : ℕ) (e : Event) : Type 0 where
+pub record IsEventOf (d : Daemon) (f : Register) (top : ℕ) (e : Event) : Type 0 where
   pub within : e.token.0 ≤ top
   pub handle : (f e.token.0).handle ≡ Some e.handle
   pub kind : (f e.token.0).kind ≡ e.kind
   pub own : takes (kinds_of d) e.kind ≡ true
 
 -- that message told recall of the file
-record IsFileOf (f : Register) (top : ℕ) (t : Token) (k : FileKey) : Type 0 where
+pub record IsFileOf (f : Register) (top : ℕ) (t : Token) (k : FileKey) : Type 0 where
   pub within : t.0 ≤ top
   pub tells : TellsOn k (f t.0)
 
 module _ (f g : Register) (top above : ℕ) (rises : top ≤ above) (same : (n : ℕ) → n ≤ top → g n ≡ f n) where
-  event_next : (d : Daemon) (e : Event) → IsEventOf d f top e → IsEventOf d g above e
+  pub event_next : (d : Daemon) (e : Event) → IsEventOf d f top e → IsEventOf d g above e
   event_next d e is =
       let old = same e.token.0 is.within in
       let low = is.within in
       record { within = omega arith; handle = ap (λ (x : Message). x.handle) old ∙ is.handle; kind = ap (λ (x : Message). x.kind) old ∙ is.kind; own = is.own }
 
-  file_next : (t : Token) (k : FileKey) → IsFileOf f top t k → IsFileOf g above t k
+  pub file_next : (t : Token) (k : FileKey) → IsFileOf f top t k → IsFileOf g above t k
   file_next t k is = let low = is.within in record { within = omega arith; tells = subst (TellsOn k) (sym (same t.0 is.within)) is.tells }
 
 module _ (d : Daemon) (f : Register) (top : ℕ) where
-  abbrev IsKeptOf : Kept → Type 0
+  abbrev pub IsKeptOf : Kept → Type 0
   IsKeptOf k = IsEventOf d f top k.event
 
   told_event : (m : Message) (h : Handle) → IsListed f top m → takes (kinds_of d) m.kind ≡ true → m.handle ≡ Some h → IsEventOf d f top (event_on m h)
   told_event m h is own has = record { within = is.within; handle = sym is.handle ∙ has; kind = sym is.kind; own = own }
 
-  tells_only : (t : SessionTable) (x : Sid) (c : DmCall) (a : DmReply) → Each (IsListed f top) t → HandsOut t x c a → TellsOnly (IsEventOf d f top) d c a
+  pub tells_only : (t : SessionTable) (x : Sid) (c : DmCall) (a : DmReply) → Each (IsListed f top) t → HandsOut t x c a → TellsOnly (IsEventOf d f top) d c a
   tells_only t x c a each hands = tells_each (IsEventOf d f top) d (IsListed f top) told_event t x c a each hands
 
 -- ---- any entry
@@ -308,33 +308,34 @@ first_registered base h = record {
 
 -- ---- the law
 
-module _ (limits : Numbers) (marks : List Mark) (st : State) (r : Registered st marks (shown limits nothing_shown marks)) where
-  abbrev t : SessionTable
-  t = st.sessions
+module _ (st : State) (f : Register) (is : IsRegister f st.ledger.top st.sessions) where
+  present_listed : (m : Message) → IsPresent st.sessions m → IsListed f st.ledger.top m
+  present_listed m (inl there) = All-contains (IsListed f st.ledger.top) st.sessions.unrouted m is.each.unrouted there
+  present_listed m (inr (sid, inl there)) = All-contains (IsListed f st.ledger.top) _ m (queue_of_each (IsListed f st.ledger.top) sid st.sessions is.each) there
+  present_listed m (inr (sid, inr there)) = All-contains (IsListed f st.ledger.top) _ m (outstanding_of_each (IsListed f st.ledger.top) sid st.sessions is.each) there
 
-  present_listed : (m : Message) → IsPresent t m → IsListed r.register st.ledger.top m
-  present_listed m (inl there) = All-contains (IsListed r.register st.ledger.top) t.unrouted m r.is.each.unrouted there
-  present_listed m (inr (sid, inl there)) = All-contains (IsListed r.register st.ledger.top) _ m (queue_of_each (IsListed r.register st.ledger.top) sid t r.is.each) there
-  present_listed m (inr (sid, inr there)) = All-contains (IsListed r.register st.ledger.top) _ m (outstanding_of_each (IsListed r.register st.ledger.top) sid t r.is.each) there
-
-  event_tells : (d : Daemon) (e : Event) (m : Message) → IsEventOf d r.register st.ledger.top e → IsPresent t m → m.token ≡ e.token → Tells d e m
-  event_tells d e m is there same =
+  pub event_tells : (d : Daemon) (e : Event) (m : Message) → IsEventOf d f st.ledger.top e → IsPresent st.sessions m → m.token ≡ e.token → Tells d e m
+  event_tells d e m own there same =
       let listed = present_listed m there in
-      let one : r.register m.token.0 ≡ r.register e.token.0 = ap (λ (u : Token). r.register u.0) same in
-      let kind : m.kind ≡ e.kind = listed.kind ∙ (ap (λ (x : Message). x.kind) one ∙ is.kind) in
-      record { handle = listed.handle ∙ (ap (λ (x : Message). x.handle) one ∙ is.handle); kind = kind; own = ap (takes (kinds_of d)) kind ∙ is.own }
+      let one : f m.token.0 ≡ f e.token.0 = ap (λ (u : Token). f u.0) same in
+      let kind : m.kind ≡ e.kind = listed.kind ∙ (ap (λ (x : Message). x.kind) one ∙ own.kind) in
+      record { handle = listed.handle ∙ (ap (λ (x : Message). x.handle) one ∙ own.handle); kind = kind; own = ap (takes (kinds_of d)) kind ∙ own.own }
 
-  kept_tells : (d : Daemon) (k : Kept) (m : Message) → Contains (seat_of d (shown limits nothing_shown marks)).kept k → IsPresent t m → m.token ≡ k.event.token → Tells d k.event m
-  kept_tells Recall k m has there same = event_tells Recall k.event m (All-contains (IsKeptOf Recall r.register st.ledger.top) _ k r.follows.recall has) there same
-  kept_tells Migrate k m has there same = event_tells Migrate k.event m (All-contains (IsKeptOf Migrate r.register st.ledger.top) _ k r.follows.migrate has) there same
-
-  granted_tells : (u : Token) (k : FileKey) (m : Message) → IsGranted marks u k → IsPresent t m → m.token ≡ u → TellsOn k m
-  granted_tells u k m given there same =
+  pub file_tells : (u : Token) (k : FileKey) (m : Message) → IsFileOf f st.ledger.top u k → IsPresent st.sessions m → m.token ≡ u → TellsOn k m
+  file_tells u k m given there same =
       let listed = present_listed m there in
-      let own = (r.follows.granted u k given).tells in
-      let one : r.register m.token.0 ≡ r.register u.0 = ap (λ (v : Token). r.register v.0) same in
-      let kind : m.kind ≡ (r.register u.0).kind = listed.kind ∙ ap (λ (x : Message). x.kind) one in
+      let own = given.tells in
+      let one : f m.token.0 ≡ f u.0 = ap (λ (v : Token). f v.0) same in
+      let kind : m.kind ≡ (f u.0).kind = listed.kind ∙ ap (λ (x : Message). x.kind) one in
       record { told = own.told; handle = listed.handle ∙ (ap (λ (x : Message). x.handle) one ∙ own.handle); file = own.file; own = ap (takes (kinds_of Recall)) kind ∙ own.own }
+
+module _ (limits : Numbers) (marks : List Mark) (st : State) (r : Registered st marks (shown limits nothing_shown marks)) where
+  kept_tells : (d : Daemon) (k : Kept) (m : Message) → Contains (seat_of d (shown limits nothing_shown marks)).kept k → IsPresent st.sessions m → m.token ≡ k.event.token → Tells d k.event m
+  kept_tells Recall k m has there same = event_tells st r.register r.is Recall k.event m (All-contains (IsKeptOf Recall r.register st.ledger.top) _ k r.follows.recall has) there same
+  kept_tells Migrate k m has there same = event_tells st r.register r.is Migrate k.event m (All-contains (IsKeptOf Migrate r.register st.ledger.top) _ k r.follows.migrate has) there same
+
+  granted_tells : (u : Token) (k : FileKey) (m : Message) → IsGranted marks u k → IsPresent st.sessions m → m.token ≡ u → TellsOn k m
+  granted_tells u k m given there same = file_tells st r.register r.is u k m (r.follows.granted u k given) there same
 
 pub served_tells_one : (limits : Numbers) (s : Superblock) (base : ℕ) (h : Held) (marks : List Mark) (es : List Entry) → ServedTellsOne limits s base h marks es
 served_tells_one limits s base h marks es same served run packed =

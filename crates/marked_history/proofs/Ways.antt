@@ -70,7 +70,7 @@ module _ (d : Daemon) (seat : Seat) where
   queried_next target (reply.Info info) = info_next target info
   queried_next target a = refl
 
-  seat_next : (c : DmCall) (a : DmReply) → SeatNext c a
+  pub seat_next : (c : DmCall) (a : DmReply) → SeatNext c a
   seat_next call.GetAllSessions a = all_next a
   seat_next (call.CreateSession old info) a = created_next old info a
   seat_next (call.QuerySession target) a = queried_next target a

@@ -1,0 +1,9 @@
+pub mod Sitting
+pub mod Machines
+pub mod Walking
+mod Keeping
+mod Telling
+mod TakingOver
+mod Going
+mod Seats
+mod KeepingAll

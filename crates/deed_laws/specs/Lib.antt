@@ -1,0 +1,4 @@
+pub mod Knowing
+pub mod Telling
+pub mod Coming
+pub mod Keeping

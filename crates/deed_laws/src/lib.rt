@@ -1,0 +1,6 @@
+//! Laws over all deeds that are served: what a store and its daemons know of each other behind each of them.
+#![tactic(auto)]
+
+mod laws;
+
+pub use laws::{keeps_all, takes_over, tells_one};
