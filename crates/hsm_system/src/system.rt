@@ -8,7 +8,7 @@ ghost use Rattle.plain_model.specs.declared.entries.Actor.TheVariants.{Caller, S
 ghost use Rattle.migrate_daemon.specs.Machine.{IsWithin};
 ghost use Rattle.hsm_core.specs.Kept.{IsKept};
 ghost use Rattle.hsm_core.specs.Ready.{ready};
-ghost use Rattle.hsm_core.specs.declared.store.Ready.TheVariants.{Now};
+ghost use Rattle.hsm_core.specs.declared.store.Ready.TheVariants.{Idle, Now};
 ghost use Rattle.deeds.specs.Deeds.{NamesNoFault, Gives, Hears, Kills, Loses, Refreshes, Starts};
 ghost use Rattle.hsm_system.specs.Acts.{Answers, GivesNone, LacksMemory, MovesOn, StopsFor};
 ghost use Rattle.hsm_system.specs.Asking.{MigrateIsRight, RecallIsRight};
@@ -92,6 +92,13 @@ impl<D: Disk> System<D> {
         ensures { IsTrue result ↔ (ready self.now.store caller ≡ Now) }
     {
         matches!(self.hsm.ready(caller), Ready::Now)
+    }
+
+    /// Whether no access of the caller waits.
+    pub fn is_idle(&self, caller: CallerId) -> bool
+        ensures { IsTrue result ↔ (ready self.now.store caller ≡ Idle) }
+    {
+        matches!(self.hsm.ready(caller), Ready::Idle)
     }
 
     /// Starts the daemon, which hears `Heard::Nothing` first. One that runs goes on as it is. It takes no memory.
