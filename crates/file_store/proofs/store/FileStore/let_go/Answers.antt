@@ -7,11 +7,11 @@ use Rattle.hsm_types.specs.Limits.{segment_bytes, segment_blocks}
 use Rattle.hsm_types.specs.Segments.{from_on}
 use Rattle.meta_store.specs.Catalogs.{AreLengths}
 use Rattle.file_store.specs.Punches.{punch_records}
-use Rattle.file_store.specs.Refusals.{is_disk}
+use Rattle.file_store.specs.Refusals.{is_disk, no_memory}
 use Rattle.file_store.proofs.Durable.{Parts, IsDone, after_event}
 use Rattle.file_store.proofs.PunchedBodies.{zeroed}
 use Rattle.file_store.proofs.PunchEvents.{IsGoing, ready, are_going, event, lengths, freed_within, gone, kept_is}
-use Rattle.file_store.proofs.Ended.{ends_done, kept_ends}
+use Rattle.file_store.proofs.Ended.{ends_done, kept_ends, refused_first}
 use Rattle.file_store.proofs.WithBodies.{is-body}
 use Rattle.file_store.proofs.store.FileStore.let_go.Given.{Over}
 use Rattle.file_store.proofs.store.FileStore.let_go.Goals.{After-of-before, After-index_mut, After-leave}
@@ -112,3 +112,6 @@ returns-in-Err g c =
         ends = kept_ends g.D.Disk (parts g at) c.apply.new.disk c.args.number None c.apply.result c.in-Err.refusal c.self.invariant.1 working c.in-Err.is c.apply.ensures.any_moment (λ part is. absurd (let some = (c.apply.ensures.refused part).0 is in cc)) c.apply.ensures.faults;
       };
     }
+
+pub returns-then-number-gt-LAST_NUMBER : goal.returns-then-number-gt-LAST_NUMBER
+returns-then-number-gt-LAST_NUMBER g c = record { changed = record { held = tt; ends = refused_first c.has_failed-failed.ensures.idle c.requires.working _ no_memory refl (λ is. cc) (λ part is. absurd cc) } }

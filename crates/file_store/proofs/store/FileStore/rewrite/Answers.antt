@@ -12,7 +12,8 @@ use Rattle.std.proofs.lemmas.Option.{same_Some}
 use Rattle.file_store.proofs.StoreEvents.{Given, known, body_of, bytes_in, IsBack, bodies_back, within, lengths_then, passes, fits, stand}
 use Rattle.file_store.proofs.StoreEvents.{places_within, freed_within, undone, written_proceeds, written_live, refused_proceeds, rewritten}
 use Rattle.file_store.proofs.StoreEvents.{refused_sound}
-use Rattle.file_store.proofs.Ended.{ends_done, ends_refused}
+use Rattle.file_store.specs.Refusals.{no_memory}
+use Rattle.file_store.proofs.Ended.{ends_done, ends_refused, refused_first}
 use Rattle.file_store.proofs.store.FileStore.rewrite.Given.{Over}
 use Rattle.file_store.proofs.store.FileStore.rewrite.Goals.{After-of-before, After-stage, In-Ok, After-apply-in-Ok-apply, After-undo}
 use Rattle.file_store.proofs.store.FileStore.rewrite.Goals as goal
@@ -241,3 +242,6 @@ returns-in-Err-apply g c =
             c.refused-in-Err-apply.ensures.failed (λ part is. absurd (let some = (c.apply.ensures.refused part).0 is in cc)) (λ is. (back_again g at.After-undo).1) (rw (c.stage.ensures.faults.quiet (λ e. cc)) at c.apply.ensures.faults);
       };
     }
+
+pub returns-then-number-gt-LAST_NUMBER : goal.returns-then-number-gt-LAST_NUMBER
+returns-then-number-gt-LAST_NUMBER g c = record { changed = record { held = tt; ends = refused_first c.has_failed-failed.ensures.idle c.requires.working _ no_memory refl (λ is. cc) (λ part is. absurd cc) } }

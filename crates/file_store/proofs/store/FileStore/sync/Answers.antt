@@ -1,7 +1,7 @@
 use Rattle.file_store.proofs.Names.{◌≡◌, None, rules, true, refl, sym, ◌∙◌, ap, arith, held_at, held_with, marks_of}
-use Rattle.file_store.specs.Refusals.{is_disk}
+use Rattle.file_store.specs.Refusals.{is_disk, no_memory}
 use Rattle.file_store.proofs.Durable.{Parts, IsDone, after_event, done, stored_meta}
-use Rattle.file_store.proofs.Ended.{ends_done, kept_ends}
+use Rattle.file_store.proofs.Ended.{ends_done, kept_ends, refused_first}
 use Rattle.file_store.proofs.Marks.{marks_there}
 use Rattle.file_store.proofs.StoreEvents.{all_free}
 use Rattle.file_store.proofs.WithBodies.{same-files}
@@ -42,3 +42,6 @@ returns-in-Err-clause-ends g c =
     rw (c.in-Err.ensures.err, failed, c.from.ensures, ← c.self.view_is)
     (kept_ends g.D.Disk (parts g (goal.at.returns-in-Err-clause-ends g c).After-commit) c.commit.new.disk c.args.number None c.commit.result c.in-Err.refusal c.self.invariant.1 working c.in-Err.is c.commit.ensures.any_moment
     (λ part is. absurd (c.commit.ensures.no_part part is)) c.commit.ensures.faults)
+
+pub returns-then-number-gt-LAST_NUMBER-clause-ends : goal.returns-then-number-gt-LAST_NUMBER-clause-ends
+returns-then-number-gt-LAST_NUMBER-clause-ends g c = refused_first c.has_failed-failed.ensures.idle c.requires.working _ no_memory refl (λ is. cc) (λ part is. absurd cc)
