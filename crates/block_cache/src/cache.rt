@@ -1,11 +1,11 @@
 //! The blocks of a disk that were used last.
-ghost use Rattle.std.specs.Prelude.{◌≡◌, ◌≤◌, nat_eq, false, ℕ, length, take, [], IfOk, IfSome, OnOk, IsOk, IsErrOf, is_some};
-ghost use Rattle.std.specs.List.{AllByRecursion};
+ghost use Rattle.std.specs.Prelude.{◌≡◌, ◌≤◌, nat_eq, false, length, [], IfOk, IfSome, OnOk, OnErr, IsOk, IsErrOf, is_some};
+ghost use Rattle.std.specs.List.{AllByRecursion, IsDistinct};
 ghost use Rattle.std.specs.Map.{remove_entry};
 ghost use Rattle.std.specs.Option.{option_map};
 ghost use Rattle.hsm_types.specs.Limits.{block_bytes};
 ghost use Rattle.disk_model.specs.Calls.{Counts};
-ghost use Rattle.block_cache.specs.Cached.{AreBlocks, OnlyReads, LiesOn, IsFresh, loaded_blocks, blocks_of, bytes_of, without, used_all, AreIn, has};
+ghost use Rattle.block_cache.specs.Cached.{AreBlocks, ImagesStay, LiesOn, IsFresh, most_kept, most_loaded, cached_blocks, cached_bytes, without, all_used_last, AreIn, HasStopped, has};
 
 use crate::loading::{BLOCK, Blocks, LOADED_BLOCKS, load_all};
 use crate::refusal::CacheRefusal;
@@ -28,13 +28,13 @@ pub struct BlockCache {
 impl Model for BlockCache {
     ghost use Rattle.std.specs.Prelude.{◌≡◌, ◌<◌, ◌^◌, ◌*◌, length};
     ghost use Rattle.hsm_types.specs.Limits.{block_bytes};
-    ghost use Rattle.block_cache.specs.Cached.{Cache, AreBlocks, kept_blocks, loaded_blocks};
+    ghost use Rattle.block_cache.specs.Cached.{Cache, AreBlocks, most_kept, most_loaded};
 
     ghost Value = { Cache };
 
     ghost view = { λ c. record { at = c.at; entries = c.blocks.entries } };
 
-    ghost invariant = { λ c. (c.blocks.cap ≡ kept_blocks) × AreBlocks c.blocks.entries × (length c.buffer.items ≡ block_bytes * loaded_blocks) };
+    ghost invariant = { λ c. (c.blocks.cap ≡ most_kept) × AreBlocks c.blocks.entries × (length c.buffer.items ≡ block_bytes * most_loaded) };
 }
 
 impl BlockCache {
@@ -51,17 +51,18 @@ impl BlockCache {
     /// Brings the blocks, at most 32, to the front of those that were used last, in their order. It reads those that aren't among them, and neighbours
     /// among these that follow each other in the list by one call of the disk. The disk isn't used where all are there.
     ///
-    /// After `Memory` it has gone only a part of the way. After `Failed`, too, and the disk is used no more.
+    /// It stops at the first block for which that fails, which isn't there then: the blocks before it have come to the front, and no other has. After
+    /// `Failed` the disk is used no more.
     pub fn load<D: Disk>(&mut self, disk: &mut D, blocks: &[u32]) -> Result<(), CacheRefusal>
-        requires few { length blocks.now ≤ loaded_blocks }
+        requires few { length blocks.now ≤ most_loaded }
         requires lies { AllByRecursion (λ b. LiesOn self.old.at (D.length_of disk.old) b) blocks.now }
-        ensures reads { OnlyReads D.Disk disk.old disk.new }
+        ensures reads { ImagesStay D.Disk disk.old disk.new }
         ensures at { self.new.at ≡ self.old.at }
         ensures fresh { IsFresh D.Disk disk.old self.old → IsFresh D.Disk disk.new self.new }
-        ensures used { OnOk result (blocks_of self.new ≡ used_all blocks.now (blocks_of self.old)) }
-        ensures cached { OnOk result (AreIn blocks.now (blocks_of self.new)) }
-        ensures there { AreIn blocks.now (blocks_of self.old) → IsOk result × (disk.new ≡ disk.old) }
-        ensures memory { IsErrOf result CacheRefusal.Memory → (n : ℕ) × (blocks_of self.new ≡ used_all (take n blocks.now) (blocks_of self.old)) }
+        ensures used { OnOk result (cached_blocks self.new ≡ all_used_last blocks.now (cached_blocks self.old)) }
+        ensures cached { OnOk result (AreIn blocks.now (cached_blocks self.new)) }
+        ensures there { AreIn blocks.now (cached_blocks self.old) → IsOk result × (disk.new ≡ disk.old) }
+        ensures stopped { OnErr result (HasStopped blocks.now (cached_blocks self.old) (cached_blocks self.new)) }
         ensures faults { Counts (IsErrOf result CacheRefusal.Failed) (D.fault_count disk.old) (D.fault_count disk.new) }
     {
         // Asked for its bound.
@@ -71,8 +72,8 @@ impl BlockCache {
 
     /// The bytes of a block, where it is there. The order stays.
     pub fn peek(&self, block: u32) -> Option<&[u8]>
-        ensures there { is_some result ≡ has block (blocks_of self.now) }
-        ensures bytes { option_map (λ b. b.now) result ≡ bytes_of self.now block }
+        ensures there { is_some result ≡ has block (cached_blocks self.now) }
+        ensures bytes { option_map (λ b. b.now) result ≡ cached_bytes self.now block }
         ensures size { IfSome result (λ b. length b.now ≡ block_bytes) }
     {
         match self.blocks.peek(&block) {
@@ -85,15 +86,19 @@ impl BlockCache {
     pub fn at(&self) -> u64
         ensures at { result ≡ self.now.at }
         ensures sizes { AreBlocks self.now.entries }
+        ensures few { length (cached_blocks self.now) ≤ most_kept }
+        ensures once { IsDistinct nat_eq (cached_blocks self.now) }
     {
+        // Asked for what is true of the list.
+        let _count = self.blocks.len();
         self.at
     }
 
     /// Takes a block out. The others keep their bytes and their order.
     pub fn forget(&mut self, block: u32)
         ensures entries { self.new ≡ record self.old { entries = remove_entry (nat_eq block) self.old.entries } }
-        ensures rest { blocks_of self.new ≡ without block (blocks_of self.old) }
-        ensures gone { has block (blocks_of self.new) ≡ false }
+        ensures rest { cached_blocks self.new ≡ without block (cached_blocks self.old) }
+        ensures gone { has block (cached_blocks self.new) ≡ false }
     {
         // Asked for what is true of the list.
         let _count = self.blocks.len();

@@ -3,6 +3,7 @@
 
 mod asking;
 mod cache;
+mod laws;
 mod lending;
 mod loading;
 mod parts;
@@ -10,6 +11,7 @@ mod refusal;
 
 pub use asking::{are_there, lie_on};
 pub use cache::BlockCache;
+pub use laws::parts_are_shown;
 pub use lending::{digest, put_parts};
 pub use loading::LOADED_BLOCKS;
 pub use parts::{Part, Parts};

@@ -5,7 +5,7 @@ ghost use Rattle.std.specs.Map.{keys_of};
 ghost use Rattle.hsm_types.specs.Limits.{block_bytes};
 ghost use Rattle.disk_model.specs.Calls.{Counts};
 ghost use Rattle.disk_model.specs.Images.{part};
-ghost use Rattle.block_cache.specs.Cached.{OnlyReads, AreBlocks, AreShown, AreNeighbours, LiesOn, kept_blocks, loaded_blocks, used, used_all, has, AreIn};
+ghost use Rattle.block_cache.specs.Cached.{ImagesStay, AreBlocks, AreShown, AreNeighbours, LiesOn, most_kept, most_loaded, used_last, all_used_last, has, AreIn, AreAbsent, HasStopped};
 
 use crate::refusal::CacheRefusal;
 use disk_model::{Disk, read_at};
@@ -29,18 +29,18 @@ pub(crate) fn load_all<D: Disk>(
     at: u64,
     wanted: &[u32],
 ) -> Result<(), CacheRefusal>
-    requires few { length wanted.now ≤ loaded_blocks }
-    requires room { length buffer.old.items ≡ block_bytes * loaded_blocks }
+    requires few { length wanted.now ≤ most_loaded }
+    requires room { length buffer.old.items ≡ block_bytes * most_loaded }
     requires lies { AllByRecursion (λ b. LiesOn at (D.length_of disk.old) b) wanted.now }
     requires short { D.length_of disk.old < 2 ^ 64 }
-    requires cap { blocks.old.cap ≡ kept_blocks }
-    ensures reads { OnlyReads D.Disk disk.old disk.new }
-    ensures room { length buffer.new.items ≡ block_bytes * loaded_blocks }
-    ensures cap { blocks.new.cap ≡ kept_blocks }
+    requires cap { blocks.old.cap ≡ most_kept }
+    ensures reads { ImagesStay D.Disk disk.old disk.new }
+    ensures room { length buffer.new.items ≡ block_bytes * most_loaded }
+    ensures cap { blocks.new.cap ≡ most_kept }
     ensures lengths { AreBlocks blocks.old.entries → AreBlocks blocks.new.entries }
     ensures shown { (c : List ℕ) → D.gives disk.old c → AreShown at c blocks.old.entries → AreShown at c blocks.new.entries }
-    ensures keys { OnOk result (keys_of blocks.new.entries ≡ used_all wanted.now (keys_of blocks.old.entries)) }
-    ensures begun { OnErr result ((n : ℕ) × (keys_of blocks.new.entries ≡ used_all (take n wanted.now) (keys_of blocks.old.entries))) }
+    ensures keys { OnOk result (keys_of blocks.new.entries ≡ all_used_last wanted.now (keys_of blocks.old.entries)) }
+    ensures stopped { OnErr result (HasStopped wanted.now (keys_of blocks.old.entries) (keys_of blocks.new.entries)) }
     ensures there { AreIn wanted.now (keys_of blocks.old.entries) → IsOk result × (disk.new ≡ disk.old) }
     ensures faults { Counts (IsErrOf result CacheRefusal.Failed) (D.fault_count disk.old) (D.fault_count disk.new) }
 {
@@ -60,19 +60,19 @@ fn load_next<D: Disk>(
     wanted: &[u32],
 ) -> Result<usize, CacheRefusal>
     requires some { 0 < length wanted.now }
-    requires few { length wanted.now ≤ loaded_blocks }
-    requires room { length buffer.old.items ≡ block_bytes * loaded_blocks }
+    requires few { length wanted.now ≤ most_loaded }
+    requires room { length buffer.old.items ≡ block_bytes * most_loaded }
     requires lies { AllByRecursion (λ b. LiesOn at (D.length_of disk.old) b) wanted.now }
     requires short { D.length_of disk.old < 2 ^ 64 }
-    requires cap { blocks.old.cap ≡ kept_blocks }
-    ensures reads { OnlyReads D.Disk disk.old disk.new }
-    ensures room { length buffer.new.items ≡ block_bytes * loaded_blocks }
-    ensures cap { blocks.new.cap ≡ kept_blocks }
+    requires cap { blocks.old.cap ≡ most_kept }
+    ensures reads { ImagesStay D.Disk disk.old disk.new }
+    ensures room { length buffer.new.items ≡ block_bytes * most_loaded }
+    ensures cap { blocks.new.cap ≡ most_kept }
     ensures lengths { AreBlocks blocks.old.entries → AreBlocks blocks.new.entries }
     ensures shown { (c : List ℕ) → D.gives disk.old c → AreShown at c blocks.old.entries → AreShown at c blocks.new.entries }
     ensures count { IfOk result (λ n. (0 < n) × (n ≤ length wanted.now)) }
-    ensures keys { IfOk result (λ n. keys_of blocks.new.entries ≡ used_all (take n wanted.now) (keys_of blocks.old.entries)) }
-    ensures begun { OnErr result ((n : ℕ) × (keys_of blocks.new.entries ≡ used_all (take n wanted.now) (keys_of blocks.old.entries))) }
+    ensures keys { IfOk result (λ n. keys_of blocks.new.entries ≡ all_used_last (take n wanted.now) (keys_of blocks.old.entries)) }
+    ensures stopped { OnErr result (HasStopped wanted.now (keys_of blocks.old.entries) (keys_of blocks.new.entries)) }
     ensures there { has (slice_index_or wanted.now 0 0) (keys_of blocks.old.entries) ≡ true → IsOk result × (disk.new ≡ disk.old) }
     ensures stay { has (slice_index_or wanted.now 0 0) (keys_of blocks.old.entries) ≡ true → (bs : List ℕ) → AreIn bs (keys_of blocks.old.entries) → AreIn bs (keys_of blocks.new.entries) }
     ensures faults { Counts (IsErrOf result CacheRefusal.Failed) (D.fault_count disk.old) (D.fault_count disk.new) }
@@ -89,13 +89,13 @@ fn load_next<D: Disk>(
 
 /// Brings a block to the front if it is there, and tells whether it is.
 fn promote_block(blocks: &mut Blocks, block: u32) -> bool
-    requires cap { blocks.old.cap ≡ kept_blocks }
+    requires cap { blocks.old.cap ≡ most_kept }
     ensures there { result ≡ has block (keys_of blocks.old.entries) }
     ensures absent { result ≡ false → blocks.new ≡ blocks.old }
-    ensures cap { blocks.new.cap ≡ kept_blocks }
+    ensures cap { blocks.new.cap ≡ most_kept }
     ensures lengths { AreBlocks blocks.old.entries → AreBlocks blocks.new.entries }
     ensures shown { (at : ℕ) (c : List ℕ) → AreShown at c blocks.old.entries → AreShown at c blocks.new.entries }
-    ensures keys { result ≡ true → keys_of blocks.new.entries ≡ used block (keys_of blocks.old.entries) }
+    ensures keys { result ≡ true → keys_of blocks.new.entries ≡ used_last block (keys_of blocks.old.entries) }
     ensures stay { result ≡ true → (bs : List ℕ) → AreIn bs (keys_of blocks.old.entries) → AreIn bs (keys_of blocks.new.entries) }
 {
     // Asked for what is true of the list.
@@ -109,6 +109,7 @@ fn count_neighbours(blocks: &Blocks, wanted: &[u32]) -> usize
     ensures some { 0 < result }
     ensures within { result ≤ length wanted.now }
     ensures run { AreNeighbours (slice_index_or wanted.now 0 0) (take result wanted.now) }
+    ensures absent { has (slice_index_or wanted.now 0 0) (keys_of blocks.now.entries) ≡ false → AreAbsent (take result wanted.now) (keys_of blocks.now.entries) }
 {
     let first = wanted[0];
     for index in 1..wanted.len() {
@@ -129,19 +130,20 @@ fn load_run<D: Disk>(
     run: &[u32],
 ) -> Result<(), CacheRefusal>
     requires some { 0 < length run.now }
-    requires few { length run.now ≤ loaded_blocks }
-    requires room { length buffer.old.items ≡ block_bytes * loaded_blocks }
+    requires few { length run.now ≤ most_loaded }
+    requires room { length buffer.old.items ≡ block_bytes * most_loaded }
     requires neighbours { AreNeighbours (slice_index_or run.now 0 0) run.now }
+    requires absent { AreAbsent run.now (keys_of blocks.old.entries) }
     requires lies { at + block_bytes * slice_index_or run.now 0 0 + block_bytes * length run.now ≤ D.length_of disk.old }
     requires short { D.length_of disk.old < 2 ^ 64 }
-    requires cap { blocks.old.cap ≡ kept_blocks }
-    ensures reads { OnlyReads D.Disk disk.old disk.new }
-    ensures room { length buffer.new.items ≡ block_bytes * loaded_blocks }
-    ensures cap { blocks.new.cap ≡ kept_blocks }
+    requires cap { blocks.old.cap ≡ most_kept }
+    ensures reads { ImagesStay D.Disk disk.old disk.new }
+    ensures room { length buffer.new.items ≡ block_bytes * most_loaded }
+    ensures cap { blocks.new.cap ≡ most_kept }
     ensures lengths { AreBlocks blocks.old.entries → AreBlocks blocks.new.entries }
     ensures shown { (c : List ℕ) → D.gives disk.old c → AreShown at c blocks.old.entries → AreShown at c blocks.new.entries }
-    ensures keys { OnOk result (keys_of blocks.new.entries ≡ used_all run.now (keys_of blocks.old.entries)) }
-    ensures begun { OnErr result ((n : ℕ) × (keys_of blocks.new.entries ≡ used_all (take n run.now) (keys_of blocks.old.entries))) }
+    ensures keys { OnOk result (keys_of blocks.new.entries ≡ all_used_last run.now (keys_of blocks.old.entries)) }
+    ensures stopped { OnErr result (HasStopped run.now (keys_of blocks.old.entries) (keys_of blocks.new.entries)) }
     ensures faults { Counts (IsErrOf result CacheRefusal.Failed) (D.fault_count disk.old) (D.fault_count disk.new) }
 {
     let bytes = &mut buffer.as_mut_slice()[..run.len() * BLOCK];
@@ -155,13 +157,13 @@ fn load_run<D: Disk>(
 /// Brings a run of neighbours to the front in their order, with their bytes, which lie behind each other.
 fn put_run(blocks: &mut Blocks, run: &[u32], bytes: &[u8]) -> Result<(), CacheRefusal>
     requires size { length bytes.now ≡ block_bytes * length run.now }
-    requires cap { blocks.old.cap ≡ kept_blocks }
-    ensures cap { blocks.new.cap ≡ kept_blocks }
+    requires cap { blocks.old.cap ≡ most_kept }
+    ensures cap { blocks.new.cap ≡ most_kept }
     ensures lengths { AreBlocks blocks.old.entries → AreBlocks blocks.new.entries }
     ensures shown { (at first : ℕ) (c : List ℕ) → AreNeighbours first run.now → bytes.now ≡ part c (at + block_bytes * first) (block_bytes * length run.now)
         → AreShown at c blocks.old.entries → AreShown at c blocks.new.entries }
-    ensures keys { OnOk result (keys_of blocks.new.entries ≡ used_all run.now (keys_of blocks.old.entries)) }
-    ensures begun { OnErr result ((n : ℕ) × (keys_of blocks.new.entries ≡ used_all (take n run.now) (keys_of blocks.old.entries))) }
+    ensures keys { OnOk result (keys_of blocks.new.entries ≡ all_used_last run.now (keys_of blocks.old.entries)) }
+    ensures begun { OnErr result ((n : ℕ) × (n < length run.now) × (keys_of blocks.new.entries ≡ all_used_last (take n run.now) (keys_of blocks.old.entries))) }
     ensures refused { IfErr result (λ why. why ≡ CacheRefusal.Memory) }
 {
     for index in 0..run.len() {
@@ -174,11 +176,11 @@ fn put_run(blocks: &mut Blocks, run: &[u32], bytes: &[u8]) -> Result<(), CacheRe
 /// Brings a block to the front, with these bytes.
 fn put_block(blocks: &mut Blocks, block: u32, bytes: &[u8]) -> Result<(), CacheRefusal>
     requires size { length bytes.now ≡ block_bytes }
-    requires cap { blocks.old.cap ≡ kept_blocks }
-    ensures cap { blocks.new.cap ≡ kept_blocks }
+    requires cap { blocks.old.cap ≡ most_kept }
+    ensures cap { blocks.new.cap ≡ most_kept }
     ensures lengths { AreBlocks blocks.old.entries → AreBlocks blocks.new.entries }
     ensures shown { (at : ℕ) (c : List ℕ) → bytes.now ≡ part c (at + block_bytes * block) block_bytes → AreShown at c blocks.old.entries → AreShown at c blocks.new.entries }
-    ensures keys { OnOk result (keys_of blocks.new.entries ≡ used block (keys_of blocks.old.entries)) }
+    ensures keys { OnOk result (keys_of blocks.new.entries ≡ used_last block (keys_of blocks.old.entries)) }
     ensures err { OnErr result (blocks.new ≡ blocks.old) }
     ensures refused { IfErr result (λ why. why ≡ CacheRefusal.Memory) }
 {

@@ -1,4 +1,7 @@
 //! Segments that are loaded into a cache, and their digests.
+ghost use Rattle.std.specs.Prelude.{◌≤◌};
+ghost use Rattle.block_cache.specs.Lent.{AreThere};
+
 use block_cache::{BlockCache, CacheRefusal, Parts, are_there, digest, lie_on};
 use disk_model::{Disk, MemDisk};
 use hsm_types::{Digest, SEGMENT_BLOCKS, SEGMENT_BYTES};
@@ -52,45 +55,72 @@ fn load<D: Disk>(cache: &mut BlockCache, disk: &mut D, segment: u32) -> Result<(
     }
 }
 
+/// An empty cache, and a disk for it.
+fn made(alloc: Global) -> Result<(BlockCache, MemDisk), AllocError> {
+    let cache = BlockCache::new(alloc, 0)?;
+    let disk = MemDisk::new(alloc, content(alloc)?.as_slice(), &[])?;
+    Ok((cache, disk))
+}
+
+/// Loads segment 0 so many times, where the step is 0, or each time the next one, where it is 1.
+fn load_all(cache: &mut BlockCache, disk: &mut MemDisk, times: u32, step: u32) -> Result<(), Cause>
+    requires { step ≤ 1 }
+{
+    for number in 0..times {
+        load(cache, disk, number * step)?;
+    }
+    Ok(())
+}
+
 /// How many calls of a disk so many loads take, of a segment that is there.
 pub(crate) fn calls_of_cached(alloc: Global, times: u32) -> Result<usize, Cause> {
-    let mut cache = BlockCache::new(alloc, 0)?;
-    let mut disk = MemDisk::new(alloc, content(alloc)?.as_slice(), &[])?;
-    load(&mut cache, &mut disk, 0)?;
+    let (mut cache, mut disk) = made(alloc)?;
+    let done = load(&mut cache, &mut disk, 0);
     let before = disk.calls().len();
-    for _ in 0..times {
-        load(&mut cache, &mut disk, 0)?;
+    match done.and(load_all(&mut cache, &mut disk, times, 0)) {
+        Ok(()) => Ok(disk.calls().len().saturating_sub(before)),
+        Err(cause) => Err(cause),
     }
-    Ok(disk.calls().len().saturating_sub(before))
 }
 
 /// How many they take of segments that aren't there: each was loaded sixteen others before.
 pub(crate) fn calls_of_others(alloc: Global, times: u32) -> Result<usize, Cause> {
-    let mut cache = BlockCache::new(alloc, 0)?;
-    let mut disk = MemDisk::new(alloc, content(alloc)?.as_slice(), &[])?;
-    for segment in 0..times {
-        load(&mut cache, &mut disk, segment)?;
+    let (mut cache, mut disk) = made(alloc)?;
+    match load_all(&mut cache, &mut disk, times, 1) {
+        Ok(()) => Ok(disk.calls().len()),
+        Err(cause) => Err(cause),
     }
-    Ok(disk.calls().len())
 }
 
 /// The digest of a segment over the parts that a cache lends, made so many times.
-pub(crate) fn digest_of_parts(alloc: Global, times: u32) -> Result<Digest, Cause> {
-    let mut cache = BlockCache::new(alloc, 0)?;
-    let mut disk = MemDisk::new(alloc, content(alloc)?.as_slice(), &[])?;
-    load(&mut cache, &mut disk, 0)?;
+fn digests(cache: &BlockCache, times: u32) -> Result<Digest, Cause> {
     let mut places = [None; SEGMENT_BLOCKS as usize];
     for index in 0..SEGMENT_BLOCKS as usize {
         places[index] = Some(index as u32);
     }
-    if !are_there(&cache, &places) {
+    if !are_there(cache, &places) {
         return Err(Cause::TooShort);
     }
+    Ok(last_digest(cache, &places, times))
+}
+
+fn last_digest(cache: &BlockCache, places: &[Option<u32>], times: u32) -> Digest
+    requires { AreThere cache.now places.now }
+{
     let mut last = Digest([0; 32]);
     for _ in 0..times {
-        last = digest(Parts::new(&cache, &places, 0, SEGMENT_BYTES as u32));
+        last = digest(Parts::new(cache, places, 0, SEGMENT_BYTES as u32));
     }
-    Ok(last)
+    last
+}
+
+/// Loads a segment, and makes its digest so many times.
+pub(crate) fn digest_of_parts(alloc: Global, times: u32) -> Result<Digest, Cause> {
+    let (mut cache, mut disk) = made(alloc)?;
+    match load(&mut cache, &mut disk, 0) {
+        Ok(()) => digests(&cache, times),
+        Err(cause) => Err(cause),
+    }
 }
 
 /// The digest of a segment in one slice, made so many times.

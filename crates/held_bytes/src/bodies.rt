@@ -7,57 +7,57 @@ use std::marker::{Model, PhantomData};
 
 /// The bytes that are held of each file of a list. Only clauses read them.
 #[derive(Drop)]
-pub struct HeldBodies {
+pub struct AllHeldBytes {
     of: PhantomData<u8>,
     pub ghost bodies: { List (List ℕ) },
 }
 
-impl Model for HeldBodies {
+impl Model for AllHeldBytes {
     ghost also_owns = { λ _. ftrue };
 }
 
-impl HeldBodies {
+impl AllHeldBytes {
     /// Those that a clause names. What it lends is what a proof may name them from.
-    pub fn named<X>(by: &X) -> HeldBodies
+    pub fn from_clause<X>(by: &X) -> AllHeldBytes
         ghost bodies: { List (List ℕ) }
         ensures { result.bodies ≡ bodies }
     {
         let _ = by;
-        HeldBodies { of: PhantomData }
+        AllHeldBytes { of: PhantomData }
     }
 
     /// So many bodies of no bytes.
-    pub fn none(count: u32) -> HeldBodies
+    pub fn empty(count: u32) -> AllHeldBytes
         ensures { result.bodies ≡ replicate count [] }
     {
-        HeldBodies::named(&count)
+        AllHeldBytes::from_clause(&count)
     }
 
     /// The body with that index, none of whose bytes are held past the end of the list.
     pub fn body(&self, index: u32) -> HeldBytes
         ensures { result.bytes ≡ slice_index_or self.now.bodies index [] }
     {
-        HeldBytes::named(&(self, index))
+        HeldBytes::from_clause(&(self, index))
     }
 
     /// These, with another in the place of the body with that index.
-    pub fn with_body(&self, index: u32, body: &HeldBytes) -> HeldBodies
+    pub fn with_body(&self, index: u32, body: &HeldBytes) -> AllHeldBytes
         ensures { result.bodies ≡ slice_set self.now.bodies index body.now.bytes }
     {
-        HeldBodies::named(&(self, index, body))
+        AllHeldBytes::from_clause(&(self, index, body))
     }
 
     /// The same.
-    pub fn same(&self) -> HeldBodies
+    pub fn same(&self) -> AllHeldBytes
         ensures { result.bodies ≡ self.now.bodies }
     {
-        HeldBodies::named(self)
+        AllHeldBytes::from_clause(self)
     }
 
     /// The first ones, or the second ones.
-    pub fn chosen(first: bool, these: &HeldBodies, those: &HeldBodies) -> HeldBodies
+    pub fn chosen(first: bool, these: &AllHeldBytes, those: &AllHeldBytes) -> AllHeldBytes
         ensures { result.bodies ≡ (if first then these.now.bodies else those.now.bodies) }
     {
-        HeldBodies::named(&(first, these, those))
+        AllHeldBytes::from_clause(&(first, these, those))
     }
 }

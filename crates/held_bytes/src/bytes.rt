@@ -18,7 +18,7 @@ impl Model for HeldBytes {
 
 impl HeldBytes {
     /// Those that a clause names. What it lends is what a proof may name them from.
-    pub fn named<X>(by: &X) -> HeldBytes
+    pub fn from_clause<X>(by: &X) -> HeldBytes
         ghost bytes: { List ℕ }
         ensures { result.bytes ≡ bytes }
     {
@@ -30,20 +30,20 @@ impl HeldBytes {
     pub fn with_written(&self, offset: u64, bytes: &[u8]) -> HeldBytes
         ensures { result.bytes ≡ written offset bytes.now self.now.bytes }
     {
-        HeldBytes::named(&(self, offset, bytes))
+        HeldBytes::from_clause(&(self, offset, bytes))
     }
 
     /// The same.
     pub fn same(&self) -> HeldBytes
         ensures { result.bytes ≡ self.now.bytes }
     {
-        HeldBytes::named(self)
+        HeldBytes::from_clause(self)
     }
 
     /// The first ones, or the second ones.
     pub fn chosen(first: bool, these: &HeldBytes, those: &HeldBytes) -> HeldBytes
         ensures { result.bytes ≡ (if first then these.now.bytes else those.now.bytes) }
     {
-        HeldBytes::named(&(first, these, those))
+        HeldBytes::from_clause(&(first, these, those))
     }
 }

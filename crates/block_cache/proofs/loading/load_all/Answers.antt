@@ -1,18 +1,14 @@
-use Rattle.std.proofs.Common.{◌≡◌, ◌∙◌, ◌+◌, ◌<◌, ℕ, List, length, take, drop, get_or, sym, ap, arith}
+use Rattle.std.proofs.Common.{◌∙◌}
 use Rattle.std.specs.Map.{keys_of}
 use Rattle.disk_model.proofs.Steps.{sames_on}
-use Rattle.block_cache.specs.Cached.{used_all}
-use Rattle.block_cache.proofs.Runs.{on_err, used_on, within_on, first_there}
+use Rattle.block_cache.proofs.Runs.{on_err, stopped_on, used_on, within_on, first_there}
 use Rattle.block_cache.proofs.loading.load_all.Goals as goal
 
-pub returns-in_err-done-clause-begun : goal.returns-in_err-done-clause-begun
-returns-in_err-done-clause-begun g c =
+pub returns-in_err-done-clause-stopped : goal.returns-in_err-done-clause-stopped
+returns-in_err-done-clause-stopped g c =
     let I = c.loop-done.invariant in
-    let begun = c.in_err-done.ensures.begun in
-    let bs = c.args.wanted.now in
-    let done = c.loop-done.done in
     let ks = keys_of c.args.blocks.now.entries in
-    on_err c.from_residual.result (done + begun.0, used_on done begun.0 bs (keys_of c.load_next.new.blocks.entries) (keys_of c.loop-done.blocks.entries) ks I.keys begun.1)
+    on_err c.from_residual.result (stopped_on c.loop-done.done c.args.wanted.now (keys_of c.load_next.new.blocks.entries) (keys_of c.loop-done.blocks.entries) ks I.within I.keys c.in_err-done.ensures.stopped)
 
 pub loop-done-preserved : goal.loop-done-preserved
 loop-done-preserved g c =

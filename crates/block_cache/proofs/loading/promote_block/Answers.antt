@@ -1,4 +1,4 @@
-use Rattle.std.proofs.Common.{◌∙◌, ◌≤◌, length, sym, arith}
+use Rattle.std.proofs.Common.{◌∙◌, sym, arith}
 use Rattle.block_cache.proofs.Used.{lookup_has, turned_same, turned_lengths, turned_shown, turned_keys, turned_stay}
 use Rattle.block_cache.proofs.loading.promote_block.Goals as goal
 

@@ -1,16 +1,16 @@
-use Rattle.std.proofs.Common.{◌≡◌, ◌∙◌, ◌<◌, ◌≤◌, ℕ, List, Some, length, get_or, sym, ap, subst, arith}
+use Rattle.std.proofs.Common.{◌≡◌, ◌∙◌, ◌<◌, ◌≤◌, ℕ, List, Some, length, get_or, sym, ap, subst}
 use Rattle.extent_map.specs.declared.extents.Extent.{Extent}
-use Rattle.extent_map.specs.Extents.{is_at, Cuts}
+use Rattle.extent_map.specs.Extents.{is_entry_of, CutsExtents}
 use Rattle.extent_map.proofs.Places.{place_there, place_none, set_there, insert_there}
 use Rattle.extent_map.proofs.extents.put.Goals.{After-stands_at}
 use Rattle.extent_map.proofs.extents.put.Goals as goal
 
-cuts : (c : After-stands_at) → Cuts c.args.entry.ino c.args.entry.block c.count_before-index.result c.args.entries.now.items
-cuts c = subst (λ (k : ℕ). Cuts c.args.entry.ino k c.count_before-index.result c.args.entries.now.items) c.from.ensures
-    (subst (λ (l : List Extent). Cuts c.args.entry.ino c.from.result c.count_before-index.result l) c.as_slice.ensures.value c.count_before-index.ensures.cuts)
+cuts : (c : After-stands_at) → CutsExtents c.args.entry.ino c.args.entry.block c.count_before-index.result c.args.entries.now.items
+cuts c = subst (λ (k : ℕ). CutsExtents c.args.entry.ino k c.count_before-index.result c.args.entries.now.items) c.from.ensures
+    (subst (λ (l : List Extent). CutsExtents c.args.entry.ino c.from.result c.count_before-index.result l) c.as_slice.ensures.value c.count_before-index.ensures.cuts)
 
-there : (c : After-stands_at) (d : Extent) → c.count_before-index.result < length c.args.entries.now.items → c.stands_at.result ≡ is_at c.args.entry.ino c.args.entry.block (get_or c.args.entries.now.items c.count_before-index.result d)
-there c d = subst (λ (l : List Extent). c.count_before-index.result < length l → c.stands_at.result ≡ is_at c.args.entry.ino c.args.entry.block (get_or l c.count_before-index.result d)) c.as_slice-2.ensures.value (c.stands_at.ensures.there d)
+there : (c : After-stands_at) (d : Extent) → c.count_before-index.result < length c.args.entries.now.items → c.stands_at.result ≡ is_entry_of c.args.entry.ino c.args.entry.block (get_or c.args.entries.now.items c.count_before-index.result d)
+there c d = subst (λ (l : List Extent). c.count_before-index.result < length l → c.stands_at.result ≡ is_entry_of c.args.entry.ino c.args.entry.block (get_or l c.count_before-index.result d)) c.as_slice-2.ensures.value (c.stands_at.ensures.there d)
 
 pub returns-then-stands_at-clause-old : goal.returns-then-stands_at-clause-old
 returns-then-stands_at-clause-old c =

@@ -1,8 +1,7 @@
-use Rattle.std.proofs.Common.{◌≡◌, ◌*◌, ℕ, List, length, sym, subst, arith}
+use Rattle.std.proofs.Common.{sym, subst, arith}
 use Rattle.std.specs.Map.{keys_of}
-use Rattle.block_cache.specs.Cached.{Cache, AreIn, AreShown, blocks_of}
-use Rattle.block_cache.specs.declared.refusal.CacheRefusal.TheVariants.{Memory}
-use Rattle.block_cache.proofs.Runs.{ok_then, from_err}
+use Rattle.block_cache.specs.Cached.{Cache, AreIn, AreShown, cached_blocks}
+use Rattle.block_cache.proofs.Runs.{ok_then}
 use Rattle.block_cache.proofs.Used.{used_all_in}
 use Rattle.block_cache.proofs.cache.BlockCache.load.Goals as goal
 
@@ -14,8 +13,8 @@ returns-clause-cached g c =
     let bs = c.args.blocks.now in
     ok_then c.load_all.result (λ is. subst (AreIn bs) (sym is) (used_all_in bs (keys_of c.self.inside.blocks.entries) (omega (arith, c.requires.few)))) c.load_all.ensures.keys
 
-pub returns-clause-memory : goal.returns-clause-memory
-returns-clause-memory g c is = rw (sym c.self.view_is) (from_err c.load_all.result Memory is c.load_all.ensures.begun)
+pub returns-clause-stopped : goal.returns-clause-stopped
+returns-clause-stopped g c = rw (sym c.self.view_is) c.load_all.ensures.stopped
 
 pub returns-clause-fresh : goal.returns-clause-fresh
 returns-clause-fresh g c fresh content gives =
@@ -24,4 +23,4 @@ returns-clause-fresh g c fresh content gives =
     L.shown content before (subst (λ (s : Cache). AreShown s.at content s.entries) (sym c.self.view_is) (fresh content before))
 
 pub returns-clause-there : goal.returns-clause-there
-returns-clause-there g c are = c.load_all.ensures.there (subst (λ (s : Cache). AreIn c.args.blocks.now (blocks_of s)) (sym c.self.view_is) are)
+returns-clause-there g c are = c.load_all.ensures.there (subst (λ (s : Cache). AreIn c.args.blocks.now (cached_blocks s)) (sym c.self.view_is) are)

@@ -1,4 +1,4 @@
 use Rattle.held_bytes.proofs.bytes.HeldBytes.same.Given as goal
 
-abbrev pub ghost-named : goal.ghost-named
-ghost-named a = a.by.now.bytes
+abbrev pub ghost-from_clause : goal.ghost-from_clause
+ghost-from_clause a = a.by.now.bytes

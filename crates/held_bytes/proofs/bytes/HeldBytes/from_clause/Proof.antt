@@ -1,4 +1,4 @@
--- `named` makes a value of no bytes, whose ghost field is what the clause names. Assumes `Logic`.
+-- `from_clause` makes a value of no bytes, whose ghost field is what the clause names. Assumes `Logic`.
 use mathlib.Core.Path.{refl, sym, subst}
 use Prim.Native.Nat.{ℕ}
 use mathlib.Core.List.{List, [], ◌∷◌, ◌++◌}
@@ -34,10 +34,10 @@ use denote.Triple.Entry.{on_entry, alive}
 use denote.Triple.Spec.{Meets, triple_of}
 use denote.Triple.Table.{entered}
 use denote.Triple.Walked.{says, Stays, stay_dropped, walk_of, ends_at, Goes-dropped, walk_Meets}
-use Rattle.held_bytes.specs.contracts.bodies.HeldBodies.named.{ended, clauses}
-use Rattle.held_bytes.specs.contracts.bodies.HeldBodies.named.Key.{name as #self}
-use Rattle.held_bytes.proofs.bodies.HeldBodies.named.Statement as stated
-use Rattle.held_bytes.proofs.bodies.HeldBodies.named.Code as code
+use Rattle.held_bytes.specs.contracts.bytes.HeldBytes.from_clause.{ended, clauses}
+use Rattle.held_bytes.specs.contracts.bytes.HeldBytes.from_clause.Key.{name as #self}
+use Rattle.held_bytes.proofs.bytes.HeldBytes.from_clause.Statement as stated
+use Rattle.held_bytes.proofs.bytes.HeldBytes.from_clause.Code as code
 
 module _ (Y : RattleType) where
   abbrev R : RattleType
@@ -79,7 +79,7 @@ module _ (Y : RattleType) (L : Laws Y) {M : Type 1} {𝓤 : Ura M} (𝓛 : Logic
 
     walks : Goes (vptr b o ∷ [])
     walks =
-        let v : Val = vstruct (vcons (vstruct vnil) vnil) in let r : denote.Triple.Entry.Res (ended Y).signature z.0.0 = record { of = record {}; bodies = z.1 } in
+        let v : Val = vstruct (vcons (vstruct vnil) vnil) in let r : denote.Triple.Entry.Res (ended Y).signature z.0.0 = record { of = record {}; bytes = z.1 } in
         let O : Fml = (type_at (ended Y).signature.result z.0.0).own_val r (v ∷ []) in
         qed 𝓛 ((raw toks ⊛ ‵ passed) ∷ raw ((held z.0.0 z.0.3).requires z.1) ∷ []) ∵ split ! $ keep ! (0 ∷ []) $
         enter ! C Λ (function Y) (vptr b o ∷ []) _ $ alloc_all ! (λ l. pass_all ! refl ((tt, tt), tt) $
@@ -97,9 +97,9 @@ module _ (Y : RattleType) (L : Laws Y) {M : Type 1} {𝓤 : Ura M} (𝓛 : Logic
       fact_use 𝓤 (Are Rs (Ises Rs) a vss) (via 𝓤 (sem 𝓛 (owns Rs a vss)) (via 𝓤 (on_entry 𝓛 (ended Y).signature z.0.0 z.0.1 a vss) (fst∗ 𝓤 (on_entry 𝓛 (ended Y).signature z.0.0 z.0.1 a vss) ((held z.0.0 a).requires z.1)) (snd∗ 𝓤 (alive 𝓛 (ended Y).signature z.0.0 z.0.1) (sem 𝓛 (owns Rs a vss)))) (owns_show 𝓛 Rs (Ises Rs) (showss 𝓛 Rs) a vss)) (λ are.
       subst (Goes 𝓣.C 𝓣.Λ z) (sym are.0.0) (walks 𝓣.C 𝓣.Λ z)))
 
-pub named_spec : {M : Type 1} → stated.statement M
+pub from_clause_spec : {M : Type 1} → stated.statement M
 unfolding tables_of
-named_spec 𝓤 𝓛 𝓜 𝓡 wired Y laws =
+from_clause_spec 𝓤 𝓛 𝓜 𝓡 wired Y laws =
     let 𝓣 : Tables 𝓤 𝓛.H = tables_of 𝓤 𝓛.H 𝓜 (tables 𝓤 𝓛.H 𝓜 𝓡 𝓡.env) in
     entered 𝓤 𝓛.H (triple_of 𝓛 (ended Y).signature (closing 𝓛 (ended Y) (clauses Y 𝓛 𝓜.mem 𝓡.returns))) 𝓣.C 𝓣.Λ (#self (layouts (a_type ∷ []) (Y, tt))) (function Y) (code.unfolded 𝓤 𝓛.H 𝓜 𝓡 wired (Y, tt))
     (meets Y laws 𝓛 𝓜.mem 𝓡.returns 𝓣)
