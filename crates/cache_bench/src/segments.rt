@@ -1,6 +1,7 @@
 //! Segments that are loaded into a cache, and their digests.
-ghost use Rattle.std.specs.Prelude.{◌≤◌};
-ghost use Rattle.block_cache.specs.Lent.{AreThere};
+ghost use Rattle.std.specs.Prelude.{◌≤◌, length};
+ghost use Rattle.block_cache.specs.Cached.{most_loaded};
+ghost use Rattle.block_cache.specs.Lent.{AreCached};
 
 use block_cache::{BlockCache, CacheRefusal, Parts, are_there, digest, lie_on};
 use disk_model::{Disk, MemDisk};
@@ -105,7 +106,8 @@ fn digests(cache: &BlockCache, times: u32) -> Result<Digest, Cause> {
 }
 
 fn last_digest(cache: &BlockCache, places: &[Option<u32>], times: u32) -> Digest
-    requires { AreThere cache.now places.now }
+    requires few { length places.now ≤ most_loaded }
+    requires there { AreCached cache.now places.now }
 {
     let mut last = Digest([0; 32]);
     for _ in 0..times {

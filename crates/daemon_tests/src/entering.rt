@@ -165,20 +165,32 @@ static REFUSED: [(&[Told], Next, Next, Next); 10] = [
     ),
 ];
 
-/// `None` for want of memory.
+/// These three give `None` for want of memory, and so does `heard`.
+fn sids(alloc: Global, ids: &[Sid]) -> Option<DmReply> {
+    Some(DmReply::Sids(Sids::from(ids.to_vec(alloc).ok()?)))
+}
+
+fn info(alloc: Global, bytes: &[u8]) -> Option<DmReply> {
+    Some(DmReply::Info(Word::from(bytes.to_vec(alloc).ok()?)))
+}
+
+fn tokens(alloc: Global, tokens: &[Token]) -> Option<DmReply> {
+    Some(DmReply::Tokens(Tokens::from(tokens.to_vec(alloc).ok()?)))
+}
+
 fn heard(alloc: Global, told: Told) -> Option<Heard> {
     let reply = match told {
         Told::Nothing => return Some(Heard::Nothing),
-        Told::Done => DmReply::Done,
-        Told::Session(sid) => DmReply::Session(Sid(sid)),
-        Told::Sids(ids) => DmReply::Sids(Sids::from(ids.to_vec(alloc).ok()?)),
-        Told::Info(info) => DmReply::Info(Word::from(info.to_vec(alloc).ok()?)),
-        Told::Tokens(tokens) => DmReply::Tokens(Tokens::from(tokens.to_vec(alloc).ok()?)),
-        Told::Packed => packed(alloc, &READ)?,
-        Told::Garbled => packed(alloc, b"?")?,
-        Told::Refused(why) => DmReply::Refused(why),
+        Told::Done => Some(DmReply::Done),
+        Told::Session(sid) => Some(DmReply::Session(Sid(sid))),
+        Told::Sids(ids) => sids(alloc, ids),
+        Told::Info(bytes) => info(alloc, bytes),
+        Told::Tokens(all) => tokens(alloc, all),
+        Told::Packed => packed(alloc, &READ),
+        Told::Garbled => packed(alloc, b"?"),
+        Told::Refused(why) => Some(DmReply::Refused(why)),
     };
-    Some(Heard::Dm(reply))
+    Some(Heard::Dm(reply?))
 }
 
 fn recall_kinds() -> Kinds {
