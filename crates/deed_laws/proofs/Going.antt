@@ -1,14 +1,18 @@
 -- Tokens of which a daemon doesn't know: how they go, and stay gone.
-use Rattle.std.proofs.Common.{◌≡◌, ◌∙◌, ◌⊎◌, true, false, List, [], ◌∷◌, ◌++◌, None, Some, inl, inr, refl, sym, ap, subst, append_assoc, append-nil}
+use Rattle.std.proofs.Common.{◌≡◌, ◌∙◌, ◌⊎◌, true, false, List, [], ◌∷◌, ◌++◌, All, None, Some, inl, inr, refl, sym, ap, subst, append_assoc, append-nil}
+use Rattle.std.specs.List.{cons_option}
+use Rattle.std.proofs.lemmas.Bool.{false≢true}
+use Rattle.std.proofs.lemmas.List.Elements.{All-head, All-tail}
 use Rattle.std.proofs.lemmas.Option.{none-some}
 use Rattle.hsm_types.specs.declared.daemons.Act.TheVariants as act
 use Rattle.hsm_types.specs.declared.daemons.Daemon.{Daemon}
 use Rattle.hsm_types.specs.declared.daemons.Daemon.TheVariants.{Recall, Migrate}
 use Rattle.hsm_types.specs.declared.daemons.Heard.TheVariants as heard
 use Rattle.hsm_types.specs.declared.keys.Token.{Token}
-use Rattle.deeds.specs.Deeds.{Deed, Hears, entry_in}
-use Rattle.deeds.specs.Lives.{life, move_of, Learns}
-use Rattle.deed_laws.specs.Keeping.{loses_next, WentToLine, WasLost, FindsAgain, NeverFinds, IsTaken, IsLost}
+use Rattle.deeds.specs.Deeds.{Deed, Kills, Gives, Hears, Loses, entry_in}
+use Rattle.deeds.specs.Lives.{Move, life, move_of}
+use Rattle.deeds.proofs.Lists.{all_rest}
+use Rattle.deed_laws.specs.Keeping.{loses_next, WentToLine, WasLost, FindsAgain, NeverFinds, IsTaken, IsLost, IsNoLoss, LosesNoAnswer}
 
 abbrev pub Went : Deed → List Deed → Token → Type 0
 Went x rest t = WentToLine x rest t ⊎ WasLost x rest t
@@ -72,3 +76,24 @@ gone_end d deeds t is = by (subst (λ (l : List Deed). Went is.deed l t) (append
     by : Went is.deed is.since t → IsTaken d deeds t ⊎ IsLost d deeds t
     by (inl line) = inl (record { before = is.before; deed = is.deed; rest = is.since; parted = is.parted; went = line; never = never_end d t is.since is.never })
     by (inr lost) = inr (record { before = is.before; deed = is.deed; rest = is.since; parted = is.parted; went = lost; never = never_end d t is.since is.never })
+
+-- ---- where nothing is lost
+
+one_kept : (d : Daemon) (x : Deed) (moves : List Move) → IsNoLoss x → loses_next moves ≡ false → loses_next (cons_option (move_of d x) moves) ≡ false
+one_kept Recall (Kills Recall) moves kept is = refl
+one_kept Recall (Gives Recall asked) moves kept is = refl
+one_kept Recall (Loses Recall) moves kept is = absurd kept
+one_kept Migrate (Kills Migrate) moves kept is = refl
+one_kept Migrate (Gives Migrate asked) moves kept is = refl
+one_kept Migrate (Loses Migrate) moves kept is = absurd kept
+one_kept Recall x moves kept is = is
+one_kept Migrate x moves kept is = is
+
+none_loses : (d : Daemon) (deeds : List Deed) → All IsNoLoss deeds → loses_next (life d deeds) ≡ false
+none_loses d [] all = refl
+none_loses d (x ∷ deeds) all = one_kept d x (life d deeds) (All-head IsNoLoss x deeds all) (none_loses d deeds (All-tail IsNoLoss x deeds all))
+
+pub loses_no_answer : (d : Daemon) (deeds : List Deed) (t : Token) → LosesNoAnswer d deeds t
+loses_no_answer d deeds t all is =
+    let behind : All IsNoLoss is.rest = All-tail IsNoLoss is.deed is.rest (all_rest IsNoLoss is.before (is.deed ∷ is.rest) (subst (All IsNoLoss) is.parted all)) in
+    false≢true (sym (none_loses is.went.0 is.rest behind) ∙ is.went.7)

@@ -77,4 +77,3 @@ module _ (E : Event → Type 0) where
         subst Kept (sym to.4) (record { given = was.given; now = learns to.0 asked told to.2 (subst Known to.1 sound) tells was.given })
     keep_on (Fails sid c) old new to sound tells keep = let was : AllSo (hearing to.0 None) = subst Kept to.1 keep in subst Kept (sym to.3) (none_heard to.0 was.given)
     keep_on Misses old new to sound tells keep = let was : AllSo to.0 = subst Kept to.1 keep in subst Kept (sym to.2) (none_heard to.0.machine was.given)
-

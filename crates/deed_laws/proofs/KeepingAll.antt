@@ -1,5 +1,5 @@
--- In deeds that are served a daemon with a session keeps each event of its kinds that is outstanding to that session, but for those that lines took, and those of
--- answers that are lost.
+-- In deeds that are served a daemon with a session keeps each event of its kinds that is outstanding to that session, but for those that lines took, and
+-- those of answers that are lost.
 use Rattle.std.proofs.Common.{◌≡◌, ◌∙◌, ◌⊎◌, ℕ, Bool, true, false, List, [], ◌∷◌, ◌++◌, Option, None, Some, inl, inr, refl, sym, ap, subst}
 use Rattle.std.specs.List.{cons_option}
 use Rattle.hsm_types.specs.Sessions.{SessionTable}

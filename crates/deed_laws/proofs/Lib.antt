@@ -4,6 +4,6 @@ pub mod Walking
 mod Keeping
 mod Telling
 mod TakingOver
-mod Going
+pub mod Going
 mod Seats
 mod KeepingAll

@@ -39,7 +39,8 @@ use Rattle.marked_history.proofs.Carrying.{Each}
 use Rattle.marked_history.proofs.Leaving.{left_given}
 use Rattle.marked_history.proofs.OwnSeats.{HasToken, IsGiven, SeatMay}
 use Rattle.deeds.specs.Deeds.{Deed, Enters, Hears, Breaks, call_told, entry_of, entry_in}
-use Rattle.deeds.specs.Lives.{Workings, Living, Move, Begins, Ends, Renews, Asks, Learns, Fails, Misses, hearing, begun, renewed, untold, move_of, deed_by, life, MovesTo}
+use Rattle.deeds.specs.Lives.{Workings, Living, Move, Begins, Ends, Renews, Asks, Learns, Fails, Misses, hearing, begun, renewed, untold, move_of, deed_by}
+use Rattle.deeds.specs.Lives.{life, MovesTo}
 use Rattle.deed_laws.specs.Keeping.{loses_next, FindsAgain}
 use Rattle.deed_laws.proofs.Going.{Went, Gone, gone_more, gone_last, no_entry, not_own}
 use Rattle.deed_laws.proofs.Sitting.{Remarked, Gave, MayAsk, HasAsked, HasGiven, Sits, Sound, IsSound, given_seat, seat_now, unheard}
@@ -311,10 +312,10 @@ module _ (s : Superblock) (st : State) (ordered : InOrder st) where
           line_on s st ordered d (Before d) (Behind d) seat (Session x) (Dm c) (Told a) is_so id
           (λ u was. gone_more d done deed rest u (λ found. lost) was)
           (λ sid most room bytes tokens u who what answer there.
-            let own : x ≡ sid = cc who in
-            let asked : c ≡ call.GetEvents most room = cc what in
-            let told : a ≡ reply.Packed bytes tokens = cc answer in
-            gone_last d done deed rest u (inr (d, sid, most, room, bytes, tokens, (λ i. Hears d (act.Dm (own i) (asked i)) (heard.Dm (told i))), lost, there)))
+          let own : x ≡ sid = cc who in
+          let asked : c ≡ call.GetEvents most room = cc what in
+          let told : a ≡ reply.Packed bytes tokens = cc answer in
+          gone_last d done deed rest u (inr (d, sid, most, room, bytes, tokens, (λ i. Hears d (act.Dm (own i) (asked i)) (heard.Dm (told i))), lost, there)))
           is
 
       module _ {M : Type 0} (e : Daemon) (w : Workings M) (sits : Sits d w) (tokened : Each HasToken st.sessions) (hands : HandsOut st.sessions x c a) (differ : move_of e deed ≡ None) (lost_too : Bool) (theirs : Seats) (m : M) (asked : w.asked m ≡ act.Dm x c)

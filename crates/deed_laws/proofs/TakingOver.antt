@@ -1,5 +1,6 @@
 -- In deeds that are served a daemon takes the place only of a session of which it was told that it has its information.
-use Rattle.std.proofs.Common.{◌≡◌, ◌≢◌, ◌∙◌, ◌∷◌, ◌++◌, [], ℕ, Bool, true, false, All, List, Option, Some, None, IfSome, inl, inr, refl, sym, ap, subst, append_assoc, append-nil}
+use Rattle.std.proofs.Common.{◌≡◌, ◌≢◌, ◌∙◌, ◌∷◌, ◌++◌, [], ℕ, Bool, true, false, All, List, Option, Some, None, IfSome, inl, inr, refl, sym, ap, subst}
+use Rattle.std.proofs.Common.{append_assoc, append-nil}
 use Rattle.std.specs.Option.{unwrap_or}
 use Rattle.std.specs.Str.{bytes_eq}
 use Rattle.std.proofs.lemmas.List.Elements.{All-nil, All-push}
@@ -26,7 +27,8 @@ use Rattle.recall_daemon.proofs.Outcomes.{but_kept}
 use Rattle.marked_history.proofs.Ways.{Way, way_of, way_told, way_next, seat_next}
 use Rattle.deeds.specs.Deeds.{Deed, Gives, Hears, call_told}
 use Rattle.deeds.specs.Leads.{Situation, nothing_done, Leads}
-use Rattle.deeds.specs.Lives.{Workings, Living, Move, Begins, Ends, Renews, Asks, Learns, Fails, Misses, hearing, begun, renewed, deed_by, life, IsMoveOf, MovesTo, Lives}
+use Rattle.deeds.specs.Lives.{Workings, Living, Move, Begins, Ends, Renews, Asks, Learns, Fails, Misses, hearing, begun, renewed, deed_by, life, IsMoveOf}
+use Rattle.deeds.specs.Lives.{MovesTo, Lives}
 use Rattle.deeds.proofs.Finding.{moves_are_deeds}
 use Rattle.deeds.proofs.Leading.{leads_through}
 use Rattle.hsm_system.specs.Lives.{recalls, migrates}
@@ -140,7 +142,7 @@ module _ (d : Daemon) where
         let P : Seat → Type 0 = λ (s : Seat). Found (moves ++ Learns (act.Dm x c) (heard.Dm a) ∷ []) s.found in
         let next : Seat = seat_hears d (seat_asks (sits.seat m) c) c a in
         sits.answered m x c a P sound.so same (but_kept P c a next (λ kept.
-          subst (λ (y : Way). Found (moves ++ Learns (act.Dm x c) (heard.Dm a) ∷ []) y.found) (sym (seat_next d (sits.seat m) c a)) (found_answer moves x (way_of (sits.seat m)) is (sits.seat m) c a given)))
+        subst (λ (y : Way). Found (moves ++ Learns (act.Dm x c) (heard.Dm a) ∷ []) y.found) (sym (seat_next d (sits.seat m) c a)) (found_answer moves x (way_of (sits.seat m)) is (sits.seat m) c a given)))
     learns moves m asked told same sound is =
         remarked_found (moves ++ Learns asked told ∷ []) (sits.seat m) (sits.told m told) (sits.unanswered m told (ap (λ (y : Act). call_told y told) same)) (found_more moves (Learns asked told) (sits.seat m).found tt is)
 

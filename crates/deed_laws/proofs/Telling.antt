@@ -34,7 +34,8 @@ use Rattle.marked_history.specs.Served.{IsTold}
 use Rattle.marked_history.specs.Tokens.{IsPresent, Tells, TellsOn}
 use Rattle.marked_history.proofs.Carrying.{none_each}
 use Rattle.marked_history.proofs.Lists.{none_there, place}
-use Rattle.marked_history.proofs.TellingOne.{Register, unknown, IsListed, IsRegister, Next, seen_next, IsEventOf, IsKeptOf, IsFileOf, event_next, file_next, tells_only, event_tells, file_tells}
+use Rattle.marked_history.proofs.TellingOne.{Register, unknown, IsListed, IsRegister, Next, seen_next, IsEventOf, IsKeptOf, IsFileOf, event_next, file_next}
+use Rattle.marked_history.proofs.TellingOne.{tells_only, event_tells, file_tells}
 use Rattle.deeds.specs.Deeds.{Deed, Enters, Hears, entry_in, entries_of}
 use Rattle.deeds.specs.Leads.{Situation, nothing_done, Leads}
 use Rattle.deeds.specs.Lives.{Workings, Living, Move, Begins, Learns, deed_by, hearing, MovesTo}

@@ -1,5 +1,5 @@
 -- Which events daemons keep, by deeds.
-use Rattle.std.specs.Prelude.{◌≡◌, ◌⊎◌, ℕ, List, [], ◌∷◌, ◌++◌, Bool, true, false, Contains}
+use Rattle.std.specs.Prelude.{◌≡◌, ◌⊎◌, ℕ, List, [], ◌∷◌, ◌++◌, All, Bool, true, false, Contains}
 use Rattle.hsm_types.specs.Daemons.{kinds_of}
 use Rattle.hsm_types.specs.Messages.{takes}
 use Rattle.hsm_types.specs.Sessions.{outstanding_of}
@@ -22,7 +22,7 @@ use Rattle.hsm_policy.specs.Settings.{Numbers}
 use Rattle.daemon_session.specs.Seats.{IsSeated}
 use Rattle.hsm_core.specs.Packed.{ArePacked}
 use Rattle.marked_history.specs.Tokens.{Keeps}
-use Rattle.deeds.specs.Deeds.{Deed, Enters, Hears, entry_of, entries_of}
+use Rattle.deeds.specs.Deeds.{Deed, Enters, Hears, Loses, entry_of, entries_of}
 use Rattle.deeds.specs.Leads.{Served}
 use Rattle.deeds.specs.Lives.{Move, Ends, Asks, Misses, life}
 use Rattle.hsm_system.specs.Lives.{recalls, migrates}
@@ -83,3 +83,13 @@ KeepsAll daemon limits s st deeds = (sid : Sid) (m : Message) → IsSeated (seat
 abbrev pub ServedKeepsAll : Daemon → Numbers → Superblock → ℕ → Held → List Deed → Type 0
 ServedKeepsAll daemon limits s base h deeds =
     Served recalls (migrates limits) deeds → IsRunSeen ⊥ s base h (entries_of deeds) → ArePacked s (just_opened base h) (entries_of deeds) → KeepsAll daemon limits s (just_opened base h) deeds
+
+-- ---- where nothing is lost
+
+abbrev pub IsNoLoss : Deed → Type 0
+IsNoLoss (Loses daemon) = ⊥
+IsNoLoss x = Unit {0}
+
+-- then no answer is
+abbrev pub LosesNoAnswer : Daemon → List Deed → Token → Type 0
+LosesNoAnswer daemon deeds t = All IsNoLoss deeds → IsLost daemon deeds t → ⊥

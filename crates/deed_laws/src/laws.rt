@@ -2,12 +2,13 @@
 //! So each holds behind every one of them, between an act and what is heard of it too. A run is one on any disk, exact but for bytes, by which none goes.
 ghost use Rattle.std.specs.Prelude.{ℕ, List};
 ghost use Rattle.hsm_types.specs.declared.daemons.Daemon.{Daemon};
+ghost use Rattle.hsm_types.specs.declared.keys.Token.{Token};
 ghost use Rattle.hsm_types.specs.declared.stores.Superblock.{Superblock};
 ghost use Rattle.plain_model.specs.State.{Held};
 ghost use Rattle.hsm_policy.specs.Settings.{Numbers};
 ghost use Rattle.deeds.specs.Deeds.{Deed};
 ghost use Rattle.deed_laws.specs.Coming.{ServedTakesOver};
-ghost use Rattle.deed_laws.specs.Keeping.{ServedKeepsAll};
+ghost use Rattle.deed_laws.specs.Keeping.{ServedKeepsAll, LosesNoAnswer};
 ghost use Rattle.deed_laws.specs.Telling.{ServedTellsOne};
 
 /// The message of a token is the one that told of the event that a daemon keeps, and of the file that recall was given for it.
@@ -20,7 +21,13 @@ pub fn takes_over()
     ensures { (limits : Numbers) (deeds : List Deed) → ServedTakesOver limits deeds }
 {}
 
-/// A daemon with a session keeps each event of its kinds that is outstanding to that session, but for those that lines took, and those of answers that are lost.
+/// A daemon with a session keeps each event of its kinds that is outstanding to that session, but for those that lines took, and those of answers that are
+/// lost.
 pub fn keeps_all()
     ensures { (daemon : Daemon) (limits : Numbers) (s : Superblock) (base : ℕ) (opening : Held) (deeds : List Deed) → ServedKeepsAll daemon limits s base opening deeds }
+{}
+
+/// Among deeds of which none is a loss no answer is lost, as among those that follow lines.
+pub fn loses_no_answer()
+    ensures { (daemon : Daemon) (deeds : List Deed) (token : Token) → LosesNoAnswer daemon deeds token }
 {}
