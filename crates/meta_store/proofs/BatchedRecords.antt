@@ -209,15 +209,15 @@ kinds_kept [] c = refl
 kinds_kept (r ∷ rs) c = kinds_kept rs (after r c) ∙ kind_kept r c
 
 pub taken_as_batch : (old new : Meta) (rs : List Record) (number later : ℕ) → IsTakenAsBatch old new rs number later
-taken_as_batch old new rs number later can taken is le few =
+taken_as_batch old new rs number later can fit taken is le few =
     let all = stand_same rs number old.current can in
     let end : after_batch later rs (snapshot_of number old.current) ≡ snapshot_of later new.current =
     ap (λ (s : Snapshot). record s { number = later }) all.1 ∙ renumbered number later (after_all rs old.current) ∙ ap (snapshot_of later) (sym taken.current) in (
       record {
         rises = rw (number_is number old.current) le;
-        bound = few;
+        fit = fit;
         files = all.0;
-        lawful = record { catalog = new.current; kind = ap (λ (c : Catalog). c.geometry) taken.current ∙ kinds_kept rs old.current; lawful = is.current; lengths = is.stored.now; says = end };
+        lawful = record { catalog = new.current; number = few; kind = ap (λ (c : Catalog). c.geometry) taken.current ∙ kinds_kept rs old.current; lawful = is.current; lengths = is.stored.now; says = end };
       },
       end,
     )

@@ -5,6 +5,7 @@ use Rattle.std.specs.List.{AllByRecursion}
 use Rattle.std.proofs.lemmas.Bool.{cond_both}
 use Rattle.std.proofs.lemmas.List.Sums.{sum_by-cons}
 use Rattle.hsm_types.specs.declared.keys.FileKey.{FileKey}
+use Rattle.hsm_types.specs.Limits.{last_number}
 use Rattle.hsm_types.specs.Attributes.{bytes_of_attributes}
 use Rattle.hsm_types.specs.Keyed.{same_key, change_key, put_key, drop_key}
 use Rattle.plain_model.specs.Distinct.{Distinct}
@@ -120,13 +121,14 @@ filed geometry (f ∷ fs) h =
       lengths = (h.0.lengths, rest.lengths);
     }
 
-all_lawful : (geometry : ℕ) (s : Snapshot) → geometry ≤ 1 → AreTogether geometry s → AllByRecursion (IsLawfulFile geometry) s.files → IsLawful geometry s
+all_lawful : (geometry : ℕ) (s : Snapshot) → geometry ≤ 1 → s.number ≤ last_number → AreTogether geometry s → AllByRecursion (IsLawfulFile geometry) s.files → IsLawful geometry s
 unfolding snapshot_of
-all_lawful geometry s known t h =
+all_lawful geometry s known few t h =
     let fs = filed geometry s.files h in
     record {
       catalog = record { geometry = geometry; next = s.next; files = fs.files };
       kind = refl;
+      number = few;
       lawful = record {
         known = known;
         first = t.first;
@@ -170,10 +172,10 @@ judged_by_changes geometry s number rs was = (there, back)
     after : Snapshot
     after = after_batch number rs s
 
-    there : IsLawful geometry after → AreTogether geometry after × AreChangedLawful geometry rs after.files
-    there is = let told = tell geometry after is in (told.0, each-as (IsLawfulFile geometry) (λ f. is_about rs f.key.ino ≡ true → IsLawfulFile geometry f) after.files (λ f h about. h) told.1)
+    there : IsLawful geometry after → (number ≤ last_number) × AreTogether geometry after × AreChangedLawful geometry rs after.files
+    there is = let told = tell geometry after is in (is.number, told.0, each-as (IsLawfulFile geometry) (λ f. is_about rs f.key.ino ≡ true → IsLawfulFile geometry f) after.files (λ f h about. h) told.1)
 
-    back : AreTogether geometry after × AreChangedLawful geometry rs after.files → IsLawful geometry after
+    back : (number ≤ last_number) × AreTogether geometry after × AreChangedLawful geometry rs after.files → IsLawful geometry after
     back h =
-        all_lawful geometry after (omega (arith, was.lawful.known, was.kind)) h.0
-        (both_judged (IsLawfulFile geometry) rs after.files h.1 (records_keep (IsLawfulFile geometry) rs s (tell geometry s was).1))
+        all_lawful geometry after (omega (arith, was.lawful.known, was.kind)) h.0 h.1
+        (both_judged (IsLawfulFile geometry) rs after.files h.2 (records_keep (IsLawfulFile geometry) rs s (tell geometry s was).1))

@@ -21,3 +21,4 @@ pub mod TakenFiles
 pub mod BatchedRecords
 pub mod JudgedBatches
 pub mod MappedAhead
+pub mod JoinedBatches

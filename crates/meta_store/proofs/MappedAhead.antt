@@ -6,6 +6,7 @@ use Rattle.hsm_types.specs.Kept.{nothing_kept}
 use Rattle.plain_model.specs.Blocks.{blocks_in}
 use Rattle.snapshot_text.specs.declared.snapshot.Mapping.{Mapping}
 use Rattle.journal_records.specs.declared.records.Record.TheVariants.{Size, Map}
+use Rattle.journal_records.specs.Texts.{RecordFits}
 use Rattle.snapshot_text.specs.Files.{CatalogFile, IsLawfulKept, IsCatalogFile, geometry_of}
 use Rattle.meta_store.specs.Catalogs.{Catalog, IsCatalog}
 use Rattle.snapshot_text.specs.Snapshots.{SnapshotFile, Snapshot, extents_from, snapshot_file}
@@ -50,6 +51,9 @@ have_files : (places : List ℕ) → HaveFiles (Map 1 0 places ∷ Size 1 4096 �
 unfolding snapshot_of
 have_files places = (refl, (refl, tt))
 
+fit : (places : List ℕ) → places ≡ 7 ∷ [] → AllByRecursion RecordFits (Map 1 0 places ∷ Size 1 4096 ∷ [])
+fit places is = rw is ((omega arith, (omega arith, omega arith, (omega arith, tt))), ((omega arith, omega arith), tt))
+
 rises : (snapshot_of 3 (one_file 0 [])).number ≤ 4
 unfolding snapshot_of
 rises = omega arith
@@ -88,9 +92,9 @@ pub judged_at_its_end : (places : List ℕ) → IsJudgedAtItsEnd places
 judged_at_its_end places is = (
   record {
     rises = rises;
-    bound = omega arith;
+    fit = fit places is;
     files = have_files places;
-    lawful = record { catalog = one_file 4096 (Some 7 ∷ []); kind = refl; lawful = one_lawful; lengths = (tt, tt); says = ends places is };
+    lawful = record { catalog = one_file 4096 (Some 7 ∷ []); number = omega arith; kind = refl; lawful = one_lawful; lengths = (tt, tt); says = ends places is };
   },
   ends places is,
   not_alone places is,

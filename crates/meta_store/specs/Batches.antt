@@ -1,5 +1,5 @@
--- What a batch of a journal may be. Its records change, one after the other, what a snapshot would say of the files. What stands after the last of them
--- is judged, and not what stands in between: there a block may lie past its file's end.
+-- What a batch of a journal may be. Its records change, one after the other, what a snapshot would say of the files. Each is to have its file where it stands;
+-- all else is judged by what stands after the last of them, and not by what stands in between: there a block may lie past its file's end.
 use Rattle.std.specs.Prelude.{◌≡◌, ℕ, ◌+◌, ◌*◌, ◌≤◌, List, [], ◌∷◌, filter, Bool, true, false, not, ◌&&◌, ◌==◌, nat_lt, nat_le, if◌then◌else◌, Some, None}
 use Rattle.std.specs.List.{list_any, AllByRecursion}
 use Rattle.hsm_types.specs.Limits.{segment_blocks, last_number, last_generation}
@@ -20,7 +20,7 @@ use Rattle.journal_records.specs.declared.records.Record.{Record}
 use Rattle.journal_records.specs.declared.records.Record.TheVariants.{Make, Drop, Size, Map, Regions, SetAttr, DropAttr, Stub}
 use Rattle.snapshot_text.specs.Files.{CatalogFile, geometry_of, HasLengths, IsCatalogFile}
 use Rattle.meta_store.specs.Catalogs.{Catalog, IsCatalog, AreLengths}
-use Rattle.journal_records.specs.Texts.{inode_of}
+use Rattle.journal_records.specs.Texts.{inode_of, RecordFits}
 use Rattle.snapshot_text.specs.FileRecords.{mappings_from}
 use Rattle.snapshot_text.specs.Snapshots.{SnapshotFile, Snapshot, snapshot_file}
 use Rattle.meta_store.specs.Snapshots.{snapshot_of}
@@ -97,6 +97,7 @@ HaveFiles (r ∷ rs) s = HasFile r s × HaveFiles rs (changed r s)
 pub record IsLawful (geometry : ℕ) (s : Snapshot) : Type 0 where
   pub catalog : Catalog
   pub kind : catalog.geometry ≡ geometry
+  pub number : s.number ≤ last_number
   pub lawful : IsCatalog catalog
   pub lengths : AreLengths catalog
   pub says : s ≡ snapshot_of s.number catalog
@@ -105,10 +106,10 @@ pub record IsLawful (geometry : ℕ) (s : Snapshot) : Type 0 where
 abbrev pub after_batch : ℕ → List Record → Snapshot → Snapshot
 after_batch number rs s = record (changed_all rs s) { number = number }
 
--- These records can stand in a batch of that number behind this store.
+-- These records can stand in a batch of that number behind this store: each can be spelled, and has its file.
 pub record CanFollow (geometry : ℕ) (s : Snapshot) (number : ℕ) (rs : List Record) : Type 0 where
   pub rises : s.number ≤ number
-  pub bound : number ≤ last_number
+  pub fit : AllByRecursion RecordFits rs
   pub files : HaveFiles rs s
   pub lawful : IsLawful geometry (after_batch number rs s)
 

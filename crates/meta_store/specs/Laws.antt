@@ -1,5 +1,7 @@
 -- Laws on snapshots and on what recovery finds on an image.
-use Rattle.std.specs.Prelude.{◌≡◌, ◌↔◌, ℕ, ◌≤◌, List, [], ◌∷◌, length, Option, Some}
+use Rattle.std.specs.Prelude.{◌≡◌, ◌↔◌, ℕ, ◌≤◌, List, [], ◌∷◌, ◌++◌, length, Option, Some}
+use Rattle.std.specs.List.{AllByRecursion}
+use Rattle.journal_records.specs.Texts.{RecordFits}
 use Rattle.hsm_types.specs.Kept.{nothing_kept}
 use Rattle.commit_slots.specs.Images.{IsEmptyStore}
 use Rattle.commit_slots.specs.Places.{layout_of}
@@ -30,16 +32,22 @@ FormattedHasNoFiles geometry fsid image = IsEmptyStore geometry fsid image → I
 abbrev pub FitsItsArea : ℕ → Catalog → Type 0
 FitsItsArea number c = IsCatalog c → length (spelling (snapshot_of number c)) ≤ (layout_of c.geometry).snapshot_len
 
--- The records that `apply` takes are a batch, of any number from that of the store on, and after it a snapshot says what `apply` made of the files.
+-- The records that `apply` takes are a batch, where each can be spelled, of any number from that of the store on. After it a snapshot says what `apply` made
+-- of the files.
 abbrev pub IsTakenAsBatch : Meta → Meta → List Record → ℕ → ℕ → Type 0
-IsTakenAsBatch old new rs number later = CanStandAll rs old.current → IsTaken rs old new → IsMeta new → number ≤ later → later ≤ last_number
+IsTakenAsBatch old new rs number later = CanStandAll rs old.current → AllByRecursion RecordFits rs → IsTaken rs old new → IsMeta new → number ≤ later → later ≤ last_number
     → CanFollow old.current.geometry (snapshot_of number old.current) later rs × (after_batch later rs (snapshot_of number old.current) ≡ snapshot_of later new.current)
 
--- Behind a lawful store a batch leaves a lawful one exactly where each file that its records are about is lawful, and what is asked of all files together
--- holds. So no other file is judged again.
+-- Behind a lawful store records leave a lawful one exactly where each file that they are about is lawful, what is asked of all files together holds, and the
+-- number is one that a snapshot can have. So no other file is judged again.
 abbrev pub IsJudgedByChanges : ℕ → Snapshot → ℕ → List Record → Type 0
 IsJudgedByChanges geometry s number rs = IsLawful geometry s
-    → IsLawful geometry (after_batch number rs s) ↔ (AreTogether geometry (after_batch number rs s) × AreChangedLawful geometry rs (after_batch number rs s).files)
+    → IsLawful geometry (after_batch number rs s) ↔ ((number ≤ last_number) × AreTogether geometry (after_batch number rs s) × AreChangedLawful geometry rs (after_batch number rs s).files)
+
+-- Two batches one behind the other are one batch of the second's number: so the records of several events can be.
+abbrev pub AreJoined : ℕ → Snapshot → (n m : ℕ) (rs ss : List Record) → Type 0
+AreJoined geometry s n m rs ss = CanFollow geometry s n rs → CanFollow geometry (after_batch n rs s) m ss
+    → CanFollow geometry s m (rs ++ ss) × (after_batch m (rs ++ ss) s ≡ after_batch m ss (after_batch n rs s))
 
 -- a small store with one file, `a`, of that size, whose blocks lie there
 abbrev pub one_file : ℕ → List (Option ℕ) → Catalog

@@ -10,7 +10,7 @@ mod spelling;
 mod store;
 mod validity;
 
-pub use batches::{judged_at_its_end, judged_by_changes, taken_as_batch};
+pub use batches::{batches_join, judged_at_its_end, judged_by_changes, taken_as_batch};
 pub use catalog::Catalog;
 pub use laws::{formatted_image, one_image, snapshot_fits};
 pub use store::MetaStore;
