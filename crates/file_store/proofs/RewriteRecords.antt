@@ -93,12 +93,9 @@ present-run : (a n : ℕ) (ps : List (Option ℕ)) → present (take n (drop a p
 present-run a zero ps = refl
 present-run a (suc n) ps = grind (arith, drop_more, present-more, get_or_past, drop_all, take_all, cases_lt, present-run (a + 1) n ps)
 
-past-end : (n k : ℕ) (ps : List (Option ℕ)) → k ≡ min (length ps) n → take (length ps - k) (drop k ps) ≡ drop n ps
-past-end n k ps is = same_lists _ _ (search (rules, places)) (λ i d h. grind (arith, places))
-
-pub freed_runs : (a m b n size k : ℕ) (blocks : List ℕ) (ps : List (Option ℕ)) → from_on a m ++ from_on b n ≡ blocks → k ≡ min (length ps) (blocks_in size)
-    → [] ++ present (take (length ps - k) (drop k ps)) ++ present (take m (drop a ps)) ++ present (take n (drop b ps)) ≡ freed_by size blocks ps
-freed_runs a m b n size k blocks ps is kept = grind (arith, present-run, map-append, present-append, append_assoc, past-end)
+pub freed_runs : (a m b n size : ℕ) (blocks : List ℕ) (ps : List (Option ℕ)) → from_on a m ++ from_on b n ≡ blocks
+    → [] ++ present (drop (blocks_in size) ps) ++ present (take m (drop a ps)) ++ present (take n (drop b ps)) ≡ freed_by size blocks ps
+freed_runs a m b n size blocks ps is = grind (arith, present-run, map-append, present-append, append_assoc)
 
 -- ---- a file that changes twice
 
