@@ -1,7 +1,7 @@
 -- The records of a change of a file's bytes: that they are its places, the catalog after them, and that they can come.
 use Rattle.file_store.proofs.Names.{◌||◌, true, Bool, max, map, ◌&&◌, ltb, and_parts, and_from, lt-ltb, cases_eq, ◌/◌, false≢true, is_some, IsSure}
 use Rattle.file_store.proofs.Names.{Stub, Rewrite, Write, Resize, Restore, effect_of, size_after, rekept, unseals, unsealing, IsHead, AreUnsealed}
-use Rattle.file_store.proofs.Names.{IsCatalogFile, places_fitted, CanStand, refusal_of, rules, ◌≡◌, ⊎_elim, ◌<◌, ℕ, zero, suc, ◌+◌, ◌-◌, ◌≤◌, min}
+use Rattle.file_store.proofs.Names.{IsCatalogFile, places_fitted, CanStand, refusal_of, rules, ◌≡◌, ⊎_elim, ◌<◌, ℕ, zero, suc, ◌+◌, ◌-◌, ◌≤◌}
 use Rattle.file_store.proofs.Names.{List, [], ◌∷◌, ◌++◌, length, take, drop, Option, Some, None, refl, sym, ◌∙◌, ap, arith, length-append, take_all}
 use Rattle.file_store.proofs.Names.{set, false, eqb, subst, cases_lt, ltb-true, drop_more, drop_all, get_or_past, map-append, same_lists, places}
 use Rattle.file_store.proofs.Names.{from_on, blocks_in, Mapping, Record, Map, present, CatalogFile, Catalog, geometry_of, blocks_of, mappings_from}

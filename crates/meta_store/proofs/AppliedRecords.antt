@@ -1,5 +1,5 @@
 -- The records of an event are taken one after another.
-use Rattle.std.proofs.Common.{◌≡◌, Some, ◌↔◌, ◌⊎◌, ⊎_elim, inl, inr, ◌∙◌, Option, Err, List, [], ◌∷◌, rules, refl, arith}
+use Rattle.std.proofs.Common.{◌≡◌, Some, ◌↔◌, ◌⊎◌, ⊎_elim, inr, ◌∙◌, Option, Err, List, [], ◌∷◌, rules, refl, arith}
 use Rattle.std.specs.Prelude.{None, Result}
 use Rattle.std.specs.List.{AllByRecursion}
 use Rattle.hsm_types.specs.Refusals.{first_refusal}
