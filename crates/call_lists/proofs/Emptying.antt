@@ -1,10 +1,10 @@
 -- Lists with no calls.
 use Rattle.std.proofs.Common.{◌≡◌, ℕ, zero, suc, List, [], ◌∷◌, ◌++◌, refl}
-use Rattle.call_lists.specs.Lines.{lines_of}
+use Rattle.call_lists.specs.Lines.{left_of}
 use Rattle.call_lists.specs.declared.lists.CallList.{CallList}
 
 -- one more that is empty
-pub none_more : (lists : List CallList) (l : CallList) (c : ℕ) → l.calls.items ≡ [] → ((k : ℕ) → lines_of lists k ≡ []) → lines_of (lists ++ l ∷ []) c ≡ []
+pub none_more : (lists : List CallList) (l : CallList) (c : ℕ) → l.calls.items ≡ [] → ((k : ℕ) → left_of lists k ≡ []) → left_of (lists ++ l ∷ []) c ≡ []
 none_more [] l zero none each = none
 none_more [] l (suc c) none each = refl
 none_more (x ∷ lists) l zero none each = each zero

@@ -8,7 +8,7 @@ use Rattle.hsm_types.specs.declared.calls.Call.{Call}
 use Rattle.plain_model.specs.declared.entries.Entry.{Entry}
 use Rattle.plain_model.specs.Own.{is_caller, own}
 use Rattle.plain_model.proofs.Owning.{own_grows}
-use Rattle.call_lists.specs.Lines.{lines_of}
+use Rattle.call_lists.specs.Lines.{left_of}
 use Rattle.call_lists.specs.Made.{call_in, calls_of, CallsGrow, Lost, lost_by, AreMade}
 use Rattle.call_lists.specs.declared.lists.CallList.{CallList}
 
@@ -28,31 +28,31 @@ calls_grow c es e = ap (λ (l : List Entry). filter_map call_in l) (own_grows c 
 
 module _ (lines : ℕ → List Call) (left : List CallList) (history : List Entry) where
   -- nothing was made yet
-  pub none_made : ((c : ℕ) → lines_of left c ≡ lines c) → history ≡ [] → AreMade false lines left history
-  none_made same empty = record { lost = None; parted = λ c. sym (same c) ∙ ap (λ (es : List Entry). calls_of c es ++ ([] ++ lines_of left c)) (sym empty); none = λ goes. refl }
+  pub none_made : ((c : ℕ) → left_of left c ≡ lines c) → history ≡ [] → AreMade false lines left history
+  none_made same empty = record { lost = None; parted = λ c. sym (same c) ∙ ap (λ (es : List Entry). calls_of c es ++ ([] ++ left_of left c)) (sym empty); none = λ goes. refl }
 
   module _ (new : List Entry) where
     -- no call was made
     pub still_made : (stopped now : Bool) → AreMade stopped lines left history → ((c : ℕ) → calls_of c new ≡ calls_of c history) → (now ≡ false → stopped ≡ false) → AreMade now lines left new
-    still_made stopped now made same goes = record { lost = made.lost; parted = λ c. made.parted c ∙ ap (λ (l : List Call). l ++ (lost_by c made.lost ++ lines_of left c)) (sym (same c)); none = λ is. made.none (goes is) }
+    still_made stopped now made same goes = record { lost = made.lost; parted = λ c. made.parted c ∙ ap (λ (l : List Call). l ++ (lost_by c made.lost ++ left_of left c)) (sym (same c)); none = λ is. made.none (goes is) }
 
     -- that caller's next call was taken off
-    module _ (d : ℕ) (call : Call) (after : List CallList) (made : AreMade false lines left history) (taken : lines_of left d ≡ call ∷ lines_of after d) (others : (c : ℕ) → c ≢ d → lines_of after c ≡ lines_of left c) where
-      parted_before : (c : ℕ) → lines c ≡ calls_of c history ++ lines_of left c
-      parted_before c = made.parted c ∙ ap (λ (l : Option Lost). calls_of c history ++ (lost_by c l ++ lines_of left c)) (made.none refl)
+    module _ (d : ℕ) (call : Call) (after : List CallList) (made : AreMade false lines left history) (taken : left_of left d ≡ call ∷ left_of after d) (others : (c : ℕ) → c ≢ d → left_of after c ≡ left_of left c) where
+      parted_before : (c : ℕ) → lines c ≡ calls_of c history ++ left_of left c
+      parted_before c = made.parted c ∙ ap (λ (l : Option Lost). calls_of c history ++ (lost_by c l ++ left_of left c)) (made.none refl)
 
-      parted_by : (c : ℕ) (b : Bool) → (d == c) ≡ b → lines_of left c ≡ (if b then call ∷ [] else []) ++ lines_of after c
-      parted_by c true is = let e : d ≡ c = grind (arith, nat_tests) in ap (λ (k : ℕ). lines_of left k) (sym e) ∙ taken ∙ ap (λ (k : ℕ). call ∷ lines_of after k) e
+      parted_by : (c : ℕ) (b : Bool) → (d == c) ≡ b → left_of left c ≡ (if b then call ∷ [] else []) ++ left_of after c
+      parted_by c true is = let e : d ≡ c = grind (arith, nat_tests) in ap (λ (k : ℕ). left_of left k) (sym e) ∙ taken ∙ ap (λ (k : ℕ). call ∷ left_of after k) e
       parted_by c false is = let ne : c ≢ d = grind (arith, nat_tests) in sym (others c ne)
 
-      parted_now : (c : ℕ) → lines c ≡ calls_of c history ++ ((if d == c then call ∷ [] else []) ++ lines_of after c)
+      parted_now : (c : ℕ) → lines c ≡ calls_of c history ++ ((if d == c then call ∷ [] else []) ++ left_of after c)
       parted_now c = parted_before c ∙ ap (λ (l : List Call). calls_of c history ++ l) (parted_by c (d == c) refl)
 
       -- and is in the history
       pub next_made : (stopped : Bool) → ((c : ℕ) → calls_of c new ≡ calls_of c history ++ (if d == c then call ∷ [] else [])) → AreMade stopped lines after new
       next_made stopped more = record {
         lost = None;
-        parted = λ c. parted_now c ∙ sym (append_assoc (calls_of c history) (if d == c then call ∷ [] else []) (lines_of after c)) ∙ ap (λ (l : List Call). l ++ lines_of after c) (sym (more c));
+        parted = λ c. parted_now c ∙ sym (append_assoc (calls_of c history) (if d == c then call ∷ [] else []) (left_of after c)) ∙ ap (λ (l : List Call). l ++ left_of after c) (sym (more c));
         none = λ goes. refl;
       }
 
@@ -60,14 +60,14 @@ module _ (lines : ℕ → List Call) (left : List CallList) (history : List Entr
       pub next_lost : ((c : ℕ) → calls_of c new ≡ calls_of c history) → AreMade true lines after new
       next_lost same = record {
         lost = Some (record { caller = d; call = call });
-        parted = λ c. parted_now c ∙ ap (λ (l : List Call). l ++ ((if d == c then call ∷ [] else []) ++ lines_of after c)) (sym (same c));
+        parted = λ c. parted_now c ∙ ap (λ (l : List Call). l ++ ((if d == c then call ∷ [] else []) ++ left_of after c)) (sym (same c));
         none = λ goes. let wrong : true ≡ false = goes in cc wrong;
       }
 
   -- a caller had none left
-  pub none_next : (d : ℕ) (stopped : Bool) (after : List CallList) → AreMade stopped lines left history → lines_of left d ≡ [] → lines_of after d ≡ [] → ((c : ℕ) → c ≢ d → lines_of after c ≡ lines_of left c) → AreMade stopped lines after history
+  pub none_next : (d : ℕ) (stopped : Bool) (after : List CallList) → AreMade stopped lines left history → left_of left d ≡ [] → left_of after d ≡ [] → ((c : ℕ) → c ≢ d → left_of after c ≡ left_of left c) → AreMade stopped lines after history
   none_next d stopped after made before behind others = record { lost = made.lost; parted = λ c. made.parted c ∙ ap (λ (l : List Call). calls_of c history ++ (lost_by c made.lost ++ l)) (sym (all c (d == c) refl)); none = made.none }
     where
-      all : (c : ℕ) (b : Bool) → (d == c) ≡ b → lines_of after c ≡ lines_of left c
-      all c true is = let e : d ≡ c = grind (arith, nat_tests) in ap (λ (k : ℕ). lines_of after k) (sym e) ∙ behind ∙ sym before ∙ ap (λ (k : ℕ). lines_of left k) e
+      all : (c : ℕ) (b : Bool) → (d == c) ≡ b → left_of after c ≡ left_of left c
+      all c true is = let e : d ≡ c = grind (arith, nat_tests) in ap (λ (k : ℕ). left_of after k) (sym e) ∙ behind ∙ sym before ∙ ap (λ (k : ℕ). left_of left k) e
       all c false is = let ne : c ≢ d = grind (arith, nat_tests) in others c ne

@@ -8,5 +8,5 @@ lines_in None = []
 lines_in (Some l) = l.calls.items
 
 -- the calls that the caller is still to make: its list stands at its number
-abbrev pub lines_of : List CallList → ℕ → List Call
-lines_of lists c = lines_in (slice_get lists c)
+abbrev pub left_of : List CallList → ℕ → List Call
+left_of lists c = lines_in (slice_get lists c)

@@ -9,7 +9,7 @@ use Rattle.plain_model.specs.declared.entries.Answer.TheVariants.{Call as Replie
 use Rattle.plain_model.specs.declared.entries.Entry.{Entry}
 use Rattle.plain_model.specs.Own.{is_caller, own}
 use Rattle.plain_model.specs.PlainFold.{is_waiting}
-use Rattle.call_lists.specs.Lines.{lines_of}
+use Rattle.call_lists.specs.Lines.{left_of}
 use Rattle.call_lists.specs.declared.lists.CallList.{CallList}
 
 -- ---- by the history
@@ -45,5 +45,5 @@ lost_by c (Some l) = if l.caller == c then l.call ∷ [] else []
 -- only one: of its caller it stands at that place.
 pub record AreMade (stopped : Bool) (lines : ℕ → List Call) (left : List CallList) (history : List Entry) : Type 0 where
   pub lost : Option Lost
-  pub parted : (c : ℕ) → lines c ≡ calls_of c history ++ (lost_by c lost ++ lines_of left c)
+  pub parted : (c : ℕ) → lines c ≡ calls_of c history ++ (lost_by c lost ++ left_of left c)
   pub none : stopped ≡ false → lost ≡ None

@@ -1,7 +1,7 @@
 //! The callers' lists.
 ghost use Rattle.std.specs.Prelude.{◌≡◌, ◌≢◌, ◌+◌, ◌++◌, ◌∷◌, [], ℕ, length, IfOk, IfNone, IfSome, OnOk, OnErr};
 ghost use Rattle.hsm_types.specs.Limits.{callers};
-ghost use Rattle.call_lists.specs.Lines.{lines_of};
+ghost use Rattle.call_lists.specs.Lines.{left_of};
 
 use hsm_types::{CALLERS, Call, CallerId};
 use std::alloc::{AllocError, Global};
@@ -36,7 +36,7 @@ impl Model for CallLists {
 impl CallLists {
     /// No caller has a call.
     pub fn new(alloc: Global) -> Result<CallLists, AllocError>
-        ensures { IfOk result (λ lists. (c : ℕ) → lines_of lists c ≡ []) }
+        ensures { IfOk result (λ lists. (c : ℕ) → left_of lists c ≡ []) }
     {
         let lists = no_calls(alloc)?;
         Ok(CallLists { lists })
@@ -44,9 +44,9 @@ impl CallLists {
 
     /// Puts the call behind those of the caller. Where memory is wanting nothing changes.
     pub fn add(&mut self, caller: CallerId, call: Call) -> Result<(), AllocError>
-        ensures added { OnOk result (lines_of self.new caller ≡ lines_of self.old caller ++ call ∷ []) }
-        ensures kept { OnErr result (lines_of self.new caller ≡ lines_of self.old caller) }
-        ensures others { (c : ℕ) → c ≢ caller → lines_of self.new c ≡ lines_of self.old c }
+        ensures added { OnOk result (left_of self.new caller ≡ left_of self.old caller ++ call ∷ []) }
+        ensures kept { OnErr result (left_of self.new caller ≡ left_of self.old caller) }
+        ensures others { (c : ℕ) → c ≢ caller → left_of self.new c ≡ left_of self.old c }
     {
         self.lists[caller.number() as usize].calls.push_back(call)?;
         Ok(())
@@ -54,9 +54,9 @@ impl CallLists {
 
     /// Takes the next call of the caller off its list.
     pub fn next(&mut self, caller: CallerId) -> Option<Call>
-        ensures taken { IfSome result (λ call. lines_of self.old caller ≡ call ∷ lines_of self.new caller) }
-        ensures none { IfNone result ((lines_of self.old caller ≡ []) × (lines_of self.new caller ≡ [])) }
-        ensures others { (c : ℕ) → c ≢ caller → lines_of self.new c ≡ lines_of self.old c }
+        ensures taken { IfSome result (λ call. left_of self.old caller ≡ call ∷ left_of self.new caller) }
+        ensures none { IfNone result ((left_of self.old caller ≡ []) × (left_of self.new caller ≡ [])) }
+        ensures others { (c : ℕ) → c ≢ caller → left_of self.new c ≡ left_of self.old c }
     {
         self.lists[caller.number() as usize].calls.pop_front()
     }
@@ -65,7 +65,7 @@ impl CallLists {
 /// An empty list for each number, and one for 0.
 #[tactic(auto, using(crate::proofs::Emptying::none_more))]
 fn no_calls(alloc: Global) -> Result<Vec<CallList>, AllocError>
-    ensures empty { IfOk result (λ lists. (c : ℕ) → lines_of lists.items c ≡ []) }
+    ensures empty { IfOk result (λ lists. (c : ℕ) → left_of lists.items c ≡ []) }
     ensures all { IfOk result (λ lists. length lists.items ≡ callers + 1) }
 {
     let count = u64::from(CALLERS) + 1;

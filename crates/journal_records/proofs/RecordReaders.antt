@@ -19,13 +19,13 @@ use Rattle.journal_records.specs.Reading.{make_at, size_at, map_at, regions_at, 
 use Rattle.journal_records.proofs.Readers.{IsBytes, Takes, IsReader, IsWide, refit, wide1, wide2, wide4, wide8, number_reads, bytes_read}
 use Rattle.journal_records.proofs.Readers.{several_read, both_read, made_reads, counted_reads}
 
-long_reads : IsReader (number_at 8) (big_bytes 8) (λ x. x < 2 ^ 64)
+pub long_reads : IsReader (number_at 8) (big_bytes 8) (λ x. x < 2 ^ 64)
 long_reads = number_reads wide8
 
-int_reads : IsReader (number_at 4) (big_bytes 4) (λ x. x < 2 ^ 32)
+pub int_reads : IsReader (number_at 4) (big_bytes 4) (λ x. x < 2 ^ 32)
 int_reads = number_reads wide4
 
-listed_read : {X : Type 0} {n : ℕ} {reader : List ℕ → Option (X × List ℕ)} {text : X → List ℕ} {Fit : X → Type 0} → IsWide n → IsReader reader text Fit
+pub listed_read : {X : Type 0} {n : ℕ} {reader : List ℕ → Option (X × List ℕ)} {text : X → List ℕ} {Fit : X → Type 0} → IsWide n → IsReader reader text Fit
     → IsReader (counted n (several reader)) (counted_bytes n text) (λ xs. (length xs < 256 ^ n) × AllByRecursion Fit xs)
 listed_read wide p = counted_reads (λ xs. length xs) wide (several_read p)
 
@@ -34,7 +34,7 @@ unfolding region_at
 region_reads =
     made_reads (both_read (both_read long_reads long_reads) (number_reads wide1)) (λ r. ((r.offset, r.size), r.flags)) (λ r. refl) (λ n. refl) (λ n fit. (fit.0.0, fit.0.1, fit.1)) (λ r fit. ((fit.0, fit.1), fit.2))
 
-attr_name_reads : IsReader attr_name_at (λ a. a.0) (λ a. length a.0 ≡ 8)
+pub attr_name_reads : IsReader attr_name_at (λ a. a.0) (λ a. length a.0 ≡ 8)
 unfolding attr_name_at
 attr_name_reads = made_reads (bytes_read 8) (λ a. a.0) (λ a. refl) (λ bytes. refl) (λ bytes fit. fit.0) (λ a fit. (fit, tt))
 
@@ -42,7 +42,7 @@ print_reads : IsReader print_at (λ p. big_bytes 4 p.len ++ p.digest.0) (λ p. (
 unfolding print_at
 print_reads = made_reads (both_read int_reads (bytes_read 32)) (λ p. (p.len, p.digest.0)) (λ p. refl) (λ n. refl) (λ n fit. (fit.0, fit.1.0)) (λ p fit. (fit.0, (fit.1, tt)))
 
-entry_reads : IsReader entry_in entry_bytes EntryFits
+pub entry_reads : IsReader entry_in entry_bytes EntryFits
 unfolding entry_in
 entry_reads =
     made_reads (both_read (both_read int_reads int_reads) print_reads) (λ e. (((entry_place e).volume, (entry_place e).object), entry_print e)) (λ e. refl) (λ p. refl)
@@ -107,16 +107,16 @@ made_takes : {A : Type 0} {reader : List ℕ → Option (A × List ℕ)} {text :
 unfolding made
 made_takes p make tag ino m bytes ok = grind (arith, p.takes bytes ok, m.tag_is, m.ino_is, m.text_is, m.fits)
 
-name_reads : IsReader (counted 1 bytes_at) (sized_bytes 1) (λ x. length x < 2 ^ 8)
+pub name_reads : IsReader (counted 1 bytes_at) (sized_bytes 1) (λ x. length x < 2 ^ 8)
 name_reads = refit (counted_reads (λ bytes. length bytes) wide1 bytes_read) (λ x fit. fit.0) (λ x fit. (fit, tt))
 
-value_reads : IsReader (counted 2 bytes_at) (sized_bytes 2) (λ x. length x < 2 ^ 16)
+pub value_reads : IsReader (counted 2 bytes_at) (sized_bytes 2) (λ x. length x < 2 ^ 16)
 value_reads = refit (counted_reads (λ bytes. length bytes) wide2 bytes_read) (λ x fit. fit.0) (λ x fit. (fit, tt))
 
 places_read : IsReader (counted 1 (several (number_at 4))) (counted_bytes 1 (big_bytes 4)) (λ xs. (length xs < 2 ^ 8) × AllByRecursion (λ p. p < 2 ^ 32) xs)
 places_read = listed_read wide1 int_reads
 
-regions_read : IsReader (counted 1 (several region_at)) (counted_bytes 1 region_bytes) (λ xs. (length xs < 2 ^ 8) × AllByRecursion RegionFits xs)
+pub regions_read : IsReader (counted 1 (several region_at)) (counted_bytes 1 region_bytes) (λ xs. (length xs < 2 ^ 8) × AllByRecursion RegionFits xs)
 regions_read = listed_read wide1 region_reads
 
 make_parts : IsReader (both (number_at 8) (counted 1 bytes_at)) (λ x. big_bytes 8 x.0 ++ sized_bytes 1 x.1) (λ x. (x.0 < 2 ^ 64) × (length x.1 < 2 ^ 8))

@@ -1,4 +1,4 @@
--- Reading the text of a record from left to right. A reader takes a value from the front of some bytes, and gives it with the bytes after it.
+-- Reading the text of a record or a snapshot from left to right. A reader takes a value from the front of some bytes, and gives it with the bytes after it.
 use Rattle.std.specs.Prelude.{◌≡◌, ℕ, zero, suc, List, [], ◌∷◌, length, take, drop, true, false, Option, Some, None, Result, Ok, Err, ◌==◌}
 use Rattle.std.specs.Prelude.{nat_lt, if◌then◌else◌}
 use Rattle.byteorder.specs.Endian.{big_number}

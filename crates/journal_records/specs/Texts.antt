@@ -89,8 +89,11 @@ abbrev pub RegionFits : Region → Type 0
 RegionFits r = (r.offset < 2 ^ 64) × (r.size < 2 ^ 64) × (r.flags < 2 ^ 8)
 
 -- a digest has 32 bytes
-abbrev pub EntryFits : StubEntry → Type 0
-EntryFits e = ((entry_place e).volume < 2 ^ 32) × ((entry_place e).object < 2 ^ 32) × ((entry_print e).len < 2 ^ 32) × (length (entry_print e).digest.0 ≡ 32)
+pub record EntryFits (e : StubEntry) : Type 0 where
+  pub volume : (entry_place e).volume < 2 ^ 32
+  pub object : (entry_place e).object < 2 ^ 32
+  pub len : (entry_print e).len < 2 ^ 32
+  pub digest : length (entry_print e).digest.0 ≡ 32
 
 abbrev pub StubFits : Option StubOf → Type 0
 StubFits None = Unit {0}

@@ -1,4 +1,4 @@
-//! The fields of a record: each function reads one from the front of some bytes, and gives it with the bytes after it.
+//! The fields of a record or a snapshot: each function reads one from the front of some bytes, and gives it with the bytes after it.
 ghost use Rattle.journal_records.specs.Reading.{Gives, number_at, bytes_at, several, counted, region_at, attr_name_at, print_at, entry_in, stub_in, stub_for};
 
 use crate::records::Places;
@@ -13,12 +13,13 @@ use std::alloc::Global;
 pub(crate) const RESIDENT: u8 = 0;
 
 /// The state of a segment that has its bytes and an entry.
-pub(crate) const SEALED: u8 = 1;
+pub const SEALED: u8 = 1;
 
 /// The state of a segment that has an entry in the place of its bytes.
-pub(crate) const OFFLINE: u8 = 2;
+pub const OFFLINE: u8 = 2;
 
-pub(crate) fn u8_at(bytes: &[u8]) -> Result<(u8, &[u8]), Unread>
+/// A number of one byte.
+pub fn u8_at(bytes: &[u8]) -> Result<(u8, &[u8]), Unread>
     ensures { Gives (λ x. (x.0, x.1.now)) result (number_at 1 bytes.now) }
 {
     if bytes.is_empty() {
@@ -36,7 +37,8 @@ fn u16_at(bytes: &[u8]) -> Result<(u16, &[u8]), Unread>
     Ok((BigEndian::read_u16(bytes), &bytes[2..]))
 }
 
-pub(crate) fn u32_at(bytes: &[u8]) -> Result<(u32, &[u8]), Unread>
+/// A number of four bytes.
+pub fn u32_at(bytes: &[u8]) -> Result<(u32, &[u8]), Unread>
     ensures { Gives (λ x. (x.0, x.1.now)) result (number_at 4 bytes.now) }
 {
     if bytes.len() < 4 {
@@ -45,7 +47,8 @@ pub(crate) fn u32_at(bytes: &[u8]) -> Result<(u32, &[u8]), Unread>
     Ok((BigEndian::read_u32(bytes), &bytes[4..]))
 }
 
-pub(crate) fn u64_at(bytes: &[u8]) -> Result<(u64, &[u8]), Unread>
+/// A number of eight bytes.
+pub fn u64_at(bytes: &[u8]) -> Result<(u64, &[u8]), Unread>
     ensures { Gives (λ x. (x.0, x.1.now)) result (number_at 8 bytes.now) }
 {
     if bytes.len() < 8 {
@@ -65,8 +68,9 @@ fn bytes_at(alloc: Global, len: usize, bytes: &[u8]) -> Result<(Vec<u8>, &[u8]),
     Ok((Vec::from_slice(alloc, front)?, rest))
 }
 
+/// A name, of as many bytes as the one before it says.
 #[tactic(auto, unfolding(crate::specs::Reading::counted))]
-pub(crate) fn name_at(alloc: Global, bytes: &[u8]) -> Result<(Word, &[u8]), Unread>
+pub fn name_at(alloc: Global, bytes: &[u8]) -> Result<(Word, &[u8]), Unread>
     ensures { Gives (λ x. (x.0, x.1.now)) result (counted 1 bytes_at bytes.now) }
 {
     let (len, rest) = u8_at(bytes)?;
@@ -74,8 +78,9 @@ pub(crate) fn name_at(alloc: Global, bytes: &[u8]) -> Result<(Word, &[u8]), Unre
     Ok((Word::from(name), rest))
 }
 
+/// The value of an attribute, of as many bytes as the two before it say.
 #[tactic(auto, unfolding(crate::specs::Reading::counted))]
-pub(crate) fn value_at(alloc: Global, bytes: &[u8]) -> Result<(Bytes, &[u8]), Unread>
+pub fn value_at(alloc: Global, bytes: &[u8]) -> Result<(Bytes, &[u8]), Unread>
     ensures { Gives (λ x. (x.0, x.1.now)) result (counted 2 bytes_at bytes.now) }
 {
     let (len, rest) = u16_at(bytes)?;
@@ -83,8 +88,9 @@ pub(crate) fn value_at(alloc: Global, bytes: &[u8]) -> Result<(Bytes, &[u8]), Un
     Ok((Bytes::from(value), rest))
 }
 
+/// The name of an attribute.
 #[tactic(auto, unfolding(crate::specs::Reading::made, crate::specs::Reading::attr_name_at))]
-pub(crate) fn attr_name_at(bytes: &[u8]) -> Result<(AttrName, &[u8]), Unread>
+pub fn attr_name_at(bytes: &[u8]) -> Result<(AttrName, &[u8]), Unread>
     ensures { Gives (λ x. (x.0, x.1.now)) result (attr_name_at bytes.now) }
 {
     if bytes.len() < 8 {
@@ -126,7 +132,7 @@ fn several_regions(alloc: Global, count: u8, bytes: &[u8]) -> Result<(Vec<Region
 
 /// The count of regions, and the regions.
 #[tactic(auto, unfolding(crate::specs::Reading::counted))]
-pub(crate) fn regions_at(alloc: Global, bytes: &[u8]) -> Result<(Regions, &[u8]), Unread>
+pub fn regions_at(alloc: Global, bytes: &[u8]) -> Result<(Regions, &[u8]), Unread>
     ensures { Gives (λ x. (x.0, x.1.now)) result (counted 1 (several region_at) bytes.now) }
 {
     let (count, rest) = u8_at(bytes)?;
@@ -178,8 +184,9 @@ fn print_at(bytes: &[u8]) -> Result<(Fingerprint, &[u8]), Unread>
     Ok((Fingerprint { len, digest }, rest))
 }
 
+/// A stub entry.
 #[tactic(auto, unfolding(crate::specs::Reading::made, crate::specs::Reading::both, crate::specs::Reading::entry_in))]
-fn entry_in(bytes: &[u8]) -> Result<(StubEntry, &[u8]), Unread>
+pub fn entry_in(bytes: &[u8]) -> Result<(StubEntry, &[u8]), Unread>
     ensures { Gives (λ x. (x.0, x.1.now)) result (entry_in bytes.now) }
 {
     let (volume, rest) = u32_at(bytes)?;

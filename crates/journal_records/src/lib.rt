@@ -10,8 +10,11 @@ mod records;
 mod refusals;
 mod spelling;
 
+pub use fields::{
+    OFFLINE, SEALED, attr_name_at, entry_in, name_at, regions_at, u8_at, u32_at, u64_at, value_at,
+};
 pub use laws::{one_list, one_record};
 pub use reading::{read, read_all};
 pub use records::{Places, Record, Records};
-pub use refusals::RecordRefusal;
-pub use spelling::{size, spell};
+pub use refusals::{RecordRefusal, Unread};
+pub use spelling::{size, spell, spell_region};

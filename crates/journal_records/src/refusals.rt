@@ -18,7 +18,7 @@ pub enum RecordRefusal {
 
 /// Why bytes weren't read as what they should be.
 #[derive(Clone, Copy, PartialEq, Eq)]
-pub(crate) enum Unread {
+pub enum Unread {
     /// They are the text of no such thing.
     Bad,
     Memory,

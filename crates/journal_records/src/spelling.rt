@@ -31,7 +31,7 @@ pub(crate) const STUB: u8 = 8;
 /// The bytes of a tag and an inode.
 const HEAD: usize = 9;
 
-/// The bytes of a region.
+/// How many bytes a region has.
 const REGION: usize = 17;
 
 /// The bytes of a stub entry before its digest.
@@ -195,7 +195,8 @@ fn put_places(out: &mut [u8], at: usize, places: &[u32]) -> usize
     end
 }
 
-fn spell_region(region: Region) -> [u8; REGION]
+/// The bytes of a region.
+pub fn spell_region(region: Region) -> [u8; REGION]
     ensures bytes { result ≡ region_bytes region }
     ensures fits { RegionFits region }
 {

@@ -19,7 +19,8 @@ use Rattle.snapshot_text.specs.declared.snapshot.Mapping.{Mapping}
 use Rattle.snapshot_text.specs.Files.{CatalogFile, StubFits, IsCatalogStub, IsCatalogFile, geometry_of, present}
 use Rattle.meta_store.specs.Catalogs.{Catalog, IsCatalog, blocks_of}
 use Rattle.meta_store.specs.Catalogs.{names_of, attribute_total, stub_total}
-use Rattle.snapshot_text.specs.Snapshots.{region_bytes, extent_bytes, stub_bytes, bytes_of_file, extents_from, spelling, snapshot_file}
+use Rattle.journal_records.specs.Texts.{region_bytes}
+use Rattle.snapshot_text.specs.Snapshots.{extent_bytes, stub_bytes, bytes_of_file, extents_from, spelling, snapshot_file}
 use Rattle.meta_store.specs.Snapshots.{snapshot_of}
 use Rattle.snapshot_text.specs.Snapshots.{ExtentFits, FileFits, Fits}
 use Rattle.snapshot_text.proofs.SpreadPlaces.{present-few, length-extents}
@@ -132,7 +133,7 @@ length-mappings (e ∷ es) = omega (arith, length-append (extent_bytes e) (flat_
 
 length-stubs : (stubs : Stubs) → AllByRecursion StubFits stubs → length (flat_map stub_bytes stubs) ≡ 49 * length stubs
 length-stubs [] fit = refl
-length-stubs (x ∷ stubs) fit = simp length-append (omega (arith, fit.0.digest, length-stubs stubs fit.1))
+length-stubs (x ∷ stubs) fit = simp length-append (omega (arith, fit.0.entry.digest, length-stubs stubs fit.1))
 
 -- what a file has in a snapshot beside its extents, attributes and stub entries, at most: its name, its regions, and fields of 38 bytes
 abbrev most_beside : ℕ

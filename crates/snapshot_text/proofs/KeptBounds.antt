@@ -12,7 +12,8 @@ use Rattle.hsm_types.specs.Attributes.{Attributes, AreAttributes, setting_refusa
 use Rattle.std.proofs.lemmas.List.Elements.{recursion_from_All}
 use Rattle.hsm_types.proofs.Limiting.{regions_countable}
 use Rattle.snapshot_text.proofs.EachOf.{each-as, each-and, map-each}
-use Rattle.snapshot_text.specs.Snapshots.{attribute_bytes, RegionFits, AttributeFits}
+use Rattle.journal_records.specs.Texts.{RegionFits}
+use Rattle.snapshot_text.specs.Snapshots.{attribute_bytes, AttributeFits}
 
 pub regions-few : (limits : Limits) → IsCountable limits → (rs : List Region) → regions_refusal limits rs ≡ None → length rs ≤ file_regions
 regions-few limits countable rs lawful = let none = regions_countable limits countable rs lawful in grind arith

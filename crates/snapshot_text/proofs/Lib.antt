@@ -1,6 +1,4 @@
 pub mod EachOf
-pub mod ReadValues
-pub mod Readers
 pub mod ReadSnapshots
 pub mod KeptBounds
 pub mod KeptAttributes

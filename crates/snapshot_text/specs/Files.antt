@@ -16,6 +16,7 @@ use Rattle.hsm_types.specs.Kept.{Kept}
 use Rattle.hsm_types.specs.Stubs.{FitsFile, entry_place, entry_print, entry_at}
 use Rattle.hsm_types.specs.declared.stubs.Stub.{Stub}
 use Rattle.plain_model.specs.Blocks.{blocks_in}
+use Rattle.journal_records.specs.Texts.{EntryFits}
 
 -- a file: its key, its name, its size, for each of its blocks which block of the disk has it, where a hole has none, and what sessions keep with it
 pub record CatalogFile : Type 0 where
@@ -39,13 +40,10 @@ present (Some at ∷ places) = at ∷ present places
 abbrev pub places_in_segment : ℕ → List (Option ℕ) → List (Option ℕ)
 places_in_segment j places = take segment_blocks (drop (segment_blocks * j) places)
 
--- each number of a stub entry is one that its field can hold, and its digest has 32 bytes
+-- each number of a segment and its entry is one that its field can hold
 pub record StubFits (x : ℕ × Stub) : Type 0 where
   pub segment : x.0 < 2 ^ 32
-  pub volume : (entry_place x.1.entry).volume < 2 ^ 32
-  pub object : (entry_place x.1.entry).object < 2 ^ 32
-  pub len : (entry_print x.1.entry).len < 2 ^ 32
-  pub digest : length (entry_print x.1.entry).digest.0 ≡ 32
+  pub entry : EntryFits x.1.entry
 
 -- the entry with the length of its segment of a file of that size
 abbrev pub with_length : ℕ → ℕ × Stub → ℕ × Stub

@@ -1,13 +1,12 @@
 -- The bytes of a snapshot.
-use Rattle.std.specs.Prelude.{◌≡◌, ℕ, ◌+◌, ◌<◌, ◌^◌, List, [], ◌∷◌, ◌++◌, length, map, Bool, if◌then◌else◌, Option, Some, None}
-use Rattle.std.specs.List.{flat_map, AllByRecursion}
+use Rattle.std.specs.Prelude.{◌≡◌, ℕ, ◌+◌, ◌<◌, ◌^◌, List, [], ◌∷◌, ◌++◌, length, map, Option, Some, None}
+use Rattle.std.specs.List.{AllByRecursion}
 use Rattle.byteorder.specs.Endian.{big_bytes}
 use Rattle.hsm_types.specs.declared.keys.FileKey.{FileKey}
-use Rattle.hsm_types.specs.declared.regions.Region.{Region}
 use Rattle.hsm_types.specs.declared.attributes.AttrName.{AttrName}
 use Rattle.hsm_types.specs.Kept.{Kept}
 use Rattle.hsm_types.specs.declared.stubs.Stub.{Stub}
-use Rattle.hsm_types.specs.Stubs.{entry_place, entry_print}
+use Rattle.journal_records.specs.Texts.{sized_bytes, counted_bytes, region_bytes, entry_bytes, state_of, RegionFits}
 use Rattle.snapshot_text.specs.declared.snapshot.Mapping.{Mapping}
 use Rattle.snapshot_text.specs.declared.snapshot.RawFile.{RawFile}
 use Rattle.snapshot_text.specs.declared.snapshot.RawSnapshot.{RawSnapshot}
@@ -29,7 +28,7 @@ pub record Snapshot : Type 0 where
 
 -- the snapshot that was read
 abbrev pub raw_file : RawFile → SnapshotFile
-raw_file f = record { key = f.key; size = f.size; name = f.name; kept = record { regions = f.regions.items; attributes = f.attributes.items; stubs = f.stubs.items }; extents = f.extents.items }
+raw_file f = record { key = f.key; size = f.size; name = f.name; kept = record { regions = f.regions; attributes = f.attributes.items; stubs = f.stubs.items }; extents = f.extents.items }
 
 abbrev pub raw_snapshot : RawSnapshot → Snapshot
 raw_snapshot s = record { number = s.number; next = s.next; files = map raw_file s.files.items }
@@ -42,29 +41,18 @@ key_bytes k = big_bytes 8 k.ino ++ big_bytes 8 k.igen
 abbrev pub extent_bytes : Mapping → List ℕ
 extent_bytes e = big_bytes 4 e.block ++ big_bytes 4 e.place
 
-abbrev pub region_bytes : Region → List ℕ
-region_bytes r = big_bytes 8 r.offset ++ big_bytes 8 r.size ++ big_bytes 1 r.flags
-
 -- the name of an attribute has eight bytes, and its value its length in front
 abbrev pub attribute_bytes : AttrName × List ℕ → List ℕ
-attribute_bytes a = a.0.0 ++ (big_bytes 2 (length a.1) ++ a.1)
+attribute_bytes a = a.0.0 ++ sized_bytes 2 a.1
 
--- a sealed segment has the state 1, and one that is offline 2
-abbrev pub state_of : Bool → ℕ
-state_of offline = if offline then 2 else 1
-
--- a segment with its state and its entry, whose digest has 32 bytes
+-- a segment with its state and its entry
 abbrev pub stub_bytes : ℕ × Stub → List ℕ
-stub_bytes x = big_bytes 4 x.0 ++ big_bytes 1 (state_of x.1.offline) ++ big_bytes 4 (entry_place x.1.entry).volume ++ big_bytes 4 (entry_place x.1.entry).object ++ big_bytes 4 (entry_print x.1.entry).len ++ (entry_print x.1.entry).digest.0
-
--- a number of n bytes that says how many there are, and each
-abbrev pub counted_bytes : {X : Type 0} → ℕ → (X → List ℕ) → List X → List ℕ
-counted_bytes n text xs = big_bytes n (length xs) ++ flat_map text xs
+stub_bytes x = big_bytes 4 x.0 ++ big_bytes 1 (state_of x.1.offline) ++ entry_bytes x.1.entry
 
 unfoldable pub bytes_of_file : SnapshotFile → List ℕ
 bytes_of_file f =
     key_bytes f.key ++ big_bytes 8 f.size
-    ++ (big_bytes 1 (length f.name) ++ f.name)
+    ++ sized_bytes 1 f.name
     ++ counted_bytes 1 region_bytes f.kept.regions
     ++ counted_bytes 4 attribute_bytes f.kept.attributes
     ++ counted_bytes 4 extent_bytes f.extents
@@ -73,9 +61,6 @@ bytes_of_file f =
 -- The format is 1.
 unfoldable pub spelling : Snapshot → List ℕ
 spelling s = big_bytes 8 s.number ++ big_bytes 8 s.next ++ big_bytes 4 1 ++ counted_bytes 4 bytes_of_file s.files
-
-abbrev pub RegionFits : Region → Type 0
-RegionFits r = (r.offset < 2 ^ 64) × (r.size < 2 ^ 64) × (r.flags < 2 ^ 8)
 
 abbrev pub AttributeFits : AttrName × List ℕ → Type 0
 AttributeFits a = (length a.0.0 ≡ 8) × (length a.1 < 2 ^ 16)

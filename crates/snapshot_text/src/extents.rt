@@ -22,7 +22,7 @@ pub fn are_extents(extents: &[Mapping], count: u32, blocks: u32) -> bool
     true
 }
 
-/// Flags the places of extents, each of which must be free. At `false` one was not, and of the others some may be flagged.
+/// Flags the places of extents, each of which must be free. At `false` one was not, and nothing is said of the flags.
 pub fn claim(flags: &mut [bool], extents: &[Mapping]) -> bool
     requires { AllByRecursion (λ e. e.place < length flags.old) extents.now }
     ensures free { result ≡ are_free (places_of extents.now) flags.old }

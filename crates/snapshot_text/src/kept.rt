@@ -9,7 +9,7 @@ ghost use Rattle.snapshot_text.specs.FileValidity.{are_regions, stands_behind, a
 
 use crate::snapshot::ReadRefusal;
 use dm_attrs::DmAttrs;
-use hsm_types::{AttrName, Bytes, DmRefusal, Limits, Region, Regions};
+use hsm_types::{AttrName, Bytes, DmRefusal, Limits, Regions};
 use managed_regions::ManagedRegions;
 use std::alloc::Global;
 use std::cmp::Ordering;
@@ -36,15 +36,15 @@ pub(crate) fn refusal_of(why: DmRefusal) -> ReadRefusal
 pub(crate) fn regions_of(
     alloc: Global,
     limits: Limits,
-    regions: Vec<Region>,
+    regions: Regions,
 ) -> Result<ManagedRegions, ReadRefusal>
     requires { IsCountable limits }
-    ensures lawful { OnOk result (are_regions limits regions.items ≡ true) }
-    ensures ok { IfOk result (λ kept. kept ≡ regions.items) }
-    ensures corrupt { IsErrOf result ReadRefusal.Corrupt → are_regions limits regions.items ≡ false }
+    ensures lawful { OnOk result (are_regions limits regions ≡ true) }
+    ensures ok { IfOk result (λ kept. kept ≡ regions) }
+    ensures corrupt { IsErrOf result ReadRefusal.Corrupt → are_regions limits regions ≡ false }
 {
     let mut kept = ManagedRegions::new(alloc);
-    match kept.set(limits, Regions::from(regions)) {
+    match kept.set(limits, regions) {
         Ok(()) => Ok(kept),
         Err(why) => Err(refusal_of(why)),
     }

@@ -13,7 +13,7 @@ use crate::file_places::FilePlaces;
 use crate::kept::{attributes_of, regions_of};
 use crate::kept_stubs::stubs_of;
 use crate::snapshot::{RawFile, ReadRefusal};
-use hsm_types::{FILE_BYTES, Limits};
+use hsm_types::{FILE_BYTES, Limits, Regions};
 use std::alloc::Global;
 use std::mem;
 
@@ -41,7 +41,7 @@ pub fn parts_of(
 {
     let size = file.size;
     let places = FilePlaces::of(alloc, size, file.extents.as_slice())?;
-    let spelled = mem::replace(&mut file.regions, Vec::new(alloc));
+    let spelled = mem::replace(&mut file.regions, Regions::from(Vec::new(alloc)));
     let regions = regions_of(alloc, limits, spelled)?;
     let entries = file.stubs.as_slice();
     let stubs = stubs_of(alloc, size, &regions, &places, entries, stub_room)?;

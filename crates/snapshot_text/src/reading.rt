@@ -1,37 +1,21 @@
 //! Reading a snapshot's bytes.
 ghost use Rattle.std.specs.Prelude.{◌≡◌, map, IfOk, IsErrOf};
 ghost use Rattle.snapshot_text.specs.Snapshots.{Snapshot, IsSpelled, raw_file, raw_snapshot};
-ghost use Rattle.snapshot_text.specs.Reading.{Gives, both, number_at, bytes_at, several, counted, key_at, region_at, attribute_at, extent_at, stub_in};
-ghost use Rattle.snapshot_text.specs.Reading.{file_at, snapshot_at};
+ghost use Rattle.journal_records.specs.Reading.{Gives, both, number_at, bytes_at, several, counted};
+ghost use Rattle.snapshot_text.specs.Reading.{key_at, attribute_at, extent_at, stub_in, file_at, snapshot_at};
 
-use crate::fields::{
-    attribute_at, extent_at, key_at, name_at, only_u32_at, region_at, stub_in, u8_at, u32_at,
-    u64_at,
-};
+use crate::fields::{attribute_at, extent_at, key_at, only_u32_at, stub_in};
 use crate::snapshot::{FORMAT, Mapping, RawFile, RawSnapshot, ReadRefusal};
-use hsm_types::{AttrName, Bytes, FileKey, Region, Stub, Word};
+use hsm_types::{AttrName, Bytes, FileKey, Stub, Word};
+use journal_records::{Unread, name_at, regions_at, u32_at, u64_at};
 use std::alloc::Global;
 
-#[tactic(auto, using(crate::proofs::ReadValues::read_steps))]
-fn regions_of(alloc: Global, count: u8, bytes: &[u8]) -> Result<(Vec<Region>, &[u8]), ReadRefusal>
-    ensures { Gives (λ x. (x.0.items, x.1.now)) result (several region_at count bytes.now) }
-{
-    let mut regions = Vec::new(alloc);
-    let mut rest = bytes;
-    for _ in 0..count {
-        let (region, after) = region_at(rest)?;
-        regions.push(region)?;
-        rest = after;
-    }
-    Ok((regions, rest))
-}
-
-#[tactic(auto, using(crate::proofs::ReadValues::read_steps))]
+#[tactic(auto, using(journal_records::proofs::ReadValues::read_steps))]
 fn attributes_of(
     alloc: Global,
     count: u32,
     bytes: &[u8],
-) -> Result<(Vec<(AttrName, Bytes)>, &[u8]), ReadRefusal>
+) -> Result<(Vec<(AttrName, Bytes)>, &[u8]), Unread>
     ensures { Gives (λ x. (x.0.items, x.1.now)) result (several attribute_at count bytes.now) }
 {
     let mut attributes = Vec::new(alloc);
@@ -44,8 +28,8 @@ fn attributes_of(
     Ok((attributes, rest))
 }
 
-#[tactic(auto, using(crate::proofs::ReadValues::read_steps))]
-fn extents_of(alloc: Global, count: u32, bytes: &[u8]) -> Result<(Vec<Mapping>, &[u8]), ReadRefusal>
+#[tactic(auto, using(journal_records::proofs::ReadValues::read_steps))]
+fn extents_of(alloc: Global, count: u32, bytes: &[u8]) -> Result<(Vec<Mapping>, &[u8]), Unread>
     ensures { Gives (λ x. (x.0.items, x.1.now)) result (several extent_at count bytes.now) }
 {
     let mut extents = Vec::new(alloc);
@@ -58,12 +42,8 @@ fn extents_of(alloc: Global, count: u32, bytes: &[u8]) -> Result<(Vec<Mapping>, 
     Ok((extents, rest))
 }
 
-#[tactic(auto, using(crate::proofs::ReadValues::read_steps))]
-fn stubs_of(
-    alloc: Global,
-    count: u32,
-    bytes: &[u8],
-) -> Result<(Vec<(u32, Stub)>, &[u8]), ReadRefusal>
+#[tactic(auto, using(journal_records::proofs::ReadValues::read_steps))]
+fn stubs_of(alloc: Global, count: u32, bytes: &[u8]) -> Result<(Vec<(u32, Stub)>, &[u8]), Unread>
     ensures { Gives (λ x. (x.0.items, x.1.now)) result (several stub_in count bytes.now) }
 {
     let mut stubs = Vec::new(alloc);
@@ -76,21 +56,9 @@ fn stubs_of(
     Ok((stubs, rest))
 }
 
-/// The count of a file's regions, and the regions.
-#[tactic(auto, unfolding(crate::specs::Reading::counted))]
-fn regions_at(alloc: Global, bytes: &[u8]) -> Result<(Vec<Region>, &[u8]), ReadRefusal>
-    ensures { Gives (λ x. (x.0.items, x.1.now)) result (counted 1 (several region_at) bytes.now) }
-{
-    let (count, rest) = u8_at(bytes)?;
-    regions_of(alloc, count, rest)
-}
-
 /// The count of a file's attributes, and the attributes.
-#[tactic(auto, unfolding(crate::specs::Reading::counted))]
-fn attributes_at(
-    alloc: Global,
-    bytes: &[u8],
-) -> Result<(Vec<(AttrName, Bytes)>, &[u8]), ReadRefusal>
+#[tactic(auto, unfolding(journal_records::specs::Reading::counted))]
+fn attributes_at(alloc: Global, bytes: &[u8]) -> Result<(Vec<(AttrName, Bytes)>, &[u8]), Unread>
     ensures { Gives (λ x. (x.0.items, x.1.now)) result (counted 4 (several attribute_at) bytes.now) }
 {
     let (count, rest) = u32_at(bytes)?;
@@ -98,8 +66,8 @@ fn attributes_at(
 }
 
 /// The count of a file's extents, and the extents.
-#[tactic(auto, unfolding(crate::specs::Reading::counted))]
-fn extents_at(alloc: Global, bytes: &[u8]) -> Result<(Vec<Mapping>, &[u8]), ReadRefusal>
+#[tactic(auto, unfolding(journal_records::specs::Reading::counted))]
+fn extents_at(alloc: Global, bytes: &[u8]) -> Result<(Vec<Mapping>, &[u8]), Unread>
     ensures { Gives (λ x. (x.0.items, x.1.now)) result (counted 4 (several extent_at) bytes.now) }
 {
     let (count, rest) = u32_at(bytes)?;
@@ -107,8 +75,8 @@ fn extents_at(alloc: Global, bytes: &[u8]) -> Result<(Vec<Mapping>, &[u8]), Read
 }
 
 /// The count of a file's stub entries, and the entries.
-#[tactic(auto, unfolding(crate::specs::Reading::counted))]
-fn stubs_at(alloc: Global, bytes: &[u8]) -> Result<(Vec<(u32, Stub)>, &[u8]), ReadRefusal>
+#[tactic(auto, unfolding(journal_records::specs::Reading::counted))]
+fn stubs_at(alloc: Global, bytes: &[u8]) -> Result<(Vec<(u32, Stub)>, &[u8]), Unread>
     ensures { Gives (λ x. (x.0.items, x.1.now)) result (counted 4 (several stub_in) bytes.now) }
 {
     let (count, rest) = u32_at(bytes)?;
@@ -116,8 +84,8 @@ fn stubs_at(alloc: Global, bytes: &[u8]) -> Result<(Vec<(u32, Stub)>, &[u8]), Re
 }
 
 /// A file's key, its size and its name.
-#[tactic(auto, unfolding(crate::specs::Reading::both))]
-fn heading_at(alloc: Global, bytes: &[u8]) -> Result<((FileKey, u64, Word), &[u8]), ReadRefusal>
+#[tactic(auto, unfolding(journal_records::specs::Reading::both))]
+fn heading_at(alloc: Global, bytes: &[u8]) -> Result<((FileKey, u64, Word), &[u8]), Unread>
     ensures { Gives (λ x. (((x.0.0, x.0.1), x.0.2), x.1.now)) result (both (both key_at (number_at 8)) (counted 1 bytes_at) bytes.now) }
 {
     let (key, rest) = key_at(bytes)?;
@@ -126,8 +94,8 @@ fn heading_at(alloc: Global, bytes: &[u8]) -> Result<((FileKey, u64, Word), &[u8
     Ok(((key, size, name), rest))
 }
 
-#[tactic(auto, unfolding(crate::specs::Reading::both, crate::specs::Reading::made, crate::specs::Reading::file_at))]
-fn file_at(alloc: Global, bytes: &[u8]) -> Result<(RawFile, &[u8]), ReadRefusal>
+#[tactic(auto, unfolding(journal_records::specs::Reading::both, journal_records::specs::Reading::made, crate::specs::Reading::file_at))]
+fn file_at(alloc: Global, bytes: &[u8]) -> Result<(RawFile, &[u8]), Unread>
     ensures { Gives (λ x. (raw_file x.0, x.1.now)) result (file_at bytes.now) }
 {
     let ((key, size, name), rest) = heading_at(alloc, bytes)?;
@@ -149,8 +117,8 @@ fn file_at(alloc: Global, bytes: &[u8]) -> Result<(RawFile, &[u8]), ReadRefusal>
     ))
 }
 
-#[tactic(auto, using(crate::proofs::ReadValues::read_steps))]
-fn files_of(alloc: Global, count: u32, bytes: &[u8]) -> Result<(Vec<RawFile>, &[u8]), ReadRefusal>
+#[tactic(auto, using(journal_records::proofs::ReadValues::read_steps))]
+fn files_of(alloc: Global, count: u32, bytes: &[u8]) -> Result<(Vec<RawFile>, &[u8]), Unread>
     ensures { Gives (λ x. (map raw_file x.0.items, x.1.now)) result (several file_at count bytes.now) }
 {
     let mut files = Vec::new(alloc);
@@ -163,8 +131,8 @@ fn files_of(alloc: Global, count: u32, bytes: &[u8]) -> Result<(Vec<RawFile>, &[
     Ok((files, rest))
 }
 
-#[tactic(auto, unfolding(crate::specs::Reading::counted, crate::specs::Reading::both, crate::specs::Reading::made, crate::specs::Reading::snapshot_at))]
-fn snapshot_at(alloc: Global, area: &[u8]) -> Result<(RawSnapshot, &[u8]), ReadRefusal>
+#[tactic(auto, unfolding(journal_records::specs::Reading::counted, journal_records::specs::Reading::both, journal_records::specs::Reading::made, crate::specs::Reading::snapshot_at))]
+fn snapshot_at(alloc: Global, area: &[u8]) -> Result<(RawSnapshot, &[u8]), Unread>
     ensures { Gives (λ x. (raw_snapshot x.0, x.1.now)) result (snapshot_at area.now) }
 {
     let (number, rest) = u64_at(area)?;

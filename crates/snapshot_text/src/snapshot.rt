@@ -1,18 +1,14 @@
 //! A snapshot as its bytes say it, before its validity is judged.
 ghost use Rattle.std.specs.Prelude.{◌≡◌};
+ghost use Rattle.snapshot_text.specs.Reading.{unread_as};
 ghost use Rattle.snapshot_text.specs.declared.snapshot.ReadRefusal.TheVariants.{Memory};
 
-use hsm_types::{AttrName, Bytes, FileKey, Region, Stub, Word};
-use std::alloc::{AllocError, AllocFailed};
+use hsm_types::{AttrName, Bytes, FileKey, Regions, Stub, Word};
+use journal_records::Unread;
+use std::alloc::AllocError;
 
 /// The one format that there is.
 pub(crate) const FORMAT: u32 = 1;
-
-/// The state of a segment that has its bytes and an entry.
-pub(crate) const SEALED: u8 = 1;
-
-/// The state of a segment that has an entry in the place of its bytes.
-pub(crate) const OFFLINE: u8 = 2;
 
 /// A block of a file, counted from 0 in the file, and the disk's block that has it, counted from 0 among the data blocks.
 #[derive(Clone, Copy, PartialEq, Eq)]
@@ -27,7 +23,7 @@ pub struct RawFile {
     pub key: FileKey,
     pub size: u64,
     pub name: Word,
-    pub regions: Vec<Region>,
+    pub regions: Regions,
     pub attributes: Vec<(AttrName, Bytes)>,
     pub extents: Vec<Mapping>,
     pub stubs: Vec<(u32, Stub)>,
@@ -57,10 +53,13 @@ impl From<AllocError> for ReadRefusal {
     }
 }
 
-impl<T: Drop> From<AllocFailed<T>> for ReadRefusal {
-    ghost from_gives = { λ _ e. e ≡ Memory };
+impl From<Unread> for ReadRefusal {
+    ghost from_gives = { λ why e. e ≡ unread_as why };
 
-    fn from(_e: AllocFailed<T>) -> ReadRefusal {
-        ReadRefusal::Memory
+    fn from(why: Unread) -> ReadRefusal {
+        match why {
+            Unread::Bad => ReadRefusal::Corrupt,
+            Unread::Memory => ReadRefusal::Memory,
+        }
     }
 }

@@ -5,14 +5,16 @@ ghost use Rattle.hsm_types.specs.Limits.{file_blocks, file_regions, name_bytes, 
 ghost use Rattle.hsm_types.specs.Stubs.{entry_place, entry_print};
 ghost use Rattle.byteorder.specs.Endian.{big_bytes};
 ghost use Rattle.snapshot_text.specs.Files.{present};
-ghost use Rattle.snapshot_text.specs.Snapshots.{region_bytes, attribute_bytes, extent_bytes, stub_bytes, state_of, extents_from, bytes_of_file, snapshot_file};
+ghost use Rattle.journal_records.specs.Texts.{region_bytes, state_of};
+ghost use Rattle.snapshot_text.specs.Snapshots.{attribute_bytes, extent_bytes, stub_bytes, extents_from, bytes_of_file, snapshot_file};
 ghost use Rattle.snapshot_text.specs.Parts.{file_of};
 
 use crate::file_parts::FileParts;
-use crate::snapshot::{FORMAT, Mapping, OFFLINE, SEALED};
+use crate::snapshot::{FORMAT, Mapping};
 use byteorder::{BigEndian, ByteOrder};
 use dm_attrs::DmAttrs;
 use hsm_types::{AttrName, Bytes, FileKey, Region, Stub, Word};
+use journal_records::{OFFLINE, SEALED, spell_region};
 use std::alloc::AllocError;
 use stub_map::StubMap;
 
@@ -40,16 +42,6 @@ fn spell_extent(extent: Mapping) -> [u8; 8]
     let mut bytes = [0; 8];
     BigEndian::write_u32(&mut bytes, extent.block);
     BigEndian::write_u32(&mut bytes[4..], extent.place);
-    bytes
-}
-
-fn spell_region(region: Region) -> [u8; 17]
-    ensures { result ≡ region_bytes region }
-{
-    let mut bytes = [0; 17];
-    BigEndian::write_u64(&mut bytes, region.offset);
-    BigEndian::write_u64(&mut bytes[8..], region.size);
-    bytes[16] = region.flags;
     bytes
 }
 

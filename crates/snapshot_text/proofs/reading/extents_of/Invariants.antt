@@ -1,6 +1,7 @@
 use Rattle.std.proofs.Common.{◌≡◌, ◌-◌}
-use Rattle.snapshot_text.specs.Reading.{several, extent_at}
-use Rattle.snapshot_text.proofs.ReadValues.{with_front}
+use Rattle.journal_records.specs.Reading.{several}
+use Rattle.snapshot_text.specs.Reading.{extent_at}
+use Rattle.journal_records.proofs.ReadValues.{with_front}
 use Rattle.snapshot_text.proofs.reading.extents_of.Given as goal
 
 abbrev pub invariant-loop : goal.invariant-loop

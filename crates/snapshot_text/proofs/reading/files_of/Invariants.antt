@@ -1,7 +1,8 @@
 use Rattle.std.proofs.Common.{◌≡◌, ◌-◌, map}
 use Rattle.snapshot_text.specs.Snapshots.{raw_file}
-use Rattle.snapshot_text.specs.Reading.{several, file_at}
-use Rattle.snapshot_text.proofs.ReadValues.{with_front}
+use Rattle.journal_records.specs.Reading.{several}
+use Rattle.snapshot_text.specs.Reading.{file_at}
+use Rattle.journal_records.proofs.ReadValues.{with_front}
 use Rattle.snapshot_text.proofs.reading.files_of.Given as goal
 
 abbrev pub invariant-loop : goal.invariant-loop

@@ -1,6 +1,7 @@
 use Rattle.std.proofs.Common.{◌≡◌, ◌-◌}
-use Rattle.snapshot_text.specs.Reading.{several, stub_in}
-use Rattle.snapshot_text.proofs.ReadValues.{with_front}
+use Rattle.journal_records.specs.Reading.{several}
+use Rattle.snapshot_text.specs.Reading.{stub_in}
+use Rattle.journal_records.proofs.ReadValues.{with_front}
 use Rattle.snapshot_text.proofs.reading.stubs_of.Given as goal
 
 abbrev pub invariant-loop : goal.invariant-loop

@@ -1,6 +1,6 @@
 use Rattle.std.proofs.Common.{◌≡◌, ◌++◌, drop}
 use Rattle.std.specs.List.{flat_map}
-use Rattle.snapshot_text.specs.Snapshots.{region_bytes}
+use Rattle.journal_records.specs.Texts.{region_bytes}
 use Rattle.snapshot_text.proofs.writing.put_regions.Given as goal
 
 abbrev pub invariant-loop-region : goal.invariant-loop-region
