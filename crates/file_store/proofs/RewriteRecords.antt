@@ -1,7 +1,7 @@
 -- The records of a change of a file's bytes: that they are its places, the catalog after them, and that they can come.
 use Rattle.file_store.proofs.Names.{◌||◌, true, Bool, max, map, ◌&&◌, ltb, and_parts, and_from, lt-ltb, cases_eq, ◌/◌, false≢true, is_some, IsSure}
 use Rattle.file_store.proofs.Names.{Stub, Rewrite, Write, Resize, Restore, effect_of, size_after, rekept, unseals, unsealing, IsHead, AreUnsealed}
-use Rattle.file_store.proofs.Names.{IsCatalogFile, places_fitted, CanStand, refusal_of, rules, ◌≡◌, ⊎_elim, ◌<◌, ℕ, zero, suc, ◌+◌, ◌-◌, ◌≤◌, min}
+use Rattle.file_store.proofs.Names.{IsCatalogFile, places_fitted, CanStand, refusal_of, rules, ◌≡◌, ⊎_elim, ◌<◌, ℕ, zero, suc, ◌+◌, ◌-◌, ◌≤◌}
 use Rattle.file_store.proofs.Names.{List, [], ◌∷◌, ◌++◌, length, take, drop, Option, Some, None, refl, sym, ◌∙◌, ap, arith, length-append, take_all}
 use Rattle.file_store.proofs.Names.{set, false, eqb, subst, cases_lt, ltb-true, drop_more, drop_all, get_or_past, map-append, same_lists, places}
 use Rattle.file_store.proofs.Names.{from_on, blocks_in, Mapping, Record, Map, present, CatalogFile, Catalog, geometry_of, blocks_of, mappings_from}
@@ -93,12 +93,9 @@ present-run : (a n : ℕ) (ps : List (Option ℕ)) → present (take n (drop a p
 present-run a zero ps = refl
 present-run a (suc n) ps = grind (arith, drop_more, present-more, get_or_past, drop_all, take_all, cases_lt, present-run (a + 1) n ps)
 
-past-end : (n k : ℕ) (ps : List (Option ℕ)) → k ≡ min (length ps) n → take (length ps - k) (drop k ps) ≡ drop n ps
-past-end n k ps is = same_lists _ _ (search (rules, places)) (λ i d h. grind (arith, places))
-
-pub freed_runs : (a m b n size k : ℕ) (blocks : List ℕ) (ps : List (Option ℕ)) → from_on a m ++ from_on b n ≡ blocks → k ≡ min (length ps) (blocks_in size)
-    → [] ++ present (take (length ps - k) (drop k ps)) ++ present (take m (drop a ps)) ++ present (take n (drop b ps)) ≡ freed_by size blocks ps
-freed_runs a m b n size k blocks ps is kept = grind (arith, present-run, map-append, present-append, append_assoc, past-end)
+pub freed_runs : (a m b n size : ℕ) (blocks : List ℕ) (ps : List (Option ℕ)) → from_on a m ++ from_on b n ≡ blocks
+    → [] ++ present (drop (blocks_in size) ps) ++ present (take m (drop a ps)) ++ present (take n (drop b ps)) ≡ freed_by size blocks ps
+freed_runs a m b n size blocks ps is = grind (arith, present-run, map-append, present-append, append_assoc)
 
 -- ---- a file that changes twice
 

@@ -1,5 +1,5 @@
 //! What an event needs before it changes anything: its records, the blocks that it frees, and memory.
-ghost use Rattle.std.specs.Prelude.{◌≡◌, ℕ, ◌∷◌, [], ◌-◌, ◌≤◌, ◌++◌, List, length, take, drop, Some, IfOk, OnOk, OnErr, IsSome};
+ghost use Rattle.std.specs.Prelude.{◌≡◌, ℕ, ◌∷◌, [], ◌≤◌, ◌++◌, List, length, Some, IfOk, OnOk, OnErr, IsSome};
 ghost use Rattle.hsm_types.specs.Keyed.{find_key};
 ghost use Rattle.plain_model.specs.Blocks.{touched, size_after};
 ghost use Rattle.hsm_types.specs.Limits.{file_bytes};
@@ -11,11 +11,11 @@ ghost use Rattle.file_store.specs.declared.rewrites.Rewrite.{Rewrite};
 ghost use Rattle.file_store.specs.Rewrites.{IsRewrite, IsRewriting, AreUnsealed, HasEntry, HasRoom, new_size, mappings_of, freed_by};
 
 use crate::rewrites::Rewrite;
-use crate::spaces::put_present;
-use file_body::{BlockRun, Body, TouchedBlocks, blocks_in};
+use file_body::{Body, TouchedBlocks, blocks_in};
 use hsm_types::FileKey;
 use journal_records::{Places, Record, Records};
 use meta_store::Catalog;
+use snapshot_text::FileParts;
 use std::alloc::{AllocError, Global};
 use stub_map::StubMap;
 
@@ -47,14 +47,9 @@ pub(crate) fn prepare(
     ensures err { OnErr result (body.new ≡ body.old) }
 {
     let size = body.len();
-    let stubs = catalog.stubs(key).unwrap();
-    let records = records_of(alloc, key.ino, size, stubs, change, touched, places)?;
-    let freed = freed_by(
-        alloc,
-        catalog.places(key).unwrap(),
-        change.size_after(size),
-        touched,
-    )?;
+    let parts = catalog.parts(key);
+    let records = records_of(alloc, key.ino, size, parts.stubs(), change, touched, places)?;
+    let freed = freed_by(alloc, parts, change.size_after(size), touched)?;
     change.make_room(alloc, body)?;
     Ok(Plan { records, freed })
 }
@@ -78,7 +73,7 @@ pub(crate) fn blocks_of(
     ensures { IfOk result (λ v. (f : CatalogFile) → find_key (λ f. f.key) key catalog.now.files ≡ Some f → v.items ≡ present f.places) }
 {
     let mut blocks = Vec::new(alloc);
-    put_present(&mut blocks, catalog.places(key).unwrap())?;
+    catalog.parts(key).put_from(0, &mut blocks)?;
     Ok(blocks)
 }
 
@@ -152,31 +147,21 @@ fn push_map(
     Ok(())
 }
 
-/// The blocks that a file with these places frees as it gets that size, and new places for the blocks that are touched.
+/// The blocks that a file frees as it gets that size, and new places for the blocks that are touched.
 #[tactic(auto, using(crate::proofs::RewriteRecords::freed_runs))]
 fn freed_by(
     alloc: Global,
-    places: &[Option<u32>],
+    parts: &FileParts,
     size: u64,
     touched: &TouchedBlocks,
 ) -> Result<Vec<u32>, AllocError>
     requires { size ≤ file_bytes }
-    ensures { IfOk result (λ v. v.items ≡ freed_by size touched.now places.now) }
+    ensures { IfOk result (λ v. v.items ≡ freed_by size touched.now parts.now.places) }
 {
     let (end, others) = touched.runs();
-    let kept = places.len().min(blocks_in(size) as usize);
     let mut freed = Vec::new(alloc);
-    put_present(&mut freed, &places[kept..])?;
-    put_present(&mut freed, places_under(end, places))?;
-    put_present(&mut freed, places_under(others, places))?;
+    parts.put_from(blocks_in(size) as u32, &mut freed)?;
+    parts.put_run(end.first, end.count, &mut freed)?;
+    parts.put_run(others.first, others.count, &mut freed)?;
     Ok(freed)
-}
-
-/// The places of the blocks of a run, as far as there are any.
-pub(crate) fn places_under(run: BlockRun, places: &[Option<u32>]) -> &[Option<u32>]
-    ensures { result.now ≡ take run.count (drop run.first places.now) }
-{
-    let start = places.len().min(run.first as usize);
-    let count = (places.len() - start).min(run.count as usize);
-    &places[start..start + count]
 }

@@ -14,17 +14,14 @@ ghost use Rattle.file_store.specs.Changes.{Changes};
 
 use crate::events::make_durable;
 use crate::loading::slot;
-use crate::plans::places_under;
 use crate::refusal::StoreRefusal;
-use crate::spaces::put_present;
 use crate::store::FileStore;
 use disk_model::Disk;
-use file_body::BlockRun;
 use hsm_types::{DmRefusal, FileKey, LAST_NUMBER, SEGMENT_BLOCKS, Stub};
 use journal_records::{Record, Records};
 use managed_regions::ManagedRegions;
 use meta_store::Catalog;
-use snapshot_text::MetaRefusal;
+use snapshot_text::{FileParts, MetaRefusal};
 use std::alloc::{AllocError, Global};
 use std::snapshot::Snapshot;
 use stub_map::{State, StubMap};
@@ -53,10 +50,9 @@ pub(crate) fn plan(
     ensures refused { (why : DmRefusal) → IsErrOf result (StoreRefusal.Part why) → any_unpunched (kept_at key catalog.now).regions (kept_at key catalog.now).stubs from to ≡ Some why }
     ensures no_disk { IsErrOf result StoreRefusal.Disk → ⊥ }
 {
-    let stubs = catalog.stubs(key).unwrap();
-    let regions = catalog.regions(key).unwrap();
-    let records = records_of(alloc, key.ino, stubs, regions, from, to)?;
-    let freed = blocks_in(alloc, catalog.places(key).unwrap(), from, to)?;
+    let parts = catalog.parts(key);
+    let records = records_of(alloc, key.ino, parts.stubs(), parts.regions(), from, to)?;
+    let freed = blocks_in(alloc, parts, from, to)?;
     Ok(Punch { records, freed })
 }
 
@@ -105,23 +101,15 @@ fn goes(stubs: &StubMap, regions: &ManagedRegions, segment: u32) -> Result<Stub,
     }
 }
 
-/// The blocks of the segments from the first up to the second, of a file whose blocks lie at these places.
-fn blocks_in(
-    alloc: Global,
-    places: &[Option<u32>],
-    from: u32,
-    to: u32,
-) -> Result<Vec<u32>, AllocError>
+/// The blocks of the segments from the first up to the second.
+fn blocks_in(alloc: Global, parts: &FileParts, from: u32, to: u32) -> Result<Vec<u32>, AllocError>
     requires order { from ≤ to }
     requires few { to ≤ file_segments }
-    ensures { IfOk result (λ v. v.items ≡ present (places_between from to places.now)) }
+    ensures { IfOk result (λ v. v.items ≡ present (places_between from to parts.now.places)) }
 {
-    let run = BlockRun {
-        first: SEGMENT_BLOCKS * from,
-        count: SEGMENT_BLOCKS * (to - from),
-    };
+    let count = SEGMENT_BLOCKS * (to - from);
     let mut freed = Vec::new(alloc);
-    put_present(&mut freed, places_under(run, places))?;
+    parts.put_run(SEGMENT_BLOCKS * from, count, &mut freed)?;
     Ok(freed)
 }
 

@@ -1,6 +1,5 @@
 //! The blocks that a catalog's files use of the disk.
-ghost use Rattle.std.specs.Prelude.{◌≡◌, ◌++◌, IfOk, OnOk};
-ghost use Rattle.snapshot_text.specs.Files.{present};
+ghost use Rattle.std.specs.Prelude.{◌≡◌, IfOk};
 ghost use Rattle.meta_store.specs.Catalogs.{blocks_of};
 ghost use Rattle.file_store.specs.Stores.{marks_of};
 
@@ -9,18 +8,6 @@ use meta_store::Catalog;
 use snapshot_text::geometry_of;
 use std::alloc::{AllocError, Global};
 
-/// Puts the data blocks among a file's places behind the others.
-pub(crate) fn put_present(blocks: &mut Vec<u32>, places: &[Option<u32>]) -> Result<(), AllocError>
-    ensures { OnOk result (blocks.new.items ≡ blocks.old.items ++ present places.now) }
-{
-    for place in places {
-        if let Some(block) = *place {
-            blocks.push(block)?;
-        }
-    }
-    Ok(())
-}
-
 /// The data blocks that a catalog's files use. It costs a walk over all places.
 fn data_blocks(alloc: Global, catalog: &Catalog) -> Result<Vec<u32>, AllocError>
     ensures { IfOk result (λ v. v.items ≡ blocks_of catalog.now.files) }
@@ -28,8 +15,7 @@ fn data_blocks(alloc: Global, catalog: &Catalog) -> Result<Vec<u32>, AllocError>
     let mut blocks = Vec::new(alloc);
     for index in 0..catalog.names().len() {
         let (_, _, _, parts) = catalog.file(index).unwrap();
-        let places = parts.places();
-        put_present(&mut blocks, places)?;
+        parts.put_from(0, &mut blocks)?;
     }
     Ok(blocks)
 }

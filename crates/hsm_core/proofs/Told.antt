@@ -17,6 +17,8 @@ use Rattle.plain_model.specs.Segments.{row_of as row_told}
 use Rattle.plain_model.specs.State.{FileState, Held, file_or_new, file_at}
 use Rattle.std.proofs.lemmas.List.{take-map, drop-map, map-append}
 use Rattle.snapshot_text.specs.Files.{CatalogFile, present, places_in_segment}
+use Rattle.snapshot_text.specs.declared.file_parts.FileParts.{FileParts}
+use Rattle.snapshot_text.specs.Parts.{parts_of}
 use Rattle.meta_store.specs.Catalogs.{Catalog}
 use Rattle.file_store.specs.Stores.{Row, row_of, row_held, Shows}
 use Rattle.hsm_core.specs.Services.{IsMadeOf}
@@ -65,18 +67,17 @@ rows_found (c ∷ cs) (f ∷ fs) k same =
     found_first c.key f.key c f (find_key (λ c. c.key) k cs) (find_key (λ f. f.key) k fs) (ap (λ (r : Row). r.key) first) first (rows_found cs fs k rest) k
 
 -- by what the catalog lends of the file
-pub made_of_parts : (c : Catalog) (h : Held) (k : FileKey) (places : List (Option ℕ)) (stubs : Stubs) → Shows c h → Some places ≡ option_map (λ f. f.places) (find_key (λ f. f.key) k c.files) → Some stubs ≡ option_map (λ f. f.kept.stubs) (find_key (λ f. f.key) k c.files)
-    → IsMadeOf (length (file_at k h.files).body) places stubs (file_at k h.files)
-made_of_parts c h k places stubs shows lent entries = by (find_key (λ f. f.key) k c.files) (find_key (λ f. f.key) k h.files) (rows_found c.files h.files k shows.rows) lent entries
+pub made_of_parts : (c : Catalog) (h : Held) (k : FileKey) (x : FileParts) → Shows c h → Some x ≡ option_map parts_of (find_key (λ f. f.key) k c.files)
+    → IsMadeOf (length (file_at k h.files).body) x.places x.stubs (file_at k h.files)
+made_of_parts c h k x shows lent = by (find_key (λ f. f.key) k c.files) (find_key (λ f. f.key) k h.files) (rows_found c.files h.files k shows.rows) lent
   where
-    by : (x : Option CatalogFile) (y : Option FileState) → BothFound x y → Some places ≡ option_map (λ f. f.places) x → Some stubs ≡ option_map (λ f. f.kept.stubs) x → IsMadeOf (length (file_or_new k y).body) places stubs (file_or_new k y)
-    by None y both lent entries = absurd cc
-    by (Some x) None both lent entries = absurd both
-    by (Some x) (Some y) both lent entries =
-        let at : places ≡ x.places = cc in
-        let has : stubs ≡ x.kept.stubs = cc in
-        let made = made_of_row x y both in
-        record { size = refl; mapped = made.mapped ∙ ap (map is_some) (sym at); stubs = made.stubs ∙ sym has }
+    by : (o : Option CatalogFile) (p : Option FileState) → BothFound o p → Some x ≡ option_map parts_of o → IsMadeOf (length (file_or_new k p).body) x.places x.stubs (file_or_new k p)
+    by None p both lent = absurd cc
+    by (Some f) None both lent = absurd both
+    by (Some f) (Some g) both lent =
+        let at : x ≡ parts_of f = cc in
+        let made = made_of_row f g both in
+        record { size = refl; mapped = made.mapped ∙ ap (λ (p : FileParts). map is_some p.places) (sym at); stubs = made.stubs ∙ ap (λ (p : FileParts). p.stubs) (sym at) }
 
 -- ---- the list of all files
 

@@ -139,7 +139,7 @@ fn touches_region<D: Disk>(files: &FileStore<D>, target: Target, call: &Call) ->
     let Some(kind) = kind_of(call) else {
         return false;
     };
-    let regions = files.meta().catalog().regions(target.key).unwrap();
+    let regions = files.meta().catalog().regions(target.key);
     regions.touches(reach(target.size, call), kind)
 }
 

@@ -24,7 +24,7 @@ pub(crate) fn needs_segment<D: Disk>(files: &FileStore<D>, target: Target, call:
     ensures needs { result ≡ needs (file_at target.key files.now.held.files).kept.stubs (length (bytes_of target.key files.now.held.files)) call.now }
     ensures stubbed { AllByRecursion IsStubbed files.now.held.files }
 {
-    let stubs = files.meta().catalog().stubs(target.key).unwrap();
+    let stubs = files.meta().catalog().stubs(target.key);
     needs(stubs, target.size, call)
 }
 

@@ -1,5 +1,5 @@
 -- The records of an event are taken one after another.
-use Rattle.std.proofs.Common.{◌≡◌, Some, ◌↔◌, ◌⊎◌, ⊎_elim, inl, inr, ◌∙◌, Option, Err, List, [], ◌∷◌, rules, refl, arith}
+use Rattle.std.proofs.Common.{◌≡◌, Some, ◌↔◌, ◌⊎◌, ⊎_elim, inr, ◌∙◌, Option, Err, List, [], ◌∷◌, rules, refl, arith}
 use Rattle.std.specs.Prelude.{None, Result}
 use Rattle.std.specs.List.{AllByRecursion}
 use Rattle.hsm_types.specs.Refusals.{first_refusal}
@@ -43,10 +43,6 @@ module _ (records : List Record) (old : Catalog) (r : Record) (left : List Recor
 
   pub taking-judged : refusal_of r now ≡ refusal_of_all records old
   taking-judged = grind (arith, all_stand left (after r now) sure_left taking.stand.1, taking.judged)
-
--- at first all of them are left, and at last none
-pub taking-all : (records : List Record) (old : Catalog) → IsEvent records → CanStandAll records old → IsTaking records old records old
-taking-all records old event stand = record { stand = stand; geometry = refl; ends = refl; judged = refl; begun = inl (refl, event) }
 
 geometry-after : (r : Record) (c : Catalog) → (after r c).geometry ≡ c.geometry
 geometry-after r c = grind arith

@@ -103,12 +103,6 @@ module _ (s : Inside) (v : Catalog) (is : catalog_held s.geometry s.table s.part
       subst (IsLive s.table s.parts.items k) one.2
       (record { key = within.0; entry = one.1; low = within.1; high = rw i.0.count within.2; parts = ap (λ (j : FileKey). get_or s.parts.items (j.ino - 1) no_parts) (sym within.0) })
 
-  pub sized-live : (k : FileKey) (size : ℕ) → Some size ≡ option_map (λ e. e.size) (find_key (λ e. e.key) k s.table.files) → (f : CatalogFile) × (find_key (λ g. g.key) k v.files ≡ Some f) × IsLive s.table s.parts.items k f
-  sized-live k size sized =
-      let one = some_mapped (λ (e : FileEntry). e.size) (find_key (λ e. e.key) k s.table.files) size (sym sized) in
-      let found = found-held k ∙ ap (option_map (file_held s.parts.items)) one.1 in
-      (file_held s.parts.items one.0, found, live k (file_held s.parts.items one.0) found)
-
   -- what is counted of one file and of the others
   pub others : (k : FileKey) (f : CatalogFile) → find_key (λ g. g.key) k v.files ≡ Some f → IsLeft s v k (parts_of f)
   others k f found = record {
@@ -162,9 +156,6 @@ module _ (s : Inside) (v : Catalog) (is : catalog_held s.geometry s.table s.part
   drop-held key = rw (← is, map-drop (λ (f : CatalogFile). f.key) (file_held s.parts.items) key s.table.files) refl
 
 -- ---- a part of a file that is found
-
-pub part_none : {X : Type 0} (g : CatalogFile → X) (o : Option CatalogFile) → None ≡ option_map parts_of o → None ≡ option_map g o
-part_none g o is = grind arith
 
 pub part_some : {X : Type 0} (g : FileParts → X) (o : Option CatalogFile) (p : FileParts) → Some p ≡ option_map parts_of o → Some (g p) ≡ option_map (λ f. g (parts_of f)) o
 part_some g o p is = grind arith

@@ -1,13 +1,11 @@
 -- The parts of the file that a record is about, once they are lent, and the catalog with what they become.
-use Rattle.std.proofs.Common.{◌≡◌, ℕ, ◌+◌, ◌-◌, ◌≤◌, List, [], ◌∷◌, length, set, Option, Some, None, refl, sym, ◌∙◌, ap, arith, get_or, subst}
+use Rattle.std.proofs.Common.{◌≡◌, ℕ, ◌+◌, ◌-◌, ◌≤◌, List, length, set, Option, Some, None, refl, sym, ◌∙◌, ap, arith, get_or, subst}
 use Rattle.std.specs.Option.{IsSome, unwrap_or}
 use Rattle.hsm_types.specs.Limits.{large_geometry}
 use Rattle.hsm_types.specs.declared.stores.Geometry.{Geometry}
-use Rattle.hsm_types.specs.declared.keys.FileKey.{FileKey}
-use Rattle.hsm_types.specs.Attributes.{bytes_of_attributes, AreAttributes}
+use Rattle.hsm_types.specs.Attributes.{bytes_of_attributes}
 use Rattle.hsm_types.specs.Keyed.{find_key, change_key}
 use Rattle.hsm_types.specs.Regions.{regions_refusal}
-use Rattle.inode_table.specs.declared.entries.FileEntry.{FileEntry}
 use Rattle.inode_table.specs.Listing.{listing, key_at}
 use Rattle.inode_table.specs.Table.{Table, entry_of}
 use Rattle.snapshot_text.specs.declared.file_parts.FileParts.{FileParts}

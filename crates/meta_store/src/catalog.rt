@@ -123,53 +123,40 @@ impl Catalog {
         Some((key, name, size, &self.parts[slot(key.ino)]))
     }
 
-    /// The places of a live file's blocks.
-    #[tactic(auto, using(crate::proofs::HeldCatalogs::part_none, crate::proofs::HeldCatalogs::part_some))]
-    pub fn places(&self, key: FileKey) -> Option<&[Option<u32>]>
-        ensures { option_map (λ r. r.now) result ≡ option_map (λ f. f.places) (find_key (λ f. f.key) key self.now.files) }
-    {
-        Some(self.found(key)?.places())
-    }
-
     /// How many blocks of the disk a live file uses.
-    #[tactic(auto, using(crate::proofs::HeldCatalogs::part_none, crate::proofs::HeldCatalogs::part_some))]
-    pub fn mapped(&self, key: FileKey) -> Option<u64>
-        ensures { result ≡ option_map (λ f. length (present f.places)) (find_key (λ f. f.key) key self.now.files) }
+    #[tactic(auto, using(crate::proofs::HeldCatalogs::part_some))]
+    pub fn mapped(&self, key: FileKey) -> u64
+        requires { IsSome (find_key (λ f. f.key) key self.now.files) }
+        ensures { Some result ≡ option_map (λ f. length (present f.places)) (find_key (λ f. f.key) key self.now.files) }
     {
-        Some(self.found(key)?.mapped())
+        self.parts(key).mapped()
     }
 
     /// The regions of a live file.
-    #[tactic(auto, using(crate::proofs::HeldCatalogs::part_none, crate::proofs::HeldCatalogs::part_some))]
-    pub fn regions(&self, key: FileKey) -> Option<&ManagedRegions>
-        ensures { option_map (λ r. r.now) result ≡ option_map (λ f. f.kept.regions) (find_key (λ f. f.key) key self.now.files) }
+    #[tactic(auto, using(crate::proofs::HeldCatalogs::part_some))]
+    pub fn regions(&self, key: FileKey) -> &ManagedRegions
+        requires { IsSome (find_key (λ f. f.key) key self.now.files) }
+        ensures { Some result.now ≡ option_map (λ f. f.kept.regions) (find_key (λ f. f.key) key self.now.files) }
     {
-        Some(self.found(key)?.regions())
+        self.parts(key).regions()
     }
 
     /// The attributes of a live file.
-    #[tactic(auto, using(crate::proofs::HeldCatalogs::part_none, crate::proofs::HeldCatalogs::part_some))]
-    pub fn attributes(&self, key: FileKey) -> Option<&DmAttrs>
-        ensures { option_map (λ r. r.now) result ≡ option_map (λ f. f.kept.attributes) (find_key (λ f. f.key) key self.now.files) }
+    #[tactic(auto, using(crate::proofs::HeldCatalogs::part_some))]
+    pub fn attributes(&self, key: FileKey) -> &DmAttrs
+        requires { IsSome (find_key (λ f. f.key) key self.now.files) }
+        ensures { Some result.now ≡ option_map (λ f. f.kept.attributes) (find_key (λ f. f.key) key self.now.files) }
     {
-        Some(self.found(key)?.attributes())
+        self.parts(key).attributes()
     }
 
     /// The stub entries of a live file.
-    #[tactic(auto, using(crate::proofs::HeldCatalogs::part_none, crate::proofs::HeldCatalogs::part_some))]
-    pub fn stubs(&self, key: FileKey) -> Option<&StubMap>
-        ensures { option_map (λ r. r.now) result ≡ option_map (λ f. f.kept.stubs) (find_key (λ f. f.key) key self.now.files) }
+    #[tactic(auto, using(crate::proofs::HeldCatalogs::part_some))]
+    pub fn stubs(&self, key: FileKey) -> &StubMap
+        requires { IsSome (find_key (λ f. f.key) key self.now.files) }
+        ensures { Some result.now ≡ option_map (λ f. f.kept.stubs) (find_key (λ f. f.key) key self.now.files) }
     {
-        Some(self.found(key)?.stubs())
-    }
-
-    /// What is kept of the file with that key, if it lives. It costs a binary search.
-    #[tactic(auto, using(crate::proofs::FileEdits::found_steps))]
-    fn found(&self, key: FileKey) -> Option<&FileParts>
-        ensures { option_map (λ r. r.now) result ≡ option_map parts_of (find_key (λ f. f.key) key self.now.files) }
-    {
-        let _size = self.table.size(key)?;
-        Some(self.parts(key))
+        self.parts(key).stubs()
     }
 
     /// What is kept of a live file beside its key, its name and its size. It stands at the file's inode, and is not searched for.

@@ -39,7 +39,7 @@ pub(crate) fn value<D: Disk>(
     requires { IsSome (find_key (λ f. f.key) handle.key files.now.held.files) }
     ensures { IfOk result (λ r. AreOf (service_on files.now (GetDmAttr no_token handle name)) r) }
 {
-    let attributes = files.meta().catalog().attributes(handle.key).unwrap();
+    let attributes = files.meta().catalog().attributes(handle.key);
     match attributes.get(name) {
         Some(value) => twice(DmReply::Data(value.clone()?)),
         None => Ok(refused(DmRefusal::NoAttr)),
@@ -71,6 +71,6 @@ pub(crate) fn list<D: Disk>(
     requires { IsSome (find_key (λ f. f.key) handle.key files.now.held.files) }
     ensures { IfOk result (λ r. AreOf (service_on files.now (GetAllDmAttr no_token handle)) r) }
 {
-    let attributes = files.meta().catalog().attributes(handle.key).unwrap();
+    let attributes = files.meta().catalog().attributes(handle.key);
     twice(DmReply::Names(attributes.list(alloc)?))
 }

@@ -41,6 +41,6 @@ pub(crate) fn attributes<D: Disk>(
     twice(DmReply::Attr {
         size: files.size(handle.key),
         stamp: stamp(stamps, handle.key),
-        blocks: files.meta().catalog().mapped(handle.key).unwrap(),
+        blocks: files.meta().catalog().mapped(handle.key),
     })
 }

@@ -97,7 +97,7 @@ pub(crate) fn judge_here<D: Disk>(
     requires end { to ≤ file_bytes }
     ensures { Judges result (any_away (file_at key files.now.held.files) from to) }
 {
-    let stubs = files.meta().catalog().stubs(key).unwrap();
+    let stubs = files.meta().catalog().stubs(key);
     match first_offline(stubs, from, to) {
         Some(segment) => Err(DmRefusal::Offline { segment }),
         None => Ok(()),
@@ -110,5 +110,5 @@ pub(crate) fn state<D: Disk>(files: &FileStore<D>, key: FileKey, segment: u32) -
     ensures state { result ≡ state_of (stub_at segment (kept_of key files.now.held.files).stubs) }
     ensures len { IfSome (stub_at segment (kept_of key files.now.held.files).stubs) (λ stub. (entry_print stub.entry).len ≡ segment_len (length (bytes_of key files.now.held.files)) segment) }
 {
-    files.meta().catalog().stubs(key).unwrap().state(segment)
+    files.meta().catalog().stubs(key).state(segment)
 }

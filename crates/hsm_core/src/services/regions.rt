@@ -37,6 +37,6 @@ pub(crate) fn list<D: Disk>(
     requires { IsSome (find_key (λ f. f.key) handle.key files.now.held.files) }
     ensures { IfOk result (λ r. AreOf (service_on files.now (GetRegion no_token handle)) r) }
 {
-    let regions = files.meta().catalog().regions(handle.key).unwrap().list();
+    let regions = files.meta().catalog().regions(handle.key).list();
     twice(DmReply::Regions(regions.clone()?))
 }

@@ -13,9 +13,9 @@ use crate::services::replies::{refused, twice};
 use disk_model::Disk;
 use file_store::FileStore;
 use hsm_types::{DmRefusal, DmReply, Handle, Range, SEGMENT_BYTES, Segment, Segments, segments_in};
-use snapshot_text::{count_present, segment_places};
+use snapshot_text::FileParts;
 use std::alloc::{AllocError, Global};
-use stub_map::{State, StubMap};
+use stub_map::State;
 
 /// The part of a range that a punch could give up.
 pub(crate) fn probe<D: Disk>(
@@ -69,47 +69,36 @@ pub(crate) fn allocated<D: Disk>(
     ensures { IfOk result (λ r. AreOf (service_on files.now (GetAllocInfo no_token handle)) r) }
 {
     let size = files.size(handle.key);
-    let catalog = files.meta().catalog();
-    let places = catalog.places(handle.key).unwrap();
-    let stubs = catalog.stubs(handle.key).unwrap();
-    twice(DmReply::Alloc(segments_of(alloc, size, places, stubs)?))
+    let parts = files.meta().catalog().parts(handle.key);
+    twice(DmReply::Alloc(segments_of(alloc, size, parts)?))
 }
 
-/// What is held of each segment of a file of that size, whose blocks lie at these places. It costs a step for each block, and a look-up for each
-/// segment.
+/// What is held of each segment of a file of that size. It costs a step for each block, and a look-up for each segment.
 pub(crate) fn segments_of(
     alloc: Global,
     size: u64,
-    places: &[Option<u32>],
-    stubs: &StubMap,
+    parts: &FileParts,
 ) -> Result<Segments, AllocError>
     requires { size ≤ file_bytes }
-    ensures { (f : FileState) → IsMadeOf size places.now stubs.now f → IfOk result (λ told. told ≡ segments_told f) }
+    ensures { (f : FileState) → IsMadeOf size parts.now.places parts.now.stubs f → IfOk result (λ told. told ≡ segments_told f) }
 {
     let count = segments_in(size);
     let mut told = Vec::with_capacity(alloc, count as usize)?;
     for segment in 0..count {
-        told.push(segment_of(segment, places, stubs))?;
+        told.push(segment_of(segment, parts))?;
     }
     Ok(Segments::from(told))
 }
 
 /// What is held of one segment.
-fn segment_of(segment: u32, places: &[Option<u32>], stubs: &StubMap) -> Segment
-    ensures { result ≡ segment_as (count_by (λ b. b) (take segment_blocks (drop (segment_blocks * segment) (map is_some places.now)))) (stub_at segment stubs.now) }
+#[tactic(auto, using(crate::proofs::Told::mapped_places))]
+fn segment_of(segment: u32, parts: &FileParts) -> Segment
+    ensures { result ≡ segment_as (count_by (λ b. b) (take segment_blocks (drop (segment_blocks * segment) (map is_some parts.now.places)))) (stub_at segment parts.now.stubs) }
 {
-    let blocks = mapped_in(segment, places);
-    match stubs.state(segment) {
+    let blocks = parts.mapped_in(segment);
+    match parts.stubs().state(segment) {
         State::Resident => Segment::Resident { blocks },
         State::Sealed(entry) => Segment::Sealed { blocks, entry },
         State::Offline(entry) => Segment::Offline { entry },
     }
-}
-
-/// How many blocks of the segment are mapped.
-#[tactic(auto, using(crate::proofs::Told::mapped_places))]
-fn mapped_in(segment: u32, places: &[Option<u32>]) -> u32
-    ensures { result ≡ count_by (λ b. b) (take segment_blocks (drop (segment_blocks * segment) (map is_some places.now))) }
-{
-    count_present(segment_places(places, segment))
 }

@@ -67,7 +67,7 @@ fn rows(
             handle: dm_handles::make(superblock.fsid, key),
             size,
             stamp: stamp(stamps, key),
-            segments: segments_of(alloc, size, parts.places(), parts.stubs())?,
+            segments: segments_of(alloc, size, parts)?,
         })?;
     }
     Ok(FileRows::from(rows))

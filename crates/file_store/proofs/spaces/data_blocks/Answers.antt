@@ -15,4 +15,4 @@ pub unwrap-requires : goal.unwrap-requires
 unwrap-requires c = some-at _ _ c.args.catalog.now.files c.loop-index.index c.file.ensures (omega (arith, listed-count _ _ c.args.catalog.now _ c.names.ensures c.len-index-end.ensures.len))
 
 pub loop-index-preserved : goal.loop-index-preserved
-loop-index-preserved c = one_more c.args.catalog.now.files c.loop-index.index _ _ _ _ (sym (rw c.unwrap.ensures at c.file.ensures)) (rw c.places-places.ensures at c.in_ok-put_present.ensures) c.loop-index.invariant
+loop-index-preserved c = one_more c.args.catalog.now.files c.loop-index.index _ _ _ _ (sym (rw c.unwrap.ensures at c.file.ensures)) c.in_ok-put_from.ensures c.loop-index.invariant

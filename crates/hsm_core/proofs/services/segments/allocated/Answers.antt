@@ -13,10 +13,10 @@ use Rattle.hsm_core.proofs.services.segments.allocated.Goals as goal
 
 pub returns : goal.returns
 returns g c =
-    let catalog : Catalog = c.catalog-catalog.result.now in
-    let shows : Shows catalog c.args.files.now.held = subst (λ (x : Catalog). Shows x c.args.files.now.held) (sym (c.catalog-catalog.ensures.catalog ∙ ap (λ (m : Meta). m.current) c.meta.ensures.meta)) c.meta.ensures.shows in
-    let made = made_of_parts catalog c.args.files.now.held c.args.handle.key c.unwrap-places.result.now c.unwrap-stubs.result.now shows (rw c.unwrap-places.ensures at c.places.ensures) (rw c.unwrap-stubs.ensures at c.stubs.ensures) in
+    let catalog : Catalog = c.catalog.result.now in
+    let shows : Shows catalog c.args.files.now.held = subst (λ (x : Catalog). Shows x c.args.files.now.held) (sym (c.catalog.ensures.catalog ∙ ap (λ (m : Meta). m.current) c.meta.ensures.meta)) c.meta.ensures.shows in
+    let made = made_of_parts catalog c.args.files.now.held c.args.handle.key c.parts-parts.result.now shows c.parts-parts.ensures in
     subst (λ (told : List Segment). IfOk c.twice.result (λ r. AreBoth (reply.Alloc told) r))
     (c.in_ok-segments_of.ensures (file_at c.args.handle.key c.args.files.now.held.files)
-    (subst (λ (n : ℕ). IsMadeOf n c.unwrap-places.result.now c.unwrap-stubs.result.now (file_at c.args.handle.key c.args.files.now.held.files)) (sym c.size-size.ensures.size) made))
+    (subst (λ (n : ℕ). IsMadeOf n c.parts-parts.result.now.places c.parts-parts.result.now.stubs (file_at c.args.handle.key c.args.files.now.held.files)) (sym c.size-size.ensures.size) made))
     c.twice.ensures

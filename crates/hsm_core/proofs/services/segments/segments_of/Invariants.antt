@@ -4,4 +4,4 @@ use Rattle.hsm_core.proofs.Told.{told_at}
 use Rattle.hsm_core.proofs.services.segments.segments_of.Given as goal
 
 abbrev pub invariant-loop-segment : goal.invariant-loop-segment
-invariant-loop-segment l = l.told.items ≡ map (told_at l.places l.stubs) (from_on 0 l.segment)
+invariant-loop-segment l = l.told.items ≡ map (told_at l.parts.places l.parts.stubs) (from_on 0 l.segment)

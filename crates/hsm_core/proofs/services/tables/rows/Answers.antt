@@ -1,4 +1,4 @@
-use Rattle.std.proofs.Common.{ℕ, List, Option, refl, sym, subst}
+use Rattle.std.proofs.Common.{ℕ, refl, sym}
 use Rattle.hsm_types.specs.declared.keys.FileKey.{FileKey}
 use Rattle.hsm_types.specs.declared.stores.Superblock.{Superblock}
 use Rattle.hsm_types.specs.declared.tables.FileRow.{FileRow}
@@ -7,7 +7,6 @@ use Rattle.snapshot_text.specs.Files.{CatalogFile}
 use Rattle.snapshot_text.specs.Parts.{file_of}
 use Rattle.meta_store.proofs.SnapshotFits.{size-few}
 use Rattle.file_store.proofs.Loaded.{next-file}
-use Rattle.hsm_core.specs.Services.{IsMadeOf}
 use Rattle.hsm_core.specs.Stamps.{stamp_in}
 use Rattle.hsm_core.proofs.Told.{made_of_row, row_at, row_more, row_same}
 use Rattle.hsm_core.proofs.services.tables.rows.Goals as goal
@@ -26,6 +25,6 @@ loop-index-preserved c = λ held shown.
     let file : CatalogFile = file_of lent.0 lent.1.now lent.2 lent.3.now in
     let found = row_at c.args.catalog.now.files held.files c.loop-index.index file shown.rows (sym (rw c.unwrap-size.ensures at c.file.ensures)) in
     let made = made_of_row file found.0 found.1 in
-    let told = c.in_ok-segments_of.ensures found.0 (subst (λ (ps : List (Option ℕ)). IsMadeOf lent.2 ps c.stubs.result.now found.0) (sym c.places.ensures) (rw (c.stubs.ensures) made)) in
+    let told = c.in_ok-segments_of.ensures found.0 made in
     row_more (row_of super stamps) held.files c.loop-index.index found.0 c.loop-index.rows.items c.push.new.self.items row c.in_ok-push.ensures.items (c.loop-index.invariant held shown)
     (row_same super stamps file found.0 row found.1 c.make.ensures refl c.stamp.ensures told) found.2

@@ -1,7 +1,7 @@
 use Rattle.std.proofs.Common.{◌≡◌, ◌∷◌, ap, length, arith}
 use Rattle.std.proofs.lemmas.Result.{err_from_is_err_and}
 use Rattle.std.specs.Vec.Iter.{into_iter_items}
-use Rattle.meta_store.proofs.AppliedRecords.{IsTaking, taking-all, taking-next, taking-stops, taking-judged, told_on}
+use Rattle.meta_store.proofs.AppliedRecords.{IsTaking, taking-next, taking-stops, taking-judged, told_on}
 use Rattle.meta_store.proofs.catalog.Catalog.apply_all.Goals.{After-drop-record-iterator}
 use Rattle.meta_store.proofs.catalog.Catalog.apply_all.Goals as goal
 

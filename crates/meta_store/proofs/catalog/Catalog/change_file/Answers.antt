@@ -1,4 +1,4 @@
-use Rattle.std.proofs.Common.{◌≡◌, ◌+◌, None, refl, ◌∙◌, ap, arith, length, length-set}
+use Rattle.std.proofs.Common.{◌≡◌, ◌+◌, refl, ◌∙◌, ap, arith, length, length-set}
 use Rattle.std.proofs.lemmas.Result.{err_from_is_err_and}
 use Rattle.inode_table.specs.Table.{entry_of}
 use Rattle.journal_records.specs.Texts.{inode_of}
@@ -7,7 +7,7 @@ use Rattle.meta_store.specs.Records.{without_file, with_changed, key_on}
 use Rattle.snapshot_text.specs.Files.{geometry_of, IsLawfulKept}
 use Rattle.meta_store.specs.Catalogs.{Catalog, blocks_of, attribute_total, stub_total}
 use Rattle.snapshot_text.specs.Parts.{kept_in}
-use Rattle.meta_store.proofs.HeldCatalogs.{IsCounted, lawful, place-within, live-at, after}
+use Rattle.meta_store.proofs.HeldCatalogs.{lawful, place-within, after}
 use Rattle.meta_store.proofs.FileEdits.{count_of, stubs_of, mapped_of, used-sum, sum-drop, sum-change}
 use Rattle.meta_store.proofs.FilesAfter.{fits}
 use Rattle.meta_store.proofs.LentParts.{IsLent, lend, stands-on, lawful-file, lawful-regions, room, refusal, changed, stubs-few, new-held}
