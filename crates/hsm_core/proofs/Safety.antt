@@ -39,6 +39,10 @@ all_taken es = take_all (length es) es (omega arith)
 held_now : {D : Type 0} {g : disk.Ghosts D} (s : Store D) → HasRun g s → s.files.failed ≡ false → s.files.held ≡ held_by (superblock_of s.opened) s.opened.meta.number s.opened.held s.history
 held_now s run working = ap (λ (st : State). st.held) (run.state working)
 
+-- what was made durable last has no greater number than the last entry
+pub rises_now : {D : Type 0} {g : disk.Ghosts D} (s : Store D) → IsSafe g s → s.files.failed ≡ false → s.files.meta.number ≤ last_number s
+rises_now s safe working = let up = safe.durable working in omega (arith, up.number, up.to)
+
 module _ {D : Type 0} (g : disk.Ghosts D) (s : Store D) (run : HasRun g s) where
   formatted : (c : List ℕ) (n : ℕ) (h : Held) → IsRecovered s.files.meta.durable.geometry s.files.meta.fsid n h c → IsRecovered s.opened.meta.durable.geometry s.opened.meta.fsid n h c
   formatted c n h is = subst (λ (z : ℕ). IsRecovered z s.opened.meta.fsid n h c) run.geometry (subst (λ (z : ℕ). IsRecovered s.files.meta.durable.geometry z n h c) run.fsid is)

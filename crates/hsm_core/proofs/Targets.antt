@@ -77,6 +77,9 @@ both_of false b is = cc
 some_bytes : (len : ℕ) → bad_length len ≡ None → 1 ≤ len
 some_bytes len none = let in_range = both_of (nat_le 1 len) (nat_le len access_bytes) (passes (nat_le 1 len && nat_le len access_bytes) (BadLength len) none) in let least = in_range.0 in grind (arith, nat_tests, least)
 
+few_bytes : (len : ℕ) → bad_length len ≡ None → len ≤ access_bytes
+few_bytes len none = let in_range = both_of (nat_le 1 len) (nat_le len access_bytes) (passes (nat_le 1 len && nat_le len access_bytes) (BadLength len) none) in let most = in_range.1 in grind (arith, nat_tests, most)
+
 within : (limits : Limits) (end : ℕ) → too_big limits end ≡ None → end ≤ limits.bytes
 within limits end none = elim (nat_lt limits.bytes end) as (λ b. nat_lt limits.bytes end ≡ b → (if b then Some (TooBig (min end (2 ^ 64 - 1))) else None) ≡ None → end ≤ limits.bytes) [
   | true ↦ λ past is. cc
@@ -89,7 +92,7 @@ bounded s files (Write name offset bytes) none =
     let past_name = none_first (bad_name name) (bad_length (length bytes) ∷ missing name files ∷ big ∷ []) none in
     let past_length = none_first (bad_length (length bytes)) (missing name files ∷ big ∷ []) past_name.1 in
     let past_file = none_first (missing name files) (big ∷ []) past_length.1 in
-    (some_bytes (length bytes) past_length.0, within s.geometry.limits (offset + length bytes) (none_first big [] past_file.1).0)
+    (some_bytes (length bytes) past_length.0, within s.geometry.limits (offset + length bytes) (none_first big [] past_file.1).0, few_bytes (length bytes) past_length.0)
 bounded s files (Truncate name size) none =
     let big = too_big s.geometry.limits size in
     let past_name = none_first (bad_name name) (missing name files ∷ big ∷ []) none in
@@ -103,7 +106,7 @@ bounded s files Sync none = tt
 
 -- what a format bounds the code can count
 pub widest_bounded : (limits : Limits) (call : Call) → IsCountable limits → IsBounded limits call → IsBounded widest_limits call
-widest_bounded limits (Write name offset bytes) countable is = (is.0, omega (arith, is.1, countable.0))
+widest_bounded limits (Write name offset bytes) countable is = (is.0, omega (arith, is.1, countable.0), is.2)
 widest_bounded limits (Truncate name size) countable is = omega (arith, is, countable.0)
 widest_bounded limits call countable is = tt
 

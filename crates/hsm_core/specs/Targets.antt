@@ -1,7 +1,7 @@
 -- The file that a call means.
 use Rattle.std.specs.Prelude.{◌≡◌, ◌≤◌, ◌+◌, ℕ, List, length, Option, Some, None, IfSome, IsSome, IsSomeAnd}
 use Rattle.std.specs.List.{AllByRecursion}
-use Rattle.hsm_types.specs.Limits.{file_bytes}
+use Rattle.hsm_types.specs.Limits.{access_bytes, file_bytes}
 use Rattle.hsm_types.specs.declared.keys.FileKey.{FileKey}
 use Rattle.hsm_types.specs.declared.stores.Limits.{Limits}
 use Rattle.hsm_types.specs.declared.stores.Superblock.{Superblock}
@@ -39,9 +39,9 @@ abbrev pub key_in : Option Target → FileKey
 key_in None = record { ino = 0; igen = 0 }
 key_in (Some t) = t.key
 
--- a write has bytes and ends within the limit of a file, and so does a truncate
+-- a write has bytes, no more than the longest access, and ends within the limit of a file, and so does a truncate
 abbrev pub IsBounded : Limits → Call → Type 0
-IsBounded limits (Write name offset bytes) = (1 ≤ length bytes) × (offset + length bytes ≤ limits.bytes)
+IsBounded limits (Write name offset bytes) = (1 ≤ length bytes) × (offset + length bytes ≤ limits.bytes) × (length bytes ≤ access_bytes)
 IsBounded limits (Truncate name size) = size ≤ limits.bytes
 IsBounded limits call = Unit {0}
 

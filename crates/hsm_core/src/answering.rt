@@ -44,6 +44,7 @@ pub(crate) fn answer<D: Disk>(
     requires room { 0 < spare stamps.old }
     requires number { number < 2 ^ 63 }
     requires idle { Proceeds D.Disk files.old number files.old }
+    requires rises { files.old.meta.number ≤ number }
     requires fresh { is_fresh access.now ≡ true }
     requires ordered { InOrder (state_with files.old.held stamps.old.entries service.old number) }
     ensures replied { IsReplied D.Disk files.old number stamps.old.entries service.old caller (Issue access.now.call) result files.new stamps.new.entries service.new }
@@ -76,6 +77,7 @@ fn begin<D: Disk>(
     requires room { 0 < spare stamps.old }
     requires number { number < 2 ^ 63 }
     requires idle { Proceeds D.Disk files.old number files.old }
+    requires rises { files.old.meta.number ≤ number }
     requires fresh { is_fresh access.now ≡ true }
     requires ordered { InOrder (state_with files.old.held stamps.old.entries service.old number) }
     requires none { waiting service.old caller ≡ None }
@@ -113,6 +115,7 @@ pub(crate) fn answer_again<D: Disk>(
     requires room { is_aborted (waiting service.old caller) ≡ false → 0 < spare stamps.old }
     requires number { number < 2 ^ 63 }
     requires idle { Proceeds D.Disk files.old number files.old }
+    requires rises { files.old.meta.number ≤ number }
     requires ordered { InOrder (state_with files.old.held stamps.old.entries service.old number) }
     requires lasts { EachLasts (superblock_of files.old).geometry.limits (ledger_of service.old) }
     ensures replied { IsReplied D.Disk files.old number stamps.old.entries service.old caller Resume result files.new stamps.new.entries service.new }
@@ -141,6 +144,7 @@ fn go_on<D: Disk>(
     requires room { is_aborted (waiting service.old caller) ≡ false → 0 < spare stamps.old }
     requires number { number < 2 ^ 63 }
     requires idle { Proceeds D.Disk files.old number files.old }
+    requires rises { files.old.meta.number ≤ number }
     requires lasts { EachLasts (superblock_of files.old).geometry.limits (ledger_of service.old) }
     requires waits { IsSomeAnd (waiting service.old caller) (λ a. goes_on (pending_as a) a.token a.answer ≡ Means a.key a.call) }
     ensures replied { IsReplied D.Disk files.old number stamps.old.entries service.old caller Resume result files.new stamps.new.entries service.new }
@@ -189,6 +193,7 @@ fn finish<D: Disk>(
     requires room { verdict ≡ Verdict.Complete → 0 < spare stamps.old }
     requires number { number < 2 ^ 63 }
     requires idle { Proceeds D.Disk files.old number files.old }
+    requires rises { files.old.meta.number ≤ number }
     requires ends { ends verdict ≡ true }
     requires complete { verdict ≡ Verdict.Complete → MayComplete (superblock_of files.old) files.old.held access.now.call target }
     requires aborted { (response : Response) → verdict ≡ Verdict.Answered response → IsAbort response }

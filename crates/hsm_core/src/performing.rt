@@ -4,6 +4,7 @@ ghost use Rattle.disk_model.specs.Moments.{Tells};
 ghost use Rattle.hsm_types.specs.declared.calls.Call.TheVariants.{Create, Sync};
 ghost use Rattle.hsm_types.specs.declared.calls.Reply.TheVariants.{Made, Data};
 ghost use Rattle.hsm_types.specs.Keyed.{find_key};
+ghost use Rattle.hsm_types.specs.Limits.{access_bytes};
 ghost use Rattle.plain_model.specs.Plain.{read_at, refusal_of};
 ghost use Rattle.plain_model.specs.Effects.{effect_of, Makes, Writes, Resizes, Drops};
 ghost use Rattle.plain_model.specs.Blocks.{touched};
@@ -33,6 +34,7 @@ pub(crate) fn perform<D: Disk>(
 ) -> Result<(Reply, Reply), StoreRefusal>
     requires working { files.old.failed ≡ false }
     requires idle { Proceeds D.Disk files.old number files.old }
+    requires rises { files.old.meta.number ≤ number }
     requires bounded { IsBounded (superblock_of files.old).geometry.limits call.now }
     requires target { IsOn files.old.held.files target.key call.now (Some target) }
     requires fits { shortage (superblock_of files.old) files.old.held target.key call.now ≡ None }
@@ -66,6 +68,7 @@ pub(crate) fn perform_alone<D: Disk>(
 ) -> Result<(Reply, Reply), StoreRefusal>
     requires working { files.old.failed ≡ false }
     requires idle { Proceeds D.Disk files.old number files.old }
+    requires rises { files.old.meta.number ≤ number }
     requires lawful { MayDo (superblock_of files.old) files.old.held.files call.now }
     requires alone { IsOn files.old.held.files (key_in None) call.now None }
     ensures reply { IfOk result (λ r. AreBoth (done_reply files.old.held (key_in None) call.now) r) }
@@ -88,6 +91,7 @@ fn create<D: Disk>(
     number: u64,
 ) -> Result<(Reply, Reply), StoreRefusal>
     requires working { files.old.failed ≡ false }
+    requires rises { files.old.meta.number ≤ number }
     requires lawful { refusal_of (superblock_of files.old) (names_of files.old.held.files) (Create name.now) ≡ None }
     ensures reply { IfOk result (λ r. AreBoth (Made (next_key files.old.held)) r) }
     ensures held { OnOk result (files.new.held ≡ record { files = affected_held (Makes name.now) (next_key files.old.held) files.old.held.files; next = files.old.held.next + 1 }) }
@@ -126,8 +130,10 @@ fn write<D: Disk>(
     number: u64,
 ) -> Result<(Reply, Reply), StoreRefusal>
     requires working { files.old.failed ≡ false }
+    requires rises { files.old.meta.number ≤ number }
     requires live { IsSome (find_key (λ f. f.key) key files.old.held.files) }
     requires some { 1 ≤ length body.now }
+    requires few { length body.now ≤ access_bytes }
     requires end { offset + length body.now ≤ (superblock_of files.old).geometry.limits.bytes }
     requires here { IsSound (Writes offset body.now) (file_at key files.old.held.files) }
     requires room { length (touched (Writes offset body.now) (length (bytes_of key files.old.held.files))) + used files.old.held.files ≤ (superblock_of files.old).geometry.blocks }
@@ -147,6 +153,7 @@ fn truncate<D: Disk>(
     number: u64,
 ) -> Result<(Reply, Reply), StoreRefusal>
     requires working { files.old.failed ≡ false }
+    requires rises { files.old.meta.number ≤ number }
     requires live { IsSome (find_key (λ f. f.key) key files.old.held.files) }
     requires end { size ≤ (superblock_of files.old).geometry.limits.bytes }
     requires here { IsSound (Resizes size) (file_at key files.old.held.files) }
@@ -166,6 +173,7 @@ fn remove<D: Disk>(
     number: u64,
 ) -> Result<(Reply, Reply), StoreRefusal>
     requires working { files.old.failed ≡ false }
+    requires rises { files.old.meta.number ≤ number }
     requires live { IsSome (find_key (λ f. f.key) key files.old.held.files) }
     ensures reply { IfOk result (λ r. AreBoth Reply.Done r) }
     ensures changed { Changes D.Disk files.old number key Drops None result files.new }
@@ -181,6 +189,7 @@ pub(crate) fn commit<D: Disk>(
     number: u64,
 ) -> Result<(Reply, Reply), StoreRefusal>
     requires working { files.old.failed ≡ false }
+    requires rises { files.old.meta.number ≤ number }
     ensures reply { IfOk result (λ r. AreBoth Reply.Done r) }
     ensures held { files.new.held ≡ files.old.held }
     ensures synced { OnOk result (IsSynced D.Disk number files.old files.new) }

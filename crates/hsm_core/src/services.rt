@@ -49,6 +49,7 @@ pub(crate) fn serve<D: Disk>(
 ) -> Result<(DmReply, DmReply), StoreRefusal>
     requires working { files.old.failed ≡ false }
     requires idle { Proceeds D.Disk files.old number files.old }
+    requires rises { files.old.meta.number ≤ number }
     requires ordered { InOrder (state_with files.old.held stamps.now.entries service.old number) }
     ensures replies { IfOk result (λ r. IsOfSeen (Tells D.Disk files.new.disk) files.old.held (λ seen. AreBoth (dm_reply_to (superblock_of files.old) (state_with seen stamps.now.entries service.old number) sid call.now) r)) }
     ensures left { IfOk result (λ r. state_with files.new.held stamps.now.entries service.new (number + 1) ≡ left_told (state_with files.old.held stamps.now.entries service.old number) sid call.now r.1) }
@@ -82,6 +83,7 @@ fn perform<D: Disk>(
 ) -> Result<(DmReply, DmReply), StoreRefusal>
     requires working { files.old.failed ≡ false }
     requires idle { Proceeds D.Disk files.old number files.old }
+    requires rises { files.old.meta.number ≤ number }
     requires files { asks_tables call.now ≡ false }
     requires bodies { asks_rights call.now ≡ false }
     requires within { IsInScope files.old.held.files (scope_of call.now) }
@@ -127,6 +129,7 @@ fn change<D: Disk>(
 ) -> Result<(DmReply, DmReply), StoreRefusal>
     requires working { files.old.failed ≡ false }
     requires idle { Proceeds D.Disk files.old number files.old }
+    requires rises { files.old.meta.number ≤ number }
     requires changes { changes_file call.now ≡ true }
     requires within { IsInScope files.old.held.files (scope_of call.now) }
     ensures { IsServed D.Disk files.old number call.now result files.new }

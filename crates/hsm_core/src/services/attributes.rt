@@ -24,6 +24,7 @@ pub(crate) fn set<D: Disk>(
     requires working { files.old.failed ≡ false }
     requires live { IsSome (find_key (λ f. f.key) handle.key files.old.held.files) }
     requires idle { Proceeds D.Disk files.old number files.old }
+    requires rises { files.old.meta.number ≤ number }
     ensures { IsServed D.Disk files.old number (SetDmAttr no_token handle name value.now) result files.new }
 {
     let value = value.clone()?;
@@ -57,6 +58,7 @@ pub(crate) fn remove<D: Disk>(
     requires working { files.old.failed ≡ false }
     requires live { IsSome (find_key (λ f. f.key) handle.key files.old.held.files) }
     requires idle { Proceeds D.Disk files.old number files.old }
+    requires rises { files.old.meta.number ≤ number }
     ensures { IsServed D.Disk files.old number (RemoveDmAttr no_token handle name) result files.new }
 {
     changed(files.drop_attr(alloc, handle.key, name, number))

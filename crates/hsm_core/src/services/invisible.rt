@@ -1,5 +1,6 @@
 //! Reads and writes of a live file that raise no event and renew no stamp.
 ghost use Rattle.std.specs.Prelude.{ℕ, ◌≡◌, ◌+◌, ◌≤◌, false, IsSome, OnOk, length};
+ghost use Rattle.hsm_types.specs.Limits.{access_bytes};
 ghost use Rattle.hsm_types.specs.Messages.{no_token};
 ghost use Rattle.hsm_types.specs.declared.dm.DmCall.TheVariants.{ReadInvis, WriteInvis};
 ghost use Rattle.plain_model.specs.Effects.{Writes};
@@ -68,6 +69,7 @@ pub(crate) fn write<D: Disk>(
     requires working { files.old.failed ≡ false }
     requires live { IsSome (find_key (λ f. f.key) handle.key files.old.held.files) }
     requires idle { Proceeds D.Disk files.old number files.old }
+    requires rises { files.old.meta.number ≤ number }
     ensures { IsServed D.Disk files.old number (WriteInvis no_token handle offset body.now) result files.new }
 {
     let bytes = body.as_slice();
@@ -88,6 +90,7 @@ fn judge_invisible_write<D: Disk>(
     requires { IsSome (find_key (λ f. f.key) key files.now.held.files) }
     ensures judged { Judges result (writing_refusal (superblock_of files.now) files.now.held (file_at key files.now.held.files) offset bytes.now) }
     ensures some { OnOk result (1 ≤ length bytes.now) }
+    ensures few { OnOk result (length bytes.now ≤ access_bytes) }
     ensures end { OnOk result (offset + length bytes.now ≤ (superblock_of files.now).geometry.limits.bytes) }
     ensures room { OnOk result (length (touched (Writes offset bytes.now) (length (bytes_of key files.now.held.files))) + used files.now.held.files ≤ (superblock_of files.now).geometry.blocks) }
 {

@@ -37,6 +37,7 @@ pub(crate) fn serve<D: Disk>(
 ) -> Result<(DmReply, DmReply), StoreRefusal>
     requires working { files.old.failed ≡ false }
     requires idle { Proceeds D.Disk files.old number files.old }
+    requires rises { files.old.meta.number ≤ number }
     requires moves { moves_segments call.now ≡ true }
     requires within { IsInScope files.old.held.files (scope_of call.now) }
     ensures { IsServed D.Disk files.old number call.now result files.new }
@@ -76,6 +77,7 @@ fn punch<D: Disk>(
     requires working { files.old.failed ≡ false }
     requires live { IsSome (find_key (λ f. f.key) handle.key files.old.held.files) }
     requires idle { Proceeds D.Disk files.old number files.old }
+    requires rises { files.old.meta.number ≤ number }
     ensures { IsServed D.Disk files.old number (PunchHole no_token handle offset len) result files.new }
 {
     let size = files.size(handle.key);
@@ -148,6 +150,7 @@ fn seal<D: Disk>(
     requires working { files.old.failed ≡ false }
     requires live { IsSome (find_key (λ f. f.key) handle.key files.old.held.files) }
     requires idle { Proceeds D.Disk files.old number files.old }
+    requires rises { files.old.meta.number ≤ number }
     ensures { IsServed D.Disk files.old number (Seal no_token handle segment entry) result files.new }
 {
     if let Err(why) = judge_seal(files, handle.key, segment, entry) {
@@ -206,6 +209,7 @@ fn restore<D: Disk>(
     requires working { files.old.failed ≡ false }
     requires live { IsSome (find_key (λ f. f.key) handle.key files.old.held.files) }
     requires idle { Proceeds D.Disk files.old number files.old }
+    requires rises { files.old.meta.number ≤ number }
     ensures { IsServed D.Disk files.old number (Restore no_token handle segment bytes.now) result files.new }
 {
     if let Err(why) = judge_restore(files, handle.key, segment, bytes) {

@@ -23,6 +23,7 @@ pub(crate) fn set<D: Disk>(
     requires working { files.old.failed ≡ false }
     requires live { IsSome (find_key (λ f. f.key) handle.key files.old.held.files) }
     requires idle { Proceeds D.Disk files.old number files.old }
+    requires rises { files.old.meta.number ≤ number }
     ensures { IsServed D.Disk files.old number (SetRegion no_token handle regions.now) result files.new }
 {
     let regions = regions.clone()?;

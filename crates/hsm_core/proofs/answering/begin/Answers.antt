@@ -25,6 +25,7 @@ finish-requires g c = record {
   room = λ is. c.requires.room;
   number = c.requires.number;
   idle = c.requires.idle;
+  rises = c.requires.rises;
   ends = ends_unless c.judge-verdict.result c.in_default-verdict.not-Post c.in_default-verdict.not-Block;
   complete = λ is.
       issue_completes g.D.Disk c.args.files.now c.args.number c.args.stamps.now.entries c.args.service.now c.args.caller c.args.access.now c.facts-facts.result c.requires.working c.requires.idle

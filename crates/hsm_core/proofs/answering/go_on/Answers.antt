@@ -69,6 +69,7 @@ finish-requires g c =
       room = λ is. c.requires.room (ap is_aborted (waits g at) ∙ unaborted _ c.unwrap-access.result.now.answer c.facts_again-facts.result c.args.service.now.rights c.args.service.now.sessions c.unwrap-access.result.now.key c.unwrap-access.result.now.call Complete (sym c.judge-verdict.ensures ∙ is) (λ response same. cc same));
       number = c.requires.number;
       idle = c.requires.idle;
+      rises = c.requires.rises;
       ends = ends_unless c.judge-verdict.result c.in_default.not-Post c.in_default.not-Block;
       complete = λ is.
           again_completes g.D.Disk c.args.files.now c.args.number c.args.stamps.now.entries c.args.service.now c.args.caller c.unwrap-access.result.now c.facts_again-facts.result c.requires.working c.requires.idle

@@ -36,3 +36,6 @@ pub returns : goal.returns
 returns g c =
     seal_served g.D.Disk c.args.files.now c.args.number c.args.handle c.args.segment c.args.entry c.digest_segment.new.self c.in_ok-got.got c.in_default.ensures.judged c.in_ok-got.ensures.print c.in_ok-got.ensures.looks
     c.seal.new.self c.seal.result c.changed.result (rw c.print.ensures at c.in_default-judge_print.ensures.judged) c.seal.ensures.changed c.changed.ensures
+
+pub seal-requires-clause-rises : goal.seal-requires-clause-rises
+seal-requires-clause-rises g c = rw c.in_ok-got.ensures.looks.meta c.requires.rises

@@ -10,6 +10,7 @@ use Rattle.hsm_core.specs.Store.{Store, KeepsRoom, state_with}
 use Rattle.hsm_core.specs.Answers.{IsCommitted}
 use Rattle.hsm_core.proofs.Events.{event, always, whenever, not_begun, one_more, IsNext, Keeps}
 use Rattle.hsm_core.proofs.Packing.{still_packed}
+use Rattle.hsm_core.proofs.Safety.{rises_now}
 use Rattle.hsm_core.proofs.Seeing.{held_replies}
 use Rattle.hsm_core.proofs.store.Hsm.commit.Given.{Over}
 use Rattle.hsm_core.proofs.store.Hsm.commit.Goals.{After-record_event}
@@ -98,3 +99,8 @@ returns-in-Err-clause-keeps g c =
     subst (λ (old : Store g.row.D.Denot). length old.history + awaited_in old.tables + old.spare
     ≤ length c.make_ready.new.history.items + awaited_in c.self.inside.service + (vec_capacity c.make_ready.new.history - (vec_len c.make_ready.new.history + awaited_in c.self.inside.service))) c.self.view_is
     (omega (arith, c.make_ready.ensures.keeps, c.self.invariant.4))
+
+pub commit-done-requires-clause-rises : goal.commit-done-requires-clause-rises
+commit-done-requires-clause-rises g c =
+    let low = rises_now (record { opened = c.self.inside.opened.value; files = c.self.inside.files; stamps = c.self.inside.stamps.entries; tables = c.self.inside.service; history = c.self.inside.history.items; spare = vec_capacity c.self.inside.history - (vec_len c.self.inside.history + awaited_in c.self.inside.service) }) c.self.invariant.1 c.in_default.ensures.working in
+    omega (arith, low, c.self.invariant.2, c.len.ensures, ap length c.make_ready.ensures.same)

@@ -14,6 +14,7 @@ use Rattle.hsm_core.specs.Targets.{EachLasts}
 use Rattle.hsm_core.specs.Answers.{IsResumed}
 use Rattle.hsm_core.proofs.Events.{event, always, lasting, room_again, not_begun, one_more, IsNext, Keeps}
 use Rattle.hsm_core.proofs.Packing.{still_packed}
+use Rattle.hsm_core.proofs.Safety.{rises_now}
 use Rattle.hsm_core.proofs.Runs.{formatted_as}
 use Rattle.hsm_core.proofs.store.Hsm.resume.Given.{Over}
 use Rattle.hsm_core.proofs.store.Hsm.resume.Goals.{After-record_event}
@@ -118,3 +119,8 @@ returns-in-Err-clause-keeps g c =
     subst (λ (old : Store g.row.D.Denot). length old.history + awaited_in old.tables + old.spare
     ≤ length c.make_ready_to_resume.new.history.items + awaited_in c.self.inside.service + (vec_capacity c.make_ready_to_resume.new.history - (vec_len c.make_ready_to_resume.new.history + awaited_in c.self.inside.service))) c.self.view_is
     (omega (arith, c.make_ready_to_resume.ensures.keeps, c.self.invariant.4))
+
+pub answer_again-done-requires-clause-rises : goal.answer_again-done-requires-clause-rises
+answer_again-done-requires-clause-rises g c =
+    let low = rises_now (record { opened = c.self.inside.opened.value; files = c.self.inside.files; stamps = c.self.inside.stamps.entries; tables = c.self.inside.service; history = c.self.inside.history.items; spare = vec_capacity c.self.inside.history - (vec_len c.self.inside.history + awaited_in c.self.inside.service) }) c.self.invariant.1 c.in_default.ensures.working in
+    omega (arith, low, c.self.invariant.2, c.len.ensures, ap length c.make_ready_to_resume.ensures.same)
