@@ -1,16 +1,20 @@
-use Rattle.std.proofs.Common.{◌≡◌, ⊎_elim, ◌++◌, true, length, take, drop, sym, ◌∙◌, ap, subst, arith}
+use Rattle.std.proofs.Common.{◌≡◌, ℕ, ⊎_elim, ◌++◌, true, length, take, drop, sym, ◌∙◌, ap, subst, arith}
 use Rattle.std.specs.List.{concat}
 use Rattle.std.proofs.lemmas.Bool.{true≢false, cases_eq}
-use Rattle.std.proofs.lemmas.Grind.{common_steps}
+use Rattle.std.proofs.lemmas.List.{take_at}
 use Rattle.file_body.specs.HeldBodies.{AreZeros, HeldBody, pieces, is_away, stands_away}
 use Rattle.plain_model.specs.Plain.{segment as segment_of}
-use Rattle.file_body.proofs.HeldLists.{zeros_of}
-use Rattle.file_body.proofs.Outcomes.{on_ok}
+use Rattle.file_body.proofs.HeldLists.{held_of, zeros_of}
+use Rattle.file_body.proofs.Outcomes.{on_ok, on_err}
 use Rattle.file_body.proofs.bodies.Body.bring.Goals as goal
 
 -- all segments are written back
 whole : (c : goal.After-self-1) → take c.self.inside.segments.len (c.bring.new.segments ++ drop (length c.bring.new.segments) c.self.inside.segments.items) ≡ c.bring.new.segments
-whole c = grind (arith, common_steps)
+whole c = take_at c.bring.new.segments _ _ (omega (arith, c.bring.auto.segments, ap length c.as_mut_slice.ensures.value, c.self.inside.segments.ok.0))
+
+-- which segments are away before any comes
+was : (c : goal.After-self-1) (j : ℕ) → stands_away c.as_mut_slice.result.now j ≡ is_away c.args.self.now j
+was c j = ap (λ l. stands_away l j) c.as_mut_slice.ensures.value ∙ ap (λ b. is_away b j) c.self.view_is
 
 pub returns-clause-ok : goal.returns-clause-ok
 returns-clause-ok c =
@@ -35,7 +39,20 @@ returns-clause-keeps c =
     let now : stands_away c.bring.new.segments j ≡ true = ap (λ l. stands_away l j) (sym (whole c)) ∙ gone in
     ⊎_elim
     (λ (q : j ≡ c.args.segment). absurd (true≢false (sym now ∙ here j (omega arith) (omega arith))))
-    (λ (q : j ≡ c.args.segment → ⊥).
-    sym (ap (λ b. is_away b j) c.self.view_is) ∙ (ap (λ l. stands_away l j) (sym c.as_mut_slice.ensures.value) ∙ (sym (c.bring.ensures.others j (λ low high. q (omega arith))) ∙ now)))
+    (λ (q : j ≡ c.args.segment → ⊥). sym (was c j) ∙ (sym (c.bring.ensures.others j (λ low high. q (omega arith))) ∙ now))
     (cases_eq j c.args.segment))
     c.bring.ensures.here
+
+pub returns-clause-others : goal.returns-clause-others
+returns-clause-others c = λ j other. rw (whole c) (c.bring.ensures.others j (λ low high. other (omega arith)) ∙ was c j)
+
+pub returns-clause-err : goal.returns-clause-err
+returns-clause-err c =
+    on_err c.bring.result
+    (λ (same : c.bring.new.segments ≡ c.as_mut_slice.result.now). rw (whole c) (ap held_of (same ∙ c.as_mut_slice.ensures.value) ∙ c.self.view_is))
+    c.bring.ensures.err
+
+pub returns-clause-here : goal.returns-clause-here
+returns-clause-here c = λ here.
+    let done = c.bring.ensures.enough (λ j low high. let at : j ≡ c.args.segment = omega arith in was c j ∙ (ap (λ i. is_away c.args.self.now i) at ∙ here)) in
+    (done.0, rw (whole c) (ap held_of (done.1 ∙ c.as_mut_slice.ensures.value) ∙ c.self.view_is))
