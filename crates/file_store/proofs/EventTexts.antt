@@ -1,9 +1,10 @@
 -- The texts of the records of an event, which an empty journal has room for.
-use Rattle.std.proofs.Common.{◌≡◌, ℕ, zero, suc, ◌+◌, ◌-◌, ◌*◌, ◌/◌, ◌%◌, ◌≤◌, ◌<◌, List, [], ◌∷◌, ◌++◌, length, map, Bool, true, false, cond, eqb, Option, Some, None, is_some, refl, sym, ◌∙◌, ap, subst, arith, length-append}
+use Rattle.std.proofs.Common.{◌≡◌, ℕ, ◌+◌, ◌-◌, ◌*◌, ◌/◌, ◌%◌, ◌≤◌, List, [], ◌∷◌, ◌++◌, length, map, Bool, true, false, cond, eqb, Option, Some, None}
+use Rattle.std.proofs.Common.{is_some, refl, ap, subst, arith, length-append}
 use Rattle.std.specs.List.{AllByRecursion, flat_map}
 use Rattle.commit_slots.specs.Places.{layout_of}
-use Rattle.hsm_types.specs.Limits.{block_bytes, segment_bytes, access_bytes, file_bytes, file_segments, file_regions, value_bytes}
-use Rattle.hsm_types.specs.Segments.{from_on, meets_segment}
+use Rattle.hsm_types.specs.Limits.{block_bytes, segment_bytes, access_bytes, file_segments, file_regions, value_bytes}
+use Rattle.hsm_types.specs.Segments.{from_on}
 use Rattle.hsm_types.specs.Stubs.{Stubs, stub_at, entry_print, uncovered}
 use Rattle.hsm_types.specs.Refusals.{first_refusal}
 use Rattle.hsm_types.specs.Regions.{regions_refusal}
@@ -21,7 +22,6 @@ use Rattle.journal_records.specs.Texts.{record_text, records_text, sized_bytes, 
 use Rattle.journal_records.proofs.WrittenTexts.{places_long, regions_long}
 use Rattle.snapshot_text.specs.declared.snapshot.Mapping.{Mapping}
 use Rattle.snapshot_text.specs.FileRecords.{mappings_from}
-use Rattle.meta_store.specs.Batches.{FitEmpty}
 use Rattle.meta_store.specs.Catalogs.{Catalog, IsCatalog}
 use Rattle.meta_store.proofs.FoundFiles.{each-found}
 use Rattle.snapshot_text.specs.Files.{CatalogFile, IsCatalogFile, IsCatalogStub, geometry_of}
@@ -31,8 +31,9 @@ use Rattle.hsm_types.specs.declared.keys.FileKey.{FileKey}
 use Rattle.file_store.specs.Punches.{away_by, punch_records}
 use Rattle.file_store.specs.declared.rewrites.Rewrite.{Rewrite}
 use Rattle.file_store.specs.declared.rewrites.Rewrite.TheVariants.{Write, Resize, Restore}
-use Rattle.file_store.specs.Rewrites.{effect_of, IsRewrite, IsHead, IsMapOn, IsRewriting, mappings_in, mappings_of, unsealing}
-use Rattle.file_store.specs.Events.{event_bytes, access_blocks, AreFew, HasDigest, HaveDigests, IsSmall, IsAccess, IsFewAlone, IsFewRewritten, IsFewPunched, IsGreatest, FitsEach}
+use Rattle.file_store.specs.Rewrites.{effect_of, IsRewrite, IsHead, IsMapOn, mappings_in, mappings_of, unsealing}
+use Rattle.file_store.specs.Events.{access_blocks, HasDigest, HaveDigests, IsSmall, IsAccess}
+use Rattle.file_store.specs.Events.{IsFewAlone, IsFewRewritten, IsFewPunched, IsGreatest, FitsEach}
 
 -- ---- one record
 

@@ -22,4 +22,4 @@ returns-clause-changed g c =
     record { held = c.record.ensures.held; ends = ends_as own c.record.ensures.ends }
 
 pub record-requires-clause-small : goal.record-requires-clause-small
-record-requires-clause-small g c = λ none. sym c.digest_len.ensures.bytes ∙ c.digest_len.ensures.whole
+record-requires-clause-small g c = λ none. sym c.digest_len-len.ensures.bytes ∙ c.digest_len-len.ensures.whole
