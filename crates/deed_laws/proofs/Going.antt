@@ -1,5 +1,6 @@
 -- Tokens of which a daemon doesn't know: how they go, and stay gone.
-use Rattle.std.proofs.Common.{◌≡◌, ◌∙◌, ◌⊎◌, true, false, List, [], ◌∷◌, ◌++◌, All, Option, None, Some, inl, inr, refl, sym, ap, subst, append_assoc, append-nil}
+use Rattle.std.proofs.Common.{◌≡◌, ◌∙◌, ◌⊎◌, true, false, List, [], ◌∷◌, ◌++◌, All, Option, None, Some, inl, inr}
+use Rattle.std.proofs.Common.{refl, sym, ap, subst, append_assoc, append-nil}
 use Rattle.std.specs.List.{cons_option}
 use Rattle.std.proofs.lemmas.Bool.{false≢true}
 use Rattle.std.proofs.lemmas.List.Elements.{All-head, All-tail}

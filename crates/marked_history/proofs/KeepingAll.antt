@@ -39,7 +39,8 @@ use Rattle.marked_history.proofs.Walking.{KeptBy, kept_behind}
 use Rattle.marked_history.proofs.Leaving.{left_given}
 use Rattle.marked_history.proofs.Lists.{all_and}
 use Rattle.marked_history.proofs.Accounting.{Finds, AllAccounted, none_accounted, seated_keeps}
-use Rattle.marked_history.proofs.BothSeats.{Moves, AreApart, moves_given, moves_apart, later_given, after, keeps_all, keeps_moved, line_on, other_on, other_way, left_tokened}
+use Rattle.marked_history.proofs.BothSeats.{Moves, AreApart, moves_given, moves_apart, later_given, after, keeps_all, keeps_moved, line_on, other_on}
+use Rattle.marked_history.proofs.BothSeats.{other_way, left_tokened}
 use Rattle.marked_history.proofs.OwnSeats.{HasToken, IsGiven, SeatMay}
 
 -- ---- tokens that lines took
