@@ -1,36 +1,31 @@
 -- In deeds that are served a daemon takes the place only of a session of which it was told that it has its information.
-use Rattle.std.proofs.Common.{◌≡◌, ◌≢◌, ◌∙◌, ◌∷◌, ◌++◌, [], ℕ, Bool, true, false, All, List, Option, Some, None, IfSome, inl, inr, refl, sym, ap, subst}
-use Rattle.std.proofs.Common.{append_assoc, append-nil}
+use Rattle.std.proofs.Common.{◌≡◌, ◌≢◌, ◌∙◌, ◌∷◌, ◌++◌, [], ℕ, Bool, true, false, All, List, Option, Some, None, inl, inr, refl, sym, ap, subst}
+use Rattle.std.proofs.Common.{append_assoc}
 use Rattle.std.specs.Str.{bytes_eq}
 use Rattle.std.proofs.lemmas.List.Elements.{All-nil, All-push}
 use Rattle.std.proofs.lemmas.Option.{none-some, same_Some}
 use Rattle.std.proofs.lemmas.Slice.Eq.{bytes_eq-Decides}
 use Rattle.hsm_types.specs.Daemons.{information}
-use Rattle.hsm_types.specs.declared.daemons.Act.{Act}
 use Rattle.hsm_types.specs.declared.daemons.Act.TheVariants as act
 use Rattle.hsm_types.specs.declared.daemons.Daemon.{Daemon}
 use Rattle.hsm_types.specs.declared.daemons.Daemon.TheVariants.{Recall, Migrate}
-use Rattle.hsm_types.specs.declared.daemons.Heard.{Heard}
 use Rattle.hsm_types.specs.declared.daemons.Heard.TheVariants as heard
-use Rattle.hsm_types.specs.declared.daemons.Heard.TheVariants.{Nothing}
 use Rattle.hsm_types.specs.declared.dm.DmCall.{DmCall}
 use Rattle.hsm_types.specs.declared.dm.DmCall.TheVariants as call
 use Rattle.hsm_types.specs.declared.dm.DmReply.{DmReply}
 use Rattle.hsm_types.specs.declared.dm.DmReply.TheVariants as reply
 use Rattle.hsm_types.specs.declared.keys.Sid.{Sid}
 use Rattle.hsm_policy.specs.Settings.{Numbers}
-use Rattle.daemon_session.specs.Seats.{Seat, first_id, seat_asks, seat_hears, MayMake}
-use Rattle.migrate_daemon.specs.Machine as migrate
-use Rattle.recall_daemon.specs.Machine as recall
+use Rattle.daemon_session.specs.Seats.{Seat, first_id, MayMake}
 use Rattle.marked_history.proofs.Ways.{Way, way_of, no_way, way_told, way_next}
-use Rattle.deeds.specs.Deeds.{Deed, Gives, Hears, call_told}
-use Rattle.deeds.specs.Leads.{Situation, nothing_done, Leads}
-use Rattle.deeds.specs.Lives.{Workings, Living, Move, Begins, Ends, Renews, Asks, Learns, Fails, Misses, hearing, begun, renewed, deed_by, life, IsMoveOf}
+use Rattle.deeds.specs.Deeds.{Deed, Gives}
+use Rattle.deeds.specs.Leads.{nothing_done, Leads}
+use Rattle.deeds.specs.Lives.{Workings, Living, Move, Asks, Learns, hearing, life, IsMoveOf}
 use Rattle.deeds.specs.Lives.{MovesTo, Lives}
 use Rattle.deeds.proofs.Finding.{moves_are_deeds}
 use Rattle.deeds.proofs.Leading.{leads_through}
 use Rattle.hsm_system.specs.Lives.{recalls, migrates}
-use Rattle.deed_laws.specs.Coming.{StaysOn, IsKnownAs, TakesOver, ServedTakesOver}
+use Rattle.deed_laws.specs.Coming.{StaysOn, IsKnownAs, ServedTakesOver}
 use Rattle.deed_laws.proofs.Sitting.{HasGiven, Sits, Sound, along}
 use Rattle.deed_laws.proofs.Coming.{HearsOn, KeepsWay, Both, KnowsWay, way_on}
 use Rattle.deed_laws.proofs.Machines.{recall_sits, migrate_sits}
@@ -81,7 +76,7 @@ module _ (d : Daemon) where
     found_queried target a first = found_more moves (Learns (act.Dm x (call.QuerySession target)) (heard.Dm a)) tt way is
 
     found_all : (a : DmReply) → Next call.GetAllSessions a (way_next d way call.GetAllSessions a)
-    found_all (reply.Sids ids) old own = absurd (none-some _ own)
+    found_all (reply.Sids ids) = λ old own. absurd (none-some _ own)
     found_all a = none_found (moves ++ Learns (act.Dm x call.GetAllSessions) (heard.Dm a) ∷ [])
 
     found_answer : (s : Seat) (c : DmCall) (a : DmReply) → HasGiven d s (act.Dm x c) → Next c a (way_next d way c a)
