@@ -106,7 +106,7 @@ module _ (s : Superblock) (st : State) (ordered : InOrder st) (done rest : List 
 -- ---- on any disk
 
 module _ (s : Superblock) (now : State) (ordered : InOrder now) (done rest : List Deed) where
-  line_on : (d e : Daemon) (entry : Entry) (v w : Seats) → Happens s now (Some entry) → AreBoth d e done (Enters entry ∷ rest) now.sessions v w → AreBoth d e (done ++ Enters entry ∷ []) rest (after s now (Some entry)).sessions v w
+  line_on : (d e : Daemon) (entry : Entry) (v w : Seats) → Happens s (Unit {0}) now (Some entry) → AreBoth d e done (Enters entry ∷ rest) now.sessions v w → AreBoth d e (done ++ Enters entry ∷ []) rest (after s now (Some entry)).sessions v w
   line_on d e entry v w happens both =
       let there = is_over s now entry.actor entry.action entry.answer happens.0 in
       subst (λ (left : State). AreBoth d e (done ++ Enters entry ∷ []) rest left.sessions v w) (sym there.left) (line_at s (over now there.seen) (ordered_over now there.seen ordered) done rest d e entry v w there.exact both)
@@ -125,12 +125,12 @@ module _ (s : Superblock) (now : State) (ordered : InOrder now) (done rest : Lis
           apart = is.apart;
         })
 
-    own_on : (move : Move) (old new : Option (Living M)) → move_of d (deed_by d move) ≡ Some move → move_of e (deed_by d move) ≡ None → MovesTo w move old new → Sound d w sits old → Happens s now (entry_in (deed_by d move))
+    own_on : (move : Move) (old new : Option (Living M)) → move_of d (deed_by d move) ≡ Some move → move_of e (deed_by d move) ≡ None → MovesTo w move old new → Sound d w sits old → Happens s (Unit {0}) now (entry_in (deed_by d move))
         → AreBoth d e done (deed_by d move ∷ rest) now.sessions (seats_of d w sits old) theirs → AreBoth d e (done ++ deed_by d move ∷ []) rest (after s now (entry_in (deed_by d move))).sessions (seats_of d w sits new) theirs
     own_on (Learns (act.Dm x c) (heard.Dm a)) old new own other to sound happens both =
         let there = is_over s now (Session x) (Dm c) (Told a) happens.0 in
         subst (λ (left : State). AreBoth d e (done ++ Hears d (act.Dm x c) (heard.Dm a) ∷ []) rest left.sessions (seats_of d w sits new) theirs) (sym there.left)
-        (answered_at s (over now there.seen) (ordered_over now there.seen ordered) done rest d e w sits theirs old new x c a own other to sound tokened happens.1 there.exact both)
+        (answered_at s (over now there.seen) (ordered_over now there.seen ordered) done rest d e w sits theirs old new x c a own other to sound tokened (happens.1 tt) there.exact both)
     own_on (Fails x c) old new own other to sound happens both =
         let there = is_over s now (Session x) (Dm c) (Told (Refused Disk)) happens.0 in
         subst (λ (left : State). AreBoth d e (done ++ Breaks d x c ∷ []) rest left.sessions (seats_of d w sits new) theirs) (sym there.left)
@@ -152,7 +152,7 @@ module _ {R M : Type 0} (wr : Workings R) (wm : Workings M) (sr : Sits Recall wr
   turned : (d e : Daemon) (done rest : List Deed) (t : SessionTable) (v w : Seats) → AreBoth d e done rest t v w → AreBoth e d done rest t w v
   turned d e done rest t v w both = other_side d e (Gone d done rest) (Gone e done rest) t (loses_next (life d rest)) (loses_next (life e rest)) v w both
 
-  stand_on : walking.Keeps wr wm sr sm s Stand
+  stand_on : walking.Keeps wr wm sr sm s (Unit {0}) Stand
   stand_on = record {
     line = λ done rest now e r m right ordered happens is. record {
       tokened = tokened_on now (Some e) is.tokened;
@@ -194,7 +194,7 @@ pub keeps_all : (daemon : Daemon) (limits : Numbers) (s : Superblock) (base : �
 keeps_all daemon limits s base h deeds (end, leads) run packed = accounted daemon limits s (just_opened base h) deeds (each daemon)
   where
     is : Stand recalls (migrates limits) recall_sits (migrate_sits limits) s deeds [] (state_by s (just_opened base h) (entries_of deeds)) end.recall end.migrate
-    is = behind recalls (migrates limits) recall_sits (migrate_sits limits) s (Stand recalls (migrates limits) recall_sits (migrate_sits limits) s) (stand_on recalls (migrates limits) recall_sits (migrate_sits limits) s) base h deeds end leads run packed
+    is = behind recalls (migrates limits) recall_sits (migrate_sits limits) s (Unit {0}) (Stand recalls (migrates limits) recall_sits (migrate_sits limits) s) (stand_on recalls (migrates limits) recall_sits (migrate_sits limits) s) base h deeds end leads run (λ packs. packed)
         (first_stand recalls (migrates limits) recall_sits (migrate_sits limits) s base h deeds)
 
     each : (d : Daemon) → AllAccounted d (Gone d deeds []) (state_by s (just_opened base h) (entries_of deeds)).sessions (seat_behind limits d deeds)

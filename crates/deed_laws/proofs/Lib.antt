@@ -3,7 +3,9 @@ pub mod Machines
 pub mod Walking
 mod Keeping
 mod Telling
+mod Coming
 mod TakingOver
+mod MakingAnew
 pub mod Going
 mod Seats
 mod KeepingAll

@@ -54,7 +54,7 @@ least n = omega arith
 
 -- ---- the register behind one deed
 
-next_after : (s : Superblock) (now : State) (f : Register) → IsRegister f now.ledger.top now.sessions → InOrder now → (o : Option Entry) → Happens s now o → Next f now.ledger.top (after s now o)
+next_after : (s : Superblock) (now : State) (f : Register) → IsRegister f now.ledger.top now.sessions → InOrder now → (o : Option Entry) → Happens s (Unit {0}) now o → Next f now.ledger.top (after s now o)
 next_after s now f is ordered None happens = record { next = f; rises = least now.ledger.top; same = λ n old. refl; is = is }
 next_after s now f is ordered (Some e) happens = seen_next s now f is e.actor e.action e.answer ordered happens.0
 
@@ -72,11 +72,11 @@ module _ {M : Type 0} (d : Daemon) (w : Workings M) (sits : Sits d w) where
     now = All-weaker (IsKeptOf d f top) (IsKeptOf d g above) (λ x. event_next f g top above rises same d x.event) _ is.now;
   }
 
-  tells_in : (s : Superblock) (now : State) (f : Register) → IsRegister f now.ledger.top now.sessions → (move : Move) → Happens s now (entry_in (deed_by d move)) → TellsIn (IsEventOf d f now.ledger.top) d move
-  tells_in s now f is (Learns (act.Dm x c) (heard.Dm a)) happens = tells_only d f now.ledger.top now.sessions x c a is.each happens.1
+  tells_in : (s : Superblock) (now : State) (f : Register) → IsRegister f now.ledger.top now.sessions → (move : Move) → Happens s (Unit {0}) now (entry_in (deed_by d move)) → TellsIn (IsEventOf d f now.ledger.top) d move
+  tells_in s now f is (Learns (act.Dm x c) (heard.Dm a)) happens = tells_only d f now.ledger.top now.sessions x c a is.each (happens.1 tt)
   tells_in s now f is move happens = tt
 
-  keeps_on : (s : Superblock) (now : State) (f : Register) → IsRegister f now.ledger.top now.sessions → (move : Move) (old new : Option (Living M)) → MovesTo w move old new → Sound d w sits old → Happens s now (entry_in (deed_by d move))
+  keeps_on : (s : Superblock) (now : State) (f : Register) → IsRegister f now.ledger.top now.sessions → (move : Move) (old new : Option (Living M)) → MovesTo w move old new → Sound d w sits old → Happens s (Unit {0}) now (entry_in (deed_by d move))
       → Keeps f now.ledger.top old → Keeps f now.ledger.top new
   keeps_on s now f is move old new to sound happens keep = keeping.keep_on (IsEventOf d f now.ledger.top) d w sits move old new to sound (tells_in s now f is move happens) keep
 
@@ -134,7 +134,7 @@ module _ {R M : Type 0} (wr : Workings R) (mw : Workings M) (rs : Sits Recall wr
     pub granted : (t : Token) (k : FileKey) → IsGranted done t k → IsFileOf register now.ledger.top t k
 
   -- a deed more, by which they keep so much
-  more : (done rest : List Deed) (now : State) (x : Deed) (r : Option (Living R)) (m : Option (Living M)) (f : Register) → IsRegister f now.ledger.top now.sessions → InOrder now → Happens s now (entry_in x)
+  more : (done rest : List Deed) (now : State) (x : Deed) (r : Option (Living R)) (m : Option (Living M)) (f : Register) → IsRegister f now.ledger.top now.sessions → InOrder now → Happens s (Unit {0}) now (entry_in x)
       → Keeps Recall wr rs f now.ledger.top r → Keeps Migrate mw ms f now.ledger.top m → ((t : Token) (k : FileKey) → IsGranted (done ++ x ∷ []) t k → IsFileOf f now.ledger.top t k)
       → Registered (done ++ x ∷ []) rest (after s now (entry_in x)) r m
   more done rest now x r m f is ordered happens rk mk granted =
@@ -147,7 +147,7 @@ module _ {R M : Type 0} (wr : Workings R) (mw : Workings M) (rs : Sits Recall wr
         granted = λ t k given. file_next f next.next now.ledger.top _ next.rises next.same t k (granted t k given);
       }
 
-  registered : walking.Keeps wr mw rs ms s Registered
+  registered : walking.Keeps wr mw rs ms s (Unit {0}) Registered
   registered = record {
     line = λ done rest now e r m right ordered happens was.
         more done rest now (Enters e) r m was.register was.is ordered happens was.recall was.migrate
@@ -185,7 +185,7 @@ module _ (limits : Numbers) (s : Superblock) (deeds : List Deed) (end : Situatio
 pub tells_one : (limits : Numbers) (s : Superblock) (base : ℕ) (h : Held) (deeds : List Deed) → ServedTellsOne limits s base h deeds
 tells_one limits s base h deeds (end, leads) run packed =
     let now : State = state_by s (just_opened base h) (entries_of deeds) in
-    let r = behind recalls (migrates limits) recall_sits (migrate_sits limits) s (Registered recalls (migrates limits) recall_sits (migrate_sits limits) s) (registered recalls (migrates limits) recall_sits (migrate_sits limits) s) base h deeds end leads run packed
+    let r = behind recalls (migrates limits) recall_sits (migrate_sits limits) s (Unit {0}) (Registered recalls (migrates limits) recall_sits (migrate_sits limits) s) (registered recalls (migrates limits) recall_sits (migrate_sits limits) s) base h deeds end leads run (λ packs. packed)
     (first_registered recalls (migrates limits) recall_sits (migrate_sits limits) s base h deeds) in
     record {
       kept = kept_tells limits s deeds end leads now r;

@@ -7,13 +7,19 @@ ghost use Rattle.hsm_types.specs.declared.stores.Superblock.{Superblock};
 ghost use Rattle.plain_model.specs.State.{Held};
 ghost use Rattle.hsm_policy.specs.Settings.{Numbers};
 ghost use Rattle.deeds.specs.Deeds.{Deed};
-ghost use Rattle.deed_laws.specs.Coming.{ServedTakesOver};
+ghost use Rattle.deed_laws.specs.Coming.{ServedMakesAnew, ServedTakesOver};
 ghost use Rattle.deed_laws.specs.Keeping.{ServedKeepsAll, LosesNoAnswer};
 ghost use Rattle.deed_laws.specs.Telling.{ServedTellsOne};
 
 /// The message of a token is the one that told of the event that a daemon keeps, and of the file that recall was given for it.
 pub fn tells_one()
     ensures { (limits : Numbers) (s : Superblock) (base : ℕ) (opening : Held) (deeds : List Deed) → ServedTellsOne limits s base opening deeds }
+{}
+
+/// A daemon makes a session beside the others only where it was told all of them, none of which had its information then, and has asked for nothing anew
+/// since.
+pub fn makes_anew()
+    ensures { (limits : Numbers) (s : Superblock) (base : ℕ) (opening : Held) (deeds : List Deed) → ServedMakesAnew limits s base opening deeds }
 {}
 
 /// A daemon takes the place of a session only where it was told, since it last asked for all of them, that this one has its information.

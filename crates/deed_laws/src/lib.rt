@@ -3,4 +3,4 @@
 
 mod laws;
 
-pub use laws::{keeps_all, loses_no_answer, takes_over, tells_one};
+pub use laws::{keeps_all, loses_no_answer, makes_anew, takes_over, tells_one};

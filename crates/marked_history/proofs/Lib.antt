@@ -18,7 +18,7 @@ mod Granting
 mod Freeing
 pub mod TellingOne
 pub mod Ways
-mod Informing
+pub mod Informing
 mod Coming
 pub mod Waiting
 pub mod StillSo
