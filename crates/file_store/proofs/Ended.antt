@@ -1,6 +1,6 @@
 -- How calls end, by their results.
 use Rattle.file_store.proofs.Names.{arith, ◌≡◌, ℕ, false, Option, Some, None, refl, ◌∙◌, ap, subst, FileKey, Effect, Store, Proceeds, IsSound}
-use Rattle.file_store.proofs.Names.{StoresOrKeeps, Ghosts}
+use Rattle.file_store.proofs.Names.{StoresOrKeeps, Ghosts, ◌≤◌, ⊎_elim}
 use Rattle.std.specs.Prelude.{Result, Ok, Err}
 use Rattle.std.specs.Result.{IsErrOf, IsErrAnd}
 use Rattle.std.proofs.lemmas.Result.{err_from_is_err_and}
@@ -114,3 +114,7 @@ changes_on {D} {S} {T} {g} {old} {mid} {new} {n} {key} {effect} {first} {r} x do
     proceeds = proceeds_on g old mid new n before.proceeds same is.ends.proceeds;
   };
 }
+
+-- numbers don't fall in a call
+pub rises_on : {D : Type 0} {g : Ghosts D} {old new : Store D} {n : ℕ} → Proceeds g old n new → old.meta.number ≤ n → new.meta.number ≤ n
+rises_on proceeds rises = ⊎_elim (λ kept. omega (arith, kept.0, rises)) (λ taken. omega (arith, taken.0)) proceeds.durable

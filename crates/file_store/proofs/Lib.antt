@@ -25,3 +25,4 @@ pub mod PunchedBodies
 pub mod PunchEvents
 pub mod PunchEnds
 pub mod SealEvents
+pub mod EventTexts

@@ -7,7 +7,9 @@ use Rattle.file_store.proofs.Names.{Backs, StoresOrKeeps, held_at, held_with, bo
 use Rattle.file_store.proofs.Names.{marks_of, unmarked, each-found, distinct-uses, IsHeldFiles, IsSome, Ghosts, ⊎_elim, cases_lt, lt-ltb}
 use Rattle.std.specs.Prelude.{nat_le, nat_lt}
 use Rattle.std.proofs.Math.Bool.{or-true, or-false}
-use Rattle.hsm_types.specs.Limits.{segment_bytes, segment_blocks}
+use Rattle.hsm_types.specs.Limits.{segment_bytes, segment_blocks, file_segments}
+use Rattle.file_body.proofs.Runs.{length_blocks}
+use Rattle.meta_store.proofs.SnapshotFits.{size-few}
 use Rattle.hsm_types.specs.Refusals.{first_refusal}
 use Rattle.hsm_types.specs.Regions.{covers}
 use Rattle.hsm_types.specs.Segments.{from_on, segments_in}
@@ -103,6 +105,14 @@ ready g p k from to files sound working there start order end none =
       can = grind (arith, can_go, kept_is);
       start = rw (← size) start;
     }
+
+-- they are no more than the longest file has
+pub few_going : {D : Type 0} {g : Ghosts D} (p : Parts D) (k : FileKey) (from n : ℕ) → IsGoing g p k from n → length (from_on from n) ≤ file_segments
+few_going p k from zero x = omega arith
+few_going p k from (suc n) x =
+    let file = each-found (IsCatalogFile (geometry_of p.meta.current.geometry)) k x.at.file p.meta.current.files x.lawful.current.each x.at.found in
+    let last = (x.can (from + n) (omega arith) (omega arith)).start in
+    omega (arith, length_blocks None from (suc n), last, size-few p.meta.current.geometry x.at.file file)
 
 module _ {D : Type 0} {g : Ghosts D} {p : Parts D} {k : FileKey} {from to n : ℕ} (x : IsGoing g p k from n) (end : to ≡ from + n) where
   abbrev file : CatalogFile

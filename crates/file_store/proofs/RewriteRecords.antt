@@ -20,7 +20,8 @@ use Rattle.std.specs.Prelude.{nat_le}
 use Rattle.std.proofs.lemmas.Bool.{le-leb, leb-true, eq-eqb}
 use Rattle.std.proofs.lemmas.List.Folds.{list_any-append}
 use Rattle.stub_map.specs.States.{NoneBetween}
-use Rattle.hsm_types.specs.Limits.{segment_blocks}
+use Rattle.hsm_types.specs.Limits.{segment_blocks, file_segments}
+use Rattle.file_store.specs.Rewrites.{IsRewrite}
 use Rattle.hsm_types.specs.Stubs.{Stubs, stub_at, offline_at, with_stub, without_stub, restored}
 use Rattle.hsm_types.specs.declared.stubs.Stub.{Stub as StubOf}
 use Rattle.meta_store.specs.Records.{IsStubbable}
@@ -45,10 +46,33 @@ mappings-runs a m b n blocks ps is long = grind (arith, mappings-two)
 pub run-within : (a m b n : ℕ) (blocks : List ℕ) → from_on a m ++ from_on b n ≡ blocks → m ≤ length blocks
 run-within a m b n blocks is = omega (arith, ap length is, length-append (from_on a m) (from_on b n), length_blocks None a m)
 
+-- segments whose entries a change drops begin within the longest file
+unseals-low : (change : Rewrite) (size j : ℕ) → IsRewrite change → unseals change size j ≡ true → j < file_segments
+unseals-low (Write offset bytes) size j may is = grind (arith, and_parts, ltb-true, may.1)
+unseals-low (Resize to) size j may is = grind (arith, and_parts, ltb-true, may)
+unseals-low (Restore segment bytes) size j may is = cc
+
+few-unsealed : (change : Rewrite) (size from to : ℕ) → IsRewrite change → ((j : ℕ) → unseals change size j ≡ (nat_le from j && ltb j to)) → to - from ≤ file_segments
+few-unsealed change size from to may range =
+    ⊎_elim
+    (λ (some : from < to). let last = unseals-low change size (to - 1) may (range (to - 1) ∙ and_from _ _ (le-leb from (to - 1) (omega (arith, some))) (lt-ltb (to - 1) to (omega (arith, some)))) in omega (arith, some, last))
+    (λ (none : to ≤ from). omega (arith, none)) (cases_lt from to)
+
 -- the first record, and then those that drop entries
-pub unseals_first : (ino : ℕ) (change : Rewrite) (size from to : ℕ) (stubs : Stubs) (first : Record) (records : List Record) → IsHead ino change size stubs first → ((j : ℕ) → unseals change size j ≡ (nat_le from j && ltb j to))
+pub unseals_first : (ino : ℕ) (change : Rewrite) (size from to : ℕ) (stubs : Stubs) (first : Record) (records : List Record) → IsRewrite change → IsHead ino change size stubs first → ((j : ℕ) → unseals change size j ≡ (nat_le from j && ltb j to))
     → AreUnsealed ino from to stubs (first ∷ []) records → IsRewriting ino change size stubs [] records
-unseals_first ino change size from to stubs first records head range is = grind (arith, append-nil, each-weaker, and_from, le-leb, lt-ltb, and_parts, leb-true, ltb-true)
+unseals_first ino change size from to stubs first records may head range is = record {
+  first = first;
+  segments = is.segments;
+  maps = [];
+  are = grind (arith, append-nil);
+  head = head;
+  only = grind (arith, each-weaker, and_from, le-leb, lt-ltb);
+  every = grind (arith, and_parts, leb-true, ltb-true);
+  few = omega (arith, is.few, few-unsealed change size from to may range);
+  each = tt;
+  all = refl;
+}
 
 -- ---- entries that go, of one segment after another
 
@@ -72,11 +96,18 @@ more_unsealed ino from start segment stubs before mid after begun low none pushe
   are = pushed ∙ ap (λ (rs : List Record). rs ++ unsealing ino segment ∷ []) is.are ∙ append_assoc before (map (unsealing ino) is.segments) (unsealing ino segment ∷ []) ∙ ap (λ (rs : List Record). before ++ rs) (sym (map-append (unsealing ino) is.segments (segment ∷ [])));
   only = grind (arith, each-join, each-weaker);
   every = grind (arith, list_any-append, eqb, or-left, or-right, eq-eqb, not-some, cases_eq, cases_lt);
+  few = omega (arith, length-append is.segments (segment ∷ []), is.few, begun, low);
 }
 
 -- and no more
 pub all_unsealed : (ino from start to : ℕ) (stubs : Stubs) (before after : List Record) → start ≤ max from to → ((j : ℕ) → start ≤ j → j < to → stub_at j stubs ≡ None) → AreUnsealed ino from start stubs before after → AreUnsealed ino from to stubs before after
-all_unsealed ino from start to stubs before after most none is = grind (arith, each-weaker, not-some, cases_lt)
+all_unsealed ino from start to stubs before after most none is = record {
+  segments = is.segments;
+  are = is.are;
+  only = grind (arith, each-weaker);
+  every = grind (arith, not-some, cases_lt);
+  few = omega (arith, is.few, most);
+}
 
 -- ---- places that a run of blocks had
 

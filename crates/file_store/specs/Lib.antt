@@ -7,5 +7,6 @@ pub mod Refusals
 pub mod Effects
 pub mod Stores
 pub mod Changes
+pub mod Events
 pub mod Laws
 pub mod Looks

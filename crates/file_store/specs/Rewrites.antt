@@ -2,7 +2,7 @@
 use Rattle.std.specs.Prelude.{◌≡◌, ℕ, ◌+◌, ◌-◌, ◌*◌, ◌<◌, ◌≤◌, ◌==◌, ◌&&◌, nat_lt, not, min, max, Bool, true, false, List, [], ◌∷◌, ◌++◌, length}
 use Rattle.std.specs.Prelude.{map, take, drop, replicate, get_or, Option, Some, None, is_some}
 use Rattle.std.specs.List.{flat_map, list_any, AllByRecursion}
-use Rattle.hsm_types.specs.Limits.{file_bytes, segment_bytes}
+use Rattle.hsm_types.specs.Limits.{file_bytes, file_segments, segment_bytes}
 use Rattle.hsm_types.specs.Segments.{meets_segment}
 use Rattle.hsm_types.specs.declared.stores.Limits.{Limits}
 use Rattle.hsm_types.specs.Stubs.{Stubs, stub_at, offline_at}
@@ -148,6 +148,7 @@ pub record IsRewriting (ino : ℕ) (change : Rewrite) (size : ℕ) (stubs : Stub
   pub head : IsHead ino change size stubs first
   pub only : AllByRecursion (λ j. unseals change size j ≡ true) segments
   pub every : (j : ℕ) → unseals change size j ≡ true → is_some (stub_at j stubs) ≡ true → list_any (λ s. s == j) segments ≡ true
+  pub few : length segments ≤ file_segments
   pub each : AllByRecursion (IsMapOn ino) maps
   pub all : flat_map mappings_in maps ≡ mappings
 
@@ -157,6 +158,7 @@ pub record AreUnsealed (ino from to : ℕ) (stubs : Stubs) (before after : List 
   pub are : after ≡ before ++ map (unsealing ino) segments
   pub only : AllByRecursion (λ j. (from ≤ j) × (j < to)) segments
   pub every : (j : ℕ) → from ≤ j → j < to → is_some (stub_at j stubs) ≡ true → list_any (λ s. s == j) segments ≡ true
+  pub few : length segments ≤ to - from
 
 -- ---- blocks that it frees
 

@@ -1,7 +1,7 @@
 //! What changes the files of a store: each event is records, blocks that they take and free, and bytes.
 ghost use Rattle.std.specs.Prelude.{◌≡◌, ◌≢◌, ◌+◌, ◌*◌, ◌<◌, ◌≤◌, [], ◌∷◌, min, true, false, None, Some, Err, length, OnOk, IfOk, IfSome, IsErrOf, IsSome};
 ghost use Rattle.disk_model.specs.Moments.{Tells};
-ghost use Rattle.hsm_types.specs.Limits.{segment_bytes, last_volume};
+ghost use Rattle.hsm_types.specs.Limits.{segment_bytes, access_bytes, last_volume};
 ghost use Rattle.hsm_types.specs.Names.{is_name};
 ghost use Rattle.hsm_types.specs.Regions.{regions_refusal};
 ghost use Rattle.hsm_types.specs.Attributes.{setting_refusal, removal_refusal};
@@ -36,6 +36,7 @@ impl<D: Disk> FileStore<D> {
     /// Makes an empty file with the lowest free inode and the next generation. Past the greatest generation it answers `Memory`.
     pub fn make(&mut self, alloc: Global, name: &Word, number: u64) -> Result<FileKey, StoreRefusal>
         requires working { self.old.failed ≡ false }
+        requires rises { self.old.meta.number ≤ number }
         requires lawful { is_name name.now ≡ true }
         requires free { named name.now (names_of self.old.held.files) ≡ None }
         requires left { length self.old.held.files ≢ (geometry_of self.old.meta.durable.geometry).files }
@@ -58,6 +59,7 @@ impl<D: Disk> FileStore<D> {
     /// Removes a live file.
     pub fn remove(&mut self, alloc: Global, key: FileKey, number: u64) -> Result<(), StoreRefusal>
         requires working { self.old.failed ≡ false }
+        requires rises { self.old.meta.number ≤ number }
         requires live { IsSome (find_key (λ f. f.key) key self.old.held.files) }
         ensures changed { Changes D.Disk self.old number key Drops None result self.new }
     {
@@ -65,7 +67,7 @@ impl<D: Disk> FileStore<D> {
         self.record(alloc, key, Record::Drop { ino }, number)
     }
 
-    /// Writes the bytes at the offset. Zeros fill what lies between the old end and the offset.
+    /// Writes the bytes at the offset, no more than one access may bring. Zeros fill what lies between the old end and the offset.
     pub fn write(
         &mut self,
         alloc: Global,
@@ -75,8 +77,10 @@ impl<D: Disk> FileStore<D> {
         number: u64,
     ) -> Result<(), StoreRefusal>
         requires working { self.old.failed ≡ false }
+        requires rises { self.old.meta.number ≤ number }
         requires live { IsSome (find_key (λ f. f.key) key self.old.held.files) }
         requires some { 1 ≤ length bytes.now }
+        requires few { length bytes.now ≤ access_bytes }
         requires end { offset + length bytes.now ≤ (geometry_of self.old.meta.durable.geometry).limits.bytes }
         requires here { IsSound (Writes offset bytes.now) (file_at key self.old.held.files) }
         requires room { length (touched (Writes offset bytes.now) (length (bytes_of key self.old.held.files))) + used self.old.held.files ≤ (geometry_of self.old.meta.durable.geometry).blocks }
@@ -96,6 +100,7 @@ impl<D: Disk> FileStore<D> {
         number: u64,
     ) -> Result<(), StoreRefusal>
         requires working { self.old.failed ≡ false }
+        requires rises { self.old.meta.number ≤ number }
         requires live { IsSome (find_key (λ f. f.key) key self.old.held.files) }
         requires end { size ≤ (geometry_of self.old.meta.durable.geometry).limits.bytes }
         requires here { IsSound (Resizes size) (file_at key self.old.held.files) }
@@ -116,6 +121,7 @@ impl<D: Disk> FileStore<D> {
         number: u64,
     ) -> Result<(), StoreRefusal>
         requires working { self.old.failed ≡ false }
+        requires rises { self.old.meta.number ≤ number }
         requires live { IsSome (find_key (λ f. f.key) key self.old.held.files) }
         ensures changed { Changes D.Disk self.old number key (Manages regions) (first_refusal (regions_refusal (superblock_of self.old).geometry.limits regions ∷ uncovered regions (kept_of key self.old.held.files).stubs ∷ [])) result self.new }
         ensures memory { IsErrOf result StoreRefusal.Memory → self.new ≡ self.old }
@@ -134,11 +140,14 @@ impl<D: Disk> FileStore<D> {
         number: u64,
     ) -> Result<(), StoreRefusal>
         requires working { self.old.failed ≡ false }
+        requires rises { self.old.meta.number ≤ number }
         requires live { IsSome (find_key (λ f. f.key) key self.old.held.files) }
         ensures changed { Changes D.Disk self.old number key (Attaches name value) (setting_refusal name value (other_attributes key self.old.held.files) (superblock_of self.old).geometry.attributes (kept_of key self.old.held.files).attributes) result self.new }
         ensures memory { IsErrOf result StoreRefusal.Memory → self.new ≡ self.old }
     {
         let ino = self.inode(key);
+        // Read for the eight bytes of each name.
+        let _len = name.0.len();
         self.record(alloc, key, Record::SetAttr { ino, name, value }, number)
     }
 
@@ -151,11 +160,14 @@ impl<D: Disk> FileStore<D> {
         number: u64,
     ) -> Result<(), StoreRefusal>
         requires working { self.old.failed ≡ false }
+        requires rises { self.old.meta.number ≤ number }
         requires live { IsSome (find_key (λ f. f.key) key self.old.held.files) }
         ensures changed { Changes D.Disk self.old number key (Detaches name) (removal_refusal name (kept_of key self.old.held.files).attributes) result self.new }
         ensures memory { IsErrOf result StoreRefusal.Memory → self.new ≡ self.old }
     {
         let ino = self.inode(key);
+        // Read for the eight bytes of each name.
+        let _len = name.0.len();
         self.record(alloc, key, Record::DropAttr { ino, name }, number)
     }
 
@@ -169,6 +181,7 @@ impl<D: Disk> FileStore<D> {
         number: u64,
     ) -> Result<(), StoreRefusal>
         requires working { self.old.failed ≡ false }
+        requires rises { self.old.meta.number ≤ number }
         requires live { IsSome (find_key (λ f. f.key) key self.old.held.files) }
         requires start { segment_bytes * segment < length (bytes_of key self.old.held.files) }
         requires volume { (entry_place entry).volume ≤ last_volume }
@@ -177,8 +190,8 @@ impl<D: Disk> FileStore<D> {
         ensures changed { Changes D.Disk self.old number key (Seals segment entry) (too_many_stubs segment (other_stubs key self.old.held.files) (superblock_of self.old).geometry.stubs (kept_of key self.old.held.files).stubs) result self.new }
         ensures memory { IsErrOf result StoreRefusal.Memory → self.new ≡ self.old }
     {
-        // Read for what is true of it.
-        let _meta = &self.meta;
+        // Read for what is true of them.
+        let (_meta, _len) = (&self.meta, digest_len(entry));
         let ino = self.inode(key);
         let stub = Some(Stub {
             entry,
@@ -198,6 +211,7 @@ impl<D: Disk> FileStore<D> {
         number: u64,
     ) -> Result<(), StoreRefusal>
         requires working { self.old.failed ≡ false }
+        requires rises { self.old.meta.number ≤ number }
         requires live { IsSome (find_key (λ f. f.key) key self.old.held.files) }
         requires start { segment_bytes * from < length (bytes_of key self.old.held.files) }
         ensures changed { Changes D.Disk self.old number key (Punches from to) (any_unpunched (kept_of key self.old.held.files).regions (kept_of key self.old.held.files).stubs from (min to (segments_in (length (bytes_of key self.old.held.files))))) result self.new }
@@ -220,6 +234,7 @@ impl<D: Disk> FileStore<D> {
         number: u64,
     ) -> Result<(), StoreRefusal>
         requires working { self.old.failed ≡ false }
+        requires rises { self.old.meta.number ≤ number }
         requires live { IsSome (find_key (λ f. f.key) key self.old.held.files) }
         requires start { segment_bytes * segment < length (bytes_of key self.old.held.files) }
         requires offline { offline_at (kept_of key self.old.held.files).stubs segment ≡ true }
@@ -234,4 +249,12 @@ impl<D: Disk> FileStore<D> {
         self.make_room(alloc, key, change, number)?;
         self.rewrite(alloc, key, change, number)
     }
+}
+
+/// How many bytes the digest of an entry has.
+fn digest_len(entry: StubEntry) -> usize
+    ensures bytes { result ≡ length (entry_print entry).digest.0 }
+    ensures whole { result ≡ 32 }
+{
+    entry.print().digest.0.len()
 }

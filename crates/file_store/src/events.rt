@@ -23,6 +23,7 @@ ghost use Rattle.file_store.specs.Refusals.{is_disk, refused_as};
 ghost use Rattle.file_store.specs.Steps.{IsBesideBlocks, IsStaged};
 ghost use Rattle.file_store.specs.Changes.{Ends, Changes};
 ghost use Rattle.file_store.specs.Effects.{IsBodiless, IsFreed, held_after, empties};
+ghost use Rattle.file_store.specs.Events.{IsAccess, IsSmall};
 
 use crate::loading::slot;
 use crate::plans::{self, Plan};
@@ -76,6 +77,7 @@ impl<D: Disk> FileStore<D> {
         number: u64,
     ) -> Result<(), StoreRefusal>
         requires working { self.old.failed ≡ false }
+        requires rises { self.old.meta.number ≤ number }
         requires live { IsSome (find_key (λ f. f.key) key self.old.held.files) }
         requires lawful { IsRewrite change }
         requires room { length (touched (effect_of change) (length (bytes_of key self.old.held.files))) + used self.old.held.files ≤ (geometry_of self.old.meta.durable.geometry).blocks }
@@ -102,8 +104,10 @@ impl<D: Disk> FileStore<D> {
         number: u64,
     ) -> Result<(), StoreRefusal>
         requires working { self.old.failed ≡ false }
+        requires rises { self.old.meta.number ≤ number }
         requires bodiless { IsBodiless key change self.old.meta.current }
         requires stands { CanStand change self.old.meta.current }
+        requires small { refusal_of change self.old.meta.current ≡ None → IsSmall change }
         ensures ends { Ends D.Disk self.old number (refusal_of change self.old.meta.current) result self.new }
         ensures held { OnOk result (self.new.held ≡ held_after key change self.old.held) }
         ensures memory { IsErrOf result StoreRefusal.Memory → self.new ≡ self.old }
@@ -141,8 +145,10 @@ impl<D: Disk> FileStore<D> {
         number: u64,
     ) -> Result<(), StoreRefusal>
         requires working { self.old.failed ≡ false }
+        requires rises { self.old.meta.number ≤ number }
         requires live { IsSome (find_key (λ f. f.key) key self.old.held.files) }
         requires lawful { IsRewrite change }
+        requires access { IsAccess change }
         requires limited { IsAllowedBy (geometry_of self.old.meta.durable.geometry).limits change }
         requires sound { IsSound (effect_of change) (file_at key self.old.held.files) }
         requires offline { BringsOffline change (kept_of key self.old.held.files).stubs }

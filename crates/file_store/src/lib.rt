@@ -14,6 +14,6 @@ mod spaces;
 mod store;
 mod writing;
 
-pub use laws::{formatted_is_empty, one_recovery};
+pub use laws::{formatted_is_empty, greatest_event, one_recovery};
 pub use refusal::StoreRefusal;
 pub use store::FileStore;

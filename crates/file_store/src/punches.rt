@@ -138,6 +138,7 @@ impl<D: Disk> FileStore<D> {
         number: u64,
     ) -> Result<(), StoreRefusal>
         requires working { self.old.failed ≡ false }
+        requires rises { self.old.meta.number ≤ number }
         requires live { IsSome (find_key (λ f. f.key) key self.old.held.files) }
         requires start { segment_bytes * from ≤ length (bytes_of key self.old.held.files) }
         requires order { from ≤ to }

@@ -97,6 +97,7 @@ impl<D: Disk> FileStore<D> {
     /// Makes all durable that is held, under that number. Past the greatest number that a snapshot can hold it answers `Memory`.
     pub fn sync(&mut self, alloc: Global, number: u64) -> Result<(), StoreRefusal>
         requires working { self.old.failed ≡ false }
+        requires rises { self.old.meta.number ≤ number }
         ensures held { self.new.held ≡ self.old.held }
         ensures current { self.new.meta.current ≡ self.old.meta.current }
         ensures done { OnOk result ((self.new.durable ≡ self.old.held) × (self.new.meta.number ≡ number)) }

@@ -1,6 +1,7 @@
 -- What a batch of a journal may be. Its records change, one after the other, what a snapshot would say of the files. What stands after the last of them
 -- is judged, and not what stands in between: there a block may lie past its file's end.
-use Rattle.std.specs.Prelude.{◌≡◌, ℕ, ◌+◌, ◌*◌, ◌≤◌, List, [], ◌∷◌, filter, Bool, true, false, not, ◌&&◌, ◌==◌, nat_lt, nat_le, if◌then◌else◌, Some, None}
+use Rattle.std.specs.Prelude.{◌≡◌, ℕ, ◌+◌, ◌*◌, ◌≤◌, List, [], ◌∷◌, length, filter, Bool, true, false, not, ◌&&◌, ◌==◌, nat_lt, nat_le, Some, None}
+use Rattle.std.specs.Prelude.{if◌then◌else◌}
 use Rattle.std.specs.List.{list_any, AllByRecursion}
 use Rattle.hsm_types.specs.Limits.{segment_blocks, last_number, last_generation}
 use Rattle.hsm_types.specs.declared.keys.FileKey.{FileKey}
@@ -14,13 +15,14 @@ use Rattle.plain_model.specs.Blocks.{blocks_in}
 use Rattle.plain_model.specs.Distinct.{Distinct}
 use Rattle.inode_table.specs.Listing.{key_at, has_inode}
 use Rattle.inode_table.specs.Table.{IsTable}
+use Rattle.commit_slots.specs.Places.{layout_of}
 use Rattle.std.specs.Option.{unwrap_or}
 use Rattle.snapshot_text.specs.declared.snapshot.Mapping.{Mapping}
 use Rattle.journal_records.specs.declared.records.Record.{Record}
 use Rattle.journal_records.specs.declared.records.Record.TheVariants.{Make, Drop, Size, Map, Regions, SetAttr, DropAttr, Stub}
 use Rattle.snapshot_text.specs.Files.{CatalogFile, geometry_of, HasLengths, IsCatalogFile}
 use Rattle.meta_store.specs.Catalogs.{Catalog, IsCatalog, AreLengths}
-use Rattle.journal_records.specs.Texts.{inode_of}
+use Rattle.journal_records.specs.Texts.{inode_of, records_text, IsShort}
 use Rattle.snapshot_text.specs.FileRecords.{mappings_from}
 use Rattle.snapshot_text.specs.Snapshots.{SnapshotFile, Snapshot, snapshot_file}
 use Rattle.meta_store.specs.Snapshots.{snapshot_of}
@@ -138,3 +140,14 @@ pub record AreTogether (geometry : ℕ) (s : Snapshot) : Type 0 where
 -- each file that one of the records is about is lawful
 abbrev pub AreChangedLawful : ℕ → List Record → List SnapshotFile → Type 0
 AreChangedLawful geometry rs files = AllByRecursion (λ f. is_about rs f.key.ino ≡ true → IsLawfulFile geometry f) files
+
+-- ---- what fits a journal without batches
+
+-- the bytes of a batch beside those of its records, with the gate behind it
+abbrev pub batch_frame : ℕ
+batch_frame = 18
+
+-- Each of the records can be spelled, and a batch of them fits an empty journal of a store of that geometry.
+pub record FitEmpty (geometry : ℕ) (rs : List Record) : Type 0 where
+  pub short : AllByRecursion IsShort rs
+  pub room : batch_frame + length (records_text rs) ≤ (layout_of geometry).journal_len

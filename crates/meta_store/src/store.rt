@@ -1,5 +1,5 @@
 //! A store's files in memory, over the snapshots of its disk.
-ghost use Rattle.std.specs.Prelude.{◌≡◌, ◌≤◌, ◌↔◌, List, ℕ, true, false, Some, Err, OnOk, OnErr, IfOk};
+ghost use Rattle.std.specs.Prelude.{◌≡◌, ◌≤◌, ◌↔◌, List, ℕ, true, false, None, Some, Err, OnOk, OnErr, IfOk};
 ghost use Rattle.std.specs.Result.{IsErrOf};
 ghost use Rattle.hsm_types.specs.Limits.{last_number};
 ghost use Rattle.hsm_types.specs.declared.dm.DmRefusal.{DmRefusal};
@@ -11,6 +11,7 @@ ghost use Rattle.commit_slots.specs.Images.{IsStore};
 ghost use Rattle.meta_store.specs.Images.{Holds, IsCorruptAt};
 ghost use Rattle.meta_store.specs.Records.{after_all, refusal_of_all, CanStandAll, IsEvent};
 ghost use Rattle.meta_store.specs.Catalogs.{AreLengths};
+ghost use Rattle.meta_store.specs.Batches.{FitEmpty};
 ghost use Rattle.meta_store.specs.Meta.{Meta, IsMeta, Backs, StoresOrKeeps, HasStored, IsStoredNow, IsTaken};
 
 use crate::catalog::Catalog;
@@ -144,6 +145,9 @@ impl MetaStore {
         requires event { IsEvent records }
         requires stand { CanStandAll records self.old.current }
         requires lengths { AreLengths (after_all records self.old.current) }
+        // A journal can hold them: those that aren't refused fit one without batches, and numbers in it don't fall.
+        requires fits { refusal_of_all records self.old.current ≡ None → FitEmpty self.old.current.geometry records }
+        requires rises { self.old.number ≤ number }
         requires number { number ≤ last_number }
 
         ensures any_moment { StoresOrKeeps D.Disk disk.old disk.new self.old number }
@@ -174,6 +178,7 @@ impl MetaStore {
         number: u64,
     ) -> Result<(), MetaRefusal>
         requires backs { Backs D.Disk disk.old self.old }
+        requires rises { self.old.number ≤ number }
         requires number { number ≤ last_number }
 
         // At each moment since, and after a failure too, recovery finds what was durable, or what is stored now.

@@ -11,7 +11,7 @@ returns c =
     let size = c.args.size in
     let stubs = c.args.stubs.now in
     let first : IsRewriting c.args.ino change size stubs [] c.push_unsealed.new.records.items =
-    unseals_first c.args.ino change size _ _ stubs c.head.result _ c.head.ensures c.unsealed-from.ensures (rw (c.in_ok-push.ensures.items, c.in_ok-records.ensures.items) at c.in_ok-push_unsealed.ensures) in
+    unseals_first c.args.ino change size _ _ stubs c.head.result _ c.requires.lawful c.head.ensures c.unsealed-from.ensures (rw (c.in_ok-push.ensures.items, c.in_ok-records.ensures.items) at c.in_ok-push_unsealed.ensures) in
     let all = c.in_ok-push_map-2.ensures change size stubs _ (c.in_ok-push_map.ensures change size stubs [] first) in
     subst (λ (ms : List Mapping). IsRewriting c.args.ino change size stubs ms c.from.result) (mappings-runs _ _ _ _ _ _ c.runs.ensures.runs c.requires.count)
     (rw (c.from.ensures, ← c.split_at.ensures.front, ← c.split_at.ensures.back) all)

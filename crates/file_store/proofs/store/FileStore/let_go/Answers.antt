@@ -5,12 +5,14 @@ use Rattle.std.specs.Prelude.{nat_le, nat_lt}
 use Rattle.plain_model.specs.Effects.{Punches}
 use Rattle.hsm_types.specs.Limits.{segment_bytes, segment_blocks}
 use Rattle.hsm_types.specs.Segments.{from_on}
+use Rattle.meta_store.specs.Batches.{FitEmpty}
 use Rattle.meta_store.specs.Catalogs.{AreLengths}
 use Rattle.file_store.specs.Punches.{punch_records}
 use Rattle.file_store.specs.Refusals.{is_disk, no_memory}
 use Rattle.file_store.proofs.Durable.{Parts, IsDone, after_event}
 use Rattle.file_store.proofs.PunchedBodies.{zeroed}
-use Rattle.file_store.proofs.PunchEvents.{IsGoing, ready, are_going, event, lengths, freed_within, gone, kept_is}
+use Rattle.file_store.proofs.EventTexts.{digests_found, few_punched, few_fit}
+use Rattle.file_store.proofs.PunchEvents.{IsGoing, few_going, ready, are_going, event, lengths, freed_within, gone, kept_is}
 use Rattle.file_store.proofs.Ended.{ends_done, kept_ends, refused_first}
 use Rattle.file_store.proofs.WithBodies.{is-body}
 use Rattle.file_store.proofs.store.FileStore.let_go.Given.{Over}
@@ -48,6 +50,15 @@ apply-requires-clause-stand g c =
 pub apply-requires-clause-lengths : goal.apply-requires-clause-lengths
 apply-requires-clause-lengths g c =
     let at = (goal.at.apply-requires-clause-lengths g c).After-of-before in subst (λ rs. AreLengths (after_all rs c.self.inside.meta.current)) (sym (records_are g at)) (lengths (given g at) (last g at))
+
+pub apply-requires-clause-fits : goal.apply-requires-clause-fits
+apply-requires-clause-fits g c = λ none.
+    let at = (goal.at.apply-requires-clause-fits g c).After-of-before in
+    let x = given g at in
+    subst (FitEmpty c.self.inside.meta.current.geometry) (sym (records_are g at)) (few_fit _ _ (few_punched c.args.key.ino x.at.file.kept.stubs _ (digests_found _ c.args.key x.at.file x.lawful.current x.at.found) (few_going _ _ _ _ x)))
+
+pub apply-requires-clause-rises : goal.apply-requires-clause-rises
+apply-requires-clause-rises g c = rw (← c.self.view_is) at c.requires.rises
 
 -- ---- once they are taken
 

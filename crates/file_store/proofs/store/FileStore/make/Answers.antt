@@ -2,6 +2,7 @@ use Rattle.file_store.proofs.Names.{Err, None, ◌≡◌, ◌<◌, refl, ◌∙�
 use Rattle.std.proofs.lemmas.Result.{err_from_is_err_and}
 use Rattle.file_store.specs.Refusals.{no_memory}
 use Rattle.file_store.proofs.Ended.{ends_done, ends_err, lacking}
+use Rattle.meta_store.proofs.SnapshotFits.{name-short}
 use Rattle.inode_table.specs.Table.{next_key}
 use Rattle.file_store.proofs.FilesBy.{key_next, next-listed, next-key_held, new-file, held-made}
 use Rattle.file_store.proofs.store.FileStore.make.Given.{Over}
@@ -46,3 +47,6 @@ returns-then-key-ge-LAST_GENERATION-clause-ends g c = lacking c.has_failed-faile
 
 pub returns-in_err-name-clause-ends : goal.returns-in_err-name-clause-ends
 returns-in_err-name-clause-ends g c = lacking c.has_failed-failed.ensures.idle c.requires.working c.from_residual.result c.from_residual.ensures.1
+
+pub record-requires-clause-small : goal.record-requires-clause-small
+record-requires-clause-small g c = λ none. rw c.in_ok-name.ensures.cases (name-short c.args.name.now c.requires.lawful)

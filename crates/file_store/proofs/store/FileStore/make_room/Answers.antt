@@ -16,3 +16,6 @@ returns-clause-enough g c =
 
 pub returns-then-has_free-clause-ends : goal.returns-then-has_free-clause-ends
 returns-then-has_free-clause-ends g c = ends_done g.D.Disk _ _ c.args.number None (c.has_failed-failed.ensures.idle c.requires.working c.args.number) tt refl c.requires.working refl
+
+pub sync-requires-clause-rises : goal.sync-requires-clause-rises
+sync-requires-clause-rises g c = c.requires.rises

@@ -2,6 +2,7 @@ use Rattle.file_store.proofs.Names.{rules, Err, ◌≡◌, refl, sym, ◌∙◌,
 use Rattle.file_store.specs.Refusals.{is_disk, no_memory}
 use Rattle.file_store.proofs.Durable.{Parts, IsDone, after_event}
 use Rattle.file_store.proofs.StoreEvents.{freed_low, recorded, refused_sound, refusal_alone}
+use Rattle.file_store.proofs.EventTexts.{few_alone, few_fit}
 use Rattle.file_store.proofs.Ended.{ends_done, kept_ends, lacking}
 use Rattle.file_store.proofs.WithBodies.{bodies_after, slot-there}
 use Rattle.file_store.proofs.SealedFiles.{lengths-after}
@@ -77,3 +78,11 @@ returns-then-number-gt-LAST_NUMBER-clause-ends g c = lacking c.has_failed-failed
 
 pub returns-in_err-records-clause-ends : goal.returns-in_err-records-clause-ends
 returns-in_err-records-clause-ends g c = lacking c.has_failed-failed.ensures.idle c.requires.working c.from_residual-in_err-records.result c.from_residual-in_err-records.ensures.1
+
+pub apply-requires-clause-fits : goal.apply-requires-clause-fits
+apply-requires-clause-fits g c = λ none.
+    let alone = refusal_alone _ c.args.change c.self.inside.meta.current c.in_ok-records.ensures ∙ none in
+    rw c.in_ok-records.ensures (few_fit _ _ (few_alone c.args.change ((rw (← c.self.view_is) at c.requires.small) alone)))
+
+pub apply-requires-clause-rises : goal.apply-requires-clause-rises
+apply-requires-clause-rises g c = rw (← c.self.view_is) at c.requires.rises

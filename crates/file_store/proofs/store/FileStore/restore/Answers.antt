@@ -2,7 +2,7 @@ use Rattle.file_store.proofs.Names.{◌≡◌}
 use Rattle.hsm_types.specs.Stubs.{print_of, stub_at, entry_print}
 use Rattle.plain_model.specs.Services.{kept_of}
 use Rattle.std.proofs.lemmas.Result.{err_from_is_err_and}
-use Rattle.file_store.proofs.Ended.{changes_on}
+use Rattle.file_store.proofs.Ended.{changes_on, rises_on}
 use Rattle.file_store.proofs.SealEvents.{comes_back}
 use Rattle.file_store.proofs.SoundChanges.{of-entry}
 use Rattle.file_store.proofs.store.FileStore.restore.Goals as goal
@@ -33,3 +33,6 @@ rewrite-requires-clause-sound g c =
 
 pub rewrite-requires-clause-offline : goal.rewrite-requires-clause-offline
 rewrite-requires-clause-offline g c = rw c.make_room.ensures.held c.requires.offline
+
+pub rewrite-requires-clause-rises : goal.rewrite-requires-clause-rises
+rewrite-requires-clause-rises g c = rises_on c.make_room.ensures.ends.proceeds c.requires.rises

@@ -5,6 +5,7 @@ use Rattle.file_store.proofs.Names.{held_with, geometry-bounded, get_or_read}
 use Rattle.file_store.proofs.Durable.{Parts, IsDone, after_event}
 use Rattle.file_store.proofs.ByteChanges.{within-grown, length-grown, changed-grown, grown-enough}
 use Rattle.file_store.proofs.RewriteRecords.{is_event}
+use Rattle.file_store.proofs.EventTexts.{digests_found, few_rewritten, few_fit}
 use Rattle.file_store.proofs.SoundChanges.{brings-away, has-range, here-after}
 use Rattle.file_store.proofs.FilesBy.{kept-found}
 use Rattle.file_store.proofs.WithBodies.{is-body}
@@ -127,6 +128,15 @@ apply-requires-clause-lengths g c =
     let at = goal.at.apply-requires-clause-lengths g c in
     let x = given g at.After-of-before in
     lengths_then x ((staged g at.In-Ok).rewriting x.at.file x.at.found)
+
+pub apply-requires-clause-fits : goal.apply-requires-clause-fits
+apply-requires-clause-fits g c = λ none.
+    let at = goal.at.apply-requires-clause-fits g c in
+    let x = given g at.After-of-before in
+    few_fit _ _ (few_rewritten c.args.key.ino c.args.change _ x.at.file.kept.stubs _ _ c.requires.lawful c.requires.access (digests_found _ c.args.key x.at.file x.lawful.current x.at.found) ((staged g at.In-Ok).rewriting x.at.file x.at.found))
+
+pub apply-requires-clause-rises : goal.apply-requires-clause-rises
+apply-requires-clause-rises g c = rw (← c.self.view_is) at c.requires.rises
 
 -- ---- once the records are taken
 

@@ -1,4 +1,4 @@
-use Rattle.file_store.proofs.Names.{Some, false, Stub}
+use Rattle.file_store.proofs.Names.{Some, false, Stub, sym, ◌∙◌}
 use Rattle.file_store.proofs.Ended.{ends_as}
 use Rattle.file_store.proofs.Looked.{length-print}
 use Rattle.file_store.proofs.SealEvents.{seals, can_seal}
@@ -20,3 +20,6 @@ pub returns-clause-changed : goal.returns-clause-changed
 returns-clause-changed g c =
     let own = c.inode-ino.ensures.refusal (Stub c.inode-ino.result c.args.segment (Some (record { entry = c.args.entry; offline = false }))) c.inode-ino.ensures.inode in
     record { held = c.record.ensures.held; ends = ends_as own c.record.ensures.ends }
+
+pub record-requires-clause-small : goal.record-requires-clause-small
+record-requires-clause-small g c = λ none. sym c.digest_len-len.ensures.bytes ∙ c.digest_len-len.ensures.whole

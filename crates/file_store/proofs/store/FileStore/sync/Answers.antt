@@ -45,3 +45,6 @@ returns-in-Err-clause-ends g c =
 
 pub returns-then-number-gt-LAST_NUMBER-clause-ends : goal.returns-then-number-gt-LAST_NUMBER-clause-ends
 returns-then-number-gt-LAST_NUMBER-clause-ends g c = refused_first c.has_failed-failed.ensures.idle c.requires.working _ no_memory refl (λ is. cc) (λ part is. absurd cc)
+
+pub commit-requires-clause-rises : goal.commit-requires-clause-rises
+commit-requires-clause-rises g c = rw (← c.self.view_is) at c.requires.rises

@@ -1,5 +1,5 @@
 use Rattle.file_store.proofs.Names.{arith, limits_countable}
-use Rattle.file_store.proofs.Ended.{changes_on}
+use Rattle.file_store.proofs.Ended.{changes_on, rises_on}
 use Rattle.file_store.proofs.store.FileStore.write.Goals as goal
 
 pub returns : goal.returns
@@ -13,3 +13,9 @@ rewrite-requires-clause-lawful g c = (c.requires.some, omega (arith, c.requires.
 
 pub rewrite-requires-clause-limited : goal.rewrite-requires-clause-limited
 rewrite-requires-clause-limited g c = rw c.make_room.ensures.ends.proceeds.geometry c.requires.end
+
+pub rewrite-requires-clause-rises : goal.rewrite-requires-clause-rises
+rewrite-requires-clause-rises g c = rises_on c.make_room.ensures.ends.proceeds c.requires.rises
+
+pub rewrite-requires-clause-access : goal.rewrite-requires-clause-access
+rewrite-requires-clause-access g c = c.requires.few
